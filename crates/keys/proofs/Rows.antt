@@ -1,0 +1,95 @@
+-- The worked rows that speak of commands, computed by the checker. A letter is the key of one byte that stands
+-- for it, and a digit the value of one byte. docs/EXAMPLES.md numbers the rows.
+use Rattle.std.specs.Prelude.{◌≡◌, ℕ, List, [], ◌∷◌}
+use Rattle.std.proofs.Common.{refl}
+use Rattle.keys.specs.Step.{replies_to, map_after_all}
+use Rattle.keys.specs.declared.command.Command.{Command}
+use Rattle.keys.specs.declared.command.Command.TheVariants.{Get, Put, Del}
+use Rattle.keys.specs.declared.command.Reply.{Reply}
+use Rattle.keys.specs.declared.command.Reply.TheVariants.{Value, Missing, New, Replaced, Deleted}
+
+abbrev Bytes : Type 0
+Bytes = List ℕ
+
+abbrev Pairs : Type 0
+Pairs = List (Bytes × Bytes)
+
+abbrev Commands : Type 0
+Commands = List (Command ℕ)
+
+abbrev Replies : Type 0
+Replies = List (Reply ℕ)
+
+-- the replies to commands on these pairs, and the pairs that they leave
+abbrev replies : Pairs → Commands → Replies
+replies m cs = replies_to m cs
+
+abbrev left : Pairs → Commands → Pairs
+left m cs = map_after_all m cs
+
+abbrev a : Bytes
+a = 97 ∷ []
+
+abbrev b : Bytes
+b = 98 ∷ []
+
+abbrev c : Bytes
+c = 99 ∷ []
+
+abbrev d : Bytes
+d = 100 ∷ []
+
+abbrev e : Bytes
+e = 101 ∷ []
+
+-- row 2: a key that comes, changes and goes within one batch
+abbrev row_2 : Commands
+row_2 = Get a ∷ Put a (49 ∷ []) ∷ Get a ∷ Put a (50 ∷ []) ∷ Get a ∷ Del a ∷ Get a ∷ []
+
+row_2_replies : replies [] row_2 ≡ Missing ∷ New ∷ Value (49 ∷ []) ∷ Replaced ∷ Value (50 ∷ []) ∷ Deleted ∷ Missing ∷ []
+row_2_replies = refl
+
+row_2_map : left [] row_2 ≡ []
+row_2_map = refl
+
+-- row 4: five new keys
+abbrev row_4 : Commands
+row_4 = Put a (49 ∷ []) ∷ Put b (50 ∷ []) ∷ Put c (51 ∷ []) ∷ Put d (52 ∷ []) ∷ Put e (53 ∷ []) ∷ []
+
+abbrev five : Pairs
+five = (a, 49 ∷ []) ∷ (b, 50 ∷ []) ∷ (c, 51 ∷ []) ∷ (d, 52 ∷ []) ∷ (e, 53 ∷ []) ∷ []
+
+-- row 1: no commands
+no_commands : left five [] ≡ five
+no_commands = refl
+
+row_4_replies : replies [] row_4 ≡ New ∷ New ∷ New ∷ New ∷ New ∷ []
+row_4_replies = refl
+
+row_4_map : left [] row_4 ≡ five
+row_4_map = refl
+
+-- the same keys in another order leave the same map
+row_4_reversed : left [] (Put e (53 ∷ []) ∷ Put c (51 ∷ []) ∷ Put d (52 ∷ []) ∷ Put a (49 ∷ []) ∷ Put b (50 ∷ []) ∷ []) ≡ five
+row_4_reversed = refl
+
+-- row 7: the first put of a key is new, the later ones replace
+row_7_replies : replies [] (Put a (49 ∷ []) ∷ Put a (50 ∷ []) ∷ Put a (51 ∷ []) ∷ []) ≡ New ∷ Replaced ∷ Replaced ∷ []
+row_7_replies = refl
+
+row_7_map : left [] (Put a (49 ∷ []) ∷ Put a (50 ∷ []) ∷ Put a (51 ∷ []) ∷ []) ≡ (a, 51 ∷ []) ∷ []
+row_7_map = refl
+
+-- row 9: all keys go, one comes and goes
+abbrev row_9 : Commands
+row_9 = Del a ∷ Del b ∷ Del c ∷ Del d ∷ Del e ∷ Put a (49 ∷ []) ∷ Del a ∷ []
+
+row_9_replies : replies five row_9 ≡ Deleted ∷ Deleted ∷ Deleted ∷ Deleted ∷ Deleted ∷ New ∷ Deleted ∷ []
+row_9_replies = refl
+
+row_9_map : left five row_9 ≡ []
+row_9_map = refl
+
+-- the empty key is the least, and a proper beginning of a key comes before it
+beginnings_first : left [] (Put (97 ∷ 0 ∷ []) [] ∷ Put (97 ∷ []) [] ∷ Put [] [] ∷ []) ≡ ([], []) ∷ (97 ∷ [], []) ∷ (97 ∷ 0 ∷ [], []) ∷ []
+beginnings_first = refl

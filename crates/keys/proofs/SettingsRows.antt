@@ -1,0 +1,27 @@
+-- The worked rows on settings, computed by the checker: fan 4, chain 2, keys and values of at most 16 bytes,
+-- segments of 256 bytes, four of them; and what is wrong with a fan of 3, or with keys of 64 bytes.
+use Rattle.std.specs.Prelude.{◌≡◌, ◌+◌, None, Some}
+use Rattle.std.proofs.Common.{refl}
+use Rattle.keys.specs.Limits.{longest_frame, first_bad_field}
+use Rattle.keys.specs.declared.settings.Settings.{Settings}
+use Rattle.keys.specs.declared.settings.Field.TheVariants.{Fan, Chain, SegSize}
+
+abbrev small : Settings
+small = record { fan = 4; chain = 2; max_key = 16; max_value = 16; seg_size = 256; segments = 4 }
+
+all_good : first_bad_field small ≡ None
+all_good = refl
+
+-- row 25
+fan_of_3 : first_bad_field (record small { fan = 3 }) ≡ Some Fan
+fan_of_3 = refl
+
+keys_of_64 : longest_frame (record small { max_key = 64 }) ≡ 97 + 340
+keys_of_64 = refl
+
+too_long_for_a_segment : first_bad_field (record small { max_key = 64 }) ≡ Some SegSize
+too_long_for_a_segment = refl
+
+-- the first of several is named
+several : first_bad_field (record small { chain = 17; segments = 2 }) ≡ Some Chain
+several = refl

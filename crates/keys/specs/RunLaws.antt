@@ -1,0 +1,26 @@
+-- Lemmas on runs of commands.
+use Rattle.std.specs.Prelude.{◌≡◌, ℕ, List, [], ◌∷◌, ◌++◌}
+use Rattle.std.proofs.Common.{refl, ap}
+use Rattle.keys.specs.Order.{IsRising}
+use Rattle.keys.specs.MapLaws.{rising-with_pair, rising-without}
+use Rattle.keys.specs.Step.{reply_to, map_after, replies_to, map_after_all}
+use Rattle.keys.specs.declared.command.Command.{Command}
+use Rattle.keys.specs.declared.command.Command.TheVariants.{Get, Put, Del}
+use Rattle.keys.specs.declared.command.Reply.{Reply}
+
+pub rising-map_after : {A : Type 0} → (m : List (List ℕ × List ℕ)) (c : Command A) → IsRising m → IsRising (map_after m c)
+rising-map_after m (Get k) r = r
+rising-map_after m (Put k v) r = rising-with_pair m k v r
+rising-map_after m (Del k) r = rising-without m k r
+
+pub rising-map_after_all : {A : Type 0} → (m : List (List ℕ × List ℕ)) (cs : List (Command A)) → IsRising m → IsRising (map_after_all m cs)
+rising-map_after_all m [] r = r
+rising-map_after_all m (c ∷ cs) r = rising-map_after_all (map_after m c) cs (rising-map_after m c r)
+
+pub replies_to-append : {A : Type 0} → (m : List (List ℕ × List ℕ)) (cs ds : List (Command A)) → replies_to m (cs ++ ds) ≡ replies_to m cs ++ replies_to (map_after_all m cs) ds
+replies_to-append m [] ds = refl
+replies_to-append {A} m (c ∷ cs) ds = ap (λ (rs : List (Reply A)). reply_to m c ∷ rs) (replies_to-append (map_after m c) cs ds)
+
+pub map_after_all-append : {A : Type 0} → (m : List (List ℕ × List ℕ)) (cs ds : List (Command A)) → map_after_all m (cs ++ ds) ≡ map_after_all (map_after_all m cs) ds
+map_after_all-append m [] ds = refl
+map_after_all-append m (c ∷ cs) ds = map_after_all-append (map_after m c) cs ds

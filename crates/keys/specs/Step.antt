@@ -1,0 +1,34 @@
+-- What a command answers and what it leaves, of an ordered map; and a run of commands.
+use Rattle.std.specs.Prelude.{ℕ, List, [], ◌∷◌, Option, Some, None, is_some, if◌then◌else◌}
+use Rattle.keys.specs.OrderedMap.{value_at, with_pair, without}
+use Rattle.keys.specs.declared.command.Command.{Command}
+use Rattle.keys.specs.declared.command.Command.TheVariants.{Get, Put, Del}
+use Rattle.keys.specs.declared.command.Reply.{Reply}
+use Rattle.keys.specs.declared.command.Reply.TheVariants.{Value, Missing, New, Replaced, Deleted}
+
+-- the reply to a Get that finds this
+abbrev pub found : {A : Type 0} → Option (List ℕ) → Reply A
+found None = Missing
+found (Some v) = Value v
+
+-- the reply to the command, of the map before it
+abbrev pub reply_to : {A : Type 0} → List (List ℕ × List ℕ) → Command A → Reply A
+reply_to m (Get k) = found (value_at k m)
+reply_to m (Put k v) = if is_some (value_at k m) then Replaced else New
+reply_to m (Del k) = if is_some (value_at k m) then Deleted else Missing
+
+-- the map after the command
+abbrev pub map_after : {A : Type 0} → List (List ℕ × List ℕ) → Command A → List (List ℕ × List ℕ)
+map_after m (Get k) = m
+map_after m (Put k v) = with_pair m k v
+map_after m (Del k) = without m k
+
+-- the replies to commands that are executed in the order of the list
+abbrev pub replies_to : {A : Type 0} → List (List ℕ × List ℕ) → List (Command A) → List (Reply A)
+replies_to m [] = []
+replies_to m (c ∷ cs) = reply_to m c ∷ replies_to (map_after m c) cs
+
+-- the map after them all
+abbrev pub map_after_all : {A : Type 0} → List (List ℕ × List ℕ) → List (Command A) → List (List ℕ × List ℕ)
+map_after_all m [] = m
+map_after_all m (c ∷ cs) = map_after_all (map_after m c) cs

@@ -1,0 +1,30 @@
+use crate::key::Key;
+use crate::value::Value;
+use std::alloc::Allocator;
+
+/// What a caller asks of the store. The commands of a batch count as executed in the order of their places;
+/// `specs/Step.antt` says what each does.
+#[derive(Drop)]
+pub enum Command<A: Allocator> {
+    /// The value at the key.
+    Get(Key<A>),
+    /// The key has the value from now on.
+    Put(Key<A>, Value<A>),
+    /// The key is not there from now on.
+    Del(Key<A>),
+}
+
+/// What the store answers to one command.
+#[derive(Drop)]
+pub enum Reply<A: Allocator> {
+    /// To `Get`: what the key has.
+    Value(Value<A>),
+    /// To `Get` and `Del`: the key was not there.
+    Missing,
+    /// To `Put`: the key was not there.
+    New,
+    /// To `Put`: the key was there.
+    Replaced,
+    /// To `Del`: the key was there.
+    Deleted,
+}

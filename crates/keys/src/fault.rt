@@ -1,0 +1,43 @@
+ghost use Rattle.std.specs.Prelude.{◌≡◌};
+ghost use Rattle.keys.specs.declared.fault.Fault.TheVariants.{NoMemory};
+
+use crate::settings::Field;
+use std::alloc::{AllocError, AllocFailed};
+use thiserror::Error;
+
+/// Why a call of the store is refused. It prints as its number, its name and what it carries, in decimal, with
+/// single spaces between. After each of these the store is as it was before the call.
+#[derive(Debug, Drop, Error, PartialEq, Eq)]
+pub enum Fault {
+    /// This field of the settings is out of range.
+    #[error("1 BadSettings {0}")]
+    BadSettings(Field),
+    /// The command at this place of the batch has a key longer than `max_key`.
+    #[error("2 KeyTooLong {0}")]
+    KeyTooLong(usize),
+    /// The command at this place of the batch has a value longer than `max_value`.
+    #[error("3 ValueTooLong {0}")]
+    ValueTooLong(usize),
+    /// The batch has more commands than a batch may have.
+    #[error("4 BatchTooLong")]
+    BatchTooLong,
+    /// Memory was refused.
+    #[error("6 NoMemory")]
+    NoMemory,
+}
+
+impl From<AllocError> for Fault {
+    ghost from_gives = { λ _ fault. fault ≡ NoMemory };
+
+    fn from(_refused: AllocError) -> Fault {
+        Fault::NoMemory
+    }
+}
+
+impl<T: Drop> From<AllocFailed<T>> for Fault {
+    ghost from_gives = { λ _ fault. fault ≡ NoMemory };
+
+    fn from(_refused: AllocFailed<T>) -> Fault {
+        Fault::NoMemory
+    }
+}

@@ -1,0 +1,107 @@
+ghost use Rattle.std.specs.Prelude.{◌≡◌, [], length, IfOk};
+ghost use Rattle.std.proofs.Common.{rules};
+ghost use Rattle.std.proofs.lemmas.Cmp.{nat_list_cmp_total, eq_by_cmp_equiv};
+ghost use Rattle.std.specs.Cmp.{partial_order_from_own_ties, partial_equiv_from_equiv};
+ghost use Rattle.std.specs.Cmp.Rules.{comparing};
+ghost use Rattle.std.specs.Ordering.{eq_by_cmp, as_partial_cmp};
+ghost use Rattle.keys.specs.Order.{order};
+
+use std::alloc::{AllocError, Allocator};
+use std::cmp::Ordering;
+use std::marker::Model;
+
+/// A key: a byte string, which contracts see as the list of its bytes. Keys compare by their bytes, a proper
+/// beginning first, so that the empty key is the least.
+#[derive(Drop)]
+pub struct Key<A: Allocator> {
+    bytes: Vec<u8, A>,
+}
+
+impl<A: Allocator> Model for Key<A> {
+    ghost use Rattle.std.specs.Prelude.{List, ℕ};
+
+    ghost Value = { List ℕ };
+
+    ghost view = { λ k. k.bytes.items };
+}
+
+impl<A: Allocator + Copy> Key<A> {
+    /// The empty key. It takes no memory.
+    pub fn empty(alloc: A) -> Self
+        ensures { result ≡ [] }
+    {
+        Key {
+            bytes: Vec::new(alloc),
+        }
+    }
+
+    /// The key of these bytes.
+    pub fn from_bytes(alloc: A, bytes: &[u8]) -> Result<Self, AllocError>
+        ensures { IfOk result (λ key. key ≡ bytes.now) }
+    {
+        Ok(Key {
+            bytes: bytes.to_vec(alloc)?,
+        })
+    }
+
+    /// An equal key, in memory of its own.
+    pub fn copy(&self, alloc: A) -> Result<Self, AllocError>
+        ensures { IfOk result (λ key. key ≡ self.now) }
+    {
+        Key::from_bytes(alloc, self.as_bytes())
+    }
+}
+
+impl<A: Allocator> Key<A> {
+    /// The bytes of the key.
+    pub fn as_bytes(&self) -> &[u8]
+        ensures { result.now ≡ self.now }
+    {
+        self.bytes.as_slice()
+    }
+
+    /// How many bytes the key has.
+    pub fn len(&self) -> usize
+        ensures { result ≡ length self.now }
+    {
+        self.bytes.len()
+    }
+}
+
+impl<A: Allocator> PartialEq for Key<A> {
+    ghost eq = { eq_by_cmp order };
+
+    ghost laws = { partial_equiv_from_equiv (eq_by_cmp_equiv nat_list_cmp_total) };
+
+    fn eq(&self, other: &Self) -> bool {
+        self.as_bytes().cmp(other.as_bytes()).is_eq()
+    }
+}
+
+impl<A: Allocator> Eq for Key<A> {
+    ghost laws = { eq_by_cmp_equiv nat_list_cmp_total };
+}
+
+impl<A: Allocator> PartialOrd for Key<A> {
+    ghost partial_cmp = { as_partial_cmp order };
+
+    ghost laws = { partial_order_from_own_ties (Prim.search (comparing, rules)) (Prim.search (comparing, rules)) };
+
+    fn partial_cmp(&self, other: &Self) -> Option<Ordering> {
+        Some(self.cmp(other))
+    }
+}
+
+impl<A: Allocator> Ord for Key<A> {
+    ghost cmp = { order };
+
+    ghost total = { nat_list_cmp_total };
+
+    ghost matches_partial_cmp = { Prim.search (comparing, rules) };
+
+    ghost matches_eq = { Prim.search (comparing, rules) };
+
+    fn cmp(&self, other: &Self) -> Ordering {
+        self.as_bytes().cmp(other.as_bytes())
+    }
+}

@@ -1,0 +1,51 @@
+//! What the definitions of `specs/` mean, in the words of an ordered map. Each law is the contract of a function
+//! with an empty body.
+ghost use Rattle.std.specs.Prelude.{◌≡◌, ◌≢◌, ℕ, List, ◌++◌, None, Some};
+ghost use Rattle.std.specs.declared.cmp.Ordering.TheVariants.{Equal};
+ghost use Rattle.std.specs.Cmp.{IsTotalOrder};
+ghost use Rattle.keys.specs.Order.{order, IsRising};
+ghost use Rattle.keys.specs.OrderedMap.{value_at, with_pair, without};
+ghost use Rattle.keys.specs.Step.{map_after, replies_to, map_after_all};
+ghost use Rattle.keys.specs.declared.command.Command.{Command};
+
+use std::alloc::Allocator;
+
+/// The order of keys is total, and keys that compare alike are the same bytes.
+pub fn keys_are_totally_ordered()
+    ensures total { IsTotalOrder order }
+    ensures exact { (j k : List ℕ) → order j k ≡ Equal → j ≡ k }
+{}
+
+/// What is put at a key is read back, and every other key has what it had.
+pub fn what_is_put_is_read_back<V>()
+    ensures here { (m : List (List ℕ × V)) (k : List ℕ) (v : V) → value_at k (with_pair m k v) ≡ Some v }
+    ensures elsewhere { (m : List (List ℕ × V)) (k q : List ℕ) (v : V) → q ≢ k → value_at q (with_pair m k v) ≡ value_at q m }
+    ensures rising { (m : List (List ℕ × V)) (k : List ℕ) (v : V) → IsRising m → IsRising (with_pair m k v) }
+{}
+
+/// What is deleted is missing, and every other key has what it had.
+pub fn what_is_deleted_is_missing<V>()
+    ensures here { (m : List (List ℕ × V)) (k : List ℕ) → IsRising m → value_at k (without m k) ≡ None }
+    ensures elsewhere { (m : List (List ℕ × V)) (k q : List ℕ) → IsRising m → q ≢ k → value_at q (without m k) ≡ value_at q m }
+    ensures rising { (m : List (List ℕ × V)) (k : List ℕ) → IsRising m → IsRising (without m k) }
+{}
+
+/// Two maps that have the same at every key are the same list of pairs.
+pub fn a_map_is_what_it_has<V>()
+    ensures { (m n : List (List ℕ × V)) → IsRising m → IsRising n → ((q : List ℕ) → value_at q m ≡ value_at q n) → m ≡ n }
+{}
+
+/// Commands leave a map of strictly rising keys.
+pub fn commands_keep_the_order<A: Allocator>()
+    ensures one { (m : List (List ℕ × List ℕ)) (c : Command A) → IsRising m → IsRising (map_after m c) }
+    ensures all { (m : List (List ℕ × List ℕ)) (cs : List (Command A)) → IsRising m → IsRising (map_after_all m cs) }
+{}
+
+/// Lists of commands joined end to end are executed one after the other: the second list finds the map that the
+/// first one left. So what is proved of one batch is proved of any list of batches.
+pub fn joined_commands_follow_one_another<A: Allocator>()
+    ensures replies { (m : List (List ℕ × List ℕ)) (cs ds : List (Command A)) →
+        replies_to m (cs ++ ds) ≡ replies_to m cs ++ replies_to (map_after_all m cs) ds }
+    ensures map { (m : List (List ℕ × List ℕ)) (cs ds : List (Command A)) →
+        map_after_all m (cs ++ ds) ≡ map_after_all (map_after_all m cs) ds }
+{}

@@ -1,0 +1,13 @@
+//! What every layer of the engine speaks of: keys, values and page ids, settings, commands and their
+//! replies, and the faults. `specs/` has the order of keys, the ordered map, and what a command does to it.
+#![tactic(auto)]
+
+pub mod command;
+pub mod fault;
+pub mod key;
+pub mod laws;
+pub mod pid;
+pub mod settings;
+#[cfg(test)]
+mod tests;
+pub mod value;
