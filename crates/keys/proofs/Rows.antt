@@ -4,9 +4,9 @@ use Rattle.std.specs.Prelude.{◌≡◌, ℕ, List, [], ◌∷◌}
 use Rattle.std.proofs.Common.{refl}
 use Rattle.keys.specs.Step.{replies_to, map_after_all}
 use Rattle.keys.specs.declared.command.Command.{Command}
-use Rattle.keys.specs.declared.command.Command.TheVariants.{Get, Put, Del}
+use Rattle.keys.specs.declared.command.Command.TheVariants.{Get, Put, Add, Del}
 use Rattle.keys.specs.declared.command.Reply.{Reply}
-use Rattle.keys.specs.declared.command.Reply.TheVariants.{Value, Missing, New, Replaced, Deleted}
+use Rattle.keys.specs.declared.command.Reply.TheVariants.{Value, Missing, New, Replaced, Exists, Added, Deleted}
 
 abbrev Bytes : Type 0
 Bytes = List ℕ
@@ -51,6 +51,13 @@ row_2_replies = refl
 
 row_2_map : left [] row_2 ≡ []
 row_2_map = refl
+
+-- row 3: an Add that finds the key changes nothing
+row_3_replies : replies [] (Put a (49 ∷ []) ∷ Add a (50 ∷ []) ∷ Add b (51 ∷ []) ∷ []) ≡ New ∷ Exists ∷ Added ∷ []
+row_3_replies = refl
+
+row_3_map : left [] (Put a (49 ∷ []) ∷ Add a (50 ∷ []) ∷ Add b (51 ∷ []) ∷ []) ≡ (a, 49 ∷ []) ∷ (b, 51 ∷ []) ∷ []
+row_3_map = refl
 
 -- row 4: five new keys
 abbrev row_4 : Commands

@@ -2,9 +2,9 @@
 use Rattle.std.specs.Prelude.{ℕ, List, [], ◌∷◌, Option, Some, None, is_some, if◌then◌else◌}
 use Rattle.keys.specs.OrderedMap.{value_at, with_pair, without}
 use Rattle.keys.specs.declared.command.Command.{Command}
-use Rattle.keys.specs.declared.command.Command.TheVariants.{Get, Put, Del}
+use Rattle.keys.specs.declared.command.Command.TheVariants.{Get, Put, Add, Del}
 use Rattle.keys.specs.declared.command.Reply.{Reply}
-use Rattle.keys.specs.declared.command.Reply.TheVariants.{Value, Missing, New, Replaced, Deleted}
+use Rattle.keys.specs.declared.command.Reply.TheVariants.{Value, Missing, New, Replaced, Added, Exists, Deleted}
 
 -- the reply to a Get that finds this
 abbrev pub found : {A : Type 0} → Option (List ℕ) → Reply A
@@ -15,12 +15,14 @@ found (Some v) = Value v
 abbrev pub reply_to : {A : Type 0} → List (List ℕ × List ℕ) → Command A → Reply A
 reply_to m (Get k) = found (value_at k m)
 reply_to m (Put k v) = if is_some (value_at k m) then Replaced else New
+reply_to m (Add k v) = if is_some (value_at k m) then Exists else Added
 reply_to m (Del k) = if is_some (value_at k m) then Deleted else Missing
 
 -- the map after the command
 abbrev pub map_after : {A : Type 0} → List (List ℕ × List ℕ) → Command A → List (List ℕ × List ℕ)
 map_after m (Get k) = m
 map_after m (Put k v) = with_pair m k v
+map_after m (Add k v) = if is_some (value_at k m) then m else with_pair m k v
 map_after m (Del k) = without m k
 
 -- the replies to commands that are executed in the order of the list

@@ -10,6 +10,8 @@ pub enum Command<A: Allocator> {
     Get(Key<A>),
     /// The key has the value from now on.
     Put(Key<A>, Value<A>),
+    /// The key has the value from now on, if it was not there.
+    Add(Key<A>, Value<A>),
     /// The key is not there from now on.
     Del(Key<A>),
 }
@@ -25,6 +27,10 @@ pub enum Reply<A: Allocator> {
     New,
     /// To `Put`: the key was there.
     Replaced,
+    /// To `Add`: the key was not there.
+    Added,
+    /// To `Add`: the key was there, and keeps its value.
+    Exists,
     /// To `Del`: the key was there.
     Deleted,
 }

@@ -2,6 +2,7 @@
 //! replies, and the faults. `specs/` has the order of keys, the ordered map, and what a command does to it.
 #![tactic(auto)]
 
+pub mod cell;
 pub mod command;
 pub mod fault;
 pub mod key;

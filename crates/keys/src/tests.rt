@@ -1,7 +1,10 @@
+use crate::cell::Cell;
 use crate::fault::Fault;
 use crate::key::Key;
+use crate::pid::Pid;
 use crate::settings::{Field, Settings};
 use crate::value::Value;
+use std::alloc::{AllocError, Global};
 use std::test::Fail;
 
 fn small() -> Settings {
@@ -126,5 +129,17 @@ fn keys_and_values_are_their_bytes(rt: HostRuntime) -> Result<(), Fail> {
     let value = Value::from_bytes(rt.alloc(), b"v1")?.copy(rt.alloc())?;
     assert_eq!(rt; value.as_bytes(), b"v1".as_slice());
     assert_eq!(rt; value.len(), 2);
+    Ok(())
+}
+
+fn copy_of<C: Cell<Global>>(cell: &C, alloc: Global) -> Result<C, AllocError> {
+    cell.copy(alloc)
+}
+
+#[test]
+fn cells_are_copied(rt: HostRuntime) -> Result<(), Fail> {
+    let value = copy_of(&Value::from_bytes(rt.alloc(), b"v1")?, rt.alloc())?;
+    assert_eq!(rt; value.as_bytes(), b"v1".as_slice());
+    assert_eq!(rt; copy_of(&Pid(7), rt.alloc())?, Pid(7));
     Ok(())
 }

@@ -1,0 +1,5 @@
+mod Literals
+mod OrderLaws
+mod TokenLaws
+mod TokenLemmas
+mod WordLemmas

@@ -1,0 +1,35 @@
+-- Lemmas on the orders of a batch file.
+use Rattle.std.proofs.Common.{◌≡◌, List, [], ◌∷◌, ◌++◌, map, refl, sym, ap, ◌∙◌, append_assoc, append-nil}
+use Rattle.std.specs.List.{flat_map}
+use Rattle.std.specs.declared.alloc.Global.{Global}
+use Rattle.keys.specs.declared.command.Command.{Command}
+use Rattle.bwsh.specs.declared.line.Says.{Says}
+use Rattle.bwsh.specs.declared.line.Says.TheVariants.{Nothing, Go, Bad}
+use Rattle.bwsh.specs.declared.batch_file.Order.{Order}
+use Rattle.bwsh.specs.declared.batch_file.Order.TheVariants.{Batch}
+use Rattle.bwsh.specs.BatchFile.{last_order, orders_of, commands_of, commands_said, batch_lines}
+
+commands-last_order : (pending : List (Command Global)) → flat_map commands_of (last_order pending) ≡ pending ++ []
+commands-last_order [] = refl
+commands-last_order (command ∷ commands) = refl
+
+-- the pending commands come first, and then those that the lines say
+pub commands-orders_of : (pending : List (Command Global)) (says : List Says) → flat_map commands_of (orders_of pending says) ≡ pending ++ commands_said says
+commands-orders_of pending [] = commands-last_order pending
+commands-orders_of pending (Says.Command command ∷ rest) = commands-orders_of (pending ++ command ∷ []) rest ∙ append_assoc pending (command ∷ []) (commands_said rest)
+commands-orders_of pending (Go ∷ rest) = ap (λ (cs : List (Command Global)). pending ++ cs) (commands-orders_of [] rest)
+commands-orders_of pending (Nothing ∷ rest) = commands-orders_of pending rest
+commands-orders_of pending (Bad why ∷ rest) = commands-orders_of pending rest
+
+one_batch : (pending commands : List (Command Global)) (rest : List Says) → orders_of pending (batch_lines commands ++ rest) ≡ Batch (pending ++ commands) ∷ orders_of [] rest
+one_batch pending [] rest = ap (λ (cs : List (Command Global)). Batch cs ∷ orders_of [] rest) (sym (append-nil pending))
+one_batch pending (command ∷ commands) rest =
+    one_batch (pending ++ command ∷ []) commands rest
+    ∙ ap (λ (cs : List (Command Global)). Batch cs ∷ orders_of [] rest) (append_assoc pending (command ∷ []) commands)
+
+-- the lines of some batches order those batches
+pub orders_of-batch_lines : (batches : List (List (Command Global))) → orders_of [] (flat_map batch_lines batches) ≡ map (λ commands. Batch commands) batches
+orders_of-batch_lines [] = refl
+orders_of-batch_lines (commands ∷ batches) =
+    one_batch [] commands (flat_map batch_lines batches)
+    ∙ ap (λ (orders : List Order). Batch commands ∷ orders) (orders_of-batch_lines batches)

@@ -1,0 +1,5 @@
+use Rattle.bwsh.proofs.OrderLaws.{orders_of-batch_lines}
+use Rattle.bwsh.proofs.laws.batches_are_read_back.Goals as goal
+
+pub returns : goal.returns
+returns c = orders_of-batch_lines

@@ -1,0 +1,58 @@
+-- Batch files: what the lines of a file say, all of them together.
+use Rattle.std.specs.Prelude.{◌≡◌, ℕ, ◌+◌, List, [], ◌∷◌, ◌++◌, map, Option, Some, None}
+use Rattle.std.specs.declared.alloc.Global.{Global}
+use Rattle.keys.specs.declared.command.Command.{Command}
+use Rattle.bstr.specs.Text.{lines_of, without_terminator}
+use Rattle.bwsh.specs.declared.line.Says.{Says}
+use Rattle.bwsh.specs.declared.line.Says.TheVariants.{Go, Bad}
+use Rattle.bwsh.specs.declared.line.Why.{Why}
+use Rattle.bwsh.specs.declared.batch_file.Order.{Order}
+use Rattle.bwsh.specs.declared.batch_file.Order.TheVariants.{Batch}
+use Rattle.bwsh.specs.declared.batch_file.TextFault.{TextFault}
+use Rattle.bwsh.specs.declared.batch_file.TextFault.TheVariants as faults
+use Rattle.bwsh.specs.Line.{line_says}
+
+-- the lines of a text, each without the LF or CR LF at its end
+abbrev pub lines : List ℕ → List (List ℕ)
+lines text = map without_terminator (lines_of text)
+
+-- what the lines of a text say
+abbrev pub said_by : List ℕ → List Says
+said_by text = map line_says (lines text)
+
+-- the number of the first bad line, and what is wrong with it, where the first of these lines has the number n
+abbrev pub first_bad : ℕ → List Says → Option (ℕ × Why)
+first_bad n [] = None
+first_bad n (Bad why ∷ rest) = Some (n, why)
+first_bad n (_ ∷ rest) = first_bad (n + 1) rest
+
+-- the order to run the pending commands, if there are any
+abbrev pub last_order : List (Command Global) → List Order
+last_order [] = []
+last_order (command ∷ commands) = Batch (command ∷ commands) ∷ []
+
+-- what is ordered by lines that say this, behind commands that are pending
+abbrev pub orders_of : List (Command Global) → List Says → List Order
+orders_of pending [] = last_order pending
+orders_of pending (Says.Command command ∷ rest) = orders_of (pending ++ command ∷ []) rest
+orders_of pending (Go ∷ rest) = Batch pending ∷ orders_of [] rest
+orders_of pending (_ ∷ rest) = orders_of pending rest
+
+-- the fault tells of the first bad line, or that memory was refused
+abbrev pub Tells : List Says → TextFault → Type 0
+Tells says (faults.Bad n why) = first_bad 1 says ≡ Some (n, why)
+Tells says faults.Memory = Unit {0}
+
+-- the commands of an order
+abbrev pub commands_of : Order → List (Command Global)
+commands_of (Batch commands) = commands
+
+-- the commands that lines say
+abbrev pub commands_said : List Says → List (Command Global)
+commands_said [] = []
+commands_said (Says.Command command ∷ rest) = command ∷ commands_said rest
+commands_said (_ ∷ rest) = commands_said rest
+
+-- what the lines of these commands and a line `go` behind them say
+abbrev pub batch_lines : List (Command Global) → List Says
+batch_lines commands = map (λ command. Says.Command command) commands ++ Go ∷ []

@@ -1,0 +1,97 @@
+//! Batch files.
+ghost use Rattle.std.specs.Prelude.{◌≡◌, [], Some, None, IfOk, IfErr};
+ghost use Rattle.bwsh.specs.declared.batch_file.TextFault.TheVariants.{Memory};
+ghost use Rattle.bwsh.specs.BatchFile.{said_by, first_bad, orders_of, Tells};
+
+use crate::line::{LineReader, Says, Why};
+use bstr::ByteSlice;
+use keys::command::Command;
+use std::alloc::{AllocError, AllocFailed, Global};
+use std::marker::Model;
+use std::mem;
+
+/// The commands that are to run as one batch, in their order. Contracts see it as their list.
+#[derive(Drop)]
+pub struct Batch {
+    commands: Vec<Command<Global>>,
+}
+
+impl Model for Batch {
+    ghost use Rattle.std.specs.Prelude.{List};
+    ghost use Rattle.std.specs.declared.alloc.Global.{Global};
+    ghost use Rattle.keys.specs.declared.command.Command.{Command};
+
+    ghost Value = { List (Command Global) };
+
+    ghost view = { λ b. b.commands.items };
+}
+
+impl Batch {
+    /// The commands of the batch.
+    pub fn commands(&self) -> &[Command<Global>]
+        ensures { result.now ≡ self.now }
+    {
+        &self.commands
+    }
+}
+
+/// What a batch file orders to be done next.
+#[derive(Drop)]
+pub enum Order {
+    /// To run this batch, which may have no commands.
+    Batch(Batch),
+}
+
+/// Why a text is not read.
+#[derive(Clone, Copy, Debug, PartialEq, Eq)]
+pub enum TextFault {
+    /// The first bad line, by its number from 1, and what is wrong with it.
+    Bad { line: u64, why: Why },
+    /// Memory was refused.
+    Memory,
+}
+
+impl From<AllocError> for TextFault {
+    ghost from_gives = { λ _ fault. fault ≡ Memory };
+
+    fn from(_refused: AllocError) -> TextFault {
+        TextFault::Memory
+    }
+}
+
+impl<T: Drop> From<AllocFailed<T>> for TextFault {
+    ghost from_gives = { λ _ fault. fault ≡ Memory };
+
+    fn from(_refused: AllocFailed<T>) -> TextFault {
+        TextFault::Memory
+    }
+}
+
+/// What the lines of the text order, all of them. Where a line is bad nothing is ordered: the answer tells of the
+/// first such line. `TextFault::Memory` can be the answer to any text.
+pub fn parse(alloc: Global, text: &[u8]) -> Result<Vec<Order>, TextFault>
+    ensures bad { IfErr result (Tells (said_by text.now)) }
+    ensures good { IfOk result (λ _. first_bad 1 (said_by text.now) ≡ None) }
+    ensures orders { IfOk result (λ orders. orders.items ≡ orders_of [] (said_by text.now)) }
+{
+    let mut reader = LineReader::new(alloc);
+    let mut orders = Vec::new(alloc);
+    let mut pending = Vec::new(alloc);
+    let mut line = 0;
+    for bytes in text.lines() {
+        line += 1;
+        match reader.read(bytes)? {
+            Says::Nothing => {}
+            Says::Command(command) => pending.push(command)?,
+            Says::Go => {
+                let commands = mem::replace(&mut pending, Vec::new(alloc));
+                orders.push(Order::Batch(Batch { commands }))?;
+            }
+            Says::Bad(why) => return Err(TextFault::Bad { line, why }),
+        }
+    }
+    if !pending.is_empty() {
+        orders.push(Order::Batch(Batch { commands: pending }))?;
+    }
+    Ok(orders)
+}

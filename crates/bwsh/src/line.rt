@@ -1,0 +1,168 @@
+//! What a line of a batch file says.
+ghost use Rattle.std.specs.Prelude.{◌≡◌, IfOk};
+ghost use Rattle.bwsh.specs.Token.{token_bytes};
+ghost use Rattle.bwsh.specs.Words.{words_of};
+ghost use Rattle.bwsh.specs.Line.{only_key, key_and_value, go_says, command_says, line_says};
+
+use crate::token::unescape;
+use crate::words::{first_word, only_word, two_words};
+use keys::command::Command;
+use keys::key::Key;
+use keys::value::Value;
+use std::alloc::{AllocError, Global};
+use std::fmt;
+
+/// What is wrong with a line. It prints in words.
+#[derive(Clone, Copy, Debug, PartialEq, Eq)]
+pub enum Why {
+    /// The first word names no command.
+    UnknownCommand,
+    /// The command has another number of words.
+    WordCount,
+    /// A word that should stand for bytes does not.
+    BadToken,
+}
+
+impl fmt::Display for Why {
+    fn fmt<W: fmt::Write>(&self, f: &mut fmt::Formatter<W>) -> fmt::Result {
+        f.write_str(match self {
+            Why::UnknownCommand => "unknown command",
+            Why::WordCount => "wrong number of words",
+            Why::BadToken => "bad token",
+        })
+    }
+}
+
+/// What a line says.
+#[derive(Drop)]
+pub enum Says {
+    /// It has no words, or is a comment.
+    Nothing,
+    /// A command of the pending batch.
+    Command(Command<Global>),
+    /// The pending batch is to run.
+    Go,
+    /// It is no line of a batch file.
+    Bad(Why),
+}
+
+/// Reads lines. It keeps the memory in which it takes the escapes out of a token.
+#[derive(Drop)]
+pub struct LineReader {
+    alloc: Global,
+    bytes: Vec<u8>,
+}
+
+impl LineReader {
+    /// A reader that has read nothing. It takes no memory.
+    pub fn new(alloc: Global) -> Self {
+        LineReader {
+            alloc,
+            bytes: Vec::new(alloc),
+        }
+    }
+
+    fn key(&mut self, token: &[u8]) -> Result<Option<Key<Global>>, AllocError>
+        ensures { IfOk result (λ key. key ≡ token_bytes token.now) }
+    {
+        if !unescape(token, &mut self.bytes)? {
+            return Ok(None);
+        }
+        Ok(Some(Key::from_bytes(self.alloc, &self.bytes)?))
+    }
+
+    fn value(&mut self, token: &[u8]) -> Result<Option<Value<Global>>, AllocError>
+        ensures { IfOk result (λ value. value ≡ token_bytes token.now) }
+    {
+        if !unescape(token, &mut self.bytes)? {
+            return Ok(None);
+        }
+        Ok(Some(Value::from_bytes(self.alloc, &self.bytes)?))
+    }
+
+    // The key that the words behind a command are.
+    fn only_key(&mut self, words: &[u8]) -> Result<Result<Key<Global>, Why>, AllocError>
+        ensures { IfOk result (λ key. key ≡ only_key (words_of words.now)) }
+    {
+        let Some(token) = only_word(words) else {
+            return Ok(Err(Why::WordCount));
+        };
+        Ok(self.key(token)?.ok_or(Why::BadToken))
+    }
+
+    // The key and the value that the words behind a command are.
+    fn key_and_value(
+        &mut self,
+        words: &[u8],
+    ) -> Result<Result<(Key<Global>, Value<Global>), Why>, AllocError>
+        ensures { IfOk result (λ pair. pair ≡ key_and_value (words_of words.now)) }
+    {
+        let Some((key, value)) = two_words(words) else {
+            return Ok(Err(Why::WordCount));
+        };
+        let Some(key) = self.key(key)? else {
+            return Ok(Err(Why::BadToken));
+        };
+        let Some(value) = self.value(value)? else {
+            return Ok(Err(Why::BadToken));
+        };
+        Ok(Ok((key, value)))
+    }
+
+    // What is said by this word and those behind it.
+    fn command(&mut self, word: &[u8], words: &[u8]) -> Result<Says, AllocError>
+        ensures { IfOk result (λ says. says ≡ command_says word.now (words_of words.now)) }
+    {
+        if word == b"put".as_slice() {
+            return Ok(match self.key_and_value(words)? {
+                Ok((key, value)) => Says::Command(Command::Put(key, value)),
+                Err(why) => Says::Bad(why),
+            });
+        }
+        if word == b"add".as_slice() {
+            return Ok(match self.key_and_value(words)? {
+                Ok((key, value)) => Says::Command(Command::Add(key, value)),
+                Err(why) => Says::Bad(why),
+            });
+        }
+        if word == b"get".as_slice() {
+            return Ok(match self.only_key(words)? {
+                Ok(key) => Says::Command(Command::Get(key)),
+                Err(why) => Says::Bad(why),
+            });
+        }
+        if word == b"del".as_slice() {
+            return Ok(match self.only_key(words)? {
+                Ok(key) => Says::Command(Command::Del(key)),
+                Err(why) => Says::Bad(why),
+            });
+        }
+        if word == b"go".as_slice() {
+            return Ok(go(words));
+        }
+        Ok(Says::Bad(Why::UnknownCommand))
+    }
+
+    /// What the line says.
+    pub fn read(&mut self, line: &[u8]) -> Result<Says, AllocError>
+        ensures { IfOk result (λ says. says ≡ line_says line.now) }
+    {
+        let Some((word, words)) = first_word(line) else {
+            return Ok(Says::Nothing);
+        };
+        if word.starts_with(b"#") {
+            return Ok(Says::Nothing);
+        }
+        self.command(word, words)
+    }
+}
+
+// What is said by these words behind `go`.
+fn go(words: &[u8]) -> Says
+    ensures { result ≡ go_says (words_of words.now) }
+{
+    match first_word(words) {
+        None => Says::Go,
+        Some(_) => Says::Bad(Why::WordCount),
+    }
+}

@@ -1,0 +1,113 @@
+//! Tokens: how the words of a batch file stand for byte strings.
+ghost use Rattle.std.specs.Prelude.{◌≡◌, ◌<◌, ◌++◌, ◌/◌, ◌%◌, [], ◌∷◌, length, take, Some, None, if◌then◌else◌, IfOk, IfSome, MatchOption, OnOk, OnErr};
+ghost use Rattle.bwsh.specs.Token.{hex_value, hex_byte, stands_for_itself, unescaped, in_front, with_front, token_bytes, hex_digit, shown_byte, shown_token};
+
+use std::alloc::AllocError;
+
+// The value of a hexadecimal digit, in either case.
+fn hex_value(digit: u8) -> Option<u8>
+    ensures value { result ≡ hex_value digit }
+    ensures small { IfSome result (λ value. value < 16) }
+{
+    match digit {
+        b'0'..=b'9' => Some(digit - b'0'),
+        b'A'..=b'F' => Some(digit - b'A' + 10),
+        b'a'..=b'f' => Some(digit - b'a' + 10),
+        _ => None,
+    }
+}
+
+fn hex_byte(high: u8, low: u8) -> Option<u8>
+    ensures { result ≡ hex_byte high low }
+{
+    Some(16 * hex_value(high)? + hex_value(low)?)
+}
+
+fn stands_for_itself(byte: u8) -> bool
+    ensures { result ≡ stands_for_itself byte }
+{
+    byte.is_ascii_graphic() && byte != b'%'
+}
+
+// The byte that the front of the text stands for, and the text behind it.
+fn first_byte(text: &[u8]) -> Option<(u8, &[u8])>
+    requires { 0 < length text.now }
+    ensures value { MatchOption result (unescaped text.now ≡ None) (λ first. unescaped text.now ≡ in_front (Some first.0) (unescaped first.1.now)) }
+    ensures shorter { IfSome result (λ first. length first.1.now < length text.now) }
+{
+    match text {
+        [b'%', high, low, rest @ ..] => Some((hex_byte(*high, *low)?, rest)),
+        [byte, rest @ ..] if stands_for_itself(*byte) => Some((*byte, rest)),
+        _ => None,
+    }
+}
+
+// Appends the bytes that the text stands for, and tells whether it stands for any.
+fn push_unescaped(text: &[u8], bytes: &mut Vec<u8>) -> Result<bool, AllocError>
+    ensures { IfOk result (λ well. (if well then Some bytes.new.items else None) ≡ with_front bytes.old.items (unescaped text.now)) }
+{
+    bytes.reserve(text.len())?;
+    let mut rest = text;
+    while !rest.is_empty() {
+        let Some((byte, behind)) = first_byte(rest) else {
+            return Ok(false);
+        };
+        bytes.push(byte)?;
+        rest = behind;
+    }
+    Ok(true)
+}
+
+/// Writes over `bytes` the bytes that the token stands for, and tells whether it stands for any. Where it does
+/// not, and after an `Err`, `bytes` has some of them.
+pub fn unescape(token: &[u8], bytes: &mut Vec<u8>) -> Result<bool, AllocError>
+    ensures { IfOk result (λ well. (if well then Some bytes.new.items else None) ≡ token_bytes token.now) }
+{
+    bytes.clear();
+    if token == b"%".as_slice() {
+        return Ok(true);
+    }
+    if token.is_empty() {
+        return Ok(false);
+    }
+    push_unescaped(token, bytes)
+}
+
+// The upper case digit of a number below 16.
+fn hex_digit(value: u8) -> u8
+    requires { value < 16 }
+    ensures { result ≡ hex_digit value }
+{
+    if value < 10 {
+        b'0' + value
+    } else {
+        b'A' + (value - 10)
+    }
+}
+
+// Appends the byte as it is printed.
+fn push_byte(byte: u8, out: &mut Vec<u8>) -> Result<(), AllocError>
+    ensures ok { OnOk result (out.new.items ≡ out.old.items ++ shown_byte byte) }
+    ensures err { OnErr result (out.new.items ≡ out.old.items) }
+{
+    if stands_for_itself(byte) {
+        out.push(byte)?;
+    } else {
+        out.extend_from_slice(&[b'%', hex_digit(byte / 16), hex_digit(byte % 16)])?;
+    }
+    Ok(())
+}
+
+/// Appends the byte string as it is printed. After an `Err` some of it may stand there.
+pub fn push_token(bytes: &[u8], out: &mut Vec<u8>) -> Result<(), AllocError>
+    ensures ok { OnOk result (out.new.items ≡ out.old.items ++ shown_token bytes.now) }
+    ensures err { OnErr result (take (length out.old.items) out.new.items ≡ out.old.items) }
+{
+    if bytes.is_empty() {
+        out.push(b'%')?;
+    }
+    for byte in bytes {
+        push_byte(*byte, out)?;
+    }
+    Ok(())
+}

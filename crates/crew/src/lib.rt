@@ -1,0 +1,73 @@
+//! What a round of work asks of each kind of work. A job goes in; what is made of it comes out, or the job itself
+//! where memory was refused. Rounds, in one thread or in several, are built on this contract alone.
+#![tactic(auto)]
+
+ghost use Rattle.std.specs.Prelude.{◌≡◌};
+ghost use Rattle.crew.specs.Turn.{IfDone, IfBack};
+
+/// What became of a job.
+#[derive(Drop)]
+pub enum Turn<J, D> {
+    /// The job is done, and this is what was made of it.
+    Done(D),
+    /// Memory was refused, and this is the job as it was.
+    Back(J),
+}
+
+/// A kind of work. Its jobs and what it makes of them can go from one thread to another, and the work itself can be
+/// shared by threads.
+pub trait Work: Sync {
+    /// What goes in. It is moved, so that a page is at one place at any time.
+    type Job: Send + Drop;
+
+    /// What comes out. It keeps all that `undo` needs to give the job back.
+    type Done: Send + Drop;
+
+    // What a job holds and what is made of it, as plain data: capacity and addresses are no part of it.
+    ghost Held: { Type 0 };
+
+    ghost Made: { Type 0 };
+
+    // Which jobs may be worked.
+    ghost can: { Self → Held → Type 0 };
+
+    ghost held: { Self.Job → Held };
+
+    // What `undo` needs of what it is given.
+    ghost whole: { Self → Self.Done → Type 0 };
+
+    // What the job held of which this was made.
+    ghost origin: { Self.Done → Held };
+
+    ghost product: { Self.Done → Made };
+
+    // What the work makes of a job: a function of what the job holds.
+    ghost made: { Self → Held → Made };
+
+    /// Works the job. `Back` comes only where memory was refused, and gives the job back as it was.
+    fn work(&self, job: Self::Job) -> Turn<Self::Job, Self::Done>
+        requires { can self.now (held job) }
+        ensures whole { IfDone result (whole self.now) }
+        ensures origin { IfDone result (λ done. origin done ≡ held job) }
+        ensures made { IfDone result (λ done. product done ≡ made self.now (held job)) }
+        ensures back { IfBack result (λ again. held again ≡ held job) };
+
+    /// The job of which this was made. It takes no memory.
+    fn undo(&self, done: Self::Done) -> Self::Job
+        requires { whole self.now done }
+        ensures { held result ≡ origin done };
+}
+
+/// What is worked and undone is the job as it was: so a round that cannot be finished can be taken back.
+pub fn work_and_undo<W: Work>(work: &W, job: W::Job) -> W::Job
+    requires { W.can work.now (W.held job) }
+    ensures { W.held result ≡ W.held job }
+{
+    match work.work(job) {
+        Turn::Done(done) => work.undo(done),
+        Turn::Back(job) => job,
+    }
+}
+
+#[cfg(test)]
+mod tests;

@@ -1,0 +1,17 @@
+-- Pairs of references, place by place.
+use Rattle.std.proofs.Common.{◌≡◌, ◌<◌, ℕ, zero, suc, List, [], ◌∷◌, length, slice_get, get_or, Some, sym, ap, arith}
+use Rattle.std.specs.Borrow.{Bor}
+use Rattle.std.specs.Map.{keys_of, values_of}
+use Rattle.delta_chain.specs.Lent.{pairs_lent}
+
+module _ {V : Type 0} where
+  -- the key and the cell at a place are what the references there point to
+  pub key_lent : (lent : List (Bor (List ℕ) × Bor V)) (at : ℕ) (e : Bor (List ℕ) × Bor V) → at < length (pairs_lent lent) → e ≡ get_or lent at e → slice_get (keys_of (pairs_lent lent)) at ≡ Some e.0.now
+  key_lent [] at e l h = absurd (omega arith)
+  key_lent (d ∷ ds) zero e l h = ap (λ (x : Bor (List ℕ) × Bor V). Some x.0.now) (sym h)
+  key_lent (d ∷ ds) (suc at) e l h = let m : at < length (pairs_lent ds) = omega arith in key_lent ds at e m h
+
+  pub cell_lent : (lent : List (Bor (List ℕ) × Bor V)) (at : ℕ) (e : Bor (List ℕ) × Bor V) → at < length (pairs_lent lent) → e ≡ get_or lent at e → slice_get (values_of (pairs_lent lent)) at ≡ Some e.1.now
+  cell_lent [] at e l h = absurd (omega arith)
+  cell_lent (d ∷ ds) zero e l h = ap (λ (x : Bor (List ℕ) × Bor V). Some x.1.now) (sym h)
+  cell_lent (d ∷ ds) (suc at) e l h = let m : at < length (pairs_lent ds) = omega arith in cell_lent ds at e m h

@@ -1,0 +1,42 @@
+-- Lists of pairs, place by place, for the proofs of this crate and of those above it.
+use Rattle.std.specs.Prelude.{◌≡◌, ◌<◌, ◌+◌, ℕ, zero, suc, List, [], ◌∷◌, ◌++◌, length, drop, slice_get, Some}
+use Rattle.std.proofs.Common.{refl, sym, ap, ◌∙◌, arith, append_assoc, add-one}
+use Rattle.std.specs.Map.{keys_of, values_of}
+use Rattle.keys.specs.Order.{order}
+use Rattle.delta_chain.specs.Merging.{first_order}
+
+module _ {T : Type 0} where
+  -- what stands behind a place: the pair of the key and the item there, and then the rest
+  pub drop_pair : (es : List (List ℕ × T)) (at : ℕ) (k : List ℕ) (v : T) → slice_get (keys_of es) at ≡ Some k → slice_get (values_of es) at ≡ Some v → drop at es ≡ (k, v) ∷ drop (suc at) es
+  drop_pair [] at k v h i = absurd (cc)
+  drop_pair (e ∷ es) zero k v h i =
+      let s : e.0 ≡ k = cc in
+      let t : e.1 ≡ v = cc in
+      let pair : List ℕ → T → List ℕ × T = λ a b. (a, b) in
+      ap (λ (a : List ℕ). pair a e.1 ∷ es) s ∙ ap (λ (b : T). pair k b ∷ es) t
+  drop_pair (e ∷ es) (suc at) k v h i = drop_pair es at k v h i
+
+  -- the same where only the key there is known, and where only the place is
+  pub front_under : (es : List (List ℕ × T)) (at : ℕ) (k : List ℕ) → slice_get (keys_of es) at ≡ Some k → (v : T) × (drop at es ≡ (k, v) ∷ drop (suc at) es)
+  front_under [] at k h = absurd (cc)
+  front_under (e ∷ es) zero k h =
+      let s : e.0 ≡ k = cc in
+      let pair : List ℕ → T → List ℕ × T = λ a b. (a, b) in
+      (e.1, ap (λ (a : List ℕ). pair a e.1 ∷ es) s)
+  front_under (e ∷ es) (suc at) k h = front_under es at k h
+
+  pub front_at : (es : List (List ℕ × T)) (at : ℕ) → at < length es → (e : List ℕ × T) × (drop at es ≡ e ∷ drop (suc at) es)
+  front_at [] at h = absurd (omega arith)
+  front_at (e ∷ es) zero h = (e, refl)
+  front_at (e ∷ es) (suc at) h = let l : at < length es = omega arith in front_at es at l
+
+  -- one more pair put behind others, from what stood behind a place
+  pub push_pair : (out es all : List (List ℕ × T)) (at : ℕ) (k : List ℕ) (v : T) → slice_get (keys_of es) at ≡ Some k → slice_get (values_of es) at ≡ Some v → out ++ drop at es ≡ all → (out ++ (k, v) ∷ []) ++ drop (at + 1) es ≡ all
+  push_pair out es all at k v h i t =
+      rw add-one (append_assoc out ((k, v) ∷ []) (drop (suc at) es) ∙ ap (λ (x : List (List ℕ × T)). out ++ x) (sym (drop_pair es at k v h i)) ∙ t)
+
+  -- how the first pair behind a place stands to a key, by the key there
+  pub first_at : (es : List (List ℕ × T)) (at : ℕ) (j k : List ℕ) → slice_get (keys_of es) at ≡ Some j → first_order (drop at es) k ≡ order j k
+  first_at [] at j k h = absurd (cc)
+  first_at (e ∷ es) zero j k h = let s : e.0 ≡ j = cc in ap (λ (i : List ℕ). order i k) s
+  first_at (e ∷ es) (suc at) j k h = first_at es at j k h

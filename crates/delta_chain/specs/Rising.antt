@@ -1,0 +1,63 @@
+-- Lemmas on lists of entries that rise, for the proofs of this crate and of those above it.
+use Rattle.std.specs.Prelude.{◌≡◌, ℕ, zero, suc, ◌+◌, true, List, [], ◌∷◌, ◌++◌, length, drop, slice_get, Some}
+use Rattle.std.proofs.Common.{refl, ap, arith, Ordering, Less, Equal, Greater, ◌-◌}
+use Rattle.std.specs.Ordering.{is_lt}
+use Rattle.std.specs.List.Sorted.{IsStrictlySortedBy}
+use Rattle.std.specs.Map.{keys_of}
+use Rattle.keys.specs.Order.{order, IsRising}
+use Rattle.keys.specs.MapLaws.{IsBelowAll, total}
+use Rattle.delta_chain.specs.Building.{goes_last}
+use Rattle.delta_chain.specs.Places.{front_under}
+
+less_by : (o : Ordering) → is_lt o ≡ true → o ≡ Less
+less_by Less h = refl
+less_by Equal h = absurd (cc)
+less_by Greater h = absurd (cc)
+
+module _ {V : Type 0} where
+  -- a key above the last one is above the first
+  goes_last_first : (e : List ℕ × V) (es : List (List ℕ × V)) (k : List ℕ) → IsRising (e ∷ es) → goes_last k (e ∷ es) ≡ true → order e.0 k ≡ Less
+  unfolding IsStrictlySortedBy
+  goes_last_first e [] k r h = less_by (order e.0 k) h
+  goes_last_first e (f ∷ es) k r h = total.trans e.0 f.0 k (r.0).0 (goes_last_first f es k r.1 h)
+
+  goes_last_rest : (e : List ℕ × V) (es : List (List ℕ × V)) (k : List ℕ) → goes_last k (e ∷ es) ≡ true → goes_last k es ≡ true
+  goes_last_rest e [] k h = refl
+  goes_last_rest e (f ∷ es) k h = h
+
+  below_push : (j : List ℕ) (es : List (List ℕ × V)) (k : List ℕ) (v : V) → IsBelowAll j (keys_of es) → order j k ≡ Less → IsBelowAll j (keys_of (es ++ (k, v) ∷ []))
+  below_push j [] k v a h = (h, tt)
+  below_push j (e ∷ es) k v a h = (a.0, below_push j es k v a.1 h)
+
+  -- entries with one more behind them, above the last one, rise
+  pub rising-push : (es : List (List ℕ × V)) (k : List ℕ) (v : V) → IsRising es → goes_last k es ≡ true → IsRising (es ++ (k, v) ∷ [])
+  unfolding IsStrictlySortedBy
+  rising-push [] k v r h = (tt, tt)
+  rising-push (e ∷ es) k v r h =
+      (below_push e.0 es k v r.0 (goes_last_first e es k r h), rising-push es k v r.1 (goes_last_rest e es k h))
+
+  last_by : (es : List (List ℕ × V)) (n : ℕ) (k : List ℕ) (e : List ℕ × V) → n + 1 ≡ length es → slice_get es n ≡ Some e → goes_last k es ≡ is_lt (order e.0 k)
+  last_by [] n k e l h = absurd (omega arith)
+  last_by (d ∷ []) zero k e l h = let s : d ≡ e = cc in ap (λ (x : List ℕ × V). is_lt (order x.0 k)) s
+  last_by (d ∷ []) (suc n) k e l h = absurd (omega arith)
+  last_by (d ∷ f ∷ es) zero k e l h = absurd (omega arith)
+  last_by (d ∷ f ∷ es) (suc n) k e l h = let m : n + 1 ≡ length (f ∷ es) = omega arith in last_by (f ∷ es) n k e m h
+
+  -- the test, by the entry at the last place
+  pub goes_last-some : (es : List (List ℕ × V)) (k : List ℕ) (e : List ℕ × V) → slice_get es (length es - 1) ≡ Some e → goes_last k es ≡ is_lt (order e.0 k)
+  goes_last-some [] k e h = absurd (cc)
+  goes_last-some (d ∷ es) k e h = last_by (d ∷ es) (length (d ∷ es) - 1) k e (omega arith) h
+
+  -- in a list that rises, each key may follow the entries before it
+  pub goes_last-rising : (es : List (List ℕ × V)) (k : List ℕ) (v : V) (rest : List (List ℕ × V)) → IsRising (es ++ (k, v) ∷ rest) → goes_last k es ≡ true
+  unfolding IsStrictlySortedBy
+  goes_last-rising [] k v rest r = refl
+  goes_last-rising (e ∷ []) k v rest r = rw (r.0).0 refl
+  goes_last-rising (e ∷ f ∷ es) k v rest r = goes_last-rising (f ∷ es) k v rest r.1
+
+  -- so a list may be built again from its front, entry by entry
+  pub goes_last-next : (built es : List (List ℕ × V)) (at : ℕ) (k : List ℕ) → IsRising es → slice_get (keys_of es) at ≡ Some k → built ++ drop at es ≡ es → goes_last k built ≡ true
+  goes_last-next built es at k r h t =
+      let e = front_under es at k h in
+      let s : built ++ (k, e.0) ∷ drop (suc at) es ≡ es = rw e.1 at t in
+      goes_last-rising built k e.0 (drop (suc at) es) (rw s r)

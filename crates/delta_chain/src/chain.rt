@@ -1,0 +1,164 @@
+ghost use Rattle.std.specs.Prelude.{◌≡◌, ◌∷◌, [], length, min, OnOk, OnErr, IfOk, IfErr, MatchOption};
+ghost use Rattle.keys.specs.Order.{IsRising};
+ghost use Rattle.delta_chain.specs.Layers.{Layers, entries_of, depth_of, IsInOrder};
+
+use crate::base::Base;
+use crate::merging::{copied, lent_base, with_run};
+use crate::pairs::Pairs;
+use crate::run::Run;
+use keys::cell::Cell;
+use keys::key::Key;
+use std::alloc::{AllocError, Allocator};
+use std::marker::Model;
+use std::mem;
+
+/// The state of a page: runs, newest first, in front of a base (the Bw-tree's delta chain). Contracts see it as
+/// its runs and its base.
+#[cycle(chain)]
+#[derive(Drop)]
+pub struct Chain<V, A: Allocator> {
+    link: Link<V, A>,
+}
+
+#[cycle(chain)]
+#[derive(Drop)]
+enum Link<V, A: Allocator> {
+    Bottom(Base<V, A>),
+    Front(Run<V, A>, Box<Chain<V, A>, A>),
+}
+
+impl<V, A: Allocator> Model for Chain<V, A> {
+    ghost use Rattle.std.specs.Prelude.{length};
+    ghost use Rattle.delta_chain.specs.Layers.{Layers};
+
+    ghost Value = { Layers V };
+
+    ghost use Rattle.delta_chain.specs.Linked.{layers_of};
+
+    ghost view = { λ c. layers_of c.link };
+
+    ghost size = { λ c. length c.runs };
+
+    ghost use Rattle.std.proofs.Common.{arith};
+
+    ghost size_decreases = { λ a h. Prim.grind (arith) };
+}
+
+impl<V, A: Allocator + Copy> Chain<V, A> {
+    /// A base without runs.
+    pub fn of_base(base: Base<V, A>) -> Self
+        ensures { result ≡ record { runs = []; base = base } }
+    {
+        Chain {
+            link: Link::Bottom(base),
+        }
+    }
+
+    /// How many runs there are, up to the greatest `u64`.
+    pub fn depth(&self) -> u64
+        ensures count { result ≡ min (depth_of self.now) u64.MAX }
+        ensures rising { IsInOrder self.now }
+    {
+        match &self.link {
+            Link::Bottom(base) => {
+                let _rising = base.len();
+                0
+            }
+            Link::Front(run, below) => {
+                let _rising = run.len();
+                below.depth().saturating_add(1)
+            }
+        }
+    }
+
+    /// The newest run and the chain behind it, or none where the base stands alone.
+    pub fn newest(&self) -> Option<(&Run<V, A>, &Chain<V, A>)>
+        ensures { MatchOption result (self.now.runs ≡ []) (λ p. self.now ≡ record p.1.now { runs = p.0.now ∷ p.1.now.runs }) }
+    {
+        match &self.link {
+            Link::Bottom(_) => None,
+            Link::Front(run, below) => Some((run, below)),
+        }
+    }
+
+    /// The base under the runs.
+    pub fn base(&self) -> &Base<V, A>
+        ensures { result.now ≡ self.now.base }
+    {
+        match &self.link {
+            Link::Bottom(base) => base,
+            Link::Front(_, below) => below.base(),
+        }
+    }
+
+    /// The page's entries, lent: its present keys with their cells, in key order.
+    pub fn pairs(&self, alloc: A) -> Result<Pairs<'_, V, A>, AllocError>
+        ensures entries { IfOk result (λ pairs. pairs ≡ entries_of self.now) }
+        ensures rising { IfOk result (λ pairs. IsRising pairs) }
+    {
+        match &self.link {
+            Link::Bottom(base) => lent_base(alloc, base),
+            Link::Front(run, below) => {
+                let under = below.pairs(alloc)?;
+                with_run(alloc, &under, run)
+            }
+        }
+    }
+
+    fn alloc(&self) -> A {
+        match &self.link {
+            Link::Bottom(base) => base.alloc(),
+            Link::Front(run, _) => run.alloc(),
+        }
+    }
+}
+
+impl<V: Drop, A: Allocator + Copy> Chain<V, A> {
+    /// Puts the run in front. Where memory is refused the chain stays as it was and the run comes back.
+    pub fn prepend(&mut self, run: Run<V, A>) -> Result<(), (AllocError, Run<V, A>)>
+        ensures ok { OnOk result (self.new ≡ record self.old { runs = run ∷ self.old.runs }) }
+        ensures err { OnErr result (self.new ≡ self.old) }
+        ensures back { IfErr result (λ e. e.1 ≡ run) }
+    {
+        let alloc = run.alloc();
+        let whole = mem::replace(self, Chain::of_base(Base::empty(alloc)));
+        match Box::new(alloc, whole) {
+            Ok(below) => {
+                self.link = Link::Front(run, below);
+                Ok(())
+            }
+            Err(refused) => {
+                *self = refused.value;
+                Err((AllocError, run))
+            }
+        }
+    }
+
+    /// Takes the newest run off, if there is one. This undoes `prepend`, and takes no memory.
+    pub fn pop(&mut self) -> Option<Run<V, A>>
+        ensures { MatchOption result (self.old.runs ≡ [] × self.new ≡ self.old) (λ run. self.old ≡ record self.new { runs = run ∷ self.new.runs }) }
+    {
+        let empty = Chain::of_base(Base::empty(self.alloc()));
+        match mem::replace(self, empty).link {
+            Link::Bottom(base) => {
+                *self = Chain::of_base(base);
+                None
+            }
+            Link::Front(run, below) => {
+                *self = Box::into_inner(below);
+                Some(run)
+            }
+        }
+    }
+}
+
+impl<V: Cell<A> + Drop, A: Allocator + Copy> Chain<V, A> {
+    /// Copies of the page's entries: its present keys with their cells, in key order.
+    pub fn entries(&self, alloc: A) -> Result<Vec<(Key<A>, V), A>, AllocError>
+        ensures entries { IfOk result (λ all. all.items ≡ entries_of self.now) }
+        ensures rising { IfOk result (λ all. IsRising all.items) }
+    {
+        let pairs = self.pairs(alloc)?;
+        copied(alloc, &pairs)
+    }
+}

@@ -1,0 +1,98 @@
+ghost use Rattle.std.specs.Prelude.{◌≡◌, ◌<◌, ◌∷◌, ◌++◌, [], true, length, slice_get, IfOk, OnOk, OnErr};
+ghost use Rattle.std.specs.Map.{keys_of, values_of};
+ghost use Rattle.keys.specs.Order.{IsRising};
+ghost use Rattle.delta_chain.specs.Building.{goes_last};
+
+use keys::key::Key;
+use std::alloc::{AllocError, Allocator};
+use std::marker::Model;
+
+/// Items under keys that strictly rise: what a base and a run have in common.
+#[derive(Drop)]
+pub(crate) struct Entries<T, A: Allocator> {
+    items: Vec<(Key<A>, T), A>,
+}
+
+impl<T, A: Allocator> Model for Entries<T, A> {
+    ghost use Rattle.std.specs.Prelude.{List, ℕ};
+    ghost use Rattle.keys.specs.Order.{IsRising};
+
+    ghost Value = { List (List ℕ × T) };
+
+    ghost view = { λ e. e.items.items };
+
+    ghost invariant = { λ e. IsRising e.items.items };
+}
+
+impl<T, A: Allocator + Copy> Entries<T, A> {
+    // No entries. This takes no memory.
+    pub(crate) fn empty(alloc: A) -> Self
+        ensures { result ≡ [] }
+    {
+        Entries {
+            items: Vec::new(alloc),
+        }
+    }
+
+    // No entries, with room for this many.
+    pub(crate) fn with_capacity(alloc: A, count: usize) -> Result<Self, AllocError>
+        ensures { IfOk result (λ entries. entries ≡ []) }
+    {
+        let items = Vec::with_capacity(alloc, count)?;
+        Ok(Entries { items })
+    }
+
+    pub(crate) fn alloc(&self) -> A {
+        *self.items.allocator()
+    }
+
+    pub(crate) fn len(&self) -> usize
+        ensures count { result ≡ length self.now }
+        ensures rising { IsRising self.now }
+    {
+        self.items.len()
+    }
+
+    pub(crate) fn key(&self, at: usize) -> &[u8]
+        requires { at < length self.now }
+        ensures { slice_get (keys_of self.now) at ≡ Some result.now }
+    {
+        self.items[at].0.as_bytes()
+    }
+
+    pub(crate) fn item(&self, at: usize) -> &T
+        requires { at < length self.now }
+        ensures { slice_get (values_of self.now) at ≡ Some result.now }
+    {
+        &self.items[at].1
+    }
+
+    // Whether the key is above the last one, so that an entry under it may be put behind the others.
+    pub(crate) fn takes(&self, key: &[u8]) -> bool
+        ensures { result ≡ goes_last key.now self.now }
+    {
+        goes_last(&self.items, key)
+    }
+}
+
+impl<T: Drop, A: Allocator + Copy> Entries<T, A> {
+    // Puts the entry behind the others. Where memory is refused they stay as they are.
+    pub(crate) fn push(&mut self, key: Key<A>, item: T) -> Result<(), AllocError>
+        requires { goes_last key self.old ≡ true }
+        ensures ok { OnOk result (self.new ≡ self.old ++ (key, item) ∷ []) }
+        ensures err { OnErr result (self.new ≡ self.old) }
+    {
+        self.items.push((key, item))?;
+        Ok(())
+    }
+}
+
+// Whether the key is above the last one, if there is one.
+fn goes_last<T, A: Allocator + Copy>(items: &[(Key<A>, T)], key: &[u8]) -> bool
+    ensures { result ≡ goes_last key.now items.now }
+{
+    match items.last() {
+        None => true,
+        Some(last) => last.0.as_bytes().cmp(key).is_lt(),
+    }
+}

@@ -1,0 +1,46 @@
+ghost use Rattle.std.specs.Prelude.{◌≡◌, ◌<◌, ℕ, List, length, slice_get};
+ghost use Rattle.std.specs.Map.{keys_of};
+ghost use Rattle.keys.specs.Order.{AreRisingKeys};
+
+use crate::base::Base;
+use crate::run::Run;
+use std::alloc::Allocator;
+
+/// A list of strictly rising keys that is read by place, so that search is written once for every such list.
+pub trait Keyed {
+    ghost keys: { Self → List (List ℕ) };
+
+    /// How many keys there are.
+    fn len(&self) -> usize
+        ensures count { result ≡ length (keys self.now) }
+        ensures rising { AreRisingKeys (keys self.now) };
+
+    /// The bytes of the key at this place, counted from 0.
+    fn key(&self, at: usize) -> &[u8]
+        requires { at < length (keys self.now) }
+        ensures { slice_get (keys self.now) at ≡ Some result.now };
+}
+
+impl<V, A: Allocator + Copy> Keyed for Base<V, A> {
+    ghost keys = { keys_of };
+
+    fn len(&self) -> usize {
+        Base::len(self)
+    }
+
+    fn key(&self, at: usize) -> &[u8] {
+        Base::key(self, at)
+    }
+}
+
+impl<V, A: Allocator + Copy> Keyed for Run<V, A> {
+    ghost keys = { keys_of };
+
+    fn len(&self) -> usize {
+        Run::len(self)
+    }
+
+    fn key(&self, at: usize) -> &[u8] {
+        Run::key(self, at)
+    }
+}

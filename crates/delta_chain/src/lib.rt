@@ -1,0 +1,15 @@
+//! The state of a page: runs of changes in front of a base. A page is never changed in place; a change is a run
+//! that is put in front of what was there (the Bw-tree's delta), until the page is replaced as a whole.
+#![tactic(auto)]
+
+pub mod base;
+pub mod builder;
+pub mod chain;
+mod entries;
+pub mod keyed;
+pub mod laws;
+mod merging;
+pub mod pairs;
+pub mod run;
+#[cfg(test)]
+mod tests;

@@ -1,0 +1,118 @@
+//! A run applied to the pairs under it, by one walk over both.
+ghost use Rattle.std.specs.Prelude.{◌≡◌, ◌<◌, ◌∷◌, ◌++◌, [], length, drop, slice_get, IfOk, OnOk};
+ghost use Rattle.std.specs.Option.{option_copied};
+ghost use Rattle.keys.specs.Order.{IsRising};
+ghost use Rattle.delta_chain.specs.Layers.{with_run};
+ghost use Rattle.delta_chain.specs.Merging.{present, first_order};
+
+use crate::base::Base;
+use crate::pairs::Pairs;
+use crate::run::Run;
+use keys::cell::Cell;
+use keys::key::Key;
+use std::alloc::{AllocError, Allocator};
+use std::cmp::Ordering;
+
+/// The pairs of a base.
+pub(crate) fn lent_base<V, A: Allocator + Copy>(
+    alloc: A,
+    base: &Base<V, A>,
+) -> Result<Pairs<'_, V, A>, AllocError>
+    ensures entries { IfOk result (λ pairs. pairs ≡ base.now) }
+    ensures rising { IfOk result (λ pairs. IsRising pairs) }
+{
+    let count = base.len();
+    let mut pairs = Pairs::with_capacity(alloc, count)?;
+    for at in 0..count {
+        pairs.push(base.key(at), base.cell(at))?;
+    }
+    Ok(pairs)
+}
+
+/// The pairs under a run with its changes: each pair of the lower list that the run doesn't name, and each key of
+/// the run that has a cell.
+pub(crate) fn with_run<'a, V, A: Allocator + Copy>(
+    alloc: A,
+    under: &Pairs<'a, V, A>,
+    run: &'a Run<V, A>,
+) -> Result<Pairs<'a, V, A>, AllocError>
+    requires { IsRising under.now }
+    ensures entries { IfOk result (λ pairs. pairs ≡ with_run under.now run.now) }
+    ensures rising { IfOk result (λ pairs. IsRising pairs) }
+{
+    let changes = run.len();
+    let mut pairs = Pairs::with_capacity(alloc, under.len().saturating_add(changes))?;
+    let mut from = 0;
+    let mut at = 0;
+    while at < changes {
+        let key = run.key(at);
+        match order_at(under, from, key) {
+            Ordering::Less => {
+                pairs.push(under.key(from), under.cell(from))?;
+                from += 1;
+            }
+            Ordering::Equal => from += 1,
+            Ordering::Greater => {
+                push_change(&mut pairs, key, run.change(at))?;
+                at += 1;
+            }
+        }
+    }
+    push_rest(&mut pairs, under, from)?;
+    Ok(pairs)
+}
+
+// How the pair at this place stands to the key; behind the last pair, as one above every key.
+fn order_at<V, A: Allocator + Copy>(pairs: &Pairs<'_, V, A>, at: usize, key: &[u8]) -> Ordering
+    ensures { result ≡ first_order (drop at pairs.now) key.now }
+{
+    if at < pairs.len() {
+        pairs.key(at).cmp(key)
+    } else {
+        Ordering::Greater
+    }
+}
+
+// Puts the key with its cell behind the pairs, where the change has one.
+fn push_change<'a, V, A: Allocator + Copy>(
+    pairs: &mut Pairs<'a, V, A>,
+    key: &'a [u8],
+    change: Option<&'a V>,
+) -> Result<(), AllocError>
+    ensures { OnOk result (pairs.new ≡ pairs.old ++ present key.now (option_copied change.entry)) }
+{
+    match change {
+        Some(cell) => pairs.push(key, cell),
+        None => Ok(()),
+    }
+}
+
+// Puts the lower pairs from this place on behind the pairs.
+fn push_rest<'a, V, A: Allocator + Copy>(
+    pairs: &mut Pairs<'a, V, A>,
+    under: &Pairs<'a, V, A>,
+    from: usize,
+) -> Result<(), AllocError>
+    ensures { OnOk result (pairs.new ≡ pairs.old ++ drop from under.now) }
+{
+    for at in from..under.len() {
+        pairs.push(under.key(at), under.cell(at))?;
+    }
+    Ok(())
+}
+
+/// Copies of the pairs.
+pub(crate) fn copied<V: Cell<A> + Drop, A: Allocator + Copy>(
+    alloc: A,
+    pairs: &Pairs<'_, V, A>,
+) -> Result<Vec<(Key<A>, V), A>, AllocError>
+    ensures { IfOk result (λ all. all.items ≡ pairs.now) }
+{
+    let mut all = Vec::with_capacity(alloc, pairs.len())?;
+    for at in 0..pairs.len() {
+        let key = Key::from_bytes(alloc, pairs.key(at))?;
+        let cell = pairs.cell(at).copy(alloc)?;
+        all.push((key, cell))?;
+    }
+    Ok(all)
+}

@@ -1,0 +1,63 @@
+ghost use Rattle.std.specs.Prelude.{◌≡◌, ◌<◌, ◌∷◌, ◌++◌, [], length, slice_get, IfOk, OnOk, OnErr};
+ghost use Rattle.std.specs.Map.{keys_of, values_of};
+
+use std::alloc::{AllocError, Allocator};
+use std::marker::Model;
+
+/// A page's entries, lent out of its runs and its base. Contracts see them as the list of pairs.
+#[derive(Drop)]
+pub struct Pairs<'a, V, A: Allocator> {
+    lent: Vec<(&'a [u8], &'a V), A>,
+}
+
+impl<'a, V, A: Allocator> Model for Pairs<'a, V, A> {
+    ghost use Rattle.std.specs.Prelude.{List, ℕ};
+
+    ghost Value = { List (List ℕ × V) };
+
+    ghost use Rattle.delta_chain.specs.Lent.{pairs_lent};
+
+    ghost view = { λ p. pairs_lent p.lent.items };
+}
+
+impl<'a, V, A: Allocator + Copy> Pairs<'a, V, A> {
+    // No pairs, with room for this many.
+    pub(crate) fn with_capacity(alloc: A, count: usize) -> Result<Self, AllocError>
+        ensures { IfOk result (λ pairs. pairs ≡ []) }
+    {
+        let lent = Vec::with_capacity(alloc, count)?;
+        Ok(Pairs { lent })
+    }
+
+    // Puts a pair behind the others.
+    pub(crate) fn push(&mut self, key: &'a [u8], cell: &'a V) -> Result<(), AllocError>
+        ensures ok { OnOk result (self.new ≡ self.old ++ (key.now, cell.now) ∷ []) }
+        ensures err { OnErr result (self.new ≡ self.old) }
+    {
+        self.lent.push((key, cell))?;
+        Ok(())
+    }
+
+    /// How many pairs there are.
+    pub fn len(&self) -> usize
+        ensures { result ≡ length self.now }
+    {
+        self.lent.len()
+    }
+
+    /// The bytes of the key at this place, counted from 0.
+    pub fn key(&self, at: usize) -> &'a [u8]
+        requires { at < length self.now }
+        ensures { slice_get (keys_of self.now) at ≡ Some result.now }
+    {
+        self.lent[at].0
+    }
+
+    /// The cell at this place, counted from 0.
+    pub fn cell(&self, at: usize) -> &'a V
+        requires { at < length self.now }
+        ensures { slice_get (values_of self.now) at ≡ Some result.now }
+    {
+        self.lent[at].1
+    }
+}

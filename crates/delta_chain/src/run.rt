@@ -1,0 +1,80 @@
+ghost use Rattle.std.specs.Prelude.{◌≡◌, ◌<◌, ◌∷◌, ◌++◌, [], false, length, slice_get, IfOk, OnOk, OnErr, IsErrOf, ◌↔◌};
+ghost use Rattle.std.specs.Map.{keys_of, values_of};
+ghost use Rattle.std.specs.Option.{option_copied};
+ghost use Rattle.keys.specs.Order.{IsRising};
+ghost use Rattle.delta_chain.specs.Building.{goes_last};
+
+use crate::builder::PushError;
+use crate::entries::Entries;
+use keys::key::Key;
+use std::alloc::{AllocError, Allocator};
+use std::marker::Model;
+
+/// A run of changes to a page: keys in strictly rising order, each with the cell that it has from now on, or with
+/// none where it is absent from now on. Contracts see it as the list of these pairs.
+#[derive(Drop)]
+pub struct Run<V, A: Allocator> {
+    changes: Entries<Option<V>, A>,
+}
+
+impl<V, A: Allocator> Model for Run<V, A> {
+    ghost use Rattle.std.specs.Prelude.{List, ℕ, Option};
+
+    ghost Value = { List (List ℕ × Option V) };
+
+    ghost view = { λ r. r.changes };
+}
+
+impl<V, A: Allocator + Copy> Run<V, A> {
+    /// A run without changes, with room for this many.
+    pub fn with_capacity(alloc: A, count: usize) -> Result<Self, AllocError>
+        ensures { IfOk result (λ run. run ≡ []) }
+    {
+        let changes = Entries::with_capacity(alloc, count)?;
+        Ok(Run { changes })
+    }
+
+    pub(crate) fn alloc(&self) -> A {
+        self.changes.alloc()
+    }
+
+    /// How many keys the run names.
+    pub fn len(&self) -> usize
+        ensures count { result ≡ length self.now }
+        ensures rising { IsRising self.now }
+    {
+        self.changes.len()
+    }
+
+    /// The bytes of the key at this place, counted from 0.
+    pub fn key(&self, at: usize) -> &[u8]
+        requires { at < length self.now }
+        ensures { slice_get (keys_of self.now) at ≡ Some result.now }
+    {
+        self.changes.key(at)
+    }
+
+    /// What the key at this place has: its cell, or none where it is absent.
+    pub fn change(&self, at: usize) -> Option<&V>
+        requires { at < length self.now }
+        ensures { slice_get (values_of self.now) at ≡ Some (option_copied result) }
+    {
+        self.changes.item(at).as_ref()
+    }
+}
+
+impl<V: Drop, A: Allocator + Copy> Run<V, A> {
+    /// Adds a change behind the others. An `Err` drops the change and leaves the run as it was: `OutOfOrder`
+    /// exactly where the key is not above the last one, and else `NoMemory`.
+    pub fn push(&mut self, key: Key<A>, change: Option<V>) -> Result<(), PushError>
+        ensures ok { OnOk result (self.new ≡ self.old ++ (key, change) ∷ []) }
+        ensures order { IsErrOf result PushError.OutOfOrder ↔ (goes_last key self.old ≡ false) }
+        ensures err { OnErr result (self.new ≡ self.old) }
+    {
+        if !self.changes.takes(key.as_bytes()) {
+            return Err(PushError::OutOfOrder);
+        }
+        self.changes.push(key, change)?;
+        Ok(())
+    }
+}

@@ -1,0 +1,37 @@
+use Rattle.std.proofs.Common.{◌∙◌, ap, map}
+use Rattle.std.specs.Prelude.{ℕ, List}
+use Rattle.delta_chain.specs.Layers.{Layers, entries_of}
+use Rattle.page_runs.specs.LeafWork.{LeafMade}
+use Rattle.page_runs.specs.declared.piece.Piece.{Piece}
+use Rattle.engine.proofs.WholeBatch.{whole_places, leaf_after, leaf_replies, enough_room, contents_after}
+use Rattle.engine.proofs.store.Store.batch.Goals as goal
+
+pub work-requires : goal.work-requires
+work-requires c = rw c.in_ok-run.ensures (whole_places c.args.commands.now)
+
+pub replies_of-replies-requires-clause-enough : goal.replies_of-replies-requires-clause-enough
+replies_of-replies-requires-clause-enough c =
+    let pieces = c.into_page_and_pieces-page.ensures.pieces ∙ ap (λ (m : LeafMade). m.pieces) c.in-Done.ensures.made in
+    rw (pieces, c.in_ok-room.ensures.exact) (enough_room c.args.commands.now c.in_ok-run.run' _ c.in_ok-run.ensures)
+
+pub returns-in-Done-clause-replies : goal.returns-in-Done-clause-replies
+returns-in-Done-clause-replies c =
+    let pieces = c.into_page_and_pieces-page.ensures.pieces ∙ ap (λ (m : LeafMade). m.pieces) c.in-Done.ensures.made in
+    rw (← c.self.view_is)
+    (c.replies_of-replies.ensures
+    ∙ ap (λ (ps : List Piece). map (λ (p : Piece). p.reply) ps) pieces
+    ∙ leaf_replies c.args.commands.now c.self.inside.leaf c.replace-page.result c.in_ok-run.run' c.replace-page.ensures.value c.in_ok-run.ensures)
+
+pub returns-in-Done-clause-leaf : goal.returns-in-Done-clause-leaf
+returns-in-Done-clause-leaf c =
+    let page = c.into_page_and_pieces-page.ensures.page ∙ ap (λ (m : LeafMade). m.page) c.in-Done.ensures.made in
+    rw (← c.self.view_is)
+    (page ∙ leaf_after c.args.commands.now c.self.inside.leaf c.replace-page.result c.in_ok-run.run' c.replace-page.ensures.value c.in_ok-run.ensures c.self.inside.settings)
+
+pub returns-in-Done-clause-contents : goal.returns-in-Done-clause-contents
+returns-in-Done-clause-contents c =
+    let page = c.into_page_and_pieces-page.ensures.page ∙ ap (λ (m : LeafMade). m.page) c.in-Done.ensures.made
+    ∙ leaf_after c.args.commands.now c.self.inside.leaf c.replace-page.result c.in_ok-run.run' c.replace-page.ensures.value c.in_ok-run.ensures c.self.inside.settings in
+    rw (← c.self.view_is)
+    (ap (λ (p : Layers (List ℕ)). entries_of p) page
+    ∙ contents_after c.self.inside.settings c.self.inside.leaf c.args.commands.now c.depth-in_order.ensures.rising)

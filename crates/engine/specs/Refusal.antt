@@ -1,0 +1,32 @@
+-- Which batches are refused, and with which fault.
+use Rattle.std.specs.Prelude.{ℕ, ◌+◌, nat_lt, length, if◌then◌else◌, List, [], ◌∷◌, Option, Some, None}
+use Rattle.std.specs.Option.{option_or}
+use Rattle.keys.specs.declared.settings.Settings.{Settings}
+use Rattle.keys.specs.declared.command.Command.{Command}
+use Rattle.keys.specs.declared.command.Command.TheVariants.{Get, Put, Add, Del}
+use Rattle.keys.specs.declared.fault.Fault.{Fault}
+use Rattle.keys.specs.declared.fault.Fault.TheVariants.{KeyTooLong, ValueTooLong, BatchTooLong}
+
+-- what is wrong with a key of the command at this place
+abbrev pub key_fault : Settings → ℕ → List ℕ → Option Fault
+key_fault s place k = if nat_lt s.max_key (length k) then Some (KeyTooLong place) else None
+
+-- what is wrong with a value of the command at this place
+abbrev pub value_fault : Settings → ℕ → List ℕ → Option Fault
+value_fault s place v = if nat_lt s.max_value (length v) then Some (ValueTooLong place) else None
+
+-- what is wrong with the command at this place: its key comes before its value
+abbrev pub fault_at : {A : Type 0} → Settings → ℕ → Command A → Option Fault
+fault_at s place (Get k) = key_fault s place k
+fault_at s place (Put k v) = option_or (key_fault s place k) (value_fault s place v)
+fault_at s place (Add k v) = option_or (key_fault s place k) (value_fault s place v)
+fault_at s place (Del k) = key_fault s place k
+
+-- the fault of the first command that has one, where the list begins at this place of the batch
+abbrev pub first_fault : {A : Type 0} → Settings → ℕ → List (Command A) → Option Fault
+first_fault s place [] = None
+first_fault s place (c ∷ cs) = option_or (fault_at s place c) (first_fault s (place + 1) cs)
+
+-- why a batch is refused: it has more than 65,535 commands, or else its first fault
+abbrev pub refusal : {A : Type 0} → Settings → List (Command A) → Option Fault
+refusal s cs = if nat_lt 65535 (length cs) then Some BatchTooLong else first_fault s 0 cs

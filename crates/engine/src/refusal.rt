@@ -1,0 +1,74 @@
+//! The tests that a batch passes before any of it is executed.
+ghost use Rattle.std.specs.Prelude.{◌≡◌, Ok, Err, MatchOption};
+ghost use Rattle.engine.specs.Refusal.{key_fault, value_fault, fault_at, first_fault, refusal};
+
+use keys::command::Command;
+use keys::fault::Fault;
+use keys::key::Key;
+use keys::settings::Settings;
+use keys::value::Value;
+use std::alloc::Global;
+
+// The most commands that a batch may have.
+const LONGEST_BATCH: usize = 65_535;
+
+// Refuses a batch that is too long, and else the first command that has a fault.
+pub(crate) fn admit(settings: &Settings, commands: &[Command<Global>]) -> Result<(), Fault>
+    ensures { MatchOption (refusal settings.now commands.now) (result ≡ Ok tt) (λ fault. result ≡ Err fault) }
+{
+    if commands.len() > LONGEST_BATCH {
+        return Err(Fault::BatchTooLong);
+    }
+    match first_fault(settings, commands) {
+        None => Ok(()),
+        Some(fault) => Err(fault),
+    }
+}
+
+// The fault of the first command that has one.
+fn first_fault(settings: &Settings, commands: &[Command<Global>]) -> Option<Fault>
+    ensures { result ≡ first_fault settings.now 0 commands.now }
+{
+    for (place, command) in commands.iter().enumerate() {
+        let fault = fault_at(settings, place, command);
+        if fault.is_some() {
+            return fault;
+        }
+    }
+    None
+}
+
+// What is wrong with the command at this place.
+fn fault_at(settings: &Settings, place: usize, command: &Command<Global>) -> Option<Fault>
+    ensures { result ≡ fault_at settings.now place command.now }
+{
+    match command {
+        Command::Get(key) => key_fault(settings, place, key),
+        Command::Put(key, value) | Command::Add(key, value) => {
+            key_fault(settings, place, key).or(value_fault(settings, place, value))
+        }
+        Command::Del(key) => key_fault(settings, place, key),
+    }
+}
+
+// What is wrong with a key of the command at this place.
+fn key_fault(settings: &Settings, place: usize, key: &Key<Global>) -> Option<Fault>
+    ensures { result ≡ key_fault settings.now place key.now }
+{
+    if key.len() > settings.max_key as usize {
+        Some(Fault::KeyTooLong(place))
+    } else {
+        None
+    }
+}
+
+// What is wrong with a value of the command at this place.
+fn value_fault(settings: &Settings, place: usize, value: &Value<Global>) -> Option<Fault>
+    ensures { result ≡ value_fault settings.now place value.now }
+{
+    if value.len() > settings.max_value as usize {
+        Some(Fault::ValueTooLong(place))
+    } else {
+        None
+    }
+}

@@ -1,0 +1,24 @@
+ghost use Rattle.std.specs.Prelude.{◌≡◌, IfOk};
+
+use crate::pid::Pid;
+use crate::value::Value;
+use std::alloc::{AllocError, Allocator};
+
+/// What a page has at a key: a value, or for an index page a page id.
+pub trait Cell<A: Allocator + Copy> {
+    /// An equal cell, in memory of its own.
+    fn copy(&self, alloc: A) -> Result<Self, AllocError>
+        ensures { IfOk result (λ cell. cell ≡ self.now) };
+}
+
+impl<A: Allocator + Copy> Cell<A> for Value<A> {
+    fn copy(&self, alloc: A) -> Result<Self, AllocError> {
+        Value::copy(self, alloc)
+    }
+}
+
+impl<A: Allocator + Copy> Cell<A> for Pid {
+    fn copy(&self, _alloc: A) -> Result<Self, AllocError> {
+        Ok(*self)
+    }
+}

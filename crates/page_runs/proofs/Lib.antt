@@ -1,0 +1,3 @@
+mod Overlays
+mod Replays
+mod Rows

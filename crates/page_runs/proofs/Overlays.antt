@@ -1,0 +1,55 @@
+-- Changes that lie over a page: what a key has under them, and what one more command does to them.
+use Rattle.std.specs.Prelude.{◌≡◌, ◌<◌, ℕ, Bool, true, false, List, [], ◌∷◌, Option, Some, None, is_some, if◌then◌else◌, length, Result, Ok, Err, OnOk}
+use Rattle.std.proofs.Common.{refl, ap, ◌∙◌, arith}
+use Rattle.keys.specs.Order.{IsRising}
+use Rattle.keys.specs.OrderedMap.{value_at, with_pair, without}
+use Rattle.keys.specs.MapLaws.{value_at-with_pair_here, value_at-without_here}
+use Rattle.keys.specs.declared.settings.Settings.{Settings}
+use Rattle.delta_chain.specs.Layers.{Layers, said_or, holds, with_run, entries_of, IsInOrder}
+use Rattle.delta_chain.specs.LayerLaws.{value_at-with_run, value_at-entries_of, rising-entries_of}
+use Rattle.page_runs.specs.AfterRun.{overflows, class_after, class_of_size}
+use Rattle.page_runs.specs.NetRun.{noted}
+
+module _ {V : Type 0} where
+  -- a key that the changes name has what they say
+  pub named_now : (p : Layers V) (run : List (List ℕ × Option V)) (k : List ℕ) (o : Option V) → IsInOrder p → IsRising run → Some o ≡ value_at k run → o ≡ value_at k (with_run (entries_of p) run)
+  named_now p run k o a r h =
+      let said = value_at-with_run (entries_of p) run k (rising-entries_of p a) r in
+      rw said (ap (λ (t : Option (Option V)). said_or t (value_at k (entries_of p))) h)
+
+  -- a key that they don't name has what the page holds
+  pub unnamed_now : (p : Layers V) (run : List (List ℕ × Option V)) (k : List ℕ) → IsInOrder p → IsRising run → None ≡ value_at k run → holds p k ≡ value_at k (with_run (entries_of p) run)
+  unnamed_now p run k a r h =
+      let said = value_at-with_run (entries_of p) run k (rising-entries_of p a) r in
+      let held = value_at-entries_of p k a in
+      rw (said, ← held) (ap (λ (t : Option (Option V)). said_or t (value_at k (entries_of p))) h)
+
+  -- what is noted of a key that was put, added or deleted, unless memory was refused
+  noted_put : (m : List (List ℕ × V)) (run : List (List ℕ × Option V)) (k : List ℕ) (v : V) → with_pair run k (Some v) ≡ noted (with_pair m k v) run k
+  noted_put m run k v = rw (value_at-with_pair_here m k v) refl
+
+  noted_add : (b : Bool) (m : List (List ℕ × V)) (run : List (List ℕ × Option V)) (k : List ℕ) (v : V) → (if b then run else with_pair run k (Some v)) ≡ (if b then run else noted (if b then m else with_pair m k v) run k)
+  noted_add true m run k v = refl
+  noted_add false m run k v = noted_put m run k v
+
+  noted_del : (b : Bool) (m : List (List ℕ × V)) (run : List (List ℕ × Option V)) (k : List ℕ) → IsRising m → (if b then with_pair run k None else run) ≡ (if b then noted (without m k) run k else run)
+  noted_del true m run k r = rw (value_at-without_here m k r) refl
+  noted_del false m run k r = refl
+
+  module _ {R E : Type 0} where
+    pub put_noted : (r : Result R E) (m : List (List ℕ × V)) (run new : List (List ℕ × Option V)) (k : List ℕ) (v : V) → OnOk r (new ≡ with_pair run k (Some v)) → OnOk r (new ≡ noted (with_pair m k v) run k)
+    put_noted (Ok x) m run new k v h = h ∙ noted_put m run k v
+    put_noted (Err e) m run new k v h = tt
+
+    pub add_noted : (r : Result R E) (b : Bool) (m : List (List ℕ × V)) (run new : List (List ℕ × Option V)) (k : List ℕ) (v : V) → OnOk r (new ≡ (if b then run else with_pair run k (Some v))) → OnOk r (new ≡ (if b then run else noted (if b then m else with_pair m k v) run k))
+    add_noted (Ok x) b m run new k v h = h ∙ noted_add b m run k v
+    add_noted (Err e) b m run new k v h = tt
+
+    pub del_noted : (r : Result R E) (b : Bool) (m : List (List ℕ × V)) (run new : List (List ℕ × Option V)) (k : List ℕ) → IsRising m → OnOk r (new ≡ (if b then with_pair run k None else run)) → OnOk r (new ≡ (if b then noted (without m k) run k else run))
+    del_noted (Ok x) b m run new k s h = h ∙ noted_del b m run k s
+    del_noted (Err e) b m run new k s h = tt
+
+  -- the class of a page that a run replaces
+  pub class_of_replaced : (s : Settings) (p : Layers V) (run : List (List ℕ × Option V)) → 0 < length run → overflows s p run ≡ true → class_of_size s (length (with_run (entries_of p) run)) ≡ class_after s p run
+  class_of_replaced s p [] n h = absurd (omega arith)
+  class_of_replaced s p (c ∷ cs) n h = rw h refl

@@ -1,0 +1,133 @@
+-- The worked rows that speak of one page, computed by the checker: fan 4, chain 2. A letter is the key of one byte
+-- that stands for it, and a digit the value of one byte. docs/EXAMPLES.md numbers the rows.
+use Rattle.std.specs.Prelude.{◌≡◌, ℕ, List, [], ◌∷◌, Option, None, Some}
+use Rattle.std.proofs.Common.{refl}
+use Rattle.keys.specs.declared.command.Command.{Command}
+use Rattle.keys.specs.declared.command.Command.TheVariants.{Get, Put, Add, Del}
+use Rattle.keys.specs.declared.settings.Settings.{Settings}
+use Rattle.delta_chain.specs.Layers.{Layers, entries_of, depth_of}
+use Rattle.page_runs.specs.AfterRun.{after_run, class_after}
+use Rattle.page_runs.specs.NetRun.{net_run}
+use Rattle.page_runs.specs.declared.class.Class.{Class}
+use Rattle.page_runs.specs.declared.class.Class.TheVariants.{Same, Changed, Thin, Fat}
+
+abbrev Bytes : Type 0
+Bytes = List ℕ
+
+abbrev Page : Type 0
+Page = Layers Bytes
+
+abbrev Change : Type 0
+Change = Bytes × Option Bytes
+
+abbrev Commands : Type 0
+Commands = List (Command ℕ)
+
+abbrev small : Settings
+small = record { fan = 4; chain = 2; max_key = 16; max_value = 16; seg_size = 256; segments = 4 }
+
+-- the net run of a batch on a page, the page after it, and its class
+abbrev run_on : Page → Commands → List Change
+run_on p cs = net_run (entries_of p) cs
+
+abbrev page_after : Page → Commands → Page
+page_after p cs = after_run small p (run_on p cs)
+
+abbrev class_then : Page → Commands → Class
+class_then p cs = class_after small p (run_on p cs)
+
+abbrev empty : Page
+empty = record { runs = []; base = [] }
+
+abbrev a : Bytes
+a = 97 ∷ []
+
+abbrev b : Bytes
+b = 98 ∷ []
+
+abbrev c : Bytes
+c = 99 ∷ []
+
+abbrev d : Bytes
+d = 100 ∷ []
+
+abbrev e : Bytes
+e = 101 ∷ []
+
+-- row 2: a key that comes, changes and goes within one batch is absent in the run
+abbrev row_2 : Commands
+row_2 = Get a ∷ Put a (49 ∷ []) ∷ Get a ∷ Put a (50 ∷ []) ∷ Get a ∷ Del a ∷ Get a ∷ []
+
+row_2_run : run_on empty row_2 ≡ (a, None) ∷ []
+row_2_run = refl
+
+row_2_page : page_after empty row_2 ≡ record { runs = ((a, None) ∷ []) ∷ []; base = [] }
+row_2_page = refl
+
+row_2_depth : depth_of (page_after empty row_2) ≡ 1
+row_2_depth = refl
+
+row_2_class : class_then empty row_2 ≡ Changed
+row_2_class = refl
+
+-- row 3: an Add that finds the key has no entry in the run, and the page stays
+abbrev with_a : Page
+with_a = record { runs = ((a, Some (49 ∷ [])) ∷ []) ∷ []; base = [] }
+
+row_3_put : page_after empty (Put a (49 ∷ []) ∷ []) ≡ with_a
+row_3_put = refl
+
+row_3_run : run_on with_a (Add a (50 ∷ []) ∷ []) ≡ []
+row_3_run = refl
+
+row_3_page : page_after with_a (Add a (50 ∷ []) ∷ []) ≡ with_a
+row_3_page = refl
+
+row_3_class : class_then with_a (Add a (50 ∷ []) ∷ []) ≡ Same
+row_3_class = refl
+
+-- row 6: a run of four entries, as many as fan, stands in front
+abbrev row_6 : Commands
+row_6 = Put a (49 ∷ []) ∷ Put b (50 ∷ []) ∷ Put c (51 ∷ []) ∷ Put d (52 ∷ []) ∷ []
+
+row_6_page : page_after empty row_6 ≡ record { runs = ((a, Some (49 ∷ [])) ∷ (b, Some (50 ∷ [])) ∷ (c, Some (51 ∷ [])) ∷ (d, Some (52 ∷ [])) ∷ []) ∷ []; base = [] }
+row_6_page = refl
+
+row_6_depth : depth_of (page_after empty row_6) ≡ 1
+row_6_depth = refl
+
+row_6_class : class_then empty row_6 ≡ Changed
+row_6_class = refl
+
+-- row 7: the third of three batches has the page replaced, and one entry is not thin
+abbrev second : Page
+second = page_after with_a (Put a (50 ∷ []) ∷ [])
+
+row_7_second : second ≡ record { runs = ((a, Some (50 ∷ [])) ∷ []) ∷ ((a, Some (49 ∷ [])) ∷ []) ∷ []; base = [] }
+row_7_second = refl
+
+row_7_depth : depth_of second ≡ 2
+row_7_depth = refl
+
+row_7_third : page_after second (Put a (51 ∷ []) ∷ []) ≡ record { runs = []; base = (a, 51 ∷ []) ∷ [] }
+row_7_third = refl
+
+row_7_class : class_then second (Put a (51 ∷ []) ∷ []) ≡ Changed
+row_7_class = refl
+
+-- one key more than in row 6: the run is longer than fan, and the page is replaced by one that is too long
+abbrev five_puts : Commands
+five_puts = Put a (49 ∷ []) ∷ Put b (50 ∷ []) ∷ Put c (51 ∷ []) ∷ Put d (52 ∷ []) ∷ Put e (53 ∷ []) ∷ []
+
+five_puts_page : page_after empty five_puts ≡ record { runs = []; base = (a, 49 ∷ []) ∷ (b, 50 ∷ []) ∷ (c, 51 ∷ []) ∷ (d, 52 ∷ []) ∷ (e, 53 ∷ []) ∷ [] }
+five_puts_page = refl
+
+five_puts_class : class_then empty five_puts ≡ Fat
+five_puts_class = refl
+
+-- the third batch takes the last key away: no entry is left, and the page is thin
+row_7_gone : page_after second (Del a ∷ []) ≡ empty
+row_7_gone = refl
+
+row_7_gone_class : class_then second (Del a ∷ []) ≡ Thin
+row_7_gone_class = refl

@@ -1,0 +1,7 @@
+pub mod AfterLaws
+pub mod AfterRun
+pub mod LeafWork
+pub mod NetLaws
+pub mod NetRun
+pub mod Outcome
+pub mod Replies

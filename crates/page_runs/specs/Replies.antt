@@ -1,0 +1,22 @@
+-- The commands that a page has to work, and what it answers.
+use Rattle.std.specs.Prelude.{◌≡◌, ℕ, ◌<◌, List, [], ◌∷◌, ◌++◌, Option, length, slice_get, option_to_list}
+use Rattle.std.specs.List.{AllByRecursion}
+use Rattle.keys.specs.declared.command.Command.{Command}
+use Rattle.keys.specs.declared.command.Reply.{Reply}
+use Rattle.page_runs.specs.declared.piece.Piece.{Piece}
+use Rattle.std.specs.declared.alloc.Global.{Global}
+
+-- the commands at these places of the batch, in the order of the places
+abbrev pub commands_at : {A : Type 0} → List (Command A) → List ℕ → List (Command A)
+commands_at cs [] = []
+commands_at cs (p ∷ ps) = option_to_list (slice_get cs p) ++ commands_at cs ps
+
+-- each of these is a place of the batch
+abbrev pub ArePlacesOf : {A : Type 0} → List (Command A) → List ℕ → Type 0
+ArePlacesOf cs ps = AllByRecursion (λ p. p < length cs) ps
+
+-- the replies, each with its place
+abbrev pub pieces_of : List ℕ → List (Reply Global) → List Piece
+pieces_of [] rs = []
+pieces_of (p ∷ ps) [] = []
+pieces_of (p ∷ ps) (r ∷ rs) = record { place = p; reply = r } ∷ pieces_of ps rs

@@ -1,0 +1,114 @@
+ghost use Rattle.std.specs.Prelude.{◌≡◌};
+
+use crate::class::Class;
+use crate::page_after::{PageAfter, put_run};
+use crate::piece::Piece;
+use crate::replay::{Leaf, replay};
+use crew::{Turn, Work};
+use keys::command::Command;
+use keys::settings::Settings;
+use routing::PageRun;
+use std::alloc::Global;
+
+/// The work on leaves in a batch: a leaf and its run of commands go in; the leaf afterwards, its class and its
+/// answers come out.
+#[derive(Drop)]
+pub struct LeafWork<'a> {
+    /// Where new runs, bases and answers are allocated.
+    pub alloc: Global,
+    /// The store's settings, of which `fan` and `chain` are looked at.
+    pub settings: Settings,
+    /// The whole batch.
+    pub commands: &'a [Command<Global>],
+}
+
+/// A leaf, and which commands of the batch it has to work.
+#[derive(Drop)]
+pub struct LeafJob {
+    pub page: Leaf,
+    pub run: PageRun,
+}
+
+/// A leaf after its commands, with its class and its answers, and what gives the job back.
+#[derive(Drop)]
+pub struct LeafDone {
+    after: PageAfter,
+    run: PageRun,
+    pieces: Vec<Piece>,
+}
+
+impl LeafDone {
+    ghost use Rattle.page_runs.specs.LeafWork.{made_of};
+
+    /// The leaf's class.
+    pub fn class(&self) -> Class
+        ensures { result ≡ (made_of self.now).class }
+    {
+        match &self.after {
+            PageAfter::Same(_) => Class::Same,
+            PageAfter::InFront(_) => Class::Changed,
+            PageAfter::Replaced { class, .. } => *class,
+        }
+    }
+
+    /// The leaf and its answers, for good: the job cannot be given back any more.
+    pub fn into_page_and_pieces(self) -> (Leaf, Vec<Piece>)
+        ensures page { result.0 ≡ (made_of self).page }
+        ensures pieces { result.1.items ≡ (made_of self).pieces }
+    {
+        let LeafDone {
+            after,
+            run: _run,
+            pieces,
+        } = self;
+        (after.into_page(), pieces)
+    }
+}
+
+impl<'a> Work for LeafWork<'a> {
+    ghost use Rattle.page_runs.specs.LeafWork.{LeafHeld, LeafMade, leaf_made, held_of, origin_of, made_of};
+    ghost use Rattle.page_runs.specs.Replies.{ArePlacesOf};
+
+    type Job = LeafJob;
+
+    type Done = LeafDone;
+
+    ghost Held = { LeafHeld };
+
+    ghost Made = { LeafMade };
+
+    ghost can = { λ w h. ArePlacesOf w.commands.now h.places };
+
+    ghost held = { held_of };
+
+    ghost whole = { λ w d. Unit {0} };
+
+    ghost origin = { origin_of };
+
+    ghost product = { made_of };
+
+    ghost made = { λ w h. leaf_made w.settings w.commands.now h };
+
+    fn work(&self, job: LeafJob) -> Turn<LeafJob, LeafDone> {
+        let LeafJob { page, run } = job;
+        let Ok((changes, pieces)) = replay(self.alloc, self.commands, &page, run.places()) else {
+            return Turn::Back(LeafJob { page, run });
+        };
+        match put_run(self.alloc, &self.settings, page, changes) {
+            Ok(after) => Turn::Done(LeafDone { after, run, pieces }),
+            Err(page) => Turn::Back(LeafJob { page, run }),
+        }
+    }
+
+    fn undo(&self, done: LeafDone) -> LeafJob {
+        let LeafDone {
+            after,
+            run,
+            pieces: _,
+        } = done;
+        LeafJob {
+            page: after.undo(),
+            run,
+        }
+    }
+}

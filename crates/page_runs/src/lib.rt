@@ -1,0 +1,10 @@
+//! What a batch does to one page: its commands are replayed against what the page holds, and the page is changed
+//! once, by their net run.
+#![tactic(auto)]
+
+pub mod class;
+pub mod laws;
+pub mod leaf_work;
+mod page_after;
+pub mod piece;
+mod replay;

@@ -1,0 +1,40 @@
+use Rattle.std.proofs.Common.{ℕ, ◌+◌, ◌-◌, ◌/◌, ◌<◌, ◌≤◌, Some, sym, ap, ◌∙◌, arith}
+use Rattle.keys.specs.MapLaws.{same_key, flipped_greater}
+use Rattle.page_search.specs.Digits.{binary_digits}
+use Rattle.page_search.specs.DigitLaws.{binary_digits-half}
+use Rattle.page_search.specs.PlaceLaws.{below-through, above-onward}
+use Rattle.page_search.proofs.search.place.Goals as goal
+
+-- what is left behind the middle, and what is left before it, has a digit less
+digits_behind : (low high : ℕ) → low < high → binary_digits (high - (low + (high - low) / 2 + 1)) + 1 ≤ binary_digits (high - low)
+digits_behind low high l = binary_digits-half (high - (low + (high - low) / 2 + 1)) (high - low) (omega arith) (omega arith)
+
+digits_before : (low high : ℕ) → low < high → binary_digits (low + (high - low) / 2 - low) + 1 ≤ binary_digits (high - low)
+digits_before low high l = binary_digits-half (low + (high - low) / 2 - low) (high - low) (omega arith) (omega arith)
+
+pub loop-low-preserved-in-Less : goal.loop-low-preserved-in-Less
+loop-low-preserved-in-Less g c = record {
+  ordered = omega arith;
+  within = c.loop-low.invariant.within;
+  below = below-through _ _ _ _ c.len-high.ensures.rising c.key.ensures (sym c.in-Less.ensures.order);
+  above = c.loop-low.invariant.above;
+  cost = omega (arith, c.compare.ensures.counted, digits_behind c.loop-low.low c.loop-low.high c.loop-low-test.true);
+  kept = omega (arith, c.compare.ensures.kept);
+}
+
+pub returns-in-Equal-clause-place : goal.returns-in-Equal-clause-place
+returns-in-Equal-clause-place g c = c.key.ensures ∙ ap Some (same_key _ _ (sym c.in-Equal.ensures.order))
+
+pub returns-in-Equal-clause-cost : goal.returns-in-Equal-clause-cost
+returns-in-Equal-clause-cost g c =
+    omega (arith, c.compare.ensures.counted, digits_before c.loop-low.low c.loop-low.high c.loop-low-test.true)
+
+pub loop-low-preserved : goal.loop-low-preserved
+loop-low-preserved g c = record {
+  ordered = omega arith;
+  within = omega arith;
+  below = c.loop-low.invariant.below;
+  above = above-onward _ _ _ _ c.len-high.ensures.rising c.key.ensures (flipped_greater c.key.result.now c.args.key.now (sym c.in-Greater.ensures.order));
+  cost = omega (arith, c.compare.ensures.counted, digits_before c.loop-low.low c.loop-low.high c.loop-low-test.true);
+  kept = omega (arith, c.compare.ensures.kept);
+}

@@ -1,0 +1,20 @@
+use Rattle.std.proofs.Common.{◌-◌, ◌+◌, ◌≤◌, length, ℕ, List}
+use Rattle.page_search.specs.Digits.{binary_digits}
+use Rattle.page_search.specs.Places.{AreBelowBefore, AreAboveFrom}
+use Rattle.page_search.proofs.search.place.Given as goal
+
+-- What is left is from low up to high: the key is above what stands before it and below what stands behind it.
+abbrev pub invariant-loop-low : goal.invariant-loop-low
+invariant-loop-low g l =
+    let keys : List (List ℕ) = g.L.Keyed.keys l.list in
+    record {
+      ordered : l.low ≤ l.high;
+      within : l.high ≤ length keys;
+      below : AreBelowBefore l.key keys l.low;
+      above : AreAboveFrom l.key keys l.high;
+      cost : l.probes + binary_digits (l.high - l.low) ≤ l.fn.probes + binary_digits (length keys);
+      kept : l.fn.probes ≤ l.probes;
+    }
+
+abbrev pub decreases-loop-low : goal.decreases-loop-low
+decreases-loop-low g l = l.high - l.low

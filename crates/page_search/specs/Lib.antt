@@ -1,0 +1,5 @@
+pub mod Costs
+pub mod DigitLaws
+pub mod Digits
+pub mod PlaceLaws
+pub mod Places

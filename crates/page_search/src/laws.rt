@@ -1,0 +1,19 @@
+//! What the definitions of `specs/` mean. Each law is the contract of a function with an empty body.
+ghost use Rattle.std.specs.Prelude.{◌≡◌, ◌*◌, ◌^◌, ◌<◌, ◌≤◌, ◌↔◌, ℕ, List, slice_get, Some};
+ghost use Rattle.std.specs.declared.cmp.Ordering.TheVariants.{Less};
+ghost use Rattle.keys.specs.Order.{order, AreRisingKeys};
+ghost use Rattle.page_search.specs.Digits.{binary_digits};
+ghost use Rattle.page_search.specs.Places.{count_below};
+
+/// A number's binary digits are enough to write it, and none of them is spare.
+pub fn binary_digits_are_enough_and_none_is_spare()
+    ensures enough { (n : ℕ) → n < 2 ^ binary_digits n }
+    ensures none_spare { (n : ℕ) → 0 < n → 2 ^ binary_digits n ≤ 2 * n }
+    ensures none_for_zero { binary_digits 0 ≡ 0 }
+{}
+
+/// Of rising keys, just those that stand before a key's count are below the key.
+pub fn keys_below_stand_first()
+    ensures { (k : List ℕ) (ks : List (List ℕ)) (at : ℕ) (j : List ℕ) → AreRisingKeys ks → slice_get ks at ≡ Some j →
+        ((order j k ≡ Less) ↔ (at < count_below k ks)) }
+{}

@@ -1,0 +1,6 @@
+//! Search in what a page is made of, by halves, with a count of the comparisons that it takes.
+#![tactic(auto)]
+
+pub mod laws;
+pub mod probes;
+pub mod search;

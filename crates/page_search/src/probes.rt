@@ -1,0 +1,46 @@
+ghost use Rattle.std.specs.Prelude.{◌≡◌, ◌+◌, ◌≤◌, min};
+ghost use Rattle.keys.specs.Order.{order};
+
+use std::cmp::Ordering;
+use std::marker::Model;
+
+/// How often keys were compared. Every comparison of a search goes through it, so the count is what the search
+/// cost. It stops at the greatest `u64`. Contracts see it as a number.
+#[derive(Drop)]
+pub struct Probes {
+    compared: u64,
+}
+
+impl Model for Probes {
+    ghost use Rattle.std.specs.Prelude.{ℕ};
+
+    ghost Value = { ℕ };
+
+    ghost view = { λ p. p.compared };
+}
+
+impl Probes {
+    /// No comparison yet.
+    pub fn new() -> Self
+        ensures { result ≡ 0 }
+    {
+        Probes { compared: 0 }
+    }
+
+    /// How many comparisons there were.
+    pub fn count(&self) -> u64
+        ensures { result ≡ self.now }
+    {
+        self.compared
+    }
+
+    /// How the first key stands to the second. It is one comparison more.
+    pub fn compare(&mut self, one: &[u8], other: &[u8]) -> Ordering
+        ensures order { result ≡ order one.now other.now }
+        ensures counted { self.new ≡ min (self.old + 1) u64.MAX }
+        ensures kept { self.old ≤ self.new }
+    {
+        self.compared = self.compared.saturating_add(1);
+        one.cmp(other)
+    }
+}
