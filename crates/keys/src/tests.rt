@@ -7,87 +7,40 @@ use crate::value::Value;
 use std::alloc::{AllocError, Global};
 use std::test::Fail;
 
-fn small() -> Settings {
+// Fan, chain, max_key, max_value, seg_size, segments.
+fn settings(numbers: [u32; 6]) -> Settings {
+    let [fan, chain, max_key, max_value, seg_size, segments] = numbers;
     Settings {
-        fan: 4,
-        chain: 2,
-        max_key: 16,
-        max_value: 16,
-        seg_size: 256,
-        segments: 4,
+        fan,
+        chain,
+        max_key,
+        max_value,
+        seg_size,
+        segments,
     }
 }
 
 #[test]
 fn settings_are_tested_in_their_order(rt: HostRuntime) {
-    let good = small();
-    assert_eq!(rt; good.check(), Ok(()));
+    assert_eq!(rt; settings([4, 2, 16, 16, 256, 4]).check(), Ok(()));
     let bad = [
-        (Settings { fan: 3, ..good }, Field::Fan),
-        (Settings { fan: 65, ..good }, Field::Fan),
-        (Settings { chain: 0, ..good }, Field::Chain),
-        (
-            Settings {
-                chain: 17,
-                segments: 2,
-                ..good
-            },
-            Field::Chain,
-        ),
-        (Settings { max_key: 0, ..good }, Field::MaxKey),
-        (
-            Settings {
-                max_key: 256,
-                ..good
-            },
-            Field::MaxKey,
-        ),
-        (
-            Settings {
-                max_value: 1_025,
-                ..good
-            },
-            Field::MaxValue,
-        ),
-        (
-            Settings {
-                seg_size: 255,
-                ..good
-            },
-            Field::SegSize,
-        ),
-        (
-            Settings {
-                segments: 65_537,
-                ..good
-            },
-            Field::Segments,
-        ),
+        ([3, 2, 16, 16, 256, 4], Field::Fan),
+        ([65, 2, 16, 16, 256, 4], Field::Fan),
+        ([4, 0, 16, 16, 256, 4], Field::Chain),
+        ([4, 17, 16, 16, 256, 2], Field::Chain),
+        ([4, 2, 0, 16, 256, 4], Field::MaxKey),
+        ([4, 2, 256, 16, 256, 4], Field::MaxKey),
+        ([4, 2, 16, 1_025, 256, 4], Field::MaxValue),
+        ([4, 2, 16, 16, 255, 4], Field::SegSize),
+        ([4, 2, 16, 16, 256, 65_537], Field::Segments),
         // 97 + 340 bytes don't fit into 256.
-        (
-            Settings {
-                max_key: 64,
-                ..good
-            },
-            Field::SegSize,
-        ),
+        ([4, 2, 64, 16, 256, 4], Field::SegSize),
+        ([u32::MAX; 6], Field::Fan),
     ];
-    for (settings, field) in bad {
-        assert_eq!(rt;
-            settings.check(),
-            Err(Fault::BadSettings(field)),
-            "{settings:?}"
-        );
+    for (numbers, field) in bad {
+        let refused = settings(numbers).check();
+        assert_eq!(rt; refused, Err(Fault::BadSettings(field)), "{numbers:?}");
     }
-    let all_greatest = Settings {
-        fan: u32::MAX,
-        chain: u32::MAX,
-        max_key: u32::MAX,
-        max_value: u32::MAX,
-        seg_size: u32::MAX,
-        segments: u32::MAX,
-    };
-    assert_eq!(rt; all_greatest.check(), Err(Fault::BadSettings(Field::Fan)));
 }
 
 #[test]
