@@ -77,7 +77,7 @@ pub fn parse(alloc: Global, text: &[u8]) -> Result<Vec<Order>, TextFault>
     let mut reader = LineReader::new(alloc);
     let mut orders = Vec::new(alloc);
     let mut pending = Vec::new(alloc);
-    let mut line = 0;
+    let mut line: u64 = 0;
     for bytes in text.lines() {
         line += 1;
         match reader.read(bytes)? {

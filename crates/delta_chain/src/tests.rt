@@ -103,13 +103,11 @@ fn prepend<V: Numbered>(
 }
 
 // What the page shows of itself, and of each run that is popped from it, the last pop included, which finds none.
-fn shown_page<V: Numbered>(
-    alloc: Global,
-    chain: &mut Chain<V, Global>,
-) -> Result<String, AllocError> {
+fn shown_page<V: Numbered>(alloc: Global) -> Result<String, PushError> {
+    let mut chain: Chain<V, Global> = page(alloc)?;
     let mut text = String::new(alloc);
     for _ in 0..3 {
-        let pairs = shown_pairs(alloc, chain)?;
+        let pairs = shown_pairs(alloc, &chain)?;
         write!(text, "{}: {pairs}", chain.depth())?;
         match chain.pop() {
             Some(run) => write!(text, "({}) ", shown_run(alloc, &run)?)?,
@@ -122,18 +120,11 @@ fn shown_page<V: Numbered>(
 const SHOWN: &str = "2: b=4 c=5 (a- c=5 ) 1: a=1 b=4 (b=4 c- ) 0: a=1 b=2 c=3 (no run)";
 
 #[test]
-fn a_page_of_values_is_its_runs_over_its_base(rt: HostRuntime) -> Result<(), Fail> {
-    let mut chain: Chain<Value<Global>, Global> = page(rt.alloc())?;
-    let shown = shown_page(rt.alloc(), &mut chain)?;
-    assert_eq!(rt; shown.as_str(), SHOWN);
-    Ok(())
-}
-
-#[test]
-fn a_page_of_page_ids_is_its_runs_over_its_base(rt: HostRuntime) -> Result<(), Fail> {
-    let mut chain: Chain<Pid, Global> = page(rt.alloc())?;
-    let shown = shown_page(rt.alloc(), &mut chain)?;
-    assert_eq!(rt; shown.as_str(), SHOWN);
+fn a_page_is_its_runs_over_its_base(rt: HostRuntime) -> Result<(), Fail> {
+    let of_values = shown_page::<Value<Global>>(rt.alloc())?;
+    assert_eq!(rt; of_values.as_str(), SHOWN);
+    let of_page_ids = shown_page::<Pid>(rt.alloc())?;
+    assert_eq!(rt; of_page_ids.as_str(), SHOWN);
     Ok(())
 }
 

@@ -1,7 +1,7 @@
 -- A page that has to work a whole batch: its commands are the batch, and its answers the replies.
 use Rattle.std.specs.Prelude.{◌≡◌, ◌≤◌, ◌+◌, ◌<◌, ℕ, zero, suc, List, [], ◌∷◌, ◌++◌, Some, map, length, drop, slice_get}
 use Rattle.std.proofs.Common.{refl, sym, ap, ◌∙◌, add-one, arith}
-use Rattle.std.specs.List.{range_with_len, AllByRecursion}
+use Rattle.std.specs.List.{range_with_len}
 use Rattle.std.specs.declared.alloc.Global.{Global}
 use Rattle.std.proofs.lemmas.List.FromFn.{length-range_with_len}
 use Rattle.keys.specs.Step.{map_after, map_after_all, replies_to}
@@ -15,16 +15,8 @@ use Rattle.page_runs.specs.AfterLaws.{entries_of-after_run}
 use Rattle.page_runs.specs.AfterRun.{after_run}
 use Rattle.page_runs.specs.NetLaws.{with_run-net_run}
 use Rattle.page_runs.specs.NetRun.{net_run}
-use Rattle.page_runs.specs.Replies.{commands_at, pieces_of, ArePlacesOf}
+use Rattle.page_runs.specs.Replies.{commands_at, pieces_of}
 use Rattle.page_runs.specs.declared.piece.Piece.{Piece}
-
-places_from : {A : Type 0} → (batch : List (Command A)) (a n : ℕ) → a + n ≤ length batch → AllByRecursion (λ p. p < length batch) (range_with_len a n)
-places_from batch a zero h = tt
-places_from batch a (suc n) h = (omega arith, places_from batch (a + 1) n (omega arith))
-
--- the places of the whole batch are places of it
-pub whole_places : {A : Type 0} → (batch : List (Command A)) → ArePlacesOf batch (places_below (length batch))
-whole_places batch = places_from batch 0 (length batch) (omega arith)
 
 module _ {X : Type 0} where
   front_of : (xs : List X) (i : ℕ) → i < length xs → (x : X) × (slice_get xs i ≡ Some x) × (drop i xs ≡ x ∷ drop (suc i) xs)

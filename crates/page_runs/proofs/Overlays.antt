@@ -1,5 +1,5 @@
 -- Changes that lie over a page: what a key has under them, and what one more command does to them.
-use Rattle.std.specs.Prelude.{◌≡◌, ◌<◌, ℕ, Bool, true, false, List, [], ◌∷◌, Option, Some, None, is_some, if◌then◌else◌, length, Result, Ok, Err, OnOk}
+use Rattle.std.specs.Prelude.{◌≡◌, ◌<◌, ℕ, Bool, true, false, List, [], ◌∷◌, Option, Some, None, if◌then◌else◌, length, Result, Ok, Err, OnOk}
 use Rattle.std.proofs.Common.{refl, ap, ◌∙◌, arith}
 use Rattle.keys.specs.Order.{IsRising}
 use Rattle.keys.specs.OrderedMap.{value_at, with_pair, without}

@@ -1,12 +1,11 @@
 -- One more command replayed: the changes are the net run of one more, and the pieces those of one more place.
-use Rattle.std.specs.Prelude.{◌≡◌, ◌<◌, ℕ, zero, suc, List, [], ◌∷◌, ◌++◌, Option, Some, option_to_list, length, take, drop, slice_get}
-use Rattle.std.proofs.Common.{refl, sym, ap, ◌∙◌, append_assoc, arith}
+use Rattle.std.specs.Prelude.{◌≡◌, ◌<◌, ℕ, zero, suc, List, [], ◌∷◌, ◌++◌, Some, option_to_list, length, take, drop, slice_get}
+use Rattle.std.proofs.Common.{refl, sym, ap, ◌∙◌, append_assoc}
 use Rattle.std.specs.declared.alloc.Global.{Global}
 use Rattle.keys.specs.Order.{IsRising}
 use Rattle.keys.specs.Step.{reply_to, map_after, map_after_all, replies_to}
 use Rattle.keys.specs.RunLaws.{map_after_all-append}
 use Rattle.keys.specs.declared.command.Command.{Command}
-use Rattle.keys.specs.declared.command.Reply.{Reply}
 use Rattle.delta_chain.specs.Layers.{with_run}
 use Rattle.page_runs.specs.NetLaws.{Pairs, Changes, with_run-net_run, net_run-push}
 use Rattle.page_runs.specs.NetRun.{noted_by, net_run}

@@ -5,3 +5,4 @@ pub mod NetLaws
 pub mod NetRun
 pub mod Outcome
 pub mod Replies
+pub mod WholeBatch

@@ -8,3 +8,5 @@ pub mod leaf_work;
 mod page_after;
 pub mod piece;
 mod replay;
+#[cfg(test)]
+mod tests;

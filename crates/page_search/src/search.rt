@@ -236,16 +236,13 @@ mod tests {
         Ok(chain)
     }
 
-    // What is found at each of the keys, as text: the number, or a stroke where there is no cell.
-    fn found<V: Numbered>(
-        alloc: Global,
-        chain: &Chain<V, Global>,
-        keys: &[&[u8]],
-    ) -> Result<String, AllocError> {
+    // What is found on the page at each of the keys, as text: the number, or a stroke where there is no cell.
+    fn found<V: Numbered>(alloc: Global, keys: &[&[u8]]) -> Result<String, PushError> {
+        let chain: Chain<V, Global> = page(alloc)?;
         let mut text = String::new(alloc);
         for key in keys {
             let mut probes = Probes::new();
-            match find(chain, *key, &mut probes) {
+            match find(&chain, *key, &mut probes) {
                 Some(cell) => write!(text, "{} ", cell.number())?,
                 None => write!(text, "- ")?,
             }
@@ -253,32 +250,30 @@ mod tests {
         Ok(text)
     }
 
-    const LOOKED_FOR: [&[u8]; 7] = [b"a", b"b", b"c", b"d", b"e", b"", b"f"];
-
-    // a, c: what the newer run says. b, d: what the older one says. e: what the base has. No list names the others.
-    const FOUND: &str = "- 5 6 - 7 - - ";
-
     #[test]
-    fn find_reads_the_newest_word_on_a_value(rt: HostRuntime) -> Result<(), Fail> {
-        let chain: Chain<Value<Global>, Global> = page(rt.alloc())?;
-        let text = found(rt.alloc(), &chain, LOOKED_FOR.as_slice())?;
-        assert_eq!(rt; text.as_str(), FOUND);
+    fn find_reads_the_newest_word(rt: HostRuntime) -> Result<(), Fail> {
+        // a, c: what the newer run says. b, d: what the older one says. e: what the base has. Nothing names the others.
+        let keys: [&[u8]; 7] = [b"a", b"b", b"c", b"d", b"e", b"", b"f"];
+        let expected = "- 5 6 - 7 - - ";
+        let values = found::<Value<Global>>(rt.alloc(), keys.as_slice())?;
+        assert_eq!(rt; values.as_str(), expected);
+        let page_ids = found::<Pid>(rt.alloc(), keys.as_slice())?;
+        assert_eq!(rt; page_ids.as_str(), expected);
         Ok(())
     }
 
-    #[test]
-    fn find_reads_the_newest_word_on_a_page_id(rt: HostRuntime) -> Result<(), Fail> {
-        let chain: Chain<Pid, Global> = page(rt.alloc())?;
-        let text = found(rt.alloc(), &chain, LOOKED_FOR.as_slice())?;
-        assert_eq!(rt; text.as_str(), FOUND);
-        Ok(())
+    // Whether something is found where there is nothing, and how many comparisons it took.
+    fn found_in_nothing(alloc: Global) -> (bool, u64) {
+        let chain: Chain<Pid, Global> = Chain::of_base(Base::empty(alloc));
+        let mut probes = Probes::new();
+        let found = find(&chain, b"a", &mut probes).is_some();
+        (found, probes.count())
     }
 
     #[test]
     fn an_empty_chain_takes_no_comparison(rt: HostRuntime) {
-        let chain: Chain<Pid, Global> = Chain::of_base(Base::empty(rt.alloc()));
-        let mut probes = Probes::new();
-        assert!(rt; find(&chain, b"a", &mut probes).is_none());
-        assert_eq!(rt; probes.count(), 0);
+        let (found, compared) = found_in_nothing(rt.alloc());
+        assert!(rt; !found);
+        assert_eq!(rt; compared, 0);
     }
 }

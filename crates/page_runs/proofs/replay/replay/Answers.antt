@@ -36,5 +36,5 @@ loop-place-preserved c =
     let pieces = pieces_step batch places i place command (with_run held before) c.loop-place.pieces.items _ here there c.loop-place.invariant.pieces in
     record {
       changes = rw (add-one, commands_at-take batch places i place command here there) changes;
-      pieces = rw (add-one, c.in_ok-push.ensures.items, c.in_ok-reply.ensures.reply, map) pieces
+      pieces = rw (add-one, c.in_ok-push.ensures.items, c.in_ok-reply.ensures.reply, map) pieces;
     }

@@ -11,5 +11,5 @@ abbrev pub invariant-loop-place : goal.invariant-loop-place
 invariant-loop-place l = record {
   changes : l.changes.entries ≡ net_run (entries_of l.page) (commands_at l.commands (take l.place-index l.places));
   pieces : l.pieces.items ++ pieces_of (drop l.place-index l.places) (replies_to (with_run (entries_of l.page) l.changes.entries) (commands_at l.commands (drop l.place-index l.places)))
-    ≡ pieces_of l.places (replies_to (entries_of l.page) (commands_at l.commands l.places))
+      ≡ pieces_of l.places (replies_to (entries_of l.page) (commands_at l.commands l.places));
 }

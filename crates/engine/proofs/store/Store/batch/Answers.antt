@@ -3,11 +3,12 @@ use Rattle.std.specs.Prelude.{ℕ, List}
 use Rattle.delta_chain.specs.Layers.{Layers, entries_of}
 use Rattle.page_runs.specs.LeafWork.{LeafMade}
 use Rattle.page_runs.specs.declared.piece.Piece.{Piece}
-use Rattle.engine.proofs.WholeBatch.{whole_places, leaf_after, leaf_replies, enough_room, contents_after}
+use Rattle.page_runs.specs.WholeBatch.{places_of_whole_batch}
+use Rattle.engine.proofs.WholeBatch.{leaf_after, leaf_replies, enough_room, contents_after}
 use Rattle.engine.proofs.store.Store.batch.Goals as goal
 
 pub work-requires : goal.work-requires
-work-requires c = rw c.in_ok-run.ensures (whole_places c.args.commands.now)
+work-requires c = rw c.in_ok-run.ensures (places_of_whole_batch c.args.commands.now)
 
 pub replies_of-replies-requires-clause-enough : goal.replies_of-replies-requires-clause-enough
 replies_of-replies-requires-clause-enough c =
