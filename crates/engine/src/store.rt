@@ -61,9 +61,10 @@ impl Store {
         self.settings
     }
 
-    /// Executes the commands in the order of their places, and returns the reply to each at its place. A batch
-    /// that is too long is refused, and so is the first command whose key or value is too long. After an `Err`
-    /// the store is as it was.
+    /// Executes the commands in the order of their places, and returns the reply to each at its place. A batch of
+    /// more than 65,535 commands is `Fault::BatchTooLong`. Else the first command with a key that is too long is
+    /// `Fault::KeyTooLong`, and with a value that is too long `Fault::ValueTooLong`, with its place; a command's key
+    /// comes before its value. Else there is only `Fault::NoMemory`. After an `Err` the store is as it was.
     pub fn batch(&mut self, commands: &[Command<Global>]) -> Result<Vec<Reply<Global>>, Fault>
         ensures replies { IfOk result (λ replies. replies.items ≡ replies_to (contents self.old) commands.now) }
         ensures contents { OnOk result (contents self.new ≡ map_after_all (contents self.old) commands.now) }

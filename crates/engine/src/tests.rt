@@ -301,7 +301,7 @@ fn settings_out_of_range_are_refused(rt: HostRuntime) -> Result<(), Fail> {
 }
 
 // To be run with each allocation failing in turn too: then all is done, or the store is as it was. Where it is
-// the first look-up that fails, the second one tells.
+// one of the look-ups that fails, the other one tells.
 #[test]
 fn refused_memory_leaves_the_store_as_it_was(rt: HostRuntime) {
     let outcome = answers(
@@ -320,8 +320,10 @@ fn refused_memory_leaves_the_store_as_it_was(rt: HostRuntime) {
     );
     if let Ok(text) = outcome {
         let text = text.as_str();
-        let done = text.starts_with("New New New Value 1 .") && text.ends_with(".Value 1 .");
-        let undone = text.starts_with("6 NoMemory .") && text.ends_with(".Missing .");
+        let has_value = text.contains(".Value 1 .");
+        let has_missing = text.contains(".Missing .");
+        let done = text.starts_with("New New New Value 1 .") && has_value && !has_missing;
+        let undone = text.starts_with("6 NoMemory .") && has_missing && !has_value;
         assert!(rt; done || undone, "{text}");
     }
 }

@@ -1,7 +1,7 @@
 -- Places in a batch.
 use Rattle.std.specs.Prelude.{◌≡◌, ℕ, zero, suc, ◌+◌, List, [], ◌∷◌, ◌++◌}
 use Rattle.std.specs.List.{range_with_len}
-use Rattle.std.proofs.Common.{ap, ◌∙◌, arith}
+use Rattle.std.proofs.Common.{ap, arith}
 
 -- the places of a batch of this many commands: 0, 1, and so on
 abbrev pub places_below : ℕ → List ℕ

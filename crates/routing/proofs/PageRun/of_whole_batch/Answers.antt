@@ -1,4 +1,4 @@
-use Rattle.std.proofs.Common.{add-one, sym, ◌∙◌, ap}
+use Rattle.std.proofs.Common.{add-one, sym}
 use Rattle.routing.specs.Places.{places_below-suc}
 use Rattle.routing.proofs.PageRun.of_whole_batch.Goals as goal
 
