@@ -5,7 +5,7 @@ use Rattle.std.specs.Option.{ok_or, option_zip}
 use Rattle.std.specs.Str.{bytes_eq}
 use Rattle.std.specs.declared.alloc.Global.{Global}
 use Rattle.keys.specs.declared.command.Command.{Command}
-use Rattle.keys.specs.declared.command.Command.TheVariants.{Get, Put, Del}
+use Rattle.keys.specs.declared.command.Command.TheVariants.{Get, Put, Add, Del}
 use Rattle.bwsh.specs.declared.line.Says.{Says}
 use Rattle.bwsh.specs.declared.line.Says.TheVariants.{Nothing, Go, Bad}
 use Rattle.bwsh.specs.declared.line.Why.{Why}
@@ -37,10 +37,11 @@ go_says _ = Bad WordCount
 abbrev pub command_says : List ℕ → List (List ℕ) → Says
 command_says word behind =
     if bytes_eq word (codes "put") then said (λ (k, v). Put k v) (key_and_value behind) else (
+    if bytes_eq word (codes "add") then said (λ (k, v). Add k v) (key_and_value behind) else (
     if bytes_eq word (codes "get") then said Get (only_key behind) else (
     if bytes_eq word (codes "del") then said Del (only_key behind) else (
     if bytes_eq word (codes "go") then go_says behind else
-    Bad UnknownCommand)))
+    Bad UnknownCommand))))
 
 -- what a line of these words says: nothing where there are none, or where the first begins with `#`
 abbrev pub words_say : List (List ℕ) → Says

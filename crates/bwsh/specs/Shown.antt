@@ -1,7 +1,7 @@
 -- Replies as they are printed.
 use Rattle.std.specs.Prelude.{ℕ, List, [], ◌∷◌, ◌++◌, codes}
 use Rattle.keys.specs.declared.command.Reply.{Reply}
-use Rattle.keys.specs.declared.command.Reply.TheVariants.{Value, Missing, New, Replaced, Deleted}
+use Rattle.keys.specs.declared.command.Reply.TheVariants.{Value, Missing, New, Replaced, Added, Exists, Deleted}
 use Rattle.bwsh.specs.Token.{shown_token}
 
 -- what the line of a reply says
@@ -10,6 +10,8 @@ reply_text (Value v) = codes "value " ++ shown_token v
 reply_text Missing = codes "missing"
 reply_text New = codes "new"
 reply_text Replaced = codes "replaced"
+reply_text Added = codes "added"
+reply_text Exists = codes "exists"
 reply_text Deleted = codes "deleted"
 
 -- the line of a reply, with its line feed

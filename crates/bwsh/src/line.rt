@@ -119,6 +119,12 @@ impl LineReader {
                 Err(why) => Says::Bad(why),
             });
         }
+        if word == b"add".as_slice() {
+            return Ok(match self.key_and_value(words)? {
+                Ok((key, value)) => Says::Command(Command::Add(key, value)),
+                Err(why) => Says::Bad(why),
+            });
+        }
         if word == b"get".as_slice() {
             return Ok(match self.only_key(words)? {
                 Ok(key) => Says::Command(Command::Get(key)),

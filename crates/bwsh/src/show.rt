@@ -19,6 +19,8 @@ fn push_reply(reply: &Reply<Global>, out: &mut Vec<u8>) -> Result<(), AllocError
         Reply::Missing => out.extend_from_slice(b"missing"),
         Reply::New => out.extend_from_slice(b"new"),
         Reply::Replaced => out.extend_from_slice(b"replaced"),
+        Reply::Added => out.extend_from_slice(b"added"),
+        Reply::Exists => out.extend_from_slice(b"exists"),
         Reply::Deleted => out.extend_from_slice(b"deleted"),
     }
 }

@@ -38,6 +38,24 @@ fn seven_commands_are_one_batch(rt: HostRuntime) {
 }
 
 #[test]
+fn an_add_leaves_what_is_there(rt: HostRuntime) {
+    check(
+        &rt,
+        b"add a 1\nadd a 2\nget a\ngo\nadd a 3\nget a\nadd a\n",
+        3,
+        b"",
+        b"line 7: wrong number of words\n",
+    );
+    check(
+        &rt,
+        b"add a 1\nadd a 2\nget a\ngo\nadd a 3\nget a\n",
+        0,
+        b"added\nexists\nvalue 1\nexists\nvalue 1\n",
+        b"",
+    );
+}
+
+#[test]
 fn a_batch_finds_what_the_one_before_left(rt: HostRuntime) {
     check(
         &rt,
@@ -306,4 +324,99 @@ fn memory_is_refused(rt: HostRuntime) {
         let answered = out.iter().take_while(|byte| **byte != 0).count();
         assert!(rt; right.starts_with(&out[..answered]));
     }
+}
+
+// A plain model: what each of the keys `A` to `Z` has.
+#[derive(Drop)]
+struct Model {
+    values: [Option<u8>; 26],
+}
+
+// Numbers that look random: a linear congruence with the constants of Knuth's MMIX.
+fn next_number(state: &mut u64) -> u64 {
+    *state = state
+        .wrapping_mul(6_364_136_223_846_793_005)
+        .wrapping_add(1_442_695_040_888_963_407);
+    *state >> 33
+}
+
+// Appends a command's line, and the line of its reply in the model.
+fn push_step(
+    model: &mut Model,
+    state: &mut u64,
+    input: &mut Vec<u8>,
+    out: &mut Vec<u8>,
+) -> Result<(), AllocError> {
+    let place = (next_number(state) % 26) as usize;
+    let key = b'A' + place as u8;
+    let value = b'0' + (next_number(state) % 10) as u8;
+    let before = model.values[place];
+    match next_number(state) % 4 {
+        0 => {
+            input.extend_from_slice(&[b'p', b'u', b't', b' ', key, b' ', value, b'\n'])?;
+            model.values[place] = Some(value);
+            push_text(
+                out,
+                if before.is_some() {
+                    b"replaced\n"
+                } else {
+                    b"new\n"
+                },
+            )
+        }
+        1 => {
+            input.extend_from_slice(&[b'a', b'd', b'd', b' ', key, b' ', value, b'\n'])?;
+            model.values[place] = before.or(Some(value));
+            push_text(
+                out,
+                if before.is_some() {
+                    b"exists\n"
+                } else {
+                    b"added\n"
+                },
+            )
+        }
+        2 => {
+            input.extend_from_slice(&[b'd', b'e', b'l', b' ', key, b'\n'])?;
+            model.values[place] = None;
+            push_text(
+                out,
+                if before.is_some() {
+                    b"deleted\n"
+                } else {
+                    b"missing\n"
+                },
+            )
+        }
+        _ => {
+            input.extend_from_slice(&[b'g', b'e', b't', b' ', key, b'\n'])?;
+            match before {
+                Some(value) => out.extend_from_slice(&[
+                    b'v', b'a', b'l', b'u', b'e', b' ', value, b'\n',
+                ]),
+                None => push_text(out, b"missing\n"),
+            }
+        }
+    }
+}
+
+fn push_text(out: &mut Vec<u8>, text: &[u8]) -> Result<(), AllocError> {
+    out.extend_from_slice(text)
+}
+
+// Thousands of commands, in batches of about eight, answer as the model does.
+#[test]
+fn commands_answer_as_a_plain_model_does(rt: HostRuntime) -> Result<(), Fail> {
+    let mut model = Model { values: [None; 26] };
+    let mut state = 20_261_122;
+    let mut input = Vec::new(rt.alloc());
+    let mut out = Vec::new(rt.alloc());
+    for _step in 0..5_000 {
+        push_step(&mut model, &mut state, &mut input, &mut out)?;
+        if next_number(&mut state) % 8 == 0 {
+            input.extend_from_slice(b"go\n")?;
+        }
+    }
+    check(&rt, &input, 0, &out, b"");
+    Ok(())
 }
