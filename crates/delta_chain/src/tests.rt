@@ -102,12 +102,14 @@ fn prepend<V: Numbered>(
     }
 }
 
-// What the page shows of itself, and of each run that is popped from it, the last pop included, which finds none.
-fn shown_page<V: Numbered>(alloc: Global) -> Result<String, PushError> {
-    let mut chain: Chain<V, Global> = page(alloc)?;
+// What the chain shows of itself, and of each run that is popped from it, the last pop included, which finds none.
+fn shown_layers<V: Numbered>(
+    alloc: Global,
+    chain: &mut Chain<V, Global>,
+) -> Result<String, AllocError> {
     let mut text = String::new(alloc);
     for _ in 0..3 {
-        let pairs = shown_pairs(alloc, &chain)?;
+        let pairs = shown_pairs(alloc, chain)?;
         write!(text, "{}: {pairs}", chain.depth())?;
         match chain.pop() {
             Some(run) => write!(text, "({}) ", shown_run(alloc, &run)?)?,
@@ -115,6 +117,11 @@ fn shown_page<V: Numbered>(alloc: Global) -> Result<String, PushError> {
         }
     }
     Ok(text)
+}
+
+fn shown_page<V: Numbered>(alloc: Global) -> Result<String, PushError> {
+    let mut chain: Chain<V, Global> = page(alloc)?;
+    Ok(shown_layers(alloc, &mut chain)?)
 }
 
 const SHOWN: &str = "2: b=4 c=5 (a- c=5 ) 1: a=1 b=4 (b=4 c- ) 0: a=1 b=2 c=3 (no run)";

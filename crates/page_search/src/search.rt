@@ -236,13 +236,16 @@ mod tests {
         Ok(chain)
     }
 
-    // What is found on the page at each of the keys, as text: the number, or a stroke where there is no cell.
-    fn found<V: Numbered>(alloc: Global, keys: &[&[u8]]) -> Result<String, PushError> {
-        let chain: Chain<V, Global> = page(alloc)?;
+    // What is found at each of the keys, as text: the number, or a stroke where there is no cell.
+    fn found<V: Numbered>(
+        alloc: Global,
+        chain: &Chain<V, Global>,
+        keys: &[&[u8]],
+    ) -> Result<String, AllocError> {
         let mut text = String::new(alloc);
         for key in keys {
             let mut probes = Probes::new();
-            match find(&chain, *key, &mut probes) {
+            match find(chain, *key, &mut probes) {
                 Some(cell) => write!(text, "{} ", cell.number())?,
                 None => write!(text, "- ")?,
             }
@@ -250,14 +253,19 @@ mod tests {
         Ok(text)
     }
 
+    fn found_on_page<V: Numbered>(alloc: Global, keys: &[&[u8]]) -> Result<String, PushError> {
+        let chain: Chain<V, Global> = page(alloc)?;
+        Ok(found(alloc, &chain, keys)?)
+    }
+
     #[test]
     fn find_reads_the_newest_word(rt: HostRuntime) -> Result<(), Fail> {
         // a, c: what the newer run says. b, d: what the older one says. e: what the base has. Nothing names the others.
         let keys: [&[u8]; 7] = [b"a", b"b", b"c", b"d", b"e", b"", b"f"];
         let expected = "- 5 6 - 7 - - ";
-        let values = found::<Value<Global>>(rt.alloc(), keys.as_slice())?;
+        let values = found_on_page::<Value<Global>>(rt.alloc(), keys.as_slice())?;
         assert_eq!(rt; values.as_str(), expected);
-        let page_ids = found::<Pid>(rt.alloc(), keys.as_slice())?;
+        let page_ids = found_on_page::<Pid>(rt.alloc(), keys.as_slice())?;
         assert_eq!(rt; page_ids.as_str(), expected);
         Ok(())
     }
