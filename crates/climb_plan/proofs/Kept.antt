@@ -1,0 +1,99 @@
+-- The levels that are left once the root has shrunk.
+use Rattle.std.specs.Prelude.{◌≡◌, ◌≢◌, ℕ, zero, suc, ◌<◌, ◌≤◌, Bool, true, false, cond, nat_eq, List, [], ◌∷◌, ◌++◌, flat_map, length}
+use Rattle.std.proofs.Common.{refl, sym, ap, ◌∙◌, subst, arith, append-nil, append_assoc}
+use Rattle.std.specs.List.{AllByRecursion}
+use Rattle.std.proofs.lemmas.Bool.{eqb-true, eqb-false}
+use Rattle.std.proofs.lemmas.List.{length-map}
+use Rattle.std.proofs.lemmas.Grind.{flat_map-append}
+use Rattle.index_page.specs.Rules.{IsHeaded}
+use Rattle.index_page.specs.ListLaws.{all_apart}
+use Rattle.mapping.specs.Levels.{Placed, entries, joined, name, names, pids, all_pids}
+use Rattle.mapping.specs.Proper.{Stacked, IsBranchedTop, Distinct}
+use Rattle.mapping.specs.TileLaws.{Names}
+use Rattle.split_plan.specs.ChangeLaws.{AllHeaded}
+use Rattle.climb_plan.specs.Climb.{is_lone, kept_under, kept}
+
+-- ---- a level that isn't kept has one page below it
+
+lone_is_over_one : {V : Type 0} (l : List (Placed ℕ)) (level : List (Placed V)) → is_lone l ≡ true → joined l ≡ names level → length level ≡ 1
+lone_is_over_one [] level e h = absurd (cc)
+lone_is_over_one (p ∷ []) level e h =
+    let one : length (entries p) ≡ 1 = eqb-true (length (entries p)) 1 e in
+    let all : length (entries p ++ []) ≡ length (names level) = ap (λ (ns : Names). length ns) h in
+    let same : length (entries p ++ []) ≡ length (entries p) = ap (λ (ns : Names). length ns) (append-nil (entries p)) in
+    sym (length-map level name) ∙ sym all ∙ same ∙ one
+lone_is_over_one (p ∷ q ∷ ps) level e h = absurd (cc)
+
+stacked_by : {V : Type 0} (b : Bool) (l : List (Placed ℕ)) (level : List (Placed V)) → is_lone l ≡ b → joined l ≡ names level → Stacked level (l ∷ []) → Stacked level (cond b [] (l ∷ []))
+stacked_by true l level e h o = lone_is_over_one l level e h
+stacked_by false l level e h o = o
+
+stacked-kept_under : {V : Type 0} (l : List (Placed ℕ)) (ls : List (List (Placed ℕ))) (level : List (Placed V)) → Stacked level (l ∷ ls) → Stacked level (kept_under l ls)
+stacked-kept_under l [] level o = stacked_by (is_lone l) l level refl o.0.linked o
+stacked-kept_under l (up ∷ ups) level o = o
+
+-- the levels that are kept are each the parents of the one below
+pub stacked-kept : {V : Type 0} (ls : List (List (Placed ℕ))) (level : List (Placed V)) → Stacked level ls → Stacked level (kept ls)
+stacked-kept [] level o = o
+stacked-kept (l ∷ ls) level o = stacked-kept_under l (kept ls) level (o.0, stacked-kept ls l o.1)
+
+-- ---- the highest one that is kept has two children
+
+two_by : (l : List (Placed ℕ)) → length l ≡ 1 → is_lone l ≡ false → AllHeaded l → AllByRecursion (λ p. IsHeaded 2 p.page) l
+two_by [] n e h = tt
+two_by (p ∷ []) n e h =
+    let not_one : length (entries p) ≢ 1 = eqb-false (length (entries p)) 1 e in
+    (record { some = two (length (entries p)) h.0.some not_one; first = h.0.first }, tt)
+    where
+      two : (n : ℕ) → 1 ≤ n → n ≢ 1 → 2 ≤ n
+      two zero l d = absurd (omega arith)
+      two (suc zero) l d = absurd (d refl)
+      two (suc (suc n)) l d = omega arith
+two_by (p ∷ q ∷ ps) n e h = absurd (omega arith)
+
+branched_by : (b : Bool) (l : List (Placed ℕ)) → is_lone l ≡ b → length l ≡ 1 → AllHeaded l → IsBranchedTop (cond b [] (l ∷ []))
+branched_by true l e n h = tt
+branched_by false l e n h = two_by l n e h
+
+branched-kept_under : (l : List (Placed ℕ)) (ls : List (List (Placed ℕ))) → AllHeaded l → Stacked l ls → IsBranchedTop ls → IsBranchedTop (kept_under l ls)
+branched-kept_under l [] h o t = branched_by (is_lone l) l refl o h
+branched-kept_under l (up ∷ ups) h o t = t
+
+pub branched-kept : {V : Type 0} (ls : List (List (Placed ℕ))) (level : List (Placed V)) → Stacked level ls → IsBranchedTop (kept ls)
+branched-kept [] level o = tt
+branched-kept (l ∷ ls) level o = branched-kept_under l (kept ls) o.0.headed (stacked-kept ls l o.1) (branched-kept ls l o.1)
+
+-- ---- they are the first of the levels
+
+rest_by : (b : Bool) (l : List (Placed ℕ)) (rest : List (List (Placed ℕ))) → (r : List (List (Placed ℕ))) × (cond b [] (l ∷ []) ++ r ≡ l ∷ rest)
+rest_by true l rest = (l ∷ rest, refl)
+rest_by false l rest = (rest, refl)
+
+rest_under : (l : List (Placed ℕ)) (ls rest all : List (List (Placed ℕ))) → ls ++ rest ≡ all → (r : List (List (Placed ℕ))) × (kept_under l ls ++ r ≡ l ∷ all)
+rest_under l [] rest all e =
+    let k = rest_by (is_lone l) l rest in
+    (k.0, k.1 ∙ ap (λ (x : List (List (Placed ℕ))). l ∷ x) e)
+rest_under l (up ∷ ups) rest all e = (rest, ap (λ (x : List (List (Placed ℕ))). l ∷ x) e)
+
+pub kept_is_first : (ls : List (List (Placed ℕ))) → (rest : List (List (Placed ℕ))) × (kept ls ++ rest ≡ ls)
+kept_is_first [] = ([], refl)
+kept_is_first (l ∷ ls) = let r = kept_is_first ls in rest_under l (kept ls) r.0 ls r.1
+
+pub all-kept : (P : List (Placed ℕ) → Type 0) (ls : List (List (Placed ℕ))) → AllByRecursion P ls → AllByRecursion P (kept ls)
+all-kept P ls a =
+    let r = kept_is_first ls in
+    (all_apart P (kept ls) r.0 (subst (λ (x : List (List (Placed ℕ))). AllByRecursion P x) (sym r.1) a)).0
+
+distinct_left : (ms ns : List ℕ) → Distinct (ms ++ ns) → Distinct ms
+distinct_left [] ns d = tt
+distinct_left (m ∷ ms) ns d = ((all_apart (λ k. k ≢ m) ms ns d.0).0, distinct_left ms ns d.1)
+
+-- so their pids are distinct where those of all levels are
+pub distinct-kept : {V : Type 0} (level : List (Placed V)) (ls : List (List (Placed ℕ))) → Distinct (all_pids level ls) → Distinct (all_pids level (kept ls))
+distinct-kept level ls d =
+    let r = kept_is_first ls in
+    let e : all_pids level ls ≡ all_pids level (kept ls) ++ flat_map pids r.0 =
+      ap (λ (x : List (List (Placed ℕ))). pids level ++ flat_map pids x) (sym r.1)
+      ∙ ap (λ (ns : List ℕ). pids level ++ ns) (flat_map-append pids (kept ls) r.0)
+      ∙ sym (append_assoc (pids level) (flat_map pids (kept ls)) (flat_map pids r.0)) in
+    distinct_left (all_pids level (kept ls)) (flat_map pids r.0) (subst (λ (ns : List ℕ). Distinct ns) e d)

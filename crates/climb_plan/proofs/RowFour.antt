@@ -1,0 +1,12 @@
+-- Row 4: one batch of five puts, a 1 to e 5, into an empty store. Leaf 0 has a and b; leaf 1 has c, d and e, and the low
+-- key c; the root 2 has (empty, 0) and (c, 1); height 2.
+use Rattle.std.specs.Prelude.{◌≡◌, [], ◌∷◌, None}
+use Rattle.std.proofs.Common.{refl}
+use Rattle.mapping.specs.Finding.{finding}
+use Rattle.climb_plan.proofs.Literals.{S, fresh, after, five_puts, tree_of_five}
+
+row_4 : after S fresh (five_puts ∷ []) ≡ tree_of_five
+row_4 = refl
+
+row_4_is_proper : finding S tree_of_five ≡ None
+row_4_is_proper = refl

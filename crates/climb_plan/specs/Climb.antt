@@ -1,0 +1,59 @@
+-- What a batch makes of the levels, from the leaves up.
+use Rattle.std.specs.Prelude.{ℕ, zero, suc, ◌+◌, Bool, false, nat_lt, nat_eq, List, [], ◌∷◌, ◌++◌, map, flat_map, take, drop, length, if◌then◌else◌}
+use Rattle.keys.specs.declared.settings.Settings.{Settings}
+use Rattle.mapping.specs.Levels.{Placed, Tower, entries, names}
+use Rattle.split_plan.specs.Cut.{cut}
+use Rattle.split_plan.specs.Worked.{Worked, worked_parents}
+use Rattle.split_plan.specs.Change.{Change, fresh_pages, changes, family_changes, all_new, all_fresh, all_outdated}
+use Rattle.split_plan.specs.Terms.{terms}
+
+-- the children of each parent: as many as it has entries
+abbrev pub families : {X : Type 0} → List (Placed ℕ) → List X → List (List X)
+families [] xs = []
+families (p ∷ ps) xs = take (length (entries p)) xs ∷ families ps (drop (length (entries p)) xs)
+
+-- what is made of a level and of the levels above it, and the pids whose page is no longer what the log may have
+pub record Climbed (V : Type 0) : Type 0 where
+  pub tower : Tower V
+  pub outdated : List ℕ
+
+-- the levels above pages that have no parent: their low keys and pids cut into index pages, until one page is left,
+-- where i fresh pids were given out before, and so many levels are enough
+abbrev pub grown : {V : Type 0} → ℕ → Settings → List ℕ → ℕ → List (Placed V) → List (List (Placed ℕ))
+grown zero s used i ps = []
+grown (suc enough) s used i ps =
+    if nat_lt 1 (length ps)
+    then (let up : List (Placed ℕ) = fresh_pages used i (cut s.fan (names ps)) in up ∷ grown enough s used (i + length up) up)
+    else []
+
+-- the highest level: its page is a group by itself, and grows levels where it was cut
+abbrev pub climbed_top : {V : Type 0} → Settings → List ℕ → ℕ → List (Worked V) → Climbed V
+climbed_top s used i ws =
+    let css : List (List (Change _)) = changes s used i (ws ∷ []) ∷ [] in
+    let top : List (Placed _) = all_new css in
+    record { tower = record { level = top; above = grown (length top) s used (i + length (all_fresh css)) top }; outdated = all_outdated css }
+
+-- a level of pages after their runs, and the levels above it as they were: each family is grouped and remade, its parent
+-- gets the terms, and so on upward
+abbrev pub climb : {V : Type 0} → Settings → List ℕ → ℕ → List (Worked V) → List (List (Placed ℕ)) → Climbed V
+climb s used i ws [] = climbed_top s used i ws
+climb s used i ws (parents ∷ ups) =
+    let css : List (List (Change _)) = family_changes s used i (families parents ws) in
+    let up : Climbed ℕ = climb s used (i + length (all_fresh css)) (worked_parents s parents (map terms css)) ups in
+    record { tower = record { level = all_new css; above = up.tower.level ∷ up.tower.above }; outdated = all_outdated css ++ up.outdated }
+
+-- whether a level is one page with one child
+abbrev pub is_lone : List (Placed ℕ) → Bool
+is_lone [] = false
+is_lone (p ∷ []) = nat_eq (length (entries p)) 1
+is_lone (p ∷ q ∷ ps) = false
+
+-- a level under those that are kept; the highest isn't kept where it is lone
+abbrev pub kept_under : List (Placed ℕ) → List (List (Placed ℕ)) → List (List (Placed ℕ))
+kept_under l [] = if is_lone l then [] else l ∷ []
+kept_under l (up ∷ ups) = l ∷ up ∷ ups
+
+-- the levels without those at the top whose one page has one child
+abbrev pub kept : List (List (Placed ℕ)) → List (List (Placed ℕ))
+kept [] = []
+kept (l ∷ ls) = kept_under l (kept ls)

@@ -1,0 +1,3 @@
+pub mod Climb
+pub mod Limits
+pub mod Plan

@@ -1,0 +1,53 @@
+-- What a batch makes of a store.
+use Rattle.std.specs.Prelude.{ℕ, suc, Bool, true, List, [], ◌++◌, map, flat_map, drop, length, if◌then◌else◌}
+use Rattle.std.specs.Map.{keys_of}
+use Rattle.keys.specs.declared.settings.Settings.{Settings}
+use Rattle.keys.specs.declared.command.Command.{Command}
+use Rattle.mapping.specs.Tree.{Logged, Tree, Store}
+use Rattle.mapping.specs.Tree.Logged.{No, Old, Upto}
+use Rattle.mapping.specs.FreshPids.{is_among}
+use Rattle.mapping.specs.Levels.{Placed, Levels, levels_of, contents, all_pages, by_pid, top_pid, pids}
+use Rattle.page_runs.specs.NetRun.{net_run}
+use Rattle.split_plan.specs.Worked.{Worked, worked_leaves}
+use Rattle.climb_plan.specs.Climb.{Climbed, climb, kept}
+
+-- the levels after the commands: each leaf gets its part of the net run, and the levels above get their terms
+abbrev pub climbed : {A : Type 0} → Settings → Tree → List (Command A) → Climbed (List ℕ)
+climbed s t cs =
+    let l : Levels = levels_of t in
+    climb s (keys_of t.pages) 0 (worked_leaves s (net_run (contents t) cs) l.level) l.above
+
+-- those that are left once the root has shrunk
+abbrev pub planned_levels : {A : Type 0} → Settings → Tree → List (Command A) → Levels
+planned_levels s t cs =
+    let c : Climbed (List ℕ) = climbed s t cs in
+    record { level = c.tower.level; above = kept c.tower.above }
+
+-- the pids of the levels that went with the old root
+abbrev pub shrunk_pids : List (List (Placed ℕ)) → List ℕ
+shrunk_pids ls = flat_map pids (drop (length (kept ls)) ls)
+
+-- a page that isn't the one that the log knows
+abbrev pub outdate : Logged → Logged
+outdate No = No
+outdate Old = Old
+outdate (Upto k) = Old
+
+-- what the log has of each pid, once these are outdated
+abbrev pub outdate_all : List ℕ → List (ℕ × Logged) → List (ℕ × Logged)
+outdate_all gone ls = map (λ l. (l.0, if is_among l.0 gone then outdate l.1 else l.1)) ls
+
+-- the tree after the commands
+abbrev pub planned_tree : {A : Type 0} → Settings → Tree → List (Command A) → Tree
+planned_tree s t cs =
+    let c : Climbed (List ℕ) = climbed s t cs in
+    let l : Levels = planned_levels s t cs in
+    record {
+      pages = by_pid (all_pages l);
+      root = top_pid l.level l.above;
+      height = suc (length l.above);
+      logged = outdate_all (c.outdated ++ shrunk_pids c.tower.above) t.logged }
+
+-- the store after the commands: a batch doesn't touch the log
+abbrev pub plan : {A : Type 0} → Settings → Store → List (Command A) → Store
+plan s st cs = record { tree = planned_tree s st.tree cs; head = st.head; tail = st.tail; sequence = st.sequence }

@@ -1,0 +1,8 @@
+//! What a batch does to a whole tree of pages: level by level upward, each parent after its children, the root last
+//! (PALM's order of work). This crate will hold the climb, and the trail by which a refused batch is undone.
+//!
+//! So far it holds the plan of a batch, as definitions (`specs/`), and its laws: that the plan's contents are the map
+//! after the commands, and that the plan of a proper store is proper.
+#![tactic(auto)]
+
+pub mod laws;

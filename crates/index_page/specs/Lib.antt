@@ -1,0 +1,7 @@
+pub mod ListLaws
+pub mod Page
+pub mod PageLaws
+pub mod Range
+pub mod RangeLaws
+pub mod RuleLaws
+pub mod Rules

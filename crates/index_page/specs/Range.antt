@@ -1,0 +1,37 @@
+-- Ranges of keys: from a low key on, and below an end where there is one.
+use Rattle.std.specs.Prelude.{◌≡◌, ℕ, Bool, true, false, not, ◌&&◌, ⊤, List, Option, Some, None}
+use Rattle.std.specs.declared.cmp.Ordering.TheVariants.{Less}
+use Rattle.std.specs.Ordering.{is_lt}
+use Rattle.std.specs.List.{AllByRecursion}
+use Rattle.keys.specs.Order.{order}
+
+-- whether a key is below another
+abbrev pub is_below : List ℕ → List ℕ → Bool
+is_below k end = is_lt (order k end)
+
+-- whether a key is below the end; each is where there is none
+abbrev pub is_before : Option (List ℕ) → List ℕ → Bool
+is_before None k = true
+is_before (Some end) k = is_below k end
+
+-- whether a key lies in a range
+abbrev pub is_within : List ℕ → Option (List ℕ) → List ℕ → Bool
+is_within low end k = not (is_below k low) && is_before end k
+
+-- all keys are below k
+abbrev pub AreBelow : List ℕ → List (List ℕ) → Type 0
+AreBelow k ks = AllByRecursion (λ j. is_below j k ≡ true) ks
+
+-- no key is below k
+abbrev pub AreFrom : List ℕ → List (List ℕ) → Type 0
+AreFrom k ks = AllByRecursion (λ j. is_below j k ≡ false) ks
+
+-- all keys are below the end
+abbrev pub AreBefore : Option (List ℕ) → List (List ℕ) → Type 0
+AreBefore None ks = ⊤
+AreBefore (Some end) ks = AreBelow end ks
+
+-- the key is below the end
+abbrev pub IsBefore : Option (List ℕ) → List ℕ → Type 0
+IsBefore None k = ⊤
+IsBefore (Some end) k = order k end ≡ Less

@@ -1,0 +1,9 @@
+pub mod Finding
+pub mod FreshPids
+pub mod LevelLaws
+pub mod Levels
+pub mod PidLaws
+pub mod Proper
+pub mod TableLaws
+pub mod TileLaws
+pub mod Tree

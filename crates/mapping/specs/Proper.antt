@@ -1,0 +1,98 @@
+-- When a tree is proper, as a fact.
+use Rattle.std.specs.Prelude.{◌≡◌, ◌≢◌, ℕ, ◌<◌, true, ⊤, List, [], ◌∷◌, length, Option, Some, None}
+use Rattle.std.specs.List.{AllByRecursion}
+use Rattle.std.specs.Map.{keys_of}
+use Rattle.keys.specs.declared.settings.Settings.{Settings}
+use Rattle.index_page.specs.Page.{PageOfKind}
+use Rattle.index_page.specs.Page.PageOfKind.{Leaf, Index}
+use Rattle.index_page.specs.Range.{IsBefore}
+use Rattle.index_page.specs.Rules.{KeepsRange, Fits, IsHeaded, IsShortValue, IsAnyPid}
+use Rattle.mapping.specs.Tree.{Tree, page_at}
+use Rattle.mapping.specs.Levels.{Placed, Levels, joined, names, all_pids, levels_of}
+use Rattle.mapping.specs.FreshPids.{is_among}
+
+-- ---- ranges
+
+-- the low key of the first of the pages, else the end
+abbrev pub next_low : {V : Type 0} → List (Placed V) → Option (List ℕ) → Option (List ℕ)
+next_low [] end = end
+next_low (p ∷ ps) end = Some p.page.low
+
+-- each page's keys lie from its low key on, and before the next page's, which is greater
+pub record IsTile {V : Type 0} (end : Option (List ℕ)) (p : Placed V) : Type 0 where
+  pub keys : KeepsRange p.page.low end p.page
+  pub low : IsBefore end p.page.low
+
+abbrev pub Tiled : {V : Type 0} → List (Placed V) → Option (List ℕ) → Type 0
+Tiled [] end = ⊤
+Tiled (p ∷ ps) end = IsTile (next_low ps end) p × Tiled ps end
+
+-- ---- levels
+
+-- a level of parents: their entries, joined, are the low keys and pids of the pages below; each has a child, the first
+-- at its own low key
+pub record IsParentOf {V : Type 0} (level : List (Placed V)) (up : List (Placed ℕ)) : Type 0 where
+  pub linked : joined up ≡ names level
+  pub headed : AllByRecursion (λ p. IsHeaded 1 p.page) up
+  pub tiled : Tiled up None
+
+-- each level is the parents of the one below it, and the last is one page
+abbrev pub Stacked : {V : Type 0} → List (Placed V) → List (List (Placed ℕ)) → Type 0
+Stacked level [] = length level ≡ 1
+Stacked level (up ∷ ups) = IsParentOf level up × Stacked up ups
+
+-- the pages of the highest level have two children at least
+abbrev pub IsBranchedTop : List (List (Placed ℕ)) → Type 0
+IsBranchedTop [] = ⊤
+IsBranchedTop (up ∷ []) = AllByRecursion (λ p. IsHeaded 2 p.page) up
+IsBranchedTop (up ∷ next ∷ ups) = IsBranchedTop (next ∷ ups)
+
+-- each number stands once
+abbrev pub Distinct : List ℕ → Type 0
+Distinct [] = ⊤
+Distinct (n ∷ ns) = AllByRecursion (λ m. m ≢ n) ns × Distinct ns
+
+-- the leaves tile all keys, the levels above name those below, under one root with two children or more; each pid once
+pub record AreLevels (l : Levels) : Type 0 where
+  pub first : next_low l.level None ≡ Some []
+  pub tiled : Tiled l.level None
+  pub stacked : Stacked l.level l.above
+  pub top : IsBranchedTop l.above
+  pub distinct : Distinct (all_pids l.level l.above)
+
+-- each page is within the settings
+pub record AllFit (s : Settings) (l : Levels) : Type 0 where
+  pub leaves : AllByRecursion (λ p. Fits s (IsShortValue s) p.page) l.level
+  pub above : AllByRecursion (AllByRecursion (λ p. Fits s IsAnyPid p.page)) l.above
+
+-- ---- the table
+
+-- each is below all later ones
+abbrev pub AreRisingPids : List ℕ → Type 0
+AreRisingPids [] = ⊤
+AreRisingPids (n ∷ ns) = AllByRecursion (λ m. n < m) ns × AreRisingPids ns
+
+-- the table has the leaves, and the index pages
+abbrev pub HasLeaves : List (ℕ × PageOfKind) → List (Placed (List ℕ)) → Type 0
+HasLeaves ps level = AllByRecursion (λ p. page_at ps p.pid ≡ Some (Leaf p.page)) level
+
+abbrev pub HasIndexPages : List (ℕ × PageOfKind) → List (Placed ℕ) → Type 0
+HasIndexPages ps up = AllByRecursion (λ p. page_at ps p.pid ≡ Some (Index p.page)) up
+
+-- the table has the pages of the levels under their pids, and no other page
+pub record HoldsLevels (ps : List (ℕ × PageOfKind)) (l : Levels) : Type 0 where
+  pub leaves : HasLeaves ps l.level
+  pub above : AllByRecursion (HasIndexPages ps) l.above
+  pub no_other : AllByRecursion (λ pid. is_among pid (all_pids l.level l.above) ≡ true) (keys_of ps)
+
+-- what is true of the numbers of any store: the table's pids rise, and there is a level
+pub record IsTree (t : Tree) : Type 0 where
+  pub rising : AreRisingPids (keys_of t.pages)
+  pub some : 0 < t.height
+
+-- a proper tree
+pub record IsProper (s : Settings) (t : Tree) : Type 0 where
+  pub tree : IsTree t
+  pub held : HoldsLevels t.pages (levels_of t)
+  pub levels : AreLevels (levels_of t)
+  pub fit : AllFit s (levels_of t)

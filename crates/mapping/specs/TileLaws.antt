@@ -1,0 +1,136 @@
+-- Lemmas on pages whose ranges follow one another, for the proofs of this crate and of those above it.
+use Rattle.std.specs.Prelude.{◌≡◌, ℕ, ◌<◌, true, false, List, [], ◌∷◌, ◌++◌, map, length, Option, Some, None}
+use Rattle.std.proofs.Common.{refl, sym, ap, ◌∙◌, subst, arith, append-nil, Less}
+use Rattle.std.specs.List.{AllByRecursion}
+use Rattle.std.specs.List.Sorted.{IsStrictlySortedBy}
+use Rattle.std.specs.Map.{keys_of}
+use Rattle.std.proofs.lemmas.List.{map-append}
+use Rattle.keys.specs.Order.{order, IsRising}
+use Rattle.keys.specs.MapLaws.{total, IsBelowAll, below_all}
+use Rattle.delta_chain.specs.LayerLaws.{rising-entries_of}
+use Rattle.index_page.specs.Page.{Page, first_key, named}
+use Rattle.index_page.specs.Range.{is_below, AreBelow, AreFrom, AreBefore, IsBefore}
+use Rattle.index_page.specs.Rules.{IsHeaded}
+use Rattle.index_page.specs.ListLaws.{all_keys-append}
+use Rattle.index_page.specs.RangeLaws.{less_is_below, from_lower, below_higher, not_below_itself, from_below_all, rising-append, first_key-append}
+use Rattle.index_page.specs.PageLaws.{all_keys_entries}
+use Rattle.mapping.specs.Levels.{Placed, entries, joined, name, names}
+use Rattle.mapping.specs.Proper.{next_low, IsTile, Tiled}
+
+abbrev pub Names : Type 0
+Names = List (List ℕ × ℕ)
+
+module _ {V : Type 0} where
+  -- ---- joined lists of pages
+
+  pub next_low-append : (xs ys : List (Placed V)) (end : Option (List ℕ)) → next_low (xs ++ ys) end ≡ next_low xs (next_low ys end)
+  next_low-append [] ys end = refl
+  next_low-append (x ∷ xs) ys end = refl
+
+  pub tiled_apart : (xs ys : List (Placed V)) (end : Option (List ℕ)) → Tiled (xs ++ ys) end → Tiled xs (next_low ys end) × Tiled ys end
+  tiled_apart [] ys end h = (tt, h)
+  tiled_apart (x ∷ xs) ys end h =
+      let r = tiled_apart xs ys end h.1 in
+      let t : IsTile (next_low xs (next_low ys end)) x = rw (next_low-append xs ys end) at h.0 in
+      ((t, r.0), r.1)
+
+  pub tiled-append : (xs ys : List (Placed V)) (end : Option (List ℕ)) → Tiled xs (next_low ys end) → Tiled ys end → Tiled (xs ++ ys) end
+  tiled-append [] ys end h k = k
+  tiled-append (x ∷ xs) ys end h k = (rw (next_low-append xs ys end) h.0, tiled-append xs ys end h.1 k)
+
+  pub names-append : (xs ys : List (Placed V)) → names (xs ++ ys) ≡ names xs ++ names ys
+  names-append xs ys = map-append name xs ys
+
+  -- ---- the entries of tiled pages
+
+  -- no entry is below the first page's low key
+  pub from-joined : (p : Placed V) (ps : List (Placed V)) (end : Option (List ℕ)) → Tiled (p ∷ ps) end → AreFrom p.page.low (keys_of (joined (p ∷ ps)))
+  from-joined p [] end h =
+      let P : List ℕ → Type 0 = λ j. is_below j p.page.low ≡ false in
+      all_keys-append P (entries p) [] (all_keys_entries P p.page h.0.keys.from) tt
+  from-joined p (q ∷ qs) end h =
+      let P : List ℕ → Type 0 = λ j. is_below j p.page.low ≡ false in
+      all_keys-append P (entries p) (joined (q ∷ qs)) (all_keys_entries P p.page h.0.keys.from) (from_lower p.page.low q.page.low (keys_of (joined (q ∷ qs))) h.0.low (from-joined q qs end h.1))
+
+  -- the entries rise
+  pub rising-joined : (ps : List (Placed V)) (end : Option (List ℕ)) → Tiled ps end → IsRising (joined ps)
+  unfolding IsStrictlySortedBy
+  rising-joined [] end h = tt
+  rising-joined (p ∷ []) end h = rw (append-nil (entries p)) (rising-entries_of p.page.layers h.0.keys.rising)
+  rising-joined (p ∷ q ∷ qs) end h =
+      rising-append q.page.low (entries p) (joined (q ∷ qs)) (all_keys_entries (λ j. is_below j q.page.low ≡ true) p.page h.0.keys.before) (from-joined q qs end h.1) (rising-entries_of p.page.layers h.0.keys.rising) (rising-joined (q ∷ qs) end h.1)
+
+  -- the first page's low key is below the end of them all
+  pub low_is_before : (p : Placed V) (ps : List (Placed V)) (end : Option (List ℕ)) → Tiled (p ∷ ps) end → IsBefore end p.page.low
+  low_is_before p ps None h = tt
+  low_is_before p [] (Some hi) h = h.0.low
+  low_is_before p (q ∷ qs) (Some hi) h = total.trans p.page.low q.page.low hi h.0.low (low_is_before q qs (Some hi) h.1)
+
+  -- and so are all entries
+  pub before-joined : (ps : List (Placed V)) (end : Option (List ℕ)) → Tiled ps end → AreBefore end (keys_of (joined ps))
+  before-joined ps None h = tt
+  before-joined [] (Some hi) h = tt
+  before-joined (p ∷ []) (Some hi) h =
+      let P : List ℕ → Type 0 = λ j. is_below j hi ≡ true in
+      all_keys-append P (entries p) [] (all_keys_entries P p.page h.0.keys.before) tt
+  before-joined (p ∷ q ∷ qs) (Some hi) h =
+      let here : AreBelow q.page.low (keys_of (entries p)) = all_keys_entries (λ j. is_below j q.page.low ≡ true) p.page h.0.keys.before in
+      all_keys-append (λ j. is_below j hi ≡ true) (entries p) (joined (q ∷ qs)) (below_higher q.page.low hi (keys_of (entries p)) (low_is_before q qs (Some hi) h.1) here) (before-joined (q ∷ qs) (Some hi) h.1)
+
+  -- ---- the names of tiled pages
+
+  lows_above : (low : List ℕ) (ps : List (Placed V)) (end : Option (List ℕ)) → IsBefore (next_low ps end) low → Tiled ps end → IsBelowAll low (keys_of (names ps))
+  lows_above low [] end l h = tt
+  lows_above low (q ∷ qs) end l h = (l, below_all low q.page.low (keys_of (names qs)) l (lows_above q.page.low qs end h.0.low h.1))
+
+  pub rising-names : (ps : List (Placed V)) (end : Option (List ℕ)) → Tiled ps end → IsRising (names ps)
+  unfolding IsStrictlySortedBy
+  rising-names [] end h = tt
+  rising-names (p ∷ ps) end h = (lows_above p.page.low ps end h.0.low h.1, rising-names ps end h.1)
+
+  lows_below : (ps : List (Placed V)) (hi : List ℕ) → Tiled ps (Some hi) → AreBelow hi (keys_of (names ps))
+  lows_below [] hi h = tt
+  lows_below (p ∷ ps) hi h = (less_is_below p.page.low hi (low_is_before p ps (Some hi) h), lows_below ps hi h.1)
+
+  pub before-names : (ps : List (Placed V)) (end : Option (List ℕ)) → Tiled ps end → AreBefore end (keys_of (names ps))
+  before-names ps None h = tt
+  before-names ps (Some hi) h = lows_below ps hi h
+
+  pub from-names : (ps : List (Placed V)) (low : List ℕ) (end : Option (List ℕ)) → next_low ps end ≡ Some low → Tiled ps end → AreFrom low (keys_of (names ps))
+  from-names [] low end e h = tt
+  from-names (p ∷ ps) low end e h =
+      let same : p.page.low ≡ low = cc in
+      let own : AreFrom p.page.low (keys_of (names (p ∷ ps))) = (not_below_itself p.page.low, from_below_all p.page.low (keys_of (names ps)) (lows_above p.page.low ps end h.0.low h.1)) in
+      subst (λ (l : List ℕ). AreFrom l (keys_of (names (p ∷ ps)))) same own
+
+  -- ---- where names begin
+
+  -- pages begin where their names do
+  pub next_low-named : (ps : List (Placed V)) (n : List ℕ × ℕ) (ns : Names) (end : Option (List ℕ)) → names ps ≡ n ∷ ns → next_low ps end ≡ Some n.0
+  next_low-named [] n ns end e = absurd (cc)
+  next_low-named (p ∷ ps) n ns end e = let f : name p ≡ n = cc in ap (λ (m : List ℕ × ℕ). Some m.0) f
+
+  pub next_low-same : {W : Type 0} (ps : List (Placed V)) (qs : List (Placed W)) (end : Option (List ℕ)) → names ps ≡ names qs → next_low ps end ≡ next_low qs end
+  next_low-same [] [] end e = refl
+  next_low-same [] (q ∷ qs) end e = absurd (cc)
+  next_low-same (p ∷ ps) [] end e = absurd (cc)
+  next_low-same (p ∷ ps) (q ∷ qs) end e = let f : name p ≡ name q = cc in ap (λ (m : List ℕ × ℕ). Some m.0) f
+
+  pub next_low-entries : (ps : List (Placed V)) (es : Names) (low : List ℕ) (end : Option (List ℕ)) → es ≡ names ps → 0 < length es → first_key es ≡ low → next_low ps end ≡ Some low
+  next_low-entries ps [] low end e h f = absurd (omega arith)
+  next_low-entries [] (n ∷ es) low end e h f = absurd (cc)
+  next_low-entries (p ∷ ps) (n ∷ es) low end e h f =
+      let a : n ≡ name p = cc in
+      ap (λ (m : List ℕ × ℕ). Some m.0) (sym a) ∙ ap (λ (l : List ℕ). Some l) f
+
+  pub some_page : (ps : List (Placed V)) (low : List ℕ) → next_low ps None ≡ Some low → 0 < length ps
+  some_page [] low e = absurd (cc)
+  some_page (p ∷ ps) low e = omega arith
+
+  -- where parents' entries name pages, the pages begin where the parents do
+  pub next_low-parents : (ups : List (Placed ℕ)) (ps : List (Placed V)) → joined ups ≡ names ps → AllByRecursion (λ u. IsHeaded 1 u.page) ups → next_low ps None ≡ next_low ups None
+  next_low-parents [] [] e h = refl
+  next_low-parents [] (p ∷ ps) e h = absurd (cc)
+  next_low-parents (u ∷ us) ps e h =
+      let f = first_key-append (entries u) (joined us) h.0.some in
+      next_low-entries ps (entries u ++ joined us) u.page.low None e f.0 (f.1 ∙ h.0.first)

@@ -1,0 +1,38 @@
+-- A store: its pages under their pids, its root and height, and what its log has of each page.
+use Rattle.std.specs.Prelude.{ℕ, List, Option, Some, None}
+use Rattle.std.specs.Ordering.{nat_cmp, is_eq}
+use Rattle.std.specs.Map.{lookup}
+use Rattle.index_page.specs.Page.{PageOfKind}
+
+-- what the log has of a pid: no page; a page that isn't the present one's base; the present base and its oldest k runs
+pub data Logged : Type 0 where
+  No : Logged
+  Old : Logged
+  Upto : ℕ → Logged
+
+-- pages by rising pid; the root's pid; the number of levels; by rising pid what the log has, where that isn't `No`
+pub record Tree : Type 0 where
+  pub pages : List (ℕ × PageOfKind)
+  pub root : ℕ
+  pub height : ℕ
+  pub logged : List (ℕ × Logged)
+
+-- a tree; where its log begins and ends; the number of the last flush or clean
+pub record Store : Type 0 where
+  pub tree : Tree
+  pub head : ℕ
+  pub tail : ℕ
+  pub sequence : ℕ
+
+-- the page under the pid
+abbrev pub page_at : List (ℕ × PageOfKind) → ℕ → Option PageOfKind
+page_at ps pid = lookup (λ n. is_eq (nat_cmp pid n)) ps
+
+-- what is listed of a pid, else `No`
+abbrev pub or_no : Option Logged → Logged
+or_no None = No
+or_no (Some l) = l
+
+-- what the log has of the pid
+abbrev pub logged_of : Tree → ℕ → Logged
+logged_of t pid = or_no (lookup (λ n. is_eq (nat_cmp pid n)) t.logged)

@@ -1,0 +1,83 @@
+-- What is made of the groups of a level's pages.
+use Rattle.std.specs.Prelude.{ℕ, suc, ◌+◌, Bool, true, false, ◌||◌, List, [], ◌∷◌, ◌++◌, map, flat_map, drop, length, if◌then◌else◌}
+use Rattle.std.specs.List.{filter}
+use Rattle.keys.specs.declared.settings.Settings.{Settings}
+use Rattle.index_page.specs.Page.{bare, first_key}
+use Rattle.mapping.specs.Levels.{Placed, joined}
+use Rattle.mapping.specs.FreshPids.{unused}
+use Rattle.split_plan.specs.Cut.{cut}
+use Rattle.split_plan.specs.Groups.{groups}
+use Rattle.split_plan.specs.Worked.{Worked, placed_of, is_thin, is_fat}
+
+-- a group, and the pages that stand in its place
+pub record Change (V : Type 0) : Type 0 where
+  pub old : List (Worked V)
+  pub new : List (Placed V)
+
+-- a page under a pid
+abbrev pub placed_bare : {V : Type 0} → ℕ → List ℕ → List (List ℕ × V) → Placed V
+placed_bare pid low base = record { pid = pid; page = bare low base }
+
+-- new pages, each with its first key as its low key; i fresh pids were given out before
+abbrev pub fresh_pages : {V : Type 0} → List ℕ → ℕ → List (List (List ℕ × V)) → List (Placed V)
+fresh_pages used i [] = []
+fresh_pages used i (b ∷ bs) = placed_bare (unused used i) (first_key b) b ∷ fresh_pages used (suc i) bs
+
+-- the first piece has the first member's pid and low key, the others are new pages
+abbrev pub replacements : {V : Type 0} → List ℕ → ℕ → Placed V → List (List (List ℕ × V)) → List (Placed V)
+replacements used i first [] = []
+replacements used i first (b ∷ bs) = placed_bare first.pid first.page.low b ∷ fresh_pages used i bs
+
+-- a group of two or more members is rewritten, and one with one fat member
+abbrev pub is_rewritten : {V : Type 0} → List (Worked V) → Bool
+is_rewritten [] = false
+is_rewritten (w ∷ []) = is_fat w
+is_rewritten (w ∷ v ∷ ws) = true
+
+-- the pages in the place of a group: its members' entries joined and cut, or else its members
+abbrev pub remade : {V : Type 0} → Settings → List ℕ → ℕ → List (Worked V) → List (Placed V)
+remade s used i [] = []
+remade s used i (w ∷ ws) =
+    if is_rewritten (w ∷ ws) then replacements used i w.placed (cut s.fan (joined (placed_of (w ∷ ws)))) else placed_of (w ∷ ws)
+
+-- the pages that are freed, and the new ones
+abbrev pub freed : {V : Type 0} → Change V → List (Placed V)
+freed c = drop 1 (placed_of c.old)
+
+abbrev pub fresh : {V : Type 0} → Change V → List (Placed V)
+fresh c = drop 1 c.new
+
+-- what is made of groups, from left to right
+abbrev pub changes : {V : Type 0} → Settings → List ℕ → ℕ → List (List (Worked V)) → List (Change V)
+changes s used i [] = []
+changes s used i (g ∷ gs) =
+    let c : Change _ = record { old = g; new = remade s used i g } in
+    c ∷ changes s used (i + length (fresh c)) gs
+
+-- what is made of the children of one parent, family by family
+abbrev pub family_changes : {V : Type 0} → Settings → List ℕ → ℕ → List (List (Worked V)) → List (List (Change V))
+family_changes s used i [] = []
+family_changes s used i (f ∷ fs) =
+    let cs : List (Change _) = changes s used i (groups is_thin f) in
+    cs ∷ family_changes s used (i + length (flat_map fresh cs)) fs
+
+-- of one family: the pages that stand there now, and the new ones among them
+abbrev pub new_of : {V : Type 0} → List (Change V) → List (Placed V)
+new_of cs = flat_map (λ c. c.new) cs
+
+abbrev pub fresh_of : {V : Type 0} → List (Change V) → List (Placed V)
+fresh_of cs = flat_map fresh cs
+
+-- of all families of a level
+abbrev pub all_new : {V : Type 0} → List (List (Change V)) → List (Placed V)
+all_new css = flat_map new_of css
+
+abbrev pub all_fresh : {V : Type 0} → List (List (Change V)) → List (Placed V)
+all_fresh css = flat_map fresh_of css
+
+-- the pids whose page is no longer what the log may have of it: replaced, rewritten or freed
+abbrev pub outdated : {V : Type 0} → Change V → List ℕ
+outdated c = map (λ w. w.placed.pid) (filter (λ w. w.replaced || is_rewritten c.old) c.old)
+
+abbrev pub all_outdated : {V : Type 0} → List (List (Change V)) → List ℕ
+all_outdated css = flat_map (λ cs. flat_map outdated cs) css

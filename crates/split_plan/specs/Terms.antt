@@ -1,0 +1,20 @@
+-- What a parent is told of the changes of its children.
+use Rattle.std.specs.Prelude.{ℕ, List, map, flat_map, Option, Some, None}
+use Rattle.delta_chain.specs.Layers.{with_run}
+use Rattle.mapping.specs.Levels.{Placed, names}
+use Rattle.split_plan.specs.Change.{Change, freed, fresh_of}
+
+-- a run in which the low keys of these names are absent
+abbrev pub absent : List (List ℕ × ℕ) → List (List ℕ × Option ℕ)
+absent ns = map (λ n. (n.0, None)) ns
+
+-- changes that set, in a run, the low keys of these names to their pids
+abbrev pub present : List (List ℕ × ℕ) → List (List ℕ × Option (Option ℕ))
+present ns = map (λ n. (n.0, Some (Some n.1))) ns
+
+abbrev pub freed_of : {V : Type 0} → List (Change V) → List (Placed V)
+freed_of cs = flat_map freed cs
+
+-- the parent's run: the low keys of freed members absent, and over that those of new pieces with their pids
+abbrev pub terms : {V : Type 0} → List (Change V) → List (List ℕ × Option ℕ)
+terms cs = with_run (absent (names (freed_of cs))) (present (names (fresh_of cs)))
