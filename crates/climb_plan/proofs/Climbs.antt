@@ -9,8 +9,8 @@ use Rattle.index_page.specs.ListLaws.{flat}
 use Rattle.mapping.specs.Levels.{Placed, Tower, joined, name, names}
 use Rattle.mapping.specs.Proper.{next_low, Tiled, IsParentOf, Stacked}
 use Rattle.mapping.specs.TileLaws.{Names, next_low-same, some_page, rising-names}
-use Rattle.split_plan.specs.Cut.{cut, piece_count}
-use Rattle.split_plan.specs.CutLaws.{AllFull, cut-joined, cut_full, cut_some, length-cut, fewer_pieces}
+use Rattle.split_plan.specs.Cut.{cut, piece_count, AllFull}
+use Rattle.split_plan.specs.CutLaws.{cut-joined, cut_full, cut_some, length-cut, fewer_pieces}
 use Rattle.split_plan.specs.Worked.{Worked, worked_parents, placed_of}
 use Rattle.split_plan.specs.RunLaws.{names-worked_parents}
 use Rattle.split_plan.specs.WorkedLaws.{tiled-worked_parents}

@@ -15,7 +15,7 @@ use Rattle.split_plan.specs.Worked.{Worked, worked, worked_parents, placed_of, i
 use Rattle.split_plan.specs.RunLaws.{entries-worked}
 use Rattle.split_plan.specs.WorkedLaws.{AreRunsFor}
 use Rattle.split_plan.specs.Change.{Change, changes, family_changes, new_of, fresh_of, all_new}
-use Rattle.split_plan.specs.ChangeLaws.{next_low-changes, AllHeaded}
+use Rattle.split_plan.specs.ChangeLaws.{next_low-groups, AllHeaded}
 use Rattle.split_plan.specs.Terms.{terms}
 use Rattle.split_plan.specs.TermLaws.{with_run-terms, terms_for_parent, names_apart, tiled_family_apart, headed_by_names}
 use Rattle.climb_plan.specs.Climb.{families}
@@ -77,7 +77,7 @@ module _ {V : Type 0} where
       let tiled : Tiled (placed_of f) end = subst (λ (e : Option (List ℕ)). Tiled (placed_of f) e) same_end a.0 in
       let begins : (e : Option (List ℕ)) → next_low (placed_of f) e ≡ Some p.page.low = λ e. next_low-entries (placed_of f) (entries p) p.page.low e r.0 hd.0.some hd.0.first in
       let new_begins : next_low (new_of cs) None ≡ Some p.page.low =
-        next_low-changes s used i gs None ∙ ap (λ (vs : List (Worked V)). next_low (placed_of vs) None) (groups-joined is_thin f) ∙ begins None in
+        next_low-groups s used i f None ∙ begins None in
       let after : entries (worked s p (terms cs)).placed ≡ names (new_of cs) = entries_after s used i p f end z r.0 tiled in
       let later = parents_told s used (i + length (fresh_of cs)) ps more z r.1 hd.1 a.1 in
       ((terms_for_parent s used i p.page.low f end z (begins end) tiled, later.0), (headed_by_names (worked s p (terms cs)).placed (new_of cs) p.page.low after new_begins refl, later.1))

@@ -19,7 +19,7 @@ use Rattle.mapping.specs.Levels.{Placed, entries, joined}
 use Rattle.mapping.specs.Proper.{next_low, Tiled}
 use Rattle.page_runs.specs.NetRun.{noted, noted_by, touched, net_run}
 use Rattle.page_runs.specs.NetLaws.{rising-net_run}
-use Rattle.split_plan.specs.Worked.{Worked, below, from, worked_leaves, placed_of}
+use Rattle.split_plan.specs.Worked.{Worked, part_below, part_from, worked_leaves, placed_of}
 use Rattle.split_plan.specs.WorkedLaws.{IsRunFor, tiled-worked_leaves}
 use Rattle.climb_plan.specs.Limits.{IsShortCommand, AreShort}
 use Rattle.climb_plan.proofs.Sizes.{IsSmall, IsSmallUnlessFat, AreShortPairs, AreShortChanges, small-worked, short_entries}
@@ -102,8 +102,8 @@ module _ (s : Settings) where
   small-worked_leaves run [] h a = tt
   small-worked_leaves run (p ∷ []) h a = (small-worked s (IsShortValue s) p run h.0 a, tt)
   small-worked_leaves run (p ∷ q ∷ qs) h a =
-      (small-worked s (IsShortValue s) p (below q.page.low run) h.0 (all-filter (IsShortChange s (IsShortValue s)) _ run a),
-       small-worked_leaves (from q.page.low run) (q ∷ qs) h.1 (all-filter (IsShortChange s (IsShortValue s)) _ run a))
+      (small-worked s (IsShortValue s) p (part_below q.page.low run) h.0 (all-filter (IsShortChange s (IsShortValue s)) _ run a),
+       small-worked_leaves (part_from q.page.low run) (q ∷ qs) h.1 (all-filter (IsShortChange s (IsShortValue s)) _ run a))
 
   -- leaves within the settings are so, but for fat ones, after the net run of commands within them
   pub small-leaves : {A : Type 0} (cs : List (Command A)) (ps : List (Placed (List ℕ))) → AreShort s cs → AllByRecursion (IsSmall s (IsShortValue s)) ps → AllByRecursion (IsSmallUnlessFat s (IsShortValue s)) (worked_leaves s (net_run (joined ps) cs) ps)

@@ -15,8 +15,8 @@ use Rattle.mapping.specs.TileLaws.{Names}
 use Rattle.page_runs.specs.AfterRun.{overflows, replaced, in_front, after_run, class_of_size, class_after}
 use Rattle.page_runs.specs.declared.class.Class.{Class}
 use Rattle.page_runs.specs.declared.class.Class.TheVariants.{Same, Changed, Thin, Fat}
-use Rattle.split_plan.specs.Cut.{cut}
-use Rattle.split_plan.specs.CutLaws.{AllAtMost, cut-joined, cut_at_most}
+use Rattle.split_plan.specs.Cut.{cut, AllAtMost}
+use Rattle.split_plan.specs.CutLaws.{cut-joined, cut_at_most}
 use Rattle.split_plan.specs.ExchangeLaws.{all_keys-with_present}
 use Rattle.split_plan.specs.Groups.{groups}
 use Rattle.split_plan.specs.GroupLaws.{groups-joined}

@@ -18,10 +18,11 @@ climbed s t cs =
     climb s (keys_of t.pages) 0 (worked_leaves s (net_run (contents t) cs) l.level) l.above
 
 -- those that are left once the root has shrunk
+abbrev pub shrunk : Climbed (List ℕ) → Levels
+shrunk c = record { level = c.tower.level; above = kept c.tower.above }
+
 abbrev pub planned_levels : {A : Type 0} → Settings → Tree → List (Command A) → Levels
-planned_levels s t cs =
-    let c : Climbed (List ℕ) = climbed s t cs in
-    record { level = c.tower.level; above = kept c.tower.above }
+planned_levels s t cs = shrunk (climbed s t cs)
 
 -- the pids of the levels that went with the old root
 abbrev pub shrunk_pids : List (List (Placed ℕ)) → List ℕ
@@ -41,7 +42,7 @@ outdate_all gone ls = map (λ l. (l.0, if is_among l.0 gone then outdate l.1 els
 abbrev pub planned_tree : {A : Type 0} → Settings → Tree → List (Command A) → Tree
 planned_tree s t cs =
     let c : Climbed (List ℕ) = climbed s t cs in
-    let l : Levels = planned_levels s t cs in
+    let l : Levels = shrunk c in
     record {
       pages = by_pid (all_pages l);
       root = top_pid l.level l.above;

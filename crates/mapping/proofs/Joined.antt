@@ -1,59 +1,27 @@
 -- The entries of pages that tile keys, joined, and the places of the children that they name.
 use Rattle.std.specs.Prelude.{◌≡◌, ℕ, ◌≤◌, true, ⊤, List, [], ◌∷◌, ◌++◌, map, flat_map, length, Option, Some, None}
 use Rattle.std.proofs.Common.{refl, sym, ap, ◌∙◌, arith, subst}
-use Rattle.std.specs.declared.cmp.Ordering.{Ordering}
-use Rattle.std.specs.declared.cmp.Ordering.TheVariants.{Less, Equal, Greater}
-use Rattle.std.specs.Ordering.{is_lt}
 use Rattle.std.specs.List.{AllByRecursion}
 use Rattle.std.specs.List.Sorted.{IsStrictlySortedBy}
 use Rattle.std.specs.Map.{keys_of, values_of}
 use Rattle.keys.specs.Order.{order, IsRising}
-use Rattle.keys.specs.MapLaws.{all_keys-with_pair, all_keys-without}
-use Rattle.delta_chain.specs.Layers.{with_change, with_run, entries_under}
 use Rattle.delta_chain.specs.LayerLaws.{rising-entries_of}
 use Rattle.index_page.specs.Page as page
 use Rattle.index_page.specs.Page.{Page, PageOfKind, first_key, as_changes, said_under, named}
 use Rattle.index_page.specs.Page.PageOfKind.{Leaf, Index}
 use Rattle.index_page.specs.Range.{is_below, AreBefore, IsBefore}
 use Rattle.index_page.specs.Rules.{IsHeaded}
+use Rattle.index_page.specs.RangeLaws.{below_is_less}
+use Rattle.index_page.specs.PageLaws.{all_keys_entries}
 use Rattle.mapping.specs.Levels.{Placed, entries, joined, name, names}
-use Rattle.mapping.specs.Finding.{Place, children, below, below_page}
+use Rattle.mapping.specs.Finding.{Place, children, children_at, children_of_page}
 use Rattle.mapping.specs.Proper.{next_low, Tiled, HasIndexPages}
-
--- what entries of index pages say: low keys, with the pids of children
-abbrev pub Names : Type 0
-Names = List (List ℕ × ℕ)
-
--- ---- what a page says of keys
-
-all_apart_keys : {X : Type 0} → (P : List ℕ → Type 0) (xs ys : List (List ℕ × X)) → AllByRecursion P (keys_of (xs ++ ys)) → AllByRecursion P (keys_of xs) × AllByRecursion P (keys_of ys)
-all_apart_keys P [] ys a = (tt, a)
-all_apart_keys P (x ∷ xs) ys a = let rest = all_apart_keys P xs ys a.1 in ((a.0, rest.0), rest.1)
-
-module _ {X : Type 0} (P : List ℕ → Type 0) where
-  all_base : (base : List (List ℕ × X)) → AllByRecursion P (keys_of (as_changes base)) → AllByRecursion P (keys_of base)
-  all_base [] a = tt
-  all_base (e ∷ es) a = (a.0, all_base es a.1)
-
-  all_change : (es : List (List ℕ × X)) (k : List ℕ) (cell : Option X) → P k → AllByRecursion P (keys_of es) → AllByRecursion P (keys_of (with_change es k cell))
-  all_change es k None p a = all_keys-without P es k a
-  all_change es k (Some v) p a = all_keys-with_pair P es k v p a
-
-  all_run : (es : List (List ℕ × X)) (run : List (List ℕ × Option X)) → AllByRecursion P (keys_of run) → AllByRecursion P (keys_of es) → AllByRecursion P (keys_of (with_run es run))
-  all_run es [] r a = a
-  all_run es (c ∷ cs) r a = all_run (with_change es c.0 c.1) cs r.1 (all_change es c.0 c.1 r.0 a)
-
-  -- what holds of all keys that runs over a base name holds of all keys of the entries
-  all_under : (runs : List (List (List ℕ × Option X))) (base : List (List ℕ × X)) → AllByRecursion P (keys_of (said_under runs base)) → AllByRecursion P (keys_of (entries_under runs base))
-  all_under [] base a = all_base base a
-  all_under (run ∷ runs) base a =
-      let apart = all_apart_keys P run (said_under runs base) a in
-      all_run (entries_under runs base) run apart.0 (all_under runs base apart.1)
+use Rattle.mapping.specs.TileLaws.{Names}
 
 -- if the keys that a page names are below an end, so are its entries' keys
 entries_before : {X : Type 0} → (end : Option (List ℕ)) (p : Page X) → AreBefore end (named p) → AreBefore end (keys_of (page.entries p))
 entries_before None p a = tt
-entries_before (Some end) p a = all_under (λ k. is_below k end ≡ true) p.layers.runs p.layers.base a
+entries_before (Some end) p a = all_keys_entries (λ k. is_below k end ≡ true) p a
 
 -- ---- pairs whose keys rise up to an end
 
@@ -67,15 +35,10 @@ abbrev pub AreSpaced : {X : Type 0} → List (List ℕ × X) → Option (List �
 AreSpaced [] end = ⊤
 AreSpaced (e ∷ es) end = IsBefore (next_key es end) e.0 × AreSpaced es end
 
-less_by : (o : Ordering) → is_lt o ≡ true → o ≡ Less
-less_by Less h = refl
-less_by Equal h = absurd (cc)
-less_by Greater h = absurd (cc)
-
 module _ {X : Type 0} where
   last_before : (end : Option (List ℕ)) (e : List ℕ × X) → AreBefore end (keys_of (e ∷ [])) → IsBefore end e.0
   last_before None e a = tt
-  last_before (Some end) e a = less_by (order e.0 end) a.0
+  last_before (Some end) e a = below_is_less e.0 end a.0
 
   rest_before : (end : Option (List ℕ)) (e : List ℕ × X) (es : List (List ℕ × X)) → AreBefore end (keys_of (e ∷ es)) → AreBefore end (keys_of es)
   rest_before None e es a = tt
@@ -145,11 +108,11 @@ pids-children (e ∷ d ∷ es) end = ap (λ (x : List ℕ). e.1 ∷ x) (pids-chi
 
 -- below the places of some pages lie the places that their entries, joined, name
 pub places_below : (ps : List (ℕ × PageOfKind)) (here : List (Placed ℕ)) (end : Option (List ℕ)) → HasIndexPages ps here → AreHeaded 1 here
-    → flat_map (below ps) (children (names here) end) ≡ children (joined here) end
+    → flat_map (children_at ps) (children (names here) end) ≡ children (joined here) end
 places_below ps [] end h d = refl
 places_below ps (p ∷ rest) end h d =
-    ap (λ (x : List Place). flat_map (below ps) x) (children-cons (name p) (names rest) end)
-    ∙ ap (λ (x : Option PageOfKind). below_page (next_key (names rest) end) x ++ flat_map (below ps) (children (names rest) end)) h.0
+    ap (λ (x : List Place). flat_map (children_at ps) x) (children-cons (name p) (names rest) end)
+    ∙ ap (λ (x : Option PageOfKind). children_of_page (next_key (names rest) end) x ++ flat_map (children_at ps) (children (names rest) end)) h.0
     ∙ ap (λ (x : List Place). children (entries p) (next_key (names rest) end) ++ x) (places_below ps rest end h.1 d.1)
     ∙ ap (λ (x : Option (List ℕ)). children (entries p) x ++ children (joined rest) end) (next_names rest end ∙ sym (next_joined rest end d.1))
     ∙ sym (children-append (entries p) (joined rest) end)

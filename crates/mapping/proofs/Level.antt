@@ -13,8 +13,10 @@ use Rattle.mapping.specs.Levels.{Placed, as_leaf, as_index, names, pids}
 use Rattle.mapping.specs.FreshPids.{is_among}
 use Rattle.mapping.specs.Finding.{Finding, Place, children, common_rules, child_rule, pid_rule, first_broken, broken_leaf, broken_index, or_else, found_at, on_level}
 use Rattle.mapping.specs.Proper.{next_low, Tiled, Distinct}
-use Rattle.mapping.proofs.MetPids.{not_among, all_last, distinct_ahead}
-use Rattle.mapping.proofs.Joined.{Names, next_key, AreSpaced, next_names, place_of, children-cons}
+use Rattle.mapping.proofs.MetPids.{not_among, distinct_ahead}
+use Rattle.index_page.specs.ListLaws.{all_apart}
+use Rattle.mapping.specs.TileLaws.{Names}
+use Rattle.mapping.proofs.Joined.{next_key, AreSpaced, next_names, place_of, children-cons}
 
 -- ---- one page
 
@@ -148,7 +150,7 @@ module _ {V : Type 0} (Has : Placed V → Type 0) (Good : Page V → Type 0) (lo
       let end_is : next_low here end ≡ next_key es end = sym (next_names here end) ∙ ap (λ (x : Names). next_key x end) names_rest in
       let keys : KeepsRange e.0 (next_key es end) (look e.1) =
       subst (λ (x : Option (List ℕ)). KeepsRange e.0 x (look e.1)) end_is (subst (λ (k : List ℕ). KeepsRange k (next_low here end) (look e.1)) low_is (l.tiled.0).keys) in
-      let new : is_among e.1 met ≡ false = (not_among e.1 met).1 (all_last (λ m. m ≢ e.1) (pids here) met l.distinct.0) in
+      let new : is_among e.1 met ≡ false = (not_among e.1 met).1 (all_apart (λ m. m ≢ e.1) (pids here) met l.distinct.0).1 in
       let rest = none_of_level es end (e.1 ∷ met) names_rest (record { has = l.has.1; tiled = l.tiled.1; good = l.good.1; distinct = (distinct_ahead (pids here) e.1 met).1 l.distinct }) in
       ap (λ (x : List Place). on_level broken met x) (children-cons e es end)
       ∙ (found_by at (broken met at) (on_level broken (e.1 ∷ met) (children es end))).1

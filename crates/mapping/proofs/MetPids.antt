@@ -30,10 +30,6 @@ module _ (P : ℕ → Type 0) where
       let rest = all_ahead xs n ys in
       (λ a. let r = rest.0 a.1 in (r.0, (a.0, r.1)), λ a. ((a.1).0, rest.1 (a.0, (a.1).1)))
 
-  pub all_last : (xs ys : List ℕ) → AllByRecursion P (xs ++ ys) → AllByRecursion P ys
-  all_last [] ys a = a
-  all_last (x ∷ xs) ys a = all_last xs ys a.1
-
 -- whether numbers stand once each stays the same when one of them is put in front
 pub distinct_ahead : (xs : List ℕ) (n : ℕ) (ys : List ℕ) → Distinct (xs ++ n ∷ ys) ↔ Distinct (n ∷ (xs ++ ys))
 distinct_ahead [] n ys = (λ d. d, λ d. d)

@@ -14,7 +14,8 @@ use Rattle.mapping.specs.Levels.{Placed, Levels, joined, name, names, pids, all_
 use Rattle.mapping.specs.FreshPids.{is_among}
 use Rattle.mapping.specs.Proper.{next_low, IsParentOf, Stacked, IsBranchedTop, Distinct, HasIndexPages, IsTree, IsProper}
 use Rattle.mapping.proofs.MetPids.{distinct_last}
-use Rattle.mapping.proofs.Joined.{Names, next_key, AreHeaded, next_joined, next_names}
+use Rattle.mapping.specs.TileLaws.{Names}
+use Rattle.mapping.proofs.Joined.{next_key, AreHeaded, next_joined, next_names}
 use Rattle.mapping.proofs.Level.{IsLevel, IsGoodLeaf, IsGoodIndex}
 
 -- the entries are those of the level above, and one where there is no level above

@@ -9,9 +9,10 @@ use Rattle.index_page.specs.Page.{Page, PageOfKind}
 use Rattle.mapping.specs.Tree.{Tree, page_at}
 use Rattle.mapping.specs.Levels.{Placed, joined, names, pids, leaf_at, index_at, as_leaf, as_index, levels_below}
 use Rattle.mapping.specs.FreshPids.{is_among}
-use Rattle.mapping.specs.Finding.{Finding, Place, children, broken_leaf, broken_index, or_else, on_level, unmet, below, all_met, finding_below, finding}
+use Rattle.mapping.specs.Finding.{Finding, Place, children, broken_leaf, broken_index, or_else, on_level, unmet, children_at, all_met, finding_below, finding}
 use Rattle.mapping.specs.Proper.{next_low, Distinct, IsTree, IsProper}
-use Rattle.mapping.proofs.Joined.{Names, next_key, AreSpaced, AreHeaded, next_joined, next_names, spaced_joined, pids-children, places_below}
+use Rattle.mapping.specs.TileLaws.{Names}
+use Rattle.mapping.proofs.Joined.{next_key, AreSpaced, AreHeaded, next_joined, next_names, spaced_joined, pids-children, places_below}
 use Rattle.mapping.proofs.Level.{IsTestOf, IsGoodLeaf, IsGoodIndex, leaf_at_place, index_at_place, level_of_none, none_of_level, placed}
 use Rattle.mapping.proofs.Parts.{AreNamed, least_under, IsLevelUnder, HasLeaf, HasIndex, AreAbove, AreParts, headed_under, parts_of_proper, proper_of_parts}
 
@@ -90,15 +91,15 @@ module _ (s : Settings) (ps : List (ℕ × PageOfKind)) where
 
   -- what a walk finds below a level of index pages, said of that level's pages
   abbrev later : ℕ → Names → List ℕ → Option Finding
-  later n ns met = finding_below s ps n 1 (all_met met (children ns None)) (flat_map (below ps) (children ns None))
+  later n ns met = finding_below s ps n 1 (all_met met (children ns None)) (flat_map (children_at ps) (children ns None))
 
   found_later : (n : ℕ) (ns : Names) (met : List ℕ) → names (indexes_at ns) ≡ ns → AllByRecursion (HasIndex ps) (indexes_at ns) → AreHeaded 1 (indexes_at ns)
       → later n ns met ≡ finding_below s ps n 1 (pids (indexes_at ns) ++ met) (children (joined (indexes_at ns)) None)
   found_later n ns met e h d =
       let here : List (Placed ℕ) = indexes_at ns in
-      let places : flat_map (below ps) (children ns None) ≡ children (joined here) None =
-      ap (λ (x : Names). flat_map (below ps) (children x None)) (sym e) ∙ places_below ps here None h d in
-      ap (λ (x : List ℕ). finding_below s ps n 1 x (flat_map (below ps) (children ns None))) (met_after index_under ns met)
+      let places : flat_map (children_at ps) (children ns None) ≡ children (joined here) None =
+      ap (λ (x : Names). flat_map (children_at ps) (children x None)) (sym e) ∙ places_below ps here None h d in
+      ap (λ (x : List ℕ). finding_below s ps n 1 x (flat_map (children_at ps) (children ns None))) (met_after index_under ns met)
       ∙ ap (λ (x : List Place). finding_below s ps n 1 (pids here ++ met) x) places
 
   -- ---- down the levels

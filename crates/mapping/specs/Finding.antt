@@ -75,12 +75,12 @@ unmet met [] = None
 unmet met (p ∷ ps) = if is_among p.0 met then unmet met ps else Some (record { rule = 10; pid = p.0 })
 
 -- the places of a page's children
-abbrev pub below_page : Option (List ℕ) → Option PageOfKind → List Place
-below_page end (Some (Index p)) = children (entries p) end
-below_page end _ = []
+abbrev pub children_of_page : Option (List ℕ) → Option PageOfKind → List Place
+children_of_page end (Some (Index p)) = children (entries p) end
+children_of_page end _ = []
 
-abbrev pub below : List (ℕ × PageOfKind) → Place → List Place
-below ps at = below_page at.end (page_at ps at.pid)
+abbrev pub children_at : List (ℕ × PageOfKind) → Place → List Place
+children_at ps at = children_of_page at.end (page_at ps at.pid)
 
 abbrev pub all_met : List ℕ → List Place → List ℕ
 all_met met ats = map (λ at. at.pid) ats ++ met
@@ -91,7 +91,7 @@ finding_below s ps zero least met ats =
     or_else (on_level (λ m at. broken_leaf s m at (page_at ps at.pid)) met ats) (unmet (all_met met ats) ps)
 finding_below s ps (suc n) least met ats =
     or_else (on_level (λ m at. broken_index s least m at (page_at ps at.pid)) met ats)
-    (finding_below s ps n 1 (all_met met ats) (flat_map (below ps) ats))
+    (finding_below s ps n 1 (all_met met ats) (flat_map (children_at ps) ats))
 
 -- the place of the root: all keys
 abbrev pub root_place : Tree → Place

@@ -1,13 +1,13 @@
 -- Lemmas on the levels of a tree, for the proofs of this crate and of those above it.
-use Rattle.std.specs.Prelude.{◌≡◌, ℕ, zero, suc, ◌+◌, List, [], ◌∷◌, ◌++◌, map, length, Option}
+use Rattle.std.specs.Prelude.{◌≡◌, ℕ, zero, suc, pred, ◌+◌, List, [], ◌∷◌, ◌++◌, map, length, Option}
 use Rattle.std.proofs.Common.{refl, sym, ap, ◌∙◌, arith}
 use Rattle.std.specs.List.{AllByRecursion}
 use Rattle.std.specs.Map.{values_of}
 use Rattle.std.proofs.lemmas.List.{map-append}
 use Rattle.index_page.specs.Page.{Page, PageOfKind}
-use Rattle.mapping.specs.Tree.{page_at}
-use Rattle.mapping.specs.Levels.{Placed, Levels, joined, names, pids, as_leaf, as_index, leaf_at, index_at, levels_below, first_pid, top_pid}
-use Rattle.mapping.specs.Proper.{Stacked, HasLeaves, HasIndexPages}
+use Rattle.mapping.specs.Tree.{Tree, page_at}
+use Rattle.mapping.specs.Levels.{Placed, Levels, joined, names, pids, as_leaf, as_index, leaf_at, index_at, levels_below, levels_of, first_pid, top_pid}
+use Rattle.mapping.specs.Proper.{Stacked, HasLeaves, HasIndexPages, HoldsLevels}
 use Rattle.mapping.specs.TileLaws.{Names}
 
 module _ {V : Type 0} where
@@ -73,3 +73,10 @@ levels_found t level ups h k o =
     ap (λ (m : ℕ). levels_below t m (top_pid level ups ∷ []) []) n
     ∙ comes_to t 0 level ups k o
     ∙ ap (λ (ps : List (Placed (List ℕ))). (let l : Levels = record { level = ps; above = ups } in l)) (leaves_found t level h)
+
+-- the same of a tree with this root and height
+pub levels_of_tree : (t : Tree) (l : Levels) → HoldsLevels t.pages l → Stacked l.level l.above → t.root ≡ top_pid l.level l.above → t.height ≡ suc (length l.above) → levels_of t ≡ l
+levels_of_tree t l h o r n =
+    ap (λ (m : ℕ). levels_below t.pages (pred m) (t.root ∷ []) []) n
+    ∙ ap (λ (pid : ℕ). levels_below t.pages (length l.above) (pid ∷ []) []) r
+    ∙ levels_found t.pages l.level l.above h.leaves h.above o

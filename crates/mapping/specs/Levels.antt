@@ -88,11 +88,12 @@ abbrev pub by_pid : List (ℕ × PageOfKind) → List (ℕ × PageOfKind)
 by_pid [] = []
 by_pid (p ∷ ps) = insert_entry nat_cmp (by_pid ps) p.0 p.1
 
--- the pid of the first page of the highest level
+-- the pid of the first page, 0 where there is none
 abbrev pub first_pid : {V : Type 0} → List (Placed V) → ℕ
 first_pid [] = 0
 first_pid (p ∷ ps) = p.pid
 
+-- the pid of the first page of the highest level: the root's
 abbrev pub top_pid : {V : Type 0} → List (Placed V) → List (List (Placed ℕ)) → ℕ
 top_pid level [] = first_pid level
 top_pid level (up ∷ ups) = top_pid up ups

@@ -2,7 +2,7 @@
 use Rattle.std.specs.Prelude.{◌≡◌, ◌≢◌, ℕ, zero, suc, ◌+◌, ◌<◌, ◌≤◌, ◌⊎◌, Bool, true, false, cond, ◌||◌, nat_le, nat_eq, List, [], ◌∷◌, ◌++◌}
 use Rattle.std.proofs.Common.{refl, sym, ap, ◌∙◌, arith, leb-true, leb-false, inl, inr}
 use Rattle.std.specs.List.{AllByRecursion}
-use Rattle.std.proofs.lemmas.Bool.{eqb-true, eqb-false}
+use Rattle.std.proofs.lemmas.Bool.{cases_lt, eqb-true, eqb-false}
 use Rattle.mapping.specs.FreshPids.{is_among, unused}
 use Rattle.mapping.specs.Proper.{AreRisingPids}
 
@@ -87,3 +87,71 @@ later_never u us (n ∷ ns) h = (λ m e. h.0 (cond (nat_le u m) (suc m) m) e, la
 pub used_is_never_unused : (used : List ℕ) → AreRisingPids used → AllByRecursion (IsNeverUnused used) used
 used_is_never_unused [] r = tt
 used_is_never_unused (u ∷ us) r = (λ m e. first_is_used (nat_le u m) u us m refl r.0 e, later_never u us us (used_is_never_unused us r.1))
+
+-- ---- free numbers
+
+or_false : (a b : Bool) → a ≡ false → b ≡ false → (a || b) ≡ false
+or_false true b h k = absurd (cc)
+or_false false b h k = k
+
+differ_by : (b : Bool) (m n : ℕ) → nat_eq m n ≡ b → m ≢ n → b ≡ false
+differ_by true m n e h = absurd (h (eqb-true m n e))
+differ_by false m n e h = refl
+
+not_among_those : (n : ℕ) (used ns : List ℕ) (at : ℕ) → n ≡ unused used at → AllByRecursion (IsNeverUnused used) ns → is_among n ns ≡ false
+not_among_those n used [] at e h = refl
+not_among_those n used (m ∷ ms) at e h =
+    or_false (nat_eq n m) (is_among n ms) (differ_by (nat_eq n m) n m refl (λ s. h.0 at (sym s ∙ e))) (not_among_those n used ms at e h.1)
+
+-- an unused number isn't among the used ones
+pub unused-is_free : (used : List ℕ) (n : ℕ) → AreRisingPids used → is_among (unused used n) used ≡ false
+unused-is_free used n r = not_among_those (unused used n) used used n refl (used_is_never_unused used r)
+
+either_false : (a b : Bool) → (a || b) ≡ false → (a ≡ false) × (b ≡ false)
+either_false true b h = absurd (cc)
+either_false false b h = (refl, h)
+
+apart_le : (u n : ℕ) → u ≤ n → u ≢ n → u < n
+apart_le u n l d = le_by (cases_lt u n)
+  where
+    le_by : (u < n) ⊎ (n ≤ u) → u < n
+    le_by (inl k) = k
+    le_by (inr k) = absurd (d (omega arith))
+
+-- the place before the first used number is counted, of a place behind it
+step_back : (u at n : ℕ) → ((b : Bool) → nat_le u n ≡ b → at < cond b (suc n) n) → u ≢ at → (m : ℕ) × (m < n) × (cond (nat_le u m) (suc m) m ≡ at)
+step_back u at n h d = back_by (cases_lt at u) (nat_le u n) refl
+  where
+    below_first : (c : Bool) → nat_le u at ≡ c → at < u → cond c (suc at) at ≡ at
+    below_first true e l = absurd (omega (arith, leb-true))
+    below_first false e l = refl
+    behind_first : (m : ℕ) (c : Bool) → nat_le u m ≡ c → u ≤ m → cond c (suc m) m ≡ suc m
+    behind_first m true e l = refl
+    behind_first m false e l = absurd (let x = leb-false u m e in omega arith)
+    small : (b : Bool) → nat_le u n ≡ b → at < cond b (suc n) n → at < u → at < n
+    small true e l k = let x = leb-true u n e in omega arith
+    small false e l k = l
+    less : (m : ℕ) (b : Bool) → nat_le u n ≡ b → suc m < cond b (suc n) n → u ≤ m → m < n
+    less m true e l k = omega arith
+    less m false e l k = omega arith
+    at_later : (k : ℕ) → k ≡ at → u < k → (b : Bool) → nat_le u n ≡ b → at < cond b (suc n) n → (m : ℕ) × (m < n) × (cond (nat_le u m) (suc m) m ≡ at)
+    at_later zero e l b f x = absurd (omega arith)
+    at_later (suc m) e l b f x =
+        (m, less m b f (rw e x) (omega arith), behind_first m (nat_le u m) refl (omega arith) ∙ e)
+    back_by : (at < u) ⊎ (u ≤ at) → (b : Bool) → nat_le u n ≡ b → (m : ℕ) × (m < n) × (cond (nat_le u m) (suc m) m ≡ at)
+    back_by (inl l) b e = (at, small b e (h b e) l, below_first (nat_le u at) refl l)
+    back_by (inr l) b e = at_later at refl (let x : u ≢ at = d in apart_le u at l x) b e (h b e)
+
+-- a number other than one below all used ones is at another place than that one
+own_place : (u : ℕ) (us : List ℕ) (k at : ℕ) → AllByRecursion (λ v. u < v) us → nat_eq k u ≡ false → k ≡ unused us at → u ≢ at
+own_place u us k at r d h e = eqb-false k u d (h ∙ ap (λ (x : ℕ). unused us x) (sym e) ∙ stays us u r)
+
+-- each free number below an unused one is unused at an earlier place
+pub unused-leaves_none : (used : List ℕ) (n k : ℕ) → AreRisingPids used → is_among k used ≡ false → k < unused used n → (m : ℕ) × (m < n) × (k ≡ unused used m)
+unused-leaves_none [] n k r f h = (k, h, refl)
+unused-leaves_none (u ∷ us) n k r f h =
+    let apart = either_false (nat_eq k u) (is_among k us) f in
+    let rest = unused-leaves_none us (cond (nat_le u n) (suc n) n) k r.1 apart.1 h in
+    let differ : u ≢ rest.0 = own_place u us k rest.0 r.0 apart.0 rest.2 in
+    let back = step_back u rest.0 n (λ b e. rw (sym e) rest.1) differ in
+    (back.0, back.1, rest.2 ∙ ap (λ (x : ℕ). unused us x) (sym back.2))

@@ -17,7 +17,7 @@ pub record Tree : Type 0 where
   pub height : ℕ
   pub logged : List (ℕ × Logged)
 
--- a tree; where its log begins and ends; the number of the last flush or clean
+-- a tree; the first segment of its log; the position behind the log's last frame; the number of the last flush or clean
 pub record Store : Type 0 where
   pub tree : Tree
   pub head : ℕ

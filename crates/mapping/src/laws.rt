@@ -1,11 +1,36 @@
 //! What the definitions of `specs/` mean. Each law is the contract of a function with an empty body.
-ghost use Rattle.std.specs.Prelude.{◌≡◌, ◌↔◌, None};
+ghost use Rattle.std.specs.Prelude.{◌≡◌, ◌↔◌, ◌<◌, ℕ, suc, false, List, None, length};
+ghost use Rattle.std.specs.Map.{keys_of};
+ghost use Rattle.keys.specs.Order.{IsRising};
 ghost use Rattle.keys.specs.declared.settings.Settings.{Settings};
 ghost use Rattle.mapping.specs.Tree.{Tree};
+ghost use Rattle.mapping.specs.Levels.{Levels, levels_of, contents, all_pages, by_pid, top_pid, all_pids};
+ghost use Rattle.mapping.specs.FreshPids.{is_among, unused};
 ghost use Rattle.mapping.specs.Finding.{finding};
-ghost use Rattle.mapping.specs.Proper.{IsTree, IsProper};
+ghost use Rattle.mapping.specs.Proper.{Stacked, Distinct, AreRisingPids, HoldsLevels, IsTree, IsProper};
 
 /// The walk from the root finds nothing exactly where the tree is proper.
 pub fn nothing_is_found_exactly_in_a_proper_tree()
     ensures { (s : Settings) (t : Tree) → IsTree t → ((finding s t ≡ None) ↔ IsProper s t) }
+{}
+
+/// What a proper tree holds is an ordered map.
+pub fn the_contents_of_a_proper_tree_rise()
+    ensures { (s : Settings) (t : Tree) → IsProper s t → IsRising (contents t) }
+{}
+
+/// A table that is made of levels with distinct pids has their pages and no other, its pids rise, and a walk from the
+/// root over a table that has levels finds these levels.
+pub fn levels_are_found_in_their_table()
+    ensures holds { (l : Levels) → Distinct (all_pids l.level l.above) → HoldsLevels (by_pid (all_pages l)) l }
+    ensures rising { (l : Levels) → AreRisingPids (keys_of (by_pid (all_pages l))) }
+    ensures found { (t : Tree) (l : Levels) → HoldsLevels t.pages l → Stacked l.level l.above → t.root ≡ top_pid l.level l.above → t.height ≡ suc (length l.above) →
+        levels_of t ≡ l }
+{}
+
+/// The numbers that are given to new pages are not in use, rise from place to place, and leave out none that is free.
+pub fn fresh_pids_are_the_least_unused_numbers()
+    ensures free { (used : List ℕ) (n : ℕ) → AreRisingPids used → is_among (unused used n) used ≡ false }
+    ensures rising { (used : List ℕ) (m n : ℕ) → m < n → unused used m < unused used n }
+    ensures least { (used : List ℕ) (n k : ℕ) → AreRisingPids used → is_among k used ≡ false → k < unused used n → (m : ℕ) × (m < n) × (k ≡ unused used m) }
 {}

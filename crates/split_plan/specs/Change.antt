@@ -9,10 +9,10 @@ use Rattle.split_plan.specs.Cut.{cut}
 use Rattle.split_plan.specs.Groups.{groups}
 use Rattle.split_plan.specs.Worked.{Worked, placed_of, is_thin, is_fat}
 
--- a group, and the pages that stand in its place
+-- a group, its members after their runs, and the pages that stand in its place
 pub record Change (V : Type 0) : Type 0 where
-  pub old : List (Worked V)
-  pub new : List (Placed V)
+  pub members : List (Worked V)
+  pub pages : List (Placed V)
 
 -- a page under a pid
 abbrev pub placed_bare : {V : Type 0} → ℕ → List ℕ → List (List ℕ × V) → Placed V
@@ -42,33 +42,33 @@ remade s used i (w ∷ ws) =
 
 -- the pages that are freed, and the new ones
 abbrev pub freed : {V : Type 0} → Change V → List (Placed V)
-freed c = drop 1 (placed_of c.old)
+freed c = drop 1 (placed_of c.members)
 
 abbrev pub fresh : {V : Type 0} → Change V → List (Placed V)
-fresh c = drop 1 c.new
+fresh c = drop 1 c.pages
 
--- what is made of groups, from left to right
+-- what is made of groups, from left to right; i fresh pids were given out before
 abbrev pub changes : {V : Type 0} → Settings → List ℕ → ℕ → List (List (Worked V)) → List (Change V)
 changes s used i [] = []
 changes s used i (g ∷ gs) =
-    let c : Change _ = record { old = g; new = remade s used i g } in
+    let c : Change _ = record { members = g; pages = remade s used i g } in
     c ∷ changes s used (i + length (fresh c)) gs
 
--- what is made of the children of one parent, family by family
-abbrev pub family_changes : {V : Type 0} → Settings → List ℕ → ℕ → List (List (Worked V)) → List (List (Change V))
-family_changes s used i [] = []
-family_changes s used i (f ∷ fs) =
-    let cs : List (Change _) = changes s used i (groups is_thin f) in
-    cs ∷ family_changes s used (i + length (flat_map fresh cs)) fs
-
--- of one family: the pages that stand there now, and the new ones among them
+-- of the groups of one parent: the pages that stand there now, and the new ones among them
 abbrev pub new_of : {V : Type 0} → List (Change V) → List (Placed V)
-new_of cs = flat_map (λ c. c.new) cs
+new_of cs = flat_map (λ c. c.pages) cs
 
 abbrev pub fresh_of : {V : Type 0} → List (Change V) → List (Placed V)
 fresh_of cs = flat_map fresh cs
 
--- of all families of a level
+-- what is made of the children of each parent, from left to right; i fresh pids were given out before
+abbrev pub family_changes : {V : Type 0} → Settings → List ℕ → ℕ → List (List (Worked V)) → List (List (Change V))
+family_changes s used i [] = []
+family_changes s used i (f ∷ fs) =
+    let cs : List (Change _) = changes s used i (groups is_thin f) in
+    cs ∷ family_changes s used (i + length (fresh_of cs)) fs
+
+-- of all parents of a level
 abbrev pub all_new : {V : Type 0} → List (List (Change V)) → List (Placed V)
 all_new css = flat_map new_of css
 
@@ -77,7 +77,7 @@ all_fresh css = flat_map fresh_of css
 
 -- the pids whose page is no longer what the log may have of it: replaced, rewritten or freed
 abbrev pub outdated : {V : Type 0} → Change V → List ℕ
-outdated c = map (λ w. w.placed.pid) (filter (λ w. w.replaced || is_rewritten c.old) c.old)
+outdated c = map (λ w. w.placed.pid) (filter (λ w. w.replaced || is_rewritten c.members) c.members)
 
 abbrev pub all_outdated : {V : Type 0} → List (List (Change V)) → List ℕ
 all_outdated css = flat_map (λ cs. flat_map outdated cs) css

@@ -1,6 +1,6 @@
 -- Lemmas on what is made of groups of pages, for the proofs of this crate and of those above it.
-use Rattle.std.specs.Prelude.{◌≡◌, ℕ, suc, ◌+◌, ◌<◌, Bool, true, false, cond, List, [], ◌∷◌, ◌++◌, flat_map, drop, length, Option, Some, None}
-use Rattle.std.proofs.Common.{refl, sym, ap, ◌∙◌, subst, arith}
+use Rattle.std.specs.Prelude.{◌≡◌, ℕ, suc, ◌+◌, ◌<◌, ◌⊎◌, ◌↔◌, Bool, true, false, cond, List, [], ◌∷◌, ◌++◌, flat_map, drop, length, Option, Some, None}
+use Rattle.std.proofs.Common.{refl, sym, ap, ◌∙◌, subst, arith, inl, inr}
 use Rattle.std.specs.List.{AllByRecursion}
 use Rattle.std.specs.Map.{keys_of}
 use Rattle.std.proofs.lemmas.List.{map-append, length-map}
@@ -16,14 +16,21 @@ use Rattle.index_page.specs.PageLaws.{all_keys-as_changes}
 use Rattle.mapping.specs.Levels.{Placed, entries, joined, name, names}
 use Rattle.mapping.specs.Proper.{next_low, IsTile, Tiled}
 use Rattle.mapping.specs.TileLaws.{next_low-append, tiled_apart, tiled-append, next_low-named, rising-joined, from-joined, before-joined, low_is_before}
-use Rattle.split_plan.specs.Cut.{cut}
-use Rattle.split_plan.specs.CutLaws.{AllFull, cut-joined, cut_full, cut_some, cut_nothing}
+use Rattle.split_plan.specs.Cut.{cut, AllFull}
+use Rattle.split_plan.specs.CutLaws.{cut-joined, cut_full, cut_some, cut_nothing}
 use Rattle.split_plan.specs.Groups.{groups}
 use Rattle.split_plan.specs.GroupLaws.{groups-joined}
 use Rattle.split_plan.specs.Worked.{Worked, placed_of, is_thin, is_fat}
 use Rattle.split_plan.specs.Change.{Change, placed_bare, fresh_pages, replacements, is_rewritten, remade, fresh, changes, family_changes, new_of, fresh_of, all_new, all_fresh}
 
 module _ {V : Type 0} where
+  -- ---- which groups are rewritten
+
+  pub rewritten_for_its_members : (g : List (Worked V)) → (is_rewritten g ≡ true) ↔ ((1 < length g) ⊎ ((w : Worked V) × (g ≡ w ∷ []) × (is_fat w ≡ true)))
+  rewritten_for_its_members [] = (λ h. absurd (cc), λ r. elim r [ inl l ↦ absurd (omega arith) | inr one ↦ (let e = one.1 in absurd (cc)) ])
+  rewritten_for_its_members (w ∷ []) = (λ h. inr (w, refl, h), λ r. elim r [ inl l ↦ absurd (omega arith) | inr one ↦ (let e : w ≡ one.0 = (let f : w ∷ [] ≡ one.0 ∷ [] = one.1 in cc) in rw e one.2) ])
+  rewritten_for_its_members (w ∷ v ∷ ws) = (λ h. inl (omega arith), λ r. refl)
+
   -- ---- lists of pages after their runs
 
   pub placed_of-append : (g h : List (Worked V)) → placed_of (g ++ h) ≡ placed_of g ++ placed_of h
@@ -68,6 +75,9 @@ module _ {V : Type 0} where
       ∙ ap (λ (es : List (List ℕ × V)). joined (placed_of g) ++ es) (joined-changes s used (i + length (drop 1 (remade s used i g))) gs)
       ∙ sym (joined-placed_of g (flat gs))
 
+  pub joined-groups : (s : Settings) (used : List ℕ) (i : ℕ) (f : List (Worked V)) → joined (new_of (changes s used i (groups is_thin f))) ≡ joined (placed_of f)
+  joined-groups s used i f = joined-changes s used i (groups is_thin f) ∙ ap (λ (ws : List (Worked V)). joined (placed_of ws)) (groups-joined is_thin f)
+
   -- and so have those that are made of families
   pub joined-family_changes : (s : Settings) (used : List ℕ) (i : ℕ) (fs : List (List (Worked V))) → joined (all_new (family_changes s used i fs)) ≡ joined (placed_of (flat fs))
   joined-family_changes s used i [] = refl
@@ -75,7 +85,7 @@ module _ {V : Type 0} where
       let cs : List (Change V) = changes s used i (groups is_thin f) in
       let later : List (Placed V) = all_new (family_changes s used (i + length (fresh_of cs)) fs) in
       flat_map-append entries (new_of cs) later
-      ∙ ap (λ (es : List (List ℕ × V)). es ++ joined later) (joined-changes s used i (groups is_thin f) ∙ ap (λ (ws : List (Worked V)). joined (placed_of ws)) (groups-joined is_thin f))
+      ∙ ap (λ (es : List (List ℕ × V)). es ++ joined later) (joined-groups s used i f)
       ∙ ap (λ (es : List (List ℕ × V)). joined (placed_of f) ++ es) (joined-family_changes s used (i + length (fresh_of cs)) fs)
       ∙ sym (joined-placed_of f (flat fs))
 
@@ -107,6 +117,9 @@ module _ {V : Type 0} where
       ∙ sym (next_low-append (placed_of g) (placed_of (flat gs)) end)
       ∙ ap (λ (ps : List (Placed V)). next_low ps end) (sym (placed_of-append g (flat gs)))
 
+  pub next_low-groups : (s : Settings) (used : List ℕ) (i : ℕ) (f : List (Worked V)) (end : Option (List ℕ)) → next_low (new_of (changes s used i (groups is_thin f))) end ≡ next_low (placed_of f) end
+  next_low-groups s used i f end = next_low-changes s used i (groups is_thin f) end ∙ ap (λ (ws : List (Worked V)). next_low (placed_of ws) end) (groups-joined is_thin f)
+
   pub next_low-family_changes : (s : Settings) (used : List ℕ) (i : ℕ) (fs : List (List (Worked V))) (end : Option (List ℕ)) → next_low (all_new (family_changes s used i fs)) end ≡ next_low (placed_of (flat fs)) end
   next_low-family_changes s used i [] end = refl
   next_low-family_changes s used i (f ∷ fs) end =
@@ -115,8 +128,7 @@ module _ {V : Type 0} where
       let j : ℕ = i + length (fresh_of cs) in
       next_low-append (new_of cs) (all_new (family_changes s used j fs)) end
       ∙ ap (λ (e : Option (List ℕ)). next_low (new_of cs) e) (next_low-family_changes s used j fs end)
-      ∙ next_low-changes s used i gs (next_low (placed_of (flat fs)) end)
-      ∙ ap (λ (ws : List (Worked V)). next_low (placed_of ws) (next_low (placed_of (flat fs)) end)) (groups-joined is_thin f)
+      ∙ next_low-groups s used i f (next_low (placed_of (flat fs)) end)
       ∙ sym (next_low-append (placed_of f) (placed_of (flat fs)) end)
       ∙ ap (λ (ps : List (Placed V)). next_low ps end) (sym (placed_of-append f (flat fs)))
 

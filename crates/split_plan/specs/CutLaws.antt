@@ -4,7 +4,7 @@ use Rattle.std.proofs.Common.{refl, sym, ap, ◌∙◌, arith, length-drop, leng
 use Rattle.std.proofs.Math.Nat.{div-le_of_le-mul, mul-le-mul_right}
 use Rattle.std.specs.List.{AllByRecursion}
 use Rattle.index_page.specs.ListLaws.{flat}
-use Rattle.split_plan.specs.Cut.{pieces, piece_count, cut}
+use Rattle.split_plan.specs.Cut.{pieces, piece_count, cut, AllFull, AllAtMost, AllAtLeast}
 
 -- ---- where pieces begin and end
 
@@ -112,16 +112,6 @@ half_fills fan n h k =
     rw p (half_by (fan / 2) fan q n twice a k)
 
 -- ---- the pieces
-
--- each piece has an entry; at most, and at least, so many
-abbrev pub AllFull : {X : Type 0} → List (List X) → Type 0
-AllFull bs = AllByRecursion (λ b. 0 < length b) bs
-
-abbrev pub AllAtMost : {X : Type 0} → ℕ → List (List X) → Type 0
-AllAtMost most bs = AllByRecursion (λ b. length b ≤ most) bs
-
-abbrev pub AllAtLeast : {X : Type 0} → ℕ → List (List X) → Type 0
-AllAtLeast least bs = AllByRecursion (λ b. least ≤ length b) bs
 
 module _ {X : Type 0} where
   next_slice : (es : List X) (a b : ℕ) → a ≤ b → slice_range es a b ++ drop b es ≡ drop a es

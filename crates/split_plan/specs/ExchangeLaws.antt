@@ -16,7 +16,7 @@ use Rattle.index_page.specs.ListLaws.{all_keys-append, all_keys_apart}
 use Rattle.index_page.specs.RangeLaws.{rising_rest, rising_right}
 use Rattle.index_page.specs.PageLaws.{all_keys-with_run}
 use Rattle.mapping.specs.TileLaws.{Names}
-use Rattle.split_plan.specs.Terms.{absent, present}
+use Rattle.split_plan.specs.Terms.{absent, present, term_at}
 
 -- a group as its parent sees it: the name that stays, those that go, and those that come
 pub record Exchange : Type 0 where
@@ -144,7 +144,7 @@ after_at q (x ∷ xs) r s =
 
 -- ---- the terms
 
-said_as_exchanged : (come went old : Option ℕ) → said_or (said_or (option_map (λ v. Some (Some v)) come) (option_map (λ v. None) went)) old ≡ exchanged come went old
+said_as_exchanged : (come went old : Option ℕ) → said_or (term_at come went) old ≡ exchanged come went old
 said_as_exchanged (Some v) went old = refl
 said_as_exchanged None (Some v) old = refl
 said_as_exchanged None None old = refl
@@ -167,6 +167,18 @@ all_keys-with_present P gone come a b =
 same_said : {a b : Option (Option (Option ℕ))} {c d : Option (Option ℕ)} → a ≡ b → c ≡ d → said_or a c ≡ said_or b d
 same_said e f = cc
 
+term_by : (come went : Option ℕ) → said_or (option_map (λ v. Some (Some v)) come) (option_map (λ v. None) went) ≡ term_at come went
+term_by (Some v) went = refl
+term_by None (Some v) = refl
+term_by None None = refl
+
+-- what absences with new names over them say of a key
+pub value_at-with_present : (q : List ℕ) (gone come : Names) → IsRising gone → IsRising come → value_at q (with_run (absent gone) (present come)) ≡ term_at (value_at q come) (value_at q gone)
+value_at-with_present q gone come r s =
+    value_at-with_run (absent gone) (present come) q (rising-cells (λ v. None) gone r) (rising-cells (λ v. Some (Some v)) come s)
+    ∙ same_said (lookup-map_values (λ v. Some (Some v)) (λ j. is_eq (order q j)) come) (lookup-map_values (λ v. None) (λ j. is_eq (order q j)) gone)
+    ∙ term_by (value_at q come) (value_at q gone)
+
 -- the terms turn the names before into the names after
 pub terms_exchange : (xs : List Exchange) → IsRising (whole (λ x. x.gone) xs) → IsRising (whole (λ x. x.come) xs) → with_run (whole (λ x. x.gone) xs) (terms_of xs) ≡ whole (λ x. x.come) xs
 terms_exchange xs r s =
@@ -176,9 +188,7 @@ terms_exchange xs r s =
     let gone_rises : IsRising gone = rising-others (λ x. x.gone) xs r in
     same_map (with_run old (terms_of xs)) (whole (λ x. x.come) xs) (rising-with_run old (terms_of xs) r) s
     (λ q. value_at-with_run old (terms_of xs) q r (rising-with_present gone come gone_rises)
-      ∙ ap (λ (o : Option (Option ℕ)). said_or o (value_at q old))
-        (value_at-with_run (absent gone) (present come) q (rising-cells (λ v. None) gone gone_rises) (rising-cells (λ v. Some (Some v)) come (rising-others (λ x. x.come) xs s))
-        ∙ same_said (lookup-map_values (λ v. Some (Some v)) (λ j. is_eq (order q j)) come) (lookup-map_values (λ v. None) (λ j. is_eq (order q j)) gone))
+      ∙ ap (λ (o : Option (Option ℕ)). said_or o (value_at q old)) (value_at-with_present q gone come gone_rises (rising-others (λ x. x.come) xs s))
       ∙ said_as_exchanged (value_at q come) (value_at q gone) (value_at q old)
       ∙ sym (after_at q xs r s))
 

@@ -1,5 +1,5 @@
 -- Which children of one parent are taken together.
-use Rattle.std.specs.Prelude.{Bool, true, false, List, [], ◌∷◌, ◌++◌}
+use Rattle.std.specs.Prelude.{ℕ, Bool, true, false, not, List, [], ◌∷◌, ◌++◌, count_by}
 
 -- the thin ones at the beginning, and the groups that the others begin
 pub record Gathered (X : Type 0) : Type 0 where
@@ -7,13 +7,13 @@ pub record Gathered (X : Type 0) : Type 0 where
   pub groups : List (List X)
 
 -- one more child in front: a thin one joins what leads; any other begins a group with what leads
-abbrev pub in_front : {X : Type 0} → Bool → X → Gathered X → Gathered X
-in_front true x g = record { leading = x ∷ g.leading; groups = g.groups }
-in_front false x g = record { leading = []; groups = (x ∷ g.leading) ∷ g.groups }
+abbrev pub with_child : {X : Type 0} → Bool → X → Gathered X → Gathered X
+with_child true x g = record { leading = x ∷ g.leading; groups = g.groups }
+with_child false x g = record { leading = []; groups = (x ∷ g.leading) ∷ g.groups }
 
 abbrev pub gathered : {X : Type 0} → (X → Bool) → List X → Gathered X
 gathered is_thin [] = record { leading = []; groups = [] }
-gathered is_thin (x ∷ xs) = in_front (is_thin x) x (gathered is_thin xs)
+gathered is_thin (x ∷ xs) = with_child (is_thin x) x (gathered is_thin xs)
 
 -- leading ones join the first group, and are one where there is none
 abbrev pub with_leading : {X : Type 0} → List X → List (List X) → List (List X)
@@ -24,3 +24,12 @@ with_leading (x ∷ xs) (g ∷ gs) = (x ∷ xs ++ g) ∷ gs
 -- each child that isn't thin begins a group, and a thin one joins the group on its left
 abbrev pub groups : {X : Type 0} → (X → Bool) → List X → List (List X)
 groups is_thin xs = with_leading (gathered is_thin xs).leading (gathered is_thin xs).groups
+
+-- how many of the children aren't thin
+abbrev pub count_kept : {X : Type 0} → (X → Bool) → List X → ℕ
+count_kept is_thin xs = count_by (λ x. not (is_thin x)) xs
+
+-- whether the first child is thin
+abbrev pub begins_thin : {X : Type 0} → (X → Bool) → List X → Bool
+begins_thin is_thin [] = false
+begins_thin is_thin (x ∷ xs) = is_thin x

@@ -20,7 +20,7 @@ use Rattle.mapping.specs.Proper.{next_low, IsTile, Tiled}
 use Rattle.mapping.specs.TileLaws.{from-joined, next_low-same}
 use Rattle.page_runs.specs.AfterRun.{overflows, replaced, in_front, after_run}
 use Rattle.page_runs.specs.AfterLaws.{entries_of-after_run, in_order-after_run}
-use Rattle.split_plan.specs.Worked.{Worked, worked, below, from, worked_leaves, worked_parents, placed_of}
+use Rattle.split_plan.specs.Worked.{Worked, worked, part_below, part_from, worked_leaves, worked_parents, placed_of}
 
 -- ---- a run over pairs in two parts
 
@@ -67,7 +67,7 @@ module _ {V : Type 0} where
   all_keys-with_change P es k None p a = all_keys-without P es k a
   all_keys-with_change P es k (Some v) p a = all_keys-with_pair P es k v p a
 
-  two_parts_by : (b : Bool) (xs ys : List (List ℕ × V)) (c : List ℕ × Option V) (cs : List (List ℕ × Option V)) (q : List ℕ) → is_below c.0 q ≡ b → AreBelow q (keys_of xs) → AreFrom q (keys_of ys) → ((ls rs : List (List ℕ × V)) → AreBelow q (keys_of ls) → AreFrom q (keys_of rs) → with_run (ls ++ rs) cs ≡ with_run ls (below q cs) ++ with_run rs (from q cs)) → with_run (with_change (xs ++ ys) c.0 c.1) cs ≡ with_run xs (cond b (c ∷ below q cs) (below q cs)) ++ with_run ys (cond (not b) (c ∷ from q cs) (from q cs))
+  two_parts_by : (b : Bool) (xs ys : List (List ℕ × V)) (c : List ℕ × Option V) (cs : List (List ℕ × Option V)) (q : List ℕ) → is_below c.0 q ≡ b → AreBelow q (keys_of xs) → AreFrom q (keys_of ys) → ((ls rs : List (List ℕ × V)) → AreBelow q (keys_of ls) → AreFrom q (keys_of rs) → with_run (ls ++ rs) cs ≡ with_run ls (part_below q cs) ++ with_run rs (part_from q cs)) → with_run (with_change (xs ++ ys) c.0 c.1) cs ≡ with_run xs (cond b (c ∷ part_below q cs) (part_below q cs)) ++ with_run ys (cond (not b) (c ∷ part_from q cs) (part_from q cs))
   two_parts_by true xs ys c cs q h l r ih =
       ap (λ (m : List (List ℕ × V)). with_run m cs) (change_left xs ys c.0 c.1 q h r)
       ∙ ih (with_change xs c.0 c.1) ys (all_keys-with_change (λ j. is_below j q ≡ true) xs c.0 c.1 h l) r
@@ -76,7 +76,7 @@ module _ {V : Type 0} where
       ∙ ih xs (with_change ys c.0 c.1) l (all_keys-with_change (λ j. is_below j q ≡ false) ys c.0 c.1 h r)
 
   -- a run over pairs below q and pairs from q on is its part below q over those, and its part from q on over these
-  pub with_run-append : (run : List (List ℕ × Option V)) (q : List ℕ) (xs ys : List (List ℕ × V)) → AreBelow q (keys_of xs) → AreFrom q (keys_of ys) → with_run (xs ++ ys) run ≡ with_run xs (below q run) ++ with_run ys (from q run)
+  pub with_run-append : (run : List (List ℕ × Option V)) (q : List ℕ) (xs ys : List (List ℕ × V)) → AreBelow q (keys_of xs) → AreFrom q (keys_of ys) → with_run (xs ++ ys) run ≡ with_run xs (part_below q run) ++ with_run ys (part_from q run)
   with_run-append [] q xs ys l r = refl
   with_run-append (c ∷ cs) q xs ys l r = two_parts_by (is_below c.0 q) xs ys c cs q refl l r (λ ls rs. with_run-append cs q ls rs)
 
@@ -93,20 +93,20 @@ module _ {V : Type 0} where
       append-nil (entries (worked s p run).placed) ∙ entries-worked s p run ∙ ap (λ (m : List (List ℕ × V)). with_run m run) (sym (append-nil (entries p)))
   joined-worked_leaves s run p (q ∷ qs) end h =
       let k : List ℕ = q.page.low in
-      ap (λ (m : List (List ℕ × V)). m ++ joined (placed_of (worked_leaves s (from k run) (q ∷ qs)))) (entries-worked s p (below k run))
-      ∙ ap (λ (m : List (List ℕ × V)). with_run (entries p) (below k run) ++ m) (joined-worked_leaves s (from k run) q qs end h.1)
+      ap (λ (m : List (List ℕ × V)). m ++ joined (placed_of (worked_leaves s (part_from k run) (q ∷ qs)))) (entries-worked s p (part_below k run))
+      ∙ ap (λ (m : List (List ℕ × V)). with_run (entries p) (part_below k run) ++ m) (joined-worked_leaves s (part_from k run) q qs end h.1)
       ∙ sym (with_run-append run k (entries p) (joined (q ∷ qs)) (all_keys_entries (λ j. is_below j k ≡ true) p.page h.0.keys.before) (from-joined q qs end h.1))
 
   pub length-worked_leaves : (s : Settings) (run : List (List ℕ × Option V)) (ps : List (Placed V)) → length (worked_leaves s run ps) ≡ length ps
   length-worked_leaves s run [] = refl
   length-worked_leaves s run (p ∷ []) = refl
-  length-worked_leaves s run (p ∷ q ∷ qs) = ap (λ n. suc n) (length-worked_leaves s (from q.page.low run) (q ∷ qs))
+  length-worked_leaves s run (p ∷ q ∷ qs) = ap (λ n. suc n) (length-worked_leaves s (part_from q.page.low run) (q ∷ qs))
 
   -- pages keep their pids and low keys
   pub names-worked_leaves : (s : Settings) (run : List (List ℕ × Option V)) (ps : List (Placed V)) → names (placed_of (worked_leaves s run ps)) ≡ names ps
   names-worked_leaves s run [] = refl
   names-worked_leaves s run (p ∷ []) = refl
-  names-worked_leaves s run (p ∷ q ∷ qs) = ap (λ (ns : List (List ℕ × ℕ)). name p ∷ ns) (names-worked_leaves s (from q.page.low run) (q ∷ qs))
+  names-worked_leaves s run (p ∷ q ∷ qs) = ap (λ (ns : List (List ℕ × ℕ)). name p ∷ ns) (names-worked_leaves s (part_from q.page.low run) (q ∷ qs))
 
   pub names-worked_parents : (s : Settings) (ps : List (Placed V)) (runs : List (List (List ℕ × Option V))) → names (placed_of (worked_parents s ps runs)) ≡ names ps
   names-worked_parents s [] runs = refl

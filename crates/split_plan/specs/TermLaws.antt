@@ -4,6 +4,7 @@ use Rattle.std.proofs.Common.{refl, sym, ap, ◌∙◌, subst, arith, take-appen
 use Rattle.std.specs.List.{AllByRecursion}
 use Rattle.std.specs.Map.{keys_of}
 use Rattle.keys.specs.Order.{IsRising}
+use Rattle.keys.specs.OrderedMap.{value_at}
 use Rattle.keys.specs.declared.settings.Settings.{Settings}
 use Rattle.delta_chain.specs.Layers.{with_run}
 use Rattle.index_page.specs.Page.{first_key}
@@ -13,7 +14,7 @@ use Rattle.index_page.specs.ListLaws.{flat}
 use Rattle.mapping.specs.Levels.{Placed, entries, joined, name, names}
 use Rattle.mapping.specs.Proper.{next_low, Tiled}
 use Rattle.mapping.specs.TileLaws.{Names, names-append, rising-names, before-names, from-names, next_low-entries, next_low-parents}
-use Rattle.split_plan.specs.CutLaws.{AllFull}
+use Rattle.split_plan.specs.Cut.{AllFull}
 use Rattle.split_plan.specs.Groups.{groups}
 use Rattle.split_plan.specs.GroupLaws.{groups-joined, groups_full}
 use Rattle.split_plan.specs.Worked.{Worked, worked, worked_parents, placed_of, is_thin}
@@ -21,8 +22,8 @@ use Rattle.split_plan.specs.RunLaws.{entries-worked}
 use Rattle.split_plan.specs.WorkedLaws.{IsRunFor, AreRunsFor}
 use Rattle.split_plan.specs.Change.{Change, remade, fresh, changes, family_changes, new_of, fresh_of, all_new}
 use Rattle.split_plan.specs.ChangeLaws.{placed_of-append, tiled_placed_apart, remade_begins, next_low-changes, tiled-changes, tiled-groups, AllHeaded}
-use Rattle.split_plan.specs.Terms.{freed_of, terms}
-use Rattle.split_plan.specs.ExchangeLaws.{Exchange, whole, others, terms_of, rising-others, rising-with_present, all_keys-terms_of, before-terms_of, terms_exchange}
+use Rattle.split_plan.specs.Terms.{freed_of, terms, term_at}
+use Rattle.split_plan.specs.ExchangeLaws.{Exchange, whole, others, terms_of, rising-others, rising-with_present, all_keys-terms_of, before-terms_of, value_at-with_present, terms_exchange}
 
 module _ {V : Type 0} where
   -- a group, and the pages in its place, as the parent sees it
@@ -113,6 +114,24 @@ module _ {V : Type 0} where
         from = all_keys-terms_of (λ j. is_below j low ≡ false) xs (rw old_names (from-names (placed_of f) low end n h)) (rw new_names (from-names new low end m t));
         before = before-terms_of end xs (rw old_names (before-names (placed_of f) end h)) (rw new_names (before-names new end t)) } in
       subst (λ (c : List (List ℕ × Option ℕ)). IsRunFor low end c) (terms_are s used i gs) run
+
+  pub rising-terms : (s : Settings) (used : List ℕ) (i : ℕ) (f : List (Worked V)) (end : Option (List ℕ)) → 0 < s.fan → Tiled (placed_of f) end → IsRising (terms (changes s used i (groups is_thin f)))
+  rising-terms s used i f end z h =
+      let xs : List Exchange = exchanges s used i (groups is_thin f) in
+      let gone : IsRising (others (λ x. x.gone) xs) = rising-others (λ x. x.gone) xs (rw (before_family s used i f) (rising-names (placed_of f) end h)) in
+      subst (λ (run : List (List ℕ × Option ℕ)). IsRising run) (terms_are s used i (groups is_thin f)) (rising-with_present (others (λ x. x.gone) xs) (others (λ x. x.come) xs) gone)
+
+  -- what they say of a key
+  pub value_at-terms : (s : Settings) (used : List ℕ) (i : ℕ) (f : List (Worked V)) (end : Option (List ℕ)) (k : List ℕ) → 0 < s.fan → Tiled (placed_of f) end
+      → value_at k (terms (changes s used i (groups is_thin f))) ≡ term_at (value_at k (names (fresh_of (changes s used i (groups is_thin f))))) (value_at k (names (freed_of (changes s used i (groups is_thin f)))))
+  value_at-terms s used i f end k z h =
+      let gs : List (List (Worked V)) = groups is_thin f in
+      let xs : List Exchange = exchanges s used i gs in
+      let gone = rising-others (λ x. x.gone) xs (rw (before_family s used i f) (rising-names (placed_of f) end h)) in
+      let come = rising-others (λ x. x.come) xs (rw (after_family s used i f) (rising-names (new_of (changes s used i gs)) end (tiled-groups s used i f end z h))) in
+      let freed : IsRising (names (freed_of (changes s used i gs))) = subst (λ (ns : Names). IsRising ns) (names_gone s used i gs) gone in
+      let fresh : IsRising (names (fresh_of (changes s used i gs))) = subst (λ (ns : Names). IsRising ns) (names_come s used i gs) come in
+      value_at-with_present k (names (freed_of (changes s used i gs))) (names (fresh_of (changes s used i gs))) freed fresh
 
   -- ---- all families of a level
 

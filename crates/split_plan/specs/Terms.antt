@@ -8,7 +8,7 @@ use Rattle.split_plan.specs.Change.{Change, freed, fresh_of}
 abbrev pub absent : List (List ℕ × ℕ) → List (List ℕ × Option ℕ)
 absent ns = map (λ n. (n.0, None)) ns
 
--- changes that set, in a run, the low keys of these names to their pids
+-- changes to a run, by which the low keys of these names are present with their pids: a run is a list of pairs, too
 abbrev pub present : List (List ℕ × ℕ) → List (List ℕ × Option (Option ℕ))
 present ns = map (λ n. (n.0, Some (Some n.1))) ns
 
@@ -18,3 +18,9 @@ freed_of cs = flat_map freed cs
 -- the parent's run: the low keys of freed members absent, and over that those of new pieces with their pids
 abbrev pub terms : {V : Type 0} → List (Change V) → List (List ℕ × Option ℕ)
 terms cs = with_run (absent (names (freed_of cs))) (present (names (fresh_of cs)))
+
+-- what the terms say of a key, where new pieces and freed members have these pids at it
+abbrev pub term_at : Option ℕ → Option ℕ → Option (Option ℕ)
+term_at (Some pid) freed = Some (Some pid)
+term_at None (Some pid) = Some None
+term_at None None = None

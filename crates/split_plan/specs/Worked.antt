@@ -28,17 +28,17 @@ worked s p run = record {
   replaced = is_replaced s p.page.layers run }
 
 -- the changes of a run to keys below k, and the others
-abbrev pub below : {X : Type 0} → List ℕ → List (List ℕ × X) → List (List ℕ × X)
-below k run = filter (λ c. is_below c.0 k) run
+abbrev pub part_below : {X : Type 0} → List ℕ → List (List ℕ × X) → List (List ℕ × X)
+part_below k run = filter (λ c. is_below c.0 k) run
 
-abbrev pub from : {X : Type 0} → List ℕ → List (List ℕ × X) → List (List ℕ × X)
-from k run = filter (λ c. not (is_below c.0 k)) run
+abbrev pub part_from : {X : Type 0} → List ℕ → List (List ℕ × X) → List (List ℕ × X)
+part_from k run = filter (λ c. not (is_below c.0 k)) run
 
 -- the pages of a level, each after its part of a run: what is below the next page's low key, and not before its own
 abbrev pub worked_leaves : {V : Type 0} → Settings → List (List ℕ × Option V) → List (Placed V) → List (Worked V)
 worked_leaves s run [] = []
 worked_leaves s run (p ∷ []) = worked s p run ∷ []
-worked_leaves s run (p ∷ q ∷ ps) = worked s p (below q.page.low run) ∷ worked_leaves s (from q.page.low run) (q ∷ ps)
+worked_leaves s run (p ∷ q ∷ ps) = worked s p (part_below q.page.low run) ∷ worked_leaves s (part_from q.page.low run) (q ∷ ps)
 
 -- the pages of a level, each after a run of its own
 abbrev pub worked_parents : {V : Type 0} → Settings → List (Placed V) → List (List (List ℕ × Option V)) → List (Worked V)

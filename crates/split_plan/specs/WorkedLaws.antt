@@ -13,7 +13,7 @@ use Rattle.mapping.specs.Levels.{Placed}
 use Rattle.mapping.specs.Proper.{next_low, IsTile, Tiled}
 use Rattle.mapping.specs.TileLaws.{next_low-same}
 use Rattle.page_runs.specs.AfterLaws.{in_order-after_run}
-use Rattle.split_plan.specs.Worked.{Worked, worked, below, from, worked_leaves, worked_parents, placed_of}
+use Rattle.split_plan.specs.Worked.{Worked, worked, part_below, part_from, worked_leaves, worked_parents, placed_of}
 use Rattle.split_plan.specs.RunLaws.{all_said-after_run, names-worked_leaves, names-worked_parents}
 
 -- a run whose keys rise, from a low key on and before an end
@@ -27,26 +27,26 @@ module _ {X : Type 0} where
   below_by true k c rest e h = (e, h)
   below_by false k c rest e h = h
 
-  are_below : (k : List ℕ) (run : List (List ℕ × X)) → AreBelow k (keys_of (below k run))
+  are_below : (k : List ℕ) (run : List (List ℕ × X)) → AreBelow k (keys_of (part_below k run))
   are_below k [] = tt
-  are_below k (c ∷ cs) = below_by (is_below c.0 k) k c (below k cs) refl (are_below k cs)
+  are_below k (c ∷ cs) = below_by (is_below c.0 k) k c (part_below k cs) refl (are_below k cs)
 
   from_by : (b : Bool) (k : List ℕ) (c : List ℕ × X) (rest : List (List ℕ × X)) → is_below c.0 k ≡ b → AreFrom k (keys_of rest) → AreFrom k (keys_of (cond (not b) (c ∷ rest) rest))
   from_by true k c rest e h = h
   from_by false k c rest e h = (e, h)
 
-  are_from : (k : List ℕ) (run : List (List ℕ × X)) → AreFrom k (keys_of (from k run))
+  are_from : (k : List ℕ) (run : List (List ℕ × X)) → AreFrom k (keys_of (part_from k run))
   are_from k [] = tt
-  are_from k (c ∷ cs) = from_by (is_below c.0 k) k c (from k cs) refl (are_from k cs)
+  are_from k (c ∷ cs) = from_by (is_below c.0 k) k c (part_from k cs) refl (are_from k cs)
 
-  part_below : (low k : List ℕ) (end : Option (List ℕ)) (run : List (List ℕ × X)) → IsRunFor low end run → IsRunFor low (Some k) (below k run)
-  part_below low k end run h = record {
+  run_below : (low k : List ℕ) (end : Option (List ℕ)) (run : List (List ℕ × X)) → IsRunFor low end run → IsRunFor low (Some k) (part_below k run)
+  run_below low k end run h = record {
     rising = rising-filter (λ c. is_below c.0 k) run h.rising;
     from = all_keys-filter (λ j. is_below j low ≡ false) (λ c. is_below c.0 k) run h.from;
     before = are_below k run }
 
-  part_from : (low k : List ℕ) (end : Option (List ℕ)) (run : List (List ℕ × X)) → IsRunFor low end run → IsRunFor k end (from k run)
-  part_from low k end run h = record {
+  run_from : (low k : List ℕ) (end : Option (List ℕ)) (run : List (List ℕ × X)) → IsRunFor low end run → IsRunFor k end (part_from k run)
+  run_from low k end run h = record {
     rising = rising-filter (λ c. not (is_below c.0 k)) run h.rising;
     from = are_from k run;
     before = before-filter end (λ c. not (is_below c.0 k)) run h.before }
@@ -74,10 +74,10 @@ module _ {V : Type 0} where
   pub tiled-worked_leaves : (s : Settings) (run : List (List ℕ × Option V)) (p : Placed V) (ps : List (Placed V)) (end : Option (List ℕ)) → Tiled (p ∷ ps) end → IsRunFor p.page.low end run → Tiled (placed_of (worked_leaves s run (p ∷ ps))) end
   tiled-worked_leaves s run p [] end h k = (tile-worked s p run end h.0 k, tt)
   tiled-worked_leaves s run p (q ∷ qs) end h k =
-      let lower : List (List ℕ × Option V) = below q.page.low run in
-      let upper : List (List ℕ × Option V) = from q.page.low run in
+      let lower : List (List ℕ × Option V) = part_below q.page.low run in
+      let upper : List (List ℕ × Option V) = part_from q.page.low run in
       let next : next_low (placed_of (worked_leaves s upper (q ∷ qs))) end ≡ Some q.page.low = next_low-same (placed_of (worked_leaves s upper (q ∷ qs))) (q ∷ qs) end (names-worked_leaves s upper (q ∷ qs)) in
-      (rw next (tile-worked s p lower (Some q.page.low) h.0 (part_below p.page.low q.page.low end run k)), tiled-worked_leaves s upper q qs end h.1 (part_from p.page.low q.page.low end run k))
+      (rw next (tile-worked s p lower (Some q.page.low) h.0 (run_below p.page.low q.page.low end run k)), tiled-worked_leaves s upper q qs end h.1 (run_from p.page.low q.page.low end run k))
 
   -- each run is one for its page
   abbrev pub AreRunsFor : List (Placed V) → List (List (List ℕ × Option V)) → Option (List ℕ) → Type 0

@@ -1,1 +1,66 @@
 //! What the definitions of `specs/` mean. Each law is the contract of a function with an empty body.
+ghost use Rattle.std.specs.Prelude.{◌≡◌, ◌<◌, ◌/◌, ℕ, ◌⊎◌, ◌↔◌, Bool, true, false, List, [], ◌∷◌, Option, Some, None, length, drop};
+ghost use Rattle.std.specs.List.{AllByRecursion};
+ghost use Rattle.keys.specs.Order.{IsRising};
+ghost use Rattle.keys.specs.OrderedMap.{value_at};
+ghost use Rattle.keys.specs.declared.settings.Settings.{Settings};
+ghost use Rattle.delta_chain.specs.Layers.{with_run};
+ghost use Rattle.index_page.specs.ListLaws.{flat};
+ghost use Rattle.mapping.specs.Levels.{Placed, joined, names};
+ghost use Rattle.mapping.specs.Proper.{next_low, Tiled};
+ghost use Rattle.split_plan.specs.Cut.{piece_count, cut, AllAtMost, AllAtLeast};
+ghost use Rattle.split_plan.specs.Groups.{groups, count_kept, begins_thin};
+ghost use Rattle.split_plan.specs.Worked.{Worked, worked_leaves, placed_of, is_thin, is_fat};
+ghost use Rattle.split_plan.specs.Change.{is_rewritten, changes, new_of, fresh_of};
+ghost use Rattle.split_plan.specs.Terms.{freed_of, terms, term_at};
+
+/// The pieces of a cut, joined, are the entries; none has more than `fan`, and of more than `fan` entries none has
+/// fewer than half of that.
+pub fn pieces_are_the_entries<X>()
+    ensures joined { (fan : ℕ) (es : List X) → flat (cut fan es) ≡ es }
+    ensures count { (fan : ℕ) (es : List X) → length (cut fan es) ≡ piece_count fan (length es) }
+    ensures most { (fan : ℕ) (es : List X) → 0 < fan → AllAtMost fan (cut fan es) }
+    ensures least { (fan : ℕ) (es : List X) → 0 < fan → fan < length es → AllAtLeast (fan / 2) (cut fan es) }
+{}
+
+/// The groups joined are the children. Where some child isn't thin, each group has just one that isn't, and each group
+/// but the first begins with it; where all are thin, they are one group.
+pub fn groups_are_the_children<X>()
+    ensures joined { (thin : X → Bool) (xs : List X) → flat (groups thin xs) ≡ xs }
+    ensures one { (thin : X → Bool) (xs : List X) → 0 < count_kept thin xs → AllByRecursion (λ g. count_kept thin g ≡ 1) (groups thin xs) }
+    ensures later { (thin : X → Bool) (xs : List X) → AllByRecursion (λ g. begins_thin thin g ≡ false) (drop 1 (groups thin xs)) }
+    ensures thin { (thin : X → Bool) (xs : List X) → count_kept thin xs ≡ 0 → 0 < length xs → groups thin xs ≡ xs ∷ [] }
+{}
+
+/// A group is rewritten exactly if it has two or more members, or is one fat page.
+pub fn a_group_is_rewritten_for_its_members<V>()
+    ensures { (g : List (Worked V)) → (is_rewritten g ≡ true) ↔ ((1 < length g) ⊎ ((w : Worked V) × (g ≡ w ∷ []) × (is_fat w ≡ true))) }
+{}
+
+/// Leaves after their parts of a run have, joined, all their entries with the run applied.
+pub fn leaves_share_a_run<V>()
+    ensures { (s : Settings) (run : List (List ℕ × Option V)) (p : Placed V) (ps : List (Placed V)) (end : Option (List ℕ)) → Tiled (p ∷ ps) end →
+        joined (placed_of (worked_leaves s run (p ∷ ps))) ≡ with_run (joined (p ∷ ps)) run }
+{}
+
+/// The pages that are made of the groups of a family have its entries, and tile its range.
+pub fn what_is_made_of_groups_has_their_entries<V>()
+    ensures entries { (s : Settings) (used : List ℕ) (i : ℕ) (f : List (Worked V)) →
+        joined (new_of (changes s used i (groups is_thin f))) ≡ joined (placed_of f) }
+    ensures tiled { (s : Settings) (used : List ℕ) (i : ℕ) (f : List (Worked V)) (end : Option (List ℕ)) → 0 < s.fan → Tiled (placed_of f) end →
+        Tiled (new_of (changes s used i (groups is_thin f))) end }
+    ensures first { (s : Settings) (used : List ℕ) (i : ℕ) (f : List (Worked V)) (end : Option (List ℕ)) →
+        next_low (new_of (changes s used i (groups is_thin f))) end ≡ next_low (placed_of f) end }
+{}
+
+/// The terms of a family rise. They name the low keys of freed members and of new pieces, and no other: a new piece's
+/// has its pid, any other is absent. They turn the names of the family into those of the pages that are made of it.
+pub fn terms_name_the_new_pages<V>()
+    ensures rising { (s : Settings) (used : List ℕ) (i : ℕ) (f : List (Worked V)) (end : Option (List ℕ)) → 0 < s.fan → Tiled (placed_of f) end →
+        IsRising (terms (changes s used i (groups is_thin f))) }
+    ensures said { (s : Settings) (used : List ℕ) (i : ℕ) (f : List (Worked V)) (end : Option (List ℕ)) (k : List ℕ) → 0 < s.fan → Tiled (placed_of f) end →
+        value_at k (terms (changes s used i (groups is_thin f)))
+        ≡ term_at (value_at k (names (fresh_of (changes s used i (groups is_thin f))))) (value_at k (names (freed_of (changes s used i (groups is_thin f))))) }
+    ensures names { (s : Settings) (used : List ℕ) (i : ℕ) (f : List (Worked V)) (end : Option (List ℕ)) → 0 < s.fan → Tiled (placed_of f) end →
+        with_run (names (placed_of f)) (terms (changes s used i (groups is_thin f))) ≡ names (new_of (changes s used i (groups is_thin f))) }
+{}

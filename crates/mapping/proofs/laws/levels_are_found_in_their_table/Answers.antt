@@ -1,0 +1,11 @@
+use Rattle.mapping.specs.Levels.{all_pages}
+use Rattle.mapping.specs.LevelLaws.{levels_of_tree}
+use Rattle.mapping.specs.TableLaws.{rising-by_pid, by_pid-holds}
+use Rattle.mapping.proofs.laws.levels_are_found_in_their_table.Goals as goal
+
+pub returns : goal.returns
+returns c = record {
+  holds = by_pid-holds;
+  rising = λ l. rising-by_pid (all_pages l);
+  found = levels_of_tree;
+}
