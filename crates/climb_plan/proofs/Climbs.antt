@@ -1,23 +1,22 @@
 -- A climb gives levels in order, each naming the one below.
-use Rattle.std.specs.Prelude.{◌≡◌, ℕ, zero, suc, ◌+◌, ◌<◌, ◌≤◌, Bool, true, false, cond, nat_lt, List, [], ◌∷◌, ◌++◌, map, flat_map, length, Option, Some, None}
+use Rattle.std.specs.Prelude.{◌≡◌, ℕ, zero, suc, ◌+◌, ◌<◌, ◌≤◌, Bool, true, false, cond, nat_lt, List, [], ◌∷◌, map, length, Some, None}
 use Rattle.std.proofs.Common.{refl, sym, ap, ◌∙◌, subst, arith, append-nil, ltb-false, ltb-true}
-use Rattle.std.specs.List.{AllByRecursion}
 use Rattle.std.proofs.lemmas.List.{length-map}
 use Rattle.keys.specs.Order.{IsRising}
 use Rattle.keys.specs.declared.settings.Settings.{Settings}
 use Rattle.index_page.specs.ListLaws.{flat}
-use Rattle.mapping.specs.Levels.{Placed, Tower, joined, name, names}
-use Rattle.mapping.specs.Proper.{next_low, Tiled, IsParentOf, Stacked}
+use Rattle.mapping.specs.Levels.{Placed, joined, name, names}
+use Rattle.mapping.specs.Proper.{next_low, Tiled, Stacked}
 use Rattle.mapping.specs.TileLaws.{Names, next_low-same, some_page, rising-names}
 use Rattle.split_plan.specs.Cut.{cut, piece_count, AllFull}
 use Rattle.split_plan.specs.CutLaws.{cut-joined, cut_full, cut_some, length-cut, fewer_pieces}
 use Rattle.split_plan.specs.Worked.{Worked, worked_parents, placed_of}
 use Rattle.split_plan.specs.RunLaws.{names-worked_parents}
 use Rattle.split_plan.specs.WorkedLaws.{tiled-worked_parents}
-use Rattle.split_plan.specs.Change.{Change, fresh_pages, changes, family_changes, new_of, fresh_of, all_new, all_fresh}
+use Rattle.split_plan.specs.Change.{Change, fresh_pages, changes, family_changes, new_of, all_new, all_fresh}
 use Rattle.split_plan.specs.ChangeLaws.{joined-fresh_pages, joined-changes, joined-family_changes, next_low-changes, next_low-family_changes, tiled-fresh_pages, tiled-changes, tiled-family_changes, length-fresh_pages, AllHeaded, headed-fresh_pages, headed-changes, headed-family_changes}
 use Rattle.split_plan.specs.Terms.{terms}
-use Rattle.climb_plan.specs.Climb.{families, Climbed, grown, climbed_top, climb}
+use Rattle.climb_plan.specs.Climb.{families, grown, climb}
 use Rattle.climb_plan.proofs.Families.{families-joined, parents_link, parents_told}
 
 -- ---- levels that grow above pages without a parent
@@ -44,9 +43,10 @@ module _ {V : Type 0} where
       let full : AllFull (cut s.fan ns) = cut_full s.fan ns fan some in
       let rising : IsRising (flat (cut s.fan ns)) = subst (λ (x : Names). IsRising x) (sym (cut-joined s.fan ns)) (rising-names ps None d) in
       let tiled : Tiled up None = tiled-fresh_pages used i (cut s.fan ns) None full rising tt in
-      let one : 0 < length up = let pieces : 0 < length (cut s.fan ns) = cut_some s.fan ns in omega (arith, length-cut s.fan ns) in
-      (record { linked = joined-fresh_pages used i (cut s.fan ns) ∙ cut-joined s.fan ns; headed = headed-fresh_pages used i (cut s.fan ns) full; tiled = tiled },
-       ih up (i + length up) one (omega arith) tiled)
+      let one : 0 < length up = let pieces : 0 < length (cut s.fan ns) = cut_some s.fan ns in omega (arith, length-cut s.fan ns) in (
+        record { linked = joined-fresh_pages used i (cut s.fan ns) ∙ cut-joined s.fan ns; headed = headed-fresh_pages used i (cut s.fan ns) full; tiled = tiled },
+        ih up (i + length up) one (omega arith) tiled,
+      )
 
 stacked-grown : {V : Type 0} (enough : ℕ) (s : Settings) (used : List ℕ) (i : ℕ) (ps : List (Placed V)) → 1 < s.fan → 0 < length ps → length ps ≤ enough → Tiled ps None → Stacked ps (grown enough s used i ps)
 stacked-grown zero s used i ps f h l d = absurd (omega arith)
@@ -115,6 +115,7 @@ stacked-climb {V} s used i ws olds (ps ∷ ups) f e o h =
     let named : names (placed_of vs) ≡ names ps = names-worked_parents s ps (map terms css) in
     let upper = stacked-climb s used j vs ps ups f named o.1 (tiled-worked_parents s ps (map terms css) None o.0.tiled told.0) in
     let links : joined (climb s used j vs ups).tower.level ≡ names (all_new css) = joined-climb s used j vs ups ps named o.1 ∙ parents_link s used i ps ws None z linked h in
-    let level : Tiled (placed_of (flat (families ps ws))) None = subst (λ (xs : List (Worked V)). Tiled (placed_of xs) None) (sym (families-joined ps ws linked)) h in
-    (tiled-family_changes s used i (families ps ws) None z level,
-     (record { linked = links; headed = headed-climb s used j vs ps ups z named o.1 told.1; tiled = upper.0 }, upper.1))
+    let level : Tiled (placed_of (flat (families ps ws))) None = subst (λ (xs : List (Worked V)). Tiled (placed_of xs) None) (sym (families-joined ps ws linked)) h in (
+      tiled-family_changes s used i (families ps ws) None z level,
+      (record { linked = links; headed = headed-climb s used j vs ps ups z named o.1 told.1; tiled = upper.0 }, upper.1),
+    )

@@ -1,7 +1,6 @@
 -- The families of a level, and what their parents are told.
-use Rattle.std.specs.Prelude.{◌≡◌, ℕ, zero, suc, ◌+◌, ◌-◌, ◌<◌, List, [], ◌∷◌, ◌++◌, map, take, drop, length, Option, Some, None}
+use Rattle.std.specs.Prelude.{◌≡◌, ℕ, ◌+◌, ◌<◌, List, [], ◌∷◌, ◌++◌, map, take, drop, length, Option, Some, None}
 use Rattle.std.proofs.Common.{refl, sym, ap, ◌∙◌, subst, arith, length-append, length-drop, take-append-drop}
-use Rattle.std.specs.List.{AllByRecursion}
 use Rattle.std.proofs.lemmas.List.{length-map}
 use Rattle.keys.specs.declared.settings.Settings.{Settings}
 use Rattle.delta_chain.specs.Layers.{with_run}
@@ -10,7 +9,6 @@ use Rattle.mapping.specs.Levels.{Placed, entries, joined, name, names}
 use Rattle.mapping.specs.Proper.{next_low, Tiled}
 use Rattle.mapping.specs.TileLaws.{Names, names-append, next_low-entries, next_low-parents}
 use Rattle.split_plan.specs.Groups.{groups}
-use Rattle.split_plan.specs.GroupLaws.{groups-joined}
 use Rattle.split_plan.specs.Worked.{Worked, worked, worked_parents, placed_of, is_thin}
 use Rattle.split_plan.specs.RunLaws.{entries-worked}
 use Rattle.split_plan.specs.WorkedLaws.{AreRunsFor}
@@ -77,7 +75,7 @@ module _ {V : Type 0} where
       let tiled : Tiled (placed_of f) end = subst (λ (e : Option (List ℕ)). Tiled (placed_of f) e) same_end a.0 in
       let begins : (e : Option (List ℕ)) → next_low (placed_of f) e ≡ Some p.page.low = λ e. next_low-entries (placed_of f) (entries p) p.page.low e r.0 hd.0.some hd.0.first in
       let new_begins : next_low (new_of cs) None ≡ Some p.page.low =
-        next_low-groups s used i f None ∙ begins None in
+      next_low-groups s used i f None ∙ begins None in
       let after : entries (worked s p (terms cs)).placed ≡ names (new_of cs) = entries_after s used i p f end z r.0 tiled in
       let later = parents_told s used (i + length (fresh_of cs)) ps more z r.1 hd.1 a.1 in
       ((terms_for_parent s used i p.page.low f end z (begins end) tiled, later.0), (headed_by_names (worked s p (terms cs)).placed (new_of cs) p.page.low after new_begins refl, later.1))

@@ -1,5 +1,5 @@
 -- The levels that are left once the root has shrunk.
-use Rattle.std.specs.Prelude.{◌≡◌, ◌≢◌, ℕ, zero, suc, ◌<◌, ◌≤◌, Bool, true, false, cond, nat_eq, List, [], ◌∷◌, ◌++◌, flat_map, length}
+use Rattle.std.specs.Prelude.{◌≡◌, ◌≢◌, ℕ, zero, suc, ◌≤◌, Bool, true, false, cond, List, [], ◌∷◌, ◌++◌, flat_map, length}
 use Rattle.std.proofs.Common.{refl, sym, ap, ◌∙◌, subst, arith, append-nil, append_assoc}
 use Rattle.std.specs.List.{AllByRecursion}
 use Rattle.std.proofs.lemmas.Bool.{eqb-true, eqb-false}
@@ -44,11 +44,11 @@ two_by [] n e h = tt
 two_by (p ∷ []) n e h =
     let not_one : length (entries p) ≢ 1 = eqb-false (length (entries p)) 1 e in
     (record { some = two (length (entries p)) h.0.some not_one; first = h.0.first }, tt)
-    where
-      two : (n : ℕ) → 1 ≤ n → n ≢ 1 → 2 ≤ n
-      two zero l d = absurd (omega arith)
-      two (suc zero) l d = absurd (d refl)
-      two (suc (suc n)) l d = omega arith
+  where
+    two : (n : ℕ) → 1 ≤ n → n ≢ 1 → 2 ≤ n
+    two zero l d = absurd (omega arith)
+    two (suc zero) l d = absurd (d refl)
+    two (suc (suc n)) l d = omega arith
 two_by (p ∷ q ∷ ps) n e h = absurd (omega arith)
 
 branched_by : (b : Bool) (l : List (Placed ℕ)) → is_lone l ≡ b → length l ≡ 1 → AllHeaded l → IsBranchedTop (cond b [] (l ∷ []))
@@ -93,7 +93,7 @@ pub distinct-kept : {V : Type 0} (level : List (Placed V)) (ls : List (List (Pla
 distinct-kept level ls d =
     let r = kept_is_first ls in
     let e : all_pids level ls ≡ all_pids level (kept ls) ++ flat_map pids r.0 =
-      ap (λ (x : List (List (Placed ℕ))). pids level ++ flat_map pids x) (sym r.1)
-      ∙ ap (λ (ns : List ℕ). pids level ++ ns) (flat_map-append pids (kept ls) r.0)
-      ∙ sym (append_assoc (pids level) (flat_map pids (kept ls)) (flat_map pids r.0)) in
+    ap (λ (x : List (List (Placed ℕ))). pids level ++ flat_map pids x) (sym r.1)
+    ∙ ap (λ (ns : List ℕ). pids level ++ ns) (flat_map-append pids (kept ls) r.0)
+    ∙ sym (append_assoc (pids level) (flat_map pids (kept ls)) (flat_map pids r.0)) in
     distinct_left (all_pids level (kept ls)) (flat_map pids r.0) (subst (λ (ns : List ℕ). Distinct ns) e d)

@@ -1,8 +1,7 @@
 -- The leaves after their parts of the net run.
-use Rattle.std.specs.Prelude.{◌≡◌, ℕ, ◌≤◌, Bool, true, false, cond, is_some, List, [], ◌∷◌, ◌++◌, length, Option, Some, None}
-use Rattle.std.proofs.Common.{refl, subst}
+use Rattle.std.specs.Prelude.{◌≡◌, ℕ, ◌≤◌, Bool, true, false, cond, is_some, List, [], ◌∷◌, length, Option, Some, None}
 use Rattle.std.specs.Ordering.{is_eq}
-use Rattle.std.specs.List.{AllByRecursion, filter}
+use Rattle.std.specs.List.{AllByRecursion}
 use Rattle.std.specs.Map.{keys_of}
 use Rattle.keys.specs.Order.{order}
 use Rattle.keys.specs.OrderedMap.{value_at, with_pair, without}
@@ -10,7 +9,7 @@ use Rattle.keys.specs.Step.{map_after, map_after_all}
 use Rattle.keys.specs.declared.settings.Settings.{Settings}
 use Rattle.keys.specs.declared.command.Command.{Command}
 use Rattle.keys.specs.declared.command.Command.TheVariants.{Get, Put, Add, Del}
-use Rattle.index_page.specs.Range.{is_below, AreFrom}
+use Rattle.index_page.specs.Range.{AreFrom}
 use Rattle.index_page.specs.Rules.{OfCell, IsShortValue, IsShortChange}
 use Rattle.index_page.specs.ListLaws.{all-append, all-filter}
 use Rattle.index_page.specs.RangeLaws.{from_nothing}
@@ -19,8 +18,8 @@ use Rattle.mapping.specs.Levels.{Placed, entries, joined}
 use Rattle.mapping.specs.Proper.{next_low, Tiled}
 use Rattle.page_runs.specs.NetRun.{noted, noted_by, touched, net_run}
 use Rattle.page_runs.specs.NetLaws.{rising-net_run}
-use Rattle.split_plan.specs.Worked.{Worked, part_below, part_from, worked_leaves, placed_of}
-use Rattle.split_plan.specs.WorkedLaws.{IsRunFor, tiled-worked_leaves}
+use Rattle.split_plan.specs.Worked.{part_below, part_from, worked_leaves, placed_of}
+use Rattle.split_plan.specs.WorkedLaws.{tiled-worked_leaves}
 use Rattle.climb_plan.specs.Limits.{IsShortCommand, AreShort}
 use Rattle.climb_plan.proofs.Sizes.{IsSmall, IsSmallUnlessFat, AreShortPairs, AreShortChanges, small-worked, short_entries}
 
@@ -101,9 +100,10 @@ module _ (s : Settings) where
   small-worked_leaves : (run : List (List ℕ × Option (List ℕ))) (ps : List (Placed (List ℕ))) → AllByRecursion (IsSmall s (IsShortValue s)) ps → ShortChanges run → AllByRecursion (IsSmallUnlessFat s (IsShortValue s)) (worked_leaves s run ps)
   small-worked_leaves run [] h a = tt
   small-worked_leaves run (p ∷ []) h a = (small-worked s (IsShortValue s) p run h.0 a, tt)
-  small-worked_leaves run (p ∷ q ∷ qs) h a =
-      (small-worked s (IsShortValue s) p (part_below q.page.low run) h.0 (all-filter (IsShortChange s (IsShortValue s)) _ run a),
-       small-worked_leaves (part_from q.page.low run) (q ∷ qs) h.1 (all-filter (IsShortChange s (IsShortValue s)) _ run a))
+  small-worked_leaves run (p ∷ q ∷ qs) h a = (
+    small-worked s (IsShortValue s) p (part_below q.page.low run) h.0 (all-filter (IsShortChange s (IsShortValue s)) _ run a),
+    small-worked_leaves (part_from q.page.low run) (q ∷ qs) h.1 (all-filter (IsShortChange s (IsShortValue s)) _ run a),
+  )
 
   -- leaves within the settings are so, but for fat ones, after the net run of commands within them
   pub small-leaves : {A : Type 0} (cs : List (Command A)) (ps : List (Placed (List ℕ))) → AreShort s cs → AllByRecursion (IsSmall s (IsShortValue s)) ps → AllByRecursion (IsSmallUnlessFat s (IsShortValue s)) (worked_leaves s (net_run (joined ps) cs) ps)

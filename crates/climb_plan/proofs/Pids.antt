@@ -1,7 +1,6 @@
 -- The pids of a climb's levels are distinct.
 use Rattle.std.specs.Prelude.{◌≡◌, ℕ, zero, suc, ◌+◌, Bool, true, false, cond, nat_lt, List, [], ◌∷◌, ◌++◌, map, flat_map, length}
-use Rattle.std.proofs.Common.{refl, sym, ap, ◌∙◌, subst, append-nil}
-use Rattle.std.specs.List.{AllByRecursion}
+use Rattle.std.proofs.Common.{refl, sym, ap, ◌∙◌, append-nil}
 use Rattle.keys.specs.declared.settings.Settings.{Settings}
 use Rattle.mapping.specs.Levels.{Placed, joined, names, pids, all_pids}
 use Rattle.mapping.specs.LevelLaws.{same_pids}
@@ -13,7 +12,7 @@ use Rattle.split_plan.specs.Change.{Change, fresh_pages, changes, family_changes
 use Rattle.split_plan.specs.PidLaws.{Renewed, renewed-append, recast, renewed-fresh_pages, renewed-changes, renewed-family_changes}
 use Rattle.split_plan.specs.PidLaws.Renewed.{done}
 use Rattle.split_plan.specs.Terms.{terms}
-use Rattle.climb_plan.specs.Climb.{families, Climbed, grown, climb}
+use Rattle.climb_plan.specs.Climb.{families, grown, climb}
 use Rattle.climb_plan.proofs.Families.{families-joined}
 
 grown_by : {V : Type 0} (b : Bool) (enough : ℕ) (s : Settings) (used : List ℕ) (i : ℕ) (ps : List (Placed V)) → ((j : ℕ) (up : List (Placed ℕ)) → (k : ℕ) × Renewed used j k [] (flat_map pids (grown enough s used j up)))

@@ -1,6 +1,6 @@
 -- The plan of a proper tree: its contents are the map after the commands, and it is proper.
-use Rattle.std.specs.Prelude.{◌≡◌, ℕ, suc, ◌<◌, ◌≤◌, Bool, true, false, cond, ◌&&◌, nat_le, List, [], ◌∷◌, ◌++◌, length, Option, Some, None}
-use Rattle.std.proofs.Common.{refl, sym, ap, ◌∙◌, subst, arith, append-nil, leb-true}
+use Rattle.std.specs.Prelude.{◌≡◌, ℕ, ◌<◌, ◌≤◌, Bool, true, false, cond, ◌&&◌, nat_le, List, [], ◌∷◌, length, Option, Some, None}
+use Rattle.std.proofs.Common.{refl, sym, ap, ◌∙◌, subst, arith, leb-true}
 use Rattle.std.specs.List.{AllByRecursion}
 use Rattle.std.specs.Map.{keys_of}
 use Rattle.keys.specs.Limits.{first_bad_field, is_within}
@@ -25,12 +25,12 @@ use Rattle.split_plan.specs.Worked.{Worked, worked_leaves, placed_of}
 use Rattle.split_plan.specs.RunLaws.{joined-worked_leaves, names-worked_leaves}
 use Rattle.split_plan.specs.PidLaws.{distinct_renewed}
 use Rattle.climb_plan.specs.Limits.{AreShort}
-use Rattle.climb_plan.specs.Climb.{Climbed, climb, kept}
+use Rattle.climb_plan.specs.Climb.{Climbed}
 use Rattle.climb_plan.specs.Plan.{climbed, planned_levels, planned_tree}
 use Rattle.climb_plan.proofs.Climbs.{joined-climb, next_low-climb, stacked-climb}
 use Rattle.climb_plan.proofs.Pids.{renewed-climb}
 use Rattle.climb_plan.proofs.Kept.{stacked-kept, branched-kept, distinct-kept, all-kept}
-use Rattle.climb_plan.proofs.Sizes.{IsSmall, IsSmallUnlessFat, HaveShortLows, small-climb, short_entries, short_first_key}
+use Rattle.climb_plan.proofs.Sizes.{IsSmall, HaveShortLows, small-climb, short_entries, short_first_key}
 use Rattle.climb_plan.proofs.Leaves.{tiled-leaves, small-leaves}
 
 -- ---- settings
@@ -124,7 +124,8 @@ module _ {A : Type 0} (s : Settings) (t : Tree) (cs : List (Command A)) (fan : 1
         tiled = stacked.0;
         stacked = stacked-kept c.tower.above c.tower.level stacked.1;
         top = branched-kept c.tower.above c.tower.level stacked.1;
-        distinct = distinct-kept c.tower.level c.tower.above distinct }
+        distinct = distinct-kept c.tower.level c.tower.above distinct;
+      }
 
   -- the planned table has just these levels
   held : HoldsLevels (by_pid (all_pages (planned_levels s t cs))) (planned_levels s t cs)
@@ -162,7 +163,8 @@ module _ {A : Type 0} (s : Settings) (t : Tree) (cs : List (Command A)) (fan : 1
       let r = small-climb s (IsShortValue s) (keys_of t.pages) 0 leaves l.level l.above z keep_names proper.levels.stacked (small-leaves s cs l.level short small) upper in
       record {
         leaves = fits_of s (IsShortValue s) c.tower.level r.0;
-        above = all-kept (AllByRecursion (λ (p : Placed ℕ). Fits s IsAnyPid p.page)) c.tower.above (all_fits s c.tower.above r.1) }
+        above = all-kept (AllByRecursion (λ (p : Placed ℕ). Fits s IsAnyPid p.page)) c.tower.above (all_fits s c.tower.above r.1);
+      }
 
   -- the plan of a proper tree is proper
   pub planned_is_proper : AreShort s cs → IsProper s (planned_tree s t cs)
@@ -173,4 +175,5 @@ module _ {A : Type 0} (s : Settings) (t : Tree) (cs : List (Command A)) (fan : 1
         tree = record { rising = rising-by_pid (all_pages l); some = omega arith };
         held = subst (λ (x : Levels). HoldsLevels (by_pid (all_pages l)) x) e held;
         levels = subst (λ (x : Levels). AreLevels x) e planned_are_levels;
-        fit = subst (λ (x : Levels). AllFit s x) e (planned_fit short) }
+        fit = subst (λ (x : Levels). AllFit s x) e (planned_fit short);
+      }

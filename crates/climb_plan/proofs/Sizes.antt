@@ -1,20 +1,19 @@
 -- Pages stay within the settings through a climb.
-use Rattle.std.specs.Prelude.{◌≡◌, ℕ, zero, suc, ◌+◌, ◌/◌, ◌<◌, ◌≤◌, ⊤, Bool, true, false, cond, ◌||◌, nat_lt, List, [], ◌∷◌, ◌++◌, map, flat_map, drop, length, Option, Some, None, if◌then◌else◌}
-use Rattle.std.proofs.Common.{refl, sym, ap, ◌∙◌, subst, arith, append-nil, ltb-false, ltb-true}
+use Rattle.std.specs.Prelude.{◌≡◌, ℕ, zero, suc, ◌+◌, ◌/◌, ◌<◌, ◌≤◌, Bool, true, false, cond, ◌||◌, nat_lt, List, [], ◌∷◌, map, drop, length, Option, Some, None}
+use Rattle.std.proofs.Common.{refl, sym, ◌∙◌, subst, arith, append-nil, ltb-false, ltb-true}
 use Rattle.std.specs.List.{AllByRecursion}
 use Rattle.std.specs.Map.{keys_of}
 use Rattle.keys.specs.declared.settings.Settings.{Settings}
-use Rattle.delta_chain.specs.Layers.{Layers, with_run, entries_of, depth_of}
-use Rattle.index_page.specs.Page.{Page, first_key, as_changes, said}
-use Rattle.index_page.specs.Rules.{OfCell, IsShortChange, IsRunSized, Fits, IsAnyPid, IsHeaded}
-use Rattle.index_page.specs.ListLaws.{flat, all-append, all_apart, all_keys}
+use Rattle.delta_chain.specs.Layers.{with_run, entries_of, depth_of}
+use Rattle.index_page.specs.Page.{Page, first_key, said}
+use Rattle.index_page.specs.Rules.{OfCell, IsShortChange, Fits, IsAnyPid}
+use Rattle.index_page.specs.ListLaws.{flat, all-append, all_apart}
 use Rattle.index_page.specs.PageLaws.{all-as_changes, all_entries}
-use Rattle.mapping.specs.Levels.{Placed, entries, joined, name, names}
+use Rattle.mapping.specs.Levels.{Placed, entries, joined, names}
 use Rattle.mapping.specs.Proper.{Stacked}
 use Rattle.mapping.specs.TileLaws.{Names}
-use Rattle.page_runs.specs.AfterRun.{overflows, replaced, in_front, after_run, class_of_size, class_after}
-use Rattle.page_runs.specs.declared.class.Class.{Class}
-use Rattle.page_runs.specs.declared.class.Class.TheVariants.{Same, Changed, Thin, Fat}
+use Rattle.page_runs.specs.AfterRun.{overflows, replaced, in_front, class_of_size}
+use Rattle.page_runs.specs.declared.class.Class.TheVariants.{Changed, Thin, Fat}
 use Rattle.split_plan.specs.Cut.{cut, AllAtMost}
 use Rattle.split_plan.specs.CutLaws.{cut-joined, cut_at_most}
 use Rattle.split_plan.specs.ExchangeLaws.{all_keys-with_present}
@@ -22,9 +21,9 @@ use Rattle.split_plan.specs.Groups.{groups}
 use Rattle.split_plan.specs.GroupLaws.{groups-joined}
 use Rattle.split_plan.specs.Worked.{Worked, worked, worked_parents, placed_of, is_thin, is_fat, is_fat_class}
 use Rattle.split_plan.specs.RunLaws.{all_said-after_run, names-worked_parents}
-use Rattle.split_plan.specs.Change.{Change, placed_bare, fresh_pages, replacements, remade, freed, fresh, changes, family_changes, new_of, fresh_of, all_new, all_fresh}
+use Rattle.split_plan.specs.Change.{Change, placed_bare, fresh_pages, replacements, remade, changes, family_changes, new_of, fresh_of, all_new, all_fresh}
 use Rattle.split_plan.specs.Terms.{freed_of, terms}
-use Rattle.climb_plan.specs.Climb.{families, Climbed, grown, climb}
+use Rattle.climb_plan.specs.Climb.{families, grown, climb}
 use Rattle.climb_plan.proofs.Families.{families-joined}
 
 -- a page within the settings, its low key too
@@ -94,7 +93,8 @@ module _ {V : Type 0} (s : Settings) (IsShort : V → Type 0) where
   small_bare : (pid : ℕ) (low : List ℕ) (b : List (List ℕ × V)) → length low ≤ s.max_key → length b ≤ s.fan → AreShortPairs b → IsSmall s IsShort (placed_bare pid low b)
   small_bare pid low b l n a = record {
     fit = record { base = n; runs = tt; changes = all-as_changes (IsShortChange s IsShort) b a; depth = omega arith };
-    low = l }
+    low = l;
+  }
 
   small-fresh_pages : (used : List ℕ) (i : ℕ) (bs : List (List (List ℕ × V))) → AllAtMost s.fan bs → AreShortPairs (flat bs) → AllByRecursion (IsSmall s IsShort) (fresh_pages used i bs)
   small-fresh_pages used i [] n a = tt
@@ -163,7 +163,8 @@ module _ {V : Type 0} (s : Settings) (IsShort : V → Type 0) where
       record {
         new = all-append (IsSmall s IsShort) here (new_of cs) made rest.new;
         freed = all-append P (drop 1 (placed_of g)) (freed_of cs) (later P (placed_of g) (lows_placed g a.0)) rest.freed;
-        fresh = all-append P (drop 1 here) (fresh_of cs) (later P here (lows_of here made)) rest.fresh }
+        fresh = all-append P (drop 1 here) (fresh_of cs) (later P here (lows_of here made)) rest.fresh;
+      }
 
   short_names : (ps : List (Placed V)) → HaveShortLows ps → AllByRecursion (λ k. length k ≤ s.max_key) (keys_of (names ps))
   short_names [] h = tt
@@ -207,7 +208,7 @@ module _ {V : Type 0} (s : Settings) (IsShort : V → Type 0) where
       let up : List (Placed ℕ) = fresh_pages used i (cut s.fan (names ps)) in
       let pairs : AllByRecursion (λ e. IsShortChange s IsAnyPid (e.0, Some e.1)) (names ps) = short_pairs s (names ps) (short_names s IsShort ps h) in
       let small : AllByRecursion (IsSmall s IsAnyPid) up =
-        small-fresh_pages s IsAnyPid used i (cut s.fan (names ps)) (cut_at_most s.fan (names ps) z) (subst (λ (m : Names). AllByRecursion (λ e. IsShortChange s IsAnyPid (e.0, Some e.1)) m) (sym (cut-joined s.fan (names ps))) pairs) in
+      small-fresh_pages s IsAnyPid used i (cut s.fan (names ps)) (cut_at_most s.fan (names ps) z) (subst (λ (m : Names). AllByRecursion (λ e. IsShortChange s IsAnyPid (e.0, Some e.1)) m) (sym (cut-joined s.fan (names ps))) pairs) in
       (small, ih (i + length up) up small)
 
 small-grown : {V : Type 0} (s : Settings) (IsShort : V → Type 0) (enough : ℕ) (used : List ℕ) (i : ℕ) (ps : List (Placed V)) → 0 < s.fan → HaveShortLows s IsShort ps → AllByRecursion (AllByRecursion (IsSmall s IsAnyPid)) (grown enough s used i ps)

@@ -1,5 +1,5 @@
 -- What a batch makes of the levels, from the leaves up.
-use Rattle.std.specs.Prelude.{ℕ, zero, suc, ◌+◌, Bool, false, nat_lt, nat_eq, List, [], ◌∷◌, ◌++◌, map, flat_map, take, drop, length, if◌then◌else◌}
+use Rattle.std.specs.Prelude.{ℕ, zero, suc, ◌+◌, Bool, false, nat_lt, nat_eq, List, [], ◌∷◌, ◌++◌, map, take, drop, length, if◌then◌else◌}
 use Rattle.keys.specs.declared.settings.Settings.{Settings}
 use Rattle.mapping.specs.Levels.{Placed, Tower, entries, names}
 use Rattle.split_plan.specs.Cut.{cut}

@@ -1,5 +1,5 @@
 -- What a batch makes of a store.
-use Rattle.std.specs.Prelude.{ℕ, suc, Bool, true, List, [], ◌++◌, map, flat_map, drop, length, if◌then◌else◌}
+use Rattle.std.specs.Prelude.{ℕ, suc, List, ◌++◌, map, flat_map, drop, length, if◌then◌else◌}
 use Rattle.std.specs.Map.{keys_of}
 use Rattle.keys.specs.declared.settings.Settings.{Settings}
 use Rattle.keys.specs.declared.command.Command.{Command}
@@ -8,7 +8,7 @@ use Rattle.mapping.specs.Tree.Logged.{No, Old, Upto}
 use Rattle.mapping.specs.FreshPids.{is_among}
 use Rattle.mapping.specs.Levels.{Placed, Levels, levels_of, contents, all_pages, by_pid, top_pid, pids}
 use Rattle.page_runs.specs.NetRun.{net_run}
-use Rattle.split_plan.specs.Worked.{Worked, worked_leaves}
+use Rattle.split_plan.specs.Worked.{worked_leaves}
 use Rattle.climb_plan.specs.Climb.{Climbed, climb, kept}
 
 -- the levels after the commands: each leaf gets its part of the net run, and the levels above get their terms
@@ -47,7 +47,8 @@ planned_tree s t cs =
       pages = by_pid (all_pages l);
       root = top_pid l.level l.above;
       height = suc (length l.above);
-      logged = outdate_all (c.outdated ++ shrunk_pids c.tower.above) t.logged }
+      logged = outdate_all (c.outdated ++ shrunk_pids c.tower.above) t.logged;
+    }
 
 -- the store after the commands: a batch doesn't touch the log
 abbrev pub plan : {A : Type 0} → Settings → Store → List (Command A) → Store

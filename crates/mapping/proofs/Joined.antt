@@ -4,7 +4,7 @@ use Rattle.std.proofs.Common.{refl, sym, ap, ◌∙◌, arith, subst}
 use Rattle.std.specs.List.{AllByRecursion}
 use Rattle.std.specs.List.Sorted.{IsStrictlySortedBy}
 use Rattle.std.specs.Map.{keys_of, values_of}
-use Rattle.keys.specs.Order.{order, IsRising}
+use Rattle.keys.specs.Order.{IsRising}
 use Rattle.delta_chain.specs.LayerLaws.{rising-entries_of}
 use Rattle.index_page.specs.Page as page
 use Rattle.index_page.specs.Page.{Page, PageOfKind, first_key, as_changes, said_under, named}

@@ -1,5 +1,5 @@
 -- Lemmas on pids, used and unused, for the proofs of this crate and of those above it.
-use Rattle.std.specs.Prelude.{◌≡◌, ◌≢◌, ℕ, zero, suc, ◌+◌, ◌<◌, ◌≤◌, ◌⊎◌, Bool, true, false, cond, ◌||◌, nat_le, nat_eq, List, [], ◌∷◌, ◌++◌}
+use Rattle.std.specs.Prelude.{◌≡◌, ◌≢◌, ℕ, zero, suc, ◌<◌, ◌≤◌, ◌⊎◌, Bool, true, false, cond, ◌||◌, nat_le, nat_eq, List, [], ◌∷◌}
 use Rattle.std.proofs.Common.{refl, sym, ap, ◌∙◌, arith, leb-true, leb-false, inl, inr}
 use Rattle.std.specs.List.{AllByRecursion}
 use Rattle.std.proofs.lemmas.Bool.{cases_lt, eqb-true, eqb-false}
@@ -125,19 +125,24 @@ step_back u at n h d = back_by (cases_lt at u) (nat_le u n) refl
     below_first : (c : Bool) → nat_le u at ≡ c → at < u → cond c (suc at) at ≡ at
     below_first true e l = absurd (omega (arith, leb-true))
     below_first false e l = refl
+
     behind_first : (m : ℕ) (c : Bool) → nat_le u m ≡ c → u ≤ m → cond c (suc m) m ≡ suc m
     behind_first m true e l = refl
     behind_first m false e l = absurd (let x = leb-false u m e in omega arith)
+
     small : (b : Bool) → nat_le u n ≡ b → at < cond b (suc n) n → at < u → at < n
     small true e l k = let x = leb-true u n e in omega arith
     small false e l k = l
+
     less : (m : ℕ) (b : Bool) → nat_le u n ≡ b → suc m < cond b (suc n) n → u ≤ m → m < n
     less m true e l k = omega arith
     less m false e l k = omega arith
+
     at_later : (k : ℕ) → k ≡ at → u < k → (b : Bool) → nat_le u n ≡ b → at < cond b (suc n) n → (m : ℕ) × (m < n) × (cond (nat_le u m) (suc m) m ≡ at)
     at_later zero e l b f x = absurd (omega arith)
     at_later (suc m) e l b f x =
         (m, less m b f (rw e x) (omega arith), behind_first m (nat_le u m) refl (omega arith) ∙ e)
+
     back_by : (at < u) ⊎ (u ≤ at) → (b : Bool) → nat_le u n ≡ b → (m : ℕ) × (m < n) × (cond (nat_le u m) (suc m) m ≡ at)
     back_by (inl l) b e = (at, small b e (h b e) l, below_first (nat_le u at) refl l)
     back_by (inr l) b e = at_later at refl (let x : u ≢ at = d in apart_le u at l x) b e (h b e)

@@ -1,6 +1,6 @@
 -- Lemmas on tables of pages, for the proofs of this crate and of those above it.
-use Rattle.std.specs.Prelude.{◌≡◌, ◌≢◌, ℕ, ◌<◌, Bool, true, false, cond, List, [], ◌∷◌, ◌++◌, flat_map, Option, Some, None}
-use Rattle.std.proofs.Common.{refl, sym, ap, ◌∙◌, subst, arith, Ordering, Less, Equal, Greater}
+use Rattle.std.specs.Prelude.{◌≡◌, ◌≢◌, ℕ, ◌<◌, Bool, true, false, cond, List, [], ◌∷◌, ◌++◌, flat_map, Option, Some}
+use Rattle.std.proofs.Common.{refl, sym, ap, ◌∙◌, subst, Ordering, Less, Equal, Greater}
 use Rattle.std.specs.Ordering.{nat_cmp, is_eq, match_ordering}
 use Rattle.std.specs.Cmp.{IsTotalOrder}
 use Rattle.std.specs.List.{AllByRecursion}
@@ -174,11 +174,12 @@ by_pid-holds l d =
     let h : Has table (all_pages l) = has-by_pid (all_pages l) (all_pages l) (has_each (all_pages l) e) in
     let a = all_apart (λ (p : ℕ × PageOfKind). page_at table p.0 ≡ Some p.1) (leaf_pages l.level) (flat_map index_pages l.above) h in
     let among : AllByRecursion (λ n. is_among n (all_pids l.level l.above) ≡ true) (keys_of (all_pages l)) =
-      subst (λ (ns : List ℕ). AllByRecursion (λ n. is_among n (all_pids l.level l.above) ≡ true) ns) (sym k) (all_among (all_pids l.level l.above)) in
+    subst (λ (ns : List ℕ). AllByRecursion (λ n. is_among n (all_pids l.level l.above) ≡ true) ns) (sym k) (all_among (all_pids l.level l.above)) in
     record {
       leaves = leaves_in table l.level a.0;
       above = levels_in table l.above a.1;
-      no_other = all_keys-by_pid (λ n. is_among n (all_pids l.level l.above) ≡ true) (all_pages l) among }
+      no_other = all_keys-by_pid (λ n. is_among n (all_pids l.level l.above) ≡ true) (all_pages l) among;
+    }
 
 -- ---- what holds of all pids of a table holds of those of the levels that it has
 

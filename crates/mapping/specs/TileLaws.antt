@@ -1,14 +1,14 @@
 -- Lemmas on pages whose ranges follow one another, for the proofs of this crate and of those above it.
-use Rattle.std.specs.Prelude.{◌≡◌, ℕ, ◌<◌, true, false, List, [], ◌∷◌, ◌++◌, map, length, Option, Some, None}
-use Rattle.std.proofs.Common.{refl, sym, ap, ◌∙◌, subst, arith, append-nil, Less}
+use Rattle.std.specs.Prelude.{◌≡◌, ℕ, ◌<◌, true, false, List, [], ◌∷◌, ◌++◌, length, Option, Some, None}
+use Rattle.std.proofs.Common.{refl, sym, ap, ◌∙◌, subst, arith, append-nil}
 use Rattle.std.specs.List.{AllByRecursion}
 use Rattle.std.specs.List.Sorted.{IsStrictlySortedBy}
 use Rattle.std.specs.Map.{keys_of}
 use Rattle.std.proofs.lemmas.List.{map-append}
-use Rattle.keys.specs.Order.{order, IsRising}
+use Rattle.keys.specs.Order.{IsRising}
 use Rattle.keys.specs.MapLaws.{total, IsBelowAll, below_all}
 use Rattle.delta_chain.specs.LayerLaws.{rising-entries_of}
-use Rattle.index_page.specs.Page.{Page, first_key, named}
+use Rattle.index_page.specs.Page.{first_key}
 use Rattle.index_page.specs.Range.{is_below, AreBelow, AreFrom, AreBefore, IsBefore}
 use Rattle.index_page.specs.Rules.{IsHeaded}
 use Rattle.index_page.specs.ListLaws.{all_keys-append}

@@ -1,11 +1,11 @@
 -- Lemmas on what is made of groups of pages, for the proofs of this crate and of those above it.
-use Rattle.std.specs.Prelude.{◌≡◌, ℕ, suc, ◌+◌, ◌<◌, ◌⊎◌, ◌↔◌, Bool, true, false, cond, List, [], ◌∷◌, ◌++◌, flat_map, drop, length, Option, Some, None}
+use Rattle.std.specs.Prelude.{◌≡◌, ℕ, suc, ◌+◌, ◌<◌, ◌⊎◌, ◌↔◌, Bool, true, false, cond, List, [], ◌∷◌, ◌++◌, drop, length, Option, Some, None}
 use Rattle.std.proofs.Common.{refl, sym, ap, ◌∙◌, subst, arith, inl, inr}
 use Rattle.std.specs.List.{AllByRecursion}
 use Rattle.std.specs.Map.{keys_of}
-use Rattle.std.proofs.lemmas.List.{map-append, length-map}
+use Rattle.std.proofs.lemmas.List.{map-append}
 use Rattle.std.proofs.lemmas.Grind.{flat_map-append}
-use Rattle.keys.specs.Order.{order, IsRising}
+use Rattle.keys.specs.Order.{IsRising}
 use Rattle.keys.specs.declared.settings.Settings.{Settings}
 use Rattle.index_page.specs.Page.{first_key}
 use Rattle.index_page.specs.Range.{is_below, AreBelow, AreFrom, AreBefore, IsBefore}
@@ -21,7 +21,7 @@ use Rattle.split_plan.specs.CutLaws.{cut-joined, cut_full, cut_some, cut_nothing
 use Rattle.split_plan.specs.Groups.{groups}
 use Rattle.split_plan.specs.GroupLaws.{groups-joined}
 use Rattle.split_plan.specs.Worked.{Worked, placed_of, is_thin, is_fat}
-use Rattle.split_plan.specs.Change.{Change, placed_bare, fresh_pages, replacements, is_rewritten, remade, fresh, changes, family_changes, new_of, fresh_of, all_new, all_fresh}
+use Rattle.split_plan.specs.Change.{Change, placed_bare, fresh_pages, replacements, is_rewritten, remade, changes, family_changes, new_of, fresh_of, all_new}
 
 module _ {V : Type 0} where
   -- ---- which groups are rewritten
@@ -138,7 +138,8 @@ module _ {V : Type 0} where
   bare_tile : (pid : ℕ) (low : List ℕ) (b : List (List ℕ × V)) (end : Option (List ℕ)) → IsRising b → AreFrom low (keys_of b) → AreBefore end (keys_of b) → IsBefore end low → IsTile end (placed_bare pid low b)
   bare_tile pid low b end r f a l = record {
     keys = record { rising = r; from = all_keys-as_changes (λ j. is_below j low ≡ false) b f; before = before_base end b a };
-    low = l }
+    low = l;
+  }
     where
       before_base : (end : Option (List ℕ)) (b : List (List ℕ × V)) → AreBefore end (keys_of b) → AreBefore end (keys_of (Rattle.index_page.specs.Page.as_changes b))
       before_base None b a = tt
@@ -152,9 +153,10 @@ module _ {V : Type 0} where
       (bare_tile (Rattle.mapping.specs.FreshPids.unused used i) (first_key b) b end rising (from_first b rising) here (first_is_before end b f.0 here), tt)
   tiled-fresh_pages used i (b ∷ c ∷ cs) end f r a =
       let below : AreBelow (first_key c) (keys_of b) = below_next b c (flat cs) f.1.0 r in
-      let rising : IsRising b = rising_left b (flat (c ∷ cs)) r in
-      (bare_tile (Rattle.mapping.specs.FreshPids.unused used i) (first_key b) b (Some (first_key c)) rising (from_first b rising) below (first_is_before (Some (first_key c)) b f.0 below),
-       tiled-fresh_pages used (suc i) (c ∷ cs) end f.1 (rising_right b (flat (c ∷ cs)) r) (before_apart end b (flat (c ∷ cs)) a).1)
+      let rising : IsRising b = rising_left b (flat (c ∷ cs)) r in (
+        bare_tile (Rattle.mapping.specs.FreshPids.unused used i) (first_key b) b (Some (first_key c)) rising (from_first b rising) below (first_is_before (Some (first_key c)) b f.0 below),
+        tiled-fresh_pages used (suc i) (c ∷ cs) end f.1 (rising_right b (flat (c ∷ cs)) r) (before_apart end b (flat (c ∷ cs)) a).1,
+      )
 
   tiled-replacements : (used : List ℕ) (i : ℕ) (p : Placed V) (bs : List (List (List ℕ × V))) (end : Option (List ℕ)) → AllFull bs → IsRising (flat bs) → AreFrom p.page.low (keys_of (flat bs)) → AreBefore end (keys_of (flat bs)) → IsBefore end p.page.low → Tiled (replacements used i p bs) end
   tiled-replacements used i p [] end f r o a l = tt
@@ -163,9 +165,10 @@ module _ {V : Type 0} where
       (bare_tile p.pid p.page.low b end (rising_left b [] r) from.0 (before_apart end b [] a).0 l, tt)
   tiled-replacements used i p (b ∷ c ∷ cs) end f r o a l =
       let below : AreBelow (first_key c) (keys_of b) = below_next b c (flat cs) f.1.0 r in
-      let from = all_keys_apart (λ j. is_below j p.page.low ≡ false) b (flat (c ∷ cs)) o in
-      (bare_tile p.pid p.page.low b (Some (first_key c)) (rising_left b (flat (c ∷ cs)) r) from.0 below (low_is_below p.page.low (first_key c) b f.0 from.0 below),
-       tiled-fresh_pages used i (c ∷ cs) end f.1 (rising_right b (flat (c ∷ cs)) r) (before_apart end b (flat (c ∷ cs)) a).1)
+      let from = all_keys_apart (λ j. is_below j p.page.low ≡ false) b (flat (c ∷ cs)) o in (
+        bare_tile p.pid p.page.low b (Some (first_key c)) (rising_left b (flat (c ∷ cs)) r) from.0 below (low_is_below p.page.low (first_key c) b f.0 from.0 below),
+        tiled-fresh_pages used i (c ∷ cs) end f.1 (rising_right b (flat (c ∷ cs)) r) (before_apart end b (flat (c ∷ cs)) a).1,
+      )
 
   tiled_cut : (fan : ℕ) (used : List ℕ) (i : ℕ) (p : Placed V) (es : List (List ℕ × V)) (end : Option (List ℕ)) → 0 < fan → IsRising es → AreFrom p.page.low (keys_of es) → AreBefore end (keys_of es) → IsBefore end p.page.low → Tiled (replacements used i p (cut fan es)) end
   tiled_cut fan used i p [] end h r o a l =

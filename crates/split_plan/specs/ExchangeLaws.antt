@@ -188,9 +188,9 @@ terms_exchange xs r s =
     let gone_rises : IsRising gone = rising-others (λ x. x.gone) xs r in
     same_map (with_run old (terms_of xs)) (whole (λ x. x.come) xs) (rising-with_run old (terms_of xs) r) s
     (λ q. value_at-with_run old (terms_of xs) q r (rising-with_present gone come gone_rises)
-      ∙ ap (λ (o : Option (Option ℕ)). said_or o (value_at q old)) (value_at-with_present q gone come gone_rises (rising-others (λ x. x.come) xs s))
-      ∙ said_as_exchanged (value_at q come) (value_at q gone) (value_at q old)
-      ∙ sym (after_at q xs r s))
+    ∙ ap (λ (o : Option (Option ℕ)). said_or o (value_at q old)) (value_at-with_present q gone come gone_rises (rising-others (λ x. x.come) xs s))
+    ∙ said_as_exchanged (value_at q come) (value_at q gone) (value_at q old)
+    ∙ sym (after_at q xs r s))
 
 pub all_keys-terms_of : (P : List ℕ → Type 0) (xs : List Exchange) → AllByRecursion P (keys_of (whole (λ x. x.gone) xs)) → AllByRecursion P (keys_of (whole (λ x. x.come) xs)) → AllByRecursion P (keys_of (terms_of xs))
 all_keys-terms_of P xs a b = all_keys-with_present P (others (λ x. x.gone) xs) (others (λ x. x.come) xs) (all_others P (λ x. x.gone) xs a) (all_others P (λ x. x.come) xs b)

@@ -1,5 +1,5 @@
 -- Lemmas on groups of children, for the proofs of this crate and of those above it.
-use Rattle.std.specs.Prelude.{◌≡◌, ℕ, zero, suc, ◌+◌, ◌<◌, Bool, true, false, not, cond, List, [], ◌∷◌, ◌++◌, length, drop}
+use Rattle.std.specs.Prelude.{◌≡◌, ℕ, suc, ◌+◌, ◌<◌, Bool, true, false, not, cond, List, [], ◌∷◌, ◌++◌, length, drop}
 use Rattle.std.proofs.Common.{refl, sym, ap, ◌∙◌, arith, append-nil, append_assoc}
 use Rattle.std.specs.List.{AllByRecursion}
 use Rattle.std.proofs.lemmas.List.Sums.{sum_by-cons}
@@ -71,12 +71,14 @@ module _ {X : Type 0} (is_thin : X → Bool) where
     leading = count_kept-thin x g.leading e ∙ h.leading;
     one = h.one;
     begin = h.begin;
-    none = λ n. count_kept-thin x xs e ∙ h.none n }
+    none = λ n. count_kept-thin x xs e ∙ h.none n;
+  }
   child_by false x xs g e h = record {
     leading = refl;
     one = (count_kept-kept x g.leading e ∙ ap (λ n. suc n) h.leading, h.one);
     begin = (e, h.begin);
-    none = λ n. absurd (cc) }
+    none = λ n. absurd (cc);
+  }
 
   is_gathered : (xs : List X) → IsGathered xs (gathered is_thin xs)
   is_gathered [] = record { leading = refl; one = tt; begin = tt; none = λ n. refl }

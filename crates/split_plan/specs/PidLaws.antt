@@ -1,5 +1,5 @@
 -- Lemmas on the pids of what is made of groups, for the proofs of this crate and of those above it.
-use Rattle.std.specs.Prelude.{◌≡◌, ◌≢◌, ℕ, zero, suc, ◌+◌, ◌<◌, ◌≤◌, Bool, true, false, cond, List, [], ◌∷◌, ◌++◌, drop, length}
+use Rattle.std.specs.Prelude.{◌≡◌, ◌≢◌, ℕ, suc, ◌+◌, ◌<◌, ◌≤◌, Bool, true, false, cond, List, [], ◌∷◌, ◌++◌, drop, length}
 use Rattle.std.proofs.Common.{refl, sym, ap, ◌∙◌, subst, arith, length-append}
 use Rattle.std.specs.List.{AllByRecursion}
 use Rattle.keys.specs.declared.settings.Settings.{Settings}
@@ -13,7 +13,7 @@ use Rattle.split_plan.specs.Cut.{cut}
 use Rattle.split_plan.specs.Groups.{groups}
 use Rattle.split_plan.specs.GroupLaws.{groups-joined}
 use Rattle.split_plan.specs.Worked.{Worked, placed_of, is_thin, is_fat}
-use Rattle.split_plan.specs.Change.{Change, fresh_pages, replacements, remade, fresh, changes, family_changes, new_of, fresh_of, all_new, all_fresh}
+use Rattle.split_plan.specs.Change.{Change, fresh_pages, replacements, remade, changes, family_changes, new_of, fresh_of, all_new, all_fresh}
 use Rattle.split_plan.specs.ChangeLaws.{placed_of-append}
 
 -- a list of pids with some left out, and with the fresh ones from place i up to place j put in
@@ -103,5 +103,5 @@ module _ {V : Type 0} where
       let later : List (List (Change V)) = family_changes s used j fs in
       let e : j + length (all_fresh later) ≡ i + length (fresh_of cs ++ all_fresh later) = omega (arith, length-append (fresh_of cs) (all_fresh later)) in
       let same : pids (placed_of (flat (groups is_thin f))) ++ pids (placed_of (flat fs)) ≡ pids (placed_of (flat (f ∷ fs))) =
-        ap (λ (ws : List (Worked V)). pids (placed_of ws) ++ pids (placed_of (flat fs))) (groups-joined is_thin f) ∙ sym (pids-placed_of f (flat fs)) in
+      ap (λ (ws : List (Worked V)). pids (placed_of ws) ++ pids (placed_of (flat fs))) (groups-joined is_thin f) ∙ sym (pids-placed_of f (flat fs)) in
       recast used e same (sym (pids-append (new_of cs) (all_new later))) (renewed-append (renewed-changes s used i (groups is_thin f)) (renewed-family_changes s used j fs))

@@ -1,26 +1,26 @@
 -- Lemmas on runs over the pages of a level, for the proofs of this crate and of those above it.
 use Rattle.std.specs.Prelude.{◌≡◌, ℕ, suc, Bool, true, false, not, cond, List, [], ◌∷◌, ◌++◌, length, Option, Some, None}
-use Rattle.std.proofs.Common.{refl, sym, ap, ◌∙◌, append-nil, subst, Ordering, Less, Equal, Greater}
+use Rattle.std.proofs.Common.{refl, sym, ap, ◌∙◌, append-nil, Ordering, Less, Equal, Greater}
 use Rattle.std.specs.Ordering.{is_eq, match_ordering}
 use Rattle.std.specs.List.{AllByRecursion}
 use Rattle.std.specs.Map.{keys_of}
-use Rattle.keys.specs.Order.{order, IsRising}
+use Rattle.keys.specs.Order.{order}
 use Rattle.keys.specs.OrderedMap.{with_pair, without}
 use Rattle.keys.specs.MapLaws.{total, IsBelowAll, all_keys-with_pair, all_keys-without}
 use Rattle.keys.specs.declared.settings.Settings.{Settings}
-use Rattle.delta_chain.specs.Layers.{Layers, with_change, with_run, IsInOrder}
+use Rattle.delta_chain.specs.Layers.{Layers, with_change, with_run}
 use Rattle.index_page.specs.Page.{Page, said, said_under, as_changes, named}
 use Rattle.index_page.specs.Page as page
-use Rattle.index_page.specs.Range.{is_below, AreBelow, AreFrom, AreBefore}
-use Rattle.index_page.specs.ListLaws.{all-append, all_keys-append, all_keys-filter}
-use Rattle.index_page.specs.RangeLaws.{less_through, below_all_from, before-filter, rising-filter}
-use Rattle.index_page.specs.PageLaws.{all-with_run, all_entries, all_keys_entries, all-as_changes, all_keys-as_changes, all_keys-with_run}
+use Rattle.index_page.specs.Range.{is_below, AreBelow, AreFrom}
+use Rattle.index_page.specs.ListLaws.{all-append}
+use Rattle.index_page.specs.RangeLaws.{less_through, below_all_from}
+use Rattle.index_page.specs.PageLaws.{all-with_run, all_entries, all_keys_entries, all-as_changes}
 use Rattle.mapping.specs.Levels.{Placed, entries, joined, name, names}
-use Rattle.mapping.specs.Proper.{next_low, IsTile, Tiled}
-use Rattle.mapping.specs.TileLaws.{from-joined, next_low-same}
+use Rattle.mapping.specs.Proper.{Tiled}
+use Rattle.mapping.specs.TileLaws.{from-joined}
 use Rattle.page_runs.specs.AfterRun.{overflows, replaced, in_front, after_run}
-use Rattle.page_runs.specs.AfterLaws.{entries_of-after_run, in_order-after_run}
-use Rattle.split_plan.specs.Worked.{Worked, worked, part_below, part_from, worked_leaves, worked_parents, placed_of}
+use Rattle.page_runs.specs.AfterLaws.{entries_of-after_run}
+use Rattle.split_plan.specs.Worked.{worked, part_below, part_from, worked_leaves, worked_parents, placed_of}
 
 -- ---- a run over pairs in two parts
 

@@ -1,27 +1,24 @@
 -- Lemmas on what parents are told, for the proofs of this crate and of those above it.
-use Rattle.std.specs.Prelude.{◌≡◌, ℕ, suc, ◌+◌, ◌<◌, true, false, ⊤, List, [], ◌∷◌, ◌++◌, map, take, drop, length, Option, Some, None}
+use Rattle.std.specs.Prelude.{◌≡◌, ℕ, ◌+◌, ◌<◌, false, List, [], ◌∷◌, ◌++◌, take, drop, length, Option, Some, None}
 use Rattle.std.proofs.Common.{refl, sym, ap, ◌∙◌, subst, arith, take-append-drop}
-use Rattle.std.specs.List.{AllByRecursion}
-use Rattle.std.specs.Map.{keys_of}
 use Rattle.keys.specs.Order.{IsRising}
 use Rattle.keys.specs.OrderedMap.{value_at}
 use Rattle.keys.specs.declared.settings.Settings.{Settings}
 use Rattle.delta_chain.specs.Layers.{with_run}
 use Rattle.index_page.specs.Page.{first_key}
-use Rattle.index_page.specs.Range.{is_below, AreFrom, AreBefore}
+use Rattle.index_page.specs.Range.{is_below}
 use Rattle.index_page.specs.Rules.{IsHeaded}
 use Rattle.index_page.specs.ListLaws.{flat}
-use Rattle.mapping.specs.Levels.{Placed, entries, joined, name, names}
+use Rattle.mapping.specs.Levels.{Placed, entries, name, names}
 use Rattle.mapping.specs.Proper.{next_low, Tiled}
-use Rattle.mapping.specs.TileLaws.{Names, names-append, rising-names, before-names, from-names, next_low-entries, next_low-parents}
+use Rattle.mapping.specs.TileLaws.{Names, names-append, rising-names, before-names, from-names}
 use Rattle.split_plan.specs.Cut.{AllFull}
 use Rattle.split_plan.specs.Groups.{groups}
 use Rattle.split_plan.specs.GroupLaws.{groups-joined, groups_full}
-use Rattle.split_plan.specs.Worked.{Worked, worked, worked_parents, placed_of, is_thin}
-use Rattle.split_plan.specs.RunLaws.{entries-worked}
-use Rattle.split_plan.specs.WorkedLaws.{IsRunFor, AreRunsFor}
-use Rattle.split_plan.specs.Change.{Change, remade, fresh, changes, family_changes, new_of, fresh_of, all_new}
-use Rattle.split_plan.specs.ChangeLaws.{placed_of-append, tiled_placed_apart, remade_begins, next_low-changes, tiled-changes, tiled-groups, AllHeaded}
+use Rattle.split_plan.specs.Worked.{Worked, placed_of, is_thin}
+use Rattle.split_plan.specs.WorkedLaws.{IsRunFor}
+use Rattle.split_plan.specs.Change.{remade, changes, new_of, fresh_of}
+use Rattle.split_plan.specs.ChangeLaws.{placed_of-append, tiled_placed_apart, remade_begins, next_low-changes, tiled-groups}
 use Rattle.split_plan.specs.Terms.{freed_of, terms, term_at}
 use Rattle.split_plan.specs.ExchangeLaws.{Exchange, whole, others, terms_of, rising-others, rising-with_present, all_keys-terms_of, before-terms_of, value_at-with_present, terms_exchange}
 
@@ -112,7 +109,8 @@ module _ {V : Type 0} where
       let run : IsRunFor low end (terms_of xs) = record {
         rising = rising-with_present (others (λ x. x.gone) xs) (others (λ x. x.come) xs) (rising-others (λ x. x.gone) xs r);
         from = all_keys-terms_of (λ j. is_below j low ≡ false) xs (rw old_names (from-names (placed_of f) low end n h)) (rw new_names (from-names new low end m t));
-        before = before-terms_of end xs (rw old_names (before-names (placed_of f) end h)) (rw new_names (before-names new end t)) } in
+        before = before-terms_of end xs (rw old_names (before-names (placed_of f) end h)) (rw new_names (before-names new end t));
+      } in
       subst (λ (c : List (List ℕ × Option ℕ)). IsRunFor low end c) (terms_are s used i gs) run
 
   pub rising-terms : (s : Settings) (used : List ℕ) (i : ℕ) (f : List (Worked V)) (end : Option (List ℕ)) → 0 < s.fan → Tiled (placed_of f) end → IsRising (terms (changes s used i (groups is_thin f)))

@@ -7,7 +7,7 @@ use Rattle.index_page.specs.Range.{is_below}
 use Rattle.mapping.specs.Levels.{Placed}
 use Rattle.page_runs.specs.AfterRun.{overflows, after_run, class_after}
 use Rattle.page_runs.specs.declared.class.Class.{Class}
-use Rattle.page_runs.specs.declared.class.Class.TheVariants.{Same, Changed, Thin, Fat}
+use Rattle.page_runs.specs.declared.class.Class.TheVariants.{Thin, Fat}
 
 -- a page after its run, its class, and whether it was replaced
 pub record Worked (V : Type 0) : Type 0 where
@@ -25,7 +25,8 @@ abbrev pub worked : {V : Type 0} → Settings → Placed V → List (List ℕ ×
 worked s p run = record {
   placed = record { pid = p.pid; page = record { low = p.page.low; layers = after_run s p.page.layers run } };
   class = class_after s p.page.layers run;
-  replaced = is_replaced s p.page.layers run }
+  replaced = is_replaced s p.page.layers run;
+}
 
 -- the changes of a run to keys below k, and the others
 abbrev pub part_below : {X : Type 0} → List ℕ → List (List ℕ × X) → List (List ℕ × X)

@@ -5,7 +5,7 @@ use Rattle.std.specs.List.{AllByRecursion}
 use Rattle.std.specs.Map.{keys_of}
 use Rattle.keys.specs.Order.{IsRising}
 use Rattle.keys.specs.declared.settings.Settings.{Settings}
-use Rattle.index_page.specs.Page.{Page, said, named}
+use Rattle.index_page.specs.Page.{said, named}
 use Rattle.index_page.specs.Range.{is_below, AreBelow, AreFrom, AreBefore}
 use Rattle.index_page.specs.ListLaws.{all_keyed, all_keys, all_keys-filter}
 use Rattle.index_page.specs.RangeLaws.{before-filter, rising-filter}
@@ -13,7 +13,7 @@ use Rattle.mapping.specs.Levels.{Placed}
 use Rattle.mapping.specs.Proper.{next_low, IsTile, Tiled}
 use Rattle.mapping.specs.TileLaws.{next_low-same}
 use Rattle.page_runs.specs.AfterLaws.{in_order-after_run}
-use Rattle.split_plan.specs.Worked.{Worked, worked, part_below, part_from, worked_leaves, worked_parents, placed_of}
+use Rattle.split_plan.specs.Worked.{worked, part_below, part_from, worked_leaves, worked_parents, placed_of}
 use Rattle.split_plan.specs.RunLaws.{all_said-after_run, names-worked_leaves, names-worked_parents}
 
 -- a run whose keys rise, from a low key on and before an end
@@ -43,13 +43,15 @@ module _ {X : Type 0} where
   run_below low k end run h = record {
     rising = rising-filter (λ c. is_below c.0 k) run h.rising;
     from = all_keys-filter (λ j. is_below j low ≡ false) (λ c. is_below c.0 k) run h.from;
-    before = are_below k run }
+    before = are_below k run;
+  }
 
   run_from : (low k : List ℕ) (end : Option (List ℕ)) (run : List (List ℕ × X)) → IsRunFor low end run → IsRunFor k end (part_from k run)
   run_from low k end run h = record {
     rising = rising-filter (λ c. not (is_below c.0 k)) run h.rising;
     from = are_from k run;
-    before = before-filter end (λ c. not (is_below c.0 k)) run h.before }
+    before = before-filter end (λ c. not (is_below c.0 k)) run h.before;
+  }
 
 module _ {V : Type 0} where
   -- what holds of the keys that a page names, and of a run's, holds of those that the page names after the run
@@ -67,8 +69,10 @@ module _ {V : Type 0} where
     keys = record {
       rising = in_order-after_run s p.page.layers run h.keys.rising k.rising;
       from = all_named-worked (λ j. is_below j p.page.low ≡ false) s p run k.from h.keys.from;
-      before = before-worked end s p run k.before h.keys.before };
-    low = h.low }
+      before = before-worked end s p run k.before h.keys.before;
+    };
+    low = h.low;
+  }
 
   -- leaves after their parts of a run are tiled
   pub tiled-worked_leaves : (s : Settings) (run : List (List ℕ × Option V)) (p : Placed V) (ps : List (Placed V)) (end : Option (List ℕ)) → Tiled (p ∷ ps) end → IsRunFor p.page.low end run → Tiled (placed_of (worked_leaves s run (p ∷ ps))) end
