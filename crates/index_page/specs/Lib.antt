@@ -1,3 +1,4 @@
+pub mod Children
 pub mod ListLaws
 pub mod Page
 pub mod PageLaws

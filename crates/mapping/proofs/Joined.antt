@@ -14,7 +14,8 @@ use Rattle.index_page.specs.Rules.{IsHeaded}
 use Rattle.index_page.specs.RangeLaws.{below_is_less}
 use Rattle.index_page.specs.PageLaws.{all_keys_entries}
 use Rattle.mapping.specs.Levels.{Placed, entries, joined, name, names}
-use Rattle.mapping.specs.Finding.{Place, children, children_at, children_of_page}
+use Rattle.index_page.specs.Children.{Place, children}
+use Rattle.mapping.specs.Finding.{children_at, children_of_page}
 use Rattle.mapping.specs.Proper.{next_low, Tiled, HasIndexPages}
 use Rattle.mapping.specs.TileLaws.{Names}
 

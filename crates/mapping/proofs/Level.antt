@@ -11,7 +11,8 @@ use Rattle.index_page.specs.Rules.{KeepsRange, Fits, IsHeaded, IsShortValue, IsA
 use Rattle.index_page.specs.RuleLaws.{decides_not, decides-is_same_key, decides-keeps_range, decides-fits_of_leaf, decides-fits_of_index, decides-is_headed}
 use Rattle.mapping.specs.Levels.{Placed, as_leaf, as_index, names, pids}
 use Rattle.mapping.specs.FreshPids.{is_among}
-use Rattle.mapping.specs.Finding.{Finding, Place, children, common_rules, child_rule, pid_rule, first_broken, broken_leaf, broken_index, or_else, found_at, on_level}
+use Rattle.index_page.specs.Children.{Place, children}
+use Rattle.mapping.specs.Finding.{Finding, common_rules, child_rule, pid_rule, first_broken, broken_leaf, broken_index, or_else, found_at, on_level}
 use Rattle.mapping.specs.Proper.{next_low, Tiled, Distinct}
 use Rattle.mapping.proofs.MetPids.{not_among, distinct_ahead}
 use Rattle.index_page.specs.ListLaws.{all_apart}

@@ -9,7 +9,8 @@ use Rattle.index_page.specs.Page.{Page, PageOfKind}
 use Rattle.mapping.specs.Tree.{Tree, page_at}
 use Rattle.mapping.specs.Levels.{Placed, joined, names, pids, leaf_at, index_at, as_leaf, as_index, levels_below}
 use Rattle.mapping.specs.FreshPids.{is_among}
-use Rattle.mapping.specs.Finding.{Finding, Place, children, broken_leaf, broken_index, or_else, on_level, unmet, children_at, all_met, finding_below, finding}
+use Rattle.index_page.specs.Children.{Place, children}
+use Rattle.mapping.specs.Finding.{Finding, broken_leaf, broken_index, or_else, on_level, unmet, children_at, all_met, finding_below, finding}
 use Rattle.mapping.specs.Proper.{next_low, Distinct, IsTree, IsProper}
 use Rattle.mapping.specs.TileLaws.{Names}
 use Rattle.mapping.proofs.Joined.{next_key, AreSpaced, AreHeaded, next_joined, next_names, spaced_joined, pids-children, places_below}

@@ -3,6 +3,7 @@ use Rattle.std.specs.Prelude.{ℕ, zero, suc, pred, Bool, not, List, [], ◌∷�
 use Rattle.keys.specs.declared.settings.Settings.{Settings}
 use Rattle.index_page.specs.Page.{Page, PageOfKind, entries}
 use Rattle.index_page.specs.Page.PageOfKind.{Leaf, Index}
+use Rattle.index_page.specs.Children.{Place, children}
 use Rattle.index_page.specs.Rules.{keeps_range, fits_sizes, fits_depth, is_headed, is_same_key, is_short_value, is_any_pid}
 use Rattle.mapping.specs.Tree.{Tree, page_at}
 use Rattle.mapping.specs.FreshPids.{is_among}
@@ -11,18 +12,6 @@ use Rattle.mapping.specs.FreshPids.{is_among}
 pub record Finding : Type 0 where
   pub rule : ℕ
   pub pid : ℕ
-
--- what a parent's entry says of a page: its pid, and the range from the entry's key to the next entry's
-pub record Place : Type 0 where
-  pub pid : ℕ
-  pub low : List ℕ
-  pub end : Option (List ℕ)
-
--- the children that entries name, the last of them up to the parent's own end
-abbrev pub children : List (List ℕ × ℕ) → Option (List ℕ) → List Place
-children [] end = []
-children (e ∷ []) end = record { pid = e.1; low = e.0; end = end } ∷ []
-children (e ∷ f ∷ es) end = record { pid = e.1; low = e.0; end = Some f.0 } ∷ children (f ∷ es) end
 
 -- rules 4 to 7 of a page of either kind, each with its number: its low key is the place's; its keys rise, in range;
 -- its sizes; its depth
