@@ -5,6 +5,7 @@ mod Kept
 mod LeadingThinLeaf
 mod Leaves
 mod Literals
+mod Logs
 mod MergedAndCutAgain
 mod Pids
 mod Planned
@@ -16,3 +17,4 @@ mod RowTen
 mod RowThirteen
 mod RowTwelve
 mod Sizes
+mod Standing

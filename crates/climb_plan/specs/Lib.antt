@@ -1,3 +1,4 @@
 pub mod Climb
 pub mod Limits
 pub mod Plan
+pub mod Standing

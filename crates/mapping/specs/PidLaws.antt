@@ -12,14 +12,14 @@ eq_by : (b : Bool) (m n : ℕ) → nat_eq m n ≡ b → m ≡ n → b ≡ true
 eq_by true m n e s = refl
 eq_by false m n e s = absurd (eqb-false m n e s)
 
-same_is_eq : (m n : ℕ) → m ≡ n → nat_eq m n ≡ true
+pub same_is_eq : (m n : ℕ) → m ≡ n → nat_eq m n ≡ true
 same_is_eq m n s = eq_by (nat_eq m n) m n refl s
 
-or_true_right : (a : Bool) → (a || true) ≡ true
+pub or_true_right : (a : Bool) → (a || true) ≡ true
 or_true_right true = refl
 or_true_right false = refl
 
-later_among : (m n : ℕ) (ns : List ℕ) → is_among m ns ≡ true → is_among m (n ∷ ns) ≡ true
+pub later_among : (m n : ℕ) (ns : List ℕ) → is_among m ns ≡ true → is_among m (n ∷ ns) ≡ true
 later_among m n ns h = ap (λ (b : Bool). nat_eq m n || b) h ∙ or_true_right (nat_eq m n)
 
 later_all_among : (n : ℕ) (ms ns : List ℕ) → AllByRecursion (λ m. is_among m ns ≡ true) ms → AllByRecursion (λ m. is_among m (n ∷ ns) ≡ true) ms

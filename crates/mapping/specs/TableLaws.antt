@@ -22,7 +22,7 @@ total = nat_cmp_total
 
 -- ---- pids that compare alike are the same
 
-equal_by : (o : Ordering) → is_eq o ≡ true → o ≡ Equal
+pub equal_by : (o : Ordering) → is_eq o ≡ true → o ≡ Equal
 equal_by Less h = absurd (cc)
 equal_by Equal h = refl
 equal_by Greater h = absurd (cc)
