@@ -1,9 +1,9 @@
 -- Lemmas on pids, used and unused, for the proofs of this crate and of those above it.
-use Rattle.std.specs.Prelude.{◌≡◌, ◌≢◌, ℕ, zero, suc, ◌<◌, ◌≤◌, ◌⊎◌, Bool, true, false, cond, ◌||◌, nat_le, nat_eq, List, [], ◌∷◌}
-use Rattle.std.proofs.Common.{refl, sym, ap, ◌∙◌, arith, leb-true, leb-false, inl, inr}
+use Rattle.std.specs.Prelude.{◌≡◌, ◌≢◌, ℕ, zero, suc, ◌<◌, ◌≤◌, ◌⊎◌, Bool, true, false, cond, ◌||◌, nat_lt, nat_le, nat_eq, List, [], ◌∷◌}
+use Rattle.std.proofs.Common.{refl, sym, ap, ◌∙◌, arith, leb-true, leb-false, ltb-true, ltb-false, inl, inr}
 use Rattle.std.specs.List.{AllByRecursion}
 use Rattle.std.proofs.lemmas.Bool.{cases_lt, eqb-true, eqb-false}
-use Rattle.mapping.specs.FreshPids.{is_among, unused}
+use Rattle.mapping.specs.FreshPids.{is_among, unused, with_number}
 use Rattle.mapping.specs.Proper.{AreRisingPids}
 
 -- ---- among others
@@ -160,3 +160,43 @@ unused-leaves_none (u ∷ us) n k r f h =
     let differ : u ≢ rest.0 = own_place u us k rest.0 r.0 apart.0 rest.2 in
     let back = step_back u rest.0 n (λ b e. rw (sym e) rest.1) differ in
     (back.0, back.1, rest.2 ∙ ap (λ (x : ℕ). unused us x) (sym back.2))
+
+-- ---- one more number in use
+
+module _ (us : List ℕ) where
+  counted : (b : Bool) (u m : ℕ) → nat_le u m ≡ b → u ≤ m → unused us (cond b (suc m) m) ≡ unused us (suc m)
+  counted true u m e l = refl
+  counted false u m e l = absurd (let x = leb-false u m e in omega arith)
+
+  -- a used number that isn't above the place is counted
+  unused-counted : (u m : ℕ) → u ≤ m → unused (u ∷ us) m ≡ unused us (suc m)
+  unused-counted u m l = counted (nat_le u m) u m refl l
+
+placed_by : (b : Bool) (n u : ℕ) (us : List ℕ) (m : ℕ) → nat_lt n u ≡ b → n < u → unused (cond b (n ∷ u ∷ us) (u ∷ with_number n us)) m ≡ unused (n ∷ u ∷ us) m
+placed_by true n u us m e l = refl
+placed_by false n u us m e l = absurd (let x = ltb-false n u e in omega arith)
+
+behind_by : (b : Bool) (n u : ℕ) (us : List ℕ) (m : ℕ) → nat_lt n u ≡ b → u ≤ n → unused (cond b (n ∷ u ∷ us) (u ∷ with_number n us)) m ≡ unused (u ∷ with_number n us) m
+behind_by true n u us m e l = absurd (let x = ltb-true n u e in omega arith)
+behind_by false n u us m e l = refl
+
+drawn_by : (b : Bool) (u : ℕ) (us : List ℕ) (n m : ℕ) → nat_le u n ≡ b → AreRisingPids (u ∷ us) → n ≤ m → ((k : ℕ) → k ≤ suc m → unused (with_number (unused us k) us) (suc m) ≡ unused us (suc (suc m)))
+    → unused (with_number (unused us (cond b (suc n) n)) (u ∷ us)) m ≡ unused (u ∷ us) (suc m)
+drawn_by true u us n m e r l ih =
+    let below : u ≤ n = leb-true u n e in
+    let more = at_least us (suc n) in
+    behind_by (nat_lt (unused us (suc n)) u) (unused us (suc n)) u us m refl (omega arith)
+    ∙ unused-counted (with_number (unused us (suc n)) us) u m (omega arith)
+    ∙ ih (suc n) (omega arith)
+    ∙ sym (unused-counted us u (suc m) (omega arith))
+drawn_by false u us n m e r l ih =
+    let above : n < u = leb-false u n e in
+    let own : unused us n ≡ n = stays us n (below_later n u us above r.0) in
+    ap (λ (k : ℕ). unused (with_number k (u ∷ us)) m) own
+    ∙ placed_by (nat_lt n u) n u us m refl above
+    ∙ unused-counted (u ∷ us) n m l
+
+-- once a number is in use, those behind it are one place nearer
+pub unused-drawn : (used : List ℕ) (n m : ℕ) → AreRisingPids used → n ≤ m → unused (with_number (unused used n) used) m ≡ unused used (suc m)
+unused-drawn [] n m r l = unused-counted [] n m l
+unused-drawn (u ∷ us) n m r l = drawn_by (nat_le u n) u us n m refl r l (λ k h. unused-drawn us k (suc m) r.1 h)

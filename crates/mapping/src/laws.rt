@@ -1,11 +1,11 @@
 //! What the definitions of `specs/` mean. Each law is the contract of a function with an empty body.
-ghost use Rattle.std.specs.Prelude.{◌≡◌, ◌↔◌, ◌<◌, ℕ, suc, false, List, None, length};
+ghost use Rattle.std.specs.Prelude.{◌≡◌, ◌↔◌, ◌<◌, ◌≤◌, ℕ, suc, false, List, None, length};
 ghost use Rattle.std.specs.Map.{keys_of};
 ghost use Rattle.keys.specs.Order.{IsRising};
 ghost use Rattle.keys.specs.declared.settings.Settings.{Settings};
 ghost use Rattle.mapping.specs.Tree.{Tree};
 ghost use Rattle.mapping.specs.Levels.{Levels, levels_of, contents, all_pages, by_pid, top_pid, all_pids};
-ghost use Rattle.mapping.specs.FreshPids.{is_among, unused};
+ghost use Rattle.mapping.specs.FreshPids.{is_among, unused, with_number};
 ghost use Rattle.mapping.specs.Finding.{finding};
 ghost use Rattle.mapping.specs.Proper.{Stacked, Distinct, AreRisingPids, HoldsLevels, IsTree, IsProper};
 
@@ -28,9 +28,11 @@ pub fn levels_are_found_in_their_table()
         levels_of t ≡ l }
 {}
 
-/// The numbers that are given to new pages are not in use, rise from place to place, and leave out none that is free.
+/// The numbers that are given to new pages are not in use, rise from place to place, and leave out none that is free. Once
+/// one is in use, those behind it are one place nearer: so it is the same to draw pids at once or one after the other.
 pub fn fresh_pids_are_the_least_unused_numbers()
     ensures free { (used : List ℕ) (n : ℕ) → AreRisingPids used → is_among (unused used n) used ≡ false }
     ensures rising { (used : List ℕ) (m n : ℕ) → m < n → unused used m < unused used n }
     ensures least { (used : List ℕ) (n k : ℕ) → AreRisingPids used → is_among k used ≡ false → k < unused used n → (m : ℕ) × (m < n) × (k ≡ unused used m) }
+    ensures drawn { (used : List ℕ) (n m : ℕ) → AreRisingPids used → n ≤ m → unused (with_number (unused used n) used) m ≡ unused used (suc m) }
 {}

@@ -1,5 +1,7 @@
 pub mod AfterLaws
 pub mod AfterRun
+pub mod Apart
+pub mod ApartLaws
 pub mod LeafWork
 pub mod NetLaws
 pub mod NetRun

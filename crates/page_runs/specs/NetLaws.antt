@@ -139,7 +139,7 @@ module _ {A : Type 0} where
 
   -- ---- a key that is not touched keeps its value
 
-  untouched_once : (m : Pairs) (c : Command A) (q : List ℕ) → IsRising m → touches q m c ≡ false → value_at q (map_after m c) ≡ value_at q m
+  pub untouched_once : (m : Pairs) (c : Command A) (q : List ℕ) → IsRising m → touches q m c ≡ false → value_at q (map_after m c) ≡ value_at q m
   untouched_once m (Get k) q r h = refl
   untouched_once m (Put k v) q r h = value_at-with_pair_apart m k q v h
   untouched_once m (Add k v) q r h = added_by (is_some (value_at k m)) m k q v h

@@ -1,12 +1,14 @@
 //! What the definitions of `specs/` mean. Each law is the contract of a function with an empty body.
-ghost use Rattle.std.specs.Prelude.{◌≡◌, ℕ, List, Option};
+ghost use Rattle.std.specs.Prelude.{◌≡◌, ℕ, Bool, true, false, List, Option, None};
 ghost use Rattle.keys.specs.Order.{IsRising};
-ghost use Rattle.keys.specs.Step.{map_after_all};
+ghost use Rattle.keys.specs.OrderedMap.{value_at};
+ghost use Rattle.keys.specs.Step.{replies_to, map_after_all};
 ghost use Rattle.keys.specs.declared.command.Command.{Command};
 ghost use Rattle.keys.specs.declared.settings.Settings.{Settings};
 ghost use Rattle.delta_chain.specs.Layers.{Layers, with_run, entries_of, IsInOrder};
 ghost use Rattle.page_runs.specs.AfterRun.{after_run};
 ghost use Rattle.page_runs.specs.NetRun.{net_run};
+ghost use Rattle.page_runs.specs.Apart.{commands_on, replies_on, AgreeOn};
 
 use std::alloc::Allocator;
 
@@ -20,4 +22,18 @@ pub fn the_net_run_is_what_the_commands_come_to<A: Allocator>()
 pub fn a_page_after_a_run_has_the_run_applied<V>()
     ensures entries { (s : Settings) (p : Layers V) (run : List (List ℕ × Option V)) → entries_of (after_run s p run) ≡ with_run (entries_of p) run }
     ensures in_order { (s : Settings) (p : Layers V) (run : List (List ℕ × Option V)) → IsInOrder p → IsRising run → IsInOrder (after_run s p run) }
+{}
+
+/// The commands on some of the keys can be worked by themselves, on any map that agrees with the whole one on these keys:
+/// they get the replies that they get among all commands, they leave the same at these keys, and their net run is what
+/// the net run of all commands says of these keys.
+pub fn commands_on_some_keys_are_worked_apart<A: Allocator>()
+    ensures replies { (is_own : List ℕ → Bool) (m x : List (List ℕ × List ℕ)) (cs : List (Command A)) → IsRising m → IsRising x → AgreeOn is_own m x →
+        replies_on is_own cs (replies_to m cs) ≡ replies_to x (commands_on is_own cs) }
+    ensures map { (is_own : List ℕ → Bool) (m x : List (List ℕ × List ℕ)) (cs : List (Command A)) → IsRising m → IsRising x → AgreeOn is_own m x →
+        AgreeOn is_own (map_after_all m cs) (map_after_all x (commands_on is_own cs)) }
+    ensures run { (is_own : List ℕ → Bool) (m x : List (List ℕ × List ℕ)) (cs : List (Command A)) (k : List ℕ) → IsRising m → IsRising x → AgreeOn is_own m x → is_own k ≡ true →
+        value_at k (net_run m cs) ≡ value_at k (net_run x (commands_on is_own cs)) }
+    ensures no_other { (is_own : List ℕ → Bool) (x : List (List ℕ × List ℕ)) (cs : List (Command A)) (k : List ℕ) → is_own k ≡ false →
+        value_at k (net_run x (commands_on is_own cs)) ≡ None }
 {}
