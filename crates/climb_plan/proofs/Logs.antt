@@ -4,16 +4,17 @@ use Rattle.std.proofs.Common.{refl, sym, ap, ◌∙◌, subst, inl, inr}
 use Rattle.std.specs.Ordering.{nat_cmp, is_eq}
 use Rattle.std.specs.List.{AllByRecursion}
 use Rattle.std.specs.Map.{keys_of, lookup}
-use Rattle.std.proofs.lemmas.Bool.{eqb-true}
+use Rattle.std.proofs.lemmas.Bool.{eq-eqb, eqb-true}
 use Rattle.keys.specs.declared.settings.Settings.{Settings}
 use Rattle.keys.specs.declared.command.Command.{Command}
 use Rattle.index_page.specs.Page.{PageOfKind}
 use Rattle.index_page.specs.Page.PageOfKind.{Leaf, Index}
+use Rattle.index_page.specs.RuleLaws.{all_both}
 use Rattle.mapping.specs.Tree.{Logged, Tree, page_at, or_no, logged_of}
 use Rattle.mapping.specs.Tree.Logged.{No, Old, Upto}
 use Rattle.mapping.specs.Levels.{Placed, Levels, pids, all_pids, levels_of, by_pid, all_pages}
 use Rattle.mapping.specs.FreshPids.{is_among}
-use Rattle.mapping.specs.PidLaws.{later_among, same_is_eq}
+use Rattle.mapping.specs.PidLaws.{later_among}
 use Rattle.mapping.specs.Proper.{HasIndexPages, HoldsLevels, IsProper}
 use Rattle.mapping.specs.TableLaws.{equal_by, same_pid, by_pid-holds, holds_where_found}
 use Rattle.page_runs.specs.NetRun.{net_run}
@@ -83,12 +84,8 @@ module _ {V : Type 0} where
 
   has_pid : (ps : List (Placed V)) (q : Placed V) → Has ps q → is_among q.pid (pids ps) ≡ true
   has_pid [] q h = absurd h
-  has_pid (p ∷ ps) q (inl e) = ap (λ (b : Bool). b || is_among q.pid (pids ps)) (same_is_eq q.pid p.pid (ap (λ (x : Placed V). x.pid) (sym e)))
+  has_pid (p ∷ ps) q (inl e) = ap (λ (b : Bool). b || is_among q.pid (pids ps)) (eq-eqb q.pid p.pid (ap (λ (x : Placed V). x.pid) (sym e)))
   has_pid (p ∷ ps) q (inr h) = later_among q.pid p.pid (pids ps) (has_pid ps q h)
-
-  pair : (P Q : Placed V → Type 0) (ps : List (Placed V)) → AllByRecursion P ps → AllByRecursion Q ps → AllByRecursion (λ p. P p × Q p) ps
-  pair P Q [] a b = tt
-  pair P Q (p ∷ ps) a b = ((a.0, b.0), pair P Q ps a.1 b.1)
 
 -- a page stands in one of some levels
 abbrev InLevels : List (List (Placed ℕ)) → Placed ℕ → Type 0
@@ -138,7 +135,7 @@ found_above t gone (l ∷ ls) [] n h a f m = absurd a
 found_above t gone (l ∷ ls) (new ∷ news) n h a f m =
     elim (among_either n (pids l) (flat_map pids ls) m) [
       | inl here ↦ (
-          let p = pick (λ q. (page_at t q.pid ≡ Some (Index q.page)) × StandsIn gone new q) l n (pair (λ q. page_at t q.pid ≡ Some (Index q.page)) (StandsIn gone new) l h.0 a.0) here in
+          let p = pick (λ q. (page_at t q.pid ≡ Some (Index q.page)) × StandsIn gone new q) l n ((all_both (λ q. page_at t q.pid ≡ Some (Index q.page)) (StandsIn gone new) l).1 (h.0, a.0)) here in
           let q = found new p.0 (p.2.1 (subst (λ (x : ℕ). is_among x gone ≡ false) (sym p.1) f)) in
           record { before = p.0; after = q.0; pid = p.1; page = p.2.0; same = q.1; there = inl q.2 })
       | inr later ↦ (
@@ -195,7 +192,7 @@ module _ {A : Type 0} (s : Settings) (t : Tree) (cs : List (Command A)) where
         let c : Climbed (List ℕ) = climbed s t cs in
         let gone : List ℕ = c.outdated in
         let news : List (Placed (List ℕ)) = c.tower.level in
-        let was = pick (λ q. (page_at t.pages q.pid ≡ Some (Leaf q.page)) × StandsIn gone news q) l.level pid (pair (λ q. page_at t.pages q.pid ≡ Some (Leaf q.page)) (StandsIn gone news) l.level proper.held.leaves levels_stand.0) m in
+        let was = pick (λ q. (page_at t.pages q.pid ≡ Some (Leaf q.page)) × StandsIn gone news q) l.level pid ((all_both (λ q. page_at t.pages q.pid ≡ Some (Leaf q.page)) (StandsIn gone news) l.level).1 (proper.held.leaves, levels_stand.0)) m in
         let kept_pid : is_among pid gone ≡ false = (among_apart pid gone (shrunk_pids c.tower.above) g).0 in
         let now = found news was.0 (was.2.1 (subst (λ (x : ℕ). is_among x gone ≡ false) (sym was.1) kept_pid)) in
         let there : page_at (planned_tree s t cs).pages now.0.pid ≡ Some (Leaf now.0.page) = has_all (λ q. page_at (planned_tree s t cs).pages q.pid ≡ Some (Leaf q.page)) news now.0 planned_holds.leaves now.2 in

@@ -1,7 +1,8 @@
 -- The plan of a proper tree: its contents are the map after the commands, and it is proper.
-use Rattle.std.specs.Prelude.{◌≡◌, ℕ, ◌<◌, ◌≤◌, Bool, true, false, cond, ◌&&◌, nat_le, List, [], ◌∷◌, length, Option, Some, None}
+use Rattle.std.specs.Prelude.{◌≡◌, ℕ, ◌<◌, ◌≤◌, Bool, true, false, cond, nat_le, List, [], ◌∷◌, length, Option, Some, None}
 use Rattle.std.proofs.Common.{refl, sym, ap, ◌∙◌, subst, arith, leb-true}
 use Rattle.std.specs.List.{AllByRecursion}
+use Rattle.std.proofs.lemmas.Bool.{and_parts}
 use Rattle.std.specs.Map.{keys_of}
 use Rattle.keys.specs.Limits.{first_bad_field, is_within}
 use Rattle.keys.specs.Step.{map_after_all}
@@ -35,12 +36,8 @@ use Rattle.climb_plan.proofs.Leaves.{tiled-leaves, small-leaves}
 
 -- ---- settings
 
-both_left : (a b : Bool) → (a && b) ≡ true → a ≡ true
-both_left true b h = refl
-both_left false b h = absurd (cc)
-
 fan_by : (b : Bool) (fan : ℕ) (rest : Option Field) → is_within 4 64 fan ≡ b → cond b rest (Some Fan) ≡ None → 4 ≤ fan
-fan_by true fan rest e h = leb-true 4 fan (both_left (nat_le 4 fan) (nat_le fan 64) e)
+fan_by true fan rest e h = leb-true 4 fan (and_parts (nat_le 4 fan) (nat_le fan 64) e).0
 fan_by false fan rest e h = absurd (cc)
 
 -- settings that pass the check have a fan of several entries

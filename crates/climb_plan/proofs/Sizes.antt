@@ -1,7 +1,8 @@
 -- Pages stay within the settings through a climb.
-use Rattle.std.specs.Prelude.{◌≡◌, ℕ, zero, suc, ◌+◌, ◌/◌, ◌<◌, ◌≤◌, Bool, true, false, cond, ◌||◌, nat_lt, List, [], ◌∷◌, map, drop, length, Option, Some, None}
+use Rattle.std.specs.Prelude.{◌≡◌, ℕ, zero, suc, ◌+◌, ◌/◌, ◌<◌, ◌≤◌, Bool, true, false, cond, nat_lt, List, [], ◌∷◌, map, drop, length, Option, Some, None}
 use Rattle.std.proofs.Common.{refl, sym, ◌∙◌, subst, arith, append-nil, ltb-false, ltb-true}
 use Rattle.std.specs.List.{AllByRecursion}
+use Rattle.std.proofs.lemmas.Bool.{or_parts}
 use Rattle.std.specs.Map.{keys_of}
 use Rattle.keys.specs.declared.settings.Settings.{Settings}
 use Rattle.delta_chain.specs.Layers.{with_run, entries_of, depth_of}
@@ -39,10 +40,6 @@ pub record IsSmallUnlessFat {V : Type 0} (s : Settings) (IsShort : V → Type 0)
 
 -- ---- a page after a run
 
-neither : (a b : Bool) → (a || b) ≡ false → (a ≡ false) × (b ≡ false)
-neither true b e = absurd (cc)
-neither false b e = (refl, e)
-
 not_fat_by : (b c : Bool) (s : Settings) (n : ℕ) → nat_lt n (s.fan / 4) ≡ b → nat_lt s.fan n ≡ c → is_fat_class (cond b Thin (cond c Fat Changed)) ≡ false → n ≤ s.fan
 not_fat_by true c s n e f h = let l : n < s.fan / 4 = ltb-true n (s.fan / 4) e in omega arith
 not_fat_by false true s n e f h = absurd (cc)
@@ -62,7 +59,7 @@ module _ {V : Type 0} (s : Settings) (IsShort : V → Type 0) where
       → Fits s IsShort (record { low = p.low; layers = cond b (replaced p.layers (c ∷ cs)) (in_front p.layers (c ∷ cs)) })
   fits_by true p c cs o h a f = record { base = not_fat s (length (with_run (entries_of p.layers) (c ∷ cs))) f; runs = tt; changes = a; depth = omega arith }
   fits_by false p c cs o h a f =
-      let both = neither (nat_lt s.fan (length (c ∷ cs))) (nat_lt s.chain (depth_of p.layers + 1)) o in
+      let both = or_parts (nat_lt s.fan (length (c ∷ cs))) (nat_lt s.chain (depth_of p.layers + 1)) o in
       let most : length (c ∷ cs) ≤ s.fan = ltb-false s.fan (length (c ∷ cs)) both.0 in
       let deep : depth_of p.layers + 1 ≤ s.chain = ltb-false s.chain (depth_of p.layers + 1) both.1 in
       record { base = h.base; runs = (record { some = omega arith; most = most }, h.runs); changes = a; depth = omega arith }

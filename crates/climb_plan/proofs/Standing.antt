@@ -2,9 +2,10 @@
 use Rattle.std.specs.Prelude.{◌≡◌, ℕ, ◌+◌, ◌⊎◌, Bool, true, false, cond, ◌||◌, nat_eq, ⊤, List, [], ◌∷◌, ◌++◌, map, flat_map, drop, length, Option}
 use Rattle.std.proofs.Common.{refl, sym, ap, ◌∙◌, subst, append-nil, inl, inr}
 use Rattle.std.specs.List.{AllByRecursion, filter}
-use Rattle.std.proofs.lemmas.Bool.{eqb-false}
+use Rattle.std.proofs.lemmas.Bool.{eqb-false, or_parts}
 use Rattle.keys.specs.declared.settings.Settings.{Settings}
 use Rattle.index_page.specs.Page.{Page}
+use Rattle.index_page.specs.RuleLaws.{all_both}
 use Rattle.index_page.specs.ListLaws.{flat, all-append, all_weaker}
 use Rattle.mapping.specs.Levels.{Placed, joined, name, names}
 use Rattle.mapping.specs.FreshPids.{is_among}
@@ -23,26 +24,22 @@ use Rattle.climb_plan.proofs.Families.{families-joined}
 
 -- ---- a number that isn't among joined lists
 
-not_either : (a b : Bool) → (a || b) ≡ false → (a ≡ false) × (b ≡ false)
-not_either true b h = absurd (cc)
-not_either false b h = (refl, h)
-
 pub among_apart : (n : ℕ) (ms ns : List ℕ) → is_among n (ms ++ ns) ≡ false → (is_among n ms ≡ false) × (is_among n ns ≡ false)
 among_apart n [] ns h = (refl, h)
 among_apart n (m ∷ ms) ns h =
-    let first = not_either (nat_eq n m) (is_among n (ms ++ ns)) h in
+    let first = or_parts (nat_eq n m) (is_among n (ms ++ ns)) h in
     let rest = among_apart n ms ns first.1 in
     (ap (λ (b : Bool). b || is_among n ms) first.0 ∙ rest.0, rest.1)
 
 not_itself : (n : ℕ) (ns : List ℕ) → is_among n (n ∷ ns) ≡ false → ⊥
-not_itself n ns h = eqb-false n n ((not_either (nat_eq n n) (is_among n ns) h).0) refl
+not_itself n ns h = eqb-false n n ((or_parts (nat_eq n n) (is_among n ns) h).0) refl
 
 fails_by : (b : Bool) (n : ℕ) (ns : List ℕ) → is_among n (cond b (n ∷ ns) ns) ≡ false → b ≡ false
 fails_by true n ns h = absurd (not_itself n ns h)
 fails_by false n ns h = refl
 
 later_by : (b : Bool) (n m : ℕ) (ns : List ℕ) → is_among n (cond b (m ∷ ns) ns) ≡ false → is_among n ns ≡ false
-later_by true n m ns h = (not_either (nat_eq n m) (is_among n ns) h).1
+later_by true n m ns h = (or_parts (nat_eq n m) (is_among n ns) h).1
 later_by false n m ns h = h
 
 module _ {V : Type 0} where
@@ -116,10 +113,6 @@ module _ {V : Type 0} where
   has_members [] = tt
   has_members (w ∷ ws) = (inl refl, all_weaker (λ v. Has (placed_of ws) v.placed) (λ v. Has (placed_of (w ∷ ws)) v.placed) (λ v h. inr h) ws (has_members ws))
 
-  both : (P Q : Worked V → Type 0) (ws : List (Worked V)) → AllByRecursion P ws → AllByRecursion Q ws → AllByRecursion (λ w. P w × Q w) ws
-  both P Q [] a b = tt
-  both P Q (w ∷ ws) a b = ((a.0, b.0), both P Q ws a.1 b.1)
-
   stays_by : (b : Bool) (s : Settings) (used : List ℕ) (i : ℕ) (w : Worked V) (ws : List (Worked V)) → is_rewritten (w ∷ ws) ≡ b
       → AllByRecursion (StaysIn (map (λ v. v.placed.pid) (filter (λ v. v.replaced || b) (w ∷ ws))) (remade_by b s used i w ws)) (w ∷ ws)
   stays_by true s used i w ws e =
@@ -135,7 +128,7 @@ module _ {V : Type 0} where
       let P : Worked V → Type 0 = λ v. is_among v.placed.pid (map (λ u. u.placed.pid) (filter test (w ∷ ws))) ≡ false → test v ≡ false in
       let Q : Worked V → Type 0 = λ v. Has (placed_of (w ∷ ws)) v.placed in
       all_weaker (λ v. P v × Q v) (StaysIn (map (λ u. u.placed.pid) (filter test (w ∷ ws))) (placed_of (w ∷ ws)))
-      (λ v f h. ((not_either v.replaced false (f.0 h)).0, f.1)) (w ∷ ws) (both P Q (w ∷ ws) (fails test (w ∷ ws)) (has_members (w ∷ ws)))
+      (λ v f h. ((or_parts v.replaced false (f.0 h)).0, f.1)) (w ∷ ws) ((all_both P Q (w ∷ ws)).1 (fails test (w ∷ ws), has_members (w ∷ ws)))
 
   stays-remade : (s : Settings) (used : List ℕ) (i : ℕ) (g : List (Worked V)) → AllByRecursion (StaysIn (outdated (record { members = g; pages = remade s used i g })) (remade s used i g)) g
   stays-remade s used i [] = tt

@@ -1,6 +1,7 @@
 -- Each test of `Rules` passes exactly where its fact holds: for the proofs of this crate and of those above it.
-use Rattle.std.specs.Prelude.{◌≡◌, ℕ, ◌≤◌, ◌<◌, Bool, true, false, not, ◌&&◌, nat_lt, nat_le, ◌↔◌, List, [], ◌∷◌, Option, Some, None, length}
-use Rattle.std.proofs.Common.{refl, Decides, le-leb, leb-true, lt-ltb, ltb-true}
+use Rattle.std.specs.Prelude.{◌≡◌, ℕ, ◌≤◌, Bool, true, false, not, ◌&&◌, nat_lt, nat_le, ◌↔◌, List, [], ◌∷◌, Option, Some, None, length}
+use Rattle.std.proofs.Common.{refl, Decides, le-leb, leb-true}
+use Rattle.std.proofs.lemmas.Bool.Decides.{Decides-and, Decides-like, Decides-ltb}
 use Rattle.std.specs.declared.cmp.Ordering.{Ordering}
 use Rattle.std.specs.declared.cmp.Ordering.TheVariants.{Less, Equal, Greater}
 use Rattle.std.specs.Ordering.{is_lt}
@@ -17,16 +18,6 @@ use Rattle.index_page.specs.Rules.{KeepsRange, do_rise, all_rise, keeps_range, I
 
 -- ---- tests that are made of others
 
--- two tests are two facts
-pub decides_both : {P Q : Type 0} (b c : Bool) → Decides b P → Decides c Q → Decides (b && c) (P × Q)
-decides_both true true p q = (λ h. (p.0 refl, q.0 refl), λ h. refl)
-decides_both true false p q = (λ h. absurd (cc), λ h. q.1 h.1)
-decides_both false c p q = (λ h. absurd (cc), λ h. p.1 h.0)
-
--- what a test says, in other words
-pub decides_other : {P Q : Type 0} (b : Bool) → Decides b P → P ↔ Q → Decides b Q
-decides_other b d e = (λ h. e.0 (d.0 h), λ q. d.1 (e.1 q))
-
 pub decides_not : (b : Bool) → Decides (not b) (b ≡ false)
 decides_not true = (λ h. absurd (cc), λ h. absurd (cc))
 decides_not false = (λ h. refl, λ h. refl)
@@ -35,7 +26,7 @@ decides_not false = (λ h. refl, λ h. refl)
 pub decides_all : {X : Type 0} (test : X → Bool) (P : X → Type 0) → ((x : X) → Decides (test x) (P x))
     → (xs : List X) → Decides (list_all test xs) (AllByRecursion P xs)
 decides_all test P d [] = (λ h. tt, λ h. refl)
-decides_all test P d (x ∷ xs) = decides_both (test x) (list_all test xs) (d x) (decides_all test P d xs)
+decides_all test P d (x ∷ xs) = Decides-and (test x) (list_all test xs) (d x) (decides_all test P d xs)
 
 -- two facts of each are each fact of all
 pub all_both : {X : Type 0} (P Q : X → Type 0) (xs : List X) → AllByRecursion (λ x. P x × Q x) xs ↔ (AllByRecursion P xs × AllByRecursion Q xs)
@@ -46,9 +37,6 @@ all_both P Q (x ∷ xs) =
 
 pub decides_le : (m n : ℕ) → Decides (nat_le m n) (m ≤ n)
 decides_le m n = (leb-true m n, le-leb m n)
-
-pub decides_lt : (m n : ℕ) → Decides (nat_lt m n) (m < n)
-decides_lt m n = (ltb-true m n, lt-ltb m n)
 
 decides_less : (o : Ordering) → Decides (is_lt o) (o ≡ Less)
 decides_less Less = (λ h. refl, λ h. refl)
@@ -77,8 +65,8 @@ decides-do_rise : (ks : List (List ℕ)) → Decides (do_rise ks) (AreRisingKeys
 decides-do_rise [] = (λ h. none_rises, λ h. refl)
 decides-do_rise (k ∷ []) = (λ h. one_rises k, λ h. refl)
 decides-do_rise (k ∷ j ∷ ks) =
-    let both = decides_both (is_lt (order k j)) (do_rise (j ∷ ks)) (decides_less (order k j)) (decides-do_rise (j ∷ ks)) in
-    decides_other (is_lt (order k j) && do_rise (j ∷ ks)) both (rises_on k j ks)
+    let both = Decides-and (is_lt (order k j)) (do_rise (j ∷ ks)) (decides_less (order k j)) (decides-do_rise (j ∷ ks)) in
+    Decides-like (is_lt (order k j) && do_rise (j ∷ ks)) (rises_on k j ks).0 (rises_on k j ks).1 both
 
 all_before : (end : Option (List ℕ)) (ks : List (List ℕ)) → AllByRecursion (λ k. is_before end k ≡ true) ks ↔ AreBefore end ks
 all_before (Some end) ks = (λ a. a, λ a. a)
@@ -91,7 +79,7 @@ decides_within low end ks =
     let From : List ℕ → Type 0 = λ k. is_below k low ≡ false in
     let Before : List ℕ → Type 0 = λ k. is_before end k ≡ true in
     let each : (k : List ℕ) → Decides (is_within low end k) (From k × Before k) =
-    λ k. decides_both (not (is_below k low)) (is_before end k) (decides_not (is_below k low)) (λ h. h, λ h. h) in
+    λ k. Decides-and (not (is_below k low)) (is_before end k) (decides_not (is_below k low)) (λ h. h, λ h. h) in
     let all = decides_all (is_within low end) (λ k. From k × Before k) each ks in
     let apart = all_both From Before ks in
     let before = all_before end ks in
@@ -100,19 +88,19 @@ decides_within low end ks =
 module _ {V : Type 0} where
   decides-all_rise : (runs : List (List (List ℕ × Option V))) (base : List (List ℕ × V)) → Decides (all_rise runs base) (AllRise runs base)
   decides-all_rise [] base = decides-do_rise (keys_of base)
-  decides-all_rise (run ∷ runs) base = decides_both (do_rise (keys_of run)) (all_rise runs base) (decides-do_rise (keys_of run)) (decides-all_rise runs base)
+  decides-all_rise (run ∷ runs) base = Decides-and (do_rise (keys_of run)) (all_rise runs base) (decides-do_rise (keys_of run)) (decides-all_rise runs base)
 
   -- the test of a page's keys
   pub decides-keeps_range : (low : List ℕ) (end : Option (List ℕ)) (p : Page V) → Decides (keeps_range low end p) (KeepsRange low end p)
   decides-keeps_range low end p =
-      let both = decides_both (all_rise p.layers.runs p.layers.base) (list_all (is_within low end) (named p)) (decides-all_rise p.layers.runs p.layers.base) (decides_within low end (named p)) in
+      let both = Decides-and (all_rise p.layers.runs p.layers.base) (list_all (is_within low end) (named p)) (decides-all_rise p.layers.runs p.layers.base) (decides_within low end (named p)) in
       (λ h. let a = both.0 h in record { rising = a.0; from = (a.1).0; before = (a.1).1 }, λ k. both.1 (k.rising, (k.from, k.before)))
 
 -- ---- sizes
 
 decides-is_run_sized : {X : Type 0} (s : Settings) (run : List X) → Decides (is_run_sized s run) (IsRunSized s run)
 decides-is_run_sized s run =
-    let both = decides_both (nat_lt 0 (length run)) (nat_le (length run) s.fan) (decides_lt 0 (length run)) (decides_le (length run) s.fan) in
+    let both = Decides-and (nat_lt 0 (length run)) (nat_le (length run) s.fan) (Decides-ltb 0 (length run)) (decides_le (length run) s.fan) in
     (λ h. let a = both.0 h in record { some = a.0; most = a.1 }, λ k. both.1 (k.some, k.most))
 
 module _ {V : Type 0} where
@@ -123,7 +111,7 @@ module _ {V : Type 0} where
   decides-is_short_change : (s : Settings) (is_short : V → Bool) (IsShort : V → Type 0) → ((v : V) → Decides (is_short v) (IsShort v))
       → (c : List ℕ × Option V) → Decides (is_short_change s is_short c) (IsShortChange s IsShort c)
   decides-is_short_change s is_short IsShort d c =
-      let both = decides_both (nat_le (length c.0) s.max_key) (of_cell is_short c.1) (decides_le (length c.0) s.max_key) (decides-of_cell is_short IsShort d c.1) in
+      let both = Decides-and (nat_le (length c.0) s.max_key) (of_cell is_short c.1) (decides_le (length c.0) s.max_key) (decides-of_cell is_short IsShort d c.1) in
       (λ h. let a = both.0 h in record { key = a.0; cell = a.1 }, λ k. both.1 (k.key, k.cell))
 
   -- the tests of a page's sizes and of its depth, together
@@ -133,9 +121,9 @@ module _ {V : Type 0} where
       let base : Bool = nat_le (length p.layers.base) s.fan in
       let runs : Bool = list_all (is_run_sized s) p.layers.runs in
       let changes : Bool = list_all (is_short_change s is_short) (said p) in
-      let base_and_runs = decides_both base runs (decides_le (length p.layers.base) s.fan) (decides_all (is_run_sized s) (IsRunSized s) (decides-is_run_sized s) p.layers.runs) in
+      let base_and_runs = Decides-and base runs (decides_le (length p.layers.base) s.fan) (decides_all (is_run_sized s) (IsRunSized s) (decides-is_run_sized s) p.layers.runs) in
       let of_changes = decides_all (is_short_change s is_short) (IsShortChange s IsShort) (decides-is_short_change s is_short IsShort d) (said p) in
-      let all = decides_both (base && runs) changes base_and_runs of_changes in
+      let all = Decides-and (base && runs) changes base_and_runs of_changes in
       let depth = decides_le (length p.layers.runs) s.chain in
       (λ h. let a = all.0 h.0 in record { base = (a.0).0; runs = (a.0).1; changes = a.1; depth = depth.0 h.1 }, λ k. (all.1 ((k.base, k.runs), k.changes), depth.1 k.depth))
 
@@ -153,5 +141,5 @@ pub decides-is_headed : (least : ℕ) (p : Page ℕ) → Decides (is_headed leas
 decides-is_headed least p =
     let some = decides_le least (length (entries p)) in
     let first = decides-is_same_key (first_key (entries p)) p.low in
-    let both = decides_both (nat_le least (length (entries p))) (is_same_key (first_key (entries p)) p.low) some first in
+    let both = Decides-and (nat_le least (length (entries p))) (is_same_key (first_key (entries p)) p.low) some first in
     (λ h. let a = both.0 h in record { some = a.0; first = a.1 }, λ k. both.1 (k.some, k.first))

@@ -1,14 +1,13 @@
 -- Pids that have been met, and pids that stand once each.
 use Rattle.std.specs.Prelude.{◌≡◌, ◌≢◌, ℕ, Bool, true, false, ◌||◌, nat_eq, ◌↔◌, List, [], ◌∷◌, ◌++◌}
 use Rattle.std.proofs.Common.{refl, sym, eqb-true}
-use Rattle.std.proofs.lemmas.Bool.{eqb-false}
+use Rattle.std.proofs.lemmas.Bool.{eqb-false, or_parts}
 use Rattle.std.specs.List.{AllByRecursion}
 use Rattle.mapping.specs.FreshPids.{is_among}
 use Rattle.mapping.specs.Proper.{Distinct}
 
 neither : (b c : Bool) → ((b || c) ≡ false) ↔ ((b ≡ false) × (c ≡ false))
-neither true c = (λ h. absurd (cc), λ h. absurd (let z = h.0 in cc))
-neither false c = (λ h. (refl, h), λ h. h.1)
+neither b c = (or_parts b c, λ h. rw h.0 h.1)
 
 unequal : (b : Bool) (n m : ℕ) → nat_eq n m ≡ b → (b ≡ false) ↔ (m ≢ n)
 unequal true n m h = (λ f. absurd (cc), λ d. absurd (d (sym (eqb-true n m h))))

@@ -2,18 +2,11 @@
 use Rattle.std.specs.Prelude.{◌≡◌, ◌≢◌, ℕ, zero, suc, ◌<◌, ◌≤◌, ◌⊎◌, Bool, true, false, cond, ◌||◌, nat_lt, nat_le, nat_eq, List, [], ◌∷◌}
 use Rattle.std.proofs.Common.{refl, sym, ap, ◌∙◌, arith, leb-true, leb-false, ltb-true, ltb-false, inl, inr}
 use Rattle.std.specs.List.{AllByRecursion}
-use Rattle.std.proofs.lemmas.Bool.{cases_lt, eqb-true, eqb-false}
+use Rattle.std.proofs.lemmas.Bool.{cases_lt, eq-eqb, eqb-true, eqb-false, or_parts}
 use Rattle.mapping.specs.FreshPids.{is_among, unused, with_number}
 use Rattle.mapping.specs.Proper.{AreRisingPids}
 
 -- ---- among others
-
-eq_by : (b : Bool) (m n : ℕ) → nat_eq m n ≡ b → m ≡ n → b ≡ true
-eq_by true m n e s = refl
-eq_by false m n e s = absurd (eqb-false m n e s)
-
-pub same_is_eq : (m n : ℕ) → m ≡ n → nat_eq m n ≡ true
-same_is_eq m n s = eq_by (nat_eq m n) m n refl s
 
 pub or_true_right : (a : Bool) → (a || true) ≡ true
 or_true_right true = refl
@@ -29,7 +22,7 @@ later_all_among n (m ∷ ms) ns h = (later_among m n ns h.0, later_all_among n m
 -- each of a list is among it
 pub all_among : (ns : List ℕ) → AllByRecursion (λ n. is_among n ns ≡ true) ns
 all_among [] = tt
-all_among (n ∷ ns) = (ap (λ (b : Bool). b || is_among n ns) (same_is_eq n n refl), later_all_among n ns ns (all_among ns))
+all_among (n ∷ ns) = (ap (λ (b : Bool). b || is_among n ns) (eq-eqb n n refl), later_all_among n ns ns (all_among ns))
 
 -- ---- unused numbers
 
@@ -107,10 +100,6 @@ not_among_those n used (m ∷ ms) at e h =
 pub unused-is_free : (used : List ℕ) (n : ℕ) → AreRisingPids used → is_among (unused used n) used ≡ false
 unused-is_free used n r = not_among_those (unused used n) used used n refl (used_is_never_unused used r)
 
-either_false : (a b : Bool) → (a || b) ≡ false → (a ≡ false) × (b ≡ false)
-either_false true b h = absurd (cc)
-either_false false b h = (refl, h)
-
 apart_le : (u n : ℕ) → u ≤ n → u ≢ n → u < n
 apart_le u n l d = le_by (cases_lt u n)
   where
@@ -155,7 +144,7 @@ own_place u us k at r d h e = eqb-false k u d (h ∙ ap (λ (x : ℕ). unused us
 pub unused-leaves_none : (used : List ℕ) (n k : ℕ) → AreRisingPids used → is_among k used ≡ false → k < unused used n → (m : ℕ) × (m < n) × (k ≡ unused used m)
 unused-leaves_none [] n k r f h = (k, h, refl)
 unused-leaves_none (u ∷ us) n k r f h =
-    let apart = either_false (nat_eq k u) (is_among k us) f in
+    let apart = or_parts (nat_eq k u) (is_among k us) f in
     let rest = unused-leaves_none us (cond (nat_le u n) (suc n) n) k r.1 apart.1 h in
     let differ : u ≢ rest.0 = own_place u us k rest.0 r.0 apart.0 rest.2 in
     let back = step_back u rest.0 n (λ b e. rw (sym e) rest.1) differ in
