@@ -5,6 +5,7 @@ use Rattle.std.specs.Ordering.{is_lt}
 use Rattle.std.specs.List.{filter}
 use Rattle.std.specs.List.Sorted.{IsStrictlySortedBy}
 use Rattle.std.specs.Map.{keys_of}
+use Rattle.std.proofs.lemmas.Map.Keys.{sorted_tail}
 use Rattle.keys.specs.Order.{order, IsRising}
 use Rattle.keys.specs.MapLaws.{total, order_itself, IsBelowAll}
 use Rattle.index_page.specs.Page.{first_key}
@@ -121,8 +122,7 @@ module _ {X : Type 0} where
   rising_right (x ∷ xs) ys r = rising_right xs ys r.1
 
   pub rising_rest : (x : List ℕ × X) (xs : List (List ℕ × X)) → IsRising (x ∷ xs) → IsRising xs
-  unfolding IsStrictlySortedBy
-  rising_rest x xs r = r.1
+  rising_rest x xs r = sorted_tail order x.0 (keys_of xs) r
 
   -- rising keys are from their first one on
   pub from_first : (es : List (List ℕ × X)) → IsRising es → AreFrom (first_key es) (keys_of es)

@@ -1,8 +1,8 @@
 -- Lemmas on groups of children, for the proofs of this crate and of those above it.
-use Rattle.std.specs.Prelude.{◌≡◌, ℕ, suc, ◌+◌, ◌<◌, Bool, true, false, not, cond, List, [], ◌∷◌, ◌++◌, length, drop}
+use Rattle.std.specs.Prelude.{◌≡◌, suc, ◌+◌, ◌<◌, Bool, true, false, not, cond, List, [], ◌∷◌, ◌++◌, length, drop}
 use Rattle.std.proofs.Common.{refl, sym, ap, ◌∙◌, arith, append-nil, append_assoc}
 use Rattle.std.specs.List.{AllByRecursion}
-use Rattle.std.proofs.lemmas.List.Sums.{sum_by-cons}
+use Rattle.std.proofs.lemmas.List.Sums.{sum_by-cons, sum_by-append}
 use Rattle.index_page.specs.ListLaws.{flat}
 use Rattle.split_plan.specs.Groups.{Gathered, with_child, gathered, with_leading, groups, count_kept, begins_thin}
 use Rattle.split_plan.specs.Cut.{AllFull}
@@ -54,10 +54,7 @@ module _ {X : Type 0} (is_thin : X → Bool) where
   count_kept-kept x xs h = count_kept-cons x xs ∙ (rw h (omega arith))
 
   count_kept-append : (xs ys : List X) → count_kept is_thin (xs ++ ys) ≡ count_kept is_thin xs + count_kept is_thin ys
-  count_kept-append [] ys = omega arith
-  count_kept-append (x ∷ xs) ys =
-      count_kept-cons x (xs ++ ys) ∙ ap (λ (n : ℕ). cond (not (is_thin x)) 1 0 + n) (count_kept-append xs ys)
-      ∙ (let a = count_kept-cons x xs in omega arith)
+  count_kept-append xs ys = sum_by-append (λ y. cond (not (is_thin y)) 1 0) xs ys
 
   -- what is gathered: what leads is thin, and each group begins with its only child that isn't
   record IsGathered (xs : List X) (g : Gathered X) : Type 0 where
