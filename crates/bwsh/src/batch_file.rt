@@ -5,7 +5,7 @@ ghost use Rattle.bwsh.specs.BatchFile.{said_by, first_bad, orders_of, Tells};
 
 use crate::line::{LineReader, Says, Why};
 use bstr::ByteSlice;
-use keys::command::Command;
+use keys::Command;
 use std::alloc::{AllocError, AllocFailed, Global};
 use std::marker::Model;
 use std::mem;

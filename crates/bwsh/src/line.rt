@@ -6,9 +6,7 @@ ghost use Rattle.bwsh.specs.Line.{only_key, key_and_value, go_says, command_says
 
 use crate::token::unescape;
 use crate::words::{first_word, only_word, two_words};
-use keys::command::Command;
-use keys::key::Key;
-use keys::value::Value;
+use keys::{Command, Key, Value};
 use std::alloc::{AllocError, Global};
 use std::fmt;
 

@@ -3,7 +3,7 @@ ghost use Rattle.std.specs.Prelude.{◌≡◌, ◌++◌, length, take, OnOk, OnE
 ghost use Rattle.bwsh.specs.Shown.{reply_text, shown_reply};
 
 use crate::token::push_token;
-use keys::command::Reply;
+use keys::Reply;
 use std::alloc::{AllocError, Global};
 
 // Appends what the line of the reply says. After an `Err` some of it may stand there.

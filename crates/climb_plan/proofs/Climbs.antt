@@ -4,17 +4,18 @@ use Rattle.std.proofs.Common.{refl, sym, ap, ◌∙◌, subst, arith, append-nil
 use Rattle.std.proofs.lemmas.List.{length-map}
 use Rattle.keys.specs.Order.{IsRising}
 use Rattle.keys.specs.declared.settings.Settings.{Settings}
-use Rattle.index_page.specs.ListLaws.{flat}
+use Rattle.keys.specs.Lists.{flat}
 use Rattle.mapping.specs.Levels.{Placed, joined, name, names}
 use Rattle.mapping.specs.Proper.{next_low, Tiled, Stacked}
-use Rattle.mapping.specs.TileLaws.{Names, next_low-same, some_page, rising-names}
+use Rattle.mapping.proofs.TileLaws.{Names, next_low-same, some_page, rising-names}
 use Rattle.split_plan.specs.Cut.{cut, piece_count, AllFull}
-use Rattle.split_plan.specs.CutLaws.{cut-joined, cut_full, cut_some, length-cut, fewer_pieces}
-use Rattle.split_plan.specs.Worked.{Worked, worked_parents, placed_of}
-use Rattle.split_plan.specs.RunLaws.{names-worked_parents}
-use Rattle.split_plan.specs.WorkedLaws.{tiled-worked_parents}
+use Rattle.split_plan.proofs.CutLaws.{cut-joined, cut_full, cut_some, length-cut, fewer_pieces}
+use Rattle.page_runs.specs.Worked.{Worked}
+use Rattle.split_plan.specs.WorkedLevel.{worked_parents, placed_of}
+use Rattle.split_plan.proofs.RunLaws.{names-worked_parents}
+use Rattle.split_plan.proofs.WorkedLaws.{tiled-worked_parents}
 use Rattle.split_plan.specs.Change.{Change, fresh_pages, changes, family_changes, new_of, all_new, all_fresh}
-use Rattle.split_plan.specs.ChangeLaws.{joined-fresh_pages, joined-changes, joined-family_changes, next_low-changes, next_low-family_changes, tiled-fresh_pages, tiled-changes, tiled-family_changes, length-fresh_pages, AllHeaded, headed-fresh_pages, headed-changes, headed-family_changes}
+use Rattle.split_plan.proofs.ChangeLaws.{joined-fresh_pages, joined-changes, joined-family_changes, next_low-changes, next_low-family_changes, tiled-fresh_pages, tiled-changes, tiled-family_changes, length-fresh_pages, AllHeaded, headed-fresh_pages, headed-changes, headed-family_changes}
 use Rattle.split_plan.specs.Terms.{terms}
 use Rattle.climb_plan.specs.Climb.{families, grown, climb}
 use Rattle.climb_plan.proofs.Families.{families-joined, parents_link, parents_told}

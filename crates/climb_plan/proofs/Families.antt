@@ -4,18 +4,19 @@ use Rattle.std.proofs.Common.{refl, sym, ap, ◌∙◌, subst, arith, length-app
 use Rattle.std.proofs.lemmas.List.{length-map}
 use Rattle.keys.specs.declared.settings.Settings.{Settings}
 use Rattle.delta_chain.specs.Layers.{with_run}
-use Rattle.index_page.specs.ListLaws.{flat}
+use Rattle.keys.specs.Lists.{flat}
 use Rattle.mapping.specs.Levels.{Placed, entries, joined, name, names}
 use Rattle.mapping.specs.Proper.{next_low, Tiled}
-use Rattle.mapping.specs.TileLaws.{Names, names-append, next_low-entries, next_low-parents}
+use Rattle.mapping.proofs.TileLaws.{Names, names-append, next_low-entries, next_low-parents}
 use Rattle.split_plan.specs.Groups.{groups}
-use Rattle.split_plan.specs.Worked.{Worked, worked, worked_parents, placed_of, is_thin}
-use Rattle.split_plan.specs.RunLaws.{entries-worked}
-use Rattle.split_plan.specs.WorkedLaws.{AreRunsFor}
+use Rattle.page_runs.specs.Worked.{Worked, worked, is_thin}
+use Rattle.split_plan.specs.WorkedLevel.{worked_parents, placed_of}
+use Rattle.split_plan.proofs.RunLaws.{entries-worked}
+use Rattle.split_plan.proofs.WorkedLaws.{AreRunsFor}
 use Rattle.split_plan.specs.Change.{Change, changes, family_changes, new_of, fresh_of, all_new}
-use Rattle.split_plan.specs.ChangeLaws.{next_low-groups, AllHeaded}
+use Rattle.split_plan.proofs.ChangeLaws.{next_low-groups, AllHeaded}
 use Rattle.split_plan.specs.Terms.{terms}
-use Rattle.split_plan.specs.TermLaws.{with_run-terms, terms_for_parent, names_apart, tiled_family_apart, headed_by_names}
+use Rattle.split_plan.proofs.TermLaws.{with_run-terms, terms_for_parent, names_apart, tiled_family_apart, headed_by_names}
 use Rattle.climb_plan.specs.Climb.{families}
 
 module _ {X : Type 0} where

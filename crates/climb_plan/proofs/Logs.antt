@@ -9,17 +9,17 @@ use Rattle.keys.specs.declared.settings.Settings.{Settings}
 use Rattle.keys.specs.declared.command.Command.{Command}
 use Rattle.index_page.specs.Page.{PageOfKind}
 use Rattle.index_page.specs.Page.PageOfKind.{Leaf, Index}
-use Rattle.index_page.specs.RuleLaws.{all_both}
+use Rattle.index_page.proofs.RuleLaws.{all_both}
 use Rattle.mapping.specs.Tree.{Logged, Tree, page_at, or_no, logged_of}
 use Rattle.mapping.specs.Tree.Logged.{No, Old, Upto}
 use Rattle.mapping.specs.Levels.{Placed, Levels, pids, all_pids, levels_of, by_pid, all_pages}
 use Rattle.mapping.specs.FreshPids.{is_among}
-use Rattle.mapping.specs.PidLaws.{later_among}
+use Rattle.mapping.proofs.PidLaws.{later_among}
 use Rattle.mapping.specs.Proper.{HasIndexPages, HoldsLevels, IsProper}
-use Rattle.mapping.specs.TableLaws.{equal_by, same_pid, by_pid-holds, holds_where_found}
+use Rattle.mapping.proofs.TableLaws.{equal_by, same_pid, by_pid-holds, holds_where_found}
 use Rattle.page_runs.specs.NetRun.{net_run}
-use Rattle.split_plan.specs.Worked.{worked_leaves}
-use Rattle.split_plan.specs.RunLaws.{names-worked_leaves}
+use Rattle.split_plan.specs.WorkedLevel.{worked_leaves}
+use Rattle.split_plan.proofs.RunLaws.{names-worked_leaves}
 use Rattle.climb_plan.specs.Climb.{Climbed, kept}
 use Rattle.climb_plan.specs.Plan.{climbed, planned_levels, planned_tree, shrunk_pids, outdate, outdate_all}
 use Rattle.climb_plan.specs.Standing.{Stands}

@@ -3,14 +3,15 @@ use Rattle.std.specs.Prelude.{◌≡◌, ℕ, zero, suc, ◌+◌, Bool, true, fa
 use Rattle.std.proofs.Common.{refl, sym, ap, ◌∙◌, append-nil}
 use Rattle.keys.specs.declared.settings.Settings.{Settings}
 use Rattle.mapping.specs.Levels.{Placed, joined, names, pids, all_pids}
-use Rattle.mapping.specs.LevelLaws.{same_pids}
+use Rattle.mapping.proofs.LevelLaws.{same_pids}
 use Rattle.mapping.specs.Proper.{Stacked}
 use Rattle.split_plan.specs.Cut.{cut}
-use Rattle.split_plan.specs.Worked.{Worked, worked_parents, placed_of}
-use Rattle.split_plan.specs.RunLaws.{names-worked_parents}
+use Rattle.page_runs.specs.Worked.{Worked}
+use Rattle.split_plan.specs.WorkedLevel.{worked_parents, placed_of}
+use Rattle.split_plan.proofs.RunLaws.{names-worked_parents}
 use Rattle.split_plan.specs.Change.{Change, fresh_pages, changes, family_changes, new_of, fresh_of, all_new, all_fresh}
-use Rattle.split_plan.specs.PidLaws.{Renewed, renewed-append, recast, renewed-fresh_pages, renewed-changes, renewed-family_changes}
-use Rattle.split_plan.specs.PidLaws.Renewed.{done}
+use Rattle.split_plan.proofs.PidLaws.{Renewed, renewed-append, recast, renewed-fresh_pages, renewed-changes, renewed-family_changes}
+use Rattle.split_plan.proofs.PidLaws.Renewed.{done}
 use Rattle.split_plan.specs.Terms.{terms}
 use Rattle.climb_plan.specs.Climb.{families, grown, climb}
 use Rattle.climb_plan.proofs.Families.{families-joined}
@@ -44,5 +45,5 @@ renewed-climb {V} s used i ws olds (ps ∷ ups) e o =
     let css : List (List (Change V)) = family_changes s used i (families ps ws) in
     let vs : List (Worked ℕ) = worked_parents s ps (map terms css) in
     let upper = renewed-climb s used (i + length (all_fresh css)) vs ps ups (names-worked_parents s ps (map terms css)) o.1 in
-    let before : pids (placed_of (Rattle.index_page.specs.ListLaws.flat (families ps ws))) ≡ pids olds = ap (λ (xs : List (Worked V)). pids (placed_of xs)) (families-joined ps ws linked) ∙ same_pids (placed_of ws) olds e in
+    let before : pids (placed_of (Rattle.keys.specs.Lists.flat (families ps ws))) ≡ pids olds = ap (λ (xs : List (Worked V)). pids (placed_of xs)) (families-joined ps ws linked) ∙ same_pids (placed_of ws) olds e in
     (upper.0, renewed-append (recast used refl before refl (renewed-family_changes s used i (families ps ws))) upper.1)

@@ -8,20 +8,22 @@ use Rattle.keys.specs.declared.settings.Settings.{Settings}
 use Rattle.delta_chain.specs.Layers.{with_run, entries_of, depth_of}
 use Rattle.index_page.specs.Page.{Page, first_key, said}
 use Rattle.index_page.specs.Rules.{OfCell, IsShortChange, Fits, IsAnyPid}
-use Rattle.index_page.specs.ListLaws.{flat, all-append, all_apart}
-use Rattle.index_page.specs.PageLaws.{all-as_changes, all_entries}
+use Rattle.keys.specs.Lists.{flat}
+use Rattle.index_page.proofs.ListLaws.{all-append, all_apart}
+use Rattle.index_page.proofs.PageLaws.{all-as_changes, all_entries}
 use Rattle.mapping.specs.Levels.{Placed, entries, joined, names}
 use Rattle.mapping.specs.Proper.{Stacked}
-use Rattle.mapping.specs.TileLaws.{Names}
-use Rattle.page_runs.specs.AfterRun.{overflows, replaced, in_front, class_of_size}
+use Rattle.mapping.proofs.TileLaws.{Names}
+use Rattle.page_runs.specs.AfterRun.{must_replace, replaced, in_front, class_of_size}
 use Rattle.page_runs.specs.declared.class.Class.TheVariants.{Changed, Thin, Fat}
 use Rattle.split_plan.specs.Cut.{cut, AllAtMost}
-use Rattle.split_plan.specs.CutLaws.{cut-joined, cut_at_most}
-use Rattle.split_plan.specs.ExchangeLaws.{all_keys-with_present}
+use Rattle.split_plan.proofs.CutLaws.{cut-joined, cut_at_most}
+use Rattle.split_plan.proofs.ExchangeLaws.{all_keys-with_present}
 use Rattle.split_plan.specs.Groups.{groups}
-use Rattle.split_plan.specs.GroupLaws.{groups-joined}
-use Rattle.split_plan.specs.Worked.{Worked, worked, worked_parents, placed_of, is_thin, is_fat, is_fat_class}
-use Rattle.split_plan.specs.RunLaws.{all_said-after_run, names-worked_parents}
+use Rattle.split_plan.proofs.GroupLaws.{groups-joined}
+use Rattle.page_runs.specs.Worked.{Worked, worked, is_thin, is_fat, is_fat_class}
+use Rattle.split_plan.specs.WorkedLevel.{worked_parents, placed_of}
+use Rattle.split_plan.proofs.RunLaws.{all_said-after_run, names-worked_parents}
 use Rattle.split_plan.specs.Change.{Change, placed_bare, fresh_pages, replacements, remade, changes, family_changes, new_of, fresh_of, all_new, all_fresh}
 use Rattle.split_plan.specs.Terms.{freed_of, terms}
 use Rattle.climb_plan.specs.Climb.{families, grown, climb}
@@ -53,7 +55,7 @@ module _ {V : Type 0} (s : Settings) (IsShort : V → Type 0) where
   abbrev pub AreShortChanges : List (List ℕ × Option V) → Type 0
   AreShortChanges run = AllByRecursion (IsShortChange s IsShort) run
 
-  fits_by : (b : Bool) (p : Page V) (c : List ℕ × Option V) (cs : List (List ℕ × Option V)) → overflows s p.layers (c ∷ cs) ≡ b → Fits s IsShort p
+  fits_by : (b : Bool) (p : Page V) (c : List ℕ × Option V) (cs : List (List ℕ × Option V)) → must_replace s p.layers (c ∷ cs) ≡ b → Fits s IsShort p
       → AreShortChanges (said (record { low = p.low; layers = cond b (replaced p.layers (c ∷ cs)) (in_front p.layers (c ∷ cs)) }))
       → is_fat_class (cond b (class_of_size s (length (with_run (entries_of p.layers) (c ∷ cs)))) Changed) ≡ false
       → Fits s IsShort (record { low = p.low; layers = cond b (replaced p.layers (c ∷ cs)) (in_front p.layers (c ∷ cs)) })
@@ -66,7 +68,7 @@ module _ {V : Type 0} (s : Settings) (IsShort : V → Type 0) where
 
   fits-worked : (p : Placed V) (run : List (List ℕ × Option V)) → Fits s IsShort p.page → AreShortChanges (said (worked s p run).placed.page) → is_fat (worked s p run) ≡ false → Fits s IsShort (worked s p run).placed.page
   fits-worked p [] h a f = h
-  fits-worked p (c ∷ cs) h a f = fits_by (overflows s p.page.layers (c ∷ cs)) p.page c cs refl h a f
+  fits-worked p (c ∷ cs) h a f = fits_by (must_replace s p.page.layers (c ∷ cs)) p.page c cs refl h a f
 
   pub small-worked : (p : Placed V) (run : List (List ℕ × Option V)) → IsSmall s IsShort p → AreShortChanges run → IsSmallUnlessFat s IsShort (worked s p run)
   small-worked p run h a =

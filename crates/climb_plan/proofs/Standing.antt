@@ -5,18 +5,20 @@ use Rattle.std.specs.List.{AllByRecursion, filter}
 use Rattle.std.proofs.lemmas.Bool.{eqb-false, or_parts}
 use Rattle.keys.specs.declared.settings.Settings.{Settings}
 use Rattle.index_page.specs.Page.{Page}
-use Rattle.index_page.specs.RuleLaws.{all_both}
-use Rattle.index_page.specs.ListLaws.{flat, all-append, all_weaker}
+use Rattle.index_page.proofs.RuleLaws.{all_both}
+use Rattle.keys.specs.Lists.{flat}
+use Rattle.index_page.proofs.ListLaws.{all-append, all_weaker}
 use Rattle.mapping.specs.Levels.{Placed, joined, name, names}
 use Rattle.mapping.specs.FreshPids.{is_among}
 use Rattle.mapping.specs.Proper.{Stacked}
-use Rattle.page_runs.specs.AfterRun.{overflows, replaced, in_front}
+use Rattle.page_runs.specs.AfterRun.{must_replace, replaced, in_front}
 use Rattle.split_plan.specs.Groups.{groups}
-use Rattle.split_plan.specs.GroupLaws.{groups-joined}
-use Rattle.split_plan.specs.Worked.{Worked, worked, part_below, part_from, worked_leaves, worked_parents, placed_of, is_thin}
-use Rattle.split_plan.specs.RunLaws.{names-worked_parents}
+use Rattle.split_plan.proofs.GroupLaws.{groups-joined}
+use Rattle.page_runs.specs.Worked.{Worked, worked, is_thin}
+use Rattle.split_plan.specs.WorkedLevel.{part_below, part_from, worked_leaves, worked_parents, placed_of}
+use Rattle.split_plan.proofs.RunLaws.{names-worked_parents}
 use Rattle.split_plan.specs.Change.{Change, is_rewritten, remade, changes, family_changes, new_of, fresh_of, all_new, all_fresh, outdated, all_outdated}
-use Rattle.split_plan.specs.ChangeLaws.{remade_by}
+use Rattle.split_plan.proofs.ChangeLaws.{remade_by}
 use Rattle.split_plan.specs.Terms.{terms}
 use Rattle.climb_plan.specs.Climb.{families, Climbed, climb}
 use Rattle.climb_plan.specs.Standing.{StandsUnder}
@@ -56,7 +58,7 @@ module _ {V : Type 0} where
 
   as_before-worked : (s : Settings) (p : Placed V) (run : List (List ℕ × Option V)) → (worked s p run).replaced ≡ false → IsAsBefore p (worked s p run).placed
   as_before-worked s p [] h = record { pid = refl; page = record { low = refl; base = refl; runs = ([], refl) } }
-  as_before-worked s p (c ∷ cs) h = record { pid = refl; page = stands_by (overflows s p.page.layers (c ∷ cs)) p.page c cs h }
+  as_before-worked s p (c ∷ cs) h = record { pid = refl; page = stands_by (must_replace s p.page.layers (c ∷ cs)) p.page c cs h }
 
   -- each page after its run is as it was before, unless it was replaced
   abbrev pub AreAsBefore : List (Placed V) → List (Worked V) → Type 0

@@ -3,7 +3,8 @@ use Rattle.std.specs.Prelude.{ℕ, zero, suc, ◌+◌, Bool, false, nat_lt, nat_
 use Rattle.keys.specs.declared.settings.Settings.{Settings}
 use Rattle.mapping.specs.Levels.{Placed, Tower, entries, names}
 use Rattle.split_plan.specs.Cut.{cut}
-use Rattle.split_plan.specs.Worked.{Worked, worked_parents}
+use Rattle.page_runs.specs.Worked.{Worked}
+use Rattle.split_plan.specs.WorkedLevel.{worked_parents}
 use Rattle.split_plan.specs.Change.{Change, fresh_pages, changes, family_changes, all_new, all_fresh, all_outdated}
 use Rattle.split_plan.specs.Terms.{terms}
 

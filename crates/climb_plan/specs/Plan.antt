@@ -8,7 +8,7 @@ use Rattle.mapping.specs.Tree.Logged.{No, Old, Upto}
 use Rattle.mapping.specs.FreshPids.{is_among}
 use Rattle.mapping.specs.Levels.{Placed, Levels, levels_of, contents, all_pages, by_pid, top_pid, pids}
 use Rattle.page_runs.specs.NetRun.{net_run}
-use Rattle.split_plan.specs.Worked.{worked_leaves}
+use Rattle.split_plan.specs.WorkedLevel.{worked_leaves}
 use Rattle.climb_plan.specs.Climb.{Climbed, climb, kept}
 
 -- the levels after the commands: each leaf gets its part of the net run, and the levels above get their terms

@@ -5,11 +5,8 @@ ghost use Rattle.std.specs.Prelude.{◌≡◌, IfOk};
 ghost use Rattle.keys.specs.Order.{IsRising};
 ghost use Rattle.delta_chain.specs.Layers.{entries_of};
 
-use delta_chain::base::Base;
-use delta_chain::builder::{BaseBuilder, PushError};
-use delta_chain::chain::Chain;
-use delta_chain::pairs::Pairs;
-use keys::cell::Cell;
+use delta_chain::{Base, BaseBuilder, Chain, Pairs, PushError};
+use keys::Cell;
 use std::alloc::{AllocError, Allocator};
 
 /// The base of the page's entries: each key that is present, with a copy of its cell. The chain is only read.

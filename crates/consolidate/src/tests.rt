@@ -1,12 +1,6 @@
 use crate::consolidate;
-use delta_chain::base::Base;
-use delta_chain::builder::{BaseBuilder, PushError};
-use delta_chain::chain::Chain;
-use delta_chain::run::Run;
-use keys::cell::Cell;
-use keys::key::Key;
-use keys::pid::Pid;
-use keys::value::Value;
+use delta_chain::{Base, BaseBuilder, Chain, PushError, Run};
+use keys::{Cell, Key, Pid, Value};
 use std::alloc::{AllocError, Global};
 use std::test::Fail;
 

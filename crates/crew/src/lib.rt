@@ -29,38 +29,39 @@ pub trait Work: Sync {
     ghost Made: { Type 0 };
 
     // Which jobs may be worked.
-    ghost can: { Self → Held → Type 0 };
+    ghost accepts: { Self → Held → Type 0 };
 
     ghost held: { Self.Job → Held };
 
     // What `undo` needs of what it is given.
-    ghost whole: { Self → Self.Done → Type 0 };
+    ghost can_undo: { Self → Self.Done → Type 0 };
 
     // What the job held of which this was made.
     ghost origin: { Self.Done → Held };
 
-    ghost product: { Self.Done → Made };
+    // What was made, as plain data.
+    ghost outcome: { Self.Done → Made };
 
     // What the work makes of a job: a function of what the job holds.
     ghost made: { Self → Held → Made };
 
     /// Works the job. `Back` comes only where memory was refused, and gives the job back as it was.
     fn work(&self, job: Self::Job) -> Turn<Self::Job, Self::Done>
-        requires { can self.now (held job) }
-        ensures whole { IfDone result (whole self.now) }
+        requires { accepts self.now (held job) }
+        ensures can_undo { IfDone result (can_undo self.now) }
         ensures origin { IfDone result (λ done. origin done ≡ held job) }
-        ensures made { IfDone result (λ done. product done ≡ made self.now (held job)) }
+        ensures made { IfDone result (λ done. outcome done ≡ made self.now (held job)) }
         ensures back { IfBack result (λ again. held again ≡ held job) };
 
     /// The job of which this was made. It takes no memory.
     fn undo(&self, done: Self::Done) -> Self::Job
-        requires { whole self.now done }
+        requires { can_undo self.now done }
         ensures { held result ≡ origin done };
 }
 
 /// What is worked and undone is the job as it was: so a round that cannot be finished can be taken back.
 pub fn work_and_undo<W: Work>(work: &W, job: W::Job) -> W::Job
-    requires { W.can work.now (W.held job) }
+    requires { W.accepts work.now (W.held job) }
     ensures { W.held result ≡ W.held job }
 {
     match work.work(job) {

@@ -14,15 +14,15 @@ impl Work for Doubling {
 
     ghost Made = { ℕ };
 
-    ghost can = { λ _ _. Unit };
+    ghost accepts = { λ _ _. Unit };
 
     ghost held = { λ job. job };
 
-    ghost whole = { λ _ _. Unit };
+    ghost can_undo = { λ _ _. Unit };
 
     ghost origin = { λ done. done / 2 };
 
-    ghost product = { λ done. done };
+    ghost outcome = { λ done. done };
 
     ghost made = { λ _ held. 2 * held };
 

@@ -1,2 +1,5 @@
+pub mod LayerLaws
 mod Lending
 mod Merges
+pub mod Places
+pub mod Rising

@@ -4,10 +4,10 @@ use Rattle.std.specs.Map.{keys_of, values_of}
 use Rattle.std.proofs.lemmas.Map.Keys.{sorted_head, sorted_tail}
 use Rattle.keys.specs.Order.{order, IsRising}
 use Rattle.keys.specs.OrderedMap.{without}
-use Rattle.keys.specs.MapLaws.{IsBelowAll, below_all, same_key, order_itself, flipped_less, flipped_greater}
+use Rattle.keys.proofs.MapLaws.{IsBelowAll, below_all, same_key, order_itself, flipped_less, flipped_greater}
 use Rattle.delta_chain.specs.Layers.{with_change, with_run}
 use Rattle.delta_chain.specs.Merging.{present, first_order}
-use Rattle.delta_chain.specs.Places.{drop_pair, front_under, front_at}
+use Rattle.delta_chain.proofs.Places.{drop_pair, front_under, front_at}
 
 module _ {T : Type 0} where
   -- what stands behind a place rises too

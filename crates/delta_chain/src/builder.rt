@@ -3,7 +3,7 @@ ghost use Rattle.delta_chain.specs.Building.{goes_last};
 
 use crate::base::Base;
 use crate::entries::Entries;
-use keys::key::Key;
+use keys::Key;
 use std::alloc::{AllocError, Allocator};
 use std::marker::Model;
 

@@ -3,7 +3,7 @@ ghost use Rattle.std.specs.Map.{keys_of, values_of};
 ghost use Rattle.keys.specs.Order.{IsRising};
 ghost use Rattle.delta_chain.specs.Building.{goes_last};
 
-use keys::key::Key;
+use keys::Key;
 use std::alloc::{AllocError, Allocator};
 use std::marker::Model;
 

@@ -13,3 +13,10 @@ pub mod pairs;
 pub mod run;
 #[cfg(test)]
 mod tests;
+
+pub use crate::base::Base;
+pub use crate::builder::{BaseBuilder, PushError};
+pub use crate::chain::Chain;
+pub use crate::keyed::Keyed;
+pub use crate::pairs::Pairs;
+pub use crate::run::Run;

@@ -8,8 +8,7 @@ ghost use Rattle.delta_chain.specs.Merging.{present, first_order};
 use crate::base::Base;
 use crate::pairs::Pairs;
 use crate::run::Run;
-use keys::cell::Cell;
-use keys::key::Key;
+use keys::{Cell, Key};
 use std::alloc::{AllocError, Allocator};
 use std::cmp::Ordering;
 

@@ -2,9 +2,7 @@ use crate::base::Base;
 use crate::builder::{BaseBuilder, PushError};
 use crate::chain::Chain;
 use crate::run::Run;
-use keys::key::Key;
-use keys::pid::Pid;
-use keys::value::Value;
+use keys::{Key, Pid, Value};
 use std::alloc::{AllocError, Global};
 use std::test::Fail;
 

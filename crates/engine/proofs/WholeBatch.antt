@@ -9,11 +9,11 @@ use Rattle.keys.specs.declared.command.Command.{Command}
 use Rattle.keys.specs.declared.command.Reply.{Reply}
 use Rattle.keys.specs.declared.settings.Settings.{Settings}
 use Rattle.delta_chain.specs.Layers.{Layers, entries_of, IsInOrder}
-use Rattle.delta_chain.specs.LayerLaws.{rising-entries_of}
+use Rattle.delta_chain.proofs.LayerLaws.{rising-entries_of}
 use Rattle.routing.specs.Places.{places_below}
-use Rattle.page_runs.specs.AfterLaws.{entries_of-after_run}
+use Rattle.page_runs.proofs.AfterLaws.{entries_of-after_run}
 use Rattle.page_runs.specs.AfterRun.{after_run}
-use Rattle.page_runs.specs.NetLaws.{with_run-net_run}
+use Rattle.page_runs.proofs.NetLaws.{with_run-net_run}
 use Rattle.page_runs.specs.NetRun.{net_run}
 use Rattle.page_runs.specs.Replies.{commands_at, pieces_of}
 use Rattle.page_runs.specs.declared.piece.Piece.{Piece}

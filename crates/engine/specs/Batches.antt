@@ -1,13 +1,8 @@
 -- Batches that are executed one after the other.
 use Rattle.std.specs.Prelude.{ℕ, List, [], ◌∷◌}
-use Rattle.std.specs.List.{flat_map}
 use Rattle.keys.specs.Step.{replies_to, map_after_all}
 use Rattle.keys.specs.declared.command.Command.{Command}
 use Rattle.keys.specs.declared.command.Reply.{Reply}
-
--- the lists, each behind the one before it, as one list
-abbrev pub joined : {X : Type 0} → List (List X) → List X
-joined xss = flat_map (λ xs. xs) xss
 
 -- the replies to each batch, where each finds the map that the one before it left
 abbrev pub replies_in_turn : {A : Type 0} → List (List ℕ × List ℕ) → List (List (Command A)) → List (List (Reply A))

@@ -7,3 +7,5 @@ mod replies;
 pub mod store;
 #[cfg(test)]
 mod tests;
+
+pub use crate::store::Store;

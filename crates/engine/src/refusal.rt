@@ -2,11 +2,7 @@
 ghost use Rattle.std.specs.Prelude.{◌≡◌, Ok, Err, MatchOption};
 ghost use Rattle.engine.specs.Refusal.{key_fault, value_fault, fault_at, first_fault, refusal};
 
-use keys::command::Command;
-use keys::fault::Fault;
-use keys::key::Key;
-use keys::settings::Settings;
-use keys::value::Value;
+use keys::{Command, Fault, Key, Settings, Value};
 use std::alloc::Global;
 
 // The most commands that a batch may have.

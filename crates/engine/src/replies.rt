@@ -1,8 +1,8 @@
 //! The answers of the one page, as the replies of the batch.
 ghost use Rattle.std.specs.Prelude.{◌≡◌, ◌≤◌, [], map, length, vec_capacity};
 
-use keys::command::Reply;
-use page_runs::piece::Piece;
+use keys::Reply;
+use page_runs::Piece;
 use std::alloc::Global;
 
 // The replies of the pieces, in their order, in a list that has room for them. It takes no memory.

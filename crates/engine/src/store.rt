@@ -1,21 +1,17 @@
 ghost use Rattle.std.specs.Prelude.{◌≡◌, [], IsOk, IfOk, OnOk, OnErr, IsOkUnless, MatchOption, Err};
 ghost use Rattle.keys.specs.Limits.{first_bad_field};
 ghost use Rattle.keys.specs.Step.{replies_to, map_after_all};
+ghost use Rattle.delta_chain.specs.Layers.{entries_of};
 ghost use Rattle.page_runs.specs.AfterRun.{after_run};
 ghost use Rattle.page_runs.specs.NetRun.{net_run};
 ghost use Rattle.engine.specs.Refusal.{refusal};
-ghost use Rattle.engine.specs.State.{contents};
 
 use crate::refusal::admit;
 use crate::replies::replies_of;
 use crew::{Turn, Work};
-use delta_chain::base::Base;
-use delta_chain::chain::Chain;
-use keys::command::{Command, Reply};
-use keys::fault::Fault;
-use keys::settings::Settings;
-use keys::value::Value;
-use page_runs::leaf_work::{LeafJob, LeafWork};
+use delta_chain::{Base, Chain};
+use keys::{Command, Fault, Reply, Settings, Value};
+use page_runs::{LeafJob, LeafWork};
 use routing::PageRun;
 use std::alloc::Global;
 use std::marker::Model;
@@ -43,7 +39,7 @@ impl Store {
     pub fn create(alloc: Global, settings: Settings) -> Result<Store, Fault>
         ensures refused { MatchOption (first_bad_field settings) (IsOk result) (λ field. result ≡ Err (Fault.BadSettings field)) }
         ensures leaf { IfOk result (λ store. store.leaf ≡ record { runs = []; base = [] }) }
-        ensures contents { IfOk result (λ store. contents store ≡ []) }
+        ensures contents { IfOk result (λ store. entries_of store.leaf ≡ []) }
         ensures settings { IfOk result (λ store. store.settings ≡ settings) }
     {
         settings.check()?;
@@ -66,8 +62,8 @@ impl Store {
     /// `Fault::KeyTooLong`, and with a value that is too long `Fault::ValueTooLong`, with its place; a command's key
     /// comes before its value. Else there is only `Fault::NoMemory`. After an `Err` the store is as it was.
     pub fn batch(&mut self, commands: &[Command<Global>]) -> Result<Vec<Reply<Global>>, Fault>
-        ensures replies { IfOk result (λ replies. replies.items ≡ replies_to (contents self.old) commands.now) }
-        ensures contents { OnOk result (contents self.new ≡ map_after_all (contents self.old) commands.now) }
+        ensures replies { IfOk result (λ replies. replies.items ≡ replies_to (entries_of self.old.leaf) commands.now) }
+        ensures contents { OnOk result (entries_of self.new.leaf ≡ map_after_all (entries_of self.old.leaf) commands.now) }
 
         // Which fault, and that there is no other but for want of memory.
         ensures refused { MatchOption (refusal self.old.settings commands.now) (IsOkUnless result Fault.NoMemory) (λ fault. result ≡ Err fault) }
@@ -75,7 +71,7 @@ impl Store {
         ensures settings { self.new.settings ≡ self.old.settings }
 
         // The leaf is changed once, by what the commands come to.
-        ensures leaf { OnOk result (self.new.leaf ≡ after_run self.old.settings self.old.leaf (net_run (contents self.old) commands.now)) }
+        ensures leaf { OnOk result (self.new.leaf ≡ after_run self.old.settings self.old.leaf (net_run (entries_of self.old.leaf) commands.now)) }
     {
         admit(&self.settings, commands)?;
         let room = Vec::with_capacity(self.alloc, commands.len())?;

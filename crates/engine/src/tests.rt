@@ -1,10 +1,6 @@
 //! The worked examples of commands and their replies, the limits, and memory that is refused.
 use crate::store::Store;
-use keys::command::{Command, Reply};
-use keys::fault::Fault;
-use keys::key::Key;
-use keys::settings::Settings;
-use keys::value::Value;
+use keys::{Command, Fault, Key, Reply, Settings, Value};
 use std::alloc::{AllocError, Global};
 use std::test::Fail;
 

@@ -1,0 +1,4 @@
+pub mod ListLaws
+pub mod PageLaws
+pub mod RangeLaws
+pub mod RuleLaws

@@ -3,7 +3,8 @@ use Rattle.std.specs.Prelude.{◌≡◌, ℕ, Bool, true, false, not, ◌&&◌, 
 use Rattle.std.specs.declared.cmp.Ordering.TheVariants.{Less}
 use Rattle.std.specs.Ordering.{is_lt}
 use Rattle.std.specs.List.{AllByRecursion}
-use Rattle.keys.specs.Order.{order}
+use Rattle.std.specs.Map.{keys_of}
+use Rattle.keys.specs.Order.{order, IsRising}
 
 -- whether a key is below another
 abbrev pub is_below : List ℕ → List ℕ → Bool
@@ -35,3 +36,9 @@ AreBefore (Some end) ks = AreBelow end ks
 abbrev pub IsBefore : Option (List ℕ) → List ℕ → Type 0
 IsBefore None k = ⊤
 IsBefore (Some end) k = order k end ≡ Less
+
+-- a run whose keys rise, from a low key on and before an end
+pub record IsRunFor {X : Type 0} (low : List ℕ) (end : Option (List ℕ)) (run : List (List ℕ × X)) : Type 0 where
+  pub rising : IsRising run
+  pub from : AreFrom low (keys_of run)
+  pub before : AreBefore end (keys_of run)

@@ -1,2 +1,4 @@
+pub mod MapLaws
 mod Rows
+pub mod RunLaws
 mod SettingsRows

@@ -1,6 +1,5 @@
 pub mod Limits
-pub mod MapLaws
+pub mod Lists
 pub mod Order
 pub mod OrderedMap
-pub mod RunLaws
 pub mod Step

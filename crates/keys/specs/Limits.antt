@@ -5,8 +5,8 @@ use Rattle.keys.specs.declared.settings.Field.{Field}
 use Rattle.keys.specs.declared.settings.Field.TheVariants.{Fan, Chain, MaxKey, MaxValue, SegSize, Segments}
 
 -- whether a number is from least to greatest
-abbrev pub is_within : ℕ → ℕ → ℕ → Bool
-is_within least greatest n = nat_le least n && nat_le n greatest
+abbrev pub is_in_limits : ℕ → ℕ → ℕ → Bool
+is_in_limits least greatest n = nat_le least n && nat_le n greatest
 
 -- the bytes that a segment's header and the longest frame take: fan entries, each with its key and its cell
 abbrev pub longest_frame : Settings → ℕ
@@ -15,12 +15,12 @@ longest_frame s = 16 + 17 + s.max_key + s.fan * (3 + s.max_key + max (2 + s.max_
 -- the first field that is out of range, and last the segment's size where the longest frame is longer
 abbrev pub first_bad_field : Settings → Option Field
 first_bad_field s =
-    if is_within 4 64 s.fan then
-    (if is_within 1 16 s.chain then
-    (if is_within 1 255 s.max_key then
-    (if is_within 0 1024 s.max_value then
-    (if is_within 256 1048576 s.seg_size then
-    (if is_within 3 65536 s.segments then
+    if is_in_limits 4 64 s.fan then
+    (if is_in_limits 1 16 s.chain then
+    (if is_in_limits 1 255 s.max_key then
+    (if is_in_limits 0 1024 s.max_value then
+    (if is_in_limits 256 1048576 s.seg_size then
+    (if is_in_limits 3 65536 s.segments then
     (if nat_le (longest_frame s) s.seg_size then None
     else Some SegSize)
     else Some Segments)

@@ -12,3 +12,11 @@ pub mod settings;
 #[cfg(test)]
 mod tests;
 pub mod value;
+
+pub use crate::cell::Cell;
+pub use crate::command::{Command, Reply};
+pub use crate::fault::Fault;
+pub use crate::key::Key;
+pub use crate::pid::Pid;
+pub use crate::settings::{Field, Settings};
+pub use crate::value::Value;

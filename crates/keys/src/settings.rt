@@ -1,5 +1,5 @@
 ghost use Rattle.std.specs.Prelude.{◌≡◌, Ok, Err, if◌then◌else◌, MatchOption};
-ghost use Rattle.keys.specs.Limits.{is_within, first_bad_field};
+ghost use Rattle.keys.specs.Limits.{is_in_limits, first_bad_field};
 
 use crate::fault::Fault;
 use std::fmt;
@@ -66,7 +66,7 @@ impl Settings {
 
 // Refuses the field where the number is not from `least` to `greatest`.
 fn within(field: Field, number: u32, least: u32, greatest: u32) -> Result<(), Fault>
-    ensures { result ≡ (if is_within least greatest number then Ok tt else Err (Fault.BadSettings field)) }
+    ensures { result ≡ (if is_in_limits least greatest number then Ok tt else Err (Fault.BadSettings field)) }
 {
     if least <= number && number <= greatest {
         Ok(())

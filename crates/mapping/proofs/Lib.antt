@@ -1,7 +1,11 @@
 mod FindingRow
 mod Joined
 mod Level
+pub mod LevelLaws
 mod Literals
 mod MetPids
 mod Parts
+pub mod PidLaws
+pub mod TableLaws
+pub mod TileLaws
 mod Walk

@@ -8,13 +8,13 @@ use Rattle.keys.specs.declared.settings.Settings.{Settings}
 use Rattle.index_page.specs.Page.{Page, PageOfKind}
 use Rattle.index_page.specs.Page.PageOfKind.{Leaf, Index}
 use Rattle.index_page.specs.Rules.{Fits, IsHeaded, IsAnyPid}
-use Rattle.index_page.specs.RuleLaws.{all_both}
+use Rattle.index_page.proofs.RuleLaws.{all_both}
 use Rattle.mapping.specs.Tree.{Tree, page_at}
 use Rattle.mapping.specs.Levels.{Placed, Levels, joined, name, names, pids, all_pids, levels_of}
 use Rattle.mapping.specs.FreshPids.{is_among}
 use Rattle.mapping.specs.Proper.{next_low, IsParentOf, Stacked, IsBranchedTop, Distinct, HasIndexPages, IsTree, IsProper}
 use Rattle.mapping.proofs.MetPids.{distinct_last}
-use Rattle.mapping.specs.TileLaws.{Names}
+use Rattle.mapping.proofs.TileLaws.{Names}
 use Rattle.mapping.proofs.Joined.{next_key, AreHeaded, next_joined, next_names}
 use Rattle.mapping.proofs.Level.{IsLevel, IsGoodLeaf, IsGoodIndex}
 

@@ -1,9 +1,5 @@
 pub mod Finding
 pub mod FreshPids
-pub mod LevelLaws
 pub mod Levels
-pub mod PidLaws
 pub mod Proper
-pub mod TableLaws
-pub mod TileLaws
 pub mod Tree

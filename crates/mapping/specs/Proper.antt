@@ -1,5 +1,5 @@
 -- When a tree is proper, as a fact.
-use Rattle.std.specs.Prelude.{◌≡◌, ◌≢◌, ℕ, ◌<◌, true, ⊤, List, [], ◌∷◌, length, Option, Some, None}
+use Rattle.std.specs.Prelude.{◌≡◌, ◌≢◌, ℕ, ◌<◌, ◌≤◌, true, ⊤, List, [], ◌∷◌, length, Option, Some, None}
 use Rattle.std.specs.List.{AllByRecursion}
 use Rattle.std.specs.Map.{keys_of}
 use Rattle.keys.specs.declared.settings.Settings.{Settings}
@@ -7,7 +7,8 @@ use Rattle.index_page.specs.Page.{PageOfKind}
 use Rattle.index_page.specs.Page.PageOfKind.{Leaf, Index}
 use Rattle.index_page.specs.Range.{IsBefore}
 use Rattle.index_page.specs.Rules.{KeepsRange, Fits, IsHeaded, IsShortValue, IsAnyPid}
-use Rattle.mapping.specs.Tree.{Tree, page_at}
+use Rattle.mapping.specs.Tree.{Logged, Tree, page_at}
+use Rattle.mapping.specs.Tree.Logged.{No, Old, Upto}
 use Rattle.mapping.specs.Levels.{Placed, Levels, joined, names, all_pids, levels_of}
 use Rattle.mapping.specs.FreshPids.{is_among}
 
@@ -89,6 +90,28 @@ pub record HoldsLevels (ps : List (ℕ × PageOfKind)) (l : Levels) : Type 0 whe
 pub record IsTree (t : Tree) : Type 0 where
   pub rising : AreRisingPids (keys_of t.pages)
   pub some : 0 < t.height
+
+-- ---- what the log has
+
+-- the page has so many runs, or more
+abbrev pub HasRuns : ℕ → PageOfKind → Type 0
+HasRuns k (Leaf p) = k ≤ length p.layers.runs
+HasRuns k (Index p) = k ≤ length p.layers.runs
+
+-- what is listed of a pid that has this page is true of it: `No` is said by listing nothing, and `Upto k` only where there
+-- is a page with k runs, or more
+abbrev pub IsTrueOf : Option PageOfKind → Logged → Type 0
+IsTrueOf p No = ⊥
+IsTrueOf p Old = ⊤
+IsTrueOf None (Upto k) = ⊥
+IsTrueOf (Some p) (Upto k) = HasRuns k p
+
+-- what the log has of each pid is listed once, by rising pid, and it is true of the page
+pub record AreLogsTrue (t : Tree) : Type 0 where
+  pub rising : AreRisingPids (keys_of t.logged)
+  pub each : AllByRecursion (λ l. IsTrueOf (page_at t.pages l.0) l.1) t.logged
+
+-- ---- all of it
 
 -- a proper tree
 pub record IsProper (s : Settings) (t : Tree) : Type 0 where

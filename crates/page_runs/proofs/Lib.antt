@@ -1,3 +1,7 @@
+pub mod AfterLaws
+pub mod ApartLaws
+pub mod NetLaws
 mod Overlays
 mod Replays
 mod Rows
+pub mod WholeBatch

@@ -3,11 +3,11 @@ use Rattle.std.specs.Prelude.{◌≡◌, ◌<◌, ℕ, Bool, true, false, List, 
 use Rattle.std.proofs.Common.{refl, ap, ◌∙◌, arith}
 use Rattle.keys.specs.Order.{IsRising}
 use Rattle.keys.specs.OrderedMap.{value_at, with_pair, without}
-use Rattle.keys.specs.MapLaws.{value_at-with_pair_here, value_at-without_here}
+use Rattle.keys.proofs.MapLaws.{value_at-with_pair_here, value_at-without_here}
 use Rattle.keys.specs.declared.settings.Settings.{Settings}
 use Rattle.delta_chain.specs.Layers.{Layers, said_or, holds, with_run, entries_of, IsInOrder}
-use Rattle.delta_chain.specs.LayerLaws.{value_at-with_run, value_at-entries_of, rising-entries_of}
-use Rattle.page_runs.specs.AfterRun.{overflows, class_after, class_of_size}
+use Rattle.delta_chain.proofs.LayerLaws.{value_at-with_run, value_at-entries_of, rising-entries_of}
+use Rattle.page_runs.specs.AfterRun.{must_replace, class_after, class_of_size}
 use Rattle.page_runs.specs.NetRun.{noted}
 
 module _ {V : Type 0} where
@@ -50,6 +50,6 @@ module _ {V : Type 0} where
     del_noted (Err e) b m run new k s h = tt
 
   -- the class of a page that a run replaces
-  pub class_of_replaced : (s : Settings) (p : Layers V) (run : List (List ℕ × Option V)) → 0 < length run → overflows s p run ≡ true → class_of_size s (length (with_run (entries_of p) run)) ≡ class_after s p run
+  pub class_of_replaced : (s : Settings) (p : Layers V) (run : List (List ℕ × Option V)) → 0 < length run → must_replace s p run ≡ true → class_of_size s (length (with_run (entries_of p) run)) ≡ class_after s p run
   class_of_replaced s p [] n h = absurd (omega arith)
   class_of_replaced s p (c ∷ cs) n h = rw h refl

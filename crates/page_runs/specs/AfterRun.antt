@@ -6,8 +6,8 @@ use Rattle.page_runs.specs.declared.class.Class.{Class}
 use Rattle.page_runs.specs.declared.class.Class.TheVariants.{Same, Changed, Thin, Fat}
 
 -- whether the page has to be replaced: the run has more than fan entries, or the depth would pass chain
-abbrev pub overflows : {V : Type 0} → Settings → Layers V → List (List ℕ × Option V) → Bool
-overflows s p run = nat_lt s.fan (length run) || nat_lt s.chain (depth_of p + 1)
+abbrev pub must_replace : {V : Type 0} → Settings → Layers V → List (List ℕ × Option V) → Bool
+must_replace s p run = nat_lt s.fan (length run) || nat_lt s.chain (depth_of p + 1)
 
 -- the page replaced: a base of its entries with the run applied, and no runs
 abbrev pub replaced : {V : Type 0} → Layers V → List (List ℕ × Option V) → Layers V
@@ -20,7 +20,7 @@ in_front p run = record { runs = run ∷ p.runs; base = p.base }
 -- the page after a run; an empty run leaves it
 abbrev pub after_run : {V : Type 0} → Settings → Layers V → List (List ℕ × Option V) → Layers V
 after_run s p [] = p
-after_run s p (c ∷ cs) = if overflows s p (c ∷ cs) then replaced p (c ∷ cs) else in_front p (c ∷ cs)
+after_run s p (c ∷ cs) = if must_replace s p (c ∷ cs) then replaced p (c ∷ cs) else in_front p (c ∷ cs)
 
 -- the class of a replaced page of n entries
 abbrev pub class_of_size : Settings → ℕ → Class
@@ -29,4 +29,4 @@ class_of_size s n = if nat_lt n (s.fan / 4) then Thin else (if nat_lt s.fan n th
 -- the class of a page after a run
 abbrev pub class_after : {V : Type 0} → Settings → Layers V → List (List ℕ × Option V) → Class
 class_after s p [] = Same
-class_after s p (c ∷ cs) = if overflows s p (c ∷ cs) then class_of_size s (length (with_run (entries_of p) (c ∷ cs))) else Changed
+class_after s p (c ∷ cs) = if must_replace s p (c ∷ cs) then class_of_size s (length (with_run (entries_of p) (c ∷ cs))) else Changed

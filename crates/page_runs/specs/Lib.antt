@@ -1,10 +1,8 @@
-pub mod AfterLaws
 pub mod AfterRun
 pub mod Apart
-pub mod ApartLaws
 pub mod LeafWork
-pub mod NetLaws
 pub mod NetRun
 pub mod Outcome
 pub mod Replies
-pub mod WholeBatch
+pub mod Touched
+pub mod Worked

@@ -5,8 +5,7 @@ use crate::page_after::{PageAfter, put_run};
 use crate::piece::Piece;
 use crate::replay::{Leaf, replay};
 use crew::{Turn, Work};
-use keys::command::Command;
-use keys::settings::Settings;
+use keys::{Command, Settings};
 use routing::PageRun;
 use std::alloc::Global;
 
@@ -77,15 +76,15 @@ impl<'a> Work for LeafWork<'a> {
 
     ghost Made = { LeafMade };
 
-    ghost can = { λ w h. ArePlacesOf w.commands.now h.places };
+    ghost accepts = { λ w h. ArePlacesOf w.commands.now h.places };
 
     ghost held = { held_of };
 
-    ghost whole = { λ w d. Unit {0} };
+    ghost can_undo = { λ w d. Unit {0} };
 
     ghost origin = { origin_of };
 
-    ghost product = { made_of };
+    ghost outcome = { made_of };
 
     ghost made = { λ w h. leaf_made w.settings w.commands.now h };
 

@@ -10,3 +10,7 @@ pub mod piece;
 mod replay;
 #[cfg(test)]
 mod tests;
+
+pub use crate::class::Class;
+pub use crate::leaf_work::{LeafDone, LeafJob, LeafWork};
+pub use crate::piece::Piece;

@@ -1,14 +1,14 @@
 //! What becomes of a page by a run, and the way back.
 ghost use Rattle.std.specs.Prelude.{◌≡◌, [], length, IfOk, IfErr};
 ghost use Rattle.delta_chain.specs.Layers.{entries_of};
-ghost use Rattle.page_runs.specs.AfterRun.{overflows, after_run, class_after, class_of_size};
+ghost use Rattle.page_runs.specs.AfterRun.{must_replace, after_run, class_after, class_of_size};
 ghost use Rattle.page_runs.specs.Outcome.{page_after, page_before, class_now, popped};
 
 use crate::class::Class;
 use crate::replay::{Leaf, LeafRun};
 use consolidate::consolidate;
-use delta_chain::chain::Chain;
-use keys::settings::Settings;
+use delta_chain::Chain;
+use keys::Settings;
 use std::alloc::Global;
 
 /// A page after a run, with what gives back the page before it.
@@ -42,18 +42,18 @@ pub(crate) fn put_run(
     if run.len() == 0 {
         return Ok(PageAfter::Same(page));
     }
-    let overflows = overflows(settings, &page, &run);
+    let must_replace = must_replace(settings, &page, &run);
     let mut page = page;
     match page.prepend(run) {
         Err(_refused) => Err(page),
-        Ok(()) if overflows => replace(alloc, settings, page),
+        Ok(()) if must_replace => replace(alloc, settings, page),
         Ok(()) => Ok(PageAfter::InFront(page)),
     }
 }
 
 // Whether the page has to be replaced: the run is longer than `fan`, or it would make the chain longer than `chain`.
-fn overflows(settings: &Settings, page: &Leaf, run: &LeafRun) -> bool
-    ensures { result ≡ overflows settings.now page.now run.now }
+fn must_replace(settings: &Settings, page: &Leaf, run: &LeafRun) -> bool
+    ensures { result ≡ must_replace settings.now page.now run.now }
 {
     run.len() > settings.fan as usize || page.depth() >= u64::from(settings.chain)
 }

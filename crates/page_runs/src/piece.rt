@@ -1,4 +1,4 @@
-use keys::command::Reply;
+use keys::Reply;
 use std::alloc::Global;
 
 /// What one page answers to the command at one place of the batch.

@@ -11,14 +11,9 @@ ghost use Rattle.page_runs.specs.NetRun.{noted_by, net_run};
 ghost use Rattle.page_runs.specs.Replies.{commands_at, pieces_of, ArePlacesOf};
 
 use crate::piece::Piece;
-use delta_chain::builder::PushError;
-use delta_chain::chain::Chain;
-use delta_chain::run::Run;
-use keys::command::{Command, Reply};
-use keys::key::Key;
-use keys::value::Value;
-use page_search::probes::Probes;
-use page_search::search::find;
+use delta_chain::{Chain, PushError, Run};
+use keys::{Command, Key, Reply, Value};
+use page_search::{Probes, find};
 use std::alloc::{AllocError, Global};
 use std::collections::BTreeMap;
 

@@ -7,12 +7,8 @@ use crate::leaf_work::{LeafJob, LeafWork};
 use crate::piece::Piece;
 use crate::replay::{Leaf, LeafRun};
 use crew::{Turn, Work};
-use delta_chain::base::Base;
-use delta_chain::chain::Chain;
-use keys::command::{Command, Reply};
-use keys::key::Key;
-use keys::settings::Settings;
-use keys::value::Value;
+use delta_chain::{Base, Chain};
+use keys::{Command, Key, Reply, Settings, Value};
 use routing::PageRun;
 use std::alloc::{AllocError, Global};
 use std::mem;
@@ -85,7 +81,7 @@ fn commands(alloc: Global, steps: &[Step]) -> Result<Vec<Command<Global>>, Alloc
 }
 
 // The run of the one page that has to work all the commands.
-#[tactic(auto, using(crate::specs::WholeBatch::places_of_whole_batch))]
+#[tactic(auto, using(crate::proofs::WholeBatch::places_of_whole_batch))]
 fn whole_batch(alloc: Global, commands: &[Command<Global>]) -> Result<PageRun, AllocError>
     ensures { IfOk result (λ run. ArePlacesOf commands.now run) }
 {

@@ -1,1 +1,3 @@
 mod CostLemmas
+pub mod DigitLaws
+pub mod PlaceLaws

@@ -4,3 +4,6 @@
 pub mod laws;
 pub mod probes;
 pub mod search;
+
+pub use crate::probes::Probes;
+pub use crate::search::{find, lower};

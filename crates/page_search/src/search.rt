@@ -9,9 +9,7 @@ ghost use Rattle.page_search.specs.Digits.{binary_digits};
 ghost use Rattle.page_search.specs.Places.{count_below, GoesTo};
 
 use crate::probes::Probes;
-use delta_chain::base::Base;
-use delta_chain::chain::Chain;
-use delta_chain::keyed::Keyed;
+use delta_chain::{Base, Chain, Keyed};
 use std::alloc::Allocator;
 use std::cmp::Ordering;
 
@@ -87,11 +85,8 @@ fn place<L: Keyed>(list: &L, key: &[u8], probes: &mut Probes) -> Result<usize, u
 #[cfg(test)]
 mod tests {
     use super::*;
-    use delta_chain::builder::{BaseBuilder, PushError};
-    use delta_chain::run::Run;
-    use keys::key::Key;
-    use keys::pid::Pid;
-    use keys::value::Value;
+    use delta_chain::{BaseBuilder, PushError, Run};
+    use keys::{Key, Pid, Value};
     use std::alloc::{AllocError, Global};
     use std::test::Fail;
 

@@ -7,7 +7,8 @@ use Rattle.mapping.specs.Levels.{Placed, joined}
 use Rattle.mapping.specs.FreshPids.{unused}
 use Rattle.split_plan.specs.Cut.{cut}
 use Rattle.split_plan.specs.Groups.{groups}
-use Rattle.split_plan.specs.Worked.{Worked, placed_of, is_thin, is_fat}
+use Rattle.page_runs.specs.Worked.{Worked, is_thin, is_fat}
+use Rattle.split_plan.specs.WorkedLevel.{placed_of}
 
 -- a group, its members after their runs, and the pages that stand in its place
 pub record Change (V : Type 0) : Type 0 where

@@ -1,13 +1,5 @@
 pub mod Change
-pub mod ChangeLaws
 pub mod Cut
-pub mod CutLaws
-pub mod ExchangeLaws
-pub mod GroupLaws
 pub mod Groups
-pub mod PidLaws
-pub mod RunLaws
-pub mod TermLaws
 pub mod Terms
-pub mod Worked
-pub mod WorkedLaws
+pub mod WorkedLevel

@@ -5,12 +5,13 @@ ghost use Rattle.keys.specs.Order.{IsRising};
 ghost use Rattle.keys.specs.OrderedMap.{value_at};
 ghost use Rattle.keys.specs.declared.settings.Settings.{Settings};
 ghost use Rattle.delta_chain.specs.Layers.{with_run};
-ghost use Rattle.index_page.specs.ListLaws.{flat};
+ghost use Rattle.keys.specs.Lists.{flat};
 ghost use Rattle.mapping.specs.Levels.{Placed, joined, names};
 ghost use Rattle.mapping.specs.Proper.{next_low, Tiled};
 ghost use Rattle.split_plan.specs.Cut.{piece_count, cut, AllAtMost, AllAtLeast};
 ghost use Rattle.split_plan.specs.Groups.{groups, count_kept, begins_thin};
-ghost use Rattle.split_plan.specs.Worked.{Worked, worked_leaves, placed_of, is_thin, is_fat};
+ghost use Rattle.page_runs.specs.Worked.{Worked, is_thin, is_fat};
+ghost use Rattle.split_plan.specs.WorkedLevel.{worked_leaves, placed_of};
 ghost use Rattle.split_plan.specs.Change.{is_rewritten, changes, new_of, fresh_of};
 ghost use Rattle.split_plan.specs.Terms.{freed_of, terms, term_at};
 

@@ -1,6 +1,6 @@
 use Rattle.std.proofs.Common.{◌≡◌, true, false, Err, ap, sym, ◌∙◌}
-use Rattle.delta_chain.specs.Places.{push_pair}
-use Rattle.delta_chain.specs.Rising.{goes_last-next}
+use Rattle.delta_chain.proofs.Places.{push_pair}
+use Rattle.delta_chain.proofs.Rising.{goes_last-next}
 use Rattle.consolidate.proofs.base_of.Goals as goal
 
 pub unreachable-requires : goal.unreachable-requires

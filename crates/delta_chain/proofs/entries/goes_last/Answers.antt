@@ -1,5 +1,5 @@
 use Rattle.std.proofs.Common.{refl, sym}
-use Rattle.delta_chain.specs.Rising.{goes_last-some}
+use Rattle.delta_chain.proofs.Rising.{goes_last-some}
 use Rattle.delta_chain.proofs.entries.goes_last.Goals as goal
 
 pub returns-in-Some : goal.returns-in-Some

@@ -1,4 +1,4 @@
-use Rattle.delta_chain.specs.Places.{push_pair}
+use Rattle.delta_chain.proofs.Places.{push_pair}
 use Rattle.delta_chain.proofs.merging.copied.Goals as goal
 
 pub loop-at-preserved : goal.loop-at-preserved

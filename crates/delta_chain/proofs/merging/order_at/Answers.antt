@@ -1,5 +1,5 @@
 use Rattle.std.proofs.Common.{◌∙◌, sym}
-use Rattle.delta_chain.specs.Places.{first_at}
+use Rattle.delta_chain.proofs.Places.{first_at}
 use Rattle.delta_chain.proofs.merging.order_at.Goals as goal
 
 pub returns-then-at-len : goal.returns-then-at-len

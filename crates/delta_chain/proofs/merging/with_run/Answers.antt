@@ -1,5 +1,5 @@
 use Rattle.std.proofs.Common.{◌<◌, ◌≤◌, ◌∙◌, length, arith, add-one, Less, Equal}
-use Rattle.delta_chain.specs.LayerLaws.{rising-with_run}
+use Rattle.delta_chain.proofs.LayerLaws.{rising-with_run}
 use Rattle.delta_chain.proofs.Merges.{less_step, equal_step, greater_step, there_is_one, all_changes}
 use Rattle.delta_chain.proofs.merging.with_run.Goals as goal
 

@@ -1,4 +1,4 @@
-use Rattle.page_runs.specs.ApartLaws.{replies_to-apart, map_after_all-apart, net_run-apart, net_run-no_other}
+use Rattle.page_runs.proofs.ApartLaws.{replies_to-apart, map_after_all-apart, net_run-apart, net_run-no_other}
 use Rattle.page_runs.proofs.laws.commands_on_some_keys_are_worked_apart.Goals as goal
 
 pub returns : goal.returns

@@ -2,7 +2,7 @@ use Rattle.std.proofs.Common.{◌≡◌, List, ℕ, Option, ◌∷◌, ◌++◌,
 use Rattle.std.proofs.lemmas.Map.Iter.{rest_more}
 use Rattle.keys.specs.Order.{IsRising}
 use Rattle.delta_chain.specs.Building.{goes_last}
-use Rattle.delta_chain.specs.Rising.{goes_last-rising}
+use Rattle.delta_chain.proofs.Rising.{goes_last-rising}
 use Rattle.page_runs.proofs.replay.run_of.Goals as goal
 
 -- The changes rise, so the next one goes behind those in the run.

@@ -1,5 +1,5 @@
 use Rattle.std.proofs.Common.{refl}
-use Rattle.page_search.specs.PlaceLaws.{value_at-there, value_at-goes_to}
+use Rattle.page_search.proofs.PlaceLaws.{value_at-there, value_at-goes_to}
 use Rattle.page_search.proofs.CostLemmas.{cost_past}
 use Rattle.page_search.proofs.search.+find.Goals as goal
 

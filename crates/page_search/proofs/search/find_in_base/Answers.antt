@@ -1,5 +1,5 @@
 use Rattle.std.proofs.Common.{sym}
-use Rattle.page_search.specs.PlaceLaws.{value_at-there, value_at-goes_to}
+use Rattle.page_search.proofs.PlaceLaws.{value_at-there, value_at-goes_to}
 use Rattle.page_search.proofs.search.find_in_base.Goals as goal
 
 pub returns-in-Ok-clause-value : goal.returns-in-Ok-clause-value

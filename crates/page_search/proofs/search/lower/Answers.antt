@@ -1,5 +1,5 @@
 use Rattle.std.proofs.Common.{sym}
-use Rattle.page_search.specs.PlaceLaws.{count_below-there, count_below-goes_to}
+use Rattle.page_search.proofs.PlaceLaws.{count_below-there, count_below-goes_to}
 use Rattle.page_search.proofs.search.lower.Goals as goal
 
 pub returns-in-Ok-clause-place : goal.returns-in-Ok-clause-place

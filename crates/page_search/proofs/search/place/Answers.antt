@@ -1,8 +1,8 @@
 use Rattle.std.proofs.Common.{ℕ, ◌+◌, ◌-◌, ◌/◌, ◌<◌, ◌≤◌, Some, sym, ap, ◌∙◌, arith}
-use Rattle.keys.specs.MapLaws.{same_key, flipped_greater}
+use Rattle.keys.proofs.MapLaws.{same_key, flipped_greater}
 use Rattle.page_search.specs.Digits.{binary_digits}
-use Rattle.page_search.specs.DigitLaws.{binary_digits-half}
-use Rattle.page_search.specs.PlaceLaws.{below-through, above-onward}
+use Rattle.page_search.proofs.DigitLaws.{binary_digits-half}
+use Rattle.page_search.proofs.PlaceLaws.{below-through, above-onward}
 use Rattle.page_search.proofs.search.place.Goals as goal
 
 -- what is left behind the middle, and what is left before it, has a digit less

@@ -1,5 +1,5 @@
 use Rattle.std.proofs.Common.{add-one, sym}
-use Rattle.routing.specs.Places.{places_below-suc}
+use Rattle.routing.proofs.PlaceLaws.{places_below-suc}
 use Rattle.routing.proofs.PageRun.of_whole_batch.Goals as goal
 
 pub loop-place-preserved : goal.loop-place-preserved

@@ -1,4 +1,4 @@
-use Rattle.delta_chain.specs.Rising.{rising-push}
+use Rattle.delta_chain.proofs.Rising.{rising-push}
 use Rattle.delta_chain.proofs.entries.Entries.push.Goals as goal
 
 pub invariant_of-self-2 : goal.invariant_of-self-2

@@ -3,7 +3,7 @@ use Rattle.std.specs.Prelude.{ℕ, List}
 use Rattle.delta_chain.specs.Layers.{Layers, entries_of}
 use Rattle.page_runs.specs.LeafWork.{LeafMade}
 use Rattle.page_runs.specs.declared.piece.Piece.{Piece}
-use Rattle.page_runs.specs.WholeBatch.{places_of_whole_batch}
+use Rattle.page_runs.proofs.WholeBatch.{places_of_whole_batch}
 use Rattle.engine.proofs.WholeBatch.{leaf_after, leaf_replies, enough_room, contents_after}
 use Rattle.engine.proofs.store.Store.batch.Goals as goal
 

@@ -10,17 +10,19 @@ use Rattle.keys.specs.declared.settings.Settings.{Settings}
 use Rattle.index_page.specs.Page.{first_key}
 use Rattle.index_page.specs.Range.{is_below, AreBelow, AreFrom, AreBefore, IsBefore}
 use Rattle.index_page.specs.Rules.{IsHeaded}
-use Rattle.index_page.specs.ListLaws.{flat, all-append, all_apart, all_keys_apart}
-use Rattle.index_page.specs.RangeLaws.{rising_left, rising_right, from_first, below_next, first_is_before, low_is_below, before_apart, first_key-append}
-use Rattle.index_page.specs.PageLaws.{all_keys-as_changes}
+use Rattle.keys.specs.Lists.{flat}
+use Rattle.index_page.proofs.ListLaws.{all-append, all_apart, all_keys_apart}
+use Rattle.index_page.proofs.RangeLaws.{rising_left, rising_right, from_first, below_next, first_is_before, low_is_below, before_apart, first_key-append}
+use Rattle.index_page.proofs.PageLaws.{all_keys-as_changes}
 use Rattle.mapping.specs.Levels.{Placed, entries, joined, name, names}
 use Rattle.mapping.specs.Proper.{next_low, IsTile, Tiled}
-use Rattle.mapping.specs.TileLaws.{next_low-append, tiled_apart, tiled-append, next_low-named, rising-joined, from-joined, before-joined, low_is_before}
+use Rattle.mapping.proofs.TileLaws.{next_low-append, tiled_apart, tiled-append, next_low-named, rising-joined, from-joined, before-joined, low_is_before}
 use Rattle.split_plan.specs.Cut.{cut, AllFull}
-use Rattle.split_plan.specs.CutLaws.{cut-joined, cut_full, cut_some, cut_nothing}
+use Rattle.split_plan.proofs.CutLaws.{cut-joined, cut_full, cut_some, cut_nothing}
 use Rattle.split_plan.specs.Groups.{groups}
-use Rattle.split_plan.specs.GroupLaws.{groups-joined}
-use Rattle.split_plan.specs.Worked.{Worked, placed_of, is_thin, is_fat}
+use Rattle.split_plan.proofs.GroupLaws.{groups-joined}
+use Rattle.page_runs.specs.Worked.{Worked, is_thin, is_fat}
+use Rattle.split_plan.specs.WorkedLevel.{placed_of}
 use Rattle.split_plan.specs.Change.{Change, placed_bare, fresh_pages, replacements, is_rewritten, remade, changes, family_changes, new_of, fresh_of, all_new}
 
 module _ {V : Type 0} where

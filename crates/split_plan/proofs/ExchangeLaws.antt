@@ -8,14 +8,14 @@ use Rattle.std.specs.Map.{keys_of}
 use Rattle.std.proofs.lemmas.Map.Made.{lookup-map_values, keys_of-map_values}
 use Rattle.keys.specs.Order.{order, IsRising}
 use Rattle.keys.specs.OrderedMap.{value_at}
-use Rattle.keys.specs.MapLaws.{value_at_rest, same_map}
+use Rattle.keys.proofs.MapLaws.{value_at_rest, same_map}
 use Rattle.delta_chain.specs.Layers.{said_or, with_run}
-use Rattle.delta_chain.specs.LayerLaws.{value_at-with_run, rising-with_run}
+use Rattle.delta_chain.proofs.LayerLaws.{value_at-with_run, rising-with_run}
 use Rattle.index_page.specs.Range.{is_below, AreBefore}
-use Rattle.index_page.specs.ListLaws.{all_keys-append, all_keys_apart}
-use Rattle.index_page.specs.RangeLaws.{rising_rest, rising_right}
-use Rattle.index_page.specs.PageLaws.{all_keys-with_run}
-use Rattle.mapping.specs.TileLaws.{Names}
+use Rattle.index_page.proofs.ListLaws.{all_keys-append, all_keys_apart}
+use Rattle.index_page.proofs.RangeLaws.{rising_rest, rising_right}
+use Rattle.index_page.proofs.PageLaws.{all_keys-with_run}
+use Rattle.mapping.proofs.TileLaws.{Names}
 use Rattle.split_plan.specs.Terms.{absent, present, term_at}
 
 -- a group as its parent sees it: the name that stays, those that go, and those that come

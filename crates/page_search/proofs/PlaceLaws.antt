@@ -10,7 +10,7 @@ use Rattle.std.proofs.lemmas.Map.Keys.{IsDistinct-from_sorted, Less-from_sorted,
 use Rattle.std.proofs.lemmas.Map.Entries.{lookup_from_place, lookup_at_gap}
 use Rattle.keys.specs.Order.{order, AreRisingKeys, IsRising}
 use Rattle.keys.specs.OrderedMap.{value_at}
-use Rattle.keys.specs.MapLaws.{total, alike, order_itself, flipped_less}
+use Rattle.keys.proofs.MapLaws.{total, alike, order_itself, flipped_less}
 use Rattle.page_search.specs.Places.{count_below, AreBelowBefore, AreAboveFrom, GoesTo}
 
 -- of rising keys, each is below those behind it

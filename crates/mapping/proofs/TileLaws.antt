@@ -6,14 +6,14 @@ use Rattle.std.specs.List.Sorted.{IsStrictlySortedBy}
 use Rattle.std.specs.Map.{keys_of}
 use Rattle.std.proofs.lemmas.List.{map-append}
 use Rattle.keys.specs.Order.{IsRising}
-use Rattle.keys.specs.MapLaws.{total, IsBelowAll, below_all}
-use Rattle.delta_chain.specs.LayerLaws.{rising-entries_of}
+use Rattle.keys.proofs.MapLaws.{total, IsBelowAll, below_all}
+use Rattle.delta_chain.proofs.LayerLaws.{rising-entries_of}
 use Rattle.index_page.specs.Page.{first_key}
 use Rattle.index_page.specs.Range.{is_below, AreBelow, AreFrom, AreBefore, IsBefore}
 use Rattle.index_page.specs.Rules.{IsHeaded}
-use Rattle.index_page.specs.ListLaws.{all_keys-append}
-use Rattle.index_page.specs.RangeLaws.{less_is_below, from_lower, below_higher, not_below_itself, from_below_all, rising-append, first_key-append}
-use Rattle.index_page.specs.PageLaws.{all_keys_entries}
+use Rattle.index_page.proofs.ListLaws.{all_keys-append}
+use Rattle.index_page.proofs.RangeLaws.{less_is_below, from_lower, below_higher, not_below_itself, from_below_all, rising-append, first_key-append}
+use Rattle.index_page.proofs.PageLaws.{all_keys_entries}
 use Rattle.mapping.specs.Levels.{Placed, entries, joined, name, names}
 use Rattle.mapping.specs.Proper.{next_low, IsTile, Tiled}
 

@@ -6,10 +6,10 @@ use Rattle.std.specs.List.{AllByRecursion}
 use Rattle.std.specs.Map.{keys_of}
 use Rattle.keys.specs.Order.{order}
 use Rattle.keys.specs.OrderedMap.{with_pair, without}
-use Rattle.keys.specs.MapLaws.{same_key}
+use Rattle.keys.proofs.MapLaws.{same_key}
 use Rattle.delta_chain.specs.Layers.{with_change, with_run, entries_under}
 use Rattle.index_page.specs.Page.{Page, entries, as_changes, said_under, said, named}
-use Rattle.index_page.specs.ListLaws.{all_apart, all_keyed, all_keys}
+use Rattle.index_page.proofs.ListLaws.{all_apart, all_keyed, all_keys}
 
 module _ {V : Type 0} (P : List ℕ × V → Type 0) where
   pair_by : (o : Ordering) (m rest : List (List ℕ × V)) (e : List ℕ × V) (k : List ℕ) (v : V) → order k e.0 ≡ o → P (k, v) → P e → AllByRecursion P m → AllByRecursion P rest → AllByRecursion P (match_ordering o ((k, v) ∷ e ∷ m) ((e.0, v) ∷ m) (e ∷ rest))

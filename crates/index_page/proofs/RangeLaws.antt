@@ -7,10 +7,10 @@ use Rattle.std.specs.List.Sorted.{IsStrictlySortedBy}
 use Rattle.std.specs.Map.{keys_of}
 use Rattle.std.proofs.lemmas.Map.Keys.{sorted_tail}
 use Rattle.keys.specs.Order.{order, IsRising}
-use Rattle.keys.specs.MapLaws.{total, order_itself, IsBelowAll}
+use Rattle.keys.proofs.MapLaws.{total, order_itself, IsBelowAll}
 use Rattle.index_page.specs.Page.{first_key}
 use Rattle.index_page.specs.Range.{is_below, AreBelow, AreFrom, AreBefore, IsBefore}
-use Rattle.index_page.specs.ListLaws.{all_keys-append, all_keys_apart, all_keys-filter}
+use Rattle.index_page.proofs.ListLaws.{all_keys-append, all_keys_apart, all_keys-filter}
 
 -- ---- keys
 

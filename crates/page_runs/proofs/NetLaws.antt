@@ -6,12 +6,13 @@ use Rattle.std.specs.List.Sorted.{IsStrictlySortedBy}
 use Rattle.keys.specs.Order.{order, IsRising}
 use Rattle.keys.specs.OrderedMap.{value_at, with_pair, without}
 use Rattle.keys.specs.Step.{map_after, map_after_all}
-use Rattle.keys.specs.MapLaws.{alike, passes_same, value_at-with_pair_here, value_at-with_pair_apart, value_at-without, rising-with_pair, same_map}
-use Rattle.keys.specs.RunLaws.{rising-map_after, rising-map_after_all, map_after_all-append}
+use Rattle.keys.proofs.MapLaws.{alike, passes_same, value_at-with_pair_here, value_at-with_pair_apart, value_at-without, rising-with_pair, same_map}
+use Rattle.keys.proofs.RunLaws.{rising-map_after, rising-map_after_all, map_after_all-append}
 use Rattle.keys.specs.declared.command.Command.{Command}
 use Rattle.keys.specs.declared.command.Command.TheVariants.{Get, Put, Add, Del}
 use Rattle.delta_chain.specs.Layers.{said_or, with_run}
-use Rattle.delta_chain.specs.LayerLaws.{value_at-with_run, rising-with_run}
+use Rattle.delta_chain.proofs.LayerLaws.{value_at-with_run, rising-with_run}
+use Rattle.page_runs.specs.Touched.{touches, is_touched}
 use Rattle.page_runs.specs.NetRun.{noted, noted_by, touched, net_run}
 
 abbrev pub Pairs : Type 0
@@ -94,18 +95,6 @@ deleted_by true m k q r n h = value_at-without m k q r ∙ ap (λ (t : Bool). co
 deleted_by false m k q r n h = value_at-without m k q r ∙ absent_by (is_eq (order k q)) m k q refl n
 
 module _ {A : Type 0} where
-  -- whether the command touches the key, where the map before it is m
-  abbrev pub touches : List ℕ → Pairs → Command A → Bool
-  touches q m (Get k) = false
-  touches q m (Put k v) = is_eq (order q k)
-  touches q m (Add k v) = not (is_some (value_at k m)) && is_eq (order q k)
-  touches q m (Del k) = is_some (value_at k m) && is_eq (order q k)
-
-  -- whether one of the commands does
-  abbrev pub is_touched : List ℕ → Pairs → List (Command A) → Bool
-  is_touched q m [] = false
-  is_touched q m (c ∷ cs) = touches q m c || is_touched q (map_after m c) cs
-
   -- ---- what a net run says of a key
 
   value_at-noted_by : (after before : Pairs) (c : Command A) (run : Changes) (q : List ℕ) → value_at q (noted_by after before c run) ≡ cond (touches q before c) (Some (value_at q after)) (value_at q run)

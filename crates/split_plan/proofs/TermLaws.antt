@@ -8,19 +8,20 @@ use Rattle.delta_chain.specs.Layers.{with_run}
 use Rattle.index_page.specs.Page.{first_key}
 use Rattle.index_page.specs.Range.{is_below}
 use Rattle.index_page.specs.Rules.{IsHeaded}
-use Rattle.index_page.specs.ListLaws.{flat}
+use Rattle.keys.specs.Lists.{flat}
 use Rattle.mapping.specs.Levels.{Placed, entries, name, names}
 use Rattle.mapping.specs.Proper.{next_low, Tiled}
-use Rattle.mapping.specs.TileLaws.{Names, names-append, rising-names, before-names, from-names}
+use Rattle.mapping.proofs.TileLaws.{Names, names-append, rising-names, before-names, from-names}
 use Rattle.split_plan.specs.Cut.{AllFull}
 use Rattle.split_plan.specs.Groups.{groups}
-use Rattle.split_plan.specs.GroupLaws.{groups-joined, groups_full}
-use Rattle.split_plan.specs.Worked.{Worked, placed_of, is_thin}
-use Rattle.split_plan.specs.WorkedLaws.{IsRunFor}
+use Rattle.split_plan.proofs.GroupLaws.{groups-joined, groups_full}
+use Rattle.page_runs.specs.Worked.{Worked, is_thin}
+use Rattle.split_plan.specs.WorkedLevel.{placed_of}
+use Rattle.index_page.specs.Range.{IsRunFor}
 use Rattle.split_plan.specs.Change.{remade, changes, new_of, fresh_of}
-use Rattle.split_plan.specs.ChangeLaws.{placed_of-append, tiled_placed_apart, remade_begins, next_low-changes, tiled-groups}
+use Rattle.split_plan.proofs.ChangeLaws.{placed_of-append, tiled_placed_apart, remade_begins, next_low-changes, tiled-groups}
 use Rattle.split_plan.specs.Terms.{freed_of, terms, term_at}
-use Rattle.split_plan.specs.ExchangeLaws.{Exchange, whole, others, terms_of, rising-others, rising-with_present, all_keys-terms_of, before-terms_of, value_at-with_present, terms_exchange}
+use Rattle.split_plan.proofs.ExchangeLaws.{Exchange, whole, others, terms_of, rising-others, rising-with_present, all_keys-terms_of, before-terms_of, value_at-with_present, terms_exchange}
 
 module _ {V : Type 0} where
   -- a group, and the pages in its place, as the parent sees it

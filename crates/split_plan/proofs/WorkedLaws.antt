@@ -6,21 +6,16 @@ use Rattle.std.specs.Map.{keys_of}
 use Rattle.keys.specs.Order.{IsRising}
 use Rattle.keys.specs.declared.settings.Settings.{Settings}
 use Rattle.index_page.specs.Page.{said, named}
-use Rattle.index_page.specs.Range.{is_below, AreBelow, AreFrom, AreBefore}
-use Rattle.index_page.specs.ListLaws.{all_keyed, all_keys, all_keys-filter}
-use Rattle.index_page.specs.RangeLaws.{before-filter, rising-filter}
+use Rattle.index_page.specs.Range.{is_below, AreBelow, AreFrom, AreBefore, IsRunFor}
+use Rattle.index_page.proofs.ListLaws.{all_keyed, all_keys, all_keys-filter}
+use Rattle.index_page.proofs.RangeLaws.{before-filter, rising-filter}
 use Rattle.mapping.specs.Levels.{Placed}
 use Rattle.mapping.specs.Proper.{next_low, IsTile, Tiled}
-use Rattle.mapping.specs.TileLaws.{next_low-same}
-use Rattle.page_runs.specs.AfterLaws.{in_order-after_run}
-use Rattle.split_plan.specs.Worked.{worked, part_below, part_from, worked_leaves, worked_parents, placed_of}
-use Rattle.split_plan.specs.RunLaws.{all_said-after_run, names-worked_leaves, names-worked_parents}
-
--- a run whose keys rise, from a low key on and before an end
-pub record IsRunFor {X : Type 0} (low : List ℕ) (end : Option (List ℕ)) (run : List (List ℕ × X)) : Type 0 where
-  pub rising : IsRising run
-  pub from : AreFrom low (keys_of run)
-  pub before : AreBefore end (keys_of run)
+use Rattle.mapping.proofs.TileLaws.{next_low-same}
+use Rattle.page_runs.proofs.AfterLaws.{in_order-after_run}
+use Rattle.page_runs.specs.Worked.{worked}
+use Rattle.split_plan.specs.WorkedLevel.{part_below, part_from, worked_leaves, worked_parents, placed_of}
+use Rattle.split_plan.proofs.RunLaws.{all_said-after_run, names-worked_leaves, names-worked_parents}
 
 module _ {X : Type 0} where
   below_by : (b : Bool) (k : List ℕ) (c : List ℕ × X) (rest : List (List ℕ × X)) → is_below c.0 k ≡ b → AreBelow k (keys_of rest) → AreBelow k (keys_of (cond b (c ∷ rest) rest))

@@ -3,7 +3,7 @@ use Rattle.std.specs.Prelude.{◌≡◌, suc, ◌+◌, ◌<◌, Bool, true, fals
 use Rattle.std.proofs.Common.{refl, sym, ap, ◌∙◌, arith, append-nil, append_assoc}
 use Rattle.std.specs.List.{AllByRecursion}
 use Rattle.std.proofs.lemmas.List.Sums.{sum_by-cons, sum_by-append}
-use Rattle.index_page.specs.ListLaws.{flat}
+use Rattle.keys.specs.Lists.{flat}
 use Rattle.split_plan.specs.Groups.{Gathered, with_child, gathered, with_leading, groups, count_kept, begins_thin}
 use Rattle.split_plan.specs.Cut.{AllFull}
 

@@ -6,21 +6,22 @@ use Rattle.std.specs.List.{AllByRecursion}
 use Rattle.std.specs.Map.{keys_of}
 use Rattle.keys.specs.Order.{order}
 use Rattle.keys.specs.OrderedMap.{with_pair, without}
-use Rattle.keys.specs.MapLaws.{total, IsBelowAll, all_keys-with_pair, all_keys-without}
+use Rattle.keys.proofs.MapLaws.{total, IsBelowAll, all_keys-with_pair, all_keys-without}
 use Rattle.keys.specs.declared.settings.Settings.{Settings}
 use Rattle.delta_chain.specs.Layers.{Layers, with_change, with_run}
 use Rattle.index_page.specs.Page.{Page, said, said_under, as_changes, named}
 use Rattle.index_page.specs.Page as page
 use Rattle.index_page.specs.Range.{is_below, AreBelow, AreFrom}
-use Rattle.index_page.specs.ListLaws.{all-append}
-use Rattle.index_page.specs.RangeLaws.{less_through, below_all_from}
-use Rattle.index_page.specs.PageLaws.{all-with_run, all_entries, all_keys_entries, all-as_changes}
+use Rattle.index_page.proofs.ListLaws.{all-append}
+use Rattle.index_page.proofs.RangeLaws.{less_through, below_all_from}
+use Rattle.index_page.proofs.PageLaws.{all-with_run, all_entries, all_keys_entries, all-as_changes}
 use Rattle.mapping.specs.Levels.{Placed, entries, joined, name, names}
 use Rattle.mapping.specs.Proper.{Tiled}
-use Rattle.mapping.specs.TileLaws.{from-joined}
-use Rattle.page_runs.specs.AfterRun.{overflows, replaced, in_front, after_run}
-use Rattle.page_runs.specs.AfterLaws.{entries_of-after_run}
-use Rattle.split_plan.specs.Worked.{worked, part_below, part_from, worked_leaves, worked_parents, placed_of}
+use Rattle.mapping.proofs.TileLaws.{from-joined}
+use Rattle.page_runs.specs.AfterRun.{must_replace, replaced, in_front, after_run}
+use Rattle.page_runs.proofs.AfterLaws.{entries_of-after_run}
+use Rattle.page_runs.specs.Worked.{worked}
+use Rattle.split_plan.specs.WorkedLevel.{part_below, part_from, worked_leaves, worked_parents, placed_of}
 
 -- ---- a run over pairs in two parts
 
@@ -125,4 +126,4 @@ module _ {V : Type 0} where
     -- what holds of all that a page says, and of a run, holds of all that the page says after the run
     pub all_said-after_run : (s : Settings) (p : Layers V) (run : List (List ℕ × Option V)) → AllByRecursion P run → AllByRecursion P (said_under p.runs p.base) → AllByRecursion P (said_under (after_run s p run).runs (after_run s p run).base)
     all_said-after_run s p [] a b = b
-    all_said-after_run s p (c ∷ cs) a b = said_by (overflows s p (c ∷ cs)) p (c ∷ cs) a b
+    all_said-after_run s p (c ∷ cs) a b = said_by (must_replace s p (c ∷ cs)) p (c ∷ cs) a b

@@ -9,7 +9,7 @@ use Rattle.std.specs.List.{AllByRecursion, list_all}
 use Rattle.std.specs.List.Sorted.{IsStrictlySortedBy}
 use Rattle.std.specs.Map.{keys_of}
 use Rattle.keys.specs.Order.{order, AreRisingKeys}
-use Rattle.keys.specs.MapLaws.{below_all, is_itself, passes_same}
+use Rattle.keys.proofs.MapLaws.{below_all, is_itself, passes_same}
 use Rattle.keys.specs.declared.settings.Settings.{Settings}
 use Rattle.delta_chain.specs.Layers.{AllRise}
 use Rattle.index_page.specs.Page.{Page, entries, first_key, said, named}

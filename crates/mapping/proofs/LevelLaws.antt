@@ -8,7 +8,7 @@ use Rattle.index_page.specs.Page.{Page, PageOfKind}
 use Rattle.mapping.specs.Tree.{Tree, page_at}
 use Rattle.mapping.specs.Levels.{Placed, Levels, joined, names, pids, as_leaf, as_index, leaf_at, index_at, levels_below, levels_of, first_pid, top_pid}
 use Rattle.mapping.specs.Proper.{Stacked, HasLeaves, HasIndexPages, HoldsLevels}
-use Rattle.mapping.specs.TileLaws.{Names}
+use Rattle.mapping.proofs.TileLaws.{Names}
 
 module _ {V : Type 0} where
   pub values_of-names : (ps : List (Placed V)) → values_of (names ps) ≡ pids ps

@@ -5,9 +5,9 @@ use Rattle.std.specs.Ordering.{is_lt}
 use Rattle.std.specs.List.Sorted.{IsStrictlySortedBy}
 use Rattle.std.specs.Map.{keys_of}
 use Rattle.keys.specs.Order.{order, IsRising}
-use Rattle.keys.specs.MapLaws.{IsBelowAll, total}
+use Rattle.keys.proofs.MapLaws.{IsBelowAll, total}
 use Rattle.delta_chain.specs.Building.{goes_last}
-use Rattle.delta_chain.specs.Places.{front_under}
+use Rattle.delta_chain.proofs.Places.{front_under}
 
 less_by : (o : Ordering) → is_lt o ≡ true → o ≡ Less
 less_by Less h = refl

@@ -6,7 +6,7 @@ use Rattle.std.specs.Map.{keys_of}
 use Rattle.std.proofs.lemmas.Map.Keys.{sorted_tail}
 use Rattle.keys.specs.Order.{order, IsRising}
 use Rattle.keys.specs.OrderedMap.{value_at, with_pair}
-use Rattle.keys.specs.MapLaws.{alike, passes_same, value_at-with_pair_here, value_at-with_pair_apart, value_at-without, value_at_rest, rising-with_pair, rising-without}
+use Rattle.keys.proofs.MapLaws.{alike, passes_same, value_at-with_pair_here, value_at-with_pair_apart, value_at-without, value_at_rest, rising-with_pair, rising-without}
 use Rattle.delta_chain.specs.Layers.{Layers, said_or, held_under, holds, with_change, with_run, entries_under, entries_of, AllRise, IsInOrder}
 
 module _ {V : Type 0} where

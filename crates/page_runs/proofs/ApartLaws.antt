@@ -5,13 +5,14 @@ use Rattle.std.specs.Ordering.{is_eq}
 use Rattle.keys.specs.Order.{order, IsRising}
 use Rattle.keys.specs.OrderedMap.{value_at, with_pair}
 use Rattle.keys.specs.Step.{reply_to, map_after, replies_to, map_after_all}
-use Rattle.keys.specs.MapLaws.{passes_same, value_at-with_pair_here, value_at-without_here}
-use Rattle.keys.specs.RunLaws.{rising-map_after}
+use Rattle.keys.proofs.MapLaws.{passes_same, value_at-with_pair_here, value_at-without_here}
+use Rattle.keys.proofs.RunLaws.{rising-map_after}
 use Rattle.keys.specs.declared.command.Command.{Command}
 use Rattle.keys.specs.declared.command.Command.TheVariants.{Get, Put, Add, Del}
 use Rattle.keys.specs.declared.command.Reply.{Reply}
 use Rattle.page_runs.specs.NetRun.{net_run}
-use Rattle.page_runs.specs.NetLaws.{Pairs, said_if, touches, is_touched, value_at-touched, untouched_once}
+use Rattle.page_runs.proofs.NetLaws.{Pairs, said_if, value_at-touched, untouched_once}
+use Rattle.page_runs.specs.Touched.{touches, is_touched}
 use Rattle.page_runs.specs.Apart.{key_of, commands_on, replies_on, AgreeOn}
 
 -- ---- one command

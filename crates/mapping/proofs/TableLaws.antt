@@ -10,12 +10,12 @@ use Rattle.std.proofs.lemmas.Cmp.{nat_cmp_total, alike_right, tied_itself, ranke
 use Rattle.std.proofs.lemmas.List.{map-append}
 use Rattle.index_page.specs.Page.{PageOfKind}
 use Rattle.index_page.specs.Page.PageOfKind.{Leaf, Index}
-use Rattle.index_page.specs.ListLaws.{all-append, all_apart}
+use Rattle.index_page.proofs.ListLaws.{all-append, all_apart}
 use Rattle.mapping.specs.Tree.{page_at}
 use Rattle.mapping.specs.Levels.{Placed, Levels, pids, all_pids, leaf_pages, index_pages, all_pages, by_pid}
 use Rattle.mapping.specs.FreshPids.{is_among}
 use Rattle.mapping.specs.Proper.{Distinct, AreRisingPids, HasLeaves, HasIndexPages, HoldsLevels}
-use Rattle.mapping.specs.PidLaws.{all_among, below_later}
+use Rattle.mapping.proofs.PidLaws.{all_among, below_later}
 
 pub total : IsTotalOrder nat_cmp
 total = nat_cmp_total

@@ -3,18 +3,19 @@ use Rattle.std.specs.Prelude.{◌≡◌, ◌≢◌, ℕ, suc, ◌+◌, ◌<◌, 
 use Rattle.std.proofs.Common.{refl, sym, ap, ◌∙◌, subst, arith, length-append}
 use Rattle.std.specs.List.{AllByRecursion}
 use Rattle.keys.specs.declared.settings.Settings.{Settings}
-use Rattle.index_page.specs.ListLaws.{flat}
+use Rattle.keys.specs.Lists.{flat}
 use Rattle.mapping.specs.Levels.{Placed, joined, pids}
-use Rattle.mapping.specs.LevelLaws.{pids-append}
+use Rattle.mapping.proofs.LevelLaws.{pids-append}
 use Rattle.mapping.specs.FreshPids.{unused}
-use Rattle.mapping.specs.PidLaws.{IsNeverUnused, unused-rises}
+use Rattle.mapping.proofs.PidLaws.{IsNeverUnused, unused-rises}
 use Rattle.mapping.specs.Proper.{Distinct}
 use Rattle.split_plan.specs.Cut.{cut}
 use Rattle.split_plan.specs.Groups.{groups}
-use Rattle.split_plan.specs.GroupLaws.{groups-joined}
-use Rattle.split_plan.specs.Worked.{Worked, placed_of, is_thin, is_fat}
+use Rattle.split_plan.proofs.GroupLaws.{groups-joined}
+use Rattle.page_runs.specs.Worked.{Worked, is_thin, is_fat}
+use Rattle.split_plan.specs.WorkedLevel.{placed_of}
 use Rattle.split_plan.specs.Change.{Change, fresh_pages, replacements, remade, changes, family_changes, new_of, fresh_of, all_new, all_fresh}
-use Rattle.split_plan.specs.ChangeLaws.{placed_of-append}
+use Rattle.split_plan.proofs.ChangeLaws.{placed_of-append}
 
 -- a list of pids with some left out, and with the fresh ones from place i up to place j put in
 pub data Renewed (used : List ℕ) : ℕ → ℕ → List ℕ → List ℕ → Type 0 where

@@ -1,11 +1,7 @@
 -- Lemmas on what holds of all of a list, for the proofs of this crate and of those above it.
-use Rattle.std.specs.Prelude.{Bool, true, false, cond, List, [], ◌∷◌, ◌++◌, flat_map}
+use Rattle.std.specs.Prelude.{Bool, true, false, cond, List, [], ◌∷◌, ◌++◌}
 use Rattle.std.specs.List.{AllByRecursion, filter}
 use Rattle.std.specs.Map.{keys_of}
-
--- lists joined end to end
-abbrev pub flat : {X : Type 0} → List (List X) → List X
-flat xss = flat_map (λ xs. xs) xss
 
 module _ {X : Type 0} (P : X → Type 0) where
   pub all-append : (xs ys : List X) → AllByRecursion P xs → AllByRecursion P ys → AllByRecursion P (xs ++ ys)

@@ -1,0 +1,41 @@
+-- What a run makes of a page under its pid.
+use Rattle.std.specs.Prelude.{ℕ, Bool, true, false, List, [], ◌∷◌, Option}
+use Rattle.keys.specs.declared.settings.Settings.{Settings}
+use Rattle.delta_chain.specs.Layers.{Layers}
+use Rattle.mapping.specs.Levels.{Placed}
+use Rattle.page_runs.specs.AfterRun.{must_replace, after_run, class_after}
+use Rattle.page_runs.specs.declared.class.Class.{Class}
+use Rattle.page_runs.specs.declared.class.Class.TheVariants.{Thin, Fat}
+
+-- a page after its run, its class, and whether it was replaced
+pub record Worked (V : Type 0) : Type 0 where
+  pub placed : Placed V
+  pub class : Class
+  pub replaced : Bool
+
+-- whether a page is replaced by a run
+abbrev pub is_replaced : {V : Type 0} → Settings → Layers V → List (List ℕ × Option V) → Bool
+is_replaced s p [] = false
+is_replaced s p (c ∷ cs) = must_replace s p (c ∷ cs)
+
+-- the page after a run, under its pid and with its low key
+abbrev pub worked : {V : Type 0} → Settings → Placed V → List (List ℕ × Option V) → Worked V
+worked s p run = record {
+  placed = record { pid = p.pid; page = record { low = p.page.low; layers = after_run s p.page.layers run } };
+  class = class_after s p.page.layers run;
+  replaced = is_replaced s p.page.layers run;
+}
+
+abbrev pub is_thin_class : Class → Bool
+is_thin_class Thin = true
+is_thin_class _ = false
+
+abbrev pub is_fat_class : Class → Bool
+is_fat_class Fat = true
+is_fat_class _ = false
+
+abbrev pub is_thin : {V : Type 0} → Worked V → Bool
+is_thin w = is_thin_class w.class
+
+abbrev pub is_fat : {V : Type 0} → Worked V → Bool
+is_fat w = is_fat_class w.class
