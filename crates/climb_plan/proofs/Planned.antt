@@ -4,7 +4,7 @@ use Rattle.std.proofs.Common.{refl, sym, ap, ◌∙◌, subst, arith, leb-true}
 use Rattle.std.specs.List.{AllByRecursion}
 use Rattle.std.proofs.lemmas.Bool.{and_parts}
 use Rattle.std.specs.Map.{keys_of}
-use Rattle.keys.specs.Limits.{first_bad_field, is_within}
+use Rattle.keys.specs.Limits.{first_bad_field, is_in_limits}
 use Rattle.keys.specs.Step.{map_after_all}
 use Rattle.keys.specs.declared.settings.Settings.{Settings}
 use Rattle.keys.specs.declared.settings.Field.{Field}
@@ -37,13 +37,13 @@ use Rattle.climb_plan.proofs.Leaves.{tiled-leaves, small-leaves}
 
 -- ---- settings
 
-fan_by : (b : Bool) (fan : ℕ) (rest : Option Field) → is_within 4 64 fan ≡ b → cond b rest (Some Fan) ≡ None → 4 ≤ fan
+fan_by : (b : Bool) (fan : ℕ) (rest : Option Field) → is_in_limits 4 64 fan ≡ b → cond b rest (Some Fan) ≡ None → 4 ≤ fan
 fan_by true fan rest e h = leb-true 4 fan (and_parts (nat_le 4 fan) (nat_le fan 64) e).0
 fan_by false fan rest e h = absurd (cc)
 
 -- settings that pass the check have a fan of several entries
 pub several : (s : Settings) → first_bad_field s ≡ None → 1 < s.fan
-several s h = let l : 4 ≤ s.fan = fan_by (is_within 4 64 s.fan) s.fan _ refl h in omega arith
+several s h = let l : 4 ≤ s.fan = fan_by (is_in_limits 4 64 s.fan) s.fan _ refl h in omega arith
 
 -- ---- the levels of a proper tree are within the settings, their low keys too
 
