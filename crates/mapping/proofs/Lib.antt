@@ -1,4 +1,5 @@
 mod FindingRow
+mod FirstTree
 mod Joined
 mod Level
 pub mod LevelLaws

@@ -1,13 +1,13 @@
 //! What the definitions of `specs/` mean. Each law is the contract of a function with an empty body.
-ghost use Rattle.std.specs.Prelude.{◌≡◌, ◌↔◌, ◌<◌, ◌≤◌, ℕ, suc, false, List, None, length};
+ghost use Rattle.std.specs.Prelude.{◌≡◌, ◌↔◌, ◌<◌, ◌≤◌, ℕ, suc, false, List, [], None, length};
 ghost use Rattle.std.specs.Map.{keys_of};
 ghost use Rattle.keys.specs.Order.{IsRising};
 ghost use Rattle.keys.specs.declared.settings.Settings.{Settings};
-ghost use Rattle.mapping.specs.Tree.{Tree};
+ghost use Rattle.mapping.specs.Tree.{Tree, first_tree};
 ghost use Rattle.mapping.specs.Levels.{Levels, levels_of, contents, all_pages, by_pid, top_pid, all_pids};
 ghost use Rattle.mapping.specs.FreshPids.{is_among, unused, with_number};
 ghost use Rattle.mapping.specs.Finding.{finding};
-ghost use Rattle.mapping.specs.Proper.{Stacked, Distinct, AreRisingPids, HoldsLevels, IsTree, IsProper};
+ghost use Rattle.mapping.specs.Proper.{Stacked, Distinct, AreRisingPids, HoldsLevels, AreLogsTrue, IsTree, IsProper};
 
 /// The walk from the root finds nothing exactly where the tree is proper.
 pub fn nothing_is_found_exactly_in_a_proper_tree()
@@ -17,6 +17,13 @@ pub fn nothing_is_found_exactly_in_a_proper_tree()
 /// What a proper tree holds is an ordered map.
 pub fn the_contents_of_a_proper_tree_rise()
     ensures { (s : Settings) (t : Tree) → IsProper s t → IsRising (contents t) }
+{}
+
+/// The tree of a new store is proper under any settings, what its log has is true, and it holds nothing.
+pub fn the_first_tree_is_proper_and_empty()
+    ensures proper { (s : Settings) → IsProper s first_tree }
+    ensures logs { AreLogsTrue first_tree }
+    ensures empty { contents first_tree ≡ [] }
 {}
 
 /// A table that is made of levels with distinct pids has their pages and no other, its pids rise, and a walk from the
