@@ -1,6 +1,8 @@
 mod AllThinLeaves
 mod Climbs
+mod CutUnderTwoParents
 mod Families
+mod FreshOrder
 mod Kept
 mod LeadingThinLeaf
 mod Leaves
