@@ -20,3 +20,4 @@ mod RowThirteen
 mod RowTwelve
 mod Sizes
 mod Standing
+mod Untouched

@@ -5,6 +5,7 @@ ghost use Rattle.std.specs.Map.{keys_of};
 ghost use Rattle.keys.specs.Limits.{first_bad_field};
 ghost use Rattle.keys.specs.Step.{map_after_all};
 ghost use Rattle.keys.specs.declared.command.Command.{Command};
+ghost use Rattle.keys.specs.declared.command.Command.TheVariants.{Get};
 ghost use Rattle.keys.specs.declared.settings.Settings.{Settings};
 ghost use Rattle.index_page.specs.Page.{PageOfKind};
 ghost use Rattle.mapping.specs.Tree.{Store, page_at, logged_of};
@@ -12,6 +13,7 @@ ghost use Rattle.mapping.specs.Tree.Logged.{No, Upto};
 ghost use Rattle.mapping.specs.FreshPids.{is_among, unused};
 ghost use Rattle.mapping.specs.Levels.{Placed, contents, levels_of, pids, all_pids};
 ghost use Rattle.mapping.specs.Proper.{AreLogsTrue, IsProper};
+ghost use Rattle.page_runs.specs.NetRun.{net_run};
 ghost use Rattle.climb_plan.specs.Limits.{AreShort};
 ghost use Rattle.climb_plan.specs.Climb.{is_lone, kept};
 ghost use Rattle.climb_plan.specs.Plan.{climbed, plan, outdate, outdated_pids, shrunk_pids};
@@ -46,6 +48,14 @@ pub fn what_is_not_outdated_stands<A: Allocator>()
     ensures stands { (s : Settings) (st : Store) (cs : List (Command A)) (pid : ℕ) (p : PageOfKind) → first_bad_field s ≡ None → IsProper s st.tree →
         is_among pid (outdated_pids s st.tree cs) ≡ false → page_at st.tree.pages pid ≡ Some p →
         (q : PageOfKind) × (page_at (plan s st cs).tree.pages pid ≡ Some q) × Stands p q }
+{}
+
+/// Commands that come to nothing, a batch of gets among them, leave the store as it is: every page, the root, the height,
+/// and what the log has; no pid is outdated.
+pub fn commands_that_come_to_nothing_change_nothing<A: Allocator>()
+    ensures store { (s : Settings) (st : Store) (cs : List (Command A)) → IsProper s st.tree → net_run (contents st.tree) cs ≡ [] → plan s st cs ≡ st }
+    ensures outdated { (s : Settings) (st : Store) (cs : List (Command A)) → IsProper s st.tree → net_run (contents st.tree) cs ≡ [] → outdated_pids s st.tree cs ≡ [] }
+    ensures gets { (s : Settings) (st : Store) (keys : List (List ℕ)) → IsProper s st.tree → plan {A = A} s st (map (λ k. Get k) keys) ≡ st }
 {}
 
 /// The pids of new pages are the numbers not in use, from the least on without a gap, in the order in which the pages

@@ -8,5 +8,6 @@ mod MetPids
 mod Parts
 pub mod PidLaws
 pub mod TableLaws
+pub mod TableOfLevels
 pub mod TileLaws
 mod Walk

@@ -3,6 +3,7 @@ ghost use Rattle.std.specs.Prelude.{◌≡◌, ◌↔◌, ◌<◌, ◌≤◌, �
 ghost use Rattle.std.specs.Map.{keys_of};
 ghost use Rattle.keys.specs.Order.{IsRising};
 ghost use Rattle.keys.specs.declared.settings.Settings.{Settings};
+ghost use Rattle.index_page.specs.Page.{PageOfKind};
 ghost use Rattle.mapping.specs.Tree.{Tree, first_tree};
 ghost use Rattle.mapping.specs.Levels.{Levels, levels_of, contents, all_pages, by_pid, top_pid, all_pids};
 ghost use Rattle.mapping.specs.FreshPids.{is_among, unused, with_number};
@@ -26,11 +27,13 @@ pub fn the_first_tree_is_proper_and_empty()
     ensures empty { contents first_tree ≡ [] }
 {}
 
-/// A table that is made of levels with distinct pids has their pages and no other, its pids rise, and a walk from the
-/// root over a table that has levels finds these levels.
+/// A table that is made of levels with distinct pids has their pages and no other, and its pids rise: it is the only such
+/// table. A walk from the root over a table that has levels finds these levels.
 pub fn levels_are_found_in_their_table()
     ensures holds { (l : Levels) → Distinct (all_pids l.level l.above) → HoldsLevels (by_pid (all_pages l)) l }
     ensures rising { (l : Levels) → AreRisingPids (keys_of (by_pid (all_pages l))) }
+    ensures only { (t : List (ℕ × PageOfKind)) (l : Levels) → AreRisingPids (keys_of t) → Distinct (all_pids l.level l.above) → HoldsLevels t l →
+        by_pid (all_pages l) ≡ t }
     ensures found { (t : Tree) (l : Levels) → HoldsLevels t.pages l → Stacked l.level l.above → t.root ≡ top_pid l.level l.above → t.height ≡ suc (length l.above) →
         levels_of t ≡ l }
 {}
