@@ -24,7 +24,7 @@ module _ {X : Type 0} where
   none_left [] h = refl
   none_left (x ∷ xs) h = absurd (omega arith)
 
-  families_by_length : (ps : List (Placed ℕ)) (xs : List X) → length (joined ps) ≡ length xs → flat (families ps xs) ≡ xs
+  pub families_by_length : (ps : List (Placed ℕ)) (xs : List X) → length (joined ps) ≡ length xs → flat (families ps xs) ≡ xs
   families_by_length [] xs h = none_left xs (sym h)
   families_by_length (p ∷ ps) xs h =
       let n : ℕ = length (entries p) in

@@ -1,6 +1,8 @@
 mod AllThinLeaves
 mod Climbs
+mod CutUnderTwoParents
 mod Families
+mod FreshOrder
 mod Kept
 mod LeadingThinLeaf
 mod Leaves
@@ -18,3 +20,4 @@ mod RowThirteen
 mod RowTwelve
 mod Sizes
 mod Standing
+mod Untouched

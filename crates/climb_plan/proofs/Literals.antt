@@ -5,7 +5,7 @@ use Rattle.keys.specs.declared.command.Command.TheVariants.{Put, Del}
 use Rattle.keys.specs.declared.settings.Settings.{Settings}
 use Rattle.index_page.specs.Page.{PageOfKind}
 use Rattle.index_page.specs.Page.PageOfKind.{Leaf, Index}
-use Rattle.mapping.specs.Tree.{Logged, Tree}
+use Rattle.mapping.specs.Tree.{Logged, Tree, first_tree}
 use Rattle.mapping.specs.Tree.Logged.{Upto}
 use Rattle.climb_plan.specs.Plan.{planned_tree}
 
@@ -138,9 +138,9 @@ with_log logged t = record t { logged = logged }
 abbrev pub bases_of : List ℕ → List (ℕ × Logged)
 bases_of pids = map (λ pid. (pid, Upto 0)) pids
 
--- an empty leaf
+-- the tree of a new store, but that the log has nothing of it: so the rows that don't speak of the log needn't
 abbrev pub fresh : Tree
-fresh = tree (leaf 0 [] [] ∷ []) 0 1
+fresh = with_log [] first_tree
 
 -- the tree after batches
 abbrev pub after : Settings → Tree → List Batch → Tree

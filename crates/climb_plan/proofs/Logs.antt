@@ -1,6 +1,6 @@
 -- What the log has of a page stays true.
-use Rattle.std.specs.Prelude.{◌≡◌, ℕ, ◌<◌, ◌⊎◌, ◌↔◌, Bool, true, false, cond, ◌||◌, nat_eq, List, [], ◌∷◌, ◌++◌, flat_map, drop, length, Option, Some}
-use Rattle.std.proofs.Common.{refl, sym, ap, ◌∙◌, subst, inl, inr}
+use Rattle.std.specs.Prelude.{◌≡◌, ℕ, ◌<◌, ◌≤◌, ◌⊎◌, ◌↔◌, Bool, true, false, cond, ◌||◌, nat_eq, List, [], ◌∷◌, ◌++◌, flat_map, drop, length, Option, Some, None}
+use Rattle.std.proofs.Common.{refl, sym, ap, ◌∙◌, subst, arith, inl, inr, length-append}
 use Rattle.std.specs.Ordering.{nat_cmp, is_eq}
 use Rattle.std.specs.List.{AllByRecursion}
 use Rattle.std.specs.Map.{keys_of, lookup}
@@ -14,18 +14,18 @@ use Rattle.mapping.specs.Tree.{Logged, Tree, page_at, or_no, logged_of}
 use Rattle.mapping.specs.Tree.Logged.{No, Old, Upto}
 use Rattle.mapping.specs.Levels.{Placed, Levels, pids, all_pids, levels_of, by_pid, all_pages}
 use Rattle.mapping.specs.FreshPids.{is_among}
-use Rattle.mapping.proofs.PidLaws.{later_among}
-use Rattle.mapping.specs.Proper.{HasIndexPages, HoldsLevels, IsProper}
+use Rattle.mapping.proofs.PidLaws.{later_among, among_apart, among_either}
+use Rattle.mapping.specs.Proper.{AreRisingPids, HasIndexPages, HoldsLevels, HasRuns, IsTrueOf, AreLogsTrue, IsProper}
 use Rattle.mapping.proofs.TableLaws.{equal_by, same_pid, by_pid-holds, holds_where_found}
 use Rattle.page_runs.specs.NetRun.{net_run}
 use Rattle.split_plan.specs.WorkedLevel.{worked_leaves}
 use Rattle.split_plan.proofs.RunLaws.{names-worked_leaves}
 use Rattle.climb_plan.specs.Climb.{Climbed, kept}
-use Rattle.climb_plan.specs.Plan.{climbed, planned_levels, planned_tree, shrunk_pids, outdate, outdate_all}
+use Rattle.climb_plan.specs.Plan.{climbed, planned_levels, planned_tree, shrunk_pids, outdated_pids, outdate, outdate_all}
 use Rattle.climb_plan.specs.Standing.{Stands}
 use Rattle.climb_plan.proofs.Kept.{kept_is_first}
 use Rattle.climb_plan.proofs.Planned.{planned_are_levels}
-use Rattle.climb_plan.proofs.Standing.{among_apart, Has, IsAsBefore, HasAsBefore, StandsIn, AllStandIn, as_before-worked_leaves, stand-climb}
+use Rattle.climb_plan.proofs.Standing.{Has, IsAsBefore, HasAsBefore, StandsIn, AllStandIn, as_before-worked_leaves, stand-climb}
 
 -- ---- what is listed of a pid
 
@@ -59,6 +59,16 @@ no_by false l = (λ h. h, λ h. h)
 no_by true No = (λ h. refl, λ h. refl)
 no_by true Old = (λ h. absurd (cc), λ h. absurd (cc))
 no_by true (Upto k) = (λ h. absurd (cc), λ h. absurd (cc))
+
+-- a page with newer runs in front has as many runs as it had, or more
+more_by : {X : Type 0} (k : ℕ) (now newer before : List X) → now ≡ newer ++ before → k ≤ length before → k ≤ length now
+more_by k now newer before e h = rw e (omega (arith, length-append newer before))
+
+more_runs : (p q : PageOfKind) (k : ℕ) → Stands p q → HasRuns k p → HasRuns k q
+more_runs (Leaf p) (Leaf q) k r h = more_by k q.layers.runs r.runs.0 p.layers.runs r.runs.1 h
+more_runs (Index p) (Index q) k r h = more_by k q.layers.runs r.runs.0 p.layers.runs r.runs.1 h
+more_runs (Leaf p) (Index q) k r h = absurd r
+more_runs (Index p) (Leaf q) k r h = absurd r
 
 -- ---- pages found by their pids
 
@@ -107,19 +117,6 @@ not_in_by n [] q e a h = h
 not_in_by n (l ∷ ls) q e a (inl h) = let here = has_pid l q h in let none = (among_apart n (pids l) (flat_map pids ls) a).0 in let same : is_among n (pids l) ≡ true = rw (sym e) here in absurd (cc)
 not_in_by n (l ∷ ls) q e a (inr h) = not_in_by n ls q e (among_apart n (pids l) (flat_map pids ls) a).1 h
 
--- a number that is among joined lists is among one of them
-among_either_by : (a b : Bool) → (a || b) ≡ true → (a ≡ true) ⊎ (b ≡ true)
-among_either_by true b h = inl refl
-among_either_by false b h = inr h
-
-among_either : (n : ℕ) (ms ns : List ℕ) → is_among n (ms ++ ns) ≡ true → (is_among n ms ≡ true) ⊎ (is_among n ns ≡ true)
-among_either n [] ns h = inr h
-among_either n (m ∷ ms) ns h =
-    elim (among_either_by (nat_eq n m) (is_among n (ms ++ ns)) h) [
-      | inl a ↦ inl (ap (λ (b : Bool). b || is_among n ms) a)
-      | inr b ↦ elim (among_either n ms ns b) [ inl c ↦ inl (later_among n m ms c) | inr c ↦ inr c ]
-    ]
-
 -- an index page of the levels before, and the page of the levels after that it has become
 record IsFoundAbove (t : List (ℕ × PageOfKind)) (news : List (List (Placed ℕ))) (n : ℕ) : Type 0 where
   pub before : Placed ℕ
@@ -156,18 +153,21 @@ drop_first xs ys all e = ap (λ (z : List (List (Placed ℕ))). drop (length xs)
 -- ---- the plan
 
 module _ {A : Type 0} (s : Settings) (t : Tree) (cs : List (Command A)) where
-  -- the pids whose page is no longer what the log may have of it
   abbrev gone_pids : List ℕ
-  gone_pids = (climbed s t cs).outdated ++ shrunk_pids (climbed s t cs).tower.above
+  gone_pids = outdated_pids s t cs
+
+  -- what the log has of a pid
+  pub logged_after : (pid : ℕ) → logged_of (planned_tree s t cs) pid ≡ cond (is_among pid gone_pids) (outdate (logged_of t pid)) (logged_of t pid)
+  logged_after pid = logged-outdate_all gone_pids t.logged pid
 
   pub no_stays : (pid : ℕ) → (logged_of t pid ≡ No) ↔ (logged_of (planned_tree s t cs) pid ≡ No)
   no_stays pid =
-      let e = logged-outdate_all gone_pids t.logged pid in
+      let e = logged_after pid in
       let r = no_by (is_among pid gone_pids) (logged_of t pid) in
       (λ h. e ∙ r.0 h, λ h. r.1 (sym e ∙ h))
 
   upto_is : (pid k : ℕ) → logged_of (planned_tree s t cs) pid ≡ Upto k → (is_among pid gone_pids ≡ false) × (logged_of t pid ≡ Upto k)
-  upto_is pid k h = upto_by (is_among pid gone_pids) (logged_of t pid) k (sym (logged-outdate_all gone_pids t.logged pid) ∙ h)
+  upto_is pid k h = upto_by (is_among pid gone_pids) (logged_of t pid) k (sym (logged_after pid) ∙ h)
 
   pub upto_was : (pid k : ℕ) → logged_of (planned_tree s t cs) pid ≡ Upto k → logged_of t pid ≡ Upto k
   upto_was pid k h = (upto_is pid k h).1
@@ -219,13 +219,45 @@ module _ {A : Type 0} (s : Settings) (t : Tree) (cs : List (Command A)) where
         let same : Index f.before.page ≡ p = some_same (Index f.before.page) p (sym f.page ∙ ap (λ (x : ℕ). page_at t.pages x) f.pid ∙ h) in
         (Index f.after.page, at_pid, subst (λ (x : PageOfKind). Stands x (Index f.after.page)) same f.same.page)
 
-    -- a page of which the log still has the base and runs stands as it did, with newer runs in front
-    pub logged_page_stands : (pid k : ℕ) (p : PageOfKind) → logged_of (planned_tree s t cs) pid ≡ Upto k → page_at t.pages pid ≡ Some p → StillStands pid p
-    logged_page_stands pid k p h e =
+    -- a page whose pid isn't outdated stands as it did, with newer runs in front
+    pub page_stands : (pid : ℕ) (p : PageOfKind) → is_among pid gone_pids ≡ false → page_at t.pages pid ≡ Some p → StillStands pid p
+    page_stands pid p g e =
         let l : Levels = levels_of t in
-        let g : is_among pid gone_pids ≡ false = (upto_is pid k h).0 in
         let met : is_among pid (all_pids l.level l.above) ≡ true = holds_where_found (λ n. is_among n (all_pids l.level l.above) ≡ true) t.pages pid p proper.held.no_other e in
         elim (among_either pid (pids l.level) (flat_map pids l.above) met) [
           | inl a ↦ leaf_stands pid p g e a
           | inr b ↦ index_page_stands pid p g e b
         ]
+
+    -- so does one of which the log still has the base and runs
+    pub logged_page_stands : (pid k : ℕ) (p : PageOfKind) → logged_of (planned_tree s t cs) pid ≡ Upto k → page_at t.pages pid ≡ Some p → StillStands pid p
+    logged_page_stands pid k p h e = page_stands pid p (upto_is pid k h).0 e
+
+    -- ---- it is true
+
+    logged_keys : (gone : List ℕ) (ls : List (ℕ × Logged)) → keys_of (outdate_all gone ls) ≡ keys_of ls
+    logged_keys gone [] = refl
+    logged_keys gone (l ∷ ls) = ap (λ (ns : List ℕ). l.0 ∷ ns) (logged_keys gone ls)
+
+    true_after : (now : Option PageOfKind) (was : PageOfKind) (k : ℕ) → HasRuns k was → (q : PageOfKind) × (now ≡ Some q) × Stands was q → IsTrueOf now (Upto k)
+    true_after now was k h r = rw r.1 (more_runs was r.0 k r.2 h)
+
+    -- of what the log had of a pid
+    stays_true : (b : Bool) (pid : ℕ) (l : Logged) (was : Option PageOfKind) → is_among pid gone_pids ≡ b → page_at t.pages pid ≡ was → IsTrueOf was l → IsTrueOf (page_at (planned_tree s t cs).pages pid) (cond b (outdate l) l)
+    stays_true b pid No was f e h = absurd h
+    stays_true true pid Old was f e h = tt
+    stays_true false pid Old was f e h = tt
+    stays_true true pid (Upto k) was f e h = tt
+    stays_true false pid (Upto k) None f e h = absurd h
+    stays_true false pid (Upto k) (Some p) f e h = true_after (page_at (planned_tree s t cs).pages pid) p k h (page_stands pid p f e)
+
+    all_stay_true : (ls : List (ℕ × Logged)) → AllByRecursion (λ l. IsTrueOf (page_at t.pages l.0) l.1) ls → AllByRecursion (λ l. IsTrueOf (page_at (planned_tree s t cs).pages l.0) l.1) (outdate_all gone_pids ls)
+    all_stay_true [] h = tt
+    all_stay_true (l ∷ ls) h = (stays_true (is_among l.0 gone_pids) l.0 l.1 (page_at t.pages l.0) refl refl h.0, all_stay_true ls h.1)
+
+    -- what was true of the log stays true
+    pub logs_stay_true : AreLogsTrue t → AreLogsTrue (planned_tree s t cs)
+    logs_stay_true h = record {
+      rising = subst (λ (ns : List ℕ). AreRisingPids ns) (sym (logged_keys gone_pids t.logged)) h.rising;
+      each = all_stay_true t.logged h.each;
+    }

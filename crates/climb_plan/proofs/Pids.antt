@@ -10,8 +10,9 @@ use Rattle.page_runs.specs.Worked.{Worked}
 use Rattle.split_plan.specs.WorkedLevel.{worked_parents, placed_of}
 use Rattle.split_plan.proofs.RunLaws.{names-worked_parents}
 use Rattle.split_plan.specs.Change.{Change, fresh_pages, changes, family_changes, new_of, fresh_of, all_new, all_fresh}
-use Rattle.split_plan.proofs.PidLaws.{Renewed, renewed-append, recast, renewed-fresh_pages, renewed-changes, renewed-family_changes}
-use Rattle.split_plan.proofs.PidLaws.Renewed.{done}
+use Rattle.split_plan.proofs.PidLaws.{renewed-append, recast, renewed-fresh_pages, renewed-changes, renewed-family_changes}
+use Rattle.split_plan.proofs.Renewed.{Renewed}
+use Rattle.split_plan.proofs.Renewed.Renewed.{done}
 use Rattle.split_plan.specs.Terms.{terms}
 use Rattle.climb_plan.specs.Climb.{families, grown, climb}
 use Rattle.climb_plan.proofs.Families.{families-joined}

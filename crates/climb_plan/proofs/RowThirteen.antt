@@ -15,7 +15,7 @@ flushed = with_log (bases_of (0 ∷ 1 ∷ 2 ∷ 3 ∷ 4 ∷ 5 ∷ 6 ∷ 7 ∷ []
 abbrev three_batches : List Batch
 three_batches = del_all (d ∷ e ∷ f ∷ []) ∷ (put d 1 ∷ []) ∷ (del d ∷ []) ∷ []
 
-abbrev tree_13 : Tree
+abbrev pub tree_13 : Tree
 tree_13 = tree (
     leaf 0 [] (ones (a ∷ b ∷ c ∷ [])) ∷
     leaf 2 g (ones (g ∷ h ∷ i ∷ j ∷ [])) ∷

@@ -10,6 +10,7 @@ use Rattle.keys.specs.Lists.{flat}
 use Rattle.index_page.proofs.ListLaws.{all-append, all_weaker}
 use Rattle.mapping.specs.Levels.{Placed, joined, name, names}
 use Rattle.mapping.specs.FreshPids.{is_among}
+use Rattle.mapping.proofs.PidLaws.{among_apart}
 use Rattle.mapping.specs.Proper.{Stacked}
 use Rattle.page_runs.specs.AfterRun.{must_replace, replaced, in_front}
 use Rattle.split_plan.specs.Groups.{groups}
@@ -24,14 +25,7 @@ use Rattle.climb_plan.specs.Climb.{families, Climbed, climb}
 use Rattle.climb_plan.specs.Standing.{StandsUnder}
 use Rattle.climb_plan.proofs.Families.{families-joined}
 
--- ---- a number that isn't among joined lists
-
-pub among_apart : (n : ℕ) (ms ns : List ℕ) → is_among n (ms ++ ns) ≡ false → (is_among n ms ≡ false) × (is_among n ns ≡ false)
-among_apart n [] ns h = (refl, h)
-among_apart n (m ∷ ms) ns h =
-    let first = or_parts (nat_eq n m) (is_among n (ms ++ ns)) h in
-    let rest = among_apart n ms ns first.1 in
-    (ap (λ (b : Bool). b || is_among n ms) first.0 ∙ rest.0, rest.1)
+-- ---- a number that isn't among others
 
 not_itself : (n : ℕ) (ns : List ℕ) → is_among n (n ∷ ns) ≡ false → ⊥
 not_itself n ns h = eqb-false n n ((or_parts (nat_eq n n) (is_among n ns) h).0) refl

@@ -28,6 +28,13 @@ planned_levels s t cs = shrunk (climbed s t cs)
 abbrev pub shrunk_pids : List (List (Placed ℕ)) → List ℕ
 shrunk_pids ls = flat_map pids (drop (length (kept ls)) ls)
 
+-- the pids whose page is no longer what the log may have of it: of pages that were replaced, rewritten or freed, and of
+-- those that went with the old root
+abbrev pub outdated_pids : {A : Type 0} → Settings → Tree → List (Command A) → List ℕ
+outdated_pids s t cs =
+    let c : Climbed (List ℕ) = climbed s t cs in
+    c.outdated ++ shrunk_pids c.tower.above
+
 -- a page that isn't the one that the log knows
 abbrev pub outdate : Logged → Logged
 outdate No = No
@@ -41,13 +48,12 @@ outdate_all gone ls = map (λ l. (l.0, if is_among l.0 gone then outdate l.1 els
 -- the tree after the commands
 abbrev pub planned_tree : {A : Type 0} → Settings → Tree → List (Command A) → Tree
 planned_tree s t cs =
-    let c : Climbed (List ℕ) = climbed s t cs in
-    let l : Levels = shrunk c in
+    let l : Levels = planned_levels s t cs in
     record {
       pages = by_pid (all_pages l);
       root = top_pid l.level l.above;
       height = suc (length l.above);
-      logged = outdate_all (c.outdated ++ shrunk_pids c.tower.above) t.logged;
+      logged = outdate_all (outdated_pids s t cs) t.logged;
     }
 
 -- the store after the commands: a batch doesn't touch the log

@@ -1,21 +1,28 @@
 //! What the plan means. Each law is the contract of a function with an empty body.
-ghost use Rattle.std.specs.Prelude.{◌≡◌, ◌↔◌, ℕ, List, None, Some};
+ghost use Rattle.std.specs.Prelude.{◌≡◌, ◌↔◌, ◌⊎◌, ℕ, true, false, not, List, [], ◌∷◌, ◌++◌, map, drop, length, None, Some, if◌then◌else◌};
+ghost use Rattle.std.specs.List.{AllByRecursion, Any, filter, range_with_len};
+ghost use Rattle.std.specs.Map.{keys_of};
 ghost use Rattle.keys.specs.Limits.{first_bad_field};
 ghost use Rattle.keys.specs.Step.{map_after_all};
 ghost use Rattle.keys.specs.declared.command.Command.{Command};
+ghost use Rattle.keys.specs.declared.command.Command.TheVariants.{Get};
 ghost use Rattle.keys.specs.declared.settings.Settings.{Settings};
 ghost use Rattle.index_page.specs.Page.{PageOfKind};
 ghost use Rattle.mapping.specs.Tree.{Store, page_at, logged_of};
 ghost use Rattle.mapping.specs.Tree.Logged.{No, Upto};
-ghost use Rattle.mapping.specs.Levels.{contents};
-ghost use Rattle.mapping.specs.Proper.{IsProper};
+ghost use Rattle.mapping.specs.FreshPids.{is_among, unused};
+ghost use Rattle.mapping.specs.Levels.{Placed, contents, levels_of, pids, all_pids};
+ghost use Rattle.mapping.specs.Proper.{AreLogsTrue, IsProper};
+ghost use Rattle.page_runs.specs.NetRun.{net_run};
 ghost use Rattle.climb_plan.specs.Limits.{AreShort};
-ghost use Rattle.climb_plan.specs.Plan.{plan};
+ghost use Rattle.climb_plan.specs.Climb.{is_lone, kept};
+ghost use Rattle.climb_plan.specs.Plan.{climbed, plan, outdate, outdated_pids, shrunk_pids};
 ghost use Rattle.climb_plan.specs.Standing.{Stands};
 
 use std::alloc::Allocator;
 
-/// What the plan of a proper store holds is the map after the commands: a tree of pages answers as an ordered map.
+/// What the plan of a proper store holds is the map after the commands. It says nothing of replies: a plan has none. They
+/// come by the law of `page_runs` that commands on some keys may be worked apart from the others.
 pub fn the_plan_holds_the_map_after_the_commands<A: Allocator>()
     ensures { (s : Settings) (st : Store) (cs : List (Command A)) → first_bad_field s ≡ None → IsProper s st.tree →
         contents (plan s st cs).tree ≡ map_after_all (contents st.tree) cs }
@@ -25,6 +32,38 @@ pub fn the_plan_holds_the_map_after_the_commands<A: Allocator>()
 pub fn the_plan_of_a_proper_store_is_proper<A: Allocator>()
     ensures { (s : Settings) (st : Store) (cs : List (Command A)) → first_bad_field s ≡ None → IsProper s st.tree → AreShort s cs →
         IsProper s (plan s st cs).tree }
+{}
+
+/// What was true of the log stays true: of each pid that it has the base and some runs of, there is a page with so many.
+pub fn the_log_states_stay_true<A: Allocator>()
+    ensures { (s : Settings) (st : Store) (cs : List (Command A)) → first_bad_field s ≡ None → IsProper s st.tree → AreLogsTrue st.tree →
+        AreLogsTrue (plan s st cs).tree }
+{}
+
+/// What a batch doesn't touch. What the log has of a pid changes exactly where the pid is outdated, from `Upto` to `Old`. A
+/// page whose pid isn't outdated stands as it did, with newer runs in front, whether the log knows it or not.
+pub fn what_is_not_outdated_stands<A: Allocator>()
+    ensures logged { (s : Settings) (st : Store) (cs : List (Command A)) (pid : ℕ) →
+        logged_of (plan s st cs).tree pid ≡ (if is_among pid (outdated_pids s st.tree cs) then outdate (logged_of st.tree pid) else logged_of st.tree pid) }
+    ensures stands { (s : Settings) (st : Store) (cs : List (Command A)) (pid : ℕ) (p : PageOfKind) → first_bad_field s ≡ None → IsProper s st.tree →
+        is_among pid (outdated_pids s st.tree cs) ≡ false → page_at st.tree.pages pid ≡ Some p →
+        (q : PageOfKind) × (page_at (plan s st cs).tree.pages pid ≡ Some q) × Stands p q }
+{}
+
+/// Commands that come to nothing, a batch of gets among them, leave the store as it is: every page, the root, the height,
+/// and what the log has; no pid is outdated.
+pub fn commands_that_come_to_nothing_change_nothing<A: Allocator>()
+    ensures store { (s : Settings) (st : Store) (cs : List (Command A)) → IsProper s st.tree → net_run (contents st.tree) cs ≡ [] → plan s st cs ≡ st }
+    ensures outdated { (s : Settings) (st : Store) (cs : List (Command A)) → IsProper s st.tree → net_run (contents st.tree) cs ≡ [] → outdated_pids s st.tree cs ≡ [] }
+    ensures gets { (s : Settings) (st : Store) (keys : List (List ℕ)) → IsProper s st.tree → plan {A = A} s st (map (λ k. Get k) keys) ≡ st }
+{}
+
+/// The pids of new pages are the numbers not in use, from the least on without a gap, in the order in which the pages
+/// stand: level by level from the leaves up, and on a level from left to right.
+pub fn new_pages_are_numbered_in_order<A: Allocator>()
+    ensures { (s : Settings) (st : Store) (cs : List (Command A)) → first_bad_field s ≡ None → IsProper s st.tree →
+        (n : ℕ) × (filter (λ pid. not (is_among pid (keys_of st.tree.pages))) (all_pids (levels_of (plan s st cs).tree).level (levels_of (plan s st cs).tree).above)
+        ≡ map (unused (keys_of st.tree.pages)) (range_with_len 0 n)) }
 {}
 
 /// What the log has of a page stays true. The plan gives no pid more than the log had of it, and takes away no page

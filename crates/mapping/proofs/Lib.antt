@@ -1,4 +1,5 @@
 mod FindingRow
+mod FirstTree
 mod Joined
 mod Level
 pub mod LevelLaws
@@ -7,5 +8,6 @@ mod MetPids
 mod Parts
 pub mod PidLaws
 pub mod TableLaws
+pub mod TableOfLevels
 pub mod TileLaws
 mod Walk

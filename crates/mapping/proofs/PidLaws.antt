@@ -1,5 +1,5 @@
 -- Lemmas on pids, used and unused, for the proofs of this crate and of those above it.
-use Rattle.std.specs.Prelude.{◌≡◌, ◌≢◌, ℕ, zero, suc, ◌<◌, ◌≤◌, ◌⊎◌, Bool, true, false, cond, ◌||◌, nat_lt, nat_le, nat_eq, List, [], ◌∷◌}
+use Rattle.std.specs.Prelude.{◌≡◌, ◌≢◌, ℕ, zero, suc, ◌<◌, ◌≤◌, ◌⊎◌, Bool, true, false, cond, ◌||◌, nat_lt, nat_le, nat_eq, List, [], ◌∷◌, ◌++◌}
 use Rattle.std.proofs.Common.{refl, sym, ap, ◌∙◌, arith, leb-true, leb-false, ltb-true, ltb-false, inl, inr}
 use Rattle.std.specs.List.{AllByRecursion}
 use Rattle.std.proofs.lemmas.Bool.{cases_lt, eq-eqb, eqb-true, eqb-false, or_parts}
@@ -23,6 +23,39 @@ later_all_among n (m ∷ ms) ns h = (later_among m n ns h.0, later_all_among n m
 pub all_among : (ns : List ℕ) → AllByRecursion (λ n. is_among n ns ≡ true) ns
 all_among [] = tt
 all_among (n ∷ ns) = (ap (λ (b : Bool). b || is_among n ns) (eq-eqb n n refl), later_all_among n ns ns (all_among ns))
+
+-- a number that isn't among joined lists is among neither
+pub among_apart : (n : ℕ) (ms ns : List ℕ) → is_among n (ms ++ ns) ≡ false → (is_among n ms ≡ false) × (is_among n ns ≡ false)
+among_apart n [] ns h = (refl, h)
+among_apart n (m ∷ ms) ns h =
+    let first = or_parts (nat_eq n m) (is_among n (ms ++ ns)) h in
+    let rest = among_apart n ms ns first.1 in
+    (ap (λ (b : Bool). b || is_among n ms) first.0 ∙ rest.0, rest.1)
+
+-- and one that is among them is among one of them
+pub among_either_by : (a b : Bool) → (a || b) ≡ true → (a ≡ true) ⊎ (b ≡ true)
+among_either_by true b h = inl refl
+among_either_by false b h = inr h
+
+pub among_either : (n : ℕ) (ms ns : List ℕ) → is_among n (ms ++ ns) ≡ true → (is_among n ms ≡ true) ⊎ (is_among n ns ≡ true)
+among_either n [] ns h = inr h
+among_either n (m ∷ ms) ns h =
+    elim (among_either_by (nat_eq n m) (is_among n (ms ++ ns)) h) [
+      | inl a ↦ inl (ap (λ (b : Bool). b || is_among n ms) a)
+      | inr b ↦ elim (among_either n ms ns b) [ inl c ↦ inl (later_among n m ms c) | inr c ↦ inr c ]
+    ]
+
+pub among_left : (n : ℕ) (ms ns : List ℕ) → is_among n ms ≡ true → is_among n (ms ++ ns) ≡ true
+among_left n [] ns h = absurd (cc)
+among_left n (m ∷ ms) ns h =
+    elim (among_either_by (nat_eq n m) (is_among n ms) h) [
+      | inl a ↦ ap (λ (b : Bool). b || is_among n (ms ++ ns)) a
+      | inr b ↦ later_among n m (ms ++ ns) (among_left n ms ns b)
+    ]
+
+pub among_right : (n : ℕ) (ms ns : List ℕ) → is_among n ns ≡ true → is_among n (ms ++ ns) ≡ true
+among_right n [] ns h = h
+among_right n (m ∷ ms) ns h = later_among n m (ms ++ ns) (among_right n ms ns h)
 
 -- ---- unused numbers
 

@@ -1,8 +1,9 @@
 -- A store: its pages under their pids, its root and height, and what its log has of each page.
-use Rattle.std.specs.Prelude.{ℕ, List, Option, Some, None}
+use Rattle.std.specs.Prelude.{ℕ, List, [], ◌∷◌, Option, Some, None}
 use Rattle.std.specs.Ordering.{nat_cmp, is_eq}
 use Rattle.std.specs.Map.{lookup}
-use Rattle.index_page.specs.Page.{PageOfKind}
+use Rattle.index_page.specs.Page.{PageOfKind, bare}
+use Rattle.index_page.specs.Page.PageOfKind.{Leaf}
 
 -- what the log has of a pid: no page; a page that isn't the present one's base; the present base and its oldest k runs
 pub data Logged : Type 0 where
@@ -23,6 +24,10 @@ pub record Store : Type 0 where
   pub head : ℕ
   pub tail : ℕ
   pub sequence : ℕ
+
+-- the tree of a new store: one empty leaf, which the log has
+abbrev pub first_tree : Tree
+first_tree = record { pages = (0, Leaf (bare [] [])) ∷ []; root = 0; height = 1; logged = (0, Upto 0) ∷ [] }
 
 -- the page under the pid
 abbrev pub page_at : List (ℕ × PageOfKind) → ℕ → Option PageOfKind

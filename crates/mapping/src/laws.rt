@@ -1,13 +1,14 @@
 //! What the definitions of `specs/` mean. Each law is the contract of a function with an empty body.
-ghost use Rattle.std.specs.Prelude.{◌≡◌, ◌↔◌, ◌<◌, ◌≤◌, ℕ, suc, false, List, None, length};
+ghost use Rattle.std.specs.Prelude.{◌≡◌, ◌↔◌, ◌<◌, ◌≤◌, ℕ, suc, false, List, [], None, length};
 ghost use Rattle.std.specs.Map.{keys_of};
 ghost use Rattle.keys.specs.Order.{IsRising};
 ghost use Rattle.keys.specs.declared.settings.Settings.{Settings};
-ghost use Rattle.mapping.specs.Tree.{Tree};
+ghost use Rattle.index_page.specs.Page.{PageOfKind};
+ghost use Rattle.mapping.specs.Tree.{Tree, first_tree};
 ghost use Rattle.mapping.specs.Levels.{Levels, levels_of, contents, all_pages, by_pid, top_pid, all_pids};
 ghost use Rattle.mapping.specs.FreshPids.{is_among, unused, with_number};
 ghost use Rattle.mapping.specs.Finding.{finding};
-ghost use Rattle.mapping.specs.Proper.{Stacked, Distinct, AreRisingPids, HoldsLevels, IsTree, IsProper};
+ghost use Rattle.mapping.specs.Proper.{Stacked, Distinct, AreRisingPids, HoldsLevels, AreLogsTrue, IsTree, IsProper};
 
 /// The walk from the root finds nothing exactly where the tree is proper.
 pub fn nothing_is_found_exactly_in_a_proper_tree()
@@ -19,11 +20,20 @@ pub fn the_contents_of_a_proper_tree_rise()
     ensures { (s : Settings) (t : Tree) → IsProper s t → IsRising (contents t) }
 {}
 
-/// A table that is made of levels with distinct pids has their pages and no other, its pids rise, and a walk from the
-/// root over a table that has levels finds these levels.
+/// The tree of a new store is proper under any settings, what its log has is true, and it holds nothing.
+pub fn the_first_tree_is_proper_and_empty()
+    ensures proper { (s : Settings) → IsProper s first_tree }
+    ensures logs { AreLogsTrue first_tree }
+    ensures empty { contents first_tree ≡ [] }
+{}
+
+/// A table that is made of levels with distinct pids has their pages and no other, and its pids rise: it is the only such
+/// table. A walk from the root over a table that has levels finds these levels.
 pub fn levels_are_found_in_their_table()
     ensures holds { (l : Levels) → Distinct (all_pids l.level l.above) → HoldsLevels (by_pid (all_pages l)) l }
     ensures rising { (l : Levels) → AreRisingPids (keys_of (by_pid (all_pages l))) }
+    ensures only { (t : List (ℕ × PageOfKind)) (l : Levels) → AreRisingPids (keys_of t) → Distinct (all_pids l.level l.above) → HoldsLevels t l →
+        by_pid (all_pages l) ≡ t }
     ensures found { (t : Tree) (l : Levels) → HoldsLevels t.pages l → Stacked l.level l.above → t.root ≡ top_pid l.level l.above → t.height ≡ suc (length l.above) →
         levels_of t ≡ l }
 {}

@@ -1,5 +1,5 @@
 -- Lemmas on names that go and names that come, for the proofs of this crate and of those above it.
-use Rattle.std.specs.Prelude.{◌≡◌, ℕ, zero, Bool, true, false, cond, List, [], ◌∷◌, ◌++◌, map, flat_map, Option, Some, None}
+use Rattle.std.specs.Prelude.{◌≡◌, ℕ, zero, Bool, true, false, cond, List, [], ◌∷◌, ◌++◌, map, Option, Some, None}
 use Rattle.std.proofs.Common.{option_map, refl, sym, ap, ◌∙◌, Less}
 use Rattle.std.specs.Ordering.{is_eq}
 use Rattle.std.specs.List.{AllByRecursion}
@@ -17,23 +17,7 @@ use Rattle.index_page.proofs.RangeLaws.{rising_rest, rising_right}
 use Rattle.index_page.proofs.PageLaws.{all_keys-with_run}
 use Rattle.mapping.proofs.TileLaws.{Names}
 use Rattle.split_plan.specs.Terms.{absent, present, term_at}
-
--- a group as its parent sees it: the name that stays, those that go, and those that come
-pub record Exchange : Type 0 where
-  pub kept : List ℕ × ℕ
-  pub gone : Names
-  pub come : Names
-
--- the names of some groups, before or after, with those that stay, and without them
-abbrev pub whole : (Exchange → Names) → List Exchange → Names
-whole part xs = flat_map (λ x. x.kept ∷ part x) xs
-
-abbrev pub others : (Exchange → Names) → List Exchange → Names
-others part xs = flat_map part xs
-
--- the parent's run
-abbrev pub terms_of : List Exchange → List (List ℕ × Option ℕ)
-terms_of xs = with_run (absent (others (λ x. x.gone) xs)) (present (others (λ x. x.come) xs))
+use Rattle.split_plan.proofs.Exchange.{Exchange, whole, others, terms_of}
 
 -- ---- a part of rising names rises
 

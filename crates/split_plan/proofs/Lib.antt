@@ -1,8 +1,11 @@
 pub mod ChangeLaws
 pub mod CutLaws
+mod Exchange
 pub mod ExchangeLaws
 pub mod GroupLaws
+pub mod OutdatedLaws
 pub mod PidLaws
+pub mod Renewed
 pub mod RunLaws
 pub mod TermLaws
 pub mod WorkedLaws

@@ -16,13 +16,8 @@ use Rattle.page_runs.specs.Worked.{Worked, is_thin, is_fat}
 use Rattle.split_plan.specs.WorkedLevel.{placed_of}
 use Rattle.split_plan.specs.Change.{Change, fresh_pages, replacements, remade, changes, family_changes, new_of, fresh_of, all_new, all_fresh}
 use Rattle.split_plan.proofs.ChangeLaws.{placed_of-append}
-
--- a list of pids with some left out, and with the fresh ones from place i up to place j put in
-pub data Renewed (used : List ℕ) : ℕ → ℕ → List ℕ → List ℕ → Type 0 where
-  done : {i : ℕ} → Renewed used i i [] []
-  keep : {i j : ℕ} {before after : List ℕ} → (n : ℕ) → Renewed used i j before after → Renewed used i j (n ∷ before) (n ∷ after)
-  drop_one : {i j : ℕ} {before after : List ℕ} → (n : ℕ) → Renewed used i j before after → Renewed used i j (n ∷ before) after
-  draw : {i j : ℕ} {before after : List ℕ} → Renewed used (suc i) j before after → Renewed used i j before (unused used i ∷ after)
+use Rattle.split_plan.proofs.Renewed.{Renewed}
+use Rattle.split_plan.proofs.Renewed.Renewed.{done, keep, drop_one, draw}
 
 pub renewed-append : {used : List ℕ} {i j k : ℕ} {b a c d : List ℕ} → Renewed used i j b a → Renewed used j k c d → Renewed used i k (b ++ c) (a ++ d)
 renewed-append (done) r = r

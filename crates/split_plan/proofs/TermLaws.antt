@@ -21,7 +21,8 @@ use Rattle.index_page.specs.Range.{IsRunFor}
 use Rattle.split_plan.specs.Change.{remade, changes, new_of, fresh_of}
 use Rattle.split_plan.proofs.ChangeLaws.{placed_of-append, tiled_placed_apart, remade_begins, next_low-changes, tiled-groups}
 use Rattle.split_plan.specs.Terms.{freed_of, terms, term_at}
-use Rattle.split_plan.proofs.ExchangeLaws.{Exchange, whole, others, terms_of, rising-others, rising-with_present, all_keys-terms_of, before-terms_of, value_at-with_present, terms_exchange}
+use Rattle.split_plan.proofs.Exchange.{Exchange, whole, others, terms_of}
+use Rattle.split_plan.proofs.ExchangeLaws.{rising-others, rising-with_present, all_keys-terms_of, before-terms_of, value_at-with_present, terms_exchange}
 
 module _ {V : Type 0} where
   -- a group, and the pages in its place, as the parent sees it

@@ -1,18 +1,19 @@
 //! What the definitions of `specs/` mean. Each law is the contract of a function with an empty body.
 ghost use Rattle.std.specs.Prelude.{◌≡◌, ◌<◌, ◌/◌, ℕ, ◌⊎◌, ◌↔◌, Bool, true, false, List, [], ◌∷◌, Option, Some, None, length, drop};
-ghost use Rattle.std.specs.List.{AllByRecursion};
+ghost use Rattle.std.specs.List.{AllByRecursion, Any};
 ghost use Rattle.keys.specs.Order.{IsRising};
 ghost use Rattle.keys.specs.OrderedMap.{value_at};
 ghost use Rattle.keys.specs.declared.settings.Settings.{Settings};
 ghost use Rattle.delta_chain.specs.Layers.{with_run};
 ghost use Rattle.keys.specs.Lists.{flat};
+ghost use Rattle.mapping.specs.FreshPids.{is_among};
 ghost use Rattle.mapping.specs.Levels.{Placed, joined, names};
 ghost use Rattle.mapping.specs.Proper.{next_low, Tiled};
 ghost use Rattle.split_plan.specs.Cut.{piece_count, cut, AllAtMost, AllAtLeast};
 ghost use Rattle.split_plan.specs.Groups.{groups, count_kept, begins_thin};
 ghost use Rattle.page_runs.specs.Worked.{Worked, is_thin, is_fat};
 ghost use Rattle.split_plan.specs.WorkedLevel.{worked_leaves, placed_of};
-ghost use Rattle.split_plan.specs.Change.{is_rewritten, changes, new_of, fresh_of};
+ghost use Rattle.split_plan.specs.Change.{Change, is_rewritten, changes, new_of, fresh_of, outdated, all_outdated};
 ghost use Rattle.split_plan.specs.Terms.{freed_of, terms, term_at};
 
 /// The pieces of a cut, joined, are the entries; none has more than `fan`, and of more than `fan` entries none has
@@ -36,6 +37,15 @@ pub fn groups_are_the_children<X>()
 /// A group is rewritten exactly if it has two or more members, or is one fat page.
 pub fn a_group_is_rewritten_for_its_members<V>()
     ensures { (g : List (Worked V)) → (is_rewritten g ≡ true) ↔ ((1 < length g) ⊎ ((w : Worked V) × (g ≡ w ∷ []) × (is_fat w ≡ true))) }
+{}
+
+/// Which pids are outdated: of a group those of the members that their run replaced, and where the group is rewritten
+/// those of all members; of a level those of its groups.
+pub fn outdated_pages_were_replaced_or_rewritten<V>()
+    ensures members { (c : Change V) (pid : ℕ) → (is_among pid (outdated c) ≡ true) ↔
+        Any (λ w. (w.placed.pid ≡ pid) × ((w.replaced ≡ true) ⊎ (is_rewritten c.members ≡ true))) c.members }
+    ensures level { (css : List (List (Change V))) (pid : ℕ) → (is_among pid (all_outdated css) ≡ true) ↔
+        Any (λ cs. Any (λ c. is_among pid (outdated c) ≡ true) cs) css }
 {}
 
 /// Leaves after their parts of a run have, joined, all their entries with the run applied.

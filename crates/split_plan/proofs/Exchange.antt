@@ -1,0 +1,24 @@
+-- The groups of one parent as names alone: for each group the name that stays, those that go, and those that come. A device
+-- of proofs: that the terms turn the names before into the names after is shown of any such lists, and nothing of how groups
+-- are made is needed.
+use Rattle.std.specs.Prelude.{ℕ, List, ◌∷◌, flat_map, Option}
+use Rattle.delta_chain.specs.Layers.{with_run}
+use Rattle.mapping.proofs.TileLaws.{Names}
+use Rattle.split_plan.specs.Terms.{absent, present}
+
+-- a group as its parent sees it: the name that stays, those that go, and those that come
+pub record Exchange : Type 0 where
+  pub kept : List ℕ × ℕ
+  pub gone : Names
+  pub come : Names
+
+-- the names of some groups, before or after, with those that stay, and without them
+abbrev pub whole : (Exchange → Names) → List Exchange → Names
+whole part xs = flat_map (λ x. x.kept ∷ part x) xs
+
+abbrev pub others : (Exchange → Names) → List Exchange → Names
+others part xs = flat_map part xs
+
+-- the parent's run
+abbrev pub terms_of : List Exchange → List (List ℕ × Option ℕ)
+terms_of xs = with_run (absent (others (λ x. x.gone) xs)) (present (others (λ x. x.come) xs))
