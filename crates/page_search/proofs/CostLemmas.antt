@@ -1,14 +1,31 @@
--- What a search has cost where a run does not name the key, and it goes on below.
-use Rattle.std.proofs.Common.{◌≡◌, ◌+◌, ◌≤◌, ℕ, List, ◌∷◌, length, Option, None, arith}
+-- What a search has cost, by what it found.
+use Rattle.std.proofs.Common.{◌≡◌, ◌+◌, ◌≤◌, ℕ, Bool, true, false, List, ◌∷◌, length, Option, None, is_some, min, refl, arith}
 use Rattle.std.specs.Map.{keys_of}
 use Rattle.std.proofs.lemmas.Map.Entries.{length-keys_of}
 use Rattle.keys.specs.OrderedMap.{value_at}
-use Rattle.page_search.specs.Costs.{cost_under}
-use Rattle.page_search.specs.Digits.{binary_digits}
+use Rattle.page_search.specs.Costs.{fewest_among, cost_under}
 
 module _ {V : Type 0} where
-  pub cost_past : (k : List ℕ) (run : List (List ℕ × Option V)) (runs : List (List (List ℕ × Option V))) (base : List (List ℕ × V)) (before between after : ℕ) → value_at k run ≡ None → between ≤ before + binary_digits (length (keys_of run)) → after ≤ between + cost_under k runs base → after ≤ before + cost_under k (run ∷ runs) base
-  cost_past k run runs base before between after h p q =
-      let here : between ≤ before + binary_digits (length run) = rw length-keys_of at p in
-      let both : after ≤ before + (binary_digits (length run) + cost_under k runs base) = omega arith in
-      rw h both
+  -- what a search among keys costs at least is said of the entries that have them
+  pub least_by : (is_there : Bool) (k : List ℕ) (es : List (List ℕ × V)) (before after stop : ℕ) → is_some (value_at k es) ≡ is_there → min (before + fewest_among is_there (length (keys_of es))) stop ≤ after → min (before + fewest_among (is_some (value_at k es)) (length es)) stop ≤ after
+  least_by is_there k es before after stop h p = rw h (rw length-keys_of at p)
+
+  -- where a run names the key the search ends
+  pub least_here : (cost : Bool → ℕ → ℕ) (k : List ℕ) (run : List (List ℕ × Option V)) (runs : List (List (List ℕ × Option V))) (base : List (List ℕ × V)) (before after stop : ℕ) → is_some (value_at k run) ≡ true → min (before + cost true (length (keys_of run))) stop ≤ after → min (before + cost_under cost k (run ∷ runs) base) stop ≤ after
+  least_here cost k run runs base before after stop h p =
+      let here : cost_under cost k (run ∷ runs) base ≡ cost true (length (keys_of run)) + 0 = rw (h, length-keys_of) refl in
+      omega arith
+
+  -- ---- where a run does not name the key, and the search goes on below
+
+  -- the cost of the run, and of what is below it
+  cost_past : (cost : Bool → ℕ → ℕ) (k : List ℕ) (run : List (List ℕ × Option V)) (runs : List (List (List ℕ × Option V))) (base : List (List ℕ × V)) → value_at k run ≡ None → cost_under cost k (run ∷ runs) base ≡ cost false (length (keys_of run)) + cost_under cost k runs base
+  cost_past cost k run runs base h = rw (h, length-keys_of) refl
+
+  -- no more than it
+  pub most_past : (cost : Bool → ℕ → ℕ) (k : List ℕ) (run : List (List ℕ × Option V)) (runs : List (List (List ℕ × Option V))) (base : List (List ℕ × V)) (before between after : ℕ) → value_at k run ≡ None → between ≤ before + cost false (length (keys_of run)) → after ≤ between + cost_under cost k runs base → after ≤ before + cost_under cost k (run ∷ runs) base
+  most_past cost k run runs base before between after h p q = omega (arith, cost_past cost k run runs base h)
+
+  -- no less than it, up to where the count stops
+  pub least_past : (cost : Bool → ℕ → ℕ) (k : List ℕ) (run : List (List ℕ × Option V)) (runs : List (List (List ℕ × Option V))) (base : List (List ℕ × V)) (before between after stop : ℕ) → value_at k run ≡ None → min (before + cost false (length (keys_of run))) stop ≤ between → min (between + cost_under cost k runs base) stop ≤ after → min (before + cost_under cost k (run ∷ runs) base) stop ≤ after
+  least_past cost k run runs base before between after stop h p q = omega (arith, cost_past cost k run runs base h)

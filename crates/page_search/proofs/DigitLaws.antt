@@ -1,6 +1,6 @@
 -- Lemmas on binary digits, for the proofs of this crate and of those above it.
 use Rattle.std.specs.Prelude.{◌≡◌, ℕ, zero, suc, ◌+◌, ◌*◌, ◌/◌, ◌^◌, ◌<◌, ◌≤◌}
-use Rattle.std.proofs.Common.{refl, ap, arith}
+use Rattle.std.proofs.Common.{refl, ap, arith, add-one}
 use Rattle.std.proofs.Math.Nat.{pow-succ'}
 use Rattle.page_search.specs.Digits.{halvings, binary_digits}
 
@@ -41,6 +41,16 @@ binary_digits-half m (suc n) p h =
     let rise : halvings n m ≤ halvings n (suc n / 2) = halvings-rise n m (suc n / 2) (omega arith) in
     omega arith
 
+-- what is at least the half of a number has no more than a digit less
+pub binary_digits-twice : (m n : ℕ) → n ≤ m + m + 1 → binary_digits n ≤ binary_digits m + 1
+unfolding binary_digits
+binary_digits-twice m zero h = omega arith
+binary_digits-twice m (suc n) h =
+    let same : halvings n (suc n / 2) ≡ halvings (suc n / 2) (suc n / 2) = halvings-enough (suc n / 2) n (suc n / 2) (omega arith) (omega arith) in
+    let rise : halvings m (suc n / 2) ≤ halvings m m = halvings-rise m (suc n / 2) m (omega arith) in
+    let enough : halvings m (suc n / 2) ≡ halvings (suc n / 2) (suc n / 2) = halvings-enough (suc n / 2) m (suc n / 2) (omega arith) (omega arith) in
+    omega arith
+
 halvings-zero : (most : ℕ) → halvings most 0 ≡ 0
 halvings-zero zero = refl
 halvings-zero (suc most) = refl
@@ -69,3 +79,16 @@ below-power-binary_digits n = below_power n n (omega arith)
 pub power-binary_digits-to_twice : (n : ℕ) → 0 < n → 2 ^ binary_digits n ≤ 2 * n
 unfolding binary_digits
 power-binary_digits-to_twice n p = power_to_twice n n (omega arith) p
+
+-- the digits of the half of n + 1 are those of n + 1 less one
+pub power-digits-of_half : (n : ℕ) → 2 ^ binary_digits ((n + 1) / 2) ≤ n + 1
+power-digits-of_half zero = rw binary_digits-zero (omega arith)
+power-digits-of_half (suc n) = omega (arith, power-binary_digits-to_twice ((suc n + 1) / 2) (omega arith))
+
+power-next : (d : ℕ) → 2 ^ (d + 1) ≡ 2 * 2 ^ d
+power-next d = rw (add-one, pow-succ') refl
+
+pub below-power-digits-of_half : (n : ℕ) → n + 1 < 2 ^ (binary_digits ((n + 1) / 2) + 1)
+below-power-digits-of_half n =
+    let half : (n + 1) / 2 < 2 ^ binary_digits ((n + 1) / 2) = below-power-binary_digits ((n + 1) / 2) in
+    omega (arith, power-next (binary_digits ((n + 1) / 2)))

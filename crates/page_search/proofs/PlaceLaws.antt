@@ -1,16 +1,17 @@
 -- Lemmas on the place of a key among rising keys, for the proofs of this crate and of those above it.
-use Rattle.std.specs.Prelude.{◌≡◌, ℕ, zero, suc, ◌+◌, ◌<◌, ◌≤◌, ◌⊎◌, ◌↔◌, Bool, true, false, cond, List, [], ◌∷◌, length, slice_get, slice_index_or, Some, None}
+use Rattle.std.specs.Prelude.{◌≡◌, ℕ, zero, suc, ◌+◌, ◌<◌, ◌≤◌, ◌⊎◌, ◌↔◌, Bool, true, false, cond, List, [], ◌∷◌, length, slice_get, slice_index_or, is_some, Some, None}
 use Rattle.std.proofs.Common.{refl, ap, ◌∙◌, arith, Ordering, Less, Equal, Greater, inl, inr}
-use Rattle.std.specs.Ordering.{is_lt}
+use Rattle.std.specs.Ordering.{is_lt, is_eq}
 use Rattle.std.specs.Map.{keys_of, values_of}
 use Rattle.std.proofs.lemmas.Bool.{cases_lt}
 use Rattle.std.proofs.lemmas.List.Sums.{sum_by-cons, count_by-le-length}
 use Rattle.std.proofs.lemmas.Option.{slice_get-map, slice_get-get_or, get_or_from_slice_get, slice_get_within}
-use Rattle.std.proofs.lemmas.Map.Keys.{IsDistinct-from_sorted, Less-from_sorted, sorted_head, sorted_tail}
+use Rattle.std.proofs.lemmas.Map.Keys.{any_passes_from_place, IsDistinct-from_sorted, Less-from_sorted, sorted_head, sorted_tail}
 use Rattle.std.proofs.lemmas.Map.Entries.{lookup_from_place, lookup_at_gap}
+use Rattle.std.proofs.lemmas.Map.Made.{is_some-lookup}
 use Rattle.keys.specs.Order.{order, AreRisingKeys, IsRising}
 use Rattle.keys.specs.OrderedMap.{value_at}
-use Rattle.keys.proofs.MapLaws.{total, alike, order_itself, flipped_less}
+use Rattle.keys.proofs.MapLaws.{total, alike, order_itself, is_itself, flipped_less}
 use Rattle.page_search.specs.Places.{count_below, AreBelowBefore, AreAboveFrom, GoesTo}
 
 -- of rising keys, each is below those behind it
@@ -145,6 +146,11 @@ module _ {V : Type 0} where
   pub value_at-there : (k : List ℕ) (v : V) (es : List (List ℕ × V)) (at : ℕ) → IsRising es → slice_get (keys_of es) at ≡ Some k → slice_get (values_of es) at ≡ Some v → value_at k es ≡ Some v
   value_at-there k v es at r p q =
       lookup_from_place alike es at k v (IsDistinct-from_sorted order (keys_of es) r) (pair_at es at k v p q)
+
+  -- so a search that meets a key has found that the entries have it
+  pub is_there-place : (k : List ℕ) (es : List (List ℕ × V)) (at : ℕ) → slice_get (keys_of es) at ≡ Some k → is_some (value_at k es) ≡ true
+  is_there-place k es at p =
+      is_some-lookup (λ j. is_eq (order k j)) es ∙ any_passes_from_place (λ j. is_eq (order k j)) (keys_of es) at k p (is_itself k)
 
   key_at : (es : List (List ℕ × V)) (at : ℕ) (e : List ℕ × V) → slice_get es at ≡ Some e → slice_get (keys_of es) at ≡ Some e.0
   key_at es at e p = rw (slice_get-map, p) refl

@@ -1,7 +1,8 @@
 //! What the definitions of `specs/` mean. Each law is the contract of a function with an empty body.
-ghost use Rattle.std.specs.Prelude.{◌≡◌, ◌*◌, ◌^◌, ◌<◌, ◌≤◌, ◌↔◌, ℕ, List, slice_get, Some};
+ghost use Rattle.std.specs.Prelude.{◌≡◌, ◌+◌, ◌*◌, ◌^◌, ◌<◌, ◌≤◌, ◌↔◌, ℕ, false, List, slice_get, Some};
 ghost use Rattle.std.specs.declared.cmp.Ordering.TheVariants.{Less};
 ghost use Rattle.keys.specs.Order.{order, AreRisingKeys};
+ghost use Rattle.page_search.specs.Costs.{most_among, fewest_among};
 ghost use Rattle.page_search.specs.Digits.{binary_digits};
 ghost use Rattle.page_search.specs.Places.{count_below};
 
@@ -10,6 +11,14 @@ pub fn binary_digits_are_enough_and_none_is_spare()
     ensures enough { (n : ℕ) → n < 2 ^ binary_digits n }
     ensures none_spare { (n : ℕ) → 0 < n → 2 ^ binary_digits n ≤ 2 * n }
     ensures none_for_zero { binary_digits 0 ≡ 0 }
+{}
+
+/// Where the key isn't there, a search takes at least the logarithm to base 2 of the number of places where the key
+/// would go, rounded down, and at most one comparison more.
+pub fn a_search_is_by_halves()
+    ensures no_less { (n : ℕ) → 2 ^ fewest_among false n ≤ n + 1 }
+    ensures no_more { (n : ℕ) → n + 1 < 2 ^ (fewest_among false n + 1) }
+    ensures close { (n : ℕ) → most_among false n ≤ fewest_among false n + 1 }
 {}
 
 /// Of rising keys, just those that stand before a key's count are below the key.

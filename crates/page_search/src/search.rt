@@ -1,10 +1,11 @@
-ghost use Rattle.std.specs.Prelude.{◌≡◌, ◌+◌, ◌≤◌, length, slice_get, Some, MatchResult};
+ghost use Rattle.std.specs.Prelude.{◌≡◌, ◌+◌, ◌≤◌, min, length, slice_get, is_some, Some, MatchResult};
 ghost use Rattle.std.specs.Map.{keys_of};
 ghost use Rattle.std.specs.Option.{option_copied};
+ghost use Rattle.std.specs.Result.{is_ok};
 ghost use Rattle.keys.specs.Order.{AreRisingKeys};
 ghost use Rattle.keys.specs.OrderedMap.{value_at};
 ghost use Rattle.delta_chain.specs.Layers.{holds};
-ghost use Rattle.page_search.specs.Costs.{find_cost};
+ghost use Rattle.page_search.specs.Costs.{fewest_among, find_cost, find_least};
 ghost use Rattle.page_search.specs.Digits.{binary_digits};
 ghost use Rattle.page_search.specs.Places.{count_below, GoesTo};
 
@@ -17,6 +18,7 @@ use std::cmp::Ordering;
 pub fn lower<V, A: Allocator + Copy>(base: &Base<V, A>, key: &[u8], probes: &mut Probes) -> usize
     ensures place { result ≡ count_below key.now (keys_of base.now) }
     ensures cost { probes.new ≤ probes.old + binary_digits (length base.now) }
+    ensures least { min (probes.old + fewest_among (is_some (value_at key.now base.now)) (length base.now)) u64.MAX ≤ probes.new }
     ensures kept { probes.old ≤ probes.new }
 {
     match place(base, key, probes) {
@@ -34,6 +36,7 @@ pub fn find<'a, V, A: Allocator + Copy>(
 ) -> Option<&'a V>
     ensures value { option_copied result ≡ holds chain.now key.now }
     ensures cost { probes.new ≤ probes.old + find_cost key.now chain.now }
+    ensures least { min (probes.old + find_least key.now chain.now) u64.MAX ≤ probes.new }
     ensures kept { probes.old ≤ probes.new }
 {
     let Some((run, below)) = chain.newest() else {
@@ -53,6 +56,7 @@ fn find_in_base<'a, V, A: Allocator + Copy>(
 ) -> Option<&'a V>
     ensures value { option_copied result ≡ value_at key.now base.now }
     ensures cost { probes.new ≤ probes.old + binary_digits (length base.now) }
+    ensures least { min (probes.old + fewest_among (is_some (value_at key.now base.now)) (length base.now)) u64.MAX ≤ probes.new }
     ensures kept { probes.old ≤ probes.new }
 {
     match place(base, key, probes) {
@@ -67,6 +71,7 @@ fn place<L: Keyed>(list: &L, key: &[u8], probes: &mut Probes) -> Result<usize, u
     ensures place { MatchResult result (λ at. slice_get (L.keys list.now) at ≡ Some key.now) (GoesTo key.now (L.keys list.now)) }
     ensures rising { AreRisingKeys (L.keys list.now) }
     ensures cost { probes.new ≤ probes.old + binary_digits (length (L.keys list.now)) }
+    ensures least { min (probes.old + fewest_among (is_ok result) (length (L.keys list.now))) u64.MAX ≤ probes.new }
     ensures kept { probes.old ≤ probes.new }
 {
     let mut low = 0;

@@ -1,5 +1,6 @@
-use Rattle.std.proofs.Common.{sym}
-use Rattle.page_search.proofs.PlaceLaws.{count_below-there, count_below-goes_to}
+use Rattle.std.proofs.Common.{true, false, refl, sym}
+use Rattle.page_search.proofs.CostLemmas.{least_by}
+use Rattle.page_search.proofs.PlaceLaws.{count_below-there, count_below-goes_to, is_there-place, value_at-goes_to}
 use Rattle.page_search.proofs.search.lower.Goals as goal
 
 pub returns-in-Ok-clause-place : goal.returns-in-Ok-clause-place
@@ -7,3 +8,12 @@ returns-in-Ok-clause-place g c = sym (count_below-there _ _ _ c.place.ensures.ri
 
 pub returns-in-Err-clause-place : goal.returns-in-Err-clause-place
 returns-in-Err-clause-place g c = sym (count_below-goes_to _ _ _ c.place.ensures.rising c.in-Err.ensures.place)
+
+pub returns-in-Ok-clause-least : goal.returns-in-Ok-clause-least
+returns-in-Ok-clause-least g c =
+    least_by true c.args.key.now c.args.base.now _ _ _ (is_there-place _ c.args.base.now _ c.in-Ok.ensures.place) c.in-Ok.ensures.least
+
+pub returns-in-Err-clause-least : goal.returns-in-Err-clause-least
+returns-in-Err-clause-least g c =
+    let missing = value_at-goes_to _ c.args.base.now _ c.place.ensures.rising c.in-Err.ensures.place in
+    least_by false c.args.key.now c.args.base.now _ _ _ (rw missing refl) c.in-Err.ensures.least

@@ -1,7 +1,7 @@
-use Rattle.std.proofs.Common.{ℕ, ◌+◌, ◌-◌, ◌/◌, ◌<◌, ◌≤◌, Some, sym, ap, ◌∙◌, arith}
+use Rattle.std.proofs.Common.{◌≡◌, ℕ, ◌+◌, ◌-◌, ◌/◌, ◌<◌, ◌≤◌, Some, sym, ap, ◌∙◌, arith}
 use Rattle.keys.proofs.MapLaws.{same_key, flipped_greater}
 use Rattle.page_search.specs.Digits.{binary_digits}
-use Rattle.page_search.proofs.DigitLaws.{binary_digits-half}
+use Rattle.page_search.proofs.DigitLaws.{binary_digits-zero, binary_digits-half, binary_digits-twice}
 use Rattle.page_search.proofs.PlaceLaws.{below-through, above-onward}
 use Rattle.page_search.proofs.search.place.Goals as goal
 
@@ -12,6 +12,13 @@ digits_behind low high l = binary_digits-half (high - (low + (high - low) / 2 + 
 digits_before : (low high : ℕ) → low < high → binary_digits (low + (high - low) / 2 - low) + 1 ≤ binary_digits (high - low)
 digits_before low high l = binary_digits-half (low + (high - low) / 2 - low) (high - low) (omega arith) (omega arith)
 
+-- the places where the key would go, behind the middle and before it, have a digit less and no fewer
+gaps_behind : (low high : ℕ) → low < high → binary_digits ((high - low + 1) / 2) ≤ binary_digits ((high - (low + (high - low) / 2 + 1) + 1) / 2) + 1
+gaps_behind low high l = binary_digits-twice ((high - (low + (high - low) / 2 + 1) + 1) / 2) ((high - low + 1) / 2) (omega arith)
+
+gaps_before : (low high : ℕ) → low < high → binary_digits ((high - low + 1) / 2) ≤ binary_digits ((low + (high - low) / 2 - low + 1) / 2) + 1
+gaps_before low high l = binary_digits-twice ((low + (high - low) / 2 - low + 1) / 2) ((high - low + 1) / 2) (omega arith)
+
 pub loop-low-preserved-in-Less : goal.loop-low-preserved-in-Less
 loop-low-preserved-in-Less g c = record {
   ordered = omega arith;
@@ -19,6 +26,7 @@ loop-low-preserved-in-Less g c = record {
   below = below-through _ _ _ _ c.len-high.ensures.rising c.key.ensures (sym c.in-Less.ensures.order);
   above = c.loop-low.invariant.above;
   cost = omega (arith, c.compare.ensures.counted, digits_behind c.loop-low.low c.loop-low.high c.loop-low-test.true);
+  least = omega (arith, c.compare.ensures.counted, gaps_behind c.loop-low.low c.loop-low.high c.loop-low-test.true);
   kept = omega (arith, c.compare.ensures.kept);
 }
 
@@ -36,5 +44,12 @@ loop-low-preserved g c = record {
   below = c.loop-low.invariant.below;
   above = above-onward _ _ _ _ c.len-high.ensures.rising c.key.ensures (flipped_greater c.key.result.now c.args.key.now (sym c.in-Greater.ensures.order));
   cost = omega (arith, c.compare.ensures.counted, digits_before c.loop-low.low c.loop-low.high c.loop-low-test.true);
+  least = omega (arith, c.compare.ensures.counted, gaps_before c.loop-low.low c.loop-low.high c.loop-low-test.true);
   kept = omega (arith, c.compare.ensures.kept);
 }
+
+pub returns-clause-least : goal.returns-clause-least
+returns-clause-least g c =
+    let settled : c.loop-low.high - c.loop-low.low ≡ 0 = omega arith in
+    let least = rw settled at c.loop-low.invariant.least in
+    omega (arith, binary_digits-zero)

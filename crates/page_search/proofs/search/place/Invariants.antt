@@ -1,4 +1,4 @@
-use Rattle.std.proofs.Common.{◌-◌, ◌+◌, ◌≤◌, length, ℕ, List}
+use Rattle.std.proofs.Common.{◌-◌, ◌+◌, ◌/◌, min, ◌≤◌, length, ℕ, List}
 use Rattle.page_search.specs.Digits.{binary_digits}
 use Rattle.page_search.specs.Places.{AreBelowBefore, AreAboveFrom}
 use Rattle.page_search.proofs.search.place.Given as goal
@@ -13,6 +13,7 @@ invariant-loop-low g l =
       below : AreBelowBefore l.key keys l.low;
       above : AreAboveFrom l.key keys l.high;
       cost : l.probes + binary_digits (l.high - l.low) ≤ l.fn.probes + binary_digits (length keys);
+      least : min (l.fn.probes + binary_digits ((length keys + 1) / 2)) 18446744073709551615 ≤ l.probes + binary_digits ((l.high - l.low + 1) / 2);
       kept : l.fn.probes ≤ l.probes;
     }
 
