@@ -24,9 +24,13 @@ pub record Store : Type 0 where
   pub tail : ℕ
   pub sequence : ℕ
 
+-- what is listed under the pid
+abbrev pub listed_at : {V : Type 0} → List (ℕ × V) → ℕ → Option V
+listed_at es pid = lookup (λ n. is_eq (nat_cmp pid n)) es
+
 -- the page under the pid
 abbrev pub page_at : List (ℕ × PageOfKind) → ℕ → Option PageOfKind
-page_at ps pid = lookup (λ n. is_eq (nat_cmp pid n)) ps
+page_at ps pid = listed_at ps pid
 
 -- what is listed of a pid, else `No`
 abbrev pub or_no : Option Logged → Logged
@@ -35,4 +39,4 @@ or_no (Some l) = l
 
 -- what the log has of the pid
 abbrev pub logged_of : Tree → ℕ → Logged
-logged_of t pid = or_no (lookup (λ n. is_eq (nat_cmp pid n)) t.logged)
+logged_of t pid = or_no (listed_at t.logged pid)
