@@ -1,3 +1,4 @@
+pub mod ChildLaws
 pub mod ListLaws
 pub mod PageLaws
 pub mod RangeLaws

@@ -1,13 +1,14 @@
 -- Lemmas on ranges of keys and on lists of pairs in key order, for the proofs of this crate and of those above it.
 use Rattle.std.specs.Prelude.{◌≡◌, ℕ, ◌<◌, Bool, true, false, cond, List, [], ◌∷◌, ◌++◌, length, Option, Some, None}
-use Rattle.std.proofs.Common.{refl, arith, Ordering, Less, Equal, Greater}
-use Rattle.std.specs.Ordering.{is_lt}
+use Rattle.std.proofs.Common.{refl, ap, arith, Ordering, Less, Equal, Greater}
+use Rattle.std.specs.Ordering.{is_lt, is_eq}
 use Rattle.std.specs.List.{filter}
 use Rattle.std.specs.List.Sorted.{IsStrictlySortedBy}
 use Rattle.std.specs.Map.{keys_of}
 use Rattle.std.proofs.lemmas.Map.Keys.{sorted_tail}
 use Rattle.keys.specs.Order.{order, IsRising}
-use Rattle.keys.proofs.MapLaws.{total, order_itself, IsBelowAll}
+use Rattle.keys.specs.OrderedMap.{value_at}
+use Rattle.keys.proofs.MapLaws.{total, order_itself, flipped_less, IsBelowAll}
 use Rattle.index_page.specs.Page.{first_key}
 use Rattle.index_page.specs.Range.{is_below, AreBelow, AreFrom, AreBefore, IsBefore}
 use Rattle.index_page.proofs.ListLaws.{all_keys-append, all_keys_apart, all_keys-filter}
@@ -152,3 +153,20 @@ module _ {X : Type 0} where
   pub first_key-append : (xs ys : List (List ℕ × X)) → 0 < length xs → (0 < length (xs ++ ys)) × (first_key (xs ++ ys) ≡ first_key xs)
   first_key-append [] ys h = absurd (omega arith)
   first_key-append (x ∷ xs) ys h = (omega arith, refl)
+
+  -- ---- what joined lists have at a key
+
+  pub value_at-below : (k : List ℕ) (es : List (List ℕ × X)) → IsBelowAll k (keys_of es) → value_at k es ≡ None
+  value_at-below k [] a = refl
+  value_at-below k (e ∷ es) a = rw a.0 (value_at-below k es a.1)
+
+  -- at a key below all of the second list: what the first has
+  pub value_at-in_front : (k : List ℕ) (xs ys : List (List ℕ × X)) → IsBelowAll k (keys_of ys) → value_at k (xs ++ ys) ≡ value_at k xs
+  value_at-in_front k [] ys a = value_at-below k ys a
+  value_at-in_front k (x ∷ xs) ys a = ap (λ (t : Option X). cond (is_eq (order k x.0)) (Some x.1) t) (value_at-in_front k xs ys a)
+
+  -- at a key from low on, where the first list lies below low: what the second has
+  pub value_at-behind : (low k : List ℕ) (xs ys : List (List ℕ × X)) → is_below k low ≡ false → AreBelow low (keys_of xs) → value_at k (xs ++ ys) ≡ value_at k ys
+  value_at-behind low k [] ys h a = refl
+  value_at-behind low k (x ∷ xs) ys h a =
+      rw (flipped_less x.0 k (less_through x.0 k low a.0 h)) (value_at-behind low k xs ys h a.1)

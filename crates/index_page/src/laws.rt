@@ -1,7 +1,11 @@
 //! What the definitions of `specs/` mean. Each law is the contract of a function with an empty body.
-ghost use Rattle.std.specs.Prelude.{◌≡◌, ℕ, true, ◌↔◌, List, Option};
+ghost use Rattle.std.specs.Prelude.{◌≡◌, ℕ, ◌<◌, true, false, ◌↔◌, List, Option, map, length, count_by};
+ghost use Rattle.std.specs.Map.{keys_of, values_of};
+ghost use Rattle.keys.specs.Order.{IsRising};
 ghost use Rattle.keys.specs.declared.settings.Settings.{Settings};
-ghost use Rattle.index_page.specs.Page.{Page};
+ghost use Rattle.index_page.specs.Page.{Page, first_key};
+ghost use Rattle.index_page.specs.Range.{is_within, AreBefore};
+ghost use Rattle.index_page.specs.Children.{children, is_place_for};
 ghost use Rattle.index_page.specs.Rules.{KeepsRange, keeps_range, IsShortValue, IsAnyPid, is_short_value, is_any_pid, Fits, fits_sizes, fits_depth, IsHeaded, is_headed};
 
 /// A page passes each test of its keys, its sizes and its children exactly where the fact that the test stands for holds.
@@ -12,4 +16,15 @@ pub fn a_page_passes_a_test_where_the_fact_holds<V>()
     ensures sizes_of_an_index_page { (s : Settings) (p : Page ℕ) →
         ((fits_sizes s is_any_pid p ≡ true) × (fits_depth s p ≡ true)) ↔ Fits s IsAnyPid p }
     ensures children { (least : ℕ) (p : Page ℕ) → (is_headed least p ≡ true) ↔ IsHeaded least p }
+{}
+
+/// The places of the children that entries name have the entries' pids and low keys, and tile the range from the first
+/// key up to the end: each key of that range lies in the range of just one of them, and any other key in that of none.
+pub fn children_tile_the_range_of_their_page()
+    ensures pids { (es : List (List ℕ × ℕ)) (end : Option (List ℕ)) → map (λ at. at.pid) (children es end) ≡ values_of es }
+    ensures lows { (es : List (List ℕ × ℕ)) (end : Option (List ℕ)) → map (λ at. at.low) (children es end) ≡ keys_of es }
+    ensures one { (es : List (List ℕ × ℕ)) (end : Option (List ℕ)) (k : List ℕ) → IsRising es → 0 < length es → is_within (first_key es) end k ≡ true →
+        count_by (is_place_for k) (children es end) ≡ 1 }
+    ensures none { (es : List (List ℕ × ℕ)) (end : Option (List ℕ)) (k : List ℕ) → IsRising es → AreBefore end (keys_of es) → is_within (first_key es) end k ≡ false →
+        count_by (is_place_for k) (children es end) ≡ 0 }
 {}

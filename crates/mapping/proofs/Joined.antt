@@ -1,9 +1,9 @@
 -- The entries of pages that tile keys, joined, and the places of the children that they name.
-use Rattle.std.specs.Prelude.{◌≡◌, ℕ, ◌≤◌, true, ⊤, List, [], ◌∷◌, ◌++◌, map, flat_map, length, Option, Some, None}
+use Rattle.std.specs.Prelude.{◌≡◌, ℕ, ◌≤◌, true, ⊤, List, [], ◌∷◌, ◌++◌, flat_map, length, Option, Some, None}
 use Rattle.std.proofs.Common.{refl, sym, ap, ◌∙◌, arith, subst}
 use Rattle.std.specs.List.{AllByRecursion}
 use Rattle.std.specs.List.Sorted.{IsStrictlySortedBy}
-use Rattle.std.specs.Map.{keys_of, values_of}
+use Rattle.std.specs.Map.{keys_of}
 use Rattle.keys.specs.Order.{IsRising}
 use Rattle.delta_chain.proofs.LayerLaws.{rising-entries_of}
 use Rattle.index_page.specs.Page as page
@@ -15,9 +15,10 @@ use Rattle.index_page.proofs.RangeLaws.{below_is_less}
 use Rattle.index_page.proofs.PageLaws.{all_keys_entries}
 use Rattle.mapping.specs.Levels.{Placed, entries, joined, name, names}
 use Rattle.index_page.specs.Children.{Place, children}
+use Rattle.index_page.proofs.ChildLaws.{next_key, children-cons, children-append}
 use Rattle.mapping.specs.Finding.{children_at, children_of_page}
 use Rattle.mapping.specs.Proper.{next_low, Tiled, HasIndexPages}
-use Rattle.mapping.proofs.TileLaws.{Names}
+use Rattle.mapping.proofs.TileLaws.{next_names}
 
 -- if the keys that a page names are below an end, so are its entries' keys
 entries_before : {X : Type 0} → (end : Option (List ℕ)) (p : Page X) → AreBefore end (named p) → AreBefore end (keys_of (page.entries p))
@@ -25,11 +26,6 @@ entries_before None p a = tt
 entries_before (Some end) p a = all_keys_entries (λ k. is_below k end ≡ true) p a
 
 -- ---- pairs whose keys rise up to an end
-
--- the first pair's key, else the end
-abbrev pub next_key : {X : Type 0} → List (List ℕ × X) → Option (List ℕ) → Option (List ℕ)
-next_key [] end = end
-next_key (e ∷ es) end = Some e.0
 
 -- each pair's key is below the next one's, and the last one's is below the end
 abbrev pub AreSpaced : {X : Type 0} → List (List ℕ × X) → Option (List ℕ) → Type 0
@@ -74,10 +70,6 @@ pub next_joined : (ps : List (Placed ℕ)) (end : Option (List ℕ)) → AreHead
 next_joined [] end h = refl
 next_joined (p ∷ ps) end h = first_next (entries p) (joined ps) p.page.low end (h.0).some (h.0).first
 
-pub next_names : {V : Type 0} → (ps : List (Placed V)) (end : Option (List ℕ)) → next_key (names ps) end ≡ next_low ps end
-next_names [] end = refl
-next_names (p ∷ ps) end = refl
-
 -- the entries of pages that tile keys, joined, rise
 pub spaced_joined : (ps : List (Placed ℕ)) (end : Option (List ℕ)) → AreHeaded 1 ps → Tiled ps end → AreSpaced (joined ps) end
 spaced_joined [] end h t = tt
@@ -87,25 +79,6 @@ spaced_joined (p ∷ ps) end h t =
     spaced_append (entries p) (joined ps) end (subst (λ (x : Option (List ℕ)). AreSpaced (entries p) x) (sym (next_joined ps end h.1)) own) (spaced_joined ps end h.1 t.1)
 
 -- ---- places
-
--- the place that an entry names, where its range has this end
-abbrev pub place_of : List ℕ × ℕ → Option (List ℕ) → Place
-place_of e end = record { pid = e.1; low = e.0; end = end }
-
-pub children-cons : (e : List ℕ × ℕ) (es : Names) (end : Option (List ℕ)) → children (e ∷ es) end ≡ place_of e (next_key es end) ∷ children es end
-children-cons e [] end = refl
-children-cons e (f ∷ es) end = refl
-
-children-append : (es fs : Names) (end : Option (List ℕ)) → children (es ++ fs) end ≡ children es (next_key fs end) ++ children fs end
-children-append [] fs end = refl
-children-append (e ∷ []) [] end = refl
-children-append (e ∷ []) (f ∷ fs) end = refl
-children-append (e ∷ d ∷ es) fs end = ap (λ (x : List Place). place_of e (Some d.0) ∷ x) (children-append (d ∷ es) fs end)
-
-pub pids-children : (es : Names) (end : Option (List ℕ)) → map (λ (at : Place). at.pid) (children es end) ≡ values_of es
-pids-children [] end = refl
-pids-children (e ∷ []) end = refl
-pids-children (e ∷ d ∷ es) end = ap (λ (x : List ℕ). e.1 ∷ x) (pids-children (d ∷ es) end)
 
 -- below the places of some pages lie the places that their entries, joined, name
 pub places_below : (ps : List (ℕ × PageOfKind)) (here : List (Placed ℕ)) (end : Option (List ℕ)) → HasIndexPages ps here → AreHeaded 1 here

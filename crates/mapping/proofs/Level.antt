@@ -16,8 +16,9 @@ use Rattle.mapping.specs.Finding.{Finding, common_rules, child_rule, pid_rule, f
 use Rattle.mapping.specs.Proper.{next_low, Tiled, Distinct}
 use Rattle.mapping.proofs.MetPids.{not_among, distinct_ahead}
 use Rattle.index_page.proofs.ListLaws.{all_apart}
-use Rattle.mapping.proofs.TileLaws.{Names}
-use Rattle.mapping.proofs.Joined.{next_key, AreSpaced, next_names, place_of, children-cons}
+use Rattle.mapping.proofs.TileLaws.{Names, next_names}
+use Rattle.index_page.proofs.ChildLaws.{next_key, place_of, children-cons}
+use Rattle.mapping.proofs.Joined.{AreSpaced}
 
 -- ---- one page
 

@@ -7,6 +7,7 @@ mod Literals
 mod MetPids
 mod Parts
 pub mod PidLaws
+pub mod SameTable
 pub mod TableLaws
 pub mod TableOfLevels
 pub mod TileLaws

@@ -14,8 +14,9 @@ use Rattle.mapping.specs.Levels.{Placed, Levels, joined, name, names, pids, all_
 use Rattle.mapping.specs.FreshPids.{is_among}
 use Rattle.mapping.specs.Proper.{next_low, IsParentOf, Stacked, IsBranchedTop, Distinct, HasIndexPages, IsTree, IsProper}
 use Rattle.mapping.proofs.MetPids.{distinct_last}
-use Rattle.mapping.proofs.TileLaws.{Names}
-use Rattle.mapping.proofs.Joined.{next_key, AreHeaded, next_joined, next_names}
+use Rattle.mapping.proofs.TileLaws.{Names, next_names}
+use Rattle.index_page.proofs.ChildLaws.{next_key}
+use Rattle.mapping.proofs.Joined.{AreHeaded, next_joined}
 use Rattle.mapping.proofs.Level.{IsLevel, IsGoodLeaf, IsGoodIndex}
 
 -- the entries are those of the level above, and one where there is no level above

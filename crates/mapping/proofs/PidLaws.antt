@@ -222,3 +222,40 @@ drawn_by false u us n m e r l ih =
 pub unused-drawn : (used : List ℕ) (n m : ℕ) → AreRisingPids used → n ≤ m → unused (with_number (unused used n) used) m ≡ unused used (suc m)
 unused-drawn [] n m r l = unused-counted [] n m l
 unused-drawn (u ∷ us) n m r l = drawn_by (nat_le u n) u us n m refl r l (λ k h. unused-drawn us k (suc m) r.1 h)
+
+above_by : (P : ℕ → Type 0) (b : Bool) (n u : ℕ) (us rest : List ℕ) → P n → P u → AllByRecursion P us → AllByRecursion P rest → AllByRecursion P (cond b (n ∷ u ∷ us) (u ∷ rest))
+above_by P true n u us rest p q a r = (p, (q, a))
+above_by P false n u us rest p q a r = (q, r)
+
+-- what holds of each number, and of the one more, holds of each afterwards
+pub all-with_number : (P : ℕ → Type 0) (n : ℕ) (us : List ℕ) → P n → AllByRecursion P us → AllByRecursion P (with_number n us)
+all-with_number P n [] p a = (p, tt)
+all-with_number P n (u ∷ us) p a = above_by P (nat_lt n u) n u us (with_number n us) p a.0 a.1 (all-with_number P n us p a.1)
+
+rising_by : (b : Bool) (n u : ℕ) (us : List ℕ) → nat_lt n u ≡ b → nat_eq n u ≡ false → AreRisingPids (u ∷ us) → AreRisingPids (with_number n us) → AreRisingPids (cond b (n ∷ u ∷ us) (u ∷ with_number n us))
+rising_by true n u us e d r ih = let l : n < u = ltb-true n u e in ((l, below_later n u us l r.0), r)
+rising_by false n u us e d r ih =
+    let no_less : u ≤ n = ltb-false n u e in
+    let apart : n ≢ u = eqb-false n u d in
+    (all-with_number (λ m. u < m) n us (omega arith) r.0, ih)
+
+-- with one more that isn't among them, rising numbers rise
+pub rising-with_number : (n : ℕ) (used : List ℕ) → AreRisingPids used → is_among n used ≡ false → AreRisingPids (with_number n used)
+rising-with_number n [] r f = (tt, tt)
+rising-with_number n (u ∷ us) r f =
+    let p = or_parts (nat_eq n u) (is_among n us) f in
+    rising_by (nat_lt n u) n u us refl p.0 r (rising-with_number n us r.1 p.1)
+
+or_swapped : (a b c : Bool) → (a || (b || c)) ≡ (b || (a || c))
+or_swapped true true c = refl
+or_swapped true false c = refl
+or_swapped false b c = refl
+
+among_by : (b : Bool) (m n u : ℕ) (us rest : List ℕ) → is_among m rest ≡ (nat_eq m n || is_among m us) → is_among m (cond b (n ∷ u ∷ us) (u ∷ rest)) ≡ (nat_eq m n || is_among m (u ∷ us))
+among_by true m n u us rest h = refl
+among_by false m n u us rest h = ap (λ (x : Bool). nat_eq m u || x) h ∙ or_swapped (nat_eq m u) (nat_eq m n) (is_among m us)
+
+-- and among them are those that were, and that one
+pub among-with_number : (m n : ℕ) (used : List ℕ) → is_among m (with_number n used) ≡ (nat_eq m n || is_among m used)
+among-with_number m n [] = refl
+among-with_number m n (u ∷ us) = among_by (nat_lt n u) m n u us (with_number n us) (among-with_number m n us)

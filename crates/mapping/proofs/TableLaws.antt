@@ -62,11 +62,11 @@ insert_by Greater e es rest k v q h ih =
     ap (λ (x : Option PageOfKind). cond (is_eq (nat_cmp q e.0)) (Some e.1) x) ih
     ∙ apart_by (is_eq (nat_cmp q k)) (is_eq (nat_cmp q e.0)) v e.1 (page_at es q) (λ a b. not_both q k e.0 h a b)
 
-page_at-insert_entry : (es : List (ℕ × PageOfKind)) (k : ℕ) (v : PageOfKind) (q : ℕ) → page_at (insert_entry nat_cmp es k v) q ≡ cond (is_eq (nat_cmp q k)) (Some v) (page_at es q)
+pub page_at-insert_entry : (es : List (ℕ × PageOfKind)) (k : ℕ) (v : PageOfKind) (q : ℕ) → page_at (insert_entry nat_cmp es k v) q ≡ cond (is_eq (nat_cmp q k)) (Some v) (page_at es q)
 page_at-insert_entry [] k v q = refl
 page_at-insert_entry (e ∷ es) k v q = insert_by (nat_cmp k e.0) e es (insert_entry nat_cmp es k v) k v q refl (page_at-insert_entry es k v q)
 
-page_at-by_pid : (ps : List (ℕ × PageOfKind)) (q : ℕ) → page_at (by_pid ps) q ≡ page_at ps q
+pub page_at-by_pid : (ps : List (ℕ × PageOfKind)) (q : ℕ) → page_at (by_pid ps) q ≡ page_at ps q
 page_at-by_pid [] q = refl
 page_at-by_pid (p ∷ ps) q = page_at-insert_entry (by_pid ps) p.0 p.1 q ∙ ap (λ (r : Option PageOfKind). cond (is_eq (nat_cmp q p.0)) (Some p.1) r) (page_at-by_pid ps q)
 
@@ -116,7 +116,7 @@ rising_insert_by Less e es k v h r ih = let l : k < e.0 = ranked k e.0 Less (sym
 rising_insert_by Equal e es k v h r ih = r
 rising_insert_by Greater e es k v h r ih = let l : e.0 < k = ranked k e.0 Greater (sym h) in (all_keys-insert_entry (λ n. e.0 < n) es k v l r.0, ih)
 
-rising-insert_entry : (es : List (ℕ × PageOfKind)) (k : ℕ) (v : PageOfKind) → AreRisingPids (keys_of es) → AreRisingPids (keys_of (insert_entry nat_cmp es k v))
+pub rising-insert_entry : (es : List (ℕ × PageOfKind)) (k : ℕ) (v : PageOfKind) → AreRisingPids (keys_of es) → AreRisingPids (keys_of (insert_entry nat_cmp es k v))
 rising-insert_entry [] k v r = (tt, tt)
 rising-insert_entry (e ∷ es) k v r = rising_insert_by (nat_cmp k e.0) e es k v refl r (rising-insert_entry es k v r.1)
 

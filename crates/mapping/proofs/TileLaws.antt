@@ -1,18 +1,22 @@
 -- Lemmas on pages whose ranges follow one another, for the proofs of this crate and of those above it.
-use Rattle.std.specs.Prelude.{◌≡◌, ℕ, ◌<◌, true, false, List, [], ◌∷◌, ◌++◌, length, Option, Some, None}
+use Rattle.std.specs.Prelude.{◌≡◌, ℕ, ◌<◌, Bool, true, false, not, ◌&&◌, List, [], ◌∷◌, ◌++◌, length, count_by, Option, Some, None}
 use Rattle.std.proofs.Common.{refl, sym, ap, ◌∙◌, subst, arith, append-nil}
 use Rattle.std.specs.List.{AllByRecursion}
 use Rattle.std.specs.List.Sorted.{IsStrictlySortedBy}
 use Rattle.std.specs.Map.{keys_of}
+use Rattle.std.proofs.lemmas.Grind.{flat_map-append}
 use Rattle.std.proofs.lemmas.List.{map-append}
 use Rattle.keys.specs.Order.{IsRising}
+use Rattle.keys.specs.OrderedMap.{value_at}
 use Rattle.keys.proofs.MapLaws.{total, IsBelowAll, below_all}
 use Rattle.delta_chain.proofs.LayerLaws.{rising-entries_of}
 use Rattle.index_page.specs.Page.{first_key}
-use Rattle.index_page.specs.Range.{is_below, AreBelow, AreFrom, AreBefore, IsBefore}
+use Rattle.index_page.specs.Children.{Place, children, is_place_for}
+use Rattle.index_page.specs.Range.{is_below, is_before, is_within, AreBelow, AreFrom, AreBefore, IsBefore}
 use Rattle.index_page.specs.Rules.{IsHeaded}
 use Rattle.index_page.proofs.ListLaws.{all_keys-append}
-use Rattle.index_page.proofs.RangeLaws.{less_is_below, from_lower, below_higher, not_below_itself, from_below_all, rising-append, first_key-append}
+use Rattle.index_page.proofs.RangeLaws.{less_is_below, from_lower, below_higher, not_below_itself, from_below_all, below_all_from, rising-append, first_key-append, value_at-behind, value_at-in_front}
+use Rattle.index_page.proofs.ChildLaws.{next_key, place_of, children-cons, children-append, within, within_parts, one_child, no_child}
 use Rattle.index_page.proofs.PageLaws.{all_keys_entries}
 use Rattle.mapping.specs.Levels.{Placed, entries, joined, name, names}
 use Rattle.mapping.specs.Proper.{next_low, IsTile, Tiled}
@@ -134,3 +138,75 @@ module _ {V : Type 0} where
   next_low-parents (u ∷ us) ps e h =
       let f = first_key-append (entries u) (joined us) h.0.some in
       next_low-entries ps (entries u ++ joined us) u.page.low None e f.0 (f.1 ∙ h.0.first)
+
+-- ---- the page whose range has a key
+
+not_both : (b : Bool) → (not b && b) ≡ true → ⊥
+not_both true h = absurd (cc)
+not_both false h = absurd (cc)
+
+module _ {V : Type 0} where
+  pub joined-append : (xs ys : List (Placed V)) → joined (xs ++ ys) ≡ joined xs ++ joined ys
+  joined-append xs ys = flat_map-append entries xs ys
+
+  -- a key before the next page is below all entries of the pages that follow
+  below_later_pages : (k : List ℕ) (ys : List (Placed V)) (end : Option (List ℕ)) → Tiled ys end → is_before (next_low ys end) k ≡ true → IsBelowAll k (keys_of (joined ys))
+  below_later_pages k [] end t h = tt
+  below_later_pages k (q ∷ qs) end t h = below_all_from k q.page.low (keys_of (joined (q ∷ qs))) h (from-joined q qs end t)
+
+  -- what a page has at a key within its range is what all pages of its level, joined, have there
+  pub value_at-joined : (xs ys : List (Placed V)) (p : Placed V) (end : Option (List ℕ)) (k : List ℕ) → Tiled (xs ++ p ∷ ys) end → is_within p.page.low (next_low ys end) k ≡ true
+      → value_at k (entries p) ≡ value_at k (joined (xs ++ p ∷ ys))
+  value_at-joined xs ys p end k t h =
+      let w = within_parts p.page.low (next_low ys end) k h in
+      let apart = tiled_apart xs (p ∷ ys) end t in
+      sym (
+      ap (λ (es : List (List ℕ × V)). value_at k es) (joined-append xs (p ∷ ys))
+      ∙ value_at-behind p.page.low k (joined xs) (joined (p ∷ ys)) w.0 (before-joined xs (Some p.page.low) apart.0)
+      ∙ value_at-in_front k (entries p) (joined ys) (below_later_pages k ys end apart.1.1 w.1)
+      )
+
+  pub next_names : (ps : List (Placed V)) (end : Option (List ℕ)) → next_key (names ps) end ≡ next_low ps end
+  next_names [] end = refl
+  next_names (p ∷ ps) end = refl
+
+  -- the ranges of a level's pages are those of the places that its names name
+  pub range-names : (xs ys : List (Placed V)) (p : Placed V) (end : Option (List ℕ))
+      → children (names (xs ++ p ∷ ys)) end ≡ children (names xs) (Some p.page.low) ++ place_of (name p) (next_low ys end) ∷ children (names ys) end
+  range-names xs ys p end =
+      ap (λ (ns : Names). children ns end) (names-append xs (p ∷ ys))
+      ∙ children-append (names xs) (names (p ∷ ys)) end
+      ∙ ap (λ (x : List Place). children (names xs) (Some p.page.low) ++ x) (children-cons (name p) (names ys) end ∙ ap (λ (x : Option (List ℕ)). place_of (name p) x ∷ children (names ys) end) (next_names ys end))
+
+  -- a key from the first low key on, and before the end, is within the range of just one page
+  pub one_page : (ps : List (Placed V)) (end : Option (List ℕ)) (low k : List ℕ) → Tiled ps end → next_low ps end ≡ Some low → is_within low end k ≡ true → count_by (is_place_for k) (children (names ps) end) ≡ 1
+  one_page [] end low k t e h = absurd (not_both (is_below k low) (rw e at h))
+  one_page (p ∷ ps) end low k t e h =
+      let same : low ≡ p.page.low = cc in
+      one_child (names (p ∷ ps)) end k (rising-names (p ∷ ps) end t) (omega arith) (subst (λ (l : List ℕ). is_within l end k ≡ true) same h)
+
+  -- and any other key within that of none
+  pub no_page : (ps : List (Placed V)) (end : Option (List ℕ)) (low k : List ℕ) → Tiled ps end → next_low ps end ≡ Some low → is_within low end k ≡ false → count_by (is_place_for k) (children (names ps) end) ≡ 0
+  no_page [] end low k t e h = refl
+  no_page (p ∷ ps) end low k t e h =
+      let same : low ≡ p.page.low = cc in
+      no_child (names (p ∷ ps)) end k (rising-names (p ∷ ps) end t) (before-names (p ∷ ps) end t) (subst (λ (l : List ℕ). is_within l end k ≡ false) same h)
+
+  -- so there is such a page, and it stands between two parts of the level
+  abbrev pub HasPageFor : List (Placed V) → Option (List ℕ) → List ℕ → Type 0
+  HasPageFor ps end k = (xs : List (Placed V)) × (p : Placed V) × (ys : List (Placed V)) × (ps ≡ xs ++ p ∷ ys) × (is_within p.page.low (next_low ys end) k ≡ true)
+
+  page_by : (b : Bool) (p q : Placed V) (qs : List (Placed V)) (end : Option (List ℕ)) (k : List ℕ) → is_below k q.page.low ≡ b → is_below k p.page.low ≡ false → (is_below k q.page.low ≡ false → HasPageFor (q ∷ qs) end k) → HasPageFor (p ∷ q ∷ qs) end k
+  page_by true p q qs end k b h ih = ([], p, q ∷ qs, refl, within p.page.low (Some q.page.low) k h b)
+  page_by false p q qs end k b h ih = let r = ih b in (p ∷ r.0, r.1, r.2, ap (λ (ps : List (Placed V)). p ∷ ps) r.3, r.4)
+
+  page_from : (p : Placed V) (ps : List (Placed V)) (end : Option (List ℕ)) (k : List ℕ) → is_below k p.page.low ≡ false → is_before end k ≡ true → HasPageFor (p ∷ ps) end k
+  page_from p [] end k h b = ([], p, [], refl, within p.page.low end k h b)
+  page_from p (q ∷ qs) end k h b = page_by (is_below k q.page.low) p q qs end k refl h (λ c. page_from q qs end k c b)
+
+  pub page_for : (ps : List (Placed V)) (end : Option (List ℕ)) (low k : List ℕ) → next_low ps end ≡ Some low → is_within low end k ≡ true → HasPageFor ps end k
+  page_for [] end low k e h = absurd (not_both (is_below k low) (rw e at h))
+  page_for (p ∷ ps) end low k e h =
+      let same : p.page.low ≡ low = cc in
+      let w = within_parts low end k h in
+      page_from p ps end k (rw same w.0) w.1

@@ -58,7 +58,7 @@ abbrev pub on_level : (List ℕ → Place → Option ℕ) → List ℕ → List 
 on_level broken met [] = None
 on_level broken met (at ∷ ats) = or_else (found_at at (broken met at)) (on_level broken (at.pid ∷ met) ats)
 
--- rule 10: the first page that the walk hasn't met
+-- rule 10: the first listed page that the walk hasn't met; it has the least such pid, since the pids of a table rise
 abbrev pub unmet : List ℕ → List (ℕ × PageOfKind) → Option Finding
 unmet met [] = None
 unmet met (p ∷ ps) = if is_among p.0 met then unmet met ps else Some (record { rule = 10; pid = p.0 })

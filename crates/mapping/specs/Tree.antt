@@ -29,9 +29,13 @@ pub record Store : Type 0 where
 abbrev pub first_tree : Tree
 first_tree = record { pages = (0, Leaf (bare [] [])) ∷ []; root = 0; height = 1; logged = (0, Upto 0) ∷ [] }
 
+-- what is listed under the pid
+abbrev pub listed_at : {V : Type 0} → List (ℕ × V) → ℕ → Option V
+listed_at es pid = lookup (λ n. is_eq (nat_cmp pid n)) es
+
 -- the page under the pid
 abbrev pub page_at : List (ℕ × PageOfKind) → ℕ → Option PageOfKind
-page_at ps pid = lookup (λ n. is_eq (nat_cmp pid n)) ps
+page_at ps pid = listed_at ps pid
 
 -- what is listed of a pid, else `No`
 abbrev pub or_no : Option Logged → Logged
@@ -40,4 +44,4 @@ or_no (Some l) = l
 
 -- what the log has of the pid
 abbrev pub logged_of : Tree → ℕ → Logged
-logged_of t pid = or_no (lookup (λ n. is_eq (nat_cmp pid n)) t.logged)
+logged_of t pid = or_no (listed_at t.logged pid)

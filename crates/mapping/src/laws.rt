@@ -1,14 +1,17 @@
 //! What the definitions of `specs/` mean. Each law is the contract of a function with an empty body.
-ghost use Rattle.std.specs.Prelude.{◌≡◌, ◌↔◌, ◌<◌, ◌≤◌, ℕ, suc, false, List, [], None, length};
+ghost use Rattle.std.specs.Prelude.{◌≡◌, ◌↔◌, ◌<◌, ◌≤◌, ℕ, suc, false, List, [], None, length, Bool, true, ◌||◌, nat_eq, ◌∷◌, ◌++◌, Option, Some, count_by};
 ghost use Rattle.std.specs.Map.{keys_of};
 ghost use Rattle.keys.specs.Order.{IsRising};
 ghost use Rattle.keys.specs.declared.settings.Settings.{Settings};
 ghost use Rattle.index_page.specs.Page.{PageOfKind};
-ghost use Rattle.mapping.specs.Tree.{Tree, first_tree};
-ghost use Rattle.mapping.specs.Levels.{Levels, levels_of, contents, all_pages, by_pid, top_pid, all_pids};
+ghost use Rattle.mapping.specs.Tree.{Tree, first_tree, listed_at, logged_of};
+ghost use Rattle.mapping.specs.Levels.{Levels, levels_of, contents, all_pages, by_pid, top_pid, all_pids, Placed, entries, joined, names};
 ghost use Rattle.mapping.specs.FreshPids.{is_among, unused, with_number};
 ghost use Rattle.mapping.specs.Finding.{finding};
-ghost use Rattle.mapping.specs.Proper.{Stacked, Distinct, AreRisingPids, HoldsLevels, AreLogsTrue, IsTree, IsProper};
+ghost use Rattle.mapping.specs.Proper.{Stacked, Distinct, AreRisingPids, HoldsLevels, AreLogsTrue, IsTree, IsProper, next_low, Tiled};
+ghost use Rattle.keys.specs.OrderedMap.{value_at};
+ghost use Rattle.index_page.specs.Children.{children, is_place_for};
+ghost use Rattle.index_page.specs.Range.{is_within};
 
 /// The walk from the root finds nothing exactly where the tree is proper.
 pub fn nothing_is_found_exactly_in_a_proper_tree()
@@ -45,4 +48,33 @@ pub fn fresh_pids_are_the_least_unused_numbers()
     ensures rising { (used : List ℕ) (m n : ℕ) → m < n → unused used m < unused used n }
     ensures least { (used : List ℕ) (n k : ℕ) → AreRisingPids used → is_among k used ≡ false → k < unused used n → (m : ℕ) × (m < n) × (k ≡ unused used m) }
     ensures drawn { (used : List ℕ) (n m : ℕ) → AreRisingPids used → n ≤ m → unused (with_number (unused used n) used) m ≡ unused used (suc m) }
+{}
+
+/// A number that isn't in use, taken into use: the numbers still rise, and that one is in use besides those that were.
+pub fn a_number_taken_into_use_is_one_more()
+    ensures rising { (used : List ℕ) (n : ℕ) → AreRisingPids used → is_among n used ≡ false → AreRisingPids (with_number n used) }
+    ensures among { (used : List ℕ) (m n : ℕ) → is_among m (with_number n used) ≡ (nat_eq m n || is_among m used) }
+{}
+
+/// Two lists by rising pid that have the same under each pid are one list; and so are the lists of what the logs of two
+/// trees have, where they are true and the logs have the same of each pid.
+pub fn a_table_is_what_it_has<V>()
+    ensures listed { (ps qs : List (ℕ × V)) → AreRisingPids (keys_of ps) → AreRisingPids (keys_of qs) → ((pid : ℕ) → listed_at ps pid ≡ listed_at qs pid) → ps ≡ qs }
+    ensures logged { (t u : Tree) → AreLogsTrue t → AreLogsTrue u → ((pid : ℕ) → logged_of t pid ≡ logged_of u pid) → t.logged ≡ u.logged }
+{}
+
+/// Of a level whose pages' ranges follow one another: the places that its names name have the pages' ranges; each key
+/// from the first low key on and before the end is within the range of just one page, and any other key within that of
+/// none; and what the page has at such a key is what all pages of the level, joined, have there.
+pub fn each_key_of_a_level_is_in_one_page<V>()
+    ensures range { (xs ys : List (Placed V)) (p : Placed V) (end : Option (List ℕ)) →
+        children (names (xs ++ p ∷ ys)) end ≡ children (names xs) (Some p.page.low) ++ record { pid = p.pid; low = p.page.low; end = next_low ys end } ∷ children (names ys) end }
+    ensures one { (ps : List (Placed V)) (end : Option (List ℕ)) (low k : List ℕ) → Tiled ps end → next_low ps end ≡ Some low → is_within low end k ≡ true →
+        count_by (is_place_for k) (children (names ps) end) ≡ 1 }
+    ensures none { (ps : List (Placed V)) (end : Option (List ℕ)) (low k : List ℕ) → Tiled ps end → next_low ps end ≡ Some low → is_within low end k ≡ false →
+        count_by (is_place_for k) (children (names ps) end) ≡ 0 }
+    ensures found { (ps : List (Placed V)) (end : Option (List ℕ)) (low k : List ℕ) → next_low ps end ≡ Some low → is_within low end k ≡ true →
+        (xs : List (Placed V)) × (p : Placed V) × (ys : List (Placed V)) × (ps ≡ xs ++ p ∷ ys) × (is_within p.page.low (next_low ys end) k ≡ true) }
+    ensures held { (xs ys : List (Placed V)) (p : Placed V) (end : Option (List ℕ)) (k : List ℕ) → Tiled (xs ++ p ∷ ys) end → is_within p.page.low (next_low ys end) k ≡ true →
+        value_at k (entries p) ≡ value_at k (joined (xs ++ p ∷ ys)) }
 {}
