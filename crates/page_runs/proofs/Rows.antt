@@ -131,3 +131,22 @@ row_7_gone = refl
 
 row_7_gone_class : class_then second (Del a ∷ []) ≡ Thin
 row_7_gone_class = refl
+
+-- at fan 16 a replaced page of four entries isn't thin, and one of three is
+abbrev wide : Settings
+wide = record { fan = 16; chain = 1; max_key = 16; max_value = 16; seg_size = 1024; segments = 4 }
+
+abbrev three_in_front : Page
+three_in_front = record { runs = ((a, Some (49 ∷ [])) ∷ (b, Some (50 ∷ [])) ∷ (c, Some (51 ∷ [])) ∷ []) ∷ []; base = [] }
+
+fourth_comes : after_run wide three_in_front (run_on three_in_front (Put d (52 ∷ []) ∷ [])) ≡ record { runs = []; base = (a, 49 ∷ []) ∷ (b, 50 ∷ []) ∷ (c, 51 ∷ []) ∷ (d, 52 ∷ []) ∷ [] }
+fourth_comes = refl
+
+fourth_comes_class : class_after wide three_in_front (run_on three_in_front (Put d (52 ∷ []) ∷ [])) ≡ Changed
+fourth_comes_class = refl
+
+first_changes : after_run wide three_in_front (run_on three_in_front (Put a (52 ∷ []) ∷ [])) ≡ record { runs = []; base = (a, 52 ∷ []) ∷ (b, 50 ∷ []) ∷ (c, 51 ∷ []) ∷ [] }
+first_changes = refl
+
+first_changes_class : class_after wide three_in_front (run_on three_in_front (Put a (52 ∷ []) ∷ [])) ≡ Thin
+first_changes_class = refl

@@ -1,5 +1,5 @@
 -- What a page is after a run, and its class.
-use Rattle.std.specs.Prelude.{ℕ, ◌+◌, ◌/◌, Bool, ◌||◌, nat_lt, if◌then◌else◌, List, [], ◌∷◌, Option, length}
+use Rattle.std.specs.Prelude.{ℕ, ◌+◌, ◌/◌, Bool, false, ◌||◌, nat_lt, if◌then◌else◌, List, [], ◌∷◌, Option, length}
 use Rattle.keys.specs.declared.settings.Settings.{Settings}
 use Rattle.delta_chain.specs.Layers.{Layers, with_run, entries_of, depth_of}
 use Rattle.page_runs.specs.declared.class.Class.{Class}
@@ -21,6 +21,11 @@ in_front p run = record { runs = run ∷ p.runs; base = p.base }
 abbrev pub after_run : {V : Type 0} → Settings → Layers V → List (List ℕ × Option V) → Layers V
 after_run s p [] = p
 after_run s p (c ∷ cs) = if must_replace s p (c ∷ cs) then replaced p (c ∷ cs) else in_front p (c ∷ cs)
+
+-- whether a run has the page replaced
+abbrev pub is_replaced : {V : Type 0} → Settings → Layers V → List (List ℕ × Option V) → Bool
+is_replaced s p [] = false
+is_replaced s p (c ∷ cs) = must_replace s p (c ∷ cs)
 
 -- the class of a replaced page of n entries
 abbrev pub class_of_size : Settings → ℕ → Class

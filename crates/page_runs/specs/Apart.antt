@@ -1,28 +1,53 @@
 -- The commands of a batch that are on some of the keys, taken by themselves.
-use Rattle.std.specs.Prelude.{◌≡◌, ℕ, Bool, true, List, [], ◌∷◌, if◌then◌else◌}
-use Rattle.std.specs.List.{filter}
+use Rattle.std.specs.Prelude.{◌≡◌, ℕ, Bool, true, false, List, [], ◌∷◌, Option, Some, if◌then◌else◌}
+use Rattle.std.specs.Option.{option_map_or}
+use Rattle.std.specs.Ordering.{is_eq}
+use Rattle.keys.specs.Order.{order}
 use Rattle.keys.specs.OrderedMap.{value_at}
 use Rattle.keys.specs.declared.command.Command.{Command}
 use Rattle.keys.specs.declared.command.Command.TheVariants.{Get, Put, Add, Del}
 use Rattle.keys.specs.declared.command.Reply.{Reply}
 
--- the key that a command is on
-abbrev pub key_of : {A : Type 0} → Command A → List ℕ
-key_of (Get k) = k
-key_of (Put k v) = k
-key_of (Add k v) = k
-key_of (Del k) = k
+-- whether the command touches or reads the key
+abbrev pub is_on : {A : Type 0} → Command A → List ℕ → Bool
+is_on (Get k) q = is_eq (order q k)
+is_on (Put k v) q = is_eq (order q k)
+is_on (Add k v) q = is_eq (order q k)
+is_on (Del k) q = is_eq (order q k)
 
--- the commands on keys that pass
-abbrev pub commands_on : {A : Type 0} → (List ℕ → Bool) → List (Command A) → List (Command A)
-commands_on is_own cs = filter (λ c. is_own (key_of c)) cs
+-- the key of a command on one key
+abbrev pub key_of : {A : Type 0} → Command A → Option (List ℕ)
+key_of (Get k) = Some k
+key_of (Put k v) = Some k
+key_of (Add k v) = Some k
+key_of (Del k) = Some k
 
--- of replies to commands, those to the commands on keys that pass
-abbrev pub replies_on : {A : Type 0} → (List ℕ → Bool) → List (Command A) → List (Reply A) → List (Reply A)
-replies_on is_own [] rs = []
-replies_on is_own (c ∷ cs) [] = []
-replies_on is_own (c ∷ cs) (r ∷ rs) = if is_own (key_of c) then r ∷ replies_on is_own cs rs else replies_on is_own cs rs
+-- whether the command is on one key, and that is one of these
+abbrev pub is_on_one : {A : Type 0} → (List ℕ → Bool) → Command A → Bool
+is_on_one is_own c = option_map_or is_own (key_of c) false
 
--- two maps have the same at each key that passes
+-- the command is on none of these keys
+abbrev pub IsOff : {A : Type 0} → (List ℕ → Bool) → Command A → Type 0
+IsOff is_own c = (q : List ℕ) → is_own q ≡ true → is_on c q ≡ false
+
+-- the command is on none but these keys
+abbrev pub IsWithin : {A : Type 0} → (List ℕ → Bool) → Command A → Type 0
+IsWithin is_own c = (q : List ℕ) → is_own q ≡ false → is_on c q ≡ false
+
+-- every command on one of these keys is taken
+abbrev pub TakesAll : {A : Type 0} → (List ℕ → Bool) → (Command A → Bool) → Type 0
+TakesAll {A} is_own is_taken = (c : Command A) → is_taken c ≡ false → IsOff is_own c
+
+-- no command on another key is taken
+abbrev pub TakesNoOther : {A : Type 0} → (List ℕ → Bool) → (Command A → Bool) → Type 0
+TakesNoOther {A} is_own is_taken = (c : Command A) → is_taken c ≡ true → IsWithin is_own c
+
+-- of replies to commands, those to the commands that pass
+abbrev pub replies_where : {A : Type 0} → (Command A → Bool) → List (Command A) → List (Reply A) → List (Reply A)
+replies_where passes [] rs = []
+replies_where passes (c ∷ cs) [] = []
+replies_where passes (c ∷ cs) (r ∷ rs) = if passes c then r ∷ replies_where passes cs rs else replies_where passes cs rs
+
+-- two maps have the same at each of these keys
 abbrev pub AgreeOn : (List ℕ → Bool) → List (List ℕ × List ℕ) → List (List ℕ × List ℕ) → Type 0
 AgreeOn is_own m x = (q : List ℕ) → is_own q ≡ true → value_at q m ≡ value_at q x

@@ -3,6 +3,7 @@ pub mod Apart
 pub mod LeafWork
 pub mod NetRun
 pub mod Outcome
+pub mod Replay
 pub mod Replies
 pub mod Touched
 pub mod Worked

@@ -1,9 +1,8 @@
 -- What a run makes of a page under its pid.
-use Rattle.std.specs.Prelude.{ℕ, Bool, true, false, List, [], ◌∷◌, Option}
+use Rattle.std.specs.Prelude.{ℕ, Bool, true, false, List, Option}
 use Rattle.keys.specs.declared.settings.Settings.{Settings}
-use Rattle.delta_chain.specs.Layers.{Layers}
 use Rattle.mapping.specs.Levels.{Placed}
-use Rattle.page_runs.specs.AfterRun.{must_replace, after_run, class_after}
+use Rattle.page_runs.specs.AfterRun.{after_run, class_after, is_replaced}
 use Rattle.page_runs.specs.declared.class.Class.{Class}
 use Rattle.page_runs.specs.declared.class.Class.TheVariants.{Thin, Fat}
 
@@ -12,11 +11,6 @@ pub record Worked (V : Type 0) : Type 0 where
   pub placed : Placed V
   pub class : Class
   pub replaced : Bool
-
--- whether a page is replaced by a run
-abbrev pub is_replaced : {V : Type 0} → Settings → Layers V → List (List ℕ × Option V) → Bool
-is_replaced s p [] = false
-is_replaced s p (c ∷ cs) = must_replace s p (c ∷ cs)
 
 -- the page after a run, under its pid and with its low key
 abbrev pub worked : {V : Type 0} → Settings → Placed V → List (List ℕ × Option V) → Worked V

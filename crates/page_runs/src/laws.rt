@@ -1,5 +1,6 @@
 //! What the definitions of `specs/` mean. Each law is the contract of a function with an empty body.
-ghost use Rattle.std.specs.Prelude.{◌≡◌, ℕ, Bool, true, false, List, Option, None};
+ghost use Rattle.std.specs.Prelude.{◌≡◌, ℕ, Bool, true, false, List, Option, Some, None};
+ghost use Rattle.std.specs.List.{filter};
 ghost use Rattle.keys.specs.Order.{IsRising};
 ghost use Rattle.keys.specs.OrderedMap.{value_at};
 ghost use Rattle.keys.specs.Step.{replies_to, map_after_all};
@@ -8,7 +9,7 @@ ghost use Rattle.keys.specs.declared.settings.Settings.{Settings};
 ghost use Rattle.delta_chain.specs.Layers.{Layers, with_run, entries_of, IsInOrder};
 ghost use Rattle.page_runs.specs.AfterRun.{after_run};
 ghost use Rattle.page_runs.specs.NetRun.{net_run};
-ghost use Rattle.page_runs.specs.Apart.{commands_on, replies_on, AgreeOn};
+ghost use Rattle.page_runs.specs.Apart.{key_of, is_on_one, IsOff, IsWithin, TakesAll, TakesNoOther, replies_where, AgreeOn};
 
 use std::alloc::Allocator;
 
@@ -24,16 +25,26 @@ pub fn a_page_after_a_run_has_the_run_applied<V>()
     ensures in_order { (s : Settings) (p : Layers V) (run : List (List ℕ × Option V)) → IsInOrder p → IsRising run → IsInOrder (after_run s p run) }
 {}
 
-/// The commands on some of the keys can be worked by themselves, on any map that agrees with the whole one on these keys:
-/// they get the replies that they get among all commands, they leave the same at these keys, and their net run is what
-/// the net run of all commands says of these keys.
+/// The commands on some of the keys can be worked by themselves, on any map that agrees with the whole one on these
+/// keys; further commands may be taken along. The commands on one of these keys get the replies that they get among all
+/// commands, and where they alone are taken there are no others. All leave the same at these keys, and their net run says
+/// of these keys what the net run of all commands says; where no command on another key is taken, it names no other key.
+/// A command on one key is on these keys alone or wholly off them, as its key is.
 pub fn commands_on_some_keys_are_worked_apart<A: Allocator>()
-    ensures replies { (is_own : List ℕ → Bool) (m x : List (List ℕ × List ℕ)) (cs : List (Command A)) → IsRising m → IsRising x → AgreeOn is_own m x →
-        replies_on is_own cs (replies_to m cs) ≡ replies_to x (commands_on is_own cs) }
-    ensures map { (is_own : List ℕ → Bool) (m x : List (List ℕ × List ℕ)) (cs : List (Command A)) → IsRising m → IsRising x → AgreeOn is_own m x →
-        AgreeOn is_own (map_after_all m cs) (map_after_all x (commands_on is_own cs)) }
-    ensures run { (is_own : List ℕ → Bool) (m x : List (List ℕ × List ℕ)) (cs : List (Command A)) (k : List ℕ) → IsRising m → IsRising x → AgreeOn is_own m x → is_own k ≡ true →
-        value_at k (net_run m cs) ≡ value_at k (net_run x (commands_on is_own cs)) }
-    ensures no_other { (is_own : List ℕ → Bool) (x : List (List ℕ × List ℕ)) (cs : List (Command A)) (k : List ℕ) → is_own k ≡ false →
-        value_at k (net_run x (commands_on is_own cs)) ≡ None }
+    ensures replies { (is_own : List ℕ → Bool) (is_taken : Command A → Bool) (m x : List (List ℕ × List ℕ)) (cs : List (Command A)) →
+        TakesAll is_own is_taken → IsRising m → IsRising x → AgreeOn is_own m x →
+        replies_where (is_on_one is_own) cs (replies_to m cs) ≡ replies_where (is_on_one is_own) (filter is_taken cs) (replies_to x (filter is_taken cs)) }
+    ensures all_replies { (is_own : List ℕ → Bool) (x : List (List ℕ × List ℕ)) (cs : List (Command A)) → let own = filter (is_on_one is_own) cs in
+        replies_where (is_on_one is_own) own (replies_to x own) ≡ replies_to x own }
+    ensures map { (is_own : List ℕ → Bool) (is_taken : Command A → Bool) (m x : List (List ℕ × List ℕ)) (cs : List (Command A)) →
+        TakesAll is_own is_taken → IsRising m → IsRising x → AgreeOn is_own m x →
+        AgreeOn is_own (map_after_all m cs) (map_after_all x (filter is_taken cs)) }
+    ensures run { (is_own : List ℕ → Bool) (is_taken : Command A → Bool) (m x : List (List ℕ × List ℕ)) (cs : List (Command A)) (k : List ℕ) →
+        TakesAll is_own is_taken → IsRising m → IsRising x → AgreeOn is_own m x → is_own k ≡ true →
+        value_at k (net_run m cs) ≡ value_at k (net_run x (filter is_taken cs)) }
+    ensures no_other { (is_own : List ℕ → Bool) (is_taken : Command A → Bool) (x : List (List ℕ × List ℕ)) (cs : List (Command A)) (k : List ℕ) →
+        TakesNoOther is_own is_taken → is_own k ≡ false →
+        value_at k (net_run x (filter is_taken cs)) ≡ None }
+    ensures within { (is_own : List ℕ → Bool) (c : Command A) (k : List ℕ) → key_of c ≡ Some k → is_own k ≡ true → IsWithin is_own c }
+    ensures off { (is_own : List ℕ → Bool) (c : Command A) (k : List ℕ) → key_of c ≡ Some k → is_own k ≡ false → IsOff is_own c }
 {}

@@ -25,14 +25,15 @@ pub struct LeafWork<'a> {
 #[derive(Drop)]
 pub struct LeafJob {
     pub page: Leaf,
-    pub run: PageRun,
+    /// Where its commands stand in the batch.
+    pub places: PageRun,
 }
 
 /// A leaf after its commands, with its class and its answers, and what gives the job back.
 #[derive(Drop)]
 pub struct LeafDone {
     after: PageAfter,
-    run: PageRun,
+    places: PageRun,
     pieces: Vec<Piece>,
 }
 
@@ -50,6 +51,13 @@ impl LeafDone {
         }
     }
 
+    /// Whether the leaf was replaced: it is a base alone then, and not the leaf before with a run in front.
+    pub fn is_replaced(&self) -> bool
+        ensures { result ≡ (made_of self.now).replaced }
+    {
+        matches!(&self.after, PageAfter::Replaced { .. })
+    }
+
     /// The leaf and its answers, for good: the job cannot be given back any more.
     pub fn into_page_and_pieces(self) -> (Leaf, Vec<Piece>)
         ensures page { result.0 ≡ (made_of self).page }
@@ -57,7 +65,7 @@ impl LeafDone {
     {
         let LeafDone {
             after,
-            run: _run,
+            places: _places,
             pieces,
         } = self;
         (after.into_page(), pieces)
@@ -89,25 +97,29 @@ impl<'a> Work for LeafWork<'a> {
     ghost made = { λ w h. leaf_made w.settings w.commands.now h };
 
     fn work(&self, job: LeafJob) -> Turn<LeafJob, LeafDone> {
-        let LeafJob { page, run } = job;
-        let Ok((changes, pieces)) = replay(self.alloc, self.commands, &page, run.places()) else {
-            return Turn::Back(LeafJob { page, run });
+        let LeafJob { page, places } = job;
+        let Ok((run, pieces)) = replay(self.alloc, self.commands, &page, places.places()) else {
+            return Turn::Back(LeafJob { page, places });
         };
-        match put_run(self.alloc, &self.settings, page, changes) {
-            Ok(after) => Turn::Done(LeafDone { after, run, pieces }),
-            Err(page) => Turn::Back(LeafJob { page, run }),
+        match put_run(self.alloc, &self.settings, page, run) {
+            Ok(after) => Turn::Done(LeafDone {
+                after,
+                places,
+                pieces,
+            }),
+            Err(page) => Turn::Back(LeafJob { page, places }),
         }
     }
 
     fn undo(&self, done: LeafDone) -> LeafJob {
         let LeafDone {
             after,
-            run,
+            places,
             pieces: _,
         } = done;
         LeafJob {
             page: after.undo(),
-            run,
+            places,
         }
     }
 }

@@ -1,8 +1,8 @@
 //! What becomes of a page by a run, and the way back.
-ghost use Rattle.std.specs.Prelude.{◌≡◌, [], length, IfOk, IfErr};
+ghost use Rattle.std.specs.Prelude.{◌≡◌, [], true, length, IfOk, IfErr};
 ghost use Rattle.delta_chain.specs.Layers.{entries_of};
-ghost use Rattle.page_runs.specs.AfterRun.{must_replace, after_run, class_after, class_of_size};
-ghost use Rattle.page_runs.specs.Outcome.{page_after, page_before, class_now, popped};
+ghost use Rattle.page_runs.specs.AfterRun.{must_replace, after_run, class_after, class_of_size, is_replaced};
+ghost use Rattle.page_runs.specs.Outcome.{page_after, page_before, class_now, is_replaced_now, popped};
 
 use crate::class::Class;
 use crate::replay::{Leaf, LeafRun};
@@ -36,6 +36,7 @@ pub(crate) fn put_run(
 ) -> Result<PageAfter, Leaf>
     ensures page { IfOk result (λ after. page_after after ≡ after_run settings.now page run) }
     ensures class { IfOk result (λ after. class_now after ≡ class_after settings.now page run) }
+    ensures replaced { IfOk result (λ after. is_replaced_now after ≡ is_replaced settings.now page run) }
     ensures before { IfOk result (λ after. page_before after ≡ page) }
     ensures back { IfErr result (λ again. again ≡ page) }
 {
@@ -62,6 +63,7 @@ fn must_replace(settings: &Settings, page: &Leaf, run: &LeafRun) -> bool
 fn replace(alloc: Global, settings: &Settings, before: Leaf) -> Result<PageAfter, Leaf>
     ensures page { IfOk result (λ after. page_after after ≡ record { runs = []; base = entries_of before }) }
     ensures class { IfOk result (λ after. class_now after ≡ class_of_size settings.now (length (entries_of before))) }
+    ensures replaced { IfOk result (λ after. is_replaced_now after ≡ true) }
     ensures before { IfOk result (λ after. page_before after ≡ popped before) }
     ensures back { IfErr result (λ page. page ≡ popped before) }
 {

@@ -6,8 +6,9 @@ ghost use Rattle.keys.specs.Order.{IsRising};
 ghost use Rattle.keys.specs.OrderedMap.{value_at, with_pair};
 ghost use Rattle.keys.specs.Step.{found, reply_to, map_after, replies_to};
 ghost use Rattle.keys.specs.declared.command.Reply.TheVariants.{New, Replaced, Added, Exists, Deleted, Missing};
-ghost use Rattle.delta_chain.specs.Layers.{entries_of, IsInOrder, with_run};
+ghost use Rattle.delta_chain.specs.Layers.{entries_of, IsInOrder};
 ghost use Rattle.page_runs.specs.NetRun.{noted_by, net_run};
+ghost use Rattle.page_runs.specs.Replay.{map_by_now};
 ghost use Rattle.page_runs.specs.Replies.{commands_at, pieces_of, ArePlacesOf};
 
 use crate::piece::Piece;
@@ -35,15 +36,16 @@ pub(crate) fn replay(
     ensures run { IfOk result (λ r. r.0 ≡ net_run (entries_of page.now) (commands_at commands.now places.now)) }
     ensures pieces { IfOk result (λ r. r.1.items ≡ pieces_of places.now (replies_to (entries_of page.now) (commands_at commands.now places.now))) }
 {
+    // Only for the proof: `depth` says that the page is in order.
     let _in_order = page.depth();
     let mut changes = BTreeMap::new(alloc);
     let mut pieces = Vec::with_capacity(alloc, places.len())?;
     for place in places {
         let reply = execute(alloc, page, &mut changes, &commands[*place])?;
-        pieces.push(Piece {
+        pieces.push_reserved(Piece {
             place: *place,
             reply,
-        })?;
+        });
     }
     Ok((run_of(alloc, changes)?, pieces))
 }
@@ -57,8 +59,8 @@ fn execute(
 ) -> Result<Reply<Global>, AllocError>
     requires page { IsInOrder page.now }
     requires rising { IsRising changes.old.entries }
-    ensures reply { let before = with_run (entries_of page.now) changes.old.entries in IfOk result (λ reply. reply ≡ reply_to before command.now) }
-    ensures changes { let before = with_run (entries_of page.now) changes.old.entries in
+    ensures reply { let before = map_by_now page.now changes.old.entries in IfOk result (λ reply. reply ≡ reply_to before command.now) }
+    ensures changes { let before = map_by_now page.now changes.old.entries in
         OnOk result (changes.new.entries ≡ noted_by (map_after before command.now) before command.now changes.old.entries) }
 {
     match command {
@@ -77,7 +79,7 @@ fn get(
 ) -> Result<Reply<Global>, AllocError>
     requires page { IsInOrder page.now }
     requires rising { IsRising changes.now.entries }
-    ensures { IfOk result (λ reply. reply ≡ found (value_at key.now (with_run (entries_of page.now) changes.now.entries))) }
+    ensures { IfOk result (λ reply. reply ≡ found (value_at key.now (map_by_now page.now changes.now.entries))) }
 {
     match value_now(page, changes, key) {
         Some(value) => Ok(Reply::Value(value.copy(alloc)?)),
@@ -94,7 +96,7 @@ fn put(
 ) -> Result<Reply<Global>, AllocError>
     requires page { IsInOrder page.now }
     requires rising { IsRising changes.old.entries }
-    ensures reply { IfOk result (λ reply. reply ≡ (if is_some (value_at key.now (with_run (entries_of page.now) changes.old.entries)) then Replaced else New)) }
+    ensures reply { IfOk result (λ reply. reply ≡ (if is_some (value_at key.now (map_by_now page.now changes.old.entries)) then Replaced else New)) }
     ensures changes { OnOk result (changes.new.entries ≡ with_pair changes.old.entries key.now (Some value.now)) }
 {
     let reply = match value_now(page, changes, key) {
@@ -114,8 +116,8 @@ fn add(
 ) -> Result<Reply<Global>, AllocError>
     requires page { IsInOrder page.now }
     requires rising { IsRising changes.old.entries }
-    ensures reply { IfOk result (λ reply. reply ≡ (if is_some (value_at key.now (with_run (entries_of page.now) changes.old.entries)) then Exists else Added)) }
-    ensures changes { OnOk result (changes.new.entries ≡ (if is_some (value_at key.now (with_run (entries_of page.now) changes.old.entries)) then changes.old.entries else with_pair changes.old.entries key.now (Some value.now))) }
+    ensures reply { IfOk result (λ reply. reply ≡ (if is_some (value_at key.now (map_by_now page.now changes.old.entries)) then Exists else Added)) }
+    ensures changes { OnOk result (changes.new.entries ≡ (if is_some (value_at key.now (map_by_now page.now changes.old.entries)) then changes.old.entries else with_pair changes.old.entries key.now (Some value.now))) }
 {
     if value_now(page, changes, key).is_some() {
         return Ok(Reply::Exists);
@@ -132,8 +134,8 @@ fn del(
 ) -> Result<Reply<Global>, AllocError>
     requires page { IsInOrder page.now }
     requires rising { IsRising changes.old.entries }
-    ensures reply { IfOk result (λ reply. reply ≡ (if is_some (value_at key.now (with_run (entries_of page.now) changes.old.entries)) then Deleted else Missing)) }
-    ensures changes { OnOk result (changes.new.entries ≡ (if is_some (value_at key.now (with_run (entries_of page.now) changes.old.entries)) then with_pair changes.old.entries key.now None else changes.old.entries)) }
+    ensures reply { IfOk result (λ reply. reply ≡ (if is_some (value_at key.now (map_by_now page.now changes.old.entries)) then Deleted else Missing)) }
+    ensures changes { OnOk result (changes.new.entries ≡ (if is_some (value_at key.now (map_by_now page.now changes.old.entries)) then with_pair changes.old.entries key.now None else changes.old.entries)) }
 {
     if value_now(page, changes, key).is_none() {
         return Ok(Reply::Missing);
@@ -150,7 +152,7 @@ fn value_now<'a>(
 ) -> Option<&'a Value<Global>>
     requires page { IsInOrder page.now }
     requires rising { IsRising changes.now.entries }
-    ensures { option_copied result ≡ value_at key.now (with_run (entries_of page.now) changes.now.entries) }
+    ensures { option_copied result ≡ value_at key.now (map_by_now page.now changes.now.entries) }
 {
     match changes.get(key) {
         Some(change) => change.as_ref(),

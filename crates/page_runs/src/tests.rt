@@ -80,10 +80,10 @@ fn commands(alloc: Global, steps: &[Step]) -> Result<Vec<Command<Global>>, Alloc
     Ok(commands)
 }
 
-// The run of the one page that has to work all the commands.
+// The places of the one page that has to work all the commands.
 #[tactic(auto, using(crate::proofs::WholeBatch::places_of_whole_batch))]
 fn whole_batch(alloc: Global, commands: &[Command<Global>]) -> Result<PageRun, AllocError>
-    ensures { IfOk result (λ run. ArePlacesOf commands.now run) }
+    ensures { IfOk result (λ places. ArePlacesOf commands.now places) }
 {
     PageRun::of_whole_batch(alloc, commands.len())
 }
@@ -155,14 +155,17 @@ fn work_on(
     steps: &[Step],
 ) -> Result<Option<(Class, Vec<Piece>)>, AllocError> {
     let commands = commands(alloc, steps)?;
-    let run = whole_batch(alloc, &commands)?;
+    let places = whole_batch(alloc, &commands)?;
     let work = LeafWork {
         alloc,
         settings: SMALL,
         commands: &commands,
     };
     let before = mem::replace(page, Chain::of_base(Base::empty(alloc)));
-    match work.work(LeafJob { page: before, run }) {
+    match work.work(LeafJob {
+        page: before,
+        places,
+    }) {
         Turn::Done(done) => {
             let class = done.class();
             let (after, pieces) = done.into_page_and_pieces();
@@ -183,19 +186,25 @@ fn work_and_undo_on(
     steps: &[Step],
 ) -> Result<Option<(Class, PageRun)>, AllocError> {
     let commands = commands(alloc, steps)?;
-    let run = whole_batch(alloc, &commands)?;
+    let places = whole_batch(alloc, &commands)?;
     let work = LeafWork {
         alloc,
         settings: SMALL,
         commands: &commands,
     };
     let before = mem::replace(page, Chain::of_base(Base::empty(alloc)));
-    match work.work(LeafJob { page: before, run }) {
+    match work.work(LeafJob {
+        page: before,
+        places,
+    }) {
         Turn::Done(done) => {
             let class = done.class();
-            let LeafJob { page: again, run } = work.undo(done);
+            let LeafJob {
+                page: again,
+                places,
+            } = work.undo(done);
             *page = again;
-            Ok(Some((class, run)))
+            Ok(Some((class, places)))
         }
         Turn::Back(job) => {
             *page = job.page;
@@ -265,7 +274,7 @@ fn text_of_undone(
 ) -> Result<String, AllocError> {
     let mut text = String::new(alloc);
     match undone {
-        Some((class, run)) => write!(text, "{class:?}, undone at {:?}: ", run.places())?,
+        Some((class, places)) => write!(text, "{class:?}, undone at {:?}: ", places.places())?,
         None => text.push_str("Back; ")?,
     }
     write_page(alloc, &mut text, page)?;

@@ -2,13 +2,14 @@
 #![tactic(auto)]
 
 ghost use Rattle.std.specs.Prelude.{◌≡◌, IfOk};
+ghost use Rattle.std.specs.List.Sorted.{IsStrictlyIncreasing};
 ghost use Rattle.routing.specs.Places.{places_below};
 
 use std::alloc::{AllocError, Global};
 use std::marker::Model;
 
-/// The commands of a batch that one page has to work: their places in the batch, counted from 0, in rising order.
-/// Contracts see it as the list of these places.
+/// The commands of a batch that one page has to work: their places in the batch, counted from 0, in strictly rising
+/// order. Contracts see it as the list of these places.
 #[derive(Drop)]
 pub struct PageRun {
     places: Vec<usize>,
@@ -21,23 +22,27 @@ impl Model for PageRun {
     ghost Value = { List ℕ };
 
     ghost view = { λ r. r.places.items };
+
+    ghost invariant = { λ r. IsStrictlyIncreasing r.places.items };
 }
 
 impl PageRun {
     /// The run of the one page that has to work every command of a batch of this many.
     pub fn of_whole_batch(alloc: Global, commands: usize) -> Result<PageRun, AllocError>
-        ensures { IfOk result (λ run. run ≡ places_below commands) }
+        ensures places { IfOk result (λ run. run ≡ places_below commands) }
+        ensures rising { IfOk result (λ run. IsStrictlyIncreasing run) }
     {
         let mut places = Vec::with_capacity(alloc, commands)?;
         for place in 0..commands {
-            places.push(place)?;
+            places.push_reserved(place);
         }
         Ok(PageRun { places })
     }
 
-    /// The places, in rising order.
+    /// The places, in strictly rising order.
     pub fn places(&self) -> &[usize]
-        ensures { result.now ≡ self.now }
+        ensures value { result.now ≡ self.now }
+        ensures rising { IsStrictlyIncreasing self.now }
     {
         &self.places
     }

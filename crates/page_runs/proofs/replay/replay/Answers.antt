@@ -1,4 +1,4 @@
-use Rattle.std.proofs.Common.{◌≡◌, ◌<◌, ℕ, List, ◌∷◌, ◌++◌, [], Some, length, take, get_or, slice_get, refl, arith, add-one}
+use Rattle.std.proofs.Common.{◌≡◌, ◌<◌, ℕ, List, ◌∷◌, ◌++◌, [], Some, length, take, get_or, slice_get, refl, ap, ◌∙◌, ◌+◌, arith, add-one}
 use Rattle.std.proofs.lemmas.Option.{slice_get_read, slice_get-get_or}
 use Rattle.std.specs.declared.alloc.Global.{Global}
 use Rattle.keys.specs.Order.{IsRising}
@@ -36,5 +36,7 @@ loop-place-preserved c =
     let pieces = pieces_step batch places i place command (with_run held before) c.loop-place.pieces.items _ here there c.loop-place.invariant.pieces in
     record {
       changes = rw (add-one, commands_at-take batch places i place command here there) changes;
-      pieces = rw (add-one, c.in_ok-push.ensures.items, c.in_ok-reply.ensures.reply, map) pieces;
+      count = c.push_reserved.ensures.len ∙ ap (λ (n : ℕ). n + 1) c.loop-place.invariant.count;
+      room = c.push_reserved.ensures.capacity ∙ c.loop-place.invariant.room;
+      pieces = rw (add-one, c.push_reserved.ensures.items, c.in_ok-reply.ensures.reply, map) pieces;
     }
