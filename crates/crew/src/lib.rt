@@ -5,6 +5,10 @@
 ghost use Rattle.std.specs.Prelude.{◌≡◌};
 ghost use Rattle.crew.specs.Turn.{IfDone, IfBack};
 
+pub mod round;
+
+pub use crate::round::{undo_all, work_all};
+
 /// What became of a job.
 #[derive(Drop)]
 pub enum Turn<J, D> {

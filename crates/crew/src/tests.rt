@@ -1,7 +1,7 @@
 use crate::{Turn, Work, work_and_undo};
 
 // Doubles a number, and halves it again. A number whose double is too great comes back.
-struct Doubling;
+pub(crate) struct Doubling;
 
 impl Work for Doubling {
     ghost use Rattle.std.specs.Prelude.{◌*◌, ◌/◌, ℕ};
