@@ -4,6 +4,7 @@ use Rattle.std.proofs.Common.{refl, sym, ap, ◌∙◌, add-one, arith}
 use Rattle.std.specs.List.{range_with_len}
 use Rattle.std.specs.declared.alloc.Global.{Global}
 use Rattle.std.proofs.lemmas.List.FromFn.{length-range_with_len}
+use Rattle.keys.specs.Order.{IsRising}
 use Rattle.keys.specs.Step.{map_after, map_after_all, replies_to}
 use Rattle.keys.specs.declared.command.Command.{Command}
 use Rattle.keys.specs.declared.command.Reply.{Reply}
@@ -85,6 +86,10 @@ module _ (batch : List (Command Global)) (leaf page : Layers (List ℕ)) (places
 -- a page that works the whole batch has no more answers than the batch has commands
 pub enough_room : {A : Type 0} → (batch : List (Command A)) (places : List ℕ) (rs : List (Reply Global)) → places ≡ places_below (length batch) → length (pieces_of places rs) ≤ length batch
 enough_room batch places rs whole = rw whole (omega (arith, length-pieces_of (places_below (length batch)) rs, length-range_with_len 0 (length batch)))
+
+-- the keys of a leaf in order rise
+pub rising_contents : (leaf : Layers (List ℕ)) → IsInOrder leaf → IsRising (entries_of leaf)
+rising_contents leaf a = rising-entries_of leaf a
 
 -- the pairs of the leaf afterwards are the map after the batch
 pub contents_after : (s : Settings) (leaf : Layers (List ℕ)) (batch : List (Command Global)) → IsInOrder leaf → entries_of (after_run s leaf (net_run (entries_of leaf) batch)) ≡ map_after_all (entries_of leaf) batch

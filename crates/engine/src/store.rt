@@ -1,5 +1,6 @@
 ghost use Rattle.std.specs.Prelude.{◌≡◌, [], IsOk, IfOk, OnOk, OnErr, IsOkUnless, MatchOption, Err};
 ghost use Rattle.keys.specs.Limits.{first_bad_field};
+ghost use Rattle.keys.specs.Order.{IsRising};
 ghost use Rattle.keys.specs.Step.{replies_to, map_after_all};
 ghost use Rattle.delta_chain.specs.Layers.{entries_of};
 ghost use Rattle.page_runs.specs.AfterRun.{after_run};
@@ -40,6 +41,7 @@ impl Store {
         ensures refused { MatchOption (first_bad_field settings) (IsOk result) (λ field. result ≡ Err (Fault.BadSettings field)) }
         ensures leaf { IfOk result (λ store. store.leaf ≡ record { runs = []; base = [] }) }
         ensures contents { IfOk result (λ store. entries_of store.leaf ≡ []) }
+        ensures rising { IfOk result (λ store. IsRising (entries_of store.leaf)) }
         ensures settings { IfOk result (λ store. store.settings ≡ settings) }
     {
         settings.check()?;
@@ -60,10 +62,13 @@ impl Store {
     /// Executes the commands in the order of their places, and returns the reply to each at its place. A batch of
     /// more than 65,535 commands is `Fault::BatchTooLong`. Else the first command with a key that is too long is
     /// `Fault::KeyTooLong`, and with a value that is too long `Fault::ValueTooLong`, with its place; a command's key
-    /// comes before its value. Else there is only `Fault::NoMemory`. After an `Err` the store is as it was.
+    /// comes before its value. Else there is only `Fault::NoMemory`. After an `Err` the store is as it was. The store
+    /// holds an ordered map: its keys strictly rise.
+    #[tactic(auto, using(crate::proofs::WholeBatch::rising_contents))]
     pub fn batch(&mut self, commands: &[Command<Global>]) -> Result<Vec<Reply<Global>>, Fault>
         ensures replies { IfOk result (λ replies. replies.items ≡ replies_to (entries_of self.old.leaf) commands.now) }
         ensures contents { OnOk result (entries_of self.new.leaf ≡ map_after_all (entries_of self.old.leaf) commands.now) }
+        ensures rising { IsRising (entries_of self.new.leaf) }
 
         // Which fault, and that there is no other but for want of memory.
         ensures refused { MatchOption (refusal self.old.settings commands.now) (IsOkUnless result Fault.NoMemory) (λ fault. result ≡ Err fault) }
@@ -73,17 +78,18 @@ impl Store {
         // The leaf is changed once, by what the commands come to.
         ensures leaf { OnOk result (self.new.leaf ≡ after_run self.old.settings self.old.leaf (net_run (entries_of self.old.leaf) commands.now)) }
     {
+        // Only for the proof: `depth` says that the leaf is in order.
+        let _in_order = self.leaf.depth();
         admit(&self.settings, commands)?;
         let room = Vec::with_capacity(self.alloc, commands.len())?;
-        let run = PageRun::of_whole_batch(self.alloc, commands.len())?;
-        let _in_order = self.leaf.depth();
+        let places = PageRun::of_whole_batch(self.alloc, commands.len())?;
         let page = mem::replace(&mut self.leaf, empty_leaf(self.alloc));
         let work = LeafWork {
             alloc: self.alloc,
             settings: self.settings,
             commands,
         };
-        match work.work(LeafJob { page, run }) {
+        match work.work(LeafJob { page, places }) {
             Turn::Done(done) => {
                 let (page, pieces) = done.into_page_and_pieces();
                 let replies = replies_of(pieces, room);
