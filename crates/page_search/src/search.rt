@@ -91,34 +91,22 @@ fn place<L: Keyed>(list: &L, key: &[u8], probes: &mut Probes) -> Result<usize, u
 mod tests {
     use super::*;
     use delta_chain::{BaseBuilder, PushError, Run};
-    use keys::{Key, Pid, Value};
-    use std::alloc::{AllocError, Global};
+    use keys::{Key, Pid};
+    use std::alloc::Global;
     use std::test::Fail;
 
-    const KEYS: [&[u8]; 5] = [b"", b"b", b"d", b"dd", b"f"];
-
-    // The page ids are 0 to 4.
-    fn pages(alloc: Global) -> Result<Base<Pid, Global>, PushError> {
-        let mut builder = BaseBuilder::with_capacity(alloc, KEYS.len())?;
-        for (key, pid) in KEYS.iter().zip(0..5) {
+    // The base of these keys, with the page ids from 0 on.
+    fn base_of(alloc: Global, keys: &[&[u8]]) -> Result<Base<Pid, Global>, PushError> {
+        let mut builder = BaseBuilder::with_capacity(alloc, keys.len())?;
+        for (key, pid) in keys.iter().zip(0..) {
             builder.push(key, Pid(pid))?;
-        }
-        Ok(builder.finish())
-    }
-
-    // Each value has the bytes of its key.
-    fn values(alloc: Global) -> Result<Base<Value<Global>, Global>, PushError> {
-        let mut builder = BaseBuilder::with_capacity(alloc, KEYS.len())?;
-        for key in KEYS {
-            builder.push(key, Value::from_bytes(alloc, key)?)?;
         }
         Ok(builder.finish())
     }
 
     #[test]
     fn lower_is_how_many_keys_are_below(rt: HostRuntime) -> Result<(), Fail> {
-        let pages = pages(rt.alloc())?;
-        let values = values(rt.alloc())?;
+        let base = base_of(rt.alloc(), &[b"", b"b", b"d", b"dd", b"f"])?;
         let places: [(&[u8], usize); 10] = [
             (b"", 0),
             (b"a", 1),
@@ -132,156 +120,61 @@ mod tests {
             (b"g", 5),
         ];
         for (key, place) in places {
-            let mut in_pages = Probes::new();
-            assert_eq!(rt; lower(&pages, key, &mut in_pages), place, "{key:?}");
-            assert!(rt; matches!(in_pages.count(), 1..=3), "{key:?}");
-            let mut in_values = Probes::new();
-            assert_eq!(rt; lower(&values, key, &mut in_values), place, "{key:?}");
-            assert_eq!(rt; in_values.count(), in_pages.count(), "{key:?}");
+            let mut probes = Probes::new();
+            assert_eq!(rt; lower(&base, key, &mut probes), place, "{key:?}");
+            assert!(rt; matches!(probes.count(), 1..=3), "{key:?}");
         }
         Ok(())
     }
 
-    #[test]
-    fn an_empty_base_takes_no_comparison(rt: HostRuntime) {
-        let base: Base<Pid, Global> = Base::empty(rt.alloc());
-        let mut probes = Probes::new();
-        assert_eq!(rt; lower(&base, b"a", &mut probes), 0);
-        assert_eq!(rt; probes.count(), 0);
-    }
-
-    #[test]
-    fn just_the_keys_that_are_there_are_found(rt: HostRuntime) -> Result<(), Fail> {
-        let values = values(rt.alloc())?;
-        let mut probes = Probes::new();
-        for key in KEYS {
-            let found = find_in_base(&values, key, &mut probes).map(|value| value.as_bytes());
-            assert_eq!(rt; found, Some(key));
-        }
-        for key in [b"a".as_slice(), b"d\0", b"g"] {
-            assert!(rt;
-                find_in_base(&values, key, &mut probes).is_none(),
-                "{key:?}"
-            );
-        }
-        Ok(())
-    }
-
-    // A cell made of a number, from which the number is read again.
-    trait Numbered: Drop {
-        fn of(alloc: Global, number: u8) -> Result<Self, AllocError>;
-
-        fn number(&self) -> u64;
-    }
-
-    impl Numbered for Value<Global> {
-        fn of(alloc: Global, number: u8) -> Result<Self, AllocError> {
-            Value::from_bytes(alloc, &[number])
-        }
-
-        fn number(&self) -> u64 {
-            match self.as_bytes() {
-                [number] => u64::from(*number),
-                _ => u64::MAX,
-            }
-        }
-    }
-
-    impl Numbered for Pid {
-        fn of(_alloc: Global, number: u8) -> Result<Self, AllocError> {
-            Ok(Pid(u64::from(number)))
-        }
-
-        fn number(&self) -> u64 {
-            self.0
-        }
-    }
-
-    // Puts a run of these changes in front of the chain.
-    fn prepend<V: Numbered>(
+    // The run of these changes.
+    fn run_of(
         alloc: Global,
-        chain: &mut Chain<V, Global>,
-        changes: &[(&[u8], Option<u8>)],
-    ) -> Result<(), PushError> {
+        changes: &[(&[u8], Option<u64>)],
+    ) -> Result<Run<Pid, Global>, PushError> {
         let mut run = Run::with_capacity(alloc, changes.len())?;
         for (key, change) in changes {
-            let cell = match change {
-                Some(number) => Some(V::of(alloc, *number)?),
-                None => None,
-            };
-            run.push(Key::from_bytes(alloc, *key)?, cell)?;
+            run.push(Key::from_bytes(alloc, *key)?, change.map(Pid))?;
         }
-        match chain.prepend(run) {
-            Ok(()) => Ok(()),
-            Err(_) => Err(PushError::NoMemory),
-        }
+        Ok(run)
     }
 
-    // The base a=1, b=2, c=3, d=4, e=7 with two runs in front: the older sets b to 5 and takes c and d away, the newer
-    // takes a away, and sets c again, to 6.
-    fn page<V: Numbered>(alloc: Global) -> Result<Chain<V, Global>, PushError> {
-        let mut builder = BaseBuilder::with_capacity(alloc, 5)?;
-        builder.push(b"a", V::of(alloc, 1)?)?;
-        builder.push(b"b", V::of(alloc, 2)?)?;
-        builder.push(b"c", V::of(alloc, 3)?)?;
-        builder.push(b"d", V::of(alloc, 4)?)?;
-        builder.push(b"e", V::of(alloc, 7)?)?;
-        let mut chain = Chain::of_base(builder.finish());
-        prepend(
-            alloc,
-            &mut chain,
-            &[(b"b", Some(5)), (b"c", None), (b"d", None)],
-        )?;
-        prepend(alloc, &mut chain, &[(b"a", None), (b"c", Some(6))])?;
-        Ok(chain)
+    // Two runs in front: the older sets b to 5 and takes c and d away, the newer takes a away, and sets c again, to 6.
+    fn put_runs(alloc: Global, chain: &mut Chain<Pid, Global>) -> Result<bool, PushError> {
+        let older = run_of(alloc, &[(b"b", Some(5)), (b"c", None), (b"d", None)])?;
+        let newer = run_of(alloc, &[(b"a", None), (b"c", Some(6))])?;
+        Ok(chain.prepend(older).is_ok() && chain.prepend(newer).is_ok())
     }
 
-    // What is found at each of the keys, as text: the number, or a stroke where there is no cell.
-    fn found<V: Numbered>(
-        alloc: Global,
-        chain: &Chain<V, Global>,
-        keys: &[&[u8]],
-    ) -> Result<String, AllocError> {
-        let mut text = String::new(alloc);
-        for key in keys {
+    // a, c: what the newer run says. b, d: what the older one says. e: what the base has. Nothing names the others.
+    const FOUND: [(&[u8], Option<u64>); 7] = [
+        (b"a", None),
+        (b"b", Some(5)),
+        (b"c", Some(6)),
+        (b"d", None),
+        (b"e", Some(4)),
+        (b"", None),
+        (b"f", None),
+    ];
+
+    fn finds_newest(chain: &Chain<Pid, Global>) -> bool {
+        for (key, pid) in FOUND {
             let mut probes = Probes::new();
-            match find(chain, *key, &mut probes) {
-                Some(cell) => write!(text, "{} ", cell.number())?,
-                None => write!(text, "- ")?,
+            if find(chain, key, &mut probes).map(|cell| cell.0) != pid {
+                return false;
             }
         }
-        Ok(text)
+        true
     }
 
-    fn found_on_page<V: Numbered>(alloc: Global, keys: &[&[u8]]) -> Result<String, PushError> {
-        let chain: Chain<V, Global> = page(alloc)?;
-        Ok(found(alloc, &chain, keys)?)
+    fn is_searched(alloc: Global) -> Result<bool, PushError> {
+        let mut chain = Chain::of_base(base_of(alloc, &[b"a", b"b", b"c", b"d", b"e"])?);
+        Ok(put_runs(alloc, &mut chain)? && finds_newest(&chain))
     }
 
     #[test]
     fn find_reads_the_newest_word(rt: HostRuntime) -> Result<(), Fail> {
-        // a, c: what the newer run says. b, d: what the older one says. e: what the base has. Nothing names the others.
-        let keys: [&[u8]; 7] = [b"a", b"b", b"c", b"d", b"e", b"", b"f"];
-        let expected = "- 5 6 - 7 - - ";
-        let values = found_on_page::<Value<Global>>(rt.alloc(), keys.as_slice())?;
-        assert_eq!(rt; values.as_str(), expected);
-        let page_ids = found_on_page::<Pid>(rt.alloc(), keys.as_slice())?;
-        assert_eq!(rt; page_ids.as_str(), expected);
+        assert!(rt; is_searched(rt.alloc())?);
         Ok(())
-    }
-
-    // Whether something is found where there is nothing, and how many comparisons it took.
-    fn found_in_nothing(alloc: Global) -> (bool, u64) {
-        let chain: Chain<Pid, Global> = Chain::of_base(Base::empty(alloc));
-        let mut probes = Probes::new();
-        let found = find(&chain, b"a", &mut probes).is_some();
-        (found, probes.count())
-    }
-
-    #[test]
-    fn an_empty_chain_takes_no_comparison(rt: HostRuntime) {
-        let (found, compared) = found_in_nothing(rt.alloc());
-        assert!(rt; !found);
-        assert_eq!(rt; compared, 0);
     }
 }
