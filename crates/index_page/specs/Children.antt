@@ -1,6 +1,8 @@
 -- The children of an index page, each with its range.
-use Rattle.std.specs.Prelude.{ℕ, Bool, List, [], ◌∷◌, Option, Some}
-use Rattle.index_page.specs.Range.{is_within}
+use Rattle.std.specs.Prelude.{◌≡◌, ℕ, ◌<◌, Bool, false, List, [], ◌∷◌, length, Option, Some}
+use Rattle.index_page.specs.Page.{PageOfKind, entries, first_key}
+use Rattle.index_page.specs.Page.PageOfKind.{Leaf, Index}
+use Rattle.index_page.specs.Range.{is_below, is_within}
 
 -- what an entry of an index page says of a child: its pid, and the range from the entry's key to the next entry's
 pub record Place : Type 0 where
@@ -17,3 +19,12 @@ children (e ∷ f ∷ es) end = record { pid = e.1; low = e.0; end = Some f.0 } 
 -- whether the key lies in the range of the place
 abbrev pub is_place_for : List ℕ → Place → Bool
 is_place_for k at = is_within at.low at.end k
+
+-- the entries of an index page; a leaf has no children
+abbrev pub child_entries : PageOfKind → List (List ℕ × ℕ)
+child_entries (Leaf p) = []
+child_entries (Index p) = entries p
+
+-- the page has a child, and the first one's key isn't above the key
+abbrev pub HasChildFor : PageOfKind → List ℕ → Type 0
+HasChildFor p k = (0 < length (child_entries p)) × (is_below k (first_key (child_entries p)) ≡ false)

@@ -1,5 +1,5 @@
 -- A page: its low key, and what it holds.
-use Rattle.std.specs.Prelude.{ℕ, List, [], ◌∷◌, ◌++◌, map, Option, Some}
+use Rattle.std.specs.Prelude.{ℕ, ⊤, List, [], ◌∷◌, ◌++◌, map, Option, Some}
 use Rattle.std.specs.Map.{keys_of}
 use Rattle.delta_chain.specs.Layers.{Layers, entries_of}
 
@@ -12,6 +12,20 @@ pub record Page (V : Type 0) : Type 0 where
 pub data PageOfKind : Type 0 where
   Leaf : Page (List ℕ) → PageOfKind
   Index : Page ℕ → PageOfKind
+
+-- a page's low key, whatever its kind
+abbrev pub low_of : PageOfKind → List ℕ
+low_of (Leaf p) = p.low
+low_of (Index p) = p.low
+
+-- the page is a leaf, or an index page
+abbrev pub IsLeaf : PageOfKind → Type 0
+IsLeaf (Leaf p) = ⊤
+IsLeaf (Index p) = ⊥
+
+abbrev pub IsIndex : PageOfKind → Type 0
+IsIndex (Leaf p) = ⊥
+IsIndex (Index p) = ⊤
 
 -- a page that is a base without runs
 abbrev pub bare : {V : Type 0} → List ℕ → List (List ℕ × V) → Page V

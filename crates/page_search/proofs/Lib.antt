@@ -1,3 +1,4 @@
 mod CostLemmas
 pub mod DigitLaws
+pub mod FloorLaws
 pub mod PlaceLaws

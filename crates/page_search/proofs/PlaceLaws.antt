@@ -21,7 +21,7 @@ rising-by_place ks m n i j r p q l =
     rw (get_or_from_slice_get ks m i i p, get_or_from_slice_get ks n j i q) at (Less-from_sorted order ks m n i r l within)
 
 -- of rising keys, none is above one behind it
-rising-or_same : (ks : List (List ℕ)) (m n : ℕ) (i j : List ℕ) → AreRisingKeys ks → slice_get ks m ≡ Some i → slice_get ks n ≡ Some j → m ≤ n → (order i j ≡ Less) ⊎ (i ≡ j)
+pub rising-or_same : (ks : List (List ℕ)) (m n : ℕ) (i j : List ℕ) → AreRisingKeys ks → slice_get ks m ≡ Some i → slice_get ks n ≡ Some j → m ≤ n → (order i j ≡ Less) ⊎ (i ≡ j)
 rising-or_same ks m n i j r p q l =
     elim (cases_lt m n) [
       | inl b ↦ inl (rising-by_place ks m n i j r p q b)
@@ -30,7 +30,7 @@ rising-or_same ks m n i j r p q l =
 
 -- ---- how many keys are below a key
 
-count_below-cons : (k j : List ℕ) (ks : List (List ℕ)) → count_below k (j ∷ ks) ≡ cond (is_lt (order j k)) 1 0 + count_below k ks
+pub count_below-cons : (k j : List ℕ) (ks : List (List ℕ)) → count_below k (j ∷ ks) ≡ cond (is_lt (order j k)) 1 0 + count_below k ks
 count_below-cons k j ks = sum_by-cons (λ x. cond (is_lt (order x k)) 1 0) j ks
 
 -- no more keys are below k than there are
@@ -152,7 +152,7 @@ module _ {V : Type 0} where
   is_there-place k es at p =
       is_some-lookup (λ j. is_eq (order k j)) es ∙ any_passes_from_place (λ j. is_eq (order k j)) (keys_of es) at k p (is_itself k)
 
-  key_at : (es : List (List ℕ × V)) (at : ℕ) (e : List ℕ × V) → slice_get es at ≡ Some e → slice_get (keys_of es) at ≡ Some e.0
+  pub key_at : (es : List (List ℕ × V)) (at : ℕ) (e : List ℕ × V) → slice_get es at ≡ Some e → slice_get (keys_of es) at ≡ Some e.0
   key_at es at e p = rw (slice_get-map, p) refl
 
   -- where a key would go, the entries have nothing at it

@@ -1,3 +1,4 @@
 pub mod Costs
 pub mod Digits
+pub mod Floor
 pub mod Places

@@ -6,4 +6,4 @@ pub mod probes;
 pub mod search;
 
 pub use crate::probes::Probes;
-pub use crate::search::{find, lower};
+pub use crate::search::{find, floor, lower};

@@ -1,0 +1,187 @@
+ghost use Rattle.std.specs.Prelude.{◌≡◌, ℕ, ◌∷◌, [], true, ◌↔◌, List, Option, map, MatchOption, IsTrue};
+ghost use Rattle.std.specs.List.{filter};
+ghost use Rattle.std.specs.Option.{option_map};
+ghost use Rattle.keys.specs.Order.{IsRising};
+ghost use Rattle.page_search.specs.Floor.{floor};
+ghost use Rattle.index_page.specs.Page.{PageOfKind, low_of, IsLeaf, IsIndex};
+ghost use Rattle.index_page.specs.Page.PageOfKind.{Leaf, Index};
+ghost use Rattle.index_page.specs.Range.{is_before};
+ghost use Rattle.index_page.specs.Children.{children, is_place_for, child_entries, HasChildFor};
+
+use delta_chain::Chain;
+use keys::{Key, Pid, Value};
+use page_search::{Probes, floor};
+use std::alloc::Allocator;
+use std::marker::Model;
+
+/// A page of the tree: the low key, at which its range of keys begins, and its state, a chain of values for a leaf and
+/// of page ids for an index page. Contracts see it as a `PageOfKind`.
+#[derive(Drop)]
+pub struct Page<A: Allocator> {
+    low: Key<A>,
+    state: State<A>,
+}
+
+#[derive(Drop)]
+enum State<A: Allocator> {
+    Values(Chain<Value<A>, A>),
+    Pids(Chain<Pid, A>),
+}
+
+impl<A: Allocator> Model for Page<A> {
+    ghost use Rattle.index_page.specs.Page.{PageOfKind};
+
+    ghost Value = { PageOfKind };
+
+    ghost use Rattle.index_page.specs.Stated.{page_of};
+
+    ghost view = { λ p. page_of p.low p.state };
+}
+
+impl<A: Allocator + Copy> Page<A> {
+    /// The leaf with this low key and these values.
+    pub fn leaf(low: Key<A>, chain: Chain<Value<A>, A>) -> Self
+        ensures { result ≡ Leaf (record { low = low; layers = chain }) }
+    {
+        Page {
+            low,
+            state: State::Values(chain),
+        }
+    }
+
+    /// The index page with this low key and the page ids of these children, each under the child's low key.
+    pub fn index(low: Key<A>, chain: Chain<Pid, A>) -> Self
+        ensures { result ≡ Index (record { low = low; layers = chain }) }
+    {
+        Page {
+            low,
+            state: State::Pids(chain),
+        }
+    }
+
+    /// The bytes of the low key.
+    pub fn low(&self) -> &[u8]
+        ensures { result.now ≡ low_of self.now }
+    {
+        self.low.as_bytes()
+    }
+
+    /// The values, where this is a leaf.
+    pub fn as_leaf(&self) -> Option<&Chain<Value<A>, A>>
+        ensures { MatchOption result (IsIndex self.now) (λ chain. self.now ≡ Leaf (record { low = low_of self.now; layers = chain.now })) }
+    {
+        match &self.state {
+            State::Values(chain) => Some(chain),
+            State::Pids(_) => None,
+        }
+    }
+
+    /// The page ids of the children, where this is an index page.
+    pub fn as_index(&self) -> Option<&Chain<Pid, A>>
+        ensures { MatchOption result (IsLeaf self.now) (λ chain. self.now ≡ Index (record { low = low_of self.now; layers = chain.now })) }
+    {
+        match &self.state {
+            State::Values(_) => None,
+            State::Pids(chain) => Some(chain),
+        }
+    }
+
+    /// Whether this is an index page that has a child at the key or below it, so that `child_for` has an answer.
+    pub fn has_child_for(&self, key: &[u8]) -> bool
+        ensures { IsTrue result ↔ HasChildFor self.now key.now }
+    {
+        self.last_child(key).is_some()
+    }
+
+    /// The page id of the one child in whose range the key lies: the children's ranges follow one another, and the last
+    /// one's ends wherever the page's own does, beyond the key. `has_child_for` is the test for the condition. It takes
+    /// no memory.
+    pub fn child_for(&self, key: &[u8]) -> Pid
+        requires { HasChildFor self.now key.now }
+        ensures { (end : Option (List ℕ)) → is_before end key.now ≡ true → map (λ at. at.pid) (filter (is_place_for key.now) (children (child_entries self.now) end)) ≡ result ∷ [] }
+    {
+        match self.last_child(key) {
+            Some(pid) => pid,
+            None => unreachable!(),
+        }
+    }
+
+    // The page id of the last child whose low key isn't above the key.
+    fn last_child(&self, key: &[u8]) -> Option<Pid>
+        ensures child { result ≡ option_map (λ e. e.1) (floor key.now (child_entries self.now)) }
+        ensures rising { IsRising (child_entries self.now) }
+    {
+        let chain = self.as_index()?;
+        let _in_order = chain.depth();
+        floor(chain, key, &mut Probes::new()).copied()
+    }
+}
+
+#[cfg(test)]
+mod tests {
+    use super::*;
+    use delta_chain::{Base, BaseBuilder, PushError, Run};
+    use std::alloc::Global;
+    use std::test::Fail;
+
+    // The children 0, 1 and 2 at the empty key, d and h; and a run that takes d away and has child 3 at f.
+    fn page(alloc: Global) -> Result<Page<Global>, PushError> {
+        let mut builder = BaseBuilder::with_capacity(alloc, 3)?;
+        builder.push(b"", Pid(0))?;
+        builder.push(b"d", Pid(1))?;
+        builder.push(b"h", Pid(2))?;
+        let mut chain = Chain::of_base(builder.finish());
+        let mut run = Run::with_capacity(alloc, 2)?;
+        run.push(Key::from_bytes(alloc, b"d")?, None)?;
+        run.push(Key::from_bytes(alloc, b"f")?, Some(Pid(3)))?;
+        match chain.prepend(run) {
+            Ok(()) => Ok(Page::index(Key::empty(alloc), chain)),
+            Err(_) => Err(PushError::NoMemory),
+        }
+    }
+
+    // The number of the child, where there is one.
+    fn child(page: &Page<Global>, key: &[u8]) -> Option<u64> {
+        if page.has_child_for(key) {
+            Some(page.child_for(key).0)
+        } else {
+            None
+        }
+    }
+
+    #[test]
+    fn each_key_has_the_child_whose_range_it_is_in(rt: HostRuntime) -> Result<(), Fail> {
+        let page = page(rt.alloc())?;
+        let children: [(&[u8], u64); 7] = [
+            (b"", 0),
+            (b"d", 0),
+            (b"e", 0),
+            (b"f", 3),
+            (b"g", 3),
+            (b"h", 2),
+            (b"z", 2),
+        ];
+        for (key, number) in children {
+            assert_eq!(rt; child(&page, key), Some(number), "{key:?}");
+        }
+        Ok(())
+    }
+
+    #[test]
+    fn a_page_without_children_has_none_for_any_key(rt: HostRuntime) {
+        let leaf = Page::leaf(
+            Key::empty(rt.alloc()),
+            Chain::of_base(Base::empty(rt.alloc())),
+        );
+        assert_eq!(rt; child(&leaf, b"a"), None);
+        assert!(rt; leaf.as_leaf().is_some());
+        assert!(rt; leaf.as_index().is_none());
+        assert_eq!(rt; leaf.low(), b"".as_slice());
+        let index = Page::index(
+            Key::empty(rt.alloc()),
+            Chain::of_base(Base::empty(rt.alloc())),
+        );
+        assert_eq!(rt; child(&index, b"a"), None);
+        assert!(rt; index.as_leaf().is_none());
+    }
+}
