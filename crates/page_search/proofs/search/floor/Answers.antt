@@ -13,7 +13,7 @@ loop-cell-smaller g c =
 pub loop-cell-preserved : goal.loop-cell-preserved
 loop-cell-preserved g c = record {
   same = cell_skips c.args.chain.now c.depth-in_order.ensures.rising _ _ _ c.loop-cell.invariant.same c.in-None.ensures.value c.in-Some-next_below.ensures.value;
-  kept = omega (arith, c.loop-cell.invariant.kept, c.find.ensures.kept, c.next_below.ensures.kept);
+  kept = omega (arith, c.loop-cell.invariant.kept, c.in-None.ensures.kept, c.in-Some-next_below.ensures.kept);
 }
 
 pub returns-in-None-next_below-clause-value : goal.returns-in-None-next_below-clause-value
