@@ -9,6 +9,7 @@ mod Leaves
 mod Literals
 mod Logs
 mod MergedAndCutAgain
+mod OutdatedPids
 mod Pids
 mod Planned
 mod RowEight
