@@ -15,7 +15,7 @@ use Rattle.climb_plan.specs.Climb.{is_lone, kept_under, kept}
 
 -- ---- a level that isn't kept has one page below it
 
-lone_is_over_one : {V : Type 0} (l : List (Placed ℕ)) (level : List (Placed V)) → is_lone l ≡ true → joined l ≡ names level → length level ≡ 1
+pub lone_is_over_one : {V : Type 0} (l : List (Placed ℕ)) (level : List (Placed V)) → is_lone l ≡ true → joined l ≡ names level → length level ≡ 1
 lone_is_over_one [] level e h = absurd (cc)
 lone_is_over_one (p ∷ []) level e h =
     let one : length (entries p) ≡ 1 = eqb-true (length (entries p)) 1 e in

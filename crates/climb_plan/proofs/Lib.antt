@@ -3,6 +3,7 @@ mod Climbs
 mod CutUnderTwoParents
 mod Families
 mod FreshOrder
+mod InUse
 mod Kept
 mod LeadingThinLeaf
 mod Leaves

@@ -57,10 +57,12 @@ pub fn what_is_not_outdated_stands<A: Allocator>()
 
 /// Which pids are outdated: those of the climb, and those that went with the old root. Of a climb they are on the highest
 /// level the outdated ones of its one group, and on a level below those of the groups of its families, and what the climb
-/// goes on to outdate above.
+/// goes on to outdate above. Each was in use, so a fresh pid keeps what the log has of it.
 pub fn outdated_pids_are_those_of_groups_and_of_the_old_root<A: Allocator, V>()
     ensures plan { (s : Settings) (t : Tree) (cs : List (Command A)) (pid : ℕ) → (is_among pid (outdated_pids s t cs) ≡ true) ↔
         ((is_among pid (climbed s t cs).outdated ≡ true) ⊎ (is_among pid (shrunk_pids (climbed s t cs).tower.above) ≡ true)) }
+    ensures in_use { (s : Settings) (t : Tree) (cs : List (Command A)) (pid : ℕ) → IsProper s t → is_among pid (outdated_pids s t cs) ≡ true →
+        is_among pid (keys_of t.pages) ≡ true }
     ensures top { (s : Settings) (used : List ℕ) (i : ℕ) (ws : List (Worked V)) (pid : ℕ) → (is_among pid (climb s used i ws []).outdated ≡ true) ↔ IsOutdatedIn ws pid }
     ensures below { (s : Settings) (used : List ℕ) (i : ℕ) (ws : List (Worked V)) (parents : List (Placed ℕ)) (ups : List (List (Placed ℕ))) (pid : ℕ) →
         let css : List (List (Change V)) = family_changes s used i (families parents ws) in
