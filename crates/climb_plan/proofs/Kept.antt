@@ -1,5 +1,5 @@
 -- The levels that are left once the root has shrunk.
-use Rattle.std.specs.Prelude.{◌≡◌, ◌≢◌, ℕ, zero, suc, ◌≤◌, Bool, true, false, cond, List, [], ◌∷◌, ◌++◌, flat_map, length}
+use Rattle.std.specs.Prelude.{◌≡◌, ◌≢◌, ℕ, zero, suc, ◌≤◌, Bool, true, false, cond, List, [], ◌∷◌, ◌++◌, flat_map, drop, length}
 use Rattle.std.proofs.Common.{refl, sym, ap, ◌∙◌, subst, arith, append-nil, append_assoc}
 use Rattle.std.specs.List.{AllByRecursion}
 use Rattle.std.proofs.lemmas.Bool.{eqb-true, eqb-false}
@@ -15,7 +15,7 @@ use Rattle.climb_plan.specs.Climb.{is_lone, kept_under, kept}
 
 -- ---- a level that isn't kept has one page below it
 
-lone_is_over_one : {V : Type 0} (l : List (Placed ℕ)) (level : List (Placed V)) → is_lone l ≡ true → joined l ≡ names level → length level ≡ 1
+pub lone_is_over_one : {V : Type 0} (l : List (Placed ℕ)) (level : List (Placed V)) → is_lone l ≡ true → joined l ≡ names level → length level ≡ 1
 lone_is_over_one [] level e h = absurd (cc)
 lone_is_over_one (p ∷ []) level e h =
     let one : length (entries p) ≡ 1 = eqb-true (length (entries p)) 1 e in
@@ -79,6 +79,23 @@ pub kept_is_first : (ls : List (List (Placed ℕ))) → (rest : List (List (Plac
 kept_is_first [] = ([], refl)
 kept_is_first (l ∷ ls) = let r = kept_is_first ls in rest_under l (kept ls) r.0 ls r.1
 
+drop_first : (xs ys all : List (List (Placed ℕ))) → xs ++ ys ≡ all → drop (length xs) all ≡ ys
+drop_first xs ys all e = ap (λ (z : List (List (Placed ℕ))). drop (length xs) z) (sym e) ∙ drop_length xs ys
+  where
+    drop_length : (xs ys : List (List (Placed ℕ))) → drop (length xs) (xs ++ ys) ≡ ys
+    drop_length [] ys = refl
+    drop_length (x ∷ xs) ys = drop_length xs ys
+
+-- those that aren't kept
+abbrev pub left : List (List (Placed ℕ)) → List (List (Placed ℕ))
+left ls = drop (length (kept ls)) ls
+
+pub left_is_rest : (ls : List (List (Placed ℕ))) → left ls ≡ (kept_is_first ls).0
+left_is_rest ls = drop_first (kept ls) (kept_is_first ls).0 ls (kept_is_first ls).1
+
+pub kept_and_left : (ls : List (List (Placed ℕ))) → kept ls ++ left ls ≡ ls
+kept_and_left ls = ap (λ (rest : List (List (Placed ℕ))). kept ls ++ rest) (left_is_rest ls) ∙ (kept_is_first ls).1
+
 pub all-kept : (P : List (Placed ℕ) → Type 0) (ls : List (List (Placed ℕ))) → AllByRecursion P ls → AllByRecursion P (kept ls)
 all-kept P ls a =
     let r = kept_is_first ls in
@@ -97,3 +114,38 @@ distinct-kept level ls d =
     ∙ ap (λ (ns : List ℕ). pids level ++ ns) (flat_map-append pids (kept ls) r.0)
     ∙ sym (append_assoc (pids level) (flat_map pids (kept ls)) (flat_map pids r.0)) in
     distinct_left (all_pids level (kept ls)) (flat_map pids r.0) (subst (λ (ns : List ℕ). Distinct ns) e d)
+
+-- ---- each that isn't kept is lone, and the highest that is kept isn't
+
+abbrev AllLone : List (List (Placed ℕ)) → Type 0
+AllLone ls = AllByRecursion (λ l. is_lone l ≡ true) ls
+
+lone_by : (b : Bool) (l : List (Placed ℕ)) (ls : List (List (Placed ℕ))) → is_lone l ≡ b → AllLone ls → AllLone (drop (length (cond b [] (l ∷ []))) (l ∷ ls))
+lone_by true l ls e h = (e, h)
+lone_by false l ls e h = h
+
+lone_under : (l : List (Placed ℕ)) (ls ks : List (List (Placed ℕ))) → AllLone (drop (length ks) ls) → AllLone (drop (length (kept_under l ks)) (l ∷ ls))
+lone_under l ls [] h = lone_by (is_lone l) l ls refl h
+lone_under l ls (up ∷ ups) h = h
+
+pub lone-left : (ls : List (List (Placed ℕ))) → AllLone (left ls)
+lone-left [] = tt
+lone-left (l ∷ ls) = lone_under l ls (kept ls) (lone-left ls)
+
+not_empty : (lower : List (List (Placed ℕ))) (top : List (Placed ℕ)) → [] ≡ lower ++ top ∷ [] → ⊥
+not_empty [] top e = absurd (cc)
+not_empty (x ∷ xs) top e = absurd (cc)
+
+top_by : (b : Bool) (l top : List (Placed ℕ)) (lower : List (List (Placed ℕ))) → is_lone l ≡ b → cond b [] (l ∷ []) ≡ lower ++ top ∷ [] → is_lone top ≡ false
+top_by true l top lower e h = absurd (not_empty lower top h)
+top_by false l top [] e h = let same : l ≡ top = cc in ap (λ (x : List (Placed ℕ)). is_lone x) (sym same) ∙ e
+top_by false l top (x ∷ xs) e h = let rest : [] ≡ xs ++ top ∷ [] = cc in absurd (not_empty xs top rest)
+
+top_under : (l top : List (Placed ℕ)) (ks lower : List (List (Placed ℕ))) → kept_under l ks ≡ lower ++ top ∷ [] → ((less : List (List (Placed ℕ))) → ks ≡ less ++ top ∷ [] → is_lone top ≡ false) → is_lone top ≡ false
+top_under l top [] lower h ih = top_by (is_lone l) l top lower refl h
+top_under l top (up ∷ ups) [] h ih = absurd (cc)
+top_under l top (up ∷ ups) (x ∷ xs) h ih = let rest : up ∷ ups ≡ xs ++ top ∷ [] = cc in ih xs rest
+
+pub top_is_not_lone : (ls lower : List (List (Placed ℕ))) (top : List (Placed ℕ)) → kept ls ≡ lower ++ top ∷ [] → is_lone top ≡ false
+top_is_not_lone [] lower top h = absurd (not_empty lower top h)
+top_is_not_lone (l ∷ ls) lower top h = top_under l top (kept ls) lower h (λ less e. top_is_not_lone ls less top e)

@@ -3,12 +3,14 @@ mod Climbs
 mod CutUnderTwoParents
 mod Families
 mod FreshOrder
+mod InUse
 mod Kept
 mod LeadingThinLeaf
 mod Leaves
 mod Literals
 mod Logs
 mod MergedAndCutAgain
+mod OutdatedPids
 mod Pids
 mod Planned
 mod RowEight

@@ -138,7 +138,7 @@ with_log logged t = record t { logged = logged }
 abbrev pub bases_of : List ℕ → List (ℕ × Logged)
 bases_of pids = map (λ pid. (pid, Upto 0)) pids
 
--- the tree of a new store, but that the log has nothing of it: so the rows that don't speak of the log needn't
+-- the tree of a new store, but that the log has nothing: most rows don't speak of the log
 abbrev pub fresh : Tree
 fresh = with_log [] first_tree
 

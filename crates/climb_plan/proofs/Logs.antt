@@ -1,5 +1,5 @@
 -- What the log has of a page stays true.
-use Rattle.std.specs.Prelude.{◌≡◌, ℕ, ◌<◌, ◌≤◌, ◌⊎◌, ◌↔◌, Bool, true, false, cond, ◌||◌, nat_eq, List, [], ◌∷◌, ◌++◌, flat_map, drop, length, Option, Some, None}
+use Rattle.std.specs.Prelude.{◌≡◌, ℕ, ◌<◌, ◌≤◌, ◌⊎◌, ◌↔◌, Bool, true, false, cond, ◌||◌, nat_eq, List, [], ◌∷◌, ◌++◌, flat_map, length, Option, Some, None}
 use Rattle.std.proofs.Common.{refl, sym, ap, ◌∙◌, subst, arith, inl, inr, length-append}
 use Rattle.std.specs.Ordering.{nat_cmp, is_eq}
 use Rattle.std.specs.List.{AllByRecursion}
@@ -23,7 +23,7 @@ use Rattle.split_plan.proofs.RunLaws.{names-worked_leaves}
 use Rattle.climb_plan.specs.Climb.{Climbed, kept}
 use Rattle.climb_plan.specs.Plan.{climbed, planned_levels, planned_tree, shrunk_pids, outdated_pids, outdate, outdate_all}
 use Rattle.climb_plan.specs.Standing.{Stands}
-use Rattle.climb_plan.proofs.Kept.{kept_is_first}
+use Rattle.climb_plan.proofs.Kept.{kept_is_first, left_is_rest}
 use Rattle.climb_plan.proofs.Planned.{planned_are_levels}
 use Rattle.climb_plan.proofs.Standing.{Has, IsAsBefore, HasAsBefore, StandsIn, AllStandIn, as_before-worked_leaves, stand-climb}
 
@@ -143,13 +143,6 @@ found_above t gone (l ∷ ls) (new ∷ news) n h a f m =
 some_same : (p q : PageOfKind) → Some p ≡ Some q → p ≡ q
 some_same p q e = cc
 
-drop_first : (xs ys all : List (List (Placed ℕ))) → xs ++ ys ≡ all → drop (length xs) all ≡ ys
-drop_first xs ys all e = ap (λ (z : List (List (Placed ℕ))). drop (length xs) z) (sym e) ∙ drop_length xs ys
-  where
-    drop_length : (xs ys : List (List (Placed ℕ))) → drop (length xs) (xs ++ ys) ≡ ys
-    drop_length [] ys = refl
-    drop_length (x ∷ xs) ys = drop_length xs ys
-
 -- ---- the plan
 
 module _ {A : Type 0} (s : Settings) (t : Tree) (cs : List (Command A)) where
@@ -207,8 +200,7 @@ module _ {A : Type 0} (s : Settings) (t : Tree) (cs : List (Command A)) where
         let apart = among_apart pid c.outdated (shrunk_pids c.tower.above) g in
         let f = found_above t.pages c.outdated (levels_of t).above c.tower.above pid proper.held.above levels_stand.1 apart.0 m in
         let r = kept_is_first c.tower.above in
-        let left : drop (length (kept c.tower.above)) c.tower.above ≡ r.0 = drop_first (kept c.tower.above) r.0 c.tower.above r.1 in
-        let not_shrunk : is_among pid (flat_map pids r.0) ≡ false = subst (λ (x : List (List (Placed ℕ))). is_among pid (flat_map pids x) ≡ false) left apart.1 in
+        let not_shrunk : is_among pid (flat_map pids r.0) ≡ false = subst (λ (x : List (List (Placed ℕ))). is_among pid (flat_map pids x) ≡ false) (left_is_rest c.tower.above) apart.1 in
         let split = in_either (kept c.tower.above) r.0 f.after (subst (λ (x : List (List (Placed ℕ))). InLevels x f.after) (sym r.1) f.there) in
         let there : page_at table f.after.pid ≡ Some (Index f.after.page) =
         elim split [

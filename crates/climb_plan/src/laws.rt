@@ -1,5 +1,5 @@
 //! What the plan means. Each law is the contract of a function with an empty body.
-ghost use Rattle.std.specs.Prelude.{◌≡◌, ◌↔◌, ◌⊎◌, ℕ, true, false, not, List, [], ◌∷◌, ◌++◌, map, drop, length, None, Some, if◌then◌else◌};
+ghost use Rattle.std.specs.Prelude.{◌≡◌, ◌↔◌, ◌⊎◌, ℕ, ◌+◌, true, false, not, List, [], ◌∷◌, ◌++◌, map, drop, length, None, Some, if◌then◌else◌};
 ghost use Rattle.std.specs.List.{AllByRecursion, Any, filter, range_with_len};
 ghost use Rattle.std.specs.Map.{keys_of};
 ghost use Rattle.keys.specs.Limits.{first_bad_field};
@@ -8,14 +8,19 @@ ghost use Rattle.keys.specs.declared.command.Command.{Command};
 ghost use Rattle.keys.specs.declared.command.Command.TheVariants.{Get};
 ghost use Rattle.keys.specs.declared.settings.Settings.{Settings};
 ghost use Rattle.index_page.specs.Page.{PageOfKind};
-ghost use Rattle.mapping.specs.Tree.{Store, page_at, logged_of};
+ghost use Rattle.mapping.specs.Tree.{Tree, Store, page_at, logged_of};
 ghost use Rattle.mapping.specs.Tree.Logged.{No, Upto};
 ghost use Rattle.mapping.specs.FreshPids.{is_among, unused};
 ghost use Rattle.mapping.specs.Levels.{Placed, contents, levels_of, pids, all_pids};
 ghost use Rattle.mapping.specs.Proper.{AreLogsTrue, IsProper};
 ghost use Rattle.page_runs.specs.NetRun.{net_run};
+ghost use Rattle.page_runs.specs.Worked.{Worked, is_thin};
+ghost use Rattle.split_plan.specs.Groups.{groups};
+ghost use Rattle.split_plan.specs.WorkedLevel.{worked_parents};
+ghost use Rattle.split_plan.specs.Change.{Change, family_changes, all_fresh, IsOutdatedIn};
+ghost use Rattle.split_plan.specs.Terms.{terms};
 ghost use Rattle.climb_plan.specs.Limits.{AreShort};
-ghost use Rattle.climb_plan.specs.Climb.{is_lone, kept};
+ghost use Rattle.climb_plan.specs.Climb.{families, climb, is_lone, kept};
 ghost use Rattle.climb_plan.specs.Plan.{climbed, plan, outdate, outdated_pids, shrunk_pids};
 ghost use Rattle.climb_plan.specs.Standing.{Stands};
 
@@ -48,6 +53,30 @@ pub fn what_is_not_outdated_stands<A: Allocator>()
     ensures stands { (s : Settings) (st : Store) (cs : List (Command A)) (pid : ℕ) (p : PageOfKind) → first_bad_field s ≡ None → IsProper s st.tree →
         is_among pid (outdated_pids s st.tree cs) ≡ false → page_at st.tree.pages pid ≡ Some p →
         (q : PageOfKind) × (page_at (plan s st cs).tree.pages pid ≡ Some q) × Stands p q }
+{}
+
+/// Which pids are outdated: those of the climb, and those that went with the old root. Of a climb they are on the highest
+/// level the outdated ones of its one group, and on a level below those of the groups of its families, and what the climb
+/// goes on to outdate above. Each was in use, so a fresh pid keeps what the log has of it.
+pub fn outdated_pids_are_those_of_groups_and_of_the_old_root<A: Allocator, V>()
+    ensures plan { (s : Settings) (t : Tree) (cs : List (Command A)) (pid : ℕ) → (is_among pid (outdated_pids s t cs) ≡ true) ↔
+        ((is_among pid (climbed s t cs).outdated ≡ true) ⊎ (is_among pid (shrunk_pids (climbed s t cs).tower.above) ≡ true)) }
+    ensures in_use { (s : Settings) (t : Tree) (cs : List (Command A)) (pid : ℕ) → IsProper s t → is_among pid (outdated_pids s t cs) ≡ true →
+        is_among pid (keys_of t.pages) ≡ true }
+    ensures top { (s : Settings) (used : List ℕ) (i : ℕ) (ws : List (Worked V)) (pid : ℕ) → (is_among pid (climb s used i ws []).outdated ≡ true) ↔ IsOutdatedIn ws pid }
+    ensures below { (s : Settings) (used : List ℕ) (i : ℕ) (ws : List (Worked V)) (parents : List (Placed ℕ)) (ups : List (List (Placed ℕ))) (pid : ℕ) →
+        let css : List (List (Change V)) = family_changes s used i (families parents ws) in
+        (is_among pid (climb s used i ws (parents ∷ ups)).outdated ≡ true) ↔
+        (Any (λ f. Any (λ g. IsOutdatedIn g pid) (groups is_thin f)) (families parents ws)
+        ⊎ (is_among pid (climb s used (i + length (all_fresh css)) (worked_parents s parents (map terms css)) ups).outdated ≡ true)) }
+{}
+
+/// The root shrinks while it has one child: the levels that go are the highest, each of them is one page with one child,
+/// and the highest that stays isn't.
+pub fn the_root_shrinks_while_it_has_one_child()
+    ensures joined { (ls : List (List (Placed ℕ))) → kept ls ++ drop (length (kept ls)) ls ≡ ls }
+    ensures lone { (ls : List (List (Placed ℕ))) → AllByRecursion (λ l. is_lone l ≡ true) (drop (length (kept ls)) ls) }
+    ensures top { (ls lower : List (List (Placed ℕ))) (top : List (Placed ℕ)) → kept ls ≡ lower ++ top ∷ [] → is_lone top ≡ false }
 {}
 
 /// Commands that come to nothing, a batch of gets among them, leave the store as it is: every page, the root, the height,

@@ -18,7 +18,7 @@ use Rattle.mapping.proofs.TableLaws.{total, equal_by, same_pid, differ, rising-b
 -- ---- tables with the same pages
 
 -- what holds of all numbers of a list holds of one that is among them
-holds_among : (P : ℕ → Type 0) (n : ℕ) (ns : List ℕ) → AllByRecursion P ns → is_among n ns ≡ true → P n
+pub holds_among : (P : ℕ → Type 0) (n : ℕ) (ns : List ℕ) → AllByRecursion P ns → is_among n ns ≡ true → P n
 holds_among P n [] a h = absurd (cc)
 holds_among P n (m ∷ ms) a h =
     elim (among_either_by (nat_eq n m) (is_among n ms) h) [

@@ -1,12 +1,14 @@
 -- Lemmas on which pids are outdated by changes, for the proofs of this crate and of those above it.
-use Rattle.std.specs.Prelude.{◌≡◌, ℕ, zero, suc, ◌<◌, ◌⊎◌, ◌↔◌, Bool, true, false, cond, ◌||◌, nat_eq, List, [], ◌∷◌, map, flat_map, length}
+use Rattle.std.specs.Prelude.{◌≡◌, ℕ, zero, suc, ◌+◌, ◌<◌, ◌⊎◌, ◌↔◌, Bool, true, false, cond, ◌||◌, nat_eq, List, [], ◌∷◌, map, flat_map, length}
 use Rattle.std.proofs.Common.{refl, sym, ap, ◌∙◌, subst, arith, inl, inr, get_or}
 use Rattle.std.specs.List.{Any, filter}
 use Rattle.std.proofs.lemmas.Bool.{eq-eqb, eqb-true}
 use Rattle.mapping.specs.FreshPids.{is_among}
 use Rattle.mapping.proofs.PidLaws.{or_true_right, later_among, among_either_by, among_either, among_left, among_right}
-use Rattle.page_runs.specs.Worked.{Worked}
-use Rattle.split_plan.specs.Change.{Change, is_rewritten, outdated, all_outdated}
+use Rattle.keys.specs.declared.settings.Settings.{Settings}
+use Rattle.page_runs.specs.Worked.{Worked, is_thin}
+use Rattle.split_plan.specs.Groups.{groups}
+use Rattle.split_plan.specs.Change.{Change, is_rewritten, remade, fresh, changes, family_changes, fresh_of, outdated, IsOutdatedIn, all_outdated}
 
 -- ---- some element
 
@@ -29,25 +31,6 @@ module _ {X : Type 0} (P : X → Type 0) where
 
   any_weaker : (Q : X → Type 0) (xs : List X) → ((x : X) → P x → Q x) → Any P xs → Any Q xs
   any_weaker Q xs f h = (h.0, h.1, h.2, h.3, f h.1 h.4)
-
--- ---- a number among joined lists is among one of them
-
-module _ {X : Type 0} (f : X → List ℕ) (n : ℕ) where
-  among_some : (xs : List X) → is_among n (flat_map f xs) ≡ true → Any (λ x. is_among n (f x) ≡ true) xs
-  among_some [] h = absurd (cc)
-  among_some (x ∷ xs) h =
-      elim (among_either n (f x) (flat_map f xs) h) [
-        | inl a ↦ any_here (λ y. is_among n (f y) ≡ true) x xs a
-        | inr b ↦ any_later (λ y. is_among n (f y) ≡ true) x xs (among_some xs b)
-      ]
-
-  some_among : (xs : List X) → Any (λ x. is_among n (f x) ≡ true) xs → is_among n (flat_map f xs) ≡ true
-  some_among [] h = absurd (any_of_none (λ (x : X). is_among n (f x) ≡ true) h)
-  some_among (x ∷ xs) h =
-      elim (any_cases (λ y. is_among n (f y) ≡ true) x xs h) [
-        | inl a ↦ among_left n (f x) (flat_map f xs) a
-        | inr b ↦ among_right n (f x) (flat_map f xs) (some_among xs b)
-      ]
 
 -- ---- the pids of pages that pass a test
 
@@ -92,7 +75,7 @@ true_right a b h = ap (λ (x : Bool). a || x) h ∙ or_true_right a
 
 module _ {V : Type 0} where
   -- of one change: the members that were replaced, and all where the group is rewritten
-  pub outdated_members : (c : Change V) (pid : ℕ) → (is_among pid (outdated c) ≡ true) ↔ Any (λ w. (w.placed.pid ≡ pid) × ((w.replaced ≡ true) ⊎ (is_rewritten c.members ≡ true))) c.members
+  pub outdated_members : (c : Change V) (pid : ℕ) → (is_among pid (outdated c) ≡ true) ↔ IsOutdatedIn c.members pid
   outdated_members c pid =
       let rewritten : Bool = is_rewritten c.members in
       let test : Worked V → Bool = λ w. w.replaced || is_rewritten c.members in
@@ -102,11 +85,56 @@ module _ {V : Type 0} where
         λ h. passes_listed test pid c.members (any_weaker Q P c.members (λ w q. (q.0, elim q.1 [ inl r ↦ true_left w.replaced rewritten r | inr r ↦ true_right w.replaced rewritten r ])) h),
       )
 
-  -- of a level: those of its changes
-  pub outdated_of_level : (css : List (List (Change V))) (pid : ℕ) → (is_among pid (all_outdated css) ≡ true) ↔ Any (λ cs. Any (λ c. is_among pid (outdated c) ≡ true) cs) css
-  outdated_of_level css pid =
-      let P : List (Change V) → Type 0 = λ cs. is_among pid (flat_map outdated cs) ≡ true in
-      let Q : List (Change V) → Type 0 = λ cs. Any (λ c. is_among pid (outdated c) ≡ true) cs in (
-        λ h. any_weaker P Q css (λ cs p. among_some outdated pid cs p) (among_some (λ cs. flat_map outdated cs) pid css h),
-        λ h. some_among (λ cs. flat_map outdated cs) pid css (any_weaker Q P css (λ cs q. some_among outdated pid cs q) h),
-      )
+  -- of groups
+  outdated_in_some : (s : Settings) (used : List ℕ) (i : ℕ) (gs : List (List (Worked V))) (pid : ℕ) → is_among pid (flat_map outdated (changes s used i gs)) ≡ true → Any (λ g. IsOutdatedIn g pid) gs
+  outdated_in_some s used i [] pid h = absurd (cc)
+  outdated_in_some s used i (g ∷ gs) pid h =
+      let c : Change V = record { members = g; pages = remade s used i g } in
+      let j : ℕ = i + length (fresh c) in
+      let P : List (Worked V) → Type 0 = λ g. IsOutdatedIn g pid in
+      elim (among_either pid (outdated c) (flat_map outdated (changes s used j gs)) h) [
+        | inl a ↦ any_here P g gs ((outdated_members c pid).0 a)
+        | inr b ↦ any_later P g gs (outdated_in_some s used j gs pid b)
+      ]
+
+  some_outdated_in : (s : Settings) (used : List ℕ) (i : ℕ) (gs : List (List (Worked V))) (pid : ℕ) → Any (λ g. IsOutdatedIn g pid) gs → is_among pid (flat_map outdated (changes s used i gs)) ≡ true
+  some_outdated_in s used i [] pid h = absurd (any_of_none (λ (g : List (Worked V)). IsOutdatedIn g pid) h)
+  some_outdated_in s used i (g ∷ gs) pid h =
+      let c : Change V = record { members = g; pages = remade s used i g } in
+      let j : ℕ = i + length (fresh c) in
+      let later : List ℕ = flat_map outdated (changes s used j gs) in
+      elim (any_cases (λ g. IsOutdatedIn g pid) g gs h) [
+        | inl a ↦ among_left pid (outdated c) later ((outdated_members c pid).1 a)
+        | inr b ↦ among_right pid (outdated c) later (some_outdated_in s used j gs pid b)
+      ]
+
+  pub outdated_of_groups : (s : Settings) (used : List ℕ) (i : ℕ) (gs : List (List (Worked V))) (pid : ℕ) → (is_among pid (flat_map outdated (changes s used i gs)) ≡ true) ↔ Any (λ g. IsOutdatedIn g pid) gs
+  outdated_of_groups s used i gs pid = (outdated_in_some s used i gs pid, some_outdated_in s used i gs pid)
+
+  -- and of families
+  abbrev IsOutdatedInFamily : ℕ → List (Worked V) → Type 0
+  IsOutdatedInFamily pid f = Any (λ g. IsOutdatedIn g pid) (groups is_thin f)
+
+  in_some_family : (s : Settings) (used : List ℕ) (i : ℕ) (fs : List (List (Worked V))) (pid : ℕ) → is_among pid (all_outdated (family_changes s used i fs)) ≡ true → Any (IsOutdatedInFamily pid) fs
+  in_some_family s used i [] pid h = absurd (cc)
+  in_some_family s used i (f ∷ fs) pid h =
+      let cs : List (Change V) = changes s used i (groups is_thin f) in
+      let j : ℕ = i + length (fresh_of cs) in
+      elim (among_either pid (flat_map outdated cs) (all_outdated (family_changes s used j fs)) h) [
+        | inl a ↦ any_here (IsOutdatedInFamily pid) f fs (outdated_in_some s used i (groups is_thin f) pid a)
+        | inr b ↦ any_later (IsOutdatedInFamily pid) f fs (in_some_family s used j fs pid b)
+      ]
+
+  some_family_in : (s : Settings) (used : List ℕ) (i : ℕ) (fs : List (List (Worked V))) (pid : ℕ) → Any (IsOutdatedInFamily pid) fs → is_among pid (all_outdated (family_changes s used i fs)) ≡ true
+  some_family_in s used i [] pid h = absurd (any_of_none (IsOutdatedInFamily pid) h)
+  some_family_in s used i (f ∷ fs) pid h =
+      let cs : List (Change V) = changes s used i (groups is_thin f) in
+      let j : ℕ = i + length (fresh_of cs) in
+      let later : List ℕ = all_outdated (family_changes s used j fs) in
+      elim (any_cases (IsOutdatedInFamily pid) f fs h) [
+        | inl a ↦ among_left pid (flat_map outdated cs) later (some_outdated_in s used i (groups is_thin f) pid a)
+        | inr b ↦ among_right pid (flat_map outdated cs) later (some_family_in s used j fs pid b)
+      ]
+
+  pub outdated_of_families : (s : Settings) (used : List ℕ) (i : ℕ) (fs : List (List (Worked V))) (pid : ℕ) → (is_among pid (all_outdated (family_changes s used i fs)) ≡ true) ↔ Any (IsOutdatedInFamily pid) fs
+  outdated_of_families s used i fs pid = (in_some_family s used i fs pid, some_family_in s used i fs pid)

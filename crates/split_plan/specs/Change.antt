@@ -1,6 +1,6 @@
 -- What is made of the groups of a level's pages.
-use Rattle.std.specs.Prelude.{ℕ, suc, ◌+◌, Bool, true, false, ◌||◌, List, [], ◌∷◌, map, flat_map, drop, length, if◌then◌else◌}
-use Rattle.std.specs.List.{filter}
+use Rattle.std.specs.Prelude.{◌≡◌, ℕ, suc, ◌+◌, ◌⊎◌, Bool, true, false, ◌||◌, List, [], ◌∷◌, map, flat_map, drop, length, if◌then◌else◌}
+use Rattle.std.specs.List.{filter, Any}
 use Rattle.keys.specs.declared.settings.Settings.{Settings}
 use Rattle.index_page.specs.Page.{bare, first_key}
 use Rattle.mapping.specs.Levels.{Placed, joined}
@@ -80,5 +80,10 @@ all_fresh css = flat_map fresh_of css
 abbrev pub outdated : {V : Type 0} → Change V → List ℕ
 outdated c = map (λ w. w.placed.pid) (filter (λ w. w.replaced || is_rewritten c.members) c.members)
 
+-- of all parents of a level
 abbrev pub all_outdated : {V : Type 0} → List (List (Change V)) → List ℕ
 all_outdated css = flat_map (λ cs. flat_map outdated cs) css
+
+-- the pid is that of a member of the group that was replaced, or of any member where the group is rewritten
+abbrev pub IsOutdatedIn : {V : Type 0} → List (Worked V) → ℕ → Type 0
+IsOutdatedIn g pid = Any (λ w. (w.placed.pid ≡ pid) × ((w.replaced ≡ true) ⊎ (is_rewritten g ≡ true))) g

@@ -1,5 +1,5 @@
 //! What the definitions of `specs/` mean. Each law is the contract of a function with an empty body.
-ghost use Rattle.std.specs.Prelude.{◌≡◌, ◌<◌, ◌/◌, ℕ, ◌⊎◌, ◌↔◌, Bool, true, false, List, [], ◌∷◌, Option, Some, None, length, drop};
+ghost use Rattle.std.specs.Prelude.{◌≡◌, ◌<◌, ◌/◌, ℕ, ◌⊎◌, ◌↔◌, Bool, true, false, List, [], ◌∷◌, Option, Some, None, length, drop, flat_map};
 ghost use Rattle.std.specs.List.{AllByRecursion, Any};
 ghost use Rattle.keys.specs.Order.{IsRising};
 ghost use Rattle.keys.specs.OrderedMap.{value_at};
@@ -13,7 +13,7 @@ ghost use Rattle.split_plan.specs.Cut.{piece_count, cut, AllAtMost, AllAtLeast};
 ghost use Rattle.split_plan.specs.Groups.{groups, count_kept, begins_thin};
 ghost use Rattle.page_runs.specs.Worked.{Worked, is_thin, is_fat};
 ghost use Rattle.split_plan.specs.WorkedLevel.{worked_leaves, placed_of};
-ghost use Rattle.split_plan.specs.Change.{Change, is_rewritten, changes, new_of, fresh_of, outdated, all_outdated};
+ghost use Rattle.split_plan.specs.Change.{Change, is_rewritten, changes, family_changes, new_of, fresh_of, outdated, IsOutdatedIn, all_outdated};
 ghost use Rattle.split_plan.specs.Terms.{freed_of, terms, term_at};
 
 /// The pieces of a cut, joined, are the entries; none has more than `fan`, and of more than `fan` entries none has
@@ -40,12 +40,13 @@ pub fn a_group_is_rewritten_for_its_members<V>()
 {}
 
 /// Which pids are outdated: of a group those of the members that their run replaced, and where the group is rewritten
-/// those of all members; of a level those of its groups.
+/// those of all members; of a family those of its groups, and of a level those of its families.
 pub fn outdated_pages_were_replaced_or_rewritten<V>()
-    ensures members { (c : Change V) (pid : ℕ) → (is_among pid (outdated c) ≡ true) ↔
-        Any (λ w. (w.placed.pid ≡ pid) × ((w.replaced ≡ true) ⊎ (is_rewritten c.members ≡ true))) c.members }
-    ensures level { (css : List (List (Change V))) (pid : ℕ) → (is_among pid (all_outdated css) ≡ true) ↔
-        Any (λ cs. Any (λ c. is_among pid (outdated c) ≡ true) cs) css }
+    ensures members { (c : Change V) (pid : ℕ) → (is_among pid (outdated c) ≡ true) ↔ IsOutdatedIn c.members pid }
+    ensures family { (s : Settings) (used : List ℕ) (i : ℕ) (gs : List (List (Worked V))) (pid : ℕ) →
+        (is_among pid (flat_map outdated (changes s used i gs)) ≡ true) ↔ Any (λ g. IsOutdatedIn g pid) gs }
+    ensures level { (s : Settings) (used : List ℕ) (i : ℕ) (fs : List (List (Worked V))) (pid : ℕ) →
+        (is_among pid (all_outdated (family_changes s used i fs)) ≡ true) ↔ Any (λ f. Any (λ g. IsOutdatedIn g pid) (groups is_thin f)) fs }
 {}
 
 /// Leaves after their parts of a run have, joined, all their entries with the run applied.
