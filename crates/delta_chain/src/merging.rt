@@ -111,7 +111,7 @@ pub(crate) fn copied<V: Cell<A> + Drop, A: Allocator + Copy>(
     for at in 0..pairs.len() {
         let key = Key::from_bytes(alloc, pairs.key(at))?;
         let cell = pairs.cell(at).copy(alloc)?;
-        all.push((key, cell))?;
+        all.push_reserved((key, cell));
     }
     Ok(all)
 }
