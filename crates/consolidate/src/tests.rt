@@ -1,101 +1,78 @@
 use crate::consolidate;
-use delta_chain::{Base, BaseBuilder, Chain, PushError, Run};
-use keys::{Cell, Key, Pid, Value};
+use delta_chain::{BaseBuilder, Chain, PushError, Run};
+use keys::{Key, Value};
 use std::alloc::{AllocError, Global};
 use std::test::Fail;
 
-// A cell made of a number, from which the number is read again.
-trait Numbered: Cell<Global> + Drop {
-    fn of(alloc: Global, number: u8) -> Result<Self, AllocError>;
-
-    fn number(&self) -> u64;
+// Two runs in front: the older takes b away and sets c to 3, the newer takes a away and sets b again, to 4.
+fn put_runs(alloc: Global, chain: &mut Chain<Value<Global>, Global>) -> Result<(), PushError> {
+    let mut older = Run::with_capacity(alloc, 2)?;
+    older.push(Key::from_bytes(alloc, b"b")?, None)?;
+    older.push(
+        Key::from_bytes(alloc, b"c")?,
+        Some(Value::from_bytes(alloc, b"3")?),
+    )?;
+    let mut newer = Run::with_capacity(alloc, 2)?;
+    newer.push(Key::from_bytes(alloc, b"a")?, None)?;
+    newer.push(
+        Key::from_bytes(alloc, b"b")?,
+        Some(Value::from_bytes(alloc, b"4")?),
+    )?;
+    if chain.prepend(older).is_err() || chain.prepend(newer).is_err() {
+        return Err(PushError::NoMemory);
+    }
+    Ok(())
 }
 
-impl Numbered for Value<Global> {
-    fn of(alloc: Global, number: u8) -> Result<Self, AllocError> {
-        Value::from_bytes(alloc, &[number])
+// Whether the page becomes a base of just these entries.
+fn becomes(
+    alloc: Global,
+    chain: &Chain<Value<Global>, Global>,
+    entries: &[(&[u8], &[u8])],
+) -> Result<bool, AllocError> {
+    let base = consolidate(alloc, chain)?;
+    if base.len() != entries.len() {
+        return Ok(false);
     }
-
-    fn number(&self) -> u64 {
-        match self.as_bytes() {
-            [number] => u64::from(*number),
-            _ => u64::MAX,
+    for (at, (key, value)) in entries.iter().enumerate() {
+        if base.key(at) != *key || base.cell(at).as_bytes() != *value {
+            return Ok(false);
         }
     }
+    Ok(true)
 }
 
-impl Numbered for Pid {
-    fn of(_alloc: Global, number: u8) -> Result<Self, AllocError> {
-        Ok(Pid(u64::from(number)))
-    }
-
-    fn number(&self) -> u64 {
-        self.0
-    }
-}
-
-// Puts a run of these changes in front of the chain.
-fn prepend<V: Numbered>(
+// Whether the page is consolidated without runs, and then with two.
+fn is_consolidated(
     alloc: Global,
-    chain: &mut Chain<V, Global>,
-    changes: &[(&[u8], Option<u8>)],
-) -> Result<(), PushError> {
-    let mut run = Run::with_capacity(alloc, changes.len())?;
-    for (key, change) in changes {
-        let cell = match change {
-            Some(number) => Some(V::of(alloc, *number)?),
-            None => None,
-        };
-        run.push(Key::from_bytes(alloc, *key)?, cell)?;
-    }
-    match chain.prepend(run) {
-        Ok(()) => Ok(()),
-        Err(_) => Err(PushError::NoMemory),
-    }
+    chain: &mut Chain<Value<Global>, Global>,
+) -> Result<bool, PushError> {
+    let alone = becomes(alloc, chain, &[(b"a", b"1"), (b"b", b"2")])?;
+    put_runs(alloc, chain)?;
+    let under_runs = becomes(alloc, chain, &[(b"b", b"4"), (b"c", b"3")])?;
+    Ok(alone && under_runs)
 }
 
-// The base a=1, b=2 with two runs in front: the older takes b away and sets c to 3, the newer takes a away and sets
-// b again, to 4.
-fn page<V: Numbered>(alloc: Global) -> Result<Chain<V, Global>, PushError> {
+// The page begins as the base a=1, b=2.
+fn is_right(alloc: Global) -> Result<bool, PushError> {
     let mut builder = BaseBuilder::with_capacity(alloc, 2)?;
-    builder.push(b"a", V::of(alloc, 1)?)?;
-    builder.push(b"b", V::of(alloc, 2)?)?;
+    builder.push(b"a", Value::from_bytes(alloc, b"1")?)?;
+    builder.push(b"b", Value::from_bytes(alloc, b"2")?)?;
     let mut chain = Chain::of_base(builder.finish());
-    prepend(alloc, &mut chain, &[(b"b", None), (b"c", Some(3))])?;
-    prepend(alloc, &mut chain, &[(b"a", None), (b"b", Some(4))])?;
-    Ok(chain)
+    is_consolidated(alloc, &mut chain)
 }
 
-// The base as text: each key with its number.
-fn shown<V: Numbered>(alloc: Global, base: &Base<V, Global>) -> Result<String, AllocError> {
-    let mut text = String::new(alloc);
-    for at in 0..base.len() {
-        let key = str::from_utf8(base.key(at)).unwrap_or("?");
-        write!(text, "{key}={} ", base.cell(at).number())?;
-    }
-    Ok(text)
-}
-
-fn consolidated<V: Numbered>(alloc: Global) -> Result<String, PushError> {
-    let chain: Chain<V, Global> = page(alloc)?;
-    let base = consolidate(alloc, &chain)?;
-    Ok(shown(alloc, &base)?)
+#[test]
+fn a_page_is_consolidated_without_runs_and_with_two(rt: HostRuntime) -> Result<(), Fail> {
+    assert!(rt; is_right(rt.alloc())?);
+    Ok(())
 }
 
 // True also where an allocation is refused, as by `rt try --test --fail-alloc N`: then there is no base.
 #[test]
-fn values_are_consolidated(rt: HostRuntime) {
-    match consolidated::<Value<Global>>(rt.alloc()) {
-        Ok(shown) => assert_eq!(rt; shown.as_str(), "b=4 c=3 "),
-        Err(refused) => assert_eq!(rt; refused, PushError::NoMemory),
-    }
-}
-
-// True also where an allocation is refused.
-#[test]
-fn page_ids_are_consolidated(rt: HostRuntime) {
-    match consolidated::<Pid>(rt.alloc()) {
-        Ok(shown) => assert_eq!(rt; shown.as_str(), "b=4 c=3 "),
+fn refused_memory_gives_no_base(rt: HostRuntime) {
+    match is_right(rt.alloc()) {
+        Ok(is_right) => assert!(rt; is_right),
         Err(refused) => assert_eq!(rt; refused, PushError::NoMemory),
     }
 }

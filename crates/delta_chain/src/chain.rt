@@ -58,6 +58,7 @@ impl<V, A: Allocator + Copy> Chain<V, A> {
         ensures count { result ≡ min (depth_of self.now) u64.MAX }
         ensures rising { IsInOrder self.now }
     {
+        // The lengths are looked up for what `len` says of the order of the keys.
         match &self.link {
             Link::Bottom(base) => {
                 let _rising = base.len();

@@ -1,8 +1,9 @@
 //! A run applied to the pairs under it, by one walk over both.
-ghost use Rattle.std.specs.Prelude.{◌≡◌, ◌<◌, ◌∷◌, ◌++◌, [], length, drop, slice_get, IfOk, OnOk};
+ghost use Rattle.std.specs.Prelude.{◌≡◌, ◌<◌, ◌≤◌, ◌+◌, ◌-◌, ◌++◌, length, drop, vec_len, vec_capacity, IfOk};
 ghost use Rattle.std.specs.Option.{option_copied};
 ghost use Rattle.keys.specs.Order.{IsRising};
 ghost use Rattle.delta_chain.specs.Layers.{with_run};
+ghost use Rattle.delta_chain.specs.Lent.{pairs_lent};
 ghost use Rattle.delta_chain.specs.Merging.{present, first_order};
 
 use crate::base::Base;
@@ -21,11 +22,11 @@ pub(crate) fn lent_base<V, A: Allocator + Copy>(
     ensures rising { IfOk result (λ pairs. IsRising pairs) }
 {
     let count = base.len();
-    let mut pairs = Pairs::with_capacity(alloc, count)?;
+    let mut lent = Vec::with_capacity(alloc, count)?;
     for at in 0..count {
-        pairs.push(base.key(at), base.cell(at))?;
+        lent.push_reserved((base.key(at), base.cell(at)));
     }
-    Ok(pairs)
+    Ok(Pairs::of_list(lent))
 }
 
 /// The pairs under a run with its changes: each pair of the lower list that the run doesn't name, and each key of
@@ -40,25 +41,28 @@ pub(crate) fn with_run<'a, V, A: Allocator + Copy>(
     ensures rising { IfOk result (λ pairs. IsRising pairs) }
 {
     let changes = run.len();
-    let mut pairs = Pairs::with_capacity(alloc, under.len().saturating_add(changes))?;
+    let Some(room) = under.len().checked_add(changes) else {
+        return Err(AllocError);
+    };
+    let mut lent = Vec::with_capacity(alloc, room)?;
     let mut from = 0;
     let mut at = 0;
     while at < changes {
         let key = run.key(at);
         match order_at(under, from, key) {
             Ordering::Less => {
-                pairs.push(under.key(from), under.cell(from))?;
+                lent.push_reserved((under.key(from), under.cell(from)));
                 from += 1;
             }
             Ordering::Equal => from += 1,
             Ordering::Greater => {
-                push_change(&mut pairs, key, run.change(at))?;
+                push_change(&mut lent, key, run.change(at));
                 at += 1;
             }
         }
     }
-    push_rest(&mut pairs, under, from)?;
-    Ok(pairs)
+    push_rest(&mut lent, under, from);
+    Ok(Pairs::of_list(lent))
 }
 
 // How the pair at this place stands to the key; behind the last pair, as one above every key.
@@ -72,32 +76,34 @@ fn order_at<V, A: Allocator + Copy>(pairs: &Pairs<'_, V, A>, at: usize, key: &[u
     }
 }
 
-// Puts the key with its cell behind the pairs, where the change has one.
+// Puts the key with its cell behind the others, where the change has one. There is room for it.
 fn push_change<'a, V, A: Allocator + Copy>(
-    pairs: &mut Pairs<'a, V, A>,
+    lent: &mut Vec<(&'a [u8], &'a V), A>,
     key: &'a [u8],
     change: Option<&'a V>,
-) -> Result<(), AllocError>
-    ensures { OnOk result (pairs.new ≡ pairs.old ++ present key.now (option_copied change.entry)) }
+)
+    requires { vec_len lent.old < vec_capacity lent.old }
+    ensures pairs { pairs_lent lent.new.items ≡ pairs_lent lent.old.items ++ present key.now (option_copied change.entry) }
+    ensures count { vec_len lent.new ≤ vec_len lent.old + 1 }
+    ensures room { vec_capacity lent.new ≡ vec_capacity lent.old }
 {
-    match change {
-        Some(cell) => pairs.push(key, cell),
-        None => Ok(()),
+    if let Some(cell) = change {
+        lent.push_reserved((key, cell));
     }
 }
 
-// Puts the lower pairs from this place on behind the pairs.
+// Puts the lower pairs from this place on behind the others. There is room for them.
 fn push_rest<'a, V, A: Allocator + Copy>(
-    pairs: &mut Pairs<'a, V, A>,
+    lent: &mut Vec<(&'a [u8], &'a V), A>,
     under: &Pairs<'a, V, A>,
     from: usize,
-) -> Result<(), AllocError>
-    ensures { OnOk result (pairs.new ≡ pairs.old ++ drop from under.now) }
+)
+    requires { vec_len lent.old + (length under.now - from) ≤ vec_capacity lent.old }
+    ensures { pairs_lent lent.new.items ≡ pairs_lent lent.old.items ++ drop from under.now }
 {
     for at in from..under.len() {
-        pairs.push(under.key(at), under.cell(at))?;
+        lent.push_reserved((under.key(at), under.cell(at)));
     }
-    Ok(())
 }
 
 /// Copies of the pairs.
@@ -111,7 +117,7 @@ pub(crate) fn copied<V: Cell<A> + Drop, A: Allocator + Copy>(
     for at in 0..pairs.len() {
         let key = Key::from_bytes(alloc, pairs.key(at))?;
         let cell = pairs.cell(at).copy(alloc)?;
-        all.push((key, cell))?;
+        all.push_reserved((key, cell));
     }
     Ok(all)
 }

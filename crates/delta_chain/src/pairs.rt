@@ -1,7 +1,8 @@
-ghost use Rattle.std.specs.Prelude.{◌≡◌, ◌<◌, ◌∷◌, ◌++◌, [], length, slice_get, IfOk, OnOk, OnErr};
+ghost use Rattle.std.specs.Prelude.{◌≡◌, ◌<◌, length, slice_get, Some};
 ghost use Rattle.std.specs.Map.{keys_of, values_of};
+ghost use Rattle.delta_chain.specs.Lent.{pairs_lent};
 
-use std::alloc::{AllocError, Allocator};
+use std::alloc::Allocator;
 use std::marker::Model;
 
 /// A page's entries, lent out of its runs and its base. Contracts see them as the list of pairs.
@@ -21,21 +22,11 @@ impl<'a, V, A: Allocator> Model for Pairs<'a, V, A> {
 }
 
 impl<'a, V, A: Allocator + Copy> Pairs<'a, V, A> {
-    // No pairs, with room for this many.
-    pub(crate) fn with_capacity(alloc: A, count: usize) -> Result<Self, AllocError>
-        ensures { IfOk result (λ pairs. pairs ≡ []) }
+    // The pairs of this list.
+    pub(crate) fn of_list(lent: Vec<(&'a [u8], &'a V), A>) -> Self
+        ensures { result ≡ pairs_lent lent.entry.items }
     {
-        let lent = Vec::with_capacity(alloc, count)?;
-        Ok(Pairs { lent })
-    }
-
-    // Puts a pair behind the others.
-    pub(crate) fn push(&mut self, key: &'a [u8], cell: &'a V) -> Result<(), AllocError>
-        ensures ok { OnOk result (self.new ≡ self.old ++ (key.now, cell.now) ∷ []) }
-        ensures err { OnErr result (self.new ≡ self.old) }
-    {
-        self.lent.push((key, cell))?;
-        Ok(())
+        Pairs { lent }
     }
 
     /// How many pairs there are.

@@ -1,5 +1,7 @@
 use Rattle.std.proofs.Common.{◌<◌, ◌≤◌, ◌∙◌, length, arith, add-one, Less, Equal}
+use Rattle.delta_chain.specs.Lent.{pairs_lent}
 use Rattle.delta_chain.proofs.LayerLaws.{rising-with_run}
+use Rattle.delta_chain.proofs.Lending.{pairs_lent-push}
 use Rattle.delta_chain.proofs.Merges.{less_step, equal_step, greater_step, there_is_one, all_changes}
 use Rattle.delta_chain.proofs.merging.with_run.Goals as goal
 
@@ -9,7 +11,9 @@ loop-at-preserved-in-Less g c =
     record {
       place = omega arith;
       turn = c.loop-at.invariant.turn;
-      made = simp add-one (rw c.in_ok-push-in-Less.ensures.ok (less_step c.args.under.now c.args.run.now c.loop-at.from c.loop-at.at c.key.result.now c.key-key.result.now c.cell.result.now c.loop-at.pairs _ c.len-changes.ensures.rising c.key.ensures c.cell.ensures c.key-key.ensures c.in-Less.ensures c.loop-at.invariant.made));
+      count = omega (arith, c.push_reserved.ensures.len);
+      room = rw c.push_reserved.ensures.capacity c.loop-at.invariant.room;
+      made = simp add-one (rw (c.push_reserved.ensures.items, pairs_lent-push) (less_step c.args.under.now c.args.run.now c.loop-at.from c.loop-at.at c.key.result.now c.key-key.result.now c.cell.result.now (pairs_lent c.loop-at.lent.items) _ c.len-changes.ensures.rising c.key.ensures c.cell.ensures c.key-key.ensures c.in-Less.ensures c.loop-at.invariant.made));
     }
 
 pub loop-at-preserved-in-Equal : goal.loop-at-preserved-in-Equal
@@ -18,7 +22,9 @@ loop-at-preserved-in-Equal g c =
     record {
       place = omega arith;
       turn = c.loop-at.invariant.turn;
-      made = simp add-one (equal_step c.args.under.now c.args.run.now c.loop-at.from c.loop-at.at c.key-key.result.now c.loop-at.pairs _ c.requires n c.key-key.ensures c.in-Equal.ensures c.loop-at.invariant.made);
+      count = omega arith;
+      room = c.loop-at.invariant.room;
+      made = simp add-one (equal_step c.args.under.now c.args.run.now c.loop-at.from c.loop-at.at c.key-key.result.now (pairs_lent c.loop-at.lent.items) _ c.requires n c.key-key.ensures c.in-Equal.ensures c.loop-at.invariant.made);
     }
 
 pub loop-at-preserved : goal.loop-at-preserved
@@ -26,11 +32,13 @@ loop-at-preserved g c =
     record {
       place = c.loop-at.invariant.place;
       turn = omega (arith, c.len-changes.ensures.count);
-      made = simp add-one (rw c.in_ok-push_change-in-Greater.ensures (greater_step c.args.under.now c.args.run.now c.loop-at.from c.loop-at.at c.key-key.result.now _ c.loop-at.pairs _ c.requires c.len-changes.ensures.rising c.key-key.ensures c.change.ensures c.in-Greater.ensures c.loop-at.invariant.made));
+      count = omega (arith, c.push_change.ensures.count);
+      room = rw c.push_change.ensures.room c.loop-at.invariant.room;
+      made = simp add-one (rw c.push_change.ensures.pairs (greater_step c.args.under.now c.args.run.now c.loop-at.from c.loop-at.at c.key-key.result.now _ (pairs_lent c.loop-at.lent.items) _ c.requires c.len-changes.ensures.rising c.key-key.ensures c.change.ensures c.in-Greater.ensures c.loop-at.invariant.made));
     }
 
 pub returns-clause-rising : goal.returns-clause-rising
 returns-clause-rising g c =
     let n : length c.args.run.now ≤ c.loop-at.at = omega (arith, c.len-changes.ensures.count) in
-    let e = c.in_ok-push_rest.ensures ∙ all_changes c.args.under.now c.args.run.now c.loop-at.from c.loop-at.at c.loop-at.pairs _ n c.loop-at.invariant.made in
-    rw e (rising-with_run c.args.under.now c.args.run.now c.requires)
+    let e = c.push_rest.ensures ∙ all_changes c.args.under.now c.args.run.now c.loop-at.from c.loop-at.at (pairs_lent c.loop-at.lent.items) _ n c.loop-at.invariant.made in
+    rw (c.of_list.ensures, e) (rising-with_run c.args.under.now c.args.run.now c.requires)
