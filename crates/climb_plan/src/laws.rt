@@ -11,7 +11,7 @@ ghost use Rattle.index_page.specs.Page.{PageOfKind};
 ghost use Rattle.mapping.specs.Tree.{Tree, Store, page_at, logged_of};
 ghost use Rattle.mapping.specs.Tree.Logged.{No, Upto};
 ghost use Rattle.mapping.specs.FreshPids.{is_among, unused};
-ghost use Rattle.mapping.specs.Levels.{Placed, contents, levels_of, pids, all_pids};
+ghost use Rattle.mapping.specs.Levels.{Placed, contents, levels_of, all_pids};
 ghost use Rattle.mapping.specs.Proper.{AreLogsTrue, IsProper};
 ghost use Rattle.page_runs.specs.NetRun.{net_run};
 ghost use Rattle.page_runs.specs.Worked.{Worked, is_thin};
@@ -72,7 +72,7 @@ pub fn outdated_pids_are_those_of_groups_and_of_the_old_root<A: Allocator, V>()
 {}
 
 /// The root shrinks while it has one child: the levels that go are the highest, each of them is one page with one child,
-/// and the highest that stays isn't.
+/// and the highest that stays is not one.
 pub fn the_root_shrinks_while_it_has_one_child()
     ensures joined { (ls : List (List (Placed ℕ))) → kept ls ++ drop (length (kept ls)) ls ≡ ls }
     ensures lone { (ls : List (List (Placed ℕ))) → AllByRecursion (λ l. is_lone l ≡ true) (drop (length (kept ls)) ls) }
