@@ -1,5 +1,6 @@
 mod Literals
 mod OrderLaws
+mod SessionLemmas
 mod TokenLaws
 mod TokenLemmas
 mod WordLemmas
