@@ -348,18 +348,26 @@ mod tests {
         Ok(())
     }
 
-    // What is found at the last entry not above each of the keys, as text.
-    fn floors<V: Numbered>(alloc: Global, keys: &[&[u8]]) -> Result<String, PushError> {
-        let chain: Chain<V, Global> = page(alloc)?;
+    // The page ids of the last entries not above each of the keys, as text.
+    fn floors(
+        alloc: Global,
+        chain: &Chain<Pid, Global>,
+        keys: &[&[u8]],
+    ) -> Result<String, AllocError> {
         let mut text = String::new(alloc);
         for key in keys {
             let mut probes = Probes::new();
-            match floor(&chain, *key, &mut probes) {
-                Some(cell) => write!(text, "{} ", cell.number())?,
+            match floor(chain, *key, &mut probes) {
+                Some(pid) => write!(text, "{} ", pid.0)?,
                 None => write!(text, "- ")?,
             }
         }
         Ok(text)
+    }
+
+    fn floors_on_page(alloc: Global, keys: &[&[u8]]) -> Result<String, PushError> {
+        let chain: Chain<Pid, Global> = page(alloc)?;
+        Ok(floors(alloc, &chain, keys)?)
     }
 
     #[test]
@@ -367,10 +375,8 @@ mod tests {
         // The entries are b=5, c=6, e=7.
         let keys: [&[u8]; 8] = [b"", b"a", b"b", b"bb", b"c", b"d", b"e", b"z"];
         let expected = "- - 5 5 6 6 7 7 ";
-        let values = floors::<Value<Global>>(rt.alloc(), keys.as_slice())?;
-        assert_eq!(rt; values.as_str(), expected);
-        let page_ids = floors::<Pid>(rt.alloc(), keys.as_slice())?;
-        assert_eq!(rt; page_ids.as_str(), expected);
+        let found = floors_on_page(rt.alloc(), keys.as_slice())?;
+        assert_eq!(rt; found.as_str(), expected);
         Ok(())
     }
 
