@@ -13,6 +13,16 @@ const SMALL: Settings = Settings {
     segments: 4,
 };
 
+// The greatest values of all settings that a leaf looks at.
+const GREATEST: Settings = Settings {
+    fan: 64,
+    chain: 16,
+    max_key: 255,
+    max_value: 1_024,
+    seg_size: 131_072,
+    segments: 4,
+};
+
 // A command, spelled with texts.
 #[derive(Clone, Copy)]
 enum Step {
@@ -280,6 +290,59 @@ fn the_longest_batch_is_answered(rt: HostRuntime) {
     assert_eq!(rt; answered, Ok(65_535));
     let refused = replies_to_many(rt.alloc(), 65_536);
     assert_eq!(rt; refused, Err(Fault::BatchTooLong));
+}
+
+// A hundred short keys, and behind them the longest value under the longest key.
+fn greatest_batch(alloc: Global) -> Result<Vec<Command<Global>>, AllocError> {
+    let mut commands = Vec::new(alloc);
+    for byte in 0..100u8 {
+        let key = Key::from_bytes(alloc, &[byte])?;
+        commands.push(Command::Put(key, Value::from_bytes(alloc, &[byte])?))?;
+    }
+    let value = Value::from_bytes(alloc, vec![in alloc; b'v'; 1_024]?.as_slice())?;
+    commands.push(Command::Put(longest_key(alloc)?, value))?;
+    Ok(commands)
+}
+
+fn longest_key(alloc: Global) -> Result<Key<Global>, AllocError> {
+    Key::from_bytes(alloc, vec![in alloc; b'k'; 255]?.as_slice())
+}
+
+// How many bytes the store finds at the longest key.
+fn bytes_found(alloc: Global, store: &mut Store) -> Result<usize, Fault> {
+    let mut look_up = Vec::new(alloc);
+    look_up.push(Command::Get(longest_key(alloc)?))?;
+    match store.batch(&look_up)?.first() {
+        Some(Reply::Value(value)) => Ok(value.as_bytes().len()),
+        _ => Ok(0),
+    }
+}
+
+// Puts one key that many times, a batch each: the leaf's shape afterwards.
+fn shape_after_puts(alloc: Global, store: &mut Store, count: u8) -> Result<(u64, usize), Fault> {
+    for _batch in 0..count {
+        store.batch(&commands(alloc, &[Step::Put("a", "1")])?)?;
+    }
+    Ok(store.leaf_shape())
+}
+
+// The leaf's shape after the batch of so many keys, after sixteen more, and after one more, with the longest value.
+fn greatest_shapes(
+    alloc: Global,
+) -> Result<((u64, usize), (u64, usize), (u64, usize), usize), Fault> {
+    let mut store = Store::create(alloc, GREATEST)?;
+    store.batch(&greatest_batch(alloc)?)?;
+    let replaced = store.leaf_shape();
+    let full = shape_after_puts(alloc, &mut store, 16)?;
+    let found = bytes_found(alloc, &mut store)?;
+    let again = shape_after_puts(alloc, &mut store, 1)?;
+    Ok((replaced, full, again, found))
+}
+
+#[test]
+fn the_greatest_keys_values_and_chains_are_held(rt: HostRuntime) {
+    let shapes = greatest_shapes(rt.alloc());
+    assert_eq!(rt; shapes, Ok(((0, 101), (16, 101), (0, 101), 1_024)));
 }
 
 #[test]
