@@ -1,4 +1,5 @@
 pub mod MapLaws
+pub mod PlaceLaws
 mod Rows
 pub mod RunLaws
 mod SettingsRows

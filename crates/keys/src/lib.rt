@@ -8,6 +8,7 @@ pub mod fault;
 pub mod key;
 pub mod laws;
 pub mod pid;
+pub mod piece;
 pub mod settings;
 #[cfg(test)]
 mod tests;
@@ -18,5 +19,6 @@ pub use crate::command::{Command, Reply};
 pub use crate::fault::Fault;
 pub use crate::key::Key;
 pub use crate::pid::Pid;
+pub use crate::piece::Piece;
 pub use crate::settings::{Field, Settings};
 pub use crate::value::Value;
