@@ -1,11 +1,11 @@
 -- Lemmas on the places of the commands that go to a page, and on the routes of a level, for the proofs of this crate and
 -- of those above it.
 use Rattle.std.specs.Prelude.{◌≡◌, ◌≢◌, ℕ, zero, suc, ◌+◌, ◌<◌, ◌≤◌, Bool, true, false, not, ◌&&◌, ◌||◌, cond, List, [], ◌∷◌, ◌++◌, map, flat_map, length, slice_get, nat_eq, Option, Some, None}
-use Rattle.std.proofs.Common.{refl, sym, ap, ◌∙◌, subst, arith, add-one, append-nil, Ordering, Less, eqb-true, eq-eqb}
-use Rattle.std.specs.Ordering.{is_lt, nat_cmp}
+use Rattle.std.proofs.Common.{refl, sym, ap, ◌∙◌, subst, arith, add-one, append-nil, Less, eqb-true, eq-eqb}
+use Rattle.std.specs.Ordering.{nat_cmp}
 use Rattle.std.specs.Cmp.{nat_cmp_is}
 use Rattle.std.specs.List.{AllByRecursion, filter, range_with_len}
-use Rattle.std.specs.List.Sorted.{IsPermutation, IsStrictlySortedBy, IsStrictlyIncreasing}
+use Rattle.std.specs.List.Sorted.{IsPermutation, IsStrictlySortedBy}
 use Rattle.std.proofs.lemmas.List.Sorted.{IsPermutation-refl, IsPermutation-sym, IsPermutation-trans, IsPermutation-cons, IsPermutation-middle, IsPermutation-append_right}
 use Rattle.std.proofs.lemmas.Map.Keys.{IsStrictlyIncreasing-from_sorted}
 use Rattle.keys.specs.Order.{order}
@@ -24,7 +24,7 @@ use Rattle.mapping.proofs.PidLaws.{all_among}
 use Rattle.mapping.proofs.TileLaws.{low_is_before}
 use Rattle.routing.specs.BatchKeys.{key_or_empty, key_at}
 use Rattle.routing.specs.Places.{places_below}
-use Rattle.routing.specs.Routes.{goes_to, places_from, places_within, Route, route_to, has_places, ranges, routes, IsRouteTo, AreRoutesTo}
+use Rattle.routing.specs.Routes.{goes_to, places_from, places_within, Route, route_to, has_places, ranges, routes, AreRoutesTo}
 use Rattle.routing.specs.Routes.AreRoutesTo.{none, next, left_out}
 
 -- ---- numbers that rise

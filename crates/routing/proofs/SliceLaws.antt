@@ -1,15 +1,15 @@
 -- Lemmas on the sorted places of a range, for the proofs of this crate and of those above it.
 use Rattle.std.specs.Prelude.{◌≡◌, ℕ, zero, suc, ◌+◌, ◌<◌, ◌≤◌, Bool, true, false, not, ◌&&◌, ◌||◌, List, [], ◌∷◌, ◌++◌, length, take, drop, slice_get, nat_eq, Option, Some, None}
 use Rattle.std.proofs.Common.{refl, sym, ap, ◌∙◌, subst, get_or, arith, inl, inr, Ordering, Less, Equal, Greater, eqb-true, length-drop}
-use Rattle.std.specs.Ordering.{is_lt, nat_cmp, ordering_then}
-use Rattle.std.specs.List.{AllByRecursion, All, IsDistinct}
+use Rattle.std.specs.Ordering.{nat_cmp, ordering_then}
+use Rattle.std.specs.List.{AllByRecursion, IsDistinct}
 use Rattle.std.specs.List.Sorted.{IsPermutation, IsSorted, IsStrictlySortedBy, IsNonDecreasing, IsPartitionedBy, IsPartitionPoint}
 use Rattle.std.proofs.lemmas.Cmp.{nat_cmp_total, tied_itself, nat_eq_equiv}
 use Rattle.std.proofs.lemmas.Bool.{cases_lt}
 use Rattle.std.proofs.lemmas.List.{take-append-drop, get_or-take, get_or-drop, length-take}
 use Rattle.std.proofs.lemmas.List.Elements.{recursion_from_All}
 use Rattle.std.proofs.lemmas.List.Sorted.{IsNonDecreasingBy-from_sort}
-use Rattle.std.proofs.lemmas.Map.Keys.{IsDistinct-cons, IsDistinct-IsPermutation, IsStrictlyIncreasing-from_distinct, sorted_from_strictly_increasing, Less-from_sorted}
+use Rattle.std.proofs.lemmas.Map.Keys.{IsDistinct-IsPermutation, IsStrictlyIncreasing-from_distinct, sorted_from_strictly_increasing, Less-from_sorted}
 use Rattle.keys.specs.Order.{order}
 use Rattle.keys.proofs.MapLaws.{total}
 use Rattle.keys.specs.CommandKey.{key_of}
@@ -21,8 +21,8 @@ use Rattle.routing.specs.BatchKeys.{key_at}
 use Rattle.routing.specs.Places.{places_below}
 use Rattle.routing.specs.Routes.{goes_to, places_within}
 use Rattle.routing.specs.SortedPlaces.{order_of_places, AreInKeyOrder, AreSortedPlaces, AreSortedWithin}
-use Rattle.routing.proofs.RouteLaws.{is_passed, among-places, goes_by_key, all_places, within_parts, within_one, rising-places_from}
-use Rattle.routing.proofs.SortLaws.{total_places, same_place, holds_among, among-permutation, same_sorted, same_number}
+use Rattle.routing.proofs.RouteLaws.{is_passed, among-places, goes_by_key, all_places, within_parts, rising-places_from}
+use Rattle.routing.proofs.SortLaws.{total_places, holds_among, among-permutation, same_sorted, same_number}
 
 -- numbers that a sort has put in order don't fall
 pub rises_when_sorted : (ns : List ℕ) → IsSorted nat_cmp ns → IsNonDecreasing ns

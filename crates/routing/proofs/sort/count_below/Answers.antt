@@ -1,5 +1,5 @@
 use Rattle.std.proofs.Common.{◌≡◌, ℕ, true, false, rules, of_calls}
-use Rattle.std.proofs.lemmas.Fn.{always_returns_same}
+use Rattle.std.proofs.lemmas.List.Sorted.{IsPartitionPoint-from_clause}
 use Rattle.index_page.specs.Range.{is_below}
 use Rattle.routing.specs.BatchKeys.{key_at}
 use Rattle.routing.proofs.SliceLaws.{parted_by_key, all_before, all_behind}
@@ -7,14 +7,18 @@ use Rattle.routing.proofs.sort.count_below.Goals as goal
 
 pub returns-clause-below : goal.returns-clause-below
 returns-clause-below g c =
+    let cs = c.args.commands.now in
     let ps = c.args.places.now in
-    let test = λ (place : ℕ). is_below (key_at c.args.commands.now place) c.args.key.now in
-    let point = c.partition_point.ensures.partitioned test (always_returns_same _ _ _ (λ a r f k. search (rules, of_calls))) (parted_by_key c.args.commands.now c.args.key.now ps c.requires) in
-    all_before (λ place. test place ≡ true) (λ place. test place ≡ false) ps c.partition_point.result point c.partition_point.ensures.bound
+    let end = c.args.key.now in
+    let n = c.partition_point.result in
+    let point = IsPartitionPoint-from_clause (λ place. is_below (key_at cs place) end) ps n c.partition_point.ensures.partitioned (parted_by_key cs end ps c.requires) (λ a r q k. search (rules, of_calls)) in
+    all_before (λ place. is_below (key_at cs place) end ≡ true) (λ place. is_below (key_at cs place) end ≡ false) ps n point c.partition_point.ensures.bound
 
 pub returns-clause-others : goal.returns-clause-others
 returns-clause-others g c =
+    let cs = c.args.commands.now in
     let ps = c.args.places.now in
-    let test = λ (place : ℕ). is_below (key_at c.args.commands.now place) c.args.key.now in
-    let point = c.partition_point.ensures.partitioned test (always_returns_same _ _ _ (λ a r f k. search (rules, of_calls))) (parted_by_key c.args.commands.now c.args.key.now ps c.requires) in
-    all_behind (λ place. test place ≡ true) (λ place. test place ≡ false) ps c.partition_point.result point c.partition_point.ensures.bound
+    let end = c.args.key.now in
+    let n = c.partition_point.result in
+    let point = IsPartitionPoint-from_clause (λ place. is_below (key_at cs place) end) ps n c.partition_point.ensures.partitioned (parted_by_key cs end ps c.requires) (λ a r q k. search (rules, of_calls)) in
+    all_behind (λ place. is_below (key_at cs place) end ≡ true) (λ place. is_below (key_at cs place) end ≡ false) ps n point c.partition_point.ensures.bound

@@ -2,7 +2,6 @@ use Rattle.std.proofs.Common.{◌≡◌, ℕ, List, length, Bor, arith, ◌∙�
 use Rattle.std.specs.List.Sorted.{IsPermutation}
 use Rattle.std.proofs.lemmas.List.{take_at}
 use Rattle.rayon.proofs.ListFacts.{IfOk-then}
-use Rattle.routing.specs.SortedPlaces.{AreSortedPlaces}
 use Rattle.routing.proofs.SortLaws.{places_of_sorted}
 use Rattle.routing.proofs.sort.sorted_places.Goals as goal
 
