@@ -1,7 +1,9 @@
 //! The order in which the tree is walked for a batch: the places of its commands, sorted by their keys.
 ghost use Rattle.std.specs.Prelude.{◌≡◌, ◌≤◌, length, map, true, false, take, drop, IfOk};
 ghost use Rattle.std.specs.List.{AllByRecursion};
-ghost use Rattle.std.specs.List.Sorted.{IsPermutation, IsNonDecreasing};
+ghost use Rattle.std.specs.List.Sorted.{IsPermutation, IsSorted, IsNonDecreasing};
+ghost use Rattle.std.specs.Ordering.{nat_cmp, ordering_then};
+ghost use Rattle.keys.specs.Order.{order};
 ghost use Rattle.index_page.specs.Range.{is_below};
 ghost use Rattle.routing.specs.BatchKeys.{key_at};
 ghost use Rattle.routing.specs.Places.{places_below};
@@ -11,6 +13,9 @@ use keys::{Command, Key};
 use rayon::prelude::*;
 use std::alloc::{AllocError, Allocator, Global};
 use std::thread::Threads;
+
+// A shorter batch is sorted in one thread: even to ask how many processors there are would take longer.
+const LEAST_SHARED: usize = 4096;
 
 /// The places of a batch's commands, counted from 0, in the order of their keys, and where keys are equal in the order of
 /// the batch. The sort is shared among threads where the batch is long.
@@ -22,8 +27,21 @@ pub fn sorted_places<A: Allocator>(
     ensures { IfOk result (λ places. AreSortedPlaces commands.now places.items) }
 {
     let mut keyed = keyed_places(alloc, commands)?;
-    par_sort_unstable(rt, &mut keyed);
+    sort_keyed(rt, &mut keyed);
     places_of(alloc, &keyed)
+}
+
+// Sorts by key, and where keys are equal by place.
+fn sort_keyed(rt: &(impl Threads + Sync), keyed: &mut [(&[u8], usize)])
+    ensures permutation { IsPermutation keyed.old keyed.new }
+    ensures len { length keyed.new ≡ length keyed.old }
+    ensures sorted { IsSorted (λ x y. ordering_then (order x.0.now y.0.now) (nat_cmp x.1 y.1)) keyed.new }
+{
+    if keyed.len() < LEAST_SHARED {
+        keyed.sort_unstable();
+    } else {
+        par_sort_unstable(rt, keyed);
+    }
 }
 
 // Each command's key with its place, in the order of the batch.

@@ -1,4 +1,4 @@
-use Rattle.std.proofs.Common.{◌≡◌, ℕ, true, false, rules, of_calls}
+use Rattle.std.proofs.Common.{◌≡◌, true, false, rules, of_calls}
 use Rattle.std.proofs.lemmas.List.Sorted.{IsPartitionPoint-from_clause}
 use Rattle.index_page.specs.Range.{is_below}
 use Rattle.routing.specs.BatchKeys.{key_at}

@@ -12,8 +12,8 @@ returns g c =
     let place = λ (entry : Bor (List ℕ) × ℕ). entry.1 in
     let was = c.in_ok-keyed.keyed.items in
     let given : c.deref_mut.result.now ≡ was = c.deref_mut.ensures.value in
-    let moved : IsPermutation was c.par_sort_unstable.new.s = rw given at c.par_sort_unstable.ensures.permutation in
-    let sorted = places_of_sorted cs key place was c.par_sort_unstable.new.s c.in_ok-keyed.ensures.places c.in_ok-keyed.ensures.keys moved c.par_sort_unstable.ensures.sorted in
-    let many : length c.par_sort_unstable.new.s ≡ c.in_ok-keyed.keyed.len = omega arith in
-    let same : c.deref.result.now ≡ c.par_sort_unstable.new.s = c.deref.ensures.value ∙ take_at c.par_sort_unstable.new.s _ c.in_ok-keyed.keyed.len many in
+    let moved : IsPermutation was c.sort_keyed.new.keyed = rw given at c.sort_keyed.ensures.permutation in
+    let sorted = places_of_sorted cs key place was c.sort_keyed.new.keyed c.in_ok-keyed.ensures.places c.in_ok-keyed.ensures.keys moved c.sort_keyed.ensures.sorted in
+    let many : length c.sort_keyed.new.keyed ≡ c.in_ok-keyed.keyed.len = omega arith in
+    let same : c.deref.result.now ≡ c.sort_keyed.new.keyed = c.deref.ensures.value ∙ take_at c.sort_keyed.new.keyed _ c.in_ok-keyed.keyed.len many in
     IfOk-then c.places_of.result _ _ c.places_of.ensures (λ v h. rw (h, same) sorted)
