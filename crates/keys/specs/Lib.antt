@@ -1,3 +1,4 @@
+pub mod CommandKey
 pub mod Limits
 pub mod Lists
 pub mod Order

@@ -1,3 +1,6 @@
+ghost use Rattle.std.specs.Prelude.{◌≡◌};
+ghost use Rattle.keys.specs.CommandKey.{key_of};
+
 use crate::key::Key;
 use crate::value::Value;
 use std::alloc::Allocator;
@@ -14,6 +17,20 @@ pub enum Command<A: Allocator> {
     Add(Key<A>, Value<A>),
     /// The key is not there from now on.
     Del(Key<A>),
+}
+
+impl<A: Allocator> Command<A> {
+    /// The key that the command is on.
+    pub fn key(&self) -> &Key<A>
+        ensures { result.now ≡ key_of self.now }
+    {
+        match self {
+            Command::Get(key) => key,
+            Command::Put(key, _) => key,
+            Command::Add(key, _) => key,
+            Command::Del(key) => key,
+        }
+    }
 }
 
 /// What the store answers to one command.

@@ -1,1 +1,5 @@
 pub mod PlaceLaws
+pub mod RouteLaws
+mod Rows
+pub mod SliceLaws
+pub mod SortLaws

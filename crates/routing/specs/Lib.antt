@@ -1,1 +1,4 @@
+pub mod BatchKeys
 pub mod Places
+pub mod Routes
+pub mod SortedPlaces

@@ -5,6 +5,9 @@ ghost use Rattle.std.specs.Prelude.{◌≡◌, IfOk};
 ghost use Rattle.std.specs.List.Sorted.{IsStrictlyIncreasing};
 ghost use Rattle.routing.specs.Places.{places_below};
 
+pub mod laws;
+pub mod sort;
+
 use std::alloc::{AllocError, Global};
 use std::marker::Model;
 

@@ -1,0 +1,9 @@
+use Rattle.routing.proofs.SliceLaws.{sorted_within_all, parted_at, in_batch_order}
+use Rattle.routing.proofs.laws.sorted_places_are_handed_down.Goals as goal
+
+pub returns : goal.returns
+returns g c = record {
+  all = sorted_within_all;
+  parted = parted_at;
+  in_batch_order = in_batch_order;
+}

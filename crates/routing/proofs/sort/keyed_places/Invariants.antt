@@ -1,0 +1,12 @@
+use Rattle.std.proofs.Common.{◌≡◌, map}
+use Rattle.std.specs.List.{AllByRecursion}
+use Rattle.routing.specs.BatchKeys.{key_at}
+use Rattle.routing.specs.Places.{places_below}
+use Rattle.routing.proofs.sort.keyed_places.Given as goal
+
+-- the places so far are those below the next, each with its key
+abbrev pub invariant-loop-place : goal.invariant-loop-place
+invariant-loop-place g l = record {
+  places : map (λ entry. entry.1) l.keyed.items ≡ places_below l.place;
+  keys : AllByRecursion (λ entry. entry.0.now ≡ key_at l.commands entry.1) l.keyed.items;
+}

@@ -1,0 +1,63 @@
+-- Which commands go to which page of a level.
+use Rattle.std.specs.Prelude.{◌≡◌, ℕ, suc, ◌<◌, Bool, true, false, List, [], ◌∷◌, map, length, Option, None, if◌then◌else◌}
+use Rattle.std.specs.List.{AllByRecursion, filter}
+use Rattle.std.specs.List.Sorted.{IsStrictlyIncreasing}
+use Rattle.keys.specs.declared.command.Command.{Command}
+use Rattle.keys.specs.declared.command.Command.TheVariants.{Get, Put, Add, Del}
+use Rattle.index_page.specs.Range.{is_within}
+use Rattle.index_page.specs.Children.{Place, children}
+use Rattle.mapping.specs.Levels.{Placed, names}
+use Rattle.routing.specs.BatchKeys.{key_at}
+
+-- whether a command goes to the page with this range of keys
+abbrev pub goes_to : {A : Type 0} → List ℕ → Option (List ℕ) → Command A → Bool
+goes_to low end (Get k) = is_within low end k
+goes_to low end (Put k v) = is_within low end k
+goes_to low end (Add k v) = is_within low end k
+goes_to low end (Del k) = is_within low end k
+
+-- the places, counted from this number on, of the items that pass
+abbrev pub places_from : {X : Type 0} → ℕ → (X → Bool) → List X → List ℕ
+places_from n passes [] = []
+places_from n passes (x ∷ xs) = if passes x then n ∷ places_from (suc n) passes xs else places_from (suc n) passes xs
+
+-- the places, counted from 0, of the commands that go to the page with this range
+abbrev pub places_within : {A : Type 0} → List ℕ → Option (List ℕ) → List (Command A) → List ℕ
+places_within low end cs = places_from 0 (goes_to low end) cs
+
+-- a page's pid, and the places of the commands that go to it
+pub record Route : Type 0 where
+  pub pid : ℕ
+  pub places : List ℕ
+
+abbrev pub route_to : {A : Type 0} → List (Command A) → Place → Route
+route_to cs at = record { pid = at.pid; places = places_within at.low at.end cs }
+
+abbrev pub has_some : List ℕ → Bool
+has_some [] = false
+has_some (p ∷ ps) = true
+
+abbrev pub has_places : Route → Bool
+has_places r = has_some r.places
+
+-- the pages of a level, each with its range: up to the next page's low key, and of the last page without an end
+abbrev pub ranges : {V : Type 0} → List (Placed V) → List Place
+ranges level = children (names level) None
+
+-- for each page of a level that any command goes to, from left to right, its pid and the places of these commands
+abbrev pub routes : {A V : Type 0} → List (Placed V) → List (Command A) → List Route
+routes level cs = filter has_places (map (route_to cs) (ranges level))
+
+-- a route to the page with this range: some places of the batch, which rise, each of a command whose key lies in the range
+pub record IsRouteTo {A : Type 0} (cs : List (Command A)) (at : Place) (r : Route) : Type 0 where
+  pub pid : r.pid ≡ at.pid
+  pub some : 0 < length r.places
+  pub rising : IsStrictlyIncreasing r.places
+  pub below : AllByRecursion (λ place. place < length cs) r.places
+  pub own : AllByRecursion (λ place. is_within at.low at.end (key_at cs place) ≡ true) r.places
+
+-- routes to some of the pages, in the order of the pages
+pub data AreRoutesTo {A : Type 0} (cs : List (Command A)) : List Place → List Route → Type 0 where
+  none : AreRoutesTo cs [] []
+  next : {ats : List Place} {rs : List Route} → (at : Place) → (r : Route) → IsRouteTo cs at r → AreRoutesTo cs ats rs → AreRoutesTo cs (at ∷ ats) (r ∷ rs)
+  left_out : {ats : List Place} {rs : List Route} → (at : Place) → AreRoutesTo cs ats rs → AreRoutesTo cs (at ∷ ats) rs
