@@ -21,7 +21,8 @@ use Rattle.page_runs.specs.NetRun.{net_run}
 use Rattle.split_plan.specs.WorkedLevel.{worked_leaves}
 use Rattle.split_plan.proofs.RunLaws.{names-worked_leaves}
 use Rattle.climb_plan.specs.Climb.{Climbed, kept}
-use Rattle.climb_plan.specs.Plan.{climbed, planned_levels, planned_tree, shrunk_pids, outdated_pids, outdate, outdate_all}
+use Rattle.mapping.specs.Outdate.{outdate, outdate_all}
+use Rattle.climb_plan.specs.Plan.{climbed, planned_levels, planned_tree, shrunk_pids, outdated_pids}
 use Rattle.climb_plan.specs.Standing.{Stands}
 use Rattle.climb_plan.proofs.Kept.{kept_is_first, left_is_rest}
 use Rattle.climb_plan.proofs.Planned.{planned_are_levels}

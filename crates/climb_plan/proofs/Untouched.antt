@@ -25,7 +25,8 @@ use Rattle.split_plan.specs.WorkedLevel.{worked_leaves, worked_parents}
 use Rattle.split_plan.specs.Change.{Change, changes, family_changes, new_of, fresh_of, all_new, all_fresh, outdated, all_outdated}
 use Rattle.split_plan.specs.Terms.{freed_of, terms}
 use Rattle.climb_plan.specs.Climb.{families, Climbed, climb, is_lone, kept_under, kept}
-use Rattle.climb_plan.specs.Plan.{climbed, planned_levels, planned_tree, shrunk, shrunk_pids, outdated_pids, outdate_all}
+use Rattle.mapping.specs.Outdate.{outdate_all}
+use Rattle.climb_plan.specs.Plan.{climbed, planned_levels, planned_tree, shrunk, shrunk_pids, outdated_pids}
 use Rattle.climb_plan.proofs.Families.{families_by_length}
 
 -- ---- pages without a run

@@ -3,9 +3,8 @@ use Rattle.std.specs.Prelude.{ℕ, suc, List, ◌++◌, map, flat_map, drop, len
 use Rattle.std.specs.Map.{keys_of}
 use Rattle.keys.specs.declared.settings.Settings.{Settings}
 use Rattle.keys.specs.declared.command.Command.{Command}
-use Rattle.mapping.specs.Tree.{Logged, Tree, Store}
-use Rattle.mapping.specs.Tree.Logged.{No, Old, Upto}
-use Rattle.mapping.specs.FreshPids.{is_among}
+use Rattle.mapping.specs.Tree.{Tree, Store}
+use Rattle.mapping.specs.Outdate.{outdate_all}
 use Rattle.mapping.specs.Levels.{Placed, Levels, levels_of, contents, all_pages, by_pid, top_pid, pids}
 use Rattle.page_runs.specs.NetRun.{net_run}
 use Rattle.split_plan.specs.WorkedLevel.{worked_leaves}
@@ -34,16 +33,6 @@ abbrev pub outdated_pids : {A : Type 0} → Settings → Tree → List (Command 
 outdated_pids s t cs =
     let c : Climbed (List ℕ) = climbed s t cs in
     c.outdated ++ shrunk_pids c.tower.above
-
--- a page that isn't the one that the log knows
-abbrev pub outdate : Logged → Logged
-outdate No = No
-outdate Old = Old
-outdate (Upto k) = Old
-
--- what the log has of each pid, once these are outdated
-abbrev pub outdate_all : List ℕ → List (ℕ × Logged) → List (ℕ × Logged)
-outdate_all gone ls = map (λ l. (l.0, if is_among l.0 gone then outdate l.1 else l.1)) ls
 
 -- the tree after the commands
 abbrev pub planned_tree : {A : Type 0} → Settings → Tree → List (Command A) → Tree

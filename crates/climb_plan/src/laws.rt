@@ -21,7 +21,8 @@ ghost use Rattle.split_plan.specs.Change.{Change, family_changes, all_fresh, IsO
 ghost use Rattle.split_plan.specs.Terms.{terms};
 ghost use Rattle.climb_plan.specs.Limits.{AreShort};
 ghost use Rattle.climb_plan.specs.Climb.{families, climb, is_lone, kept};
-ghost use Rattle.climb_plan.specs.Plan.{climbed, plan, outdate, outdated_pids, shrunk_pids};
+ghost use Rattle.mapping.specs.Outdate.{outdate};
+ghost use Rattle.climb_plan.specs.Plan.{climbed, plan, outdated_pids, shrunk_pids};
 ghost use Rattle.climb_plan.specs.Standing.{Stands};
 
 use std::alloc::Allocator;

@@ -1,14 +1,20 @@
+mod Around
 mod FindingRow
 mod FirstTree
+mod InUse
 mod Joined
 mod Level
 pub mod LevelLaws
+mod Listing
 mod Literals
 mod MetPids
 mod Parts
 pub mod PidLaws
+mod RoomLaws
 pub mod SameTable
+mod Search
 pub mod TableLaws
 pub mod TableOfLevels
+mod TableSlots
 pub mod TileLaws
 mod Walk

@@ -1,5 +1,9 @@
 pub mod Finding
 pub mod FreshPids
 pub mod Levels
+pub mod LogState
+pub mod Outdate
 pub mod Proper
+pub mod Slots
+pub mod Table
 pub mod Tree

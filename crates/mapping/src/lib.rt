@@ -1,8 +1,15 @@
-//! The mapping table: a map from pids to pages. This crate will hold the table as a type, with the pages that are at
-//! home in it, the pids that are unused, and what the log has of each page.
+//! The mapping table: a map from pids to pages, with the places of pages that are away, the numbers that have no place,
+//! and what the log has of each page.
 //!
-//! So far it holds what a store is, how its pages are levels, when it is proper, and which pids are given to new
-//! pages, as definitions (`specs/`), and the laws of these.
+//! Besides, what a store is, how its pages are levels, when it is proper, and which pids are given to new pages, as
+//! definitions (`specs/`), and the laws of these.
 #![tactic(auto)]
 
 pub mod laws;
+pub mod logged;
+mod room;
+mod slots;
+pub mod table;
+
+pub use crate::logged::Logged;
+pub use crate::table::Table;

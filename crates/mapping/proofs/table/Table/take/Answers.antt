@@ -1,0 +1,33 @@
+use Rattle.std.proofs.Common.{None, refl, sym, ap, ◌∙◌}
+use Rattle.mapping.specs.Table.{at_home, with_place}
+use Rattle.mapping.specs.Slots.{placed}
+use Rattle.mapping.proofs.TableSlots.{none_is_not_some, not_home, slot_here, place-slot, page_changed}
+use Rattle.mapping.proofs.table.Table.take.Goals as goal
+
+-- what is at home is a page
+pub unreachable-requires : goal.unreachable-requires
+unreachable-requires g c =
+    let slots = c.self.inside.slots.items in
+    let slot = c.index_mut.result.now in
+    let here = slot_here slots c.slot_in_use-at.result c.args.pid slot (rw c.deref.ensures.value at c.slot_in_use-at.ensures) c.index_mut.ensures.value in
+    let home = ap at_home (place-slot slots c.slot_in_use-at.result c.args.pid slot c.self.invariant.rising here) in
+    none_is_not_some _ (home ∙ ap (λ x. at_home (placed x)) (sym c.replace.ensures.value) ∙ not_home c.replace.result c.in_default.not-Home) (rw (← c.self.view_is) at c.requires)
+
+pub invariant_of-self : goal.invariant_of-self
+invariant_of-self g c =
+    let stands = rw c.deref.ensures.value at c.slot_in_use-at.ensures in
+    (page_changed c.self.inside.slots.items c.self.inside.filled c.self.invariant c.slot_in_use-at.result c.args.pid c.index_mut.result.now stands c.index_mut.ensures.value _ None refl (ap placed c.replace.ensures.after) refl).0
+
+pub returns-clause-page : goal.returns-clause-page
+returns-clause-page g c =
+    let slots = c.self.inside.slots.items in
+    let slot = c.index_mut.result.now in
+    let here = slot_here slots c.slot_in_use-at.result c.args.pid slot (rw c.deref.ensures.value at c.slot_in_use-at.ensures) c.index_mut.ensures.value in
+    let home = ap at_home (place-slot slots c.slot_in_use-at.result c.args.pid slot c.self.invariant.rising here) in
+    rw (← c.self.view_is) (home ∙ ap (λ x. at_home (placed x)) (sym c.replace.ensures.value ∙ c.in-Home.is))
+
+pub returns-clause-table : goal.returns-clause-table
+returns-clause-table g c =
+    let stands = rw c.deref.ensures.value at c.slot_in_use-at.ensures in
+    (page_changed c.self.inside.slots.items c.self.inside.filled c.self.invariant c.slot_in_use-at.result c.args.pid c.index_mut.result.now stands c.index_mut.ensures.value _ None refl (ap placed c.replace.ensures.after) refl).1
+    ∙ ap (λ t. with_place t c.args.pid None) c.self.view_is

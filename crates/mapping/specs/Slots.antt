@@ -1,0 +1,59 @@
+-- What the slots of a table stand for.
+use Rattle.std.specs.Prelude.{◌≡◌, ℕ, ◌<◌, ◌≤◌, true, List, [], ◌∷◌, map, take, drop, flat_map, length, slice_get, Option, Some, None}
+use Rattle.std.specs.List.{AllByRecursion}
+use Rattle.mapping.specs.Tree.{Logged}
+use Rattle.mapping.specs.Tree.Logged.{No, Old, Upto}
+use Rattle.mapping.specs.FreshPids.{is_among}
+use Rattle.mapping.specs.Proper.{AreRisingPids}
+use Rattle.mapping.specs.Table.{Mapping, pids_in_use}
+use Rattle.mapping.specs.LogState.{log_state}
+use Rattle.mapping.specs.declared.slots.Place.{Place}
+use Rattle.mapping.specs.declared.slots.Place.TheVariants.{Vacant, Away, Home}
+use Rattle.mapping.specs.declared.slots.Slot.{Slot}
+
+-- a place, if there is one
+abbrev pub placed : {P : Type 0} → Place P → Option (Option P)
+placed Vacant = None
+placed Away = Some None
+placed (Home p) = Some (Some p)
+
+-- what is listed of a log state: nothing for `No`
+abbrev pub listed : Logged → Option Logged
+listed No = None
+listed Old = Some Old
+listed (Upto k) = Some (Upto k)
+
+-- what is under a pid, as a list of entries
+abbrev pub entry_if : {V : Type 0} → ℕ → Option V → List (ℕ × V)
+entry_if pid None = []
+entry_if pid (Some v) = (pid, v) ∷ []
+
+-- the pids of slots
+abbrev pub slot_pids : {P : Type 0} → List (Slot P) → List ℕ
+slot_pids ss = map (λ s. s.pid) ss
+
+-- the slots that aren't vacant, and those of which the log has something
+abbrev pub table_of : {P : Type 0} → List (Slot P) → Mapping P
+table_of ss = record {
+  places = flat_map (λ s. entry_if s.pid (placed s.page)) ss;
+  logged = flat_map (λ s. entry_if s.pid (listed (log_state s.logged))) ss;
+}
+
+-- the pid stands at this place
+abbrev pub StandsAt : List ℕ → ℕ → ℕ → Type 0
+StandsAt pids pid at = slice_get pids at ≡ Some pid
+
+-- the pid isn't there, and would go to this place
+pub record GoesTo (pids : List ℕ) (pid : ℕ) (at : ℕ) : Type 0 where
+  pub within : at ≤ length pids
+  pub below : AllByRecursion (λ n. n < pid) (take at pids)
+  pub above : AllByRecursion (λ n. pid < n) (drop at pids)
+
+-- all numbers below this one have a place
+abbrev pub AreInUseBelow : {P : Type 0} → Mapping P → ℕ → Type 0
+AreInUseBelow t n = (k : ℕ) → k < n → is_among k (pids_in_use t) ≡ true
+
+-- slots by rising pid, with a number below which none is free
+pub record AreSlots {P : Type 0} (ss : List (Slot P)) (filled : ℕ) : Type 0 where
+  pub rising : AreRisingPids (slot_pids ss)
+  pub in_use : AreInUseBelow (table_of ss) filled

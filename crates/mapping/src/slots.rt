@@ -1,0 +1,58 @@
+ghost use Rattle.std.specs.Prelude.{MatchResult, IsSome};
+ghost use Rattle.mapping.specs.Proper.{AreRisingPids};
+ghost use Rattle.mapping.specs.Table.{place_of};
+ghost use Rattle.mapping.specs.Slots.{slot_pids, table_of, StandsAt, GoesTo};
+
+use crate::logged::Logged;
+
+// What stands in a slot for its pid: no place, a place whose page is away, or the page.
+#[derive(Drop)]
+pub(crate) enum Place<P> {
+    Vacant,
+    Away,
+    Home(P),
+}
+
+// A pid with its place, if it has one, and what the log has of it.
+#[derive(Drop)]
+pub(crate) struct Slot<P> {
+    pub(crate) pid: u64,
+    pub(crate) page: Place<P>,
+    pub(crate) logged: Logged,
+}
+
+// `Ok` is where the pid's slot is, `Err` where it would go. A slot stands at its pid's own number at the latest, and
+// mostly there: so that is looked at first, and what is behind it never.
+pub(crate) fn slot_of<P>(slots: &[Slot<P>], pid: u64) -> Result<usize, usize>
+    requires { AreRisingPids (slot_pids slots.now) }
+    ensures { MatchResult result (StandsAt (slot_pids slots.now) pid) (GoesTo (slot_pids slots.now) pid) }
+{
+    let near = pid as usize;
+    if near >= slots.len() {
+        return search(slots, pid);
+    }
+    if slots[near].pid == pid {
+        return Ok(near);
+    }
+    search(&slots[..near], pid)
+}
+
+// The same by halves.
+fn search<P>(slots: &[Slot<P>], pid: u64) -> Result<usize, usize>
+    requires { AreRisingPids (slot_pids slots.now) }
+    ensures { MatchResult result (StandsAt (slot_pids slots.now) pid) (GoesTo (slot_pids slots.now) pid) }
+{
+    slots.binary_search_by_key(&pid, |slot| slot.pid)
+}
+
+// Where the slot of a pid is that has a place.
+pub(crate) fn slot_in_use<P>(slots: &[Slot<P>], pid: u64) -> usize
+    requires rising { AreRisingPids (slot_pids slots.now) }
+    requires in_use { IsSome (place_of (table_of slots.now) pid) }
+    ensures { StandsAt (slot_pids slots.now) pid result }
+{
+    match slot_of(slots, pid) {
+        Ok(at) => at,
+        Err(_) => unreachable!(),
+    }
+}

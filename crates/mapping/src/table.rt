@@ -1,0 +1,132 @@
+ghost use Rattle.std.specs.Prelude.{◌≡◌, Some, None, IsSome, is_some, OnOk, OnErr};
+ghost use Rattle.std.specs.Option.{option_copied};
+ghost use Rattle.mapping.specs.LogState.{log_state};
+ghost use Rattle.mapping.specs.Table.{no_places, place_of, page_of, log_of, with_place, outdated, freed, with_room};
+
+use crate::logged::Logged;
+use crate::room::occupy;
+use crate::slots::{Place, Slot, slot_in_use, slot_of};
+use std::alloc::{AllocError, Allocator};
+use std::marker::Model;
+use std::mem;
+
+/// A map from pids to places for pages, with what the log has of each pid. Contracts see it as two lists by rising pid
+/// (`Mapping`): of the places, each with its page or with none while that is away, and of what the log has, where it
+/// has something.
+#[derive(Drop)]
+pub struct Table<P, A: Allocator> {
+    // By rising pid. A slot stays when its place goes, so that most slots stand at their pids' own numbers.
+    slots: Vec<Slot<P>, A>,
+    // Each number below this one has a place.
+    filled: u64,
+}
+
+impl<P, A: Allocator> Model for Table<P, A> {
+    ghost use Rattle.mapping.specs.Table.{Mapping};
+
+    ghost Value = { Mapping P };
+
+    ghost use Rattle.mapping.specs.Slots.{table_of, AreSlots};
+
+    ghost view = { λ t. table_of t.slots.items };
+
+    ghost invariant = { λ t. AreSlots t.slots.items t.filled };
+}
+
+impl<P: Drop, A: Allocator + Copy> Table<P, A> {
+    /// A table without places. This takes no memory.
+    pub fn new(alloc: A) -> Self
+        ensures { result ≡ no_places }
+    {
+        Table {
+            slots: Vec::new(alloc),
+            filled: 0,
+        }
+    }
+
+    /// Whether the pid has a place.
+    pub fn is_used(&self, pid: u64) -> bool
+        ensures { result ≡ is_some (place_of self.now pid) }
+    {
+        match slot_of(&self.slots, pid) {
+            Ok(at) => !matches!(&self.slots[at].page, Place::Vacant),
+            Err(_) => false,
+        }
+    }
+
+    /// The page at home under the pid, if there is one.
+    pub fn get(&self, pid: u64) -> Option<&P>
+        ensures { option_copied result ≡ page_of self.now pid }
+    {
+        match slot_of(&self.slots, pid) {
+            Ok(at) => match &self.slots[at].page {
+                Place::Home(page) => Some(page),
+                _ => None,
+            },
+            Err(_) => None,
+        }
+    }
+
+    /// What the log has of the pid.
+    pub fn logged(&self, pid: u64) -> Logged
+        ensures { log_state result ≡ log_of self.now pid }
+    {
+        match slot_of(&self.slots, pid) {
+            Ok(at) => self.slots[at].logged,
+            Err(_) => Logged::No,
+        }
+    }
+
+    /// Takes the page out of its place, which is away afterwards. This takes no memory, as `put` and `free` do not.
+    pub fn take(&mut self, pid: u64) -> P
+        requires { IsSome (page_of self.old pid) }
+        ensures page { page_of self.old pid ≡ Some result }
+        ensures table { self.new ≡ with_place self.old pid None }
+    {
+        let at = slot_in_use(&self.slots, pid);
+        match mem::replace(&mut self.slots[at].page, Place::Away) {
+            Place::Home(page) => page,
+            _ => unreachable!(),
+        }
+    }
+
+    /// Puts a page into its place, from which it was away.
+    pub fn put(&mut self, pid: u64, page: P)
+        requires { place_of self.old pid ≡ Some None }
+        ensures { self.new ≡ with_place self.old pid (Some page) }
+    {
+        let at = slot_in_use(&self.slots, pid);
+        self.slots[at].page = Place::Home(page);
+    }
+
+    /// Gives up the place of a page that is away. What the log has of the pid is of no present page then.
+    pub fn free(&mut self, pid: u64)
+        requires { place_of self.old pid ≡ Some None }
+        ensures { self.new ≡ freed self.old pid }
+    {
+        let at = slot_in_use(&self.slots, pid);
+        let slot = &mut self.slots[at];
+        slot.page = Place::Vacant;
+        slot.logged = slot.logged.outdated();
+        self.filled = self.filled.min(pid);
+    }
+
+    /// Says that the pid's page isn't the one that the log knows.
+    pub fn outdate(&mut self, pid: u64)
+        ensures { self.new ≡ outdated self.old pid }
+    {
+        if let Ok(at) = slot_of(&self.slots, pid) {
+            let slot = &mut self.slots[at];
+            slot.logged = slot.logged.outdated();
+        }
+    }
+
+    /// Makes a place for the pid, whose page is away, where it has none. Where memory is refused for that, nothing
+    /// has changed.
+    pub fn room(&mut self, pid: u64) -> Result<(), AllocError>
+        ensures ok { OnOk result (self.new ≡ with_room self.old pid) }
+        ensures err { OnErr result (self.new ≡ self.old) }
+    {
+        occupy(&mut self.slots, pid)
+    }
+}
