@@ -1,5 +1,5 @@
 -- The children of an index page, each with its range.
-use Rattle.std.specs.Prelude.{◌≡◌, ℕ, ◌<◌, Bool, false, List, [], ◌∷◌, length, Option, Some}
+use Rattle.std.specs.Prelude.{◌≡◌, ℕ, ◌<◌, Bool, false, List, [], ◌∷◌, length, Option, Some, None, if◌then◌else◌}
 use Rattle.index_page.specs.Page.{PageOfKind, entries, first_key}
 use Rattle.index_page.specs.Page.PageOfKind.{Leaf, Index}
 use Rattle.index_page.specs.Range.{is_below, is_within}
@@ -28,3 +28,9 @@ child_entries (Index p) = entries p
 -- the page has a child, and the first one's key isn't above the key
 abbrev pub HasChildFor : PageOfKind → List ℕ → Type 0
 HasChildFor p k = (0 < length (child_entries p)) × (is_below k (first_key (child_entries p)) ≡ false)
+
+-- of entries whose first key isn't above the key, the pid of the child in whose range the key lies, and the next child's low key
+abbrev pub child_with_end : List ℕ → List (List ℕ × ℕ) → ℕ × Option (List ℕ)
+child_with_end k [] = (0, None)
+child_with_end k (e ∷ []) = (e.1, None)
+child_with_end k (e ∷ f ∷ es) = if is_below k f.0 then (e.1, Some f.0) else child_with_end k (f ∷ es)

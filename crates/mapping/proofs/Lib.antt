@@ -1,8 +1,9 @@
 mod Around
 mod FindingRow
 mod FirstTree
+pub mod HomePages
 mod InUse
-mod Joined
+pub mod Joined
 mod Level
 pub mod LevelLaws
 mod Listing

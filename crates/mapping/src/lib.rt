@@ -10,6 +10,8 @@ pub mod logged;
 mod room;
 mod slots;
 pub mod table;
+pub mod tree;
 
 pub use crate::logged::Logged;
 pub use crate::table::Table;
+pub use crate::tree::Tree;
