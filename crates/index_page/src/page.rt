@@ -1,12 +1,12 @@
 ghost use Rattle.std.specs.Prelude.{◌≡◌, ℕ, ◌∷◌, [], true, ◌↔◌, List, Option, map, MatchOption, IsTrue};
 ghost use Rattle.std.specs.List.{filter};
-ghost use Rattle.std.specs.Option.{option_map};
+ghost use Rattle.std.specs.Option.{option_copied, option_map};
 ghost use Rattle.keys.specs.Order.{IsRising};
 ghost use Rattle.page_search.specs.Floor.{floor};
 ghost use Rattle.index_page.specs.Page.{PageOfKind, low_of, IsLeaf, IsIndex};
 ghost use Rattle.index_page.specs.Page.PageOfKind.{Leaf, Index};
 ghost use Rattle.index_page.specs.Range.{is_before};
-ghost use Rattle.index_page.specs.Children.{children, is_place_for, child_entries, HasChildFor};
+ghost use Rattle.index_page.specs.Children.{children, is_place_for, child_entries, child_with_end, HasChildFor};
 
 use delta_chain::Chain;
 use keys::{Key, Pid, Value};
@@ -104,6 +104,17 @@ impl<A: Allocator + Copy> Page<A> {
             Some(pid) => pid,
             None => unreachable!(),
         }
+    }
+
+    /// The page id of the one child in whose range the key lies, and the low key of the next child, up to which that range
+    /// goes; none for the last child, whose range goes up to the page's own end. `has_child_for` is the test for the
+    /// condition. It takes no memory.
+    pub fn child_with_end(&self, key: &[u8]) -> (Pid, Option<&[u8]>)
+        requires { HasChildFor self.now key.now }
+        ensures child { result.0 ≡ (child_with_end key.now (child_entries self.now)).0 }
+        ensures end { option_copied result.1 ≡ (child_with_end key.now (child_entries self.now)).1 }
+    {
+        unreachable!()
     }
 
     // The page id of the last child whose low key isn't above the key.

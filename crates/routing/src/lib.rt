@@ -5,9 +5,11 @@ ghost use Rattle.std.specs.Prelude.{◌≡◌, IfOk};
 ghost use Rattle.std.specs.List.Sorted.{IsStrictlyIncreasing};
 ghost use Rattle.routing.specs.Places.{places_below};
 
+pub mod descent;
 pub mod laws;
 pub mod sort;
 
+pub use crate::descent::{Routed, route};
 use std::alloc::{AllocError, Global};
 use std::marker::Model;
 

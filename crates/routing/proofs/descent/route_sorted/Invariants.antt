@@ -1,0 +1,10 @@
+use Rattle.std.proofs.Common.{◌≡◌, None}
+use Rattle.index_page.specs.Children.{children}
+use Rattle.mapping.specs.TreeInMemory.{tree_of}
+use Rattle.routing.specs.Shares.{lent_shares, shares}
+use Rattle.routing.proofs.DescentLaws.{names_at}
+use Rattle.routing.proofs.descent.route_sorted.Given as goal
+
+-- the shares are those of the level so far below the root
+abbrev pub invariant-loop-level : goal.invariant-loop-level
+invariant-loop-level l = lent_shares l.shares.items ≡ shares l.commands l.fn.places (children (names_at (tree_of l.tree).pages l.tree.root l._level) None)
