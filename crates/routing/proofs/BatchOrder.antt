@@ -1,8 +1,7 @@
 -- The shares of a level's pages, each in the order of the batch, are the routes to them.
 use Rattle.std.specs.Prelude.{◌≡◌, ℕ, ◌+◌, ◌<◌, Bool, true, false, ◌&&◌, ◌||◌, cond, List, [], ◌∷◌, ◌++◌, map, length, take, slice_get, nat_eq, Option, Some, None}
-use Rattle.std.proofs.Common.{refl, sym, ap, ◌∙◌, subst, arith, eqb-true, get_or}
-use Rattle.std.specs.List.{AllByRecursion, filter}
-use Rattle.std.specs.List.Sorted.{IsPermutation, IsNonDecreasing}
+use Rattle.std.proofs.Common.{refl, sym, ap, ◌∙◌, eqb-true, get_or}
+use Rattle.std.specs.List.{filter}
 use Rattle.std.proofs.lemmas.List.{map-append, take_more}
 use Rattle.std.proofs.lemmas.List.Kept.{IsStrictlySortedBy-filter}
 use Rattle.keys.specs.CommandKey.{key_of}
@@ -10,10 +9,10 @@ use Rattle.keys.specs.declared.command.Command.{Command}
 use Rattle.index_page.specs.Range.{is_within}
 use Rattle.index_page.specs.Children.{Place}
 use Rattle.mapping.specs.FreshPids.{is_among}
-use Rattle.routing.specs.BatchKeys.{key_or_empty, key_at}
+use Rattle.routing.specs.BatchKeys.{key_or_empty}
 use Rattle.routing.specs.Routes.{goes_to, places_within, Route, route_to, has_some, has_places}
 use Rattle.routing.specs.SortedPlaces.{order_of_places, AreSortedPlaces, AreSortedWithin}
-use Rattle.routing.specs.Shares.{share_of_lent, lent_shares, is_in_range, share_of, shares, IsInBatchOrder, AreInBatchOrder}
+use Rattle.routing.specs.Shares.{share_of_lent, lent_shares, is_in_range, shares, IsInBatchOrder, AreInBatchOrder}
 use Rattle.routing.proofs.RouteLaws.{is_passed, among-places, goes_by_key, within_all}
 use Rattle.routing.proofs.SortLaws.{among_itself}
 use Rattle.routing.proofs.ShareLaws.{Lent}

@@ -1,35 +1,34 @@
 -- Lemmas on the way of shares down the levels of a tree, for the proofs of this crate.
-use Rattle.std.specs.Prelude.{◌≡◌, ℕ, zero, suc, pred, ◌+◌, ◌-◌, ◌<◌, ◌≤◌, Bool, true, false, not, ◌&&◌, cond, List, [], ◌∷◌, ◌++◌, map, flat_map, length, drop, Option, Some, None}
+use Rattle.std.specs.Prelude.{◌≡◌, ℕ, zero, suc, pred, ◌+◌, ◌-◌, ◌<◌, Bool, true, false, not, ◌&&◌, cond, List, [], ◌∷◌, ◌++◌, map, flat_map, length, drop, Option, Some, None}
 use Rattle.std.proofs.Common.{refl, sym, ap, ◌∙◌, subst, arith, append_assoc, get_or, inl, inr}
 use Rattle.std.specs.List.{AllByRecursion, filter}
 use Rattle.std.specs.Map.{keys_of, values_of}
 use Rattle.std.proofs.Math.Seq.{drop-cons}
 use Rattle.std.proofs.lemmas.Bool.{cases_lt}
 use Rattle.std.proofs.lemmas.List.Kept.{IsStrictlySortedBy-filter}
-use Rattle.keys.specs.Order.{order, IsRising}
 use Rattle.keys.specs.declared.command.Command.{Command}
-use Rattle.index_page.specs.Page.{Page, PageOfKind, first_key}
-use Rattle.index_page.specs.Page.PageOfKind.{Leaf, Index}
-use Rattle.index_page.specs.Range.{is_below, is_before, is_within, AreBelow, AreFrom, AreBefore, IsBefore}
+use Rattle.index_page.specs.Page.{Page, PageOfKind}
+use Rattle.index_page.specs.Page.PageOfKind.{Index}
+use Rattle.index_page.specs.Range.{is_below, is_before, AreFrom, AreBefore, IsBefore}
 use Rattle.index_page.specs.Rules.{IsHeaded}
 use Rattle.index_page.specs.Children.{Place, children, child_entries, HasChildFor}
 use Rattle.index_page.proofs.ListLaws.{all_weaker}
 use Rattle.index_page.proofs.PageLaws.{all_keys_entries}
-use Rattle.index_page.proofs.RangeLaws.{below_is_less, less_is_below, not_below_lower, less_through}
+use Rattle.index_page.proofs.RangeLaws.{below_is_less, less_is_below, less_through}
 use Rattle.index_page.proofs.ChildLaws.{next_key, children-cons, children-append, within_parts}
 use Rattle.keys.proofs.MapLaws.{total}
 use Rattle.mapping.specs.Tree.{Tree, page_at}
 use Rattle.mapping.specs.Levels as levels
 use Rattle.mapping.specs.Levels.{Placed, Levels, joined, name, names, pids, as_leaf, as_index, leaf_at, index_at, levels_below, levels_of, first_pid, top_pid}
-use Rattle.mapping.specs.Proper.{next_low, IsTile, Tiled, IsParentOf, Stacked, AreLevels, HasIndexPages, HoldsLevels}
+use Rattle.mapping.specs.Proper.{next_low, IsTile, Tiled, Stacked, AreLevels, HasIndexPages, HoldsLevels}
 use Rattle.mapping.proofs.TileLaws.{Names, next_names, next_low-parents, rising-tile}
 use Rattle.mapping.proofs.LevelLaws.{values_of-names, index_pages_found}
 use Rattle.mapping.proofs.Joined.{next_joined}
 use Rattle.routing.specs.BatchKeys.{key_at}
-use Rattle.routing.specs.Routes.{Route, has_some, has_places, ranges, routes}
+use Rattle.routing.specs.Routes.{Route, has_some, ranges, routes}
 use Rattle.routing.proofs.BatchOrder.{routes_of_shares}
 use Rattle.routing.specs.SortedPlaces.{order_of_places, AreInKeyOrder, AreSortedPlaces}
-use Rattle.routing.specs.Shares.{share_of_lent, lent_shares, is_in_range, share_of, shares, root_shares, handed_down, CanHandDown, index_under, IsReady, share_below, AreInBatchOrder}
+use Rattle.routing.specs.Shares.{share_of_lent, lent_shares, is_in_range, shares, handed_down, CanHandDown, index_under, IsReady, share_below, AreInBatchOrder}
 use Rattle.routing.proofs.ShareLaws.{Lent, shares-append, no_shares, filter_twice, all_passed, same_first}
 
 -- ---- a range within another

@@ -1,33 +1,26 @@
 -- Lemmas on the shares that go down the tree, for the proofs of this crate.
-use Rattle.std.specs.Prelude.{◌≡◌, ℕ, zero, suc, ◌+◌, ◌<◌, ◌≤◌, Bool, true, false, not, ◌&&◌, cond, List, [], ◌∷◌, ◌++◌, map, flat_map, length, take, drop, slice_get, nat_eq, Option, Some, None}
+use Rattle.std.specs.Prelude.{◌≡◌, ℕ, zero, suc, ◌<◌, Bool, true, false, ◌&&◌, cond, List, [], ◌∷◌, ◌++◌, length, take, drop, Option, Some, None}
 use Rattle.std.proofs.Common.{refl, sym, ap, ◌∙◌, subst, arith, append-nil, append_assoc, get_or, Less}
 use Rattle.std.specs.Borrow.{Bor}
 use Rattle.std.specs.List.{AllByRecursion, filter}
-use Rattle.std.specs.List.Sorted.{IsPermutation, IsStrictlySortedBy, IsNonDecreasing}
-use Rattle.std.proofs.lemmas.Bool.{and_parts, not-true}
+use Rattle.std.specs.List.Sorted.{IsStrictlySortedBy}
 use Rattle.std.proofs.lemmas.List.{take-append-drop, map-append}
 use Rattle.std.proofs.lemmas.List.Elements.{filter-append}
-use Rattle.std.proofs.lemmas.List.Kept.{IsStrictlySortedBy-filter}
 use Rattle.keys.specs.Order.{order, IsRising}
 use Rattle.keys.proofs.MapLaws.{total}
-use Rattle.keys.specs.CommandKey.{key_of}
 use Rattle.keys.specs.declared.command.Command.{Command}
 use Rattle.index_page.specs.Page.{PageOfKind, first_key}
-use Rattle.index_page.specs.Page.PageOfKind.{Index}
-use Rattle.index_page.specs.Range.{is_below, is_before, is_within, AreBelow, AreFrom, AreBefore, IsBefore}
-use Rattle.index_page.specs.Rules.{IsHeaded}
+use Rattle.index_page.specs.Range.{is_below, is_before}
 use Rattle.index_page.specs.Children.{Place, children, child_entries, child_with_end, HasChildFor}
 use Rattle.index_page.proofs.ListLaws.{all_weaker, all_apart}
 use Rattle.index_page.proofs.RangeLaws.{below_is_less, less_is_below}
-use Rattle.index_page.proofs.ChildLaws.{next_key, place_of, children-cons, within, not_within_below, not_within_behind, within_parts}
-use Rattle.mapping.specs.FreshPids.{is_among}
-use Rattle.routing.specs.BatchKeys.{key_or_empty, key_at}
-use Rattle.routing.specs.Routes.{goes_to, places_within, Route, route_to, has_some, has_places, ranges, routes}
-use Rattle.routing.specs.SortedPlaces.{order_of_places, AreInKeyOrder, AreSortedPlaces, AreSortedWithin}
-use Rattle.routing.specs.Shares.{share_of_lent, lent_shares, is_in_range, share_of, shares, root_shares, handed_down, CanHandDown, IsInBatchOrder, AreInBatchOrder}
-use Rattle.routing.proofs.RouteLaws.{is_passed, among-places, goes_by_key, within_all}
-use Rattle.routing.proofs.SortLaws.{among_itself}
-use Rattle.routing.proofs.SliceLaws.{IsBelowKey, IsFromKey, earlier_below, sorted_drop, sorted_within_all, in_batch_order}
+use Rattle.index_page.proofs.ChildLaws.{next_key, children-cons, within, not_within_below, not_within_behind}
+use Rattle.routing.specs.BatchKeys.{key_at}
+use Rattle.routing.specs.Routes.{Route, has_some}
+use Rattle.routing.specs.SortedPlaces.{order_of_places, AreInKeyOrder}
+use Rattle.routing.specs.Shares.{share_of_lent, lent_shares, is_in_range, share_of, shares, root_shares, handed_down, CanHandDown}
+use Rattle.routing.proofs.RouteLaws.{within_all}
+use Rattle.routing.proofs.SliceLaws.{earlier_below, sorted_drop}
 
 -- ---- filters
 
