@@ -7,7 +7,7 @@ use crate::leaf_work::{LeafJob, LeafWork};
 use crate::piece::Piece;
 use crate::replay::{Leaf, LeafRun};
 use crew::{Turn, Work};
-use delta_chain::{Base, Chain};
+use delta_chain::{Base, Chain, Run};
 use keys::{Command, Key, Reply, Settings, Value};
 use routing::PageRun;
 use std::alloc::{AllocError, Global};
@@ -213,17 +213,6 @@ fn work_and_undo_on(
     }
 }
 
-// Works a first batch on the page, and then the steps as one that is undone.
-fn work_then_undo_on(
-    alloc: Global,
-    page: &mut Leaf,
-    first: &[Step],
-    steps: &[Step],
-) -> Result<Option<(Class, PageRun)>, AllocError> {
-    let _made = work_on(alloc, page, first)?;
-    work_and_undo_on(alloc, page, steps)
-}
-
 // Appends the class and the answers, or that the job came back.
 fn write_outcome(
     text: &mut String,
@@ -288,10 +277,24 @@ fn outcome(alloc: Global, batches: &[&[Step]]) -> Result<String, AllocError> {
     text_of_outcomes(alloc, &outcomes, &page)
 }
 
-// The class after the steps, and the places and the page that `undo` gives back, on a page that a first batch made.
-fn undone(alloc: Global, first: &[Step], steps: &[Step]) -> Result<String, AllocError> {
+// A page of one run, which gives a the value 1.
+fn page_with_a(alloc: Global) -> Result<Leaf, AllocError> {
+    let key = Key::from_bytes(alloc, b"a")?;
+    let value = Value::from_bytes(alloc, b"1")?;
+    let mut run = Run::with_capacity(alloc, 1)?;
+    let is_pushed = run.push(key, Some(value)).is_ok();
     let mut page = Chain::of_base(Base::empty(alloc));
-    let undone = work_then_undo_on(alloc, &mut page, first, steps)?;
+    if is_pushed && page.prepend(run).is_ok() {
+        Ok(page)
+    } else {
+        Err(AllocError)
+    }
+}
+
+// The class after the steps, and the places and the page that `undo` gives back.
+fn undone(alloc: Global, steps: &[Step]) -> Result<String, AllocError> {
+    let mut page = page_with_a(alloc)?;
+    let undone = work_and_undo_on(alloc, &mut page, steps)?;
     text_of_undone(alloc, &undone, &page)
 }
 
@@ -350,17 +353,16 @@ fn a_page_past_its_limits_is_replaced(rt: HostRuntime) -> Result<(), Fail> {
 #[test]
 fn what_is_undone_is_the_page_before(rt: HostRuntime) -> Result<(), Fail> {
     let alloc = rt.alloc();
-    let one = [Step::Put("a", "1")];
     assert_eq!(rt;
-        undone(alloc, &one, &[Step::Get("b"), Step::Add("a", "2")])?.as_str(),
+        undone(alloc, &[Step::Get("b"), Step::Add("a", "2")])?.as_str(),
         "Same, undone at [0, 1]: depth 1, run a=1, base of 0, holds a=1"
     );
     assert_eq!(rt;
-        undone(alloc, &one, &[Step::Put("b", "2"), Step::Del("a")])?.as_str(),
+        undone(alloc, &[Step::Put("b", "2"), Step::Del("a")])?.as_str(),
         "Changed, undone at [0, 1]: depth 1, run a=1, base of 0, holds a=1"
     );
     assert_eq!(rt;
-        undone(alloc, &one, &FIVE_PUTS)?.as_str(),
+        undone(alloc, &FIVE_PUTS)?.as_str(),
         "Fat, undone at [0, 1, 2, 3, 4]: depth 1, run a=1, base of 0, holds a=1"
     );
     Ok(())
