@@ -1,5 +1,6 @@
 mod Around
 mod FindingRow
+mod FreshLaws
 mod InUse
 mod Joined
 mod Level
