@@ -1,6 +1,7 @@
 mod Around
 mod FindingRow
 mod FirstTree
+mod FreshLaws
 mod InUse
 mod Joined
 mod Level
