@@ -1,4 +1,4 @@
-ghost use Rattle.std.specs.Prelude.{◌≡◌, Some, None, IsSome, is_some, IfOk, OnOk, OnErr};
+ghost use Rattle.std.specs.Prelude.{◌≡◌, ◌↔◌, Some, None, IsTrue, IsSome, is_some, IfOk, OnOk, OnErr};
 ghost use Rattle.std.specs.Option.{option_copied};
 ghost use Rattle.mapping.specs.LogState.{log_state};
 ghost use Rattle.mapping.specs.Table.{no_places, place_of, page_of, log_of, with_place, outdated, freed, with_room, with_rooms, pids_in_use, fresh_pids};
@@ -49,6 +49,16 @@ impl<P: Drop, A: Allocator + Copy> Table<P, A> {
         ensures { result ≡ is_some (place_of self.now pid) }
     {
         is_used(&self.slots, pid)
+    }
+
+    /// Whether the pid has a place whose page is away, so that one may be put there.
+    pub fn is_away(&self, pid: u64) -> bool
+        ensures { IsTrue result ↔ (place_of self.now pid ≡ Some None) }
+    {
+        match slot_of(&self.slots, pid) {
+            Ok(at) => matches!(&self.slots[at].page, Place::Away),
+            Err(_) => false,
+        }
     }
 
     /// The page at home under the pid, if there is one.
