@@ -13,6 +13,7 @@ pub mod PidLaws
 mod RoomLaws
 mod Search
 pub mod TableLaws
+mod TableRows
 mod TableSlots
 pub mod TileLaws
 mod Walk
