@@ -1,13 +1,11 @@
 -- Drawing the least numbers that have no place, one after the other, and making a place for each.
-use Rattle.std.specs.Prelude.{◌≡◌, ◌≢◌, ℕ, zero, suc, Bool, ◌+◌, ◌-◌, ◌<◌, ◌≤◌, ◌⊎◌, true, false, List, [], ◌∷◌, ◌++◌, map, length, get_or, Option, Some, None, is_some}
+use Rattle.std.specs.Prelude.{◌≡◌, ◌≢◌, ℕ, zero, suc, Bool, ◌+◌, ◌-◌, ◌<◌, ◌≤◌, ◌⊎◌, true, false, List, [], ◌∷◌, ◌++◌, length, get_or}
 use Rattle.std.proofs.Common.{refl, sym, ap, ◌∙◌, arith, subst, inl, inr}
-use Rattle.std.specs.List.{AllByRecursion, range_with_len}
-use Rattle.std.specs.Map.{keys_of}
 use Rattle.std.proofs.lemmas.Bool.{cases_lt}
 use Rattle.std.proofs.lemmas.List.FromFn.{map-range_with_len_more, length-map-range_with_len, get_or-map-range_with_len}
 use Rattle.mapping.specs.Proper.{AreRisingPids}
 use Rattle.mapping.specs.FreshPids.{is_among, unused}
-use Rattle.mapping.specs.Table.{Mapping, pids_in_use, place_of, room_by, with_room, with_rooms, fresh_pids}
+use Rattle.mapping.specs.Table.{Mapping, pids_in_use, with_room, with_rooms, fresh_pids}
 use Rattle.mapping.specs.Slots.{slot_pids, placed, table_of, AreInUseBelow, AreSlots}
 use Rattle.mapping.specs.declared.slots.Slot.{Slot}
 use Rattle.mapping.proofs.PidLaws.{unused-is_free, unused-rises, unused-leaves_none}

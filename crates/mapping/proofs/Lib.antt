@@ -16,6 +16,7 @@ pub mod SameTable
 mod Search
 pub mod TableLaws
 pub mod TableOfLevels
+mod TableRows
 mod TableSlots
 pub mod TileLaws
 mod Walk

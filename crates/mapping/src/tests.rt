@@ -5,7 +5,12 @@ use std::process::Abort;
 use std::test::Fail;
 
 // Makes room for the pid and puts the page there, where the pid has no place.
-fn settle(rt: &impl Abort, table: &mut Table<u64, Global>, pid: u64, page: u64) -> Result<(), Fail> {
+fn settle(
+    rt: &impl Abort,
+    table: &mut Table<u64, Global>,
+    pid: u64,
+    page: u64,
+) -> Result<(), Fail> {
     assert!(rt; !table.is_used(pid));
     table.room(pid)?;
     assert!(rt; table.is_away(pid));
