@@ -1,12 +1,11 @@
 -- Lemmas on what a session prints.
-use Rattle.std.proofs.Common.{◌≡◌, ◌≢◌, ◌<◌, ◌+◌, ◌⊎◌, inl, inr, ℕ, length, get_or, List, [], ◌∷◌, ◌++◌, map, take, drop, Option, Some, None, IfSome, Result, Ok, Err, refl, sym, ap, ◌∙◌, subst, append_assoc, append-nil, take-append-drop, arith}
+use Rattle.std.proofs.Common.{◌≡◌, ◌<◌, ◌+◌, ◌⊎◌, inl, inr, ℕ, length, get_or, List, [], ◌∷◌, ◌++◌, map, take, drop, Option, Some, None, IfSome, Result, Ok, Err, refl, sym, ap, ◌∙◌, subst, append_assoc, append-nil, take-append-drop, arith}
 use Rattle.std.specs.List.{flat_map}
 use Rattle.std.specs.Io.KnownBytes.{Appends, Keeps}
 use Rattle.std.proofs.KnownBytes.{Appends-trans, Appends-kept, Appends-nil}
 use Rattle.std.proofs.lemmas.Grind.{flat_map-append}
 use Rattle.std.proofs.lemmas.List.{map-append, drop_more}
 use Rattle.std.proofs.lemmas.List.Folds.{flat_map-map}
-use Rattle.std.specs.Option.{option_map}
 use Rattle.bwsh.specs.declared.line.Why.{Why}
 use Rattle.std.specs.Prelude.{unwrap_or, MatchOption, IsOkUnless, OnOk, OnErr}
 use Rattle.std.specs.declared.alloc.Global.{Global}
@@ -30,7 +29,7 @@ use Rattle.keys.proofs.RunLaws.{replies_to-append}
 use Rattle.bwsh.specs.declared.line.Says.{Says}
 use Rattle.bwsh.specs.BatchFile.{orders_of, commands_of, commands_said}
 use Rattle.bwsh.proofs.OrderLaws.{commands-orders_of}
-use Rattle.bwsh.specs.Session.{status_of_end, answer_lines, printed, first_refusal, accepted, stopped_by, orders_end, end_after, lines_after, IsReadEnding, BeginsWith, Prints}
+use Rattle.bwsh.specs.Session.{status_of_end, answer_lines, printed, accepted, orders_end, end_after, lines_after, IsReadEnding, BeginsWith, Prints}
 use Rattle.bwsh.specs.Shown.{shown_reply}
 
 -- ---- fronts of lists
