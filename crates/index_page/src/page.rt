@@ -88,6 +88,30 @@ impl<A: Allocator + Copy> Page<A> {
         }
     }
 
+    /// The low key and the values of this leaf. `as_leaf` is the test for the condition.
+    pub fn into_leaf(self) -> (Key<A>, Chain<Value<A>, A>)
+        requires { IsLeaf self }
+        ensures { self ≡ Leaf (record { low = result.0; layers = result.1 }) }
+    {
+        let Page { low, state } = self;
+        match state {
+            State::Values(chain) => (low, chain),
+            State::Pids(_) => unreachable!(),
+        }
+    }
+
+    /// The low key and the page ids of this index page. `as_index` is the test for the condition.
+    pub fn into_index(self) -> (Key<A>, Chain<Pid, A>)
+        requires { IsIndex self }
+        ensures { self ≡ Index (record { low = result.0; layers = result.1 }) }
+    {
+        let Page { low, state } = self;
+        match state {
+            State::Values(_) => unreachable!(),
+            State::Pids(chain) => (low, chain),
+        }
+    }
+
     /// Whether this is an index page that has a child at the key or below it, so that `child_for` has an answer.
     pub fn has_child_for(&self, key: &[u8]) -> bool
         ensures { IsTrue result ↔ HasChildFor self.now key.now }

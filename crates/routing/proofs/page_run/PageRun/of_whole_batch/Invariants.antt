@@ -1,7 +1,7 @@
 use Rattle.std.proofs.Common.{◌≡◌}
 use Rattle.std.specs.Prelude.{vec_len, vec_capacity}
 use Rattle.routing.specs.Places.{places_below}
-use Rattle.routing.proofs.PageRun.of_whole_batch.Given as goal
+use Rattle.routing.proofs.page_run.PageRun.of_whole_batch.Given as goal
 
 -- the places so far are those below the next, and there is room for the rest
 abbrev pub invariant-loop-place : goal.invariant-loop-place

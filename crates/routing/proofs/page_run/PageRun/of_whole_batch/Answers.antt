@@ -1,6 +1,6 @@
 use Rattle.std.proofs.Common.{add-one, sym, ap, ◌+◌, ℕ, ◌∙◌}
 use Rattle.routing.proofs.PlaceLaws.{places_below-suc, rising-places_below}
-use Rattle.routing.proofs.PageRun.of_whole_batch.Goals as goal
+use Rattle.routing.proofs.page_run.PageRun.of_whole_batch.Goals as goal
 
 pub loop-place-preserved : goal.loop-place-preserved
 loop-place-preserved c = record {
@@ -11,6 +11,3 @@ loop-place-preserved c = record {
 
 pub invariant_of-result : goal.invariant_of-result
 invariant_of-result c = rw c.loop-place.invariant.so_far (rising-places_below c.loop-place.place)
-
-pub returns-clause-rising : goal.returns-clause-rising
-returns-clause-rising c = rw c.loop-place.invariant.so_far (rising-places_below c.loop-place.place)
