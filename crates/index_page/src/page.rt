@@ -291,6 +291,37 @@ mod tests {
         Ok(())
     }
 
+    const NONE: Pid = Pid(9);
+
+    // The numbers of the first three children between the bounds, with 9 where there are no more.
+    fn three_between<'x>(page: &'x Page<Global>, lo: &'x [u8], hi: Option<&'x [u8]>) -> [u64; 3] {
+        let mut walk = page.children(lo, hi);
+        let first = match walk.next() {
+            Some(child) => child.1,
+            None => NONE,
+        };
+        let second = match walk.next() {
+            Some(child) => child.1,
+            None => NONE,
+        };
+        let third = match walk.next() {
+            Some(child) => child.1,
+            None => NONE,
+        };
+        [first.0, second.0, third.0]
+    }
+
+    #[test]
+    fn children_are_those_that_meet_the_bounds(rt: HostRuntime) -> Result<(), Fail> {
+        let page = page(rt.alloc())?;
+        assert_eq!(rt; three_between(&page, b"e", None), [0, 3, 2]);
+        assert_eq!(rt; three_between(&page, b"e", Some(b"h")), [0, 3, 9]);
+        assert_eq!(rt; three_between(&page, b"f", Some(b"hh")), [3, 2, 9]);
+        assert_eq!(rt; three_between(&page, b"g", Some(b"b")), [3, 9, 9]);
+        assert_eq!(rt; three_between(&page, b"f", Some(b"f")), [3, 9, 9]);
+        Ok(())
+    }
+
     #[test]
     fn a_page_without_children_has_none_for_any_key(rt: HostRuntime) {
         let leaf = Page::leaf(
