@@ -37,7 +37,8 @@ impl PageRun {
     /// The run of the page with this id, where that has to work every command of the batch. `AllocError` where memory
     /// is refused for the places.
     pub fn of_whole_batch(alloc: Global, pid: Pid, commands: usize) -> Result<PageRun, AllocError>
-        ensures { IfOk result (λ run. run ≡ record { pid = pid; places = places_below commands }) }
+        ensures run { IfOk result (λ run. run ≡ record { pid = pid; places = places_below commands }) }
+        ensures rising { IfOk result (λ run. IsStrictlyIncreasing run.places) }
     {
         let mut places = Vec::with_capacity(alloc, commands)?;
         for place in 0..commands {

@@ -8,25 +8,25 @@ use Rattle.engine.proofs.store.Store.batch.Goals as goal
 
 pub work-requires : goal.work-requires
 work-requires c =
-    may_work c.self.inside.settings c.args.commands.now c.empty.result c.replace-leaf.result c.leaf-page.result c.in_ok-page_run.page_run c.leaf-page.ensures c.in_ok-page_run.ensures
+    may_work c.self.inside.settings c.args.commands.now c.empty.result c.replace-leaf.result c.leaf-page.result c.in_ok-page_run.page_run c.leaf-page.ensures c.in_ok-page_run.ensures.run
 
 pub replies_of-replies-requires-clause-enough : goal.replies_of-replies-requires-clause-enough
 replies_of-replies-requires-clause-enough c =
     rw c.in_ok-room.ensures.exact
-    (enough_room c.self.inside.settings c.args.commands.now c.empty.result c.replace-leaf.result c.leaf-page.result c.in_ok-page_run.page_run c.leaf-page.ensures c.in_ok-page_run.ensures
+    (enough_room c.self.inside.settings c.args.commands.now c.empty.result c.replace-leaf.result c.leaf-page.result c.in_ok-page_run.page_run c.leaf-page.ensures c.in_ok-page_run.ensures.run
     c.in-Done.done.made c.in-Done.ensures.made c.into_page_and_pieces-page.result.1.items c.into_page_and_pieces-page.ensures.pieces)
 
 pub returns-in-Done-clause-replies : goal.returns-in-Done-clause-replies
 returns-in-Done-clause-replies c =
     rw (← c.self.view_is, ← c.replace-leaf.ensures.value)
     (c.replies_of-replies.ensures
-    ∙ leaf_replies c.self.inside.settings c.args.commands.now c.empty.result c.replace-leaf.result c.leaf-page.result c.in_ok-page_run.page_run c.leaf-page.ensures c.in_ok-page_run.ensures
+    ∙ leaf_replies c.self.inside.settings c.args.commands.now c.empty.result c.replace-leaf.result c.leaf-page.result c.in_ok-page_run.page_run c.leaf-page.ensures c.in_ok-page_run.ensures.run
     c.in-Done.done.made c.in-Done.ensures.made c.into_page_and_pieces-page.result.1.items c.into_page_and_pieces-page.ensures.pieces)
 
 pub returns-in-Done-clause-leaf : goal.returns-in-Done-clause-leaf
 returns-in-Done-clause-leaf c =
     rw (← c.self.view_is, ← c.replace-leaf.ensures.value)
-    (leaf_after c.self.inside.settings c.args.commands.now c.empty.result c.replace-leaf.result c.leaf-page.result c.in_ok-page_run.page_run c.leaf-page.ensures c.in_ok-page_run.ensures
+    (leaf_after c.self.inside.settings c.args.commands.now c.empty.result c.replace-leaf.result c.leaf-page.result c.in_ok-page_run.page_run c.leaf-page.ensures c.in_ok-page_run.ensures.run
     c.in-Done.done.made c.in-Done.ensures.made c.into_leaf-low.result.0 c.into_leaf-low.result.1 c.into_page_and_pieces-page.result.0 c.into_page_and_pieces-page.ensures.page c.into_leaf-low.ensures)
 
 pub returns-in-Done-clause-contents : goal.returns-in-Done-clause-contents

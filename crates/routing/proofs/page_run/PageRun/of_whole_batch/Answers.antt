@@ -11,3 +11,6 @@ loop-place-preserved c = record {
 
 pub invariant_of-result : goal.invariant_of-result
 invariant_of-result c = rw c.loop-place.invariant.so_far (rising-places_below c.loop-place.place)
+
+pub returns-clause-rising : goal.returns-clause-rising
+returns-clause-rising c = rw c.loop-place.invariant.so_far (rising-places_below c.loop-place.place)
