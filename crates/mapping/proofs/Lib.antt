@@ -2,8 +2,9 @@ mod Around
 mod FindingRow
 mod FirstTree
 mod FreshLaws
+pub mod HomePages
 mod InUse
-mod Joined
+pub mod Joined
 mod Level
 pub mod LevelLaws
 mod Listing

@@ -56,6 +56,10 @@ module _ {V : Type 0} where
       let P : List ℕ → Type 0 = λ j. is_below j p.page.low ≡ false in
       all_keys-append P (entries p) (joined (q ∷ qs)) (all_keys_entries P p.page h.0.keys.from) (from_lower p.page.low q.page.low (keys_of (joined (q ∷ qs))) h.0.low (from-joined q qs end h.1))
 
+  -- a page's entries rise
+  pub rising-tile : (end : Option (List ℕ)) (p : Placed V) → IsTile end p → IsRising (entries p)
+  rising-tile end p t = rising-entries_of p.page.layers t.keys.rising
+
   -- the entries rise
   pub rising-joined : (ps : List (Placed V)) (end : Option (List ℕ)) → Tiled ps end → IsRising (joined ps)
   unfolding IsStrictlySortedBy

@@ -7,3 +7,4 @@ pub mod Proper
 pub mod Slots
 pub mod Table
 pub mod Tree
+pub mod TreeInMemory

@@ -12,6 +12,8 @@ mod slots;
 pub mod table;
 #[cfg(test)]
 mod tests;
+pub mod tree;
 
 pub use crate::logged::Logged;
 pub use crate::table::Table;
+pub use crate::tree::Tree;

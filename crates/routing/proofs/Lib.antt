@@ -1,5 +1,8 @@
 pub mod PlaceLaws
+mod BatchOrder
+pub mod DescentLaws
 pub mod RouteLaws
 mod Rows
+pub mod ShareLaws
 pub mod SliceLaws
 pub mod SortLaws

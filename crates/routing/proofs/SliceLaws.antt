@@ -37,13 +37,13 @@ module _ {X : Type 0} (P : X → Type 0) where
   all_take (suc n) (x ∷ xs) a = (a.0, all_take n xs a.1)
 
 module _ {X : Type 0} (R : X → X → Ordering) where
-  sorted_take : (n : ℕ) (xs : List X) → IsStrictlySortedBy R xs → IsStrictlySortedBy R (take n xs)
+  pub sorted_take : (n : ℕ) (xs : List X) → IsStrictlySortedBy R xs → IsStrictlySortedBy R (take n xs)
   unfolding IsStrictlySortedBy
   sorted_take zero xs s = tt
   sorted_take (suc n) [] s = tt
   sorted_take (suc n) (x ∷ xs) s = (all_take (λ y. R x y ≡ Less) n xs s.0, sorted_take n xs s.1)
 
-  sorted_drop : (n : ℕ) (xs : List X) → IsStrictlySortedBy R xs → IsStrictlySortedBy R (drop n xs)
+  pub sorted_drop : (n : ℕ) (xs : List X) → IsStrictlySortedBy R xs → IsStrictlySortedBy R (drop n xs)
   unfolding IsStrictlySortedBy
   sorted_drop zero xs s = s
   sorted_drop (suc n) [] s = tt
@@ -156,7 +156,7 @@ module _ {A : Type 0} (cs : List (Command A)) where
   below_by Equal p q k e l h = rw (total.congr (key_at cs p) (key_at cs q) k e) h
   below_by Greater p q k e l h = absurd (cc)
 
-  earlier_below : (p q : ℕ) (k : List ℕ) → order_of_places cs p q ≡ Less → IsBelowKey k q → IsBelowKey k p
+  pub earlier_below : (p q : ℕ) (k : List ℕ) → order_of_places cs p q ≡ Less → IsBelowKey k q → IsBelowKey k p
   earlier_below p q k l h = below_by (order (key_at cs p) (key_at cs q)) p q k refl l h
 
   -- of places in key order, those below a key stand first

@@ -9,7 +9,7 @@ ghost use Rattle.routing.specs.BatchKeys.{key_at};
 ghost use Rattle.routing.specs.Places.{places_below};
 ghost use Rattle.routing.specs.SortedPlaces.{AreInKeyOrder, AreSortedPlaces};
 
-use keys::{Command, Key};
+use keys::Command;
 use rayon::prelude::*;
 use std::alloc::{AllocError, Allocator, Global};
 use std::thread::Threads;
@@ -67,7 +67,7 @@ fn places_of(alloc: Global, keyed: &[(&[u8], usize)]) -> Result<Vec<usize>, Allo
 }
 
 // The key of the command at this place, and the empty key where there is none.
-fn key_at<A: Allocator>(commands: &[Command<A>], place: usize) -> &[u8]
+pub(crate) fn key_at<A: Allocator>(commands: &[Command<A>], place: usize) -> &[u8]
     ensures { result.now ≡ key_at commands.now place }
 {
     match commands.get(place) {
@@ -78,7 +78,7 @@ fn key_at<A: Allocator>(commands: &[Command<A>], place: usize) -> &[u8]
 
 /// How many of these places, which are in the order of their keys, have a key below this one. It is found by halves. A
 /// descent gives a child those that stand before the end of its range.
-pub fn count_below<A: Allocator>(commands: &[Command<A>], places: &[usize], key: &Key<A>) -> usize
+pub fn count_below<A: Allocator>(commands: &[Command<A>], places: &[usize], key: &[u8]) -> usize
     requires { AreInKeyOrder commands.now places.now }
     ensures most { result ≤ length places.now }
     ensures below { AllByRecursion (λ place. is_below (key_at commands.now place) key.now ≡ true) (take result places.now) }
@@ -87,7 +87,7 @@ pub fn count_below<A: Allocator>(commands: &[Command<A>], places: &[usize], key:
     places.partition_point(
         |place: &usize| -> bool
             ensures { result ≡ is_below (key_at commands.entry.now place.now) key.entry.now }
-        { key_at(commands, *place).cmp(key.as_bytes()).is_lt() },
+        { key_at(commands, *place).cmp(key).is_lt() },
     )
 }
 
@@ -104,6 +104,7 @@ pub fn in_batch_order(alloc: Global, places: &[usize]) -> Result<Vec<usize>, All
 #[cfg(test)]
 mod tests {
     use super::*;
+    use keys::Key;
     use std::test::Fail;
 
     fn get(alloc: Global, key: &[u8]) -> Result<Command<Global>, AllocError> {
@@ -121,8 +122,7 @@ mod tests {
         commands.push(get(alloc, b"a")?)?;
         let places = sorted_places(&rt, alloc, &commands)?;
         assert_eq!(rt; places.as_slice(), [1, 4, 2, 0, 3].as_slice());
-        let end = Key::from_bytes(alloc, b"b")?;
-        assert_eq!(rt; count_below(&commands, &places, &end), 3);
+        assert_eq!(rt; count_below(&commands, &places, b"b"), 3);
         let run = in_batch_order(alloc, &places[..3])?;
         assert_eq!(rt; run.as_slice(), [1, 2, 4].as_slice());
         Ok(())

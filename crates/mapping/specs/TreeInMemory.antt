@@ -1,0 +1,25 @@
+-- A tree in memory: a table with a root and a height, and the tree that it stands for.
+use Rattle.std.specs.Prelude.{◌≡◌, ℕ, List, flat_map, Option, IsSome}
+use Rattle.std.specs.List.{AllByRecursion}
+use Rattle.index_page.specs.Page.{PageOfKind}
+use Rattle.mapping.specs.Tree.{Tree}
+use Rattle.mapping.specs.Table.{Mapping}
+use Rattle.mapping.specs.Slots.{entry_if}
+
+-- the pages in their places, with what the log has of each; the root's pid; the number of levels
+pub record TreeInMemory : Type 0 where
+  pub table : Mapping PageOfKind
+  pub root : ℕ
+  pub height : ℕ
+
+-- no page is away
+abbrev pub AreAllHome : TreeInMemory → Type 0
+AreAllHome t = AllByRecursion (λ e. IsSome e.1) t.table.places
+
+-- the pages that are at home, under their pids
+abbrev pub home_pages : {P : Type 0} → List (ℕ × Option P) → List (ℕ × P)
+home_pages es = flat_map (λ e. entry_if e.0 e.1) es
+
+-- the tree of these pages
+abbrev pub tree_of : TreeInMemory → Tree
+tree_of t = record { pages = home_pages t.table.places; root = t.root; height = t.height; logged = t.table.logged }

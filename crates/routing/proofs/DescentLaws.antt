@@ -1,0 +1,337 @@
+-- Lemmas on the way of shares down the levels of a tree, for the proofs of this crate.
+use Rattle.std.specs.Prelude.{◌≡◌, ℕ, zero, suc, pred, ◌+◌, ◌-◌, ◌<◌, Bool, true, false, not, ◌&&◌, cond, List, [], ◌∷◌, ◌++◌, map, flat_map, length, drop, Option, Some, None}
+use Rattle.std.proofs.Common.{refl, sym, ap, ◌∙◌, subst, arith, append_assoc, get_or, inl, inr}
+use Rattle.std.specs.List.{AllByRecursion, filter}
+use Rattle.std.specs.Map.{keys_of, values_of}
+use Rattle.std.proofs.Math.Seq.{drop-cons}
+use Rattle.std.proofs.lemmas.Bool.{cases_lt}
+use Rattle.std.proofs.lemmas.List.Kept.{IsStrictlySortedBy-filter}
+use Rattle.keys.specs.declared.command.Command.{Command}
+use Rattle.index_page.specs.Page.{Page, PageOfKind}
+use Rattle.index_page.specs.Page.PageOfKind.{Index}
+use Rattle.index_page.specs.Range.{is_below, is_before, AreFrom, AreBefore, IsBefore}
+use Rattle.index_page.specs.Rules.{IsHeaded}
+use Rattle.index_page.specs.Children.{Place, children, child_entries, HasChildFor}
+use Rattle.index_page.proofs.ListLaws.{all_weaker}
+use Rattle.index_page.proofs.PageLaws.{all_keys_entries}
+use Rattle.index_page.proofs.RangeLaws.{below_is_less, less_is_below, less_through}
+use Rattle.index_page.proofs.ChildLaws.{next_key, children-cons, children-append, within_parts}
+use Rattle.keys.proofs.MapLaws.{total}
+use Rattle.mapping.specs.Tree.{Tree, page_at}
+use Rattle.mapping.specs.Levels as levels
+use Rattle.mapping.specs.Levels.{Placed, Levels, joined, name, names, pids, as_leaf, as_index, leaf_at, index_at, levels_below, levels_of, first_pid, top_pid}
+use Rattle.mapping.specs.Proper.{next_low, IsTile, Tiled, Stacked, AreLevels, HasIndexPages, HoldsLevels}
+use Rattle.mapping.proofs.TileLaws.{Names, next_names, next_low-parents, rising-tile}
+use Rattle.mapping.proofs.LevelLaws.{values_of-names, index_pages_found}
+use Rattle.mapping.proofs.Joined.{next_joined}
+use Rattle.routing.specs.BatchKeys.{key_at}
+use Rattle.routing.specs.Routes.{Route, has_some, ranges, routes}
+use Rattle.routing.proofs.BatchOrder.{routes_of_shares}
+use Rattle.routing.specs.SortedPlaces.{order_of_places, AreInKeyOrder, AreSortedPlaces}
+use Rattle.routing.specs.Shares.{share_of_lent, lent_shares, is_in_range, shares, handed_down, CanHandDown, index_under, IsReady, share_below, AreInBatchOrder}
+use Rattle.routing.proofs.ShareLaws.{Lent, shares-append, no_shares, filter_twice, all_passed, same_first}
+
+-- ---- a range within another
+
+narrowed_last : (a x y : Bool) → (a ≡ true → x ≡ true) → (a && y) ≡ ((x && y) && (a && true))
+narrowed_last true true true f = refl
+narrowed_last true true false f = refl
+narrowed_last true false y f = absurd (let h = f refl in cc)
+narrowed_last false true true f = refl
+narrowed_last false true false f = refl
+narrowed_last false false y f = refl
+
+narrowed : (a b x y : Bool) → (a ≡ true → x ≡ true) → (b ≡ true → y ≡ true) → (a && b) ≡ ((x && y) && (a && b))
+narrowed true true true true f g = refl
+narrowed true true true false f g = absurd (let h = g refl in cc)
+narrowed true true false y f g = absurd (let h = f refl in cc)
+narrowed true false true true f g = refl
+narrowed true false true false f g = refl
+narrowed true false false y f g = refl
+narrowed false b true true f g = refl
+narrowed false b true false f g = refl
+narrowed false b false y f g = refl
+
+from_by : (b : Bool) (k low e : List ℕ) → is_below k low ≡ b → is_below e low ≡ false → not (is_below k e) ≡ true → not b ≡ true
+from_by false k low e b h n = refl
+from_by true k low e b h n =
+    absurd (let l = less_is_below k e (less_through k e low b h) in let m : not (is_below k e) ≡ false = rw l refl in cc)
+
+-- a key from e on is from a lower key on
+from_low : (k low e : List ℕ) → is_below e low ≡ false → not (is_below k e) ≡ true → not (is_below k low) ≡ true
+from_low k low e h n = from_by (is_below k low) k low e refl h n
+
+-- a key below f is before an end that f is before
+before_high : (end : Option (List ℕ)) (k f : List ℕ) → IsBefore end f → is_below k f ≡ true → is_before end k ≡ true
+before_high None k f h b = refl
+before_high (Some hi) k f h b = less_is_below k hi (total.trans k f hi (below_is_less k f b) h)
+
+second_before : (end : Option (List ℕ)) (e f : List ℕ × ℕ) (es : Names) → AreBefore end (keys_of (e ∷ f ∷ es)) → IsBefore end f.0 × AreBefore end (keys_of (f ∷ es))
+second_before None e f es a = (tt, tt)
+second_before (Some hi) e f es a = (below_is_less f.0 hi a.1.0, a.1)
+
+module _ {A : Type 0} (cs : List (Command A)) (low : List ℕ) (end : Option (List ℕ)) where
+  -- the children of a page get the same of all places as of the page's own
+  pub shares-narrowed : (es : Names) (ps : List ℕ) → AreFrom low (keys_of es) → AreBefore end (keys_of es) → shares cs ps (children es end) ≡ shares cs (filter (is_in_range cs low end) ps) (children es None)
+  shares-narrowed [] ps a b = refl
+  shares-narrowed (e ∷ []) ps a b =
+      same_first e.1 (filter (is_in_range cs e.0 end) ps) (filter (is_in_range cs e.0 None) (filter (is_in_range cs low end) ps)) [] []
+      (filter_twice (is_in_range cs e.0 end) (is_in_range cs low end) (is_in_range cs e.0 None)
+      (λ q. narrowed_last (not (is_below (key_at cs q) e.0)) (not (is_below (key_at cs q) low)) (is_before end (key_at cs q)) (from_low (key_at cs q) low e.0 a.0)) ps) refl
+  shares-narrowed (e ∷ f ∷ es) ps a b =
+      let s = second_before end e f es b in
+      same_first e.1 (filter (is_in_range cs e.0 (Some f.0)) ps) (filter (is_in_range cs e.0 (Some f.0)) (filter (is_in_range cs low end) ps)) (shares cs ps (children (f ∷ es) end)) (shares cs (filter (is_in_range cs low end) ps) (children (f ∷ es) None))
+      (filter_twice (is_in_range cs e.0 (Some f.0)) (is_in_range cs low end) (is_in_range cs e.0 (Some f.0))
+      (λ q. narrowed (not (is_below (key_at cs q) e.0)) (is_below (key_at cs q) f.0) (not (is_below (key_at cs q) low)) (is_before end (key_at cs q)) (from_low (key_at cs q) low e.0 a.0) (before_high end (key_at cs q) f.0 s.0)) ps)
+      (shares-narrowed (f ∷ es) ps a.1 s.1)
+
+-- ---- a level of index pages
+
+-- the level's pages are the table's, each has a child, the first at its own low key, and they tile the keys up to the end
+pub record IsIndexLevel (pages : List (ℕ × PageOfKind)) (end : Option (List ℕ)) (up : List (Placed ℕ)) : Type 0 where
+  pub held : HasIndexPages pages up
+  pub headed : AllByRecursion (λ p. IsHeaded 1 p.page) up
+  pub tiled : Tiled up end
+
+before_entries : (end : Option (List ℕ)) (p : Page ℕ) → AreBefore end (keys_of (child_entries (Index p))) → AreBefore end (keys_of (child_entries (Index p)))
+before_entries end p a = a
+
+module _ {A : Type 0} (cs : List (Command A)) (pages : List (ℕ × PageOfKind)) where
+  found_under : (p : Placed ℕ) → page_at pages p.pid ≡ Some (Index p.page) → index_under pages p.pid ≡ Index p.page
+  found_under p h = ap (λ (o : Option PageOfKind). Index (as_index o)) h
+
+  below-share : (pid : ℕ) (xs : List ℕ) (rs : List Route)
+      → (let r : Route = record { pid = pid; places = xs } in flat_map (share_below pages cs) (cond (has_some xs) (r ∷ rs) rs) ≡ handed_down cs (index_under pages pid) xs ++ flat_map (share_below pages cs) rs)
+  below-share pid [] rs = ap (λ (ss : List Route). ss ++ flat_map (share_below pages cs) rs) (sym (no_shares cs (children (child_entries (index_under pages pid)) None)))
+  below-share pid (x ∷ xs) rs = refl
+
+  -- a share that is ready, of a page that is found
+  pub ready_now : (r : Route) (page : PageOfKind) → IsReady pages cs r → Some page ≡ page_at pages r.pid → (page ≡ index_under pages r.pid) × CanHandDown cs page r.places
+  ready_now r page h e =
+      let both : Some page ≡ Some (index_under pages r.pid) = e ∙ h.held in
+      let same : page ≡ index_under pages r.pid = cc in
+      (same, subst (λ (p : PageOfKind). CanHandDown cs p r.places) (sym same) h.share)
+
+  pub not_missing : (r : Route) → IsReady pages cs r → None ≡ page_at pages r.pid → ⊥
+  not_missing r h e =
+      let both : None ≡ Some (index_under pages r.pid) = e ∙ h.held in
+      cc
+
+  -- one more share is handed down, and what the others become is still to come
+  pub level_step : (old new rest : List Lent) (share : Lent) (page : PageOfKind) (whole : List Route) → page ≡ index_under pages share.0 → lent_shares new ≡ lent_shares old ++ handed_down cs page share.1.now
+      → lent_shares old ++ flat_map (share_below pages cs) (lent_shares (share ∷ rest)) ≡ whole → lent_shares new ++ flat_map (share_below pages cs) (lent_shares rest) ≡ whole
+  level_step old new rest share page whole e i h =
+      let later : List Route = flat_map (share_below pages cs) (lent_shares rest) in
+      ap (λ (x : List Route). x ++ later) i
+      ∙ append_assoc (lent_shares old) (handed_down cs page share.1.now) later
+      ∙ ap (λ (p : PageOfKind). lent_shares old ++ (handed_down cs p share.1.now ++ later)) e
+      ∙ h
+
+  share_at_drop : (all : List Lent) (i : ℕ) (d : Lent) → i < length all → drop i all ≡ get_or all i d ∷ drop (i + 1) all
+  share_at_drop all i d l = let e : suc i ≡ i + 1 = omega arith in drop-cons all i d l ∙ ap (λ (j : ℕ). get_or all i d ∷ drop j all) e
+
+  -- the share at a place, and those behind it
+  pub ready_at : (all : List Lent) (i : ℕ) (d : Lent) → i < length all → AllByRecursion (IsReady pages cs) (lent_shares (drop i all)) → AllByRecursion (IsReady pages cs) (lent_shares (get_or all i d ∷ drop (i + 1) all))
+  ready_at all i d l a = subst (λ (ss : List Lent). AllByRecursion (IsReady pages cs) (lent_shares ss)) (share_at_drop all i d l) a
+
+  pub share_step : (all old new : List Lent) (i : ℕ) (d : Lent) (page : PageOfKind) (whole : List Route) → i < length all → AllByRecursion (IsReady pages cs) (lent_shares (drop i all))
+      → Some page ≡ page_at pages (get_or all i d).0 → lent_shares new ≡ lent_shares old ++ handed_down cs page (get_or all i d).1.now
+      → lent_shares old ++ flat_map (share_below pages cs) (lent_shares (drop i all)) ≡ whole
+      → (lent_shares new ++ flat_map (share_below pages cs) (lent_shares (drop (i + 1) all)) ≡ whole) × AllByRecursion (IsReady pages cs) (lent_shares (drop (i + 1) all))
+  share_step all old new i d page whole l a e n h =
+      let ready = ready_at all i d l a in
+      let now = subst (λ (ss : List Lent). lent_shares old ++ flat_map (share_below pages cs) (lent_shares ss) ≡ whole) (share_at_drop all i d l) h in
+      (level_step old new (drop (i + 1) all) (get_or all i d) page whole (ready_now (share_of_lent (get_or all i d)) page ready.0 e).0 n now, ready.1)
+
+  -- the entries of a page before an end
+  entries_before : (end : Option (List ℕ)) (p : Placed ℕ) → IsTile end p → AreBefore end (keys_of (levels.entries p))
+  entries_before None p t = tt
+  entries_before (Some hi) p t = all_keys_entries (λ j. is_below j hi ≡ true) p.page t.keys.before
+
+  -- the shares of a level's pages, handed down, are those of the pages below
+  pub shares-below : (up : List (Placed ℕ)) (end : Option (List ℕ)) (ps : List ℕ) → IsIndexLevel pages end up → flat_map (share_below pages cs) (shares cs ps (children (names up) end)) ≡ shares cs ps (children (joined up) end)
+  shares-below [] end ps l = refl
+  shares-below (p ∷ up) end ps l =
+      let next : Option (List ℕ) = next_low up end in
+      let own : List ℕ = filter (is_in_range cs p.page.low next) ps in
+      let rest : List Route = shares cs ps (children (names up) end) in
+      let es : Names = levels.entries p in
+      let tile : IsTile next p = l.tiled.0 in
+      let later : IsIndexLevel pages end up = record { held = l.held.1; headed = l.headed.1; tiled = l.tiled.1 } in
+      let narrow : shares cs ps (children es next) ≡ shares cs own (children es None) =
+      shares-narrowed cs p.page.low next es ps (all_keys_entries (λ j. is_below j p.page.low ≡ false) p.page tile.keys.from) (entries_before next p tile) in
+      ap (λ (ats : List Place). flat_map (share_below pages cs) (shares cs ps ats)) (children-cons (name p) (names up) end)
+      ∙ ap (λ (x : Option (List ℕ)). flat_map (share_below pages cs) (shares cs ps ((let at : Place = record { pid = p.pid; low = p.page.low; end = x } in at) ∷ children (names up) end))) (next_names up end)
+      ∙ below-share p.pid own rest
+      ∙ ap (λ (page : PageOfKind). handed_down cs page own ++ flat_map (share_below pages cs) rest) (found_under p l.held.0)
+      ∙ ap (λ (rs : List Route). rs ++ flat_map (share_below pages cs) rest) (sym narrow)
+      ∙ ap (λ (rs : List Route). shares cs ps (children es next) ++ rs) (shares-below up end ps later)
+      ∙ ap (λ (x : Option (List ℕ)). shares cs ps (children es x) ++ shares cs ps (children (joined up) end)) (sym (next_joined up end l.headed.1))
+      ∙ sym (shares-append cs ps (children es (next_key (joined up) end)) (children (joined up) end))
+      ∙ ap (λ (ats : List Place). shares cs ps ats) (sym (children-append es (joined up) end))
+
+  ready_by : (b : Bool) (r : Route) (rs : List Route) → IsReady pages cs r → AllByRecursion (IsReady pages cs) rs → AllByRecursion (IsReady pages cs) (cond b (r ∷ rs) rs)
+  ready_by true r rs h a = (h, a)
+  ready_by false r rs h a = a
+
+  -- the share of a page can be handed down
+  ready_page : (p : Placed ℕ) (end : Option (List ℕ)) (ps : List ℕ) → page_at pages p.pid ≡ Some (Index p.page) → IsHeaded 1 p.page → IsTile end p → AreInKeyOrder cs ps
+      → (let r : Route = record { pid = p.pid; places = filter (is_in_range cs p.page.low end) ps } in IsReady pages cs r)
+  ready_page p end ps held headed tile o =
+      let own : List ℕ = filter (is_in_range cs p.page.low end) ps in
+      let has : (q : ℕ) → is_in_range cs p.page.low end q ≡ true → HasChildFor (Index p.page) (key_at cs q) =
+      λ q h. (let n = headed.some in omega arith, subst (λ (k : List ℕ). is_below (key_at cs q) k ≡ false) (sym headed.first) (within_parts p.page.low end (key_at cs q) h).0) in
+      let can : CanHandDown cs (Index p.page) own = record {
+        in_order = IsStrictlySortedBy-filter (order_of_places cs) (is_in_range cs p.page.low end) ps o;
+        rising = rising-tile end p tile;
+        each = all_weaker (λ q. is_in_range cs p.page.low end q ≡ true) (λ q. HasChildFor (Index p.page) (key_at cs q)) has own (all_passed (is_in_range cs p.page.low end) ps);
+      } in
+      record {
+        held = held ∙ ap (λ (page : PageOfKind). Some page) (sym (found_under p held));
+        share = subst (λ (page : PageOfKind). CanHandDown cs page own) (sym (found_under p held)) can;
+      }
+
+  -- and so can those of all pages of a level
+  pub ready_level : (up : List (Placed ℕ)) (end : Option (List ℕ)) (ps : List ℕ) → IsIndexLevel pages end up → AreInKeyOrder cs ps → AllByRecursion (IsReady pages cs) (shares cs ps (children (names up) end))
+  ready_level [] end ps l o = tt
+  ready_level (p ∷ up) end ps l o =
+      let next : Option (List ℕ) = next_low up end in
+      let own : List ℕ = filter (is_in_range cs p.page.low next) ps in
+      let r : Route = record { pid = p.pid; places = own } in
+      let rest : List Route = shares cs ps (children (names up) end) in
+      let later : IsIndexLevel pages end up = record { held = l.held.1; headed = l.headed.1; tiled = l.tiled.1 } in
+      let both : AllByRecursion (IsReady pages cs) (cond (has_some own) (r ∷ rest) rest) = ready_by (has_some own) r rest (ready_page p next ps l.held.0 l.headed.0 l.tiled.0 o) (ready_level up end ps later o) in
+      let e : shares cs ps (children (names (p ∷ up)) end) ≡ cond (has_some own) (r ∷ rest) rest =
+      ap (λ (ats : List Place). shares cs ps ats) (children-cons (name p) (names up) end)
+      ∙ ap (λ (x : Option (List ℕ)). shares cs ps ((let at : Place = record { pid = p.pid; low = p.page.low; end = x } in at) ∷ children (names up) end)) (next_names up end) in
+      subst (λ (rs : List Route). AllByRecursion (IsReady pages cs) rs) (sym e) both
+
+-- ---- the levels of a tree, from the root down
+
+-- the names of the pages so many levels below the root
+abbrev pub names_at : List (ℕ × PageOfKind) → ℕ → ℕ → Names
+names_at pages root zero = ([], root) ∷ []
+names_at pages root (suc i) = joined (map (index_at pages) (values_of (names_at pages root i)))
+
+module _ (pages : List (ℕ × PageOfKind)) where
+  first_name : {V : Type 0} (ps : List (Placed V)) → length ps ≡ 1 → next_low ps None ≡ Some [] → ([], first_pid ps) ∷ [] ≡ names ps
+  first_name [] n f = absurd (omega arith)
+  first_name (p ∷ []) n f =
+      let low : [] ≡ p.page.low = cc in
+      let named : List ℕ → List ℕ × ℕ = λ k. (k, p.pid) in
+      ap (λ (k : List ℕ). named k ∷ []) low
+  first_name (p ∷ q ∷ ps) n f = absurd (omega arith)
+
+  -- of levels under one root, the lowest is as far below the root as there are levels above it
+  pub names-level : {V : Type 0} (level : List (Placed V)) (ups : List (List (Placed ℕ))) → AllByRecursion (HasIndexPages pages) ups → Stacked level ups → next_low level None ≡ Some [] → names_at pages (top_pid level ups) (length ups) ≡ names level
+  names-level level [] h o f = first_name level o f
+  names-level level (up ∷ ups) h o f =
+      let above : next_low up None ≡ Some [] = sym (next_low-parents up level o.0.linked o.0.headed) ∙ f in
+      ap (λ (ns : Names). joined (map (index_at pages) (values_of ns))) (names-level up ups h.1 o.1 above)
+      ∙ ap (λ (ns : List ℕ). joined (map (index_at pages) ns)) (values_of-names up)
+      ∙ ap (λ (ps : List (Placed ℕ)). joined ps) (index_pages_found pages up h.0)
+      ∙ o.0.linked
+
+  -- what is known of the level so far below the root: its pages have these names, and are a level of index pages
+  pub record IsLevelAt (root : ℕ) (i : ℕ) : Type 0 where
+    pub level : List (Placed ℕ)
+    pub named : names_at pages root i ≡ names level
+    pub below : names_at pages root (suc i) ≡ joined level
+    pub known : IsIndexLevel pages None level
+
+  pub index_level : {V : Type 0} (level : List (Placed V)) (ups : List (List (Placed ℕ))) → AllByRecursion (HasIndexPages pages) ups → Stacked level ups → next_low level None ≡ Some [] → (i : ℕ) → i < length ups → IsLevelAt (top_pid level ups) i
+  index_level level [] h o f i l = absurd (omega arith)
+  index_level level (up ∷ ups) h o f i l =
+      let above : next_low up None ≡ Some [] = sym (next_low-parents up level o.0.linked o.0.headed) ∙ f in
+      let named : names_at pages (top_pid up ups) (length ups) ≡ names up = names-level up ups h.1 o.1 above in
+      let own : IsLevelAt (top_pid up ups) (length ups) = record {
+        level = up;
+        named = named;
+        below = names-level level (up ∷ ups) h o f ∙ sym o.0.linked;
+        known = record { held = h.0; headed = o.0.headed; tiled = o.0.tiled };
+      } in
+      elim (cases_lt i (length ups)) [
+        | inl b ↦ index_level up ups h.1 o.1 above i b
+        | inr b ↦ (let same : length ups ≡ i = omega arith in subst (λ (j : ℕ). IsLevelAt (top_pid up ups) j) same own)
+      ]
+
+  -- ---- the root and the height
+
+  top_same : (level : List ℕ) (above : List (List (Placed ℕ))) → top_pid (map (index_at pages) level) above ≡ top_pid (map (leaf_at pages) level) above
+  top_same [] [] = refl
+  top_same (n ∷ ns) [] = refl
+  top_same ns (up ∷ ups) = refl
+
+  pub top-levels : (n : ℕ) (level : List ℕ) (above : List (List (Placed ℕ))) → (let l : Levels = levels_below pages n level above in top_pid l.level l.above ≡ top_pid (map (leaf_at pages) level) above)
+  top-levels zero level above = refl
+  top-levels (suc n) level above =
+      let here : List (Placed ℕ) = map (index_at pages) level in
+      top-levels n (values_of (joined here)) (here ∷ above) ∙ top_same level above
+
+  pub height-levels : (n : ℕ) (level : List ℕ) (above : List (List (Placed ℕ))) → (let l : Levels = levels_below pages n level above in length l.above ≡ n + length above)
+  height-levels zero level above = omega arith
+  height-levels (suc n) level above =
+      let here : List (Placed ℕ) = map (index_at pages) level in
+      let e = height-levels n (values_of (joined here)) (here ∷ above) in
+      e ∙ omega arith
+
+-- ---- of a tree whose levels are in order
+
+module _ (t : Tree) (held : HoldsLevels t.pages (levels_of t)) (levels : AreLevels (levels_of t)) where
+  root_is_top : top_pid (levels_of t).level (levels_of t).above ≡ t.root
+  root_is_top = top-levels t.pages (pred t.height) (t.root ∷ []) []
+
+  above_height : length (levels_of t).above ≡ pred t.height
+  above_height = let e = height-levels t.pages (pred t.height) (t.root ∷ []) [] in e ∙ (let z : pred t.height + 0 ≡ pred t.height = omega arith in z)
+
+  -- the names of the leaves
+  pub names-leaves : names_at t.pages t.root (pred t.height) ≡ names (levels_of t).level
+  names-leaves =
+      ap (λ (i : ℕ). names_at t.pages t.root i) (sym above_height)
+      ∙ ap (λ (pid : ℕ). names_at t.pages pid (length (levels_of t).above)) (sym root_is_top)
+      ∙ names-level t.pages (levels_of t).level (levels_of t).above held.above levels.stacked levels.first
+
+  pub level_at : (i : ℕ) → i < pred t.height → IsLevelAt t.pages t.root i
+  level_at i l =
+      let b : i < length (levels_of t).above = rw above_height l in
+      subst (λ (pid : ℕ). IsLevelAt t.pages pid i) root_is_top (index_level t.pages (levels_of t).level (levels_of t).above held.above levels.stacked levels.first i b)
+
+  module _ {A : Type 0} (cs : List (Command A)) (ps : List ℕ) where
+    abbrev SharesAt : ℕ → List Route
+    SharesAt i = shares cs ps (children (names_at t.pages t.root i) None)
+
+    by_names : (ns ms : Names) → ns ≡ ms → shares cs ps (children ns None) ≡ shares cs ps (children ms None)
+    by_names ns ms e = ap (λ (x : Names). shares cs ps (children x None)) e
+
+    -- the shares of a level, handed down, are those of the next
+    pub shares-next : (i : ℕ) (rs : List Route) → i < pred t.height → rs ≡ SharesAt i → flat_map (share_below t.pages cs) rs ≡ SharesAt (i + 1)
+    shares-next i rs l e =
+        let here = level_at i l in
+        let n : suc i ≡ i + 1 = omega arith in
+        ap (λ (x : List Route). flat_map (share_below t.pages cs) x) (e ∙ by_names (names_at t.pages t.root i) (names here.level) here.named)
+        ∙ shares-below cs t.pages here.level None ps here.known
+        ∙ by_names (joined here.level) (names_at t.pages t.root (suc i)) (sym here.below)
+        ∙ ap (λ (j : ℕ). SharesAt j) n
+
+    -- and they can be
+    pub shares-ready : (i : ℕ) (rs : List Route) → i < pred t.height → AreInKeyOrder cs ps → rs ≡ SharesAt i → AllByRecursion (IsReady t.pages cs) rs
+    shares-ready i rs l o e =
+        let here = level_at i l in
+        subst (λ (x : List Route). AllByRecursion (IsReady t.pages cs) x) (sym (e ∙ by_names (names_at t.pages t.root i) (names here.level) here.named)) (ready_level cs t.pages here.level None ps here.known o)
+
+    -- the shares of the leaves, each in the order of the batch, are the routes
+    pub shares-last : (i : ℕ) (rs os : List Route) → i ≡ pred t.height → AreSortedPlaces cs ps → rs ≡ SharesAt i → AreInBatchOrder rs os → os ≡ routes (levels_of t).level cs
+    shares-last i rs os n s e a =
+        let last : rs ≡ shares cs ps (ranges (levels_of t).level) =
+        e ∙ ap (λ (j : ℕ). SharesAt j) n ∙ by_names (names_at t.pages t.root (pred t.height)) (names (levels_of t).level) names-leaves in
+        routes_of_shares cs (ranges (levels_of t).level) ps s os (subst (λ (x : List Route). AreInBatchOrder x os) last a)
+
+-- ---- numbers
+
+pub below_pred : (i n : ℕ) → i < n - 1 → i < pred n
+below_pred i zero h = absurd (omega arith)
+below_pred i (suc n) h = omega arith
+
+pub same_pred : (i n : ℕ) → i ≡ n - 1 → i ≡ pred n
+same_pred i zero h = omega arith
+same_pred i (suc n) h = omega arith
