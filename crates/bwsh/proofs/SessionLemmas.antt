@@ -1,12 +1,11 @@
 -- Lemmas on what a session prints.
-use Rattle.std.proofs.Common.{◌≡◌, ◌≢◌, ◌<◌, ◌+◌, ◌⊎◌, inl, inr, ℕ, length, get_or, List, [], ◌∷◌, ◌++◌, map, take, drop, Option, Some, None, IfSome, Result, Ok, Err, refl, sym, ap, ◌∙◌, subst, append_assoc, append-nil, take-append-drop, arith}
+use Rattle.std.proofs.Common.{◌≡◌, ◌<◌, ◌+◌, ◌⊎◌, inl, inr, ℕ, length, get_or, List, [], ◌∷◌, ◌++◌, map, take, drop, Option, Some, None, IfSome, Result, Ok, Err, refl, sym, ap, ◌∙◌, subst, append_assoc, append-nil, take-append-drop, arith}
 use Rattle.std.specs.List.{flat_map}
 use Rattle.std.specs.Io.KnownBytes.{Appends, Keeps}
 use Rattle.std.proofs.KnownBytes.{Appends-trans, Appends-kept, Appends-nil}
 use Rattle.std.proofs.lemmas.Grind.{flat_map-append}
 use Rattle.std.proofs.lemmas.List.{map-append, drop_more}
 use Rattle.std.proofs.lemmas.List.Folds.{flat_map-map}
-use Rattle.std.specs.Option.{option_map}
 use Rattle.bwsh.specs.declared.line.Why.{Why}
 use Rattle.std.specs.Prelude.{unwrap_or, MatchOption, IsOkUnless, OnOk, OnErr}
 use Rattle.std.specs.declared.alloc.Global.{Global}
@@ -26,7 +25,11 @@ use Rattle.bwsh.specs.declared.batch_file.Order.TheVariants.{Batch}
 use Rattle.bwsh.specs.declared.session.Ending.{Ending}
 use Rattle.bwsh.specs.declared.session.Ending.TheVariants.{Bad, Device}
 use Rattle.bwsh.specs.declared.session.Ending.TheVariants as endings
-use Rattle.bwsh.specs.Session.{status_of_end, answer_lines, printed, first_refusal, accepted, stopped_by, orders_end, end_after, lines_after, IsReadEnding, BeginsWith, Prints}
+use Rattle.keys.proofs.RunLaws.{replies_to-append}
+use Rattle.bwsh.specs.declared.line.Says.{Says}
+use Rattle.bwsh.specs.BatchFile.{orders_of, commands_of, commands_said}
+use Rattle.bwsh.proofs.OrderLaws.{commands-orders_of}
+use Rattle.bwsh.specs.Session.{status_of_end, answer_lines, printed, accepted, orders_end, end_after, lines_after, IsReadEnding, BeginsWith, Prints}
 use Rattle.bwsh.specs.Shown.{shown_reply}
 
 -- ---- fronts of lists
@@ -224,12 +227,6 @@ Prints-shown old new replies start bytes text cleared e f a =
     let whole : bytes ≡ flat_map shown_reply replies = rw cleared at e in
     inl (refl, subst (Appends old new) (f ∙ whole ∙ sym (flat-map shown_reply replies)) a)
 
--- nothing is appended where known bytes stay
-pub Appends-of_keeps : (old new : Option (List ℕ)) → Keeps old new → Appends old new []
-Appends-of_keeps None new k = tt
-Appends-of_keeps (Some xs) None k = absurd k
-Appends-of_keeps (Some xs) (Some ys) k = k ∙ sym (append-nil xs)
-
 -- ---- known texts
 
 -- the known text, or else any
@@ -269,19 +266,10 @@ module _ (settings : Settings) where
   accepted-front m [] = ([], refl)
   accepted-front m (Batch commands ∷ rest) = accepted_by m commands rest (refusal settings commands) refl (accepted-front (map_after_all m commands) rest)
 
-  -- orders end at no bad line
-  stopped-not_bad : (fault : Option Fault) (line : ℕ) (why : Why) → Err (Bad line why) ≡ stopped_by (option_map (λ f. endings.Fault f) fault) → ⊥
-  stopped-not_bad None line why e = cc
-  stopped-not_bad (Some fault) line why e = cc
-
   module _ (bad : Option (ℕ × Why)) (orders : List Order) where
     right-done : (b : Option (ℕ × Why)) (done : Unit {0}) → Ok done ≡ end_after settings b orders → (b ≡ None) × (lines_after settings b orders ≡ answer_lines [] orders)
     right-done None done e = (refl, ap (answer_lines []) (accepted-all orders done e))
     right-done (Some x) done e = absurd (cc)
-
-    right-bad : (b : Option (ℕ × Why)) (line : ℕ) (why : Why) → Err (Bad line why) ≡ end_after settings b orders → (b ≢ None) × (lines_after settings b orders ≡ [])
-    right-bad None line why e = absurd (stopped-not_bad (first_refusal settings orders) line why e)
-    right-bad (Some x) line why e = (λ h. cc, refl)
 
     right-front : (b : Option (ℕ × Why)) → BeginsWith (answer_lines [] orders) (lines_after settings b orders)
     right-front None = accepted-front [] orders
@@ -321,31 +309,36 @@ module _ (settings : Settings) where
       Prints-done (Err (endings.Fault fault)) s p = absurd (omega arith)
       Prints-done (Err Device) s p = absurd (omega arith)
 
-      bad_by : (line : ℕ) (why : Why) → Prints old new (lines_after settings bad orders) (end_after settings bad orders) (Err (Bad line why)) → Appends old new [] × (bad ≢ None)
-      bad_by line why (inl (e, a)) =
-          let (some, none) = right-bad bad line why e in
-          (subst (λ (l : List (List ℕ)). Appends old new (flat l)) none a, some)
-      bad_by line why (inr (inl (e, p))) = absurd (cc)
-      bad_by line why (inr (inr (e, p))) = absurd (cc)
-
-      pub Prints-bad : (end : Result (Unit {0}) Ending) → status_of_end end ≡ 3 → Prints old new (lines_after settings bad orders) (end_after settings bad orders) end
-          → Appends old new [] × (bad ≢ None)
-      Prints-bad (Ok done) s p = absurd (omega arith)
-      Prints-bad (Err (Bad line why)) s p = bad_by line why p
-      Prints-bad (Err (endings.Fault fault)) s p = absurd (omega arith)
-      Prints-bad (Err Device) s p = absurd (omega arith)
-
       pub Prints-beginning : (end : Result (Unit {0}) Ending) → Prints old new (lines_after settings bad orders) (end_after settings bad orders) end
           → (front : List ℕ) × BeginsWith (printed [] orders) front × Appends old new front
       Prints-beginning end p =
           let (front, begins, a) = Prints-front old new (lines_after settings bad orders) (end_after settings bad orders) end p in
           (front, front-trans (printed [] orders) (flat (lines_after settings bad orders)) front (front-flat (answer_lines [] orders) (lines_after settings bad orders) (right-front bad)) begins, a)
 
-pub beginning-nothing : (known old : Option (List ℕ)) (P : List ℕ → List ℕ) → IfSome known (λ text. (front : List ℕ) × BeginsWith (P text) front × Appends old old front)
-beginning-nothing None old P = tt
-beginning-nothing (Some text) old P = ([], (P text, refl), Appends-nil old)
-
 -- a failed read is no bad line
 pub IsReadEnding-of_fault : (bad : Option (ℕ × Why)) (early : Ending) → (early ≡ endings.Fault NoMemory) ⊎ (early ≡ Device) → IsReadEnding bad early
 IsReadEnding-of_fault bad early (inl e) = rw e refl
 IsReadEnding-of_fault bad early (inr e) = rw e tt
+
+-- ---- laws
+
+pub printed-batch : (m : List (List ℕ × List ℕ)) (commands : List (Command Global)) (rest : List Order)
+    → printed m (Batch commands ∷ rest) ≡ flat_map shown_reply (replies_to m commands) ++ printed (map_after_all m commands) rest
+printed-batch m commands rest =
+    flat-append (map shown_reply (replies_to m commands)) (answer_lines (map_after_all m commands) rest)
+    ∙ ap (λ (l : List ℕ). l ++ printed (map_after_all m commands) rest) (flat-map shown_reply (replies_to m commands))
+
+-- it makes no difference how the commands are cut into batches
+pub printed-commands : (m : List (List ℕ × List ℕ)) (orders : List Order) → printed m orders ≡ flat_map shown_reply (replies_to m (flat_map commands_of orders))
+printed-commands m [] = refl
+printed-commands m (Batch commands ∷ rest) =
+    let further = flat_map commands_of rest in
+    printed-batch m commands rest
+    ∙ ap (λ (l : List ℕ). flat_map shown_reply (replies_to m commands) ++ l) (printed-commands (map_after_all m commands) rest)
+    ∙ sym (flat_map-append shown_reply (replies_to m commands) (replies_to (map_after_all m commands) further))
+    ∙ ap (λ (rs : List (Reply Global)). flat_map shown_reply rs) (sym (replies_to-append m commands further))
+
+pub printed-said : (says : List Says) → printed [] (orders_of [] says) ≡ flat_map shown_reply (replies_to [] (commands_said says))
+printed-said says =
+    printed-commands [] (orders_of [] says)
+    ∙ ap (λ (cs : List (Command Global)). flat_map shown_reply (replies_to [] cs)) (commands-orders_of [] says)

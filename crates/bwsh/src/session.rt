@@ -1,5 +1,5 @@
 //! A session: the batch file is read, and run on a new store.
-ghost use Rattle.std.specs.Prelude.{◌≡◌, ◌≢◌, ◌↔◌, ◌⊎◌, ℕ, List, [], ◌++◌, map, Some, None, IfSome, Result, Ok, Err, IfOk, OnOk, OnErr, IsOk, IsOkUnless, MatchResult, take, length, ◌≤◌};
+ghost use Rattle.std.specs.Prelude.{◌≡◌, ◌≢◌, ◌↔◌, ◌⊎◌, ℕ, List, [], ◌++◌, map, None, IfSome, Result, Ok, Err, IfOk, OnOk, OnErr, IsOk, IsOkUnless, MatchResult, take, length, ◌≤◌};
 ghost use Rattle.std.specs.List.{flat_map};
 ghost use Rattle.std.specs.IoError.{error_kind};
 ghost use Rattle.std.specs.Io.KnownBytes.{Appends, Keeps};
@@ -9,7 +9,7 @@ ghost use Rattle.bwsh.specs.declared.session.Ending.{Ending};
 ghost use Rattle.bwsh.specs.declared.session.Ending.TheVariants.{Device};
 ghost use Rattle.bwsh.specs.declared.session.Ending.TheVariants as endings;
 ghost use Rattle.bwsh.specs.BatchFile.{said_by, first_bad, orders_of};
-ghost use Rattle.bwsh.specs.Session.{session_settings, status_of, status_of_end, ending_by, answer_lines, printed, first_refusal, accepted, orders_end, session_end, session_lines, BeginsWith, IsReadEnding, Prints};
+ghost use Rattle.bwsh.specs.Session.{session_settings, status_of, status_of_end, ending_by, answer_lines, printed, accepted, orders_end, session_end, session_lines, BeginsWith, IsReadEnding, Prints};
 ghost use Rattle.bwsh.specs.Shown.{shown_reply};
 
 use crate::batch_file::{Order, TextFault, parse};
@@ -255,7 +255,8 @@ pub fn unread_words<E: Write>(error: io::Error, err: &mut E) -> u8
 /// - 0: all is done.
 /// - 2: there are `words` on the command line, of which `bwsh` takes none. Nothing was read.
 /// - 3: a line of the batch file is bad. Nothing was run.
-/// - 4: a fault. The replies to what was run before it stand in `out`.
+/// - 4: a fault. The answers to what was run before it stand in `out`, or some first of them where memory was refused
+///   or a device failed.
 pub fn session<R: AllocGlobal, I: Read, O: Write, E: Write>(
     rt: &R,
     words: &[String],

@@ -1,7 +1,7 @@
 //! The rules of a batch file, by example, and sessions whose input, output or memory fails.
 use crate::batch_file::{TextFault, parse};
 use crate::line::Why;
-use crate::session::session;
+use crate::session::{session, unread_words};
 use bstr::ByteSlice;
 use std::alloc::AllocError;
 use std::io;
@@ -223,19 +223,23 @@ fn the_longest_batch(rt: HostRuntime) -> Result<(), Fail> {
     Ok(())
 }
 
-// A stream that fails after so many good calls.
+// A stream that fails so many times after so many good calls.
 #[derive(Drop)]
 struct Failing<S> {
     calls: usize,
+    faults: usize,
+    kind: ErrorKind,
     stream: S,
 }
 
 impl<S> Failing<S> {
     fn call(&mut self) -> io::Result<()> {
-        if self.calls == 0 {
-            return Err(io::Error::from(ErrorKind::Other));
+        if self.calls > 0 {
+            self.calls -= 1;
+        } else if self.faults > 0 {
+            self.faults -= 1;
+            return Err(io::Error::from(self.kind));
         }
-        self.calls -= 1;
         Ok(())
     }
 }
@@ -270,10 +274,14 @@ fn check_device<R: AllocGlobal + Abort>(
 ) {
     let mut input = Failing {
         calls: reads,
+        faults: usize::MAX,
+        kind: ErrorKind::Other,
         stream: input,
     };
     let mut written = Failing {
         calls: writes,
+        faults: usize::MAX,
+        kind: ErrorKind::Other,
         stream: Vec::new(rt.alloc()),
     };
     let mut told = Vec::new(rt.alloc());
@@ -281,6 +289,96 @@ fn check_device<R: AllocGlobal + Abort>(
     assert_eq!(rt; status, 4);
     assert_eq!(rt; told.as_slice(), b"fault 9 Device\n".as_slice());
     assert_eq!(rt; written.stream.as_slice(), out);
+}
+
+// Asserts how a session ends whose output fails once, so, after that many calls.
+fn check_one_fault<R: AllocGlobal + Abort>(
+    rt: &R,
+    kind: ErrorKind,
+    calls: usize,
+    status: u8,
+    out: &[u8],
+) {
+    let mut input = b"put a 1\ngo\nget a\n".as_slice();
+    let mut written = Failing {
+        calls,
+        faults: 1,
+        kind,
+        stream: Vec::new(rt.alloc()),
+    };
+    let mut told = Vec::new(rt.alloc());
+    let got = run(rt, &mut input, &mut written, &mut told);
+    assert_eq!(rt; got, status);
+    assert_eq!(rt; written.stream.as_slice(), out);
+}
+
+// Nothing is written behind a fault, though the output would take it. A call that was interrupted is made again.
+#[test]
+fn the_output_fails_once(rt: HostRuntime) {
+    check_one_fault(&rt, ErrorKind::Other, 0, 4, b"");
+    check_one_fault(&rt, ErrorKind::Other, 1, 4, b"new\n");
+    check_one_fault(&rt, ErrorKind::Interrupted, 1, 0, b"new\nvalue 1\n");
+}
+
+// A stream that gives and takes a byte at a time.
+#[derive(Drop)]
+struct ByBytes<S> {
+    stream: S,
+}
+
+impl<S: Read> Read for ByBytes<S> {
+    fn read(&mut self, buf: &mut [u8]) -> io::Result<usize> {
+        let end = buf.len().min(1);
+        self.stream.read(&mut buf[..end])
+    }
+}
+
+impl<S: Write> Write for ByBytes<S> {
+    fn write(&mut self, buf: &[u8]) -> io::Result<usize> {
+        self.stream.write(&buf[..buf.len().min(1)])
+    }
+
+    fn flush(&mut self) -> io::Result<()> {
+        self.stream.flush()
+    }
+}
+
+#[test]
+fn a_byte_at_a_time(rt: HostRuntime) {
+    let mut input = ByBytes {
+        stream: b"put a 1\r\ngo\nget a\n".as_slice(),
+    };
+    let mut written = ByBytes {
+        stream: Vec::new(rt.alloc()),
+    };
+    let mut told = Vec::new(rt.alloc());
+    let status = run(&rt, &mut input, &mut written, &mut told);
+    assert_eq!(rt; status, 0);
+    assert_eq!(rt; written.stream.as_slice(), b"new\nvalue 1\n".as_slice());
+}
+
+#[test]
+fn the_words_are_unread(rt: HostRuntime) {
+    let mut told = Vec::new(rt.alloc());
+    let status = unread_words(io::Error::from(ErrorKind::OutOfMemory), &mut told);
+    assert_eq!(rt; status, 4);
+    assert_eq!(rt; told.as_slice(), b"fault 6 NoMemory\n".as_slice());
+    told.clear();
+    let status = unread_words(io::Error::from(ErrorKind::InvalidInput), &mut told);
+    assert_eq!(rt; status, 2);
+    assert_eq!(rt; told.as_slice(), b"bwsh takes no arguments\n".as_slice());
+}
+
+// A value may have 256 bytes.
+#[test]
+fn a_long_value_is_refused(rt: HostRuntime) -> Result<(), Fail> {
+    let mut put = Vec::new(rt.alloc());
+    put.extend_from_slice(b"put a ")?;
+    put.extend_from_slice(&b"v".as_slice().repeatn(rt.alloc(), 256)?)?;
+    check(&rt, &put, 0, b"new\n", b"");
+    put.push(b'v')?;
+    check(&rt, &put, 4, b"", b"fault 3 ValueTooLong 0\n");
+    Ok(())
 }
 
 #[test]

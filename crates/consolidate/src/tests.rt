@@ -4,24 +4,18 @@ use keys::{Key, Value};
 use std::alloc::{AllocError, Global};
 use std::test::Fail;
 
-// Two runs in front: the older takes b away and sets c to 3, the newer takes a away and sets b again, to 4.
-fn put_runs(alloc: Global, chain: &mut Chain<Value<Global>, Global>) -> Result<(), PushError> {
-    let mut older = Run::with_capacity(alloc, 2)?;
-    older.push(Key::from_bytes(alloc, b"b")?, None)?;
-    older.push(
+// A run in front: it takes a away and sets c to 3.
+fn put_run(alloc: Global, chain: &mut Chain<Value<Global>, Global>) -> Result<(), PushError> {
+    let mut run = Run::with_capacity(alloc, 2)?;
+    run.push(Key::from_bytes(alloc, b"a")?, None)?;
+    run.push(
         Key::from_bytes(alloc, b"c")?,
         Some(Value::from_bytes(alloc, b"3")?),
     )?;
-    let mut newer = Run::with_capacity(alloc, 2)?;
-    newer.push(Key::from_bytes(alloc, b"a")?, None)?;
-    newer.push(
-        Key::from_bytes(alloc, b"b")?,
-        Some(Value::from_bytes(alloc, b"4")?),
-    )?;
-    if chain.prepend(older).is_err() || chain.prepend(newer).is_err() {
-        return Err(PushError::NoMemory);
+    match chain.prepend(run) {
+        Ok(()) => Ok(()),
+        Err(_) => Err(PushError::NoMemory),
     }
-    Ok(())
 }
 
 // Whether the page becomes a base of just these entries.
@@ -42,15 +36,15 @@ fn becomes(
     Ok(true)
 }
 
-// Whether the page is consolidated without runs, and then with two.
+// Whether the page is consolidated without runs, and then under one.
 fn is_consolidated(
     alloc: Global,
     chain: &mut Chain<Value<Global>, Global>,
 ) -> Result<bool, PushError> {
     let alone = becomes(alloc, chain, &[(b"a", b"1"), (b"b", b"2")])?;
-    put_runs(alloc, chain)?;
-    let under_runs = becomes(alloc, chain, &[(b"b", b"4"), (b"c", b"3")])?;
-    Ok(alone && under_runs)
+    put_run(alloc, chain)?;
+    let under_run = becomes(alloc, chain, &[(b"b", b"2"), (b"c", b"3")])?;
+    Ok(alone && under_run)
 }
 
 // The page begins as the base a=1, b=2.
@@ -63,7 +57,7 @@ fn is_right(alloc: Global) -> Result<bool, PushError> {
 }
 
 #[test]
-fn a_page_is_consolidated_without_runs_and_with_two(rt: HostRuntime) -> Result<(), Fail> {
+fn a_page_is_consolidated_without_runs_and_under_one(rt: HostRuntime) -> Result<(), Fail> {
     assert!(rt; is_right(rt.alloc())?);
     Ok(())
 }

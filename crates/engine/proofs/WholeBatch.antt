@@ -11,13 +11,18 @@ use Rattle.keys.specs.declared.command.Reply.{Reply}
 use Rattle.keys.specs.declared.settings.Settings.{Settings}
 use Rattle.delta_chain.specs.Layers.{Layers, entries_of, IsInOrder}
 use Rattle.delta_chain.proofs.LayerLaws.{rising-entries_of}
+use Rattle.index_page.specs.Page.{PageOfKind, leaf_of}
+use Rattle.index_page.specs.Page.PageOfKind.{Leaf}
 use Rattle.routing.specs.Places.{places_below}
+use Rattle.routing.specs.Routes.{Route}
 use Rattle.page_runs.proofs.AfterLaws.{entries_of-after_run}
 use Rattle.page_runs.specs.AfterRun.{after_run}
 use Rattle.page_runs.proofs.NetLaws.{with_run-net_run}
+use Rattle.page_runs.proofs.WholeBatch.{places_of_whole_batch}
+use Rattle.page_runs.specs.LeafWork.{LeafMade, IsLeafHeld, leaf_made}
 use Rattle.page_runs.specs.NetRun.{net_run}
 use Rattle.page_runs.specs.Replies.{commands_at, pieces_of}
-use Rattle.page_runs.specs.declared.piece.Piece.{Piece}
+use Rattle.keys.specs.declared.piece.Piece.{Piece}
 
 module _ {X : Type 0} where
   front_of : (xs : List X) (i : ℕ) → i < length xs → (x : X) × (slice_get xs i ≡ Some x) × (drop i xs ≡ x ∷ drop (suc i) xs)
@@ -48,14 +53,14 @@ pub length-replies_to : {A : Type 0} → (m : List (List ℕ × List ℕ)) (cs :
 length-replies_to m [] = refl
 length-replies_to m (c ∷ cs) = ap suc (length-replies_to (map_after m c) cs)
 
-pub replies-pieces_of : (ps : List ℕ) (rs : List (Reply Global)) → length ps ≡ length rs → map (λ (p : Piece). p.reply) (pieces_of ps rs) ≡ rs
+pub replies-pieces_of : (ps : List ℕ) (rs : List (Reply Global)) → length ps ≡ length rs → map (λ (p : Piece Global). p.reply) (pieces_of ps rs) ≡ rs
 replies-pieces_of [] [] h = refl
 replies-pieces_of [] (r ∷ rs) h = absurd (omega arith)
 replies-pieces_of (p ∷ ps) [] h = absurd (omega arith)
 replies-pieces_of (p ∷ ps) (r ∷ rs) h = let l : length ps ≡ length rs = omega arith in ap (λ (t : List (Reply Global)). r ∷ t) (replies-pieces_of ps rs l)
 
 -- the answers of a page that works the whole batch, as replies
-pub whole_replies : (m : List (List ℕ × List ℕ)) (batch : List (Command Global)) → map (λ (p : Piece). p.reply) (pieces_of (places_below (length batch)) (replies_to m (commands_at batch (places_below (length batch))))) ≡ replies_to m batch
+pub whole_replies : (m : List (List ℕ × List ℕ)) (batch : List (Command Global)) → map (λ (p : Piece Global). p.reply) (pieces_of (places_below (length batch)) (replies_to m (commands_at batch (places_below (length batch))))) ≡ replies_to m batch
 whole_replies m batch =
     let places : List ℕ = places_below (length batch) in
     rw whole_commands (replies-pieces_of places (replies_to m batch) (length-range_with_len 0 (length batch) ∙ sym (length-replies_to m batch)))
@@ -68,24 +73,42 @@ length-pieces_of (p ∷ ps) (r ∷ rs) = let l = length-pieces_of ps rs in omega
 
 -- ---- a leaf that works the whole batch
 
-module _ (batch : List (Command Global)) (leaf page : Layers (List ℕ)) (places : List ℕ) (same : page ≡ leaf) (whole : places ≡ places_below (length batch)) where
-  all_commands : commands_at batch places ≡ batch
-  all_commands = ap (λ (ps : List ℕ). commands_at batch ps) whole ∙ whole_commands batch
+module _ (s : Settings) (batch : List (Command Global)) (low : List ℕ) (leaf : Layers (List ℕ)) (page : PageOfKind) (route : Route)
+    (held : page ≡ Leaf (record { low = low; layers = leaf })) (whole : route ≡ record { pid = 0; places = places_below (length batch) }) where
+  -- the job may be worked
+  pub may_work : IsLeafHeld batch (record { page = page; route = route })
+  may_work = record {
+    leaf = rw held tt;
+    places = rw whole (places_of_whole_batch batch);
+  }
 
-  pub leaf_after : (s : Settings) → after_run s page (net_run (entries_of page) (commands_at batch places)) ≡ after_run s leaf (net_run (entries_of leaf) batch)
-  leaf_after s =
-      ap (λ (p : Layers (List ℕ)). after_run s p (net_run (entries_of p) (commands_at batch places))) same
-      ∙ ap (λ (cs : List (Command Global)). after_run s leaf (net_run (entries_of leaf) cs)) all_commands
+  module _ (made : LeafMade) (works : made ≡ leaf_made s batch (record { page = page; route = route })) where
+    made_of_all : made ≡ leaf_made s batch (record { page = Leaf (record { low = low; layers = leaf }); route = record { pid = 0; places = places_below (length batch) } })
+    made_of_all =
+        works
+        ∙ ap (λ (p : PageOfKind). leaf_made s batch (record { page = p; route = route })) held
+        ∙ ap (λ (r : Route). leaf_made s batch (record { page = Leaf (record { low = low; layers = leaf }); route = r })) whole
 
-  pub leaf_replies : map (λ (p : Piece). p.reply) (pieces_of places (replies_to (entries_of page) (commands_at batch places))) ≡ replies_to (entries_of leaf) batch
-  leaf_replies =
-      ap (λ (p : Layers (List ℕ)). map (λ (x : Piece). x.reply) (pieces_of places (replies_to (entries_of p) (commands_at batch places)))) same
-      ∙ ap (λ (ps : List ℕ). map (λ (x : Piece). x.reply) (pieces_of ps (replies_to (entries_of leaf) (commands_at batch ps)))) whole
-      ∙ whole_replies (entries_of leaf) batch
+    -- the leaf afterwards
+    pub leaf_after : (low_after : List ℕ) (after : Layers (List ℕ)) (page_after : PageOfKind) → page_after ≡ Leaf made.worked.placed.page → page_after ≡ Leaf (record { low = low_after; layers = after })
+        → after ≡ after_run s leaf (net_run (entries_of leaf) batch)
+    leaf_after low_after after page_after is_made is_leaf =
+        sym (ap (λ (p : PageOfKind). (leaf_of p).layers) is_leaf)
+        ∙ ap (λ (p : PageOfKind). (leaf_of p).layers) is_made
+        ∙ ap (λ (m : LeafMade). m.worked.placed.page.layers) made_of_all
+        ∙ ap (λ (cs : List (Command Global)). after_run s leaf (net_run (entries_of leaf) cs)) (whole_commands batch)
 
--- a page that works the whole batch has no more answers than the batch has commands
-pub enough_room : {A : Type 0} → (batch : List (Command A)) (places : List ℕ) (rs : List (Reply Global)) → places ≡ places_below (length batch) → length (pieces_of places rs) ≤ length batch
-enough_room batch places rs whole = rw whole (omega (arith, length-pieces_of (places_below (length batch)) rs, length-range_with_len 0 (length batch)))
+    -- its answers are the replies to the batch
+    pub leaf_replies : (pieces : List (Piece Global)) → pieces ≡ made.pieces → map (λ (p : Piece Global). p.reply) pieces ≡ replies_to (entries_of leaf) batch
+    leaf_replies pieces e =
+        ap (λ (ps : List (Piece Global)). map (λ (p : Piece Global). p.reply) ps) (e ∙ ap (λ (m : LeafMade). m.pieces) made_of_all)
+        ∙ whole_replies (entries_of leaf) batch
+
+    -- and no more than the batch has commands
+    pub enough_room : (pieces : List (Piece Global)) → pieces ≡ made.pieces → length pieces ≤ length batch
+    enough_room pieces e =
+        let same = e ∙ ap (λ (m : LeafMade). m.pieces) made_of_all in
+        rw same (omega (arith, length-pieces_of (places_below (length batch)) (replies_to (entries_of leaf) (commands_at batch (places_below (length batch)))), length-range_with_len 0 (length batch)))
 
 -- the keys of a leaf in order rise
 pub rising_contents : (leaf : Layers (List ℕ)) → IsInOrder leaf → IsRising (entries_of leaf)

@@ -11,7 +11,8 @@ use crate::refusal::admit;
 use crate::replies::replies_of;
 use crew::{Turn, Work};
 use delta_chain::{Base, Chain};
-use keys::{Command, Fault, Reply, Settings, Value};
+use index_page::Page;
+use keys::{Command, Fault, Key, Pid, Reply, Settings, Value};
 use page_runs::{LeafJob, LeafWork};
 use routing::PageRun;
 use std::alloc::Global;
@@ -82,22 +83,25 @@ impl Store {
         let _in_order = self.leaf.depth();
         admit(&self.settings, commands)?;
         let room = Vec::with_capacity(self.alloc, commands.len())?;
-        let places = PageRun::of_whole_batch(self.alloc, commands.len())?;
-        let page = mem::replace(&mut self.leaf, empty_leaf(self.alloc));
+        let page_run = PageRun::of_whole_batch(self.alloc, Pid(0), commands.len())?;
+        let leaf = mem::replace(&mut self.leaf, empty_leaf(self.alloc));
+        let page = Page::leaf(Key::empty(self.alloc), leaf);
         let work = LeafWork {
             alloc: self.alloc,
             settings: self.settings,
             commands,
         };
-        match work.work(LeafJob { page, places }) {
+        match work.work(LeafJob { page, page_run }) {
             Turn::Done(done) => {
                 let (page, pieces) = done.into_page_and_pieces();
                 let replies = replies_of(pieces, room);
-                self.leaf = page;
+                let (_low, leaf) = page.into_leaf();
+                self.leaf = leaf;
                 Ok(replies)
             }
             Turn::Back(job) => {
-                self.leaf = job.page;
+                let (_low, leaf) = job.page.into_leaf();
+                self.leaf = leaf;
                 Err(Fault::NoMemory)
             }
         }

@@ -235,14 +235,14 @@ fn all_keys_go_and_one_comes_and_goes(rt: HostRuntime) -> Result<(), Fail> {
                 Step::Del("c"),
                 Step::Del("d"),
                 Step::Del("e"),
-                Step::Put("a", "1"),
-                Step::Del("a"),
             ],
+            &[Step::Put("a", "1")],
+            &[Step::Del("a")],
         ],
     )?;
     assert_eq!(rt;
         text.as_str(),
-        "New New New New New .Deleted Deleted Deleted Deleted Deleted New Deleted ."
+        "New New New New New .Deleted Deleted Deleted Deleted Deleted .New .Deleted ."
     );
     Ok(())
 }

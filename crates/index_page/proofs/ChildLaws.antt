@@ -1,7 +1,6 @@
 -- Lemmas on the places of children, for the proofs of this crate and of those above it.
 use Rattle.std.specs.Prelude.{◌≡◌, ◌≢◌, ◌↔◌, IsTrue, is_some, ℕ, ◌+◌, ◌<◌, Bool, true, false, not, cond, ◌&&◌, List, [], ◌∷◌, ◌++◌, map, length, count_by, Option, Some, None}
 use Rattle.std.specs.Option.{option_map, option_or}
-use Rattle.std.specs.List.{filter}
 use Rattle.std.proofs.Common.{refl, sym, ap, ◌∙◌, arith}
 use Rattle.std.specs.List.Sorted.{IsStrictlySortedBy}
 use Rattle.std.specs.Map.{keys_of, values_of}
@@ -138,29 +137,8 @@ no_child (e ∷ es) end k r a h = none_by (is_below k e.0) e es end k refl r a h
 -- ---- the child for a key, by the last entry whose key isn't above it
 
 module _ (k : List ℕ) where
-  abbrev pid_of : Option (List ℕ × ℕ) → Option ℕ
-  pid_of o = option_map (λ (e : List ℕ × ℕ). e.1) o
-
-  -- the pids of the places that have the key in their range
-  abbrev PidsFor : List (List ℕ × ℕ) → Option (List ℕ) → List ℕ
-  PidsFor es end = map (λ (at : Place). at.pid) (filter (is_place_for k) (children es end))
-
-  pids_for_by : (b : Bool) (e : List ℕ × ℕ) (es : List (List ℕ × ℕ)) (end : Option (List ℕ)) → is_within e.0 (next_key es end) k ≡ b → PidsFor (e ∷ es) end ≡ cond b (e.1 ∷ PidsFor es end) (PidsFor es end)
-  pids_for_by b e es end h =
-      ap (λ (x : List Place). map (λ (at : Place). at.pid) (filter (is_place_for k) x)) (children-cons e es end)
-      ∙ ap (λ (c : Bool). map (λ (at : Place). at.pid) (cond c (place_of e (next_key es end) ∷ filter (is_place_for k) (children es end)) (filter (is_place_for k) (children es end)))) h
-      ∙ map_cond b
-    where
-      map_cond : (c : Bool) → map (λ (at : Place). at.pid) (cond c (place_of e (next_key es end) ∷ filter (is_place_for k) (children es end)) (filter (is_place_for k) (children es end))) ≡ cond c (e.1 ∷ PidsFor es end) (PidsFor es end)
-      map_cond true = refl
-      map_cond false = refl
-
-  -- none, and no last entry, where the key is below all
-  no_pids : (es : List (List ℕ × ℕ)) (end : Option (List ℕ)) → IsBelowAll k (keys_of es) → PidsFor es end ≡ []
-  no_pids [] end a = refl
-  no_pids (e ∷ es) end a = pids_for_by false e es end (not_within_below e.0 (next_key es end) k (less_is_below k e.0 a.0)) ∙ no_pids es end a.1
-
-  no_floor : (es : List (List ℕ × ℕ)) → IsBelowAll k (keys_of es) → floor k es ≡ None
+  -- there is no last entry, where the key is below all
+  pub no_floor : (es : List (List ℕ × ℕ)) → IsBelowAll k (keys_of es) → floor k es ≡ None
   no_floor [] a = refl
   no_floor (e ∷ es) a = rw (no_floor es a.1, a.0) refl
 
@@ -169,60 +147,25 @@ module _ (k : List ℕ) where
   or_this (Some f) e h = absurd (cc)
 
   -- where the first key isn't above it, there is one
-  some_floor : (e : List ℕ × ℕ) (es : List (List ℕ × ℕ)) → is_below k e.0 ≡ false → floor k (e ∷ es) ≢ None
+  pub some_floor : (e : List ℕ × ℕ) (es : List (List ℕ × ℕ)) → is_below k e.0 ≡ false → floor k (e ∷ es) ≢ None
   some_floor e es h n = or_this (floor k es) e (sym (ap (λ (b : Bool). option_or (floor k es) (cond b None (Some e))) h) ∙ n)
 
-  later_pid : (o : Option (List ℕ × ℕ)) (b : Bool) (e : List ℕ × ℕ) (pid : ℕ) → o ≢ None → pid_of (option_or o (cond b None (Some e))) ≡ Some pid → pid_of o ≡ Some pid
-  later_pid None b e pid n h = absurd (n refl)
-  later_pid (Some f) b e pid n h = h
-
-  next_pid : (b : Bool) (e f : List ℕ × ℕ) (es : List (List ℕ × ℕ)) (end : Option (List ℕ)) (pid : ℕ) → is_below k f.0 ≡ b → IsRising (f ∷ es) → is_below k e.0 ≡ false → pid_of (floor k (e ∷ f ∷ es)) ≡ Some pid
-      → (is_below k f.0 ≡ false → pid_of (floor k (f ∷ es)) ≡ Some pid → PidsFor (f ∷ es) end ≡ pid ∷ []) → PidsFor (e ∷ f ∷ es) end ≡ pid ∷ []
-  unfolding IsStrictlySortedBy
-  next_pid true e f es end pid b r h p ih =
-      let l = below_is_less k f.0 b in
-      let above : IsBelowAll k (keys_of (f ∷ es)) = (l, below_all k f.0 (keys_of es) l r.0) in
-      let last : Some e.1 ≡ Some pid = sym (ap (λ (o : Option (List ℕ × ℕ)). pid_of (option_or o (cond (is_below k e.0) None (Some e)))) (no_floor (f ∷ es) above) ∙ ap (λ (c : Bool). pid_of (option_or None (cond c None (Some e)))) h) ∙ p in
-      let same : e.1 ≡ pid = cc in
-      pids_for_by true e (f ∷ es) end (within e.0 (Some f.0) k h b) ∙ ap (λ (x : List ℕ). e.1 ∷ x) (no_pids (f ∷ es) end above) ∙ ap (λ (n : ℕ). n ∷ []) same
-  next_pid false e f es end pid b r h p ih =
-      pids_for_by false e (f ∷ es) end (not_within_behind e.0 (Some f.0) k b)
-      ∙ ih b (later_pid (floor k (f ∷ es)) (is_below k e.0) e pid (some_floor f es b) p)
-
-  pids_from : (e : List ℕ × ℕ) (es : List (List ℕ × ℕ)) (end : Option (List ℕ)) (pid : ℕ) → IsRising (e ∷ es) → is_below k e.0 ≡ false → is_before end k ≡ true → pid_of (floor k (e ∷ es)) ≡ Some pid → PidsFor (e ∷ es) end ≡ pid ∷ []
-  unfolding IsStrictlySortedBy
-  pids_from e [] end pid r h b p =
-      let last : Some e.1 ≡ Some pid = sym (ap (λ (c : Bool). pid_of (option_or None (cond c None (Some e)))) h) ∙ p in
-      let same : e.1 ≡ pid = cc in
-      pids_for_by true e [] end (within e.0 end k h b) ∙ ap (λ (n : ℕ). n ∷ []) same
-  pids_from e (f ∷ es) end pid r h b p = next_pid (is_below k f.0) e f es end pid refl r.1 h p (λ c q. pids_from f es end pid r.1 c b q)
-
-  -- the last entry whose key isn't above the key names the one child in whose range it lies, whatever the end beyond it
-  pub child_of_floor : (es : List (List ℕ × ℕ)) (pid : ℕ) → IsRising es → (0 < length es) × (is_below k (first_key es) ≡ false) → Some pid ≡ pid_of (floor k es)
-      → (end : Option (List ℕ)) → is_before end k ≡ true → PidsFor es end ≡ pid ∷ []
-  child_of_floor [] pid r h p end b = absurd (let none = h.0 in omega arith)
-  child_of_floor (e ∷ es) pid r h p end b = pids_from e es end pid r h.1 b (sym p)
-
-  missing : (o : Option (List ℕ × ℕ)) → o ≢ None → None ≡ pid_of o → ⊥
-  missing None n p = n refl
-  missing (Some e) n p = absurd (cc)
-
   -- there is one, just where the first key isn't above the key
-  pub has_floor : (es : List (List ℕ × ℕ)) → (0 < length es) × (is_below k (first_key es) ≡ false) → None ≡ pid_of (floor k es) → ⊥
+  pub has_floor : (es : List (List ℕ × ℕ)) → (0 < length es) × (is_below k (first_key es) ≡ false) → None ≡ floor k es → ⊥
   has_floor [] h p = let none = h.0 in absurd (omega arith)
-  has_floor (e ∷ es) h p = missing (floor k (e ∷ es)) (some_floor e es h.1) p
+  has_floor (e ∷ es) h p = some_floor e es h.1 (sym p)
 
-  first_by : (b : Bool) (pid : ℕ) (e : List ℕ × ℕ) (es : List (List ℕ × ℕ)) → is_below k e.0 ≡ b → IsRising (e ∷ es) → Some pid ≡ pid_of (floor k (e ∷ es)) → is_below k e.0 ≡ false
+  first_by : (b : Bool) (e g : List ℕ × ℕ) (es : List (List ℕ × ℕ)) → is_below k e.0 ≡ b → IsRising (e ∷ es) → Some g ≡ floor k (e ∷ es) → is_below k e.0 ≡ false
   unfolding IsStrictlySortedBy
-  first_by true pid e es b r p =
+  first_by true e g es b r p =
       let l = below_is_less k e.0 b in
-      let none : Some pid ≡ None = p ∙ ap (λ (o : Option (List ℕ × ℕ)). pid_of o) (no_floor (e ∷ es) (l, below_all k e.0 (keys_of es) l r.0)) in
+      let none : Some g ≡ None = p ∙ no_floor (e ∷ es) (l, below_all k e.0 (keys_of es) l r.0) in
       absurd (cc)
-  first_by false pid e es b r p = b
+  first_by false e g es b r p = b
 
-  pub floor_has : (es : List (List ℕ × ℕ)) (pid : ℕ) → IsRising es → Some pid ≡ pid_of (floor k es) → (0 < length es) × (is_below k (first_key es) ≡ false)
-  floor_has [] pid r p = absurd (cc)
-  floor_has (e ∷ es) pid r p = (omega arith, first_by (is_below k e.0) pid e es refl r p)
+  pub floor_has : (es : List (List ℕ × ℕ)) (g : List ℕ × ℕ) → IsRising es → Some g ≡ floor k es → (0 < length es) × (is_below k (first_key es) ≡ false)
+  floor_has [] g r p = absurd (cc)
+  floor_has (e ∷ es) g r p = (omega arith, first_by (is_below k e.0) e g es refl r p)
 
 -- a leaf has no children, so their keys rise
 pub leaf-rising : (p : PageOfKind) → IsLeaf p → IsRising (child_entries p)
@@ -231,6 +174,6 @@ leaf-rising (Leaf p) h = tt
 leaf-rising (Index p) h = absurd h
 
 -- a test for a last entry is a test for a child at the key or below it
-pub has_child_by : (k : List ℕ) (o : Option ℕ) (es : List (List ℕ × ℕ)) → IsRising es → o ≡ pid_of k (floor k es) → IsTrue (is_some o) ↔ ((0 < length es) × (is_below k (first_key es) ≡ false))
-has_child_by k None es r p = (λ t. absurd (cc), λ h. absurd (has_floor k es h p))
-has_child_by k (Some pid) es r p = (λ t. floor_has k es pid r p, λ h. refl)
+pub has_child_by : {X : Type 0} (k : List ℕ) (read : X → List ℕ × ℕ) (o : Option X) (es : List (List ℕ × ℕ)) → IsRising es → option_map read o ≡ floor k es → IsTrue (is_some o) ↔ ((0 < length es) × (is_below k (first_key es) ≡ false))
+has_child_by k read None es r p = (λ t. absurd (cc), λ h. absurd (has_floor k es h p))
+has_child_by k read (Some x) es r p = (λ t. floor_has k es (read x) r p, λ h. refl)

@@ -1,4 +1,5 @@
 pub mod ChildLaws
+pub mod WithinLaws
 pub mod ListLaws
 pub mod PageLaws
 pub mod RangeLaws

@@ -1,8 +1,9 @@
 -- The children of an index page, each with its range.
-use Rattle.std.specs.Prelude.{◌≡◌, ℕ, ◌<◌, Bool, false, List, [], ◌∷◌, length, Option, Some, None, if◌then◌else◌}
+use Rattle.std.specs.Prelude.{◌≡◌, ℕ, ◌<◌, Bool, false, ◌&&◌, ◌||◌, List, [], ◌∷◌, map, length, Option, Some, None, if◌then◌else◌}
+use Rattle.std.specs.List.{filter}
 use Rattle.index_page.specs.Page.{PageOfKind, entries, first_key}
 use Rattle.index_page.specs.Page.PageOfKind.{Leaf, Index}
-use Rattle.index_page.specs.Range.{is_below, is_within}
+use Rattle.index_page.specs.Range.{is_below, is_before, is_within}
 
 -- what an entry of an index page says of a child: its pid, and the range from the entry's key to the next entry's
 pub record Place : Type 0 where
@@ -29,8 +30,29 @@ child_entries (Index p) = entries p
 abbrev pub HasChildFor : PageOfKind → List ℕ → Type 0
 HasChildFor p k = (0 < length (child_entries p)) × (is_below k (first_key (child_entries p)) ≡ false)
 
--- of entries whose first key isn't above the key, the pid of the child in whose range the key lies, and the next child's low key
+-- where the first entry's key isn't above k: the pid of the child in whose range k lies, and the next entry's key, at which that range ends
 abbrev pub child_with_end : List ℕ → List (List ℕ × ℕ) → ℕ × Option (List ℕ)
 child_with_end k [] = (0, None)
 child_with_end k (e ∷ []) = (e.1, None)
 child_with_end k (e ∷ f ∷ es) = if is_below k f.0 then (e.1, Some f.0) else child_with_end k (f ∷ es)
+
+-- whether a key lies behind lo and before hi
+abbrev pub is_between : List ℕ → Option (List ℕ) → List ℕ → Bool
+is_between lo hi k = is_below lo k && is_before hi k
+
+-- whether the range of the place meets the bounds, from lo on and before hi: lo lies in it, or it begins behind lo and before hi
+abbrev pub meets : List ℕ → Option (List ℕ) → Place → Bool
+meets lo hi at = is_place_for lo at || is_between lo hi at.low
+
+-- of the children that entries name, the last one's range open: the low keys and pids of those whose range meets the bounds, in order
+abbrev pub children_within : List ℕ → Option (List ℕ) → List (List ℕ × ℕ) → List (List ℕ × ℕ)
+children_within lo hi es = map (λ at. (at.low, at.pid)) (filter (meets lo hi) (children es None))
+
+-- the entries whose keys lie behind k and before hi
+abbrev pub entries_between : List ℕ → Option (List ℕ) → List (List ℕ × ℕ) → List (List ℕ × ℕ)
+entries_between k hi es = filter (λ e. is_between k hi e.0) es
+
+-- what is left of a walk over entries up to hi: the next one, where there is one, and those behind it
+abbrev pub left_from : Option (List ℕ × ℕ) → Option (List ℕ) → List (List ℕ × ℕ) → List (List ℕ × ℕ)
+left_from None hi es = []
+left_from (Some e) hi es = e ∷ entries_between e.0 hi es

@@ -18,6 +18,15 @@ abbrev pub low_of : PageOfKind → List ℕ
 low_of (Leaf p) = p.low
 low_of (Index p) = p.low
 
+-- the page that a leaf is, and the page that an index page is; a page of the other kind counts as one that holds nothing
+abbrev pub leaf_of : PageOfKind → Page (List ℕ)
+leaf_of (Leaf p) = p
+leaf_of (Index p) = record { low = p.low; layers = record { runs = []; base = [] } }
+
+abbrev pub index_of : PageOfKind → Page ℕ
+index_of (Leaf p) = record { low = p.low; layers = record { runs = []; base = [] } }
+index_of (Index p) = p
+
 -- the page is a leaf, or an index page
 abbrev pub IsLeaf : PageOfKind → Type 0
 IsLeaf (Leaf p) = ⊤

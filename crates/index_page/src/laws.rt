@@ -4,8 +4,8 @@ ghost use Rattle.std.specs.Map.{keys_of, values_of};
 ghost use Rattle.keys.specs.Order.{IsRising};
 ghost use Rattle.keys.specs.declared.settings.Settings.{Settings};
 ghost use Rattle.index_page.specs.Page.{Page, first_key};
-ghost use Rattle.index_page.specs.Range.{is_within, AreBefore};
-ghost use Rattle.index_page.specs.Children.{children, is_place_for};
+ghost use Rattle.index_page.specs.Range.{is_before, is_within, AreBefore};
+ghost use Rattle.index_page.specs.Children.{Place, children, is_place_for, meets};
 ghost use Rattle.index_page.specs.Rules.{KeepsRange, keeps_range, IsShortValue, IsAnyPid, is_short_value, is_any_pid, Fits, fits_sizes, fits_depth, IsHeaded, is_headed};
 
 /// A page passes each test of its keys, its sizes and its children exactly where the fact that the test stands for holds.
@@ -27,4 +27,12 @@ pub fn children_tile_the_range_of_their_page()
         count_by (is_place_for k) (children es end) ≡ 1 }
     ensures none { (es : List (List ℕ × ℕ)) (end : Option (List ℕ)) (k : List ℕ) → IsRising es → AreBefore end (keys_of es) → is_within (first_key es) end k ≡ false →
         count_by (is_place_for k) (children es end) ≡ 0 }
+{}
+
+/// The range of a place meets bounds just where it has a key with them in common. Where there is no key between the
+/// bounds, it meets them just where the lower bound lies in it.
+pub fn a_range_meets_bounds_where_they_share_a_key()
+    ensures shared { (lo : List ℕ) (hi : Option (List ℕ)) (at : Place) → is_before hi lo ≡ true → is_before at.end at.low ≡ true →
+        (meets lo hi at ≡ true) ↔ ((k : List ℕ) × (is_within lo hi k ≡ true) × (is_place_for k at ≡ true)) }
+    ensures empty { (lo : List ℕ) (hi : Option (List ℕ)) (at : Place) → is_before hi lo ≡ false → meets lo hi at ≡ is_place_for lo at }
 {}

@@ -1,16 +1,18 @@
 ghost use Rattle.std.specs.Prelude.{◌≡◌, ℕ, ◌∷◌, [], true, ◌↔◌, List, Option, map, MatchOption, IsTrue};
 ghost use Rattle.std.specs.List.{filter};
-ghost use Rattle.std.specs.Option.{option_copied, option_map};
+ghost use Rattle.std.specs.Option.{option_copied, option_map, option_or};
 ghost use Rattle.keys.specs.Order.{IsRising};
 ghost use Rattle.page_search.specs.Floor.{floor};
+ghost use Rattle.page_search.specs.Above.{above};
 ghost use Rattle.index_page.specs.Page.{PageOfKind, low_of, IsLeaf, IsIndex};
 ghost use Rattle.index_page.specs.Page.PageOfKind.{Leaf, Index};
 ghost use Rattle.index_page.specs.Range.{is_before};
-ghost use Rattle.index_page.specs.Children.{children, is_place_for, child_entries, child_with_end, HasChildFor};
+ghost use Rattle.index_page.specs.Children.{children, is_place_for, child_entries, HasChildFor, child_with_end, children_within, entries_between, left_from};
 
+use crate::within::Children;
 use delta_chain::Chain;
 use keys::{Key, Pid, Value};
-use page_search::{Probes, floor};
+use page_search::{Probes, above, floor};
 use std::alloc::Allocator;
 use std::marker::Model;
 
@@ -86,6 +88,30 @@ impl<A: Allocator + Copy> Page<A> {
         }
     }
 
+    /// The low key and the values of this leaf. `as_leaf` is the test for the condition.
+    pub fn into_leaf(self) -> (Key<A>, Chain<Value<A>, A>)
+        requires { IsLeaf self }
+        ensures { self ≡ Leaf (record { low = result.0; layers = result.1 }) }
+    {
+        let Page { low, state } = self;
+        match state {
+            State::Values(chain) => (low, chain),
+            State::Pids(_) => unreachable!(),
+        }
+    }
+
+    /// The low key and the page ids of this index page. `as_index` is the test for the condition.
+    pub fn into_index(self) -> (Key<A>, Chain<Pid, A>)
+        requires { IsIndex self }
+        ensures { self ≡ Index (record { low = result.0; layers = result.1 }) }
+    {
+        let Page { low, state } = self;
+        match state {
+            State::Values(_) => unreachable!(),
+            State::Pids(chain) => (low, chain),
+        }
+    }
+
     /// Whether this is an index page that has a child at the key or below it, so that `child_for` has an answer.
     pub fn has_child_for(&self, key: &[u8]) -> bool
         ensures { IsTrue result ↔ HasChildFor self.now key.now }
@@ -101,30 +127,98 @@ impl<A: Allocator + Copy> Page<A> {
         ensures { (end : Option (List ℕ)) → is_before end key.now ≡ true → map (λ at. at.pid) (filter (is_place_for key.now) (children (child_entries self.now) end)) ≡ result ∷ [] }
     {
         match self.last_child(key) {
-            Some(pid) => pid,
+            Some(child) => child.1,
             None => unreachable!(),
         }
     }
 
-    /// The page id of the one child in whose range the key lies, and the low key of the next child, up to which that range
-    /// goes; none for the last child, whose range goes up to the page's own end. `has_child_for` is the test for the
-    /// condition. It takes no memory.
+    /// The page id of the child that `child_for` gives, and the key at which its range ends: the next child's low key, or
+    /// `None` for the page's last child, whose range ends wherever the page's own does. `has_child_for` is the test for
+    /// the condition. It takes no memory.
     pub fn child_with_end(&self, key: &[u8]) -> (Pid, Option<&[u8]>)
         requires { HasChildFor self.now key.now }
-        ensures child { result.0 ≡ (child_with_end key.now (child_entries self.now)).0 }
-        ensures end { option_copied result.1 ≡ (child_with_end key.now (child_entries self.now)).1 }
+        ensures child { (result.0, option_copied result.1) ≡ child_with_end key.now (child_entries self.now) }
+        ensures place { (end : Option (List ℕ)) → is_before end key.now ≡ true →
+            map {B = ℕ × Option (List ℕ)} (λ at. (at.pid, at.end)) (filter (is_place_for key.now) (children (child_entries self.now) end)) ≡ (result.0, option_or (option_copied result.1) end) ∷ [] }
     {
-        unreachable!()
+        match self.last_child(key) {
+            Some(child) => (child.1, self.next_key(key)),
+            None => unreachable!(),
+        }
     }
 
-    // The page id of the last child whose low key isn't above the key.
-    fn last_child(&self, key: &[u8]) -> Option<Pid>
-        ensures child { result ≡ option_map (λ e. e.1) (floor key.now (child_entries self.now)) }
+    /// The children whose ranges meet the bounds, from `lo` on and before `hi`, in order: the low key and the page id of
+    /// each. Where no key lies between the bounds, it is the child in whose range `lo` is. It takes no memory.
+    pub fn children<'a>(&'a self, lo: &'a [u8], hi: Option<&'a [u8]>) -> Children<'a, A>
+        ensures { result ≡ children_within lo.now (option_copied hi.entry) (child_entries self.now) }
+    {
+        Children {
+            page: self,
+            end: hi,
+            next: self.first_between(lo, hi),
+        }
+    }
+
+    // The last child whose low key isn't above the key.
+    fn last_child<'a>(&'a self, key: &'a [u8]) -> Option<(&'a [u8], Pid)>
+        ensures child { option_map (λ e. (e.0.now, e.1)) result ≡ floor key.now (child_entries self.now) }
         ensures rising { IsRising (child_entries self.now) }
     {
         let chain = self.as_index()?;
         let _in_order = chain.depth();
-        floor(chain, key, &mut Probes::new()).copied()
+        let (low, pid) = floor(chain, key, &mut Probes::new())?;
+        Some((low, *pid))
+    }
+
+    // The first child whose low key is above the key.
+    fn next_child(&self, key: &[u8]) -> Option<(&[u8], Pid)>
+        ensures child { option_map (λ e. (e.0.now, e.1)) result ≡ above key.now (child_entries self.now) }
+        ensures rising { IsRising (child_entries self.now) }
+    {
+        let chain = self.as_index()?;
+        let _in_order = chain.depth();
+        let (low, pid) = above(chain, key, &mut Probes::new())?;
+        Some((low, *pid))
+    }
+
+    // The low key of the first child whose low key is above the key.
+    fn next_key(&self, key: &[u8]) -> Option<&[u8]>
+        ensures { option_copied result ≡ option_map (λ e. e.0) (above key.now (child_entries self.now)) }
+    {
+        match self.next_child(key) {
+            Some(child) => Some(child.0),
+            None => None,
+        }
+    }
+
+    // The first child whose range meets the bounds: with it those that do begin.
+    fn first_between<'a>(&'a self, lo: &'a [u8], hi: Option<&'a [u8]>) -> Option<(&'a [u8], Pid)>
+        ensures { left_from (option_map (λ e. (e.0.now, e.1)) result) (option_copied hi.entry) (child_entries self.now) ≡ children_within lo.now (option_copied hi.entry) (child_entries self.now) }
+    {
+        match self.last_child(lo) {
+            Some(child) => Some(child),
+            None => self.next_before(lo, hi),
+        }
+    }
+
+    // The first child whose low key is above the key, where that is before the end: with it those behind the key begin.
+    pub(crate) fn next_before(&self, key: &[u8], end: Option<&[u8]>) -> Option<(&[u8], Pid)>
+        ensures { left_from (option_map (λ e. (e.0.now, e.1)) result) (option_copied end.entry) (child_entries self.now) ≡ entries_between key.now (option_copied end.entry) (child_entries self.now) }
+    {
+        match self.next_child(key) {
+            Some(child) if is_before(end, child.0) => Some(child),
+            _ => None,
+        }
+    }
+}
+
+// Whether the key is below the end; each is where there is none.
+fn is_before(end: Option<&[u8]>, key: &[u8]) -> bool
+    ensures { result ≡ is_before (option_copied end.entry) key.now }
+{
+    match end {
+        None => true,
+        Some(end) => key.cmp(end).is_lt(),
     }
 }
 
@@ -175,6 +269,56 @@ mod tests {
         for (key, number) in children {
             assert_eq!(rt; child(&page, key), Some(number), "{key:?}");
         }
+        Ok(())
+    }
+
+    #[test]
+    fn a_child_ends_where_the_next_one_begins(rt: HostRuntime) -> Result<(), Fail> {
+        let page = page(rt.alloc())?;
+        let ends: [(&[u8], u64, Option<&[u8]>); 4] = [
+            (b"", 0, Some(b"f")),
+            (b"e", 0, Some(b"f")),
+            (b"f", 3, Some(b"h")),
+            (b"z", 2, None),
+        ];
+        for (key, number, end) in ends {
+            if page.has_child_for(key) {
+                let (pid, found) = page.child_with_end(key);
+                assert_eq!(rt; pid.0, number, "{key:?}");
+                assert!(rt; found == end, "{key:?}");
+            }
+        }
+        Ok(())
+    }
+
+    const NONE: Pid = Pid(9);
+
+    // The numbers of the first three children between the bounds, with 9 where there are no more.
+    fn three_between<'x>(page: &'x Page<Global>, lo: &'x [u8], hi: Option<&'x [u8]>) -> [u64; 3] {
+        let mut walk = page.children(lo, hi);
+        let first = match walk.next() {
+            Some(child) => child.1,
+            None => NONE,
+        };
+        let second = match walk.next() {
+            Some(child) => child.1,
+            None => NONE,
+        };
+        let third = match walk.next() {
+            Some(child) => child.1,
+            None => NONE,
+        };
+        [first.0, second.0, third.0]
+    }
+
+    #[test]
+    fn children_are_those_that_meet_the_bounds(rt: HostRuntime) -> Result<(), Fail> {
+        let page = page(rt.alloc())?;
+        assert_eq!(rt; three_between(&page, b"e", None), [0, 3, 2]);
+        assert_eq!(rt; three_between(&page, b"e", Some(b"h")), [0, 3, 9]);
+        assert_eq!(rt; three_between(&page, b"f", Some(b"hh")), [3, 2, 9]);
+        assert_eq!(rt; three_between(&page, b"g", Some(b"b")), [3, 9, 9]);
+        assert_eq!(rt; three_between(&page, b"f", Some(b"f")), [3, 9, 9]);
         Ok(())
     }
 

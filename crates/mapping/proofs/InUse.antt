@@ -1,14 +1,13 @@
 -- Which pids are in use, after a change of a table.
-use Rattle.std.specs.Prelude.{◌≡◌, ◌≢◌, ℕ, ◌≤◌, Bool, true, false, cond, ◌||◌, nat_eq, List, [], ◌∷◌, Option, Some}
+use Rattle.std.specs.Prelude.{◌≡◌, ◌≢◌, ℕ, ◌≤◌, Bool, true, false, cond, ◌||◌, nat_eq, List, [], ◌∷◌, Option, Some, None, is_some}
 use Rattle.std.proofs.Common.{refl, sym, ap, ◌∙◌, arith, Ordering, Less, Equal, Greater}
 use Rattle.std.specs.Ordering.{nat_cmp, is_eq, match_ordering}
-use Rattle.std.specs.Option.{is_some}
 use Rattle.std.specs.Map.{keys_of, lookup, remove_entry}
 use Rattle.std.specs.BTreeMap.{insert_entry}
 use Rattle.std.proofs.lemmas.Cmp.{tied_itself}
 use Rattle.std.proofs.lemmas.Bool.{eq-eqb, eqb-true}
 use Rattle.mapping.specs.FreshPids.{is_among}
-use Rattle.mapping.specs.Table.{Mapping, is_pid, with_place, freed}
+use Rattle.mapping.specs.Table.{Mapping, is_pid, pids_in_use, place_of, with_place, freed, room_by, with_room}
 use Rattle.mapping.specs.Slots.{AreInUseBelow}
 use Rattle.mapping.proofs.PidLaws.{later_among}
 use Rattle.mapping.proofs.TableLaws.{total, same_pid, equal_by}
@@ -77,3 +76,22 @@ module _ {P : Type 0} (t : Mapping P) where
 
   pub in_use-freed : (k n m : ℕ) → AreInUseBelow t n → m ≤ n → m ≤ k → AreInUseBelow (freed t k) m
   in_use-freed k n m h a b q l = among-remove_entry q k t.places (omega arith) (h q (omega arith))
+
+  pub among_place : (k : ℕ) → is_some (place_of t k) ≡ is_among k (pids_in_use t)
+  among_place k = among-lookup k t.places
+
+  -- ---- room
+
+  kept_by : (o : Option (Option P)) (k q : ℕ) → is_among q (pids_in_use t) ≡ true → is_among q (pids_in_use (room_by o t k)) ≡ true
+  kept_by None k q h = among-insert_entry q k t.places None h
+  kept_by (Some p) k q h = h
+
+  pub among_kept : (k q : ℕ) → is_among q (pids_in_use t) ≡ true → is_among q (pids_in_use (with_room t k)) ≡ true
+  among_kept k q h = kept_by (place_of t k) k q h
+
+  made_by : (o : Option (Option P)) (k : ℕ) → place_of t k ≡ o → is_among k (pids_in_use (room_by o t k)) ≡ true
+  made_by None k e = among_new k t.places None
+  made_by (Some p) k e = sym (among_place k) ∙ ap is_some e
+
+  pub among_made : (k : ℕ) → is_among k (pids_in_use (with_room t k)) ≡ true
+  among_made k = made_by (place_of t k) k refl

@@ -1,6 +1,7 @@
 mod Around
 mod FindingRow
 mod FirstTree
+mod FreshLaws
 pub mod HomePages
 mod InUse
 pub mod Joined
@@ -16,6 +17,7 @@ pub mod SameTable
 mod Search
 pub mod TableLaws
 pub mod TableOfLevels
+mod TableRows
 mod TableSlots
 pub mod TileLaws
 mod Walk

@@ -97,6 +97,15 @@ module _ {S V : Type 0} (pid : S → ℕ) (say : S → Option V) where
   keys-listing P [] a = tt
   keys-listing P (s ∷ ss) a = keys_by P (pid s) (say s) (listing ss) a.0 (keys-listing P ss a.1)
 
+  rising_by : (n : ℕ) (o : Option V) (es : List (ℕ × V)) → AllByRecursion (λ m. n < m) (keys_of es) → AreRisingPids (keys_of es) → AreRisingPids (keys_of (entry_if n o ++ es))
+  rising_by n None es a r = r
+  rising_by n (Some v) es a r = (a, r)
+
+  -- they are listed by rising pid
+  pub rising-listing : (ss : List S) → AreRisingPids (map pid ss) → AreRisingPids (keys_of (listing ss))
+  rising-listing [] r = tt
+  rising-listing (s ∷ ss) r = rising_by (pid s) (say s) (listing ss) (keys-listing (λ m. pid s < m) ss r.0) (rising-listing ss r.1)
+
   listing-append : (ss ts : List S) → listing (ss ++ ts) ≡ listing ss ++ listing ts
   listing-append ss ts = flat_map-append (λ s. entry_if (pid s) (say s)) ss ts
 

@@ -60,6 +60,11 @@ module _ {P : Type 0} where
   not_home Away h = refl
   not_home (Home x) h = absurd (h x refl)
 
+  pub not_away : (p : Place P) → (p ≡ Away → ⊥) → placed p ≡ Some None → ⊥
+  not_away Vacant h e = absurd (cc)
+  not_away Away h e = h refl
+  not_away (Home x) h e = absurd (cc)
+
   pub not_vacant : (p : Place P) → (p ≡ Vacant → ⊥) → is_some (placed p) ≡ true
   not_vacant Vacant h = absurd (h refl)
   not_vacant Away h = refl

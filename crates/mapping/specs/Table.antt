@@ -66,7 +66,7 @@ with_room t pid = room_by (place_of t pid) t pid
 abbrev pub fresh_pids : List ℕ → ℕ → List ℕ
 fresh_pids used n = map (unused used) (range_with_len 0 n)
 
--- the table with a place for each of these, which is away
-abbrev pub with_away : {P : Type 0} → Mapping P → List ℕ → Mapping P
-with_away t [] = t
-with_away t (pid ∷ pids) = with_away (with_place t pid None) pids
+-- the table with a place for each of these
+abbrev pub with_rooms : {P : Type 0} → Mapping P → List ℕ → Mapping P
+with_rooms t [] = t
+with_rooms t (pid ∷ pids) = with_rooms (with_room t pid) pids

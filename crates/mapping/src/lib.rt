@@ -10,6 +10,8 @@ pub mod logged;
 mod room;
 mod slots;
 pub mod table;
+#[cfg(test)]
+mod tests;
 pub mod tree;
 
 pub use crate::logged::Logged;

@@ -1,10 +1,10 @@
-ghost use Rattle.std.specs.Prelude.{◌≡◌, ◌+◌, ◌<◌, ◌≤◌, OnOk, OnErr, IsOk, vec_len, vec_capacity};
+ghost use Rattle.std.specs.Prelude.{◌≡◌, ◌+◌, ◌<◌, ◌≤◌, IfOk, OnOk, OnErr, IsOk, vec_len, vec_capacity};
 ghost use Rattle.mapping.specs.Proper.{AreRisingPids};
-ghost use Rattle.mapping.specs.Table.{with_room};
-ghost use Rattle.mapping.specs.Slots.{slot_pids, table_of};
+ghost use Rattle.mapping.specs.Table.{with_room, with_rooms, pids_in_use, fresh_pids};
+ghost use Rattle.mapping.specs.Slots.{slot_pids, table_of, AreSlots};
 
 use crate::logged::Logged;
-use crate::slots::{Place, Slot, slot_of};
+use crate::slots::{Place, Slot, is_used, slot_of};
 use std::alloc::{AllocError, Allocator};
 
 // Makes a place for the pid, whose page is away, where it has none. It is refused only where the slots fill their room.
@@ -37,4 +37,46 @@ pub(crate) fn occupy<P: Drop, A: Allocator + Copy>(
         }
     }
     Ok(())
+}
+
+// Makes a place for each of the pids, as `occupy` does. Where memory is refused, nothing has changed.
+pub(crate) fn occupy_all<P: Drop, A: Allocator + Copy>(
+    slots: &mut Vec<Slot<P>, A>,
+    pids: &[u64],
+) -> Result<(), AllocError>
+    requires { AreRisingPids (slot_pids slots.old.items) }
+    ensures rising { AreRisingPids (slot_pids slots.new.items) }
+    ensures ok { OnOk result (table_of slots.new.items ≡ with_rooms (table_of slots.old.items) pids.now) }
+    ensures err { OnErr result (slots.new.items ≡ slots.old.items) }
+{
+    slots.reserve(pids.len())?;
+    for pid in pids {
+        occupy(slots, *pid)?;
+    }
+    Ok(())
+}
+
+// So many of the least numbers that have no place, where each below this one has a place. There may be too few.
+pub(crate) fn least_free<P, A: Allocator + Copy>(
+    alloc: A,
+    slots: &[Slot<P>],
+    from: u64,
+    count: usize,
+) -> Result<Vec<u64, A>, AllocError>
+    requires { AreSlots slots.now from }
+    ensures { IfOk result (λ pids. pids.items ≡ fresh_pids (pids_in_use (table_of slots.now)) count) }
+{
+    let mut pids = Vec::with_capacity(alloc, count)?;
+    for pid in from..u64::MAX {
+        if pids.len() == count {
+            break;
+        }
+        if !is_used(slots, pid) {
+            pids.push(pid)?;
+        }
+    }
+    if pids.len() < count {
+        return Err(AllocError);
+    }
+    Ok(pids)
 }

@@ -1,4 +1,4 @@
-ghost use Rattle.std.specs.Prelude.{MatchResult, IsSome};
+ghost use Rattle.std.specs.Prelude.{◌≡◌, MatchResult, IsSome, is_some};
 ghost use Rattle.mapping.specs.Proper.{AreRisingPids};
 ghost use Rattle.mapping.specs.Table.{place_of};
 ghost use Rattle.mapping.specs.Slots.{slot_pids, table_of, StandsAt, GoesTo};
@@ -43,6 +43,17 @@ fn search<P>(slots: &[Slot<P>], pid: u64) -> Result<usize, usize>
     ensures { MatchResult result (StandsAt (slot_pids slots.now) pid) (GoesTo (slot_pids slots.now) pid) }
 {
     slots.binary_search_by_key(&pid, |slot| slot.pid)
+}
+
+// Whether the pid has a place.
+pub(crate) fn is_used<P>(slots: &[Slot<P>], pid: u64) -> bool
+    requires { AreRisingPids (slot_pids slots.now) }
+    ensures { result ≡ is_some (place_of (table_of slots.now) pid) }
+{
+    match slot_of(slots, pid) {
+        Ok(at) => !matches!(&slots[at].page, Place::Vacant),
+        Err(_) => false,
+    }
 }
 
 // Where the slot of a pid is that has a place.

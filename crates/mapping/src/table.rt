@@ -1,11 +1,11 @@
-ghost use Rattle.std.specs.Prelude.{◌≡◌, Some, None, IsSome, is_some, OnOk, OnErr};
+ghost use Rattle.std.specs.Prelude.{◌≡◌, ◌↔◌, Some, None, IsTrue, IsSome, is_some, IfOk, OnOk, OnErr};
 ghost use Rattle.std.specs.Option.{option_copied};
 ghost use Rattle.mapping.specs.LogState.{log_state};
-ghost use Rattle.mapping.specs.Table.{no_places, place_of, page_of, log_of, with_place, outdated, freed, with_room};
+ghost use Rattle.mapping.specs.Table.{no_places, place_of, page_of, log_of, with_place, outdated, freed, with_room, with_rooms, pids_in_use, fresh_pids};
 
 use crate::logged::Logged;
-use crate::room::occupy;
-use crate::slots::{Place, Slot, slot_in_use, slot_of};
+use crate::room::{least_free, occupy, occupy_all};
+use crate::slots::{Place, Slot, is_used, slot_in_use, slot_of};
 use std::alloc::{AllocError, Allocator};
 use std::marker::Model;
 use std::mem;
@@ -48,8 +48,15 @@ impl<P: Drop, A: Allocator + Copy> Table<P, A> {
     pub fn is_used(&self, pid: u64) -> bool
         ensures { result ≡ is_some (place_of self.now pid) }
     {
+        is_used(&self.slots, pid)
+    }
+
+    /// Whether the pid has a place whose page is away, so that one may be put there.
+    pub fn is_away(&self, pid: u64) -> bool
+        ensures { IsTrue result ↔ (place_of self.now pid ≡ Some None) }
+    {
         match slot_of(&self.slots, pid) {
-            Ok(at) => !matches!(&self.slots[at].page, Place::Vacant),
+            Ok(at) => matches!(&self.slots[at].page, Place::Away),
             Err(_) => false,
         }
     }
@@ -128,5 +135,22 @@ impl<P: Drop, A: Allocator + Copy> Table<P, A> {
         ensures err { OnErr result (self.new ≡ self.old) }
     {
         occupy(&mut self.slots, pid)
+    }
+
+    /// Draws so many new pids, the least numbers that have no place, in rising order, and makes a place for each, whose
+    /// page is away. What the log has of them stays. Where memory is refused, or fewer numbers below `u64::MAX`
+    /// are left, nothing has changed.
+    pub fn fresh(&mut self, count: usize) -> Result<Vec<u64, A>, AllocError>
+        ensures pids { IfOk result (λ pids. pids.items ≡ fresh_pids (pids_in_use self.old) count) }
+        ensures ok { OnOk result (self.new ≡ with_rooms self.old (fresh_pids (pids_in_use self.old) count)) }
+        ensures err { OnErr result (self.new ≡ self.old) }
+    {
+        let alloc = *self.slots.allocator();
+        let pids = least_free(alloc, &self.slots, self.filled, count)?;
+        occupy_all(&mut self.slots, &pids)?;
+        if count > 0 {
+            self.filled = pids[count - 1].saturating_add(1);
+        }
+        Ok(pids)
     }
 }

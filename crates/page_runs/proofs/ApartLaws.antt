@@ -14,7 +14,7 @@ use Rattle.keys.specs.declared.command.Reply.{Reply}
 use Rattle.page_runs.specs.NetRun.{net_run}
 use Rattle.page_runs.proofs.NetLaws.{Pairs, said_if, value_at-touched, untouched_once}
 use Rattle.page_runs.specs.Touched.{touches, is_touched}
-use Rattle.page_runs.specs.Apart.{is_on, key_of, is_on_one, IsOff, IsWithin, TakesAll, TakesNoOther, replies_where, AgreeOn}
+use Rattle.page_runs.specs.Apart.{is_on, single_key, is_on_one, IsOff, IsWithin, TakesAll, TakesNoOther, replies_where, AgreeOn}
 
 -- ---- keys
 
@@ -54,17 +54,17 @@ said_same false false q m x e f = refl
 
 module _ {A : Type 0} where
   -- a command on one key is on that key and no other
-  is_on-key_of : (c : Command A) (k q : List ℕ) → key_of c ≡ Some k → is_on c q ≡ is_eq (order q k)
-  is_on-key_of (Get j) k q h = let s : j ≡ k = cc in ap (λ (i : List ℕ). is_eq (order q i)) s
-  is_on-key_of (Put j v) k q h = let s : j ≡ k = cc in ap (λ (i : List ℕ). is_eq (order q i)) s
-  is_on-key_of (Add j v) k q h = let s : j ≡ k = cc in ap (λ (i : List ℕ). is_eq (order q i)) s
-  is_on-key_of (Del j) k q h = let s : j ≡ k = cc in ap (λ (i : List ℕ). is_eq (order q i)) s
+  is_on-single_key : (c : Command A) (k q : List ℕ) → single_key c ≡ Some k → is_on c q ≡ is_eq (order q k)
+  is_on-single_key (Get j) k q h = let s : j ≡ k = cc in ap (λ (i : List ℕ). is_eq (order q i)) s
+  is_on-single_key (Put j v) k q h = let s : j ≡ k = cc in ap (λ (i : List ℕ). is_eq (order q i)) s
+  is_on-single_key (Add j v) k q h = let s : j ≡ k = cc in ap (λ (i : List ℕ). is_eq (order q i)) s
+  is_on-single_key (Del j) k q h = let s : j ≡ k = cc in ap (λ (i : List ℕ). is_eq (order q i)) s
 
-  pub within_by_key : (is_own : List ℕ → Bool) (c : Command A) (k : List ℕ) → key_of c ≡ Some k → is_own k ≡ true → IsWithin is_own c
-  within_by_key is_own c k h n = λ q o. is_on-key_of c k q h ∙ own_key is_own q k o n
+  pub within_by_key : (is_own : List ℕ → Bool) (c : Command A) (k : List ℕ) → single_key c ≡ Some k → is_own k ≡ true → IsWithin is_own c
+  within_by_key is_own c k h n = λ q o. is_on-single_key c k q h ∙ own_key is_own q k o n
 
-  pub off_by_key : (is_own : List ℕ → Bool) (c : Command A) (k : List ℕ) → key_of c ≡ Some k → is_own k ≡ false → IsOff is_own c
-  off_by_key is_own c k h n = λ q o. is_on-key_of c k q h ∙ other_key is_own q k o n
+  pub off_by_key : (is_own : List ℕ → Bool) (c : Command A) (k : List ℕ) → single_key c ≡ Some k → is_own k ≡ false → IsOff is_own c
+  off_by_key is_own c k h n = λ q o. is_on-single_key c k q h ∙ other_key is_own q k o n
 
   -- it touches no key that it isn't on, so it leaves that key as it was
   touches_none_else : (m : Pairs) (c : Command A) (q : List ℕ) → is_on c q ≡ false → touches q m c ≡ false

@@ -50,6 +50,6 @@ module _ {V : Type 0} where
     del_noted (Err e) b m run new k s h = tt
 
   -- the class of a page that a run replaces
-  pub class_of_replaced : (s : Settings) (p : Layers V) (run : List (List ℕ × Option V)) → 0 < length run → must_replace s p run ≡ true → class_of_size s (length (with_run (entries_of p) run)) ≡ class_after s p run
+  pub class_of_replaced : (s : Settings) (p : Layers V) (run : List (List ℕ × Option V)) → 0 < length run → true ≡ must_replace s p run → class_of_size s (length (with_run (entries_of p) run)) ≡ class_after s p run
   class_of_replaced s p [] n h = absurd (omega arith)
-  class_of_replaced s p (c ∷ cs) n h = rw h refl
+  class_of_replaced s p (c ∷ cs) n h = rw (← h) refl

@@ -10,7 +10,7 @@ use Rattle.delta_chain.specs.Layers.{with_run}
 use Rattle.page_runs.proofs.NetLaws.{Pairs, Changes, with_run-net_run, net_run-push}
 use Rattle.page_runs.specs.NetRun.{noted_by, net_run}
 use Rattle.page_runs.specs.Replies.{commands_at, pieces_of, ArePlacesOf}
-use Rattle.page_runs.specs.declared.piece.Piece.{Piece}
+use Rattle.keys.specs.declared.piece.Piece.{Piece}
 
 -- ---- places
 
@@ -47,7 +47,7 @@ module _ (m : Pairs) (rising : IsRising m) (cs : List (Command Global)) (c : Com
 
 -- ---- the pieces
 
-pub pieces_step : (batch : List (Command Global)) (places : List ℕ) (i p : ℕ) (c : Command Global) (before : Pairs) (pieces all : List Piece) → slice_get places i ≡ Some p → slice_get batch p ≡ Some c → pieces ++ pieces_of (drop i places) (replies_to before (commands_at batch (drop i places))) ≡ all → (pieces ++ record { place = p; reply = reply_to before c } ∷ []) ++ pieces_of (drop (suc i) places) (replies_to (map_after before c) (commands_at batch (drop (suc i) places))) ≡ all
+pub pieces_step : (batch : List (Command Global)) (places : List ℕ) (i p : ℕ) (c : Command Global) (before : Pairs) (pieces all : List (Piece Global)) → slice_get places i ≡ Some p → slice_get batch p ≡ Some c → pieces ++ pieces_of (drop i places) (replies_to before (commands_at batch (drop i places))) ≡ all → (pieces ++ record { place = p; reply = reply_to before c } ∷ []) ++ pieces_of (drop (suc i) places) (replies_to (map_after before c) (commands_at batch (drop (suc i) places))) ≡ all
 pieces_step batch [] i p c before pieces all h k t = absurd (cc)
 pieces_step batch (q ∷ qs) zero p c before pieces all h k t =
     let s : q ≡ p = cc in

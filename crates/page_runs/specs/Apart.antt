@@ -16,15 +16,15 @@ is_on (Add k v) q = is_eq (order q k)
 is_on (Del k) q = is_eq (order q k)
 
 -- the key of a command on one key
-abbrev pub key_of : {A : Type 0} → Command A → Option (List ℕ)
-key_of (Get k) = Some k
-key_of (Put k v) = Some k
-key_of (Add k v) = Some k
-key_of (Del k) = Some k
+abbrev pub single_key : {A : Type 0} → Command A → Option (List ℕ)
+single_key (Get k) = Some k
+single_key (Put k v) = Some k
+single_key (Add k v) = Some k
+single_key (Del k) = Some k
 
 -- whether the command is on one key, and that is one of these
 abbrev pub is_on_one : {A : Type 0} → (List ℕ → Bool) → Command A → Bool
-is_on_one is_own c = option_map_or is_own (key_of c) false
+is_on_one is_own c = option_map_or is_own (single_key c) false
 
 -- the command is on none of these keys
 abbrev pub IsOff : {A : Type 0} → (List ℕ → Bool) → Command A → Type 0

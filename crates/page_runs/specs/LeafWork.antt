@@ -1,53 +1,72 @@
 -- What a leaf's job holds, and what is made of it.
-use Rattle.std.specs.Prelude.{ℕ, Bool, List, vec_items}
+use Rattle.std.specs.Prelude.{ℕ, List}
+use Rattle.std.specs.declared.alloc.Global.{Global}
 use Rattle.keys.specs.Step.{replies_to}
 use Rattle.keys.specs.declared.command.Command.{Command}
+use Rattle.keys.specs.declared.piece.Piece.{Piece}
 use Rattle.keys.specs.declared.settings.Settings.{Settings}
-use Rattle.delta_chain.specs.Layers.{Layers, entries_of}
-use Rattle.page_runs.specs.AfterRun.{after_run, class_after, is_replaced}
+use Rattle.index_page.specs.Page.{PageOfKind, IsLeaf, leaf_of, entries}
+use Rattle.index_page.specs.Page.PageOfKind.{Leaf, Index}
+use Rattle.mapping.specs.Levels.{Placed}
+use Rattle.routing.specs.Routes.{Route}
 use Rattle.page_runs.specs.NetRun.{net_run}
-use Rattle.page_runs.specs.Outcome.{page_after, page_before, class_now, is_replaced_now}
-use Rattle.page_runs.specs.Replies.{commands_at, pieces_of}
-use Rattle.page_runs.specs.declared.class.Class.{Class}
-use Rattle.page_runs.specs.declared.leaf_work.LeafDone.{LeafDone}
+use Rattle.page_runs.specs.Outcome.{page_before, CanUndo, class_now, is_replaced_now}
+use Rattle.page_runs.specs.Replies.{commands_at, pieces_of, ArePlacesOf}
+use Rattle.page_runs.specs.Worked.{Worked, worked}
 use Rattle.page_runs.specs.declared.leaf_work.LeafJob.{LeafJob}
-use Rattle.page_runs.specs.declared.piece.Piece.{Piece}
-use Rattle.std.specs.declared.alloc.Global.{Global}
+use Rattle.page_runs.specs.declared.page_after.WayBack.{WayBack}
 
--- a leaf, and the places of its commands
+-- a page, its pid, and the places of its commands
 pub record LeafHeld : Type 0 where
-  pub page : Layers (List ℕ)
-  pub places : List ℕ
+  pub page : PageOfKind
+  pub route : Route
 
--- the leaf afterwards, its class, whether it was replaced, and its answers with their places
+-- the leaf afterwards, under its pid, its class, whether it was replaced, and its answers with their places
 pub record LeafMade : Type 0 where
-  pub page : Layers (List ℕ)
-  pub class : Class
-  pub replaced : Bool
-  pub pieces : List Piece
+  pub worked : Worked (List ℕ)
+  pub pieces : List (Piece Global)
 
--- what is made of a leaf: the page after the net run of its commands, its class, whether it was replaced, and the
--- replies to its commands
+-- what may be worked: the page is a leaf, and its commands' places are places of the batch
+pub record IsLeafHeld (batch : List (Command Global)) (h : LeafHeld) : Type 0 where
+  pub leaf : IsLeaf h.page
+  pub places : ArePlacesOf batch h.route.places
+
+-- the leaf under its pid
+abbrev pub placed_leaf : LeafHeld → Placed (List ℕ)
+placed_leaf h = record { pid = h.route.pid; page = leaf_of h.page }
+
+-- what is made of a leaf: what the net run of its commands on its own entries makes of it, and the replies to them
 abbrev pub leaf_made : Settings → List (Command Global) → LeafHeld → LeafMade
 leaf_made s batch h =
-    let m = entries_of h.page in
-    let cs = commands_at batch h.places in
-    let run = net_run m cs in
+    let m = entries (leaf_of h.page) in
+    let cs = commands_at batch h.route.places in
     record {
-      page = after_run s h.page run;
-      class = class_after s h.page run;
-      replaced = is_replaced s h.page run;
-      pieces = pieces_of h.places (replies_to m cs);
+      worked = worked s (placed_leaf h) (net_run m cs);
+      pieces = pieces_of h.route.places (replies_to m cs);
     }
 
 -- what a job holds
 abbrev pub held_of : LeafJob → LeafHeld
-held_of j = record { page = j.page; places = j.places }
+held_of j = record { page = j.page; route = j.page_run }
 
--- what the job held of which this was made
-abbrev pub origin_of : LeafDone → LeafHeld
-origin_of d = record { page = page_before d.after; places = d.places }
+-- a leaf that was worked: what its job held, and what was made of it
+pub record LeafWorked : Type 0 where
+  pub held : LeafHeld
+  pub made : LeafMade
 
--- what was made
-abbrev pub made_of : LeafDone → LeafMade
-made_of d = record { page = page_after d.after; class = class_now d.after; replaced = is_replaced_now d.after; pieces = vec_items d.pieces }
+-- a page that was worked, from the page now and its way back
+abbrev pub leaf_worked : PageOfKind → WayBack (List ℕ) → Route → List (Piece Global) → LeafWorked
+leaf_worked page way_back route pieces =
+    let now = leaf_of page in
+    record {
+      held = record { page = Leaf (record { low = now.low; layers = page_before now.layers way_back }); route = route };
+      made = record {
+        worked = record { placed = record { pid = route.pid; page = now }; class = class_now way_back; replaced = is_replaced_now way_back };
+        pieces = pieces;
+      };
+    }
+
+-- the page is a leaf, and the way back is one from it
+abbrev pub IsWorkedLeaf : PageOfKind → WayBack (List ℕ) → Type 0
+IsWorkedLeaf (Leaf p) way_back = CanUndo p.layers way_back
+IsWorkedLeaf (Index p) way_back = ⊥

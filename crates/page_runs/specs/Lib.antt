@@ -5,5 +5,6 @@ pub mod NetRun
 pub mod Outcome
 pub mod Replay
 pub mod Replies
+pub mod TermWork
 pub mod Touched
 pub mod Worked

@@ -1,35 +1,46 @@
--- What an outcome of a run keeps: the page now, its class, whether it was replaced, and the page before.
-use Rattle.std.specs.Prelude.{ℕ, Bool, true, false, List, drop}
+-- What the way back of a page keeps: what the page was before its run, and what became of it.
+use Rattle.std.specs.Prelude.{ℕ, ◌<◌, ⊤, Bool, true, false, List, [], ◌∷◌, drop, length, Option}
 use Rattle.delta_chain.specs.Layers.{Layers}
 use Rattle.page_runs.specs.declared.class.Class.{Class}
 use Rattle.page_runs.specs.declared.class.Class.TheVariants.{Same as SameClass, Changed}
-use Rattle.page_runs.specs.declared.page_after.PageAfter.{PageAfter}
-use Rattle.page_runs.specs.declared.page_after.PageAfter.TheVariants.{Same, InFront, Replaced}
+use Rattle.page_runs.specs.declared.page_after.WayBack.{WayBack}
+use Rattle.page_runs.specs.declared.page_after.WayBack.TheVariants.{Same, InFront, Replaced}
 
 -- the page without its newest run
 abbrev pub popped : {V : Type 0} → Layers V → Layers V
 popped p = record { runs = drop 1 p.runs; base = p.base }
 
--- the page now
-abbrev pub page_after : PageAfter → Layers (List ℕ)
-page_after (Same p) = p
-page_after (InFront p) = p
-page_after (Replaced p c b) = p
+-- the newest of these runs, and the empty run where there is none
+abbrev pub newest : {V : Type 0} → List (List (List ℕ × Option V)) → List (List ℕ × Option V)
+newest [] = []
+newest (run ∷ runs) = run
 
--- its class
-abbrev pub class_now : PageAfter → Class
-class_now (Same p) = SameClass
-class_now (InFront p) = Changed
-class_now (Replaced p c b) = c
+-- of the page now and its way back: the page before the run
+abbrev pub page_before : {V : Type 0} → Layers V → WayBack V → Layers V
+page_before p (Same run) = p
+page_before p InFront = popped p
+page_before p (Replaced class before) = popped before
+
+-- the run
+abbrev pub run_before : {V : Type 0} → Layers V → WayBack V → List (List ℕ × Option V)
+run_before p (Same run) = run
+run_before p InFront = newest p.runs
+run_before p (Replaced class before) = newest before.runs
+
+-- there is a run to be taken off, where one has to be
+abbrev pub CanUndo : {V : Type 0} → Layers V → WayBack V → Type 0
+CanUndo p (Same run) = ⊤
+CanUndo p InFront = 0 < length p.runs
+CanUndo p (Replaced class before) = 0 < length before.runs
+
+-- the class of the page now
+abbrev pub class_now : {V : Type 0} → WayBack V → Class
+class_now (Same run) = SameClass
+class_now InFront = Changed
+class_now (Replaced class before) = class
 
 -- whether it was replaced
-abbrev pub is_replaced_now : PageAfter → Bool
-is_replaced_now (Same p) = false
-is_replaced_now (InFront p) = false
-is_replaced_now (Replaced p c b) = true
-
--- the page before
-abbrev pub page_before : PageAfter → Layers (List ℕ)
-page_before (Same p) = p
-page_before (InFront p) = popped p
-page_before (Replaced p c b) = popped b
+abbrev pub is_replaced_now : {V : Type 0} → WayBack V → Bool
+is_replaced_now (Same run) = false
+is_replaced_now InFront = false
+is_replaced_now (Replaced class before) = true

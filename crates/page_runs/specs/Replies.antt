@@ -3,8 +3,7 @@ use Rattle.std.specs.Prelude.{ℕ, ◌<◌, List, [], ◌∷◌, ◌++◌, lengt
 use Rattle.std.specs.List.{AllByRecursion}
 use Rattle.keys.specs.declared.command.Command.{Command}
 use Rattle.keys.specs.declared.command.Reply.{Reply}
-use Rattle.page_runs.specs.declared.piece.Piece.{Piece}
-use Rattle.std.specs.declared.alloc.Global.{Global}
+use Rattle.keys.specs.declared.piece.Piece.{Piece}
 
 -- the commands at these places of the batch, in the order of the places
 abbrev pub commands_at : {A : Type 0} → List (Command A) → List ℕ → List (Command A)
@@ -16,7 +15,7 @@ abbrev pub ArePlacesOf : {A : Type 0} → List (Command A) → List ℕ → Type
 ArePlacesOf cs ps = AllByRecursion (λ p. p < length cs) ps
 
 -- the replies, each with its place
-abbrev pub pieces_of : List ℕ → List (Reply Global) → List Piece
+abbrev pub pieces_of : {A : Type 0} → List ℕ → List (Reply A) → List (Piece A)
 pieces_of [] rs = []
 pieces_of (p ∷ ps) [] = []
 pieces_of (p ∷ ps) (r ∷ rs) = record { place = p; reply = r } ∷ pieces_of ps rs

@@ -9,7 +9,7 @@ ghost use Rattle.keys.specs.declared.settings.Settings.{Settings};
 ghost use Rattle.delta_chain.specs.Layers.{Layers, with_run, entries_of, IsInOrder};
 ghost use Rattle.page_runs.specs.AfterRun.{after_run};
 ghost use Rattle.page_runs.specs.NetRun.{net_run};
-ghost use Rattle.page_runs.specs.Apart.{key_of, is_on_one, IsOff, IsWithin, TakesAll, TakesNoOther, replies_where, AgreeOn};
+ghost use Rattle.page_runs.specs.Apart.{single_key, is_on_one, IsOff, IsWithin, TakesAll, TakesNoOther, replies_where, AgreeOn};
 
 use std::alloc::Allocator;
 
@@ -45,6 +45,6 @@ pub fn commands_on_some_keys_are_worked_apart<A: Allocator>()
     ensures no_other { (is_own : List ℕ → Bool) (is_taken : Command A → Bool) (x : List (List ℕ × List ℕ)) (cs : List (Command A)) (k : List ℕ) →
         TakesNoOther is_own is_taken → is_own k ≡ false →
         value_at k (net_run x (filter is_taken cs)) ≡ None }
-    ensures within { (is_own : List ℕ → Bool) (c : Command A) (k : List ℕ) → key_of c ≡ Some k → is_own k ≡ true → IsWithin is_own c }
-    ensures off { (is_own : List ℕ → Bool) (c : Command A) (k : List ℕ) → key_of c ≡ Some k → is_own k ≡ false → IsOff is_own c }
+    ensures within { (is_own : List ℕ → Bool) (c : Command A) (k : List ℕ) → single_key c ≡ Some k → is_own k ≡ true → IsWithin is_own c }
+    ensures off { (is_own : List ℕ → Bool) (c : Command A) (k : List ℕ) → single_key c ≡ Some k → is_own k ≡ false → IsOff is_own c }
 {}

@@ -1,13 +1,15 @@
 ghost use Rattle.std.specs.Prelude.{◌≡◌};
+ghost use Rattle.index_page.specs.Page.PageOfKind.{Leaf};
 
 use crate::class::Class;
-use crate::page_after::{PageAfter, put_run};
-use crate::piece::Piece;
-use crate::replay::{Leaf, replay};
+use crate::page_after::{WayBack, put_run};
+use crate::replay::replay;
 use crew::{Turn, Work};
-use keys::{Command, Settings};
+use index_page::Page;
+use keys::{Command, Piece, Settings, Value};
 use routing::PageRun;
 use std::alloc::Global;
+use std::marker::Model;
 
 /// The work on leaves in a batch: a leaf and its run of commands go in; the leaf afterwards, its class and its
 /// answers come out.
@@ -24,57 +26,70 @@ pub struct LeafWork<'a> {
 /// A leaf, and which commands of the batch it has to work.
 #[derive(Drop)]
 pub struct LeafJob {
-    pub page: Leaf,
-    /// Where its commands stand in the batch.
-    pub places: PageRun,
+    pub page: Page<Global>,
+    /// The leaf's page id, and where its commands stand in the batch.
+    pub page_run: PageRun,
 }
 
-/// A leaf after its commands, with its class and its answers, and what gives the job back.
+/// A leaf after its commands, with its class and its answers, and what gives the job back. Contracts see it as what the
+/// job held and what was made of it.
 #[derive(Drop)]
 pub struct LeafDone {
-    after: PageAfter,
-    places: PageRun,
-    pieces: Vec<Piece>,
+    page: Page<Global>,
+    way_back: WayBack<Value<Global>>,
+    page_run: PageRun,
+    pieces: Vec<Piece<Global>>,
+}
+
+impl Model for LeafDone {
+    ghost use Rattle.page_runs.specs.LeafWork.{LeafWorked, leaf_worked, IsWorkedLeaf};
+
+    ghost Value = { LeafWorked };
+
+    ghost view = { λ d. leaf_worked d.page d.way_back d.page_run d.pieces.items };
+
+    ghost invariant = { λ d. IsWorkedLeaf d.page d.way_back };
 }
 
 impl LeafDone {
-    ghost use Rattle.page_runs.specs.LeafWork.{made_of};
-
     /// The leaf's class.
     pub fn class(&self) -> Class
-        ensures { result ≡ (made_of self.now).class }
+        ensures { result ≡ self.now.made.worked.class }
     {
-        match &self.after {
-            PageAfter::Same(_) => Class::Same,
-            PageAfter::InFront(_) => Class::Changed,
-            PageAfter::Replaced { class, .. } => *class,
-        }
+        self.way_back.class()
     }
 
     /// Whether the leaf was replaced: it is a base alone then, and not the leaf before with a run in front.
     pub fn is_replaced(&self) -> bool
-        ensures { result ≡ (made_of self.now).replaced }
+        ensures { result ≡ self.now.made.worked.replaced }
     {
-        matches!(&self.after, PageAfter::Replaced { .. })
+        self.way_back.is_replaced()
+    }
+
+    /// The leaf.
+    pub fn page(&self) -> &Page<Global>
+        ensures { result.now ≡ Leaf self.now.made.worked.placed.page }
+    {
+        &self.page
     }
 
     /// The leaf and its answers, for good: the job cannot be given back any more.
-    pub fn into_page_and_pieces(self) -> (Leaf, Vec<Piece>)
-        ensures page { result.0 ≡ (made_of self).page }
-        ensures pieces { result.1.items ≡ (made_of self).pieces }
+    pub fn into_page_and_pieces(self) -> (Page<Global>, Vec<Piece<Global>>)
+        ensures page { result.0 ≡ Leaf self.made.worked.placed.page }
+        ensures pieces { result.1.items ≡ self.made.pieces }
     {
         let LeafDone {
-            after,
-            places: _places,
+            page,
+            way_back: _way_back,
+            page_run: _page_run,
             pieces,
         } = self;
-        (after.into_page(), pieces)
+        (page, pieces)
     }
 }
 
 impl<'a> Work for LeafWork<'a> {
-    ghost use Rattle.page_runs.specs.LeafWork.{LeafHeld, LeafMade, leaf_made, held_of, origin_of, made_of};
-    ghost use Rattle.page_runs.specs.Replies.{ArePlacesOf};
+    ghost use Rattle.page_runs.specs.LeafWork.{LeafHeld, LeafMade, IsLeafHeld, leaf_made, held_of};
 
     type Job = LeafJob;
 
@@ -84,42 +99,53 @@ impl<'a> Work for LeafWork<'a> {
 
     ghost Made = { LeafMade };
 
-    ghost accepts = { λ w h. ArePlacesOf w.commands.now h.places };
+    ghost accepts = { λ w h. IsLeafHeld w.commands.now h };
 
     ghost held = { held_of };
 
     ghost can_undo = { λ w d. Unit {0} };
 
-    ghost origin = { origin_of };
+    ghost origin = { λ d. d.held };
 
-    ghost outcome = { made_of };
+    ghost outcome = { λ d. d.made };
 
     ghost made = { λ w h. leaf_made w.settings w.commands.now h };
 
     fn work(&self, job: LeafJob) -> Turn<LeafJob, LeafDone> {
-        let LeafJob { page, places } = job;
-        let Ok((run, pieces)) = replay(self.alloc, self.commands, &page, places.places()) else {
-            return Turn::Back(LeafJob { page, places });
+        let LeafJob { page, page_run } = job;
+        let (low, chain) = page.into_leaf();
+        let Ok((run, pieces)) = replay(self.alloc, self.commands, &chain, page_run.places()) else {
+            return Turn::Back(LeafJob {
+                page: Page::leaf(low, chain),
+                page_run,
+            });
         };
-        match put_run(self.alloc, &self.settings, page, run) {
-            Ok(after) => Turn::Done(LeafDone {
-                after,
-                places,
+        match put_run(self.alloc, &self.settings, chain, run) {
+            Ok((chain, way_back)) => Turn::Done(LeafDone {
+                page: Page::leaf(low, chain),
+                way_back,
+                page_run,
                 pieces,
             }),
-            Err(page) => Turn::Back(LeafJob { page, places }),
+            Err((chain, _run)) => Turn::Back(LeafJob {
+                page: Page::leaf(low, chain),
+                page_run,
+            }),
         }
     }
 
     fn undo(&self, done: LeafDone) -> LeafJob {
         let LeafDone {
-            after,
-            places,
+            page,
+            way_back,
+            page_run,
             pieces: _,
         } = done;
+        let (low, chain) = page.into_leaf();
+        let (chain, _run) = way_back.undo(chain);
         LeafJob {
-            page: after.undo(),
-            places,
+            page: Page::leaf(low, chain),
+            page_run,
         }
     }
 }

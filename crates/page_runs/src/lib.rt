@@ -1,16 +1,16 @@
-//! What a batch does to one page: its commands are replayed against what the page holds, and the page is changed
-//! once, by their net run.
+//! What a batch does to one page: a leaf's commands are replayed against what it holds, and it is changed once, by their
+//! net run; an index page is changed once, by the run of its terms.
 #![tactic(auto)]
 
 pub mod class;
 pub mod laws;
 pub mod leaf_work;
 mod page_after;
-pub mod piece;
 mod replay;
+pub mod term_work;
 #[cfg(test)]
 mod tests;
 
 pub use crate::class::Class;
 pub use crate::leaf_work::{LeafDone, LeafJob, LeafWork};
-pub use crate::piece::Piece;
+pub use crate::term_work::{TermDone, TermJob, TermWork};

@@ -1,83 +1,84 @@
-//! What becomes of a page by a run, and the way back.
-ghost use Rattle.std.specs.Prelude.{◌≡◌, [], true, length, IfOk, IfErr};
+//! What becomes of a page by a run, and the way back: the same for pages of either kind.
+ghost use Rattle.std.specs.Prelude.{◌≡◌, ◌<◌, [], length, IfOk, IfErr};
 ghost use Rattle.delta_chain.specs.Layers.{entries_of};
-ghost use Rattle.page_runs.specs.AfterRun.{must_replace, after_run, class_after, class_of_size, is_replaced};
-ghost use Rattle.page_runs.specs.Outcome.{page_after, page_before, class_now, is_replaced_now, popped};
+ghost use Rattle.page_runs.specs.AfterRun.{must_replace, in_front, after_run, class_after, class_of_size, is_replaced};
+ghost use Rattle.page_runs.specs.Outcome.{page_before, run_before, CanUndo, class_now, is_replaced_now};
+ghost use Rattle.page_runs.specs.declared.page_after.WayBack.TheVariants.{Replaced};
 
 use crate::class::Class;
-use crate::replay::{Leaf, LeafRun};
 use consolidate::consolidate;
-use delta_chain::Chain;
-use keys::Settings;
+use delta_chain::{Chain, Run};
+use keys::{Cell, Settings};
 use std::alloc::Global;
 
-/// A page after a run, with what gives back the page before it.
+/// What leads from a page after a run back to the page before it.
 #[derive(Drop)]
-pub(crate) enum PageAfter {
-    /// There was no change.
-    Same(Leaf),
-    /// The run stands in front.
-    InFront(Leaf),
-    /// A new page stands in the place of the one before, which is kept with the run in front.
+pub(crate) enum WayBack<V> {
+    /// The run has no change, and the page is as it was.
+    Same(Run<V, Global>),
+    /// The run stands in front of the page.
+    InFront,
+    /// The page is a new one. The page before is kept, with the run in front.
     Replaced {
-        page: Leaf,
         class: Class,
-        before: Leaf,
+        before: Chain<V, Global>,
     },
 }
 
-/// The page after the run, or the page as it was where memory is refused. A run that is longer than `fan`, or that
-/// would make the chain longer than `chain`, has the page replaced by a base of its entries.
-pub(crate) fn put_run(
+/// The page after the run, with the way back; or the page and the run as they were, where memory is refused. A run
+/// that is longer than `fan`, or that would make the chain longer than `chain`, has the page replaced by a base of its
+/// entries.
+pub(crate) fn put_run<V: Cell<Global> + Drop>(
     alloc: Global,
     settings: &Settings,
-    page: Leaf,
-    run: LeafRun,
-) -> Result<PageAfter, Leaf>
-    ensures page { IfOk result (λ after. page_after after ≡ after_run settings.now page run) }
-    ensures class { IfOk result (λ after. class_now after ≡ class_after settings.now page run) }
-    ensures replaced { IfOk result (λ after. is_replaced_now after ≡ is_replaced settings.now page run) }
-    ensures before { IfOk result (λ after. page_before after ≡ page) }
-    ensures back { IfErr result (λ again. again ≡ page) }
+    page: Chain<V, Global>,
+    run: Run<V, Global>,
+) -> Result<(Chain<V, Global>, WayBack<V>), (Chain<V, Global>, Run<V, Global>)>
+    ensures page { IfOk result (λ after. after.0 ≡ after_run settings.now page run) }
+    ensures class { IfOk result (λ after. class_now after.1 ≡ class_after settings.now page run) }
+    ensures replaced { IfOk result (λ after. is_replaced_now after.1 ≡ is_replaced settings.now page run) }
+    ensures can_undo { IfOk result (λ after. CanUndo after.0 after.1) }
+    ensures page_before { IfOk result (λ after. page_before after.0 after.1 ≡ page) }
+    ensures run_before { IfOk result (λ after. run_before after.0 after.1 ≡ run) }
+    ensures page_back { IfErr result (λ again. again.0 ≡ page) }
+    ensures run_back { IfErr result (λ again. again.1 ≡ run) }
 {
     if run.len() == 0 {
-        return Ok(PageAfter::Same(page));
+        return Ok((page, WayBack::Same(run)));
     }
     let must_replace = must_replace(settings, &page, &run);
     let mut page = page;
     match page.prepend(run) {
-        Err(_refused) => Err(page),
+        Err((_refused, run)) => Err((page, run)),
         Ok(()) if must_replace => replace(alloc, settings, page),
-        Ok(()) => Ok(PageAfter::InFront(page)),
+        Ok(()) => Ok((page, WayBack::InFront)),
     }
 }
 
 // Whether the page has to be replaced: the run is longer than `fan`, or it would make the chain longer than `chain`.
-fn must_replace(settings: &Settings, page: &Leaf, run: &LeafRun) -> bool
+fn must_replace<V>(settings: &Settings, page: &Chain<V, Global>, run: &Run<V, Global>) -> bool
     ensures { result ≡ must_replace settings.now page.now run.now }
 {
     run.len() > settings.fan as usize || page.depth() >= u64::from(settings.chain)
 }
 
 // A base of the page's entries in the place of the page, whose newest run was put in front just now.
-fn replace(alloc: Global, settings: &Settings, before: Leaf) -> Result<PageAfter, Leaf>
-    ensures page { IfOk result (λ after. page_after after ≡ record { runs = []; base = entries_of before }) }
-    ensures class { IfOk result (λ after. class_now after ≡ class_of_size settings.now (length (entries_of before))) }
-    ensures replaced { IfOk result (λ after. is_replaced_now after ≡ true) }
-    ensures before { IfOk result (λ after. page_before after ≡ popped before) }
-    ensures back { IfErr result (λ page. page ≡ popped before) }
+fn replace<V: Cell<Global> + Drop>(
+    alloc: Global,
+    settings: &Settings,
+    before: Chain<V, Global>,
+) -> Result<(Chain<V, Global>, WayBack<V>), (Chain<V, Global>, Run<V, Global>)>
+    requires { 0 < length before.runs }
+    ensures page { IfOk result (λ after. after.0 ≡ record { runs = []; base = entries_of before }) }
+    ensures way_back { IfOk result (λ after. after.1 ≡ Replaced (class_of_size settings.now (length (entries_of before))) before) }
+    ensures back { IfErr result (λ again. before ≡ in_front again.0 again.1) }
 {
     match consolidate(alloc, &before) {
-        Ok(base) => Ok(PageAfter::Replaced {
-            class: class_of(settings, base.len()),
-            page: Chain::of_base(base),
-            before,
-        }),
-        Err(_) => {
-            let mut page = before;
-            let _run = page.pop();
-            Err(page)
+        Ok(base) => {
+            let class = class_of(settings, base.len());
+            Ok((Chain::of_base(base), WayBack::Replaced { class, before }))
         }
+        Err(_) => Err(popped(before)),
     }
 }
 
@@ -94,40 +95,52 @@ fn class_of(settings: &Settings, entries: usize) -> Class
     }
 }
 
-impl PageAfter {
-    /// The page now. The page before is let go.
-    pub(crate) fn into_page(self) -> Leaf
-        ensures { result ≡ page_after self }
+// The page without its newest run, and that run.
+fn popped<V: Drop>(page: Chain<V, Global>) -> (Chain<V, Global>, Run<V, Global>)
+    requires { 0 < length page.runs }
+    ensures { page ≡ in_front result.0 result.1 }
+{
+    let mut page = page;
+    match page.pop() {
+        Some(run) => (page, run),
+        None => unreachable!(),
+    }
+}
+
+impl<V: Drop> WayBack<V> {
+    /// The page and the run of which the given page was made. The run in front is taken off; no memory is taken.
+    pub(crate) fn undo(self, page: Chain<V, Global>) -> (Chain<V, Global>, Run<V, Global>)
+        requires { CanUndo page self }
+        ensures page { result.0 ≡ page_before page self }
+        ensures run { result.1 ≡ run_before page self }
     {
         match self {
-            PageAfter::Same(page) => page,
-            PageAfter::InFront(page) => page,
-            PageAfter::Replaced {
-                page,
+            WayBack::Same(run) => (page, run),
+            WayBack::InFront => popped(page),
+            WayBack::Replaced {
                 class: _class,
-                before: _before,
-            } => page,
+                before,
+            } => popped(before),
+        }
+    }
+}
+
+impl<V> WayBack<V> {
+    /// The class of the page after the run.
+    pub(crate) fn class(&self) -> Class
+        ensures { result ≡ class_now self.now }
+    {
+        match self {
+            WayBack::Same(_) => Class::Same,
+            WayBack::InFront => Class::Changed,
+            WayBack::Replaced { class, .. } => *class,
         }
     }
 
-    /// The page before. It takes no memory.
-    pub(crate) fn undo(self) -> Leaf
-        ensures { result ≡ page_before self }
+    /// Whether the page after the run is a new one.
+    pub(crate) fn is_replaced(&self) -> bool
+        ensures { result ≡ is_replaced_now self.now }
     {
-        match self {
-            PageAfter::Same(page) => page,
-            PageAfter::InFront(mut page) => {
-                let _run = page.pop();
-                page
-            }
-            PageAfter::Replaced {
-                page: _page,
-                class: _class,
-                mut before,
-            } => {
-                let _run = before.pop();
-                before
-            }
-        }
+        matches!(self, WayBack::Replaced { .. })
     }
 }

@@ -11,9 +11,8 @@ ghost use Rattle.page_runs.specs.NetRun.{noted_by, net_run};
 ghost use Rattle.page_runs.specs.Replay.{map_by_now};
 ghost use Rattle.page_runs.specs.Replies.{commands_at, pieces_of, ArePlacesOf};
 
-use crate::piece::Piece;
 use delta_chain::{Chain, PushError, Run};
-use keys::{Command, Key, Reply, Value};
+use keys::{Command, Key, Piece, Reply, Value};
 use page_search::{Probes, find};
 use std::alloc::{AllocError, Global};
 use std::collections::BTreeMap;
@@ -31,7 +30,7 @@ pub(crate) fn replay(
     commands: &[Command<Global>],
     page: &Leaf,
     places: &[usize],
-) -> Result<(LeafRun, Vec<Piece>), AllocError>
+) -> Result<(LeafRun, Vec<Piece<Global>>), AllocError>
     requires { ArePlacesOf commands.now places.now }
     ensures run { IfOk result (λ r. r.0 ≡ net_run (entries_of page.now) (commands_at commands.now places.now)) }
     ensures pieces { IfOk result (λ r. r.1.items ≡ pieces_of places.now (replies_to (entries_of page.now) (commands_at commands.now places.now))) }

@@ -1,14 +1,16 @@
 //! The worked examples of a page and its batches, jobs that are given back, and memory that is refused.
 ghost use Rattle.std.specs.Prelude.{IfOk};
+ghost use Rattle.index_page.specs.Page.{IsIndex};
 ghost use Rattle.page_runs.specs.Replies.{ArePlacesOf};
 
 use crate::class::Class;
 use crate::leaf_work::{LeafJob, LeafWork};
-use crate::piece::Piece;
 use crate::replay::{Leaf, LeafRun};
+use crate::term_work::{TermJob, TermWork};
 use crew::{Turn, Work};
-use delta_chain::{Base, Chain};
-use keys::{Command, Key, Reply, Settings, Value};
+use delta_chain::{Base, BaseBuilder, Chain, PushError, Run};
+use index_page::Page;
+use keys::{Command, Key, Pid, Piece, Reply, Settings, Value};
 use routing::PageRun;
 use std::alloc::{AllocError, Global};
 use std::mem;
@@ -83,9 +85,9 @@ fn commands(alloc: Global, steps: &[Step]) -> Result<Vec<Command<Global>>, Alloc
 // The places of the one page that has to work all the commands.
 #[tactic(auto, using(crate::proofs::WholeBatch::places_of_whole_batch))]
 fn whole_batch(alloc: Global, commands: &[Command<Global>]) -> Result<PageRun, AllocError>
-    ensures { IfOk result (λ places. ArePlacesOf commands.now places) }
+    ensures { IfOk result (λ run. ArePlacesOf commands.now run.places) }
 {
-    PageRun::of_whole_batch(alloc, commands.len())
+    PageRun::of_whole_batch(alloc, Pid(0), commands.len())
 }
 
 // Appends the bytes as characters.
@@ -97,7 +99,7 @@ fn write_bytes(text: &mut String, bytes: &[u8]) -> Result<(), AllocError> {
 }
 
 // Appends the reply as a word, with its place before it.
-fn write_piece(text: &mut String, piece: &Piece) -> Result<(), AllocError> {
+fn write_piece(text: &mut String, piece: &Piece<Global>) -> Result<(), AllocError> {
     write!(text, ", {} ", piece.place)?;
     match &piece.reply {
         Reply::Value(value) => {
@@ -153,9 +155,9 @@ fn work_on(
     alloc: Global,
     page: &mut Leaf,
     steps: &[Step],
-) -> Result<Option<(Class, Vec<Piece>)>, AllocError> {
+) -> Result<Option<(Class, Vec<Piece<Global>>)>, AllocError> {
     let commands = commands(alloc, steps)?;
-    let places = whole_batch(alloc, &commands)?;
+    let page_run = whole_batch(alloc, &commands)?;
     let work = LeafWork {
         alloc,
         settings: SMALL,
@@ -163,17 +165,17 @@ fn work_on(
     };
     let before = mem::replace(page, Chain::of_base(Base::empty(alloc)));
     match work.work(LeafJob {
-        page: before,
-        places,
+        page: Page::leaf(Key::empty(alloc), before),
+        page_run,
     }) {
         Turn::Done(done) => {
             let class = done.class();
             let (after, pieces) = done.into_page_and_pieces();
-            *page = after;
+            *page = after.into_leaf().1;
             Ok(Some((class, pieces)))
         }
         Turn::Back(job) => {
-            *page = job.page;
+            *page = job.page.into_leaf().1;
             Ok(None)
         }
     }
@@ -186,7 +188,7 @@ fn work_and_undo_on(
     steps: &[Step],
 ) -> Result<Option<(Class, PageRun)>, AllocError> {
     let commands = commands(alloc, steps)?;
-    let places = whole_batch(alloc, &commands)?;
+    let page_run = whole_batch(alloc, &commands)?;
     let work = LeafWork {
         alloc,
         settings: SMALL,
@@ -194,40 +196,29 @@ fn work_and_undo_on(
     };
     let before = mem::replace(page, Chain::of_base(Base::empty(alloc)));
     match work.work(LeafJob {
-        page: before,
-        places,
+        page: Page::leaf(Key::empty(alloc), before),
+        page_run,
     }) {
         Turn::Done(done) => {
             let class = done.class();
             let LeafJob {
                 page: again,
-                places,
+                page_run,
             } = work.undo(done);
-            *page = again;
-            Ok(Some((class, places)))
+            *page = again.into_leaf().1;
+            Ok(Some((class, page_run)))
         }
         Turn::Back(job) => {
-            *page = job.page;
+            *page = job.page.into_leaf().1;
             Ok(None)
         }
     }
 }
 
-// Works a first batch on the page, and then the steps as one that is undone.
-fn work_then_undo_on(
-    alloc: Global,
-    page: &mut Leaf,
-    first: &[Step],
-    steps: &[Step],
-) -> Result<Option<(Class, PageRun)>, AllocError> {
-    let _made = work_on(alloc, page, first)?;
-    work_and_undo_on(alloc, page, steps)
-}
-
 // Appends the class and the answers, or that the job came back.
 fn write_outcome(
     text: &mut String,
-    outcome: &Option<(Class, Vec<Piece>)>,
+    outcome: &Option<(Class, Vec<Piece<Global>>)>,
 ) -> Result<(), AllocError> {
     match outcome {
         Some((class, pieces)) => {
@@ -246,7 +237,7 @@ fn work_all_on(
     alloc: Global,
     page: &mut Leaf,
     batches: &[&[Step]],
-) -> Result<Vec<Option<(Class, Vec<Piece>)>>, AllocError> {
+) -> Result<Vec<Option<(Class, Vec<Piece<Global>>)>>, AllocError> {
     let mut outcomes = Vec::new(alloc);
     for steps in batches {
         outcomes.push(work_on(alloc, page, *steps)?)?;
@@ -256,7 +247,7 @@ fn work_all_on(
 
 fn text_of_outcomes(
     alloc: Global,
-    outcomes: &[Option<(Class, Vec<Piece>)>],
+    outcomes: &[Option<(Class, Vec<Piece<Global>>)>],
     page: &Leaf,
 ) -> Result<String, AllocError> {
     let mut text = String::new(alloc);
@@ -274,7 +265,7 @@ fn text_of_undone(
 ) -> Result<String, AllocError> {
     let mut text = String::new(alloc);
     match undone {
-        Some((class, places)) => write!(text, "{class:?}, undone at {:?}: ", places.places())?,
+        Some((class, page_run)) => write!(text, "{class:?}, undone at {:?}: ", page_run.places())?,
         None => text.push_str("Back; ")?,
     }
     write_page(alloc, &mut text, page)?;
@@ -288,10 +279,24 @@ fn outcome(alloc: Global, batches: &[&[Step]]) -> Result<String, AllocError> {
     text_of_outcomes(alloc, &outcomes, &page)
 }
 
-// The class after the steps, and the places and the page that `undo` gives back, on a page that a first batch made.
-fn undone(alloc: Global, first: &[Step], steps: &[Step]) -> Result<String, AllocError> {
+// A page of one run, which gives a the value 1.
+fn page_with_a(alloc: Global) -> Result<Leaf, AllocError> {
+    let key = Key::from_bytes(alloc, b"a")?;
+    let value = Value::from_bytes(alloc, b"1")?;
+    let mut run = Run::with_capacity(alloc, 1)?;
+    let is_pushed = run.push(key, Some(value)).is_ok();
     let mut page = Chain::of_base(Base::empty(alloc));
-    let undone = work_then_undo_on(alloc, &mut page, first, steps)?;
+    if is_pushed && page.prepend(run).is_ok() {
+        Ok(page)
+    } else {
+        Err(AllocError)
+    }
+}
+
+// The class after the steps, and the places and the page that `undo` gives back.
+fn undone(alloc: Global, steps: &[Step]) -> Result<String, AllocError> {
+    let mut page = page_with_a(alloc)?;
+    let undone = work_and_undo_on(alloc, &mut page, steps)?;
     text_of_undone(alloc, &undone, &page)
 }
 
@@ -350,19 +355,74 @@ fn a_page_past_its_limits_is_replaced(rt: HostRuntime) -> Result<(), Fail> {
 #[test]
 fn what_is_undone_is_the_page_before(rt: HostRuntime) -> Result<(), Fail> {
     let alloc = rt.alloc();
-    let one = [Step::Put("a", "1")];
     assert_eq!(rt;
-        undone(alloc, &one, &[Step::Get("b"), Step::Add("a", "2")])?.as_str(),
+        undone(alloc, &[Step::Get("b"), Step::Add("a", "2")])?.as_str(),
         "Same, undone at [0, 1]: depth 1, run a=1, base of 0, holds a=1"
     );
     assert_eq!(rt;
-        undone(alloc, &one, &[Step::Put("b", "2"), Step::Del("a")])?.as_str(),
+        undone(alloc, &[Step::Put("b", "2"), Step::Del("a")])?.as_str(),
         "Changed, undone at [0, 1]: depth 1, run a=1, base of 0, holds a=1"
     );
     assert_eq!(rt;
-        undone(alloc, &one, &FIVE_PUTS)?.as_str(),
+        undone(alloc, &FIVE_PUTS)?.as_str(),
         "Fat, undone at [0, 1, 2, 3, 4]: depth 1, run a=1, base of 0, holds a=1"
     );
+    Ok(())
+}
+
+// An index page with a child at the empty key, and terms by which children come at these keys.
+fn term_job(alloc: Global, keys: &[&str]) -> Result<TermJob, PushError>
+    ensures { IfOk result (λ job. IsIndex job.page) }
+{
+    let mut builder = BaseBuilder::with_capacity(alloc, 1)?;
+    builder.push(b"", Pid(0))?;
+    let chain = Chain::of_base(builder.finish());
+    let mut terms = Run::with_capacity(alloc, keys.len())?;
+    for key in keys {
+        terms.push(Key::from_bytes(alloc, key.as_bytes())?, Some(Pid(1)))?;
+    }
+    Ok(TermJob {
+        page: Page::index(Key::empty(alloc), chain),
+        pid: Pid(7),
+        terms,
+    })
+}
+
+// How many runs an index page has, and how many entries its base has.
+fn shape(page: &Page<Global>) -> Option<(u64, usize)> {
+    let chain = page.as_index()?;
+    Some((chain.depth(), chain.base().len()))
+}
+
+#[test]
+fn an_index_page_takes_its_terms_and_gives_them_back(rt: HostRuntime) -> Result<(), Fail> {
+    let alloc = rt.alloc();
+    let work = TermWork {
+        alloc,
+        settings: SMALL,
+    };
+    let few: [&str; 2] = ["d", "f"];
+    let many: [&str; 5] = ["d", "f", "h", "j", "l"];
+    match work.work(term_job(alloc, &few)?) {
+        Turn::Done(done) => {
+            assert_eq!(rt; done.class(), Class::Changed);
+            assert!(rt; !done.is_replaced());
+            assert_eq!(rt; shape(done.page()), Some((1, 1)));
+        }
+        Turn::Back(_) => return Err(AllocError.into()),
+    }
+    match work.work(term_job(alloc, &many)?) {
+        Turn::Done(done) => {
+            assert_eq!(rt; done.class(), Class::Fat);
+            assert!(rt; done.is_replaced());
+            assert_eq!(rt; shape(done.page()), Some((0, 6)));
+            let job = work.undo(done);
+            assert_eq!(rt; shape(&job.page), Some((0, 1)));
+            assert_eq!(rt; job.terms.len(), 5);
+            assert_eq!(rt; job.pid, Pid(7));
+        }
+        Turn::Back(_) => return Err(AllocError.into()),
+    }
     Ok(())
 }
 

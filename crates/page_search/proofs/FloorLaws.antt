@@ -1,7 +1,7 @@
 -- Lemmas on the last pair whose key isn't above a key, for the proofs of this crate and of those above it.
 use Rattle.std.specs.Prelude.{◌≡◌, ◌⊎◌, ℕ, zero, suc, ◌<◌, ◌≤◌, Bool, true, false, cond, List, [], ◌∷◌, slice_get, slice_index_or, Option, Some, None}
 use Rattle.std.proofs.Common.{refl, sym, ap, ◌∙◌, subst, arith, Ordering, Less, Equal, Greater, inl, inr}
-use Rattle.std.specs.Option.{option_or, option_map}
+use Rattle.std.specs.Option.{option_or}
 use Rattle.std.specs.Ordering.{is_lt, is_eq}
 use Rattle.std.specs.Map.{keys_of}
 use Rattle.std.proofs.lemmas.Option.{slice_get-get_or}
@@ -19,14 +19,14 @@ use Rattle.page_search.proofs.PlaceLaws.{below_iff_before_count, count_below-le-
 -- ---- what pairs hold nothing at
 
 module _ {V : Type 0} where
-  held_not_none : (e : List ℕ × V) (es : List (List ℕ × V)) → value_at e.0 (e ∷ es) ≡ None → ⊥
+  pub held_not_none : (e : List ℕ × V) (es : List (List ℕ × V)) → value_at e.0 (e ∷ es) ≡ None → ⊥
   held_not_none e es h = let s : Some e.1 ≡ None = (rw (is_itself e.0) at h) in absurd (cc)
 
   rest_by : (b : Bool) (v : V) (o : Option V) → cond b (Some v) o ≡ None → o ≡ None
   rest_by true v o h = absurd (cc)
   rest_by false v o h = h
 
-  nothing_in_rest : (i : List ℕ) (e : List ℕ × V) (es : List (List ℕ × V)) → value_at i (e ∷ es) ≡ None → value_at i es ≡ None
+  pub nothing_in_rest : (i : List ℕ) (e : List ℕ × V) (es : List (List ℕ × V)) → value_at i (e ∷ es) ≡ None → value_at i es ≡ None
   nothing_in_rest i e es h = rest_by (is_eq (order i e.0)) e.1 (value_at i es) h
 
   -- ---- the floor, by what the pairs have
@@ -179,7 +179,7 @@ module _ {V : Type 0} where
       omega arith
 
   -- the page says nothing of a key of which the newest run and the page under it say nothing
-  in_front : (i : List ℕ) (run : List (List ℕ × Option V)) (runs : List (List (List ℕ × Option V))) (base : List (List ℕ × V)) → value_at i run ≡ None → held_under i runs base ≡ None → held_under i (run ∷ runs) base ≡ None
+  pub in_front : (i : List ℕ) (run : List (List ℕ × Option V)) (runs : List (List (List ℕ × Option V))) (base : List (List ℕ × V)) → value_at i run ≡ None → held_under i runs base ≡ None → held_under i (run ∷ runs) base ≡ None
   in_front i run runs base a b = rw a b
 
   -- where a page names no key below k, it holds nothing at any such key
@@ -243,29 +243,26 @@ module _ {V : Type 0} where
 -- ---- a step of the search, on a page
 
 module _ {V : Type 0} (p : Layers V) (r : IsInOrder p) where
-  abbrev cell : Option (List ℕ × V) → Option V
-  cell o = option_map (λ (e : List ℕ × V). e.1) o
-
   nothing_at : (i : List ℕ) → holds p i ≡ None → value_at i (entries_of p) ≡ None
   nothing_at i h = value_at-entries_of p i r ∙ h
 
-  -- where the page holds a cell at the bound, that is the cell
-  pub cell_found : (k j : List ℕ) (v : V) → floor k (entries_of p) ≡ floor j (entries_of p) → Some v ≡ holds p j → Some v ≡ cell (floor k (entries_of p))
-  cell_found k j v e h =
+  -- where the page holds a cell at the bound, that is the pair
+  pub pair_found : (k j : List ℕ) (v : V) → floor k (entries_of p) ≡ floor j (entries_of p) → Some v ≡ holds p j → Some (j, v) ≡ floor k (entries_of p)
+  pair_found k j v e h =
       let there : floor j (entries_of p) ≡ Some (j, v) = floor-there j v (entries_of p) (rising-entries_of p r) (value_at-entries_of p j r ∙ sym h) in
-      ap (λ (o : Option (List ℕ × V)). cell o) (sym (e ∙ there))
+      sym (e ∙ there)
 
   -- where it holds none there, the next key that it names below the bound is the bound
-  pub cell_skips : (k j i : List ℕ) → floor k (entries_of p) ≡ floor j (entries_of p) → None ≡ holds p j → Some i ≡ next_below j p.runs p.base → floor k (entries_of p) ≡ floor i (entries_of p)
-  cell_skips k j i e h n =
+  pub pair_skips : (k j i : List ℕ) → floor k (entries_of p) ≡ floor j (entries_of p) → None ≡ holds p j → Some i ≡ next_below j p.runs p.base → floor k (entries_of p) ≡ floor i (entries_of p)
+  pair_skips k j i e h n =
       let next = next-some j i p.runs p.base r (sym n) in
       e ∙ floor-skips i j (entries_of p) next.below (λ q a b. nothing_at q (next.between q a b)) (nothing_at j (sym h))
 
-  pub cell_nearer : (j i : List ℕ) → Some i ≡ next_below j p.runs p.base → count_named i p.runs p.base < count_named j p.runs p.base
-  cell_nearer j i n = (next-some j i p.runs p.base r (sym n)).fewer
+  pub pair_nearer : (j i : List ℕ) → Some i ≡ next_below j p.runs p.base → count_named i p.runs p.base < count_named j p.runs p.base
+  pair_nearer j i n = (next-some j i p.runs p.base r (sym n)).fewer
 
-  -- and where there is no such key, there is no cell
-  pub cell_missing : (k j : List ℕ) → floor k (entries_of p) ≡ floor j (entries_of p) → None ≡ holds p j → None ≡ next_below j p.runs p.base → None ≡ cell (floor k (entries_of p))
-  cell_missing k j e h n =
+  -- and where there is no such key, there is no pair
+  pub pair_missing : (k j : List ℕ) → floor k (entries_of p) ≡ floor j (entries_of p) → None ≡ holds p j → None ≡ next_below j p.runs p.base → None ≡ floor k (entries_of p)
+  pair_missing k j e h n =
       let none : floor j (entries_of p) ≡ None = floor-none j (entries_of p) (λ q a. nothing_at q (next-none j q p.runs p.base r (sym n) a)) (nothing_at j (sym h)) in
-      ap (λ (o : Option (List ℕ × V)). cell o) (sym (e ∙ none))
+      sym (e ∙ none)

@@ -1,3 +1,4 @@
+pub mod AboveLaws
 mod CostLemmas
 pub mod DigitLaws
 pub mod FloorLaws

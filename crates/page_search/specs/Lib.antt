@@ -1,3 +1,4 @@
+pub mod Above
 pub mod Costs
 pub mod Digits
 pub mod Floor

@@ -4,6 +4,8 @@
 pub mod laws;
 pub mod probes;
 pub mod search;
+pub mod upward;
 
 pub use crate::probes::Probes;
 pub use crate::search::{find, floor, lower};
+pub use crate::upward::above;

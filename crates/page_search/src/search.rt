@@ -49,22 +49,22 @@ pub fn find<'a, V, A: Allocator + Copy>(
     }
 }
 
-/// The cell of the page's last entry whose key isn't above this one, if there is one. From key to lower key that the
-/// page names, each found by halves in every run and in the base, it looks for one that the page holds; so it takes
-/// more than one search just where it comes upon keys that are absent. It takes no memory.
+/// The page's last entry whose key isn't above this one, if there is one: its key and its cell. From key to lower key
+/// that the page names, each found by halves in every run and in the base, it looks for one that the page holds; so it
+/// takes more than one search just where it comes upon keys that are absent. It takes no memory.
 pub fn floor<'a, V, A: Allocator + Copy>(
     chain: &'a Chain<V, A>,
     key: &'a [u8],
     probes: &mut Probes,
-) -> Option<&'a V>
-    ensures value { option_copied result ≡ option_map (λ e. e.1) (floor key.now (entries_of chain.now)) }
+) -> Option<(&'a [u8], &'a V)>
+    ensures value { option_map (λ e. (e.0.now, e.1.now)) result ≡ floor key.now (entries_of chain.now) }
     ensures kept { probes.old ≤ probes.new }
 {
     let _in_order = chain.depth();
     let mut bound = key;
     loop {
         match find(chain, bound, probes) {
-            Some(cell) => return Some(cell),
+            Some(cell) => return Some((bound, cell)),
             None => match next_below(chain, bound, probes) {
                 Some(lower) => bound = lower,
                 None => return None,
@@ -153,7 +153,7 @@ fn rank<L: Keyed>(list: &L, key: &[u8], probes: &mut Probes) -> usize
 
 // `Ok` is the place where the key is, `Err` the place where it would go. Each comparison at least halves what is
 // left, and one that meets the key ends the search, so no further test for equality is needed.
-fn place<L: Keyed>(list: &L, key: &[u8], probes: &mut Probes) -> Result<usize, usize>
+pub(crate) fn place<L: Keyed>(list: &L, key: &[u8], probes: &mut Probes) -> Result<usize, usize>
     ensures place { MatchResult result (λ at. slice_get (L.keys list.now) at ≡ Some key.now) (GoesTo key.now (L.keys list.now)) }
     ensures rising { AreRisingKeys (L.keys list.now) }
     ensures cost { probes.new ≤ probes.old + binary_digits (length (L.keys list.now)) }

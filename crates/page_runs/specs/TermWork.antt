@@ -1,0 +1,51 @@
+-- What an index page's job holds, and what is made of it.
+use Rattle.std.specs.Prelude.{ℕ, List, Option}
+use Rattle.keys.specs.declared.settings.Settings.{Settings}
+use Rattle.index_page.specs.Page.{PageOfKind, index_of}
+use Rattle.index_page.specs.Page.PageOfKind.{Leaf, Index}
+use Rattle.mapping.specs.Levels.{Placed}
+use Rattle.page_runs.specs.Outcome.{page_before, run_before, CanUndo, class_now, is_replaced_now}
+use Rattle.page_runs.specs.Worked.{Worked, worked}
+use Rattle.page_runs.specs.declared.page_after.WayBack.{WayBack}
+use Rattle.page_runs.specs.declared.term_work.TermJob.{TermJob}
+
+-- a page, its pid, and the run of its terms
+pub record TermHeld : Type 0 where
+  pub page : PageOfKind
+  pub pid : ℕ
+  pub terms : List (List ℕ × Option ℕ)
+
+-- the index page under its pid
+abbrev pub placed_index : TermHeld → Placed ℕ
+placed_index h = record { pid = h.pid; page = index_of h.page }
+
+-- what is made of an index page: what the run of its terms makes of it
+abbrev pub index_made : Settings → TermHeld → Worked ℕ
+index_made s h = worked s (placed_index h) h.terms
+
+-- what a job holds
+abbrev pub held_of : TermJob → TermHeld
+held_of j = record { page = j.page; pid = j.pid; terms = j.terms }
+
+-- an index page that was worked: what its job held, and what was made of it
+pub record IndexWorked : Type 0 where
+  pub held : TermHeld
+  pub made : Worked ℕ
+
+-- a page that was worked, from the page now and its way back
+abbrev pub index_worked : PageOfKind → WayBack ℕ → ℕ → IndexWorked
+index_worked page way_back pid =
+    let now = index_of page in
+    record {
+      held = record {
+        page = Index (record { low = now.low; layers = page_before now.layers way_back });
+        pid = pid;
+        terms = run_before now.layers way_back;
+      };
+      made = record { placed = record { pid = pid; page = now }; class = class_now way_back; replaced = is_replaced_now way_back };
+    }
+
+-- the page is an index page, and the way back is one from it
+abbrev pub IsWorkedIndex : PageOfKind → WayBack ℕ → Type 0
+IsWorkedIndex (Leaf p) way_back = ⊥
+IsWorkedIndex (Index p) way_back = CanUndo p.layers way_back

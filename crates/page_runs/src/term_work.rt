@@ -1,0 +1,144 @@
+ghost use Rattle.std.specs.Prelude.{◌≡◌};
+ghost use Rattle.index_page.specs.Page.PageOfKind.{Index};
+
+use crate::class::Class;
+use crate::page_after::{WayBack, put_run};
+use crew::{Turn, Work};
+use delta_chain::Run;
+use index_page::Page;
+use keys::{Pid, Settings};
+use std::alloc::Global;
+use std::marker::Model;
+
+/// The work on index pages in a batch: an index page and the run of its terms, which says what became of its children,
+/// go in; the page afterwards and its class come out.
+#[derive(Drop)]
+pub struct TermWork {
+    /// Where new runs and bases are allocated.
+    pub alloc: Global,
+    /// The store's settings, of which `fan` and `chain` are looked at.
+    pub settings: Settings,
+}
+
+/// An index page, and the run of its terms.
+#[derive(Drop)]
+pub struct TermJob {
+    pub page: Page<Global>,
+    /// The page's own id.
+    pub pid: Pid,
+    /// The low keys of children that come, with their page ids, and of children that go.
+    pub terms: Run<Pid, Global>,
+}
+
+/// An index page after its terms, with its class, and what gives the job back. Contracts see it as what the job held and
+/// what was made of it.
+#[derive(Drop)]
+pub struct TermDone {
+    page: Page<Global>,
+    way_back: WayBack<Pid>,
+    pid: Pid,
+}
+
+impl Model for TermDone {
+    ghost use Rattle.page_runs.specs.TermWork.{IndexWorked, index_worked, IsWorkedIndex};
+
+    ghost Value = { IndexWorked };
+
+    ghost view = { λ d. index_worked d.page d.way_back d.pid };
+
+    ghost invariant = { λ d. IsWorkedIndex d.page d.way_back };
+}
+
+impl TermDone {
+    /// The page's class.
+    pub fn class(&self) -> Class
+        ensures { result ≡ self.now.made.class }
+    {
+        self.way_back.class()
+    }
+
+    /// Whether the page was replaced: it is a base alone then, and not the page before with a run in front.
+    pub fn is_replaced(&self) -> bool
+        ensures { result ≡ self.now.made.replaced }
+    {
+        self.way_back.is_replaced()
+    }
+
+    /// The page.
+    pub fn page(&self) -> &Page<Global>
+        ensures { result.now ≡ Index self.now.made.placed.page }
+    {
+        &self.page
+    }
+
+    /// The page, for good: the job cannot be given back any more.
+    pub fn into_page(self) -> Page<Global>
+        ensures { result ≡ Index self.made.placed.page }
+    {
+        let TermDone {
+            page,
+            way_back: _way_back,
+            pid: _pid,
+        } = self;
+        page
+    }
+}
+
+impl Work for TermWork {
+    ghost use Rattle.index_page.specs.Page.{IsIndex};
+    ghost use Rattle.page_runs.specs.TermWork.{TermHeld, index_made, held_of};
+    ghost use Rattle.page_runs.specs.Worked.{Worked};
+    ghost use Rattle.std.specs.Prelude.{ℕ};
+
+    type Job = TermJob;
+
+    type Done = TermDone;
+
+    ghost Held = { TermHeld };
+
+    ghost Made = { Worked ℕ };
+
+    ghost accepts = { λ w h. IsIndex h.page };
+
+    ghost held = { held_of };
+
+    ghost can_undo = { λ w d. Unit {0} };
+
+    ghost origin = { λ d. d.held };
+
+    ghost outcome = { λ d. d.made };
+
+    ghost made = { λ w h. index_made w.settings h };
+
+    fn work(&self, job: TermJob) -> Turn<TermJob, TermDone> {
+        let TermJob { page, pid, terms } = job;
+        let (low, chain) = page.into_index();
+        match put_run(self.alloc, &self.settings, chain, terms) {
+            Ok((chain, way_back)) => Turn::Done(TermDone {
+                page: Page::index(low, chain),
+                way_back,
+                pid,
+            }),
+            Err((chain, terms)) => Turn::Back(TermJob {
+                page: Page::index(low, chain),
+                pid,
+                terms,
+            }),
+        }
+    }
+
+    fn undo(&self, done: TermDone) -> TermJob {
+        let TermDone {
+            page,
+            way_back,
+            pid,
+        } = done;
+        let (low, chain) = page.into_index();
+        let (chain, terms) = way_back.undo(chain);
+        TermJob {
+            page: Page::index(low, chain),
+            pid,
+            terms,
+        }
+    }
+}
