@@ -1,22 +1,23 @@
 -- The shares of a level's pages, each in the order of the batch, are the routes to them.
-use Rattle.std.specs.Prelude.{◌≡◌, ℕ, ◌+◌, ◌<◌, Bool, true, false, ◌&&◌, ◌||◌, cond, List, [], ◌∷◌, ◌++◌, map, length, take, slice_get, nat_eq, Option, Some, None}
-use Rattle.std.proofs.Common.{refl, sym, ap, ◌∙◌, eqb-true, get_or}
-use Rattle.std.specs.List.{filter}
+use Rattle.std.specs.Prelude.{◌≡◌, ℕ, zero, suc, ◌+◌, ◌<◌, Bool, true, false, ◌&&◌, ◌||◌, cond, List, [], ◌∷◌, ◌++◌, map, length, take, slice_get, nat_eq, Option, Some, None}
+use Rattle.std.proofs.Common.{refl, sym, ap, subst, ◌∙◌, arith, eqb-true, get_or}
+use Rattle.std.specs.List.{AllByRecursion, filter}
 use Rattle.std.proofs.lemmas.List.{map-append, take_more}
 use Rattle.std.proofs.lemmas.List.Kept.{IsStrictlySortedBy-filter}
 use Rattle.keys.specs.CommandKey.{key_of}
 use Rattle.keys.specs.declared.command.Command.{Command}
 use Rattle.index_page.specs.Range.{is_within}
 use Rattle.index_page.specs.Children.{Place}
+use Rattle.index_page.proofs.ListLaws.{all-filter}
 use Rattle.mapping.specs.FreshPids.{is_among}
 use Rattle.routing.specs.BatchKeys.{key_or_empty}
 use Rattle.routing.specs.Routes.{goes_to, places_within, Route, route_to, has_some, has_places}
-use Rattle.routing.specs.SortedPlaces.{order_of_places, AreSortedPlaces, AreSortedWithin}
-use Rattle.routing.specs.Shares.{share_of_lent, lent_shares, is_in_range, shares, IsInBatchOrder, AreInBatchOrder}
+use Rattle.routing.specs.SortedPlaces.{order_of_places, AreInKeyOrder, AreSortedPlaces, AreSortedWithin}
+use Rattle.routing.specs.Shares.{share_of_lent, lent_shares, HasEachPlaceOnce, is_in_range, share_of, shares, IsInBatchOrder, AreInBatchOrder}
 use Rattle.routing.proofs.RouteLaws.{is_passed, among-places, goes_by_key, within_all}
 use Rattle.routing.proofs.SortLaws.{among_itself}
 use Rattle.routing.proofs.ShareLaws.{Lent}
-use Rattle.routing.proofs.SliceLaws.{sorted_within_all, in_batch_order}
+use Rattle.routing.proofs.SliceLaws.{sorted_within_all, distinct, in_batch_order}
 
 -- ---- what is among a filtered list
 
@@ -54,6 +55,15 @@ order_step shares i d os new o l a e h =
     let more : lent_shares (take (i + 1) shares) ≡ lent_shares (take i shares) ++ share_of_lent (get_or shares i d) ∷ [] =
     ap (λ (ss : List Lent). lent_shares ss) (take_more shares i d l) ∙ map-append share_of_lent (take i shares) (get_or shares i d ∷ []) in
     rw (more, e) (order-push (lent_shares (take i shares)) os (share_of_lent (get_or shares i d)) o a h)
+
+pub same_order : (r o p : Route) → o ≡ p → IsInBatchOrder r p → IsInBatchOrder r o
+same_order r o p e h = subst (λ (x : Route). IsInBatchOrder r x) (sym e) h
+
+-- what holds of all shares holds of the one at a place
+pub once_at : (shares : List Lent) (i : ℕ) (d : Lent) → i < length shares → AllByRecursion HasEachPlaceOnce (lent_shares shares) → HasEachPlaceOnce (share_of_lent (get_or shares i d))
+once_at [] i d l a = absurd (omega arith)
+once_at (s ∷ ss) zero d l a = a.0
+once_at (s ∷ ss) (suc i) d l a = let m : i < length ss = omega arith in once_at ss i d m a.1
 
 module _ {A : Type 0} (cs : List (Command A)) where
   own_by : (o : Option (Command A)) (low : List ℕ) (end : Option (List ℕ)) (n : ℕ) → slice_get cs n ≡ o → (is_passed (goes_to [] None) o && is_in_range cs low end n) ≡ is_passed (goes_to low end) o
@@ -108,3 +118,13 @@ module _ {A : Type 0} (cs : List (Command A)) where
       let sorted = sorted_in_range at.low at.end ps h in
       let here = places_within at.low at.end cs in
       some_by own here at (shares cs ps ats) os (routes_to ats) sorted refl (none_left own here at.low at.end sorted refl) a (routes_of_shares ats ps h)
+
+  once_in_range : (ats : List Place) (ps : List ℕ) → AreInKeyOrder cs ps → AllByRecursion HasEachPlaceOnce (map (share_of cs ps) ats)
+  once_in_range [] ps h = tt
+  once_in_range (at ∷ ats) ps h =
+      let own = filter (is_in_range cs at.low at.end) ps in
+      (distinct cs own (IsStrictlySortedBy-filter (order_of_places cs) (is_in_range cs at.low at.end) ps h), once_in_range ats ps h)
+
+  -- of places in key order, no share has one twice
+  pub once-shares : (ats : List Place) (ps : List ℕ) → AreInKeyOrder cs ps → AllByRecursion HasEachPlaceOnce (shares cs ps ats)
+  once-shares ats ps h = all-filter HasEachPlaceOnce has_places (map (share_of cs ps) ats) (once_in_range ats ps h)

@@ -3,7 +3,7 @@ use Rattle.std.specs.Prelude.{◌≡◌, ℕ, zero, suc, ◌+◌, ◌<◌, ◌�
 use Rattle.std.proofs.Common.{refl, sym, ap, ◌∙◌, subst, get_or, arith, inl, inr, Ordering, Less, Equal, Greater, eqb-true, length-drop}
 use Rattle.std.specs.Ordering.{nat_cmp, ordering_then}
 use Rattle.std.specs.List.{AllByRecursion, IsDistinct}
-use Rattle.std.specs.List.Sorted.{IsPermutation, IsSorted, IsStrictlySortedBy, IsNonDecreasing, IsPartitionedBy, IsPartitionPoint}
+use Rattle.std.specs.List.Sorted.{IsPermutation, IsSorted, IsStrictlySortedBy, IsStrictlyIncreasing, IsNonDecreasing, IsPartitionedBy, IsPartitionPoint}
 use Rattle.std.proofs.lemmas.Cmp.{nat_cmp_total, tied_itself, nat_eq_equiv}
 use Rattle.std.proofs.lemmas.Bool.{cases_lt}
 use Rattle.std.proofs.lemmas.List.{take-append-drop, get_or-take, get_or-drop, length-take}
@@ -23,6 +23,10 @@ use Rattle.routing.specs.Routes.{goes_to, places_within}
 use Rattle.routing.specs.SortedPlaces.{order_of_places, AreInKeyOrder, AreSortedPlaces, AreSortedWithin}
 use Rattle.routing.proofs.RouteLaws.{is_passed, among-places, goes_by_key, all_places, within_parts, rising-places_from}
 use Rattle.routing.proofs.SortLaws.{total_places, holds_among, among-permutation, same_sorted, same_number}
+
+-- numbers of which none stands twice rise strictly, once they are put in order
+pub rising_once_sorted : (ps qs : List ℕ) → IsDistinct nat_eq ps → IsPermutation ps qs → IsNonDecreasing qs → IsStrictlyIncreasing qs
+rising_once_sorted ps qs d p s = IsStrictlyIncreasing-from_distinct qs s (IsDistinct-IsPermutation nat_eq nat_eq_equiv.symm ps qs p d)
 
 -- numbers that a sort has put in order don't fall
 pub rises_when_sorted : (ns : List ℕ) → IsSorted nat_cmp ns → IsNonDecreasing ns
@@ -138,7 +142,8 @@ module _ {A : Type 0} (cs : List (Command A)) where
   apart p [] a = tt
   apart p (q ∷ qs) a = (apart_by (nat_eq p q) p q refl a.0, apart p qs a.1)
 
-  distinct : (ps : List ℕ) → AreInKeyOrder cs ps → IsDistinct nat_eq ps
+  -- places in key order are each there once
+  pub distinct : (ps : List ℕ) → AreInKeyOrder cs ps → IsDistinct nat_eq ps
   unfolding IsStrictlySortedBy IsDistinct
   distinct [] h = tt
   distinct (p ∷ ps) h = (apart p ps h.0, distinct ps h.1)
@@ -146,7 +151,7 @@ module _ {A : Type 0} (cs : List (Command A)) where
   -- the sorted places of a range, in the order of the batch, are its places
   pub in_batch_order : (low : List ℕ) (end : Option (List ℕ)) (ps qs : List ℕ) → AreSortedWithin low end cs ps → IsPermutation ps qs → IsNonDecreasing qs → qs ≡ places_within low end cs
   in_batch_order low end ps qs h p s =
-      let rising = sorted_from_strictly_increasing qs (IsStrictlyIncreasing-from_distinct qs s (IsDistinct-IsPermutation nat_eq nat_eq_equiv.symm ps qs p (distinct ps h.in_order))) in
+      let rising = sorted_from_strictly_increasing qs (rising_once_sorted ps qs (distinct ps h.in_order) p s) in
       same_sorted nat_cmp nat_cmp_total same_number qs (places_within low end cs) (λ i. sym (among-permutation i ps qs p) ∙ h.own i) rising (rising-places_from 0 (goes_to low end) cs)
 
   -- ---- a search by halves

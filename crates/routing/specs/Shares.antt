@@ -1,7 +1,7 @@
 -- What goes down the tree: each page's share of a batch, by places in the order of their keys.
-use Rattle.std.specs.Prelude.{◌≡◌, ℕ, Bool, ⊤, List, [], ◌∷◌, map, Option, Some, None}
+use Rattle.std.specs.Prelude.{◌≡◌, ℕ, Bool, ⊤, List, [], ◌∷◌, map, nat_eq, Option, Some, None}
 use Rattle.std.specs.Borrow.{Bor}
-use Rattle.std.specs.List.{AllByRecursion, filter}
+use Rattle.std.specs.List.{AllByRecursion, IsDistinct, filter}
 use Rattle.std.specs.List.Sorted.{IsPermutation, IsNonDecreasing}
 use Rattle.keys.specs.Order.{IsRising}
 use Rattle.keys.specs.declared.command.Command.{Command}
@@ -21,6 +21,10 @@ share_of_lent share = record { pid = share.0; places = share.1.now }
 
 abbrev pub lent_shares : List (ℕ × Bor (List ℕ)) → List Route
 lent_shares shares = map share_of_lent shares
+
+-- no place stands twice in the share
+abbrev pub HasEachPlaceOnce : Route → Type 0
+HasEachPlaceOnce r = IsDistinct nat_eq r.places
 
 -- whether the key of the command at this place lies in the range
 abbrev pub is_in_range : {A : Type 0} → List (Command A) → List ℕ → Option (List ℕ) → ℕ → Bool

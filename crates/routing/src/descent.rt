@@ -7,46 +7,15 @@ ghost use Rattle.mapping.specs.Proper.{AreLevels, HoldsLevels};
 ghost use Rattle.mapping.specs.TreeInMemory.{AreAllHome, tree_of};
 ghost use Rattle.routing.specs.Routes.{routes};
 ghost use Rattle.routing.specs.SortedPlaces.{AreSortedPlaces};
-ghost use Rattle.routing.specs.Shares.{lent_shares, root_shares, handed_down, CanHandDown, IsReady, share_below, AreInBatchOrder};
+ghost use Rattle.routing.specs.Shares.{lent_shares, root_shares, handed_down, CanHandDown, IsReady, share_below, HasEachPlaceOnce, AreInBatchOrder};
 
+use crate::page_run::PageRun;
 use crate::sort::{count_below, in_batch_order, key_at, sorted_places};
 use index_page::Page;
 use keys::{Command, Fault, Pid};
 use mapping::Tree;
 use std::alloc::{AllocError, Global};
-use std::marker::Model;
 use std::thread::Threads;
-
-/// A page id with the places, in rising order, of the commands that go to that page. Contracts see it as a `Route`.
-#[derive(Drop)]
-pub struct Routed {
-    pid: Pid,
-    places: Vec<usize>,
-}
-
-impl Model for Routed {
-    ghost use Rattle.routing.specs.Routes.{Route};
-
-    ghost Value = { Route };
-
-    ghost view = { λ r. record { pid = r.pid; places = r.places.items } };
-}
-
-impl Routed {
-    /// The page's id.
-    pub fn pid(&self) -> Pid
-        ensures { result ≡ self.now.pid }
-    {
-        self.pid
-    }
-
-    /// The places, in rising order.
-    pub fn places(&self) -> &[usize]
-        ensures { result.now ≡ self.now.places }
-    {
-        &self.places
-    }
-}
 
 // A page id, as a number, with the page's part of the sorted places.
 type Share<'a> = (u64, &'a [usize]);
@@ -59,7 +28,7 @@ pub fn route(
     alloc: Global,
     tree: &Tree<Global>,
     commands: &[Command<Global>],
-) -> Result<Vec<Routed>, Fault>
+) -> Result<Vec<PageRun>, Fault>
     requires home { AreAllHome tree.now }
     requires held { HoldsLevels (tree_of tree.now).pages (levels_of (tree_of tree.now)) }
     requires levels { AreLevels (levels_of (tree_of tree.now)) }
@@ -77,7 +46,7 @@ fn route_sorted(
     tree: &Tree<Global>,
     commands: &[Command<Global>],
     places: &[usize],
-) -> Result<Vec<Routed>, AllocError>
+) -> Result<Vec<PageRun>, AllocError>
     requires home { AreAllHome tree.now }
     requires held { HoldsLevels (tree_of tree.now).pages (levels_of (tree_of tree.now)) }
     requires levels { AreLevels (levels_of (tree_of tree.now)) }
@@ -161,16 +130,14 @@ fn first_child(page: &Page<Global>, commands: &[Command<Global>], places: &[usiz
 }
 
 // Each share with its places in the order of the batch.
-fn each_in_batch_order(alloc: Global, shares: &[Share<'_>]) -> Result<Vec<Routed>, AllocError>
+fn each_in_batch_order(alloc: Global, shares: &[Share<'_>]) -> Result<Vec<PageRun>, AllocError>
+    requires { AllByRecursion HasEachPlaceOnce (lent_shares shares.now) }
     ensures { IfOk result (λ runs. AreInBatchOrder (lent_shares shares.now) runs.items) }
 {
     let mut runs = Vec::with_capacity(alloc, shares.len())?;
     for share in shares {
         let places = in_batch_order(alloc, share.1)?;
-        runs.push(Routed {
-            pid: Pid(share.0),
-            places,
-        })?;
+        runs.push(PageRun::new(Pid(share.0), places))?;
     }
     Ok(runs)
 }

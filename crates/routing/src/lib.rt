@@ -6,5 +6,5 @@ pub mod laws;
 pub mod page_run;
 pub mod sort;
 
-pub use crate::descent::{Routed, route};
+pub use crate::descent::route;
 pub use crate::page_run::PageRun;

@@ -1,9 +1,16 @@
 use Rattle.std.proofs.Common.{◌<◌, length, refl, arith}
-use Rattle.routing.proofs.BatchOrder.{order_step}
+use Rattle.routing.proofs.BatchOrder.{once_at, order_step, same_order}
+use Rattle.routing.proofs.SliceLaws.{rising_once_sorted}
 use Rattle.routing.proofs.descent.each_in_batch_order.Goals as goal
 
 pub loop-share-preserved : goal.loop-share-preserved
 loop-share-preserved c =
     let places = c.in_ok-places.ensures in
     let within : c.loop-share.share-index < length c.args.shares.now = omega arith in
-    order_step c.args.shares.now c.loop-share.share-index _ c.loop-share.runs.items c.push.new.self.items _ within c.loop-share.invariant c.in_ok-push.ensures.items (record { pid = refl; same = places.same; rising = places.rising })
+    order_step c.args.shares.now c.loop-share.share-index _ c.loop-share.runs.items c.push.new.self.items _ within c.loop-share.invariant c.in_ok-push.ensures.items (same_order _ _ _ c.new.ensures (record { pid = refl; same = places.same; rising = places.rising }))
+
+pub new-requires : goal.new-requires
+new-requires c =
+    let places = c.in_ok-places.ensures in
+    let within : c.loop-share.share-index < length c.args.shares.now = omega arith in
+    rising_once_sorted _ _ (once_at c.args.shares.now c.loop-share.share-index _ within c.requires) places.same places.rising

@@ -1,4 +1,4 @@
-use Rattle.std.proofs.Common.{◌≡◌, ℕ, List, length, ap, sym, ◌∙◌, ◌++◌, append-nil, eqb-true, take, drop}
+use Rattle.std.proofs.Common.{◌≡◌, List, length, ap, sym, ◌∙◌, ◌++◌, append-nil, eqb-true, take, drop}
 use Rattle.routing.specs.Routes.{Route}
 use Rattle.routing.specs.Shares.{lent_shares, handed_down}
 use Rattle.routing.proofs.ShareLaws.{same_route, push_share, still_handed, nothing_left}

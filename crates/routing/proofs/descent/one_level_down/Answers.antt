@@ -1,6 +1,5 @@
 use Rattle.std.proofs.Common.{◌<◌, length, arith}
 use Rattle.mapping.specs.TreeInMemory.{tree_of}
-use Rattle.routing.specs.Shares.{share_of_lent}
 use Rattle.routing.proofs.DescentLaws.{ready_at, ready_now, not_missing, share_step}
 use Rattle.routing.proofs.descent.one_level_down.Goals as goal
 

@@ -1,8 +1,10 @@
-use Rattle.std.proofs.Common.{◌≡◌, ◌-◌, ◌<◌, ℕ, List, arith, ap, sym, ◌∙◌}
+use Rattle.std.proofs.Common.{◌≡◌, ◌-◌, ◌<◌, ℕ, List, arith, ap, sym, subst, ◌∙◌}
+use Rattle.std.specs.List.{AllByRecursion}
 use Rattle.rayon.proofs.ListFacts.{IfOk-then}
-use Rattle.std.specs.Borrow.{Bor}
 use Rattle.mapping.specs.TreeInMemory.{tree_of}
-use Rattle.routing.specs.Shares.{lent_shares, root_shares}
+use Rattle.routing.specs.Routes.{Route}
+use Rattle.routing.specs.Shares.{HasEachPlaceOnce, lent_shares, root_shares}
+use Rattle.routing.proofs.BatchOrder.{once-shares}
 use Rattle.routing.proofs.ShareLaws.{Lent, shares-root}
 use Rattle.routing.proofs.DescentLaws.{shares-next, shares-ready, shares-last, below_pred, same_pred}
 use Rattle.routing.proofs.descent.route_sorted.Goals as goal
@@ -28,6 +30,11 @@ loop-level-preserved c =
     let now = ap (λ (ss : List Lent). lent_shares ss) c.deref.ensures.value ∙ c.loop-level.invariant in
     c.in_ok-shares-2.ensures
     ∙ shares-next t c.requires.held c.requires.levels c.args.commands.now c.args.places.now c.loop-level._level (lent_shares c.deref.result.now) (below_pred c.loop-level._level c.args.tree.now.height within) now
+
+pub each_in_batch_order-requires : goal.each_in_batch_order-requires
+each_in_batch_order-requires c =
+    let now = ap (λ (ss : List Lent). lent_shares ss) c.deref-2.ensures.value ∙ c.loop-level.invariant in
+    subst (λ (rs : List Route). AllByRecursion HasEachPlaceOnce rs) (sym now) (once-shares c.args.commands.now _ c.args.places.now c.requires.sorted.in_order)
 
 pub returns : goal.returns
 returns c =
