@@ -1,11 +1,10 @@
 -- What slots stand for, once the log has all pages that are at home.
-use Rattle.std.specs.Prelude.{◌≡◌, ℕ, zero, suc, ◌+◌, ◌<◌, ◌≤◌, List, [], ◌∷◌, ◌++◌, map, take, drop, set, get_or, length, Option, Some, None}
+use Rattle.std.specs.Prelude.{◌≡◌, ℕ, zero, suc, ◌+◌, ◌<◌, ◌≤◌, List, [], ◌∷◌, ◌++◌, map, take, drop, set, get_or, length, Option}
 use Rattle.std.proofs.Common.{refl, sym, ap, ◌∙◌, arith, subst}
 use Rattle.std.proofs.lemmas.List.{take_at}
 use Rattle.index_page.specs.Page.{PageOfKind}
-use Rattle.mapping.specs.Tree.Logged.{Upto}
 use Rattle.mapping.specs.LogState.{log_state}
-use Rattle.mapping.specs.Flushed.{depth_counted, logged_whole, flushed, logged_then}
+use Rattle.mapping.specs.Flushed.{logged_whole, flushed, logged_then}
 use Rattle.mapping.specs.Proper.{AreRisingPids}
 use Rattle.mapping.specs.Table.{Mapping}
 use Rattle.mapping.specs.Slots.{slot_pids, placed, listed, entry_if, table_of, AreInUseBelow, AreSlots}

@@ -1,5 +1,5 @@
 -- The pids that a table knows: those in use, and those of which the log has `Old`.
-use Rattle.std.specs.Prelude.{◌≡◌, ℕ, ◌<◌, Bool, true, false, cond, ◌||◌, nat_eq, nat_lt, List, [], ◌∷◌, ◌++◌, map, Option, Some, None, is_some}
+use Rattle.std.specs.Prelude.{◌≡◌, ℕ, ◌<◌, Bool, true, false, cond, ◌||◌, nat_eq, nat_lt, List, [], ◌∷◌, ◌++◌, Option, Some, None, is_some}
 use Rattle.std.proofs.Common.{refl, sym, ap, ◌∙◌, arith, ltb-true, ltb-false}
 use Rattle.std.specs.List.{AllByRecursion, filter}
 use Rattle.std.specs.Ordering.{nat_cmp, is_eq}
@@ -14,7 +14,7 @@ use Rattle.mapping.specs.Table.{Mapping, is_pid, pids_in_use, place_of, log_of, 
 use Rattle.mapping.specs.Slots.{slot_pids, placed, listed, entry_if, table_of, is_known, known_pids}
 use Rattle.mapping.specs.declared.slots.Slot.{Slot}
 use Rattle.mapping.proofs.PidLaws.{among-with_number, all-with_number, rising-with_number}
-use Rattle.mapping.proofs.TableLaws.{same_pid, equal_by, differ}
+use Rattle.mapping.proofs.TableLaws.{same_pid, equal_by}
 use Rattle.mapping.proofs.Around.{lookup_none}
 use Rattle.mapping.proofs.InUse.{among_place, is_eq_same}
 use Rattle.mapping.proofs.Listing.{keys-listing}

@@ -1,4 +1,5 @@
 mod Around
+mod DrawnPlaces
 mod FindingRow
 mod FirstTree
 pub mod FlushedSlots

@@ -1,4 +1,4 @@
-use Rattle.std.proofs.Common.{◌≡◌, ◌<◌, ◌≤◌, length, ap, ◌∙◌, arith}
+use Rattle.std.proofs.Common.{◌<◌, ◌≤◌, length, ap, ◌∙◌, arith}
 use Rattle.mapping.specs.Flushed.{flushed}
 use Rattle.mapping.proofs.FlushedSlots.{so_far-more, all-flushed}
 use Rattle.mapping.proofs.table.Table+Page+A+A.flushed.Goals as goal
