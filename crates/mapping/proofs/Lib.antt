@@ -1,10 +1,13 @@
 mod Around
+pub mod DrawnPlaces
 mod FindingRow
 mod FirstTree
+mod FlushedSlots
 mod FreshLaws
 pub mod HomePages
 mod InUse
 pub mod Joined
+mod KnownPids
 mod Level
 pub mod LevelLaws
 mod Listing

@@ -1,11 +1,17 @@
 ghost use Rattle.std.specs.Prelude.{◌≡◌, ◌↔◌, Some, None, IsTrue, IsSome, is_some, IfOk, OnOk, OnErr};
 ghost use Rattle.std.specs.Option.{option_copied};
+ghost use Rattle.std.specs.Map.{keys_of};
 ghost use Rattle.mapping.specs.LogState.{log_state};
-ghost use Rattle.mapping.specs.Table.{no_places, place_of, page_of, log_of, with_place, outdated, freed, with_room, with_rooms, pids_in_use, fresh_pids};
+ghost use Rattle.mapping.specs.Proper.{AreRisingPids};
+ghost use Rattle.mapping.specs.Table.{no_places, place_of, page_of, log_of, with_place, outdated, freed, with_room, with_rooms, pids_in_use, fresh_pids, pids_in_use_or_old};
+ghost use Rattle.mapping.specs.Flushed.{flushed};
 
+use crate::flush::logged_then;
 use crate::logged::Logged;
+use crate::pids::Pids;
 use crate::room::{least_free, occupy, occupy_all};
 use crate::slots::{Place, Slot, is_used, slot_in_use, slot_of};
+use index_page::Page;
 use std::alloc::{AllocError, Allocator};
 use std::marker::Model;
 use std::mem;
@@ -84,6 +90,15 @@ impl<P: Drop, A: Allocator + Copy> Table<P, A> {
         }
     }
 
+    /// The pids that are in use, and those of which the log has `Old`, by rising number. It takes no memory.
+    pub fn pids(&self) -> Pids<'_, P>
+        ensures pids { result ≡ pids_in_use_or_old self.now }
+        ensures rising { AreRisingPids (pids_in_use self.now) }
+        ensures logged { AreRisingPids (keys_of self.now.logged) }
+    {
+        Pids { slots: &self.slots }
+    }
+
     /// Takes the page out of its place, which is away afterwards. This takes no memory, as `put` and `free` do not.
     pub fn take(&mut self, pid: u64) -> P
         requires { IsSome (page_of self.old pid) }
@@ -144,6 +159,7 @@ impl<P: Drop, A: Allocator + Copy> Table<P, A> {
         ensures pids { IfOk result (λ pids. pids.items ≡ fresh_pids (pids_in_use self.old) count) }
         ensures ok { OnOk result (self.new ≡ with_rooms self.old (fresh_pids (pids_in_use self.old) count)) }
         ensures err { OnErr result (self.new ≡ self.old) }
+        ensures rising { AreRisingPids (pids_in_use self.old) }
     {
         let alloc = *self.slots.allocator();
         let pids = least_free(alloc, &self.slots, self.filled, count)?;
@@ -152,5 +168,17 @@ impl<P: Drop, A: Allocator + Copy> Table<P, A> {
             self.filled = pids[count - 1].saturating_add(1);
         }
         Ok(pids)
+    }
+}
+
+impl<A: Allocator + Copy> Table<Page<A>, A> {
+    /// Says that the log has each page at home as it is, with all its runs, and nothing of any other pid. The places stay,
+    /// and it takes no memory.
+    pub fn flushed(&mut self)
+        ensures { self.new ≡ flushed self.old }
+    {
+        for slot in self.slots.iter_mut() {
+            slot.logged = logged_then(&slot.page);
+        }
     }
 }
