@@ -1,4 +1,9 @@
+pub mod Changing
 pub mod Climb
+pub mod HasClimbed
+pub mod Installing
+pub mod Level
 pub mod Limits
 pub mod Plan
+pub mod Rewriting
 pub mod Standing

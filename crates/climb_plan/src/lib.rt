@@ -1,9 +1,14 @@
-//! What a batch does to a whole tree of pages: level by level upward, each parent after its children, the root last
-//! (PALM's order of work). This crate will hold the climb, and the trail by which a refused batch is undone.
+//! What a batch makes of the levels of a tree, from the leaves up to the root.
 //!
-//! So far it holds the plan of a batch, as definitions (`specs/`), and its laws: of a proper store the plan's contents are
-//! the map after the commands, the plan is proper, and what the log has of its pages stays true; which pages a batch
-//! doesn't touch, and which numbers its new pages get.
+//! `specs/` has the plan of a batch, and its laws stand in `laws`. Of the climb there is one level: which groups of it are
+//! rewritten, what is made of them, and what their parents are told; and what is done to the mapping table in the end.
 #![tactic(auto)]
 
+mod change;
+mod family;
+mod install;
 pub mod laws;
+mod level;
+pub mod refused;
+mod root;
+mod seen;

@@ -3,9 +3,13 @@ pub mod CutLaws
 mod Exchange
 pub mod ExchangeLaws
 pub mod GroupLaws
+pub mod GroupSizes
+mod LentPieces
 pub mod OutdatedLaws
 pub mod PidLaws
+pub mod PieceLaws
 pub mod Renewed
 pub mod RunLaws
 pub mod TermLaws
+mod TermMerge
 pub mod WorkedLaws

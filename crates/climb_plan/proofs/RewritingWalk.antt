@@ -1,0 +1,50 @@
+-- Lemmas on the walk over the families of a level, as code has it, for the proofs of this crate.
+use Rattle.std.specs.Prelude.{◌≡◌, ℕ, zero, suc, ◌+◌, ◌<◌, List, [], ◌∷◌, ◌++◌, drop}
+use Rattle.std.proofs.Common.{sym, ap, ◌∙◌, subst, arith}
+use Rattle.mapping.specs.Levels.{Placed}
+use Rattle.mapping.specs.TreeInMemory.{TreeInMemory}
+use Rattle.climb_plan.specs.Changing.{SeenPage}
+use Rattle.climb_plan.specs.Rewriting.{all_seen, AreSeenIn, rewritten_groups, with_rewriting, counted, IsLevelSeen, HasFirstCall, pids_for, IsFamilyOf}
+use Rattle.climb_plan.specs.declared.seen.Seen.{Seen}
+use Rattle.climb_plan.proofs.RewritingGroups.{drop_further}
+use Rattle.climb_plan.proofs.RewritingLevel as walk
+use Rattle.climb_plan.proofs.RewritingLevel.{IsLeft}
+
+module _ (t : TreeInMemory) (depth : ℕ) (all_xs all : List SeenPage) (ps : List (Placed ℕ)) (ups : List (List (Placed ℕ))) (h : IsLevelSeen t depth all_xs all ps ups) where
+  module _ (seen left again : List Seen) (done : ℕ) (parents : List (ℕ × ℕ)) (made : List (List SeenPage)) (low : List ℕ) (e : left ≡ drop done seen) (a : again ≡ drop done seen)
+      (s : IsLeft t.table (all_seen (drop done seen)) all ps parents made) (f : HasFirstCall (all_seen left) low) (pid : ℕ) (r : pids_for ps low ≡ pid ∷ []) where
+    abbrev Left : Type 0
+    Left = IsLeft t.table (all_seen again) all ps parents made
+
+    here : Left
+    here = subst (λ (xs : List Seen). IsLeft t.table (all_seen xs) all ps parents made) (sym a) s
+
+    first : HasFirstCall (all_seen again) low
+    first = subst (λ (xs : List Seen). HasFirstCall (all_seen xs) low) (e ∙ sym a) f
+
+    -- the family that is added
+    pub next_family : (p : Placed ℕ) × (before : List SeenPage) × (from : List SeenPage) × (children : List SeenPage) × (later : List SeenPage) × (pid ≡ p.pid) × IsFamilyOf t.table (all_seen again) p before from children later
+    next_family =
+        let c = walk.found t depth all_xs all ps ups h (all_seen again) parents made low here first in
+        (c.parent, c.before, c.own ++ c.after, c.children, c.later, walk.is_parent t depth all_xs all ps ups h (all_seen again) parents made low here first pid r, walk.family t depth all_xs all ps ups h (all_seen again) parents made low here first)
+
+    -- what is known of it, once it is added
+    abbrev pub OfFamily : (Placed ℕ → List SeenPage → List SeenPage → Type 0) → Type 0
+    OfFamily P = (p : Placed ℕ) (before from children later : List SeenPage) → pid ≡ p.pid → IsFamilyOf t.table (all_seen again) p before from children later → P p children later
+
+    -- it ends behind some page
+    pub some_behind : (behind : ℕ) → OfFamily (λ p children later. AreSeenIn t.table (all_seen (drop behind again)) later) → 0 < behind
+    unfolding next_family
+    some_behind zero k =
+        let n = next_family in
+        absurd (walk.has_gone t depth all_xs all ps ups h (all_seen again) parents made low here first (k n.0 n.1 n.2 n.3 n.4 n.5 n.6))
+    some_behind (suc n) k = omega arith
+
+    pub left_behind : (behind : ℕ) (more : List (ℕ × ℕ)) (most : List (List SeenPage)) → OfFamily (λ p children later. AreSeenIn t.table (all_seen (drop behind again)) later)
+        → OfFamily (λ p children later. more ≡ parents ++ counted (with_rewriting p.pid (rewritten_groups children) [])) → OfFamily (λ p children later. most ≡ made ++ rewritten_groups children) → IsLeft t.table (all_seen (drop (done + behind) seen)) all ps more most
+    unfolding next_family
+    left_behind behind more most k m g =
+        let n = next_family in
+        let there : drop behind again ≡ drop (done + behind) seen = ap (λ (xs : List Seen). drop behind xs) a ∙ drop_further seen done behind in
+        subst (λ (xs : List Seen). IsLeft t.table (all_seen xs) all ps more most) there
+        (walk.at_next t depth all_xs all ps ups h (all_seen again) parents made low here first (all_seen (drop behind again)) more most (k n.0 n.1 n.2 n.3 n.4 n.5 n.6) (m n.0 n.1 n.2 n.3 n.4 n.5 n.6) (g n.0 n.1 n.2 n.3 n.4 n.5 n.6))

@@ -1,0 +1,12 @@
+use Rattle.std.proofs.Common.{◌≡◌, drop}
+use Rattle.std.specs.Vec.Iter.{into_iter_items}
+use Rattle.climb_plan.specs.Installing.{AreAway}
+use Rattle.climb_plan.proofs.Installing.{tree_under}
+use Rattle.climb_plan.proofs.install.put_pieces.Given as goal
+
+-- the places that are left are away, and what is left, put into the tree now, is all put into the tree before
+abbrev pub invariant-loop-pid : goal.invariant-loop-pid
+invariant-loop-pid l = record {
+  away : AreAway l.tree.table (drop l.pid-index l.pids);
+  put : tree_under l.tree (drop l.pid-index l.pids) (into_iter_items l.rest) ≡ tree_under l.fn.tree l.fn.pids (into_iter_items l.fn.pages);
+}

@@ -1,0 +1,194 @@
+//! What a climb does to the mapping table: parents are taken, worked and put back; in the end, by moves alone, pages come
+//! home and groups are replaced.
+ghost use Rattle.std.specs.Prelude.{◌≡◌, map, Some, None, IsSome, IfOk, OnErr, OnOk};
+ghost use Rattle.std.specs.List.{AllByRecursion};
+ghost use Rattle.std.specs.Vec.Iter.{into_iter_items};
+ghost use Rattle.mapping.specs.Proper.{Distinct, AreRisingPids};
+ghost use Rattle.page_runs.specs.TermWork.{index_made, held_of};
+ghost use Rattle.mapping.specs.Table.{page_of, place_of, with_place, outdated, pids_in_use};
+ghost use Rattle.climb_plan.specs.Installing.{all_taken, all_put, AreAway, AreParentsHome, parent_held, come_home, all_come_home, members_freed, put_under, group_installed, all_installed, CanInstall, CanInstallAll};
+
+use crate::change::Rewritten;
+use crate::seen::Revised;
+use crew::{Work, work_all};
+use delta_chain::Run;
+use index_page::Page;
+use keys::{Pid, Settings};
+use mapping::Tree;
+use page_runs::{TermDone, TermJob, TermWork};
+use std::alloc::{AllocError, Global};
+use std::vec::IntoIter;
+
+/// Takes the parents out of the tree, and works each with the run of its terms. Where memory is refused, the tree is as it was.
+pub(crate) fn work_parents(
+    alloc: Global,
+    settings: &Settings,
+    tree: &mut Tree<Global>,
+    told: Vec<(u64, Run<Pid, Global>)>,
+) -> Result<Vec<TermDone>, AllocError>
+    requires { AreParentsHome tree.old.table (map (λ t. t.0) told.items) }
+    ensures made { IfOk result (λ dones. map (λ d. d.made) dones.items ≡ map (λ t. index_made settings.now (parent_held tree.old.table t)) told.items) }
+    ensures held { IfOk result (λ dones. map (λ d. d.held) dones.items ≡ map (parent_held tree.old.table) told.items) }
+    ensures taken { OnOk result (tree.new ≡ record tree.old { table = all_taken tree.old.table (map (λ t. t.0) told.items) }) }
+    ensures err { AreRisingPids (pids_in_use tree.old.table) → OnErr result (tree.new ≡ tree.old) }
+{
+    let work = TermWork {
+        alloc,
+        settings: *settings,
+    };
+    let jobs = take_all(alloc, tree, told)?;
+    match work_all(&work, jobs) {
+        Ok(dones) => Ok(dones),
+        Err(jobs) => {
+            put_back(tree, jobs);
+            Err(AllocError)
+        }
+    }
+}
+
+// Takes the parents out of the tree, as jobs.
+fn take_all(
+    alloc: Global,
+    tree: &mut Tree<Global>,
+    told: Vec<(u64, Run<Pid, Global>)>,
+) -> Result<Vec<TermJob>, AllocError>
+    requires { AreParentsHome tree.old.table (map (λ t. t.0) told.items) }
+    ensures held { IfOk result (λ jobs. map held_of jobs.items ≡ map (parent_held tree.old.table) told.items) }
+    ensures taken { OnOk result (tree.new ≡ record tree.old { table = all_taken tree.old.table (map (λ t. t.0) told.items) }) }
+    ensures err { OnErr result (tree.new ≡ tree.old) }
+{
+    let mut jobs = Vec::with_capacity(alloc, told.len())?;
+    for (pid, terms) in told {
+        jobs.push_reserved(TermJob {
+            page: tree.take(Pid(pid)),
+            pid: Pid(pid),
+            terms,
+        });
+    }
+    Ok(jobs)
+}
+
+// Puts the pages of the jobs back into their places.
+fn put_back(tree: &mut Tree<Global>, jobs: Vec<TermJob>)
+    requires { AreAway tree.old.table (map (λ j. j.pid) jobs.items) }
+    ensures { tree.new ≡ record tree.old { table = all_put tree.old.table (map (λ j. (j.pid, j.page)) jobs.items) } }
+{
+    for job in jobs {
+        let TermJob {
+            page,
+            pid,
+            terms: _terms,
+        } = job;
+        tree.put(pid, page);
+    }
+}
+
+/// Undoes what was made of the parents, and puts them back into their places as they were. It takes no memory.
+pub(crate) fn undo_parents(
+    alloc: Global,
+    settings: &Settings,
+    tree: &mut Tree<Global>,
+    parents: Vec<TermDone>,
+)
+    requires { AreAway tree.old.table (map (λ d. d.held.pid) parents.items) }
+    ensures { tree.new ≡ record tree.old { table = all_put tree.old.table (map (λ d. (d.held.pid, d.held.page)) parents.items) } }
+{
+    let work = TermWork {
+        alloc,
+        settings: *settings,
+    };
+    for parent in parents {
+        let TermJob {
+            page,
+            pid,
+            terms: _terms,
+        } = work.undo(parent);
+        tree.put(pid, page);
+    }
+}
+
+/// Puts the pages home after their runs. It takes no memory.
+pub(crate) fn put_home<D: Revised>(tree: &mut Tree<Global>, dones: Vec<D>)
+    requires { AreAway tree.old.table (map (λ d. (D.seen d).pid) dones.items) }
+    ensures { tree.new ≡ record tree.old { table = all_come_home tree.old.table (map D.seen dones.items) } }
+{
+    for done in dones {
+        come_home(tree, done);
+    }
+}
+
+// Puts the page home after its run. Where it was replaced, the log doesn't know it.
+fn come_home<D: Revised>(tree: &mut Tree<Global>, done: D)
+    requires { place_of tree.old.table (D.seen done).pid ≡ Some None }
+    ensures { tree.new ≡ record tree.old { table = come_home tree.old.table (D.seen done) } }
+{
+    let seen = done.seen();
+    let pid = seen.pid;
+    if seen.replaced {
+        tree.outdate(pid);
+    }
+    tree.put(pid, done.into_page());
+}
+
+/// Puts the pieces of the groups into their places, and gives up those of the members that are freed. All members are at
+/// home. It takes no memory.
+pub(crate) fn install_all(tree: &mut Tree<Global>, all: Vec<Rewritten>)
+    requires { CanInstallAll tree.old.table all.items }
+    ensures { tree.new ≡ record tree.old { table = all_installed tree.old.table all.items } }
+{
+    for group in all {
+        install(tree, group);
+    }
+}
+
+// Replaces the members of the group by its pieces. It takes no memory.
+fn install(tree: &mut Tree<Global>, group: Rewritten)
+    requires { CanInstall tree.old.table group }
+    ensures { tree.new ≡ record tree.old { table = group_installed tree.old.table group } }
+{
+    let (members, pieces, fresh) = group.into_parts();
+    let mut rest = pieces.into_iter();
+    let (Some(first), Some(piece)) = (members.first(), rest.next()) else {
+        unreachable!()
+    };
+    replace(tree, *first, piece);
+    free_members(tree, &members[1..]);
+    put_pieces(tree, &fresh, rest);
+}
+
+// Puts the page into the place of another, which the log doesn't know then.
+fn replace(tree: &mut Tree<Global>, pid: u64, page: Page<Global>)
+    requires { IsSome (page_of tree.old.table pid) }
+    ensures { tree.new ≡ record tree.old { table = with_place (outdated tree.old.table pid) pid (Some page) } }
+{
+    let place = Pid(pid);
+    let _before = tree.take(place);
+    tree.outdate(place);
+    tree.put(place, page);
+}
+
+// Gives up the pages and their places.
+fn free_members(tree: &mut Tree<Global>, pids: &[u64])
+    requires { AllByRecursion (λ pid. IsSome (page_of tree.old.table pid)) pids.now × Distinct pids.now }
+    ensures { tree.new ≡ record tree.old { table = members_freed tree.old.table pids.now } }
+{
+    for pid in pids {
+        let pid = Pid(*pid);
+        let _gone = tree.take(pid);
+        tree.free(pid);
+    }
+}
+
+/// Puts each page into its place, from which it is away.
+pub(crate) fn put_pieces(tree: &mut Tree<Global>, pids: &[u64], pages: IntoIter<Page<Global>>)
+    requires { AreAway tree.old.table pids.now }
+    ensures { tree.new ≡ record tree.old { table = put_under tree.old.table pids.now (into_iter_items pages) } }
+{
+    let mut rest = pages;
+    for pid in pids {
+        let Some(page) = rest.next() else {
+            return;
+        };
+        tree.put(Pid(*pid), page);
+    }
+}

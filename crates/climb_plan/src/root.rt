@@ -1,0 +1,129 @@
+//! The root: levels grow above it where it was cut.
+ghost use Rattle.std.specs.Prelude.{◌≡◌, ◌+◌, ◌<◌, ◌≤◌, ℕ, List, Err, length, IfOk, OnErr};
+ghost use Rattle.keys.specs.Order.{IsRising};
+ghost use Rattle.mapping.specs.Levels.{Placed, names, top_pid};
+ghost use Rattle.mapping.specs.FreshPids.{unused};
+ghost use Rattle.mapping.specs.Proper.{AreRisingPids};
+ghost use Rattle.mapping.specs.Table.{pids_in_use, fresh_pids, freed_all};
+ghost use Rattle.climb_plan.specs.Climb.{grown};
+ghost use Rattle.climb_plan.specs.Rewriting.{named_pages};
+ghost use Rattle.climb_plan.specs.Installing.{AreAway, AreLost, AreDrawn, AreGrown};
+ghost use Rattle.climb_plan.specs.declared.refused.Refused.TheVariants.{TooHigh};
+
+use crate::install::put_pieces;
+use crate::refused::Refused;
+use index_page::Page;
+use keys::{Key, Pid, Settings};
+use mapping::Tree;
+use mapping::laws::drawn_pids_get_places_that_are_away;
+use split_plan::{Name, index_pages};
+use std::alloc::{AllocError, Global};
+
+// The most levels that a tree may have.
+const MOST_LEVELS: u32 = 64;
+
+/// Grows levels of index pages above pages of these names, until one page is left, and puts them into the tree's table: the
+/// page id of the top, and how many levels the tree has then, where it had so many with the named pages on top. The tree
+/// keeps its root and height. Where it is refused, for want of memory or since there would be more than 64 levels, the tree
+/// is as it was.
+pub(crate) fn grow(
+    alloc: Global,
+    settings: &Settings,
+    tree: &mut Tree<Global>,
+    below: &[Name],
+    height: u32,
+) -> Result<(Pid, u32), Refused>
+    requires fan { 1 < settings.now.fan }
+    requires some { 0 < length below.now }
+    requires named { IsRising below.now }
+    requires rising { AreRisingPids (pids_in_use tree.old.table) }
+    requires logs { AreLost tree.old.table }
+    requires height { height ≤ 64 }
+    ensures grown { (used : List ℕ) (i : ℕ) (ps : List (Placed ℕ)) → ((m : ℕ) → unused (pids_in_use tree.old.table) m ≡ unused used (i + m)) → names ps ≡ below.now →
+        IfOk result (λ top. (top.0 ≡ top_pid ps (grown (length ps) settings.now used i ps)) × (top.1 ≡ height + length (grown (length ps) settings.now used i ps))
+        × AreGrown tree.old tree.new (grown (length ps) settings.now used i ps)) }
+    ensures low { IfOk result (λ top. top.1 ≤ 64) }
+    ensures high { (used : List ℕ) (i : ℕ) (ps : List (Placed ℕ)) → ((m : ℕ) → unused (pids_in_use tree.old.table) m ≡ unused used (i + m)) → names ps ≡ below.now →
+        result ≡ Err TooHigh → 64 < height + length (grown (length ps) settings.now used i ps) }
+    ensures err { OnErr result (tree.new ≡ tree.old) }
+{
+    if below.len() == 1 {
+        let only = &below[0];
+        return Ok((only.pid, height));
+    }
+    if height >= MOST_LEVELS {
+        return Err(Refused::TooHigh);
+    }
+    let pages = index_pages(alloc, settings, below)?;
+    let (fresh, upper) = draw_names(alloc, tree, &pages)?;
+    match grow(alloc, settings, tree, &upper, height + 1) {
+        Ok(top) => {
+            put_pieces(tree, &fresh, pages.into_iter());
+            Ok(top)
+        }
+        Err(refused) => {
+            free_all(tree, &fresh);
+            Err(refused)
+        }
+    }
+}
+
+// Draws page ids for these pages, and gives their names. Where memory is refused, the tree is as it was.
+fn draw_names(
+    alloc: Global,
+    tree: &mut Tree<Global>,
+    pages: &[Page<Global>],
+) -> Result<(Vec<u64>, Vec<Name>), AllocError>
+    requires rising { AreRisingPids (pids_in_use tree.old.table) }
+    requires logs { AreLost tree.old.table }
+    ensures pids { IfOk result (λ drawn. drawn.0.items ≡ fresh_pids (pids_in_use tree.old.table) (length pages.now)) }
+    ensures names { IfOk result (λ drawn. drawn.1.items ≡ named_pages pages.now drawn.0.items) }
+    ensures drawn { IfOk result (λ drawn. AreDrawn tree.old tree.new drawn.0.items) }
+    ensures err { OnErr result (tree.new ≡ tree.old) }
+{
+    let fresh = draw(tree, pages.len())?;
+    match names_of(alloc, pages, &fresh) {
+        Ok(names) => Ok((fresh, names)),
+        Err(refused) => {
+            free_all(tree, &fresh);
+            Err(refused)
+        }
+    }
+}
+
+// Draws so many new page ids, whose places are away.
+fn draw(tree: &mut Tree<Global>, count: usize) -> Result<Vec<u64>, AllocError>
+    requires { AreRisingPids (pids_in_use tree.old.table) }
+    ensures pids { IfOk result (λ pids. pids.items ≡ fresh_pids (pids_in_use tree.old.table) count) }
+    ensures drawn { IfOk result (λ pids. AreDrawn tree.old tree.new pids.items) }
+    ensures err { OnErr result (tree.new ≡ tree.old) }
+{
+    drawn_pids_get_places_that_are_away::<Page<Global>>();
+    let pids = tree.fresh(count)?;
+    Ok(pids)
+}
+
+// The names of these pages under these page ids.
+fn names_of(alloc: Global, pages: &[Page<Global>], pids: &[u64]) -> Result<Vec<Name>, AllocError>
+    requires { length pages.now ≡ length pids.now }
+    ensures { IfOk result (λ names. names.items ≡ named_pages pages.now pids.now) }
+{
+    let mut names = Vec::with_capacity(alloc, pages.len())?;
+    for at in 0..pages.len() {
+        names.push_reserved(Name {
+            low: Key::from_bytes(alloc, pages[at].low())?,
+            pid: Pid(pids[at]),
+        });
+    }
+    Ok(names)
+}
+
+// Gives up places that are away.
+fn free_all(tree: &mut Tree<Global>, pids: &[u64])
+    requires { AreAway tree.old.table pids.now }
+    ensures { tree.new ≡ record tree.old { table = freed_all tree.old.table pids.now } }
+{
+    for pid in pids {
+        tree.free(Pid(*pid));
+    }
+}

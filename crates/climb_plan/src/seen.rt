@@ -1,0 +1,148 @@
+//! The pages of a level after their runs, as their parents see them.
+ghost use Rattle.std.specs.Prelude.{◌≡◌, map, IfOk};
+ghost use Rattle.index_page.specs.Page.PageOfKind.{Leaf, Index};
+ghost use Rattle.climb_plan.specs.Changing.{shown};
+ghost use Rattle.climb_plan.specs.Rewriting.{seen_now, all_seen};
+ghost use Rattle.page_runs.specs.Worked.{is_thin_class, is_fat_class};
+ghost use Rattle.std.specs.Prelude.{◌||◌};
+
+use index_page::Page;
+use keys::Pid;
+use page_runs::{Class, LeafDone, TermDone};
+use std::alloc::{AllocError, Global};
+
+/// A page of a level after its run, as its parent sees it.
+#[derive(Clone, Copy)]
+pub(crate) struct Seen<'a> {
+    pub(crate) pid: Pid,
+    pub(crate) page: &'a Page<Global>,
+    pub(crate) class: Class,
+    pub(crate) replaced: bool,
+}
+
+impl<'a> Seen<'a> {
+    /// The same view of the page.
+    pub(crate) fn copied(&self) -> Seen<'a>
+        ensures { result ≡ self.now }
+    {
+        Seen {
+            pid: self.pid,
+            page: self.page,
+            class: self.class,
+            replaced: self.replaced,
+        }
+    }
+
+    /// Whether the page may have to be cut or merged: it is thin or fat.
+    pub(crate) fn calls(&self) -> bool
+        ensures { result ≡ (is_thin_class self.now.class || is_fat_class self.now.class) }
+    {
+        matches!(self.class, Class::Thin | Class::Fat)
+    }
+}
+
+/// A page that was worked, of either kind.
+pub(crate) trait Revised: Drop {
+    ghost use Rattle.std.specs.Prelude.{◌≡◌};
+    ghost use Rattle.index_page.specs.Page.{Page, PageOfKind};
+    ghost use Rattle.page_runs.specs.Worked.{Worked};
+    ghost use Rattle.climb_plan.specs.Changing.{SeenPage, shown};
+    ghost use Rattle.climb_plan.specs.Level.{IsKind};
+
+    // What its pages have at their keys.
+    ghost Cells: { Type 0 };
+
+    // A page of its kind.
+    ghost of: { Page Cells → PageOfKind };
+
+    // What its run made of it.
+    ghost worked: { Self → Worked Cells };
+
+    // The page under its pid, its class, and whether it was replaced.
+    ghost seen: { Self → SeenPage };
+
+    /// The page, as its parent sees it.
+    fn seen(&self) -> Seen<'_>
+        ensures { seen_now result ≡ seen self.now };
+
+    /// The pages' kind is one: a law, which does nothing.
+    fn is_of_a_kind()
+        ensures { IsKind of };
+
+    /// The page, for good.
+    fn into_page(self) -> Page<Global>
+        ensures { result ≡ (seen self).page };
+
+    // It is seen as what its run made of it.
+    ghost seen_as_worked: { (d : Self) → seen d ≡ shown of (worked d) };
+}
+
+impl Revised for LeafDone {
+    ghost use Rattle.std.specs.Prelude.{ℕ, List, refl};
+
+    ghost Cells = { List ℕ };
+
+    ghost of = { Leaf };
+
+    ghost worked = { λ d. d.made.worked };
+
+    ghost seen = { λ d. shown Leaf d.made.worked };
+
+    ghost seen_as_worked = { λ d. refl };
+
+    fn seen(&self) -> Seen<'_> {
+        Seen {
+            pid: self.pid(),
+            page: self.page(),
+            class: self.class(),
+            replaced: self.is_replaced(),
+        }
+    }
+
+    fn is_of_a_kind() {}
+
+    fn into_page(self) -> Page<Global> {
+        let (page, _pieces) = self.into_page_and_pieces();
+        page
+    }
+}
+
+impl Revised for TermDone {
+    ghost use Rattle.std.specs.Prelude.{ℕ, refl};
+
+    ghost Cells = { ℕ };
+
+    ghost of = { Index };
+
+    ghost worked = { λ d. d.made };
+
+    ghost seen = { λ d. shown Index d.made };
+
+    ghost seen_as_worked = { λ d. refl };
+
+    fn seen(&self) -> Seen<'_> {
+        Seen {
+            pid: self.pid(),
+            page: self.page(),
+            class: self.class(),
+            replaced: self.is_replaced(),
+        }
+    }
+
+    fn is_of_a_kind() {}
+
+    fn into_page(self) -> Page<Global> {
+        TermDone::into_page(self)
+    }
+}
+
+/// The pages, as their parents see them.
+pub(crate) fn see_all<D: Revised>(alloc: Global, dones: &[D]) -> Result<Vec<Seen<'_>>, AllocError>
+    ensures { IfOk result (λ all. all_seen all.items ≡ map D.seen dones.now) }
+{
+    let mut all = Vec::with_capacity(alloc, dones.len())?;
+    for done in dones {
+        all.push_reserved(done.seen());
+    }
+    Ok(all)
+}

@@ -1,0 +1,83 @@
+//! What a parent is told of its children.
+ghost use Rattle.std.specs.Prelude.{◌≡◌, ◌<◌, ◌+◌, [], ◌∷◌, ⊤, length, IfOk, MatchOption};
+ghost use Rattle.keys.specs.Order.{IsRising};
+ghost use Rattle.delta_chain.specs.Layers.{with_run};
+ghost use Rattle.split_plan.specs.Terms.{absent, present, front_order};
+
+use crate::name::Name;
+use delta_chain::{PushError, Run};
+use keys::{Key, Pid};
+use std::alloc::{AllocError, Global};
+use std::cmp::Ordering;
+use std::collections::VecDeque;
+
+/// The run of a parent's terms, of the names of the freed members of its groups and of the names of the new pieces, both
+/// in the order of their low keys: a freed member's low key is absent, a new piece's has its page id, and one that is both
+/// is a new piece's. The names' keys are moved into the run. `AllocError` comes only where memory is refused.
+pub fn terms(
+    alloc: Global,
+    freed: Vec<Name>,
+    fresh: Vec<Name>,
+) -> Result<Run<Pid, Global>, AllocError>
+    requires freed { IsRising freed.items }
+    requires fresh { IsRising fresh.items }
+    ensures { IfOk result (λ run. run ≡ with_run (absent freed.items) (present fresh.items)) }
+{
+    let Some(room) = freed.len().checked_add(fresh.len()) else {
+        return Err(AllocError);
+    };
+    let mut run = Run::with_capacity(alloc, room)?;
+    let mut gone = VecDeque::from(freed);
+    let mut come = VecDeque::from(fresh);
+    while let Some(term) = next_term(&mut gone, &mut come) {
+        match run.push(term.0, term.1) {
+            Ok(()) => {}
+            Err(PushError::NoMemory) => return Err(AllocError),
+            Err(PushError::OutOfOrder) => unreachable!(),
+        }
+    }
+    Ok(run)
+}
+
+// Takes the lowest name out of both lists, and gives its term: a new piece's where both have it. `None` where both are
+// empty.
+fn next_term(
+    freed: &mut VecDeque<Name>,
+    fresh: &mut VecDeque<Name>,
+) -> Option<(Key<Global>, Option<Pid>)>
+    requires freed { IsRising freed.old.items }
+    requires fresh { IsRising fresh.old.items }
+    ensures freed { IsRising freed.new.items }
+    ensures fresh { IsRising fresh.new.items }
+    ensures terms { MatchOption result
+        (with_run (absent freed.old.items) (present fresh.old.items) ≡ [])
+        (λ term. with_run (absent freed.old.items) (present fresh.old.items) ≡ term ∷ with_run (absent freed.new.items) (present fresh.new.items)) }
+    ensures fewer { MatchOption result ⊤ (λ _. length freed.new.items + length fresh.new.items < length freed.old.items + length fresh.old.items) }
+{
+    match front_order(freed, fresh) {
+        Ordering::Less => {
+            let member = freed.pop_front()?;
+            Some((member.low, None))
+        }
+        Ordering::Equal => {
+            let _replaced = freed.pop_front();
+            let both = fresh.pop_front()?;
+            Some((both.low, Some(both.pid)))
+        }
+        Ordering::Greater => {
+            let piece = fresh.pop_front()?;
+            Some((piece.low, Some(piece.pid)))
+        }
+    }
+}
+
+// How the first freed name stands to the first fresh one; an empty list is as one that begins above every key.
+fn front_order(freed: &VecDeque<Name>, fresh: &VecDeque<Name>) -> Ordering
+    ensures { result ≡ front_order freed.now.items fresh.now.items }
+{
+    match (freed.front(), fresh.front()) {
+        (None, _) => Ordering::Greater,
+        (Some(_), None) => Ordering::Less,
+        (Some(gone), Some(come)) => gone.low.cmp(&come.low),
+    }
+}
