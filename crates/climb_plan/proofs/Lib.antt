@@ -32,9 +32,11 @@ mod InstallingParents
 mod Kept
 mod LeadingThinLeaf
 mod Leaves
+pub mod LeveledBack
 pub mod LeveledChange
 pub mod LeveledCut
 pub mod LeveledDrawn
+pub mod LeveledHome
 mod Literals
 mod Logs
 mod MergedAndCutAgain
