@@ -1,8 +1,15 @@
 //! Splits and merges: which children of a parent are rewritten together, what is made of them, and what the parent is
-//! told. This crate will hold the work on a group of pages.
+//! told.
 //!
-//! So far it holds how entries are cut, how children are grouped, what stands in a group's place and which terms its
-//! parent gets, as definitions (`specs/`), and the laws of these.
+//! `specs/` says how entries are cut, how children are grouped, what stands in a group's place and which terms its
+//! parent gets.
 #![tactic(auto)]
 
+pub mod grouping;
 pub mod laws;
+pub mod name;
+pub mod parent_run;
+
+pub use crate::grouping::groups;
+pub use crate::name::Name;
+pub use crate::parent_run::terms;

@@ -1,0 +1,34 @@
+-- The pages that are made of a group, without names.
+use Rattle.std.specs.Prelude.{ℕ, ⊤, List, [], ◌∷◌, map, flat_map}
+use Rattle.std.specs.List.{AllByRecursion}
+use Rattle.keys.specs.Order.{IsRising}
+use Rattle.keys.specs.declared.settings.Settings.{Settings}
+use Rattle.index_page.specs.Page.{Page, PageOfKind, bare, first_key, entries, IsLeaf, IsIndex, leaf_of, index_of}
+use Rattle.index_page.specs.Page.PageOfKind.{Leaf, Index}
+use Rattle.split_plan.specs.Cut.{cut}
+
+-- pages of these pieces: the first has this low key, each other its own first key
+abbrev pub pages_from : {V : Type 0} → List ℕ → List (List (List ℕ × V)) → List (Page V)
+pages_from low [] = []
+pages_from low (b ∷ bs) = bare low b ∷ map (λ c. bare (first_key c) c) bs
+
+-- the entries of pages, joined
+abbrev pub joined_pages : {V : Type 0} → List (Page V) → List (List ℕ × V)
+joined_pages ps = flat_map entries ps
+
+-- what is made of a group's members: their entries joined and cut, the first piece at the first member's low key
+abbrev pub pieces_of : {V : Type 0} → Settings → List (Page V) → List (Page V)
+pieces_of s [] = []
+pieces_of s (p ∷ ps) = pages_from p.low (cut s.fan (joined_pages (p ∷ ps)))
+
+-- the same of pages of either kind, which are of one kind
+abbrev pub group_made : Settings → List PageOfKind → List PageOfKind
+group_made s [] = []
+group_made s (Leaf p ∷ ms) = map Leaf (pieces_of s (map leaf_of (Leaf p ∷ ms)))
+group_made s (Index p ∷ ms) = map Index (pieces_of s (map index_of (Index p ∷ ms)))
+
+-- members that can be joined: they are of one kind, and their entries rise
+abbrev pub CanJoin : List PageOfKind → Type 0
+CanJoin [] = ⊥
+CanJoin (Leaf p ∷ ms) = AllByRecursion IsLeaf ms × IsRising (joined_pages (map leaf_of (Leaf p ∷ ms)))
+CanJoin (Index p ∷ ms) = AllByRecursion IsIndex ms × IsRising (joined_pages (map index_of (Index p ∷ ms)))

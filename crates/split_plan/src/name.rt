@@ -1,0 +1,18 @@
+use keys::{Key, Pid};
+use std::alloc::Global;
+use std::marker::Model;
+
+/// What a parent's entry says of a child: its low key and its page id. Contracts see it as this pair.
+#[derive(Drop)]
+pub struct Name {
+    pub low: Key<Global>,
+    pub pid: Pid,
+}
+
+impl Model for Name {
+    ghost use Rattle.std.specs.Prelude.{List, ℕ};
+
+    ghost Value = { List ℕ × ℕ };
+
+    ghost view = { λ n. (n.low, n.pid) };
+}
