@@ -1,4 +1,4 @@
-ghost use Rattle.std.specs.Prelude.{◌≡◌};
+ghost use Rattle.std.specs.Prelude.{◌≡◌, []};
 ghost use Rattle.index_page.specs.Page.PageOfKind.{Leaf};
 
 use crate::class::Class;
@@ -6,10 +6,11 @@ use crate::page_after::{WayBack, put_run};
 use crate::replay::replay;
 use crew::{Turn, Work};
 use index_page::Page;
-use keys::{Command, Piece, Settings, Value};
+use keys::{Command, Pid, Piece, Settings, Value};
 use routing::PageRun;
 use std::alloc::Global;
 use std::marker::Model;
+use std::mem;
 
 /// The work on leaves in a batch: a leaf and its run of commands go in; the leaf afterwards, its class and its
 /// answers come out.
@@ -71,6 +72,22 @@ impl LeafDone {
         ensures { result.now ≡ Leaf self.now.made.worked.placed.page }
     {
         &self.page
+    }
+
+    /// The leaf's page id.
+    pub fn pid(&self) -> Pid
+        ensures { result ≡ self.now.made.worked.placed.pid }
+    {
+        self.page_run.pid()
+    }
+
+    /// The answers, for good: none are left here. It takes no memory, and the job can still be given back.
+    pub fn take_pieces(&mut self) -> Vec<Piece<Global>>
+        ensures pieces { result.items ≡ self.old.made.pieces }
+        ensures rest { self.new ≡ record { held = self.old.held; made = record { worked = self.old.made.worked; pieces = [] } } }
+    {
+        let alloc = *self.pieces.allocator();
+        mem::replace(&mut self.pieces, Vec::new(alloc))
     }
 
     /// The leaf and its answers, for good: the job cannot be given back any more.

@@ -71,6 +71,13 @@ impl TermDone {
         &self.page
     }
 
+    /// The page's own id.
+    pub fn pid(&self) -> Pid
+        ensures { result ≡ self.now.made.placed.pid }
+    {
+        self.pid
+    }
+
     /// The page, for good: the job cannot be given back any more.
     pub fn into_page(self) -> Page<Global>
         ensures { result ≡ Index self.made.placed.page }
