@@ -1,4 +1,7 @@
+pub mod Changing
 pub mod Climb
+pub mod Installing
 pub mod Limits
 pub mod Plan
+pub mod Rewriting
 pub mod Standing

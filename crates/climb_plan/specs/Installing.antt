@@ -1,0 +1,103 @@
+-- What a climb does to the mapping table, one page after the other.
+use Rattle.std.specs.Prelude.{◌≡◌, ℕ, suc, ◌<◌, ⊤, List, [], ◌∷◌, ◌++◌, drop, length, Option, Some, None, IsSome, if◌then◌else◌}
+use Rattle.std.specs.List.{AllByRecursion}
+use Rattle.index_page.specs.Page.{PageOfKind}
+use Rattle.index_page.specs.Page.PageOfKind.{Leaf, Index}
+use Rattle.keys.specs.declared.settings.Settings.{Settings}
+use Rattle.mapping.specs.Proper.{Distinct}
+use Rattle.mapping.specs.Table.{Mapping, place_of, page_of, with_place, outdated, freed}
+use Rattle.page_runs.specs.TermWork.{TermHeld, index_made}
+use Rattle.page_runs.specs.Worked.{Worked}
+use Rattle.climb_plan.specs.Changing.{SeenPage}
+use Rattle.climb_plan.specs.Rewriting.{Remade}
+
+-- ---- pages are taken and put back
+
+-- the table from which these pages were taken
+abbrev pub all_taken : Mapping PageOfKind → List ℕ → Mapping PageOfKind
+all_taken t [] = t
+all_taken t (pid ∷ pids) = all_taken (with_place t pid None) pids
+
+-- the table into which these were put
+abbrev pub all_put : Mapping PageOfKind → List (ℕ × PageOfKind) → Mapping PageOfKind
+all_put t [] = t
+all_put t (e ∷ es) = all_put (with_place t e.0 (Some e.1)) es
+
+-- the places of these pages are away, each of another
+abbrev pub AreAway : Mapping PageOfKind → List ℕ → Type 0
+AreAway t pids = AllByRecursion (λ pid. place_of t pid ≡ Some None) pids × Distinct pids
+
+-- the table without these places, which were away
+abbrev pub all_freed_from : Mapping PageOfKind → List ℕ → Mapping PageOfKind
+all_freed_from t [] = t
+all_freed_from t (pid ∷ pids) = all_freed_from (freed t pid) pids
+
+-- ---- parents
+
+-- what a parent's work holds, with the run of its terms
+abbrev pub page_or_none : Option PageOfKind → PageOfKind
+page_or_none None = Leaf (record { low = []; layers = record { runs = []; base = [] } })
+page_or_none (Some p) = p
+
+abbrev pub parent_held : Mapping PageOfKind → ℕ × List (List ℕ × Option ℕ) → TermHeld
+parent_held t told = record { page = page_or_none (page_of t told.0); pid = told.0; terms = told.1 }
+
+-- these pids have index pages at home, each another
+abbrev pub IsIndexAt : Option PageOfKind → Type 0
+IsIndexAt None = ⊥
+IsIndexAt (Some (Leaf p)) = ⊥
+IsIndexAt (Some (Index p)) = ⊤
+
+abbrev pub AreParentsHome : Mapping PageOfKind → List ℕ → Type 0
+AreParentsHome t pids = AllByRecursion (λ pid. IsIndexAt (page_of t pid)) pids × Distinct pids
+
+-- ---- pages come home
+
+-- the table with a page put home after its run; where it was replaced the log doesn't know it
+abbrev pub come_home : Mapping PageOfKind → SeenPage → Mapping PageOfKind
+come_home t x = with_place (if x.replaced then outdated t x.pid else t) x.pid (Some x.page)
+
+abbrev pub all_come_home : Mapping PageOfKind → List SeenPage → Mapping PageOfKind
+all_come_home t [] = t
+all_come_home t (x ∷ xs) = all_come_home (come_home t x) xs
+
+-- ---- groups are replaced
+
+-- the table without these members
+abbrev pub members_freed : Mapping PageOfKind → List ℕ → Mapping PageOfKind
+members_freed t [] = t
+members_freed t (pid ∷ pids) = members_freed (freed (with_place t pid None) pid) pids
+
+-- pages put under these pids
+abbrev pub put_under : Mapping PageOfKind → List ℕ → List PageOfKind → Mapping PageOfKind
+put_under t [] pages = t
+put_under t (pid ∷ pids) [] = t
+put_under t (pid ∷ pids) (p ∷ ps) = put_under (with_place t pid (Some p)) pids ps
+
+-- the first piece stands in the first member's place, which the log doesn't know then, the others in places of their own
+abbrev pub first_replaced : Mapping PageOfKind → List ℕ → List PageOfKind → Mapping PageOfKind
+first_replaced t [] pages = t
+first_replaced t (pid ∷ pids) [] = t
+first_replaced t (pid ∷ pids) (p ∷ ps) = with_place (outdated t pid) pid (Some p)
+
+-- the table once a group is replaced by what is made of it
+abbrev pub group_installed : Mapping PageOfKind → Remade → Mapping PageOfKind
+group_installed t r = put_under (members_freed (first_replaced t r.members r.pieces) (drop 1 r.members)) r.fresh (drop 1 r.pieces)
+
+abbrev pub all_installed : Mapping PageOfKind → List Remade → Mapping PageOfKind
+all_installed t [] = t
+all_installed t (r ∷ rs) = all_installed (group_installed t r) rs
+
+-- a group that can be replaced: its members are at home, each another, the places of new pieces are away, and there is a piece
+-- for each
+pub record CanInstall (t : Mapping PageOfKind) (r : Remade) : Type 0 where
+  pub some : 0 < length r.members
+  pub members : AllByRecursion (λ pid. IsSome (page_of t pid)) r.members
+  pub fresh : AllByRecursion (λ pid. place_of t pid ≡ Some None) r.fresh
+  pub distinct : Distinct (r.members ++ r.fresh)
+  pub count : length r.pieces ≡ suc (length r.fresh)
+
+-- groups that can be replaced one after the other
+abbrev pub CanInstallAll : Mapping PageOfKind → List Remade → Type 0
+CanInstallAll t [] = ⊤
+CanInstallAll t (r ∷ rs) = CanInstall t r × CanInstallAll (group_installed t r) rs

@@ -1,0 +1,159 @@
+-- Which groups of a level are rewritten, and what is made of them, in words of pages of either kind, as code has them.
+use Rattle.std.specs.Prelude.{◌≡◌, ℕ, ◌+◌, ◌-◌, ◌<◌, ◌≤◌, ⊤, Bool, false, true, List, [], ◌∷◌, map, flat_map, take, drop, length, Option, Some, None}
+use Rattle.std.specs.List.{filter, AllByRecursion, range_with_len}
+use Rattle.std.specs.Borrow.{Bor}
+use Rattle.keys.specs.Lists.{flat}
+use Rattle.keys.specs.Order.{IsRising}
+use Rattle.keys.specs.declared.settings.Settings.{Settings}
+use Rattle.delta_chain.specs.Layers.{with_run}
+use Rattle.index_page.specs.Page.{PageOfKind, low_of}
+use Rattle.index_page.specs.Page.PageOfKind.{Index}
+use Rattle.index_page.specs.Rules.{IsHeaded}
+use Rattle.mapping.specs.Levels.{Placed, entries, joined, top_pid}
+use Rattle.mapping.specs.FreshPids.{unused}
+use Rattle.mapping.specs.Proper.{next_low, Tiled, Stacked}
+use Rattle.mapping.specs.Table.{Mapping, page_of}
+use Rattle.mapping.specs.TreeInMemory.{TreeInMemory}
+use Rattle.page_runs.specs.declared.class.Class.TheVariants.{Same}
+use Rattle.page_runs.specs.Worked.{is_thin_class, is_fat_class}
+use Rattle.split_plan.specs.Groups.{groups}
+use Rattle.split_plan.specs.Pieces.{group_made, CanJoin}
+use Rattle.split_plan.specs.Terms.{absent, present}
+use Rattle.climb_plan.specs.Changing.{SeenPage}
+use Rattle.climb_plan.specs.declared.seen.Seen.{Seen}
+
+-- ---- pages as they are seen
+
+-- what a view of a page shows
+abbrev pub seen_now : Seen → SeenPage
+seen_now x = record { pid = x.pid; page = x.page.now; class = x.class; replaced = x.replaced }
+
+abbrev pub all_seen : List Seen → List SeenPage
+all_seen xs = map seen_now xs
+
+-- what a parent's entry says of it
+abbrev pub seen_name : SeenPage → List ℕ × ℕ
+seen_name x = (low_of x.page, x.pid)
+
+abbrev pub is_thin_seen : SeenPage → Bool
+is_thin_seen x = is_thin_class x.class
+
+-- a group of two or more members is rewritten, and one with one fat member
+abbrev pub is_rewritten_seen : List SeenPage → Bool
+is_rewritten_seen [] = false
+is_rewritten_seen (x ∷ []) = is_fat_class x.class
+is_rewritten_seen (x ∷ y ∷ xs) = true
+
+-- of all pages of a level those that got a run, in order; each other is at home in the table
+pub data AreSeenIn (t : Mapping PageOfKind) : List SeenPage → List SeenPage → Type 0 where
+  none : AreSeenIn t [] []
+  worked : {xs all : List SeenPage} → (x : SeenPage) → AreSeenIn t xs all → AreSeenIn t (x ∷ xs) (x ∷ all)
+  at_home : {xs all : List SeenPage} → (x : SeenPage) → x.class ≡ Same → page_of t x.pid ≡ Some x.page → AreSeenIn t xs all → AreSeenIn t xs (x ∷ all)
+
+-- ---- groups
+
+-- of the groups of one parent's children those that are rewritten
+abbrev pub rewritten_groups : List SeenPage → List (List SeenPage)
+rewritten_groups f = filter is_rewritten_seen (groups is_thin_seen f)
+
+-- a parent with such groups
+pub record Rewriting : Type 0 where
+  pub parent : ℕ
+  pub groups : List (List SeenPage)
+
+-- with this parent in front, unless it has none
+abbrev pub with_rewriting : ℕ → List (List SeenPage) → List Rewriting → List Rewriting
+with_rewriting pid [] rs = rs
+with_rewriting pid (g ∷ gs) rs = record { parent = pid; groups = g ∷ gs } ∷ rs
+
+-- the parents of a level that have such groups, from left to right
+abbrev pub rewriting : List (Placed ℕ) → List SeenPage → List Rewriting
+rewriting [] all = []
+rewriting (p ∷ ps) all = with_rewriting p.pid (rewritten_groups (take (length (entries p)) all)) (rewriting ps (drop (length (entries p)) all))
+
+-- each such parent with how many of its groups are rewritten, and all these groups
+abbrev pub counted : List Rewriting → List (ℕ × ℕ)
+counted rs = map (λ r. (r.parent, length r.groups)) rs
+
+abbrev pub groups_of : List Rewriting → List (List SeenPage)
+groups_of rs = flat_map (λ r. r.groups) rs
+
+-- ---- the levels above
+
+-- the levels from these parents on upward, as a tree in memory has them, so many below the root
+pub record AreParents (t : TreeInMemory) (depth : ℕ) (ps : List (Placed ℕ)) (ups : List (List (Placed ℕ))) : Type 0 where
+  pub home : AllByRecursion (AllByRecursion (λ p. page_of t.table p.pid ≡ Some (Index p.page))) (ps ∷ ups)
+  pub headed : AllByRecursion (λ p. IsHeaded 1 p.page) ps
+  pub tiled : Tiled ps None
+  pub first : next_low ps None ≡ Some []
+  pub stacked : Stacked ps ups
+  pub root : t.root ≡ top_pid ps ups
+  pub depth : depth ≡ length ups
+
+-- a level of pages under these parents, of which these got a run
+pub record IsLevelSeen (t : TreeInMemory) (depth : ℕ) (xs all : List SeenPage) (ps : List (Placed ℕ)) (ups : List (List (Placed ℕ))) : Type 0 where
+  pub seen : AreSeenIn t.table xs all
+  pub linked : joined ps ≡ map seen_name all
+  pub parents : AreParents t depth ps ups
+
+-- ---- what is made of groups
+
+-- a group, rewritten: its members' pids, the pages that are made of it, and the pids of all of these but the first
+pub record Remade : Type 0 where
+  pub members : List ℕ
+  pub pieces : List PageOfKind
+  pub fresh : List ℕ
+
+-- a group once it is cut; its pieces have no pids yet
+abbrev pub cut_group : Settings → List SeenPage → Remade
+cut_group s g = record { members = map (λ x. x.pid) g; pieces = group_made s (map (λ x. x.page) g); fresh = [] }
+
+-- groups that can be cut
+abbrev pub CanBeCut : List (List SeenPage) → Type 0
+CanBeCut gs = AllByRecursion (λ g. CanJoin (map (λ x. x.page) g)) gs
+
+-- the names of the members that are freed
+abbrev pub freed_names : List SeenPage → List (List ℕ × ℕ)
+freed_names g = map seen_name (drop 1 g)
+
+-- each group has a page
+abbrev pub HaveSome : List Remade → Type 0
+HaveSome rs = AllByRecursion (λ r. 0 < length r.pieces) rs
+
+-- the numbers that are given to new pieces, from left to right, where i were given out before
+abbrev pub numbered : List ℕ → ℕ → List Remade → List Remade
+numbered used i [] = []
+numbered used i (r ∷ rs) =
+    let n : ℕ = length r.pieces - 1 in
+    record { members = r.members; pieces = r.pieces; fresh = map (unused used) (range_with_len i n) } ∷ numbered used (i + n) rs
+
+-- how many they are
+abbrev pub numbers : List Remade → ℕ
+numbers [] = 0
+numbers (r ∷ rs) = (length r.pieces - 1) + numbers rs
+
+-- the low keys of pages with these pids
+abbrev pub named_pages : List PageOfKind → List ℕ → List (List ℕ × ℕ)
+named_pages [] pids = []
+named_pages (p ∷ ps) [] = []
+named_pages (p ∷ ps) (pid ∷ pids) = (low_of p, pid) ∷ named_pages ps pids
+
+-- the names of a group's new pieces
+abbrev pub fresh_names : Remade → List (List ℕ × ℕ)
+fresh_names r = named_pages (drop 1 r.pieces) r.fresh
+
+-- the run of the terms of a parent, of the names that are freed in its groups and of those of the new pieces
+abbrev pub terms_of : List (List (List ℕ × ℕ)) → List Remade → List (List ℕ × Option ℕ)
+terms_of fs rs = with_run (absent (flat fs)) (present (flat_map fresh_names rs))
+
+-- each parent with the run of its terms: so many of the groups are its own
+abbrev pub told : List (ℕ × ℕ) → List (List (List ℕ × ℕ)) → List Remade → List (ℕ × List (List ℕ × Option ℕ))
+told [] fs rs = []
+told (c ∷ cs) fs rs = (c.0, terms_of (take c.1 fs) (take c.1 rs)) ∷ told cs (drop c.1 fs) (drop c.1 rs)
+
+-- each parent has so many groups, and their names can be told, since they rise
+abbrev pub CanBeTold : List (ℕ × ℕ) → List (List (List ℕ × ℕ)) → List Remade → Type 0
+CanBeTold [] fs rs = ⊤
+CanBeTold (c ∷ cs) fs rs =
+    (c.1 ≤ length fs) × (c.1 ≤ length rs) × IsRising (flat (take c.1 fs)) × IsRising (flat_map fresh_names (take c.1 rs))
+    × CanBeTold cs (drop c.1 fs) (drop c.1 rs)

@@ -1,0 +1,92 @@
+//! The pages of a level after their runs, as their parents see them.
+ghost use Rattle.std.specs.Prelude.{◌≡◌, map, IfOk};
+ghost use Rattle.index_page.specs.Page.PageOfKind.{Leaf, Index};
+ghost use Rattle.climb_plan.specs.Changing.{shown};
+ghost use Rattle.climb_plan.specs.Rewriting.{seen_now, all_seen};
+ghost use Rattle.page_runs.specs.Worked.{is_thin_class, is_fat_class};
+ghost use Rattle.std.specs.Prelude.{◌||◌};
+
+use index_page::Page;
+use keys::Pid;
+use page_runs::{Class, LeafDone, TermDone};
+use std::alloc::{AllocError, Global};
+
+/// A page of a level after its run, as its parent sees it.
+#[derive(Clone, Copy)]
+pub(crate) struct Seen<'a> {
+    pub(crate) pid: Pid,
+    pub(crate) page: &'a Page<Global>,
+    pub(crate) class: Class,
+    pub(crate) replaced: bool,
+}
+
+impl<'a> Seen<'a> {
+    /// Whether the page may have to be cut or merged: it is thin or fat.
+    pub(crate) fn calls(&self) -> bool
+        ensures { result ≡ (is_thin_class self.now.class || is_fat_class self.now.class) }
+    {
+        matches!(self.class, Class::Thin | Class::Fat)
+    }
+}
+
+/// A page that was worked, of either kind.
+pub(crate) trait Revised: Drop {
+    ghost use Rattle.climb_plan.specs.Changing.{SeenPage};
+
+    // The page under its pid, its class, and whether it was replaced.
+    ghost seen: { Self → SeenPage };
+
+    /// The page, as its parent sees it.
+    fn seen(&self) -> Seen<'_>
+        ensures { seen_now result ≡ seen self.now };
+
+    /// The page, for good.
+    fn into_page(self) -> Page<Global>
+        ensures { result ≡ (seen self).page };
+}
+
+impl Revised for LeafDone {
+    ghost seen = { λ d. shown Leaf d.made.worked };
+
+    fn seen(&self) -> Seen<'_> {
+        Seen {
+            pid: self.pid(),
+            page: self.page(),
+            class: self.class(),
+            replaced: self.is_replaced(),
+        }
+    }
+
+    fn into_page(self) -> Page<Global> {
+        let (page, _pieces) = self.into_page_and_pieces();
+        page
+    }
+}
+
+impl Revised for TermDone {
+    ghost seen = { λ d. shown Index d.made };
+
+    fn seen(&self) -> Seen<'_> {
+        Seen {
+            pid: self.pid(),
+            page: self.page(),
+            class: self.class(),
+            replaced: self.is_replaced(),
+        }
+    }
+
+    fn into_page(self) -> Page<Global> {
+        TermDone::into_page(self)
+    }
+}
+
+/// The pages, as their parents see them.
+pub(crate) fn see_all<D: Revised>(alloc: Global, dones: &[D]) -> Result<Vec<Seen<'_>>, AllocError>
+    ensures { IfOk result (λ all. all_seen all.items ≡ map D.seen dones.now) }
+{
+    let mut all = Vec::with_capacity(alloc, dones.len())?;
+    for done in dones {
+        all.push_reserved(done.seen());
+    }
+    Ok(all)
+}
