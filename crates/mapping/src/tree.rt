@@ -1,13 +1,15 @@
-ghost use Rattle.std.specs.Prelude.{◌≡◌};
+ghost use Rattle.std.specs.Prelude.{◌≡◌, Some, None, IsSome, IfOk, OnOk, OnErr};
 ghost use Rattle.std.specs.Option.{option_copied};
 ghost use Rattle.mapping.specs.Tree.{page_at};
-ghost use Rattle.mapping.specs.Table.{page_of};
+ghost use Rattle.mapping.specs.LogState.{log_state};
+ghost use Rattle.mapping.specs.Table.{place_of, page_of, log_of, with_place, outdated, freed, with_rooms, pids_in_use, fresh_pids};
 ghost use Rattle.mapping.specs.TreeInMemory.{AreAllHome, tree_of};
 
+use crate::logged::Logged;
 use crate::table::Table;
 use index_page::Page;
 use keys::Pid;
-use std::alloc::Allocator;
+use std::alloc::{AllocError, Allocator};
 use std::marker::Model;
 
 /// The pages of a tree in their table, with the root's page id and the number of levels. Contracts see it as a
@@ -59,5 +61,62 @@ impl<A: Allocator + Copy> Tree<A> {
         ensures listed { AreAllHome self.now → option_copied result ≡ page_at (tree_of self.now).pages pid }
     {
         self.table.get(pid.0)
+    }
+
+    /// What the log has of the page id.
+    pub fn logged(&self, pid: Pid) -> Logged
+        ensures { log_state result ≡ log_of self.now.table pid }
+    {
+        self.table.logged(pid.0)
+    }
+
+    /// Takes the page out of its place, which is away afterwards. This takes no memory, as `put` and `free` do not.
+    pub fn take(&mut self, pid: Pid) -> Page<A>
+        requires { IsSome (page_of self.old.table pid) }
+        ensures page { page_of self.old.table pid ≡ Some result }
+        ensures tree { self.new ≡ record self.old { table = with_place self.old.table pid None } }
+    {
+        self.table.take(pid.0)
+    }
+
+    /// Puts a page into its place, from which it was away.
+    pub fn put(&mut self, pid: Pid, page: Page<A>)
+        requires { place_of self.old.table pid ≡ Some None }
+        ensures { self.new ≡ record self.old { table = with_place self.old.table pid (Some page) } }
+    {
+        self.table.put(pid.0, page);
+    }
+
+    /// Gives up the place of a page that is away. What the log has of the page id is of no present page then.
+    pub fn free(&mut self, pid: Pid)
+        requires { place_of self.old.table pid ≡ Some None }
+        ensures { self.new ≡ record self.old { table = freed self.old.table pid } }
+    {
+        self.table.free(pid.0);
+    }
+
+    /// Says that the page isn't the one that the log knows.
+    pub fn outdate(&mut self, pid: Pid)
+        ensures { self.new ≡ record self.old { table = outdated self.old.table pid } }
+    {
+        self.table.outdate(pid.0);
+    }
+
+    /// Draws so many new page ids, the least that have no place, in rising order, and makes a place for each, whose page is
+    /// away. Where memory is refused, or fewer are left, nothing has changed.
+    pub fn fresh(&mut self, count: usize) -> Result<Vec<u64, A>, AllocError>
+        ensures pids { IfOk result (λ pids. pids.items ≡ fresh_pids (pids_in_use self.old.table) count) }
+        ensures ok { OnOk result (self.new ≡ record self.old { table = with_rooms self.old.table (fresh_pids (pids_in_use self.old.table) count) }) }
+        ensures err { OnErr result (self.new ≡ self.old) }
+    {
+        self.table.fresh(count)
+    }
+
+    /// Makes this page the root, of a tree with so many levels.
+    pub fn set_root(&mut self, root: Pid, height: u32)
+        ensures { self.new ≡ record self.old { root = root; height = height } }
+    {
+        self.root = root;
+        self.height = height;
     }
 }
