@@ -9,4 +9,5 @@ pub mod PidLaws
 pub mod Renewed
 pub mod RunLaws
 pub mod TermLaws
+mod TermMerge
 pub mod WorkedLaws

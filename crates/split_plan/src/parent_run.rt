@@ -2,7 +2,7 @@
 ghost use Rattle.std.specs.Prelude.{◌≡◌, ◌<◌, ◌+◌, [], ◌∷◌, ⊤, length, IfOk, MatchOption};
 ghost use Rattle.keys.specs.Order.{IsRising};
 ghost use Rattle.delta_chain.specs.Layers.{with_run};
-ghost use Rattle.split_plan.specs.Terms.{absent, present};
+ghost use Rattle.split_plan.specs.Terms.{absent, present, front_order};
 
 use crate::name::Name;
 use delta_chain::{PushError, Run};
@@ -54,7 +54,7 @@ fn next_term(
         (λ term. with_run (absent freed.old.items) (present fresh.old.items) ≡ term ∷ with_run (absent freed.new.items) (present fresh.new.items)) }
     ensures fewer { MatchOption result ⊤ (λ _. length freed.new.items + length fresh.new.items < length freed.old.items + length fresh.old.items) }
 {
-    match first_order(freed, fresh) {
+    match front_order(freed, fresh) {
         Ordering::Less => {
             let name = freed.pop_front()?;
             Some((name.low, None))
@@ -71,8 +71,10 @@ fn next_term(
     }
 }
 
-// How the first freed name stands to the first fresh one; where a list is empty, as if it had one above every key.
-fn first_order(freed: &VecDeque<Name>, fresh: &VecDeque<Name>) -> Ordering {
+// How the first freed name stands to the first fresh one; an empty list is as one that begins above every key.
+fn front_order(freed: &VecDeque<Name>, fresh: &VecDeque<Name>) -> Ordering
+    ensures { result ≡ front_order freed.now.items fresh.now.items }
+{
     match (freed.front(), fresh.front()) {
         (None, _) => Ordering::Greater,
         (Some(_), None) => Ordering::Less,
