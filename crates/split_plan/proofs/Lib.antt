@@ -3,9 +3,11 @@ pub mod CutLaws
 mod Exchange
 pub mod ExchangeLaws
 pub mod GroupLaws
+mod GroupSizes
 pub mod OutdatedLaws
 pub mod PidLaws
 pub mod Renewed
 pub mod RunLaws
 pub mod TermLaws
+mod TermMerge
 pub mod WorkedLaws

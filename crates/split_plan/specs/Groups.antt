@@ -1,5 +1,5 @@
 -- Which children of one parent are taken together.
-use Rattle.std.specs.Prelude.{ℕ, Bool, true, false, not, List, [], ◌∷◌, ◌++◌, count_by}
+use Rattle.std.specs.Prelude.{ℕ, Bool, true, false, not, List, [], ◌∷◌, ◌++◌, take, drop, count_by}
 
 -- the thin ones at the beginning, and the groups that the others begin
 pub record Gathered (X : Type 0) : Type 0 where
@@ -33,3 +33,8 @@ count_kept is_thin xs = count_by (λ x. not (is_thin x)) xs
 abbrev pub begins_thin : {X : Type 0} → (X → Bool) → List X → Bool
 begins_thin is_thin [] = false
 begins_thin is_thin (x ∷ xs) = is_thin x
+
+-- parts of a list, cut off from its front one after the other: each has this many elements, if there are so many
+abbrev pub cut_by : {X : Type 0} → List ℕ → List X → List (List X)
+cut_by [] xs = []
+cut_by (n ∷ ns) xs = take n xs ∷ cut_by ns (drop n xs)

@@ -1,5 +1,8 @@
 -- What a parent is told of the changes of its children.
-use Rattle.std.specs.Prelude.{ℕ, List, map, flat_map, Option, Some, None}
+use Rattle.std.specs.Prelude.{ℕ, List, [], ◌∷◌, map, flat_map, Option, Some, None}
+use Rattle.std.specs.declared.cmp.Ordering.{Ordering}
+use Rattle.std.specs.declared.cmp.Ordering.TheVariants.{Less, Greater}
+use Rattle.keys.specs.Order.{order}
 use Rattle.delta_chain.specs.Layers.{with_run}
 use Rattle.mapping.specs.Levels.{Placed, names}
 use Rattle.split_plan.specs.Change.{Change, freed, fresh_of}
@@ -24,3 +27,9 @@ abbrev pub term_at : Option ℕ → Option ℕ → Option (Option ℕ)
 term_at (Some pid) freed = Some (Some pid)
 term_at None (Some pid) = Some None
 term_at None None = None
+
+-- how the first name of one list stands to that of another; an empty list is as one that begins above every key
+abbrev pub front_order : List (List ℕ × ℕ) → List (List ℕ × ℕ) → Ordering
+front_order [] ms = Greater
+front_order (n ∷ ns) [] = Less
+front_order (n ∷ ns) (m ∷ ms) = order n.0 m.0

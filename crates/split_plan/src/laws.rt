@@ -1,5 +1,5 @@
 //! What the definitions of `specs/` mean. Each law is the contract of a function with an empty body.
-ghost use Rattle.std.specs.Prelude.{◌≡◌, ◌<◌, ◌/◌, ℕ, ◌⊎◌, ◌↔◌, Bool, true, false, List, [], ◌∷◌, Option, Some, None, length, drop, flat_map};
+ghost use Rattle.std.specs.Prelude.{◌≡◌, ◌<◌, ◌/◌, ℕ, ◌⊎◌, ◌↔◌, Bool, true, false, List, [], ◌∷◌, Option, Some, None, length, drop, map, flat_map};
 ghost use Rattle.std.specs.List.{AllByRecursion, Any};
 ghost use Rattle.keys.specs.Order.{IsRising};
 ghost use Rattle.keys.specs.OrderedMap.{value_at};
@@ -10,8 +10,8 @@ ghost use Rattle.mapping.specs.FreshPids.{is_among};
 ghost use Rattle.mapping.specs.Levels.{Placed, joined, names};
 ghost use Rattle.mapping.specs.Proper.{next_low, Tiled};
 ghost use Rattle.split_plan.specs.Cut.{piece_count, cut, AllAtMost, AllAtLeast};
-ghost use Rattle.split_plan.specs.Groups.{groups, count_kept, begins_thin};
-ghost use Rattle.page_runs.specs.Worked.{Worked, is_thin, is_fat};
+ghost use Rattle.split_plan.specs.Groups.{groups, count_kept, begins_thin, cut_by};
+ghost use Rattle.page_runs.specs.Worked.{Worked, is_thin, is_fat, is_thin_class};
 ghost use Rattle.split_plan.specs.WorkedLevel.{worked_leaves, placed_of};
 ghost use Rattle.split_plan.specs.Change.{Change, is_rewritten, changes, family_changes, new_of, fresh_of, outdated, IsOutdatedIn, all_outdated};
 ghost use Rattle.split_plan.specs.Terms.{freed_of, terms, term_at};
@@ -32,6 +32,12 @@ pub fn groups_are_the_children<X>()
     ensures one { (thin : X → Bool) (xs : List X) → 0 < count_kept thin xs → AllByRecursion (λ g. count_kept thin g ≡ 1) (groups thin xs) }
     ensures later { (thin : X → Bool) (xs : List X) → AllByRecursion (λ g. begins_thin thin g ≡ false) (drop 1 (groups thin xs)) }
     ensures thin { (thin : X → Bool) (xs : List X) → count_kept thin xs ≡ 0 → 0 < length xs → groups thin xs ≡ xs ∷ [] }
+{}
+
+/// The sizes of a family's groups are found by its pages' classes alone, and cut the family into its groups.
+pub fn groups_are_found_by_classes<V>()
+    ensures classes { (f : List (Worked V)) → map length (groups is_thin_class (map (λ w. w.class) f)) ≡ map length (groups is_thin f) }
+    ensures sizes_cut { (f : List (Worked V)) → cut_by (map length (groups is_thin f)) f ≡ groups is_thin f }
 {}
 
 /// A group is rewritten exactly if it has two or more members, or is one fat page.

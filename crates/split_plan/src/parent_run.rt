@@ -1,14 +1,15 @@
 //! What a parent is told of its children.
-ghost use Rattle.std.specs.Prelude.{◌≡◌, IfOk};
+ghost use Rattle.std.specs.Prelude.{◌≡◌, ◌<◌, ◌+◌, [], ◌∷◌, ⊤, length, IfOk, MatchOption};
 ghost use Rattle.keys.specs.Order.{IsRising};
 ghost use Rattle.delta_chain.specs.Layers.{with_run};
-ghost use Rattle.split_plan.specs.Terms.{absent, present};
+ghost use Rattle.split_plan.specs.Terms.{absent, present, front_order};
 
 use crate::name::Name;
 use delta_chain::{PushError, Run};
-use keys::Pid;
+use keys::{Key, Pid};
 use std::alloc::{AllocError, Global};
 use std::cmp::Ordering;
+use std::collections::VecDeque;
 
 /// The run of a parent's terms, of the names of the freed members of its groups and of the names of the new pieces, both
 /// in the order of their low keys: a freed member's low key is absent, a new piece's has its page id, and one that is both
@@ -26,16 +27,57 @@ pub fn terms(
         return Err(AllocError);
     };
     let mut run = Run::with_capacity(alloc, room)?;
-    let mut freed = freed.into_iter().peekable();
-    for name in fresh {
-        while let Some(gone) = freed.next_if(|gone| gone.low < name.low) {
-            push(&mut run, gone, false)?;
+    let mut gone = VecDeque::from(freed);
+    let mut come = VecDeque::from(fresh);
+    while let Some(term) = next_term(&mut gone, &mut come) {
+        match run.push(term.0, term.1) {
+            Ok(()) => {}
+            Err(PushError::NoMemory) => return Err(AllocError),
+            Err(PushError::OutOfOrder) => unreachable!(),
         }
-        let _replaced = freed.next_if(|gone| gone.low == name.low);
-        push(&mut run, name, true)?;
-    }
-    for gone in freed {
-        push(&mut run, gone, false)?;
     }
     Ok(run)
+}
+
+// Takes the lowest name out of both lists, and gives its term: a new piece's where both have it. `None` where both are
+// empty.
+fn next_term(
+    freed: &mut VecDeque<Name>,
+    fresh: &mut VecDeque<Name>,
+) -> Option<(Key<Global>, Option<Pid>)>
+    requires freed { IsRising freed.old.items }
+    requires fresh { IsRising fresh.old.items }
+    ensures freed { IsRising freed.new.items }
+    ensures fresh { IsRising fresh.new.items }
+    ensures terms { MatchOption result
+        (with_run (absent freed.old.items) (present fresh.old.items) ≡ [])
+        (λ term. with_run (absent freed.old.items) (present fresh.old.items) ≡ term ∷ with_run (absent freed.new.items) (present fresh.new.items)) }
+    ensures fewer { MatchOption result ⊤ (λ _. length freed.new.items + length fresh.new.items < length freed.old.items + length fresh.old.items) }
+{
+    match front_order(freed, fresh) {
+        Ordering::Less => {
+            let name = freed.pop_front()?;
+            Some((name.low, None))
+        }
+        Ordering::Equal => {
+            let _replaced = freed.pop_front();
+            let name = fresh.pop_front()?;
+            Some((name.low, Some(name.pid)))
+        }
+        Ordering::Greater => {
+            let name = fresh.pop_front()?;
+            Some((name.low, Some(name.pid)))
+        }
+    }
+}
+
+// How the first freed name stands to the first fresh one; an empty list is as one that begins above every key.
+fn front_order(freed: &VecDeque<Name>, fresh: &VecDeque<Name>) -> Ordering
+    ensures { result ≡ front_order freed.now.items fresh.now.items }
+{
+    match (freed.front(), fresh.front()) {
+        (None, _) => Ordering::Greater,
+        (Some(_), None) => Ordering::Less,
+        (Some(gone), Some(come)) => gone.low.cmp(&come.low),
+    }
 }

@@ -1,0 +1,77 @@
+-- Terms, taken from the fronts of the names of freed members and of new pieces.
+use Rattle.std.specs.Prelude.{◌≡◌, ◌<◌, ℕ, zero, suc, ◌+◌, Bool, true, List, [], ◌∷◌, ◌++◌, drop, length, Option, Some, None}
+use Rattle.std.proofs.Common.{refl, sym, ap, ◌∙◌, subst, arith, Less, Equal, Greater}
+use Rattle.std.specs.List.Sorted.{IsStrictlySortedBy}
+use Rattle.std.specs.Map.{keys_of}
+use Rattle.keys.specs.Order.{order, IsRising}
+use Rattle.keys.proofs.MapLaws.{IsBelowAll, below_all, same_key, order_itself, flipped_less, flipped_greater}
+use Rattle.index_page.proofs.RangeLaws.{rising_rest}
+use Rattle.delta_chain.specs.Layers.{with_change, with_run}
+use Rattle.split_plan.specs.Terms.{absent, present, front_order}
+
+abbrev Names : Type 0
+Names = List (List ℕ × ℕ)
+
+abbrev Changes : Type 0
+Changes = List (List ℕ × Option ℕ)
+
+-- ---- a change at the front of a run: past a key below it, before one above it, and in the place of its own
+
+past : (k j : List ℕ) (o v : Option ℕ) (run : Changes) → order k j ≡ Less → with_change ((k, o) ∷ run) j (Some v) ≡ (k, o) ∷ with_change run j (Some v)
+past k j o v run h = rw (flipped_less k j h) refl
+
+before : (k j : List ℕ) (o v : Option ℕ) (run : Changes) → order k j ≡ Greater → with_change ((k, o) ∷ run) j (Some v) ≡ (j, v) ∷ (k, o) ∷ run
+before k j o v run h = rw (flipped_greater k j h) refl
+
+in_place : (k : List ℕ) (o v : Option ℕ) (run : Changes) → with_change ((k, o) ∷ run) k (Some v) ≡ (k, v) ∷ run
+in_place k o v run = rw (order_itself k) refl
+
+-- present keys above the first key of a run leave its change
+stays_in_front : (k : List ℕ) (o : Option ℕ) (run : Changes) (fresh : Names) → IsBelowAll k (keys_of fresh) → with_run ((k, o) ∷ run) (present fresh) ≡ (k, o) ∷ with_run run (present fresh)
+stays_in_front k o run [] a = refl
+stays_in_front k o run (n ∷ ns) a =
+    ap (λ (cs : Changes). with_run cs (present ns)) (past k n.0 o (Some n.1) run a.0) ∙ stays_in_front k o (with_change run n.0 (Some (Some n.1))) ns a.1
+
+-- ---- the three ways to take the first term
+
+-- the first freed name is below every fresh one
+pub freed_first : (freed fresh ns : Names) (n : List ℕ × ℕ) → IsRising fresh → freed ≡ n ∷ ns → Less ≡ front_order freed fresh → with_run (absent freed) (present fresh) ≡ (n.0, None) ∷ with_run (absent ns) (present fresh)
+unfolding IsStrictlySortedBy
+freed_first [] fresh ns n r e h = absurd (cc)
+freed_first (f ∷ fs) [] ns n r e h = let s : f ≡ n = cc in let t : fs ≡ ns = cc in rw (s, t) refl
+freed_first (f ∷ fs) (m ∷ ms) ns n r e h =
+    let s : f ≡ n = cc in
+    let t : fs ≡ ns = cc in
+    rw (← s, ← t) (stays_in_front f.0 None (absent fs) (m ∷ ms) (sym h, below_all f.0 m.0 (keys_of ms) (sym h) r.0))
+
+-- the first fresh name is below every freed one
+fresh_alone : (freed ms : Names) (m : List ℕ × ℕ) → IsRising (m ∷ ms) → Greater ≡ front_order freed (m ∷ ms) → with_run (absent freed) (present (m ∷ ms)) ≡ (m.0, Some m.1) ∷ with_run (absent freed) (present ms)
+unfolding IsStrictlySortedBy
+fresh_alone [] ms m r h = stays_in_front m.0 (Some m.1) [] ms r.0
+fresh_alone (f ∷ fs) ms m r h =
+    ap (λ (cs : Changes). with_run cs (present ms)) (before f.0 m.0 None (Some m.1) (absent fs) (sym h)) ∙ stays_in_front m.0 (Some m.1) (absent (f ∷ fs)) ms r.0
+
+pub fresh_first : (freed fresh ms : Names) (m : List ℕ × ℕ) → IsRising fresh → fresh ≡ m ∷ ms → Greater ≡ front_order freed fresh → with_run (absent freed) (present fresh) ≡ (m.0, Some m.1) ∷ with_run (absent freed) (present ms)
+fresh_first freed [] ms m r e h = absurd (cc)
+fresh_first freed (c ∷ cs) ms m r e h = let s : c ≡ m = cc in let t : cs ≡ ms = cc in rw (← s, ← t) (fresh_alone freed cs c r h)
+
+-- both lists begin with one key
+both_first : (f m : List ℕ × ℕ) (fs ms : Names) → IsRising (m ∷ ms) → order f.0 m.0 ≡ Equal → with_run (absent (f ∷ fs)) (present (m ∷ ms)) ≡ (m.0, Some m.1) ∷ with_run (absent fs) (present ms)
+unfolding IsStrictlySortedBy
+both_first f m fs ms r h =
+    let here : with_change ((f.0, None) ∷ absent fs) m.0 (Some (Some m.1)) ≡ (m.0, Some m.1) ∷ absent fs = rw (same_key f.0 m.0 h) (in_place m.0 None (Some m.1) (absent fs)) in
+    ap (λ (cs : Changes). with_run cs (present ms)) here ∙ stays_in_front m.0 (Some m.1) (absent fs) ms r.0
+
+pub fresh_replaces : (freed fresh ms : Names) (m : List ℕ × ℕ) → IsRising fresh → fresh ≡ m ∷ ms → Equal ≡ front_order freed fresh → with_run (absent freed) (present fresh) ≡ (m.0, Some m.1) ∷ with_run (absent (drop 1 freed)) (present ms)
+fresh_replaces [] fresh ms m r e h = absurd (cc)
+fresh_replaces (f ∷ fs) [] ms m r e h = absurd (cc)
+fresh_replaces (f ∷ fs) (c ∷ cs) ms m r e h = let s : c ≡ m = cc in let t : cs ≡ ms = cc in rw (← s, ← t) (both_first f c fs cs r (sym h))
+
+-- the name in front, by its parts
+pub front_is : (ns rest : Names) (n m : List ℕ × ℕ) → n ≡ m → ns ≡ m ∷ rest → ns ≡ n ∷ rest
+front_is ns rest n m e h = rw e h
+
+-- what is left of names that rise rises
+pub rising_left : (ns : Names) → IsRising ns → IsRising (drop 1 ns)
+rising_left [] r = r
+rising_left (n ∷ ns) r = rising_rest n ns r

@@ -1,0 +1,20 @@
+use Rattle.std.proofs.Common.{◌≡◌, ◌++◌, true, false, Err, refl, sym, ap, ◌∙◌}
+use Rattle.keys.specs.Order.{IsRising}
+use Rattle.delta_chain.proofs.Rising.{goes_last-rising}
+use Rattle.split_plan.proofs.ExchangeLaws.{rising-with_present}
+use Rattle.split_plan.proofs.parent_run.terms.Goals as goal
+
+pub loop-term-init : goal.loop-term-init
+loop-term-init c = rw (c.from-gone.ensures.0, c.from-come.ensures.0, c.in_ok-run.ensures) (record {
+  freed_rises = c.requires.freed;
+  fresh_rises = c.requires.fresh;
+  rises = rising-with_present c.args.freed.items c.args.fresh.items c.requires.freed;
+  made = refl;
+})
+
+pub unreachable-requires : goal.unreachable-requires
+unreachable-requires c =
+    let rises = rw c.in-Some-next_term.ensures.terms at c.loop-term.invariant.rises in
+    let takes = goes_last-rising c.loop-term.run c.in-Some-next_term.term.0 c.in-Some-next_term.term.1 _ rises in
+    let refuses = c.in-Err-OutOfOrder.ensures.order.0 (ap Err c.in-Err-OutOfOrder.field-0-is) in
+    absurd (let f : true ≡ false = sym takes ∙ refuses in cc)
