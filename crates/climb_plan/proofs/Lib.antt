@@ -1,4 +1,5 @@
 mod AllThinLeaves
+pub mod ChangingGroups
 mod Climbs
 mod CutUnderTwoParents
 mod Families

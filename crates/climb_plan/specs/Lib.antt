@@ -1,3 +1,4 @@
+pub mod Changing
 pub mod Climb
 pub mod Limits
 pub mod Plan

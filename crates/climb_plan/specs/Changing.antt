@@ -1,0 +1,114 @@
+-- The families that change on a level, the pages of it that their parents see, and the table once changes are installed.
+use Rattle.std.specs.Prelude.{◌≡◌, ℕ, ◌+◌, Bool, false, ◌||◌, List, [], ◌∷◌, ◌++◌, map, flat_map, take, drop, length, Option, Some, None}
+use Rattle.std.specs.List.{filter, AllByRecursion}
+use Rattle.keys.specs.declared.settings.Settings.{Settings}
+use Rattle.index_page.specs.Page.{Page, PageOfKind}
+use Rattle.mapping.specs.Levels.{Placed, entries, pids}
+use Rattle.mapping.specs.FreshPids.{is_among}
+use Rattle.mapping.specs.Table.{Mapping, place_of}
+use Rattle.page_runs.specs.declared.class.Class.{Class}
+use Rattle.page_runs.specs.declared.class.Class.TheVariants.{Same}
+use Rattle.page_runs.specs.Worked.{Worked, is_thin_class, is_fat_class, is_thin}
+use Rattle.split_plan.specs.Groups.{groups}
+use Rattle.split_plan.specs.Change.{Change, is_rewritten, changes, new_of, fresh_of}
+use Rattle.split_plan.specs.Terms.{freed_of}
+
+-- ---- pages after their runs
+
+-- a page of a level after its run, as its parent sees it
+pub record SeenPage : Type 0 where
+  pub pid : ℕ
+  pub page : PageOfKind
+  pub class : Class
+  pub replaced : Bool
+
+-- a page after its run under its pid, of the kind that `of` makes
+abbrev pub shown : {V : Type 0} → (Page V → PageOfKind) → Worked V → SeenPage
+shown of w = record { pid = w.placed.pid; page = of w.placed.page; class = w.class; replaced = w.replaced }
+
+-- a page that got no run
+abbrev pub same : {V : Type 0} → Placed V → Worked V
+same p = record { placed = p; class = Same; replaced = false }
+
+-- of the pages of a level after their runs, those that are away from the table, in order; each other got no run and is at
+-- home in it
+pub data AreSeen {V : Type 0} (of : Page V → PageOfKind) (t : Mapping PageOfKind) : List SeenPage → List (Worked V) → Type 0 where
+  none : AreSeen of t [] []
+  worked : {xs : List SeenPage} {ws : List (Worked V)} → (w : Worked V) → place_of t w.placed.pid ≡ Some None → AreSeen of t xs ws → AreSeen of t (shown of w ∷ xs) (w ∷ ws)
+  at_home : {xs : List SeenPage} {ws : List (Worked V)} → (p : Placed V) → place_of t p.pid ≡ Some (Some (of p.page)) → AreSeen of t xs ws → AreSeen of t xs (same p ∷ ws)
+
+-- the pids of pages after their runs
+abbrev pub worked_pids : {V : Type 0} → List (Worked V) → List ℕ
+worked_pids ws = map (λ w. w.placed.pid) ws
+
+-- those that were replaced
+abbrev pub replaced_among : {V : Type 0} → List (Worked V) → List (Worked V)
+replaced_among ws = filter (λ w. w.replaced) ws
+
+-- whether the class is thin or fat
+abbrev pub calls : Class → Bool
+calls c = is_thin_class c || is_fat_class c
+
+-- ---- families that change
+
+-- a parent with the groups of its children that are rewritten
+pub record Changing (V : Type 0) : Type 0 where
+  pub parent : Placed ℕ
+  pub groups : List (List (Worked V))
+
+-- of the groups of one parent's children those that are rewritten
+abbrev pub rewritten : {V : Type 0} → List (Worked V) → List (List (Worked V))
+rewritten f = filter is_rewritten (groups is_thin f)
+
+-- a parent with those of its family
+abbrev pub changing_family : {V : Type 0} → Placed ℕ → List (Worked V) → Changing V
+changing_family p f = record { parent = p; groups = rewritten f }
+
+-- with this parent in front, unless it has no such groups
+abbrev pub with_changing : {V : Type 0} → List (List (Worked V)) → Changing V → List (Changing V) → List (Changing V)
+with_changing [] c cs = cs
+with_changing (g ∷ gs) c cs = c ∷ cs
+
+-- the parents of a level some of whose children are in a group that is rewritten, with these groups, from left to right
+abbrev pub changing : {V : Type 0} → List (Placed ℕ) → List (Worked V) → List (Changing V)
+changing [] ws = []
+changing (p ∷ ps) ws =
+    let c : Changing _ = changing_family p (take (length (entries p)) ws) in
+    with_changing c.groups c (changing ps (drop (length (entries p)) ws))
+
+-- these parents
+abbrev pub parents_of : {V : Type 0} → List (Changing V) → List (Placed ℕ)
+parents_of chs = map (λ c. c.parent) chs
+
+-- all of their groups
+abbrev pub changing_groups : {V : Type 0} → List (Changing V) → List (List (Worked V))
+changing_groups chs = flat_map (λ c. c.groups) chs
+
+-- what is made of these groups; i fresh pids were given out before
+abbrev pub changing_changes : {V : Type 0} → Settings → List ℕ → ℕ → List (Changing V) → List (List (Change V))
+changing_changes s used i [] = []
+changing_changes s used i (c ∷ chs) =
+    let d : List (Change _) = changes s used i c.groups in
+    d ∷ changing_changes s used (i + length (fresh_of d)) chs
+
+-- of all parents of a level: the pages that are freed
+abbrev pub all_freed : {V : Type 0} → List (List (Change V)) → List (Placed V)
+all_freed css = flat_map freed_of css
+
+-- runs for all pages of a level, where only these pages have one that isn't empty
+pub data AreRunsOf {V : Type 0} : List (Placed V) → List (List (List ℕ × Option V)) → List (Placed V) → List (List (List ℕ × Option V)) → Type 0 where
+  none : AreRunsOf [] [] [] []
+  told : {ps qs : List (Placed V)} {runs rs : List (List (List ℕ × Option V))} → (p : Placed V) → (run : List (List ℕ × Option V)) → AreRunsOf ps runs qs rs → AreRunsOf (p ∷ ps) (run ∷ runs) (p ∷ qs) (run ∷ rs)
+  untold : {ps qs : List (Placed V)} {runs rs : List (List (List ℕ × Option V))} → (p : Placed V) → AreRunsOf ps runs qs rs → AreRunsOf (p ∷ ps) ([] ∷ runs) qs rs
+
+-- ---- tables
+
+-- the pages are at home in the table
+abbrev pub AreHome : {V : Type 0} → (Page V → PageOfKind) → Mapping PageOfKind → List (Placed V) → Type 0
+AreHome of t ps = AllByRecursion (λ p. place_of t p.pid ≡ Some (Some (of p.page))) ps
+
+-- from one table to the next what is made by changes came home and what they free lost its place; all else stayed
+pub record IsInstalled {V : Type 0} (of : Page V → PageOfKind) (before after : Mapping PageOfKind) (cs : List (Change V)) : Type 0 where
+  pub new : AreHome of after (new_of cs)
+  pub freed : AllByRecursion (λ p. place_of after p.pid ≡ None) (freed_of cs)
+  pub others : (pid : ℕ) → is_among pid (pids (new_of cs) ++ pids (freed_of cs)) ≡ false → place_of after pid ≡ place_of before pid
