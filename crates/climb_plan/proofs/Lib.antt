@@ -23,4 +23,5 @@ mod RowThirteen
 mod RowTwelve
 mod Sizes
 mod Standing
+pub mod ToldRuns
 mod Untouched
