@@ -1,4 +1,5 @@
 mod AllThinLeaves
+pub mod ChangingGroups
 mod Climbs
 mod CutUnderTwoParents
 mod Families
@@ -22,4 +23,5 @@ mod RowThirteen
 mod RowTwelve
 mod Sizes
 mod Standing
+pub mod ToldRuns
 mod Untouched

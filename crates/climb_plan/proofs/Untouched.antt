@@ -18,22 +18,18 @@ use Rattle.mapping.specs.Proper.{Stacked, IsBranchedTop, IsProper}
 use Rattle.mapping.proofs.TableOfLevels.{by_pid-unique}
 use Rattle.mapping.proofs.TileLaws.{Names}
 use Rattle.page_runs.specs.NetRun.{touched, net_run}
-use Rattle.page_runs.specs.declared.class.Class.TheVariants.{Same}
 use Rattle.page_runs.specs.Worked.{Worked, is_thin}
 use Rattle.split_plan.specs.Groups.{Gathered, gathered, groups}
 use Rattle.split_plan.specs.WorkedLevel.{worked_leaves, worked_parents}
 use Rattle.split_plan.specs.Change.{Change, changes, family_changes, new_of, fresh_of, all_new, all_fresh, outdated, all_outdated}
 use Rattle.split_plan.specs.Terms.{freed_of, terms}
+use Rattle.climb_plan.specs.Changing.{same}
 use Rattle.climb_plan.specs.Climb.{families, Climbed, climb, is_lone, kept_under, kept}
 use Rattle.mapping.specs.Outdate.{outdate_all}
 use Rattle.climb_plan.specs.Plan.{climbed, planned_levels, planned_tree, shrunk, shrunk_pids, outdated_pids}
 use Rattle.climb_plan.proofs.Families.{families_by_length}
 
 -- ---- pages without a run
-
--- a page that got no run
-abbrev same : {V : Type 0} → Placed V → Worked V
-same p = record { placed = p; class = Same; replaced = false }
 
 abbrev all_same : {V : Type 0} → List (Placed V) → List (Worked V)
 all_same ps = map same ps
