@@ -5,6 +5,7 @@ use Rattle.index_page.specs.Page.{PageOfKind}
 use Rattle.index_page.specs.Page.PageOfKind.{Leaf, Index}
 use Rattle.keys.specs.declared.settings.Settings.{Settings}
 use Rattle.mapping.specs.Proper.{Distinct}
+use Rattle.mapping.specs.Tree.Logged.{Old}
 use Rattle.mapping.specs.Table.{Mapping, place_of, page_of, with_place, outdated, freed}
 use Rattle.page_runs.specs.TermWork.{TermHeld, index_made}
 use Rattle.page_runs.specs.Worked.{Worked}
@@ -101,3 +102,9 @@ pub record CanInstall (t : Mapping PageOfKind) (r : Remade) : Type 0 where
 abbrev pub CanInstallAll : Mapping PageOfKind → List Remade → Type 0
 CanInstallAll t [] = ⊤
 CanInstallAll t (r ∷ rs) = CanInstall t r × CanInstallAll (group_installed t r) rs
+
+-- ---- the log
+
+-- of a pid without a place the log has something old at the most
+abbrev pub AreLost : Mapping PageOfKind → Type 0
+AreLost t = AllByRecursion (λ l. place_of t l.0 ≡ None → l.1 ≡ Old) t.logged
