@@ -1,15 +1,19 @@
 -- What a climb does to the mapping table, one page after the other.
-use Rattle.std.specs.Prelude.{◌≡◌, ℕ, suc, ◌<◌, ⊤, List, [], ◌∷◌, ◌++◌, drop, length, Option, Some, None, IsSome, if◌then◌else◌}
+use Rattle.std.specs.Prelude.{◌≡◌, ℕ, suc, ◌<◌, ⊤, false, List, [], ◌∷◌, ◌++◌, flat_map, reverse, drop, length, Option, Some, None, IsSome, if◌then◌else◌}
 use Rattle.std.specs.List.{AllByRecursion}
 use Rattle.index_page.specs.Page.{PageOfKind}
 use Rattle.index_page.specs.Page.PageOfKind.{Leaf, Index}
 use Rattle.keys.specs.declared.settings.Settings.{Settings}
-use Rattle.mapping.specs.Proper.{Distinct}
+use Rattle.mapping.specs.FreshPids.{is_among}
+use Rattle.mapping.specs.Levels.{Placed, pids}
+use Rattle.mapping.specs.Proper.{Distinct, AreRisingPids}
 use Rattle.mapping.specs.Tree.Logged.{Old}
-use Rattle.mapping.specs.Table.{Mapping, place_of, page_of, with_place, outdated, freed}
+use Rattle.mapping.specs.Table.{Mapping, pids_in_use, place_of, page_of, with_place, outdated, freed}
 use Rattle.page_runs.specs.TermWork.{TermHeld, index_made}
 use Rattle.page_runs.specs.Worked.{Worked}
 use Rattle.climb_plan.specs.Changing.{SeenPage}
+use Rattle.mapping.specs.TreeInMemory.{TreeInMemory}
+use Rattle.climb_plan.specs.Climb.{kept}
 use Rattle.climb_plan.specs.Rewriting.{Remade}
 
 -- ---- pages are taken and put back
@@ -102,6 +106,23 @@ pub record CanInstall (t : Mapping PageOfKind) (r : Remade) : Type 0 where
 abbrev pub CanInstallAll : Mapping PageOfKind → List Remade → Type 0
 CanInstallAll t [] = ⊤
 CanInstallAll t (r ∷ rs) = CanInstall t r × CanInstallAll (group_installed t r) rs
+
+-- ---- levels grow
+
+-- levels of index pages came home, where their pids had no place; all else of the tree stayed
+pub record AreGrown (before after : TreeInMemory) (ls : List (List (Placed ℕ))) : Type 0 where
+  pub new : AllByRecursion (AllByRecursion (λ p. place_of after.table p.pid ≡ Some (Some (Index p.page)))) ls
+  pub others : (pid : ℕ) → is_among pid (flat_map pids ls) ≡ false → place_of after.table pid ≡ place_of before.table pid
+  pub rising : AreRisingPids (pids_in_use after.table)
+  pub logged : after.table.logged ≡ before.table.logged
+  pub root : after.root ≡ before.root
+  pub height : after.height ≡ before.height
+
+-- ---- the root shrinks
+
+-- the pids of the levels that go with the old root, the highest first
+abbrev pub shrunk_from_top : List (List (Placed ℕ)) → List ℕ
+shrunk_from_top ls = reverse (flat_map pids (drop (length (kept ls)) ls))
 
 -- ---- the log
 

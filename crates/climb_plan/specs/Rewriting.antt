@@ -88,7 +88,7 @@ pub record AreParents (t : TreeInMemory) (depth : ℕ) (ps : List (Placed ℕ)) 
   pub first : next_low ps None ≡ Some []
   pub stacked : Stacked ps ups
   pub root : t.root ≡ top_pid ps ups
-  pub depth : depth ≡ length ups
+  pub far : depth ≡ length ups
 
 -- a level of pages under these parents, of which these got a run
 pub record IsLevelSeen (t : TreeInMemory) (depth : ℕ) (xs all : List SeenPage) (ps : List (Placed ℕ)) (ups : List (List (Placed ℕ))) : Type 0 where

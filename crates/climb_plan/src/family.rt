@@ -1,6 +1,6 @@
 //! Which groups of a level are rewritten, found from the pages that call for it: thin ones and fat ones. Only their parents
 //! are visited.
-ghost use Rattle.std.specs.Prelude.{◌≡◌, ◌×◌, ℕ, List, IfOk};
+ghost use Rattle.std.specs.Prelude.{◌≡◌, ℕ, List, IfOk};
 ghost use Rattle.mapping.specs.Levels.{Placed};
 ghost use Rattle.climb_plan.specs.Changing.{SeenPage};
 ghost use Rattle.climb_plan.specs.Rewriting.{all_seen, IsLevelSeen, rewriting, counted, groups_of, is_rewritten_seen};
@@ -15,7 +15,7 @@ use std::alloc::{AllocError, Global};
 
 /// The groups of a level that are rewritten, from left to right, and their parents.
 #[derive(Drop)]
-pub(crate) struct Rewrites<'a> {
+pub(crate) struct ToRewrite<'a> {
     /// Each parent of such groups, as a number, with how many of the groups are of its children.
     pub(crate) parents: Vec<(u64, usize)>,
     /// The members of each group.
@@ -29,14 +29,14 @@ pub(crate) fn rewrites<'a>(
     tree: &'a Tree<Global>,
     depth: u32,
     seen: &'a [Seen<'a>],
-) -> Result<Rewrites<'a>, AllocError>
+) -> Result<ToRewrite<'a>, AllocError>
     requires { (all : List SeenPage) × (ps : List (Placed ℕ)) × (ups : List (List (Placed ℕ))) × IsLevelSeen tree.now depth (all_seen seen.now) all ps ups }
     ensures parents { IfOk result (λ r. (all : List SeenPage) (ps : List (Placed ℕ)) (ups : List (List (Placed ℕ))) → IsLevelSeen tree.now depth (all_seen seen.now) all ps ups →
         r.parents.items ≡ counted (rewriting ps all)) }
     ensures groups { IfOk result (λ r. (all : List SeenPage) (ps : List (Placed ℕ)) (ups : List (List (Placed ℕ))) → IsLevelSeen tree.now depth (all_seen seen.now) all ps ups →
         map (λ g. all_seen g.items) r.groups.items ≡ groups_of (rewriting ps all)) }
 {
-    let mut rewrites = Rewrites {
+    let mut rewrites = ToRewrite {
         parents: Vec::new(alloc),
         groups: Vec::new(alloc),
     };
@@ -72,7 +72,7 @@ fn add_family<'a>(
     tree: &'a Tree<Global>,
     parent: Pid,
     seen: &[Seen<'a>],
-    rewrites: &mut Rewrites<'a>,
+    rewrites: &mut ToRewrite<'a>,
 ) -> Result<usize, AllocError> {
     let Some(page) = tree.page(parent) else {
         unreachable!()
