@@ -3,6 +3,7 @@ pub mod CutLaws
 mod Exchange
 pub mod ExchangeLaws
 pub mod GroupLaws
+mod LentPieces
 pub mod OutdatedLaws
 pub mod PidLaws
 pub mod Renewed
