@@ -4,6 +4,7 @@ mod Exchange
 pub mod ExchangeLaws
 pub mod GroupLaws
 mod GroupSizes
+mod LentPieces
 pub mod OutdatedLaws
 pub mod PidLaws
 pub mod Renewed

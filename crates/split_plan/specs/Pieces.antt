@@ -1,5 +1,6 @@
 -- The pages that are made of a group, without names.
-use Rattle.std.specs.Prelude.{ℕ, ⊤, List, [], ◌∷◌, map, flat_map}
+use Rattle.std.specs.Prelude.{ℕ, List, [], ◌∷◌, map, flat_map}
+use Rattle.std.specs.Borrow.{Bor}
 use Rattle.std.specs.List.{AllByRecursion}
 use Rattle.keys.specs.Order.{IsRising}
 use Rattle.keys.specs.declared.settings.Settings.{Settings}
@@ -32,3 +33,12 @@ abbrev pub CanJoin : List PageOfKind → Type 0
 CanJoin [] = ⊥
 CanJoin (Leaf p ∷ ms) = AllByRecursion IsLeaf ms × IsRising (joined_pages (map leaf_of (Leaf p ∷ ms)))
 CanJoin (Index p ∷ ms) = AllByRecursion IsIndex ms × IsRising (joined_pages (map index_of (Index p ∷ ms)))
+
+-- the pages that references point to
+abbrev pub pages_lent : List (Bor PageOfKind) → List PageOfKind
+pages_lent lent = map (λ page. page.now) lent
+
+-- what the members of a group are, and the pages that were made of them
+pub record GroupRemade : Type 0 where
+  pub held : List PageOfKind
+  pub made : List PageOfKind

@@ -5,11 +5,15 @@
 //! parent gets.
 #![tactic(auto)]
 
+mod cutting;
+pub mod group_work;
 pub mod grouping;
+mod kind;
 pub mod laws;
 pub mod name;
 pub mod parent_run;
 
+pub use crate::group_work::{GroupDone, GroupJob, GroupWork, index_pages};
 pub use crate::grouping::groups;
 pub use crate::name::Name;
 pub use crate::parent_run::terms;

@@ -1,0 +1,7 @@
+use Rattle.std.proofs.Common.{◌≡◌, ◌++◌, drop}
+use Rattle.delta_chain.specs.Lent.{pairs_lent}
+use Rattle.split_plan.proofs.cutting.copied.Given as goal
+
+-- the copies so far, and the entries behind the place, are the entries
+abbrev pub invariant-loop-entry : goal.invariant-loop-entry
+invariant-loop-entry g l = l.builder ++ drop l.entry-index (pairs_lent l.entries) ≡ pairs_lent l.entries

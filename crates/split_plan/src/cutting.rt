@@ -1,0 +1,128 @@
+//! Entries that are lent by pages, and the new pages of nearly the same length that they are cut into.
+ghost use Rattle.std.specs.Prelude.{◌≡◌, ◌<◌, ◌≤◌, ◌*◌, ◌/◌, ◌++◌, map, length, IfOk, OnOk};
+ghost use Rattle.std.specs.List.{AllByRecursion};
+ghost use Rattle.keys.specs.Order.{IsRising};
+ghost use Rattle.delta_chain.specs.Lent.{pairs_lent};
+ghost use Rattle.index_page.specs.Page.{bare, first_key};
+ghost use Rattle.split_plan.specs.Cut.{piece_count, cut};
+ghost use Rattle.split_plan.specs.Pieces.{pages_lent, joined_pages, pages_from};
+
+use crate::kind::Kind;
+use delta_chain::{Base, BaseBuilder, Pairs, PushError};
+use index_page::Page;
+use keys::{Cell, Key};
+use std::alloc::{AllocError, Global};
+
+/// The entries of these pages of one kind, lent, from the first page to the last.
+pub(crate) fn joined<'a, V: Kind>(
+    alloc: Global,
+    members: &[&'a Page<Global>],
+) -> Result<Vec<(&'a [u8], &'a V)>, AllocError>
+    requires { AllByRecursion V.is_of (pages_lent members.now) }
+    ensures { IfOk result (λ entries. pairs_lent entries.items ≡ joined_pages (map V.taken (pages_lent members.now))) }
+{
+    let mut entries = Vec::new(alloc);
+    for member in members {
+        let pairs = V::chain(*member).pairs(alloc)?;
+        push_pairs(&mut entries, &pairs)?;
+    }
+    Ok(entries)
+}
+
+// Puts the pairs behind the others.
+fn push_pairs<'a, V>(
+    entries: &mut Vec<(&'a [u8], &'a V)>,
+    pairs: &Pairs<'a, V, Global>,
+) -> Result<(), AllocError>
+    ensures { OnOk result (pairs_lent entries.new.items ≡ pairs_lent entries.old.items ++ pairs.now) }
+{
+    entries.reserve(pairs.len())?;
+    for at in 0..pairs.len() {
+        entries.push_reserved((pairs.key(at), pairs.cell(at)));
+    }
+    Ok(())
+}
+
+/// The pages that these entries are cut into: the first has this low key, each other its own first key.
+pub(crate) fn cut_pages<'a, V: Kind>(
+    alloc: Global,
+    fan: u32,
+    low: &'a [u8],
+    entries: &[(&'a [u8], &'a V)],
+) -> Result<Vec<Page<Global>>, AllocError>
+    requires fan { 0 < fan }
+    requires rising { IsRising (pairs_lent entries.now) }
+    ensures { IfOk result (λ pages. pages.items ≡ map V.made (pages_from low.now (cut fan (pairs_lent entries.now)))) }
+{
+    let count = piece_count(fan, entries.len());
+    let mut pages = Vec::with_capacity(alloc, count)?;
+    for at in 0..count {
+        let piece = &entries[begin(at, entries.len(), count)..begin(at + 1, entries.len(), count)];
+        let piece_low = if at == 0 { low } else { first_key(piece) };
+        pages.push_reserved(bare_page(alloc, piece_low, piece)?);
+    }
+    Ok(pages)
+}
+
+// How many pieces so many entries are cut into.
+fn piece_count(fan: u32, entries: usize) -> usize
+    requires { 0 < fan }
+    ensures { result ≡ piece_count fan entries }
+{
+    entries.div_ceil(fan as usize).max(1)
+}
+
+// Where the piece at this place begins; the one behind the last, where the entries end.
+fn begin(at: usize, entries: usize, pieces: usize) -> usize
+    requires some { 0 < pieces }
+    requires within { at ≤ pieces }
+    ensures place { result ≡ at * entries / pieces }
+    ensures within { result ≤ entries }
+{
+    // The product may have twice as many bits.
+    (at as u128 * entries as u128 / pieces as u128) as usize
+}
+
+/// The first key, and the empty key where there is none.
+pub(crate) fn first_key<'a, V>(entries: &[(&'a [u8], &'a V)]) -> &'a [u8]
+    ensures { result.now ≡ first_key (pairs_lent entries.now) }
+{
+    match entries.first() {
+        Some(entry) => entry.0,
+        None => &[],
+    }
+}
+
+// The page with this low key whose base has copies of the entries.
+fn bare_page<V: Kind>(
+    alloc: Global,
+    low: &[u8],
+    entries: &[(&[u8], &V)],
+) -> Result<Page<Global>, AllocError>
+    requires { IsRising (pairs_lent entries.now) }
+    ensures { IfOk result (λ page. page ≡ V.made (bare low.now (pairs_lent entries.now))) }
+{
+    let low = Key::from_bytes(alloc, low)?;
+    let base = copied(alloc, entries)?;
+    Ok(V::page(low, base))
+}
+
+// The base of copies of the entries.
+fn copied<V: Cell<Global> + Drop>(
+    alloc: Global,
+    entries: &[(&[u8], &V)],
+) -> Result<Base<V, Global>, AllocError>
+    requires { IsRising (pairs_lent entries.now) }
+    ensures { IfOk result (λ base. base ≡ pairs_lent entries.now) }
+{
+    let mut builder = BaseBuilder::with_capacity(alloc, entries.len())?;
+    for entry in entries {
+        let cell = entry.1.copy(alloc)?;
+        match builder.push(entry.0, cell) {
+            Ok(()) => {}
+            Err(PushError::NoMemory) => return Err(AllocError),
+            Err(PushError::OutOfOrder) => unreachable!(),
+        }
+    }
+    Ok(builder.finish())
+}

@@ -1,0 +1,166 @@
+ghost use Rattle.std.specs.Prelude.{◌≡◌, ◌<◌, map, IfOk};
+ghost use Rattle.std.specs.List.{AllByRecursion};
+ghost use Rattle.keys.specs.Order.{IsRising};
+ghost use Rattle.index_page.specs.Page.{bare, first_key};
+ghost use Rattle.index_page.specs.Page.PageOfKind.{Index};
+ghost use Rattle.split_plan.specs.Cut.{cut};
+ghost use Rattle.split_plan.specs.Pieces.{pages_lent, CanJoin, group_made, joined_pages, pieces_of};
+
+use crate::cutting::{cut_pages, first_key, joined};
+use crate::kind::Kind;
+use crate::name::Name;
+use crew::{Turn, Work};
+use index_page::Page;
+use keys::{Pid, Settings, Value};
+use std::alloc::{AllocError, Global};
+use std::marker::{Model, PhantomData};
+
+/// The work on a group of pages that is rewritten: the members, which are lent, go in; the pages that their entries,
+/// joined and cut, are put into come out.
+#[derive(Drop)]
+pub struct GroupWork<'a> {
+    /// Where the new pages are allocated.
+    pub alloc: Global,
+    /// The store's settings, of which `fan` is looked at.
+    pub settings: Settings,
+    /// The pages that are lent.
+    pub lent: PhantomData<&'a Page<Global>>,
+}
+
+/// The members of a group, in order.
+#[derive(Drop)]
+pub struct GroupJob<'a> {
+    pub members: Vec<&'a Page<Global>>,
+}
+
+/// The pages that were made of a group, with its members, which give the job back. Contracts see it as what the members
+/// are and what was made of them.
+#[derive(Drop)]
+pub struct GroupDone<'a> {
+    members: Vec<&'a Page<Global>>,
+    pieces: Vec<Page<Global>>,
+}
+
+impl<'a> Model for GroupDone<'a> {
+    ghost use Rattle.split_plan.specs.Pieces.{GroupRemade, pages_lent};
+
+    ghost Value = { GroupRemade };
+
+    ghost view = { λ d. record { held = pages_lent d.members.items; made = d.pieces.items } };
+}
+
+impl<'a> GroupDone<'a> {
+    /// The pages that were made.
+    pub fn pieces(&self) -> &[Page<Global>]
+        ensures { result.now ≡ self.now.made }
+    {
+        &self.pieces
+    }
+
+    /// The pages that were made, for good: the job cannot be given back any more.
+    pub fn into_pieces(self) -> Vec<Page<Global>>
+        ensures { result.items ≡ self.entry.made }
+    {
+        let GroupDone {
+            members: _members,
+            pieces,
+        } = self;
+        pieces
+    }
+}
+
+impl<'a> Work for GroupWork<'a> {
+    ghost use Rattle.std.specs.Prelude.{◌<◌, List};
+    ghost use Rattle.index_page.specs.Page.{PageOfKind};
+    ghost use Rattle.split_plan.specs.Pieces.{pages_lent, CanJoin, group_made};
+
+    type Job = GroupJob<'a>;
+
+    type Done = GroupDone<'a>;
+
+    ghost Held = { List PageOfKind };
+
+    ghost Made = { List PageOfKind };
+
+    ghost accepts = { λ w h. (0 < w.settings.fan) × CanJoin h };
+
+    ghost held = { λ j. pages_lent j.members.items };
+
+    ghost can_undo = { λ w d. Unit {0} };
+
+    ghost origin = { λ d. d.held };
+
+    ghost outcome = { λ d. d.made };
+
+    ghost made = { λ w h. group_made w.settings h };
+
+    fn work(&self, job: GroupJob<'a>) -> Turn<GroupJob<'a>, GroupDone<'a>> {
+        match remade(self.alloc, &self.settings, &job.members) {
+            Ok(pieces) => Turn::Done(GroupDone {
+                members: job.members,
+                pieces,
+            }),
+            Err(_) => Turn::Back(job),
+        }
+    }
+
+    fn undo(&self, done: GroupDone<'a>) -> GroupJob<'a> {
+        GroupJob {
+            members: done.members,
+        }
+    }
+}
+
+// The pages that are made of the members.
+fn remade<'a>(
+    alloc: Global,
+    settings: &Settings,
+    members: &[&'a Page<Global>],
+) -> Result<Vec<Page<Global>>, AllocError>
+    requires fan { 0 < settings.now.fan }
+    requires members { CanJoin (pages_lent members.now) }
+    ensures { IfOk result (λ pages. pages.items ≡ group_made settings.now (pages_lent members.now)) }
+{
+    match members.first() {
+        Some(first) if first.as_leaf().is_some() => remade_as::<Value<Global>>(
+            alloc, settings, members,
+        ),
+        Some(_) => remade_as::<Pid>(alloc, settings, members),
+        None => unreachable!(),
+    }
+}
+
+// The same of members of one kind.
+fn remade_as<'a, V: Kind + 'a>(
+    alloc: Global,
+    settings: &Settings,
+    members: &[&'a Page<Global>],
+) -> Result<Vec<Page<Global>>, AllocError>
+    requires fan { 0 < settings.now.fan }
+    requires kind { AllByRecursion V.is_of (pages_lent members.now) }
+    requires rising { IsRising (joined_pages (map V.taken (pages_lent members.now))) }
+    ensures { IfOk result (λ pages. pages.items ≡ map V.made (pieces_of settings.now (map V.taken (pages_lent members.now)))) }
+{
+    let Some(first) = members.first() else {
+        return Ok(Vec::new(alloc));
+    };
+    let entries = joined::<V>(alloc, members)?;
+    cut_pages::<V>(alloc, settings.fan, first.low(), &entries)
+}
+
+/// The index pages that these names of children are cut into, each with its first child's low key as its own.
+pub fn index_pages(
+    alloc: Global,
+    settings: &Settings,
+    names: &[Name],
+) -> Result<Vec<Page<Global>>, AllocError>
+    requires fan { 0 < settings.now.fan }
+    requires rising { IsRising names.now }
+    ensures { IfOk result (λ pages. pages.items ≡ map (λ b. Index (bare (first_key b) b)) (cut settings.now.fan names.now)) }
+{
+    let mut entries = Vec::with_capacity(alloc, names.len())?;
+    for name in names {
+        entries.push_reserved((name.low.as_bytes(), &name.pid));
+    }
+    cut_pages::<Pid>(alloc, settings.fan, first_key(&entries), &entries)
+}

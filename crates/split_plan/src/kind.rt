@@ -1,0 +1,87 @@
+ghost use Rattle.std.specs.Prelude.{◌≡◌};
+ghost use Rattle.index_page.specs.Page.{bare};
+
+use delta_chain::{Base, Chain};
+use index_page::Page;
+use keys::{Cell, Key, Pid, Value};
+use std::alloc::Global;
+
+/// A kind of page, by the cells that its pages have: values for leaves, page ids for index pages.
+pub(crate) trait Kind: Cell<Global> + Drop {
+    ghost use Rattle.std.specs.Prelude.{List, ℕ};
+    ghost use Rattle.index_page.specs.Page.{Page as PageOf, PageOfKind, low_of};
+
+    // Which pages are of this kind.
+    ghost is_of: { PageOfKind → Type 0 };
+
+    // The page that one of this kind is, and the one of this kind that a page is.
+    ghost taken: { PageOfKind → PageOf Self };
+
+    ghost made: { PageOf Self → PageOfKind };
+
+    /// The state of a page of this kind.
+    fn chain(page: &Page<Global>) -> &Chain<Self, Global>
+        requires { is_of page.now }
+        ensures { result.now ≡ (taken page.now).layers };
+
+    /// The page of this low key and this base.
+    fn page(low: Key<Global>, base: Base<Self, Global>) -> Page<Global>
+        ensures { result ≡ made (bare low base) };
+
+    // It is one page still.
+    ghost keeps_low: { (p : PageOfKind) → (taken p).low ≡ low_of p };
+}
+
+impl Kind for Value<Global> {
+    ghost use Rattle.std.specs.Prelude.{refl};
+    ghost use Rattle.index_page.specs.Page.{IsLeaf, leaf_of};
+    ghost use Rattle.index_page.specs.Page.PageOfKind.{Leaf, Index};
+
+    ghost is_of = { IsLeaf };
+
+    ghost taken = { leaf_of };
+
+    ghost made = { Leaf };
+
+    ghost keeps_low = { elim [ Leaf p ↦ refl | Index p ↦ refl ] };
+
+    fn chain(page: &Page<Global>) -> &Chain<Self, Global> {
+        match page.as_leaf() {
+            Some(chain) => chain,
+            None => unreachable!(),
+        }
+    }
+
+    fn page(low: Key<Global>, base: Base<Self, Global>) -> Page<Global>
+        ensures { result ≡ Leaf (bare low base) }
+    {
+        Page::leaf(low, Chain::of_base(base))
+    }
+}
+
+impl Kind for Pid {
+    ghost use Rattle.std.specs.Prelude.{refl};
+    ghost use Rattle.index_page.specs.Page.{IsIndex, index_of};
+    ghost use Rattle.index_page.specs.Page.PageOfKind.{Leaf, Index};
+
+    ghost is_of = { IsIndex };
+
+    ghost taken = { index_of };
+
+    ghost made = { Index };
+
+    ghost keeps_low = { elim [ Leaf p ↦ refl | Index p ↦ refl ] };
+
+    fn chain(page: &Page<Global>) -> &Chain<Self, Global> {
+        match page.as_index() {
+            Some(chain) => chain,
+            None => unreachable!(),
+        }
+    }
+
+    fn page(low: Key<Global>, base: Base<Self, Global>) -> Page<Global>
+        ensures { result ≡ Index (bare low base) }
+    {
+        Page::index(low, Chain::of_base(base))
+    }
+}
