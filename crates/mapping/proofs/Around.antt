@@ -41,7 +41,7 @@ module _ {V : Type 0} (k : ℕ) where
   lookup_past [] fs b = refl
   lookup_past (e ∷ es) fs b = rw (is_greater k e.0 b.0) (lookup_past es fs b.1)
 
-  lookup_none : (fs : List (ℕ × V)) → AllByRecursion (λ n. k < n) (keys_of fs) → lookup (is_pid k) fs ≡ None
+  pub lookup_none : (fs : List (ℕ × V)) → AllByRecursion (λ n. k < n) (keys_of fs) → lookup (is_pid k) fs ≡ None
   lookup_none [] a = refl
   lookup_none (f ∷ fs) a = rw (is_less k f.0 a.0) (lookup_none fs a.1)
 

@@ -21,7 +21,7 @@ pub record AreDrawn (used pids : List ℕ) (m count next : ℕ) : Type 0 where
   pub left : next ≤ unused used m
   pub passed : (j : ℕ) → j < m → unused used j < next
 
-fresh_pids-more : (used : List ℕ) (n : ℕ) → fresh_pids used (n + 1) ≡ fresh_pids used n ++ unused used n ∷ []
+pub fresh_pids-more : (used : List ℕ) (n : ℕ) → fresh_pids used (n + 1) ≡ fresh_pids used n ++ unused used n ∷ []
 fresh_pids-more used n = map-range_with_len_more (unused used) 0 n n (omega arith)
 
 module _ (used : List ℕ) (rising : AreRisingPids used) where

@@ -1,14 +1,12 @@
 -- Lemmas on the pages of a tree in memory, for the proofs of this crate and of those above it.
 use Rattle.std.specs.Prelude.{◌≡◌, ℕ, Bool, true, false, cond, List, [], ◌∷◌, Option, Some, None, IsSome}
-use Rattle.std.proofs.Common.{refl, ap, ◌∙◌}
+use Rattle.std.proofs.Common.{refl}
 use Rattle.std.specs.Ordering.{nat_cmp, is_eq}
 use Rattle.std.specs.List.{AllByRecursion}
 use Rattle.std.specs.Map.{lookup}
 use Rattle.mapping.specs.Tree.{listed_at}
 use Rattle.mapping.specs.Table.{is_pid, at_home}
-use Rattle.mapping.specs.Slots.{entry_if}
 use Rattle.mapping.specs.TreeInMemory.{home_pages}
-use Rattle.std.proofs.lemmas.Grind.{flat_map-append}
 
 module _ {P : Type 0} where
   found_by : (b : Bool) (p : P) (later : Option (Option P)) (here : Option P) → at_home later ≡ here → at_home (cond b (Some (Some p)) later) ≡ cond b (Some p) here

@@ -44,7 +44,7 @@ module _ {V : Type 0} (q k : ℕ) where
   among-remove_entry [] d h = absurd (cc)
   among-remove_entry (e ∷ es) d h = remove_by (is_eq (nat_cmp k e.0)) e es (remove_entry (is_pid k) es) refl d h (among-remove_entry es d)
 
-is_eq_same : (m n : ℕ) → m ≡ n → is_eq (nat_cmp m n) ≡ true
+pub is_eq_same : (m n : ℕ) → m ≡ n → is_eq (nat_cmp m n) ≡ true
 is_eq_same m n e = ap (λ (x : ℕ). is_eq (nat_cmp m x)) (sym e) ∙ ap is_eq (tied_itself total m)
 
 module _ {V : Type 0} (k : ℕ) where

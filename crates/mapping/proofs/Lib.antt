@@ -1,10 +1,13 @@
 mod Around
+mod DrawnPlaces
 mod FindingRow
 mod FirstTree
+pub mod FlushedSlots
 mod FreshLaws
 pub mod HomePages
 mod InUse
 pub mod Joined
+mod KnownPids
 mod Level
 pub mod LevelLaws
 mod Listing

@@ -93,7 +93,7 @@ module _ {S V : Type 0} (pid : S → ℕ) (say : S → Option V) where
   keys_by P n None es p a = a
   keys_by P n (Some v) es p a = (p, a)
 
-  keys-listing : (P : ℕ → Type 0) (ss : List S) → AllByRecursion P (map pid ss) → AllByRecursion P (keys_of (listing ss))
+  pub keys-listing : (P : ℕ → Type 0) (ss : List S) → AllByRecursion P (map pid ss) → AllByRecursion P (keys_of (listing ss))
   keys-listing P [] a = tt
   keys-listing P (s ∷ ss) a = keys_by P (pid s) (say s) (listing ss) a.0 (keys-listing P ss a.1)
 

@@ -31,7 +31,7 @@ module _ {V : Type 0} where
   rest_by false n e es h z = rw h refl
 
   -- behind the first, a list says what it says, but nothing of the first pid
-  rest_listed : (n : ℕ) (e : ℕ × V) (es : List (ℕ × V)) → AreRisingPids (keys_of (e ∷ es)) → listed_at es n ≡ cond (is_eq (nat_cmp n e.0)) None (listed_at (e ∷ es) n)
+  pub rest_listed : (n : ℕ) (e : ℕ × V) (es : List (ℕ × V)) → AreRisingPids (keys_of (e ∷ es)) → listed_at es n ≡ cond (is_eq (nat_cmp n e.0)) None (listed_at (e ∷ es) n)
   rest_listed n e es r = rest_by (is_eq (nat_cmp n e.0)) n e es refl (none_below e.0 es r.0)
 
   same_by : (o : Ordering) (d e : ℕ × V) (ds es : List (ℕ × V)) → nat_cmp d.0 e.0 ≡ o → AreRisingPids (keys_of (d ∷ ds)) → AreRisingPids (keys_of (e ∷ es)) → ((n : ℕ) → listed_at (d ∷ ds) n ≡ listed_at (e ∷ es) n)

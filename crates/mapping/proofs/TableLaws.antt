@@ -11,7 +11,7 @@ use Rattle.std.proofs.lemmas.List.{map-append}
 use Rattle.index_page.specs.Page.{PageOfKind}
 use Rattle.index_page.specs.Page.PageOfKind.{Leaf, Index}
 use Rattle.index_page.proofs.ListLaws.{all-append, all_apart}
-use Rattle.mapping.specs.Tree.{page_at}
+use Rattle.mapping.specs.Tree.{listed_at, page_at}
 use Rattle.mapping.specs.Levels.{Placed, Levels, pids, all_pids, leaf_pages, index_pages, all_pages, by_pid}
 use Rattle.mapping.specs.FreshPids.{is_among}
 use Rattle.mapping.specs.Proper.{Distinct, AreRisingPids, HasLeaves, HasIndexPages, HoldsLevels}
@@ -37,16 +37,7 @@ differ_by false m n e h = refl
 pub differ : (m n : ℕ) → m ≢ n → is_eq (nat_cmp m n) ≡ false
 differ m n h = differ_by (is_eq (nat_cmp m n)) m n refl h
 
--- ---- a table that is made of pages
-
-replace_by : (b : Bool) (v w : PageOfKind) (r : Option PageOfKind) → cond b (Some v) r ≡ cond b (Some v) (cond b (Some w) r)
-replace_by true v w r = refl
-replace_by false v w r = refl
-
-apart_by : (b c : Bool) (v w : PageOfKind) (r : Option PageOfKind) → (b ≡ true → c ≡ true → ⊥) → cond c (Some w) (cond b (Some v) r) ≡ cond b (Some v) (cond c (Some w) r)
-apart_by true true v w r h = absurd (h refl refl)
-apart_by true false v w r h = refl
-apart_by false c v w r h = refl
+-- ---- a list by pid with one more entry
 
 not_both : (q k e : ℕ) → nat_cmp k e ≡ Greater → is_eq (nat_cmp q k) ≡ true → is_eq (nat_cmp q e) ≡ true → ⊥
 not_both q k e g a b =
@@ -55,20 +46,33 @@ not_both q k e g a b =
     let z : Equal ≡ Greater = sym y ∙ total.congr q k e x ∙ g in
     absurd (cc)
 
-insert_by : (o : Ordering) (e : ℕ × PageOfKind) (es rest : List (ℕ × PageOfKind)) (k : ℕ) (v : PageOfKind) (q : ℕ) → nat_cmp k e.0 ≡ o → page_at rest q ≡ cond (is_eq (nat_cmp q k)) (Some v) (page_at es q) → page_at (match_ordering o ((k, v) ∷ e ∷ es) ((e.0, v) ∷ es) (e ∷ rest)) q ≡ cond (is_eq (nat_cmp q k)) (Some v) (page_at (e ∷ es) q)
-insert_by Less e es rest k v q h ih = refl
-insert_by Equal e es rest k v q h ih = rw (alike_right total k e.0 q h) (replace_by (is_eq (nat_cmp q e.0)) v e.1 (page_at es q))
-insert_by Greater e es rest k v q h ih =
-    ap (λ (x : Option PageOfKind). cond (is_eq (nat_cmp q e.0)) (Some e.1) x) ih
-    ∙ apart_by (is_eq (nat_cmp q k)) (is_eq (nat_cmp q e.0)) v e.1 (page_at es q) (λ a b. not_both q k e.0 h a b)
+module _ {V : Type 0} where
+  replace_by : (b : Bool) (v w : V) (r : Option V) → cond b (Some v) r ≡ cond b (Some v) (cond b (Some w) r)
+  replace_by true v w r = refl
+  replace_by false v w r = refl
 
-pub page_at-insert_entry : (es : List (ℕ × PageOfKind)) (k : ℕ) (v : PageOfKind) (q : ℕ) → page_at (insert_entry nat_cmp es k v) q ≡ cond (is_eq (nat_cmp q k)) (Some v) (page_at es q)
-page_at-insert_entry [] k v q = refl
-page_at-insert_entry (e ∷ es) k v q = insert_by (nat_cmp k e.0) e es (insert_entry nat_cmp es k v) k v q refl (page_at-insert_entry es k v q)
+  apart_by : (b c : Bool) (v w : V) (r : Option V) → (b ≡ true → c ≡ true → ⊥) → cond c (Some w) (cond b (Some v) r) ≡ cond b (Some v) (cond c (Some w) r)
+  apart_by true true v w r h = absurd (h refl refl)
+  apart_by true false v w r h = refl
+  apart_by false c v w r h = refl
+
+  insert_by : (o : Ordering) (e : ℕ × V) (es rest : List (ℕ × V)) (k : ℕ) (v : V) (q : ℕ) → nat_cmp k e.0 ≡ o → listed_at rest q ≡ cond (is_eq (nat_cmp q k)) (Some v) (listed_at es q) → listed_at (match_ordering o ((k, v) ∷ e ∷ es) ((e.0, v) ∷ es) (e ∷ rest)) q ≡ cond (is_eq (nat_cmp q k)) (Some v) (listed_at (e ∷ es) q)
+  insert_by Less e es rest k v q h ih = refl
+  insert_by Equal e es rest k v q h ih = rw (alike_right total k e.0 q h) (replace_by (is_eq (nat_cmp q e.0)) v e.1 (listed_at es q))
+  insert_by Greater e es rest k v q h ih =
+      ap (λ (x : Option V). cond (is_eq (nat_cmp q e.0)) (Some e.1) x) ih
+      ∙ apart_by (is_eq (nat_cmp q k)) (is_eq (nat_cmp q e.0)) v e.1 (listed_at es q) (λ a b. not_both q k e.0 h a b)
+
+  -- what is listed once something is put under a pid
+  pub listed-insert_entry : (es : List (ℕ × V)) (k : ℕ) (v : V) (q : ℕ) → listed_at (insert_entry nat_cmp es k v) q ≡ cond (is_eq (nat_cmp q k)) (Some v) (listed_at es q)
+  listed-insert_entry [] k v q = refl
+  listed-insert_entry (e ∷ es) k v q = insert_by (nat_cmp k e.0) e es (insert_entry nat_cmp es k v) k v q refl (listed-insert_entry es k v q)
+
+-- ---- a table that is made of pages
 
 pub page_at-by_pid : (ps : List (ℕ × PageOfKind)) (q : ℕ) → page_at (by_pid ps) q ≡ page_at ps q
 page_at-by_pid [] q = refl
-page_at-by_pid (p ∷ ps) q = page_at-insert_entry (by_pid ps) p.0 p.1 q ∙ ap (λ (r : Option PageOfKind). cond (is_eq (nat_cmp q p.0)) (Some p.1) r) (page_at-by_pid ps q)
+page_at-by_pid (p ∷ ps) q = listed-insert_entry (by_pid ps) p.0 p.1 q ∙ ap (λ (r : Option PageOfKind). cond (is_eq (nat_cmp q p.0)) (Some p.1) r) (page_at-by_pid ps q)
 
 -- the table has each of these pages
 abbrev Has : List (ℕ × PageOfKind) → List (ℕ × PageOfKind) → Type 0

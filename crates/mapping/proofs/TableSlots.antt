@@ -17,7 +17,7 @@ use Rattle.mapping.specs.declared.slots.Slot.{Slot}
 use Rattle.mapping.proofs.InUse.{in_use-with_place, in_use-freed}
 use Rattle.mapping.proofs.Listing.{IsSlot, slot_read, found_within, pids-set, lookup-slot, insert-slot, remove-slot, same-slot, outdate-slot, lookup-gap, insert-gap, same-gap, outdate-gap}
 
-same_mapping : {P : Type 0} (a b : List (ℕ × Option P)) (c d : List (ℕ × Logged)) → a ≡ b → c ≡ d → ◌≡◌ {A = Mapping P} (record { places = a; logged = c }) (record { places = b; logged = d })
+pub same_mapping : {P : Type 0} (a b : List (ℕ × Option P)) (c d : List (ℕ × Logged)) → a ≡ b → c ≡ d → ◌≡◌ {A = Mapping P} (record { places = a; logged = c }) (record { places = b; logged = d })
 same_mapping {P} a b c d e f =
     let with_places : List (ℕ × Option P) → Mapping P = λ x. record { places = x; logged = c } in
     let with_logged : List (ℕ × Logged) → Mapping P = λ x. record { places = b; logged = x } in

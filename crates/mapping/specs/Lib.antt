@@ -1,4 +1,5 @@
 pub mod Finding
+pub mod Flushed
 pub mod FreshPids
 pub mod Levels
 pub mod LogState

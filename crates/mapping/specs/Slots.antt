@@ -1,11 +1,11 @@
 -- What the slots of a table stand for.
-use Rattle.std.specs.Prelude.{◌≡◌, ℕ, ◌<◌, ◌≤◌, true, List, [], ◌∷◌, map, take, drop, flat_map, length, slice_get, Option, Some, None}
-use Rattle.std.specs.List.{AllByRecursion}
+use Rattle.std.specs.Prelude.{◌≡◌, ℕ, ◌<◌, ◌≤◌, Bool, true, ◌||◌, List, [], ◌∷◌, map, take, drop, flat_map, length, slice_get, Option, Some, None, is_some}
+use Rattle.std.specs.List.{AllByRecursion, filter}
 use Rattle.mapping.specs.Tree.{Logged}
 use Rattle.mapping.specs.Tree.Logged.{No, Old, Upto}
 use Rattle.mapping.specs.FreshPids.{is_among}
 use Rattle.mapping.specs.Proper.{AreRisingPids}
-use Rattle.mapping.specs.Table.{Mapping, pids_in_use}
+use Rattle.mapping.specs.Table.{Mapping, pids_in_use, is_old}
 use Rattle.mapping.specs.LogState.{log_state}
 use Rattle.mapping.specs.declared.slots.Place.{Place}
 use Rattle.mapping.specs.declared.slots.Place.TheVariants.{Vacant, Away, Home}
@@ -38,6 +38,14 @@ table_of ss = record {
   places = flat_map (λ s. entry_if s.pid (placed s.page)) ss;
   logged = flat_map (λ s. entry_if s.pid (listed (log_state s.logged))) ss;
 }
+
+-- the slot's pid has a place, or the log has `Old` of it
+abbrev pub is_known : {P : Type 0} → Slot P → Bool
+is_known s = is_some (placed s.page) || is_old (log_state s.logged)
+
+-- the pids of such slots
+abbrev pub known_pids : {P : Type 0} → List (Slot P) → List ℕ
+known_pids ss = slot_pids (filter is_known ss)
 
 -- the pid stands at this place
 abbrev pub StandsAt : List ℕ → ℕ → ℕ → Type 0

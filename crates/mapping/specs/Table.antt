@@ -1,11 +1,12 @@
 -- A table: the pages in their places, and what the log has of each pid.
-use Rattle.std.specs.Prelude.{ℕ, Bool, List, [], ◌∷◌, map, Option, Some, None}
-use Rattle.std.specs.List.{range_with_len}
+use Rattle.std.specs.Prelude.{◌≡◌, ℕ, Bool, true, false, if◌then◌else◌, List, [], ◌∷◌, map, Option, Some, None}
+use Rattle.std.specs.List.{AllByRecursion, filter, range_with_len}
 use Rattle.std.specs.Ordering.{nat_cmp, is_eq}
 use Rattle.std.specs.Map.{keys_of, lookup, remove_entry}
 use Rattle.std.specs.BTreeMap.{insert_entry}
 use Rattle.mapping.specs.Tree.{Logged, or_no}
-use Rattle.mapping.specs.FreshPids.{unused}
+use Rattle.mapping.specs.Tree.Logged.{No, Old, Upto}
+use Rattle.mapping.specs.FreshPids.{is_among, unused, with_number}
 use Rattle.mapping.specs.Outdate.{outdate_all}
 
 -- by rising pid the pages, `None` for one that is away; by rising pid what the log has, where that isn't `No`
@@ -70,3 +71,33 @@ fresh_pids used n = map (unused used) (range_with_len 0 n)
 abbrev pub with_rooms : {P : Type 0} → Mapping P → List ℕ → Mapping P
 with_rooms t [] = t
 with_rooms t (pid ∷ pids) = with_rooms (with_room t pid) pids
+
+-- the table without the places of these: what the log has of them is outdated
+abbrev pub freed_all : {P : Type 0} → Mapping P → List ℕ → Mapping P
+freed_all t [] = t
+freed_all t (pid ∷ pids) = freed_all (freed t pid) pids
+
+-- of a pid without a place the log has no present page
+abbrev pub IsOldWithoutPlace : {P : Type 0} → Mapping P → Type 0
+IsOldWithoutPlace t = AllByRecursion (λ l. place_of t l.0 ≡ None → l.1 ≡ Old) t.logged
+
+-- ---- all pids that a table knows
+
+-- the log has a page that isn't the present one's base
+abbrev pub is_old : Logged → Bool
+is_old No = false
+is_old Old = true
+is_old (Upto k) = false
+
+-- the pids of which that is so
+abbrev pub old_pids : {P : Type 0} → Mapping P → List ℕ
+old_pids t = keys_of (filter (λ l. is_old l.1) t.logged)
+
+-- rising numbers with these among them, each once
+abbrev pub with_numbers : List ℕ → List ℕ → List ℕ
+with_numbers [] ns = ns
+with_numbers (m ∷ ms) ns = if is_among m (with_numbers ms ns) then with_numbers ms ns else with_number m (with_numbers ms ns)
+
+-- by rising number the pids that are in use, or of which the log has `Old`
+abbrev pub pids_in_use_or_old : {P : Type 0} → Mapping P → List ℕ
+pids_in_use_or_old t = with_numbers (old_pids t) (pids_in_use t)

@@ -1,5 +1,5 @@
 -- A tree in memory: a table with a root and a height, and the tree that it stands for.
-use Rattle.std.specs.Prelude.{◌≡◌, ℕ, List, flat_map, Option, IsSome}
+use Rattle.std.specs.Prelude.{ℕ, List, flat_map, Option, IsSome}
 use Rattle.std.specs.List.{AllByRecursion}
 use Rattle.index_page.specs.Page.{PageOfKind}
 use Rattle.mapping.specs.Tree.{Tree}

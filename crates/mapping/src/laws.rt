@@ -1,5 +1,5 @@
 //! What the definitions of `specs/` mean. Each law is the contract of a function with an empty body.
-ghost use Rattle.std.specs.Prelude.{◌≡◌, ◌↔◌, ◌<◌, ◌≤◌, ℕ, suc, false, List, [], None, length, Bool, true, ◌||◌, nat_eq, ◌∷◌, ◌++◌, Option, Some, count_by};
+ghost use Rattle.std.specs.Prelude.{◌≡◌, ◌↔◌, ◌<◌, ◌≤◌, ◌+◌, ℕ, suc, false, List, [], None, length, Bool, true, ◌||◌, nat_eq, ◌∷◌, ◌++◌, Option, Some, is_some, count_by};
 ghost use Rattle.std.specs.Map.{keys_of};
 ghost use Rattle.keys.specs.Order.{IsRising};
 ghost use Rattle.keys.specs.declared.settings.Settings.{Settings};
@@ -7,6 +7,7 @@ ghost use Rattle.index_page.specs.Page.{PageOfKind};
 ghost use Rattle.mapping.specs.Tree.{Tree, first_tree, listed_at, logged_of};
 ghost use Rattle.mapping.specs.Levels.{Levels, levels_of, contents, all_pages, by_pid, top_pid, all_pids, Placed, entries, joined, names};
 ghost use Rattle.mapping.specs.FreshPids.{is_among, unused, with_number};
+ghost use Rattle.mapping.specs.Table.{Mapping, pids_in_use, place_of, log_of, is_old, fresh_pids, with_rooms, freed_all, IsOldWithoutPlace, pids_in_use_or_old};
 ghost use Rattle.mapping.specs.Finding.{finding};
 ghost use Rattle.mapping.specs.Proper.{Stacked, Distinct, AreRisingPids, HoldsLevels, AreLogsTrue, IsTree, IsProper, next_low, Tiled};
 ghost use Rattle.keys.specs.OrderedMap.{value_at};
@@ -77,4 +78,24 @@ pub fn each_key_of_a_level_is_in_one_page<V>()
         (xs : List (Placed V)) × (p : Placed V) × (ys : List (Placed V)) × (ps ≡ xs ++ p ∷ ys) × (is_within p.page.low (next_low ys end) k ≡ true) }
     ensures held { (xs ys : List (Placed V)) (p : Placed V) (end : Option (List ℕ)) (k : List ℕ) → Tiled (xs ++ p ∷ ys) end → is_within p.page.low (next_low ys end) k ≡ true →
         value_at k (entries p) ≡ value_at k (joined (xs ++ p ∷ ys)) }
+{}
+
+/// The pids that a table gives one by one rise, and a pid is among them exactly if it has a place, or the log has `Old` of it.
+pub fn a_table_knows_the_pids_in_use_and_the_old_ones<P>()
+    ensures rising { (t : Mapping P) → AreRisingPids (pids_in_use t) → AreRisingPids (pids_in_use_or_old t) }
+    ensures among { (t : Mapping P) (pid : ℕ) → AreRisingPids (keys_of t.logged) → is_among pid (pids_in_use_or_old t) ≡ (is_some (place_of t pid) || is_old (log_of t pid)) }
+{}
+
+/// Pids that are drawn get places whose pages are away; other places stay, and so does what the log has. The next that are
+/// drawn are those that would have come behind these, and to free what was drawn gives the table back.
+pub fn drawn_pids_get_places_that_are_away<P>()
+    ensures away { (t : Mapping P) (n pid : ℕ) → AreRisingPids (pids_in_use t) → is_among pid (fresh_pids (pids_in_use t) n) ≡ true →
+        place_of (with_rooms t (fresh_pids (pids_in_use t) n)) pid ≡ Some None }
+    ensures others { (t : Mapping P) (n pid : ℕ) → AreRisingPids (pids_in_use t) → is_among pid (fresh_pids (pids_in_use t) n) ≡ false →
+        place_of (with_rooms t (fresh_pids (pids_in_use t) n)) pid ≡ place_of t pid }
+    ensures logged { (t : Mapping P) (n : ℕ) → AreRisingPids (pids_in_use t) → (with_rooms t (fresh_pids (pids_in_use t) n)).logged ≡ t.logged }
+    ensures rising { (t : Mapping P) (n : ℕ) → AreRisingPids (pids_in_use t) → AreRisingPids (pids_in_use (with_rooms t (fresh_pids (pids_in_use t) n))) }
+    ensures next { (t : Mapping P) (n m : ℕ) → AreRisingPids (pids_in_use t) → unused (pids_in_use (with_rooms t (fresh_pids (pids_in_use t) n))) m ≡ unused (pids_in_use t) (n + m) }
+    ensures freed { (t : Mapping P) (n : ℕ) → AreRisingPids (pids_in_use t) → IsOldWithoutPlace t →
+        freed_all (with_rooms t (fresh_pids (pids_in_use t) n)) (fresh_pids (pids_in_use t) n) ≡ t }
 {}

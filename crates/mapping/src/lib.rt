@@ -5,8 +5,10 @@
 //! definitions (`specs/`), and the laws of these.
 #![tactic(auto)]
 
+mod flush;
 pub mod laws;
 pub mod logged;
+mod pids;
 mod room;
 mod slots;
 pub mod table;
@@ -15,5 +17,6 @@ mod tests;
 pub mod tree;
 
 pub use crate::logged::Logged;
+pub use crate::pids::Pids;
 pub use crate::table::Table;
 pub use crate::tree::Tree;

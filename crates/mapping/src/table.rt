@@ -1,11 +1,15 @@
 ghost use Rattle.std.specs.Prelude.{◌≡◌, ◌↔◌, Some, None, IsTrue, IsSome, is_some, IfOk, OnOk, OnErr};
 ghost use Rattle.std.specs.Option.{option_copied};
 ghost use Rattle.mapping.specs.LogState.{log_state};
-ghost use Rattle.mapping.specs.Table.{no_places, place_of, page_of, log_of, with_place, outdated, freed, with_room, with_rooms, pids_in_use, fresh_pids};
+ghost use Rattle.mapping.specs.Table.{no_places, place_of, page_of, log_of, with_place, outdated, freed, with_room, with_rooms, pids_in_use, fresh_pids, pids_in_use_or_old};
+ghost use Rattle.mapping.specs.Flushed.{flushed};
 
+use crate::flush::logged_then;
 use crate::logged::Logged;
+use crate::pids::Pids;
 use crate::room::{least_free, occupy, occupy_all};
 use crate::slots::{Place, Slot, is_used, slot_in_use, slot_of};
+use index_page::Page;
 use std::alloc::{AllocError, Allocator};
 use std::marker::Model;
 use std::mem;
@@ -84,6 +88,13 @@ impl<P: Drop, A: Allocator + Copy> Table<P, A> {
         }
     }
 
+    /// The pids that are in use, and those of which the log has `Old`, by rising number. It takes no memory.
+    pub fn pids(&self) -> Pids<'_, P>
+        ensures { result ≡ pids_in_use_or_old self.now }
+    {
+        Pids { slots: &self.slots }
+    }
+
     /// Takes the page out of its place, which is away afterwards. This takes no memory, as `put` and `free` do not.
     pub fn take(&mut self, pid: u64) -> P
         requires { IsSome (page_of self.old pid) }
@@ -152,5 +163,17 @@ impl<P: Drop, A: Allocator + Copy> Table<P, A> {
             self.filled = pids[count - 1].saturating_add(1);
         }
         Ok(pids)
+    }
+}
+
+impl<A: Allocator + Copy> Table<Page<A>, A> {
+    /// Says that the log has each page at home as it is, with all its runs, and nothing of any other pid. The places stay,
+    /// and it takes no memory.
+    pub fn flushed(&mut self)
+        ensures { self.new ≡ flushed self.old }
+    {
+        for slot in self.slots.iter_mut() {
+            slot.logged = logged_then(&slot.page);
+        }
     }
 }

@@ -1,0 +1,36 @@
+-- What the log has once all pages are written.
+use Rattle.std.specs.Prelude.{ℕ, min, List, map, Option}
+use Rattle.delta_chain.specs.Layers.{depth_of}
+use Rattle.index_page.specs.Page.{PageOfKind}
+use Rattle.index_page.specs.Page.PageOfKind.{Leaf, Index}
+use Rattle.mapping.specs.Tree as tree
+use Rattle.mapping.specs.Tree.Logged.{Upto as upto}
+use Rattle.mapping.specs.Table.{Mapping}
+use Rattle.mapping.specs.TreeInMemory.{home_pages}
+use Rattle.mapping.specs.declared.logged.Logged.{Logged}
+use Rattle.mapping.specs.declared.logged.Logged.TheVariants.{No, Upto}
+use Rattle.mapping.specs.declared.slots.Place.{Place}
+use Rattle.mapping.specs.declared.slots.Place.TheVariants.{Vacant, Away, Home}
+
+-- how many runs a page has, whatever its kind
+abbrev pub page_depth : PageOfKind → ℕ
+page_depth (Leaf p) = depth_of p.layers
+page_depth (Index p) = depth_of p.layers
+
+-- that number as the code counts it: up to the greatest `u64`
+abbrev pub depth_counted : PageOfKind → ℕ
+depth_counted p = min (page_depth p) 18446744073709551615
+
+-- each page at home, with all its runs
+abbrev pub logged_whole : List (ℕ × Option PageOfKind) → List (ℕ × tree.Logged)
+logged_whole es = map (λ e. (e.0, upto (depth_counted e.1))) (home_pages es)
+
+-- the table once the log has each page at home as it is, and nothing of any other pid
+abbrev pub flushed : Mapping PageOfKind → Mapping PageOfKind
+flushed t = record { places = t.places; logged = logged_whole t.places }
+
+-- the code's log state of what stands in a slot then
+abbrev pub logged_then : Place PageOfKind → Logged
+logged_then Vacant = No
+logged_then Away = No
+logged_then (Home p) = Upto (depth_counted p)

@@ -1,0 +1,50 @@
+ghost use Rattle.std.specs.Prelude.{◌≡◌};
+ghost use Rattle.std.specs.Iterator.{YieldsFirst, item_count};
+ghost use Rattle.mapping.specs.Slots.{is_known};
+
+use crate::logged::Logged;
+use crate::slots::{Place, Slot};
+use std::marker::Model;
+
+/// The pids that are in use, and those of which the log has `Old`, by rising number. It takes no memory. Contracts see it
+/// as the list of those that are left.
+#[derive(Drop)]
+pub struct Pids<'a, P> {
+    pub(crate) slots: &'a [Slot<P>],
+}
+
+impl<'a, P> Model for Pids<'a, P> {
+    ghost use Rattle.std.specs.Prelude.{List, ℕ};
+    ghost use Rattle.mapping.specs.Slots.{known_pids};
+
+    ghost Value = { List ℕ };
+
+    ghost view = { λ c. known_pids c.slots.now };
+}
+
+impl<'a, P> Iterator for Pids<'a, P> {
+    type Item = u64;
+
+    ghost next_gives = { YieldsFirst (λ left. left) };
+
+    ghost remaining = { item_count (λ left. left) };
+
+    fn next(&mut self) -> Option<u64> {
+        let slots = self.slots;
+        for (at, slot) in slots.iter().enumerate() {
+            if is_known(slot) {
+                self.slots = &slots[at + 1..];
+                return Some(slot.pid);
+            }
+        }
+        self.slots = &[];
+        None
+    }
+}
+
+// Whether the slot's pid has a place, or the log has `Old` of it.
+fn is_known<P>(slot: &Slot<P>) -> bool
+    ensures { result ≡ is_known slot.now }
+{
+    !matches!(&slot.page, Place::Vacant) || slot.logged == Logged::Old
+}
