@@ -1,10 +1,12 @@
 mod AllThinLeaves
 pub mod ChangingGroups
+pub mod ChangingOutdated
 mod Climbs
 mod CutUnderTwoParents
 mod Families
 mod FreshOrder
 mod InUse
+pub mod InstalledPages
 mod Kept
 mod LeadingThinLeaf
 mod Leaves
