@@ -65,7 +65,7 @@ distinct_apart (m ∷ ms) ns d =
     (apart_cons m ms ns (not_among_others m ns r.1) rest.0, rest.1)
 
 -- what holds of all of a list holds of each number among it
-at_among : (P : ℕ → Type 0) (n : ℕ) (ns : List ℕ) → AllByRecursion P ns → is_among n ns ≡ true → P n
+pub at_among : (P : ℕ → Type 0) (n : ℕ) (ns : List ℕ) → AllByRecursion P ns → is_among n ns ≡ true → P n
 at_among P n [] a e = absurd (cc)
 at_among P n (m ∷ ms) a e =
     elim (among_either_by (nat_eq n m) (is_among n ms) e) [

@@ -6,6 +6,7 @@ mod CutUnderTwoParents
 mod Families
 mod FreshOrder
 mod InUse
+pub mod InstalledLevel
 pub mod InstalledPages
 mod Kept
 mod LeadingThinLeaf
