@@ -27,4 +27,5 @@ mod RowTwelve
 mod Sizes
 mod Standing
 pub mod ToldRuns
+pub mod ToldSome
 mod Untouched
