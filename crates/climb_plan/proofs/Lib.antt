@@ -1,6 +1,7 @@
 mod AllThinLeaves
 pub mod ChangingGroups
 pub mod ChangingOutdated
+pub mod ChangingSeen
 mod Climbs
 mod CutUnderTwoParents
 mod Families
