@@ -239,20 +239,24 @@ module _ {V : Type 0} where
   fresh_apart ws ps h n e =
       false_from_ne_true (is_among n (pids ps)) (λ f. let a : is_among n (worked_pids ws) ≡ false = at_among (λ k. is_among k (worked_pids ws) ≡ false) n (pids ps) h f in absurd (cc))
 
+  -- members of the groups that stay have the places that they had
+  staying_place : (s : Settings) (used : List ℕ) (i : ℕ) (of : Page V → PageOfKind) (before after : Mapping PageOfKind) (gs : List (List (Worked V))) (n : ℕ)
+      → Distinct (worked_pids (flat gs)) → AreFreshFor (flat gs) (fresh_of (changes s used i (filter is_rewritten gs))) → IsInstalled of before after (changes s used i (filter is_rewritten gs))
+      → is_among n (worked_pids (staying gs)) ≡ true → place_of after n ≡ place_of before n
+  staying_place s used i of before after gs n d f t e =
+      let rs : List (List (Worked V)) = filter is_rewritten gs in
+      let cs : List (Change V) = changes s used i rs in
+      let all : is_among n (worked_pids (flat gs)) ≡ true = among_passed (λ g. not (is_rewritten g)) gs n e in
+      let apart : is_among n (worked_pids (flat rs)) ≡ false = staying_apart gs d n e in
+      let fresh : is_among n (pids (fresh_of cs)) ≡ false = fresh_apart (flat gs) (fresh_of cs) f n all in
+      t.others n (not_among_from n (pids (new_of cs)) (pids (freed_of cs)) (not_new s used i n rs apart fresh) (not_freed s used i n rs apart))
+
   -- of any groups: once those that are rewritten are installed, the table has all pages that are made of all of them
   pub installed-groups : (s : Settings) (used : List ℕ) (i : ℕ) (of : Page V → PageOfKind) (before after : Mapping PageOfKind) (gs : List (List (Worked V)))
       → AreHome of before (placed_of (flat gs)) → Distinct (worked_pids (flat gs)) → AreFreshFor (flat gs) (fresh_of (changes s used i (filter is_rewritten gs))) → IsInstalled of before after (changes s used i (filter is_rewritten gs))
       → AreHome of after (new_of (changes s used i gs))
   installed-groups s used i of before after gs h d f t =
-      let rs : List (List (Worked V)) = filter is_rewritten gs in
-      let new : List ℕ = pids (new_of (changes s used i rs)) in
-      let gone : List ℕ = pids (freed_of (changes s used i rs)) in
-      let stay : (n : ℕ) → is_among n (worked_pids (staying gs)) ≡ true → place_of after n ≡ place_of before n = λ n e.
-      (let all : is_among n (worked_pids (flat gs)) ≡ true = among_passed (λ g. not (is_rewritten g)) gs n e in
-      let apart : is_among n (worked_pids (flat rs)) ≡ false = staying_apart gs d n e in
-      let fresh : is_among n (pids (fresh_of (changes s used i rs))) ≡ false = fresh_apart (flat gs) (fresh_of (changes s used i rs)) f n all in
-      t.others n (not_among_from n new gone (not_new s used i n rs apart fresh) (not_freed s used i n rs apart))) in
-      all_made (λ p. place_of after p.pid ≡ Some (Some (of p.page))) s used i gs t.new (stay_home of before after (staying gs) stay (all_passed (λ p. place_of before p.pid ≡ Some (Some (of p.page))) (λ g. not (is_rewritten g)) gs h))
+      all_made (λ p. place_of after p.pid ≡ Some (Some (of p.page))) s used i gs t.new (stay_home of before after (staying gs) (λ n. staying_place s used i of before after gs n d f t) (all_passed (λ p. place_of before p.pid ≡ Some (Some (of p.page))) (λ g. not (is_rewritten g)) gs h))
 
   -- a pid of theirs that no page has afterwards has no place
   pub freed-groups : (s : Settings) (used : List ℕ) (i : ℕ) (of : Page V → PageOfKind) (before after : Mapping PageOfKind) (gs : List (List (Worked V))) (n : ℕ)

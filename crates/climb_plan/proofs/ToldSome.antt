@@ -114,7 +114,7 @@ module _ {V : Type 0} where
   some_in_group s used i (w ∷ v ∷ ws) z e h = omega arith
 
   -- groups that are rewritten, whose fat members have more than fan entries
-  abbrev AreGrown : Settings → List (List (Worked V)) → Type 0
+  abbrev pub AreGrown : Settings → List (List (Worked V)) → Type 0
   AreGrown s gs = AllByRecursion (λ g. (is_rewritten g ≡ true) × AllByRecursion (HasMoreIfFat s) g) gs
 
   some_in_groups : (s : Settings) (used : List ℕ) (i : ℕ) (gs : List (List (Worked V))) → 0 < s.fan → 0 < length gs → AreGrown s gs → 0 < length (terms (changes s used i gs))
