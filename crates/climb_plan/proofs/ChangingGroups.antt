@@ -1,6 +1,6 @@
 -- Lemmas on the groups of a level that are rewritten: what is freed and what is fresh comes of them alone.
 use Rattle.std.specs.Prelude.{◌≡◌, ℕ, ◌+◌, Bool, true, false, cond, List, [], ◌∷◌, ◌++◌, flat_map, take, drop, length}
-use Rattle.std.proofs.Common.{refl, sym, ap, ◌∙◌, subst, arith, length-append}
+use Rattle.std.proofs.Common.{refl, sym, ap, ◌∙◌, subst, arith, append-nil, length-append}
 use Rattle.std.specs.List.{filter, AllByRecursion}
 use Rattle.std.proofs.lemmas.Bool.{or_parts}
 use Rattle.std.proofs.lemmas.Grind.{flat_map-append}
@@ -187,3 +187,23 @@ module _ {V : Type 0} where
       let a : AreAlike (flat css) (flat dss) =
       subst (λ (cs : List (Change V)). AreAlike cs (flat dss)) (sym (flat-family_changes s used i (families ps ws))) (subst (λ (ds : List (Change V)). AreAlike (changes s used i gs) ds) (sym d) (alike_rewritten s used i gs)) in
       alike_flat css dss a
+
+  -- and the same on the highest level, whose pages are one group
+  pub alike_top : (s : Settings) (used : List ℕ) (i : ℕ) (ws : List (Worked V)) → AreAllAlike (changes s used i (ws ∷ []) ∷ []) (changes s used i (filter is_rewritten (ws ∷ [])) ∷ [])
+  alike_top s used i ws =
+      let a : AreAlike (changes s used i (ws ∷ [])) (changes s used i (filter is_rewritten (ws ∷ []))) = alike_rewritten s used i (ws ∷ []) in
+      record { fresh = ap (λ (ps : List (Placed V)). ps ++ []) a.fresh; freed = ap (λ (ps : List (Placed V)). ps ++ []) a.freed }
+
+  -- as one list
+  pub fresh_on_top : (s : Settings) (used : List ℕ) (i : ℕ) (ws : List (Worked V)) → all_fresh (changes s used i (ws ∷ []) ∷ []) ≡ fresh_of (changes s used i (filter is_rewritten (ws ∷ [])))
+  fresh_on_top s used i ws = append-nil (fresh_of (changes s used i (ws ∷ []))) ∙ (alike_rewritten s used i (ws ∷ [])).fresh
+
+  pub freed_on_top : (s : Settings) (used : List ℕ) (i : ℕ) (ws : List (Worked V)) → all_freed (changes s used i (ws ∷ []) ∷ []) ≡ freed_of (changes s used i (filter is_rewritten (ws ∷ [])))
+  freed_on_top s used i ws = append-nil (freed_of (changes s used i (ws ∷ []))) ∙ (alike_rewritten s used i (ws ∷ [])).freed
+
+  -- of a level under parents, as one list
+  pub fresh_on_level : (s : Settings) (used : List ℕ) (i : ℕ) (ps : List (Placed ℕ)) (ws : List (Worked V)) → all_fresh (family_changes s used i (families ps ws)) ≡ fresh_of (changes s used i (changing_groups (changing ps ws)))
+  fresh_on_level s used i ps ws = (alike_level s used i ps ws).fresh ∙ fresh-changing_changes s used i (changing ps ws)
+
+  pub freed_on_level : (s : Settings) (used : List ℕ) (i : ℕ) (ps : List (Placed ℕ)) (ws : List (Worked V)) → all_freed (family_changes s used i (families ps ws)) ≡ freed_of (changes s used i (changing_groups (changing ps ws)))
+  freed_on_level s used i ps ws = (alike_level s used i ps ws).freed ∙ freed-changing_changes s used i (changing ps ws)

@@ -1,10 +1,14 @@
 mod AllThinLeaves
 pub mod ChangingGroups
+pub mod ChangingOutdated
+pub mod ChangingSeen
 mod Climbs
 mod CutUnderTwoParents
 mod Families
 mod FreshOrder
 mod InUse
+pub mod InstalledLevel
+pub mod InstalledPages
 mod Kept
 mod LeadingThinLeaf
 mod Leaves
@@ -24,4 +28,5 @@ mod RowTwelve
 mod Sizes
 mod Standing
 pub mod ToldRuns
+pub mod ToldSome
 mod Untouched

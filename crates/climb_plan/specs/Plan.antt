@@ -1,5 +1,5 @@
 -- What a batch makes of a store.
-use Rattle.std.specs.Prelude.{ℕ, suc, List, ◌++◌, flat_map, drop, length}
+use Rattle.std.specs.Prelude.{ℕ, suc, List, ◌++◌, map, flat_map, drop, length, if◌then◌else◌}
 use Rattle.std.specs.Map.{keys_of}
 use Rattle.keys.specs.declared.settings.Settings.{Settings}
 use Rattle.keys.specs.declared.command.Command.{Command}
