@@ -13,3 +13,6 @@ pub mod parent_run;
 pub use crate::grouping::groups;
 pub use crate::name::Name;
 pub use crate::parent_run::terms;
+
+#[cfg(test)]
+mod tests;
