@@ -1,6 +1,7 @@
 -- The sizes of groups, found by one walk over the children.
-use Rattle.std.specs.Prelude.{◌≡◌, ◌<◌, ℕ, zero, suc, ◌+◌, Bool, true, false, cond, List, [], ◌∷◌, ◌++◌, length, map}
+use Rattle.std.specs.Prelude.{◌≡◌, ◌<◌, ◌≤◌, ℕ, zero, suc, ◌+◌, Bool, true, false, cond, List, [], ◌∷◌, ◌++◌, length, map}
 use Rattle.std.proofs.Common.{refl, sym, ap, ◌∙◌, subst, arith, length-append}
+use Rattle.std.proofs.lemmas.List.{length-map}
 use Rattle.std.proofs.Math.Seq.{take-append_seam, drop-append_seam}
 use Rattle.keys.specs.Lists.{flat}
 use Rattle.page_runs.specs.Worked.{Worked, is_thin, is_thin_class}
@@ -38,6 +39,11 @@ first_begins (suc n) m sizes =
 some_begun : (has_begun : Bool) (n : ℕ) → 0 < members_with has_begun n
 some_begun true n = omega arith
 some_begun false n = omega arith
+
+some_by : (thin has_begun : Bool) (n : ℕ) (sizes later : List ℕ) → 0 < length sizes → 0 < length later → 0 < length (cond thin sizes (ended has_begun n ++ later))
+some_by true has_begun n sizes later h k = h
+some_by false true n sizes later h k = omega arith
+some_by false false n sizes later h k = k
 
 module _ {X : Type 0} where
   -- the same by what is gathered
@@ -80,6 +86,22 @@ module _ {X : Type 0} where
         let g : Gathered X = gathered is_thin xs in
         let e : 0 + length g.leading ≡ length g.leading = omega arith in
         sizes_of_gathered xs 0 false (λ e. absurd (cc)) ∙ ap (λ (k : ℕ). more_in_first k (map length g.groups)) e ∙ sizes-with_leading g.leading g.groups
+
+  -- ---- how many sizes come
+
+  some_come : (is_thin : X → Bool) (xs : List X) (n : ℕ) (has_begun : Bool) → 0 < n → 0 < length (sizes_from is_thin n has_begun xs)
+  some_come is_thin [] zero has_begun h = absurd (omega arith)
+  some_come is_thin [] (suc n) has_begun h = omega arith
+  some_come is_thin (x ∷ xs) n has_begun h =
+      some_by (is_thin x) has_begun n (sizes_from is_thin (suc n) has_begun xs) (sizes_from is_thin (members_with has_begun n) true xs)
+      (some_come is_thin xs (suc n) has_begun (omega arith))
+      (some_come is_thin xs (members_with has_begun n) true (some_begun has_begun n))
+
+  -- while a group has members so far, the sizes before it are fewer than the groups
+  pub more_come : (is_thin : X → Bool) (xs : List X) (n : ℕ) (has_begun : Bool) (sizes : List ℕ) (gs : List (List X)) → 0 < n → sizes ++ sizes_from is_thin n has_begun xs ≡ map length gs → length sizes + 1 ≤ length gs
+  more_come is_thin xs n has_begun sizes gs h e =
+      let some = some_come is_thin xs n has_begun h in
+      omega (arith, some, ap (λ (ns : List ℕ). length ns) e, length-append sizes (sizes_from is_thin n has_begun xs), length-map gs (length {A = X}))
 
   -- lists cut out by their lengths are found again
   pub cut_by-lengths : (gs : List (List X)) → cut_by (map length gs) (flat gs) ≡ gs
