@@ -23,7 +23,8 @@ abbrev pub members_with : Bool → ℕ → ℕ
 members_with true members = 1
 members_with false members = suc members
 
--- the sizes that are still to come, where a group has this many members so far, and whether one of them isn't thin
+-- the sizes that are still to come, after this many members of a group, and where a child that isn't thin has been met or
+-- hasn't
 abbrev pub sizes_from : {X : Type 0} → (X → Bool) → ℕ → Bool → List X → List ℕ
 sizes_from is_thin members has_begun [] = more_in_first members []
 sizes_from is_thin members has_begun (x ∷ xs) =
