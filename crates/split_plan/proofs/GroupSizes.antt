@@ -1,4 +1,4 @@
--- The sizes of groups, found by one walk over the children.
+-- The sizes of groups, found by one walk over the children, for the proofs of this crate and of those above it.
 use Rattle.std.specs.Prelude.{◌≡◌, ◌<◌, ◌≤◌, ℕ, zero, suc, ◌+◌, Bool, true, false, cond, List, [], ◌∷◌, ◌++◌, length, map}
 use Rattle.std.proofs.Common.{refl, sym, ap, ◌∙◌, subst, arith, length-append}
 use Rattle.std.proofs.lemmas.List.{length-map}
@@ -23,8 +23,7 @@ abbrev pub members_with : Bool → ℕ → ℕ
 members_with true members = 1
 members_with false members = suc members
 
--- the sizes that are still to come, after this many members of a group, and where a child that isn't thin has been met or
--- hasn't
+-- the sizes that are still to come, where a group has this many members so far; it has begun where one of them isn't thin
 abbrev pub sizes_from : {X : Type 0} → (X → Bool) → ℕ → Bool → List X → List ℕ
 sizes_from is_thin members has_begun [] = more_in_first members []
 sizes_from is_thin members has_begun (x ∷ xs) =
@@ -117,8 +116,12 @@ module _ {V : Type 0} where
       ap (λ (sizes : List ℕ). cond (is_thin w) sizes (ended has_begun n ++ sizes_from is_thin_class (members_with has_begun n) true (map (λ v. v.class) f))) (sizes_by_class f (suc n) has_begun)
       ∙ ap (λ (sizes : List ℕ). cond (is_thin w) (sizes_from is_thin (suc n) has_begun f) (ended has_begun n ++ sizes)) (sizes_by_class f (members_with has_begun n) true)
 
+  -- so the sizes of a family's groups are found by its classes
   pub groups_by_class : (f : List (Worked V)) → map length (groups is_thin_class (map (λ w. w.class) f)) ≡ map length (groups is_thin f)
   groups_by_class f = sym (sizes_are_found is_thin_class (map (λ w. w.class) f)) ∙ sizes_by_class f 0 false ∙ sizes_are_found is_thin f
 
+  -- and cut it into its groups
   pub groups_cut : (f : List (Worked V)) → cut_by (map length (groups is_thin f)) f ≡ groups is_thin f
-  groups_cut f = let joined : flat (groups is_thin f) ≡ f = groups-joined is_thin f in subst (λ (ws : List (Worked V)). cut_by (map length (groups is_thin f)) ws ≡ groups is_thin f) joined (cut_by-lengths (groups is_thin f))
+  groups_cut f =
+      let joined : flat (groups is_thin f) ≡ f = groups-joined is_thin f in
+      subst (λ (ws : List (Worked V)). cut_by (map length (groups is_thin f)) ws ≡ groups is_thin f) joined (cut_by-lengths (groups is_thin f))
