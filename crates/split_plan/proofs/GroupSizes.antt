@@ -1,6 +1,7 @@
--- The sizes of groups, found by one walk over the children.
-use Rattle.std.specs.Prelude.{◌≡◌, ◌<◌, ℕ, zero, suc, ◌+◌, Bool, true, false, cond, List, [], ◌∷◌, ◌++◌, length, map, take, drop}
+-- The sizes of groups, found by one walk over the children, for the proofs of this crate and of those above it.
+use Rattle.std.specs.Prelude.{◌≡◌, ◌<◌, ◌≤◌, ℕ, zero, suc, ◌+◌, Bool, true, false, cond, List, [], ◌∷◌, ◌++◌, length, map}
 use Rattle.std.proofs.Common.{refl, sym, ap, ◌∙◌, subst, arith, length-append}
+use Rattle.std.proofs.lemmas.List.{length-map}
 use Rattle.std.proofs.Math.Seq.{take-append_seam, drop-append_seam}
 use Rattle.keys.specs.Lists.{flat}
 use Rattle.page_runs.specs.Worked.{Worked, is_thin, is_thin_class}
@@ -22,7 +23,7 @@ abbrev pub members_with : Bool → ℕ → ℕ
 members_with true members = 1
 members_with false members = suc members
 
--- the sizes that are still to come, where a group has this many members so far, and whether one of them isn't thin
+-- the sizes that are still to come, where a group has this many members so far; it has begun where one of them isn't thin
 abbrev pub sizes_from : {X : Type 0} → (X → Bool) → ℕ → Bool → List X → List ℕ
 sizes_from is_thin members has_begun [] = more_in_first members []
 sizes_from is_thin members has_begun (x ∷ xs) =
@@ -38,6 +39,11 @@ first_begins (suc n) m sizes =
 some_begun : (has_begun : Bool) (n : ℕ) → 0 < members_with has_begun n
 some_begun true n = omega arith
 some_begun false n = omega arith
+
+some_by : (thin has_begun : Bool) (n : ℕ) (sizes later : List ℕ) → 0 < length sizes → 0 < length later → 0 < length (cond thin sizes (ended has_begun n ++ later))
+some_by true has_begun n sizes later h k = h
+some_by false true n sizes later h k = omega arith
+some_by false false n sizes later h k = k
 
 module _ {X : Type 0} where
   -- the same by what is gathered
@@ -81,6 +87,22 @@ module _ {X : Type 0} where
         let e : 0 + length g.leading ≡ length g.leading = omega arith in
         sizes_of_gathered xs 0 false (λ e. absurd (cc)) ∙ ap (λ (k : ℕ). more_in_first k (map length g.groups)) e ∙ sizes-with_leading g.leading g.groups
 
+  -- ---- how many sizes come
+
+  some_come : (is_thin : X → Bool) (xs : List X) (n : ℕ) (has_begun : Bool) → 0 < n → 0 < length (sizes_from is_thin n has_begun xs)
+  some_come is_thin [] zero has_begun h = absurd (omega arith)
+  some_come is_thin [] (suc n) has_begun h = omega arith
+  some_come is_thin (x ∷ xs) n has_begun h =
+      some_by (is_thin x) has_begun n (sizes_from is_thin (suc n) has_begun xs) (sizes_from is_thin (members_with has_begun n) true xs)
+      (some_come is_thin xs (suc n) has_begun (omega arith))
+      (some_come is_thin xs (members_with has_begun n) true (some_begun has_begun n))
+
+  -- while a group has members so far, the sizes before it are fewer than the groups
+  pub more_come : (is_thin : X → Bool) (xs : List X) (n : ℕ) (has_begun : Bool) (sizes : List ℕ) (gs : List (List X)) → 0 < n → sizes ++ sizes_from is_thin n has_begun xs ≡ map length gs → length sizes + 1 ≤ length gs
+  more_come is_thin xs n has_begun sizes gs h e =
+      let some = some_come is_thin xs n has_begun h in
+      omega (arith, some, ap (λ (ns : List ℕ). length ns) e, length-append sizes (sizes_from is_thin n has_begun xs), length-map gs (length {A = X}))
+
   -- lists cut out by their lengths are found again
   pub cut_by-lengths : (gs : List (List X)) → cut_by (map length gs) (flat gs) ≡ gs
   cut_by-lengths [] = refl
@@ -94,8 +116,12 @@ module _ {V : Type 0} where
       ap (λ (sizes : List ℕ). cond (is_thin w) sizes (ended has_begun n ++ sizes_from is_thin_class (members_with has_begun n) true (map (λ v. v.class) f))) (sizes_by_class f (suc n) has_begun)
       ∙ ap (λ (sizes : List ℕ). cond (is_thin w) (sizes_from is_thin (suc n) has_begun f) (ended has_begun n ++ sizes)) (sizes_by_class f (members_with has_begun n) true)
 
+  -- so the sizes of a family's groups are found by its classes
   pub groups_by_class : (f : List (Worked V)) → map length (groups is_thin_class (map (λ w. w.class) f)) ≡ map length (groups is_thin f)
   groups_by_class f = sym (sizes_are_found is_thin_class (map (λ w. w.class) f)) ∙ sizes_by_class f 0 false ∙ sizes_are_found is_thin f
 
+  -- and cut it into its groups
   pub groups_cut : (f : List (Worked V)) → cut_by (map length (groups is_thin f)) f ≡ groups is_thin f
-  groups_cut f = let joined : flat (groups is_thin f) ≡ f = groups-joined is_thin f in subst (λ (ws : List (Worked V)). cut_by (map length (groups is_thin f)) ws ≡ groups is_thin f) joined (cut_by-lengths (groups is_thin f))
+  groups_cut f =
+      let joined : flat (groups is_thin f) ≡ f = groups-joined is_thin f in
+      subst (λ (ws : List (Worked V)). cut_by (map length (groups is_thin f)) ws ≡ groups is_thin f) joined (cut_by-lengths (groups is_thin f))

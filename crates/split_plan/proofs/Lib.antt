@@ -3,7 +3,7 @@ pub mod CutLaws
 mod Exchange
 pub mod ExchangeLaws
 pub mod GroupLaws
-mod GroupSizes
+pub mod GroupSizes
 mod LentPieces
 pub mod OutdatedLaws
 pub mod PidLaws

@@ -1,5 +1,5 @@
 //! Which children of one parent are taken together.
-ghost use Rattle.std.specs.Prelude.{◌≡◌, map, length, IfOk};
+ghost use Rattle.std.specs.Prelude.{◌≡◌, ◌≤◌, map, length, IfOk, IsOk};
 ghost use Rattle.page_runs.specs.Worked.{is_thin_class};
 ghost use Rattle.split_plan.specs.Groups.{groups};
 
@@ -9,9 +9,10 @@ use std::alloc::{AllocError, Global};
 
 /// How many members each group of the children of one parent has, in order, by the children's classes: each child that
 /// isn't thin begins a group, a thin one joins the group on its left, and leading thin ones join the first group.
-/// `AllocError` comes only where memory is refused, for more groups than are held inline.
+/// `AllocError` comes only where memory is refused, for more than the 32 groups that are held inline.
 pub fn groups(alloc: Global, classes: &[Class]) -> Result<SmallVec<usize, 32>, AllocError>
-    ensures { IfOk result (λ sizes. sizes.items ≡ map length (groups is_thin_class classes.now)) }
+    ensures sizes { IfOk result (λ sizes. sizes.items ≡ map length (groups is_thin_class classes.now)) }
+    ensures inline { length (groups is_thin_class classes.now) ≤ 32 → IsOk result }
 {
     let mut sizes = SmallVec::new(alloc);
     let mut members = 0;

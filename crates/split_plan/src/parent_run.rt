@@ -56,17 +56,17 @@ fn next_term(
 {
     match front_order(freed, fresh) {
         Ordering::Less => {
-            let name = freed.pop_front()?;
-            Some((name.low, None))
+            let member = freed.pop_front()?;
+            Some((member.low, None))
         }
         Ordering::Equal => {
             let _replaced = freed.pop_front();
-            let name = fresh.pop_front()?;
-            Some((name.low, Some(name.pid)))
+            let both = fresh.pop_front()?;
+            Some((both.low, Some(both.pid)))
         }
         Ordering::Greater => {
-            let name = fresh.pop_front()?;
-            Some((name.low, Some(name.pid)))
+            let piece = fresh.pop_front()?;
+            Some((piece.low, Some(piece.pid)))
         }
     }
 }

@@ -1,4 +1,4 @@
-use Rattle.std.proofs.Common.{◌≡◌, ◌≤◌, ◌++◌, map, length, drop}
+use Rattle.std.proofs.Common.{◌≡◌, ◌<◌, ◌≤◌, ◌++◌, true, map, length, drop}
 use Rattle.page_runs.specs.Worked.{is_thin_class}
 use Rattle.split_plan.specs.Groups.{groups}
 use Rattle.split_plan.proofs.GroupSizes.{sizes_from}
@@ -9,4 +9,6 @@ abbrev pub invariant-loop-class : goal.invariant-loop-class
 invariant-loop-class l = record {
   fits : l.members ≤ l.class-index;
   made : l.sizes.items ++ sizes_from is_thin_class l.members l.has_begun (drop l.class-index l.classes) ≡ map length (groups is_thin_class l.classes);
+  begun : l.has_begun ≡ true → 0 < l.members;
+  room : 32 ≤ l.sizes.capacity;
 }

@@ -1,4 +1,3 @@
-use Rattle.split_plan.proofs.GroupLaws.{groups-joined}
 use Rattle.split_plan.proofs.GroupSizes.{groups_by_class, groups_cut}
 use Rattle.split_plan.proofs.laws.groups_are_found_by_classes.Goals as goal
 

@@ -1,5 +1,4 @@
-use Rattle.std.proofs.Common.{◌≡◌, ◌++◌, true, false, Err, refl, sym, ap, ◌∙◌}
-use Rattle.keys.specs.Order.{IsRising}
+use Rattle.std.proofs.Common.{◌≡◌, true, false, Err, refl, sym, ap, ◌∙◌}
 use Rattle.delta_chain.proofs.Rising.{goes_last-rising}
 use Rattle.split_plan.proofs.ExchangeLaws.{rising-with_present}
 use Rattle.split_plan.proofs.parent_run.terms.Goals as goal
