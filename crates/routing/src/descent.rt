@@ -141,3 +141,6 @@ fn each_in_batch_order(alloc: Global, shares: &[Share<'_>]) -> Result<Vec<PageRu
     }
     Ok(runs)
 }
+
+#[cfg(test)]
+mod tests;
