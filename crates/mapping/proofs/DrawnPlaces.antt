@@ -1,4 +1,4 @@
--- Pids that are drawn, and their places, and these freed again.
+-- Pids that are drawn, and their places, and these freed again, for the proofs of this crate and of those above it.
 use Rattle.std.specs.Prelude.{◌≡◌, ℕ, zero, suc, ◌+◌, ◌<◌, Bool, true, false, cond, ◌||◌, nat_eq, nat_lt, List, [], ◌∷◌, ◌++◌, Option, Some, None, is_some}
 use Rattle.std.proofs.Common.{refl, sym, ap, ◌∙◌, arith, subst, ltb-true, ltb-false, Ordering, Less, Equal, Greater}
 use Rattle.std.specs.List.{AllByRecursion}

@@ -3,10 +3,12 @@ use Rattle.std.specs.Prelude.{◌≡◌, ◌≢◌, ℕ, zero, suc, Bool, ◌+�
 use Rattle.std.proofs.Common.{refl, sym, ap, ◌∙◌, arith, subst, inl, inr}
 use Rattle.std.proofs.lemmas.Bool.{cases_lt}
 use Rattle.std.proofs.lemmas.List.FromFn.{map-range_with_len_more, length-map-range_with_len, get_or-map-range_with_len}
+use Rattle.std.specs.Map.{keys_of}
 use Rattle.mapping.specs.Proper.{AreRisingPids}
+use Rattle.mapping.specs.LogState.{log_state}
 use Rattle.mapping.specs.FreshPids.{is_among, unused}
 use Rattle.mapping.specs.Table.{Mapping, pids_in_use, with_room, with_rooms, fresh_pids}
-use Rattle.mapping.specs.Slots.{slot_pids, placed, table_of, AreInUseBelow, AreSlots}
+use Rattle.mapping.specs.Slots.{slot_pids, placed, listed, table_of, AreInUseBelow, AreSlots}
 use Rattle.mapping.specs.declared.slots.Slot.{Slot}
 use Rattle.mapping.proofs.PidLaws.{unused-is_free, unused-rises, unused-leaves_none}
 use Rattle.mapping.proofs.InUse.{among_kept, among_made}
@@ -81,6 +83,10 @@ all_drawn used pids m count k a h = let x = a.few in a.drawn ∙ ap (fresh_pids 
 -- the pids in use rise, where those of the slots do
 pub rising-in_use : {P : Type 0} (ss : List (Slot P)) → AreRisingPids (slot_pids ss) → AreRisingPids (pids_in_use (table_of ss))
 rising-in_use ss r = rising-listing (λ s. s.pid) (λ s. placed s.page) ss r
+
+-- and so do those of which the log has something
+pub rising-logged : {P : Type 0} (ss : List (Slot P)) → AreRisingPids (slot_pids ss) → AreRisingPids (keys_of (table_of ss).logged)
+rising-logged ss r = rising-listing (λ s. s.pid) (λ s. listed (log_state s.logged)) ss r
 
 module _ {P : Type 0} where
   pub with_rooms-push : (t : Mapping P) (pids : List ℕ) (k : ℕ) → with_rooms t (pids ++ k ∷ []) ≡ with_room (with_rooms t pids) k

@@ -1,8 +1,8 @@
 mod Around
-mod DrawnPlaces
+pub mod DrawnPlaces
 mod FindingRow
 mod FirstTree
-pub mod FlushedSlots
+mod FlushedSlots
 mod FreshLaws
 pub mod HomePages
 mod InUse

@@ -1,5 +1,5 @@
 -- What the log has once all pages are written.
-use Rattle.std.specs.Prelude.{ℕ, min, List, map, Option}
+use Rattle.std.specs.Prelude.{ℕ, ◌-◌, ◌^◌, min, List, map, Option}
 use Rattle.delta_chain.specs.Layers.{depth_of}
 use Rattle.index_page.specs.Page.{PageOfKind}
 use Rattle.index_page.specs.Page.PageOfKind.{Leaf, Index}
@@ -19,7 +19,7 @@ page_depth (Index p) = depth_of p.layers
 
 -- that number as the code counts it: up to the greatest `u64`
 abbrev pub depth_counted : PageOfKind → ℕ
-depth_counted p = min (page_depth p) 18446744073709551615
+depth_counted p = min (page_depth p) (2 ^ 64 - 1)
 
 -- each page at home, with all its runs
 abbrev pub logged_whole : List (ℕ × Option PageOfKind) → List (ℕ × tree.Logged)

@@ -77,7 +77,7 @@ abbrev pub freed_all : {P : Type 0} → Mapping P → List ℕ → Mapping P
 freed_all t [] = t
 freed_all t (pid ∷ pids) = freed_all (freed t pid) pids
 
--- of a pid without a place the log has no present page
+-- what is listed of a pid without a place is `Old`
 abbrev pub IsOldWithoutPlace : {P : Type 0} → Mapping P → Type 0
 IsOldWithoutPlace t = AllByRecursion (λ l. place_of t l.0 ≡ None → l.1 ≡ Old) t.logged
 

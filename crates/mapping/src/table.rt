@@ -1,6 +1,8 @@
 ghost use Rattle.std.specs.Prelude.{◌≡◌, ◌↔◌, Some, None, IsTrue, IsSome, is_some, IfOk, OnOk, OnErr};
 ghost use Rattle.std.specs.Option.{option_copied};
+ghost use Rattle.std.specs.Map.{keys_of};
 ghost use Rattle.mapping.specs.LogState.{log_state};
+ghost use Rattle.mapping.specs.Proper.{AreRisingPids};
 ghost use Rattle.mapping.specs.Table.{no_places, place_of, page_of, log_of, with_place, outdated, freed, with_room, with_rooms, pids_in_use, fresh_pids, pids_in_use_or_old};
 ghost use Rattle.mapping.specs.Flushed.{flushed};
 
@@ -90,7 +92,9 @@ impl<P: Drop, A: Allocator + Copy> Table<P, A> {
 
     /// The pids that are in use, and those of which the log has `Old`, by rising number. It takes no memory.
     pub fn pids(&self) -> Pids<'_, P>
-        ensures { result ≡ pids_in_use_or_old self.now }
+        ensures pids { result ≡ pids_in_use_or_old self.now }
+        ensures rising { AreRisingPids (pids_in_use self.now) }
+        ensures logged { AreRisingPids (keys_of self.now.logged) }
     {
         Pids { slots: &self.slots }
     }
@@ -155,6 +159,7 @@ impl<P: Drop, A: Allocator + Copy> Table<P, A> {
         ensures pids { IfOk result (λ pids. pids.items ≡ fresh_pids (pids_in_use self.old) count) }
         ensures ok { OnOk result (self.new ≡ with_rooms self.old (fresh_pids (pids_in_use self.old) count)) }
         ensures err { OnErr result (self.new ≡ self.old) }
+        ensures rising { AreRisingPids (pids_in_use self.old) }
     {
         let alloc = *self.slots.allocator();
         let pids = least_free(alloc, &self.slots, self.filled, count)?;

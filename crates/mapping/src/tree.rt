@@ -2,6 +2,7 @@ ghost use Rattle.std.specs.Prelude.{◌≡◌, Some, None, IsSome, IfOk, OnOk, O
 ghost use Rattle.std.specs.Option.{option_copied};
 ghost use Rattle.mapping.specs.Tree.{page_at};
 ghost use Rattle.mapping.specs.LogState.{log_state};
+ghost use Rattle.mapping.specs.Proper.{AreRisingPids};
 ghost use Rattle.mapping.specs.Table.{place_of, page_of, log_of, with_place, outdated, freed, with_rooms, pids_in_use, fresh_pids};
 ghost use Rattle.mapping.specs.TreeInMemory.{AreAllHome, tree_of};
 
@@ -108,6 +109,7 @@ impl<A: Allocator + Copy> Tree<A> {
         ensures pids { IfOk result (λ pids. pids.items ≡ fresh_pids (pids_in_use self.old.table) count) }
         ensures ok { OnOk result (self.new ≡ record self.old { table = with_rooms self.old.table (fresh_pids (pids_in_use self.old.table) count) }) }
         ensures err { OnErr result (self.new ≡ self.old) }
+        ensures rising { AreRisingPids (pids_in_use self.old.table) }
     {
         self.table.fresh(count)
     }

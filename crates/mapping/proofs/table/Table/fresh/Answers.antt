@@ -3,7 +3,7 @@ use Rattle.std.proofs.lemmas.List.FromFn.{length-map-range_with_len}
 use Rattle.mapping.specs.FreshPids.{unused}
 use Rattle.mapping.specs.Table.{pids_in_use}
 use Rattle.mapping.specs.Slots.{table_of}
-use Rattle.mapping.proofs.FreshLaws.{slots_kept, slots_filled}
+use Rattle.mapping.proofs.FreshLaws.{rising-in_use, slots_kept, slots_filled}
 use Rattle.mapping.proofs.table.Table.fresh.Goals as goal
 
 pub index-requires : goal.index-requires
@@ -23,3 +23,12 @@ pub invariant_of-self-else-count-gt0 : goal.invariant_of-self-else-count-gt0
 invariant_of-self-else-count-gt0 g c =
     slots_kept c.self.inside.slots.items c.occupy_all.new.slots.items c.self.inside.filled c.args.count c.in_ok-pids.pids.items c.self.invariant c.in_ok-occupy_all.ensures.rising
     (rw c.deref-2.ensures.value at c.in_ok-occupy_all.ensures.ok)
+
+pub returns-in_err-pids-clause-rising : goal.returns-in_err-pids-clause-rising
+returns-in_err-pids-clause-rising g c = rw (← c.self.view_is) (rising-in_use c.self.inside.slots.items c.self.invariant.rising)
+
+pub returns-in_err-occupy_all-clause-rising : goal.returns-in_err-occupy_all-clause-rising
+returns-in_err-occupy_all-clause-rising g c = rw (← c.self.view_is) (rising-in_use c.self.inside.slots.items c.self.invariant.rising)
+
+pub returns-clause-rising : goal.returns-clause-rising
+returns-clause-rising g c = rw (← c.self.view_is) (rising-in_use c.self.inside.slots.items c.self.invariant.rising)
