@@ -6,6 +6,7 @@ pub mod GroupLaws
 mod LentPieces
 pub mod OutdatedLaws
 pub mod PidLaws
+pub mod PieceLaws
 pub mod Renewed
 pub mod RunLaws
 pub mod TermLaws
