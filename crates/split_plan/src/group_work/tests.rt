@@ -56,19 +56,24 @@ fn is_leaf(page: &Page<Global>, low: &[u8], keys: &[&[u8]]) -> bool {
     true
 }
 
-// Whether the five entries are cut into two and three.
+fn are_two_and_three(pieces: &[Page<Global>]) -> bool {
+    pieces.len() == 2
+        && is_leaf(&pieces[0], b"a", &[b"b", b"c"])
+        && is_leaf(&pieces[1], b"d", &[b"d", b"e", b"f"])
+}
+
+// Whether the five entries are cut into two and three, and again after the job came back.
 fn are_cut(alloc: Global) -> Result<bool, PushError> {
     let page = five(alloc)?;
     let work = GroupWork::new(alloc, FAN_4);
     let Turn::Done(done) = work.work(group_of(alloc, &page)?) else {
         return Err(PushError::NoMemory);
     };
-    let pieces = done.pieces();
-    Ok(
-        pieces.len() == 2
-            && is_leaf(&pieces[0], b"a", &[b"b", b"c"])
-            && is_leaf(&pieces[1], b"d", &[b"d", b"e", b"f"]),
-    )
+    let is_cut = are_two_and_three(done.pieces());
+    let Turn::Done(done) = work.work(work.undo(done)) else {
+        return Err(PushError::NoMemory);
+    };
+    Ok(is_cut && are_two_and_three(&done.into_pieces()))
 }
 
 fn name(alloc: Global, low: &[u8], pid: u64) -> Result<Name, AllocError>
