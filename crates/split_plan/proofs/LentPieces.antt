@@ -12,7 +12,7 @@ use Rattle.keys.proofs.MapLaws.{IsBelowAll}
 use Rattle.delta_chain.specs.Lent.{pairs_lent}
 use Rattle.index_page.specs.Page.{Page, PageOfKind, bare, first_key}
 use Rattle.split_plan.specs.Cut.{piece_count, pieces, cut, AllFull}
-use Rattle.split_plan.specs.Pieces.{pages_lent, joined_pages, pages_from, pieces_of}
+use Rattle.split_plan.specs.Pieces.{pages_lent, joined_pages, low_at, pages_from, pieces_of}
 use Rattle.split_plan.proofs.CutLaws.{cut-joined, cut_full, cut_nothing}
 
 module _ {V : Type 0} where
@@ -77,11 +77,6 @@ module _ {V : Type 0} where
 
   -- ---- the pages of pieces
 
-  -- the low key of the piece at a place
-  abbrev pub low_at : List ℕ → ℕ → List (List ℕ × V) → List ℕ
-  low_at low zero b = low
-  low_at low (suc i) b = first_key b
-
   -- the pages of so many of p pieces, from piece i on
   abbrev pub pages_at : List ℕ → List (List ℕ × V) → ℕ → ℕ → ℕ → List (Page V)
   pages_at low es p i zero = []
@@ -104,14 +99,6 @@ module _ {V : Type 0} where
       from_first low es p (suc more) =
           let b : List (List ℕ × V) = slice_range es (0 * length es / p) (1 * length es / p) in
           ap (λ (ps : List (Page V)). bare low b ∷ ps) (sym (pages_later low es p 0 more))
-
-  pub low_at_first : (low : List ℕ) (i : ℕ) (b : List (List ℕ × V)) → i ≡ 0 → low ≡ low_at low i b
-  low_at_first low zero b h = refl
-  low_at_first low (suc i) b h = absurd (omega arith)
-
-  pub low_at_later : (low : List ℕ) (i : ℕ) (b : List (List ℕ × V)) → (i ≡ 0 → ⊥) → first_key b ≡ low_at low i b
-  low_at_later low zero b h = absurd (h refl)
-  low_at_later low (suc i) b h = refl
 
   module _ {X : Type 0} (made : Page V → X) where
     -- no pages are made, and those of all pieces are to come

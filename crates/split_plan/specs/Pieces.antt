@@ -1,5 +1,5 @@
 -- The pages that are made of a group, without names.
-use Rattle.std.specs.Prelude.{ℕ, List, [], ◌∷◌, map, flat_map}
+use Rattle.std.specs.Prelude.{ℕ, zero, suc, List, [], ◌∷◌, map, flat_map}
 use Rattle.std.specs.Borrow.{Bor}
 use Rattle.std.specs.List.{AllByRecursion}
 use Rattle.keys.specs.Order.{IsRising}
@@ -12,6 +12,11 @@ use Rattle.split_plan.specs.Cut.{cut}
 abbrev pub pages_from : {V : Type 0} → List ℕ → List (List (List ℕ × V)) → List (Page V)
 pages_from low [] = []
 pages_from low (b ∷ bs) = bare low b ∷ map (λ c. bare (first_key c) c) bs
+
+-- the low key of the piece at a place: this one for the first, and else its own first key
+abbrev pub low_at : {V : Type 0} → List ℕ → ℕ → List (List ℕ × V) → List ℕ
+low_at low zero b = low
+low_at low (suc i) b = first_key b
 
 -- the entries of pages, joined
 abbrev pub joined_pages : {V : Type 0} → List (Page V) → List (List ℕ × V)

@@ -5,7 +5,7 @@ ghost use Rattle.keys.specs.Order.{IsRising};
 ghost use Rattle.delta_chain.specs.Lent.{pairs_lent};
 ghost use Rattle.index_page.specs.Page.{bare, first_key};
 ghost use Rattle.split_plan.specs.Cut.{piece_count, cut};
-ghost use Rattle.split_plan.specs.Pieces.{pages_lent, joined_pages, pages_from};
+ghost use Rattle.split_plan.specs.Pieces.{pages_lent, joined_pages, low_at, pages_from};
 
 use crate::kind::Kind;
 use delta_chain::{Base, BaseBuilder, Pairs, PushError};
@@ -58,8 +58,7 @@ pub(crate) fn cut_pages<'a, V: Kind>(
     let mut pages = Vec::with_capacity(alloc, count)?;
     for at in 0..count {
         let piece = &entries[begin(at, entries.len(), count)..begin(at + 1, entries.len(), count)];
-        let piece_low = if at == 0 { low } else { first_key(piece) };
-        pages.push_reserved(bare_page(alloc, piece_low, piece)?);
+        pages.push_reserved(bare_page(alloc, low_at(low, at, piece), piece)?);
     }
     Ok(pages)
 }
@@ -81,6 +80,13 @@ fn begin(at: usize, entries: usize, pieces: usize) -> usize
 {
     // The product may have twice as many bits.
     (at as u128 * entries as u128 / pieces as u128) as usize
+}
+
+// The low key of the piece at this place: this one for the first, and else its own first key.
+fn low_at<'a, V>(low: &'a [u8], at: usize, piece: &[(&'a [u8], &'a V)]) -> &'a [u8]
+    ensures { result.now ≡ low_at low.now at (pairs_lent piece.now) }
+{
+    if at == 0 { low } else { first_key(piece) }
 }
 
 /// The first key, and the empty key where there is none.

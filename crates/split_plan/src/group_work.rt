@@ -23,8 +23,8 @@ pub struct GroupWork<'a> {
     pub alloc: Global,
     /// The store's settings, of which `fan` is looked at.
     pub settings: Settings,
-    /// The pages that are lent.
-    pub lent: PhantomData<&'a Page<Global>>,
+    // The members of its jobs are lent.
+    lent: PhantomData<&'a Page<Global>>,
 }
 
 /// The members of a group, in order.
@@ -39,6 +39,19 @@ pub struct GroupJob<'a> {
 pub struct GroupDone<'a> {
     members: Vec<&'a Page<Global>>,
     pieces: Vec<Page<Global>>,
+}
+
+impl<'a> GroupWork<'a> {
+    /// The work with these settings.
+    pub fn new(alloc: Global, settings: Settings) -> Self
+        ensures { result.settings ≡ settings }
+    {
+        GroupWork {
+            alloc,
+            settings,
+            lent: PhantomData,
+        }
+    }
 }
 
 impl<'a> Model for GroupDone<'a> {
@@ -164,3 +177,6 @@ pub fn index_pages(
     }
     cut_pages::<Pid>(alloc, settings.fan, first_key(&entries), &entries)
 }
+
+#[cfg(test)]
+mod tests;

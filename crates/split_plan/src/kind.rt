@@ -14,7 +14,7 @@ pub(crate) trait Kind: Cell<Global> + Drop {
     // Which pages are of this kind.
     ghost is_of: { PageOfKind → Type 0 };
 
-    // The page that one of this kind is, and the one of this kind that a page is.
+    // The page that one of this kind is, and the page of this kind that it is made into.
     ghost taken: { PageOfKind → PageOf Self };
 
     ghost made: { PageOf Self → PageOfKind };
@@ -28,7 +28,7 @@ pub(crate) trait Kind: Cell<Global> + Drop {
     fn page(low: Key<Global>, base: Base<Self, Global>) -> Page<Global>
         ensures { result ≡ made (bare low base) };
 
-    // It is one page still.
+    // It has its low key, taken as one of any kind.
     ghost keeps_low: { (p : PageOfKind) → (taken p).low ≡ low_of p };
 }
 

@@ -1,7 +1,6 @@
-use Rattle.std.proofs.Common.{◌≡◌, ◌∙◌, ap, arith, length, slice_range, ◌*◌, ◌/◌, ◌+◌}
+use Rattle.std.proofs.Common.{◌≡◌, arith, length, slice_range, ◌*◌, ◌/◌, ◌+◌}
 use Rattle.delta_chain.specs.Lent.{pairs_lent}
-use Rattle.split_plan.proofs.LentPieces.{length-pairs_lent, pairs_lent-slice, piece_is, rising_slice, low_at, low_at_first, low_at_later, cut_begins, cut_step}
-use Rattle.split_plan.proofs.cutting.cut_pages.Goals.{then-at-eq0, else-at-eq0}
+use Rattle.split_plan.proofs.LentPieces.{length-pairs_lent, pairs_lent-slice, piece_is, rising_slice, cut_begins, cut_step}
 use Rattle.split_plan.proofs.cutting.cut_pages.Goals as goal
 
 pub loop-at-init : goal.loop-at-init
@@ -21,13 +20,8 @@ loop-at-preserved g c =
     let b = pairs_lent piece in
     let is : b ≡ slice_range es (c.loop-at.at * length es / c.piece_count-count.result) ((c.loop-at.at + 1) * length es / c.piece_count-count.result) =
     piece_is c.args.entries.now c.begin.result c.begin-in-loop-at.result c.loop-at.at c.piece_count-count.result c.begin.ensures.place c.begin-in-loop-at.ensures.place in
-    let low : c.if-at-eq0.piece_low.now ≡ low_at c.args.low.now c.loop-at.at b =
-    elim c.if-at-eq0.branch [
-      | then-at-eq0 w ↦ ap (λ k. k.now) w.piece_low-is ∙ low_at_first c.args.low.now c.loop-at.at b w.if-at-eq0.true
-      | else-at-eq0 w ↦ ap (λ k. k.now) w.piece_low-is ∙ w.first_key-piece_low.ensures ∙ low_at_later c.args.low.now c.loop-at.at b w.if-at-eq0.false
-    ] in
     record {
-      made = rw (c.push_reserved.ensures.items, c.in_ok-bare_page.ensures) (cut_step g.V.Kind.made c.args.low.now es c.piece_count-count.result c.loop-at.at c.loop-at.pages.items _ b c.if-at-eq0.piece_low.now c.loop-at-test.true is low c.loop-at.invariant.made);
+      made = rw (c.push_reserved.ensures.items, c.in_ok-bare_page.ensures) (cut_step g.V.Kind.made c.args.low.now es c.piece_count-count.result c.loop-at.at c.loop-at.pages.items _ b c.low_at.result.now c.loop-at-test.true is c.low_at.ensures c.loop-at.invariant.made);
       count = omega (arith, c.push_reserved.ensures.len);
       room = rw c.push_reserved.ensures.capacity c.loop-at.invariant.room;
     }
