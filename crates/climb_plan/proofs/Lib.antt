@@ -14,6 +14,7 @@ mod MergedAndCutAgain
 mod OutdatedPids
 mod Pids
 mod Planned
+mod RewritingSeen
 mod RowEight
 mod RowFive
 mod RowFour
