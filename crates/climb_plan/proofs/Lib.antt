@@ -2,6 +2,7 @@ mod AllThinLeaves
 pub mod ChangingGroups
 mod Climbs
 mod CutUnderTwoParents
+mod DescentWay
 mod Families
 mod FreshOrder
 mod InUse
