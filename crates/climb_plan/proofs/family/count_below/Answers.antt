@@ -1,14 +1,13 @@
-use Rattle.std.proofs.Common.{rules, ◌≡◌, ℕ, ◌≤◌, false, List, [], ◌∷◌, ◌++◌, map, drop, length, Some, IsSome, MatchOption, IfOk, OnOk, ◌+◌, ◌-◌, ◌*◌, ◌<◌, ◌/◌, ◌%◌, Bool, true, nat_eq, nat_lt, slice_index_or, slice_set, bit_and, bit_or, Fits, w8, w32, w64, Bor, MutBor}
-use Rattle.std.specs.List.{AllByRecursion, filter}
-use Rattle.index_page.specs.Page.{low_of}
-use Rattle.index_page.specs.Range.{is_below}
-use Rattle.mapping.specs.Levels.{Placed}
-use Rattle.mapping.specs.Table.{page_of}
-use Rattle.page_runs.specs.declared.class.Class.TheVariants.{Same}
-use Rattle.climb_plan.specs.Changing.{SeenPage}
-use Rattle.climb_plan.specs.Rewriting.{seen_now, all_seen, AreSeenIn, AreParents, IsLevelSeen, IsQuiet, HasFirstCall, pids_for, AreParted, begins_at, IsNextChild, IsFamilyOf, rewriting, rewritten_groups, with_rewriting, counted, groups_of, is_rewritten_seen}
+use Rattle.climb_plan.proofs.RewritingSeen.{is_low, low_first, low_count}
+use Rattle.std.proofs.Common.{◌≡◌, true, false, rules, of_calls, arith}
+use Rattle.std.proofs.lemmas.List.Sorted.{IsPartitionPoint-from_clause}
 use Rattle.climb_plan.proofs.family.count_below.Goals as goal
 
--- src/family.rt:176:1
 pub returns : goal.returns
-returns c = ?
+returns c =
+    λ before from parted.
+    let xs = c.args.seen.now in
+    let k = c.args.key.now in
+    let n = c.partition_point.result in
+    let point = IsPartitionPoint-from_clause (is_low k) xs n c.partition_point.ensures.partitioned (low_first k xs before from parted.joined parted.below parted.others) (λ a r q z. search (rules, of_calls)) in
+    low_count k xs before from n parted.joined parted.below parted.others c.partition_point.ensures.bound (λ i d w v. point.0 i d (omega arith) v) (λ i d w v. point.1 i d v w)

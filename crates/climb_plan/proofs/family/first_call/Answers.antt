@@ -1,14 +1,6 @@
-use Rattle.std.proofs.Common.{rules, ◌≡◌, ℕ, ◌≤◌, false, List, [], ◌∷◌, ◌++◌, map, drop, length, Some, IsSome, MatchOption, IfOk, OnOk, ◌+◌, ◌-◌, ◌*◌, ◌<◌, ◌/◌, ◌%◌, Bool, true, nat_eq, nat_lt, slice_index_or, slice_set, bit_and, bit_or, Fits, w8, w32, w64, Bor, MutBor}
-use Rattle.std.specs.List.{AllByRecursion, filter}
-use Rattle.index_page.specs.Page.{low_of}
-use Rattle.index_page.specs.Range.{is_below}
-use Rattle.mapping.specs.Levels.{Placed}
-use Rattle.mapping.specs.Table.{page_of}
-use Rattle.page_runs.specs.declared.class.Class.TheVariants.{Same}
-use Rattle.climb_plan.specs.Changing.{SeenPage}
-use Rattle.climb_plan.specs.Rewriting.{seen_now, all_seen, AreSeenIn, AreParents, IsLevelSeen, IsQuiet, HasFirstCall, pids_for, AreParted, begins_at, IsNextChild, IsFamilyOf, rewriting, rewritten_groups, with_rewriting, counted, groups_of, is_rewritten_seen}
+use Rattle.std.proofs.Common.{sym, ◌∙◌}
+use Rattle.climb_plan.proofs.RewritingSeen.{call_at}
 use Rattle.climb_plan.proofs.family.first_call.Goals as goal
 
--- src/family.rt:61:13
 pub returns-then-calls : goal.returns-then-calls
-returns-then-calls c = ?
+returns-then-calls c = call_at c.args.seen.now c.loop-page.page-index c.page-item.result c.low.result.now c.loop-page-test.true c.page-item.is c.loop-page.invariant (sym c.calls.ensures ∙ c.if-calls.true) c.low.ensures

@@ -1,14 +1,12 @@
-use Rattle.std.proofs.Common.{rules, ◌≡◌, ℕ, ◌≤◌, false, List, [], ◌∷◌, ◌++◌, map, drop, length, Some, IsSome, MatchOption, IfOk, OnOk, ◌+◌, ◌-◌, ◌*◌, ◌<◌, ◌/◌, ◌%◌, Bool, true, nat_eq, nat_lt, slice_index_or, slice_set, bit_and, bit_or, Fits, w8, w32, w64, Bor, MutBor}
-use Rattle.std.specs.List.{AllByRecursion, filter}
-use Rattle.index_page.specs.Page.{low_of}
-use Rattle.index_page.specs.Range.{is_below}
-use Rattle.mapping.specs.Levels.{Placed}
-use Rattle.mapping.specs.Table.{page_of}
-use Rattle.page_runs.specs.declared.class.Class.TheVariants.{Same}
-use Rattle.climb_plan.specs.Changing.{SeenPage}
-use Rattle.climb_plan.specs.Rewriting.{seen_now, all_seen, AreSeenIn, AreParents, IsLevelSeen, IsQuiet, HasFirstCall, pids_for, AreParted, begins_at, IsNextChild, IsFamilyOf, rewriting, rewritten_groups, with_rewriting, counted, groups_of, is_rewritten_seen}
+use Rattle.std.proofs.Common.{sym, ap, ◌∙◌, Ordering, List, ℕ}
+use Rattle.std.specs.Ordering.{is_eq}
+use Rattle.index_page.specs.Rules.{is_same_key}
+use Rattle.climb_plan.proofs.RewritingSeen.{begins_read}
 use Rattle.climb_plan.proofs.family.has_low.Goals as goal
 
--- src/family.rt:166:1
 pub returns-in-Some : goal.returns-in-Some
-returns-in-Some c = ?
+returns-in-Some c =
+    c.is_eq.ensures
+    ∙ ap (λ (o : Ordering). is_eq o) c.cmp.ensures
+    ∙ ap (λ (k : List ℕ). is_same_key k c.args.low.now) c.low.ensures
+    ∙ sym (begins_read c.args.low.now c.args.seen.now c.args.at c.in-Some.page.now c.in-Some.ensures.lookup.3.0 c.in-Some.ensures.lookup.1)
