@@ -4,6 +4,7 @@ pub mod ChangingOutdated
 pub mod ChangingSeen
 mod Climbs
 mod CutUnderTwoParents
+mod DescentWay
 mod Families
 mod FreshOrder
 mod InUse
@@ -18,6 +19,7 @@ mod MergedAndCutAgain
 mod OutdatedPids
 mod Pids
 mod Planned
+mod RewritingSeen
 mod RowEight
 mod RowFive
 mod RowFour

@@ -1,5 +1,5 @@
 -- Which groups of a level are rewritten, and what is made of them, in words of pages of either kind, as code has them.
-use Rattle.std.specs.Prelude.{◌≡◌, ℕ, ◌+◌, ◌-◌, ◌<◌, ◌≤◌, ⊤, Bool, false, true, List, [], ◌∷◌, map, flat_map, take, drop, length, Option, Some, None}
+use Rattle.std.specs.Prelude.{◌≡◌, ℕ, zero, suc, ◌+◌, ◌-◌, ◌<◌, ◌≤◌, ⊤, Bool, false, true, List, [], ◌∷◌, ◌++◌, map, flat_map, take, drop, length, Option, Some, None}
 use Rattle.std.specs.List.{filter, AllByRecursion, range_with_len}
 use Rattle.std.specs.Borrow.{Bor}
 use Rattle.keys.specs.Lists.{flat}
@@ -8,8 +8,10 @@ use Rattle.keys.specs.declared.settings.Settings.{Settings}
 use Rattle.delta_chain.specs.Layers.{with_run}
 use Rattle.index_page.specs.Page.{PageOfKind, low_of}
 use Rattle.index_page.specs.Page.PageOfKind.{Index}
-use Rattle.index_page.specs.Rules.{IsHeaded}
-use Rattle.mapping.specs.Levels.{Placed, entries, joined, top_pid}
+use Rattle.index_page.specs.Children.{children, is_place_for}
+use Rattle.index_page.specs.Range.{AreBelow, AreFrom}
+use Rattle.index_page.specs.Rules.{IsHeaded, is_same_key}
+use Rattle.mapping.specs.Levels.{Placed, entries, joined, names, top_pid}
 use Rattle.mapping.specs.FreshPids.{unused}
 use Rattle.mapping.specs.Proper.{next_low, Tiled, Stacked}
 use Rattle.mapping.specs.Table.{Mapping, page_of}
@@ -19,7 +21,7 @@ use Rattle.page_runs.specs.Worked.{is_thin_class, is_fat_class}
 use Rattle.split_plan.specs.Groups.{groups}
 use Rattle.split_plan.specs.Pieces.{group_made, CanJoin}
 use Rattle.split_plan.specs.Terms.{absent, present}
-use Rattle.climb_plan.specs.Changing.{SeenPage}
+use Rattle.climb_plan.specs.Changing.{SeenPage, calls}
 use Rattle.climb_plan.specs.declared.seen.Seen.{Seen}
 
 -- ---- pages as they are seen
@@ -48,7 +50,7 @@ is_rewritten_seen (x ∷ y ∷ xs) = true
 pub data AreSeenIn (t : Mapping PageOfKind) : List SeenPage → List SeenPage → Type 0 where
   none : AreSeenIn t [] []
   worked : {xs all : List SeenPage} → (x : SeenPage) → AreSeenIn t xs all → AreSeenIn t (x ∷ xs) (x ∷ all)
-  at_home : {xs all : List SeenPage} → (x : SeenPage) → x.class ≡ Same → page_of t x.pid ≡ Some x.page → AreSeenIn t xs all → AreSeenIn t xs (x ∷ all)
+  at_home : {xs all : List SeenPage} → (x : SeenPage) → x.class ≡ Same → x.replaced ≡ false → page_of t x.pid ≡ Some x.page → AreSeenIn t xs all → AreSeenIn t xs (x ∷ all)
 
 -- ---- groups
 
@@ -95,6 +97,62 @@ pub record IsLevelSeen (t : TreeInMemory) (depth : ℕ) (xs all : List SeenPage)
   pub seen : AreSeenIn t.table xs all
   pub linked : joined ps ≡ map seen_name all
   pub parents : AreParents t depth ps ups
+
+-- ---- what is looked at on the way
+
+-- the page is neither thin nor fat
+abbrev pub IsQuiet : SeenPage → Type 0
+IsQuiet x = calls x.class ≡ false
+
+-- the low keys of pages
+abbrev pub lows : List SeenPage → List (List ℕ)
+lows xs = map (λ x. low_of x.page) xs
+
+-- of these pages the first that is thin or fat, with those in front of it and those behind
+pub record IsFirstCall (xs quiet : List SeenPage) (x : SeenPage) (more : List SeenPage) : Type 0 where
+  pub parted : xs ≡ quiet ++ x ∷ more
+  pub none_earlier : AllByRecursion IsQuiet quiet
+  pub call : calls x.class ≡ true
+
+-- the key is the low key of the first page that is thin or fat
+abbrev pub HasFirstCall : List SeenPage → List ℕ → Type 0
+HasFirstCall xs low = (quiet : List SeenPage) × (x : SeenPage) × (more : List SeenPage) × IsFirstCall xs quiet x more × (low ≡ low_of x.page)
+
+-- of a level's pages the pids of those in whose range the key lies
+abbrev pub pids_for : List (Placed ℕ) → List ℕ → List ℕ
+pids_for ps k = map (λ at. at.pid) (filter (is_place_for k) (children (names ps) None))
+
+-- so many levels above these pages, the pid is that of the page in whose range the key lies
+abbrev pub IsOnWay : ℕ → List (Placed ℕ) → List (List (Placed ℕ)) → List ℕ → ℕ → Type 0
+IsOnWay zero ps ups k pid = pids_for ps k ≡ pid ∷ []
+IsOnWay (suc n) ps [] k pid = ⊥
+IsOnWay (suc n) ps (up ∷ ups) k pid = IsOnWay n up ups k pid
+
+-- pages whose low keys are below a key, and pages whose low keys are not
+pub record AreParted (k : List ℕ) (xs before from : List SeenPage) : Type 0 where
+  pub joined : xs ≡ before ++ from
+  pub below : AreBelow k (lows before)
+  pub others : AreFrom k (lows from)
+
+-- whether the first of these pages has this low key
+abbrev pub begins_at : List ℕ → List SeenPage → Bool
+begins_at low [] = false
+begins_at low (x ∷ xs) = is_same_key (low_of x.page) low
+
+-- the first of the pages that are left of a level, of which these got a run
+pub record IsNextChild (t : Mapping PageOfKind) (xs : List SeenPage) (low : List ℕ) (pid : ℕ) (x : SeenPage) (later : List SeenPage) : Type 0 where
+  pub seen : AreSeenIn t xs (x ∷ later)
+  pub same_low : low ≡ low_of x.page
+  pub same_pid : pid ≡ x.pid
+  pub rising : IsRising (map seen_name (x ∷ later))
+
+-- the children of a parent, with the pages of the level behind them: of the pages that got a run some are in front
+pub record IsFamilyOf (t : Mapping PageOfKind) (xs : List SeenPage) (p : Placed ℕ) (before from children later : List SeenPage) : Type 0 where
+  pub home : page_of t p.pid ≡ Some (Index p.page)
+  pub parted : AreParted p.page.low xs before from
+  pub seen : AreSeenIn t from (children ++ later)
+  pub linked : entries p ≡ map seen_name children
+  pub rising : IsRising (map seen_name (children ++ later))
 
 -- ---- what is made of groups
 

@@ -1,12 +1,16 @@
 //! Which groups of a level are rewritten, found from the pages that call for it: thin ones and fat ones. Only their parents
 //! are visited.
-ghost use Rattle.std.specs.Prelude.{◌≡◌, ℕ, List, IfOk};
+ghost use Rattle.std.specs.Prelude.{◌≡◌, ℕ, ◌≤◌, false, List, [], ◌∷◌, ◌++◌, map, drop, length, Some, IsSome, MatchOption, IfOk, OnOk};
+ghost use Rattle.std.specs.List.{AllByRecursion, filter};
+ghost use Rattle.index_page.specs.Page.{low_of};
+ghost use Rattle.index_page.specs.Range.{is_below};
 ghost use Rattle.mapping.specs.Levels.{Placed};
+ghost use Rattle.mapping.specs.Table.{page_of};
+ghost use Rattle.page_runs.specs.declared.class.Class.TheVariants.{Same};
 ghost use Rattle.climb_plan.specs.Changing.{SeenPage};
-ghost use Rattle.climb_plan.specs.Rewriting.{all_seen, IsLevelSeen, rewriting, counted, groups_of, is_rewritten_seen};
+ghost use Rattle.climb_plan.specs.Rewriting.{seen_now, all_seen, AreSeenIn, AreParents, IsLevelSeen, IsQuiet, HasFirstCall, pids_for, AreParted, begins_at, IsNextChild, IsFamilyOf, rewriting, rewritten_groups, with_rewriting, counted, groups_of, is_rewritten_seen};
 
 use crate::seen::Seen;
-use index_page::Page;
 use keys::Pid;
 use mapping::Tree;
 use page_runs::Class;
@@ -40,22 +44,31 @@ pub(crate) fn rewrites<'a>(
         parents: Vec::new(alloc),
         groups: Vec::new(alloc),
     };
-    let mut rest = seen;
-    while let Some(at) = first_call(rest) {
-        let parent = parent_of(tree, depth, rest[at].page.low());
-        let count = add_family(alloc, tree, parent, rest, &mut rewrites)?;
-        rest = &rest[count..];
+    let mut done = 0;
+    while let Some(low) = first_call(&seen[done..]) {
+        let parent = parent_of(tree, depth, low);
+        done += add_family(alloc, tree, parent, &seen[done..], &mut rewrites)?;
     }
     Ok(rewrites)
 }
 
-// The place of the first page that is thin or fat.
-fn first_call(seen: &[Seen<'_>]) -> Option<usize> {
-    seen.iter().position(|page| page.calls())
+// The low key of the first page that is thin or fat.
+fn first_call<'a>(seen: &[Seen<'a>]) -> Option<&'a [u8]>
+    ensures { MatchOption result (AllByRecursion IsQuiet (all_seen seen.now)) (λ low. HasFirstCall (all_seen seen.now) low.now) }
+{
+    for page in seen {
+        if page.calls() {
+            return Some(page.page.low());
+        }
+    }
+    None
 }
 
 // The page id of the index page, so many levels below the root, in whose range the key is.
-fn parent_of(tree: &Tree<Global>, depth: u32, key: &[u8]) -> Pid {
+fn parent_of(tree: &Tree<Global>, depth: u32, key: &[u8]) -> Pid
+    requires { (ps : List (Placed ℕ)) × (ups : List (List (Placed ℕ))) × AreParents tree.now depth ps ups }
+    ensures { (ps : List (Placed ℕ)) (ups : List (List (Placed ℕ))) → AreParents tree.now depth ps ups → pids_for ps key.now ≡ result ∷ [] }
+{
     let mut pid = tree.root();
     for _level in 0..depth {
         match tree.page(pid) {
@@ -73,12 +86,23 @@ fn add_family<'a>(
     parent: Pid,
     seen: &[Seen<'a>],
     rewrites: &mut ToRewrite<'a>,
-) -> Result<usize, AllocError> {
-    let Some(page) = tree.page(parent) else {
-        unreachable!()
-    };
-    let (children, behind) = family(alloc, tree, page, seen)?;
-    let count = add_groups(alloc, &children, &mut rewrites.groups)?;
+) -> Result<usize, AllocError>
+    requires { (p : Placed ℕ) × (before : List SeenPage) × (from : List SeenPage) × (children : List SeenPage) × (later : List SeenPage) × (parent ≡ p.pid) ×
+        IsFamilyOf tree.now.table (all_seen seen.now) p before from children later }
+    ensures most { IfOk result (λ behind. behind ≤ length seen.now) }
+    ensures later { IfOk result (λ behind. (p : Placed ℕ) (before from children later : List SeenPage) → parent ≡ p.pid →
+        IsFamilyOf tree.now.table (all_seen seen.now) p before from children later → AreSeenIn tree.now.table (all_seen (drop behind seen.now)) later) }
+    ensures parents { OnOk result ((p : Placed ℕ) (before from children later : List SeenPage) → parent ≡ p.pid →
+        IsFamilyOf tree.now.table (all_seen seen.now) p before from children later →
+        rewrites.new.parents.items ≡ rewrites.old.parents.items ++ counted (with_rewriting p.pid (rewritten_groups children) [])) }
+    ensures groups { OnOk result ((p : Placed ℕ) (before from children later : List SeenPage) → parent ≡ p.pid →
+        IsFamilyOf tree.now.table (all_seen seen.now) p before from children later →
+        map (λ g. all_seen g.items) rewrites.new.groups.items ≡ map (λ g. all_seen g.items) rewrites.old.groups.items ++ rewritten_groups children) }
+{
+    let (children, behind) = family(alloc, tree, parent, seen)?;
+    let before = rewrites.groups.len();
+    add_groups(alloc, &children, &mut rewrites.groups)?;
+    let count = rewrites.groups.len() - before;
     if count > 0 {
         rewrites.parents.push((parent.0, count))?;
     }
@@ -89,34 +113,83 @@ fn add_family<'a>(
 fn family<'a>(
     alloc: Global,
     tree: &'a Tree<Global>,
-    parent: &Page<Global>,
+    parent: Pid,
     seen: &[Seen<'a>],
-) -> Result<(Vec<Seen<'a>>, usize), AllocError> {
-    let Some(chain) = parent.as_index() else {
+) -> Result<(Vec<Seen<'a>>, usize), AllocError>
+    requires { (p : Placed ℕ) × (before : List SeenPage) × (from : List SeenPage) × (children : List SeenPage) × (later : List SeenPage) × (parent ≡ p.pid) ×
+        IsFamilyOf tree.now.table (all_seen seen.now) p before from children later }
+    ensures most { IfOk result (λ r. r.1 ≤ length seen.now) }
+    ensures children { IfOk result (λ r. (p : Placed ℕ) (before from children later : List SeenPage) → parent ≡ p.pid →
+        IsFamilyOf tree.now.table (all_seen seen.now) p before from children later → all_seen r.0.items ≡ children) }
+    ensures later { IfOk result (λ r. (p : Placed ℕ) (before from children later : List SeenPage) → parent ≡ p.pid →
+        IsFamilyOf tree.now.table (all_seen seen.now) p before from children later → AreSeenIn tree.now.table (all_seen (drop r.1 seen.now)) later) }
+{
+    let Some(page) = tree.page(parent) else {
+        unreachable!()
+    };
+    let Some(chain) = page.as_index() else {
         unreachable!()
     };
     let entries = chain.pairs(alloc)?;
     let mut children = Vec::with_capacity(alloc, entries.len())?;
-    let mut next = count_below(seen, parent.low());
+    let mut next = count_below(seen, page.low());
     for at in 0..entries.len() {
-        let pid = *entries.cell(at);
-        if next < seen.len() && seen[next].pid == pid {
-            children.push_reserved(seen[next]);
-            next += 1;
-        } else {
-            children.push_reserved(untouched(tree, pid));
-        }
+        let child = next_child(tree, seen, entries.key(at), *entries.cell(at), &mut next);
+        children.push_reserved(child);
     }
     Ok((children, next))
 }
 
+// The child with this low key and page id: the next of the pages, or one that got no run.
+fn next_child<'a>(
+    tree: &'a Tree<Global>,
+    seen: &[Seen<'a>],
+    low: &[u8],
+    pid: Pid,
+    next: &mut usize,
+) -> Seen<'a>
+    requires within { next.old ≤ length seen.now }
+    requires child { (x : SeenPage) × (later : List SeenPage) × IsNextChild tree.now.table (all_seen (drop next.old seen.now)) low.now pid x later }
+    ensures within { next.new ≤ length seen.now }
+    ensures child { (x : SeenPage) (later : List SeenPage) → IsNextChild tree.now.table (all_seen (drop next.old seen.now)) low.now pid x later →
+        (seen_now result ≡ x) × AreSeenIn tree.now.table (all_seen (drop next.new seen.now)) later }
+{
+    if !has_low(seen, *next, low) {
+        return untouched(tree, pid);
+    }
+    let child = seen[*next].copied();
+    *next += 1;
+    child
+}
+
+// Whether there is a page at this place, with this low key.
+fn has_low(seen: &[Seen<'_>], at: usize, low: &[u8]) -> bool
+    ensures { result ≡ begins_at low.now (all_seen (drop at seen.now)) }
+{
+    match seen.get(at) {
+        Some(page) => page.page.low().cmp(low).is_eq(),
+        None => false,
+    }
+}
+
 // How many of the pages have a low key below this one. It is found by halves.
-fn count_below(seen: &[Seen<'_>], key: &[u8]) -> usize {
-    seen.partition_point(|page| page.page.low().cmp(key).is_lt())
+fn count_below(seen: &[Seen<'_>], key: &[u8]) -> usize
+    requires { (before : List SeenPage) × (from : List SeenPage) × AreParted key.now (all_seen seen.now) before from }
+    ensures { (before from : List SeenPage) → AreParted key.now (all_seen seen.now) before from → result ≡ length before }
+{
+    seen.partition_point(
+        |page: &Seen<'_>| -> bool
+            ensures { result ≡ is_below (low_of page.now.page.now) key.entry.now }
+        { page.page.low().cmp(key).is_lt() },
+    )
 }
 
 // A page that got no run.
-fn untouched(tree: &Tree<Global>, pid: Pid) -> Seen<'_> {
+fn untouched(tree: &Tree<Global>, pid: Pid) -> Seen<'_>
+    requires { IsSome (page_of tree.now.table pid) }
+    ensures page { page_of tree.now.table pid ≡ Some result.page.now }
+    ensures rest { seen_now result ≡ record { pid = pid; page = result.page.now; class = Same; replaced = false } }
+{
     match tree.page(pid) {
         Some(page) => Seen {
             pid,
@@ -128,27 +201,43 @@ fn untouched(tree: &Tree<Global>, pid: Pid) -> Seen<'_> {
     }
 }
 
-// Adds the groups of these children that are rewritten, and returns how many they are.
+// Adds the groups of these children that are rewritten.
 fn add_groups<'a>(
     alloc: Global,
     children: &[Seen<'a>],
     rewritten: &mut Vec<Vec<Seen<'a>>>,
-) -> Result<usize, AllocError> {
+) -> Result<(), AllocError>
+    ensures { OnOk result (map (λ g. all_seen g.items) rewritten.new.items ≡ map (λ g. all_seen g.items) rewritten.old.items ++ rewritten_groups (all_seen children.now)) }
+{
     let classes = classes_of(alloc, children)?;
-    let mut rest = children;
-    let mut count = 0;
-    for size in groups(alloc, &classes)?.as_slice() {
-        let (group, later) = rest.split_at(*size);
-        if is_rewritten(group) {
-            rewritten.push(group.to_vec(alloc)?)?;
-            count += 1;
-        }
-        rest = later;
+    let sizes = groups(alloc, &classes)?;
+    let mut start = 0;
+    for size in sizes.as_slice() {
+        let end = start + *size;
+        add_group(alloc, &children[start..end], rewritten)?;
+        start = end;
     }
-    Ok(count)
+    Ok(())
 }
 
-fn classes_of(alloc: Global, children: &[Seen<'_>]) -> Result<Vec<Class>, AllocError> {
+// Adds the group, if it is rewritten.
+fn add_group<'a>(
+    alloc: Global,
+    group: &[Seen<'a>],
+    rewritten: &mut Vec<Vec<Seen<'a>>>,
+) -> Result<(), AllocError>
+    ensures { OnOk result (map (λ g. all_seen g.items) rewritten.new.items ≡ map (λ g. all_seen g.items) rewritten.old.items ++ filter is_rewritten_seen (all_seen group.now ∷ [])) }
+{
+    if is_rewritten(group) {
+        rewritten.push(group.to_vec(alloc)?)?;
+    }
+    Ok(())
+}
+
+// The classes of these children.
+fn classes_of(alloc: Global, children: &[Seen<'_>]) -> Result<Vec<Class>, AllocError>
+    ensures { IfOk result (λ classes. classes.items ≡ map (λ x. x.class) children.now) }
+{
     let mut classes = Vec::with_capacity(alloc, children.len())?;
     for child in children {
         classes.push_reserved(child.class);

@@ -21,6 +21,18 @@ pub(crate) struct Seen<'a> {
 }
 
 impl<'a> Seen<'a> {
+    /// The same view of the page.
+    pub(crate) fn copied(&self) -> Seen<'a>
+        ensures { result ≡ self.now }
+    {
+        Seen {
+            pid: self.pid,
+            page: self.page,
+            class: self.class,
+            replaced: self.replaced,
+        }
+    }
+
     /// Whether the page may have to be cut or merged: it is thin or fat.
     pub(crate) fn calls(&self) -> bool
         ensures { result ≡ (is_thin_class self.now.class || is_fat_class self.now.class) }
