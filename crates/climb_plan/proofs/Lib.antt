@@ -1,4 +1,7 @@
 mod AllThinLeaves
+mod ChangedNames
+mod ChangedPieces
+mod ChangedRooms
 pub mod ChangingGroups
 pub mod ChangingOutdated
 pub mod ChangingSeen

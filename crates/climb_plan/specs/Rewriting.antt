@@ -166,6 +166,12 @@ pub record Remade : Type 0 where
 abbrev pub cut_group : Settings → List SeenPage → Remade
 cut_group s g = record { members = map (λ x. x.pid) g; pieces = group_made s (map (λ x. x.page) g); fresh = [] }
 
+-- each group with the pages that were made of it
+abbrev pub joined_groups : List (List SeenPage) → List (List PageOfKind) → List Remade
+joined_groups [] made = []
+joined_groups (g ∷ gs) [] = []
+joined_groups (g ∷ gs) (pages ∷ made) = record { members = map (λ x. x.pid) g; pieces = pages; fresh = [] } ∷ joined_groups gs made
+
 -- groups that can be cut
 abbrev pub CanBeCut : List (List SeenPage) → Type 0
 CanBeCut gs = AllByRecursion (λ g. CanJoin (map (λ x. x.page) g)) gs

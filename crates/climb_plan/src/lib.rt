@@ -4,6 +4,7 @@
 //! rewritten.
 #![tactic(auto)]
 
+mod change;
 mod family;
 pub mod laws;
 mod seen;

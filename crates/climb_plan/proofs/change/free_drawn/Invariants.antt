@@ -1,0 +1,10 @@
+use Rattle.std.proofs.Common.{◌≡◌, flat_map, drop}
+use Rattle.climb_plan.specs.Installing.{AreAway, all_freed_from}
+use Rattle.climb_plan.proofs.change.free_drawn.Given as goal
+
+-- the places of the groups behind are still away, and once they are freed too, all are
+abbrev pub invariant-loop-group : goal.invariant-loop-group
+invariant-loop-group l = record {
+  away : AreAway l.tree.table (flat_map (λ r. r.fresh) (drop l.group-index l.all));
+  freed : record l.tree { table = all_freed_from l.tree.table (flat_map (λ r. r.fresh) (drop l.group-index l.all)) } ≡ record l.initial.tree { table = all_freed_from l.initial.tree.table (flat_map (λ r. r.fresh) l.all) };
+}

@@ -1,0 +1,309 @@
+//! What is made of the groups of a level, and what their parents are told.
+ghost use Rattle.std.specs.Prelude.{◌≡◌, ℕ, ◌+◌, ◌-◌, ◌<◌, ◌≤◌, ◌++◌, List, map, flat_map, take, drop, length, IfOk, OnOk, OnErr};
+ghost use Rattle.keys.specs.Lists.{flat};
+ghost use Rattle.mapping.specs.FreshPids.{unused};
+ghost use Rattle.mapping.specs.Proper.{AreRisingPids};
+ghost use Rattle.mapping.specs.Table.{pids_in_use, with_rooms, fresh_pids};
+ghost use Rattle.split_plan.specs.Pieces.{pages_lent};
+ghost use Rattle.climb_plan.specs.Rewriting.{seen_name, all_seen, cut_group, CanBeCut, joined_groups, freed_names, fresh_names, named_pages, HaveSome, numbered, numbers, told, CanBeTold};
+ghost use Rattle.climb_plan.specs.Installing.{AreAway, AreLost, all_freed_from};
+
+use crate::seen::Seen;
+use crew::work_all;
+use delta_chain::Run;
+use index_page::Page;
+use keys::{Key, Pid, Settings};
+use mapping::Tree;
+use mapping::laws::drawn_pids_get_places_that_are_away;
+use split_plan::{GroupDone, GroupJob, GroupWork, Name, terms};
+use std::alloc::{AllocError, Global};
+use std::collections::VecDeque;
+use std::marker::{Model, PhantomData};
+
+/// A group that is rewritten: its members, and the pages that are made of them.
+#[derive(Drop)]
+pub(crate) struct Rewritten {
+    // The members' page ids, as numbers: the first of them is that of the first piece.
+    members: Vec<u64>,
+    // The pages in the group's place.
+    pieces: Vec<Page<Global>>,
+    // The numbers of all pieces but the first, once they are drawn.
+    fresh: Vec<u64>,
+}
+
+impl Model for Rewritten {
+    ghost use Rattle.climb_plan.specs.Rewriting.{Remade};
+
+    ghost Value = { Remade };
+
+    ghost view = { λ r. record { members = r.members.items; pieces = r.pieces.items; fresh = r.fresh.items } };
+}
+
+/// The groups, cut. Their pieces have no numbers yet.
+pub(crate) fn cut_all(
+    alloc: Global,
+    settings: &Settings,
+    groups: &[Vec<Seen<'_>>],
+) -> Result<Vec<Rewritten>, AllocError>
+    requires fan { 0 < settings.now.fan }
+    requires joined { CanBeCut (map (λ g. all_seen g.items) groups.now) }
+    ensures { IfOk result (λ all. all.items ≡ map (cut_group settings.now) (map (λ g. all_seen g.items) groups.now)) }
+{
+    let jobs = jobs_of(alloc, groups)?;
+    let work = GroupWork {
+        alloc,
+        settings: *settings,
+        lent: PhantomData,
+    };
+    match work_all(&work, jobs) {
+        Ok(dones) => all_cut(alloc, groups, dones),
+        Err(_) => Err(AllocError),
+    }
+}
+
+// The members of each group, as jobs.
+fn jobs_of<'a>(alloc: Global, groups: &[Vec<Seen<'a>>]) -> Result<Vec<GroupJob<'a>>, AllocError>
+    ensures { IfOk result (λ jobs. map (λ job. pages_lent job.members.items) jobs.items ≡ map (λ g. map (λ x. x.page) (all_seen g.items)) groups.now) }
+{
+    let mut jobs = Vec::with_capacity(alloc, groups.len())?;
+    for group in groups {
+        jobs.push_reserved(job_of(alloc, group)?);
+    }
+    Ok(jobs)
+}
+
+// The members' pages, lent.
+fn job_of<'a>(alloc: Global, group: &[Seen<'a>]) -> Result<GroupJob<'a>, AllocError>
+    ensures { IfOk result (λ job. pages_lent job.members.items ≡ map (λ x. x.page) (all_seen group.now)) }
+{
+    let mut members = Vec::with_capacity(alloc, group.len())?;
+    for member in group {
+        members.push_reserved(member.page);
+    }
+    Ok(GroupJob { members })
+}
+
+// Each group's members, with the pages that were made of it.
+fn all_cut(
+    alloc: Global,
+    groups: &[Vec<Seen<'_>>],
+    dones: Vec<GroupDone<'_>>,
+) -> Result<Vec<Rewritten>, AllocError>
+    ensures { IfOk result (λ all. all.items ≡ joined_groups (map (λ g. all_seen g.items) groups.now) (map (λ d. d.made) dones.entry.items)) }
+{
+    let mut all = Vec::with_capacity(alloc, groups.len())?;
+    let mut dones = VecDeque::from(dones);
+    for group in groups {
+        let Some(done) = dones.pop_front() else {
+            break;
+        };
+        all.push_reserved(Rewritten {
+            members: pids_of(alloc, group)?,
+            pieces: done.into_pieces(),
+            fresh: Vec::new(alloc),
+        });
+    }
+    Ok(all)
+}
+
+// The members' page ids, as numbers.
+fn pids_of(alloc: Global, group: &[Seen<'_>]) -> Result<Vec<u64>, AllocError>
+    ensures { IfOk result (λ pids. pids.items ≡ map (λ x. x.pid) (all_seen group.now)) }
+{
+    let mut pids = Vec::with_capacity(alloc, group.len())?;
+    for member in group {
+        pids.push_reserved(member.pid.0);
+    }
+    Ok(pids)
+}
+
+/// The names of each group's members but the first: they are freed.
+pub(crate) fn all_freed(
+    alloc: Global,
+    groups: &[Vec<Seen<'_>>],
+) -> Result<Vec<Vec<Name>>, AllocError>
+    ensures { IfOk result (λ all. map (λ names. names.items) all.items ≡ map freed_names (map (λ g. all_seen g.items) groups.now)) }
+{
+    let mut all = Vec::with_capacity(alloc, groups.len())?;
+    for group in groups {
+        all.push_reserved(freed_of(alloc, group)?);
+    }
+    Ok(all)
+}
+
+// The names of a group's members but the first.
+fn freed_of(alloc: Global, group: &[Seen<'_>]) -> Result<Vec<Name>, AllocError>
+    ensures { IfOk result (λ names. names.items ≡ freed_names (all_seen group.now)) }
+{
+    match group {
+        [] => Ok(Vec::new(alloc)),
+        [_kept, freed @ ..] => names_of(alloc, freed),
+    }
+}
+
+// What a parent's entries say of these pages.
+fn names_of(alloc: Global, pages: &[Seen<'_>]) -> Result<Vec<Name>, AllocError>
+    ensures { IfOk result (λ names. names.items ≡ map seen_name (all_seen pages.now)) }
+{
+    let mut names = Vec::with_capacity(alloc, pages.len())?;
+    for seen in pages {
+        names.push_reserved(Name {
+            low: Key::from_bytes(alloc, seen.page.low())?,
+            pid: seen.pid,
+        });
+    }
+    Ok(names)
+}
+
+/// Draws the numbers of the new pieces, from left to right. Where that is refused, the tree is as it was.
+pub(crate) fn draw_all(tree: &mut Tree<Global>, all: &mut [Rewritten]) -> Result<(), AllocError>
+    requires some { HaveSome all.old }
+    requires rising { AreRisingPids (pids_in_use tree.old.table) }
+    requires logs { AreLost tree.old.table }
+    ensures numbers { OnOk result ((used : List ℕ) (i : ℕ) → ((m : ℕ) → unused (pids_in_use tree.old.table) m ≡ unused used (i + m)) → all.new ≡ numbered used i all.old) }
+    ensures tree { OnOk result (tree.new ≡ record tree.old { table = with_rooms tree.old.table (fresh_pids (pids_in_use tree.old.table) (numbers all.old)) }) }
+    ensures err { OnErr result (tree.new ≡ tree.old) }
+{
+    // What is drawn is away, and to free it gives the table back.
+    drawn_pids_get_places_that_are_away::<Page<Global>>();
+    let drawn = draw_each(tree, all);
+    if drawn < all.len() {
+        free_drawn(tree, &all[..drawn]);
+        return Err(AllocError);
+    }
+    Ok(())
+}
+
+// Draws the numbers of each group's new pieces, until that is refused. Returns how many groups have theirs.
+fn draw_each(tree: &mut Tree<Global>, all: &mut [Rewritten]) -> usize
+    requires some { HaveSome all.old }
+    requires rising { AreRisingPids (pids_in_use tree.old.table) }
+    ensures within { result ≤ length all.old }
+    ensures numbers { all.new ≡ numbered (pids_in_use tree.old.table) 0 (take result all.old) ++ drop result all.old }
+    ensures tree { tree.new ≡ record tree.old { table = with_rooms tree.old.table (fresh_pids (pids_in_use tree.old.table) (numbers (take result all.old))) } }
+{
+    // The next that are drawn come behind those that were drawn before.
+    drawn_pids_get_places_that_are_away::<Page<Global>>();
+    for at in 0..all.len() {
+        let group = &mut all[at];
+        let Ok(()) = group.draw(tree) else {
+            return at;
+        };
+    }
+    all.len()
+}
+
+/// Gives the numbers of these groups' new pieces back, whose places are away.
+pub(crate) fn free_drawn(tree: &mut Tree<Global>, all: &[Rewritten])
+    requires { AreAway tree.old.table (flat_map (λ r. r.fresh) all.now) }
+    ensures { tree.new ≡ record tree.old { table = all_freed_from tree.old.table (flat_map (λ r. r.fresh) all.now) } }
+{
+    for group in all {
+        free_all(tree, &group.fresh);
+    }
+}
+
+// Gives these numbers back.
+fn free_all(tree: &mut Tree<Global>, pids: &[u64])
+    requires { AreAway tree.old.table pids.now }
+    ensures { tree.new ≡ record tree.old { table = all_freed_from tree.old.table pids.now } }
+{
+    for pid in pids {
+        tree.free(Pid(*pid));
+    }
+}
+
+/// The run of terms of each of these parents, with the parent's number.
+pub(crate) fn all_terms(
+    alloc: Global,
+    parents: &[(u64, usize)],
+    freed: Vec<Vec<Name>>,
+    all: &[Rewritten],
+) -> Result<Vec<(u64, Run<Pid, Global>)>, AllocError>
+    requires { CanBeTold parents.now (map (λ names. names.items) freed.items) all.now }
+    ensures { IfOk result (λ runs. runs.items ≡ told parents.now (map (λ names. names.items) freed.items) all.now) }
+{
+    let mut runs = Vec::with_capacity(alloc, parents.len())?;
+    let mut freed = VecDeque::from(freed);
+    let mut rest = all;
+    for parent in parents {
+        let (own, later) = rest.split_at(parent.1);
+        let gone = joined(alloc, &mut freed, parent.1)?;
+        let come = new_names(alloc, own)?;
+        runs.push_reserved((parent.0, terms(alloc, gone, come)?));
+        rest = later;
+    }
+    Ok(runs)
+}
+
+// The next so many lists of names, joined.
+fn joined(
+    alloc: Global,
+    lists: &mut VecDeque<Vec<Name>>,
+    count: usize,
+) -> Result<Vec<Name>, AllocError>
+    ensures names { IfOk result (λ names. names.items ≡ flat (take count (map (λ list. list.items) lists.old.items))) }
+    ensures rest { OnOk result (map (λ list. list.items) lists.new.items ≡ drop count (map (λ list. list.items) lists.old.items)) }
+{
+    let mut names = Vec::new(alloc);
+    for _list in 0..count {
+        let Some(mut list) = lists.pop_front() else {
+            break;
+        };
+        names.append(&mut list)?;
+    }
+    Ok(names)
+}
+
+// The names of the groups' new pieces, from left to right.
+fn new_names(alloc: Global, all: &[Rewritten]) -> Result<Vec<Name>, AllocError>
+    ensures { IfOk result (λ names. names.items ≡ flat_map fresh_names all.now) }
+{
+    let mut names = Vec::new(alloc);
+    for group in all {
+        push_names(alloc, group.new_pieces(), &group.fresh, &mut names)?;
+    }
+    Ok(names)
+}
+
+// Adds the names of pages with these numbers.
+fn push_names(
+    alloc: Global,
+    pages: &[Page<Global>],
+    pids: &[u64],
+    names: &mut Vec<Name>,
+) -> Result<(), AllocError>
+    ensures { OnOk result (names.new.items ≡ names.old.items ++ named_pages pages.now pids.now) }
+{
+    for (page, pid) in pages.iter().zip(pids) {
+        names.push(Name {
+            low: Key::from_bytes(alloc, page.low())?,
+            pid: Pid(*pid),
+        })?;
+    }
+    Ok(())
+}
+
+impl Rewritten {
+    // All pieces but the first: they get numbers of their own.
+    fn new_pieces(&self) -> &[Page<Global>]
+        ensures { result.now ≡ drop 1 self.now.pieces }
+    {
+        match self.pieces.as_slice() {
+            [] => &[],
+            [_first, others @ ..] => others,
+        }
+    }
+
+    // Draws the numbers of the new pieces. Where that is refused, nothing has changed.
+    fn draw(&mut self, tree: &mut Tree<Global>) -> Result<(), AllocError>
+        requires { 0 < length self.old.pieces }
+        ensures numbers { OnOk result (self.new ≡ record self.old { fresh = fresh_pids (pids_in_use tree.old.table) (length self.old.pieces - 1) }) }
+        ensures tree { OnOk result (tree.new ≡ record tree.old { table = with_rooms tree.old.table (fresh_pids (pids_in_use tree.old.table) (length self.old.pieces - 1)) }) }
+        ensures kept { OnErr result (self.new ≡ self.old) }
+        ensures tree_kept { OnErr result (tree.new ≡ tree.old) }
+    {
+        self.fresh = tree.fresh(self.pieces.len() - 1)?;
+        Ok(())
+    }
+}
