@@ -1,4 +1,5 @@
 mod AllThinLeaves
+pub mod BridgeSeen
 pub mod ChangingGroups
 pub mod ChangingOutdated
 pub mod ChangingSeen
