@@ -1,5 +1,7 @@
 mod AllThinLeaves
+pub mod BridgePieces
 pub mod BridgeSeen
+pub mod BridgeTold
 pub mod ChangingGroups
 pub mod ChangingOutdated
 pub mod ChangingSeen
