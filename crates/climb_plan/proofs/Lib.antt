@@ -1,6 +1,8 @@
 mod AllThinLeaves
+pub mod BridgeNext
 pub mod BridgePieces
 pub mod BridgeSeen
+pub mod BridgeTables
 pub mod BridgeTold
 pub mod ChangingGroups
 pub mod ChangingOutdated
