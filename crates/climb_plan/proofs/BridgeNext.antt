@@ -25,8 +25,9 @@ use Rattle.split_plan.proofs.WorkedLaws.{tiled-worked_parents}
 use Rattle.climb_plan.specs.Changing.{SeenPage, shown, AreSeen, AreHome, Changing, changing, parents_of, changing_groups, changing_changes}
 use Rattle.climb_plan.specs.Climb.{families}
 use Rattle.climb_plan.specs.Installing.{all_taken}
-use Rattle.climb_plan.specs.Level.{parent_pids, IsNeverUnused, IsLevel, AreDrawn, next_tree}
-use Rattle.climb_plan.proofs.BridgeTables.{taken_others, taken_away, ArePlaced, taken_pids, drawn_others, lost_after}
+use Rattle.climb_plan.specs.Level.{parent_pids, IsNeverUnused, IsLevel, next_tree}
+use Rattle.climb_plan.proofs.BridgeDrawn.{drawn_places}
+use Rattle.climb_plan.proofs.BridgeTables.{AreDrawn, taken_others, taken_away, ArePlaced, taken_pids, drawn_others, lost_after}
 use Rattle.climb_plan.proofs.ChangingGroups.{alike_level, fresh-changing_changes}
 use Rattle.climb_plan.proofs.Families.{parents_told}
 use Rattle.climb_plan.proofs.ToldRuns.{terms_told, all_told, AreHomeBut, seen_after_runs}
@@ -115,9 +116,12 @@ module _ {V : Type 0} (s : Settings) (of : Page V → PageOfKind) (t : TreeInMem
   abbrev pub seen_here : List SeenPage
   seen_here = map (shown Index) (worked_parents s (parents_of changing_here) (map terms (changing_changes s used i changing_here)))
 
-  module _ (z : 0 < s.fan) (drawn : AreDrawn t.table (with_rooms t.table (fresh_pids (pids_in_use t.table) new_here)) new_here) (h : IsLevel of t xs ws (ps ∷ ups) used i) where
+  module _ (z : 0 < s.fan) (h : IsLevel of t xs ws (ps ∷ ups) used i) where
     abbrev rooms : Mapping PageOfKind
     rooms = with_rooms t.table (fresh_pids (pids_in_use t.table) new_here)
+
+    drawn : AreDrawn t.table rooms new_here
+    drawn = drawn_places new_here t.table h.rising
 
     abbrev taken : List ℕ
     taken = parent_pids changing_here

@@ -16,7 +16,7 @@ use Rattle.mapping.specs.Tree.Logged.{Old}
 use Rattle.mapping.proofs.PidLaws.{below_later}
 use Rattle.mapping.proofs.TableLaws.{total, differ, listed-insert_entry}
 use Rattle.climb_plan.specs.Installing.{all_taken, AreLost}
-use Rattle.climb_plan.specs.Level.{IsNeverUnused, AreDrawn}
+use Rattle.climb_plan.specs.Level.{IsNeverUnused}
 
 -- ---- an entry in the place of another
 
@@ -43,10 +43,10 @@ module _ {X : Type 0} where
 
 -- ---- pages are taken
 
-test_false : (m n : ℕ) → nat_eq m n ≡ false → is_eq (nat_cmp m n) ≡ false
+pub test_false : (m n : ℕ) → nat_eq m n ≡ false → is_eq (nat_cmp m n) ≡ false
 test_false m n h = differ m n (λ e. let f : nat_eq m n ≡ true = eq-eqb m n e in absurd (cc))
 
-test_true : (m n : ℕ) → nat_eq m n ≡ true → is_eq (nat_cmp m n) ≡ true
+pub test_true : (m n : ℕ) → nat_eq m n ≡ true → is_eq (nat_cmp m n) ≡ true
 test_true m n h =
     let e : m ≡ n = eqb-true m n h in
     ap (λ (k : ℕ). is_eq (nat_cmp m k)) (sym e) ∙ ap (λ (o : Ordering). is_eq o) (tied_itself total m)
@@ -107,6 +107,14 @@ taken_pids t (n ∷ ns) r h =
     taken_pids (with_place t n None) ns (subst (λ (ks : List ℕ). AreRisingPids ks) (sym same) r) (still_placed t n ns h.1) ∙ same
 
 -- ---- numbers were drawn
+
+-- from one table to the next so many numbers were drawn: their places are away, and all else is as it was
+pub record AreDrawn (before after : Mapping PageOfKind) (n : ℕ) : Type 0 where
+  pub away : (pid : ℕ) → is_among pid (fresh_pids (pids_in_use before) n) ≡ true → place_of after pid ≡ Some None
+  pub others : (pid : ℕ) → is_among pid (fresh_pids (pids_in_use before) n) ≡ false → place_of after pid ≡ place_of before pid
+  pub logged : after.logged ≡ before.logged
+  pub rising : AreRisingPids (pids_in_use after)
+  pub next : (m : ℕ) → unused (pids_in_use after) m ≡ unused (pids_in_use before) (n + m)
 
 not_given : (us used : List ℕ) (i pid : ℕ) (js : List ℕ) → ((m : ℕ) → unused us m ≡ unused used (i + m)) → IsNeverUnused used pid → is_among pid (map (unused us) js) ≡ false
 not_given us used i pid [] d o = refl

@@ -1,4 +1,5 @@
 mod AllThinLeaves
+pub mod BridgeDrawn
 pub mod BridgeNext
 pub mod BridgePieces
 pub mod BridgeSeen

@@ -1,14 +1,14 @@
 -- A level in the course of a climb: its pages as code has them, of either kind, and as the plan has them.
-use Rattle.std.specs.Prelude.{◌≡◌, ◌≢◌, ℕ, ◌+◌, true, false, List, [], ◌∷◌, map, drop, length, Option, Some, None}
+use Rattle.std.specs.Prelude.{◌≡◌, ◌≢◌, ℕ, ◌+◌, List, [], ◌∷◌, map, drop, length, Option, Some, None}
 use Rattle.std.specs.List.{AllByRecursion}
 use Rattle.keys.specs.Order.{IsRising}
 use Rattle.keys.specs.declared.settings.Settings.{Settings}
 use Rattle.index_page.specs.Page.{Page, PageOfKind, low_of}
 use Rattle.index_page.specs.Page.PageOfKind.{Index}
 use Rattle.mapping.specs.Levels.{Placed, pids, all_pids, top_pid}
-use Rattle.mapping.specs.FreshPids.{is_among, unused}
+use Rattle.mapping.specs.FreshPids.{unused}
 use Rattle.mapping.specs.Proper.{next_low, Tiled, Stacked, Distinct, AreRisingPids}
-use Rattle.mapping.specs.Table.{Mapping, pids_in_use, place_of, with_rooms, fresh_pids}
+use Rattle.mapping.specs.Table.{Mapping, pids_in_use, with_rooms, fresh_pids}
 use Rattle.mapping.specs.TreeInMemory.{TreeInMemory}
 use Rattle.page_runs.specs.Worked.{Worked}
 use Rattle.split_plan.specs.Change.{Change}
@@ -67,14 +67,6 @@ pub record IsLevel {V : Type 0} (of : Page V → PageOfKind) (t : TreeInMemory) 
   pub rising : AreRisingPids (pids_in_use t.table)
   pub drawn : (m : ℕ) → unused (pids_in_use t.table) m ≡ unused used (i + m)
   pub lost : AreLost t.table
-
--- from one table to the next so many numbers were drawn: their places are away, and all else is as it was
-pub record AreDrawn (before after : Mapping PageOfKind) (n : ℕ) : Type 0 where
-  pub away : (pid : ℕ) → is_among pid (fresh_pids (pids_in_use before) n) ≡ true → place_of after pid ≡ Some None
-  pub others : (pid : ℕ) → is_among pid (fresh_pids (pids_in_use before) n) ≡ false → place_of after pid ≡ place_of before pid
-  pub logged : after.logged ≡ before.logged
-  pub rising : AreRisingPids (pids_in_use after)
-  pub next : (m : ℕ) → unused (pids_in_use after) m ≡ unused (pids_in_use before) (n + m)
 
 -- the table once so many numbers were drawn, and these pages taken
 abbrev pub drawn_and_taken : Mapping PageOfKind → ℕ → List ℕ → Mapping PageOfKind
