@@ -16,6 +16,7 @@ use Rattle.mapping.specs.TreeInMemory.{TreeInMemory}
 use Rattle.mapping.proofs.LevelLaws.{same_pids}
 use Rattle.mapping.proofs.PidLaws.{all_among, later_among, among_left, among_right, or_true_right}
 use Rattle.mapping.proofs.TileLaws.{Names, next_low-same, next_low-parents}
+use Rattle.page_runs.specs.TermWork.{index_made}
 use Rattle.page_runs.specs.Worked.{Worked}
 use Rattle.split_plan.specs.Change.{Change, changes, family_changes, fresh_of, all_fresh}
 use Rattle.split_plan.specs.Terms.{terms}
@@ -24,13 +25,14 @@ use Rattle.split_plan.proofs.RunLaws.{names-worked_parents}
 use Rattle.split_plan.proofs.WorkedLaws.{tiled-worked_parents}
 use Rattle.climb_plan.specs.Changing.{SeenPage, shown, AreSeen, AreHome, Changing, changing, parents_of, changing_groups, changing_changes}
 use Rattle.climb_plan.specs.Climb.{families}
-use Rattle.climb_plan.specs.Installing.{all_taken}
-use Rattle.climb_plan.specs.Level.{parent_pids, IsNeverUnused, IsLevel, next_tree}
+use Rattle.climb_plan.specs.Installing.{all_taken, parent_held, AreParentsHome}
+use Rattle.climb_plan.specs.Level.{parent_pids, each_told, IsNeverUnused, IsLevel, next_tree}
 use Rattle.climb_plan.proofs.BridgeDrawn.{drawn_places}
+use Rattle.climb_plan.proofs.BridgeParents.{told_pids, told_made, told_held, parents_can_be_taken}
 use Rattle.climb_plan.proofs.BridgeTables.{AreDrawn, taken_others, taken_away, ArePlaced, taken_pids, drawn_others, lost_after}
 use Rattle.climb_plan.proofs.ChangingGroups.{alike_level, fresh-changing_changes}
 use Rattle.climb_plan.proofs.Families.{parents_told}
-use Rattle.climb_plan.proofs.ToldRuns.{terms_told, all_told, AreHomeBut, seen_after_runs}
+use Rattle.climb_plan.proofs.ToldRuns.{terms_told, length-runs, all_told, AreHomeBut, seen_after_runs}
 
 -- ---- numbers that are distinct
 
@@ -143,6 +145,10 @@ module _ {V : Type 0} (s : Settings) (of : Page V → PageOfKind) (t : TreeInMem
         each [] o k = tt
         each (q ∷ qs) o k = (drawn_others t.table rooms new_here used i q.pid drawn h.drawn o.0 ∙ k.0, each qs o.1 k.1)
 
+    -- and so has each that is told something
+    told_in_rooms : AreHome Index rooms (parents_of changing_here)
+    told_in_rooms = all_told (λ p. place_of rooms p.pid ≡ Some (Some (Index p.page))) (terms_told s used i ps ws) home_in_rooms
+
     placed_in_rooms : ArePlaced rooms taken
     placed_in_rooms =
         let all : AllByRecursion (λ p. is_some (place_of rooms p.pid) ≡ true) ps = some ps home_in_rooms in
@@ -195,14 +201,45 @@ module _ {V : Type 0} (s : Settings) (of : Page V → PageOfKind) (t : TreeInMem
     same_in_use : pids_in_use tree_here.table ≡ pids_in_use rooms
     same_in_use = taken_pids rooms taken drawn.rising placed_in_rooms
 
-    -- the number of new pages
-    count : new_here ≡ length (all_fresh (family_changes s used i (families ps ws)))
+    -- there are as many new pages as the plan has
+    pub count : new_here ≡ length (all_fresh (family_changes s used i (families ps ws)))
     count = ap (λ (qs : List (Placed V)). length qs) (sym ((alike_level s used i ps ws).fresh ∙ fresh-changing_changes s used i changing_here))
 
     next_drawn : (m : ℕ) → unused (pids_in_use tree_here.table) m ≡ unused used ((i + length (all_fresh (family_changes s used i (families ps ws)))) + m)
     next_drawn m =
         let a : i + (new_here + m) ≡ (i + length (all_fresh (family_changes s used i (families ps ws)))) + m = (let e = count in omega arith) in
         ap (λ (ns : List ℕ). unused ns m) same_in_use ∙ drawn.next m ∙ h.drawn (new_here + m) ∙ ap (λ (k : ℕ). unused used k) a
+
+    -- ---- what is taken
+
+    runs_fit : length (map terms (changing_changes s used i changing_here)) ≡ length (parents_of changing_here)
+    runs_fit = length-runs (terms_told s used i ps ws)
+
+    -- once the numbers were drawn, the parents can be taken
+    pub can_be_taken : AreParentsHome rooms taken
+    can_be_taken =
+        subst (λ (ns : List ℕ). AreParentsHome rooms ns) (pids-parents_of changing_here) (parents_can_be_taken rooms (terms_told s used i ps ws) (distinct_parts (pids ps) (flat_map pids ups) upper_distinct).0 told_in_rooms)
+
+    -- each with the run of its terms
+    abbrev pub told_here : List (ℕ × List (List ℕ × Option ℕ))
+    told_here = each_told taken (map terms (changing_changes s used i changing_here))
+
+    pub taken_here : map (λ e. e.0) told_here ≡ taken
+    taken_here = told_pids taken (map terms (changing_changes s used i changing_here)) (runs_fit ∙ length-map changing_here (λ (c : Changing V). c.parent) ∙ sym (length-map changing_here (λ (c : Changing V). c.parent.pid)))
+
+    -- what is made of them is what the plan makes of them
+    pub made_here : map (λ e. index_made s (parent_held rooms e)) told_here ≡ worked_parents s (parents_of changing_here) (map terms (changing_changes s used i changing_here))
+    made_here =
+        let runs : List (List (List ℕ × Option ℕ)) = map terms (changing_changes s used i changing_here) in
+        ap (λ (ns : List ℕ). map (λ e. index_made s (parent_held rooms e)) (each_told ns runs)) (sym (pids-parents_of changing_here)) ∙ told_made rooms s (parents_of changing_here) runs told_in_rooms runs_fit
+
+    -- and what is held of them is what they were
+    pub held_here : map {B = ℕ × PageOfKind} (λ x. (x.pid, x.page)) (map (parent_held rooms) told_here) ≡ map {B = ℕ × PageOfKind} (λ q. (q.pid, Index q.page)) (parents_of changing_here)
+    held_here =
+        let runs : List (List (List ℕ × Option ℕ)) = map terms (changing_changes s used i changing_here) in
+        ap (λ (ns : List ℕ). map {B = ℕ × PageOfKind} (λ x. (x.pid, x.page)) (map (parent_held rooms) (each_told ns runs))) (sym (pids-parents_of changing_here)) ∙ told_held rooms (parents_of changing_here) runs told_in_rooms runs_fit
+
+    -- ---- the next level
 
     -- the parents after their runs are the next level
     pub next_level : IsLevel Index tree_here seen_here parents_here ups used (i + length (all_fresh (family_changes s used i (families ps ws))))

@@ -1,6 +1,7 @@
 mod AllThinLeaves
 pub mod BridgeDrawn
 pub mod BridgeNext
+pub mod BridgeParents
 pub mod BridgePieces
 pub mod BridgeSeen
 pub mod BridgeTables
