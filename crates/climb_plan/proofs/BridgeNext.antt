@@ -1,31 +1,31 @@
 -- The next level of a climb: the parents, after the runs of their terms.
-use Rattle.std.specs.Prelude.{◌≡◌, ◌≢◌, ℕ, ◌+◌, ◌<◌, Bool, true, false, ◌||◌, nat_eq, List, [], ◌∷◌, ◌++◌, map, flat_map, length, Option, Some, None, is_some}
+use Rattle.std.specs.Prelude.{◌≡◌, ◌≢◌, ℕ, ◌+◌, ◌<◌, true, false, nat_eq, List, [], ◌∷◌, ◌++◌, map, flat_map, length, Option, Some, None, is_some}
 use Rattle.std.proofs.Common.{refl, sym, ap, ◌∙◌, subst, arith}
 use Rattle.std.specs.List.{AllByRecursion}
-use Rattle.std.proofs.lemmas.Bool.{eqb-true, eq-eqb, or_from, false_from_ne_true}
+use Rattle.std.proofs.lemmas.Bool.{eqb-true, or_from, false_from_ne_true}
 use Rattle.std.proofs.lemmas.List.{length-map}
 use Rattle.keys.specs.declared.settings.Settings.{Settings}
 use Rattle.index_page.specs.Page.{Page, PageOfKind}
 use Rattle.index_page.specs.Page.PageOfKind.{Index}
 use Rattle.index_page.proofs.ListLaws.{all-append, all_apart}
-use Rattle.mapping.specs.Levels.{Placed, joined, name, names, pids, all_pids, first_pid, top_pid}
+use Rattle.mapping.specs.Levels.{Placed, name, names, pids, all_pids, first_pid, top_pid}
 use Rattle.mapping.specs.FreshPids.{is_among, unused}
-use Rattle.mapping.specs.Proper.{next_low, Tiled, IsParentOf, Stacked, Distinct, AreRisingPids}
+use Rattle.mapping.specs.Proper.{IsParentOf, Stacked, Distinct, AreRisingPids}
 use Rattle.mapping.specs.Table.{Mapping, pids_in_use, place_of, with_rooms, fresh_pids}
 use Rattle.mapping.specs.TreeInMemory.{TreeInMemory}
 use Rattle.mapping.proofs.LevelLaws.{same_pids}
-use Rattle.mapping.proofs.PidLaws.{all_among, later_among, among_left, among_right, or_true_right}
+use Rattle.mapping.proofs.PidLaws.{all_among}
 use Rattle.mapping.proofs.TileLaws.{Names, next_low-same, next_low-parents}
 use Rattle.page_runs.specs.TermWork.{index_made}
 use Rattle.page_runs.specs.Worked.{Worked}
-use Rattle.split_plan.specs.Change.{Change, changes, family_changes, fresh_of, all_fresh}
+use Rattle.split_plan.specs.Change.{changes, family_changes, fresh_of, all_fresh}
 use Rattle.split_plan.specs.Terms.{terms}
 use Rattle.split_plan.specs.WorkedLevel.{worked_parents, placed_of}
 use Rattle.split_plan.proofs.RunLaws.{names-worked_parents}
 use Rattle.split_plan.proofs.WorkedLaws.{tiled-worked_parents}
-use Rattle.climb_plan.specs.Changing.{SeenPage, shown, AreSeen, AreHome, Changing, changing, parents_of, changing_groups, changing_changes}
+use Rattle.climb_plan.specs.Changing.{SeenPage, shown, AreHome, Changing, changing, parents_of, changing_groups, changing_changes}
 use Rattle.climb_plan.specs.Climb.{families}
-use Rattle.climb_plan.specs.Installing.{all_taken, parent_held, AreParentsHome}
+use Rattle.climb_plan.specs.Installing.{parent_held, AreParentsHome}
 use Rattle.climb_plan.specs.Level.{parent_pids, each_told, IsNeverUnused, IsLevel, next_tree}
 use Rattle.climb_plan.proofs.BridgeDrawn.{drawn_places}
 use Rattle.climb_plan.proofs.BridgeParents.{told_pids, told_made, told_held, parents_can_be_taken}

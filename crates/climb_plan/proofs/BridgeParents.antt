@@ -1,5 +1,5 @@
 -- Parents that are at home, with the runs of their terms, are worked as the plan has it.
-use Rattle.std.specs.Prelude.{◌≡◌, ◌≢◌, ℕ, suc, pred, List, [], ◌∷◌, map, length, Option, Some}
+use Rattle.std.specs.Prelude.{◌≡◌, ◌≢◌, ℕ, pred, List, [], ◌∷◌, map, length, Option, Some}
 use Rattle.std.proofs.Common.{refl, sym, ap, ◌∙◌, subst, arith}
 use Rattle.std.specs.List.{AllByRecursion}
 use Rattle.keys.specs.declared.settings.Settings.{Settings}

@@ -1,5 +1,5 @@
 -- What code makes of groups of either kind is what the plan makes of them.
-use Rattle.std.specs.Prelude.{◌≡◌, ℕ, suc, ◌+◌, ◌-◌, ◌<◌, Bool, true, false, List, [], ◌∷◌, ◌++◌, map, flat_map, drop, length}
+use Rattle.std.specs.Prelude.{◌≡◌, ℕ, suc, ◌+◌, ◌-◌, ◌<◌, Bool, true, false, List, [], ◌∷◌, ◌++◌, map, drop, length}
 use Rattle.std.proofs.Common.{refl, sym, ap, ◌∙◌, subst, arith, length-append, length-drop}
 use Rattle.std.specs.List.{AllByRecursion, range_with_len}
 use Rattle.std.proofs.lemmas.List.{length-map}
@@ -11,13 +11,13 @@ use Rattle.index_page.specs.Page.PageOfKind.{Leaf, Index}
 use Rattle.mapping.specs.Levels.{Placed, joined, pids}
 use Rattle.mapping.specs.FreshPids.{unused}
 use Rattle.page_runs.specs.Worked.{Worked}
-use Rattle.split_plan.specs.Change.{Change, fresh_pages, replacements, is_rewritten, remade, changes, fresh_of}
+use Rattle.split_plan.specs.Change.{fresh_pages, replacements, is_rewritten, remade, changes, fresh_of}
 use Rattle.split_plan.proofs.ChangeLaws.{remade_by, length-fresh_pages}
 use Rattle.split_plan.specs.Cut.{cut}
 use Rattle.split_plan.proofs.CutLaws.{cut_some}
-use Rattle.split_plan.specs.Pieces.{pages_from, joined_pages, pieces_of, group_made, CanJoin}
+use Rattle.split_plan.specs.Pieces.{pages_from, joined_pages, pieces_of, group_made}
 use Rattle.split_plan.specs.WorkedLevel.{placed_of}
-use Rattle.climb_plan.specs.Changing.{SeenPage, shown}
+use Rattle.climb_plan.specs.Changing.{shown}
 use Rattle.climb_plan.specs.Level.{IsKind, remade_of}
 use Rattle.climb_plan.specs.Rewriting.{Remade, cut_group, HaveSome, numbered, numbers}
 use Rattle.climb_plan.proofs.BridgeSeen.{shown_groups}

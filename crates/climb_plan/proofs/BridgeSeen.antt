@@ -1,20 +1,19 @@
 -- From the pages of either kind that code sees of a level to the definitions of the plan.
-use Rattle.std.specs.Prelude.{◌≡◌, ℕ, Bool, true, false, cond, List, [], ◌∷◌, ◌++◌, map, flat_map, take, drop, length, Some, None}
+use Rattle.std.specs.Prelude.{◌≡◌, ℕ, Bool, true, false, cond, List, [], ◌∷◌, ◌++◌, map, take, drop, length, Some}
 use Rattle.std.proofs.Common.{refl, sym, ap, ◌∙◌}
 use Rattle.std.specs.List.{filter, AllByRecursion}
 use Rattle.std.proofs.lemmas.List.{length-map, take-map, drop-map, map-append}
-use Rattle.index_page.specs.Page.{Page, PageOfKind, low_of}
+use Rattle.index_page.specs.Page.{Page, PageOfKind}
 use Rattle.index_page.specs.Page.PageOfKind.{Index}
-use Rattle.mapping.specs.Levels.{Placed, entries, joined, name, names}
-use Rattle.mapping.specs.Proper.{next_low}
-use Rattle.mapping.specs.Table.{Mapping, at_home, place_of, page_of}
+use Rattle.mapping.specs.Levels.{Placed, entries, name, names}
+use Rattle.mapping.specs.Table.{Mapping, at_home, page_of}
 use Rattle.mapping.specs.TreeInMemory.{TreeInMemory}
 use Rattle.mapping.proofs.TileLaws.{Names, next_low-parents}
 use Rattle.page_runs.specs.Worked.{Worked, is_thin}
 use Rattle.split_plan.specs.Groups.{Gathered, with_child, gathered, with_leading, groups}
 use Rattle.split_plan.specs.Change.{is_rewritten}
 use Rattle.split_plan.specs.WorkedLevel.{placed_of}
-use Rattle.climb_plan.specs.Changing.{SeenPage, shown, same, AreSeen, AreHome, Changing, rewritten, changing_family, with_changing, changing, changing_groups}
+use Rattle.climb_plan.specs.Changing.{SeenPage, shown, same, AreSeen, AreHome, Changing, rewritten, with_changing, changing, changing_groups}
 use Rattle.climb_plan.specs.Level.{group_counts, IsKind, IsLevel}
 use Rattle.climb_plan.specs.Rewriting.{seen_name, is_thin_seen, is_rewritten_seen, AreSeenIn, rewritten_groups, Rewriting, with_rewriting, rewriting, counted, groups_of, IsLevelSeen}
 
@@ -83,10 +82,13 @@ module _ {V : Type 0} (of : Page V → PageOfKind) where
   rewritten_shown (w ∷ []) = refl
   rewritten_shown (w ∷ v ∷ ws) = refl
 
+  -- the same groups are rewritten
+  pub filter-shown : (gs : List (List (Worked V))) → filter is_rewritten_seen (shown_groups gs) ≡ shown_groups (filter is_rewritten gs)
+  filter-shown gs = filter-map (λ (g : List (Worked V)). map (shown of) g) is_rewritten_seen is_rewritten gs rewritten_shown
+
   rewritten_groups-shown : (f : List (Worked V)) → rewritten_groups (map (shown of) f) ≡ shown_groups (rewritten f)
   rewritten_groups-shown f =
-      ap (λ (gs : List (List SeenPage)). filter is_rewritten_seen gs) (groups-map (shown of) is_thin_seen f)
-      ∙ filter-map (λ (g : List (Worked V)). map (shown of) g) is_rewritten_seen is_rewritten (groups is_thin f) rewritten_shown
+      ap (λ (gs : List (List SeenPage)). filter is_rewritten_seen gs) (groups-map (shown of) is_thin_seen f) ∙ filter-shown (groups is_thin f)
 
   -- a parent whose family changes, as code has it
   abbrev pub rewriting_of : Changing V → Rewriting

@@ -1,5 +1,6 @@
 mod AllThinLeaves
 pub mod BridgeDrawn
+pub mod BridgeGroups
 pub mod BridgeNext
 pub mod BridgeParents
 pub mod BridgePieces

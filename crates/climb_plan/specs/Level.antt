@@ -16,7 +16,7 @@ use Rattle.split_plan.specs.Pieces.{joined_pages, pieces_of, group_made, CanJoin
 use Rattle.split_plan.specs.WorkedLevel.{placed_of}
 use Rattle.climb_plan.specs.Changing.{SeenPage, AreSeen, AreHome, Changing}
 use Rattle.climb_plan.specs.Installing.{AreLost, all_taken}
-use Rattle.climb_plan.specs.Rewriting.{Rewriting, Remade}
+use Rattle.climb_plan.specs.Rewriting.{Remade}
 
 -- ---- kinds
 
