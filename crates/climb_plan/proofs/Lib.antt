@@ -1,4 +1,12 @@
 mod AllThinLeaves
+pub mod BridgeDrawn
+pub mod BridgeGroups
+pub mod BridgeNext
+pub mod BridgeParents
+pub mod BridgePieces
+pub mod BridgeSeen
+pub mod BridgeTables
+pub mod BridgeTold
 mod ChangedNames
 mod ChangedPieces
 mod ChangedRooms

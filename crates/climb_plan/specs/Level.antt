@@ -1,0 +1,77 @@
+-- A level in the course of a climb: its pages as code has them, of either kind, and as the plan has them.
+use Rattle.std.specs.Prelude.{◌≡◌, ◌≢◌, ℕ, ◌+◌, List, [], ◌∷◌, map, drop, length, Option, Some, None}
+use Rattle.std.specs.List.{AllByRecursion}
+use Rattle.keys.specs.Order.{IsRising}
+use Rattle.keys.specs.declared.settings.Settings.{Settings}
+use Rattle.index_page.specs.Page.{Page, PageOfKind, low_of}
+use Rattle.index_page.specs.Page.PageOfKind.{Index}
+use Rattle.mapping.specs.Levels.{Placed, pids, all_pids, top_pid}
+use Rattle.mapping.specs.FreshPids.{unused}
+use Rattle.mapping.specs.Proper.{next_low, Tiled, Stacked, Distinct, AreRisingPids}
+use Rattle.mapping.specs.Table.{Mapping, pids_in_use, with_rooms, fresh_pids}
+use Rattle.mapping.specs.TreeInMemory.{TreeInMemory}
+use Rattle.page_runs.specs.Worked.{Worked}
+use Rattle.split_plan.specs.Change.{Change}
+use Rattle.split_plan.specs.Pieces.{joined_pages, pieces_of, group_made, CanJoin}
+use Rattle.split_plan.specs.WorkedLevel.{placed_of}
+use Rattle.climb_plan.specs.Changing.{SeenPage, AreSeen, AreHome, Changing}
+use Rattle.climb_plan.specs.Installing.{AreLost, all_taken}
+use Rattle.climb_plan.specs.Rewriting.{Remade}
+
+-- ---- kinds
+
+-- all that is needed of a kind: its pages keep their low keys, their groups are remade as those of pages of no kind, and they
+-- can be joined where their entries rise
+pub record IsKind {V : Type 0} (of : Page V → PageOfKind) : Type 0 where
+  pub low : (p : Page V) → low_of (of p) ≡ p.low
+  pub made : (s : Settings) (p : Page V) (ps : List (Page V)) → group_made s (map of (p ∷ ps)) ≡ map of (pieces_of s (p ∷ ps))
+  pub join : (p : Page V) (ps : List (Page V)) → IsRising (joined_pages (p ∷ ps)) → CanJoin (map of (p ∷ ps))
+
+-- ---- what is made of groups
+
+-- a change as code has it
+abbrev pub remade_of : {V : Type 0} → (Page V → PageOfKind) → Change V → Remade
+remade_of of c = record { members = map (λ w. w.placed.pid) c.members; pieces = map (λ q. of q.page) c.pages; fresh = pids (drop 1 c.pages) }
+
+-- the pids of parents
+abbrev pub parent_pids : {V : Type 0} → List (Changing V) → List ℕ
+parent_pids chs = map (λ c. c.parent.pid) chs
+
+-- these with how many groups each has
+abbrev pub group_counts : {V : Type 0} → List (Changing V) → List (ℕ × ℕ)
+group_counts chs = map (λ c. (c.parent.pid, length c.groups)) chs
+
+-- each parent with its run
+abbrev pub each_told : List ℕ → List (List (List ℕ × Option ℕ)) → List (ℕ × List (List ℕ × Option ℕ))
+each_told [] runs = []
+each_told (pid ∷ pids) [] = []
+each_told (pid ∷ pids) (run ∷ runs) = (pid, run) ∷ each_told pids runs
+
+-- ---- levels
+
+-- a number that is at no place of those that are not in use
+abbrev pub IsNeverUnused : List ℕ → ℕ → Type 0
+IsNeverUnused used n = (m : ℕ) → n ≢ unused used m
+
+-- a level of pages after their runs, of which those that were seen are away, and the levels above it, in a tree in which i
+-- numbers were given out before
+pub record IsLevel {V : Type 0} (of : Page V → PageOfKind) (t : TreeInMemory) (xs : List SeenPage) (ws : List (Worked V)) (ups : List (List (Placed ℕ))) (used : List ℕ) (i : ℕ) : Type 0 where
+  pub seen : AreSeen of t.table xs ws
+  pub tiled : Tiled (placed_of ws) None
+  pub first : next_low (placed_of ws) None ≡ Some []
+  pub stacked : Stacked (placed_of ws) ups
+  pub home : AllByRecursion (AreHome Index t.table) ups
+  pub root : t.root ≡ top_pid (placed_of ws) ups
+  pub distinct : Distinct (all_pids (placed_of ws) ups)
+  pub old : AllByRecursion (IsNeverUnused used) (all_pids (placed_of ws) ups)
+  pub rising : AreRisingPids (pids_in_use t.table)
+  pub drawn : (m : ℕ) → unused (pids_in_use t.table) m ≡ unused used (i + m)
+  pub lost : AreLost t.table
+
+-- the table once so many numbers were drawn, and these pages taken
+abbrev pub drawn_and_taken : Mapping PageOfKind → ℕ → List ℕ → Mapping PageOfKind
+drawn_and_taken t n taken = all_taken (with_rooms t (fresh_pids (pids_in_use t) n)) taken
+
+-- the tree with that table
+abbrev pub next_tree : TreeInMemory → ℕ → List ℕ → TreeInMemory
+next_tree t n taken = record { table = drawn_and_taken t.table n taken; root = t.root; height = t.height }
