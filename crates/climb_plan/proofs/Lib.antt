@@ -2,6 +2,7 @@ mod AllThinLeaves
 pub mod ChangingGroups
 pub mod ChangingOutdated
 pub mod ChangingSeen
+pub mod Climbing
 mod Climbs
 mod CutUnderTwoParents
 mod Families

@@ -31,7 +31,7 @@ use Rattle.climb_plan.proofs.Families.{families_by_length}
 
 -- ---- pages without a run
 
-abbrev all_same : {V : Type 0} → List (Placed V) → List (Worked V)
+abbrev pub all_same : {V : Type 0} → List (Placed V) → List (Worked V)
 all_same ps = map same ps
 
 module _ {V : Type 0} where
@@ -109,10 +109,10 @@ module _ {V : Type 0} where
 -- ---- all levels
 
 -- these levels, of which nothing is outdated
-abbrev as_they_were : {V : Type 0} → List (Placed V) → List (List (Placed ℕ)) → Climbed V
+abbrev pub as_they_were : {V : Type 0} → List (Placed V) → List (List (Placed ℕ)) → Climbed V
 as_they_were level ups = record { tower = record { level = level; above = ups }; outdated = [] }
 
-climb_same : {V : Type 0} (s : Settings) (used : List ℕ) (i : ℕ) (ps : List (Placed V)) (ups : List (List (Placed ℕ))) → Stacked ps ups → climb s used i (all_same ps) ups ≡ as_they_were ps ups
+pub climb_same : {V : Type 0} (s : Settings) (used : List ℕ) (i : ℕ) (ps : List (Placed V)) (ups : List (List (Placed ℕ))) → Stacked ps ups → climb s used i (all_same ps) ups ≡ as_they_were ps ups
 climb_same s used i [] [] o = absurd (omega arith)
 climb_same s used i (p ∷ []) [] o = refl
 climb_same s used i (p ∷ q ∷ ps) [] o = absurd (omega arith)
@@ -177,7 +177,7 @@ height_by (suc n) l = refl
 
 -- ---- the plan
 
-none_outdated : (ls : List (ℕ × Logged)) → outdate_all [] ls ≡ ls
+pub none_outdated : (ls : List (ℕ × Logged)) → outdate_all [] ls ≡ ls
 none_outdated [] = refl
 none_outdated (l ∷ ls) = ap (λ (rest : List (ℕ × Logged)). l ∷ rest) (none_outdated ls)
 
