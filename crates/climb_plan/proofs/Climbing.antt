@@ -92,14 +92,14 @@ module _ {V : Type 0} where
       let r = not_in_either n (new_of cs) (all_new css) h in
       not_in_both n (fresh_of cs) (all_fresh css) (not_fresh_here n cs r.0) (not_fresh n css r.1)
 
--- ---- a level is installed under others
+  -- ---- a level is installed under others
 
   -- pages whose places stayed are still at home
-  still_home : (of : Page V → PageOfKind) (before after : Mapping PageOfKind) (ps : List (Placed V)) → AllByRecursion (λ n. place_of after n ≡ place_of before n) (pids ps) → AreHome of before ps → AreHome of after ps
+  pub still_home : (of : Page V → PageOfKind) (before after : Mapping PageOfKind) (ps : List (Placed V)) → AllByRecursion (λ n. place_of after n ≡ place_of before n) (pids ps) → AreHome of before ps → AreHome of after ps
   still_home of before after [] a h = tt
   still_home of before after (p ∷ ps) a h = (a.0 ∙ h.0, still_home of before after ps a.1 h.1)
 
-still_home_above : (before after : Mapping PageOfKind) (ls : List (List (Placed ℕ))) → AllByRecursion (λ n. place_of after n ≡ place_of before n) (flat_map pids ls) → AllByRecursion (AreHome Index before) ls → AllByRecursion (AreHome Index after) ls
+pub still_home_above : (before after : Mapping PageOfKind) (ls : List (List (Placed ℕ))) → AllByRecursion (λ n. place_of after n ≡ place_of before n) (flat_map pids ls) → AllByRecursion (AreHome Index before) ls → AllByRecursion (AreHome Index after) ls
 still_home_above before after [] a h = tt
 still_home_above before after (l ∷ ls) a h =
     let r = all_apart (λ n. place_of after n ≡ place_of before n) (pids l) (flat_map pids ls) a in
@@ -283,15 +283,15 @@ module _ {V : Type 0} (s : Settings) (used : List ℕ) (i : ℕ) (ws : List (Wor
     pub top-climbed : (of : Page V → PageOfKind) (start ready after : TreeInMemory) → IsMadeReady start ready ws (all_fresh made_on_top) (flat_map pids grown_above) → AllByRecursion (AreHome Index ready.table) grown_above
         → IsLevelInstalled of ready after ws made_on_top → after.root ≡ top_pid (all_new made_on_top) grown_above → after.height ≡ ready.height + length grown_above → HasClimbed of start after ws [] (climb s used i ws [])
     top-climbed of start ready after r c l e h = record {
-        level = l.level.home;
-        above = above_stay of start.table ready.table after.table ws made_on_top [] grown_above l.level grown_apart grown_new c;
-        gone = gone_joined of start.table ready.table after.table ws made_on_top [] grown_above l.level (λ n a b. absurd (cc));
-        others = others_joined of start.table ready.table after.table ws made_on_top [] grown_above l.level (λ n p q a b. r.others n p q b);
-        rising = l.rising;
-        logged = l.logged ∙ ap (λ (ls : List (ℕ × Logged)). outdate_all (all_outdated made_on_top) ls) r.logged;
-        root = e;
-        height = heights after.height ready.height start.height (length grown_above) h r.height;
-      }
+      level = l.level.home;
+      above = above_stay of start.table ready.table after.table ws made_on_top [] grown_above l.level grown_apart grown_new c;
+      gone = gone_joined of start.table ready.table after.table ws made_on_top [] grown_above l.level (λ n a b. absurd (cc));
+      others = others_joined of start.table ready.table after.table ws made_on_top [] grown_above l.level (λ n p q a b. r.others n p q b);
+      rising = l.rising;
+      logged = l.logged ∙ ap (λ (ls : List (ℕ × Logged)). outdate_all (all_outdated made_on_top) ls) r.logged;
+      root = e;
+      height = heights after.height ready.height start.height (length grown_above) h r.height;
+    }
       where
         heights : (t3 t1 t0 n : ℕ) → t3 ≡ t1 + n → t1 ≡ t0 → t3 + 0 ≡ t0 + n
         heights t3 t1 t0 n e f = omega arith

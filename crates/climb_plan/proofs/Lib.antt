@@ -1,4 +1,6 @@
 mod AllThinLeaves
+pub mod Arrived
+pub mod ArrivedPages
 pub mod ChangingGroups
 pub mod ChangingOutdated
 pub mod ChangingSeen

@@ -181,7 +181,7 @@ pub none_outdated : (ls : List (ℕ × Logged)) → outdate_all [] ls ≡ ls
 none_outdated [] = refl
 none_outdated (l ∷ ls) = ap (λ (rest : List (ℕ × Logged)). l ∷ rest) (none_outdated ls)
 
-same_tree : (t u : Tree) → t.pages ≡ u.pages → t.root ≡ u.root → t.height ≡ u.height → t.logged ≡ u.logged → t ≡ u
+pub same_tree : (t u : Tree) → t.pages ≡ u.pages → t.root ≡ u.root → t.height ≡ u.height → t.logged ≡ u.logged → t ≡ u
 same_tree t u a b c d =
     let made : List (ℕ × PageOfKind) → ℕ → ℕ → List (ℕ × Logged) → Tree = λ p r h l. record { pages = p; root = r; height = h; logged = l } in
     ap (λ (p : List (ℕ × PageOfKind)). made p t.root t.height t.logged) a
