@@ -1,6 +1,6 @@
 -- Once all levels have climbed and the root has shrunk, a tree in memory stands for the planned one.
-use Rattle.std.specs.Prelude.{◌≡◌, ℕ, suc, ◌<◌, Bool, true, false, ◌||◌, List, [], ◌∷◌, ◌++◌, flat_map, drop, length, Option, Some, None, IsSome}
-use Rattle.std.proofs.Common.{refl, sym, ap, ◌∙◌, subst, append_assoc}
+use Rattle.std.specs.Prelude.{◌≡◌, ℕ, suc, pred, ◌+◌, ◌<◌, Bool, true, false, ◌||◌, List, [], ◌∷◌, ◌++◌, flat_map, length, Option, Some, None, IsSome}
+use Rattle.std.proofs.Common.{refl, sym, ap, ◌∙◌, subst, arith, append_assoc}
 use Rattle.std.specs.List.{AllByRecursion}
 use Rattle.std.specs.Map.{keys_of}
 use Rattle.std.proofs.lemmas.Bool.{false_from_ne_true}
@@ -37,7 +37,7 @@ use Rattle.climb_plan.proofs.InstalledPages.{AreApart, distinct_apart, not_among
 use Rattle.climb_plan.proofs.Kept.{all-kept, left, kept_and_left}
 use Rattle.climb_plan.proofs.Pids.{renewed-climb}
 use Rattle.climb_plan.proofs.Planned.{planned_are_levels}
-use Rattle.climb_plan.proofs.Untouched.{same_tree}
+use Rattle.climb_plan.proofs.Untouched.{levels_above, height_by, same_tree}
 
 or_turned : (a b : Bool) → (a || b) ≡ (b || a)
 or_turned true true = refl
@@ -108,12 +108,22 @@ module _ {A : Type 0} (s : Settings) (t : Tree) (cs : List (Command A)) (fan : 1
   kept_apart : AreApart planned_pids (shrunk_pids whole.tower.above)
   kept_apart = (distinct_apart planned_pids (shrunk_pids whole.tower.above) (subst (λ (ns : List ℕ). Distinct ns) (kept_pids whole.tower.level whole.tower.above) whole_distinct)).0
 
+  -- the leaves keep their pids, so these are distinct, and never unused
+  same_after : all_pids (placed_of leaves_after) (levels_of t).above ≡ all_pids (levels_of t).level (levels_of t).above
+  same_after =
+      ap (λ (ns : List ℕ). ns ++ flat_map pids (levels_of t).above) (same_pids (placed_of leaves_after) (levels_of t).level keep_names)
+
+  pub distinct_after : Distinct (all_pids (placed_of leaves_after) (levels_of t).above)
+  distinct_after = subst (λ (ns : List ℕ). Distinct ns) (sym same_after) proper.levels.distinct
+
+  pub never_after : AllByRecursion (IsNeverUnused (keys_of t.pages)) (all_pids (placed_of leaves_after) (levels_of t).above)
+  never_after = subst (λ (ns : List ℕ). AllByRecursion (IsNeverUnused (keys_of t.pages)) ns) (sym same_after) never_unused
+
   -- a pid that no level has isn't in use
   not_in_use : (n : ℕ) → is_among n (all_pids (placed_of leaves_after) (levels_of t).above) ≡ false → is_among n (keys_of t.pages) ≡ false
   not_in_use n h =
       let l : Levels = levels_of t in
-      let same : all_pids (placed_of leaves_after) l.above ≡ all_pids l.level l.above = ap (λ (ns : List ℕ). ns ++ flat_map pids l.above) (same_pids (placed_of leaves_after) l.level keep_names) in
-      let none : is_among n (all_pids l.level l.above) ≡ false = ap (λ (ns : List ℕ). is_among n ns) (sym same) ∙ h in
+      let none : is_among n (all_pids l.level l.above) ≡ false = ap (λ (ns : List ℕ). is_among n ns) (sym same_after) ∙ h in
       false_from_ne_true (is_among n (keys_of t.pages)) (λ e. let a : is_among n (all_pids l.level l.above) ≡ true = holds_among (λ m. is_among m (all_pids l.level l.above) ≡ true) n (keys_of t.pages) proper.held.no_other e in absurd (cc))
 
   module _ (start after : TreeInMemory) (in_use : pids_in_use start.table ≡ keys_of t.pages) (climbing : HasClimbed Leaf start after leaves_after (levels_of t).above (climbed s t cs)) where
@@ -125,6 +135,14 @@ module _ {A : Type 0} (s : Settings) (t : Tree) (cs : List (Command A)) (fan : 1
     -- once all levels have climbed, only their pids have places
     pub no_other_place : (n : ℕ) → is_among n whole_pids ≡ false → place_of after.table n ≡ None
     no_other_place n h = none_by (is_among n (all_pids (placed_of leaves_after) (levels_of t).above)) n refl h
+
+    -- and the tree is as high as there are levels
+    pub climbed-height : start.height ≡ t.height → after.height ≡ suc (length whole.tower.above)
+    climbed-height e =
+        let high : suc (pred t.height) ≡ t.height = height_by t.height proper.tree.some in
+        let count : length (levels_of t).above ≡ pred t.height + 0 = levels_above t.pages (pred t.height) (t.root ∷ []) [] in
+        let grows : after.height + length (levels_of t).above ≡ start.height + length whole.tower.above = climbing.height in
+        omega arith
 
     module _ (last : TreeInMemory) (shrinking : HasShrunk after last (climbed s t cs).tower.level (climbed s t cs).tower.above) where
       kept_places : AllByRecursion (λ n. place_of last.table n ≡ place_of after.table n) planned_pids

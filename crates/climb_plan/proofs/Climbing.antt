@@ -1,39 +1,29 @@
 -- What the levels of a climb add up to: a level, installed under the levels above it, which were installed before.
-use Rattle.std.specs.Prelude.{◌≡◌, ℕ, suc, ◌+◌, Bool, true, false, ◌||◌, nat_eq, List, [], ◌∷◌, ◌++◌, map, flat_map, drop, length, None}
-use Rattle.std.proofs.Common.{refl, sym, ap, ◌∙◌, subst, arith, append-nil, inl, inr}
+use Rattle.std.specs.Prelude.{◌≡◌, ℕ, ◌+◌, Bool, true, false, nat_eq, List, [], ◌∷◌, ◌++◌, map, flat_map, drop, None}
+use Rattle.std.proofs.Common.{refl, sym, ap, ◌∙◌, subst, inl, inr}
 use Rattle.std.specs.List.{AllByRecursion}
-use Rattle.std.proofs.lemmas.Bool.{or_parts, eqb-true, eq-eqb, false_from_ne_true}
-use Rattle.std.proofs.lemmas.List.{length-map}
-use Rattle.keys.specs.Lists.{flat}
+use Rattle.std.proofs.lemmas.Bool.{or_parts, true_from_ne_false}
 use Rattle.keys.specs.declared.settings.Settings.{Settings}
 use Rattle.index_page.specs.Page.{Page, PageOfKind}
 use Rattle.index_page.specs.Page.PageOfKind.{Index}
 use Rattle.index_page.proofs.ListLaws.{all_apart, all_weaker}
-use Rattle.mapping.specs.Levels.{Placed, name, names, pids, all_pids, top_pid}
+use Rattle.mapping.specs.Levels.{Placed, pids, all_pids, top_pid}
 use Rattle.mapping.specs.FreshPids.{is_among}
 use Rattle.mapping.specs.Outdate.{outdate_all}
-use Rattle.mapping.specs.Proper.{AreRisingPids, Distinct, Stacked}
+use Rattle.mapping.specs.Proper.{AreRisingPids, Stacked}
 use Rattle.mapping.specs.Table.{Mapping, pids_in_use, place_of}
-use Rattle.mapping.specs.Tree.{Logged}
 use Rattle.mapping.specs.TreeInMemory.{TreeInMemory}
-use Rattle.mapping.proofs.LevelLaws.{pids-append, same_pids}
-use Rattle.mapping.proofs.PidLaws.{IsNeverUnused, all_among, among_apart, among_either_by, among_either}
+use Rattle.mapping.proofs.LevelLaws.{pids-append}
+use Rattle.mapping.proofs.PidLaws.{all_among, among_apart, among_either}
 use Rattle.page_runs.specs.Worked.{Worked}
-use Rattle.split_plan.specs.WorkedLevel.{placed_of, worked_parents}
-use Rattle.split_plan.specs.Change.{Change, fresh, remade, changes, family_changes, new_of, fresh_of, all_new, all_fresh, all_outdated}
-use Rattle.split_plan.specs.Terms.{terms}
-use Rattle.split_plan.proofs.ChangeLaws.{remade_begins}
-use Rattle.split_plan.proofs.PidLaws.{distinct_renewed, recast, renewed-append, renewed-family_changes}
-use Rattle.split_plan.proofs.Renewed.{Renewed}
-use Rattle.split_plan.proofs.Renewed.Renewed.{done, keep}
-use Rattle.split_plan.proofs.RunLaws.{names-worked_parents}
+use Rattle.split_plan.specs.WorkedLevel.{placed_of}
+use Rattle.split_plan.specs.Change.{Change, fresh, new_of, fresh_of, all_new, all_fresh, all_outdated}
 use Rattle.climb_plan.specs.Changing.{AreHome, same, worked_pids}
-use Rattle.climb_plan.specs.Climb.{Climbed, climb, families, grown}
+use Rattle.climb_plan.specs.Climb.{Climbed, climb}
 use Rattle.climb_plan.specs.HasClimbed.{HasClimbed}
-use Rattle.climb_plan.proofs.ChangingOutdated.{worked_pids-placed, outdate-joined}
+use Rattle.climb_plan.proofs.ChangingOutdated.{worked_pids-placed}
 use Rattle.climb_plan.proofs.InstalledLevel.{HasLevel}
-use Rattle.climb_plan.proofs.InstalledPages.{AreApart, turned, distinct_apart, not_among_from}
-use Rattle.climb_plan.proofs.Pids.{renewed-climb}
+use Rattle.climb_plan.proofs.InstalledPages.{AreApart, not_among_from}
 use Rattle.climb_plan.proofs.Untouched.{as_they_were, climb_same, none_outdated}
 
 module _ {V : Type 0} where
@@ -66,9 +56,9 @@ module _ {V : Type 0} where
   untouched-climbed s used i of t ps ups o h k r e =
       subst (λ (c : Climbed V). HasClimbed of t t (map same ps) ups c) (sym (climb_same s used i ps ups o)) (stays_there of t ps ups h k r e)
 
--- ---- the pids of fresh pages are among those of the new ones
-
 module _ {V : Type 0} where
+  -- ---- the pids of fresh pages are among those of the new ones
+
   not_behind : (n : ℕ) (ps : List (Placed V)) → is_among n (pids ps) ≡ false → is_among n (pids (drop 1 ps)) ≡ false
   not_behind n [] h = h
   not_behind n (p ∷ ps) h = (or_parts (nat_eq n p.pid) (is_among n (pids ps)) h).1
@@ -91,6 +81,9 @@ module _ {V : Type 0} where
   not_fresh n (cs ∷ css) h =
       let r = not_in_either n (new_of cs) (all_new css) h in
       not_in_both n (fresh_of cs) (all_fresh css) (not_fresh_here n cs r.0) (not_fresh n css r.1)
+
+  pub fresh_is_new : (n : ℕ) (css : List (List (Change V))) → is_among n (pids (all_fresh css)) ≡ true → is_among n (pids (all_new css)) ≡ true
+  fresh_is_new n css h = true_from_ne_false (is_among n (pids (all_new css))) (λ e. let f : is_among n (pids (all_fresh css)) ≡ false = not_fresh n css e in cc)
 
   -- ---- a level is installed under others
 
@@ -161,137 +154,3 @@ pub record IsLevelInstalled {V : Type 0} (of : Page V → PageOfKind) (before af
   pub level : HasLevel of before.table after.table ws (all_new css) (all_fresh css)
   pub rising : AreRisingPids (pids_in_use after.table)
   pub logged : after.table.logged ≡ outdate_all (all_outdated css) before.table.logged
-
--- ---- distinct pids
-
-all_stay : (used : List ℕ) (i : ℕ) (ns : List ℕ) → Renewed used i i ns ns
-all_stay used i [] = done
-all_stay used i (n ∷ ns) = keep n (all_stay used i ns)
-
--- the pids of levels above, and those that stand there afterwards, are apart from pids in use below
-apart_from_level : {used : List ℕ} {i j : ℕ} {olds news : List ℕ} (ns : List ℕ) → Renewed used i j olds news → AllByRecursion (IsNeverUnused used) (ns ++ olds) → Distinct (ns ++ olds) → AreApart news ns
-apart_from_level {used} {i} {j} {olds} {news} ns r h d =
-    turned ns news (distinct_apart ns news (distinct_renewed (renewed-append (all_stay used i ns) r) h d)).0
-
--- and from those that are renewed below
-apart_from_new : {used : List ℕ} {i j k : ℕ} {ns ms olds news : List ℕ} → Renewed used i j ns ms → Renewed used j k olds news → AllByRecursion (IsNeverUnused used) (ns ++ olds) → Distinct (ns ++ olds) → AreApart news ms
-apart_from_new {used} {i} {j} {k} {ns} {ms} {olds} {news} q r h d =
-    turned ms news (distinct_apart ms news (distinct_renewed (renewed-append q r) h d)).0
-
--- ---- one level more
-
-module _ {V : Type 0} (s : Settings) (used : List ℕ) (i : ℕ) (ps : List (Placed ℕ)) (ws : List (Worked V)) (ups : List (List (Placed ℕ))) where
-  -- what is made of the level, its parents after their runs, and what a climb makes of the levels from them on upward
-  abbrev pub made_here : List (List (Change V))
-  made_here = family_changes s used i (families ps ws)
-
-  abbrev pub parents_here : List (Worked ℕ)
-  parents_here = worked_parents s ps (map terms made_here)
-
-  abbrev pub climbed_above : Climbed ℕ
-  climbed_above = climb s used (i + length (all_fresh made_here)) parents_here ups
-
-  abbrev upper : List (List (Placed ℕ))
-  upper = climbed_above.tower.level ∷ climbed_above.tower.above
-
-  parent_pids : pids (placed_of parents_here) ≡ pids ps
-  parent_pids = same_pids (placed_of parents_here) ps (names-worked_parents s ps (map terms made_here))
-
-  module _ (flat_is : flat (families ps ws) ≡ ws) (stacked : Stacked ps ups) (never : AllByRecursion (IsNeverUnused used) (all_pids (placed_of ws) (ps ∷ ups))) (distinct : Distinct (all_pids (placed_of ws) (ps ∷ ups))) where
-    abbrev renewed_above : (k : ℕ) × Renewed used (i + length (all_fresh made_here)) k (all_pids ps ups) (flat_map pids upper)
-    renewed_above = renewed-climb s used (i + length (all_fresh made_here)) parents_here ps ups (names-worked_parents s ps (map terms made_here)) stacked
-
-    abbrev renewed_here : Renewed used i (i + length (all_fresh made_here)) (pids (placed_of ws)) (pids (all_new made_here))
-    renewed_here = recast used refl (ap (λ (vs : List (Worked V)). pids (placed_of vs)) flat_is) refl (renewed-family_changes s used i (families ps ws))
-
-    upper_apart : AreApart (flat_map pids upper) (worked_pids ws)
-    upper_apart = λ n e. ap (λ (ns : List ℕ). is_among n ns) (worked_pids-placed ws) ∙ apart_from_level (pids (placed_of ws)) renewed_above.1 never distinct n e
-
-    upper_new : AreApart (flat_map pids upper) (pids (all_new made_here))
-    upper_new = apart_from_new renewed_here renewed_above.1 never distinct
-
-    -- a level under parents has climbed once those above it have, and it is installed
-    pub level-climbed : (of : Page V → PageOfKind) (start ready above after : TreeInMemory) → IsMadeReady start ready ws (all_fresh made_here) (pids ps) → HasClimbed Index ready above parents_here ups climbed_above
-        → IsLevelInstalled of above after ws made_here → after.root ≡ above.root → after.height ≡ above.height → HasClimbed of start after ws (ps ∷ ups) (climb s used i ws (ps ∷ ups))
-    level-climbed of start ready above after r c l e h =
-        let olds : List ℕ = all_pids ps ups in
-        let same : (n : ℕ) → is_among n (all_pids (placed_of parents_here) ups) ≡ is_among n olds = λ n. ap (λ (ns : List ℕ). is_among n (ns ++ flat_map pids ups)) parent_pids in
-        let outdated : outdate_all (all_outdated made_here) above.table.logged ≡ outdate_all (all_outdated made_here) (outdate_all climbed_above.outdated start.table.logged) =
-        ap (λ (ls : List (ℕ × Logged)). outdate_all (all_outdated made_here) ls) (c.logged ∙ ap (λ (ls : List (ℕ × Logged)). outdate_all climbed_above.outdated ls) r.logged) in
-        record {
-          level = l.level.home;
-          above = above_stay of start.table above.table after.table ws made_here olds upper l.level upper_apart upper_new (c.level, c.above);
-          gone = gone_joined of start.table above.table after.table ws made_here olds upper l.level (λ n a b. c.gone n (same n ∙ a) b);
-          others = others_joined of start.table above.table after.table ws made_here olds upper l.level (λ n p q a b. c.others n (same n ∙ a) b ∙ r.others n p q (among_apart n (pids ps) (flat_map pids ups) a).0);
-          rising = l.rising;
-          logged = l.logged ∙ outdated ∙ outdate-joined (all_outdated made_here) climbed_above.outdated start.table.logged;
-          root = e ∙ c.root;
-          height = heights after.height above.height ready.height start.height (length ups) (length climbed_above.tower.above) h c.height r.height;
-        }
-      where
-        heights : (t3 t2 t1 t0 m n : ℕ) → t3 ≡ t2 → t2 + m ≡ t1 + n → t1 ≡ t0 → t3 + suc m ≡ t0 + suc n
-        heights t3 t2 t1 t0 m n e f g = omega arith
-
--- ---- the highest level
-
-module _ {V : Type 0} where
-  first_stays_by : (ps : List (Placed V)) (m : List ℕ × ℕ) (ms : List (List ℕ × ℕ)) → names ps ≡ m ∷ ms → is_among m.1 (pids ps) ≡ true
-  first_stays_by [] m ms e = absurd (cc)
-  first_stays_by (p ∷ ps) m ms e = let here : name p ≡ m = cc in ap (λ (b : Bool). b || is_among m.1 (pids ps)) (eq-eqb m.1 p.pid (ap (λ (x : List ℕ × ℕ). x.1) (sym here)))
-
-  -- the page of the highest level keeps its pid, which one of those that are made of it has
-  top_stays : (s : Settings) (used : List ℕ) (i n : ℕ) (ws : List (Worked V)) → length ws ≡ 1 → is_among n (worked_pids ws) ≡ true → is_among n (pids (all_new (changes s used i (ws ∷ []) ∷ []))) ≡ true
-  top_stays s used i n [] l e = absurd (omega arith)
-  top_stays s used i n (w ∷ []) l e =
-      let new : List (Placed V) = remade s used i (w ∷ []) in
-      let own : is_among w.placed.pid (pids new) ≡ true = first_stays_by new (name w.placed) (names (drop 1 new)) (remade_begins s used i w []) in
-      let one : n ≡ w.placed.pid = elim (among_either_by (nat_eq n w.placed.pid) false e) [ inl a ↦ eqb-true n w.placed.pid a | inr b ↦ absurd (cc) ] in
-      let only : all_new (changes s used i ((w ∷ []) ∷ []) ∷ []) ≡ new = append-nil (new ++ []) ∙ append-nil new in
-      ap (λ (ps : List (Placed V)). is_among n (pids ps)) only ∙ ap (λ (m : ℕ). is_among m (pids new)) one ∙ own
-  top_stays s used i n (w ∷ v ∷ ws) l e = absurd (omega arith)
-
-module _ {V : Type 0} (s : Settings) (used : List ℕ) (i : ℕ) (ws : List (Worked V)) where
-  -- what is made of the page, and the levels that grow above it
-  abbrev pub made_on_top : List (List (Change V))
-  made_on_top = changes s used i (ws ∷ []) ∷ []
-
-  abbrev pub grown_above : List (List (Placed ℕ))
-  grown_above = grown (length (all_new made_on_top)) s used (i + length (all_fresh made_on_top)) (all_new made_on_top)
-
-  module _ (one : Stacked (placed_of ws) []) (never : AllByRecursion (IsNeverUnused used) (all_pids (placed_of ws) [])) where
-    one_page : length ws ≡ 1
-    one_page = sym (length-map ws (λ (w : Worked V). w.placed)) ∙ one
-
-    only_distinct : (ps : List (Placed V)) → length ps ≡ 1 → Distinct (all_pids ps [])
-    only_distinct [] e = tt
-    only_distinct (p ∷ []) e = (tt, tt)
-    only_distinct (p ∷ q ∷ ps) e = absurd (omega arith)
-
-    abbrev renewed_top : (k : ℕ) × Renewed used i k (all_pids (placed_of ws) []) (pids (all_new made_on_top) ++ flat_map pids grown_above)
-    renewed_top = renewed-climb s used i ws (placed_of ws) [] refl one
-
-    grown_new : AreApart (flat_map pids grown_above) (pids (all_new made_on_top))
-    grown_new =
-        let d : Distinct (pids (all_new made_on_top) ++ flat_map pids grown_above) = distinct_renewed renewed_top.1 never (only_distinct (placed_of ws) one) in
-        turned (pids (all_new made_on_top)) (flat_map pids grown_above) (distinct_apart (pids (all_new made_on_top)) (flat_map pids grown_above) d).0
-
-    grown_apart : AreApart (flat_map pids grown_above) (worked_pids ws)
-    grown_apart n e =
-        false_from_ne_true (is_among n (worked_pids ws)) (λ a. let b : is_among n (pids (all_new made_on_top)) ≡ true = top_stays s used i n ws one_page a in let c : is_among n (pids (all_new made_on_top)) ≡ false = grown_new n e in absurd (cc))
-
-    -- the highest level has climbed once levels have grown above it, and it is installed
-    pub top-climbed : (of : Page V → PageOfKind) (start ready after : TreeInMemory) → IsMadeReady start ready ws (all_fresh made_on_top) (flat_map pids grown_above) → AllByRecursion (AreHome Index ready.table) grown_above
-        → IsLevelInstalled of ready after ws made_on_top → after.root ≡ top_pid (all_new made_on_top) grown_above → after.height ≡ ready.height + length grown_above → HasClimbed of start after ws [] (climb s used i ws [])
-    top-climbed of start ready after r c l e h = record {
-      level = l.level.home;
-      above = above_stay of start.table ready.table after.table ws made_on_top [] grown_above l.level grown_apart grown_new c;
-      gone = gone_joined of start.table ready.table after.table ws made_on_top [] grown_above l.level (λ n a b. absurd (cc));
-      others = others_joined of start.table ready.table after.table ws made_on_top [] grown_above l.level (λ n p q a b. r.others n p q b);
-      rising = l.rising;
-      logged = l.logged ∙ ap (λ (ls : List (ℕ × Logged)). outdate_all (all_outdated made_on_top) ls) r.logged;
-      root = e;
-      height = heights after.height ready.height start.height (length grown_above) h r.height;
-    }
-      where
-        heights : (t3 t1 t0 n : ℕ) → t3 ≡ t1 + n → t1 ≡ t0 → t3 + 0 ≡ t0 + n
-        heights t3 t1 t0 n e f = omega arith

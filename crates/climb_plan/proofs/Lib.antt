@@ -5,6 +5,8 @@ pub mod ChangingGroups
 pub mod ChangingOutdated
 pub mod ChangingSeen
 pub mod Climbing
+pub mod ClimbingLevel
+pub mod ClimbingTop
 mod Climbs
 mod CutUnderTwoParents
 mod Families

@@ -40,7 +40,7 @@ module _ {V : Type 0} where
   leaves_same s (p ∷ []) = refl
   leaves_same s (p ∷ q ∷ qs) = ap (λ (ws : List (Worked V)). same p ∷ ws) (leaves_same s (q ∷ qs))
 
-  parents_same : (s : Settings) (ps : List (Placed V)) (runs : List (List (List ℕ × Option V))) → AllByRecursion (λ run. run ≡ []) runs → worked_parents s ps runs ≡ all_same ps
+  pub parents_same : (s : Settings) (ps : List (Placed V)) (runs : List (List (List ℕ × Option V))) → AllByRecursion (λ run. run ≡ []) runs → worked_parents s ps runs ≡ all_same ps
   parents_same s [] runs h = refl
   parents_same s (p ∷ ps) [] h = ap (λ (ws : List (Worked V)). same p ∷ ws) (parents_same s ps [] tt)
   parents_same s (p ∷ ps) (run ∷ runs) h = rw h.0 (ap (λ (ws : List (Worked V)). same p ∷ ws) (parents_same s ps runs h.1))
@@ -163,7 +163,7 @@ module _ (ps : List (ℕ × PageOfKind)) where
   root_on_top zero root = refl
   root_on_top (suc n) root = top_stays n (values_of (joined (map (index_at ps) (root ∷ [])))) (map (index_at ps) (root ∷ [])) []
 
-  levels_above : (n : ℕ) (level : List ℕ) (above : List (List (Placed ℕ))) → length (levels_below ps n level above).above ≡ n + length above
+  pub levels_above : (n : ℕ) (level : List ℕ) (above : List (List (Placed ℕ))) → length (levels_below ps n level above).above ≡ n + length above
   levels_above zero level above = let e : length above ≡ 0 + length above = omega arith in e
   levels_above (suc n) level above =
       let here : List (Placed ℕ) = map (index_at ps) level in
@@ -171,7 +171,7 @@ module _ (ps : List (ℕ × PageOfKind)) where
       let e : n + suc (length above) ≡ suc n + length above = omega arith in
       rest ∙ e
 
-height_by : (h : ℕ) → 0 < h → suc (pred h) ≡ h
+pub height_by : (h : ℕ) → 0 < h → suc (pred h) ≡ h
 height_by zero l = absurd (omega arith)
 height_by (suc n) l = refl
 
