@@ -25,7 +25,7 @@ use Rattle.climb_plan.proofs.ChangingOutdated.{worked_pids-placed, worked_pids-a
 
 -- ---- numbers among others
 
-not_among_from : (n : ℕ) (ms ns : List ℕ) → is_among n ms ≡ false → is_among n ns ≡ false → is_among n (ms ++ ns) ≡ false
+pub not_among_from : (n : ℕ) (ms ns : List ℕ) → is_among n ms ≡ false → is_among n ns ≡ false → is_among n (ms ++ ns) ≡ false
 not_among_from n ms ns a b = among-joined n ms ns ∙ or_from (is_among n ms) (is_among n ns) a b
 
 differs : (m n : ℕ) → m ≢ n → nat_eq n m ≡ false
@@ -40,10 +40,10 @@ rest_of true b h e = absurd (cc)
 rest_of false b h e = h
 
 -- no number stands in both
-abbrev AreApart : List ℕ → List ℕ → Type 0
+abbrev pub AreApart : List ℕ → List ℕ → Type 0
 AreApart ms ns = (n : ℕ) → is_among n ms ≡ true → is_among n ns ≡ false
 
-turned : (ms ns : List ℕ) → AreApart ms ns → AreApart ns ms
+pub turned : (ms ns : List ℕ) → AreApart ms ns → AreApart ns ms
 turned ms ns h n e = false_from_ne_true (is_among n ms) (λ f. let g : is_among n ns ≡ false = h n f in absurd (cc))
 
 joined_apart : (xs ms ns : List ℕ) → AreApart xs ns → AreApart ms ns → AreApart (xs ++ ms) ns
@@ -57,7 +57,7 @@ apart_cons m ms ns d a n e =
     ]
 
 -- distinct numbers in two parts
-distinct_apart : (ms ns : List ℕ) → Distinct (ms ++ ns) → AreApart ms ns × Distinct ns
+pub distinct_apart : (ms ns : List ℕ) → Distinct (ms ++ ns) → AreApart ms ns × Distinct ns
 distinct_apart [] ns d = (λ n e. absurd (cc), d)
 distinct_apart (m ∷ ms) ns d =
     let rest = distinct_apart ms ns d.1 in

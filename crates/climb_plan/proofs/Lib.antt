@@ -1,4 +1,6 @@
 mod AllThinLeaves
+pub mod Arrived
+pub mod ArrivedPages
 pub mod BridgeDrawn
 pub mod BridgeGroups
 pub mod BridgeNext
@@ -13,6 +15,9 @@ mod ChangedRooms
 pub mod ChangingGroups
 pub mod ChangingOutdated
 pub mod ChangingSeen
+pub mod Climbing
+pub mod ClimbingLevel
+pub mod ClimbingTop
 mod Climbs
 mod CutUnderTwoParents
 mod DescentWay

@@ -31,7 +31,7 @@ use Rattle.climb_plan.proofs.Families.{families_by_length}
 
 -- ---- pages without a run
 
-abbrev all_same : {V : Type 0} → List (Placed V) → List (Worked V)
+abbrev pub all_same : {V : Type 0} → List (Placed V) → List (Worked V)
 all_same ps = map same ps
 
 module _ {V : Type 0} where
@@ -40,7 +40,7 @@ module _ {V : Type 0} where
   leaves_same s (p ∷ []) = refl
   leaves_same s (p ∷ q ∷ qs) = ap (λ (ws : List (Worked V)). same p ∷ ws) (leaves_same s (q ∷ qs))
 
-  parents_same : (s : Settings) (ps : List (Placed V)) (runs : List (List (List ℕ × Option V))) → AllByRecursion (λ run. run ≡ []) runs → worked_parents s ps runs ≡ all_same ps
+  pub parents_same : (s : Settings) (ps : List (Placed V)) (runs : List (List (List ℕ × Option V))) → AllByRecursion (λ run. run ≡ []) runs → worked_parents s ps runs ≡ all_same ps
   parents_same s [] runs h = refl
   parents_same s (p ∷ ps) [] h = ap (λ (ws : List (Worked V)). same p ∷ ws) (parents_same s ps [] tt)
   parents_same s (p ∷ ps) (run ∷ runs) h = rw h.0 (ap (λ (ws : List (Worked V)). same p ∷ ws) (parents_same s ps runs h.1))
@@ -109,10 +109,10 @@ module _ {V : Type 0} where
 -- ---- all levels
 
 -- these levels, of which nothing is outdated
-abbrev as_they_were : {V : Type 0} → List (Placed V) → List (List (Placed ℕ)) → Climbed V
+abbrev pub as_they_were : {V : Type 0} → List (Placed V) → List (List (Placed ℕ)) → Climbed V
 as_they_were level ups = record { tower = record { level = level; above = ups }; outdated = [] }
 
-climb_same : {V : Type 0} (s : Settings) (used : List ℕ) (i : ℕ) (ps : List (Placed V)) (ups : List (List (Placed ℕ))) → Stacked ps ups → climb s used i (all_same ps) ups ≡ as_they_were ps ups
+pub climb_same : {V : Type 0} (s : Settings) (used : List ℕ) (i : ℕ) (ps : List (Placed V)) (ups : List (List (Placed ℕ))) → Stacked ps ups → climb s used i (all_same ps) ups ≡ as_they_were ps ups
 climb_same s used i [] [] o = absurd (omega arith)
 climb_same s used i (p ∷ []) [] o = refl
 climb_same s used i (p ∷ q ∷ ps) [] o = absurd (omega arith)
@@ -163,7 +163,7 @@ module _ (ps : List (ℕ × PageOfKind)) where
   root_on_top zero root = refl
   root_on_top (suc n) root = top_stays n (values_of (joined (map (index_at ps) (root ∷ [])))) (map (index_at ps) (root ∷ [])) []
 
-  levels_above : (n : ℕ) (level : List ℕ) (above : List (List (Placed ℕ))) → length (levels_below ps n level above).above ≡ n + length above
+  pub levels_above : (n : ℕ) (level : List ℕ) (above : List (List (Placed ℕ))) → length (levels_below ps n level above).above ≡ n + length above
   levels_above zero level above = let e : length above ≡ 0 + length above = omega arith in e
   levels_above (suc n) level above =
       let here : List (Placed ℕ) = map (index_at ps) level in
@@ -171,17 +171,17 @@ module _ (ps : List (ℕ × PageOfKind)) where
       let e : n + suc (length above) ≡ suc n + length above = omega arith in
       rest ∙ e
 
-height_by : (h : ℕ) → 0 < h → suc (pred h) ≡ h
+pub height_by : (h : ℕ) → 0 < h → suc (pred h) ≡ h
 height_by zero l = absurd (omega arith)
 height_by (suc n) l = refl
 
 -- ---- the plan
 
-none_outdated : (ls : List (ℕ × Logged)) → outdate_all [] ls ≡ ls
+pub none_outdated : (ls : List (ℕ × Logged)) → outdate_all [] ls ≡ ls
 none_outdated [] = refl
 none_outdated (l ∷ ls) = ap (λ (rest : List (ℕ × Logged)). l ∷ rest) (none_outdated ls)
 
-same_tree : (t u : Tree) → t.pages ≡ u.pages → t.root ≡ u.root → t.height ≡ u.height → t.logged ≡ u.logged → t ≡ u
+pub same_tree : (t u : Tree) → t.pages ≡ u.pages → t.root ≡ u.root → t.height ≡ u.height → t.logged ≡ u.logged → t ≡ u
 same_tree t u a b c d =
     let made : List (ℕ × PageOfKind) → ℕ → ℕ → List (ℕ × Logged) → Tree = λ p r h l. record { pages = p; root = r; height = h; logged = l } in
     ap (λ (p : List (ℕ × PageOfKind)). made p t.root t.height t.logged) a

@@ -1,5 +1,6 @@
 pub mod Changing
 pub mod Climb
+pub mod HasClimbed
 pub mod Installing
 pub mod Level
 pub mod Limits

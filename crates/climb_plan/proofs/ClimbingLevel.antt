@@ -1,0 +1,157 @@
+-- A level under parents has climbed once those above it have, and it is installed.
+use Rattle.std.specs.Prelude.{◌≡◌, ℕ, suc, ◌+◌, true, List, [], ◌∷◌, ◌++◌, map, flat_map, length, Option}
+use Rattle.std.proofs.Common.{refl, sym, ap, ◌∙◌, subst, arith}
+use Rattle.std.specs.List.{AllByRecursion}
+use Rattle.keys.specs.Lists.{flat}
+use Rattle.keys.specs.declared.settings.Settings.{Settings}
+use Rattle.index_page.specs.Page.{Page, PageOfKind}
+use Rattle.index_page.specs.Page.PageOfKind.{Index}
+use Rattle.index_page.proofs.ListLaws.{all_apart}
+use Rattle.mapping.specs.Levels.{Placed, pids, all_pids}
+use Rattle.mapping.specs.FreshPids.{is_among}
+use Rattle.mapping.specs.Outdate.{outdate_all}
+use Rattle.mapping.specs.Proper.{Distinct, Stacked}
+use Rattle.mapping.specs.Table.{place_of}
+use Rattle.mapping.specs.Tree.{Logged}
+use Rattle.mapping.specs.TreeInMemory.{TreeInMemory}
+use Rattle.mapping.proofs.LevelLaws.{same_pids}
+use Rattle.mapping.proofs.PidLaws.{IsNeverUnused, among_apart}
+use Rattle.page_runs.specs.Worked.{Worked}
+use Rattle.split_plan.specs.WorkedLevel.{placed_of, worked_parents}
+use Rattle.split_plan.specs.Change.{Change, family_changes, all_new, all_fresh, all_outdated}
+use Rattle.split_plan.specs.Terms.{terms}
+use Rattle.split_plan.proofs.PidLaws.{distinct_renewed, recast, renewed-append, renewed-family_changes}
+use Rattle.split_plan.proofs.Renewed.{Renewed}
+use Rattle.split_plan.proofs.Renewed.Renewed.{done, keep}
+use Rattle.split_plan.proofs.RunLaws.{names-worked_parents}
+use Rattle.climb_plan.specs.Changing.{same, worked_pids, changing, parents_of, AreRunsOf, Changing}
+use Rattle.climb_plan.specs.Climb.{Climbed, climb, families}
+use Rattle.climb_plan.specs.HasClimbed.{HasClimbed}
+use Rattle.climb_plan.proofs.ChangingOutdated.{worked_pids-placed, outdate-joined}
+use Rattle.climb_plan.proofs.InstalledPages.{AreApart, turned, distinct_apart}
+use Rattle.climb_plan.proofs.Pids.{renewed-climb}
+use Rattle.climb_plan.proofs.Untouched.{parents_same}
+use Rattle.climb_plan.proofs.Climbing.{IsMadeReady, IsLevelInstalled, fresh_is_new, above_stay, gone_joined, others_joined}
+use Rattle.climb_plan.specs.Changing.AreRunsOf.{told, untold}
+use Rattle.climb_plan.proofs.ToldRuns.{terms_told}
+
+-- ---- distinct pids
+
+all_stay : (used : List ℕ) (i : ℕ) (ns : List ℕ) → Renewed used i i ns ns
+all_stay used i [] = done
+all_stay used i (n ∷ ns) = keep n (all_stay used i ns)
+
+-- the pids of levels above, and those that stand there afterwards, are apart from pids in use below
+apart_from_level : {used : List ℕ} {i j : ℕ} {olds news : List ℕ} (ns : List ℕ) → Renewed used i j olds news → AllByRecursion (IsNeverUnused used) (ns ++ olds) → Distinct (ns ++ olds) → AreApart news ns
+apart_from_level {used} {i} {j} {olds} {news} ns r h d =
+    turned ns news (distinct_apart ns news (distinct_renewed (renewed-append (all_stay used i ns) r) h d)).0
+
+-- and from those that are renewed below
+apart_from_new : {used : List ℕ} {i j k : ℕ} {ns ms olds news : List ℕ} → Renewed used i j ns ms → Renewed used j k olds news → AllByRecursion (IsNeverUnused used) (ns ++ olds) → Distinct (ns ++ olds) → AreApart news ms
+apart_from_new {used} {i} {j} {k} {ns} {ms} {olds} {news} q r h d =
+    turned ms news (distinct_apart ms news (distinct_renewed (renewed-append q r) h d)).0
+
+-- ---- one level more
+
+module _ {V : Type 0} (s : Settings) (used : List ℕ) (i : ℕ) (ps : List (Placed ℕ)) (ws : List (Worked V)) (ups : List (List (Placed ℕ))) where
+  -- what is made of the level, its parents after their runs, and what a climb makes of the levels from them on upward
+  abbrev pub made_here : List (List (Change V))
+  made_here = family_changes s used i (families ps ws)
+
+  abbrev pub parents_here : List (Worked ℕ)
+  parents_here = worked_parents s ps (map terms made_here)
+
+  abbrev pub climbed_above : Climbed ℕ
+  climbed_above = climb s used (i + length (all_fresh made_here)) parents_here ups
+
+  abbrev upper : List (List (Placed ℕ))
+  upper = climbed_above.tower.level ∷ climbed_above.tower.above
+
+  -- parents keep their pids
+  pub parent_pids : pids (placed_of parents_here) ≡ pids ps
+  parent_pids = same_pids (placed_of parents_here) ps (names-worked_parents s ps (map terms made_here))
+
+  module _ (flat_is : flat (families ps ws) ≡ ws) (stacked : Stacked ps ups) (never : AllByRecursion (IsNeverUnused used) (all_pids (placed_of ws) (ps ∷ ups))) (distinct : Distinct (all_pids (placed_of ws) (ps ∷ ups))) where
+    abbrev renewed_above : (k : ℕ) × Renewed used (i + length (all_fresh made_here)) k (all_pids ps ups) (flat_map pids upper)
+    renewed_above = renewed-climb s used (i + length (all_fresh made_here)) parents_here ps ups (names-worked_parents s ps (map terms made_here)) stacked
+
+    abbrev renewed_here : Renewed used i (i + length (all_fresh made_here)) (pids (placed_of ws)) (pids (all_new made_here))
+    renewed_here = recast used refl (ap (λ (vs : List (Worked V)). pids (placed_of vs)) flat_is) refl (renewed-family_changes s used i (families ps ws))
+
+    upper_apart : AreApart (flat_map pids upper) (worked_pids ws)
+    upper_apart = λ n e. ap (λ (ns : List ℕ). is_among n ns) (worked_pids-placed ws) ∙ apart_from_level (pids (placed_of ws)) renewed_above.1 never distinct n e
+
+    upper_new : AreApart (flat_map pids upper) (pids (all_new made_here))
+    upper_new = apart_from_new renewed_here renewed_above.1 never distinct
+
+    -- ---- what a level's climb may rest on holds of the levels above it, too
+
+    abbrev apart_parts : AreApart (pids (placed_of ws)) (all_pids ps ups) × Distinct (all_pids ps ups)
+    apart_parts = distinct_apart (pids (placed_of ws)) (all_pids ps ups) distinct
+
+    abbrev upper_pids : all_pids (placed_of parents_here) ups ≡ all_pids ps ups
+    upper_pids = ap (λ (ns : List ℕ). ns ++ flat_map pids ups) parent_pids
+
+    pub upper_distinct : Distinct (all_pids (placed_of parents_here) ups)
+    upper_distinct = subst (λ (ns : List ℕ). Distinct ns) (sym upper_pids) apart_parts.1
+
+    pub upper_never : AllByRecursion (IsNeverUnused used) (all_pids (placed_of parents_here) ups)
+    upper_never = subst (λ (ns : List ℕ). AllByRecursion (IsNeverUnused used) ns) (sym upper_pids) (all_apart (IsNeverUnused used) (pids (placed_of ws)) (all_pids ps ups) never).1
+
+    -- ---- the levels above don't touch a level
+
+    own_apart : AreApart (worked_pids ws) (all_pids (placed_of parents_here) ups)
+    own_apart n e = ap (λ (ns : List ℕ). is_among n ns) upper_pids ∙ apart_parts.0 n (ap (λ (ns : List ℕ). is_among n ns) (sym (worked_pids-placed ws)) ∙ e)
+
+    new_apart : AreApart (pids (all_new made_here)) (all_pids (placed_of parents_here) ups)
+    new_apart n e =
+        let olds : List ℕ = all_pids ps ups in
+        let d : Distinct (pids (all_new made_here) ++ olds) = distinct_renewed (renewed-append renewed_here (all_stay used (i + length (all_fresh made_here)) olds)) never distinct in
+        ap (λ (ns : List ℕ). is_among n ns) upper_pids ∙ (distinct_apart (pids (all_new made_here)) olds d).0 n e
+
+    -- its pages have the places that they had, at home or away
+    pub level_untouched : (ready above : TreeInMemory) → HasClimbed Index ready above parents_here ups climbed_above → (n : ℕ) → is_among n (worked_pids ws) ≡ true → place_of above.table n ≡ place_of ready.table n
+    level_untouched ready above c n e = c.others n (own_apart n e) (turned (flat_map pids upper) (worked_pids ws) upper_apart n e)
+
+    -- and so have its fresh pids
+    pub fresh_untouched : (ready above : TreeInMemory) → HasClimbed Index ready above parents_here ups climbed_above → (n : ℕ) → is_among n (pids (all_fresh made_here)) ≡ true → place_of above.table n ≡ place_of ready.table n
+    fresh_untouched ready above c n e =
+        let new : is_among n (pids (all_new made_here)) ≡ true = fresh_is_new n made_here e in
+        c.others n (new_apart n new) (turned (flat_map pids upper) (pids (all_new made_here)) upper_new n new)
+
+    -- ---- it has climbed
+
+    -- a level under parents has climbed once those above it have, and it is installed
+    pub level-climbed : (of : Page V → PageOfKind) (start ready above after : TreeInMemory) → IsMadeReady start ready ws (all_fresh made_here) (pids ps) → HasClimbed Index ready above parents_here ups climbed_above
+        → IsLevelInstalled of above after ws made_here → after.root ≡ above.root → after.height ≡ above.height → HasClimbed of start after ws (ps ∷ ups) (climb s used i ws (ps ∷ ups))
+    level-climbed of start ready above after r c l e h =
+        let olds : List ℕ = all_pids ps ups in
+        let same : (n : ℕ) → is_among n (all_pids (placed_of parents_here) ups) ≡ is_among n olds = λ n. ap (λ (ns : List ℕ). is_among n (ns ++ flat_map pids ups)) parent_pids in
+        let outdated : outdate_all (all_outdated made_here) above.table.logged ≡ outdate_all (all_outdated made_here) (outdate_all climbed_above.outdated start.table.logged) =
+        ap (λ (ls : List (ℕ × Logged)). outdate_all (all_outdated made_here) ls) (c.logged ∙ ap (λ (ls : List (ℕ × Logged)). outdate_all climbed_above.outdated ls) r.logged) in
+        record {
+          level = l.level.home;
+          above = above_stay of start.table above.table after.table ws made_here olds upper l.level upper_apart upper_new (c.level, c.above);
+          gone = gone_joined of start.table above.table after.table ws made_here olds upper l.level (λ n a b. c.gone n (same n ∙ a) b);
+          others = others_joined of start.table above.table after.table ws made_here olds upper l.level (λ n p q a b. c.others n (same n ∙ a) b ∙ r.others n p q (among_apart n (pids ps) (flat_map pids ups) a).0);
+          rising = l.rising;
+          logged = l.logged ∙ outdated ∙ outdate-joined (all_outdated made_here) climbed_above.outdated start.table.logged;
+          root = e ∙ c.root;
+          height = heights after.height above.height ready.height start.height (length ups) (length climbed_above.tower.above) h c.height r.height;
+        }
+      where
+        heights : (t3 t2 t1 t0 m n : ℕ) → t3 ≡ t2 → t2 + m ≡ t1 + n → t1 ≡ t0 → t3 + suc m ≡ t0 + suc n
+        heights t3 t2 t1 t0 m n e f g = omega arith
+
+-- ---- parents that are told nothing
+
+untold_all : {X : Type 0} {ps qs : List (Placed X)} {runs rs : List (List (List ℕ × Option X))} → AreRunsOf ps runs qs rs → length qs ≡ 0 → AllByRecursion (λ run. run ≡ []) runs
+untold_all (AreRunsOf.none) e = tt
+untold_all (told p run r) e = absurd (omega arith)
+untold_all (untold p r) e = (refl, untold_all r e)
+
+-- where no group of a level is rewritten, its parents stay as they are
+pub parents_idle : {V : Type 0} (s : Settings) (used : List ℕ) (i : ℕ) (ps : List (Placed ℕ)) (ws : List (Worked V)) → changing ps ws ≡ [] → worked_parents s ps (map terms (family_changes s used i (families ps ws))) ≡ map same ps
+parents_idle {V} s used i ps ws e =
+    let none : length (parents_of (changing ps ws)) ≡ 0 = ap (λ (cs : List (Changing V)). length (parents_of cs)) e in
+    parents_same s ps (map terms (family_changes s used i (families ps ws))) (untold_all (terms_told s used i ps ws) none)

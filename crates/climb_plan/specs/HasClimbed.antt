@@ -1,0 +1,37 @@
+-- The levels of a tree in memory as a climb leaves them, and as they are once the root has shrunk.
+use Rattle.std.specs.Prelude.{◌≡◌, ℕ, suc, ◌+◌, true, false, List, length, None}
+use Rattle.std.specs.List.{AllByRecursion}
+use Rattle.index_page.specs.Page.{Page, PageOfKind}
+use Rattle.index_page.specs.Page.PageOfKind.{Index}
+use Rattle.mapping.specs.Levels.{Placed, all_pids, top_pid}
+use Rattle.mapping.specs.FreshPids.{is_among}
+use Rattle.mapping.specs.Outdate.{outdate_all}
+use Rattle.mapping.specs.Proper.{AreRisingPids}
+use Rattle.mapping.specs.Table.{pids_in_use, place_of}
+use Rattle.mapping.specs.TreeInMemory.{TreeInMemory}
+use Rattle.page_runs.specs.Worked.{Worked}
+use Rattle.split_plan.specs.WorkedLevel.{placed_of}
+use Rattle.climb_plan.specs.Changing.{AreHome}
+use Rattle.climb_plan.specs.Climb.{Climbed, kept}
+use Rattle.climb_plan.specs.Plan.{shrunk_pids}
+
+-- a level and the levels above it once a climb came through: its pages are at home, those that went have no place, and all
+-- else stayed
+pub record HasClimbed {V : Type 0} (of : Page V → PageOfKind) (before after : TreeInMemory) (ws : List (Worked V)) (ups : List (List (Placed ℕ))) (c : Climbed V) : Type 0 where
+  pub level : AreHome of after.table c.tower.level
+  pub above : AllByRecursion (AreHome Index after.table) c.tower.above
+  pub gone : (pid : ℕ) → is_among pid (all_pids (placed_of ws) ups) ≡ true → is_among pid (all_pids c.tower.level c.tower.above) ≡ false → place_of after.table pid ≡ None
+  pub others : (pid : ℕ) → is_among pid (all_pids (placed_of ws) ups) ≡ false → is_among pid (all_pids c.tower.level c.tower.above) ≡ false → place_of after.table pid ≡ place_of before.table pid
+  pub rising : AreRisingPids (pids_in_use after.table)
+  pub logged : after.table.logged ≡ outdate_all c.outdated before.table.logged
+  pub root : after.root ≡ top_pid c.tower.level c.tower.above
+  pub height : after.height + length ups ≡ before.height + length c.tower.above
+
+-- these levels, above a level of leaves, once those at the top whose one page has one child were freed: all else stayed
+pub record HasShrunk {V : Type 0} (before after : TreeInMemory) (level : List (Placed V)) (ls : List (List (Placed ℕ))) : Type 0 where
+  pub gone : (pid : ℕ) → is_among pid (shrunk_pids ls) ≡ true → place_of after.table pid ≡ None
+  pub others : (pid : ℕ) → is_among pid (shrunk_pids ls) ≡ false → place_of after.table pid ≡ place_of before.table pid
+  pub rising : AreRisingPids (pids_in_use after.table)
+  pub logged : after.table.logged ≡ outdate_all (shrunk_pids ls) before.table.logged
+  pub root : after.root ≡ top_pid level (kept ls)
+  pub height : after.height ≡ suc (length (kept ls))
