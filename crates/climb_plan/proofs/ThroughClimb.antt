@@ -1,5 +1,5 @@
 -- What a level's code knows of it is handed to the levels above, and what these give is put together.
-use Rattle.std.specs.Prelude.{◌≡◌, ℕ, suc, ◌+◌, ◌-◌, ◌<◌, List, [], ◌∷◌, map, length}
+use Rattle.std.specs.Prelude.{◌≡◌, ℕ, zero, suc, ◌+◌, ◌-◌, ◌<◌, List, [], ◌∷◌, map, length}
 use Rattle.std.proofs.Common.{refl, sym, ap, ◌∙◌, subst, arith}
 use Rattle.std.proofs.lemmas.List.{length-map}
 use Rattle.keys.specs.declared.settings.Settings.{Settings}
@@ -116,3 +116,47 @@ module _ {V : Type 0} (of : Page V → PageOfKind) where
           let back : TreeInMemory = record above { table = all_come_home above.table xs } in
           let is = r ∙ ap (λ (u : TreeInMemory). put u groups) q ∙ ap (λ (rs : List Remade). put back rs) (works ws ps ups used i h e).groups in
           subst (λ (u : TreeInMemory). HasClimbed of t u ws (ps ∷ ups) (climb s used i ws (ps ∷ ups))) (sym is) (level_through s of t xs ws ps ups used i h above (above_here ws ps ups used i h e))
+
+  -- ---- as contracts say it
+
+  -- a level that isn't the highest is one under parents
+  pub by_children : (s : Settings) (t after : TreeInMemory) (xs : List SeenPage) (depth : ℕ) → (depth ≡ 0 → ⊥)
+      → ((ws : List (Worked V)) (ps : List (Placed ℕ)) (ups : List (List (Placed ℕ))) (used : List ℕ) (i : ℕ) → IsLevel of t xs ws (ps ∷ ups) used i → depth - 1 ≡ length ups → HasClimbed of t after ws (ps ∷ ups) (climb s used i ws (ps ∷ ups)))
+      → (ws : List (Worked V)) (ups : List (List (Placed ℕ))) (used : List ℕ) (i : ℕ) → IsLevel of t xs ws ups used i → depth ≡ length ups → HasClimbed of t after ws ups (climb s used i ws ups)
+  by_children s t after xs depth d f ws [] used i h e = absurd (d e)
+  by_children s t after xs depth d f ws (ps ∷ ups) used i h e = let g : depth - 1 ≡ length ups = omega arith in f ws ps ups used i h g
+
+  -- the same level, as it was handed on
+  pub works_for : (s : Settings) (t ready : TreeInMemory) (xs ys : List SeenPage) (depth : ℕ) (groups : List Remade) (parents : List IndexWorked) → ys ≡ xs → WorksParents s t ready ys depth groups parents → WorksParents s t ready xs depth groups parents
+  works_for s t ready xs ys depth groups parents q w = subst (λ (zs : List SeenPage). WorksParents s t ready zs depth groups parents) q w
+
+  -- where the levels above would be too many, so would these
+  pub high_by : (s : Settings) (fan : 1 < s.fan) (t ready : TreeInMemory) (xs : List SeenPage) (depth : ℕ) (groups : List Remade) (parents : List IndexWorked) (works : WorksParents s t ready xs (depth - 1) groups parents) (P : Type 0) → (depth ≡ 0 → ⊥)
+      → ((vs : List (Worked ℕ)) (ups : List (List (Placed ℕ))) (used : List ℕ) (j : ℕ) → IsLevel Index ready (map (λ d. shown Index d.made) parents) vs ups used j → depth - 1 ≡ length ups → P → 64 + length ups < ready.height + length (climb s used j vs ups).tower.above)
+      → (ws : List (Worked V)) (ups : List (List (Placed ℕ))) (used : List ℕ) (i : ℕ) → IsLevel of t xs ws ups used i → depth ≡ length ups → P → 64 + length ups < t.height + length (climb s used i ws ups).tower.above
+  high_by s fan t ready xs depth groups parents works P d f ws [] used i h e p = absurd (d e)
+  high_by s fan t ready xs depth groups parents works P d f ws (ps ∷ ups) used i h e p =
+      let g : depth - 1 ≡ length ups = omega arith in
+      let j : ℕ = i + length (all_fresh (family_changes s used i (families ps ws))) in
+      let k : 64 + length ups < ready.height + length (climbed_above s used i ps ws ups).tower.above = f (parents_here s used i ps ws ups) ups used j (next_above s fan t ready xs (depth - 1) groups parents works ws ps ups used i h g) g p in
+      let q : ready.height ≡ t.height = same_height s fan t ready xs (depth - 1) groups parents works ws ps ups used i h g in
+      raised (length ups) ready.height t.height (length (climbed_above s used i ps ws ups).tower.above) k q
+    where
+      raised : (n a b m : ℕ) → 64 + n < a + m → a ≡ b → 64 + suc n < b + suc m
+      raised n a b m k q = omega arith
+
+-- a measure that goes down
+pub one_less : (n : ℕ) → (n ≡ 0 → ⊥) → n - 1 < n
+one_less zero d = absurd (d refl)
+one_less (suc n) d = omega arith
+
+pids_of_map : {D : Type 0} (f : D → SeenPage) (ds : List D) → seen_pids (map f ds) ≡ map (λ d. (f d).pid) ds
+pids_of_map f [] = refl
+pids_of_map f (d ∷ ds) = ap (λ (ns : List ℕ). (f d).pid ∷ ns) (pids_of_map f ds)
+
+-- the pages' places are away, as they were handed on
+pub away_for : {D : Type 0} (f : D → SeenPage) (t : TreeInMemory) (ds : List D) → AreAway t.table (seen_pids (map f ds)) → AreAway t.table (map (λ d. (f d).pid) ds)
+away_for f t ds a = subst (λ (ns : List ℕ). AreAway t.table ns) (pids_of_map f ds) a
+
+pub nothing_in : {D : Type 0} (f : D → SeenPage) (ds : List D) → length ds ≡ 0 → length (map f ds) ≡ 0
+nothing_in f ds e = length-map ds f ∙ e

@@ -1,0 +1,70 @@
+//! The climb of a batch: level by level upward groups are cut and parents are worked, up to the root; then, by moves alone and from
+//! the root down, all that was made is put into the tree. What is on the way back stands on the stack: a level that is refused
+//! undoes what it did, and the level below it does the same. (The Bw-tree's splits and merges, made a level at a time as
+//! PALM makes them.)
+ghost use Rattle.std.specs.Prelude.{◌≡◌, ◌<◌, ◌≤◌, ◌+◌, ℕ, List, map, length, IfErr, OnOk, OnErr};
+ghost use Rattle.index_page.specs.Page.PageOfKind.{Leaf, Index};
+ghost use Rattle.mapping.specs.Levels.{Placed};
+ghost use Rattle.page_runs.specs.Worked.{Worked};
+ghost use Rattle.climb_plan.specs.Changing.{shown};
+ghost use Rattle.climb_plan.specs.Climb.{climb};
+ghost use Rattle.climb_plan.specs.HasClimbed.{HasClimbed};
+ghost use Rattle.climb_plan.specs.Level.{IsLevel};
+
+use crate::change::free_drawn;
+use crate::install::{install_all, put_home, undo_parents};
+use crate::level::{Changed, change_level};
+use crate::refused::Refused;
+use crate::top::climb_root;
+use crate::seen::Revised;
+use keys::Settings;
+use mapping::Tree;
+use page_runs::TermDone;
+use std::alloc::Global;
+
+/// Climbs from these index pages, which were worked, and which are so many levels below the root. Where it is refused, the tree is as
+/// it was, and the pages come back as they were given.
+fn climb_parents(
+    alloc: Global,
+    settings: &Settings,
+    tree: &mut Tree<Global>,
+    depth: u32,
+    dones: Vec<TermDone>,
+) -> Result<(), (Refused, Vec<TermDone>)>
+    requires fan { 1 < settings.now.fan }
+    requires level { (ws : List (Worked ℕ)) × (ups : List (List (Placed ℕ))) × (used : List ℕ) × (i : ℕ)
+        × IsLevel Index tree.old (map (λ d. shown Index d.made) dones.items) ws ups used i × (depth ≡ length ups) }
+    requires height { tree.old.height ≤ 64 }
+    ensures climbed { OnOk result ((ws : List (Worked ℕ)) (ups : List (List (Placed ℕ))) (used : List ℕ) (i : ℕ) →
+        IsLevel Index tree.old (map (λ d. shown Index d.made) dones.items) ws ups used i → depth ≡ length ups → HasClimbed Index tree.old tree.new ws ups (climb settings.now used i ws ups)) }
+    ensures low { OnOk result (tree.new.height ≤ 64) }
+    ensures back { IfErr result (λ e. e.1.items ≡ dones.items) }
+    ensures err { OnErr result (tree.new ≡ tree.old) }
+    ensures high { IfErr result (λ e. (ws : List (Worked ℕ)) (ups : List (List (Placed ℕ))) (used : List ℕ) (i : ℕ) →
+        IsLevel Index tree.old (map (λ d. shown Index d.made) dones.items) ws ups used i → depth ≡ length ups → e.0 ≡ Refused.TooHigh →
+        64 + length ups < tree.old.height + length (climb settings.now used i ws ups).tower.above) }
+{
+    if dones.is_empty() {
+        return Ok(());
+    }
+    if depth == 0 {
+        return climb_root(alloc, settings, tree, dones);
+    }
+    let changed = match change_level(alloc, settings, tree, depth - 1, &dones) {
+        Ok(changed) => changed,
+        Err(_) => return Err((Refused::NoMemory, dones)),
+    };
+    let Changed { groups, parents } = changed;
+    match climb_parents(alloc, settings, tree, depth - 1, parents) {
+        Ok(()) => {
+            put_home(tree, dones);
+            install_all(tree, groups);
+            Ok(())
+        }
+        Err((refused, parents)) => {
+            undo_parents(alloc, settings, tree, parents);
+            free_drawn(tree, &groups);
+            Err((refused, dones))
+        }
+    }
+}
