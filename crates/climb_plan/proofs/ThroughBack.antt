@@ -1,0 +1,92 @@
+-- A level that is refused by the levels above it gives its tree back.
+use Rattle.std.specs.Prelude.{◌≡◌, ℕ, zero, suc, ◌+◌, ◌<◌, List, [], ◌∷◌, ◌++◌, map, flat_map, length, Some, None}
+use Rattle.std.proofs.Common.{refl, sym, ap, ◌∙◌, subst, arith}
+use Rattle.std.specs.List.{AllByRecursion, range_with_len}
+use Rattle.std.specs.Map.{keys_of}
+use Rattle.keys.specs.declared.settings.Settings.{Settings}
+use Rattle.index_page.specs.Page.{Page, PageOfKind}
+use Rattle.index_page.specs.Page.PageOfKind.{Index}
+use Rattle.index_page.proofs.ListLaws.{all_apart}
+use Rattle.mapping.specs.FreshPids.{is_among, unused}
+use Rattle.mapping.specs.Levels.{Placed, pids, all_pids}
+use Rattle.mapping.specs.Proper.{Distinct}
+use Rattle.mapping.specs.Table.{Mapping, pids_in_use, place_of, with_rooms, fresh_pids}
+use Rattle.mapping.specs.TreeInMemory.{TreeInMemory}
+use Rattle.mapping.proofs.PidLaws.{IsNeverUnused, all_among}
+use Rattle.page_runs.specs.TermWork.{IndexWorked}
+use Rattle.page_runs.specs.Worked.{Worked}
+use Rattle.split_plan.specs.Change.{Change, changes, fresh_of}
+use Rattle.split_plan.specs.WorkedLevel.{placed_of}
+use Rattle.climb_plan.specs.Changing.{SeenPage, AreHome, Changing, changing, changing_groups, parents_of}
+use Rattle.climb_plan.specs.Installing.{AreAway, all_put, all_taken}
+use Rattle.climb_plan.specs.Level.{IsLevel, IsChanged, parent_pids, next_tree, remade_of}
+use Rattle.climb_plan.specs.Rewriting.{Remade}
+use Rattle.climb_plan.proofs.BridgeDrawn.{drawn_places}
+use Rattle.climb_plan.proofs.BridgeNext.{can_be_taken}
+use Rattle.climb_plan.proofs.BridgeTables.{AreDrawn, drawn_others}
+use Rattle.climb_plan.proofs.InstallingLaws.{away-all_taken, put_back_is_before}
+use Rattle.climb_plan.proofs.ToldRuns.{all_told, terms_told}
+
+-- what is held of parents, and their pages as they were
+abbrev pub held_pages : List IndexWorked → List (ℕ × PageOfKind)
+held_pages ds = map {B = ℕ × PageOfKind} (λ d. (d.held.pid, d.held.page)) ds
+
+abbrev pub index_pages : List (Placed ℕ) → List (ℕ × PageOfKind)
+index_pages qs = map {B = ℕ × PageOfKind} (λ q. (q.pid, Index q.page)) qs
+
+pids_held : (ds : List IndexWorked) → map (λ d. d.held.pid) ds ≡ keys_of (held_pages ds)
+pids_held [] = refl
+pids_held (d ∷ ds) = ap (λ (ns : List ℕ). d.held.pid ∷ ns) (pids_held ds)
+
+module _ {V : Type 0} where
+  keys_parents : (chs : List (Changing V)) → keys_of (index_pages (parents_of chs)) ≡ parent_pids chs
+  keys_parents [] = refl
+  keys_parents (c ∷ chs) = ap (λ (ns : List ℕ). c.parent.pid ∷ ns) (keys_parents chs)
+
+home_pairs : (t : Mapping PageOfKind) (qs : List (Placed ℕ)) → AreHome Index t qs → AllByRecursion (λ e. place_of t e.0 ≡ Some (Some e.1)) (index_pages qs)
+home_pairs t [] h = tt
+home_pairs t (q ∷ qs) h = (h.0, home_pairs t qs h.1)
+
+module _ {V : Type 0} (s : Settings) (fan : 1 < s.fan) (of : Page V → PageOfKind) (t ready : TreeInMemory) (xs : List SeenPage) (ws : List (Worked V)) (ps : List (Placed ℕ)) (ups : List (List (Placed ℕ))) (used : List ℕ) (i : ℕ) (groups : List Remade) (parents : List IndexWorked)
+    (h : IsLevel of t xs ws (ps ∷ ups) used i) (c : IsChanged s of t ready ws ps used i groups parents) where
+  abbrev taken_here : List ℕ
+  taken_here = parent_pids (changing ps ws)
+
+  abbrev count_here : ℕ
+  count_here = length (fresh_of (changes s used i (changing_groups (changing ps ws))))
+
+  abbrev pub rooms_here : Mapping PageOfKind
+  rooms_here = with_rooms t.table (fresh_pids (pids_in_use t.table) count_here)
+
+  drawn_here : AreDrawn t.table rooms_here count_here
+  drawn_here = drawn_places count_here t.table h.rising
+
+  taken_distinct : Distinct taken_here
+  taken_distinct = let z : 0 < s.fan = omega arith in (can_be_taken s of t xs ws ps ups used i z h).1
+
+  parents_in_rooms : AreHome Index rooms_here (parents_of (changing ps ws))
+  parents_in_rooms =
+      let never : AllByRecursion (IsNeverUnused used) (pids ps) = (all_apart (IsNeverUnused used) (pids ps) (flat_map pids ups) (all_apart (IsNeverUnused used) (pids (placed_of ws)) (all_pids ps ups) h.old).1).0 in
+      all_told (λ p. place_of rooms_here p.pid ≡ Some (Some (Index p.page))) (terms_told s used i ps ws) (each ps never h.home.0)
+    where
+      each : (qs : List (Placed ℕ)) → AllByRecursion (IsNeverUnused used) (pids qs) → AreHome Index t.table qs → AreHome Index rooms_here qs
+      each [] o k = tt
+      each (q ∷ qs) o k = (drawn_others t.table rooms_here count_here used i q.pid drawn_here h.drawn o.0 ∙ k.0, each qs o.1 k.1)
+
+  held_keys : keys_of (held_pages parents) ≡ taken_here
+  held_keys = ap (λ (es : List (ℕ × PageOfKind)). keys_of es) c.held ∙ keys_parents (changing ps ws)
+
+  -- the parents are away
+  pub parents_are_away : AreAway ready.table (map (λ d. d.held.pid) parents)
+  parents_are_away =
+      let away : AreAway (all_taken rooms_here taken_here) taken_here = (away-all_taken rooms_here taken_here taken_distinct, taken_distinct) in
+      subst (λ (u : TreeInMemory). AreAway u.table (map (λ d. d.held.pid) parents)) (sym c.tree) (subst (λ (ns : List ℕ). AreAway (all_taken rooms_here taken_here) ns) (sym (pids_held parents ∙ held_keys)) away)
+
+  -- once they are back, the table has just the numbers that were drawn beside what it had
+  pub parents_are_back : all_put ready.table (held_pages parents) ≡ rooms_here
+  parents_are_back =
+      let es : List (ℕ × PageOfKind) = index_pages (parents_of (changing ps ws)) in
+      ap (λ (u : TreeInMemory). all_put u.table (held_pages parents)) c.tree
+      ∙ ap (λ (ds : List (ℕ × PageOfKind)). all_put (all_taken rooms_here taken_here) ds) c.held
+      ∙ ap (λ (ns : List ℕ). all_put (all_taken rooms_here ns) es) (sym (keys_parents (changing ps ws)))
+      ∙ put_back_is_before rooms_here es drawn_here.rising (subst (λ (ns : List ℕ). Distinct ns) (sym (keys_parents (changing ps ws))) taken_distinct) (home_pairs rooms_here (parents_of (changing ps ws)) parents_in_rooms)
