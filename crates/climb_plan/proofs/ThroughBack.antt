@@ -1,5 +1,5 @@
 -- A level that is refused by the levels above it gives its tree back.
-use Rattle.std.specs.Prelude.{◌≡◌, ℕ, zero, suc, ◌+◌, ◌<◌, List, [], ◌∷◌, ◌++◌, map, flat_map, length, Some, None}
+use Rattle.std.specs.Prelude.{◌≡◌, ℕ, zero, suc, ◌+◌, ◌<◌, List, [], ◌∷◌, ◌++◌, true, map, flat_map, drop, length, Some, None}
 use Rattle.std.proofs.Common.{refl, sym, ap, ◌∙◌, subst, arith}
 use Rattle.std.specs.List.{AllByRecursion, range_with_len}
 use Rattle.std.specs.Map.{keys_of}
@@ -12,19 +12,23 @@ use Rattle.mapping.specs.Levels.{Placed, pids, all_pids}
 use Rattle.mapping.specs.Proper.{Distinct}
 use Rattle.mapping.specs.Table.{Mapping, pids_in_use, place_of, with_rooms, fresh_pids}
 use Rattle.mapping.specs.TreeInMemory.{TreeInMemory}
+use Rattle.mapping.proofs.LevelLaws.{pids-append}
 use Rattle.mapping.proofs.PidLaws.{IsNeverUnused, all_among}
 use Rattle.page_runs.specs.TermWork.{IndexWorked}
 use Rattle.page_runs.specs.Worked.{Worked}
+use Rattle.split_plan.proofs.PidLaws.{distinct_renewed}
 use Rattle.split_plan.specs.Change.{Change, changes, fresh_of}
 use Rattle.split_plan.specs.WorkedLevel.{placed_of}
 use Rattle.climb_plan.specs.Changing.{SeenPage, AreHome, Changing, changing, changing_groups, parents_of}
-use Rattle.climb_plan.specs.Installing.{AreAway, all_put, all_taken}
+use Rattle.climb_plan.specs.Installing.{AreAway, all_put, all_taken, all_freed_from}
 use Rattle.climb_plan.specs.Level.{IsLevel, IsChanged, parent_pids, next_tree, remade_of}
 use Rattle.climb_plan.specs.Rewriting.{Remade}
 use Rattle.climb_plan.proofs.BridgeDrawn.{drawn_places}
 use Rattle.climb_plan.proofs.BridgeNext.{can_be_taken}
 use Rattle.climb_plan.proofs.BridgeTables.{AreDrawn, drawn_others}
+use Rattle.climb_plan.proofs.ChangedRooms.{shifted}
 use Rattle.climb_plan.proofs.InstallingLaws.{away-all_taken, put_back_is_before}
+use Rattle.climb_plan.proofs.ThroughGroups.{draw_all, fresh_numbers}
 use Rattle.climb_plan.proofs.ToldRuns.{all_told, terms_told}
 
 -- what is held of parents, and their pages as they were
@@ -90,3 +94,39 @@ module _ {V : Type 0} (s : Settings) (fan : 1 < s.fan) (of : Page V → PageOfKi
       ∙ ap (λ (ds : List (ℕ × PageOfKind)). all_put (all_taken rooms_here taken_here) ds) c.held
       ∙ ap (λ (ns : List ℕ). all_put (all_taken rooms_here ns) es) (sym (keys_parents (changing ps ws)))
       ∙ put_back_is_before rooms_here es drawn_here.rising (subst (λ (ns : List ℕ). Distinct ns) (sym (keys_parents (changing ps ws))) taken_distinct) (home_pairs rooms_here (parents_of (changing ps ws)) parents_in_rooms)
+
+  -- the numbers that were drawn
+  fresh_each : (cs : List (Change V)) → flat_map (λ r. r.fresh) (map (remade_of of) cs) ≡ pids (fresh_of cs)
+  fresh_each [] = refl
+  fresh_each (d ∷ cs) = ap (λ (ns : List ℕ). pids (drop 1 d.pages) ++ ns) (fresh_each cs) ∙ sym (pids-append (drop 1 d.pages) (fresh_of cs))
+
+  pub fresh_are_drawn : flat_map (λ r. r.fresh) groups ≡ fresh_pids (pids_in_use t.table) count_here
+  fresh_are_drawn =
+      let e : i ≡ i + 0 = omega arith in
+      ap (λ (rs : List Remade). flat_map (λ r. r.fresh) rs) c.groups
+      ∙ fresh_each (changes s used i (changing_groups (changing ps ws)))
+      ∙ fresh_numbers s used i (changing_groups (changing ps ws))
+      ∙ sym (shifted used (pids_in_use t.table) i 0 i count_here e h.drawn)
+
+  all_away : (ns : List ℕ) → AllByRecursion (λ n. is_among n (fresh_pids (pids_in_use t.table) count_here) ≡ true) ns → AllByRecursion (λ n. place_of rooms_here n ≡ Some None) ns
+  all_away [] a = tt
+  all_away (n ∷ ns) a = (drawn_here.away n a.0, all_away ns a.1)
+
+  -- their places are away
+  pub fresh_are_away : (back : TreeInMemory) → back ≡ record ready { table = all_put ready.table (held_pages parents) } → AreAway back.table (flat_map (λ r. r.fresh) groups)
+  fresh_are_away back q =
+      let ns : List ℕ = fresh_pids (pids_in_use t.table) count_here in
+      let away : AreAway rooms_here ns = (all_away ns (all_among ns), distinct_renewed (draw_all (pids_in_use t.table) 0 count_here) tt tt) in
+      let table : back.table ≡ rooms_here = ap (λ (u : TreeInMemory). u.table) q ∙ parents_are_back in
+      subst (λ (u : Mapping PageOfKind). AreAway u (flat_map (λ r. r.fresh) groups)) (sym table) (subst (λ (ms : List ℕ). AreAway rooms_here ms) (sym fresh_are_drawn) away)
+
+  -- once they are given back, too, the tree is as it was
+  pub tree_is_back : (back after : TreeInMemory) → back ≡ record ready { table = all_put ready.table (held_pages parents) } → after ≡ record back { table = all_freed_from back.table (flat_map (λ r. r.fresh) groups) }
+      → all_freed_from rooms_here (fresh_pids (pids_in_use t.table) count_here) ≡ t.table → after ≡ t
+  tree_is_back back after q r l =
+      let put : TreeInMemory → Mapping PageOfKind → TreeInMemory = λ u m. record u { table = m } in
+      let free : List ℕ → TreeInMemory → TreeInMemory = λ ns u. record u { table = all_freed_from u.table ns } in
+      r
+      ∙ ap (λ (u : TreeInMemory). free (flat_map (λ x. x.fresh) groups) u) (q ∙ ap (λ (m : Mapping PageOfKind). put ready m) parents_are_back ∙ ap (λ (u : TreeInMemory). put u rooms_here) c.tree)
+      ∙ ap (λ (ns : List ℕ). free ns (put t rooms_here)) fresh_are_drawn
+      ∙ ap (λ (m : Mapping PageOfKind). put t m) l
