@@ -28,6 +28,7 @@ use Rattle.climb_plan.proofs.BridgeNext.{can_be_taken}
 use Rattle.climb_plan.proofs.BridgeTables.{AreDrawn, drawn_others}
 use Rattle.climb_plan.proofs.ChangedRooms.{shifted}
 use Rattle.climb_plan.proofs.InstallingLaws.{away-all_taken, put_back_is_before}
+use Rattle.climb_plan.proofs.ThroughClimb.{WorksParents, SomeChildren}
 use Rattle.climb_plan.proofs.ThroughGroups.{draw_all, fresh_numbers}
 use Rattle.climb_plan.proofs.ToldRuns.{all_told, terms_told}
 
@@ -130,3 +131,24 @@ module _ {V : Type 0} (s : Settings) (fan : 1 < s.fan) (of : Page V → PageOfKi
       ∙ ap (λ (u : TreeInMemory). free (flat_map (λ x. x.fresh) groups) u) (q ∙ ap (λ (m : Mapping PageOfKind). put ready m) parents_are_back ∙ ap (λ (u : TreeInMemory). put u rooms_here) c.tree)
       ∙ ap (λ (ns : List ℕ). free ns (put t rooms_here)) fresh_are_drawn
       ∙ ap (λ (m : Mapping PageOfKind). put t m) l
+
+-- ---- as code has it
+
+module _ {V : Type 0} (of : Page V → PageOfKind) (s : Settings) (fan : 1 < s.fan) (t ready : TreeInMemory) (xs : List SeenPage) (depth : ℕ) (groups : List Remade) (parents : List IndexWorked) (works : WorksParents of s t ready xs depth groups parents) (l : SomeChildren of t xs depth)
+    (now : TreeInMemory) (held : List IndexWorked) (stays : now ≡ ready) (same : held ≡ parents) where
+  abbrev changed : IsChanged s of t ready l.0 l.1 l.3 l.4 groups parents
+  changed = works l.0 l.1 l.2 l.3 l.4 l.5 l.6
+
+  pub refused_away : AreAway now.table (map (λ d. d.held.pid) held)
+  refused_away =
+      subst (λ (u : TreeInMemory). AreAway u.table (map (λ d. d.held.pid) held)) (sym stays) (subst (λ (ds : List IndexWorked). AreAway ready.table (map (λ d. d.held.pid) ds)) (sym same) (parents_are_away s fan of t ready xs l.0 l.1 l.2 l.3 l.4 groups parents l.5 changed))
+
+  module _ (back : TreeInMemory) (put : back ≡ record now { table = all_put now.table (held_pages held) }) (all : List Remade) (handed : all ≡ groups) where
+    put_back : back ≡ record ready { table = all_put ready.table (held_pages parents) }
+    put_back =
+        let make : TreeInMemory → List IndexWorked → TreeInMemory = λ u ds. record u { table = all_put u.table (held_pages ds) } in
+        put ∙ ap (λ (u : TreeInMemory). make u held) stays ∙ ap (λ (ds : List IndexWorked). make ready ds) same
+
+    pub refused_fresh : AreAway back.table (flat_map (λ r. r.fresh) all)
+    refused_fresh =
+        subst (λ (rs : List Remade). AreAway back.table (flat_map (λ r. r.fresh) rs)) (sym handed) (fresh_are_away s fan of t ready xs l.0 l.1 l.2 l.3 l.4 groups parents l.5 changed back put_back)
