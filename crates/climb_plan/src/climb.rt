@@ -17,8 +17,10 @@ use crate::level::{Changed, change_level};
 use crate::refused::Refused;
 use crate::top::climb_root;
 use crate::seen::Revised;
+use index_page::Page;
 use keys::Settings;
 use mapping::Tree;
+use mapping::laws::drawn_pids_get_places_that_are_away;
 use page_runs::TermDone;
 use std::alloc::Global;
 
@@ -63,6 +65,8 @@ fn climb_parents(
         }
         Err((refused, parents)) => {
             undo_parents(alloc, settings, tree, parents);
+            // To free what was drawn gives the table back.
+            drawn_pids_get_places_that_are_away::<Page<Global>>();
             free_drawn(tree, &groups);
             Err((refused, dones))
         }

@@ -6,7 +6,7 @@ use Rattle.index_page.specs.Page.PageOfKind.{Index}
 use Rattle.page_runs.specs.TermWork.{IndexWorked}
 use Rattle.climb_plan.specs.declared.refused.Refused.TheVariants.{TooHigh}
 use Rattle.climb_plan.specs.Changing.{SeenPage, shown}
-use Rattle.climb_plan.proofs.ThroughBack.{refused_away, refused_fresh}
+use Rattle.climb_plan.proofs.ThroughBack.{refused_away, refused_fresh, refused_back}
 use Rattle.climb_plan.proofs.ThroughClimb.{nothing_climbs, nothing_in, some_children, works_for, some_above, height_above, away_here, away_for, installs_here, climbs_here, by_children, high_by, one_less}
 use Rattle.climb_plan.proofs.climb.+climb_parents.Goals as goal
 
@@ -51,3 +51,7 @@ undo_parents-requires-clause-own t c = refused_away Index c.args.settings.now c.
 
 pub free_drawn-requires : goal.free_drawn-requires
 free_drawn-requires t c = refused_fresh Index c.args.settings.now c.requires.fan c.args.tree.now c.change_level.new.tree (map (λ d. shown Index d.made) c.args.dones.items) (c.args.depth - 1) c.in-Ok.changed.groups.items c.in-Ok.changed.parents.items (works_for Index c.args.settings.now c.args.tree.now c.change_level.new.tree (map (λ d. shown Index d.made) c.args.dones.items) (map (λ d. shown Index d.made) c.deref.result.now) (c.args.depth - 1) c.in-Ok.changed.groups.items c.in-Ok.changed.parents.items (ap (λ (ds : List IndexWorked). map (λ d. shown Index d.made) ds) c.deref.ensures.value) c.in-Ok.ensures.changed) (some_children Index c.args.tree.now (map (λ d. shown Index d.made) c.args.dones.items) (map (λ d. shown Index d.made) c.args.dones.items) c.args.depth refl c.if-depth-eq0.false c.requires.level) c.climb_parents.new.tree c.in-Err-climb_parents.parents.items c.in-Err-climb_parents.ensures.err c.in-Err-climb_parents.ensures.back c.undo_parents.new.tree c.undo_parents.ensures c.deref-in-Err-climb_parents.result.now c.deref-in-Err-climb_parents.ensures.value
+
+pub returns-in-Err-climb_parents-clause-err : goal.returns-in-Err-climb_parents-clause-err
+returns-in-Err-climb_parents-clause-err t c =
+    refused_back Index c.args.settings.now c.requires.fan c.args.tree.now c.change_level.new.tree (map (λ d. shown Index d.made) c.args.dones.items) (c.args.depth - 1) c.in-Ok.changed.groups.items c.in-Ok.changed.parents.items (works_for Index c.args.settings.now c.args.tree.now c.change_level.new.tree (map (λ d. shown Index d.made) c.args.dones.items) (map (λ d. shown Index d.made) c.deref.result.now) (c.args.depth - 1) c.in-Ok.changed.groups.items c.in-Ok.changed.parents.items (ap (λ (ds : List IndexWorked). map (λ d. shown Index d.made) ds) c.deref.ensures.value) c.in-Ok.ensures.changed) (some_children Index c.args.tree.now (map (λ d. shown Index d.made) c.args.dones.items) (map (λ d. shown Index d.made) c.args.dones.items) c.args.depth refl c.if-depth-eq0.false c.requires.level) c.climb_parents.new.tree c.in-Err-climb_parents.parents.items c.in-Err-climb_parents.ensures.err c.in-Err-climb_parents.ensures.back c.undo_parents.new.tree c.undo_parents.ensures c.deref-in-Err-climb_parents.result.now c.deref-in-Err-climb_parents.ensures.value c.free_drawn.new.tree c.free_drawn.ensures (λ m n r o. c.drawn_pids_get_places_that_are_away.ensures.freed m n r o)
