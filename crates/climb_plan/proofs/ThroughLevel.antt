@@ -240,8 +240,8 @@ module _ {V : Type 0} (s : Settings) (of : Page V → PageOfKind) (t : TreeInMem
         let ks : List ℕ = pids (fresh_of changes_here) in
         all_each (λ k. is_among k ks ≡ true) (λ k. place_of table_home k ≡ Some None) ks
         (λ k e. home_others k (at_among (λ n. is_among n (worked_pids ws) ≡ false) k ks level_fresh e)
-          ∙ fresh_untouched s used i ps ws ups joined_here h.stacked.1 h.old h.distinct ready_here above up k (ap (λ (qs : List (Placed V)). is_among k (pids qs)) (fresh_on_level s used i ps ws) ∙ e)
-          ∙ fresh_ready k e)
+        ∙ fresh_untouched s used i ps ws ups joined_here h.stacked.1 h.old h.distinct ready_here above up k (ap (λ (qs : List (Placed V)). is_among k (pids qs)) (fresh_on_level s used i ps ws) ∙ e)
+        ∙ fresh_ready k e)
         (all_among ks)
 
     -- ---- its groups are replaced
