@@ -58,6 +58,10 @@ mod RowThirteen
 mod RowTwelve
 mod Sizes
 mod Standing
+pub mod ThroughBack
+pub mod ThroughClimb
+pub mod ThroughGroups
+pub mod ThroughLevel
 pub mod ToldRuns
 pub mod ToldSome
 mod Untouched

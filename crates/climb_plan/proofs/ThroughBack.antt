@@ -1,0 +1,166 @@
+-- A level that is refused by the levels above it gives its tree back.
+use Rattle.std.specs.Prelude.{◌≡◌, ℕ, zero, suc, ◌+◌, ◌<◌, List, [], ◌∷◌, ◌++◌, true, map, flat_map, drop, length, Some, None}
+use Rattle.std.proofs.Common.{refl, sym, ap, ◌∙◌, subst, arith}
+use Rattle.std.specs.List.{AllByRecursion, range_with_len}
+use Rattle.std.specs.Map.{keys_of}
+use Rattle.keys.specs.declared.settings.Settings.{Settings}
+use Rattle.index_page.specs.Page.{Page, PageOfKind}
+use Rattle.index_page.specs.Page.PageOfKind.{Index}
+use Rattle.index_page.proofs.ListLaws.{all_apart}
+use Rattle.mapping.specs.FreshPids.{is_among, unused}
+use Rattle.mapping.specs.Levels.{Placed, pids, all_pids}
+use Rattle.mapping.specs.Proper.{Distinct, AreRisingPids}
+use Rattle.mapping.specs.Table.{Mapping, pids_in_use, place_of, with_rooms, fresh_pids, freed_all}
+use Rattle.mapping.specs.TreeInMemory.{TreeInMemory}
+use Rattle.mapping.proofs.LevelLaws.{pids-append}
+use Rattle.mapping.proofs.PidLaws.{IsNeverUnused, all_among}
+use Rattle.page_runs.specs.TermWork.{IndexWorked}
+use Rattle.page_runs.specs.Worked.{Worked}
+use Rattle.split_plan.proofs.PidLaws.{distinct_renewed}
+use Rattle.split_plan.specs.Change.{Change, changes, fresh_of}
+use Rattle.split_plan.specs.WorkedLevel.{placed_of}
+use Rattle.climb_plan.specs.Changing.{SeenPage, AreHome, Changing, changing, changing_groups, parents_of}
+use Rattle.climb_plan.specs.Installing.{AreAway, AreLost, all_put, all_taken}
+use Rattle.climb_plan.specs.Level.{IsLevel, IsChanged, parent_pids, next_tree, remade_of}
+use Rattle.climb_plan.specs.Rewriting.{Remade}
+use Rattle.climb_plan.proofs.BridgeDrawn.{drawn_places}
+use Rattle.climb_plan.proofs.BridgeNext.{can_be_taken}
+use Rattle.climb_plan.proofs.BridgeTables.{AreDrawn, drawn_others}
+use Rattle.climb_plan.proofs.ChangedRooms.{shifted, given_back}
+use Rattle.climb_plan.proofs.InstallingLaws.{away-all_taken, put_back_is_before}
+use Rattle.climb_plan.proofs.ThroughClimb.{WorksParents, SomeChildren}
+use Rattle.climb_plan.proofs.ThroughGroups.{draw_all, fresh_numbers}
+use Rattle.climb_plan.proofs.ToldRuns.{all_told, terms_told}
+
+-- what is held of parents, and their pages as they were
+abbrev pub held_pages : List IndexWorked → List (ℕ × PageOfKind)
+held_pages ds = map {B = ℕ × PageOfKind} (λ d. (d.held.pid, d.held.page)) ds
+
+abbrev pub index_pages : List (Placed ℕ) → List (ℕ × PageOfKind)
+index_pages qs = map {B = ℕ × PageOfKind} (λ q. (q.pid, Index q.page)) qs
+
+pids_held : (ds : List IndexWorked) → map (λ d. d.held.pid) ds ≡ keys_of (held_pages ds)
+pids_held [] = refl
+pids_held (d ∷ ds) = ap (λ (ns : List ℕ). d.held.pid ∷ ns) (pids_held ds)
+
+module _ {V : Type 0} where
+  keys_parents : (chs : List (Changing V)) → keys_of (index_pages (parents_of chs)) ≡ parent_pids chs
+  keys_parents [] = refl
+  keys_parents (c ∷ chs) = ap (λ (ns : List ℕ). c.parent.pid ∷ ns) (keys_parents chs)
+
+home_pairs : (t : Mapping PageOfKind) (qs : List (Placed ℕ)) → AreHome Index t qs → AllByRecursion (λ e. place_of t e.0 ≡ Some (Some e.1)) (index_pages qs)
+home_pairs t [] h = tt
+home_pairs t (q ∷ qs) h = (h.0, home_pairs t qs h.1)
+
+module _ {V : Type 0} (s : Settings) (fan : 1 < s.fan) (of : Page V → PageOfKind) (t ready : TreeInMemory) (xs : List SeenPage) (ws : List (Worked V)) (ps : List (Placed ℕ)) (ups : List (List (Placed ℕ))) (used : List ℕ) (i : ℕ) (groups : List Remade) (parents : List IndexWorked)
+    (h : IsLevel of t xs ws (ps ∷ ups) used i) (c : IsChanged s of t ready ws ps used i groups parents) where
+  abbrev taken_here : List ℕ
+  taken_here = parent_pids (changing ps ws)
+
+  abbrev count_here : ℕ
+  count_here = length (fresh_of (changes s used i (changing_groups (changing ps ws))))
+
+  abbrev pub rooms_here : Mapping PageOfKind
+  rooms_here = with_rooms t.table (fresh_pids (pids_in_use t.table) count_here)
+
+  drawn_here : AreDrawn t.table rooms_here count_here
+  drawn_here = drawn_places count_here t.table h.rising
+
+  taken_distinct : Distinct taken_here
+  taken_distinct = let z : 0 < s.fan = omega arith in (can_be_taken s of t xs ws ps ups used i z h).1
+
+  parents_in_rooms : AreHome Index rooms_here (parents_of (changing ps ws))
+  parents_in_rooms =
+      let never : AllByRecursion (IsNeverUnused used) (pids ps) = (all_apart (IsNeverUnused used) (pids ps) (flat_map pids ups) (all_apart (IsNeverUnused used) (pids (placed_of ws)) (all_pids ps ups) h.old).1).0 in
+      all_told (λ p. place_of rooms_here p.pid ≡ Some (Some (Index p.page))) (terms_told s used i ps ws) (each ps never h.home.0)
+    where
+      each : (qs : List (Placed ℕ)) → AllByRecursion (IsNeverUnused used) (pids qs) → AreHome Index t.table qs → AreHome Index rooms_here qs
+      each [] o k = tt
+      each (q ∷ qs) o k = (drawn_others t.table rooms_here count_here used i q.pid drawn_here h.drawn o.0 ∙ k.0, each qs o.1 k.1)
+
+  held_keys : keys_of (held_pages parents) ≡ taken_here
+  held_keys = ap (λ (es : List (ℕ × PageOfKind)). keys_of es) c.held ∙ keys_parents (changing ps ws)
+
+  -- the parents are away
+  pub parents_are_away : AreAway ready.table (map (λ d. d.held.pid) parents)
+  parents_are_away =
+      let away : AreAway (all_taken rooms_here taken_here) taken_here = (away-all_taken rooms_here taken_here taken_distinct, taken_distinct) in
+      subst (λ (u : TreeInMemory). AreAway u.table (map (λ d. d.held.pid) parents)) (sym c.tree) (subst (λ (ns : List ℕ). AreAway (all_taken rooms_here taken_here) ns) (sym (pids_held parents ∙ held_keys)) away)
+
+  -- once they are back, the table has just the numbers that were drawn beside what it had
+  pub parents_are_back : all_put ready.table (held_pages parents) ≡ rooms_here
+  parents_are_back =
+      let es : List (ℕ × PageOfKind) = index_pages (parents_of (changing ps ws)) in
+      ap (λ (u : TreeInMemory). all_put u.table (held_pages parents)) c.tree
+      ∙ ap (λ (ds : List (ℕ × PageOfKind)). all_put (all_taken rooms_here taken_here) ds) c.held
+      ∙ ap (λ (ns : List ℕ). all_put (all_taken rooms_here ns) es) (sym (keys_parents (changing ps ws)))
+      ∙ put_back_is_before rooms_here es drawn_here.rising (subst (λ (ns : List ℕ). Distinct ns) (sym (keys_parents (changing ps ws))) taken_distinct) (home_pairs rooms_here (parents_of (changing ps ws)) parents_in_rooms)
+
+  -- the numbers that were drawn
+  fresh_each : (cs : List (Change V)) → flat_map (λ r. r.fresh) (map (remade_of of) cs) ≡ pids (fresh_of cs)
+  fresh_each [] = refl
+  fresh_each (d ∷ cs) = ap (λ (ns : List ℕ). pids (drop 1 d.pages) ++ ns) (fresh_each cs) ∙ sym (pids-append (drop 1 d.pages) (fresh_of cs))
+
+  pub fresh_are_drawn : flat_map (λ r. r.fresh) groups ≡ fresh_pids (pids_in_use t.table) count_here
+  fresh_are_drawn =
+      let e : i ≡ i + 0 = omega arith in
+      ap (λ (rs : List Remade). flat_map (λ r. r.fresh) rs) c.groups
+      ∙ fresh_each (changes s used i (changing_groups (changing ps ws)))
+      ∙ fresh_numbers s used i (changing_groups (changing ps ws))
+      ∙ sym (shifted used (pids_in_use t.table) i 0 i count_here e h.drawn)
+
+  all_away : (ns : List ℕ) → AllByRecursion (λ n. is_among n (fresh_pids (pids_in_use t.table) count_here) ≡ true) ns → AllByRecursion (λ n. place_of rooms_here n ≡ Some None) ns
+  all_away [] a = tt
+  all_away (n ∷ ns) a = (drawn_here.away n a.0, all_away ns a.1)
+
+  -- their places are away
+  pub fresh_are_away : (back : TreeInMemory) → back ≡ record ready { table = all_put ready.table (held_pages parents) } → AreAway back.table (flat_map (λ r. r.fresh) groups)
+  fresh_are_away back q =
+      let ns : List ℕ = fresh_pids (pids_in_use t.table) count_here in
+      let away : AreAway rooms_here ns = (all_away ns (all_among ns), distinct_renewed (draw_all (pids_in_use t.table) 0 count_here) tt tt) in
+      let table : back.table ≡ rooms_here = ap (λ (u : TreeInMemory). u.table) q ∙ parents_are_back in
+      subst (λ (u : Mapping PageOfKind). AreAway u (flat_map (λ r. r.fresh) groups)) (sym table) (subst (λ (ms : List ℕ). AreAway rooms_here ms) (sym fresh_are_drawn) away)
+
+  -- once they are given back, too, the tree is as it was
+  pub tree_is_back : (back after : TreeInMemory) → back ≡ record ready { table = all_put ready.table (held_pages parents) } → after ≡ record back { table = freed_all back.table (flat_map (λ r. r.fresh) groups) }
+      → freed_all rooms_here (fresh_pids (pids_in_use t.table) count_here) ≡ t.table → after ≡ t
+  tree_is_back back after q r l =
+      let put : TreeInMemory → Mapping PageOfKind → TreeInMemory = λ u m. record u { table = m } in
+      let free : List ℕ → TreeInMemory → TreeInMemory = λ ns u. record u { table = freed_all u.table ns } in
+      r
+      ∙ ap (λ (u : TreeInMemory). free (flat_map (λ x. x.fresh) groups) u) (q ∙ ap (λ (m : Mapping PageOfKind). put ready m) parents_are_back ∙ ap (λ (u : TreeInMemory). put u rooms_here) c.tree)
+      ∙ ap (λ (ns : List ℕ). free ns (put t rooms_here)) fresh_are_drawn
+      ∙ ap (λ (m : Mapping PageOfKind). put t m) l
+
+-- ---- as code has it
+
+module _ {V : Type 0} (of : Page V → PageOfKind) (s : Settings) (fan : 1 < s.fan) (t ready : TreeInMemory) (xs : List SeenPage) (depth : ℕ) (groups : List Remade) (parents : List IndexWorked) (works : WorksParents of s t ready xs depth groups parents) (l : SomeChildren of t xs depth)
+    (now : TreeInMemory) (held : List IndexWorked) (stays : now ≡ ready) (same : held ≡ parents) where
+  abbrev changed : IsChanged s of t ready l.0 l.1 l.3 l.4 groups parents
+  changed = works l.0 l.1 l.2 l.3 l.4 l.5 l.6
+
+  pub refused_away : AreAway now.table (map (λ d. d.held.pid) held)
+  refused_away =
+      subst (λ (u : TreeInMemory). AreAway u.table (map (λ d. d.held.pid) held)) (sym stays) (subst (λ (ds : List IndexWorked). AreAway ready.table (map (λ d. d.held.pid) ds)) (sym same) (parents_are_away s fan of t ready xs l.0 l.1 l.2 l.3 l.4 groups parents l.5 changed))
+
+  module _ (back : TreeInMemory) (put : back ≡ record now { table = all_put now.table (held_pages held) }) (all : List Remade) (handed : all ≡ groups) where
+    put_back : back ≡ record ready { table = all_put ready.table (held_pages parents) }
+    put_back =
+        let make : TreeInMemory → List IndexWorked → TreeInMemory = λ u ds. record u { table = all_put u.table (held_pages ds) } in
+        put ∙ ap (λ (u : TreeInMemory). make u held) stays ∙ ap (λ (ds : List IndexWorked). make ready ds) same
+
+    pub refused_fresh : AreAway back.table (flat_map (λ r. r.fresh) all)
+    refused_fresh =
+        subst (λ (rs : List Remade). AreAway back.table (flat_map (λ r. r.fresh) rs)) (sym handed) (fresh_are_away s fan of t ready xs l.0 l.1 l.2 l.3 l.4 groups parents l.5 changed back put_back)
+
+    pub refused_back : (after : TreeInMemory) → after ≡ record back { table = freed_all back.table (flat_map (λ r. r.fresh) all) }
+        → ((m : Mapping PageOfKind) (n : ℕ) → AreRisingPids (pids_in_use m) → AreLost m → freed_all (with_rooms m (fresh_pids (pids_in_use m) n)) (fresh_pids (pids_in_use m) n) ≡ m) → after ≡ t
+    refused_back after r law =
+        let n : ℕ = length (fresh_of (changes s l.3 l.4 (changing_groups (changing l.1 l.0)))) in
+        let ns : List ℕ = fresh_pids (pids_in_use t.table) n in
+        let make : TreeInMemory → Mapping PageOfKind → TreeInMemory = λ u m. record u { table = m } in
+        let roomy : back ≡ record t { table = with_rooms t.table ns } = put_back
+        ∙ ap (λ (m : Mapping PageOfKind). make ready m) (parents_are_back s fan of t ready xs l.0 l.1 l.2 l.3 l.4 groups parents l.5 changed)
+        ∙ ap (λ (u : TreeInMemory). make u (with_rooms t.table ns)) changed.tree in
+        let drawn : flat_map (λ r. r.fresh) all ≡ ns = ap (λ (rs : List Remade). flat_map (λ r. r.fresh) rs) handed ∙ fresh_are_drawn s fan of t ready xs l.0 l.1 l.2 l.3 l.4 groups parents l.5 changed in
+        given_back t back after (flat_map (λ r. r.fresh) all) ns roomy r drawn (law t.table n l.5.rising l.5.lost)
