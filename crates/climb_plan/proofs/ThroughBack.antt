@@ -1,13 +1,13 @@
 -- A level that is refused by the levels above it gives its tree back.
-use Rattle.std.specs.Prelude.{◌≡◌, ℕ, zero, suc, ◌+◌, ◌<◌, List, [], ◌∷◌, ◌++◌, true, map, flat_map, drop, length, Some, None}
+use Rattle.std.specs.Prelude.{◌≡◌, ℕ, ◌+◌, ◌<◌, List, [], ◌∷◌, ◌++◌, true, map, flat_map, drop, length, Some, None}
 use Rattle.std.proofs.Common.{refl, sym, ap, ◌∙◌, subst, arith}
-use Rattle.std.specs.List.{AllByRecursion, range_with_len}
+use Rattle.std.specs.List.{AllByRecursion}
 use Rattle.std.specs.Map.{keys_of}
 use Rattle.keys.specs.declared.settings.Settings.{Settings}
 use Rattle.index_page.specs.Page.{Page, PageOfKind}
 use Rattle.index_page.specs.Page.PageOfKind.{Index}
 use Rattle.index_page.proofs.ListLaws.{all_apart}
-use Rattle.mapping.specs.FreshPids.{is_among, unused}
+use Rattle.mapping.specs.FreshPids.{is_among}
 use Rattle.mapping.specs.Levels.{Placed, pids, all_pids}
 use Rattle.mapping.specs.Proper.{Distinct, AreRisingPids}
 use Rattle.mapping.specs.Table.{Mapping, pids_in_use, place_of, with_rooms, fresh_pids, freed_all}
@@ -21,7 +21,7 @@ use Rattle.split_plan.specs.Change.{Change, changes, fresh_of}
 use Rattle.split_plan.specs.WorkedLevel.{placed_of}
 use Rattle.climb_plan.specs.Changing.{SeenPage, AreHome, Changing, changing, changing_groups, parents_of}
 use Rattle.climb_plan.specs.Installing.{AreAway, AreLost, all_put, all_taken}
-use Rattle.climb_plan.specs.Level.{IsLevel, IsChanged, parent_pids, next_tree, remade_of}
+use Rattle.climb_plan.specs.Level.{IsLevel, IsChanged, parent_pids, remade_of}
 use Rattle.climb_plan.specs.Rewriting.{Remade}
 use Rattle.climb_plan.proofs.BridgeDrawn.{drawn_places}
 use Rattle.climb_plan.proofs.BridgeNext.{can_be_taken}

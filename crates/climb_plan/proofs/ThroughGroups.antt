@@ -1,6 +1,6 @@
 -- Groups that are rewritten, and what the mapping table has once they are replaced: the changes of the plan are installed.
-use Rattle.std.specs.Prelude.{◌≡◌, ℕ, zero, suc, ◌+◌, ◌<◌, Bool, true, false, cond, ◌||◌, nat_eq, List, [], ◌∷◌, ◌++◌, map, flat_map, take, drop, length, Some, None, IsSome}
-use Rattle.std.proofs.Common.{refl, sym, ap, ◌∙◌, subst, arith, append-nil, append_assoc, length-append}
+use Rattle.std.specs.Prelude.{◌≡◌, ℕ, zero, suc, ◌+◌, ◌<◌, Bool, true, false, cond, nat_eq, List, [], ◌∷◌, ◌++◌, map, flat_map, drop, length, Some, None, IsSome}
+use Rattle.std.proofs.Common.{refl, sym, ap, ◌∙◌, subst, arith, append-nil, length-append}
 use Rattle.std.specs.List.{filter, AllByRecursion, range_with_len}
 use Rattle.std.proofs.lemmas.Bool.{or_parts, or_from}
 use Rattle.std.proofs.lemmas.List.{length-map}
@@ -13,13 +13,12 @@ use Rattle.mapping.specs.FreshPids.{is_among, unused}
 use Rattle.mapping.specs.Outdate.{outdate_all}
 use Rattle.mapping.specs.Proper.{Distinct, AreRisingPids}
 use Rattle.mapping.specs.Table.{Mapping, pids_in_use, place_of, page_of}
-use Rattle.mapping.specs.Tree.{Logged}
 use Rattle.mapping.proofs.LevelLaws.{pids-append, same_pids}
 use Rattle.mapping.proofs.PidLaws.{IsNeverUnused, among_apart}
 use Rattle.page_runs.specs.Worked.{Worked, is_fat}
 use Rattle.split_plan.specs.Cut.{cut}
 use Rattle.split_plan.specs.WorkedLevel.{placed_of}
-use Rattle.split_plan.specs.Change.{Change, is_rewritten, remade, changes, new_of, fresh_of}
+use Rattle.split_plan.specs.Change.{is_rewritten, remade, changes, new_of, fresh_of}
 use Rattle.split_plan.specs.Terms.{freed_of}
 use Rattle.split_plan.proofs.ChangeLaws.{remade_by, remade_begins}
 use Rattle.split_plan.proofs.PidLaws.{distinct_renewed, recast, renewed-append}
@@ -30,9 +29,9 @@ use Rattle.climb_plan.specs.Installing.{all_installed, CanInstallAll}
 use Rattle.climb_plan.specs.Level.{remade_of}
 use Rattle.climb_plan.specs.Rewriting.{Remade}
 use Rattle.climb_plan.proofs.BridgePieces.{pids-replacements}
-use Rattle.climb_plan.proofs.ChangingOutdated.{worked_pids-append, among-joined}
+use Rattle.climb_plan.proofs.ChangingOutdated.{worked_pids-append}
 use Rattle.climb_plan.proofs.InstalledPages.{not_among_from}
-use Rattle.climb_plan.proofs.InstallingLaws.{AreUnder, AreShaped, AreReady, AreInstalled, group_pids, groups_pids, can_install_all, all_are_installed, others-all_installed, logged-all_installed, rising-all_installed}
+use Rattle.climb_plan.proofs.InstallingLaws.{AreUnder, AreShaped, AreReady, AreInstalled, groups_pids, can_install_all, all_are_installed, others-all_installed, logged-all_installed, rising-all_installed}
 
 -- ---- fresh pids
 

@@ -1,5 +1,5 @@
 -- A level of a climb once the levels above it have climbed: its pages can come home, its groups can be replaced, and then it has climbed.
-use Rattle.std.specs.Prelude.{◌≡◌, ◌≢◌, ℕ, ◌+◌, ◌<◌, Bool, true, false, ◌||◌, nat_eq, List, [], ◌∷◌, ◌++◌, map, flat_map, length, Option, Some, None, IsSome}
+use Rattle.std.specs.Prelude.{◌≡◌, ◌≢◌, ℕ, ◌+◌, Bool, true, false, ◌||◌, nat_eq, List, [], ◌∷◌, ◌++◌, map, flat_map, length, Option, Some, None, IsSome}
 use Rattle.std.proofs.Common.{refl, sym, ap, ◌∙◌, subst, arith}
 use Rattle.std.specs.List.{filter, AllByRecursion, range_with_len}
 use Rattle.std.proofs.lemmas.Bool.{or_parts, or_from, false_from_ne_true}
@@ -20,24 +20,23 @@ use Rattle.mapping.proofs.PidLaws.{IsNeverUnused, all_among, among_left}
 use Rattle.page_runs.specs.Worked.{Worked}
 use Rattle.split_plan.specs.Change.{Change, is_rewritten, changes, family_changes, fresh_of, all_new, all_fresh, all_outdated}
 use Rattle.split_plan.specs.WorkedLevel.{placed_of}
-use Rattle.climb_plan.specs.Changing.{SeenPage, shown, same, AreSeen, AreHome, IsInstalled, Changing, changing, changing_groups, parents_of, worked_pids, replaced_among}
+use Rattle.climb_plan.specs.Changing.{SeenPage, shown, AreSeen, AreHome, IsInstalled, Changing, changing, changing_groups, parents_of, worked_pids, replaced_among}
 use Rattle.climb_plan.specs.Changing.AreSeen.{worked, at_home}
 use Rattle.climb_plan.specs.Climb.{climb, families}
 use Rattle.climb_plan.specs.HasClimbed.{HasClimbed}
 use Rattle.climb_plan.specs.Installing.{AreAway, come_home, all_come_home, all_installed, CanInstallAll}
 use Rattle.climb_plan.specs.Level.{IsLevel, parent_pids, remade_of, next_tree}
-use Rattle.climb_plan.specs.Rewriting.{Remade}
 use Rattle.climb_plan.proofs.BridgeDrawn.{drawn_places}
 use Rattle.climb_plan.proofs.BridgeTables.{AreDrawn, taken_others, taken_logged, drawn_others}
 use Rattle.climb_plan.proofs.ChangedRooms.{shifted}
 use Rattle.climb_plan.proofs.ChangingGroups.{all_groups, groups-changing, fresh_on_level}
 use Rattle.climb_plan.proofs.ChangingOutdated.{worked_pids-placed, among-joined, all_groups-joined, outdated-level, outdate-joined, outdate-same}
 use Rattle.climb_plan.proofs.ChangingSeen.{seen_replaced}
-use Rattle.climb_plan.proofs.Climbing.{IsMadeReady, IsLevelInstalled, has_level_from}
+use Rattle.climb_plan.proofs.Climbing.{IsMadeReady, has_level_from}
 use Rattle.climb_plan.proofs.ClimbingLevel.{parents_here, climbed_above, level_untouched, fresh_untouched, level-climbed}
 use Rattle.climb_plan.proofs.Families.{families-joined}
 use Rattle.climb_plan.proofs.InstalledLevel.{HasLevel, installed-level}
-use Rattle.climb_plan.proofs.InstalledPages.{AreApart, AreFreshFor, turned, distinct_apart, at_among}
+use Rattle.climb_plan.proofs.InstalledPages.{AreFreshFor, distinct_apart, at_among}
 use Rattle.climb_plan.proofs.Installing.{home_apart, distinct_first}
 use Rattle.climb_plan.proofs.InstallingLaws.{not_among, others-all_come_home, home-all_come_home, rising-all_come_home, logged-all_come_home}
 use Rattle.climb_plan.proofs.ThroughGroups.{fresh_numbers, groups_can_be_installed, groups_installed, groups_rising, groups_logged}
