@@ -1,6 +1,15 @@
+mod AskedLemmas
+mod ClapLemmas
+mod CommandLineLemmas
+mod EndLemmas
+mod FoundLemmas
 mod Literals
 mod OrderLaws
-mod SessionLemmas
+mod PrintedLaws
+mod Prints
+mod ReadLemmas
+mod RunLemmas
 mod TokenLaws
 mod TokenLemmas
+mod TurnLemmas
 mod WordLemmas

@@ -1,30 +1,33 @@
 -- What a session runs and prints, and how it ends.
-use Rattle.std.specs.Prelude.{◌≡◌, ◌⊎◌, ℕ, List, [], ◌∷◌, ◌++◌, map, is_some, if◌then◌else◌, Option, Some, None, Result, Ok, Err}
+use Rattle.std.specs.Prelude.{◌≡◌, ◌⊎◌, ℕ, List, [], ◌∷◌, ◌++◌, map, is_some, if◌then◌else◌, Option, Some, None, IfSome, Result, Ok, Err}
 use Rattle.std.specs.Option.{option_map, option_or}
 use Rattle.std.specs.Io.KnownBytes.{Appends}
 use Rattle.keys.specs.Lists.{flat}
+use Rattle.keys.specs.Limits.{first_bad_field}
 use Rattle.keys.specs.Step.{replies_to, map_after_all}
 use Rattle.keys.specs.declared.settings.Settings.{Settings}
+use Rattle.keys.specs.declared.settings.Field.{Field}
 use Rattle.keys.specs.declared.fault.Fault.{Fault}
-use Rattle.keys.specs.declared.fault.Fault.TheVariants.{NoMemory}
-use Rattle.engine.specs.Refusal.{refusal}
+use Rattle.keys.specs.declared.fault.Fault.TheVariants.{BadSettings, NoMemory}
+use Rattle.mapping.specs.Tree.{Tree, first_tree}
+use Rattle.mapping.specs.Levels.{contents}
+use Rattle.climb_plan.specs.Plan.{planned_tree}
+use Rattle.engine.specs.Batch.{refusal_by}
 use Rattle.bwsh.specs.declared.line.Why.{Why}
 use Rattle.bwsh.specs.declared.batch_file.Order.{Order}
 use Rattle.bwsh.specs.declared.batch_file.Order.TheVariants.{Batch}
 use Rattle.bwsh.specs.declared.batch_file.TextFault.{TextFault}
 use Rattle.bwsh.specs.declared.batch_file.TextFault.TheVariants as faults
 use Rattle.bwsh.specs.declared.session.Ending.{Ending}
-use Rattle.bwsh.specs.declared.session.Ending.TheVariants.{Bad, Device}
+use Rattle.bwsh.specs.declared.session.Ending.TheVariants.{Words, Bad, Device}
 use Rattle.bwsh.specs.declared.session.Ending.TheVariants as endings
 use Rattle.bwsh.specs.BatchFile.{said_by, first_bad, orders_of}
+use Rattle.bwsh.specs.Options.{Tells, AsksForHelp, AreRefused}
 use Rattle.bwsh.specs.Shown.{shown_reply}
-
--- the settings of the store that a session makes
-abbrev pub session_settings : Settings
-session_settings = record { fan = 16; chain = 4; max_key = 64; max_value = 256; seg_size = 65536; segments = 64 }
 
 -- the exit status of a session that ends before all is done
 abbrev pub status_of : Ending → ℕ
+status_of (Words error) = 2
 status_of (Bad line why) = 3
 status_of (endings.Fault fault) = 4
 status_of Device = 4
@@ -39,6 +42,14 @@ abbrev pub ending_by : TextFault → Ending
 ending_by (faults.Bad line why) = Bad line why
 ending_by faults.Memory = endings.Fault NoMemory
 
+-- the map that an order leaves
+abbrev pub map_behind : List (List ℕ × List ℕ) → Order → List (List ℕ × List ℕ)
+map_behind m (Batch commands) = map_after_all m commands
+
+-- the tree that it leaves
+unfoldable pub tree_behind : Settings → Tree → Order → Tree
+tree_behind settings tree (Batch commands) = planned_tree settings tree commands
+
 -- the lines that the orders answer, each with its line feed, where the store holds this map before them
 abbrev pub answer_lines : List (List ℕ × List ℕ) → List Order → List (List ℕ)
 answer_lines m [] = []
@@ -48,19 +59,19 @@ answer_lines m (Batch commands ∷ rest) = map shown_reply (replies_to m command
 abbrev pub printed : List (List ℕ × List ℕ) → List Order → List ℕ
 printed m orders = flat (answer_lines m orders)
 
--- why a store of these settings refuses the order, if it does
-abbrev pub refusal_of : Settings → Order → Option Fault
-refusal_of settings (Batch commands) = refusal settings commands
+-- why a store of these settings and this tree refuses the order by its right, if it does
+unfoldable pub refusal_of : Settings → Tree → Order → Option Fault
+refusal_of settings tree (Batch commands) = refusal_by settings tree commands
 
--- why it refuses the first of the orders that it refuses, if there is one
-abbrev pub first_refusal : Settings → List Order → Option Fault
-first_refusal settings [] = None
-first_refusal settings (order ∷ rest) = option_or (refusal_of settings order) (first_refusal settings rest)
+-- why it refuses the first of the orders that it refuses, if there is one; each that is accepted leaves its tree to the next
+abbrev pub first_refusal : Settings → Tree → List Order → Option Fault
+first_refusal settings tree [] = None
+first_refusal settings tree (order ∷ rest) = option_or (refusal_of settings tree order) (first_refusal settings (tree_behind settings tree order) rest)
 
 -- the orders in front of that one, or all of them
-abbrev pub accepted : Settings → List Order → List Order
-accepted settings [] = []
-accepted settings (order ∷ rest) = if is_some (refusal_of settings order) then [] else order ∷ accepted settings rest
+abbrev pub accepted : Settings → Tree → List Order → List Order
+accepted settings tree [] = []
+accepted settings tree (order ∷ rest) = if is_some (refusal_of settings tree order) then [] else order ∷ accepted settings (tree_behind settings tree order) rest
 
 -- an end for this reason, or with all done
 abbrev pub stopped_by : Option Ending → Result (Unit {0}) Ending
@@ -68,29 +79,39 @@ stopped_by None = Ok tt
 stopped_by (Some early) = Err early
 
 -- how orders end by their right: at the first that the store refuses, or with all done
-abbrev pub orders_end : Settings → List Order → Result (Unit {0}) Ending
-orders_end settings orders = stopped_by (option_map (λ fault. endings.Fault fault) (first_refusal settings orders))
+abbrev pub orders_end : Settings → Tree → List Order → Result (Unit {0}) Ending
+orders_end settings tree orders = stopped_by (option_map (λ fault. endings.Fault fault) (first_refusal settings tree orders))
 
--- how a session ends by its right where the text has this first bad line, if it has one, and orders this
-abbrev pub end_after : Settings → Option (ℕ × Why) → List Order → Result (Unit {0}) Ending
-end_after settings (Some bad) orders = Err (Bad bad.0 bad.1)
-end_after settings None orders = orders_end settings orders
+-- why no order is run, where the text has this first bad line, if it has one, and the settings this first bad field
+abbrev pub hindered_by : Option (ℕ × Why) → Option Field → Option Ending
+hindered_by (Some bad) field = Some (Bad bad.0 bad.1)
+hindered_by None field = option_map (λ f. endings.Fault (BadSettings f)) field
 
--- the lines that it prints by its right: none where a line is bad, since nothing is run then
-abbrev pub lines_after : Settings → Option (ℕ × Why) → List Order → List (List ℕ)
-lines_after settings (Some bad) orders = []
-lines_after settings None orders = answer_lines [] (accepted settings orders)
+-- why no order of this text is run under these settings, if none is: a bad line, and else settings that are refused
+abbrev pub hindrance : Settings → List ℕ → Option Ending
+hindrance settings text = hindered_by (first_bad 1 (said_by text)) (first_bad_field settings)
+
+-- how a session ends by its right where this hinders it, if anything does, and else these orders are run
+abbrev pub end_after : Settings → Option Ending → List Order → Result (Unit {0}) Ending
+end_after settings (Some early) orders = Err early
+end_after settings None orders = orders_end settings first_tree orders
+
+-- the lines that it prints by its right
+abbrev pub lines_after : Settings → Option Ending → List Order → List (List ℕ)
+lines_after settings (Some early) orders = []
+lines_after settings None orders = answer_lines [] (accepted settings first_tree orders)
 
 -- how a session on this text ends by its right
 abbrev pub session_end : Settings → List ℕ → Result (Unit {0}) Ending
-session_end settings text = end_after settings (first_bad 1 (said_by text)) (orders_of [] (said_by text))
+session_end settings text = end_after settings (hindrance settings text) (orders_of [] (said_by text))
 
 -- the lines that a session on this text prints by its right
 abbrev pub session_lines : Settings → List ℕ → List (List ℕ)
-session_lines settings text = lines_after settings (first_bad 1 (said_by text)) (orders_of [] (said_by text))
+session_lines settings text = lines_after settings (hindrance settings text) (orders_of [] (said_by text))
 
 -- a session whose text has this first bad line, if it has one, can end so before anything is run
 abbrev pub IsReadEnding : Option (ℕ × Why) → Ending → Type 0
+IsReadEnding bad (Words error) = ⊥
 IsReadEnding bad (Bad line why) = bad ≡ Some (line, why)
 IsReadEnding bad (endings.Fault fault) = fault ≡ NoMemory
 IsReadEnding bad Device = Unit {0}
@@ -105,3 +126,33 @@ Prints old new lines right end =
     ((end ≡ right) × Appends old new (flat lines))
     ⊎ ((end ≡ Err (endings.Fault NoMemory)) × ((front : List (List ℕ)) × BeginsWith lines front × Appends old new (flat front)))
     ⊎ ((end ≡ Err Device) × ((front : List ℕ) × BeginsWith (flat lines) front × Appends old new front))
+
+-- the order is accepted, and leaves this tree with its map
+abbrev pub Leaves : Settings → Tree → Order → Tree → Type 0
+Leaves settings tree order after = (refusal_of settings tree order ≡ None) × (after ≡ tree_behind settings tree order) × (contents after ≡ map_behind (contents tree) order)
+
+-- what these orders print on a store of these settings and this tree, and how they end, is right but for memory and devices
+unfoldable pub Runs : Settings → Tree → List Order → Option (List ℕ) → Option (List ℕ) → Result (Unit {0}) Ending → Type 0
+Runs settings tree orders old new end = Prints old new (answer_lines (contents tree) (accepted settings tree orders)) (orders_end settings tree orders) end
+
+-- what a session prints under these settings, and how it ends, is right for a text, which is the known one, but for memory and devices
+unfoldable pub Answers : Settings → Option (List ℕ) → Option (List ℕ) → Option (List ℕ) → Result (Unit {0}) Ending → Type 0
+Answers settings known old new end = (text : List ℕ) × IfSome known (λ bytes. text ≡ bytes) × Prints old new (session_lines settings text) (session_end settings text) end
+
+-- a text is printed, but for memory and devices
+abbrev pub PrintsOneText : Option (List ℕ) → Option (List ℕ) → Result (Unit {0}) Ending → Type 0
+PrintsOneText old new end = (text : List ℕ) × Prints old new (text ∷ []) (Ok tt) end
+
+-- this is how a session for refused words ends
+abbrev pub IsForWords : Result (Unit {0}) Ending → Type 0
+IsForWords (Ok done) = ⊥
+IsForWords (Err (Words error)) = Unit {0}
+IsForWords (Err _) = ⊥
+
+-- how a session with these words ends and what it prints, but for memory and devices: as it should under the settings that they tell; or
+-- with nothing read, and help where they ask for it; or with nothing printed either, where they are refused
+abbrev pub EndsBy : List (List ℕ) → Option (List ℕ) → Option (List ℕ) → Option (List ℕ) → Type 0 → Type 0 → Result (Unit {0}) Ending → Type 0
+EndsBy words known old new unread untouched end =
+    ((settings : Settings) × Tells words settings × Answers settings known old new end)
+    ⊎ (unread × AsksForHelp words × PrintsOneText old new end)
+    ⊎ (unread × untouched × ((AreRefused words × IsForWords end) ⊎ (end ≡ Err (endings.Fault NoMemory))))

@@ -4,6 +4,7 @@
 pub mod batch_file;
 pub mod laws;
 pub mod line;
+pub mod options;
 pub mod session;
 pub mod show;
 #[cfg(test)]
@@ -18,7 +19,9 @@ use std::{env, io};
 
 // The words on the command line behind the program's name.
 fn arguments<R: Env + AllocGlobal>(rt: &R) -> io::Result<Vec<String>> {
-    Ok(env::args(rt)?.skip(1).collect(rt.alloc())?)
+    let mut words = env::args(rt)?;
+    words.next();
+    Ok(words.collect(rt.alloc())?)
 }
 
 fn main(rt: HostRuntime) -> ExitCode {

@@ -1,39 +1,36 @@
-//! A session: the batch file is read, and run on a new store.
-ghost use Rattle.std.specs.Prelude.{◌≡◌, ◌≢◌, ◌↔◌, ◌⊎◌, ℕ, List, [], ◌++◌, map, None, IfSome, Result, Ok, Err, IfOk, OnOk, OnErr, IsOk, IsOkUnless, MatchResult, take, length, ◌≤◌};
+//! A session: the batch file is read, and run on a new store of the settings that the command line tells.
+ghost use Rattle.std.specs.Prelude.{◌≡◌, ◌≢◌, ◌↔◌, ◌⊎◌, ℕ, List, [], ◌∷◌, ◌++◌, map, None, IfSome, Result, Ok, Err, IfOk, OnOk, OnErr, IsOkUnless, MatchResult, take, length, ◌≤◌};
 ghost use Rattle.std.specs.List.{flat_map};
+ghost use Rattle.std.specs.String.{string_bytes};
 ghost use Rattle.std.specs.IoError.{error_kind};
 ghost use Rattle.std.specs.Io.KnownBytes.{Appends, Keeps};
+ghost use Rattle.clap.specs.Words.{kind_of};
+ghost use Rattle.clap.specs.declared.error.kind.ErrorKind.TheVariants.{DisplayHelp, OutOfMemory};
 ghost use Rattle.keys.specs.declared.fault.Fault.TheVariants.{NoMemory};
-ghost use Rattle.engine.specs.Layers.{entries_of};
 ghost use Rattle.bwsh.specs.declared.session.Ending.{Ending};
 ghost use Rattle.bwsh.specs.declared.session.Ending.TheVariants.{Device};
 ghost use Rattle.bwsh.specs.declared.session.Ending.TheVariants as endings;
 ghost use Rattle.bwsh.specs.BatchFile.{said_by, first_bad, orders_of};
-ghost use Rattle.bwsh.specs.Session.{session_settings, status_of, status_of_end, ending_by, answer_lines, printed, accepted, orders_end, session_end, session_lines, BeginsWith, IsReadEnding, Prints};
+ghost use Rattle.bwsh.specs.Options.{AsksForHelp, AreRefused};
+ghost use Rattle.bwsh.specs.Session.{status_of, status_of_end, ending_by, printed, BeginsWith, IsReadEnding, IsForWords, Prints, PrintsOneText, Leaves, Runs, Answers, EndsBy};
 ghost use Rattle.bwsh.specs.Shown.{shown_reply};
 
 use crate::batch_file::{Order, TextFault, parse};
 use crate::line::Why;
+use crate::options::options;
 use crate::show::show_reply;
 use engine::Store;
 use keys::{Fault, Reply, Settings};
 use std::alloc::{AllocError, Global};
 use std::io::{ErrorKind, Read, Write};
+use std::thread::Threads;
 use std::{fmt, io};
 
-// The settings of the store that a session makes.
-const SETTINGS: Settings = Settings {
-    fan: 16,
-    chain: 4,
-    max_key: 64,
-    max_value: 256,
-    seg_size: 65_536,
-    segments: 64,
-};
-
 /// Why a session ends before all is done. It prints as the line on standard error.
-#[derive(Debug, Drop)]
+#[derive(Drop)]
 pub enum Ending {
+    /// The words on the command line are refused. Nothing was read. The text of the error has its own line feeds.
+    Words(clap::Error),
     /// A line of the batch file is bad. Nothing was run.
     Bad { line: u64, why: Why },
     /// The store answered with a fault, or memory was refused.
@@ -48,6 +45,7 @@ impl Ending {
         ensures { result ≡ status_of self.now }
     {
         match self {
+            Ending::Words(_) => 2,
             Ending::Bad { .. } => 3,
             Ending::Fault(_) | Ending::Device => 4,
         }
@@ -57,9 +55,10 @@ impl Ending {
 impl fmt::Display for Ending {
     fn fmt<W: fmt::Write>(&self, f: &mut fmt::Formatter<W>) -> fmt::Result {
         match self {
-            Ending::Bad { line, why } => write!(f, "line {line}: {why}"),
-            Ending::Fault(fault) => write!(f, "fault {fault}"),
-            Ending::Device => write!(f, "fault 9 Device"),
+            Ending::Words(error) => write!(f, "{error}"),
+            Ending::Bad { line, why } => writeln!(f, "line {line}: {why}"),
+            Ending::Fault(fault) => writeln!(f, "fault {fault}"),
+            Ending::Device => writeln!(f, "fault 9 Device"),
         }
     }
 }
@@ -171,121 +170,169 @@ fn write_replies<O: Write>(
     Ok(shown?)
 }
 
+// Runs an order, and writes what it answers.
+fn run_order<R: Threads + Sync, O: Write>(
+    rt: &R,
+    store: &mut Store,
+    order: &Order,
+    lines: &mut Vec<u8>,
+    out: &mut O,
+) -> Result<(), Ending>
+    ensures runs { Runs store.old.settings store.old.tree (order.now ∷ []) (O.contents out.old) (O.contents out.new) result }
+    ensures leaves { OnOk result (Leaves store.old.settings store.old.tree order.now store.new.tree) }
+    ensures settings { store.new.settings ≡ store.old.settings }
+{
+    match order {
+        Order::Batch(batch) => {
+            let replies = store.batch(rt, batch.commands())?;
+            write_replies(&replies, lines, out)
+        }
+    }
+}
+
 // Runs the orders one after the other, and writes what each answers before the next runs.
-fn run_orders<O: Write>(
-    alloc: Global,
+fn run_orders<R: AllocGlobal + Threads + Sync, O: Write>(
+    rt: &R,
     store: &mut Store,
     orders: &[Order],
     out: &mut O,
 ) -> Result<(), Ending>
-    requires { store.now.settings ≡ session_settings }
-    ensures { Prints (O.contents out.old) (O.contents out.new)
-        (answer_lines (entries_of store.old.leaf) (accepted session_settings orders.now))
-        (orders_end session_settings orders.now) result }
+    ensures { Runs store.old.settings store.old.tree orders.now (O.contents out.old) (O.contents out.new) result }
 {
-    let mut lines = Vec::new(alloc);
+    let mut lines = Vec::new(rt.alloc());
     for order in orders {
-        match order {
-            Order::Batch(batch) => {
-                let replies = store.batch(batch.commands())?;
-                write_replies(&replies, &mut lines, out)?;
-            }
-        }
+        run_order(rt, store, order, &mut lines, out)?;
     }
     Ok(())
 }
 
-// A store that holds nothing yet, of the settings of a session.
-fn new_store(alloc: Global) -> Result<Store, Fault>
-    ensures ok { IsOk result }
-    ensures settings { IfOk result (λ store. store.settings ≡ session_settings) }
-    ensures contents { IfOk result (λ store. entries_of store.leaf ≡ []) }
+// Hands on to the device what was written. A fault of the output goes before one that was found earlier.
+fn flush<O: Write>(done: Result<(), Ending>, out: &mut O) -> Result<(), Ending>
+    ensures bytes { Keeps (O.contents out.old) (O.contents out.new) }
+    ensures end { (result ≡ done) ⊎ (result ≡ Err Ending.Device) }
 {
-    Store::create(alloc, SETTINGS)
-}
-
-/// Reads the batch file that `input` holds, and runs it on a new store. The answers go to `out`, a line each. Where all
-/// is done, or a line is bad (nothing is run then), or the store refuses an order, all answers stand there. Where
-/// memory is refused, some first lines of them do; where a device fails, some first bytes. A fault of the output
-/// goes before one that was found earlier.
-pub fn run<I: Read, O: Write>(alloc: Global, input: &mut I, out: &mut O) -> Result<(), Ending>
-    ensures { (text : List ℕ) × IfSome (I.remaining input.old) (λ known. text ≡ known)
-        × Prints (O.contents out.old) (O.contents out.new) (session_lines session_settings text) (session_end session_settings text) result }
-{
-    let orders = read_orders(alloc, input)?;
-    let mut store = new_store(alloc)?;
-    let done = run_orders(alloc, &mut store, &orders, out);
-    if out.flush().is_err() {
-        return Err(Ending::Device);
+    match out.flush() {
+        Ok(()) => done,
+        Err(_) => Err(Ending::Device),
     }
-    done
 }
 
-// Tells why the session ends, and returns the exit status. Where that cannot be told, nothing is left to tell it to.
-fn end<E: Write>(ending: Ending, err: &mut E) -> u8
-    ensures { result ≡ status_of ending }
+/// Reads the batch file that `input` holds, and runs it on a new store of these settings. The answers go to `out`, a
+/// line each. Where all is done, or a line is bad or the settings are refused (nothing is run then), or the store
+/// refuses an order, all answers stand there. Where memory is refused, some first lines of them do; where a device
+/// fails, some first bytes. A bad line goes before settings that are refused, and a fault of the output before one
+/// that was found earlier.
+pub fn run<R: AllocGlobal + Threads + Sync, I: Read, O: Write>(
+    rt: &R,
+    settings: Settings,
+    input: &mut I,
+    out: &mut O,
+) -> Result<(), Ending>
+    ensures { Answers settings (I.remaining input.old) (O.contents out.old) (O.contents out.new) result }
 {
-    let _ = writeln!(err, "{ending}");
-    ending.status()
+    let orders = read_orders(rt.alloc(), input)?;
+    let mut store = Store::create(rt.alloc(), settings)?;
+    let done = run_orders(rt, &mut store, &orders, out);
+    flush(done, out)
 }
 
-// Tells that there are words on the command line, and returns the exit status.
-fn refuse_words<E: Write>(err: &mut E) -> u8
-    ensures { result ≡ 2 }
+// Prints the help that was asked for.
+fn show_help<O: Write>(alloc: Global, help: &clap::Error, out: &mut O) -> Result<(), Ending>
+    ensures { PrintsOneText (O.contents out.old) (O.contents out.new) result }
 {
-    let _ = writeln!(err, "bwsh takes no arguments");
-    2
+    let text = format!(in alloc; "{help}")?;
+    let done = write_bytes(text.as_bytes(), out);
+    flush(done, out)
+}
+
+// Answers words that tell no settings: with help where they ask for it. Nothing else is printed here.
+fn answer_words<O: Write>(alloc: Global, error: clap::Error, out: &mut O) -> Result<(), Ending>
+    ensures help { kind_of error ≡ DisplayHelp → PrintsOneText (O.contents out.old) (O.contents out.new) result }
+    ensures memory { kind_of error ≡ OutOfMemory → (result ≡ Err (Ending.Fault Fault.NoMemory)) × (out.new ≡ out.old) }
+    ensures refused { kind_of error ≢ DisplayHelp → kind_of error ≢ OutOfMemory → IsForWords result × (out.new ≡ out.old) }
+{
+    match error.kind() {
+        clap::error::ErrorKind::DisplayHelp => show_help(alloc, &error, out),
+        clap::error::ErrorKind::OutOfMemory => Err(Ending::Fault(Fault::NoMemory)),
+        _ => Err(Ending::Words(error)),
+    }
+}
+
+// Does what the words ask for.
+fn obey<R: AllocGlobal + Threads + Sync, I: Read, O: Write>(
+    rt: &R,
+    words: &[String],
+    input: &mut I,
+    out: &mut O,
+) -> Result<(), Ending>
+    ensures { EndsBy (map string_bytes words.now) (I.remaining input.old) (O.contents out.old) (O.contents out.new) (input.new ≡ input.old) (out.new ≡ out.old) result }
+{
+    match options(rt.alloc(), words) {
+        Ok(told) => run(rt, told.settings, input, out),
+        Err(error) => answer_words(rt.alloc(), error, out),
+    }
+}
+
+// Tells why the session ends early, if it does, and returns the exit status. Where that cannot be told, nothing is
+// left to tell it to.
+fn end<E: Write>(done: Result<(), Ending>, err: &mut E) -> u8
+    ensures { result ≡ status_of_end done }
+{
+    match done {
+        Ok(()) => 0,
+        Err(ending) => {
+            let _ = write!(err, "{ending}");
+            ending.status()
+        }
+    }
 }
 
 /// Tells why the words of the command line cannot be read, and returns the exit status: 4 where memory was refused,
-/// and else 2, since a word that is no text is a word.
+/// and else 2, since a word that is no text is no option.
 pub fn unread_words<E: Write>(error: io::Error, err: &mut E) -> u8
     ensures memory { (result ≡ 4) ↔ (error_kind error ≡ ErrorKind.OutOfMemory) }
     ensures status { (result ≡ 2) ⊎ (result ≡ 4) }
 {
     match error.kind() {
-        ErrorKind::OutOfMemory => end(Ending::Fault(Fault::NoMemory), err),
-        _ => refuse_words(err),
+        ErrorKind::OutOfMemory => end(Err(Ending::Fault(Fault::NoMemory)), err),
+        _ => {
+            let _ = writeln!(err, "error: a word of the command line is no text");
+            2
+        }
     }
 }
 
-/// Runs the batch file that `input` holds on a new store, and returns the exit status. The replies go to `out`, a
-/// line each; what stopped the session goes to `err`, in one line.
+/// Does what the `words` of the command line ask for, and returns the exit status. Where they tell settings, the batch
+/// file that `input` holds is run on a new store of these. The replies go to `out`, a line each; what stopped the
+/// session goes to `err`.
 ///
-/// - 0: all is done.
-/// - 2: there are `words` on the command line, of which `bwsh` takes none. Nothing was read.
+/// - 0: all is done; or the words ask for help, which went to `out`, and nothing was read.
+/// - 2: the words are refused. Nothing was read.
 /// - 3: a line of the batch file is bad. Nothing was run.
 /// - 4: a fault. The answers to what was run before it stand in `out`, or some first of them where memory was refused
 ///   or a device failed.
-pub fn session<R: AllocGlobal, I: Read, O: Write, E: Write>(
+pub fn session<R: AllocGlobal + Threads + Sync, I: Read, O: Write, E: Write>(
     rt: &R,
     words: &[String],
     input: &mut I,
     out: &mut O,
     err: &mut E,
 ) -> u8
-    ensures refused { (result ≡ 2) ↔ (words.now ≢ []) }
     ensures status { (result ≡ 0) ⊎ (result ≡ 2) ⊎ (result ≡ 3) ⊎ (result ≡ 4) }
 
-    // What stands on the output with each status: always a beginning of the answers to the orders of the input.
-    ensures untouched { result ≡ 2 → (input.new ≡ input.old) × (out.new ≡ out.old) }
-    ensures done { result ≡ 0 → IfSome (I.remaining input.old) (λ text. (first_bad 1 (said_by text) ≡ None)
+    // What stands on the output with each status: always a beginning of the answers to the orders of the input, unless that is help.
+    ensures refused { result ≡ 2 → AreRefused (map string_bytes words.now) × (input.new ≡ input.old) × (out.new ≡ out.old) }
+    ensures done { result ≡ 0 → AsksForHelp (map string_bytes words.now) ⊎ IfSome (I.remaining input.old) (λ text. (first_bad 1 (said_by text) ≡ None)
         × Appends (O.contents out.old) (O.contents out.new) (printed [] (orders_of [] (said_by text)))) }
     ensures bad { result ≡ 3 → Appends (O.contents out.old) (O.contents out.new) []
         × IfSome (I.remaining input.old) (λ text. first_bad 1 (said_by text) ≢ None) }
-    ensures beginning { IfSome (I.remaining input.old) (λ text. (front : List ℕ) × BeginsWith (printed [] (orders_of [] (said_by text))) front
-        × Appends (O.contents out.old) (O.contents out.new) front) }
+    ensures beginning { AsksForHelp (map string_bytes words.now) ⊎ IfSome (I.remaining input.old) (λ text. (front : List ℕ)
+        × BeginsWith (printed [] (orders_of [] (said_by text))) front × Appends (O.contents out.old) (O.contents out.new) front) }
 
-    // How it ends, and what is printed, is right but for memory and devices.
-    ensures ends { words.now ≡ [] → (text : List ℕ) × IfSome (I.remaining input.old) (λ known. text ≡ known)
-        × ((end : Result (Unit {0}) Ending) × (result ≡ status_of_end end)
-        × Prints (O.contents out.old) (O.contents out.new) (session_lines session_settings text) (session_end session_settings text) end) }
+    // How it ends, and what is read and printed, is right for the words and the text but for memory and devices.
+    ensures ends { (end : Result (Unit {0}) Ending) × (result ≡ status_of_end end)
+        × EndsBy (map string_bytes words.now) (I.remaining input.old) (O.contents out.old) (O.contents out.new) (input.new ≡ input.old) (out.new ≡ out.old) end }
 {
-    if !words.is_empty() {
-        return refuse_words(err);
-    }
-    match run(rt.alloc(), input, out) {
-        Ok(()) => 0,
-        Err(ending) => end(ending, err),
-    }
+    let done = obey(rt, words, input, out);
+    end(done, err)
 }

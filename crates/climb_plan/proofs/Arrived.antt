@@ -93,13 +93,13 @@ module _ {A : Type 0} (s : Settings) (t : Tree) (cs : List (Command A)) (fan : 1
   abbrev planned_pids : List ℕ
   planned_pids = all_pids planned.level planned.above
 
-  keep_names : names (placed_of leaves_after) ≡ names (levels_of t).level
+  pub keep_names : names (placed_of leaves_after) ≡ names (levels_of t).level
   keep_names = names-worked_leaves s (net_run (contents t) cs) (levels_of t).level
 
   never_unused : AllByRecursion (IsNeverUnused (keys_of t.pages)) (all_pids (levels_of t).level (levels_of t).above)
   never_unused = all_pids_hold (IsNeverUnused (keys_of t.pages)) t.pages (used_is_never_unused (keys_of t.pages) proper.tree.rising) (levels_of t) proper.held
 
-  whole_distinct : Distinct whole_pids
+  pub whole_distinct : Distinct whole_pids
   whole_distinct =
       let l : Levels = levels_of t in
       distinct_renewed (renewed-climb s (keys_of t.pages) 0 leaves_after l.level l.above keep_names proper.levels.stacked).1 never_unused proper.levels.distinct

@@ -55,11 +55,11 @@ module _ {V W : Type 0} where
   first_pid-same (p ∷ ps) [] e = absurd (cc)
   first_pid-same (p ∷ ps) (q ∷ qs) e = let f : name p ≡ name q = cc in ap (λ (n : List ℕ × ℕ). n.1) f
 
-  top_pid-same : (ps : List (Placed V)) (qs : List (Placed W)) (ups : List (List (Placed ℕ))) → names ps ≡ names qs → top_pid ps ups ≡ top_pid qs ups
+  pub top_pid-same : (ps : List (Placed V)) (qs : List (Placed W)) (ups : List (List (Placed ℕ))) → names ps ≡ names qs → top_pid ps ups ≡ top_pid qs ups
   top_pid-same ps qs [] e = first_pid-same ps qs e
   top_pid-same ps qs (up ∷ ups) e = refl
 
-  stacked-same : (ps : List (Placed V)) (qs : List (Placed W)) (ups : List (List (Placed ℕ))) → names ps ≡ names qs → Stacked qs ups → Stacked ps ups
+  pub stacked-same : (ps : List (Placed V)) (qs : List (Placed W)) (ups : List (List (Placed ℕ))) → names ps ≡ names qs → Stacked qs ups → Stacked ps ups
   stacked-same ps qs [] e h = sym (length-map ps name) ∙ ap (λ (ns : Names). length ns) e ∙ length-map qs name ∙ h
   stacked-same ps qs (up ∷ ups) e h = (record { linked = h.0.linked ∙ sym e; headed = h.0.headed; tiled = h.0.tiled }, h.1)
 

@@ -79,7 +79,7 @@ pub kept_is_first : (ls : List (List (Placed ℕ))) → (rest : List (List (Plac
 kept_is_first [] = ([], refl)
 kept_is_first (l ∷ ls) = let r = kept_is_first ls in rest_under l (kept ls) r.0 ls r.1
 
-drop_first : (xs ys all : List (List (Placed ℕ))) → xs ++ ys ≡ all → drop (length xs) all ≡ ys
+pub drop_first : (xs ys all : List (List (Placed ℕ))) → xs ++ ys ≡ all → drop (length xs) all ≡ ys
 drop_first xs ys all e = ap (λ (z : List (List (Placed ℕ))). drop (length xs) z) (sym e) ∙ drop_length xs ys
   where
     drop_length : (xs ys : List (List (Placed ℕ))) → drop (length xs) (xs ++ ys) ≡ ys

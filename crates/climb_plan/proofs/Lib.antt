@@ -23,10 +23,11 @@ mod CutUnderTwoParents
 mod DescentWay
 mod Families
 mod FreshOrder
+mod Grown
 mod InUse
 pub mod InstalledLevel
 pub mod InstalledPages
-mod Installing
+pub mod Installing
 pub mod InstallingLaws
 mod InstallingParents
 mod Kept
@@ -37,12 +38,15 @@ pub mod LeveledChange
 pub mod LeveledCut
 pub mod LeveledDrawn
 pub mod LeveledHome
+pub mod LeveledTop
 mod Literals
 mod Logs
 mod MergedAndCutAgain
+mod OnlyChild
 mod OutdatedPids
 mod Pids
 mod Planned
+mod Ready
 mod RewritingFamily
 mod RewritingGroups
 mod RewritingLevel
@@ -56,12 +60,14 @@ mod RowNine
 mod RowTen
 mod RowThirteen
 mod RowTwelve
+mod Shrinking
 mod Sizes
 mod Standing
 pub mod ThroughBack
 pub mod ThroughClimb
 pub mod ThroughGroups
 pub mod ThroughLevel
+pub mod ThroughTop
 pub mod ToldRuns
 pub mod ToldSome
 mod Untouched

@@ -1,5 +1,5 @@
 -- A level that is refused by the levels above it gives its tree back.
-use Rattle.std.specs.Prelude.{◌≡◌, ℕ, ◌+◌, ◌<◌, List, [], ◌∷◌, ◌++◌, true, map, flat_map, drop, length, Some, None}
+use Rattle.std.specs.Prelude.{◌≡◌, ℕ, ◌+◌, ◌-◌, ◌<◌, List, [], ◌∷◌, ◌++◌, true, map, flat_map, drop, length, Some, None}
 use Rattle.std.proofs.Common.{refl, sym, ap, ◌∙◌, subst, arith}
 use Rattle.std.specs.List.{AllByRecursion}
 use Rattle.std.specs.Map.{keys_of}
@@ -28,7 +28,7 @@ use Rattle.climb_plan.proofs.BridgeNext.{can_be_taken}
 use Rattle.climb_plan.proofs.BridgeTables.{AreDrawn, drawn_others}
 use Rattle.climb_plan.proofs.ChangedRooms.{shifted, given_back}
 use Rattle.climb_plan.proofs.InstallingLaws.{away-all_taken, put_back_is_before}
-use Rattle.climb_plan.proofs.ThroughClimb.{WorksParents, SomeChildren}
+use Rattle.climb_plan.proofs.ThroughClimb.{SomeChildren, IsWorkedOn, children_here}
 use Rattle.climb_plan.proofs.ThroughGroups.{draw_all, fresh_numbers}
 use Rattle.climb_plan.proofs.ToldRuns.{all_told, terms_told}
 
@@ -134,16 +134,19 @@ module _ {V : Type 0} (s : Settings) (fan : 1 < s.fan) (of : Page V → PageOfKi
 
 -- ---- as code has it
 
-module _ {V : Type 0} (of : Page V → PageOfKind) (s : Settings) (fan : 1 < s.fan) (t ready : TreeInMemory) (xs : List SeenPage) (depth : ℕ) (groups : List Remade) (parents : List IndexWorked) (works : WorksParents of s t ready xs depth groups parents) (l : SomeChildren of t xs depth)
-    (now : TreeInMemory) (held : List IndexWorked) (stays : now ≡ ready) (same : held ≡ parents) where
+module _ {V : Type 0} {of : Page V → PageOfKind} {s : Settings} {t ready : TreeInMemory} {xs : List SeenPage} {depth : ℕ} {groups : List Remade} {parents : List IndexWorked} (k : IsWorkedOn of s t ready xs depth groups parents)
+    {now : TreeInMemory} {held : List IndexWorked} (stays : now ≡ ready) (same : held ≡ parents) where
+  abbrev l : SomeChildren of t xs (depth - 1)
+  l = children_here k
+
   abbrev changed : IsChanged s of t ready l.0 l.1 l.3 l.4 groups parents
-  changed = works l.0 l.1 l.2 l.3 l.4 l.5 l.6
+  changed = k.works l.0 l.1 l.2 l.3 l.4 l.5 l.6
 
   pub refused_away : AreAway now.table (map (λ d. d.held.pid) held)
   refused_away =
-      subst (λ (u : TreeInMemory). AreAway u.table (map (λ d. d.held.pid) held)) (sym stays) (subst (λ (ds : List IndexWorked). AreAway ready.table (map (λ d. d.held.pid) ds)) (sym same) (parents_are_away s fan of t ready xs l.0 l.1 l.2 l.3 l.4 groups parents l.5 changed))
+      subst (λ (u : TreeInMemory). AreAway u.table (map (λ d. d.held.pid) held)) (sym stays) (subst (λ (ds : List IndexWorked). AreAway ready.table (map (λ d. d.held.pid) ds)) (sym same) (parents_are_away s k.fan of t ready xs l.0 l.1 l.2 l.3 l.4 groups parents l.5 changed))
 
-  module _ (back : TreeInMemory) (put : back ≡ record now { table = all_put now.table (held_pages held) }) (all : List Remade) (handed : all ≡ groups) where
+  module _ {back : TreeInMemory} (put : back ≡ record now { table = all_put now.table (held_pages held) }) {all : List Remade} (handed : all ≡ groups) where
     put_back : back ≡ record ready { table = all_put ready.table (held_pages parents) }
     put_back =
         let make : TreeInMemory → List IndexWorked → TreeInMemory = λ u ds. record u { table = all_put u.table (held_pages ds) } in
@@ -151,16 +154,16 @@ module _ {V : Type 0} (of : Page V → PageOfKind) (s : Settings) (fan : 1 < s.f
 
     pub refused_fresh : AreAway back.table (flat_map (λ r. r.fresh) all)
     refused_fresh =
-        subst (λ (rs : List Remade). AreAway back.table (flat_map (λ r. r.fresh) rs)) (sym handed) (fresh_are_away s fan of t ready xs l.0 l.1 l.2 l.3 l.4 groups parents l.5 changed back put_back)
+        subst (λ (rs : List Remade). AreAway back.table (flat_map (λ r. r.fresh) rs)) (sym handed) (fresh_are_away s k.fan of t ready xs l.0 l.1 l.2 l.3 l.4 groups parents l.5 changed back put_back)
 
-    pub refused_back : (after : TreeInMemory) → after ≡ record back { table = freed_all back.table (flat_map (λ r. r.fresh) all) }
+    pub refused_back : {after : TreeInMemory} → after ≡ record back { table = freed_all back.table (flat_map (λ r. r.fresh) all) }
         → ((m : Mapping PageOfKind) (n : ℕ) → AreRisingPids (pids_in_use m) → AreLost m → freed_all (with_rooms m (fresh_pids (pids_in_use m) n)) (fresh_pids (pids_in_use m) n) ≡ m) → after ≡ t
-    refused_back after r law =
+    refused_back {after = after} r law =
         let n : ℕ = length (fresh_of (changes s l.3 l.4 (changing_groups (changing l.1 l.0)))) in
         let ns : List ℕ = fresh_pids (pids_in_use t.table) n in
         let make : TreeInMemory → Mapping PageOfKind → TreeInMemory = λ u m. record u { table = m } in
         let roomy : back ≡ record t { table = with_rooms t.table ns } = put_back
-        ∙ ap (λ (m : Mapping PageOfKind). make ready m) (parents_are_back s fan of t ready xs l.0 l.1 l.2 l.3 l.4 groups parents l.5 changed)
+        ∙ ap (λ (m : Mapping PageOfKind). make ready m) (parents_are_back s k.fan of t ready xs l.0 l.1 l.2 l.3 l.4 groups parents l.5 changed)
         ∙ ap (λ (u : TreeInMemory). make u (with_rooms t.table ns)) changed.tree in
-        let drawn : flat_map (λ r. r.fresh) all ≡ ns = ap (λ (rs : List Remade). flat_map (λ r. r.fresh) rs) handed ∙ fresh_are_drawn s fan of t ready xs l.0 l.1 l.2 l.3 l.4 groups parents l.5 changed in
+        let drawn : flat_map (λ r. r.fresh) all ≡ ns = ap (λ (rs : List Remade). flat_map (λ r. r.fresh) rs) handed ∙ fresh_are_drawn s k.fan of t ready xs l.0 l.1 l.2 l.3 l.4 groups parents l.5 changed in
         given_back t back after (flat_map (λ r. r.fresh) all) ns roomy r drawn (law t.table n l.5.rising l.5.lost)

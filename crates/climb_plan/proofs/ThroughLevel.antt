@@ -98,12 +98,12 @@ module _ {V : Type 0} (of : Page V → PageOfKind) (t : Mapping PageOfKind) wher
 
 -- ---- numbers that are never given
 
-never_given : (used : List ℕ) (ns js : List ℕ) → AllByRecursion (IsNeverUnused used) ns → AllByRecursion (λ k. is_among k ns ≡ false) (map (unused used) js)
+pub never_given : (used : List ℕ) (ns js : List ℕ) → AllByRecursion (IsNeverUnused used) ns → AllByRecursion (λ k. is_among k ns ≡ false) (map (unused used) js)
 never_given used ns [] h = tt
 never_given used ns (j ∷ js) h =
     (false_from_ne_true (is_among (unused used j) ns) (λ e. at_among (IsNeverUnused used) (unused used j) ns h e j refl), never_given used ns js h)
 
-all_each : (P Q : ℕ → Type 0) (ns : List ℕ) → ((k : ℕ) → P k → Q k) → AllByRecursion P ns → AllByRecursion Q ns
+pub all_each : (P Q : ℕ → Type 0) (ns : List ℕ) → ((k : ℕ) → P k → Q k) → AllByRecursion P ns → AllByRecursion Q ns
 all_each P Q [] f h = tt
 all_each P Q (n ∷ ns) f h = (f n h.0, all_each P Q ns f h.1)
 
@@ -111,7 +111,7 @@ by_pid : (P : ℕ → Type 0) (ps : List (Placed ℕ)) → AllByRecursion P (pid
 by_pid P [] h = tt
 by_pid P (p ∷ ps) h = (h.0, by_pid P ps h.1)
 
-or_swapped : (a b : Bool) → (a || b) ≡ (b || a)
+pub or_swapped : (a b : Bool) → (a || b) ≡ (b || a)
 or_swapped true true = refl
 or_swapped true false = refl
 or_swapped false true = refl

@@ -130,7 +130,7 @@ climb_same {V} s used i ps (parents ∷ ups) o =
 
 -- ---- the root stays
 
-not_lone_by : (b : Bool) (n : ℕ) → nat_eq n 1 ≡ b → 2 ≤ n → b ≡ false
+pub not_lone_by : (b : Bool) (n : ℕ) → nat_eq n 1 ≡ b → 2 ≤ n → b ≡ false
 not_lone_by true n e h = absurd (let one : n ≡ 1 = eqb-true n 1 e in omega arith)
 not_lone_by false n e h = refl
 
@@ -159,7 +159,7 @@ module _ (ps : List (ℕ × PageOfKind)) where
   top_stays zero level u us = refl
   top_stays (suc n) level u us = top_stays n (values_of (joined (map (index_at ps) level))) (map (index_at ps) level) (u ∷ us)
 
-  root_on_top : (n root : ℕ) → top_pid (levels_below ps n (root ∷ []) []).level (levels_below ps n (root ∷ []) []).above ≡ root
+  pub root_on_top : (n root : ℕ) → top_pid (levels_below ps n (root ∷ []) []).level (levels_below ps n (root ∷ []) []).above ≡ root
   root_on_top zero root = refl
   root_on_top (suc n) root = top_stays n (values_of (joined (map (index_at ps) (root ∷ [])))) (map (index_at ps) (root ∷ [])) []
 

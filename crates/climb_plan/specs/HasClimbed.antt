@@ -6,7 +6,7 @@ use Rattle.index_page.specs.Page.PageOfKind.{Index}
 use Rattle.mapping.specs.Levels.{Placed, all_pids, top_pid}
 use Rattle.mapping.specs.FreshPids.{is_among}
 use Rattle.mapping.specs.Outdate.{outdate_all}
-use Rattle.mapping.specs.Proper.{AreRisingPids}
+use Rattle.mapping.specs.Proper.{Stacked, Distinct, AreRisingPids}
 use Rattle.mapping.specs.Table.{pids_in_use, place_of}
 use Rattle.mapping.specs.TreeInMemory.{TreeInMemory}
 use Rattle.page_runs.specs.Worked.{Worked}
@@ -26,6 +26,16 @@ pub record HasClimbed {V : Type 0} (of : Page V → PageOfKind) (before after : 
   pub logged : after.table.logged ≡ outdate_all c.outdated before.table.logged
   pub root : after.root ≡ top_pid c.tower.level c.tower.above
   pub height : after.height + length ups ≡ before.height + length c.tower.above
+
+-- the levels of a tree in memory, above a level of leaves whose pages may be anywhere, before its root shrinks: they are one
+-- above the other, at home, and go up to the root
+pub record CanShrink {V : Type 0} (t : TreeInMemory) (level : List (Placed V)) (ls : List (List (Placed ℕ))) : Type 0 where
+  pub home : AllByRecursion (AreHome Index t.table) ls
+  pub stacked : Stacked level ls
+  pub distinct : Distinct (all_pids level ls)
+  pub rising : AreRisingPids (pids_in_use t.table)
+  pub root : t.root ≡ top_pid level ls
+  pub height : t.height ≡ suc (length ls)
 
 -- these levels, above a level of leaves, once those at the top whose one page has one child were freed: all else stayed
 pub record HasShrunk {V : Type 0} (before after : TreeInMemory) (level : List (Placed V)) (ls : List (List (Placed ℕ))) : Type 0 where

@@ -134,3 +134,9 @@ pub record AreGrown (before after : TreeInMemory) (ls : List (List (Placed ℕ))
 -- the pids of the levels that go with the old root, the highest first
 abbrev pub shrunk_from_top : List (List (Placed ℕ)) → List ℕ
 shrunk_from_top ls = reverse (flat_map pids (drop (length (kept ls)) ls))
+
+-- the pid of the only child that entries name, where there is just one
+abbrev pub only_pid : List (List ℕ × ℕ) → Option ℕ
+only_pid [] = None
+only_pid (e ∷ []) = Some e.1
+only_pid (e ∷ f ∷ es) = None

@@ -1,6 +1,6 @@
 -- A level in the course of a climb: its pages as code has them, of either kind, and as the plan has them.
 use Rattle.std.specs.Prelude.{◌≡◌, ◌≢◌, ℕ, ◌+◌, List, [], ◌∷◌, map, drop, length, Option, Some, None}
-use Rattle.std.specs.List.{AllByRecursion}
+use Rattle.std.specs.List.{filter, AllByRecursion}
 use Rattle.keys.specs.Order.{IsRising}
 use Rattle.keys.specs.declared.settings.Settings.{Settings}
 use Rattle.index_page.specs.Page.{Page, PageOfKind, low_of}
@@ -12,12 +12,13 @@ use Rattle.mapping.specs.Table.{Mapping, pids_in_use, with_rooms, fresh_pids}
 use Rattle.mapping.specs.TreeInMemory.{TreeInMemory}
 use Rattle.page_runs.specs.TermWork.{IndexWorked}
 use Rattle.page_runs.specs.Worked.{Worked}
-use Rattle.split_plan.specs.Change.{Change, changes, fresh_of}
+use Rattle.split_plan.specs.Change.{Change, is_rewritten, changes, fresh_of}
 use Rattle.split_plan.specs.Pieces.{joined_pages, pieces_of, group_made, CanJoin}
 use Rattle.split_plan.specs.Terms.{terms}
 use Rattle.split_plan.specs.WorkedLevel.{worked_parents, placed_of}
 use Rattle.climb_plan.specs.Changing.{SeenPage, shown, AreSeen, AreHome, Changing, changing, parents_of, changing_groups, changing_changes}
-use Rattle.climb_plan.specs.Installing.{AreLost, all_taken}
+use Rattle.climb_plan.specs.Climb.{climb}
+use Rattle.climb_plan.specs.Installing.{AreLost, AreGrown, all_taken}
 use Rattle.climb_plan.specs.Rewriting.{Remade, cut_group, freed_names}
 
 -- ---- kinds
@@ -92,3 +93,11 @@ pub record IsChanged {V : Type 0} (s : Settings) (of : Page V → PageOfKind) (b
   pub made : map (λ d. shown Index d.made) parents ≡ map (shown Index) (worked_parents s (parents_of (changing ps ws)) (map terms (changing_changes s used i (changing ps ws))))
   pub held : map {B = ℕ × PageOfKind} (λ d. (d.held.pid, d.held.page)) parents ≡ map {B = ℕ × PageOfKind} (λ p. (p.pid, Index p.page)) (parents_of (changing ps ws))
   pub tree : after ≡ next_tree before (length (fresh_of (changes s used i (changing_groups (changing ps ws))))) (parent_pids (changing ps ws))
+
+-- what the highest level becomes, which is a group by itself, with the levels that grow above it: the root's pid, the number of
+-- levels, and the tree in which numbers for new pieces were drawn, and these levels are at home
+pub record IsTopChanged {V : Type 0} (s : Settings) (of : Page V → PageOfKind) (before after : TreeInMemory) (ws : List (Worked V)) (used : List ℕ) (i : ℕ) (remade : List Remade) (pid levels : ℕ) : Type 0 where
+  pub groups : remade ≡ map (remade_of of) (changes s used i (filter is_rewritten (ws ∷ [])))
+  pub grown : AreGrown (next_tree before (length (fresh_of (changes s used i (filter is_rewritten (ws ∷ []))))) []) after (climb s used i ws []).tower.above
+  pub root : pid ≡ top_pid (climb s used i ws []).tower.level (climb s used i ws []).tower.above
+  pub height : levels ≡ before.height + length (climb s used i ws []).tower.above

@@ -5,5 +5,6 @@ pub mod Installing
 pub mod Level
 pub mod Limits
 pub mod Plan
+pub mod Ready
 pub mod Rewriting
 pub mod Standing

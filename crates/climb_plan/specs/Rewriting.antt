@@ -205,6 +205,15 @@ named_pages (p ∷ ps) (pid ∷ pids) = (low_of p, pid) ∷ named_pages ps pids
 abbrev pub fresh_names : Remade → List (List ℕ × ℕ)
 fresh_names r = named_pages (drop 1 r.pieces) r.fresh
 
+-- and those of all of its pieces, the first under the first member's pid
+abbrev pub group_names : Remade → List (List ℕ × ℕ)
+group_names r = named_pages r.pieces (take 1 r.members ++ r.fresh)
+
+-- of the pages of the highest level: of this group's pieces, or of the root as it was where there is no group
+abbrev pub top_names : ℕ → List Remade → List (List ℕ × ℕ)
+top_names root [] = ([], root) ∷ []
+top_names root (r ∷ rs) = group_names r
+
 -- the run of the terms of a parent, of the names that are freed in its groups and of those of the new pieces
 abbrev pub terms_of : List (List (List ℕ × ℕ)) → List Remade → List (List ℕ × Option ℕ)
 terms_of fs rs = with_run (absent (flat fs)) (present (flat_map fresh_names rs))

@@ -310,6 +310,25 @@ impl Rewritten {
         (members, pieces, fresh)
     }
 
+    /// What a parent's entries say of the pieces, the first under the first member's page id.
+    pub(crate) fn names(&self, alloc: Global) -> Result<Vec<Name>, AllocError>
+        ensures { IfOk result (λ names. names.items ≡ named_pages self.now.pieces (take 1 self.now.members ++ self.now.fresh)) }
+    {
+        let mut names = Vec::with_capacity(alloc, self.pieces.len())?;
+        let others = match (self.pieces.as_slice(), self.members.first()) {
+            ([first, others @ ..], Some(pid)) => {
+                names.push_reserved(Name {
+                    low: Key::from_bytes(alloc, first.low())?,
+                    pid: Pid(*pid),
+                });
+                others
+            }
+            (pieces, _) => pieces,
+        };
+        push_names(alloc, others, &self.fresh, &mut names)?;
+        Ok(names)
+    }
+
     // All pieces but the first: they get numbers of their own.
     fn new_pieces(&self) -> &[Page<Global>]
         ensures { result.now ≡ drop 1 self.now.pieces }

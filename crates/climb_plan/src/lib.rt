@@ -5,10 +5,15 @@
 #![tactic(auto)]
 
 mod change;
+pub mod climb;
 mod family;
 mod install;
 pub mod laws;
 mod level;
-pub mod refused;
+mod refused;
 mod root;
 mod seen;
+mod shrink;
+mod top;
+
+pub use crate::refused::Refused;

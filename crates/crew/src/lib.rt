@@ -73,6 +73,3 @@ pub fn work_and_undo<W: Work>(work: &W, job: W::Job) -> W::Job
         Turn::Back(job) => job,
     }
 }
-
-#[cfg(test)]
-mod tests;

@@ -54,6 +54,3 @@ pub fn undo_all<W: Work, A: Allocator>(
     jobs.reverse();
     jobs
 }
-
-#[cfg(test)]
-mod tests;

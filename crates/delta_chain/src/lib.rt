@@ -11,8 +11,6 @@ pub mod laws;
 mod merging;
 pub mod pairs;
 pub mod run;
-#[cfg(test)]
-mod tests;
 
 pub use crate::base::Base;
 pub use crate::builder::{BaseBuilder, PushError};

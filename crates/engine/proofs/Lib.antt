@@ -1,2 +1,13 @@
+mod Admitted
+mod Answered
+mod BatchLeaves
+mod CommandsWithin
+mod Created
+mod Executed
 mod InTurn
-mod WholeBatch
+mod LeafAnswers
+mod LeafRoutes
+mod OwnRuns
+mod Readied
+mod Routed
+mod SeenLeaves

@@ -3,6 +3,9 @@ use Rattle.std.specs.Prelude.{ℕ, List, [], ◌∷◌}
 use Rattle.keys.specs.Step.{replies_to, map_after_all}
 use Rattle.keys.specs.declared.command.Command.{Command}
 use Rattle.keys.specs.declared.command.Reply.{Reply}
+use Rattle.keys.specs.declared.settings.Settings.{Settings}
+use Rattle.mapping.specs.Tree.{Tree}
+use Rattle.climb_plan.specs.Plan.{planned_tree}
 
 -- the replies to each batch, where each finds the map that the one before it left
 abbrev pub replies_in_turn : {A : Type 0} → List (List ℕ × List ℕ) → List (List (Command A)) → List (List (Reply A))
@@ -13,3 +16,8 @@ replies_in_turn m (b ∷ bs) = replies_to m b ∷ replies_in_turn (map_after_all
 abbrev pub map_in_turn : {A : Type 0} → List (List ℕ × List ℕ) → List (List (Command A)) → List (List ℕ × List ℕ)
 map_in_turn m [] = m
 map_in_turn m (b ∷ bs) = map_in_turn (map_after_all m b) bs
+
+-- the tree that the last of the batches leaves, where each is planned on the tree that the one before it left
+abbrev pub tree_in_turn : {A : Type 0} → Settings → Tree → List (List (Command A)) → Tree
+tree_in_turn s t [] = t
+tree_in_turn s t (b ∷ bs) = tree_in_turn s (planned_tree s t b) bs

@@ -1,4 +1,5 @@
-pub use Rattle.delta_chain.specs.Layers
+pub mod Batch
 pub mod Batches
+pub mod Leaves
 pub mod Refusal
 pub mod State

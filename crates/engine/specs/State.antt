@@ -1,9 +1,35 @@
 -- What a store holds.
-use Rattle.std.specs.Prelude.{ℕ, List}
+use Rattle.std.specs.Prelude.{◌≡◌, ◌≤◌, [], ◌∷◌, Some, None}
+use Rattle.keys.specs.Limits.{first_bad_field}
 use Rattle.keys.specs.declared.settings.Settings.{Settings}
-use Rattle.delta_chain.specs.Layers.{Layers}
+use Rattle.index_page.specs.Page.{bare}
+use Rattle.index_page.specs.Page.PageOfKind.{Leaf}
+use Rattle.mapping.specs.Tree.{Tree}
+use Rattle.mapping.specs.Tree.Logged.{Upto}
+use Rattle.mapping.specs.Proper.{AreLogsTrue, IsProper}
+use Rattle.mapping.specs.TreeInMemory.{TreeInMemory, AreAllHome, tree_of}
 
--- the settings of a store, and its leaf: runs of changes in front of a base
+-- the settings of a store, and its tree
 pub record State : Type 0 where
   pub settings : Settings
-  pub leaf : Layers (List ℕ)
+  pub tree : Tree
+
+-- what is true of every store: its settings are within their ranges, its tree is proper, what its log has is true, and it
+-- has at most 64 levels
+pub record IsSound (st : State) : Type 0 where
+  pub settings : first_bad_field st.settings ≡ None
+  pub proper : IsProper st.settings st.tree
+  pub logs : AreLogsTrue st.tree
+  pub height : st.tree.height ≤ 64
+
+-- a store as it is in memory, where all pages are at home
+abbrev pub state_of : Settings → TreeInMemory → State
+state_of s t = record { settings = s; tree = tree_of t }
+
+pub record IsSoundInMemory (s : Settings) (t : TreeInMemory) : Type 0 where
+  pub home : AreAllHome t
+  pub sound : IsSound (state_of s t)
+
+-- the tree of a new store, in memory: one empty leaf, which the log has
+abbrev pub new_in_memory : TreeInMemory
+new_in_memory = record { table = record { places = (0, Some (Leaf (bare [] []))) ∷ []; logged = (0, Upto 0) ∷ [] }; root = 0; height = 1 }

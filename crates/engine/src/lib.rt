@@ -1,9 +1,12 @@
-//! The store: one leaf, a chain of runs in front of a base, and batches of commands that are executed on it.
+//! The store: a tree of pages, and batches of commands that are executed on it.
 #![tactic(auto)]
 
+mod execute;
 pub mod laws;
+mod leaves;
+#[cfg(test)]
+mod parts;
 mod refusal;
-mod replies;
 pub mod store;
 #[cfg(test)]
 mod tests;

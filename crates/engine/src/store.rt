@@ -1,55 +1,62 @@
-ghost use Rattle.std.specs.Prelude.{◌≡◌, [], IsOk, IfOk, OnOk, OnErr, IsOkUnless, MatchOption, Err};
+ghost use Rattle.std.specs.Prelude.{◌≡◌, [], IsOk, IfOk, IfErr, OnOk, OnErr, IsOkUnless, MatchOption, Err};
 ghost use Rattle.keys.specs.Limits.{first_bad_field};
-ghost use Rattle.keys.specs.Order.{IsRising};
 ghost use Rattle.keys.specs.Step.{replies_to, map_after_all};
-ghost use Rattle.delta_chain.specs.Layers.{entries_of};
-ghost use Rattle.page_runs.specs.AfterRun.{after_run};
-ghost use Rattle.page_runs.specs.NetRun.{net_run};
+ghost use Rattle.mapping.specs.Levels.{contents};
+ghost use Rattle.mapping.specs.Tree.{first_tree};
+ghost use Rattle.climb_plan.specs.Plan.{planned_tree};
+ghost use Rattle.engine.specs.Batch.{IsLaterFault};
 ghost use Rattle.engine.specs.Refusal.{refusal};
+ghost use Rattle.index_page.specs.Page.{bare};
+ghost use Rattle.index_page.specs.Page.PageOfKind.{Leaf};
+ghost use Rattle.engine.specs.State.{IsSound, new_in_memory};
 
+use crate::execute::execute;
 use crate::refusal::admit;
-use crate::replies::replies_of;
-use crew::{Turn, Work};
 use delta_chain::{Base, Chain};
 use index_page::Page;
-use keys::{Command, Fault, Key, Pid, Reply, Settings, Value};
-use page_runs::{LeafJob, LeafWork};
-use routing::PageRun;
-use std::alloc::Global;
+use keys::{Command, Fault, Key, Pid, Reply, Settings};
+use mapping::laws::the_first_tree_is_proper_and_empty;
+use mapping::{Table, Tree};
+use std::alloc::{AllocError, Global};
 use std::marker::Model;
-use std::mem;
+use std::thread::Threads;
 
-/// A store of keys and values, which contracts see as its settings and its leaf.
+/// A store of keys and values: a tree of pages under a mapping table. Contracts see it as its settings and its tree; what is true of
+/// every store is its invariant.
 #[derive(Drop)]
 pub struct Store {
     settings: Settings,
     alloc: Global,
-    leaf: Chain<Value<Global>, Global>,
+    tree: Tree<Global>,
 }
 
 impl Model for Store {
-    ghost use Rattle.engine.specs.State.{State};
+    ghost use Rattle.engine.specs.State.{State, state_of, IsSoundInMemory};
 
     ghost Value = { State };
 
-    ghost view = { λ s. record { settings = s.settings; leaf = s.leaf } };
+    ghost view = { λ s. state_of s.settings s.tree };
+
+    ghost invariant = { λ s. IsSoundInMemory s.settings s.tree };
 }
 
 impl Store {
-    /// A store that holds nothing yet. It takes no memory. The first field of the settings that is out of range
-    /// is `Fault::BadSettings`, as `Settings::check` says.
+    /// A store that holds nothing yet: one empty leaf. The first field of the settings that is out of range
+    /// is `Fault::BadSettings`, as `Settings::check` says; else there is only `Fault::NoMemory`.
     pub fn create(alloc: Global, settings: Settings) -> Result<Store, Fault>
-        ensures refused { MatchOption (first_bad_field settings) (IsOk result) (λ field. result ≡ Err (Fault.BadSettings field)) }
-        ensures leaf { IfOk result (λ store. store.leaf ≡ record { runs = []; base = [] }) }
-        ensures contents { IfOk result (λ store. entries_of store.leaf ≡ []) }
-        ensures rising { IfOk result (λ store. IsRising (entries_of store.leaf)) }
+        ensures refused { MatchOption (first_bad_field settings) (IsOkUnless result Fault.NoMemory) (λ field. result ≡ Err (Fault.BadSettings field)) }
         ensures settings { IfOk result (λ store. store.settings ≡ settings) }
+        ensures tree { IfOk result (λ store. store.tree ≡ first_tree) }
+        ensures contents { IfOk result (λ store. contents store.tree ≡ []) }
+        ensures sound { IfOk result IsSound }
     {
+        // Only for the proof.
+        the_first_tree_is_proper_and_empty();
         settings.check()?;
         Ok(Store {
             settings,
             alloc,
-            leaf: empty_leaf(alloc),
+            tree: new_tree(alloc)?,
         })
     }
 
@@ -63,62 +70,53 @@ impl Store {
     /// Executes the commands in the order of their places, and returns the reply to each at its place. A batch of
     /// more than 65,535 commands is `Fault::BatchTooLong`. Else the first command with a key that is too long is
     /// `Fault::KeyTooLong`, and with a value that is too long `Fault::ValueTooLong`, with its place; a command's key
-    /// comes before its value. Else there is only `Fault::NoMemory`. After an `Err` the store is as it was. The store
-    /// holds an ordered map: its keys strictly rise.
-    #[tactic(auto, using(crate::proofs::WholeBatch::rising_contents))]
-    pub fn batch(&mut self, commands: &[Command<Global>]) -> Result<Vec<Reply<Global>>, Fault>
-        ensures replies { IfOk result (λ replies. replies.items ≡ replies_to (entries_of self.old.leaf) commands.now) }
-        ensures contents { OnOk result (entries_of self.new.leaf ≡ map_after_all (entries_of self.old.leaf) commands.now) }
-        ensures rising { IsRising (entries_of self.new.leaf) }
+    /// comes before its value. Else there is `Fault::NoMemory`, where memory was refused, and `Fault::Spent`, where the
+    /// tree would have more than 64 levels. After an `Err` the store is as it was, and the same batch can be called again.
+    pub fn batch(
+        &mut self,
+        rt: &(impl Threads + Sync),
+        commands: &[Command<Global>],
+    ) -> Result<Vec<Reply<Global>>, Fault>
+        // The replies are those of an ordered map; the pages, the root, the height and what the log has are the plan's.
+        ensures replies { IfOk result (λ replies. replies.items ≡ replies_to (contents self.old.tree) commands.now) }
+        ensures tree { OnOk result (self.new.tree ≡ planned_tree self.old.settings self.old.tree commands.now) }
+        ensures contents { OnOk result (contents self.new.tree ≡ map_after_all (contents self.old.tree) commands.now) }
 
-        // Which fault, and that there is no other but for want of memory.
-        ensures refused { MatchOption (refusal self.old.settings commands.now) (IsOkUnless result Fault.NoMemory) (λ fault. result ≡ Err fault) }
+        // Which fault, and that there is no other but for want of memory and for the height.
+        ensures refused { MatchOption (refusal self.old.settings commands.now) (IfErr result (IsLaterFault self.old.settings self.old.tree commands.now)) (λ fault. result ≡ Err fault) }
         ensures unchanged { OnErr result (self.new ≡ self.old) }
         ensures settings { self.new.settings ≡ self.old.settings }
 
-        // The leaf is changed once, by what the commands come to.
-        ensures leaf { OnOk result (self.new.leaf ≡ after_run self.old.settings self.old.leaf (net_run (entries_of self.old.leaf) commands.now)) }
+        // The store was sound, and is so again.
+        ensures sound { IsSound self.old × IsSound self.new }
     {
-        // Only for the proof: `depth` says that the leaf is in order.
-        let _in_order = self.leaf.depth();
         admit(&self.settings, commands)?;
-        let room = Vec::with_capacity(self.alloc, commands.len())?;
-        let page_run = PageRun::of_whole_batch(self.alloc, Pid(0), commands.len())?;
-        let leaf = mem::replace(&mut self.leaf, empty_leaf(self.alloc));
-        let page = Page::leaf(Key::empty(self.alloc), leaf);
-        let work = LeafWork {
-            alloc: self.alloc,
-            settings: self.settings,
-            commands,
-        };
-        match work.work(LeafJob { page, page_run }) {
-            Turn::Done(done) => {
-                let (page, pieces) = done.into_page_and_pieces();
-                let replies = replies_of(pieces, room);
-                let (_low, leaf) = page.into_leaf();
-                self.leaf = leaf;
-                Ok(replies)
-            }
-            Turn::Back(job) => {
-                let (_low, leaf) = job.page.into_leaf();
-                self.leaf = leaf;
-                Err(Fault::NoMemory)
-            }
-        }
+        execute(rt, self.alloc, &self.settings, &mut self.tree, commands)
     }
-}
-
-// A leaf that holds nothing. It takes no memory.
-fn empty_leaf(alloc: Global) -> Chain<Value<Global>, Global>
-    ensures { result ≡ record { runs = []; base = [] } }
-{
-    Chain::of_base(Base::empty(alloc))
 }
 
 #[cfg(test)]
 impl Store {
-    // How many runs the leaf has, and how many entries its base has.
-    pub(crate) fn leaf_shape(&self) -> (u64, usize) {
-        (self.leaf.depth(), self.leaf.base().len())
+    // The tree, for tests to look at.
+    pub(crate) fn tree(&self) -> &Tree<Global> {
+        &self.tree
     }
+}
+
+// The tree of a new store: one empty leaf, of which the log has all.
+fn new_tree(alloc: Global) -> Result<Tree<Global>, AllocError>
+    ensures { IfOk result (λ tree. tree ≡ new_in_memory) }
+{
+    let mut table = Table::new(alloc);
+    table.room(0)?;
+    table.put(0, empty_leaf(alloc));
+    table.flushed();
+    Ok(Tree::new(table, Pid(0), 1))
+}
+
+// A leaf that holds nothing. It takes no memory.
+fn empty_leaf(alloc: Global) -> Page<Global>
+    ensures { result ≡ Leaf (bare [] []) }
+{
+    Page::leaf(Key::empty(alloc), Chain::of_base(Base::empty(alloc)))
 }

@@ -24,6 +24,9 @@ pub enum Fault {
     /// Memory was refused.
     #[error("6 NoMemory")]
     NoMemory,
+    /// The tree would have more than 64 levels.
+    #[error("17 Spent")]
+    Spent,
 }
 
 impl From<AllocError> for Fault {

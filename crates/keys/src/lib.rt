@@ -10,8 +10,6 @@ pub mod laws;
 pub mod pid;
 pub mod piece;
 pub mod settings;
-#[cfg(test)]
-mod tests;
 pub mod value;
 
 pub use crate::cell::Cell;

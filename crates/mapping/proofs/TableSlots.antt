@@ -1,6 +1,7 @@
 -- A change of one slot, as a change of the table that the slots stand for.
-use Rattle.std.specs.Prelude.{◌≡◌, ℕ, ◌≤◌, true, List, set, get_or, Option, Some, None, IsSome, is_some}
-use Rattle.std.proofs.Common.{refl, sym, ap, ◌∙◌, subst}
+use Rattle.std.specs.Prelude.{◌≡◌, ℕ, ◌<◌, ◌≤◌, true, List, length, set, get_or, Option, Some, None, IsSome, is_some}
+use Rattle.std.proofs.Common.{refl, sym, ap, ◌∙◌, subst, arith}
+use Rattle.std.proofs.lemmas.List.{length-map}
 use mathlib.Core.Bool.{false≢true}
 use Rattle.std.specs.List.{insert}
 use Rattle.std.specs.Option.{option_map}
@@ -35,6 +36,16 @@ listed-outdate No = refl
 listed-outdate Old = refl
 listed-outdate (Upto k) = refl
 
+-- a place that is away is one
+pub away_is_some : {X : Type 0} (o : Option (Option X)) → o ≡ Some None → IsSome o
+away_is_some None e = absurd (cc)
+away_is_some (Some x) e = refl
+
+-- and so is one with a page
+pub home_is_some : {X : Type 0} (o : Option (Option X)) → IsSome (at_home o) → IsSome o
+home_is_some None h = absurd (false≢true h)
+home_is_some (Some x) h = refl
+
 pub none_is_not_some : {X : Type 0} (o : Option X) → o ≡ None → IsSome o → ⊥
 none_is_not_some None e h = false≢true h
 none_is_not_some (Some x) e h = absurd (cc)
@@ -54,6 +65,17 @@ module _ {P : Type 0} where
   -- the slot that is read where a search found the pid
   pub slot_here : (ss : List (Slot P)) (i k : ℕ) (s : Slot P) → StandsAt (slot_pids ss) k i → s ≡ get_or ss i s → IsSlot pid_of ss i k s
   slot_here ss i k s e r = slot_read pid_of ss i k s e (found_within pid_of ss i k e) r
+
+  -- a pid that stands in a slot stands within the slots
+  pub stands_within : (ss : List (Slot P)) (i k : ℕ) → StandsAt (slot_pids ss) k i → i < length ss
+  stands_within ss i k e = found_within pid_of ss i k e
+
+  pub stands_up_to : (ss : List (Slot P)) (i k : ℕ) → StandsAt (slot_pids ss) k i → i ≤ length ss
+  stands_up_to ss i k e = let within = stands_within ss i k e in omega arith
+
+  -- and one that has none goes to a place among them or behind them
+  pub goes_within : (ss : List (Slot P)) (i k : ℕ) → GoesTo (slot_pids ss) k i → i ≤ length ss
+  goes_within ss i k e = let within : i ≤ length (slot_pids ss) = e.within in omega (arith, length-map ss pid_of)
 
   pub not_home : (p : Place P) → ((x : P) → p ≡ Home x → ⊥) → at_home (placed p) ≡ None
   not_home Vacant h = refl

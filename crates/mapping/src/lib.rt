@@ -12,8 +12,6 @@ mod pids;
 mod room;
 mod slots;
 pub mod table;
-#[cfg(test)]
-mod tests;
 pub mod tree;
 
 pub use crate::logged::Logged;

@@ -4,4 +4,3 @@ pub mod NetLaws
 mod Overlays
 mod Replays
 mod Rows
-pub mod WholeBatch

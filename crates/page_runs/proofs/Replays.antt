@@ -1,6 +1,7 @@
 -- One more command replayed: the changes are the net run of one more, and the pieces those of one more place.
 use Rattle.std.specs.Prelude.{◌≡◌, ◌<◌, ℕ, zero, suc, List, [], ◌∷◌, ◌++◌, Some, option_to_list, length, take, drop, slice_get}
-use Rattle.std.proofs.Common.{refl, sym, ap, ◌∙◌, append_assoc}
+use Rattle.std.proofs.Common.{refl, sym, ap, ◌∙◌, append_assoc, get_or}
+use Rattle.std.proofs.lemmas.Option.{slice_get-get_or}
 use Rattle.std.specs.declared.alloc.Global.{Global}
 use Rattle.keys.specs.Order.{IsRising}
 use Rattle.keys.specs.Step.{reply_to, map_after, map_after_all, replies_to}
@@ -19,6 +20,10 @@ pub place_within : {A : Type 0} → (batch : List (Command A)) (places : List �
 place_within batch [] i p a h = absurd (cc)
 place_within batch (q ∷ qs) zero p a h = let s : q ≡ p = cc in rw (← s) a.0
 place_within batch (q ∷ qs) (suc i) p a h = place_within batch qs i p a.1 h
+
+-- and so is the one that is read there
+pub read_place_within : {A : Type 0} → (batch : List (Command A)) (places : List ℕ) (i : ℕ) → ArePlacesOf batch places → i < length places → get_or places i 0 < length batch
+read_place_within batch places i a l = place_within batch places i (get_or places i 0) a (slice_get-get_or places i 0 l)
 
 -- the commands at the places up to and with one more
 pub commands_at-take : {A : Type 0} → (batch : List (Command A)) (places : List ℕ) (i p : ℕ) (c : Command A) → slice_get places i ≡ Some p → slice_get batch p ≡ Some c → commands_at batch (take (suc i) places) ≡ commands_at batch (take i places) ++ c ∷ []

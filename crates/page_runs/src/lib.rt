@@ -8,8 +8,6 @@ pub mod leaf_work;
 mod page_after;
 mod replay;
 pub mod term_work;
-#[cfg(test)]
-mod tests;
 
 pub use crate::class::Class;
 pub use crate::leaf_work::{LeafDone, LeafJob, LeafWork};

@@ -6,4 +6,3 @@ mod Rows
 pub mod ShareLaws
 pub mod SliceLaws
 pub mod SortLaws
-mod ThreeLevels

@@ -3,4 +3,3 @@ pub mod Places
 pub mod Routes
 pub mod Shares
 pub mod SortedPlaces
-pub mod ThreeLevels

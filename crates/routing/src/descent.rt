@@ -141,6 +141,3 @@ fn each_in_batch_order(alloc: Global, shares: &[Share<'_>]) -> Result<Vec<PageRu
     }
     Ok(runs)
 }
-
-#[cfg(test)]
-mod tests;

@@ -100,31 +100,3 @@ pub fn in_batch_order(alloc: Global, places: &[usize]) -> Result<Vec<usize>, All
     sorted.sort_unstable();
     Ok(sorted)
 }
-
-#[cfg(test)]
-mod tests {
-    use super::*;
-    use keys::Key;
-    use std::test::Fail;
-
-    fn get(alloc: Global, key: &[u8]) -> Result<Command<Global>, AllocError> {
-        Ok(Command::Get(Key::from_bytes(alloc, key)?))
-    }
-
-    #[test]
-    fn places_stand_in_the_order_of_their_keys(rt: HostRuntime) -> Result<(), Fail> {
-        let alloc = rt.alloc();
-        let mut commands = Vec::new(alloc);
-        commands.push(get(alloc, b"b")?)?;
-        commands.push(get(alloc, b"")?)?;
-        commands.push(get(alloc, b"ab")?)?;
-        commands.push(get(alloc, b"b")?)?;
-        commands.push(get(alloc, b"a")?)?;
-        let places = sorted_places(&rt, alloc, &commands)?;
-        assert_eq!(rt; places.as_slice(), [1, 4, 2, 0, 3].as_slice());
-        assert_eq!(rt; count_below(&commands, &places, b"b"), 3);
-        let run = in_batch_order(alloc, &places[..3])?;
-        assert_eq!(rt; run.as_slice(), [1, 2, 4].as_slice());
-        Ok(())
-    }
-}

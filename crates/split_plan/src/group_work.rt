@@ -177,6 +177,3 @@ pub fn index_pages(
     }
     cut_pages::<Pid>(alloc, settings.fan, first_key(&entries), &entries)
 }
-
-#[cfg(test)]
-mod tests;

@@ -17,6 +17,3 @@ pub use crate::group_work::{GroupDone, GroupJob, GroupWork, index_pages};
 pub use crate::grouping::groups;
 pub use crate::name::Name;
 pub use crate::parent_run::terms;
-
-#[cfg(test)]
-mod tests;

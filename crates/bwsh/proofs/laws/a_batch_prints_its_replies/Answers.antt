@@ -1,5 +1,5 @@
 use Rattle.std.proofs.Common.{refl}
-use Rattle.bwsh.proofs.SessionLemmas.{printed-batch}
+use Rattle.bwsh.proofs.PrintedLaws.{printed-batch}
 use Rattle.bwsh.proofs.laws.a_batch_prints_its_replies.Goals as goal
 
 pub returns : goal.returns

@@ -1,6 +1,7 @@
 use Rattle.std.proofs.Common.{[]}
 use Rattle.std.specs.Prelude.{unwrap_or}
-use Rattle.bwsh.proofs.SessionLemmas.{text_of-known, IsReadEnding-of_fault}
+use Rattle.bwsh.proofs.Prints.{text_of-known}
+use Rattle.bwsh.proofs.EndLemmas.{IsReadEnding-of_fault}
 use Rattle.bwsh.proofs.session.read_orders.Goals as goal
 
 pub returns-in-Err : goal.returns-in-Err

@@ -1,27 +1,22 @@
-use Rattle.std.proofs.Common.{◌≡◌, ℕ, List, [], Ok, Err, None, refl}
-use Rattle.std.specs.Io.KnownBytes.{Appends}
-use Rattle.bwsh.specs.BatchFile.{said_by, first_bad, orders_of}
-use Rattle.bwsh.specs.Session.{session_settings, printed, BeginsWith}
-use Rattle.bwsh.proofs.SessionLemmas.{IfSome-known, Prints-done, Prints-beginning}
+use Rattle.std.proofs.Common.{◌≡◌, map}
+use Rattle.std.specs.String.{string_bytes}
+use Rattle.bwsh.proofs.EndLemmas.{all_follows, Appends-same}
 use Rattle.bwsh.proofs.session.session.Goals as goal
 
-pub returns-in-Ok-clause-done : goal.returns-in-Ok-clause-done
-returns-in-Ok-clause-done g c =
-    let (text, known, prints) = c.in-Ok.ensures in
-    λ zero. IfSome-known (g.I.Read.remaining c.args.input.now) text
-    (λ (t : List ℕ). (first_bad 1 (said_by t) ≡ None) × Appends (g.O.Write.contents c.args.out.now) (g.O.Write.contents c.run.new.out) (printed [] (orders_of [] (said_by t))))
-    known (Prints-done session_settings (first_bad 1 (said_by text)) (orders_of [] (said_by text)) _ _ (Ok tt) refl prints)
-
-pub returns-in-Ok-clause-beginning : goal.returns-in-Ok-clause-beginning
-returns-in-Ok-clause-beginning g c =
-    let (text, known, prints) = c.in-Ok.ensures in
-    IfSome-known (g.I.Read.remaining c.args.input.now) text
-    (λ (t : List ℕ). (front : List ℕ) × BeginsWith (printed [] (orders_of [] (said_by t))) front × Appends (g.O.Write.contents c.args.out.now) (g.O.Write.contents c.run.new.out) front)
-    known (Prints-beginning session_settings (first_bad 1 (said_by text)) (orders_of [] (said_by text)) _ _ (Ok tt) prints)
-
-pub returns-in-Err-clause-beginning : goal.returns-in-Err-clause-beginning
-returns-in-Err-clause-beginning g c =
-    let (text, known, prints) = c.in-Err.ensures in
-    IfSome-known (g.I.Read.remaining c.args.input.now) text
-    (λ (t : List ℕ). (front : List ℕ) × BeginsWith (printed [] (orders_of [] (said_by t))) front × Appends (g.O.Write.contents c.args.out.now) (g.O.Write.contents c.run.new.out) front)
-    known (Prints-beginning session_settings (first_bad 1 (said_by text)) (orders_of [] (said_by text)) _ _ (Err c.in-Err.ending) prints)
+pub returns : goal.returns
+returns g c =
+    let words = map string_bytes c.args.words.now in
+    let known = g.I.Read.remaining c.args.input.now in
+    let old = g.O.Write.contents c.args.out.now in
+    let new = g.O.Write.contents c.obey-done.new.out in
+    let ends = c.obey-done.ensures in
+    let follows = all_follows words known old new (c.obey-done.new.input ≡ c.args.input.now) (c.obey-done.new.out ≡ c.args.out.now) c.end.result c.obey-done.result c.end.ensures
+    (Appends-same g.O.Write.contents c.args.out.now c.obey-done.new.out) ends in
+    record {
+      status = follows.status_is;
+      refused = follows.refused;
+      done = follows.done;
+      bad = follows.bad;
+      beginning = follows.beginning;
+      ends = (c.obey-done.result, c.end.ensures, ends);
+    }

@@ -1,5 +1,5 @@
 use Rattle.std.proofs.lemmas.Result.{err_from_is_err_and}
-use Rattle.bwsh.proofs.SessionLemmas.{Prints-shown, Prints-shown_first, Prints-shown_part}
+use Rattle.bwsh.proofs.Prints.{Prints-shown, Prints-shown_first, Prints-shown_part}
 use Rattle.bwsh.proofs.session.write_replies.Goals as goal
 
 pub returns-in_err-write_bytes : goal.returns-in_err-write_bytes

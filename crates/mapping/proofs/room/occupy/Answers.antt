@@ -1,5 +1,6 @@
 use Rattle.std.proofs.Common.{refl, rules}
 use Rattle.mapping.proofs.RoomLaws.{room_vacant, room_kept, room_new}
+use Rattle.mapping.proofs.TableSlots.{stands_within, goes_within}
 use Rattle.mapping.proofs.room.occupy.Goals as goal
 
 pub returns-in-Vacant-clause-rising : goal.returns-in-Vacant-clause-rising
@@ -34,3 +35,12 @@ pub returns-in_ok-insert-in-Err-clause-ok : goal.returns-in_ok-insert-in-Err-cla
 returns-in_ok-insert-in-Err-clause-ok g c =
     let goes = rw c.deref.ensures.value at c.in-Err.ensures in
     rw c.in_ok-insert-in-Err.ensures.items (room_new c.args.slots.now.items c.requires c.in-Err.at c.args.pid _ goes refl refl refl).1
+
+pub slot_of-requires : goal.slot_of-requires
+slot_of-requires g c = rw c.deref.ensures.value c.requires
+
+pub index_mut-slot-requires : goal.index_mut-slot-requires
+index_mut-slot-requires g c = rw (← c.deref.ensures.len) (stands_within c.deref.result.now c.in-Ok.at c.args.pid c.in-Ok.ensures)
+
+pub insert-requires : goal.insert-requires
+insert-requires g c = rw (← c.deref.ensures.len) (goes_within c.deref.result.now c.in-Err.at c.args.pid c.in-Err.ensures)

@@ -1,6 +1,6 @@
 use Rattle.std.proofs.Common.{◌∙◌, ap, is_some, not, sym}
 use Rattle.mapping.specs.Slots.{placed}
-use Rattle.mapping.proofs.TableSlots.{not_vacant, place-gap, place-slot, slot_here}
+use Rattle.mapping.proofs.TableSlots.{stands_within, stands_up_to, not_vacant, place-gap, place-slot, slot_here}
 use Rattle.mapping.proofs.slots.is_used.Goals as goal
 use Rattle.mapping.proofs.slots.is_used.Goals.{in-Vacant, in_default}
 
@@ -17,3 +17,9 @@ returns-after-matches g c =
 
 pub returns-in-Err : goal.returns-in-Err
 returns-in-Err g c = sym (ap is_some (place-gap c.args.slots.now c.in-Err.field-0 c.args.pid c.in-Err.ensures))
+
+pub bounds-slots-at : goal.bounds-slots-at
+bounds-slots-at g c = stands_within c.args.slots.now c.in-Ok.at c.args.pid c.in-Ok.ensures
+
+pub offset_bounds-slots-at : goal.offset_bounds-slots-at
+offset_bounds-slots-at g c = stands_up_to c.args.slots.now c.in-Ok.at c.args.pid c.in-Ok.ensures

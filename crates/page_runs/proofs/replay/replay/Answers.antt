@@ -9,7 +9,7 @@ use Rattle.delta_chain.proofs.LayerLaws.{rising-entries_of}
 use Rattle.page_runs.proofs.NetLaws.{Pairs, Changes, rising-net_run}
 use Rattle.page_runs.specs.NetRun.{net_run}
 use Rattle.page_runs.specs.Replies.{commands_at}
-use Rattle.page_runs.proofs.Replays.{place_within, commands_at-take, changes_step, map_step, pieces_step}
+use Rattle.page_runs.proofs.Replays.{place_within, read_place_within, commands_at-take, changes_step, map_step, pieces_step}
 use Rattle.page_runs.proofs.replay.replay.Goals as goal
 
 pub execute-requires-clause-rising : goal.execute-requires-clause-rising
@@ -40,3 +40,6 @@ loop-place-preserved c =
       room = c.push_reserved.ensures.capacity ∙ c.loop-place.invariant.room;
       pieces = rw (add-one, c.push_reserved.ensures.items, c.in_ok-reply.ensures.reply, map) pieces;
     }
+
+pub bounds-commands-place : goal.bounds-commands-place
+bounds-commands-place c = read_place_within c.args.commands.now c.args.places.now c.loop-place.place-index c.requires c.loop-place-test.true

@@ -1,7 +1,7 @@
 use Rattle.std.proofs.Common.{refl, sym, ap, ◌∙◌}
 use mathlib.Core.Bool.{false≢true}
 use Rattle.mapping.specs.Slots.{placed}
-use Rattle.mapping.proofs.TableSlots.{slot_here, not_away, place-slot, place-gap}
+use Rattle.mapping.proofs.TableSlots.{stands_within, slot_here, not_away, place-slot, place-gap}
 use Rattle.mapping.proofs.table.Table.is_away.Goals as goal
 
 pub returns-in-Away : goal.returns-in-Away
@@ -23,3 +23,9 @@ pub returns-in-Err : goal.returns-in-Err
 returns-in-Err g c =
     let none = place-gap c.self.inside.slots.items c.in-Err.field-0 c.args.pid (rw c.deref.ensures.value at c.in-Err.ensures) in
     rw (← c.self.view_is) (λ h. absurd (false≢true h), λ e. let x = sym none ∙ e in absurd (cc))
+
+pub slot_of-requires : goal.slot_of-requires
+slot_of-requires g c = rw c.deref.ensures.value c.self.invariant.rising
+
+pub index-requires : goal.index-requires
+index-requires g c = rw (← c.deref.ensures.len) (stands_within c.deref.result.now c.in-Ok.at c.args.pid c.in-Ok.ensures)

@@ -1,6 +1,6 @@
 use Rattle.std.proofs.Common.{refl, sym, ap, ◌∙◌}
 use Rattle.mapping.specs.Table.{outdated}
-use Rattle.mapping.proofs.TableSlots.{slot_outdated, outdated-gap}
+use Rattle.mapping.proofs.TableSlots.{stands_within, slot_outdated, outdated-gap}
 use Rattle.mapping.proofs.table.Table.outdate.Goals as goal
 
 pub invariant_of-self : goal.invariant_of-self
@@ -17,3 +17,9 @@ returns-in-Ok g c =
 -- of a pid without a slot the log has nothing
 pub returns-in_default : goal.returns-in_default
 returns-in_default g c = rw (← c.self.view_is) (sym (outdated-gap c.self.inside.slots.items c.in_default.field-0 c.args.pid (rw c.deref.ensures.value at c.in_default.ensures)))
+
+pub slot_of-requires : goal.slot_of-requires
+slot_of-requires g c = rw c.deref.ensures.value c.self.invariant.rising
+
+pub index_mut-slot-requires : goal.index_mut-slot-requires
+index_mut-slot-requires g c = rw (← c.deref.ensures.len) (stands_within c.deref.result.now c.in-Ok.at c.args.pid c.in-Ok.ensures)

@@ -1,0 +1,150 @@
+//! The peer of the bench: what `bwsh` does, over std's `BTreeMap`. It reads the same text, runs each batch sorted by key,
+//! and prints the same lines. As in the store, a batch is lent, and its replies are values of their own.
+
+use std::collections::BTreeMap;
+use std::io::{self, Read, Write};
+
+type Map = BTreeMap<Vec<u8>, Vec<u8>>;
+
+enum Command {
+    Get(Vec<u8>),
+    Put(Vec<u8>, Vec<u8>),
+    Add(Vec<u8>, Vec<u8>),
+    Del(Vec<u8>),
+}
+
+#[derive(Clone)]
+enum Reply {
+    Value(Vec<u8>),
+    Word(&'static str),
+}
+
+impl Command {
+    fn key(&self) -> &[u8] {
+        match self {
+            Command::Get(key) | Command::Del(key) => key,
+            Command::Put(key, _) | Command::Add(key, _) => key,
+        }
+    }
+
+    fn run(&self, map: &mut Map) -> Reply {
+        match self {
+            Command::Get(key) => match map.get(key) {
+                Some(value) => Reply::Value(value.clone()),
+                None => Reply::Word("missing"),
+            },
+            Command::Put(key, value) => match map.insert(key.clone(), value.clone()) {
+                Some(_) => Reply::Word("replaced"),
+                None => Reply::Word("new"),
+            },
+            Command::Add(key, value) => match map.get(key) {
+                Some(_) => Reply::Word("exists"),
+                None => {
+                    map.insert(key.clone(), value.clone());
+                    Reply::Word("added")
+                }
+            },
+            Command::Del(key) => match map.remove(key) {
+                Some(_) => Reply::Word("deleted"),
+                None => Reply::Word("missing"),
+            },
+        }
+    }
+}
+
+fn hex(digit: u8) -> Option<u8> {
+    (digit as char).to_digit(16).map(|value| value as u8)
+}
+
+// The bytes that a word stands for: `%` alone for none, and `%41` for the byte 0x41.
+fn token(word: &[u8]) -> Option<Vec<u8>> {
+    if word == b"%" {
+        return Some(Vec::new());
+    }
+    let mut bytes = Vec::with_capacity(word.len());
+    let mut rest = word;
+    while let Some((&byte, behind)) = rest.split_first() {
+        if byte != b'%' {
+            bytes.push(byte);
+            rest = behind;
+        } else {
+            bytes.push(16 * hex(*rest.get(1)?)? + hex(*rest.get(2)?)?);
+            rest = &rest[3..];
+        }
+    }
+    Some(bytes)
+}
+
+fn command(words: &[&[u8]]) -> Option<Command> {
+    Some(match words {
+        [b"get", key] => Command::Get(token(key)?),
+        [b"del", key] => Command::Del(token(key)?),
+        [b"put", key, value] => Command::Put(token(key)?, token(value)?),
+        [b"add", key, value] => Command::Add(token(key)?, token(value)?),
+        _ => return None,
+    })
+}
+
+fn parse(text: &[u8]) -> Option<Vec<Vec<Command>>> {
+    let mut batches = vec![Vec::new()];
+    let mut words = Vec::new();
+    for line in text.split(|&byte| byte == b'\n') {
+        words.clear();
+        words.extend(line.split(|&byte| byte == b' ').filter(|word| !word.is_empty()));
+        match words.as_slice() {
+            [] => {}
+            [b"go"] => batches.push(Vec::new()),
+            words => batches.last_mut()?.push(command(words)?),
+        }
+    }
+    Some(batches)
+}
+
+// The replies to the commands, each at its command's place. They are run in the order of their keys, those of one key in
+// the order of their places.
+fn run_batch(map: &mut Map, commands: &[Command]) -> Vec<Reply> {
+    let mut keyed: Vec<_> = commands.iter().map(Command::key).zip(0..).collect();
+    keyed.sort_unstable();
+    let mut replies = vec![Reply::Word(""); commands.len()];
+    for (_, place) in keyed {
+        replies[place] = commands[place].run(map);
+    }
+    replies
+}
+
+fn show(reply: &Reply, lines: &mut Vec<u8>) {
+    match reply {
+        Reply::Word(word) => lines.extend_from_slice(word.as_bytes()),
+        Reply::Value(value) => {
+            lines.extend_from_slice(b"value ");
+            if value.is_empty() {
+                lines.push(b'%');
+            }
+            for &byte in value {
+                if byte.is_ascii_graphic() && byte != b'%' {
+                    lines.push(byte);
+                } else {
+                    lines.extend_from_slice(format!("%{byte:02X}").as_bytes());
+                }
+            }
+        }
+    }
+    lines.push(b'\n');
+}
+
+fn main() -> io::Result<()> {
+    let mut text = Vec::new();
+    io::stdin().read_to_end(&mut text)?;
+    let batches = parse(&text).ok_or(io::ErrorKind::InvalidData)?;
+    let mut map = Map::new();
+    let mut lines = Vec::new();
+    let mut out = io::stdout();
+    for batch in &batches {
+        lines.clear();
+        for reply in run_batch(&mut map, batch) {
+            show(&reply, &mut lines);
+        }
+        out.write_all(&lines)?;
+    }
+    out.flush()
+}

@@ -1,0 +1,76 @@
+"""Draws what was measured as a page of SVG: speeds as bars, and the load batch by batch as lines."""
+
+from html import escape
+
+WIDTH, HEIGHT = 920, 640
+LEFT = 210  # where the bars and the lines begin
+RIGHT = WIDTH - 40
+COLOURS = {"BTreeMap": "#888888", "fan 32, chain 16": "#1b6ca8", "defaults": "#d1712a"}
+
+
+def text(x, y, words, anchor="start", size=13):
+    return f'<text x="{x:.1f}" y="{y:.1f}" text-anchor="{anchor}" font-size="{size}">{escape(words)}</text>'
+
+
+def line(x1, y1, x2, y2, colour="#cccccc"):
+    return f'<line x1="{x1:.1f}" y1="{y1:.1f}" x2="{x2:.1f}" y2="{y2:.1f}" stroke="{colour}"/>'
+
+
+def legend(y):
+    parts, x = [], LEFT
+    for name, colour in COLOURS.items():
+        parts.append(f'<rect x="{x}" y="{y - 10}" width="12" height="12" fill="{colour}"/>')
+        parts.append(text(x + 18, y, name))
+        x += 170
+    return parts
+
+
+def bars(speeds, top, height):
+    """For each phase the speeds of the program, under both settings, where the peer is 1."""
+    most = max(1.0, *(speed for row in speeds.values() for speed in row))
+    scale = (RIGHT - LEFT) / most
+    parts = [text(LEFT, top - 8, "speed, where the BTreeMap is 1")]
+    for mark in (0.5, 1.0):
+        parts.append(line(LEFT + mark * scale, top, LEFT + mark * scale, top + height))
+        parts.append(text(LEFT + mark * scale, top + height + 14, str(mark), "middle", 11))
+    step = height / len(speeds)
+    colours = [colour for name, colour in COLOURS.items() if name != "BTreeMap"]
+    for row, (name, values) in enumerate(speeds.items()):
+        y = top + row * step
+        parts.append(text(LEFT - 10, y + step / 2 + 4, name, "end", 12))
+        for at, (speed, colour) in enumerate(zip(values, colours)):
+            thick = step * 0.38
+            at_y = y + step * 0.1 + at * thick
+            parts.append(
+                f'<rect x="{LEFT}" y="{at_y:.1f}" width="{speed * scale:.1f}" height="{thick:.1f}" fill="{colour}"/>'
+            )
+    return parts
+
+
+def lines(curves, top, height):
+    """For each program the time of a put by the pairs in the store."""
+    points = [point for curve in curves.values() for point in curve]
+    most_x = max(x for x, _ in points)
+    most_y = max(y for _, y in points) * 1.05
+    parts = [text(LEFT, top - 8, "load: nanoseconds a put, batch by batch, by the pairs that are there after it")]
+    for part in range(5):
+        y = top + height - part / 4 * height
+        parts += [line(LEFT, y, RIGHT, y), text(LEFT - 10, y + 4, f"{most_y * part / 4:,.0f}", "end", 11)]
+        x = LEFT + part / 4 * (RIGHT - LEFT)
+        parts.append(text(x, top + height + 14, f"{most_x * part / 4:,.0f}", "middle", 11))
+    for name, curve in curves.items():
+        places = (
+            f"{LEFT + x / most_x * (RIGHT - LEFT):.1f},{top + height - y / most_y * height:.1f}" for x, y in curve
+        )
+        parts.append(f'<polyline fill="none" stroke="{COLOURS[name]}" stroke-width="2" points="{" ".join(places)}"/>')
+    return parts
+
+
+def page(speeds, curves):
+    """The page. There are no bars where the peer is missing."""
+    parts = legend(24)
+    if speeds:
+        parts += bars(speeds, 60, 300)
+    parts += lines(curves, 430, 180)
+    head = f'<svg xmlns="http://www.w3.org/2000/svg" width="{WIDTH}" height="{HEIGHT}" font-family="sans-serif">'
+    return "\n".join([head, '<rect width="100%" height="100%" fill="white"/>', *parts, "</svg>"]) + "\n"

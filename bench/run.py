@@ -1,0 +1,334 @@
+#!/usr/bin/env python3
+"""Measures the built program beside std's BTreeMap; README.md says what is measured, and how."""
+
+import argparse
+import hashlib
+import itertools
+import os
+import random
+import shutil
+import subprocess
+import sys
+import tempfile
+import time
+from dataclasses import dataclass
+from pathlib import Path
+from typing import Callable, Iterable
+
+import plot
+
+HERE = Path(__file__).resolve().parent
+PROGRAM = HERE.parent / "crates" / "bwsh" / "out" / "bwsh"
+LONG = 65_535  # the most commands that a batch may have
+RAW = 16 + 100  # bytes of a pair
+PEER = "BTreeMap"
+
+
+@dataclass(frozen=True)
+class Phase:
+    """Commands that are timed as one, in batches of one length."""
+
+    name: str
+    count: int
+    batch: int
+    commands: Callable[[], Iterable[str]]
+
+    def batches(self):
+        """How many commands each batch has."""
+        full, rest = divmod(self.count, self.batch)
+        return [self.batch] * full + [rest] * (rest > 0)
+
+    def write(self, file):
+        commands = iter(self.commands())
+        for length in self.batches():
+            file.write("\n".join(itertools.islice(commands, length)) + "\ngo\n")
+
+
+@dataclass
+class Sample:
+    """What one phase took in one run."""
+
+    cpu: float  # seconds, user and system
+    wall: float
+    digest: str  # of the lines that were printed
+    resident: int  # bytes, at the phase's end
+    batches: list  # the processor seconds of each batch, where the batches are long
+
+
+class Work:
+    """The keys and the values, in the orders in which the phases use them."""
+
+    def __init__(self, pairs):
+        self.random = random.Random(1)
+        self.keys = [self.random.randbytes(8).hex() for _ in range(pairs)]
+        self.shuffled = self.random.sample(self.keys, pairs)
+        self.letters = "".join(self.random.choices("abcdefghijklmnopqrstuvwxyz0123456789", k=100_000))
+
+    def value(self, at):
+        start = at * 7_919 % 99_900
+        return self.letters[start : start + 100]
+
+    def puts(self, keys, salt=0):
+        return (f"put {key} {self.value(at + salt)}" for at, key in enumerate(keys))
+
+    def half(self, keys, salt):
+        for at, key in enumerate(keys):
+            yield f"put {key} {self.value(at + salt)}" if at % 2 else f"get {key}"
+
+    def zipf(self):
+        """The keys by Zipf's law: the key of rank r in proportion to 1/r."""
+        weights = itertools.accumulate(1 / rank for rank in range(1, len(self.keys) + 1))
+        return self.random.choices(self.keys, cum_weights=list(weights), k=len(self.keys))
+
+
+def gets(keys):
+    return (f"get {key}" for key in keys)
+
+
+def dels(keys):
+    return (f"del {key}" for key in keys)
+
+
+def sessions(work):
+    """The sessions, each the phases of one batch file. The time of a phase that stands in several is the least."""
+    pairs = len(work.keys)
+    few = work.shuffled[: pairs // 5]
+    load = Phase("load", pairs, LONG, lambda: work.puts(work.keys))
+    return [
+        [
+            load,
+            Phase("gets", pairs, LONG, lambda: gets(work.shuffled)),
+            Phase("gets by Zipf", pairs, LONG, lambda: gets(work.zipf())),
+            Phase("half gets, half puts", pairs, LONG, lambda: work.half(work.shuffled, 1)),
+            Phase("deletes of all keys", pairs, LONG, lambda: dels(work.shuffled)),
+        ],
+        [Phase("load in key order", pairs, LONG, lambda: work.puts(sorted(work.keys)))],
+        [
+            load,
+            Phase("gets, one a batch", len(few), 1, lambda: gets(few)),
+            Phase("puts, one a batch", len(few), 1, lambda: work.puts(few, 2)),
+        ],
+        [
+            Phase("load, 256 a batch", pairs, 256, lambda: work.puts(work.keys)),
+            Phase("gets, 256 a batch", pairs, 256, lambda: gets(work.shuffled)),
+            Phase("half and half, 256 a batch", pairs, 256, lambda: work.half(work.shuffled, 3)),
+        ],
+    ]
+
+
+def write_session(path, phases):
+    """Writes the batch file. A first batch of one command tells by its reply that the text has been read."""
+    with open(path, "w") as file:
+        file.write("get 0\ngo\n")
+        for phase in phases:
+            phase.write(file)
+
+
+class Running:
+    """A program that runs a batch file: its replies as they come, and what it has taken until then."""
+
+    def __init__(self, command, text):
+        self.command = command
+        with open(text, "rb") as file:
+            self.child = subprocess.Popen(command, stdin=file, stdout=subprocess.PIPE, bufsize=0)
+        self.behind = b""  # what was read and belongs to later lines
+
+    def take(self, lines, digest):
+        """Reads so many lines."""
+        while lines:
+            chunk = self.behind or self.child.stdout.read(1 << 16)
+            if not chunk:
+                sys.exit(f"{self.command}: ended with status {self.child.wait()} before it had answered all")
+            *_, self.behind = chunk.split(b"\n", lines) if chunk.count(b"\n") >= lines else (b"",)
+            read = chunk[: len(chunk) - len(self.behind)]
+            lines -= read.count(b"\n")
+            digest.update(read)
+
+    def cpu(self):
+        """Processor seconds of all its threads: Linux has a clock for each process."""
+        return time.clock_gettime((~self.child.pid << 3) | 2)
+
+    def resident(self):
+        """Bytes of memory that it has in use."""
+        pages = Path(f"/proc/{self.child.pid}/statm").read_text().split()[1]
+        return int(pages) * os.sysconf("SC_PAGE_SIZE")
+
+    def phase(self, batches):
+        """Times the phase of these batches, each by itself where they are long."""
+        parts = batches if batches[0] == LONG else [sum(batches)]
+        digest = hashlib.blake2b()
+        wall, marks = time.monotonic(), [self.cpu()]
+        for lines in parts:
+            self.take(lines, digest)
+            marks.append(self.cpu())
+        each = [end - start for start, end in itertools.pairwise(marks)]
+        wall = time.monotonic() - wall
+        return Sample(sum(each), wall, digest.hexdigest(), self.resident(), each)
+
+    def end(self):
+        self.child.stdout.close()
+        self.child.wait()
+
+
+def run_session(command, text, phases):
+    """The samples of the phases, and the memory before them: that of the text and its commands."""
+    running = Running(command, text)
+    before = running.phase([1]).resident
+    samples = [running.phase(phase.batches()) for phase in phases]
+    running.end()
+    return before, samples
+
+
+class Results:
+    """The best samples by phase and program, and the memory that the load took."""
+
+    def __init__(self):
+        self.best = {}
+        self.load_bytes = {}
+
+    def add(self, program, phases, before, samples):
+        for phase, sample in zip(phases, samples):
+            self.compare(program, phase, sample)
+            known = self.best.setdefault((phase, program), sample)
+            if sample.cpu < known.cpu:
+                self.best[phase, program] = sample
+            known = self.best[phase, program]
+            known.batches = [min(pair) for pair in zip(known.batches, sample.batches)]
+        if phases[0].name == "load":
+            taken = (samples[0].resident - before) / phases[0].count
+            self.load_bytes[program] = min(taken, self.load_bytes.get(program, taken))
+
+    def compare(self, program, phase, sample):
+        """All programs must print the same lines."""
+        for (other_phase, other), known in self.best.items():
+            if other_phase == phase and known.digest != sample.digest:
+                sys.exit(f"{phase.name}: {program} and {other} print different lines")
+
+    def speed(self, phase, program):
+        """How fast the program is, where the peer is 1; none where the peer is missing."""
+        if (phase, PEER) not in self.best:
+            return None
+        return self.best[phase, PEER].cpu / self.best[phase, program].cpu
+
+
+def build_peer(folder):
+    """The command that runs the peer, or none where the machine has no plain Rust."""
+    if shutil.which("rustc") is None:
+        print("There is no rustc on this machine: the program is measured alone.")
+        return None
+    peer = folder / "peer"
+    subprocess.run(["rustc", "--edition", "2021", "-O", "-o", peer, HERE / "peer.rs"], check=True)
+    return [peer]
+
+
+def programs(peer, program):
+    """What is run, by name."""
+    all_programs = {PEER: peer} if peer else {}
+    all_programs["fan 32, chain 16"] = [program, "--fan", "32", "--chain", "16"]
+    all_programs["defaults"] = [program]
+    return all_programs
+
+
+def measure(work, commands, repeats, folder):
+    results = Results()
+    text = folder / "session"
+    for phases in sessions(work):
+        write_session(text, phases)
+        for _ in range(repeats):
+            for name, command in commands.items():
+                print(f"  {phases[-1].name}: {name}", file=sys.stderr)
+                results.add(name, phases, *run_session(command, text, phases))
+    return results
+
+
+def cell(results, phase, program):
+    """Seconds, nanoseconds a command, and the speed."""
+    sample = results.best[phase, program]
+    speed = results.speed(phase, program)
+    shown = "" if program == PEER or speed is None else f" | {speed:.2f}"
+    return f"{sample.cpu:.2f} | {sample.cpu / phase.count * 1e9:,.0f}{shown}"
+
+
+def print_speeds(results, names):
+    heads = [f"{name}, s | ns a command" + (" | speed" if name != PEER and PEER in names else "") for name in names]
+    columns = sum(head.count("|") + 1 for head in heads)
+    print(f"\n| | commands | {' | '.join(heads)} |\n|---|---|{'---|' * columns}")
+    for phase in dict.fromkeys(phase for phase, _ in results.best):
+        cells = " | ".join(cell(results, phase, name) for name in names)
+        print(f"| {phase.name} | {phase.count:,} | {cells} |")
+
+
+def print_memory(results, names):
+    print("\n| memory | bytes a pair | times the raw pair |\n|---|---|---|")
+    for name in names:
+        taken = results.load_bytes[name]
+        print(f"| {name} | {taken:,.0f} | {taken / RAW:.2f} |")
+
+
+def print_growth(results, names):
+    """Nanoseconds a command in the second, the middle and the last full batch of each phase in long batches."""
+    print(f"\n| batch by batch, ns a command | {' | '.join(names)} |\n|---|{'---|' * len(names)}")
+    for phase in dict.fromkeys(phase for phase, _ in results.best):
+        full = phase.count // LONG
+        if phase.batch != LONG or full < 3:
+            continue
+        cells = []
+        for name in names:
+            each = [seconds / LONG * 1e9 for seconds in results.best[phase, name].batches[:full]]
+            cells.append(f"{each[1]:,.0f}, {each[full // 2]:,.0f}, {each[-1]:,.0f}")
+        print(f"| {phase.name} | {' | '.join(cells)} |")
+
+
+def growth(results, names):
+    """Of each program the load, batch by batch: how many pairs there are after it, and nanoseconds a command."""
+    load = next(phase for phase, _ in results.best if phase.name == "load")
+    lengths = load.batches()
+    ends = list(itertools.accumulate(lengths))
+    lines = {}
+    for name in names:
+        each = results.best[load, name].batches
+        points = zip(ends, (seconds / length * 1e9 for seconds, length in zip(each, lengths)))
+        lines[name] = list(points)
+    return lines
+
+
+def draw(results, names, path):
+    bars = {}
+    if PEER in names:
+        for phase in dict.fromkeys(phase for phase, _ in results.best):
+            bars[phase.name] = [results.speed(phase, name) for name in names if name != PEER]
+    path.write_text(plot.page(bars, growth(results, names)))
+
+
+def arguments():
+    parser = argparse.ArgumentParser(description=__doc__)
+    parser.add_argument("--quick", action="store_true", help="a fifth of the pairs, each session once: about a minute")
+    parser.add_argument("--pairs", type=int, default=1_000_000)
+    parser.add_argument("--repeats", type=int, default=2, help="how often each session is run; the least time counts")
+    parser.add_argument("--program", type=Path, default=PROGRAM)
+    parser.add_argument("--plot", type=Path, help="where the plot is drawn: speed.svg, but with --quick nowhere")
+    chosen = parser.parse_args()
+    if chosen.quick:
+        chosen.pairs, chosen.repeats = chosen.pairs // 5, 1
+    elif chosen.plot is None:
+        chosen.plot = HERE / "speed.svg"
+    return chosen
+
+
+def main():
+    chosen = arguments()
+    if not chosen.program.exists():
+        sys.exit(f"{chosen.program} is missing: `rt run` in crates/bwsh builds it")
+    with tempfile.TemporaryDirectory() as name:
+        folder = Path(name)
+        commands = programs(build_peer(folder), chosen.program)
+        results = measure(Work(chosen.pairs), commands, chosen.repeats, folder)
+    print_speeds(results, list(commands))
+    print_memory(results, list(commands))
+    print_growth(results, list(commands))
+    if chosen.plot:
+        draw(results, list(commands), chosen.plot)
+
+
+if __name__ == "__main__":
+    main()

@@ -1,0 +1,311 @@
+-- Lemmas on how a session ends.
+use Rattle.std.proofs.Common.{true, false, ◌≡◌, ◌≢◌, ◌⊎◌, inl, inr, ℕ, List, [], ◌∷◌, map, Option, Some, None, IfSome, Result, Ok, Err, refl, sym, ap, ◌∙◌, subst, arith}
+use Rattle.std.specs.Prelude.{MatchOption, IsOkUnless}
+use Rattle.std.specs.Option.{option_map}
+use Rattle.std.specs.Io.KnownBytes.{Appends, Keeps}
+use Rattle.std.proofs.KnownBytes.{Appends-nil}
+use Rattle.keys.specs.Lists.{flat}
+use Rattle.keys.specs.Limits.{first_bad_field}
+use Rattle.keys.specs.Step.{replies_to, map_after_all}
+use Rattle.keys.specs.declared.command.Command.{Command}
+use Rattle.std.specs.declared.alloc.Global.{Global}
+use Rattle.keys.specs.declared.fault.Fault.{Fault}
+use Rattle.keys.specs.declared.fault.Fault.TheVariants.{BadSettings, NoMemory}
+use Rattle.keys.specs.declared.settings.Settings.{Settings}
+use Rattle.keys.specs.declared.settings.Field.{Field}
+use Rattle.mapping.specs.Tree.{Tree, first_tree}
+use Rattle.mapping.specs.Levels.{contents}
+use Rattle.bwsh.specs.declared.line.Why.{Why}
+use Rattle.bwsh.specs.declared.batch_file.Order.{Order}
+use Rattle.bwsh.specs.declared.batch_file.Order.TheVariants.{Batch}
+use Rattle.bwsh.specs.declared.session.Ending.{Ending}
+use Rattle.bwsh.specs.declared.session.Ending.TheVariants.{Words, Bad, Device}
+use Rattle.bwsh.specs.declared.session.Ending.TheVariants as endings
+use Rattle.bwsh.specs.BatchFile.{said_by, first_bad, orders_of}
+use Rattle.bwsh.specs.Session.{status_of_end, refusal_of, tree_behind, answer_lines, printed, accepted, orders_end, first_refusal, stopped_by, hindered_by, hindrance, end_after, lines_after, session_end, session_lines, IsReadEnding, IsForWords, BeginsWith, Prints, PrintsOneText, Runs, Answers, EndsBy}
+use Rattle.bwsh.specs.Options.{AsksForHelp, AreRefused, is_refusal, IsRightKind}
+use Rattle.clap.specs.declared.error.kind.ErrorKind.{ErrorKind}
+use Rattle.clap.specs.declared.error.kind.ErrorKind.TheVariants.{DisplayHelp, OutOfMemory}
+use Rattle.bwsh.specs.Shown.{shown_reply}
+use Rattle.bwsh.proofs.Prints.{front-more, front-trans, front-flat, Prints-front, Prints-flushed, IfSome-known, IfSome-any}
+use Rattle.clap.specs.declared.error.Error.{Error}
+
+-- ---- a session that ends before any order is run
+
+-- a failed read is no bad line
+pub IsReadEnding-of_fault : (bad : Option (ℕ × Why)) (early : Ending) → (early ≡ endings.Fault NoMemory) ⊎ (early ≡ Device) → IsReadEnding bad early
+IsReadEnding-of_fault bad early (inl e) = rw e refl
+IsReadEnding-of_fault bad early (inr e) = rw e tt
+
+-- with the reason that hinders it, or for want of memory, or by a device
+abbrev IsEarly : Option Ending → Ending → Type 0
+IsEarly hindered early = (hindered ≡ Some early) ⊎ (early ≡ endings.Fault NoMemory) ⊎ (early ≡ Device)
+
+early_read : (bad : Option (ℕ × Why)) (field : Option Field) (early : Ending) → IsReadEnding bad early → IsEarly (hindered_by bad field) early
+early_read bad field (Words error) h = absurd h
+early_read bad field (Bad line why) h = inl (ap (λ (b : Option (ℕ × Why)). hindered_by b field) h)
+early_read bad field (endings.Fault fault) h = inr (inl (ap (λ (f : Fault). endings.Fault f) h))
+early_read bad field Device h = inr (inr refl)
+
+early_created : {T : Type 0} (field : Option Field) (fault : Fault) (result : Result T Fault) → result ≡ Err fault
+    → MatchOption field (IsOkUnless result NoMemory) (λ f. result ≡ Err (BadSettings f)) → IsEarly (hindered_by None field) (endings.Fault fault)
+early_created {T} None fault result e p =
+    inr (inl (ap (λ (f : Fault). endings.Fault f) (subst (λ (x : Result T Fault). IsOkUnless x NoMemory) e p)))
+early_created (Some f) fault result e p =
+    let same : BadSettings f ≡ fault = cc in
+    inl (ap (λ (x : Fault). Some (endings.Fault x)) same)
+
+right_settings : {T : Type 0} (field : Option Field) (x : T) (result : Result T Fault) → result ≡ Ok x
+    → MatchOption field (IsOkUnless result NoMemory) (λ f. result ≡ Err (BadSettings f)) → field ≡ None
+right_settings None x result e p = refl
+right_settings (Some f) x result e p = absurd (cc)
+
+module _ (settings : Settings) (old new : Option (List ℕ)) (orders : List Order) where
+  Prints-early_end : (hindered : Option Ending) (early : Ending) → IsEarly hindered early → Prints old old (lines_after settings hindered orders) (end_after settings hindered orders) (Err early)
+  Prints-early_end hindered early (inl e) =
+      subst (λ (h : Option Ending). Prints old old (lines_after settings h orders) (end_after settings h orders) (Err early)) (sym e) (inl (refl, Appends-nil old))
+  Prints-early_end hindered early (inr (inl e)) =
+      inr (inl (ap (λ (x : Ending). Err x) e, ([], (lines_after settings hindered orders, refl), Appends-nil old)))
+  Prints-early_end hindered early (inr (inr e)) =
+      inr (inr (ap (λ (x : Ending). Err x) e, ([], (flat (lines_after settings hindered orders), refl), Appends-nil old)))
+
+  -- nothing hinders it: the orders are run on the first tree
+  Prints-run : (bad : Option (ℕ × Why)) (field : Option Field) (end : Result (Unit {0}) Ending) → bad ≡ None → field ≡ None → Prints old new (answer_lines [] (accepted settings first_tree orders)) (orders_end settings first_tree orders) end
+      → Prints old new (lines_after settings (hindered_by bad field) orders) (end_after settings (hindered_by bad field) orders) end
+  Prints-run bad field end no_bad no_field p = rw (no_bad, no_field) p
+
+  Runs-first : (of_store : Settings) (tree : Tree) (ran : List Order) (end : Result (Unit {0}) Ending) → of_store ≡ settings → tree ≡ first_tree → contents tree ≡ [] → ran ≡ orders → Runs of_store tree ran old new end
+      → Prints old new (answer_lines [] (accepted settings first_tree orders)) (orders_end settings first_tree orders) end
+  unfolding Runs
+  Runs-first of_store tree ran end e_settings e_tree e_contents e_ran p =
+      let p1 = subst (λ (s : Settings). Prints old new (answer_lines (contents tree) (accepted s tree ran)) (orders_end s tree ran) end) e_settings p in
+      let p2 = subst (λ (m : List (List ℕ × List ℕ)). Prints old new (answer_lines m (accepted settings tree ran)) (orders_end settings tree ran) end) e_contents p1 in
+      let p3 = subst (λ (t : Tree). Prints old new (answer_lines [] (accepted settings t ran)) (orders_end settings t ran) end) e_tree p2 in
+      subst (λ (os : List Order). Prints old new (answer_lines [] (accepted settings first_tree os)) (orders_end settings first_tree os) end) e_ran p3
+
+module _ (settings : Settings) (known old : Option (List ℕ)) (text : List ℕ) (is_known : IfSome known (λ bytes. text ≡ bytes)) where
+  pub Answers-unread : (early : Ending) → IsReadEnding (first_bad 1 (said_by text)) early → Answers settings known old old (Err early)
+  unfolding Answers
+  Answers-unread early h =
+      (text, is_known, Prints-early_end settings old old (orders_of [] (said_by text)) (hindrance settings text) early (early_read (first_bad 1 (said_by text)) (first_bad_field settings) early h))
+
+  module _ (no_bad : first_bad 1 (said_by text) ≡ None) {T : Type 0} (result : Result T Fault)
+      (created : MatchOption (first_bad_field settings) (IsOkUnless result NoMemory) (λ f. result ≡ Err (BadSettings f))) where
+    pub Answers-uncreated : (fault : Fault) → result ≡ Err fault → Answers settings known old old (Err (endings.Fault fault))
+    unfolding Answers
+    Answers-uncreated fault e =
+        let early = subst (λ (b : Option (ℕ × Why)). IsEarly (hindered_by b (first_bad_field settings)) (endings.Fault fault)) (sym no_bad) (early_created (first_bad_field settings) fault result e created) in
+        (text, is_known, Prints-early_end settings old old (orders_of [] (said_by text)) (hindrance settings text) (endings.Fault fault) early)
+
+    pub Answers-run : (store : T) (mid new : Option (List ℕ)) (of_store : Settings) (tree : Tree) (ran items : List Order) (done end : Result (Unit {0}) Ending) → result ≡ Ok store
+        → of_store ≡ settings → tree ≡ first_tree → contents tree ≡ [] → ran ≡ items → items ≡ orders_of [] (said_by text) → Runs of_store tree ran old mid done
+        → Keeps mid new → (end ≡ done) ⊎ (end ≡ Err Device) → Answers settings known old new end
+    unfolding Answers
+    Answers-run store mid new of_store tree ran items done end e e_settings e_tree e_contents e_ran e_items p kept ended =
+        let orders = orders_of [] (said_by text) in
+        let own = Runs-first settings old mid orders of_store tree ran done e_settings e_tree e_contents (e_ran ∙ e_items) p in
+        let printed = Prints-run settings old mid orders (first_bad 1 (said_by text)) (first_bad_field settings) done no_bad (right_settings (first_bad_field settings) store result e created) own in
+        (text, is_known, Prints-flushed old mid new (session_lines settings text) (session_end settings text) done end printed kept ended)
+
+-- ---- what follows from the end
+
+module _ (settings : Settings) where
+  -- the orders are all accepted where none stops them
+  all_by : (tree : Tree) (order : Order) (rest : List Order) (r : Option Fault) → refusal_of settings tree order ≡ r → (done : Unit {0})
+      → Ok done ≡ orders_end settings tree (order ∷ rest)
+      → (Ok done ≡ orders_end settings (tree_behind settings tree order) rest → accepted settings (tree_behind settings tree order) rest ≡ rest)
+      → accepted settings tree (order ∷ rest) ≡ order ∷ rest
+  all_by tree order rest None h done e further = rw h (ap (λ (l : List Order). order ∷ l) (further (rw h at e)))
+  all_by tree order rest (Some fault) h done e further =
+      let no : Ok done ≡ Err (endings.Fault fault) = rw h at e in
+      absurd (cc)
+
+  accepted-all : (tree : Tree) (orders : List Order) (done : Unit {0}) → Ok done ≡ orders_end settings tree orders → accepted settings tree orders ≡ orders
+  accepted-all tree [] done e = refl
+  accepted-all tree (order ∷ rest) done e = all_by tree order rest (refusal_of settings tree order) refl done e (accepted-all (tree_behind settings tree order) rest done)
+
+  -- what is accepted is answered first
+  front_by : (m : List (List ℕ × List ℕ)) (tree : Tree) (commands : List (Command Global)) (rest : List Order) (r : Option Fault) → refusal_of settings tree (Batch commands) ≡ r
+      → BeginsWith (answer_lines (map_after_all m commands) rest) (answer_lines (map_after_all m commands) (accepted settings (tree_behind settings tree (Batch commands)) rest))
+      → BeginsWith (answer_lines m (Batch commands ∷ rest)) (answer_lines m (accepted settings tree (Batch commands ∷ rest)))
+  front_by m tree commands rest None h begins =
+      rw h (front-more (map shown_reply (replies_to m commands)) (answer_lines (map_after_all m commands) rest)
+      (answer_lines (map_after_all m commands) (accepted settings (tree_behind settings tree (Batch commands)) rest)) begins)
+  front_by m tree commands rest (Some fault) h begins = rw h (answer_lines m (Batch commands ∷ rest), refl)
+
+  accepted-front : (m : List (List ℕ × List ℕ)) (tree : Tree) (orders : List Order) → BeginsWith (answer_lines m orders) (answer_lines m (accepted settings tree orders))
+  accepted-front m tree [] = ([], refl)
+  accepted-front m tree (Batch commands ∷ rest) =
+      front_by m tree commands rest (refusal_of settings tree (Batch commands)) refl (accepted-front (map_after_all m commands) (tree_behind settings tree (Batch commands)) rest)
+
+  module _ (orders : List Order) where
+    done_right : (bad : Option (ℕ × Why)) (field : Option Field) (done : Unit {0}) → Ok done ≡ end_after settings (hindered_by bad field) orders
+        → (bad ≡ None) × (lines_after settings (hindered_by bad field) orders ≡ answer_lines [] orders)
+    done_right None None done e = (refl, ap (answer_lines []) (accepted-all first_tree orders done e))
+    done_right None (Some f) done e = absurd (cc)
+    done_right (Some b) field done e = absurd (cc)
+
+    -- the right end is a bad line only where there is one, and is never for the words
+    bad_stop : (r : Option Fault) (line : ℕ) (why : Why) → Err (Bad line why) ≡ stopped_by (option_map (λ fault. endings.Fault fault) r) → ⊥
+    bad_stop None line why e = cc
+    bad_stop (Some fault) line why e = cc
+
+    words_stop : (r : Option Fault) (error : Error) → Err (Words error) ≡ stopped_by (option_map (λ fault. endings.Fault fault) r) → ⊥
+    words_stop None error e = cc
+    words_stop (Some fault) error e = cc
+
+    bad_right : (bad : Option (ℕ × Why)) (field : Option Field) (line : ℕ) (why : Why) → Err (Bad line why) ≡ end_after settings (hindered_by bad field) orders
+        → (bad ≢ None) × (lines_after settings (hindered_by bad field) orders ≡ [])
+    bad_right None None line why e = absurd (bad_stop (first_refusal settings first_tree orders) line why e)
+    bad_right None (Some f) line why e = absurd (cc)
+    bad_right (Some b) field line why e = (λ no. cc, refl)
+
+    words_right : (bad : Option (ℕ × Why)) (field : Option Field) (error : Error) → Err (Words error) ≡ end_after settings (hindered_by bad field) orders → ⊥
+    words_right None None error e = words_stop (first_refusal settings first_tree orders) error e
+    words_right None (Some f) error e = cc
+    words_right (Some b) field error e = cc
+
+    front_right : (hindered : Option Ending) → BeginsWith (answer_lines [] orders) (lines_after settings hindered orders)
+    front_right None = accepted-front [] first_tree orders
+    front_right (Some early) = (answer_lines [] orders, refl)
+
+-- ---- what follows of a session whose words tell settings
+
+module _ (settings : Settings) (known old new : Option (List ℕ)) where
+  told_done : (done : Unit {0}) → Answers settings known old new (Ok done) → IfSome known (λ text. (first_bad 1 (said_by text) ≡ None) × Appends old new (printed [] (orders_of [] (said_by text))))
+  unfolding Answers
+  told_done done (text, is_known, p) =
+      IfSome-known known text (λ (t : List ℕ). (first_bad 1 (said_by t) ≡ None) × Appends old new (printed [] (orders_of [] (said_by t)))) is_known (by p) where
+        by : Prints old new (session_lines settings text) (session_end settings text) (Ok done) → (first_bad 1 (said_by text) ≡ None) × Appends old new (printed [] (orders_of [] (said_by text)))
+        by (inl (e, a)) =
+            let (none, lines) = done_right settings (orders_of [] (said_by text)) (first_bad 1 (said_by text)) (first_bad_field settings) done e in
+            (none, subst (λ (l : List (List ℕ)). Appends old new (flat l)) lines a)
+        by (inr (inl (e, q))) = absurd (cc)
+        by (inr (inr (e, q))) = absurd (cc)
+
+  told_bad : (line : ℕ) (why : Why) → Answers settings known old new (Err (Bad line why)) → Appends old new [] × IfSome known (λ text. first_bad 1 (said_by text) ≢ None)
+  unfolding Answers
+  told_bad line why (text, is_known, p) = by p where
+    by : Prints old new (session_lines settings text) (session_end settings text) (Err (Bad line why)) → Appends old new [] × IfSome known (λ t. first_bad 1 (said_by t) ≢ None)
+    by (inl (e, a)) =
+        let (some, lines) = bad_right settings (orders_of [] (said_by text)) (first_bad 1 (said_by text)) (first_bad_field settings) line why e in
+        (subst (λ (l : List (List ℕ)). Appends old new (flat l)) lines a, IfSome-known known text (λ (t : List ℕ). first_bad 1 (said_by t) ≢ None) is_known some)
+    by (inr (inl (e, q))) = absurd (cc)
+    by (inr (inr (e, q))) = absurd (cc)
+
+  told_words : (error : Error) → Answers settings known old new (Err (Words error)) → ⊥
+  unfolding Answers
+  told_words error (text, is_known, inl (e, a)) = words_right settings (orders_of [] (said_by text)) (first_bad 1 (said_by text)) (first_bad_field settings) error e
+  told_words error (text, is_known, inr (inl (e, q))) = cc
+  told_words error (text, is_known, inr (inr (e, q))) = cc
+
+  told_front : (end : Result (Unit {0}) Ending) → Answers settings known old new end
+      → IfSome known (λ text. (front : List ℕ) × BeginsWith (printed [] (orders_of [] (said_by text))) front × Appends old new front)
+  unfolding Answers
+  told_front end (text, is_known, p) =
+      let orders = orders_of [] (said_by text) in
+      let (front, begins, a) = Prints-front old new (session_lines settings text) (session_end settings text) end p in
+      let whole = front-trans (printed [] orders) (flat (session_lines settings text)) front (front-flat (answer_lines [] orders) (session_lines settings text) (front_right settings orders (hindrance settings text))) begins in
+      IfSome-known known text (λ (t : List ℕ). (f : List ℕ) × BeginsWith (printed [] (orders_of [] (said_by t))) f × Appends old new f) is_known (front, whole, a)
+
+-- ---- what follows of any session
+
+pub status-one : (end : Result (Unit {0}) Ending) (status : ℕ) → status ≡ status_of_end end → (status ≡ 0) ⊎ (status ≡ 2) ⊎ (status ≡ 3) ⊎ (status ≡ 4)
+status-one (Ok done) status e = inl e
+status-one (Err (Words error)) status e = inr (inl e)
+status-one (Err (Bad line why)) status e = inr (inr (inl e))
+status-one (Err (endings.Fault fault)) status e = inr (inr (inr e))
+status-one (Err Device) status e = inr (inr (inr e))
+
+-- one text that is printed ends with all done, or with a fault
+one_text : (old new : Option (List ℕ)) (early : Ending) → PrintsOneText old new (Err early) → status_of_end (Err early) ≡ 4
+one_text old new early (text, inl (e, a)) = absurd (cc)
+one_text old new early (text, inr (inl (e, q))) = ap status_of_end e
+one_text old new early (text, inr (inr (e, q))) = ap status_of_end e
+
+module _ (words : List (List ℕ)) (known old new : Option (List ℕ)) (unread untouched : Type 0) where
+  -- the words are refused where the status is 2
+  refused_end : (end : Result (Unit {0}) Ending) → status_of_end end ≡ 2 → EndsBy words known old new unread untouched end → AreRefused words × unread × untouched
+  refused_end (Ok done) s p = absurd (omega arith)
+  refused_end (Err (Bad line why)) s p = absurd (omega arith)
+  refused_end (Err (endings.Fault fault)) s p = absurd (omega arith)
+  refused_end (Err Device) s p = absurd (omega arith)
+  refused_end (Err (Words error)) s (inl (settings, tells, answers)) = absurd (told_words settings known old new error answers)
+  refused_end (Err (Words error)) s (inr (inl (not_read, asks, printed_help))) =
+      let four = one_text old new (Words error) printed_help in absurd (omega arith)
+  refused_end (Err (Words error)) s (inr (inr (not_read, not_touched, inl (refused, for_words)))) = (refused, not_read, not_touched)
+  refused_end (Err (Words error)) s (inr (inr (not_read, not_touched, inr e))) = absurd (cc)
+
+  done_end : (end : Result (Unit {0}) Ending) → status_of_end end ≡ 0 → EndsBy words known old new unread untouched end
+      → AsksForHelp words ⊎ IfSome known (λ text. (first_bad 1 (said_by text) ≡ None) × Appends old new (printed [] (orders_of [] (said_by text))))
+  done_end (Err (Words error)) s p = absurd (omega arith)
+  done_end (Err (Bad line why)) s p = absurd (omega arith)
+  done_end (Err (endings.Fault fault)) s p = absurd (omega arith)
+  done_end (Err Device) s p = absurd (omega arith)
+  done_end (Ok done) s (inl (settings, tells, answers)) = inr (told_done settings known old new done answers)
+  done_end (Ok done) s (inr (inl (not_read, asks, printed_help))) = inl asks
+  done_end (Ok done) s (inr (inr (not_read, not_touched, inl (refused, for_words)))) = absurd for_words
+  done_end (Ok done) s (inr (inr (not_read, not_touched, inr e))) = absurd (cc)
+
+  bad_end : (end : Result (Unit {0}) Ending) → status_of_end end ≡ 3 → EndsBy words known old new unread untouched end
+      → Appends old new [] × IfSome known (λ text. first_bad 1 (said_by text) ≢ None)
+  bad_end (Ok done) s p = absurd (omega arith)
+  bad_end (Err (Words error)) s p = absurd (omega arith)
+  bad_end (Err (endings.Fault fault)) s p = absurd (omega arith)
+  bad_end (Err Device) s p = absurd (omega arith)
+  bad_end (Err (Bad line why)) s (inl (settings, tells, answers)) = told_bad settings known old new line why answers
+  bad_end (Err (Bad line why)) s (inr (inl (not_read, asks, printed_help))) =
+      let four = one_text old new (Bad line why) printed_help in absurd (omega arith)
+  bad_end (Err (Bad line why)) s (inr (inr (not_read, not_touched, inl (refused, for_words)))) = absurd for_words
+  bad_end (Err (Bad line why)) s (inr (inr (not_read, not_touched, inr e))) = absurd (cc)
+
+  -- nothing was printed
+  nothing : Appends old new [] → IfSome known (λ text. (front : List ℕ) × BeginsWith (printed [] (orders_of [] (said_by text))) front × Appends old new front)
+  nothing a = IfSome-any known (λ (text : List ℕ). (front : List ℕ) × BeginsWith (printed [] (orders_of [] (said_by text))) front × Appends old new front)
+      (λ text. ([], (printed [] (orders_of [] (said_by text)), refl), a))
+
+  beginning_end : (end : Result (Unit {0}) Ending) → (untouched → Appends old new []) → EndsBy words known old new unread untouched end
+      → AsksForHelp words ⊎ IfSome known (λ text. (front : List ℕ) × BeginsWith (printed [] (orders_of [] (said_by text))) front × Appends old new front)
+  beginning_end end kept (inl (settings, tells, answers)) = inr (told_front settings known old new end answers)
+  beginning_end end kept (inr (inl (not_read, asks, printed_help))) = inl asks
+  beginning_end end kept (inr (inr (not_read, not_touched, q))) = inr (nothing (kept not_touched))
+
+-- what a session's contract says of its status follows from how it ends
+pub record Follows (words : List (List ℕ)) (known old new : Option (List ℕ)) (unread untouched : Type 0) (status : ℕ) : Type 0 where
+  pub status_is : (status ≡ 0) ⊎ (status ≡ 2) ⊎ (status ≡ 3) ⊎ (status ≡ 4)
+  pub refused : status ≡ 2 → AreRefused words × unread × untouched
+  pub done : status ≡ 0 → AsksForHelp words ⊎ IfSome known (λ text. (first_bad 1 (said_by text) ≡ None) × Appends old new (printed [] (orders_of [] (said_by text))))
+  pub bad : status ≡ 3 → Appends old new [] × IfSome known (λ text. first_bad 1 (said_by text) ≢ None)
+  pub beginning : AsksForHelp words ⊎ IfSome known (λ text. (front : List ℕ) × BeginsWith (printed [] (orders_of [] (said_by text))) front × Appends old new front)
+
+pub all_follows : (words : List (List ℕ)) (known old new : Option (List ℕ)) (unread untouched : Type 0) (status : ℕ) (end : Result (Unit {0}) Ending) → status ≡ status_of_end end
+    → (untouched → Appends old new []) → EndsBy words known old new unread untouched end → Follows words known old new unread untouched status
+all_follows words known old new unread untouched status end e kept p = record {
+  status_is = status-one end status e;
+  refused = λ s. refused_end words known old new unread untouched end (sym e ∙ s) p;
+  done = λ s. done_end words known old new unread untouched end (sym e ∙ s) p;
+  bad = λ s. bad_end words known old new unread untouched end (sym e ∙ s) p;
+  beginning = beginning_end words known old new unread untouched end kept p;
+}
+
+-- nothing was written to what is as it was
+pub Appends-same : {X : Type 0} (contents : X → Option (List ℕ)) (old new : X) → new ≡ old → Appends (contents old) (contents new) []
+Appends-same {X} contents old new e = subst (λ (x : X). Appends (contents old) (contents x) []) (sym e) (Appends-nil (contents old))
+
+-- ---- words that tell no settings
+
+-- what refuses words is no help, and no want of memory
+not_help : (kind : ErrorKind) → is_refusal kind ≡ true → kind ≢ DisplayHelp
+not_help kind refuses e = let bad : false ≡ true = subst (λ (k : ErrorKind). is_refusal k ≡ true) e refuses in absurd (cc)
+
+not_memory : (kind : ErrorKind) → is_refusal kind ≡ true → kind ≢ OutOfMemory
+not_memory kind refuses e = let bad : false ≡ true = subst (λ (k : ErrorKind). is_refusal k ≡ true) e refuses in absurd (cc)
+
+module _ (words : List (List ℕ)) (known old new : Option (List ℕ)) (unread untouched : Type 0) (end : Result (Unit {0}) Ending) (kind : ErrorKind) where
+  pub EndsBy-words : IsRightKind words kind → (kind ≡ DisplayHelp → PrintsOneText old new end) → (kind ≡ OutOfMemory → (end ≡ Err (endings.Fault NoMemory)) × untouched)
+      → (kind ≢ DisplayHelp → kind ≢ OutOfMemory → IsForWords end × untouched) → unread → EndsBy words known old new unread untouched end
+  EndsBy-words (inl memory) helps starves refuses not_read =
+      let (e, same) = starves memory in inr (inr (not_read, same, inr e))
+  EndsBy-words (inr (inl (help, asks))) helps starves refuses not_read = inr (inl (not_read, asks, helps help))
+  EndsBy-words (inr (inr (no_help_nor_memory, refused))) helps starves refuses not_read =
+      let (for_words, same) = refuses (not_help kind no_help_nor_memory) (not_memory kind no_help_nor_memory) in inr (inr (not_read, same, inl (refused, for_words)))

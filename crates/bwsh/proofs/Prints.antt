@@ -1,0 +1,178 @@
+-- Lemmas on fronts of lists, and on what was printed.
+use Rattle.std.proofs.Common.{◌≡◌, ◌⊎◌, inl, inr, ℕ, List, [], ◌∷◌, ◌++◌, map, take, drop, Option, Some, None, IfSome, Result, Ok, Err, refl, sym, ap, ◌∙◌, subst, append_assoc, append-nil, take-append-drop}
+use Rattle.std.specs.List.{flat_map}
+use Rattle.std.specs.Io.KnownBytes.{Appends, Keeps}
+use Rattle.std.proofs.KnownBytes.{Appends-trans, Appends-kept, Appends-nil}
+use Rattle.std.proofs.lemmas.Grind.{flat_map-append}
+use Rattle.std.proofs.lemmas.List.{map-append}
+use Rattle.std.proofs.lemmas.List.Folds.{flat_map-map}
+use Rattle.std.specs.Prelude.{unwrap_or, IsOkUnless, OnOk, OnErr}
+use Rattle.keys.specs.Lists.{flat}
+use Rattle.keys.specs.declared.fault.Fault.TheVariants.{NoMemory}
+use Rattle.keys.specs.declared.command.Reply.{Reply}
+use Rattle.std.specs.declared.alloc.Global.{Global}
+use Rattle.bwsh.specs.declared.session.Ending.{Ending}
+use Rattle.bwsh.specs.declared.session.Ending.TheVariants.{Device}
+use Rattle.bwsh.specs.declared.session.Ending.TheVariants as endings
+use Rattle.bwsh.specs.Session.{BeginsWith, Prints, PrintsOneText}
+use Rattle.bwsh.specs.Shown.{shown_reply}
+
+-- ---- fronts of lists
+
+pub flat-append : (xss yss : List (List ℕ)) → flat (xss ++ yss) ≡ flat xss ++ flat yss
+flat-append xss yss = flat_map-append (λ (xs : List ℕ). xs) xss yss
+
+module _ {X : Type 0} where
+  pub front-more : (first xs front : List X) → BeginsWith xs front → BeginsWith (first ++ xs) (first ++ front)
+  front-more first xs front (rest, e) = (rest, ap (λ (l : List X). first ++ l) e ∙ sym (append_assoc first front rest))
+
+  pub front-longer : (xs behind front : List X) → BeginsWith xs front → BeginsWith (xs ++ behind) front
+  front-longer xs behind front (rest, e) = (rest ++ behind, ap (λ (l : List X). l ++ behind) e ∙ append_assoc front rest behind)
+
+  pub front-trans : (xs ys zs : List X) → BeginsWith xs ys → BeginsWith ys zs → BeginsWith xs zs
+  front-trans xs ys zs (p, e) (q, f) = (q ++ p, e ∙ ap (λ (l : List X). l ++ p) f ∙ append_assoc zs q p)
+
+  pub front-whole : (xs : List X) → BeginsWith xs xs
+  front-whole xs = ([], sym (append-nil xs))
+
+  pub front-map : (f : X → List ℕ) (xs : List X) (n : ℕ) → BeginsWith (map f xs) (map f (take n xs))
+  front-map f xs n = (map f (drop n xs), ap (map f) (sym (take-append-drop n xs)) ∙ map-append f (take n xs) (drop n xs))
+
+  pub flat-map : (f : X → List ℕ) (xs : List X) → flat (map f xs) ≡ flat_map f xs
+  flat-map f xs = flat_map-map (λ (ys : List ℕ). ys) f xs
+
+pub front-flat : (lines front : List (List ℕ)) → BeginsWith lines front → BeginsWith (flat lines) (flat front)
+front-flat lines front (rest, e) = (flat rest, ap flat e ∙ flat-append front rest)
+
+-- ---- what was printed
+
+pub Prints-behind : (old mid new : Option (List ℕ)) (first lines : List (List ℕ)) (right end : Result (Unit {0}) Ending)
+    → Appends old mid (flat first) → Prints mid new lines right end → Prints old new (first ++ lines) right end
+Prints-behind old mid new first lines right end a (inl (e, b)) =
+    inl (e, subst (Appends old new) (sym (flat-append first lines)) (Appends-trans old mid new (flat first) (flat lines) a b))
+Prints-behind old mid new first lines right end a (inr (inl (e, (front, begins, b)))) =
+    inr (inl (e, (first ++ front, front-more first lines front begins, subst (Appends old new) (sym (flat-append first front)) (Appends-trans old mid new (flat first) (flat front) a b))))
+Prints-behind old mid new first lines right end a (inr (inr (e, (front, begins, b)))) =
+    inr (inr (
+      e,
+      (
+        flat first ++ front,
+        subst (λ (bytes : List ℕ). BeginsWith bytes (flat first ++ front)) (sym (flat-append first lines)) (front-more (flat first) (flat lines) front begins),
+        Appends-trans old mid new (flat first) front a b,
+      ),
+    ))
+
+-- an end that came early came early for what is longer too
+pub Prints-early : (old new : Option (List ℕ)) (lines behind : List (List ℕ)) (right : Result (Unit {0}) Ending) (early : Ending)
+    → Prints old new lines (Ok tt) (Err early) → Prints old new (lines ++ behind) right (Err early)
+Prints-early old new lines behind right early (inl (e, b)) = absurd (cc)
+Prints-early old new lines behind right early (inr (inl (e, (front, begins, b)))) =
+    inr (inl (e, (front, front-longer lines behind front begins, b)))
+Prints-early old new lines behind right early (inr (inr (e, (front, begins, b)))) =
+    inr (inr (
+      e,
+      (
+        front,
+        subst (λ (bytes : List ℕ). BeginsWith bytes front) (sym (flat-append lines behind)) (front-longer (flat lines) (flat behind) front begins),
+        b,
+      ),
+    ))
+
+-- whatever the end, what was printed is a front of the lines' text
+pub Prints-front : (old new : Option (List ℕ)) (lines : List (List ℕ)) (right end : Result (Unit {0}) Ending)
+    → Prints old new lines right end → (front : List ℕ) × BeginsWith (flat lines) front × Appends old new front
+Prints-front old new lines right end (inl (e, b)) = (flat lines, front-whole (flat lines), b)
+Prints-front old new lines right end (inr (inl (e, (front, begins, b)))) = (flat front, front-flat lines front begins, b)
+Prints-front old new lines right end (inr (inr (e, (front, begins, b)))) = (front, begins, b)
+
+pub Prints-kept : (old mid new : Option (List ℕ)) (lines : List (List ℕ)) (right end : Result (Unit {0}) Ending)
+    → Prints old mid lines right end → Keeps mid new → Prints old new lines right end
+Prints-kept old mid new lines right end (inl (e, b)) k = inl (e, Appends-kept old mid new (flat lines) b k)
+Prints-kept old mid new lines right end (inr (inl (e, (front, begins, b)))) k =
+    inr (inl (e, (front, begins, Appends-kept old mid new (flat front) b k)))
+Prints-kept old mid new lines right end (inr (inr (e, (front, begins, b)))) k =
+    inr (inr (e, (front, begins, Appends-kept old mid new front b k)))
+
+-- a device failed behind that
+pub Prints-device : (old mid new : Option (List ℕ)) (lines : List (List ℕ)) (right end : Result (Unit {0}) Ending)
+    → Prints old mid lines right end → Keeps mid new → Prints old new lines right (Err Device)
+Prints-device old mid new lines right end p k =
+    let (front, begins, b) = Prints-front old mid lines right end p in
+    inr (inr (refl, (front, begins, Appends-kept old mid new front b k)))
+
+-- all is done, so all was printed
+pub Prints-all : (old new : Option (List ℕ)) (lines : List (List ℕ)) (right : Result (Unit {0}) Ending) (done : Unit {0})
+    → Prints old new lines right (Ok done) → Appends old new (flat lines)
+Prints-all old new lines right done (inl (e, b)) = b
+Prints-all old new lines right done (inr (inl (e, p))) = absurd (cc)
+Prints-all old new lines right done (inr (inr (e, p))) = absurd (cc)
+
+-- the output is handed on to the device, and that may fail
+pub Prints-flushed : (old mid new : Option (List ℕ)) (lines : List (List ℕ)) (right done end : Result (Unit {0}) Ending)
+    → Prints old mid lines right done → Keeps mid new → (end ≡ done) ⊎ (end ≡ Err Device) → Prints old new lines right end
+Prints-flushed old mid new lines right done end p k (inl e) = rw e (Prints-kept old mid new lines right done p k)
+Prints-flushed old mid new lines right done end p k (inr e) = rw e (Prints-device old mid new lines right done p k)
+
+-- ---- the lines of replies
+
+module _ (old new : Option (List ℕ)) {E : Type 0} (shown : Result (Unit {0}) E) (replies : List (Reply Global)) (start bytes : List ℕ) (cleared : start ≡ [])
+    (whole : OnOk shown (bytes ≡ start ++ flat_map shown_reply replies)) (part : OnErr shown ((n : ℕ) × (bytes ≡ start ++ flat_map shown_reply (take n replies)))) where
+  -- what was made of the replies is some first lines of theirs
+  shown-lines : (front : List (List ℕ)) × BeginsWith (map shown_reply replies) front × (bytes ≡ flat front)
+  shown-lines = lines_by shown whole part where
+    lines_by : (r : Result (Unit {0}) E) → OnOk r (bytes ≡ start ++ flat_map shown_reply replies) → OnErr r ((n : ℕ) × (bytes ≡ start ++ flat_map shown_reply (take n replies)))
+        → (front : List (List ℕ)) × BeginsWith (map shown_reply replies) front × (bytes ≡ flat front)
+    lines_by (Ok x) e p = (map shown_reply replies, front-whole (map shown_reply replies), rw cleared at e ∙ sym (flat-map shown_reply replies))
+    lines_by (Err x) p (n, e) = (map shown_reply (take n replies), front-map shown_reply replies n, rw cleared at e ∙ sym (flat-map shown_reply (take n replies)))
+
+  pub Prints-shown_first : (text : List ℕ) → text ≡ bytes → Appends old new text → Prints old new (map shown_reply replies) (Ok tt) (Err (endings.Fault NoMemory))
+  Prints-shown_first text e a =
+      let (front, begins, is) = shown-lines in
+      inr (inl (refl, (front, begins, subst (Appends old new) (e ∙ is) a)))
+
+  pub Prints-shown_part : (text : List ℕ) → text ≡ bytes → (front : List ℕ) × BeginsWith text front × Appends old new front → Prints old new (map shown_reply replies) (Ok tt) (Err Device)
+  Prints-shown_part text e (part_of, first, a) =
+      let (front, begins, is) = shown-lines in
+      let begin : BeginsWith (flat front) part_of = subst (λ (xs : List ℕ). BeginsWith xs part_of) (e ∙ is) first in
+      inr (inr (refl, (part_of, front-trans (flat (map shown_reply replies)) (flat front) part_of (front-flat (map shown_reply replies) front begins) begin, a)))
+
+pub Prints-shown : (old new : Option (List ℕ)) (replies : List (Reply Global)) (start bytes text : List ℕ) → start ≡ [] → bytes ≡ start ++ flat_map shown_reply replies → text ≡ bytes
+    → Appends old new text → Prints old new (map shown_reply replies) (Ok tt) (Ok tt)
+Prints-shown old new replies start bytes text cleared e f a =
+    let whole : bytes ≡ flat_map shown_reply replies = rw cleared at e in
+    inl (refl, subst (Appends old new) (f ∙ whole ∙ sym (flat-map shown_reply replies)) a)
+
+-- ---- known texts
+
+-- the known text, or else any
+pub text_of-known : (known : Option (List ℕ)) → IfSome known (λ bytes. unwrap_or known [] ≡ bytes)
+text_of-known None = tt
+text_of-known (Some bytes) = refl
+
+pub IfSome-known : (known : Option (List ℕ)) (text : List ℕ) (P : List ℕ → Type 0) → IfSome known (λ bytes. text ≡ bytes) → P text → IfSome known P
+IfSome-known None text P e p = tt
+IfSome-known (Some bytes) text P e p = subst P e p
+
+pub IfSome-any : (known : Option (List ℕ)) (P : List ℕ → Type 0) → ((text : List ℕ) → P text) → IfSome known P
+IfSome-any None P f = tt
+IfSome-any (Some bytes) P f = f bytes
+
+-- ---- one text
+
+-- a text is written, and handed on to the device
+pub PrintsOneText-written : (old mid new : Option (List ℕ)) (bytes : List ℕ) (done end : Result (Unit {0}) Ending)
+    → OnOk done (Appends old mid bytes) → OnErr done ((front : List ℕ) × BeginsWith bytes front × Appends old mid front) → IsOkUnless done Device
+    → Keeps mid new → (end ≡ done) ⊎ (end ≡ Err Device) → PrintsOneText old new end
+PrintsOneText-written old mid new bytes done end ok err device kept ended =
+    (bytes, Prints-flushed old mid new (bytes ∷ []) (Ok tt) done end (by done ok err device) kept ended) where
+      one : (xs : List ℕ) → xs ≡ flat (xs ∷ [])
+      one xs = sym (append-nil xs)
+
+      by : (r : Result (Unit {0}) Ending) → OnOk r (Appends old mid bytes) → OnErr r ((front : List ℕ) × BeginsWith bytes front × Appends old mid front) → IsOkUnless r Device
+          → Prints old mid (bytes ∷ []) (Ok tt) r
+      by (Ok x) a p q = inl (refl, subst (Appends old mid) (one bytes) a)
+      by (Err x) a (front, begins, b) q =
+          inr (inr (ap (λ (e : Ending). Err e) q, (front, subst (λ (xs : List ℕ). BeginsWith xs front) (one bytes) begins, b)))
+
+pub PrintsOneText-refused : (old : Option (List ℕ)) → PrintsOneText old old (Err (endings.Fault NoMemory))
+PrintsOneText-refused old = ([], inr (inl (refl, ([], ([] ∷ [], refl), Appends-nil old))))

@@ -1,0 +1,181 @@
+-- What `clap` makes of one word of the command line.
+use Rattle.std.proofs.Common.{◌≡◌, ◌∙◌, ◌==◌, ap, refl, sym, subst, ℕ, Bool, true, false, cond, List, [], ◌∷◌, length, Option, Some, None, codes}
+use Rattle.std.specs.Prelude.{slice_get}
+use Rattle.std.specs.Option.{option_map_or}
+use Rattle.std.specs.Str.{bytes_eq, chars}
+use Rattle.std.proofs.lemmas.Slice.Eq.{bytes_eq-Decides}
+use Rattle.clap.specs.Lexer.{long_of, short_of}
+use Rattle.clap.specs.Kinds.{Kinds, or_else}
+use Rattle.clap.specs.Walk.{Held, Row, Rule, Step, Waiting, Walk, after_flag, after_step, arg_by_id, arg_by_index, arg_by_long, arg_by_short, bundle_met, bundle_step, idle, long_met, long_or_other, option, plain as not_flag, plain_word, positional, settled_rows, subcommand_met, subcommand_or_other, short_or_plain, trailing, used, walked}
+use Rattle.clap.specs.Simple.{Shape, built, filled, help_rule}
+use Rattle.clap.specs.Faults.{bundle_fault, bundle_step_fault, flag_word_fault, flags_fault, long_fault, other_fault, settle_fault, short_fault, step_fault, turn_fault, use_fault}
+use Rattle.clap.specs.declared.error.kind.ErrorKind.{ErrorKind}
+use Rattle.clap.specs.declared.error.kind.ErrorKind.TheVariants.{DisplayHelp, TooManyValues, UnknownArgument}
+use Rattle.bwsh.specs.Options.{Sort, awaits, gives, asks, ends, plain, unknown, Text, is_option, is_refusal, sort_by, sort_of, sort_of_long, sort_of_short}
+use Rattle.bwsh.specs.CommandLine.{built_rule, bwsh}
+
+-- the rule of `--help`
+abbrev pub built_help : Rule
+built_help = filled help_rule
+
+-- these are the options of the command line
+pub record HasOptions (c : List Rule) : Type 0 where
+  pub known : (name : Text) → is_option name ≡ true
+      → (default : Text) × (arg_by_long c name ≡ Some (built_rule (name, default))) × (arg_by_id c name ≡ Some (built_rule (name, default)))
+  pub help : arg_by_long c (codes "help") ≡ Some built_help
+  pub others : (name : Text) → is_option name ≡ false → bytes_eq (codes "help") name ≡ false → arg_by_long c name ≡ None
+  pub short : (x : ℕ) → arg_by_short c x ≡ cond (104 == x) (Some built_help) None
+  pub positional : arg_by_index c 1 ≡ None
+
+-- the command line with these rules
+abbrev pub shape : List Rule → Shape
+shape c = record (built bwsh).top { rules = c }
+
+abbrev pub Pending : Type 0
+Pending = Option (Text × List Text)
+
+abbrev pub held : List Row → Pending → Held
+held rows pen = record { rows = rows; pending = pen; skip = 0 }
+
+abbrev pub standing : List Row → Pending → Waiting → Bool → Walk
+standing rows pen waiting is_trailing = record { held = held rows pen; waiting = waiting; position = 1; is_trailing = is_trailing; stopped = None }
+
+-- a word of this sort has this fault, and leaves the walk so
+abbrev pub TurnIs : List Rule → List Row → Pending → Waiting → Text → Kinds → Walk → Sort → Type 0
+TurnIs c rows pen waiting word kinds after (awaits name) = (is_option name ≡ true) × (kinds ≡ settle_fault c false (held rows pen))
+    × (after ≡ standing (settled_rows c pen rows) (Some (name, [])) (option name) false)
+TurnIs c rows pen waiting word kinds after (gives name text) = (is_option name ≡ true)
+    × ((default : Text) × (kinds ≡ or_else (settle_fault c false (held rows pen)) (use_fault false (built_rule (name, default)) (text ∷ []) (settled_rows c pen rows)))
+    × (after ≡ standing (used (built_rule (name, default)) (text ∷ []) (settled_rows c pen rows)) None idle false))
+TurnIs c rows pen waiting word kinds after asks = kinds ≡ or_else (settle_fault c false (held rows pen)) (DisplayHelp ∷ [])
+TurnIs c rows pen waiting word kinds after ends = (kinds ≡ []) × (after ≡ standing rows pen waiting true)
+TurnIs c rows pen waiting word kinds after plain =
+    let met = plain_word c waiting word (held rows pen) in
+    (kinds ≡ step_fault (shape c) 1 met.0 met.1) × (after ≡ after_step c word (standing rows pen waiting false) met.0 met.1)
+TurnIs c rows pen waiting word kinds after unknown = (kind : ErrorKind) × (kinds ≡ kind ∷ []) × (is_refusal kind ≡ true)
+
+pub or_else-none : (ks : Kinds) → or_else ks [] ≡ ks
+or_else-none [] = refl
+or_else-none (k ∷ ks) = refl
+
+pub or_else-assoc : (a b c : Kinds) → or_else (or_else a b) c ≡ or_else a (or_else b c)
+or_else-assoc [] b c = refl
+or_else-assoc (k ∷ ks) b c = refl
+
+-- what comes behind a fault does not matter
+pub or_else-last : (ks : Kinds) (k : ErrorKind) (next : Kinds) → or_else (or_else ks (k ∷ [])) next ≡ or_else ks (k ∷ [])
+or_else-last [] k next = refl
+or_else-last (x ∷ ks) k next = refl
+
+module _ (c : List Rule) (facts : HasOptions c) (rows : List Row) (pen : Pending) (waiting : Waiting) (word : Text) where
+  abbrev here : Held
+  here = held rows pen
+
+  -- the fault and the walk of a word that comes to this
+  abbrev fault_with : Kinds → Held × Step → Kinds
+  fault_with kinds met = or_else kinds (step_fault (shape c) 1 met.0 met.1)
+
+  abbrev walk_with : Held × Step → Walk
+  walk_with met = after_step c word (standing rows pen waiting false) met.0 met.1
+
+  abbrev Turn : Kinds → Held × Step → Sort → Type 0
+  Turn kinds met sort = TurnIs c rows pen waiting word (fault_with kinds met) (walk_with met) sort
+
+  -- what a flag with this rule, if there is one, and this text, if there is one, comes to
+  abbrev met_long : Option Rule → Option Text → Held × Step
+  met_long o v = after_flag c waiting word (long_met c o v here).0 (long_met c o v here).1
+
+  -- `--name=text` of an option
+  gives_turn : (name text default : Text) (o : Option Rule) → is_option name ≡ true → Some (built_rule (name, default)) ≡ o
+      → Turn (long_fault c false o (Some text) here) (met_long o (Some text)) (gives name text)
+  gives_turn name text default o is e =
+      subst (λ (r : Option Rule). Turn (long_fault c false r (Some text) here) (met_long r (Some text)) (gives name text))
+      e (is, (default, or_else-none _, refl))
+
+  -- `--name` of an option
+  awaits_turn : (name default : Text) (o : Option Rule) → is_option name ≡ true → Some (built_rule (name, default)) ≡ o
+      → Turn (long_fault c false o None here) (met_long o None) (awaits name)
+  awaits_turn name default o is e =
+      subst (λ (r : Option Rule). Turn (long_fault c false r None here) (met_long r None) (awaits name))
+      e (is, or_else-none _, refl)
+
+  -- a name that there is not
+  unknown_turn : (v : Option Text) (o : Option Rule) (met : Held × Step) → None ≡ o → Turn (long_fault c false o v here) met unknown
+  unknown_turn v o met e = subst (λ (r : Option Rule). Turn (long_fault c false r v here) met unknown) e (UnknownArgument, refl, refl)
+
+  -- `--help` with a text
+  unneeded_turn : (text : Text) (o : Option Rule) (met : Held × Step) → Some built_help ≡ o → Turn (long_fault c false o (Some text) here) met unknown
+  unneeded_turn text o met e = subst (λ (r : Option Rule). Turn (long_fault c false r (Some text) here) met unknown) e (TooManyValues, refl, refl)
+
+  -- `--help`
+  help_turn : (o : Option Rule) (met : Held × Step) → Some built_help ≡ o → Turn (long_fault c false o None here) met asks
+  help_turn o met e = subst (λ (r : Option Rule). Turn (long_fault c false r None here) met asks) e (or_else-last _ DisplayHelp _)
+
+  help_at : (name : Text) → bytes_eq (codes "help") name ≡ true → Some built_help ≡ arg_by_long c name
+  help_at name hit = subst (λ (n : Text). Some built_help ≡ arg_by_long c n) ((bytes_eq-Decides (codes "help") name).0 hit) (sym facts.help)
+
+  other_with : (name text : Text) (b : Bool) (met : Held × Step) → bytes_eq (codes "help") name ≡ b → is_option name ≡ false
+      → Turn (long_fault c false (arg_by_long c name) (Some text) here) met unknown
+  other_with name text false met other is = unknown_turn (Some text) (arg_by_long c name) met (sym (facts.others name is other))
+  other_with name text true met hit is = unneeded_turn text (arg_by_long c name) met (help_at name hit)
+
+  other_alone : (name : Text) (b : Bool) (met : Held × Step) → bytes_eq (codes "help") name ≡ b → is_option name ≡ false
+      → Turn (long_fault c false (arg_by_long c name) None here) met (cond b asks unknown)
+  other_alone name false met other is = unknown_turn None (arg_by_long c name) met (sym (facts.others name is other))
+  other_alone name true met hit is = help_turn (arg_by_long c name) met (help_at name hit)
+
+  long_with : (name text : Text) (b : Bool) → is_option name ≡ b
+      → Turn (long_fault c false (arg_by_long c name) (Some text) here) (met_long (arg_by_long c name) (Some text)) (cond b (gives name text) unknown)
+  long_with name text true is = let k = facts.known name is in gives_turn name text k.0 (arg_by_long c name) is (sym k.1)
+  long_with name text false is = other_with name text (bytes_eq (codes "help") name) (met_long (arg_by_long c name) (Some text)) refl is
+
+  long_alone : (name : Text) (b : Bool) → is_option name ≡ b
+      → Turn (long_fault c false (arg_by_long c name) None here) (met_long (arg_by_long c name) None) (cond b (awaits name) (cond (bytes_eq (codes "help") name) asks unknown))
+  long_alone name true is = let k = facts.known name is in awaits_turn name k.0 (arg_by_long c name) is (sym k.1)
+  long_alone name false is = other_alone name (bytes_eq (codes "help") name) (met_long (arg_by_long c name) None) refl is
+
+  long_turn : (name : Text) (v : Option Text)
+      → Turn (long_fault c false (arg_by_long c name) v here) (met_long (arg_by_long c name) v) (sort_of_long name v)
+  long_turn name (Some text) = long_with name text (is_option name) refl
+  long_turn name None = long_alone name (is_option name) refl
+
+  -- `-h`, alone or in front of more
+  short_by : (b : Bool) (o : Option Rule) (rest : Text) (next : Held → Kinds) (met : Held × Step) → cond b (Some built_help) None ≡ o
+      → Turn (short_fault c false o rest here next) met (cond b asks unknown)
+  short_by true o rest next met e =
+      subst (λ (r : Option Rule). Turn (short_fault c false r rest here next) met asks)
+      e (ap (λ (ks : Kinds). or_else ks (step_fault (shape c) 1 met.0 met.1)) (or_else-last _ DisplayHelp _) ∙ or_else-last _ DisplayHelp _)
+  short_by false o rest next met e = subst (λ (r : Option Rule). Turn (short_fault c false r rest here next) met unknown) e (UnknownArgument, refl, refl)
+
+  first_turn : (o : Option ℕ) (k : ℕ) (flags : Text)
+      → Turn (bundle_step_fault c false o flags 0 here (flags_fault c false k))
+      (after_flag c waiting word (bundle_step c o flags 0 not_flag here (bundle_met c k)).0 (bundle_step c o flags 0 not_flag here (bundle_met c k)).1)
+      (sort_of_short o)
+  first_turn None k flags = (refl, refl)
+  first_turn (Some x) k flags = short_by (104 == x) (arg_by_short c x) _ _ _ (sym (facts.short x))
+
+  short_turn : (s : Option Text) → Turn (option_map_or (λ flags. bundle_fault c false flags here) s []) (short_or_plain c waiting word s here) (sort_by None s)
+  unfolding flags_fault bundle_met chars
+  short_turn None = (refl, refl)
+  short_turn (Some []) = (refl, refl)
+  short_turn (Some (x ∷ xs)) = first_turn (slice_get (chars (x ∷ xs)) 0) (length xs) (x ∷ xs)
+
+  flag_turn : (l : Option (Text × Option Text)) → Turn (flag_word_fault c false l word here) (long_or_other c waiting word l here) (sort_by l (short_of word))
+  flag_turn (Some p) = long_turn p.0 p.1
+  flag_turn None = short_turn (short_of word)
+
+  word_turn : (b : Bool) → Turn (cond b [] (flag_word_fault c false (long_of word) word here)) (cond b (here, trailing 1) (long_or_other c waiting word (long_of word) here))
+      (cond b ends (sort_by (long_of word) (short_of word)))
+  word_turn true = (refl, refl)
+  word_turn false = flag_turn (long_of word)
+
+  no_subcommand : (w : Waiting) → None ≡ subcommand_met [] w word
+  no_subcommand idle = refl
+  no_subcommand (option name) = refl
+  no_subcommand positional = refl
+
+  -- what a word comes to where `--` has not been
+  pub turn_is : TurnIs c rows pen waiting word (turn_fault (shape c) [] (standing rows pen waiting false) word) (walked c [] (standing rows pen waiting false) word) (sort_of word)
+  unfolding walked
+  turn_is = subst (λ (o : Option Text). Turn (other_fault (shape c) o word here) (subcommand_or_other c o waiting 1 word here) (sort_of word))
+      (no_subcommand waiting) (word_turn (bytes_eq word (codes "--")))

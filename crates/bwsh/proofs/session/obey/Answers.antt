@@ -1,0 +1,11 @@
+use Rattle.std.proofs.Common.{◌≡◌, map, refl}
+use Rattle.std.specs.String.{string_bytes}
+use Rattle.clap.specs.Words.{kind_of}
+use Rattle.bwsh.proofs.EndLemmas.{EndsBy-words}
+use Rattle.bwsh.proofs.session.obey.Goals as goal
+
+pub returns-in-Err : goal.returns-in-Err
+returns-in-Err g c =
+    let answered = c.answer_words.ensures in
+    EndsBy-words (map string_bytes c.args.words.now) _ _ _ (c.args.input.now ≡ c.args.input.now) (c.answer_words.new.out ≡ c.args.out.now) c.answer_words.result (kind_of c.in-Err.error)
+    c.in-Err.ensures.err answered.help answered.memory answered.refused refl

@@ -1,0 +1,152 @@
+-- What the words of the command line ask for.
+use Rattle.std.specs.Prelude.{◌≡◌, ◌⊎◌, ◌==◌, ℕ, Bool, true, false, List, [], ◌∷◌, ◌++◌, Option, Some, None, if◌then◌else◌, unwrap_or, option_map, find, slice_get, map, string_bytes, String, codes, pos}
+use Rattle.std.specs.List.{list_any}
+use Rattle.std.specs.Str.{bytes_eq, chars}
+use Rattle.std.specs.Str.Parse.{digits_value, without_leading_sign}
+use Rattle.std.specs.declared.alloc.Global.{Global}
+use Rattle.keys.specs.declared.settings.Settings.{Settings}
+use Rattle.clap.specs.Lexer.{long_of, short_of}
+use Rattle.clap.specs.ValueTests.{is_signed_in}
+use Rattle.clap.specs.declared.error.kind.ErrorKind.{ErrorKind}
+use Rattle.clap.specs.declared.error.kind.ErrorKind.TheVariants.{InvalidValue, UnknownArgument, ValueValidation, TooManyValues, ArgumentConflict, DisplayHelp, OutOfMemory}
+
+-- a text, as its bytes
+abbrev pub Text : Type 0
+Text = List ℕ
+
+-- the words, as text
+abbrev pub texts : List (String Global) → List Text
+texts = map string_bytes
+
+-- the options that take a number
+abbrev pub option_names : List Text
+option_names = codes "fan" ∷ codes "chain" ∷ codes "max-key" ∷ codes "max-value" ∷ codes "seg-size" ∷ codes "segments" ∷ []
+
+-- the name is one of theirs
+abbrev pub is_option : Text → Bool
+is_option name = list_any (λ known. bytes_eq known name) option_names
+
+-- the text is a whole number from 0 to 4294967295, in digits behind a sign or none
+abbrev pub is_number : Text → Bool
+is_number text = is_signed_in (pos 0) (pos 4294967295) text
+
+-- the number that a text with or without a sign writes
+abbrev pub number_of : Text → ℕ
+number_of text = digits_value 10 (without_leading_sign text)
+
+-- what a word is: an option whose text is the next word, an option with its text, a call for help, the word `--`, no flag
+-- at all, or a flag that there is not
+pub data Sort : Type 0 where
+  awaits : Text → Sort
+  gives : Text → Text → Sort
+  asks : Sort
+  ends : Sort
+  plain : Sort
+  unknown : Sort
+
+-- `--name`, or `--name=text`
+abbrev pub sort_of_long : Text → Option Text → Sort
+sort_of_long name (Some text) = if is_option name then gives name text else unknown
+sort_of_long name None = if is_option name then awaits name else (if bytes_eq (codes "help") name then asks else unknown)
+
+-- `-x`, by the first character behind the hyphen, where only `h` (104) is known; in a text there always is one
+abbrev pub sort_of_short : Option ℕ → Sort
+sort_of_short None = plain
+sort_of_short (Some first) = if 104 == first then asks else unknown
+
+-- by what follows two hyphens, or else one; what follows none is no flag
+abbrev pub sort_by : Option (Text × Option Text) → Option Text → Sort
+sort_by (Some long) short = sort_of_long long.0 long.1
+sort_by None (Some short) = sort_of_short (slice_get (chars short) 0)
+sort_by None None = plain
+
+-- the sort of a word
+abbrev pub sort_of : Text → Sort
+sort_of word = if bytes_eq word (codes "--") then ends else sort_by (long_of word) (short_of word)
+
+-- the options that were given, each with the text of its number
+abbrev pub Given : Type 0
+Given = List (Text × Text)
+
+-- the option is among them
+abbrev pub is_given : Text → Given → Bool
+is_given name given = list_any (λ g. bytes_eq g.0 name) given
+
+-- what words come to: settings, help, or a refusal
+pub data Asked : Type 0 where
+  settings : Given → Asked
+  help : Asked
+  refused : Asked
+
+-- an option is given its text, and the rest comes to what `next` says; no option is given twice, or no number
+abbrev pub taken : Text → Text → Given → (Given → Asked) → Asked
+taken name text given next = if is_given name given then refused
+    else (if is_number text then next (given ++ (name, text) ∷ []) else refused)
+
+-- behind `--` nothing stands
+abbrev pub at_end : List Text → Given → Asked
+at_end [] given = settings given
+at_end (word ∷ rest) given = refused
+
+-- a word where no option waits for its text, and one where this option does, and so takes the word
+abbrev pub asked_by : Option Text → Sort → Text → List Text → Given → (Option Text → Given → Asked) → Asked
+asked_by None (awaits name) word rest given next = next (Some name) given
+asked_by None (gives name text) word rest given next = taken name text given (next None)
+asked_by None asks word rest given next = help
+asked_by None ends word rest given next = at_end rest given
+asked_by None plain word rest given next = refused
+asked_by None unknown word rest given next = refused
+asked_by (Some name) plain word rest given next = taken name word given (next None)
+asked_by (Some name) _ word rest given next = refused
+
+-- what the words come to, behind what was given before, where this option waits for its text or none does
+abbrev pub asked_from : List Text → Option Text → Given → Asked
+asked_from [] None given = settings given
+asked_from [] (Some name) given = refused
+asked_from (word ∷ rest) waiting given = asked_by waiting (sort_of word) word rest given (asked_from rest)
+
+-- what the words of the command line come to
+abbrev pub asked : List Text → Asked
+asked words = asked_from words None []
+
+-- the number that was given for the option, else this one
+abbrev pub number_or : ℕ → Text → Given → ℕ
+number_or default name given = unwrap_or (option_map (λ g. number_of g.1) (find (λ g. bytes_eq g.0 name) given)) default
+
+-- the settings of what was given
+abbrev pub settings_of : Given → Settings
+settings_of given = record {
+  fan = number_or 16 (codes "fan") given;
+  chain = number_or 4 (codes "chain") given;
+  max_key = number_or 64 (codes "max-key") given;
+  max_value = number_or 256 (codes "max-value") given;
+  seg_size = number_or 65536 (codes "seg-size") given;
+  segments = number_or 64 (codes "segments") given;
+}
+
+-- the words ask for these settings
+abbrev pub Tells : List Text → Settings → Type 0
+Tells words s = (given : Given) × (asked words ≡ settings given) × (s ≡ settings_of given)
+
+-- the words ask for help
+abbrev pub AsksForHelp : List Text → Type 0
+AsksForHelp words = asked words ≡ help
+
+-- the words are refused
+abbrev pub AreRefused : List Text → Type 0
+AreRefused words = asked words ≡ refused
+
+-- the kind of an error that says what is wrong with the words
+abbrev pub is_refusal : ErrorKind → Bool
+is_refusal InvalidValue = true
+is_refusal UnknownArgument = true
+is_refusal ValueValidation = true
+is_refusal TooManyValues = true
+is_refusal ArgumentConflict = true
+is_refusal _ = false
+
+-- an error of this kind is right for the words: memory was refused, help was asked for, or the words are refused
+abbrev pub IsRightKind : List Text → ErrorKind → Type 0
+IsRightKind words kind = (kind ≡ OutOfMemory)
+    ⊎ ((kind ≡ DisplayHelp) × AsksForHelp words)
+    ⊎ ((is_refusal kind ≡ true) × AreRefused words)

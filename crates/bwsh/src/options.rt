@@ -1,0 +1,100 @@
+//! The words of the command line: the settings of the store.
+ghost use Rattle.std.specs.Prelude.{◌≡◌, IfOk, IfErr, Some, false, true};
+ghost use Rattle.clap.specs.Words.{FailsBy, app_of, fault_of, found_of, kind_of, matches_of, one_of, rows_of, rule_of, without_minus};
+ghost use Rattle.bwsh.specs.Options.{Given, IsRightKind, Tells, Text, is_number, number_of, settings_of, texts};
+ghost use Rattle.bwsh.specs.CommandLine.{AreNumbers, bwsh, finished_rows, number_rule};
+
+mod asked;
+#[cfg(test)]
+mod tests;
+
+pub use asked::Options;
+use clap::{Arg, ArgMatches, Command, Error, value_parser};
+use keys::Settings;
+use std::alloc::{AllocError, Global};
+
+// An option that takes a number.
+fn number<'a>(alloc: Global, name: &'a str, default: &'a str, help: &'a str) -> Arg<'a>
+    ensures rule { rule_of result ≡ number_rule name.entry.now default.entry.now }
+    ensures local { result.global ≡ false }
+{
+    Arg::new(alloc, name)
+        .long(name)
+        .value_name("N")
+        .value_parser(value_parser!(u32))
+        .default_value(default)
+        .help(help)
+}
+
+// The command line of `bwsh`.
+fn command<'a>(alloc: Global) -> Result<Command<'a>, AllocError>
+    ensures { IfOk result (λ c. app_of c ≡ bwsh) }
+{
+    Command::new(alloc, "bwsh")
+        .about("Runs the batch file on standard input on a new store, and prints the replies")
+        .no_binary_name(true)
+        .arg(number(
+            alloc,
+            "fan",
+            "16",
+            "Entries in a page before it is cut, 4 to 64",
+        ))?
+        .arg(number(
+            alloc,
+            "chain",
+            "4",
+            "Runs on a page before they are folded in, 1 to 16",
+        ))?
+        .arg(number(alloc, "max-key", "64", "Bytes of a key, 1 to 255"))?
+        .arg(number(alloc, "max-value", "256", "Bytes of a value, 0 to 1024"))?
+        .arg(number(
+            alloc,
+            "seg-size",
+            "65536",
+            "Bytes of a segment of the log, 256 to 1048576",
+        ))?
+        .arg(number(alloc, "segments", "64", "Segments of the log, 3 to 65536"))
+}
+
+// What clap finds in the words.
+fn parse<'a>(alloc: Global, words: &'a [String]) -> Result<ArgMatches<'a>, Error>
+    ensures ok { IfOk result (λ m. rows_of (found_of m) ≡ matches_of bwsh (texts words.entry.now)) }
+    ensures err { FailsBy (fault_of bwsh (texts words.entry.now)) result }
+{
+    command(alloc)?.try_get_matches_from(words)
+}
+
+// The number that was found under the name: each option has a default, so there is always one.
+fn number_at(matches: &ArgMatches<'_>, name: &str) -> u32
+    ensures { (text : Text) → is_number text ≡ true → one_of name.now (rows_of (found_of matches.now)) ≡ Some (without_minus text)
+        → result ≡ number_of text }
+{
+    matches.get_one::<u32>(name).unwrap_or_default()
+}
+
+// The settings that were found.
+fn settings(matches: &ArgMatches<'_>) -> Settings
+    ensures { (given : Given) → AreNumbers given → rows_of (found_of matches.now) ≡ finished_rows given → result ≡ settings_of given }
+{
+    Settings {
+        fan: number_at(matches, "fan"),
+        chain: number_at(matches, "chain"),
+        max_key: number_at(matches, "max-key"),
+        max_value: number_at(matches, "max-value"),
+        seg_size: number_at(matches, "seg-size"),
+        segments: number_at(matches, "segments"),
+    }
+}
+
+/// Reads the words behind the program's name: `[--fan N] [--chain N] [--max-key N] [--max-value N] [--seg-size N]
+/// [--segments N]`, in any order, `--fan=N` too, and `--help` or `-h`. What is not given has its default. Whether the
+/// numbers are in range is for `Settings::check` to say.
+pub fn options(alloc: Global, words: &[String]) -> Result<Options, Error>
+    ensures ok { IfOk result (λ o. Tells (texts words.now) o.settings) }
+    ensures err { IfErr result (λ e. IsRightKind (texts words.now) (kind_of e)) }
+{
+    let matches = parse(alloc, words)?;
+    Ok(Options {
+        settings: settings(&matches),
+    })
+}

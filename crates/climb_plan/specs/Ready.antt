@@ -1,0 +1,27 @@
+-- When a tree in memory is ready to climb: the leaves that a batch touches were taken out of it, and worked.
+use Rattle.std.specs.Prelude.{◌≡◌, List}
+use Rattle.std.specs.List.{AllByRecursion}
+use Rattle.std.specs.Map.{keys_of}
+use Rattle.keys.specs.declared.settings.Settings.{Settings}
+use Rattle.keys.specs.declared.command.Command.{Command}
+use Rattle.index_page.specs.Page.PageOfKind.{Leaf, Index}
+use Rattle.mapping.specs.Tree.{Tree}
+use Rattle.mapping.specs.Levels.{levels_of, contents}
+use Rattle.mapping.specs.Proper.{AreLogsTrue, IsProper}
+use Rattle.mapping.specs.Table.{pids_in_use}
+use Rattle.mapping.specs.TreeInMemory.{TreeInMemory}
+use Rattle.page_runs.specs.NetRun.{net_run}
+use Rattle.split_plan.specs.WorkedLevel.{worked_leaves}
+use Rattle.climb_plan.specs.Changing.{SeenPage, AreSeen, AreHome}
+
+-- of a proper tree some leaves are away, after what the commands come to on their keys; all other pages are at home as the
+-- tree has them, and no other leaf gets a run
+pub record IsReady {A : Type 0} (s : Settings) (t : Tree) (cs : List (Command A)) (m : TreeInMemory) (xs : List SeenPage) : Type 0 where
+  pub proper : IsProper s t
+  pub logs : AreLogsTrue t
+  pub leaves : AreSeen Leaf m.table xs (worked_leaves s (net_run (contents t) cs) (levels_of t).level)
+  pub above : AllByRecursion (AreHome Index m.table) (levels_of t).above
+  pub in_use : pids_in_use m.table ≡ keys_of t.pages
+  pub logged : m.table.logged ≡ t.logged
+  pub root : m.root ≡ t.root
+  pub height : m.height ≡ t.height

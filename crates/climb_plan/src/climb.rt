@@ -1,0 +1,157 @@
+//! The climb of a batch: level by level upward groups are cut and parents are worked, up to the root; then, by moves alone and from
+//! the root down, all that was made is put into the tree. What is on the way back stands on the stack: a level that is refused
+//! undoes what it did, and the level below it does the same. (The Bw-tree's splits and merges, made a level at a time as
+//! PALM makes them.)
+ghost use Rattle.std.specs.Prelude.{◌≡◌, ◌<◌, ◌≤◌, ◌+◌, ℕ, List, map, length, IfErr, OnOk, OnErr};
+ghost use Rattle.index_page.specs.Page.PageOfKind.{Leaf, Index};
+ghost use Rattle.keys.specs.declared.command.Command.{Command};
+ghost use Rattle.mapping.specs.Levels.{Placed};
+ghost use Rattle.mapping.specs.Tree as definitions;
+ghost use Rattle.mapping.specs.TreeInMemory.{AreAllHome, tree_of};
+ghost use Rattle.page_runs.specs.Worked.{Worked};
+ghost use Rattle.climb_plan.specs.Changing.{shown};
+ghost use Rattle.climb_plan.specs.Climb.{climb};
+ghost use Rattle.climb_plan.specs.HasClimbed.{HasClimbed};
+ghost use Rattle.climb_plan.specs.Level.{IsLevel};
+ghost use Rattle.climb_plan.specs.Plan.{planned_tree};
+ghost use Rattle.climb_plan.specs.Ready.{IsReady};
+
+use crate::change::free_drawn;
+use crate::install::{install_all, put_home, undo_parents};
+use crate::level::{Changed, change_level};
+use crate::refused::Refused;
+use crate::seen::Revised;
+use crate::shrink::shrink;
+use crate::top::climb_root;
+use index_page::Page;
+use keys::Settings;
+use mapping::Tree;
+use mapping::laws::drawn_pids_get_places_that_are_away;
+use page_runs::{LeafDone, TermDone};
+use std::alloc::Global;
+
+/// Climbs from these leaves, which were taken out of the tree and worked with the commands of a batch: they go home, their groups are cut
+/// and merged, and so on level by level upward, and the root shrinks while it has one child. The tree is the plan's then. Where it is
+/// refused, for want of memory or since the tree would have more than 64 levels, the tree is as it was, and the leaves come back as
+/// they were given. Only the parents of leaves that are thin or fat are visited.
+pub fn climb(
+    alloc: Global,
+    settings: &Settings,
+    tree: &mut Tree<Global>,
+    leaves: Vec<LeafDone>,
+) -> Result<(), (Refused, Vec<LeafDone>)>
+    requires fan { 1 < settings.now.fan }
+    requires ready { (t : definitions.Tree) × (cs : List (Command Global)) × IsReady settings.now t cs tree.old (map (λ d. shown Leaf d.made.worked) leaves.items) }
+    requires height { tree.old.height ≤ 64 }
+    ensures planned { OnOk result ((t : definitions.Tree) (cs : List (Command Global)) → IsReady settings.now t cs tree.old (map (λ d. shown Leaf d.made.worked) leaves.items) →
+        AreAllHome tree.new × (tree_of tree.new ≡ planned_tree settings.now t cs)) }
+    ensures low { OnOk result (tree.new.height ≤ 64) }
+    ensures back { IfErr result (λ e. e.1.items ≡ leaves.items) }
+    ensures err { OnErr result (tree.new ≡ tree.old) }
+    ensures high { IfErr result (λ e. (t : definitions.Tree) (cs : List (Command Global)) →
+        IsReady settings.now t cs tree.old (map (λ d. shown Leaf d.made.worked) leaves.items) → e.0 ≡ Refused.TooHigh →
+        64 < (planned_tree settings.now t cs).height) }
+{
+    let depth = tree.height() - 1;
+    climb_leaves(alloc, settings, tree, depth, leaves)?;
+    shrink(tree);
+    Ok(())
+}
+
+// Climbs from these leaves, which were worked, and which are so many levels below the root. Where it is refused, the tree is as
+// it was, and the pages come back as they were given.
+fn climb_leaves(
+    alloc: Global,
+    settings: &Settings,
+    tree: &mut Tree<Global>,
+    depth: u32,
+    dones: Vec<LeafDone>,
+) -> Result<(), (Refused, Vec<LeafDone>)>
+    requires fan { 1 < settings.now.fan }
+    requires level { (ws : List (Worked (List ℕ))) × (ups : List (List (Placed ℕ))) × (used : List ℕ) × (i : ℕ)
+        × IsLevel Leaf tree.old (map (λ d. shown Leaf d.made.worked) dones.items) ws ups used i × (depth ≡ length ups) }
+    requires height { tree.old.height ≤ 64 }
+    ensures climbed { OnOk result ((ws : List (Worked (List ℕ))) (ups : List (List (Placed ℕ))) (used : List ℕ) (i : ℕ) →
+        IsLevel Leaf tree.old (map (λ d. shown Leaf d.made.worked) dones.items) ws ups used i → depth ≡ length ups → HasClimbed Leaf tree.old tree.new ws ups (climb settings.now used i ws ups)) }
+    ensures low { OnOk result (tree.new.height ≤ 64) }
+    ensures back { IfErr result (λ e. e.1.items ≡ dones.items) }
+    ensures err { OnErr result (tree.new ≡ tree.old) }
+    ensures high { IfErr result (λ e. (ws : List (Worked (List ℕ))) (ups : List (List (Placed ℕ))) (used : List ℕ) (i : ℕ) →
+        IsLevel Leaf tree.old (map (λ d. shown Leaf d.made.worked) dones.items) ws ups used i → depth ≡ length ups → e.0 ≡ Refused.TooHigh →
+        64 + length ups < tree.old.height + length (climb settings.now used i ws ups).tower.above) }
+{
+    if dones.is_empty() {
+        return Ok(());
+    }
+    if depth == 0 {
+        return climb_root(alloc, settings, tree, dones);
+    }
+    let changed = match change_level(alloc, settings, tree, depth - 1, &dones) {
+        Ok(changed) => changed,
+        Err(_) => return Err((Refused::NoMemory, dones)),
+    };
+    let Changed { groups, parents } = changed;
+    match climb_parents(alloc, settings, tree, depth - 1, parents) {
+        Ok(()) => {
+            put_home(tree, dones);
+            install_all(tree, groups);
+            Ok(())
+        }
+        Err((refused, parents)) => {
+            undo_parents(alloc, settings, tree, parents);
+            // To free what was drawn gives the table back.
+            drawn_pids_get_places_that_are_away::<Page<Global>>();
+            free_drawn(tree, &groups);
+            Err((refused, dones))
+        }
+    }
+}
+
+// Climbs from these index pages, which were worked, and which are so many levels below the root. Where it is refused, the tree is as
+// it was, and the pages come back as they were given.
+fn climb_parents(
+    alloc: Global,
+    settings: &Settings,
+    tree: &mut Tree<Global>,
+    depth: u32,
+    dones: Vec<TermDone>,
+) -> Result<(), (Refused, Vec<TermDone>)>
+    requires fan { 1 < settings.now.fan }
+    requires level { (ws : List (Worked ℕ)) × (ups : List (List (Placed ℕ))) × (used : List ℕ) × (i : ℕ)
+        × IsLevel Index tree.old (map (λ d. shown Index d.made) dones.items) ws ups used i × (depth ≡ length ups) }
+    requires height { tree.old.height ≤ 64 }
+    ensures climbed { OnOk result ((ws : List (Worked ℕ)) (ups : List (List (Placed ℕ))) (used : List ℕ) (i : ℕ) →
+        IsLevel Index tree.old (map (λ d. shown Index d.made) dones.items) ws ups used i → depth ≡ length ups → HasClimbed Index tree.old tree.new ws ups (climb settings.now used i ws ups)) }
+    ensures low { OnOk result (tree.new.height ≤ 64) }
+    ensures back { IfErr result (λ e. e.1.items ≡ dones.items) }
+    ensures err { OnErr result (tree.new ≡ tree.old) }
+    ensures high { IfErr result (λ e. (ws : List (Worked ℕ)) (ups : List (List (Placed ℕ))) (used : List ℕ) (i : ℕ) →
+        IsLevel Index tree.old (map (λ d. shown Index d.made) dones.items) ws ups used i → depth ≡ length ups → e.0 ≡ Refused.TooHigh →
+        64 + length ups < tree.old.height + length (climb settings.now used i ws ups).tower.above) }
+{
+    if dones.is_empty() {
+        return Ok(());
+    }
+    if depth == 0 {
+        return climb_root(alloc, settings, tree, dones);
+    }
+    let changed = match change_level(alloc, settings, tree, depth - 1, &dones) {
+        Ok(changed) => changed,
+        Err(_) => return Err((Refused::NoMemory, dones)),
+    };
+    let Changed { groups, parents } = changed;
+    match climb_parents(alloc, settings, tree, depth - 1, parents) {
+        Ok(()) => {
+            put_home(tree, dones);
+            install_all(tree, groups);
+            Ok(())
+        }
+        Err((refused, parents)) => {
+            undo_parents(alloc, settings, tree, parents);
+            // To free what was drawn gives the table back.
+            drawn_pids_get_places_that_are_away::<Page<Global>>();
+            free_drawn(tree, &groups);
+            Err((refused, dones))
+        }
+    }
+}

@@ -1,0 +1,52 @@
+-- A batch that isn't refused has short keys and values.
+use Rattle.std.specs.Prelude.{◌≡◌, ◌≤◌, ℕ, ◌+◌, Bool, true, false, nat_lt, List, [], ◌∷◌, length, Option, Some, None, Result, Ok, Err, MatchOption, if◌then◌else◌}
+use Rattle.std.proofs.Common.{refl}
+use Rattle.std.specs.Option.{option_or}
+use Rattle.std.proofs.lemmas.Bool.{ltb-false}
+use Rattle.keys.specs.declared.settings.Settings.{Settings}
+use Rattle.keys.specs.declared.command.Command.{Command}
+use Rattle.keys.specs.declared.command.Command.TheVariants.{Get, Put, Add, Del}
+use Rattle.keys.specs.declared.fault.Fault.{Fault}
+use Rattle.climb_plan.specs.Limits.{IsShortPair, IsShortCommand, AreShort}
+use Rattle.engine.specs.Refusal.{key_fault, value_fault, fault_at, first_fault, refusal}
+
+-- a batch that was let through isn't refused
+pub passed_by : {U : Type 0} (o : Option Fault) (r : Result U Fault) (u v : U) → MatchOption o (r ≡ Ok u) (λ fault. r ≡ Err fault) → r ≡ Ok v → o ≡ None
+passed_by None r u v h e = refl
+passed_by (Some fault) r u v h e = absurd (cc)
+
+neither : {X : Type 0} (o p : Option X) → option_or o p ≡ None → (o ≡ None) × (p ≡ None)
+neither None p e = (refl, e)
+neither (Some x) p e = absurd (cc)
+
+none_where : (b : Bool) (fault : Fault) → (if b then Some fault else None) ≡ None → b ≡ false
+none_where true fault e = absurd (cc)
+none_where false fault e = refl
+
+short_where : (max n : ℕ) (fault : Fault) → (if nat_lt max n then Some fault else None) ≡ None → n ≤ max
+short_where max n fault e = ltb-false max n (none_where (nat_lt max n) fault e)
+
+short_pair : (s : Settings) (place : ℕ) (k v : List ℕ) → option_or (key_fault s place k) (value_fault s place v) ≡ None → IsShortPair s k v
+short_pair s place k v e =
+    let parts = neither (key_fault s place k) (value_fault s place v) e in
+    (short_where s.max_key (length k) _ parts.0, short_where s.max_value (length v) _ parts.1)
+
+module _ {A : Type 0} (s : Settings) where
+  short_command : (place : ℕ) (c : Command A) → fault_at s place c ≡ None → IsShortCommand s c
+  short_command place (Get k) e = short_where s.max_key (length k) _ e
+  short_command place (Put k v) e = short_pair s place k v e
+  short_command place (Add k v) e = short_pair s place k v e
+  short_command place (Del k) e = short_where s.max_key (length k) _ e
+
+  short_from : (place : ℕ) (cs : List (Command A)) → first_fault s place cs ≡ None → AreShort s cs
+  short_from place [] e = tt
+  short_from place (c ∷ cs) e =
+      let parts = neither (fault_at s place c) (first_fault s (place + 1) cs) e in
+      (short_command place c parts.0, short_from (place + 1) cs parts.1)
+
+  short_by : (b : Bool) (fault : Fault) (cs : List (Command A)) → (if b then Some fault else first_fault s 0 cs) ≡ None → AreShort s cs
+  short_by true fault cs e = absurd (cc)
+  short_by false fault cs e = short_from 0 cs e
+
+  pub admitted : (cs : List (Command A)) → refusal s cs ≡ None → AreShort s cs
+  admitted cs e = short_by _ _ cs e

@@ -1,0 +1,154 @@
+-- A page's part of the whole net run is the net run of its own commands on its own entries.
+use Rattle.std.specs.Prelude.{◌≡◌, ℕ, Bool, true, false, not, ◌&&◌, cond, List, [], ◌∷◌, Option, Some, None}
+use Rattle.std.proofs.Common.{refl, sym, ap, ◌∙◌}
+use Rattle.std.specs.List.{filter}
+use Rattle.std.specs.Ordering.{is_eq}
+use Rattle.keys.specs.Order.{order, IsRising}
+use Rattle.keys.specs.OrderedMap.{value_at}
+use Rattle.keys.specs.CommandKey.{key_of}
+use Rattle.keys.specs.declared.command.Command.{Command}
+use Rattle.keys.specs.declared.command.Command.TheVariants.{Get, Put, Add, Del}
+use Rattle.keys.proofs.MapLaws.{total, passes_same, same_map}
+use Rattle.index_page.specs.Range.{is_below, is_before, is_within}
+use Rattle.index_page.proofs.PageLaws.{all_keys_entries}
+use Rattle.index_page.proofs.RangeLaws.{below_is_less, less_is_below, rising-filter, value_at-behind}
+use Rattle.mapping.specs.Levels.{Placed, entries, joined}
+use Rattle.mapping.specs.Proper.{next_low, Tiled}
+use Rattle.mapping.proofs.TileLaws.{rising-tile, value_at-joined}
+use Rattle.routing.specs.Routes.{goes_to}
+use Rattle.routing.proofs.RouteLaws.{goes_by_key}
+use Rattle.page_runs.specs.NetRun.{net_run}
+use Rattle.page_runs.specs.Apart.{single_key, TakesAll, TakesNoOther, AgreeOn}
+use Rattle.page_runs.proofs.NetLaws.{Pairs, Changes, rising-net_run}
+use Rattle.page_runs.proofs.ApartLaws.{within_by_key, off_by_key, net_run-apart, net_run-no_other}
+use Rattle.split_plan.specs.WorkedLevel.{part_below, part_from}
+
+-- ---- what a filtered list has at a key
+
+module _ {X : Type 0} where
+  passing_by : (b t u : Bool) (k : List ℕ) (e : List ℕ × X) (es rest : List (List ℕ × X)) → is_eq (order k e.0) ≡ t → (t ≡ true → u ≡ b) → value_at k rest ≡ cond u (value_at k es) None → value_at k (cond b (e ∷ rest) rest) ≡ cond u (value_at k (e ∷ es)) None
+  passing_by true true true k e es rest h same ih = rw h refl
+  passing_by true true false k e es rest h same ih = absurd (let f = same refl in cc)
+  passing_by true false u k e es rest h same ih = rw h ih
+  passing_by false true true k e es rest h same ih = absurd (let f = same refl in cc)
+  passing_by false true false k e es rest h same ih = ih
+  passing_by false false u k e es rest h same ih = rw h ih
+
+  nothing_by : (b : Bool) → ◌≡◌ {A = Option X} None (cond b None None)
+  nothing_by true = refl
+  nothing_by false = refl
+
+  -- of the pairs whose keys pass, what all of them have at a key that passes, and nothing at another
+  pub value_at-passing : (test : List ℕ → Bool) (es : List (List ℕ × X)) (k : List ℕ) → value_at k (filter (λ e. test e.0) es) ≡ cond (test k) (value_at k es) None
+  value_at-passing test [] k = nothing_by (test k)
+  value_at-passing test (e ∷ es) k =
+      passing_by (test e.0) (is_eq (order k e.0)) (test k) k e es (filter (λ e. test e.0) es) refl (λ h. ap test (passes_same k e.0 h)) (value_at-passing test es k)
+
+-- ---- the commands of a range
+
+single : {A : Type 0} (c : Command A) → single_key c ≡ Some (key_of c)
+single (Get k) = refl
+single (Put k v) = refl
+single (Add k v) = refl
+single (Del k) = refl
+
+module _ {A : Type 0} (low : List ℕ) (end : Option (List ℕ)) where
+  takes_all : TakesAll {A = A} (is_within low end) (goes_to low end)
+  takes_all c h = off_by_key (is_within low end) c (key_of c) (single c) (sym (goes_by_key low end c) ∙ h)
+
+  takes_no_other : TakesNoOther {A = A} (is_within low end) (goes_to low end)
+  takes_no_other c h = within_by_key (is_within low end) c (key_of c) (single c) (sym (goes_by_key low end c) ∙ h)
+
+  own_by : (b : Bool) (m es : Pairs) (cs : List (Command A)) (k : List ℕ) → is_within low end k ≡ b → IsRising m → IsRising es → AgreeOn (is_within low end) m es
+      → cond b (value_at k (net_run m cs)) None ≡ value_at k (net_run es (filter (goes_to low end) cs))
+  own_by true m es cs k h r e a = net_run-apart (is_within low end) (goes_to low end) m es cs k takes_all r e a h
+  own_by false m es cs k h r e a = sym (net_run-no_other (is_within low end) (goes_to low end) es cs k takes_no_other h)
+
+  -- what lies of the whole net run within the range is the net run of the range's commands on entries that agree there
+  pub part_is_own : (m es : Pairs) (cs : List (Command A)) (part : Changes) → IsRising m → IsRising es → AgreeOn (is_within low end) m es → IsRising part
+      → ((k : List ℕ) → value_at k part ≡ cond (is_within low end k) (value_at k (net_run m cs)) None) → part ≡ net_run es (filter (goes_to low end) cs)
+  part_is_own m es cs part r e a p says =
+      same_map part (net_run es (filter (goes_to low end) cs)) p (rising-net_run es (filter (goes_to low end) cs)) (λ k. says k ∙ own_by (is_within low end k) m es cs k refl r e a)
+
+-- ---- what is left of the whole net run for the pages from one on
+
+-- from a page on: of a run, what lies from its low key on; and a map has there what these pages have
+pub record IsLeft (m : Pairs) (run : Changes) (p : Placed (List ℕ)) (ps : List (Placed (List ℕ))) (left : Changes) : Type 0 where
+  pub rising : IsRising left
+  pub says : (k : List ℕ) → value_at k left ≡ cond (is_below k p.page.low) None (value_at k run)
+  pub has : (k : List ℕ) → is_below k p.page.low ≡ false → value_at k m ≡ value_at k (joined (p ∷ ps))
+
+first_part_by : {X : Type 0} (low upper : Bool) (o : Option X) → cond upper (cond low None o) None ≡ cond (not low && upper) o None
+first_part_by true true o = refl
+first_part_by true false o = refl
+first_part_by false upper o = refl
+
+later_part_by : {X : Type 0} (low upper : Bool) (o : Option X) → (low ≡ true → upper ≡ true) → cond (not upper) (cond low None o) None ≡ cond upper None o
+later_part_by true true o h = refl
+later_part_by true false o h = absurd (let f = h refl in cc)
+later_part_by false true o h = refl
+later_part_by false false o h = refl
+
+last_part_by : {X : Type 0} (low : Bool) (o : Option X) → cond low None o ≡ cond (not low && true) o None
+last_part_by true o = refl
+last_part_by false o = refl
+
+not_by : (a b : Bool) → (a ≡ true → b ≡ true) → b ≡ false → a ≡ false
+not_by true b h e = absurd (let f = h refl in cc)
+not_by false b h e = refl
+
+low_by : (a b : Bool) → (not a && b) ≡ true → a ≡ false
+low_by true b h = absurd (cc)
+low_by false b h = refl
+
+below_later : (p q : Placed (List ℕ)) (qs : List (Placed (List ℕ))) → Tiled (p ∷ q ∷ qs) None → (k : List ℕ) → is_below k p.page.low ≡ true → is_below k q.page.low ≡ true
+below_later p q qs t k h = less_is_below k q.page.low (total.trans k p.page.low q.page.low (below_is_less k p.page.low h) t.0.low)
+
+module _ {A : Type 0} (m : Pairs) (cs : List (Command A)) (rising : IsRising m) where
+  -- on the range of the page, the map has what the page has
+  agrees : (p : Placed (List ℕ)) (ps : List (Placed (List ℕ))) (left : Changes) → Tiled (p ∷ ps) None → IsLeft m (net_run m cs) p ps left → AgreeOn (is_within p.page.low (next_low ps None)) m (entries p)
+  agrees p ps left t l k h =
+      l.has k (low_by (is_below k p.page.low) (is_before (next_low ps None) k) h) ∙ sym (value_at-joined [] ps p None k t h)
+
+  -- the last page gets all that is left
+  pub last_part : (p : Placed (List ℕ)) (left : Changes) → Tiled (p ∷ []) None → IsLeft m (net_run m cs) p [] left → left ≡ net_run (entries p) (filter (goes_to p.page.low None) cs)
+  last_part p left t l =
+      part_is_own p.page.low None m (entries p) cs left rising (rising-tile None p t.0) (agrees p [] left t l) l.rising
+      (λ k. l.says k ∙ last_part_by (is_below k p.page.low) (value_at k (net_run m cs)))
+
+  -- and any other page what is below the next page's low key
+  pub first_part : (p q : Placed (List ℕ)) (qs : List (Placed (List ℕ))) (left : Changes) → Tiled (p ∷ q ∷ qs) None → IsLeft m (net_run m cs) p (q ∷ qs) left
+      → part_below q.page.low left ≡ net_run (entries p) (filter (goes_to p.page.low (Some q.page.low)) cs)
+  first_part p q qs left t l =
+      part_is_own p.page.low (Some q.page.low) m (entries p) cs (part_below q.page.low left) rising (rising-tile (Some q.page.low) p t.0) (agrees p (q ∷ qs) left t l)
+      (rising-filter (λ c. is_below c.0 q.page.low) left l.rising)
+      (λ k. value_at-passing (λ j. is_below j q.page.low) left k
+      ∙ ap (λ (o : Option (Option (List ℕ))). cond (is_below k q.page.low) o None) (l.says k)
+      ∙ first_part_by (is_below k p.page.low) (is_below k q.page.low) (value_at k (net_run m cs)))
+
+-- what is left behind the first page is so from the next one on
+pub later_part : (m : Pairs) (run : Changes) (p q : Placed (List ℕ)) (qs : List (Placed (List ℕ))) (left : Changes) → Tiled (p ∷ q ∷ qs) None → IsLeft m run p (q ∷ qs) left → IsLeft m run q qs (part_from q.page.low left)
+later_part m run p q qs left t l = record {
+  rising = rising-filter (λ c. not (is_below c.0 q.page.low)) left l.rising;
+  says = λ k. value_at-passing (λ j. not (is_below j q.page.low)) left k
+      ∙ ap (λ (o : Option (Option (List ℕ))). cond (not (is_below k q.page.low)) o None) (l.says k)
+      ∙ later_part_by (is_below k p.page.low) (is_below k q.page.low) (value_at k run) (below_later p q qs t k);
+  has = λ k h. l.has k (not_by (is_below k p.page.low) (is_below k q.page.low) (below_later p q qs t k) h)
+      ∙ value_at-behind q.page.low k (entries p) (joined (q ∷ qs)) h (all_keys_entries (λ j. is_below j q.page.low ≡ true) p.page t.0.keys.before);
+}
+
+not_below_nothing : (k : List ℕ) → is_below k [] ≡ false
+not_below_nothing [] = refl
+not_below_nothing (x ∷ xs) = refl
+
+from_start_by : {X : Type 0} (b : Bool) (o : Option X) → b ≡ false → o ≡ cond b None o
+from_start_by true o h = absurd (cc)
+from_start_by false o h = refl
+
+-- for the first page, whose low key is the empty one, all of it is left
+pub all_left : {A : Type 0} (cs : List (Command A)) (p : Placed (List ℕ)) (ps : List (Placed (List ℕ))) → p.page.low ≡ [] → IsLeft (joined (p ∷ ps)) (net_run (joined (p ∷ ps)) cs) p ps (net_run (joined (p ∷ ps)) cs)
+all_left cs p ps e = record {
+  rising = rising-net_run (joined (p ∷ ps)) cs;
+  says = λ k. from_start_by (is_below k p.page.low) (value_at k (net_run (joined (p ∷ ps)) cs)) (ap (λ (low : List ℕ). is_below k low) e ∙ not_below_nothing k);
+  has = λ k h. refl;
+}

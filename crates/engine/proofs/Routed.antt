@@ -1,0 +1,136 @@
+-- A batch whose routes are known: what its leaves answer, that the tree is ready to climb, and the way back.
+use Rattle.std.specs.Prelude.{◌≡◌, ℕ, ◌≤◌, List, [], ◌∷◌, map, length, slice_get, Result, Ok, Err, OnErr}
+use Rattle.std.proofs.Common.{refl, ap, ◌∙◌, subst}
+use Rattle.std.specs.declared.alloc.Global.{Global}
+use Rattle.keys.specs.Places.{HasEachOnce}
+use Rattle.keys.specs.Step.{replies_to}
+use Rattle.keys.specs.declared.command.Command.{Command}
+use Rattle.keys.specs.declared.command.Reply.{Reply}
+use Rattle.keys.specs.declared.settings.Settings.{Settings}
+use Rattle.index_page.specs.Page.{PageOfKind}
+use Rattle.index_page.specs.Page.PageOfKind.{Leaf}
+use Rattle.mapping.specs.Levels.{contents}
+use Rattle.mapping.specs.Proper.{AreRisingPids, AreLogsTrue, IsProper}
+use Rattle.mapping.specs.Table.{pids_in_use, page_of}
+use Rattle.mapping.specs.Tree.{Tree, Store}
+use Rattle.mapping.specs.TreeInMemory.{TreeInMemory, AreAllHome, tree_of}
+use Rattle.page_runs.specs.LeafWork.{LeafHeld, LeafMade, LeafWorked}
+use Rattle.replies.specs.ByPlace.{places_of, reply_at}
+use Rattle.routing.specs.Routes.{Route}
+use Rattle.climb_plan.specs.Changing.{SeenPage, shown}
+use Rattle.climb_plan.specs.Installing.{AreAway, all_taken, all_put, page_or_none}
+use Rattle.climb_plan.specs.Plan.{planned_tree}
+use Rattle.climb_plan.specs.Ready.{IsReady}
+use Rattle.climb_plan.proofs.ArrivedPages.{home_keys}
+use Rattle.engine.specs.Leaves.{AreLeafRoutes, leaf_held, leaves_made, answers, route_pids}
+use Rattle.engine.specs.State.{IsSoundInMemory}
+use Rattle.engine.proofs.Answered.{routes_here, routes_are_leaves, answered_once, answered_as_a_map}
+use Rattle.engine.proofs.Executed.{held_all, seen_leaves}
+use Rattle.engine.proofs.Readied.{ready_here, taken_away, put_back_here}
+
+abbrev pub made_all : List LeafWorked → List LeafMade
+made_all ds = map (λ d. d.made) ds
+
+-- what is seen of leaves is of what was made of them
+seen_by_made : (ds : List LeafWorked) → seen_leaves ds ≡ map (λ x. shown Leaf x.worked) (made_all ds)
+seen_by_made [] = refl
+seen_by_made (d ∷ ds) = ap (λ (xs : List SeenPage). shown Leaf d.made.worked ∷ xs) (seen_by_made ds)
+
+pids_held : (ds : List LeafWorked) → map (λ d. d.held.route.pid) ds ≡ map (λ h. h.route.pid) (held_all ds)
+pids_held [] = refl
+pids_held (d ∷ ds) = ap (λ (ns : List ℕ). d.held.route.pid ∷ ns) (pids_held ds)
+
+pages_held : (ds : List LeafWorked) → map {B = ℕ × PageOfKind} (λ d. (d.held.route.pid, d.held.page)) ds ≡ map {B = ℕ × PageOfKind} (λ h. (h.route.pid, h.page)) (held_all ds)
+pages_held [] = refl
+pages_held (d ∷ ds) = ap (λ (es : List (ℕ × PageOfKind)). (d.held.route.pid, d.held.page) ∷ es) (pages_held ds)
+
+module _ (m : TreeInMemory) where
+  pids_of_routes : (rs : List Route) → map (λ h. h.route.pid) (map (leaf_held m.table) rs) ≡ route_pids rs
+  pids_of_routes [] = refl
+  pids_of_routes (r ∷ rs) = ap (λ (ns : List ℕ). r.pid ∷ ns) (pids_of_routes rs)
+
+  -- the pages of the routes, under their pids
+  abbrev routed_pages : List Route → List (ℕ × PageOfKind)
+  routed_pages rs = map (λ r. (r.pid, page_or_none (page_of m.table r.pid))) rs
+
+  pages_of_routes : (rs : List Route) → map {B = ℕ × PageOfKind} (λ h. (h.route.pid, h.page)) (map (leaf_held m.table) rs) ≡ routed_pages rs
+  pages_of_routes [] = refl
+  pages_of_routes (r ∷ rs) = ap (λ (es : List (ℕ × PageOfKind)). (r.pid, page_or_none (page_of m.table r.pid)) ∷ es) (pages_of_routes rs)
+
+-- the tree without the pages of these routes
+abbrev without_leaves : TreeInMemory → List Route → TreeInMemory
+without_leaves m rs = record m { table = all_taken m.table (route_pids rs) }
+
+-- what holds anyway holds after an error
+pub on_any_error : {T E P : Type 0} (r : Result T E) → P → OnErr r P
+on_any_error (Ok x) p = tt
+on_any_error (Err e) p = p
+
+-- the pids of a sound tree rise
+pub sound_rising : (s : Settings) (m : TreeInMemory) → IsSoundInMemory s m → AreRisingPids (pids_in_use m.table)
+sound_rising s m sound = subst (λ (ns : List ℕ). AreRisingPids ns) (home_keys m.table.places sound.home) sound.sound.proper.tree.rising
+
+module _ (s : Settings) (m : TreeInMemory) (cs : List (Command Global)) (sound : IsSoundInMemory s m) (rs : List Route) (routed : rs ≡ routes_here m cs) where
+  pub leaf_routes : AreLeafRoutes m.table cs rs
+  leaf_routes = rw routed (routes_are_leaves s m cs sound.home sound.sound.proper)
+
+  module _ (ds : List LeafWorked) (made : made_all ds ≡ leaves_made s cs m.table rs) where
+    made_here : made_all ds ≡ leaves_made s cs m.table (routes_here m cs)
+    made_here = made ∙ ap (λ (xs : List Route). leaves_made s cs m.table xs) routed
+
+    pub each_once : HasEachOnce (length cs) (places_of (answers (made_all ds)))
+    each_once = rw made_here (answered_once s m cs sound.home sound.sound.proper)
+
+    pub as_a_map : (xs : List (Reply Global)) → length xs ≡ length cs → ((place : ℕ) → slice_get xs place ≡ reply_at (answers (made_all ds)) place) → xs ≡ replies_to (contents (tree_of m)) cs
+    as_a_map xs count at = answered_as_a_map s m cs sound.home sound.sound.proper xs count (λ place. at place ∙ ap (λ (ms : List LeafMade). reply_at (answers ms) place) made_here)
+
+    module _ (now : TreeInMemory) (taken : now ≡ without_leaves m rs) where
+      is_ready : IsReady s (tree_of m) cs now (seen_leaves ds)
+      is_ready =
+          let there : now ≡ without_leaves m (routes_here m cs) = taken ∙ ap (λ (xs : List Route). without_leaves m xs) routed in
+          let seen : seen_leaves ds ≡ map (λ x. shown Leaf x.worked) (leaves_made s cs m.table (routes_here m cs)) = seen_by_made ds ∙ ap (λ (ms : List LeafMade). map (λ x. shown Leaf x.worked) ms) made_here in
+          rw (there, seen) (ready_here s m cs sound)
+
+      pub some_ready : (t : Tree) × (bs : List (Command Global)) × IsReady s t bs now (seen_leaves ds)
+      some_ready = (tree_of m, cs, is_ready)
+
+      -- what holds of all for which the tree is ready holds of this one
+      pub for_this : (P : Tree → List (Command Global) → Type 0) → ((t : Tree) (bs : List (Command Global)) → IsReady s t bs now (seen_leaves ds) → P t bs) → P (tree_of m) cs
+      for_this P f = f (tree_of m) cs is_ready
+
+  module _ (ds again : List LeafWorked) (held : held_all ds ≡ map (leaf_held m.table) rs) (back : held_all again ≡ held_all ds) (now refused : TreeInMemory) (taken : now ≡ without_leaves m rs) (kept : refused ≡ now) where
+    there : refused ≡ without_leaves m (routes_here m cs)
+    there = kept ∙ taken ∙ ap (λ (xs : List Route). without_leaves m xs) routed
+
+    held_again : held_all again ≡ map (leaf_held m.table) (routes_here m cs)
+    held_again = back ∙ held ∙ ap (λ (xs : List Route). map (leaf_held m.table) xs) routed
+
+    pub again_away : AreAway refused.table (map (λ d. d.held.route.pid) again)
+    again_away =
+        let pids : map (λ d. d.held.route.pid) again ≡ route_pids (routes_here m cs) = pids_held again ∙ ap (λ (hs : List LeafHeld). map (λ h. h.route.pid) hs) held_again ∙ pids_of_routes m (routes_here m cs) in
+        rw (there, pids) (taken_away s m cs sound)
+
+    pub again_back : (last : TreeInMemory) → last ≡ record refused { table = all_put refused.table (map {B = ℕ × PageOfKind} (λ d. (d.held.route.pid, d.held.page)) again) } → last ≡ m
+    again_back last e =
+        let pages : map {B = ℕ × PageOfKind} (λ d. (d.held.route.pid, d.held.page)) again ≡ routed_pages m (routes_here m cs) =
+        pages_held again ∙ ap (λ (hs : List LeafHeld). map {B = ℕ × PageOfKind} (λ h. (h.route.pid, h.page)) hs) held_again ∙ pages_of_routes m (routes_here m cs) in
+        let whole : record refused { table = all_put refused.table (map {B = ℕ × PageOfKind} (λ d. (d.held.route.pid, d.held.page)) again) } ≡ m = rw (there, pages) (put_back_here s m cs sound) in
+        e ∙ whole
+
+-- ---- the tree after a batch
+
+abbrev pub as_store : Tree → Store
+as_store t = record { tree = t; head = 0; tail = 0; sequence = 0 }
+
+-- the plan of a sound tree is sound, where its height is within the limit
+pub sound_planned : (s : Settings) (m now : TreeInMemory) (cs : List (Command Global)) → IsSoundInMemory s m → AreAllHome now × (tree_of now ≡ planned_tree s (tree_of m) cs) → now.height ≤ 64
+    → IsProper s (planned_tree s (tree_of m) cs) → AreLogsTrue (planned_tree s (tree_of m) cs) → IsSoundInMemory s now
+sound_planned s m now cs sound planned low proper logs = record {
+  home = planned.0;
+  sound = record {
+    settings = sound.sound.settings;
+    proper = rw planned.1 proper;
+    logs = rw planned.1 logs;
+    height = low;
+  };
+}

@@ -1,0 +1,29 @@
+-- How a batch is refused once its commands are admitted, and how it is refused by its right.
+use Rattle.std.specs.Prelude.{◌≡◌, ◌⊎◌, ℕ, ◌<◌, nat_lt, if◌then◌else◌, List, Option, Some, None}
+use Rattle.std.specs.Option.{option_or}
+use Rattle.keys.specs.declared.settings.Settings.{Settings}
+use Rattle.keys.specs.declared.command.Command.{Command}
+use Rattle.keys.specs.declared.fault.Fault.{Fault}
+use Rattle.keys.specs.declared.fault.Fault.TheVariants.{NoMemory, Spent}
+use Rattle.mapping.specs.Tree.{Tree}
+use Rattle.climb_plan.specs.declared.refused.Refused.{Refused}
+use Rattle.climb_plan.specs.declared.refused.Refused.TheVariants as refusals
+use Rattle.climb_plan.specs.Plan.{planned_tree}
+use Rattle.engine.specs.Refusal.{refusal}
+
+-- for want of memory, or since the planned tree would have more than 64 levels
+abbrev pub IsLaterFault : {A : Type 0} → Settings → Tree → List (Command A) → Fault → Type 0
+IsLaterFault s t cs fault = (fault ≡ NoMemory) ⊎ ((fault ≡ Spent) × (64 < (planned_tree s t cs).height))
+
+-- the fault of a climb that is refused
+abbrev pub fault_by : Refused → Fault
+fault_by refusals.NoMemory = NoMemory
+fault_by refusals.TooHigh = Spent
+
+-- what is wrong with a tree of so many levels
+abbrev pub height_fault : ℕ → Option Fault
+height_fault height = if nat_lt 64 height then Some Spent else None
+
+-- why a batch is refused but for want of memory: its own fault, or else that the planned tree would have more than 64 levels
+abbrev pub refusal_by : {A : Type 0} → Settings → Tree → List (Command A) → Option Fault
+refusal_by s t cs = option_or (refusal s cs) (height_fault (planned_tree s t cs).height)

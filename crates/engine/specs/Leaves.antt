@@ -1,0 +1,51 @@
+-- The leaves that a batch goes to, as jobs.
+use Rattle.std.specs.Prelude.{ℕ, ⊤, List, [], map, Option, Some, None}
+use Rattle.std.specs.List.{AllByRecursion}
+use Rattle.std.specs.declared.alloc.Global.{Global}
+use Rattle.keys.specs.Lists.{flat}
+use Rattle.keys.specs.declared.command.Command.{Command}
+use Rattle.keys.specs.declared.piece.Piece.{Piece}
+use Rattle.keys.specs.declared.settings.Settings.{Settings}
+use Rattle.index_page.specs.Page.{PageOfKind}
+use Rattle.index_page.specs.Page.PageOfKind.{Leaf, Index}
+use Rattle.mapping.specs.Proper.{Distinct}
+use Rattle.mapping.specs.Table.{Mapping, page_of}
+use Rattle.routing.specs.Routes.{Route}
+use Rattle.page_runs.specs.LeafWork.{LeafHeld, LeafMade, LeafWorked, leaf_made}
+use Rattle.page_runs.specs.Replies.{ArePlacesOf}
+use Rattle.climb_plan.specs.Installing.{page_or_none}
+
+abbrev pub IsLeafAt : Option PageOfKind → Type 0
+IsLeafAt None = ⊥
+IsLeafAt (Some (Leaf p)) = ⊤
+IsLeafAt (Some (Index p)) = ⊥
+
+-- the pids of the pages of routes
+abbrev pub route_pids : List Route → List ℕ
+route_pids rs = map (λ r. r.pid) rs
+
+-- these pids have leaves at home, each another
+abbrev pub AreLeavesHome : Mapping PageOfKind → List ℕ → Type 0
+AreLeavesHome t pids = AllByRecursion (λ pid. IsLeafAt (page_of t pid)) pids × Distinct pids
+
+-- these routes go to leaves that are at home, each to another, and their places are places of the batch
+pub record AreLeafRoutes (t : Mapping PageOfKind) (cs : List (Command Global)) (rs : List Route) : Type 0 where
+  pub home : AllByRecursion (λ pid. IsLeafAt (page_of t pid)) (route_pids rs)
+  pub distinct : Distinct (route_pids rs)
+  pub places : AllByRecursion (λ r. ArePlacesOf cs r.places) rs
+
+-- what a leaf's job holds
+abbrev pub leaf_held : Mapping PageOfKind → Route → LeafHeld
+leaf_held t r = record { page = page_or_none (page_of t r.pid); route = r }
+
+-- what is made of the leaves of these routes
+abbrev pub leaves_made : Settings → List (Command Global) → Mapping PageOfKind → List Route → List LeafMade
+leaves_made s cs t rs = map (λ r. leaf_made s cs (leaf_held t r)) rs
+
+-- all their answers
+abbrev pub answers : List LeafMade → List (Piece Global)
+answers ms = flat (map (λ m. m.pieces) ms)
+
+-- leaves that were worked, without their answers
+abbrev pub without_answers : LeafWorked → LeafWorked
+without_answers d = record { held = d.held; made = record { worked = d.made.worked; pieces = [] } }

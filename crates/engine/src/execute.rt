@@ -1,0 +1,128 @@
+//! A batch on a tree: which leaves its commands go to, what these become and answer, and the climb from them to the root.
+ghost use Rattle.std.specs.Prelude.{◌≡◌, ◌<◌, ◌≤◌, ℕ, List, map, length, slice_get, IfOk, IfErr, OnOk, OnErr};
+ghost use Rattle.keys.specs.Places.{HasEachOnce};
+ghost use Rattle.keys.specs.declared.command.Command.{Command};
+ghost use Rattle.index_page.specs.Page.PageOfKind.{Leaf};
+ghost use Rattle.keys.specs.Step.{replies_to, map_after_all};
+ghost use Rattle.mapping.specs.Levels.{contents, levels_of};
+ghost use Rattle.mapping.specs.Tree as definitions;
+ghost use Rattle.mapping.specs.TreeInMemory.{AreAllHome, tree_of};
+ghost use Rattle.routing.specs.Routes.{routes};
+ghost use Rattle.replies.specs.ByPlace.{places_of, reply_at};
+ghost use Rattle.climb_plan.specs.Changing.{shown};
+ghost use Rattle.climb_plan.specs.Limits.{AreShort};
+ghost use Rattle.climb_plan.specs.Plan.{planned_tree};
+ghost use Rattle.climb_plan.specs.Ready.{IsReady};
+ghost use Rattle.engine.specs.Batch.{IsLaterFault, fault_by};
+ghost use Rattle.engine.specs.Leaves.{answers};
+ghost use Rattle.engine.specs.State.{IsSoundInMemory};
+
+use crate::leaves::{take_replies, undo_leaves, work_leaves};
+use climb_plan::Refused;
+use climb_plan::climb::climb;
+use climb_plan::laws::{
+    the_log_states_stay_true, the_plan_holds_the_map_after_the_commands,
+    the_plan_of_a_proper_store_is_proper,
+};
+use keys::{Command, Fault, Reply, Settings};
+use mapping::Tree;
+use page_runs::LeafDone;
+use routing::{PageRun, route};
+use std::alloc::Global;
+use std::thread::Threads;
+
+/// Executes the commands on the tree: the replies, and the tree is the plan's; or, for want of memory or since the tree would have
+/// more than 64 levels, the tree is as it was.
+pub(crate) fn execute(
+    rt: &(impl Threads + Sync),
+    alloc: Global,
+    settings: &Settings,
+    tree: &mut Tree<Global>,
+    commands: &[Command<Global>],
+) -> Result<Vec<Reply<Global>>, Fault>
+    requires sound { IsSoundInMemory settings.now tree.old }
+    requires short { AreShort settings.now commands.now }
+    ensures replies { IfOk result (λ replies. replies.items ≡ replies_to (contents (tree_of tree.old)) commands.now) }
+    ensures tree { OnOk result (tree_of tree.new ≡ planned_tree settings.now (tree_of tree.old) commands.now) }
+    ensures contents { OnOk result (contents (tree_of tree.new) ≡ map_after_all (contents (tree_of tree.old)) commands.now) }
+    ensures sound { IsSoundInMemory settings.now tree.new }
+    ensures err { OnErr result (tree.new ≡ tree.old) }
+    ensures fault { IfErr result (IsLaterFault settings.now (tree_of tree.old) commands.now) }
+{
+    let page_runs = route(rt, alloc, tree, commands)?;
+    execute_routed(alloc, settings, tree, commands, page_runs)
+}
+
+// The same of commands whose leaves are known.
+fn execute_routed(
+    alloc: Global,
+    settings: &Settings,
+    tree: &mut Tree<Global>,
+    commands: &[Command<Global>],
+    page_runs: Vec<PageRun>,
+) -> Result<Vec<Reply<Global>>, Fault>
+    requires sound { IsSoundInMemory settings.now tree.old }
+    requires short { AreShort settings.now commands.now }
+    requires routed { page_runs.items ≡ routes (levels_of (tree_of tree.old)).level commands.now }
+    ensures replies { IfOk result (λ replies. replies.items ≡ replies_to (contents (tree_of tree.old)) commands.now) }
+    ensures tree { OnOk result (tree_of tree.new ≡ planned_tree settings.now (tree_of tree.old) commands.now) }
+    ensures contents { OnOk result (contents (tree_of tree.new) ≡ map_after_all (contents (tree_of tree.old)) commands.now) }
+    ensures sound { IsSoundInMemory settings.now tree.new }
+    ensures err { OnErr result (tree.new ≡ tree.old) }
+    ensures fault { IfErr result (IsLaterFault settings.now (tree_of tree.old) commands.now) }
+{
+    // What the plan of a sound tree is.
+    the_plan_holds_the_map_after_the_commands::<Global>();
+    the_plan_of_a_proper_store_is_proper::<Global>();
+    the_log_states_stay_true::<Global>();
+    let leaves = work_leaves(alloc, settings, tree, commands, page_runs)?;
+    match finish(alloc, settings, tree, leaves, commands.len()) {
+        Ok(replies) => Ok(replies),
+        Err((fault, leaves)) => {
+            undo_leaves(alloc, settings, tree, commands, leaves);
+            Err(fault)
+        }
+    }
+}
+
+// The replies of these leaves, which were taken and worked, and the climb from them. Where that is refused, the tree is as it was,
+// and the leaves come back, but for their answers.
+fn finish(
+    alloc: Global,
+    settings: &Settings,
+    tree: &mut Tree<Global>,
+    mut leaves: Vec<LeafDone>,
+    commands: usize,
+) -> Result<Vec<Reply<Global>>, (Fault, Vec<LeafDone>)>
+    requires fan { 1 < settings.now.fan }
+    requires once { HasEachOnce commands (places_of (answers (map (λ d. d.made) leaves.items))) }
+    requires ready { (t : definitions.Tree) × (cs : List (Command Global)) × IsReady settings.now t cs tree.old (map (λ d. shown Leaf d.made.worked) leaves.items) }
+    requires height { tree.old.height ≤ 64 }
+    ensures count { IfOk result (λ replies. length replies.items ≡ commands) }
+    ensures replies { IfOk result (λ replies. (place : ℕ) → slice_get replies.items place ≡ reply_at (answers (map (λ d. d.made) leaves.items)) place) }
+    ensures planned { OnOk result ((t : definitions.Tree) (cs : List (Command Global)) → IsReady settings.now t cs tree.old (map (λ d. shown Leaf d.made.worked) leaves.items) →
+        AreAllHome tree.new × (tree_of tree.new ≡ planned_tree settings.now t cs)) }
+    ensures low { OnOk result (tree.new.height ≤ 64) }
+    ensures back { IfErr result (λ e. map (λ d. d.held) e.1.items ≡ map (λ d. d.held) leaves.items) }
+    ensures err { OnErr result (tree.new ≡ tree.old) }
+    ensures fault { IfErr result (λ e. (t : definitions.Tree) (cs : List (Command Global)) →
+        IsReady settings.now t cs tree.old (map (λ d. shown Leaf d.made.worked) leaves.items) → IsLaterFault settings.now t cs e.0) }
+{
+    let Ok(replies) = take_replies(alloc, &mut leaves, commands) else {
+        return Err((Fault::NoMemory, leaves));
+    };
+    match climb(alloc, settings, tree, leaves) {
+        Ok(()) => Ok(replies),
+        Err((refused, leaves)) => Err((fault_of(refused), leaves)),
+    }
+}
+
+// The fault of a climb that is refused.
+fn fault_of(refused: Refused) -> Fault
+    ensures { result ≡ fault_by refused }
+{
+    match refused {
+        Refused::NoMemory => Fault::NoMemory,
+        Refused::TooHigh => Fault::Spent,
+    }
+}

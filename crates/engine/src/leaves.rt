@@ -1,0 +1,139 @@
+//! The leaves of a batch: taken out of the tree and worked, asked for their answers, and put back where the batch is refused.
+ghost use Rattle.std.specs.Prelude.{◌≡◌, ℕ, Some, None, map, length, slice_get, vec_items, IfOk, OnOk, OnErr};
+ghost use Rattle.keys.specs.Places.{HasEachOnce};
+ghost use Rattle.mapping.specs.Proper.{AreRisingPids};
+ghost use Rattle.mapping.specs.Table.{pids_in_use, place_of, with_place};
+ghost use Rattle.page_runs.specs.LeafWork.{held_of};
+ghost use Rattle.replies.specs.ByPlace.{places_of, reply_at};
+ghost use Rattle.climb_plan.specs.Installing.{all_taken, all_put, AreAway};
+ghost use Rattle.engine.specs.Leaves.{route_pids, AreLeavesHome, AreLeafRoutes, leaf_held, leaves_made, answers, without_answers};
+
+use crew::{Work, work_all};
+use keys::{Command, Piece, Reply, Settings};
+use mapping::Tree;
+use page_runs::{LeafDone, LeafJob, LeafWork};
+use replies::assemble;
+use routing::PageRun;
+use std::alloc::{AllocError, Global};
+
+/// Takes the leaves that a batch goes to out of the tree, and works each with its commands. Where memory is refused, the tree is
+/// as it was.
+pub(crate) fn work_leaves(
+    alloc: Global,
+    settings: &Settings,
+    tree: &mut Tree<Global>,
+    commands: &[Command<Global>],
+    page_runs: Vec<PageRun>,
+) -> Result<Vec<LeafDone>, AllocError>
+    requires routes { AreLeafRoutes tree.old.table commands.now page_runs.items }
+    ensures made { IfOk result (λ dones. map (λ d. d.made) dones.items ≡ leaves_made settings.now commands.now tree.old.table page_runs.items) }
+    ensures held { IfOk result (λ dones. map (λ d. d.held) dones.items ≡ map (leaf_held tree.old.table) page_runs.items) }
+    ensures taken { OnOk result (tree.new ≡ record tree.old { table = all_taken tree.old.table (route_pids page_runs.items) }) }
+    ensures err { AreRisingPids (pids_in_use tree.old.table) → OnErr result (tree.new ≡ tree.old) }
+{
+    let work = LeafWork {
+        alloc,
+        settings: *settings,
+        commands,
+    };
+    let jobs = take_leaves(alloc, tree, page_runs)?;
+    match work_all(&work, jobs) {
+        Ok(dones) => Ok(dones),
+        Err(jobs) => {
+            put_back(tree, jobs);
+            Err(AllocError)
+        }
+    }
+}
+
+// Takes the leaves out of the tree, as jobs.
+fn take_leaves(
+    alloc: Global,
+    tree: &mut Tree<Global>,
+    page_runs: Vec<PageRun>,
+) -> Result<Vec<LeafJob>, AllocError>
+    requires { AreLeavesHome tree.old.table (route_pids page_runs.items) }
+    ensures held { IfOk result (λ jobs. map held_of jobs.items ≡ map (leaf_held tree.old.table) page_runs.items) }
+    ensures taken { OnOk result (tree.new ≡ record tree.old { table = all_taken tree.old.table (route_pids page_runs.items) }) }
+    ensures err { OnErr result (tree.new ≡ tree.old) }
+{
+    let mut jobs = Vec::with_capacity(alloc, page_runs.len())?;
+    for page_run in page_runs {
+        jobs.push_reserved(LeafJob {
+            page: tree.take(page_run.pid()),
+            page_run,
+        });
+    }
+    Ok(jobs)
+}
+
+// Puts the leaves of the jobs back into their places.
+fn put_back(tree: &mut Tree<Global>, jobs: Vec<LeafJob>)
+    requires { AreAway tree.old.table (map (λ j. j.page_run.pid) jobs.items) }
+    ensures { tree.new ≡ record tree.old { table = all_put tree.old.table (map (λ j. (j.page_run.pid, j.page)) jobs.items) } }
+{
+    for job in jobs {
+        put_leaf_back(tree, job);
+    }
+}
+
+// Puts the leaf back into its place.
+fn put_leaf_back(tree: &mut Tree<Global>, job: LeafJob)
+    requires { place_of tree.old.table job.page_run.pid ≡ Some None }
+    ensures { tree.new ≡ record tree.old { table = with_place tree.old.table job.page_run.pid (Some job.page) } }
+{
+    let LeafJob { page, page_run } = job;
+    tree.put(page_run.pid(), page);
+}
+
+/// The replies to a batch of so many commands, each at its command's place, by what its leaves answered. The answers are taken from
+/// the leaves; all else of these stays, so that they can still be undone.
+pub(crate) fn take_replies(
+    alloc: Global,
+    leaves: &mut [LeafDone],
+    commands: usize,
+) -> Result<Vec<Reply<Global>>, AllocError>
+    requires { HasEachOnce commands (places_of (answers (map (λ d. d.made) leaves.old))) }
+    ensures count { IfOk result (λ replies. length replies.items ≡ commands) }
+    ensures replies { IfOk result (λ replies. (place : ℕ) → slice_get replies.items place ≡ reply_at (answers (map (λ d. d.made) leaves.old)) place) }
+    ensures rest { map without_answers leaves.new ≡ map without_answers leaves.old }
+{
+    let pieces = take_pieces_of_all(alloc, leaves)?;
+    assemble(alloc, pieces, commands)
+}
+
+// The answers of each leaf, taken from it.
+fn take_pieces_of_all(
+    alloc: Global,
+    leaves: &mut [LeafDone],
+) -> Result<Vec<Vec<Piece<Global>>>, AllocError>
+    ensures pieces { IfOk result (λ pieces. map vec_items pieces.items ≡ map (λ d. d.made.pieces) leaves.old) }
+    ensures rest { map without_answers leaves.new ≡ map without_answers leaves.old }
+{
+    let mut pieces = Vec::with_capacity(alloc, leaves.len())?;
+    for leaf in leaves.iter_mut() {
+        pieces.push_reserved(leaf.take_pieces());
+    }
+    Ok(pieces)
+}
+
+/// Undoes what was made of the leaves, and puts them back into their places as they were. It takes no memory.
+pub(crate) fn undo_leaves(
+    alloc: Global,
+    settings: &Settings,
+    tree: &mut Tree<Global>,
+    commands: &[Command<Global>],
+    leaves: Vec<LeafDone>,
+)
+    requires { AreAway tree.old.table (map (λ d. d.held.route.pid) leaves.items) }
+    ensures { tree.new ≡ record tree.old { table = all_put tree.old.table (map (λ d. (d.held.route.pid, d.held.page)) leaves.items) } }
+{
+    let work = LeafWork {
+        alloc,
+        settings: *settings,
+        commands,
+    };
+    for leaf in leaves {
+        put_leaf_back(tree, work.undo(leaf));
+    }
+}
