@@ -26,10 +26,10 @@ use std::io::{ErrorKind, Read, Write};
 use std::thread::Threads;
 use std::{fmt, io};
 
-/// Why a session ends before all is done. It prints as the line on standard error.
+/// Why a session ends before all is done. It prints as what goes to standard error, with its line feeds.
 #[derive(Drop)]
 pub enum Ending {
-    /// The words on the command line are refused. Nothing was read. The text of the error has its own line feeds.
+    /// The words on the command line are refused. Nothing was read.
     Words(clap::Error),
     /// A line of the batch file is bad. Nothing was run.
     Bad { line: u64, why: Why },

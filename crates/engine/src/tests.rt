@@ -1,7 +1,7 @@
 //! What no clause of the store says: that the worked examples of docs/EXAMPLES.md come out as they are told there, with memory refused
 //! too, that the longest batch is answered, and that many batches answer as a map of std does.
 use crate::store::Store;
-use delta_chain::Pairs;
+use delta_chain::{Chain, Pairs};
 use index_page::Page;
 use keys::{Command, Fault, Key, Pid, Reply, Settings, Value};
 use mapping::{Logged, Tree};
@@ -27,7 +27,7 @@ const T: Settings = Settings {
     segments: 4,
 };
 
-// An example: its batches, and what `outcome` writes of them. A command is a word: `k=v` puts, `-k` deletes, and `k` looks up.
+// An example: its batches, their answers and the tree afterwards. A command is a word: `k=v` puts, `-k` deletes, and `k` looks up.
 struct Row {
     name: &'static str,
     settings: Settings,
@@ -45,29 +45,29 @@ const ROWS: [Row; 12] = [
         settings: S,
         batches: &[FIVE_PUTS],
         outcome: "NNNNN; root 2, height 2\n\
-            leaf 0 runs=0 log=Old low=: a=1 b=2\n\
-            leaf 1 runs=0 log=No low=c: c=3 d=4 e=5\n\
-            index 2 runs=0 log=No low=: =0 c=1\n",
+            0 low= log=Old leaf runs=0: a=1 b=2\n\
+            1 low=c log=No leaf runs=0: c=3 d=4 e=5\n\
+            2 low= log=No index runs=0: =0 c=1\n",
     },
     Row {
         name: "row 4.1",
         settings: S,
         batches: &[SEVENTEEN_PUTS, "-a -b -c", "a=1", "-a"],
         outcome: "NNNNNNNNNNNNNNNNN; DDD; N; D; root 7, height 3\n\
-            leaf 0 runs=0 log=Old low=: d=1 e=1 f=1\n\
-            leaf 2 runs=0 log=No low=g: g=1 h=1 i=1 j=1\n\
-            leaf 3 runs=0 log=No low=k: k=1 l=1 m=1\n\
-            leaf 4 runs=0 log=No low=n: n=1 o=1 p=1 q=1\n\
-            index 5 runs=1 log=No low=: =0\n\
-            index 6 runs=0 log=No low=g: g=2 k=3 n=4\n\
-            index 7 runs=0 log=No low=: =5 g=6\n",
+            0 low= log=Old leaf runs=0: d=1 e=1 f=1\n\
+            2 low=g log=No leaf runs=0: g=1 h=1 i=1 j=1\n\
+            3 low=k log=No leaf runs=0: k=1 l=1 m=1\n\
+            4 low=n log=No leaf runs=0: n=1 o=1 p=1 q=1\n\
+            5 low= log=No index runs=1: =0\n\
+            6 low=g log=No index runs=0: g=2 k=3 n=4\n\
+            7 low= log=No index runs=0: =5 g=6\n",
     },
     Row {
         name: "row 4.2",
         settings: S,
         batches: &[FIVE_PUTS, "-a -b -c -d -e", "a=1 e=1", "-a -e"],
         outcome: "NNNNN; DDDDD; NN; DD; root 0, height 1\n\
-            leaf 0 runs=0 log=Old low=:\n",
+            0 low= log=Old leaf runs=0:\n",
     },
     Row {
         name: "row 4.3",
@@ -78,23 +78,23 @@ const ROWS: [Row; 12] = [
             "i=2",
         ],
         outcome: "NNNNNNNNNNNNNNNN; DDDDDDD; R; root 2, height 2\n\
-            leaf 0 runs=0 log=Old low=: a=1 b=1 c=1 d=1\n\
-            index 2 runs=1 log=No low=: =0 e=3\n\
-            leaf 3 runs=0 log=No low=e: e=1 f=1 g=1 h=1 i=2\n",
+            0 low= log=Old leaf runs=0: a=1 b=1 c=1 d=1\n\
+            2 low= log=No index runs=1: =0 e=3\n\
+            3 low=e log=No leaf runs=0: e=1 f=1 g=1 h=1 i=2\n",
     },
     Row {
         name: "row 5",
         settings: S,
         batches: &[SEVENTEEN_PUTS],
         outcome: "NNNNNNNNNNNNNNNNN; root 7, height 3\n\
-            leaf 0 runs=0 log=Old low=: a=1 b=1 c=1\n\
-            leaf 1 runs=0 log=No low=d: d=1 e=1 f=1\n\
-            leaf 2 runs=0 log=No low=g: g=1 h=1 i=1 j=1\n\
-            leaf 3 runs=0 log=No low=k: k=1 l=1 m=1\n\
-            leaf 4 runs=0 log=No low=n: n=1 o=1 p=1 q=1\n\
-            index 5 runs=0 log=No low=: =0 d=1\n\
-            index 6 runs=0 log=No low=g: g=2 k=3 n=4\n\
-            index 7 runs=0 log=No low=: =5 g=6\n",
+            0 low= log=Old leaf runs=0: a=1 b=1 c=1\n\
+            1 low=d log=No leaf runs=0: d=1 e=1 f=1\n\
+            2 low=g log=No leaf runs=0: g=1 h=1 i=1 j=1\n\
+            3 low=k log=No leaf runs=0: k=1 l=1 m=1\n\
+            4 low=n log=No leaf runs=0: n=1 o=1 p=1 q=1\n\
+            5 low= log=No index runs=0: =0 d=1\n\
+            6 low=g log=No index runs=0: g=2 k=3 n=4\n\
+            7 low= log=No index runs=0: =5 g=6\n",
     },
     // With look-ups in the place of the scans.
     Row {
@@ -102,47 +102,47 @@ const ROWS: [Row; 12] = [
         settings: S,
         batches: &[FIVE_PUTS, "c -c c ca=9 ca b"],
         outcome: "NNNNN; 3DMN92; root 2, height 2\n\
-            leaf 0 runs=0 log=Old low=: a=1 b=2\n\
-            leaf 1 runs=1 log=No low=c: ca=9 d=4 e=5\n\
-            index 2 runs=0 log=No low=: =0 c=1\n",
+            0 low= log=Old leaf runs=0: a=1 b=2\n\
+            1 low=c log=No leaf runs=1: ca=9 d=4 e=5\n\
+            2 low= log=No index runs=0: =0 c=1\n",
     },
     Row {
         name: "row 9",
         settings: S,
         batches: &[FIVE_PUTS, "-a -b -c -d -e", "a=1", "-a"],
         outcome: "NNNNN; DDDDD; N; D; root 0, height 1\n\
-            leaf 0 runs=0 log=Old low=:\n",
+            0 low= log=Old leaf runs=0:\n",
     },
     Row {
         name: "row 10",
         settings: S,
         batches: &[FIVE_PUTS, "-a -b -c -d -e", "a=1", "-a", FIVE_PUTS],
         outcome: "NNNNN; DDDDD; N; D; NNNNN; root 2, height 2\n\
-            leaf 0 runs=0 log=Old low=: a=1 b=2\n\
-            leaf 1 runs=0 log=No low=c: c=3 d=4 e=5\n\
-            index 2 runs=0 log=No low=: =0 c=1\n",
+            0 low= log=Old leaf runs=0: a=1 b=2\n\
+            1 low=c log=No leaf runs=0: c=3 d=4 e=5\n\
+            2 low= log=No index runs=0: =0 c=1\n",
     },
     Row {
         name: "row 12",
         settings: S,
         batches: &[FIVE_PUTS, "a=9"],
         outcome: "NNNNN; R; root 2, height 2\n\
-            leaf 0 runs=1 log=Old low=: a=9 b=2\n\
-            leaf 1 runs=0 log=No low=c: c=3 d=4 e=5\n\
-            index 2 runs=0 log=No low=: =0 c=1\n",
+            0 low= log=Old leaf runs=1: a=9 b=2\n\
+            1 low=c log=No leaf runs=0: c=3 d=4 e=5\n\
+            2 low= log=No index runs=0: =0 c=1\n",
     },
     Row {
         name: "row 13",
         settings: S,
         batches: &[SEVENTEEN_PUTS, "-d -e -f", "d=1", "-d"],
         outcome: "NNNNNNNNNNNNNNNNN; DDD; N; D; root 7, height 3\n\
-            leaf 0 runs=0 log=Old low=: a=1 b=1 c=1\n\
-            leaf 2 runs=0 log=No low=g: g=1 h=1 i=1 j=1\n\
-            leaf 3 runs=0 log=No low=k: k=1 l=1 m=1\n\
-            leaf 4 runs=0 log=No low=n: n=1 o=1 p=1 q=1\n\
-            index 5 runs=1 log=No low=: =0\n\
-            index 6 runs=0 log=No low=g: g=2 k=3 n=4\n\
-            index 7 runs=0 log=No low=: =5 g=6\n",
+            0 low= log=Old leaf runs=0: a=1 b=1 c=1\n\
+            2 low=g log=No leaf runs=0: g=1 h=1 i=1 j=1\n\
+            3 low=k log=No leaf runs=0: k=1 l=1 m=1\n\
+            4 low=n log=No leaf runs=0: n=1 o=1 p=1 q=1\n\
+            5 low= log=No index runs=1: =0\n\
+            6 low=g log=No index runs=0: g=2 k=3 n=4\n\
+            7 low= log=No index runs=0: =5 g=6\n",
     },
     // Keys of 0, 16 and 17 bytes.
     Row {
@@ -150,7 +150,7 @@ const ROWS: [Row; 12] = [
         settings: S,
         batches: &["=1 sixteen_bytes_ok=2 seventeen_bytes_!=3"],
         outcome: "2 KeyTooLong 2; root 0, height 1\n\
-            leaf 0 runs=0 log=Upto low=:\n",
+            0 low= log=Upto leaf runs=0:\n",
     },
     // A value that is too long is found after a key that is.
     Row {
@@ -163,7 +163,7 @@ const ROWS: [Row; 12] = [
             "a",
         ],
         outcome: "N; 3 ValueTooLong 1; 2 KeyTooLong 1; s; root 0, height 1\n\
-            leaf 0 runs=1 log=Upto low=: a=sixteen_bytes_ok\n",
+            0 low= log=Upto leaf runs=1: a=sixteen_bytes_ok\n",
     },
 ];
 
@@ -211,9 +211,9 @@ fn letter(reply: &Reply<Global>) -> char {
 
 fn log_word(log: Logged) -> &'static str {
     match log {
-        Logged::No => "No",
-        Logged::Old => "Old",
-        Logged::Upto(_) => "Upto",
+        Logged::No => " log=No",
+        Logged::Old => " log=Old",
+        Logged::Upto(_) => " log=Upto",
     }
 }
 
@@ -246,26 +246,27 @@ fn write_children(text: &mut String, pairs: &Pairs<'_, Pid, Global>) -> Result<(
     text.push('\n')
 }
 
-// A page's kind, its page id, how many runs it has, what the log has of it, and its low key.
-fn write_head(
+// How many runs a leaf has, and its entries.
+fn write_leaf(
+    alloc: Global,
     text: &mut String,
-    kind: &str,
-    pid: Pid,
-    runs: u64,
-    log: Logged,
-    low: &[u8],
+    chain: &Chain<Value<Global>, Global>,
 ) -> Result<(), AllocError> {
-    write!(
-        text,
-        "{kind} {} runs={runs} log={} low=",
-        pid.0,
-        log_word(log)
-    )?;
-    write_bytes(text, low)?;
-    text.push(':')
+    write!(text, " leaf runs={}:", chain.depth())?;
+    write_values(text, &chain.pairs(alloc)?)
 }
 
-// The head of a page, and its entries.
+// The same of an index page.
+fn write_index(
+    alloc: Global,
+    text: &mut String,
+    chain: &Chain<Pid, Global>,
+) -> Result<(), AllocError> {
+    write!(text, " index runs={}:", chain.depth())?;
+    write_children(text, &chain.pairs(alloc)?)
+}
+
+// A page's id, its low key, what the log has of it, and the rest.
 fn write_page(
     alloc: Global,
     text: &mut String,
@@ -273,15 +274,16 @@ fn write_page(
     log: Logged,
     page: &Page<Global>,
 ) -> Result<(), AllocError> {
+    write!(text, "{} low=", pid.0)?;
+    write_bytes(text, page.low())?;
+    text.push_str(log_word(log))?;
     if let Some(chain) = page.as_leaf() {
-        write_head(text, "leaf", pid, chain.depth(), log, page.low())?;
-        write_values(text, &chain.pairs(alloc)?)?;
+        return write_leaf(alloc, text, chain);
     }
-    if let Some(chain) = page.as_index() {
-        write_head(text, "index", pid, chain.depth(), log, page.low())?;
-        write_children(text, &chain.pairs(alloc)?)?;
+    match page.as_index() {
+        Some(chain) => write_index(alloc, text, chain),
+        None => Ok(()),
     }
-    Ok(())
 }
 
 // The root, the height, and each page by rising page id.
@@ -295,67 +297,55 @@ fn write_tree(alloc: Global, text: &mut String, tree: &Tree<Global>) -> Result<(
     Ok(())
 }
 
-fn tree_text(alloc: Global, store: &Store) -> Result<String, AllocError> {
-    let mut text = String::new(alloc);
-    write_tree(alloc, &mut text, store.tree())?;
-    Ok(text)
-}
-
-// The letters of the replies to the batch, or its fault.
-fn replies_text(
+// What the store answers to the batch, and where memory is refused, to the same batch again.
+fn answer(
     rt: &(impl Threads + Sync),
-    alloc: Global,
     store: &mut Store,
     batch: &[Command<Global>],
-) -> Result<String, AllocError> {
-    let mut text = String::new(alloc);
+) -> Result<Vec<Reply<Global>>, Fault> {
     match store.batch(rt, batch) {
+        Err(Fault::NoMemory) => store.batch(rt, batch),
+        answered => answered,
+    }
+}
+
+// The letters of the replies, or the fault.
+fn write_answer(
+    text: &mut String,
+    answer: Result<Vec<Reply<Global>>, Fault>,
+) -> Result<(), AllocError> {
+    match answer {
         Ok(replies) => {
             for reply in &replies {
                 text.push(letter(reply))?;
             }
+            Ok(())
         }
-        Err(fault) => write!(text, "{fault}")?,
-    }
-    Ok(text)
-}
-
-// The same, but where memory is refused the tree has to be as it was, and the same batch is called again.
-fn replies_text_in_the_end(
-    rt: &(impl Threads + Sync),
-    alloc: Global,
-    store: &mut Store,
-    batch: &[Command<Global>],
-) -> Result<String, AllocError> {
-    let before = tree_text(alloc, store)?;
-    let text = replies_text(rt, alloc, store, batch)?;
-    if text.as_str() == "6 NoMemory" && tree_text(alloc, store)?.as_str() == before.as_str() {
-        replies_text(rt, alloc, store, batch)
-    } else {
-        Ok(text)
+        Err(fault) => write!(text, "{fault}"),
     }
 }
 
 // What the store answers to the batches, one after the other.
-fn all_replies_text(
+fn write_answers(
     rt: &(impl Threads + Sync),
     alloc: Global,
+    text: &mut String,
     store: &mut Store,
     batches: &[&str],
-) -> Result<String, AllocError> {
-    let mut text = String::new(alloc);
+) -> Result<(), AllocError> {
     for batch in batches {
         let batch = commands(alloc, *batch)?;
-        text.push_str(&replies_text_in_the_end(rt, alloc, store, &batch)?)?;
+        write_answer(text, answer(rt, store, &batch))?;
         text.push_str("; ")?;
     }
-    Ok(text)
+    Ok(())
 }
 
 // Whether the row's batches, on a new store, are answered as told and leave the tree that is told.
 fn comes_out(rt: &(impl Threads + Sync), alloc: Global, row: &Row) -> Result<bool, Fault> {
     let mut store = Store::create(alloc, row.settings)?;
-    let mut text = all_replies_text(rt, alloc, &mut store, row.batches)?;
+    let mut text = String::new(alloc);
+    write_answers(rt, alloc, &mut text, &mut store, row.batches)?;
     write_tree(alloc, &mut text, store.tree())?;
     Ok(text.as_str() == row.outcome)
 }
@@ -390,11 +380,11 @@ fn the_rows_come_out(rt: HostRuntime) {
     );
 }
 
-// The longest batch: puts of all keys of two bytes but the last.
-fn longest_batch(alloc: Global) -> Result<Vec<Command<Global>>, AllocError> {
+// Puts of so many keys of two bytes, from 00 00 on.
+fn many_puts(alloc: Global, count: u32) -> Result<Vec<Command<Global>>, AllocError> {
     let mut commands = Vec::new(alloc);
-    for number in 0..u16::MAX {
-        let key = Key::from_bytes(alloc, &number.to_be_bytes())?;
+    for number in 0..count {
+        let key = Key::from_bytes(alloc, &number.to_be_bytes()[2..])?;
         commands.push(Command::Put(key, Value::from_bytes(alloc, b"1")?))?;
     }
     Ok(commands)
@@ -436,14 +426,22 @@ fn is_row_18(store: &Store) -> bool {
         && first == 3
 }
 
+// How many replies that many puts get.
+fn count_replies(
+    rt: &(impl Threads + Sync),
+    alloc: Global,
+    store: &mut Store,
+    count: u32,
+) -> Result<usize, Fault> {
+    Ok(store.batch(rt, &many_puts(alloc, count)?)?.len())
+}
+
 // Whether the longest batch is answered and leaves the tree of row 18, and one of one command more is refused.
 fn is_longest_batch_answered(rt: &(impl Threads + Sync), alloc: Global) -> Result<bool, Fault> {
     let mut store = Store::create(alloc, S)?;
-    let mut batch = longest_batch(alloc)?;
-    let replies = store.batch(rt, &batch)?;
-    batch.push(Command::Get(Key::empty(alloc)))?;
-    let is_refused = matches!(store.batch(rt, &batch), Err(Fault::BatchTooLong));
-    Ok(replies.len() == 65_535 && is_refused && is_row_18(&store))
+    let longest = count_replies(rt, alloc, &mut store, 65_535)?;
+    let longer = count_replies(rt, alloc, &mut store, 65_536);
+    Ok(longest == 65_535 && matches!(longer, Err(Fault::BatchTooLong)) && is_row_18(&store))
 }
 
 #[test]
@@ -539,7 +537,18 @@ fn is_answered_alike(
 ) -> Result<bool, AllocError> {
     let mut letters = String::new(alloc);
     let batch = draw_batch(alloc, map, state, puts, &mut letters)?;
-    Ok(replies_text(rt, alloc, store, &batch)?.as_str() == letters.as_str())
+    are_letters(alloc, &letters, answer(rt, store, &batch))
+}
+
+// Whether these are the letters of the replies.
+fn are_letters(
+    alloc: Global,
+    letters: &str,
+    answer: Result<Vec<Reply<Global>>, Fault>,
+) -> Result<bool, AllocError> {
+    let mut text = String::new(alloc);
+    write_answer(&mut text, answer)?;
+    Ok(text.as_str() == letters)
 }
 
 // Whether eighty batches are answered alike. The tree grows through five, shrinks through five, and so on.
