@@ -1,8 +1,9 @@
 //! What the crates below give and nothing above them asks for yet, once each, and the texts of faults.
 use delta_chain::{Base, Chain, PushError, Run};
 use keys::{Fault, Field, Key, Pid};
-use mapping::Table;
-use std::alloc::{AllocError, Global};
+use mapping::{Logged, Table};
+use std::alloc::Global;
+use std::process::Abort;
 use std::test::Fail;
 
 #[test]
@@ -53,17 +54,92 @@ fn a_page_gives_its_entries(rt: HostRuntime) -> Result<(), Fail> {
     Ok(())
 }
 
-// Whether a table with places for 9 and 5 lists just these, by rising number.
-fn are_listed(alloc: Global) -> Result<bool, AllocError> {
-    let mut table: Table<u64, Global> = Table::new(alloc);
-    table.room(9)?;
-    table.room(5)?;
-    let mut pids = table.pids();
-    Ok(pids.next() == Some(5) && pids.next() == Some(9) && pids.next().is_none())
+// Makes room for the pid and puts the page there, where the pid has no place.
+fn settle(
+    rt: &impl Abort,
+    table: &mut Table<u64, Global>,
+    pid: u64,
+    page: u64,
+) -> Result<(), Fail> {
+    assert!(rt; !table.is_used(pid));
+    table.room(pid)?;
+    assert!(rt; table.is_away(pid));
+    table.put(pid, page);
+    Ok(())
+}
+
+// Takes the page out of its place and gives the place up.
+fn give_up(rt: &impl Abort, table: &mut Table<u64, Global>, pid: u64) -> u64 {
+    assert!(rt; table.get(pid).is_some());
+    let page = table.take(pid);
+    assert!(rt; table.is_away(pid));
+    table.free(pid);
+    assert!(rt; !table.is_used(pid));
+    page
+}
+
+#[test]
+fn near_and_far_pids_have_their_own_places(rt: HostRuntime) -> Result<(), Fail> {
+    let mut table = Table::new(rt.alloc());
+    let pids = [1 << 40, 5, u64::MAX, 0];
+    for pid in pids {
+        settle(&rt, &mut table, pid, pid / 2)?;
+    }
+    for pid in pids {
+        assert_eq!(rt; table.get(pid).copied(), Some(pid / 2));
+    }
+    for pid in [1, 4, 6, (1 << 40) - 1, (1 << 40) + 1, u64::MAX - 1] {
+        assert!(rt; !table.is_used(pid));
+        assert_eq!(rt; table.get(pid), None);
+        assert_eq!(rt; table.logged(pid), Logged::No);
+    }
+    assert_eq!(rt; give_up(&rt, &mut table, 1 << 40), 1 << 39);
+    assert_eq!(rt; table.get(5).copied(), Some(2));
+    Ok(())
+}
+
+#[test]
+fn the_least_free_pids_are_drawn(rt: HostRuntime) -> Result<(), Fail> {
+    let mut table = Table::new(rt.alloc());
+    settle(&rt, &mut table, 3, 30)?;
+    settle(&rt, &mut table, u64::MAX, 0)?;
+    let drawn = table.fresh(4)?;
+    assert_eq!(rt; drawn.as_slice(), [0, 1, 2, 4].as_slice());
+    for pid in &drawn {
+        assert!(rt; table.is_away(*pid));
+        table.put(*pid, 0);
+    }
+    give_up(&rt, &mut table, 3);
+    give_up(&rt, &mut table, 1);
+    assert_eq!(rt; table.fresh(3)?.as_slice(), [1, 3, 5].as_slice());
+    assert_eq!(rt; table.fresh(0)?.len(), 0);
+    Ok(())
+}
+
+// Whether the table gives just these two pids.
+fn pids_are(table: &Table<u64, Global>, pids: [u64; 2]) -> bool {
+    let mut all = table.pids();
+    all.next() == Some(pids[0]) && all.next() == Some(pids[1]) && all.next().is_none()
 }
 
 #[test]
 fn a_table_lists_its_pids(rt: HostRuntime) -> Result<(), Fail> {
-    assert!(rt; are_listed(rt.alloc())?);
+    let mut table = Table::new(rt.alloc());
+    settle(&rt, &mut table, 9, 1)?;
+    settle(&rt, &mut table, 5, 2)?;
+    assert!(rt; pids_are(&table, [5, 9]));
     Ok(())
+}
+
+// True also where an allocation is refused, as by `rt try --test --fail-alloc N`: then the table is as it was.
+#[test]
+fn refused_memory_leaves_the_table_as_it_was(rt: HostRuntime) {
+    let mut table: Table<u64, Global> = Table::new(rt.alloc());
+    let is_there = table.room(2).is_ok();
+    assert_eq!(rt; table.is_away(2), is_there);
+    let is_drawn = table.fresh(6).is_ok();
+    assert_eq!(rt; table.is_away(2), is_there || is_drawn);
+    for pid in [0, 1, 3, 4, 5] {
+        assert_eq!(rt; table.is_away(pid), is_drawn);
+    }
 }

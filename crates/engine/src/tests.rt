@@ -39,7 +39,7 @@ const FIVE_PUTS: &str = "a=1 b=2 c=3 d=4 e=5";
 
 const SEVENTEEN_PUTS: &str = "a=1 b=1 c=1 d=1 e=1 f=1 g=1 h=1 i=1 j=1 k=1 l=1 m=1 n=1 o=1 p=1 q=1";
 
-const ROWS: [Row; 12] = [
+const ROWS: [Row; 13] = [
     Row {
         name: "row 4",
         settings: S,
@@ -143,6 +143,24 @@ const ROWS: [Row; 12] = [
             5 low= log=No index runs=1: =0\n\
             6 low=g log=No index runs=0: g=2 k=3 n=4\n\
             7 low= log=No index runs=0: =5 g=6\n",
+    },
+    // Empty keys and keys that begin alike, on three levels: each goes to its leaf.
+    Row {
+        name: "keys that begin alike",
+        settings: S,
+        batches: &[
+            "d=1 a=1 e=1 =1 ca=1 aa=1 ba=1 aaa=1 cb=1 ab=1 c=1 aab=1 bb=1 aba=1 b=1 abb=1 baa=1",
+            "baa ba -aba aba aaa aa  ab=2 ab",
+        ],
+        outcome: "NNNNNNNNNNNNNNNNN; 11DM111R2; root 7, height 3\n\
+            0 low= log=Old leaf runs=0: =1 a=1 aa=1\n\
+            1 low=aaa log=No leaf runs=1: aaa=1 aab=1 ab=2\n\
+            2 low=aba log=No leaf runs=1: abb=1 b=1 ba=1\n\
+            3 low=baa log=No leaf runs=0: baa=1 bb=1 c=1\n\
+            4 low=ca log=No leaf runs=0: ca=1 cb=1 d=1 e=1\n\
+            5 low= log=No index runs=0: =0 aaa=1\n\
+            6 low=aba log=No index runs=0: aba=2 baa=3 ca=4\n\
+            7 low= log=No index runs=0: =5 aba=6\n",
     },
     // Keys of 0, 16 and 17 bytes.
     Row {
