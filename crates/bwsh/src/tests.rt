@@ -334,3 +334,52 @@ fn memory_is_refused(rt: HostRuntime) {
         assert!(rt; right.starts_with(&out[..answered]));
     }
 }
+
+// A stream that gives and takes a byte at a time.
+#[derive(Drop)]
+struct ByBytes<S> {
+    stream: S,
+}
+
+impl<S: Read> Read for ByBytes<S> {
+    fn read(&mut self, buf: &mut [u8]) -> io::Result<usize> {
+        let end = buf.len().min(1);
+        self.stream.read(&mut buf[..end])
+    }
+}
+
+impl<S: Write> Write for ByBytes<S> {
+    fn write(&mut self, buf: &[u8]) -> io::Result<usize> {
+        self.stream.write(&buf[..buf.len().min(1)])
+    }
+
+    fn flush(&mut self) -> io::Result<()> {
+        self.stream.flush()
+    }
+}
+
+#[test]
+fn a_byte_at_a_time(rt: HostRuntime) {
+    let mut input = ByBytes {
+        stream: b"put a 1\r\ngo\nget a\n".as_slice(),
+    };
+    let mut written = ByBytes {
+        stream: Vec::new(rt.alloc()),
+    };
+    let mut told = Vec::new(rt.alloc());
+    let status = run(&rt, &mut input, &mut written, &mut told);
+    assert_eq!(rt; status, 0);
+    assert_eq!(rt; written.stream.as_slice(), b"new\nvalue 1\n".as_slice());
+}
+
+// A value may have 256 bytes.
+#[test]
+fn a_long_value_is_refused(rt: HostRuntime) -> Result<(), Fail> {
+    let mut put = Vec::new(rt.alloc());
+    put.extend_from_slice(b"put a ")?;
+    put.extend_from_slice(&b"v".as_slice().repeatn(rt.alloc(), 256)?)?;
+    check(&rt, &[], &put, 0, b"new\n", b"");
+    put.push(b'v')?;
+    check(&rt, &[], &put, 4, b"", b"fault 3 ValueTooLong 0\n");
+    Ok(())
+}
