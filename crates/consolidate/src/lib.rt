@@ -39,3 +39,6 @@ fn base_of<V: Cell<A> + Drop, A: Allocator + Copy>(
     }
     Ok(builder.finish())
 }
+
+#[cfg(test)]
+mod tests;

@@ -586,3 +586,48 @@ fn are_answered_alike(rt: &(impl Threads + Sync), alloc: Global) -> Result<bool,
 fn batches_answer_as_a_map_does(rt: HostRuntime) {
     assert!(rt; matches!(are_answered_alike(&rt, rt.alloc()), Ok(true)));
 }
+
+// The greatest values of all settings that a page looks at.
+const GREATEST: Settings = Settings {
+    fan: 64,
+    chain: 16,
+    max_key: 255,
+    max_value: 1_024,
+    seg_size: 131_072,
+    segments: 4,
+};
+
+fn longest_key(alloc: Global) -> Result<Key<Global>, AllocError> {
+    Key::from_bytes(alloc, vec![in alloc; b'k'; 255]?.as_slice())
+}
+
+// A hundred short keys, and behind them the longest value under the longest key.
+fn greatest_batch(alloc: Global) -> Result<Vec<Command<Global>>, AllocError> {
+    let mut batch = Vec::new(alloc);
+    for byte in 0..100u8 {
+        let key = Key::from_bytes(alloc, &[byte])?;
+        batch.push(Command::Put(key, Value::from_bytes(alloc, &[byte])?))?;
+    }
+    let value = Value::from_bytes(alloc, vec![in alloc; b'v'; 1_024]?.as_slice())?;
+    batch.push(Command::Put(longest_key(alloc)?, value))?;
+    Ok(batch)
+}
+
+// How many bytes the store finds at the longest key, once another key was put seventeen times, a batch each.
+fn bytes_found(rt: &(impl Threads + Sync), alloc: Global) -> Result<usize, Fault> {
+    let mut store = Store::create(alloc, GREATEST)?;
+    store.batch(rt, &greatest_batch(alloc)?)?;
+    for _batch in 0..17 {
+        store.batch(rt, &commands(alloc, "a=1")?)?;
+    }
+    let look_up = vec![in alloc; Command::Get(longest_key(alloc)?)]?;
+    match store.batch(rt, &look_up)?.first() {
+        Some(Reply::Value(value)) => Ok(value.as_bytes().len()),
+        _ => Ok(0),
+    }
+}
+
+#[test]
+fn the_greatest_keys_values_and_chains_are_held(rt: HostRuntime) {
+    assert!(rt; matches!(bytes_found(&rt, rt.alloc()), Ok(1_024)));
+}

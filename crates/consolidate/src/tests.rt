@@ -1,0 +1,72 @@
+use crate::consolidate;
+use delta_chain::{BaseBuilder, Chain, PushError, Run};
+use keys::{Key, Value};
+use std::alloc::{AllocError, Global};
+use std::test::Fail;
+
+// A run in front: it takes a away and sets c to 3.
+fn put_run(alloc: Global, chain: &mut Chain<Value<Global>, Global>) -> Result<(), PushError> {
+    let mut run = Run::with_capacity(alloc, 2)?;
+    run.push(Key::from_bytes(alloc, b"a")?, None)?;
+    run.push(
+        Key::from_bytes(alloc, b"c")?,
+        Some(Value::from_bytes(alloc, b"3")?),
+    )?;
+    match chain.prepend(run) {
+        Ok(()) => Ok(()),
+        Err(_) => Err(PushError::NoMemory),
+    }
+}
+
+// Whether the page becomes a base of just these entries.
+fn becomes(
+    alloc: Global,
+    chain: &Chain<Value<Global>, Global>,
+    entries: &[(&[u8], &[u8])],
+) -> Result<bool, AllocError> {
+    let base = consolidate(alloc, chain)?;
+    if base.len() != entries.len() {
+        return Ok(false);
+    }
+    for (at, (key, value)) in entries.iter().enumerate() {
+        if base.key(at) != *key || base.cell(at).as_bytes() != *value {
+            return Ok(false);
+        }
+    }
+    Ok(true)
+}
+
+// Whether the page is consolidated without runs, and then under one.
+fn is_consolidated(
+    alloc: Global,
+    chain: &mut Chain<Value<Global>, Global>,
+) -> Result<bool, PushError> {
+    let alone = becomes(alloc, chain, &[(b"a", b"1"), (b"b", b"2")])?;
+    put_run(alloc, chain)?;
+    let under_run = becomes(alloc, chain, &[(b"b", b"2"), (b"c", b"3")])?;
+    Ok(alone && under_run)
+}
+
+// The page begins as the base a=1, b=2.
+fn is_right(alloc: Global) -> Result<bool, PushError> {
+    let mut builder = BaseBuilder::with_capacity(alloc, 2)?;
+    builder.push(b"a", Value::from_bytes(alloc, b"1")?)?;
+    builder.push(b"b", Value::from_bytes(alloc, b"2")?)?;
+    let mut chain = Chain::of_base(builder.finish());
+    is_consolidated(alloc, &mut chain)
+}
+
+#[test]
+fn a_page_is_consolidated_without_runs_and_under_one(rt: HostRuntime) -> Result<(), Fail> {
+    assert!(rt; is_right(rt.alloc())?);
+    Ok(())
+}
+
+// True also where an allocation is refused, as by `rt try --test --fail-alloc N`: then there is no base.
+#[test]
+fn refused_memory_gives_no_base(rt: HostRuntime) {
+    match is_right(rt.alloc()) {
+        Ok(is_right) => assert!(rt; is_right),
+        Err(refused) => assert_eq!(rt; refused, PushError::NoMemory),
+    }
+}
