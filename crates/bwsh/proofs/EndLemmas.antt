@@ -1,5 +1,5 @@
 -- Lemmas on how a session ends.
-use Rattle.std.proofs.Common.{true, false, ◌≡◌, ◌≢◌, ◌⊎◌, inl, inr, ℕ, List, [], ◌∷◌, map, Option, Some, None, IfSome, Result, Ok, Err, refl, sym, ap, ◌∙◌, subst, arith}
+use Rattle.std.proofs.Common.{true, false, ◌≡◌, ◌≢◌, ◌↔◌, ◌⊎◌, inl, inr, ℕ, List, [], ◌∷◌, map, Option, Some, None, IfSome, Result, Ok, Err, refl, sym, ap, ◌∙◌, subst, arith}
 use Rattle.std.specs.Prelude.{MatchOption, IsOkUnless}
 use Rattle.std.specs.Option.{option_map}
 use Rattle.std.specs.Io.KnownBytes.{Appends, Keeps}
@@ -224,17 +224,39 @@ one_text old new early (text, inr (inl (e, q))) = ap status_of_end e
 one_text old new early (text, inr (inr (e, q))) = ap status_of_end e
 
 module _ (words : List (List ℕ)) (known old new : Option (List ℕ)) (unread untouched : Type 0) where
-  -- the words are refused where the status is 2
-  refused_end : (end : Result (Unit {0}) Ending) → status_of_end end ≡ 2 → EndsBy words known old new unread untouched end → AreRefused words × unread × untouched
-  refused_end (Ok done) s p = absurd (omega arith)
-  refused_end (Err (Bad line why)) s p = absurd (omega arith)
-  refused_end (Err (endings.Fault fault)) s p = absurd (omega arith)
-  refused_end (Err Device) s p = absurd (omega arith)
-  refused_end (Err (Words error)) s (inl (settings, tells, answers)) = absurd (told_words settings known old new error answers)
-  refused_end (Err (Words error)) s (inr (inl (not_read, asks, printed_help))) =
+  -- the words are refused where the status is 2, and where they are it is 2 but for memory, with nothing read and nothing printed
+  refused_end : (end : Result (Unit {0}) Ending) → EndsBy words known old new unread untouched end → status_of_end end ≡ 2 → AreRefused words
+  refused_end (Ok done) p s = absurd (omega arith)
+  refused_end (Err (Bad line why)) p s = absurd (omega arith)
+  refused_end (Err (endings.Fault fault)) p s = absurd (omega arith)
+  refused_end (Err Device) p s = absurd (omega arith)
+  refused_end (Err (Words error)) (inl (settings, tells, answers)) s = absurd (told_words settings known old new error answers)
+  refused_end (Err (Words error)) (inr (inl (not_read, asks, printed_help))) s =
       let four = one_text old new (Words error) printed_help in absurd (omega arith)
-  refused_end (Err (Words error)) s (inr (inr (not_read, not_touched, inl (refused, for_words)))) = (refused, not_read, not_touched)
-  refused_end (Err (Words error)) s (inr (inr (not_read, not_touched, inr e))) = absurd (cc)
+  refused_end (Err (Words error)) (inr (inr (not_read, not_touched, inl (refused, for_words)))) s = refused
+  refused_end (Err (Words error)) (inr (inr (not_read, not_touched, inr e))) s = absurd (cc)
+
+  for_words_status : (end : Result (Unit {0}) Ending) → IsForWords end → status_of_end end ≡ 2
+  for_words_status (Err (Words error)) w = refl
+  for_words_status (Ok done) w = absurd w
+  for_words_status (Err (Bad line why)) w = absurd w
+  for_words_status (Err (endings.Fault fault)) w = absurd w
+  for_words_status (Err Device) w = absurd w
+
+  when_refused : (end : Result (Unit {0}) Ending) → EndsBy words known old new unread untouched end → AreRefused words
+      → ((status_of_end end ≡ 2) ⊎ (status_of_end end ≡ 4)) × unread × untouched
+  when_refused end (inl (settings, (given, tells, is), answers)) refused = absurd (cc)
+  when_refused end (inr (inl (not_read, asks, printed_help))) refused = absurd (cc)
+  when_refused end (inr (inr (not_read, not_touched, inl (is_refused, for_words)))) refused = (inl (for_words_status end for_words), not_read, not_touched)
+  when_refused end (inr (inr (not_read, not_touched, inr e))) refused = (inr (ap status_of_end e), not_read, not_touched)
+
+  refused_iff : (end : Result (Unit {0}) Ending) (status : ℕ) → status ≡ status_of_end end → EndsBy words known old new unread untouched end
+      → (status ≡ 2) ↔ (AreRefused words × (status ≢ 4))
+  refused_iff end status e p =
+      (λ two. (refused_end end p (sym e ∙ two), λ four. absurd (omega arith)), λ (refused, no_fault). by (when_refused end p refused).0 no_fault) where
+        by : (status_of_end end ≡ 2) ⊎ (status_of_end end ≡ 4) → status ≢ 4 → status ≡ 2
+        by (inl two) no_fault = e ∙ two
+        by (inr four) no_fault = absurd (no_fault (e ∙ four))
 
   done_end : (end : Result (Unit {0}) Ending) → status_of_end end ≡ 0 → EndsBy words known old new unread untouched end
       → AsksForHelp words ⊎ IfSome known (λ text. (first_bad 1 (said_by text) ≡ None) × Appends old new (printed [] (orders_of [] (said_by text))))
@@ -273,7 +295,8 @@ module _ (words : List (List ℕ)) (known old new : Option (List ℕ)) (unread u
 -- what a session's contract says of its status follows from how it ends
 pub record Follows (words : List (List ℕ)) (known old new : Option (List ℕ)) (unread untouched : Type 0) (status : ℕ) : Type 0 where
   pub status_is : (status ≡ 0) ⊎ (status ≡ 2) ⊎ (status ≡ 3) ⊎ (status ≡ 4)
-  pub refused : status ≡ 2 → AreRefused words × unread × untouched
+  pub refused : (status ≡ 2) ↔ (AreRefused words × (status ≢ 4))
+  pub untouched_is : AreRefused words → unread × untouched
   pub done : status ≡ 0 → AsksForHelp words ⊎ IfSome known (λ text. (first_bad 1 (said_by text) ≡ None) × Appends old new (printed [] (orders_of [] (said_by text))))
   pub bad : status ≡ 3 → Appends old new [] × IfSome known (λ text. first_bad 1 (said_by text) ≢ None)
   pub beginning : AsksForHelp words ⊎ IfSome known (λ text. (front : List ℕ) × BeginsWith (printed [] (orders_of [] (said_by text))) front × Appends old new front)
@@ -282,7 +305,8 @@ pub all_follows : (words : List (List ℕ)) (known old new : Option (List ℕ)) 
     → (untouched → Appends old new []) → EndsBy words known old new unread untouched end → Follows words known old new unread untouched status
 all_follows words known old new unread untouched status end e kept p = record {
   status_is = status-one end status e;
-  refused = λ s. refused_end words known old new unread untouched end (sym e ∙ s) p;
+  refused = refused_iff words known old new unread untouched end status e p;
+  untouched_is = λ r. let (of_two, not_read, not_touched) = when_refused words known old new unread untouched end p r in (not_read, not_touched);
   done = λ s. done_end words known old new unread untouched end (sym e ∙ s) p;
   bad = λ s. bad_end words known old new unread untouched end (sym e ∙ s) p;
   beginning = beginning_end words known old new unread untouched end kept p;

@@ -1,9 +1,10 @@
 -- What is printed is read back.
 use Rattle.std.proofs.Common.{◌≡◌, ℕ, ◌+◌, ◌*◌, ◌/◌, ◌%◌, ◌<◌, ◌≤◌, Bool, true, false, eqb, List, [], ◌∷◌, ◌++◌, Some, refl, ap, ◌∙◌, arith}
-use Rattle.std.specs.List.{All, AllByRecursion, flat_map, slice_split}
+use Rattle.std.specs.List.{All, AllByRecursion, flat_map, list_all, slice_split}
 use Rattle.std.specs.Str.{bytes_eq}
 use Rattle.std.specs.Char.{digit_value}
 use Rattle.std.proofs.Math.Dec.{eqb-suc-zero}
+use Rattle.std.proofs.lemmas.Bool.{and_parts}
 use Rattle.std.proofs.lemmas.Bool.Decides.{nat_tests}
 use Rattle.std.proofs.lemmas.List.Elements.{recursion_from_All, All-from_recursion}
 use Rattle.std.proofs.lemmas.List.Splits.{slice_split_none}
@@ -24,6 +25,13 @@ front_self : (b : ℕ) (cs : List ℕ) → stands_for_itself b ≡ true → unes
 front_self b [] h = rw h refl
 front_self b (d ∷ []) h = rw h refl
 front_self b (d ∷ e ∷ cs) h = rw (h, (self_is b h).0) refl
+
+-- characters that all stand for themselves
+pub unescaped-plain : (cs : List ℕ) → list_all stands_for_itself cs ≡ true → unescaped cs ≡ Some cs
+unescaped-plain [] h = refl
+unescaped-plain (c ∷ cs) h =
+    let (own, others) = and_parts (stands_for_itself c) (list_all stands_for_itself cs) h in
+    front_self c cs own ∙ ap (in_front (Some c)) (unescaped-plain cs others)
 
 hex_is_read : (b : ℕ) → b < 256 → hex_byte (hex_digit (b / 16)) (hex_digit (b % 16)) ≡ Some b
 hex_is_read b h =

@@ -320,8 +320,11 @@ pub fn session<R: AllocGlobal + Threads + Sync, I: Read, O: Write, E: Write>(
 ) -> u8
     ensures status { (result ≡ 0) ⊎ (result ≡ 2) ⊎ (result ≡ 3) ⊎ (result ≡ 4) }
 
+    // Words that are refused make it 2, and nothing else does. Only for want of memory they make it 4.
+    ensures refused { (result ≡ 2) ↔ (AreRefused (map string_bytes words.now) × (result ≢ 4)) }
+    ensures untouched { AreRefused (map string_bytes words.now) → (input.new ≡ input.old) × (out.new ≡ out.old) }
+
     // What stands on the output with each status: always a beginning of the answers to the orders of the input, unless that is help.
-    ensures refused { result ≡ 2 → AreRefused (map string_bytes words.now) × (input.new ≡ input.old) × (out.new ≡ out.old) }
     ensures done { result ≡ 0 → AsksForHelp (map string_bytes words.now) ⊎ IfSome (I.remaining input.old) (λ text. (first_bad 1 (said_by text) ≡ None)
         × Appends (O.contents out.old) (O.contents out.new) (printed [] (orders_of [] (said_by text)))) }
     ensures bad { result ≡ 3 → Appends (O.contents out.old) (O.contents out.new) []

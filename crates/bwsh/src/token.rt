@@ -1,5 +1,6 @@
 //! Tokens: how the words of a batch file stand for byte strings.
 ghost use Rattle.std.specs.Prelude.{◌≡◌, ◌<◌, ◌++◌, ◌/◌, ◌%◌, [], ◌∷◌, length, take, Some, None, if◌then◌else◌, IfOk, IfSome, MatchOption, OnOk, OnErr};
+ghost use Rattle.std.specs.List.{list_all};
 ghost use Rattle.bwsh.specs.Token.{hex_value, hex_byte, stands_for_itself, unescaped, in_front, with_front, token_bytes, hex_digit, shown_byte, shown_token};
 
 use std::alloc::AllocError;
@@ -27,6 +28,17 @@ fn stands_for_itself(byte: u8) -> bool
     ensures { result ≡ stands_for_itself byte }
 {
     byte.is_ascii_graphic() && byte != b'%'
+}
+
+// Whether each of the bytes stands for itself. It tests all of them, which lets the processor test many at a time.
+fn are_plain(bytes: &[u8]) -> bool
+    ensures { result ≡ list_all stands_for_itself bytes.now }
+{
+    let mut plain = true;
+    for byte in bytes {
+        plain &= stands_for_itself(*byte);
+    }
+    plain
 }
 
 // The byte that the front of the text stands for, and the text behind it.
@@ -70,6 +82,10 @@ pub fn unescape(token: &[u8], bytes: &mut Vec<u8>) -> Result<bool, AllocError>
     if token.is_empty() {
         return Ok(false);
     }
+    if are_plain(token) {
+        bytes.extend_from_slice(token)?;
+        return Ok(true);
+    }
     push_unescaped(token, bytes)
 }
 
@@ -104,7 +120,10 @@ pub fn push_token(bytes: &[u8], out: &mut Vec<u8>) -> Result<(), AllocError>
     ensures err { OnErr result (take (length out.old.items) out.new.items ≡ out.old.items) }
 {
     if bytes.is_empty() {
-        out.push(b'%')?;
+        return out.extend_from_slice(b"%");
+    }
+    if are_plain(bytes) {
+        return out.extend_from_slice(bytes);
     }
     for byte in bytes {
         push_byte(*byte, out)?;

@@ -69,9 +69,6 @@ away_rest t u k ks all e keeps h =
     let a : AreAway t (k ∷ ks) = subst (λ (ns : List ℕ). AreAway t ns) e h in
     (all_kept (λ o. o ≡ Some None) t u k keeps ks a.1.0 a.0.1, a.1.1)
 
-pub away_first : (t : Mapping PageOfKind) (k : ℕ) (ks all : List ℕ) → all ≡ k ∷ ks → AreAway t all → place_of t k ≡ Some None
-away_first t k ks all e h = (subst (λ (ns : List ℕ). AreAway t ns) e h).0.0
-
 -- the same of the tree's table
 pub away_next : (tree now : TreeInMemory) (t : Mapping PageOfKind) (k : ℕ) (ks all : List ℕ) → all ≡ k ∷ ks → now ≡ record tree { table = t } → KeepsOthers tree.table t k → AreAway tree.table all → AreAway now.table ks
 away_next tree now t k ks all e n keeps h =
@@ -283,13 +280,6 @@ tree_taken tree pids = record tree { table = all_taken tree.table pids }
 pub taken_step : (tree now done : TreeInMemory) (k : ℕ) (ks all : List ℕ) → all ≡ k ∷ ks → now ≡ record tree { table = with_place tree.table k None } → tree_taken tree all ≡ done → tree_taken now ks ≡ done
 taken_step tree now done k ks all r n h =
     ap (λ (x : TreeInMemory). tree_taken x ks) n ∙ ap (λ (x : List ℕ). tree_taken tree x) (sym r) ∙ h
-
-some_index : (o : Option PageOfKind) → IsIndexAt o → IsSome o
-some_index None h = absurd h
-some_index (Some p) h = refl
-
-pub first_parent : (t : Mapping PageOfKind) (k : ℕ) (ks all : List ℕ) → all ≡ k ∷ ks → AreParentsHome t all → IsSome (page_of t k)
-first_parent t k ks all e h = some_index (page_of t k) ((subst (λ (ns : List ℕ). AreParentsHome t ns) e h).0.0)
 
 pub parents_next : (tree now : TreeInMemory) (k : ℕ) (ks all : List ℕ) → all ≡ k ∷ ks → now ≡ record tree { table = with_place tree.table k None } → AreParentsHome tree.table all → AreParentsHome now.table ks
 parents_next tree now k ks all e n h =

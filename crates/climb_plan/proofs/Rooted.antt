@@ -15,7 +15,7 @@ use Rattle.mapping.specs.FreshPids.{is_among, unused}
 use Rattle.mapping.specs.Tree.{Logged}
 use Rattle.mapping.specs.Tree.Logged.{Old}
 use Rattle.mapping.specs.Proper.{AreRisingPids, Distinct, Tiled}
-use Rattle.mapping.specs.Table.{Mapping, pids_in_use, place_of, freed, freed_all, with_rooms, fresh_pids}
+use Rattle.mapping.specs.Table.{Mapping, pids_in_use, place_of, freed_all, with_rooms, fresh_pids}
 use Rattle.mapping.specs.TreeInMemory.{TreeInMemory}
 use Rattle.mapping.proofs.PidLaws.{all_among}
 use Rattle.mapping.proofs.TileLaws.{rising-names}
@@ -37,10 +37,6 @@ use Rattle.climb_plan.proofs.InstallingLaws.{AreUnder, home-put_under, others-pu
 
 abbrev pub tree_less : TreeInMemory → List ℕ → TreeInMemory
 tree_less tree pids = record tree { table = freed_all tree.table pids }
-
-pub less_step : (tree now all_done : TreeInMemory) (k : ℕ) (ks all : List ℕ) → all ≡ k ∷ ks → now ≡ record tree { table = freed tree.table k } → tree_less tree all ≡ all_done → tree_less now ks ≡ all_done
-less_step tree now all_done k ks all r n h =
-    ap (λ (x : TreeInMemory). tree_less x ks) n ∙ ap (λ (x : List ℕ). tree_less tree x) (sym r) ∙ h
 
 -- the tree as it was before pids were drawn
 pub drawn_back : (tree drawn now : TreeInMemory) (ks all : List ℕ) → AreDrawn tree drawn ks → AreLost tree.table → all ≡ ks → now ≡ tree_less drawn all → now ≡ tree

@@ -1,5 +1,5 @@
 -- What a climb does to the mapping table, one page after the other.
-use Rattle.std.specs.Prelude.{◌≡◌, ℕ, suc, ◌+◌, ◌<◌, ⊤, false, List, [], ◌∷◌, ◌++◌, flat_map, reverse, drop, length, Option, Some, None, IsSome, if◌then◌else◌}
+use Rattle.std.specs.Prelude.{◌≡◌, ℕ, suc, ◌+◌, ◌<◌, ⊤, false, List, [], ◌∷◌, ◌++◌, flat_map, drop, length, Option, Some, None, IsSome, if◌then◌else◌}
 use Rattle.std.specs.List.{AllByRecursion}
 use Rattle.index_page.specs.Page.{PageOfKind}
 use Rattle.index_page.specs.Page.PageOfKind.{Leaf, Index}
@@ -11,7 +11,6 @@ use Rattle.mapping.specs.Table.{Mapping, pids_in_use, place_of, page_of, with_pl
 use Rattle.page_runs.specs.TermWork.{TermHeld}
 use Rattle.climb_plan.specs.Changing.{SeenPage}
 use Rattle.mapping.specs.TreeInMemory.{TreeInMemory}
-use Rattle.climb_plan.specs.Climb.{kept}
 use Rattle.climb_plan.specs.Rewriting.{Remade}
 
 -- ---- pages are taken and put back
@@ -130,10 +129,6 @@ pub record AreGrown (before after : TreeInMemory) (ls : List (List (Placed ℕ))
   pub height : after.height ≡ before.height
 
 -- ---- the root shrinks
-
--- the pids of the levels that go with the old root, the highest first
-abbrev pub shrunk_from_top : List (List (Placed ℕ)) → List ℕ
-shrunk_from_top ls = reverse (flat_map pids (drop (length (kept ls)) ls))
 
 -- the pid of the only child that entries name, where there is just one
 abbrev pub only_pid : List (List ℕ × ℕ) → Option ℕ

@@ -200,8 +200,8 @@ pub(crate) fn free_drawn(tree: &mut Tree<Global>, all: &[Rewritten])
     }
 }
 
-// Gives these numbers back.
-fn free_all(tree: &mut Tree<Global>, pids: &[u64])
+/// Gives up these places, which are away.
+pub(crate) fn free_all(tree: &mut Tree<Global>, pids: &[u64])
     requires { AreAway tree.old.table pids.now }
     ensures { tree.new ≡ record tree.old { table = freed_all tree.old.table pids.now } }
 {

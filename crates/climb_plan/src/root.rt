@@ -4,12 +4,13 @@ ghost use Rattle.keys.specs.Order.{IsRising};
 ghost use Rattle.mapping.specs.Levels.{Placed, names, top_pid};
 ghost use Rattle.mapping.specs.FreshPids.{unused};
 ghost use Rattle.mapping.specs.Proper.{AreRisingPids};
-ghost use Rattle.mapping.specs.Table.{pids_in_use, fresh_pids, freed_all};
+ghost use Rattle.mapping.specs.Table.{pids_in_use, fresh_pids};
 ghost use Rattle.climb_plan.specs.Climb.{grown};
 ghost use Rattle.climb_plan.specs.Rewriting.{named_pages};
-ghost use Rattle.climb_plan.specs.Installing.{AreAway, AreLost, AreDrawn, AreGrown};
+ghost use Rattle.climb_plan.specs.Installing.{AreLost, AreDrawn, AreGrown};
 ghost use Rattle.climb_plan.specs.declared.refused.Refused.TheVariants.{TooHigh};
 
+use crate::change::free_all;
 use crate::install::put_pieces;
 use crate::refused::Refused;
 use index_page::Page;
@@ -116,14 +117,4 @@ fn names_of(alloc: Global, pages: &[Page<Global>], pids: &[u64]) -> Result<Vec<N
         });
     }
     Ok(names)
-}
-
-// Gives up places that are away.
-fn free_all(tree: &mut Tree<Global>, pids: &[u64])
-    requires { AreAway tree.old.table pids.now }
-    ensures { tree.new ≡ record tree.old { table = freed_all tree.old.table pids.now } }
-{
-    for pid in pids {
-        tree.free(Pid(*pid));
-    }
 }

@@ -28,7 +28,7 @@ fn base_of<V: Cell<A> + Drop, A: Allocator + Copy>(
     requires { IsRising pairs.now }
     ensures { IfOk result (λ base. base ≡ pairs.now) }
 {
-    let mut builder = BaseBuilder::with_capacity(alloc, pairs.len())?;
+    let mut builder = BaseBuilder::with_capacity(alloc, pairs.len(), pairs.key_bytes())?;
     for at in 0..pairs.len() {
         let cell = pairs.cell(at).copy(alloc)?;
         match builder.push(pairs.key(at), cell) {

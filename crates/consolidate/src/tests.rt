@@ -1,6 +1,6 @@
 use crate::consolidate;
-use delta_chain::{BaseBuilder, Chain, PushError, Run};
-use keys::{Key, Value};
+use delta_chain::{Base, BaseBuilder, Chain, PushError, Run};
+use keys::{Key, Pid, Value};
 use std::alloc::{AllocError, Global};
 use std::test::Fail;
 
@@ -49,7 +49,7 @@ fn is_consolidated(
 
 // The page begins as the base a=1, b=2.
 fn is_right(alloc: Global) -> Result<bool, PushError> {
-    let mut builder = BaseBuilder::with_capacity(alloc, 2)?;
+    let mut builder = BaseBuilder::with_capacity(alloc, 2, 2)?;
     builder.push(b"a", Value::from_bytes(alloc, b"1")?)?;
     builder.push(b"b", Value::from_bytes(alloc, b"2")?)?;
     let mut chain = Chain::of_base(builder.finish());
@@ -69,4 +69,37 @@ fn refused_memory_gives_no_base(rt: HostRuntime) {
         Ok(is_right) => assert!(rt; is_right),
         Err(refused) => assert_eq!(rt; refused, PushError::NoMemory),
     }
+}
+
+// A base of the empty key and of two keys of which one is the other's beginning, with room for less than they take.
+fn long_keys(alloc: Global) -> Result<Base<Pid, Global>, PushError> {
+    let mut builder = BaseBuilder::with_capacity(alloc, 1, 1)?;
+    builder.push(b"", Pid(1))?;
+    builder.push(&[7; 254], Pid(2))?;
+    builder.push(&[7; 255], Pid(3))?;
+    Ok(builder.finish())
+}
+
+// Whether the keys and the last cell are read as they were put.
+fn long_keys_stay(alloc: Global) -> Result<bool, PushError> {
+    let base = long_keys(alloc)?;
+    if base.len() != 3 {
+        return Ok(false);
+    }
+    let long_stay = base.key(1) == [7; 254].as_slice() && base.key(2) == [7; 255].as_slice();
+    Ok(long_stay && base.key(0).is_empty() && *base.cell(2) == Pid(3))
+}
+
+// Whether a page without entries becomes a base without entries.
+fn nothing_stays_nothing(alloc: Global) -> Result<bool, AllocError> {
+    let chain = Chain::of_base(Base::<Pid, Global>::empty(alloc));
+    let base = consolidate(alloc, &chain)?;
+    Ok(base.len() == 0)
+}
+
+#[test]
+fn keys_of_each_length_and_an_empty_page_stay_as_they_are(rt: HostRuntime) -> Result<(), Fail> {
+    assert!(rt; long_keys_stay(rt.alloc())?);
+    assert!(rt; nothing_stays_nothing(rt.alloc())?);
+    Ok(())
 }

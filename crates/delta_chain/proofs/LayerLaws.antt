@@ -57,7 +57,7 @@ module _ {V : Type 0} where
   pub rising-entries_of : (p : Layers V) → IsInOrder p → IsRising (entries_of p)
   rising-entries_of p a = rising-entries_under p.runs p.base a
 
-  value_at-entries_under : (runs : List (List (List ℕ × Option V))) (base : List (List ℕ × V)) (q : List ℕ) → AllRise runs base → value_at q (entries_under runs base) ≡ held_under q runs base
+  pub value_at-entries_under : (runs : List (List (List ℕ × Option V))) (base : List (List ℕ × V)) (q : List ℕ) → AllRise runs base → value_at q (entries_under runs base) ≡ held_under q runs base
   value_at-entries_under [] base q a = refl
   value_at-entries_under (run ∷ runs) base q a =
       value_at-with_run (entries_under runs base) run q (rising-entries_under runs base a.1) a.0

@@ -16,12 +16,12 @@ less_by Greater h = absurd (cc)
 
 module _ {V : Type 0} where
   -- a key above the last one is above the first
-  goes_last_first : (e : List ℕ × V) (es : List (List ℕ × V)) (k : List ℕ) → IsRising (e ∷ es) → goes_last k (e ∷ es) ≡ true → order e.0 k ≡ Less
+  pub goes_last_first : (e : List ℕ × V) (es : List (List ℕ × V)) (k : List ℕ) → IsRising (e ∷ es) → goes_last k (e ∷ es) ≡ true → order e.0 k ≡ Less
   unfolding IsStrictlySortedBy
   goes_last_first e [] k r h = less_by (order e.0 k) h
   goes_last_first e (f ∷ es) k r h = total.trans e.0 f.0 k (r.0).0 (goes_last_first f es k r.1 h)
 
-  goes_last_rest : (e : List ℕ × V) (es : List (List ℕ × V)) (k : List ℕ) → goes_last k (e ∷ es) ≡ true → goes_last k es ≡ true
+  pub goes_last_rest : (e : List ℕ × V) (es : List (List ℕ × V)) (k : List ℕ) → goes_last k (e ∷ es) ≡ true → goes_last k es ≡ true
   goes_last_rest e [] k h = refl
   goes_last_rest e (f ∷ es) k h = h
 
@@ -47,6 +47,14 @@ module _ {V : Type 0} where
   pub goes_last-some : (es : List (List ℕ × V)) (k : List ℕ) (e : List ℕ × V) → slice_get es (length es - 1) ≡ Some e → goes_last k es ≡ is_lt (order e.0 k)
   goes_last-some [] k e h = absurd (cc)
   goes_last-some (d ∷ es) k e h = last_by (d ∷ es) (length (d ∷ es) - 1) k e (omega arith) h
+
+  -- and by the key there
+  pub goes_last-key : (es : List (List ℕ × V)) (n : ℕ) (j k : List ℕ) → n + 1 ≡ length es → slice_get (keys_of es) n ≡ Some j → goes_last k es ≡ is_lt (order j k)
+  goes_last-key [] n j k l h = absurd (cc)
+  goes_last-key (d ∷ []) zero j k l h = let s : d.0 ≡ j = cc in ap (λ (x : List ℕ). is_lt (order x k)) s
+  goes_last-key (d ∷ []) (suc n) j k l h = absurd (cc)
+  goes_last-key (d ∷ f ∷ es) zero j k l h = absurd (omega arith)
+  goes_last-key (d ∷ f ∷ es) (suc n) j k l h = let m : n + 1 ≡ length (f ∷ es) = omega arith in goes_last-key (f ∷ es) n j k m h
 
   -- in a list that rises, each key may follow the entries before it
   pub goes_last-rising : (es : List (List ℕ × V)) (k : List ℕ) (v : V) (rest : List (List ℕ × V)) → IsRising (es ++ (k, v) ∷ rest) → goes_last k es ≡ true

@@ -3,3 +3,4 @@ pub mod Layers
 pub mod Lent
 pub mod Linked
 pub mod Merging
+pub mod Packed

@@ -1,25 +1,32 @@
-ghost use Rattle.std.specs.Prelude.{◌≡◌, ◌<◌, [], length, slice_get};
+ghost use Rattle.std.specs.Prelude.{◌≡◌, ◌<◌, ◌∷◌, ◌++◌, [], true, length, slice_get, IfOk, OnOk, OnErr};
 ghost use Rattle.std.specs.Map.{keys_of, values_of};
 ghost use Rattle.keys.specs.Order.{IsRising};
+ghost use Rattle.delta_chain.specs.Building.{goes_last};
 
-use crate::entries::Entries;
-use std::alloc::Allocator;
+use std::alloc::{AllocError, Allocator};
 use std::marker::Model;
 
 /// The base of a page: its keys, each with a cell (a value, or for an index page a page id), in strictly rising
 /// order of the keys. Contracts see it as the list of these pairs. It is read by place and made by a
-/// `BaseBuilder`.
+/// `BaseBuilder`. The keys stand in one buffer, so that a search goes through little memory.
 #[derive(Drop)]
 pub struct Base<V, A: Allocator> {
-    entries: Entries<V, A>,
+    // The keys, back to back.
+    bytes: Vec<u8, A>,
+    // Where each key ends among the bytes.
+    ends: Vec<usize, A>,
+    cells: Vec<V, A>,
 }
 
 impl<V, A: Allocator> Model for Base<V, A> {
     ghost use Rattle.std.specs.Prelude.{List, ℕ};
+    ghost use Rattle.delta_chain.specs.Packed.{packed_from, IsPacked};
 
     ghost Value = { List (List ℕ × V) };
 
-    ghost view = { λ b. b.entries };
+    ghost view = { λ b. packed_from 0 b.bytes.items b.ends.items b.cells.items };
+
+    ghost invariant = { λ b. IsPacked b.bytes.items b.ends.items b.cells.items };
 }
 
 impl<V, A: Allocator + Copy> Base<V, A> {
@@ -28,19 +35,24 @@ impl<V, A: Allocator + Copy> Base<V, A> {
         ensures { result ≡ [] }
     {
         Base {
-            entries: Entries::empty(alloc),
+            bytes: Vec::new(alloc),
+            ends: Vec::new(alloc),
+            cells: Vec::new(alloc),
         }
     }
 
-    // The base of these entries.
-    pub(crate) fn of_entries(entries: Entries<V, A>) -> Self
-        ensures { result ≡ entries }
+    // A base without entries, with room for this many whose keys have so many bytes together.
+    pub(crate) fn with_capacity(alloc: A, count: usize, bytes: usize) -> Result<Self, AllocError>
+        ensures { IfOk result (λ base. base ≡ []) }
     {
-        Base { entries }
+        let bytes = Vec::with_capacity(alloc, bytes)?;
+        let ends = Vec::with_capacity(alloc, count)?;
+        let cells = Vec::with_capacity(alloc, count)?;
+        Ok(Base { bytes, ends, cells })
     }
 
     pub(crate) fn alloc(&self) -> A {
-        self.entries.alloc()
+        *self.cells.allocator()
     }
 
     /// How many entries there are.
@@ -48,7 +60,7 @@ impl<V, A: Allocator + Copy> Base<V, A> {
         ensures count { result ≡ length self.now }
         ensures rising { IsRising self.now }
     {
-        self.entries.len()
+        self.cells.len()
     }
 
     /// The bytes of the key at this place, counted from 0.
@@ -56,7 +68,12 @@ impl<V, A: Allocator + Copy> Base<V, A> {
         requires { at < length self.now }
         ensures { slice_get (keys_of self.now) at ≡ Some result.now }
     {
-        self.entries.key(at)
+        let end = self.ends[at];
+        if at == 0 {
+            &self.bytes[0..end]
+        } else {
+            &self.bytes[self.ends[at - 1]..end]
+        }
     }
 
     /// The cell at this place, counted from 0.
@@ -64,6 +81,33 @@ impl<V, A: Allocator + Copy> Base<V, A> {
         requires { at < length self.now }
         ensures { slice_get (values_of self.now) at ≡ Some result.now }
     {
-        self.entries.item(at)
+        &self.cells[at]
+    }
+
+    // Whether the key is above the last one, so that an entry under it may be put behind the others.
+    pub(crate) fn takes(&self, key: &[u8]) -> bool
+        ensures { result ≡ goes_last key.now self.now }
+    {
+        let count = self.len();
+        if count == 0 {
+            return true;
+        }
+        self.key(count - 1).cmp(key).is_lt()
+    }
+}
+
+impl<V: Drop, A: Allocator + Copy> Base<V, A> {
+    // Puts an entry with a copy of the key behind the others. Where memory is refused they stay as they are.
+    pub(crate) fn push(&mut self, key: &[u8], cell: V) -> Result<(), AllocError>
+        requires { goes_last key.now self.old ≡ true }
+        ensures ok { OnOk result (self.new ≡ self.old ++ (key.now, cell) ∷ []) }
+        ensures err { OnErr result (self.new ≡ self.old) }
+    {
+        self.ends.reserve(1)?;
+        self.cells.reserve(1)?;
+        self.bytes.extend_from_slice(key)?;
+        self.ends.push_reserved(self.bytes.len());
+        self.cells.push_reserved(cell);
+        Ok(())
     }
 }

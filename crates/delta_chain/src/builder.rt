@@ -2,8 +2,6 @@ ghost use Rattle.std.specs.Prelude.{◌≡◌, ◌∷◌, ◌++◌, [], false, I
 ghost use Rattle.delta_chain.specs.Building.{goes_last};
 
 use crate::base::Base;
-use crate::entries::Entries;
-use keys::Key;
 use std::alloc::{AllocError, Allocator};
 use std::marker::Model;
 
@@ -31,7 +29,7 @@ impl From<AllocError> for PushError {
 /// entries so far.
 #[derive(Drop)]
 pub struct BaseBuilder<V, A: Allocator> {
-    entries: Entries<V, A>,
+    base: Base<V, A>,
 }
 
 impl<V, A: Allocator> Model for BaseBuilder<V, A> {
@@ -39,23 +37,24 @@ impl<V, A: Allocator> Model for BaseBuilder<V, A> {
 
     ghost Value = { List (List ℕ × V) };
 
-    ghost view = { λ b. b.entries };
+    ghost view = { λ b. b.base };
 }
 
 impl<V, A: Allocator + Copy> BaseBuilder<V, A> {
-    /// A builder without entries, with room for this many.
-    pub fn with_capacity(alloc: A, count: usize) -> Result<Self, AllocError>
+    /// A builder without entries, with room for this many whose keys have so many bytes together. It takes more where
+    /// there come to be more.
+    pub fn with_capacity(alloc: A, count: usize, bytes: usize) -> Result<Self, AllocError>
         ensures { IfOk result (λ builder. builder ≡ []) }
     {
-        let entries = Entries::with_capacity(alloc, count)?;
-        Ok(BaseBuilder { entries })
+        let base = Base::with_capacity(alloc, count, bytes)?;
+        Ok(BaseBuilder { base })
     }
 
     /// The base of the entries.
     pub fn finish(self) -> Base<V, A>
         ensures { result ≡ self }
     {
-        Base::of_entries(self.entries)
+        self.base
     }
 }
 
@@ -67,11 +66,10 @@ impl<V: Drop, A: Allocator + Copy> BaseBuilder<V, A> {
         ensures order { IsErrOf result PushError.OutOfOrder ↔ (goes_last key.now self.old ≡ false) }
         ensures err { OnErr result (self.new ≡ self.old) }
     {
-        if !self.entries.takes(key) {
+        if !self.base.takes(key) {
             return Err(PushError::OutOfOrder);
         }
-        let key = Key::from_bytes(self.entries.alloc(), key)?;
-        self.entries.push(key, cell)?;
+        self.base.push(key, cell)?;
         Ok(())
     }
 }

@@ -1,9 +1,10 @@
 ghost use Rattle.std.specs.Prelude.{◌≡◌, ◌∷◌, [], length, min, OnOk, OnErr, IfOk, IfErr, MatchOption};
 ghost use Rattle.keys.specs.Order.{IsRising};
 ghost use Rattle.delta_chain.specs.Layers.{Layers, entries_of, depth_of, IsInOrder};
+ghost use Rattle.delta_chain.specs.Merging.{said_by};
 
 use crate::base::Base;
-use crate::merging::{copied, lent_base, with_run};
+use crate::merging::{copied, lent_base, overlaid, with_run};
 use crate::pairs::Pairs;
 use crate::run::Run;
 use keys::{Cell, Key};
@@ -16,6 +17,8 @@ use std::mem;
 #[cycle(chain)]
 #[derive(Drop)]
 pub struct Chain<V, A: Allocator> {
+    // How many runs there are, up to the greatest `u64`.
+    depth: u64,
     link: Link<V, A>,
 }
 
@@ -32,9 +35,11 @@ impl<V, A: Allocator> Model for Chain<V, A> {
 
     ghost Value = { Layers V };
 
-    ghost use Rattle.delta_chain.specs.Linked.{layers_of};
+    ghost use Rattle.delta_chain.specs.Linked.{layers_of, IsLinked};
 
     ghost view = { λ c. layers_of c.link };
+
+    ghost invariant = { λ c. IsLinked c.depth c.link };
 
     ghost size = { λ c. length c.runs };
 
@@ -48,7 +53,10 @@ impl<V, A: Allocator + Copy> Chain<V, A> {
     pub fn of_base(base: Base<V, A>) -> Self
         ensures { result ≡ record { runs = []; base = base } }
     {
+        // The length is looked up for what it says of the order of the keys.
+        let _rising = base.len();
         Chain {
+            depth: 0,
             link: Link::Bottom(base),
         }
     }
@@ -58,17 +66,7 @@ impl<V, A: Allocator + Copy> Chain<V, A> {
         ensures count { result ≡ min (depth_of self.now) u64.MAX }
         ensures rising { IsInOrder self.now }
     {
-        // The lengths are looked up for what `len` says of the order of the keys.
-        match &self.link {
-            Link::Bottom(base) => {
-                let _rising = base.len();
-                0
-            }
-            Link::Front(run, below) => {
-                let _rising = run.len();
-                below.depth().saturating_add(1)
-            }
-        }
+        self.depth
     }
 
     /// The newest run and the chain behind it, or none where the base stands alone.
@@ -96,11 +94,25 @@ impl<V, A: Allocator + Copy> Chain<V, A> {
         ensures entries { IfOk result (λ pairs. pairs ≡ entries_of self.now) }
         ensures rising { IfOk result (λ pairs. IsRising pairs) }
     {
+        if let Link::Bottom(base) = &self.link {
+            return lent_base(alloc, base);
+        }
+        // The runs are merged with one another first, so that the base, which is mostly longer, is gone through once.
+        let _in_order = self.depth();
+        let changes = self.changes(alloc)?;
+        let under = lent_base(alloc, self.base())?;
+        with_run(alloc, &under, &changes)
+    }
+
+    // What the runs say together, lent: the keys that they name, each with what the newest run that names it says.
+    fn changes(&self, alloc: A) -> Result<Pairs<'_, Option<V>, A>, AllocError>
+        ensures { IfOk result (λ changes. changes ≡ said_by self.now.runs) }
+    {
         match &self.link {
-            Link::Bottom(base) => lent_base(alloc, base),
+            Link::Bottom(_) => Ok(Pairs::of_list(Vec::new(alloc))),
             Link::Front(run, below) => {
-                let under = below.pairs(alloc)?;
-                with_run(alloc, &under, run)
+                let older = below.changes(alloc)?;
+                overlaid(alloc, &older, run)
             }
         }
     }
@@ -121,10 +133,15 @@ impl<V: Drop, A: Allocator + Copy> Chain<V, A> {
         ensures back { IfErr result (λ e. e.1 ≡ run) }
     {
         let alloc = run.alloc();
+        let _rising = run.len();
+        let depth = self.depth().saturating_add(1);
         let whole = mem::replace(self, Chain::of_base(Base::empty(alloc)));
         match Box::new(alloc, whole) {
             Ok(below) => {
-                self.link = Link::Front(run, below);
+                *self = Chain {
+                    depth,
+                    link: Link::Front(run, below),
+                };
                 Ok(())
             }
             Err(refused) => {

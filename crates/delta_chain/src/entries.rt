@@ -1,13 +1,15 @@
-ghost use Rattle.std.specs.Prelude.{◌≡◌, ◌<◌, ◌∷◌, ◌++◌, [], true, length, slice_get, IfOk, OnOk, OnErr};
+ghost use Rattle.std.specs.Prelude.{◌≡◌, ◌<◌, ◌≤◌, ◌∷◌, ◌++◌, [], true, length, slice_get, Some, None, MatchResult, IfOk, OnOk, OnErr};
+ghost use Rattle.std.specs.List.{insert};
 ghost use Rattle.std.specs.Map.{keys_of, values_of};
 ghost use Rattle.keys.specs.Order.{IsRising};
+ghost use Rattle.keys.specs.OrderedMap.{value_at, with_pair};
 ghost use Rattle.delta_chain.specs.Building.{goes_last};
 
 use keys::Key;
 use std::alloc::{AllocError, Allocator};
 use std::marker::Model;
 
-/// Items under keys that strictly rise: what a base and a run have in common.
+/// Items under keys that strictly rise, each key in memory of its own.
 #[derive(Drop)]
 pub(crate) struct Entries<T, A: Allocator> {
     items: Vec<(Key<A>, T), A>,
@@ -67,6 +69,20 @@ impl<T, A: Allocator + Copy> Entries<T, A> {
         &self.items[at].1
     }
 
+    // The place of the key, or else the place where it goes.
+    pub(crate) fn search(&self, key: &[u8]) -> Result<usize, usize>
+        ensures { MatchResult result
+            (λ at. (at < length self.now) × (slice_get (keys_of self.now) at ≡ Some key.now) × (value_at key.now self.now ≡ slice_get (values_of self.now) at))
+            (λ at. (at ≤ length self.now) × (value_at key.now self.now ≡ None) × ((item : T) → with_pair self.now key.now item ≡ insert self.now at (key.now, item))) }
+    {
+        // Keys mostly come in their order, so the end is looked at first.
+        if self.takes(key) {
+            return Err(self.len());
+        }
+        self.items
+            .binary_search_by(|entry| entry.0.as_bytes().cmp(key))
+    }
+
     // Whether the key is above the last one, so that an entry under it may be put behind the others.
     pub(crate) fn takes(&self, key: &[u8]) -> bool
         ensures { result ≡ goes_last key.now self.now }
@@ -84,6 +100,21 @@ impl<T: Drop, A: Allocator + Copy> Entries<T, A> {
     {
         self.items.push((key, item))?;
         Ok(())
+    }
+
+    // Sets the item of the key: in the place of the one that it has, or else where the key goes. Where memory is
+    // refused they stay as they are.
+    pub(crate) fn set(&mut self, key: Key<A>, item: T) -> Result<(), AllocError>
+        ensures ok { OnOk result (self.new ≡ with_pair self.old key item) }
+        ensures err { OnErr result (self.new ≡ self.old) }
+    {
+        match self.search(key.as_bytes()) {
+            Ok(at) => {
+                self.items[at] = (key, item);
+                Ok(())
+            }
+            Err(at) => Ok(self.items.insert(at, (key, item))?),
+        }
     }
 }
 

@@ -1,10 +1,10 @@
-//! A run applied to the pairs under it, by one walk over both.
+//! The runs of a page merged with one another, and then applied to its base, each time by one walk over two lists.
 ghost use Rattle.std.specs.Prelude.{◌≡◌, ◌<◌, ◌≤◌, ◌+◌, ◌-◌, ◌++◌, length, drop, vec_len, vec_capacity, IfOk};
 ghost use Rattle.std.specs.Option.{option_copied};
 ghost use Rattle.keys.specs.Order.{IsRising};
 ghost use Rattle.delta_chain.specs.Layers.{with_run};
 ghost use Rattle.delta_chain.specs.Lent.{pairs_lent};
-ghost use Rattle.delta_chain.specs.Merging.{present, first_order};
+ghost use Rattle.delta_chain.specs.Merging.{present, first_order, overlaid};
 
 use crate::base::Base;
 use crate::pairs::Pairs;
@@ -29,14 +29,49 @@ pub(crate) fn lent_base<V, A: Allocator + Copy>(
     Ok(Pairs::of_list(lent))
 }
 
-/// The pairs under a run with its changes: each pair of the lower list that the run doesn't name, and each key of
-/// the run that has a cell.
+/// Older changes with those of a newer run over them: each older one whose key the run doesn't name, and all of the run.
+pub(crate) fn overlaid<'a, V, A: Allocator + Copy>(
+    alloc: A,
+    older: &Pairs<'a, Option<V>, A>,
+    newer: &'a Run<V, A>,
+) -> Result<Pairs<'a, Option<V>, A>, AllocError>
+    requires { IsRising older.now }
+    ensures { IfOk result (λ changes. changes ≡ overlaid older.now newer.now) }
+{
+    let count = newer.len();
+    let Some(room) = older.len().checked_add(count) else {
+        return Err(AllocError);
+    };
+    let mut lent = Vec::with_capacity(alloc, room)?;
+    let mut from = 0;
+    let mut at = 0;
+    while at < count {
+        let key = newer.key(at);
+        match order_at(older, from, key) {
+            Ordering::Less => {
+                lent.push_reserved((older.key(from), older.cell(from)));
+                from += 1;
+            }
+            Ordering::Equal => from += 1,
+            Ordering::Greater => {
+                lent.push_reserved((key, newer.item(at)));
+                at += 1;
+            }
+        }
+    }
+    push_rest(&mut lent, older, from);
+    Ok(Pairs::of_list(lent))
+}
+
+/// The pairs with the changes to them: each pair that the changes don't name, and each key of the changes that has a
+/// cell.
 pub(crate) fn with_run<'a, V, A: Allocator + Copy>(
     alloc: A,
     under: &Pairs<'a, V, A>,
-    run: &'a Run<V, A>,
+    run: &Pairs<'a, Option<V>, A>,
 ) -> Result<Pairs<'a, V, A>, AllocError>
-    requires { IsRising under.now }
+    requires pairs { IsRising under.now }
+    requires changes { IsRising run.now }
     ensures entries { IfOk result (λ pairs. pairs ≡ with_run under.now run.now) }
     ensures rising { IfOk result (λ pairs. IsRising pairs) }
 {
@@ -56,7 +91,7 @@ pub(crate) fn with_run<'a, V, A: Allocator + Copy>(
             }
             Ordering::Equal => from += 1,
             Ordering::Greater => {
-                push_change(&mut lent, key, run.change(at));
+                push_change(&mut lent, key, run.cell(at).as_ref());
                 at += 1;
             }
         }

@@ -51,4 +51,18 @@ impl<'a, V, A: Allocator + Copy> Pairs<'a, V, A> {
     {
         self.lent[at].1
     }
+
+    /// How many bytes the keys have together, or the greatest `usize` where that is less.
+    pub fn key_bytes(&self) -> usize {
+        key_bytes(&self.lent)
+    }
+}
+
+/// How many bytes the keys of these entries have together, or the greatest `usize` where that is less.
+pub fn key_bytes<V>(entries: &[(&[u8], &V)]) -> usize {
+    let mut bytes: usize = 0;
+    for entry in entries {
+        bytes = bytes.saturating_add(entry.0.len());
+    }
+    bytes
 }

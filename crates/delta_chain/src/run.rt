@@ -1,7 +1,8 @@
-ghost use Rattle.std.specs.Prelude.{◌≡◌, ◌<◌, ◌∷◌, ◌++◌, [], false, length, slice_get, IfOk, OnOk, OnErr, IsErrOf, ◌↔◌};
+ghost use Rattle.std.specs.Prelude.{◌≡◌, ◌<◌, ◌∷◌, ◌++◌, [], false, length, slice_get, None, IfOk, IfSome, MatchOption, OnOk, OnErr, IsErrOf, ◌↔◌};
 ghost use Rattle.std.specs.Map.{keys_of, values_of};
 ghost use Rattle.std.specs.Option.{option_copied};
 ghost use Rattle.keys.specs.Order.{IsRising};
+ghost use Rattle.keys.specs.OrderedMap.{value_at, with_pair};
 ghost use Rattle.delta_chain.specs.Building.{goes_last};
 
 use crate::builder::PushError;
@@ -26,6 +27,15 @@ impl<V, A: Allocator> Model for Run<V, A> {
 }
 
 impl<V, A: Allocator + Copy> Run<V, A> {
+    /// A run without changes. It takes no memory.
+    pub fn empty(alloc: A) -> Self
+        ensures { result ≡ [] }
+    {
+        Run {
+            changes: Entries::empty(alloc),
+        }
+    }
+
     /// A run without changes, with room for this many.
     pub fn with_capacity(alloc: A, count: usize) -> Result<Self, AllocError>
         ensures { IfOk result (λ run. run ≡ []) }
@@ -61,6 +71,24 @@ impl<V, A: Allocator + Copy> Run<V, A> {
     {
         self.changes.item(at).as_ref()
     }
+
+    // What the key at this place has, as it is kept.
+    pub(crate) fn item(&self, at: usize) -> &Option<V>
+        requires { at < length self.now }
+        ensures { slice_get (values_of self.now) at ≡ Some result.now }
+    {
+        self.changes.item(at)
+    }
+
+    /// The place of the key, counted from 0, or none where the run doesn't name it. It is found by halves, and a key
+    /// above all of them by one comparison.
+    pub fn place(&self, key: &[u8]) -> Option<usize>
+        ensures place { MatchOption result (value_at key.now self.now ≡ None) (λ at. slice_get (keys_of self.now) at ≡ Some key.now) }
+        ensures within { IfSome result (λ at. at < length self.now) }
+        ensures change { IfSome result (λ at. value_at key.now self.now ≡ slice_get (values_of self.now) at) }
+    {
+        self.changes.search(key).ok()
+    }
 }
 
 impl<V: Drop, A: Allocator + Copy> Run<V, A> {
@@ -76,5 +104,14 @@ impl<V: Drop, A: Allocator + Copy> Run<V, A> {
         }
         self.changes.push(key, change)?;
         Ok(())
+    }
+
+    /// Sets what the run says of the key: in the place of what it said before, or else where the key goes, so that the
+    /// keys may come in any order. Where memory is refused the change is dropped and the run stays as it was.
+    pub fn set(&mut self, key: Key<A>, change: Option<V>) -> Result<(), AllocError>
+        ensures ok { OnOk result (self.new ≡ with_pair self.old key change) }
+        ensures err { OnErr result (self.new ≡ self.old) }
+    {
+        self.changes.set(key, change)
     }
 }

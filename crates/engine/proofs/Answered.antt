@@ -28,9 +28,10 @@ use Rattle.page_runs.specs.Replies.{ArePlacesOf}
 use Rattle.replies.specs.ByPlace.{places_of, reply_at}
 use Rattle.replies.proofs.Placing.{replies_determined}
 use Rattle.climb_plan.specs.Installing.{page_or_none}
+use Rattle.climb_plan.proofs.Installing.{distinct_first}
 use Rattle.engine.specs.Leaves.{IsLeafAt, AreLeafRoutes, leaf_held, leaves_made, answers}
 use Rattle.engine.proofs.LeafAnswers.{length-replies_to, places_of-answers, IsReplyAmong, answered_apart}
-use Rattle.engine.proofs.LeafRoutes.{distinct_first, IsHomeLeaf, pids-ranges, all-route_pids, distinct-route_pids, within-routes, home_leaves, leaves_there, HoldsPart, parts_from}
+use Rattle.engine.proofs.LeafRoutes.{IsHomeLeaf, pids-ranges, all-route_pids, distinct-route_pids, within-routes, home_leaves, leaves_there, HoldsPart, parts_from}
 
 abbrev Commands : Type 0
 Commands = List (Command Global)

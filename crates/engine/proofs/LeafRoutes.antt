@@ -9,7 +9,7 @@ use Rattle.index_page.specs.Page.{Page, PageOfKind, entries}
 use Rattle.index_page.specs.Page.PageOfKind.{Leaf}
 use Rattle.index_page.specs.Range.{is_within}
 use Rattle.index_page.proofs.ChildLaws.{place_of, children-cons, pids-children}
-use Rattle.index_page.proofs.ListLaws.{all_apart, all_weaker}
+use Rattle.index_page.proofs.ListLaws.{all_weaker}
 use Rattle.mapping.specs.Levels.{Placed, joined, name, names, pids}
 use Rattle.mapping.specs.Proper.{next_low, Tiled, Distinct, HasLeaves}
 use Rattle.mapping.specs.Table.{Mapping, page_of}
@@ -23,12 +23,6 @@ use Rattle.routing.proofs.RouteLaws.{below-places_from, kept}
 use Rattle.page_runs.specs.Apart.{AgreeOn}
 use Rattle.page_runs.specs.Replies.{ArePlacesOf}
 use Rattle.engine.specs.Leaves.{IsLeafAt, route_pids}
-
--- ---- distinct numbers
-
-pub distinct_first : (ms ns : List ℕ) → Distinct (ms ++ ns) → Distinct ms
-distinct_first [] ns d = tt
-distinct_first (m ∷ ms) ns d = ((all_apart (λ k. k ≢ m) ms ns d.0).0, distinct_first ms ns d.1)
 
 -- ---- the routes to some places
 

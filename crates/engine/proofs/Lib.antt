@@ -11,3 +11,4 @@ mod OwnRuns
 mod Readied
 mod Routed
 mod SeenLeaves
+mod Verified

@@ -1,6 +1,6 @@
 //! What the crates below give and nothing above them asks for yet, once each, and the texts of faults.
 use delta_chain::{Base, Chain, PushError, Run};
-use keys::{Fault, Field, Key, Pid};
+use keys::{Fault, Field, Finding, Key, Pid};
 use mapping::{Logged, Table};
 use std::alloc::Global;
 use std::process::Abort;
@@ -25,10 +25,17 @@ fn faults_print_number_name_and_what_they_carry(rt: HostRuntime) -> Result<(), F
         (Fault::ValueTooLong(65_534), "3 ValueTooLong 65534"),
         (Fault::BatchTooLong, "4 BatchTooLong"),
         (Fault::NoMemory, "6 NoMemory"),
+        (
+            Fault::BadStructure(Finding {
+                rule: 5,
+                pid: Pid(70),
+            }),
+            "16 BadStructure 5 70",
+        ),
         (Fault::Spent, "17 Spent"),
     ];
-    for (fault, text) in shown {
-        assert_eq!(rt; fault.to_string(rt.alloc())?.as_str(), text);
+    for fault in &shown {
+        assert_eq!(rt; fault.0.to_string(rt.alloc())?.as_str(), fault.1);
     }
     Ok(())
 }

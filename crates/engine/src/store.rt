@@ -1,5 +1,8 @@
 ghost use Rattle.std.specs.Prelude.{◌≡◌, [], IsOk, IfOk, IfErr, OnOk, OnErr, IsOkUnless, MatchOption, Err};
 ghost use Rattle.keys.specs.Limits.{first_bad_field};
+ghost use Rattle.keys.specs.declared.fault.Fault.TheVariants.{NoMemory};
+ghost use Rattle.std.specs.Option.{option_copied};
+ghost use Rattle.keys.specs.Range.{rows};
 ghost use Rattle.keys.specs.Step.{replies_to, map_after_all};
 ghost use Rattle.mapping.specs.Levels.{contents};
 ghost use Rattle.mapping.specs.Tree.{first_tree};
@@ -9,17 +12,22 @@ ghost use Rattle.engine.specs.Refusal.{refusal};
 ghost use Rattle.index_page.specs.Page.{bare};
 ghost use Rattle.index_page.specs.Page.PageOfKind.{Leaf};
 ghost use Rattle.engine.specs.State.{IsSound, new_in_memory};
+ghost use Rattle.verify.specs.Report.{report};
 
 use crate::execute::execute;
 use crate::refusal::admit;
 use delta_chain::{Base, Chain};
 use index_page::Page;
 use keys::{Command, Fault, Key, Pid, Reply, Settings};
-use mapping::laws::the_first_tree_is_proper_and_empty;
+use mapping::laws::{
+    nothing_is_found_exactly_in_a_proper_tree, the_first_tree_is_proper_and_empty,
+};
 use mapping::{Table, Tree};
+use scan::Rows;
 use std::alloc::{AllocError, Global};
 use std::marker::Model;
 use std::thread::Threads;
+use verify::Report;
 
 /// A store of keys and values: a tree of pages under a mapping table. Contracts see it as its settings and its tree; what is true of
 /// every store is its invariant.
@@ -92,6 +100,31 @@ impl Store {
     {
         admit(&self.settings, commands)?;
         execute(rt, self.alloc, &self.settings, &mut self.tree, commands)
+    }
+
+    /// Looks at every page, whether the tree is proper. It always is, so the answer is the report: how many pages the tree
+    /// has, how many levels, and how many pairs. It is refused only for want of memory, with `Fault::NoMemory`.
+    pub fn verify(&self, rt: &(impl Threads + Sync)) -> Result<Report, Fault>
+        ensures ok { IfOk result (λ told. told ≡ report self.now.tree) }
+        ensures err { IfErr result (λ fault. fault ≡ NoMemory) }
+    {
+        // Only for the proof.
+        nothing_is_found_exactly_in_a_proper_tree();
+        verify::verify(rt, self.alloc, &self.tree, &self.settings)
+    }
+
+    /// The first `limit` pairs whose keys are `lo` or above, and below `hi` where it is given, in key order. They are lent out
+    /// of the pages, and neither this nor the rows take memory. The bounds may be of any length.
+    pub fn range<'a>(
+        &'a self,
+        lo: &'a [u8],
+        hi: Option<&'a [u8]>,
+        limit: u32,
+    ) -> Result<Rows<'a>, Fault>
+        ensures succeeds { IsOk result }
+        ensures rows { IfOk result (λ left. left ≡ rows lo.now (option_copied hi.entry) limit (contents self.now.tree)) }
+    {
+        Ok(Rows::new(self.alloc, &self.tree, lo, hi, limit))
     }
 }
 

@@ -5,6 +5,7 @@ use delta_chain::{Chain, Pairs};
 use index_page::Page;
 use keys::{Command, Fault, Key, Pid, Reply, Settings, Value};
 use mapping::{Logged, Tree};
+use scan::Rows;
 use std::alloc::{AllocError, Global};
 use std::collections::BTreeMap;
 use std::thread::Threads;
@@ -398,6 +399,41 @@ fn the_rows_come_out(rt: HostRuntime) {
     );
 }
 
+// The keys and the values of rows.
+fn write_rows(text: &mut String, rows: Rows<'_>) -> Result<(), AllocError> {
+    for (key, value) in rows {
+        text.push(' ')?;
+        write_bytes(text, key)?;
+        text.push('=')?;
+        write_bytes(text, value)?;
+    }
+    text.push(';')
+}
+
+// Ranges of the map that the batches of row 8 leave.
+fn write_ranges(rt: &(impl Threads + Sync), alloc: Global, text: &mut String) -> Result<(), Fault> {
+    let mut store = Store::create(alloc, S)?;
+    for batch in [FIVE_PUTS, "c -c c ca=9 ca b"] {
+        let batch = commands(alloc, batch)?;
+        store.batch(rt, &batch)?;
+    }
+    write_rows(text, store.range(b"b", None, 3)?)?;
+    write_rows(text, store.range(b"b", Some(b"d"), 10)?)?;
+    write_rows(text, store.range(b"d", Some(b"b"), 10)?)?;
+    write_rows(text, store.range(b"a", None, 0)?)?;
+    Ok(())
+}
+
+#[test]
+fn ranges_are_lent(rt: HostRuntime) {
+    let mut text = String::new(rt.alloc());
+    let told = write_ranges(&rt, rt.alloc(), &mut text);
+    assert!(rt;
+        told.is_ok() && text.as_str() == " b=2 ca=9 d=4; b=2 ca=9;;;",
+        "{text}"
+    );
+}
+
 // Puts of so many keys of two bytes, from 00 00 on.
 fn many_puts(alloc: Global, count: u32) -> Result<Vec<Command<Global>>, AllocError> {
     let mut commands = Vec::new(alloc);
@@ -569,7 +605,8 @@ fn are_letters(
     Ok(text.as_str() == letters)
 }
 
-// Whether eighty batches are answered alike. The tree grows through five, shrinks through five, and so on.
+// Whether eighty batches are answered alike, and after each the tree is proper and has as many pairs as the map. It grows through
+// five, shrinks through five, and so on.
 fn are_answered_alike(rt: &(impl Threads + Sync), alloc: Global) -> Result<bool, Fault> {
     let mut store = Store::create(alloc, S)?;
     let mut map = BTreeMap::new(alloc);
@@ -578,6 +615,7 @@ fn are_answered_alike(rt: &(impl Threads + Sync), alloc: Global) -> Result<bool,
     for round in 0..80u64 {
         let puts = if round % 10 < 5 { 6 } else { 2 };
         alike &= is_answered_alike(rt, alloc, &mut store, &mut map, &mut state, puts)?;
+        alike &= store.verify(rt)?.pairs == map.len() as u128;
     }
     Ok(alike)
 }

@@ -1,23 +1,10 @@
--- Ranges of keys: from a low key on, and below an end where there is one.
-use Rattle.std.specs.Prelude.{◌≡◌, ℕ, Bool, true, false, not, ◌&&◌, ⊤, List, Option, Some, None}
+-- Keys that lie in a range: from a low key on, and below an end where there is one.
+use Rattle.std.specs.Prelude.{◌≡◌, ℕ, true, false, ⊤, List, Option, Some, None}
 use Rattle.std.specs.declared.cmp.Ordering.TheVariants.{Less}
-use Rattle.std.specs.Ordering.{is_lt}
 use Rattle.std.specs.List.{AllByRecursion}
 use Rattle.std.specs.Map.{keys_of}
 use Rattle.keys.specs.Order.{order, IsRising}
-
--- whether a key is below another
-abbrev pub is_below : List ℕ → List ℕ → Bool
-is_below k end = is_lt (order k end)
-
--- whether a key is below the end; each is where there is none
-abbrev pub is_before : Option (List ℕ) → List ℕ → Bool
-is_before None k = true
-is_before (Some end) k = is_below k end
-
--- whether a key lies in a range
-abbrev pub is_within : List ℕ → Option (List ℕ) → List ℕ → Bool
-is_within low end k = not (is_below k low) && is_before end k
+pub use Rattle.keys.specs.Range.{is_below, is_before, is_within}
 
 -- all keys are below k
 abbrev pub AreBelow : List ℕ → List (List ℕ) → Type 0

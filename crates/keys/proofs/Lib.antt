@@ -1,5 +1,7 @@
+pub mod CellLaws
 pub mod MapLaws
 pub mod PlaceLaws
+pub mod RangeLaws
 mod Rows
 pub mod RunLaws
 mod SettingsRows

@@ -1,7 +1,10 @@
+pub mod Cells
 pub mod CommandKey
+pub mod Finding
 pub mod Limits
 pub mod Lists
 pub mod Order
 pub mod OrderedMap
 pub mod Places
+pub mod Range
 pub mod Step

@@ -1,6 +1,7 @@
 ghost use Rattle.std.specs.Prelude.{◌≡◌};
 ghost use Rattle.keys.specs.declared.fault.Fault.TheVariants.{NoMemory};
 
+use crate::finding::Finding;
 use crate::settings::Field;
 use std::alloc::{AllocError, AllocFailed};
 use thiserror::Error;
@@ -24,6 +25,9 @@ pub enum Fault {
     /// Memory was refused.
     #[error("6 NoMemory")]
     NoMemory,
+    /// The tree breaks this rule, at this page.
+    #[error("16 BadStructure {0}")]
+    BadStructure(Finding),
     /// The tree would have more than 64 levels.
     #[error("17 Spent")]
     Spent,

@@ -1,10 +1,13 @@
 //! What the definitions of `specs/` mean, in the words of an ordered map. Each law is the contract of a function
 //! with an empty body.
-ghost use Rattle.std.specs.Prelude.{◌≡◌, ◌≢◌, ℕ, List, ◌++◌, None, Some};
+ghost use Rattle.std.specs.Prelude.{◌≡◌, ◌≢◌, ◌⊎◌, ℕ, ◌≤◌, true, false, List, [], ◌++◌, length, Option, None, Some};
+ghost use Rattle.std.specs.List.{AllByRecursion};
+ghost use Rattle.std.specs.Map.{keys_of};
 ghost use Rattle.std.specs.declared.cmp.Ordering.TheVariants.{Equal};
 ghost use Rattle.std.specs.Cmp.{IsTotalOrder};
 ghost use Rattle.keys.specs.Order.{order, IsRising};
 ghost use Rattle.keys.specs.OrderedMap.{value_at, with_pair, without};
+ghost use Rattle.keys.specs.Range.{is_below, is_within, rows};
 ghost use Rattle.keys.specs.Step.{map_after, replies_to, map_after_all};
 ghost use Rattle.keys.specs.declared.command.Command.{Command};
 
@@ -48,4 +51,18 @@ pub fn joined_commands_follow_one_another<A: Allocator>()
         replies_to m (cs ++ ds) ≡ replies_to m cs ++ replies_to (map_after_all m cs) ds }
     ensures map { (m : List (List ℕ × List ℕ)) (cs ds : List (Command A)) →
         map_after_all m (cs ++ ds) ≡ map_after_all (map_after_all m cs) ds }
+{}
+
+/// The rows of a range rise. Each is a pair of the map whose key lies in the range; and such a pair is a row, unless there
+/// are as many rows as may be, each of a lesser key. There are none where the range is empty, or none may be.
+pub fn rows_are_the_first_pairs_of_a_range<V>()
+    ensures rising { (m : List (List ℕ × V)) (lo : List ℕ) (hi : Option (List ℕ)) (limit : ℕ) → IsRising m → IsRising (rows lo hi limit m) }
+    ensures held { (m : List (List ℕ × V)) (lo : List ℕ) (hi : Option (List ℕ)) (limit : ℕ) (k : List ℕ) (v : V) → IsRising m →
+        value_at k (rows lo hi limit m) ≡ Some v → (value_at k m ≡ Some v) × (is_within lo hi k ≡ true) }
+    ensures none_left_out { (m : List (List ℕ × V)) (lo : List ℕ) (hi : Option (List ℕ)) (limit : ℕ) (k : List ℕ) (v : V) → IsRising m →
+        value_at k m ≡ Some v → is_within lo hi k ≡ true →
+        (value_at k (rows lo hi limit m) ≡ Some v) ⊎ ((length (rows lo hi limit m) ≡ limit) × AllByRecursion (λ j. is_below j k ≡ true) (keys_of (rows lo hi limit m))) }
+    ensures at_most { (m : List (List ℕ × V)) (lo : List ℕ) (hi : Option (List ℕ)) (limit : ℕ) → length (rows lo hi limit m) ≤ limit }
+    ensures empty_range { (m : List (List ℕ × V)) (lo hi : List ℕ) (limit : ℕ) → is_below lo hi ≡ false → rows lo (Some hi) limit m ≡ [] }
+    ensures no_limit_left { (m : List (List ℕ × V)) (lo : List ℕ) (hi : Option (List ℕ)) → rows lo hi 0 m ≡ [] }
 {}

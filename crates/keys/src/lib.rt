@@ -5,6 +5,7 @@
 pub mod cell;
 pub mod command;
 pub mod fault;
+pub mod finding;
 pub mod key;
 pub mod laws;
 pub mod pid;
@@ -15,6 +16,7 @@ pub mod value;
 pub use crate::cell::Cell;
 pub use crate::command::{Command, Reply};
 pub use crate::fault::Fault;
+pub use crate::finding::Finding;
 pub use crate::key::Key;
 pub use crate::pid::Pid;
 pub use crate::piece::Piece;

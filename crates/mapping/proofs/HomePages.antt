@@ -1,12 +1,16 @@
 -- Lemmas on the pages of a tree in memory, for the proofs of this crate and of those above it.
-use Rattle.std.specs.Prelude.{◌≡◌, ℕ, Bool, true, false, cond, List, [], ◌∷◌, Option, Some, None, IsSome}
-use Rattle.std.proofs.Common.{refl}
+use Rattle.std.specs.Prelude.{◌≡◌, ℕ, Bool, true, false, cond, List, [], ◌∷◌, ◌++◌, Option, Some, None, IsSome}
+use Rattle.std.proofs.Common.{refl, ap, ◌∙◌}
 use Rattle.std.specs.Ordering.{nat_cmp, is_eq}
-use Rattle.std.specs.List.{AllByRecursion}
-use Rattle.std.specs.Map.{lookup}
+use Rattle.std.specs.List.{AllByRecursion, filter}
+use Rattle.std.specs.Map.{keys_of, lookup}
 use Rattle.mapping.specs.Tree.{listed_at}
 use Rattle.mapping.specs.Table.{is_pid, at_home}
 use Rattle.mapping.specs.TreeInMemory.{home_pages}
+use Rattle.mapping.specs.Slots.{placed, entry_if, slot_pids, table_of, is_home_place, is_home, home_pids}
+use Rattle.mapping.specs.declared.slots.Place.{Place}
+use Rattle.mapping.specs.declared.slots.Place.TheVariants.{Vacant, Away, Home}
+use Rattle.mapping.specs.declared.slots.Slot.{Slot}
 
 module _ {P : Type 0} where
   found_by : (b : Bool) (p : P) (later : Option (Option P)) (here : Option P) → at_home later ≡ here → at_home (cond b (Some (Some p)) later) ≡ cond b (Some p) here
@@ -21,3 +25,19 @@ module _ {P : Type 0} where
   pub page-home : (es : List (ℕ × Option P)) (n : ℕ) → AllByRecursion (λ e. IsSome e.1) es → at_home (lookup (is_pid n) es) ≡ listed_at (home_pages es) n
   page-home [] n a = refl
   page-home (e ∷ es) n a = home_by n e.0 e.1 es a.0 (page-home es n a.1)
+
+-- the pids of the slots whose pages are at home are those of the pages
+module _ {P : Type 0} where
+  one-home : (pid : ℕ) (p : Place P) (later : List ℕ) (es : List (ℕ × Option P)) → later ≡ keys_of (home_pages es)
+      → cond (is_home_place p) (pid ∷ later) later ≡ keys_of (home_pages (entry_if pid (placed p) ++ es))
+  one-home pid Vacant later es h = h
+  one-home pid Away later es h = h
+  one-home pid (Home p) later es h = ap (λ (x : List ℕ). pid ∷ x) h
+
+  slot-home : (b : Bool) (s : Slot P) (ss : List (Slot P)) → slot_pids (cond b (s ∷ ss) ss) ≡ cond b (s.pid ∷ slot_pids ss) (slot_pids ss)
+  slot-home true s ss = refl
+  slot-home false s ss = refl
+
+  pub pids-home : (ss : List (Slot P)) → home_pids ss ≡ keys_of (home_pages (table_of ss).places)
+  pids-home [] = refl
+  pids-home (s ∷ ss) = slot-home (is_home s) s (filter is_home ss) ∙ one-home s.pid s.page (home_pids ss) (table_of ss).places (pids-home ss)

@@ -1,5 +1,6 @@
 -- What is wrong with a tree: the least finding, by the walk from its root.
 use Rattle.std.specs.Prelude.{ℕ, zero, suc, pred, Bool, not, List, [], ◌∷◌, ◌++◌, map, flat_map, Option, Some, None, if◌then◌else◌}
+pub use Rattle.keys.specs.Finding.{Finding}
 use Rattle.keys.specs.declared.settings.Settings.{Settings}
 use Rattle.index_page.specs.Page.{Page, PageOfKind, entries}
 use Rattle.index_page.specs.Page.PageOfKind.{Leaf, Index}
@@ -7,11 +8,6 @@ use Rattle.index_page.specs.Children.{Place, children}
 use Rattle.index_page.specs.Rules.{keeps_range, fits_sizes, fits_depth, is_headed, is_same_key, is_short_value, is_any_pid}
 use Rattle.mapping.specs.Tree.{Tree, page_at}
 use Rattle.mapping.specs.FreshPids.{is_among}
-
--- a rule that doesn't hold, and the page that breaks it
-pub record Finding : Type 0 where
-  pub rule : ℕ
-  pub pid : ℕ
 
 -- rules 4 to 7 of a page of either kind, each with its number: its low key is the place's; its keys rise, in range;
 -- its sizes; its depth

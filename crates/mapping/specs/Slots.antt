@@ -1,5 +1,5 @@
 -- What the slots of a table stand for.
-use Rattle.std.specs.Prelude.{◌≡◌, ℕ, ◌<◌, ◌≤◌, Bool, true, ◌||◌, List, [], ◌∷◌, map, take, drop, flat_map, length, slice_get, Option, Some, None, is_some}
+use Rattle.std.specs.Prelude.{◌≡◌, ℕ, ◌<◌, ◌≤◌, Bool, true, false, ◌||◌, List, [], ◌∷◌, map, take, drop, flat_map, length, slice_get, Option, Some, None, is_some}
 use Rattle.std.specs.List.{AllByRecursion, filter}
 use Rattle.mapping.specs.Tree.{Logged}
 use Rattle.mapping.specs.Tree.Logged.{No, Old, Upto}
@@ -46,6 +46,19 @@ is_known s = is_some (placed s.page) || is_old (log_state s.logged)
 -- the pids of such slots
 abbrev pub known_pids : {P : Type 0} → List (Slot P) → List ℕ
 known_pids ss = slot_pids (filter is_known ss)
+
+-- the slot's page is at home
+abbrev pub is_home_place : {P : Type 0} → Place P → Bool
+is_home_place Vacant = false
+is_home_place Away = false
+is_home_place (Home p) = true
+
+abbrev pub is_home : {P : Type 0} → Slot P → Bool
+is_home s = is_home_place s.page
+
+-- the pids of such slots
+abbrev pub home_pids : {P : Type 0} → List (Slot P) → List ℕ
+home_pids ss = slot_pids (filter is_home ss)
 
 -- the pid stands at this place
 abbrev pub StandsAt : List ℕ → ℕ → ℕ → Type 0

@@ -15,6 +15,6 @@ pub mod table;
 pub mod tree;
 
 pub use crate::logged::Logged;
-pub use crate::pids::Pids;
+pub use crate::pids::{HomePids, Pids};
 pub use crate::table::Table;
 pub use crate::tree::Tree;

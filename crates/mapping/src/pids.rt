@@ -1,6 +1,6 @@
 ghost use Rattle.std.specs.Prelude.{◌≡◌};
 ghost use Rattle.std.specs.Iterator.{YieldsFirst, item_count};
-ghost use Rattle.mapping.specs.Slots.{is_known};
+ghost use Rattle.mapping.specs.Slots.{is_known, is_home};
 
 use crate::logged::Logged;
 use crate::slots::{Place, Slot};
@@ -40,6 +40,49 @@ impl<'a, P> Iterator for Pids<'a, P> {
         self.slots = &[];
         None
     }
+}
+
+/// The pids of the pages that are at home, by rising number. It takes no memory. Contracts see it as the list of those
+/// that are left.
+#[derive(Drop)]
+pub struct HomePids<'a, P> {
+    pub(crate) slots: &'a [Slot<P>],
+}
+
+impl<'a, P> Model for HomePids<'a, P> {
+    ghost use Rattle.std.specs.Prelude.{List, ℕ};
+    ghost use Rattle.mapping.specs.Slots.{home_pids};
+
+    ghost Value = { List ℕ };
+
+    ghost view = { λ c. home_pids c.slots.now };
+}
+
+impl<'a, P> Iterator for HomePids<'a, P> {
+    type Item = u64;
+
+    ghost next_gives = { YieldsFirst (λ left. left) };
+
+    ghost remaining = { item_count (λ left. left) };
+
+    fn next(&mut self) -> Option<u64> {
+        let ahead = self.slots;
+        for (at, slot) in ahead.iter().enumerate() {
+            if is_home(slot) {
+                self.slots = &ahead[at + 1..];
+                return Some(slot.pid);
+            }
+        }
+        self.slots = &[];
+        None
+    }
+}
+
+// Whether the slot's page is at home.
+fn is_home<P>(slot: &Slot<P>) -> bool
+    ensures { result ≡ is_home slot.now }
+{
+    matches!(&slot.page, Place::Home(_))
 }
 
 // Whether the slot's pid has a place, or the log has `Old` of it.

@@ -1,4 +1,5 @@
-ghost use Rattle.std.specs.Prelude.{◌≡◌, MatchResult, IsSome, is_some};
+ghost use Rattle.std.specs.Prelude.{◌≡◌, ◌↔◌, IsTrue, MatchResult, IsSome, is_some};
+ghost use Rattle.std.specs.List.{AllByRecursion};
 ghost use Rattle.mapping.specs.Proper.{AreRisingPids};
 ghost use Rattle.mapping.specs.Table.{place_of};
 ghost use Rattle.mapping.specs.Slots.{slot_pids, table_of, StandsAt, GoesTo};
@@ -54,6 +55,18 @@ pub(crate) fn is_used<P>(slots: &[Slot<P>], pid: u64) -> bool
         Ok(at) => !matches!(&slots[at].page, Place::Vacant),
         Err(_) => false,
     }
+}
+
+// Whether no page is away.
+pub(crate) fn are_all_home<P>(slots: &[Slot<P>]) -> bool
+    ensures { IsTrue result ↔ AllByRecursion (λ e. IsSome e.1) (table_of slots.now).places }
+{
+    for slot in slots {
+        if matches!(&slot.page, Place::Away) {
+            return false;
+        }
+    }
+    true
 }
 
 // Where the slot of a pid is that has a place.

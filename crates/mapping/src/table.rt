@@ -1,16 +1,18 @@
 ghost use Rattle.std.specs.Prelude.{◌≡◌, ◌↔◌, Some, None, IsTrue, IsSome, is_some, IfOk, OnOk, OnErr};
 ghost use Rattle.std.specs.Option.{option_copied};
+ghost use Rattle.std.specs.List.{AllByRecursion};
 ghost use Rattle.std.specs.Map.{keys_of};
 ghost use Rattle.mapping.specs.LogState.{log_state};
 ghost use Rattle.mapping.specs.Proper.{AreRisingPids};
 ghost use Rattle.mapping.specs.Table.{no_places, place_of, page_of, log_of, with_place, outdated, freed, with_room, with_rooms, pids_in_use, fresh_pids, pids_in_use_or_old};
 ghost use Rattle.mapping.specs.Flushed.{flushed};
+ghost use Rattle.mapping.specs.TreeInMemory.{home_pages};
 
 use crate::flush::logged_then;
 use crate::logged::Logged;
-use crate::pids::Pids;
+use crate::pids::{HomePids, Pids};
 use crate::room::{least_free, occupy, occupy_all};
-use crate::slots::{Place, Slot, is_used, slot_in_use, slot_of};
+use crate::slots::{Place, Slot, are_all_home, is_used, slot_in_use, slot_of};
 use index_page::Page;
 use std::alloc::{AllocError, Allocator};
 use std::marker::Model;
@@ -80,6 +82,13 @@ impl<P: Drop, A: Allocator + Copy> Table<P, A> {
         }
     }
 
+    /// Whether no page is away.
+    pub fn are_all_home(&self) -> bool
+        ensures { IsTrue result ↔ AllByRecursion (λ e. IsSome e.1) self.now.places }
+    {
+        are_all_home(&self.slots)
+    }
+
     /// What the log has of the pid.
     pub fn logged(&self, pid: u64) -> Logged
         ensures { log_state result ≡ log_of self.now pid }
@@ -97,6 +106,13 @@ impl<P: Drop, A: Allocator + Copy> Table<P, A> {
         ensures logged { AreRisingPids (keys_of self.now.logged) }
     {
         Pids { slots: &self.slots }
+    }
+
+    /// The pids of the pages that are at home, by rising number. It takes no memory.
+    pub fn home_pids(&self) -> HomePids<'_, P>
+        ensures { result ≡ keys_of (home_pages self.now.places) }
+    {
+        HomePids { slots: &self.slots }
     }
 
     /// Takes the page out of its place, which is away afterwards. This takes no memory, as `put` and `free` do not.

@@ -1,5 +1,6 @@
-ghost use Rattle.std.specs.Prelude.{◌≡◌, Some, None, IsSome, IfOk, OnOk, OnErr};
+ghost use Rattle.std.specs.Prelude.{◌≡◌, ◌↔◌, Some, None, IsTrue, IsSome, IfOk, OnOk, OnErr};
 ghost use Rattle.std.specs.Option.{option_copied};
+ghost use Rattle.std.specs.Map.{keys_of};
 ghost use Rattle.mapping.specs.Tree.{page_at};
 ghost use Rattle.mapping.specs.LogState.{log_state};
 ghost use Rattle.mapping.specs.Proper.{AreRisingPids};
@@ -7,6 +8,7 @@ ghost use Rattle.mapping.specs.Table.{place_of, page_of, log_of, with_place, out
 ghost use Rattle.mapping.specs.TreeInMemory.{AreAllHome, tree_of};
 
 use crate::logged::Logged;
+use crate::pids::HomePids;
 use crate::table::Table;
 use index_page::Page;
 use keys::Pid;
@@ -64,11 +66,25 @@ impl<A: Allocator + Copy> Tree<A> {
         self.table.get(pid.0)
     }
 
+    /// Whether no page is away.
+    pub fn are_all_home(&self) -> bool
+        ensures { IsTrue result ↔ AreAllHome self.now }
+    {
+        self.table.are_all_home()
+    }
+
     /// What the log has of the page id.
     pub fn logged(&self, pid: Pid) -> Logged
         ensures { log_state result ≡ log_of self.now.table pid }
     {
         self.table.logged(pid.0)
+    }
+
+    /// The page ids of the pages that are at home, by rising number. It takes no memory.
+    pub fn pids(&self) -> HomePids<'_, Page<A>>
+        ensures { result ≡ keys_of (tree_of self.now).pages }
+    {
+        self.table.home_pids()
     }
 
     /// Takes the page out of its place, which is away afterwards. This takes no memory, as `put` and `free` do not.

@@ -1,5 +1,6 @@
 pub mod AfterRun
 pub mod Apart
+pub mod Changes
 pub mod LeafWork
 pub mod NetRun
 pub mod Outcome

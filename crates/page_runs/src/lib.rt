@@ -2,6 +2,7 @@
 //! net run; an index page is changed once, by the run of its terms.
 #![tactic(auto)]
 
+mod changes;
 pub mod class;
 pub mod laws;
 pub mod leaf_work;

@@ -2,4 +2,5 @@ pub mod Above
 pub mod Costs
 pub mod Digits
 pub mod Floor
+pub mod Nearest
 pub mod Places

@@ -2,10 +2,11 @@
 #![tactic(auto)]
 
 pub mod laws;
+pub mod nearest;
 pub mod probes;
 pub mod search;
-pub mod upward;
+mod side;
 
+pub use crate::nearest::{above, floor};
 pub use crate::probes::Probes;
-pub use crate::search::{find, floor, lower};
-pub use crate::upward::above;
+pub use crate::search::{find, lower};

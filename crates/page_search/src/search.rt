@@ -1,13 +1,12 @@
 ghost use Rattle.std.specs.Prelude.{◌≡◌, ◌+◌, ◌≤◌, min, length, slice_get, is_some, Some, MatchResult};
 ghost use Rattle.std.specs.Map.{keys_of};
-ghost use Rattle.std.specs.Option.{option_copied, option_map};
+ghost use Rattle.std.specs.Option.{option_copied};
 ghost use Rattle.std.specs.Result.{is_ok};
 ghost use Rattle.keys.specs.Order.{AreRisingKeys};
 ghost use Rattle.keys.specs.OrderedMap.{value_at};
-ghost use Rattle.delta_chain.specs.Layers.{holds, entries_of};
+ghost use Rattle.delta_chain.specs.Layers.{holds};
 ghost use Rattle.page_search.specs.Costs.{fewest_among, find_cost, find_least};
 ghost use Rattle.page_search.specs.Digits.{binary_digits};
-ghost use Rattle.page_search.specs.Floor.{floor, greater_of, last_below, next_below};
 ghost use Rattle.page_search.specs.Places.{count_below, GoesTo};
 
 use crate::probes::Probes;
@@ -49,78 +48,6 @@ pub fn find<'a, V, A: Allocator + Copy>(
     }
 }
 
-/// The page's last entry whose key isn't above this one, if there is one: its key and its cell. From key to lower key
-/// that the page names, each found by halves in every run and in the base, it looks for one that the page holds; so it
-/// takes more than one search just where it comes upon keys that are absent. It takes no memory.
-pub fn floor<'a, V, A: Allocator + Copy>(
-    chain: &'a Chain<V, A>,
-    key: &'a [u8],
-    probes: &mut Probes,
-) -> Option<(&'a [u8], &'a V)>
-    ensures value { option_map (λ e. (e.0.now, e.1.now)) result ≡ floor key.now (entries_of chain.now) }
-    ensures kept { probes.old ≤ probes.new }
-{
-    let _in_order = chain.depth();
-    let mut bound = key;
-    loop {
-        match find(chain, bound, probes) {
-            Some(cell) => return Some((bound, cell)),
-            None => match next_below(chain, bound, probes) {
-                Some(lower) => bound = lower,
-                None => return None,
-            },
-        }
-    }
-}
-
-// The greatest key below this one that the runs or the base name, with a cell or as absent.
-fn next_below<'a, V, A: Allocator + Copy>(
-    chain: &'a Chain<V, A>,
-    key: &[u8],
-    probes: &mut Probes,
-) -> Option<&'a [u8]>
-    ensures value { option_copied result ≡ next_below key.now chain.now.runs chain.now.base }
-    ensures kept { probes.old ≤ probes.new }
-{
-    match chain.newest() {
-        None => last_below(chain.base(), key, probes),
-        Some((run, below)) => {
-            let under = next_below(below, key, probes);
-            match last_below(run, key, probes) {
-                None => under,
-                Some(here) => Some(greater(here, under, probes)),
-            }
-        }
-    }
-}
-
-// The greatest key of the list that is below this one.
-fn last_below<'a, L: Keyed>(list: &'a L, key: &[u8], probes: &mut Probes) -> Option<&'a [u8]>
-    ensures value { option_copied result ≡ last_below key.now (L.keys list.now) }
-    ensures kept { probes.old ≤ probes.new }
-{
-    let count = rank(list, key, probes);
-    if count == 0 {
-        None
-    } else {
-        Some(list.key(count - 1))
-    }
-}
-
-// The greater of the two keys, where there is a second.
-fn greater<'a>(key: &'a [u8], other: Option<&'a [u8]>, probes: &mut Probes) -> &'a [u8]
-    ensures value { Some result.now ≡ greater_of (Some key.now) (option_copied other.entry) }
-    ensures kept { probes.old ≤ probes.new }
-{
-    match other {
-        None => key,
-        Some(other) => match probes.compare(key, other) {
-            Ordering::Less => other,
-            _ => key,
-        },
-    }
-}
-
 // The cell that the base has at the key, if the key is there.
 fn find_in_base<'a, V, A: Allocator + Copy>(
     base: &'a Base<V, A>,
@@ -135,19 +62,6 @@ fn find_in_base<'a, V, A: Allocator + Copy>(
     match place(base, key, probes) {
         Ok(at) => Some(base.cell(at)),
         Err(_) => None,
-    }
-}
-
-// How many keys of the list are below the key.
-fn rank<L: Keyed>(list: &L, key: &[u8], probes: &mut Probes) -> usize
-    ensures place { result ≡ count_below key.now (L.keys list.now) }
-    ensures rising { AreRisingKeys (L.keys list.now) }
-    ensures cost { probes.new ≤ probes.old + binary_digits (length (L.keys list.now)) }
-    ensures kept { probes.old ≤ probes.new }
-{
-    match place(list, key, probes) {
-        Ok(there) => there,
-        Err(there) => there,
     }
 }
 

@@ -1,6 +1,6 @@
 -- The shares of a level's pages, each in the order of the batch, are the routes to them.
-use Rattle.std.specs.Prelude.{◌≡◌, ℕ, zero, suc, ◌+◌, ◌<◌, Bool, true, false, ◌&&◌, ◌||◌, cond, List, [], ◌∷◌, ◌++◌, map, length, take, slice_get, nat_eq, Option, Some, None}
-use Rattle.std.proofs.Common.{refl, sym, ap, subst, ◌∙◌, arith, eqb-true, get_or}
+use Rattle.std.specs.Prelude.{◌≡◌, ℕ, ◌+◌, ◌<◌, Bool, true, false, ◌&&◌, ◌||◌, cond, List, [], ◌∷◌, ◌++◌, map, length, take, slice_get, nat_eq, Option, Some, None}
+use Rattle.std.proofs.Common.{refl, sym, ap, subst, ◌∙◌, eqb-true, get_or}
 use Rattle.std.specs.List.{AllByRecursion, filter}
 use Rattle.std.proofs.lemmas.List.{map-append, take_more}
 use Rattle.std.proofs.lemmas.List.Kept.{IsStrictlySortedBy-filter}
@@ -13,10 +13,9 @@ use Rattle.mapping.specs.FreshPids.{is_among}
 use Rattle.routing.specs.BatchKeys.{key_or_empty}
 use Rattle.routing.specs.Routes.{goes_to, places_within, Route, route_to, has_some, has_places}
 use Rattle.routing.specs.SortedPlaces.{order_of_places, AreInKeyOrder, AreSortedPlaces, AreSortedWithin}
-use Rattle.routing.specs.Shares.{share_of_lent, lent_shares, HasEachPlaceOnce, is_in_range, share_of, shares, IsInBatchOrder, AreInBatchOrder}
+use Rattle.routing.specs.Shares.{Lent, share_of_lent, lent_shares, HasEachPlaceOnce, is_in_range, share_of, shares, IsInBatchOrder, AreInBatchOrder}
 use Rattle.routing.proofs.RouteLaws.{is_passed, among-places, goes_by_key, within_all}
 use Rattle.routing.proofs.SortLaws.{among_itself}
-use Rattle.routing.proofs.ShareLaws.{Lent}
 use Rattle.routing.proofs.SliceLaws.{sorted_within_all, distinct, in_batch_order}
 
 -- ---- what is among a filtered list
@@ -58,12 +57,6 @@ order_step shares i d os new o l a e h =
 
 pub same_order : (r o p : Route) → o ≡ p → IsInBatchOrder r p → IsInBatchOrder r o
 same_order r o p e h = subst (λ (x : Route). IsInBatchOrder r x) (sym e) h
-
--- what holds of all shares holds of the one at a place
-pub once_at : (shares : List Lent) (i : ℕ) (d : Lent) → i < length shares → AllByRecursion HasEachPlaceOnce (lent_shares shares) → HasEachPlaceOnce (share_of_lent (get_or shares i d))
-once_at [] i d l a = absurd (omega arith)
-once_at (s ∷ ss) zero d l a = a.0
-once_at (s ∷ ss) (suc i) d l a = let m : i < length ss = omega arith in once_at ss i d m a.1
 
 module _ {A : Type 0} (cs : List (Command A)) where
   own_by : (o : Option (Command A)) (low : List ℕ) (end : Option (List ℕ)) (n : ℕ) → slice_get cs n ≡ o → (is_passed (goes_to [] None) o && is_in_range cs low end n) ≡ is_passed (goes_to low end) o

@@ -5,6 +5,7 @@ use Rattle.std.specs.List.{AllByRecursion, filter}
 use Rattle.std.specs.Map.{keys_of, values_of}
 use Rattle.std.proofs.Math.Seq.{drop-cons}
 use Rattle.std.proofs.lemmas.Bool.{cases_lt}
+use Rattle.std.proofs.lemmas.List.Elements.{All-from_recursion}
 use Rattle.std.proofs.lemmas.List.Kept.{IsStrictlySortedBy-filter}
 use Rattle.keys.specs.declared.command.Command.{Command}
 use Rattle.index_page.specs.Page.{Page, PageOfKind}
@@ -28,8 +29,9 @@ use Rattle.routing.specs.BatchKeys.{key_at}
 use Rattle.routing.specs.Routes.{Route, has_some, ranges, routes}
 use Rattle.routing.proofs.BatchOrder.{routes_of_shares}
 use Rattle.routing.specs.SortedPlaces.{order_of_places, AreInKeyOrder, AreSortedPlaces}
-use Rattle.routing.specs.Shares.{share_of_lent, lent_shares, is_in_range, shares, handed_down, CanHandDown, index_under, IsReady, share_below, AreInBatchOrder}
-use Rattle.routing.proofs.ShareLaws.{Lent, shares-append, no_shares, filter_twice, all_passed, same_first}
+use Rattle.routing.specs.Keyed.{places_of, AreKeyed}
+use Rattle.routing.specs.Shares.{Lent, share_of_lent, lent_shares, AreKeyedShares, is_in_range, shares, handed_down, CanHandDown, CanHandDownKeyed, index_under, IsReady, AreReady, share_below, AreInBatchOrder}
+use Rattle.routing.proofs.ShareLaws.{share_at, shares-append, no_shares, filter_twice, all_passed, same_first}
 
 -- ---- a range within another
 
@@ -106,42 +108,45 @@ module _ {A : Type 0} (cs : List (Command A)) (pages : List (ℕ × PageOfKind))
   below-share pid (x ∷ xs) rs = refl
 
   -- a share that is ready, of a page that is found
-  pub ready_now : (r : Route) (page : PageOfKind) → IsReady pages cs r → Some page ≡ page_at pages r.pid → (page ≡ index_under pages r.pid) × CanHandDown cs page r.places
+  ready_now : (r : Route) (page : PageOfKind) → IsReady pages cs r → Some page ≡ page_at pages r.pid → (page ≡ index_under pages r.pid) × CanHandDown cs page r.places
   ready_now r page h e =
       let both : Some page ≡ Some (index_under pages r.pid) = e ∙ h.held in
       let same : page ≡ index_under pages r.pid = cc in
       (same, subst (λ (p : PageOfKind). CanHandDown cs p r.places) (sym same) h.share)
 
-  pub not_missing : (r : Route) → IsReady pages cs r → None ≡ page_at pages r.pid → ⊥
-  not_missing r h e =
-      let both : None ≡ Some (index_under pages r.pid) = e ∙ h.held in
-      cc
-
   -- one more share is handed down, and what the others become is still to come
-  pub level_step : (old new rest : List Lent) (share : Lent) (page : PageOfKind) (whole : List Route) → page ≡ index_under pages share.0 → lent_shares new ≡ lent_shares old ++ handed_down cs page share.1.now
+  level_step : (old new rest : List Lent) (share : Lent) (page : PageOfKind) (whole : List Route) → page ≡ index_under pages share.0 → lent_shares new ≡ lent_shares old ++ handed_down cs page (places_of share.1.now)
       → lent_shares old ++ flat_map (share_below pages cs) (lent_shares (share ∷ rest)) ≡ whole → lent_shares new ++ flat_map (share_below pages cs) (lent_shares rest) ≡ whole
   level_step old new rest share page whole e i h =
       let later : List Route = flat_map (share_below pages cs) (lent_shares rest) in
       ap (λ (x : List Route). x ++ later) i
-      ∙ append_assoc (lent_shares old) (handed_down cs page share.1.now) later
-      ∙ ap (λ (p : PageOfKind). lent_shares old ++ (handed_down cs p share.1.now ++ later)) e
+      ∙ append_assoc (lent_shares old) (handed_down cs page (places_of share.1.now)) later
+      ∙ ap (λ (p : PageOfKind). lent_shares old ++ (handed_down cs p (places_of share.1.now) ++ later)) e
       ∙ h
 
   share_at_drop : (all : List Lent) (i : ℕ) (d : Lent) → i < length all → drop i all ≡ get_or all i d ∷ drop (i + 1) all
   share_at_drop all i d l = let e : suc i ≡ i + 1 = omega arith in drop-cons all i d l ∙ ap (λ (j : ℕ). get_or all i d ∷ drop j all) e
 
-  -- the share at a place, and those behind it
-  pub ready_at : (all : List Lent) (i : ℕ) (d : Lent) → i < length all → AllByRecursion (IsReady pages cs) (lent_shares (drop i all)) → AllByRecursion (IsReady pages cs) (lent_shares (get_or all i d ∷ drop (i + 1) all))
-  ready_at all i d l a = subst (λ (ss : List Lent). AllByRecursion (IsReady pages cs) (lent_shares ss)) (share_at_drop all i d l) a
+  -- of shares that are ready, the one at a place can be handed down
+  pub ready_share : (all : List Lent) (i : ℕ) (d : Lent) (page : PageOfKind) → i < length all → AreReady pages cs all → Some page ≡ page_at pages (get_or all i d).0 → CanHandDownKeyed cs page (get_or all i d).1.now
+  ready_share all i d page l h e = record {
+    places = (ready_now (share_of_lent (get_or all i d)) page (share_at (IsReady pages cs) all i d l h.each) e).1;
+    keys = All-from_recursion (λ (share : Lent). AreKeyed cs share.1.now) all h.keys i d l;
+  }
 
-  pub share_step : (all old new : List Lent) (i : ℕ) (d : Lent) (page : PageOfKind) (whole : List Route) → i < length all → AllByRecursion (IsReady pages cs) (lent_shares (drop i all))
-      → Some page ≡ page_at pages (get_or all i d).0 → lent_shares new ≡ lent_shares old ++ handed_down cs page (get_or all i d).1.now
+  -- and its page isn't missing
+  pub not_missing : (all : List Lent) (i : ℕ) (d : Lent) → i < length all → AreReady pages cs all → None ≡ page_at pages (get_or all i d).0 → ⊥
+  not_missing all i d l h e =
+      let both : None ≡ Some (index_under pages (get_or all i d).0) = e ∙ (share_at (IsReady pages cs) all i d l h.each).held in
+      cc
+
+  pub share_step : (all old new : List Lent) (i : ℕ) (d : Lent) (page : PageOfKind) (whole : List Route) → i < length all → AreReady pages cs all
+      → Some page ≡ page_at pages (get_or all i d).0 → (CanHandDownKeyed cs page (get_or all i d).1.now → lent_shares new ≡ lent_shares old ++ handed_down cs page (places_of (get_or all i d).1.now))
       → lent_shares old ++ flat_map (share_below pages cs) (lent_shares (drop i all)) ≡ whole
-      → (lent_shares new ++ flat_map (share_below pages cs) (lent_shares (drop (i + 1) all)) ≡ whole) × AllByRecursion (IsReady pages cs) (lent_shares (drop (i + 1) all))
+      → lent_shares new ++ flat_map (share_below pages cs) (lent_shares (drop (i + 1) all)) ≡ whole
   share_step all old new i d page whole l a e n h =
-      let ready = ready_at all i d l a in
       let now = subst (λ (ss : List Lent). lent_shares old ++ flat_map (share_below pages cs) (lent_shares ss) ≡ whole) (share_at_drop all i d l) h in
-      (level_step old new (drop (i + 1) all) (get_or all i d) page whole (ready_now (share_of_lent (get_or all i d)) page ready.0 e).0 n now, ready.1)
+      level_step old new (drop (i + 1) all) (get_or all i d) page whole (ready_now (share_of_lent (get_or all i d)) page (share_at (IsReady pages cs) all i d l a.each) e).0 (n (ready_share all i d page l a e)) now
 
   -- the entries of a page before an end
   entries_before : (end : Option (List ℕ)) (p : Placed ℕ) → IsTile end p → AreBefore end (keys_of (levels.entries p))
@@ -314,10 +319,13 @@ module _ (t : Tree) (held : HoldsLevels t.pages (levels_of t)) (levels : AreLeve
         ∙ ap (λ (j : ℕ). SharesAt j) n
 
     -- and they can be
-    pub shares-ready : (i : ℕ) (rs : List Route) → i < pred t.height → AreInKeyOrder cs ps → rs ≡ SharesAt i → AllByRecursion (IsReady t.pages cs) rs
+    shares-ready : (i : ℕ) (rs : List Route) → i < pred t.height → AreInKeyOrder cs ps → rs ≡ SharesAt i → AllByRecursion (IsReady t.pages cs) rs
     shares-ready i rs l o e =
         let here = level_at i l in
         subst (λ (x : List Route). AllByRecursion (IsReady t.pages cs) x) (sym (e ∙ by_names (names_at t.pages t.root i) (names here.level) here.named)) (ready_level cs t.pages here.level None ps here.known o)
+
+    pub level_ready : (i : ℕ) (all : List Lent) → i < pred t.height → AreInKeyOrder cs ps → lent_shares all ≡ SharesAt i → AreKeyedShares cs all → AreReady t.pages cs all
+    level_ready i all l o e k = record { each = shares-ready i (lent_shares all) l o e; keys = k }
 
     -- the shares of the leaves, each in the order of the batch, are the routes
     pub shares-last : (i : ℕ) (rs os : List Route) → i ≡ pred t.height → AreSortedPlaces cs ps → rs ≡ SharesAt i → AreInBatchOrder rs os → os ≡ routes (levels_of t).level cs

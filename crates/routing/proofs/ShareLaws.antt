@@ -1,26 +1,26 @@
 -- Lemmas on the shares that go down the tree, for the proofs of this crate.
-use Rattle.std.specs.Prelude.{◌≡◌, ℕ, zero, suc, ◌<◌, Bool, true, false, ◌&&◌, cond, List, [], ◌∷◌, ◌++◌, length, take, drop, Option, Some, None}
+use Rattle.std.specs.Prelude.{◌≡◌, ℕ, zero, suc, ◌+◌, ◌-◌, ◌<◌, ◌≤◌, Bool, true, false, ◌&&◌, cond, List, [], ◌∷◌, ◌++◌, map, length, take, drop, Option, Some, None}
 use Rattle.std.proofs.Common.{refl, sym, ap, ◌∙◌, subst, arith, append-nil, append_assoc, get_or, Less}
-use Rattle.std.specs.Borrow.{Bor}
-use Rattle.std.specs.List.{AllByRecursion, filter}
-use Rattle.std.specs.List.Sorted.{IsStrictlySortedBy}
-use Rattle.std.proofs.lemmas.List.{take-append-drop, map-append}
-use Rattle.std.proofs.lemmas.List.Elements.{filter-append}
+use Rattle.std.specs.List.{AllByRecursion, filter, slice_range}
+use Rattle.std.specs.List.Sorted.{IsStrictlySortedBy, IsPartitionedBy}
+use Rattle.std.proofs.lemmas.List.{take-append-drop, map-append, take-map, drop-map, drop-drop, drop_all, get_or-map, length-map}
+use Rattle.std.proofs.lemmas.List.Elements.{filter-append, All-from_recursion}
 use Rattle.keys.specs.Order.{order, IsRising}
 use Rattle.keys.proofs.MapLaws.{total}
 use Rattle.keys.specs.declared.command.Command.{Command}
 use Rattle.index_page.specs.Page.{PageOfKind, first_key}
-use Rattle.index_page.specs.Range.{is_below, is_before}
-use Rattle.index_page.specs.Children.{Place, children, child_entries, child_with_end, HasChildFor}
-use Rattle.index_page.proofs.ListLaws.{all_weaker, all_apart}
+use Rattle.index_page.specs.Range.{is_below, is_before, is_within}
+use Rattle.index_page.specs.Children.{Place, children, is_place_for, child_entries, child_with_end, HasChildFor}
+use Rattle.index_page.proofs.ListLaws.{all-append, all_weaker, all_apart}
 use Rattle.index_page.proofs.RangeLaws.{below_is_less, less_is_below}
 use Rattle.index_page.proofs.ChildLaws.{next_key, children-cons, within, not_within_below, not_within_behind}
 use Rattle.routing.specs.BatchKeys.{key_at}
 use Rattle.routing.specs.Routes.{Route, has_some}
 use Rattle.routing.specs.SortedPlaces.{order_of_places, AreInKeyOrder}
-use Rattle.routing.specs.Shares.{share_of_lent, lent_shares, is_in_range, share_of, shares, root_shares, handed_down, CanHandDown}
+use Rattle.routing.specs.Keyed.{Keyed, places_of, AreKeyed, has_key_below}
+use Rattle.routing.specs.Shares.{Lent, share_of_lent, lent_shares, AreKeyedShares, is_in_range, share_of, shares, root_shares, handed_down, CanHandDown, CanHandDownKeyed}
 use Rattle.routing.proofs.RouteLaws.{within_all}
-use Rattle.routing.proofs.SliceLaws.{earlier_below, sorted_drop}
+use Rattle.routing.proofs.SliceLaws.{all_take, all_drop, earlier_below, sorted_drop, parted_by_key}
 
 -- ---- filters
 
@@ -53,8 +53,8 @@ module _ {X : Type 0} (f g h : X → Bool) (e : (x : X) → f x ≡ (g x && h x)
 
 -- ---- shares
 
-share : ℕ → List ℕ → Route
-share pid ps = record { pid = pid; places = ps }
+abbrev route_of : ℕ → List ℕ → Route
+route_of pid ps = record { pid = pid; places = ps }
 
 pub same_first : (pid : ℕ) (xs ys : List ℕ) (rs ss : List Route) → xs ≡ ys → rs ≡ ss
     → (let r : Route = record { pid = pid; places = xs } in let s : Route = record { pid = pid; places = ys } in cond (has_some xs) (r ∷ rs) rs ≡ cond (has_some ys) (s ∷ ss) ss)
@@ -72,8 +72,11 @@ same_route p q xs ys e f = rw (e, f) refl
 
 -- ---- shares as the code has them
 
-abbrev pub Lent : Type 0
-Lent = ℕ × Bor (List ℕ)
+-- what holds of all shares holds of the one at a place
+pub share_at : (P : Route → Type 0) (shares : List Lent) (i : ℕ) (d : Lent) → i < length shares → AllByRecursion P (lent_shares shares) → P (share_of_lent (get_or shares i d))
+share_at P [] i d l a = absurd (omega arith)
+share_at P (s ∷ ss) zero d l a = a.0
+share_at P (s ∷ ss) (suc i) d l a = let m : i < length ss = omega arith in share_at P ss i d m a.1
 
 -- one more share, of which the rest is what there was
 pub push_share : (old new : List Lent) (share : Lent) (r : Route) (more less : List Route) → new ≡ old ++ share ∷ [] → share_of_lent share ≡ r → more ≡ r ∷ less → lent_shares new ++ less ≡ lent_shares old ++ more
@@ -238,15 +241,6 @@ module _ {A : Type 0} (cs : List (Command A)) where
       from_some [] r b d = absurd (let l = b.0 in omega arith)
       from_some (e ∷ es) r b d = first_from e es p qs (take n (p ∷ qs)) (drop n (p ∷ qs)) (sym (take-append-drop n (p ∷ qs))) r b.1 h.in_order (some_before (e ∷ es) p qs n d).1 d
 
-  all_drop : (P : ℕ → Type 0) (n : ℕ) (xs : List ℕ) → AllByRecursion P xs → AllByRecursion P (drop n xs)
-  all_drop P zero xs a = a
-  all_drop P (suc n) [] a = tt
-  all_drop P (suc n) (x ∷ xs) a = all_drop P n xs a.1
-
-  pub nothing_left : (page : PageOfKind) (ps : List ℕ) → length ps ≡ 0 → handed_down cs page ps ≡ []
-  nothing_left page [] l = no_shares (children (child_entries page) None)
-  nothing_left page (p ∷ ps) l = absurd (omega arith)
-
   pub still_handed : (page : PageOfKind) (ps : List ℕ) (n : ℕ) → CanHandDown cs page ps → CanHandDown cs page (drop n ps)
   still_handed page ps n h = record {
     in_order = sorted_drop (order_of_places cs) n ps h.in_order;
@@ -254,27 +248,135 @@ module _ {A : Type 0} (cs : List (Command A)) where
     each = all_drop (λ q. HasChildFor page (key_at cs q)) n ps h.each;
   }
 
-  -- a list is cut at no end behind all of it
-  pub none_cut : (ps : List ℕ) → IsCutAt None (take (length ps) ps) (drop (length ps) ps)
-  none_cut ps = record { before = all_true (take (length ps) ps); behind = none_behind ps }
-    where
-      all_true : (qs : List ℕ) → AllByRecursion (λ q. is_before None (key_at cs q) ≡ true) qs
-      all_true [] = tt
-      all_true (q ∷ qs) = (refl, all_true qs)
+  -- ---- the first child, by entries
 
-      none_behind : (qs : List ℕ) → AllByRecursion (λ q. is_before None (key_at cs q) ≡ false) (drop (length qs) qs)
-      none_behind [] = tt
-      none_behind (q ∷ qs) = none_behind qs
+  -- what holds of the entries' keys holds of their places' keys
+  all_places_of : (P : List ℕ → Type 0) (es : List Keyed) → AreKeyed cs es → AllByRecursion (λ entry. P entry.0.now) es → AllByRecursion (λ place. P (key_at cs place)) (places_of es)
+  all_places_of P [] k a = tt
+  all_places_of P (e ∷ es) k a = (subst P k.0 a.0, all_places_of P es k.1 a.1)
+
+  keyed_take : (n : ℕ) (es : List Keyed) → AreKeyed cs es → AreKeyed cs (take n es)
+  keyed_take n es k = all_take (λ (entry : Keyed). entry.0.now ≡ key_at cs entry.1) n es k
+
+  pub keyed_drop : (n : ℕ) (es : List Keyed) → AreKeyed cs es → AreKeyed cs (drop n es)
+  keyed_drop n es k = all_drop (λ (entry : Keyed). entry.0.now ≡ key_at cs entry.1) n es k
+
+  -- where entries are cut at an end
+  pub record AreCutAt (end : Option (List ℕ)) (xs ys : List Keyed) : Type 0 where
+    pub before : AllByRecursion (λ entry. is_before end entry.0.now ≡ true) xs
+    pub behind : AllByRecursion (λ entry. is_before end entry.0.now ≡ false) ys
+
+  -- they are cut at no end behind all of them
+  pub none_cut : (es : List Keyed) → AreCutAt None (take (length es) es) (drop (length es) es)
+  none_cut es = record { before = all_true (take (length es) es); behind = rw (drop_all (length es) es (omega arith)) tt }
+    where
+      all_true : (xs : List Keyed) → AllByRecursion (λ entry. is_before None entry.0.now ≡ true) xs
+      all_true [] = tt
+      all_true (x ∷ xs) = (refl, all_true xs)
+
+  -- the first key has a child
+  pub child_for_first : (page : PageOfKind) (es : List Keyed) (d : Keyed) → 0 < length es → CanHandDownKeyed cs page es → HasChildFor page (get_or es 0 d).0.now
+  child_for_first page [] d l h = absurd (omega arith)
+  child_for_first page (e ∷ es) d l h = subst (λ (k : List ℕ). HasChildFor page k) (sym h.keys.0) h.places.each.0
+
+  -- entries whose keys are below another stand before the others
+  pub parted_keyed : (page : PageOfKind) (es : List Keyed) (k : List ℕ) → CanHandDownKeyed cs page es → IsPartitionedBy (has_key_below k) es
+  parted_keyed page es k h = λ i j d l w t.
+      let all = All-from_recursion (λ (entry : Keyed). entry.0.now ≡ key_at cs entry.1) es h.keys in
+      let v : i < length es = omega arith in
+      let place = λ (entry : Keyed). entry.1 in
+      let m : j < length (places_of es) = rw (length-map es place) w in
+      let at : is_below (key_at cs (get_or (places_of es) j d.1)) k ≡ true = rw (get_or-map place es j d d.1 w, sym (all j d w)) t in
+      rw (all i d v, sym (get_or-map place es i d d.1 v)) (parted_by_key cs k (places_of es) h.places.in_order i j d.1 l m at)
 
   -- what the first child gets, by its pid and the end of its range
-  pub first_share_at : (page : PageOfKind) (ps : List ℕ) (n : ℕ) (k : List ℕ) (pid : ℕ) (end : Option (List ℕ)) → 0 < length ps → k ≡ key_at cs (get_or ps 0 0) → CanHandDown cs page ps
-      → pid ≡ (child_with_end k (child_entries page)).0 → end ≡ (child_with_end k (child_entries page)).1 → IsCutAt end (take n ps) (drop n ps)
-      → (let r : Route = record { pid = pid; places = take n ps } in (0 < n) × (handed_down cs page ps ≡ r ∷ handed_down cs page (drop n ps)))
-  first_share_at page [] n k pid end l e h i j c = absurd (omega arith)
-  first_share_at page (p ∷ qs) n k pid end l e h i j c =
-      let es : List (List ℕ × ℕ) = child_entries page in
-      let cut : IsCutAt (child_with_end (key_at cs p) es).1 (take n (p ∷ qs)) (drop n (p ∷ qs)) =
-      subst (λ (x : Option (List ℕ)). IsCutAt x (take n (p ∷ qs)) (drop n (p ∷ qs))) (j ∙ ap (λ (x : List ℕ). (child_with_end x es).1) e) c in
-      let same : (child_with_end (key_at cs p) es).0 ≡ pid = sym (i ∙ ap (λ (x : List ℕ). (child_with_end x es).0) e) in
-      let route : ℕ → Route = λ x. record { pid = x; places = take n (p ∷ qs) } in
-      ((some_before es p qs n cut).0, first_share page p qs n h cut ∙ ap (λ (x : ℕ). route x ∷ handed_down cs page (drop n (p ∷ qs))) same)
+  pub first_share_at : (page : PageOfKind) (es : List Keyed) (n : ℕ) (pid : ℕ) (end : Option (List ℕ)) (d : Keyed) → 0 < length es → CanHandDownKeyed cs page es → (pid, end) ≡ child_with_end (get_or es 0 d).0.now (child_entries page)
+      → AreCutAt end (take n es) (drop n es) → (let r : Route = record { pid = pid; places = places_of (take n es) } in (0 < n) × (handed_down cs page (places_of es) ≡ r ∷ handed_down cs page (places_of (drop n es))))
+  first_share_at page [] n pid end d l h i c = absurd (omega arith)
+  first_share_at page (e ∷ es) n pid end d l h i c =
+      let place = λ (entry : Keyed). entry.1 in
+      let k = key_at cs e.1 in
+      let found : (pid, end) ≡ child_with_end k (child_entries page) = i ∙ ap (λ (x : List ℕ). child_with_end x (child_entries page)) h.keys.0 in
+      let pid_is : pid ≡ (child_with_end k (child_entries page)).0 = ap (λ (r : ℕ × Option (List ℕ)). r.0) found in
+      let end_is : end ≡ (child_with_end k (child_entries page)).1 = ap (λ (r : ℕ × Option (List ℕ)). r.1) found in
+      let before : AllByRecursion (λ q. is_before end (key_at cs q) ≡ true) (places_of (take n (e ∷ es))) = all_places_of (λ x. is_before end x ≡ true) (take n (e ∷ es)) (keyed_take n (e ∷ es) h.keys) c.before in
+      let behind : AllByRecursion (λ q. is_before end (key_at cs q) ≡ false) (places_of (drop n (e ∷ es))) = all_places_of (λ x. is_before end x ≡ false) (drop n (e ∷ es)) (keyed_drop n (e ∷ es) h.keys) c.behind in
+      let cut : IsCutAt end (take n (places_of (e ∷ es))) (drop n (places_of (e ∷ es))) = record {
+        before = subst (λ (xs : List ℕ). AllByRecursion (λ q. is_before end (key_at cs q) ≡ true) xs) (sym (take-map place n (e ∷ es))) before;
+        behind = subst (λ (xs : List ℕ). AllByRecursion (λ q. is_before end (key_at cs q) ≡ false) xs) (sym (drop-map place n (e ∷ es))) behind;
+      } in
+      let own = subst (λ (x : Option (List ℕ)). IsCutAt x (take n (places_of (e ∷ es))) (drop n (places_of (e ∷ es)))) end_is cut in
+      let route : ℕ → List ℕ → Route = λ p ps. record { pid = p; places = ps } in
+      let rest : List ℕ → List Route = λ ps. handed_down cs page ps in (
+        (some_before (child_entries page) e.1 (places_of es) n own).0,
+        first_share page e.1 (places_of es) n h.places own
+            ∙ ap (λ (p : ℕ). route p (take n (places_of (e ∷ es))) ∷ rest (drop n (places_of (e ∷ es)))) (sym pid_is)
+            ∙ ap (λ (ps : List ℕ). route pid ps ∷ rest (drop n (places_of (e ∷ es)))) (take-map place n (e ∷ es))
+            ∙ ap (λ (ps : List ℕ). route pid (places_of (take n (e ∷ es))) ∷ rest ps) (drop-map place n (e ∷ es)),
+      )
+
+  -- ---- a place alone
+
+  abbrev route_alone : ℕ → ℕ → Route
+  route_alone p pid = record { pid = pid; places = p ∷ [] }
+
+  alone_by : (b : Bool) (p : ℕ) (at : Place) (ats passed : List Place) (rest : List Route) → rest ≡ map (route_alone p) (map (λ x. x.pid) passed)
+      → (let own : List ℕ = cond b (p ∷ []) [] in let r : Route = record { pid = at.pid; places = own } in cond (has_some own) (r ∷ rest) rest ≡ map (route_alone p) (map (λ x. x.pid) (cond b (at ∷ passed) passed)))
+  alone_by true p at ats passed rest e = ap (λ (rs : List Route). route_alone p at.pid ∷ rs) e
+  alone_by false p at ats passed rest e = e
+
+  -- a place alone goes to those children in whose range its key lies
+  shares_alone : (p : ℕ) (ats : List Place) → shares cs (p ∷ []) ats ≡ map (route_alone p) (map (λ at. at.pid) (filter (is_place_for (key_at cs p)) ats))
+  shares_alone p [] = refl
+  shares_alone p (at ∷ ats) = alone_by (is_within at.low at.end (key_at cs p)) p at ats (filter (is_place_for (key_at cs p)) ats) (shares cs (p ∷ []) ats) (shares_alone p ats)
+
+  -- and of these there is one
+  pub lone_share_at : (page : PageOfKind) (es : List Keyed) (pid : ℕ) (d : Keyed) → length es ≡ 1 → CanHandDownKeyed cs page es → map (λ at. at.pid) (filter (is_place_for (get_or es 0 d).0.now) (children (child_entries page) None)) ≡ pid ∷ []
+      → (let r : Route = record { pid = pid; places = places_of (take 1 es) } in handed_down cs page (places_of es) ≡ r ∷ handed_down cs page (places_of (drop 1 es)))
+  lone_share_at page [] pid d l h e = absurd (omega arith)
+  lone_share_at page (x ∷ []) pid d l h e =
+      let ats = children (child_entries page) None in
+      shares_alone x.1 ats
+      ∙ ap (λ (k : List ℕ). map (route_alone x.1) (map (λ at. at.pid) (filter (is_place_for k) ats))) (sym h.keys.0)
+      ∙ ap (λ (pids : List ℕ). map (route_alone x.1) pids) e
+      ∙ ap (λ (rs : List Route). route_alone x.1 pid ∷ rs) (sym (no_shares ats))
+  lone_share_at page (x ∷ y ∷ es) pid d l h e = absurd (omega arith)
+
+  -- ---- the children after the first
+
+  still_keyed : (page : PageOfKind) (es : List Keyed) (n : ℕ) → CanHandDownKeyed cs page es → CanHandDownKeyed cs page (drop n es)
+  still_keyed page es n h = record {
+    places = subst (λ (ps : List ℕ). CanHandDown cs page ps) (drop-map (λ (entry : Keyed). entry.1) n es) (still_handed page (places_of es) n h.places);
+    keys = keyed_drop n es h.keys;
+  }
+
+  pub rest_keyed : (page : PageOfKind) (es rest : List Keyed) (n : ℕ) → rest ≡ drop n es → CanHandDownKeyed cs page es → CanHandDownKeyed cs page rest
+  rest_keyed page es rest n t h = subst (λ (x : List Keyed). CanHandDownKeyed cs page x) (sym t) (still_keyed page es n h)
+
+  part_is : (es : List Keyed) (start count end : ℕ) → end ≡ start + count → slice_range es start end ≡ take count (drop start es)
+  part_is es start count end e = let n : end - start ≡ count = omega arith in ap (λ (i : ℕ). take i (drop start es)) n
+
+  -- one more share, of which the rest is what there was
+  pub hand_step : (page : PageOfKind) (es rest : List Keyed) (start count end : ℕ) (pid : ℕ) (old new : List Lent) (lent : Lent) (whole : List Route) → rest ≡ drop start es → end ≡ start + count → lent.0 ≡ pid → lent.1.now ≡ slice_range es start end → new ≡ old ++ lent ∷ []
+      → (let r : Route = record { pid = pid; places = places_of (take count rest) } in handed_down cs page (places_of rest) ≡ r ∷ handed_down cs page (places_of (drop count rest)))
+      → lent_shares old ++ handed_down cs page (places_of (drop start es)) ≡ whole → lent_shares new ++ handed_down cs page (places_of (drop end es)) ≡ whole
+  hand_step page es rest start count end pid old new lent whole t e p o i f h =
+      let own : List ℕ = places_of (take count rest) in
+      let part : lent.1.now ≡ take count rest = o ∙ part_is es start count end e ∙ ap (λ (x : List Keyed). take count x) (sym t) in
+      let left : drop count rest ≡ drop end es = ap (λ (x : List Keyed). drop count x) t ∙ drop-drop count start es ∙ ap (λ (j : ℕ). drop j es) (sym e) in
+      ap (λ (x : List Keyed). lent_shares new ++ handed_down cs page (places_of x)) (sym left)
+      ∙ push_share old new lent (route_of pid own) (handed_down cs page (places_of rest)) (handed_down cs page (places_of (drop count rest))) i (same_route lent.0 pid (places_of lent.1.now) own p (ap (λ (x : List Keyed). places_of x) part)) f
+      ∙ ap (λ (x : List Keyed). lent_shares old ++ handed_down cs page (places_of x)) t
+      ∙ h
+
+  pub keys_step : (es : List Keyed) (start end : ℕ) (old new : List Lent) (lent : Lent) → lent.1.now ≡ slice_range es start end → new ≡ old ++ lent ∷ [] → AreKeyed cs es → AreKeyedShares cs old → AreKeyedShares cs new
+  keys_step es start end old new lent o i k a =
+      let own : AreKeyed cs lent.1.now = subst (λ (x : List Keyed). AreKeyed cs x) (sym o) (keyed_take (end - start) (drop start es) (keyed_drop start es k)) in
+      subst (λ (x : List Lent). AreKeyedShares cs x) (sym i) (all-append (λ (s : Lent). AreKeyed cs s.1.now) old (lent ∷ []) a (own, tt))
+
+  pub all_handed : (page : PageOfKind) (es : List Keyed) (start : ℕ) (old : List Lent) (whole : List Route) → length es ≤ start → lent_shares old ++ handed_down cs page (places_of (drop start es)) ≡ whole → lent_shares old ≡ whole
+  all_handed page es start old whole l h =
+      sym (append-nil (lent_shares old))
+      ∙ ap (λ (rs : List Route). lent_shares old ++ rs) (sym (no_shares (children (child_entries page) None)))
+      ∙ ap (λ (x : List Keyed). lent_shares old ++ handed_down cs page (places_of x)) (sym (drop_all start es l))
+      ∙ h

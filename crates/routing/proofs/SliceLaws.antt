@@ -1,13 +1,14 @@
 -- Lemmas on the sorted places of a range, for the proofs of this crate and of those above it.
-use Rattle.std.specs.Prelude.{◌≡◌, ℕ, zero, suc, ◌+◌, ◌<◌, ◌≤◌, Bool, true, false, not, ◌&&◌, ◌||◌, List, [], ◌∷◌, ◌++◌, length, take, drop, slice_get, nat_eq, Option, Some, None}
+use Rattle.std.specs.Prelude.{◌≡◌, ℕ, zero, suc, ◌+◌, ◌-◌, ◌<◌, ◌≤◌, Bool, true, false, not, ◌&&◌, ◌||◌, List, [], ◌∷◌, ◌++◌, length, take, drop, slice_get, nat_eq, Option, Some, None}
 use Rattle.std.proofs.Common.{refl, sym, ap, ◌∙◌, subst, get_or, arith, inl, inr, Ordering, Less, Equal, Greater, eqb-true, length-drop}
 use Rattle.std.specs.Ordering.{nat_cmp, ordering_then}
-use Rattle.std.specs.List.{AllByRecursion, IsDistinct}
+use Rattle.std.specs.List.{AllByRecursion, IsDistinct, slice_range}
 use Rattle.std.specs.List.Sorted.{IsPermutation, IsSorted, IsStrictlySortedBy, IsStrictlyIncreasing, IsNonDecreasing, IsPartitionedBy, IsPartitionPoint}
 use Rattle.std.proofs.lemmas.Cmp.{nat_cmp_total, tied_itself, nat_eq_equiv}
 use Rattle.std.proofs.lemmas.Bool.{cases_lt}
-use Rattle.std.proofs.lemmas.List.{take-append-drop, get_or-take, get_or-drop, length-take}
+use Rattle.std.proofs.lemmas.List.{take-append-drop, get_or_default, get_or-take, get_or-drop, length-take}
 use Rattle.std.proofs.lemmas.List.Elements.{recursion_from_All}
+use Rattle.std.proofs.lemmas.List.Folds.{drop_split}
 use Rattle.std.proofs.lemmas.List.Sorted.{IsNonDecreasingBy-from_sort}
 use Rattle.std.proofs.lemmas.Map.Keys.{IsDistinct-IsPermutation, IsStrictlyIncreasing-from_distinct, sorted_from_strictly_increasing, Less-from_sorted}
 use Rattle.keys.specs.Order.{order}
@@ -15,6 +16,7 @@ use Rattle.keys.proofs.MapLaws.{total}
 use Rattle.keys.specs.CommandKey.{key_of}
 use Rattle.keys.specs.declared.command.Command.{Command}
 use Rattle.index_page.specs.Range.{is_below, is_before, is_within, IsBefore}
+use Rattle.index_page.proofs.ListLaws.{all-append}
 use Rattle.index_page.proofs.RangeLaws.{below_is_less}
 use Rattle.mapping.specs.FreshPids.{is_among}
 use Rattle.routing.specs.BatchKeys.{key_at}
@@ -35,10 +37,15 @@ rises_when_sorted ns h = IsNonDecreasingBy-from_sort (λ n. n) ns h
 -- ---- parts of a list
 
 module _ {X : Type 0} (P : X → Type 0) where
-  all_take : (n : ℕ) (xs : List X) → AllByRecursion P xs → AllByRecursion P (take n xs)
+  pub all_take : (n : ℕ) (xs : List X) → AllByRecursion P xs → AllByRecursion P (take n xs)
   all_take zero xs a = tt
   all_take (suc n) [] a = tt
   all_take (suc n) (x ∷ xs) a = (a.0, all_take n xs a.1)
+
+  pub all_drop : (n : ℕ) (xs : List X) → AllByRecursion P xs → AllByRecursion P (drop n xs)
+  all_drop zero xs a = a
+  all_drop (suc n) [] a = tt
+  all_drop (suc n) (x ∷ xs) a = all_drop n xs a.1
 
 module _ {X : Type 0} (R : X → X → Ordering) where
   pub sorted_take : (n : ℕ) (xs : List X) → IsStrictlySortedBy R xs → IsStrictlySortedBy R (take n xs)
@@ -171,16 +178,72 @@ module _ {A : Type 0} (cs : List (Command A)) where
     | inr b ↦ (let same : i ≡ j = omega arith in rw same h)
   ]
 
-module _ (P Q : ℕ → Type 0) where
+module _ {X : Type 0} (P Q : X → Type 0) where
   -- what holds on either side of a place, of the lists on either side
-  pub all_before : (ps : List ℕ) (n : ℕ) → IsPartitionPoint P Q ps n → n ≤ length ps → AllByRecursion P (take n ps)
+  pub all_before : (ps : List X) (n : ℕ) → IsPartitionPoint P Q ps n → n ≤ length ps → AllByRecursion P (take n ps)
   all_before ps n h l =
       recursion_from_All P (take n ps) (λ k d b.
       let r : k < n = omega (arith, length-take n ps) in
       rw (get_or-take n ps k d r) (h.0 k d (omega arith) r))
 
-  pub all_behind : (ps : List ℕ) (n : ℕ) → IsPartitionPoint P Q ps n → n ≤ length ps → AllByRecursion Q (drop n ps)
+  pub all_behind : (ps : List X) (n : ℕ) → IsPartitionPoint P Q ps n → n ≤ length ps → AllByRecursion Q (drop n ps)
   all_behind ps n h l =
       recursion_from_All Q (drop n ps) (λ k d b.
       let r : n + k < length ps = omega (arith, length-drop n ps) in
       rw (get_or-drop n ps k d) (h.1 (n + k) d (omega arith) r))
+
+module _ {X : Type 0} (f : X → Bool) where
+  abbrev AllPass : List X → Type 0
+  AllPass xs = AllByRecursion (λ x. f x ≡ true) xs
+
+  abbrev NonePass : List X → Type 0
+  NonePass xs = AllByRecursion (λ x. f x ≡ false) xs
+
+  -- of those that pass and stand first, the same holds in any part
+  pub parted_part : (xs : List X) (low high : ℕ) → IsPartitionedBy f xs → high ≤ length xs → IsPartitionedBy f (slice_range xs low high)
+  parted_part xs low high p h = λ i j d l w t.
+      let many = length-take (high - low) (drop low xs) in
+      let b : j < high - low = omega arith in
+      let a : i < high - low = omega arith in
+      let at : f (get_or xs (low + j) d) ≡ true = rw (get_or-take (high - low) (drop low xs) j d b, get_or-drop low xs j d) at t in
+      rw (get_or-take (high - low) (drop low xs) i d a, get_or-drop low xs i d) (p (low + i) (low + j) d (omega arith) (omega arith) at)
+
+  -- what passes up to a place that does
+  pub pass_upto : (xs : List X) (i : ℕ) (d : X) (b : Bool) → IsPartitionedBy f xs → i < length xs → b ≡ f (get_or xs i d) → b ≡ true → AllPass (take (i + 1) xs)
+  pass_upto xs i d b p l h t =
+      recursion_from_All (λ x. f x ≡ true) (take (i + 1) xs) (λ k e w.
+      let r : k < i + 1 = omega (arith, length-take (i + 1) xs) in
+      let at : f (get_or xs i e) ≡ true = rw (get_or_default xs i e d l) (sym h ∙ t) in
+      rw (get_or-take (i + 1) xs k e r) (p k i e (omega arith) l at))
+
+  -- what doesn't from a place on that doesn't
+  pub none_from : (xs : List X) (i : ℕ) (d : X) (b : Bool) → IsPartitionedBy f xs → i < length xs → b ≡ f (get_or xs i d) → b ≡ false → NonePass (drop i xs)
+  none_from xs i d b p l h t =
+      recursion_from_All (λ x. f x ≡ false) (drop i xs) (λ k e w.
+      let r : i + k < length xs = omega (arith, length-drop i xs) in
+      let at : f (get_or xs i e) ≡ false = rw (get_or_default xs i e d l) (sym h ∙ t) in
+      rw (get_or-drop i xs k e) (none_by (f (get_or xs (i + k) e)) refl (λ u. p i (i + k) e (omega arith) r u) at))
+    where
+      none_by : {y z : X} (b : Bool) → f y ≡ b → (f y ≡ true → f z ≡ true) → f z ≡ false → f y ≡ false
+      none_by true e g n = absurd (let t = g e in cc)
+      none_by false e g n = e
+
+  -- where those before a stretch pass and those behind it don't, a cut of the stretch is one of the whole
+  cut_within : (ss ds : List X) (n : ℕ) → n ≤ length ss → AllPass (take n ss) → NonePass (drop n ss) → NonePass ds → AllPass (take n (ss ++ ds)) × NonePass (drop n (ss ++ ds))
+  cut_within ss ds zero l a b e = (tt, all-append (λ x. f x ≡ false) ss ds b e)
+  cut_within [] ds (suc n) l a b e = absurd (omega arith)
+  cut_within (s ∷ ss) ds (suc n) l a b e = let m : n ≤ length ss = omega arith in let r = cut_within ss ds n m a.1 b e in ((a.0, r.0), r.1)
+
+  cut_behind : (front ys : List X) (m n : ℕ) → m ≡ length front + n → AllPass front → AllPass (take n ys) × NonePass (drop n ys) → AllPass (take m (front ++ ys)) × NonePass (drop m (front ++ ys))
+  cut_behind [] ys m n e a h = let same : m ≡ n = omega arith in rw same h
+  cut_behind (x ∷ front) ys zero n e a h = absurd (omega arith)
+  cut_behind (x ∷ front) ys (suc m) n e a h = let less : m ≡ length front + n = omega arith in let r = cut_behind front ys m n less a.1 h in ((a.0, r.0), r.1)
+
+  pub cut_at : (xs : List X) (low high n : ℕ) → low ≤ high → high ≤ length xs → AllPass (take low xs) → NonePass (drop high xs) → n ≤ length (slice_range xs low high)
+      → IsPartitionPoint (λ x. f x ≡ true) (λ x. f x ≡ false) (slice_range xs low high) n → AllPass (take (low + n) xs) × NonePass (drop (low + n) xs)
+  cut_at xs low high n l h a b m p =
+      let ss = slice_range xs low high in
+      let parts : take low xs ++ (ss ++ drop high xs) ≡ xs = ap (λ (ys : List X). take low xs ++ ys) (sym (drop_split xs low high l)) ∙ take-append-drop low xs in
+      let many : low + n ≡ length (take low xs) + n = omega (arith, length-take low xs) in
+      let cut = cut_behind (take low xs) (ss ++ drop high xs) (low + n) n many a (cut_within ss (drop high xs) n m (all_before (λ x. f x ≡ true) (λ x. f x ≡ false) ss n p m) (all_behind (λ x. f x ≡ true) (λ x. f x ≡ false) ss n p m) b) in
+      rw parts at cut

@@ -7,7 +7,7 @@ use Rattle.std.specs.List.{AllByRecursion, All, IsDistinct, list_any}
 use Rattle.std.specs.List.Sorted.{IsPermutation, IsSorted, IsStrictlySortedBy}
 use Rattle.std.proofs.lemmas.Cmp.{nat_cmp_total, on_total, then_total, tied_itself, ranked, eq_by_cmp_equiv}
 use Rattle.std.proofs.lemmas.List.{get_or-map, length-map}
-use Rattle.std.proofs.lemmas.List.Elements.{All-from_recursion}
+use Rattle.std.proofs.lemmas.List.Elements.{All-from_recursion, recursion_from_All}
 use Rattle.std.proofs.lemmas.List.Sorted.{IsPermutation-map, All-permutation, list_any-IsPermutation}
 use Rattle.std.proofs.lemmas.Map.Keys.{IsDistinct-from_sorted, IsDistinct-IsPermutation, apart_from_distinct, sorted_from_all_adjacent}
 use Rattle.keys.specs.Order.{order}
@@ -149,3 +149,7 @@ module _ {A X : Type 0} (cs : List (Command A)) (key : X → List ℕ) (place : 
         all = moved;
         in_order = in_order ys (All-permutation IsKeyed xs ys p (All-from_recursion IsKeyed xs a)) s (IsDistinct-IsPermutation (eq_by_cmp nat_cmp) (eq_by_cmp_equiv nat_cmp_total).symm (places_below (length cs)) (map place ys) moved (IsDistinct-from_sorted nat_cmp (places_below (length cs)) (rising-range 0 (length cs))));
       }
+
+  -- and each still has its key
+  pub keyed_sorted : (xs ys : List X) → AllByRecursion IsKeyed xs → IsPermutation xs ys → AllByRecursion IsKeyed ys
+  keyed_sorted xs ys a p = recursion_from_All IsKeyed ys (All-permutation IsKeyed xs ys p (All-from_recursion IsKeyed xs a))

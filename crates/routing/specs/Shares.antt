@@ -12,15 +12,24 @@ use Rattle.index_page.specs.Children.{Place, children, child_entries, HasChildFo
 use Rattle.mapping.specs.Tree.{page_at}
 use Rattle.mapping.specs.Levels.{as_index}
 use Rattle.routing.specs.BatchKeys.{key_at}
+use Rattle.routing.specs.Keyed.{Keyed, places_of, AreKeyed}
 use Rattle.routing.specs.Routes.{Route, has_places}
 use Rattle.routing.specs.SortedPlaces.{AreInKeyOrder}
 
--- shares as the code has them: a pid, and a part of the sorted places
-abbrev pub share_of_lent : ℕ × Bor (List ℕ) → Route
-share_of_lent share = record { pid = share.0; places = share.1.now }
+-- a share as the code has it: a pid, and a part of the sorted places, each beside its key
+abbrev pub Lent : Type 0
+Lent = ℕ × Bor (List Keyed)
 
-abbrev pub lent_shares : List (ℕ × Bor (List ℕ)) → List Route
+-- the share without the keys
+abbrev pub share_of_lent : Lent → Route
+share_of_lent share = record { pid = share.0; places = places_of share.1.now }
+
+abbrev pub lent_shares : List Lent → List Route
 lent_shares shares = map share_of_lent shares
+
+-- the keys in the shares are those of the commands at the places beside them
+abbrev pub AreKeyedShares : {A : Type 0} → List (Command A) → List Lent → Type 0
+AreKeyedShares cs shares = AllByRecursion (λ share. AreKeyed cs share.1.now) shares
 
 -- no place stands twice in the share
 abbrev pub HasEachPlaceOnce : Route → Type 0
@@ -52,6 +61,11 @@ pub record CanHandDown {A : Type 0} (cs : List (Command A)) (page : PageOfKind) 
   pub rising : IsRising (child_entries page)
   pub each : AllByRecursion (λ place. HasChildFor page (key_at cs place)) ps
 
+-- the same of places beside their keys
+pub record CanHandDownKeyed {A : Type 0} (cs : List (Command A)) (page : PageOfKind) (entries : List Keyed) : Type 0 where
+  pub places : CanHandDown cs page (places_of entries)
+  pub keys : AreKeyed cs entries
+
 -- the index page under a pid, and an empty one where there is none
 abbrev pub index_under : List (ℕ × PageOfKind) → ℕ → PageOfKind
 index_under pages pid = Index (as_index (page_at pages pid))
@@ -60,6 +74,11 @@ index_under pages pid = Index (as_index (page_at pages pid))
 pub record IsReady {A : Type 0} (pages : List (ℕ × PageOfKind)) (cs : List (Command A)) (r : Route) : Type 0 where
   pub held : page_at pages r.pid ≡ Some (index_under pages r.pid)
   pub share : CanHandDown cs (index_under pages r.pid) r.places
+
+-- shares of index pages that can be handed down, with their keys
+pub record AreReady {A : Type 0} (pages : List (ℕ × PageOfKind)) (cs : List (Command A)) (shares : List Lent) : Type 0 where
+  pub each : AllByRecursion (IsReady pages cs) (lent_shares shares)
+  pub keys : AreKeyedShares cs shares
 
 abbrev pub share_below : {A : Type 0} → List (ℕ × PageOfKind) → List (Command A) → Route → List Route
 share_below pages cs r = handed_down cs (index_under pages r.pid) r.places

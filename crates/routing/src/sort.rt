@@ -1,13 +1,13 @@
 //! The order in which the tree is walked for a batch: the places of its commands, sorted by their keys.
-ghost use Rattle.std.specs.Prelude.{◌≡◌, ◌≤◌, length, map, true, false, take, drop, IfOk};
+ghost use Rattle.std.specs.Prelude.{◌≡◌, ◌≤◌, length, true, false, take, drop, IfOk};
 ghost use Rattle.std.specs.List.{AllByRecursion};
-ghost use Rattle.std.specs.List.Sorted.{IsPermutation, IsSorted, IsNonDecreasing};
+ghost use Rattle.std.specs.List.Sorted.{IsPermutation, IsSorted, IsNonDecreasing, IsPartitionedBy};
 ghost use Rattle.std.specs.Ordering.{nat_cmp, ordering_then};
 ghost use Rattle.keys.specs.Order.{order};
-ghost use Rattle.index_page.specs.Range.{is_below};
 ghost use Rattle.routing.specs.BatchKeys.{key_at};
+ghost use Rattle.routing.specs.Keyed.{places_of, AreKeyed, has_key_below};
 ghost use Rattle.routing.specs.Places.{places_below};
-ghost use Rattle.routing.specs.SortedPlaces.{AreInKeyOrder, AreSortedPlaces};
+ghost use Rattle.routing.specs.SortedPlaces.{AreSortedPlaces};
 
 use keys::Command;
 use rayon::prelude::*;
@@ -17,22 +17,27 @@ use std::thread::Threads;
 // A shorter batch is sorted in one thread: even to ask how many processors there are would take longer.
 const LEAST_SHARED: usize = 4096;
 
+/// A command's key, and the command's place in its batch. The key stands beside the place so that a comparison needn't fetch
+/// the command.
+pub type Keyed<'a> = (&'a [u8], usize);
+
 /// The places of a batch's commands, counted from 0, in the order of their keys, and where keys are equal in the order of
-/// the batch. The sort is shared among threads where the batch is long.
-pub fn sorted_places<A: Allocator>(
+/// the batch, each beside its key. The sort is shared among threads where the batch is long.
+pub fn sorted_places<'a, A: Allocator>(
     rt: &(impl Threads + Sync),
     alloc: Global,
-    commands: &[Command<A>],
-) -> Result<Vec<usize>, AllocError>
-    ensures { IfOk result (λ places. AreSortedPlaces commands.now places.items) }
+    commands: &'a [Command<A>],
+) -> Result<Vec<Keyed<'a>>, AllocError>
+    ensures sorted { IfOk result (λ keyed. AreSortedPlaces commands.now (places_of keyed.items)) }
+    ensures keys { IfOk result (λ keyed. AreKeyed commands.now keyed.items) }
 {
     let mut keyed = keyed_places(alloc, commands)?;
     sort_keyed(rt, &mut keyed);
-    places_of(alloc, &keyed)
+    Ok(keyed)
 }
 
 // Sorts by key, and where keys are equal by place.
-fn sort_keyed(rt: &(impl Threads + Sync), keyed: &mut [(&[u8], usize)])
+fn sort_keyed(rt: &(impl Threads + Sync), keyed: &mut [Keyed<'_>])
     ensures permutation { IsPermutation keyed.old keyed.new }
     ensures len { length keyed.new ≡ length keyed.old }
     ensures sorted { IsSorted (λ x y. ordering_then (order x.0.now y.0.now) (nat_cmp x.1 y.1)) keyed.new }
@@ -48,9 +53,9 @@ fn sort_keyed(rt: &(impl Threads + Sync), keyed: &mut [(&[u8], usize)])
 fn keyed_places<A: Allocator>(
     alloc: Global,
     commands: &[Command<A>],
-) -> Result<Vec<(&[u8], usize)>, AllocError>
-    ensures places { IfOk result (λ keyed. map (λ entry. entry.1) keyed.items ≡ places_below (length commands.now)) }
-    ensures keys { IfOk result (λ keyed. AllByRecursion (λ entry. entry.0.now ≡ key_at commands.now entry.1) keyed.items) }
+) -> Result<Vec<Keyed<'_>>, AllocError>
+    ensures places { IfOk result (λ keyed. places_of keyed.items ≡ places_below (length commands.now)) }
+    ensures keys { IfOk result (λ keyed. AreKeyed commands.now keyed.items) }
 {
     let mut keyed = Vec::with_capacity(alloc, commands.len())?;
     for place in 0..commands.len() {
@@ -59,15 +64,8 @@ fn keyed_places<A: Allocator>(
     Ok(keyed)
 }
 
-// The places without the keys.
-fn places_of(alloc: Global, keyed: &[(&[u8], usize)]) -> Result<Vec<usize>, AllocError>
-    ensures { IfOk result (λ places. places.items ≡ map (λ entry. entry.1) keyed.now) }
-{
-    keyed.iter().map(|entry| entry.1).collect(alloc)
-}
-
 // The key of the command at this place, and the empty key where there is none.
-pub(crate) fn key_at<A: Allocator>(commands: &[Command<A>], place: usize) -> &[u8]
+fn key_at<A: Allocator>(commands: &[Command<A>], place: usize) -> &[u8]
     ensures { result.now ≡ key_at commands.now place }
 {
     match commands.get(place) {
@@ -76,27 +74,55 @@ pub(crate) fn key_at<A: Allocator>(commands: &[Command<A>], place: usize) -> &[u
     }
 }
 
-/// How many of these places, which are in the order of their keys, have a key below this one. It is found by halves. A
-/// descent gives a child those that stand before the end of its range.
-pub fn count_below<A: Allocator>(commands: &[Command<A>], places: &[usize], key: &[u8]) -> usize
-    requires { AreInKeyOrder commands.now places.now }
-    ensures most { result ≤ length places.now }
-    ensures below { AllByRecursion (λ place. is_below (key_at commands.now place) key.now ≡ true) (take result places.now) }
-    ensures others { AllByRecursion (λ place. is_below (key_at commands.now place) key.now ≡ false) (drop result places.now) }
+/// How many of these entries, of which those with a key below this one stand first, have a key below it. It is found by
+/// steps that double and then by halves, since of a long list mostly few are below. A descent gives a child those that
+/// stand before the end of its range.
+pub fn count_below(keyed: &[Keyed<'_>], key: &[u8]) -> usize
+    requires { IsPartitionedBy (has_key_below key.now) keyed.now }
+    ensures most { result ≤ length keyed.now }
+    ensures below { AllByRecursion (λ entry. has_key_below key.now entry ≡ true) (take result keyed.now) }
+    ensures others { AllByRecursion (λ entry. has_key_below key.now entry ≡ false) (drop result keyed.now) }
 {
-    places.partition_point(
-        |place: &usize| -> bool
-            ensures { result ≡ is_below (key_at commands.entry.now place.now) key.entry.now }
-        { key_at(commands, *place).cmp(key).is_lt() },
+    let (low, high) = bounds_of_count(keyed, key);
+    let between = &keyed[low..high];
+    low + between.partition_point(
+        |entry: &Keyed<'_>| -> bool
+            ensures { result ≡ has_key_below key.entry.now entry.now }
+        { has_key_below(entry, key) },
     )
 }
 
-/// These places in the order of the batch: a page's sorted places become the places of its run.
-pub fn in_batch_order(alloc: Global, places: &[usize]) -> Result<Vec<usize>, AllocError>
-    ensures same { IfOk result (λ sorted. IsPermutation places.now sorted.items) }
+// Two numbers between which the count of those below the key lies: the entries before the first are below the key, and
+// those from the second on aren't.
+fn bounds_of_count(keyed: &[Keyed<'_>], key: &[u8]) -> (usize, usize)
+    requires { IsPartitionedBy (has_key_below key.now) keyed.now }
+    ensures order { result.0 ≤ result.1 }
+    ensures most { result.1 ≤ length keyed.now }
+    ensures below { AllByRecursion (λ entry. has_key_below key.now entry ≡ true) (take result.0 keyed.now) }
+    ensures others { AllByRecursion (λ entry. has_key_below key.now entry ≡ false) (drop result.1 keyed.now) }
+{
+    let mut low = 0;
+    let mut high = 0;
+    while high < keyed.len() && has_key_below(&keyed[high], key) {
+        low = high + 1;
+        high += low;
+    }
+    (low, high.min(keyed.len()))
+}
+
+// Whether the entry's key is below this one.
+fn has_key_below(entry: &Keyed<'_>, key: &[u8]) -> bool
+    ensures { result ≡ has_key_below key.now entry.now }
+{
+    entry.0.cmp(key).is_lt()
+}
+
+/// The places of these entries in the order of the batch: a page's sorted places become the places of its run.
+pub fn in_batch_order(alloc: Global, keyed: &[Keyed<'_>]) -> Result<Vec<usize>, AllocError>
+    ensures same { IfOk result (λ sorted. IsPermutation (places_of keyed.now) sorted.items) }
     ensures rising { IfOk result (λ sorted. IsNonDecreasing sorted.items) }
 {
-    let mut sorted = places.to_vec(alloc)?;
+    let mut sorted: Vec<usize> = keyed.iter().map(|entry| entry.1).collect(alloc)?;
     sorted.sort_unstable();
     Ok(sorted)
 }

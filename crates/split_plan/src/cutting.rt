@@ -8,7 +8,7 @@ ghost use Rattle.split_plan.specs.Cut.{piece_count, cut};
 ghost use Rattle.split_plan.specs.Pieces.{pages_lent, joined_pages, low_at, pages_from};
 
 use crate::kind::Kind;
-use delta_chain::{Base, BaseBuilder, Pairs, PushError};
+use delta_chain::{Base, BaseBuilder, Pairs, PushError, key_bytes};
 use index_page::Page;
 use keys::{Cell, Key};
 use std::alloc::{AllocError, Global};
@@ -121,7 +121,7 @@ fn copied<V: Cell<Global> + Drop>(
     requires { IsRising (pairs_lent entries.now) }
     ensures { IfOk result (λ base. base ≡ pairs_lent entries.now) }
 {
-    let mut builder = BaseBuilder::with_capacity(alloc, entries.len())?;
+    let mut builder = BaseBuilder::with_capacity(alloc, entries.len(), key_bytes(entries))?;
     for entry in entries {
         let cell = entry.1.copy(alloc)?;
         match builder.push(entry.0, cell) {

@@ -15,6 +15,7 @@ returns g c =
     record {
       status = follows.status_is;
       refused = follows.refused;
+      untouched = follows.untouched_is;
       done = follows.done;
       bad = follows.bad;
       beginning = follows.beginning;

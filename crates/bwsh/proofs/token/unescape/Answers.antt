@@ -1,12 +1,16 @@
-use Rattle.std.proofs.Common.{◌≡◌, [], ◌∷◌, false, length, nat_eq, sym, ◌∙◌}
-use Rattle.std.specs.Str.{bytes_eq}
-use Rattle.bwsh.specs.Token.{percent}
-use Rattle.bwsh.proofs.TokenLemmas.{with_front_nothing}
+use Rattle.std.proofs.Common.{◌≡◌, Some, ap, sym, ◌∙◌}
+use Rattle.bwsh.proofs.TokenLemmas.{with_front_nothing, token_bytes-unescaped}
+use Rattle.bwsh.proofs.TokenLaws.{unescaped-plain}
 use Rattle.bwsh.proofs.token.unescape.Goals as goal
+
+pub returns-then-are_plain : goal.returns-then-are_plain
+returns-then-are_plain c =
+    let text = c.args.token.now in
+    let whole : c.extend_from_slice.new.self.items ≡ text = rw c.clear.ensures.items at c.in_ok-extend_from_slice.ensures.items in
+    ap Some whole ∙ sym (unescaped-plain text (sym c.are_plain.ensures ∙ c.if-are_plain.true))
+    ∙ sym (token_bytes-unescaped text (rw c.as_slice.ensures at (sym c.eq.ensures ∙ c.if-eq.false)) (sym c.is_empty.ensures ∙ c.if-is_empty.false))
 
 pub returns : goal.returns
 returns c =
-    let text = c.args.token.now in
-    let not_percent : bytes_eq text (percent ∷ []) ≡ false = rw c.as_slice.ensures at (sym c.eq.ensures ∙ c.if-eq.false) in
-    let not_empty : nat_eq (length text) 0 ≡ false = sym c.is_empty.ensures ∙ c.if-is_empty.false in
-    rw (not_percent, not_empty) (rw (c.clear.ensures.items, with_front_nothing) at c.push_unescaped.ensures)
+    rw (token_bytes-unescaped c.args.token.now (rw c.as_slice.ensures at (sym c.eq.ensures ∙ c.if-eq.false)) (sym c.is_empty.ensures ∙ c.if-is_empty.false))
+    (rw (c.clear.ensures.items, with_front_nothing) at c.push_unescaped.ensures)

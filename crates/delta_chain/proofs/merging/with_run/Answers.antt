@@ -1,4 +1,5 @@
-use Rattle.std.proofs.Common.{◌<◌, ◌≤◌, ◌∙◌, length, arith, add-one, Less, Equal}
+use Rattle.std.proofs.Common.{◌<◌, ◌≤◌, length, arith, add-one, Less, Equal}
+use Rattle.delta_chain.specs.Layers.{with_run}
 use Rattle.delta_chain.specs.Lent.{pairs_lent}
 use Rattle.delta_chain.proofs.LayerLaws.{rising-with_run}
 use Rattle.delta_chain.proofs.Lending.{pairs_lent-push}
@@ -13,7 +14,7 @@ loop-at-preserved-in-Less g c =
       turn = c.loop-at.invariant.turn;
       count = omega (arith, c.push_reserved.ensures.len);
       room = rw c.push_reserved.ensures.capacity c.loop-at.invariant.room;
-      made = simp add-one (rw (c.push_reserved.ensures.items, pairs_lent-push) (less_step c.args.under.now c.args.run.now c.loop-at.from c.loop-at.at c.key.result.now c.key-key.result.now c.cell.result.now (pairs_lent c.loop-at.lent.items) _ c.len-changes.ensures.rising c.key.ensures c.cell.ensures c.key-key.ensures c.in-Less.ensures c.loop-at.invariant.made));
+      made = simp add-one (rw (c.push_reserved.ensures.items, pairs_lent-push) (less_step c.args.under.now c.args.run.now c.loop-at.from c.loop-at.at c.key.result.now c.key-key.result.now c.cell.result.now (pairs_lent c.loop-at.lent.items) _ c.requires.changes c.key.ensures c.cell.ensures c.key-key.ensures c.in-Less.ensures c.loop-at.invariant.made));
     }
 
 pub loop-at-preserved-in-Equal : goal.loop-at-preserved-in-Equal
@@ -24,21 +25,21 @@ loop-at-preserved-in-Equal g c =
       turn = c.loop-at.invariant.turn;
       count = omega arith;
       room = c.loop-at.invariant.room;
-      made = simp add-one (equal_step c.args.under.now c.args.run.now c.loop-at.from c.loop-at.at c.key-key.result.now (pairs_lent c.loop-at.lent.items) _ c.requires n c.key-key.ensures c.in-Equal.ensures c.loop-at.invariant.made);
+      made = simp add-one (equal_step c.args.under.now c.args.run.now c.loop-at.from c.loop-at.at c.key-key.result.now (pairs_lent c.loop-at.lent.items) _ c.requires.pairs n c.key-key.ensures c.in-Equal.ensures c.loop-at.invariant.made);
     }
 
 pub loop-at-preserved : goal.loop-at-preserved
 loop-at-preserved g c =
     record {
       place = c.loop-at.invariant.place;
-      turn = omega (arith, c.len-changes.ensures.count);
+      turn = omega (arith, c.len-changes.ensures);
       count = omega (arith, c.push_change.ensures.count);
       room = rw c.push_change.ensures.room c.loop-at.invariant.room;
-      made = simp add-one (rw c.push_change.ensures.pairs (greater_step c.args.under.now c.args.run.now c.loop-at.from c.loop-at.at c.key-key.result.now _ (pairs_lent c.loop-at.lent.items) _ c.requires c.len-changes.ensures.rising c.key-key.ensures c.change.ensures c.in-Greater.ensures c.loop-at.invariant.made));
+      made = simp add-one (rw c.push_change.ensures.pairs (greater_step c.args.under.now c.args.run.now c.loop-at.from c.loop-at.at c.key-key.result.now _ (pairs_lent c.loop-at.lent.items) _ c.requires.pairs c.requires.changes c.key-key.ensures (rw c.as_ref.ensures.value c.cell-in-Greater.ensures) c.in-Greater.ensures c.loop-at.invariant.made));
     }
 
 pub returns-clause-rising : goal.returns-clause-rising
 returns-clause-rising g c =
-    let n : length c.args.run.now ≤ c.loop-at.at = omega (arith, c.len-changes.ensures.count) in
-    let e = c.push_rest.ensures ∙ all_changes c.args.under.now c.args.run.now c.loop-at.from c.loop-at.at (pairs_lent c.loop-at.lent.items) _ n c.loop-at.invariant.made in
-    rw (c.of_list.ensures, e) (rising-with_run c.args.under.now c.args.run.now c.requires)
+    let n : length c.args.run.now ≤ c.loop-at.at = omega (arith, c.len-changes.ensures) in
+    let all = all_changes c.args.under.now c.args.run.now c.loop-at.from c.loop-at.at (pairs_lent c.loop-at.lent.items) (with_run c.args.under.now c.args.run.now) n c.loop-at.invariant.made in
+    rw (c.of_list.ensures, c.push_rest.ensures, all) (rising-with_run c.args.under.now c.args.run.now c.requires.pairs)

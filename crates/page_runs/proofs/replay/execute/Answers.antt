@@ -7,16 +7,16 @@ use Rattle.page_runs.proofs.replay.execute.Goals as goal
 
 pub returns-in-Put-clause-changes : goal.returns-in-Put-clause-changes
 returns-in-Put-clause-changes c =
-    let before : List (List ℕ × List ℕ) = with_run (entries_of c.args.page.now) c.args.changes.now.entries in
-    rw c.in-Put.is (put_noted c.put.result before c.args.changes.now.entries c.put.new.changes.entries c.in-Put.key c.in-Put.value c.put.ensures.changes)
+    let before : List (List ℕ × List ℕ) = with_run (entries_of c.args.page.now) c.args.changes.now in
+    rw c.in-Put.is (put_noted c.put.result before c.args.changes.now c.put.new.changes c.in-Put.key c.in-Put.value c.put.ensures.changes)
 
 pub returns-in-Add-clause-changes : goal.returns-in-Add-clause-changes
 returns-in-Add-clause-changes c =
-    let before : List (List ℕ × List ℕ) = with_run (entries_of c.args.page.now) c.args.changes.now.entries in
-    rw c.in-Add.is (add_noted c.add.result (is_some (value_at c.in-Add.key before)) before c.args.changes.now.entries c.add.new.changes.entries c.in-Add.key c.in-Add.value c.add.ensures.changes)
+    let before : List (List ℕ × List ℕ) = with_run (entries_of c.args.page.now) c.args.changes.now in
+    rw c.in-Add.is (add_noted c.add.result (is_some (value_at c.in-Add.key before)) before c.args.changes.now c.add.new.changes c.in-Add.key c.in-Add.value c.add.ensures.changes)
 
 pub returns-in-Del-clause-changes : goal.returns-in-Del-clause-changes
 returns-in-Del-clause-changes c =
-    let before : List (List ℕ × List ℕ) = with_run (entries_of c.args.page.now) c.args.changes.now.entries in
-    let rising = rising-with_run (entries_of c.args.page.now) c.args.changes.now.entries (rising-entries_of c.args.page.now c.requires.page) in
-    rw c.in-Del.is (del_noted c.del.result (is_some (value_at c.in-Del.key before)) before c.args.changes.now.entries c.del.new.changes.entries c.in-Del.key rising c.del.ensures.changes)
+    let before : List (List ℕ × List ℕ) = with_run (entries_of c.args.page.now) c.args.changes.now in
+    let rising = rising-with_run (entries_of c.args.page.now) c.args.changes.now (rising-entries_of c.args.page.now c.requires) in
+    rw c.in-Del.is (del_noted c.del.result (is_some (value_at c.in-Del.key before)) before c.args.changes.now c.del.new.changes c.in-Del.key rising c.del.ensures.changes)

@@ -6,15 +6,11 @@ use Rattle.keys.specs.Step.{map_after}
 use Rattle.keys.specs.declared.command.Command.{Command}
 use Rattle.delta_chain.specs.Layers.{entries_of, with_run}
 use Rattle.delta_chain.proofs.LayerLaws.{rising-entries_of}
-use Rattle.page_runs.proofs.NetLaws.{Pairs, Changes, rising-net_run}
+use Rattle.page_runs.proofs.NetLaws.{Pairs, Changes}
 use Rattle.page_runs.specs.NetRun.{net_run}
 use Rattle.page_runs.specs.Replies.{commands_at}
 use Rattle.page_runs.proofs.Replays.{place_within, read_place_within, commands_at-take, changes_step, map_step, pieces_step}
 use Rattle.page_runs.proofs.replay.replay.Goals as goal
-
-pub execute-requires-clause-rising : goal.execute-requires-clause-rising
-execute-requires-clause-rising c =
-    rw c.loop-place.invariant.changes (rising-net_run (entries_of c.args.page.now) (commands_at c.args.commands.now (take c.loop-place.place-index c.args.places.now)))
 
 pub loop-place-preserved : goal.loop-place-preserved
 loop-place-preserved c =
@@ -24,8 +20,8 @@ loop-place-preserved c =
     let place : ℕ = get_or places i 0 in
     let command : Command Global = c.index-commands-place.result in
     let held : Pairs = entries_of c.args.page.now in
-    let before : Changes = c.loop-place.changes.entries in
-    let after : Changes = c.execute.new.changes.entries in
+    let before : Changes = c.loop-place.changes in
+    let after : Changes = c.execute.new.changes in
     let rising : IsRising held = rising-entries_of c.args.page.now c.depth-in_order.ensures.rising in
     let here : slice_get places i ≡ Some place = slice_get-get_or places i 0 (omega arith) in
     let within : place < length batch = place_within batch places i place c.requires here in

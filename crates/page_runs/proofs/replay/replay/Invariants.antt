@@ -11,8 +11,8 @@ use Rattle.page_runs.proofs.replay.replay.Given as goal
 -- changes, are all the pieces; and there is room for these
 abbrev pub invariant-loop-place : goal.invariant-loop-place
 invariant-loop-place l = record {
-  changes : l.changes.entries ≡ net_run (entries_of l.page) (commands_at l.commands (take l.place-index l.places));
-  pieces : l.pieces.items ++ pieces_of (drop l.place-index l.places) (replies_to (map_by_now l.page l.changes.entries) (commands_at l.commands (drop l.place-index l.places)))
+  changes : l.changes ≡ net_run (entries_of l.page) (commands_at l.commands (take l.place-index l.places));
+  pieces : l.pieces.items ++ pieces_of (drop l.place-index l.places) (replies_to (map_by_now l.page l.changes) (commands_at l.commands (drop l.place-index l.places)))
       ≡ pieces_of l.places (replies_to (entries_of l.page) (commands_at l.commands l.places));
   count : vec_len l.pieces ≡ l.place-index;
   room : vec_capacity l.pieces ≡ length l.places;

@@ -1,5 +1,7 @@
 use Rattle.std.proofs.Common.{◌<◌, length, refl, arith}
-use Rattle.routing.proofs.BatchOrder.{once_at, order_step, same_order}
+use Rattle.routing.proofs.BatchOrder.{order_step, same_order}
+use Rattle.routing.specs.Shares.{HasEachPlaceOnce}
+use Rattle.routing.proofs.ShareLaws.{share_at}
 use Rattle.routing.proofs.SliceLaws.{rising_once_sorted}
 use Rattle.routing.proofs.descent.each_in_batch_order.Goals as goal
 
@@ -13,4 +15,4 @@ pub new-requires : goal.new-requires
 new-requires c =
     let places = c.in_ok-places.ensures in
     let within : c.loop-share.share-index < length c.args.shares.now = omega arith in
-    rising_once_sorted _ _ (once_at c.args.shares.now c.loop-share.share-index _ within c.requires) places.same places.rising
+    rising_once_sorted _ _ (share_at HasEachPlaceOnce c.args.shares.now c.loop-share.share-index _ within c.requires) places.same places.rising

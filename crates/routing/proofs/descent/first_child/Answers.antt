@@ -1,26 +1,29 @@
-use Rattle.std.proofs.Common.{◌≡◌, ℕ, List, Option, length, Some, None, ap}
-use Rattle.routing.proofs.ShareLaws.{none_cut, first_share_at}
+use Rattle.std.proofs.Common.{length, Some, None, refl}
+use Rattle.routing.proofs.ShareLaws.{none_cut, child_for_first, parted_keyed, first_share_at, lone_share_at}
 use Rattle.routing.proofs.descent.first_child.Goals as goal
 
-pid_of : (p q : ℕ × Option (List ℕ)) → p ≡ q → p.0 ≡ q.0
-pid_of p q h = ap (λ (r : ℕ × Option (List ℕ)). r.0) h
+pub child_for-requires : goal.child_for-requires
+child_for-requires c = child_for_first c.requires.ready.0 c.args.page.now c.args.keyed.now _ c.requires.some c.requires.ready.1
 
-end_of : (p q : ℕ × Option (List ℕ)) → p ≡ q → p.1 ≡ q.1
-end_of p q h = ap (λ (r : ℕ × Option (List ℕ)). r.1) h
+pub child_with_end-pid-requires : goal.child_with_end-pid-requires
+child_with_end-pid-requires c = child_for_first c.requires.ready.0 c.args.page.now c.args.keyed.now _ c.requires.some c.requires.ready.1
+
+pub count_below-requires : goal.count_below-requires
+count_below-requires c = parted_keyed c.requires.ready.0 c.args.page.now c.args.keyed.now c.in-Some.end.now c.requires.ready.1
+
+pub returns-then-keyed-eq1-clause-first : goal.returns-then-keyed-eq1-clause-first
+returns-then-keyed-eq1-clause-first c = λ cs h. lone_share_at cs c.args.page.now c.args.keyed.now c.child_for.result _ c.if-keyed-eq1.true h (c.child_for.ensures None refl)
 
 pub returns-in-Some-clause-some : goal.returns-in-Some-clause-some
 returns-in-Some-clause-some c =
-    (first_share_at c.args.commands.now c.args.page.now c.args.places.now c.count_below.result c.key_at.result.now c.child_with_end-pid.result.0 (Some c.in-Some.end.now)
-    c.requires.some c.key_at.ensures c.requires.ready (pid_of _ _ c.child_with_end-pid.ensures.child) (rw c.in-Some.is at (end_of _ _ c.child_with_end-pid.ensures.child))
+    (first_share_at c.requires.ready.0 c.args.page.now c.args.keyed.now c.count_below.result c.child_with_end-pid.result.0 (Some c.in-Some.end.now) _ c.requires.some c.requires.ready.1 (rw c.in-Some.is at c.child_with_end-pid.ensures.child)
     (record { before = c.count_below.ensures.below; behind = c.count_below.ensures.others })).0
 
 pub returns-in-Some-clause-first : goal.returns-in-Some-clause-first
-returns-in-Some-clause-first c =
-    (first_share_at c.args.commands.now c.args.page.now c.args.places.now c.count_below.result c.key_at.result.now c.child_with_end-pid.result.0 (Some c.in-Some.end.now)
-    c.requires.some c.key_at.ensures c.requires.ready (pid_of _ _ c.child_with_end-pid.ensures.child) (rw c.in-Some.is at (end_of _ _ c.child_with_end-pid.ensures.child))
+returns-in-Some-clause-first c = λ cs h.
+    (first_share_at cs c.args.page.now c.args.keyed.now c.count_below.result c.child_with_end-pid.result.0 (Some c.in-Some.end.now) _ c.requires.some h (rw c.in-Some.is at c.child_with_end-pid.ensures.child)
     (record { before = c.count_below.ensures.below; behind = c.count_below.ensures.others })).1
 
 pub returns-in-None-clause-first : goal.returns-in-None-clause-first
-returns-in-None-clause-first c =
-    (first_share_at c.args.commands.now c.args.page.now c.args.places.now (length c.args.places.now) c.key_at.result.now c.child_with_end-pid.result.0 None
-    c.requires.some c.key_at.ensures c.requires.ready (pid_of _ _ c.child_with_end-pid.ensures.child) (rw c.in-None.is at (end_of _ _ c.child_with_end-pid.ensures.child)) (none_cut c.args.commands.now c.args.places.now)).1
+returns-in-None-clause-first c = λ cs h.
+    (first_share_at cs c.args.page.now c.args.keyed.now (length c.args.keyed.now) c.child_with_end-pid.result.0 None _ c.requires.some h (rw c.in-None.is at c.child_with_end-pid.ensures.child) (none_cut cs c.args.keyed.now)).1

@@ -1,29 +1,25 @@
-use Rattle.std.proofs.Common.{◌≡◌, List, length, ap, sym, ◌∙◌, ◌++◌, append-nil, eqb-true, take, drop}
-use Rattle.routing.specs.Routes.{Route}
-use Rattle.routing.specs.Shares.{lent_shares, handed_down}
-use Rattle.routing.proofs.ShareLaws.{same_route, push_share, still_handed, nothing_left}
+use Rattle.std.proofs.Common.{◌+◌, refl, arith}
+use Rattle.std.proofs.lemmas.List.{take_rest}
+use Rattle.routing.proofs.ShareLaws.{rest_keyed, hand_step, keys_step, all_handed}
 use Rattle.routing.proofs.descent.hand_down.Goals as goal
 
-pub loop-rest-preserved : goal.loop-rest-preserved
-loop-rest-preserved c =
-    let cs = c.args.commands.now in
-    let page = c.args.page.now in
-    let rest = c.loop-rest.rest.now in
-    let n = c.first_child-pid.result.1 in
-    rw c.split_at.ensures.back (record {
-      shares =
-          push_share c.loop-rest.below.items c.push.new.self.items _ _ (handed_down cs page rest) (handed_down cs page (drop n rest)) c.in_ok-push.ensures.items
-          (same_route c.pid.inside.0 c.first_child-pid.result.0 c.split_at.result.0.now (take n rest) c.pid.view_is c.split_at.ensures.front)
-          c.first_child-pid.ensures.first
-          ∙ c.loop-rest.invariant.shares;
-      ready = still_handed cs page rest n c.loop-rest.invariant.ready;
-    })
+pub first_child-pid-requires-clause-ready : goal.first_child-pid-requires-clause-ready
+first_child-pid-requires-clause-ready c = (c.requires.0, rest_keyed c.requires.0 c.args.page.now c.args.keyed.now _ c.loop-start.start (take_rest c.args.keyed.now c.loop-start.start) c.requires.1)
 
-pub returns : goal.returns
-returns c =
-    let cs = c.args.commands.now in
+pub loop-start-preserved : goal.loop-start-preserved
+loop-start-preserved c =
     let page = c.args.page.now in
-    let rest = c.loop-rest.rest.now in
-    let old = lent_shares c.loop-rest.below.items in
-    let none : length rest ≡ 0 = eqb-true (length rest) 0 (sym c.loop-rest-test.ensures) in
-    sym (append-nil old) ∙ ap (λ (rs : List Route). old ++ rs) (sym (nothing_left cs page rest none)) ∙ c.loop-rest.invariant.shares
+    let es = c.args.keyed.now in
+    let start = c.loop-start.start in
+    let n = c.first_child-pid.result.1 in
+    let rest = take_rest es start in
+    let old = c.loop-start.below.items in
+    let new = c.push.new.self.items in
+    record {
+      most = omega arith;
+      shares = λ cs h. hand_step cs page es _ start n (start + n) c.first_child-pid.result.0 old new _ _ rest refl c.pid.view_is refl c.in_ok-push.ensures.items (c.first_child-pid.ensures.first cs (rest_keyed cs page es _ start rest h)) (c.loop-start.invariant.shares cs h);
+      keys = λ cs h k. keys_step cs es start (start + n) old new _ refl c.in_ok-push.ensures.items h.keys (c.loop-start.invariant.keys cs h k);
+    }
+
+pub returns-clause-shares : goal.returns-clause-shares
+returns-clause-shares c = λ cs h. all_handed cs c.args.page.now c.args.keyed.now c.loop-start.start c.loop-start.below.items _ c.loop-start-test.false (c.loop-start.invariant.shares cs h)

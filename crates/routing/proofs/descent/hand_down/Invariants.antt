@@ -1,13 +1,17 @@
-use Rattle.std.proofs.Common.{◌≡◌, ◌++◌, length}
-use Rattle.routing.specs.Shares.{lent_shares, handed_down, CanHandDown}
+use Rattle.std.proofs.Common.{◌≡◌, ◌≤◌, ◌-◌, ◌++◌, List, length, drop}
+use Rattle.std.specs.declared.alloc.Global.{Global}
+use Rattle.keys.specs.declared.command.Command.{Command}
+use Rattle.routing.specs.Keyed.{places_of}
+use Rattle.routing.specs.Shares.{lent_shares, handed_down, CanHandDownKeyed, AreKeyedShares}
 use Rattle.routing.proofs.descent.hand_down.Given as goal
 
 -- what is below so far, and what the rest will be, is what there was, and what all places will be
-abbrev pub invariant-loop-rest : goal.invariant-loop-rest
-invariant-loop-rest l = record {
-  shares : lent_shares l.below.items ++ handed_down l.commands l.page l.rest ≡ lent_shares l.initial.below.items ++ handed_down l.commands l.page l.fn.places;
-  ready : CanHandDown l.commands l.page l.rest;
+abbrev pub invariant-loop-start : goal.invariant-loop-start
+invariant-loop-start l = record {
+  most : l.start ≤ length l.keyed;
+  shares : (cs : List (Command Global)) → CanHandDownKeyed cs l.page l.keyed → lent_shares l.below.items ++ handed_down cs l.page (places_of (drop l.start l.keyed)) ≡ lent_shares l.initial.below.items ++ handed_down cs l.page (places_of l.keyed);
+  keys : (cs : List (Command Global)) → CanHandDownKeyed cs l.page l.keyed → AreKeyedShares cs l.initial.below.items → AreKeyedShares cs l.below.items;
 }
 
-abbrev pub decreases-loop-rest : goal.decreases-loop-rest
-decreases-loop-rest l = length l.rest
+abbrev pub decreases-loop-start : goal.decreases-loop-start
+decreases-loop-start l = length l.keyed - l.start

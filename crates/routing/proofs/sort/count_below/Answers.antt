@@ -1,24 +1,26 @@
-use Rattle.std.proofs.Common.{◌≡◌, true, false, rules, of_calls}
+use Rattle.std.proofs.Common.{◌≡◌, ◌+◌, true, false, take, drop, rules, of_calls}
+use Rattle.std.specs.List.{AllByRecursion, slice_range}
 use Rattle.std.proofs.lemmas.List.Sorted.{IsPartitionPoint-from_clause}
-use Rattle.index_page.specs.Range.{is_below}
-use Rattle.routing.specs.BatchKeys.{key_at}
-use Rattle.routing.proofs.SliceLaws.{parted_by_key, all_before, all_behind}
+use Rattle.routing.specs.Keyed.{has_key_below}
+use Rattle.routing.proofs.SliceLaws.{parted_part, cut_at}
 use Rattle.routing.proofs.sort.count_below.Goals as goal
 
-pub returns-clause-below : goal.returns-clause-below
-returns-clause-below g c =
-    let cs = c.args.commands.now in
-    let ps = c.args.places.now in
-    let end = c.args.key.now in
+-- what stands before the count is below the key, and what stands behind isn't
+cut : (c : goal.After-partition_point) → (let n = c.bounds_of_count-low.result.0 + c.partition_point.result in
+    AllByRecursion (λ entry. has_key_below c.args.key.now entry ≡ true) (take n c.args.keyed.now)
+    × AllByRecursion (λ entry. has_key_below c.args.key.now entry ≡ false) (drop n c.args.keyed.now))
+cut c =
+    let es = c.args.keyed.now in
+    let below = has_key_below c.args.key.now in
+    let low = c.bounds_of_count-low.result.0 in
+    let high = c.bounds_of_count-low.result.1 in
+    let bounds = c.bounds_of_count-low.ensures in
     let n = c.partition_point.result in
-    let point = IsPartitionPoint-from_clause (λ place. is_below (key_at cs place) end) ps n c.partition_point.ensures.partitioned (parted_by_key cs end ps c.requires) (λ a r q k. search (rules, of_calls)) in
-    all_before (λ place. is_below (key_at cs place) end ≡ true) (λ place. is_below (key_at cs place) end ≡ false) ps n point c.partition_point.ensures.bound
+    let point = IsPartitionPoint-from_clause below (slice_range es low high) n c.partition_point.ensures.partitioned (parted_part below es low high c.requires bounds.most) (λ a r q k. search (rules, of_calls)) in
+    cut_at below es low high n bounds.order bounds.most bounds.below bounds.others c.partition_point.ensures.bound point
+
+pub returns-clause-below : goal.returns-clause-below
+returns-clause-below c = (cut c).0
 
 pub returns-clause-others : goal.returns-clause-others
-returns-clause-others g c =
-    let cs = c.args.commands.now in
-    let ps = c.args.places.now in
-    let end = c.args.key.now in
-    let n = c.partition_point.result in
-    let point = IsPartitionPoint-from_clause (λ place. is_below (key_at cs place) end) ps n c.partition_point.ensures.partitioned (parted_by_key cs end ps c.requires) (λ a r q k. search (rules, of_calls)) in
-    all_behind (λ place. is_below (key_at cs place) end ≡ true) (λ place. is_below (key_at cs place) end ≡ false) ps n point c.partition_point.ensures.bound
+returns-clause-others c = (cut c).1

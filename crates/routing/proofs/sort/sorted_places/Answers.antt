@@ -1,19 +1,23 @@
-use Rattle.std.proofs.Common.{◌≡◌, ℕ, List, length, Bor, arith, ◌∙◌}
+use Rattle.std.proofs.Common.{◌≡◌, ◌++◌, length, take, drop, arith}
 use Rattle.std.specs.List.Sorted.{IsPermutation}
 use Rattle.std.proofs.lemmas.List.{take_at}
-use Rattle.rayon.proofs.ListFacts.{IfOk-then}
-use Rattle.routing.proofs.SortLaws.{places_of_sorted}
+use Rattle.routing.specs.Keyed.{Keyed}
+use Rattle.routing.proofs.SortLaws.{places_of_sorted, keyed_sorted}
+use Rattle.routing.proofs.sort.sorted_places.Given as given
 use Rattle.routing.proofs.sort.sorted_places.Goals as goal
 
-pub returns : goal.returns
-returns g c =
-    let cs = c.args.commands.now in
-    let key = λ (entry : Bor (List ℕ) × ℕ). entry.0.now in
-    let place = λ (entry : Bor (List ℕ) × ℕ). entry.1 in
-    let was = c.in_ok-keyed.keyed.items in
-    let given : c.deref_mut.result.now ≡ was = c.deref_mut.ensures.value in
-    let moved : IsPermutation was c.sort_keyed.new.keyed = rw given at c.sort_keyed.ensures.permutation in
-    let sorted = places_of_sorted cs key place was c.sort_keyed.new.keyed c.in_ok-keyed.ensures.places c.in_ok-keyed.ensures.keys moved c.sort_keyed.ensures.sorted in
+-- what the sort leaves is what is answered, and has what was there
+sorted : (g : given.Over) (c : goal.After-keyed-3-1 g) → (let was = c.in_ok-keyed.keyed.items in let new = c.sort_keyed.new.keyed in IsPermutation was new × (take c.in_ok-keyed.keyed.len (new ++ drop (length new) was) ≡ new))
+sorted g c =
     let many : length c.sort_keyed.new.keyed ≡ c.in_ok-keyed.keyed.len = omega arith in
-    let same : c.deref.result.now ≡ c.sort_keyed.new.keyed = c.deref.ensures.value ∙ take_at c.sort_keyed.new.keyed _ c.in_ok-keyed.keyed.len many in
-    IfOk-then c.places_of.result _ _ c.places_of.ensures (λ v h. rw (h, same) sorted)
+    (rw c.deref_mut.ensures.value at c.sort_keyed.ensures.permutation, take_at c.sort_keyed.new.keyed _ c.in_ok-keyed.keyed.len many)
+
+pub returns-clause-sorted : goal.returns-clause-sorted
+returns-clause-sorted g c =
+    let s = sorted g c in
+    rw s.1 (places_of_sorted c.args.commands.now (λ (entry : Keyed). entry.0.now) (λ (entry : Keyed). entry.1) c.in_ok-keyed.keyed.items c.sort_keyed.new.keyed c.in_ok-keyed.ensures.places c.in_ok-keyed.ensures.keys s.0 c.sort_keyed.ensures.sorted)
+
+pub returns-clause-keys : goal.returns-clause-keys
+returns-clause-keys g c =
+    let s = sorted g c in
+    rw s.1 (keyed_sorted c.args.commands.now (λ (entry : Keyed). entry.0.now) (λ (entry : Keyed). entry.1) c.in_ok-keyed.keyed.items c.sort_keyed.new.keyed c.in_ok-keyed.ensures.keys s.0)

@@ -1,0 +1,15 @@
+mod ByteRowEight
+mod ByteRowEleven
+mod ByteRowFive
+mod ByteRowFour
+mod ByteRowSeven
+mod ByteRowSix
+mod ByteRowTen
+mod ByteRowTwelve
+pub mod CodecLaws
+pub mod FrameLaws
+pub mod ReadLaws
+mod RefusedRows
+mod RowForms
+pub mod SizeLaws
+pub mod WithinLaws

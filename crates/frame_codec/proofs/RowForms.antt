@@ -1,0 +1,29 @@
+-- How the rows of bytes are written down: bytes by their hexadecimal digits, keys and values by their letters.
+use Rattle.std.specs.Prelude.{◌≡◌, ℕ, ◌+◌, ◌*◌, ◌==◌, not, List, [], ◌∷◌, ◌++◌, Some, None, codes}
+use Prim.Native.String.{String}
+use Rattle.std.specs.List.{filter}
+use Rattle.std.specs.Char.{digit_value}
+use Rattle.keys.specs.declared.settings.Settings.{Settings}
+use Rattle.frame_codec.specs.Frame.{Frame, bytes_of}
+use Rattle.frame_codec.specs.Reading.{read_frame}
+
+abbrev pub small : Settings
+small = record { fan = 4; chain = 2; max_key = 16; max_value = 16; seg_size = 256; segments = 4 }
+
+-- the bytes that digits stand for, two digits each
+abbrev by_two : List ℕ → List ℕ
+by_two [] = []
+by_two (c ∷ []) = []
+by_two (c ∷ d ∷ ds) = (16 * digit_value c + digit_value d) ∷ by_two ds
+
+-- the same of a text, whose spaces are passed over
+abbrev pub hex : String → List ℕ
+hex text = by_two (filter (λ c. not (c == 32)) (codes text))
+
+-- the frame's bytes are these, and it is read from them, also with more behind them
+abbrev pub IsSpelled : Frame → String → Type 0
+IsSpelled f text = (bytes_of f ≡ hex text) × (read_frame small (hex text ++ 7 ∷ 8 ∷ []) ≡ Some (f, 7 ∷ 8 ∷ []))
+
+-- the bytes begin with no frame
+abbrev pub IsRefused : String → Type 0
+IsRefused text = read_frame small (hex text) ≡ None

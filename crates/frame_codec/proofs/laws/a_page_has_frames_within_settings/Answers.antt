@@ -1,0 +1,5 @@
+use Rattle.frame_codec.proofs.WithinLaws.{leaf_within, index_within}
+use Rattle.frame_codec.proofs.laws.a_page_has_frames_within_settings.Goals as goal
+
+pub returns : goal.returns
+returns c = record { leaf = leaf_within; index_page = index_within }

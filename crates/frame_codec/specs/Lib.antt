@@ -1,0 +1,4 @@
+pub mod Codecs
+pub mod Frame
+pub mod Reading
+pub mod Sizes

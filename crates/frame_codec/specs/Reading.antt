@@ -1,0 +1,34 @@
+-- Which frame bytes begin with: as a fact, and as a reader.
+use Rattle.std.specs.Prelude.{◌≡◌, ℕ, ◌+◌, true, ◌==◌, if◌then◌else◌, List, ◌++◌, length, Option, Some, None}
+use Rattle.keys.specs.Cells.{read_on, read_as, read_where, value_cell, pid_cell}
+use Rattle.keys.specs.declared.settings.Settings.{Settings}
+use Rattle.frame_codec.specs.Frame.{Content, Frame, full, delta, content_bytes, header, bytes_of, is_within}
+use Rattle.frame_codec.specs.Frame.Content.{FullLeaf, DeltaLeaf, FullIndex, DeltaIndex, Free}
+
+-- the bytes begin with this frame, which is within the settings, and the rest stands behind it
+pub record BeginsWith (s : Settings) (bs : List ℕ) (f : Frame) (rest : List ℕ) : Type 0 where
+  pub within : is_within s f ≡ true
+  pub bytes : bs ≡ bytes_of f ++ rest
+
+-- the content of a frame of this kind
+abbrev pub read_content : ℕ → List ℕ → Option (Content × List ℕ)
+read_content kind bs =
+    if kind == 1 then read_as (λ p. FullLeaf p.0 p.1) ((full value_cell).read bs) else
+    (if kind == 2 then read_as (λ run. DeltaLeaf run) ((delta value_cell).read bs) else
+    (if kind == 3 then read_as (λ p. FullIndex p.0 p.1) ((full pid_cell).read bs) else
+    (if kind == 4 then read_as (λ run. DeltaIndex run) ((delta pid_cell).read bs) else
+    (if kind == 5 then Some (Free, bs) else None))))
+
+-- the frame whose header this is, where its content has just the length that the header tells
+abbrev pub read_behind : (ℕ × ℕ) × ℕ → List ℕ → Option (Frame × List ℕ)
+read_behind h bs =
+    read_as (λ c. record { pid = h.1; content = c })
+    (read_where (λ c. h.0.1 == 8 + length (content_bytes c)) (read_content h.0.0 bs))
+
+-- the frame that the bytes begin with, whatever the settings
+abbrev pub read_any : List ℕ → Option (Frame × List ℕ)
+read_any bs = read_on (header.read bs) read_behind
+
+-- the frame within the settings that the bytes begin with, and the bytes behind it
+abbrev pub read_frame : Settings → List ℕ → Option (Frame × List ℕ)
+read_frame s bs = read_where (is_within s) (read_any bs)

@@ -1,0 +1,8 @@
+//! What a frame of the log is: what each kind says of a page, its bytes, and which frames a store with given settings may
+//! have. So far there are the definitions, in `specs/`, and the laws on them.
+//!
+//! Laws: a frame is read back from its bytes; no frame's bytes begin another's; what is read is what stands there; how many
+//! bytes a frame has; the base and the runs of a page are frames. The same of cells.
+#![tactic(auto)]
+
+pub mod laws;

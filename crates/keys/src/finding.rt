@@ -1,0 +1,29 @@
+use crate::pid::Pid;
+use std::fmt;
+use std::marker::Model;
+
+/// A rule of the structure of a tree that doesn't hold, by its number (2 to 10), and the page that breaks it. It prints
+/// as the rule and the page id, in decimal. Contracts see it as a `Finding` of the definitions.
+#[derive(Clone, Copy, Debug, PartialEq, Eq)]
+pub struct Finding {
+    /// The number of the rule.
+    pub rule: u32,
+    /// The page that breaks it; for rule 2, which says that there is such a page, the page id.
+    pub pid: Pid,
+}
+
+impl Model for Finding {
+    ghost use Rattle.keys.specs.Finding as found;
+
+    ghost Value = { found.Finding };
+
+    ghost view = { λ f. record { rule = f.rule; pid = f.pid } };
+
+    ghost inverse = { λ f. record { rule = f.rule; pid = f.pid } };
+}
+
+impl fmt::Display for Finding {
+    fn fmt<W: fmt::Write>(&self, f: &mut fmt::Formatter<W>) -> fmt::Result {
+        write!(f, "{} {}", self.rule, self.pid.0)
+    }
+}

@@ -1,0 +1,143 @@
+//! What the commands of a leaf have changed so far.
+ghost use Rattle.std.specs.Prelude.{◌≡◌, [], IfOk, OnOk};
+ghost use Rattle.std.specs.Option.{option_copied};
+ghost use Rattle.keys.specs.OrderedMap.{value_at, with_pair};
+ghost use Rattle.delta_chain.specs.Layers.{IsInOrder};
+ghost use Rattle.page_runs.specs.Replay.{map_by_now};
+
+use delta_chain::{Chain, PushError, Run};
+use keys::{Key, Value};
+use page_search::{Probes, find};
+use std::alloc::{AllocError, Global};
+use std::collections::BTreeMap;
+use std::marker::Model;
+
+pub(crate) type Leaf = Chain<Value<Global>, Global>;
+
+pub(crate) type LeafRun = Run<Value<Global>, Global>;
+
+type ChangeMap = BTreeMap<Key<Global>, Option<Value<Global>>, Global>;
+
+// Up to this many commands, a key that goes between others moves at most 31 changes, some two kilobytes. That is no
+// slower than a map's search, and the first node of a map has 640 bytes, which most leaves would need for one change.
+const FEW: usize = 32;
+
+/// The touched keys, each with its value now, or none where it is absent now. Contracts see them as a run, which lies
+/// over the page. They are kept in one of two ways, by the number of commands: a few in the run itself, which takes the
+/// least memory, but makes room for a key by moving all those above it; and many in a map, since a run that is built
+/// out of order takes time by the square of its length. Without changes neither takes memory.
+#[derive(Drop)]
+pub(crate) struct Changes {
+    kept: Kept,
+}
+
+#[derive(Drop)]
+enum Kept {
+    Few(LeafRun),
+    Many(ChangeMap),
+}
+
+impl Model for Changes {
+    ghost use Rattle.std.specs.Prelude.{List, ℕ, Option};
+
+    ghost Value = { List (List ℕ × Option (List ℕ)) };
+
+    ghost use Rattle.page_runs.specs.Changes.{changes_of};
+
+    ghost view = { λ c. changes_of c.kept };
+}
+
+impl Changes {
+    /// No changes, before this many commands.
+    pub(crate) fn for_commands(alloc: Global, count: usize) -> Self
+        ensures { result ≡ [] }
+    {
+        let kept = if count <= FEW {
+            Kept::Few(Run::empty(alloc))
+        } else {
+            Kept::Many(BTreeMap::new(alloc))
+        };
+        Changes { kept }
+    }
+
+    /// What the key has on the page by now: what the changes say of it, else what the page holds.
+    pub(crate) fn value_now<'a>(
+        &'a self,
+        page: &'a Leaf,
+        key: &Key<Global>,
+    ) -> Option<&'a Value<Global>>
+        requires { IsInOrder page.now }
+        ensures { option_copied result ≡ value_at key.now (map_by_now page.now self.now) }
+    {
+        // `len` is called only for the proof: it says that the keys rise.
+        match &self.kept {
+            Kept::Few(run) => {
+                let _rising = run.len();
+                if let Some(at) = run.place(key.as_bytes()) {
+                    return run.change(at);
+                }
+            }
+            Kept::Many(map) => {
+                let _rising = map.len();
+                if let Some(change) = map.get(key) {
+                    return change.as_ref();
+                }
+            }
+        }
+        find(page, key.as_bytes(), &mut Probes::new())
+    }
+
+    /// Sets what the changes say of the key.
+    pub(crate) fn note(
+        &mut self,
+        alloc: Global,
+        key: &Key<Global>,
+        value: Option<&Value<Global>>,
+    ) -> Result<(), AllocError>
+        ensures { OnOk result (self.new ≡ with_pair self.old key.now (option_copied value.entry)) }
+    {
+        let key = key.copy(alloc)?;
+        let change = match value {
+            Some(value) => Some(value.copy(alloc)?),
+            None => None,
+        };
+        match &mut self.kept {
+            Kept::Few(run) => {
+                // A run keeps its room while it stands in front of the page, and most leaves get one change.
+                if run.len() == 0 {
+                    *run = Run::with_capacity(alloc, 1)?;
+                }
+                run.set(key, change)
+            }
+            Kept::Many(map) => {
+                map.insert(key, change)?;
+                Ok(())
+            }
+        }
+    }
+
+    /// The changes as a run.
+    pub(crate) fn into_run(self, alloc: Global) -> Result<LeafRun, AllocError>
+        ensures { IfOk result (λ run. run ≡ self) }
+    {
+        let Changes { kept } = self;
+        match kept {
+            Kept::Few(run) => Ok(run),
+            Kept::Many(map) => run_of(alloc, map),
+        }
+    }
+}
+
+fn run_of(alloc: Global, map: ChangeMap) -> Result<LeafRun, AllocError>
+    ensures { IfOk result (λ run. run ≡ map.entries) }
+{
+    let mut run = Run::with_capacity(alloc, map.len())?;
+    for (key, change) in map {
+        match run.push(key, change) {
+            Ok(()) => {}
+            Err(PushError::NoMemory) => return Err(AllocError),
+            Err(PushError::OutOfOrder) => unreachable!(),
+        }
+    }
+    Ok(run)
+}

@@ -1,0 +1,66 @@
+-- The nearest key on one side of a key.
+use Rattle.std.specs.Prelude.{◌≡◌, ℕ, ◌<◌, ◌≤◌, Bool, true, false, not, List, [], ◌∷◌, length, slice_get, Option, Some, None}
+use Rattle.std.specs.Option.{option_map, option_or}
+use Rattle.std.specs.Ordering.{is_lt}
+use Rattle.std.specs.declared.cmp.Ordering.{Ordering}
+use Rattle.std.specs.declared.cmp.Ordering.TheVariants.{Less}
+use Rattle.keys.specs.Order.{order}
+use Rattle.keys.specs.OrderedMap.{value_at}
+use Rattle.page_search.specs.declared.side.Side.{Side}
+use Rattle.page_search.specs.declared.side.Side.TheVariants.{UpTo, Below, Above}
+
+-- whether j is on this side of k
+abbrev pub is_on : Side → List ℕ → List ℕ → Bool
+is_on UpTo k j = not (is_lt (order k j))
+is_on Below k j = is_lt (order j k)
+is_on Above k j = is_lt (order k j)
+
+-- how two keys on this side of a third stand to each other, the nearer one being the greater
+abbrev pub nearness : Side → List ℕ → List ℕ → Ordering
+nearness UpTo i j = order i j
+nearness Below i j = order i j
+nearness Above i j = order j i
+
+-- the same side of a key that lies on this side, without that key
+abbrev pub past : Side → Side
+past UpTo = Below
+past Below = Below
+past Above = Above
+
+-- whether the keys on this side are the first ones of a list
+abbrev pub are_first : Side → Bool
+are_first UpTo = true
+are_first Below = true
+are_first Above = false
+
+-- what the newest of the runs and the base that names the key says of it: a value, or absence
+abbrev pub named_under : {V : Type 0} → List ℕ → List (List (List ℕ × Option V)) → List (List ℕ × V) → Option (Option V)
+named_under k [] base = option_map Some (value_at k base)
+named_under k (run ∷ runs) base = option_or (value_at k run) (named_under k runs base)
+
+-- j is on this side of k and has this item, and no key on this side that is nearer has one
+pub record IsNearestWith {T : Type 0} (s : Side) (k : List ℕ) (at : List ℕ → Option T) (j : List ℕ) (item : T) : Type 0 where
+  pub on : is_on s k j ≡ true
+  pub has : at j ≡ Some item
+  pub none_nearer : (i : List ℕ) → is_on s k i ≡ true → nearness s j i ≡ Less → at i ≡ None
+
+-- the nearest key on this side that has an item, with that item; or none has one
+abbrev pub IsNearest : {T : Type 0} → Side → List ℕ → (List ℕ → Option T) → Option (List ℕ × T) → Type 0
+IsNearest s k at None = (i : List ℕ) → is_on s k i ≡ true → at i ≡ None
+IsNearest s k at (Some e) = IsNearestWith s k at e.0 e.1
+
+-- none of the keys is on this side of k
+abbrev pub HasNoneOn : Side → List ℕ → List (List ℕ) → Type 0
+HasNoneOn s k ks = (m : ℕ) (i : List ℕ) → slice_get ks m ≡ Some i → is_on s k i ≡ false
+
+-- the key at this place is on this side of k, and none of the keys that is nearer is
+pub record IsNearestPlace (s : Side) (k : List ℕ) (ks : List (List ℕ)) (at : ℕ) : Type 0 where
+  pub within : at < length ks
+  pub on : (j : List ℕ) → slice_get ks at ≡ Some j → is_on s k j ≡ true
+  pub none_nearer : (m : ℕ) (i j : List ℕ) → slice_get ks at ≡ Some j → slice_get ks m ≡ Some i → nearness s j i ≡ Less → is_on s k i ≡ false
+
+-- the keys on this side of k are those before this place, or they are those from it on
+pub record Parts (s : Side) (k : List ℕ) (ks : List (List ℕ)) (at : ℕ) : Type 0 where
+  pub within : at ≤ length ks
+  pub before : (m : ℕ) (i : List ℕ) → m < at → slice_get ks m ≡ Some i → is_on s k i ≡ are_first s
+  pub from : (m : ℕ) (i : List ℕ) → at ≤ m → slice_get ks m ≡ Some i → is_on s k i ≡ not (are_first s)

@@ -1,0 +1,125 @@
+//! Search for the entry that is nearest to a key on one side of it.
+ghost use Rattle.std.specs.Prelude.{◌≡◌, ◌≤◌, MatchOption};
+ghost use Rattle.std.specs.Option.{option_copied, option_map};
+ghost use Rattle.keys.specs.Order.{AreRisingKeys};
+ghost use Rattle.delta_chain.specs.Layers.{holds, entries_of};
+ghost use Rattle.page_search.specs.Above.{above};
+ghost use Rattle.page_search.specs.Floor.{floor};
+ghost use Rattle.page_search.specs.Nearest.{named_under, IsNearest, HasNoneOn, IsNearestPlace, Parts};
+
+use crate::probes::Probes;
+use crate::search::place;
+use crate::side::Side;
+use delta_chain::{Chain, Keyed};
+use std::alloc::Allocator;
+
+/// The page's last entry whose key isn't above this one, if there is one: its key and its cell. One walk over all runs and
+/// the base finds the nearest key that the page names, by halves in each; only where that key is absent does another walk
+/// look below it. It takes no memory.
+pub fn floor<'a, V, A: Allocator + Copy>(
+    chain: &'a Chain<V, A>,
+    key: &'a [u8],
+    probes: &mut Probes,
+) -> Option<(&'a [u8], &'a V)>
+    ensures value { option_map (λ e. (e.0.now, e.1.now)) result ≡ floor key.now (entries_of chain.now) }
+    ensures kept { probes.old ≤ probes.new }
+{
+    let _in_order = chain.depth();
+    nearest(chain, key, Side::UpTo, probes)
+}
+
+/// The page's first entry whose key is above this one, if there is one: its key and its cell. As `floor` does, it takes one
+/// walk for each named key that it comes upon, here upwards, and no memory.
+pub fn above<'a, V, A: Allocator + Copy>(
+    chain: &'a Chain<V, A>,
+    key: &[u8],
+    probes: &mut Probes,
+) -> Option<(&'a [u8], &'a V)>
+    ensures value { option_map (λ e. (e.0.now, e.1.now)) result ≡ above key.now (entries_of chain.now) }
+    ensures kept { probes.old ≤ probes.new }
+{
+    let _in_order = chain.depth();
+    nearest(chain, key, Side::Above, probes)
+}
+
+// The entry that is nearest to the key on this side of it: what the page says of the nearest key that it names, and where
+// that is absent, of the nearest one past it, and so on.
+fn nearest<'a, V, A: Allocator + Copy>(
+    chain: &'a Chain<V, A>,
+    key: &[u8],
+    side: Side,
+    probes: &mut Probes,
+) -> Option<(&'a [u8], &'a V)>
+    ensures value { IsNearest side key.now (holds chain.now) (option_map (λ e. (e.0.now, e.1.now)) result) }
+    ensures kept { probes.old ≤ probes.new }
+{
+    let mut bound = key;
+    let mut side = side;
+    loop {
+        let (found, said) = nearest_named(chain, bound, side, probes)?;
+        if let Some(cell) = said {
+            return Some((found, cell));
+        }
+        bound = found;
+        side = side.past();
+    }
+}
+
+// The nearest key on this side that the runs or the base name, and what the newest list that names it says of it: a cell,
+// or that it is absent.
+fn nearest_named<'a, V, A: Allocator + Copy>(
+    chain: &'a Chain<V, A>,
+    key: &[u8],
+    side: Side,
+    probes: &mut Probes,
+) -> Option<(&'a [u8], Option<&'a V>)>
+    ensures value { IsNearest side key.now (λ i. named_under i chain.now.runs chain.now.base) (option_map (λ e. (e.0.now, option_copied e.1)) result) }
+    ensures kept { probes.old ≤ probes.new }
+{
+    let Some((run, below)) = chain.newest() else {
+        let base = chain.base();
+        let at = nearest_place(base, key, side, probes)?;
+        return Some((base.key(at), Some(base.cell(at))));
+    };
+    let under = nearest_named(below, key, side, probes);
+    let Some(at) = nearest_place(run, key, side, probes) else {
+        return under;
+    };
+    let here = run.key(at);
+    match under {
+        Some(other) if side.is_nearer(other.0, here, probes) => Some(other),
+        _ => Some((here, run.change(at))),
+    }
+}
+
+// The place of the list's nearest key on this side.
+fn nearest_place<L: Keyed>(list: &L, key: &[u8], side: Side, probes: &mut Probes) -> Option<usize>
+    ensures place { MatchOption result (HasNoneOn side key.now (L.keys list.now)) (IsNearestPlace side key.now (L.keys list.now)) }
+    ensures rising { AreRisingKeys (L.keys list.now) }
+    ensures kept { probes.old ≤ probes.new }
+{
+    let count = list.len();
+    let cut = parting(list, key, side, probes);
+    match side {
+        Side::Above if cut < count => Some(cut),
+        Side::Above => None,
+        Side::UpTo | Side::Below => cut.checked_sub(1),
+    }
+}
+
+// The place that parts the keys on this side from the others: the first key that is above the one looked for, or for
+// `Below` isn't below it.
+fn parting<L: Keyed>(list: &L, key: &[u8], side: Side, probes: &mut Probes) -> usize
+    ensures place { Parts side key.now (L.keys list.now) result }
+    ensures kept { probes.old ≤ probes.new }
+{
+    // The length is looked up for what it bounds: a place among the keys is below it.
+    let _count = list.len();
+    match place(list, key, probes) {
+        Ok(at) => match side {
+            Side::UpTo | Side::Above => at + 1,
+            Side::Below => at,
+        },
+        Err(at) => at,
+    }
+}

@@ -1,0 +1,36 @@
+ghost use Rattle.std.specs.Prelude.{◌≡◌, ◌≤◌};
+ghost use Rattle.std.specs.Ordering.{is_lt};
+ghost use Rattle.page_search.specs.Nearest.{nearness, past};
+
+use crate::probes::Probes;
+
+// On which side of a key one looks for the nearest one. `UpTo` takes in the key itself.
+#[derive(Clone, Copy)]
+pub(crate) enum Side {
+    UpTo,
+    Below,
+    Above,
+}
+
+impl Side {
+    // The side on which the search goes on from a key that it has found on this side.
+    pub(crate) fn past(self) -> Side
+        ensures { result ≡ past self }
+    {
+        match self {
+            Side::UpTo | Side::Below => Side::Below,
+            Side::Above => Side::Above,
+        }
+    }
+
+    // Whether the first of two keys on this side of a third is the nearer one.
+    pub(crate) fn is_nearer(self, one: &[u8], other: &[u8], probes: &mut Probes) -> bool
+        ensures nearer { result ≡ is_lt (nearness self other.now one.now) }
+        ensures kept { probes.old ≤ probes.new }
+    {
+        match self {
+            Side::UpTo | Side::Below => probes.compare(other, one).is_lt(),
+            Side::Above => probes.compare(one, other).is_lt(),
+        }
+    }
+}

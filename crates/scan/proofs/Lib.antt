@@ -1,0 +1,6 @@
+mod CutLaws
+mod LeafLaws
+mod PathLaws
+mod RowLaws
+mod TreeLaws
+mod WalkLaws

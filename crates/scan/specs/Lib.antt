@@ -1,0 +1,4 @@
+pub mod Leaf
+pub mod Left
+pub mod Path
+pub mod Walk

@@ -1,0 +1,64 @@
+-- The way along a tree's leaves: a path of index pages, each with its children that are still to come.
+use Rattle.std.specs.Prelude.{◌≡◌, ℕ, zero, suc, ◌<◌, ⊤, List, [], ◌∷◌, ◌++◌, map, flat_map, length, Option, Some, None}
+use Rattle.std.specs.List.{AllByRecursion}
+use Rattle.std.specs.Map.{values_of}
+use Rattle.keys.specs.Order.{IsRising}
+use Rattle.delta_chain.specs.Layers.{Layers, entries_of}
+use Rattle.index_page.specs.Page.{PageOfKind, entries}
+use Rattle.index_page.specs.Page.PageOfKind.{Leaf, Index}
+use Rattle.index_page.specs.Children.{children_within}
+use Rattle.mapping.specs.Tree.{page_at}
+use Rattle.mapping.specs.Levels.{joined, as_leaf, as_index, index_at}
+
+-- the pids of children that are left, where there is such a list
+abbrev pub pids_of : Option (List (List ℕ × ℕ)) → List ℕ
+pids_of None = []
+pids_of (Some es) = values_of es
+
+-- the entries of the index page under a pid
+abbrev pub entries_at : List (ℕ × PageOfKind) → ℕ → List (List ℕ × ℕ)
+entries_at ps pid = entries (as_index (page_at ps pid))
+
+-- the pids of the leaves that are so many levels below these pages, in order
+abbrev pub leaves_under : List (ℕ × PageOfKind) → ℕ → List ℕ → List ℕ
+leaves_under ps zero pids = pids
+leaves_under ps (suc n) pids = leaves_under ps n (values_of (joined (map (index_at ps) pids)))
+
+-- what is found below the first of some children, and then all leaves that are below the others
+abbrev pub leaves_from_first : (List ℕ × ℕ → List ℕ) → (List ℕ → List ℕ) → List (List ℕ × ℕ) → List ℕ
+leaves_from_first first under [] = []
+leaves_from_first first under (e ∷ es) = first e ++ under (values_of es)
+
+-- of the leaves n levels below a page, those from a key on: below the first child whose range meets such keys, and behind it
+abbrev pub leaves_from : List (ℕ × PageOfKind) → ℕ → List ℕ → ℕ → List ℕ
+leaves_from ps zero key pid = pid ∷ []
+leaves_from ps (suc n) key pid = leaves_from_first (λ e. leaves_from ps n key e.1) (leaves_under ps n) (children_within key None (entries_at ps pid))
+
+-- a path, the children of the highest page first, where that is n levels above the leaves: the leaves that it leads to
+abbrev pub leaves_left : List (ℕ × PageOfKind) → ℕ → List (List ℕ) → List ℕ
+leaves_left ps n [] = []
+leaves_left ps zero (pids ∷ path) = []
+leaves_left ps (suc n) (pids ∷ path) = leaves_left ps n path ++ leaves_under ps n pids
+
+-- what the leaf under a pid holds, and the leaves under some pids
+abbrev pub chain_at : List (ℕ × PageOfKind) → ℕ → Layers (List ℕ)
+chain_at ps pid = (as_leaf (page_at ps pid)).layers
+
+abbrev pub chains : List (ℕ × PageOfKind) → List ℕ → List (Layers (List ℕ))
+chains ps pids = map (chain_at ps) pids
+
+-- the pairs of chains, each behind those of the one before it
+abbrev pub pairs : List (Layers (List ℕ)) → List (List ℕ × List ℕ)
+pairs cs = flat_map entries_of cs
+
+-- under the pid is a leaf, or n levels above the leaves an index page with children, by rising keys, and each is such a page
+abbrev pub IsKnown : List (ℕ × PageOfKind) → ℕ → ℕ → Type 0
+IsKnown ps zero pid = page_at ps pid ≡ Some (Leaf (as_leaf (page_at ps pid)))
+IsKnown ps (suc n) pid =
+    (page_at ps pid ≡ Some (Index (as_index (page_at ps pid)))) × IsRising (entries_at ps pid) × (0 < length (entries_at ps pid)) × AllByRecursion (IsKnown ps n) (values_of (entries_at ps pid))
+
+-- so are all pages on a path, each with the levels below it
+abbrev pub ArePathOf : List (ℕ × PageOfKind) → ℕ → List (List ℕ) → Type 0
+ArePathOf ps n [] = ⊤
+ArePathOf ps zero (pids ∷ path) = ⊥
+ArePathOf ps (suc n) (pids ∷ path) = AllByRecursion (IsKnown ps n) pids × ArePathOf ps n path

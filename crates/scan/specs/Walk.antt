@@ -1,0 +1,25 @@
+-- A walk over the leaves of a tree in memory, by a path with room for 64 levels.
+use Rattle.std.specs.Prelude.{◌≡◌, ℕ, pred, ◌-◌, ◌≤◌, List}
+use Rattle.smallvec.specs.SmallVec.{SmallVec}
+use Rattle.delta_chain.specs.Layers.{Layers}
+use Rattle.mapping.specs.TreeInMemory.{TreeInMemory, AreAllHome, tree_of}
+use Rattle.scan.specs.Path.{leaves_from, leaves_left, chains, IsKnown, ArePathOf}
+
+-- no page is away, there are at most 64 levels, the path has pages of the tree, and room for a page of each level
+pub record IsWalk (t : TreeInMemory) (path : SmallVec (List ℕ)) : Type 0 where
+  pub home : AreAllHome t
+  pub height : t.height ≤ 64
+  pub known : ArePathOf (tree_of t).pages (pred t.height) path.items
+  pub room : path.capacity ≡ 64
+
+-- so many levels below the root, there is this page
+pub record IsAt (t : TreeInMemory) (depth : ℕ) (pid : ℕ) : Type 0 where
+  pub within : depth ≤ pred t.height
+  pub known : IsKnown (tree_of t).pages (pred t.height - depth) pid
+
+-- the leaves that a way down for the key from this page comes to, and those that a path leads to
+abbrev pub walk_from : TreeInMemory → ℕ → List ℕ → ℕ → List (Layers (List ℕ))
+walk_from t depth key pid = chains (tree_of t).pages (leaves_from (tree_of t).pages (pred t.height - depth) key pid)
+
+abbrev pub walk_left : TreeInMemory → List (List ℕ) → List (Layers (List ℕ))
+walk_left t path = chains (tree_of t).pages (leaves_left (tree_of t).pages (pred t.height) path)

@@ -1,0 +1,5 @@
+mod ChainLaws
+mod LevelLaws
+mod MetLaws
+mod PageLaws
+mod WalkLaws

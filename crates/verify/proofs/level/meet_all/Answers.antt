@@ -1,0 +1,26 @@
+use Rattle.std.proofs.Common.{◌<◌, length, ap, arith}
+use Rattle.std.proofs.lemmas.List.{drop_more}
+use Rattle.std.specs.Prelude.{get_or}
+use Rattle.verify.specs.declared.look.Seen.TheVariants.{Broken}
+use Rattle.verify.proofs.LevelLaws.{from_here, found_step, pairs_step, met_step, count_step}
+use Rattle.verify.proofs.level.meet_all.Goals as goal
+
+pub loop-at-preserved : goal.loop-at-preserved
+loop-at-preserved c =
+    let at = c.loop-at.at in
+    let ats = c.args.places.now in
+    let seen = c.args.seen.now in
+    let p = c.index-places-at.result in
+    let s = get_or seen at (Broken 0) in
+    let within : at < length seen = omega (arith, c.requires) in
+    let h = from_here ats at p c.loop-at-test.true c.index-places-at.is in
+    let i = drop_more seen at (Broken 0) within in
+    let e = ap (λ z. z.pid) c.place.view_is in
+    let m = c.in_ok-pairs.ensures in
+    record {
+      found = found_step ats seen at p s h i c.loop-at.met c.meet_page.new.met c.place.inside.pid _ e m.ok m.met c.loop-at.invariant.found;
+      pairs = pairs_step ats seen at p s h i c.loop-at.pairs c.in_ok-pairs.field-0 _ m.pairs c.loop-at.invariant.pairs;
+      small = omega arith;
+      met = met_step ats seen at p s h i c.args.met.now c.loop-at.met c.meet_page.new.met c.place.inside.pid e m.met c.loop-at.invariant.met;
+      count = count_step ats seen at p s h i c.loop-at.met c.meet_page.new.met _ m.count c.loop-at.invariant.count;
+    }

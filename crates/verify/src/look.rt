@@ -1,0 +1,110 @@
+ghost use Rattle.std.specs.Prelude.{◌≡◌, ◌&&◌, nat_le, [], Some, length, IfOk};
+ghost use Rattle.index_page.specs.Page.{entries, first_key};
+ghost use Rattle.index_page.specs.Page.PageOfKind.{Leaf, Index};
+ghost use Rattle.index_page.specs.Rules.{is_same_key};
+ghost use Rattle.mapping.specs.Finding.{broken_leaf, broken_index};
+ghost use Rattle.mapping.specs.TreeInMemory.{AreAllHome, tree_of};
+ghost use Rattle.verify.specs.Seen.{seen_as, seen_at};
+
+use crate::page_rules::broken_rule;
+use crate::place::Place;
+use crate::rules::{CHILDREN, NO_PAGE, WRONG_KIND};
+use delta_chain::{Chain, Pairs};
+use keys::{Pid, Settings, Value};
+use mapping::Tree;
+use std::alloc::{AllocError, Global};
+
+/// Which level a page has to be of.
+#[derive(Clone, Copy)]
+pub(crate) enum Level {
+    /// The lowest.
+    Leaves,
+    /// One above, whose pages have so many children at least.
+    Above(usize),
+}
+
+/// What is seen of a page by itself.
+#[derive(Clone, Copy)]
+pub(crate) enum Seen {
+    /// It breaks this rule, and none before it.
+    Broken(u32),
+    /// Nothing is wrong with it, and it holds so many pairs; an index page holds none.
+    Sound(usize),
+}
+
+/// Looks at the page at a place of the level. It is refused only for want of memory.
+pub(crate) fn look(
+    alloc: Global,
+    tree: &Tree<Global>,
+    settings: &Settings,
+    level: Level,
+    at: &Place<'_>,
+) -> Result<Seen, AllocError>
+    ensures { AreAllHome tree.now → IfOk result (λ seen. seen ≡ seen_at settings.now level (tree_of tree.now).pages at.now) }
+{
+    let Some(page) = tree.page(at.pid) else {
+        return Ok(Seen::Broken(NO_PAGE));
+    };
+    match level {
+        Level::Leaves => match page.as_leaf() {
+            Some(chain) => look_at_leaf(alloc, settings, at, page.low(), chain),
+            None => Ok(Seen::Broken(WRONG_KIND)),
+        },
+        Level::Above(least) => match page.as_index() {
+            Some(chain) => look_at_index(alloc, settings, least, at, page.low(), chain),
+            None => Ok(Seen::Broken(WRONG_KIND)),
+        },
+    }
+}
+
+// A leaf, on the lowest level.
+fn look_at_leaf(
+    alloc: Global,
+    settings: &Settings,
+    at: &Place<'_>,
+    low: &[u8],
+    chain: &Chain<Value<Global>, Global>,
+) -> Result<Seen, AllocError>
+    ensures { IfOk result (λ seen. seen ≡ seen_as (broken_leaf settings.now [] at.now (Some (Leaf (record { low = low.now; layers = chain.now }))))
+        (length (entries (record { low = low.now; layers = chain.now })))) }
+{
+    if let Some(rule) = broken_rule(settings, at, low, chain) {
+        return Ok(Seen::Broken(rule));
+    }
+    let pairs = chain.pairs(alloc)?;
+    Ok(Seen::Sound(pairs.len()))
+}
+
+// An index page, on a level above.
+fn look_at_index(
+    alloc: Global,
+    settings: &Settings,
+    least: usize,
+    at: &Place<'_>,
+    low: &[u8],
+    chain: &Chain<Pid, Global>,
+) -> Result<Seen, AllocError>
+    ensures { IfOk result (λ seen. seen ≡ seen_as (broken_index settings.now least [] at.now (Some (Index (record { low = low.now; layers = chain.now })))) 0) }
+{
+    if let Some(rule) = broken_rule(settings, at, low, chain) {
+        return Ok(Seen::Broken(rule));
+    }
+    let children = chain.pairs(alloc)?;
+    if !is_headed(&children, least, low) {
+        return Ok(Seen::Broken(CHILDREN));
+    }
+    Ok(Seen::Sound(0))
+}
+
+// Whether there are so many children at least, and the first is at the low key.
+fn is_headed(children: &Pairs<'_, Pid, Global>, least: usize, low: &[u8]) -> bool
+    ensures { result ≡ (nat_le least (length children.now) && is_same_key (first_key children.now) low.now) }
+{
+    if children.len() < least {
+        return false;
+    }
+    if children.len() == 0 {
+        return low.is_empty();
+    }
+    children.key(0).cmp(low).is_eq()
+}
