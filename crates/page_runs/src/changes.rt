@@ -6,7 +6,7 @@ ghost use Rattle.delta_chain.specs.Layers.{IsInOrder};
 ghost use Rattle.page_runs.specs.Replay.{map_by_now};
 
 use delta_chain::{Chain, PushError, Run};
-use keys::{Key, Value};
+use keys::{Command, Key, Value};
 use page_search::{Probes, find};
 use std::alloc::{AllocError, Global};
 use std::collections::BTreeMap;
@@ -18,17 +18,19 @@ pub(crate) type LeafRun = Run<Value<Global>, Global>;
 
 type ChangeMap = BTreeMap<Key<Global>, Option<Value<Global>>, Global>;
 
-// Up to this many commands, a key that goes between others moves at most 31 changes, some two kilobytes. That is no
+// Up to this many changes, a key that goes between others moves at most 31 of them, some two kilobytes. That is no
 // slower than a map's search, and the first node of a map has 640 bytes, which most leaves would need for one change.
 const FEW: usize = 32;
 
 /// The touched keys, each with its value now, or none where it is absent now. Contracts see them as a run, which lies
-/// over the page. They are kept in one of two ways, by the number of commands: a few in the run itself, which takes the
-/// least memory, but makes room for a key by moving all those above it; and many in a map, since a run that is built
-/// out of order takes time by the square of its length. Without changes neither takes memory.
+/// over the page. They are kept in one of two ways: a few, and those of commands whose keys rise, in the run itself, which
+/// takes the least memory, but makes room for a key by moving all those above it; and others in a map, since a run that
+/// is built out of order takes time by the square of its length. Without changes neither takes memory.
 #[derive(Drop)]
 pub(crate) struct Changes {
     kept: Kept,
+    // How many commands may change a key: there are no more changes.
+    writes: usize,
 }
 
 #[derive(Drop)]
@@ -48,16 +50,21 @@ impl Model for Changes {
 }
 
 impl Changes {
-    /// No changes, before this many commands.
-    pub(crate) fn for_commands(alloc: Global, count: usize) -> Self
+    /// No changes, before the commands at these places.
+    pub(crate) fn for_commands(
+        alloc: Global,
+        commands: &[Command<Global>],
+        places: &[usize],
+    ) -> Self
         ensures { result ≡ [] }
     {
-        let kept = if count <= FEW {
+        let writes = count_writes(commands, places);
+        let kept = if writes <= FEW || do_rise(commands, places) {
             Kept::Few(Run::empty(alloc))
         } else {
             Kept::Many(BTreeMap::new(alloc))
         };
-        Changes { kept }
+        Changes { kept, writes }
     }
 
     /// What the key has on the page by now: what the changes say of it, else what the page holds.
@@ -101,11 +108,12 @@ impl Changes {
             Some(value) => Some(value.copy(alloc)?),
             None => None,
         };
+        let room = self.writes;
         match &mut self.kept {
             Kept::Few(run) => {
-                // A run keeps its room while it stands in front of the page, and most leaves get one change.
+                // A run keeps its room while it stands in front of the page, so it is given no more than it can need.
                 if run.len() == 0 {
-                    *run = Run::with_capacity(alloc, 1)?;
+                    *run = Run::with_capacity(alloc, room)?;
                 }
                 run.set(key, change)
             }
@@ -120,7 +128,10 @@ impl Changes {
     pub(crate) fn into_run(self, alloc: Global) -> Result<LeafRun, AllocError>
         ensures { IfOk result (λ run. run ≡ self) }
     {
-        let Changes { kept } = self;
+        let Changes {
+            kept,
+            writes: _writes,
+        } = self;
         match kept {
             Kept::Few(run) => Ok(run),
             Kept::Many(map) => run_of(alloc, map),
@@ -140,4 +151,26 @@ fn run_of(alloc: Global, map: ChangeMap) -> Result<LeafRun, AllocError>
         }
     }
     Ok(run)
+}
+
+// How many of the commands are no look-ups.
+fn count_writes(commands: &[Command<Global>], places: &[usize]) -> usize {
+    let mut writes = 0usize;
+    for place in places {
+        if !matches!(commands.get(*place), Some(Command::Get(_))) {
+            writes = writes.saturating_add(1);
+        }
+    }
+    writes
+}
+
+// Whether no command's key is below that of the one before. It decides how the changes are kept, and nothing else.
+fn do_rise(commands: &[Command<Global>], places: &[usize]) -> bool {
+    for at in 1..places.len() {
+        match (commands.get(places[at - 1]), commands.get(places[at])) {
+            (Some(one), Some(next)) if one.key().cmp(next.key()).is_le() => {}
+            _ => return false,
+        }
+    }
+    true
 }

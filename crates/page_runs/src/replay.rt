@@ -26,7 +26,7 @@ pub(crate) fn replay(
 {
     // Only for the proof: `depth` says that the page is in order.
     let _in_order = page.depth();
-    let mut changes = Changes::for_commands(alloc, places.len());
+    let mut changes = Changes::for_commands(alloc, commands, places);
     let mut pieces = Vec::with_capacity(alloc, places.len())?;
     for place in places {
         let reply = execute(alloc, page, &mut changes, &commands[*place])?;
