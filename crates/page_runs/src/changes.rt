@@ -108,10 +108,11 @@ impl Changes {
             Some(value) => Some(value.copy(alloc)?),
             None => None,
         };
-        let room = self.writes;
+        let room = self.writes.min(FEW);
         match &mut self.kept {
             Kept::Few(run) => {
-                // A run keeps its room while it stands in front of the page, so it is given no more than it can need.
+                // A run keeps its room while it stands in front of the page, so it is given no more than it can need, and
+                // grows where that is much.
                 if run.len() == 0 {
                     *run = Run::with_capacity(alloc, room)?;
                 }
@@ -164,11 +165,11 @@ fn count_writes(commands: &[Command<Global>], places: &[usize]) -> usize {
     writes
 }
 
-// Whether no command's key is below that of the one before. It decides how the changes are kept, and nothing else.
+// Whether each command's key is above that of the one before. It decides how the changes are kept, and nothing else.
 fn do_rise(commands: &[Command<Global>], places: &[usize]) -> bool {
     for at in 1..places.len() {
         match (commands.get(places[at - 1]), commands.get(places[at])) {
-            (Some(one), Some(next)) if one.key().cmp(next.key()).is_le() => {}
+            (Some(one), Some(next)) if one.key().cmp(next.key()).is_lt() => {}
             _ => return false,
         }
     }
