@@ -2,6 +2,7 @@
 //! and prints the same lines. As in the store, a batch is lent, and its replies are values of their own.
 
 use std::collections::BTreeMap;
+use std::ops::Bound;
 use std::io::{self, Read, Write};
 
 type Map = BTreeMap<Vec<u8>, Vec<u8>>;
@@ -11,20 +12,30 @@ enum Command {
     Put(Vec<u8>, Vec<u8>),
     Add(Vec<u8>, Vec<u8>),
     Del(Vec<u8>),
+    Scan(Vec<u8>, Option<Vec<u8>>, usize),
 }
 
 #[derive(Clone)]
 enum Reply {
     Value(Vec<u8>),
     Word(&'static str),
+    Rows(Vec<(Vec<u8>, Vec<u8>)>),
 }
 
 impl Command {
     fn key(&self) -> &[u8] {
         match self {
-            Command::Get(key) | Command::Del(key) => key,
+            Command::Get(key) | Command::Del(key) | Command::Scan(key, _, _) => key,
             Command::Put(key, _) | Command::Add(key, _) => key,
         }
+    }
+
+    fn is_scan(&self) -> bool {
+        matches!(self, Command::Scan(..))
+    }
+
+    fn is_change(&self) -> bool {
+        !self.is_scan() && !matches!(self, Command::Get(_))
     }
 
     fn run(&self, map: &mut Map) -> Reply {
@@ -48,8 +59,18 @@ impl Command {
                 Some(_) => Reply::Word("deleted"),
                 None => Reply::Word("missing"),
             },
+            Command::Scan(lo, hi, limit) => Reply::Rows(rows(map, lo, hi.as_deref(), *limit)),
         }
     }
+}
+
+// The first so many pairs from the one bound on, and below the other.
+fn rows(map: &Map, lo: &[u8], hi: Option<&[u8]>, limit: usize) -> Vec<(Vec<u8>, Vec<u8>)> {
+    map.range::<[u8], _>((Bound::Included(lo), Bound::Unbounded))
+        .take_while(|(key, _)| hi.is_none_or(|hi| key.as_slice() < hi))
+        .take(limit)
+        .map(|(key, value)| (key.clone(), value.clone()))
+        .collect()
 }
 
 fn hex(digit: u8) -> Option<u8> {
@@ -75,12 +96,18 @@ fn token(word: &[u8]) -> Option<Vec<u8>> {
     Some(bytes)
 }
 
+fn number(word: &[u8]) -> Option<usize> {
+    std::str::from_utf8(word).ok()?.parse().ok()
+}
+
 fn command(words: &[&[u8]]) -> Option<Command> {
     Some(match words {
         [b"get", key] => Command::Get(token(key)?),
         [b"del", key] => Command::Del(token(key)?),
         [b"put", key, value] => Command::Put(token(key)?, token(value)?),
         [b"add", key, value] => Command::Add(token(key)?, token(value)?),
+        [b"scan", lo, b"*", limit] => Command::Scan(token(lo)?, None, number(limit)?),
+        [b"scan", lo, hi, limit] => Command::Scan(token(lo)?, Some(token(hi)?), number(limit)?),
         _ => return None,
     })
 }
@@ -101,10 +128,12 @@ fn parse(text: &[u8]) -> Option<Vec<Vec<Command>>> {
 }
 
 // The replies to the commands, each at its command's place. They are run in the order of their keys, those of one key in
-// the order of their places.
+// the order of their places; but where a batch has scans among changes, all in the order of their places.
 fn run_batch(map: &mut Map, commands: &[Command]) -> Vec<Reply> {
     let mut keyed: Vec<_> = commands.iter().map(Command::key).zip(0..).collect();
-    keyed.sort_unstable();
+    if !commands.iter().any(Command::is_scan) || !commands.iter().any(Command::is_change) {
+        keyed.sort_unstable();
+    }
     let mut replies = vec![Reply::Word(""); commands.len()];
     for (_, place) in keyed {
         replies[place] = commands[place].run(map);
@@ -112,20 +141,33 @@ fn run_batch(map: &mut Map, commands: &[Command]) -> Vec<Reply> {
     replies
 }
 
+fn show_token(bytes: &[u8], lines: &mut Vec<u8>) {
+    if bytes.is_empty() {
+        lines.push(b'%');
+    }
+    for &byte in bytes {
+        if byte.is_ascii_graphic() && byte != b'%' {
+            lines.push(byte);
+        } else {
+            lines.extend_from_slice(format!("%{byte:02X}").as_bytes());
+        }
+    }
+}
+
 fn show(reply: &Reply, lines: &mut Vec<u8>) {
     match reply {
         Reply::Word(word) => lines.extend_from_slice(word.as_bytes()),
         Reply::Value(value) => {
             lines.extend_from_slice(b"value ");
-            if value.is_empty() {
-                lines.push(b'%');
-            }
-            for &byte in value {
-                if byte.is_ascii_graphic() && byte != b'%' {
-                    lines.push(byte);
-                } else {
-                    lines.extend_from_slice(format!("%{byte:02X}").as_bytes());
-                }
+            show_token(value, lines);
+        }
+        Reply::Rows(rows) => {
+            lines.extend_from_slice(format!("rows {}", rows.len()).as_bytes());
+            for (key, value) in rows {
+                lines.push(b'\n');
+                show_token(key, lines);
+                lines.push(b' ');
+                show_token(value, lines);
             }
         }
     }

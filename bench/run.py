@@ -2,6 +2,7 @@
 """Measures the built program beside std's BTreeMap; README.md says what is measured, and how."""
 
 import argparse
+import bisect
 import hashlib
 import itertools
 import os
@@ -32,11 +33,19 @@ class Phase:
     count: int
     batch: int
     commands: Callable[[], Iterable[str]]
+    printed: Callable[[], list] | None = None  # the lines that each command's reply has, where that isn't one
 
     def batches(self):
         """How many commands each batch has."""
         full, rest = divmod(self.count, self.batch)
         return [self.batch] * full + [rest] * (rest > 0)
+
+    def lines(self):
+        """How many lines each batch prints."""
+        if self.printed is None:
+            return self.batches()
+        printed = iter(self.printed())
+        return [sum(itertools.islice(printed, length)) for length in self.batches()]
 
     def write(self, file):
         commands = iter(self.commands())
@@ -75,6 +84,21 @@ class Work:
         for at, key in enumerate(keys):
             yield f"put {key} {self.value(at + salt)}" if at % 2 else f"get {key}"
 
+    def ranges(self, keys, rows):
+        """From each key on so many rows, up to the key behind them: the key, that one or no bound, and how many rows there are."""
+        rising = sorted(self.keys)
+        for key in keys:
+            start = bisect.bisect_left(rising, key)
+            behind = rising[start + rows : start + rows + 1] or ["*"]
+            yield key, behind[0], min(rows, len(rising) - start)
+
+    def scans(self, keys, rows):
+        return (f"scan {lo} {hi} {rows}" for lo, hi, _ in self.ranges(keys, rows))
+
+    def lines_of_scans(self, keys, rows):
+        """How many lines each scan prints: how many rows there are, and the rows."""
+        return [1 + count for _, _, count in self.ranges(keys, rows)]
+
     def zipf(self):
         """The keys by Zipf's law: the key of rank r in proportion to 1/r."""
         weights = itertools.accumulate(1 / rank for rank in range(1, len(self.keys) + 1))
@@ -93,6 +117,7 @@ def sessions(work):
     """The sessions, each the phases of one batch file. The time of a phase that stands in several is the least."""
     pairs = len(work.keys)
     few = work.shuffled[: pairs // 5]
+    starts = work.shuffled[: pairs // 50]
     load = Phase("load", pairs, LONG, lambda: work.puts(work.keys))
     return [
         [
@@ -112,6 +137,12 @@ def sessions(work):
             Phase("load, 256 a batch", pairs, 256, lambda: work.puts(work.keys)),
             Phase("gets, 256 a batch", pairs, 256, lambda: gets(work.shuffled)),
             Phase("half and half, 256 a batch", pairs, 256, lambda: work.half(work.shuffled, 3)),
+        ],
+        [
+            load,
+            Phase("scans of 100 rows", len(starts), 1_000, lambda: work.scans(starts, 100), lambda: work.lines_of_scans(starts, 100)),
+            Phase("scans of 100 rows, one a batch", len(starts), 1, lambda: work.scans(starts, 100), lambda: work.lines_of_scans(starts, 100)),
+            Phase("one scan of all pairs", 1, 1, lambda: ["scan % * 4294967295"], lambda: [1 + pairs]),
         ],
     ]
 
@@ -153,13 +184,13 @@ class Running:
         pages = Path(f"/proc/{self.child.pid}/statm").read_text().split()[1]
         return int(pages) * os.sysconf("SC_PAGE_SIZE")
 
-    def phase(self, batches):
-        """Times the phase of these batches, each by itself where they are long."""
-        parts = batches if batches[0] == LONG else [sum(batches)]
+    def phase(self, lines, by_batch=False):
+        """Times the phase whose batches print so many lines each, and where it is asked for, each batch by itself."""
+        parts = lines if by_batch else [sum(lines)]
         digest = hashlib.blake2b()
         wall, marks = time.monotonic(), [self.cpu()]
-        for lines in parts:
-            self.take(lines, digest)
+        for part in parts:
+            self.take(part, digest)
             marks.append(self.cpu())
         each = [end - start for start, end in itertools.pairwise(marks)]
         wall = time.monotonic() - wall
@@ -174,7 +205,7 @@ def run_session(command, text, phases):
     """The samples of the phases, and the memory before them: that of the text and its commands."""
     running = Running(command, text)
     before = running.phase([1]).resident
-    samples = [running.phase(phase.batches()) for phase in phases]
+    samples = [running.phase(phase.lines(), phase.batch == LONG) for phase in phases]
     running.end()
     return before, samples
 
@@ -239,6 +270,31 @@ def measure(work, commands, repeats, folder):
                 print(f"  {phases[-1].name}: {name}", file=sys.stderr)
                 results.add(name, phases, *run_session(command, text, phases))
     return results
+
+
+def measure_verify(work, program, folder):
+    """What `verify` of all pairs takes, in one thread and in as many as there are processors."""
+    load = Phase("load", len(work.keys), LONG, lambda: work.puts(work.keys))
+    text = folder / "verify"
+    write_session(text, [load])
+    with open(text, "a") as file:
+        file.write("verify\n" * 3)
+    samples = {}
+    for name, prefix in {"one thread": ["taskset", "-c", "0"], "all threads": []}.items():
+        running = Running(prefix + [str(program)], text)
+        running.phase([1])
+        running.phase(load.lines())
+        samples[name] = min((running.phase([1]) for _ in range(3)), key=lambda sample: sample.wall)
+        running.end()
+    if len({sample.digest for sample in samples.values()}) > 1:
+        sys.exit("verify prints different lines in one thread and in several")
+    return samples
+
+
+def print_verify(samples):
+    print("\n| verify, defaults | processor seconds | seconds by the clock |\n|---|---|---|")
+    for name, sample in samples.items():
+        print(f"| {name} | {sample.cpu:.2f} | {sample.wall:.2f} |")
 
 
 def cell(results, phase, program):
@@ -322,10 +378,13 @@ def main():
     with tempfile.TemporaryDirectory() as name:
         folder = Path(name)
         commands = programs(build_peer(folder), chosen.program)
-        results = measure(Work(chosen.pairs), commands, chosen.repeats, folder)
+        work = Work(chosen.pairs)
+        results = measure(work, commands, chosen.repeats, folder)
+        verified = measure_verify(work, chosen.program, folder)
     print_speeds(results, list(commands))
     print_memory(results, list(commands))
     print_growth(results, list(commands))
+    print_verify(verified)
     if chosen.plot:
         draw(results, list(commands), chosen.plot)
 

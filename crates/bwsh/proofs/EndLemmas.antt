@@ -1,14 +1,11 @@
 -- Lemmas on how a session ends.
-use Rattle.std.proofs.Common.{true, false, ◌≡◌, ◌≢◌, ◌↔◌, ◌⊎◌, inl, inr, ℕ, List, [], ◌∷◌, map, Option, Some, None, IfSome, Result, Ok, Err, refl, sym, ap, ◌∙◌, subst, arith}
+use Rattle.std.proofs.Common.{true, false, ◌≡◌, ◌≢◌, ◌↔◌, ◌⊎◌, inl, inr, ℕ, List, [], ◌∷◌, Option, Some, None, IfSome, Result, Ok, Err, refl, sym, ap, ◌∙◌, subst, arith}
 use Rattle.std.specs.Prelude.{MatchOption, IsOkUnless}
 use Rattle.std.specs.Option.{option_map}
 use Rattle.std.specs.Io.KnownBytes.{Appends, Keeps}
 use Rattle.std.proofs.KnownBytes.{Appends-nil}
 use Rattle.keys.specs.Lists.{flat}
 use Rattle.keys.specs.Limits.{first_bad_field}
-use Rattle.keys.specs.Step.{replies_to, map_after_all}
-use Rattle.keys.specs.declared.command.Command.{Command}
-use Rattle.std.specs.declared.alloc.Global.{Global}
 use Rattle.keys.specs.declared.fault.Fault.{Fault}
 use Rattle.keys.specs.declared.fault.Fault.TheVariants.{BadSettings, NoMemory}
 use Rattle.keys.specs.declared.settings.Settings.{Settings}
@@ -17,17 +14,15 @@ use Rattle.mapping.specs.Tree.{Tree, first_tree}
 use Rattle.mapping.specs.Levels.{contents}
 use Rattle.bwsh.specs.declared.line.Why.{Why}
 use Rattle.bwsh.specs.declared.batch_file.Order.{Order}
-use Rattle.bwsh.specs.declared.batch_file.Order.TheVariants.{Batch}
 use Rattle.bwsh.specs.declared.session.Ending.{Ending}
 use Rattle.bwsh.specs.declared.session.Ending.TheVariants.{Words, Bad, Device}
 use Rattle.bwsh.specs.declared.session.Ending.TheVariants as endings
 use Rattle.bwsh.specs.BatchFile.{said_by, first_bad, orders_of}
-use Rattle.bwsh.specs.Session.{status_of_end, refusal_of, tree_behind, answer_lines, printed, accepted, orders_end, first_refusal, stopped_by, hindered_by, hindrance, end_after, lines_after, session_end, session_lines, IsReadEnding, IsForWords, BeginsWith, Prints, PrintsOneText, Runs, Answers, EndsBy}
-use Rattle.bwsh.specs.Options.{AsksForHelp, AreRefused, is_refusal, IsRightKind}
+use Rattle.bwsh.specs.Session.{status_of_end, refusal_of, tree_behind, map_behind, own_lines, answer_lines, printed_by, accepted, orders_end, first_refusal, stopped_by, hindered_by, hindrance, end_after, lines_after, session_end, session_lines, IsReadEnding, IsForWords, BeginsWith, Prints, PrintsOneText, Runs, Answers, EndsBy}
+use Rattle.bwsh.specs.Options.{Tells, AsksForHelp, AreRefused, is_refusal, IsRightKind}
 use Rattle.clap.specs.declared.error.kind.ErrorKind.{ErrorKind}
 use Rattle.clap.specs.declared.error.kind.ErrorKind.TheVariants.{DisplayHelp, OutOfMemory}
-use Rattle.bwsh.specs.Shown.{shown_reply}
-use Rattle.bwsh.proofs.Prints.{front-more, front-trans, front-flat, Prints-front, Prints-flushed, IfSome-known, IfSome-any}
+use Rattle.bwsh.proofs.Prints.{front-more, front-trans, front-flat, Prints-front, Prints-flushed, IfSome-known}
 use Rattle.clap.specs.declared.error.Error.{Error}
 
 -- ---- a session that ends before any order is run
@@ -70,18 +65,18 @@ module _ (settings : Settings) (old new : Option (List ℕ)) (orders : List Orde
       inr (inr (ap (λ (x : Ending). Err x) e, ([], (flat (lines_after settings hindered orders), refl), Appends-nil old)))
 
   -- nothing hinders it: the orders are run on the first tree
-  Prints-run : (bad : Option (ℕ × Why)) (field : Option Field) (end : Result (Unit {0}) Ending) → bad ≡ None → field ≡ None → Prints old new (answer_lines [] (accepted settings first_tree orders)) (orders_end settings first_tree orders) end
+  Prints-run : (bad : Option (ℕ × Why)) (field : Option Field) (end : Result (Unit {0}) Ending) → bad ≡ None → field ≡ None → Prints old new (answer_lines settings first_tree [] (accepted settings first_tree orders)) (orders_end settings first_tree orders) end
       → Prints old new (lines_after settings (hindered_by bad field) orders) (end_after settings (hindered_by bad field) orders) end
   Prints-run bad field end no_bad no_field p = rw (no_bad, no_field) p
 
   Runs-first : (of_store : Settings) (tree : Tree) (ran : List Order) (end : Result (Unit {0}) Ending) → of_store ≡ settings → tree ≡ first_tree → contents tree ≡ [] → ran ≡ orders → Runs of_store tree ran old new end
-      → Prints old new (answer_lines [] (accepted settings first_tree orders)) (orders_end settings first_tree orders) end
+      → Prints old new (answer_lines settings first_tree [] (accepted settings first_tree orders)) (orders_end settings first_tree orders) end
   unfolding Runs
   Runs-first of_store tree ran end e_settings e_tree e_contents e_ran p =
-      let p1 = subst (λ (s : Settings). Prints old new (answer_lines (contents tree) (accepted s tree ran)) (orders_end s tree ran) end) e_settings p in
-      let p2 = subst (λ (m : List (List ℕ × List ℕ)). Prints old new (answer_lines m (accepted settings tree ran)) (orders_end settings tree ran) end) e_contents p1 in
-      let p3 = subst (λ (t : Tree). Prints old new (answer_lines [] (accepted settings t ran)) (orders_end settings t ran) end) e_tree p2 in
-      subst (λ (os : List Order). Prints old new (answer_lines [] (accepted settings first_tree os)) (orders_end settings first_tree os) end) e_ran p3
+      let p1 = subst (λ (s : Settings). Prints old new (answer_lines s tree (contents tree) (accepted s tree ran)) (orders_end s tree ran) end) e_settings p in
+      let p2 = subst (λ (m : List (List ℕ × List ℕ)). Prints old new (answer_lines settings tree m (accepted settings tree ran)) (orders_end settings tree ran) end) e_contents p1 in
+      let p3 = subst (λ (t : Tree). Prints old new (answer_lines settings t [] (accepted settings t ran)) (orders_end settings t ran) end) e_tree p2 in
+      subst (λ (os : List Order). Prints old new (answer_lines settings first_tree [] (accepted settings first_tree os)) (orders_end settings first_tree os) end) e_ran p3
 
 module _ (settings : Settings) (known old : Option (List ℕ)) (text : List ℕ) (is_known : IfSome known (λ bytes. text ≡ bytes)) where
   pub Answers-unread : (early : Ending) → IsReadEnding (first_bad 1 (said_by text)) early → Answers settings known old old (Err early)
@@ -125,23 +120,24 @@ module _ (settings : Settings) where
   accepted-all tree (order ∷ rest) done e = all_by tree order rest (refusal_of settings tree order) refl done e (accepted-all (tree_behind settings tree order) rest done)
 
   -- what is accepted is answered first
-  front_by : (m : List (List ℕ × List ℕ)) (tree : Tree) (commands : List (Command Global)) (rest : List Order) (r : Option Fault) → refusal_of settings tree (Batch commands) ≡ r
-      → BeginsWith (answer_lines (map_after_all m commands) rest) (answer_lines (map_after_all m commands) (accepted settings (tree_behind settings tree (Batch commands)) rest))
-      → BeginsWith (answer_lines m (Batch commands ∷ rest)) (answer_lines m (accepted settings tree (Batch commands ∷ rest)))
-  front_by m tree commands rest None h begins =
-      rw h (front-more (map shown_reply (replies_to m commands)) (answer_lines (map_after_all m commands) rest)
-      (answer_lines (map_after_all m commands) (accepted settings (tree_behind settings tree (Batch commands)) rest)) begins)
-  front_by m tree commands rest (Some fault) h begins = rw h (answer_lines m (Batch commands ∷ rest), refl)
+  front_by : (m : List (List ℕ × List ℕ)) (tree : Tree) (order : Order) (rest : List Order) (r : Option Fault) → refusal_of settings tree order ≡ r
+      → BeginsWith (answer_lines settings (tree_behind settings tree order) (map_behind m order) rest)
+      (answer_lines settings (tree_behind settings tree order) (map_behind m order) (accepted settings (tree_behind settings tree order) rest))
+      → BeginsWith (answer_lines settings tree m (order ∷ rest)) (answer_lines settings tree m (accepted settings tree (order ∷ rest)))
+  front_by m tree order rest None h begins =
+      let behind = tree_behind settings tree order in
+      rw h (front-more (own_lines tree m order) (answer_lines settings behind (map_behind m order) rest) (answer_lines settings behind (map_behind m order) (accepted settings behind rest)) begins)
+  front_by m tree order rest (Some fault) h begins = rw h (answer_lines settings tree m (order ∷ rest), refl)
 
-  accepted-front : (m : List (List ℕ × List ℕ)) (tree : Tree) (orders : List Order) → BeginsWith (answer_lines m orders) (answer_lines m (accepted settings tree orders))
+  accepted-front : (m : List (List ℕ × List ℕ)) (tree : Tree) (orders : List Order) → BeginsWith (answer_lines settings tree m orders) (answer_lines settings tree m (accepted settings tree orders))
   accepted-front m tree [] = ([], refl)
-  accepted-front m tree (Batch commands ∷ rest) =
-      front_by m tree commands rest (refusal_of settings tree (Batch commands)) refl (accepted-front (map_after_all m commands) (tree_behind settings tree (Batch commands)) rest)
+  accepted-front m tree (order ∷ rest) =
+      front_by m tree order rest (refusal_of settings tree order) refl (accepted-front (map_behind m order) (tree_behind settings tree order) rest)
 
   module _ (orders : List Order) where
     done_right : (bad : Option (ℕ × Why)) (field : Option Field) (done : Unit {0}) → Ok done ≡ end_after settings (hindered_by bad field) orders
-        → (bad ≡ None) × (lines_after settings (hindered_by bad field) orders ≡ answer_lines [] orders)
-    done_right None None done e = (refl, ap (answer_lines []) (accepted-all first_tree orders done e))
+        → (bad ≡ None) × (lines_after settings (hindered_by bad field) orders ≡ answer_lines settings first_tree [] orders)
+    done_right None None done e = (refl, ap (answer_lines settings first_tree []) (accepted-all first_tree orders done e))
     done_right None (Some f) done e = absurd (cc)
     done_right (Some b) field done e = absurd (cc)
 
@@ -165,18 +161,18 @@ module _ (settings : Settings) where
     words_right None (Some f) error e = cc
     words_right (Some b) field error e = cc
 
-    front_right : (hindered : Option Ending) → BeginsWith (answer_lines [] orders) (lines_after settings hindered orders)
+    front_right : (hindered : Option Ending) → BeginsWith (answer_lines settings first_tree [] orders) (lines_after settings hindered orders)
     front_right None = accepted-front [] first_tree orders
-    front_right (Some early) = (answer_lines [] orders, refl)
+    front_right (Some early) = (answer_lines settings first_tree [] orders, refl)
 
 -- ---- what follows of a session whose words tell settings
 
 module _ (settings : Settings) (known old new : Option (List ℕ)) where
-  told_done : (done : Unit {0}) → Answers settings known old new (Ok done) → IfSome known (λ text. (first_bad 1 (said_by text) ≡ None) × Appends old new (printed [] (orders_of [] (said_by text))))
+  told_done : (done : Unit {0}) → Answers settings known old new (Ok done) → IfSome known (λ text. (first_bad 1 (said_by text) ≡ None) × Appends old new (printed_by settings text))
   unfolding Answers
   told_done done (text, is_known, p) =
-      IfSome-known known text (λ (t : List ℕ). (first_bad 1 (said_by t) ≡ None) × Appends old new (printed [] (orders_of [] (said_by t)))) is_known (by p) where
-        by : Prints old new (session_lines settings text) (session_end settings text) (Ok done) → (first_bad 1 (said_by text) ≡ None) × Appends old new (printed [] (orders_of [] (said_by text)))
+      IfSome-known known text (λ (t : List ℕ). (first_bad 1 (said_by t) ≡ None) × Appends old new (printed_by settings t)) is_known (by p) where
+        by : Prints old new (session_lines settings text) (session_end settings text) (Ok done) → (first_bad 1 (said_by text) ≡ None) × Appends old new (printed_by settings text)
         by (inl (e, a)) =
             let (none, lines) = done_right settings (orders_of [] (said_by text)) (first_bad 1 (said_by text)) (first_bad_field settings) done e in
             (none, subst (λ (l : List (List ℕ)). Appends old new (flat l)) lines a)
@@ -200,15 +196,26 @@ module _ (settings : Settings) (known old new : Option (List ℕ)) where
   told_words error (text, is_known, inr (inr (e, q))) = cc
 
   told_front : (end : Result (Unit {0}) Ending) → Answers settings known old new end
-      → IfSome known (λ text. (front : List ℕ) × BeginsWith (printed [] (orders_of [] (said_by text))) front × Appends old new front)
+      → IfSome known (λ text. (front : List ℕ) × BeginsWith (printed_by settings text) front × Appends old new front)
   unfolding Answers
   told_front end (text, is_known, p) =
       let orders = orders_of [] (said_by text) in
       let (front, begins, a) = Prints-front old new (session_lines settings text) (session_end settings text) end p in
-      let whole = front-trans (printed [] orders) (flat (session_lines settings text)) front (front-flat (answer_lines [] orders) (session_lines settings text) (front_right settings orders (hindrance settings text))) begins in
-      IfSome-known known text (λ (t : List ℕ). (f : List ℕ) × BeginsWith (printed [] (orders_of [] (said_by t))) f × Appends old new f) is_known (front, whole, a)
+      let whole = front-trans (printed_by settings text) (flat (session_lines settings text)) front (front-flat (answer_lines settings first_tree [] orders) (session_lines settings text) (front_right settings orders (hindrance settings text))) begins in
+      IfSome-known known text (λ (t : List ℕ). (f : List ℕ) × BeginsWith (printed_by settings t) f × Appends old new f) is_known (front, whole, a)
 
 -- ---- what follows of any session
+
+-- the words ask for help, or tell settings and all that the text orders under these is printed
+abbrev IsAllDone : List (List ℕ) → Option (List ℕ) → Option (List ℕ) → Option (List ℕ) → Type 0
+IsAllDone words known old new =
+    AsksForHelp words ⊎ ((settings : Settings) × Tells words settings × IfSome known (λ text. (first_bad 1 (said_by text) ≡ None) × Appends old new (printed_by settings text)))
+
+-- the words ask for help, or nothing is printed, or they tell settings and a beginning of what the text orders under these is printed
+abbrev HasBegun : List (List ℕ) → Option (List ℕ) → Option (List ℕ) → Option (List ℕ) → Type 0
+HasBegun words known old new =
+    AsksForHelp words ⊎ Appends old new []
+    ⊎ ((settings : Settings) × Tells words settings × IfSome known (λ text. (front : List ℕ) × BeginsWith (printed_by settings text) front × Appends old new front))
 
 pub status-one : (end : Result (Unit {0}) Ending) (status : ℕ) → status ≡ status_of_end end → (status ≡ 0) ⊎ (status ≡ 2) ⊎ (status ≡ 3) ⊎ (status ≡ 4)
 status-one (Ok done) status e = inl e
@@ -259,12 +266,12 @@ module _ (words : List (List ℕ)) (known old new : Option (List ℕ)) (unread u
         by (inr four) no_fault = absurd (no_fault (e ∙ four))
 
   done_end : (end : Result (Unit {0}) Ending) → status_of_end end ≡ 0 → EndsBy words known old new unread untouched end
-      → AsksForHelp words ⊎ IfSome known (λ text. (first_bad 1 (said_by text) ≡ None) × Appends old new (printed [] (orders_of [] (said_by text))))
+      → IsAllDone words known old new
   done_end (Err (Words error)) s p = absurd (omega arith)
   done_end (Err (Bad line why)) s p = absurd (omega arith)
   done_end (Err (endings.Fault fault)) s p = absurd (omega arith)
   done_end (Err Device) s p = absurd (omega arith)
-  done_end (Ok done) s (inl (settings, tells, answers)) = inr (told_done settings known old new done answers)
+  done_end (Ok done) s (inl (settings, tells, answers)) = inr (settings, tells, told_done settings known old new done answers)
   done_end (Ok done) s (inr (inl (not_read, asks, printed_help))) = inl asks
   done_end (Ok done) s (inr (inr (not_read, not_touched, inl (refused, for_words)))) = absurd for_words
   done_end (Ok done) s (inr (inr (not_read, not_touched, inr e))) = absurd (cc)
@@ -281,25 +288,20 @@ module _ (words : List (List ℕ)) (known old new : Option (List ℕ)) (unread u
   bad_end (Err (Bad line why)) s (inr (inr (not_read, not_touched, inl (refused, for_words)))) = absurd for_words
   bad_end (Err (Bad line why)) s (inr (inr (not_read, not_touched, inr e))) = absurd (cc)
 
-  -- nothing was printed
-  nothing : Appends old new [] → IfSome known (λ text. (front : List ℕ) × BeginsWith (printed [] (orders_of [] (said_by text))) front × Appends old new front)
-  nothing a = IfSome-any known (λ (text : List ℕ). (front : List ℕ) × BeginsWith (printed [] (orders_of [] (said_by text))) front × Appends old new front)
-      (λ text. ([], (printed [] (orders_of [] (said_by text)), refl), a))
-
   beginning_end : (end : Result (Unit {0}) Ending) → (untouched → Appends old new []) → EndsBy words known old new unread untouched end
-      → AsksForHelp words ⊎ IfSome known (λ text. (front : List ℕ) × BeginsWith (printed [] (orders_of [] (said_by text))) front × Appends old new front)
-  beginning_end end kept (inl (settings, tells, answers)) = inr (told_front settings known old new end answers)
+      → HasBegun words known old new
+  beginning_end end kept (inl (settings, tells, answers)) = inr (inr (settings, tells, told_front settings known old new end answers))
   beginning_end end kept (inr (inl (not_read, asks, printed_help))) = inl asks
-  beginning_end end kept (inr (inr (not_read, not_touched, q))) = inr (nothing (kept not_touched))
+  beginning_end end kept (inr (inr (not_read, not_touched, q))) = inr (inl (kept not_touched))
 
 -- what a session's contract says of its status follows from how it ends
 pub record Follows (words : List (List ℕ)) (known old new : Option (List ℕ)) (unread untouched : Type 0) (status : ℕ) : Type 0 where
   pub status_is : (status ≡ 0) ⊎ (status ≡ 2) ⊎ (status ≡ 3) ⊎ (status ≡ 4)
   pub refused : (status ≡ 2) ↔ (AreRefused words × (status ≢ 4))
   pub untouched_is : AreRefused words → unread × untouched
-  pub done : status ≡ 0 → AsksForHelp words ⊎ IfSome known (λ text. (first_bad 1 (said_by text) ≡ None) × Appends old new (printed [] (orders_of [] (said_by text))))
+  pub done : status ≡ 0 → IsAllDone words known old new
   pub bad : status ≡ 3 → Appends old new [] × IfSome known (λ text. first_bad 1 (said_by text) ≢ None)
-  pub beginning : AsksForHelp words ⊎ IfSome known (λ text. (front : List ℕ) × BeginsWith (printed [] (orders_of [] (said_by text))) front × Appends old new front)
+  pub beginning : HasBegun words known old new
 
 pub all_follows : (words : List (List ℕ)) (known old new : Option (List ℕ)) (unread untouched : Type 0) (status : ℕ) (end : Result (Unit {0}) Ending) → status ≡ status_of_end end
     → (untouched → Appends old new []) → EndsBy words known old new unread untouched end → Follows words known old new unread untouched status

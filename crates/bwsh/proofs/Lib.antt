@@ -4,11 +4,13 @@ mod CommandLineLemmas
 mod EndLemmas
 mod FoundLemmas
 mod Literals
+mod NumberLemmas
 mod OrderLaws
 mod PrintedLaws
 mod Prints
 mod ReadLemmas
 mod RunLemmas
+mod ShowLemmas
 mod TokenLaws
 mod TokenLemmas
 mod TurnLemmas

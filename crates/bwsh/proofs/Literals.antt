@@ -1,15 +1,21 @@
 -- The definitions at a few literals.
-use Rattle.std.proofs.Common.{◌≡◌, List, [], ◌∷◌, ◌++◌, map, Some, None, refl}
+use Rattle.std.proofs.Common.{◌≡◌, ℕ, List, [], ◌∷◌, ◌++◌, map, Some, None, refl, arith}
 use Rattle.std.specs.Prelude.{codes}
-use Rattle.keys.specs.declared.command.Command.TheVariants.{Get, Put, Del}
+use Rattle.std.proofs.lemmas.Fmt.{decimal_digit}
+use Rattle.keys.specs.declared.command.Command.TheVariants.{Get, Put, Del, Scan}
+use Rattle.keys.specs.declared.command.Reply.{Reply}
+use Rattle.keys.specs.declared.command.Reply.TheVariants.{Rows}
 use Rattle.bstr.specs.Text.{line_len, lines_from}
 use Rattle.bwsh.specs.declared.line.Says.{Says}
 use Rattle.bwsh.specs.declared.line.Says.TheVariants.{Nothing, Go, Bad}
-use Rattle.bwsh.specs.declared.line.Why.TheVariants.{UnknownCommand, WordCount, BadToken}
-use Rattle.bwsh.specs.declared.batch_file.Order.TheVariants.{Batch}
+use Rattle.bwsh.specs.declared.line.Says.TheVariants as says
+use Rattle.bwsh.specs.declared.line.Why.TheVariants.{UnknownCommand, WordCount, BadToken, BadNumber}
+use Rattle.bwsh.specs.declared.batch_file.Order.TheVariants.{Batch, Verify}
 use Rattle.bwsh.specs.Token.{token_bytes, shown_token}
 use Rattle.bwsh.specs.Words.{words_of}
 use Rattle.bwsh.specs.Line.{line_says}
+use Rattle.bwsh.specs.Number.{number_in}
+use Rattle.bwsh.specs.Shown.{shown_reply}
 use Rattle.bwsh.specs.BatchFile.{lines, first_bad, orders_of}
 
 an_escape : token_bytes (codes "%41") ≡ Some (codes "A")
@@ -64,6 +70,39 @@ a_bad_token = refl
 go_with_a_word : line_says (codes "go a") ≡ Bad WordCount
 go_with_a_word = refl
 
+-- the star is no upper bound, and else the key of one byte; zeros may stand in front of a number
+a_scan_without_bound : line_says (codes "scan * * 005") ≡ Says.Command (Scan (42 ∷ []) None 5)
+a_scan_without_bound = refl
+
+a_scan_below_a_star : line_says (codes "scan % %2A 4294967295") ≡ Says.Command (Scan [] (Some (42 ∷ [])) 4294967295)
+a_scan_below_a_star = refl
+
+a_number_too_great : number_in (codes "4294967296") ≡ None
+a_number_too_great = refl
+
+no_digits : number_in [] ≡ None
+no_digits = refl
+
+a_sign_in_front : line_says (codes "scan a * +1") ≡ Bad BadNumber
+a_sign_in_front = refl
+
+-- a limit isn't read as a token
+an_escaped_number : line_says (codes "scan a * %31") ≡ Bad BadNumber
+an_escaped_number = refl
+
+-- what is no token goes before what is no number, and the number of words before both
+a_bad_token_first : line_says (codes "scan a %g1 x") ≡ Bad BadToken
+a_bad_token_first = refl
+
+no_limit : line_says (codes "scan %g1 *") ≡ Bad WordCount
+no_limit = refl
+
+verify_alone : line_says (codes " verify ") ≡ says.Verify
+verify_alone = refl
+
+verify_with_a_word : line_says (codes "verify 1") ≡ Bad WordCount
+verify_with_a_word = refl
+
 seven_lines : List Says
 seven_lines = map line_says (codes "get a" ∷ codes "put a 1" ∷ codes "get a" ∷ codes "put a 2" ∷ codes "get a" ∷ codes "del a" ∷ codes "get a" ∷ [])
 
@@ -78,6 +117,10 @@ none_of_seven_is_bad = refl
 the_second_is_bad : first_bad 1 (map line_says (codes "put a 1" ∷ codes "frob x" ∷ codes "put" ∷ [])) ≡ Some (2, UnknownCommand)
 the_second_is_bad = refl
 
+-- a verify runs the pending batch only where it has commands
+verifies : orders_of [] (map line_says (codes "verify" ∷ codes "get a" ∷ codes "verify" ∷ codes "go" ∷ [])) ≡ Verify ∷ Batch (Get (97 ∷ []) ∷ []) ∷ Verify ∷ Batch [] ∷ []
+verifies = refl
+
 an_empty_batch : orders_of [] (Go ∷ Nothing ∷ Go ∷ []) ≡ Batch [] ∷ Batch [] ∷ []
 an_empty_batch = refl
 
@@ -89,3 +132,11 @@ line_ends = refl
 no_line : lines [] ≡ []
 unfolding line_len lines_from
 no_line = refl
+
+-- a reply to a scan is the number of its rows, and a line for each
+scanned : List (List ℕ × List ℕ) → Reply ℕ
+scanned rows = Rows rows
+
+some_rows : shown_reply (scanned ((32 ∷ 0 ∷ [], 37 ∷ []) ∷ ([], []) ∷ [])) ≡ codes "rows 2" ++ 10 ∷ codes "%20%00 %25" ++ 10 ∷ codes "% %" ++ 10 ∷ []
+unfolding scanned
+some_rows = rw (decimal_digit 2 (omega arith)) refl

@@ -1,23 +1,31 @@
 -- Lemmas on the orders of a batch file.
-use Rattle.std.proofs.Common.{◌≡◌, List, [], ◌∷◌, ◌++◌, map, refl, sym, ap, ◌∙◌, append_assoc, append-nil}
-use Rattle.std.specs.List.{flat_map}
+use Rattle.std.proofs.Common.{◌≡◌, ◌≢◌, List, [], ◌∷◌, ◌++◌, map, refl, sym, ap, ◌∙◌, append_assoc, append-nil}
+use Rattle.std.specs.List.{AllByRecursion, flat_map}
 use Rattle.std.specs.declared.alloc.Global.{Global}
 use Rattle.keys.specs.declared.command.Command.{Command}
 use Rattle.bwsh.specs.declared.line.Says.{Says}
 use Rattle.bwsh.specs.declared.line.Says.TheVariants.{Nothing, Go, Bad}
+use Rattle.bwsh.specs.declared.line.Says.TheVariants as says
 use Rattle.bwsh.specs.declared.batch_file.Order.{Order}
-use Rattle.bwsh.specs.declared.batch_file.Order.TheVariants.{Batch}
+use Rattle.bwsh.specs.declared.batch_file.Order.TheVariants.{Batch, Verify}
 use Rattle.bwsh.specs.BatchFile.{last_order, orders_of, commands_of, commands_said, batch_lines}
 
 commands-last_order : (pending : List (Command Global)) → flat_map commands_of (last_order pending) ≡ pending ++ []
 commands-last_order [] = refl
 commands-last_order (command ∷ commands) = refl
 
+-- and in front of other orders
+commands-last_first : (pending : List (Command Global)) (orders : List Order) → flat_map commands_of (last_order pending ++ orders) ≡ pending ++ flat_map commands_of orders
+commands-last_first [] orders = refl
+commands-last_first (command ∷ commands) orders = refl
+
 -- the pending commands come first, and then those that the lines say
 pub commands-orders_of : (pending : List (Command Global)) (says : List Says) → flat_map commands_of (orders_of pending says) ≡ pending ++ commands_said says
 commands-orders_of pending [] = commands-last_order pending
 commands-orders_of pending (Says.Command command ∷ rest) = commands-orders_of (pending ++ command ∷ []) rest ∙ append_assoc pending (command ∷ []) (commands_said rest)
 commands-orders_of pending (Go ∷ rest) = ap (λ (cs : List (Command Global)). pending ++ cs) (commands-orders_of [] rest)
+commands-orders_of pending (says.Verify ∷ rest) =
+    commands-last_first pending (Verify ∷ orders_of [] rest) ∙ ap (λ (cs : List (Command Global)). pending ++ cs) (commands-orders_of [] rest)
 commands-orders_of pending (Nothing ∷ rest) = commands-orders_of pending rest
 commands-orders_of pending (Bad why ∷ rest) = commands-orders_of pending rest
 
@@ -33,3 +41,16 @@ orders_of-batch_lines [] = refl
 orders_of-batch_lines (commands ∷ batches) =
     one_batch [] commands (flat_map batch_lines batches)
     ∙ ap (λ (orders : List Order). Batch commands ∷ orders) (orders_of-batch_lines batches)
+
+-- where no line says `verify`, all orders are batches
+batches-last_order : (pending : List (Command Global)) → AllByRecursion (λ o. o ≢ Verify) (last_order pending)
+batches-last_order [] = tt
+batches-last_order (command ∷ commands) = (λ e. cc, tt)
+
+pub batches-orders_of : (pending : List (Command Global)) (said : List Says) → AllByRecursion (λ s. s ≢ says.Verify) said → AllByRecursion (λ o. o ≢ Verify) (orders_of pending said)
+batches-orders_of pending [] none = batches-last_order pending
+batches-orders_of pending (Says.Command command ∷ rest) none = batches-orders_of (pending ++ command ∷ []) rest none.1
+batches-orders_of pending (Go ∷ rest) none = (λ e. cc, batches-orders_of [] rest none.1)
+batches-orders_of pending (says.Verify ∷ rest) none = absurd (none.0 refl)
+batches-orders_of pending (Nothing ∷ rest) none = batches-orders_of pending rest none.1
+batches-orders_of pending (Bad why ∷ rest) none = batches-orders_of pending rest none.1

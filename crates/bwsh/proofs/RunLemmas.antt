@@ -6,8 +6,6 @@ use Rattle.std.specs.declared.alloc.Global.{Global}
 use Rattle.std.proofs.lemmas.List.{drop_more}
 use Rattle.std.proofs.lemmas.Bool.Decides.{nat_tests}
 use Rattle.std.proofs.KnownBytes.{Appends-nil}
-use borrow.Enum.Known.{ValuesAt}
-use borrow.Enum.Total.{values_d}
 use Rattle.keys.specs.Step.{replies_to, map_after_all}
 use Rattle.keys.specs.declared.fault.Fault.{Fault}
 use Rattle.keys.specs.declared.fault.Fault.TheVariants.{NoMemory, Spent}
@@ -17,15 +15,16 @@ use Rattle.keys.specs.declared.settings.Settings.{Settings}
 use Rattle.mapping.specs.Tree.{Tree}
 use Rattle.mapping.specs.Levels.{contents}
 use Rattle.climb_plan.specs.Plan.{planned_tree}
+use Rattle.verify.specs.Report.{report}
+use Rattle.verify.specs.declared.report.Report.{Report}
 use Rattle.engine.specs.Refusal.{refusal}
 use Rattle.engine.specs.Batch.{IsLaterFault, height_fault}
-use Rattle.bwsh.specs.contracts.batch_file.Order as rows
 use Rattle.bwsh.specs.declared.batch_file.Order.{Order}
-use Rattle.bwsh.specs.declared.batch_file.Order.TheVariants.{Batch}
+use Rattle.bwsh.specs.declared.batch_file.Order.TheVariants.{Batch, Verify}
 use Rattle.bwsh.specs.declared.session.Ending.{Ending}
 use Rattle.bwsh.specs.declared.session.Ending.TheVariants as endings
-use Rattle.bwsh.specs.Session.{refusal_of, tree_behind, answer_lines, accepted, orders_end, Prints, Runs, Leaves}
-use Rattle.bwsh.specs.Shown.{shown_reply}
+use Rattle.bwsh.specs.Session.{refusal_of, tree_behind, map_behind, own_lines, answer_lines, accepted, orders_end, Prints, Runs, Leaves}
+use Rattle.bwsh.specs.Shown.{shown_reply, shown_report}
 use Rattle.bwsh.proofs.Prints.{Prints-all, Prints-behind, Prints-early}
 
 pub OnOk-always : {A B P : Type 0} (r : Result A B) → P → OnOk r P
@@ -33,11 +32,6 @@ OnOk-always (Ok x) p = p
 OnOk-always (Err x) p = tt
 
 -- ---- the right of a batch
-
--- the check says what an order's batch has by `values_d`, with a default for what is no batch
-pub batch_is : (default : ValuesAt rows.enum.parts 0) (order : Order) (commands : List (Command Global))
-    → commands ≡ (values_d rows.enum 0 default order).0 → order ≡ Batch commands
-batch_is default (Batch cs) commands e = ap (λ (l : List (Command Global)). Batch l) (sym e)
 
 -- 64 levels can be
 levels_right : (height : ℕ) → height ≤ 64 → height_fault height ≡ None
@@ -79,67 +73,62 @@ pub Runs-none : (settings : Settings) (tree : Tree) (old : Option (List ℕ)) �
 unfolding Runs
 Runs-none settings tree old = inl (refl, Appends-nil old)
 
-module _ (settings : Settings) (tree : Tree) (commands : List (Command Global)) (old new : Option (List ℕ)) where
-  -- the lines of the batch
+module _ (settings : Settings) (tree : Tree) (order : Order) (old new : Option (List ℕ)) where
+  -- the lines of the order, and what it leaves
   abbrev lines : List (List ℕ)
-  lines = map shown_reply (replies_to (contents tree) commands)
+  lines = own_lines tree (contents tree) order
+
+  abbrev behind : Tree
+  behind = tree_behind settings tree order
+
+  -- the lines that orders answer behind it
+  abbrev further : Tree → List Order → List (List ℕ)
+  further t rest = answer_lines settings t (map_behind (contents tree) order) (accepted settings t rest)
 
   -- the order stops here for want of memory, or by its right
-  stopped : (fault : Fault) → (fault ≡ NoMemory) ⊎ (refusal_of settings tree (Batch commands) ≡ Some fault)
-      → Runs settings tree (Batch commands ∷ []) old old (Err (endings.Fault fault))
+  pub stopped : (fault : Fault) → (fault ≡ NoMemory) ⊎ (refusal_of settings tree order ≡ Some fault)
+      → Runs settings tree (order ∷ []) old old (Err (endings.Fault fault))
   unfolding Runs
   stopped fault (inl memory) =
-      inr (inl (ap (λ (f : Fault). Err (endings.Fault f)) memory, ([], (answer_lines (contents tree) (accepted settings tree (Batch commands ∷ [])), refl), Appends-nil old)))
+      inr (inl (ap (λ (f : Fault). Err (endings.Fault f)) memory, ([], (answer_lines settings tree (contents tree) (accepted settings tree (order ∷ [])), refl), Appends-nil old)))
   stopped fault (inr some) = rw some (inl (refl, Appends-nil old))
 
   -- the order is answered
-  answered : (end : Result (Unit {0}) Ending) → refusal_of settings tree (Batch commands) ≡ None → Prints old new lines (Ok tt) end
-      → Runs settings tree (Batch commands ∷ []) old new end
+  pub answered : (end : Result (Unit {0}) Ending) → refusal_of settings tree order ≡ None → Prints old new lines (Ok tt) end
+      → Runs settings tree (order ∷ []) old new end
   unfolding Runs
   answered end none p = rw none (subst (λ (l : List (List ℕ)). Prints old new l (Ok tt) end) (sym (append-nil lines)) p)
 
   -- it stops early: so do the orders that it stands before
-  stops_by : (rest : List Order) (early : Ending) (r : Option Fault) → refusal_of settings tree (Batch commands) ≡ r
-      → Runs settings tree (Batch commands ∷ []) old new (Err early) → Runs settings tree (Batch commands ∷ rest) old new (Err early)
+  stops_by : (rest : List Order) (early : Ending) (r : Option Fault) → refusal_of settings tree order ≡ r
+      → Runs settings tree (order ∷ []) old new (Err early) → Runs settings tree (order ∷ rest) old new (Err early)
   unfolding Runs
   stops_by rest early None none p =
       let own : Prints old new (lines ++ []) (Ok tt) (Err early) = rw none at p in
-      let behind = tree_behind settings tree (Batch commands) in
-      rw none (Prints-early old new lines (answer_lines (map_after_all (contents tree) commands) (accepted settings behind rest)) (orders_end settings behind rest) early
+      rw none (Prints-early old new lines (further behind rest) (orders_end settings behind rest) early
       (subst (λ (l : List (List ℕ)). Prints old new l (Ok tt) (Err early)) (append-nil lines) own))
   stops_by rest early (Some fault) some p =
       let own : Prints old new [] (Err (endings.Fault fault)) (Err early) = rw some at p in
       rw some own
 
+  pub Runs-stops : (rest : List Order) (early : Ending) → Runs settings tree (order ∷ []) old new (Err early) → Runs settings tree (order ∷ rest) old new (Err early)
+  Runs-stops rest early p = stops_by rest early (refusal_of settings tree order) refl p
+
   -- all of it is done: what the rest prints is behind it
-  goes_on : (rest : List Order) (after : Tree) (last : Option (List ℕ)) (done : Unit {0}) (end : Result (Unit {0}) Ending) → refusal_of settings tree (Batch commands) ≡ None
-      → after ≡ tree_behind settings tree (Batch commands) → contents after ≡ map_after_all (contents tree) commands
-      → Runs settings tree (Batch commands ∷ []) old new (Ok done) → Runs settings after rest new last end → Runs settings tree (Batch commands ∷ rest) old last end
+  pub Runs-goes_on : (rest : List Order) (after : Tree) (last : Option (List ℕ)) (done : Unit {0}) (end : Result (Unit {0}) Ending) → Leaves settings tree order after
+      → Runs settings tree (order ∷ []) old new (Ok done) → Runs settings after rest new last end → Runs settings tree (order ∷ rest) old last end
   unfolding Runs
-  goes_on rest after last done end none is map_is p q =
+  Runs-goes_on rest after last done end (none, is, map_is) p q =
       let own : Prints old new (lines ++ []) (Ok tt) (Ok done) = rw none at p in
       let printed = Prints-all old new lines (Ok tt) done (subst (λ (l : List (List ℕ)). Prints old new l (Ok tt) (Ok done)) (append-nil lines) own) in
-      let next = subst (λ (m : List (List ℕ × List ℕ)). Prints new last (answer_lines m (accepted settings after rest)) (orders_end settings after rest) end) map_is q in
-      let behind = subst (λ (t : Tree). Prints new last (answer_lines (map_after_all (contents tree) commands) (accepted settings t rest)) (orders_end settings t rest) end) is next in
-      rw none (Prints-behind old new last lines (answer_lines (map_after_all (contents tree) commands) (accepted settings (tree_behind settings tree (Batch commands)) rest))
-      (orders_end settings (tree_behind settings tree (Batch commands)) rest) end printed behind)
-
-pub Runs-stops : (settings : Settings) (tree : Tree) (order : Order) (rest : List Order) (old new : Option (List ℕ)) (early : Ending)
-    → Runs settings tree (order ∷ []) old new (Err early) → Runs settings tree (order ∷ rest) old new (Err early)
-Runs-stops settings tree (Batch commands) rest old new early p = stops_by settings tree commands old new rest early (refusal_of settings tree (Batch commands)) refl p
-
-pub Runs-goes_on : (settings : Settings) (tree after : Tree) (order : Order) (rest : List Order) (old new last : Option (List ℕ)) (done : Unit {0}) (end : Result (Unit {0}) Ending)
-    → Leaves settings tree order after → Runs settings tree (order ∷ []) old new (Ok done) → Runs settings after rest new last end → Runs settings tree (order ∷ rest) old last end
-Runs-goes_on settings tree after (Batch commands) rest old new last done end (none, is, map_is) p q =
-    goes_on settings tree commands old new rest after last done end none is map_is p q
+      let next = subst (λ (m : List (List ℕ × List ℕ)). Prints new last (answer_lines settings after m (accepted settings after rest)) (orders_end settings after rest) end) map_is q in
+      let then_on = subst (λ (t : Tree). Prints new last (further t rest) (orders_end settings t rest) end) is next in
+      rw none (Prints-behind old new last lines (further behind rest) (orders_end settings behind rest) end printed then_on)
 
 -- ---- what a batch answers
 
-module _ {T : Type 0} (settings : Settings) (tree after : Tree) (default : ValuesAt rows.enum.parts 0) (order : Order) (commands : List (Command Global)) (own_commands : commands ≡ (values_d rows.enum 0 default order).0)
+module _ {T : Type 0} (settings : Settings) (tree after : Tree) (order : Order) (commands : List (Command Global)) (order_is : order ≡ Batch commands)
     (result : Result T Fault) (refused : MatchOption (refusal settings commands) (IfErr result (IsLaterFault settings tree commands)) (λ fault. result ≡ Err fault)) where
-  order_is : order ≡ Batch commands
-  order_is = batch_is default order commands own_commands
-
   refusal_is : refusal_of settings tree (Batch commands) ≡ option_or (refusal settings commands) (height_fault (planned_tree settings tree commands).height)
   unfolding refusal_of
   refusal_is = refl
@@ -147,7 +136,7 @@ module _ {T : Type 0} (settings : Settings) (tree after : Tree) (default : Value
   pub Runs-refused : (old : Option (List ℕ)) (fault : Fault) → result ≡ Err fault → Runs settings tree (order ∷ []) old old (Err (endings.Fault fault))
   Runs-refused old fault e =
       let why = refused_rightly (planned_tree settings tree commands).height (refusal settings commands) fault result e refused in
-      subst (λ (o : Order). Runs settings tree (o ∷ []) old old (Err (endings.Fault fault))) (sym order_is) (stopped settings tree commands old old fault (map_right why)) where
+      subst (λ (o : Order). Runs settings tree (o ∷ []) old old (Err (endings.Fault fault))) (sym order_is) (stopped settings tree (Batch commands) old old fault (map_right why)) where
         map_right : (fault ≡ NoMemory) ⊎ (option_or (refusal settings commands) (height_fault (planned_tree settings tree commands).height) ≡ Some fault)
             → (fault ≡ NoMemory) ⊎ (refusal_of settings tree (Batch commands) ≡ Some fault)
         map_right (inl memory) = inl memory
@@ -160,7 +149,7 @@ module _ {T : Type 0} (settings : Settings) (tree after : Tree) (default : Value
     pub Runs-answered : (old new : Option (List ℕ)) (end : Result (Unit {0}) Ending) (shown replies : List (Reply Global)) → shown ≡ replies → replies ≡ replies_to (contents tree) commands
         → Prints old new (map shown_reply shown) (Ok tt) end → Runs settings tree (order ∷ []) old new end
     Runs-answered old new end shown replies same are p =
-        subst (λ (o : Order). Runs settings tree (o ∷ []) old new end) (sym order_is) (answered settings tree commands old new end none
+        subst (λ (o : Order). Runs settings tree (o ∷ []) old new end) (sym order_is) (answered settings tree (Batch commands) old new end none
         (subst (λ (rs : List (Reply Global)). Prints old new (map shown_reply rs) (Ok tt) end) (same ∙ are) p))
 
     tree_is : after ≡ tree_behind settings tree (Batch commands)
@@ -169,6 +158,30 @@ module _ {T : Type 0} (settings : Settings) (tree after : Tree) (default : Value
 
     pub Leaves-answered : contents after ≡ map_after_all (contents tree) commands → Leaves settings tree order after
     Leaves-answered e = subst (λ (o : Order). Leaves settings tree o after) (sym order_is) (none, tree_is, e)
+
+-- ---- what a verify answers
+
+module _ (settings : Settings) (tree : Tree) (order : Order) (order_is : order ≡ Verify) where
+  never_refused : refusal_of settings tree Verify ≡ None
+  unfolding refusal_of
+  never_refused = refl
+
+  pub Runs-unverified : (old : Option (List ℕ)) (fault : Fault) → fault ≡ NoMemory → Runs settings tree (order ∷ []) old old (Err (endings.Fault fault))
+  Runs-unverified old fault e =
+      subst (λ (o : Order). Runs settings tree (o ∷ []) old old (Err (endings.Fault fault))) (sym order_is) (stopped settings tree Verify old old fault (inl e))
+
+  pub Runs-verified : (old new : Option (List ℕ)) (end : Result (Unit {0}) Ending) (told : Report) → told ≡ report tree → Prints old new (shown_report told ∷ []) (Ok tt) end
+      → Runs settings tree (order ∷ []) old new end
+  Runs-verified old new end told is p =
+      subst (λ (o : Order). Runs settings tree (o ∷ []) old new end) (sym order_is) (answered settings tree Verify old new end never_refused
+      (subst (λ (r : Report). Prints old new (shown_report r ∷ []) (Ok tt) end) is p))
+
+  unmoved : tree ≡ tree_behind settings tree Verify
+  unfolding tree_behind
+  unmoved = refl
+
+  pub Leaves-verified : Leaves settings tree order tree
+  Leaves-verified = subst (λ (o : Order). Leaves settings tree o tree) (sym order_is) (never_refused, unmoved, refl)
 
 -- ---- orders one after the other
 
@@ -188,10 +201,10 @@ module _ (settings : Settings) (first tree : Tree) (orders left : List Order) (o
     pub Leads-stops : (early : Ending) → Runs of_store tree (order ∷ []) now new (Err early) → Runs settings first orders old new (Err early)
     Leads-stops early p =
         let p2 = subst (λ (s : Settings). Runs s tree (order ∷ []) now new (Err early)) same p in
-        leads new (Err early) (subst (λ (l : List Order). Runs settings tree l now new (Err early)) (sym is) (Runs-stops settings tree order rest now new early p2))
+        leads new (Err early) (subst (λ (l : List Order). Runs settings tree l now new (Err early)) (sym is) (Runs-stops settings tree order now new rest early p2))
 
     pub Leads-goes_on : (after : Tree) (done : Unit {0}) → Leaves of_store tree order after → Runs of_store tree (order ∷ []) now new (Ok done) → Leads settings first orders old after rest new
     Leads-goes_on after done leaves p last end q =
         let leaves2 = subst (λ (s : Settings). Leaves s tree order after) same leaves in
         let p2 = subst (λ (s : Settings). Runs s tree (order ∷ []) now new (Ok done)) same p in
-        leads last end (subst (λ (l : List Order). Runs settings tree l now last end) (sym is) (Runs-goes_on settings tree after order rest now new last done end leaves2 p2 q))
+        leads last end (subst (λ (l : List Order). Runs settings tree l now last end) (sym is) (Runs-goes_on settings tree order now new rest after last done end leaves2 p2 q))

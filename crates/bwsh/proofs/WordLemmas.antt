@@ -5,7 +5,7 @@ use Rattle.std.specs.List.{slice_split, onto_first, filter, position, position_o
 use Rattle.std.proofs.lemmas.Bool.{ltb-true, ltb-false, not-true}
 use Rattle.std.proofs.lemmas.List.{drop_more, drop_all}
 use Rattle.std.proofs.lemmas.List.Sums.{prefix_len-le-length, passes_at_first}
-use Rattle.bwsh.specs.Words.{is_blank, is_word, words_of, the_only, the_two}
+use Rattle.bwsh.specs.Words.{is_blank, is_word, words_of, the_only, the_two, the_three}
 
 found_by : (b : Bool) (n m i : ℕ) → ltb n m ≡ b → cond b (Some n) None ≡ Some i → (i ≡ n) × (n < m)
 found_by true n m i h e = (let f : Some n ≡ Some i = e in cc, ltb-true n m h)
@@ -80,7 +80,7 @@ words_of-no_word line h = no_word is_blank line h
 pub words_of-a_word : (line : List ℕ) (i : ℕ) → position (λ c. not (is_blank c)) line ≡ Some i → (n : ℕ) → n ≡ unwrap_or (position is_blank (drop i line)) (length (drop i line)) → words_of line ≡ take n (drop i line) ∷ words_of (drop n (drop i line))
 words_of-a_word line i h n k = a_word is_blank line i h n k
 
--- the words that there are, where there is only one, and where there are two
+-- the words that there are, where there is only one, and where there are two or three
 pub the_only_is : (words : List (List ℕ)) (w : List ℕ) → Some w ≡ the_only words → words ≡ w ∷ []
 the_only_is [] w h = absurd (cc)
 the_only_is (v ∷ []) w h = let e : w ≡ v = cc in ap (λ (x : List ℕ). x ∷ []) (sym e)
@@ -94,3 +94,13 @@ the_two_are (x ∷ y ∷ []) v w h =
     let e : pair v w ≡ pair x y = cc in
     ap (λ (p : List ℕ × List ℕ). p.0 ∷ p.1 ∷ []) (sym e)
 the_two_are (x ∷ y ∷ z ∷ rest) v w h = absurd (cc)
+
+pub the_three_are : (words : List (List ℕ)) (u v w : List ℕ) → Some (u, v, w) ≡ the_three words → words ≡ u ∷ v ∷ w ∷ []
+the_three_are [] u v w h = absurd (cc)
+the_three_are (x ∷ []) u v w h = absurd (cc)
+the_three_are (x ∷ y ∷ []) u v w h = absurd (cc)
+the_three_are (x ∷ y ∷ z ∷ []) u v w h =
+    let triple : List ℕ → List ℕ → List ℕ → List ℕ × List ℕ × List ℕ = λ a b c. (a, b, c) in
+    let e : triple u v w ≡ triple x y z = cc in
+    ap (λ (p : List ℕ × List ℕ × List ℕ). p.0 ∷ p.1 ∷ p.2 ∷ []) (sym e)
+the_three_are (x ∷ y ∷ z ∷ t ∷ rest) u v w h = absurd (cc)

@@ -5,9 +5,10 @@ use Rattle.keys.specs.declared.command.Command.{Command}
 use Rattle.bstr.specs.Text.{lines_of, without_terminator}
 use Rattle.bwsh.specs.declared.line.Says.{Says}
 use Rattle.bwsh.specs.declared.line.Says.TheVariants.{Go, Bad}
+use Rattle.bwsh.specs.declared.line.Says.TheVariants as says
 use Rattle.bwsh.specs.declared.line.Why.{Why}
 use Rattle.bwsh.specs.declared.batch_file.Order.{Order}
-use Rattle.bwsh.specs.declared.batch_file.Order.TheVariants.{Batch}
+use Rattle.bwsh.specs.declared.batch_file.Order.TheVariants.{Batch, Verify}
 use Rattle.bwsh.specs.declared.batch_file.TextFault.{TextFault}
 use Rattle.bwsh.specs.declared.batch_file.TextFault.TheVariants as faults
 use Rattle.bwsh.specs.Line.{line_says}
@@ -36,6 +37,7 @@ abbrev pub orders_of : List (Command Global) → List Says → List Order
 orders_of pending [] = last_order pending
 orders_of pending (Says.Command command ∷ rest) = orders_of (pending ++ command ∷ []) rest
 orders_of pending (Go ∷ rest) = Batch pending ∷ orders_of [] rest
+orders_of pending (says.Verify ∷ rest) = last_order pending ++ Verify ∷ orders_of [] rest
 orders_of pending (_ ∷ rest) = orders_of pending rest
 
 -- the fault tells of the first bad line, or that memory was refused
@@ -46,6 +48,7 @@ Tells says faults.Memory = Unit {0}
 -- the commands of an order
 abbrev pub commands_of : Order → List (Command Global)
 commands_of (Batch commands) = commands
+commands_of Verify = []
 
 -- the commands that lines say
 abbrev pub commands_said : List Says → List (Command Global)

@@ -1,6 +1,7 @@
 pub mod BatchFile
 pub mod CommandLine
 pub mod Line
+pub mod Number
 pub mod Options
 pub mod Session
 pub mod Shown

@@ -1,15 +1,16 @@
 -- What a line of a batch file says.
-use Rattle.std.specs.Prelude.{ℕ, List, [], ◌∷◌, Result, Ok, Err, codes, nat_eq, if◌then◌else◌}
+use Rattle.std.specs.Prelude.{ℕ, List, [], ◌∷◌, Option, Some, None, Result, Ok, Err, codes, nat_eq, if◌then◌else◌}
 use Rattle.std.specs.List.{starts_with}
-use Rattle.std.specs.Option.{ok_or, option_zip}
+use Rattle.std.specs.Option.{ok_or, option_map, option_zip}
 use Rattle.std.specs.Str.{bytes_eq}
 use Rattle.std.specs.declared.alloc.Global.{Global}
 use Rattle.keys.specs.declared.command.Command.{Command}
-use Rattle.keys.specs.declared.command.Command.TheVariants.{Get, Put, Add, Del}
+use Rattle.keys.specs.declared.command.Command.TheVariants.{Get, Put, Add, Del, Scan}
 use Rattle.bwsh.specs.declared.line.Says.{Says}
-use Rattle.bwsh.specs.declared.line.Says.TheVariants.{Nothing, Go, Bad}
+use Rattle.bwsh.specs.declared.line.Says.TheVariants.{Nothing, Go, Verify, Bad}
 use Rattle.bwsh.specs.declared.line.Why.{Why}
-use Rattle.bwsh.specs.declared.line.Why.TheVariants.{UnknownCommand, WordCount, BadToken}
+use Rattle.bwsh.specs.declared.line.Why.TheVariants.{UnknownCommand, WordCount, BadToken, BadNumber}
+use Rattle.bwsh.specs.Number.{number_in}
 use Rattle.bwsh.specs.Token.{token_bytes}
 use Rattle.bwsh.specs.Words.{words_of}
 
@@ -28,10 +29,33 @@ abbrev pub said : {X : Type 0} → (X → Command Global) → Result X Why → S
 said command (Ok x) = Says.Command (command x)
 said command (Err why) = Bad why
 
--- what is said by these words behind `go`
-abbrev pub go_says : List (List ℕ) → Says
-go_says [] = Go
-go_says _ = Bad WordCount
+-- the upper bound that a token stands for, if it is one: the star alone is no bound
+abbrev pub bound_of : List ℕ → Option (Option (List ℕ))
+bound_of token = if bytes_eq token (codes "*") then Some None else option_map (λ key. Some key) (token_bytes token)
+
+-- what is said by a lower bound, an upper bound and a limit behind `scan`, each if it is there
+abbrev pub scan_by : Option (List ℕ) → Option (Option (List ℕ)) → Option ℕ → Says
+scan_by None hi limit = Bad BadToken
+scan_by (Some lo) None limit = Bad BadToken
+scan_by (Some lo) (Some hi) None = Bad BadNumber
+scan_by (Some lo) (Some hi) (Some limit) = Says.Command (Scan lo hi limit)
+
+-- what is said by these words behind `scan`
+abbrev pub scan_says : List (List ℕ) → Says
+scan_says (lo ∷ hi ∷ limit ∷ []) = scan_by (token_bytes lo) (bound_of hi) (number_in limit)
+scan_says _ = Bad WordCount
+
+-- this is said, where no words stand behind
+abbrev pub alone : Says → List (List ℕ) → Says
+alone says [] = says
+alone says _ = Bad WordCount
+
+-- what is said by this word and those behind it, where it is none of a command
+abbrev pub order_says : List ℕ → List (List ℕ) → Says
+order_says word behind =
+    if bytes_eq word (codes "go") then alone Go behind else (
+    if bytes_eq word (codes "verify") then alone Verify behind else
+    Bad UnknownCommand)
 
 -- what is said by this word and those behind it
 abbrev pub command_says : List ℕ → List (List ℕ) → Says
@@ -40,8 +64,8 @@ command_says word behind =
     if bytes_eq word (codes "add") then said (λ (k, v). Add k v) (key_and_value behind) else (
     if bytes_eq word (codes "get") then said Get (only_key behind) else (
     if bytes_eq word (codes "del") then said Del (only_key behind) else (
-    if bytes_eq word (codes "go") then go_says behind else
-    Bad UnknownCommand))))
+    if bytes_eq word (codes "scan") then scan_says behind else
+    order_says word behind))))
 
 -- what a line of these words says: nothing where there are none, or where the first begins with `#`
 abbrev pub words_say : List (List ℕ) → Says

@@ -12,10 +12,11 @@ use Rattle.keys.specs.declared.fault.Fault.TheVariants.{BadSettings, NoMemory}
 use Rattle.mapping.specs.Tree.{Tree, first_tree}
 use Rattle.mapping.specs.Levels.{contents}
 use Rattle.climb_plan.specs.Plan.{planned_tree}
+use Rattle.verify.specs.Report.{report}
 use Rattle.engine.specs.Batch.{refusal_by}
 use Rattle.bwsh.specs.declared.line.Why.{Why}
 use Rattle.bwsh.specs.declared.batch_file.Order.{Order}
-use Rattle.bwsh.specs.declared.batch_file.Order.TheVariants.{Batch}
+use Rattle.bwsh.specs.declared.batch_file.Order.TheVariants.{Batch, Verify}
 use Rattle.bwsh.specs.declared.batch_file.TextFault.{TextFault}
 use Rattle.bwsh.specs.declared.batch_file.TextFault.TheVariants as faults
 use Rattle.bwsh.specs.declared.session.Ending.{Ending}
@@ -23,7 +24,7 @@ use Rattle.bwsh.specs.declared.session.Ending.TheVariants.{Words, Bad, Device}
 use Rattle.bwsh.specs.declared.session.Ending.TheVariants as endings
 use Rattle.bwsh.specs.BatchFile.{said_by, first_bad, orders_of}
 use Rattle.bwsh.specs.Options.{Tells, AsksForHelp, AreRefused}
-use Rattle.bwsh.specs.Shown.{shown_reply}
+use Rattle.bwsh.specs.Shown.{shown_reply, shown_report}
 
 -- the exit status of a session that ends before all is done
 abbrev pub status_of : Ending → ℕ
@@ -45,23 +46,37 @@ ending_by faults.Memory = endings.Fault NoMemory
 -- the map that an order leaves
 abbrev pub map_behind : List (List ℕ × List ℕ) → Order → List (List ℕ × List ℕ)
 map_behind m (Batch commands) = map_after_all m commands
+map_behind m Verify = m
 
 -- the tree that it leaves
 unfoldable pub tree_behind : Settings → Tree → Order → Tree
 tree_behind settings tree (Batch commands) = planned_tree settings tree commands
+tree_behind settings tree Verify = tree
 
--- the lines that the orders answer, each with its line feed, where the store holds this map before them
-abbrev pub answer_lines : List (List ℕ × List ℕ) → List Order → List (List ℕ)
-answer_lines m [] = []
-answer_lines m (Batch commands ∷ rest) = map shown_reply (replies_to m commands) ++ answer_lines (map_after_all m commands) rest
+-- the lines that an order answers, with their line feeds, where the store has this tree and holds this map before it: to a batch
+-- the replies of the map, the lines of each as one text; to a verify the report on the tree
+abbrev pub own_lines : Tree → List (List ℕ × List ℕ) → Order → List (List ℕ)
+own_lines tree m (Batch commands) = map shown_reply (replies_to m commands)
+own_lines tree m Verify = shown_report (report tree) ∷ []
+
+-- the lines that orders answer one after the other; each leaves its tree and its map to the next
+abbrev pub answer_lines : Settings → Tree → List (List ℕ × List ℕ) → List Order → List (List ℕ)
+answer_lines settings tree m [] = []
+answer_lines settings tree m (order ∷ rest) =
+    own_lines tree m order ++ answer_lines settings (tree_behind settings tree order) (map_behind m order) rest
 
 -- the text of these lines
-abbrev pub printed : List (List ℕ × List ℕ) → List Order → List ℕ
-printed m orders = flat (answer_lines m orders)
+abbrev pub printed : Settings → Tree → List (List ℕ × List ℕ) → List Order → List ℕ
+printed settings tree m orders = flat (answer_lines settings tree m orders)
+
+-- all that the orders of a text print on a new store of these settings, were each accepted
+abbrev pub printed_by : Settings → List ℕ → List ℕ
+printed_by settings text = printed settings first_tree [] (orders_of [] (said_by text))
 
 -- why a store of these settings and this tree refuses the order by its right, if it does
 unfoldable pub refusal_of : Settings → Tree → Order → Option Fault
 refusal_of settings tree (Batch commands) = refusal_by settings tree commands
+refusal_of settings tree Verify = None
 
 -- why it refuses the first of the orders that it refuses, if there is one; each that is accepted leaves its tree to the next
 abbrev pub first_refusal : Settings → Tree → List Order → Option Fault
@@ -99,7 +114,7 @@ end_after settings None orders = orders_end settings first_tree orders
 -- the lines that it prints by its right
 abbrev pub lines_after : Settings → Option Ending → List Order → List (List ℕ)
 lines_after settings (Some early) orders = []
-lines_after settings None orders = answer_lines [] (accepted settings first_tree orders)
+lines_after settings None orders = answer_lines settings first_tree [] (accepted settings first_tree orders)
 
 -- how a session on this text ends by its right
 abbrev pub session_end : Settings → List ℕ → Result (Unit {0}) Ending
@@ -133,7 +148,7 @@ Leaves settings tree order after = (refusal_of settings tree order ≡ None) × 
 
 -- what these orders print on a store of these settings and this tree, and how they end, is right but for memory and devices
 unfoldable pub Runs : Settings → Tree → List Order → Option (List ℕ) → Option (List ℕ) → Result (Unit {0}) Ending → Type 0
-Runs settings tree orders old new end = Prints old new (answer_lines (contents tree) (accepted settings tree orders)) (orders_end settings tree orders) end
+Runs settings tree orders old new end = Prints old new (answer_lines settings tree (contents tree) (accepted settings tree orders)) (orders_end settings tree orders) end
 
 -- what a session prints under these settings, and how it ends, is right for a text, which is the known one, but for memory and devices
 unfoldable pub Answers : Settings → Option (List ℕ) → Option (List ℕ) → Option (List ℕ) → Result (Unit {0}) Ending → Type 0

@@ -24,3 +24,8 @@ the_only _ = None
 abbrev pub the_two : List (List ℕ) → Option (List ℕ × List ℕ)
 the_two (first ∷ second ∷ []) = Some (first, second)
 the_two _ = None
+
+-- the three words, where there are no others
+abbrev pub the_three : List (List ℕ) → Option (List ℕ × List ℕ × List ℕ)
+the_three (first ∷ second ∷ third ∷ []) = Some (first, second, third)
+the_three _ = None

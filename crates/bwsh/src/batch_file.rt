@@ -1,7 +1,7 @@
 //! Batch files.
-ghost use Rattle.std.specs.Prelude.{◌≡◌, [], Some, None, IfOk, IfErr};
+ghost use Rattle.std.specs.Prelude.{◌≡◌, ◌++◌, [], Some, None, IfOk, IfErr, OnOk};
 ghost use Rattle.bwsh.specs.declared.batch_file.TextFault.TheVariants.{Memory};
-ghost use Rattle.bwsh.specs.BatchFile.{said_by, first_bad, orders_of, Tells};
+ghost use Rattle.bwsh.specs.BatchFile.{said_by, first_bad, last_order, orders_of, Tells};
 
 use crate::line::{LineReader, Says, Why};
 use bstr::ByteSlice;
@@ -40,6 +40,8 @@ impl Batch {
 pub enum Order {
     /// To run this batch, which may have no commands.
     Batch(Batch),
+    /// To verify the store, and tell of its pages, its height and its pairs.
+    Verify,
 }
 
 /// Why a text is not read.
@@ -67,6 +69,16 @@ impl<T: Drop> From<AllocFailed<T>> for TextFault {
     }
 }
 
+// Orders the pending commands to be run, if there are any.
+fn push_pending(pending: Vec<Command<Global>>, orders: &mut Vec<Order>) -> Result<(), AllocError>
+    ensures { OnOk result (orders.new.items ≡ orders.old.items ++ last_order pending.items) }
+{
+    if !pending.is_empty() {
+        orders.push(Order::Batch(Batch { commands: pending }))?;
+    }
+    Ok(())
+}
+
 /// What the lines of the text order, all of them. Where a line is bad nothing is ordered: the answer tells of the
 /// first such line. `TextFault::Memory` can be the answer to any text.
 pub fn parse(alloc: Global, text: &[u8]) -> Result<Vec<Order>, TextFault>
@@ -87,11 +99,14 @@ pub fn parse(alloc: Global, text: &[u8]) -> Result<Vec<Order>, TextFault>
                 let commands = mem::replace(&mut pending, Vec::new(alloc));
                 orders.push(Order::Batch(Batch { commands }))?;
             }
+            Says::Verify => {
+                let commands = mem::replace(&mut pending, Vec::new(alloc));
+                push_pending(commands, &mut orders)?;
+                orders.push(Order::Verify)?;
+            }
             Says::Bad(why) => return Err(TextFault::Bad { line, why }),
         }
     }
-    if !pending.is_empty() {
-        orders.push(Order::Batch(Batch { commands: pending }))?;
-    }
+    push_pending(pending, &mut orders)?;
     Ok(orders)
 }

@@ -1,15 +1,20 @@
 //! What the definitions of `specs/` mean. Each law is the contract of a function with an empty body.
-ghost use Rattle.std.specs.Prelude.{◌≡◌, ◌<◌, ◌≤◌, ℕ, List, [], ◌∷◌, ◌++◌, map, Some};
+ghost use Rattle.std.specs.Prelude.{◌≡◌, ◌≢◌, ◌<◌, ◌≤◌, ℕ, List, [], ◌∷◌, ◌++◌, map, Some};
 ghost use Rattle.std.specs.List.{All, flat_map};
 ghost use Rattle.std.specs.declared.alloc.Global.{Global};
 ghost use Rattle.keys.specs.declared.command.Command.{Command};
 ghost use Rattle.keys.specs.Step.{replies_to, map_after_all};
+ghost use Rattle.keys.specs.declared.settings.Settings.{Settings};
+ghost use Rattle.mapping.specs.Tree.{Tree};
+ghost use Rattle.climb_plan.specs.Plan.{planned_tree};
+ghost use Rattle.verify.specs.Report.{report};
 ghost use Rattle.bwsh.specs.declared.batch_file.Order.{Order};
-ghost use Rattle.bwsh.specs.declared.batch_file.Order.TheVariants.{Batch};
+ghost use Rattle.bwsh.specs.declared.batch_file.Order.TheVariants.{Batch, Verify};
 ghost use Rattle.bwsh.specs.declared.line.Says.{Says};
+ghost use Rattle.bwsh.specs.declared.line.Says.TheVariants as says;
 ghost use Rattle.bwsh.specs.BatchFile.{orders_of, commands_of, commands_said, batch_lines};
 ghost use Rattle.bwsh.specs.Session.{printed};
-ghost use Rattle.bwsh.specs.Shown.{shown_reply};
+ghost use Rattle.bwsh.specs.Shown.{shown_reply, shown_report};
 ghost use Rattle.bwsh.specs.Token.{token_bytes, shown_token};
 ghost use Rattle.bwsh.specs.Words.{words_of};
 
@@ -32,15 +37,22 @@ pub fn batches_are_read_back()
         orders_of [] (flat_map batch_lines batches) ≡ map (λ commands. Batch commands) batches }
 {}
 
-/// A batch prints the lines of its replies, in front of what the orders behind it print on the map that it leaves.
-pub fn a_batch_prints_its_replies()
-    ensures none { (m : List (List ℕ × List ℕ)) → printed m [] ≡ [] }
-    ensures batch { (m : List (List ℕ × List ℕ)) → (commands : List (Command Global)) → (rest : List Order) →
-        printed m (Batch commands ∷ rest) ≡ flat_map shown_reply (replies_to m commands) ++ printed (map_after_all m commands) rest }
+/// A batch prints the lines of its replies, in front of what the orders behind it print on the tree and the map that it leaves. A
+/// verify prints the line of the report on the tree, and leaves both as they are.
+pub fn each_order_prints_its_answer()
+    ensures none { (settings : Settings) → (tree : Tree) → (m : List (List ℕ × List ℕ)) → printed settings tree m [] ≡ [] }
+    ensures batch { (settings : Settings) → (tree : Tree) → (m : List (List ℕ × List ℕ)) → (commands : List (Command Global)) → (rest : List Order) →
+        printed settings tree m (Batch commands ∷ rest) ≡ flat_map shown_reply (replies_to m commands) ++ printed settings (planned_tree settings tree commands) (map_after_all m commands) rest }
+    ensures verify { (settings : Settings) → (tree : Tree) → (m : List (List ℕ × List ℕ)) → (rest : List Order) →
+        printed settings tree m (Verify ∷ rest) ≡ shown_report (report tree) ++ printed settings tree m rest }
 {}
 
-/// What is printed in all are the replies to the commands that the lines say, one after the other: it makes no
-/// difference how they are cut into batches.
+/// Where none is a verify, what is printed in all are an ordered map's replies to the commands that are ordered, one after the other: it
+/// makes no difference how they are cut into batches, nor what the settings and the tree are. So it is for lines of which none
+/// says `verify`.
 pub fn the_commands_are_answered_in_order()
-    ensures { (says : List Says) → printed [] (orders_of [] says) ≡ flat_map shown_reply (replies_to [] (commands_said says)) }
+    ensures orders { (settings : Settings) → (tree : Tree) → (m : List (List ℕ × List ℕ)) → (orders : List Order) → All (λ o. o ≢ Verify) orders →
+        printed settings tree m orders ≡ flat_map shown_reply (replies_to m (flat_map commands_of orders)) }
+    ensures lines { (settings : Settings) → (tree : Tree) → (said : List Says) → All (λ s. s ≢ says.Verify) said →
+        printed settings tree [] (orders_of [] said) ≡ flat_map shown_reply (replies_to [] (commands_said said)) }
 {}

@@ -2,10 +2,11 @@
 ghost use Rattle.std.specs.Prelude.{◌≡◌, IfOk};
 ghost use Rattle.bwsh.specs.Token.{token_bytes};
 ghost use Rattle.bwsh.specs.Words.{words_of};
-ghost use Rattle.bwsh.specs.Line.{only_key, key_and_value, go_says, command_says, line_says};
+ghost use Rattle.bwsh.specs.Line.{only_key, key_and_value, bound_of, scan_says, alone, order_says, command_says, line_says};
 
+use crate::number::number_in;
 use crate::token::unescape;
-use crate::words::{first_word, only_word, two_words};
+use crate::words::{first_word, only_word, three_words, two_words};
 use keys::{Command, Key, Value};
 use std::alloc::{AllocError, Global};
 use std::fmt;
@@ -19,6 +20,8 @@ pub enum Why {
     WordCount,
     /// A word that should stand for bytes does not.
     BadToken,
+    /// A word that should write a number does not.
+    BadNumber,
 }
 
 impl fmt::Display for Why {
@@ -27,6 +30,7 @@ impl fmt::Display for Why {
             Why::UnknownCommand => "unknown command",
             Why::WordCount => "wrong number of words",
             Why::BadToken => "bad token",
+            Why::BadNumber => "bad number",
         })
     }
 }
@@ -40,6 +44,8 @@ pub enum Says {
     Command(Command<Global>),
     /// The pending batch is to run.
     Go,
+    /// The pending batch is to run, if it has commands, and then the store is to be verified.
+    Verify,
     /// It is no line of a batch file.
     Bad(Why),
 }
@@ -107,6 +113,35 @@ impl LineReader {
         Ok(Ok((key, value)))
     }
 
+    // The upper bound that the token stands for.
+    fn bound(&mut self, token: &[u8]) -> Result<Option<Option<Key<Global>>>, AllocError>
+        ensures { IfOk result (λ bound. bound ≡ bound_of token.now) }
+    {
+        if token == b"*".as_slice() {
+            return Ok(Some(None));
+        }
+        Ok(self.key(token)?.map(Some))
+    }
+
+    // What is said by these words behind `scan`.
+    fn scan(&mut self, words: &[u8]) -> Result<Says, AllocError>
+        ensures { IfOk result (λ says. says ≡ scan_says (words_of words.now)) }
+    {
+        let Some((lo, hi, limit)) = three_words(words) else {
+            return Ok(Says::Bad(Why::WordCount));
+        };
+        let Some(lo) = self.key(lo)? else {
+            return Ok(Says::Bad(Why::BadToken));
+        };
+        let Some(hi) = self.bound(hi)? else {
+            return Ok(Says::Bad(Why::BadToken));
+        };
+        let Some(limit) = number_in(limit) else {
+            return Ok(Says::Bad(Why::BadNumber));
+        };
+        Ok(Says::Command(Command::Scan(lo, hi, limit)))
+    }
+
     // What is said by this word and those behind it.
     fn command(&mut self, word: &[u8], words: &[u8]) -> Result<Says, AllocError>
         ensures { IfOk result (λ says. says ≡ command_says word.now (words_of words.now)) }
@@ -135,10 +170,10 @@ impl LineReader {
                 Err(why) => Says::Bad(why),
             });
         }
-        if word == b"go".as_slice() {
-            return Ok(go(words));
+        if word == b"scan".as_slice() {
+            return self.scan(words);
         }
-        Ok(Says::Bad(Why::UnknownCommand))
+        Ok(order(word, words))
     }
 
     /// What the line says.
@@ -155,12 +190,25 @@ impl LineReader {
     }
 }
 
-// What is said by these words behind `go`.
-fn go(words: &[u8]) -> Says
-    ensures { result ≡ go_says (words_of words.now) }
+// What is said by this word and those behind it, where it is none of a command.
+fn order(word: &[u8], words: &[u8]) -> Says
+    ensures { result ≡ order_says word.now (words_of words.now) }
+{
+    if word == b"go".as_slice() {
+        return alone(Says::Go, words);
+    }
+    if word == b"verify".as_slice() {
+        return alone(Says::Verify, words);
+    }
+    Says::Bad(Why::UnknownCommand)
+}
+
+// This is said, where no words stand behind.
+fn alone(says: Says, words: &[u8]) -> Says
+    ensures { result ≡ alone says (words_of words.now) }
 {
     match first_word(words) {
-        None => Says::Go,
+        None => says,
         Some(_) => Says::Bad(Why::WordCount),
     }
 }

@@ -1,9 +1,10 @@
-//! `bwsh`: reads a batch file from standard input, runs it on a new store, and prints a reply to each command.
+//! `bwsh`: reads a batch file from standard input, runs it on a new store, and prints what it answers.
 #![tactic(auto)]
 
 pub mod batch_file;
 pub mod laws;
 pub mod line;
+pub mod number;
 pub mod options;
 pub mod session;
 pub mod show;

@@ -11,20 +11,22 @@ ghost use Rattle.bwsh.specs.declared.session.Ending.{Ending};
 ghost use Rattle.bwsh.specs.declared.session.Ending.TheVariants.{Device};
 ghost use Rattle.bwsh.specs.declared.session.Ending.TheVariants as endings;
 ghost use Rattle.bwsh.specs.BatchFile.{said_by, first_bad, orders_of};
-ghost use Rattle.bwsh.specs.Options.{AsksForHelp, AreRefused};
-ghost use Rattle.bwsh.specs.Session.{status_of, status_of_end, ending_by, printed, BeginsWith, IsReadEnding, IsForWords, Prints, PrintsOneText, Leaves, Runs, Answers, EndsBy};
-ghost use Rattle.bwsh.specs.Shown.{shown_reply};
+ghost use Rattle.keys.specs.declared.settings.Settings.{Settings};
+ghost use Rattle.bwsh.specs.Options.{Tells, AsksForHelp, AreRefused};
+ghost use Rattle.bwsh.specs.Session.{status_of, status_of_end, ending_by, printed_by, BeginsWith, IsReadEnding, IsForWords, Prints, PrintsOneText, Leaves, Runs, Answers, EndsBy};
+ghost use Rattle.bwsh.specs.Shown.{shown_reply, shown_report};
 
 use crate::batch_file::{Order, TextFault, parse};
 use crate::line::Why;
 use crate::options::options;
-use crate::show::show_reply;
+use crate::show::{show_reply, show_report};
 use engine::Store;
 use keys::{Fault, Reply, Settings};
 use std::alloc::{AllocError, Global};
 use std::io::{ErrorKind, Read, Write};
 use std::thread::Threads;
 use std::{fmt, io};
+use verify::Report;
 
 /// Why a session ends before all is done. It prints as what goes to standard error, with its line feeds.
 #[derive(Drop)]
@@ -170,6 +172,15 @@ fn write_replies<O: Write>(
     Ok(shown?)
 }
 
+// Writes the line of the report, in the memory of `lines`.
+fn write_report<O: Write>(report: &Report, lines: &mut Vec<u8>, out: &mut O) -> Result<(), Ending>
+    ensures { Prints (O.contents out.old) (O.contents out.new) (shown_report report.now ∷ []) (Ok tt) result }
+{
+    lines.clear();
+    show_report(report, lines)?;
+    write_bytes(lines, out)
+}
+
 // Runs an order, and writes what it answers.
 fn run_order<R: Threads + Sync, O: Write>(
     rt: &R,
@@ -186,6 +197,10 @@ fn run_order<R: Threads + Sync, O: Write>(
         Order::Batch(batch) => {
             let replies = store.batch(rt, batch.commands())?;
             write_replies(&replies, lines, out)
+        }
+        Order::Verify => {
+            let report = store.verify(rt)?;
+            write_report(&report, lines, out)
         }
     }
 }
@@ -217,8 +232,8 @@ fn flush<O: Write>(done: Result<(), Ending>, out: &mut O) -> Result<(), Ending>
     }
 }
 
-/// Reads the batch file that `input` holds, and runs it on a new store of these settings. The answers go to `out`, a
-/// line each. Where all is done, or a line is bad or the settings are refused (nothing is run then), or the store
+/// Reads the batch file that `input` holds, and runs it on a new store of these settings. The answers go to `out`, in
+/// lines. Where all is done, or a line is bad or the settings are refused (nothing is run then), or the store
 /// refuses an order, all answers stand there. Where memory is refused, some first lines of them do; where a device
 /// fails, some first bytes. A bad line goes before settings that are refused, and a fault of the output before one
 /// that was found earlier.
@@ -303,7 +318,7 @@ pub fn unread_words<E: Write>(error: io::Error, err: &mut E) -> u8
 }
 
 /// Does what the `words` of the command line ask for, and returns the exit status. Where they tell settings, the batch
-/// file that `input` holds is run on a new store of these. The replies go to `out`, a line each; what stopped the
+/// file that `input` holds is run on a new store of these. The answers go to `out`, in lines; what stopped the
 /// session goes to `err`.
 ///
 /// - 0: all is done; or the words ask for help, which went to `out`, and nothing was read.
@@ -324,13 +339,15 @@ pub fn session<R: AllocGlobal + Threads + Sync, I: Read, O: Write, E: Write>(
     ensures refused { (result ≡ 2) ↔ (AreRefused (map string_bytes words.now) × (result ≢ 4)) }
     ensures untouched { AreRefused (map string_bytes words.now) → (input.new ≡ input.old) × (out.new ≡ out.old) }
 
-    // What stands on the output with each status: always a beginning of the answers to the orders of the input, unless that is help.
-    ensures done { result ≡ 0 → AsksForHelp (map string_bytes words.now) ⊎ IfSome (I.remaining input.old) (λ text. (first_bad 1 (said_by text) ≡ None)
-        × Appends (O.contents out.old) (O.contents out.new) (printed [] (orders_of [] (said_by text)))) }
+    // What stands on the output with each status: always a beginning of what the orders of the input answer on a new store of the
+    // settings that the words tell, unless that is help.
+    ensures done { result ≡ 0 → AsksForHelp (map string_bytes words.now) ⊎ ((settings : Settings) × Tells (map string_bytes words.now) settings
+        × IfSome (I.remaining input.old) (λ text. (first_bad 1 (said_by text) ≡ None) × Appends (O.contents out.old) (O.contents out.new) (printed_by settings text))) }
     ensures bad { result ≡ 3 → Appends (O.contents out.old) (O.contents out.new) []
         × IfSome (I.remaining input.old) (λ text. first_bad 1 (said_by text) ≢ None) }
-    ensures beginning { AsksForHelp (map string_bytes words.now) ⊎ IfSome (I.remaining input.old) (λ text. (front : List ℕ)
-        × BeginsWith (printed [] (orders_of [] (said_by text))) front × Appends (O.contents out.old) (O.contents out.new) front) }
+    ensures beginning { AsksForHelp (map string_bytes words.now) ⊎ Appends (O.contents out.old) (O.contents out.new) []
+        ⊎ ((settings : Settings) × Tells (map string_bytes words.now) settings × IfSome (I.remaining input.old) (λ text. (front : List ℕ)
+        × BeginsWith (printed_by settings text) front × Appends (O.contents out.old) (O.contents out.new) front)) }
 
     // How it ends, and what is read and printed, is right for the words and the text but for memory and devices.
     ensures ends { (end : Result (Unit {0}) Ending) × (result ≡ status_of_end end)

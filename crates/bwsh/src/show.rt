@@ -1,12 +1,24 @@
-//! Replies as they are printed.
-ghost use Rattle.std.specs.Prelude.{◌≡◌, ◌++◌, length, take, OnOk, OnErr};
-ghost use Rattle.bwsh.specs.Shown.{reply_text, shown_reply};
+//! Replies and reports as they are printed.
+ghost use Rattle.std.specs.Prelude.{◌≡◌, ◌∷◌, ◌++◌, [], codes, length, take, OnOk, OnErr};
+ghost use Rattle.std.specs.Fmt.{decimal};
+ghost use Rattle.std.specs.List.{flat_map};
+ghost use Rattle.bwsh.specs.Shown.{reply_text, row_lines, shown_reply, shown_report, shown_row};
 
 use crate::token::push_token;
-use keys::Reply;
+use keys::{Key, Reply, Value};
 use std::alloc::{AllocError, Global};
+use verify::Report;
 
-// Appends what the line of the reply says. After an `Err` some of it may stand there.
+// Appends what the first line of a reply with so many rows says.
+fn push_count(count: usize, out: &mut Vec<u8>) -> Result<(), AllocError>
+    ensures ok { OnOk result (out.new.items ≡ out.old.items ++ codes "rows " ++ decimal count) }
+    ensures err { OnErr result (out.new.items ≡ out.old.items) }
+{
+    let text = format!(in *out.allocator(); "rows {count}")?;
+    out.extend_from_slice(text.as_bytes())
+}
+
+// Appends what the first line of the reply says. After an `Err` some of it may stand there.
 fn push_reply(reply: &Reply<Global>, out: &mut Vec<u8>) -> Result<(), AllocError>
     ensures ok { OnOk result (out.new.items ≡ out.old.items ++ reply_text reply.now) }
     ensures err { OnErr result (take (length out.old.items) out.new.items ≡ out.old.items) }
@@ -22,28 +34,69 @@ fn push_reply(reply: &Reply<Global>, out: &mut Vec<u8>) -> Result<(), AllocError
         Reply::Added => out.extend_from_slice(b"added"),
         Reply::Exists => out.extend_from_slice(b"exists"),
         Reply::Deleted => out.extend_from_slice(b"deleted"),
+        Reply::Rows(rows) => push_count(rows.len(), out),
     }
 }
 
-// Appends the line of the reply. After an `Err` some of it may stand there.
-fn push_line(reply: &Reply<Global>, out: &mut Vec<u8>) -> Result<(), AllocError>
+// Appends the line of a row. After an `Err` some of it may stand there.
+fn push_row(row: &(Key<Global>, Value<Global>), out: &mut Vec<u8>) -> Result<(), AllocError>
+    ensures ok { OnOk result (out.new.items ≡ out.old.items ++ shown_row row.now) }
+    ensures err { OnErr result (take (length out.old.items) out.new.items ≡ out.old.items) }
+{
+    push_token(row.0.as_bytes(), out)?;
+    out.push(b' ')?;
+    push_token(row.1.as_bytes(), out)?;
+    out.push(b'\n')?;
+    Ok(())
+}
+
+// Appends the lines of the rows. After an `Err` some of them may stand there.
+fn push_rows(rows: &[(Key<Global>, Value<Global>)], out: &mut Vec<u8>) -> Result<(), AllocError>
+    ensures ok { OnOk result (out.new.items ≡ out.old.items ++ flat_map shown_row rows.now) }
+    ensures err { OnErr result (take (length out.old.items) out.new.items ≡ out.old.items) }
+{
+    for row in rows {
+        push_row(row, out)?;
+    }
+    Ok(())
+}
+
+// Appends the lines of the reply. After an `Err` some of them may stand there.
+fn push_lines(reply: &Reply<Global>, out: &mut Vec<u8>) -> Result<(), AllocError>
     ensures ok { OnOk result (out.new.items ≡ out.old.items ++ shown_reply reply.now) }
     ensures err { OnErr result (take (length out.old.items) out.new.items ≡ out.old.items) }
 {
     push_reply(reply, out)?;
     out.push(b'\n')?;
+    if let Reply::Rows(rows) = reply {
+        push_rows(rows.as_slice(), out)?;
+    }
     Ok(())
 }
 
-/// Appends the line of the reply. After an `Err` `out` is as it was before.
+/// Appends the lines of the reply, each with its line feed. After an `Err` `out` is as it was before.
 pub fn show_reply(reply: &Reply<Global>, out: &mut Vec<u8>) -> Result<(), AllocError>
     ensures ok { OnOk result (out.new.items ≡ out.old.items ++ shown_reply reply.now) }
     ensures err { OnErr result (out.new.items ≡ out.old.items) }
 {
     let len = out.len();
-    let shown = push_line(reply, out);
+    let shown = push_lines(reply, out);
     if shown.is_err() {
         out.truncate(len);
     }
     shown
+}
+
+/// Appends the line of the report, with its line feed. After an `Err` `out` is as it was before.
+pub fn show_report(report: &Report, out: &mut Vec<u8>) -> Result<(), AllocError>
+    ensures ok { OnOk result (out.new.items ≡ out.old.items ++ shown_report report.now) }
+    ensures err { OnErr result (out.new.items ≡ out.old.items) }
+{
+    let Report {
+        pages,
+        height,
+        pairs,
+    } = *report;
+    let line = format!(in *out.allocator(); "ok {pages} {height} {pairs}\n")?;
+    out.extend_from_slice(line.as_bytes())
 }

@@ -45,6 +45,66 @@ fn a_batch_finds_what_the_one_before_left(rt: HostRuntime) {
     check(&rt, &[], b"go\ngo\n", 0, b"", b"");
 }
 
+// The star is no upper bound, and else the key of one byte.
+#[test]
+fn scans_and_reports(rt: HostRuntime) {
+    let input = b"put %20%00 %25\ngo\nscan % * 5\nverify\n";
+    let out = b"new\nrows 1\n%20%00 %25\nok 1 1 1\n";
+    check(&rt, &[], input, 0, out, b"");
+    let input = b"put ! 1\nput * 2\nput a %\nscan % %2A 9\nscan * * 02\nscan * ! 9\nverify";
+    let out = b"new\nnew\nnew\nrows 1\n! 1\nrows 2\n* 2\na %\nrows 0\nok 1 1 3\n";
+    check(&rt, &[], input, 0, out, b"");
+}
+
+const SEVENTEEN_PUTS: &[u8] =
+    b"put a 1\nput b 1\nput c 1\nput d 1\nput e 1\nput f 1\nput g 1\nput h 1\nput i 1\n\
+    put j 1\nput k 1\nput l 1\nput m 1\nput n 1\nput o 1\nput p 1\nput q 1\n";
+
+const SEVENTEEN_DELETES: &[u8] =
+    b"go\ndel a\ndel b\ndel c\ndel d\ndel e\ndel f\ndel g\ndel h\ndel i\n\
+    del j\ndel k\ndel l\ndel m\ndel n\ndel o\ndel p\ndel q\nverify\n";
+
+// Seventeen puts in small pages, and these lines behind them, which print this.
+fn check_behind_puts<R: AllocGlobal + Abort + Threads + Sync>(
+    rt: &R,
+    lines: &[u8],
+    printed: &[u8],
+) -> Result<(), Fail> {
+    let alloc = rt.alloc();
+    let words = vec![in alloc;
+        String::from_str(alloc, "--fan=4")?,
+        String::from_str(alloc, "--chain=2")?,
+        String::from_str(alloc, "--max-key=16")?,
+        String::from_str(alloc, "--max-value=16")?,
+        String::from_str(alloc, "--seg-size=256")?,
+        String::from_str(alloc, "--segments=4")?,
+    ]?;
+    let mut input = SEVENTEEN_PUTS.to_vec(alloc)?;
+    input.extend_from_slice(lines)?;
+    let mut out = b"new\n".as_slice().repeatn(alloc, 17)?;
+    out.extend_from_slice(printed)?;
+    check(rt, &words, &input, 0, &out, b"");
+    Ok(())
+}
+
+// The puts make three levels. Of three keys that go, a page goes too; where all go at once, each page stays, with one run.
+#[test]
+fn a_tree_is_verified(rt: HostRuntime) -> Result<(), Fail> {
+    check_behind_puts(
+        &rt,
+        b"verify\ndel d\ndel e\ndel f\ngo\nput d 1\ngo\ndel d\nverify\n",
+        b"ok 8 3 17\ndeleted\ndeleted\ndeleted\nnew\ndeleted\nok 7 3 14\n",
+    )?;
+    check_behind_puts(
+        &rt,
+        b"go\ndel a\ndel b\ndel c\ngo\nput a 1\ngo\ndel a\nverify\n",
+        b"deleted\ndeleted\ndeleted\nnew\ndeleted\nok 7 3 14\n",
+    )?;
+    let mut printed = b"deleted\n".as_slice().repeatn(rt.alloc(), 17)?;
+    printed.extend_from_slice(b"ok 8 3 0\n")?;
+    check_behind_puts(&rt, SEVENTEEN_DELETES, &printed)
+}
+
 // What was answered before a fault stands. The fault names the place in the batch, and the batch does nothing.
 #[test]
 fn a_fault_ends_the_session(rt: HostRuntime) -> Result<(), Fail> {
@@ -69,6 +129,7 @@ fn a_bad_line_ends_the_session(rt: HostRuntime) {
         b"",
         b"line 1: bad token\n",
     );
+    check(&rt, &[], b"scan a * 1x", 3, b"", b"line 1: bad number\n");
 }
 
 // Nothing is run under settings that are refused. A bad line goes before them.
@@ -146,6 +207,17 @@ fn bad_lines(rt: HostRuntime) {
     // Each line counts, those that say nothing too.
     let text = b"# put\n\n \t \r\n  #get\nput a 1\nfrob";
     check_bad(&rt, text, 6, Why::UnknownCommand);
+}
+
+#[test]
+fn bad_scans(rt: HostRuntime) {
+    check_bad(&rt, b"scan a *\n", 1, Why::WordCount);
+    check_bad(&rt, b"scan %g1 * x\n", 1, Why::BadToken);
+    check_bad(&rt, b"scan a * 4294967296\n", 1, Why::BadNumber);
+    check_bad(&rt, b"scan a * 1x\n", 1, Why::BadNumber);
+    check_bad(&rt, b"scan a * %31\n", 1, Why::BadNumber);
+    check_bad(&rt, b"scan a * +1\n", 1, Why::BadNumber);
+    check_bad(&rt, b"scan a * 004294967295\nverify 1\n", 2, Why::WordCount);
 }
 
 #[test]
@@ -317,8 +389,8 @@ fn the_output_fails(rt: HostRuntime) {
 // tells that memory was refused, with answers that are the first of the right ones.
 #[test]
 fn memory_is_refused(rt: HostRuntime) {
-    let mut input: &[u8] = b"put %41 1\nget A\ngo\ndel A\nget A\n";
-    let right = b"new\nvalue 1\ndeleted\nmissing\n";
+    let mut input: &[u8] = b"put %41 1\nget A\nscan % * 9\nverify\ndel A\nget A\n";
+    let right = b"new\nvalue 1\nrows 1\nA 1\nok 1 1 1\ndeleted\nmissing\n";
     let mut out = Cursor::new([0u8; 64]);
     let mut err = Cursor::new([0u8; 64]);
     let status = run(&rt, &mut input, &mut out, &mut err);

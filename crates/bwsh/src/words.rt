@@ -1,7 +1,7 @@
 //! The words of a line.
 ghost use Rattle.std.specs.Prelude.{◌≡◌, [], ◌∷◌, not, position, MatchOption};
 ghost use Rattle.std.specs.Option.{option_copied, option_map};
-ghost use Rattle.bwsh.specs.Words.{is_blank, words_of, the_only, the_two};
+ghost use Rattle.bwsh.specs.Words.{is_blank, words_of, the_only, the_two, the_three};
 
 // Whether the byte is a space or a tab.
 fn is_blank(byte: u8) -> bool
@@ -51,4 +51,13 @@ pub fn two_words(line: &[u8]) -> Option<(&[u8], &[u8])>
 {
     let (first, rest) = first_word(line)?;
     Some((first, only_word(rest)?))
+}
+
+/// The three words of the line, where it has three and no more.
+pub fn three_words(line: &[u8]) -> Option<(&[u8], &[u8], &[u8])>
+    ensures { option_map (λ (a, b, c). (a.now, b.now, c.now)) result ≡ the_three (words_of line.now) }
+{
+    let (first, rest) = first_word(line)?;
+    let (second, third) = two_words(rest)?;
+    Some((first, second, third))
 }

@@ -8,7 +8,7 @@ use Rattle.keys.specs.OrderedMap.{value_at, with_pair, without}
 use Rattle.keys.specs.Step.{map_after, map_after_all}
 use Rattle.keys.specs.declared.settings.Settings.{Settings}
 use Rattle.keys.specs.declared.command.Command.{Command}
-use Rattle.keys.specs.declared.command.Command.TheVariants.{Get, Put, Add, Del}
+use Rattle.keys.specs.declared.command.Command.TheVariants.{Get, Put, Add, Del, Scan}
 use Rattle.index_page.specs.Range.{AreFrom}
 use Rattle.index_page.specs.Rules.{OfCell, IsShortValue, IsShortChange}
 use Rattle.index_page.proofs.ListLaws.{all-append, all-filter}
@@ -60,6 +60,7 @@ module _ (s : Settings) where
     short-map_after m (Put k v) h a = short_put m k v h.0 h.1 a
     short-map_after m (Add k v) h a = either ShortPairs (is_some (value_at k m)) m (with_pair m k v) a (short_put m k v h.0 h.1 a)
     short-map_after m (Del k) h a = short_delete m k a
+    short-map_after m (Scan lo hi limit) h a = a
 
     -- short commands leave a map of short pairs
     short-map_after_all : (m : List (List ℕ × List ℕ)) (cs : List (Command A)) → AreShort s cs → ShortPairs m → ShortPairs (map_after_all m cs)
@@ -83,6 +84,7 @@ module _ (s : Settings) where
     short-noted_by after before (Put k v) run h a r = short-noted after run k h.0 a r
     short-noted_by after before (Add k v) run h a r = either ShortChanges (is_some (value_at k before)) run (noted after run k) r (short-noted after run k h.0 a r)
     short-noted_by after before (Del k) run h a r = either ShortChanges (is_some (value_at k before)) (noted after run k) run (short-noted after run k h a r) r
+    short-noted_by after before (Scan lo hi limit) run h a r = r
 
     short-touched : (after before : List (List ℕ × List ℕ)) (cs : List (Command A)) → AreShort s cs → ShortPairs after → ShortChanges (touched after before cs)
     short-touched after before [] h a = tt

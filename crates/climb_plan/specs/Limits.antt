@@ -1,11 +1,11 @@
 -- Which commands are within the settings.
-use Rattle.std.specs.Prelude.{ℕ, ◌≤◌, List, length}
+use Rattle.std.specs.Prelude.{ℕ, ◌≤◌, List, length, IfSome}
 use Rattle.std.specs.List.{AllByRecursion}
 use Rattle.keys.specs.declared.settings.Settings.{Settings}
 use Rattle.keys.specs.declared.command.Command.{Command}
-use Rattle.keys.specs.declared.command.Command.TheVariants.{Get, Put, Add, Del}
+use Rattle.keys.specs.declared.command.Command.TheVariants.{Get, Put, Add, Del, Scan}
 
--- the key and the value of a command are no longer than the settings allow
+-- the key and the value of a command, and the bounds of a scan, are no longer than the settings allow
 abbrev pub IsShortPair : Settings → List ℕ → List ℕ → Type 0
 IsShortPair s k v = (length k ≤ s.max_key) × (length v ≤ s.max_value)
 
@@ -14,6 +14,7 @@ IsShortCommand s (Get k) = length k ≤ s.max_key
 IsShortCommand s (Put k v) = IsShortPair s k v
 IsShortCommand s (Add k v) = IsShortPair s k v
 IsShortCommand s (Del k) = length k ≤ s.max_key
+IsShortCommand s (Scan lo hi limit) = (length lo ≤ s.max_key) × IfSome hi (λ end. length end ≤ s.max_key)
 
 abbrev pub AreShort : {A : Type 0} → Settings → List (Command A) → Type 0
 AreShort s cs = AllByRecursion (IsShortCommand s) cs

@@ -1,7 +1,8 @@
 pub mod LayerLaws
 mod Lending
-mod Merges
-mod Overlays
+mod Lower
+pub mod Merges
+pub mod Overlays
 mod Packing
 pub mod Places
 pub mod Rising

@@ -1,4 +1,4 @@
--- How a run is applied to pairs, from their fronts on.
+-- How a run is applied to pairs, from their fronts on, for the proofs of this crate and of those above it.
 use Rattle.std.proofs.Common.{◌≡◌, ◌<◌, ◌≤◌, ℕ, zero, suc, List, [], ◌∷◌, ◌++◌, length, drop, slice_get, Option, Some, None, refl, sym, ap, ◌∙◌, arith, append_assoc, Ordering, Less, Equal, Greater}
 use Rattle.std.specs.Map.{keys_of, values_of}
 use Rattle.std.proofs.lemmas.Map.Keys.{sorted_head, sorted_tail}
@@ -11,7 +11,7 @@ use Rattle.delta_chain.proofs.Places.{drop_pair, front_under, front_at}
 
 module _ {T : Type 0} where
   -- what stands behind a place rises too
-  rising_behind : (n : ℕ) (es : List (List ℕ × T)) → IsRising es → IsRising (drop n es)
+  pub rising_behind : (n : ℕ) (es : List (List ℕ × T)) → IsRising es → IsRising (drop n es)
   rising_behind zero es r = r
   rising_behind (suc n) [] r = r
   rising_behind (suc n) (e ∷ es) r = rising_behind n es (sorted_tail order e.0 (keys_of es) r)
@@ -50,10 +50,10 @@ module _ {V : Type 0} where
 
   -- ---- the three steps, at the fronts of the pairs and of the run
 
-  first_stays : (e : List ℕ × V) (es : List (List ℕ × V)) (c : List ℕ × Option V) (cs : List (List ℕ × Option V)) → IsRising (c ∷ cs) → order e.0 c.0 ≡ Less → with_run (e ∷ es) (c ∷ cs) ≡ e ∷ with_run es (c ∷ cs)
+  pub first_stays : (e : List ℕ × V) (es : List (List ℕ × V)) (c : List ℕ × Option V) (cs : List (List ℕ × Option V)) → IsRising (c ∷ cs) → order e.0 c.0 ≡ Less → with_run (e ∷ es) (c ∷ cs) ≡ e ∷ with_run es (c ∷ cs)
   first_stays e es c cs r h = run_behind e es (c ∷ cs) (h, below_all e.0 c.0 (keys_of cs) h (sorted_head order c.0 (keys_of cs) r))
 
-  first_goes : (e : List ℕ × V) (es : List (List ℕ × V)) (c : List ℕ × Option V) (cs : List (List ℕ × Option V)) → IsRising (e ∷ es) → order e.0 c.0 ≡ Equal → with_run (e ∷ es) (c ∷ cs) ≡ with_run es (c ∷ cs)
+  pub first_goes : (e : List ℕ × V) (es : List (List ℕ × V)) (c : List ℕ × Option V) (cs : List (List ℕ × Option V)) → IsRising (e ∷ es) → order e.0 c.0 ≡ Equal → with_run (e ∷ es) (c ∷ cs) ≡ with_run es (c ∷ cs)
   first_goes e es c cs r h =
       let s : e.0 ≡ c.0 = same_key e.0 c.0 h in
       ap (λ (m : List (List ℕ × V)). with_run m cs)
@@ -63,7 +63,7 @@ module _ {V : Type 0} where
   change_goes es k None cs a = refl
   change_goes es k (Some v) cs a = run_behind (k, v) es cs a
 
-  change_stays : (es : List (List ℕ × V)) (c : List ℕ × Option V) (cs : List (List ℕ × Option V)) → IsRising es → IsRising (c ∷ cs) → first_order es c.0 ≡ Greater → with_run es (c ∷ cs) ≡ present c.0 c.1 ++ with_run es cs
+  pub change_stays : (es : List (List ℕ × V)) (c : List ℕ × Option V) (cs : List (List ℕ × Option V)) → IsRising es → IsRising (c ∷ cs) → first_order es c.0 ≡ Greater → with_run es (c ∷ cs) ≡ present c.0 c.1 ++ with_run es cs
   change_stays es c cs r s h =
       ap (λ (m : List (List ℕ × V)). with_run m cs) (change_in_front es c.0 c.1 r h) ∙ change_goes es c.0 c.1 cs (sorted_head order c.0 (keys_of cs) s)
 

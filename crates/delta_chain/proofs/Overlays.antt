@@ -1,4 +1,4 @@
--- What runs say together: merged with one another first, and applied to the base once.
+-- What runs say together: merged with one another first, and applied to the base once. For the proofs of this crate and of those above it.
 use Rattle.std.specs.Prelude.{◌≡◌, ℕ, zero, suc, Bool, true, false, cond, List, [], ◌∷◌, length, slice_get, Option, Some}
 use Rattle.std.proofs.Common.{refl, sym, ap, ◌∙◌}
 use Rattle.std.specs.Ordering.{is_eq}
@@ -40,7 +40,7 @@ module _ {V : Type 0} where
   said_by_one true o here rest older below h = refl
   said_by_one false o here rest older below h = h
 
-  said_over : (run : List (List ℕ × Option V)) (q : List ℕ) (older : Option (Option V)) (below : Option V) → said_or (said_or (value_at q (asserted run)) older) below ≡ said_or (value_at q run) (said_or older below)
+  pub said_over : (run : List (List ℕ × Option V)) (q : List ℕ) (older : Option (Option V)) (below : Option V) → said_or (said_or (value_at q (asserted run)) older) below ≡ said_or (value_at q run) (said_or older below)
   said_over [] q older below = refl
   said_over (c ∷ cs) q older below = said_by_one (is_eq (order q c.0)) c.1 (value_at q (asserted cs)) (value_at q cs) older below (said_over cs q older below)
 

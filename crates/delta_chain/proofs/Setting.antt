@@ -12,7 +12,7 @@ use Rattle.keys.proofs.MapLaws.{IsBelowAll, total, same_key, order_itself, flipp
 use Rattle.delta_chain.specs.Building.{goes_last}
 use Rattle.delta_chain.proofs.Rising.{goes_last_first, goes_last_rest}
 
-below_at : (j : List ℕ) (ks : List (List ℕ)) (at : ℕ) (k : List ℕ) → IsBelowAll j ks → slice_get ks at ≡ Some k → order j k ≡ Less
+pub below_at : (j : List ℕ) (ks : List (List ℕ)) (at : ℕ) (k : List ℕ) → IsBelowAll j ks → slice_get ks at ≡ Some k → order j k ≡ Less
 below_at j [] at k a h = absurd (cc)
 below_at j (i ∷ ks) zero k a h = let s : i ≡ k = cc in rw (← s) a.0
 below_at j (i ∷ ks) (suc at) k a h = below_at j ks at k a.1 h

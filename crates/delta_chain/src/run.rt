@@ -1,8 +1,9 @@
-ghost use Rattle.std.specs.Prelude.{◌≡◌, ◌<◌, ◌∷◌, ◌++◌, [], false, length, slice_get, None, IfOk, IfSome, MatchOption, OnOk, OnErr, IsErrOf, ◌↔◌};
+ghost use Rattle.std.specs.Prelude.{◌≡◌, ◌<◌, ◌∷◌, ◌++◌, [], false, length, drop, slice_get, None, IfOk, IfSome, MatchOption, OnOk, OnErr, IsErrOf, ◌↔◌};
 ghost use Rattle.std.specs.Map.{keys_of, values_of};
 ghost use Rattle.std.specs.Option.{option_copied};
 ghost use Rattle.keys.specs.Order.{IsRising};
 ghost use Rattle.keys.specs.OrderedMap.{value_at, with_pair};
+ghost use Rattle.keys.specs.Range.{in_range};
 ghost use Rattle.delta_chain.specs.Building.{goes_last};
 
 use crate::builder::PushError;
@@ -88,6 +89,18 @@ impl<V, A: Allocator + Copy> Run<V, A> {
         ensures change { IfSome result (λ at. value_at key.now self.now ≡ slice_get (values_of self.now) at) }
     {
         self.changes.search(key).ok()
+    }
+
+    /// The place, counted from 0, of the first key that isn't below this one; where all are, how many there are. It is found
+    /// by halves, and for a key above all of them by one comparison.
+    pub fn lower(&self, key: &[u8]) -> usize
+        ensures { drop result self.now ≡ in_range key.now None self.now }
+    {
+        let _rising = self.changes.len();
+        match self.changes.search(key) {
+            Ok(at) => at,
+            Err(at) => at,
+        }
     }
 }
 

@@ -1,37 +1,31 @@
--- The answers of the leaves that a batch goes to are the replies of the whole batch, each at its place.
-use Rattle.std.specs.Prelude.{◌≡◌, ℕ, Bool, true, false, cond, List, [], ◌∷◌, ◌++◌, flat_map, length, slice_get, Some, None}
+-- The answers of the leaves that a batch goes to make the replies of the whole batch.
+use Rattle.std.specs.Prelude.{◌≡◌, ℕ, cond, List, [], ◌∷◌, ◌++◌, flat_map, slice_get, Some, None}
 use Rattle.std.proofs.Common.{refl, sym, ap, ◌∙◌, subst}
 use Rattle.std.specs.List.{AllByRecursion}
 use Rattle.std.specs.declared.alloc.Global.{Global}
-use Rattle.std.proofs.lemmas.List.{map-append}
-use Rattle.std.proofs.lemmas.List.Elements.{All-from_recursion}
 use Rattle.keys.specs.Order.{IsRising}
-use Rattle.keys.specs.Places.{HasEachOnce}
 use Rattle.keys.specs.Step.{replies_to}
 use Rattle.keys.specs.declared.command.Command.{Command}
 use Rattle.keys.specs.declared.command.Reply.{Reply}
 use Rattle.keys.specs.declared.piece.Piece.{Piece}
 use Rattle.keys.specs.declared.settings.Settings.{Settings}
-use Rattle.keys.proofs.PlaceLaws.{HasEachOnce-from_permutation}
 use Rattle.index_page.specs.Children.{Place}
 use Rattle.index_page.specs.Page.{PageOfKind, entries, leaf_of}
-use Rattle.index_page.proofs.ListLaws.{all-append}
 use Rattle.mapping.specs.Levels.{Placed, levels_of, contents, joined, pids}
 use Rattle.mapping.specs.Proper.{next_low, Tiled, Distinct, IsProper}
 use Rattle.mapping.specs.Table.{Mapping, page_of}
 use Rattle.mapping.specs.TreeInMemory.{TreeInMemory, AreAllHome, tree_of}
 use Rattle.mapping.proofs.TileLaws.{rising-joined}
-use Rattle.routing.specs.Routes.{Route, route_to, has_places, ranges, routes}
-use Rattle.routing.proofs.RouteLaws.{kept, routes-once}
+use Rattle.routing.specs.Routes.{Route, route_to, has_places, places_within, ranges, routes}
+use Rattle.routing.proofs.RouteLaws.{kept}
 use Rattle.page_runs.specs.LeafWork.{leaf_made}
-use Rattle.page_runs.specs.Replies.{ArePlacesOf}
-use Rattle.replies.specs.ByPlace.{places_of, reply_at}
-use Rattle.replies.proofs.Placing.{replies_determined}
+use Rattle.page_runs.specs.Replies.{commands_at, pieces_of}
+use Rattle.replies.specs.ByPlace.{reply_at, AreAnswers}
 use Rattle.climb_plan.specs.Installing.{page_or_none}
 use Rattle.climb_plan.proofs.Installing.{distinct_first}
 use Rattle.engine.specs.Leaves.{IsLeafAt, AreLeafRoutes, leaf_held, leaves_made, answers}
-use Rattle.engine.proofs.LeafAnswers.{length-replies_to, places_of-answers, IsReplyAmong, answered_apart}
 use Rattle.engine.proofs.LeafRoutes.{IsHomeLeaf, pids-ranges, all-route_pids, distinct-route_pids, within-routes, home_leaves, leaves_there, HoldsPart, parts_from}
+use Rattle.engine.proofs.PartAnswers.{answers_from, page_answers, all_answers_from, answers_are_right, answers_make_the_replies}
 
 abbrev Commands : Type 0
 Commands = List (Command Global)
@@ -50,31 +44,26 @@ module _ (s : Settings) (cs : Commands) (t : Mapping PageOfKind) where
   abbrev all_answers : List Route → List (Piece Global)
   all_answers rs = answers (leaves_made s cs t rs)
 
-  -- the leaves answer at the places of the routes
-  places_of-all_answers : (rs : List Route) → AllByRecursion (λ r. ArePlacesOf cs r.places) rs → places_of (all_answers rs) ≡ flat_map (λ r. r.places) rs
-  places_of-all_answers [] h = refl
-  places_of-all_answers (r ∷ rs) h =
-      map-append (λ (p : Piece Global). p.place) (leaf_answers r) (all_answers rs)
-      ∙ ap (λ (is : List ℕ). is ++ places_of (all_answers rs)) (places_of-answers (entries (leaf_of (page_or_none (page_of t r.pid)))) cs r.places h.0)
-      ∙ ap (λ (is : List ℕ). r.places ++ is) (places_of-all_answers rs h.1)
-
-  -- ---- and what they answer there
+  -- a leaf to which no command goes answers nothing
+  answers_if : (pid : ℕ) (ps : List ℕ) (rs : List Route) → (let r : Route = record { pid = pid; places = ps } in all_answers (cond (has_places r) (r ∷ rs) rs) ≡ leaf_answers r ++ all_answers rs)
+  answers_if pid [] rs = refl
+  answers_if pid (p ∷ ps) rs = refl
 
   module _ (m : List (List ℕ × List ℕ)) (rises : IsRising m) where
-    abbrev AreTrue : List (Piece Global) → Type 0
-    AreTrue ps = AllByRecursion (IsReplyAmong (replies_to m cs)) ps
+    -- a leaf that has its part of the map answers to its own commands on this part
+    its_answers : (at : Place) → HoldsPart t m at → leaf_answers (route_to cs at) ≡ answers_from 0 at.low at.end m cs
+    its_answers at h =
+        let home = h.home in
+        let ps = places_within at.low at.end cs in
+        let part : entries (leaf_of (page_or_none (page_of t at.pid))) ≡ entries h.leaf = rw home refl in
+        ap (λ (x : List (List ℕ × List ℕ)). pieces_of ps (replies_to x (commands_at cs ps))) (part ∙ h.part) ∙ page_answers at.low at.end m cs rises
 
-    true_at : (at : Place) → HoldsPart t m at → AreTrue (leaf_answers (route_to cs at))
-    true_at at h = let home = h.home in rw home (answered_apart at.low at.end m (entries h.leaf) cs rises h.rising h.agree)
-
-    true_if : (b : Bool) (r : Route) (rs : List Route) → AreTrue (leaf_answers r) → AreTrue (all_answers rs) → AreTrue (all_answers (cond b (r ∷ rs) rs))
-    true_if true r rs h a = all-append (IsReplyAmong (replies_to m cs)) (leaf_answers r) (all_answers rs) h a
-    true_if false r rs h a = a
-
-    -- each reply stands, among those to the whole batch, at its place
-    true_answers : (ats : List Place) → AllByRecursion (HoldsPart t m) ats → AreTrue (all_answers (kept cs ats))
-    true_answers [] h = tt
-    true_answers (at ∷ ats) h = true_if (has_places (route_to cs at)) (route_to cs at) (kept cs ats) (true_at at h.0) (true_answers ats h.1)
+    kept_answers : (ats : List Place) → AllByRecursion (HoldsPart t m) ats → all_answers (kept cs ats) ≡ all_answers_from m cs ats
+    kept_answers [] h = refl
+    kept_answers (at ∷ ats) h =
+        answers_if at.pid (places_within at.low at.end cs) (kept cs ats)
+        ∙ ap (λ (ps : List (Piece Global)). ps ++ all_answers (kept cs ats)) (its_answers at h.0)
+        ∙ ap (λ (ps : List (Piece Global)). answers_from 0 at.low at.end m cs ++ ps) (kept_answers ats h.1)
 
 -- ---- a level of leaves
 
@@ -90,18 +79,18 @@ module _ (s : Settings) (cs : Commands) (t : Mapping PageOfKind) (level : List (
       }
 
   module _ (first : next_low level None ≡ Some []) (tiled : Tiled level None) where
-    -- of leaves that tile all keys, each place is answered once
-    level_once : HasEachOnce (length cs) (places_of (all_answers s cs t (routes level cs)))
-    level_once =
-        let places : places_of (all_answers s cs t (routes level cs)) ≡ flat_map (λ r. r.places) (routes level cs) = places_of-all_answers s cs t (routes level cs) (within-routes cs (ranges level)) in
-        rw places (HasEachOnce-from_permutation (length cs) (flat_map (λ r. r.places) (routes level cs)) (routes-once level cs first tiled))
+    level_answers : all_answers s cs t (routes level cs) ≡ all_answers_from (joined level) cs (ranges level)
+    level_answers = kept_answers s cs t (joined level) (rising-joined level None tiled) (ranges level) (parts_from t [] level level refl tiled home)
 
-    -- and what is answered at each place is the reply of the map that they all hold
-    level_as_a_map : (rs : List (Reply Global)) → ((place : ℕ) → slice_get rs place ≡ reply_at (all_answers s cs t (routes level cs)) place) → rs ≡ replies_to (joined level) cs
+    -- leaves that tile all keys answer rightly
+    level_rightly : AreAnswers cs (all_answers s cs t (routes level cs))
+    level_rightly = rw level_answers (answers_are_right level first tiled (joined level) cs (rising-joined level None tiled))
+
+    -- and their answers make the replies of the map that they all hold
+    level_as_a_map : (rs : List (Reply Global)) → ((place : ℕ) → slice_get rs place ≡ reply_at cs (all_answers s cs t (routes level cs)) place) → rs ≡ replies_to (joined level) cs
     level_as_a_map rs answered =
-        let whole = replies_to (joined level) cs in
-        let told = true_answers s cs t (joined level) (rising-joined level None tiled) (ranges level) (parts_from t [] level level refl tiled home) in
-        replies_determined (length cs) (all_answers s cs t (routes level cs)) rs whole level_once answered (length-replies_to (joined level) cs) (All-from_recursion (IsReplyAmong whole) (all_answers s cs t (routes level cs)) told)
+        answers_make_the_replies level first tiled (joined level) cs (rising-joined level None tiled) rs
+        (λ place. answered place ∙ ap (λ (ps : List (Piece Global)). reply_at cs ps place) level_answers)
 
 -- ---- the leaves of a tree
 
@@ -115,11 +104,10 @@ module _ (s : Settings) (m : TreeInMemory) (cs : Commands) (home : AreAllHome m)
       let l = levels_of (tree_of m) in
       level_routes s cs m.table l.level leaves_home (distinct_first (pids l.level) (flat_map pids l.above) proper.levels.distinct)
 
-  -- each place of the batch is answered once
-  pub answered_once : HasEachOnce (length cs) (places_of (answers (leaves_made s cs m.table (routes_here m cs))))
-  answered_once = level_once s cs m.table (levels_of (tree_of m)).level leaves_home proper.levels.first proper.levels.tiled
+  -- the leaves answer rightly
+  pub answered_rightly : AreAnswers cs (answers (leaves_made s cs m.table (routes_here m cs)))
+  answered_rightly = level_rightly s cs m.table (levels_of (tree_of m)).level leaves_home proper.levels.first proper.levels.tiled
 
   -- replies that have at each place what was answered there are those of the whole batch on the whole map
-  pub answered_as_a_map : (rs : List (Reply Global)) → length rs ≡ length cs → ((place : ℕ) → slice_get rs place ≡ reply_at (answers (leaves_made s cs m.table (routes_here m cs))) place)
-      → rs ≡ replies_to (contents (tree_of m)) cs
-  answered_as_a_map rs count answered = level_as_a_map s cs m.table (levels_of (tree_of m)).level leaves_home proper.levels.first proper.levels.tiled rs answered
+  pub answered_as_a_map : (rs : List (Reply Global)) → ((place : ℕ) → slice_get rs place ≡ reply_at cs (answers (leaves_made s cs m.table (routes_here m cs))) place) → rs ≡ replies_to (contents (tree_of m)) cs
+  answered_as_a_map rs answered = level_as_a_map s cs m.table (levels_of (tree_of m)).level leaves_home proper.levels.first proper.levels.tiled rs answered

@@ -8,7 +8,6 @@ use Rattle.std.specs.declared.alloc.Global.{Global}
 use Rattle.std.proofs.lemmas.List.{append_assoc, drop_more, drop-set-lt, map_push}
 use Rattle.std.proofs.lemmas.List.Elements.{All-from_recursion}
 use Rattle.keys.specs.Lists.{flat}
-use Rattle.keys.specs.Places.{HasEachOnce}
 use Rattle.keys.specs.declared.command.Command.{Command}
 use Rattle.keys.specs.declared.command.Reply.{Reply}
 use Rattle.keys.specs.declared.piece.Piece.{Piece}
@@ -22,7 +21,7 @@ use Rattle.routing.specs.Routes.{Route}
 use Rattle.page_runs.specs.LeafWork.{LeafHeld, LeafMade, LeafWorked, IsLeafHeld, leaf_made, held_of}
 use Rattle.page_runs.specs.Replies.{ArePlacesOf}
 use Rattle.page_runs.specs.declared.leaf_work.LeafJob.{LeafJob}
-use Rattle.replies.specs.ByPlace.{places_of, reply_at}
+use Rattle.replies.specs.ByPlace.{reply_at, AreAnswers}
 use Rattle.climb_plan.specs.Installing.{all_taken, all_put, AreAway, page_or_none}
 use Rattle.climb_plan.proofs.Installing.{KeepsOthers, all_kept, placed_apart, tree_taken, tree_put}
 use Rattle.climb_plan.proofs.InstallingLaws.{away-all_taken, put_back_is_before}
@@ -53,12 +52,13 @@ module _ {X Y : Type 0} (f : X → Y) where
 pub all_answers : (ds : List LeafWorked) (xss : List (List (Piece Global))) → xss ≡ map (λ d. d.made.pieces) ds → answers (map (λ d. d.made) ds) ≡ flat xss
 all_answers ds xss e = ap flat (map-map (λ (m : LeafMade). m.pieces) (λ (d : LeafWorked). d.made) ds ∙ sym e)
 
-pub each_answered : (n : ℕ) (ds : List LeafWorked) (xss : List (List (Piece Global))) → xss ≡ map (λ d. d.made.pieces) ds → HasEachOnce n (places_of (answers (map (λ d. d.made) ds))) → HasEachOnce n (places_of (flat xss))
-each_answered n ds xss e h = subst (λ (ps : List (Piece Global)). HasEachOnce n (places_of ps)) (all_answers ds xss e) h
+module _ (cs : List (Command Global)) (ds : List LeafWorked) (xss : List (List (Piece Global))) (taken : xss ≡ map (λ d. d.made.pieces) ds) where
+  pub each_answered : AreAnswers cs (answers (map (λ d. d.made) ds)) → AreAnswers cs (flat xss)
+  each_answered h = subst (λ (ps : List (Piece Global)). AreAnswers cs ps) (all_answers ds xss taken) h
 
-pub answered : {Z E : Type 0} → (r : Result (Vec (Reply Global) Z) E) (ds : List LeafWorked) (xss : List (List (Piece Global))) → xss ≡ map (λ d. d.made.pieces) ds
-    → IfOk r (λ v. (place : ℕ) → slice_get v.items place ≡ reply_at (flat xss) place) → IfOk r (λ v. (place : ℕ) → slice_get v.items place ≡ reply_at (answers (map (λ d. d.made) ds)) place)
-answered r ds xss e h = subst (λ (ps : List (Piece Global)). IfOk r (λ v. (place : ℕ) → slice_get v.items place ≡ reply_at ps place)) (sym (all_answers ds xss e)) h
+  pub answered : {Z E : Type 0} → (r : Result (Vec (Reply Global) Z) E) → IfOk r (λ v. (place : ℕ) → slice_get v.items place ≡ reply_at cs (flat xss) place)
+      → IfOk r (λ v. (place : ℕ) → slice_get v.items place ≡ reply_at cs (answers (map (λ d. d.made) ds)) place)
+  answered r h = subst (λ (ps : List (Piece Global)). IfOk r (λ v. (place : ℕ) → slice_get v.items place ≡ reply_at cs ps place)) (sym (all_answers ds xss taken)) h
 
 -- ---- leaves are put back
 

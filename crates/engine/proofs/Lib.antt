@@ -1,13 +1,14 @@
 mod Admitted
 mod Answered
+mod BatchInStep
 mod BatchLeaves
 mod CommandsWithin
 mod Created
 mod Executed
 mod InTurn
-mod LeafAnswers
 mod LeafRoutes
 mod OwnRuns
+mod PartAnswers
 mod Readied
 mod Routed
 mod SeenLeaves

@@ -5,9 +5,8 @@ use Rattle.std.specs.List.{filter}
 use Rattle.std.specs.Ordering.{is_eq}
 use Rattle.keys.specs.Order.{order, IsRising}
 use Rattle.keys.specs.OrderedMap.{value_at}
-use Rattle.keys.specs.CommandKey.{key_of}
 use Rattle.keys.specs.declared.command.Command.{Command}
-use Rattle.keys.specs.declared.command.Command.TheVariants.{Get, Put, Add, Del}
+use Rattle.keys.specs.declared.command.Command.TheVariants.{Get, Put, Add, Del, Scan}
 use Rattle.keys.proofs.MapLaws.{total, passes_same, same_map}
 use Rattle.index_page.specs.Range.{is_below, is_before, is_within}
 use Rattle.index_page.proofs.PageLaws.{all_keys_entries}
@@ -16,9 +15,8 @@ use Rattle.mapping.specs.Levels.{Placed, entries, joined}
 use Rattle.mapping.specs.Proper.{next_low, Tiled}
 use Rattle.mapping.proofs.TileLaws.{rising-tile, value_at-joined}
 use Rattle.routing.specs.Routes.{goes_to}
-use Rattle.routing.proofs.RouteLaws.{goes_by_key}
 use Rattle.page_runs.specs.NetRun.{net_run}
-use Rattle.page_runs.specs.Apart.{single_key, TakesAll, TakesNoOther, AgreeOn}
+use Rattle.page_runs.specs.Apart.{TakesAll, TakesNoOther, AgreeOn}
 use Rattle.page_runs.proofs.NetLaws.{Pairs, Changes, rising-net_run}
 use Rattle.page_runs.proofs.ApartLaws.{within_by_key, off_by_key, net_run-apart, net_run-no_other}
 use Rattle.split_plan.specs.WorkedLevel.{part_below, part_from}
@@ -46,18 +44,21 @@ module _ {X : Type 0} where
 
 -- ---- the commands of a range
 
-single : {A : Type 0} (c : Command A) → single_key c ≡ Some (key_of c)
-single (Get k) = refl
-single (Put k v) = refl
-single (Add k v) = refl
-single (Del k) = refl
-
+-- a scan is on no key; another command is on one, and goes to the page whose range has it
 module _ {A : Type 0} (low : List ℕ) (end : Option (List ℕ)) where
   takes_all : TakesAll {A = A} (is_within low end) (goes_to low end)
-  takes_all c h = off_by_key (is_within low end) c (key_of c) (single c) (sym (goes_by_key low end c) ∙ h)
+  takes_all (Get k) h = off_by_key {A = A} (is_within low end) (Get k) k refl h
+  takes_all (Put k v) h = off_by_key {A = A} (is_within low end) (Put k v) k refl h
+  takes_all (Add k v) h = off_by_key {A = A} (is_within low end) (Add k v) k refl h
+  takes_all (Del k) h = off_by_key {A = A} (is_within low end) (Del k) k refl h
+  takes_all (Scan lo hi limit) h = λ q own. refl
 
   takes_no_other : TakesNoOther {A = A} (is_within low end) (goes_to low end)
-  takes_no_other c h = within_by_key (is_within low end) c (key_of c) (single c) (sym (goes_by_key low end c) ∙ h)
+  takes_no_other (Get k) h = within_by_key {A = A} (is_within low end) (Get k) k refl h
+  takes_no_other (Put k v) h = within_by_key {A = A} (is_within low end) (Put k v) k refl h
+  takes_no_other (Add k v) h = within_by_key {A = A} (is_within low end) (Add k v) k refl h
+  takes_no_other (Del k) h = within_by_key {A = A} (is_within low end) (Del k) k refl h
+  takes_no_other (Scan lo hi limit) h = λ q other. refl
 
   own_by : (b : Bool) (m es : Pairs) (cs : List (Command A)) (k : List ℕ) → is_within low end k ≡ b → IsRising m → IsRising es → AgreeOn (is_within low end) m es
       → cond b (value_at k (net_run m cs)) None ≡ value_at k (net_run es (filter (goes_to low end) cs))

@@ -1,8 +1,7 @@
 -- A batch whose routes are known: what its leaves answer, that the tree is ready to climb, and the way back.
-use Rattle.std.specs.Prelude.{◌≡◌, ℕ, ◌≤◌, List, [], ◌∷◌, map, length, slice_get, Result, Ok, Err, OnErr}
+use Rattle.std.specs.Prelude.{◌≡◌, ℕ, ◌≤◌, List, [], ◌∷◌, map, slice_get, Result, Ok, Err, OnErr}
 use Rattle.std.proofs.Common.{refl, ap, ◌∙◌, subst}
 use Rattle.std.specs.declared.alloc.Global.{Global}
-use Rattle.keys.specs.Places.{HasEachOnce}
 use Rattle.keys.specs.Step.{replies_to}
 use Rattle.keys.specs.declared.command.Command.{Command}
 use Rattle.keys.specs.declared.command.Reply.{Reply}
@@ -15,7 +14,7 @@ use Rattle.mapping.specs.Table.{pids_in_use, page_of}
 use Rattle.mapping.specs.Tree.{Tree, Store}
 use Rattle.mapping.specs.TreeInMemory.{TreeInMemory, AreAllHome, tree_of}
 use Rattle.page_runs.specs.LeafWork.{LeafHeld, LeafMade, LeafWorked}
-use Rattle.replies.specs.ByPlace.{places_of, reply_at}
+use Rattle.replies.specs.ByPlace.{reply_at, AreAnswers}
 use Rattle.routing.specs.Routes.{Route}
 use Rattle.climb_plan.specs.Changing.{SeenPage, shown}
 use Rattle.climb_plan.specs.Installing.{AreAway, all_taken, all_put, page_or_none}
@@ -24,7 +23,7 @@ use Rattle.climb_plan.specs.Ready.{IsReady}
 use Rattle.climb_plan.proofs.ArrivedPages.{home_keys}
 use Rattle.engine.specs.Leaves.{AreLeafRoutes, leaf_held, leaves_made, answers, route_pids}
 use Rattle.engine.specs.State.{IsSoundInMemory}
-use Rattle.engine.proofs.Answered.{routes_here, routes_are_leaves, answered_once, answered_as_a_map}
+use Rattle.engine.proofs.Answered.{routes_here, routes_are_leaves, answered_rightly, answered_as_a_map}
 use Rattle.engine.proofs.Executed.{held_all, seen_leaves}
 use Rattle.engine.proofs.Readied.{ready_here, taken_away, put_back_here}
 
@@ -78,11 +77,11 @@ module _ (s : Settings) (m : TreeInMemory) (cs : List (Command Global)) (sound :
     made_here : made_all ds ≡ leaves_made s cs m.table (routes_here m cs)
     made_here = made ∙ ap (λ (xs : List Route). leaves_made s cs m.table xs) routed
 
-    pub each_once : HasEachOnce (length cs) (places_of (answers (made_all ds)))
-    each_once = rw made_here (answered_once s m cs sound.home sound.sound.proper)
+    pub answered : AreAnswers cs (answers (made_all ds))
+    answered = rw made_here (answered_rightly s m cs sound.home sound.sound.proper)
 
-    pub as_a_map : (xs : List (Reply Global)) → length xs ≡ length cs → ((place : ℕ) → slice_get xs place ≡ reply_at (answers (made_all ds)) place) → xs ≡ replies_to (contents (tree_of m)) cs
-    as_a_map xs count at = answered_as_a_map s m cs sound.home sound.sound.proper xs count (λ place. at place ∙ ap (λ (ms : List LeafMade). reply_at (answers ms) place) made_here)
+    pub as_a_map : (xs : List (Reply Global)) → ((place : ℕ) → slice_get xs place ≡ reply_at cs (answers (made_all ds)) place) → xs ≡ replies_to (contents (tree_of m)) cs
+    as_a_map xs at = answered_as_a_map s m cs sound.home sound.sound.proper xs (λ place. at place ∙ ap (λ (ms : List LeafMade). reply_at cs (answers ms) place) made_here)
 
     module _ (now : TreeInMemory) (taken : now ≡ without_leaves m rs) where
       is_ready : IsReady s (tree_of m) cs now (seen_leaves ds)

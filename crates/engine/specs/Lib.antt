@@ -3,3 +3,4 @@ pub mod Batches
 pub mod Leaves
 pub mod Refusal
 pub mod State
+pub mod Steps

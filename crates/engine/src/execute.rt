@@ -1,6 +1,5 @@
 //! A batch on a tree: which leaves its commands go to, what these become and answer, and the climb from them to the root.
-ghost use Rattle.std.specs.Prelude.{◌≡◌, ◌<◌, ◌≤◌, ℕ, List, map, length, slice_get, IfOk, IfErr, OnOk, OnErr};
-ghost use Rattle.keys.specs.Places.{HasEachOnce};
+ghost use Rattle.std.specs.Prelude.{◌≡◌, ◌<◌, ◌≤◌, ℕ, List, map, slice_get, IfOk, IfErr, OnOk, OnErr};
 ghost use Rattle.keys.specs.declared.command.Command.{Command};
 ghost use Rattle.index_page.specs.Page.PageOfKind.{Leaf};
 ghost use Rattle.keys.specs.Step.{replies_to, map_after_all};
@@ -8,7 +7,7 @@ ghost use Rattle.mapping.specs.Levels.{contents, levels_of};
 ghost use Rattle.mapping.specs.Tree as definitions;
 ghost use Rattle.mapping.specs.TreeInMemory.{AreAllHome, tree_of};
 ghost use Rattle.routing.specs.Routes.{routes};
-ghost use Rattle.replies.specs.ByPlace.{places_of, reply_at};
+ghost use Rattle.replies.specs.ByPlace.{AreAnswers, reply_at};
 ghost use Rattle.climb_plan.specs.Changing.{shown};
 ghost use Rattle.climb_plan.specs.Limits.{AreShort};
 ghost use Rattle.climb_plan.specs.Plan.{planned_tree};
@@ -76,7 +75,7 @@ fn execute_routed(
     the_plan_of_a_proper_store_is_proper::<Global>();
     the_log_states_stay_true::<Global>();
     let leaves = work_leaves(alloc, settings, tree, commands, page_runs)?;
-    match finish(alloc, settings, tree, leaves, commands.len()) {
+    match finish(alloc, settings, tree, leaves, commands) {
         Ok(replies) => Ok(replies),
         Err((fault, leaves)) => {
             undo_leaves(alloc, settings, tree, commands, leaves);
@@ -92,14 +91,13 @@ fn finish(
     settings: &Settings,
     tree: &mut Tree<Global>,
     mut leaves: Vec<LeafDone>,
-    commands: usize,
+    commands: &[Command<Global>],
 ) -> Result<Vec<Reply<Global>>, (Fault, Vec<LeafDone>)>
     requires fan { 1 < settings.now.fan }
-    requires once { HasEachOnce commands (places_of (answers (map (λ d. d.made) leaves.items))) }
+    requires answered { AreAnswers commands.now (answers (map (λ d. d.made) leaves.items)) }
     requires ready { (t : definitions.Tree) × (cs : List (Command Global)) × IsReady settings.now t cs tree.old (map (λ d. shown Leaf d.made.worked) leaves.items) }
     requires height { tree.old.height ≤ 64 }
-    ensures count { IfOk result (λ replies. length replies.items ≡ commands) }
-    ensures replies { IfOk result (λ replies. (place : ℕ) → slice_get replies.items place ≡ reply_at (answers (map (λ d. d.made) leaves.items)) place) }
+    ensures replies { IfOk result (λ replies. (place : ℕ) → slice_get replies.items place ≡ reply_at commands.now (answers (map (λ d. d.made) leaves.items)) place) }
     ensures planned { OnOk result ((t : definitions.Tree) (cs : List (Command Global)) → IsReady settings.now t cs tree.old (map (λ d. shown Leaf d.made.worked) leaves.items) →
         AreAllHome tree.new × (tree_of tree.new ≡ planned_tree settings.now t cs)) }
     ensures low { OnOk result (tree.new.height ≤ 64) }

@@ -1,6 +1,6 @@
 //! What a run of batches does, in the words of one batch. The law is the contract of a function with an empty
 //! body.
-ghost use Rattle.std.specs.Prelude.{◌≡◌, ℕ, List, None};
+ghost use Rattle.std.specs.Prelude.{◌≡◌, ℕ, List, length, take, None, Ok};
 ghost use Rattle.std.specs.List.{AllByRecursion};
 ghost use Rattle.keys.specs.Limits.{first_bad_field};
 ghost use Rattle.keys.specs.Lists.{flat};
@@ -9,13 +9,21 @@ ghost use Rattle.keys.specs.declared.command.Command.{Command};
 ghost use Rattle.keys.specs.declared.settings.Settings.{Settings};
 ghost use Rattle.mapping.specs.Levels.{contents};
 ghost use Rattle.mapping.specs.Proper.{AreLogsTrue, IsProper};
-ghost use Rattle.mapping.specs.Tree.{Tree};
+ghost use Rattle.mapping.specs.Tree.{Tree, Store};
 ghost use Rattle.climb_plan.specs.Limits.{AreShort};
+ghost use Rattle.climb_plan.specs.Plan.{plan, planned_tree};
+ghost use Rattle.flush_log.specs.WordPids.{HasWordPids};
+ghost use Rattle.recovery.specs.InStep.{IsStoreOf};
+ghost use Rattle.recovery.specs.StoreOfDisk.{store_of_disk};
+ghost use Rattle.cleaner.specs.Steps.{Step, ArePlayed, plays, trees_in_turn};
+ghost use Rattle.engine.specs.Batch.{refusal_by};
 ghost use Rattle.engine.specs.Batches.{replies_in_turn, map_in_turn, tree_in_turn};
+ghost use Rattle.engine.specs.Steps.{batching};
 
+use cleaner::step_laws::steps_are_played_one_by_one;
 use climb_plan::laws::{
     the_log_states_stay_true, the_plan_holds_the_map_after_the_commands,
-    the_plan_of_a_proper_store_is_proper,
+    the_plan_of_a_proper_store_is_proper, what_the_log_has_of_a_page_stays_true,
 };
 use std::alloc::Allocator;
 
@@ -41,4 +49,31 @@ pub fn batches_are_planned_in_turn<A: Allocator>()
     the_plan_holds_the_map_after_the_commands::<A>();
     the_plan_of_a_proper_store_is_proper::<A>();
     the_log_states_stay_true::<A>();
+}
+
+/// A batch that isn't refused leaves a store in step with the bytes of its disk, which it doesn't touch.
+pub fn a_batch_stays_in_step<A: Allocator>()
+    ensures { (s : Settings) (st : Store) (file : List ℕ) (cs : List (Command A)) → first_bad_field s ≡ None → IsStoreOf s st file →
+        refusal_by s st.tree cs ≡ None → HasWordPids (planned_tree s st.tree cs) → IsStoreOf s (plan s st cs) file }
+{
+    the_plan_holds_the_map_after_the_commands::<A>();
+    the_plan_of_a_proper_store_is_proper::<A>();
+    the_log_states_stay_true::<A>();
+    what_the_log_has_of_a_page_stays_true::<A>();
+}
+
+/// Batches, flushes and cleans, one after the other, up to the first that is refused: the replies are those of an ordered map, and the
+/// disk stands for the store of the last flush, with the head, the tail and the number that there are now. The page ids of the
+/// trees on the way are numbers of 64 bits, as all are in memory.
+pub fn steps_answer_as_a_map_and_are_read_back<A: Allocator>()
+    ensures { (s : Settings) (st on_disk : Store) (file : List ℕ) (steps : List (Step A)) → first_bad_field s ≡ None → IsStoreOf s st file →
+        store_of_disk file ≡ Ok (s, on_disk) →
+        AllByRecursion HasWordPids (trees_in_turn (batching s) st.tree (take (length (plays (batching s) s st file steps).answers) steps)) →
+        ArePlayed (batching s) s st.tree on_disk.tree steps (plays (batching s) s st file steps) }
+{
+    steps_are_played_one_by_one::<A>();
+    the_plan_holds_the_map_after_the_commands::<A>();
+    the_plan_of_a_proper_store_is_proper::<A>();
+    the_log_states_stay_true::<A>();
+    what_the_log_has_of_a_page_stays_true::<A>();
 }

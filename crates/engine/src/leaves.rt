@@ -1,10 +1,9 @@
 //! The leaves of a batch: taken out of the tree and worked, asked for their answers, and put back where the batch is refused.
-ghost use Rattle.std.specs.Prelude.{◌≡◌, ℕ, Some, None, map, length, slice_get, vec_items, IfOk, OnOk, OnErr};
-ghost use Rattle.keys.specs.Places.{HasEachOnce};
+ghost use Rattle.std.specs.Prelude.{◌≡◌, ℕ, Some, None, map, slice_get, vec_items, IfOk, OnOk, OnErr};
 ghost use Rattle.mapping.specs.Proper.{AreRisingPids};
 ghost use Rattle.mapping.specs.Table.{pids_in_use, place_of, with_place};
 ghost use Rattle.page_runs.specs.LeafWork.{held_of};
-ghost use Rattle.replies.specs.ByPlace.{places_of, reply_at};
+ghost use Rattle.replies.specs.ByPlace.{AreAnswers, reply_at};
 ghost use Rattle.climb_plan.specs.Installing.{all_taken, all_put, AreAway};
 ghost use Rattle.engine.specs.Leaves.{route_pids, AreLeavesHome, AreLeafRoutes, leaf_held, leaves_made, answers, without_answers};
 
@@ -86,16 +85,15 @@ fn put_leaf_back(tree: &mut Tree<Global>, job: LeafJob)
     tree.put(page_run.pid(), page);
 }
 
-/// The replies to a batch of so many commands, each at its command's place, by what its leaves answered. The answers are taken from
-/// the leaves; all else of these stays, so that they can still be undone.
+/// The replies to the commands, each at its command's place, by what the leaves answered. The answers are taken from the leaves;
+/// all else of these stays, so that they can still be undone.
 pub(crate) fn take_replies(
     alloc: Global,
     leaves: &mut [LeafDone],
-    commands: usize,
+    commands: &[Command<Global>],
 ) -> Result<Vec<Reply<Global>>, AllocError>
-    requires { HasEachOnce commands (places_of (answers (map (λ d. d.made) leaves.old))) }
-    ensures count { IfOk result (λ replies. length replies.items ≡ commands) }
-    ensures replies { IfOk result (λ replies. (place : ℕ) → slice_get replies.items place ≡ reply_at (answers (map (λ d. d.made) leaves.old)) place) }
+    requires { AreAnswers commands.now (answers (map (λ d. d.made) leaves.old)) }
+    ensures replies { IfOk result (λ replies. (place : ℕ) → slice_get replies.items place ≡ reply_at commands.now (answers (map (λ d. d.made) leaves.old)) place) }
     ensures rest { map without_answers leaves.new ≡ map without_answers leaves.old }
 {
     let pieces = take_pieces_of_all(alloc, leaves)?;

@@ -1,6 +1,6 @@
 //! The tests that a batch passes before any of it is executed.
 ghost use Rattle.std.specs.Prelude.{◌≡◌, Ok, Err, MatchOption};
-ghost use Rattle.engine.specs.Refusal.{key_fault, value_fault, fault_at, first_fault, refusal};
+ghost use Rattle.engine.specs.Refusal.{key_fault, value_fault, bound_fault, fault_at, first_fault, refusal};
 
 use keys::{Command, Fault, Key, Settings, Value};
 use std::alloc::Global;
@@ -44,6 +44,9 @@ fn fault_at(settings: &Settings, place: usize, command: &Command<Global>) -> Opt
             key_fault(settings, place, key).or(value_fault(settings, place, value))
         }
         Command::Del(key) => key_fault(settings, place, key),
+        Command::Scan(lo, hi, _) => {
+            key_fault(settings, place, lo).or(bound_fault(settings, place, hi))
+        }
     }
 }
 
@@ -55,6 +58,16 @@ fn key_fault(settings: &Settings, place: usize, key: &Key<Global>) -> Option<Fau
         Some(Fault::KeyTooLong(place))
     } else {
         None
+    }
+}
+
+// What is wrong with the upper bound of the scan at this place.
+fn bound_fault(settings: &Settings, place: usize, hi: &Option<Key<Global>>) -> Option<Fault>
+    ensures { result ≡ bound_fault settings.now place hi.now }
+{
+    match hi {
+        None => None,
+        Some(hi) => key_fault(settings, place, hi),
     }
 }
 

@@ -28,7 +28,8 @@ const T: Settings = Settings {
     segments: 4,
 };
 
-// An example: its batches, their answers and the tree afterwards. A command is a word: `k=v` puts, `-k` deletes, and `k` looks up.
+// An example: its batches, their answers and the tree afterwards. A command is a word: `k=v` puts, `-k` deletes, `k` looks up, and
+// `[lo,hi,limit` scans, with `*` for no upper bound.
 struct Row {
     name: &'static str,
     settings: Settings,
@@ -40,7 +41,7 @@ const FIVE_PUTS: &str = "a=1 b=2 c=3 d=4 e=5";
 
 const SEVENTEEN_PUTS: &str = "a=1 b=1 c=1 d=1 e=1 f=1 g=1 h=1 i=1 j=1 k=1 l=1 m=1 n=1 o=1 p=1 q=1";
 
-const ROWS: [Row; 13] = [
+const ROWS: [Row; 15] = [
     Row {
         name: "row 4",
         settings: S,
@@ -97,14 +98,28 @@ const ROWS: [Row; 13] = [
             6 low=g log=No index runs=0: g=2 k=3 n=4\n\
             7 low= log=No index runs=0: =5 g=6\n",
     },
-    // With look-ups in the place of the scans.
     Row {
         name: "row 8",
         settings: S,
-        batches: &[FIVE_PUTS, "c -c c ca=9 ca b"],
-        outcome: "NNNNN; 3DMN92; root 2, height 2\n\
+        batches: &[FIVE_PUTS, "[,*,10 -c [b,d,10 ca=9 [b,*,2"],
+        outcome: "NNNNN; [ a=1 b=2 c=3 d=4 e=5]D[ b=2]N[ b=2 ca=9]; root 2, height 2\n\
             0 low= log=Old leaf runs=0: a=1 b=2\n\
             1 low=c log=No leaf runs=1: ca=9 d=4 e=5\n\
+            2 low= log=No index runs=0: =0 c=1\n",
+    },
+    // Of one key, of none, up to the limit, up to the low key of a page and from the last key on; and over leaves that are empty.
+    Row {
+        name: "scans",
+        settings: S,
+        batches: &[
+            FIVE_PUTS,
+            "[c,d,9 [c,c,9 [d,b,9 [,*,0 [,*,3 [,*,4294967295 [,c,9 [e,*,9 [f,*,9",
+            "-a -b -c -d -e",
+            "[,*,10",
+        ],
+        outcome: "NNNNN; [ c=3][][][][ a=1 b=2 c=3][ a=1 b=2 c=3 d=4 e=5][ a=1 b=2][ e=5][]; DDDDD; []; root 2, height 2\n\
+            0 low= log=Old leaf runs=1:\n\
+            1 low=c log=No leaf runs=1:\n\
             2 low= log=No index runs=0: =0 c=1\n",
     },
     Row {
@@ -184,6 +199,18 @@ const ROWS: [Row; 13] = [
         outcome: "N; 3 ValueTooLong 1; 2 KeyTooLong 1; s; root 0, height 1\n\
             0 low= log=Upto leaf runs=1: a=sixteen_bytes_ok\n",
     },
+    // A scan's bounds are keys, of which the lower one comes first.
+    Row {
+        name: "long bounds",
+        settings: S,
+        batches: &[
+            "[seventeen_bytes_!,*,1",
+            "a [a,seventeen_bytes_!,1",
+            "[sixteen_bytes_ok,sixteen_bytes_ok,1",
+        ],
+        outcome: "2 KeyTooLong 0; 2 KeyTooLong 1; []; root 0, height 1\n\
+            0 low= log=Upto leaf runs=0:\n",
+    },
 ];
 
 // More page ids than any of the rows uses.
@@ -193,7 +220,22 @@ fn key(alloc: Global, text: &str) -> Result<Key<Global>, AllocError> {
     Key::from_bytes(alloc, text.as_bytes())
 }
 
+// The scan whose bounds and limit these are.
+fn scan_of(alloc: Global, bounds: &str) -> Result<Command<Global>, AllocError> {
+    let (lo, rest) = bounds.split_once(',').unwrap_or((bounds, ""));
+    let (hi, limit) = rest.split_once(',').unwrap_or((rest, ""));
+    let hi = if hi == "*" {
+        None
+    } else {
+        Some(key(alloc, hi)?)
+    };
+    Ok(Command::Scan(key(alloc, lo)?, hi, limit.parse().unwrap_or(0)))
+}
+
 fn command(alloc: Global, word: &str) -> Result<Command<Global>, AllocError> {
+    if let Some(bounds) = word.strip_prefix('[') {
+        return scan_of(alloc, bounds);
+    }
     if let Some((name, value)) = word.split_once('=') {
         let value = Value::from_bytes(alloc, value.as_bytes())?;
         return Ok(Command::Put(key(alloc, name)?, value));
@@ -212,7 +254,7 @@ fn commands(alloc: Global, batch: &str) -> Result<Vec<Command<Global>>, AllocErr
     Ok(commands)
 }
 
-// The reply's letter; of a value the first byte.
+// The reply's letter; of a value the first byte, and of rows a bracket.
 fn letter(reply: &Reply<Global>) -> char {
     match reply {
         Reply::Value(value) => match value.as_bytes().first() {
@@ -225,6 +267,7 @@ fn letter(reply: &Reply<Global>) -> char {
         Reply::Added => 'A',
         Reply::Exists => 'E',
         Reply::Deleted => 'D',
+        Reply::Rows(_) => '[',
     }
 }
 
@@ -243,15 +286,19 @@ fn write_bytes(text: &mut String, bytes: &[u8]) -> Result<(), AllocError> {
     Ok(())
 }
 
+fn write_row(text: &mut String, key: &[u8], value: &[u8]) -> Result<(), AllocError> {
+    text.push(' ')?;
+    write_bytes(text, key)?;
+    text.push('=')?;
+    write_bytes(text, value)
+}
+
 fn write_values(
     text: &mut String,
     pairs: &Pairs<'_, Value<Global>, Global>,
 ) -> Result<(), AllocError> {
     for at in 0..pairs.len() {
-        text.push(' ')?;
-        write_bytes(text, pairs.key(at))?;
-        text.push('=')?;
-        write_bytes(text, pairs.cell(at).as_bytes())?;
+        write_row(text, pairs.key(at), pairs.cell(at).as_bytes())?;
     }
     text.push('\n')
 }
@@ -328,7 +375,19 @@ fn answer(
     }
 }
 
-// The letters of the replies, or the fault.
+// The reply's letter, and the rows of a scan behind the bracket.
+fn write_reply(text: &mut String, reply: &Reply<Global>) -> Result<(), AllocError> {
+    text.push(letter(reply))?;
+    let Reply::Rows(rows) = reply else {
+        return Ok(());
+    };
+    for (key, value) in rows.as_slice() {
+        write_row(text, key.as_bytes(), value.as_bytes())?;
+    }
+    text.push(']')
+}
+
+// What the replies are, or the fault.
 fn write_answer(
     text: &mut String,
     answer: Result<Vec<Reply<Global>>, Fault>,
@@ -336,7 +395,7 @@ fn write_answer(
     match answer {
         Ok(replies) => {
             for reply in &replies {
-                text.push(letter(reply))?;
+                write_reply(text, reply)?;
             }
             Ok(())
         }
@@ -394,7 +453,7 @@ fn rows_that_come_out(
 fn the_rows_come_out(rt: HostRuntime) {
     let (right, wrong) = rows_that_come_out(&rt, rt.alloc(), &ROWS);
     assert!(rt;
-        wrong.is_empty() && right >= 11,
+        wrong.is_empty() && right >= 13,
         "{right} right, {wrong} wrong"
     );
 }
@@ -402,10 +461,7 @@ fn the_rows_come_out(rt: HostRuntime) {
 // The keys and the values of rows.
 fn write_rows(text: &mut String, rows: Rows<'_>) -> Result<(), AllocError> {
     for (key, value) in rows {
-        text.push(' ')?;
-        write_bytes(text, key)?;
-        text.push('=')?;
-        write_bytes(text, value)?;
+        write_row(text, key, value)?;
     }
     text.push(';')
 }
@@ -503,7 +559,7 @@ fn the_longest_batch_is_answered(rt: HostRuntime) {
     assert!(rt; matches!(is_longest_batch_answered(&rt, rt.alloc()), Ok(true)));
 }
 
-// A command on a key of one byte: its kind, the key, and the value.
+// A command on a key of one byte: its kind, the key, and the value, a digit, which of a scan is the limit.
 type Draw = (u8, u8, u8);
 
 // Numbers that look random: a linear congruence with the constants of Knuth's MMIX.
@@ -514,11 +570,13 @@ fn next_number(state: &mut u64) -> u64 {
     *state >> 33
 }
 
-// Draws a command. Of eight, one is a look-up, one a put of what isn't there, those up to `puts` are puts, and the others delete.
+// Draws a command. Of nine, one is a look-up, one a put of what isn't there, one a scan, those up to `puts` are puts, and the others
+// delete.
 fn draw(state: &mut u64, puts: u64) -> Draw {
-    let kind = match next_number(state) % 8 {
+    let kind = match next_number(state) % 9 {
         0 => b'?',
         1 => b'+',
+        8 => b'[',
         number if number <= puts => b'=',
         _ => b'-',
     };
@@ -527,11 +585,12 @@ fn draw(state: &mut u64, puts: u64) -> Draw {
 }
 
 fn drawn_command(alloc: Global, draw: Draw) -> Result<Command<Global>, AllocError> {
-    let (kind, key, value) = draw;
+    let (kind, key, digit) = draw;
     let key = Key::from_bytes(alloc, &[key])?;
-    let value = Value::from_bytes(alloc, &[value])?;
+    let value = Value::from_bytes(alloc, &[digit])?;
     Ok(match kind {
         b'?' => Command::Get(key),
+        b'[' => Command::Scan(key, None, u32::from(digit.saturating_sub(b'0'))),
         b'+' => Command::Add(key, value),
         b'=' => Command::Put(key, value),
         _ => Command::Del(key),
@@ -563,7 +622,27 @@ fn letter_of_map(map: &mut BTreeMap<u8, u8, Global>, draw: Draw) -> Result<char,
     })
 }
 
-// Draws a batch of fifty commands, and appends the letters of the map's replies.
+// What the map replies to the command, as `write_reply` has it.
+fn write_reply_of_map(
+    text: &mut String,
+    map: &mut BTreeMap<u8, u8, Global>,
+    draw: Draw,
+) -> Result<(), AllocError> {
+    let (kind, lo, digit) = draw;
+    if kind != b'[' {
+        return text.push(letter_of_map(map, draw)?);
+    }
+    text.push('[')?;
+    for (key, value) in map
+        .range(lo..)
+        .take(usize::from(digit.saturating_sub(b'0')))
+    {
+        write_row(text, &[*key], &[*value])?;
+    }
+    text.push(']')
+}
+
+// Draws a batch of fifty commands, and appends the map's replies.
 fn draw_batch(
     alloc: Global,
     map: &mut BTreeMap<u8, u8, Global>,
@@ -575,7 +654,7 @@ fn draw_batch(
     for _place in 0..50 {
         let draw = draw(state, puts);
         batch.push(drawn_command(alloc, draw)?)?;
-        letters.push(letter_of_map(map, draw)?)?;
+        write_reply_of_map(letters, map, draw)?;
     }
     Ok(batch)
 }

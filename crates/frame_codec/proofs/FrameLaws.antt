@@ -3,10 +3,9 @@ use Rattle.std.proofs.Common.{◌≡◌, ℕ, ◌+◌, ◌*◌, ◌^◌, ◌<◌
 use Rattle.std.specs.List.{AllByRecursion, list_all}
 use Rattle.std.proofs.lemmas.Bool.{and_parts, ltb-true, eq-eqb}
 use Rattle.keys.specs.Cells.{Codec, IsReadBack, read_on, read_as, read_where, number, counted, value_cell, pid_cell}
-use Rattle.keys.specs.Limits.{is_in_limits, first_bad_field}
+use Rattle.keys.specs.Limits.{first_bad_field}
 use Rattle.keys.specs.declared.settings.Settings.{Settings}
-use Rattle.keys.specs.declared.settings.Field.{Field}
-use Rattle.keys.specs.declared.settings.Field.TheVariants.{Fan, Chain, MaxKey, MaxValue}
+use Rattle.keys.proofs.LimitLaws.{checked}
 use Rattle.keys.proofs.CellLaws.{gave, same_reading, number-back, counted-back, length-counted, pid-back}
 use Rattle.index_page.specs.Rules.{is_short_value, of_cell}
 use Rattle.frame_codec.specs.Codecs.{both, listed, spell_flag, flagged}
@@ -23,22 +22,8 @@ pub record AreInLimits (s : Settings) : Type 0 where
   pub max_key : s.max_key ≤ 255
   pub max_value : s.max_value ≤ 1024
 
-checked : (fan chain key value : Bool) (rest : Option Field) →
-    (if fan then (if chain then (if key then (if value then rest else Some MaxValue) else Some MaxKey) else Some Chain) else Some Fan) ≡ None →
-    (fan ≡ true) × (key ≡ true) × (value ≡ true)
-checked true true true true rest h = (refl, refl, refl)
-checked true true true false rest h = absurd (cc)
-checked true true false value rest h = absurd (cc)
-checked true false key value rest h = absurd (cc)
-checked false chain key value rest h = absurd (cc)
-
-at_most : (least most n : ℕ) → is_in_limits least most n ≡ true → n ≤ most
-at_most least most n h = leb-true n most (and_parts (nat_le least n) (nat_le n most) h).1
-
 pub in_limits : (s : Settings) → first_bad_field s ≡ None → AreInLimits s
-in_limits s h =
-    let (fan, key, value) = checked (is_in_limits 4 64 s.fan) (is_in_limits 1 16 s.chain) (is_in_limits 1 255 s.max_key) (is_in_limits 0 1024 s.max_value) _ h in
-    record { fan = at_most 4 64 s.fan fan; max_key = at_most 1 255 s.max_key key; max_value = at_most 0 1024 s.max_value value }
+in_limits s h = let all = checked s h in record { fan = all.fan; max_key = all.max_key; max_value = all.max_value }
 
 -- ---- cells, entries, contents
 

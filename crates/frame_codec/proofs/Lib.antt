@@ -8,8 +8,9 @@ mod ByteRowTen
 mod ByteRowTwelve
 pub mod CodecLaws
 pub mod FrameLaws
+pub mod LongerLaws
 pub mod ReadLaws
 mod RefusedRows
-mod RowForms
+pub mod RowForms
 pub mod SizeLaws
 pub mod WithinLaws

@@ -31,6 +31,12 @@ pub fn a_frame_is_read_back()
         read_frame s (bytes_of f ++ rest) ≡ Some (f, rest) }
 {}
 
+/// A frame that is read of bytes is read of them too where more bytes follow.
+pub fn what_is_read_needs_no_byte_behind_it()
+    ensures { (s : Settings) (bytes : List ℕ) (f : Frame) (rest more : List ℕ) → read_frame s bytes ≡ Some (f, rest) →
+        read_frame s (bytes ++ more) ≡ Some (f, rest ++ more) }
+{}
+
 /// Two frames whose bytes begin alike are the same frame: no spelling begins another.
 pub fn a_frame_has_one_spelling()
     ensures { (s : Settings) (f g : Frame) (behind other : List ℕ) → first_bad_field s ≡ None →

@@ -1,4 +1,5 @@
 pub mod CellLaws
+pub mod LimitLaws
 pub mod MapLaws
 pub mod PlaceLaws
 pub mod RangeLaws

@@ -1,12 +1,12 @@
 -- The worked rows that speak of commands, computed by the checker. A letter is the key of one byte that stands
 -- for it, and a digit the value of one byte. docs/EXAMPLES.md numbers the rows.
-use Rattle.std.specs.Prelude.{◌≡◌, ℕ, List, [], ◌∷◌}
+use Rattle.std.specs.Prelude.{◌≡◌, ℕ, List, [], ◌∷◌, Option, Some, None}
 use Rattle.std.proofs.Common.{refl}
 use Rattle.keys.specs.Step.{replies_to, map_after_all}
 use Rattle.keys.specs.declared.command.Command.{Command}
-use Rattle.keys.specs.declared.command.Command.TheVariants.{Get, Put, Add, Del}
+use Rattle.keys.specs.declared.command.Command.TheVariants.{Get, Put, Add, Del, Scan}
 use Rattle.keys.specs.declared.command.Reply.{Reply}
-use Rattle.keys.specs.declared.command.Reply.TheVariants.{Value, Missing, New, Replaced, Exists, Added, Deleted}
+use Rattle.keys.specs.declared.command.Reply.TheVariants.{Value, Missing, New, Replaced, Exists, Added, Deleted, Rows}
 
 abbrev Bytes : Type 0
 Bytes = List ℕ
@@ -100,3 +100,23 @@ row_9_map = refl
 -- the empty key is the least, and a proper beginning of a key comes before it
 beginnings_first : left [] (Put (97 ∷ 0 ∷ []) [] ∷ Put (97 ∷ []) [] ∷ Put [] [] ∷ []) ≡ ([], []) ∷ (97 ∷ [], []) ∷ (97 ∷ 0 ∷ [], []) ∷ []
 beginnings_first = refl
+
+-- row 8: scans see what stands before them in the batch
+abbrev row_8_pairs : Pairs
+row_8_pairs = (a, 49 ∷ []) ∷ (b, 50 ∷ []) ∷ (c, 51 ∷ []) ∷ (d, 52 ∷ []) ∷ (e, 53 ∷ []) ∷ []
+
+abbrev ca : Bytes
+ca = 99 ∷ 97 ∷ []
+
+abbrev row_8 : Commands
+row_8 = Scan [] None 10 ∷ Del c ∷ Scan b (Some d) 10 ∷ Put ca (57 ∷ []) ∷ Scan b None 2 ∷ []
+
+row_8_replies : replies row_8_pairs row_8 ≡ Rows row_8_pairs ∷ Deleted ∷ Rows ((b, 50 ∷ []) ∷ []) ∷ New ∷ Rows ((b, 50 ∷ []) ∷ (ca, 57 ∷ []) ∷ []) ∷ []
+row_8_replies = refl
+
+row_8_map : left row_8_pairs row_8 ≡ (a, 49 ∷ []) ∷ (b, 50 ∷ []) ∷ (ca, 57 ∷ []) ∷ (d, 52 ∷ []) ∷ (e, 53 ∷ []) ∷ []
+row_8_map = refl
+
+-- a scan between a bound and a lesser one, and one that may have no rows
+row_8_empty : replies row_8_pairs (Scan d (Some b) 10 ∷ Scan a None 0 ∷ Scan a (Some a) 5 ∷ []) ≡ Rows [] ∷ Rows [] ∷ Rows [] ∷ []
+row_8_empty = refl

@@ -6,7 +6,7 @@ use Rattle.keys.specs.OrderedMap.{value_at, with_pair}
 use Rattle.keys.proofs.MapLaws.{rising-with_pair, rising-without}
 use Rattle.keys.specs.Step.{reply_to, map_after, replies_to, map_after_all}
 use Rattle.keys.specs.declared.command.Command.{Command}
-use Rattle.keys.specs.declared.command.Command.TheVariants.{Get, Put, Add, Del}
+use Rattle.keys.specs.declared.command.Command.TheVariants.{Get, Put, Add, Del, Scan}
 use Rattle.keys.specs.declared.command.Reply.{Reply}
 
 rising_either : (b : Bool) (m n : List (List ℕ × List ℕ)) → IsRising m → IsRising n → IsRising (if b then m else n)
@@ -18,6 +18,7 @@ rising-map_after m (Get k) r = r
 rising-map_after m (Put k v) r = rising-with_pair m k v r
 rising-map_after m (Add k v) r = rising_either (is_some (value_at k m)) m (with_pair m k v) r (rising-with_pair m k v r)
 rising-map_after m (Del k) r = rising-without m k r
+rising-map_after m (Scan lo hi limit) r = r
 
 pub rising-map_after_all : {A : Type 0} → (m : List (List ℕ × List ℕ)) (cs : List (Command A)) → IsRising m → IsRising (map_after_all m cs)
 rising-map_after_all m [] r = r

@@ -1,10 +1,11 @@
 -- What a command answers and what it leaves, of an ordered map; and a run of commands.
 use Rattle.std.specs.Prelude.{ℕ, List, [], ◌∷◌, Option, Some, None, is_some, if◌then◌else◌}
 use Rattle.keys.specs.OrderedMap.{value_at, with_pair, without}
+use Rattle.keys.specs.Range.{rows}
 use Rattle.keys.specs.declared.command.Command.{Command}
-use Rattle.keys.specs.declared.command.Command.TheVariants.{Get, Put, Add, Del}
+use Rattle.keys.specs.declared.command.Command.TheVariants.{Get, Put, Add, Del, Scan}
 use Rattle.keys.specs.declared.command.Reply.{Reply}
-use Rattle.keys.specs.declared.command.Reply.TheVariants.{Value, Missing, New, Replaced, Added, Exists, Deleted}
+use Rattle.keys.specs.declared.command.Reply.TheVariants.{Value, Missing, New, Replaced, Added, Exists, Deleted, Rows}
 
 -- the reply to a Get that finds this
 abbrev pub found : {A : Type 0} → Option (List ℕ) → Reply A
@@ -17,6 +18,7 @@ reply_to m (Get k) = found (value_at k m)
 reply_to m (Put k v) = if is_some (value_at k m) then Replaced else New
 reply_to m (Add k v) = if is_some (value_at k m) then Exists else Added
 reply_to m (Del k) = if is_some (value_at k m) then Deleted else Missing
+reply_to m (Scan lo hi limit) = Rows (rows lo hi limit m)
 
 -- the map after the command
 abbrev pub map_after : {A : Type 0} → List (List ℕ × List ℕ) → Command A → List (List ℕ × List ℕ)
@@ -24,6 +26,7 @@ map_after m (Get k) = m
 map_after m (Put k v) = with_pair m k v
 map_after m (Add k v) = if is_some (value_at k m) then m else with_pair m k v
 map_after m (Del k) = without m k
+map_after m (Scan lo hi limit) = m
 
 -- the replies to commands that are executed in the order of the list
 abbrev pub replies_to : {A : Type 0} → List (List ℕ × List ℕ) → List (Command A) → List (Reply A)

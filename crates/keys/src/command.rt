@@ -1,7 +1,8 @@
 ghost use Rattle.std.specs.Prelude.{◌≡◌};
-ghost use Rattle.keys.specs.CommandKey.{key_of};
+ghost use Rattle.keys.specs.CommandKey.{key_of, is_scan};
 
 use crate::key::Key;
+use crate::row_list::RowList;
 use crate::value::Value;
 use std::alloc::Allocator;
 
@@ -17,10 +18,13 @@ pub enum Command<A: Allocator> {
     Add(Key<A>, Value<A>),
     /// The key is not there from now on.
     Del(Key<A>),
+    /// The first pairs whose keys are the lower bound or above, and below the upper bound where there is one, in key
+    /// order: as many as the limit, at most.
+    Scan(Key<A>, Option<Key<A>>, u32),
 }
 
 impl<A: Allocator> Command<A> {
-    /// The key that the command is on.
+    /// The key that the command is on; of a scan it is the lower bound.
     pub fn key(&self) -> &Key<A>
         ensures { result.now ≡ key_of self.now }
     {
@@ -29,7 +33,15 @@ impl<A: Allocator> Command<A> {
             Command::Put(key, _) => key,
             Command::Add(key, _) => key,
             Command::Del(key) => key,
+            Command::Scan(lo, _, _) => lo,
         }
+    }
+
+    /// Whether the command is a scan, and so may go to several pages.
+    pub fn is_scan(&self) -> bool
+        ensures { result ≡ is_scan self.now }
+    {
+        matches!(self, Command::Scan(_, _, _))
     }
 }
 
@@ -50,4 +62,6 @@ pub enum Reply<A: Allocator> {
     Exists,
     /// To `Del`: the key was there.
     Deleted,
+    /// To `Scan`: the pairs, in key order.
+    Rows(RowList<A>),
 }

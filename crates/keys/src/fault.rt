@@ -25,10 +25,28 @@ pub enum Fault {
     /// Memory was refused.
     #[error("6 NoMemory")]
     NoMemory,
+    /// What is to be written would leave no segment free.
+    #[error("10 Full")]
+    Full,
+    /// The log is in one segment, so that none can be cleaned.
+    #[error("11 NothingToClean")]
+    NothingToClean,
+    /// The disk has no settings block, or is shorter than it tells.
+    #[error("12 NotAStore")]
+    NotAStore,
+    /// No slot is open, or an open one is not well formed.
+    #[error("13 NoSlot")]
+    NoSlot,
+    /// The header of this segment is wrong.
+    #[error("14 BadSegment {0}")]
+    BadSegment(u64),
+    /// In this segment, at this offset, there is neither a frame nor the end of the frames.
+    #[error("15 BadFrame {0} {1}")]
+    BadFrame(u64, u32),
     /// The tree breaks this rule, at this page.
     #[error("16 BadStructure {0}")]
     BadStructure(Finding),
-    /// The tree would have more than 64 levels.
+    /// The tree would have more than 64 levels, or a position or the sequence number would pass 2^62.
     #[error("17 Spent")]
     Spent,
 }

@@ -8,8 +8,10 @@ ghost use Rattle.std.specs.Cmp.{IsTotalOrder};
 ghost use Rattle.keys.specs.Order.{order, IsRising};
 ghost use Rattle.keys.specs.OrderedMap.{value_at, with_pair, without};
 ghost use Rattle.keys.specs.Range.{is_below, is_within, rows};
-ghost use Rattle.keys.specs.Step.{map_after, replies_to, map_after_all};
+ghost use Rattle.keys.specs.Step.{reply_to, map_after, replies_to, map_after_all};
 ghost use Rattle.keys.specs.declared.command.Command.{Command};
+ghost use Rattle.keys.specs.declared.command.Command.TheVariants.{Scan};
+ghost use Rattle.keys.specs.declared.command.Reply.TheVariants.{Rows};
 
 use std::alloc::Allocator;
 
@@ -42,6 +44,12 @@ pub fn a_map_is_what_it_has<V>()
 pub fn commands_keep_the_order<A: Allocator>()
     ensures one { (m : List (List ℕ × List ℕ)) (c : Command A) → IsRising m → IsRising (map_after m c) }
     ensures all { (m : List (List ℕ × List ℕ)) (cs : List (Command A)) → IsRising m → IsRising (map_after_all m cs) }
+{}
+
+/// A scan is answered with the rows of its range, and leaves the map as it was.
+pub fn a_scan_leaves_the_map<A: Allocator>()
+    ensures reply { (m : List (List ℕ × List ℕ)) (lo : List ℕ) (hi : Option (List ℕ)) (limit : ℕ) → reply_to {A = A} m (Scan lo hi limit) ≡ Rows (rows lo hi limit m) }
+    ensures map { (m : List (List ℕ × List ℕ)) (lo : List ℕ) (hi : Option (List ℕ)) (limit : ℕ) → map_after {A = A} m (Scan lo hi limit) ≡ m }
 {}
 
 /// Lists of commands joined end to end are executed one after the other: the second list finds the map that the

@@ -10,6 +10,7 @@ pub mod key;
 pub mod laws;
 pub mod pid;
 pub mod piece;
+pub mod row_list;
 pub mod settings;
 pub mod value;
 
@@ -20,5 +21,6 @@ pub use crate::finding::Finding;
 pub use crate::key::Key;
 pub use crate::pid::Pid;
 pub use crate::piece::Piece;
+pub use crate::row_list::RowList;
 pub use crate::settings::{Field, Settings};
 pub use crate::value::Value;

@@ -29,7 +29,7 @@ apart_by : (b : Bool) (m n : ℕ) (rest : Bool) → nat_eq n m ≡ b → n < m �
 apart_by true m n rest e l h = absurd (let x = eqb-true n m e in omega arith)
 apart_by false m n rest e l h = h
 
-none_above : (n : ℕ) (ns : List ℕ) → AllByRecursion (λ m. n < m) ns → is_among n ns ≡ false
+pub none_above : (n : ℕ) (ns : List ℕ) → AllByRecursion (λ m. n < m) ns → is_among n ns ≡ false
 none_above n [] a = refl
 none_above n (m ∷ ms) a = apart_by (nat_eq n m) m n (is_among n ms) refl a.0 (none_above n ms a.1)
 
@@ -65,7 +65,7 @@ all_by : (P : ℕ → Type 0) (b : Bool) (n : ℕ) (ns : List ℕ) → P n → A
 all_by P true n ns p a = a
 all_by P false n ns p a = all-with_number P n ns p a
 
-all-with_numbers : (P : ℕ → Type 0) (ms ns : List ℕ) → AllByRecursion P ms → AllByRecursion P ns → AllByRecursion P (with_numbers ms ns)
+pub all-with_numbers : (P : ℕ → Type 0) (ms ns : List ℕ) → AllByRecursion P ms → AllByRecursion P ns → AllByRecursion P (with_numbers ms ns)
 all-with_numbers P [] ns a b = b
 all-with_numbers P (m ∷ ms) ns a b = all_by P (is_among m (with_numbers ms ns)) m (with_numbers ms ns) a.0 (all-with_numbers P ms ns a.1 b)
 
@@ -131,7 +131,7 @@ or_turned true false = refl
 or_turned false true = refl
 or_turned false false = refl
 
-among-with_numbers : (k : ℕ) (ms ns : List ℕ) → is_among k (with_numbers ms ns) ≡ (is_among k ms || is_among k ns)
+pub among-with_numbers : (k : ℕ) (ms ns : List ℕ) → is_among k (with_numbers ms ns) ≡ (is_among k ms || is_among k ns)
 among-with_numbers k [] ns = refl
 among-with_numbers k (m ∷ ms) ns =
     among-with_one (is_among m (with_numbers ms ns)) k m (with_numbers ms ns) refl
@@ -142,7 +142,7 @@ rising_by : (b : Bool) (n : ℕ) (ns : List ℕ) → is_among n ns ≡ b → Are
 rising_by true n ns e r = r
 rising_by false n ns e r = rising-with_number n ns r e
 
-rising-with_numbers : (ms ns : List ℕ) → AreRisingPids ns → AreRisingPids (with_numbers ms ns)
+pub rising-with_numbers : (ms ns : List ℕ) → AreRisingPids ns → AreRisingPids (with_numbers ms ns)
 rising-with_numbers [] ns r = r
 rising-with_numbers (m ∷ ms) ns r = rising_by (is_among m (with_numbers ms ns)) m (with_numbers ms ns) refl (rising-with_numbers ms ns r)
 
@@ -160,7 +160,7 @@ old_here false true old k l os later e f g ih h = let x = is_eq_same k l.0 (eqb-
 old_here false false true k l os later e f g ih h = rw f ih
 old_here false false false k l os later e f g ih h = ih
 
-among-old : (k : ℕ) (ls : List (ℕ × Logged)) → AreRisingPids (keys_of ls) → is_among k (keys_of (filter (λ l. is_old l.1) ls)) ≡ is_old (or_no (lookup (is_pid k) ls))
+pub among-old : (k : ℕ) (ls : List (ℕ × Logged)) → AreRisingPids (keys_of ls) → is_among k (keys_of (filter (λ l. is_old l.1) ls)) ≡ is_old (or_no (lookup (is_pid k) ls))
 among-old k [] r = refl
 among-old k (l ∷ ls) r =
     old_here (is_eq (nat_cmp k l.0)) (nat_eq k l.0) (is_old l.1) k l (filter (λ l. is_old l.1) ls) (lookup (is_pid k) ls) refl refl refl (among-old k ls r.1)

@@ -1,13 +1,13 @@
 mod Around
 pub mod DrawnPlaces
 mod FindingRow
-mod FirstTree
+pub mod FirstTree
 mod FlushedSlots
 mod FreshLaws
 pub mod HomePages
-mod InUse
+pub mod InUse
 pub mod Joined
-mod KnownPids
+pub mod KnownPids
 mod Level
 pub mod LevelLaws
 mod Listing
@@ -17,10 +17,11 @@ mod Parts
 pub mod PidLaws
 mod RoomLaws
 pub mod SameTable
+pub mod SameTree
 mod Search
 pub mod TableLaws
 pub mod TableOfLevels
 mod TableRows
 mod TableSlots
 pub mod TileLaws
-mod Walk
+pub mod Walk

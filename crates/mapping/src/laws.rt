@@ -42,6 +42,11 @@ pub fn levels_are_found_in_their_table()
         levels_of t ≡ l }
 {}
 
+/// A proper tree is told by its pages: there is one root, and one height, with which they are a proper tree.
+pub fn a_proper_tree_is_told_by_its_pages()
+    ensures { (s : Settings) (t u : Tree) → IsProper s t → IsProper s u → t.pages ≡ u.pages → (t.root ≡ u.root) × (t.height ≡ u.height) }
+{}
+
 /// The numbers that are given to new pages are not in use, rise from place to place, and leave out none that is free. Once
 /// one is in use, those behind it are one place nearer: so it is the same to draw pids at once or one after the other.
 pub fn fresh_pids_are_the_least_unused_numbers()

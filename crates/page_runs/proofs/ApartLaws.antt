@@ -9,7 +9,7 @@ use Rattle.keys.specs.Step.{reply_to, map_after, replies_to, map_after_all}
 use Rattle.keys.proofs.MapLaws.{order_itself, passes_same, value_at-with_pair_here, value_at-without_here}
 use Rattle.keys.proofs.RunLaws.{rising-map_after}
 use Rattle.keys.specs.declared.command.Command.{Command}
-use Rattle.keys.specs.declared.command.Command.TheVariants.{Get, Put, Add, Del}
+use Rattle.keys.specs.declared.command.Command.TheVariants.{Get, Put, Add, Del, Scan}
 use Rattle.keys.specs.declared.command.Reply.{Reply}
 use Rattle.page_runs.specs.NetRun.{net_run}
 use Rattle.page_runs.proofs.NetLaws.{Pairs, said_if, value_at-touched, untouched_once}
@@ -59,6 +59,7 @@ module _ {A : Type 0} where
   is_on-single_key (Put j v) k q h = let s : j ≡ k = cc in ap (λ (i : List ℕ). is_eq (order q i)) s
   is_on-single_key (Add j v) k q h = let s : j ≡ k = cc in ap (λ (i : List ℕ). is_eq (order q i)) s
   is_on-single_key (Del j) k q h = let s : j ≡ k = cc in ap (λ (i : List ℕ). is_eq (order q i)) s
+  is_on-single_key (Scan lo hi limit) k q h = absurd (cc)
 
   pub within_by_key : (is_own : List ℕ → Bool) (c : Command A) (k : List ℕ) → single_key c ≡ Some k → is_own k ≡ true → IsWithin is_own c
   within_by_key is_own c k h n = λ q o. is_on-single_key c k q h ∙ own_key is_own q k o n
@@ -72,6 +73,7 @@ module _ {A : Type 0} where
   touches_none_else m (Put k v) q h = h
   touches_none_else m (Add k v) q h = ap (λ (b : Bool). not (is_some (value_at k m)) && b) h ∙ never_both (not (is_some (value_at k m)))
   touches_none_else m (Del k) q h = ap (λ (b : Bool). is_some (value_at k m) && b) h ∙ never_both (is_some (value_at k m))
+  touches_none_else m (Scan lo hi limit) q h = refl
 
   value_at-elsewhere : (m : Pairs) (c : Command A) (q : List ℕ) → IsRising m → is_on c q ≡ false → value_at q (map_after m c) ≡ value_at q m
   value_at-elsewhere m c q r h = untouched_once m c q r (touches_none_else m c q h)
@@ -86,6 +88,7 @@ module _ {A : Type 0} where
       let here : value_at k m ≡ value_at k x = rw (sym same) e in
       rw same (added_same (is_some (value_at k m)) m x k v here ∙ ap (λ (o : Option (List ℕ)). value_at k (cond (is_some o) x (with_pair x k v))) here)
   after_on m x (Del k) q h r s e = let same : q ≡ k = passes_same q k h in rw same (value_at-without_here m k r ∙ sym (value_at-without_here x k s))
+  after_on m x (Scan lo hi limit) q h r s e = e
 
   after_by : (b : Bool) (m x : Pairs) (c : Command A) (q : List ℕ) → is_on c q ≡ b → IsRising m → IsRising x → value_at q m ≡ value_at q x → value_at q (map_after m c) ≡ value_at q (map_after x c)
   after_by true m x c q h r s e = after_on m x c q h r s e
@@ -102,6 +105,7 @@ module _ {A : Type 0} where
       let same : q ≡ k = passes_same q k h in
       let here : value_at k m ≡ value_at k x = rw (sym same) e in
       ap (λ (o : Option (List ℕ)). is_some o && is_eq (order q k)) here
+  touches_on m x (Scan lo hi limit) q h e = refl
 
   touches_by : (b : Bool) (m x : Pairs) (c : Command A) (q : List ℕ) → is_on c q ≡ b → value_at q m ≡ value_at q x → touches q m c ≡ touches q x c
   touches_by true m x c q h e = touches_on m x c q h e
@@ -113,6 +117,7 @@ module _ {A : Type 0} where
   reply_same is_own m x (Put k v) a h = let e : value_at k m ≡ value_at k x = a k h in rw e refl
   reply_same is_own m x (Add k v) a h = let e : value_at k m ≡ value_at k x = a k h in rw e refl
   reply_same is_own m x (Del k) a h = let e : value_at k m ≡ value_at k x = a k h in rw e refl
+  reply_same is_own m x (Scan lo hi limit) a h = absurd (cc)
 
   -- a command off some keys isn't on one of them
   off_one : (is_own : List ℕ → Bool) (c : Command A) → IsOff is_own c → is_on_one is_own c ≡ false
@@ -120,6 +125,7 @@ module _ {A : Type 0} where
   off_one is_own (Put k v) h = passes_not (is_own k) k (λ e. h k e)
   off_one is_own (Add k v) h = passes_not (is_own k) k (λ e. h k e)
   off_one is_own (Del k) h = passes_not (is_own k) k (λ e. h k e)
+  off_one is_own (Scan lo hi limit) h = refl
 
   -- ---- replies to some of the commands
 

@@ -1,6 +1,9 @@
 pub mod AfterLaws
 pub mod ApartLaws
+mod NamedRows
 pub mod NetLaws
 mod Overlays
+pub mod PageParts
+mod PageRows
 mod Replays
 mod Rows

@@ -9,7 +9,7 @@ use Rattle.keys.specs.Step.{map_after, map_after_all}
 use Rattle.keys.proofs.MapLaws.{alike, passes_same, value_at-with_pair_here, value_at-with_pair_apart, value_at-without, rising-with_pair, same_map}
 use Rattle.keys.proofs.RunLaws.{rising-map_after, rising-map_after_all, map_after_all-append}
 use Rattle.keys.specs.declared.command.Command.{Command}
-use Rattle.keys.specs.declared.command.Command.TheVariants.{Get, Put, Add, Del}
+use Rattle.keys.specs.declared.command.Command.TheVariants.{Get, Put, Add, Del, Scan}
 use Rattle.delta_chain.specs.Layers.{said_or, with_run}
 use Rattle.delta_chain.proofs.LayerLaws.{value_at-with_run, rising-with_run}
 use Rattle.page_runs.specs.Touched.{touches, is_touched}
@@ -102,6 +102,7 @@ module _ {A : Type 0} where
   value_at-noted_by after before (Put k v) run q = value_at-noted after run k q
   value_at-noted_by after before (Add k v) run q = noted_unless (is_some (value_at k before)) after run k q
   value_at-noted_by after before (Del k) run q = noted_where (is_some (value_at k before)) after run k q
+  value_at-noted_by after before (Scan lo hi limit) run q = refl
 
   -- the touched keys have their values in the last map, and no other key is named
   pub value_at-touched : (after before : Pairs) (cs : List (Command A)) (q : List ℕ) → value_at q (touched after before cs) ≡ said_if (is_touched q before cs) q after
@@ -116,6 +117,7 @@ module _ {A : Type 0} where
   rising-noted_by after before (Put k v) run r = rising-with_pair run k (value_at k after) r
   rising-noted_by after before (Add k v) run r = rising_either (is_some (value_at k before)) run (noted after run k) r (rising-with_pair run k (value_at k after) r)
   rising-noted_by after before (Del k) run r = rising_either (is_some (value_at k before)) (noted after run k) run (rising-with_pair run k (value_at k after) r) r
+  rising-noted_by after before (Scan lo hi limit) run r = r
 
   rising-touched : (after before : Pairs) (cs : List (Command A)) → IsRising (touched after before cs)
   unfolding IsStrictlySortedBy
@@ -133,6 +135,7 @@ module _ {A : Type 0} where
   untouched_once m (Put k v) q r h = value_at-with_pair_apart m k q v h
   untouched_once m (Add k v) q r h = added_by (is_some (value_at k m)) m k q v h
   untouched_once m (Del k) q r h = deleted_by (is_some (value_at k m)) m k q r refl h
+  untouched_once m (Scan lo hi limit) q r h = refl
 
   untouched_by_all : (m : Pairs) (cs : List (Command A)) (q : List ℕ) → IsRising m → is_touched q m cs ≡ false → value_at q (map_after_all m cs) ≡ value_at q m
   untouched_by_all m [] q r h = refl

@@ -2,8 +2,10 @@
 -- that stands for it, and a digit the value of one byte. docs/EXAMPLES.md numbers the rows.
 use Rattle.std.specs.Prelude.{◌≡◌, ℕ, List, [], ◌∷◌, Option, None, Some}
 use Rattle.std.proofs.Common.{refl}
+use Rattle.keys.specs.Step.{replies_to}
 use Rattle.keys.specs.declared.command.Command.{Command}
-use Rattle.keys.specs.declared.command.Command.TheVariants.{Get, Put, Add, Del}
+use Rattle.keys.specs.declared.command.Command.TheVariants.{Get, Put, Add, Del, Scan}
+use Rattle.keys.specs.declared.command.Reply.TheVariants.{New, Deleted, Rows}
 use Rattle.keys.specs.declared.settings.Settings.{Settings}
 use Rattle.delta_chain.specs.Layers.{Layers, entries_of, depth_of}
 use Rattle.page_runs.specs.AfterRun.{after_run, class_after}
@@ -150,3 +152,23 @@ first_changes = refl
 
 first_changes_class : class_after wide three_in_front (run_on three_in_front (Put a (52 ∷ []) ∷ [])) ≡ Thin
 first_changes_class = refl
+
+-- row 8: the second page of a store at fan 4, from the key c on: its part of the scans' rows
+abbrev ca : Bytes
+ca = 99 ∷ 97 ∷ []
+
+abbrev from_c : Page
+from_c = record { runs = []; base = (c, 51 ∷ []) ∷ (d, 52 ∷ []) ∷ (e, 53 ∷ []) ∷ [] }
+
+abbrev row_8 : Commands
+row_8 = Scan [] None 10 ∷ Del c ∷ Scan b (Some d) 10 ∷ Put ca (57 ∷ []) ∷ Scan b None 2 ∷ []
+
+row_8_replies : replies_to (entries_of from_c) row_8
+    ≡ Rows ((c, 51 ∷ []) ∷ (d, 52 ∷ []) ∷ (e, 53 ∷ []) ∷ []) ∷ Deleted ∷ Rows [] ∷ New ∷ Rows ((ca, 57 ∷ []) ∷ (d, 52 ∷ []) ∷ []) ∷ []
+row_8_replies = refl
+
+row_8_run : run_on from_c row_8 ≡ (c, None) ∷ (ca, Some (57 ∷ [])) ∷ []
+row_8_run = refl
+
+row_8_page : page_after from_c row_8 ≡ record { runs = ((c, None) ∷ (ca, Some (57 ∷ [])) ∷ []) ∷ []; base = from_c.base }
+row_8_page = refl

@@ -1,19 +1,20 @@
 -- The commands of a batch that are on some of the keys, taken by themselves.
-use Rattle.std.specs.Prelude.{◌≡◌, ℕ, Bool, true, false, List, [], ◌∷◌, Option, Some, if◌then◌else◌}
+use Rattle.std.specs.Prelude.{◌≡◌, ℕ, Bool, true, false, List, [], ◌∷◌, Option, Some, None, if◌then◌else◌}
 use Rattle.std.specs.Option.{option_map_or}
 use Rattle.std.specs.Ordering.{is_eq}
 use Rattle.keys.specs.Order.{order}
 use Rattle.keys.specs.OrderedMap.{value_at}
 use Rattle.keys.specs.declared.command.Command.{Command}
-use Rattle.keys.specs.declared.command.Command.TheVariants.{Get, Put, Add, Del}
+use Rattle.keys.specs.declared.command.Command.TheVariants.{Get, Put, Add, Del, Scan}
 use Rattle.keys.specs.declared.command.Reply.{Reply}
 
--- whether the command touches or reads the key
+-- whether the command is on the key; a scan is on none
 abbrev pub is_on : {A : Type 0} → Command A → List ℕ → Bool
 is_on (Get k) q = is_eq (order q k)
 is_on (Put k v) q = is_eq (order q k)
 is_on (Add k v) q = is_eq (order q k)
 is_on (Del k) q = is_eq (order q k)
+is_on (Scan lo hi limit) q = false
 
 -- the key of a command on one key
 abbrev pub single_key : {A : Type 0} → Command A → Option (List ℕ)
@@ -21,6 +22,7 @@ single_key (Get k) = Some k
 single_key (Put k v) = Some k
 single_key (Add k v) = Some k
 single_key (Del k) = Some k
+single_key (Scan lo hi limit) = None
 
 -- whether the command is on one key, and that is one of these
 abbrev pub is_on_one : {A : Type 0} → (List ℕ → Bool) → Command A → Bool

@@ -4,6 +4,7 @@ pub mod Changes
 pub mod LeafWork
 pub mod NetRun
 pub mod Outcome
+pub mod PageRows
 pub mod Replay
 pub mod Replies
 pub mod TermWork

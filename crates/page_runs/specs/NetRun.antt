@@ -3,7 +3,7 @@ use Rattle.std.specs.Prelude.{ℕ, List, [], ◌∷◌, Option, is_some, if◌th
 use Rattle.keys.specs.OrderedMap.{value_at, with_pair}
 use Rattle.keys.specs.Step.{map_after, map_after_all}
 use Rattle.keys.specs.declared.command.Command.{Command}
-use Rattle.keys.specs.declared.command.Command.TheVariants.{Get, Put, Add, Del}
+use Rattle.keys.specs.declared.command.Command.TheVariants.{Get, Put, Add, Del, Scan}
 
 -- a run with the key in it, at its value in this map, or absent
 abbrev pub noted : {V : Type 0} → List (List ℕ × V) → List (List ℕ × Option V) → List ℕ → List (List ℕ × Option V)
@@ -16,6 +16,7 @@ noted_by after before (Get k) run = run
 noted_by after before (Put k v) run = noted after run k
 noted_by after before (Add k v) run = if is_some (value_at k before) then run else noted after run k
 noted_by after before (Del k) run = if is_some (value_at k before) then noted after run k else run
+noted_by after before (Scan lo hi limit) run = run
 
 -- the touched keys, each with its value or absence in the map after all the commands
 abbrev pub touched : {A : Type 0} → List (List ℕ × List ℕ) → List (List ℕ × List ℕ) → List (Command A) → List (List ℕ × Option (List ℕ))

@@ -5,7 +5,7 @@ use Rattle.keys.specs.Order.{order}
 use Rattle.keys.specs.OrderedMap.{value_at}
 use Rattle.keys.specs.Step.{map_after}
 use Rattle.keys.specs.declared.command.Command.{Command}
-use Rattle.keys.specs.declared.command.Command.TheVariants.{Get, Put, Add, Del}
+use Rattle.keys.specs.declared.command.Command.TheVariants.{Get, Put, Add, Del, Scan}
 
 -- whether the command touches the key, on the map before it: a Put always does, an Add where the map lacks the key, a
 -- Del where the map has it
@@ -14,6 +14,7 @@ touches q m (Get k) = false
 touches q m (Put k v) = is_eq (order q k)
 touches q m (Add k v) = not (is_some (value_at k m)) && is_eq (order q k)
 touches q m (Del k) = is_some (value_at k m) && is_eq (order q k)
+touches q m (Scan lo hi limit) = false
 
 -- whether one of the commands does
 abbrev pub is_touched : {A : Type 0} → List ℕ → List (List ℕ × List ℕ) → List (Command A) → Bool

@@ -1,10 +1,13 @@
 //! What the commands of a leaf have changed so far.
-ghost use Rattle.std.specs.Prelude.{◌≡◌, [], IfOk, OnOk};
+ghost use Rattle.std.specs.Prelude.{◌≡◌, [], None, IfOk, OnOk};
 ghost use Rattle.std.specs.Option.{option_copied};
+ghost use Rattle.keys.specs.Order.{IsRising};
 ghost use Rattle.keys.specs.OrderedMap.{value_at, with_pair};
+ghost use Rattle.keys.specs.Range.{in_range};
 ghost use Rattle.delta_chain.specs.Layers.{IsInOrder};
 ghost use Rattle.page_runs.specs.Replay.{map_by_now};
 
+use crate::changes_from::ChangesFrom;
 use delta_chain::{Chain, PushError, Run};
 use keys::{Command, Key, Value};
 use page_search::{Probes, find};
@@ -94,6 +97,24 @@ impl Changes {
         find(page, key.as_bytes(), &mut Probes::new())
     }
 
+    /// The changes of this key and of those above it.
+    pub(crate) fn from_key<'a>(&'a self, low: &'a Key<Global>) -> ChangesFrom<'a>
+        ensures left { result ≡ in_range low.now None self.now }
+        ensures rising { IsRising self.now }
+    {
+        // `len` is called only for the proof: it says that the keys rise.
+        match &self.kept {
+            Kept::Few(run) => {
+                let _rising = run.len();
+                ChangesFrom::of_run(run, run.lower(low.as_bytes()))
+            }
+            Kept::Many(map) => {
+                let _rising = map.len();
+                ChangesFrom::of_map(map.range(low..))
+            }
+        }
+    }
+
     /// Sets what the changes say of the key.
     pub(crate) fn note(
         &mut self,
@@ -154,11 +175,14 @@ fn run_of(alloc: Global, map: ChangeMap) -> Result<LeafRun, AllocError>
     Ok(run)
 }
 
-// How many of the commands are no look-ups.
+// How many of the commands are no look-ups and no scans.
 fn count_writes(commands: &[Command<Global>], places: &[usize]) -> usize {
     let mut writes = 0usize;
     for place in places {
-        if !matches!(commands.get(*place), Some(Command::Get(_))) {
+        if !matches!(
+            commands.get(*place),
+            Some(Command::Get(_) | Command::Scan(_, _, _))
+        ) {
             writes = writes.saturating_add(1);
         }
     }

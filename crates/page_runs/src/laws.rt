@@ -1,12 +1,18 @@
 //! What the definitions of `specs/` mean. Each law is the contract of a function with an empty body.
-ghost use Rattle.std.specs.Prelude.{◌≡◌, ℕ, Bool, true, false, List, Option, Some, None};
+ghost use Rattle.std.specs.Prelude.{◌≡◌, ℕ, Bool, true, false, if◌then◌else◌, List, [], flat_map, take, Option, Some, None};
 ghost use Rattle.std.specs.List.{filter};
+ghost use Rattle.keys.specs.CommandKey.{is_scan};
 ghost use Rattle.keys.specs.Order.{IsRising};
 ghost use Rattle.keys.specs.OrderedMap.{value_at};
-ghost use Rattle.keys.specs.Step.{replies_to, map_after_all};
+ghost use Rattle.keys.specs.Range.{in_range, rows};
+ghost use Rattle.keys.specs.Step.{reply_to, map_after, replies_to, map_after_all};
 ghost use Rattle.keys.specs.declared.command.Command.{Command};
+ghost use Rattle.keys.specs.declared.command.Command.TheVariants.{Scan};
 ghost use Rattle.keys.specs.declared.settings.Settings.{Settings};
 ghost use Rattle.delta_chain.specs.Layers.{Layers, with_run, entries_of, IsInOrder};
+ghost use Rattle.mapping.specs.Levels.{Placed};
+ghost use Rattle.mapping.specs.Proper.{next_low, Tiled};
+ghost use Rattle.routing.specs.Routes.{goes_to, ranges};
 ghost use Rattle.page_runs.specs.AfterRun.{after_run};
 ghost use Rattle.page_runs.specs.NetRun.{net_run};
 ghost use Rattle.page_runs.specs.Apart.{single_key, is_on_one, IsOff, IsWithin, TakesAll, TakesNoOther, replies_where, AgreeOn};
@@ -47,4 +53,15 @@ pub fn commands_on_some_keys_are_worked_apart<A: Allocator>()
         value_at k (net_run x (filter is_taken cs)) ≡ None }
     ensures within { (is_own : List ℕ → Bool) (c : Command A) (k : List ℕ) → single_key c ≡ Some k → is_own k ≡ true → IsWithin is_own c }
     ensures off { (is_own : List ℕ → Bool) (c : Command A) (k : List ℕ) → single_key c ≡ Some k → is_own k ≡ false → IsOff is_own c }
+{}
+
+/// What a command leaves within a page's range is what it leaves of the page's own pairs, where it goes to the page; a command
+/// on a key gets its page's answer; and a scan's rows are those of its pages, joined in their order and cut at the limit.
+pub fn each_page_answers_its_part<V, A: Allocator>()
+    ensures map { (low : List ℕ) (end : Option (List ℕ)) (m : List (List ℕ × List ℕ)) (c : Command A) → IsRising m →
+        in_range low end (map_after m c) ≡ (if goes_to low end c then map_after (in_range low end m) c else in_range low end m) }
+    ensures reply { (low : List ℕ) (end : Option (List ℕ)) (m : List (List ℕ × List ℕ)) (c : Command A) → IsRising m → is_scan c ≡ false → goes_to low end c ≡ true →
+        reply_to (in_range low end m) c ≡ reply_to m c }
+    ensures rows { (level : List (Placed V)) (m : List (List ℕ × List ℕ)) (lo : List ℕ) (hi : Option (List ℕ)) (limit : ℕ) → next_low level None ≡ Some [] → Tiled level None → IsRising m →
+        take limit (flat_map (λ at. if goes_to {A = A} at.low at.end (Scan lo hi limit) then rows lo hi limit (in_range at.low at.end m) else []) (ranges level)) ≡ rows lo hi limit m }
 {}

@@ -3,10 +3,12 @@
 #![tactic(auto)]
 
 mod changes;
+mod changes_from;
 pub mod class;
 pub mod laws;
 pub mod leaf_work;
 mod page_after;
+mod page_rows;
 mod replay;
 pub mod term_work;
 

@@ -10,6 +10,7 @@ ghost use Rattle.page_runs.specs.Replay.{map_by_now};
 ghost use Rattle.page_runs.specs.Replies.{commands_at, pieces_of, ArePlacesOf};
 
 use crate::changes::{Changes, Leaf, LeafRun};
+use crate::page_rows::rows_of;
 use keys::{Command, Key, Piece, Reply, Value};
 use std::alloc::{AllocError, Global};
 
@@ -55,6 +56,10 @@ fn execute(
         Command::Put(key, value) => put(alloc, page, changes, key, value),
         Command::Add(key, value) => add(alloc, page, changes, key, value),
         Command::Del(key) => del(alloc, page, changes, key),
+        Command::Scan(low, end, limit) => {
+            let rows = rows_of(alloc, page, changes, low, end, *limit)?;
+            Ok(Reply::Rows(rows))
+        }
     }
 }
 

@@ -18,7 +18,7 @@ use std::alloc::Allocator;
 /// look below it. It takes no memory.
 pub fn floor<'a, V, A: Allocator + Copy>(
     chain: &'a Chain<V, A>,
-    key: &'a [u8],
+    key: &[u8],
     probes: &mut Probes,
 ) -> Option<(&'a [u8], &'a V)>
     ensures value { option_map (λ e. (e.0.now, e.1.now)) result ≡ floor key.now (entries_of chain.now) }

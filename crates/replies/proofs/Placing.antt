@@ -1,167 +1,285 @@
--- Lemmas on pieces that are put at their places.
-use Rattle.std.proofs.Common.{◌≡◌, ◌≢◌, ℕ, suc, ◌+◌, ◌<◌, ◌≤◌, ◌==◌, Bool, true, false, cond, List, [], ◌∷◌, ◌++◌, Option, Some, length, map, set, get_or, slice_get, take, drop, refl, ap, subst, sym, ◌∙◌, inl, inr, arith}
-use Rattle.std.specs.List.{All, filter, count_by}
-use Rattle.std.proofs.lemmas.Bool.{eqb-true, eqb-false, ne_eqb, eq-eqb, cond-true, cases_lt}
+-- Lemmas on pieces that are added at their places.
+use Rattle.std.proofs.Common.{◌≡◌, ℕ, zero, suc, ◌+◌, ◌<◌, ◌≤◌, ◌==◌, Bool, true, false, cond, List, [], ◌∷◌, ◌++◌, Option, Some, None, length, map, flat_map, set, get_or, slice_get, take, drop, append_assoc, refl, ap, subst, sym, ◌∙◌, inl, inr, arith}
+use Rattle.std.specs.List.{All}
+use Rattle.std.specs.Option.{option_map}
+use Rattle.std.proofs.lemmas.Bool.{eqb-true, eqb-false, eq-eqb, cond-true}
 use Rattle.std.proofs.lemmas.Grind.{common_steps}
-use Rattle.std.proofs.lemmas.List.{length-set, length-append, map-append, take_at, drop_at, take-append-drop, drop_more}
-use Rattle.std.proofs.lemmas.List.Elements.{All-head, All-tail, All-rest, All-take, All-drop, All-get_or, All-nil, All-cons, All-filter, filter_passes, filter-append}
-use Rattle.std.proofs.lemmas.List.Sums.{length-filter}
-use Rattle.std.proofs.lemmas.Option.{gets, none-some, same_Some, slice_get_past}
+use Rattle.std.proofs.lemmas.List.{length-append, length-map, length-set, append-nil, take-append-drop, drop_more, take_at, drop_at}
+use Rattle.std.proofs.lemmas.List.Elements.{All-head, All-tail, All-rest, All-take, All-drop, All-nil, All-cons, All-filter, filter_passes, filter-append}
+use Rattle.std.proofs.lemmas.Option.{gets, none-some, same_Some, slice_get_past, slice_get_cases, slice_get-get_or, slice_get-map, slice_get_read, get_or_from_slice_get}
+use Rattle.keys.specs.CommandKey.{is_scan}
 use Rattle.keys.specs.Lists.{flat}
-use Rattle.keys.specs.Places.{HasEachOnce}
+use Rattle.keys.specs.declared.command.Command.{Command}
+use Rattle.keys.specs.declared.command.Command.TheVariants.{Get, Put, Add, Del, Scan}
 use Rattle.keys.specs.declared.command.Reply.{Reply}
+use Rattle.keys.specs.declared.command.Reply.TheVariants.{Missing, Rows}
 use Rattle.keys.specs.declared.piece.Piece.{Piece}
-use Rattle.replies.specs.ByPlace.{places_of, placed, pieces_at, reply_of, reply_at}
+use Rattle.replies.specs.ByPlace.{pieces_at, rows_of, is_rows, lone, joined, joined_at, reply_at, is_scan_by, is_scan_at, IsPlaceOf, AreAnswers, limit_of, limit_by, blank_of, with_answer, gathered}
 
 -- ---- lists
 
--- what a write leaves at a place
-get-set : {X : Type 0} (b : Bool) (xs : List X) (i j : ℕ) (y : X) → (i == j) ≡ b → j < length xs → slice_get (set xs i y) j ≡ cond b (Some y) (slice_get xs j)
-get-set true xs i j y e h = let same : i ≡ j = eqb-true i j e in grind (arith, common_steps, gets)
-get-set false xs i j y e h = let other : j ≢ i = (λ (s : j ≡ i). eqb-false i j e (sym s)) in grind (arith, common_steps, gets)
+module _ {X : Type 0} where
+  -- what a write leaves at a place
+  get-set : (b : Bool) (xs : List X) (i j : ℕ) (y : X) → (i == j) ≡ b → j < length xs → slice_get (set xs i y) j ≡ cond b (Some y) (slice_get xs j)
+  get-set true xs i j y e h = let same : i ≡ j = eqb-true i j e in grind (arith, common_steps, gets)
+  get-set false xs i j y e h = let other : j ≡ i → ⊥ = (λ (s : j ≡ i). eqb-false i j e (sym s)) in grind (arith, common_steps, gets)
 
--- the last element, or else what is given
-abbrev last_of : {X : Type 0} → Option X → List X → Option X
-last_of o [] = o
-last_of o (x ∷ xs) = last_of (Some x) xs
+  -- two lists that have the same at each place
+  pub same_at_each : (xs ys : List X) → ((i : ℕ) → slice_get xs i ≡ slice_get ys i) → xs ≡ ys
+  same_at_each [] [] h = refl
+  same_at_each [] (y ∷ ys) h = absurd (none-some y (h 0))
+  same_at_each (x ∷ xs) [] h = absurd (none-some x (sym (h 0)))
+  same_at_each (x ∷ xs) (y ∷ ys) h = let first : x ≡ y = same_Some x y (h 0) in let rest : xs ≡ ys = same_at_each xs ys (λ i. h (suc i)) in cc
 
-same_count : {X Y : Type 0} (b : Bool) (x : X) (y : Y) (xs : List X) (ys : List Y) → length xs ≡ length ys → length (cond b (x ∷ xs) xs) ≡ length (cond b (y ∷ ys) ys)
-same_count true x y xs ys h = ap suc h
-same_count false x y xs ys h = h
+  -- the first of none
+  nothing_first : (n : ℕ) → ◌≡◌ {A = List X} (take n []) []
+  nothing_first zero = refl
+  nothing_first (suc n) = refl
 
--- two lists that have the same at each place
-same_at_each : {X : Type 0} (xs ys : List X) → ((i : ℕ) → slice_get xs i ≡ slice_get ys i) → xs ≡ ys
-same_at_each [] [] h = refl
-same_at_each [] (y ∷ ys) h = absurd (none-some y (h 0))
-same_at_each (x ∷ xs) [] h = absurd (none-some x (sym (h 0)))
-same_at_each (x ∷ xs) (y ∷ ys) h = let first : x ≡ y = same_Some x y (h 0) in let rest : xs ≡ ys = same_at_each xs ys (λ i. h (suc i)) in cc
+  -- the first so many need no more than so many of what stands in front
+  take_front : (n : ℕ) (xs ys : List X) → take n (take n xs ++ ys) ≡ take n (xs ++ ys)
+  take_front zero xs ys = refl
+  take_front (suc n) [] ys = refl
+  take_front (suc n) (x ∷ xs) ys = ap (λ (zs : List X). x ∷ zs) (take_front n xs ys)
 
 -- ---- one piece more
 
+-- the replies of pieces
+abbrev pub replies_of : {A : Type 0} → List (Piece A) → List (Reply A)
+replies_of ps = map (λ p. p.reply) ps
+
 module _ {A : Type 0} where
-  pub within-rest : (n : ℕ) (q : Piece A) (left rest : List (Piece A)) → left ≡ q ∷ rest → All (λ place. place < n) (places_of left) → All (λ place. place < n) (places_of rest)
-  within-rest n q left rest e h = All-rest (λ place. place < n) q.place (places_of rest) (places_of left) (ap places_of e) h
+  pub length-gathered : (cs : List (Command A)) (ps : List (Piece A)) (rs : List (Reply A)) → length (gathered cs ps rs) ≡ length rs
+  length-gathered cs [] rs = refl
+  length-gathered cs (p ∷ ps) rs = length-gathered cs ps _ ∙ length-set rs p.place _
 
-  pub placed-rest : (q : Piece A) (left rest : List (Piece A)) (rs end : List (Reply A)) → left ≡ q ∷ rest → placed left rs ≡ end → placed rest (set rs q.place q.reply) ≡ end
-  placed-rest q left rest rs end e h = subst (λ (ps : List (Piece A)). placed ps rs ≡ end) e h
+  gathered-append : (cs : List (Command A)) (ps qs : List (Piece A)) (rs : List (Reply A)) → gathered cs (ps ++ qs) rs ≡ gathered cs qs (gathered cs ps rs)
+  gathered-append cs [] qs rs = refl
+  gathered-append cs (p ∷ ps) qs rs = gathered-append cs ps qs _
 
-  pub length-placed : (ps : List (Piece A)) (rs : List (Reply A)) → length (placed ps rs) ≡ length rs
-  length-placed [] rs = refl
-  length-placed (p ∷ ps) rs = length-placed ps (set rs p.place p.reply) ∙ length-set rs p.place p.reply
+  pub within-rest : (cs : List (Command A)) (q : Piece A) (left rest : List (Piece A)) → left ≡ q ∷ rest → All (IsPlaceOf cs) left → All (IsPlaceOf cs) rest
+  within-rest cs q left rest e h = All-rest (IsPlaceOf cs) q rest left e h
 
-  pub placed-append : (ps qs : List (Piece A)) (rs : List (Reply A)) → placed (ps ++ qs) rs ≡ placed qs (placed ps rs)
-  placed-append [] qs rs = refl
-  placed-append (p ∷ ps) qs rs = placed-append ps qs (set rs p.place p.reply)
+  pub within-first : (cs : List (Command A)) (q : Piece A) (left rest : List (Piece A)) → left ≡ q ∷ rest → All (IsPlaceOf cs) left → q.place < length cs
+  within-first cs q left rest e h = All-head (IsPlaceOf cs) q rest (subst (All (IsPlaceOf cs)) e h)
+
+  -- what was made of what stood at the piece's place is put there
+  pub gathered-rest : (cs : List (Command A)) (q : Piece A) (left rest : List (Piece A)) (rs end : List (Reply A)) (c : Command A) (old new : Reply A) → left ≡ q ∷ rest → gathered cs left rs ≡ end
+      → q.place < length cs → q.place < length rs → c ≡ get_or cs q.place c → new ≡ with_answer (limit_of c) (get_or rs q.place old) q.reply → gathered cs rest (set rs q.place new) ≡ end
+  gathered-rest cs q left rest rs end c old new e h within room is made =
+      let limit : limit_by (slice_get cs q.place) ≡ limit_of c = ap limit_by (slice_get_read cs (length cs) q.place c refl within is) in
+      let stood : get_or rs q.place q.reply ≡ get_or rs q.place old = get_or_from_slice_get rs q.place (get_or rs q.place old) q.reply (slice_get-get_or rs q.place old room) in
+      let put : new ≡ with_answer (limit_by (slice_get cs q.place)) (get_or rs q.place q.reply) q.reply = made ∙ ap (λ (n : ℕ). with_answer n (get_or rs q.place old) q.reply) (sym limit) ∙ ap (λ (at : Reply A). with_answer (limit_by (slice_get cs q.place)) at q.reply) (sym stood) in
+      ap (λ (r : Reply A). gathered cs rest (set rs q.place r)) put ∙ subst (λ (ps : List (Piece A)). gathered cs ps rs ≡ end) e h
 
   -- ---- one page more
 
-  joined_places : (page : List (Piece A)) (left rest : List (List (Piece A))) → left ≡ page ∷ rest → places_of (flat left) ≡ places_of page ++ places_of (flat rest)
-  joined_places page left rest e = ap (λ (pages : List (List (Piece A))). places_of (flat pages)) e ∙ map-append (λ (p : Piece A). p.place) page (flat rest)
+  pub within-page : (cs : List (Command A)) (page : List (Piece A)) (left rest : List (List (Piece A))) → left ≡ page ∷ rest → All (IsPlaceOf cs) (flat left) → All (IsPlaceOf cs) page
+  within-page cs page left rest e h =
+      let parts : flat left ≡ page ++ flat rest = ap (λ (pages : List (List (Piece A))). flat pages) e in
+      let front : take (length page) (flat left) ≡ page = ap (take (length page)) parts ∙ take_at page (flat rest) (length page) refl in
+      subst (All (IsPlaceOf cs)) front (All-take (IsPlaceOf cs) (length page) (flat left) h)
 
-  pub within-page : (n m : ℕ) (page : List (Piece A)) (left rest : List (List (Piece A))) → left ≡ page ∷ rest → n ≡ m → All (λ place. place < n) (places_of (flat left)) → All (λ place. place < m) (places_of page)
-  within-page n m page left rest e same h =
-      let parts = joined_places page left rest e in
-      let front : take (length (places_of page)) (places_of (flat left)) ≡ places_of page = ap (take (length (places_of page))) parts ∙ take_at (places_of page) (places_of (flat rest)) (length (places_of page)) refl in
-      subst (λ (k : ℕ). All (λ place. place < k) (places_of page)) same (subst (All (λ place. place < n)) front (All-take (λ place. place < n) (length (places_of page)) (places_of (flat left)) h))
+  pub within-pages : (cs : List (Command A)) (page : List (Piece A)) (left rest : List (List (Piece A))) → left ≡ page ∷ rest → All (IsPlaceOf cs) (flat left) → All (IsPlaceOf cs) (flat rest)
+  within-pages cs page left rest e h =
+      let parts : flat left ≡ page ++ flat rest = ap (λ (pages : List (List (Piece A))). flat pages) e in
+      let back : drop (length page) (flat left) ≡ flat rest = ap (drop (length page)) parts ∙ drop_at page (flat rest) (length page) refl in
+      subst (All (IsPlaceOf cs)) back (All-drop (IsPlaceOf cs) (length page) (flat left) h)
 
-  pub within-pages : (n : ℕ) (page : List (Piece A)) (left rest : List (List (Piece A))) → left ≡ page ∷ rest → All (λ place. place < n) (places_of (flat left)) → All (λ place. place < n) (places_of (flat rest))
-  within-pages n page left rest e h =
-      let parts = joined_places page left rest e in
-      let back : drop (length (places_of page)) (places_of (flat left)) ≡ places_of (flat rest) = ap (drop (length (places_of page))) parts ∙ drop_at (places_of page) (places_of (flat rest)) (length (places_of page)) refl in
-      subst (All (λ place. place < n)) back (All-drop (λ place. place < n) (length (places_of page)) (places_of (flat left)) h)
-
-  pub placed-page : (page : List (Piece A)) (left rest : List (List (Piece A))) (rs end : List (Reply A)) → left ≡ page ∷ rest → placed (flat left) rs ≡ end → placed (flat rest) (placed page rs) ≡ end
-  placed-page page left rest rs end e h = sym (placed-append page (flat rest) rs) ∙ subst (λ (pages : List (List (Piece A))). placed (flat pages) rs ≡ end) e h
+  pub gathered-page : (cs : List (Command A)) (page : List (Piece A)) (left rest : List (List (Piece A))) (rs end : List (Reply A)) → left ≡ page ∷ rest → gathered cs (flat left) rs ≡ end → gathered cs (flat rest) (gathered cs page rs) ≡ end
+  gathered-page cs page left rest rs end e h = sym (gathered-append cs page (flat rest) rs) ∙ subst (λ (pages : List (List (Piece A))). gathered cs (flat pages) rs ≡ end) e h
 
   -- ---- what stands at a place
 
-  placed-get_more : (b : Bool) (p : Piece A) (ps : List (Piece A)) (rs : List (Reply A)) (i : ℕ) → (p.place == i) ≡ b → i < length rs →
-      last_of (slice_get (set rs p.place p.reply) i) (map (λ q. q.reply) ps) ≡ last_of (slice_get rs i) (map (λ q. q.reply) (cond b (p ∷ ps) ps))
-  placed-get_more true p ps rs i e h = rw (get-set true rs p.place i p.reply e h) refl
-  placed-get_more false p ps rs i e h = rw (get-set false rs p.place i p.reply e h) refl
+  -- what stands at a place, where something does, after more answers
+  added : ℕ → Option (Reply A) → List (Reply A) → Option (Reply A)
+  added limit o [] = o
+  added limit None (r ∷ rs) = None
+  added limit (Some at) (r ∷ rs) = added limit (Some (with_answer limit at r)) rs
 
-  -- the reply of the last piece at a place stands there
-  placed-get : (ps : List (Piece A)) (rs : List (Reply A)) (i : ℕ) → i < length rs → slice_get (placed ps rs) i ≡ last_of (slice_get rs i) (map (λ q. q.reply) (pieces_at ps i))
-  placed-get [] rs i h = refl
-  placed-get (p ∷ ps) rs i h =
-      let within : i < length (set rs p.place p.reply) = rw length-set h in
-      placed-get ps (set rs p.place p.reply) i within ∙ placed-get_more (p.place == i) p (pieces_at ps i) rs i refl h
+  added_more : (b : Bool) (cs : List (Command A)) (p : Piece A) (ps : List (Piece A)) (rs : List (Reply A)) (i : ℕ) → (p.place == i) ≡ b → i < length rs
+      → added (limit_by (slice_get cs i)) (slice_get (set rs p.place (with_answer (limit_by (slice_get cs p.place)) (get_or rs p.place p.reply) p.reply)) i) (replies_of ps)
+      ≡ added (limit_by (slice_get cs i)) (slice_get rs i) (replies_of (cond b (p ∷ ps) ps))
+  unfolding added
+  added_more true cs p ps rs i e h =
+      let same : p.place ≡ i = eqb-true p.place i e in
+      rw (get-set true rs p.place i (with_answer (limit_by (slice_get cs p.place)) (get_or rs p.place p.reply) p.reply) e h, same, slice_get-get_or rs i p.reply h) refl
+  added_more false cs p ps rs i e h = rw (get-set false rs p.place i (with_answer (limit_by (slice_get cs p.place)) (get_or rs p.place p.reply) p.reply) e h) refl
 
-  -- a lone piece has the reply
-  lone : (o : Option (Reply A)) (ps : List (Piece A)) → length ps ≡ 1 → last_of o (map (λ q. q.reply) ps) ≡ reply_of ps
-  lone o [] h = absurd (omega arith)
-  lone o (p ∷ []) h = refl
-  lone o (p ∷ (q ∷ ps)) h = absurd (omega arith)
+  gathered-get : (cs : List (Command A)) (ps : List (Piece A)) (rs : List (Reply A)) (i : ℕ) → i < length rs
+      → slice_get (gathered cs ps rs) i ≡ added (limit_by (slice_get cs i)) (slice_get rs i) (replies_of (pieces_at ps i))
+  unfolding added
+  gathered-get cs [] rs i h = refl
+  gathered-get cs (p ∷ ps) rs i h =
+      let now = set rs p.place (with_answer (limit_by (slice_get cs p.place)) (get_or rs p.place p.reply) p.reply) in
+      let within : i < length now = rw length-set h in
+      gathered-get cs ps now i within ∙ added_more (p.place == i) cs p (pieces_at ps i) rs i refl h
 
-  -- ---- how many pieces stand at a place
+  -- ---- answers of one kind
 
-  counted : (ps : List (Piece A)) (i : ℕ) → length (pieces_at ps i) ≡ length (filter (λ place. place == i) (places_of ps))
-  counted [] i = refl
-  counted (p ∷ ps) i = same_count (p.place == i) p p.place (pieces_at ps i) (filter (λ place. place == i) (places_of ps)) (counted ps i)
+  -- the answer is one to a scan, or is not
+  abbrev IsOfKind : Bool → Reply A → Type 0
+  IsOfKind b r = is_rows r ≡ b
 
-  length-pieces_at : (ps : List (Piece A)) (i : ℕ) → length (pieces_at ps i) ≡ count_by (λ place. place == i) (places_of ps)
-  length-pieces_at ps i = counted ps i ∙ length-filter (λ place. place == i) (places_of ps)
+  all_rows : (r : Reply A) → is_rows r ≡ true → r ≡ Rows (rows_of r)
+  all_rows (Rows rows) h = refl
+  all_rows _ h = absurd (cc)
 
-  -- no piece stands at a place that is not below n
-  none_past_more : (b : Bool) (p : Piece A) (ps : List (Piece A)) → b ≡ false → ps ≡ [] → cond b (p ∷ ps) ps ≡ []
-  none_past_more true p ps e h = cc
-  none_past_more false p ps e h = h
+  goes_over : (limit : ℕ) (at r : Reply A) → is_rows r ≡ false → with_answer limit at r ≡ r
+  goes_over limit at (Rows rows) h = absurd (cc)
+  goes_over limit at _ h = refl
 
-  none_past : (n : ℕ) (ps : List (Piece A)) (i : ℕ) → All (λ place. place < n) (places_of ps) → n ≤ i → pieces_at ps i ≡ []
-  none_past n [] i within h = refl
-  none_past n (p ∷ ps) i within h =
-      let here : p.place < n = All-head (λ place. place < n) p.place (places_of ps) within in
-      let rest = All-tail (λ place. place < n) p.place (places_of ps) within in
-      none_past_more (p.place == i) p (pieces_at ps i) (ne_eqb p.place i (λ (e : p.place ≡ i). omega arith)) (none_past n ps i rest h)
+  -- rows to a scan come to the first so many of them all
+  added-rows : (limit : ℕ) (xs : List (List ℕ × List ℕ)) (rs : List (Reply A)) → All (IsOfKind true) rs → added limit (Some (Rows (take limit xs))) rs ≡ Some (Rows (take limit (xs ++ flat_map rows_of rs)))
+  unfolding added
+  added-rows limit xs [] h = rw (append-nil xs) refl
+  added-rows limit xs (r ∷ rs) h =
+      let first : r ≡ Rows (rows_of r) = all_rows r (All-head (IsOfKind true) r rs h) in
+      let now : with_answer limit (Rows (take limit xs)) r ≡ Rows (take limit (xs ++ rows_of r)) = ap (with_answer limit (Rows (take limit xs))) first ∙ ap (λ (ys : List (List ℕ × List ℕ)). Rows ys) (take_front limit xs (rows_of r)) in
+      ap (λ (at : Reply A). added limit (Some at) rs) now
+      ∙ added-rows limit (xs ++ rows_of r) rs (All-tail (IsOfKind true) r rs h)
+      ∙ ap (λ (ys : List (List ℕ × List ℕ)). Some (Rows (take limit ys))) (append_assoc xs (rows_of r) (flat_map rows_of rs))
 
-  past : (n : ℕ) (ps : List (Piece A)) (xs : List (Reply A)) (i : ℕ) → length xs ≡ n → All (λ place. place < n) (places_of ps) → n ≤ i → slice_get xs i ≡ reply_at ps i
-  past n ps xs i len within h = slice_get_past xs i (omega arith) ∙ sym (ap reply_of (none_past n ps i within h))
+  -- one answer to another command is the reply
+  added-one : (limit : ℕ) (at : Reply A) (rs : List (Reply A)) → All (IsOfKind false) rs → length rs ≡ 1 → added limit (Some at) rs ≡ lone rs
+  unfolding added
+  added-one limit at [] h one = absurd (omega arith)
+  added-one limit at (r ∷ []) h one = ap (λ (x : Reply A). Some x) (goes_over limit at r (All-head (IsOfKind false) r [] h))
+  added-one limit at (r ∷ (q ∷ rs)) h one = absurd (omega arith)
+
+  by_command : (c : Command A) (rs : List (Reply A)) → All (IsOfKind (is_scan c)) rs → (is_scan c ≡ false → length rs ≡ 1) → added (limit_of c) (Some (blank_of c)) rs ≡ joined c rs
+  by_command (Get k) rs h one = added-one 0 Missing rs h (one refl)
+  by_command (Put k v) rs h one = added-one 0 Missing rs h (one refl)
+  by_command (Add k v) rs h one = added-one 0 Missing rs h (one refl)
+  by_command (Del k) rs h one = added-one 0 Missing rs h (one refl)
+  by_command (Scan lo hi limit) rs h one = ap (λ (xs : List (List ℕ × List ℕ)). added limit (Some (Rows xs)) rs) (sym (nothing_first limit)) ∙ added-rows limit [] rs h
+
+  -- the answers at a place are of the kind of its command
+  kinds_by : (b c : Bool) (cs : List (Command A)) (p : Piece A) (ps : List (Piece A)) (i : ℕ) → (p.place == i) ≡ c → is_scan_at cs i ≡ b → is_rows p.reply ≡ is_scan_at cs p.place → All (IsOfKind b) (replies_of ps)
+      → All (IsOfKind b) (replies_of (cond c (p ∷ ps) ps))
+  kinds_by b true cs p ps i here scan kind rest =
+      All-cons (IsOfKind b) p.reply (replies_of ps) (kind ∙ ap (is_scan_at cs) (eqb-true p.place i here) ∙ scan) rest
+  kinds_by b false cs p ps i here scan kind rest = rest
+
+  kinds : (b : Bool) (cs : List (Command A)) (ps : List (Piece A)) (i : ℕ) → is_scan_at cs i ≡ b → All (λ p. is_rows p.reply ≡ is_scan_at cs p.place) ps → All (IsOfKind b) (replies_of (pieces_at ps i))
+  kinds b cs [] i scan h = All-nil (IsOfKind b)
+  kinds b cs (p ∷ ps) i scan h =
+      kinds_by b (p.place == i) cs p (pieces_at ps i) i refl scan (All-head (λ p. is_rows p.reply ≡ is_scan_at cs p.place) p ps h)
+      (kinds b cs ps i scan (All-tail (λ p. is_rows p.reply ≡ is_scan_at cs p.place) p ps h))
 
   -- ---- the list of replies
 
-  -- the list that the pieces make has the reply of each place
-  pub replies-placed : (n : ℕ) (ps : List (Piece A)) (rs : List (Reply A)) → length rs ≡ n → HasEachOnce n (places_of ps) → (i : ℕ) → slice_get (placed ps rs) i ≡ reply_at ps i
-  replies-placed n ps rs len each i = elim (cases_lt i n) [
-    | inl h ↦ placed-get ps rs i (omega arith) ∙ lone (slice_get rs i) (pieces_at ps i) (length-pieces_at ps i ∙ each.once i h)
-    | inr h ↦ past n ps (placed ps rs) i (length-placed ps rs ∙ len) each.within h
+  abbrev blanks_of : List (Command A) → List (Reply A)
+  blanks_of cs = map blank_of cs
+
+  at_place : (cs : List (Command A)) (ps : List (Piece A)) (i : ℕ) (c : Command A) → AreAnswers cs ps → i < length cs → slice_get cs i ≡ Some c
+      → added (limit_by (slice_get cs i)) (slice_get (blanks_of cs) i) (replies_of (pieces_at ps i)) ≡ reply_at cs ps i
+  unfolding added
+  at_place cs ps i c answers h is =
+      let scan : is_scan_at cs i ≡ is_scan c = ap is_scan_by is in
+      let blank : slice_get (blanks_of cs) i ≡ Some (blank_of c) = slice_get-map blank_of cs i ∙ ap (option_map blank_of) is in
+      let one : is_scan c ≡ false → length (replies_of (pieces_at ps i)) ≡ 1 = (λ plain. length-map (pieces_at ps i) (λ p. p.reply) ∙ answers.once i h (scan ∙ plain)) in
+      rw (blank, is) (by_command c (replies_of (pieces_at ps i)) (kinds (is_scan c) cs ps i scan answers.kind) one)
+
+  past : (cs : List (Command A)) (ps : List (Piece A)) (xs : List (Reply A)) (i : ℕ) → length xs ≡ length cs → length cs ≤ i → slice_get xs i ≡ reply_at cs ps i
+  past cs ps xs i len h = slice_get_past xs i (omega arith) ∙ sym (ap (λ (o : Option (Command A)). joined_at o (replies_of (pieces_at ps i))) (slice_get_past cs i h))
+
+  length-blanks : (cs : List (Command A)) → length (blanks_of cs) ≡ length cs
+  length-blanks cs = length-map cs blank_of
+
+  -- the list that the pieces make of the blanks has the reply of each place
+  pub replies-gathered : (cs : List (Command A)) (ps : List (Piece A)) → AreAnswers cs ps → (i : ℕ) → slice_get (gathered cs ps (blanks_of cs)) i ≡ reply_at cs ps i
+  replies-gathered cs ps answers i = elim ((slice_get_cases cs i).1) [
+    | inl w ↦ gathered-get cs ps (blanks_of cs) i (let all = length-blanks cs in let h = w.1 in omega arith) ∙ at_place cs ps i w.0 answers w.1 w.2
+    | inr w ↦ past cs ps (gathered cs ps (blanks_of cs)) i (length-gathered cs ps (blanks_of cs) ∙ length-blanks cs) w.0
   ]
 
-  read_lone : (rs : List (Reply A)) (qs : List (Piece A)) (i : ℕ) → length qs ≡ 1 → All (λ q. (q.place == i) ≡ true) qs → All (λ q. slice_get rs q.place ≡ Some q.reply) qs → reply_of qs ≡ slice_get rs i
-  read_lone rs [] i h at told = absurd (omega arith)
-  read_lone rs (p ∷ []) i h at told =
-      let here : p.place ≡ i = eqb-true p.place i (All-head (λ q. (q.place == i) ≡ true) p [] at) in
-      sym (All-head (λ q. slice_get rs q.place ≡ Some q.reply) p [] told) ∙ ap (slice_get rs) here
-  read_lone rs (p ∷ (q ∷ qs)) i h at told = absurd (omega arith)
+  -- ---- the law
 
-  -- a list of n in which each piece's reply stands at its place is the list that has the reply of each place
-  pub replies_determined : (n : ℕ) (ps : List (Piece A)) (xs rs : List (Reply A)) → HasEachOnce n (places_of ps) → ((i : ℕ) → slice_get xs i ≡ reply_at ps i)
-      → length rs ≡ n → All (λ p. slice_get rs p.place ≡ Some p.reply) ps → xs ≡ rs
-  replies_determined n ps xs rs each made len told = same_at_each xs rs (λ i. made i ∙ (elim (cases_lt i n) [
-    | inl h ↦ read_lone rs (pieces_at ps i) i (length-pieces_at ps i ∙ each.once i h) (filter_passes (λ q. q.place == i) ps) (All-filter (λ q. q.place == i) (λ q. slice_get rs q.place ≡ Some q.reply) ps told)
-    | inr h ↦ sym (past n ps rs i len each.within h)
-  ]))
+  -- the rows of the pieces at a place, each behind those of the piece before it
+  abbrev pub rows_at : List (Piece A) → ℕ → List (List ℕ × List ℕ)
+  rows_at ps place = flat_map (λ p. rows_of p.reply) (pieces_at ps place)
 
-  All-from_map : {n : ℕ} (ps : List (Piece A)) → All (λ place. place < n) (places_of ps) → All (λ p. p.place < n) ps
-  All-from_map {n} [] h = All-nil (λ p. p.place < n)
-  All-from_map {n} (p ∷ ps) h = All-cons (λ q. q.place < n) p ps (All-head (λ place. place < n) p.place (places_of ps) h) (All-from_map ps (All-tail (λ place. place < n) p.place (places_of ps) h))
+  rows_joined : (ps : List (Piece A)) → flat_map rows_of (replies_of ps) ≡ flat_map (λ (p : Piece A). rows_of p.reply) ps
+  rows_joined [] = refl
+  rows_joined (p ∷ ps) = ap (λ (xs : List (List ℕ × List ℕ)). rows_of p.reply ++ xs) (rows_joined ps)
 
-  alone : (p : Piece A) (front back : List (Piece A)) → length (front ++ p ∷ back) ≡ 1 → reply_of (front ++ p ∷ back) ≡ Some p.reply
+  -- a scan's reply is the rows of its pieces, up to the limit
+  pub reply_at-scan : (cs : List (Command A)) (ps : List (Piece A)) (place : ℕ) (lo : List ℕ) (hi : Option (List ℕ)) (limit : ℕ) → slice_get cs place ≡ Some (Scan lo hi limit)
+      → reply_at cs ps place ≡ Some (Rows (take limit (rows_at ps place)))
+  reply_at-scan cs ps place lo hi limit is =
+      ap (λ (o : Option (Command A)). joined_at o (replies_of (pieces_at ps place))) is ∙ ap (λ (xs : List (List ℕ × List ℕ)). Some (Rows (take limit xs))) (rows_joined (pieces_at ps place))
+
+  -- the reply to a command that is no scan is the lone answer
+  pub joined-lone : (c : Command A) (rs : List (Reply A)) → is_scan c ≡ false → joined c rs ≡ lone rs
+  joined-lone (Get k) rs h = refl
+  joined-lone (Put k v) rs h = refl
+  joined-lone (Add k v) rs h = refl
+  joined-lone (Del k) rs h = refl
+  joined-lone (Scan lo hi limit) rs h = absurd (cc)
+
+  joined_at-lone : (o : Option (Command A)) (c : Command A) (rs : List (Reply A)) → o ≡ Some c → is_scan_by o ≡ false → joined_at o rs ≡ lone rs
+  joined_at-lone None c rs is h = absurd (cc)
+  joined_at-lone (Some d) c rs is h = joined-lone d rs h
+
+  -- the one piece of a place, where its command is no scan
+  abbrev IsOnePiece : List (Command A) → List (Piece A) → ℕ → Type 0
+  IsOnePiece cs ps i = (length (pieces_at ps i) ≡ 1) × (reply_at cs ps i ≡ lone (replies_of (pieces_at ps i)))
+
+  one_piece : (cs : List (Command A)) (ps : List (Piece A)) (i : ℕ) → AreAnswers cs ps → i < length cs → is_scan_at cs i ≡ false → IsOnePiece cs ps i
+  one_piece cs ps i answers h plain = elim ((slice_get_cases cs i).1) [
+    | inl w ↦ (answers.once i h plain, joined_at-lone (slice_get cs i) w.0 (replies_of (pieces_at ps i)) w.2 plain)
+    | inr w ↦ absurd (let past = w.0 in omega arith)
+  ]
+
+  alone : (p : Piece A) (front back : List (Piece A)) → length (front ++ p ∷ back) ≡ 1 → lone (replies_of (front ++ p ∷ back)) ≡ Some p.reply
   alone p [] [] h = refl
   alone p [] (b ∷ back) h = absurd (omega arith)
   alone p (f ∷ front) back h = absurd (omega (arith, length-append front (p ∷ back)))
 
   -- where one piece stands at a place, that piece has the reply
-  alone_at : (p : Piece A) (front back : List (Piece A)) → length (pieces_at (front ++ p ∷ back) p.place) ≡ 1 → reply_at (front ++ p ∷ back) p.place ≡ Some p.reply
+  alone_at : (p : Piece A) (front back : List (Piece A)) → length (pieces_at (front ++ p ∷ back) p.place) ≡ 1 → lone (replies_of (pieces_at (front ++ p ∷ back) p.place)) ≡ Some p.reply
   alone_at p front back h =
       let here : pieces_at (p ∷ back) p.place ≡ p ∷ pieces_at back p.place = cond-true (p.place == p.place) (p ∷ pieces_at back p.place) (pieces_at back p.place) (eq-eqb p.place p.place refl) in
       let parts : pieces_at (front ++ p ∷ back) p.place ≡ pieces_at front p.place ++ p ∷ pieces_at back p.place = filter-append (λ q. q.place == p.place) front (p ∷ back) ∙ ap (λ (qs : List (Piece A)). pieces_at front p.place ++ qs) here in
-      ap reply_of parts ∙ alone p (pieces_at front p.place) (pieces_at back p.place) (sym (ap length parts) ∙ h)
+      ap (λ (qs : List (Piece A)). lone (replies_of qs)) parts ∙ alone p (pieces_at front p.place) (pieces_at back p.place) (sym (ap length parts) ∙ h)
 
-  -- the reply at a piece's place is the piece's
-  pub reply_at-piece : (n : ℕ) (ps : List (Piece A)) → HasEachOnce n (places_of ps) → All (λ p. reply_at ps p.place ≡ Some p.reply) ps
-  reply_at-piece n ps each k d h =
+  -- the reply at the place of a piece is the piece's, where the command is no scan
+  pub reply_at-piece : (cs : List (Command A)) (ps : List (Piece A)) → AreAnswers cs ps → All (λ p. is_scan_at cs p.place ≡ false → reply_at cs ps p.place ≡ Some p.reply) ps
+  reply_at-piece cs ps answers k d h plain =
       let p : Piece A = get_or ps k d in
       let parts : ps ≡ take k ps ++ p ∷ drop (k + 1) ps = sym (take-append-drop k ps) ∙ ap (λ (qs : List (Piece A)). take k ps ++ qs) (drop_more ps k d h) in
-      let within : p.place < n = All-get_or (λ q. q.place < n) ps k d h (All-from_map ps each.within) in
-      let one = length-pieces_at ps p.place ∙ each.once p.place within in
-      subst (λ (qs : List (Piece A)). reply_at qs p.place ≡ Some p.reply) (sym parts) (alone_at p (take k ps) (drop (k + 1) ps) (subst (λ (qs : List (Piece A)). length (pieces_at qs p.place) ≡ 1) parts one))
+      let one = one_piece cs ps p.place answers (answers.within k d h) plain in
+      one.1 ∙ subst (λ (qs : List (Piece A)). lone (replies_of (pieces_at qs p.place)) ≡ Some p.reply) (sym parts) (alone_at p (take k ps) (drop (k + 1) ps) (subst (λ (qs : List (Piece A)). length (pieces_at qs p.place) ≡ 1) parts one.0))
+
+  -- each piece's reply stands at its place in the list, but for scans'
+  abbrev HasPieces : List (Command A) → List (Reply A) → Piece A → Type 0
+  HasPieces cs rs p = is_scan_at cs p.place ≡ false → slice_get rs p.place ≡ Some p.reply
+
+  read_lone : (cs : List (Command A)) (rs : List (Reply A)) (qs : List (Piece A)) (i : ℕ) → length qs ≡ 1 → is_scan_at cs i ≡ false → All (λ q. (q.place == i) ≡ true) qs → All (HasPieces cs rs) qs → lone (replies_of qs) ≡ slice_get rs i
+  read_lone cs rs [] i h plain at told = absurd (omega arith)
+  read_lone cs rs (p ∷ []) i h plain at told =
+      let here : p.place ≡ i = eqb-true p.place i (All-head (λ q. (q.place == i) ≡ true) p [] at) in
+      sym (All-head (HasPieces cs rs) p [] told (ap (is_scan_at cs) here ∙ plain)) ∙ ap (slice_get rs) here
+  read_lone cs rs (p ∷ (q ∷ qs)) i h plain at told = absurd (omega arith)
+
+  module _ (cs : List (Command A)) (ps : List (Piece A)) (rs : List (Reply A)) (answers : AreAnswers cs ps) (told : All (HasPieces cs rs) ps)
+      (scans : (place : ℕ) (lo : List ℕ) (hi : Option (List ℕ)) (limit : ℕ) → slice_get cs place ≡ Some (Scan lo hi limit) → slice_get rs place ≡ Some (Rows (take limit (rows_at ps place)))) where
+    plain_there : (i : ℕ) → i < length cs → is_scan_at cs i ≡ false → reply_at cs ps i ≡ slice_get rs i
+    plain_there i h plain =
+        let one = one_piece cs ps i answers h plain in
+        one.1 ∙ read_lone cs rs (pieces_at ps i) i one.0 plain (filter_passes (λ q. q.place == i) ps) (All-filter (λ q. q.place == i) (HasPieces cs rs) ps told)
+
+    there : (i : ℕ) (c : Command A) → i < length cs → slice_get cs i ≡ Some c → reply_at cs ps i ≡ slice_get rs i
+    there i (Get k) h is = plain_there i h (ap is_scan_by is)
+    there i (Put k v) h is = plain_there i h (ap is_scan_by is)
+    there i (Add k v) h is = plain_there i h (ap is_scan_by is)
+    there i (Del k) h is = plain_there i h (ap is_scan_by is)
+    there i (Scan lo hi limit) h is = reply_at-scan cs ps i lo hi limit is ∙ sym (scans i lo hi limit is)
+
+    -- the list in which all of them stand is the list of the replies
+    pub replies_determined : (xs : List (Reply A)) → ((i : ℕ) → slice_get xs i ≡ reply_at cs ps i) → length rs ≡ length cs → xs ≡ rs
+    replies_determined xs made len = same_at_each xs rs (λ i. made i ∙ (elim ((slice_get_cases cs i).1) [
+      | inl w ↦ there i w.0 w.1 w.2
+      | inr w ↦ sym (past cs ps rs i len w.0)
+    ]))

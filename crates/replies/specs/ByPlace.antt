@@ -1,27 +1,96 @@
 -- The reply at each place of a batch, by what the pages answer.
-use Rattle.std.specs.Prelude.{ℕ, ◌==◌, List, [], ◌∷◌, map, slice_set, Option, Some, None}
-use Rattle.std.specs.List.{filter}
+use Rattle.std.specs.Prelude.{◌≡◌, ℕ, ◌<◌, ◌==◌, Bool, true, false, List, [], ◌∷◌, ◌++◌, map, slice_set, slice_index_or, take, flat_map, length, slice_get, Option, Some, None}
+use Rattle.std.specs.List.{All, filter}
+use Rattle.keys.specs.CommandKey.{is_scan}
+use Rattle.keys.specs.declared.command.Command.{Command}
+use Rattle.keys.specs.declared.command.Command.TheVariants.{Get, Put, Add, Del, Scan}
 use Rattle.keys.specs.declared.command.Reply.{Reply}
+use Rattle.keys.specs.declared.command.Reply.TheVariants.{Missing, Rows}
 use Rattle.keys.specs.declared.piece.Piece.{Piece}
-
--- the places of pieces
-abbrev pub places_of : {A : Type 0} → List (Piece A) → List ℕ
-places_of ps = map (λ p. p.place) ps
-
--- the list with the reply of each piece put at its place, one after the other
-abbrev pub placed : {A : Type 0} → List (Piece A) → List (Reply A) → List (Reply A)
-placed [] rs = rs
-placed (p ∷ ps) rs = placed ps (slice_set rs p.place p.reply)
 
 -- the pieces at a place, in the order of the list
 abbrev pub pieces_at : {A : Type 0} → List (Piece A) → ℕ → List (Piece A)
 pieces_at ps place = filter (λ p. p.place == place) ps
 
--- the reply that the pieces at one place make: a lone piece has it
-abbrev pub reply_of : {A : Type 0} → List (Piece A) → Option (Reply A)
-reply_of (p ∷ []) = Some p.reply
-reply_of _ = None
+-- the rows of an answer; only one to a scan has any
+abbrev pub rows_of : {A : Type 0} → Reply A → List (List ℕ × List ℕ)
+rows_of (Rows rows) = rows
+rows_of _ = []
+
+-- whether it is an answer to a scan
+abbrev pub is_rows : {A : Type 0} → Reply A → Bool
+is_rows (Rows rows) = true
+is_rows _ = false
+
+-- the reply, where it is the only one
+abbrev pub lone : {A : Type 0} → List (Reply A) → Option (Reply A)
+lone (r ∷ []) = Some r
+lone _ = None
+
+-- the reply to a command that what the pages answer makes: of a scan their rows, joined and cut at the limit; of another
+-- command the answer of its one page
+abbrev pub joined : {A : Type 0} → Command A → List (Reply A) → Option (Reply A)
+joined (Get k) rs = lone rs
+joined (Put k v) rs = lone rs
+joined (Add k v) rs = lone rs
+joined (Del k) rs = lone rs
+joined (Scan lo hi limit) rs = Some (Rows (take limit (flat_map rows_of rs)))
+
+-- the same of the command at a place
+abbrev pub joined_at : {A : Type 0} → Option (Command A) → List (Reply A) → Option (Reply A)
+joined_at None rs = None
+joined_at (Some c) rs = joined c rs
 
 -- the reply at a place
-abbrev pub reply_at : {A : Type 0} → List (Piece A) → ℕ → Option (Reply A)
-reply_at ps place = reply_of (pieces_at ps place)
+abbrev pub reply_at : {A : Type 0} → List (Command A) → List (Piece A) → ℕ → Option (Reply A)
+reply_at cs ps place = joined_at (slice_get cs place) (map (λ p. p.reply) (pieces_at ps place))
+
+-- whether a scan stands at the place
+abbrev pub is_scan_by : {A : Type 0} → Option (Command A) → Bool
+is_scan_by None = false
+is_scan_by (Some c) = is_scan c
+
+abbrev pub is_scan_at : {A : Type 0} → List (Command A) → ℕ → Bool
+is_scan_at cs place = is_scan_by (slice_get cs place)
+
+-- whether a piece's place is one of the batch
+abbrev pub IsPlaceOf : {A : Type 0} → List (Command A) → Piece A → Type 0
+IsPlaceOf cs p = p.place < length cs
+
+-- what pages answer to a batch: rows to a scan and to nothing else, and each command that is no scan is answered just once
+pub record AreAnswers {A : Type 0} (cs : List (Command A)) (ps : List (Piece A)) : Type 0 where
+  pub within : All (IsPlaceOf cs) ps
+  pub kind : All (λ p. is_rows p.reply ≡ is_scan_at cs p.place) ps
+  pub once : (place : ℕ) → place < length cs → is_scan_at cs place ≡ false → length (pieces_at ps place) ≡ 1
+
+-- ---- one answer after the other
+
+-- the most rows that the reply to a command may have
+abbrev pub limit_of : {A : Type 0} → Command A → ℕ
+limit_of (Scan lo hi limit) = limit
+limit_of _ = 0
+
+-- what stands at a command's place before any answer to it: no rows yet for a scan, and else nothing of meaning
+abbrev pub blank_of : {A : Type 0} → Command A → Reply A
+blank_of (Scan lo hi limit) = Rows []
+blank_of _ = Missing
+
+-- rows with more behind them, cut at a limit
+abbrev pub with_rows : {A : Type 0} → ℕ → Reply A → List (List ℕ × List ℕ) → Reply A
+with_rows limit (Rows rows) more = Rows (take limit (rows ++ more))
+with_rows limit at more = at
+
+-- what stands at a place after one more answer: rows go behind the rows there, and another answer in the place of what stood there
+abbrev pub with_answer : {A : Type 0} → ℕ → Reply A → Reply A → Reply A
+with_answer limit at (Rows more) = with_rows limit at more
+with_answer limit at reply = reply
+
+-- the limit of the command at a place
+abbrev pub limit_by : {A : Type 0} → Option (Command A) → ℕ
+limit_by None = 0
+limit_by (Some c) = limit_of c
+
+-- the list after these pieces, each added at its place
+abbrev pub gathered : {A : Type 0} → List (Command A) → List (Piece A) → List (Reply A) → List (Reply A)
+gathered cs [] rs = rs
+gathered cs (p ∷ ps) rs = gathered cs ps (slice_set rs p.place (with_answer (limit_by (slice_get cs p.place)) (slice_index_or rs p.place p.reply) p.reply))

@@ -3,51 +3,106 @@
 
 pub mod laws;
 
-ghost use Rattle.std.specs.Prelude.{◌≡◌, ℕ, ◌<◌, map, length, slice_get, vec_items, IfOk};
-ghost use Rattle.keys.specs.Lists.{flat};
-ghost use Rattle.keys.specs.Places.{HasEachOnce};
+ghost use Rattle.std.specs.Prelude.{◌≡◌, ℕ, ◌<◌, map, take, length, slice_get, vec_items, IfOk, OnOk};
 ghost use Rattle.std.specs.List.{All};
-ghost use Rattle.replies.specs.ByPlace.{places_of, placed, reply_at};
+ghost use Rattle.keys.specs.Lists.{flat};
+ghost use Rattle.keys.specs.declared.command.Reply.TheVariants.{Rows};
+ghost use Rattle.replies.specs.ByPlace.{AreAnswers, IsPlaceOf, reply_at, blank_of, limit_of, with_rows, with_answer, gathered};
 
-use keys::{Piece, Reply};
+use keys::{Command, Piece, Reply, RowList};
 use std::alloc::{AllocError, Global};
 
-/// The replies to a batch of this many commands, each at its command's place. `pieces` has the answers of each page;
-/// each place of the batch has to be answered just once. The replies are moved into a list that is allocated once;
-/// `AllocError` comes only where that was refused.
+/// The replies to the commands of a batch, each at its command's place. `pieces` has the answers of each page: just one to a
+/// command that is no scan, and to a scan its rows on each page, whose order is that of the pages. Replies and rows are moved,
+/// and no row is copied. `AllocError` comes only where memory was refused to the list of replies, or to one of rows.
 pub fn assemble(
     alloc: Global,
     pieces: Vec<Vec<Piece<Global>>>,
-    commands: usize,
+    commands: &[Command<Global>],
 ) -> Result<Vec<Reply<Global>>, AllocError>
-    requires { HasEachOnce commands (places_of (flat (map vec_items pieces.items))) }
-    ensures count { IfOk result (λ replies. length replies.items ≡ commands) }
-    ensures replies { IfOk result (λ replies. (place : ℕ) → slice_get replies.items place ≡ reply_at (flat (map vec_items pieces.items)) place) }
+    requires { AreAnswers commands.now (flat (map vec_items pieces.items)) }
+    ensures count { IfOk result (λ replies. length replies.items ≡ length commands.now) }
+    ensures replies { IfOk result (λ replies. (place : ℕ) → slice_get replies.items place ≡ reply_at commands.now (flat (map vec_items pieces.items)) place) }
 {
     let mut replies = blanks(alloc, commands)?;
     for page in pieces {
-        put_in_place(&mut replies, page);
+        add_page(&mut replies, commands, page)?;
     }
     Ok(replies)
 }
 
-// Puts each piece's reply at its place.
-fn put_in_place(replies: &mut [Reply<Global>], pieces: Vec<Piece<Global>>)
-    requires { All (λ place. place < length replies.old) (places_of pieces.items) }
-    ensures { replies.new ≡ placed pieces.items replies.old }
+// Adds each answer of a page to what stands at its place.
+fn add_page(
+    replies: &mut [Reply<Global>],
+    commands: &[Command<Global>],
+    pieces: Vec<Piece<Global>>,
+) -> Result<(), AllocError>
+    requires count { length replies.old ≡ length commands.now }
+    requires within { All (IsPlaceOf commands.now) pieces.items }
+    ensures { OnOk result (replies.new ≡ gathered commands.now pieces.items replies.old) }
 {
     for Piece { place, reply } in pieces {
-        replies[place] = reply;
+        add(&mut replies[place], &commands[place], reply)?;
+    }
+    Ok(())
+}
+
+// Adds an answer to what stands at its command's place.
+fn add(
+    at: &mut Reply<Global>,
+    command: &Command<Global>,
+    reply: Reply<Global>,
+) -> Result<(), AllocError>
+    ensures { OnOk result (at.new ≡ with_answer (limit_of command.now) at.old reply) }
+{
+    match reply {
+        Reply::Rows(rows) => add_rows(at, rows, limit_of(command)),
+        reply => {
+            *at = reply;
+            Ok(())
+        }
     }
 }
 
-// This many replies, of which none is meant: each is to be written over.
-fn blanks(alloc: Global, commands: usize) -> Result<Vec<Reply<Global>>, AllocError>
-    ensures { IfOk result (λ replies. length replies.items ≡ commands) }
+// Moves rows behind those that stand there, up to so many. Rows that come when there are enough are let go.
+fn add_rows(at: &mut Reply<Global>, more: RowList<Global>, limit: usize) -> Result<(), AllocError>
+    ensures { OnOk result (at.new ≡ with_rows limit at.old more) }
 {
-    let mut blanks = Vec::with_capacity(alloc, commands)?;
-    for _ in 0..commands {
-        blanks.push_reserved(Reply::Missing);
+    if let Reply::Rows(rows) = at {
+        if rows.len() < limit {
+            rows.append(more)?;
+        }
+        rows.truncate(limit);
+    }
+    Ok(())
+}
+
+// The most rows that the reply to a command may have: only a scan's has any.
+fn limit_of(command: &Command<Global>) -> usize
+    ensures { result ≡ limit_of command.now }
+{
+    match command {
+        Command::Scan(_, _, limit) => *limit as usize,
+        _ => 0,
+    }
+}
+
+// For each command a reply that answers are to be added to: no rows yet for a scan, and else one that will be written over.
+fn blanks(alloc: Global, commands: &[Command<Global>]) -> Result<Vec<Reply<Global>>, AllocError>
+    ensures { IfOk result (λ replies. replies.items ≡ map blank_of commands.now) }
+{
+    let mut blanks = Vec::with_capacity(alloc, commands.len())?;
+    for command in commands {
+        blanks.push_reserved(blank(alloc, command));
     }
     Ok(blanks)
+}
+
+fn blank(alloc: Global, command: &Command<Global>) -> Reply<Global>
+    ensures { result ≡ blank_of command.now }
+{
+    match command {
+        Command::Scan(_, _, _) => Reply::Rows(RowList::empty(alloc)),
+        _ => Reply::Missing,
+    }
 }

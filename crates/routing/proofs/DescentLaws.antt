@@ -1,22 +1,24 @@
 -- Lemmas on the way of shares down the levels of a tree, for the proofs of this crate.
-use Rattle.std.specs.Prelude.{◌≡◌, ℕ, zero, suc, pred, ◌+◌, ◌-◌, ◌<◌, Bool, true, false, not, ◌&&◌, cond, List, [], ◌∷◌, ◌++◌, map, flat_map, length, drop, Option, Some, None}
+use Rattle.std.specs.Prelude.{◌≡◌, ℕ, zero, suc, pred, ◌+◌, ◌-◌, ◌<◌, Bool, true, false, not, ◌&&◌, ◌||◌, cond, List, [], ◌∷◌, ◌++◌, map, flat_map, length, drop, slice_get, Option, Some, None}
 use Rattle.std.proofs.Common.{refl, sym, ap, ◌∙◌, subst, arith, append_assoc, get_or, inl, inr}
 use Rattle.std.specs.List.{AllByRecursion, filter}
 use Rattle.std.specs.Map.{keys_of, values_of}
 use Rattle.std.proofs.Math.Seq.{drop-cons}
-use Rattle.std.proofs.lemmas.Bool.{cases_lt}
+use Rattle.std.proofs.lemmas.Bool.{cases_lt, and_parts}
 use Rattle.std.proofs.lemmas.List.Elements.{All-from_recursion}
 use Rattle.std.proofs.lemmas.List.Kept.{IsStrictlySortedBy-filter}
 use Rattle.keys.specs.declared.command.Command.{Command}
+use Rattle.keys.specs.declared.command.Command.TheVariants.{Get, Put, Add, Del, Scan}
 use Rattle.index_page.specs.Page.{Page, PageOfKind}
 use Rattle.index_page.specs.Page.PageOfKind.{Index}
-use Rattle.index_page.specs.Range.{is_below, is_before, AreFrom, AreBefore, IsBefore}
+use Rattle.index_page.specs.Range.{is_below, is_before, is_within, AreFrom, AreBefore, IsBefore}
 use Rattle.index_page.specs.Rules.{IsHeaded}
 use Rattle.index_page.specs.Children.{Place, children, child_entries, HasChildFor}
 use Rattle.index_page.proofs.ListLaws.{all_weaker}
 use Rattle.index_page.proofs.PageLaws.{all_keys_entries}
-use Rattle.index_page.proofs.RangeLaws.{below_is_less, less_is_below, less_through}
+use Rattle.index_page.proofs.RangeLaws.{below_is_less, less_is_below, less_through, low_through}
 use Rattle.index_page.proofs.ChildLaws.{next_key, children-cons, children-append, within_parts}
+use Rattle.mapping.specs.FreshPids.{is_among}
 use Rattle.keys.proofs.MapLaws.{total}
 use Rattle.mapping.specs.Tree.{Tree, page_at}
 use Rattle.mapping.specs.Levels as levels
@@ -25,34 +27,43 @@ use Rattle.mapping.specs.Proper.{next_low, IsTile, Tiled, Stacked, AreLevels, Ha
 use Rattle.mapping.proofs.TileLaws.{Names, next_names, next_low-parents, rising-tile}
 use Rattle.mapping.proofs.LevelLaws.{values_of-names, index_pages_found}
 use Rattle.mapping.proofs.Joined.{next_joined}
-use Rattle.routing.specs.BatchKeys.{key_at}
-use Rattle.routing.specs.Routes.{Route, has_some, ranges, routes}
+use Rattle.routing.specs.BatchKeys.{key_or_empty, key_at}
+use Rattle.routing.specs.Routes.{is_passed, Route, has_some, ranges, routes}
 use Rattle.routing.proofs.BatchOrder.{routes_of_shares}
-use Rattle.routing.specs.SortedPlaces.{order_of_places, AreInKeyOrder, AreSortedPlaces}
-use Rattle.routing.specs.Keyed.{places_of, AreKeyed}
-use Rattle.routing.specs.Shares.{Lent, share_of_lent, lent_shares, AreKeyedShares, is_in_range, shares, handed_down, CanHandDown, CanHandDownKeyed, index_under, IsReady, AreReady, share_below, AreInBatchOrder}
-use Rattle.routing.proofs.ShareLaws.{share_at, shares-append, no_shares, filter_twice, all_passed, same_first}
+use Rattle.routing.specs.SortedPlaces.{order_of_places, AreInKeyOrder, AreSortedPlaces, reaches, reaches_at}
+use Rattle.routing.specs.Keyed.{AreKeyed}
+use Rattle.routing.specs.Shares.{Share, all_of, Lent, share_of_lent, lent_shares, AreKeyedShares, is_in_range, shares, shares_below, CanHandDownShare, index_under, IsReady, AreReady, share_below, AreInBatchOrder}
+use Rattle.routing.proofs.RouteLaws.{among-append}
+use Rattle.routing.proofs.SortLaws.{total_places, same_place, same_sorted}
+use Rattle.routing.proofs.SliceLaws.{reaching_below, among-filter, in_order-append, none_pass}
+use Rattle.routing.proofs.ShareLaws.{share_taken, shares-append, no_shares, filter_twice, all_passed, same_share}
 
 -- ---- a range within another
 
-narrowed_last : (a x y : Bool) → (a ≡ true → x ≡ true) → (a && y) ≡ ((x && y) && (a && true))
-narrowed_last true true true f = refl
-narrowed_last true true false f = refl
-narrowed_last true false y f = absurd (let h = f refl in cc)
-narrowed_last false true true f = refl
-narrowed_last false true false f = refl
-narrowed_last false false y f = refl
+-- the last child's range: be and bl say that a key is below the child's and below the page's low key, b that it is before the page's end, r that
+-- its command reaches the page
+narrowed_last : (be bl b r : Bool) → (not be ≡ true → not bl ≡ true) → (r ≡ true → be ≡ true) → (not be && b) ≡ ((r || (not bl && b)) && (not be && true))
+narrowed_last true bl b r f g = sym (none_pass (r || (not bl && b)))
+narrowed_last false true b r f g = absurd (let h = f refl in cc)
+narrowed_last false false b true f g = absurd (let h = g refl in cc)
+narrowed_last false false true false f g = refl
+narrowed_last false false false false f g = refl
 
-narrowed : (a b x y : Bool) → (a ≡ true → x ≡ true) → (b ≡ true → y ≡ true) → (a && b) ≡ ((x && y) && (a && b))
-narrowed true true true true f g = refl
-narrowed true true true false f g = absurd (let h = g refl in cc)
-narrowed true true false y f g = absurd (let h = f refl in cc)
-narrowed true false true true f g = refl
-narrowed true false true false f g = refl
-narrowed true false false y f g = refl
-narrowed false b true true f g = refl
-narrowed false b true false f g = refl
-narrowed false b false y f g = refl
+-- another child's range: h says that the key is before the next child's low key
+narrowed : (be bl h b r : Bool) → (not be ≡ true → not bl ≡ true) → (h ≡ true → b ≡ true) → (r ≡ true → be ≡ true) → (not be && h) ≡ ((r || (not bl && b)) && (not be && h))
+narrowed true bl h b r f k g = sym (none_pass (r || (not bl && b)))
+narrowed false true h b r f k g = absurd (let t = f refl in cc)
+narrowed false false h b true f k g = absurd (let t = g refl in cc)
+narrowed false false true true false f k g = refl
+narrowed false false true false false f k g = absurd (let t = k refl in cc)
+narrowed false false false true false f k g = refl
+narrowed false false false false false f k g = refl
+
+only_of : (a b : Bool) → (a ≡ true → b ≡ true) → a ≡ (b && a)
+only_of true true f = refl
+only_of true false f = sym (f refl)
+only_of false true f = refl
+only_of false false f = refl
 
 from_by : (b : Bool) (k low e : List ℕ) → is_below k low ≡ b → is_below e low ≡ false → not (is_below k e) ≡ true → not b ≡ true
 from_by false k low e b h n = refl
@@ -72,20 +83,84 @@ second_before : (end : Option (List ℕ)) (e f : List ℕ × ℕ) (es : Names) �
 second_before None e f es a = (tt, tt)
 second_before (Some hi) e f es a = (below_is_less f.0 hi a.1.0, a.1)
 
+below_by : (b : Bool) (k low e : List ℕ) → is_below k e ≡ b → is_below k low ≡ true → is_below e low ≡ false → b ≡ true
+below_by true k low e c h n = refl
+below_by false k low e c h n = absurd (let l = less_is_below k e (less_through k e low h n) in cc)
+
+-- a key below a low key is below each one from it on
+below_child : (k low e : List ℕ) → is_below k low ≡ true → is_below e low ≡ false → is_below k e ≡ true
+below_child k low e h n = below_by (is_below k e) k low e refl h n
+
+before_low : (hi : Option (List ℕ)) (low e : List ℕ) → is_below e low ≡ false → is_before hi e ≡ true → is_before hi low ≡ true
+before_low None low e n h = refl
+before_low (Some hi) low e n h = less_is_below low hi (low_through low e hi n (below_is_less e hi h))
+
+entry_before : (end : Option (List ℕ)) (e : List ℕ × ℕ) (es : Names) → AreBefore end (keys_of (e ∷ es)) → IsBefore end e.0
+entry_before None e es a = tt
+entry_before (Some hi) e es a = below_is_less e.0 hi a.0
+
 module _ {A : Type 0} (cs : List (Command A)) (low : List ℕ) (end : Option (List ℕ)) where
+  -- whether the command at this place reaches the page, or begins in it
+  abbrev pub gets : ℕ → Bool
+  gets q = reaches_at cs low q || is_in_range cs low end q
+
+  scan_by : (b : Bool) (e lo : List ℕ) (hi : Option (List ℕ)) → is_below lo low ≡ b → is_below e low ≡ false → IsBefore end e → is_below lo e ≡ true → is_before hi e ≡ true
+      → ((is_below lo low && is_before hi low) || is_within low end lo) ≡ true
+  scan_by true e lo hi c n m b h = rw (c, before_low hi low e n h) refl
+  scan_by false e lo hi c n m b h = rw (c, before_high end lo e m b) refl
+
+  reaches_child : (e : List ℕ) (o : Option (Command A)) → is_below e low ≡ false → IsBefore end e → is_passed (reaches e) o ≡ true → (is_passed (reaches low) o || is_within low end (key_or_empty o)) ≡ true
+  reaches_child e None n m h = absurd (cc)
+  reaches_child e (Some (Get k)) n m h = absurd (cc)
+  reaches_child e (Some (Put k v)) n m h = absurd (cc)
+  reaches_child e (Some (Add k v)) n m h = absurd (cc)
+  reaches_child e (Some (Del k)) n m h = absurd (cc)
+  reaches_child e (Some (Scan lo hi limit)) n m h = let p = and_parts (is_below lo e) (is_before hi e) h in scan_by (is_below lo low) e lo hi refl n m p.0 p.1
+
+  -- what reaches a child reaches its page or begins in it
+  reaching_narrowed : (e : List ℕ × ℕ) (es : Names) (ps : List ℕ) → AreFrom low (keys_of (e ∷ es)) → AreBefore end (keys_of (e ∷ es)) → filter (reaches_at cs e.0) ps ≡ filter (reaches_at cs e.0) (filter gets ps)
+  reaching_narrowed e es ps a b =
+      filter_twice (reaches_at cs e.0) gets (reaches_at cs e.0)
+      (λ q. only_of (reaches_at cs e.0 q) (gets q) (reaches_child e.0 (slice_get cs q) a.0 (entry_before end e es b))) ps
+
+  child_above : (e : List ℕ) (q : ℕ) → is_below e low ≡ false → reaches_at cs low q ≡ true → is_below (key_at cs q) e ≡ true
+  child_above e q n h = below_child (key_at cs q) low e (reaching_below cs low q h) n
+
   -- the children of a page get the same of all places as of the page's own
-  pub shares-narrowed : (es : Names) (ps : List ℕ) → AreFrom low (keys_of es) → AreBefore end (keys_of es) → shares cs ps (children es end) ≡ shares cs (filter (is_in_range cs low end) ps) (children es None)
+  pub shares-narrowed : (es : Names) (ps : List ℕ) → AreFrom low (keys_of es) → AreBefore end (keys_of es) → shares cs ps (children es end) ≡ shares cs (filter gets ps) (children es None)
   shares-narrowed [] ps a b = refl
   shares-narrowed (e ∷ []) ps a b =
-      same_first e.1 (filter (is_in_range cs e.0 end) ps) (filter (is_in_range cs e.0 None) (filter (is_in_range cs low end) ps)) [] []
-      (filter_twice (is_in_range cs e.0 end) (is_in_range cs low end) (is_in_range cs e.0 None)
-      (λ q. narrowed_last (not (is_below (key_at cs q) e.0)) (not (is_below (key_at cs q) low)) (is_before end (key_at cs q)) (from_low (key_at cs q) low e.0 a.0)) ps) refl
+      same_share e.1 (filter (is_in_range cs e.0 end) ps) (filter (is_in_range cs e.0 None) (filter gets ps)) (filter (reaches_at cs e.0) ps) (filter (reaches_at cs e.0) (filter gets ps)) [] []
+      (filter_twice (is_in_range cs e.0 end) gets (is_in_range cs e.0 None)
+      (λ q. narrowed_last (is_below (key_at cs q) e.0) (is_below (key_at cs q) low) (is_before end (key_at cs q)) (reaches_at cs low q) (from_low (key_at cs q) low e.0 a.0) (child_above e.0 q a.0)) ps)
+      (reaching_narrowed e [] ps a b) refl
   shares-narrowed (e ∷ f ∷ es) ps a b =
       let s = second_before end e f es b in
-      same_first e.1 (filter (is_in_range cs e.0 (Some f.0)) ps) (filter (is_in_range cs e.0 (Some f.0)) (filter (is_in_range cs low end) ps)) (shares cs ps (children (f ∷ es) end)) (shares cs (filter (is_in_range cs low end) ps) (children (f ∷ es) None))
-      (filter_twice (is_in_range cs e.0 (Some f.0)) (is_in_range cs low end) (is_in_range cs e.0 (Some f.0))
-      (λ q. narrowed (not (is_below (key_at cs q) e.0)) (is_below (key_at cs q) f.0) (not (is_below (key_at cs q) low)) (is_before end (key_at cs q)) (from_low (key_at cs q) low e.0 a.0) (before_high end (key_at cs q) f.0 s.0)) ps)
+      same_share e.1 (filter (is_in_range cs e.0 (Some f.0)) ps) (filter (is_in_range cs e.0 (Some f.0)) (filter gets ps)) (filter (reaches_at cs e.0) ps) (filter (reaches_at cs e.0) (filter gets ps)) (shares cs ps (children (f ∷ es) end)) (shares cs (filter gets ps) (children (f ∷ es) None))
+      (filter_twice (is_in_range cs e.0 (Some f.0)) gets (is_in_range cs e.0 (Some f.0))
+      (λ q. narrowed (is_below (key_at cs q) e.0) (is_below (key_at cs q) low) (is_below (key_at cs q) f.0) (is_before end (key_at cs q)) (reaches_at cs low q) (from_low (key_at cs q) low e.0 a.0) (before_high end (key_at cs q) f.0 s.0) (child_above e.0 q a.0)) ps)
+      (reaching_narrowed e (f ∷ es) ps a b)
       (shares-narrowed (f ∷ es) ps a.1 s.1)
+
+  both_by : (a r i : Bool) → (a && (r || i)) ≡ ((a && r) || (a && i))
+  both_by true r i = refl
+  both_by false r i = refl
+
+  -- of places in the order of their keys, what a page gets are those that reach it, and then those that begin in it
+  pub gets_parted : (ps : List ℕ) → AreInKeyOrder cs ps → filter gets ps ≡ filter (reaches_at cs low) ps ++ filter (is_in_range cs low end) ps
+  gets_parted ps o =
+      let rs = filter (reaches_at cs low) ps in
+      let qs = filter (is_in_range cs low end) ps in
+      let sorted = λ (f : ℕ → Bool). IsStrictlySortedBy-filter (order_of_places cs) f ps o in
+      same_sorted (order_of_places cs) (total_places cs) (same_place cs) (filter gets ps) (rs ++ qs)
+      (λ n.
+      among-filter gets n ps ∙ both_by (is_among n ps) (reaches_at cs low n) (is_in_range cs low end n)
+      ∙ sym (among-append n rs qs ∙ rw (among-filter (reaches_at cs low) n ps, among-filter (is_in_range cs low end) n ps) refl))
+      (sorted gets)
+      (in_order-append cs low rs qs
+      (all_weaker (λ q. reaches_at cs low q ≡ true) (λ q. is_below (key_at cs q) low ≡ true) (reaching_below cs low) rs (all_passed (reaches_at cs low) ps))
+      (all_weaker (λ q. is_in_range cs low end q ≡ true) (λ q. is_below (key_at cs q) low ≡ false) (λ q h. (within_parts low end (key_at cs q) h).0) qs (all_passed (is_in_range cs low end) ps))
+      (sorted (reaches_at cs low)) (sorted (is_in_range cs low end)))
 
 -- ---- a level of index pages
 
@@ -102,51 +177,52 @@ module _ {A : Type 0} (cs : List (Command A)) (pages : List (ℕ × PageOfKind))
   found_under : (p : Placed ℕ) → page_at pages p.pid ≡ Some (Index p.page) → index_under pages p.pid ≡ Index p.page
   found_under p h = ap (λ (o : Option PageOfKind). Index (as_index o)) h
 
-  below-share : (pid : ℕ) (xs : List ℕ) (rs : List Route)
-      → (let r : Route = record { pid = pid; places = xs } in flat_map (share_below pages cs) (cond (has_some xs) (r ∷ rs) rs) ≡ handed_down cs (index_under pages pid) xs ++ flat_map (share_below pages cs) rs)
-  below-share pid [] rs = ap (λ (ss : List Route). ss ++ flat_map (share_below pages cs) rs) (sym (no_shares cs (children (child_entries (index_under pages pid)) None)))
-  below-share pid (x ∷ xs) rs = refl
+  below-share : (pid : ℕ) (xs rs : List ℕ) (ss : List Share)
+      → (let s : Share = record { pid = pid; own = xs; reaching = rs } in flat_map (share_below pages cs) (cond (has_some xs || has_some rs) (s ∷ ss) ss) ≡ shares_below cs (index_under pages pid) (rs ++ xs) ++ flat_map (share_below pages cs) ss)
+  below-share pid [] [] ss = ap (λ (ts : List Share). ts ++ flat_map (share_below pages cs) ss) (sym (no_shares cs (children (child_entries (index_under pages pid)) None)))
+  below-share pid [] (r ∷ rs) ss = refl
+  below-share pid (x ∷ xs) rs ss = refl
 
   -- a share that is ready, of a page that is found
-  ready_now : (r : Route) (page : PageOfKind) → IsReady pages cs r → Some page ≡ page_at pages r.pid → (page ≡ index_under pages r.pid) × CanHandDown cs page r.places
-  ready_now r page h e =
-      let both : Some page ≡ Some (index_under pages r.pid) = e ∙ h.held in
-      let same : page ≡ index_under pages r.pid = cc in
-      (same, subst (λ (p : PageOfKind). CanHandDown cs p r.places) (sym same) h.share)
+  ready_now : (s : Share) (page : PageOfKind) → IsReady pages cs s → Some page ≡ page_at pages s.pid → (page ≡ index_under pages s.pid) × CanHandDownShare cs page s
+  ready_now s page h e =
+      let both : Some page ≡ Some (index_under pages s.pid) = e ∙ h.held in
+      let same : page ≡ index_under pages s.pid = cc in
+      (same, subst (λ (p : PageOfKind). CanHandDownShare cs p s) (sym same) h.share)
 
   -- one more share is handed down, and what the others become is still to come
-  level_step : (old new rest : List Lent) (share : Lent) (page : PageOfKind) (whole : List Route) → page ≡ index_under pages share.0 → lent_shares new ≡ lent_shares old ++ handed_down cs page (places_of share.1.now)
+  level_step : (old new rest : List Lent) (share : Lent) (page : PageOfKind) (whole : List Share) → page ≡ index_under pages share.pid → lent_shares new ≡ lent_shares old ++ shares_below cs page (all_of (share_of_lent share))
       → lent_shares old ++ flat_map (share_below pages cs) (lent_shares (share ∷ rest)) ≡ whole → lent_shares new ++ flat_map (share_below pages cs) (lent_shares rest) ≡ whole
   level_step old new rest share page whole e i h =
-      let later : List Route = flat_map (share_below pages cs) (lent_shares rest) in
-      ap (λ (x : List Route). x ++ later) i
-      ∙ append_assoc (lent_shares old) (handed_down cs page (places_of share.1.now)) later
-      ∙ ap (λ (p : PageOfKind). lent_shares old ++ (handed_down cs p (places_of share.1.now) ++ later)) e
+      let later : List Share = flat_map (share_below pages cs) (lent_shares rest) in
+      ap (λ (x : List Share). x ++ later) i
+      ∙ append_assoc (lent_shares old) (shares_below cs page (all_of (share_of_lent share))) later
+      ∙ ap (λ (p : PageOfKind). lent_shares old ++ (shares_below cs p (all_of (share_of_lent share)) ++ later)) e
       ∙ h
 
   share_at_drop : (all : List Lent) (i : ℕ) (d : Lent) → i < length all → drop i all ≡ get_or all i d ∷ drop (i + 1) all
   share_at_drop all i d l = let e : suc i ≡ i + 1 = omega arith in drop-cons all i d l ∙ ap (λ (j : ℕ). get_or all i d ∷ drop j all) e
 
-  -- of shares that are ready, the one at a place can be handed down
-  pub ready_share : (all : List Lent) (i : ℕ) (d : Lent) (page : PageOfKind) → i < length all → AreReady pages cs all → Some page ≡ page_at pages (get_or all i d).0 → CanHandDownKeyed cs page (get_or all i d).1.now
-  ready_share all i d page l h e = record {
-    places = (ready_now (share_of_lent (get_or all i d)) page (share_at (IsReady pages cs) all i d l h.each) e).1;
-    keys = All-from_recursion (λ (share : Lent). AreKeyed cs share.1.now) all h.keys i d l;
-  }
+  -- of shares that are ready, the one that was taken from a place can be handed down
+  pub ready_share : (all : List Lent) (i : ℕ) (d l : Lent) (pid : ℕ) (page : PageOfKind) → i < length all → l ≡ get_or all i d → pid ≡ l.pid → AreReady pages cs all → Some page ≡ page_at pages pid → CanHandDownShare cs page (share_of_lent l)
+  ready_share all i d l pid page w t q h e = (ready_now (share_of_lent l) page (share_taken (IsReady pages cs) all i d l w t h.each) (e ∙ ap (λ (n : ℕ). page_at pages n) q)).1
+
+  pub ready_keys : (all : List Lent) (i : ℕ) (d l : Lent) → i < length all → l ≡ get_or all i d → AreReady pages cs all → AreKeyed cs l.keyed
+  ready_keys all i d l w t h = subst (λ (x : Lent). AreKeyed cs x.keyed) (sym t) (All-from_recursion (λ (share : Lent). AreKeyed cs share.keyed) all h.keys i d w)
 
   -- and its page isn't missing
-  pub not_missing : (all : List Lent) (i : ℕ) (d : Lent) → i < length all → AreReady pages cs all → None ≡ page_at pages (get_or all i d).0 → ⊥
-  not_missing all i d l h e =
-      let both : None ≡ Some (index_under pages (get_or all i d).0) = e ∙ (share_at (IsReady pages cs) all i d l h.each).held in
+  pub not_missing : (all : List Lent) (i : ℕ) (d l : Lent) (pid : ℕ) → i < length all → l ≡ get_or all i d → pid ≡ l.pid → AreReady pages cs all → None ≡ page_at pages pid → ⊥
+  not_missing all i d l pid w t q h e =
+      let both : None ≡ Some (index_under pages l.pid) = e ∙ ap (λ (n : ℕ). page_at pages n) q ∙ (share_taken (IsReady pages cs) all i d l w t h.each).held in
       cc
 
-  pub share_step : (all old new : List Lent) (i : ℕ) (d : Lent) (page : PageOfKind) (whole : List Route) → i < length all → AreReady pages cs all
-      → Some page ≡ page_at pages (get_or all i d).0 → (CanHandDownKeyed cs page (get_or all i d).1.now → lent_shares new ≡ lent_shares old ++ handed_down cs page (places_of (get_or all i d).1.now))
+  pub share_step : (all old new : List Lent) (i : ℕ) (d l : Lent) (pid : ℕ) (page : PageOfKind) (whole : List Share) → i < length all → l ≡ get_or all i d → pid ≡ l.pid → AreReady pages cs all
+      → Some page ≡ page_at pages pid → lent_shares new ≡ lent_shares old ++ shares_below cs page (all_of (share_of_lent l))
       → lent_shares old ++ flat_map (share_below pages cs) (lent_shares (drop i all)) ≡ whole
       → lent_shares new ++ flat_map (share_below pages cs) (lent_shares (drop (i + 1) all)) ≡ whole
-  share_step all old new i d page whole l a e n h =
-      let now = subst (λ (ss : List Lent). lent_shares old ++ flat_map (share_below pages cs) (lent_shares ss) ≡ whole) (share_at_drop all i d l) h in
-      level_step old new (drop (i + 1) all) (get_or all i d) page whole (ready_now (share_of_lent (get_or all i d)) page (share_at (IsReady pages cs) all i d l a.each) e).0 (n (ready_share all i d page l a e)) now
+  share_step all old new i d l pid page whole w t q a e n h =
+      let now = subst (λ (ss : List Lent). lent_shares old ++ flat_map (share_below pages cs) (lent_shares ss) ≡ whole) (share_at_drop all i d w ∙ ap (λ (x : Lent). x ∷ drop (i + 1) all) (sym t)) h in
+      level_step old new (drop (i + 1) all) l page whole (ready_now (share_of_lent l) page (share_taken (IsReady pages cs) all i d l w t a.each) (e ∙ ap (λ (m : ℕ). page_at pages m) q)).0 n now
 
   -- the entries of a page before an end
   entries_before : (end : Option (List ℕ)) (p : Placed ℕ) → IsTile end p → AreBefore end (keys_of (levels.entries p))
@@ -154,46 +230,56 @@ module _ {A : Type 0} (cs : List (Command A)) (pages : List (ℕ × PageOfKind))
   entries_before (Some hi) p t = all_keys_entries (λ j. is_below j hi ≡ true) p.page t.keys.before
 
   -- the shares of a level's pages, handed down, are those of the pages below
-  pub shares-below : (up : List (Placed ℕ)) (end : Option (List ℕ)) (ps : List ℕ) → IsIndexLevel pages end up → flat_map (share_below pages cs) (shares cs ps (children (names up) end)) ≡ shares cs ps (children (joined up) end)
-  shares-below [] end ps l = refl
-  shares-below (p ∷ up) end ps l =
+  pub shares-below : (up : List (Placed ℕ)) (end : Option (List ℕ)) (ps : List ℕ) → AreInKeyOrder cs ps → IsIndexLevel pages end up → flat_map (share_below pages cs) (shares cs ps (children (names up) end)) ≡ shares cs ps (children (joined up) end)
+  shares-below [] end ps o l = refl
+  shares-below (p ∷ up) end ps o l =
       let next : Option (List ℕ) = next_low up end in
       let own : List ℕ = filter (is_in_range cs p.page.low next) ps in
-      let rest : List Route = shares cs ps (children (names up) end) in
+      let reaching : List ℕ = filter (reaches_at cs p.page.low) ps in
+      let rest : List Share = shares cs ps (children (names up) end) in
       let es : Names = levels.entries p in
       let tile : IsTile next p = l.tiled.0 in
       let later : IsIndexLevel pages end up = record { held = l.held.1; headed = l.headed.1; tiled = l.tiled.1 } in
-      let narrow : shares cs ps (children es next) ≡ shares cs own (children es None) =
-      shares-narrowed cs p.page.low next es ps (all_keys_entries (λ j. is_below j p.page.low ≡ false) p.page tile.keys.from) (entries_before next p tile) in
+      let narrow : shares cs ps (children es next) ≡ shares cs (reaching ++ own) (children es None) =
+      shares-narrowed cs p.page.low next es ps (all_keys_entries (λ j. is_below j p.page.low ≡ false) p.page tile.keys.from) (entries_before next p tile)
+      ∙ ap (λ (qs : List ℕ). shares cs qs (children es None)) (gets_parted cs p.page.low next ps o) in
       ap (λ (ats : List Place). flat_map (share_below pages cs) (shares cs ps ats)) (children-cons (name p) (names up) end)
       ∙ ap (λ (x : Option (List ℕ)). flat_map (share_below pages cs) (shares cs ps ((let at : Place = record { pid = p.pid; low = p.page.low; end = x } in at) ∷ children (names up) end))) (next_names up end)
-      ∙ below-share p.pid own rest
-      ∙ ap (λ (page : PageOfKind). handed_down cs page own ++ flat_map (share_below pages cs) rest) (found_under p l.held.0)
-      ∙ ap (λ (rs : List Route). rs ++ flat_map (share_below pages cs) rest) (sym narrow)
-      ∙ ap (λ (rs : List Route). shares cs ps (children es next) ++ rs) (shares-below up end ps later)
+      ∙ below-share p.pid own reaching rest
+      ∙ ap (λ (page : PageOfKind). shares_below cs page (reaching ++ own) ++ flat_map (share_below pages cs) rest) (found_under p l.held.0)
+      ∙ ap (λ (rs : List Share). rs ++ flat_map (share_below pages cs) rest) (sym narrow)
+      ∙ ap (λ (rs : List Share). shares cs ps (children es next) ++ rs) (shares-below up end ps o later)
       ∙ ap (λ (x : Option (List ℕ)). shares cs ps (children es x) ++ shares cs ps (children (joined up) end)) (sym (next_joined up end l.headed.1))
       ∙ sym (shares-append cs ps (children es (next_key (joined up) end)) (children (joined up) end))
       ∙ ap (λ (ats : List Place). shares cs ps ats) (sym (children-append es (joined up) end))
 
-  ready_by : (b : Bool) (r : Route) (rs : List Route) → IsReady pages cs r → AllByRecursion (IsReady pages cs) rs → AllByRecursion (IsReady pages cs) (cond b (r ∷ rs) rs)
-  ready_by true r rs h a = (h, a)
-  ready_by false r rs h a = a
+  ready_by : (b : Bool) (s : Share) (ss : List Share) → IsReady pages cs s → AllByRecursion (IsReady pages cs) ss → AllByRecursion (IsReady pages cs) (cond b (s ∷ ss) ss)
+  ready_by true s ss h a = (h, a)
+  ready_by false s ss h a = a
 
   -- the share of a page can be handed down
   ready_page : (p : Placed ℕ) (end : Option (List ℕ)) (ps : List ℕ) → page_at pages p.pid ≡ Some (Index p.page) → IsHeaded 1 p.page → IsTile end p → AreInKeyOrder cs ps
-      → (let r : Route = record { pid = p.pid; places = filter (is_in_range cs p.page.low end) ps } in IsReady pages cs r)
+      → (let s : Share = record { pid = p.pid; own = filter (is_in_range cs p.page.low end) ps; reaching = filter (reaches_at cs p.page.low) ps } in IsReady pages cs s)
   ready_page p end ps held headed tile o =
       let own : List ℕ = filter (is_in_range cs p.page.low end) ps in
+      let reaching : List ℕ = filter (reaches_at cs p.page.low) ps in
+      let s : Share = record { pid = p.pid; own = own; reaching = reaching } in
+      let some : 0 < length (child_entries (Index p.page)) = let n = headed.some in omega arith in
       let has : (q : ℕ) → is_in_range cs p.page.low end q ≡ true → HasChildFor (Index p.page) (key_at cs q) =
-      λ q h. (let n = headed.some in omega arith, subst (λ (k : List ℕ). is_below (key_at cs q) k ≡ false) (sym headed.first) (within_parts p.page.low end (key_at cs q) h).0) in
-      let can : CanHandDown cs (Index p.page) own = record {
-        in_order = IsStrictlySortedBy-filter (order_of_places cs) (is_in_range cs p.page.low end) ps o;
-        rising = rising-tile end p tile;
-        each = all_weaker (λ q. is_in_range cs p.page.low end q ≡ true) (λ q. HasChildFor (Index p.page) (key_at cs q)) has own (all_passed (is_in_range cs p.page.low end) ps);
+      λ q h. (some, subst (λ (k : List ℕ). is_below (key_at cs q) k ≡ false) (sym headed.first) (within_parts p.page.low end (key_at cs q) h).0) in
+      let can : CanHandDownShare cs (Index p.page) s = record {
+        own = record {
+          in_order = IsStrictlySortedBy-filter (order_of_places cs) (is_in_range cs p.page.low end) ps o;
+          rising = rising-tile end p tile;
+          each = all_weaker (λ q. is_in_range cs p.page.low end q ≡ true) (λ q. HasChildFor (Index p.page) (key_at cs q)) has own (all_passed (is_in_range cs p.page.low end) ps);
+        };
+        some = some;
+        first = headed.first;
+        reach = all_passed (reaches_at cs p.page.low) ps;
       } in
       record {
         held = held ∙ ap (λ (page : PageOfKind). Some page) (sym (found_under p held));
-        share = subst (λ (page : PageOfKind). CanHandDown cs page own) (sym (found_under p held)) can;
+        share = subst (λ (page : PageOfKind). CanHandDownShare cs page s) (sym (found_under p held)) can;
       }
 
   -- and so can those of all pages of a level
@@ -202,14 +288,16 @@ module _ {A : Type 0} (cs : List (Command A)) (pages : List (ℕ × PageOfKind))
   ready_level (p ∷ up) end ps l o =
       let next : Option (List ℕ) = next_low up end in
       let own : List ℕ = filter (is_in_range cs p.page.low next) ps in
-      let r : Route = record { pid = p.pid; places = own } in
-      let rest : List Route = shares cs ps (children (names up) end) in
+      let reaching : List ℕ = filter (reaches_at cs p.page.low) ps in
+      let s : Share = record { pid = p.pid; own = own; reaching = reaching } in
+      let rest : List Share = shares cs ps (children (names up) end) in
       let later : IsIndexLevel pages end up = record { held = l.held.1; headed = l.headed.1; tiled = l.tiled.1 } in
-      let both : AllByRecursion (IsReady pages cs) (cond (has_some own) (r ∷ rest) rest) = ready_by (has_some own) r rest (ready_page p next ps l.held.0 l.headed.0 l.tiled.0 o) (ready_level up end ps later o) in
-      let e : shares cs ps (children (names (p ∷ up)) end) ≡ cond (has_some own) (r ∷ rest) rest =
+      let some : Bool = has_some own || has_some reaching in
+      let both : AllByRecursion (IsReady pages cs) (cond some (s ∷ rest) rest) = ready_by some s rest (ready_page p next ps l.held.0 l.headed.0 l.tiled.0 o) (ready_level up end ps later o) in
+      let e : shares cs ps (children (names (p ∷ up)) end) ≡ cond some (s ∷ rest) rest =
       ap (λ (ats : List Place). shares cs ps ats) (children-cons (name p) (names up) end)
       ∙ ap (λ (x : Option (List ℕ)). shares cs ps ((let at : Place = record { pid = p.pid; low = p.page.low; end = x } in at) ∷ children (names up) end)) (next_names up end) in
-      subst (λ (rs : List Route). AllByRecursion (IsReady pages cs) rs) (sym e) both
+      subst (λ (ss : List Share). AllByRecursion (IsReady pages cs) ss) (sym e) both
 
 -- ---- the levels of a tree, from the root down
 
@@ -302,37 +390,37 @@ module _ (t : Tree) (held : HoldsLevels t.pages (levels_of t)) (levels : AreLeve
       subst (λ (pid : ℕ). IsLevelAt t.pages pid i) root_is_top (index_level t.pages (levels_of t).level (levels_of t).above held.above levels.stacked levels.first i b)
 
   module _ {A : Type 0} (cs : List (Command A)) (ps : List ℕ) where
-    abbrev SharesAt : ℕ → List Route
+    abbrev SharesAt : ℕ → List Share
     SharesAt i = shares cs ps (children (names_at t.pages t.root i) None)
 
     by_names : (ns ms : Names) → ns ≡ ms → shares cs ps (children ns None) ≡ shares cs ps (children ms None)
     by_names ns ms e = ap (λ (x : Names). shares cs ps (children x None)) e
 
     -- the shares of a level, handed down, are those of the next
-    pub shares-next : (i : ℕ) (rs : List Route) → i < pred t.height → rs ≡ SharesAt i → flat_map (share_below t.pages cs) rs ≡ SharesAt (i + 1)
-    shares-next i rs l e =
+    pub shares-next : (i : ℕ) (ss : List Share) → i < pred t.height → AreInKeyOrder cs ps → ss ≡ SharesAt i → flat_map (share_below t.pages cs) ss ≡ SharesAt (i + 1)
+    shares-next i ss l o e =
         let here = level_at i l in
         let n : suc i ≡ i + 1 = omega arith in
-        ap (λ (x : List Route). flat_map (share_below t.pages cs) x) (e ∙ by_names (names_at t.pages t.root i) (names here.level) here.named)
-        ∙ shares-below cs t.pages here.level None ps here.known
+        ap (λ (x : List Share). flat_map (share_below t.pages cs) x) (e ∙ by_names (names_at t.pages t.root i) (names here.level) here.named)
+        ∙ shares-below cs t.pages here.level None ps o here.known
         ∙ by_names (joined here.level) (names_at t.pages t.root (suc i)) (sym here.below)
         ∙ ap (λ (j : ℕ). SharesAt j) n
 
     -- and they can be
-    shares-ready : (i : ℕ) (rs : List Route) → i < pred t.height → AreInKeyOrder cs ps → rs ≡ SharesAt i → AllByRecursion (IsReady t.pages cs) rs
-    shares-ready i rs l o e =
+    shares-ready : (i : ℕ) (ss : List Share) → i < pred t.height → AreInKeyOrder cs ps → ss ≡ SharesAt i → AllByRecursion (IsReady t.pages cs) ss
+    shares-ready i ss l o e =
         let here = level_at i l in
-        subst (λ (x : List Route). AllByRecursion (IsReady t.pages cs) x) (sym (e ∙ by_names (names_at t.pages t.root i) (names here.level) here.named)) (ready_level cs t.pages here.level None ps here.known o)
+        subst (λ (x : List Share). AllByRecursion (IsReady t.pages cs) x) (sym (e ∙ by_names (names_at t.pages t.root i) (names here.level) here.named)) (ready_level cs t.pages here.level None ps here.known o)
 
     pub level_ready : (i : ℕ) (all : List Lent) → i < pred t.height → AreInKeyOrder cs ps → lent_shares all ≡ SharesAt i → AreKeyedShares cs all → AreReady t.pages cs all
     level_ready i all l o e k = record { each = shares-ready i (lent_shares all) l o e; keys = k }
 
     -- the shares of the leaves, each in the order of the batch, are the routes
-    pub shares-last : (i : ℕ) (rs os : List Route) → i ≡ pred t.height → AreSortedPlaces cs ps → rs ≡ SharesAt i → AreInBatchOrder rs os → os ≡ routes (levels_of t).level cs
-    shares-last i rs os n s e a =
-        let last : rs ≡ shares cs ps (ranges (levels_of t).level) =
+    pub shares-last : (i : ℕ) (ss : List Share) (os : List Route) → i ≡ pred t.height → AreSortedPlaces cs ps → ss ≡ SharesAt i → AreInBatchOrder ss os → os ≡ routes (levels_of t).level cs
+    shares-last i ss os n s e a =
+        let last : ss ≡ shares cs ps (ranges (levels_of t).level) =
         e ∙ ap (λ (j : ℕ). SharesAt j) n ∙ by_names (names_at t.pages t.root (pred t.height)) (names (levels_of t).level) names-leaves in
-        routes_of_shares cs (ranges (levels_of t).level) ps s os (subst (λ (x : List Route). AreInBatchOrder x os) last a)
+        routes_of_shares cs (ranges (levels_of t).level) ps s os (subst (λ (x : List Share). AreInBatchOrder x os) last a)
 
 -- ---- numbers
 

@@ -6,3 +6,4 @@ mod Rows
 pub mod ShareLaws
 pub mod SliceLaws
 pub mod SortLaws
+mod WalkLaws

@@ -1,30 +1,30 @@
 -- Lemmas on the places of the commands that go to a page, and on the routes of a level, for the proofs of this crate and
 -- of those above it.
-use Rattle.std.specs.Prelude.{◌≡◌, ◌≢◌, ℕ, zero, suc, ◌+◌, ◌<◌, ◌≤◌, Bool, true, false, not, ◌&&◌, ◌||◌, cond, List, [], ◌∷◌, ◌++◌, map, flat_map, length, slice_get, nat_eq, Option, Some, None}
-use Rattle.std.proofs.Common.{refl, sym, ap, ◌∙◌, subst, arith, add-one, append-nil, Less, eqb-true, eq-eqb}
+use Rattle.std.specs.Prelude.{◌≡◌, ◌≢◌, ℕ, zero, suc, ◌+◌, ◌<◌, ◌≤◌, Bool, true, false, not, ◌&&◌, ◌||◌, cond, ◌⊎◌, List, [], ◌∷◌, ◌++◌, map, flat_map, length, slice_get, nat_eq, count_by, Option, Some, None}
+use Rattle.std.proofs.Common.{refl, sym, ap, ◌∙◌, subst, arith, add-one, inl, inr, Less, eqb-true, eq-eqb}
 use Rattle.std.specs.Ordering.{nat_cmp}
 use Rattle.std.specs.Cmp.{nat_cmp_is}
 use Rattle.std.specs.List.{AllByRecursion, filter, range_with_len}
-use Rattle.std.specs.List.Sorted.{IsPermutation, IsStrictlySortedBy}
-use Rattle.std.proofs.lemmas.List.Sorted.{IsPermutation-refl, IsPermutation-sym, IsPermutation-trans, IsPermutation-cons, IsPermutation-middle, IsPermutation-append_right}
+use Rattle.std.specs.List.Sorted.{IsStrictlySortedBy}
+use Rattle.std.proofs.lemmas.List.Sums.{sum_by-cons, sum_by-append}
 use Rattle.std.proofs.lemmas.Map.Keys.{IsStrictlyIncreasing-from_sorted}
 use Rattle.keys.specs.Order.{order}
 use Rattle.keys.proofs.MapLaws.{total}
-use Rattle.keys.specs.CommandKey.{key_of}
+use Rattle.keys.specs.CommandKey.{key_of, is_scan}
 use Rattle.keys.specs.declared.command.Command.{Command}
-use Rattle.keys.specs.declared.command.Command.TheVariants.{Get, Put, Add, Del}
+use Rattle.keys.specs.declared.command.Command.TheVariants.{Get, Put, Add, Del, Scan}
 use Rattle.index_page.specs.Range.{is_below, is_before, is_within, IsBefore}
 use Rattle.index_page.specs.Children.{Place, children}
-use Rattle.index_page.proofs.ListLaws.{all_weaker}
+use Rattle.index_page.proofs.ListLaws.{all-append, all_weaker}
 use Rattle.index_page.proofs.RangeLaws.{less_is_below, below_is_less}
 use Rattle.mapping.specs.Levels.{Placed, names}
 use Rattle.mapping.specs.FreshPids.{is_among}
 use Rattle.mapping.specs.Proper.{next_low, Tiled}
 use Rattle.mapping.proofs.PidLaws.{all_among}
 use Rattle.mapping.proofs.TileLaws.{low_is_before}
-use Rattle.routing.specs.BatchKeys.{key_or_empty, key_at}
 use Rattle.routing.specs.Places.{places_below}
-use Rattle.routing.specs.Routes.{goes_to, places_from, places_within, Route, route_to, has_places, ranges, routes, AreRoutesTo}
+use Rattle.routing.specs.SortedPlaces.{begins_in, reaches}
+use Rattle.routing.specs.Routes.{goes_to, is_passed, goes_at, places_from, places_within, Route, route_to, has_places, ranges, routes, AreRoutesTo}
 use Rattle.routing.specs.Routes.AreRoutesTo.{none, next, left_out}
 
 -- ---- numbers that rise
@@ -64,15 +64,6 @@ below_by : (b : Bool) (m n : ℕ) (ns : List ℕ) → n < m → AllByRecursion (
 below_by true m n ns h a = (h, a)
 below_by false m n ns h a = a
 
-parted_by : (a b c : Bool) (n : ℕ) (ts us vs : List ℕ) → c ≡ (a || b) → (a ≡ true → b ≡ false) → IsPermutation ts (us ++ vs) → IsPermutation (cond c (n ∷ ts) ts) (cond a (n ∷ us) us ++ cond b (n ∷ vs) vs)
-parted_by true true c n ts us vs e d p = absurd (let f = d refl in cc)
-parted_by true false true n ts us vs e d p = IsPermutation-cons n ts (us ++ vs) p
-parted_by true false false n ts us vs e d p = absurd (cc)
-parted_by false true true n ts us vs e d p = IsPermutation-trans (n ∷ ts) (n ∷ (us ++ vs)) (us ++ n ∷ vs) (IsPermutation-cons n ts (us ++ vs) p) (IsPermutation-sym (us ++ n ∷ vs) (n ∷ (us ++ vs)) (IsPermutation-middle us n vs))
-parted_by false true false n ts us vs e d p = absurd (cc)
-parted_by false false true n ts us vs e d p = absurd (cc)
-parted_by false false false n ts us vs e d p = p
-
 module _ {X : Type 0} where
   -- places that are counted from the next number on
   pub places_from-suc : (n : ℕ) (passes : X → Bool) (xs : List X) → places_from (suc n) passes xs ≡ map suc (places_from n passes xs)
@@ -98,13 +89,6 @@ module _ {X : Type 0} where
   pub places_from-all : (n : ℕ) (passes : X → Bool) (xs : List X) → ((x : X) → passes x ≡ true) → places_from n passes xs ≡ range_with_len n (length xs)
   places_from-all n passes [] h = refl
   places_from-all n passes (x ∷ xs) h = let t = h x in rw (t, places_from-all (suc n) passes xs h, add-one) refl
-
-  -- where what passes is what passes just one of two tests, its places are those of both
-  pub places_from-parted : (passes first second : X → Bool) → ((x : X) → passes x ≡ (first x || second x)) → ((x : X) → first x ≡ true → second x ≡ false) → (n : ℕ) (xs : List X)
-      → IsPermutation (places_from n passes xs) (places_from n first xs ++ places_from n second xs)
-  places_from-parted passes first second e d n [] = IsPermutation-refl []
-  places_from-parted passes first second e d n (x ∷ xs) =
-      parted_by (first x) (second x) (passes x) n (places_from (suc n) passes xs) (places_from (suc n) first xs) (places_from (suc n) second xs) (e x) (d x) (places_from-parted passes first second e d (suc n) xs)
 
 -- ---- what is among the places of what passes
 
@@ -137,17 +121,83 @@ later_among_by : (b : Bool) (n : ℕ) (ms : List ℕ) → is_among (suc n) (cond
 later_among_by true n ms = let e : nat_eq (suc n) 0 ≡ false = apart_by (nat_eq (suc n) 0) (suc n) 0 refl (λ h. omega arith) in rw e refl
 later_among_by false n ms = refl
 
--- whether there is an item, and it passes
-abbrev pub is_passed : {X : Type 0} → (X → Bool) → Option X → Bool
-is_passed passes None = false
-is_passed passes (Some x) = passes x
-
 -- a place is among those of what passes exactly if what stands there passes
 pub among-places : {X : Type 0} (n : ℕ) (passes : X → Bool) (xs : List X) → is_among n (places_from 0 passes xs) ≡ is_passed passes (slice_get xs n)
 among-places n passes [] = refl
 among-places zero passes (x ∷ xs) = first_among_by (passes x) (places_from 1 passes xs) (rw (places_from-suc 0 passes xs) (zero_among (places_from 0 passes xs)))
 among-places (suc n) passes (x ∷ xs) =
     later_among_by (passes x) n (places_from 1 passes xs) ∙ ap (λ (is : List ℕ). is_among (suc n) is) (places_from-suc 0 passes xs) ∙ among-suc n (places_from 0 passes xs) ∙ among-places n passes xs
+
+-- ---- how often a place is among them
+
+abbrev count_of : ℕ → List ℕ → ℕ
+count_of n ms = count_by (λ m. nat_eq m n) ms
+
+counted : (n : ℕ) (m : ℕ) (ms : List ℕ) → count_of n (m ∷ ms) ≡ cond (nat_eq m n) 1 0 + count_of n ms
+counted n m ms = sum_by-cons (λ i. cond (nat_eq i n) 1 0) m ms
+
+count-suc : (n : ℕ) (ms : List ℕ) → count_of (suc n) (map suc ms) ≡ count_of n ms
+count-suc n [] = refl
+count-suc n (m ∷ ms) =
+    counted (suc n) (suc m) (map suc ms)
+    ∙ rw (same_by (nat_eq m n) (nat_eq (suc m) (suc n)) m n refl refl, count-suc n ms) (sym (counted n m ms))
+
+zero_counted : (ms : List ℕ) → count_of 0 (map suc ms) ≡ 0
+zero_counted [] = refl
+zero_counted (m ∷ ms) =
+    let e : nat_eq (suc m) 0 ≡ false = apart_by (nat_eq (suc m) 0) (suc m) 0 refl (λ h. omega arith) in
+    counted 0 (suc m) (map suc ms) ∙ rw (e, zero_counted ms) refl
+
+first_counted_by : (b : Bool) (ms : List ℕ) → count_of 0 ms ≡ 0 → count_of 0 (cond b (0 ∷ ms) ms) ≡ cond b 1 0
+first_counted_by true ms h = counted 0 0 ms ∙ rw h refl
+first_counted_by false ms h = h
+
+later_counted_by : (b : Bool) (n : ℕ) (ms : List ℕ) → count_of (suc n) (cond b (0 ∷ ms) ms) ≡ count_of (suc n) ms
+later_counted_by true n ms =
+    let e : nat_eq 0 (suc n) ≡ false = apart_by (nat_eq 0 (suc n)) 0 (suc n) refl (λ h. omega arith) in
+    counted (suc n) 0 ms ∙ rw e (omega arith)
+later_counted_by false n ms = refl
+
+-- a place is there once if what stands there passes, else not at all
+count-places : {X : Type 0} (n : ℕ) (passes : X → Bool) (xs : List X) → count_of n (places_from 0 passes xs) ≡ cond (is_passed passes (slice_get xs n)) 1 0
+count-places n passes [] = refl
+count-places zero passes (x ∷ xs) = first_counted_by (passes x) (places_from 1 passes xs) (rw (places_from-suc 0 passes xs) (zero_counted (places_from 0 passes xs)))
+count-places (suc n) passes (x ∷ xs) =
+    later_counted_by (passes x) n (places_from 1 passes xs) ∙ ap (λ (is : List ℕ). count_of (suc n) is) (places_from-suc 0 passes xs) ∙ count-suc n (places_from 0 passes xs) ∙ count-places n passes xs
+
+-- what stands at a place that there is passes, where all do
+all_passed_at : {X : Type 0} (passes : X → Bool) → ((x : X) → passes x ≡ true) → (xs : List X) (n : ℕ) → n < length xs → is_passed passes (slice_get xs n) ≡ true
+all_passed_at passes h [] n l = absurd (omega arith)
+all_passed_at passes h (x ∷ xs) zero l = h x
+all_passed_at passes h (x ∷ xs) (suc n) l = all_passed_at passes h xs n (omega arith)
+
+-- ---- what is among joined lists
+
+or_assoc : (a b c : Bool) → (a || (b || c)) ≡ ((a || b) || c)
+or_assoc true b c = refl
+or_assoc false b c = refl
+
+pub among-append : (n : ℕ) (ms ns : List ℕ) → is_among n (ms ++ ns) ≡ (is_among n ms || is_among n ns)
+among-append n [] ns = refl
+among-append n (m ∷ ms) ns = ap (λ (b : Bool). nat_eq n m || b) (among-append n ms ns) ∙ or_assoc (nat_eq n m) (is_among n ms) (is_among n ns)
+
+pub or_true : (b : Bool) → (b || true) ≡ true
+or_true true = refl
+or_true false = refl
+
+pub or_false : (b : Bool) → b ≡ (b || false)
+or_false true = refl
+or_false false = refl
+
+pub one_of_two : (a b : Bool) → (a || b) ≡ true → (a ≡ true) ⊎ (b ≡ true)
+one_of_two true b h = inl refl
+one_of_two false b h = inr h
+
+both_counted : (a b c : Bool) → c ≡ (a || b) → (a ≡ true → b ≡ false) → cond a 1 0 + cond b 1 0 ≡ cond c 1 0
+both_counted true true c e d = absurd (let f = d refl in cc)
+both_counted true false c e d = rw e refl
+both_counted false true c e d = rw e refl
+both_counted false false c e d = rw e refl
 
 -- ---- ranges side by side
 
@@ -192,32 +242,31 @@ first_page : {V : Type 0} (p : Placed V) (ps : List (Placed V)) → next_low (p 
 first_page p ps h = cc
 
 module _ {A : Type 0} where
-  pub goes_by_key : (low : List ℕ) (end : Option (List ℕ)) (c : Command A) → goes_to low end c ≡ is_within low end (key_of c)
-  goes_by_key low end (Get k) = refl
-  goes_by_key low end (Put k v) = refl
-  goes_by_key low end (Add k v) = refl
-  goes_by_key low end (Del k) = refl
+  -- a command goes to the pages that it begins in, or reaches
+  pub goes_as : (low : List ℕ) (end : Option (List ℕ)) (c : Command A) → goes_to low end c ≡ (begins_in low end c || reaches low c)
+  goes_as low end (Get k) = or_false (is_within low end k)
+  goes_as low end (Put k v) = or_false (is_within low end k)
+  goes_as low end (Add k v) = or_false (is_within low end k)
+  goes_as low end (Del k) = or_false (is_within low end k)
+  goes_as low end (Scan lo hi limit) = refl
 
-  pub all_places : (cs : List (Command A)) → places_within [] None cs ≡ places_below (length cs)
-  all_places cs = places_from-all 0 (goes_to [] None) cs (λ c. goes_by_key [] None c ∙ within_all (key_of c))
+  -- one that is no scan goes by its key alone
+  pub goes_by_key : (low : List ℕ) (end : Option (List ℕ)) (c : Command A) → is_scan c ≡ false → goes_to low end c ≡ is_within low end (key_of c)
+  goes_by_key low end (Get k) s = refl
+  goes_by_key low end (Put k v) s = refl
+  goes_by_key low end (Add k v) s = refl
+  goes_by_key low end (Del k) s = refl
+  goes_by_key low end (Scan lo hi limit) s = absurd (cc)
 
-  -- the places of two ranges side by side are those of both together
-  pub places_parted : (low mid : List ℕ) (end : Option (List ℕ)) (cs : List (Command A)) → order low mid ≡ Less → IsBefore end mid
-      → IsPermutation (places_within low end cs) (places_within low (Some mid) cs ++ places_within mid end cs)
-  places_parted low mid end cs l m =
-      places_from-parted (goes_to low end) (goes_to low (Some mid)) (goes_to mid end)
-      (λ c. rw (goes_by_key low end c, goes_by_key low (Some mid) c, goes_by_key mid end c) (within_parts low mid end (key_of c) l m))
-      (λ c h. rw (goes_by_key mid end c) (within_one low mid end (key_of c) (sym (goes_by_key low (Some mid) c) ∙ h))) 0 cs
+  -- all commands begin in the range of all keys
+  pub all_places : (cs : List (Command A)) → places_from 0 (begins_in [] None) cs ≡ places_below (length cs)
+  all_places cs = places_from-all 0 (begins_in [] None) cs (λ c. within_all (key_of c))
 
-  own_by : (low : List ℕ) (end : Option (List ℕ)) (o : Option (Command A)) → is_passed (goes_to low end) o ≡ true → is_within low end (key_or_empty o) ≡ true
-  own_by low end None h = absurd (cc)
-  own_by low end (Some c) h = sym (goes_by_key low end c) ∙ h
-
-  -- each place is of a command whose key lies in the range
-  pub own_places : (low : List ℕ) (end : Option (List ℕ)) (cs : List (Command A)) → AllByRecursion (λ place. is_within low end (key_at cs place) ≡ true) (places_within low end cs)
+  -- each place is of a command that goes to the page
+  pub own_places : (low : List ℕ) (end : Option (List ℕ)) (cs : List (Command A)) → AllByRecursion (λ place. goes_at cs low end place ≡ true) (places_within low end cs)
   own_places low end cs =
       let ns = places_within low end cs in
-      all_weaker (λ n. is_among n ns ≡ true) (λ n. is_within low end (key_at cs n) ≡ true) (λ n h. own_by low end (slice_get cs n) (sym (among-places n (goes_to low end) cs) ∙ h)) ns (all_among ns)
+      all_weaker (λ n. is_among n ns ≡ true) (λ n. goes_at cs low end n ≡ true) (λ n h. sym (among-places n (goes_to low end) cs) ∙ h) ns (all_among ns)
 
   -- ---- the routes of a level
 
@@ -235,7 +284,7 @@ module _ {A : Type 0} where
       → (let r : Route = record { pid = at.pid; places = ns } in AreRoutesTo cs (at ∷ ats) (cond (has_places r) (r ∷ rs) rs))
   route_by cs at ats rs [] e a = left_out at a
   route_by cs at ats rs (n ∷ ns) e a =
-      let Own : List ℕ → Type 0 = λ is. AllByRecursion (λ place. is_within at.low at.end (key_at cs place) ≡ true) is in
+      let Own : List ℕ → Type 0 = λ is. AllByRecursion (λ place. goes_at cs at.low at.end place ≡ true) is in
       next at (record { pid = at.pid; places = n ∷ ns }) (record {
         pid = refl;
         some = omega arith;
@@ -249,31 +298,89 @@ module _ {A : Type 0} where
   kept-routes cs [] = none
   kept-routes cs (at ∷ ats) = route_by cs at ats (kept cs ats) (places_within at.low at.end cs) refl (kept-routes cs ats)
 
+  -- their places are below the number of commands
+  below-kept : (cs : List (Command A)) (ats : List Place) → AllByRecursion (λ n. n < length cs) (all_kept cs ats)
+  below-kept cs [] = tt
+  below-kept cs (at ∷ ats) =
+      subst (λ (is : List ℕ). AllByRecursion (λ n. n < length cs) is) (sym (all_kept-cons cs at ats))
+      (all-append (λ n. n < length cs) (places_within at.low at.end cs) (all_kept cs ats) (below-places_from (length cs) 0 (goes_to at.low at.end) cs (omega arith)) (below-kept cs ats))
+
+  among_kept-cons : (cs : List (Command A)) (n : ℕ) (at : Place) (ats : List Place) → is_among n (all_kept cs (at ∷ ats)) ≡ (goes_at cs at.low at.end n || is_among n (all_kept cs ats))
+  among_kept-cons cs n at ats =
+      ap (λ (is : List ℕ). is_among n is) (all_kept-cons cs at ats)
+      ∙ among-append n (places_within at.low at.end cs) (all_kept cs ats)
+      ∙ ap (λ (b : Bool). b || is_among n (all_kept cs ats)) (among-places n (goes_to at.low at.end) cs)
+
+  count_kept-cons : (cs : List (Command A)) (n : ℕ) (at : Place) (ats : List Place) → count_of n (all_kept cs (at ∷ ats)) ≡ cond (goes_at cs at.low at.end n) 1 0 + count_of n (all_kept cs ats)
+  count_kept-cons cs n at ats =
+      ap (λ (is : List ℕ). count_of n is) (all_kept-cons cs at ats)
+      ∙ sum_by-append (λ m. cond (nat_eq m n) 1 0) (places_within at.low at.end cs) (all_kept cs ats)
+      ∙ ap (λ (m : ℕ). m + count_of n (all_kept cs ats)) (count-places n (goes_to at.low at.end) cs)
+
+  goes_where_begun : (low : List ℕ) (end : Option (List ℕ)) (o : Option (Command A)) → is_passed (begins_in low end) o ≡ true → is_passed (goes_to low end) o ≡ true
+  goes_where_begun low end None h = absurd (cc)
+  goes_where_begun low end (Some c) h = goes_as low end c ∙ rw h refl
+
+  begun_apart : (low mid : List ℕ) (end : Option (List ℕ)) (o : Option (Command A)) → order low mid ≡ Less → IsBefore end mid → is_passed (begins_in low end) o ≡ true
+      → (is_passed (begins_in low (Some mid)) o ≡ true) ⊎ (is_passed (begins_in mid end) o ≡ true)
+  begun_apart low mid end None l m h = absurd (cc)
+  begun_apart low mid end (Some c) l m h =
+      one_of_two (is_within low (Some mid) (key_of c)) (is_within mid end (key_of c)) (sym (within_parts low mid end (key_of c) l m) ∙ h)
+
+  point_goes_by : (low : List ℕ) (end : Option (List ℕ)) (o : Option (Command A)) → is_passed is_scan o ≡ false → is_passed (goes_to low end) o ≡ is_passed (begins_in low end) o
+  point_goes_by low end None s = refl
+  point_goes_by low end (Some c) s = goes_by_key low end c s
+
+  begun_counted : (low mid : List ℕ) (end : Option (List ℕ)) (o : Option (Command A)) → order low mid ≡ Less → IsBefore end mid
+      → cond (is_passed (begins_in low (Some mid)) o) 1 0 + cond (is_passed (begins_in mid end) o) 1 0 ≡ cond (is_passed (begins_in low end) o) 1 0
+  begun_counted low mid end None l m = refl
+  begun_counted low mid end (Some c) l m =
+      both_counted (is_within low (Some mid) (key_of c)) (is_within mid end (key_of c)) (is_within low end (key_of c)) (within_parts low mid end (key_of c) l m) (within_one low mid end (key_of c))
+
   module _ {V : Type 0} where
     pub routes-in_order : (level : List (Placed V)) (cs : List (Command A)) → AreRoutesTo cs (ranges level) (routes level cs)
     routes-in_order level cs = kept-routes cs (ranges level)
 
-    -- of pages that tile a range, the routes have the places of the commands that go to this range
-    pub all_kept-tiled : (cs : List (Command A)) (p : Placed V) (ps : List (Placed V)) (end : Option (List ℕ)) → Tiled (p ∷ ps) end
-        → IsPermutation (places_within p.page.low end cs) (all_kept cs (children (names (p ∷ ps)) end))
-    all_kept-tiled cs p [] end h =
-        let at : Place = record { pid = p.pid; low = p.page.low; end = end } in
-        let own = places_within p.page.low end cs in
-        let e : all_kept cs (at ∷ []) ≡ own = all_kept-cons cs at [] ∙ append-nil own in
-        subst (λ (is : List ℕ). IsPermutation own is) (sym e) (IsPermutation-refl own)
-    all_kept-tiled cs p (q ∷ qs) end h =
-        let at : Place = record { pid = p.pid; low = p.page.low; end = Some q.page.low } in
-        let whole = places_within p.page.low end cs in
-        let here = places_within p.page.low (Some q.page.low) cs in
-        let later = places_within q.page.low end cs in
-        let rest = children (names (q ∷ qs)) end in
-        let two : IsPermutation whole (here ++ later) = places_parted p.page.low q.page.low end cs h.0.low (low_is_before q qs end h.1) in
-        let more : IsPermutation (here ++ later) (here ++ all_kept cs rest) = IsPermutation-append_right here later (all_kept cs rest) (all_kept-tiled cs q qs end h.1) in
-        subst (λ (is : List ℕ). IsPermutation whole is) (sym (all_kept-cons cs at rest)) (IsPermutation-trans whole (here ++ later) (here ++ all_kept cs rest) two more)
+    pub routes-within : (level : List (Placed V)) (cs : List (Command A)) → AllByRecursion (λ place. place < length cs) (flat_map (λ r. r.places) (routes level cs))
+    routes-within level cs = below-kept cs (ranges level)
 
-    -- of pages that tile all keys, the routes have each place once
-    pub routes-once : (level : List (Placed V)) (cs : List (Command A)) → next_low level None ≡ Some [] → Tiled level None → IsPermutation (places_below (length cs)) (flat_map (λ r. r.places) (routes level cs))
-    routes-once [] cs f h = absurd (cc)
-    routes-once (p ∷ ps) cs f h =
-        let all = flat_map (λ (r : Route). r.places) (routes (p ∷ ps) cs) in
-        subst (λ (is : List ℕ). IsPermutation is all) (ap (λ (k : List ℕ). places_within k None cs) (first_page p ps f) ∙ all_places cs) (all_kept-tiled cs p ps None h)
+    -- of pages that tile a range, the routes have each place whose command begins in the range
+    some-tiled : (cs : List (Command A)) (n : ℕ) (p : Placed V) (ps : List (Placed V)) (end : Option (List ℕ)) → Tiled (p ∷ ps) end → is_passed (begins_in p.page.low end) (slice_get cs n) ≡ true
+        → is_among n (all_kept cs (children (names (p ∷ ps)) end)) ≡ true
+    some-tiled cs n p [] end h b =
+        let at : Place = record { pid = p.pid; low = p.page.low; end = end } in
+        among_kept-cons cs n at [] ∙ rw (goes_where_begun p.page.low end (slice_get cs n) b) refl
+    some-tiled cs n p (q ∷ qs) end h b =
+        let at : Place = record { pid = p.pid; low = p.page.low; end = Some q.page.low } in
+        let rest = children (names (q ∷ qs)) end in
+        among_kept-cons cs n at rest
+        ∙ elim (begun_apart p.page.low q.page.low end (slice_get cs n) h.0.low (low_is_before q qs end h.1) b) [
+          | inl here ↦ (rw (goes_where_begun p.page.low (Some q.page.low) (slice_get cs n) here) refl)
+          | inr later ↦ (rw (some-tiled cs n q qs end h.1 later) (or_true (goes_at cs p.page.low (Some q.page.low) n)))
+        ]
+
+    -- of pages that tile all keys, they have each place
+    pub routes-some : (level : List (Placed V)) (cs : List (Command A)) (place : ℕ) → next_low level None ≡ Some [] → Tiled level None → place < length cs → is_among place (flat_map (λ r. r.places) (routes level cs)) ≡ true
+    routes-some [] cs n f h l = absurd (cc)
+    routes-some (p ∷ ps) cs n f h l =
+        some-tiled cs n p ps None h (ap (λ (k : List ℕ). is_passed (begins_in k None) (slice_get cs n)) (first_page p ps f) ∙ all_passed_at (begins_in [] None) (λ c. within_all (key_of c)) cs n l)
+
+    -- of pages that tile a range, the routes have a place just once whose command is no scan and begins in the range
+    once-tiled : (cs : List (Command A)) (n : ℕ) (p : Placed V) (ps : List (Placed V)) (end : Option (List ℕ)) → Tiled (p ∷ ps) end → is_passed is_scan (slice_get cs n) ≡ false
+        → count_of n (all_kept cs (children (names (p ∷ ps)) end)) ≡ cond (is_passed (begins_in p.page.low end) (slice_get cs n)) 1 0
+    once-tiled cs n p [] end h s =
+        let at : Place = record { pid = p.pid; low = p.page.low; end = end } in
+        count_kept-cons cs n at [] ∙ rw (point_goes_by p.page.low end (slice_get cs n) s) (omega arith)
+    once-tiled cs n p (q ∷ qs) end h s =
+        let at : Place = record { pid = p.pid; low = p.page.low; end = Some q.page.low } in
+        let rest = children (names (q ∷ qs)) end in
+        count_kept-cons cs n at rest
+        ∙ rw (point_goes_by p.page.low (Some q.page.low) (slice_get cs n) s, once-tiled cs n q qs end h.1 s) (begun_counted p.page.low q.page.low end (slice_get cs n) h.0.low (low_is_before q qs end h.1))
+
+    -- of pages that tile all keys, they have each such place once
+    pub routes-once : (level : List (Placed V)) (cs : List (Command A)) (place : ℕ) → next_low level None ≡ Some [] → Tiled level None → place < length cs → is_passed is_scan (slice_get cs place) ≡ false
+        → count_by (λ other. nat_eq other place) (flat_map (λ r. r.places) (routes level cs)) ≡ 1
+    routes-once [] cs n f h l s = absurd (cc)
+    routes-once (p ∷ ps) cs n f h l s =
+        once-tiled cs n p ps None h s
+        ∙ ap (λ (b : Bool). cond b 1 0) (ap (λ (k : List ℕ). is_passed (begins_in k None) (slice_get cs n)) (first_page p ps f) ∙ all_passed_at (begins_in [] None) (λ c. within_all (key_of c)) cs n l)

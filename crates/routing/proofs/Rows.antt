@@ -1,9 +1,9 @@
 -- Which commands go to which page: examples.
-use Rattle.std.specs.Prelude.{◌≡◌, ℕ, List, [], ◌∷◌}
+use Rattle.std.specs.Prelude.{◌≡◌, ℕ, List, [], ◌∷◌, Some, None}
 use Rattle.std.proofs.Common.{refl}
 use Rattle.std.specs.declared.alloc.Global.{Global}
 use Rattle.keys.specs.declared.command.Command.{Command}
-use Rattle.keys.specs.declared.command.Command.TheVariants.{Get, Put, Add, Del}
+use Rattle.keys.specs.declared.command.Command.TheVariants.{Get, Put, Add, Del, Scan}
 use Rattle.index_page.specs.Page.{bare}
 use Rattle.mapping.specs.Levels.{Placed}
 use Rattle.routing.specs.Routes.{Route, routes}
@@ -44,3 +44,31 @@ outer_leaves = refl
 -- one leaf has them all
 one_leaf : routes (leaf 0 [] ∷ []) batch ≡ to 0 (0 ∷ 1 ∷ 2 ∷ 3 ∷ 4 ∷ 5 ∷ 6 ∷ []) ∷ []
 one_leaf = refl
+
+-- scans over four leaves, which begin at the empty key, at c, at f and at j
+abbrev c : List ℕ
+c = 99 ∷ []
+
+abbrev d : List ℕ
+d = 100 ∷ []
+
+abbrev f : List ℕ
+f = 102 ∷ []
+
+abbrev j : List ℕ
+j = 106 ∷ []
+
+abbrev four : List (Placed (List ℕ))
+four = leaf 7 [] ∷ leaf 2 c ∷ leaf 5 f ∷ leaf 9 j ∷ []
+
+-- a scan goes to the leaf of its lower bound, and to each whose low key lies behind that and below the upper bound: d to f ends where a leaf begins,
+-- and doesn't reach it; where the upper bound is no greater than the lower one, it goes to one leaf, and once
+abbrev scans : Commands
+scans = Scan (97 ∷ []) None 10 ∷ Scan d (Some f) 10 ∷ Scan d (Some (103 ∷ [])) 10 ∷ Scan d (Some (98 ∷ [])) 10 ∷ Scan f (Some f) 10 ∷ Scan [] (Some j) 10 ∷ Scan (107 ∷ []) None 0 ∷ Put c (49 ∷ []) ∷ Scan c (Some (106 ∷ 0 ∷ [])) 1 ∷ []
+
+scans_go : routes four scans ≡ to 7 (0 ∷ 5 ∷ []) ∷ to 2 (0 ∷ 1 ∷ 2 ∷ 3 ∷ 5 ∷ 7 ∷ 8 ∷ []) ∷ to 5 (0 ∷ 2 ∷ 4 ∷ 5 ∷ 8 ∷ []) ∷ to 9 (0 ∷ 6 ∷ 8 ∷ []) ∷ []
+scans_go = refl
+
+-- a leaf may be met by a scan alone
+one_scan : routes {A = Global} four (Scan [] None 1 ∷ []) ≡ to 7 (0 ∷ []) ∷ to 2 (0 ∷ []) ∷ to 5 (0 ∷ []) ∷ to 9 (0 ∷ []) ∷ []
+one_scan = refl

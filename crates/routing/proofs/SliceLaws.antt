@@ -1,13 +1,14 @@
 -- Lemmas on the sorted places of a range, for the proofs of this crate and of those above it.
-use Rattle.std.specs.Prelude.{◌≡◌, ℕ, zero, suc, ◌+◌, ◌-◌, ◌<◌, ◌≤◌, Bool, true, false, not, ◌&&◌, ◌||◌, List, [], ◌∷◌, ◌++◌, length, take, drop, slice_get, nat_eq, Option, Some, None}
+use Rattle.std.specs.Prelude.{◌≡◌, ℕ, zero, suc, ◌+◌, ◌-◌, ◌<◌, ◌≤◌, Bool, true, false, not, ◌&&◌, ◌||◌, cond, List, [], ◌∷◌, ◌++◌, length, take, drop, slice_get, nat_eq, Option, Some, None}
 use Rattle.std.proofs.Common.{refl, sym, ap, ◌∙◌, subst, get_or, arith, inl, inr, Ordering, Less, Equal, Greater, eqb-true, length-drop}
 use Rattle.std.specs.Ordering.{nat_cmp, ordering_then}
-use Rattle.std.specs.List.{AllByRecursion, IsDistinct, slice_range}
+use Rattle.std.specs.List.{AllByRecursion, IsDistinct, filter, slice_range}
 use Rattle.std.specs.List.Sorted.{IsPermutation, IsSorted, IsStrictlySortedBy, IsStrictlyIncreasing, IsNonDecreasing, IsPartitionedBy, IsPartitionPoint}
 use Rattle.std.proofs.lemmas.Cmp.{nat_cmp_total, tied_itself, nat_eq_equiv}
-use Rattle.std.proofs.lemmas.Bool.{cases_lt}
+use Rattle.std.proofs.lemmas.Bool.{cases_lt, and_parts}
 use Rattle.std.proofs.lemmas.List.{take-append-drop, get_or_default, get_or-take, get_or-drop, length-take}
 use Rattle.std.proofs.lemmas.List.Elements.{recursion_from_All}
+use Rattle.std.proofs.lemmas.List.Kept.{IsStrictlySortedBy-filter}
 use Rattle.std.proofs.lemmas.List.Folds.{drop_split}
 use Rattle.std.proofs.lemmas.List.Sorted.{IsNonDecreasingBy-from_sort}
 use Rattle.std.proofs.lemmas.Map.Keys.{IsDistinct-IsPermutation, IsStrictlyIncreasing-from_distinct, sorted_from_strictly_increasing, Less-from_sorted}
@@ -15,15 +16,18 @@ use Rattle.keys.specs.Order.{order}
 use Rattle.keys.proofs.MapLaws.{total}
 use Rattle.keys.specs.CommandKey.{key_of}
 use Rattle.keys.specs.declared.command.Command.{Command}
+use Rattle.keys.specs.declared.command.Command.TheVariants.{Get, Put, Add, Del, Scan}
 use Rattle.index_page.specs.Range.{is_below, is_before, is_within, IsBefore}
-use Rattle.index_page.proofs.ListLaws.{all-append}
-use Rattle.index_page.proofs.RangeLaws.{below_is_less}
+use Rattle.index_page.proofs.ListLaws.{all-append, all_weaker}
+use Rattle.index_page.proofs.RangeLaws.{below_is_less, less_is_below, less_through}
+use Rattle.index_page.proofs.ChildLaws.{within_parts as parts_within}
+use Rattle.mapping.proofs.PidLaws.{all_among}
 use Rattle.mapping.specs.FreshPids.{is_among}
-use Rattle.routing.specs.BatchKeys.{key_at}
+use Rattle.routing.specs.BatchKeys.{key_or_empty, key_at}
 use Rattle.routing.specs.Places.{places_below}
-use Rattle.routing.specs.Routes.{goes_to, places_within}
-use Rattle.routing.specs.SortedPlaces.{order_of_places, AreInKeyOrder, AreSortedPlaces, AreSortedWithin}
-use Rattle.routing.proofs.RouteLaws.{is_passed, among-places, goes_by_key, all_places, within_parts, rising-places_from}
+use Rattle.routing.specs.Routes.{goes_to, is_passed, places_from, places_within}
+use Rattle.routing.specs.SortedPlaces.{order_of_places, AreInKeyOrder, AreSortedPlaces, begins_in, reaches, reaches_at, AreSortedWithin, AreSortedReaching}
+use Rattle.routing.proofs.RouteLaws.{among-places, goes_as, all_places, within_parts, rising-places_from, among-append}
 use Rattle.routing.proofs.SortLaws.{total_places, holds_among, among-permutation, same_sorted, same_number}
 
 -- numbers of which none stands twice rise strictly, once they are put in order
@@ -60,13 +64,25 @@ module _ {X : Type 0} (R : X → X → Ordering) where
   sorted_drop (suc n) [] s = tt
   sorted_drop (suc n) (x ∷ xs) s = sorted_drop n xs s.1
 
-or_assoc : (a b c : Bool) → (a || (b || c)) ≡ ((a || b) || c)
-or_assoc true b c = refl
-or_assoc false b c = refl
+-- ---- what is among a filtered list
 
-among-append : (n : ℕ) (ms ns : List ℕ) → is_among n (ms ++ ns) ≡ (is_among n ms || is_among n ns)
-among-append n [] ns = refl
-among-append n (m ∷ ms) ns = ap (λ (b : Bool). nat_eq n m || b) (among-append n ms ns) ∙ or_assoc (nat_eq n m) (is_among n ms) (is_among n ns)
+among_by : (b c : Bool) (f : ℕ → Bool) (n m : ℕ) (ms : List ℕ) → nat_eq n m ≡ b → f m ≡ c → is_among n (filter f ms) ≡ (is_among n ms && f n) → is_among n (cond c (m ∷ filter f ms) (filter f ms)) ≡ ((b || is_among n ms) && f n)
+among_by true true f n m ms e g ih =
+    let own : f n ≡ true = ap (λ (i : ℕ). f i) (eqb-true n m e) ∙ g in
+    rw (e, own) refl
+among_by true false f n m ms e g ih =
+    let own : f n ≡ false = ap (λ (i : ℕ). f i) (eqb-true n m e) ∙ g in
+    ih ∙ (rw own (and_false (is_among n ms)))
+  where
+    and_false : (b : Bool) → (b && false) ≡ false
+    and_false true = refl
+    and_false false = refl
+among_by false true f n m ms e g ih = rw e ih
+among_by false false f n m ms e g ih = ih
+
+pub among-filter : (f : ℕ → Bool) (n : ℕ) (ms : List ℕ) → is_among n (filter f ms) ≡ (is_among n ms && f n)
+among-filter f n [] = refl
+among-filter f n (m ∷ ms) = among_by (nat_eq n m) (f m) f n m ms refl refl (among-filter f n ms)
 
 -- ---- the sorted places of a range, at a key
 
@@ -94,6 +110,30 @@ neither : (s t : Bool) → (s || t) ≡ false → (s ≡ false) × (t ≡ false)
 neither true t h = absurd (cc)
 neither false t h = (refl, h)
 
+or_turned : (a b : Bool) → (a || b) ≡ (b || a)
+or_turned true true = refl
+or_turned true false = refl
+or_turned false true = refl
+or_turned false false = refl
+
+onward_by : (a b c d e : Bool) → (e ≡ true → d ≡ true) → (((a && d) || (not a && b)) && (b && e)) ≡ (b && e)
+onward_by true true c true true f = refl
+onward_by true true c true false f = refl
+onward_by true true c false true f = absurd (let h = f refl in cc)
+onward_by true true c false false f = refl
+onward_by true false c true e f = refl
+onward_by true false c false e f = refl
+onward_by false true c d e f = refl
+onward_by false false c d e f = refl
+
+before_earlier : (hi : Option (List ℕ)) (low mid : List ℕ) → order low mid ≡ Less → is_before hi mid ≡ true → is_before hi low ≡ true
+before_earlier None low mid l h = refl
+before_earlier (Some hi) low mid l h = less_is_below low hi (total.trans low mid hi l (below_is_less mid hi h))
+
+pub none_pass : (b : Bool) → (b && false) ≡ false
+none_pass true = refl
+none_pass false = refl
+
 module _ {A : Type 0} (cs : List (Command A)) where
   -- the key of the place is below this one
   abbrev pub IsBelowKey : List ℕ → ℕ → Type 0
@@ -103,31 +143,30 @@ module _ {A : Type 0} (cs : List (Command A)) where
   IsFromKey k place = is_below (key_at cs place) k ≡ false
 
   parts_by : (o : Option (Command A)) (low mid : List ℕ) (end : Option (List ℕ)) (n : ℕ) (ms ns : List ℕ) → slice_get cs n ≡ o → order low mid ≡ Less → IsBefore end mid
-      → AllByRecursion (IsBelowKey mid) ms → AllByRecursion (IsFromKey mid) ns → (is_among n ms || is_among n ns) ≡ is_passed (goes_to low end) o
-      → (is_among n ms ≡ is_passed (goes_to low (Some mid)) o) × (is_among n ns ≡ is_passed (goes_to mid end) o)
+      → AllByRecursion (IsBelowKey mid) ms → AllByRecursion (IsFromKey mid) ns → (is_among n ms || is_among n ns) ≡ is_passed (begins_in low end) o
+      → (is_among n ms ≡ is_passed (begins_in low (Some mid)) o) × (is_among n ns ≡ is_passed (begins_in mid end) o)
   parts_by None low mid end n ms ns p l m a b e = neither (is_among n ms) (is_among n ns) e
   parts_by (Some c) low mid end n ms ns p l m a b e =
       let k = key_of c in
       let at : key_at cs n ≡ k = rw p refl in
-      let whole : (is_among n ms || is_among n ns) ≡ (is_within low (Some mid) k || is_within mid end k) = e ∙ goes_by_key low end c ∙ within_parts low mid end k l m in
-      let two = sides_by (is_below k mid) (is_among n ms) (is_among n ns) (is_within low (Some mid) k) (is_within mid end k)
+      let whole : (is_among n ms || is_among n ns) ≡ (is_within low (Some mid) k || is_within mid end k) = e ∙ within_parts low mid end k l m in
+      sides_by (is_below k mid) (is_among n ms) (is_among n ns) (is_within low (Some mid) k) (is_within mid end k)
       (λ h. rw at at (holds_among (IsBelowKey mid) n ms a h)) (λ h. rw at at (holds_among (IsFromKey mid) n ns b h))
-      (within_below_by (is_below k low) (is_below k mid)) (within_from_by (is_below k mid) (is_before end k)) whole in
-      (two.0 ∙ sym (goes_by_key low (Some mid) c), two.1 ∙ sym (goes_by_key mid end c))
+      (within_below_by (is_below k low) (is_below k mid)) (within_from_by (is_below k mid) (is_before end k)) whole
 
   -- the sorted places of a range, parted at a key in it, are those of the ranges on either side
   pub parted_at : (low mid : List ℕ) (end : Option (List ℕ)) (ps : List ℕ) (n : ℕ) → AreSortedWithin low end cs ps → order low mid ≡ Less → IsBefore end mid
       → AllByRecursion (IsBelowKey mid) (take n ps) → AllByRecursion (IsFromKey mid) (drop n ps)
       → AreSortedWithin low (Some mid) cs (take n ps) × AreSortedWithin mid end cs (drop n ps)
   parted_at low mid end ps n h l m a b =
-      let joined = λ (i : ℕ). sym (among-append i (take n ps) (drop n ps)) ∙ ap (λ (is : List ℕ). is_among i is) (take-append-drop n ps) ∙ h.own i ∙ among-places i (goes_to low end) cs in
+      let joined = λ (i : ℕ). sym (among-append i (take n ps) (drop n ps)) ∙ ap (λ (is : List ℕ). is_among i is) (take-append-drop n ps) ∙ h.own i ∙ among-places i (begins_in low end) cs in
       let each = λ (i : ℕ). parts_by (slice_get cs i) low mid end i (take n ps) (drop n ps) refl l m a b (joined i) in (
         record {
-          own = λ i. (each i).0 ∙ sym (among-places i (goes_to low (Some mid)) cs);
+          own = λ i. (each i).0 ∙ sym (among-places i (begins_in low (Some mid)) cs);
           in_order = sorted_take (order_of_places cs) n ps h.in_order;
         },
         record {
-          own = λ i. (each i).1 ∙ sym (among-places i (goes_to mid end) cs);
+          own = λ i. (each i).1 ∙ sym (among-places i (begins_in mid end) cs);
           in_order = sorted_drop (order_of_places cs) n ps h.in_order;
         },
       )
@@ -155,11 +194,98 @@ module _ {A : Type 0} (cs : List (Command A)) where
   distinct [] h = tt
   distinct (p ∷ ps) h = (apart p ps h.0, distinct ps h.1)
 
-  -- the sorted places of a range, in the order of the batch, are its places
-  pub in_batch_order : (low : List ℕ) (end : Option (List ℕ)) (ps qs : List ℕ) → AreSortedWithin low end cs ps → IsPermutation ps qs → IsNonDecreasing qs → qs ≡ places_within low end cs
-  in_batch_order low end ps qs h p s =
-      let rising = sorted_from_strictly_increasing qs (rising_once_sorted ps qs (distinct ps h.in_order) p s) in
-      same_sorted nat_cmp nat_cmp_total same_number qs (places_within low end cs) (λ i. sym (among-permutation i ps qs p) ∙ h.own i) rising (rising-places_from 0 (goes_to low end) cs)
+  -- ---- what begins in a page, and what reaches it
+
+  -- a scan that reaches a page begins below its low key
+  reaching_below_by : (low : List ℕ) (o : Option (Command A)) → is_passed (reaches low) o ≡ true → is_below (key_or_empty o) low ≡ true
+  reaching_below_by low None h = absurd (cc)
+  reaching_below_by low (Some (Get k)) h = absurd (cc)
+  reaching_below_by low (Some (Put k v)) h = absurd (cc)
+  reaching_below_by low (Some (Add k v)) h = absurd (cc)
+  reaching_below_by low (Some (Del k)) h = absurd (cc)
+  reaching_below_by low (Some (Scan lo hi limit)) h = (and_parts (is_below lo low) (is_before hi low) h).0
+
+  pub reaching_below : (low : List ℕ) (place : ℕ) → reaches_at cs low place ≡ true → IsBelowKey low place
+  reaching_below low place h = reaching_below_by low (slice_get cs place) h
+
+  begun_from_by : (low : List ℕ) (end : Option (List ℕ)) (o : Option (Command A)) → is_passed (begins_in low end) o ≡ true → is_below (key_or_empty o) low ≡ false
+  begun_from_by low end None h = absurd (cc)
+  begun_from_by low end (Some c) h = (parts_within low end (key_of c) h).0
+
+  -- what passes is all that is there
+  only_passed : (passes : Command A → Bool) (P : ℕ → Type 0) → ((n : ℕ) → is_passed passes (slice_get cs n) ≡ true → P n) → (ps : List ℕ) → ((n : ℕ) → is_among n ps ≡ is_among n (places_from 0 passes cs)) → AllByRecursion P ps
+  only_passed passes P f ps own = all_weaker (λ n. is_among n ps ≡ true) P (λ n h. f n (sym (among-places n passes cs) ∙ sym (own n) ∙ h)) ps (all_among ps)
+
+  pub all_reaching_below : (low : List ℕ) (rs : List ℕ) → AreSortedReaching low cs rs → AllByRecursion (IsBelowKey low) rs
+  all_reaching_below low rs h = only_passed (reaches low) (IsBelowKey low) (reaching_below low) rs h.own
+
+  pub all_begun_from : (low : List ℕ) (end : Option (List ℕ)) (ps : List ℕ) → AreSortedWithin low end cs ps → AllByRecursion (IsFromKey low) ps
+  all_begun_from low end ps h = only_passed (begins_in low end) (IsFromKey low) (λ n. begun_from_by low end (slice_get cs n)) ps h.own
+
+  before_all : (low : List ℕ) (r : ℕ) (ps : List ℕ) → IsBelowKey low r → AllByRecursion (IsFromKey low) ps → AllByRecursion (λ p. order_of_places cs r p ≡ Less) ps
+  before_all low r [] h a = tt
+  before_all low r (p ∷ ps) h a = (rw (less_through (key_at cs r) (key_at cs p) low h a.0) refl, before_all low r ps h a.1)
+
+  -- places below a key and places from it on stand in order together
+  pub in_order-append : (low : List ℕ) (rs ps : List ℕ) → AllByRecursion (IsBelowKey low) rs → AllByRecursion (IsFromKey low) ps → AreInKeyOrder cs rs → AreInKeyOrder cs ps → AreInKeyOrder cs (rs ++ ps)
+  unfolding IsStrictlySortedBy
+  in_order-append low [] ps a b s t = t
+  in_order-append low (r ∷ rs) ps a b s t =
+      (all-append (λ p. order_of_places cs r p ≡ Less) rs ps s.0 (before_all low r ps a.0 b), in_order-append low rs ps a.1 b s.1 t)
+
+  both_go : (low : List ℕ) (end : Option (List ℕ)) (o : Option (Command A)) → (is_passed (reaches low) o || is_passed (begins_in low end) o) ≡ is_passed (goes_to low end) o
+  both_go low end None = refl
+  both_go low end (Some c) = or_turned (reaches low c) (begins_in low end c) ∙ sym (goes_as low end c)
+
+  -- what is among those that reach a page and those that begin in it
+  pub among_both : (low : List ℕ) (end : Option (List ℕ)) (rs ps : List ℕ) → AreSortedReaching low cs rs → AreSortedWithin low end cs ps → (n : ℕ) → is_among n (rs ++ ps) ≡ is_among n (places_within low end cs)
+  among_both low end rs ps r h n =
+      among-append n rs ps
+      ∙ rw (r.own n, h.own n, among-places n (reaches low) cs, among-places n (begins_in low end) cs, among-places n (goes_to low end) cs) (both_go low end (slice_get cs n))
+
+  pub both_in_order : (low : List ℕ) (end : Option (List ℕ)) (rs ps : List ℕ) → AreSortedReaching low cs rs → AreSortedWithin low end cs ps → AreInKeyOrder cs (rs ++ ps)
+  both_in_order low end rs ps r h = in_order-append low rs ps (all_reaching_below low rs r) (all_begun_from low end ps h) r.in_order h.in_order
+
+  -- the sorted places of a page, in the order of the batch, are its places
+  pub in_batch_order : (low : List ℕ) (end : Option (List ℕ)) (rs ps qs : List ℕ) → AreSortedReaching low cs rs → AreSortedWithin low end cs ps → IsPermutation (rs ++ ps) qs → IsNonDecreasing qs → qs ≡ places_within low end cs
+  in_batch_order low end rs ps qs r h p s =
+      let rising = sorted_from_strictly_increasing qs (rising_once_sorted (rs ++ ps) qs (distinct (rs ++ ps) (both_in_order low end rs ps r h)) p s) in
+      same_sorted nat_cmp nat_cmp_total same_number qs (places_within low end cs) (λ i. sym (among-permutation i (rs ++ ps) qs p) ∙ among_both low end rs ps r h i) rising (rising-places_from 0 (goes_to low end) cs)
+
+  -- ---- which of them go on
+
+  -- what reaches a page begins in the one before it, or reaches that
+  onward_is : (low mid : List ℕ) (o : Option (Command A)) → order low mid ≡ Less → ((is_passed (reaches low) o || is_passed (begins_in low (Some mid)) o) && is_passed (reaches mid) o) ≡ is_passed (reaches mid) o
+  onward_is low mid None l = refl
+  onward_is low mid (Some (Get k)) l = none_pass (is_within low (Some mid) k)
+  onward_is low mid (Some (Put k v)) l = none_pass (is_within low (Some mid) k)
+  onward_is low mid (Some (Add k v)) l = none_pass (is_within low (Some mid) k)
+  onward_is low mid (Some (Del k)) l = none_pass (is_within low (Some mid) k)
+  onward_is low mid (Some (Scan lo hi limit)) l = onward_by (is_below lo low) (is_below lo mid) true (is_before hi low) (is_before hi mid) (before_earlier hi low mid l)
+
+  -- of those of a page, the ones that reach the next page are all that do
+  pub onward : (low mid : List ℕ) (rs ps : List ℕ) → AreSortedReaching low cs rs → AreSortedWithin low (Some mid) cs ps → order low mid ≡ Less → AreSortedReaching mid cs (filter (reaches_at cs mid) (rs ++ ps))
+  onward low mid rs ps r h l = record {
+    own = λ n.
+        among-filter (reaches_at cs mid) n (rs ++ ps)
+        ∙ ap (λ (b : Bool). b && reaches_at cs mid n) (among-append n rs ps)
+        ∙ rw (r.own n, h.own n, among-places n (reaches low) cs, among-places n (begins_in low (Some mid)) cs, among-places n (reaches mid) cs) (onward_is low mid (slice_get cs n) l);
+    in_order = IsStrictlySortedBy-filter (order_of_places cs) (reaches_at cs mid) (rs ++ ps) (both_in_order low (Some mid) rs ps r h);
+  }
+
+  pub none_reach_by : (o : Option (Command A)) → is_passed (reaches []) o ≡ false
+  none_reach_by None = refl
+  none_reach_by (Some (Get k)) = refl
+  none_reach_by (Some (Put k v)) = refl
+  none_reach_by (Some (Add k v)) = refl
+  none_reach_by (Some (Del k)) = refl
+  none_reach_by (Some (Scan [] hi limit)) = refl
+  none_reach_by (Some (Scan (x ∷ xs) hi limit)) = refl
+
+  -- nothing reaches the page of the least keys
+  pub none_reach : AreSortedReaching [] cs []
+  unfolding IsStrictlySortedBy
+  none_reach = record { own = λ n. sym (among-places n (reaches []) cs ∙ none_reach_by (slice_get cs n)); in_order = tt }
 
   -- ---- a search by halves
 

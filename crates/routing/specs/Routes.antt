@@ -1,20 +1,35 @@
 -- Which commands go to which page of a level.
-use Rattle.std.specs.Prelude.{◌≡◌, ℕ, suc, ◌<◌, Bool, true, false, List, [], ◌∷◌, map, length, Option, None, if◌then◌else◌}
+use Rattle.std.specs.Prelude.{◌≡◌, ℕ, suc, ◌<◌, Bool, true, false, ◌||◌, List, [], ◌∷◌, map, length, slice_get, Option, Some, None, if◌then◌else◌}
 use Rattle.std.specs.List.{AllByRecursion, filter}
 use Rattle.std.specs.List.Sorted.{IsStrictlyIncreasing}
+use Rattle.keys.specs.CommandKey.{is_scan}
 use Rattle.keys.specs.declared.command.Command.{Command}
-use Rattle.keys.specs.declared.command.Command.TheVariants.{Get, Put, Add, Del}
+use Rattle.keys.specs.declared.command.Command.TheVariants.{Get, Put, Add, Del, Scan}
 use Rattle.index_page.specs.Range.{is_within}
-use Rattle.index_page.specs.Children.{Place, children}
+use Rattle.index_page.specs.Children.{Place, children, is_between}
 use Rattle.mapping.specs.Levels.{Placed, names}
-use Rattle.routing.specs.BatchKeys.{key_at}
 
--- whether a command goes to the page with this range of keys
+-- whether a command goes to the page with this range of keys: to the page whose range has the command's key, which of a scan
+-- is its lower bound; and a scan also to each page whose low key lies between its bounds
 abbrev pub goes_to : {A : Type 0} → List ℕ → Option (List ℕ) → Command A → Bool
 goes_to low end (Get k) = is_within low end k
 goes_to low end (Put k v) = is_within low end k
 goes_to low end (Add k v) = is_within low end k
 goes_to low end (Del k) = is_within low end k
+goes_to low end (Scan lo hi limit) = is_within low end lo || is_between lo hi low
+
+-- whether there is an item, and it passes
+abbrev pub is_passed : {X : Type 0} → (X → Bool) → Option X → Bool
+is_passed passes None = false
+is_passed passes (Some x) = passes x
+
+-- whether the command at this place goes to the page with this range
+abbrev pub goes_at : {A : Type 0} → List (Command A) → List ℕ → Option (List ℕ) → ℕ → Bool
+goes_at cs low end place = is_passed (goes_to low end) (slice_get cs place)
+
+-- whether a scan stands at this place
+abbrev pub is_scan_at : {A : Type 0} → List (Command A) → ℕ → Bool
+is_scan_at cs place = is_passed is_scan (slice_get cs place)
 
 -- the places, counted from this number on, of the items that pass
 abbrev pub places_from : {X : Type 0} → ℕ → (X → Bool) → List X → List ℕ
@@ -48,13 +63,13 @@ ranges level = children (names level) None
 abbrev pub routes : {A V : Type 0} → List (Placed V) → List (Command A) → List Route
 routes level cs = filter has_places (map (route_to cs) (ranges level))
 
--- a route to the page with this range: some places of the batch, which rise, each of a command whose key lies in the range
+-- a route to the page with this range: some places of the batch, which rise, each of a command that goes to the page
 pub record IsRouteTo {A : Type 0} (cs : List (Command A)) (at : Place) (r : Route) : Type 0 where
   pub pid : r.pid ≡ at.pid
   pub some : 0 < length r.places
   pub rising : IsStrictlyIncreasing r.places
   pub below : AllByRecursion (λ place. place < length cs) r.places
-  pub own : AllByRecursion (λ place. is_within at.low at.end (key_at cs place) ≡ true) r.places
+  pub own : AllByRecursion (λ place. goes_at cs at.low at.end place ≡ true) r.places
 
 -- routes to some of the pages, in the order of the pages
 pub data AreRoutesTo {A : Type 0} (cs : List (Command A)) : List Place → List Route → Type 0 where

@@ -1,11 +1,10 @@
 -- What goes down the tree: each page's share of a batch, by places in the order of their keys.
-use Rattle.std.specs.Prelude.{◌≡◌, ℕ, Bool, ⊤, List, [], ◌∷◌, map, nat_eq, Option, Some, None}
-use Rattle.std.specs.Borrow.{Bor}
-use Rattle.std.specs.List.{AllByRecursion, IsDistinct, filter}
+use Rattle.std.specs.Prelude.{◌≡◌, ℕ, ◌<◌, Bool, true, false, ◌||◌, ⊤, List, [], ◌∷◌, ◌++◌, map, length, nat_eq, Option, Some, None}
+use Rattle.std.specs.List.{AllByRecursion, IsDistinct, filter, list_any}
 use Rattle.std.specs.List.Sorted.{IsPermutation, IsNonDecreasing}
 use Rattle.keys.specs.Order.{IsRising}
 use Rattle.keys.specs.declared.command.Command.{Command}
-use Rattle.index_page.specs.Page.{PageOfKind}
+use Rattle.index_page.specs.Page.{PageOfKind, first_key, low_of}
 use Rattle.index_page.specs.Page.PageOfKind.{Index}
 use Rattle.index_page.specs.Range.{is_within}
 use Rattle.index_page.specs.Children.{Place, children, child_entries, HasChildFor}
@@ -13,47 +12,77 @@ use Rattle.mapping.specs.Tree.{page_at}
 use Rattle.mapping.specs.Levels.{as_index}
 use Rattle.routing.specs.BatchKeys.{key_at}
 use Rattle.routing.specs.Keyed.{Keyed, places_of, AreKeyed}
-use Rattle.routing.specs.Routes.{Route, has_places}
-use Rattle.routing.specs.SortedPlaces.{AreInKeyOrder}
+use Rattle.routing.specs.Routes.{is_scan_at, Route, has_some}
+use Rattle.routing.specs.SortedPlaces.{AreInKeyOrder, reaches_at}
 
--- a share as the code has it: a pid, and a part of the sorted places, each beside its key
-abbrev pub Lent : Type 0
-Lent = ℕ × Bor (List Keyed)
+-- a page's pid, the places of the commands that begin in the page, and those of the scans that reach it from the left
+pub record Share : Type 0 where
+  pub pid : ℕ
+  pub own : List ℕ
+  pub reaching : List ℕ
+
+-- the places of both: scans that reach a page begin before it
+abbrev pub all_of : Share → List ℕ
+all_of s = s.reaching ++ s.own
+
+abbrev pub has_any : Share → Bool
+has_any s = has_some s.own || has_some s.reaching
+
+-- a share as the code has it: what begins in the page is a part of the sorted places, each beside its key
+pub record Lent : Type 0 where
+  pub pid : ℕ
+  pub keyed : List Keyed
+  pub reaching : List ℕ
 
 -- the share without the keys
-abbrev pub share_of_lent : Lent → Route
-share_of_lent share = record { pid = share.0; places = places_of share.1.now }
+abbrev pub share_of_lent : Lent → Share
+share_of_lent share = record { pid = share.pid; own = places_of share.keyed; reaching = share.reaching }
 
-abbrev pub lent_shares : List Lent → List Route
+abbrev pub lent_shares : List Lent → List Share
 lent_shares shares = map share_of_lent shares
 
 -- the keys in the shares are those of the commands at the places beside them
 abbrev pub AreKeyedShares : {A : Type 0} → List (Command A) → List Lent → Type 0
-AreKeyedShares cs shares = AllByRecursion (λ share. AreKeyed cs share.1.now) shares
+AreKeyedShares cs shares = AllByRecursion (λ share. AreKeyed cs share.keyed) shares
 
 -- no place stands twice in the share
-abbrev pub HasEachPlaceOnce : Route → Type 0
-HasEachPlaceOnce r = IsDistinct nat_eq r.places
+abbrev pub HasEachPlaceOnce : Share → Type 0
+HasEachPlaceOnce s = IsDistinct nat_eq (all_of s)
 
 -- whether the key of the command at this place lies in the range
 abbrev pub is_in_range : {A : Type 0} → List (Command A) → List ℕ → Option (List ℕ) → ℕ → Bool
 is_in_range cs low end place = is_within low end (key_at cs place)
 
--- a page's pid, and those of these places whose commands go to it
-abbrev pub share_of : {A : Type 0} → List (Command A) → List ℕ → Place → Route
-share_of cs ps at = record { pid = at.pid; places = filter (is_in_range cs at.low at.end) ps }
+-- a page's pid, and those of these places whose commands begin in it, and whose commands reach it
+abbrev pub share_of : {A : Type 0} → List (Command A) → List ℕ → Place → Share
+share_of cs ps at = record { pid = at.pid; own = filter (is_in_range cs at.low at.end) ps; reaching = filter (reaches_at cs at.low) ps }
 
 -- the shares of the pages that get any
-abbrev pub shares : {A : Type 0} → List (Command A) → List ℕ → List Place → List Route
-shares cs ps ats = filter has_places (map (share_of cs ps) ats)
+abbrev pub shares : {A : Type 0} → List (Command A) → List ℕ → List Place → List Share
+shares cs ps ats = filter has_any (map (share_of cs ps) ats)
 
 -- the shares of the root: all places, if there are any
-abbrev pub root_shares : ℕ → List ℕ → List Route
-root_shares root ps = filter has_places (record { pid = root; places = ps } ∷ [])
+abbrev pub root_shares : ℕ → List ℕ → List Share
+root_shares root ps = filter has_any (record { pid = root; own = ps; reaching = [] } ∷ [])
 
--- what becomes of an index page's share: the shares of its children, the last of which takes what is left
-abbrev pub handed_down : {A : Type 0} → List (Command A) → PageOfKind → List ℕ → List Route
-handed_down cs page ps = shares cs ps (children (child_entries page) None)
+-- what becomes of these places at an index page: the shares of its children, the last of which takes what is left
+abbrev pub shares_below : {A : Type 0} → List (Command A) → PageOfKind → List ℕ → List Share
+shares_below cs page ps = shares cs ps (children (child_entries page) None)
+
+-- a key of the next child that gets anything, of those from this low key on: the low key where scans reach the child there, else
+-- the first key of what begins in children, if there is any
+abbrev pub next_key : List ℕ → List ℕ → List Keyed → Option (List ℕ)
+next_key low (r ∷ rs) entries = Some low
+next_key low [] [] = None
+next_key low [] (e ∷ es) = Some e.0.now
+
+-- no scan stands at any of these places
+abbrev pub AreNoScans : {A : Type 0} → List (Command A) → List ℕ → Type 0
+AreNoScans cs ps = AllByRecursion (λ place. is_scan_at cs place ≡ false) ps
+
+-- whether a scan reaches the share's page, or begins in it
+abbrev pub is_met : {A : Type 0} → List (Command A) → Lent → Bool
+is_met cs share = has_some share.reaching || list_any (λ entry. is_scan_at cs entry.1) share.keyed
 
 -- the places stand in the order of their keys, and for each there is a child
 pub record CanHandDown {A : Type 0} (cs : List (Command A)) (page : PageOfKind) (ps : List ℕ) : Type 0 where
@@ -66,32 +95,40 @@ pub record CanHandDownKeyed {A : Type 0} (cs : List (Command A)) (page : PageOfK
   pub places : CanHandDown cs page (places_of entries)
   pub keys : AreKeyed cs entries
 
+-- the share's own places can be handed down, and its scans reach the page's first child, which begins where the page does
+pub record CanHandDownShare {A : Type 0} (cs : List (Command A)) (page : PageOfKind) (s : Share) : Type 0 where
+  pub own : CanHandDown cs page s.own
+  pub some : 0 < length (child_entries page)
+  pub first : first_key (child_entries page) ≡ low_of page
+  pub reach : AllByRecursion (λ place. reaches_at cs (low_of page) place ≡ true) s.reaching
+
 -- the index page under a pid, and an empty one where there is none
 abbrev pub index_under : List (ℕ × PageOfKind) → ℕ → PageOfKind
 index_under pages pid = Index (as_index (page_at pages pid))
 
 -- a share of an index page that can be handed down
-pub record IsReady {A : Type 0} (pages : List (ℕ × PageOfKind)) (cs : List (Command A)) (r : Route) : Type 0 where
-  pub held : page_at pages r.pid ≡ Some (index_under pages r.pid)
-  pub share : CanHandDown cs (index_under pages r.pid) r.places
+pub record IsReady {A : Type 0} (pages : List (ℕ × PageOfKind)) (cs : List (Command A)) (s : Share) : Type 0 where
+  pub held : page_at pages s.pid ≡ Some (index_under pages s.pid)
+  pub share : CanHandDownShare cs (index_under pages s.pid) s
 
 -- shares of index pages that can be handed down, with their keys
 pub record AreReady {A : Type 0} (pages : List (ℕ × PageOfKind)) (cs : List (Command A)) (shares : List Lent) : Type 0 where
   pub each : AllByRecursion (IsReady pages cs) (lent_shares shares)
   pub keys : AreKeyedShares cs shares
 
-abbrev pub share_below : {A : Type 0} → List (ℕ × PageOfKind) → List (Command A) → Route → List Route
-share_below pages cs r = handed_down cs (index_under pages r.pid) r.places
+-- what becomes of a share: the shares of its page's children
+abbrev pub share_below : {A : Type 0} → List (ℕ × PageOfKind) → List (Command A) → Share → List Share
+share_below pages cs s = shares_below cs (index_under pages s.pid) (all_of s)
 
 -- the same page, and its places in the order of the batch
-pub record IsInBatchOrder (r : Route) (o : Route) : Type 0 where
-  pub pid : o.pid ≡ r.pid
-  pub same : IsPermutation r.places o.places
+pub record IsInBatchOrder (s : Share) (o : Route) : Type 0 where
+  pub pid : o.pid ≡ s.pid
+  pub same : IsPermutation (all_of s) o.places
   pub rising : IsNonDecreasing o.places
 
 -- the same of each
-abbrev pub AreInBatchOrder : List Route → List Route → Type 0
+abbrev pub AreInBatchOrder : List Share → List Route → Type 0
 AreInBatchOrder [] [] = ⊤
 AreInBatchOrder [] (o ∷ os) = ⊥
-AreInBatchOrder (r ∷ rs) [] = ⊥
-AreInBatchOrder (r ∷ rs) (o ∷ os) = IsInBatchOrder r o × AreInBatchOrder rs os
+AreInBatchOrder (s ∷ ss) [] = ⊥
+AreInBatchOrder (s ∷ ss) (o ∷ os) = IsInBatchOrder s o × AreInBatchOrder ss os

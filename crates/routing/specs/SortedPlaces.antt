@@ -1,14 +1,18 @@
 -- Places of a batch in the order of their commands' keys.
-use Rattle.std.specs.Prelude.{◌≡◌, ℕ, List, length, Option}
+use Rattle.std.specs.Prelude.{◌≡◌, ℕ, Bool, false, List, length, slice_get, Option}
 use Rattle.std.specs.declared.cmp.Ordering.{Ordering}
 use Rattle.std.specs.Ordering.{nat_cmp, ordering_then}
 use Rattle.std.specs.List.Sorted.{IsPermutation, IsStrictlySortedBy}
 use Rattle.keys.specs.Order.{order}
+use Rattle.keys.specs.CommandKey.{key_of}
 use Rattle.keys.specs.declared.command.Command.{Command}
+use Rattle.keys.specs.declared.command.Command.TheVariants.{Get, Put, Add, Del, Scan}
+use Rattle.index_page.specs.Range.{is_within}
+use Rattle.index_page.specs.Children.{is_between}
 use Rattle.mapping.specs.FreshPids.{is_among}
 use Rattle.routing.specs.BatchKeys.{key_at}
 use Rattle.routing.specs.Places.{places_below}
-use Rattle.routing.specs.Routes.{places_within}
+use Rattle.routing.specs.Routes.{is_passed, places_from}
 
 -- how two places stand to each other: by the keys of their commands, and where these are equal by the places
 abbrev pub order_of_places : {A : Type 0} → List (Command A) → ℕ → ℕ → Ordering
@@ -23,7 +27,28 @@ pub record AreSortedPlaces {A : Type 0} (cs : List (Command A)) (ps : List ℕ) 
   pub all : IsPermutation (places_below (length cs)) ps
   pub in_order : AreInKeyOrder cs ps
 
--- the places of the commands that go to the page with this range, in the order of their keys
+-- whether a command begins in the page with this range: its key lies in the range
+abbrev pub begins_in : {A : Type 0} → List ℕ → Option (List ℕ) → Command A → Bool
+begins_in low end c = is_within low end (key_of c)
+
+-- whether a command reaches the page with this low key from the left: it is a scan, and the low key lies between its bounds
+abbrev pub reaches : {A : Type 0} → List ℕ → Command A → Bool
+reaches low (Get k) = false
+reaches low (Put k v) = false
+reaches low (Add k v) = false
+reaches low (Del k) = false
+reaches low (Scan lo hi limit) = is_between lo hi low
+
+-- whether the command at this place does
+abbrev pub reaches_at : {A : Type 0} → List (Command A) → List ℕ → ℕ → Bool
+reaches_at cs low place = is_passed (reaches low) (slice_get cs place)
+
+-- the places of the commands that begin in the page with this range, in the order of their keys
 pub record AreSortedWithin {A : Type 0} (low : List ℕ) (end : Option (List ℕ)) (cs : List (Command A)) (ps : List ℕ) : Type 0 where
-  pub own : (place : ℕ) → is_among place ps ≡ is_among place (places_within low end cs)
+  pub own : (place : ℕ) → is_among place ps ≡ is_among place (places_from 0 (begins_in low end) cs)
+  pub in_order : AreInKeyOrder cs ps
+
+-- the places of the commands that reach the page with this low key, in the order of their keys
+pub record AreSortedReaching {A : Type 0} (low : List ℕ) (cs : List (Command A)) (ps : List ℕ) : Type 0 where
+  pub own : (place : ℕ) → is_among place ps ≡ is_among place (places_from 0 (reaches low) cs)
   pub in_order : AreInKeyOrder cs ps

@@ -1,6 +1,8 @@
 //! The way of a batch down the tree: level by level, each page with its part of the sorted places.
-ghost use Rattle.std.specs.Prelude.{◌≡◌, ◌<◌, ◌≤◌, ◌∷◌, ◌++◌, List, length, take, drop, flat_map, IfOk, IfErr, OnOk};
-ghost use Rattle.std.specs.List.{AllByRecursion};
+ghost use Rattle.std.specs.Prelude.{◌≡◌, ◌<◌, ◌≤◌, ◌∷◌, ◌++◌, List, [], length, take, drop, flat_map, IfOk, IfErr, OnOk};
+ghost use Rattle.std.specs.List.{AllByRecursion, list_any};
+ghost use Rattle.std.specs.Option.{option_copied};
+ghost use Rattle.keys.specs.CommandKey.{is_scan};
 ghost use Rattle.keys.specs.declared.command.Command.{Command};
 ghost use Rattle.keys.specs.declared.fault.Fault.TheVariants.{NoMemory};
 ghost use Rattle.mapping.specs.Levels.{levels_of};
@@ -9,18 +11,17 @@ ghost use Rattle.mapping.specs.TreeInMemory.{AreAllHome, tree_of};
 ghost use Rattle.routing.specs.Keyed.{places_of, AreKeyed};
 ghost use Rattle.routing.specs.Routes.{routes};
 ghost use Rattle.routing.specs.SortedPlaces.{AreSortedPlaces};
-ghost use Rattle.routing.specs.Shares.{lent_shares, root_shares, handed_down, CanHandDownKeyed, AreReady, AreKeyedShares, share_below, HasEachPlaceOnce, AreInBatchOrder};
+ghost use Rattle.routing.specs.Shares.{share_of_lent, lent_shares, all_of, root_shares, shares_below, next_key, CanHandDownKeyed, CanHandDownShare, is_met, AreNoScans, AreReady, AreKeyedShares, share_below, HasEachPlaceOnce, AreInBatchOrder};
 
 use crate::page_run::PageRun;
+use crate::reaching::{going_on, has_scan_at, has_scans};
+use crate::share::Share;
 use crate::sort::{Keyed, count_below, in_batch_order, sorted_places};
 use index_page::Page;
 use keys::{Command, Fault, Pid};
 use mapping::Tree;
 use std::alloc::{AllocError, Global};
 use std::thread::Threads;
-
-// A page id, as a number, with the page's part of the sorted places.
-type Share<'a> = (u64, &'a [Keyed<'a>]);
 
 /// For each leaf of the tree that a command of the batch goes to, from left to right, its page id and the places of these
 /// commands. The commands are sorted once, and each index page on their way is visited once. The tree is a proper one, of
@@ -38,7 +39,7 @@ pub fn route(
     ensures err { IfErr result (λ fault. fault ≡ NoMemory) }
 {
     let keyed = sorted_places(rt, alloc, commands)?;
-    let runs = route_sorted(alloc, tree, &keyed)?;
+    let runs = route_sorted(alloc, tree, commands, &keyed)?;
     Ok(runs)
 }
 
@@ -46,18 +47,20 @@ pub fn route(
 fn route_sorted(
     alloc: Global,
     tree: &Tree<Global>,
+    commands: &[Command<Global>],
     keyed: &[Keyed<'_>],
 ) -> Result<Vec<PageRun>, AllocError>
     requires home { AreAllHome tree.now }
     requires held { HoldsLevels (tree_of tree.now).pages (levels_of (tree_of tree.now)) }
     requires levels { AreLevels (levels_of (tree_of tree.now)) }
-    requires sorted { (cs : List (Command Global)) × AreSortedPlaces cs (places_of keyed.now) × AreKeyed cs keyed.now }
-    ensures { IfOk result (λ runs. (cs : List (Command Global)) → AreSortedPlaces cs (places_of keyed.now) →
-        AreKeyed cs keyed.now → runs.items ≡ routes (levels_of (tree_of tree.now)).level cs) }
+    requires sorted { AreSortedPlaces commands.now (places_of keyed.now) }
+    requires keys { AreKeyed commands.now keyed.now }
+    ensures { IfOk result (λ runs. runs.items ≡ routes (levels_of (tree_of tree.now)).level commands.now) }
 {
-    let mut shares = root_share(alloc, tree.root().0, keyed)?;
+    let scanned = has_scans(commands);
+    let mut shares = root_share(alloc, tree.root(), keyed)?;
     for _level in 0..tree.height().saturating_sub(1) {
-        shares = one_level_down(alloc, tree, &shares)?;
+        shares = one_level_down(alloc, tree, commands, scanned, &shares)?;
     }
     each_in_batch_order(alloc, &shares)
 }
@@ -65,7 +68,7 @@ fn route_sorted(
 // The root with all places, if there are any.
 fn root_share<'a>(
     alloc: Global,
-    root: u64,
+    root: Pid,
     keyed: &'a [Keyed<'a>],
 ) -> Result<Vec<Share<'a>>, AllocError>
     ensures shares { IfOk result (λ shares. lent_shares shares.items ≡ root_shares root (places_of keyed.now)) }
@@ -74,52 +77,84 @@ fn root_share<'a>(
 {
     let mut shares = Vec::new(alloc);
     if !keyed.is_empty() {
-        shares.push((root, keyed))?;
+        shares.push(Share::new(root, keyed, Vec::new(alloc)))?;
     }
     Ok(shares)
 }
 
-// What the pages of a level have, handed down to their children.
+// Each share's page hands it down: the shares of the next level, in the order of the keys.
 fn one_level_down<'a>(
     alloc: Global,
     tree: &Tree<Global>,
+    commands: &[Command<Global>],
+    scanned: bool,
     shares: &[Share<'a>],
 ) -> Result<Vec<Share<'a>>, AllocError>
     requires home { AreAllHome tree.now }
-    requires ready { (cs : List (Command Global)) × AreReady (tree_of tree.now).pages cs shares.now }
-    ensures shares { IfOk result (λ below. (cs : List (Command Global)) → AreReady (tree_of tree.now).pages cs shares.now →
-        lent_shares below.items ≡ flat_map (share_below (tree_of tree.now).pages cs) (lent_shares shares.now)) }
-    ensures keys { IfOk result (λ below. (cs : List (Command Global)) → AreReady (tree_of tree.now).pages cs shares.now →
-        AreKeyedShares cs below.items) }
+    requires scanned { scanned ≡ list_any is_scan commands.now }
+    requires ready { AreReady (tree_of tree.now).pages commands.now shares.now }
+    ensures shares { IfOk result (λ below. lent_shares below.items ≡
+        flat_map (share_below (tree_of tree.now).pages commands.now) (lent_shares shares.now)) }
+    ensures keys { IfOk result (λ below. AreKeyedShares commands.now below.items) }
 {
     let mut below = Vec::with_capacity(alloc, shares.len())?;
     for share in shares {
-        let (pid, keyed) = *share;
-        match tree.page(Pid(pid)) {
-            Some(page) => hand_down(page, keyed, &mut below)?,
+        match tree.page(share.pid()) {
+            Some(page) => hand_down(alloc, commands, scanned, page, share, &mut below)?,
             None => unreachable!(),
         }
     }
     Ok(below)
 }
 
-// Hands a page's share down to its children, each of which gets the places of its range, if there are any.
+// Hands a page's share down to its children. Only in a batch with scans it is looked whether one meets the page.
 fn hand_down<'a>(
+    alloc: Global,
+    commands: &[Command<Global>],
+    scanned: bool,
+    page: &Page<Global>,
+    share: &Share<'a>,
+    below: &mut Vec<Share<'a>>,
+) -> Result<(), AllocError>
+    requires scanned { scanned ≡ list_any is_scan commands.now }
+    requires share { CanHandDownShare commands.now page.now (share_of_lent share.now) }
+    requires keys { AreKeyed commands.now share.now.keyed }
+    ensures shares { OnOk result (lent_shares below.new.items ≡
+        lent_shares below.old.items ++ shares_below commands.now page.now (all_of (share_of_lent share.now))) }
+    ensures keys { OnOk result (AreKeyedShares commands.now below.old.items → AreKeyedShares commands.now below.new.items) }
+{
+    if scanned && is_met(commands, share) {
+        hand_down_with_scans(alloc, commands, page, share, below)
+    } else {
+        hand_down_points(alloc, page, share.keyed(), below)
+    }
+}
+
+// Whether a scan reaches the share's page, or begins in it.
+fn is_met(commands: &[Command<Global>], share: &Share<'_>) -> bool
+    ensures { result ≡ is_met commands.now share.now }
+{
+    !share.reaching().is_empty() || has_scan_at(commands, share.keyed())
+}
+
+// The same of a page that no scan meets: each child gets the places of its range, if there are any.
+fn hand_down_points<'a>(
+    alloc: Global,
     page: &Page<Global>,
     keyed: &'a [Keyed<'a>],
     below: &mut Vec<Share<'a>>,
 ) -> Result<(), AllocError>
     requires { (cs : List (Command Global)) × CanHandDownKeyed cs page.now keyed.now }
-    ensures shares { OnOk result ((cs : List (Command Global)) → CanHandDownKeyed cs page.now keyed.now →
-        lent_shares below.new.items ≡ lent_shares below.old.items ++ handed_down cs page.now (places_of keyed.now)) }
-    ensures keys { OnOk result ((cs : List (Command Global)) → CanHandDownKeyed cs page.now keyed.now →
+    ensures shares { OnOk result ((cs : List (Command Global)) → AreNoScans cs (places_of keyed.now) → CanHandDownKeyed cs page.now keyed.now →
+        lent_shares below.new.items ≡ lent_shares below.old.items ++ shares_below cs page.now (places_of keyed.now)) }
+    ensures keys { OnOk result ((cs : List (Command Global)) → AreKeyed cs keyed.now →
         AreKeyedShares cs below.old.items → AreKeyedShares cs below.new.items) }
 {
     let mut start = 0;
     while start < keyed.len() {
         let (pid, count) = first_child(page, &keyed[start..]);
         let end = start + count;
-        below.push((pid.0, &keyed[start..end]))?;
+        below.push(Share::new(pid, &keyed[start..end], Vec::new(alloc)))?;
         start = end;
     }
     Ok(())
@@ -132,10 +167,10 @@ fn first_child(page: &Page<Global>, keyed: &[Keyed<'_>]) -> (Pid, usize)
     requires ready { (cs : List (Command Global)) × CanHandDownKeyed cs page.now keyed.now }
     ensures some { 0 < result.1 }
     ensures most { result.1 ≤ length keyed.now }
-    ensures first { (cs : List (Command Global)) → CanHandDownKeyed cs page.now keyed.now →
-        handed_down cs page.now (places_of keyed.now) ≡
-        record { pid = result.0; places = places_of (take result.1 keyed.now) } ∷
-        handed_down cs page.now (places_of (drop result.1 keyed.now)) }
+    ensures first { (cs : List (Command Global)) → AreNoScans cs (places_of keyed.now) → CanHandDownKeyed cs page.now keyed.now →
+        shares_below cs page.now (places_of keyed.now) ≡
+        record { pid = result.0; own = places_of (take result.1 keyed.now); reaching = [] } ∷
+        shares_below cs page.now (places_of (drop result.1 keyed.now)) }
 {
     let key = keyed[0].0;
     if keyed.len() == 1 {
@@ -148,6 +183,59 @@ fn first_child(page: &Page<Global>, keyed: &[Keyed<'_>]) -> (Pid, usize)
     }
 }
 
+// The same with scans: child by child, from left to right, each with what begins in it and with the scans that reach it. A
+// child that gets neither is passed over.
+fn hand_down_with_scans<'a>(
+    alloc: Global,
+    commands: &[Command<Global>],
+    page: &Page<Global>,
+    share: &Share<'a>,
+    below: &mut Vec<Share<'a>>,
+) -> Result<(), AllocError>
+    requires share { CanHandDownShare commands.now page.now (share_of_lent share.now) }
+    requires keys { AreKeyed commands.now share.now.keyed }
+    ensures shares { OnOk result (lent_shares below.new.items ≡
+        lent_shares below.old.items ++ shares_below commands.now page.now (all_of (share_of_lent share.now))) }
+    ensures keys { OnOk result (AreKeyedShares commands.now below.old.items → AreKeyedShares commands.now below.new.items) }
+{
+    let keyed = share.keyed();
+    let mut reaching = share.copied_reaching(alloc)?;
+    let mut low = page.low();
+    let mut start = 0;
+    while let Some(key) = next_key(&keyed[start..], &reaching, low) {
+        let (pid, end) = page.child_with_end(key);
+        match end {
+            Some(end) => {
+                let until = start + count_below(&keyed[start..], end);
+                let onward = going_on(alloc, commands, &reaching, &keyed[start..until], end)?;
+                below.push(Share::new(pid, &keyed[start..until], reaching))?;
+                reaching = onward;
+                low = end;
+                start = until;
+            }
+            None => {
+                below.push(Share::new(pid, &keyed[start..], reaching))?;
+                return Ok(());
+            }
+        }
+    }
+    Ok(())
+}
+
+// A key of the next child that gets anything: the next child's low key where scans reach it, else the first key, if there is
+// one.
+fn next_key<'a>(keyed: &'a [Keyed<'a>], reaching: &[usize], low: &'a [u8]) -> Option<&'a [u8]>
+    ensures { option_copied result ≡ next_key low.now reaching.now keyed.now }
+{
+    if !reaching.is_empty() {
+        return Some(low);
+    }
+    match keyed.first() {
+        Some(entry) => Some(entry.0),
+        None => None,
+    }
+}
+
 // Each share with its places in the order of the batch.
 fn each_in_batch_order(alloc: Global, shares: &[Share<'_>]) -> Result<Vec<PageRun>, AllocError>
     requires { AllByRecursion HasEachPlaceOnce (lent_shares shares.now) }
@@ -155,8 +243,8 @@ fn each_in_batch_order(alloc: Global, shares: &[Share<'_>]) -> Result<Vec<PageRu
 {
     let mut runs = Vec::with_capacity(alloc, shares.len())?;
     for share in shares {
-        let places = in_batch_order(alloc, share.1)?;
-        runs.push(PageRun::new(Pid(share.0), places))?;
+        let places = in_batch_order(alloc, share.keyed(), share.reaching())?;
+        runs.push(PageRun::new(share.pid(), places))?;
     }
     Ok(runs)
 }

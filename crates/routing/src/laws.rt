@@ -1,29 +1,41 @@
 //! What the definitions of `specs/` mean. Each law is the contract of a function with an empty body.
-ghost use Rattle.std.specs.Prelude.{◌≡◌, ℕ, true, false, List, [], length, take, drop, flat_map, Option, None, Some};
+ghost use Rattle.std.specs.Prelude.{◌≡◌, ◌<◌, ◌==◌, ◌++◌, ℕ, true, false, List, [], length, take, drop, flat_map, count_by, Option, None, Some};
 ghost use Rattle.std.specs.declared.cmp.Ordering.TheVariants.{Less};
-ghost use Rattle.std.specs.List.{AllByRecursion};
+ghost use Rattle.std.specs.List.{AllByRecursion, filter};
 ghost use Rattle.std.specs.List.Sorted.{IsPermutation, IsNonDecreasing};
 ghost use Rattle.keys.specs.Order.{order};
 ghost use Rattle.keys.specs.declared.command.Command.{Command};
+ghost use Rattle.keys.specs.declared.command.Command.TheVariants.{Scan};
+ghost use Rattle.index_page.specs.Children.{Place, meets};
 ghost use Rattle.index_page.specs.Range.{is_below, IsBefore};
+ghost use Rattle.mapping.specs.FreshPids.{is_among};
 ghost use Rattle.mapping.specs.Levels.{Placed};
 ghost use Rattle.mapping.specs.Proper.{next_low, Tiled};
 ghost use Rattle.routing.specs.BatchKeys.{key_at};
-ghost use Rattle.routing.specs.Places.{places_below};
-ghost use Rattle.routing.specs.Routes.{places_within, ranges, routes, AreRoutesTo};
-ghost use Rattle.routing.specs.SortedPlaces.{AreSortedPlaces, AreSortedWithin};
+ghost use Rattle.routing.specs.Routes.{goes_to, is_scan_at, places_within, ranges, routes, AreRoutesTo};
+ghost use Rattle.routing.specs.SortedPlaces.{reaches_at, AreSortedPlaces, AreSortedWithin, AreSortedReaching};
 
 use std::alloc::Allocator;
 
-/// Of pages that tile all keys, each command of a batch goes to just one: the places of the routes, joined, are the places
-/// of the batch, each once.
-pub fn each_command_goes_to_one_page<V, A: Allocator>()
-    ensures { (level : List (Placed V)) (cs : List (Command A)) → next_low level None ≡ Some [] → Tiled level None →
-        IsPermutation (places_below (length cs)) (flat_map (λ r. r.places) (routes level cs)) }
+/// The places of the routes, joined, are places of the batch. Of pages that tile all keys, each place of the batch is among
+/// them, and it is there just once where its command is no scan.
+pub fn each_command_goes_to_its_pages<V, A: Allocator>()
+    ensures within { (level : List (Placed V)) (cs : List (Command A)) →
+        AllByRecursion (λ place. place < length cs) (flat_map (λ r. r.places) (routes level cs)) }
+    ensures some { (level : List (Placed V)) (cs : List (Command A)) (place : ℕ) → next_low level None ≡ Some [] → Tiled level None →
+        place < length cs → is_among place (flat_map (λ r. r.places) (routes level cs)) ≡ true }
+    ensures once { (level : List (Placed V)) (cs : List (Command A)) (place : ℕ) → next_low level None ≡ Some [] → Tiled level None →
+        place < length cs → is_scan_at cs place ≡ false →
+        count_by (λ other. other == place) (flat_map (λ r. r.places) (routes level cs)) ≡ 1 }
+{}
+
+/// A scan goes to just those pages whose ranges meet its bounds: from the lower one on, and before the upper one.
+pub fn a_scan_goes_to_the_pages_that_it_meets<A: Allocator>()
+    ensures { (lo : List ℕ) (hi : Option (List ℕ)) (limit : ℕ) (at : Place) → goes_to {A = A} at.low at.end (Scan lo hi limit) ≡ meets lo hi at }
 {}
 
 /// The routes of a level are to its pages, from left to right, and each has what goes to its page: some places of the
-/// batch, which rise, each of a command whose key lies in the page's range.
+/// batch, which rise, each of a command that goes to the page.
 pub fn routes_are_in_the_order_of_the_pages<V, A: Allocator>()
     ensures { (level : List (Placed V)) (cs : List (Command A)) → AreRoutesTo cs (ranges level) (routes level cs) }
 {}
@@ -33,16 +45,22 @@ pub fn sorted_places_are_determined<A: Allocator>()
     ensures { (cs : List (Command A)) (ps qs : List ℕ) → AreSortedPlaces cs ps → AreSortedPlaces cs qs → ps ≡ qs }
 {}
 
-/// How sorted places are handed down the tree: those of the batch are those of the range of all keys; those of a range,
-/// parted at a key within it, are those of the ranges on either side; and those of a page's range, in the order of the
-/// batch, are the places of the commands that go to the page.
+/// How sorted places are handed down the tree: those of the batch are those of the range of all keys; those that begin in a
+/// range, parted at a key within it, are those that begin in the ranges on either side; of those that reach a range and
+/// those that begin in it, some reach the next one, and no others do; and those that reach a page and those that begin in
+/// it, in the order of the batch, are the places of the commands that go to the page.
 pub fn sorted_places_are_handed_down<A: Allocator>()
     ensures all { (cs : List (Command A)) (ps : List ℕ) → AreSortedPlaces cs ps → AreSortedWithin [] None cs ps }
+    ensures none { (cs : List (Command A)) → AreSortedReaching [] cs [] }
     ensures parted { (cs : List (Command A)) (low mid : List ℕ) (end : Option (List ℕ)) (ps : List ℕ) (n : ℕ) →
         AreSortedWithin low end cs ps → order low mid ≡ Less → IsBefore end mid →
         AllByRecursion (λ place. is_below (key_at cs place) mid ≡ true) (take n ps) →
         AllByRecursion (λ place. is_below (key_at cs place) mid ≡ false) (drop n ps) →
         AreSortedWithin low (Some mid) cs (take n ps) × AreSortedWithin mid end cs (drop n ps) }
-    ensures in_batch_order { (cs : List (Command A)) (low : List ℕ) (end : Option (List ℕ)) (ps qs : List ℕ) →
-        AreSortedWithin low end cs ps → IsPermutation ps qs → IsNonDecreasing qs → qs ≡ places_within low end cs }
+    ensures onward { (cs : List (Command A)) (low mid : List ℕ) (rs ps : List ℕ) →
+        AreSortedReaching low cs rs → AreSortedWithin low (Some mid) cs ps → order low mid ≡ Less →
+        AreSortedReaching mid cs (filter (reaches_at cs mid) (rs ++ ps)) }
+    ensures in_batch_order { (cs : List (Command A)) (low : List ℕ) (end : Option (List ℕ)) (rs ps qs : List ℕ) →
+        AreSortedReaching low cs rs → AreSortedWithin low end cs ps → IsPermutation (rs ++ ps) qs → IsNonDecreasing qs →
+        qs ≡ places_within low end cs }
 {}

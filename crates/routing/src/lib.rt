@@ -4,6 +4,8 @@
 pub mod descent;
 pub mod laws;
 pub mod page_run;
+pub mod reaching;
+pub mod share;
 pub mod sort;
 
 pub use crate::descent::route;

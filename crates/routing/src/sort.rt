@@ -1,5 +1,5 @@
 //! The order in which the tree is walked for a batch: the places of its commands, sorted by their keys.
-ghost use Rattle.std.specs.Prelude.{◌≡◌, ◌≤◌, length, true, false, take, drop, IfOk};
+ghost use Rattle.std.specs.Prelude.{◌≡◌, ◌≤◌, ◌++◌, length, true, false, take, drop, IfOk};
 ghost use Rattle.std.specs.List.{AllByRecursion};
 ghost use Rattle.std.specs.List.Sorted.{IsPermutation, IsSorted, IsNonDecreasing, IsPartitionedBy};
 ghost use Rattle.std.specs.Ordering.{nat_cmp, ordering_then};
@@ -117,12 +117,18 @@ fn has_key_below(entry: &Keyed<'_>, key: &[u8]) -> bool
     entry.0.cmp(key).is_lt()
 }
 
-/// The places of these entries in the order of the batch: a page's sorted places become the places of its run.
-pub fn in_batch_order(alloc: Global, keyed: &[Keyed<'_>]) -> Result<Vec<usize>, AllocError>
-    ensures same { IfOk result (λ sorted. IsPermutation (places_of keyed.now) sorted.items) }
+/// The places of these entries, and these other places, in the order of the batch: a page's sorted places, and those of the
+/// scans that reach it, become the places of its run.
+pub fn in_batch_order(
+    alloc: Global,
+    keyed: &[Keyed<'_>],
+    reaching: &[usize],
+) -> Result<Vec<usize>, AllocError>
+    ensures same { IfOk result (λ sorted. IsPermutation (places_of keyed.now ++ reaching.now) sorted.items) }
     ensures rising { IfOk result (λ sorted. IsNonDecreasing sorted.items) }
 {
     let mut sorted: Vec<usize> = keyed.iter().map(|entry| entry.1).collect(alloc)?;
+    sorted.extend_from_slice(reaching)?;
     sorted.sort_unstable();
     Ok(sorted)
 }

@@ -12,6 +12,8 @@ use Rattle.keys.proofs.RangeLaws.{all_below}
 use Rattle.delta_chain.specs.Layers.{Layers, holds, entries_of, IsInOrder}
 use Rattle.delta_chain.proofs.LayerLaws.{rising-entries_of, value_at-entries_of}
 use Rattle.page_search.specs.Above.{above}
+use Rattle.page_search.specs.Floor.{floor}
+use Rattle.page_search.proofs.FloorLaws.{floor-nearest}
 use Rattle.scan.specs.Leaf.{from, behind, left_after}
 
 -- ---- keys
@@ -26,10 +28,10 @@ less_by Less h = refl
 less_by Equal h = absurd (cc)
 less_by Greater h = absurd (cc)
 
-itself : (k : List ℕ) → is_below k k ≡ false
+pub itself : (k : List ℕ) → is_below k k ≡ false
 itself k = rw (order_itself k) refl
 
-above_not_below : (k j : List ℕ) → order k j ≡ Less → is_below j k ≡ false
+pub above_not_below : (k j : List ℕ) → order k j ≡ Less → is_below j k ≡ false
 above_not_below k j l = rw (total.antisymm j k, l) refl
 
 passed_by : (b : Bool) (g k e : List ℕ) → is_below g e ≡ b → is_below k g ≡ true → is_below k e ≡ false → b ≡ false
@@ -39,15 +41,15 @@ passed_by false g k e b p n = refl
 module _ {V : Type 0} where
   -- ---- pairs behind a key
 
-  behind-all : (k : List ℕ) (es : List (List ℕ × V)) → IsBelowAll k (keys_of es) → behind k es ≡ es
+  pub behind-all : (k : List ℕ) (es : List (List ℕ × V)) → IsBelowAll k (keys_of es) → behind k es ≡ es
   behind-all k [] a = refl
   behind-all k (e ∷ es) a = rw a.0 (ap (λ (x : List (List ℕ × V)). e ∷ x) (behind-all k es a.1))
 
-  from-all : (k : List ℕ) (es : List (List ℕ × V)) → IsBelowAll k (keys_of es) → from k es ≡ es
+  pub from-all : (k : List ℕ) (es : List (List ℕ × V)) → IsBelowAll k (keys_of es) → from k es ≡ es
   from-all k [] a = refl
   from-all k (e ∷ es) a = rw (above_not_below k e.0 a.0) (ap (λ (x : List (List ℕ × V)). e ∷ x) (from-all k es a.1))
 
-  behind-skips : (k : List ℕ) (e : List ℕ × V) (es : List (List ℕ × V)) → is_below k e.0 ≡ false → behind k (e ∷ es) ≡ behind k es
+  pub behind-skips : (k : List ℕ) (e : List ℕ × V) (es : List (List ℕ × V)) → is_below k e.0 ≡ false → behind k (e ∷ es) ≡ behind k es
   behind-skips k e es h = rw h refl
 
   found_by : (b : Bool) (k : List ℕ) (e g : List ℕ × V) (o : Option (List ℕ × V)) → is_below k e.0 ≡ b → (o ≡ Some g → is_below k g.0 ≡ true) → cond b (Some e) o ≡ Some g → is_below k g.0 ≡ true
@@ -110,9 +112,17 @@ module _ {V : Type 0} where
   from-there k v [] r h = absurd (cc)
   from-there k v (e ∷ es) r h = there_by (is_eq (order k e.0)) k v e es refl r h (λ p. from-there k v es r.1 p)
 
+  floor-there : (k : List ℕ) (v : V) (es : List (List ℕ × V)) → IsRising es → value_at k es ≡ Some v → Some (k, v) ≡ floor k es
+  floor-there k v es r h =
+      floor-nearest k es (Some (k, v)) r (record { on = rw (order_itself k) refl; has = h; none_nearer = λ i o n. absurd (let wrong : not (is_lt Less) ≡ true = rw n at o in cc) })
+
   module _ (k : List ℕ) (p : Layers V) (r : IsInOrder p) where
-    pub start-some : (v : V) → Some v ≡ holds p k → left_after (Some (k, v)) (entries_of p) ≡ from k (entries_of p)
-    start-some v h = sym (from-there k v (entries_of p) (rising-entries_of p r) (value_at-entries_of p k r ∙ sym h))
+    -- where the key is there, its pair is the last one up to it
+    pub start-some : (v : V) (o : Option (List ℕ × V)) → Some v ≡ holds p k → o ≡ floor k (entries_of p) → left_after o (entries_of p) ≡ from k (entries_of p)
+    start-some v o h f =
+        let there : value_at k (entries_of p) ≡ Some v = value_at-entries_of p k r ∙ sym h in
+        let rising = rising-entries_of p r in
+        ap (λ (x : Option (List ℕ × V)). left_after x (entries_of p)) (f ∙ sym (floor-there k v (entries_of p) rising there)) ∙ sym (from-there k v (entries_of p) rising there)
 
     pub start-none : (o : Option (List ℕ × V)) → None ≡ holds p k → left_after o (entries_of p) ≡ behind k (entries_of p) → left_after o (entries_of p) ≡ from k (entries_of p)
     start-none o h a = a ∙ sym (from-none k (entries_of p) (value_at-entries_of p k r ∙ sym h))

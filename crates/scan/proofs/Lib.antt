@@ -1,5 +1,8 @@
 mod CutLaws
 mod LeafLaws
+mod MergeLaws
+mod MergeSteps
+mod PassingLaws
 mod PathLaws
 mod RowLaws
 mod TreeLaws

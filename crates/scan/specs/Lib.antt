@@ -1,4 +1,7 @@
+pub mod Ahead
+pub mod Kept
 pub mod Leaf
 pub mod Left
+pub mod Merge
 pub mod Path
 pub mod Walk

@@ -1,49 +1,79 @@
-ghost use Rattle.std.specs.Prelude.{◌≡◌};
-ghost use Rattle.std.specs.Option.{option_map};
+ghost use Rattle.std.specs.Prelude.{◌≡◌, []};
 ghost use Rattle.std.specs.Iterator.{YieldsFirstBy, item_count};
 ghost use Rattle.delta_chain.specs.Layers.{entries_of};
-ghost use Rattle.scan.specs.Leaf.{from, behind, left_after};
+ghost use Rattle.scan.specs.Leaf.{from};
+ghost use Rattle.scan.specs.Kept.{pairs_of};
 
+use crate::base_pairs::BasePairs;
+use crate::merge::{Merge, next_pair};
+use crate::search::Search;
 use delta_chain::Chain;
 use keys::Value;
-use page_search::{Probes, above, find};
 use std::alloc::Global;
 use std::marker::Model;
 
-/// The pairs of one leaf in key order, from a key on. Contracts see it as the list of those that are left.
+/// The pairs of one leaf in key order, from a key on: of each the key and the value, lent out of the leaf. It takes no
+/// memory. Contracts see it as the list of those that are left.
 #[derive(Drop)]
-pub(crate) struct LeafPairs<'a> {
-    chain: &'a Chain<Value<Global>, Global>,
-    next: Option<(&'a [u8], &'a Value<Global>)>,
+pub struct LeafPairs<'a> {
+    kept: Kept<'a>,
+}
+
+// How a leaf is walked: without runs along its base, and with up to 16 by a merge. With more, for which there are no places,
+// it is searched from key to key.
+#[derive(Drop)]
+enum Kept<'a> {
+    Plain(BasePairs<'a>),
+    Merging(Merge<'a>),
+    Searching(Search<'a>),
 }
 
 impl<'a> Model for LeafPairs<'a> {
     ghost use Rattle.std.specs.Prelude.{List, ℕ};
-    ghost use Rattle.std.specs.Option.{option_map};
-    ghost use Rattle.delta_chain.specs.Layers.{entries_of};
-    ghost use Rattle.scan.specs.Leaf.{left_after};
+    ghost use Rattle.scan.specs.Kept.{pairs_of};
 
     ghost Value = { List (List ℕ × List ℕ) };
 
-    ghost view = { λ l. left_after (option_map (λ e. (e.0.now, e.1.now)) l.next) (entries_of l.chain.now) };
+    ghost view = { λ l. pairs_of l.kept };
 }
 
 impl<'a> LeafPairs<'a> {
-    // The leaf's pairs from the key on.
-    pub(crate) fn new(chain: &'a Chain<Value<Global>, Global>, key: &'a [u8]) -> Self
+    /// The leaf's pairs from the key on.
+    pub fn new(alloc: Global, chain: &'a Chain<Value<Global>, Global>, key: &[u8]) -> Self
         ensures { result ≡ from key.now (entries_of chain.now) }
     {
-        let _in_order = chain.depth();
-        match find(chain, key, &mut Probes::new()) {
-            Some(value) => LeafPairs {
-                chain,
-                next: Some((key, value)),
-            },
-            None => LeafPairs {
-                chain,
-                next: next_behind(chain, key),
-            },
+        if chain.depth() == 0 {
+            LeafPairs {
+                kept: Kept::Plain(BasePairs::new(chain.base(), key)),
+            }
+        } else {
+            LeafPairs {
+                kept: among_runs(alloc, chain, key),
+            }
         }
+    }
+
+    // Walks this leaf from its first pair on, in place of the one before: in the same places, so that nothing large is moved.
+    pub(crate) fn restart(&mut self, alloc: Global, chain: &'a Chain<Value<Global>, Global>)
+        ensures { self.new ≡ from [] (entries_of chain.now) }
+    {
+        match &mut self.kept {
+            Kept::Plain(pairs) if chain.depth() == 0 => *pairs = BasePairs::new(chain.base(), &[]),
+            Kept::Merging(merge) if chain.depth() <= 16 => merge.restart(chain, &[]),
+            _ => *self = LeafPairs::new(alloc, chain, &[]),
+        }
+    }
+}
+
+// A leaf with runs. The places of a merge are large, so this is kept apart from the walk along a base.
+#[inline(never)]
+fn among_runs<'a>(alloc: Global, chain: &'a Chain<Value<Global>, Global>, key: &[u8]) -> Kept<'a>
+    ensures { pairs_of result ≡ from key.now (entries_of chain.now) }
+{
+    if chain.depth() <= 16 {
+        Kept::Merging(Merge::new(alloc, chain, key))
+    } else {
+        Kept::Searching(Search::new(chain, key))
     }
 }
 
@@ -55,23 +85,10 @@ impl<'a> Iterator for LeafPairs<'a> {
     ghost remaining = { item_count (λ left. left) };
 
     fn next(&mut self) -> Option<(&'a [u8], &'a Value<Global>)> {
-        match self.next {
-            Some((key, value)) => {
-                self.next = next_behind(self.chain, key);
-                Some((key, value))
-            }
-            None => None,
+        match &mut self.kept {
+            Kept::Plain(pairs) => pairs.next(),
+            Kept::Merging(merge) => next_pair(merge),
+            Kept::Searching(search) => search.next(),
         }
     }
-}
-
-// The first pair behind the key: with it those behind the key begin.
-fn next_behind<'a>(
-    chain: &'a Chain<Value<Global>, Global>,
-    key: &[u8],
-) -> Option<(&'a [u8], &'a Value<Global>)>
-    ensures { left_after (option_map (λ e. (e.0.now, e.1.now)) result) (entries_of chain.now) ≡ behind key.now (entries_of chain.now) }
-{
-    let _in_order = chain.depth();
-    above(chain, key, &mut Probes::new())
 }

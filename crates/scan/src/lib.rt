@@ -2,9 +2,15 @@
 //! takes no memory.
 #![tactic(auto)]
 
-mod leaf;
+mod ahead;
+mod base_pairs;
+mod changes;
+pub mod leaf;
 mod leaves;
+mod merge;
 pub mod rows;
+mod search;
 mod step;
 
+pub use crate::leaf::LeafPairs;
 pub use crate::rows::Rows;

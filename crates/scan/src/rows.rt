@@ -18,6 +18,7 @@ use std::marker::Model;
 /// memory. Contracts see it as the list of the rows that are left.
 #[derive(Drop)]
 pub struct Rows<'a> {
+    alloc: Global,
     leaf: LeafPairs<'a>,
     leaves: Leaves<'a>,
     hi: Option<&'a [u8]>,
@@ -52,7 +53,8 @@ impl<'a> Rows<'a> {
     {
         let (first, leaves) = Leaves::new(alloc, tree, lo);
         Rows {
-            leaf: LeafPairs::new(first, lo),
+            alloc,
+            leaf: LeafPairs::new(alloc, first, lo),
             leaves,
             hi,
             left: limit,
@@ -71,7 +73,7 @@ impl<'a> Iterator for Rows<'a> {
         if self.left == 0 {
             return None;
         }
-        match next_pair(&mut self.leaf, &mut self.leaves) {
+        match next_pair(self.alloc, &mut self.leaf, &mut self.leaves) {
             Some((key, value)) if is_before(self.hi, key) => {
                 self.left -= 1;
                 Some((key, value.as_bytes()))
@@ -86,6 +88,7 @@ impl<'a> Iterator for Rows<'a> {
 
 // The next pair of the leaf, or else of the leaves behind it.
 fn next_pair<'a>(
+    alloc: Global,
     leaf: &mut LeafPairs<'a>,
     leaves: &mut Leaves<'a>,
 ) -> Option<(&'a [u8], &'a Value<Global>)>
@@ -96,7 +99,7 @@ fn next_pair<'a>(
             return Some(pair);
         }
         match leaves.next() {
-            Some(chain) => *leaf = LeafPairs::new(chain, &[]),
+            Some(chain) => leaf.restart(alloc, chain),
             None => return None,
         }
     }

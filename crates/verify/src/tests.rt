@@ -422,14 +422,18 @@ fn push_value(
     }
 }
 
-fn push_child(base: &mut BaseBuilder<Pid, Global>, low: &str, pid: &str) -> Result<(), AllocError> {
-    let pid = match pid.as_bytes().first() {
-        Some(digit) => u64::from(digit.saturating_sub(b'0')),
-        None => 0,
-    };
+fn push_child(base: &mut BaseBuilder<Pid, Global>, low: &str, pid: u64) -> Result<(), AllocError> {
     match base.push(low.as_bytes(), Pid(pid)) {
         Ok(()) => Ok(()),
         Err(_) => Err(AllocError),
+    }
+}
+
+// The number that the text's one digit is.
+fn digit(text: &str) -> u64 {
+    match text.as_bytes().first() {
+        Some(digit) => u64::from(digit.saturating_sub(b'0')),
+        None => 0,
     }
 }
 
@@ -516,7 +520,7 @@ fn index(alloc: Global, row: &PageRow) -> Result<Page<Global>, AllocError> {
     let mut base = BaseBuilder::with_capacity(alloc, 5, 5)?;
     for word in row.base.split(' ') {
         if let Some((low, pid)) = word.split_once('=') {
-            push_child(&mut base, low, pid)?;
+            push_child(&mut base, low, digit(pid))?;
         }
     }
     Ok(Page::index(low, Chain::of_base(base.finish())))
@@ -531,14 +535,13 @@ fn page_of(alloc: Global, row: &PageRow) -> Result<Page<Global>, AllocError> {
 }
 
 fn settle(
-    alloc: Global,
     table: &mut Table<Page<Global>, Global>,
-    row: &PageRow,
+    pid: u64,
+    page: Page<Global>,
 ) -> Result<(), AllocError> {
-    let page = page_of(alloc, row)?;
-    table.room(row.pid)?;
-    if table.is_away(row.pid) {
-        table.put(row.pid, page);
+    table.room(pid)?;
+    if table.is_away(pid) {
+        table.put(pid, page);
     }
     Ok(())
 }
@@ -549,7 +552,7 @@ fn settle_all(
     rows: &[PageRow],
 ) -> Result<(), AllocError> {
     for row in rows {
-        settle(alloc, table, row)?;
+        settle(table, row.pid, page_of(alloc, row)?)?;
     }
     Ok(())
 }
@@ -562,20 +565,30 @@ fn tree_of(alloc: Global, row: &Row) -> Result<Tree<Global>, AllocError> {
     }
 }
 
-// Whether what is told of the row's tree is what the row says.
-fn comes_out(rt: &(impl Threads + Sync), alloc: Global, row: &Row) -> Result<bool, Fault> {
-    let tree = tree_of(alloc, row)?;
+// Whether this is what is told of the tree.
+fn is_told(
+    rt: &(impl Threads + Sync),
+    alloc: Global,
+    tree: &Tree<Global>,
+    told: &str,
+) -> Result<bool, Fault> {
     if !tree.are_all_home() {
         return Ok(false);
     }
-    let told = match verify(rt, alloc, &tree, &S) {
+    let text = match verify(rt, alloc, tree, &S) {
         Ok(report) => {
             format!(in alloc; "ok {} {} {}", report.pages, report.height, report.pairs)?
         }
         Err(Fault::NoMemory) => return Err(Fault::NoMemory),
         Err(fault) => fault.to_string(alloc)?,
     };
-    Ok(told.as_str() == row.told)
+    Ok(text.as_str() == told)
+}
+
+// Whether what is told of the row's tree is what the row says.
+fn comes_out(rt: &(impl Threads + Sync), alloc: Global, row: &Row) -> Result<bool, Fault> {
+    let tree = tree_of(alloc, row)?;
+    is_told(rt, alloc, &tree, row.told)
 }
 
 // To be run with each allocation refused in turn too, by `rt try --test --fail-alloc N`: then one row can't be told.
@@ -592,4 +605,55 @@ fn the_rows_come_out(rt: HostRuntime) {
         at = at.saturating_add(1);
     }
     assert!(rt; right >= 15, "{right} right");
+}
+
+// A page on one of the two ways down from the root of a high tree: a leaf with one key, or an index page with one child, whose page
+// id is two less.
+fn page_on_the_way(alloc: Global, low: &'static str, pid: u64) -> Result<Page<Global>, AllocError> {
+    if pid < 2 {
+        let row = PageRow {
+            pid,
+            low,
+            is_leaf: true,
+            base: if low.is_empty() { "a" } else { "b" },
+            runs: NO_RUNS,
+        };
+        return leaf(alloc, &row);
+    }
+    let mut base = BaseBuilder::with_capacity(alloc, 1, 1)?;
+    push_child(&mut base, low, pid - 2)?;
+    let low = Key::from_bytes(alloc, low.as_bytes())?;
+    Ok(Page::index(low, Chain::of_base(base.finish())))
+}
+
+// The pages of a tree of 64 levels: the root has two children, and each page below it one.
+fn settle_high(alloc: Global, table: &mut Table<Page<Global>, Global>) -> Result<(), AllocError> {
+    for pid in 0..126u64 {
+        let low = if pid % 2 == 0 { "" } else { "b" };
+        settle(table, pid, page_on_the_way(alloc, low, pid)?)?;
+    }
+    let mut base = BaseBuilder::with_capacity(alloc, 2, 1)?;
+    push_child(&mut base, "", 124)?;
+    push_child(&mut base, "b", 125)?;
+    settle(
+        table,
+        126,
+        Page::index(Key::empty(alloc), Chain::of_base(base.finish())),
+    )
+}
+
+// A tree of 64 levels.
+fn high_tree(alloc: Global) -> Result<Tree<Global>, AllocError> {
+    let mut table = Table::new(alloc);
+    match settle_high(alloc, &mut table) {
+        Ok(()) => Ok(Tree::new(table, Pid(126), 64)),
+        Err(refused) => Err(refused),
+    }
+}
+
+#[test]
+fn a_tree_of_64_levels_is_walked(rt: HostRuntime) -> Result<(), Fault> {
+    let tree = high_tree(rt.alloc())?;
+    assert!(rt; is_told(&rt, rt.alloc(), &tree, "ok 127 64 2")?);
+    Ok(())
 }

@@ -1,5 +1,8 @@
-use Rattle.bwsh.proofs.PrintedLaws.{printed-said}
+use Rattle.bwsh.proofs.PrintedLaws.{printed-orders, printed-said}
 use Rattle.bwsh.proofs.laws.the_commands_are_answered_in_order.Goals as goal
 
 pub returns : goal.returns
-returns c = printed-said
+returns c = record {
+  orders = printed-orders;
+  lines = printed-said;
+}

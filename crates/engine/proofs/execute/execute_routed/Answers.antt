@@ -3,7 +3,7 @@ use Rattle.mapping.specs.Levels.{contents}
 use Rattle.mapping.specs.TreeInMemory.{AreAllHome, tree_of}
 use Rattle.climb_plan.specs.Plan.{planned_tree}
 use Rattle.engine.specs.Batch.{IsLaterFault}
-use Rattle.engine.proofs.Routed.{as_store, sound_planned, on_any_error, sound_rising, leaf_routes, each_once, as_a_map, some_ready, for_this, again_away, again_back}
+use Rattle.engine.proofs.Routed.{as_store, sound_planned, on_any_error, sound_rising, leaf_routes, answered, as_a_map, some_ready, for_this, again_away, again_back}
 use Rattle.engine.proofs.execute.execute_routed.Goals as goal
 
 pub work_leaves-requires : goal.work_leaves-requires
@@ -15,8 +15,8 @@ returns-in_err-leaves-clause-sound c = rw (c.in_err-leaves.ensures.err (sound_ri
 pub returns-in_err-leaves-clause-err : goal.returns-in_err-leaves-clause-err
 returns-in_err-leaves-clause-err c = on_any_error c.from_residual.result (c.in_err-leaves.ensures.err (sound_rising c.args.settings.now c.args.tree.now c.requires.sound))
 
-pub finish-requires-clause-once : goal.finish-requires-clause-once
-finish-requires-clause-once c = each_once c.args.settings.now c.args.tree.now c.args.commands.now c.requires.sound c.args.page_runs.items c.requires.routed c.in_ok-leaves.leaves.items c.in_ok-leaves.ensures.made
+pub finish-requires-clause-answered : goal.finish-requires-clause-answered
+finish-requires-clause-answered c = answered c.args.settings.now c.args.tree.now c.args.commands.now c.requires.sound c.args.page_runs.items c.requires.routed c.in_ok-leaves.leaves.items c.in_ok-leaves.ensures.made
 
 pub finish-requires-clause-ready : goal.finish-requires-clause-ready
 finish-requires-clause-ready c = some_ready c.args.settings.now c.args.tree.now c.args.commands.now c.requires.sound c.args.page_runs.items c.requires.routed c.in_ok-leaves.leaves.items c.in_ok-leaves.ensures.made c.work_leaves.new.tree c.in_ok-leaves.ensures.taken
@@ -26,7 +26,7 @@ undo_leaves-requires c =
     again_away c.args.settings.now c.args.tree.now c.args.commands.now c.requires.sound c.args.page_runs.items c.requires.routed c.in_ok-leaves.leaves.items c.in-Err.leaves.items c.in_ok-leaves.ensures.held c.in-Err.ensures.back c.work_leaves.new.tree c.finish.new.tree c.in_ok-leaves.ensures.taken c.in-Err.ensures.err
 
 pub returns-in-Ok-clause-replies : goal.returns-in-Ok-clause-replies
-returns-in-Ok-clause-replies c = as_a_map c.args.settings.now c.args.tree.now c.args.commands.now c.requires.sound c.args.page_runs.items c.requires.routed c.in_ok-leaves.leaves.items c.in_ok-leaves.ensures.made c.in-Ok.replies.items c.in-Ok.ensures.count c.in-Ok.ensures.replies
+returns-in-Ok-clause-replies c = as_a_map c.args.settings.now c.args.tree.now c.args.commands.now c.requires.sound c.args.page_runs.items c.requires.routed c.in_ok-leaves.leaves.items c.in_ok-leaves.ensures.made c.in-Ok.replies.items c.in-Ok.ensures.replies
 
 pub returns-in-Ok-clause-tree : goal.returns-in-Ok-clause-tree
 returns-in-Ok-clause-tree c =

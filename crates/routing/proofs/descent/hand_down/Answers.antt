@@ -1,25 +1,30 @@
-use Rattle.std.proofs.Common.{◌+◌, refl, arith}
-use Rattle.std.proofs.lemmas.List.{take_rest}
-use Rattle.routing.proofs.ShareLaws.{rest_keyed, hand_step, keys_step, all_handed}
+use Rattle.std.proofs.Common.{◌++◌, List, Result, Ok, Err, OnOk, sym, ap, ◌∙◌}
+use Rattle.routing.specs.Shares.{Share, lent_shares}
+use Rattle.routing.proofs.ShareLaws.{can_keyed, IsOfPoints, of_batch, of_share}
 use Rattle.routing.proofs.descent.hand_down.Goals as goal
+use Rattle.routing.proofs.descent.hand_down.Goals.{else-scanned-via-then-scanned+else-is_met, else-scanned-via-else-scanned}
 
-pub first_child-pid-requires-clause-ready : goal.first_child-pid-requires-clause-ready
-first_child-pid-requires-clause-ready c = (c.requires.0, rest_keyed c.requires.0 c.args.page.now c.args.keyed.now _ c.loop-start.start (take_rest c.args.keyed.now c.loop-start.start) c.requires.1)
+ok_then : {T E P Q : Type 0} (r : Result T E) → (P → Q) → OnOk r P → OnOk r Q
+ok_then (Ok v) f h = f h
+ok_then (Err e) f h = tt
 
-pub loop-start-preserved : goal.loop-start-preserved
-loop-start-preserved c =
+pub hand_down_points-requires : goal.hand_down_points-requires
+hand_down_points-requires c = (c.args.commands.now, can_keyed c.args.commands.now c.args.page.now c.args.share.now _ c.keyed.ensures c.requires.share c.requires.keys)
+
+pub returns-else-scanned-clause-shares : goal.returns-else-scanned-clause-shares
+returns-else-scanned-clause-shares c =
+    let cs = c.args.commands.now in
     let page = c.args.page.now in
-    let es = c.args.keyed.now in
-    let start = c.loop-start.start in
-    let n = c.first_child-pid.result.1 in
-    let rest = take_rest es start in
-    let old = c.loop-start.below.items in
-    let new = c.push.new.self.items in
-    record {
-      most = omega arith;
-      shares = λ cs h. hand_step cs page es _ start n (start + n) c.first_child-pid.result.0 old new _ _ rest refl c.pid.view_is refl c.in_ok-push.ensures.items (c.first_child-pid.ensures.first cs (rest_keyed cs page es _ start rest h)) (c.loop-start.invariant.shares cs h);
-      keys = λ cs h k. keys_step cs es start (start + n) old new _ refl c.in_ok-push.ensures.items h.keys (c.loop-start.invariant.keys cs h k);
-    }
+    let own : IsOfPoints cs page c.args.share.now c.keyed.result.now = elim c.else-scanned.branch [
+      | else-scanned-via-then-scanned+else-is_met w ↦ of_share cs page c.args.share.now c.keyed.result.now c.keyed.ensures (sym w.is_met.ensures ∙ w.if-is_met.false)
+      | else-scanned-via-else-scanned w ↦ of_batch cs page c.args.share.now c.keyed.result.now c.keyed.ensures c.requires.share (sym c.requires.scanned ∙ w.if-scanned.false)
+    ] in
+    ok_then c.hand_down_points.result
+    (λ f. f cs own.points (can_keyed cs page c.args.share.now _ c.keyed.ensures c.requires.share c.requires.keys) ∙ ap (λ (ss : List Share). lent_shares c.args.below.now.items ++ ss) own.alone)
+    c.hand_down_points.ensures.shares
 
-pub returns-clause-shares : goal.returns-clause-shares
-returns-clause-shares c = λ cs h. all_handed cs c.args.page.now c.args.keyed.now c.loop-start.start c.loop-start.below.items _ c.loop-start-test.false (c.loop-start.invariant.shares cs h)
+pub returns-else-scanned-clause-keys : goal.returns-else-scanned-clause-keys
+returns-else-scanned-clause-keys c =
+    ok_then c.hand_down_points.result
+    (λ f a. f c.args.commands.now (can_keyed c.args.commands.now c.args.page.now c.args.share.now _ c.keyed.ensures c.requires.share c.requires.keys).keys a)
+    c.hand_down_points.ensures.keys

@@ -1,0 +1,10 @@
+use Rattle.std.proofs.Common.{refl}
+use Rattle.bwsh.proofs.PrintedLaws.{printed-batch, printed-verify}
+use Rattle.bwsh.proofs.laws.each_order_prints_its_answer.Goals as goal
+
+pub returns : goal.returns
+returns c = record {
+  none = λ settings tree m. refl;
+  batch = printed-batch;
+  verify = printed-verify;
+}

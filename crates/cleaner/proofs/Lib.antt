@@ -1,0 +1,6 @@
+mod CarryLaws
+pub mod CleanBack
+mod CleanCrash
+mod CleanLaws
+mod CleanRows
+pub mod StepsLaws

@@ -1,0 +1,3 @@
+pub mod AfterClean
+pub mod CleanText
+pub mod Steps

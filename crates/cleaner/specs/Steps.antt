@@ -1,0 +1,118 @@
+-- Batches, flushes and cleans, one after the other, over a store and the bytes of its disk.
+use Rattle.std.specs.Prelude.{◌≡◌, ℕ, List, [], ◌∷◌, length, take, Option, Some, None, Result, Ok, Err}
+use Rattle.keys.specs.Lists.{flat}
+use Rattle.keys.specs.Step.{replies_to, map_after_all}
+use Rattle.keys.specs.declared.command.Command.{Command}
+use Rattle.keys.specs.declared.command.Reply.{Reply}
+use Rattle.keys.specs.declared.fault.Fault.{Fault}
+use Rattle.keys.specs.declared.settings.Settings.{Settings}
+use Rattle.mapping.specs.Levels.{contents}
+use Rattle.mapping.specs.Tree.{Tree, Store}
+use Rattle.flush_log.specs.AfterFlush.{after_flush}
+use Rattle.flush_log.specs.FlushText.{flushed}
+use Rattle.flush_log.specs.WordPids.{HasWordPids}
+use Rattle.recovery.specs.InStep.{IsStoreOf}
+use Rattle.recovery.specs.StoreOfDisk.{and_then, store_of_disk}
+use Rattle.cleaner.specs.AfterClean.{after_clean}
+
+-- ---- steps and answers
+
+pub data Step (A : Type 0) : Type 0 where
+  Batch : List (Command A) → Step A
+  Flush : Step A
+  Clean : Step A
+
+-- the replies to a batch; after a flush the sequence number; after a clean the head segment
+pub data Answer (A : Type 0) : Type 0 where
+  Replies : List (Reply A) → Answer A
+  Flushed : ℕ → Answer A
+  Cleaned : ℕ → Answer A
+
+-- what batches do to a tree: why one is refused, or else the tree after it
+pub record Batching (A : Type 0) : Type 0 where
+  pub refusal : Tree → List (Command A) → Option Fault
+  pub planned : Tree → List (Command A) → Tree
+
+-- ---- what they leave
+
+-- the store with another tree: a batch doesn't touch the log
+abbrev pub with_tree : Store → Tree → Store
+with_tree st t = record { tree = t; head = st.head; tail = st.tail; sequence = st.sequence }
+
+-- what a step leaves of a store and of the bytes of its disk, behind its answer; or why it is refused
+abbrev pub unless_refused : {A : Type 0} → Option Fault → Answer A → Store → List ℕ → Result (Answer A × (Store × List ℕ)) Fault
+unless_refused None answer st file = Ok (answer, (st, file))
+unless_refused (Some fault) answer st file = Err fault
+
+abbrev pub after_step : {A : Type 0} → Batching A → Settings → Store → List ℕ → Step A → Result (Answer A × (Store × List ℕ)) Fault
+after_step b s st file (Batch cs) = unless_refused (b.refusal st.tree cs) (Replies (replies_to (contents st.tree) cs)) (with_tree st (b.planned st.tree cs)) file
+after_step b s st file Flush = and_then (after_flush s st file) (λ p. Ok (Flushed p.0.sequence, p))
+after_step b s st file Clean = and_then (after_clean s st file) (λ p. Ok (Cleaned p.0.head, p))
+
+-- the answers to steps up to the first that is refused, what they leave, and why that one was refused
+pub record Played (A : Type 0) : Type 0 where
+  pub answers : List (Answer A)
+  pub store : Store
+  pub bytes : List ℕ
+  pub fault : Option Fault
+
+-- the same behind another answer
+abbrev pub behind_answer : {A : Type 0} → Answer A → Played A → Played A
+behind_answer a p = record { answers = a ∷ p.answers; store = p.store; bytes = p.bytes; fault = p.fault }
+
+-- what is played on from what a step left; where it was refused, nothing is, and the store and the bytes stay
+abbrev pub played_on : {A : Type 0} → Store → List ℕ → Result (Answer A × (Store × List ℕ)) Fault → (Store → List ℕ → Played A) → Played A
+played_on st file (Ok p) next = behind_answer p.0 (next p.1.0 p.1.1)
+played_on st file (Err fault) next = record { answers = []; store = st; bytes = file; fault = Some fault }
+
+-- the steps, played on a store and the bytes of its disk
+abbrev pub plays : {A : Type 0} → Batching A → Settings → Store → List ℕ → List (Step A) → Played A
+plays b s st file [] = record { answers = []; store = st; bytes = file; fault = None }
+plays b s st file (x ∷ xs) = played_on st file (after_step b s st file x) (λ now bytes. plays b s now bytes xs)
+
+-- ---- what they come to
+
+-- the batches among steps, and the replies among answers
+abbrev pub batches_among : {A : Type 0} → List (Step A) → List (List (Command A))
+batches_among [] = []
+batches_among (Batch cs ∷ xs) = cs ∷ batches_among xs
+batches_among (Flush ∷ xs) = batches_among xs
+batches_among (Clean ∷ xs) = batches_among xs
+
+abbrev pub replies_among : {A : Type 0} → List (Answer A) → List (List (Reply A))
+replies_among [] = []
+replies_among (Replies rs ∷ answers) = rs ∷ replies_among answers
+replies_among (Flushed n ∷ answers) = replies_among answers
+replies_among (Cleaned n ∷ answers) = replies_among answers
+
+-- the tree that the last flush of these steps wrote, or the one that was written before them
+abbrev pub last_written : {A : Type 0} → Batching A → Tree → Tree → List (Step A) → Tree
+last_written b written now [] = written
+last_written b written now (Batch cs ∷ xs) = last_written b written (b.planned now cs) xs
+last_written b written now (Flush ∷ xs) = last_written b (flushed now) (flushed now) xs
+last_written b written now (Clean ∷ xs) = last_written b written now xs
+
+-- the trees after each batch and each flush
+abbrev pub trees_in_turn : {A : Type 0} → Batching A → Tree → List (Step A) → List Tree
+trees_in_turn b now [] = []
+trees_in_turn b now (Batch cs ∷ xs) = b.planned now cs ∷ trees_in_turn b (b.planned now cs) xs
+trees_in_turn b now (Flush ∷ xs) = flushed now ∷ trees_in_turn b (flushed now) xs
+trees_in_turn b now (Clean ∷ xs) = trees_in_turn b now xs
+
+-- ---- what is promised of them
+
+-- a batch that isn't refused does to what a store holds what its commands do, and leaves the store in step with its disk
+abbrev pub KeepsStores : {A : Type 0} → Settings → Batching A → Type 0
+KeepsStores {A} s b = (st : Store) (file : List ℕ) (cs : List (Command A)) → IsStoreOf s st file → b.refusal st.tree cs ≡ None → HasWordPids (b.planned st.tree cs) →
+    (contents (b.planned st.tree cs) ≡ map_after_all (contents st.tree) cs) × IsStoreOf s (with_tree st (b.planned st.tree cs)) file
+
+-- Of steps that were played, as far as they were, on a store with this tree, whose disk stood for one with the tree that is
+-- written: the replies are those of an ordered map that takes all their commands one by one, and the store holds what that map
+-- holds; the disk stands for the tree of the last flush, or else for the one that was written, with the head, the tail and the
+-- number that there are now.
+pub record ArePlayed {A : Type 0} (b : Batching A) (s : Settings) (now written : Tree) (steps : List (Step A)) (p : Played A) : Type 0 where
+  pub replies : flat (replies_among p.answers) ≡ replies_to (contents now) (flat (batches_among (take (length p.answers) steps)))
+  pub holds : contents p.store.tree ≡ map_after_all (contents now) (flat (batches_among (take (length p.answers) steps)))
+  pub disk : store_of_disk p.bytes
+      ≡ Ok (s, record { tree = last_written b written now (take (length p.answers) steps); head = p.store.head; tail = p.store.tail; sequence = p.store.sequence })
+  pub store : IsStoreOf s p.store p.bytes

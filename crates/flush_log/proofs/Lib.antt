@@ -1,0 +1,28 @@
+mod ByteRowNine
+mod ByteRowOne
+mod ByteRowThree
+pub mod CallLaws
+pub mod CalledLaws
+pub mod CommitLaws
+pub mod FitLaws
+pub mod HeadLaws
+pub mod HideLaws
+pub mod LayoutLaws
+pub mod Literals
+pub mod NewStoreLaws
+pub mod NextSlotLaws
+pub mod NumberLaws
+pub mod OutcomeLaws
+pub mod OverlayLaws
+pub mod PlaceLaws
+mod PlaceRows
+pub mod ReadBackLaws
+pub mod SegmentLaws
+pub mod SettingsLaws
+pub mod SlotLaws
+mod SlotRows
+pub mod StandingLaws
+pub mod StandsLaws
+pub mod TailLaws
+mod TextRows
+pub mod ViewLaws

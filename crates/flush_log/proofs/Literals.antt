@@ -1,0 +1,46 @@
+-- What the worked rows of the log are written in: pages, trees, frames.
+use Rattle.std.specs.Prelude.{ℕ, List, [], ◌∷◌, Option, Some, None, codes}
+use Prim.Native.String.{String}
+use Rattle.index_page.specs.Page.{PageOfKind}
+use Rattle.index_page.specs.Page.PageOfKind.{Leaf, Index}
+use Rattle.mapping.specs.Tree.{Logged, Tree}
+use Rattle.frame_codec.specs.Frame.{Content, Frame}
+
+-- a pair of a key and a value, by their letters; a change that sets it, and one that takes the key away
+abbrev pub pair : String → String → List ℕ × List ℕ
+pair k v = (codes k, codes v)
+
+abbrev pub set : String → String → List ℕ × Option (List ℕ)
+set k v = (codes k, Some (codes v))
+
+abbrev pub gone : {V : Type 0} → String → List ℕ × Option V
+gone k = (codes k, None)
+
+-- pages under their pids, with a low key, runs (newest first) and a base
+abbrev pub leaf : ℕ → String → List (List (List ℕ × Option (List ℕ))) → List (List ℕ × List ℕ) → ℕ × PageOfKind
+leaf pid low runs base = (pid, Leaf (record { low = codes low; layers = record { runs = runs; base = base } }))
+
+abbrev pub index : ℕ → String → List (List (List ℕ × Option ℕ)) → List (List ℕ × ℕ) → ℕ × PageOfKind
+index pid low runs base = (pid, Index (record { low = codes low; layers = record { runs = runs; base = base } }))
+
+-- pages, root, height, and what the log has
+abbrev pub tree : List (ℕ × PageOfKind) → ℕ → ℕ → List (ℕ × Logged) → Tree
+tree pages root height logged = record { pages = pages; root = root; height = height; logged = logged }
+
+-- a frame
+abbrev pub frame : ℕ → Content → Frame
+frame pid content = record { pid = pid; content = content }
+
+-- ---- row 4: two leaves under an index page
+
+abbrev pub base_0 : List (List ℕ × List ℕ)
+base_0 = pair "a" "1" ∷ pair "b" "2" ∷ []
+
+abbrev pub base_1 : List (List ℕ × List ℕ)
+base_1 = pair "c" "3" ∷ pair "d" "4" ∷ pair "e" "5" ∷ []
+
+abbrev pub base_2 : List (List ℕ × ℕ)
+base_2 = ([], 0) ∷ (codes "c", 1) ∷ []
+
+abbrev pub pages_of_row_4 : List (ℕ × PageOfKind)
+pages_of_row_4 = leaf 0 "" [] base_0 ∷ leaf 1 "c" [] base_1 ∷ index 2 "" [] base_2 ∷ []

@@ -1,0 +1,14 @@
+use Rattle.std.proofs.Common.{arith}
+use Rattle.flush_log.proofs.FitLaws.{are_sized}
+use Rattle.flush_log.proofs.OutcomeLaws.{after-length, after-settings, after-slot, after-log, after-text, text-fits}
+use Rattle.flush_log.proofs.commit_laws.what_was_committed_is_read.Goals as goal
+
+pub returns : goal.returns
+returns c = record {
+  length = after-length;
+  settings = after-settings;
+  slot = λ s file rs t u good long fit is next may. after-slot s file rs u long fit t (let size = (are_sized s good).least_size in omega arith) is next may;
+  log = λ s file rs u head tail good whole fit. after-log s file rs u whole fit (let count = (are_sized s good).least_count in omega arith) head tail;
+  text = λ s file t text u found room read. after-text s file t text room u found read;
+  within = text-fits;
+}

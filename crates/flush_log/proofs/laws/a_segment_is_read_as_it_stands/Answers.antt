@@ -1,0 +1,15 @@
+use Rattle.std.proofs.Common.{refl}
+use Rattle.flush_log.specs.Reading.{is_at_tail, is_padding}
+use Rattle.flush_log.proofs.SegmentLaws.{padding-ends, tail-ends, zeros-pad}
+use Rattle.flush_log.proofs.StandingLaws.{earlier-stands, last-stands, frames-read, segment-headless, segment-broken}
+use Rattle.flush_log.proofs.laws.a_segment_is_read_as_it_stands.Goals as goal
+
+pub returns : goal.returns
+returns c = record {
+  earlier = earlier-stands;
+  last = last-stands;
+  earlier_back = λ s n zeros bytes fs good. frames-read s good n is_padding padding-ends fs zeros bytes (zeros-pad zeros);
+  last_back = λ s n bytes fs good. frames-read s good n is_at_tail tail-ends fs 0 bytes refl;
+  bad_segment = λ s is_end n m bytes. segment-headless s is_end n bytes m;
+  bad_frame = λ s is_end n m offset bytes are none. segment-broken s is_end none n bytes m offset are;
+}

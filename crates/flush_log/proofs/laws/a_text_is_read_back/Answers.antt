@@ -1,0 +1,5 @@
+use Rattle.flush_log.proofs.ReadBackLaws.{text-back}
+use Rattle.flush_log.proofs.laws.a_text_is_read_back.Goals as goal
+
+pub returns : goal.returns
+returns c s file head tail found text good = text-back s good file head tail found text

@@ -1,0 +1,5 @@
+use Rattle.flush_log.proofs.StandsLaws.{text-stands}
+use Rattle.flush_log.proofs.laws.each_frame_stands_at_its_place.Goals as goal
+
+pub returns : goal.returns
+returns c s file head tail text good = text-stands s good file head tail text

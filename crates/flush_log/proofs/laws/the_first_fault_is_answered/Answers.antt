@@ -1,0 +1,7 @@
+use Rattle.std.proofs.Common.{arith}
+use Rattle.flush_log.proofs.FitLaws.{are_sized}
+use Rattle.flush_log.proofs.StandingLaws.{first-fault}
+use Rattle.flush_log.proofs.laws.the_first_fault_is_answered.Goals as goal
+
+pub returns : goal.returns
+returns c s file head tail fault good = let size = (are_sized s good).least_size in first-fault s file head tail fault (omega (arith, size))

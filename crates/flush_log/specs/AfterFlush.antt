@@ -1,0 +1,49 @@
+-- A flush: why it is refused, and what it leaves of the store and of its disk.
+use Rattle.std.specs.Prelude.{ℕ, suc, Bool, ◌||◌, nat_lt, if◌then◌else◌, List, [], ◌∷◌, Result, Ok, Err}
+use Rattle.keys.specs.declared.settings.Settings.{Settings}
+use Rattle.keys.specs.declared.fault.Fault.{Fault}
+use Rattle.keys.specs.declared.fault.Fault.TheVariants.{Spent, Full}
+use Rattle.mapping.specs.Tree.{Tree, Store}
+use Rattle.frame_codec.specs.Frame.{Frame}
+use Rattle.flush_log.specs.Commit.{Call, commit_calls, committed}
+use Rattle.flush_log.specs.FlushText.{flush_text, flushed}
+use Rattle.flush_log.specs.Layout.{tail_after, spans, is_full_for_flush}
+use Rattle.flush_log.specs.Slot.{Slot, greatest}
+
+-- the slot for this text of a store
+abbrev pub flush_slot : Settings → Store → List Frame → Slot
+flush_slot s st text = record { sequence = suc st.sequence; head = st.head; tail = tail_after s st.tail text; root = st.tree.root; height = st.tree.height }
+
+-- its number or its tail is above the greatest
+abbrev pub is_spent : Slot → Bool
+is_spent t = nat_lt greatest t.sequence || nat_lt greatest t.tail
+
+-- the store of a slot, with this tree
+abbrev pub store_after : Tree → Slot → Store
+store_after tree t = record { tree = tree; head = t.head; tail = t.tail; sequence = t.sequence }
+
+-- why a commit is refused: its numbers are spent, or the log is full. Else the store and the bytes after it.
+abbrev pub after_commit : Slot → Bool → Store → List ℕ → Result (Store × List ℕ) Fault
+after_commit t is_full st file = if is_spent t then Err Spent else (if is_full then Err Full else Ok (st, file))
+
+-- what a text of a store leaves: nothing is written for an empty one, and the store stays
+abbrev pub after_text : Settings → Store → List ℕ → List Frame → Result (Store × List ℕ) Fault
+after_text s st file [] = Ok (st, file)
+after_text s st file (f ∷ fs) =
+    let t : Slot = flush_slot s st (f ∷ fs) in
+    after_commit t (is_full_for_flush s t.head t.tail) (store_after (flushed st.tree) t) (committed s file (spans s st.tail (f ∷ fs)) t)
+
+-- what a flush leaves of a store and of the bytes of its disk, or why it is refused
+abbrev pub after_flush : Settings → Store → List ℕ → Result (Store × List ℕ) Fault
+after_flush s st file = after_text s st file (flush_text st.tree)
+
+-- ---- the calls of the disk
+
+-- the calls by which a text of a store is written: none for an empty one
+abbrev pub text_calls : Settings → Store → List ℕ → List Frame → List Call
+text_calls s st file [] = []
+text_calls s st file (f ∷ fs) = commit_calls s file (spans s st.tail (f ∷ fs)) (flush_slot s st (f ∷ fs))
+
+-- the calls of a flush
+abbrev pub flush_calls : Settings → Store → List ℕ → List Call
+flush_calls s st file = text_calls s st file (flush_text st.tree)

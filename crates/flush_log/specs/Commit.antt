@@ -1,0 +1,89 @@
+-- The calls of a commit, which makes a new slot the store's, and what a crash may leave of them.
+use Rattle.std.specs.Prelude.{◌≡◌, ◌⊎◌, ℕ, ◌+◌, ◌<◌, ◌≤◌, Bool, true, false, List, [], ◌∷◌, ◌++◌, map, length, take, None, Ok}
+use Rattle.std.specs.List.{AllByRecursion}
+use Rattle.keys.specs.Limits.{first_bad_field}
+use Rattle.keys.specs.declared.settings.Settings.{Settings}
+use Rattle.frame_codec.specs.Frame.{Frame, is_within}
+use Rattle.flush_log.specs.Overlay.{overlay, IsBeside, AgreeAt}
+use Rattle.flush_log.specs.Segments.{HasSegments, last_segment}
+use Rattle.flush_log.specs.Layout.{Span, tail_after, place_of_span, with_spans}
+use Rattle.flush_log.specs.Disk.{Torn}
+use Rattle.flush_log.specs.Slot.{Slot, slot_place, slot_body, slot_bytes, is_open, store_slot}
+
+-- ---- calls of a disk
+
+-- a call that changes a disk: bytes are written from a place on, or all that was written is made to last
+pub data Call : Type 0 where
+  Write : ℕ → List ℕ → Call
+  Sync : Call
+
+-- what a read gives after these calls, of what it gave before
+abbrev pub seen_after : List Call → List ℕ → List ℕ
+seen_after [] seen = seen
+seen_after (Write at bytes ∷ calls) seen = seen_after calls (overlay seen at bytes)
+seen_after (Sync ∷ calls) seen = seen_after calls seen
+
+-- What a crash after these calls may leave, where before them a read gave `seen` and a crash might leave what `might` says.
+-- Between two syncs there may be any bytes where something was written; after a sync there is what a read gives.
+abbrev pub MayLeave : List Call → List ℕ → (List ℕ → Type 0) → List ℕ → Type 0
+MayLeave [] seen might c = might c
+MayLeave (Write at bytes ∷ calls) seen might c = MayLeave calls (overlay seen at bytes) (λ e. (d : List ℕ) × might d × Torn at (length bytes) d e) c
+MayLeave (Sync ∷ calls) seen might c = MayLeave calls seen (λ e. e ≡ seen) c
+
+-- What a crash at some moment of these calls may leave of a settled disk: what one after the first k of them may. A crash in
+-- a write, or after one that failed, leaves what one after it may leave; a sync that failed settles nothing.
+abbrev pub LeftDuring : List Call → List ℕ → List ℕ → Type 0
+LeftDuring calls file c = (k : ℕ) × MayLeave (take k calls) file (λ d. d ≡ file) c
+
+-- ---- the calls of the commit of slot t
+
+-- each span lies within a file of so many bytes
+abbrev pub AreWithin : Settings → ℕ → List Span → Type 0
+AreWithin s long spans = AllByRecursion (λ r. place_of_span s r + length r.bytes ≤ long) spans
+
+-- step 1: where the gate of the slot stands open, it is closed
+abbrev pub close_gate : Bool → ℕ → List Call
+close_gate true place = Write place (0 ∷ []) ∷ []
+close_gate false place = []
+
+-- steps 1 to 5: the gate is closed, the spans are written, and then the slot behind its gate
+abbrev pub prepare : Settings → List ℕ → List Span → Slot → List Call
+prepare s file spans t =
+    close_gate (is_open t.sequence file) (slot_place t.sequence)
+    ++ (map (λ r. Write (place_of_span s r) r.bytes) spans
+    ++ (Sync ∷ Write (slot_place t.sequence + 1) (slot_body t) ∷ Sync ∷ []))
+
+-- steps 6 and 7: the gate is opened
+abbrev pub open_gate : Slot → List Call
+open_gate t = Write (slot_place t.sequence) (1 ∷ []) ∷ Sync ∷ []
+
+-- the seven steps, on a disk with these bytes
+abbrev pub commit_calls : Settings → List ℕ → List Span → Slot → List Call
+commit_calls s file spans t = prepare s file spans t ++ open_gate t
+
+-- the bytes after the commit
+abbrev pub committed : Settings → List ℕ → List Span → Slot → List ℕ
+committed s file spans t = overlay (with_spans s file spans) (slot_place t.sequence) (slot_bytes t)
+
+-- a text of frames finds room behind the tail of a disk's slot, on a disk that has room for all segments
+pub record HasRoom (s : Settings) (file : List ℕ) (t : Slot) (text : List Frame) : Type 0 where
+  pub good : first_bad_field s ≡ None
+  pub whole : HasSegments s file
+  pub slot : store_slot s file ≡ Ok t
+  pub within : AllByRecursion (λ f. is_within s f ≡ true) text
+  pub free : last_segment s (tail_after s t.tail text) < t.head + s.segments
+
+-- ---- what may be left of it
+
+-- a place is in none of these spans
+abbrev pub IsBesideSpans : Settings → List Span → ℕ → Type 0
+IsBesideSpans s spans place = AllByRecursion (λ r. IsBeside (place_of_span s r) (length r.bytes) place) spans
+
+-- a place is in none of these spans, and not in slot n
+abbrev pub IsBesideSlot : Settings → ℕ → List Span → ℕ → Type 0
+IsBesideSlot s n spans place = IsBeside (slot_place n) 64 place × IsBesideSpans s spans place
+
+-- what may be left of a commit that is not done: slot n is as it was, or closed with any bytes behind its gate, and all
+-- else is as it was but for these spans
+abbrev pub IsBefore : Settings → ℕ → List Span → List ℕ → List ℕ → Type 0
+IsBefore s n spans file c = AgreeAt (IsBesideSpans s spans) file c ⊎ ((is_open n c ≡ false) × AgreeAt (IsBesideSlot s n spans) file c)

@@ -1,0 +1,108 @@
+-- Where the frames of a text stand behind a tail, the bytes that are written for them, and when they are too many.
+use Rattle.std.specs.Prelude.{ℕ, zero, suc, ◌+◌, ◌-◌, ◌/◌, ◌%◌, Bool, ◌==◌, nat_le, if◌then◌else◌, List, [], ◌∷◌, ◌++◌, length, map, replicate}
+use Rattle.keys.specs.declared.settings.Settings.{Settings}
+use Rattle.frame_codec.specs.Frame.{Frame, bytes_of}
+use Rattle.flush_log.specs.Overlay.{overlay}
+use Rattle.flush_log.specs.Reading.{Found}
+use Rattle.flush_log.specs.Segments.{segment_header, place_of, position, last_segment}
+
+-- ---- places
+
+-- a frame, and where it stands
+pub record Placed : Type 0 where
+  pub segment : ℕ
+  pub offset : ℕ
+  pub frame : Frame
+
+-- the offset behind a frame
+abbrev pub offset_behind : Placed → ℕ
+offset_behind p = p.offset + length (bytes_of p.frame)
+
+-- each frame of a text, from an offset of segment n on: where it fits in there, else behind the header of the next segment
+abbrev pub placed_from : Settings → ℕ → ℕ → List Frame → List Placed
+placed_from s n offset [] = []
+placed_from s n offset (f ∷ fs) =
+    if nat_le (offset + length (bytes_of f)) s.seg_size
+    then record { segment = n; offset = offset; frame = f } ∷ placed_from s n (offset + length (bytes_of f)) fs
+    else (record { segment = suc n; offset = 16; frame = f } ∷ placed_from s (suc n) (16 + length (bytes_of f)) fs)
+
+-- where a frame may stand in a segment that is used up to this offset: not where its header will be
+abbrev pub behind_header : ℕ → ℕ
+behind_header zero = 16
+behind_header (suc offset) = suc offset
+
+-- the frames of a text that is written from the tail on
+abbrev pub placed : Settings → ℕ → List Frame → List Placed
+placed s tail text = placed_from s (tail / s.seg_size) (behind_header (tail % s.seg_size)) text
+
+-- the position behind the last of these frames
+abbrev pub tail_behind : Settings → ℕ → List Placed → ℕ
+tail_behind s tail [] = tail
+tail_behind s tail (p ∷ ps) = tail_behind s (position s p.segment (offset_behind p)) ps
+
+-- the tail after a text
+abbrev pub tail_after : Settings → ℕ → List Frame → ℕ
+tail_after s tail text = tail_behind s tail (placed s tail text)
+
+-- the text's frames, as a reading of the log finds them
+abbrev pub found_in_text : Settings → ℕ → List Frame → List Found
+found_in_text s tail text = map (λ p. record { segment = p.segment; frame = p.frame }) (placed s tail text)
+
+-- with this tail no segment would be free, which a flush leaves for a clean
+abbrev pub is_full_for_flush : Settings → ℕ → ℕ → Bool
+is_full_for_flush s head tail = nat_le (head + s.segments - 1) (last_segment s tail)
+
+-- with this tail a clean would need more segments than there are
+abbrev pub is_full_for_clean : Settings → ℕ → ℕ → Bool
+is_full_for_clean s head tail = nat_le (head + s.segments) (last_segment s tail)
+
+-- ---- bytes
+
+-- bytes that are written from an offset of a segment on
+pub record Span : Type 0 where
+  pub segment : ℕ
+  pub offset : ℕ
+  pub bytes : List ℕ
+
+-- the offset behind them
+abbrev pub end_of : Span → ℕ
+end_of r = r.offset + length r.bytes
+
+-- the span and more bytes
+abbrev pub longer : Span → List ℕ → Span
+longer r bytes = record { segment = r.segment; offset = r.offset; bytes = r.bytes ++ bytes }
+
+-- the span and zeros to the end of its segment
+abbrev pub filled : Settings → Span → Span
+filled s r = longer r (replicate (s.seg_size - end_of r) 0)
+
+-- a segment's header and these bytes
+abbrev pub begun : ℕ → List ℕ → Span
+begun n bytes = record { segment = n; offset = 0; bytes = segment_header n ++ bytes }
+
+-- the span that a text begins with: nothing so far, or the header where the segment is to be begun
+abbrev pub opened : ℕ → ℕ → Span
+opened n zero = begun n []
+opened n (suc offset) = record { segment = n; offset = suc offset; bytes = [] }
+
+-- the spans of these frames, of which this one is being written: each segment that is left is filled, the next one is begun
+abbrev pub spans_from : Settings → Span → List Placed → List Span
+spans_from s r [] = r ∷ []
+spans_from s r (p ∷ ps) =
+    if p.segment == r.segment
+    then spans_from s (longer r (bytes_of p.frame)) ps
+    else (filled s r ∷ spans_from s (begun p.segment (bytes_of p.frame)) ps)
+
+-- what is written for a text from the tail on, one span for each segment
+abbrev pub spans : Settings → ℕ → List Frame → List Span
+spans s tail [] = []
+spans s tail (f ∷ fs) = spans_from s (opened (tail / s.seg_size) (tail % s.seg_size)) (placed s tail (f ∷ fs))
+
+-- where a span stands in a file
+abbrev pub place_of_span : Settings → Span → ℕ
+place_of_span s r = place_of s r.segment + r.offset
+
+-- the bytes of a file with these spans written
+abbrev pub with_spans : Settings → List ℕ → List Span → List ℕ
+with_spans s file [] = file
+with_spans s file (r ∷ rs) = with_spans s (overlay file (place_of_span s r) r.bytes) rs

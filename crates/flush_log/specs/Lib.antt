@@ -1,0 +1,13 @@
+pub mod AfterFlush
+pub mod Commit
+pub mod Disk
+pub mod FlushText
+pub mod Layout
+pub mod NewStore
+pub mod Overlay
+pub mod Reading
+pub mod Segments
+pub mod SettingsBlock
+pub mod Slot
+pub mod Standing
+pub mod WordPids

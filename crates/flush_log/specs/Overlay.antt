@@ -1,0 +1,15 @@
+-- Bytes that are written into a file, and files that agree at some of their places.
+use Rattle.std.specs.Prelude.{◌≡◌, ◌⊎◌, ℕ, ◌+◌, ◌<◌, ◌≤◌, List, ◌++◌, length, take, drop, slice_index}
+
+-- the bytes of a file with these written from a place on
+abbrev pub overlay : List ℕ → ℕ → List ℕ → List ℕ
+overlay file at bytes = take at file ++ (bytes ++ drop (at + length bytes) file)
+
+-- a place is none of the n from `at` on
+abbrev pub IsBeside : ℕ → ℕ → ℕ → Type 0
+IsBeside at n place = (place < at) ⊎ (at + n ≤ place)
+
+-- another file is as long as this one, and has the same bytes at such places
+pub record AgreeAt (IsSuch : ℕ → Type 0) (file other : List ℕ) : Type 0 where
+  pub long : length other ≡ length file
+  pub same : (place : ℕ) → IsSuch place → slice_index other place ≡ slice_index file place

@@ -1,0 +1,42 @@
+-- The segments of a disk: where each stands, and what it begins with. Segment numbers only grow; segment n takes the room of
+-- segment n - segments.
+use Rattle.std.specs.Prelude.{◌≡◌, ℕ, ◌+◌, ◌-◌, ◌*◌, ◌/◌, ◌%◌, ◌<◌, ◌≤◌, List, ◌++◌, length, take, drop, codes}
+use Rattle.keys.specs.Cells.{number}
+use Rattle.keys.specs.declared.settings.Settings.{Settings}
+
+-- the first 16 bytes of segment n
+abbrev pub segment_header : ℕ → List ℕ
+segment_header n = codes "BWSG" ++ ((number 4).spell 0 ++ (number 8).spell n)
+
+-- where segment n stands in a file: behind the 512 bytes of settings and slots
+abbrev pub place_of : Settings → ℕ → ℕ
+place_of s n = 512 + n % s.segments * s.seg_size
+
+-- the file has room for all segments
+abbrev pub HasSegments : Settings → List ℕ → Type 0
+HasSegments s file = 512 + s.segments * s.seg_size ≤ length file
+
+-- the bytes of segment n
+abbrev pub segment_bytes : Settings → List ℕ → ℕ → List ℕ
+segment_bytes s file n = take s.seg_size (drop (place_of s n) file)
+
+-- the position of an offset in segment n
+abbrev pub position : Settings → ℕ → ℕ → ℕ
+position s n offset = n * s.seg_size + offset
+
+-- a place of the log: that of an offset in a segment from the head on, whose position is below the tail
+pub record IsInLog (s : Settings) (head tail : ℕ) (place : ℕ) : Type 0 where
+  pub segment : ℕ
+  pub offset : ℕ
+  pub from_head : head ≤ segment
+  pub in_segment : offset < s.seg_size
+  pub before_tail : position s segment offset < tail
+  pub stands : place ≡ place_of s segment + offset
+
+-- the last segment in use
+abbrev pub last_segment : Settings → ℕ → ℕ
+last_segment s tail = (tail - 1) / s.seg_size
+
+-- how many of its bytes are in use
+abbrev pub bytes_in_use : Settings → ℕ → ℕ
+bytes_in_use s tail = tail - last_segment s tail * s.seg_size

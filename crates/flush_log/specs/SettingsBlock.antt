@@ -1,0 +1,52 @@
+-- The settings block, with which a disk begins.
+use Rattle.std.specs.Prelude.{ℕ, ◌+◌, ◌*◌, ◌&&◌, nat_le, if◌then◌else◌, List, ◌++◌, length, take, drop, replicate, Option, Some, None, is_none, Result, Ok, Err, codes}
+use Rattle.std.specs.Str.{bytes_eq}
+use Rattle.keys.specs.Cells.{read_number, number}
+use Rattle.keys.specs.Limits.{first_bad_field}
+use Rattle.keys.specs.declared.settings.Settings.{Settings}
+use Rattle.keys.specs.declared.fault.Fault.{Fault}
+use Rattle.keys.specs.declared.fault.Fault.TheVariants.{NotAStore}
+
+-- what was read, or 0
+abbrev pub number_or_0 : Option (ℕ × List ℕ) → ℕ
+number_or_0 None = 0
+number_or_0 (Some p) = p.0
+
+-- the number that w bytes from this place on are, or 0 where there are fewer
+abbrev pub number_at : ℕ → ℕ → List ℕ → ℕ
+number_at w place bytes = number_or_0 (read_number w (drop place bytes))
+
+-- the 64 bytes of the block
+abbrev pub settings_block : Settings → List ℕ
+settings_block s =
+    codes "BWBATCH1"
+    ++ (number 2).spell s.fan ++ (number 2).spell s.chain ++ (number 2).spell s.max_key ++ (number 2).spell s.max_value
+    ++ (number 4).spell s.seg_size ++ (number 4).spell s.segments
+    ++ replicate 40 0
+
+-- the settings whose numbers stand at the places of the block
+abbrev pub settings_in : List ℕ → Settings
+settings_in bytes = record {
+  fan = number_at 2 8 bytes;
+  chain = number_at 2 10 bytes;
+  max_key = number_at 2 12 bytes;
+  max_value = number_at 2 14 bytes;
+  seg_size = number_at 4 16 bytes;
+  segments = number_at 4 20 bytes;
+}
+
+-- the settings that these bytes spell, byte for byte, where they are ones that a store may have
+abbrev pub read_settings : List ℕ → Option Settings
+read_settings bytes =
+    if bytes_eq (settings_block (settings_in bytes)) bytes && is_none (first_bad_field (settings_in bytes))
+    then Some (settings_in bytes)
+    else None
+
+-- the settings that were read of a disk, where it has room for all segments
+abbrev pub where_it_has_room : List ℕ → Option Settings → Result Settings Fault
+where_it_has_room disk None = Err NotAStore
+where_it_has_room disk (Some s) = if nat_le (512 + s.segments * s.seg_size) (length disk) then Ok s else Err NotAStore
+
+-- the settings of the store that a disk holds
+abbrev pub store_settings : List ℕ → Result Settings Fault
+store_settings disk = where_it_has_room disk (read_settings (take 64 disk))

@@ -1,0 +1,98 @@
+-- The two slots: where the log begins and ends, and the root. The open one with the greater sequence number is the store's.
+-- Where a slot tells its version, that is a further number of `Slot`, `slot_body` and `slot_in`, and `is_slot` is to ask for
+-- one that is known.
+use Rattle.std.specs.Prelude.{ℕ, ◌+◌, ◌*◌, ◌%◌, ◌^◌, Bool, ◌&&◌, ◌||◌, ◌==◌, nat_le, nat_lt, if◌then◌else◌, List, ◌∷◌, ◌++◌, take, drop, replicate, slice_index, Option, Some, None, Result, Ok, Err}
+use Rattle.std.specs.Str.{bytes_eq}
+use Rattle.keys.specs.Cells.{number}
+use Rattle.keys.specs.Limits.{is_in_limits}
+use Rattle.keys.specs.declared.settings.Settings.{Settings}
+use Rattle.keys.specs.declared.fault.Fault.{Fault}
+use Rattle.keys.specs.declared.fault.Fault.TheVariants.{NoSlot}
+use Rattle.frame_codec.specs.Frame.{is_pid}
+use Rattle.flush_log.specs.Segments.{last_segment}
+use Rattle.flush_log.specs.SettingsBlock.{number_at}
+
+-- what a slot says of the store: how often it was committed, the first segment of the log, the position where the log ends,
+-- the root and how many levels there are
+pub record Slot : Type 0 where
+  pub sequence : ℕ
+  pub head : ℕ
+  pub tail : ℕ
+  pub root : ℕ
+  pub height : ℕ
+
+-- ---- bytes
+
+-- the greatest position and the greatest sequence number
+abbrev pub greatest : ℕ
+greatest = 2 ^ 62
+
+-- where the slot for this sequence number stands; slot 0 is that for all even ones
+abbrev pub slot_place : ℕ → ℕ
+slot_place n = 128 + 64 * (n % 2)
+
+-- the 63 bytes behind the gate
+abbrev pub slot_body : Slot → List ℕ
+slot_body t =
+    replicate 7 0
+    ++ (number 8).spell t.sequence ++ (number 8).spell t.head ++ (number 8).spell t.tail ++ (number 8).spell t.root
+    ++ (number 4).spell t.height
+    ++ replicate 20 0
+
+-- the 64 bytes of an open slot
+abbrev pub slot_bytes : Slot → List ℕ
+slot_bytes t = 1 ∷ slot_body t
+
+-- the slot whose numbers stand at their places in these bytes
+abbrev pub slot_in : List ℕ → Slot
+slot_in bytes = record {
+  sequence = number_at 8 8 bytes;
+  head = number_at 8 16 bytes;
+  tail = number_at 8 24 bytes;
+  root = number_at 8 32 bytes;
+  height = number_at 4 40 bytes;
+}
+
+-- ---- a slot that a store with these settings may have
+
+-- a position at which a log may end: at a segment's end, or behind a byte of a frame
+abbrev pub is_tail : Settings → ℕ → Bool
+is_tail s tail = tail % s.seg_size == 0 || nat_lt 16 (tail % s.seg_size)
+
+-- slot n may say this
+abbrev pub is_slot : Settings → ℕ → Slot → Bool
+is_slot s n t =
+    is_in_limits 1 greatest t.sequence && t.sequence % 2 == n % 2
+    && nat_lt (t.head * s.seg_size + 16) t.tail && nat_le t.tail greatest && is_tail s t.tail
+    && nat_lt (last_segment s t.tail) (t.head + s.segments)
+    && is_pid t.root && is_in_limits 1 64 t.height
+
+-- ---- reading
+
+-- the gate of slot n stands open
+abbrev pub is_open : ℕ → List ℕ → Bool
+is_open n disk = slice_index disk (slot_place n) == 1
+
+-- the slot that these bytes of an open slot n spell, byte for byte, where they are one that it may say
+abbrev pub read_open : Settings → ℕ → List ℕ → Result (Option Slot) Fault
+read_open s n bytes =
+    if bytes_eq (slot_bytes (slot_in bytes)) bytes && is_slot s n (slot_in bytes)
+    then Ok (Some (slot_in bytes))
+    else Err NoSlot
+
+-- what slot n of a disk says: nothing where it is closed
+abbrev pub read_slot : Settings → ℕ → List ℕ → Result (Option Slot) Fault
+read_slot s n disk = if is_open n disk then read_open s n (take 64 (drop (slot_place n) disk)) else Ok None
+
+-- of what two slots say, what that with the greater sequence number does
+abbrev pub newer : Result (Option Slot) Fault → Result (Option Slot) Fault → Result Slot Fault
+newer (Err fault) other = Err fault
+newer (Ok said) (Err fault) = Err fault
+newer (Ok None) (Ok None) = Err NoSlot
+newer (Ok (Some t)) (Ok None) = Ok t
+newer (Ok None) (Ok (Some u)) = Ok u
+newer (Ok (Some t)) (Ok (Some u)) = Ok (if nat_lt t.sequence u.sequence then u else t)
+
+-- the slot of the store that a disk holds
+abbrev pub store_slot : Settings → List ℕ → Result Slot Fault
+store_slot s disk = newer (read_slot s 0 disk) (read_slot s 1 disk)

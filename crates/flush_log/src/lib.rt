@@ -1,0 +1,10 @@
+//! The log on a disk: the settings block and the slots, the segments, where the frames of a text stand, what a reading finds, and
+//! the commit that makes a text and a slot the store's. So far there are the definitions, in `specs/`, and the laws on them.
+//!
+//! Laws: what is spelled is read back; a text that is written is found by the next reading; a crash during a commit leaves what was
+//! before, or all of it.
+#![tactic(auto)]
+
+pub mod commit_laws;
+pub mod laws;
+pub mod slot_laws;

@@ -1,0 +1,52 @@
+//! What the settings block and the slots mean. Each law is the contract of a function with an empty body.
+ghost use Rattle.std.specs.Prelude.{◌≡◌, ◌⊎◌, ◌↔◌, ℕ, suc, ◌+◌, ◌*◌, ◌≤◌, true, false, List, length, take, drop, Some, None, Ok, Err};
+ghost use Rattle.keys.specs.Limits.{first_bad_field};
+ghost use Rattle.keys.specs.declared.settings.Settings.{Settings};
+ghost use Rattle.keys.specs.declared.fault.Fault.{Fault};
+ghost use Rattle.keys.specs.declared.fault.Fault.TheVariants.{NoSlot};
+ghost use Rattle.flush_log.specs.SettingsBlock.{settings_block, read_settings, store_settings};
+ghost use Rattle.flush_log.specs.Slot.{Slot, slot_place, slot_bytes, is_slot, is_open, read_slot, store_slot};
+
+/// The settings that a store may have are read back from their block of 64 bytes, and what is read of bytes stands there.
+pub fn the_settings_block_is_read_back()
+    ensures length { (s : Settings) → length (settings_block s) ≡ 64 }
+    ensures read { (s : Settings) → first_bad_field s ≡ None → read_settings (settings_block s) ≡ Some s }
+    ensures stands { (bytes : List ℕ) (s : Settings) → read_settings bytes ≡ Some s →
+        (bytes ≡ settings_block s) × (first_bad_field s ≡ None) }
+{}
+
+/// A disk has the settings whose block it begins with, where it has room for all segments.
+pub fn a_disk_has_the_settings_of_its_block()
+    ensures { (disk : List ℕ) (s : Settings) → store_settings disk ≡ Ok s ↔
+        (take 64 disk ≡ settings_block s) × (first_bad_field s ≡ None) × (512 + s.segments * s.seg_size ≤ length disk) }
+{}
+
+/// A slot that is well formed is read back from its 64 bytes, whatever else is on the disk; what is read of an open slot
+/// stands there and is well formed; and of a closed one nothing is read, whatever stands behind its gate.
+pub fn a_slot_is_read_back()
+    ensures length { (t : Slot) → length (slot_bytes t) ≡ 64 }
+    ensures read { (s : Settings) (n : ℕ) (t : Slot) (disk : List ℕ) → first_bad_field s ≡ None → is_slot s n t ≡ true →
+        take 64 (drop (slot_place n) disk) ≡ slot_bytes t → read_slot s n disk ≡ Ok (Some t) }
+    ensures stands { (s : Settings) (n : ℕ) (t : Slot) (disk : List ℕ) → read_slot s n disk ≡ Ok (Some t) →
+        (take 64 (drop (slot_place n) disk) ≡ slot_bytes t) × (is_slot s n t ≡ true) }
+    ensures closed { (s : Settings) (n : ℕ) (disk : List ℕ) → is_open n disk ≡ false ↔ read_slot s n disk ≡ Ok None }
+{}
+
+/// Two slots that are well formed and have the same bytes are the same.
+pub fn a_slot_has_one_spelling()
+    ensures { (s : Settings) (m n : ℕ) (t u : Slot) → first_bad_field s ≡ None → is_slot s m t ≡ true → is_slot s n u ≡ true →
+        slot_bytes t ≡ slot_bytes u → t ≡ u }
+{}
+
+/// The store's slot stands open at the place of its own sequence number, and no other one that stands open has a greater
+/// number. There is none just where no slot is open, or an open one is not well formed.
+pub fn the_open_slot_with_the_greater_number_is_the_stores()
+    ensures own { (s : Settings) (disk : List ℕ) (t : Slot) → store_slot s disk ≡ Ok t → read_slot s t.sequence disk ≡ Ok (Some t) }
+    ensures greatest { (s : Settings) (disk : List ℕ) (t u : Slot) (n : ℕ) → store_slot s disk ≡ Ok t →
+        read_slot s n disk ≡ Ok (Some u) → u.sequence ≤ t.sequence }
+    ensures none { (s : Settings) (disk : List ℕ) (fault : Fault) → store_slot s disk ≡ Err fault → (fault ≡ NoSlot) ×
+        (((is_open 0 disk ≡ false) × (is_open 1 disk ≡ false)) ⊎ ((n : ℕ) × (read_slot s n disk ≡ Err NoSlot))) }
+    ensures none_open { (s : Settings) (disk : List ℕ) → is_open 0 disk ≡ false → is_open 1 disk ≡ false →
+        store_slot s disk ≡ Err NoSlot }
+    ensures one_refused { (s : Settings) (n : ℕ) (disk : List ℕ) → read_slot s n disk ≡ Err NoSlot → store_slot s disk ≡ Err NoSlot }
+{}

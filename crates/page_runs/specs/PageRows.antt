@@ -1,0 +1,42 @@
+-- A page and the changes to it, gone through together in key order.
+use Rattle.std.specs.Prelude.{ℕ, List, [], ◌∷◌, map, flat_map, take, drop, Option, Some, None}
+use Rattle.std.specs.Borrow.{Bor}
+use Rattle.std.specs.List.{filter}
+use Rattle.std.specs.Option.{option_copied}
+use Rattle.keys.specs.Range.{is_before}
+use Rattle.delta_chain.specs.Merging.{present, overlaid}
+use Rattle.page_runs.specs.declared.changes_from.KeptFrom.{KeptFrom}
+use Rattle.page_runs.specs.declared.changes_from.KeptFrom.TheVariants.{Few, Many}
+
+-- a pair, and a change, as they are lent
+abbrev pub pair_lent : Bor (List ℕ) × Bor (List ℕ) → List ℕ × List ℕ
+pair_lent p = (p.0.now, p.1.now)
+
+abbrev pub change_lent : Bor (List ℕ) × Option (Bor (List ℕ)) → List ℕ × Option (List ℕ)
+change_lent c = (c.0.now, option_copied c.1)
+
+-- what was taken out of a walk, where there was anything, and behind it what the walk has left
+abbrev pub ahead : {L X : Type 0} → (L → X) → Option L → List X → List X
+ahead shows None rest = []
+ahead shows (Some x) rest = shows x ∷ rest
+
+-- the changes that are left of a walk over them, in either of the ways in which they are kept
+abbrev pub changes_left : KeptFrom → List (List ℕ × Option (List ℕ))
+changes_left (Few run at) = drop at run.now
+changes_left (Many range) = range
+
+-- pairs as changes
+abbrev pub as_changes : {V : Type 0} → List (List ℕ × V) → List (List ℕ × Option V)
+as_changes {V} pairs = map {B = List ℕ × Option V} (λ (p : List ℕ × V). (p.0, Some p.1)) pairs
+
+-- each key that the pairs or the changes name, with its value, or its absence, under the changes
+abbrev pub named : {V : Type 0} → List (List ℕ × V) → List (List ℕ × Option V) → List (List ℕ × Option V)
+named pairs changes = overlaid (as_changes pairs) changes
+
+-- those that have a value
+abbrev pub present_ones : {V : Type 0} → List (List ℕ × Option V) → List (List ℕ × V)
+present_ones changes = flat_map (λ c. present c.0 c.1) changes
+
+-- the rows that they give: those below the end, as many as the limit at most
+abbrev pub rows_left : {V : Type 0} → Option (List ℕ) → ℕ → List (List ℕ × Option V) → List (List ℕ × V)
+rows_left end limit changes = take limit (filter (λ e. is_before end e.0) (present_ones changes))

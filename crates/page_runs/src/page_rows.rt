@@ -1,0 +1,139 @@
+//! The rows of a scan on one page: the page's pairs and the changes so far are gone through together, in key order.
+ghost use Rattle.std.specs.Prelude.{◌≡◌, ◌∷◌, [], None, IfOk, MatchOption};
+ghost use Rattle.std.specs.Iterator.{YieldsFirstBy, item_count};
+ghost use Rattle.keys.specs.Order.{IsRising};
+ghost use Rattle.keys.specs.Range.{is_before, in_range, rows};
+ghost use Rattle.delta_chain.specs.Layers.{entries_of, IsInOrder};
+ghost use Rattle.scan.specs.Leaf.{from};
+ghost use Rattle.page_runs.specs.PageRows.{change_lent, named};
+ghost use Rattle.page_runs.specs.Replay.{map_by_now};
+
+use crate::changes::{Changes, Leaf};
+use crate::changes_from::{Change, ChangesFrom};
+use keys::{Key, RowList, Value};
+use scan::LeafPairs;
+use std::alloc::{AllocError, Global};
+use std::cmp::Ordering;
+use std::marker::Model;
+
+/// The rows of the range on the page with the changes so far: those whose keys are `low` or above, and below `end` where there
+/// is one, as many as the limit at most. It takes about as many steps as there are rows and changes in the range.
+pub(crate) fn rows_of(
+    alloc: Global,
+    page: &Leaf,
+    changes: &Changes,
+    low: &Key<Global>,
+    end: &Option<Key<Global>>,
+    limit: u32,
+) -> Result<RowList<Global>, AllocError>
+    requires { IsInOrder page.now }
+    ensures { IfOk result (λ list. list ≡ rows low.now end.now limit (map_by_now page.now changes.now)) }
+{
+    let mut rows = RowList::empty(alloc);
+    for (key, value) in NamedKeys::new(alloc, page, changes, low) {
+        if rows.len() >= limit as usize || !is_before(end, key) {
+            break;
+        }
+        if let Some(value) = value {
+            rows.push(alloc, key, value)?;
+        }
+    }
+    Ok(rows)
+}
+
+// Whether the key is below the end; each is where there is none.
+fn is_before(end: &Option<Key<Global>>, key: &[u8]) -> bool
+    ensures { result ≡ is_before end.now key.now }
+{
+    match end {
+        None => true,
+        Some(end) => key.cmp(end.as_bytes()).is_lt(),
+    }
+}
+
+// The keys that a page or the changes name, from a key on, in key order: each with its value now, or none where it is absent now.
+#[derive(Drop)]
+struct NamedKeys<'a> {
+    pairs: LeafPairs<'a>,
+    changes: ChangesFrom<'a>,
+    // The next pair and the next change, each taken out already.
+    pair: Option<(&'a [u8], &'a Value<Global>)>,
+    change: Option<Change<'a>>,
+}
+
+impl<'a> Model for NamedKeys<'a> {
+    ghost use Rattle.std.specs.Prelude.{List, ℕ, Option};
+    ghost use Rattle.keys.specs.Order.{IsRising};
+    ghost use Rattle.page_runs.specs.PageRows.{ahead, pair_lent, change_lent, named};
+
+    ghost Value = { List (List ℕ × Option (List ℕ)) };
+
+    ghost view = { λ n. named (ahead pair_lent n.pair n.pairs) (ahead change_lent n.change n.changes) };
+
+    ghost invariant = { λ n. IsRising (ahead pair_lent n.pair n.pairs) × IsRising (ahead change_lent n.change n.changes) };
+}
+
+impl<'a> NamedKeys<'a> {
+    // The keys from this one on.
+    fn new(alloc: Global, page: &'a Leaf, changes: &'a Changes, low: &'a Key<Global>) -> Self
+        requires { IsInOrder page.now }
+        ensures named { result ≡ named (from low.now (entries_of page.now)) (in_range low.now None changes.now) }
+        ensures rising { IsRising result }
+        ensures changes_rise { IsRising changes.now }
+    {
+        let mut pairs = LeafPairs::new(alloc, page, low.as_bytes());
+        let mut changes = changes.from_key(low);
+        let pair = pairs.next();
+        let change = changes.next();
+        NamedKeys {
+            pairs,
+            changes,
+            pair,
+            change,
+        }
+    }
+
+    // The next key with its value: the lesser of the next pair's and the next change's, and of two that are equal the change's.
+    fn step(&mut self) -> Option<Change<'a>>
+        ensures { MatchOption result ((self.old ≡ []) × (self.new ≡ [])) (λ item. self.old ≡ change_lent item ∷ self.new) }
+    {
+        match (self.pair, self.change) {
+            (None, None) => None,
+            (Some((key, value)), None) => {
+                self.pair = self.pairs.next();
+                Some((key, Some(value)))
+            }
+            (None, Some((key, value))) => {
+                self.change = self.changes.next();
+                Some((key, value))
+            }
+            (Some((key, value)), Some((changed, change))) => match key.cmp(changed) {
+                Ordering::Less => {
+                    self.pair = self.pairs.next();
+                    Some((key, Some(value)))
+                }
+                Ordering::Equal => {
+                    self.pair = self.pairs.next();
+                    self.change = self.changes.next();
+                    Some((changed, change))
+                }
+                Ordering::Greater => {
+                    self.change = self.changes.next();
+                    Some((changed, change))
+                }
+            },
+        }
+    }
+}
+
+impl<'a> Iterator for NamedKeys<'a> {
+    type Item = Change<'a>;
+
+    ghost next_gives = { YieldsFirstBy change_lent (λ left. left) };
+
+    ghost remaining = { item_count (λ left. left) };
+
+    fn next(&mut self) -> Option<Change<'a>> {
+        self.step()
+    }
+}

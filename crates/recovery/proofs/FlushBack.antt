@@ -1,0 +1,153 @@
+-- The disk after a flush stands for the store after it.
+use Rattle.std.specs.Prelude.{◌≡◌, ◌≢◌, ◌-◌, ℕ, ◌+◌, ◌≤◌, Bool, true, false, nat_lt, if◌then◌else◌, List, [], ◌∷◌, ◌++◌, Result, Ok, Err}
+use Rattle.std.proofs.Common.{refl, sym, ap, ◌∙◌, arith, subst}
+use Rattle.std.proofs.lemmas.Bool.{or_parts, ltb-false, leb-false}
+use Rattle.keys.specs.declared.fault.Fault.{Fault}
+use Rattle.keys.specs.declared.fault.Fault.TheVariants.{Spent, Full}
+use Rattle.keys.specs.declared.settings.Settings.{Settings}
+use Rattle.mapping.specs.Proper.{AreLogsTrue, IsProper}
+use Rattle.mapping.specs.Tree.{Tree, Store}
+use Rattle.frame_codec.specs.Frame.{Frame}
+use Rattle.flush_log.specs.AfterFlush.{flush_slot, is_spent, store_after, after_commit, after_text, after_flush}
+use Rattle.flush_log.specs.Commit.{HasRoom, committed}
+use Rattle.flush_log.specs.FlushText.{flush_text, flushed}
+use Rattle.flush_log.specs.Layout.{found_in_text, spans, is_full_for_flush}
+use Rattle.flush_log.specs.Reading.{Found}
+use Rattle.flush_log.specs.Segments.{last_segment}
+use Rattle.flush_log.specs.Slot.{Slot, greatest, is_slot}
+use Rattle.flush_log.specs.WordPids.{HasWordPids}
+use Rattle.flush_log.proofs.FitLaws.{are_sized}
+use Rattle.flush_log.proofs.LayoutLaws.{split-tail}
+use Rattle.flush_log.proofs.NextSlotLaws.{next_good}
+use Rattle.flush_log.proofs.OutcomeLaws.{slot_good, text-fits, after-text, after-settings, after-slot}
+use Rattle.flush_log.proofs.SettingsLaws.{store_settings-are}
+use Rattle.flush_log.proofs.SlotLaws.{IsSlot}
+use Rattle.recovery.specs.InStep.{AreInStep, IsInStep}
+use Rattle.recovery.specs.StoreOfDisk.{store_of_disk}
+use Rattle.recovery.proofs.FlushLaws.{known-frames, flush-read}
+use Rattle.recovery.proofs.StepLaws.{itself-in_step}
+use Rattle.recovery.proofs.StoreLaws.{Reads, StandsBy, store-stands}
+use Rattle.recovery.proofs.TextWithin.{text-within}
+
+-- ---- a commit that is not refused
+
+-- its numbers aren't spent, the log isn't full, and this is what is left
+pub record IsCommitted (t : Slot) (is_full : Bool) (st : Store) (file : List ℕ) (now : Store) (bytes : List ℕ) : Type 0 where
+  pub number : t.sequence ≤ greatest
+  pub tail : t.tail ≤ greatest
+  pub room : is_full ≡ false
+  pub store : now ≡ st
+  pub disk : bytes ≡ file
+
+-- what is answered
+abbrev pub left : Store → List ℕ → Result (Store × List ℕ) Fault
+left now bytes = Ok (now, bytes)
+
+same_pair : (st now : Store) (file bytes : List ℕ) → left st file ≡ left now bytes → (now ≡ st) × (bytes ≡ file)
+same_pair st now file bytes e =
+    let same : (let x : Store × List ℕ = (now, bytes) in x ≡ (st, file)) = cc in
+    (ap (λ (x : Store × List ℕ). x.0) same, ap (λ (x : Store × List ℕ). x.1) same)
+
+committed_by : (a b : Bool) (t : Slot) (st now : Store) (file bytes : List ℕ) → is_spent t ≡ a → (if a then Err Spent else (if b then Err Full else left st file)) ≡ left now bytes → IsCommitted t b st file now bytes
+committed_by true b t st now file bytes e h = absurd (cc)
+committed_by false true t st now file bytes e h = absurd (cc)
+committed_by false false t st now file bytes e h =
+    let parts = or_parts (nat_lt greatest t.sequence) (nat_lt greatest t.tail) e in
+    let same = same_pair st now file bytes h in
+    record { number = ltb-false greatest t.sequence parts.0; tail = ltb-false greatest t.tail parts.1; room = refl; store = same.0; disk = same.1 }
+
+pub commit-done : (t : Slot) (is_full : Bool) (st now : Store) (file bytes : List ℕ) → after_commit t is_full st file ≡ left now bytes → IsCommitted t is_full st file now bytes
+commit-done t is_full st now file bytes e = committed_by (is_spent t) is_full t st now file bytes refl e
+
+pub text-some : (s : Settings) (st : Store) (file : List ℕ) (text : List Frame) → text ≢ []
+    → after_text s st file text ≡ (let t : Slot = flush_slot s st text in after_commit t (is_full_for_flush s t.head t.tail) (store_after (flushed st.tree) t) (committed s file (spans s st.tail text) t))
+text-some s st file [] some = absurd (some refl)
+text-some s st file (f ∷ fs) some = refl
+
+-- ---- what is read afterwards
+
+module _ (s : Settings) (file : List ℕ) (tree : Tree) (slot : Slot) (found : List Found) (reads : Reads s file slot found) (proper : IsProper s tree) (words : HasWordPids tree) (low : tree.height ≤ 64) where
+  abbrev text : List Frame
+  text = flush_text tree
+
+  -- the slot of a flush of this tree
+  abbrev next : Slot
+  next = flush_slot s (store_after tree slot) text
+
+  pub room_for : is_full_for_flush s slot.head next.tail ≡ false → HasRoom s file slot text
+  room_for free =
+      let (block, good, whole) = store_settings-are file s reads.settings in
+      let sized = are_sized s good in
+      let some = sized.least_count in
+      let last = leb-false (slot.head + s.segments - 1) (last_segment s next.tail) free in
+      record { good = good; whole = whole; slot = reads.slot; within = text-within s tree proper words; free = omega (arith, last, some) }
+
+  pub flush-reads : next.sequence ≤ greatest → next.tail ≤ greatest → is_full_for_flush s slot.head next.tail ≡ false
+      → Reads s (committed s file (spans s slot.tail text) next) next (found ++ found_in_text s slot.tail text)
+  flush-reads number small free =
+      let room = room_for free in
+      let good = room.good in
+      let sized = are_sized s good in
+      let size = sized.least_size in
+      let whole = room.whole in
+      let fits = text-fits s file slot text room in
+      let was : IsSlot s slot.sequence slot = slot_good s file slot text room in
+      let last = room.free in
+      let is : is_slot s next.sequence next ≡ true =
+      next_good s slot.sequence slot next text good was room.within refl number refl small (omega arith) (head_low was size) last words.root proper.tree.some low in
+      record {
+        settings = after-settings s file (spans s slot.tail text) next (omega (arith, whole)) fits ∙ reads.settings;
+        slot = after-slot s file (spans s slot.tail text) next (omega (arith, whole)) fits slot (omega (arith, size)) reads.slot refl is;
+        log = after-text s file slot text room next found reads.log;
+      }
+    where
+      head_low : IsSlot s slot.sequence slot → 256 ≤ s.seg_size → slot.head ≤ last_segment s slot.tail
+      head_low was size = let behind = was.behind in (split-tail s slot.head slot.tail (omega arith) (omega arith)).from
+
+-- ---- the law
+
+pub same_store : (st : Store) (h l n : ℕ) → st.head ≡ h → st.tail ≡ l → st.sequence ≡ n → record { tree = st.tree; head = h; tail = l; sequence = n } ≡ st
+same_store st h l n e f g =
+    ap (λ (x : ℕ). (let y : Store = record { tree = st.tree; head = x; tail = l; sequence = n } in y)) (sym e)
+    ∙ ap (λ (x : ℕ). (let y : Store = record { tree = st.tree; head = st.head; tail = x; sequence = n } in y)) (sym f)
+    ∙ ap (λ (x : ℕ). (let y : Store = record { tree = st.tree; head = st.head; tail = st.tail; sequence = x } in y)) (sym g)
+
+-- the disk stands for that store, and it is in step with it
+abbrev pub StandsFor : Settings → Store → List ℕ → Type 0
+StandsFor s now bytes = (store_of_disk bytes ≡ Ok (s, now)) × IsInStep s now bytes
+
+module _ (s : Settings) (file : List ℕ) (tree : Tree) (on_disk : Store) (by : StandsBy s file on_disk) (proper : IsProper s tree) (logs : AreLogsTrue tree) (words : HasWordPids tree) (low : tree.height ≤ 64) where
+  abbrev here : Store
+  here = store_after tree by.slot
+
+  abbrev flushed_store : Store
+  flushed_store = store_after (flushed tree) (flush_slot s here (flush_text tree))
+
+  stands : AreInStep here on_disk → (bytes : List ℕ) → Reads s bytes (flush_slot s here (flush_text tree)) (by.found ++ found_in_text s by.slot.tail (flush_text tree)) → StandsFor s flushed_store bytes
+  stands step bytes reads =
+      let is = flush-read s here bytes by.found proper (known-frames s here on_disk file proper logs by step) reads in
+      (is, (flushed_store, is, itself-in_step tree.pages tree.root tree.height (flush_slot s here (flush_text tree))))
+
+  -- a flush that writes something
+  back : flush_text tree ≢ [] → AreInStep here on_disk → (now : Store) (bytes : List ℕ) → after_flush s here file ≡ left now bytes → StandsFor s now bytes
+  back some step now bytes h =
+      let t : Slot = flush_slot s here (flush_text tree) in
+      let full : Bool = is_full_for_flush s t.head t.tail in
+      let file' : List ℕ = committed s file (spans s by.slot.tail (flush_text tree)) t in
+      let done = commit-done t full flushed_store now file' bytes (sym (text-some s here file (flush_text tree) some) ∙ h) in
+      let reads = flush-reads s file tree by.slot by.found by.reads proper words low done.number done.tail done.room in
+      subst (λ (x : Store). StandsFor s x bytes) (sym done.store) (subst (λ (x : List ℕ). StandsFor s flushed_store x) (sym done.disk) (stands step file' reads))
+
+module _ (s : Settings) (st : Store) (file : List ℕ) (proper : IsProper s st.tree) (logs : AreLogsTrue st.tree) (words : HasWordPids st.tree) (low : st.tree.height ≤ 64) (step : IsInStep s st file) where
+  -- what was flushed is what is read
+  pub flush-back : flush_text st.tree ≢ [] → (now : Store) (bytes : List ℕ) → after_flush s st file ≡ left now bytes → StandsFor s now bytes
+  flush-back some now bytes h =
+      let (on_disk, is, are) = step in
+      let by : StandsBy s file on_disk = store-stands s file on_disk is in
+      let slot : Slot = by.slot in
+      let store = by.store in
+      let same : store_after st.tree slot ≡ st =
+      same_store st slot.head slot.tail slot.sequence (are.head ∙ ap (λ (x : Store). x.head) store) (are.tail ∙ ap (λ (x : Store). x.tail) store) (are.sequence ∙ ap (λ (x : Store). x.sequence) store) in
+      back s file st.tree on_disk by proper logs words low some
+      (subst (λ (x : Store). AreInStep x on_disk) (sym same) are) now bytes
+      (ap (λ (x : Store). after_flush s x file) same ∙ h)

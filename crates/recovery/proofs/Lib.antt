@@ -1,0 +1,23 @@
+pub mod CrashLaws
+mod DamagedRows
+pub mod DiskForms
+mod DiskRows
+mod FirstStore
+pub mod FlushBack
+pub mod FlushLaws
+mod FlushRows
+pub mod FoundWithin
+mod HiddenBytes
+pub mod KeptStore
+pub mod NothingDue
+mod PageRows
+pub mod PagesLaws
+pub mod PartLaws
+mod ProperPages
+pub mod ReadStore
+pub mod StepLaws
+pub mod StoreLaws
+pub mod TableLaws
+mod TellLaws
+pub mod TextLaws
+mod TextWithin

@@ -1,0 +1,58 @@
+-- When a store in memory is in step with the bytes of its disk: what it holds that the log says is what the log says.
+use Rattle.std.specs.Prelude.{◌≡◌, ◌↔◌, ℕ, ◌≤◌, List, ◌++◌, Option, Some, None, Ok}
+use Rattle.keys.specs.declared.settings.Settings.{Settings}
+use Rattle.index_page.specs.Page.{Page, PageOfKind}
+use Rattle.index_page.specs.Page.PageOfKind.{Leaf, Index}
+use Rattle.mapping.specs.Flushed.{page_depth}
+use Rattle.mapping.specs.Proper.{AreLogsTrue, IsProper}
+use Rattle.mapping.specs.Tree.{Tree, Store, page_at, logged_of}
+use Rattle.mapping.specs.Tree.Logged.{No, Upto}
+use Rattle.flush_log.specs.WordPids.{HasWordPids}
+use Rattle.recovery.specs.StoreOfDisk.{store_of_disk}
+
+-- a page has the low key and the base of another, and its runs with newer ones in front
+pub record IsOver {V : Type 0} (older now : Page V) : Type 0 where
+  pub low : now.low ≡ older.low
+  pub base : now.layers.base ≡ older.layers.base
+  pub runs : (newer : List (List (List ℕ × Option V))) × (now.layers.runs ≡ newer ++ older.layers.runs)
+
+-- and they are of one kind
+abbrev pub IsPageOver : PageOfKind → PageOfKind → Type 0
+IsPageOver (Leaf older) (Leaf now) = IsOver older now
+IsPageOver (Index older) (Index now) = IsOver older now
+IsPageOver _ _ = ⊥
+
+-- the log has a page with k runs, and the page that there is has these runs, newer ones in front
+abbrev pub IsLogged : ℕ → Option PageOfKind → Option PageOfKind → Type 0
+IsLogged k (Some logged) (Some now) = (page_depth logged ≡ k) × IsPageOver logged now
+IsLogged k _ _ = ⊥
+
+-- Of a store, and of the one that its disk stands for: the log ends at the same places; the store knows of which pids the log
+-- has a page; and of each whose base and k oldest runs it takes for written, the log has just these.
+pub record AreInStep (st on_disk : Store) : Type 0 where
+  pub head : st.head ≡ on_disk.head
+  pub tail : st.tail ≡ on_disk.tail
+  pub sequence : st.sequence ≡ on_disk.sequence
+  pub none : (pid : ℕ) → (logged_of st.tree pid ≡ No) ↔ (page_at on_disk.tree.pages pid ≡ None)
+  pub upto : (pid k : ℕ) → logged_of st.tree pid ≡ Upto k → IsLogged k (page_at on_disk.tree.pages pid) (page_at st.tree.pages pid)
+
+-- the disk stands for a store, with these settings, with which this one is in step
+abbrev pub IsInStep : Settings → Store → List ℕ → Type 0
+IsInStep s st file = (on_disk : Store) × (store_of_disk file ≡ Ok (s, on_disk)) × AreInStep st on_disk
+
+-- what is true of every store and of the bytes of its disk: its tree is proper, what it knows of its log is true, its page ids
+-- and its height are numbers that a slot and frames have room for, and it is in step
+pub record IsStoreOf (s : Settings) (st : Store) (file : List ℕ) : Type 0 where
+  pub proper : IsProper s st.tree
+  pub logs : AreLogsTrue st.tree
+  pub words : HasWordPids st.tree
+  pub height : st.tree.height ≤ 64
+  pub step : IsInStep s st file
+
+-- what a tree that came of another keeps of what its log has: the log has a page of the same pids; it has no more of any page;
+-- and a page of which it has something stands as it did, with newer runs in front
+pub record KeepsLogged (old new : Tree) : Type 0 where
+  pub none : (pid : ℕ) → (logged_of old pid ≡ No) ↔ (logged_of new pid ≡ No)
+  pub upto : (pid k : ℕ) → logged_of new pid ≡ Upto k → logged_of old pid ≡ Upto k
+  pub over : (pid k : ℕ) (p : PageOfKind) → logged_of new pid ≡ Upto k → page_at old.pages pid ≡ Some p →
+      (q : PageOfKind) × (page_at new.pages pid ≡ Some q) × IsPageOver p q

@@ -1,0 +1,5 @@
+pub mod InStep
+pub mod LogPages
+pub mod LookedAt
+pub mod PageByLog
+pub mod StoreOfDisk

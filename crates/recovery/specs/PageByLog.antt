@@ -1,0 +1,63 @@
+-- What the frames of one pid, in the order of the log, say of its page.
+use Rattle.std.specs.Prelude.{ℕ, Bool, true, false, not, ◌&&◌, if◌then◌else◌, List, [], ◌∷◌, fold, Option, Some, None}
+use Rattle.std.specs.List.{list_any}
+use Rattle.index_page.specs.Page.{Page, PageOfKind, bare}
+use Rattle.index_page.specs.Page.PageOfKind.{Leaf, Index}
+use Rattle.frame_codec.specs.Frame.{Content}
+use Rattle.frame_codec.specs.Frame.Content.{FullLeaf, DeltaLeaf, FullIndex, DeltaIndex, Free}
+
+-- a base, or that there is no page: what stands before it no longer counts. A further kind of base is one more case.
+abbrev pub is_start : Content → Bool
+is_start (FullLeaf low base) = true
+is_start (DeltaLeaf run) = false
+is_start (FullIndex low base) = true
+is_start (DeltaIndex run) = false
+is_start Free = true
+
+-- what begins with the last that passes the test; nothing where none does
+abbrev pub from_last : {X : Type 0} → (X → Bool) → List X → List X
+from_last test [] = []
+from_last test (x ∷ xs) = if test x && not (list_any test xs) then x ∷ xs else from_last test xs
+
+-- what a log says of a page: there is none; there is this one; or a delta stands where it doesn't fit, which is finding 1
+pub data InLog : Type 0 where
+  Missing : InLog
+  Present : PageOfKind → InLog
+  Broken : InLog
+
+-- a page with one more run
+abbrev pub with_run : {V : Type 0} → Page V → List (List ℕ × Option V) → Page V
+with_run p run = record { low = p.low; layers = record { runs = run ∷ p.layers.runs; base = p.layers.base } }
+
+-- what the first content says by itself
+abbrev pub begun : Content → InLog
+begun (FullLeaf low base) = Present (Leaf (bare low base))
+begun (FullIndex low base) = Present (Index (bare low base))
+begun _ = Missing
+
+-- and one more content behind it: it has to be a delta of the page's kind
+abbrev pub continued : InLog → Content → InLog
+continued (Present (Leaf p)) (DeltaLeaf run) = Present (Leaf (with_run p run))
+continued (Present (Index p)) (DeltaIndex run) = Present (Index (with_run p run))
+continued _ _ = Broken
+
+-- what contents say that begin with a base, or with there being no page
+abbrev pub told : List Content → InLog
+told [] = Missing
+told (c ∷ cs) = fold continued (begun c) cs
+
+-- the page of a pid, by all its contents in order: what the part from the last base or free frame on tells
+abbrev pub page_by_log : List Content → InLog
+page_by_log cs = told (from_last is_start cs)
+
+-- the page, if there is one
+abbrev pub page_in : InLog → Option PageOfKind
+page_in Missing = None
+page_in (Present p) = Some p
+page_in Broken = None
+
+-- whether it is finding 1
+abbrev pub is_broken : InLog → Bool
+is_broken Missing = false
+is_broken (Present p) = false
+is_broken Broken = true

@@ -1,0 +1,55 @@
+-- The store that the bytes of a disk stand for; or the one fault that they have. What a fault comes before isn't looked at.
+use Rattle.std.specs.Prelude.{ℕ, List, map, Option, Some, None, Result, Ok, Err}
+use Rattle.keys.specs.declared.settings.Settings.{Settings}
+use Rattle.keys.specs.declared.fault.Fault.{Fault}
+use Rattle.keys.specs.declared.fault.Fault.TheVariants.{BadStructure}
+use Rattle.mapping.specs.Finding.{Finding, finding, or_else}
+use Rattle.mapping.specs.Tree.{Tree, Store, first_tree}
+use Rattle.frame_codec.specs.Frame.{Frame}
+use Rattle.flush_log.specs.FlushText.{tree_in_log}
+use Rattle.flush_log.specs.Reading.{Found, log}
+use Rattle.flush_log.specs.SettingsBlock.{store_settings}
+use Rattle.flush_log.specs.Slot.{Slot, store_slot}
+use Rattle.recovery.specs.LogPages.{pages_of, broken_in}
+
+-- the next step, where the one before has no fault
+abbrev pub and_then : {X Y : Type 0} → Result X Fault → (X → Result Y Fault) → Result Y Fault
+and_then (Ok x) next = next x
+and_then (Err fault) next = Err fault
+
+-- this, unless something was found
+abbrev pub unless_found : {X : Type 0} → Option Finding → X → Result X Fault
+unless_found None x = Ok x
+unless_found (Some f) x = Err (BadStructure f)
+
+-- frames without their places
+abbrev pub frames_in : List Found → List Frame
+frames_in found = map (λ f. f.frame) found
+
+-- the pages of a log under the root and the height of a slot
+abbrev pub tree_by_log : Slot → List Frame → Tree
+tree_by_log t fs = tree_in_log (pages_of fs) t.root t.height
+
+-- the store of a slot and of the frames of its log
+abbrev pub store_by_log : Slot → List Frame → Store
+store_by_log t fs = record { tree = tree_by_log t fs; head = t.head; tail = t.tail; sequence = t.sequence }
+
+-- what is wrong with it: first what fits no page, by the least pid, and then what the walk from the root finds
+abbrev pub wrong_in : Settings → Slot → List Frame → Option Finding
+wrong_in s t fs = or_else (broken_in fs) (finding s (tree_by_log t fs))
+
+-- the store of a slot of a disk
+abbrev pub store_of_slot : Settings → List ℕ → Slot → Result Store Fault
+store_of_slot s file t = and_then (log s file t.head t.tail) (λ found. unless_found (wrong_in s t (frames_in found)) (store_by_log t (frames_in found)))
+
+-- the store of a disk with these settings
+abbrev pub store_under : Settings → List ℕ → Result (Settings × Store) Fault
+store_under s file = and_then (store_slot s file) (λ t. and_then (store_of_slot s file t) (λ st. Ok (s, st)))
+
+-- the settings and the store of a disk
+abbrev pub store_of_disk : List ℕ → Result (Settings × Store) Fault
+store_of_disk file = and_then (store_settings file) (λ s. store_under s file)
+
+-- the store of a new disk
+abbrev pub first_store : Store
+first_store = record { tree = first_tree; head = 0; tail = 33; sequence = 1 }

@@ -1,0 +1,21 @@
+//! What a flush of a tree is on the table that holds the tree in memory. Each law is the contract of a function with an empty
+//! body.
+ghost use Rattle.std.specs.Prelude.{◌≡◌, None};
+ghost use Rattle.keys.specs.Limits.{first_bad_field};
+ghost use Rattle.keys.specs.declared.settings.Settings.{Settings};
+ghost use Rattle.mapping.specs.Flushed.{flushed as marked};
+ghost use Rattle.mapping.specs.Proper.{IsProper};
+ghost use Rattle.mapping.specs.Table.{pids_in_use_or_old};
+ghost use Rattle.mapping.specs.TreeInMemory.{TreeInMemory, AreAllHome, tree_of};
+ghost use Rattle.flush_log.specs.FlushText.{pids_to_write, flushed};
+
+/// While all pages are at home, a flush goes over the pids that the table knows.
+pub fn a_flush_goes_over_the_pids_that_the_table_knows()
+    ensures { (t : TreeInMemory) → AreAllHome t → pids_to_write (tree_of t) ≡ pids_in_use_or_old t.table }
+{}
+
+/// A table that is marked as written holds the tree that a flush leaves.
+pub fn a_table_marked_as_written_holds_the_flushed_tree()
+    ensures { (s : Settings) (t : TreeInMemory) → first_bad_field s ≡ None → IsProper s (tree_of t) →
+        tree_of (record { table = marked t.table; root = t.root; height = t.height }) ≡ flushed (tree_of t) }
+{}

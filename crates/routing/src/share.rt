@@ -1,0 +1,65 @@
+ghost use Rattle.std.specs.Prelude.{◌≡◌, IfOk};
+
+use crate::sort::Keyed;
+use keys::Pid;
+use std::alloc::{AllocError, Global};
+use std::marker::Model;
+
+/// A page's part of a batch, on the way down the tree: what begins in the page, as a part of the sorted places, and the
+/// places of the scans that began in pages further left and reach this one, in the order of their keys. Contracts see it
+/// as a `Lent`.
+#[derive(Drop)]
+pub struct Share<'a> {
+    pid: Pid,
+    keyed: &'a [Keyed<'a>],
+    reaching: Vec<usize>,
+}
+
+impl<'a> Model for Share<'a> {
+    ghost use Rattle.routing.specs.Shares.{Lent};
+
+    ghost Value = { Lent };
+
+    ghost view = { λ s. record { pid = s.pid; keyed = s.keyed.now; reaching = s.reaching.items } };
+}
+
+impl<'a> Share<'a> {
+    /// The share of the page with this id.
+    pub fn new(pid: Pid, keyed: &'a [Keyed<'a>], reaching: Vec<usize>) -> Share<'a>
+        ensures { result ≡ record { pid = pid; keyed = keyed.entry.now; reaching = reaching.items } }
+    {
+        Share {
+            pid,
+            keyed,
+            reaching,
+        }
+    }
+
+    /// The page's id.
+    pub fn pid(&self) -> Pid
+        ensures { result ≡ self.now.pid }
+    {
+        self.pid
+    }
+
+    /// What begins in the page.
+    pub fn keyed(&self) -> &'a [Keyed<'a>]
+        ensures { result.now ≡ self.now.keyed }
+    {
+        self.keyed
+    }
+
+    /// A copy of the places of the scans that reach the page from the left.
+    pub fn copied_reaching(&self, alloc: Global) -> Result<Vec<usize>, AllocError>
+        ensures { IfOk result (λ copy. copy.items ≡ self.now.reaching) }
+    {
+        self.reaching.iter().copied().collect(alloc)
+    }
+
+    /// The places of the scans that reach the page from the left.
+    pub fn reaching(&self) -> &[usize]
+        ensures { result.now ≡ self.now.reaching }
+    {
+        &self.reaching
+    }
+}

@@ -1,0 +1,107 @@
+ghost use Rattle.std.specs.Prelude.{◌≡◌, drop, slice_get};
+ghost use Rattle.std.specs.Option.{option_copied, option_map};
+ghost use Rattle.keys.specs.Order.{AreRisingKeys, IsRising};
+ghost use Rattle.page_search.specs.Places.{count_below};
+ghost use Rattle.scan.specs.Leaf.{from, behind};
+ghost use Rattle.scan.specs.Ahead.{changes_of};
+ghost use Rattle.scan.specs.Merge.{StartsFrom};
+
+use delta_chain::{Keyed, Run};
+use keys::Value;
+use page_search::{Probes, place};
+use std::alloc::Global;
+use std::marker::Model;
+
+/// A change: a key, and the value that it has from now on, or none where it is absent from now on.
+pub(crate) type Change<'a> = (&'a [u8], Option<&'a Value<Global>>);
+
+// A change of a run, and the place of the next.
+#[derive(Clone, Copy)]
+struct Head<'a> {
+    key: &'a [u8],
+    said: Option<&'a Value<Global>>,
+    run: &'a Run<Value<Global>, Global>,
+    next: usize,
+}
+
+/// The changes of one run that are still to come, with the first of them at hand. Contracts see it as their list. The
+/// default has none.
+#[derive(Default, Drop)]
+pub(crate) struct Ahead<'a> {
+    head: Option<Head<'a>>,
+}
+
+impl<'a> Model for Ahead<'a> {
+    ghost use Rattle.std.specs.Prelude.{List, ℕ, Option};
+    ghost use Rattle.scan.specs.Ahead.{changes_of};
+
+    ghost Value = { List (List ℕ × Option (List ℕ)) };
+
+    ghost view = { λ a. changes_of a.head };
+}
+
+impl<'a> Ahead<'a> {
+    // The run's changes from the key on.
+    pub(crate) fn new(run: &'a Run<Value<Global>, Global>, key: &[u8]) -> Self
+        ensures changes { result ≡ from key.now run.now }
+        ensures rising { IsRising run.now }
+    {
+        Ahead {
+            head: head_at(run, place_from(run, key)),
+        }
+    }
+
+    // The first change, if there is one.
+    pub(crate) fn first(&self) -> Option<Change<'a>>
+        ensures { option_map (λ c. (c.0.now, option_copied c.1)) result ≡ slice_get self.now 0 }
+    {
+        match self.head {
+            Some(head) => Some((head.key, head.said)),
+            None => None,
+        }
+    }
+
+    // Goes past the first change where it has this key.
+    pub(crate) fn pass(&mut self, key: &[u8])
+        requires starts { StartsFrom key.now self.old }
+        requires rising { IsRising self.old }
+        ensures { self.new ≡ behind key.now self.old }
+    {
+        if let Some(head) = self.head {
+            if head.key.cmp(key).is_eq() {
+                self.head = head_at(head.run, head.next);
+            }
+        }
+    }
+}
+
+// The run's change at this place, with those behind it; none at the run's end.
+fn head_at<'a>(run: &'a Run<Value<Global>, Global>, at: usize) -> Option<Head<'a>>
+    ensures { changes_of result ≡ drop at run.now }
+{
+    if at < run.len() {
+        Some(Head {
+            key: run.key(at),
+            said: run.change(at),
+            run,
+            next: at + 1,
+        })
+    } else {
+        None
+    }
+}
+
+// The place of the first key that isn't below this one. It is found by halves; no key is below the empty one.
+pub(crate) fn place_from<L: Keyed>(list: &L, key: &[u8]) -> usize
+    ensures place { result ≡ count_below key.now (L.keys list.now) }
+    ensures rising { AreRisingKeys (L.keys list.now) }
+{
+    let _count = list.len();
+    if key.is_empty() {
+        return 0;
+    }
+    match place(list, key, &mut Probes::new()) {
+        Ok(at) => at,
+        Err(at) => at,
+    }
+}

@@ -1,0 +1,53 @@
+ghost use Rattle.std.specs.Prelude.{◌≡◌};
+ghost use Rattle.std.specs.Iterator.{YieldsFirstBy, item_count};
+ghost use Rattle.scan.specs.Leaf.{from};
+
+use crate::ahead::place_from;
+use delta_chain::Base;
+use keys::Value;
+use std::alloc::Global;
+use std::marker::Model;
+
+/// The pairs of a base, from a place on: a leaf without runs. Contracts see it as their list.
+#[derive(Drop)]
+pub(crate) struct BasePairs<'a> {
+    base: &'a Base<Value<Global>, Global>,
+    at: usize,
+}
+
+impl<'a> Model for BasePairs<'a> {
+    ghost use Rattle.std.specs.Prelude.{List, ℕ, drop};
+
+    ghost Value = { List (List ℕ × List ℕ) };
+
+    ghost view = { λ b. drop b.at b.base.now };
+}
+
+impl<'a> BasePairs<'a> {
+    // The pairs from the key on.
+    pub(crate) fn new(base: &'a Base<Value<Global>, Global>, key: &[u8]) -> Self
+        ensures { result ≡ from key.now base.now }
+    {
+        let at = place_from(base, key);
+        BasePairs { base, at }
+    }
+}
+
+impl<'a> Iterator for BasePairs<'a> {
+    type Item = (&'a [u8], &'a Value<Global>);
+
+    ghost next_gives = { YieldsFirstBy (λ item. (item.0.now, item.1.now)) (λ left. left) };
+
+    ghost remaining = { item_count (λ left. left) };
+
+    fn next(&mut self) -> Option<(&'a [u8], &'a Value<Global>)> {
+        let base = self.base;
+        let at = self.at;
+        if at < base.len() {
+            self.at = at + 1;
+            Some((base.key(at), base.cell(at)))
+        } else {
+            None
+        }
+    }
+}

@@ -1,0 +1,126 @@
+ghost use Rattle.std.specs.Prelude.{◌≡◌, ◌<◌, ◌≤◌, ◌∷◌, ◌++◌, [], drop, length, MatchOption};
+ghost use Rattle.std.specs.Option.{option_copied};
+ghost use Rattle.std.specs.declared.cmp.Ordering.TheVariants.{Less};
+ghost use Rattle.delta_chain.specs.Layers.{entries_of, depth_of};
+ghost use Rattle.delta_chain.specs.Merging.{first_order, present};
+ghost use Rattle.scan.specs.Leaf.{from, behind};
+ghost use Rattle.scan.specs.Merge.{merged, ArePairsNext, StartsFrom};
+
+use crate::ahead::{Change, place_from};
+use crate::changes::{Runs, fill, next_change};
+use delta_chain::{Base, Chain};
+use keys::Value;
+use smallvec::SmallVec;
+use std::alloc::Global;
+use std::cmp::Ordering;
+use std::marker::Model;
+
+/// A walk over a leaf that keeps a place in the base and in each run: a key is compared once with the next change, and a
+/// key of a run with those of the other runs. Contracts see it as the changes and the base's pairs that are left.
+#[derive(Drop)]
+pub(crate) struct Merge<'a> {
+    base: &'a Base<Value<Global>, Global>,
+    // The place of the base's next pair.
+    at: usize,
+    // The next of all changes, and the runs behind it.
+    change: Option<Change<'a>>,
+    runs: Runs<'a>,
+}
+
+impl<'a> Model for Merge<'a> {
+    ghost use Rattle.std.specs.Prelude.{drop};
+    ghost use Rattle.std.specs.Option.{option_copied, option_map};
+    ghost use Rattle.delta_chain.specs.Merging.{said_by};
+    ghost use Rattle.scan.specs.Merge.{Merged, changes_after, IsMerge};
+
+    ghost Value = { Merged };
+
+    ghost view = { λ m. record { changes = changes_after (option_map (λ c. (c.0.now, option_copied c.1)) m.change) (said_by m.runs.items); pairs = drop m.at m.base.now } };
+
+    ghost invariant = { λ m. IsMerge (changes_after (option_map (λ c. (c.0.now, option_copied c.1)) m.change) (said_by m.runs.items)) m.runs.items m.base.now };
+}
+
+impl<'a> Merge<'a> {
+    // The leaf from the key on.
+    pub(crate) fn new(alloc: Global, chain: &'a Chain<Value<Global>, Global>, key: &[u8]) -> Self
+        requires { depth_of chain.now ≤ 16 }
+        ensures { merged result ≡ from key.now (entries_of chain.now) }
+    {
+        let _in_order = chain.depth();
+        let mut merge = Merge {
+            base: chain.base(),
+            at: 0,
+            change: None,
+            runs: SmallVec::new(alloc),
+        };
+        merge.restart(chain, key);
+        merge
+    }
+
+    // Walks this leaf from the key on, in place of the one before. Each list is searched once.
+    pub(crate) fn restart(&mut self, chain: &'a Chain<Value<Global>, Global>, key: &[u8])
+        requires { depth_of chain.now ≤ 16 }
+        ensures { merged self.new ≡ from key.now (entries_of chain.now) }
+    {
+        let _in_order = chain.depth();
+        self.base = chain.base();
+        self.at = place_from(self.base, key);
+        fill(&mut self.runs, chain, key);
+        self.change = next_change(&mut self.runs);
+    }
+
+    // The next change, unless a pair of the base stands before it. A pair that has its key is passed.
+    pub(crate) fn take_change(&mut self) -> Option<Change<'a>>
+        ensures { MatchOption result ((self.new ≡ self.old) × ArePairsNext self.old.changes self.old.pairs)
+            (λ c. (merged self.old ≡ present c.0.now (option_copied c.1) ++ merged self.new) × (length self.new.changes < length self.old.changes)) }
+    {
+        let (key, said) = self.change?;
+        self.at = past(self.base, self.at, key)?;
+        self.change = next_change(&mut self.runs);
+        Some((key, said))
+    }
+
+    // The base's next pair, before which there is no change.
+    pub(crate) fn take_pair(&mut self) -> Option<(&'a [u8], &'a Value<Global>)>
+        requires { ArePairsNext self.old.changes self.old.pairs }
+        ensures { MatchOption result ((merged self.old ≡ []) × (merged self.new ≡ [])) (λ p. merged self.old ≡ (p.0.now, p.1.now) ∷ merged self.new) }
+    {
+        let base = self.base;
+        let at = self.at;
+        if at < base.len() {
+            self.at = at + 1;
+            Some((base.key(at), base.cell(at)))
+        } else {
+            None
+        }
+    }
+}
+
+// The next pair that is there after the changes.
+pub(crate) fn next_pair<'a>(merge: &mut Merge<'a>) -> Option<(&'a [u8], &'a Value<Global>)>
+    ensures { MatchOption result ((merged merge.old ≡ []) × (merged merge.new ≡ [])) (λ p. merged merge.old ≡ (p.0.now, p.1.now) ∷ merged merge.new) }
+{
+    loop {
+        let Some((key, said)) = merge.take_change() else {
+            return merge.take_pair();
+        };
+        if let Some(value) = said {
+            return Some((key, value));
+        }
+    }
+}
+
+// The place behind the key, of pairs from this place on; none where the first of these stands before the key.
+fn past(base: &Base<Value<Global>, Global>, at: usize, key: &[u8]) -> Option<usize>
+    ensures { MatchOption result (first_order (drop at base.now) key.now ≡ Less)
+        (λ next. StartsFrom key.now (drop at base.now) × (drop next base.now ≡ behind key.now (drop at base.now))) }
+{
+    if at >= base.len() {
+        return Some(at);
+    }
+    match base.key(at).cmp(key) {
+        Ordering::Less => None,
+        Ordering::Equal => Some(at + 1),
+        Ordering::Greater => Some(at),
+    }
+}

@@ -1,0 +1,77 @@
+ghost use Rattle.std.specs.Prelude.{◌≡◌};
+ghost use Rattle.std.specs.Option.{option_map};
+ghost use Rattle.std.specs.Iterator.{YieldsFirstBy, item_count};
+ghost use Rattle.delta_chain.specs.Layers.{entries_of};
+ghost use Rattle.scan.specs.Leaf.{from, behind, left_after};
+
+use delta_chain::Chain;
+use keys::Value;
+use page_search::{Probes, above, find, floor};
+use std::alloc::Global;
+use std::marker::Model;
+
+/// A walk over a leaf that searches from key to key. Contracts see it as the list of the pairs that are left.
+#[derive(Drop)]
+pub(crate) struct Search<'a> {
+    chain: &'a Chain<Value<Global>, Global>,
+    next: Option<(&'a [u8], &'a Value<Global>)>,
+}
+
+impl<'a> Model for Search<'a> {
+    ghost use Rattle.std.specs.Prelude.{List, ℕ};
+    ghost use Rattle.std.specs.Option.{option_map};
+    ghost use Rattle.delta_chain.specs.Layers.{entries_of};
+    ghost use Rattle.scan.specs.Leaf.{left_after};
+
+    ghost Value = { List (List ℕ × List ℕ) };
+
+    ghost view = { λ l. left_after (option_map (λ e. (e.0.now, e.1.now)) l.next) (entries_of l.chain.now) };
+}
+
+impl<'a> Search<'a> {
+    // The leaf's pairs from the key on.
+    pub(crate) fn new(chain: &'a Chain<Value<Global>, Global>, key: &[u8]) -> Self
+        ensures { result ≡ from key.now (entries_of chain.now) }
+    {
+        let _in_order = chain.depth();
+        match find(chain, key, &mut Probes::new()) {
+            Some(_) => Search {
+                chain,
+                next: floor(chain, key, &mut Probes::new()),
+            },
+            None => Search {
+                chain,
+                next: next_behind(chain, key),
+            },
+        }
+    }
+}
+
+impl<'a> Iterator for Search<'a> {
+    type Item = (&'a [u8], &'a Value<Global>);
+
+    ghost next_gives = { YieldsFirstBy (λ item. (item.0.now, item.1.now)) (λ left. left) };
+
+    ghost remaining = { item_count (λ left. left) };
+
+    fn next(&mut self) -> Option<(&'a [u8], &'a Value<Global>)> {
+        match self.next {
+            Some((key, value)) => {
+                self.next = next_behind(self.chain, key);
+                Some((key, value))
+            }
+            None => None,
+        }
+    }
+}
+
+// The first pair behind the key: with it those behind the key begin.
+fn next_behind<'a>(
+    chain: &'a Chain<Value<Global>, Global>,
+    key: &[u8],
+) -> Option<(&'a [u8], &'a Value<Global>)>
+    ensures { left_after (option_map (λ e. (e.0.now, e.1.now)) result) (entries_of chain.now) ≡ behind key.now (entries_of chain.now) }
+{
+    let _in_order = chain.depth();
+    above(chain, key, &mut Probes::new())
+}
