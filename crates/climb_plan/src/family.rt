@@ -11,7 +11,7 @@ ghost use Rattle.climb_plan.specs.Changing.{SeenPage};
 ghost use Rattle.climb_plan.specs.Rewriting.{seen_now, all_seen, AreSeenIn, AreParents, IsLevelSeen, IsQuiet, HasFirstCall, pids_for, AreParted, begins_at, IsNextChild, IsFamilyOf, rewriting, rewritten_groups, with_rewriting, counted, groups_of, is_rewritten_seen};
 
 use crate::seen::Seen;
-use keys::Pid;
+use keys::{Pid, compare};
 use mapping::Tree;
 use page_runs::Class;
 use split_plan::groups;
@@ -176,7 +176,7 @@ fn has_low(seen: &[Seen<'_>], at: usize, low: &[u8]) -> bool
     ensures { result ≡ begins_at low.now (all_seen (drop at seen.now)) }
 {
     match seen.get(at) {
-        Some(page) => page.page.low().cmp(low).is_eq(),
+        Some(page) => compare(page.page.low(), low).is_eq(),
         None => false,
     }
 }
@@ -189,7 +189,7 @@ fn count_below(seen: &[Seen<'_>], key: &[u8]) -> usize
     seen.partition_point(
         |page: &Seen<'_>| -> bool
             ensures { result ≡ is_below (low_of page.now.page.now) key.entry.now }
-        { page.page.low().cmp(key).is_lt() },
+        { compare(page.page.low(), key).is_lt() },
     )
 }
 

@@ -3,6 +3,7 @@ ghost use Rattle.std.specs.Map.{keys_of, values_of};
 ghost use Rattle.keys.specs.Order.{IsRising};
 ghost use Rattle.delta_chain.specs.Building.{goes_last};
 
+use keys::compare;
 use std::alloc::{AllocError, Allocator};
 use std::marker::Model;
 
@@ -92,7 +93,7 @@ impl<V, A: Allocator + Copy> Base<V, A> {
         if count == 0 {
             return true;
         }
-        self.key(count - 1).cmp(key).is_lt()
+        compare(self.key(count - 1), key).is_lt()
     }
 }
 

@@ -5,14 +5,14 @@ ghost use Rattle.keys.specs.Order.{IsRising};
 ghost use Rattle.keys.specs.OrderedMap.{value_at, with_pair};
 ghost use Rattle.delta_chain.specs.Building.{goes_last};
 
-use keys::Key;
+use keys::{Key, KeyRef, KeyWithWord};
 use std::alloc::{AllocError, Allocator};
 use std::marker::Model;
 
-/// Items under keys that strictly rise, each key in memory of its own.
+/// Items under keys that strictly rise. Each key is in memory of its own, which a search mostly needn't look at.
 #[derive(Drop)]
 pub(crate) struct Entries<T, A: Allocator> {
-    items: Vec<(Key<A>, T), A>,
+    items: Vec<(KeyWithWord<A>, T), A>,
 }
 
 impl<T, A: Allocator> Model for Entries<T, A> {
@@ -62,6 +62,13 @@ impl<T, A: Allocator + Copy> Entries<T, A> {
         self.items[at].0.as_bytes()
     }
 
+    pub(crate) fn key_ref(&self, at: usize) -> KeyRef<'_>
+        requires { at < length self.now }
+        ensures { slice_get (keys_of self.now) at ≡ Some result }
+    {
+        self.items[at].0.key_ref()
+    }
+
     pub(crate) fn item(&self, at: usize) -> &T
         requires { at < length self.now }
         ensures { slice_get (values_of self.now) at ≡ Some result.now }
@@ -79,8 +86,9 @@ impl<T, A: Allocator + Copy> Entries<T, A> {
         if self.takes(key) {
             return Err(self.len());
         }
+        let key = KeyRef::new(key);
         self.items
-            .binary_search_by(|entry| entry.0.as_bytes().cmp(key))
+            .binary_search_by(|entry| entry.0.key_ref().compare(&key))
     }
 
     // Whether the key is above the last one, so that an entry under it may be put behind the others.
@@ -98,7 +106,7 @@ impl<T: Drop, A: Allocator + Copy> Entries<T, A> {
         ensures ok { OnOk result (self.new ≡ self.old ++ (key, item) ∷ []) }
         ensures err { OnErr result (self.new ≡ self.old) }
     {
-        self.items.push((key, item))?;
+        self.items.push((KeyWithWord::new(key), item))?;
         Ok(())
     }
 
@@ -108,6 +116,7 @@ impl<T: Drop, A: Allocator + Copy> Entries<T, A> {
         ensures ok { OnOk result (self.new ≡ with_pair self.old key item) }
         ensures err { OnErr result (self.new ≡ self.old) }
     {
+        let key = KeyWithWord::new(key);
         match self.search(key.as_bytes()) {
             Ok(at) => {
                 self.items[at] = (key, item);
@@ -119,11 +128,11 @@ impl<T: Drop, A: Allocator + Copy> Entries<T, A> {
 }
 
 // Whether the key is above the last one, if there is one.
-fn goes_last<T, A: Allocator + Copy>(items: &[(Key<A>, T)], key: &[u8]) -> bool
+fn goes_last<T, A: Allocator + Copy>(items: &[(KeyWithWord<A>, T)], key: &[u8]) -> bool
     ensures { result ≡ goes_last key.now items.now }
 {
     match items.last() {
         None => true,
-        Some(last) => last.0.as_bytes().cmp(key).is_lt(),
+        Some(last) => last.0.key_ref().compare(&KeyRef::new(key)).is_lt(),
     }
 }

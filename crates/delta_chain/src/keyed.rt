@@ -4,6 +4,7 @@ ghost use Rattle.keys.specs.Order.{AreRisingKeys};
 
 use crate::base::Base;
 use crate::run::Run;
+use keys::KeyRef;
 use std::alloc::Allocator;
 
 /// A list of strictly rising keys that is read by place, so that search is written once for every such list.
@@ -19,6 +20,11 @@ pub trait Keyed {
     fn key(&self, at: usize) -> &[u8]
         requires { at < length (keys self.now) }
         ensures { slice_get (keys self.now) at ≡ Some result.now };
+
+    /// The key at this place, counted from 0, with what tells it apart from others at a glance.
+    fn key_ref(&self, at: usize) -> KeyRef<'_>
+        requires { at < length (keys self.now) }
+        ensures { slice_get (keys self.now) at ≡ Some result };
 }
 
 impl<V, A: Allocator + Copy> Keyed for Base<V, A> {
@@ -31,6 +37,10 @@ impl<V, A: Allocator + Copy> Keyed for Base<V, A> {
     fn key(&self, at: usize) -> &[u8] {
         Base::key(self, at)
     }
+
+    fn key_ref(&self, at: usize) -> KeyRef<'_> {
+        KeyRef::new(Base::key(self, at))
+    }
 }
 
 impl<V, A: Allocator + Copy> Keyed for Run<V, A> {
@@ -42,5 +52,9 @@ impl<V, A: Allocator + Copy> Keyed for Run<V, A> {
 
     fn key(&self, at: usize) -> &[u8] {
         Run::key(self, at)
+    }
+
+    fn key_ref(&self, at: usize) -> KeyRef<'_> {
+        Run::key_ref(self, at)
     }
 }

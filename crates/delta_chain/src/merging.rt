@@ -9,7 +9,7 @@ ghost use Rattle.delta_chain.specs.Merging.{present, first_order, overlaid};
 use crate::base::Base;
 use crate::pairs::Pairs;
 use crate::run::Run;
-use keys::{Cell, Key};
+use keys::{Cell, Key, compare};
 use std::alloc::{AllocError, Allocator};
 use std::cmp::Ordering;
 
@@ -105,7 +105,7 @@ fn order_at<V, A: Allocator + Copy>(pairs: &Pairs<'_, V, A>, at: usize, key: &[u
     ensures { result ≡ first_order (drop at pairs.now) key.now }
 {
     if at < pairs.len() {
-        pairs.key(at).cmp(key)
+        compare(pairs.key(at), key)
     } else {
         Ordering::Greater
     }

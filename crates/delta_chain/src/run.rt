@@ -8,7 +8,7 @@ ghost use Rattle.delta_chain.specs.Building.{goes_last};
 
 use crate::builder::PushError;
 use crate::entries::Entries;
-use keys::Key;
+use keys::{Key, KeyRef};
 use std::alloc::{AllocError, Allocator};
 use std::marker::Model;
 
@@ -63,6 +63,14 @@ impl<V, A: Allocator + Copy> Run<V, A> {
         ensures { slice_get (keys_of self.now) at ≡ Some result.now }
     {
         self.changes.key(at)
+    }
+
+    /// The key at this place, counted from 0, with what tells it apart from others at a glance.
+    pub fn key_ref(&self, at: usize) -> KeyRef<'_>
+        requires { at < length self.now }
+        ensures { slice_get (keys_of self.now) at ≡ Some result }
+    {
+        self.changes.key_ref(at)
     }
 
     /// What the key at this place has: its cell, or none where it is absent.

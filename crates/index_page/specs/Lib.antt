@@ -1,4 +1,5 @@
 pub mod Children
+pub mod NextChild
 pub mod Page
 pub mod Range
 pub mod Rules

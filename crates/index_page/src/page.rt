@@ -9,9 +9,9 @@ ghost use Rattle.index_page.specs.Page.PageOfKind.{Leaf, Index};
 ghost use Rattle.index_page.specs.Range.{is_before};
 ghost use Rattle.index_page.specs.Children.{children, is_place_for, child_entries, HasChildFor, child_with_end, children_within, entries_between, left_from};
 
-use crate::within::Children;
+use crate::within::{Children, NextChild};
 use delta_chain::Chain;
-use keys::{Key, Pid, Value};
+use keys::{Key, Pid, Value, compare};
 use page_search::{Probes, above, floor};
 use std::alloc::Allocator;
 use std::marker::Model;
@@ -155,7 +155,7 @@ impl<A: Allocator + Copy> Page<A> {
         Children {
             page: self,
             end: hi,
-            next: self.first_between(lo, hi),
+            next: NextChild::For(lo),
         }
     }
 
@@ -192,7 +192,11 @@ impl<A: Allocator + Copy> Page<A> {
     }
 
     // The first child whose range meets the bounds: with it those that do begin.
-    fn first_between<'a>(&'a self, lo: &'a [u8], hi: Option<&'a [u8]>) -> Option<(&'a [u8], Pid)>
+    pub(crate) fn first_between<'a>(
+        &'a self,
+        lo: &'a [u8],
+        hi: Option<&'a [u8]>,
+    ) -> Option<(&'a [u8], Pid)>
         ensures { left_from (option_map (λ e. (e.0.now, e.1)) result) (option_copied hi.entry) (child_entries self.now) ≡ children_within lo.now (option_copied hi.entry) (child_entries self.now) }
     {
         match self.last_child(lo) {
@@ -218,6 +222,6 @@ fn is_before(end: Option<&[u8]>, key: &[u8]) -> bool
 {
     match end {
         None => true,
-        Some(end) => key.cmp(end).is_lt(),
+        Some(end) => compare(key, end).is_lt(),
     }
 }

@@ -11,17 +11,27 @@ use std::marker::Model;
 pub struct Children<'a, A: Allocator> {
     pub(crate) page: &'a Page<A>,
     pub(crate) end: Option<&'a [u8]>,
-    pub(crate) next: Option<(&'a [u8], Pid)>,
+    pub(crate) next: NextChild<'a>,
+}
+
+// Which child comes next. It isn't searched for before it is asked for.
+#[derive(Clone, Copy)]
+pub(crate) enum NextChild<'a> {
+    // The one in whose range this key lies.
+    For(&'a [u8]),
+    // The one behind the child with this low key.
+    Behind(&'a [u8]),
 }
 
 impl<'a, A: Allocator> Model for Children<'a, A> {
     ghost use Rattle.std.specs.Prelude.{List, ℕ};
-    ghost use Rattle.std.specs.Option.{option_copied, option_map};
-    ghost use Rattle.index_page.specs.Children.{child_entries, left_from};
+    ghost use Rattle.std.specs.Option.{option_copied};
+    ghost use Rattle.index_page.specs.Children.{child_entries};
+    ghost use Rattle.index_page.specs.NextChild.{left_with};
 
     ghost Value = { List (List ℕ × ℕ) };
 
-    ghost view = { λ c. left_from (option_map (λ e. (e.0.now, e.1)) c.next) (option_copied c.end) (child_entries c.page.now) };
+    ghost view = { λ c. left_with c.next (option_copied c.end) (child_entries c.page.now) };
 }
 
 impl<'a, A: Allocator + Copy> Iterator for Children<'a, A> {
@@ -32,9 +42,14 @@ impl<'a, A: Allocator + Copy> Iterator for Children<'a, A> {
     ghost remaining = { item_count (λ left. left) };
 
     fn next(&mut self) -> Option<(&'a [u8], Pid)> {
-        match self.next {
+        let page = self.page;
+        let found = match self.next {
+            NextChild::For(key) => page.first_between(key, self.end),
+            NextChild::Behind(low) => page.next_before(low, self.end),
+        };
+        match found {
             Some((low, pid)) => {
-                self.next = self.page.next_before(low, self.end);
+                self.next = NextChild::Behind(low);
                 Some((low, pid))
             }
             None => None,

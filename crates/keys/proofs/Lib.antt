@@ -6,3 +6,4 @@ pub mod RangeLaws
 mod Rows
 pub mod RunLaws
 mod SettingsRows
+mod WordLaws

@@ -8,3 +8,4 @@ pub mod OrderedMap
 pub mod Places
 pub mod Range
 pub mod Step
+pub mod Words

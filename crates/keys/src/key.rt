@@ -6,6 +6,7 @@ ghost use Rattle.std.specs.Cmp.Rules.{comparing};
 ghost use Rattle.std.specs.Ordering.{eq_by_cmp, as_partial_cmp};
 ghost use Rattle.keys.specs.Order.{order};
 
+use crate::order::compare;
 use std::alloc::{AllocError, Allocator};
 use std::cmp::Ordering;
 use std::marker::Model;
@@ -74,7 +75,7 @@ impl<A: Allocator> PartialEq for Key<A> {
     ghost laws = { partial_equiv_from_equiv (eq_by_cmp_equiv nat_list_cmp_total) };
 
     fn eq(&self, other: &Self) -> bool {
-        self.as_bytes().cmp(other.as_bytes()).is_eq()
+        compare(self.as_bytes(), other.as_bytes()).is_eq()
     }
 }
 
@@ -102,6 +103,6 @@ impl<A: Allocator> Ord for Key<A> {
     ghost matches_eq = { Prim.search (comparing, rules) };
 
     fn cmp(&self, other: &Self) -> Ordering {
-        self.as_bytes().cmp(other.as_bytes())
+        compare(self.as_bytes(), other.as_bytes())
     }
 }

@@ -10,7 +10,7 @@ ghost use Rattle.page_runs.specs.Replay.{map_by_now};
 
 use crate::changes::{Changes, Leaf};
 use crate::changes_from::{Change, ChangesFrom};
-use keys::{Key, RowList, Value};
+use keys::{Key, RowList, Value, compare};
 use scan::LeafPairs;
 use std::alloc::{AllocError, Global};
 use std::cmp::Ordering;
@@ -18,6 +18,7 @@ use std::marker::Model;
 
 /// The rows of the range on the page with the changes so far: those whose keys are `low` or above, and below `end` where there
 /// is one, as many as the limit at most. It takes about as many steps as there are rows and changes in the range.
+#[inline(never)]
 pub(crate) fn rows_of(
     alloc: Global,
     page: &Leaf,
@@ -47,7 +48,7 @@ fn is_before(end: &Option<Key<Global>>, key: &[u8]) -> bool
 {
     match end {
         None => true,
-        Some(end) => key.cmp(end.as_bytes()).is_lt(),
+        Some(end) => compare(key, end.as_bytes()).is_lt(),
     }
 }
 
@@ -107,7 +108,7 @@ impl<'a> NamedKeys<'a> {
                 self.change = self.changes.next();
                 Some((key, value))
             }
-            (Some((key, value)), Some((changed, change))) => match key.cmp(changed) {
+            (Some((key, value)), Some((changed, change))) => match compare(key, changed) {
                 Ordering::Less => {
                     self.pair = self.pairs.next();
                     Some((key, Some(value)))

@@ -11,6 +11,7 @@ use crate::probes::Probes;
 use crate::search::place;
 use crate::side::Side;
 use delta_chain::{Chain, Keyed};
+use keys::KeyRef;
 use std::alloc::Allocator;
 
 /// The page's last entry whose key isn't above this one, if there is one: its key and its cell. One walk over all runs and
@@ -58,9 +59,9 @@ fn nearest<'a, V, A: Allocator + Copy>(
     loop {
         let (found, said) = nearest_named(chain, bound, side, probes)?;
         if let Some(cell) = said {
-            return Some((found, cell));
+            return Some((found.as_bytes(), cell));
         }
-        bound = found;
+        bound = found.as_bytes();
         side = side.past();
     }
 }
@@ -72,22 +73,22 @@ fn nearest_named<'a, V, A: Allocator + Copy>(
     key: &[u8],
     side: Side,
     probes: &mut Probes,
-) -> Option<(&'a [u8], Option<&'a V>)>
-    ensures value { IsNearest side key.now (λ i. named_under i chain.now.runs chain.now.base) (option_map (λ e. (e.0.now, option_copied e.1)) result) }
+) -> Option<(KeyRef<'a>, Option<&'a V>)>
+    ensures value { IsNearest side key.now (λ i. named_under i chain.now.runs chain.now.base) (option_map (λ e. (e.0, option_copied e.1)) result) }
     ensures kept { probes.old ≤ probes.new }
 {
     let Some((run, below)) = chain.newest() else {
         let base = chain.base();
         let at = nearest_place(base, key, side, probes)?;
-        return Some((base.key(at), Some(base.cell(at))));
+        return Some((KeyRef::new(base.key(at)), Some(base.cell(at))));
     };
     let under = nearest_named(below, key, side, probes);
     let Some(at) = nearest_place(run, key, side, probes) else {
         return under;
     };
-    let here = run.key(at);
+    let here = run.key_ref(at);
     match under {
-        Some(other) if side.is_nearer(other.0, here, probes) => Some(other),
+        Some(other) if side.is_nearer(&other.0, &here, probes) => Some(other),
         _ => Some((here, run.change(at))),
     }
 }

@@ -1,6 +1,7 @@
 ghost use Rattle.std.specs.Prelude.{◌≡◌, ◌+◌, ◌≤◌, min};
 ghost use Rattle.keys.specs.Order.{order};
 
+use keys::KeyRef;
 use std::cmp::Ordering;
 use std::marker::Model;
 
@@ -35,12 +36,12 @@ impl Probes {
     }
 
     /// How the first key stands to the second. It is one comparison more.
-    pub fn compare(&mut self, one: &[u8], other: &[u8]) -> Ordering
+    pub fn compare(&mut self, one: &KeyRef<'_>, other: &KeyRef<'_>) -> Ordering
         ensures order { result ≡ order one.now other.now }
         ensures counted { self.new ≡ min (self.old + 1) u64.MAX }
         ensures kept { self.old ≤ self.new }
     {
         self.compared = self.compared.saturating_add(1);
-        one.cmp(other)
+        one.compare(other)
     }
 }

@@ -11,6 +11,7 @@ ghost use Rattle.page_search.specs.Places.{count_below, GoesTo};
 
 use crate::probes::Probes;
 use delta_chain::{Base, Chain, Keyed};
+use keys::KeyRef;
 use std::alloc::Allocator;
 use std::cmp::Ordering;
 
@@ -74,11 +75,12 @@ pub fn place<L: Keyed>(list: &L, key: &[u8], probes: &mut Probes) -> Result<usiz
     ensures least { min (probes.old + fewest_among (is_ok result) (length (L.keys list.now))) u64.MAX ≤ probes.new }
     ensures kept { probes.old ≤ probes.new }
 {
+    let key = KeyRef::new(key);
     let mut low = 0;
     let mut high = list.len();
     while low < high {
         let middle = low + (high - low) / 2;
-        match probes.compare(list.key(middle), key) {
+        match probes.compare(&list.key_ref(middle), &key) {
             Ordering::Less => low = middle + 1,
             Ordering::Equal => return Ok(middle),
             Ordering::Greater => high = middle,

@@ -3,6 +3,7 @@ ghost use Rattle.std.specs.Ordering.{is_lt};
 ghost use Rattle.page_search.specs.Nearest.{nearness, past};
 
 use crate::probes::Probes;
+use keys::KeyRef;
 
 // On which side of a key one looks for the nearest one. `UpTo` takes in the key itself.
 #[derive(Clone, Copy)]
@@ -24,7 +25,7 @@ impl Side {
     }
 
     // Whether the first of two keys on this side of a third is the nearer one.
-    pub(crate) fn is_nearer(self, one: &[u8], other: &[u8], probes: &mut Probes) -> bool
+    pub(crate) fn is_nearer(self, one: &KeyRef<'_>, other: &KeyRef<'_>, probes: &mut Probes) -> bool
         ensures nearer { result ≡ is_lt (nearness self other.now one.now) }
         ensures kept { probes.old ≤ probes.new }
     {

@@ -8,7 +8,7 @@ ghost use Rattle.routing.specs.Routes.{is_scan_at};
 ghost use Rattle.routing.specs.SortedPlaces.{reaches, reaches_at};
 
 use crate::sort::Keyed;
-use keys::{Command, Key};
+use keys::{Command, Key, compare};
 use std::alloc::{AllocError, Allocator, Global};
 
 /// Whether a command of the batch is a scan.
@@ -73,7 +73,7 @@ fn reaches<A: Allocator>(command: &Command<A>, low: &[u8]) -> bool
         Command::Put(_, _) => false,
         Command::Add(_, _) => false,
         Command::Del(_) => false,
-        Command::Scan(lo, hi, _) => lo.as_bytes().cmp(low).is_lt() && is_before(hi, low),
+        Command::Scan(lo, hi, _) => compare(lo.as_bytes(), low).is_lt() && is_before(hi, low),
     }
 }
 
@@ -83,6 +83,6 @@ fn is_before<A: Allocator>(hi: &Option<Key<A>>, key: &[u8]) -> bool
 {
     match hi {
         None => true,
-        Some(hi) => key.cmp(hi.as_bytes()).is_lt(),
+        Some(hi) => compare(key, hi.as_bytes()).is_lt(),
     }
 }

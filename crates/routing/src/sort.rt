@@ -9,7 +9,7 @@ ghost use Rattle.routing.specs.Keyed.{places_of, AreKeyed, has_key_below};
 ghost use Rattle.routing.specs.Places.{places_below};
 ghost use Rattle.routing.specs.SortedPlaces.{AreSortedPlaces};
 
-use keys::Command;
+use keys::{Command, compare};
 use rayon::prelude::*;
 use std::alloc::{AllocError, Allocator, Global};
 use std::thread::Threads;
@@ -114,7 +114,7 @@ fn bounds_of_count(keyed: &[Keyed<'_>], key: &[u8]) -> (usize, usize)
 fn has_key_below(entry: &Keyed<'_>, key: &[u8]) -> bool
     ensures { result ≡ has_key_below key.now entry.now }
 {
-    entry.0.cmp(key).is_lt()
+    compare(entry.0, key).is_lt()
 }
 
 /// The places of these entries, and these other places, in the order of the batch: a page's sorted places, and those of the

@@ -1,5 +1,5 @@
 -- The steps of the code that merges a leaf's lists, place by place.
-use Rattle.std.specs.Prelude.{◌≡◌, ◌<◌, ◌≤◌, ◌+◌, ◌-◌, ℕ, zero, suc, true, false, List, [], ◌∷◌, ◌++◌, length, drop, map, slice_get, slice_index_or, Option, Some, None, MatchOption}
+use Rattle.std.specs.Prelude.{◌≡◌, ◌<◌, ◌≤◌, ◌+◌, ◌-◌, ℕ, zero, suc, true, false, List, [], ◌∷◌, ◌++◌, length, take, drop, map, slice_get, slice_index_or, Option, Some, None, MatchOption}
 use Rattle.std.proofs.Common.{refl, sym, ap, ◌∙◌, arith, add-one, subst, Ordering, Less, Equal, Greater}
 use Rattle.std.proofs.lemmas.List.{drop_more, take_at, length-map}
 use Rattle.std.specs.Ordering.{is_lt, is_eq}
@@ -8,13 +8,14 @@ use Rattle.std.specs.List.Sorted.{IsStrictlySortedBy}
 use Rattle.std.specs.Map.{keys_of, values_of}
 use Rattle.std.specs.Option.{option_map}
 use Rattle.keys.specs.Order.{order, IsRising}
+use Rattle.keys.proofs.MapLaws.{order_itself}
 use Rattle.delta_chain.specs.Layers.{Layers, with_run, entries_of, IsInOrder}
 use Rattle.delta_chain.specs.Merging.{present, first_order, said_by}
 use Rattle.delta_chain.proofs.Merges.{rising_behind, first_stays}
 use Rattle.delta_chain.proofs.Places.{front_under}
 use Rattle.page_search.specs.Places.{count_below}
 use Rattle.scan.specs.Leaf.{from, behind}
-use Rattle.scan.specs.Merge.{StartsFrom, ArePairsNext, changes_after, IsMerge}
+use Rattle.scan.specs.Merge.{StartsFrom, BeginsWith, ArePairsNext, changes_after, IsMerge}
 use Rattle.scan.proofs.MergeLaws.{less_by, drop-count_below, change_at, past_first, before_first, change_next, newest_first, older_first, said_behind, all_start}
 use Rattle.scan.proofs.PassingLaws.{said_by-rises, rising-behind_all, rising-from_all, rising-base_of, from-entries}
 
@@ -82,6 +83,21 @@ module _ {V : Type 0} where
 
   pub least_same : (o : Option (List ℕ × Option V)) (runs : List (Changes V)) (at : ℕ) (l : Changes V) → 0 < at → at ≤ length runs → l ≡ slice_index_or runs (at - 1) l → None ≡ slice_get l 0 → o ≡ slice_get (said_by (drop at runs)) 0 → o ≡ slice_get (said_by (drop (at - 1) runs)) 0
   least_same o runs at l p w i n h = said_empty o l (drop at runs) n h ∙ ap (λ (x : List (Changes V)). slice_get (said_by x) 0) (sym (front_item runs at l p w i))
+
+  begins_with : (l : Changes V) (c : List ℕ × Option V) → Some c ≡ slice_get l 0 → BeginsWith c.0 l
+  begins_with [] c h = absurd (cc)
+  begins_with (e ∷ es) c h = let first : c ≡ e = cc in rw first (order_itself e.0)
+
+  -- a run begins with its first change, wherever it stands among the runs
+  pub begins_at : (runs : List (Changes V)) (at : ℕ) (l : Changes V) (c : List ℕ × Option V) → l ≡ slice_index_or runs at l → Some c ≡ slice_get l 0 → at < length runs → BeginsWith c.0 (slice_index_or runs at [])
+  begins_at [] at l c i h n = absurd (omega arith)
+  begins_at (r ∷ runs) zero l c i h n = rw (sym i) (begins_with l c h)
+  begins_at (r ∷ runs) (suc at) l c i h n = begins_at runs at l c i h (omega arith)
+
+  -- a list whose first key is k goes past it
+  pub head_passed : (k : List ℕ) (es : List (List ℕ × V)) → IsRising es → BeginsWith k es → drop 1 es ≡ behind k es
+  head_passed k [] r h = absurd (cc)
+  head_passed k (e ∷ es) r h = sym (past_first k e es r h)
 
   -- an older run's change comes first
   said_older : (c d : List ℕ × Option V) (l said : Changes V) (ls : List (Changes V)) → IsRising l → Some c ≡ slice_get l 0 → said ≡ said_by ls → Some d ≡ slice_get said 0 → order d.0 c.0 ≡ Less → Some d ≡ slice_get (said_by (l ∷ ls)) 0
@@ -204,3 +220,25 @@ merge_again runs later changes base a b r h = record { changes = subst (λ (x : 
 pub merge_of_none : (base : List (List ℕ × List ℕ)) → IsRising base → IsMerge [] [] base
 unfolding IsStrictlySortedBy
 merge_of_none base r = record { changes = tt; runs = tt; base = r }
+
+-- ---- lists that are gone over from the front
+
+module _ {X : Type 0} where
+  -- what is ahead stands as it stood
+  pub item_ahead : (f : X → X) (xs rs : List X) (at : ℕ) (x : X) → at < length xs → rs ≡ map f (take at xs) ++ drop at xs → slice_index_or rs at x ≡ slice_index_or xs at x
+  item_ahead f xs rs at x l h = ap (λ (r : List X). slice_index_or r at x) h ∙ ahead xs at l
+    where
+      ahead : (ys : List X) (i : ℕ) → i < length ys → slice_index_or (map f (take i ys) ++ drop i ys) i x ≡ slice_index_or ys i x
+      ahead [] i m = absurd (omega arith)
+      ahead (y ∷ ys) zero m = refl
+      ahead (y ∷ ys) (suc i) m = ahead ys i (omega arith)
+
+  pub all_at : (P : X → Type 0) (xs : List X) (at : ℕ) (x : X) → AllByRecursion P xs → at < length xs → P (slice_index_or xs at x)
+  all_at P [] at x a l = absurd (omega arith)
+  all_at P (y ∷ ys) zero x a l = a.0
+  all_at P (y ∷ ys) (suc at) x a l = all_at P ys at x a.1 (omega arith)
+
+  pub item_is : (xs : List X) (at : ℕ) (x y : X) → at < length xs → slice_index_or xs at x ≡ slice_index_or xs at y
+  item_is [] at x y l = absurd (omega arith)
+  item_is (z ∷ zs) zero x y l = refl
+  item_is (z ∷ zs) (suc at) x y l = item_is zs at x y (omega arith)

@@ -1,6 +1,6 @@
 -- What a merge of a leaf's runs and its base has left.
 use Rattle.std.specs.Prelude.{◌≡◌, ℕ, false, List, [], ◌∷◌, Option, Some, None, ⊤}
-use Rattle.std.specs.declared.cmp.Ordering.TheVariants.{Less}
+use Rattle.std.specs.declared.cmp.Ordering.TheVariants.{Less, Equal}
 use Rattle.std.specs.List.{AllByRecursion}
 use Rattle.keys.specs.Order.{IsRising}
 use Rattle.keys.specs.Range.{is_below}
@@ -30,6 +30,10 @@ ArePairsNext (c ∷ cs) es = first_order es c.0 ≡ Less
 abbrev pub StartsFrom : {V : Type 0} → List ℕ → List (List ℕ × V) → Type 0
 StartsFrom k [] = ⊤
 StartsFrom k (e ∷ es) = is_below e.0 k ≡ false
+
+-- the first key is k
+abbrev pub BeginsWith : {V : Type 0} → List ℕ → List (List ℕ × V) → Type 0
+BeginsWith k es = first_order es k ≡ Equal
 
 -- what a merge keeps in order: its changes, each of its runs, and its base
 pub record IsMerge (cs : List (List ℕ × Option (List ℕ))) (rs : List (List (List ℕ × Option (List ℕ)))) (es : List (List ℕ × List ℕ)) : Type 0 where

@@ -7,18 +7,18 @@ ghost use Rattle.scan.specs.Ahead.{changes_of};
 ghost use Rattle.scan.specs.Merge.{StartsFrom};
 
 use delta_chain::{Keyed, Run};
-use keys::Value;
+use keys::{KeyRef, Value};
 use page_search::{Probes, place};
 use std::alloc::Global;
 use std::marker::Model;
 
 /// A change: a key, and the value that it has from now on, or none where it is absent from now on.
-pub(crate) type Change<'a> = (&'a [u8], Option<&'a Value<Global>>);
+pub(crate) type Change<'a> = (KeyRef<'a>, Option<&'a Value<Global>>);
 
 // A change of a run, and the place of the next.
-#[derive(Clone, Copy)]
+#[derive(Drop)]
 struct Head<'a> {
-    key: &'a [u8],
+    key: KeyRef<'a>,
     said: Option<&'a Value<Global>>,
     run: &'a Run<Value<Global>, Global>,
     next: usize,
@@ -53,22 +53,31 @@ impl<'a> Ahead<'a> {
 
     // The first change, if there is one.
     pub(crate) fn first(&self) -> Option<Change<'a>>
-        ensures { option_map (λ c. (c.0.now, option_copied c.1)) result ≡ slice_get self.now 0 }
+        ensures { option_map (λ c. (c.0, option_copied c.1)) result ≡ slice_get self.now 0 }
     {
-        match self.head {
-            Some(head) => Some((head.key, head.said)),
+        match &self.head {
+            Some(head) => Some((head.key.again(), head.said)),
             None => None,
         }
     }
 
+    // Goes past the first change, if there is one.
+    pub(crate) fn advance(&mut self)
+        ensures { self.new ≡ drop 1 self.old }
+    {
+        if let Some(head) = &self.head {
+            self.head = head_at(head.run, head.next);
+        }
+    }
+
     // Goes past the first change where it has this key.
-    pub(crate) fn pass(&mut self, key: &[u8])
+    pub(crate) fn pass(&mut self, key: &KeyRef<'_>)
         requires starts { StartsFrom key.now self.old }
         requires rising { IsRising self.old }
         ensures { self.new ≡ behind key.now self.old }
     {
-        if let Some(head) = self.head {
-            if head.key.cmp(key).is_eq() {
+        if let Some(head) = &self.head {
+            if head.key.compare(key).is_eq() {
                 self.head = head_at(head.run, head.next);
             }
         }
@@ -81,7 +90,7 @@ fn head_at<'a>(run: &'a Run<Value<Global>, Global>, at: usize) -> Option<Head<'a
 {
     if at < run.len() {
         Some(Head {
-            key: run.key(at),
+            key: run.key_ref(at),
             said: run.change(at),
             run,
             next: at + 1,

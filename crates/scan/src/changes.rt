@@ -1,16 +1,16 @@
 //! What a leaf's runs say together, in key order: a merge that keeps a place in each run.
-ghost use Rattle.std.specs.Prelude.{◌≡◌, ◌∷◌, ◌≤◌, [], length, map, slice_get, MatchOption};
+ghost use Rattle.std.specs.Prelude.{◌≡◌, ◌∷◌, ◌≤◌, [], length, map, slice_get, slice_index_or, IfSome, MatchOption};
 ghost use Rattle.std.specs.List.{AllByRecursion};
 ghost use Rattle.std.specs.Option.{option_copied, option_map};
 ghost use Rattle.keys.specs.Order.{IsRising};
 ghost use Rattle.delta_chain.specs.Layers.{depth_of};
 ghost use Rattle.delta_chain.specs.Merging.{said_by};
 ghost use Rattle.scan.specs.Leaf.{from, behind};
-ghost use Rattle.scan.specs.Merge.{StartsFrom};
+ghost use Rattle.scan.specs.Merge.{StartsFrom, BeginsWith};
 
 use crate::ahead::{Ahead, Change};
 use delta_chain::Chain;
-use keys::Value;
+use keys::{KeyRef, Value};
 use smallvec::SmallVec;
 use std::alloc::Global;
 
@@ -37,44 +37,59 @@ pub(crate) fn next_change<'a>(runs: &mut Runs<'a>) -> Option<Change<'a>>
     requires { AllByRecursion IsRising runs.old.items }
     ensures rising { AllByRecursion IsRising runs.new.items }
     ensures changes { MatchOption result (said_by runs.old.items ≡ [])
-        (λ c. said_by runs.old.items ≡ (c.0.now, option_copied c.1) ∷ said_by runs.new.items) }
+        (λ c. said_by runs.old.items ≡ (c.0, option_copied c.1) ∷ said_by runs.new.items) }
 {
-    let (key, said) = least(runs.as_slice())?;
-    pass_all(runs.as_mut_slice(), key);
+    let (at, (key, said)) = least(runs.as_slice())?;
+    pass_all(runs.as_mut_slice(), at, &key);
     Some((key, said))
 }
 
-// The change with the least key; where runs share that key, it is the newest one's.
-fn least<'a>(runs: &[Ahead<'a>]) -> Option<Change<'a>>
+// The change with the least key, and the place of its run; where runs share that key, it is the newest one's.
+fn least<'a>(runs: &[Ahead<'a>]) -> Option<(usize, Change<'a>)>
     requires { AllByRecursion IsRising runs.now }
-    ensures { option_map (λ c. (c.0.now, option_copied c.1)) result ≡ slice_get (said_by runs.now) 0 }
+    ensures change { option_map (λ f. (f.1.0, option_copied f.1.1)) result ≡ slice_get (said_by runs.now) 0 }
+    ensures place { IfSome result (λ f. BeginsWith f.1.0 (slice_index_or runs.now f.0 [])) }
 {
     let mut least: Option<Change<'a>> = None;
+    let mut place = 0;
     let mut at = runs.len();
     while at > 0 {
         at -= 1;
         let Some(change) = runs[at].first() else {
             continue;
         };
-        match least {
-            None => least = Some(change),
+        match &least {
+            None => {
+                least = Some(change);
+                place = at;
+            }
             Some(older) => {
-                if !older.0.cmp(change.0).is_lt() {
+                if !older.0.compare(&change.0).is_lt() {
                     least = Some(change);
+                    place = at;
                 }
             }
         }
     }
-    least
+    match least {
+        Some(change) => Some((place, change)),
+        None => None,
+    }
 }
 
-// Each run goes past this key, and none is behind it.
-fn pass_all<'a>(runs: &mut [Ahead<'a>], key: &[u8])
+// Each run goes past this key, and none is behind it. The run at the place begins with it, so that the key's bytes needn't be
+// looked at there.
+fn pass_all<'a>(runs: &mut [Ahead<'a>], place: usize, key: &KeyRef<'_>)
+    requires place { BeginsWith key.now (slice_index_or runs.old place []) }
     requires starts { AllByRecursion (StartsFrom key.now) runs.old }
     requires rising { AllByRecursion IsRising runs.old }
     ensures { runs.new ≡ map (behind key.now) runs.old }
 {
-    for run in runs.iter_mut() {
-        run.pass(key);
+    for (at, run) in runs.iter_mut().enumerate() {
+        if at == place {
+            run.advance();
+        } else {
+            run.pass(key);
+        }
     }
 }

@@ -9,11 +9,12 @@ ghost use Rattle.scan.specs.Merge.{merged, ArePairsNext, StartsFrom};
 use crate::ahead::{Change, place_from};
 use crate::changes::{Runs, fill, next_change};
 use delta_chain::{Base, Chain};
-use keys::Value;
+use keys::{KeyRef, Value};
 use smallvec::SmallVec;
 use std::alloc::Global;
 use std::cmp::Ordering;
 use std::marker::Model;
+use std::mem;
 
 /// A walk over a leaf that keeps a place in the base and in each run: a key is compared once with the next change, and a
 /// key of a run with those of the other runs. Contracts see it as the changes and the base's pairs that are left.
@@ -35,9 +36,9 @@ impl<'a> Model for Merge<'a> {
 
     ghost Value = { Merged };
 
-    ghost view = { λ m. record { changes = changes_after (option_map (λ c. (c.0.now, option_copied c.1)) m.change) (said_by m.runs.items); pairs = drop m.at m.base.now } };
+    ghost view = { λ m. record { changes = changes_after (option_map (λ c. (c.0, option_copied c.1)) m.change) (said_by m.runs.items); pairs = drop m.at m.base.now } };
 
-    ghost invariant = { λ m. IsMerge (changes_after (option_map (λ c. (c.0.now, option_copied c.1)) m.change) (said_by m.runs.items)) m.runs.items m.base.now };
+    ghost invariant = { λ m. IsMerge (changes_after (option_map (λ c. (c.0, option_copied c.1)) m.change) (said_by m.runs.items)) m.runs.items m.base.now };
 }
 
 impl<'a> Merge<'a> {
@@ -72,12 +73,14 @@ impl<'a> Merge<'a> {
     // The next change, unless a pair of the base stands before it. A pair that has its key is passed.
     pub(crate) fn take_change(&mut self) -> Option<Change<'a>>
         ensures { MatchOption result ((self.new ≡ self.old) × ArePairsNext self.old.changes self.old.pairs)
-            (λ c. (merged self.old ≡ present c.0.now (option_copied c.1) ++ merged self.new) × (length self.new.changes < length self.old.changes)) }
+            (λ c. (merged self.old ≡ present c.0 (option_copied c.1) ++ merged self.new) × (length self.new.changes < length self.old.changes)) }
     {
-        let (key, said) = self.change?;
-        self.at = past(self.base, self.at, key)?;
-        self.change = next_change(&mut self.runs);
-        Some((key, said))
+        let at = match &self.change {
+            Some(change) => past(self.base, self.at, &change.0)?,
+            None => return None,
+        };
+        self.at = at;
+        mem::replace(&mut self.change, next_change(&mut self.runs))
     }
 
     // The base's next pair, before which there is no change.
@@ -105,20 +108,20 @@ pub(crate) fn next_pair<'a>(merge: &mut Merge<'a>) -> Option<(&'a [u8], &'a Valu
             return merge.take_pair();
         };
         if let Some(value) = said {
-            return Some((key, value));
+            return Some((key.as_bytes(), value));
         }
     }
 }
 
 // The place behind the key, of pairs from this place on; none where the first of these stands before the key.
-fn past(base: &Base<Value<Global>, Global>, at: usize, key: &[u8]) -> Option<usize>
+fn past(base: &Base<Value<Global>, Global>, at: usize, key: &KeyRef<'_>) -> Option<usize>
     ensures { MatchOption result (first_order (drop at base.now) key.now ≡ Less)
         (λ next. StartsFrom key.now (drop at base.now) × (drop next base.now ≡ behind key.now (drop at base.now))) }
 {
     if at >= base.len() {
         return Some(at);
     }
-    match base.key(at).cmp(key) {
+    match KeyRef::new(base.key(at)).compare(key) {
         Ordering::Less => None,
         Ordering::Equal => Some(at + 1),
         Ordering::Greater => Some(at),

@@ -9,7 +9,7 @@ ghost use Rattle.scan.specs.Left.{pairs_left};
 
 use crate::leaf::LeafPairs;
 use crate::leaves::Leaves;
-use keys::Value;
+use keys::{Value, compare};
 use mapping::Tree;
 use std::alloc::Global;
 use std::marker::Model;
@@ -111,6 +111,6 @@ fn is_before(end: Option<&[u8]>, key: &[u8]) -> bool
 {
     match end {
         None => true,
-        Some(end) => key.cmp(end).is_lt(),
+        Some(end) => compare(key, end).is_lt(),
     }
 }

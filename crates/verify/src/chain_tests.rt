@@ -10,7 +10,7 @@ ghost use Rattle.index_page.specs.Rules.{is_short_value, is_any_pid, of_cell, is
 ghost use Rattle.verify.specs.Sizes.{sizes_under};
 
 use delta_chain::{Base, Chain, Keyed, Run};
-use keys::{Pid, Settings, Value};
+use keys::{Pid, Settings, Value, compare};
 use std::alloc::Allocator;
 
 /// What a page has at a key, as far as the settings limit it.
@@ -42,12 +42,12 @@ impl CellSize for Pid {
 fn is_within(low: &[u8], end: Option<&[u8]>, key: &[u8]) -> bool
     ensures { result ≡ is_within low.now (option_copied end.entry) key.now }
 {
-    if key.cmp(low).is_lt() {
+    if compare(key, low).is_lt() {
         return false;
     }
     match end {
         None => true,
-        Some(end) => key.cmp(end).is_lt(),
+        Some(end) => compare(key, end).is_lt(),
     }
 }
 

@@ -10,7 +10,7 @@ use crate::page_rules::broken_rule;
 use crate::place::Place;
 use crate::rules::{CHILDREN, NO_PAGE, WRONG_KIND};
 use delta_chain::{Chain, Pairs};
-use keys::{Pid, Settings, Value};
+use keys::{Pid, Settings, Value, compare};
 use mapping::Tree;
 use std::alloc::{AllocError, Global};
 
@@ -106,5 +106,5 @@ fn is_headed(children: &Pairs<'_, Pid, Global>, least: usize, low: &[u8]) -> boo
     if children.len() == 0 {
         return low.is_empty();
     }
-    children.key(0).cmp(low).is_eq()
+    compare(children.key(0), low).is_eq()
 }

@@ -5,7 +5,7 @@ use crate::chain_tests::{CellSize, fits_sizes, names_within};
 use crate::place::Place;
 use crate::rules::{DEPTH, LOW_KEY, RANGE, SIZES};
 use delta_chain::Chain;
-use keys::Settings;
+use keys::{Settings, compare};
 use std::alloc::Global;
 
 /// The first of the rules on every page that this one breaks: on its low key, its range, its sizes and its depth. That the
@@ -19,7 +19,7 @@ pub(crate) fn broken_rule<V: CellSize>(
     ensures { result ≡ first_broken (common_rules settings.now (V.is_short settings.now) at.now (record { low = low.now; layers = chain.now })) }
 {
     let depth = chain.depth();
-    if !low.cmp(at.low).is_eq() {
+    if !compare(low, at.low).is_eq() {
         return Some(LOW_KEY);
     }
     if !names_within(chain, at.low, at.end) {

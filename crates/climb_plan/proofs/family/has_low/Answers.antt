@@ -7,6 +7,6 @@ use Rattle.climb_plan.proofs.family.has_low.Goals as goal
 pub returns-in-Some : goal.returns-in-Some
 returns-in-Some c =
     c.is_eq.ensures
-    ∙ ap (λ (o : Ordering). is_eq o) c.cmp.ensures
+    ∙ ap (λ (o : Ordering). is_eq o) c.compare.ensures
     ∙ ap (λ (k : List ℕ). is_same_key k c.args.low.now) c.low.ensures
     ∙ sym (begins_read c.args.low.now c.args.seen.now c.args.at c.in-Some.page.now c.in-Some.ensures.lookup.3.0 c.in-Some.ensures.lookup.1)

@@ -23,7 +23,7 @@ pub loop-low-preserved-in-Less : goal.loop-low-preserved-in-Less
 loop-low-preserved-in-Less g c = record {
   ordered = omega arith;
   within = c.loop-low.invariant.within;
-  below = below-through _ _ _ _ c.len-high.ensures.rising c.key.ensures (sym c.in-Less.ensures.order);
+  below = below-through _ _ _ _ c.len-high.ensures.rising c.key_ref.ensures (sym c.in-Less.ensures.order);
   above = c.loop-low.invariant.above;
   cost = omega (arith, c.compare.ensures.counted, digits_behind c.loop-low.low c.loop-low.high c.loop-low-test.true);
   least = omega (arith, c.compare.ensures.counted, gaps_behind c.loop-low.low c.loop-low.high c.loop-low-test.true);
@@ -31,7 +31,7 @@ loop-low-preserved-in-Less g c = record {
 }
 
 pub returns-in-Equal-clause-place : goal.returns-in-Equal-clause-place
-returns-in-Equal-clause-place g c = c.key.ensures ∙ ap Some (same_key _ _ (sym c.in-Equal.ensures.order))
+returns-in-Equal-clause-place g c = c.key_ref.ensures ∙ ap Some (same_key _ _ (sym c.in-Equal.ensures.order) ∙ c.new-key.ensures)
 
 pub returns-in-Equal-clause-cost : goal.returns-in-Equal-clause-cost
 returns-in-Equal-clause-cost g c =
@@ -42,7 +42,7 @@ loop-low-preserved g c = record {
   ordered = omega arith;
   within = omega arith;
   below = c.loop-low.invariant.below;
-  above = above-onward _ _ _ _ c.len-high.ensures.rising c.key.ensures (flipped_greater c.key.result.now c.args.key.now (sym c.in-Greater.ensures.order));
+  above = above-onward _ _ _ _ c.len-high.ensures.rising c.key_ref.ensures (flipped_greater c.key_ref.result c.new-key.result (sym c.in-Greater.ensures.order));
   cost = omega (arith, c.compare.ensures.counted, digits_before c.loop-low.low c.loop-low.high c.loop-low-test.true);
   least = omega (arith, c.compare.ensures.counted, gaps_before c.loop-low.low c.loop-low.high c.loop-low-test.true);
   kept = omega (arith, c.compare.ensures.kept);

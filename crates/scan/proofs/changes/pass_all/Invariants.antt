@@ -3,5 +3,5 @@ use Rattle.scan.specs.Leaf.{behind}
 use Rattle.scan.proofs.changes.pass_all.Given as goal
 
 -- the runs up to here have gone past the key, the others stand as they stood
-abbrev pub invariant-loop-run : goal.invariant-loop-run
-invariant-loop-run l = l.runs ≡ map (behind l.key) (take l.run-index l.initial.runs) ++ drop l.run-index l.initial.runs
+abbrev pub invariant-loop-at : goal.invariant-loop-at
+invariant-loop-at l = l.runs ≡ map (behind l.key) (take l.at l.initial.runs) ++ drop l.at l.initial.runs

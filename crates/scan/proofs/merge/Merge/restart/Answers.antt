@@ -9,9 +9,9 @@ next_change-self-inside-requires c = runs_rise c.args.key.now c.args.chain.now _
 pub invariant_of-self : goal.invariant_of-self
 invariant_of-self c =
     merge_again c.fill.new.runs.items _ _ _ (runs_rise c.args.key.now c.args.chain.now _ c.depth-in_order.ensures.rising c.fill.ensures) c.next_change-self-inside.ensures.rising (rw c.base-self-inside.ensures (rising-base_of c.args.chain.now c.depth-in_order.ensures.rising))
-    (said_next (λ c. (c.0.now, option_copied c.1)) c.next_change-self-inside.result c.fill.new.runs.items c.next_change-self-inside.new.runs.items c.next_change-self-inside.ensures.changes)
+    (said_next (λ c. (c.0, option_copied c.1)) c.next_change-self-inside.result c.fill.new.runs.items c.next_change-self-inside.new.runs.items c.next_change-self-inside.ensures.changes)
 
 pub returns : goal.returns
 returns c =
     merge_starts c.args.key.now c.args.chain.now _ c.place_from-self-inside.result c.fill.new.runs.items _ c.depth-in_order.ensures.rising c.base-self-inside.ensures c.place_from-self-inside.ensures.place c.fill.ensures
-    (said_next (λ c. (c.0.now, option_copied c.1)) c.next_change-self-inside.result c.fill.new.runs.items c.next_change-self-inside.new.runs.items c.next_change-self-inside.ensures.changes)
+    (said_next (λ c. (c.0, option_copied c.1)) c.next_change-self-inside.result c.fill.new.runs.items c.next_change-self-inside.new.runs.items c.next_change-self-inside.ensures.changes)

@@ -8,13 +8,13 @@ use Rattle.scan.proofs.merge.Merge.take_change.Goals as goal
 
 pub invariant_of-self : goal.invariant_of-self
 invariant_of-self c =
-    merge_again c.self.inside.runs.items _ _ _ c.self.invariant.runs c.next_change-self-inside.ensures.rising c.self.invariant.base
-    (said_next (λ c. (c.0.now, option_copied c.1)) c.next_change-self-inside.result c.self.inside.runs.items c.next_change-self-inside.new.runs.items c.next_change-self-inside.ensures.changes)
+    rw c.replace.ensures.after (merge_again c.self.inside.runs.items _ _ _ c.self.invariant.runs c.next_change.ensures.rising c.self.invariant.base
+    (said_next (λ c. (c.0, option_copied c.1)) c.next_change.result c.self.inside.runs.items c.next_change.new.runs.items c.next_change.ensures.changes))
 
 pub returns : goal.returns
 returns c =
-    rw (← c.self.view_is)
-    (change_taken c.in_ok-key.key.now (option_copied c.in_ok-key.said) _ _ _ _ c.self.inside.runs.items (rising_behind c.self.inside.at c.self.inside.base.now c.self.invariant.base) c.self.invariant.changes
-    (ap (λ x. changes_after (option_map (λ c. (c.0.now, option_copied c.1)) x) (said_by c.self.inside.runs.items)) c.in_ok-key.was)
-    (said_next (λ c. (c.0.now, option_copied c.1)) c.next_change-self-inside.result c.self.inside.runs.items c.next_change-self-inside.new.runs.items c.next_change-self-inside.ensures.changes)
-    c.in_ok-self-inside.ensures.0 c.in_ok-self-inside.ensures.1)
+    rw (c.replace.ensures.value, c.in-Some.is, c.replace.ensures.after, ← c.self.view_is)
+    (change_taken c.in-Some.change.0 (option_copied c.in-Some.change.1) _ _ _ _ c.self.inside.runs.items (rising_behind c.self.inside.at c.self.inside.base.now c.self.invariant.base) c.self.invariant.changes
+    (ap (λ x. changes_after (option_map (λ c. (c.0, option_copied c.1)) x) (said_by c.self.inside.runs.items)) c.in-Some.is)
+    (said_next (λ c. (c.0, option_copied c.1)) c.next_change.result c.self.inside.runs.items c.next_change.new.runs.items c.next_change.ensures.changes)
+    c.in_ok-at-in-Some.ensures.0 c.in_ok-at-in-Some.ensures.1)

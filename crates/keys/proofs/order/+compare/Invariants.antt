@@ -1,0 +1,7 @@
+use Rattle.std.proofs.Common.{length, ◌≡◌, ℕ, ◌+◌, ◌-◌, ◌*◌, ◌<◌, ◌≤◌}
+use Rattle.keys.specs.Order.{order}
+use Rattle.keys.proofs.order.+compare.Given as goal
+
+-- proposed from what the function passes where it calls itself
+abbrev pub decreases-compare : goal.decreases-compare
+decreases-compare l = length l.one.now

@@ -1,0 +1,38 @@
+//! How byte strings stand to each other.
+ghost use Rattle.std.specs.Prelude.{◌≡◌};
+ghost use Rattle.keys.specs.Order.{order};
+
+use std::cmp::Ordering;
+
+/// How the first byte string stands to the second: the first byte in which they differ decides, and a proper beginning
+/// stands first. Eight bytes are compared at a time, as one number.
+#[inline]
+pub fn compare(one: &[u8], other: &[u8]) -> Ordering
+    ensures { result ≡ order one.now other.now }
+{
+    let (Some((word, rest)), Some((other_word, other_rest))) = (
+        one.split_first_chunk::<8>(),
+        other.split_first_chunk::<8>(),
+    ) else {
+        return compare_bytes(one, other);
+    };
+    match u64::from_be_bytes(*word).cmp(&u64::from_be_bytes(*other_word)) {
+        Ordering::Equal => compare(rest, other_rest),
+        apart => apart,
+    }
+}
+
+// As `compare`, byte by byte: for the ends that are shorter than a word.
+fn compare_bytes(one: &[u8], other: &[u8]) -> Ordering
+    ensures { result ≡ order one.now other.now }
+{
+    match (one.split_first(), other.split_first()) {
+        (Some((byte, rest)), Some((other_byte, other_rest))) => match byte.cmp(other_byte) {
+            Ordering::Equal => compare_bytes(rest, other_rest),
+            apart => apart,
+        },
+        (Some(_), None) => Ordering::Greater,
+        (None, Some(_)) => Ordering::Less,
+        (None, None) => Ordering::Equal,
+    }
+}
