@@ -1,9 +1,8 @@
 -- What settings that pass their check say of each field.
-use Rattle.std.proofs.Common.{◌≡◌, ℕ, ◌+◌, ◌*◌, ◌≤◌, max, Bool, true, false, if◌then◌else◌, nat_le, Option, Some, None, refl, leb-true}
+use Rattle.std.proofs.Common.{◌≡◌, ℕ, ◌≤◌, Bool, true, false, if◌then◌else◌, nat_le, Some, None, refl, leb-true}
 use Rattle.std.proofs.lemmas.Bool.{and_parts}
 use Rattle.keys.specs.Limits.{is_in_limits, longest_frame, first_bad_field}
 use Rattle.keys.specs.declared.settings.Settings.{Settings}
-use Rattle.keys.specs.declared.settings.Field.{Field}
 use Rattle.keys.specs.declared.settings.Field.TheVariants.{Fan, Chain, MaxKey, MaxValue, SegSize, Segments}
 
 pub within : (least most n : ℕ) → is_in_limits least most n ≡ true → (least ≤ n) × (n ≤ most)

@@ -1,6 +1,6 @@
 -- The worked rows that speak of commands, computed by the checker. A letter is the key of one byte that stands
 -- for it, and a digit the value of one byte. docs/EXAMPLES.md numbers the rows.
-use Rattle.std.specs.Prelude.{◌≡◌, ℕ, List, [], ◌∷◌, Option, Some, None}
+use Rattle.std.specs.Prelude.{◌≡◌, ℕ, List, [], ◌∷◌, Some, None}
 use Rattle.std.proofs.Common.{refl}
 use Rattle.keys.specs.Step.{replies_to, map_after_all}
 use Rattle.keys.specs.declared.command.Command.{Command}

@@ -1,6 +1,6 @@
 -- Words that are compared as numbers, the greatest byte first, stand to each other as their bytes do.
-use Rattle.std.proofs.Common.{◌≡◌, ℕ, zero, suc, ◌+◌, ◌*◌, ◌^◌, ◌<◌, ◌≤◌, List, [], ◌∷◌, ◌++◌, length, take, drop, refl, sym, ap, ◌∙◌, arith, slice_index_or, subst}
-use Rattle.keys.specs.Words.{word_behind, first_word, IsWordOf}
+use Rattle.std.proofs.Common.{◌≡◌, ℕ, zero, suc, ◌+◌, ◌*◌, ◌<◌, ◌≤◌, List, [], ◌∷◌, length, take, drop, refl, sym, ap, ◌∙◌, arith, slice_index_or, subst}
+use Rattle.keys.specs.Words.{word_behind, IsWordOf}
 use Rattle.keys.proofs.MapLaws.{flipped_less}
 use Rattle.std.specs.Int.{w64}
 use Rattle.std.proofs.lemmas.List.{length-take-le}

@@ -1,4 +1,9 @@
 ghost use Rattle.std.specs.Prelude.{◌≡◌, ◌<◌, length};
+ghost use Rattle.std.proofs.Common.{rules};
+ghost use Rattle.std.proofs.lemmas.Cmp.{nat_list_cmp_total, eq_by_cmp_equiv};
+ghost use Rattle.std.specs.Cmp.{partial_order_from_own_ties, partial_equiv_from_equiv};
+ghost use Rattle.std.specs.Cmp.Rules.{comparing};
+ghost use Rattle.std.specs.Ordering.{eq_by_cmp, as_partial_cmp};
 ghost use Rattle.keys.specs.Cells.{AreBytes};
 ghost use Rattle.keys.specs.Order.{order};
 ghost use Rattle.keys.specs.Words.{first_word};
@@ -68,6 +73,47 @@ impl<'a> KeyRef<'a> {
             Ordering::Equal => compare(self.bytes, other.bytes),
             apart => apart,
         }
+    }
+}
+
+impl PartialEq for KeyRef<'_> {
+    ghost eq = { eq_by_cmp order };
+
+    ghost laws = { partial_equiv_from_equiv (eq_by_cmp_equiv nat_list_cmp_total) };
+
+    #[inline]
+    fn eq(&self, other: &Self) -> bool {
+        self.compare(other).is_eq()
+    }
+}
+
+impl Eq for KeyRef<'_> {
+    ghost laws = { eq_by_cmp_equiv nat_list_cmp_total };
+}
+
+impl PartialOrd for KeyRef<'_> {
+    ghost partial_cmp = { as_partial_cmp order };
+
+    ghost laws = { partial_order_from_own_ties (Prim.search (comparing, rules)) (Prim.search (comparing, rules)) };
+
+    #[inline]
+    fn partial_cmp(&self, other: &Self) -> Option<Ordering> {
+        Some(self.compare(other))
+    }
+}
+
+impl Ord for KeyRef<'_> {
+    ghost cmp = { order };
+
+    ghost total = { nat_list_cmp_total };
+
+    ghost matches_partial_cmp = { Prim.search (comparing, rules) };
+
+    ghost matches_eq = { Prim.search (comparing, rules) };
+
+    #[inline]
+    fn cmp(&self, other: &Self) -> Ordering {
+        self.compare(other)
     }
 }
 

@@ -373,38 +373,38 @@ module _ {A : Type 0} (cs : List (Command A)) where
   -- ---- the first child, by entries
 
   -- what holds of the entries' keys holds of their places' keys
-  pub all_places_of : (P : List ℕ → Type 0) (es : List Keyed) → AreKeyed cs es → AllByRecursion (λ entry. P entry.0.now) es → AllByRecursion (λ place. P (key_at cs place)) (places_of es)
+  pub all_places_of : (P : List ℕ → Type 0) (es : List Keyed) → AreKeyed cs es → AllByRecursion (λ entry. P entry.0) es → AllByRecursion (λ place. P (key_at cs place)) (places_of es)
   all_places_of P [] k a = tt
   all_places_of P (e ∷ es) k a = (subst P k.0 a.0, all_places_of P es k.1 a.1)
 
   pub keyed_take : (n : ℕ) (es : List Keyed) → AreKeyed cs es → AreKeyed cs (take n es)
-  keyed_take n es k = all_take (λ (entry : Keyed). entry.0.now ≡ key_at cs entry.1) n es k
+  keyed_take n es k = all_take (λ (entry : Keyed). entry.0 ≡ key_at cs entry.1) n es k
 
   pub keyed_drop : (n : ℕ) (es : List Keyed) → AreKeyed cs es → AreKeyed cs (drop n es)
-  keyed_drop n es k = all_drop (λ (entry : Keyed). entry.0.now ≡ key_at cs entry.1) n es k
+  keyed_drop n es k = all_drop (λ (entry : Keyed). entry.0 ≡ key_at cs entry.1) n es k
 
   -- where entries are cut at an end
   pub record AreCutAt (end : Option (List ℕ)) (xs ys : List Keyed) : Type 0 where
-    pub before : AllByRecursion (λ entry. is_before end entry.0.now ≡ true) xs
-    pub behind : AllByRecursion (λ entry. is_before end entry.0.now ≡ false) ys
+    pub before : AllByRecursion (λ entry. is_before end entry.0 ≡ true) xs
+    pub behind : AllByRecursion (λ entry. is_before end entry.0 ≡ false) ys
 
   -- they are cut at no end behind all of them
   pub none_cut : (es : List Keyed) → AreCutAt None (take (length es) es) (drop (length es) es)
   none_cut es = record { before = all_true (take (length es) es); behind = rw (drop_all (length es) es (omega arith)) tt }
     where
-      all_true : (xs : List Keyed) → AllByRecursion (λ entry. is_before None entry.0.now ≡ true) xs
+      all_true : (xs : List Keyed) → AllByRecursion (λ entry. is_before None entry.0 ≡ true) xs
       all_true [] = tt
       all_true (x ∷ xs) = (refl, all_true xs)
 
   -- the first key has a child
-  pub child_for_first : (page : PageOfKind) (es : List Keyed) (d : Keyed) → 0 < length es → CanHandDownKeyed cs page es → HasChildFor page (get_or es 0 d).0.now
+  pub child_for_first : (page : PageOfKind) (es : List Keyed) (d : Keyed) → 0 < length es → CanHandDownKeyed cs page es → HasChildFor page (get_or es 0 d).0
   child_for_first page [] d l h = absurd (omega arith)
   child_for_first page (e ∷ es) d l h = subst (λ (k : List ℕ). HasChildFor page k) (sym h.keys.0) h.places.each.0
 
   -- entries whose keys are below another stand before the others
   pub parted_keyed : (page : PageOfKind) (es : List Keyed) (k : List ℕ) → CanHandDownKeyed cs page es → IsPartitionedBy (has_key_below k) es
   parted_keyed page es k h = λ i j d l w t.
-      let all = All-from_recursion (λ (entry : Keyed). entry.0.now ≡ key_at cs entry.1) es h.keys in
+      let all = All-from_recursion (λ (entry : Keyed). entry.0 ≡ key_at cs entry.1) es h.keys in
       let v : i < length es = omega arith in
       let place = λ (entry : Keyed). entry.1 in
       let m : j < length (places_of es) = rw (length-map es place) w in
@@ -412,7 +412,7 @@ module _ {A : Type 0} (cs : List (Command A)) where
       rw (all i d v, sym (get_or-map place es i d d.1 v)) (parted_by_key cs k (places_of es) h.places.in_order i j d.1 l m at)
 
   -- what the first child gets, by its pid and the end of its range
-  pub first_share_at : (page : PageOfKind) (es : List Keyed) (n : ℕ) (pid : ℕ) (end : Option (List ℕ)) (d : Keyed) → 0 < length es → CanHandDownKeyed cs page es → (pid, end) ≡ child_with_end (get_or es 0 d).0.now (child_entries page)
+  pub first_share_at : (page : PageOfKind) (es : List Keyed) (n : ℕ) (pid : ℕ) (end : Option (List ℕ)) (d : Keyed) → 0 < length es → CanHandDownKeyed cs page es → (pid, end) ≡ child_with_end (get_or es 0 d).0 (child_entries page)
       → AreCutAt end (take n es) (drop n es) → (let r : Route = record { pid = pid; places = places_of (take n es) } in (0 < n) × (begun_below cs page (places_of es) ≡ r ∷ begun_below cs page (places_of (drop n es))))
   first_share_at page [] n pid end d l h i c = absurd (omega arith)
   first_share_at page (e ∷ es) n pid end d l h i c =
@@ -453,7 +453,7 @@ module _ {A : Type 0} (cs : List (Command A)) where
   shares_alone p (at ∷ ats) = alone_by (is_within at.low at.end (key_at cs p)) p at ats (filter (is_place_for (key_at cs p)) ats) (begun cs (p ∷ []) ats) (shares_alone p ats)
 
   -- and of these there is one
-  pub lone_share_at : (page : PageOfKind) (es : List Keyed) (pid : ℕ) (d : Keyed) → length es ≡ 1 → CanHandDownKeyed cs page es → map (λ at. at.pid) (filter (is_place_for (get_or es 0 d).0.now) (children (child_entries page) None)) ≡ pid ∷ []
+  pub lone_share_at : (page : PageOfKind) (es : List Keyed) (pid : ℕ) (d : Keyed) → length es ≡ 1 → CanHandDownKeyed cs page es → map (λ at. at.pid) (filter (is_place_for (get_or es 0 d).0) (children (child_entries page) None)) ≡ pid ∷ []
       → (let r : Route = record { pid = pid; places = places_of (take 1 es) } in begun_below cs page (places_of es) ≡ r ∷ begun_below cs page (places_of (drop 1 es)))
   lone_share_at page [] pid d l h e = absurd (omega arith)
   lone_share_at page (x ∷ []) pid d l h e =

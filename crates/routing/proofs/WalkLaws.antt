@@ -358,7 +358,7 @@ module _ {A : Type 0} (cs : List (Command A)) where
       }
   next_key_is low k [] [] h o a e = absurd (cc)
   next_key_is low k [] (x ∷ es) h o a e =
-      let same : x.0.now ≡ k = cc in
+      let same : x.0 ≡ k = cc in
       let key : key_at cs x.1 ≡ k = sym h.0 ∙ same in
       record {
         above = subst (λ (y : List ℕ). is_below y low ≡ false) key a.0;

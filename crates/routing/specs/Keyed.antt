@@ -1,14 +1,14 @@
 -- Places of a batch beside the keys of their commands, as they are sorted and handed down.
 use Rattle.std.specs.Prelude.{◌≡◌, ℕ, Bool, List, map}
-use Rattle.std.specs.Borrow.{Bor}
 use Rattle.std.specs.List.{AllByRecursion}
 use Rattle.keys.specs.declared.command.Command.{Command}
+use Rattle.keys.specs.declared.key_ref.KeyRef.{KeyRef}
 use Rattle.index_page.specs.Range.{is_below}
 use Rattle.routing.specs.BatchKeys.{key_at}
 
 -- a key, and a place
 abbrev pub Keyed : Type 0
-Keyed = Bor (List ℕ) × ℕ
+Keyed = KeyRef × ℕ
 
 -- the places without the keys
 abbrev pub places_of : List Keyed → List ℕ
@@ -16,8 +16,8 @@ places_of entries = map (λ entry. entry.1) entries
 
 -- each key is that of the command at the place beside it
 abbrev pub AreKeyed : {A : Type 0} → List (Command A) → List Keyed → Type 0
-AreKeyed cs entries = AllByRecursion (λ entry. entry.0.now ≡ key_at cs entry.1) entries
+AreKeyed cs entries = AllByRecursion (λ entry. entry.0 ≡ key_at cs entry.1) entries
 
 -- whether the key is below this one
 abbrev pub has_key_below : List ℕ → Keyed → Bool
-has_key_below k entry = is_below entry.0.now k
+has_key_below k entry = is_below entry.0 k

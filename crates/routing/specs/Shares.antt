@@ -74,7 +74,7 @@ shares_below cs page ps = shares cs ps (children (child_entries page) None)
 abbrev pub next_key : List ℕ → List ℕ → List Keyed → Option (List ℕ)
 next_key low (r ∷ rs) entries = Some low
 next_key low [] [] = None
-next_key low [] (e ∷ es) = Some e.0.now
+next_key low [] (e ∷ es) = Some e.0
 
 -- no scan stands at any of these places
 abbrev pub AreNoScans : {A : Type 0} → List (Command A) → List ℕ → Type 0

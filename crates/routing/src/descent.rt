@@ -66,11 +66,11 @@ fn route_sorted(
 }
 
 // The root with all places, if there are any.
-fn root_share<'a>(
+fn root_share<'a, 'k>(
     alloc: Global,
     root: Pid,
-    keyed: &'a [Keyed<'a>],
-) -> Result<Vec<Share<'a>>, AllocError>
+    keyed: &'a [Keyed<'k>],
+) -> Result<Vec<Share<'a, 'k>>, AllocError>
     ensures shares { IfOk result (λ shares. lent_shares shares.items ≡ root_shares root (places_of keyed.now)) }
     ensures keys { IfOk result (λ shares. (cs : List (Command Global)) → AreKeyed cs keyed.now →
         AreKeyedShares cs shares.items) }
@@ -83,13 +83,13 @@ fn root_share<'a>(
 }
 
 // Each share's page hands it down: the shares of the next level, in the order of the keys.
-fn one_level_down<'a>(
+fn one_level_down<'a, 'k>(
     alloc: Global,
     tree: &Tree<Global>,
     commands: &[Command<Global>],
     scanned: bool,
-    shares: &[Share<'a>],
-) -> Result<Vec<Share<'a>>, AllocError>
+    shares: &[Share<'a, 'k>],
+) -> Result<Vec<Share<'a, 'k>>, AllocError>
     requires home { AreAllHome tree.now }
     requires scanned { scanned ≡ list_any is_scan commands.now }
     requires ready { AreReady (tree_of tree.now).pages commands.now shares.now }
@@ -108,13 +108,13 @@ fn one_level_down<'a>(
 }
 
 // Hands a page's share down to its children. Only in a batch with scans it is looked whether one meets the page.
-fn hand_down<'a>(
+fn hand_down<'a, 'k>(
     alloc: Global,
     commands: &[Command<Global>],
     scanned: bool,
     page: &Page<Global>,
-    share: &Share<'a>,
-    below: &mut Vec<Share<'a>>,
+    share: &Share<'a, 'k>,
+    below: &mut Vec<Share<'a, 'k>>,
 ) -> Result<(), AllocError>
     requires scanned { scanned ≡ list_any is_scan commands.now }
     requires share { CanHandDownShare commands.now page.now (share_of_lent share.now) }
@@ -131,18 +131,18 @@ fn hand_down<'a>(
 }
 
 // Whether a scan reaches the share's page, or begins in it.
-fn is_met(commands: &[Command<Global>], share: &Share<'_>) -> bool
+fn is_met(commands: &[Command<Global>], share: &Share<'_, '_>) -> bool
     ensures { result ≡ is_met commands.now share.now }
 {
     !share.reaching().is_empty() || has_scan_at(commands, share.keyed())
 }
 
 // The same of a page that no scan meets: each child gets the places of its range, if there are any.
-fn hand_down_points<'a>(
+fn hand_down_points<'a, 'k>(
     alloc: Global,
     page: &Page<Global>,
-    keyed: &'a [Keyed<'a>],
-    below: &mut Vec<Share<'a>>,
+    keyed: &'a [Keyed<'k>],
+    below: &mut Vec<Share<'a, 'k>>,
 ) -> Result<(), AllocError>
     requires { (cs : List (Command Global)) × CanHandDownKeyed cs page.now keyed.now }
     ensures shares { OnOk result ((cs : List (Command Global)) → AreNoScans cs (places_of keyed.now) → CanHandDownKeyed cs page.now keyed.now →
@@ -172,7 +172,7 @@ fn first_child(page: &Page<Global>, keyed: &[Keyed<'_>]) -> (Pid, usize)
         record { pid = result.0; own = places_of (take result.1 keyed.now); reaching = [] } ∷
         shares_below cs page.now (places_of (drop result.1 keyed.now)) }
 {
-    let key = keyed[0].0;
+    let key = keyed[0].0.as_bytes();
     if keyed.len() == 1 {
         return (page.child_for(key), 1);
     }
@@ -185,12 +185,12 @@ fn first_child(page: &Page<Global>, keyed: &[Keyed<'_>]) -> (Pid, usize)
 
 // The same with scans: child by child, from left to right, each with what begins in it and with the scans that reach it. A
 // child that gets neither is passed over.
-fn hand_down_with_scans<'a>(
+fn hand_down_with_scans<'a, 'k>(
     alloc: Global,
     commands: &[Command<Global>],
     page: &Page<Global>,
-    share: &Share<'a>,
-    below: &mut Vec<Share<'a>>,
+    share: &Share<'a, 'k>,
+    below: &mut Vec<Share<'a, 'k>>,
 ) -> Result<(), AllocError>
     requires share { CanHandDownShare commands.now page.now (share_of_lent share.now) }
     requires keys { AreKeyed commands.now share.now.keyed }
@@ -224,20 +224,20 @@ fn hand_down_with_scans<'a>(
 
 // A key of the next child that gets anything: the next child's low key where scans reach it, else the first key, if there is
 // one.
-fn next_key<'a>(keyed: &'a [Keyed<'a>], reaching: &[usize], low: &'a [u8]) -> Option<&'a [u8]>
+fn next_key<'a, 'k>(keyed: &'a [Keyed<'k>], reaching: &[usize], low: &'a [u8]) -> Option<&'a [u8]>
     ensures { option_copied result ≡ next_key low.now reaching.now keyed.now }
 {
     if !reaching.is_empty() {
         return Some(low);
     }
     match keyed.first() {
-        Some(entry) => Some(entry.0),
+        Some(entry) => Some(entry.0.as_bytes()),
         None => None,
     }
 }
 
 // Each share with its places in the order of the batch.
-fn each_in_batch_order(alloc: Global, shares: &[Share<'_>]) -> Result<Vec<PageRun>, AllocError>
+fn each_in_batch_order(alloc: Global, shares: &[Share<'_, '_>]) -> Result<Vec<PageRun>, AllocError>
     requires { AllByRecursion HasEachPlaceOnce (lent_shares shares.now) }
     ensures { IfOk result (λ runs. AreInBatchOrder (lent_shares shares.now) runs.items) }
 {

@@ -9,13 +9,13 @@ use std::marker::Model;
 /// places of the scans that began in pages further left and reach this one, in the order of their keys. Contracts see it
 /// as a `Lent`.
 #[derive(Drop)]
-pub struct Share<'a> {
+pub struct Share<'a, 'k> {
     pid: Pid,
-    keyed: &'a [Keyed<'a>],
+    keyed: &'a [Keyed<'k>],
     reaching: Vec<usize>,
 }
 
-impl<'a> Model for Share<'a> {
+impl<'a, 'k> Model for Share<'a, 'k> {
     ghost use Rattle.routing.specs.Shares.{Lent};
 
     ghost Value = { Lent };
@@ -23,9 +23,9 @@ impl<'a> Model for Share<'a> {
     ghost view = { λ s. record { pid = s.pid; keyed = s.keyed.now; reaching = s.reaching.items } };
 }
 
-impl<'a> Share<'a> {
+impl<'a, 'k> Share<'a, 'k> {
     /// The share of the page with this id.
-    pub fn new(pid: Pid, keyed: &'a [Keyed<'a>], reaching: Vec<usize>) -> Share<'a>
+    pub fn new(pid: Pid, keyed: &'a [Keyed<'k>], reaching: Vec<usize>) -> Share<'a, 'k>
         ensures { result ≡ record { pid = pid; keyed = keyed.entry.now; reaching = reaching.items } }
     {
         Share {
@@ -43,7 +43,7 @@ impl<'a> Share<'a> {
     }
 
     /// What begins in the page.
-    pub fn keyed(&self) -> &'a [Keyed<'a>]
+    pub fn keyed(&self) -> &'a [Keyed<'k>]
         ensures { result.now ≡ self.now.keyed }
     {
         self.keyed

@@ -9,7 +9,7 @@ ghost use Rattle.routing.specs.Keyed.{places_of, AreKeyed, has_key_below};
 ghost use Rattle.routing.specs.Places.{places_below};
 ghost use Rattle.routing.specs.SortedPlaces.{AreSortedPlaces};
 
-use keys::{Command, compare};
+use keys::{Command, KeyRef};
 use rayon::prelude::*;
 use std::alloc::{AllocError, Allocator, Global};
 use std::thread::Threads;
@@ -19,7 +19,7 @@ const LEAST_SHARED: usize = 4096;
 
 /// A command's key, and the command's place in its batch. The key stands beside the place so that a comparison needn't fetch
 /// the command.
-pub type Keyed<'a> = (&'a [u8], usize);
+pub type Keyed<'a> = (KeyRef<'a>, usize);
 
 /// The places of a batch's commands, counted from 0, in the order of their keys, and where keys are equal in the order of
 /// the batch, each beside its key. The sort is shared among threads where the batch is long.
@@ -40,7 +40,7 @@ pub fn sorted_places<'a, A: Allocator>(
 fn sort_keyed(rt: &(impl Threads + Sync), keyed: &mut [Keyed<'_>])
     ensures permutation { IsPermutation keyed.old keyed.new }
     ensures len { length keyed.new ≡ length keyed.old }
-    ensures sorted { IsSorted (λ x y. ordering_then (order x.0.now y.0.now) (nat_cmp x.1 y.1)) keyed.new }
+    ensures sorted { IsSorted (λ x y. ordering_then (order x.0 y.0) (nat_cmp x.1 y.1)) keyed.new }
 {
     if keyed.len() < LEAST_SHARED {
         keyed.sort_unstable();
@@ -59,7 +59,7 @@ fn keyed_places<A: Allocator>(
 {
     let mut keyed = Vec::with_capacity(alloc, commands.len())?;
     for place in 0..commands.len() {
-        keyed.push((key_at(commands, place), place))?;
+        keyed.push((KeyRef::new(key_at(commands, place)), place))?;
     }
     Ok(keyed)
 }
@@ -83,18 +83,19 @@ pub fn count_below(keyed: &[Keyed<'_>], key: &[u8]) -> usize
     ensures below { AllByRecursion (λ entry. has_key_below key.now entry ≡ true) (take result keyed.now) }
     ensures others { AllByRecursion (λ entry. has_key_below key.now entry ≡ false) (drop result keyed.now) }
 {
-    let (low, high) = bounds_of_count(keyed, key);
+    let bound = KeyRef::new(key);
+    let (low, high) = bounds_of_count(keyed, &bound);
     let between = &keyed[low..high];
     low + between.partition_point(
         |entry: &Keyed<'_>| -> bool
-            ensures { result ≡ has_key_below key.entry.now entry.now }
-        { has_key_below(entry, key) },
+            ensures { result ≡ has_key_below bound.entry entry.now }
+        { has_key_below(entry, &bound) },
     )
 }
 
 // Two numbers between which the count of those below the key lies: the entries before the first are below the key, and
 // those from the second on aren't.
-fn bounds_of_count(keyed: &[Keyed<'_>], key: &[u8]) -> (usize, usize)
+fn bounds_of_count(keyed: &[Keyed<'_>], key: &KeyRef<'_>) -> (usize, usize)
     requires { IsPartitionedBy (has_key_below key.now) keyed.now }
     ensures order { result.0 ≤ result.1 }
     ensures most { result.1 ≤ length keyed.now }
@@ -111,10 +112,10 @@ fn bounds_of_count(keyed: &[Keyed<'_>], key: &[u8]) -> (usize, usize)
 }
 
 // Whether the entry's key is below this one.
-fn has_key_below(entry: &Keyed<'_>, key: &[u8]) -> bool
+fn has_key_below(entry: &Keyed<'_>, key: &KeyRef<'_>) -> bool
     ensures { result ≡ has_key_below key.now entry.now }
 {
-    compare(entry.0, key).is_lt()
+    entry.0.compare(key).is_lt()
 }
 
 /// The places of these entries, and these other places, in the order of the batch: a page's sorted places, and those of the

@@ -1,4 +1,4 @@
-use Rattle.std.proofs.Common.{◌≡◌, ◌∙◌, sym}
+use Rattle.std.proofs.Common.{◌∙◌, sym}
 use Rattle.keys.proofs.WordLaws.{same_words, words_apart}
 use Rattle.keys.proofs.order.+compare.Goals as goal
 

@@ -1,5 +1,4 @@
-use Rattle.std.proofs.Common.{length, ◌≡◌, ℕ, ◌+◌, ◌-◌, ◌*◌, ◌<◌, ◌≤◌}
-use Rattle.keys.specs.Order.{order}
+use Rattle.std.proofs.Common.{length}
 use Rattle.keys.proofs.order.+compare.Given as goal
 
 -- proposed from what the function passes where it calls itself

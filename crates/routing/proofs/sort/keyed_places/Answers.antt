@@ -1,7 +1,8 @@
-use Rattle.std.proofs.Common.{◌≡◌, ℕ, List, [], ◌∷◌, length, Bor, arith, sym, ap, ◌∙◌, add-one}
+use Rattle.std.proofs.Common.{◌≡◌, ℕ, List, [], ◌∷◌, length, arith, sym, ap, ◌∙◌, add-one}
 use Rattle.std.proofs.lemmas.List.{map-append}
 use Rattle.index_page.proofs.ListLaws.{all-append}
 use Rattle.routing.specs.BatchKeys.{key_at}
+use Rattle.routing.specs.Keyed.{Keyed}
 use Rattle.routing.specs.Places.{places_below}
 use Rattle.routing.proofs.PlaceLaws.{places_below-suc}
 use Rattle.routing.proofs.sort.keyed_places.Goals as goal
@@ -9,12 +10,12 @@ use Rattle.routing.proofs.sort.keyed_places.Goals as goal
 pub loop-place-preserved : goal.loop-place-preserved
 loop-place-preserved g c =
     let old = c.loop-place.keyed.items in
-    let place = λ (entry : Bor (List ℕ) × ℕ). entry.1 in
-    let Keyed = λ (entry : Bor (List ℕ) × ℕ). entry.0.now ≡ key_at c.args.commands.now entry.1 in
-    let new : Bor (List ℕ) × ℕ = (c.key_at.result, c.loop-place.place) in
+    let place = λ (entry : Keyed). entry.1 in
+    let IsKeyed = λ (entry : Keyed). entry.0 ≡ key_at c.args.commands.now entry.1 in
+    let new : Keyed = (c.new.result, c.loop-place.place) in
     rw c.in_ok-push.ensures.items (record {
       places = map-append place old (new ∷ []) ∙ rw (c.loop-place.invariant.places, add-one) (sym (places_below-suc c.loop-place.place));
-      keys = all-append Keyed old (new ∷ []) c.loop-place.invariant.keys (c.key_at.ensures, tt);
+      keys = all-append IsKeyed old (new ∷ []) c.loop-place.invariant.keys (c.new.ensures ∙ c.key_at.ensures, tt);
     })
 
 pub returns-clause-places : goal.returns-clause-places

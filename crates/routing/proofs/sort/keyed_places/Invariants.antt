@@ -8,5 +8,5 @@ use Rattle.routing.proofs.sort.keyed_places.Given as goal
 abbrev pub invariant-loop-place : goal.invariant-loop-place
 invariant-loop-place g l = record {
   places : map (λ entry. entry.1) l.keyed.items ≡ places_below l.place;
-  keys : AllByRecursion (λ entry. entry.0.now ≡ key_at l.commands entry.1) l.keyed.items;
+  keys : AllByRecursion (λ entry. entry.0 ≡ key_at l.commands entry.1) l.keyed.items;
 }

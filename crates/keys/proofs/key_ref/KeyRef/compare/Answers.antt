@@ -1,4 +1,4 @@
-use Rattle.std.proofs.Common.{◌≡◌, ◌∙◌, sym}
+use Rattle.std.proofs.Common.{◌∙◌}
 use Rattle.keys.proofs.WordLaws.{told_by_words}
 use Rattle.keys.proofs.key_ref.KeyRef.compare.Goals as goal
 
