@@ -1,3 +1,4 @@
+pub mod Counts
 pub mod LayerLaws
 mod Lending
 mod Lower

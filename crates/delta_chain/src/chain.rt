@@ -1,4 +1,4 @@
-ghost use Rattle.std.specs.Prelude.{◌≡◌, ◌∷◌, [], length, min, OnOk, OnErr, IfOk, IfErr, MatchOption};
+ghost use Rattle.std.specs.Prelude.{◌≡◌, ◌≤◌, ◌∷◌, [], length, min, OnOk, OnErr, IfOk, IfErr, MatchOption};
 ghost use Rattle.keys.specs.Order.{IsRising};
 ghost use Rattle.delta_chain.specs.Layers.{Layers, entries_of, depth_of, IsInOrder};
 ghost use Rattle.delta_chain.specs.Merging.{said_by};
@@ -19,6 +19,8 @@ use std::mem;
 pub struct Chain<V, A: Allocator> {
     // How many runs there are, up to the greatest `u64`.
     depth: u64,
+    // The page has as many entries, or more.
+    fewest: usize,
     link: Link<V, A>,
 }
 
@@ -39,7 +41,7 @@ impl<V, A: Allocator> Model for Chain<V, A> {
 
     ghost view = { λ c. layers_of c.link };
 
-    ghost invariant = { λ c. IsLinked c.depth c.link };
+    ghost invariant = { λ c. IsLinked c.depth c.fewest c.link };
 
     ghost size = { λ c. length c.runs };
 
@@ -53,10 +55,9 @@ impl<V, A: Allocator + Copy> Chain<V, A> {
     pub fn of_base(base: Base<V, A>) -> Self
         ensures { result ≡ record { runs = []; base = base } }
     {
-        // The length is looked up for what it says of the order of the keys.
-        let _rising = base.len();
         Chain {
             depth: 0,
+            fewest: base.len(),
             link: Link::Bottom(base),
         }
     }
@@ -67,6 +68,22 @@ impl<V, A: Allocator + Copy> Chain<V, A> {
         ensures rising { IsInOrder self.now }
     {
         self.depth
+    }
+
+    /// A number of entries that the page has at least, which is had without a look at any of them: what a base alone has, less as
+    /// many as each run in front of it names, unless `raise_fewest` has told more.
+    pub fn fewest_entries(&self) -> usize
+        ensures { result ≤ length (entries_of self.now) }
+    {
+        self.fewest
+    }
+
+    /// Tells the chain that the page has as many entries, or more, where the caller knows. It holds until another run comes in front.
+    pub fn raise_fewest(&mut self, entries: usize)
+        requires { entries ≤ length (entries_of self.old) }
+        ensures { self.new ≡ self.old }
+    {
+        self.fewest = self.fewest.max(entries);
     }
 
     /// The newest run and the chain behind it, or none where the base stands alone.
@@ -133,13 +150,15 @@ impl<V: Drop, A: Allocator + Copy> Chain<V, A> {
         ensures back { IfErr result (λ e. e.1 ≡ run) }
     {
         let alloc = run.alloc();
-        let _rising = run.len();
         let depth = self.depth().saturating_add(1);
+        // A change takes one entry away at most.
+        let fewest = self.fewest.saturating_sub(run.len());
         let whole = mem::replace(self, Chain::of_base(Base::empty(alloc)));
         match Box::new(alloc, whole) {
             Ok(below) => {
                 *self = Chain {
                     depth,
+                    fewest,
                     link: Link::Front(run, below),
                 };
                 Ok(())

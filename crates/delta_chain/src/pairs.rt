@@ -1,4 +1,5 @@
-ghost use Rattle.std.specs.Prelude.{◌≡◌, ◌<◌, length, slice_get, Some};
+ghost use Rattle.std.specs.Prelude.{◌≡◌, ◌<◌, length, min, slice_get, Some};
+ghost use Rattle.std.specs.List.{sum_by};
 ghost use Rattle.std.specs.Map.{keys_of, values_of};
 ghost use Rattle.delta_chain.specs.Lent.{pairs_lent};
 
@@ -53,13 +54,17 @@ impl<'a, V, A: Allocator + Copy> Pairs<'a, V, A> {
     }
 
     /// How many bytes the keys have together, or the greatest `usize` where that is less.
-    pub fn key_bytes(&self) -> usize {
+    pub fn key_bytes(&self) -> usize
+        ensures { result ≡ min (sum_by (λ e. length e.0) self.now) usize.MAX }
+    {
         key_bytes(&self.lent)
     }
 }
 
 /// How many bytes the keys of these entries have together, or the greatest `usize` where that is less.
-pub fn key_bytes<V>(entries: &[(&[u8], &V)]) -> usize {
+pub fn key_bytes<V>(entries: &[(&[u8], &V)]) -> usize
+    ensures { result ≡ min (sum_by (λ e. length e.0) (pairs_lent entries.now)) usize.MAX }
+{
     let mut bytes: usize = 0;
     for entry in entries {
         bytes = bytes.saturating_add(entry.0.len());

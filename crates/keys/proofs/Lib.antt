@@ -1,6 +1,7 @@
 pub mod CellLaws
 pub mod LimitLaws
 pub mod MapLaws
+pub mod NarrowedLaws
 pub mod PlaceLaws
 pub mod RangeLaws
 mod Rows

@@ -4,6 +4,7 @@ pub mod Finding
 pub mod Limits
 pub mod Lists
 pub mod Order
+pub mod Narrowed
 pub mod OrderedMap
 pub mod Places
 pub mod Range

@@ -7,6 +7,7 @@ ghost use Rattle.std.specs.declared.cmp.Ordering.TheVariants.{Equal};
 ghost use Rattle.std.specs.Cmp.{IsTotalOrder};
 ghost use Rattle.keys.specs.Order.{order, IsRising};
 ghost use Rattle.keys.specs.OrderedMap.{value_at, with_pair, without};
+ghost use Rattle.keys.specs.Narrowed.{with_ends, IsEnough, MayEndAtAll};
 ghost use Rattle.keys.specs.Range.{is_below, is_within, rows};
 ghost use Rattle.keys.specs.Step.{reply_to, map_after, replies_to, map_after_all};
 ghost use Rattle.keys.specs.declared.command.Command.{Command};
@@ -73,4 +74,16 @@ pub fn rows_are_the_first_pairs_of_a_range<V>()
     ensures at_most { (m : List (List ℕ × V)) (lo : List ℕ) (hi : Option (List ℕ)) (limit : ℕ) → length (rows lo hi limit m) ≤ limit }
     ensures empty_range { (m : List (List ℕ × V)) (lo hi : List ℕ) (limit : ℕ) → is_below lo hi ≡ false → rows lo (Some hi) limit m ≡ [] }
     ensures no_limit_left { (m : List (List ℕ × V)) (lo : List ℕ) (hi : Option (List ℕ)) → rows lo hi 0 m ≡ [] }
+{}
+
+/// A scan that ends at a nearer key, before which it has as many rows as it may, is answered as before; so what lies behind that key
+/// needn't be looked at for it. Replies and map of a batch are the same, whichever of its scans end so.
+pub fn a_scan_with_enough_rows_may_end<A: Allocator>()
+    ensures rows { (keys : List (List ℕ)) (m : List (List ℕ × List ℕ)) (lo : List ℕ) (hi : Option (List ℕ)) (limit : ℕ)
+        (end : List ℕ) → IsRising m → IsEnough keys m lo hi limit end → rows lo (Some end) limit m ≡ rows lo hi limit m }
+    ensures replies { (keys : List (List ℕ)) (m : List (List ℕ × List ℕ)) (cs : List (Command A))
+        (ends : List (Option (List ℕ))) → IsRising m → MayEndAtAll keys m cs ends →
+        replies_to m (with_ends cs ends) ≡ replies_to m cs }
+    ensures map { (m : List (List ℕ × List ℕ)) (cs : List (Command A)) (ends : List (Option (List ℕ))) →
+        map_after_all m (with_ends cs ends) ≡ map_after_all m cs }
 {}
