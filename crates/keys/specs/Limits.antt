@@ -1,5 +1,5 @@
 -- Which settings a store may have.
-use Rattle.std.specs.Prelude.{ℕ, ◌+◌, ◌*◌, max, Bool, ◌&&◌, nat_le, if◌then◌else◌, Option, Some, None}
+use Rattle.std.specs.Prelude.{ℕ, ◌+◌, ◌*◌, max, Bool, ◌&&◌, nat_le, if◌then◌else◌, List, Option, Some, None, codes}
 use Rattle.keys.specs.declared.settings.Settings.{Settings}
 use Rattle.keys.specs.declared.settings.Field.{Field}
 use Rattle.keys.specs.declared.settings.Field.TheVariants.{Fan, Chain, MaxKey, MaxValue, SegSize, Segments}
@@ -29,3 +29,12 @@ first_bad_field s =
     else Some MaxKey)
     else Some Chain)
     else Some Fan
+
+-- how a field is spelled
+abbrev pub field_name : Field → List ℕ
+field_name Fan = codes "fan"
+field_name Chain = codes "chain"
+field_name MaxKey = codes "max_key"
+field_name MaxValue = codes "max_value"
+field_name SegSize = codes "seg_size"
+field_name Segments = codes "segments"

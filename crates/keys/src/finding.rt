@@ -23,6 +23,11 @@ impl Model for Finding {
 }
 
 impl fmt::Display for Finding {
+    ghost use Rattle.std.specs.Prelude.{◌++◌, Some, codes};
+    ghost use Rattle.std.specs.Fmt.{decimal};
+
+    ghost output = { λ f. Some (decimal f.rule ++ codes " " ++ decimal f.pid) };
+
     fn fmt<W: fmt::Write>(&self, f: &mut fmt::Formatter<W>) -> fmt::Result {
         write!(f, "{} {}", self.rule, self.pid.0)
     }
