@@ -95,6 +95,9 @@ class Work:
     def scans(self, keys, rows):
         return (f"scan {lo} {hi} {rows}" for lo, hi, _ in self.ranges(keys, rows))
 
+    def open_scans(self, keys, rows):
+        return (f"scan {key} * {rows}" for key in keys)
+
     def lines_of_scans(self, keys, rows):
         """How many lines each scan prints: how many rows there are, and the rows."""
         return [1 + count for _, _, count in self.ranges(keys, rows)]
@@ -142,6 +145,9 @@ def sessions(work):
             load,
             Phase("scans of 100 rows", len(starts), 1_000, lambda: work.scans(starts, 100), lambda: work.lines_of_scans(starts, 100)),
             Phase("scans of 100 rows, one a batch", len(starts), 1, lambda: work.scans(starts, 100), lambda: work.lines_of_scans(starts, 100)),
+            Phase("open scans of 100 rows", len(starts), 1_000, lambda: work.open_scans(starts, 100), lambda: work.lines_of_scans(starts, 100)),
+            Phase("open scans of 100 rows, one a batch", len(starts), 1, lambda: work.open_scans(starts, 100), lambda: work.lines_of_scans(starts, 100)),
+            Phase("first row, 10,000 times in a batch", 10_000, 10_000, lambda: ["scan % * 1"] * 10_000, lambda: [2] * 10_000),
             Phase("one scan of all pairs", 1, 1, lambda: ["scan % * 4294967295"], lambda: [1 + pairs]),
         ],
     ]
@@ -321,6 +327,15 @@ def print_memory(results, names):
         print(f"| {name} | {taken:,.0f} | {taken / RAW:.2f} |")
 
 
+def print_scan_memory(results, names):
+    """How much memory is in use behind each phase of scans: what the largest batch before took stays in use."""
+    print(f"\n| memory behind, MB | {' | '.join(names)} |\n|---|{'---|' * len(names)}")
+    for phase in dict.fromkeys(phase for phase, _ in results.best):
+        if "scan" in phase.name:
+            cells = " | ".join(f"{results.best[phase, name].resident / 1e6:,.0f}" for name in names)
+            print(f"| {phase.name} | {cells} |")
+
+
 def print_growth(results, names):
     """Nanoseconds a command in the second, the middle and the last full batch of each phase in long batches."""
     print(f"\n| batch by batch, ns a command | {' | '.join(names)} |\n|---|{'---|' * len(names)}")
@@ -383,6 +398,7 @@ def main():
         verified = measure_verify(work, chosen.program, folder)
     print_speeds(results, list(commands))
     print_memory(results, list(commands))
+    print_scan_memory(results, list(commands))
     print_growth(results, list(commands))
     print_verify(verified)
     if chosen.plot:

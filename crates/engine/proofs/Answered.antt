@@ -98,6 +98,10 @@ module _ (s : Settings) (m : TreeInMemory) (cs : Commands) (home : AreAllHome m)
   leaves_home : AllByRecursion (IsHomeLeaf m.table) (levels_of (tree_of m)).level
   leaves_home = home_leaves m.table (levels_of (tree_of m)).level home proper.held.leaves
 
+  -- the leaves of its level have their parts of the contents
+  pub leaf_parts : AllByRecursion (HoldsPart m.table (contents (tree_of m))) (ranges (levels_of (tree_of m)).level)
+  leaf_parts = let level = (levels_of (tree_of m)).level in parts_from m.table [] level level refl proper.levels.tiled leaves_home
+
   -- the routes of a batch are to leaves at home, each to another
   pub routes_are_leaves : AreLeafRoutes m.table cs (routes_here m cs)
   routes_are_leaves =

@@ -4,6 +4,7 @@ mod BatchInStep
 mod BatchLeaves
 mod CommandsWithin
 mod Created
+mod EndedRoutes
 mod Executed
 mod InTurn
 mod LeafRoutes

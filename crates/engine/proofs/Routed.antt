@@ -1,18 +1,24 @@
 -- A batch whose routes are known: what its leaves answer, that the tree is ready to climb, and the way back.
-use Rattle.std.specs.Prelude.{◌≡◌, ℕ, ◌≤◌, List, [], ◌∷◌, map, slice_get, Result, Ok, Err, OnErr}
-use Rattle.std.proofs.Common.{refl, ap, ◌∙◌, subst}
+use Rattle.std.specs.Prelude.{◌≡◌, ◌⊎◌, ℕ, ◌<◌, ◌≤◌, List, [], ◌∷◌, map, slice_get, None, Result, Ok, Err, OnErr}
+use Rattle.std.proofs.Common.{refl, sym, ap, ◌∙◌, subst}
+use Rattle.std.specs.Map.{keys_of}
 use Rattle.std.specs.declared.alloc.Global.{Global}
+use Rattle.keys.specs.Narrowed.{with_ends}
 use Rattle.keys.specs.Step.{replies_to}
 use Rattle.keys.specs.declared.command.Command.{Command}
 use Rattle.keys.specs.declared.command.Reply.{Reply}
+use Rattle.keys.specs.declared.fault.Fault.{Fault}
+use Rattle.keys.specs.declared.fault.Fault.TheVariants.{NoMemory, Spent}
 use Rattle.keys.specs.declared.settings.Settings.{Settings}
+use Rattle.keys.proofs.NarrowedLaws.{replies-with_ends}
 use Rattle.index_page.specs.Page.{PageOfKind}
 use Rattle.index_page.specs.Page.PageOfKind.{Leaf}
-use Rattle.mapping.specs.Levels.{contents}
+use Rattle.mapping.specs.Levels.{names, levels_of, contents}
 use Rattle.mapping.specs.Proper.{AreRisingPids, AreLogsTrue, IsProper}
 use Rattle.mapping.specs.Table.{pids_in_use, page_of}
 use Rattle.mapping.specs.Tree.{Tree, Store}
 use Rattle.mapping.specs.TreeInMemory.{TreeInMemory, AreAllHome, tree_of}
+use Rattle.mapping.proofs.TileLaws.{rising-joined}
 use Rattle.page_runs.specs.LeafWork.{LeafHeld, LeafMade, LeafWorked}
 use Rattle.replies.specs.ByPlace.{reply_at, AreAnswers}
 use Rattle.routing.specs.Routes.{Route}
@@ -21,9 +27,10 @@ use Rattle.climb_plan.specs.Installing.{AreAway, all_taken, all_put, page_or_non
 use Rattle.climb_plan.specs.Plan.{planned_tree}
 use Rattle.climb_plan.specs.Ready.{IsReady}
 use Rattle.climb_plan.proofs.ArrivedPages.{home_keys}
-use Rattle.engine.specs.Leaves.{AreLeafRoutes, leaf_held, leaves_made, answers, route_pids}
+use Rattle.engine.specs.Leaves.{AreRoutesFor, AreLeafRoutes, leaf_held, leaves_made, answers, route_pids}
 use Rattle.engine.specs.State.{IsSoundInMemory}
-use Rattle.engine.proofs.Answered.{routes_here, routes_are_leaves, answered_rightly, answered_as_a_map}
+use Rattle.engine.proofs.Answered.{routes_here, leaf_parts, routes_are_leaves, answered_rightly, answered_as_a_map}
+use Rattle.engine.proofs.EndedRoutes.{level_ended, planned-ended, places-ended, reply-ended, answers-ended}
 use Rattle.engine.proofs.Executed.{held_all, seen_leaves}
 use Rattle.engine.proofs.Readied.{ready_here, taken_away, put_back_here}
 
@@ -69,54 +76,72 @@ on_any_error (Err e) p = p
 pub sound_rising : (s : Settings) (m : TreeInMemory) → IsSoundInMemory s m → AreRisingPids (pids_in_use m.table)
 sound_rising s m sound = subst (λ (ns : List ℕ). AreRisingPids ns) (home_keys m.table.places sound.home) sound.sound.proper.tree.rising
 
-module _ (s : Settings) (m : TreeInMemory) (cs : List (Command Global)) (sound : IsSoundInMemory s m) (rs : List Route) (routed : rs ≡ routes_here m cs) where
+module _ (s : Settings) (m : TreeInMemory) (cs : List (Command Global)) (sound : IsSoundInMemory s m) (rs : List Route) (routed : AreRoutesFor (tree_of m) cs rs) where
+  -- the commands, where scans have the ends by which they were routed
+  abbrev ended : List (Command Global)
+  ended = with_ends cs routed.0
+
+  are_here : rs ≡ routes_here m ended
+  are_here = routed.2
+
   pub leaf_routes : AreLeafRoutes m.table cs rs
-  leaf_routes = rw routed (routes_are_leaves s m cs sound.home sound.sound.proper)
+  leaf_routes =
+      let there : AreLeafRoutes m.table ended rs = rw are_here (routes_are_leaves s m ended sound.home sound.sound.proper) in
+      record { home = there.home; distinct = there.distinct; places = places-ended cs routed.0 rs there.places }
 
   module _ (ds : List LeafWorked) (made : made_all ds ≡ leaves_made s cs m.table rs) where
-    made_here : made_all ds ≡ leaves_made s cs m.table (routes_here m cs)
-    made_here = made ∙ ap (λ (xs : List Route). leaves_made s cs m.table xs) routed
+    made_here : made_all ds ≡ leaves_made s ended m.table (routes_here m ended)
+    made_here =
+        made ∙ ap (λ (xs : List Route). leaves_made s cs m.table xs) are_here
+        ∙ level_ended s cs routed.0 m.table (levels_of (tree_of m)).level sound.sound.proper.levels.tiled (leaf_parts s m cs sound.home sound.sound.proper) routed.1
 
     pub answered : AreAnswers cs (answers (made_all ds))
-    answered = rw made_here (answered_rightly s m cs sound.home sound.sound.proper)
+    answered = answers-ended cs routed.0 (answers (made_all ds)) (rw made_here (answered_rightly s m ended sound.home sound.sound.proper))
 
     pub as_a_map : (xs : List (Reply Global)) → ((place : ℕ) → slice_get xs place ≡ reply_at cs (answers (made_all ds)) place) → xs ≡ replies_to (contents (tree_of m)) cs
-    as_a_map xs at = answered_as_a_map s m cs sound.home sound.sound.proper xs (λ place. at place ∙ ap (λ (ms : List LeafMade). reply_at cs (answers ms) place) made_here)
+    as_a_map xs at =
+        answered_as_a_map s m ended sound.home sound.sound.proper xs
+        (λ place. at place ∙ sym (reply-ended cs routed.0 (answers (made_all ds)) place) ∙ ap (λ (ms : List LeafMade). reply_at ended (answers ms) place) made_here)
+        ∙ replies-with_ends (keys_of (names (levels_of (tree_of m)).level)) (contents (tree_of m)) cs routed.0 (rising-joined (levels_of (tree_of m)).level None sound.sound.proper.levels.tiled) routed.1
 
     module _ (now : TreeInMemory) (taken : now ≡ without_leaves m rs) where
-      is_ready : IsReady s (tree_of m) cs now (seen_leaves ds)
+      is_ready : IsReady s (tree_of m) ended now (seen_leaves ds)
       is_ready =
-          let there : now ≡ without_leaves m (routes_here m cs) = taken ∙ ap (λ (xs : List Route). without_leaves m xs) routed in
-          let seen : seen_leaves ds ≡ map (λ x. shown Leaf x.worked) (leaves_made s cs m.table (routes_here m cs)) = seen_by_made ds ∙ ap (λ (ms : List LeafMade). map (λ x. shown Leaf x.worked) ms) made_here in
-          rw (there, seen) (ready_here s m cs sound)
+          let there : now ≡ without_leaves m (routes_here m ended) = taken ∙ ap (λ (xs : List Route). without_leaves m xs) are_here in
+          let seen : seen_leaves ds ≡ map (λ x. shown Leaf x.worked) (leaves_made s ended m.table (routes_here m ended)) = seen_by_made ds ∙ ap (λ (ms : List LeafMade). map (λ x. shown Leaf x.worked) ms) made_here in
+          rw (there, seen) (ready_here s m ended sound)
 
       pub some_ready : (t : Tree) × (bs : List (Command Global)) × IsReady s t bs now (seen_leaves ds)
-      some_ready = (tree_of m, cs, is_ready)
+      some_ready = (tree_of m, ended, is_ready)
 
-      -- what holds of all for which the tree is ready holds of this one
-      pub for_this : (P : Tree → List (Command Global) → Type 0) → ((t : Tree) (bs : List (Command Global)) → IsReady s t bs now (seen_leaves ds) → P t bs) → P (tree_of m) cs
-      for_this P f = f (tree_of m) cs is_ready
+      -- what holds of the plan of all for which the tree is ready holds of this plan
+      pub for_this : (P : Tree → Type 0) → ((t : Tree) (bs : List (Command Global)) → IsReady s t bs now (seen_leaves ds) → P (planned_tree s t bs)) → P (planned_tree s (tree_of m) cs)
+      for_this P f = subst P (planned-ended s (tree_of m) cs routed.0) (f (tree_of m) ended is_ready)
 
   module _ (ds again : List LeafWorked) (held : held_all ds ≡ map (leaf_held m.table) rs) (back : held_all again ≡ held_all ds) (now refused : TreeInMemory) (taken : now ≡ without_leaves m rs) (kept : refused ≡ now) where
-    there : refused ≡ without_leaves m (routes_here m cs)
-    there = kept ∙ taken ∙ ap (λ (xs : List Route). without_leaves m xs) routed
+    there : refused ≡ without_leaves m (routes_here m ended)
+    there = kept ∙ taken ∙ ap (λ (xs : List Route). without_leaves m xs) are_here
 
-    held_again : held_all again ≡ map (leaf_held m.table) (routes_here m cs)
-    held_again = back ∙ held ∙ ap (λ (xs : List Route). map (leaf_held m.table) xs) routed
+    held_again : held_all again ≡ map (leaf_held m.table) (routes_here m ended)
+    held_again = back ∙ held ∙ ap (λ (xs : List Route). map (leaf_held m.table) xs) are_here
 
     pub again_away : AreAway refused.table (map (λ d. d.held.route.pid) again)
     again_away =
-        let pids : map (λ d. d.held.route.pid) again ≡ route_pids (routes_here m cs) = pids_held again ∙ ap (λ (hs : List LeafHeld). map (λ h. h.route.pid) hs) held_again ∙ pids_of_routes m (routes_here m cs) in
-        rw (there, pids) (taken_away s m cs sound)
+        let pids : map (λ d. d.held.route.pid) again ≡ route_pids (routes_here m ended) = pids_held again ∙ ap (λ (hs : List LeafHeld). map (λ h. h.route.pid) hs) held_again ∙ pids_of_routes m (routes_here m ended) in
+        rw (there, pids) (taken_away s m ended sound)
 
     pub again_back : (last : TreeInMemory) → last ≡ record refused { table = all_put refused.table (map {B = ℕ × PageOfKind} (λ d. (d.held.route.pid, d.held.page)) again) } → last ≡ m
     again_back last e =
-        let pages : map {B = ℕ × PageOfKind} (λ d. (d.held.route.pid, d.held.page)) again ≡ routed_pages m (routes_here m cs) =
-        pages_held again ∙ ap (λ (hs : List LeafHeld). map {B = ℕ × PageOfKind} (λ h. (h.route.pid, h.page)) hs) held_again ∙ pages_of_routes m (routes_here m cs) in
-        let whole : record refused { table = all_put refused.table (map {B = ℕ × PageOfKind} (λ d. (d.held.route.pid, d.held.page)) again) } ≡ m = rw (there, pages) (put_back_here s m cs sound) in
+        let pages : map {B = ℕ × PageOfKind} (λ d. (d.held.route.pid, d.held.page)) again ≡ routed_pages m (routes_here m ended) =
+        pages_held again ∙ ap (λ (hs : List LeafHeld). map {B = ℕ × PageOfKind} (λ h. (h.route.pid, h.page)) hs) held_again ∙ pages_of_routes m (routes_here m ended) in
+        let whole : record refused { table = all_put refused.table (map {B = ℕ × PageOfKind} (λ d. (d.held.route.pid, d.held.page)) again) } ≡ m = rw (there, pages) (put_back_here s m ended sound) in
         e ∙ whole
 
 -- ---- the tree after a batch
+
+-- a later fault, by the planned tree
+abbrev pub IsFaultOf : Tree → Fault → Type 0
+IsFaultOf planned fault = (fault ≡ NoMemory) ⊎ ((fault ≡ Spent) × (64 < planned.height))
 
 abbrev pub as_store : Tree → Store
 as_store t = record { tree = t; head = 0; tail = 0; sequence = 0 }

@@ -1,19 +1,30 @@
 -- The leaves that a batch goes to, as jobs.
-use Rattle.std.specs.Prelude.{ℕ, ⊤, List, [], map, Option, Some, None}
+use Rattle.std.specs.Prelude.{◌≡◌, ℕ, ⊤, List, [], map, Option, Some, None}
 use Rattle.std.specs.List.{AllByRecursion}
+use Rattle.std.specs.Map.{keys_of}
 use Rattle.std.specs.declared.alloc.Global.{Global}
 use Rattle.keys.specs.Lists.{flat}
+use Rattle.keys.specs.Narrowed.{with_ends, MayEndAtAll}
 use Rattle.keys.specs.declared.command.Command.{Command}
 use Rattle.keys.specs.declared.piece.Piece.{Piece}
 use Rattle.keys.specs.declared.settings.Settings.{Settings}
 use Rattle.index_page.specs.Page.{PageOfKind}
 use Rattle.index_page.specs.Page.PageOfKind.{Leaf, Index}
+use Rattle.mapping.specs.Levels.{names, levels_of, contents}
 use Rattle.mapping.specs.Proper.{Distinct}
 use Rattle.mapping.specs.Table.{Mapping, page_of}
-use Rattle.routing.specs.Routes.{Route}
+use Rattle.mapping.specs.Tree.{Tree}
+use Rattle.routing.specs.Routes.{Route, routes}
 use Rattle.page_runs.specs.LeafWork.{LeafHeld, LeafMade, LeafWorked, leaf_made}
 use Rattle.page_runs.specs.Replies.{ArePlacesOf}
 use Rattle.climb_plan.specs.Installing.{page_or_none}
+
+-- these are the routes of the commands to the leaves of a tree, where each scan may end at a leaf before which it has all its rows
+abbrev pub AreRoutesFor : Tree → List (Command Global) → List Route → Type 0
+AreRoutesFor t cs rs =
+    let level = (levels_of t).level in
+    (ends : List (Option (List ℕ))) × MayEndAtAll (keys_of (names level)) (contents t) cs ends
+    × (rs ≡ routes level (with_ends cs ends))
 
 abbrev pub IsLeafAt : Option PageOfKind → Type 0
 IsLeafAt None = ⊥

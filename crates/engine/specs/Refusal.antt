@@ -1,7 +1,6 @@
 -- Which batches are refused, and with which fault.
 use Rattle.std.specs.Prelude.{ℕ, ◌+◌, nat_lt, length, if◌then◌else◌, List, [], ◌∷◌, Option, Some, None}
 use Rattle.std.specs.Option.{option_or}
-use Rattle.engine.specs.declared.refusal.TheConstants.{LONGEST_BATCH}
 use Rattle.keys.specs.declared.settings.Settings.{Settings}
 use Rattle.keys.specs.declared.command.Command.{Command}
 use Rattle.keys.specs.declared.command.Command.TheVariants.{Get, Put, Add, Del, Scan}
@@ -34,6 +33,6 @@ abbrev pub first_fault : {A : Type 0} → Settings → ℕ → List (Command A) 
 first_fault s place [] = None
 first_fault s place (c ∷ cs) = option_or (fault_at s place c) (first_fault s (place + 1) cs)
 
--- why a batch is refused: it has more commands than the longest batch (65,535), or else its first fault
+-- why a batch is refused: it has more than 65,535 commands, or else its first fault
 abbrev pub refusal : {A : Type 0} → Settings → List (Command A) → Option Fault
-refusal s cs = if nat_lt LONGEST_BATCH (length cs) then Some BatchTooLong else first_fault s 0 cs
+refusal s cs = if nat_lt 65535 (length cs) then Some BatchTooLong else first_fault s 0 cs

@@ -1,19 +1,20 @@
 //! A batch on a tree: which leaves its commands go to, what these become and answer, and the climb from them to the root.
 ghost use Rattle.std.specs.Prelude.{◌≡◌, ◌<◌, ◌≤◌, ℕ, List, map, slice_get, IfOk, IfErr, OnOk, OnErr};
 ghost use Rattle.keys.specs.declared.command.Command.{Command};
+ghost use Rattle.keys.specs.declared.fault.Fault.TheVariants.{NoMemory};
 ghost use Rattle.index_page.specs.Page.PageOfKind.{Leaf};
 ghost use Rattle.keys.specs.Step.{replies_to, map_after_all};
 ghost use Rattle.mapping.specs.Levels.{contents, levels_of};
+ghost use Rattle.mapping.specs.Proper.{AreLevels, HoldsLevels};
 ghost use Rattle.mapping.specs.Tree as definitions;
 ghost use Rattle.mapping.specs.TreeInMemory.{AreAllHome, tree_of};
-ghost use Rattle.routing.specs.Routes.{routes};
 ghost use Rattle.replies.specs.ByPlace.{AreAnswers, reply_at};
 ghost use Rattle.climb_plan.specs.Changing.{shown};
 ghost use Rattle.climb_plan.specs.Limits.{AreShort};
 ghost use Rattle.climb_plan.specs.Plan.{planned_tree};
 ghost use Rattle.climb_plan.specs.Ready.{IsReady};
 ghost use Rattle.engine.specs.Batch.{IsLaterFault, fault_by};
-ghost use Rattle.engine.specs.Leaves.{answers};
+ghost use Rattle.engine.specs.Leaves.{answers, AreRoutesFor};
 ghost use Rattle.engine.specs.State.{IsSoundInMemory};
 
 use crate::leaves::{take_replies, undo_leaves, work_leaves};
@@ -26,7 +27,8 @@ use climb_plan::laws::{
 use keys::{Command, Fault, Reply, Settings};
 use mapping::Tree;
 use page_runs::LeafDone;
-use routing::{PageRun, route};
+use routing::{BatchWithEnds, PageRun, route};
+use scan::scan_ends;
 use std::alloc::Global;
 use std::thread::Threads;
 
@@ -48,8 +50,26 @@ pub(crate) fn execute(
     ensures err { OnErr result (tree.new ≡ tree.old) }
     ensures fault { IfErr result (IsLaterFault settings.now (tree_of tree.old) commands.now) }
 {
-    let page_runs = route(rt, alloc, tree, commands)?;
+    let page_runs = routes_to_leaves(rt, alloc, tree, commands)?;
     execute_routed(alloc, settings, tree, commands, page_runs)
+}
+
+// Which leaves the commands go to. A scan is led along the leaves from its lower bound only as far as it needs for its rows.
+fn routes_to_leaves(
+    rt: &(impl Threads + Sync),
+    alloc: Global,
+    tree: &Tree<Global>,
+    commands: &[Command<Global>],
+) -> Result<Vec<PageRun>, Fault>
+    requires home { AreAllHome tree.now }
+    requires height { tree.now.height ≤ 64 }
+    requires held { HoldsLevels (tree_of tree.now).pages (levels_of (tree_of tree.now)) }
+    requires levels { AreLevels (levels_of (tree_of tree.now)) }
+    ensures ok { IfOk result (λ runs. AreRoutesFor (tree_of tree.now) commands.now runs.items) }
+    ensures err { IfErr result (λ fault. fault ≡ NoMemory) }
+{
+    let ends = scan_ends(alloc, tree, commands)?;
+    route(rt, alloc, tree, &BatchWithEnds::new(commands, ends))
 }
 
 // The same of commands whose leaves are known.
@@ -62,7 +82,7 @@ fn execute_routed(
 ) -> Result<Vec<Reply<Global>>, Fault>
     requires sound { IsSoundInMemory settings.now tree.old }
     requires short { AreShort settings.now commands.now }
-    requires routed { page_runs.items ≡ routes (levels_of (tree_of tree.old)).level commands.now }
+    requires routed { AreRoutesFor (tree_of tree.old) commands.now page_runs.items }
     ensures replies { IfOk result (λ replies. replies.items ≡ replies_to (contents (tree_of tree.old)) commands.now) }
     ensures tree { OnOk result (tree_of tree.new ≡ planned_tree settings.now (tree_of tree.old) commands.now) }
     ensures contents { OnOk result (contents (tree_of tree.new) ≡ map_after_all (contents (tree_of tree.old)) commands.now) }

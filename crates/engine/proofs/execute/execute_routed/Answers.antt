@@ -2,8 +2,7 @@ use Rattle.std.proofs.Common.{◌≡◌, ◌∙◌, ap}
 use Rattle.mapping.specs.Levels.{contents}
 use Rattle.mapping.specs.TreeInMemory.{AreAllHome, tree_of}
 use Rattle.climb_plan.specs.Plan.{planned_tree}
-use Rattle.engine.specs.Batch.{IsLaterFault}
-use Rattle.engine.proofs.Routed.{as_store, sound_planned, on_any_error, sound_rising, leaf_routes, answered, as_a_map, some_ready, for_this, again_away, again_back}
+use Rattle.engine.proofs.Routed.{IsFaultOf, as_store, sound_planned, on_any_error, sound_rising, leaf_routes, answered, as_a_map, some_ready, for_this, again_away, again_back}
 use Rattle.engine.proofs.execute.execute_routed.Goals as goal
 
 pub work_leaves-requires : goal.work_leaves-requires
@@ -31,17 +30,17 @@ returns-in-Ok-clause-replies c = as_a_map c.args.settings.now c.args.tree.now c.
 pub returns-in-Ok-clause-tree : goal.returns-in-Ok-clause-tree
 returns-in-Ok-clause-tree c =
     (for_this c.args.settings.now c.args.tree.now c.args.commands.now c.requires.sound c.args.page_runs.items c.requires.routed c.in_ok-leaves.leaves.items c.in_ok-leaves.ensures.made c.work_leaves.new.tree c.in_ok-leaves.ensures.taken
-    (λ t bs. AreAllHome c.finish.new.tree × (tree_of c.finish.new.tree ≡ planned_tree c.args.settings.now t bs)) c.in-Ok.ensures.planned).1
+    (λ planned. AreAllHome c.finish.new.tree × (tree_of c.finish.new.tree ≡ planned)) c.in-Ok.ensures.planned).1
 
 pub returns-in-Ok-clause-contents : goal.returns-in-Ok-clause-contents
 returns-in-Ok-clause-contents c =
     ap contents (for_this c.args.settings.now c.args.tree.now c.args.commands.now c.requires.sound c.args.page_runs.items c.requires.routed c.in_ok-leaves.leaves.items c.in_ok-leaves.ensures.made c.work_leaves.new.tree c.in_ok-leaves.ensures.taken
-    (λ t bs. AreAllHome c.finish.new.tree × (tree_of c.finish.new.tree ≡ planned_tree c.args.settings.now t bs)) c.in-Ok.ensures.planned).1 ∙ c.the_plan_holds_the_map_after_the_commands.ensures c.args.settings.now (as_store (tree_of c.args.tree.now)) c.args.commands.now c.requires.sound.sound.settings c.requires.sound.sound.proper
+    (λ planned. AreAllHome c.finish.new.tree × (tree_of c.finish.new.tree ≡ planned)) c.in-Ok.ensures.planned).1 ∙ c.the_plan_holds_the_map_after_the_commands.ensures c.args.settings.now (as_store (tree_of c.args.tree.now)) c.args.commands.now c.requires.sound.sound.settings c.requires.sound.sound.proper
 
 pub returns-in-Ok-clause-sound : goal.returns-in-Ok-clause-sound
 returns-in-Ok-clause-sound c =
     sound_planned c.args.settings.now c.args.tree.now c.finish.new.tree c.args.commands.now c.requires.sound (for_this c.args.settings.now c.args.tree.now c.args.commands.now c.requires.sound c.args.page_runs.items c.requires.routed c.in_ok-leaves.leaves.items c.in_ok-leaves.ensures.made c.work_leaves.new.tree c.in_ok-leaves.ensures.taken
-    (λ t bs. AreAllHome c.finish.new.tree × (tree_of c.finish.new.tree ≡ planned_tree c.args.settings.now t bs)) c.in-Ok.ensures.planned) c.in-Ok.ensures.low
+    (λ planned. AreAllHome c.finish.new.tree × (tree_of c.finish.new.tree ≡ planned)) c.in-Ok.ensures.planned) c.in-Ok.ensures.low
     (c.the_plan_of_a_proper_store_is_proper.ensures c.args.settings.now (as_store (tree_of c.args.tree.now)) c.args.commands.now c.requires.sound.sound.settings c.requires.sound.sound.proper c.requires.short)
     (c.the_log_states_stay_true.ensures c.args.settings.now (as_store (tree_of c.args.tree.now)) c.args.commands.now c.requires.sound.sound.settings c.requires.sound.sound.proper c.requires.sound.sound.logs)
 
@@ -56,4 +55,4 @@ returns-in-Err-clause-err c =
 pub returns-in-Err-clause-fault : goal.returns-in-Err-clause-fault
 returns-in-Err-clause-fault c =
     for_this c.args.settings.now c.args.tree.now c.args.commands.now c.requires.sound c.args.page_runs.items c.requires.routed c.in_ok-leaves.leaves.items c.in_ok-leaves.ensures.made c.work_leaves.new.tree c.in_ok-leaves.ensures.taken
-    (λ t bs. IsLaterFault c.args.settings.now t bs c.in-Err.fault) c.in-Err.ensures.fault
+    (λ planned. IsFaultOf planned c.in-Err.fault) c.in-Err.ensures.fault

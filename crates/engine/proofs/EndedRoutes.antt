@@ -1,0 +1,147 @@
+-- A batch some of whose scans end at a nearer key, where they have all their rows: its leaves make of their commands what they make
+-- of those with the nearer ends; and replies, plan and all else of the batch are the same.
+use Rattle.std.specs.Prelude.{◌≡◌, ℕ, suc, ◌<◌, Bool, true, false, cond, List, [], ◌∷◌, ◌++◌, map, drop, length, slice_get, Option, Some, None}
+use Rattle.std.proofs.Common.{refl, sym, ap, ◌∙◌, subst}
+use Rattle.std.specs.List.{All, AllByRecursion, filter}
+use Rattle.std.specs.Map.{keys_of}
+use Rattle.std.specs.Option.{option_map}
+use Rattle.std.specs.declared.alloc.Global.{Global}
+use Rattle.std.proofs.lemmas.List.Elements.{All-weaker}
+use Rattle.keys.specs.CommandKey.{is_scan}
+use Rattle.keys.specs.Narrowed.{with_end, first_end, with_ends, MayEndAtAll}
+use Rattle.keys.specs.Order.{IsRising}
+use Rattle.keys.specs.Range.{in_range}
+use Rattle.keys.specs.Step.{replies_to}
+use Rattle.keys.specs.declared.command.Command.{Command}
+use Rattle.keys.specs.declared.command.Command.TheVariants.{Get, Put, Add, Del, Scan}
+use Rattle.keys.specs.declared.command.Reply.{Reply}
+use Rattle.keys.specs.declared.piece.Piece.{Piece}
+use Rattle.keys.specs.declared.settings.Settings.{Settings}
+use Rattle.keys.proofs.NarrowedLaws.{scan-with_end, get-with_ends, length-with_ends}
+use Rattle.index_page.specs.Children.{Place, children}
+use Rattle.index_page.specs.Page.{PageOfKind, entries, leaf_of}
+use Rattle.mapping.specs.Levels.{Placed, joined, names, levels_of, contents, all_pages, by_pid, top_pid}
+use Rattle.mapping.specs.Outdate.{outdate_all}
+use Rattle.mapping.specs.Proper.{Tiled}
+use Rattle.mapping.specs.Table.{Mapping, page_of}
+use Rattle.mapping.specs.Tree.{Tree}
+use Rattle.mapping.proofs.TileLaws.{rising-joined}
+use Rattle.routing.specs.Routes.{Route, route_to, has_places, places_within, ranges, routes}
+use Rattle.routing.proofs.RouteLaws.{kept, own_places}
+use Rattle.page_runs.specs.LeafWork.{LeafMade, leaf_made, placed_leaf}
+use Rattle.page_runs.specs.NetRun.{net_run}
+use Rattle.page_runs.specs.Replies.{ArePlacesOf, commands_at, pieces_of}
+use Rattle.page_runs.specs.Worked.{worked}
+use Rattle.page_runs.proofs.EndedBatch.{AreNear, near_ends, EndsBefore, AllEndBefore, all_end_before, replies-ended, net_run-ended, net_run-with_ends}
+use Rattle.replies.specs.ByPlace.{joined as joined_replies, joined_at, reply_at, pieces_at, is_rows, is_scan_by, is_scan_at, IsPlaceOf, AreAnswers}
+use Rattle.split_plan.specs.WorkedLevel.{worked_leaves}
+use Rattle.climb_plan.specs.Climb.{Climbed, climb}
+use Rattle.climb_plan.specs.Plan.{shrunk, shrunk_pids, planned_tree}
+use Rattle.climb_plan.specs.Installing.{page_or_none}
+use Rattle.engine.specs.Leaves.{leaf_held, leaves_made}
+use Rattle.engine.proofs.LeafRoutes.{HoldsPart}
+
+abbrev Pairs : Type 0
+Pairs = List (List ℕ × List ℕ)
+
+abbrev Changes : Type 0
+Changes = List (List ℕ × Option (List ℕ))
+
+-- ---- the leaves
+
+module _ (s : Settings) (cs : List (Command Global)) (ends : List (Option (List ℕ))) (t : Mapping PageOfKind) (m : Pairs) (rises : IsRising m) (keys : List (List ℕ)) (near : AreNear cs ends keys) where
+  abbrev ended : List (Command Global)
+  ended = with_ends cs ends
+
+  -- what a leaf's job makes of a route's commands
+  abbrev made_by : List (Command Global) → Route → LeafMade
+  made_by ds r = leaf_made s ds (leaf_held t r)
+
+  leaf_ended : (at : Place) → HoldsPart t m at → EndsBefore keys at.low at.end → made_by cs (route_to ended at) ≡ made_by ended (route_to ended at)
+  leaf_ended at h f =
+      let home = h.home in
+      let ps = places_within at.low at.end ended in
+      let held = leaf_held t (route_to ended at) in
+      let own : Pairs = entries (leaf_of (page_or_none (page_of t at.pid))) in
+      let leaf : own ≡ entries h.leaf = rw home refl in
+      let part : own ≡ in_range at.low at.end m = leaf ∙ h.part in
+      let answers : replies_to own (commands_at cs ps) ≡ replies_to own (commands_at ended ps) =
+      ap (λ (x : Pairs). replies_to x (commands_at cs ps)) part
+      ∙ sym (replies-ended cs ends keys near at.low at.end f ps m rises (own_places at.low at.end ended))
+      ∙ sym (ap (λ (x : Pairs). replies_to x (commands_at ended ps)) part) in
+      let make : Changes → List (Reply Global) → LeafMade = λ run rs. record { worked = worked s (placed_leaf held) run; pieces = pieces_of ps rs } in
+      ap (λ (run : Changes). make run (replies_to own (commands_at cs ps))) (sym (net_run-ended cs ends ps own))
+      ∙ ap (λ (rs : List (Reply Global)). make (net_run own (commands_at ended ps)) rs) answers
+
+  made_if : (b : Bool) (r : Route) (rs : List Route) → made_by cs r ≡ made_by ended r → map (made_by cs) rs ≡ map (made_by ended) rs → map (made_by cs) (cond b (r ∷ rs) rs) ≡ map (made_by ended) (cond b (r ∷ rs) rs)
+  made_if true r rs h ih = ap (λ (x : LeafMade). x ∷ map (made_by cs) rs) h ∙ ap (λ (xs : List LeafMade). made_by ended r ∷ xs) ih
+  made_if false r rs h ih = ih
+
+  kept_ended : (ats : List Place) → AllByRecursion (HoldsPart t m) ats → AllEndBefore keys ats → map (made_by cs) (kept ended ats) ≡ map (made_by ended) (kept ended ats)
+  kept_ended [] h f = refl
+  kept_ended (at ∷ ats) h f = made_if (has_places (route_to ended at)) (route_to ended at) (kept ended ats) (leaf_ended at h.0 f.0) (kept_ended ats h.1 f.1)
+
+-- the leaves of a level make of the commands what they make of those with nearer ends
+pub level_ended : (s : Settings) (cs : List (Command Global)) (ends : List (Option (List ℕ))) (t : Mapping PageOfKind) (level : List (Placed (List ℕ))) → Tiled level None → AllByRecursion (HoldsPart t (joined level)) (ranges level)
+    → MayEndAtAll (keys_of (names level)) (joined level) cs ends → leaves_made s cs t (routes level (with_ends cs ends)) ≡ leaves_made s (with_ends cs ends) t (routes level (with_ends cs ends))
+level_ended s cs ends t level tiled parts may =
+    kept_ended s cs ends t (joined level) (rising-joined level None tiled) (keys_of (names level)) (near_ends (keys_of (names level)) (joined level) cs ends may) (ranges level) parts
+    (all_end_before (names level) (rising-names level None tiled))
+
+-- ---- the plan
+
+-- the tree that a net run leaves
+abbrev tree_by : Settings → Tree → Changes → Tree
+tree_by s t run =
+    let l = levels_of t in
+    let c : Climbed (List ℕ) = climb s (keys_of t.pages) 0 (worked_leaves s run l.level) l.above in
+    let after = shrunk c in
+    record {
+      pages = by_pid (all_pages after);
+      root = top_pid after.level after.above;
+      height = suc (length after.above);
+      logged = outdate_all (c.outdated ++ shrunk_pids c.tower.above) t.logged;
+    }
+
+-- the plan knows no scans
+pub planned-ended : (s : Settings) (t : Tree) (cs : List (Command Global)) (ends : List (Option (List ℕ))) → planned_tree s t (with_ends cs ends) ≡ planned_tree s t cs
+planned-ended s t cs ends = ap (tree_by s t) (net_run-with_ends (contents t) cs ends)
+
+-- ---- the places of a batch
+
+module _ (cs : List (Command Global)) (ends : List (Option (List ℕ))) where
+  pub places-ended : (rs : List Route) → AllByRecursion (λ r. ArePlacesOf (with_ends cs ends) r.places) rs → AllByRecursion (λ r. ArePlacesOf cs r.places) rs
+  places-ended rs a = subst (λ (n : ℕ). AllByRecursion (λ r. AllByRecursion (λ place. place < n) r.places) rs) (length-with_ends cs ends) a
+
+  scan_by : (end : Option (List ℕ)) (o : Option (Command Global)) → is_scan_by (option_map (with_end end) o) ≡ is_scan_by o
+  scan_by end None = refl
+  scan_by end (Some c) = scan-with_end end c
+
+  scan-ended : (place : ℕ) → is_scan_at (with_ends cs ends) place ≡ is_scan_at cs place
+  scan-ended place = ap is_scan_by (get-with_ends cs ends place) ∙ scan_by (first_end (drop place ends)) (slice_get cs place)
+
+  joined-with_end : (end : Option (List ℕ)) (c : Command Global) (rs : List (Reply Global)) → joined_replies (with_end end c) rs ≡ joined_replies c rs
+  joined-with_end None c rs = refl
+  joined-with_end (Some end) (Get k) rs = refl
+  joined-with_end (Some end) (Put k v) rs = refl
+  joined-with_end (Some end) (Add k v) rs = refl
+  joined-with_end (Some end) (Del k) rs = refl
+  joined-with_end (Some end) (Scan lo hi limit) rs = refl
+
+  joined_by : (end : Option (List ℕ)) (o : Option (Command Global)) (rs : List (Reply Global)) → joined_at (option_map (with_end end) o) rs ≡ joined_at o rs
+  joined_by end None rs = refl
+  joined_by end (Some c) rs = joined-with_end end c rs
+
+  -- pieces make the same replies
+  pub reply-ended : (ps : List (Piece Global)) (place : ℕ) → reply_at (with_ends cs ends) ps place ≡ reply_at cs ps place
+  reply-ended ps place =
+      let rs : List (Reply Global) = map (λ p. p.reply) (pieces_at ps place) in
+      ap (λ (o : Option (Command Global)). joined_at o rs) (get-with_ends cs ends place) ∙ joined_by (first_end (drop place ends)) (slice_get cs place) rs
+
+  -- and are answers to either
+  pub answers-ended : (ps : List (Piece Global)) → AreAnswers (with_ends cs ends) ps → AreAnswers cs ps
+  answers-ended ps a = record {
+    within = subst (λ (n : ℕ). All (λ p. p.place < n) ps) (length-with_ends cs ends) a.within;
+    kind = All-weaker (λ p. is_rows p.reply ≡ is_scan_at (with_ends cs ends) p.place) (λ p. is_rows p.reply ≡ is_scan_at cs p.place) (λ p h. h ∙ scan-ended p.place) ps a.kind;
+    once = λ place h plain. a.once place (subst (λ (n : ℕ). place < n) (sym (length-with_ends cs ends)) h) (scan-ended place ∙ plain);
+  }
