@@ -4,6 +4,7 @@ use crate::key::Key;
 use crate::value::Value;
 use std::alloc::{AllocError, Allocator};
 use std::marker::Model;
+use std::slice;
 
 /// The rows of a scan: keys and their values, copied out of the pages, which contracts see as the list of these pairs. That the
 /// keys rise is said by whoever makes them.
@@ -77,5 +78,20 @@ impl<A: Allocator> RowList<A> {
         ensures { result ≡ length self.now }
     {
         self.rows.len()
+    }
+}
+
+impl<'a, A: Allocator> IntoIterator for &'a RowList<A> {
+    ghost use Rattle.std.specs.Prelude.{◌≡◌};
+    ghost use Rattle.std.specs.Slice.Iter.{iter_rest};
+
+    type Item = &'a (Key<A>, Value<A>);
+
+    type IntoIter = slice::Iter<'a, (Key<A>, Value<A>)>;
+
+    ghost into_iter_gives = { λ rows it. iter_rest it ≡ rows.now };
+
+    fn into_iter(self) -> slice::Iter<'a, (Key<A>, Value<A>)> {
+        self.rows.iter()
     }
 }
