@@ -4,3 +4,4 @@ pub mod DigitLaws
 pub mod FloorLaws
 pub mod NearestLaws
 pub mod PlaceLaws
+mod WalkLemmas

@@ -31,23 +31,23 @@ nearness-trans UpTo a b c p q = total.trans a b c p q
 nearness-trans Below a b c p q = total.trans a b c p q
 nearness-trans Above a b c p q = total.trans c b a q p
 
-nearness-same : (s : Side) (a b : List ℕ) → nearness s a b ≡ Equal → a ≡ b
+pub nearness-same : (s : Side) (a b : List ℕ) → nearness s a b ≡ Equal → a ≡ b
 nearness-same UpTo a b h = same_key a b h
 nearness-same Below a b h = same_key a b h
 nearness-same Above a b h = sym (same_key b a h)
 
-nearness-flipped : (s : Side) (a b : List ℕ) → nearness s a b ≡ Greater → nearness s b a ≡ Less
+pub nearness-flipped : (s : Side) (a b : List ℕ) → nearness s a b ≡ Greater → nearness s b a ≡ Less
 nearness-flipped UpTo a b h = flipped_greater a b h
 nearness-flipped Below a b h = flipped_greater a b h
 nearness-flipped Above a b h = flipped_greater b a h
 
-nearness-past : (s : Side) (a b : List ℕ) → nearness s a b ≡ nearness (past s) a b
+pub nearness-past : (s : Side) (a b : List ℕ) → nearness s a b ≡ nearness (past s) a b
 nearness-past UpTo a b = refl
 nearness-past Below a b = refl
 nearness-past Above a b = refl
 
 -- no key lies past itself
-not_past : (s : Side) (j : List ℕ) → is_on (past s) j j ≡ false
+pub not_past : (s : Side) (j : List ℕ) → is_on (past s) j j ≡ false
 not_past UpTo j = rw (order_itself j) refl
 not_past Below j = rw (order_itself j) refl
 not_past Above j = rw (order_itself j) refl
@@ -58,7 +58,7 @@ up_to_by Equal k j i h p q = refl
 up_to_by Greater k j i h p q = refl
 
 -- what lies past a key on this side is on this side
-past-on : (s : Side) (k j i : List ℕ) → is_on s k j ≡ true → is_on (past s) j i ≡ true → is_on s k i ≡ true
+pub past-on : (s : Side) (k j i : List ℕ) → is_on s k j ≡ true → is_on (past s) j i ≡ true → is_on s k i ≡ true
 past-on UpTo k j i p q = up_to_by (order k i) k j i refl p q
 past-on Below k j i p q = rw (total.trans i j k (less_by (order i j) q) (less_by (order j k) p)) refl
 past-on Above k j i p q = rw (total.trans k j i (less_by (order k j) p) (less_by (order j i) q)) refl
@@ -89,7 +89,7 @@ parts-goes_to s k ks at g = record {
   from = λ m i l p. on_above s k i (g.above m i l p);
 }
 
-itself_up_to : (k : List ℕ) → is_on UpTo k k ≡ true
+pub itself_up_to : (k : List ℕ) → is_on UpTo k k ≡ true
 itself_up_to k = rw (order_itself k) refl
 
 itself_above : (k : List ℕ) → is_on Above k k ≡ false
@@ -256,7 +256,7 @@ module _ {V : Type 0} where
   run_by (Some c) n h e = refl
 
   -- a page holds what the newest list that names the key says of it
-  held-named : (i : List ℕ) (runs : List (List (List ℕ × Option V))) (base : List (List ℕ × V)) → held_under i runs base ≡ said_or (named_under i runs base) None
+  pub held-named : (i : List ℕ) (runs : List (List (List ℕ × Option V))) (base : List (List ℕ × V)) → held_under i runs base ≡ said_or (named_under i runs base) None
   held-named i [] base = base_by (value_at i base)
   held-named i (run ∷ runs) base = run_by (value_at i run) (named_under i runs base) (held_under i runs base) (held-named i runs base)
 

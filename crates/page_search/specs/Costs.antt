@@ -1,8 +1,17 @@
 -- How many comparisons a search takes, at most and at least.
-use Rattle.std.specs.Prelude.{ℕ, ◌+◌, ◌/◌, Bool, List, [], ◌∷◌, length, Option, is_some, if◌then◌else◌}
+use Rattle.std.specs.Prelude.{ℕ, ◌+◌, ◌*◌, ◌/◌, Bool, List, [], ◌∷◌, length, sum_by, Option, is_some, if◌then◌else◌}
+use Rattle.std.specs.List.{list_any}
+use Rattle.std.specs.Ordering.{is_eq}
+use Rattle.keys.specs.Order.{order}
 use Rattle.keys.specs.OrderedMap.{value_at}
-use Rattle.delta_chain.specs.Layers.{Layers}
+use Rattle.delta_chain.specs.Layers.{Layers, entries_of}
+use Rattle.delta_chain.specs.Merging.{said_by}
+use Rattle.page_search.specs.Above.{above}
 use Rattle.page_search.specs.Digits.{binary_digits}
+use Rattle.page_search.specs.Floor.{floor}
+use Rattle.page_search.specs.Nearest.{count_passed}
+use Rattle.page_search.specs.declared.side.Side.{Side}
+use Rattle.page_search.specs.declared.side.Side.TheVariants.{UpTo, Above}
 
 -- at most so many among n keys: the binary digits of n, whether the key is there or not
 abbrev pub most_among : Bool → ℕ → ℕ
@@ -24,3 +33,31 @@ find_cost k p = cost_under most_among k p.runs p.base
 -- what a search for the key in the page takes at least
 abbrev pub find_least : {V : Type 0} → List ℕ → Layers V → ℕ
 find_least k p = cost_under fewest_among k p.runs p.base
+
+-- whether the key is one of these
+abbrev pub is_among : List ℕ → List (List ℕ) → Bool
+is_among k ks = list_any (λ j. is_eq (order k j)) ks
+
+-- at least so many where the key is looked for among these entries
+abbrev pub fewest_in : {V : Type 0} → List ℕ → List (List ℕ × V) → ℕ
+fewest_in k es = fewest_among (is_some (value_at k es)) (length es)
+
+-- what one walk may take: a search in each run and in the base, and for each run one comparison of the nearest key there with the nearest below
+abbrev pub walk_most : {V : Type 0} → Layers V → ℕ
+walk_most p = sum_by (λ run. binary_digits (length run) + 1) p.runs + binary_digits (length p.base)
+
+-- what one walk takes at least: a search for the key in each run and in the base
+abbrev pub walk_least : {V : Type 0} → List ℕ → Layers V → ℕ
+walk_least k p = sum_by (λ run. fewest_in k run) p.runs + fewest_in k p.base
+
+-- what a search on this side of k may take that comes to this entry, or to none: one walk, and one more for each absent key that it passes
+abbrev pub nearest_most : {V : Type 0} → Side → List ℕ → Option (List ℕ × V) → Layers V → ℕ
+nearest_most s k x p = (1 + count_passed s k x (said_by p.runs)) * walk_most p
+
+-- what a search for the page's last entry whose key isn't above k may take
+abbrev pub floor_most : {V : Type 0} → List ℕ → Layers V → ℕ
+floor_most k p = nearest_most UpTo k (floor k (entries_of p)) p
+
+-- what a search for the page's first entry whose key is above k may take
+abbrev pub above_most : {V : Type 0} → List ℕ → Layers V → ℕ
+above_most k p = nearest_most Above k (above k (entries_of p)) p

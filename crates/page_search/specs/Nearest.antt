@@ -1,11 +1,12 @@
 -- The nearest key on one side of a key.
-use Rattle.std.specs.Prelude.{◌≡◌, ℕ, ◌<◌, ◌≤◌, Bool, true, false, not, List, [], ◌∷◌, length, slice_get, Option, Some, None}
-use Rattle.std.specs.Option.{option_map, option_or}
+use Rattle.std.specs.Prelude.{◌≡◌, ℕ, ◌<◌, ◌≤◌, Bool, true, false, not, ◌&&◌, List, [], ◌∷◌, length, slice_get, count_by, Option, Some, None}
+use Rattle.std.specs.Option.{option_map, option_or, is_none}
 use Rattle.std.specs.Ordering.{is_lt}
 use Rattle.std.specs.declared.cmp.Ordering.{Ordering}
 use Rattle.std.specs.declared.cmp.Ordering.TheVariants.{Less}
 use Rattle.keys.specs.Order.{order}
 use Rattle.keys.specs.OrderedMap.{value_at}
+use Rattle.delta_chain.specs.Layers.{Layers}
 use Rattle.page_search.specs.declared.side.Side.{Side}
 use Rattle.page_search.specs.declared.side.Side.TheVariants.{UpTo, Below, Above}
 
@@ -38,6 +39,10 @@ abbrev pub named_under : {V : Type 0} → List ℕ → List (List (List ℕ × O
 named_under k [] base = option_map Some (value_at k base)
 named_under k (run ∷ runs) base = option_or (value_at k run) (named_under k runs base)
 
+-- what the page says of the key, if it names it
+abbrev pub named_by : {V : Type 0} → Layers V → List ℕ → Option (Option V)
+named_by p k = named_under k p.runs p.base
+
 -- j is on this side of k and has this item, and no key on this side that is nearer has one
 pub record IsNearestWith {T : Type 0} (s : Side) (k : List ℕ) (at : List ℕ → Option T) (j : List ℕ) (item : T) : Type 0 where
   pub on : is_on s k j ≡ true
@@ -48,6 +53,19 @@ pub record IsNearestWith {T : Type 0} (s : Side) (k : List ℕ) (at : List ℕ �
 abbrev pub IsNearest : {T : Type 0} → Side → List ℕ → (List ℕ → Option T) → Option (List ℕ × T) → Type 0
 IsNearest s k at None = (i : List ℕ) → is_on s k i ≡ true → at i ≡ None
 IsNearest s k at (Some e) = IsNearestWith s k at e.0 e.1
+
+-- whether j is nearer than this entry on this side of a key; where there is none, each key is
+abbrev pub is_nearer_than : {V : Type 0} → Side → Option (List ℕ × V) → List ℕ → Bool
+is_nearer_than s None j = true
+is_nearer_than s (Some e) j = is_lt (nearness s e.0 j)
+
+-- whether the change makes a key absent that is on this side of k, and nearer than this entry
+abbrev pub is_passed : {V : Type 0} → Side → List ℕ → Option (List ℕ × V) → List ℕ × Option V → Bool
+is_passed s k x c = is_none c.1 && (is_on s k c.0 && is_nearer_than s x c.0)
+
+-- how many of the changes do so: of what the runs say together, how many absent keys a search from k to this entry passes
+abbrev pub count_passed : {V : Type 0} → Side → List ℕ → Option (List ℕ × V) → List (List ℕ × Option V) → ℕ
+count_passed s k x cs = count_by (is_passed s k x) cs
 
 -- none of the keys is on this side of k
 abbrev pub HasNoneOn : Side → List ℕ → List (List ℕ) → Type 0

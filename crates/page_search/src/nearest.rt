@@ -1,11 +1,14 @@
 //! Search for the entry that is nearest to a key on one side of it.
-ghost use Rattle.std.specs.Prelude.{◌≡◌, ◌≤◌, MatchOption};
+ghost use Rattle.std.specs.Prelude.{◌≡◌, ◌+◌, ◌≤◌, ℕ, true, List, length, min, is_some, Some, MatchOption};
 ghost use Rattle.std.specs.Option.{option_copied, option_map};
 ghost use Rattle.keys.specs.Order.{AreRisingKeys};
-ghost use Rattle.delta_chain.specs.Layers.{holds, entries_of};
+ghost use Rattle.delta_chain.specs.Layers.{holds, entries_of, IsInOrder};
 ghost use Rattle.page_search.specs.Above.{above};
+ghost use Rattle.page_search.specs.Costs.{fewest_among, is_among, walk_most, walk_least, nearest_most, floor_most, above_most};
+ghost use Rattle.page_search.specs.Digits.{binary_digits};
 ghost use Rattle.page_search.specs.Floor.{floor};
-ghost use Rattle.page_search.specs.Nearest.{named_under, IsNearest, HasNoneOn, IsNearestPlace, Parts};
+ghost use Rattle.page_search.specs.Nearest.{named_under, named_by, IsNearest, HasNoneOn, IsNearestPlace, Parts};
+ghost use Rattle.page_search.specs.declared.side.Side.TheVariants.{UpTo, Above};
 
 use crate::probes::Probes;
 use crate::search::place;
@@ -16,13 +19,21 @@ use std::alloc::Allocator;
 
 /// The page's last entry whose key isn't above this one, if there is one: its key and its cell. One walk over all runs and
 /// the base finds the nearest key that the page names, by halves in each; only where that key is absent does another walk
-/// look below it. It takes no memory.
+/// look below it. It takes no memory. The count rises by at least what one walk takes at least, and by at most one walk and
+/// another for each absent key that is passed: so by one walk where the nearest key named is there, such as the key itself.
 pub fn floor<'a, V, A: Allocator + Copy>(
     chain: &'a Chain<V, A>,
     key: &[u8],
     probes: &mut Probes,
 ) -> Option<(&'a [u8], &'a V)>
     ensures value { option_map (λ e. (e.0.now, e.1.now)) result ≡ floor key.now (entries_of chain.now) }
+    ensures cost { probes.new ≤ probes.old + floor_most key.now chain.now }
+    ensures one_walk { (e : List ℕ × V) →
+        IsNearest UpTo key.now (named_by chain.now) (Some (e.0, Some e.1)) →
+        probes.new ≤ probes.old + walk_most chain.now }
+    ensures at_key { is_some (holds chain.now key.now) ≡ true →
+        probes.new ≤ probes.old + walk_most chain.now }
+    ensures least { min (probes.old + walk_least key.now chain.now) u64.MAX ≤ probes.new }
     ensures kept { probes.old ≤ probes.new }
 {
     let _in_order = chain.depth();
@@ -30,13 +41,18 @@ pub fn floor<'a, V, A: Allocator + Copy>(
 }
 
 /// The page's first entry whose key is above this one, if there is one: its key and its cell. As `floor` does, it takes one
-/// walk for each named key that it comes upon, here upwards, and no memory.
+/// walk for each named key that it comes upon, here upwards, and no memory. The count rises as that of `floor` does.
 pub fn above<'a, V, A: Allocator + Copy>(
     chain: &'a Chain<V, A>,
     key: &[u8],
     probes: &mut Probes,
 ) -> Option<(&'a [u8], &'a V)>
     ensures value { option_map (λ e. (e.0.now, e.1.now)) result ≡ above key.now (entries_of chain.now) }
+    ensures cost { probes.new ≤ probes.old + above_most key.now chain.now }
+    ensures one_walk { (e : List ℕ × V) →
+        IsNearest Above key.now (named_by chain.now) (Some (e.0, Some e.1)) →
+        probes.new ≤ probes.old + walk_most chain.now }
+    ensures least { min (probes.old + walk_least key.now chain.now) u64.MAX ≤ probes.new }
     ensures kept { probes.old ≤ probes.new }
 {
     let _in_order = chain.depth();
@@ -51,7 +67,14 @@ fn nearest<'a, V, A: Allocator + Copy>(
     side: Side,
     probes: &mut Probes,
 ) -> Option<(&'a [u8], &'a V)>
+    requires { IsInOrder chain.now }
     ensures value { IsNearest side key.now (holds chain.now) (option_map (λ e. (e.0.now, e.1.now)) result) }
+    ensures cost { probes.new ≤ probes.old +
+        nearest_most side key.now (option_map (λ e. (e.0.now, e.1.now)) result) chain.now }
+    ensures one_walk { (e : List ℕ × V) →
+        IsNearest side key.now (named_by chain.now) (Some (e.0, Some e.1)) →
+        probes.new ≤ probes.old + walk_most chain.now }
+    ensures least { min (probes.old + walk_least key.now chain.now) u64.MAX ≤ probes.new }
     ensures kept { probes.old ≤ probes.new }
 {
     let mut bound = key;
@@ -75,6 +98,8 @@ fn nearest_named<'a, V, A: Allocator + Copy>(
     probes: &mut Probes,
 ) -> Option<(KeyRef<'a>, Option<&'a V>)>
     ensures value { IsNearest side key.now (λ i. named_under i chain.now.runs chain.now.base) (option_map (λ e. (e.0, option_copied e.1)) result) }
+    ensures cost { probes.new ≤ probes.old + walk_most chain.now }
+    ensures least { min (probes.old + walk_least key.now chain.now) u64.MAX ≤ probes.new }
     ensures kept { probes.old ≤ probes.new }
 {
     let Some((run, below)) = chain.newest() else {
@@ -97,6 +122,10 @@ fn nearest_named<'a, V, A: Allocator + Copy>(
 fn nearest_place<L: Keyed>(list: &L, key: &[u8], side: Side, probes: &mut Probes) -> Option<usize>
     ensures place { MatchOption result (HasNoneOn side key.now (L.keys list.now)) (IsNearestPlace side key.now (L.keys list.now)) }
     ensures rising { AreRisingKeys (L.keys list.now) }
+    ensures cost { probes.new ≤ probes.old + binary_digits (length (L.keys list.now)) }
+    ensures least { min
+        (probes.old + fewest_among (is_among key.now (L.keys list.now)) (length (L.keys list.now)))
+        u64.MAX ≤ probes.new }
     ensures kept { probes.old ≤ probes.new }
 {
     let count = list.len();
@@ -112,6 +141,10 @@ fn nearest_place<L: Keyed>(list: &L, key: &[u8], side: Side, probes: &mut Probes
 // `Below` isn't below it.
 fn parting<L: Keyed>(list: &L, key: &[u8], side: Side, probes: &mut Probes) -> usize
     ensures place { Parts side key.now (L.keys list.now) result }
+    ensures cost { probes.new ≤ probes.old + binary_digits (length (L.keys list.now)) }
+    ensures least { min
+        (probes.old + fewest_among (is_among key.now (L.keys list.now)) (length (L.keys list.now)))
+        u64.MAX ≤ probes.new }
     ensures kept { probes.old ≤ probes.new }
 {
     // The length is looked up for what it bounds: a place among the keys is below it.

@@ -1,4 +1,4 @@
-ghost use Rattle.std.specs.Prelude.{◌≡◌, ◌≤◌};
+ghost use Rattle.std.specs.Prelude.{◌≡◌, ◌+◌, ◌≤◌};
 ghost use Rattle.std.specs.Ordering.{is_lt};
 ghost use Rattle.page_search.specs.Nearest.{nearness, past};
 
@@ -27,6 +27,7 @@ impl Side {
     // Whether the first of two keys on this side of a third is the nearer one.
     pub(crate) fn is_nearer(self, one: &KeyRef<'_>, other: &KeyRef<'_>, probes: &mut Probes) -> bool
         ensures nearer { result ≡ is_lt (nearness self other.now one.now) }
+        ensures cost { probes.new ≤ probes.old + 1 }
         ensures kept { probes.old ≤ probes.new }
     {
         match self {

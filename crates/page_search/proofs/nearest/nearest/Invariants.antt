@@ -1,13 +1,21 @@
-use Rattle.std.proofs.Common.{◌≤◌, ℕ, List, Option}
+use Rattle.std.proofs.Common.{◌+◌, ◌*◌, ◌≤◌, ℕ, List, Option, Some, min}
 use Rattle.delta_chain.specs.Layers.{holds}
-use Rattle.page_search.specs.Nearest.{IsNearest}
+use Rattle.delta_chain.specs.Merging.{said_by}
+use Rattle.page_search.specs.Costs.{walk_most, walk_least}
+use Rattle.page_search.specs.Nearest.{named_by, IsNearest, count_passed}
 use Rattle.page_search.proofs.NearestLaws.{count_named}
 use Rattle.page_search.proofs.nearest.nearest.Given as goal
 
--- The entry that is nearest to the bound on the side that is left is the one that is looked for.
+-- The entry that is nearest to the bound on the side that is left is the one that is looked for. The way to it from the bound may
+-- take what the whole way may, less what was compared, and where a key is held that is the nearest one named, no walk is behind.
 abbrev pub invariant-loop-found : goal.invariant-loop-found
 invariant-loop-found g l = record {
   same : (x : Option (List ℕ × g.row.V.Denot)) → IsNearest l.side l.bound (holds l.chain) x → IsNearest l.fn.side l.key (holds l.chain) x;
+  cost : (x : Option (List ℕ × g.row.V.Denot)) → IsNearest l.side l.bound (holds l.chain) x →
+      l.probes + count_passed l.side l.bound x (said_by l.chain.runs) * walk_most l.chain ≤ l.fn.probes + count_passed l.fn.side l.key x (said_by l.chain.runs) * walk_most l.chain;
+  one_walk : (e : List ℕ × g.row.V.Denot) → IsNearest l.fn.side l.key (named_by l.chain) (Some (e.0, Some e.1)) →
+      IsNearest l.side l.bound (named_by l.chain) (Some (e.0, Some e.1)) × (l.probes ≤ l.fn.probes);
+  least : (after : ℕ) → min (l.probes + walk_least l.bound l.chain) 18446744073709551615 ≤ after → min (l.fn.probes + walk_least l.key l.chain) 18446744073709551615 ≤ after;
   kept : l.fn.probes ≤ l.probes;
 }
 

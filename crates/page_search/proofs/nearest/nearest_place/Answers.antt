@@ -16,5 +16,7 @@ pub returns-in-UpTo : goal.returns-in-UpTo
 returns-in-UpTo g c = record {
   place = last_place _ _ _ _ _ c.in-UpTo.is c.len-count.ensures.rising c.checked_sub.ensures c.parting-cut.ensures.place;
   rising = c.len-count.ensures.rising;
+  cost = c.parting-cut.ensures.cost;
+  least = c.parting-cut.ensures.least;
   kept = c.parting-cut.ensures.kept;
 }
