@@ -1,5 +1,7 @@
 pub mod AfterLaws
 pub mod ApartLaws
+mod Counts
+pub mod EndedBatch
 mod NamedRows
 pub mod NetLaws
 mod Overlays

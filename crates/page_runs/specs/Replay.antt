@@ -1,7 +1,20 @@
 -- A page while commands are replayed on it.
-use Rattle.std.specs.Prelude.{ℕ, List, Option}
+use Rattle.std.specs.Prelude.{ℕ, ◌+◌, ◌-◌, List, Option}
+use Rattle.keys.specs.declared.command.Reply.{Reply}
+use Rattle.keys.specs.declared.command.Reply.TheVariants.{Value, Missing, New, Replaced, Added, Exists, Deleted, Rows}
 use Rattle.delta_chain.specs.Layers.{Layers, with_run, entries_of}
 
 -- the map by now: the page's entries with the changes so far
 abbrev pub map_by_now : {V : Type 0} → Layers V → List (List ℕ × Option V) → List (List ℕ × V)
 map_by_now p changes = with_run (entries_of p) changes
+
+-- how many entries there are after a command, from how many were before it and its reply
+abbrev pub entries_after : {A : Type 0} → ℕ → Reply A → ℕ
+entries_after n (Value v) = n
+entries_after n Missing = n
+entries_after n New = n + 1
+entries_after n Replaced = n
+entries_after n Added = n + 1
+entries_after n Exists = n
+entries_after n Deleted = n - 1
+entries_after n (Rows rows) = n

@@ -131,19 +131,24 @@ impl<'a> Work for LeafWork<'a> {
     fn work(&self, job: LeafJob) -> Turn<LeafJob, LeafDone> {
         let LeafJob { page, page_run } = job;
         let (low, chain) = page.into_leaf();
-        let Ok((run, pieces)) = replay(self.alloc, self.commands, &chain, page_run.places()) else {
+        let Ok((run, pieces, fewest)) = replay(self.alloc, self.commands, &chain, page_run.places())
+        else {
             return Turn::Back(LeafJob {
                 page: Page::leaf(low, chain),
                 page_run,
             });
         };
         match put_run(self.alloc, &self.settings, chain, run) {
-            Ok((chain, way_back)) => Turn::Done(LeafDone {
-                page: Page::leaf(low, chain),
-                way_back,
-                page_run,
-                pieces,
-            }),
+            Ok((mut chain, way_back)) => {
+                // The replies tell which entries came and went, and the chain by itself knows only how many were named.
+                chain.raise_fewest(fewest);
+                Turn::Done(LeafDone {
+                    page: Page::leaf(low, chain),
+                    way_back,
+                    page_run,
+                    pieces,
+                })
+            }
             Err((chain, _run)) => Turn::Back(LeafJob {
                 page: Page::leaf(low, chain),
                 page_run,

@@ -1,12 +1,12 @@
 //! The commands of one page, replayed in the order of their places. What they have changed so far lies over the page
 //! like a run, and in the end it is the net run.
-ghost use Rattle.std.specs.Prelude.{◌≡◌, Some, None, is_some, if◌then◌else◌, IfOk, OnOk};
+ghost use Rattle.std.specs.Prelude.{◌≡◌, ◌≤◌, length, min, Some, None, is_some, if◌then◌else◌, IfOk, OnOk};
 ghost use Rattle.keys.specs.OrderedMap.{value_at, with_pair};
 ghost use Rattle.keys.specs.Step.{found, reply_to, map_after, replies_to};
 ghost use Rattle.keys.specs.declared.command.Reply.TheVariants.{New, Replaced, Added, Exists, Deleted, Missing};
 ghost use Rattle.delta_chain.specs.Layers.{entries_of, IsInOrder};
 ghost use Rattle.page_runs.specs.NetRun.{noted_by, net_run};
-ghost use Rattle.page_runs.specs.Replay.{map_by_now};
+ghost use Rattle.page_runs.specs.Replay.{map_by_now, entries_after};
 ghost use Rattle.page_runs.specs.Replies.{commands_at, pieces_of, ArePlacesOf};
 
 use crate::changes::{Changes, Leaf, LeafRun};
@@ -14,29 +14,46 @@ use crate::page_rows::rows_of;
 use keys::{Command, Key, Piece, Reply, Value};
 use std::alloc::{AllocError, Global};
 
-/// The net run of the commands at these places on the page, and what the page answers to each of them.
+/// The net run of the commands at these places on the page, what the page answers to each of them, and a number of
+/// entries that it has at least after them: what the page knew before, one more for each reply that tells of a new
+/// entry, and one less for each that tells of a deleted one.
 pub(crate) fn replay(
     alloc: Global,
     commands: &[Command<Global>],
     page: &Leaf,
     places: &[usize],
-) -> Result<(LeafRun, Vec<Piece<Global>>), AllocError>
+) -> Result<(LeafRun, Vec<Piece<Global>>, usize), AllocError>
     requires { ArePlacesOf commands.now places.now }
     ensures run { IfOk result (λ r. r.0 ≡ net_run (entries_of page.now) (commands_at commands.now places.now)) }
     ensures pieces { IfOk result (λ r. r.1.items ≡ pieces_of places.now (replies_to (entries_of page.now) (commands_at commands.now places.now))) }
+    ensures fewest { IfOk result (λ r. r.2 ≤ length (map_by_now page.now r.0)) }
 {
     // Only for the proof: `depth` says that the page is in order.
     let _in_order = page.depth();
     let mut changes = Changes::for_commands(alloc, commands, places);
     let mut pieces = Vec::with_capacity(alloc, places.len())?;
+    let mut fewest = page.fewest_entries();
     for place in places {
         let reply = execute(alloc, page, &mut changes, &commands[*place])?;
+        fewest = entries_after(fewest, &reply);
         pieces.push_reserved(Piece {
             place: *place,
             reply,
         });
     }
-    Ok((changes.into_run(alloc)?, pieces))
+    Ok((changes.into_run(alloc)?, pieces, fewest))
+}
+
+// How many entries there are after a command, up to the greatest `usize`: its reply tells whether one came or went.
+fn entries_after(before: usize, reply: &Reply<Global>) -> usize
+    ensures { result ≡ min (entries_after before reply.now) usize.MAX }
+{
+    match reply {
+        Reply::New => before.saturating_add(1),
+        Reply::Added => before.saturating_add(1),
+        Reply::Deleted => before.saturating_sub(1),
+        _ => before,
+    }
 }
 
 // The reply to the command, on the page with the changes so far.

@@ -6,6 +6,7 @@ use Rattle.keys.specs.Step.{map_after}
 use Rattle.keys.specs.declared.command.Command.{Command}
 use Rattle.delta_chain.specs.Layers.{entries_of, with_run}
 use Rattle.delta_chain.proofs.LayerLaws.{rising-entries_of}
+use Rattle.page_runs.proofs.Counts.{fewest_after}
 use Rattle.page_runs.proofs.NetLaws.{Pairs, Changes}
 use Rattle.page_runs.specs.NetRun.{net_run}
 use Rattle.page_runs.specs.Replies.{commands_at}
@@ -30,11 +31,13 @@ loop-place-preserved c =
     let changes : after ≡ net_run held (so_far ++ command ∷ []) = changes_step held rising so_far command before after c.loop-place.invariant.changes c.in_ok-reply.ensures.changes in
     let map : with_run held after ≡ map_after (with_run held before) command = map_step held rising so_far command before after c.loop-place.invariant.changes changes in
     let pieces = pieces_step batch places i place command (with_run held before) c.loop-place.pieces.items _ here there c.loop-place.invariant.pieces in
+    let fewest = fewest_after c.loop-place.fewest (with_run held before) command c.loop-place.invariant.fewest in
     record {
       changes = rw (add-one, commands_at-take batch places i place command here there) changes;
       count = c.push_reserved.ensures.len ∙ ap (λ (n : ℕ). n + 1) c.loop-place.invariant.count;
       room = c.push_reserved.ensures.capacity ∙ c.loop-place.invariant.room;
       pieces = rw (add-one, c.push_reserved.ensures.items, c.in_ok-reply.ensures.reply, map) pieces;
+      fewest = rw (c.entries_after-fewest.ensures, c.in_ok-reply.ensures.reply, map) (omega (arith, fewest));
     }
 
 pub bounds-commands-place : goal.bounds-commands-place
