@@ -1,4 +1,5 @@
 pub mod PlaceLaws
+mod BatchLaws
 mod BatchOrder
 pub mod DescentLaws
 pub mod RouteLaws

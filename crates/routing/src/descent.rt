@@ -13,33 +13,36 @@ ghost use Rattle.routing.specs.Routes.{routes};
 ghost use Rattle.routing.specs.SortedPlaces.{AreSortedPlaces};
 ghost use Rattle.routing.specs.Shares.{share_of_lent, lent_shares, all_of, root_shares, shares_below, next_key, CanHandDownKeyed, CanHandDownShare, is_met, AreNoScans, AreReady, AreKeyedShares, share_below, HasEachPlaceOnce, AreInBatchOrder};
 
+use crate::batch::BatchWithEnds;
 use crate::page_run::PageRun;
-use crate::reaching::{going_on, has_scan_at, has_scans};
+use crate::reaching::{going_on, has_scan_at};
 use crate::share::Share;
 use crate::sort::{Keyed, count_below, in_batch_order, sorted_places};
 use index_page::Page;
-use keys::{Command, Fault, Pid};
+use keys::{Fault, Pid};
 use mapping::Tree;
 use std::alloc::{AllocError, Global};
 use std::thread::Threads;
 
 /// For each leaf of the tree that a command of the batch goes to, from left to right, its page id and the places of these
-/// commands. The commands are sorted once, and each index page on their way is visited once. The tree is a proper one, of
-/// which no page is away. It is refused only for want of memory, with `Fault::NoMemory`.
+/// commands. A scan with a nearer end goes to no leaf from there on. The commands are sorted once, and each index page on their
+/// way is visited once. The tree is a proper one, of which no page is away. It is refused only for want of memory, with
+/// `Fault::NoMemory`.
 pub fn route(
     rt: &(impl Threads + Sync),
     alloc: Global,
     tree: &Tree<Global>,
-    commands: &[Command<Global>],
+    batch: &BatchWithEnds<'_>,
 ) -> Result<Vec<PageRun>, Fault>
     requires home { AreAllHome tree.now }
     requires held { HoldsLevels (tree_of tree.now).pages (levels_of (tree_of tree.now)) }
     requires levels { AreLevels (levels_of (tree_of tree.now)) }
-    ensures ok { IfOk result (λ runs. runs.items ≡ routes (levels_of (tree_of tree.now)).level commands.now) }
+    ensures ok { IfOk result (λ runs.
+        runs.items ≡ routes (levels_of (tree_of tree.now)).level batch.now) }
     ensures err { IfErr result (λ fault. fault ≡ NoMemory) }
 {
-    let keyed = sorted_places(rt, alloc, commands)?;
-    let runs = route_sorted(alloc, tree, commands, &keyed)?;
+    let keyed = sorted_places(rt, alloc, batch)?;
+    let runs = route_sorted(alloc, tree, batch, &keyed)?;
     Ok(runs)
 }
 
@@ -47,20 +50,21 @@ pub fn route(
 fn route_sorted(
     alloc: Global,
     tree: &Tree<Global>,
-    commands: &[Command<Global>],
+    batch: &BatchWithEnds<'_>,
     keyed: &[Keyed<'_>],
 ) -> Result<Vec<PageRun>, AllocError>
     requires home { AreAllHome tree.now }
     requires held { HoldsLevels (tree_of tree.now).pages (levels_of (tree_of tree.now)) }
     requires levels { AreLevels (levels_of (tree_of tree.now)) }
-    requires sorted { AreSortedPlaces commands.now (places_of keyed.now) }
-    requires keys { AreKeyed commands.now keyed.now }
-    ensures { IfOk result (λ runs. runs.items ≡ routes (levels_of (tree_of tree.now)).level commands.now) }
+    requires sorted { AreSortedPlaces batch.now (places_of keyed.now) }
+    requires keys { AreKeyed batch.now keyed.now }
+    ensures { IfOk result (λ runs.
+        runs.items ≡ routes (levels_of (tree_of tree.now)).level batch.now) }
 {
-    let scanned = has_scans(commands);
+    let scanned = batch.has_scans();
     let mut shares = root_share(alloc, tree.root(), keyed)?;
     for _level in 0..tree.height().saturating_sub(1) {
-        shares = one_level_down(alloc, tree, commands, scanned, &shares)?;
+        shares = one_level_down(alloc, tree, batch, scanned, &shares)?;
     }
     each_in_batch_order(alloc, &shares)
 }
@@ -86,21 +90,21 @@ fn root_share<'a, 'k>(
 fn one_level_down<'a, 'k>(
     alloc: Global,
     tree: &Tree<Global>,
-    commands: &[Command<Global>],
+    batch: &BatchWithEnds<'_>,
     scanned: bool,
     shares: &[Share<'a, 'k>],
 ) -> Result<Vec<Share<'a, 'k>>, AllocError>
     requires home { AreAllHome tree.now }
-    requires scanned { scanned ≡ list_any is_scan commands.now }
-    requires ready { AreReady (tree_of tree.now).pages commands.now shares.now }
+    requires scanned { scanned ≡ list_any is_scan batch.now }
+    requires ready { AreReady (tree_of tree.now).pages batch.now shares.now }
     ensures shares { IfOk result (λ below. lent_shares below.items ≡
-        flat_map (share_below (tree_of tree.now).pages commands.now) (lent_shares shares.now)) }
-    ensures keys { IfOk result (λ below. AreKeyedShares commands.now below.items) }
+        flat_map (share_below (tree_of tree.now).pages batch.now) (lent_shares shares.now)) }
+    ensures keys { IfOk result (λ below. AreKeyedShares batch.now below.items) }
 {
     let mut below = Vec::with_capacity(alloc, shares.len())?;
     for share in shares {
         match tree.page(share.pid()) {
-            Some(page) => hand_down(alloc, commands, scanned, page, share, &mut below)?,
+            Some(page) => hand_down(alloc, batch, scanned, page, share, &mut below)?,
             None => unreachable!(),
         }
     }
@@ -110,31 +114,32 @@ fn one_level_down<'a, 'k>(
 // Hands a page's share down to its children. Only in a batch with scans it is looked whether one meets the page.
 fn hand_down<'a, 'k>(
     alloc: Global,
-    commands: &[Command<Global>],
+    batch: &BatchWithEnds<'_>,
     scanned: bool,
     page: &Page<Global>,
     share: &Share<'a, 'k>,
     below: &mut Vec<Share<'a, 'k>>,
 ) -> Result<(), AllocError>
-    requires scanned { scanned ≡ list_any is_scan commands.now }
-    requires share { CanHandDownShare commands.now page.now (share_of_lent share.now) }
-    requires keys { AreKeyed commands.now share.now.keyed }
-    ensures shares { OnOk result (lent_shares below.new.items ≡
-        lent_shares below.old.items ++ shares_below commands.now page.now (all_of (share_of_lent share.now))) }
-    ensures keys { OnOk result (AreKeyedShares commands.now below.old.items → AreKeyedShares commands.now below.new.items) }
+    requires scanned { scanned ≡ list_any is_scan batch.now }
+    requires share { CanHandDownShare batch.now page.now (share_of_lent share.now) }
+    requires keys { AreKeyed batch.now share.now.keyed }
+    ensures shares { OnOk result (lent_shares below.new.items ≡ lent_shares below.old.items ++
+        shares_below batch.now page.now (all_of (share_of_lent share.now))) }
+    ensures keys { OnOk result (AreKeyedShares batch.now below.old.items →
+        AreKeyedShares batch.now below.new.items) }
 {
-    if scanned && is_met(commands, share) {
-        hand_down_with_scans(alloc, commands, page, share, below)
+    if scanned && is_met(batch, share) {
+        hand_down_with_scans(alloc, batch, page, share, below)
     } else {
         hand_down_points(alloc, page, share.keyed(), below)
     }
 }
 
 // Whether a scan reaches the share's page, or begins in it.
-fn is_met(commands: &[Command<Global>], share: &Share<'_, '_>) -> bool
-    ensures { result ≡ is_met commands.now share.now }
+fn is_met(batch: &BatchWithEnds<'_>, share: &Share<'_, '_>) -> bool
+    ensures { result ≡ is_met batch.now share.now }
 {
-    !share.reaching().is_empty() || has_scan_at(commands, share.keyed())
+    !share.reaching().is_empty() || has_scan_at(batch, share.keyed())
 }
 
 // The same of a page that no scan meets: each child gets the places of its range, if there are any.
@@ -187,16 +192,17 @@ fn first_child(page: &Page<Global>, keyed: &[Keyed<'_>]) -> (Pid, usize)
 // child that gets neither is passed over.
 fn hand_down_with_scans<'a, 'k>(
     alloc: Global,
-    commands: &[Command<Global>],
+    batch: &BatchWithEnds<'_>,
     page: &Page<Global>,
     share: &Share<'a, 'k>,
     below: &mut Vec<Share<'a, 'k>>,
 ) -> Result<(), AllocError>
-    requires share { CanHandDownShare commands.now page.now (share_of_lent share.now) }
-    requires keys { AreKeyed commands.now share.now.keyed }
-    ensures shares { OnOk result (lent_shares below.new.items ≡
-        lent_shares below.old.items ++ shares_below commands.now page.now (all_of (share_of_lent share.now))) }
-    ensures keys { OnOk result (AreKeyedShares commands.now below.old.items → AreKeyedShares commands.now below.new.items) }
+    requires share { CanHandDownShare batch.now page.now (share_of_lent share.now) }
+    requires keys { AreKeyed batch.now share.now.keyed }
+    ensures shares { OnOk result (lent_shares below.new.items ≡ lent_shares below.old.items ++
+        shares_below batch.now page.now (all_of (share_of_lent share.now))) }
+    ensures keys { OnOk result (AreKeyedShares batch.now below.old.items →
+        AreKeyedShares batch.now below.new.items) }
 {
     let keyed = share.keyed();
     let mut reaching = share.copied_reaching(alloc)?;
@@ -207,7 +213,7 @@ fn hand_down_with_scans<'a, 'k>(
         match end {
             Some(end) => {
                 let until = start + count_below(&keyed[start..], end);
-                let onward = going_on(alloc, commands, &reaching, &keyed[start..until], end)?;
+                let onward = going_on(alloc, batch, &reaching, &keyed[start..until], end)?;
                 below.push(Share::new(pid, &keyed[start..until], reaching))?;
                 reaching = onward;
                 low = end;

@@ -1,6 +1,7 @@
 //! Which commands of a batch go to which page.
 #![tactic(auto)]
 
+pub mod batch;
 pub mod descent;
 pub mod laws;
 pub mod page_run;
@@ -8,5 +9,6 @@ pub mod reaching;
 pub mod share;
 pub mod sort;
 
+pub use crate::batch::BatchWithEnds;
 pub use crate::descent::route;
 pub use crate::page_run::PageRun;

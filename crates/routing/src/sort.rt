@@ -4,14 +4,14 @@ ghost use Rattle.std.specs.List.{AllByRecursion};
 ghost use Rattle.std.specs.List.Sorted.{IsPermutation, IsSorted, IsNonDecreasing, IsPartitionedBy};
 ghost use Rattle.std.specs.Ordering.{nat_cmp, ordering_then};
 ghost use Rattle.keys.specs.Order.{order};
-ghost use Rattle.routing.specs.BatchKeys.{key_at};
 ghost use Rattle.routing.specs.Keyed.{places_of, AreKeyed, has_key_below};
 ghost use Rattle.routing.specs.Places.{places_below};
 ghost use Rattle.routing.specs.SortedPlaces.{AreSortedPlaces};
 
-use keys::{Command, KeyRef};
+use crate::batch::BatchWithEnds;
+use keys::KeyRef;
 use rayon::prelude::*;
-use std::alloc::{AllocError, Allocator, Global};
+use std::alloc::{AllocError, Global};
 use std::thread::Threads;
 
 // A shorter batch is sorted in one thread: even to ask how many processors there are would take longer.
@@ -23,15 +23,15 @@ pub type Keyed<'a> = (KeyRef<'a>, usize);
 
 /// The places of a batch's commands, counted from 0, in the order of their keys, and where keys are equal in the order of
 /// the batch, each beside its key. The sort is shared among threads where the batch is long.
-pub fn sorted_places<'a, A: Allocator>(
+pub fn sorted_places<'a>(
     rt: &(impl Threads + Sync),
     alloc: Global,
-    commands: &'a [Command<A>],
+    batch: &BatchWithEnds<'a>,
 ) -> Result<Vec<Keyed<'a>>, AllocError>
-    ensures sorted { IfOk result (λ keyed. AreSortedPlaces commands.now (places_of keyed.items)) }
-    ensures keys { IfOk result (λ keyed. AreKeyed commands.now keyed.items) }
+    ensures sorted { IfOk result (λ keyed. AreSortedPlaces batch.now (places_of keyed.items)) }
+    ensures keys { IfOk result (λ keyed. AreKeyed batch.now keyed.items) }
 {
-    let mut keyed = keyed_places(alloc, commands)?;
+    let mut keyed = keyed_places(alloc, batch)?;
     sort_keyed(rt, &mut keyed);
     Ok(keyed)
 }
@@ -50,28 +50,16 @@ fn sort_keyed(rt: &(impl Threads + Sync), keyed: &mut [Keyed<'_>])
 }
 
 // Each command's key with its place, in the order of the batch.
-fn keyed_places<A: Allocator>(
-    alloc: Global,
-    commands: &[Command<A>],
-) -> Result<Vec<Keyed<'_>>, AllocError>
-    ensures places { IfOk result (λ keyed. places_of keyed.items ≡ places_below (length commands.now)) }
-    ensures keys { IfOk result (λ keyed. AreKeyed commands.now keyed.items) }
+fn keyed_places<'a>(alloc: Global, batch: &BatchWithEnds<'a>) -> Result<Vec<Keyed<'a>>, AllocError>
+    ensures places { IfOk result (λ keyed.
+        places_of keyed.items ≡ places_below (length batch.now)) }
+    ensures keys { IfOk result (λ keyed. AreKeyed batch.now keyed.items) }
 {
-    let mut keyed = Vec::with_capacity(alloc, commands.len())?;
-    for place in 0..commands.len() {
-        keyed.push((KeyRef::new(key_at(commands, place)), place))?;
+    let mut keyed = Vec::with_capacity(alloc, batch.len())?;
+    for place in 0..batch.len() {
+        keyed.push((KeyRef::new(batch.key_at(place)), place))?;
     }
     Ok(keyed)
-}
-
-// The key of the command at this place, and the empty key where there is none.
-fn key_at<A: Allocator>(commands: &[Command<A>], place: usize) -> &[u8]
-    ensures { result.now ≡ key_at commands.now place }
-{
-    match commands.get(place) {
-        Some(command) => command.key().as_bytes(),
-        None => &[],
-    }
 }
 
 /// How many of these entries, of which those with a key below this one stand first, have a key below it. It is found by

@@ -9,11 +9,11 @@ ok_then (Ok v) f h = f h
 ok_then (Err e) f h = tt
 
 pub hand_down_points-requires : goal.hand_down_points-requires
-hand_down_points-requires c = (c.args.commands.now, can_keyed c.args.commands.now c.args.page.now c.args.share.now _ c.keyed.ensures c.requires.share c.requires.keys)
+hand_down_points-requires c = (c.args.batch.now, can_keyed c.args.batch.now c.args.page.now c.args.share.now _ c.keyed.ensures c.requires.share c.requires.keys)
 
 pub returns-else-scanned-clause-shares : goal.returns-else-scanned-clause-shares
 returns-else-scanned-clause-shares c =
-    let cs = c.args.commands.now in
+    let cs = c.args.batch.now in
     let page = c.args.page.now in
     let own : IsOfPoints cs page c.args.share.now c.keyed.result.now = elim c.else-scanned.branch [
       | else-scanned-via-then-scanned+else-is_met w ↦ of_share cs page c.args.share.now c.keyed.result.now c.keyed.ensures (sym w.is_met.ensures ∙ w.if-is_met.false)
@@ -26,5 +26,5 @@ returns-else-scanned-clause-shares c =
 pub returns-else-scanned-clause-keys : goal.returns-else-scanned-clause-keys
 returns-else-scanned-clause-keys c =
     ok_then c.hand_down_points.result
-    (λ f a. f c.args.commands.now (can_keyed c.args.commands.now c.args.page.now c.args.share.now _ c.keyed.ensures c.requires.share c.requires.keys).keys a)
+    (λ f a. f c.args.batch.now (can_keyed c.args.batch.now c.args.page.now c.args.share.now _ c.keyed.ensures c.requires.share c.requires.keys).keys a)
     c.hand_down_points.ensures.keys

@@ -10,7 +10,7 @@ use Rattle.routing.proofs.descent.hand_down_with_scans.Goals as goal
 
 pub loop-key-init : goal.loop-key-init
 loop-key-init c =
-    let begins = walk_begins c.args.commands.now c.args.page.now _ c.low-low.result.now c.in_ok-reaching.reaching.items (places_of c.keyed-keyed.result.now) c.requires.share c.low-low.ensures c.in_ok-reaching.ensures (ap (λ (es : List Keyed). places_of es) c.keyed-keyed.ensures) in
+    let begins = walk_begins c.args.batch.now c.args.page.now _ c.low-low.result.now c.in_ok-reaching.reaching.items (places_of c.keyed-keyed.result.now) c.requires.share c.low-low.ensures c.in_ok-reaching.ensures (ap (λ (es : List Keyed). places_of es) c.keyed-keyed.ensures) in
     record {
       most = omega arith;
       at = begins.0;
@@ -20,7 +20,7 @@ loop-key-init c =
 
 pub child_with_end-pid-requires : goal.child_with_end-pid-requires
 child_with_end-pid-requires c =
-    let cs = c.args.commands.now in
+    let cs = c.args.batch.now in
     let page = c.args.page.now in
     let es = c.keyed-keyed.result.now in
     let start = c.loop-key.start in
@@ -32,7 +32,7 @@ child_with_end-pid-requires c =
 
 pub count_below-requires : goal.count_below-requires
 count_below-requires c =
-    let cs = c.args.commands.now in
+    let cs = c.args.batch.now in
     let page = c.args.page.now in
     let es = c.keyed-keyed.result.now in
     let start = c.loop-key.start in
@@ -41,7 +41,7 @@ count_below-requires c =
 
 pub loop-key-smaller : goal.loop-key-smaller
 loop-key-smaller c =
-    let cs = c.args.commands.now in
+    let cs = c.args.batch.now in
     let page = c.args.page.now in
     let es = c.keyed-keyed.result.now in
     let start = c.loop-key.start in
@@ -59,7 +59,7 @@ loop-key-smaller c =
 
 pub loop-key-preserved : goal.loop-key-preserved
 loop-key-preserved c =
-    let cs = c.args.commands.now in
+    let cs = c.args.batch.now in
     let page = c.args.page.now in
     let es = c.keyed-keyed.result.now in
     let start = c.loop-key.start in
@@ -89,7 +89,7 @@ loop-key-preserved c =
 
 pub returns-in-None-clause-shares : goal.returns-in-None-clause-shares
 returns-in-None-clause-shares c =
-    let cs = c.args.commands.now in
+    let cs = c.args.batch.now in
     let page = c.args.page.now in
     let es = c.keyed-keyed.result.now in
     let start = c.loop-key.start in
@@ -106,7 +106,7 @@ returns-in-None-clause-shares c =
 
 pub returns-in-None-clause-keys : goal.returns-in-None-clause-keys
 returns-in-None-clause-keys c =
-    let cs = c.args.commands.now in
+    let cs = c.args.batch.now in
     let page = c.args.page.now in
     let es = c.keyed-keyed.result.now in
     let start = c.loop-key.start in
@@ -119,4 +119,4 @@ returns-clause-shares c =
     let start = c.loop-key.start in
     let low = c.loop-key.low.now in
     let none = ap (λ (xs : List ℕ). next_key low xs (take (length es - start) (drop start es))) (sym c.deref.ensures.value) ∙ sym c.in_default.ensures in
-    all_walked c.args.commands.now low c.loop-key.reaching.items es _ start _ c.loop-key.below.items _ (take_rest es start) none c.loop-key.invariant.shares
+    all_walked c.args.batch.now low c.loop-key.reaching.items es _ start _ c.loop-key.below.items _ (take_rest es start) none c.loop-key.invariant.shares

@@ -9,9 +9,9 @@ use Rattle.routing.proofs.descent.hand_down_with_scans.Given as goal
 abbrev pub invariant-loop-key : goal.invariant-loop-key
 invariant-loop-key l = record {
   most : l.start ≤ length l.keyed;
-  at : IsAt l.commands (child_entries l.page) l.low l.reaching.items (places_of (drop l.start l.keyed));
-  shares : lent_shares l.below.items ++ shares l.commands (l.reaching.items ++ places_of (drop l.start l.keyed)) (children (from_low l.low (child_entries l.page)) None) ≡ lent_shares l.initial.below.items ++ shares_below l.commands l.page (all_of (share_of_lent l.share));
-  keys : AreKeyedShares l.commands l.initial.below.items → AreKeyedShares l.commands l.below.items;
+  at : IsAt l.batch (child_entries l.page) l.low l.reaching.items (places_of (drop l.start l.keyed));
+  shares : lent_shares l.below.items ++ shares l.batch (l.reaching.items ++ places_of (drop l.start l.keyed)) (children (from_low l.low (child_entries l.page)) None) ≡ lent_shares l.initial.below.items ++ shares_below l.batch l.page (all_of (share_of_lent l.share));
+  keys : AreKeyedShares l.batch l.initial.below.items → AreKeyedShares l.batch l.below.items;
 }
 
 -- each step leaves fewer children

@@ -9,6 +9,6 @@ use Rattle.routing.proofs.descent.route_sorted.Given as goal
 -- the shares are those of the level so far below the root
 abbrev pub invariant-loop-level : goal.invariant-loop-level
 invariant-loop-level l = record {
-  shares : lent_shares l.shares.items ≡ shares l.commands (places_of l.fn.keyed) (children (names_at (tree_of l.tree).pages l.tree.root l._level) None);
-  keys : AreKeyedShares l.commands l.shares.items;
+  shares : lent_shares l.shares.items ≡ shares l.batch (places_of l.fn.keyed) (children (names_at (tree_of l.tree).pages l.tree.root l._level) None);
+  keys : AreKeyedShares l.batch l.shares.items;
 }

@@ -15,9 +15,9 @@ sorted g c =
 pub returns-clause-sorted : goal.returns-clause-sorted
 returns-clause-sorted g c =
     let s = sorted g c in
-    rw s.1 (places_of_sorted c.args.commands.now (λ (entry : Keyed). entry.0) (λ (entry : Keyed). entry.1) c.in_ok-keyed.keyed.items c.sort_keyed.new.keyed c.in_ok-keyed.ensures.places c.in_ok-keyed.ensures.keys s.0 c.sort_keyed.ensures.sorted)
+    rw s.1 (places_of_sorted c.args.batch.now (λ (entry : Keyed). entry.0) (λ (entry : Keyed). entry.1) c.in_ok-keyed.keyed.items c.sort_keyed.new.keyed c.in_ok-keyed.ensures.places c.in_ok-keyed.ensures.keys s.0 c.sort_keyed.ensures.sorted)
 
 pub returns-clause-keys : goal.returns-clause-keys
 returns-clause-keys g c =
     let s = sorted g c in
-    rw s.1 (keyed_sorted c.args.commands.now (λ (entry : Keyed). entry.0) (λ (entry : Keyed). entry.1) c.in_ok-keyed.keyed.items c.sort_keyed.new.keyed c.in_ok-keyed.ensures.keys s.0)
+    rw s.1 (keyed_sorted c.args.batch.now (λ (entry : Keyed). entry.0) (λ (entry : Keyed). entry.1) c.in_ok-keyed.keyed.items c.sort_keyed.new.keyed c.in_ok-keyed.ensures.keys s.0)

@@ -1,0 +1,107 @@
+//! A batch as it goes down the tree.
+ghost use Rattle.std.specs.Prelude.{◌≡◌, length, map, drop};
+ghost use Rattle.std.specs.List.{list_any};
+ghost use Rattle.std.specs.Option.{option_copied};
+ghost use Rattle.keys.specs.CommandKey.{is_scan};
+ghost use Rattle.keys.specs.Narrowed.{first_end, with_ends};
+ghost use Rattle.routing.specs.BatchKeys.{key_at};
+ghost use Rattle.routing.specs.Routes.{is_scan_at};
+ghost use Rattle.routing.specs.SortedPlaces.{reaches_at};
+
+use crate::reaching::reaches;
+use keys::Command;
+use std::alloc::Global;
+use std::marker::Model;
+
+/// The commands of a batch as they go down the tree: a scan may have a nearer end in the place of its own upper bound, where
+/// it is known to have all its rows before that. Contracts see it as the list of the commands with these ends.
+#[derive(Drop)]
+pub struct BatchWithEnds<'a> {
+    commands: &'a [Command<Global>],
+    // For each place the scan's nearer end, if it has one; places behind the list's end have none.
+    ends: Vec<Option<&'a [u8]>>,
+}
+
+impl<'a> Model for BatchWithEnds<'a> {
+    ghost use Rattle.std.specs.Prelude.{List, map};
+    ghost use Rattle.std.specs.Option.{option_copied};
+    ghost use Rattle.std.specs.declared.alloc.Global.{Global};
+    ghost use Rattle.keys.specs.Narrowed.{with_ends};
+    ghost use Rattle.keys.specs.declared.command.Command.{Command};
+
+    ghost Value = { List (Command Global) };
+
+    ghost view = { λ b. with_ends b.commands.now (map option_copied b.ends.items) };
+}
+
+impl<'a> BatchWithEnds<'a> {
+    /// These commands, and for each place the scan's nearer end, if it has one. The list of the ends may be shorter: places
+    /// behind its end have none.
+    pub fn new(commands: &'a [Command<Global>], ends: Vec<Option<&'a [u8]>>) -> Self
+        ensures { result ≡ with_ends commands.entry.now (map option_copied ends.entry.items) }
+    {
+        BatchWithEnds { commands, ends }
+    }
+
+    // How many commands there are.
+    pub(crate) fn len(&self) -> usize
+        ensures { result ≡ length self.now }
+    {
+        self.commands.len()
+    }
+
+    // The key of the command at this place, and the empty key where there is none.
+    #[inline]
+    pub(crate) fn key_at(&self, place: usize) -> &'a [u8]
+        ensures { result.now ≡ key_at self.now place }
+    {
+        match self.commands.get(place) {
+            Some(command) => command.key().as_bytes(),
+            None => &[],
+        }
+    }
+
+    // Whether a command of the batch is a scan.
+    pub(crate) fn has_scans(&self) -> bool
+        ensures { result ≡ list_any is_scan self.now }
+    {
+        has_scan(self.commands)
+    }
+
+    // Whether the command at this place is a scan.
+    pub(crate) fn is_scan_at(&self, place: usize) -> bool
+        ensures { result ≡ is_scan_at self.now place }
+    {
+        match self.commands.get(place) {
+            Some(command) => command.is_scan(),
+            None => false,
+        }
+    }
+
+    // Whether the command at this place reaches the page with this low key.
+    pub(crate) fn reaches_at(&self, place: usize, low: &[u8]) -> bool
+        ensures { result ≡ reaches_at self.now low.now place }
+    {
+        match self.commands.get(place) {
+            Some(command) => reaches(command, end_at(&self.ends, place), low),
+            None => false,
+        }
+    }
+}
+
+// Whether one of these commands is a scan.
+fn has_scan(commands: &[Command<Global>]) -> bool
+    ensures { result ≡ list_any is_scan commands.now }
+{
+    commands.iter().any(|command| command.is_scan())
+}
+
+// The end at this place, if there is one.
+fn end_at<'a>(ends: &[Option<&'a [u8]>], place: usize) -> Option<&'a [u8]>
+    ensures { option_copied result ≡ first_end (drop place (map option_copied ends.now)) }
+{
+    match ends.get(place) {
+        Some(end) => *end,
+        None => None,
+    }
+}
