@@ -11,7 +11,7 @@ use Rattle.index_page.specs.Page.PageOfKind.{Leaf, Index}
 use Rattle.index_page.specs.Children.{child_entries, children_within}
 use Rattle.mapping.specs.Tree.{page_at}
 use Rattle.mapping.specs.Levels.{Placed, entries, joined, as_leaf, as_index, index_at}
-use Rattle.scan.specs.Path.{entries_at, leaves_under, leaves_from_first, leaves_from, leaves_left, chain_at, chains, IsKnown, ArePathOf}
+use Rattle.scan.specs.Path.{entries_at, leaves_under, leaves_from_first, leaves_from, leaves_left, leaf_with, leaf_under, leaf_pages, IsKnown, ArePathOf}
 use Rattle.scan.proofs.CutLaws.{cut, all_kept, kept-from-nothing}
 
 module _ (ps : List (ℕ × PageOfKind)) where
@@ -29,8 +29,8 @@ module _ (ps : List (ℕ × PageOfKind)) where
   pub leaves_under-one : (n pid : ℕ) → leaves_under ps (suc n) (pid ∷ []) ≡ leaves_under ps n (values_of (entries_at ps pid))
   leaves_under-one n pid = ap (λ (x : List (List ℕ × ℕ)). leaves_under ps n (values_of x)) (append-nil (entries_at ps pid))
 
-  pub chains-append : (xs ys : List ℕ) → chains ps (xs ++ ys) ≡ chains ps xs ++ chains ps ys
-  chains-append xs ys = map-append (chain_at ps) xs ys
+  pub leaf_pages-append : (xs ys : List ℕ) → leaf_pages ps (xs ++ ys) ≡ leaf_pages ps xs ++ leaf_pages ps ys
+  leaf_pages-append xs ys = map-append (leaf_under ps) xs ys
 
   -- ---- one page more on a path, and one less
 
@@ -69,9 +69,9 @@ module _ (ps : List (ℕ × PageOfKind)) where
   -- ---- a page on the way
 
   -- a leaf is all that the way comes to
-  pub at_leaf : (n pid : ℕ) (key low : List ℕ) (chain : Layers (List ℕ)) (rest : List ℕ) → IsKnown ps n pid → (let p : Page (List ℕ) = record { low = low; layers = chain } in Some (Leaf p) ≡ page_at ps pid)
-      → chains ps (leaves_from ps n key pid ++ rest) ≡ chain ∷ chains ps rest
-  at_leaf zero pid key low chain rest k h = ap (λ (o : Option PageOfKind). (as_leaf o).layers ∷ chains ps rest) (sym h)
+  pub at_leaf : (n pid : ℕ) (key low : List ℕ) (chain : Layers (List ℕ)) (rest : List ℕ) → IsKnown ps n pid → Some (Leaf (leaf_with low chain)) ≡ page_at ps pid
+      → leaf_pages ps (leaves_from ps n key pid ++ rest) ≡ leaf_with low chain ∷ leaf_pages ps rest
+  at_leaf zero pid key low chain rest k h = ap (λ (o : Option PageOfKind). as_leaf o ∷ leaf_pages ps rest) (sym h)
   at_leaf (suc n) pid key low chain rest k h = absurd (let both = h ∙ k.0 in cc)
 
   -- at an index page, the way goes on to the first of the children that are kept, of which there is one

@@ -10,12 +10,13 @@ use Rattle.keys.specs.Order.{order, IsRising}
 use Rattle.keys.specs.Range.{is_below, is_before, in_range, rows}
 use Rattle.keys.proofs.MapLaws.{total, IsBelowAll}
 use Rattle.delta_chain.specs.Layers.{Layers, entries_of}
+use Rattle.index_page.specs.Page.{Page}
 use Rattle.mapping.specs.Levels.{levels_of, contents}
 use Rattle.mapping.specs.Proper.{AreLevels, HoldsLevels}
 use Rattle.mapping.specs.TreeInMemory.{TreeInMemory, tree_of}
 use Rattle.scan.specs.Leaf.{from}
 use Rattle.scan.specs.Left.{pairs_left, rows_left}
-use Rattle.scan.specs.Path.{chains, pairs, leaves_from, IsKnown}
+use Rattle.scan.specs.Path.{leaf_with, leaf_pages, pairs, leaves_from, IsKnown}
 use Rattle.scan.specs.Walk.{IsAt, walk_from}
 use Rattle.scan.proofs.TreeLaws.{root_is_known, contents-from, contents-rise}
 
@@ -107,10 +108,10 @@ from-nothing (([], v) ∷ es) = ap (λ (x : Pairs). ([], v) ∷ x) (from-nothing
 from-nothing ((x ∷ xs, v) ∷ es) = ap (λ (y : Pairs). (x ∷ xs, v) ∷ y) (from-nothing es)
 
 -- a leaf that has nothing left makes room for the next
-pub next_leaf_left : (leaf : Pairs) (leaves others : List (Layers (List ℕ))) (next : Layers (List ℕ)) (new whole : Pairs) → leaf ≡ [] → leaves ≡ next ∷ others → new ≡ from [] (entries_of next) → pairs_left leaf leaves ≡ whole → pairs_left new others ≡ whole
-next_leaf_left leaf leaves others next new whole e l n h =
+pub next_leaf_left : (leaf : Pairs) (leaves others : List (Page (List ℕ))) (low : List ℕ) (next : Layers (List ℕ)) (new whole : Pairs) → leaf ≡ [] → leaves ≡ leaf_with low next ∷ others → new ≡ from [] (entries_of next) → pairs_left leaf leaves ≡ whole → pairs_left new others ≡ whole
+next_leaf_left leaf leaves others low next new whole e l n h =
     ap (λ (x : Pairs). x ++ pairs others) (n ∙ from-nothing (entries_of next))
-    ∙ sym (ap (λ (x : Pairs). x ++ pairs leaves) e ∙ ap (λ (x : List (Layers (List ℕ))). pairs x) l)
+    ∙ sym (ap (λ (x : Pairs). x ++ pairs leaves) e ∙ ap (λ (x : List (Page (List ℕ))). pairs x) l)
     ∙ h
 
 -- ---- the start
@@ -123,9 +124,9 @@ module _ (t : TreeInMemory) (held : HoldsLevels (tree_of t).pages (levels_of (tr
   root_is_there = record { within = omega arith; known = subst (λ (n : ℕ). IsKnown (tree_of t).pages n t.root) (sym at_top) (root_is_known (tree_of t) held levels) }
 
   -- what is left when the scan begins are the rows
-  pub rows_at_start : (lo : List ℕ) (hi : Option (List ℕ)) (limit : ℕ) (first : Layers (List ℕ)) (leaves : List (Layers (List ℕ))) (leaf : Pairs) → walk_from t 0 lo t.root ≡ first ∷ leaves → leaf ≡ from lo (entries_of first)
+  pub rows_at_start : (lo : List ℕ) (hi : Option (List ℕ)) (limit : ℕ) (low : List ℕ) (first : Layers (List ℕ)) (leaves : List (Page (List ℕ))) (leaf : Pairs) → walk_from t 0 lo t.root ≡ leaf_with low first ∷ leaves → leaf ≡ from lo (entries_of first)
       → rows_left limit hi (pairs_left leaf leaves) ≡ rows lo hi limit (contents (tree_of t))
-  rows_at_start lo hi limit first leaves leaf w e =
+  rows_at_start lo hi limit low first leaves leaf w e =
       ap (λ (x : Pairs). rows_left limit hi (x ++ pairs leaves)) e
-      ∙ ap (λ (x : Pairs). rows_left limit hi x) (sym (contents-from (tree_of t) held levels lo first leaves (sym (ap (λ (n : ℕ). chains (tree_of t).pages (leaves_from (tree_of t).pages n lo t.root)) at_top) ∙ w)))
+      ∙ ap (λ (x : Pairs). rows_left limit hi x) (sym (contents-from (tree_of t) held levels lo (leaf_with low first) leaves (sym (ap (λ (n : ℕ). leaf_pages (tree_of t).pages (leaves_from (tree_of t).pages n lo t.root)) at_top) ∙ w)))
       ∙ ap (λ (x : Pairs). take limit x) (cut-range lo hi (contents (tree_of t)) (contents-rise (tree_of t) held levels))

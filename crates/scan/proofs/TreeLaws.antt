@@ -7,7 +7,8 @@ use Rattle.std.proofs.lemmas.List.{map-append}
 use Rattle.std.proofs.lemmas.List.Elements.{filter-append}
 use Rattle.std.proofs.lemmas.Grind.{flat_map-append}
 use Rattle.keys.specs.Order.{order, IsRising}
-use Rattle.delta_chain.specs.Layers.{Layers, entries_of}
+use Rattle.delta_chain.specs.Layers.{entries_of}
+use Rattle.index_page.specs.Page as page
 use Rattle.index_page.specs.Page.{Page, PageOfKind, first_key}
 use Rattle.index_page.specs.Page.PageOfKind.{Leaf, Index}
 use Rattle.index_page.specs.Range.{is_below, AreBelow, AreFrom}
@@ -21,10 +22,10 @@ use Rattle.mapping.specs.Levels.{Placed, Levels, entries, joined, name, names, a
 use Rattle.mapping.specs.Proper.{next_low, IsTile, Tiled, Stacked, AreLevels, HasLeaves, HasIndexPages, HoldsLevels}
 use Rattle.mapping.proofs.TileLaws.{next_low-append, tiled-append, next_names, from-joined, before-joined, rising-joined, rising-tile, next_low-parents}
 use Rattle.mapping.proofs.Joined.{next_joined}
-use Rattle.scan.specs.Path.{entries_at, leaves_under, leaves_from_first, leaves_from, chain_at, chains, pairs, IsKnown}
+use Rattle.scan.specs.Path.{entries_at, leaves_under, leaves_from_first, leaves_from, leaf_under, leaf_pages, pairs, IsKnown}
 use Rattle.scan.specs.Leaf.{from}
 use Rattle.scan.proofs.CutLaws.{Names, cut}
-use Rattle.scan.proofs.PathLaws.{leaves_under-append, leaves_under-one, chains-append, under-none}
+use Rattle.scan.proofs.PathLaws.{leaves_under-append, leaves_under-one, leaf_pages-append, under-none}
 
 -- ---- pairs from a key on
 
@@ -47,9 +48,9 @@ module _ (ps : List (ℕ × PageOfKind)) where
   abbrev pub leaves : ℕ → List ℕ → List (Placed (List ℕ))
   leaves n pids = map (leaf_at ps) (leaves_under ps n pids)
 
-  pub joined-leaves : (pids : List ℕ) → joined (map (leaf_at ps) pids) ≡ pairs (chains ps pids)
+  pub joined-leaves : (pids : List ℕ) → joined (map (leaf_at ps) pids) ≡ pairs (leaf_pages ps pids)
   joined-leaves [] = refl
-  joined-leaves (pid ∷ pids) = ap (λ (x : List (List ℕ × List ℕ)). entries_of (chain_at ps pid) ++ x) (joined-leaves pids)
+  joined-leaves (pid ∷ pids) = ap (λ (x : List (List ℕ × List ℕ)). page.entries (leaf_under ps pid) ++ x) (joined-leaves pids)
 
   leaves-append : (n : ℕ) (xs ys : List ℕ) → leaves n (xs ++ ys) ≡ leaves n xs ++ leaves n ys
   leaves-append n xs ys =
@@ -203,20 +204,28 @@ module _ (ps : List (ℕ × PageOfKind)) where
   -- ---- a way down leaves out only pairs below its key
 
   pub record IsFrom (key : List ℕ) (all found : List ℕ) : Type 0 where
+    pub before : List ℕ
+    pub whole : all ≡ before ++ found
     pub first : ℕ
     pub rest : List ℕ
     pub parts : found ≡ first ∷ rest
-    pub kept : from key (pairs (chains ps all)) ≡ from key (entries_of (chain_at ps first)) ++ pairs (chains ps rest)
+    pub kept : from key (pairs (leaf_pages ps all)) ≡ from key (page.entries (leaf_under ps first)) ++ pairs (leaf_pages ps rest)
 
-  pairs-append : (xs ys : List ℕ) → pairs (chains ps (xs ++ ys)) ≡ pairs (chains ps xs) ++ pairs (chains ps ys)
-  pairs-append xs ys = ap (λ (x : List (Layers (List ℕ))). pairs x) (chains-append ps xs ys) ∙ flat_map-append entries_of (chains ps xs) (chains ps ys)
+  pairs-append : (xs ys : List ℕ) → pairs (leaf_pages ps (xs ++ ys)) ≡ pairs (leaf_pages ps xs) ++ pairs (leaf_pages ps ys)
+  pairs-append xs ys = ap (λ (x : List (Page (List ℕ))). pairs x) (leaf_pages-append ps xs ys) ∙ flat_map-append page.entries (leaf_pages ps xs) (leaf_pages ps ys)
 
   -- where the leaves of the first part lie below the key, and those of the last from it on
-  three_parts : (key : List ℕ) (before here rest all found : List ℕ) → all ≡ before ++ (here ++ rest) → from key (pairs (chains ps before)) ≡ [] → from key (pairs (chains ps rest)) ≡ pairs (chains ps rest)
+  three_parts : (key : List ℕ) (before here rest all found : List ℕ) → all ≡ before ++ (here ++ rest) → from key (pairs (leaf_pages ps before)) ≡ [] → from key (pairs (leaf_pages ps rest)) ≡ pairs (leaf_pages ps rest)
       → IsFrom key here found → IsFrom key all (found ++ rest)
   three_parts key before here rest all found e b r f =
-      let p : List ℕ → List (List ℕ × List ℕ) = λ pids. pairs (chains ps pids) in
+      let p : List ℕ → List (List ℕ × List ℕ) = λ pids. pairs (leaf_pages ps pids) in
       record {
+        before = before ++ f.before;
+        whole =
+            e
+            ∙ ap (λ (x : List ℕ). before ++ (x ++ rest)) f.whole
+            ∙ ap (λ (x : List ℕ). before ++ x) (append_assoc f.before found rest)
+            ∙ sym (append_assoc before f.before (found ++ rest));
         first = f.first;
         rest = f.rest ++ rest;
         parts = ap (λ (x : List ℕ). x ++ rest) f.parts;
@@ -228,9 +237,9 @@ module _ (ps : List (ℕ × PageOfKind)) where
             ∙ ap (λ (x : List (List ℕ × List ℕ)). from key x) (pairs-append here rest)
             ∙ filter-append (λ (x : List ℕ × List ℕ). not (is_below x.0 key)) (p here) (p rest)
             ∙ ap (λ (x : List (List ℕ × List ℕ)). x ++ from key (p rest)) f.kept
-            ∙ ap (λ (x : List (List ℕ × List ℕ)). from key (entries_of (chain_at ps f.first)) ++ p f.rest ++ x) r
-            ∙ append_assoc (from key (entries_of (chain_at ps f.first))) (p f.rest) (p rest)
-            ∙ ap (λ (x : List (List ℕ × List ℕ)). from key (entries_of (chain_at ps f.first)) ++ x) (sym (pairs-append f.rest rest));
+            ∙ ap (λ (x : List (List ℕ × List ℕ)). from key (page.entries (leaf_under ps f.first)) ++ p f.rest ++ x) r
+            ∙ append_assoc (from key (page.entries (leaf_under ps f.first))) (p f.rest) (p rest)
+            ∙ ap (λ (x : List (List ℕ × List ℕ)). from key (page.entries (leaf_under ps f.first)) ++ x) (sym (pairs-append f.rest rest));
       }
 
   from-first : (key low : List ℕ) (ls : List (Placed (List ℕ))) (end : Option (List ℕ)) → Tiled ls end → next_low ls None ≡ Some low → order key low ≡ Less → AreFrom key (keys_of (joined ls))
@@ -241,28 +250,30 @@ module _ (ps : List (ℕ × PageOfKind)) where
 
   -- the pairs below children that begin above the key
   from-rest : (n : ℕ) (key : List ℕ) (es : Names) (end : Option (List ℕ)) → AllByRecursion (IsSubtree n) (children es end) → AllByRecursion (λ j. order key j ≡ Less) (keys_of es)
-      → from key (pairs (chains ps (leaves_under ps n (values_of es)))) ≡ pairs (chains ps (leaves_under ps n (values_of es)))
-  from-rest n key [] end a b = ap (λ (x : List ℕ). from key (pairs (chains ps x))) (under-none ps n) ∙ sym (ap (λ (x : List ℕ). pairs (chains ps x)) (under-none ps n))
+      → from key (pairs (leaf_pages ps (leaves_under ps n (values_of es)))) ≡ pairs (leaf_pages ps (leaves_under ps n (values_of es)))
+  from-rest n key [] end a b = ap (λ (x : List ℕ). from key (pairs (leaf_pages ps x))) (under-none ps n) ∙ sym (ap (λ (x : List ℕ). pairs (leaf_pages ps x)) (under-none ps n))
   from-rest n key (e ∷ es) end a b =
       let t = tiles n (e ∷ es) end a in
       let keys = from-first key e.0 (leaves n (values_of (e ∷ es))) end t.tiled (t.begins None) b.0 in
-      from-none_below key (pairs (chains ps (leaves_under ps n (values_of (e ∷ es)))))
+      from-none_below key (pairs (leaf_pages ps (leaves_under ps n (values_of (e ∷ es)))))
       (subst (λ (x : List (List ℕ × List ℕ)). AreFrom key (keys_of x)) (joined-leaves (leaves_under ps n (values_of (e ∷ es)))) keys)
 
   -- the pairs below children that end where the key is, or before it
-  from-before : (n : ℕ) (key low : List ℕ) (es : Names) → AllByRecursion (IsSubtree n) (children es (Some low)) → is_below key low ≡ false → from key (pairs (chains ps (leaves_under ps n (values_of es)))) ≡ []
+  from-before : (n : ℕ) (key low : List ℕ) (es : Names) → AllByRecursion (IsSubtree n) (children es (Some low)) → is_below key low ≡ false → from key (pairs (leaf_pages ps (leaves_under ps n (values_of es)))) ≡ []
   from-before n key low es a h =
       let t = tiles n es (Some low) a in
       let keys : AreBelow low (keys_of (joined (leaves n (values_of es)))) = before-joined (leaves n (values_of es)) (Some low) t.tiled in
-      from-all_below key (pairs (chains ps (leaves_under ps n (values_of es))))
-      (below_by low key (keys_of (pairs (chains ps (leaves_under ps n (values_of es))))) h (subst (λ (x : List (List ℕ × List ℕ)). AreBelow low (keys_of x)) (joined-leaves (leaves_under ps n (values_of es))) keys))
+      from-all_below key (pairs (leaf_pages ps (leaves_under ps n (values_of es))))
+      (below_by low key (keys_of (pairs (leaf_pages ps (leaves_under ps n (values_of es))))) h (subst (λ (x : List (List ℕ × List ℕ)). AreBelow low (keys_of x)) (joined-leaves (leaves_under ps n (values_of es))) keys))
 
   pub way_down : (n : ℕ) (key : List ℕ) (at : Place) → IsSubtree n at → IsFrom key (leaves_under ps n (at.pid ∷ [])) (leaves_from ps n key at.pid)
   way_down zero key at s = record {
+    before = [];
+    whole = refl;
     first = at.pid;
     rest = [];
     parts = refl;
-    kept = ap (λ (x : List (List ℕ × List ℕ)). from key x) (append-nil (entries_of (chain_at ps at.pid))) ∙ sym (append-nil (from key (entries_of (chain_at ps at.pid))));
+    kept = ap (λ (x : List (List ℕ × List ℕ)). from key x) (append-nil (page.entries (leaf_under ps at.pid))) ∙ sym (append-nil (from key (page.entries (leaf_under ps at.pid))));
   }
   way_down (suc n) key at s =
       let es : Names = entries_at ps at.pid in
@@ -271,8 +282,8 @@ module _ (ps : List (ℕ × PageOfKind)) where
       let all = all_apart (IsSubtree n) (children c.before (Some c.first.0)) (children (c.first ∷ c.rest) at.end)
       (subst (λ (ats : List Place). AllByRecursion (IsSubtree n) ats) (ap (λ (x : Names). children x at.end) c.parts ∙ children-append c.before (c.first ∷ c.rest) at.end) s.5) in
       let others = subst (λ (ats : List Place). AllByRecursion (IsSubtree n) ats) (children-cons c.first c.rest at.end) all.1 in
-      let below : from key (pairs (chains ps (under (values_of c.before)))) ≡ [] = elim c.here [
-        | inl e ↦ ap (λ (x : Names). from key (pairs (chains ps (under (values_of x))))) e ∙ ap (λ (x : List ℕ). from key (pairs (chains ps x))) (under-none ps n)
+      let below : from key (pairs (leaf_pages ps (under (values_of c.before)))) ≡ [] = elim c.here [
+        | inl e ↦ ap (λ (x : Names). from key (pairs (leaf_pages ps (under (values_of x))))) e ∙ ap (λ (x : List ℕ). from key (pairs (leaf_pages ps x))) (under-none ps n)
         | inr h ↦ from-before n key c.first.0 c.before all.0 h
       ] in
       let whole : leaves_under ps (suc n) (at.pid ∷ []) ≡ under (values_of c.before) ++ (under (c.first.1 ∷ []) ++ under (values_of c.rest)) =
@@ -305,22 +316,44 @@ module _ (t : Tree) (held : HoldsLevels t.pages (levels_of t)) (levels : AreLeve
   pub root_is_known : IsKnown t.pages (pred t.height) t.root
   root_is_known = is_known t.pages (pred t.height) (root_place t.pages t.root) whole_tree
 
-  contents-leaves : contents t ≡ pairs (chains t.pages (leaves_under t.pages (pred t.height) (t.root ∷ [])))
+  contents-leaves : contents t ≡ pairs (leaf_pages t.pages (leaves_under t.pages (pred t.height) (t.root ∷ [])))
   contents-leaves =
       ap (λ (ls : List (Placed (List ℕ))). joined ls) (leaves-below t.pages (pred t.height) (t.root ∷ []) []) ∙ joined-leaves t.pages (leaves_under t.pages (pred t.height) (t.root ∷ []))
 
   -- the pairs from a key on are those of the leaf that a way down comes to first, and all those of the others
-  pub contents-from : (key : List ℕ) (leaf : Layers (List ℕ)) (others : List (Layers (List ℕ))) → chains t.pages (leaves_from t.pages (pred t.height) key t.root) ≡ leaf ∷ others
-      → from key (contents t) ≡ from key (entries_of leaf) ++ pairs others
+  pub contents-from : (key : List ℕ) (leaf : Page (List ℕ)) (others : List (Page (List ℕ))) → leaf_pages t.pages (leaves_from t.pages (pred t.height) key t.root) ≡ leaf ∷ others
+      → from key (contents t) ≡ from key (page.entries leaf) ++ pairs others
   contents-from key leaf others h =
       let w = way_down t.pages (pred t.height) key (root_place t.pages t.root) whole_tree in
-      let both : chain_at t.pages w.first ∷ chains t.pages w.rest ≡ leaf ∷ others = sym (ap (λ (x : List ℕ). chains t.pages x) w.parts) ∙ h in
-      let first : chain_at t.pages w.first ≡ leaf = cc in
-      let rest : chains t.pages w.rest ≡ others = cc in
+      let both : leaf_under t.pages w.first ∷ leaf_pages t.pages w.rest ≡ leaf ∷ others = sym (ap (λ (x : List ℕ). leaf_pages t.pages x) w.parts) ∙ h in
+      let first : leaf_under t.pages w.first ≡ leaf = cc in
+      let rest : leaf_pages t.pages w.rest ≡ others = cc in
       ap (λ (x : List (List ℕ × List ℕ)). from key x) contents-leaves
       ∙ w.kept
-      ∙ ap (λ (x : Layers (List ℕ)). from key (entries_of x) ++ pairs (chains t.pages w.rest)) first
-      ∙ ap (λ (x : List (Layers (List ℕ))). from key (entries_of leaf) ++ pairs x) rest
+      ∙ ap (λ (x : Page (List ℕ)). from key (page.entries x) ++ pairs (leaf_pages t.pages w.rest)) first
+      ∙ ap (λ (x : List (Page (List ℕ))). from key (page.entries leaf) ++ pairs x) rest
+
+  -- a way down comes to the last leaves of the level, in their order
+  pub record AreLast (found : List ℕ) : Type 0 where
+    pub before : List (Page (List ℕ))
+    pub whole : map (λ p. p.page) (levels_of t).level ≡ before ++ leaf_pages t.pages found
+
+  pages-placed : (pids : List ℕ) → map (λ (p : Placed (List ℕ)). p.page) (map (leaf_at t.pages) pids) ≡ leaf_pages t.pages pids
+  pages-placed [] = refl
+  pages-placed (pid ∷ pids) = ap (λ (x : List (Page (List ℕ))). leaf_under t.pages pid ∷ x) (pages-placed pids)
+
+  pub last-from : (key : List ℕ) → AreLast (leaves_from t.pages (pred t.height) key t.root)
+  last-from key =
+      let w = way_down t.pages (pred t.height) key (root_place t.pages t.root) whole_tree in
+      let under : List ℕ = leaves_under t.pages (pred t.height) (t.root ∷ []) in
+      record {
+        before = leaf_pages t.pages w.before;
+        whole =
+            ap (λ (ls : List (Placed (List ℕ))). map (λ (p : Placed (List ℕ)). p.page) ls) (leaves-below t.pages (pred t.height) (t.root ∷ []) [])
+            ∙ pages-placed under
+            ∙ ap (λ (x : List ℕ). leaf_pages t.pages x) w.whole
+            ∙ leaf_pages-append t.pages w.before (leaves_from t.pages (pred t.height) key t.root);
+      }
 
   pub contents-rise : IsRising (contents t)
   contents-rise = rising-joined (levels_of t).level None levels.tiled

@@ -10,12 +10,12 @@ use Rattle.index_page.specs.Page.PageOfKind.{Leaf}
 use Rattle.index_page.specs.Children.{child_entries, children_within}
 use Rattle.mapping.specs.Tree.{page_at}
 use Rattle.mapping.specs.TreeInMemory.{TreeInMemory, tree_of}
-use Rattle.scan.specs.Path.{leaves_under, leaves_from, leaves_left, chains, IsKnown, ArePathOf}
+use Rattle.scan.specs.Path.{leaves_under, leaves_from, leaves_left, leaf_with, leaf_pages, IsKnown, ArePathOf}
 use Rattle.scan.specs.Walk.{IsWalk, IsAt, walk_from, walk_left}
-use Rattle.scan.proofs.PathLaws.{leaves_under-append, chains-append, left-push, path-push, path_pop, at_leaf, at_index, there_is_page, under-none, from-nothing}
+use Rattle.scan.proofs.PathLaws.{leaves_under-append, leaf_pages-append, left-push, path-push, path_pop, at_leaf, at_index, there_is_page, under-none, from-nothing}
 
 -- a path with children pushed, where the walk goes on at this page
-pub record IsPushed (t : TreeInMemory) (path : SmallVec (List ℕ)) (key : List ℕ) (child : ℕ) (whole : List (Layers (List ℕ))) : Type 0 where
+pub record IsPushed (t : TreeInMemory) (path : SmallVec (List ℕ)) (key : List ℕ) (child : ℕ) (whole : List (Page (List ℕ))) : Type 0 where
   pub walk : IsWalk t path
   pub known : IsAt t (length path.items) child
   pub leaves : walk_from t (length path.items) key child ++ walk_left t path.items ≡ whole
@@ -36,7 +36,7 @@ module _ (t : TreeInMemory) where
 
   -- children at this level are pushed, of which the first is where the walk goes on
   pushed : (path new : SmallVec (List ℕ)) (m : ℕ) (key : List ℕ) (child : ℕ) (rest : List ℕ) → length path.items + suc m ≡ Top → IsWalk t path → new.items ≡ path.items ++ rest ∷ [] → new.capacity ≡ path.capacity
-      → IsKnown Pages m child → AllByRecursion (IsKnown Pages m) rest → IsPushed t new key child (chains Pages (leaves_from Pages m key child ++ (leaves_under Pages m rest ++ leaves_left Pages Top path.items)))
+      → IsKnown Pages m child → AllByRecursion (IsKnown Pages m) rest → IsPushed t new key child (leaf_pages Pages (leaves_from Pages m key child ++ (leaves_under Pages m rest ++ leaves_left Pages Top path.items)))
   pushed path new m key child rest h w i c k a =
       let long : length new.items ≡ length path.items + 1 = ap (λ (x : List (List ℕ)). length x) i ∙ length-append path.items (rest ∷ []) in
       let level : Top - length new.items ≡ m = omega (arith, long, h) in
@@ -51,15 +51,15 @@ module _ (t : TreeInMemory) where
         };
         known = record { within = omega (arith, long, h); known = subst (λ (j : ℕ). IsKnown Pages j child) (sym level) k };
         leaves =
-            ap (λ (j : ℕ). chains Pages (leaves_from Pages j key child) ++ chains Pages (leaves_left Pages Top new.items)) level
-            ∙ ap (λ (x : List ℕ). chains Pages (leaves_from Pages m key child) ++ chains Pages x) left
-            ∙ sym (chains-append Pages (leaves_from Pages m key child) (leaves_under Pages m rest ++ leaves_left Pages Top path.items));
+            ap (λ (j : ℕ). leaf_pages Pages (leaves_from Pages j key child) ++ leaf_pages Pages (leaves_left Pages Top new.items)) level
+            ∙ ap (λ (x : List ℕ). leaf_pages Pages (leaves_from Pages m key child) ++ leaf_pages Pages x) left
+            ∙ sym (leaf_pages-append Pages (leaves_from Pages m key child) (leaves_under Pages m rest ++ leaves_left Pages Top path.items));
       }
 
   -- ---- down
 
   -- below an index page, the walk goes on at the first child that is kept, and those behind it are pushed
-  pub step_down : (path new : SmallVec (List ℕ)) (key : List ℕ) (pid child : ℕ) (page : PageOfKind) (rest : List ℕ) (whole : List (Layers (List ℕ))) → IsWalk t path → IsAt t (length path.items) pid
+  pub step_down : (path new : SmallVec (List ℕ)) (key : List ℕ) (pid child : ℕ) (page : PageOfKind) (rest : List ℕ) (whole : List (Page (List ℕ))) → IsWalk t path → IsAt t (length path.items) pid
       → Some page ≡ page_at Pages pid → IsIndex page → values_of (children_within key None (child_entries page)) ≡ child ∷ rest
       → new.items ≡ path.items ++ rest ∷ [] → new.capacity ≡ path.capacity → walk_from t (length path.items) key pid ++ walk_left t path.items ≡ whole → IsPushed t new key child whole
   step_down path new key pid child page rest whole w at h x e i c l =
@@ -71,12 +71,12 @@ module _ (t : TreeInMemory) where
       let within = at.within in
       let p = pushed path new s.level key child rest (omega (arith, level, within)) w i c (subst (λ (j : ℕ). IsKnown Pages s.level j) first s.known) (subst (λ (js : List ℕ). AllByRecursion (IsKnown Pages s.level) js) others s.others) in
       let old : List ℕ = leaves_left Pages Top path.items in
-      let same : chains Pages (leaves_from Pages s.level key child ++ (leaves_under Pages s.level rest ++ old)) ≡ whole =
-      ap (λ (x : List ℕ). chains Pages x) (sym (append_assoc (leaves_from Pages s.level key child) (leaves_under Pages s.level rest) old))
-      ∙ ap (λ (j : ℕ). chains Pages (leaves_from Pages s.level key j ++ leaves_under Pages s.level rest ++ old)) (sym first)
-      ∙ ap (λ (js : List ℕ). chains Pages (leaves_from Pages s.level key s.first ++ leaves_under Pages s.level js ++ old)) (sym others)
-      ∙ ap (λ (x : List ℕ). chains Pages (x ++ old)) (sym s.leaves)
-      ∙ chains-append Pages (leaves_from Pages (Top - length path.items) key pid) old
+      let same : leaf_pages Pages (leaves_from Pages s.level key child ++ (leaves_under Pages s.level rest ++ old)) ≡ whole =
+      ap (λ (x : List ℕ). leaf_pages Pages x) (sym (append_assoc (leaves_from Pages s.level key child) (leaves_under Pages s.level rest) old))
+      ∙ ap (λ (j : ℕ). leaf_pages Pages (leaves_from Pages s.level key j ++ leaves_under Pages s.level rest ++ old)) (sym first)
+      ∙ ap (λ (js : List ℕ). leaf_pages Pages (leaves_from Pages s.level key s.first ++ leaves_under Pages s.level js ++ old)) (sym others)
+      ∙ ap (λ (x : List ℕ). leaf_pages Pages (x ++ old)) (sym s.leaves)
+      ∙ leaf_pages-append Pages (leaves_from Pages (Top - length path.items) key pid) old
       ∙ l in
       record { walk = p.walk; known = p.known; leaves = p.leaves ∙ same }
 
@@ -101,13 +101,13 @@ module _ (t : TreeInMemory) where
       omega (arith, r, c)
 
   -- a leaf is where the way down ends
-  pub down_at_leaf : (path : SmallVec (List ℕ)) (key low : List ℕ) (pid : ℕ) (page : PageOfKind) (chain : Layers (List ℕ)) (whole : List (Layers (List ℕ))) → IsAt t (length path.items) pid
-      → Some page ≡ page_at Pages pid → (let p : Page (List ℕ) = record { low = low; layers = chain } in page ≡ Leaf p)
-      → walk_from t (length path.items) key pid ++ walk_left t path.items ≡ whole → whole ≡ chain ∷ walk_left t path.items
+  pub down_at_leaf : (path : SmallVec (List ℕ)) (key low : List ℕ) (pid : ℕ) (page : PageOfKind) (chain : Layers (List ℕ)) (whole : List (Page (List ℕ))) → IsAt t (length path.items) pid
+      → Some page ≡ page_at Pages pid → page ≡ Leaf (leaf_with low chain)
+      → walk_from t (length path.items) key pid ++ walk_left t path.items ≡ whole → whole ≡ leaf_with low chain ∷ walk_left t path.items
   down_at_leaf path key low pid page chain whole at h p l =
       let left : List ℕ = leaves_left Pages Top path.items in
       sym l
-      ∙ sym (chains-append Pages (leaves_from Pages (Top - length path.items) key pid) left)
+      ∙ sym (leaf_pages-append Pages (leaves_from Pages (Top - length path.items) key pid) left)
       ∙ at_leaf Pages (Top - length path.items) pid key low chain left at.known (ap (λ (x : PageOfKind). Some x) (sym p) ∙ h)
 
   -- ---- along
@@ -127,10 +127,10 @@ module _ (t : TreeInMemory) where
       ∙ ap (λ (x : List ℕ). x ++ old) (sym (leaves_under-append Pages top.level (child ∷ []) rest))
       ∙ ap (λ (js : List ℕ). leaves_under Pages top.level js ++ old) (sym e)
       ∙ sym (ap (λ (x : List (List ℕ)). leaves_left Pages Top x) i ∙ left-push Pages Top top.level popped.items step top.height) in
-      record { walk = p.walk; known = p.known; leaves = p.leaves ∙ ap (λ (x : List ℕ). chains Pages x) same }
+      record { walk = p.walk; known = p.known; leaves = p.leaves ∙ ap (λ (x : List ℕ). leaf_pages Pages x) same }
 
   -- where it has none left, the walk goes on above it
-  pub step_up : (path popped : SmallVec (List ℕ)) (step : List ℕ) (whole : List (Layers (List ℕ))) → IsWalk t path → path.items ≡ popped.items ++ step ∷ [] → popped.capacity ≡ path.capacity → step ≡ [] → walk_left t path.items ≡ whole
+  pub step_up : (path popped : SmallVec (List ℕ)) (step : List ℕ) (whole : List (Page (List ℕ))) → IsWalk t path → path.items ≡ popped.items ++ step ∷ [] → popped.capacity ≡ path.capacity → step ≡ [] → walk_left t path.items ≡ whole
       → IsWalk t popped × (walk_left t popped.items ≡ whole)
   step_up path popped step whole w i c e l =
       let top = path_pop Pages Top popped.items step (subst (λ (x : List (List ℕ)). ArePathOf Pages Top x) i w.known) in
@@ -138,7 +138,7 @@ module _ (t : TreeInMemory) where
       ap (λ (x : List (List ℕ)). leaves_left Pages Top x) i
       ∙ left-push Pages Top top.level popped.items step top.height
       ∙ ap (λ (x : List ℕ). x ++ leaves_left Pages Top popped.items) (ap (λ (js : List ℕ). leaves_under Pages top.level js) e ∙ under-none Pages top.level) in
-      (record { home = w.home; height = w.height; known = top.below; room = c ∙ w.room }, ap (λ (x : List ℕ). chains Pages x) (sym same) ∙ l)
+      (record { home = w.home; height = w.height; known = top.below; room = c ∙ w.room }, ap (λ (x : List ℕ). leaf_pages Pages x) (sym same) ∙ l)
 
   pub room_again : (path popped : SmallVec (List ℕ)) (step : List ℕ) → IsWalk t path → path.items ≡ popped.items ++ step ∷ [] → popped.capacity ≡ path.capacity → length popped.items + 1 ≤ popped.capacity
   room_again path popped step w i c =

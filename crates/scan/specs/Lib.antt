@@ -1,4 +1,5 @@
 pub mod Ahead
+pub mod Ends
 pub mod Kept
 pub mod Leaf
 pub mod Left

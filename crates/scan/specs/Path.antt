@@ -3,8 +3,8 @@ use Rattle.std.specs.Prelude.{◌≡◌, ℕ, zero, suc, ◌<◌, ⊤, List, [],
 use Rattle.std.specs.List.{AllByRecursion}
 use Rattle.std.specs.Map.{values_of}
 use Rattle.keys.specs.Order.{IsRising}
-use Rattle.delta_chain.specs.Layers.{Layers, entries_of}
-use Rattle.index_page.specs.Page.{PageOfKind, entries}
+use Rattle.delta_chain.specs.Layers.{Layers}
+use Rattle.index_page.specs.Page.{Page, PageOfKind, entries}
 use Rattle.index_page.specs.Page.PageOfKind.{Leaf, Index}
 use Rattle.index_page.specs.Children.{children_within}
 use Rattle.mapping.specs.Tree.{page_at}
@@ -40,16 +40,20 @@ leaves_left ps n [] = []
 leaves_left ps zero (pids ∷ path) = []
 leaves_left ps (suc n) (pids ∷ path) = leaves_left ps n path ++ leaves_under ps n pids
 
--- what the leaf under a pid holds, and the leaves under some pids
-abbrev pub chain_at : List (ℕ × PageOfKind) → ℕ → Layers (List ℕ)
-chain_at ps pid = (as_leaf (page_at ps pid)).layers
+-- a leaf: its low key, and what it holds
+abbrev pub leaf_with : List ℕ → Layers (List ℕ) → Page (List ℕ)
+leaf_with low layers = record { low = low; layers = layers }
 
-abbrev pub chains : List (ℕ × PageOfKind) → List ℕ → List (Layers (List ℕ))
-chains ps pids = map (chain_at ps) pids
+-- the leaf under a pid, and those under some pids
+abbrev pub leaf_under : List (ℕ × PageOfKind) → ℕ → Page (List ℕ)
+leaf_under ps pid = as_leaf (page_at ps pid)
 
--- the pairs of chains, each behind those of the one before it
-abbrev pub pairs : List (Layers (List ℕ)) → List (List ℕ × List ℕ)
-pairs cs = flat_map entries_of cs
+abbrev pub leaf_pages : List (ℕ × PageOfKind) → List ℕ → List (Page (List ℕ))
+leaf_pages ps pids = map (leaf_under ps) pids
+
+-- the pairs of leaves, each behind those of the one before it
+abbrev pub pairs : List (Page (List ℕ)) → List (List ℕ × List ℕ)
+pairs ls = flat_map entries ls
 
 -- under the pid is a leaf, or n levels above the leaves an index page with children, by rising keys, and each is such a page
 abbrev pub IsKnown : List (ℕ × PageOfKind) → ℕ → ℕ → Type 0

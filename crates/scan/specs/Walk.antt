@@ -1,9 +1,9 @@
 -- A walk over the leaves of a tree in memory, by a path with room for 64 levels.
 use Rattle.std.specs.Prelude.{◌≡◌, ℕ, pred, ◌-◌, ◌≤◌, List}
 use Rattle.smallvec.specs.SmallVec.{SmallVec}
-use Rattle.delta_chain.specs.Layers.{Layers}
+use Rattle.index_page.specs.Page.{Page}
 use Rattle.mapping.specs.TreeInMemory.{TreeInMemory, AreAllHome, tree_of}
-use Rattle.scan.specs.Path.{leaves_from, leaves_left, chains, IsKnown, ArePathOf}
+use Rattle.scan.specs.Path.{leaves_from, leaves_left, leaf_pages, IsKnown, ArePathOf}
 
 -- no page is away, there are at most 64 levels, the path has pages of the tree, and room for a page of each level
 pub record IsWalk (t : TreeInMemory) (path : SmallVec (List ℕ)) : Type 0 where
@@ -18,8 +18,8 @@ pub record IsAt (t : TreeInMemory) (depth : ℕ) (pid : ℕ) : Type 0 where
   pub known : IsKnown (tree_of t).pages (pred t.height - depth) pid
 
 -- the leaves that a way down for the key from this page comes to, and those that a path leads to
-abbrev pub walk_from : TreeInMemory → ℕ → List ℕ → ℕ → List (Layers (List ℕ))
-walk_from t depth key pid = chains (tree_of t).pages (leaves_from (tree_of t).pages (pred t.height - depth) key pid)
+abbrev pub walk_from : TreeInMemory → ℕ → List ℕ → ℕ → List (Page (List ℕ))
+walk_from t depth key pid = leaf_pages (tree_of t).pages (leaves_from (tree_of t).pages (pred t.height - depth) key pid)
 
-abbrev pub walk_left : TreeInMemory → List (List ℕ) → List (Layers (List ℕ))
-walk_left t path = chains (tree_of t).pages (leaves_left (tree_of t).pages (pred t.height) path)
+abbrev pub walk_left : TreeInMemory → List (List ℕ) → List (Page (List ℕ))
+walk_left t path = leaf_pages (tree_of t).pages (leaves_left (tree_of t).pages (pred t.height) path)

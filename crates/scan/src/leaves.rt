@@ -1,6 +1,7 @@
 ghost use Rattle.std.specs.Prelude.{◌≡◌, ◌∷◌, ◌++◌, [], ◌≤◌, length, MatchOption};
 ghost use Rattle.std.specs.Iterator.{YieldsFirstBy, item_count};
 ghost use Rattle.mapping.specs.TreeInMemory.{AreAllHome};
+ghost use Rattle.scan.specs.Path.{leaf_with};
 ghost use Rattle.scan.specs.Walk.{IsWalk, IsAt, walk_from, walk_left};
 
 use crate::step::Step;
@@ -11,40 +12,42 @@ use smallvec::SmallVec;
 use std::alloc::Global;
 use std::marker::Model;
 
-/// A leaf's values.
-pub(crate) type Leaf<'a> = &'a Chain<Value<Global>, Global>;
+/// A leaf: its low key, and its values.
+pub(crate) type Leaf<'a> = (&'a [u8], &'a Chain<Value<Global>, Global>);
 
 // The index pages on the way to a leaf, from the root down, each with its children behind that way. A tree has at most 64
 // levels, so it needs no memory.
-type Path<'a> = SmallVec<Step<'a>, 64>;
+type Path<'k> = SmallVec<Step<'k>, 64>;
 
 /// The leaves of a tree behind one that was come to, from left to right. From one to the next it goes up only as far as
-/// there are no more children, and takes no memory. Contracts see it as what the leaves hold.
+/// there are no more children, and takes no memory. Contracts see it as these pages. The
+/// key that it began at needn't live as long as the tree.
 #[derive(Drop)]
-pub(crate) struct Leaves<'a> {
+pub(crate) struct Leaves<'a, 'k> {
     tree: &'a Tree<Global>,
-    path: Path<'a>,
+    path: Path<'k>,
 }
 
-impl<'a> Model for Leaves<'a> {
+impl<'a, 'k> Model for Leaves<'a, 'k> {
     ghost use Rattle.std.specs.Prelude.{List, ℕ};
-    ghost use Rattle.delta_chain.specs.Layers.{Layers};
+    ghost use Rattle.index_page.specs.Page.{Page};
     ghost use Rattle.scan.specs.Walk.{IsWalk, walk_left};
 
-    ghost Value = { List (Layers (List ℕ)) };
+    ghost Value = { List (Page (List ℕ)) };
 
     ghost view = { λ l. walk_left l.tree.now l.path.items };
 
     ghost invariant = { λ l. IsWalk l.tree.now l.path };
 }
 
-impl<'a> Leaves<'a> {
+impl<'a: 'k, 'k> Leaves<'a, 'k> {
     // The leaf for the key, and those behind it.
-    pub(crate) fn new(alloc: Global, tree: &'a Tree<Global>, key: &'a [u8]) -> (Leaf<'a>, Self)
+    pub(crate) fn new(alloc: Global, tree: &'a Tree<Global>, key: &'k [u8]) -> (Leaf<'a>, Self)
         requires home { AreAllHome tree.now }
         requires height { tree.now.height ≤ 64 }
         requires known { IsAt tree.now 0 tree.now.root }
-        ensures { walk_from tree.now 0 key.now tree.now.root ≡ result.0.now ∷ result.1 }
+        ensures { walk_from tree.now 0 key.now tree.now.root
+            ≡ leaf_with result.0.0.now result.0.1.now ∷ result.1 }
     {
         let mut path = SmallVec::new(alloc);
         let first = descend(tree, &mut path, tree.root(), key);
@@ -52,10 +55,10 @@ impl<'a> Leaves<'a> {
     }
 }
 
-impl<'a> Iterator for Leaves<'a> {
+impl<'a: 'k, 'k> Iterator for Leaves<'a, 'k> {
     type Item = Leaf<'a>;
 
-    ghost next_gives = { YieldsFirstBy (λ item. item.now) (λ left. left) };
+    ghost next_gives = { YieldsFirstBy (λ item. leaf_with item.0.now item.1.now) (λ left. left) };
 
     ghost remaining = { item_count (λ left. left) };
 
@@ -65,19 +68,26 @@ impl<'a> Iterator for Leaves<'a> {
 }
 
 // Goes down from this page to the leaf for the key, the children behind the way onto the path.
-fn descend<'a>(tree: &'a Tree<Global>, path: &mut Path<'a>, from: Pid, key: &'a [u8]) -> Leaf<'a>
+fn descend<'a: 'k, 'k>(
+    tree: &'a Tree<Global>,
+    path: &mut Path<'k>,
+    from: Pid,
+    key: &'k [u8],
+) -> Leaf<'a>
     requires walk { IsWalk tree.now path.old }
     requires known { IsAt tree.now (length path.old.items) from }
     ensures walk { IsWalk tree.now path.new }
-    ensures leaves { walk_from tree.now (length path.old.items) key.now from ++ walk_left tree.now path.old.items ≡ result.now ∷ walk_left tree.now path.new.items }
+    ensures leaves { walk_from tree.now (length path.old.items) key.now from
+        ++ walk_left tree.now path.old.items
+        ≡ leaf_with result.0.now result.1.now ∷ walk_left tree.now path.new.items }
 {
     let mut pid = from;
     loop {
         let Some(page) = tree.page(pid) else {
             unreachable!()
         };
-        if let Some(leaf) = page.as_leaf() {
-            return leaf;
+        if let Some(chain) = page.as_leaf() {
+            return (page.low(), chain);
         }
         let mut step = Step::new(page.children(key, None));
         let Some(child) = step.next() else {
@@ -89,11 +99,12 @@ fn descend<'a>(tree: &'a Tree<Global>, path: &mut Path<'a>, from: Pid, key: &'a 
 }
 
 // The next leaf on the path, which leads to those behind it afterwards.
-fn next_leaf<'a>(tree: &'a Tree<Global>, path: &mut Path<'a>) -> Option<Leaf<'a>>
+fn next_leaf<'a: 'k, 'k>(tree: &'a Tree<Global>, path: &mut Path<'k>) -> Option<Leaf<'a>>
     requires { IsWalk tree.now path.old }
     ensures walk { IsWalk tree.now path.new }
     ensures leaves { MatchOption result ((walk_left tree.now path.old.items ≡ []) × (walk_left tree.now path.new.items ≡ []))
-        (λ leaf. walk_left tree.now path.old.items ≡ leaf.now ∷ walk_left tree.now path.new.items) }
+        (λ leaf. walk_left tree.now path.old.items
+        ≡ leaf_with leaf.0.now leaf.1.now ∷ walk_left tree.now path.new.items) }
 {
     while let Some(mut step) = path.pop() {
         if let Some(child) = step.next() {

@@ -1,10 +1,11 @@
 //! Rows of a range of keys, lent out of a tree's pages in key order. A scan goes along the leaves, from one to the next, and
-//! takes no memory.
+//! takes no memory. And for a batch, the keys at which its scans may end.
 #![tactic(auto)]
 
 mod ahead;
 mod base_pairs;
 mod changes;
+mod ends;
 pub mod leaf;
 mod leaves;
 mod merge;
@@ -12,5 +13,6 @@ pub mod rows;
 mod search;
 mod step;
 
+pub use crate::ends::scan_ends;
 pub use crate::leaf::LeafPairs;
 pub use crate::rows::Rows;

@@ -20,7 +20,7 @@ use std::marker::Model;
 pub struct Rows<'a> {
     alloc: Global,
     leaf: LeafPairs<'a>,
-    leaves: Leaves<'a>,
+    leaves: Leaves<'a, 'a>,
     hi: Option<&'a [u8]>,
     left: u32,
 }
@@ -54,7 +54,7 @@ impl<'a> Rows<'a> {
         let (first, leaves) = Leaves::new(alloc, tree, lo);
         Rows {
             alloc,
-            leaf: LeafPairs::new(alloc, first, lo),
+            leaf: LeafPairs::new(alloc, first.1, lo),
             leaves,
             hi,
             left: limit,
@@ -90,7 +90,7 @@ impl<'a> Iterator for Rows<'a> {
 fn next_pair<'a>(
     alloc: Global,
     leaf: &mut LeafPairs<'a>,
-    leaves: &mut Leaves<'a>,
+    leaves: &mut Leaves<'a, 'a>,
 ) -> Option<(&'a [u8], &'a Value<Global>)>
     ensures { MatchOption result (pairs_left leaf.old leaves.old ≡ []) (λ pair. pairs_left leaf.old leaves.old ≡ (pair.0.now, pair.1.now) ∷ pairs_left leaf.new leaves.new) }
 {
@@ -99,14 +99,14 @@ fn next_pair<'a>(
             return Some(pair);
         }
         match leaves.next() {
-            Some(chain) => leaf.restart(alloc, chain),
+            Some((_, chain)) => leaf.restart(alloc, chain),
             None => return None,
         }
     }
 }
 
 // Whether the key is below the end; each is where there is none.
-fn is_before(end: Option<&[u8]>, key: &[u8]) -> bool
+pub(crate) fn is_before(end: Option<&[u8]>, key: &[u8]) -> bool
     ensures { result ≡ is_before (option_copied end.entry) key.now }
 {
     match end {

@@ -1,4 +1,4 @@
-use Rattle.std.proofs.Common.{refl, ap, sym, subst, ◌∙◌, slice_set, slice_index_or, ℕ, []}
+use Rattle.std.proofs.Common.{ap, sym, subst, ◌∙◌, slice_set, slice_index_or, ℕ, []}
 use Rattle.std.proofs.lemmas.List.Edits.{map_over_more}
 use Rattle.keys.specs.Order.{IsRising}
 use Rattle.scan.specs.Leaf.{behind}

@@ -2,4 +2,4 @@ use Rattle.scan.proofs.RowLaws.{next_leaf_left}
 use Rattle.scan.proofs.rows.next_pair.Goals as goal
 
 pub loop-pair-preserved : goal.loop-pair-preserved
-loop-pair-preserved c = next_leaf_left c.loop-pair.leaf c.loop-pair.leaves c.next-in-loop-pair.new.self c.in-Some-next.chain.now c.restart.new.self _ c.in_default.ensures.steps.0 c.in-Some-next.ensures.steps c.restart.ensures c.loop-pair.invariant
+loop-pair-preserved c = next_leaf_left c.loop-pair.leaf c.loop-pair.leaves c.next-in-loop-pair.new.self _ c.in-Some-next.chain.now c.restart.new.self _ c.in_default.ensures.steps.0 c.in-Some-next.ensures.steps c.restart.ensures c.loop-pair.invariant

@@ -1,0 +1,207 @@
+-- Lemmas on how many pairs a range has at least, after commands of which some delete.
+use Rattle.std.specs.Prelude.{◌≡◌, ℕ, zero, suc, ◌+◌, ◌-◌, ◌<◌, ◌≤◌, Bool, true, false, not, ◌&&◌, cond, List, [], ◌∷◌, ◌++◌, length, take, drop, Some, is_some, if◌then◌else◌}
+use Rattle.std.proofs.Common.{refl, sym, ap, ◌∙◌, subst, arith, Ordering, Less, Equal, Greater, length-append, length-drop, get_or}
+use Rattle.std.specs.List.{AllByRecursion, filter}
+use Rattle.std.specs.List.Sorted.{IsPermutation, IsSorted, IsPartitionedBy, IsPartitionPoint}
+use Rattle.std.specs.Ordering.{is_lt, is_eq, match_ordering}
+use Rattle.std.proofs.lemmas.Grind.{flat_map-append}
+use Rattle.std.proofs.lemmas.List.{get_or-take, get_or-drop, length-take}
+use Rattle.std.proofs.lemmas.List.Elements.{filter-append, recursion_from_All}
+use Rattle.std.proofs.lemmas.List.Sums.{length-filter}
+use Rattle.std.proofs.lemmas.List.Sorted.{sum_by-IsPermutation, sorted_far, ranks_by}
+use Rattle.keys.specs.Order.{order}
+use Rattle.keys.specs.OrderedMap.{value_at, with_pair, without}
+use Rattle.keys.specs.Range.{is_below, is_within, in_range}
+use Rattle.keys.specs.Step.{map_after, map_after_all}
+use Rattle.keys.specs.declared.command.Command.{Command}
+use Rattle.keys.specs.declared.command.Command.TheVariants.{Get, Put, Add, Del, Scan}
+use Rattle.keys.proofs.MapLaws.{total, passes_same}
+use Rattle.index_page.proofs.RangeLaws.{less_is_below, below_is_less, less_through}
+use Rattle.scan.specs.Ends.{deleted_by, deleted, count_within, count_below, LacksAtMost, AreCertain}
+
+-- ---- how many are kept of a list, one element at a time
+
+module _ {X : Type 0} where
+  same_by : (b : Bool) (x y : X) (xs ys : List X) → length xs ≤ length ys → length (cond b (x ∷ xs) xs) ≤ length (cond b (y ∷ ys) ys)
+  same_by true x y xs ys h = omega arith
+  same_by false x y xs ys h = h
+
+  more_by : (b : Bool) (x : X) (xs : List X) → length xs ≤ length (cond b (x ∷ xs) xs)
+  more_by true x xs = omega arith
+  more_by false x xs = omega arith
+
+  plus_by : (b : Bool) (n : ℕ) (x : X) (xs ys : List X) → length xs ≤ length ys + n → length (cond b (x ∷ xs) xs) ≤ length (cond b (x ∷ ys) ys) + n
+  plus_by true n x xs ys h = omega arith
+  plus_by false n x xs ys h = h
+
+  one_by : {Y : Type 0} (b : Bool) (x : X) (xs : List X) (y : Y) → length (cond b (x ∷ xs) xs) ≤ length xs + length (cond b (y ∷ []) [])
+  one_by true x xs y = omega arith
+  one_by false x xs y = omega arith
+
+  -- those that pass one test and not another that is narrower, and those that pass this one
+  apart_by : (a b : Bool) (x : X) (both less all : List X) → (a ≡ true → b ≡ true) → length both + length less ≡ length all
+      → length (cond (not a && b) (x ∷ both) both) + length (cond a (x ∷ less) less) ≡ length (cond b (x ∷ all) all)
+  apart_by true true x both less all i h = omega (arith, h)
+  apart_by true false x both less all i h = absurd (let f = i refl in cc)
+  apart_by false true x both less all i h = omega (arith, h)
+  apart_by false false x both less all i h = h
+
+  apart : (f g : X → Bool) (xs : List X) → ((x : X) → f x ≡ true → g x ≡ true) → length (filter (λ x. not (f x) && g x) xs) + length (filter f xs) ≡ length (filter g xs)
+  apart f g [] i = refl
+  apart f g (x ∷ xs) i = apart_by (f x) (g x) x (filter (λ x. not (f x) && g x) xs) (filter f xs) (filter g xs) (i x) (apart f g xs i)
+
+  -- of three tests, each narrower than the next: what lies between them
+  between_by : (a b c : Bool) (x : X) (low high all : List X) → (a ≡ true → b ≡ true) → (b ≡ true → c ≡ true) → length low + length high ≤ length all
+      → length (cond (not a && b) (x ∷ low) low) + length (cond (not b && c) (x ∷ high) high) ≤ length (cond (not a && c) (x ∷ all) all)
+  between_by true true true x low high all i j h = h
+  between_by true true false x low high all i j h = absurd (let f = j refl in cc)
+  between_by true false c x low high all i j h = absurd (let f = i refl in cc)
+  between_by false true true x low high all i j h = omega (arith, h)
+  between_by false true false x low high all i j h = absurd (let f = j refl in cc)
+  between_by false false true x low high all i j h = omega (arith, h)
+  between_by false false false x low high all i j h = h
+
+  between : (f g h : X → Bool) (xs : List X) → ((x : X) → f x ≡ true → g x ≡ true) → ((x : X) → g x ≡ true → h x ≡ true)
+      → length (filter (λ x. not (f x) && g x) xs) + length (filter (λ x. not (g x) && h x) xs) ≤ length (filter (λ x. not (f x) && h x) xs)
+  between f g h [] i j = omega arith
+  between f g h (x ∷ xs) i j =
+      between_by (f x) (g x) (h x) x (filter (λ x. not (f x) && g x) xs) (filter (λ x. not (g x) && h x) xs) (filter (λ x. not (f x) && h x) xs) (i x) (j x) (between f g h xs i j)
+
+  further_by : (a b c : Bool) (x : X) (less all : List X) → (b ≡ true → c ≡ true) → length less ≤ length all → length (cond (not a && b) (x ∷ less) less) ≤ length (cond (not a && c) (x ∷ all) all)
+  further_by true b c x less all j h = h
+  further_by false true true x less all j h = omega (arith, h)
+  further_by false true false x less all j h = absurd (let f = j refl in cc)
+  further_by false false true x less all j h = omega (arith, h)
+  further_by false false false x less all j h = h
+
+  further : (f g h : X → Bool) (xs : List X) → ((x : X) → g x ≡ true → h x ≡ true) → length (filter (λ x. not (f x) && g x) xs) ≤ length (filter (λ x. not (f x) && h x) xs)
+  further f g h [] j = omega arith
+  further f g h (x ∷ xs) j = further_by (f x) (g x) (h x) x (filter (λ x. not (f x) && g x) xs) (filter (λ x. not (f x) && h x) xs) (j x) (further f g h xs j)
+
+  -- where those that pass stand first, they are as many as stand there
+  pub parted : (f : X → Bool) (n : ℕ) (xs : List X) → n ≤ length xs → AllByRecursion (λ x. f x ≡ true) (take n xs) → AllByRecursion (λ x. f x ≡ false) (drop n xs) → length (filter f xs) ≡ n
+  parted f zero [] l a b = refl
+  parted f (suc n) [] l a b = absurd (omega (arith, l))
+  parted f zero (x ∷ xs) l a b = rw b.0 (parted f zero xs (omega arith) tt b.1)
+  parted f (suc n) (x ∷ xs) l a b = rw a.0 (ap suc (parted f n xs (omega (arith, l)) a.1 b))
+
+  pub parted_point : (f : X → Bool) (n : ℕ) (xs : List X) → n ≤ length xs → IsPartitionPoint (λ x. f x ≡ true) (λ x. f x ≡ false) xs n → length (filter f xs) ≡ n
+  parted_point f n xs l h =
+      parted f n xs l (recursion_from_All (λ x. f x ≡ true) (take n xs) (λ k d b.
+      let r : k < n = omega (arith, length-take n xs) in
+      rw (get_or-take n xs k d r) (h.0 k d (omega arith) r))) (recursion_from_All (λ x. f x ≡ false) (drop n xs) (λ k d b.
+      let r : n + k < length xs = omega (arith, length-drop n xs) in
+      rw (get_or-drop n xs k d) (h.1 (n + k) d (omega arith) r)))
+
+-- ---- keys
+
+below_by : (b : Bool) (i j k : List ℕ) → is_below i k ≡ b → is_below j i ≡ false → is_below j k ≡ true → b ≡ true
+below_by true i j k e n h = refl
+below_by false i j k e n h = absurd (let t : is_below j i ≡ true = less_is_below j i (less_through j i k h e) in cc)
+
+-- what isn't above a key that is below another is below that one
+below_too : (i j k : List ℕ) → is_below j i ≡ false → is_below j k ≡ true → is_below i k ≡ true
+below_too i j k n h = below_by (is_below i k) i j k refl n h
+
+below_through : (i j k : List ℕ) → is_below i j ≡ true → is_below j k ≡ true → is_below i k ≡ true
+below_through i j k h l = less_is_below i k (total.trans i j k (below_is_less i j h) (below_is_less j k l))
+
+-- what is below a key is below one that isn't below that key
+below_higher : (i j k : List ℕ) → is_below k j ≡ false → is_below i j ≡ true → is_below i k ≡ true
+below_higher i j k n h = less_is_below i k (less_through i k j h n)
+
+-- of sorted keys, those below a key stand first
+pub parted_keys : (key : List ℕ) (keys : List (List ℕ)) → IsSorted order keys → IsPartitionedBy (λ k. is_below k key) keys
+parted_keys key keys s = λ i j d l w h.
+    below_too (get_or keys i d) (get_or keys j d) key (sorted_far (λ x y. is_lt (order x y)) (ranks_by total (λ k. k)) keys s i j d l w) h
+
+-- those within a range are those below its end, but for those below its start
+pub count_between : (low end : List ℕ) (keys : List (List ℕ)) → is_below low end ≡ true → count_within low end keys + count_below low keys ≡ count_below end keys
+count_between low end keys h = apart (λ k. is_below k low) (λ k. is_below k end) keys (λ k b. below_through k low end b h)
+
+-- ---- what commands leave in a range
+
+abbrev pub Pairs : Type 0
+Pairs = List (List ℕ × List ℕ)
+
+module _ (t : List ℕ → Bool) where
+  abbrev Passing : Pairs → Pairs
+  Passing es = filter (λ e. t e.0) es
+
+  put_by : (o : Ordering) (k v : List ℕ) (e : List ℕ × List ℕ) (es rest : Pairs) → length (Passing es) ≤ length (Passing rest) → length (Passing (e ∷ es)) ≤ length (Passing (match_ordering o ((k, v) ∷ e ∷ es) ((e.0, v) ∷ es) (e ∷ rest)))
+  put_by Less k v e es rest h = more_by (t k) (k, v) (Passing (e ∷ es))
+  put_by Equal k v e es rest h = same_by (t e.0) e (e.0, v) (Passing es) (Passing es) (omega arith)
+  put_by Greater k v e es rest h = same_by (t e.0) e e (Passing es) (Passing rest) h
+
+  -- a pair that is put takes none away
+  most_put : (m : Pairs) (k v : List ℕ) → length (Passing m) ≤ length (Passing (with_pair m k v))
+  most_put [] k v = more_by (t k) (k, v) []
+  most_put (e ∷ es) k v = put_by (order k e.0) k v e es (with_pair es k v) (most_put es k v)
+
+  either : (b : Bool) (m n : Pairs) → length (Passing m) ≤ length (Passing n) → length (Passing m) ≤ length (Passing (if b then m else n))
+  either true m n h = omega arith
+  either false m n h = h
+
+  del_by : (b : Bool) (k : List ℕ) (e : List ℕ × List ℕ) (es rest : Pairs) → is_eq (order k e.0) ≡ b → length (Passing es) ≤ length (Passing rest) + length (filter t (k ∷ []))
+      → length (Passing (e ∷ es)) ≤ length (Passing (cond b es (e ∷ rest))) + length (filter t (k ∷ []))
+  del_by true k e es rest q h =
+      subst (λ (c : Bool). length (Passing (e ∷ es)) ≤ length (Passing es) + length (cond c (k ∷ []) [])) (ap t (sym (passes_same k e.0 q))) (one_by (t e.0) e (Passing es) k)
+  del_by false k e es rest q h = plus_by (t e.0) (length (filter t (k ∷ []))) e (Passing es) (Passing rest) h
+
+  -- a key that is deleted takes one away at most, where it passes
+  most_del : (m : Pairs) (k : List ℕ) → length (Passing m) ≤ length (Passing (without m k)) + length (filter t (k ∷ []))
+  most_del [] k = omega arith
+  most_del (e ∷ es) k = del_by (is_eq (order k e.0)) k e es (without es k) refl (most_del es k)
+
+  among : (xs ys : List (List ℕ)) → length (filter t (xs ++ ys)) ≡ length (filter t xs) + length (filter t ys)
+  among xs ys = ap (λ (zs : List (List ℕ)). length zs) (filter-append t xs ys) ∙ length-append (filter t xs) (filter t ys)
+
+  module _ {A : Type 0} where
+    most_after : (m : Pairs) (c : Command A) → length (Passing m) ≤ length (Passing (map_after m c)) + length (filter t (deleted_by c))
+    most_after m (Get k) = omega arith
+    most_after m (Put k v) = let h = most_put m k v in omega (arith, h)
+    most_after m (Add k v) = let h = either (is_some (value_at k m)) m (with_pair m k v) (most_put m k v) in omega (arith, h)
+    most_after m (Del k) = most_del m k
+    most_after m (Scan lo hi limit) = omega arith
+
+    most_after_all : (m : Pairs) (cs : List (Command A)) → length (Passing m) ≤ length (Passing (map_after_all m cs)) + length (filter t (deleted cs))
+    most_after_all m [] = omega arith
+    most_after_all m (c ∷ cs) =
+        let one = most_after m c in
+        let rest = most_after_all (map_after m c) cs in
+        let parts = among (deleted_by c) (deleted cs) in
+        omega (arith, one, rest, parts)
+
+    -- the first commands delete no more than all do
+    most_of_first : (xs ys : List (Command A)) → length (filter t (deleted xs)) ≤ length (filter t (deleted (xs ++ ys)))
+    most_of_first xs ys =
+        let whole : length (filter t (deleted (xs ++ ys))) ≡ length (filter t (deleted xs)) + length (filter t (deleted ys)) =
+        ap (λ (ks : List (List ℕ)). length (filter t ks)) (flat_map-append deleted_by xs ys) ∙ among (deleted xs) (deleted ys) in
+        omega (arith, whole)
+
+  same_count : (xs ys : List (List ℕ)) → IsPermutation xs ys → length (filter t ys) ≡ length (filter t xs)
+  same_count xs ys p = length-filter t ys ∙ sum_by-IsPermutation (λ k. cond (t k) 1 0) xs ys p ∙ sym (length-filter t xs)
+
+-- after some of the commands, in each range at most as many pairs are lacking as the commands delete there
+pub lacks : {A : Type 0} → (m : Pairs) (xs ys : List (Command A)) (keys : List (List ℕ)) → IsPermutation (deleted (xs ++ ys)) keys → LacksAtMost keys m (map_after_all m xs)
+lacks m xs ys keys p = λ low end.
+    let t : List ℕ → Bool = λ k. is_within low (Some end) k in
+    let most = most_after_all t m xs in
+    let first = most_of_first t xs ys in
+    let same = same_count t (deleted (xs ++ ys)) keys p in
+    omega (arith, most, first, same)
+
+-- ---- a leaf's share
+
+-- nothing is counted of a leaf within which the scan begins
+pub none_certain : (lo low end : List ℕ) (m : Pairs) → is_below low end ≡ true → AreCertain lo m low end 0
+none_certain lo low end m h = let f = further (λ e. is_below e.0 lo) (λ e. is_below e.0 low) (λ e. is_below e.0 end) m (λ e b. below_through e.0 low end b h) in omega (arith, f)
+
+-- of another, what it has at least, less the keys that are deleted there
+pub some_certain : (lo low end : List ℕ) (keys : List (List ℕ)) (m n es : Pairs) (fewest gone left : ℕ) → is_below low lo ≡ false → is_below low end ≡ true → LacksAtMost keys m n → es ≡ in_range low (Some end) m → fewest ≤ length es
+    → count_within low end keys ≤ gone → left ≡ fewest - gone → AreCertain lo n low end left
+some_certain lo low end keys m n es fewest gone left b h l e f c s =
+    let here : length es ≡ length (in_range low (Some end) m) = ap (λ (x : Pairs). length x) e in
+    let lack = l low end in
+    let sum = between (λ e. is_below e.0 lo) (λ e. is_below e.0 low) (λ e. is_below e.0 end) n (λ e q. below_higher e.0 lo low b q) (λ e q. below_through e.0 low end q h) in
+    omega (arith, here, lack, sum, f, c, s)

@@ -1,0 +1,13 @@
+use Rattle.std.proofs.Common.{sym, ap, ◌∙◌, Ordering}
+use Rattle.std.specs.Ordering.{is_lt}
+use Rattle.delta_chain.specs.Layers.{entries_of}
+use Rattle.scan.proofs.Enough.{none_certain, some_certain}
+use Rattle.scan.proofs.ends.certain_pairs.Goals as goal
+
+pub returns-then-is_lt : goal.returns-then-is_lt
+returns-then-is_lt c = λ m n lack below part. none_certain c.args.lo.now c.args.low.now c.args.end.now n below
+
+pub returns : goal.returns
+returns c = λ m n lack below part.
+    some_certain c.args.lo.now c.args.low.now c.args.end.now c.args.deleted.now m n (entries_of c.args.chain.now) c.fewest_entries.result c.count_within.result c.saturating_sub.result
+    (sym (ap (λ (o : Ordering). is_lt o) c.compare.ensures) ∙ sym c.if-is_lt.ensures) below lack part c.fewest_entries.ensures (c.count_within.ensures below) c.saturating_sub.ensures

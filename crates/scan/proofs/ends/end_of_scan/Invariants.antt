@@ -1,0 +1,16 @@
+use Rattle.std.proofs.Common.{length}
+use Rattle.mapping.specs.Levels.{levels_of, contents}
+use Rattle.mapping.specs.TreeInMemory.{tree_of}
+use Rattle.scan.specs.Path.{leaf_with}
+use Rattle.scan.proofs.EndLaws.{IsPassing, AreCertainBefore}
+use Rattle.scan.proofs.ends.end_of_scan.Given as goal
+
+-- the walk is at a leaf of the level, before which so many pairs are certain
+abbrev pub invariant-loop-next : goal.invariant-loop-next
+invariant-loop-next l = record {
+  passing : IsPassing (levels_of (tree_of l.tree)).level (leaf_with l.leaf.0.now l.leaf.1.now) l.leaves;
+  certain : AreCertainBefore l.deleted (contents (tree_of l.tree)) l.lo l.leaf.0.now l.certain;
+}
+
+abbrev pub decreases-loop-next : goal.decreases-loop-next
+decreases-loop-next l = length l.leaves

@@ -1,0 +1,34 @@
+-- What is certain of the pairs that a scan finds before a leaf, while commands before it may delete some.
+use Rattle.std.specs.Prelude.{ℕ, ◌+◌, ◌≤◌, List, [], ◌∷◌, flat_map, length, Some}
+use Rattle.std.specs.List.{filter}
+use Rattle.keys.specs.Range.{is_below, is_within, in_range}
+use Rattle.keys.specs.declared.command.Command.{Command}
+use Rattle.keys.specs.declared.command.Command.TheVariants.{Get, Put, Add, Del, Scan}
+
+-- the key that a command deletes, where it does
+abbrev pub deleted_by : {A : Type 0} → Command A → List (List ℕ)
+deleted_by (Get k) = []
+deleted_by (Put k v) = []
+deleted_by (Add k v) = []
+deleted_by (Del k) = k ∷ []
+deleted_by (Scan lo hi limit) = []
+
+-- the keys that commands delete, each as often as a command deletes it
+abbrev pub deleted : {A : Type 0} → List (Command A) → List (List ℕ)
+deleted cs = flat_map deleted_by cs
+
+-- how many of the keys lie from a low one on, and below an end
+abbrev pub count_within : List ℕ → List ℕ → List (List ℕ) → ℕ
+count_within low end keys = length (filter (λ k. is_within low (Some end) k) keys)
+
+-- how many of the keys are below this one
+abbrev pub count_below : List ℕ → List (List ℕ) → ℕ
+count_below key keys = length (filter (λ k. is_below k key) keys)
+
+-- in each range, the second map lacks at most as many of the first one's pairs as there are of these keys
+abbrev pub LacksAtMost : List (List ℕ) → List (List ℕ × List ℕ) → List (List ℕ × List ℕ) → Type 0
+LacksAtMost keys m n = (low end : List ℕ) → length (in_range low (Some end) m) ≤ length (in_range low (Some end) n) + count_within low end keys
+
+-- of a scan of the map from a key on, as many pairs more lie before an end than before a low key, at least
+abbrev pub AreCertain : List ℕ → List (List ℕ × List ℕ) → List ℕ → List ℕ → ℕ → Type 0
+AreCertain lo m low end n = n + length (in_range lo (Some low) m) ≤ length (in_range lo (Some end) m)

@@ -1,0 +1,187 @@
+//! The keys at which a batch's scans may end, since before them there are certainly as many rows as each may have. So a scan
+//! goes only to the leaves before its end, and not to each that its range meets.
+ghost use Rattle.std.specs.Prelude.{◌≡◌, ℕ, ◌≤◌, List, true, map, IfOk, IfSome};
+ghost use Rattle.std.specs.List.Sorted.{IsPermutation, IsSorted};
+ghost use Rattle.std.specs.Map.{keys_of};
+ghost use Rattle.std.specs.Option.{option_copied};
+ghost use Rattle.keys.specs.Narrowed.{IsEnough, MayEndAt, MayEndAtAll};
+ghost use Rattle.keys.specs.Order.{order};
+ghost use Rattle.keys.specs.Range.{is_below, in_range};
+ghost use Rattle.delta_chain.specs.Layers.{entries_of};
+ghost use Rattle.mapping.specs.Levels.{levels_of, names, contents};
+ghost use Rattle.mapping.specs.Proper.{AreLevels, HoldsLevels};
+ghost use Rattle.mapping.specs.TreeInMemory.{AreAllHome, tree_of};
+ghost use Rattle.scan.specs.Ends.{deleted, count_within, count_below, LacksAtMost, AreCertain};
+
+use crate::leaves::Leaves;
+use crate::rows::is_before;
+use delta_chain::Chain;
+use keys::{Command, KeyRef, Value, compare};
+use mapping::Tree;
+use std::alloc::{AllocError, Global};
+
+/// For each command of the batch, in their order, the key at which its scan may end, if there is one: the low key of a leaf,
+/// before which there are certainly as many pairs as the scan's limit, on the map as it is at the scan's place. So the scan
+/// has the same rows where this key is its upper bound, and needn't go to that leaf or to any behind it. A batch without
+/// scans has an empty list. A scan costs one way down and a step for each leaf up to its end, where no leaf's pairs are
+/// looked at. It is an error where there is no memory for the list.
+pub fn scan_ends<'a>(
+    alloc: Global,
+    tree: &'a Tree<Global>,
+    commands: &[Command<Global>],
+) -> Result<Vec<Option<&'a [u8]>>, AllocError>
+    requires home { AreAllHome tree.now }
+    requires height { tree.now.height ≤ 64 }
+    requires held { HoldsLevels (tree_of tree.now).pages (levels_of (tree_of tree.now)) }
+    requires levels { AreLevels (levels_of (tree_of tree.now)) }
+    ensures { IfOk result (λ ends. MayEndAtAll (keys_of (names (levels_of (tree_of tree.now)).level))
+        (contents (tree_of tree.now)) commands.now (map option_copied ends.items)) }
+{
+    if !has_scan(commands) {
+        return Ok(Vec::new(alloc));
+    }
+    let deleted = deleted_keys(alloc, commands)?;
+    let mut ends = Vec::with_capacity(alloc, commands.len())?;
+    for command in commands {
+        ends.push(end_of(alloc, tree, command, &deleted))?;
+    }
+    Ok(ends)
+}
+
+// Whether there is a scan among the commands. Only what is spent depends on it.
+fn has_scan(commands: &[Command<Global>]) -> bool {
+    for command in commands {
+        if command.is_scan() {
+            return true;
+        }
+    }
+    false
+}
+
+// The keys that the commands delete, in order, each as often as a command deletes it.
+fn deleted_keys<'c>(
+    alloc: Global,
+    commands: &'c [Command<Global>],
+) -> Result<Vec<KeyRef<'c>>, AllocError>
+    ensures sorted { IfOk result (λ keys. IsSorted order keys.items) }
+    ensures same { IfOk result (λ keys. IsPermutation (deleted commands.now) keys.items) }
+{
+    let mut keys = Vec::new(alloc);
+    for command in commands {
+        if let Command::Del(key) = command {
+            keys.push(KeyRef::new(key.as_bytes()))?;
+        }
+    }
+    keys.sort_unstable();
+    Ok(keys)
+}
+
+// The key at which the command may end, where it is a scan. The commands before it have deleted no other keys than these.
+fn end_of<'a>(
+    alloc: Global,
+    tree: &'a Tree<Global>,
+    command: &Command<Global>,
+    deleted: &[KeyRef<'_>],
+) -> Option<&'a [u8]>
+    requires home { AreAllHome tree.now }
+    requires height { tree.now.height ≤ 64 }
+    requires held { HoldsLevels (tree_of tree.now).pages (levels_of (tree_of tree.now)) }
+    requires levels { AreLevels (levels_of (tree_of tree.now)) }
+    requires sorted { IsSorted order deleted.now }
+    ensures { (m : List (List ℕ × List ℕ)) → LacksAtMost deleted.now (contents (tree_of tree.now)) m
+        → MayEndAt (keys_of (names (levels_of (tree_of tree.now)).level))
+        m command.now (option_copied result) }
+{
+    let Command::Scan(lo, hi, limit) = command else {
+        return None;
+    };
+    match hi {
+        Some(hi) => end_of_scan(
+            alloc,
+            tree,
+            lo.as_bytes(),
+            Some(hi.as_bytes()),
+            *limit,
+            deleted,
+        ),
+        None => end_of_scan(alloc, tree, lo.as_bytes(), None, *limit, deleted),
+    }
+}
+
+// The key at which such a scan may end. The walk counts what is certain before the leaf that it has come to.
+fn end_of_scan<'a>(
+    alloc: Global,
+    tree: &'a Tree<Global>,
+    lo: &[u8],
+    hi: Option<&[u8]>,
+    limit: u32,
+    deleted: &[KeyRef<'_>],
+) -> Option<&'a [u8]>
+    requires home { AreAllHome tree.now }
+    requires height { tree.now.height ≤ 64 }
+    requires held { HoldsLevels (tree_of tree.now).pages (levels_of (tree_of tree.now)) }
+    requires levels { AreLevels (levels_of (tree_of tree.now)) }
+    requires sorted { IsSorted order deleted.now }
+    ensures { (m : List (List ℕ × List ℕ)) → LacksAtMost deleted.now (contents (tree_of tree.now)) m
+        → IfSome result (λ end. IsEnough (keys_of (names (levels_of (tree_of tree.now)).level))
+        m lo.now (option_copied hi.entry) limit end.now) }
+{
+    let (mut leaf, mut leaves) = Leaves::new(alloc, tree, lo);
+    let mut certain: usize = 0;
+    while let Some(next) = leaves.next() {
+        let end = next.0;
+        if !is_before(hi, end) {
+            return None;
+        }
+        certain = certain.saturating_add(certain_pairs(leaf.1, leaf.0, end, lo, deleted));
+        if certain >= limit as usize && compare(lo, end).is_lt() {
+            return Some(end);
+        }
+        leaf = next;
+    }
+    None
+}
+
+// How many of the pairs of a leaf, which begins at the low key and ends at the other, a scan from a key on certainly has,
+// whatever the commands before it do that delete these keys. None is counted where the scan begins within the leaf.
+fn certain_pairs(
+    chain: &Chain<Value<Global>, Global>,
+    low: &[u8],
+    end: &[u8],
+    lo: &[u8],
+    deleted: &[KeyRef<'_>],
+) -> usize
+    requires sorted { IsSorted order deleted.now }
+    ensures { (m n : List (List ℕ × List ℕ)) → LacksAtMost deleted.now m n
+        → is_below low.now end.now ≡ true
+        → entries_of chain.now ≡ in_range low.now (Some end.now) m
+        → AreCertain lo.now n low.now end.now result }
+{
+    if compare(low, lo).is_lt() {
+        return 0;
+    }
+    chain
+        .fewest_entries()
+        .saturating_sub(count_within(deleted, low, end))
+}
+
+// How many of the keys lie from the low one on, and below the end.
+fn count_within(keys: &[KeyRef<'_>], low: &[u8], end: &[u8]) -> usize
+    requires sorted { IsSorted order keys.now }
+    ensures { is_below low.now end.now ≡ true → count_within low.now end.now keys.now ≤ result }
+{
+    count_below(keys, end).saturating_sub(count_below(keys, low))
+}
+
+// How many of the keys are below this one.
+fn count_below(keys: &[KeyRef<'_>], key: &[u8]) -> usize
+    requires sorted { IsSorted order keys.now }
+    ensures { count_below key.now keys.now ≡ result }
+{
+    let bound = KeyRef::new(key);
+    keys.partition_point(
+        |other: &KeyRef<'_>| -> bool
+            ensures { result ≡ is_below other.now bound.entry }
+        { other.compare(&bound).is_lt() },
+    )
+}
