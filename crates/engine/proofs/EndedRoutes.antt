@@ -1,13 +1,12 @@
 -- A batch some of whose scans end at a nearer key, where they have all their rows: its leaves make of their commands what they make
 -- of those with the nearer ends; and replies, plan and all else of the batch are the same.
-use Rattle.std.specs.Prelude.{◌≡◌, ℕ, suc, ◌<◌, Bool, true, false, cond, List, [], ◌∷◌, ◌++◌, map, drop, length, slice_get, Option, Some, None}
+use Rattle.std.specs.Prelude.{◌≡◌, ℕ, suc, ◌<◌, Bool, true, false, cond, List, [], ◌∷◌, ◌++◌, map, drop, length, slice_get, Option, Some, None, Result, Ok, Err, IfOk}
 use Rattle.std.proofs.Common.{refl, sym, ap, ◌∙◌, subst}
-use Rattle.std.specs.List.{All, AllByRecursion, filter}
+use Rattle.std.specs.List.{All, AllByRecursion}
 use Rattle.std.specs.Map.{keys_of}
 use Rattle.std.specs.Option.{option_map}
 use Rattle.std.specs.declared.alloc.Global.{Global}
 use Rattle.std.proofs.lemmas.List.Elements.{All-weaker}
-use Rattle.keys.specs.CommandKey.{is_scan}
 use Rattle.keys.specs.Narrowed.{with_end, first_end, with_ends, MayEndAtAll}
 use Rattle.keys.specs.Order.{IsRising}
 use Rattle.keys.specs.Range.{in_range}
@@ -18,14 +17,14 @@ use Rattle.keys.specs.declared.command.Reply.{Reply}
 use Rattle.keys.specs.declared.piece.Piece.{Piece}
 use Rattle.keys.specs.declared.settings.Settings.{Settings}
 use Rattle.keys.proofs.NarrowedLaws.{scan-with_end, get-with_ends, length-with_ends}
-use Rattle.index_page.specs.Children.{Place, children}
+use Rattle.index_page.specs.Children.{Place}
 use Rattle.index_page.specs.Page.{PageOfKind, entries, leaf_of}
 use Rattle.mapping.specs.Levels.{Placed, joined, names, levels_of, contents, all_pages, by_pid, top_pid}
 use Rattle.mapping.specs.Outdate.{outdate_all}
 use Rattle.mapping.specs.Proper.{Tiled}
 use Rattle.mapping.specs.Table.{Mapping, page_of}
 use Rattle.mapping.specs.Tree.{Tree}
-use Rattle.mapping.proofs.TileLaws.{rising-joined}
+use Rattle.mapping.proofs.TileLaws.{rising-joined, rising-names}
 use Rattle.routing.specs.Routes.{Route, route_to, has_places, places_within, ranges, routes}
 use Rattle.routing.proofs.RouteLaws.{kept, own_places}
 use Rattle.page_runs.specs.LeafWork.{LeafMade, leaf_made, placed_leaf}
@@ -33,7 +32,7 @@ use Rattle.page_runs.specs.NetRun.{net_run}
 use Rattle.page_runs.specs.Replies.{ArePlacesOf, commands_at, pieces_of}
 use Rattle.page_runs.specs.Worked.{worked}
 use Rattle.page_runs.proofs.EndedBatch.{AreNear, near_ends, EndsBefore, AllEndBefore, all_end_before, replies-ended, net_run-ended, net_run-with_ends}
-use Rattle.replies.specs.ByPlace.{joined as joined_replies, joined_at, reply_at, pieces_at, is_rows, is_scan_by, is_scan_at, IsPlaceOf, AreAnswers}
+use Rattle.replies.specs.ByPlace.{joined as joined_replies, joined_at, reply_at, pieces_at, is_rows, is_scan_by, is_scan_at, AreAnswers}
 use Rattle.split_plan.specs.WorkedLevel.{worked_leaves}
 use Rattle.climb_plan.specs.Climb.{Climbed, climb}
 use Rattle.climb_plan.specs.Plan.{shrunk, shrunk_pids, planned_tree}
@@ -145,3 +144,8 @@ module _ (cs : List (Command Global)) (ends : List (Option (List ℕ))) where
     kind = All-weaker (λ p. is_rows p.reply ≡ is_scan_at (with_ends cs ends) p.place) (λ p. is_rows p.reply ≡ is_scan_at cs p.place) (λ p h. h ∙ scan-ended p.place) ps a.kind;
     once = λ place h plain. a.once place (subst (λ (n : ℕ). place < n) (sym (length-with_ends cs ends)) h) (scan-ended place ∙ plain);
   }
+
+-- what holds of a result where it is `Ok`
+pub weaker_ok : {X E : Type 0} (P Q : X → Type 0) (r : Result X E) → ((x : X) → P x → Q x) → IfOk r P → IfOk r Q
+weaker_ok P Q (Ok x) f h = f x h
+weaker_ok P Q (Err e) f h = h

@@ -1,20 +1,14 @@
 -- The routes of a level of leaves that are at home: where they go, and what stands there.
 use Rattle.std.specs.Prelude.{◌≡◌, ◌≢◌, ℕ, Bool, true, false, cond, List, [], ◌∷◌, ◌++◌, map, length, Option, Some, None, IsSome}
-use Rattle.std.proofs.Common.{refl, sym, ap, ◌∙◌, subst, arith, append_assoc}
+use Rattle.std.proofs.Common.{sym, ap, ◌∙◌, subst, arith, append_assoc}
 use Rattle.std.specs.List.{AllByRecursion}
-use Rattle.std.specs.Map.{keys_of}
-use Rattle.keys.specs.OrderedMap.{value_at}
-use Rattle.keys.specs.Range.{is_below, is_before, is_within, in_range}
+use Rattle.keys.specs.Range.{in_range}
 use Rattle.keys.specs.declared.command.Command.{Command}
-use Rattle.keys.proofs.MapLaws.{same_map}
 use Rattle.index_page.specs.Children.{Place, children}
 use Rattle.index_page.specs.Page.{Page, PageOfKind, entries}
 use Rattle.index_page.specs.Page.PageOfKind.{Leaf}
-use Rattle.index_page.specs.Range.{AreFrom, AreBefore}
-use Rattle.index_page.proofs.ChildLaws.{place_of, children-cons, pids-children, within}
+use Rattle.index_page.proofs.ChildLaws.{place_of, children-cons, pids-children}
 use Rattle.index_page.proofs.ListLaws.{all_weaker}
-use Rattle.index_page.proofs.PageLaws.{all_keys_entries}
-use Rattle.index_page.proofs.RangeLaws.{rising-filter}
 use Rattle.mapping.specs.Levels.{Placed, joined, name, names, pids}
 use Rattle.mapping.specs.Proper.{next_low, Tiled, Distinct, HasLeaves}
 use Rattle.mapping.specs.Table.{Mapping, page_of}
@@ -22,12 +16,12 @@ use Rattle.mapping.specs.Tree.{page_at}
 use Rattle.mapping.specs.TreeInMemory.{home_pages}
 use Rattle.mapping.proofs.HomePages.{page-home}
 use Rattle.mapping.proofs.LevelLaws.{values_of-names}
-use Rattle.mapping.proofs.TileLaws.{tiled_apart, rising-tile, rising-joined, value_at-joined, next_names}
+use Rattle.mapping.proofs.TileLaws.{next_names}
 use Rattle.routing.specs.Routes.{Route, route_to, goes_to, has_places, ranges}
 use Rattle.routing.proofs.RouteLaws.{below-places_from, kept}
 use Rattle.page_runs.specs.Replies.{ArePlacesOf}
+use Rattle.scan.proofs.Parts.{part_of_level}
 use Rattle.engine.specs.Leaves.{IsLeafAt, route_pids}
-use Rattle.engine.proofs.OwnRuns.{value_at-passing}
 
 -- ---- the routes to some places
 
@@ -90,35 +84,6 @@ leaves_there t [] h = tt
 leaves_there t (p ∷ ps) h = (is_leaf (page_of t p.pid) p.page h.0, leaves_there t ps h.1)
 
 -- ---- what a leaf has of its level
-
-all_before : (end : Option (List ℕ)) (ks : List (List ℕ)) → AreBefore end ks → AllByRecursion (λ j. is_before end j ≡ true) ks
-all_before None [] h = tt
-all_before None (k ∷ ks) h = (refl, all_before None ks h)
-all_before (Some hi) ks h = h
-
-module _ {V : Type 0} where
-  all_in_range : (low : List ℕ) (end : Option (List ℕ)) (es : List (List ℕ × V)) → AreFrom low (keys_of es) → AllByRecursion (λ j. is_before end j ≡ true) (keys_of es) → in_range low end es ≡ es
-  all_in_range low end [] f b = refl
-  all_in_range low end (e ∷ es) f b = let here = within low end e.0 f.0 b.0 in rw (here, all_in_range low end es f.1 b.1) refl
-
-  same_if : (b : Bool) (o w : Option V) → (b ≡ true → o ≡ w) → cond b o None ≡ cond b w None
-  same_if true o w h = h refl
-  same_if false o w h = refl
-
-  -- a page has the part of its level's pairs whose keys lie in its range
-  part_of_level : (xs ys : List (Placed V)) (p : Placed V) → Tiled (xs ++ p ∷ ys) None → entries p.page ≡ in_range p.page.low (next_low ys None) (joined (xs ++ p ∷ ys))
-  part_of_level xs ys p tiled =
-      let end = next_low ys None in
-      let all = joined (xs ++ p ∷ ys) in
-      let tile = (tiled_apart xs (p ∷ ys) None tiled).1.0 in
-      let inside : List ℕ × V → Bool = λ e. is_within p.page.low end e.0 in
-      let from = all_keys_entries (λ j. is_below j p.page.low ≡ false) p.page tile.keys.from in
-      let before = all_keys_entries (λ j. is_before end j ≡ true) p.page (all_before end _ tile.keys.before) in
-      sym (all_in_range p.page.low end (entries p.page) from before)
-      ∙ same_map (in_range p.page.low end (entries p.page)) (in_range p.page.low end all) (rising-filter inside (entries p.page) (rising-tile end p tile)) (rising-filter inside all (rising-joined (xs ++ p ∷ ys) None tiled))
-      (λ k. value_at-passing (is_within p.page.low end) (entries p.page) k
-      ∙ same_if (is_within p.page.low end k) (value_at k (entries p.page)) (value_at k all) (value_at-joined xs ys p None k tiled)
-      ∙ sym (value_at-passing (is_within p.page.low end) all k))
 
 -- a leaf is at home at the place, and has the part of a map that lies in the place's range
 pub record HoldsPart (t : Mapping PageOfKind) (m : List (List ℕ × List ℕ)) (at : Place) : Type 0 where

@@ -2,12 +2,11 @@
 use Rattle.std.specs.Prelude.{◌≡◌, ℕ, Bool, true, false, not, ◌&&◌, cond, List, [], ◌∷◌, Option, Some, None}
 use Rattle.std.proofs.Common.{refl, sym, ap, ◌∙◌}
 use Rattle.std.specs.List.{filter}
-use Rattle.std.specs.Ordering.{is_eq}
-use Rattle.keys.specs.Order.{order, IsRising}
+use Rattle.keys.specs.Order.{IsRising}
 use Rattle.keys.specs.OrderedMap.{value_at}
 use Rattle.keys.specs.declared.command.Command.{Command}
 use Rattle.keys.specs.declared.command.Command.TheVariants.{Get, Put, Add, Del, Scan}
-use Rattle.keys.proofs.MapLaws.{total, passes_same, same_map}
+use Rattle.keys.proofs.MapLaws.{total, same_map}
 use Rattle.index_page.specs.Range.{is_below, is_before, is_within}
 use Rattle.index_page.proofs.PageLaws.{all_keys_entries}
 use Rattle.index_page.proofs.RangeLaws.{below_is_less, less_is_below, rising-filter, value_at-behind}
@@ -19,28 +18,8 @@ use Rattle.page_runs.specs.NetRun.{net_run}
 use Rattle.page_runs.specs.Apart.{TakesAll, TakesNoOther, AgreeOn}
 use Rattle.page_runs.proofs.NetLaws.{Pairs, Changes, rising-net_run}
 use Rattle.page_runs.proofs.ApartLaws.{within_by_key, off_by_key, net_run-apart, net_run-no_other}
+use Rattle.scan.proofs.Parts.{value_at-passing}
 use Rattle.split_plan.specs.WorkedLevel.{part_below, part_from}
-
--- ---- what a filtered list has at a key
-
-module _ {X : Type 0} where
-  passing_by : (b t u : Bool) (k : List ℕ) (e : List ℕ × X) (es rest : List (List ℕ × X)) → is_eq (order k e.0) ≡ t → (t ≡ true → u ≡ b) → value_at k rest ≡ cond u (value_at k es) None → value_at k (cond b (e ∷ rest) rest) ≡ cond u (value_at k (e ∷ es)) None
-  passing_by true true true k e es rest h same ih = rw h refl
-  passing_by true true false k e es rest h same ih = absurd (let f = same refl in cc)
-  passing_by true false u k e es rest h same ih = rw h ih
-  passing_by false true true k e es rest h same ih = absurd (let f = same refl in cc)
-  passing_by false true false k e es rest h same ih = ih
-  passing_by false false u k e es rest h same ih = rw h ih
-
-  nothing_by : (b : Bool) → ◌≡◌ {A = Option X} None (cond b None None)
-  nothing_by true = refl
-  nothing_by false = refl
-
-  -- of the pairs whose keys pass, what all of them have at a key that passes, and nothing at another
-  pub value_at-passing : (test : List ℕ → Bool) (es : List (List ℕ × X)) (k : List ℕ) → value_at k (filter (λ e. test e.0) es) ≡ cond (test k) (value_at k es) None
-  value_at-passing test [] k = nothing_by (test k)
-  value_at-passing test (e ∷ es) k =
-      passing_by (test e.0) (is_eq (order k e.0)) (test k) k e es (filter (λ e. test e.0) es) refl (λ h. ap test (passes_same k e.0 h)) (value_at-passing test es k)
 
 -- ---- the commands of a range
 

@@ -1,7 +1,6 @@
 use Rattle.std.proofs.Common.{◌≡◌, ◌∙◌, ap}
 use Rattle.mapping.specs.Levels.{contents}
 use Rattle.mapping.specs.TreeInMemory.{AreAllHome, tree_of}
-use Rattle.climb_plan.specs.Plan.{planned_tree}
 use Rattle.engine.proofs.Routed.{IsFaultOf, as_store, sound_planned, on_any_error, sound_rising, leaf_routes, answered, as_a_map, some_ready, for_this, again_away, again_back}
 use Rattle.engine.proofs.execute.execute_routed.Goals as goal
 
