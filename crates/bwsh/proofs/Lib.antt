@@ -11,6 +11,7 @@ mod Prints
 mod ReadLemmas
 mod RunLemmas
 mod ShowLemmas
+mod TellLemmas
 mod TokenLaws
 mod TokenLemmas
 mod TurnLemmas

@@ -14,6 +14,13 @@ use Rattle.bwsh.specs.Number.{number_in}
 use Rattle.bwsh.specs.Token.{token_bytes}
 use Rattle.bwsh.specs.Words.{words_of}
 
+-- what is wrong with a line, in words
+abbrev pub why_text : Why → List ℕ
+why_text UnknownCommand = codes "unknown command"
+why_text WordCount = codes "wrong number of words"
+why_text BadToken = codes "bad token"
+why_text BadNumber = codes "bad number"
+
 -- the key that these words are
 abbrev pub only_key : List (List ℕ) → Result (List ℕ) Why
 only_key (key ∷ []) = ok_or (token_bytes key) BadToken

@@ -1,6 +1,7 @@
 -- What a session runs and prints, and how it ends.
-use Rattle.std.specs.Prelude.{◌≡◌, ◌⊎◌, ℕ, List, [], ◌∷◌, ◌++◌, map, is_some, if◌then◌else◌, Option, Some, None, IfSome, Result, Ok, Err}
+use Rattle.std.specs.Prelude.{◌≡◌, ◌⊎◌, ℕ, List, [], ◌∷◌, ◌++◌, map, is_some, codes, if◌then◌else◌, Option, Some, None, IfSome, Result, Ok, Err}
 use Rattle.std.specs.Option.{option_map, option_or}
+use Rattle.std.specs.Fmt.{decimal}
 use Rattle.std.specs.Io.KnownBytes.{Appends}
 use Rattle.keys.specs.Lists.{flat}
 use Rattle.keys.specs.Limits.{first_bad_field}
@@ -23,6 +24,7 @@ use Rattle.bwsh.specs.declared.session.Ending.{Ending}
 use Rattle.bwsh.specs.declared.session.Ending.TheVariants.{Words, Bad, Device}
 use Rattle.bwsh.specs.declared.session.Ending.TheVariants as endings
 use Rattle.bwsh.specs.BatchFile.{said_by, first_bad, orders_of}
+use Rattle.bwsh.specs.Line.{why_text}
 use Rattle.bwsh.specs.Options.{Tells, AsksForHelp, AreRefused}
 use Rattle.bwsh.specs.Shown.{shown_reply, shown_report}
 
@@ -37,6 +39,22 @@ status_of Device = 4
 abbrev pub status_of_end : Result (Unit {0}) Ending → ℕ
 status_of_end (Ok done) = 0
 status_of_end (Err early) = status_of early
+
+-- what an ending prints, with its line feed, where a clause can say it
+abbrev pub ending_text : Ending → Option (List ℕ)
+ending_text (Words error) = None
+ending_text (Bad line why) = Some (codes "line " ++ decimal line ++ codes ": " ++ why_text why ++ 10 ∷ [])
+ending_text (endings.Fault fault) = None
+ending_text Device = Some (codes "fault 9 Device" ++ 10 ∷ [])
+
+-- what is told of an end, where a clause can say it: nothing of one with all done
+abbrev pub told_text : Result (Unit {0}) Ending → Option (List ℕ)
+told_text (Ok done) = Some []
+told_text (Err early) = ending_text early
+
+-- what is told of words that cannot be read, with its line feed
+abbrev pub unread_text : List ℕ
+unread_text = codes "error: a word of the command line is no text" ++ 10 ∷ []
 
 -- the ending of a session whose text is not read
 abbrev pub ending_by : TextFault → Ending
@@ -135,6 +153,14 @@ IsReadEnding bad Device = Unit {0}
 abbrev pub BeginsWith : {X : Type 0} → List X → List X → Type 0
 BeginsWith {X} xs front = (rest : List X) × (xs ≡ front ++ rest)
 
+-- known bytes grow by a beginning of this text
+abbrev pub IsBegun : Option (List ℕ) → Option (List ℕ) → List ℕ → Type 0
+IsBegun old new text = (front : List ℕ) × BeginsWith text front × Appends old new front
+
+-- known bytes grow by a beginning of what is told of this end, where a clause can say what that is
+abbrev pub IsTold : Result (Unit {0}) Ending → Option (List ℕ) → Option (List ℕ) → Type 0
+IsTold end old new = IfSome (told_text end) (IsBegun old new)
+
 -- known bytes grow by all of the lines where the end is the right one; memory can be refused behind some whole lines, and a device can fail anywhere
 abbrev pub Prints : Option (List ℕ) → Option (List ℕ) → List (List ℕ) → Result (Unit {0}) Ending → Result (Unit {0}) Ending → Type 0
 Prints old new lines right end =
@@ -171,3 +197,8 @@ EndsBy words known old new unread untouched end =
     ((settings : Settings) × Tells words settings × Answers settings known old new end)
     ⊎ (unread × AsksForHelp words × PrintsOneText old new end)
     ⊎ (unread × untouched × ((AreRefused words × IsForWords end) ⊎ (end ≡ Err (endings.Fault NoMemory))))
+
+-- a session with these words ends with this status: it has an end that is right as `EndsBy` says, and that is told
+abbrev pub EndsTold : List (List ℕ) → Option (List ℕ) → Option (List ℕ) → Option (List ℕ) → Option (List ℕ) → Option (List ℕ) → Type 0 → Type 0 → ℕ → Type 0
+EndsTold words known old new told_old told_new unread untouched status =
+    (end : Result (Unit {0}) Ending) × (status ≡ status_of_end end) × EndsBy words known old new unread untouched end × IsTold end told_old told_new

@@ -1,8 +1,8 @@
 //! What a line of a batch file says.
-ghost use Rattle.std.specs.Prelude.{◌≡◌, IfOk};
+ghost use Rattle.std.specs.Prelude.{◌≡◌, Some, IfOk};
 ghost use Rattle.bwsh.specs.Token.{token_bytes};
 ghost use Rattle.bwsh.specs.Words.{words_of};
-ghost use Rattle.bwsh.specs.Line.{only_key, key_and_value, bound_of, scan_says, alone, order_says, command_says, line_says};
+ghost use Rattle.bwsh.specs.Line.{only_key, key_and_value, bound_of, scan_says, alone, order_says, command_says, line_says, why_text};
 
 use crate::number::number_in;
 use crate::token::unescape;
@@ -25,6 +25,8 @@ pub enum Why {
 }
 
 impl fmt::Display for Why {
+    ghost output = { λ why. Some (why_text why) };
+
     fn fmt<W: fmt::Write>(&self, f: &mut fmt::Formatter<W>) -> fmt::Result {
         f.write_str(match self {
             Why::UnknownCommand => "unknown command",

@@ -13,6 +13,30 @@ use clap::{Arg, ArgMatches, Command, Error, value_parser};
 use keys::Settings;
 use std::alloc::{AllocError, Global};
 
+// What the help says behind the options.
+const AFTER_HELP: &str = "\
+Lines of the batch file:
+  put K V           Stores the value V under the key K
+  add K V           Stores V under K, if nothing stands there
+  get K             Answers the value under K
+  del K             Deletes K and its value
+  scan LO HI LIMIT  Answers LIMIT pairs at most, in the order of their keys, from LO up to HI, which
+                    is not among them; the star * as HI is no bound
+  go                Runs the commands since the last batch, as one batch
+  verify            Runs these too, if there are any, and then checks the whole tree
+  # ...             A comment
+Commands behind the last go or verify are run at the end.
+
+Keys and values are words of printed ASCII. In them %XX is the byte of two hexadecimal digits, as
+%20 for a space, and % alone is the word of no bytes.
+
+Exit status:
+  0  All is done, or help was asked for
+  2  The words of the command line are refused; nothing was read
+  3  A line of the batch file is bad; nothing was run
+  4  A fault: settings or a batch that are refused, no memory, or a device\
+";
+
 // An option that takes a number.
 fn number<'a>(alloc: Global, name: &'a str, default: &'a str, help: &'a str) -> Arg<'a>
     ensures rule { rule_of result ≡ number_rule name.entry.now default.entry.now }
@@ -32,6 +56,7 @@ fn command<'a>(alloc: Global) -> Result<Command<'a>, AllocError>
 {
     Command::new(alloc, "bwsh")
         .about("Runs the batch file on standard input on a new store, and prints the replies")
+        .after_help(AFTER_HELP)
         .no_binary_name(true)
         .arg(number(
             alloc,
@@ -51,7 +76,8 @@ fn command<'a>(alloc: Global) -> Result<Command<'a>, AllocError>
             alloc,
             "seg-size",
             "65536",
-            "Bytes of a segment of the log, 256 to 1048576",
+            "Bytes of a segment of the log, 256 to 1048576; \
+            it has to hold a full page of the greatest keys and values",
         ))?
         .arg(number(alloc, "segments", "64", "Segments of the log, 3 to 65536"))
 }

@@ -13,7 +13,7 @@ ghost use Rattle.bwsh.specs.declared.session.Ending.TheVariants as endings;
 ghost use Rattle.bwsh.specs.BatchFile.{said_by, first_bad, orders_of};
 ghost use Rattle.keys.specs.declared.settings.Settings.{Settings};
 ghost use Rattle.bwsh.specs.Options.{Tells, AsksForHelp, AreRefused};
-ghost use Rattle.bwsh.specs.Session.{status_of, status_of_end, ending_by, printed_by, BeginsWith, IsReadEnding, IsForWords, Prints, PrintsOneText, Leaves, Runs, Answers, EndsBy};
+ghost use Rattle.bwsh.specs.Session.{status_of, status_of_end, ending_text, unread_text, ending_by, printed_by, BeginsWith, IsBegun, IsTold, IsReadEnding, IsForWords, Prints, PrintsOneText, Leaves, Runs, Answers, EndsBy, EndsTold};
 ghost use Rattle.bwsh.specs.Shown.{shown_reply, shown_report};
 
 use crate::batch_file::{Order, TextFault, parse};
@@ -23,10 +23,17 @@ use crate::show::{show_reply, show_report};
 use engine::Store;
 use keys::{Fault, Reply, Settings};
 use std::alloc::{AllocError, Global};
+use std::fmt::{InlineText, Write as _};
 use std::io::{ErrorKind, Read, Write};
 use std::thread::Threads;
 use std::{fmt, io};
 use verify::Report;
+
+// Bytes that hold the line of each ending but that for refused words.
+const LINE: usize = 64;
+
+// What is told of words that cannot be read.
+const UNREAD: &[u8] = b"error: a word of the command line is no text\n";
 
 /// Why a session ends before all is done. It prints as what goes to standard error, with its line feeds.
 #[derive(Drop)]
@@ -55,6 +62,8 @@ impl Ending {
 }
 
 impl fmt::Display for Ending {
+    ghost output = { λ ending. ending_text ending };
+
     fn fmt<W: fmt::Write>(&self, f: &mut fmt::Formatter<W>) -> fmt::Result {
         match self {
             Ending::Words(error) => write!(f, "{error}"),
@@ -288,15 +297,34 @@ fn obey<R: AllocGlobal + Threads + Sync, I: Read, O: Write>(
     }
 }
 
+// Tells why the session ends early. What `clap` says is long, and is written as it is made; a line is made first.
+fn tell<E: Write>(ending: &Ending, err: &mut E) -> Result<(), Ending>
+    ensures ok { OnOk result (IfSome (ending_text ending.now)
+        (Appends (E.contents err.old) (E.contents err.new))) }
+    ensures err { OnErr result (IfSome (ending_text ending.now)
+        (IsBegun (E.contents err.old) (E.contents err.new))) }
+{
+    if let Ending::Words(error) = ending {
+        return write!(err, "{error}").map_err(|_| Ending::Device);
+    }
+    let mut line = InlineText::<LINE>::new();
+    if write!(line, "{ending}").is_err() {
+        return Err(Ending::Device);
+    }
+    write_bytes(line.as_str().as_bytes(), err)
+}
+
 // Tells why the session ends early, if it does, and returns the exit status. Where that cannot be told, nothing is
 // left to tell it to.
 fn end<E: Write>(done: Result<(), Ending>, err: &mut E) -> u8
-    ensures { result ≡ status_of_end done }
+    ensures status { result ≡ status_of_end done }
+    ensures quiet { IfOk done (λ _. err.new ≡ err.old) }
+    ensures told { IsTold done (E.contents err.old) (E.contents err.new) }
 {
     match done {
         Ok(()) => 0,
         Err(ending) => {
-            let _ = write!(err, "{ending}");
+            let _ = tell(&ending, err);
             ending.status()
         }
     }
@@ -307,11 +335,12 @@ fn end<E: Write>(done: Result<(), Ending>, err: &mut E) -> u8
 pub fn unread_words<E: Write>(error: io::Error, err: &mut E) -> u8
     ensures memory { (result ≡ 4) ↔ (error_kind error ≡ ErrorKind.OutOfMemory) }
     ensures status { (result ≡ 2) ⊎ (result ≡ 4) }
+    ensures told { result ≡ 2 → IsBegun (E.contents err.old) (E.contents err.new) unread_text }
 {
     match error.kind() {
         ErrorKind::OutOfMemory => end(Err(Ending::Fault(Fault::NoMemory)), err),
         _ => {
-            let _ = writeln!(err, "error: a word of the command line is no text");
+            let _ = write_bytes(UNREAD, err);
             2
         }
     }
@@ -350,8 +379,14 @@ pub fn session<R: AllocGlobal + Threads + Sync, I: Read, O: Write, E: Write>(
         × BeginsWith (printed_by settings text) front × Appends (O.contents out.old) (O.contents out.new) front)) }
 
     // How it ends, and what is read and printed, is right for the words and the text but for memory and devices.
-    ensures ends { (end : Result (Unit {0}) Ending) × (result ≡ status_of_end end)
-        × EndsBy (map string_bytes words.now) (I.remaining input.old) (O.contents out.old) (O.contents out.new) (input.new ≡ input.old) (out.new ≡ out.old) end }
+    // What goes to `err` is told of this end, or a beginning of it.
+    ensures ends { EndsTold (map string_bytes words.now)
+        (I.remaining input.old) (O.contents out.old) (O.contents out.new)
+        (E.contents err.old) (E.contents err.new)
+        (input.new ≡ input.old) (out.new ≡ out.old) result }
+
+    // A session with all done tells nothing.
+    ensures quiet { result ≡ 0 → err.new ≡ err.old }
 {
     let done = obey(rt, words, input, out);
     end(done, err)

@@ -1,11 +1,14 @@
 //! The rules of a batch file and of the command line, by example, and sessions whose input, output or memory fails.
 use crate::batch_file::{TextFault, parse};
 use crate::line::Why;
+use crate::program::run_program;
 use crate::session::{session, unread_words};
 use bstr::ByteSlice;
+use std::env::FillError;
 use std::io;
 use std::io::{Cursor, ErrorKind, Read, Write};
 use std::process::Abort;
+use std::rt::Env;
 use std::test::Fail;
 use std::thread::Threads;
 
@@ -162,6 +165,24 @@ fn words_are_refused(rt: HostRuntime) -> Result<(), Fail> {
     Ok(())
 }
 
+// What the help has to say: each kind of line, what a segment has to hold, and the exit statuses.
+const HELP: [&str; 14] = [
+    "put K V",
+    "add K V",
+    "get K",
+    "del K",
+    "scan LO HI LIMIT",
+    "go",
+    "verify",
+    "#",
+    "%20",
+    "--seg-size <N>",
+    "a full page of the greatest keys and values",
+    "2  The words",
+    "3  A line",
+    "4  A fault",
+];
+
 #[test]
 fn help_is_printed(rt: HostRuntime) -> Result<(), Fail> {
     let words = vec![in rt.alloc(); String::from_str(rt.alloc(), "--help")?]?;
@@ -171,9 +192,77 @@ fn help_is_printed(rt: HostRuntime) -> Result<(), Fail> {
     let status = session(&rt, &words, &mut input, &mut out, &mut err);
     assert_eq!(rt; status, 0);
     assert!(rt; err.is_empty());
-    assert!(rt; !out.is_empty());
+    for text in HELP {
+        assert!(rt; out.as_slice().contains_str(text.as_bytes()), "{text}");
+    }
     assert_eq!(rt; input, b"put a 1\n".as_slice());
     Ok(())
+}
+
+// A runtime whose command line has one word behind the program's name, which is `--help`.
+#[derive(Drop)]
+struct OneWord<'a, R> {
+    rt: R,
+    word: &'a [u8],
+}
+
+impl<R: Threads> Threads for OneWord<'_, R> {}
+
+impl<R: Alloc> Alloc for OneWord<'_, R> {
+    type A = R::A;
+
+    fn alloc(&self) -> R::A {
+        self.rt.alloc()
+    }
+}
+
+impl<R> Env for OneWord<'_, R> {
+    fn arg(&self, i: usize, buf: &mut [u8]) -> Result<usize, FillError> {
+        let word = match i {
+            0 => b"--help".as_slice(),
+            1 => self.word,
+            _ => return Err(FillError::NotPresent),
+        };
+        if word.len() > buf.len() {
+            return Err(FillError::TooLong);
+        }
+        buf[..word.len()].copy_from_slice(word);
+        Ok(word.len())
+    }
+
+    fn var(&self, _name: &str, _buf: &mut [u8]) -> Result<usize, FillError> {
+        Err(FillError::NotPresent)
+    }
+
+    fn var_at(&self, _i: usize, _buf: &mut [u8]) -> Result<usize, FillError> {
+        Err(FillError::NotPresent)
+    }
+}
+
+// Asserts how the program ends with this word on its command line.
+fn check_program<R: AllocGlobal + Abort + Threads + Sync>(
+    rt: &R,
+    word: &[u8],
+    status: u8,
+    out: &[u8],
+    err: &[u8],
+) {
+    let mut input = b"put a 1\ngo\nput ab 1\n".as_slice();
+    let mut written = Vec::new(rt.alloc());
+    let mut told = Vec::new(rt.alloc());
+    let got = run_program(&OneWord { rt, word }, &mut input, &mut written, &mut told);
+    assert_eq!(rt; told.as_slice(), err);
+    assert_eq!(rt; written.as_slice(), out);
+    assert_eq!(rt; got, status);
+}
+
+#[test]
+fn the_program_obeys_its_words(rt: HostRuntime) {
+    check_program(&rt, b"--max-key=2", 0, b"new\nnew\n", b"");
+    let told = b"fault 2 KeyTooLong 0\n";
+    check_program(&rt, b"--max-key=1", 4, b"new\n", told);
+    let told = b"error: a word of the command line is no text\n";
+    check_program(&rt, b"\xFF", 2, b"", told);
 }
 
 #[test]
@@ -362,6 +451,32 @@ fn the_output_fails_once(rt: HostRuntime) {
     check_one_fault(&rt, ErrorKind::Other, 0, 4, b"");
     check_one_fault(&rt, ErrorKind::Other, 1, 4, b"new\n");
     check_one_fault(&rt, ErrorKind::Interrupted, 1, 0, b"new\nvalue 1\n");
+}
+
+// Asserts what is told of a bad line where the first so many writes to standard error fail so.
+fn check_told<R: AllocGlobal + Abort + Threads + Sync>(
+    rt: &R,
+    kind: ErrorKind,
+    faults: usize,
+    err: &[u8],
+) {
+    let mut input = b"frob\n".as_slice();
+    let mut written = Vec::new(rt.alloc());
+    let mut told = Failing {
+        calls: 0,
+        faults,
+        kind,
+        stream: Vec::new(rt.alloc()),
+    };
+    let status = run(rt, &mut input, &mut written, &mut told);
+    assert_eq!(rt; status, 3);
+    assert_eq!(rt; told.stream.as_slice(), err);
+}
+
+#[test]
+fn standard_error_fails(rt: HostRuntime) {
+    check_told(&rt, ErrorKind::Other, usize::MAX, b"");
+    check_told(&rt, ErrorKind::Interrupted, 1, b"line 1: unknown command\n");
 }
 
 #[test]

@@ -25,6 +25,12 @@ fn faults_print_number_name_and_what_they_carry(rt: HostRuntime) -> Result<(), F
         (Fault::ValueTooLong(65_534), "3 ValueTooLong 65534"),
         (Fault::BatchTooLong, "4 BatchTooLong"),
         (Fault::NoMemory, "6 NoMemory"),
+        (Fault::Full, "10 Full"),
+        (Fault::NothingToClean, "11 NothingToClean"),
+        (Fault::NotAStore, "12 NotAStore"),
+        (Fault::NoSlot, "13 NoSlot"),
+        (Fault::BadSegment(1), "14 BadSegment 1"),
+        (Fault::BadFrame(0, 16), "15 BadFrame 0 16"),
         (
             Fault::BadStructure(Finding {
                 rule: 5,

@@ -1,4 +1,4 @@
-use Rattle.std.proofs.Common.{◌≡◌, ap}
+use Rattle.std.proofs.Common.{◌≡◌, ◌∙◌, ap}
 use Rattle.std.proofs.lemmas.Result.{IfOk-weaker}
 use Rattle.clap.specs.Words.{app_of}
 use Rattle.clap.specs.Simple.{app_of_fields}
@@ -8,7 +8,7 @@ use Rattle.bwsh.proofs.options.command.Goals as goal
 
 pub returns : goal.returns
 returns c =
-    let plain : app_of c.no_binary_name.result ≡ plain_bwsh = unnamed _ _ _ (ap app_of_fields c.no_binary_name.ensures) (ap app_of_fields c.about.ensures) c.new.ensures.app in
+    let plain : app_of c.no_binary_name.result ≡ plain_bwsh = unnamed _ _ _ (ap app_of_fields c.no_binary_name.ensures) (ap app_of_fields c.after_help.ensures ∙ ap app_of_fields c.about.ensures) c.new.ensures.app in
     let one = rule_added _ _ _ _ _ c.in_ok-arg.ensures c.number.ensures.local plain c.number.ensures.rule in
     let two = rule_added _ _ _ _ _ c.in_ok-arg-2.ensures c.number-2.ensures.local one c.number-2.ensures.rule in
     let three = rule_added _ _ _ _ _ c.in_ok-arg-3.ensures c.number-3.ensures.local two c.number-3.ensures.rule in

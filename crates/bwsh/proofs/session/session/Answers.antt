@@ -1,6 +1,7 @@
 use Rattle.std.proofs.Common.{◌≡◌, map}
 use Rattle.std.specs.String.{string_bytes}
 use Rattle.bwsh.proofs.EndLemmas.{all_follows, Appends-same}
+use Rattle.bwsh.proofs.TellLemmas.{quiet_end}
 use Rattle.bwsh.proofs.session.session.Goals as goal
 
 pub returns : goal.returns
@@ -10,7 +11,7 @@ returns g c =
     let old = g.O.Write.contents c.args.out.now in
     let new = g.O.Write.contents c.obey-done.new.out in
     let ends = c.obey-done.ensures in
-    let follows = all_follows words known old new (c.obey-done.new.input ≡ c.args.input.now) (c.obey-done.new.out ≡ c.args.out.now) c.end.result c.obey-done.result c.end.ensures
+    let follows = all_follows words known old new (c.obey-done.new.input ≡ c.args.input.now) (c.obey-done.new.out ≡ c.args.out.now) c.end.result c.obey-done.result c.end.ensures.status
     (Appends-same g.O.Write.contents c.args.out.now c.obey-done.new.out) ends in
     record {
       status = follows.status_is;
@@ -19,5 +20,6 @@ returns g c =
       done = follows.done;
       bad = follows.bad;
       beginning = follows.beginning;
-      ends = (c.obey-done.result, c.end.ensures, ends);
+      ends = (c.obey-done.result, c.end.ensures.status, ends, c.end.ensures.told);
+      quiet = quiet_end c.obey-done.result c.end.result _ c.end.ensures.status c.end.ensures.quiet;
     }

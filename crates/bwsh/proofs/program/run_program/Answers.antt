@@ -1,0 +1,10 @@
+use Rattle.std.proofs.Common.{inl, inr, map, drop}
+use Rattle.std.specs.String.{string_bytes}
+use Rattle.bwsh.proofs.TellLemmas.{of_either}
+use Rattle.bwsh.proofs.program.run_program.Goals as goal
+
+pub returns : goal.returns
+returns g c = record {
+  ends = of_either c.all_words.result _ _ _ (λ all p. inl (map string_bytes (drop 1 all.items), p)) (λ error p. inr (p.0, p.2, p.3)) c.run_words.ensures.read c.run_words.ensures.unread;
+  quiet = c.run_words.ensures.quiet;
+}

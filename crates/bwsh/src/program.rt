@@ -1,0 +1,70 @@
+//! The program: reads the words of its command line, and runs the session that they ask for.
+ghost use Rattle.std.specs.Prelude.{◌≡◌, ◌↔◌, ◌⊎◌, ℕ, List, map, drop, IfOk, IfErr};
+ghost use Rattle.std.specs.String.{string_bytes};
+ghost use Rattle.std.specs.IoError.{error_kind};
+ghost use Rattle.bwsh.specs.Session.{unread_text, IsBegun, EndsTold};
+
+use crate::session::{session, unread_words};
+use std::io::{ErrorKind, Read, Write};
+use std::rt::Env;
+use std::thread::Threads;
+use std::{env, io};
+
+// All words of the command line. The first is the program's name.
+fn all_words<R: Env + AllocGlobal>(rt: &R) -> io::Result<Vec<String>> {
+    Ok(env::args(rt)?.collect(rt.alloc())?)
+}
+
+// The words behind the program's name.
+fn behind_name(words: &[String]) -> &[String]
+    ensures { result.now ≡ drop 1 words.now }
+{
+    match words.split_first() {
+        Some((_name, behind)) => behind,
+        None => words,
+    }
+}
+
+/// Does what all these words of the command line ask for, of which the first is the program's name, and returns the
+/// exit status of the session. Where they cannot be read, that alone is told, and the status is that of
+/// `unread_words`.
+pub fn run_words<R: AllocGlobal + Threads + Sync, I: Read, O: Write, E: Write>(
+    rt: &R,
+    words: io::Result<Vec<String>>,
+    input: &mut I,
+    out: &mut O,
+    err: &mut E,
+) -> u8
+    ensures read { IfOk words (λ all. EndsTold (map string_bytes (drop 1 all.items))
+        (I.remaining input.old) (O.contents out.old) (O.contents out.new)
+        (E.contents err.old) (E.contents err.new)
+        (input.new ≡ input.old) (out.new ≡ out.old) result) }
+    ensures unread { IfErr words (λ error. ((result ≡ 2) ⊎ (result ≡ 4))
+        × ((result ≡ 4) ↔ (error_kind error ≡ ErrorKind.OutOfMemory))
+        × (input.new ≡ input.old) × (out.new ≡ out.old)
+        × (result ≡ 2 → IsBegun (E.contents err.old) (E.contents err.new) unread_text)) }
+    ensures quiet { result ≡ 0 → err.new ≡ err.old }
+{
+    match words {
+        Ok(words) => session(rt, behind_name(&words), input, out, err),
+        Err(error) => unread_words(error, err),
+    }
+}
+
+/// Does what the words of the command line ask for, and returns the exit status. No clause of the library says which
+/// words an environment gives; a session with some words ends so, or they cannot be read.
+pub fn run_program<R: Env + AllocGlobal + Threads + Sync, I: Read, O: Write, E: Write>(
+    rt: &R,
+    input: &mut I,
+    out: &mut O,
+    err: &mut E,
+) -> u8
+    ensures ends { ((words : List (List ℕ)) × EndsTold words
+        (I.remaining input.old) (O.contents out.old) (O.contents out.new)
+        (E.contents err.old) (E.contents err.new)
+        (input.new ≡ input.old) (out.new ≡ out.old) result)
+        ⊎ (((result ≡ 2) ⊎ (result ≡ 4)) × (input.new ≡ input.old) × (out.new ≡ out.old)) }
+    ensures quiet { result ≡ 0 → err.new ≡ err.old }
+{
+    run_words(rt, all_words(rt), input, out, err)
+}
