@@ -1,8 +1,9 @@
 -- Lemmas on how many pairs a range has at least, after commands of which some delete.
-use Rattle.std.specs.Prelude.{◌≡◌, ℕ, zero, suc, ◌+◌, ◌-◌, ◌<◌, ◌≤◌, Bool, true, false, not, ◌&&◌, cond, List, [], ◌∷◌, ◌++◌, length, take, drop, Some, is_some, if◌then◌else◌}
+use Rattle.std.specs.Prelude.{◌≡◌, ℕ, zero, suc, ◌+◌, ◌-◌, ◌<◌, ◌≤◌, Bool, true, false, not, ◌&&◌, cond, List, [], ◌∷◌, ◌++◌, length, min, take, drop, Option, Some, None, is_some, if◌then◌else◌}
 use Rattle.std.proofs.Common.{refl, sym, ap, ◌∙◌, subst, arith, Ordering, Less, Equal, Greater, length-append, length-drop, get_or}
 use Rattle.std.specs.List.{AllByRecursion, filter}
 use Rattle.std.specs.List.Sorted.{IsPermutation, IsSorted, IsPartitionedBy, IsPartitionPoint}
+use Rattle.std.specs.Map.{keys_of}
 use Rattle.std.specs.Ordering.{is_lt, is_eq, match_ordering}
 use Rattle.std.proofs.lemmas.Grind.{flat_map-append}
 use Rattle.std.proofs.lemmas.List.{get_or-take, get_or-drop, length-take}
@@ -16,8 +17,11 @@ use Rattle.keys.specs.Step.{map_after, map_after_all}
 use Rattle.keys.specs.declared.command.Command.{Command}
 use Rattle.keys.specs.declared.command.Command.TheVariants.{Get, Put, Add, Del, Scan}
 use Rattle.keys.proofs.MapLaws.{total, passes_same}
-use Rattle.index_page.proofs.RangeLaws.{less_is_below, below_is_less, less_through}
-use Rattle.scan.specs.Ends.{deleted_by, deleted, count_within, count_below, LacksAtMost, AreCertain}
+use Rattle.keys.proofs.RangeLaws.{none_in_range}
+use Rattle.delta_chain.specs.Layers.{Layers, with_change, with_run, entries_under, entries_of}
+use Rattle.index_page.proofs.RangeLaws.{less_is_below, below_is_less, less_through, not_below_lower}
+use Rattle.page_search.specs.Places as places
+use Rattle.scan.specs.Ends.{deleted_by, deleted, count_within, count_below, LacksAtMost, AreCertain, keyed_below, named_under, named_below}
 
 -- ---- how many are kept of a list, one element at a time
 
@@ -66,17 +70,6 @@ module _ {X : Type 0} where
   between f g h [] i j = omega arith
   between f g h (x ∷ xs) i j =
       between_by (f x) (g x) (h x) x (filter (λ x. not (f x) && g x) xs) (filter (λ x. not (g x) && h x) xs) (filter (λ x. not (f x) && h x) xs) (i x) (j x) (between f g h xs i j)
-
-  further_by : (a b c : Bool) (x : X) (less all : List X) → (b ≡ true → c ≡ true) → length less ≤ length all → length (cond (not a && b) (x ∷ less) less) ≤ length (cond (not a && c) (x ∷ all) all)
-  further_by true b c x less all j h = h
-  further_by false true true x less all j h = omega (arith, h)
-  further_by false true false x less all j h = absurd (let f = j refl in cc)
-  further_by false false true x less all j h = omega (arith, h)
-  further_by false false false x less all j h = h
-
-  further : (f g h : X → Bool) (xs : List X) → ((x : X) → g x ≡ true → h x ≡ true) → length (filter (λ x. not (f x) && g x) xs) ≤ length (filter (λ x. not (f x) && h x) xs)
-  further f g h [] j = omega arith
-  further f g h (x ∷ xs) j = further_by (f x) (g x) (h x) x (filter (λ x. not (f x) && g x) xs) (filter (λ x. not (f x) && h x) xs) (j x) (further f g h xs j)
 
   -- where those that pass stand first, they are as many as stand there
   pub parted : (f : X → Bool) (n : ℕ) (xs : List X) → n ≤ length xs → AllByRecursion (λ x. f x ≡ true) (take n xs) → AllByRecursion (λ x. f x ≡ false) (drop n xs) → length (filter f xs) ≡ n
@@ -193,11 +186,7 @@ lacks m xs ys keys p = λ low end.
 
 -- ---- a leaf's share
 
--- nothing is counted of a leaf within which the scan begins
-pub none_certain : (lo low end : List ℕ) (m : Pairs) → is_below low end ≡ true → AreCertain lo m low end 0
-none_certain lo low end m h = let f = further (λ e. is_below e.0 lo) (λ e. is_below e.0 low) (λ e. is_below e.0 end) m (λ e b. below_through e.0 low end b h) in omega (arith, f)
-
--- of another, what it has at least, less the keys that are deleted there
+-- of a leaf from its low key on, what it has at least, less the keys that are deleted there
 pub some_certain : (lo low end : List ℕ) (keys : List (List ℕ)) (m n es : Pairs) (fewest gone left : ℕ) → is_below low lo ≡ false → is_below low end ≡ true → LacksAtMost keys m n → es ≡ in_range low (Some end) m → fewest ≤ length es
     → count_within low end keys ≤ gone → left ≡ fewest - gone → AreCertain lo n low end left
 some_certain lo low end keys m n es fewest gone left b h l e f c s =
@@ -205,3 +194,128 @@ some_certain lo low end keys m n es fewest gone left b h l e f c s =
     let lack = l low end in
     let sum = between (λ e. is_below e.0 lo) (λ e. is_below e.0 low) (λ e. is_below e.0 end) n (λ e q. below_higher e.0 lo low b q) (λ e q. below_through e.0 low end q h) in
     omega (arith, here, lack, sum, f, c, s)
+
+-- ---- the leaf in which a scan begins
+
+module _ (lo : List ℕ) where
+  abbrev Below : {X : Type 0} → List (List ℕ × X) → List (List ℕ × X)
+  Below es = filter (λ e. is_below e.0 lo) es
+
+  taken_by : (b : Bool) (e : List ℕ × List ℕ) (es rest : Pairs) → length (Below rest) ≤ length (Below es) → length (Below (cond b es (e ∷ rest))) ≤ length (Below (e ∷ es))
+  taken_by true e es rest h = more_by (is_below e.0 lo) e (Below es)
+  taken_by false e es rest h = same_by (is_below e.0 lo) e e (Below rest) (Below es) h
+
+  none_added : (m : Pairs) (k : List ℕ) → length (Below (without m k)) ≤ length (Below m)
+  none_added [] k = omega arith
+  none_added (e ∷ es) k = taken_by (is_eq (order k e.0)) e es (without es k) (none_added es k)
+
+  first_by : {X Y : Type 0} (b : Bool) (x : X) (y : Y) (xs : List X) → length (cond b (x ∷ xs) xs) ≤ length xs + length (cond b (y ∷ []) [])
+  first_by true x y xs = omega arith
+  first_by false x y xs = omega arith
+
+  kept_by : {X : Type 0} (b : Bool) (x y : X) (xs : List X) (n : ℕ) → length (cond b (x ∷ xs) xs) ≤ length (cond b (y ∷ xs) xs) + n
+  kept_by true x y xs n = omega arith
+  kept_by false x y xs n = omega arith
+
+  put_here : (o : Ordering) (k v : List ℕ) (e : List ℕ × List ℕ) (es rest : Pairs) → length (Below rest) ≤ length (Below es) + keyed_below lo ((k, v) ∷ [])
+      → length (Below (match_ordering o ((k, v) ∷ e ∷ es) ((e.0, v) ∷ es) (e ∷ rest))) ≤ length (Below (e ∷ es)) + keyed_below lo ((k, v) ∷ [])
+  put_here Less k v e es rest h = first_by (is_below k lo) (k, v) (k, v) (Below (e ∷ es))
+  put_here Equal k v e es rest h = kept_by (is_below e.0 lo) (e.0, v) e (Below es) (keyed_below lo ((k, v) ∷ []))
+  put_here Greater k v e es rest h = plus_by (is_below e.0 lo) (keyed_below lo ((k, v) ∷ [])) e (Below rest) (Below es) h
+
+  one_added : (m : Pairs) (k v : List ℕ) → length (Below (with_pair m k v)) ≤ length (Below m) + keyed_below lo ((k, v) ∷ [])
+  one_added [] k v = omega arith
+  one_added (e ∷ es) k v = put_here (order k e.0) k v e es (with_pair es k v) (one_added es k v)
+
+  key_alone : {X Y : Type 0} (b : Bool) (x : X) (y : Y) → length (cond b (x ∷ []) []) ≡ length (cond b (y ∷ []) [])
+  key_alone true x y = refl
+  key_alone false x y = refl
+
+  changed : (m : Pairs) (k : List ℕ) (o : Option (List ℕ)) → length (Below (with_change m k o)) ≤ length (Below m) + keyed_below lo ((k, o) ∷ [])
+  changed m k None = let h = none_added m k in omega (arith, h)
+  changed m k (Some v) =
+      let h = one_added m k v in
+      let same : keyed_below lo ((k, v) ∷ []) ≡ keyed_below lo ((k, Some v) ∷ []) = key_alone (is_below k lo) (k, v) (k, Some v) in
+      omega (arith, h, same)
+
+  front_by : {X : Type 0} (b : Bool) (x : X) (xs : List X) → length (cond b (x ∷ xs) xs) ≡ length (cond b (x ∷ []) []) + length xs
+  front_by true x xs = omega arith
+  front_by false x xs = omega arith
+
+  run_adds : (m : Pairs) (run : List (List ℕ × Option (List ℕ))) → length (Below (with_run m run)) ≤ length (Below m) + keyed_below lo run
+  run_adds m [] = omega arith
+  run_adds m (c ∷ cs) =
+      let one = changed m c.0 c.1 in
+      let rest = run_adds (with_change m c.0 c.1) cs in
+      let parts : keyed_below lo (c ∷ cs) ≡ keyed_below lo ((c.0, c.1) ∷ []) + keyed_below lo cs = front_by (is_below c.0 lo) c (Below cs) in
+      omega (arith, one, rest, parts)
+
+  -- no more entries are below a key than are named below it
+  pub entries_below : (runs : List (List (List ℕ × Option (List ℕ)))) (base : Pairs) → length (Below (entries_under runs base)) ≤ named_under lo runs base
+  entries_below [] base = omega arith
+  entries_below (run ∷ runs) base =
+      let here = run_adds (entries_under runs base) run in
+      let rest = entries_below runs base in
+      omega (arith, here, rest)
+
+  keys_by : {X : Type 0} (b : Bool) (x : X) (k : List ℕ) (xs : List X) (ks : List (List ℕ)) → length xs ≡ length ks → length (cond b (x ∷ xs) xs) ≡ length (cond b (k ∷ ks) ks)
+  keys_by true x k xs ks h = ap suc h
+  keys_by false x k xs ks h = h
+
+  below-keys : {X : Type 0} (es : List (List ℕ × X)) → keyed_below lo es ≡ length (filter (λ k. is_below k lo) (keys_of es))
+  below-keys [] = refl
+  below-keys (e ∷ es) = keys_by (is_below e.0 lo) e e.0 (Below es) (filter (λ k. is_below k lo) (keys_of es)) (below-keys es)
+
+  -- what a search in a list finds
+  pub below-place : {X : Type 0} (es : List (List ℕ × X)) (n : ℕ) → n ≡ places.count_below lo (keys_of es) → keyed_below lo es ≡ n
+  below-place es n h = below-keys es ∙ length-filter (λ k. is_below k lo) (keys_of es) ∙ sym h
+
+  parted_by : (w b c : Bool) (e : List ℕ × List ℕ) (es rest : Pairs) → is_below e.0 lo ≡ b → (w ≡ true → c ≡ true) → length es ≤ length (Below es) + length rest
+      → length (cond w (e ∷ es) es) ≤ length (Below (cond w (e ∷ es) es)) + length (cond (not b && c) (e ∷ rest) rest)
+  parted_by true true c e es rest q i h = rw q (omega (arith, h))
+  parted_by true false true e es rest q i h = rw q (omega (arith, h))
+  parted_by true false false e es rest q i h = absurd (let f = i refl in cc)
+  parted_by false b c e es rest q i h = let more = more_by (not b && c) e rest in omega (arith, h, more)
+
+  before_by : (a c : Bool) → (not a && c) ≡ true → c ≡ true
+  before_by true c h = absurd (cc)
+  before_by false c h = h
+
+  -- what lies in a range lies below the key, or from it on
+  parted_range : (low end : List ℕ) (m : Pairs) → length (in_range low (Some end) m) ≤ length (Below (in_range low (Some end) m)) + length (in_range lo (Some end) m)
+  parted_range low end [] = omega arith
+  parted_range low end (e ∷ m) =
+      parted_by (is_within low (Some end) e.0) (is_below e.0 lo) (is_below e.0 end) e (in_range low (Some end) m) (in_range lo (Some end) m) refl (before_by (is_below e.0 low) (is_below e.0 end)) (parted_range low end m)
+
+-- a scan that begins within the leaf has what the leaf has at least, less what it names below the scan, and what is deleted
+pub behind_certain : (lo low end : List ℕ) (keys : List (List ℕ)) (m n : Pairs) (p : Layers (List ℕ)) (fewest most named gone left : ℕ) → is_below low lo ≡ true → LacksAtMost keys m n → entries_of p ≡ in_range low (Some end) m
+    → fewest ≤ length (entries_of p) → fewest ≤ most → named ≡ min (named_below lo p) most → count_within lo end keys ≤ gone → left ≡ (fewest - named) - gone → AreCertain lo n low end left
+behind_certain lo low end keys m n p fewest most named gone left b l e f u s g r =
+    let lack = l lo end in
+    let parts = parted_range lo low end m in
+    let below = entries_below lo p.runs p.base in
+    let whole : length (entries_of p) ≡ length (in_range low (Some end) m) = ap (λ (x : Pairs). length x) e in
+    let named_there : length (Below lo (entries_of p)) ≡ length (Below lo (in_range low (Some end) m)) = ap (λ (x : Pairs). length (Below lo x)) e in
+    let nothing : length (in_range lo (Some low) n) ≡ 0 = ap (λ (x : Pairs). length x) (none_in_range n lo low (not_below_lower low lo (below_is_less low lo b))) in
+    omega (arith, lack, parts, below, whole, named_there, nothing, f, u, s, g, r)
+
+-- and certainly none, at least
+pub none_behind : (lo low end : List ℕ) (n : Pairs) → is_below low lo ≡ true → AreCertain lo n low end 0
+none_behind lo low end n b =
+    let nothing : length (in_range lo (Some low) n) ≡ 0 = ap (λ (x : Pairs). length x) (none_in_range n lo low (not_below_lower low lo (below_is_less low lo b))) in
+    omega (arith, nothing)
+
+-- ---- the lists of a leaf, counted one after the other up to the greatest number
+
+pub one_list_more : (most named place new all : ℕ) (key : List ℕ) (p below : Layers (List ℕ)) (run : List (List ℕ × Option (List ℕ))) → p ≡ record below { runs = run ∷ below.runs } → place ≡ places.count_below key (keys_of run)
+    → new ≡ min (named + place) most → min (named + named_below key p) most ≡ min all most → min (new + named_below key below) most ≡ min all most
+one_list_more most named place new all key p below run e c s h =
+    let whole : named_below key p ≡ named_below key below + keyed_below key run = ap (named_below key) e in
+    let here : keyed_below key run ≡ place = below-place key run place c in
+    omega (arith, whole, here, s, h)
+
+pub last_list : (most named place new all : ℕ) (key : List ℕ) (p : Layers (List ℕ)) → p.runs ≡ [] → place ≡ places.count_below key (keys_of p.base) → new ≡ min (named + place) most → min (named + named_below key p) most ≡ min all most → new ≡ min all most
+last_list most named place new all key p e c s h =
+    let whole : named_below key p ≡ keyed_below key p.base = ap (λ (runs : List (List (List ℕ × Option (List ℕ)))). named_under key runs p.base) e in
+    let here : keyed_below key p.base ≡ place = below-place key p.base place c in
+    omega (arith, whole, here, s, h)

@@ -1,6 +1,7 @@
 -- What is certain of the pairs that a scan finds before a leaf, while commands before it may delete some.
-use Rattle.std.specs.Prelude.{ℕ, ◌+◌, ◌≤◌, List, [], ◌∷◌, flat_map, length, Some}
+use Rattle.std.specs.Prelude.{ℕ, ◌+◌, ◌≤◌, List, [], ◌∷◌, flat_map, length, Option, Some}
 use Rattle.std.specs.List.{filter}
+use Rattle.delta_chain.specs.Layers.{Layers}
 use Rattle.keys.specs.Range.{is_below, is_within, in_range}
 use Rattle.keys.specs.declared.command.Command.{Command}
 use Rattle.keys.specs.declared.command.Command.TheVariants.{Get, Put, Add, Del, Scan}
@@ -32,3 +33,16 @@ LacksAtMost keys m n = (low end : List ℕ) → length (in_range low (Some end) 
 -- of a scan of the map from a key on, as many pairs more lie before an end than before a low key, at least
 abbrev pub AreCertain : List ℕ → List (List ℕ × List ℕ) → List ℕ → List ℕ → ℕ → Type 0
 AreCertain lo m low end n = n + length (in_range lo (Some low) m) ≤ length (in_range lo (Some end) m)
+
+-- how many of these have a key below this one
+abbrev pub keyed_below : {X : Type 0} → List ℕ → List (List ℕ × X) → ℕ
+keyed_below key es = length (filter (λ e. is_below e.0 key) es)
+
+-- how many keys runs and a base name below this one, each list by itself
+abbrev pub named_under : List ℕ → List (List (List ℕ × Option (List ℕ))) → List (List ℕ × List ℕ) → ℕ
+named_under key [] base = keyed_below key base
+named_under key (run ∷ runs) base = named_under key runs base + keyed_below key run
+
+-- and those of a page
+abbrev pub named_below : List ℕ → Layers (List ℕ) → ℕ
+named_below key p = named_under key p.runs p.base

@@ -1,6 +1,6 @@
 //! The keys at which a batch's scans may end, since before them there are certainly as many rows as each may have. So a scan
 //! goes only to the leaves before its end, and not to each that its range meets.
-ghost use Rattle.std.specs.Prelude.{◌≡◌, ℕ, ◌≤◌, List, true, map, IfOk, IfSome};
+ghost use Rattle.std.specs.Prelude.{◌≡◌, ℕ, ◌≤◌, List, true, Some, map, min, IfOk, IfSome};
 ghost use Rattle.std.specs.List.Sorted.{IsPermutation, IsSorted};
 ghost use Rattle.std.specs.Map.{keys_of};
 ghost use Rattle.std.specs.Option.{option_copied};
@@ -11,8 +11,9 @@ ghost use Rattle.delta_chain.specs.Layers.{entries_of};
 ghost use Rattle.mapping.specs.Levels.{levels_of, names, contents};
 ghost use Rattle.mapping.specs.Proper.{AreLevels, HoldsLevels};
 ghost use Rattle.mapping.specs.TreeInMemory.{AreAllHome, tree_of};
-ghost use Rattle.scan.specs.Ends.{deleted, count_within, count_below, LacksAtMost, AreCertain};
+ghost use Rattle.scan.specs.Ends.{deleted, count_within, count_below, LacksAtMost, AreCertain, named_below};
 
+use crate::ahead::place_from;
 use crate::leaves::Leaves;
 use crate::rows::is_before;
 use delta_chain::Chain;
@@ -143,7 +144,7 @@ fn end_of_scan<'a>(
 }
 
 // How many of the pairs of a leaf, which begins at the low key and ends at the other, a scan from a key on certainly has,
-// whatever the commands before it do that delete these keys. None is counted where the scan begins within the leaf.
+// whatever the commands before it do that delete these keys.
 fn certain_pairs(
     chain: &Chain<Value<Global>, Global>,
     low: &[u8],
@@ -158,11 +159,47 @@ fn certain_pairs(
         → AreCertain lo.now n low.now end.now result }
 {
     if compare(low, lo).is_lt() {
-        return 0;
+        return certain_behind(chain, end, lo, deleted);
     }
     chain
         .fewest_entries()
         .saturating_sub(count_within(deleted, low, end))
+}
+
+// The same of the leaf in which the scan begins: at least so many less as the leaf names keys below the scan's own.
+fn certain_behind(
+    chain: &Chain<Value<Global>, Global>,
+    end: &[u8],
+    lo: &[u8],
+    deleted: &[KeyRef<'_>],
+) -> usize
+    requires sorted { IsSorted order deleted.now }
+    ensures { (low : List ℕ) (m n : List (List ℕ × List ℕ)) → LacksAtMost deleted.now m n
+        → is_below low lo.now ≡ true
+        → entries_of chain.now ≡ in_range low (Some end.now) m
+        → AreCertain lo.now n low end.now result }
+{
+    if !compare(lo, end).is_lt() {
+        return 0;
+    }
+    chain
+        .fewest_entries()
+        .saturating_sub(named_below(chain, lo))
+        .saturating_sub(count_within(deleted, lo, end))
+}
+
+// How many keys the leaf's lists name below this one, each list by itself: no more of its entries are below it. Each list is
+// searched by halves.
+fn named_below(chain: &Chain<Value<Global>, Global>, key: &[u8]) -> usize
+    ensures { result ≡ min (named_below key.now chain.now) usize.MAX }
+{
+    let mut named = 0usize;
+    let mut rest = chain;
+    while let Some((run, below)) = rest.newest() {
+        named = named.saturating_add(place_from(run, key));
+        rest = below;
+    }
+    named.saturating_add(place_from(rest.base(), key))
 }
 
 // How many of the keys lie from the low one on, and below the end.

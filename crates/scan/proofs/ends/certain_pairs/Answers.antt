@@ -1,11 +1,12 @@
 use Rattle.std.proofs.Common.{sym, ap, ◌∙◌, Ordering}
 use Rattle.std.specs.Ordering.{is_lt}
 use Rattle.delta_chain.specs.Layers.{entries_of}
-use Rattle.scan.proofs.Enough.{none_certain, some_certain}
+use Rattle.scan.proofs.Enough.{some_certain}
 use Rattle.scan.proofs.ends.certain_pairs.Goals as goal
 
 pub returns-then-is_lt : goal.returns-then-is_lt
-returns-then-is_lt c = λ m n lack below part. none_certain c.args.lo.now c.args.low.now c.args.end.now n below
+returns-then-is_lt c = λ m n lack below part.
+    c.certain_behind.ensures c.args.low.now m n lack (sym (ap (λ (o : Ordering). is_lt o) c.compare.ensures) ∙ sym c.if-is_lt.ensures) part
 
 pub returns : goal.returns
 returns c = λ m n lack below part.
