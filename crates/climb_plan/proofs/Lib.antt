@@ -37,7 +37,6 @@ pub mod LeveledBack
 pub mod LeveledChange
 pub mod LeveledCut
 pub mod LeveledDrawn
-pub mod LeveledHome
 pub mod LeveledTop
 mod Literals
 mod Logs

@@ -59,11 +59,6 @@ module _ {V : Type 0} where
   length-runs (told p run r) = ap (λ (n : ℕ). suc n) (length-runs r)
   length-runs (untold p r) = length-runs r
 
-  pub length-all_runs : {ps qs : List (Placed V)} {all rs : List (List (List ℕ × Option V))} → AreRunsOf ps all qs rs → length all ≡ length ps
-  length-all_runs (AreRunsOf.none) = refl
-  length-all_runs (told p run r) = ap (λ (n : ℕ). suc n) (length-all_runs r)
-  length-all_runs (untold p r) = ap (λ (n : ℕ). suc n) (length-all_runs r)
-
   -- what holds of all pages holds of those that have a run
   pub all_told : {ps qs : List (Placed V)} {all rs : List (List (List ℕ × Option V))} (P : Placed V → Type 0) → AreRunsOf ps all qs rs → AllByRecursion P ps → AllByRecursion P qs
   all_told P (AreRunsOf.none) h = tt

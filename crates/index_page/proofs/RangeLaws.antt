@@ -83,9 +83,6 @@ from_nothing ((x ∷ xs) ∷ ks) = (refl, from_nothing ks)
 -- ---- lists of pairs
 
 module _ {X : Type 0} where
-  pub before-append : (end : Option (List ℕ)) (xs ys : List (List ℕ × X)) → AreBefore end (keys_of xs) → AreBefore end (keys_of ys) → AreBefore end (keys_of (xs ++ ys))
-  before-append None xs ys a b = tt
-  before-append (Some hi) xs ys a b = all_keys-append (λ j. is_below j hi ≡ true) xs ys a b
 
   pub before_apart : (end : Option (List ℕ)) (xs ys : List (List ℕ × X)) → AreBefore end (keys_of (xs ++ ys)) → AreBefore end (keys_of xs) × AreBefore end (keys_of ys)
   before_apart None xs ys a = (tt, tt)

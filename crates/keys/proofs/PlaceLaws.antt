@@ -1,16 +1,8 @@
 -- Lemmas on places in a batch, for the proofs of this crate and of those above it.
 use Rattle.std.proofs.Common.{◌≡◌, ℕ, zero, suc, ◌+◌, ◌<◌, ◌≤◌, ◌==◌, Bool, cond, List, refl, ap, ◌∙◌, inl, inr, arith}
-use Rattle.std.specs.List.{All, count_by, range_with_len}
-use Rattle.std.specs.List.Sorted.{IsPermutation}
+use Rattle.std.specs.List.{count_by, range_with_len}
 use Rattle.std.proofs.lemmas.Bool.{eq-eqb, ne_eqb, cases_eq}
-use Rattle.std.proofs.lemmas.List.Elements.{All-nil, All-cons}
-use Rattle.std.proofs.lemmas.List.Sorted.{All-permutation, sum_by-IsPermutation}
 use Rattle.std.proofs.lemmas.List.Sums.{sum_by-cons}
-use Rattle.keys.specs.Places.{HasEachOnce}
-
-range_within : (m a n : ℕ) → a + n ≤ m → All (λ place. place < m) (range_with_len a n)
-range_within m a zero h = All-nil (λ place. place < m)
-range_within m a (suc n) h = All-cons (λ place. place < m) a (range_with_len (a + 1) n) (omega arith) (range_within m (a + 1) n (omega arith))
 
 count : ℕ → List ℕ → ℕ
 count i places = count_by (λ other. other == i) places
@@ -39,11 +31,3 @@ count_within i a (suc n) h l = elim (cases_eq a i) [
       let rest : count i (range_with_len (a + 1) n) ≡ 1 = count_within i (a + 1) n (omega arith) (omega arith) in
       omega arith
 ]
-
--- the places below n in any order have each place once
-pub HasEachOnce-from_permutation : (n : ℕ) (places : List ℕ) → IsPermutation (range_with_len 0 n) places → HasEachOnce n places
-unfolding count
-HasEachOnce-from_permutation n places h = record {
-  within = All-permutation (λ place. place < n) (range_with_len 0 n) places h (range_within n 0 n (omega arith));
-  once = λ i below. sum_by-IsPermutation (λ other. cond (other == i) 1 0) (range_with_len 0 n) places h ∙ count_within i 0 n (omega arith) (omega arith);
-}

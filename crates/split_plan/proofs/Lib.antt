@@ -7,7 +7,6 @@ pub mod GroupSizes
 mod LentPieces
 pub mod OutdatedLaws
 pub mod PidLaws
-pub mod PieceLaws
 pub mod Renewed
 pub mod RunLaws
 pub mod TermLaws
