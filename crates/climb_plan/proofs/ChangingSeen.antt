@@ -5,8 +5,9 @@ use Rattle.std.specs.List.{filter}
 use Rattle.index_page.specs.Page.{Page, PageOfKind}
 use Rattle.mapping.specs.Table.{Mapping}
 use Rattle.page_runs.specs.Worked.{Worked}
-use Rattle.climb_plan.specs.Changing.{SeenPage, shown, AreSeen, worked_pids, replaced_among}
+use Rattle.climb_plan.specs.Changing.{SeenPage, shown, AreSeen}
 use Rattle.climb_plan.specs.Changing.AreSeen.{worked, at_home}
+use Rattle.climb_plan.proofs.Installed.{worked_pids, replaced_among}
 
 -- the pids of those that were replaced
 abbrev pub replaced_seen : List SeenPage → List ℕ

@@ -23,13 +23,14 @@ use Rattle.split_plan.proofs.PidLaws.{distinct_renewed, recast, renewed-append, 
 use Rattle.split_plan.proofs.Renewed.{Renewed}
 use Rattle.split_plan.proofs.Renewed.Renewed.{done, keep}
 use Rattle.split_plan.proofs.RunLaws.{names-worked_parents}
-use Rattle.climb_plan.specs.Changing.{same, worked_pids}
+use Rattle.climb_plan.specs.Changing.{same}
 use Rattle.climb_plan.specs.Climb.{Climbed, climb, families}
 use Rattle.climb_plan.specs.HasClimbed.{HasClimbed}
 use Rattle.climb_plan.proofs.ChangingOutdated.{worked_pids-placed, outdate-joined}
 use Rattle.climb_plan.proofs.InstalledPages.{AreApart, turned, distinct_apart}
 use Rattle.climb_plan.proofs.Pids.{renewed-climb}
 use Rattle.climb_plan.proofs.Climbing.{IsMadeReady, IsLevelInstalled, fresh_is_new, above_stay, gone_joined, others_joined}
+use Rattle.climb_plan.proofs.Installed.{worked_pids}
 
 -- ---- distinct pids
 

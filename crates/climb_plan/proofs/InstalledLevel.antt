@@ -13,10 +13,11 @@ use Rattle.page_runs.specs.Worked.{Worked}
 use Rattle.split_plan.specs.WorkedLevel.{placed_of}
 use Rattle.split_plan.specs.Change.{Change, is_rewritten, changes, family_changes, new_of, fresh_of, all_new}
 use Rattle.climb_plan.specs.Climb.{families}
-use Rattle.climb_plan.specs.Changing.{worked_pids, changing, changing_groups, AreHome, IsInstalled}
+use Rattle.climb_plan.specs.Changing.{changing, changing_groups, AreHome}
 use Rattle.climb_plan.proofs.ChangingGroups.{flat_map-flat, all_groups, flat-family_changes, groups-changing}
 use Rattle.climb_plan.proofs.ChangingOutdated.{all_groups-joined}
 use Rattle.climb_plan.proofs.InstalledPages.{AreFreshFor, installed-groups, freed-groups, other-groups}
+use Rattle.climb_plan.proofs.Installed.{worked_pids, IsInstalled}
 
 module _ {V : Type 0} where
 

@@ -70,3 +70,5 @@ pub mod ThroughTop
 pub mod ToldRuns
 pub mod ToldSome
 mod Untouched
+mod Installed
+mod Told

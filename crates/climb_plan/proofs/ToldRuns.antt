@@ -16,10 +16,11 @@ use Rattle.split_plan.specs.WorkedLevel.{worked_parents}
 use Rattle.split_plan.specs.Change.{Change, changes, family_changes, fresh_of}
 use Rattle.split_plan.specs.Terms.{terms}
 use Rattle.climb_plan.specs.Climb.{families}
-use Rattle.climb_plan.specs.Changing.{AreSeen, shown, Changing, rewritten, with_changing, changing, parents_of, changing_changes, AreRunsOf}
+use Rattle.climb_plan.specs.Changing.{AreSeen, shown, Changing, rewritten, with_changing, changing, parents_of, changing_changes}
 use Rattle.climb_plan.specs.Changing.AreSeen.{worked, at_home}
-use Rattle.climb_plan.specs.Changing.AreRunsOf.{told, untold}
+use Rattle.climb_plan.proofs.Told.AreRunsOf.{told, untold}
 use Rattle.climb_plan.proofs.ChangingGroups.{AreAlike, alike_rewritten, alike_terms}
+use Rattle.climb_plan.proofs.Told.{AreRunsOf}
 
 -- ---- only parents of families that change are told anything
 

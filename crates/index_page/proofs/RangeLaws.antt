@@ -13,6 +13,12 @@ use Rattle.index_page.specs.Page.{first_key}
 use Rattle.index_page.specs.Range.{is_below, AreBelow, AreFrom, AreBefore, IsBefore}
 use Rattle.index_page.proofs.ListLaws.{all_keys-append, all_keys_apart, all_keys-filter}
 
+-- a run whose keys rise, from a low key on and before an end
+pub record IsRunFor {X : Type 0} (low : List ℕ) (end : Option (List ℕ)) (run : List (List ℕ × X)) : Type 0 where
+  pub rising : IsRising run
+  pub from : AreFrom low (keys_of run)
+  pub before : AreBefore end (keys_of run)
+
 -- ---- keys
 
 less_by : (o : Ordering) → is_lt o ≡ true → o ≡ Less

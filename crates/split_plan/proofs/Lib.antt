@@ -12,3 +12,4 @@ pub mod RunLaws
 pub mod TermLaws
 mod TermMerge
 pub mod WorkedLaws
+pub mod Full
