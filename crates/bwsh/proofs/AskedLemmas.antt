@@ -23,9 +23,6 @@ use Rattle.bwsh.proofs.CommandLineLemmas.{Comes, rest_fault, rest_rows, words_co
 abbrev pub rules : List Rule
 rules = map built_rule option_defaults ++ built_help ∷ []
 
-is_rules : (built bwsh).top.rules ≡ rules
-is_rules = refl
-
 -- these are what is found of the option by its name and by its id
 abbrev IsKnownAs : Text → Option Rule → Option Rule → Type 0
 IsKnownAs name by_long by_id = (default : Text) × (by_long ≡ Some (built_rule (name, default))) × (by_id ≡ Some (built_rule (name, default)))

@@ -158,11 +158,6 @@ module _ (c : List Rule) (facts : HasOptions c) where
   stray rows pen = subst (λ (o : Option Rule). option_map_or (λ a. positional_fault c false a (held rows pen)) o (UnknownArgument ∷ []) ≡ UnknownArgument ∷ [])
       (sym facts.positional) refl
 
-  -- an option takes its text
-  pushed_fault : (name word : Text) (rows : List Row) → let met = plain_word c (option name) word (held rows (Some (name, []))) in
-      step_fault (shape c) 1 met.0 met.1 ≡ []
-  pushed_fault name word rows = refl
-
   pushed_walk : (name word : Text) (rows : List Row) → is_option name ≡ true → let met = plain_word c (option name) word (held rows (Some (name, []))) in
       after_step c word (standing rows (Some (name, [])) (option name) false) met.0 met.1 ≡ standing rows (Some (name, word ∷ [])) idle false
   pushed_walk name word rows is =

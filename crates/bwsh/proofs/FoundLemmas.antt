@@ -13,7 +13,17 @@ use Rattle.clap.specs.declared.builder.value_parser.Reading.TheVariants.{Without
 use Rattle.clap.specs.declared.parser.matches.ValueSource.TheVariants.{DefaultValue}
 use Rattle.clap.proofs.WalkLemmas.{find-map}
 use Rattle.bwsh.specs.Options.{Text, Given, is_number, number_of, number_or}
-use Rattle.bwsh.specs.CommandLine.{AreNumbers, built_rule, default_row, finished_rows, given_row, option_defaults}
+use Rattle.bwsh.specs.CommandLine.{AreNumbers, built_rule, finished_rows, given_row, option_defaults}
+
+-- what is found for an option that was not
+abbrev pub default_row : Text × Text → Row
+default_row p = record {
+  id = p.0;
+  values = p.1 ∷ [];
+  count = None;
+  source = Some DefaultValue;
+  reading = WithoutMinus;
+}
 
 abbrev pub at : Text → Row → Bool
 at id r = bytes_eq r.id id

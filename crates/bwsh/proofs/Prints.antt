@@ -2,7 +2,7 @@
 use Rattle.std.proofs.Common.{◌≡◌, ◌⊎◌, inl, inr, ℕ, List, [], ◌∷◌, ◌++◌, map, take, drop, Option, Some, None, IfSome, Result, Ok, Err, refl, sym, ap, ◌∙◌, subst, append_assoc, append-nil, take-append-drop}
 use Rattle.std.specs.List.{flat_map}
 use Rattle.std.specs.Io.KnownBytes.{Appends, Keeps}
-use Rattle.std.proofs.KnownBytes.{Appends-trans, Appends-kept, Appends-nil}
+use Rattle.std.proofs.KnownBytes.{Appends-trans, Appends-kept}
 use Rattle.std.proofs.lemmas.Grind.{flat_map-append}
 use Rattle.std.proofs.lemmas.List.{map-append}
 use Rattle.std.proofs.lemmas.List.Folds.{flat_map-map}
@@ -153,10 +153,6 @@ pub IfSome-known : (known : Option (List ℕ)) (text : List ℕ) (P : List ℕ �
 IfSome-known None text P e p = tt
 IfSome-known (Some bytes) text P e p = subst P e p
 
-pub IfSome-any : (known : Option (List ℕ)) (P : List ℕ → Type 0) → ((text : List ℕ) → P text) → IfSome known P
-IfSome-any None P f = tt
-IfSome-any (Some bytes) P f = f bytes
-
 -- ---- one text
 
 -- a text is written, and handed on to the device
@@ -173,6 +169,3 @@ PrintsOneText-written old mid new bytes done end ok err device kept ended =
       by (Ok x) a p q = inl (refl, subst (Appends old mid) (one bytes) a)
       by (Err x) a (front, begins, b) q =
           inr (inr (ap (λ (e : Ending). Err e) q, (front, subst (λ (xs : List ℕ). BeginsWith xs front) (one bytes) begins, b)))
-
-pub PrintsOneText-refused : (old : Option (List ℕ)) → PrintsOneText old old (Err (endings.Fault NoMemory))
-PrintsOneText-refused old = ([], inr (inl (refl, ([], ([] ∷ [], refl), Appends-nil old))))

@@ -6,7 +6,7 @@ use Rattle.clap.specs.Walk.{with_default}
 use Rattle.clap.specs.Simple.{filled, on_top}
 use Rattle.clap.specs.declared.builder.value_parser.ValueParser.TheVariants as vp
 use Rattle.clap.specs.declared.builder.value_parser.Reading.TheVariants.{WithoutMinus}
-use Rattle.clap.specs.declared.parser.matches.ValueSource.TheVariants.{CommandLine, DefaultValue}
+use Rattle.clap.specs.declared.parser.matches.ValueSource.TheVariants.{CommandLine}
 use Rattle.bwsh.specs.Options.{Text, Given, is_number}
 
 -- an option that takes a number
@@ -45,16 +45,6 @@ given_row g = record {
   values = g.1 ∷ [];
   count = None;
   source = Some CommandLine;
-  reading = WithoutMinus;
-}
-
--- what is found for an option that was not
-abbrev pub default_row : Text × Text → Row
-default_row p = record {
-  id = p.0;
-  values = p.1 ∷ [];
-  count = None;
-  source = Some DefaultValue;
   reading = WithoutMinus;
 }
 

@@ -1,6 +1,6 @@
 -- The groups of a level that are rewritten, as code has them, can be cut.
-use Rattle.std.specs.Prelude.{◌≡◌, ℕ, ◌<◌, Bool, true, false, cond, List, [], ◌∷◌, ◌++◌, map, length, Option}
-use Rattle.std.proofs.Common.{refl, sym, ap, ◌∙◌, subst, arith, append-nil}
+use Rattle.std.specs.Prelude.{◌≡◌, ℕ, Bool, true, false, cond, List, [], ◌∷◌, ◌++◌, map, Option}
+use Rattle.std.proofs.Common.{refl, sym, ap, ◌∙◌, subst, append-nil}
 use Rattle.std.specs.List.{filter, AllByRecursion}
 use Rattle.std.proofs.lemmas.Grind.{flat_map-append}
 use Rattle.keys.specs.Lists.{flat}
@@ -91,18 +91,6 @@ module _ {V : Type 0} where
 -- ---- the groups can be cut
 
 module _ {V : Type 0} (of : Page V → PageOfKind) where
-  some_member : (g : List (Worked V)) → is_rewritten g ≡ true → 0 < length (map (shown of) g)
-  some_member [] e = absurd (cc)
-  some_member (w ∷ ws) e = omega arith
-
-  pub some_each : (gs : List (List (Worked V))) → AreRewritten gs → AllByRecursion (λ g. 0 < length g) (shown_groups of gs)
-  some_each [] h = tt
-  some_each (g ∷ gs) h = (some_member g h.0, some_each gs h.1)
-
-  -- each group that is rewritten has a member
-  pub groups_have_members : (ps : List (Placed ℕ)) (ws : List (Worked V)) → AllByRecursion (λ g. 0 < length g) (groups_of (rewriting ps (map (shown of) ws)))
-  groups_have_members ps ws =
-      subst (λ (gs : List (List SeenPage)). AllByRecursion (λ g. 0 < length g) gs) (sym (groups-shown of ps ws)) (some_each (changing_groups (changing ps ws)) (changing_rewritten ps ws))
 
   module _ (kind : IsKind of) where
     cut_one : (g : List (Worked V)) → is_rewritten g ≡ true → IsInOrder g → CanJoin (map (λ x. x.page) (map (shown of) g))

@@ -26,13 +26,14 @@ use Rattle.split_plan.proofs.WorkedLaws.{tiled-worked_parents}
 use Rattle.climb_plan.specs.Changing.{SeenPage, shown, AreHome, Changing, changing, parents_of, changing_groups, changing_changes}
 use Rattle.climb_plan.specs.Climb.{families}
 use Rattle.climb_plan.specs.Installing.{parent_held, AreParentsHome}
-use Rattle.climb_plan.specs.Level.{parent_pids, each_told, IsNeverUnused, IsLevel, next_tree}
+use Rattle.climb_plan.specs.Level.{parent_pids, IsNeverUnused, IsLevel, next_tree}
 use Rattle.climb_plan.proofs.BridgeDrawn.{drawn_places}
 use Rattle.climb_plan.proofs.BridgeParents.{told_pids, told_made, told_held, parents_can_be_taken}
 use Rattle.climb_plan.proofs.BridgeTables.{AreDrawn, taken_others, taken_away, ArePlaced, taken_pids, drawn_others, lost_after}
 use Rattle.climb_plan.proofs.ChangingGroups.{alike_level, fresh-changing_changes}
 use Rattle.climb_plan.proofs.Families.{parents_told}
 use Rattle.climb_plan.proofs.ToldRuns.{terms_told, length-runs, all_told, AreHomeBut, seen_after_runs}
+use Rattle.climb_plan.proofs.Told.{each_told}
 
 -- ---- numbers that are distinct
 

@@ -11,11 +11,11 @@ use Rattle.mapping.specs.Table.{Mapping, at_home, page_of}
 use Rattle.page_runs.specs.TermWork.{TermHeld, index_made}
 use Rattle.page_runs.specs.Worked.{Worked, worked}
 use Rattle.split_plan.specs.WorkedLevel.{worked_parents}
-use Rattle.climb_plan.specs.Changing.{AreHome, AreRunsOf}
-use Rattle.climb_plan.specs.Changing.AreRunsOf.{told, untold}
+use Rattle.climb_plan.specs.Changing.{AreHome}
+use Rattle.climb_plan.proofs.Told.AreRunsOf.{told, untold}
 use Rattle.climb_plan.specs.Installing.{page_or_none, parent_held, IsIndexAt, AreParentsHome}
-use Rattle.climb_plan.specs.Level.{each_told}
 use Rattle.climb_plan.proofs.ToldRuns.{all_told}
+use Rattle.climb_plan.proofs.Told.{AreRunsOf, each_told}
 
 -- ---- each parent with its run
 

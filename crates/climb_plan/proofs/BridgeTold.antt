@@ -21,10 +21,11 @@ use Rattle.split_plan.specs.Terms.{freed_of, terms}
 use Rattle.split_plan.proofs.TermLaws.{names_apart, tiled_family_apart}
 use Rattle.split_plan.specs.WorkedLevel.{placed_of}
 use Rattle.climb_plan.specs.Changing.{SeenPage, shown, Changing, rewritten, with_changing, changing, changing_groups, changing_changes}
-use Rattle.climb_plan.specs.Level.{IsKind, remade_of, parent_pids, group_counts, each_told}
+use Rattle.climb_plan.specs.Level.{IsKind, remade_of, parent_pids, group_counts}
 use Rattle.climb_plan.specs.Rewriting.{Remade, freed_names, named_pages, fresh_names, terms_of, told, CanBeTold}
 use Rattle.climb_plan.proofs.BridgeSeen.{shown_groups, names-shown}
 use Rattle.climb_plan.proofs.ChangingGroups.{flat-changing_changes, alike_rewritten}
+use Rattle.climb_plan.proofs.Told.{each_told}
 
 -- ---- parts of lists
 

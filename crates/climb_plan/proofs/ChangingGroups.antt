@@ -1,54 +1,23 @@
 -- Lemmas on the groups of a level that are rewritten: what is freed and what is fresh comes of them alone.
 use Rattle.std.specs.Prelude.{◌≡◌, ℕ, ◌+◌, Bool, true, false, cond, List, [], ◌∷◌, ◌++◌, flat_map, take, drop, length}
 use Rattle.std.proofs.Common.{refl, sym, ap, ◌∙◌, subst, arith, append-nil, length-append}
-use Rattle.std.specs.List.{filter, AllByRecursion}
-use Rattle.std.proofs.lemmas.Bool.{or_parts}
+use Rattle.std.specs.List.{filter}
 use Rattle.std.proofs.lemmas.Grind.{flat_map-append}
 use Rattle.keys.specs.Lists.{flat}
 use Rattle.keys.specs.declared.settings.Settings.{Settings}
 use Rattle.mapping.specs.Levels.{Placed, entries}
-use Rattle.page_runs.specs.Worked.{Worked, is_thin, is_fat}
-use Rattle.split_plan.specs.Groups.{Gathered, with_child, gathered, with_leading, groups}
+use Rattle.page_runs.specs.Worked.{Worked, is_thin}
+use Rattle.split_plan.specs.Groups.{groups}
 use Rattle.split_plan.specs.WorkedLevel.{placed_of}
 use Rattle.split_plan.specs.Change.{Change, is_rewritten, remade, fresh, freed, changes, family_changes, fresh_of, all_fresh}
 use Rattle.split_plan.specs.Terms.{freed_of, terms}
 use Rattle.split_plan.proofs.ChangeLaws.{remade_by}
 use Rattle.climb_plan.specs.Climb.{families}
-use Rattle.climb_plan.specs.Changing.{Changing, calls, rewritten, changing_family, with_changing, changing, changing_groups, changing_changes, all_freed}
+use Rattle.climb_plan.specs.Changing.{Changing, rewritten, with_changing, changing, changing_groups, changing_changes, all_freed}
 
 -- ---- families in which nothing calls
 
 module _ {V : Type 0} where
-  -- what is gathered of pages that are neither thin nor fat
-  record IsQuiet (g : Gathered (Worked V)) : Type 0 where
-    pub leading : g.leading ≡ []
-    pub groups : filter is_rewritten g.groups ≡ []
-
-  quiet_child : (b : Bool) (w : Worked V) (g : Gathered (Worked V)) → b ≡ false → is_fat w ≡ false → IsQuiet g → IsQuiet (with_child b w g)
-  quiet_child true w g e f q = absurd (cc)
-  quiet_child false w g e f q = record { leading = refl; groups = rw (q.leading, f) q.groups }
-
-  quiet_gathered : (f : List (Worked V)) → AllByRecursion (λ w. calls w.class ≡ false) f → IsQuiet (gathered is_thin f)
-  quiet_gathered [] h = record { leading = refl; groups = refl }
-  quiet_gathered (w ∷ ws) h =
-      let p = or_parts (is_thin w) (is_fat w) h.0 in
-      quiet_child (is_thin w) w (gathered is_thin ws) p.0 p.1 (quiet_gathered ws h.1)
-
-  quiet_leading : (lead : List (Worked V)) (gs : List (List (Worked V))) → lead ≡ [] → filter is_rewritten gs ≡ [] → filter is_rewritten (with_leading lead gs) ≡ []
-  quiet_leading [] gs e f = f
-  quiet_leading (w ∷ ws) gs e f = absurd (cc)
-
-  -- a family in which no page is thin or fat has no group that is rewritten
-  pub quiet_family : (f : List (Worked V)) → AllByRecursion (λ w. calls w.class ≡ false) f → rewritten f ≡ []
-  quiet_family f h =
-      let q = quiet_gathered f h in
-      quiet_leading (gathered is_thin f).leading (gathered is_thin f).groups q.leading q.groups
-
-  -- and its parent is left out
-  pub quiet_parent : (p : Placed ℕ) (ps : List (Placed ℕ)) (ws : List (Worked V)) → AllByRecursion (λ w. calls w.class ≡ false) (take (length (entries p)) ws) → changing (p ∷ ps) ws ≡ changing ps (drop (length (entries p)) ws)
-  quiet_parent p ps ws h =
-      let f : List (Worked V) = take (length (entries p)) ws in
-      ap (λ (gs : List (List (Worked V))). with_changing gs (changing_family p f) (changing ps (drop (length (entries p)) ws))) (quiet_family f h)
 
   -- ---- groups that are not rewritten
 
@@ -95,9 +64,6 @@ module _ {V : Type 0} where
   -- so the parent is told the same
   pub alike_terms : (cs ds : List (Change V)) → AreAlike cs ds → terms cs ≡ terms ds
   alike_terms cs ds a = rw (a.fresh, a.freed) refl
-
-  pub rewritten_terms : (s : Settings) (used : List ℕ) (i : ℕ) (f : List (Worked V)) → terms (changes s used i (groups is_thin f)) ≡ terms (changes s used i (rewritten f))
-  rewritten_terms s used i f = alike_terms (changes s used i (groups is_thin f)) (changes s used i (rewritten f)) (alike_rewritten s used i (groups is_thin f))
 
 -- ---- all groups of a level as one list
 
@@ -148,9 +114,6 @@ module _ {V : Type 0} where
   pub fresh-changing_changes : (s : Settings) (used : List ℕ) (i : ℕ) (chs : List (Changing V)) → all_fresh (changing_changes s used i chs) ≡ fresh_of (changes s used i (changing_groups chs))
   fresh-changing_changes s used i chs = flat_map-flat fresh (changing_changes s used i chs) ∙ ap (λ (cs : List (Change V)). fresh_of cs) (flat-changing_changes s used i chs)
 
-  pub freed-changing_changes : (s : Settings) (used : List ℕ) (i : ℕ) (chs : List (Changing V)) → all_freed (changing_changes s used i chs) ≡ freed_of (changes s used i (changing_groups chs))
-  freed-changing_changes s used i chs = flat_map-flat freed (changing_changes s used i chs) ∙ ap (λ (cs : List (Change V)). freed_of cs) (flat-changing_changes s used i chs)
-
   -- those that change have the groups that are rewritten
   joined-with_changing : (gs : List (List (Worked V))) (p : Placed ℕ) (chs : List (Changing V)) → (let c : Changing V = record { parent = p; groups = gs } in changing_groups (with_changing gs c chs) ≡ gs ++ changing_groups chs)
   joined-with_changing [] p chs = refl
@@ -188,22 +151,10 @@ module _ {V : Type 0} where
       subst (λ (cs : List (Change V)). AreAlike cs (flat dss)) (sym (flat-family_changes s used i (families ps ws))) (subst (λ (ds : List (Change V)). AreAlike (changes s used i gs) ds) (sym d) (alike_rewritten s used i gs)) in
       alike_flat css dss a
 
-  -- and the same on the highest level, whose pages are one group
-  pub alike_top : (s : Settings) (used : List ℕ) (i : ℕ) (ws : List (Worked V)) → AreAllAlike (changes s used i (ws ∷ []) ∷ []) (changes s used i (filter is_rewritten (ws ∷ [])) ∷ [])
-  alike_top s used i ws =
-      let a : AreAlike (changes s used i (ws ∷ [])) (changes s used i (filter is_rewritten (ws ∷ []))) = alike_rewritten s used i (ws ∷ []) in
-      record { fresh = ap (λ (ps : List (Placed V)). ps ++ []) a.fresh; freed = ap (λ (ps : List (Placed V)). ps ++ []) a.freed }
-
   -- as one list
   pub fresh_on_top : (s : Settings) (used : List ℕ) (i : ℕ) (ws : List (Worked V)) → all_fresh (changes s used i (ws ∷ []) ∷ []) ≡ fresh_of (changes s used i (filter is_rewritten (ws ∷ [])))
   fresh_on_top s used i ws = append-nil (fresh_of (changes s used i (ws ∷ []))) ∙ (alike_rewritten s used i (ws ∷ [])).fresh
 
-  pub freed_on_top : (s : Settings) (used : List ℕ) (i : ℕ) (ws : List (Worked V)) → all_freed (changes s used i (ws ∷ []) ∷ []) ≡ freed_of (changes s used i (filter is_rewritten (ws ∷ [])))
-  freed_on_top s used i ws = append-nil (freed_of (changes s used i (ws ∷ []))) ∙ (alike_rewritten s used i (ws ∷ [])).freed
-
   -- of a level under parents, as one list
   pub fresh_on_level : (s : Settings) (used : List ℕ) (i : ℕ) (ps : List (Placed ℕ)) (ws : List (Worked V)) → all_fresh (family_changes s used i (families ps ws)) ≡ fresh_of (changes s used i (changing_groups (changing ps ws)))
   fresh_on_level s used i ps ws = (alike_level s used i ps ws).fresh ∙ fresh-changing_changes s used i (changing ps ws)
-
-  pub freed_on_level : (s : Settings) (used : List ℕ) (i : ℕ) (ps : List (Placed ℕ)) (ws : List (Worked V)) → all_freed (family_changes s used i (families ps ws)) ≡ freed_of (changes s used i (changing_groups (changing ps ws)))
-  freed_on_level s used i ps ws = (alike_level s used i ps ws).freed ∙ freed-changing_changes s used i (changing ps ws)

@@ -17,8 +17,9 @@ use Rattle.split_plan.proofs.GroupLaws.{groups-joined}
 use Rattle.split_plan.specs.WorkedLevel.{placed_of}
 use Rattle.split_plan.specs.Change.{Change, is_rewritten, remade, fresh, changes, family_changes, outdated, all_outdated}
 use Rattle.climb_plan.specs.Climb.{families}
-use Rattle.climb_plan.specs.Changing.{worked_pids, replaced_among, changing, changing_groups}
+use Rattle.climb_plan.specs.Changing.{changing, changing_groups}
 use Rattle.climb_plan.proofs.ChangingGroups.{flat_map-flat, filter-joined, all_groups, flat-family_changes, groups-changing}
+use Rattle.climb_plan.proofs.Installed.{worked_pids, replaced_among}
 
 -- ---- numbers among others
 

@@ -18,13 +18,14 @@ use Rattle.mapping.proofs.PidLaws.{all_among, among_apart, among_either}
 use Rattle.page_runs.specs.Worked.{Worked}
 use Rattle.split_plan.specs.WorkedLevel.{placed_of}
 use Rattle.split_plan.specs.Change.{Change, fresh, new_of, fresh_of, all_new, all_fresh, all_outdated}
-use Rattle.climb_plan.specs.Changing.{AreHome, same, worked_pids}
+use Rattle.climb_plan.specs.Changing.{AreHome, same}
 use Rattle.climb_plan.specs.Climb.{Climbed, climb}
 use Rattle.climb_plan.specs.HasClimbed.{HasClimbed}
 use Rattle.climb_plan.proofs.ChangingOutdated.{worked_pids-placed}
 use Rattle.climb_plan.proofs.InstalledLevel.{HasLevel}
 use Rattle.climb_plan.proofs.InstalledPages.{AreApart, not_among_from}
 use Rattle.climb_plan.proofs.Untouched.{as_they_were, climb_same, none_outdated}
+use Rattle.climb_plan.proofs.Installed.{worked_pids}
 
 module _ {V : Type 0} where
   -- ---- nothing is touched

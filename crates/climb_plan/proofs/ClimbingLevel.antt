@@ -1,12 +1,11 @@
 -- A level under parents has climbed once those above it have, and it is installed.
-use Rattle.std.specs.Prelude.{◌≡◌, ℕ, suc, ◌+◌, true, List, [], ◌∷◌, ◌++◌, map, flat_map, length, Option}
-use Rattle.std.proofs.Common.{refl, sym, ap, ◌∙◌, subst, arith}
+use Rattle.std.specs.Prelude.{◌≡◌, ℕ, suc, ◌+◌, true, List, [], ◌∷◌, ◌++◌, map, flat_map, length}
+use Rattle.std.proofs.Common.{refl, sym, ap, ◌∙◌, arith}
 use Rattle.std.specs.List.{AllByRecursion}
 use Rattle.keys.specs.Lists.{flat}
 use Rattle.keys.specs.declared.settings.Settings.{Settings}
 use Rattle.index_page.specs.Page.{Page, PageOfKind}
 use Rattle.index_page.specs.Page.PageOfKind.{Index}
-use Rattle.index_page.proofs.ListLaws.{all_apart}
 use Rattle.mapping.specs.Levels.{Placed, pids, all_pids}
 use Rattle.mapping.specs.FreshPids.{is_among}
 use Rattle.mapping.specs.Outdate.{outdate_all}
@@ -24,16 +23,14 @@ use Rattle.split_plan.proofs.PidLaws.{distinct_renewed, recast, renewed-append, 
 use Rattle.split_plan.proofs.Renewed.{Renewed}
 use Rattle.split_plan.proofs.Renewed.Renewed.{done, keep}
 use Rattle.split_plan.proofs.RunLaws.{names-worked_parents}
-use Rattle.climb_plan.specs.Changing.{same, worked_pids, changing, parents_of, AreRunsOf, Changing}
+use Rattle.climb_plan.specs.Changing.{same}
 use Rattle.climb_plan.specs.Climb.{Climbed, climb, families}
 use Rattle.climb_plan.specs.HasClimbed.{HasClimbed}
 use Rattle.climb_plan.proofs.ChangingOutdated.{worked_pids-placed, outdate-joined}
 use Rattle.climb_plan.proofs.InstalledPages.{AreApart, turned, distinct_apart}
 use Rattle.climb_plan.proofs.Pids.{renewed-climb}
-use Rattle.climb_plan.proofs.Untouched.{parents_same}
 use Rattle.climb_plan.proofs.Climbing.{IsMadeReady, IsLevelInstalled, fresh_is_new, above_stay, gone_joined, others_joined}
-use Rattle.climb_plan.specs.Changing.AreRunsOf.{told, untold}
-use Rattle.climb_plan.proofs.ToldRuns.{terms_told}
+use Rattle.climb_plan.proofs.Installed.{worked_pids}
 
 -- ---- distinct pids
 
@@ -92,12 +89,6 @@ module _ {V : Type 0} (s : Settings) (used : List ℕ) (i : ℕ) (ps : List (Pla
     abbrev upper_pids : all_pids (placed_of parents_here) ups ≡ all_pids ps ups
     upper_pids = ap (λ (ns : List ℕ). ns ++ flat_map pids ups) parent_pids
 
-    pub upper_distinct : Distinct (all_pids (placed_of parents_here) ups)
-    upper_distinct = subst (λ (ns : List ℕ). Distinct ns) (sym upper_pids) apart_parts.1
-
-    pub upper_never : AllByRecursion (IsNeverUnused used) (all_pids (placed_of parents_here) ups)
-    upper_never = subst (λ (ns : List ℕ). AllByRecursion (IsNeverUnused used) ns) (sym upper_pids) (all_apart (IsNeverUnused used) (pids (placed_of ws)) (all_pids ps ups) never).1
-
     -- ---- the levels above don't touch a level
 
     own_apart : AreApart (worked_pids ws) (all_pids (placed_of parents_here) ups)
@@ -142,16 +133,3 @@ module _ {V : Type 0} (s : Settings) (used : List ℕ) (i : ℕ) (ps : List (Pla
       where
         heights : (t3 t2 t1 t0 m n : ℕ) → t3 ≡ t2 → t2 + m ≡ t1 + n → t1 ≡ t0 → t3 + suc m ≡ t0 + suc n
         heights t3 t2 t1 t0 m n e f g = omega arith
-
--- ---- parents that are told nothing
-
-untold_all : {X : Type 0} {ps qs : List (Placed X)} {runs rs : List (List (List ℕ × Option X))} → AreRunsOf ps runs qs rs → length qs ≡ 0 → AllByRecursion (λ run. run ≡ []) runs
-untold_all (AreRunsOf.none) e = tt
-untold_all (told p run r) e = absurd (omega arith)
-untold_all (untold p r) e = (refl, untold_all r e)
-
--- where no group of a level is rewritten, its parents stay as they are
-pub parents_idle : {V : Type 0} (s : Settings) (used : List ℕ) (i : ℕ) (ps : List (Placed ℕ)) (ws : List (Worked V)) → changing ps ws ≡ [] → worked_parents s ps (map terms (family_changes s used i (families ps ws))) ≡ map same ps
-parents_idle {V} s used i ps ws e =
-    let none : length (parents_of (changing ps ws)) ≡ 0 = ap (λ (cs : List (Changing V)). length (parents_of cs)) e in
-    parents_same s ps (map terms (family_changes s used i (families ps ws))) (untold_all (terms_told s used i ps ws) none)

@@ -20,12 +20,13 @@ use Rattle.split_plan.specs.Change.{Change, remade, changes, all_new, all_fresh,
 use Rattle.split_plan.proofs.ChangeLaws.{remade_begins}
 use Rattle.split_plan.proofs.PidLaws.{distinct_renewed}
 use Rattle.split_plan.proofs.Renewed.{Renewed}
-use Rattle.climb_plan.specs.Changing.{AreHome, worked_pids}
+use Rattle.climb_plan.specs.Changing.{AreHome}
 use Rattle.climb_plan.specs.Climb.{climb, grown}
 use Rattle.climb_plan.specs.HasClimbed.{HasClimbed}
 use Rattle.climb_plan.proofs.InstalledPages.{AreApart, turned, distinct_apart}
 use Rattle.climb_plan.proofs.Pids.{renewed-climb}
 use Rattle.climb_plan.proofs.Climbing.{IsMadeReady, IsLevelInstalled, fresh_is_new, above_stay, gone_joined, others_joined}
+use Rattle.climb_plan.proofs.Installed.{worked_pids}
 
 -- ---- the highest level
 

@@ -8,7 +8,7 @@ use Rattle.keys.specs.Lists.{flat}
 use Rattle.mapping.specs.Levels.{Placed, joined, name, names}
 use Rattle.mapping.specs.Proper.{next_low, Tiled, Stacked}
 use Rattle.mapping.proofs.TileLaws.{Names, next_low-same, some_page, rising-names}
-use Rattle.split_plan.specs.Cut.{cut, piece_count, AllFull}
+use Rattle.split_plan.specs.Cut.{cut, piece_count}
 use Rattle.split_plan.proofs.CutLaws.{cut-joined, cut_full, cut_some, length-cut, fewer_pieces}
 use Rattle.page_runs.specs.Worked.{Worked}
 use Rattle.split_plan.specs.WorkedLevel.{worked_parents, placed_of}
@@ -19,6 +19,7 @@ use Rattle.split_plan.proofs.ChangeLaws.{joined-fresh_pages, joined-changes, joi
 use Rattle.split_plan.specs.Terms.{terms}
 use Rattle.climb_plan.specs.Climb.{families, grown, climb}
 use Rattle.climb_plan.proofs.Families.{families-joined, parents_link, parents_told}
+use Rattle.split_plan.proofs.Full.{AllFull}
 
 -- ---- levels that grow above pages without a parent
 

@@ -19,7 +19,13 @@ use Rattle.mapping.specs.Table.{Mapping, page_of}
 use Rattle.mapping.specs.TreeInMemory.{TreeInMemory}
 use Rattle.mapping.proofs.Joined.{next_joined}
 use Rattle.mapping.proofs.TileLaws.{Names, next_low-parents, joined-append, range-names, one_page, page_for}
-use Rattle.climb_plan.specs.Rewriting.{pids_for, IsOnWay, AreParents}
+use Rattle.climb_plan.specs.Rewriting.{pids_for, AreParents}
+
+-- so many levels above these pages, the pid is that of the page in whose range the key lies
+abbrev pub IsOnWay : ℕ → List (Placed ℕ) → List (List (Placed ℕ)) → List ℕ → ℕ → Type 0
+IsOnWay zero ps ups k pid = pids_for ps k ≡ pid ∷ []
+IsOnWay (suc n) ps [] k pid = ⊥
+IsOnWay (suc n) ps (up ∷ ups) k pid = IsOnWay n up ups k pid
 
 -- ---- lists of one element
 

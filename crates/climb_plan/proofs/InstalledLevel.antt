@@ -1,76 +1,25 @@
 -- A level, or the highest one, once what is made of the groups that are rewritten was installed.
-use Rattle.std.specs.Prelude.{◌≡◌, ℕ, suc, ◌+◌, Bool, true, false, List, [], ◌∷◌, drop, length, Some, None}
+use Rattle.std.specs.Prelude.{◌≡◌, ℕ, true, false, List, [], ◌∷◌, None}
 use Rattle.std.proofs.Common.{refl, sym, ap, ◌∙◌, subst, append-nil}
-use Rattle.std.specs.List.{filter, AllByRecursion}
-use Rattle.std.proofs.lemmas.Bool.{false_from_ne_true}
+use Rattle.std.specs.List.{filter}
 use Rattle.keys.specs.Lists.{flat}
 use Rattle.keys.specs.declared.settings.Settings.{Settings}
 use Rattle.index_page.specs.Page.{Page, PageOfKind}
-use Rattle.index_page.proofs.ListLaws.{all-append}
-use Rattle.mapping.specs.Levels.{Placed, joined, pids}
+use Rattle.mapping.specs.Levels.{Placed, pids}
 use Rattle.mapping.specs.FreshPids.{is_among}
 use Rattle.mapping.specs.Table.{Mapping, place_of}
-use Rattle.mapping.specs.Proper.{Distinct, AreRisingPids}
-use Rattle.mapping.proofs.LevelLaws.{pids-append}
-use Rattle.mapping.proofs.PidLaws.{unused-is_free}
-use Rattle.page_runs.specs.Worked.{Worked, is_fat}
-use Rattle.split_plan.specs.Cut.{cut}
+use Rattle.mapping.specs.Proper.{Distinct}
+use Rattle.page_runs.specs.Worked.{Worked}
 use Rattle.split_plan.specs.WorkedLevel.{placed_of}
-use Rattle.split_plan.specs.Change.{Change, fresh_pages, replacements, is_rewritten, remade, changes, family_changes, new_of, fresh_of, all_new}
-use Rattle.split_plan.proofs.ChangeLaws.{remade_by}
+use Rattle.split_plan.specs.Change.{Change, is_rewritten, changes, family_changes, new_of, fresh_of, all_new}
 use Rattle.climb_plan.specs.Climb.{families}
-use Rattle.climb_plan.specs.Changing.{worked_pids, changing, changing_groups, AreHome, IsInstalled}
+use Rattle.climb_plan.specs.Changing.{changing, changing_groups, AreHome}
 use Rattle.climb_plan.proofs.ChangingGroups.{flat_map-flat, all_groups, flat-family_changes, groups-changing}
 use Rattle.climb_plan.proofs.ChangingOutdated.{all_groups-joined}
-use Rattle.climb_plan.proofs.InstalledPages.{AreFreshFor, at_among, installed-groups, freed-groups, other-groups}
+use Rattle.climb_plan.proofs.InstalledPages.{AreFreshFor, installed-groups, freed-groups, other-groups}
+use Rattle.climb_plan.proofs.Installed.{worked_pids, IsInstalled}
 
 module _ {V : Type 0} where
-  -- ---- pages at home, said of pages after their runs
-
-  pub home_placed : (of : Page V → PageOfKind) (t : Mapping PageOfKind) (ws : List (Worked V)) → AllByRecursion (λ w. place_of t w.placed.pid ≡ Some (Some (of w.placed.page))) ws → AreHome of t (placed_of ws)
-  home_placed of t [] h = tt
-  home_placed of t (w ∷ ws) h = (h.0, home_placed of t ws h.1)
-
-  pub home_worked : (of : Page V → PageOfKind) (t : Mapping PageOfKind) (ws : List (Worked V)) → AreHome of t (placed_of ws) → AllByRecursion (λ w. place_of t w.placed.pid ≡ Some (Some (of w.placed.page))) ws
-  home_worked of t [] h = tt
-  home_worked of t (w ∷ ws) h = (h.0, home_worked of t ws h.1)
-
-  -- ---- the pids of fresh pages
-
-  free_pages : (used : List ℕ) (i : ℕ) (bs : List (List (List ℕ × V))) → AreRisingPids used → AllByRecursion (λ n. is_among n used ≡ false) (pids (fresh_pages used i bs))
-  free_pages used i [] r = tt
-  free_pages used i (b ∷ bs) r = (unused-is_free used i r, free_pages used (suc i) bs r)
-
-  free_replacements : (used : List ℕ) (i : ℕ) (p : Placed V) (bs : List (List (List ℕ × V))) → AreRisingPids used → AllByRecursion (λ n. is_among n used ≡ false) (pids (drop 1 (replacements used i p bs)))
-  free_replacements used i p [] r = tt
-  free_replacements used i p (b ∷ bs) r = free_pages used i bs r
-
-  free_one : (b : Bool) (s : Settings) (used : List ℕ) (i : ℕ) (w : Worked V) → AreRisingPids used → AllByRecursion (λ n. is_among n used ≡ false) (pids (drop 1 (remade_by b s used i w [])))
-  free_one true s used i w r = free_replacements used i w.placed (cut s.fan (joined (placed_of (w ∷ [])))) r
-  free_one false s used i w r = tt
-
-  free_remade : (s : Settings) (used : List ℕ) (i : ℕ) (g : List (Worked V)) → AreRisingPids used → AllByRecursion (λ n. is_among n used ≡ false) (pids (drop 1 (remade s used i g)))
-  free_remade s used i [] r = tt
-  free_remade s used i (w ∷ []) r = free_one (is_fat w) s used i w r
-  free_remade s used i (w ∷ v ∷ ws) r = free_replacements used i w.placed (cut s.fan (joined (placed_of (w ∷ v ∷ ws)))) r
-
-  -- no fresh page has a pid that is in use
-  pub fresh_are_free : (s : Settings) (used : List ℕ) (i : ℕ) (gs : List (List (Worked V))) → AreRisingPids used → AllByRecursion (λ n. is_among n used ≡ false) (pids (fresh_of (changes s used i gs)))
-  fresh_are_free s used i [] r = tt
-  fresh_are_free s used i (g ∷ gs) r =
-      let here : List (Placed V) = drop 1 (remade s used i g) in
-      let later : List (Placed V) = fresh_of (changes s used (i + length here) gs) in
-      subst (λ (ns : List ℕ). AllByRecursion (λ n. is_among n used ≡ false) ns) (sym (pids-append here later)) (all-append (λ n. is_among n used ≡ false) (pids here) (pids later) (free_remade s used i g r) (fresh_are_free s used (i + length here) gs r))
-
-  free_for : (used : List ℕ) (ws : List (Worked V)) (ps : List (Placed V)) → AllByRecursion (λ n. is_among n used ≡ true) (worked_pids ws) → AllByRecursion (λ n. is_among n used ≡ false) (pids ps) → AreFreshFor ws ps
-  free_for used ws [] u f = tt
-  free_for used ws (p ∷ ps) u f =
-      let first : is_among p.pid used ≡ false = f.0 in
-      (false_from_ne_true (is_among p.pid (worked_pids ws)) (λ e. let a : is_among p.pid used ≡ true = at_among (λ n. is_among n used ≡ true) p.pid (worked_pids ws) u e in absurd (cc)), free_for used ws ps u f.1)
-
-  -- so they are fresh for a level whose pids are in use
-  pub fresh_for_level : (s : Settings) (used : List ℕ) (i : ℕ) (gs : List (List (Worked V))) (ws : List (Worked V)) → AreRisingPids used → AllByRecursion (λ n. is_among n used ≡ true) (worked_pids ws) → AreFreshFor ws (fresh_of (changes s used i gs))
-  fresh_for_level s used i gs ws r u = free_for used ws (fresh_of (changes s used i gs)) u (fresh_are_free s used i gs r)
 
   -- ---- a level
 

@@ -19,9 +19,10 @@ use Rattle.split_plan.specs.WorkedLevel.{placed_of}
 use Rattle.split_plan.specs.Change.{Change, is_rewritten, remade, changes, new_of, fresh_of}
 use Rattle.split_plan.specs.Terms.{freed_of}
 use Rattle.split_plan.proofs.ChangeLaws.{placed_of-append, remade_begins}
-use Rattle.climb_plan.specs.Changing.{worked_pids, AreHome, IsInstalled}
+use Rattle.climb_plan.specs.Changing.{AreHome}
 use Rattle.climb_plan.proofs.ChangingGroups.{idle_group, AreAlike, alike_rewritten}
 use Rattle.climb_plan.proofs.ChangingOutdated.{worked_pids-placed, worked_pids-append, among-joined}
+use Rattle.climb_plan.proofs.Installed.{worked_pids, IsInstalled}
 
 -- ---- numbers among others
 

@@ -90,24 +90,6 @@ pub home_step : (tree now done : TreeInMemory) (x : SeenPage) (xs all : List See
 home_step tree now done x xs all r n h =
     ap (λ (y : TreeInMemory). tree_home y xs) n ∙ ap (λ (y : List SeenPage). tree_home tree y) (sym r) ∙ h
 
--- the tree once the log doesn't know the pid, where that is so
-abbrev pub known_less : TreeInMemory → Bool → ℕ → TreeInMemory
-known_less tree b pid = record tree { table = if b then outdated tree.table pid else tree.table }
-
-pub known_less_then : (tree out now : TreeInMemory) (b : Bool) (pid : ℕ) → b ≡ true → now ≡ out → out ≡ record tree { table = outdated tree.table pid } → now ≡ known_less tree b pid
-known_less_then tree out now true pid e m n = m ∙ n
-known_less_then tree out now false pid e m n = absurd (cc)
-
-pub known_less_else : (tree now : TreeInMemory) (b : Bool) (pid : ℕ) → b ≡ false → now ≡ tree → now ≡ known_less tree b pid
-known_less_else tree now true pid e n = absurd (cc)
-known_less_else tree now false pid e n = n
-
-pub home_made : (tree mid now : TreeInMemory) (x seen : SeenPage) (page : PageOfKind) → seen ≡ x → page ≡ x.page → mid ≡ known_less tree seen.replaced seen.pid → now ≡ record mid { table = with_place mid.table seen.pid (Some page) }
-    → now ≡ record tree { table = come_home tree.table x }
-home_made tree mid now x seen page s p m n =
-    let put : TreeInMemory → SeenPage → PageOfKind → TreeInMemory = λ t y q. record t { table = with_place t.table y.pid (Some q) } in
-    n ∙ ap (λ (t : TreeInMemory). put t seen page) m ∙ ap (λ (y : SeenPage). put (known_less tree y.replaced y.pid) y page) s ∙ ap (λ (q : PageOfKind). put (known_less tree x.replaced x.pid) x q) p
-
 by_replaced : (b : Bool) (t : Mapping PageOfKind) (k : ℕ) (p : PageOfKind) → KeepsOthers t (with_place (if b then outdated t k else t) k (Some p)) k
 by_replaced true t k p q d = placed_apart (outdated t k) k (Some p) q d
 by_replaced false t k p q d = placed_apart t k (Some p) q d
@@ -149,9 +131,6 @@ home_next tree now k ks all e n h =
     let t : Mapping PageOfKind = gone_from tree.table k in
     let rest : AreAllAtHome t ks = (all_kept (λ o. IsSome (at_home o)) tree.table t k (gone_apart tree.table k) ks a.1.0 a.0.1, a.1.1) in
     subst (λ (x : TreeInMemory). AreAllAtHome x.table ks) (sym n) rest
-
-pub first_at_home : (t : Mapping PageOfKind) (k : ℕ) (ks all : List ℕ) → all ≡ k ∷ ks → AreAllAtHome t all → IsSome (page_of t k)
-first_at_home t k ks all e h = (subst (λ (ns : List ℕ). AreAllAtHome t ns) e h).0.0
 
 pub freed_step : (tree now done : TreeInMemory) (k : ℕ) (ks all : List ℕ) → all ≡ k ∷ ks → now ≡ record tree { table = gone_from tree.table k } → tree_freed tree all ≡ done → tree_freed now ks ≡ done
 freed_step tree now done k ks all r n h =

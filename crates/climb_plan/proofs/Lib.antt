@@ -37,7 +37,6 @@ pub mod LeveledBack
 pub mod LeveledChange
 pub mod LeveledCut
 pub mod LeveledDrawn
-pub mod LeveledHome
 pub mod LeveledTop
 mod Literals
 mod Logs
@@ -71,3 +70,5 @@ pub mod ThroughTop
 pub mod ToldRuns
 pub mod ToldSome
 mod Untouched
+mod Installed
+mod Told

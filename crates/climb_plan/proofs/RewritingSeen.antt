@@ -84,9 +84,6 @@ child_at_home (at_home x c p h s) b = record { class = c; replaced = p; home = h
 
 -- ---- the next child
 
-pub begins_now : (low : List ℕ) (x : SeenPage) (ys xs : List SeenPage) (b : Bool) → b ≡ begins_at low (x ∷ ys) → xs ≡ x ∷ ys → b ≡ begins_at low xs
-begins_now low x ys xs b h e = h ∙ ap (λ (zs : List SeenPage). begins_at low zs) (sym e)
-
 module _ (t : Mapping PageOfKind) (low : List ℕ) (pid : ℕ) (x : SeenPage) (later : List SeenPage) where
   pub home_child : (xs : List SeenPage) → IsNextChild t xs low pid x later → begins_at low xs ≡ false → IsUntouched t xs x later
   home_child xs n b = child_at_home n.seen (ap (λ (k : List ℕ). begins_at k xs) (sym n.same_low) ∙ b)

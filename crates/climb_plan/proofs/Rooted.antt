@@ -1,13 +1,13 @@
 -- Levels that grow above pages, and their places in the tree's table.
-use Rattle.std.specs.Prelude.{◌≡◌, ℕ, zero, suc, ◌+◌, ◌<◌, ◌≤◌, Bool, true, false, cond, nat_lt, List, [], ◌∷◌, ◌++◌, map, flat_map, drop, length, slice_index_or, Some, None}
-use Rattle.std.proofs.Common.{refl, sym, ap, ◌∙◌, subst, arith, drop-cons, drop_of_length-le, append-nil, ltb-true, ltb-false}
+use Rattle.std.specs.Prelude.{◌≡◌, ℕ, zero, suc, ◌+◌, ◌<◌, ◌≤◌, Bool, true, false, cond, nat_lt, List, [], ◌∷◌, ◌++◌, map, flat_map, drop, length, Some, None}
+use Rattle.std.proofs.Common.{refl, sym, ap, ◌∙◌, subst, arith, drop_of_length-le, ltb-true, ltb-false}
 use Rattle.std.specs.List.{AllByRecursion, range_with_len}
 use Rattle.std.proofs.lemmas.List.FromFn.{length-map-range_with_len}
 use Rattle.std.proofs.lemmas.List.{length-map}
 use Rattle.keys.specs.Lists.{flat}
 use Rattle.keys.specs.Order.{IsRising}
 use Rattle.keys.specs.declared.settings.Settings.{Settings}
-use Rattle.index_page.specs.Page.{PageOfKind, bare, first_key, low_of}
+use Rattle.index_page.specs.Page.{PageOfKind, bare, first_key}
 use Rattle.index_page.specs.Page.PageOfKind.{Index}
 use Rattle.index_page.proofs.ListLaws.{all_apart}
 use Rattle.mapping.specs.Levels.{Placed, name, names, pids, top_pid}
@@ -61,33 +61,11 @@ away_drawn tree drawn n ks all d e f =
 
 -- ---- names
 
-front_of : {X : Type 0} → (xs : List X) (i : ℕ) (d : X) → i < length xs → drop i xs ≡ slice_index_or xs i d ∷ drop (i + 1) xs
-front_of xs i d h = let next : suc i ≡ i + 1 = omega arith in drop-cons xs i d h ∙ ap (λ (n : ℕ). slice_index_or xs i d ∷ drop n xs) next
-
-push_more : {X : Type 0} → (xs ys : List X) (x : X) → (xs ++ x ∷ []) ++ ys ≡ xs ++ x ∷ ys
-push_more [] ys x = refl
-push_more (z ∷ zs) ys x = ap (λ (r : List _). z ∷ r) (push_more zs ys x)
-
 abbrev Name : Type 0
 Name = List ℕ × ℕ
 
-pub names_step : (pages : List PageOfKind) (ks : List ℕ) (at : ℕ) (d : PageOfKind) (so_far pushed all : List Name) (low : List ℕ) → at < length pages → length pages ≡ length ks → low ≡ low_of (slice_index_or pages at d)
-    → pushed ≡ so_far ++ (low, slice_index_or ks at 0) ∷ [] → so_far ++ named_pages (drop at pages) (drop at ks) ≡ all → pushed ++ named_pages (drop (at + 1) pages) (drop (at + 1) ks) ≡ all
-names_step pages ks at d so_far pushed all low h e l p a =
-    let x : Name = (low_of (slice_index_or pages at d), slice_index_or ks at 0) in
-    let rest : List Name = named_pages (drop (at + 1) pages) (drop (at + 1) ks) in
-    let one : List ℕ → Name = λ k. (k, slice_index_or ks at 0) in
-    ap (λ (ns : List Name). ns ++ rest) (p ∙ ap (λ (k : List ℕ). so_far ++ one k ∷ []) l)
-    ∙ push_more so_far rest x
-    ∙ ap (λ (qs : List PageOfKind). so_far ++ named_pages qs (slice_index_or ks at 0 ∷ drop (at + 1) ks)) (sym (front_of pages at d h))
-    ∙ ap (λ (ns : List ℕ). so_far ++ named_pages (drop at pages) ns) (sym (front_of ks at 0 (omega arith)))
-    ∙ a
-
 no_more : (pages : List PageOfKind) (ks : List ℕ) (n : ℕ) → length pages ≤ n → named_pages (drop n pages) (drop n ks) ≡ []
 no_more pages ks n h = ap (λ (qs : List PageOfKind). named_pages qs (drop n ks)) (drop_of_length-le pages h)
-
-pub names_end : (pages : List PageOfKind) (ks : List ℕ) (n : ℕ) (so_far all : List Name) → length pages ≤ n → so_far ++ named_pages (drop n pages) (drop n ks) ≡ all → so_far ≡ all
-names_end pages ks n so_far all h e = sym (append-nil so_far) ∙ ap (λ (ns : List Name). so_far ++ ns) (sym (no_more pages ks n h)) ∙ e
 
 -- ---- pids are drawn
 
@@ -115,9 +93,6 @@ drawn_is tree now n pids e w away others logged rising next back =
       back = back;
     } in
     subst (λ (t : TreeInMemory). AreDrawn tree t pids) (sym w) (subst (λ (ns : List ℕ). AreDrawn tree (record tree { table = u }) ns) (sym e) is)
-
-abbrev is_drawn_of : TreeInMemory → List ℕ → List PageOfKind → Type 0
-is_drawn_of tree ks pages = ks ≡ fresh_pids (pids_in_use tree.table) (length pages)
 
 -- as many as there are pages
 pub length_drawn : (tree : TreeInMemory) (n : ℕ) (ks : List ℕ) → ks ≡ fresh_pids (pids_in_use tree.table) n → length ks ≡ n

@@ -121,17 +121,6 @@ module _ {V : Type 0} (s : Settings) (fan : 1 < s.fan) (of : Page V → PageOfKi
       let table : back.table ≡ rooms_here = ap (λ (u : TreeInMemory). u.table) q ∙ parents_are_back in
       subst (λ (u : Mapping PageOfKind). AreAway u (flat_map (λ r. r.fresh) groups)) (sym table) (subst (λ (ms : List ℕ). AreAway rooms_here ms) (sym fresh_are_drawn) away)
 
-  -- once they are given back, too, the tree is as it was
-  pub tree_is_back : (back after : TreeInMemory) → back ≡ record ready { table = all_put ready.table (held_pages parents) } → after ≡ record back { table = freed_all back.table (flat_map (λ r. r.fresh) groups) }
-      → freed_all rooms_here (fresh_pids (pids_in_use t.table) count_here) ≡ t.table → after ≡ t
-  tree_is_back back after q r l =
-      let put : TreeInMemory → Mapping PageOfKind → TreeInMemory = λ u m. record u { table = m } in
-      let free : List ℕ → TreeInMemory → TreeInMemory = λ ns u. record u { table = freed_all u.table ns } in
-      r
-      ∙ ap (λ (u : TreeInMemory). free (flat_map (λ x. x.fresh) groups) u) (q ∙ ap (λ (m : Mapping PageOfKind). put ready m) parents_are_back ∙ ap (λ (u : TreeInMemory). put u rooms_here) c.tree)
-      ∙ ap (λ (ns : List ℕ). free ns (put t rooms_here)) fresh_are_drawn
-      ∙ ap (λ (m : Mapping PageOfKind). put t m) l
-
 -- ---- as code has it
 
 module _ {V : Type 0} {of : Page V → PageOfKind} {s : Settings} {t ready : TreeInMemory} {xs : List SeenPage} {depth : ℕ} {groups : List Remade} {parents : List IndexWorked} (k : IsWorkedOn of s t ready xs depth groups parents)

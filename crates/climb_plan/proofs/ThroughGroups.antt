@@ -24,7 +24,7 @@ use Rattle.split_plan.proofs.ChangeLaws.{remade_by, remade_begins}
 use Rattle.split_plan.proofs.PidLaws.{distinct_renewed, recast, renewed-append}
 use Rattle.split_plan.proofs.Renewed.{Renewed}
 use Rattle.split_plan.proofs.Renewed.Renewed.{done, keep, drop_one, draw}
-use Rattle.climb_plan.specs.Changing.{AreHome, IsInstalled, worked_pids}
+use Rattle.climb_plan.specs.Changing.{AreHome}
 use Rattle.climb_plan.specs.Installing.{all_installed, CanInstallAll}
 use Rattle.climb_plan.specs.Level.{remade_of}
 use Rattle.climb_plan.specs.Rewriting.{Remade}
@@ -32,6 +32,7 @@ use Rattle.climb_plan.proofs.BridgePieces.{pids-replacements}
 use Rattle.climb_plan.proofs.ChangingOutdated.{worked_pids-append}
 use Rattle.climb_plan.proofs.InstalledPages.{not_among_from}
 use Rattle.climb_plan.proofs.InstallingLaws.{AreUnder, AreShaped, AreReady, AreInstalled, groups_pids, can_install_all, all_are_installed, others-all_installed, logged-all_installed, rising-all_installed}
+use Rattle.climb_plan.proofs.Installed.{IsInstalled, worked_pids}
 
 -- ---- fresh pids
 

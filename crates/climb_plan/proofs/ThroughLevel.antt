@@ -20,7 +20,7 @@ use Rattle.mapping.proofs.PidLaws.{IsNeverUnused, all_among, among_left}
 use Rattle.page_runs.specs.Worked.{Worked}
 use Rattle.split_plan.specs.Change.{Change, is_rewritten, changes, family_changes, fresh_of, all_new, all_fresh, all_outdated}
 use Rattle.split_plan.specs.WorkedLevel.{placed_of}
-use Rattle.climb_plan.specs.Changing.{SeenPage, shown, AreSeen, AreHome, IsInstalled, Changing, changing, changing_groups, parents_of, worked_pids, replaced_among}
+use Rattle.climb_plan.specs.Changing.{SeenPage, shown, AreSeen, AreHome, Changing, changing, changing_groups, parents_of}
 use Rattle.climb_plan.specs.Changing.AreSeen.{worked, at_home}
 use Rattle.climb_plan.specs.Climb.{climb, families}
 use Rattle.climb_plan.specs.HasClimbed.{HasClimbed}
@@ -41,6 +41,7 @@ use Rattle.climb_plan.proofs.Installing.{home_apart, distinct_first}
 use Rattle.climb_plan.proofs.InstallingLaws.{not_among, others-all_come_home, home-all_come_home, rising-all_come_home, logged-all_come_home}
 use Rattle.climb_plan.proofs.ThroughGroups.{fresh_numbers, groups_can_be_installed, groups_installed, groups_rising, groups_logged}
 use Rattle.climb_plan.proofs.ToldRuns.{all_told, terms_told}
+use Rattle.climb_plan.proofs.Installed.{IsInstalled, worked_pids, replaced_among}
 
 -- ---- the pages of a level that were seen
 

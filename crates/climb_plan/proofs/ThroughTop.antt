@@ -17,7 +17,7 @@ use Rattle.mapping.proofs.PidLaws.{IsNeverUnused, all_among}
 use Rattle.page_runs.specs.Worked.{Worked}
 use Rattle.split_plan.specs.Change.{Change, is_rewritten, changes, fresh_of, all_new, all_fresh, all_outdated}
 use Rattle.split_plan.specs.WorkedLevel.{placed_of}
-use Rattle.climb_plan.specs.Changing.{SeenPage, AreHome, IsInstalled, worked_pids, replaced_among}
+use Rattle.climb_plan.specs.Changing.{SeenPage, AreHome}
 use Rattle.climb_plan.specs.Climb.{climb}
 use Rattle.climb_plan.specs.HasClimbed.{HasClimbed}
 use Rattle.climb_plan.specs.Installing.{AreAway, all_come_home, all_installed, CanInstallAll}
@@ -37,6 +37,7 @@ use Rattle.climb_plan.proofs.Installing.{distinct_first}
 use Rattle.climb_plan.proofs.InstallingLaws.{others-all_come_home, rising-all_come_home, logged-all_come_home}
 use Rattle.climb_plan.proofs.ThroughGroups.{fresh_numbers, groups_can_be_installed, groups_installed, groups_rising, groups_logged}
 use Rattle.climb_plan.proofs.ThroughLevel.{seen_pids, seen_distinct, seen_away, not_seen, home_back, pages_home, never_given, all_each, or_swapped}
+use Rattle.climb_plan.proofs.Installed.{IsInstalled, worked_pids, replaced_among}
 
 module _ {V : Type 0} (s : Settings) (of : Page V → PageOfKind) (t u : TreeInMemory) (xs : List SeenPage) (ws : List (Worked V)) (used : List ℕ) (i : ℕ) (h : IsLevel of t xs ws [] used i)
     (given : List Remade) (pid levels : ℕ) (c : IsTopChanged s of t u ws used i given pid levels) where

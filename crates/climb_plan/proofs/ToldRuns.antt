@@ -16,10 +16,11 @@ use Rattle.split_plan.specs.WorkedLevel.{worked_parents}
 use Rattle.split_plan.specs.Change.{Change, changes, family_changes, fresh_of}
 use Rattle.split_plan.specs.Terms.{terms}
 use Rattle.climb_plan.specs.Climb.{families}
-use Rattle.climb_plan.specs.Changing.{AreSeen, shown, Changing, rewritten, with_changing, changing, parents_of, changing_changes, AreRunsOf}
+use Rattle.climb_plan.specs.Changing.{AreSeen, shown, Changing, rewritten, with_changing, changing, parents_of, changing_changes}
 use Rattle.climb_plan.specs.Changing.AreSeen.{worked, at_home}
-use Rattle.climb_plan.specs.Changing.AreRunsOf.{told, untold}
+use Rattle.climb_plan.proofs.Told.AreRunsOf.{told, untold}
 use Rattle.climb_plan.proofs.ChangingGroups.{AreAlike, alike_rewritten, alike_terms}
+use Rattle.climb_plan.proofs.Told.{AreRunsOf}
 
 -- ---- only parents of families that change are told anything
 
@@ -58,11 +59,6 @@ module _ {V : Type 0} where
   length-runs (AreRunsOf.none) = refl
   length-runs (told p run r) = ap (λ (n : ℕ). suc n) (length-runs r)
   length-runs (untold p r) = length-runs r
-
-  pub length-all_runs : {ps qs : List (Placed V)} {all rs : List (List (List ℕ × Option V))} → AreRunsOf ps all qs rs → length all ≡ length ps
-  length-all_runs (AreRunsOf.none) = refl
-  length-all_runs (told p run r) = ap (λ (n : ℕ). suc n) (length-all_runs r)
-  length-all_runs (untold p r) = ap (λ (n : ℕ). suc n) (length-all_runs r)
 
   -- what holds of all pages holds of those that have a run
   pub all_told : {ps qs : List (Placed V)} {all rs : List (List (List ℕ × Option V))} (P : Placed V → Type 0) → AreRunsOf ps all qs rs → AllByRecursion P ps → AllByRecursion P qs

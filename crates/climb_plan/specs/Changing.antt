@@ -1,16 +1,15 @@
 -- The families that change on a level, the pages of it that their parents see, and the table once changes are installed.
-use Rattle.std.specs.Prelude.{◌≡◌, ℕ, ◌+◌, Bool, false, ◌||◌, List, [], ◌∷◌, ◌++◌, map, flat_map, take, drop, length, Option, Some, None}
+use Rattle.std.specs.Prelude.{◌≡◌, ℕ, ◌+◌, Bool, false, ◌||◌, List, [], ◌∷◌, map, flat_map, take, drop, length, Some, None}
 use Rattle.std.specs.List.{filter, AllByRecursion}
 use Rattle.keys.specs.declared.settings.Settings.{Settings}
 use Rattle.index_page.specs.Page.{Page, PageOfKind}
-use Rattle.mapping.specs.Levels.{Placed, entries, pids}
-use Rattle.mapping.specs.FreshPids.{is_among}
+use Rattle.mapping.specs.Levels.{Placed, entries}
 use Rattle.mapping.specs.Table.{Mapping, place_of}
 use Rattle.page_runs.specs.declared.class.Class.{Class}
 use Rattle.page_runs.specs.declared.class.Class.TheVariants.{Same}
 use Rattle.page_runs.specs.Worked.{Worked, is_thin_class, is_fat_class, is_thin}
 use Rattle.split_plan.specs.Groups.{groups}
-use Rattle.split_plan.specs.Change.{Change, is_rewritten, changes, new_of, fresh_of}
+use Rattle.split_plan.specs.Change.{Change, is_rewritten, changes, fresh_of}
 use Rattle.split_plan.specs.Terms.{freed_of}
 
 -- ---- pages after their runs
@@ -36,14 +35,6 @@ pub data AreSeen {V : Type 0} (of : Page V → PageOfKind) (t : Mapping PageOfKi
   none : AreSeen of t [] []
   worked : {xs : List SeenPage} {ws : List (Worked V)} → (w : Worked V) → place_of t w.placed.pid ≡ Some None → AreSeen of t xs ws → AreSeen of t (shown of w ∷ xs) (w ∷ ws)
   at_home : {xs : List SeenPage} {ws : List (Worked V)} → (p : Placed V) → place_of t p.pid ≡ Some (Some (of p.page)) → AreSeen of t xs ws → AreSeen of t xs (same p ∷ ws)
-
--- the pids of pages after their runs
-abbrev pub worked_pids : {V : Type 0} → List (Worked V) → List ℕ
-worked_pids ws = map (λ w. w.placed.pid) ws
-
--- those that were replaced
-abbrev pub replaced_among : {V : Type 0} → List (Worked V) → List (Worked V)
-replaced_among ws = filter (λ w. w.replaced) ws
 
 -- whether the class is thin or fat
 abbrev pub calls : Class → Bool
@@ -95,20 +86,8 @@ changing_changes s used i (c ∷ chs) =
 abbrev pub all_freed : {V : Type 0} → List (List (Change V)) → List (Placed V)
 all_freed css = flat_map freed_of css
 
--- runs for all pages of a level, where only these pages have one that isn't empty
-pub data AreRunsOf {V : Type 0} : List (Placed V) → List (List (List ℕ × Option V)) → List (Placed V) → List (List (List ℕ × Option V)) → Type 0 where
-  none : AreRunsOf [] [] [] []
-  told : {ps qs : List (Placed V)} {runs rs : List (List (List ℕ × Option V))} → (p : Placed V) → (run : List (List ℕ × Option V)) → AreRunsOf ps runs qs rs → AreRunsOf (p ∷ ps) (run ∷ runs) (p ∷ qs) (run ∷ rs)
-  untold : {ps qs : List (Placed V)} {runs rs : List (List (List ℕ × Option V))} → (p : Placed V) → AreRunsOf ps runs qs rs → AreRunsOf (p ∷ ps) ([] ∷ runs) qs rs
-
 -- ---- tables
 
 -- the pages are at home in the table
 abbrev pub AreHome : {V : Type 0} → (Page V → PageOfKind) → Mapping PageOfKind → List (Placed V) → Type 0
 AreHome of t ps = AllByRecursion (λ p. place_of t p.pid ≡ Some (Some (of p.page))) ps
-
--- from one table to the next what is made by changes came home and what they free lost its place; all else stayed
-pub record IsInstalled {V : Type 0} (of : Page V → PageOfKind) (before after : Mapping PageOfKind) (cs : List (Change V)) : Type 0 where
-  pub new : AreHome of after (new_of cs)
-  pub freed : AllByRecursion (λ p. place_of after p.pid ≡ None) (freed_of cs)
-  pub others : (pid : ℕ) → is_among pid (pids (new_of cs) ++ pids (freed_of cs)) ≡ false → place_of after pid ≡ place_of before pid

@@ -1,5 +1,5 @@
 -- A level in the course of a climb: its pages as code has them, of either kind, and as the plan has them.
-use Rattle.std.specs.Prelude.{◌≡◌, ◌≢◌, ℕ, ◌+◌, List, [], ◌∷◌, map, drop, length, Option, Some, None}
+use Rattle.std.specs.Prelude.{◌≡◌, ◌≢◌, ℕ, ◌+◌, List, [], ◌∷◌, map, drop, length, Some, None}
 use Rattle.std.specs.List.{filter, AllByRecursion}
 use Rattle.keys.specs.Order.{IsRising}
 use Rattle.keys.specs.declared.settings.Settings.{Settings}
@@ -43,12 +43,6 @@ parent_pids chs = map (λ c. c.parent.pid) chs
 -- these with how many groups each has
 abbrev pub group_counts : {V : Type 0} → List (Changing V) → List (ℕ × ℕ)
 group_counts chs = map (λ c. (c.parent.pid, length c.groups)) chs
-
--- each parent with its run
-abbrev pub each_told : List ℕ → List (List (List ℕ × Option ℕ)) → List (ℕ × List (List ℕ × Option ℕ))
-each_told [] runs = []
-each_told (pid ∷ pids) [] = []
-each_told (pid ∷ pids) (run ∷ runs) = (pid, run) ∷ each_told pids runs
 
 -- ---- levels
 

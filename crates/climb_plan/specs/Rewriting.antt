@@ -1,5 +1,5 @@
 -- Which groups of a level are rewritten, and what is made of them, in words of pages of either kind, as code has them.
-use Rattle.std.specs.Prelude.{◌≡◌, ℕ, zero, suc, ◌+◌, ◌-◌, ◌<◌, ◌≤◌, ⊤, Bool, false, true, List, [], ◌∷◌, ◌++◌, map, flat_map, take, drop, length, Option, Some, None}
+use Rattle.std.specs.Prelude.{◌≡◌, ℕ, ◌+◌, ◌-◌, ◌<◌, ◌≤◌, ⊤, Bool, false, true, List, [], ◌∷◌, ◌++◌, map, flat_map, take, drop, length, Option, Some, None}
 use Rattle.std.specs.List.{filter, AllByRecursion, range_with_len}
 use Rattle.keys.specs.Lists.{flat}
 use Rattle.keys.specs.Order.{IsRising}
@@ -120,12 +120,6 @@ HasFirstCall xs low = (quiet : List SeenPage) × (x : SeenPage) × (more : List 
 -- of a level's pages the pids of those in whose range the key lies
 abbrev pub pids_for : List (Placed ℕ) → List ℕ → List ℕ
 pids_for ps k = map (λ at. at.pid) (filter (is_place_for k) (children (names ps) None))
-
--- so many levels above these pages, the pid is that of the page in whose range the key lies
-abbrev pub IsOnWay : ℕ → List (Placed ℕ) → List (List (Placed ℕ)) → List ℕ → ℕ → Type 0
-IsOnWay zero ps ups k pid = pids_for ps k ≡ pid ∷ []
-IsOnWay (suc n) ps [] k pid = ⊥
-IsOnWay (suc n) ps (up ∷ ups) k pid = IsOnWay n up ups k pid
 
 -- pages whose low keys are below a key, and pages whose low keys are not
 pub record AreParted (k : List ℕ) (xs before from : List SeenPage) : Type 0 where

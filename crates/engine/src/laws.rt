@@ -1,5 +1,5 @@
-//! What a run of batches does, in the words of one batch. The law is the contract of a function with an empty
-//! body.
+//! What batches, flushes and cleans do one after the other, in the words of one of them. Each law is the contract of a
+//! function with an empty body.
 ghost use Rattle.std.specs.Prelude.{◌≡◌, ℕ, List, length, take, None, Ok};
 ghost use Rattle.std.specs.List.{AllByRecursion};
 ghost use Rattle.keys.specs.Limits.{first_bad_field};

@@ -13,6 +13,12 @@ use Rattle.index_page.specs.Page.{first_key}
 use Rattle.index_page.specs.Range.{is_below, AreBelow, AreFrom, AreBefore, IsBefore}
 use Rattle.index_page.proofs.ListLaws.{all_keys-append, all_keys_apart, all_keys-filter}
 
+-- a run whose keys rise, from a low key on and before an end
+pub record IsRunFor {X : Type 0} (low : List ℕ) (end : Option (List ℕ)) (run : List (List ℕ × X)) : Type 0 where
+  pub rising : IsRising run
+  pub from : AreFrom low (keys_of run)
+  pub before : AreBefore end (keys_of run)
+
 -- ---- keys
 
 less_by : (o : Ordering) → is_lt o ≡ true → o ≡ Less
@@ -83,9 +89,6 @@ from_nothing ((x ∷ xs) ∷ ks) = (refl, from_nothing ks)
 -- ---- lists of pairs
 
 module _ {X : Type 0} where
-  pub before-append : (end : Option (List ℕ)) (xs ys : List (List ℕ × X)) → AreBefore end (keys_of xs) → AreBefore end (keys_of ys) → AreBefore end (keys_of (xs ++ ys))
-  before-append None xs ys a b = tt
-  before-append (Some hi) xs ys a b = all_keys-append (λ j. is_below j hi ≡ true) xs ys a b
 
   pub before_apart : (end : Option (List ℕ)) (xs ys : List (List ℕ × X)) → AreBefore end (keys_of (xs ++ ys)) → AreBefore end (keys_of xs) × AreBefore end (keys_of ys)
   before_apart None xs ys a = (tt, tt)

@@ -2,8 +2,7 @@
 use Rattle.std.specs.Prelude.{◌≡◌, ℕ, true, false, ⊤, List, Option, Some, None}
 use Rattle.std.specs.declared.cmp.Ordering.TheVariants.{Less}
 use Rattle.std.specs.List.{AllByRecursion}
-use Rattle.std.specs.Map.{keys_of}
-use Rattle.keys.specs.Order.{order, IsRising}
+use Rattle.keys.specs.Order.{order}
 pub use Rattle.keys.specs.Range.{is_below, is_before, is_within}
 
 -- all keys are below k
@@ -23,9 +22,3 @@ AreBefore (Some end) ks = AreBelow end ks
 abbrev pub IsBefore : Option (List ℕ) → List ℕ → Type 0
 IsBefore None k = ⊤
 IsBefore (Some end) k = order k end ≡ Less
-
--- a run whose keys rise, from a low key on and before an end
-pub record IsRunFor {X : Type 0} (low : List ℕ) (end : Option (List ℕ)) (run : List (List ℕ × X)) : Type 0 where
-  pub rising : IsRising run
-  pub from : AreFrom low (keys_of run)
-  pub before : AreBefore end (keys_of run)

@@ -2,7 +2,6 @@ pub mod CellLaws
 pub mod LimitLaws
 pub mod MapLaws
 pub mod NarrowedLaws
-pub mod PlaceLaws
 pub mod RangeLaws
 mod Rows
 pub mod RunLaws

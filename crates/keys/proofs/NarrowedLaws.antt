@@ -123,10 +123,6 @@ module _ {A : Type 0} where
 
   -- ---- a batch
 
-  pub with_no_ends : (cs : List (Command A)) → with_ends cs [] ≡ cs
-  with_no_ends [] = refl
-  with_no_ends (c ∷ cs) = ap (λ (ds : List (Command A)). c ∷ ds) (with_no_ends cs)
-
   pub no_ends : (keys : List (List ℕ)) (m : List (List ℕ × List ℕ)) (cs : List (Command A)) → MayEndAtAll keys m cs []
   no_ends keys m [] = tt
   no_ends keys m (c ∷ cs) = (tt, no_ends keys (map_after m c) cs)

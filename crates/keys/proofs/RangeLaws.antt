@@ -19,14 +19,6 @@ less_by Greater h = absurd (cc)
 
 -- ---- keys
 
-through_by : (b : Bool) (o : Ordering) (i j k : List ℕ) → is_below i j ≡ b → order i k ≡ o → is_below i k ≡ false → is_below j k ≡ true → b ≡ false
-through_by true o i j k b e h l = absurd (let t : is_below i k ≡ true = rw (total.trans i j k (less_by (order i j) b) (less_by (order j k) l)) refl in cc)
-through_by false o i j k b e h l = refl
-
--- a key that isn't below hi isn't below what is below hi
-not_below_lower : (i j k : List ℕ) → is_below i k ≡ false → is_below j k ≡ true → is_below i j ≡ false
-not_below_lower i j k h l = through_by (is_below i j) (order i k) i j k refl refl h l
-
 none_by : (b c : Bool) (lo hi k : List ℕ) → is_below k lo ≡ b → is_below k hi ≡ c → is_below lo hi ≡ false → (not b && c) ≡ false
 none_by true c lo hi k p q h = refl
 none_by false false lo hi k p q h = refl

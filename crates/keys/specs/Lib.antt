@@ -6,7 +6,6 @@ pub mod Lists
 pub mod Order
 pub mod Narrowed
 pub mod OrderedMap
-pub mod Places
 pub mod Range
 pub mod Step
 pub mod Words

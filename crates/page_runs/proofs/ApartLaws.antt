@@ -13,8 +13,8 @@ use Rattle.keys.specs.declared.command.Command.TheVariants.{Get, Put, Add, Del, 
 use Rattle.keys.specs.declared.command.Reply.{Reply}
 use Rattle.page_runs.specs.NetRun.{net_run}
 use Rattle.page_runs.proofs.NetLaws.{Pairs, said_if, value_at-touched, untouched_once}
-use Rattle.page_runs.specs.Touched.{touches, is_touched}
 use Rattle.page_runs.specs.Apart.{is_on, single_key, is_on_one, IsOff, IsWithin, TakesAll, TakesNoOther, replies_where, AgreeOn}
+use Rattle.page_runs.proofs.Touching.{touches, is_touched}
 
 -- ---- keys
 

@@ -9,3 +9,4 @@ pub mod PageParts
 mod PageRows
 mod Replays
 mod Rows
+mod Touching

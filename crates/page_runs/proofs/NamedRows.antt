@@ -1,5 +1,5 @@
 -- The rows that the keys of a page and its changes give: for the proofs of this crate.
-use Rattle.std.specs.Prelude.{◌≡◌, ℕ, zero, suc, ◌+◌, ◌-◌, ◌<◌, ◌≤◌, Bool, true, false, not, cond, ◌&&◌, List, [], ◌∷◌, ◌++◌, length, take, Option, Some, None}
+use Rattle.std.specs.Prelude.{◌≡◌, ℕ, zero, suc, ◌+◌, ◌-◌, ◌<◌, ◌≤◌, Bool, true, false, not, cond, ◌&&◌, List, [], ◌∷◌, ◌++◌, length, take, Option, Some, None, flat_map}
 use Rattle.std.proofs.Common.{refl, sym, ap, ◌∙◌, arith, append_assoc, append-nil, length-append, Less, Equal, Greater, Ordering}
 use Rattle.std.specs.Borrow.{Bor}
 use Rattle.std.specs.List.{AllByRecursion, filter}
@@ -13,12 +13,20 @@ use Rattle.keys.specs.OrderedMap.{value_at}
 use Rattle.keys.specs.Range.{is_below, is_before, is_within, in_range, rows}
 use Rattle.keys.proofs.MapLaws.{total, passes_same, same_map, value_at_rest}
 use Rattle.delta_chain.specs.Layers.{said_or, with_run}
-use Rattle.delta_chain.specs.Merging.{asserted}
+use Rattle.delta_chain.specs.Merging.{asserted, present}
 use Rattle.delta_chain.proofs.LayerLaws.{value_at-with_run, rising-with_run}
 use Rattle.delta_chain.proofs.Overlays.{said_over, rising-asserted}
 use Rattle.scan.specs.Leaf.{from}
-use Rattle.page_runs.specs.PageRows.{as_changes, named, present_ones, rows_left}
+use Rattle.page_runs.specs.PageRows.{as_changes, named}
 use Rattle.page_runs.proofs.PageRows.{rising-as_changes, rising-in_range, rising-named}
+
+-- those that have a value
+abbrev pub present_ones : {V : Type 0} → List (List ℕ × Option V) → List (List ℕ × V)
+present_ones changes = flat_map (λ c. present c.0 c.1) changes
+
+-- the rows that they give: those below the end, as many as the limit at most
+abbrev pub rows_left : {V : Type 0} → Option (List ℕ) → ℕ → List (List ℕ × Option V) → List (List ℕ × V)
+rows_left end limit changes = take limit (filter (λ e. is_before end e.0) (present_ones changes))
 
 with_true : (b : Bool) → (b && true) ≡ b
 with_true true = refl

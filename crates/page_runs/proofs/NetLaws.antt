@@ -12,8 +12,8 @@ use Rattle.keys.specs.declared.command.Command.{Command}
 use Rattle.keys.specs.declared.command.Command.TheVariants.{Get, Put, Add, Del, Scan}
 use Rattle.delta_chain.specs.Layers.{said_or, with_run}
 use Rattle.delta_chain.proofs.LayerLaws.{value_at-with_run, rising-with_run}
-use Rattle.page_runs.specs.Touched.{touches, is_touched}
 use Rattle.page_runs.specs.NetRun.{noted, noted_by, touched, net_run}
+use Rattle.page_runs.proofs.Touching.{touches, is_touched}
 
 abbrev pub Pairs : Type 0
 Pairs = List (List ℕ × List ℕ)

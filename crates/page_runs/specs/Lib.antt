@@ -8,5 +8,4 @@ pub mod PageRows
 pub mod Replay
 pub mod Replies
 pub mod TermWork
-pub mod Touched
 pub mod Worked

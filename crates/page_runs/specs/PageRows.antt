@@ -1,10 +1,8 @@
 -- A page and the changes to it, gone through together in key order.
-use Rattle.std.specs.Prelude.{ℕ, List, [], ◌∷◌, map, flat_map, take, drop, Option, Some, None}
+use Rattle.std.specs.Prelude.{ℕ, List, [], ◌∷◌, map, drop, Option, Some, None}
 use Rattle.std.specs.Borrow.{Bor}
-use Rattle.std.specs.List.{filter}
 use Rattle.std.specs.Option.{option_copied}
-use Rattle.keys.specs.Range.{is_before}
-use Rattle.delta_chain.specs.Merging.{present, overlaid}
+use Rattle.delta_chain.specs.Merging.{overlaid}
 use Rattle.page_runs.specs.declared.changes_from.KeptFrom.{KeptFrom}
 use Rattle.page_runs.specs.declared.changes_from.KeptFrom.TheVariants.{Few, Many}
 
@@ -32,11 +30,3 @@ as_changes {V} pairs = map {B = List ℕ × Option V} (λ (p : List ℕ × V). (
 -- each key that the pairs or the changes name, with its value, or its absence, under the changes
 abbrev pub named : {V : Type 0} → List (List ℕ × V) → List (List ℕ × Option V) → List (List ℕ × Option V)
 named pairs changes = overlaid (as_changes pairs) changes
-
--- those that have a value
-abbrev pub present_ones : {V : Type 0} → List (List ℕ × Option V) → List (List ℕ × V)
-present_ones changes = flat_map (λ c. present c.0 c.1) changes
-
--- the rows that they give: those below the end, as many as the limit at most
-abbrev pub rows_left : {V : Type 0} → Option (List ℕ) → ℕ → List (List ℕ × Option V) → List (List ℕ × V)
-rows_left end limit changes = take limit (filter (λ e. is_before end e.0) (present_ones changes))

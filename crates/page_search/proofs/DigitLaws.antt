@@ -25,13 +25,6 @@ pub binary_digits-zero : binary_digits 0 ≡ 0
 unfolding binary_digits
 binary_digits-zero = refl
 
--- a greater number has no fewer digits
-pub binary_digits-rise : (m n : ℕ) → m ≤ n → binary_digits m ≤ binary_digits n
-unfolding binary_digits
-binary_digits-rise m n h =
-    let same : halvings n m ≡ halvings m m = halvings-enough m n m (omega arith) h in
-    omega (arith, halvings-rise n m n h)
-
 -- what is at most half of a number has a digit less
 pub binary_digits-half : (m n : ℕ) → 0 < n → m + m ≤ n → binary_digits m + 1 ≤ binary_digits n
 unfolding binary_digits

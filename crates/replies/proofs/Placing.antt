@@ -4,8 +4,8 @@ use Rattle.std.specs.List.{All}
 use Rattle.std.specs.Option.{option_map}
 use Rattle.std.proofs.lemmas.Bool.{eqb-true, eqb-false, eq-eqb, cond-true}
 use Rattle.std.proofs.lemmas.Grind.{common_steps}
-use Rattle.std.proofs.lemmas.List.{length-append, length-map, length-set, append-nil, take-append-drop, drop_more, take_at, drop_at}
-use Rattle.std.proofs.lemmas.List.Elements.{All-head, All-tail, All-rest, All-take, All-drop, All-nil, All-cons, All-filter, filter_passes, filter-append}
+use Rattle.std.proofs.lemmas.List.{length-append, length-map, length-set, append-nil, take-append-drop, drop_more, drop_at}
+use Rattle.std.proofs.lemmas.List.Elements.{All-head, All-tail, All-rest, All-drop, All-nil, All-cons, All-filter, filter_passes, filter-append}
 use Rattle.std.proofs.lemmas.Option.{gets, none-some, same_Some, slice_get_past, slice_get_cases, slice_get-get_or, slice_get-map, slice_get_read, get_or_from_slice_get}
 use Rattle.keys.specs.CommandKey.{is_scan}
 use Rattle.keys.specs.Lists.{flat}
@@ -73,12 +73,6 @@ module _ {A : Type 0} where
       ap (λ (r : Reply A). gathered cs rest (set rs q.place r)) put ∙ subst (λ (ps : List (Piece A)). gathered cs ps rs ≡ end) e h
 
   -- ---- one page more
-
-  pub within-page : (cs : List (Command A)) (page : List (Piece A)) (left rest : List (List (Piece A))) → left ≡ page ∷ rest → All (IsPlaceOf cs) (flat left) → All (IsPlaceOf cs) page
-  within-page cs page left rest e h =
-      let parts : flat left ≡ page ++ flat rest = ap (λ (pages : List (List (Piece A))). flat pages) e in
-      let front : take (length page) (flat left) ≡ page = ap (take (length page)) parts ∙ take_at page (flat rest) (length page) refl in
-      subst (All (IsPlaceOf cs)) front (All-take (IsPlaceOf cs) (length page) (flat left) h)
 
   pub within-pages : (cs : List (Command A)) (page : List (Piece A)) (left rest : List (List (Piece A))) → left ≡ page ∷ rest → All (IsPlaceOf cs) (flat left) → All (IsPlaceOf cs) (flat rest)
   within-pages cs page left rest e h =

@@ -9,7 +9,7 @@ use Rattle.std.proofs.lemmas.List.Elements.{All-from_recursion}
 use Rattle.std.proofs.lemmas.List.Kept.{IsStrictlySortedBy-filter}
 use Rattle.keys.specs.declared.command.Command.{Command}
 use Rattle.keys.specs.declared.command.Command.TheVariants.{Get, Put, Add, Del, Scan}
-use Rattle.index_page.specs.Page.{Page, PageOfKind}
+use Rattle.index_page.specs.Page.{PageOfKind}
 use Rattle.index_page.specs.Page.PageOfKind.{Index}
 use Rattle.index_page.specs.Range.{is_below, is_before, is_within, AreFrom, AreBefore, IsBefore}
 use Rattle.index_page.specs.Rules.{IsHeaded}
@@ -169,9 +169,6 @@ pub record IsIndexLevel (pages : List (ℕ × PageOfKind)) (end : Option (List �
   pub held : HasIndexPages pages up
   pub headed : AllByRecursion (λ p. IsHeaded 1 p.page) up
   pub tiled : Tiled up end
-
-before_entries : (end : Option (List ℕ)) (p : Page ℕ) → AreBefore end (keys_of (child_entries (Index p))) → AreBefore end (keys_of (child_entries (Index p)))
-before_entries end p a = a
 
 module _ {A : Type 0} (cs : List (Command A)) (pages : List (ℕ × PageOfKind)) where
   found_under : (p : Placed ℕ) → page_at pages p.pid ≡ Some (Index p.page) → index_under pages p.pid ≡ Index p.page

@@ -1,17 +1,16 @@
 -- Lemmas on the path of a walk over the leaves of a tree.
-use Rattle.std.specs.Prelude.{◌≡◌, ℕ, zero, suc, ◌+◌, ◌≤◌, List, [], ◌∷◌, ◌++◌, map, length, Option, Some, None}
+use Rattle.std.specs.Prelude.{◌≡◌, ℕ, zero, suc, ◌+◌, List, [], ◌∷◌, ◌++◌, map, length, Some, None}
 use Rattle.std.proofs.Common.{refl, sym, ap, ◌∙◌, subst, arith, append_assoc, append-nil}
 use Rattle.std.specs.List.{AllByRecursion}
 use Rattle.std.specs.Map.{values_of}
 use Rattle.std.proofs.lemmas.Grind.{flat_map-append}
 use Rattle.std.proofs.lemmas.List.{map-append}
-use Rattle.delta_chain.specs.Layers.{Layers}
 use Rattle.index_page.specs.Page.{Page, PageOfKind, IsIndex}
 use Rattle.index_page.specs.Page.PageOfKind.{Leaf, Index}
 use Rattle.index_page.specs.Children.{child_entries, children_within}
 use Rattle.mapping.specs.Tree.{page_at}
 use Rattle.mapping.specs.Levels.{Placed, entries, joined, as_leaf, as_index, index_at}
-use Rattle.scan.specs.Path.{entries_at, leaves_under, leaves_from_first, leaves_from, leaves_left, leaf_with, leaf_under, leaf_pages, IsKnown, ArePathOf}
+use Rattle.scan.specs.Path.{entries_at, leaves_under, leaves_from_first, leaves_from, leaves_left, leaf_under, leaf_pages, IsKnown, ArePathOf}
 use Rattle.scan.proofs.CutLaws.{cut, all_kept, kept-from-nothing}
 
 module _ (ps : List (ℕ × PageOfKind)) where
@@ -61,18 +60,7 @@ module _ (ps : List (ℕ × PageOfKind)) where
       let h = t.height in
       record { level = t.level; height = omega (arith, h); known = t.known; below = (a.0, t.below) }
 
-  pub path_length : (n : ℕ) (path : List (List ℕ)) → ArePathOf ps n path → length path ≤ n
-  path_length n [] a = omega arith
-  path_length zero (qs ∷ path) a = absurd a
-  path_length (suc n) (qs ∷ path) a = let l = path_length n path a.1 in omega (arith, l)
-
   -- ---- a page on the way
-
-  -- a leaf is all that the way comes to
-  pub at_leaf : (n pid : ℕ) (key low : List ℕ) (chain : Layers (List ℕ)) (rest : List ℕ) → IsKnown ps n pid → Some (Leaf (leaf_with low chain)) ≡ page_at ps pid
-      → leaf_pages ps (leaves_from ps n key pid ++ rest) ≡ leaf_with low chain ∷ leaf_pages ps rest
-  at_leaf zero pid key low chain rest k h = ap (λ (o : Option PageOfKind). as_leaf o ∷ leaf_pages ps rest) (sym h)
-  at_leaf (suc n) pid key low chain rest k h = absurd (let both = h ∙ k.0 in cc)
 
   -- at an index page, the way goes on to the first of the children that are kept, of which there is one
   pub record IsStep (n : ℕ) (key : List ℕ) (pid : ℕ) (kept : List ℕ) : Type 0 where
@@ -111,10 +99,6 @@ module _ (ps : List (ℕ × PageOfKind)) where
     where
       same : (page : PageOfKind) (p : Page ℕ) → Some page ≡ Some (Index p) → child_entries page ≡ child_entries (Index p)
       same page p e = let eq : page ≡ Index p = cc in ap (λ (x : PageOfKind). child_entries x) eq
-
-  pub there_is_page : (n pid : ℕ) → IsKnown ps n pid → None ≡ page_at ps pid → ⊥
-  there_is_page zero pid k h = let both = h ∙ k in cc
-  there_is_page (suc n) pid k h = let both = h ∙ k.0 in cc
 
   -- ---- a way down for the empty key comes to all leaves
 

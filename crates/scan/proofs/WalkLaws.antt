@@ -4,15 +4,13 @@ use Rattle.std.proofs.Common.{sym, ap, ◌∙◌, subst, arith, append_assoc, le
 use Rattle.std.specs.List.{AllByRecursion}
 use Rattle.std.specs.Map.{values_of}
 use Rattle.smallvec.specs.SmallVec.{SmallVec}
-use Rattle.delta_chain.specs.Layers.{Layers}
 use Rattle.index_page.specs.Page.{Page, PageOfKind, IsIndex}
-use Rattle.index_page.specs.Page.PageOfKind.{Leaf}
 use Rattle.index_page.specs.Children.{child_entries, children_within}
 use Rattle.mapping.specs.Tree.{page_at}
 use Rattle.mapping.specs.TreeInMemory.{TreeInMemory, tree_of}
-use Rattle.scan.specs.Path.{leaves_under, leaves_from, leaves_left, leaf_with, leaf_pages, IsKnown, ArePathOf}
+use Rattle.scan.specs.Path.{leaves_under, leaves_from, leaves_left, leaf_pages, IsKnown, ArePathOf}
 use Rattle.scan.specs.Walk.{IsWalk, IsAt, walk_from, walk_left}
-use Rattle.scan.proofs.PathLaws.{leaves_under-append, leaf_pages-append, left-push, path-push, path_pop, at_leaf, at_index, there_is_page, under-none, from-nothing}
+use Rattle.scan.proofs.PathLaws.{leaves_under-append, leaf_pages-append, left-push, path-push, path_pop, at_index, under-none, from-nothing}
 
 -- a path with children pushed, where the walk goes on at this page
 pub record IsPushed (t : TreeInMemory) (path : SmallVec (List ℕ)) (key : List ℕ) (child : ℕ) (whole : List (Page (List ℕ))) : Type 0 where
@@ -86,29 +84,6 @@ module _ (t : TreeInMemory) where
       let s = at_index Pages (Top - length path.items) pid key page at.known h x in
       let parts : [] ≡ s.first ∷ s.rest = sym e ∙ s.parts in
       cc
-
-  pub page_is_there : (depth pid : ℕ) → IsAt t depth pid → None ≡ page_at Pages pid → ⊥
-  page_is_there depth pid at h = there_is_page Pages (Top - depth) pid at.known h
-
-  -- there is room for its children
-  pub room_below : (path : SmallVec (List ℕ)) (key : List ℕ) (pid : ℕ) (page : PageOfKind) → IsWalk t path → IsAt t (length path.items) pid → Some page ≡ page_at Pages pid → IsIndex page → length path.items + 1 ≤ path.capacity
-  room_below path key pid page w at h x =
-      let s = at_index Pages (Top - length path.items) pid key page at.known h x in
-      let level = s.height in
-      let within = at.within in
-      let r = room_for_one (length path.items) s.level w.height (omega (arith, level, within)) in
-      let c = w.room in
-      omega (arith, r, c)
-
-  -- a leaf is where the way down ends
-  pub down_at_leaf : (path : SmallVec (List ℕ)) (key low : List ℕ) (pid : ℕ) (page : PageOfKind) (chain : Layers (List ℕ)) (whole : List (Page (List ℕ))) → IsAt t (length path.items) pid
-      → Some page ≡ page_at Pages pid → page ≡ Leaf (leaf_with low chain)
-      → walk_from t (length path.items) key pid ++ walk_left t path.items ≡ whole → whole ≡ leaf_with low chain ∷ walk_left t path.items
-  down_at_leaf path key low pid page chain whole at h p l =
-      let left : List ℕ = leaves_left Pages Top path.items in
-      sym l
-      ∙ sym (leaf_pages-append Pages (leaves_from Pages (Top - length path.items) key pid) left)
-      ∙ at_leaf Pages (Top - length path.items) pid key low chain left at.known (ap (λ (x : PageOfKind). Some x) (sym p) ∙ h)
 
   -- ---- along
 

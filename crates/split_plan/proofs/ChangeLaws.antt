@@ -17,13 +17,14 @@ use Rattle.index_page.proofs.PageLaws.{all_keys-as_changes}
 use Rattle.mapping.specs.Levels.{Placed, entries, joined, name, names}
 use Rattle.mapping.specs.Proper.{next_low, IsTile, Tiled}
 use Rattle.mapping.proofs.TileLaws.{next_low-append, tiled_apart, tiled-append, next_low-named, rising-joined, from-joined, before-joined, low_is_before}
-use Rattle.split_plan.specs.Cut.{cut, AllFull}
+use Rattle.split_plan.specs.Cut.{cut}
 use Rattle.split_plan.proofs.CutLaws.{cut-joined, cut_full, cut_some, cut_nothing}
 use Rattle.split_plan.specs.Groups.{groups}
 use Rattle.split_plan.proofs.GroupLaws.{groups-joined}
 use Rattle.page_runs.specs.Worked.{Worked, is_thin, is_fat}
 use Rattle.split_plan.specs.WorkedLevel.{placed_of}
 use Rattle.split_plan.specs.Change.{Change, placed_bare, fresh_pages, replacements, is_rewritten, remade, changes, family_changes, new_of, fresh_of, all_new}
+use Rattle.split_plan.proofs.Full.{AllFull}
 
 module _ {V : Type 0} where
   -- ---- which groups are rewritten

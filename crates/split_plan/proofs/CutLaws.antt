@@ -3,7 +3,8 @@ use Rattle.std.specs.Prelude.{◌≡◌, ℕ, zero, suc, ◌+◌, ◌-◌, ◌*�
 use Rattle.std.proofs.Common.{refl, sym, ap, ◌∙◌, arith, length-drop, length-take, take-append-drop, drop-drop, drop_of_length-le, div-mul-le_self, le-div_iff_mul-le, div-lt_iff_lt-mul}
 use Rattle.std.proofs.Math.Nat.{div-le_of_le-mul, mul-le-mul_right}
 use Rattle.keys.specs.Lists.{flat}
-use Rattle.split_plan.specs.Cut.{pieces, piece_count, cut, AllFull, AllAtMost, AllAtLeast}
+use Rattle.split_plan.specs.Cut.{pieces, piece_count, cut, AllAtMost, AllAtLeast}
+use Rattle.split_plan.proofs.Full.{AllFull}
 
 -- ---- where pieces begin and end
 

@@ -5,7 +5,7 @@ use Rattle.std.specs.List.{AllByRecursion}
 use Rattle.std.proofs.lemmas.List.Sums.{sum_by-cons, sum_by-append}
 use Rattle.keys.specs.Lists.{flat}
 use Rattle.split_plan.specs.Groups.{Gathered, with_child, gathered, with_leading, groups, count_kept, begins_thin}
-use Rattle.split_plan.specs.Cut.{AllFull}
+use Rattle.split_plan.proofs.Full.{AllFull}
 
 module _ {X : Type 0} (is_thin : X → Bool) where
   front-joined : (b : Bool) (x : X) (g : Gathered X) → (with_child b x g).leading ++ flat (with_child b x g).groups ≡ x ∷ (g.leading ++ flat g.groups)

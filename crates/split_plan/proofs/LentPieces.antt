@@ -11,9 +11,10 @@ use Rattle.keys.specs.declared.settings.Settings.{Settings}
 use Rattle.keys.proofs.MapLaws.{IsBelowAll}
 use Rattle.delta_chain.specs.Lent.{pairs_lent}
 use Rattle.index_page.specs.Page.{Page, PageOfKind, bare, first_key}
-use Rattle.split_plan.specs.Cut.{piece_count, pieces, cut, AllFull}
+use Rattle.split_plan.specs.Cut.{piece_count, pieces, cut}
 use Rattle.split_plan.specs.Pieces.{pages_lent, joined_pages, low_at, pages_from, pieces_of}
 use Rattle.split_plan.proofs.CutLaws.{cut-joined, cut_full, cut_nothing}
+use Rattle.split_plan.proofs.Full.{AllFull}
 
 module _ {V : Type 0} where
   -- one more pair behind the others

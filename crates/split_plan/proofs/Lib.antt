@@ -7,9 +7,9 @@ pub mod GroupSizes
 mod LentPieces
 pub mod OutdatedLaws
 pub mod PidLaws
-pub mod PieceLaws
 pub mod Renewed
 pub mod RunLaws
 pub mod TermLaws
 mod TermMerge
 pub mod WorkedLaws
+pub mod Full

@@ -1,5 +1,5 @@
 -- Lemmas on runs over the pages of a level, for the proofs of this crate and of those above it.
-use Rattle.std.specs.Prelude.{◌≡◌, ℕ, suc, Bool, true, false, not, cond, List, [], ◌∷◌, ◌++◌, length, Option, Some, None}
+use Rattle.std.specs.Prelude.{◌≡◌, ℕ, Bool, true, false, not, cond, List, [], ◌∷◌, ◌++◌, Option, Some, None}
 use Rattle.std.proofs.Common.{refl, sym, ap, ◌∙◌, append-nil, Ordering, Less, Equal, Greater}
 use Rattle.std.specs.Ordering.{is_eq, match_ordering}
 use Rattle.std.specs.List.{AllByRecursion}
@@ -97,11 +97,6 @@ module _ {V : Type 0} where
       ap (λ (m : List (List ℕ × V)). m ++ joined (placed_of (worked_leaves s (part_from k run) (q ∷ qs)))) (entries-worked s p (part_below k run))
       ∙ ap (λ (m : List (List ℕ × V)). with_run (entries p) (part_below k run) ++ m) (joined-worked_leaves s (part_from k run) q qs end h.1)
       ∙ sym (with_run-append run k (entries p) (joined (q ∷ qs)) (all_keys_entries (λ j. is_below j k ≡ true) p.page h.0.keys.before) (from-joined q qs end h.1))
-
-  pub length-worked_leaves : (s : Settings) (run : List (List ℕ × Option V)) (ps : List (Placed V)) → length (worked_leaves s run ps) ≡ length ps
-  length-worked_leaves s run [] = refl
-  length-worked_leaves s run (p ∷ []) = refl
-  length-worked_leaves s run (p ∷ q ∷ qs) = ap (λ n. suc n) (length-worked_leaves s (part_from q.page.low run) (q ∷ qs))
 
   -- pages keep their pids and low keys
   pub names-worked_leaves : (s : Settings) (run : List (List ℕ × Option V)) (ps : List (Placed V)) → names (placed_of (worked_leaves s run ps)) ≡ names ps

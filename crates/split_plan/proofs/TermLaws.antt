@@ -12,17 +12,17 @@ use Rattle.keys.specs.Lists.{flat}
 use Rattle.mapping.specs.Levels.{Placed, entries, name, names}
 use Rattle.mapping.specs.Proper.{next_low, Tiled}
 use Rattle.mapping.proofs.TileLaws.{Names, names-append, rising-names, before-names, from-names}
-use Rattle.split_plan.specs.Cut.{AllFull}
 use Rattle.split_plan.specs.Groups.{groups}
 use Rattle.split_plan.proofs.GroupLaws.{groups-joined, groups_full}
 use Rattle.page_runs.specs.Worked.{Worked, is_thin}
 use Rattle.split_plan.specs.WorkedLevel.{placed_of}
-use Rattle.index_page.specs.Range.{IsRunFor}
 use Rattle.split_plan.specs.Change.{remade, changes, new_of, fresh_of}
 use Rattle.split_plan.proofs.ChangeLaws.{placed_of-append, tiled_placed_apart, remade_begins, next_low-changes, tiled-groups}
 use Rattle.split_plan.specs.Terms.{freed_of, terms, term_at}
 use Rattle.split_plan.proofs.Exchange.{Exchange, whole, others, terms_of}
 use Rattle.split_plan.proofs.ExchangeLaws.{rising-others, rising-with_present, all_keys-terms_of, before-terms_of, value_at-with_present, terms_exchange}
+use Rattle.index_page.proofs.RangeLaws.{IsRunFor}
+use Rattle.split_plan.proofs.Full.{AllFull}
 
 module _ {V : Type 0} where
   -- a group, and the pages in its place, as the parent sees it

@@ -5,9 +5,9 @@ use Rattle.std.specs.List.{AllByRecursion}
 use Rattle.std.specs.Map.{keys_of}
 use Rattle.keys.specs.declared.settings.Settings.{Settings}
 use Rattle.index_page.specs.Page.{said, named}
-use Rattle.index_page.specs.Range.{is_below, AreBelow, AreFrom, AreBefore, IsRunFor}
+use Rattle.index_page.specs.Range.{is_below, AreBelow, AreFrom, AreBefore}
 use Rattle.index_page.proofs.ListLaws.{all_keyed, all_keys, all_keys-filter}
-use Rattle.index_page.proofs.RangeLaws.{before-filter, rising-filter}
+use Rattle.index_page.proofs.RangeLaws.{before-filter, rising-filter, IsRunFor}
 use Rattle.mapping.specs.Levels.{Placed}
 use Rattle.mapping.specs.Proper.{next_low, IsTile, Tiled}
 use Rattle.mapping.proofs.TileLaws.{next_low-same}

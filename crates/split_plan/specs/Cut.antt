@@ -1,5 +1,5 @@
 -- How entries are cut into pages.
-use Rattle.std.specs.Prelude.{ℕ, zero, suc, ◌+◌, ◌*◌, ◌/◌, ◌-◌, ◌<◌, ◌≤◌, max, List, [], ◌∷◌, length, slice_range}
+use Rattle.std.specs.Prelude.{ℕ, zero, suc, ◌+◌, ◌*◌, ◌/◌, ◌-◌, ◌≤◌, max, List, [], ◌∷◌, length, slice_range}
 use Rattle.std.specs.List.{AllByRecursion}
 
 -- how many pieces n entries are cut into: n / fan rounded up, and one at least
@@ -15,10 +15,7 @@ pieces es p i (suc more) = slice_range es (i * length es / p) (suc i * length es
 abbrev pub cut : {X : Type 0} → ℕ → List X → List (List X)
 cut fan es = pieces es (piece_count fan (length es)) 0 (piece_count fan (length es))
 
--- each piece has an entry; at most, and at least, so many
-abbrev pub AllFull : {X : Type 0} → List (List X) → Type 0
-AllFull bs = AllByRecursion (λ b. 0 < length b) bs
-
+-- each piece has at most, and at least, so many entries
 abbrev pub AllAtMost : {X : Type 0} → ℕ → List (List X) → Type 0
 AllAtMost most bs = AllByRecursion (λ b. length b ≤ most) bs
 

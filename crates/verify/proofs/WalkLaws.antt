@@ -12,14 +12,14 @@ use Rattle.index_page.specs.Page.PageOfKind.{Leaf, Index}
 use Rattle.index_page.specs.Children.{Place}
 use Rattle.index_page.proofs.ChildLaws.{pids-children}
 use Rattle.mapping.specs.Tree.{Tree, page_at}
-use Rattle.mapping.specs.Levels.{Placed, Levels, joined, pids, all_pids, as_index, leaf_at, index_at, levels_below, levels_of, contents}
-use Rattle.mapping.specs.Finding.{or_else, on_level, unmet, children_of_page, children_at, all_met, finding_below, finding}
+use Rattle.mapping.specs.Levels.{Placed, joined, pids, as_index, index_at, levels_below}
+use Rattle.mapping.specs.Finding.{or_else, on_level, children_of_page, children_at, all_met, finding_below, finding}
 use Rattle.verify.specs.Met.{HaveMetTheSame}
 use Rattle.verify.specs.Report.{IsFaultOf}
 use Rattle.verify.specs.Seen.{broken_at}
 use Rattle.verify.specs.Walked.{HasComeTo}
-use Rattle.verify.specs.declared.look.Level.TheVariants.{Leaves, Above}
-use Rattle.verify.proofs.MetLaws.{finding_below-same, unmet-same}
+use Rattle.verify.specs.declared.look.Level.TheVariants.{Above}
+use Rattle.verify.proofs.MetLaws.{finding_below-same}
 use Rattle.verify.proofs.LevelLaws.{fault_or_else}
 
 -- the pids of places
@@ -100,30 +100,4 @@ module _ (s : Settings) (t : Tree) where
       subst (λ (o : Option Finding). IsFaultOf o fault) v.found
       (fault_or_else (on_level (broken_at s (Above least) t.pages) met ats) (finding_below s t.pages n 1 (all_met met ats) (flat_map (children_at t.pages) ats)) fault f)
 
-  pub at_leaves : (height level least : ℕ) (met : List ℕ) (ats : List Place) → height - level ≡ 0 → HasComeTo s t (height - level) least met ats → HasComeTo s t 0 1 met ats
-  at_leaves height level least met ats e w =
-      let v = subst (λ (n : ℕ). HasComeTo s t n least met ats) e w in
-      record { found = v.found; levels = v.levels }
-
   module _ (met : List ℕ) (ats : List Place) (w : HasComeTo s t 0 1 met ats) where
-    pub fault_of_leaves : (fault : Fault) → IsFaultOf (on_level (broken_at s Leaves t.pages) met ats) fault → IsFaultOf (finding s t) fault
-    fault_of_leaves fault f =
-        subst (λ (o : Option Finding). IsFaultOf o fault) w.found (fault_or_else (on_level (broken_at s Leaves t.pages) met ats) (unmet (all_met met ats) t.pages) fault f)
-
-    -- where nothing is found of the leaves, what is found is a page that hasn't been met
-    pub found_last : (after : List ℕ) → on_level (broken_at s Leaves t.pages) met ats ≡ None → HaveMetTheSame after (all_met met ats) → unmet after t.pages ≡ finding s t
-    found_last after h same =
-        unmet-same s t.pages after (all_met met ats) t.pages same ∙ ap (λ (o : Option Finding). or_else o (unmet (all_met met ats) t.pages)) (sym h) ∙ w.found
-
-    pub pairs_last : length (joined (map (leaf_at t.pages) (place_pids ats))) ≡ length (contents t)
-    pairs_last = ap (λ (l : Levels). length (joined l.level)) w.levels.1
-
-    pub pages_last : (after : List ℕ) → length after ≡ length met + length ats → length after ≡ length (all_pids (levels_of t).level (levels_of t).above)
-    pages_last after count =
-        let above : List (List (Placed ℕ)) = w.levels.0 in
-        let level : List (Placed (List ℕ)) = map (leaf_at t.pages) (place_pids ats) in
-        let own : length (pids level) ≡ length ats = count_pids (leaf_at t.pages) ats in
-        let others : length (flat_map pids above) ≡ length met = w.levels.2 in
-        let both : length (pids level ++ flat_map pids above) ≡ length (pids level) + length (flat_map pids above) = length-append (pids level) (flat_map pids above) in
-        let all : length after ≡ length (pids level ++ flat_map pids above) = omega arith in
-        all ∙ ap (λ (l : Levels). length (all_pids l.level l.above)) w.levels.1

@@ -1,9 +1,9 @@
 use Rattle.std.proofs.Common.{◌≡◌, ◌++◌, ◌-◌, length}
 use Rattle.keys.specs.Order.{IsRising}
 use Rattle.keys.specs.Range.{rows}
-use Rattle.page_runs.specs.PageRows.{rows_left}
 use Rattle.page_runs.specs.Replay.{map_by_now}
 use Rattle.page_runs.proofs.page_rows.rows_of.Given as goal
+use Rattle.page_runs.proofs.NamedRows.{rows_left}
 
 -- the rows so far, and those that the keys that are left give, are the rows
 abbrev pub invariant-loop-key : goal.invariant-loop-key

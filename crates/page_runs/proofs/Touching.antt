@@ -1,4 +1,4 @@
--- Which keys commands touch.
+-- Which keys a command touches, as the proofs say it.
 use Rattle.std.specs.Prelude.{ℕ, Bool, false, not, ◌&&◌, ◌||◌, is_some, List, [], ◌∷◌}
 use Rattle.std.specs.Ordering.{is_eq}
 use Rattle.keys.specs.Order.{order}

@@ -1,0 +1,15 @@
+-- What parents are told, as the proofs say it.
+use Rattle.std.specs.Prelude.{ℕ, List, [], ◌∷◌, Option}
+use Rattle.mapping.specs.Levels.{Placed, pids}
+
+-- each parent with its run
+abbrev pub each_told : List ℕ → List (List (List ℕ × Option ℕ)) → List (ℕ × List (List ℕ × Option ℕ))
+each_told [] runs = []
+each_told (pid ∷ pids) [] = []
+each_told (pid ∷ pids) (run ∷ runs) = (pid, run) ∷ each_told pids runs
+
+-- runs for all pages of a level, where only these pages have one that isn't empty
+pub data AreRunsOf {V : Type 0} : List (Placed V) → List (List (List ℕ × Option V)) → List (Placed V) → List (List (List ℕ × Option V)) → Type 0 where
+  none : AreRunsOf [] [] [] []
+  told : {ps qs : List (Placed V)} {runs rs : List (List (List ℕ × Option V))} → (p : Placed V) → (run : List (List ℕ × Option V)) → AreRunsOf ps runs qs rs → AreRunsOf (p ∷ ps) (run ∷ runs) (p ∷ qs) (run ∷ rs)
+  untold : {ps qs : List (Placed V)} {runs rs : List (List (List ℕ × Option V))} → (p : Placed V) → AreRunsOf ps runs qs rs → AreRunsOf (p ∷ ps) ([] ∷ runs) qs rs
