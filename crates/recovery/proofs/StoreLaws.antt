@@ -3,6 +3,7 @@ use Rattle.std.specs.Prelude.{◌≡◌, ℕ, List, Option, Some, None, Result, 
 use Rattle.std.proofs.Common.{refl, sym, ap, ◌∙◌, subst}
 use Rattle.keys.specs.declared.settings.Settings.{Settings}
 use Rattle.keys.specs.declared.fault.Fault.{Fault}
+use Rattle.keys.specs.Results.{and_then}
 use Rattle.mapping.specs.Finding.{Finding, finding, or_else}
 use Rattle.mapping.specs.Tree.{Store}
 use Rattle.flush_log.specs.Reading.{Found, log}
@@ -10,7 +11,7 @@ use Rattle.flush_log.specs.SettingsBlock.{store_settings}
 use Rattle.flush_log.specs.Slot.{Slot, store_slot}
 use Rattle.flush_log.specs.AfterFlush.{store_after}
 use Rattle.recovery.specs.LogPages.{broken_in}
-use Rattle.recovery.specs.StoreOfDisk.{and_then, unless_found, frames_in, tree_by_log, wrong_in, store_of_slot, store_under, store_of_disk}
+use Rattle.recovery.specs.StoreOfDisk.{unless_found, frames_in, tree_by_log, wrong_in, store_of_slot, store_under, store_of_disk}
 
 -- what is read of a disk
 pub record Reads (s : Settings) (file : List ℕ) (t : Slot) (found : List Found) : Type 0 where

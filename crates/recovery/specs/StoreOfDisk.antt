@@ -3,6 +3,7 @@ use Rattle.std.specs.Prelude.{ℕ, List, map, Option, Some, None, Result, Ok, Er
 use Rattle.keys.specs.declared.settings.Settings.{Settings}
 use Rattle.keys.specs.declared.fault.Fault.{Fault}
 use Rattle.keys.specs.declared.fault.Fault.TheVariants.{BadStructure}
+pub use Rattle.keys.specs.Results.{and_then}
 use Rattle.mapping.specs.Finding.{Finding, finding, or_else}
 use Rattle.mapping.specs.Tree.{Tree, Store, first_tree}
 use Rattle.frame_codec.specs.Frame.{Frame}
@@ -12,11 +13,6 @@ use Rattle.flush_log.specs.SettingsBlock.{store_settings}
 use Rattle.flush_log.specs.Slot.{Slot, store_slot}
 use Rattle.flush_log.specs.AfterFlush.{store_after}
 use Rattle.recovery.specs.LogPages.{pages_of, broken_in}
-
--- the next step, where the one before has no fault
-abbrev pub and_then : {X Y : Type 0} → Result X Fault → (X → Result Y Fault) → Result Y Fault
-and_then (Ok x) next = next x
-and_then (Err fault) next = Err fault
 
 -- this, unless something was found
 abbrev pub unless_found : {X : Type 0} → Option Finding → X → Result X Fault
