@@ -10,7 +10,7 @@ ghost use Rattle.routing.specs.SortedPlaces.{reaches, reaches_at};
 
 use crate::batch::BatchWithEnds;
 use crate::sort::Keyed;
-use keys::{Command, Key, compare};
+use keys::{Command, Key, compare, is_before};
 use std::alloc::{AllocError, Global};
 
 /// Whether a scan stands at the place of one of these entries.
@@ -60,17 +60,10 @@ fn is_before_end(end: Option<&[u8]>, hi: &Option<Key<Global>>, key: &[u8]) -> bo
     ensures { result ≡ is_before (option_or (option_copied end.entry) hi.now) key.now }
 {
     match end {
-        Some(end) => compare(key, end).is_lt(),
-        None => is_before(hi, key),
-    }
-}
-
-// Whether the key is below the upper bound; each is where there is none.
-fn is_before(hi: &Option<Key<Global>>, key: &[u8]) -> bool
-    ensures { result ≡ is_before hi.now key.now }
-{
-    match hi {
-        None => true,
-        Some(hi) => compare(key, hi.as_bytes()).is_lt(),
+        Some(end) => is_before(Some(end), key),
+        None => match hi {
+            Some(hi) => is_before(Some(hi.as_bytes()), key),
+            None => true,
+        },
     }
 }
