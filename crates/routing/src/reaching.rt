@@ -14,7 +14,7 @@ use keys::{Command, Key, compare, is_before};
 use std::alloc::{AllocError, Global};
 
 /// Whether a scan stands at the place of one of these entries.
-pub fn has_scan_at(batch: &BatchWithEnds<'_>, keyed: &[Keyed<'_>]) -> bool
+pub(crate) fn has_scan_at(batch: &BatchWithEnds<'_>, keyed: &[Keyed<'_>]) -> bool
     ensures { result ≡ list_any (λ entry. is_scan_at batch.now entry.1) keyed.now }
 {
     keyed.iter().any(|entry| batch.is_scan_at(entry.1))
@@ -22,7 +22,7 @@ pub fn has_scan_at(batch: &BatchWithEnds<'_>, keyed: &[Keyed<'_>]) -> bool
 
 /// The scans that go on to the page with this low key: of those that reach the page before it, and of the commands that
 /// begin there. It takes no memory where none goes on.
-pub fn going_on(
+pub(crate) fn going_on(
     alloc: Global,
     batch: &BatchWithEnds<'_>,
     reaching: &[usize],
@@ -42,7 +42,7 @@ pub fn going_on(
 
 /// Whether the command is a scan that begins before this low key, and ends behind it: at the nearer end where it has one, else
 /// at its own upper bound.
-pub fn reaches(command: &Command<Global>, end: Option<&[u8]>, low: &[u8]) -> bool
+pub(crate) fn reaches(command: &Command<Global>, end: Option<&[u8]>, low: &[u8]) -> bool
     ensures { result ≡ reaches low.now (with_end (option_copied end.entry) command.now) }
 {
     match command {
