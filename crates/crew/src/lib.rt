@@ -62,14 +62,3 @@ pub trait Work: Sync {
         requires { can_undo self.now done }
         ensures { held result ≡ origin done };
 }
-
-/// What is worked and undone is the job as it was: so a round that cannot be finished can be taken back.
-pub fn work_and_undo<W: Work>(work: &W, job: W::Job) -> W::Job
-    requires { W.accepts work.now (W.held job) }
-    ensures { W.held result ≡ W.held job }
-{
-    match work.work(job) {
-        Turn::Done(done) => work.undo(done),
-        Turn::Back(job) => job,
-    }
-}
