@@ -92,8 +92,6 @@ impl<'a> Work for GroupWork<'a> {
 
     ghost held = { λ j. pages_lent j.members.items };
 
-    ghost can_undo = { λ w d. Unit {0} };
-
     ghost origin = { λ d. d.held };
 
     ghost outcome = { λ d. d.made };
