@@ -8,6 +8,7 @@ use Rattle.keys.specs.Limits.{first_bad_field}
 use Rattle.keys.specs.declared.fault.Fault.{Fault}
 use Rattle.keys.specs.declared.fault.Fault.TheVariants.{NothingToClean}
 use Rattle.keys.specs.declared.settings.Settings.{Settings}
+use Rattle.keys.specs.Results.{and_then}
 use Rattle.index_page.proofs.ListLaws.{all_weaker}
 use Rattle.mapping.specs.Finding.{Finding, finding}
 use Rattle.mapping.specs.Proper.{AreLogsTrue, IsProper}
@@ -32,7 +33,7 @@ use Rattle.flush_log.proofs.SlotLaws.{IsSlot, slot-is, slot_stands, store_slot-r
 use Rattle.flush_log.proofs.TailLaws.{room-for-clean}
 use Rattle.recovery.specs.InStep.{AreInStep, IsInStep, IsStoreOf}
 use Rattle.recovery.specs.LogPages.{pages_of, broken_in}
-use Rattle.recovery.specs.StoreOfDisk.{and_then, unless_found, frames_in, tree_by_log, store_of_disk}
+use Rattle.recovery.specs.StoreOfDisk.{unless_found, frames_in, tree_by_log, store_of_disk}
 use Rattle.recovery.proofs.FlushBack.{IsCommitted, left, commit-done, same_store}
 use Rattle.recovery.proofs.FlushLaws.{frames-text}
 use Rattle.recovery.proofs.StoreLaws.{Reads, StandsBy, store-stands, stands-for, ok-then}

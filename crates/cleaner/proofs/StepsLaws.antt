@@ -8,6 +8,7 @@ use Rattle.keys.specs.declared.command.Command.{Command}
 use Rattle.keys.specs.declared.command.Reply.{Reply}
 use Rattle.keys.specs.declared.fault.Fault.{Fault}
 use Rattle.keys.specs.declared.settings.Settings.{Settings}
+use Rattle.keys.specs.Results.{and_then}
 use Rattle.keys.proofs.RunLaws.{replies_to-append, map_after_all-append}
 use Rattle.mapping.specs.Levels.{contents}
 use Rattle.mapping.specs.Tree.{Tree, Store}
@@ -15,7 +16,7 @@ use Rattle.flush_log.specs.AfterFlush.{after_flush}
 use Rattle.flush_log.specs.FlushText.{flushed}
 use Rattle.flush_log.specs.WordPids.{HasWordPids}
 use Rattle.recovery.specs.InStep.{IsInStep, AreInStep, IsStoreOf}
-use Rattle.recovery.specs.StoreOfDisk.{and_then, store_of_disk}
+use Rattle.recovery.specs.StoreOfDisk.{store_of_disk}
 use Rattle.recovery.proofs.FlushBack.{left, same_store}
 use Rattle.recovery.proofs.KeptStore.{flushed-tree, flush-read_back}
 use Rattle.cleaner.specs.AfterClean.{after_clean}

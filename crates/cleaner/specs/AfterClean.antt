@@ -3,6 +3,7 @@ use Rattle.std.specs.Prelude.{ℕ, suc, nat_eq, if◌then◌else◌, List, take,
 use Rattle.keys.specs.declared.settings.Settings.{Settings}
 use Rattle.keys.specs.declared.fault.Fault.{Fault}
 use Rattle.keys.specs.declared.fault.Fault.TheVariants.{NothingToClean}
+use Rattle.keys.specs.Results.{and_then}
 use Rattle.mapping.specs.Tree.{Store}
 use Rattle.frame_codec.specs.Frame.{Frame}
 use Rattle.flush_log.specs.AfterFlush.{store_after, after_commit}
@@ -12,7 +13,7 @@ use Rattle.flush_log.specs.Reading.{Found, log}
 use Rattle.flush_log.specs.Segments.{last_segment}
 use Rattle.flush_log.specs.Slot.{Slot, slot_place, slot_in}
 use Rattle.recovery.specs.LogPages.{broken_in}
-use Rattle.recovery.specs.StoreOfDisk.{and_then, unless_found, frames_in}
+use Rattle.recovery.specs.StoreOfDisk.{unless_found, frames_in}
 use Rattle.cleaner.specs.CleanText.{clean_text}
 
 -- what the slot for this sequence number says, as it stands on the disk

@@ -29,7 +29,7 @@ use Rattle.climb_plan.specs.Installing.{parent_held, AreParentsHome}
 use Rattle.climb_plan.specs.Level.{parent_pids, IsNeverUnused, IsLevel, next_tree}
 use Rattle.climb_plan.proofs.BridgeDrawn.{drawn_places}
 use Rattle.climb_plan.proofs.BridgeParents.{told_pids, told_made, told_held, parents_can_be_taken}
-use Rattle.climb_plan.proofs.BridgeTables.{AreDrawn, taken_others, taken_away, ArePlaced, taken_pids, drawn_others, lost_after}
+use Rattle.climb_plan.proofs.BridgeTables.{AreDrawn, taken_others, taken_away, ArePlaced, taken_pids, drawn_others, logs_after}
 use Rattle.climb_plan.proofs.ChangingGroups.{alike_level, fresh-changing_changes}
 use Rattle.climb_plan.proofs.Families.{parents_told}
 use Rattle.climb_plan.proofs.ToldRuns.{terms_told, length-runs, all_told, AreHomeBut, seen_after_runs}
@@ -260,5 +260,5 @@ module _ {V : Type 0} (s : Settings) (of : Page V → PageOfKind) (t : TreeInMem
           old = subst (λ (ns : List ℕ). AllByRecursion (IsNeverUnused used) ns) all upper_old;
           rising = subst (λ (ns : List ℕ). AreRisingPids ns) (sym same_in_use) drawn.rising;
           drawn = next_drawn;
-          lost = lost_after t.table rooms new_here taken drawn h.lost;
+          logs = logs_after t.table rooms new_here taken drawn h.logs;
         }

@@ -152,6 +152,6 @@ can_give_back of t u v xs ws ups used i h old new rest given n numbers_so len wh
       away = subst (λ (ns : List ℕ). AreAway (numbers_drawn t old).table ns) (sym fresh) (drawn_away t.table h.rising (numbers old));
       back =
           ap (λ (ns : List ℕ). with_table t (freed_all (numbers_drawn t old).table ns)) fresh
-          ∙ ap (λ (w : Mapping PageOfKind). with_table t w) (drawn_back t.table h.rising (numbers old) h.lost);
+          ∙ ap (λ (w : Mapping PageOfKind). with_table t w) (drawn_back t.table h.rising (numbers old) h.logs);
     } in
     subst (λ (w : TreeInMemory). CanGiveBack t w given) (sym (same ∙ drawn)) there

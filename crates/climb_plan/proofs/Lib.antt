@@ -33,7 +33,6 @@ mod InstallingParents
 mod Kept
 mod LeadingThinLeaf
 mod Leaves
-pub mod LeveledBack
 pub mod LeveledChange
 pub mod LeveledCut
 pub mod LeveledDrawn

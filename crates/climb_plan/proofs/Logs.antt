@@ -7,6 +7,7 @@ use Rattle.std.specs.Map.{keys_of, lookup}
 use Rattle.std.proofs.lemmas.Bool.{eq-eqb, eqb-true}
 use Rattle.keys.specs.declared.settings.Settings.{Settings}
 use Rattle.keys.specs.declared.command.Command.{Command}
+use Rattle.index_page.specs.Over.{IsPageOver}
 use Rattle.index_page.specs.Page.{PageOfKind}
 use Rattle.index_page.specs.Page.PageOfKind.{Leaf, Index}
 use Rattle.index_page.proofs.RuleLaws.{all_both}
@@ -23,7 +24,6 @@ use Rattle.split_plan.proofs.RunLaws.{names-worked_leaves}
 use Rattle.climb_plan.specs.Climb.{Climbed, kept}
 use Rattle.mapping.specs.Outdate.{outdate, outdate_all}
 use Rattle.climb_plan.specs.Plan.{climbed, planned_levels, planned_tree, shrunk_pids, outdated_pids}
-use Rattle.climb_plan.specs.Standing.{Stands}
 use Rattle.climb_plan.proofs.Kept.{kept_is_first, left_is_rest}
 use Rattle.climb_plan.proofs.Planned.{planned_are_levels}
 use Rattle.climb_plan.proofs.Standing.{Has, IsAsBefore, HasAsBefore, StandsIn, AllStandIn, as_before-worked_leaves, stand-climb}
@@ -65,7 +65,7 @@ no_by true (Upto k) = (λ h. absurd (cc), λ h. absurd (cc))
 more_by : {X : Type 0} (k : ℕ) (now newer before : List X) → now ≡ newer ++ before → k ≤ length before → k ≤ length now
 more_by k now newer before e h = rw e (omega (arith, length-append newer before))
 
-more_runs : (p q : PageOfKind) (k : ℕ) → Stands p q → HasRuns k p → HasRuns k q
+more_runs : (p q : PageOfKind) (k : ℕ) → IsPageOver p q → HasRuns k p → HasRuns k q
 more_runs (Leaf p) (Leaf q) k r h = more_by k q.layers.runs r.runs.0 p.layers.runs r.runs.1 h
 more_runs (Index p) (Index q) k r h = more_by k q.layers.runs r.runs.0 p.layers.runs r.runs.1 h
 more_runs (Leaf p) (Index q) k r h = absurd r
@@ -178,7 +178,7 @@ module _ {A : Type 0} (s : Settings) (t : Tree) (cs : List (Command A)) where
 
     -- a page under a pid that isn't gone has a page that stands as it did
     abbrev StillStands : ℕ → PageOfKind → Type 0
-    StillStands pid p = (q : PageOfKind) × (page_at (planned_tree s t cs).pages pid ≡ Some q) × Stands p q
+    StillStands pid p = (q : PageOfKind) × (page_at (planned_tree s t cs).pages pid ≡ Some q) × IsPageOver p q
 
     leaf_stands : (pid : ℕ) (p : PageOfKind) → is_among pid gone_pids ≡ false → page_at t.pages pid ≡ Some p → is_among pid (pids (levels_of t).level) ≡ true → StillStands pid p
     leaf_stands pid p g h m =
@@ -192,7 +192,7 @@ module _ {A : Type 0} (s : Settings) (t : Tree) (cs : List (Command A)) where
         let there : page_at (planned_tree s t cs).pages now.0.pid ≡ Some (Leaf now.0.page) = has_all (λ q. page_at (planned_tree s t cs).pages q.pid ≡ Some (Leaf q.page)) news now.0 planned_holds.leaves now.2 in
         let at_pid : page_at (planned_tree s t cs).pages pid ≡ Some (Leaf now.0.page) = subst (λ (x : ℕ). page_at (planned_tree s t cs).pages x ≡ Some (Leaf now.0.page)) (now.1.pid ∙ was.1) there in
         let same : Leaf was.0.page ≡ p = some_same (Leaf was.0.page) p (sym was.2.0 ∙ ap (λ (x : ℕ). page_at t.pages x) was.1 ∙ h) in
-        (Leaf now.0.page, at_pid, subst (λ (x : PageOfKind). Stands x (Leaf now.0.page)) same now.1.page)
+        (Leaf now.0.page, at_pid, subst (λ (x : PageOfKind). IsPageOver x (Leaf now.0.page)) same now.1.page)
 
     index_page_stands : (pid : ℕ) (p : PageOfKind) → is_among pid gone_pids ≡ false → page_at t.pages pid ≡ Some p → is_among pid (flat_map pids (levels_of t).above) ≡ true → StillStands pid p
     index_page_stands pid p g h m =
@@ -210,7 +210,7 @@ module _ {A : Type 0} (s : Settings) (t : Tree) (cs : List (Command A)) where
         ] in
         let at_pid : page_at table pid ≡ Some (Index f.after.page) = subst (λ (x : ℕ). page_at table x ≡ Some (Index f.after.page)) (f.same.pid ∙ f.pid) there in
         let same : Index f.before.page ≡ p = some_same (Index f.before.page) p (sym f.page ∙ ap (λ (x : ℕ). page_at t.pages x) f.pid ∙ h) in
-        (Index f.after.page, at_pid, subst (λ (x : PageOfKind). Stands x (Index f.after.page)) same f.same.page)
+        (Index f.after.page, at_pid, subst (λ (x : PageOfKind). IsPageOver x (Index f.after.page)) same f.same.page)
 
     -- a page whose pid isn't outdated stands as it did, with newer runs in front
     pub page_stands : (pid : ℕ) (p : PageOfKind) → is_among pid gone_pids ≡ false → page_at t.pages pid ≡ Some p → StillStands pid p
@@ -232,7 +232,7 @@ module _ {A : Type 0} (s : Settings) (t : Tree) (cs : List (Command A)) where
     logged_keys gone [] = refl
     logged_keys gone (l ∷ ls) = ap (λ (ns : List ℕ). l.0 ∷ ns) (logged_keys gone ls)
 
-    true_after : (now : Option PageOfKind) (was : PageOfKind) (k : ℕ) → HasRuns k was → (q : PageOfKind) × (now ≡ Some q) × Stands was q → IsTrueOf now (Upto k)
+    true_after : (now : Option PageOfKind) (was : PageOfKind) (k : ℕ) → HasRuns k was → (q : PageOfKind) × (now ≡ Some q) × IsPageOver was q → IsTrueOf now (Upto k)
     true_after now was k h r = rw r.1 (more_runs was r.0 k r.2 h)
 
     -- of what the log had of a pid

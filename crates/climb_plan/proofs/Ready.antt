@@ -11,7 +11,7 @@ use Rattle.index_page.specs.Page.PageOfKind.{Leaf}
 use Rattle.mapping.specs.Levels.{Placed, names, levels_of}
 use Rattle.mapping.specs.FreshPids.{unused}
 use Rattle.mapping.specs.Proper.{AreRisingPids, IsTrueOf}
-use Rattle.mapping.specs.Table.{Mapping, pids_in_use, place_of}
+use Rattle.mapping.specs.Table.{Mapping, pids_in_use, place_of, IsOldWithoutPlace}
 use Rattle.mapping.specs.Tree.{Logged, Tree, listed_at, page_at}
 use Rattle.mapping.specs.Tree.Logged.{No, Old, Upto}
 use Rattle.mapping.specs.TreeInMemory.{TreeInMemory, AreAllHome, tree_of}
@@ -21,7 +21,6 @@ use Rattle.split_plan.specs.WorkedLevel.{placed_of}
 use Rattle.climb_plan.specs.Changing.{SeenPage}
 use Rattle.climb_plan.specs.Climb.{Climbed, kept}
 use Rattle.climb_plan.specs.HasClimbed.{HasClimbed, CanShrink, HasShrunk}
-use Rattle.climb_plan.specs.Installing.{AreLost}
 use Rattle.climb_plan.specs.Level.{IsLevel}
 use Rattle.climb_plan.specs.Plan.{climbed, planned_tree}
 use Rattle.climb_plan.specs.Ready.{IsReady}
@@ -58,9 +57,9 @@ old_by o Old e h = refl
 old_by None (Upto k) e h = absurd h
 old_by (Some p) (Upto k) e h = absurd (cc)
 
-lost_by : (t : Mapping PageOfKind) (ps : List (ℕ × PageOfKind)) (ls : List (ℕ × Logged)) → pids_in_use t ≡ keys_of ps → AllByRecursion (λ l. IsTrueOf (page_at ps l.0) l.1) ls → AllByRecursion (λ l. place_of t l.0 ≡ None → l.1 ≡ Old) ls
-lost_by t ps [] e h = tt
-lost_by t ps (l ∷ ls) e h = (λ n. old_by (page_at ps l.0) l.1 (none_alike l.0 t.places ps e n) h.0, lost_by t ps ls e h.1)
+logs_by : (t : Mapping PageOfKind) (ps : List (ℕ × PageOfKind)) (ls : List (ℕ × Logged)) → pids_in_use t ≡ keys_of ps → AllByRecursion (λ l. IsTrueOf (page_at ps l.0) l.1) ls → AllByRecursion (λ l. place_of t l.0 ≡ None → l.1 ≡ Old) ls
+logs_by t ps [] e h = tt
+logs_by t ps (l ∷ ls) e h = (λ n. old_by (page_at ps l.0) l.1 (none_alike l.0 t.places ps e n) h.0, logs_by t ps ls e h.1)
 
 -- ---- the leaves
 
@@ -72,8 +71,8 @@ module _ {A : Type 0} (s : Settings) (fan : 1 < s.fan) (t : Tree) (cs : List (Co
   same_names = keep_names s t cs fan r.proper
 
   -- what the log has of a pid without a place is old
-  ready_lost : AreLost m.table
-  ready_lost = lost_by m.table t.pages m.table.logged r.in_use (subst (λ (ls : List (ℕ × Logged)). AllByRecursion (λ l. IsTrueOf (page_at t.pages l.0) l.1) ls) (sym r.logged) r.logs.each)
+  ready_logs : IsOldWithoutPlace m.table
+  ready_logs = logs_by m.table t.pages m.table.logged r.in_use (subst (λ (ls : List (ℕ × Logged)). AllByRecursion (λ l. IsTrueOf (page_at t.pages l.0) l.1) ls) (sym r.logged) r.logs.each)
 
   -- they are a level, under the levels of the tree
   pub ready_level : IsLevel Leaf m xs leaves (levels_of t).above (keys_of t.pages) 0
@@ -88,7 +87,7 @@ module _ {A : Type 0} (s : Settings) (fan : 1 < s.fan) (t : Tree) (cs : List (Co
     old = never_after s t cs fan r.proper;
     rising = subst (λ (ns : List ℕ). AreRisingPids ns) (sym r.in_use) r.proper.tree.rising;
     drawn = λ k. let e : k ≡ 0 + k = omega arith in ap (λ (ns : List ℕ). unused ns k) r.in_use ∙ ap (λ (n : ℕ). unused (keys_of t.pages) n) e;
-    lost = ready_lost;
+    logs = ready_logs;
   }
 
   levels_counted : m.height ≡ suc (length (levels_of t).above)

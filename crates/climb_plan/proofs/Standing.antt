@@ -4,6 +4,7 @@ use Rattle.std.proofs.Common.{refl, sym, ap, ◌∙◌, subst, append-nil, inl, 
 use Rattle.std.specs.List.{AllByRecursion, filter}
 use Rattle.std.proofs.lemmas.Bool.{eqb-false, or_parts}
 use Rattle.keys.specs.declared.settings.Settings.{Settings}
+use Rattle.index_page.specs.Over.{IsOver}
 use Rattle.index_page.specs.Page.{Page}
 use Rattle.index_page.proofs.RuleLaws.{all_both}
 use Rattle.keys.specs.Lists.{flat}
@@ -22,7 +23,6 @@ use Rattle.split_plan.specs.Change.{Change, is_rewritten, remade, changes, famil
 use Rattle.split_plan.proofs.ChangeLaws.{remade_by}
 use Rattle.split_plan.specs.Terms.{terms}
 use Rattle.climb_plan.specs.Climb.{families, Climbed, climb}
-use Rattle.climb_plan.specs.Standing.{StandsUnder}
 use Rattle.climb_plan.proofs.Families.{families-joined}
 
 -- ---- a number that isn't among others
@@ -44,9 +44,9 @@ module _ {V : Type 0} where
   -- the page under the same pid, as it was but for newer runs
   pub record IsAsBefore (p q : Placed V) : Type 0 where
     pub pid : q.pid ≡ p.pid
-    pub page : StandsUnder p.page q.page
+    pub page : IsOver p.page q.page
 
-  stands_by : (b : Bool) (p : Page V) (c : List ℕ × Option V) (cs : List (List ℕ × Option V)) → b ≡ false → StandsUnder p (record { low = p.low; layers = cond b (replaced p.layers (c ∷ cs)) (in_front p.layers (c ∷ cs)) })
+  stands_by : (b : Bool) (p : Page V) (c : List ℕ × Option V) (cs : List (List ℕ × Option V)) → b ≡ false → IsOver p (record { low = p.low; layers = cond b (replaced p.layers (c ∷ cs)) (in_front p.layers (c ∷ cs)) })
   stands_by true p c cs h = absurd (cc)
   stands_by false p c cs h = record { low = refl; base = refl; runs = ((c ∷ cs) ∷ [], refl) }
 

@@ -7,4 +7,3 @@ pub mod Limits
 pub mod Plan
 pub mod Ready
 pub mod Rewriting
-pub mod Standing

@@ -7,6 +7,7 @@ ghost use Rattle.keys.specs.Step.{map_after_all};
 ghost use Rattle.keys.specs.declared.command.Command.{Command};
 ghost use Rattle.keys.specs.declared.command.Command.TheVariants.{Get};
 ghost use Rattle.keys.specs.declared.settings.Settings.{Settings};
+ghost use Rattle.index_page.specs.Over.{IsPageOver};
 ghost use Rattle.index_page.specs.Page.{PageOfKind};
 ghost use Rattle.mapping.specs.Tree.{Tree, Store, page_at, logged_of};
 ghost use Rattle.mapping.specs.Tree.Logged.{No, Upto};
@@ -23,7 +24,6 @@ ghost use Rattle.climb_plan.specs.Limits.{AreShort};
 ghost use Rattle.climb_plan.specs.Climb.{families, climb, is_lone, kept};
 ghost use Rattle.mapping.specs.Outdate.{outdate};
 ghost use Rattle.climb_plan.specs.Plan.{climbed, plan, outdated_pids, shrunk_pids};
-ghost use Rattle.climb_plan.specs.Standing.{Stands};
 
 use std::alloc::Allocator;
 
@@ -53,7 +53,7 @@ pub fn what_is_not_outdated_stands<A: Allocator>()
         logged_of (plan s st cs).tree pid ≡ (if is_among pid (outdated_pids s st.tree cs) then outdate (logged_of st.tree pid) else logged_of st.tree pid) }
     ensures stands { (s : Settings) (st : Store) (cs : List (Command A)) (pid : ℕ) (p : PageOfKind) → first_bad_field s ≡ None → IsProper s st.tree →
         is_among pid (outdated_pids s st.tree cs) ≡ false → page_at st.tree.pages pid ≡ Some p →
-        (q : PageOfKind) × (page_at (plan s st cs).tree.pages pid ≡ Some q) × Stands p q }
+        (q : PageOfKind) × (page_at (plan s st cs).tree.pages pid ≡ Some q) × IsPageOver p q }
 {}
 
 /// Which pids are outdated: those of the climb, and those that went with the old root. Of a climb they are on the highest
@@ -104,5 +104,5 @@ pub fn what_the_log_has_of_a_page_stays_true<A: Allocator>()
     ensures upto { (s : Settings) (st : Store) (cs : List (Command A)) (pid k : ℕ) → logged_of (plan s st cs).tree pid ≡ Upto k → logged_of st.tree pid ≡ Upto k }
     ensures stands { (s : Settings) (st : Store) (cs : List (Command A)) (pid k : ℕ) (p : PageOfKind) → first_bad_field s ≡ None → IsProper s st.tree →
         logged_of (plan s st cs).tree pid ≡ Upto k → page_at st.tree.pages pid ≡ Some p →
-        (q : PageOfKind) × (page_at (plan s st cs).tree.pages pid ≡ Some q) × Stands p q }
+        (q : PageOfKind) × (page_at (plan s st cs).tree.pages pid ≡ Some q) × IsPageOver p q }
 {}

@@ -37,9 +37,6 @@ pub trait Work: Sync {
 
     ghost held: { Self.Job → Held };
 
-    // What `undo` needs of what it is given.
-    ghost can_undo: { Self → Self.Done → Type 0 };
-
     // What the job held of which this was made.
     ghost origin: { Self.Done → Held };
 
@@ -52,24 +49,11 @@ pub trait Work: Sync {
     /// Works the job. `Back` comes only where memory was refused, and gives the job back as it was.
     fn work(&self, job: Self::Job) -> Turn<Self::Job, Self::Done>
         requires { accepts self.now (held job) }
-        ensures can_undo { IfDone result (can_undo self.now) }
         ensures origin { IfDone result (λ done. origin done ≡ held job) }
         ensures made { IfDone result (λ done. outcome done ≡ made self.now (held job)) }
         ensures back { IfBack result (λ again. held again ≡ held job) };
 
     /// The job of which this was made. It takes no memory.
     fn undo(&self, done: Self::Done) -> Self::Job
-        requires { can_undo self.now done }
         ensures { held result ≡ origin done };
-}
-
-/// What is worked and undone is the job as it was: so a round that cannot be finished can be taken back.
-pub fn work_and_undo<W: Work>(work: &W, job: W::Job) -> W::Job
-    requires { W.accepts work.now (W.held job) }
-    ensures { W.held result ≡ W.held job }
-{
-    match work.work(job) {
-        Turn::Done(done) => work.undo(done),
-        Turn::Back(job) => job,
-    }
 }

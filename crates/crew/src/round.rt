@@ -15,7 +15,6 @@ pub fn work_all<W: Work, A: Allocator + Copy>(
     requires { All (λ job. W.accepts work.now (W.held job)) jobs.items }
     ensures made { IfOk result (λ dones. map W.outcome dones.items ≡ map (W.made work.now) (map W.held jobs.items)) }
     ensures origin { IfOk result (λ dones. map W.origin dones.items ≡ map W.held jobs.items) }
-    ensures can_undo { IfOk result (λ dones. All (W.can_undo work.now) dones.items) }
     ensures held { IfErr result (λ again. map W.held again.items ≡ map W.held jobs.items) }
 {
     let Ok(mut dones) = Vec::with_capacity(*jobs.allocator(), jobs.len()) else {
@@ -43,7 +42,6 @@ pub fn undo_all<W: Work, A: Allocator>(
     mut dones: Vec<W::Done, A>,
     mut jobs: Vec<W::Job, A>,
 ) -> Vec<W::Job, A>
-    requires can_undo { All (W.can_undo work.now) dones.items }
     requires room { length jobs.items + length dones.items ≤ vec_capacity jobs }
     ensures { map W.held result.items ≡ map W.origin dones.items ++ map W.held jobs.items }
 {

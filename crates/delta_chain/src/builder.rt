@@ -1,4 +1,4 @@
-ghost use Rattle.std.specs.Prelude.{◌≡◌, ◌∷◌, ◌++◌, [], false, IfOk, OnOk, OnErr, IsErrOf, ◌↔◌};
+ghost use Rattle.std.specs.Prelude.{◌≡◌, ◌∷◌, ◌++◌, [], true, false, IfOk, OnOk, OnErr, IsErrOf, ◌↔◌};
 ghost use Rattle.delta_chain.specs.Building.{goes_last};
 
 use crate::base::Base;
@@ -71,5 +71,16 @@ impl<V: Drop, A: Allocator + Copy> BaseBuilder<V, A> {
         }
         self.base.push(key, cell)?;
         Ok(())
+    }
+
+    /// Adds an entry behind the others, with a copy of the key, which is above the last one. Where
+    /// memory is refused the cell is dropped and the builder stays as it was. `push` is for a key of
+    /// which that isn't known.
+    pub fn push_next(&mut self, key: &[u8], cell: V) -> Result<(), AllocError>
+        requires { goes_last key.now self.old ≡ true }
+        ensures ok { OnOk result (self.new ≡ self.old ++ (key.now, cell) ∷ []) }
+        ensures err { OnErr result (self.new ≡ self.old) }
+    {
+        self.base.push(key, cell)
     }
 }

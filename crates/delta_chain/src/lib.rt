@@ -16,5 +16,5 @@ pub use crate::base::Base;
 pub use crate::builder::{BaseBuilder, PushError};
 pub use crate::chain::Chain;
 pub use crate::keyed::Keyed;
-pub use crate::pairs::{Pairs, key_bytes};
+pub use crate::pairs::{Pairs, copied_base};
 pub use crate::run::Run;

@@ -1,9 +1,13 @@
-ghost use Rattle.std.specs.Prelude.{◌≡◌, ◌<◌, length, min, slice_get, Some};
+ghost use Rattle.std.specs.Prelude.{◌≡◌, ◌<◌, length, min, slice_get, Some, IfOk};
 ghost use Rattle.std.specs.List.{sum_by};
 ghost use Rattle.std.specs.Map.{keys_of, values_of};
+ghost use Rattle.keys.specs.Order.{IsRising};
 ghost use Rattle.delta_chain.specs.Lent.{pairs_lent};
 
-use std::alloc::Allocator;
+use crate::base::Base;
+use crate::builder::BaseBuilder;
+use keys::Cell;
+use std::alloc::{AllocError, Allocator};
 use std::marker::Model;
 
 /// A page's entries, lent out of its runs and its base. Contracts see them as the list of pairs.
@@ -52,17 +56,36 @@ impl<'a, V, A: Allocator + Copy> Pairs<'a, V, A> {
     {
         self.lent[at].1
     }
+}
 
-    /// How many bytes the keys have together, or the greatest `usize` where that is less.
-    pub fn key_bytes(&self) -> usize
-        ensures { result ≡ min (sum_by (λ e. length e.0) self.now) usize.MAX }
+impl<'a, V: Cell<A> + Drop, A: Allocator + Copy> Pairs<'a, V, A> {
+    /// The base of the pairs, copied.
+    pub fn copied_base(&self, alloc: A) -> Result<Base<V, A>, AllocError>
+        requires { IsRising self.now }
+        ensures { IfOk result (λ base. base ≡ self.now) }
     {
-        key_bytes(&self.lent)
+        copied_base(alloc, &self.lent)
     }
 }
 
-/// How many bytes the keys of these entries have together, or the greatest `usize` where that is less.
-pub fn key_bytes<V>(entries: &[(&[u8], &V)]) -> usize
+/// The base of these entries, copied.
+pub fn copied_base<V: Cell<A> + Drop, A: Allocator + Copy>(
+    alloc: A,
+    entries: &[(&[u8], &V)],
+) -> Result<Base<V, A>, AllocError>
+    requires { IsRising (pairs_lent entries.now) }
+    ensures { IfOk result (λ base. base ≡ pairs_lent entries.now) }
+{
+    let mut builder = BaseBuilder::with_capacity(alloc, entries.len(), key_bytes(entries))?;
+    for entry in entries {
+        let cell = entry.1.copy(alloc)?;
+        builder.push_next(entry.0, cell)?;
+    }
+    Ok(builder.finish())
+}
+
+// How many bytes the keys of these entries have together, or the greatest `usize` where that is less.
+fn key_bytes<V>(entries: &[(&[u8], &V)]) -> usize
     ensures { result ≡ min (sum_by (λ e. length e.0) (pairs_lent entries.now)) usize.MAX }
 {
     let mut bytes: usize = 0;

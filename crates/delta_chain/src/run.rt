@@ -1,4 +1,4 @@
-ghost use Rattle.std.specs.Prelude.{◌≡◌, ◌<◌, ◌∷◌, ◌++◌, [], false, length, drop, slice_get, None, IfOk, IfSome, MatchOption, OnOk, OnErr, IsErrOf, ◌↔◌};
+ghost use Rattle.std.specs.Prelude.{◌≡◌, ◌<◌, ◌∷◌, ◌++◌, [], true, false, length, drop, slice_get, None, IfOk, IfSome, MatchOption, OnOk, OnErr, IsErrOf, ◌↔◌};
 ghost use Rattle.std.specs.Map.{keys_of, values_of};
 ghost use Rattle.std.specs.Option.{option_copied};
 ghost use Rattle.keys.specs.Order.{IsRising};
@@ -125,6 +125,17 @@ impl<V: Drop, A: Allocator + Copy> Run<V, A> {
         }
         self.changes.push(key, change)?;
         Ok(())
+    }
+
+    /// Adds a change behind the others, under a key that is above the last one. Where memory is
+    /// refused the change is dropped and the run stays as it was. `push` is for a key of which that
+    /// isn't known.
+    pub fn push_next(&mut self, key: Key<A>, change: Option<V>) -> Result<(), AllocError>
+        requires { goes_last key self.old ≡ true }
+        ensures ok { OnOk result (self.new ≡ self.old ++ (key, change) ∷ []) }
+        ensures err { OnErr result (self.new ≡ self.old) }
+    {
+        self.changes.push(key, change)
     }
 
     /// Sets what the run says of the key: in the place of what it said before, or else where the key goes, so that the

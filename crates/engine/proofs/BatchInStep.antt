@@ -7,28 +7,21 @@ use Rattle.keys.specs.Step.{map_after_all}
 use Rattle.keys.specs.declared.command.Command.{Command}
 use Rattle.keys.specs.declared.fault.Fault.{Fault}
 use Rattle.keys.specs.declared.settings.Settings.{Settings}
+use Rattle.index_page.specs.Over.{IsPageOver}
 use Rattle.index_page.specs.Page.{PageOfKind}
-use Rattle.index_page.specs.Page.PageOfKind.{Leaf, Index}
 use Rattle.mapping.specs.Levels.{contents}
 use Rattle.mapping.specs.Proper.{AreLogsTrue, IsProper}
 use Rattle.mapping.specs.Tree.{Tree, page_at, logged_of}
 use Rattle.mapping.specs.Tree.Logged.{No, Upto}
 use Rattle.climb_plan.specs.Limits.{AreShort}
 use Rattle.climb_plan.specs.Plan.{planned_tree}
-use Rattle.climb_plan.specs.Standing.{Stands}
-use Rattle.recovery.specs.InStep.{IsPageOver, KeepsLogged}
+use Rattle.recovery.specs.InStep.{KeepsLogged}
 use Rattle.recovery.proofs.KeptStore.{batch-kept}
 use Rattle.cleaner.specs.Steps.{KeepsStores}
 use Rattle.engine.specs.Batch.{height_fault}
 use Rattle.engine.specs.Refusal.{refusal}
 use Rattle.engine.specs.Steps.{batching}
 use Rattle.engine.proofs.Admitted.{admitted}
-
-stands_over : (p q : PageOfKind) → Stands p q → IsPageOver p q
-stands_over (Leaf p) (Leaf q) h = record { low = h.low; base = h.base; runs = h.runs }
-stands_over (Index p) (Index q) h = record { low = h.low; base = h.base; runs = h.runs }
-stands_over (Leaf p) (Index q) h = absurd h
-stands_over (Index p) (Leaf q) h = absurd h
 
 neither : {X : Type 0} (o p : Option X) → option_or o p ≡ None → (o ≡ None) × (p ≡ None)
 neither None p e = (refl, e)
@@ -41,7 +34,7 @@ none_where false fault e = refl
 -- by the laws of the plan: what a page has in the log
 abbrev pub KeepsPages : {A : Type 0} → Settings → Tree → List (Command A) → Type 0
 KeepsPages s t cs = (pid k : ℕ) (p : PageOfKind) → logged_of (planned_tree s t cs) pid ≡ Upto k → page_at t.pages pid ≡ Some p →
-    (q : PageOfKind) × (page_at (planned_tree s t cs).pages pid ≡ Some q) × Stands p q
+    (q : PageOfKind) × (page_at (planned_tree s t cs).pages pid ≡ Some q) × IsPageOver p q
 
 module _ {A : Type 0} (s : Settings)
     (holds : (t : Tree) (cs : List (Command A)) → IsProper s t → contents (planned_tree s t cs) ≡ map_after_all (contents t) cs)
@@ -54,7 +47,7 @@ module _ {A : Type 0} (s : Settings)
   keeps_logged t cs p = record {
     none = λ pid. none t cs pid;
     upto = λ pid k e. upto t cs pid k e;
-    over = λ pid k page e f. (let (q, there, stands) = pages t cs p pid k page e f in (q, there, stands_over page q stands));
+    over = λ pid k page e f. pages t cs p pid k page e f;
   }
 
   -- a batch that isn't refused leaves a store in step with the same bytes, and does to what it holds what its commands do

@@ -8,8 +8,8 @@ use Rattle.keys.specs.declared.fault.Fault.{Fault}
 use Rattle.keys.specs.declared.fault.Fault.TheVariants.{BadSettings}
 use Rattle.mapping.specs.Proper.{AreLogsTrue, IsProper}
 use Rattle.mapping.specs.Tree.{first_tree}
-use Rattle.mapping.specs.TreeInMemory.{TreeInMemory}
-use Rattle.engine.specs.State.{IsSoundInMemory, new_in_memory}
+use Rattle.mapping.specs.TreeInMemory.{TreeInMemory, new_in_memory}
+use Rattle.engine.specs.State.{IsSoundInMemory}
 
 -- settings that pass the check have no bad field
 pub passed_by : {U : Type 0} (o : Option Field) (r : Result U Fault) (u : U) → MatchOption o (r ≡ Ok u) (λ field. r ≡ Err (BadSettings field)) → r ≡ Ok u → o ≡ None

@@ -1,11 +1,8 @@
 -- What a store holds.
-use Rattle.std.specs.Prelude.{◌≡◌, ◌≤◌, [], ◌∷◌, Some, None}
+use Rattle.std.specs.Prelude.{◌≡◌, ◌≤◌, None}
 use Rattle.keys.specs.Limits.{first_bad_field}
 use Rattle.keys.specs.declared.settings.Settings.{Settings}
-use Rattle.index_page.specs.Page.{bare}
-use Rattle.index_page.specs.Page.PageOfKind.{Leaf}
 use Rattle.mapping.specs.Tree.{Tree}
-use Rattle.mapping.specs.Tree.Logged.{Upto}
 use Rattle.mapping.specs.Proper.{AreLogsTrue, IsProper}
 use Rattle.mapping.specs.TreeInMemory.{TreeInMemory, AreAllHome, tree_of}
 
@@ -29,7 +26,3 @@ state_of s t = record { settings = s; tree = tree_of t }
 pub record IsSoundInMemory (s : Settings) (t : TreeInMemory) : Type 0 where
   pub home : AreAllHome t
   pub sound : IsSound (state_of s t)
-
--- the tree of a new store, in memory: one empty leaf, which the log has
-abbrev pub new_in_memory : TreeInMemory
-new_in_memory = record { table = record { places = (0, Some (Leaf (bare [] []))) ∷ []; logged = (0, Upto 0) ∷ [] }; root = 0; height = 1 }

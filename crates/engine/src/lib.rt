@@ -12,3 +12,5 @@ pub mod store;
 mod tests;
 
 pub use crate::store::Store;
+pub use scan::Rows;
+pub use verify::Report;

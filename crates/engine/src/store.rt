@@ -9,22 +9,18 @@ ghost use Rattle.mapping.specs.Tree.{first_tree};
 ghost use Rattle.climb_plan.specs.Plan.{planned_tree};
 ghost use Rattle.engine.specs.Batch.{IsLaterFault};
 ghost use Rattle.engine.specs.Refusal.{refusal};
-ghost use Rattle.index_page.specs.Page.{bare};
-ghost use Rattle.index_page.specs.Page.PageOfKind.{Leaf};
-ghost use Rattle.engine.specs.State.{IsSound, new_in_memory};
+ghost use Rattle.engine.specs.State.{IsSound};
 ghost use Rattle.verify.specs.Report.{report};
 
 use crate::execute::execute;
 use crate::refusal::admit;
-use delta_chain::{Base, Chain};
-use index_page::Page;
-use keys::{Command, Fault, Key, Pid, Reply, Settings};
+use keys::{Command, Fault, Reply, Settings};
 use mapping::laws::{
     nothing_is_found_exactly_in_a_proper_tree, the_first_tree_is_proper_and_empty,
 };
-use mapping::{Table, Tree};
+use mapping::{Tree, new_tree};
 use scan::Rows;
-use std::alloc::{AllocError, Global};
+use std::alloc::Global;
 use std::marker::Model;
 use std::thread::Threads;
 use verify::Report;
@@ -134,22 +130,4 @@ impl Store {
     pub(crate) fn tree(&self) -> &Tree<Global> {
         &self.tree
     }
-}
-
-// The tree of a new store: one empty leaf, of which the log has all.
-fn new_tree(alloc: Global) -> Result<Tree<Global>, AllocError>
-    ensures { IfOk result (λ tree. tree ≡ new_in_memory) }
-{
-    let mut table = Table::new(alloc);
-    table.room(0)?;
-    table.put(0, empty_leaf(alloc));
-    table.flushed();
-    Ok(Tree::new(table, Pid(0), 1))
-}
-
-// A leaf that holds nothing. It takes no memory.
-fn empty_leaf(alloc: Global) -> Page<Global>
-    ensures { result ≡ Leaf (bare [] []) }
-{
-    Page::leaf(Key::empty(alloc), Chain::of_base(Base::empty(alloc)))
 }

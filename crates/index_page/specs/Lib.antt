@@ -1,5 +1,6 @@
 pub mod Children
 pub mod NextChild
+pub mod Over
 pub mod Page
 pub mod Range
 pub mod Rules

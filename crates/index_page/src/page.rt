@@ -11,7 +11,7 @@ ghost use Rattle.index_page.specs.Children.{children, is_place_for, child_entrie
 
 use crate::within::{Children, NextChild};
 use delta_chain::Chain;
-use keys::{Key, Pid, Value, compare};
+use keys::{Key, Pid, Value, is_before};
 use page_search::{Probes, above, floor};
 use std::alloc::Allocator;
 use std::marker::Model;
@@ -213,15 +213,5 @@ impl<A: Allocator + Copy> Page<A> {
             Some(child) if is_before(end, child.0) => Some(child),
             _ => None,
         }
-    }
-}
-
-// Whether the key is below the end; each is where there is none.
-fn is_before(end: Option<&[u8]>, key: &[u8]) -> bool
-    ensures { result ≡ is_before (option_copied end.entry) key.now }
-{
-    match end {
-        None => true,
-        Some(end) => compare(key, end).is_lt(),
     }
 }

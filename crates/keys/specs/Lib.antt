@@ -7,5 +7,6 @@ pub mod Order
 pub mod Narrowed
 pub mod OrderedMap
 pub mod Range
+pub mod Results
 pub mod Step
 pub mod Words

@@ -22,7 +22,7 @@ pub use crate::fault::Fault;
 pub use crate::finding::Finding;
 pub use crate::key::Key;
 pub use crate::key_ref::{KeyRef, KeyWithWord};
-pub use crate::order::compare;
+pub use crate::order::{compare, is_before};
 pub use crate::pid::Pid;
 pub use crate::piece::Piece;
 pub use crate::row_list::RowList;

@@ -1,6 +1,8 @@
 //! How byte strings stand to each other.
 ghost use Rattle.std.specs.Prelude.{◌≡◌};
+ghost use Rattle.std.specs.Option.{option_copied};
 ghost use Rattle.keys.specs.Order.{order};
+ghost use Rattle.keys.specs.Range.{is_before};
 
 use std::cmp::Ordering;
 
@@ -19,6 +21,17 @@ pub fn compare(one: &[u8], other: &[u8]) -> Ordering
     match u64::from_be_bytes(*word).cmp(&u64::from_be_bytes(*other_word)) {
         Ordering::Equal => compare(rest, other_rest),
         apart => apart,
+    }
+}
+
+/// Whether the key is below the end; each is where there is none.
+#[inline]
+pub fn is_before(end: Option<&[u8]>, key: &[u8]) -> bool
+    ensures { result ≡ is_before (option_copied end.entry) key.now }
+{
+    match end {
+        None => true,
+        Some(end) => compare(key, end).is_lt(),
     }
 }
 

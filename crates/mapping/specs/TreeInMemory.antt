@@ -1,8 +1,10 @@
 -- A tree in memory: a table with a root and a height, and the tree that it stands for.
-use Rattle.std.specs.Prelude.{ℕ, List, flat_map, Option, IsSome}
+use Rattle.std.specs.Prelude.{ℕ, List, [], ◌∷◌, flat_map, Option, Some, IsSome}
 use Rattle.std.specs.List.{AllByRecursion}
-use Rattle.index_page.specs.Page.{PageOfKind}
+use Rattle.index_page.specs.Page.{PageOfKind, bare}
+use Rattle.index_page.specs.Page.PageOfKind.{Leaf}
 use Rattle.mapping.specs.Tree.{Tree}
+use Rattle.mapping.specs.Tree.Logged.{Upto}
 use Rattle.mapping.specs.Table.{Mapping}
 use Rattle.mapping.specs.Slots.{entry_if}
 
@@ -23,3 +25,7 @@ home_pages es = flat_map (λ e. entry_if e.0 e.1) es
 -- the tree of these pages
 abbrev pub tree_of : TreeInMemory → Tree
 tree_of t = record { pages = home_pages t.table.places; root = t.root; height = t.height; logged = t.table.logged }
+
+-- the tree of a new store, in memory: one empty leaf, which the log has
+abbrev pub new_in_memory : TreeInMemory
+new_in_memory = record { table = record { places = (0, Some (Leaf (bare [] []))) ∷ []; logged = (0, Upto 0) ∷ [] }; root = 0; height = 1 }

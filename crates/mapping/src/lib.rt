@@ -17,4 +17,4 @@ pub mod tree;
 pub use crate::logged::Logged;
 pub use crate::pids::{HomePids, Pids};
 pub use crate::table::Table;
-pub use crate::tree::Tree;
+pub use crate::tree::{Tree, empty_leaf, new_tree};

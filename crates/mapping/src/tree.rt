@@ -1,17 +1,20 @@
-ghost use Rattle.std.specs.Prelude.{◌≡◌, ◌↔◌, Some, None, IsTrue, IsSome, IfOk, OnOk, OnErr};
+ghost use Rattle.std.specs.Prelude.{◌≡◌, ◌↔◌, [], Some, None, IsTrue, IsSome, IfOk, OnOk, OnErr};
 ghost use Rattle.std.specs.Option.{option_copied};
 ghost use Rattle.std.specs.Map.{keys_of};
+ghost use Rattle.index_page.specs.Page.{bare};
+ghost use Rattle.index_page.specs.Page.PageOfKind.{Leaf};
 ghost use Rattle.mapping.specs.Tree.{page_at};
 ghost use Rattle.mapping.specs.LogState.{log_state};
 ghost use Rattle.mapping.specs.Proper.{AreRisingPids};
 ghost use Rattle.mapping.specs.Table.{place_of, page_of, log_of, with_place, outdated, freed, with_rooms, pids_in_use, fresh_pids};
-ghost use Rattle.mapping.specs.TreeInMemory.{AreAllHome, tree_of};
+ghost use Rattle.mapping.specs.TreeInMemory.{AreAllHome, tree_of, new_in_memory};
 
 use crate::logged::Logged;
 use crate::pids::HomePids;
 use crate::table::Table;
+use delta_chain::{Base, Chain};
 use index_page::Page;
-use keys::Pid;
+use keys::{Key, Pid};
 use std::alloc::{AllocError, Allocator};
 use std::marker::Model;
 
@@ -137,4 +140,22 @@ impl<A: Allocator + Copy> Tree<A> {
         self.root = root;
         self.height = height;
     }
+}
+
+/// The tree of a new store: one empty leaf, of which the log has all.
+pub fn new_tree<A: Allocator + Copy>(alloc: A) -> Result<Tree<A>, AllocError>
+    ensures { IfOk result (λ tree. tree ≡ new_in_memory) }
+{
+    let mut table = Table::new(alloc);
+    table.room(0)?;
+    table.put(0, empty_leaf(alloc));
+    table.flushed();
+    Ok(Tree::new(table, Pid(0), 1))
+}
+
+/// A leaf that holds nothing. It takes no memory.
+pub fn empty_leaf<A: Allocator + Copy>(alloc: A) -> Page<A>
+    ensures { result ≡ Leaf (bare [] []) }
+{
+    Page::leaf(Key::empty(alloc), Chain::of_base(Base::empty(alloc)))
 }

@@ -8,7 +8,7 @@ ghost use Rattle.delta_chain.specs.Layers.{IsInOrder};
 ghost use Rattle.page_runs.specs.Replay.{map_by_now};
 
 use crate::changes_from::ChangesFrom;
-use delta_chain::{Chain, PushError, Run};
+use delta_chain::{Chain, Run};
 use keys::{Command, Key, Value};
 use page_search::{Probes, find};
 use std::alloc::{AllocError, Global};
@@ -166,11 +166,7 @@ fn run_of(alloc: Global, map: ChangeMap) -> Result<LeafRun, AllocError>
 {
     let mut run = Run::with_capacity(alloc, map.len())?;
     for (key, change) in map {
-        match run.push(key, change) {
-            Ok(()) => {}
-            Err(PushError::NoMemory) => return Err(AllocError),
-            Err(PushError::OutOfOrder) => unreachable!(),
-        }
+        run.push_next(key, change)?;
     }
     Ok(run)
 }

@@ -120,8 +120,6 @@ impl<'a> Work for LeafWork<'a> {
 
     ghost held = { held_of };
 
-    ghost can_undo = { λ w d. Unit {0} };
-
     ghost origin = { λ d. d.held };
 
     ghost outcome = { λ d. d.made };

@@ -10,7 +10,7 @@ ghost use Rattle.page_runs.specs.Replay.{map_by_now};
 
 use crate::changes::{Changes, Leaf};
 use crate::changes_from::{Change, ChangesFrom};
-use keys::{Key, RowList, Value, compare};
+use keys::{Key, RowList, Value, compare, is_before};
 use scan::LeafPairs;
 use std::alloc::{AllocError, Global};
 use std::cmp::Ordering;
@@ -32,7 +32,7 @@ pub(crate) fn rows_of(
 {
     let mut rows = RowList::empty(alloc);
     for (key, value) in NamedKeys::new(alloc, page, changes, low) {
-        if rows.len() >= limit as usize || !is_before(end, key) {
+        if rows.len() >= limit as usize || !is_before_end(end, key) {
             break;
         }
         if let Some(value) = value {
@@ -43,12 +43,12 @@ pub(crate) fn rows_of(
 }
 
 // Whether the key is below the end; each is where there is none.
-fn is_before(end: &Option<Key<Global>>, key: &[u8]) -> bool
+fn is_before_end(end: &Option<Key<Global>>, key: &[u8]) -> bool
     ensures { result ≡ is_before end.now key.now }
 {
     match end {
+        Some(end) => is_before(Some(end.as_bytes()), key),
         None => true,
-        Some(end) => compare(key, end.as_bytes()).is_lt(),
     }
 }
 

@@ -109,8 +109,6 @@ impl Work for TermWork {
 
     ghost held = { held_of };
 
-    ghost can_undo = { λ w d. Unit {0} };
-
     ghost origin = { λ d. d.held };
 
     ghost outcome = { λ d. d.made };

@@ -15,7 +15,7 @@ use Rattle.flush_log.specs.Reading.{Found}
 use Rattle.flush_log.specs.Slot.{Slot}
 use Rattle.recovery.specs.InStep.{AreInStep}
 use Rattle.recovery.specs.LogPages.{pages_of, broken_in}
-use Rattle.recovery.specs.StoreOfDisk.{frames_in, tree_by_log, store_by_log, store_of_disk}
+use Rattle.recovery.specs.StoreOfDisk.{frames_in, tree_by_log, store_of_disk}
 use Rattle.recovery.proofs.StoreLaws.{Reads, StandsBy, stands-for}
 use Rattle.recovery.proofs.TextLaws.{IsKnown, pages-after, sound-after}
 
@@ -57,7 +57,7 @@ finding-flushed s t p = let q = proper-flushed s t p in (nothing_found s (flushe
 -- what is known of the frames of a disk with which a store is in step
 pub known-frames : (s : Settings) (st on_disk : Store) (file : List ℕ) → IsProper s st.tree → AreLogsTrue st.tree → (by : StandsBy s file on_disk) → AreInStep st on_disk → IsKnown st.tree (frames_in by.found)
 known-frames s st on_disk file proper logs by step =
-    let same : AreInStep st (store_by_log by.slot (frames_in by.found)) = subst (λ (x : Store). AreInStep st x) by.store step in
+    let same : AreInStep st (store_after (tree_by_log by.slot (frames_in by.found)) by.slot) = subst (λ (x : Store). AreInStep st x) by.store step in
     record {
       pages = proper.tree.rising;
       logs = logs.rising;

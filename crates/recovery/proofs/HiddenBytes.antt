@@ -8,6 +8,7 @@ use Rattle.mapping.specs.Tree.{Store}
 use Rattle.flush_log.specs.Overlay.{AgreeAt}
 use Rattle.flush_log.specs.Segments.{IsInLog}
 use Rattle.flush_log.specs.Slot.{slot_place, is_open, read_slot, newer, store_slot}
+use Rattle.flush_log.specs.AfterFlush.{store_after}
 use Rattle.flush_log.proofs.CommitLaws.{slot_low}
 use Rattle.flush_log.proofs.FitLaws.{are_sized}
 use Rattle.flush_log.proofs.HideLaws.{hidden}
@@ -16,13 +17,13 @@ use Rattle.flush_log.proofs.OverlayLaws.{agree_less}
 use Rattle.flush_log.proofs.SettingsLaws.{store_settings-are}
 use Rattle.flush_log.proofs.SlotLaws.{said, closed, store_slot-read, store_slot-alone}
 use Rattle.recovery.specs.LookedAt.{IsInSlot, IsLookedAt}
-use Rattle.recovery.specs.StoreOfDisk.{frames_in, store_by_log, store_of_disk}
+use Rattle.recovery.specs.StoreOfDisk.{frames_in, tree_by_log, store_of_disk}
 use Rattle.recovery.proofs.NothingDue.{slot-read}
 use Rattle.recovery.proofs.StoreLaws.{StandsBy, store-stands, stands-for}
 
 module _ (s : Settings) (file c : List ℕ) (on_disk : Store) (by : StandsBy s file on_disk) where
   abbrev read : Store
-  read = store_by_log by.slot (frames_in by.found)
+  read = store_after (tree_by_log by.slot (frames_in by.found)) by.slot
 
   -- the same is read, where the slot is
   stands-too : AgreeAt (IsLookedAt s read) file c → store_slot s c ≡ Ok by.slot → store_of_disk c ≡ Ok (s, read)

@@ -18,11 +18,12 @@ use Rattle.flush_log.specs.FlushText.{logged_whole, tree_in_log}
 use Rattle.flush_log.specs.Reading.{Found}
 use Rattle.flush_log.specs.Slot.{Slot}
 use Rattle.flush_log.specs.WordPids.{IsWord, NamesWords, HasWordPids}
+use Rattle.flush_log.specs.AfterFlush.{store_after}
 use Rattle.recovery.specs.InStep.{IsStoreOf}
 use Rattle.recovery.specs.LogPages.{contents_of, in_log, pids_of, pages_under, pages_of}
 use Rattle.recovery.specs.PageByLog.{is_start, from_last, InLog, begun, continued, told, page_in}
 use Rattle.recovery.specs.PageByLog.InLog.{Missing, Present, Broken}
-use Rattle.recovery.specs.StoreOfDisk.{frames_in, store_by_log, store_of_disk}
+use Rattle.recovery.specs.StoreOfDisk.{frames_in, tree_by_log, store_of_disk}
 use Rattle.recovery.proofs.FoundWithin.{log-within}
 use Rattle.recovery.proofs.NothingDue.{slot-read, proper-read, logs-in_log}
 use Rattle.recovery.proofs.PagesLaws.{pids, rising-pages_of}
@@ -157,7 +158,7 @@ store-read s on_disk file is =
     let good = slot-read s on_disk file by in
     let height = good.height in
     let within = frames_within s by.found (log-within s file slot.head slot.tail by.found by.reads.log) in
-    let read : Store = store_by_log slot fs in
+    let read : Store = store_after (tree_by_log slot fs) slot in
     let here : store_of_disk file ≡ Ok (s, read) = is ∙ ap (λ (x : Store). answer x) by.store in
     subst (λ (x : Store). IsStoreOf s x file) (sym by.store) (record {
       proper = proper-read s on_disk file by;

@@ -2,6 +2,7 @@
 use Rattle.std.specs.Prelude.{◌≡◌, ◌↔◌, ℕ, Bool, true, false, cond, List, [], ◌∷◌, ◌++◌, Option, Some, None}
 use Rattle.std.proofs.Common.{refl, sym, ap, ◌∙◌, append_assoc}
 use Rattle.std.specs.Ordering.{nat_cmp, is_eq}
+use Rattle.index_page.specs.Over.{IsOver, IsPageOver}
 use Rattle.index_page.specs.Page.{Page, PageOfKind}
 use Rattle.index_page.specs.Page.PageOfKind.{Leaf, Index}
 use Rattle.mapping.specs.Flushed.{page_depth}
@@ -10,7 +11,7 @@ use Rattle.mapping.specs.Tree.Logged.{No, Upto}
 use Rattle.flush_log.specs.AfterFlush.{store_after}
 use Rattle.flush_log.specs.FlushText.{logged_whole, tree_in_log}
 use Rattle.flush_log.specs.Slot.{Slot}
-use Rattle.recovery.specs.InStep.{IsOver, IsPageOver, IsLogged, AreInStep, KeepsLogged}
+use Rattle.recovery.specs.InStep.{IsLogged, AreInStep, KeepsLogged}
 
 -- ---- a store that is what its disk stands for
 

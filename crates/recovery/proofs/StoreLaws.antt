@@ -3,13 +3,15 @@ use Rattle.std.specs.Prelude.{◌≡◌, ℕ, List, Option, Some, None, Result, 
 use Rattle.std.proofs.Common.{refl, sym, ap, ◌∙◌, subst}
 use Rattle.keys.specs.declared.settings.Settings.{Settings}
 use Rattle.keys.specs.declared.fault.Fault.{Fault}
+use Rattle.keys.specs.Results.{and_then}
 use Rattle.mapping.specs.Finding.{Finding, finding, or_else}
 use Rattle.mapping.specs.Tree.{Store}
 use Rattle.flush_log.specs.Reading.{Found, log}
 use Rattle.flush_log.specs.SettingsBlock.{store_settings}
 use Rattle.flush_log.specs.Slot.{Slot, store_slot}
+use Rattle.flush_log.specs.AfterFlush.{store_after}
 use Rattle.recovery.specs.LogPages.{broken_in}
-use Rattle.recovery.specs.StoreOfDisk.{and_then, unless_found, frames_in, tree_by_log, store_by_log, wrong_in, store_of_slot, store_under, store_of_disk}
+use Rattle.recovery.specs.StoreOfDisk.{unless_found, frames_in, tree_by_log, wrong_in, store_of_slot, store_under, store_of_disk}
 
 -- what is read of a disk
 pub record Reads (s : Settings) (file : List ℕ) (t : Slot) (found : List Found) : Type 0 where
@@ -24,7 +26,7 @@ pub record StandsBy (s : Settings) (file : List ℕ) (on_disk : Store) : Type 0 
   pub reads : Reads s file slot found
   pub sound : broken_in (frames_in found) ≡ None
   pub proper : finding s (tree_by_log slot (frames_in found)) ≡ None
-  pub store : on_disk ≡ store_by_log slot (frames_in found)
+  pub store : on_disk ≡ store_after (tree_by_log slot (frames_in found)) slot
 
 -- ---- what is read makes the store
 
@@ -40,15 +42,15 @@ nothing_wrong : (a b : Option Finding) → a ≡ None → b ≡ None → or_else
 nothing_wrong a b e f = ap (λ (x : Option Finding). or_else x b) e ∙ f
 
 pub stands-for : (s : Settings) (file : List ℕ) (t : Slot) (found : List Found) → Reads s file t found → broken_in (frames_in found) ≡ None → finding s (tree_by_log t (frames_in found)) ≡ None
-    → store_of_disk file ≡ Ok (s, store_by_log t (frames_in found))
+    → store_of_disk file ≡ Ok (s, store_after (tree_by_log t (frames_in found)) t)
 stands-for s file t found reads sound proper =
     let fs = frames_in found in
-    let st : Store = store_by_log t fs in
+    let st : Store = store_after (tree_by_log t fs) t in
     let pair : Store → Result (Settings × Store) Fault = λ st. Ok (s, st) in
     then-ok (store_settings file) (λ s. store_under s file) s reads.settings
     ∙ then-ok (store_slot s file) (λ t. and_then (store_of_slot s file t) pair) t reads.slot
     ∙ ap (λ (r : Result Store Fault). and_then r pair)
-    (then-ok (log s file t.head t.tail) (λ found. unless_found (wrong_in s t (frames_in found)) (store_by_log t (frames_in found))) found reads.log
+    (then-ok (log s file t.head t.tail) (λ found. unless_found (wrong_in s t (frames_in found)) (store_after (tree_by_log t (frames_in found)) t)) found reads.log
     ∙ ap (λ (o : Option Finding). unless_found o st) (nothing_wrong (broken_in fs) (finding s (tree_by_log t fs)) sound proper))
 
 -- ---- and the store is made of what is read
@@ -72,8 +74,8 @@ store-stands s file on_disk e =
     let (t, slot, of_slot) = ok-then (store_slot r file) (λ t. and_then (store_of_slot r file t) (λ st. Ok (r, st))) (s, on_disk) under in
     let (st, made, last) = ok-then (store_of_slot r file t) (λ st. Ok (r, st)) (s, on_disk) of_slot in
     let (same, stores) = same_pair r s st on_disk last in
-    let (found, read, checked) = ok-then (log r file t.head t.tail) (λ found. unless_found (wrong_in r t (frames_in found)) (store_by_log t (frames_in found))) st made in
-    let (sound, is) = unless-ok (wrong_in r t (frames_in found)) (store_by_log t (frames_in found)) st checked in
+    let (found, read, checked) = ok-then (log r file t.head t.tail) (λ found. unless_found (wrong_in r t (frames_in found)) (store_after (tree_by_log t (frames_in found)) t)) st made in
+    let (sound, is) = unless-ok (wrong_in r t (frames_in found)) (store_after (tree_by_log t (frames_in found)) t) st checked in
     let (whole, proper) = nothing_found_in (broken_in (frames_in found)) (finding r (tree_by_log t (frames_in found))) sound in
     subst (λ (q : Settings). StandsBy q file on_disk) same (record {
       slot = t;
@@ -81,5 +83,5 @@ store-stands s file on_disk e =
       reads = record { settings = settings; slot = slot; log = read };
       sound = whole;
       proper = proper;
-      store = ◌∙◌ {c = store_by_log t (frames_in found)} (sym stores) is;
+      store = ◌∙◌ {c = store_after (tree_by_log t (frames_in found)) t} (sym stores) is;
     })

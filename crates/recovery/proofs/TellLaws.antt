@@ -5,6 +5,7 @@ use Rattle.std.specs.List.{list_any}
 use Rattle.std.proofs.lemmas.Bool.{or_parts}
 use Rattle.std.proofs.lemmas.List.{reverse-append, reverse-reverse, length-reverse, append_assoc, append-nil, drop-map, drop_at}
 use Rattle.std.proofs.lemmas.List.Sums.{fold-append}
+use Rattle.index_page.specs.Over.{IsOver}
 use Rattle.index_page.specs.Page.{Page, PageOfKind}
 use Rattle.index_page.specs.Page.PageOfKind.{Leaf, Index}
 use Rattle.frame_codec.specs.Frame.{Content}
@@ -12,7 +13,7 @@ use Rattle.frame_codec.specs.Frame.Content.{DeltaLeaf, DeltaIndex, Free}
 use Rattle.flush_log.specs.FlushText.{base_content, run_contents, whole_page}
 use Rattle.recovery.specs.PageByLog.{is_start, from_last, InLog, with_run, begun, continued, told, page_by_log}
 use Rattle.recovery.specs.PageByLog.InLog.{Missing, Present}
-use Rattle.recovery.specs.InStep.{IsOver, IsLogged}
+use Rattle.recovery.specs.InStep.{IsLogged}
 use Rattle.recovery.proofs.PartLaws.{from_last-at, from_last-more, from_last-none}
 
 -- ---- runs behind a page

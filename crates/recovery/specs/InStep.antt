@@ -1,26 +1,14 @@
 -- When a store in memory is in step with the bytes of its disk: what it holds that the log says is what the log says.
-use Rattle.std.specs.Prelude.{◌≡◌, ◌↔◌, ℕ, ◌≤◌, List, ◌++◌, Option, Some, None, Ok}
+use Rattle.std.specs.Prelude.{◌≡◌, ◌↔◌, ℕ, ◌≤◌, List, Option, Some, None, Ok}
 use Rattle.keys.specs.declared.settings.Settings.{Settings}
-use Rattle.index_page.specs.Page.{Page, PageOfKind}
-use Rattle.index_page.specs.Page.PageOfKind.{Leaf, Index}
+use Rattle.index_page.specs.Over.{IsPageOver}
+use Rattle.index_page.specs.Page.{PageOfKind}
 use Rattle.mapping.specs.Flushed.{page_depth}
 use Rattle.mapping.specs.Proper.{AreLogsTrue, IsProper}
 use Rattle.mapping.specs.Tree.{Tree, Store, page_at, logged_of}
 use Rattle.mapping.specs.Tree.Logged.{No, Upto}
 use Rattle.flush_log.specs.WordPids.{HasWordPids}
 use Rattle.recovery.specs.StoreOfDisk.{store_of_disk}
-
--- a page has the low key and the base of another, and its runs with newer ones in front
-pub record IsOver {V : Type 0} (older now : Page V) : Type 0 where
-  pub low : now.low ≡ older.low
-  pub base : now.layers.base ≡ older.layers.base
-  pub runs : (newer : List (List (List ℕ × Option V))) × (now.layers.runs ≡ newer ++ older.layers.runs)
-
--- and they are of one kind
-abbrev pub IsPageOver : PageOfKind → PageOfKind → Type 0
-IsPageOver (Leaf older) (Leaf now) = IsOver older now
-IsPageOver (Index older) (Index now) = IsOver older now
-IsPageOver _ _ = ⊥
 
 -- the log has a page with k runs, and the page that there is has these runs, newer ones in front
 abbrev pub IsLogged : ℕ → Option PageOfKind → Option PageOfKind → Type 0

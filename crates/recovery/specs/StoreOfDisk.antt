@@ -3,6 +3,7 @@ use Rattle.std.specs.Prelude.{ℕ, List, map, Option, Some, None, Result, Ok, Er
 use Rattle.keys.specs.declared.settings.Settings.{Settings}
 use Rattle.keys.specs.declared.fault.Fault.{Fault}
 use Rattle.keys.specs.declared.fault.Fault.TheVariants.{BadStructure}
+pub use Rattle.keys.specs.Results.{and_then}
 use Rattle.mapping.specs.Finding.{Finding, finding, or_else}
 use Rattle.mapping.specs.Tree.{Tree, Store, first_tree}
 use Rattle.frame_codec.specs.Frame.{Frame}
@@ -10,12 +11,8 @@ use Rattle.flush_log.specs.FlushText.{tree_in_log}
 use Rattle.flush_log.specs.Reading.{Found, log}
 use Rattle.flush_log.specs.SettingsBlock.{store_settings}
 use Rattle.flush_log.specs.Slot.{Slot, store_slot}
+use Rattle.flush_log.specs.AfterFlush.{store_after}
 use Rattle.recovery.specs.LogPages.{pages_of, broken_in}
-
--- the next step, where the one before has no fault
-abbrev pub and_then : {X Y : Type 0} → Result X Fault → (X → Result Y Fault) → Result Y Fault
-and_then (Ok x) next = next x
-and_then (Err fault) next = Err fault
 
 -- this, unless something was found
 abbrev pub unless_found : {X : Type 0} → Option Finding → X → Result X Fault
@@ -30,17 +27,13 @@ frames_in found = map (λ f. f.frame) found
 abbrev pub tree_by_log : Slot → List Frame → Tree
 tree_by_log t fs = tree_in_log (pages_of fs) t.root t.height
 
--- the store of a slot and of the frames of its log
-abbrev pub store_by_log : Slot → List Frame → Store
-store_by_log t fs = record { tree = tree_by_log t fs; head = t.head; tail = t.tail; sequence = t.sequence }
-
 -- what is wrong with it: first what fits no page, by the least pid, and then what the walk from the root finds
 abbrev pub wrong_in : Settings → Slot → List Frame → Option Finding
 wrong_in s t fs = or_else (broken_in fs) (finding s (tree_by_log t fs))
 
 -- the store of a slot of a disk
 abbrev pub store_of_slot : Settings → List ℕ → Slot → Result Store Fault
-store_of_slot s file t = and_then (log s file t.head t.tail) (λ found. unless_found (wrong_in s t (frames_in found)) (store_by_log t (frames_in found)))
+store_of_slot s file t = and_then (log s file t.head t.tail) (λ found. unless_found (wrong_in s t (frames_in found)) (store_after (tree_by_log t (frames_in found)) t))
 
 -- the store of a disk with these settings
 abbrev pub store_under : Settings → List ℕ → Result (Settings × Store) Fault

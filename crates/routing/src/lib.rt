@@ -5,9 +5,9 @@ pub mod batch;
 pub mod descent;
 pub mod laws;
 pub mod page_run;
-pub mod reaching;
-pub mod share;
-pub mod sort;
+mod reaching;
+mod share;
+mod sort;
 
 pub use crate::batch::BatchWithEnds;
 pub use crate::descent::route;

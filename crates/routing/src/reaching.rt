@@ -10,11 +10,11 @@ ghost use Rattle.routing.specs.SortedPlaces.{reaches, reaches_at};
 
 use crate::batch::BatchWithEnds;
 use crate::sort::Keyed;
-use keys::{Command, Key, compare};
+use keys::{Command, Key, compare, is_before};
 use std::alloc::{AllocError, Global};
 
 /// Whether a scan stands at the place of one of these entries.
-pub fn has_scan_at(batch: &BatchWithEnds<'_>, keyed: &[Keyed<'_>]) -> bool
+pub(crate) fn has_scan_at(batch: &BatchWithEnds<'_>, keyed: &[Keyed<'_>]) -> bool
     ensures { result ≡ list_any (λ entry. is_scan_at batch.now entry.1) keyed.now }
 {
     keyed.iter().any(|entry| batch.is_scan_at(entry.1))
@@ -22,7 +22,7 @@ pub fn has_scan_at(batch: &BatchWithEnds<'_>, keyed: &[Keyed<'_>]) -> bool
 
 /// The scans that go on to the page with this low key: of those that reach the page before it, and of the commands that
 /// begin there. It takes no memory where none goes on.
-pub fn going_on(
+pub(crate) fn going_on(
     alloc: Global,
     batch: &BatchWithEnds<'_>,
     reaching: &[usize],
@@ -42,7 +42,7 @@ pub fn going_on(
 
 /// Whether the command is a scan that begins before this low key, and ends behind it: at the nearer end where it has one, else
 /// at its own upper bound.
-pub fn reaches(command: &Command<Global>, end: Option<&[u8]>, low: &[u8]) -> bool
+pub(crate) fn reaches(command: &Command<Global>, end: Option<&[u8]>, low: &[u8]) -> bool
     ensures { result ≡ reaches low.now (with_end (option_copied end.entry) command.now) }
 {
     match command {
@@ -60,17 +60,10 @@ fn is_before_end(end: Option<&[u8]>, hi: &Option<Key<Global>>, key: &[u8]) -> bo
     ensures { result ≡ is_before (option_or (option_copied end.entry) hi.now) key.now }
 {
     match end {
-        Some(end) => compare(key, end).is_lt(),
-        None => is_before(hi, key),
-    }
-}
-
-// Whether the key is below the upper bound; each is where there is none.
-fn is_before(hi: &Option<Key<Global>>, key: &[u8]) -> bool
-    ensures { result ≡ is_before hi.now key.now }
-{
-    match hi {
-        None => true,
-        Some(hi) => compare(key, hi.as_bytes()).is_lt(),
+        Some(end) => is_before(Some(end), key),
+        None => match hi {
+            Some(hi) => is_before(Some(hi.as_bytes()), key),
+            None => true,
+        },
     }
 }

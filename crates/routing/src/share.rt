@@ -9,7 +9,7 @@ use std::marker::Model;
 /// places of the scans that began in pages further left and reach this one, in the order of their keys. Contracts see it
 /// as a `Lent`.
 #[derive(Drop)]
-pub struct Share<'a, 'k> {
+pub(crate) struct Share<'a, 'k> {
     pid: Pid,
     keyed: &'a [Keyed<'k>],
     reaching: Vec<usize>,
@@ -25,7 +25,7 @@ impl<'a, 'k> Model for Share<'a, 'k> {
 
 impl<'a, 'k> Share<'a, 'k> {
     /// The share of the page with this id.
-    pub fn new(pid: Pid, keyed: &'a [Keyed<'k>], reaching: Vec<usize>) -> Share<'a, 'k>
+    pub(crate) fn new(pid: Pid, keyed: &'a [Keyed<'k>], reaching: Vec<usize>) -> Share<'a, 'k>
         ensures { result ≡ record { pid = pid; keyed = keyed.entry.now; reaching = reaching.items } }
     {
         Share {
@@ -36,28 +36,28 @@ impl<'a, 'k> Share<'a, 'k> {
     }
 
     /// The page's id.
-    pub fn pid(&self) -> Pid
+    pub(crate) fn pid(&self) -> Pid
         ensures { result ≡ self.now.pid }
     {
         self.pid
     }
 
     /// What begins in the page.
-    pub fn keyed(&self) -> &'a [Keyed<'k>]
+    pub(crate) fn keyed(&self) -> &'a [Keyed<'k>]
         ensures { result.now ≡ self.now.keyed }
     {
         self.keyed
     }
 
     /// A copy of the places of the scans that reach the page from the left.
-    pub fn copied_reaching(&self, alloc: Global) -> Result<Vec<usize>, AllocError>
+    pub(crate) fn copied_reaching(&self, alloc: Global) -> Result<Vec<usize>, AllocError>
         ensures { IfOk result (λ copy. copy.items ≡ self.now.reaching) }
     {
         self.reaching.iter().copied().collect(alloc)
     }
 
     /// The places of the scans that reach the page from the left.
-    pub fn reaching(&self) -> &[usize]
+    pub(crate) fn reaching(&self) -> &[usize]
         ensures { result.now ≡ self.now.reaching }
     {
         &self.reaching

@@ -19,11 +19,11 @@ const LEAST_SHARED: usize = 4096;
 
 /// A command's key, and the command's place in its batch. The key stands beside the place so that a comparison needn't fetch
 /// the command.
-pub type Keyed<'a> = (KeyRef<'a>, usize);
+pub(crate) type Keyed<'a> = (KeyRef<'a>, usize);
 
 /// The places of a batch's commands, counted from 0, in the order of their keys, and where keys are equal in the order of
 /// the batch, each beside its key. The sort is shared among threads where the batch is long.
-pub fn sorted_places<'a>(
+pub(crate) fn sorted_places<'a>(
     rt: &(impl Threads + Sync),
     alloc: Global,
     batch: &BatchWithEnds<'a>,
@@ -65,7 +65,7 @@ fn keyed_places<'a>(alloc: Global, batch: &BatchWithEnds<'a>) -> Result<Vec<Keye
 /// How many of these entries, of which those with a key below this one stand first, have a key below it. It is found by
 /// steps that double and then by halves, since of a long list mostly few are below. A descent gives a child those that
 /// stand before the end of its range.
-pub fn count_below(keyed: &[Keyed<'_>], key: &[u8]) -> usize
+pub(crate) fn count_below(keyed: &[Keyed<'_>], key: &[u8]) -> usize
     requires { IsPartitionedBy (has_key_below key.now) keyed.now }
     ensures most { result ≤ length keyed.now }
     ensures below { AllByRecursion (λ entry. has_key_below key.now entry ≡ true) (take result keyed.now) }
@@ -108,7 +108,7 @@ fn has_key_below(entry: &Keyed<'_>, key: &KeyRef<'_>) -> bool
 
 /// The places of these entries, and these other places, in the order of the batch: a page's sorted places, and those of the
 /// scans that reach it, become the places of its run.
-pub fn in_batch_order(
+pub(crate) fn in_batch_order(
     alloc: Global,
     keyed: &[Keyed<'_>],
     reaching: &[usize],

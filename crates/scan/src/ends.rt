@@ -15,9 +15,8 @@ ghost use Rattle.scan.specs.Ends.{deleted, count_within, count_below, LacksAtMos
 
 use crate::ahead::place_from;
 use crate::leaves::Leaves;
-use crate::rows::is_before;
 use delta_chain::Chain;
-use keys::{Command, KeyRef, Value, compare};
+use keys::{Command, KeyRef, Value, compare, is_before};
 use mapping::Tree;
 use std::alloc::{AllocError, Global};
 

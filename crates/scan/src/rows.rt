@@ -1,7 +1,7 @@
 ghost use Rattle.std.specs.Prelude.{◌≡◌, ◌∷◌, [], ◌≤◌, MatchOption};
 ghost use Rattle.std.specs.Iterator.{YieldsFirstBy, item_count};
 ghost use Rattle.std.specs.Option.{option_copied};
-ghost use Rattle.keys.specs.Range.{is_before, rows};
+ghost use Rattle.keys.specs.Range.{rows};
 ghost use Rattle.mapping.specs.Levels.{levels_of, contents};
 ghost use Rattle.mapping.specs.Proper.{AreLevels, HoldsLevels};
 ghost use Rattle.mapping.specs.TreeInMemory.{AreAllHome, tree_of};
@@ -9,7 +9,7 @@ ghost use Rattle.scan.specs.Left.{pairs_left};
 
 use crate::leaf::LeafPairs;
 use crate::leaves::Leaves;
-use keys::{Value, compare};
+use keys::{Value, is_before};
 use mapping::Tree;
 use std::alloc::Global;
 use std::marker::Model;
@@ -102,15 +102,5 @@ fn next_pair<'a>(
             Some((_, chain)) => leaf.restart(alloc, chain),
             None => return None,
         }
-    }
-}
-
-// Whether the key is below the end; each is where there is none.
-pub(crate) fn is_before(end: Option<&[u8]>, key: &[u8]) -> bool
-    ensures { result ≡ is_before (option_copied end.entry) key.now }
-{
-    match end {
-        None => true,
-        Some(end) => compare(key, end).is_lt(),
     }
 }

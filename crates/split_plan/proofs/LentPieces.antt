@@ -4,12 +4,13 @@ use Rattle.std.proofs.Common.{refl, sym, ap, ◌∙◌, arith, add-one, append_a
 use Rattle.std.specs.Borrow.{Bor}
 use Rattle.std.specs.List.{AllByRecursion}
 use Rattle.std.specs.List.Sorted.{IsStrictlySortedBy}
-use Rattle.std.specs.Map.{keys_of, values_of}
+use Rattle.std.specs.Map.{keys_of}
 use Rattle.keys.specs.Lists.{flat}
 use Rattle.keys.specs.Order.{IsRising}
 use Rattle.keys.specs.declared.settings.Settings.{Settings}
 use Rattle.keys.proofs.MapLaws.{IsBelowAll}
 use Rattle.delta_chain.specs.Lent.{pairs_lent}
+use Rattle.delta_chain.proofs.Lending.{length-pairs_lent}
 use Rattle.index_page.specs.Page.{Page, PageOfKind, bare, first_key}
 use Rattle.split_plan.specs.Cut.{piece_count, pieces, cut}
 use Rattle.split_plan.specs.Pieces.{pages_lent, joined_pages, low_at, pages_from, pieces_of}
@@ -17,15 +18,6 @@ use Rattle.split_plan.proofs.CutLaws.{cut-joined, cut_full, cut_nothing}
 use Rattle.split_plan.proofs.Full.{AllFull}
 
 module _ {V : Type 0} where
-  -- one more pair behind the others
-  pub pairs_lent-push : (lent : List (Bor (List ℕ) × Bor V)) (e : Bor (List ℕ) × Bor V) → pairs_lent (lent ++ e ∷ []) ≡ pairs_lent lent ++ (e.0.now, e.1.now) ∷ []
-  pairs_lent-push [] e = refl
-  pairs_lent-push (d ∷ ds) e = ap (λ (m : List (List ℕ × V)). (d.0.now, d.1.now) ∷ m) (pairs_lent-push ds e)
-
-  pub length-pairs_lent : (lent : List (Bor (List ℕ) × Bor V)) → length (pairs_lent lent) ≡ length lent
-  length-pairs_lent [] = refl
-  length-pairs_lent (e ∷ es) = ap (λ n. suc n) (length-pairs_lent es)
-
   pub pairs_lent-drop : (n : ℕ) (lent : List (Bor (List ℕ) × Bor V)) → pairs_lent (drop n lent) ≡ drop n (pairs_lent lent)
   pairs_lent-drop zero lent = refl
   pairs_lent-drop (suc n) [] = refl
@@ -42,17 +34,6 @@ module _ {V : Type 0} where
   -- the piece between these places
   pub piece_is : (lent : List (Bor (List ℕ) × Bor V)) (a b i p : ℕ) → a ≡ i * length lent / p → b ≡ (i + 1) * length lent / p → pairs_lent (slice_range lent a b) ≡ slice_range (pairs_lent lent) (i * length (pairs_lent lent) / p) ((i + 1) * length (pairs_lent lent) / p)
   piece_is lent a b i p h j = pairs_lent-slice lent a b ∙ rw (h, j, length-pairs_lent lent) refl
-
-  -- the key and the cell at a place are what the references there point to
-  pub key_lent : (lent : List (Bor (List ℕ) × Bor V)) (at : ℕ) (e : Bor (List ℕ) × Bor V) → at < length lent → e ≡ get_or lent at e → slice_get (keys_of (pairs_lent lent)) at ≡ Some e.0.now
-  key_lent [] at e l h = absurd (omega arith)
-  key_lent (d ∷ ds) zero e l h = ap (λ (x : Bor (List ℕ) × Bor V). Some x.0.now) (sym h)
-  key_lent (d ∷ ds) (suc at) e l h = let m : at < length ds = omega arith in key_lent ds at e m h
-
-  pub cell_lent : (lent : List (Bor (List ℕ) × Bor V)) (at : ℕ) (e : Bor (List ℕ) × Bor V) → at < length lent → e ≡ get_or lent at e → slice_get (values_of (pairs_lent lent)) at ≡ Some e.1.now
-  cell_lent [] at e l h = absurd (omega arith)
-  cell_lent (d ∷ ds) zero e l h = ap (λ (x : Bor (List ℕ) × Bor V). Some x.1.now) (sym h)
-  cell_lent (d ∷ ds) (suc at) e l h = let m : at < length ds = omega arith in cell_lent ds at e m h
 
   -- ---- parts of entries that rise
 

@@ -8,9 +8,9 @@ ghost use Rattle.split_plan.specs.Cut.{piece_count, cut};
 ghost use Rattle.split_plan.specs.Pieces.{pages_lent, joined_pages, low_at, pages_from};
 
 use crate::kind::Kind;
-use delta_chain::{Base, BaseBuilder, Pairs, PushError, key_bytes};
+use delta_chain::{Pairs, copied_base};
 use index_page::Page;
-use keys::{Cell, Key};
+use keys::Key;
 use std::alloc::{AllocError, Global};
 
 /// The entries of these pages of one kind, lent, from the first page to the last.
@@ -109,26 +109,6 @@ fn bare_page<V: Kind>(
     ensures { IfOk result (λ page. page ≡ V.made (bare low.now (pairs_lent entries.now))) }
 {
     let low = Key::from_bytes(alloc, low)?;
-    let base = copied(alloc, entries)?;
+    let base = copied_base(alloc, entries)?;
     Ok(V::page(low, base))
-}
-
-// The base of copies of the entries.
-fn copied<V: Cell<Global> + Drop>(
-    alloc: Global,
-    entries: &[(&[u8], &V)],
-) -> Result<Base<V, Global>, AllocError>
-    requires { IsRising (pairs_lent entries.now) }
-    ensures { IfOk result (λ base. base ≡ pairs_lent entries.now) }
-{
-    let mut builder = BaseBuilder::with_capacity(alloc, entries.len(), key_bytes(entries))?;
-    for entry in entries {
-        let cell = entry.1.copy(alloc)?;
-        match builder.push(entry.0, cell) {
-            Ok(()) => {}
-            Err(PushError::NoMemory) => return Err(AllocError),
-            Err(PushError::OutOfOrder) => unreachable!(),
-        }
-    }
-    Ok(builder.finish())
 }

@@ -63,13 +63,6 @@ impl<'a> Model for GroupDone<'a> {
 }
 
 impl<'a> GroupDone<'a> {
-    /// The pages that were made.
-    pub fn pieces(&self) -> &[Page<Global>]
-        ensures { result.now ≡ self.now.made }
-    {
-        &self.pieces
-    }
-
     /// The pages that were made, for good: the job cannot be given back any more.
     pub fn into_pieces(self) -> Vec<Page<Global>>
         ensures { result.items ≡ self.entry.made }
@@ -98,8 +91,6 @@ impl<'a> Work for GroupWork<'a> {
     ghost accepts = { λ w h. (0 < w.settings.fan) × CanJoin h };
 
     ghost held = { λ j. pages_lent j.members.items };
-
-    ghost can_undo = { λ w d. Unit {0} };
 
     ghost origin = { λ d. d.held };
 

@@ -5,7 +5,7 @@ ghost use Rattle.delta_chain.specs.Layers.{with_run};
 ghost use Rattle.split_plan.specs.Terms.{absent, present, front_order};
 
 use crate::name::Name;
-use delta_chain::{PushError, Run};
+use delta_chain::Run;
 use keys::{Key, Pid};
 use std::alloc::{AllocError, Global};
 use std::cmp::Ordering;
@@ -30,11 +30,7 @@ pub fn terms(
     let mut gone = VecDeque::from(freed);
     let mut come = VecDeque::from(fresh);
     while let Some(term) = next_term(&mut gone, &mut come) {
-        match run.push(term.0, term.1) {
-            Ok(()) => {}
-            Err(PushError::NoMemory) => return Err(AllocError),
-            Err(PushError::OutOfOrder) => unreachable!(),
-        }
+        run.push_next(term.0, term.1)?;
     }
     Ok(run)
 }

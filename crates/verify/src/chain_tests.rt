@@ -10,7 +10,7 @@ ghost use Rattle.index_page.specs.Rules.{is_short_value, is_any_pid, of_cell, is
 ghost use Rattle.verify.specs.Sizes.{sizes_under};
 
 use delta_chain::{Base, Chain, Keyed, Run};
-use keys::{Pid, Settings, Value, compare};
+use keys::{Pid, Settings, Value, compare, is_before};
 use std::alloc::Allocator;
 
 /// What a page has at a key, as far as the settings limit it.
@@ -45,10 +45,7 @@ fn is_within(low: &[u8], end: Option<&[u8]>, key: &[u8]) -> bool
     if compare(key, low).is_lt() {
         return false;
     }
-    match end {
-        None => true,
-        Some(end) => compare(key, end).is_lt(),
-    }
+    is_before(end, key)
 }
 
 // Whether each key of the list lies in the range.

@@ -1,6 +1,6 @@
 use Rattle.std.proofs.Common.{◌∙◌, ◌<◌, ◌+◌, refl, sym, subst, length, arith}
 use Rattle.keys.specs.Order.{IsRising}
-use Rattle.climb_plan.proofs.Rooted.{cut_is, some_upper, rising_upper, drawn_away, drawn_lost, away_before, number_zero, upper_are, still_away, cut_level, up, up_named, up_numbered, grown_result, too_high}
+use Rattle.climb_plan.proofs.Rooted.{cut_is, some_upper, rising_upper, drawn_away, drawn_logs, away_before, number_zero, upper_are, still_away, cut_level, up, up_named, up_numbered, grown_result, too_high}
 use Rattle.climb_plan.proofs.root.+grow.Goals as goal
 
 pub grow-requires : goal.grow-requires
@@ -10,7 +10,7 @@ grow-requires t c =
     let rising : IsRising c.deref-2.result.now = subst (λ ns. IsRising ns) (sym c.deref-2.ensures.value) (rising_upper c.args.settings.now c.args.below.now c.in_ok-pages.pages.items c.in_ok-fresh.fresh.items c.in_ok-fresh.upper.items c.args.tree.now c.draw_names.new.tree is) in
     let far = c.if-height-ge-MOST_LEVELS.false in
     let most = c.requires.height in
-    (omega arith, (c.requires.fan, (some, (rising, (c.in_ok-fresh.ensures.drawn.rising, (drawn_lost c.args.settings.now c.args.below.now c.in_ok-pages.pages.items c.in_ok-fresh.fresh.items c.in_ok-fresh.upper.items c.args.tree.now c.draw_names.new.tree is c.requires.logs, omega arith))))))
+    (omega arith, (c.requires.fan, (some, (rising, (c.in_ok-fresh.ensures.drawn.rising, (drawn_logs c.args.settings.now c.args.below.now c.in_ok-pages.pages.items c.in_ok-fresh.fresh.items c.in_ok-fresh.upper.items c.args.tree.now c.draw_names.new.tree is c.requires.logs, omega arith))))))
 
 pub put_pieces-requires : goal.put_pieces-requires
 put_pieces-requires t c =

@@ -53,7 +53,7 @@ grow_above-requires-clause-logs g c =
     let some = some_seen g.D.Revised.seen c.args.dones.now c.requires.some in
     let drawn = top_drawn c.args.settings.now g.D.Revised.of c.is_of_a_kind.ensures (omega (arith, c.requires.fan)) c.args.tree.now (map g.D.Revised.seen c.args.dones.now) l.0 l.1 l.2 l.3 some c.draw_all.new.tree _ _ c.draw_all.new.all _ _ _
     c.in_ok-groups.ensures c.deref_mut.ensures.value c.in_ok-draw_all.ensures.numbers c.deref_mut.ensures.len c.deref.ensures.value c.in_ok-draw_all.ensures.tree in
-    drawn.lost
+    drawn.logs
 
 pub returns-in-Ok-clause-changed : goal.returns-in-Ok-clause-changed
 returns-in-Ok-clause-changed g c = λ ws used i h.

@@ -7,7 +7,6 @@ use Rattle.crew.proofs.round.work_all.Given as goal
 abbrev pub invariant-loop-job : goal.invariant-loop-job
 invariant-loop-job g l = record {
   accepted : All (λ job. g.W.Work.accepts l.work (g.W.Work.held job)) l.jobs.items;
-  can_undo : All (g.W.Work.can_undo l.work) l.dones.items;
   room : length l.jobs.items + length l.dones.items ≤ vec_capacity l.dones;
   way_back : length l.jobs.items + length l.dones.items ≤ vec_capacity l.jobs;
   origin : map g.W.Work.origin l.dones.items ++ map g.W.Work.held (reverse l.jobs.items) ≡ map g.W.Work.held l.fn.jobs.items;

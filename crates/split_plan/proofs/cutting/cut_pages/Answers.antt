@@ -1,6 +1,7 @@
 use Rattle.std.proofs.Common.{◌≡◌, arith, length, slice_range, ◌*◌, ◌/◌, ◌+◌}
 use Rattle.delta_chain.specs.Lent.{pairs_lent}
-use Rattle.split_plan.proofs.LentPieces.{length-pairs_lent, pairs_lent-slice, piece_is, rising_slice, cut_begins, cut_step}
+use Rattle.delta_chain.proofs.Lending.{length-pairs_lent}
+use Rattle.split_plan.proofs.LentPieces.{pairs_lent-slice, piece_is, rising_slice, cut_begins, cut_step}
 use Rattle.split_plan.proofs.cutting.cut_pages.Goals as goal
 
 pub loop-at-init : goal.loop-at-init

@@ -1,4 +1,4 @@
-use Rattle.std.proofs.Common.{◌≡◌, true, false, Err, refl, sym, ap, ◌∙◌}
+use Rattle.std.proofs.Common.{refl}
 use Rattle.delta_chain.proofs.Rising.{goes_last-rising}
 use Rattle.split_plan.proofs.ExchangeLaws.{rising-with_present}
 use Rattle.split_plan.proofs.parent_run.terms.Goals as goal
@@ -11,9 +11,7 @@ loop-term-init c = rw (c.from-gone.ensures.0, c.from-come.ensures.0, c.in_ok-run
   made = refl;
 })
 
-pub unreachable-requires : goal.unreachable-requires
-unreachable-requires c =
+pub push_next-requires : goal.push_next-requires
+push_next-requires c =
     let rises = rw c.in-Some-next_term.ensures.terms at c.loop-term.invariant.rises in
-    let takes = goes_last-rising c.loop-term.run c.in-Some-next_term.term.0 c.in-Some-next_term.term.1 _ rises in
-    let refuses = c.in-Err-OutOfOrder.ensures.order.0 (ap Err c.in-Err-OutOfOrder.field-0-is) in
-    absurd (let f : true ≡ false = sym takes ∙ refuses in cc)
+    goes_last-rising c.loop-term.run c.in-Some-next_term.term.0 c.in-Some-next_term.term.1 _ rises

@@ -1,6 +1,6 @@
 use Rattle.std.proofs.Common.{◌≡◌, ◌++◌, drop}
 use Rattle.delta_chain.specs.Lent.{pairs_lent}
-use Rattle.split_plan.proofs.cutting.copied.Given as goal
+use Rattle.delta_chain.proofs.pairs.copied_base.Given as goal
 
 -- the copies so far, and the entries behind the place, are the entries
 abbrev pub invariant-loop-entry : goal.invariant-loop-entry
