@@ -8,6 +8,7 @@ use Rattle.keys.specs.Limits.{is_in_limits}
 use Rattle.keys.specs.declared.settings.Settings.{Settings}
 use Rattle.keys.specs.declared.fault.Fault.{Fault}
 use Rattle.keys.specs.declared.fault.Fault.TheVariants.{NoSlot}
+use Rattle.mapping.specs.Tree.{most_levels}
 use Rattle.frame_codec.specs.Frame.{is_pid}
 use Rattle.flush_log.specs.Segments.{last_segment}
 use Rattle.flush_log.specs.SettingsBlock.{number_at}
@@ -65,7 +66,7 @@ is_slot s n t =
     is_in_limits 1 greatest t.sequence && t.sequence % 2 == n % 2
     && nat_lt (t.head * s.seg_size + 16) t.tail && nat_le t.tail greatest && is_tail s t.tail
     && nat_lt (last_segment s t.tail) (t.head + s.segments)
-    && is_pid t.root && is_in_limits 1 64 t.height
+    && is_pid t.root && is_in_limits 1 most_levels t.height
 
 -- ---- reading
 

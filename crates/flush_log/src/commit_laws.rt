@@ -3,6 +3,7 @@ ghost use Rattle.std.specs.Prelude.{◌≡◌, ◌⊎◌, ◌↔◌, ℕ, suc, �
 ghost use Rattle.std.specs.List.{AllByRecursion};
 ghost use Rattle.keys.specs.Limits.{first_bad_field};
 ghost use Rattle.keys.specs.declared.settings.Settings.{Settings};
+ghost use Rattle.mapping.specs.Tree.{most_levels};
 ghost use Rattle.frame_codec.specs.Frame.{Frame, is_within};
 ghost use Rattle.flush_log.specs.Segments.{place_of, HasSegments, position, last_segment};
 ghost use Rattle.flush_log.specs.Reading.{Found, log};
@@ -65,7 +66,7 @@ pub fn the_slot_of_a_commit_is_well_formed()
     ensures { (s : Settings) (n : ℕ) (t u : Slot) (text : List Frame) → first_bad_field s ≡ None → is_slot s n t ≡ true →
         AllByRecursion (λ f. is_within s f ≡ true) text → u.sequence ≡ suc t.sequence → u.sequence ≤ greatest →
         u.tail ≡ tail_after s t.tail text → u.tail ≤ greatest → t.head ≤ u.head → u.head ≤ last_segment s t.tail →
-        last_segment s u.tail < u.head + s.segments → u.root < 2 ^ 64 → 1 ≤ u.height → u.height ≤ 64 →
+        last_segment s u.tail < u.head + s.segments → u.root < 2 ^ 64 → 1 ≤ u.height → u.height ≤ most_levels →
         is_slot s u.sequence u ≡ true }
 {}
 
