@@ -8,5 +8,6 @@ pub mod Narrowed
 pub mod OrderedMap
 pub mod Places
 pub mod Range
+pub mod Sizes
 pub mod Step
 pub mod Words

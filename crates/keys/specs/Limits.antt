@@ -1,5 +1,6 @@
 -- Which settings a store may have.
 use Rattle.std.specs.Prelude.{ℕ, ◌+◌, ◌*◌, max, Bool, ◌&&◌, nat_le, if◌then◌else◌, List, Option, Some, None, codes}
+use Rattle.keys.specs.Sizes.{length_size, pid_size, segment_header_size, full_header_size, change_header_size}
 use Rattle.keys.specs.declared.settings.Settings.{Settings}
 use Rattle.keys.specs.declared.settings.Field.{Field}
 use Rattle.keys.specs.declared.settings.Field.TheVariants.{Fan, Chain, MaxKey, MaxValue, SegSize, Segments}
@@ -8,9 +9,13 @@ use Rattle.keys.specs.declared.settings.Field.TheVariants.{Fan, Chain, MaxKey, M
 abbrev pub is_in_limits : ℕ → ℕ → ℕ → Bool
 is_in_limits least greatest n = nat_le least n && nat_le n greatest
 
--- the bytes that a segment's header and the longest frame take: fan entries, each with its key and its cell
+-- the bytes that the longest change takes, with its key and its cell: a value, or a page id
+abbrev pub longest_change : Settings → ℕ
+longest_change s = change_header_size + s.max_key + max (length_size + s.max_value) pid_size
+
+-- the bytes that a segment's header and the longest frame take: a low key, and fan entries, each no longer than the longest change
 abbrev pub longest_frame : Settings → ℕ
-longest_frame s = 16 + 17 + s.max_key + s.fan * (3 + s.max_key + max (2 + s.max_value) 8)
+longest_frame s = segment_header_size + full_header_size + s.max_key + s.fan * longest_change s
 
 -- the first field that is out of range, and last the segment's size where the longest frame is longer
 abbrev pub first_bad_field : Settings → Option Field
