@@ -1,5 +1,5 @@
 -- Which settings a store may have.
-use Rattle.std.specs.Prelude.{ℕ, ◌+◌, ◌*◌, max, Bool, ◌&&◌, nat_le, if◌then◌else◌, List, Option, Some, None, codes}
+use Rattle.std.specs.Prelude.{ℕ, ◌+◌, ◌*◌, max, Bool, ◌&&◌, nat_le, if◌then◌else◌, List, [], ◌∷◌, Option, Some, None, codes}
 use Rattle.keys.specs.Sizes.{length_size, pid_size, segment_header_size, full_header_size, change_header_size}
 use Rattle.keys.specs.declared.settings.Settings.{Settings}
 use Rattle.keys.specs.declared.settings.Field.{Field}
@@ -17,23 +17,26 @@ longest_change s = change_header_size + s.max_key + max (length_size + s.max_val
 abbrev pub longest_frame : Settings → ℕ
 longest_frame s = segment_header_size + full_header_size + s.max_key + s.fan * longest_change s
 
+-- each field with its test, in the order in which they are looked at; last the segment's size, which has to hold the longest frame
+abbrev pub field_tests : Settings → List (Field × Bool)
+field_tests s =
+    (Fan, is_in_limits 4 64 s.fan)
+    ∷ (Chain, is_in_limits 1 16 s.chain)
+    ∷ (MaxKey, is_in_limits 1 255 s.max_key)
+    ∷ (MaxValue, is_in_limits 0 1024 s.max_value)
+    ∷ (SegSize, is_in_limits 256 1048576 s.seg_size)
+    ∷ (Segments, is_in_limits 3 65536 s.segments)
+    ∷ (SegSize, nat_le (longest_frame s) s.seg_size)
+    ∷ []
+
+-- the first field whose test fails
+abbrev pub first_failed : List (Field × Bool) → Option Field
+first_failed [] = None
+first_failed (t ∷ ts) = if t.1 then first_failed ts else Some t.0
+
 -- the first field that is out of range, and last the segment's size where the longest frame is longer
 abbrev pub first_bad_field : Settings → Option Field
-first_bad_field s =
-    if is_in_limits 4 64 s.fan then
-    (if is_in_limits 1 16 s.chain then
-    (if is_in_limits 1 255 s.max_key then
-    (if is_in_limits 0 1024 s.max_value then
-    (if is_in_limits 256 1048576 s.seg_size then
-    (if is_in_limits 3 65536 s.segments then
-    (if nat_le (longest_frame s) s.seg_size then None
-    else Some SegSize)
-    else Some Segments)
-    else Some SegSize)
-    else Some MaxValue)
-    else Some MaxKey)
-    else Some Chain)
-    else Some Fan
+first_bad_field s = first_failed (field_tests s)
 
 -- how a field is spelled
 abbrev pub field_name : Field → List ℕ
