@@ -1,7 +1,6 @@
 -- Lemmas on scans that end at a nearer key, for the proofs of this crate and of those above it.
 use Rattle.std.specs.Prelude.{◌≡◌, ℕ, zero, suc, ◌≤◌, Bool, true, false, not, cond, ◌&&◌, List, [], ◌∷◌, ◌++◌, length, take, drop, slice_get, Option, Some, None}
-use Rattle.std.proofs.Common.{refl, sym, ap, ◌∙◌, arith, Ordering, Less, Equal, Greater}
-use Rattle.std.specs.Ordering.{is_lt}
+use Rattle.std.proofs.Common.{refl, sym, ap, ◌∙◌, arith, Less}
 use Rattle.std.specs.List.Sorted.{IsStrictlySortedBy}
 use Rattle.std.specs.Map.{keys_of}
 use Rattle.std.specs.Option.{option_map}
@@ -14,13 +13,9 @@ use Rattle.keys.specs.declared.command.Command.{Command}
 use Rattle.keys.specs.declared.command.Command.TheVariants.{Get, Put, Add, Del, Scan}
 use Rattle.keys.specs.declared.command.Reply.{Reply}
 use Rattle.keys.specs.declared.command.Reply.TheVariants.{Rows}
+use Rattle.keys.proofs.Basics.{less_by}
 use Rattle.keys.proofs.MapLaws.{total, IsBelowAll}
 use Rattle.keys.proofs.RunLaws.{rising-map_after}
-
-less_by : (o : Ordering) → is_lt o ≡ true → o ≡ Less
-less_by Less h = refl
-less_by Equal h = absurd (cc)
-less_by Greater h = absurd (cc)
 
 below_through : (i j k : List ℕ) → is_below i j ≡ true → is_below j k ≡ true → is_below i k ≡ true
 below_through i j k h l = rw (total.trans i j k (less_by (order i j) h) (less_by (order j k) l)) refl
