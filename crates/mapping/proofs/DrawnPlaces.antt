@@ -7,6 +7,7 @@ use Rattle.std.specs.Map.{keys_of, remove_entry}
 use Rattle.std.specs.BTreeMap.{insert_entry}
 use Rattle.std.proofs.lemmas.Cmp.{ranked}
 use Rattle.std.proofs.lemmas.Bool.{eq-eqb, eqb-true, or_parts}
+use Rattle.keys.proofs.Basics.{equal_by}
 use Rattle.mapping.specs.Tree.{Logged, listed_at}
 use Rattle.mapping.specs.Tree.Logged.{Old}
 use Rattle.mapping.specs.Outdate.{outdate, outdate_all}
@@ -14,7 +15,7 @@ use Rattle.mapping.specs.Proper.{AreRisingPids}
 use Rattle.mapping.specs.FreshPids.{is_among, unused, with_number}
 use Rattle.mapping.specs.Table.{Mapping, is_pid, pids_in_use, place_of, with_place, freed, room_by, with_room, with_rooms, fresh_pids, freed_all, IsOldWithoutPlace}
 use Rattle.mapping.proofs.PidLaws.{unused-is_free, unused-drawn, rising-with_number}
-use Rattle.mapping.proofs.TableLaws.{same_pid, equal_by, listed-insert_entry}
+use Rattle.mapping.proofs.TableLaws.{same_pid, listed-insert_entry}
 use Rattle.mapping.proofs.TableSlots.{same_mapping}
 use Rattle.mapping.proofs.SameTable.{rest_listed, same_table}
 use Rattle.mapping.proofs.InUse.{among_place, is_eq_same}

@@ -5,6 +5,7 @@ use Rattle.std.specs.List.{AllByRecursion, filter}
 use Rattle.std.specs.Ordering.{nat_cmp, is_eq}
 use Rattle.std.specs.Map.{keys_of, lookup}
 use Rattle.std.proofs.lemmas.Bool.{eq-eqb, eqb-true}
+use Rattle.keys.proofs.Basics.{equal_by}
 use Rattle.mapping.specs.Tree.{Logged, or_no}
 use Rattle.mapping.specs.Tree.Logged.{No, Old, Upto}
 use Rattle.mapping.specs.FreshPids.{is_among, with_number}
@@ -14,7 +15,7 @@ use Rattle.mapping.specs.Table.{Mapping, is_pid, pids_in_use, place_of, log_of, 
 use Rattle.mapping.specs.Slots.{slot_pids, placed, listed, entry_if, table_of, is_known, known_pids}
 use Rattle.mapping.specs.declared.slots.Slot.{Slot}
 use Rattle.mapping.proofs.PidLaws.{among-with_number, all-with_number, rising-with_number}
-use Rattle.mapping.proofs.TableLaws.{same_pid, equal_by}
+use Rattle.mapping.proofs.TableLaws.{same_pid}
 use Rattle.mapping.proofs.Around.{lookup_none}
 use Rattle.mapping.proofs.InUse.{among_place, is_eq_same}
 use Rattle.mapping.proofs.Listing.{keys-listing}
