@@ -1,5 +1,5 @@
 -- Once all levels have climbed and the root has shrunk, a tree in memory stands for the planned one.
-use Rattle.std.specs.Prelude.{◌≡◌, ℕ, suc, pred, ◌+◌, ◌<◌, Bool, true, false, ◌||◌, List, [], ◌∷◌, ◌++◌, flat_map, length, Option, Some, None, IsSome}
+use Rattle.std.specs.Prelude.{◌≡◌, ℕ, suc, pred, ◌+◌, ◌<◌, Bool, true, false, List, [], ◌∷◌, ◌++◌, flat_map, length, Option, Some, None, IsSome}
 use Rattle.std.proofs.Common.{refl, sym, ap, ◌∙◌, subst, arith, append_assoc}
 use Rattle.std.specs.List.{AllByRecursion}
 use Rattle.std.specs.Map.{keys_of}
@@ -7,6 +7,7 @@ use Rattle.std.proofs.lemmas.Bool.{false_from_ne_true}
 use Rattle.std.proofs.lemmas.Grind.{flat_map-append}
 use Rattle.keys.specs.declared.command.Command.{Command}
 use Rattle.keys.specs.declared.settings.Settings.{Settings}
+use Rattle.keys.proofs.Basics.{or_turned}
 use Rattle.index_page.specs.Page.{Page, PageOfKind}
 use Rattle.index_page.specs.Page.PageOfKind.{Leaf, Index}
 use Rattle.index_page.proofs.ListLaws.{all-append, all_apart, all_weaker}
@@ -38,12 +39,6 @@ use Rattle.climb_plan.proofs.Kept.{all-kept, left, kept_and_left}
 use Rattle.climb_plan.proofs.Pids.{renewed-climb}
 use Rattle.climb_plan.proofs.Planned.{planned_are_levels}
 use Rattle.climb_plan.proofs.Untouched.{levels_above, height_by, same_tree}
-
-or_turned : (a b : Bool) → (a || b) ≡ (b || a)
-or_turned true true = refl
-or_turned true false = refl
-or_turned false true = refl
-or_turned false false = refl
 
 -- numbers among joined lists are among them the other way round, too
 among_turned : (n : ℕ) (ms ns : List ℕ) → is_among n (ms ++ ns) ≡ is_among n (ns ++ ms)

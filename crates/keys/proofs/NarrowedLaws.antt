@@ -1,5 +1,5 @@
 -- Lemmas on scans that end at a nearer key, for the proofs of this crate and of those above it.
-use Rattle.std.specs.Prelude.{◌≡◌, ℕ, zero, suc, ◌≤◌, Bool, true, false, not, cond, ◌&&◌, List, [], ◌∷◌, ◌++◌, length, take, drop, slice_get, Option, Some, None}
+use Rattle.std.specs.Prelude.{◌≡◌, ℕ, zero, suc, ◌≤◌, Bool, true, false, not, cond, List, [], ◌∷◌, ◌++◌, length, take, drop, slice_get, Option, Some, None}
 use Rattle.std.proofs.Common.{refl, sym, ap, ◌∙◌, arith, Less}
 use Rattle.std.specs.List.Sorted.{IsStrictlySortedBy}
 use Rattle.std.specs.Map.{keys_of}
@@ -13,7 +13,7 @@ use Rattle.keys.specs.declared.command.Command.{Command}
 use Rattle.keys.specs.declared.command.Command.TheVariants.{Get, Put, Add, Del, Scan}
 use Rattle.keys.specs.declared.command.Reply.{Reply}
 use Rattle.keys.specs.declared.command.Reply.TheVariants.{Rows}
-use Rattle.keys.proofs.Basics.{less_by}
+use Rattle.keys.proofs.Basics.{less_by, and_false}
 use Rattle.keys.proofs.MapLaws.{total, IsBelowAll}
 use Rattle.keys.proofs.RunLaws.{rising-map_after}
 
@@ -28,10 +28,6 @@ before_through (Some hi) k end h l = below_through k end hi l h
 not_behind_by : (b : Bool) (j k end : List ℕ) → is_below k end ≡ b → is_below j end ≡ false → order j k ≡ Less → b ≡ false
 not_behind_by true j k end e h l = absurd (let t : is_below j end ≡ true = below_through j k end (rw l refl) e in cc)
 not_behind_by false j k end e h l = refl
-
-and_false : (b c : Bool) → c ≡ false → (b && c) ≡ false
-and_false true c h = h
-and_false false c h = refl
 
 -- ---- rows
 

@@ -7,7 +7,7 @@ use Rattle.std.specs.Map.{keys_of}
 use Rattle.std.proofs.lemmas.List.Sums.{take_while-cons}
 use Rattle.keys.specs.Order.{order, IsRising}
 use Rattle.keys.specs.Range.{is_below, is_before, in_range, rows}
-use Rattle.keys.proofs.Basics.{less_by}
+use Rattle.keys.proofs.Basics.{less_by, and_false}
 use Rattle.keys.proofs.MapLaws.{total, IsBelowAll}
 use Rattle.delta_chain.specs.Layers.{Layers, entries_of}
 use Rattle.index_page.specs.Page.{Page}
@@ -29,10 +29,6 @@ behind_by false i j end c n l = refl
 behind_end : (hi : Option (List ℕ)) (i j : List ℕ) → is_before hi i ≡ false → order i j ≡ Less → is_before hi j ≡ false
 behind_end None i j n l = absurd (cc)
 behind_end (Some end) i j n l = behind_by (is_below j end) i j end refl n l
-
-and_false : (b c : Bool) → c ≡ false → (b && c) ≡ false
-and_false true c h = h
-and_false false c h = refl
 
 module _ {V : Type 0} (lo : List ℕ) (hi : Option (List ℕ)) where
   abbrev Until : List (List ℕ × V) → List (List ℕ × V)

@@ -9,7 +9,7 @@ use Rattle.std.specs.BTreeSet.{insert_key}
 use Rattle.std.proofs.lemmas.Cmp.{tied_itself}
 use Rattle.std.proofs.lemmas.Bool.{eq-eqb, eqb-true}
 use Rattle.keys.specs.declared.settings.Settings.{Settings}
-use Rattle.keys.proofs.Basics.{equal_by}
+use Rattle.keys.proofs.Basics.{equal_by, or_swapped}
 use Rattle.index_page.specs.Page.{PageOfKind}
 use Rattle.index_page.specs.Page.PageOfKind.{Leaf, Index}
 use Rattle.index_page.specs.Children.{Place}
@@ -25,11 +25,6 @@ use Rattle.verify.specs.declared.look.Seen.{Seen}
 use Rattle.verify.specs.declared.look.Seen.TheVariants.{Broken, Sound}
 
 -- ---- one more in order
-
-or_swapped : (a b c : Bool) → (a || (b || c)) ≡ (b || (a || c))
-or_swapped true true c = refl
-or_swapped true false c = refl
-or_swapped false b c = refl
 
 or_twice : (a c : Bool) → (a || c) ≡ (a || (a || c))
 or_twice true c = refl
