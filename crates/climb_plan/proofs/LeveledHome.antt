@@ -6,7 +6,7 @@ use Rattle.keys.specs.declared.settings.Settings.{Settings}
 use Rattle.index_page.specs.Page.{Page, PageOfKind}
 use Rattle.index_page.specs.Page.PageOfKind.{Index}
 use Rattle.index_page.proofs.ListLaws.{all_apart}
-use Rattle.mapping.specs.FreshPids.{is_among}
+use Rattle.mapping.specs.FreshPids.{is_among, IsNeverUnused}
 use Rattle.mapping.specs.Levels.{Placed, pids, all_pids}
 use Rattle.mapping.specs.Proper.{Distinct}
 use Rattle.mapping.specs.Table.{Mapping, pids_in_use, place_of, with_rooms, fresh_pids}
@@ -17,7 +17,7 @@ use Rattle.split_plan.specs.WorkedLevel.{placed_of}
 use Rattle.climb_plan.specs.Changing.{SeenPage, AreSeen, worked_pids, Changing, changing, parents_of}
 use Rattle.climb_plan.specs.HasClimbed.{HasClimbed}
 use Rattle.climb_plan.specs.Installing.{AreAway}
-use Rattle.climb_plan.specs.Level.{parent_pids, IsNeverUnused, IsLevel}
+use Rattle.climb_plan.specs.Level.{parent_pids, IsLevel}
 use Rattle.climb_plan.proofs.BridgeDrawn.{drawn_places}
 use Rattle.climb_plan.proofs.BridgeNext.{new_here, tree_here}
 use Rattle.climb_plan.proofs.BridgeTables.{taken_others, drawn_others}

@@ -4,7 +4,7 @@ use Rattle.std.proofs.Common.{refl, sym, ap, ◌∙◌, arith, leb-true, leb-fal
 use Rattle.std.specs.List.{AllByRecursion}
 use Rattle.std.proofs.lemmas.Bool.{cases_lt, eq-eqb, eqb-true, eqb-false, or_parts}
 use Rattle.keys.proofs.Basics.{or_swapped}
-use Rattle.mapping.specs.FreshPids.{is_among, unused, with_number}
+use Rattle.mapping.specs.FreshPids.{is_among, unused, IsNeverUnused, with_number}
 use Rattle.mapping.specs.Proper.{AreRisingPids}
 
 -- ---- among others
@@ -101,10 +101,6 @@ first_is_used false u us m e a h =
     let l : m < u = leb-false u m e in
     let s : unused us m ≡ m = stays us m (below_later m u us l a) in
     omega arith
-
--- a number that is at no place of the unused ones
-abbrev pub IsNeverUnused : List ℕ → ℕ → Type 0
-IsNeverUnused used n = (m : ℕ) → n ≢ unused used m
 
 later_never : (u : ℕ) (us ns : List ℕ) → AllByRecursion (IsNeverUnused us) ns → AllByRecursion (IsNeverUnused (u ∷ us)) ns
 later_never u us [] h = tt
