@@ -1,6 +1,6 @@
 pub mod Counts
 pub mod LayerLaws
-mod Lending
+pub mod Lending
 mod Lower
 pub mod Merges
 pub mod Overlays

@@ -16,11 +16,6 @@ use Rattle.split_plan.specs.Pieces.{pages_lent, joined_pages, low_at, pages_from
 use Rattle.split_plan.proofs.CutLaws.{cut-joined, cut_full, cut_nothing}
 
 module _ {V : Type 0} where
-  -- one more pair behind the others
-  pub pairs_lent-push : (lent : List (Bor (List ℕ) × Bor V)) (e : Bor (List ℕ) × Bor V) → pairs_lent (lent ++ e ∷ []) ≡ pairs_lent lent ++ (e.0.now, e.1.now) ∷ []
-  pairs_lent-push [] e = refl
-  pairs_lent-push (d ∷ ds) e = ap (λ (m : List (List ℕ × V)). (d.0.now, d.1.now) ∷ m) (pairs_lent-push ds e)
-
   pub length-pairs_lent : (lent : List (Bor (List ℕ) × Bor V)) → length (pairs_lent lent) ≡ length lent
   length-pairs_lent [] = refl
   length-pairs_lent (e ∷ es) = ap (λ n. suc n) (length-pairs_lent es)

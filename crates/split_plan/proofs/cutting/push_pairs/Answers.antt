@@ -1,7 +1,7 @@
 use Rattle.std.proofs.Common.{arith}
 use Rattle.delta_chain.specs.Lent.{pairs_lent}
+use Rattle.delta_chain.proofs.Lending.{pairs_lent-push}
 use Rattle.delta_chain.proofs.Places.{push_pair}
-use Rattle.split_plan.proofs.LentPieces.{pairs_lent-push}
 use Rattle.split_plan.proofs.cutting.push_pairs.Goals as goal
 
 pub loop-at-preserved : goal.loop-at-preserved
