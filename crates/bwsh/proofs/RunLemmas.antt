@@ -12,7 +12,7 @@ use Rattle.keys.specs.declared.fault.Fault.TheVariants.{NoMemory, Spent}
 use Rattle.keys.specs.declared.command.Command.{Command}
 use Rattle.keys.specs.declared.command.Reply.{Reply}
 use Rattle.keys.specs.declared.settings.Settings.{Settings}
-use Rattle.mapping.specs.Tree.{Tree}
+use Rattle.mapping.specs.Tree.{Tree, most_levels}
 use Rattle.mapping.specs.Levels.{contents}
 use Rattle.climb_plan.specs.Plan.{planned_tree}
 use Rattle.verify.specs.Report.{report}
@@ -33,22 +33,22 @@ OnOk-always (Err x) p = tt
 
 -- ---- the right of a batch
 
--- 64 levels can be
-levels_right : (height : ℕ) → height ≤ 64 → height_fault height ≡ None
+-- no more levels than a tree may have are no fault
+levels_right : (height : ℕ) → height ≤ most_levels → height_fault height ≡ None
 levels_right height low =
-    let no : nat_lt 64 height ≡ false = grind (arith, nat_tests) in
+    let no : nat_lt most_levels height ≡ false = grind (arith, nat_tests) in
     rw no refl
 
-levels_wrong : (height : ℕ) → 64 < height → height_fault height ≡ Some Spent
+levels_wrong : (height : ℕ) → most_levels < height → height_fault height ≡ Some Spent
 levels_wrong height high =
-    let yes : nat_lt 64 height ≡ true = grind (arith, nat_tests) in
+    let yes : nat_lt most_levels height ≡ true = grind (arith, nat_tests) in
     rw yes refl
 
 -- how a batch is refused, where its own fault is this one, if it has one, and the planned tree this high
 abbrev pub IsRefusedBy : {T : Type 0} → ℕ → Option Fault → Result T Fault → Type 0
-IsRefusedBy height own result = MatchOption own (IfErr result (λ f. (f ≡ NoMemory) ⊎ ((f ≡ Spent) × (64 < height)))) (λ right. result ≡ Err right)
+IsRefusedBy height own result = MatchOption own (IfErr result (λ f. (f ≡ NoMemory) ⊎ ((f ≡ Spent) × (most_levels < height)))) (λ right. result ≡ Err right)
 
-later : (height : ℕ) (fault : Fault) → (fault ≡ NoMemory) ⊎ ((fault ≡ Spent) × (64 < height)) → (fault ≡ NoMemory) ⊎ (height_fault height ≡ Some fault)
+later : (height : ℕ) (fault : Fault) → (fault ≡ NoMemory) ⊎ ((fault ≡ Spent) × (most_levels < height)) → (fault ≡ NoMemory) ⊎ (height_fault height ≡ Some fault)
 later height fault (inl e) = inl e
 later height fault (inr (e, high)) = inr (levels_wrong height high ∙ ap (λ (f : Fault). Some f) (sym e))
 
@@ -56,13 +56,13 @@ module _ {T : Type 0} (height : ℕ) where
   -- a batch that is refused is refused for want of memory, or by its right
   refused_rightly : (own : Option Fault) (fault : Fault) (result : Result T Fault) → result ≡ Err fault → IsRefusedBy height own result
       → (fault ≡ NoMemory) ⊎ (option_or own (height_fault height) ≡ Some fault)
-  refused_rightly None fault result e p = later height fault (subst (λ (x : Result T Fault). IfErr x (λ f. (f ≡ NoMemory) ⊎ ((f ≡ Spent) × (64 < height)))) e p)
+  refused_rightly None fault result e p = later height fault (subst (λ (x : Result T Fault). IfErr x (λ f. (f ≡ NoMemory) ⊎ ((f ≡ Spent) × (most_levels < height)))) e p)
   refused_rightly (Some right) fault result e p =
       let same : right ≡ fault = cc in
       inr (ap (λ (f : Fault). Some f) same)
 
   -- a batch that is answered isn't refused by its right
-  answered_rightly : (own : Option Fault) (x : T) (result : Result T Fault) → result ≡ Ok x → height ≤ 64 → IsRefusedBy height own result
+  answered_rightly : (own : Option Fault) (x : T) (result : Result T Fault) → result ≡ Ok x → height ≤ most_levels → IsRefusedBy height own result
       → option_or own (height_fault height) ≡ None
   answered_rightly None x result e low p = levels_right height low
   answered_rightly (Some right) x result e low p = absurd (cc)
@@ -142,9 +142,9 @@ module _ {T : Type 0} (settings : Settings) (tree after : Tree) (order : Order) 
         map_right (inl memory) = inl memory
         map_right (inr some) = inr (refusal_is ∙ some)
 
-  module _ (answer : T) (ok : result ≡ Ok answer) (low : after.height ≤ 64) (planned : after ≡ planned_tree settings tree commands) where
+  module _ (answer : T) (ok : result ≡ Ok answer) (low : after.height ≤ most_levels) (planned : after ≡ planned_tree settings tree commands) where
     none : refusal_of settings tree (Batch commands) ≡ None
-    none = refusal_is ∙ answered_rightly (planned_tree settings tree commands).height (refusal settings commands) answer result ok (subst (λ (t : Tree). t.height ≤ 64) planned low) refused
+    none = refusal_is ∙ answered_rightly (planned_tree settings tree commands).height (refusal settings commands) answer result ok (subst (λ (t : Tree). t.height ≤ most_levels) planned low) refused
 
     pub Runs-answered : (old new : Option (List ℕ)) (end : Result (Unit {0}) Ending) (shown replies : List (Reply Global)) → shown ≡ replies → replies ≡ replies_to (contents tree) commands
         → Prints old new (map shown_reply shown) (Ok tt) end → Runs settings tree (order ∷ []) old new end

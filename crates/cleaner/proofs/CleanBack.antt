@@ -172,13 +172,10 @@ abbrev pub next_of : Slot → Settings → List Frame → Slot
 next_of slot s text = record { sequence = suc slot.sequence; head = suc slot.head; tail = tail_after s slot.tail text; root = slot.root; height = slot.height }
 
 module _ (s : Settings) (file : List ℕ) (tree : Tree) (on_disk : Store) (by : StandsBy s file on_disk) where
-  abbrev here : Store
-  here = store_after tree by.slot
-
   abbrev slot_head_differs : Type 0
   slot_head_differs = by.slot.head ≢ last_segment s by.slot.tail
 
-  same_step : (u : Slot) → AreInStep here on_disk → AreInStep (store_after tree u) (store_after on_disk.tree u)
+  same_step : (u : Slot) → AreInStep (store_after tree by.slot) on_disk → AreInStep (store_after tree u) (store_after on_disk.tree u)
   same_step u step = record { head = refl; tail = refl; sequence = refl; none = step.none; upto = step.upto }
 
   same_found : (found : List Found) → log s file by.slot.head by.slot.tail ≡ Ok found → by.found ≡ found
@@ -204,17 +201,17 @@ module _ (s : Settings) (file : List ℕ) (tree : Tree) (on_disk : Store) (by : 
     pub reads : Reads s file by.slot found
     pub more : by.slot.head < last_segment s by.slot.tail
     pub sound : broken_in (frames_in found) ≡ None
-    pub is_next : clean_slot s here file (clean_text by.slot.head found) ≡ next_of by.slot s (clean_text by.slot.head found)
+    pub is_next : clean_slot s (store_after tree by.slot) file (clean_text by.slot.head found) ≡ next_of by.slot s (clean_text by.slot.head found)
     pub done : IsCommitted (next_of by.slot s (clean_text by.slot.head found)) (is_full_for_clean s by.slot.head (next_of by.slot s (clean_text by.slot.head found)).tail) (store_after tree (next_of by.slot s (clean_text by.slot.head found)))
         (committed s file (spans s by.slot.tail (clean_text by.slot.head found)) (next_of by.slot s (clean_text by.slot.head found))) now bytes
 
-  pub clean-of : (now : Store) (bytes : List ℕ) → after_clean s here file ≡ left now bytes → IsCleanOf now bytes
+  pub clean-of : (now : Store) (bytes : List ℕ) → after_clean s (store_after tree by.slot) file ≡ left now bytes → IsCleanOf now bytes
   clean-of now bytes e =
       let slot : Slot = by.slot in
-      let c : IsClean s here file now bytes = clean-done s here file now bytes e in
+      let c : IsClean s (store_after tree by.slot) file now bytes = clean-done s (store_after tree by.slot) file now bytes e in
       let text : List Frame = clean_text slot.head c.found in
       let (block, good, whole) = store_settings-are file s by.reads.settings in
-      let is_next : clean_slot s here file text ≡ next_of slot s text =
+      let is_next : clean_slot s (store_after tree by.slot) file text ≡ next_of slot s text =
       ap (λ (u : Slot). (let t : Slot = record { sequence = suc slot.sequence; head = suc slot.head; tail = tail_after s slot.tail text; root = u.root; height = u.height } in t)) (slot-same s file slot good by.reads.slot) in
       record {
         found = c.found;
@@ -226,7 +223,7 @@ module _ (s : Settings) (file : List ℕ) (tree : Tree) (on_disk : Store) (by : 
         done = subst (λ (t : Slot). IsCommitted t (is_full_for_clean s slot.head t.tail) (store_after tree t) (committed s file (spans s slot.tail text) t) now bytes) is_next c.done;
       }
 
-  clean_back : AreInStep here on_disk → (now : Store) (bytes : List ℕ) → after_clean s here file ≡ left now bytes → StandsStill s on_disk.tree now bytes
+  clean_back : AreInStep (store_after tree by.slot) on_disk → (now : Store) (bytes : List ℕ) → after_clean s (store_after tree by.slot) file ≡ left now bytes → StandsStill s on_disk.tree now bytes
   clean_back step now bytes e =
       let slot : Slot = by.slot in
       let c : IsCleanOf now bytes = clean-of now bytes e in

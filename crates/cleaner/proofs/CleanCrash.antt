@@ -22,15 +22,12 @@ use Rattle.cleaner.specs.CleanText.{clean_text}
 use Rattle.cleaner.proofs.CleanBack.{IsCleanOf, clean-of, next_of, room_for}
 
 module _ (s : Settings) (file c : List ℕ) (tree : Tree) (on_disk : Store) (by : StandsBy s file on_disk) where
-  abbrev here : Store
-  here = store_after tree by.slot
-
   same_found : (found other : List Found) → log s file by.slot.head by.slot.tail ≡ Ok found → log s file by.slot.head by.slot.tail ≡ Ok other → found ≡ other
   same_found found other read again =
       let both : (let mine : Result (List Found) Fault = Ok found in mine ≡ Ok other) = sym read ∙ again in
       cc
 
-  by_slot : (now : Store) (bytes : List ℕ) (found : List Found) → after_clean s here file ≡ left now bytes → log s file by.slot.head by.slot.tail ≡ Ok found → LeftDuring (clean_calls s here file found) file c
+  by_slot : (now : Store) (bytes : List ℕ) (found : List Found) → after_clean s (store_after tree by.slot) file ≡ left now bytes → log s file by.slot.head by.slot.tail ≡ Ok found → LeftDuring (clean_calls s (store_after tree by.slot) file found) file c
       → (store_of_disk c ≡ store_of_disk file) ⊎ (c ≡ bytes)
   by_slot now bytes found h read during =
       let slot : Slot = by.slot in
@@ -41,7 +38,7 @@ module _ (s : Settings) (file c : List ℕ) (tree : Tree) (on_disk : Store) (by 
       let proper = subst (λ (fs : List Found). finding s (tree_by_log slot (frames_in fs)) ≡ None) of.same by.proper in
       let room = room_for s file slot of.found of.reads of.more (log-within s file slot.head slot.tail of.found of.reads.log) of.sound proper done.room in
       let calls : LeftDuring (commit_calls s file (spans s slot.tail text) (next_of slot s text)) file c =
-      subst (λ (t : Slot). LeftDuring (commit_calls s file (spans s slot.tail text) t) file c) of.is_next (subst (λ (fs : List Found). LeftDuring (clean_calls s here file fs) file c) same during) in
+      subst (λ (t : Slot). LeftDuring (commit_calls s file (spans s slot.tail text) t) file c) of.is_next (subst (λ (fs : List Found). LeftDuring (clean_calls s (store_after tree by.slot) file fs) file c) same during) in
       elim (commit-crash s file c on_disk by text (next_of slot s text) room refl calls) [
         | inl kept ↦ inl kept
         | inr whole ↦ inr (whole ∙ sym done.disk)

@@ -11,14 +11,14 @@ use Rattle.flush_log.specs.Commit.{Call, commit_calls, committed}
 use Rattle.flush_log.specs.Layout.{tail_after, spans, is_full_for_clean}
 use Rattle.flush_log.specs.Reading.{Found, log}
 use Rattle.flush_log.specs.Segments.{last_segment}
-use Rattle.flush_log.specs.Slot.{Slot, slot_place, slot_in}
+use Rattle.flush_log.specs.Slot.{Slot, slot_size, slot_place, slot_in}
 use Rattle.recovery.specs.LogPages.{broken_in}
 use Rattle.recovery.specs.StoreOfDisk.{unless_found, frames_in}
 use Rattle.cleaner.specs.CleanText.{clean_text}
 
 -- what the slot for this sequence number says, as it stands on the disk
 abbrev pub slot_on_disk : ℕ → List ℕ → Slot
-slot_on_disk n file = slot_in (take 64 (drop (slot_place n) file))
+slot_on_disk n file = slot_in (take slot_size (drop (slot_place n) file))
 
 -- the slot for this text of a store: the root and the height stay those on the disk, and the head is one further
 abbrev pub clean_slot : Settings → Store → List ℕ → List Frame → Slot

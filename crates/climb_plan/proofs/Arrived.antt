@@ -1,5 +1,5 @@
 -- Once all levels have climbed and the root has shrunk, a tree in memory stands for the planned one.
-use Rattle.std.specs.Prelude.{◌≡◌, ℕ, suc, pred, ◌+◌, ◌<◌, Bool, true, false, ◌||◌, List, [], ◌∷◌, ◌++◌, flat_map, length, Option, Some, None, IsSome}
+use Rattle.std.specs.Prelude.{◌≡◌, ℕ, suc, pred, ◌+◌, ◌<◌, Bool, true, false, List, [], ◌∷◌, ◌++◌, flat_map, length, Option, Some, None, IsSome}
 use Rattle.std.proofs.Common.{refl, sym, ap, ◌∙◌, subst, arith, append_assoc}
 use Rattle.std.specs.List.{AllByRecursion}
 use Rattle.std.specs.Map.{keys_of}
@@ -7,10 +7,11 @@ use Rattle.std.proofs.lemmas.Bool.{false_from_ne_true}
 use Rattle.std.proofs.lemmas.Grind.{flat_map-append}
 use Rattle.keys.specs.declared.command.Command.{Command}
 use Rattle.keys.specs.declared.settings.Settings.{Settings}
+use Rattle.keys.proofs.Basics.{or_turned}
 use Rattle.index_page.specs.Page.{Page, PageOfKind}
 use Rattle.index_page.specs.Page.PageOfKind.{Leaf, Index}
 use Rattle.index_page.proofs.ListLaws.{all-append, all_apart, all_weaker}
-use Rattle.mapping.specs.FreshPids.{is_among}
+use Rattle.mapping.specs.FreshPids.{is_among, IsNeverUnused}
 use Rattle.mapping.specs.Levels.{Placed, Levels, names, pids, all_pids, levels_of, contents, all_pages, by_pid}
 use Rattle.mapping.specs.Outdate.{outdate_all}
 use Rattle.mapping.specs.Proper.{AreRisingPids, Distinct, IsProper}
@@ -18,8 +19,7 @@ use Rattle.mapping.specs.Table.{Mapping, pids_in_use, place_of}
 use Rattle.mapping.specs.Tree.{Logged, Tree}
 use Rattle.mapping.specs.TreeInMemory.{TreeInMemory, AreAllHome, home_pages, tree_of}
 use Rattle.mapping.proofs.LevelLaws.{same_pids}
-use Rattle.mapping.proofs.PidLaws.{IsNeverUnused, used_is_never_unused, all_among}
-use Rattle.mapping.proofs.TableLaws.{all_pids_hold}
+use Rattle.mapping.proofs.PidLaws.{all_among}
 use Rattle.mapping.proofs.TableOfLevels.{by_pid-unique, holds_among}
 use Rattle.page_runs.specs.NetRun.{net_run}
 use Rattle.page_runs.specs.Worked.{Worked}
@@ -36,14 +36,8 @@ use Rattle.climb_plan.proofs.Climbing.{still_home, still_home_above}
 use Rattle.climb_plan.proofs.InstalledPages.{AreApart, distinct_apart, not_among_from}
 use Rattle.climb_plan.proofs.Kept.{all-kept, left, kept_and_left}
 use Rattle.climb_plan.proofs.Pids.{renewed-climb}
-use Rattle.climb_plan.proofs.Planned.{planned_are_levels}
+use Rattle.climb_plan.proofs.Planned.{never_unused, planned_are_levels}
 use Rattle.climb_plan.proofs.Untouched.{levels_above, height_by, same_tree}
-
-or_turned : (a b : Bool) → (a || b) ≡ (b || a)
-or_turned true true = refl
-or_turned true false = refl
-or_turned false true = refl
-or_turned false false = refl
 
 -- numbers among joined lists are among them the other way round, too
 among_turned : (n : ℕ) (ms ns : List ℕ) → is_among n (ms ++ ns) ≡ is_among n (ns ++ ms)
@@ -96,13 +90,10 @@ module _ {A : Type 0} (s : Settings) (t : Tree) (cs : List (Command A)) (fan : 1
   pub keep_names : names (placed_of leaves_after) ≡ names (levels_of t).level
   keep_names = names-worked_leaves s (net_run (contents t) cs) (levels_of t).level
 
-  never_unused : AllByRecursion (IsNeverUnused (keys_of t.pages)) (all_pids (levels_of t).level (levels_of t).above)
-  never_unused = all_pids_hold (IsNeverUnused (keys_of t.pages)) t.pages (used_is_never_unused (keys_of t.pages) proper.tree.rising) (levels_of t) proper.held
-
   pub whole_distinct : Distinct whole_pids
   whole_distinct =
       let l : Levels = levels_of t in
-      distinct_renewed (renewed-climb s (keys_of t.pages) 0 leaves_after l.level l.above keep_names proper.levels.stacked).1 never_unused proper.levels.distinct
+      distinct_renewed (renewed-climb s (keys_of t.pages) 0 leaves_after l.level l.above keep_names proper.levels.stacked).1 (never_unused s t proper) proper.levels.distinct
 
   -- no pid that is kept is one of those that go with the old root
   kept_apart : AreApart planned_pids (shrunk_pids whole.tower.above)
@@ -117,7 +108,7 @@ module _ {A : Type 0} (s : Settings) (t : Tree) (cs : List (Command A)) (fan : 1
   distinct_after = subst (λ (ns : List ℕ). Distinct ns) (sym same_after) proper.levels.distinct
 
   pub never_after : AllByRecursion (IsNeverUnused (keys_of t.pages)) (all_pids (placed_of leaves_after) (levels_of t).above)
-  never_after = subst (λ (ns : List ℕ). AllByRecursion (IsNeverUnused (keys_of t.pages)) ns) (sym same_after) never_unused
+  never_after = subst (λ (ns : List ℕ). AllByRecursion (IsNeverUnused (keys_of t.pages)) ns) (sym same_after) (never_unused s t proper)
 
   -- a pid that no level has isn't in use
   not_in_use : (n : ℕ) → is_among n (all_pids (placed_of leaves_after) (levels_of t).above) ≡ false → is_among n (keys_of t.pages) ≡ false

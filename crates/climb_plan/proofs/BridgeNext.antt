@@ -9,7 +9,7 @@ use Rattle.index_page.specs.Page.{Page, PageOfKind}
 use Rattle.index_page.specs.Page.PageOfKind.{Index}
 use Rattle.index_page.proofs.ListLaws.{all-append, all_apart}
 use Rattle.mapping.specs.Levels.{Placed, name, names, pids, all_pids, first_pid, top_pid}
-use Rattle.mapping.specs.FreshPids.{is_among, unused}
+use Rattle.mapping.specs.FreshPids.{is_among, unused, IsNeverUnused}
 use Rattle.mapping.specs.Proper.{IsParentOf, Stacked, Distinct, AreRisingPids}
 use Rattle.mapping.specs.Table.{Mapping, pids_in_use, place_of, with_rooms, fresh_pids}
 use Rattle.mapping.specs.TreeInMemory.{TreeInMemory}
@@ -26,7 +26,7 @@ use Rattle.split_plan.proofs.WorkedLaws.{tiled-worked_parents}
 use Rattle.climb_plan.specs.Changing.{SeenPage, shown, AreHome, Changing, changing, parents_of, changing_groups, changing_changes}
 use Rattle.climb_plan.specs.Climb.{families}
 use Rattle.climb_plan.specs.Installing.{parent_held, AreParentsHome}
-use Rattle.climb_plan.specs.Level.{parent_pids, IsNeverUnused, IsLevel, next_tree}
+use Rattle.climb_plan.specs.Level.{parent_pids, IsLevel, next_tree}
 use Rattle.climb_plan.proofs.BridgeDrawn.{drawn_places}
 use Rattle.climb_plan.proofs.BridgeParents.{told_pids, told_made, told_held, parents_can_be_taken}
 use Rattle.climb_plan.proofs.BridgeTables.{AreDrawn, taken_others, taken_away, ArePlaced, taken_pids, drawn_others, logs_after}

@@ -8,7 +8,7 @@ use Rattle.std.specs.BTreeMap.{insert_entry}
 use Rattle.std.proofs.lemmas.Cmp.{ranked, tied_itself}
 use Rattle.std.proofs.lemmas.Bool.{eq-eqb, eqb-true, or_parts, or_from, false_from_ne_true}
 use Rattle.index_page.specs.Page.{PageOfKind}
-use Rattle.mapping.specs.FreshPids.{is_among, unused}
+use Rattle.mapping.specs.FreshPids.{is_among, unused, IsNeverUnused}
 use Rattle.mapping.specs.Proper.{AreRisingPids}
 use Rattle.mapping.specs.Table.{Mapping, is_pid, pids_in_use, place_of, with_place, fresh_pids, IsOldWithoutPlace}
 use Rattle.mapping.specs.Tree.{Logged}
@@ -16,7 +16,6 @@ use Rattle.mapping.specs.Tree.Logged.{Old}
 use Rattle.mapping.proofs.PidLaws.{below_later}
 use Rattle.mapping.proofs.TableLaws.{total, differ, listed-insert_entry}
 use Rattle.climb_plan.specs.Installing.{all_taken}
-use Rattle.climb_plan.specs.Level.{IsNeverUnused}
 
 -- ---- an entry in the place of another
 

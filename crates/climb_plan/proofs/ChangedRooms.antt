@@ -5,13 +5,14 @@ use Rattle.std.specs.List.{AllByRecursion, range_with_len}
 use Rattle.std.specs.Ordering.{nat_cmp, is_eq}
 use Rattle.std.specs.Map.{lookup, remove_entry}
 use Rattle.std.proofs.lemmas.List.{drop_more, take_more, get_or_at, set_at, length-take-le, take_all, drop_all, take_at}
+use Rattle.keys.proofs.Basics.{equal_by}
 use Rattle.index_page.specs.Page.{PageOfKind}
 use Rattle.mapping.specs.FreshPids.{is_among, unused}
 use Rattle.mapping.specs.Proper.{Distinct}
 use Rattle.mapping.specs.Table.{Mapping, is_pid, pids_in_use, place_of, freed, with_rooms, fresh_pids, freed_all}
 use Rattle.mapping.specs.TreeInMemory.{TreeInMemory}
 use Rattle.mapping.proofs.PidLaws.{all_among, unused-rises}
-use Rattle.mapping.proofs.TableLaws.{equal_by, same_pid, differ}
+use Rattle.mapping.proofs.TableLaws.{same_pid, differ}
 use Rattle.climb_plan.specs.Rewriting.{Remade, numbered, numbers}
 use Rattle.climb_plan.specs.Installing.{AreAway}
 

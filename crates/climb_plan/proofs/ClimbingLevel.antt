@@ -7,14 +7,14 @@ use Rattle.keys.specs.declared.settings.Settings.{Settings}
 use Rattle.index_page.specs.Page.{Page, PageOfKind}
 use Rattle.index_page.specs.Page.PageOfKind.{Index}
 use Rattle.mapping.specs.Levels.{Placed, pids, all_pids}
-use Rattle.mapping.specs.FreshPids.{is_among}
+use Rattle.mapping.specs.FreshPids.{is_among, IsNeverUnused}
 use Rattle.mapping.specs.Outdate.{outdate_all}
 use Rattle.mapping.specs.Proper.{Distinct, Stacked}
 use Rattle.mapping.specs.Table.{place_of}
 use Rattle.mapping.specs.Tree.{Logged}
 use Rattle.mapping.specs.TreeInMemory.{TreeInMemory}
 use Rattle.mapping.proofs.LevelLaws.{same_pids}
-use Rattle.mapping.proofs.PidLaws.{IsNeverUnused, among_apart}
+use Rattle.mapping.proofs.PidLaws.{among_apart}
 use Rattle.page_runs.specs.Worked.{Worked}
 use Rattle.split_plan.specs.WorkedLevel.{placed_of, worked_parents}
 use Rattle.split_plan.specs.Change.{Change, family_changes, all_new, all_fresh, all_outdated}

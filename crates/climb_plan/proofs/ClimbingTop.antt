@@ -8,12 +8,12 @@ use Rattle.keys.specs.declared.settings.Settings.{Settings}
 use Rattle.index_page.specs.Page.{Page, PageOfKind}
 use Rattle.index_page.specs.Page.PageOfKind.{Index}
 use Rattle.mapping.specs.Levels.{Placed, name, names, pids, all_pids, top_pid}
-use Rattle.mapping.specs.FreshPids.{is_among}
+use Rattle.mapping.specs.FreshPids.{is_among, IsNeverUnused}
 use Rattle.mapping.specs.Outdate.{outdate_all}
 use Rattle.mapping.specs.Proper.{Distinct, Stacked}
 use Rattle.mapping.specs.Tree.{Logged}
 use Rattle.mapping.specs.TreeInMemory.{TreeInMemory}
-use Rattle.mapping.proofs.PidLaws.{IsNeverUnused, among_either_by}
+use Rattle.mapping.proofs.PidLaws.{among_either_by}
 use Rattle.page_runs.specs.Worked.{Worked}
 use Rattle.split_plan.specs.WorkedLevel.{placed_of}
 use Rattle.split_plan.specs.Change.{Change, remade, changes, all_new, all_fresh, all_outdated}

@@ -6,6 +6,7 @@ use Rattle.std.specs.Ordering.{nat_cmp, is_eq, match_ordering}
 use Rattle.std.specs.Map.{remove_entry}
 use Rattle.std.specs.BTreeMap.{insert_entry}
 use Rattle.std.proofs.lemmas.Cmp.{tied_itself}
+use Rattle.keys.proofs.Basics.{equal_by}
 use Rattle.index_page.specs.Page.{PageOfKind}
 use Rattle.index_page.proofs.ListLaws.{all_apart}
 use Rattle.mapping.specs.Tree.{listed_at}
@@ -13,7 +14,7 @@ use Rattle.mapping.specs.Table.{Mapping, is_pid, place_of, page_of, at_home, wit
 use Rattle.mapping.specs.Outdate.{outdate_all}
 use Rattle.mapping.specs.TreeInMemory.{TreeInMemory}
 use Rattle.mapping.specs.Proper.{Distinct}
-use Rattle.mapping.proofs.TableLaws.{total, same_pid, equal_by, differ, listed-insert_entry}
+use Rattle.mapping.proofs.TableLaws.{total, same_pid, differ, listed-insert_entry}
 use Rattle.page_runs.specs.TermWork.{TermHeld, held_of}
 use Rattle.page_runs.specs.declared.term_work.TermJob.{TermJob}
 use Rattle.climb_plan.specs.Changing.{SeenPage}

@@ -7,6 +7,7 @@ use Rattle.std.specs.Map.{keys_of, remove_entry}
 use Rattle.std.specs.BTreeMap.{insert_entry}
 use Rattle.std.proofs.lemmas.Cmp.{ranked}
 use Rattle.std.proofs.lemmas.Bool.{or_parts, or_from, eqb-true, eqb-false, false_from_ne_true}
+use Rattle.keys.proofs.Basics.{equal_by}
 use Rattle.index_page.specs.Page.{PageOfKind}
 use Rattle.index_page.proofs.ListLaws.{all-append, all_apart}
 use Rattle.mapping.specs.Tree.{Logged, listed_at}
@@ -15,7 +16,7 @@ use Rattle.mapping.specs.FreshPids.{is_among}
 use Rattle.mapping.specs.Proper.{Distinct, AreRisingPids}
 use Rattle.mapping.specs.Table.{Mapping, is_pid, pids_in_use, place_of, page_of, at_home, with_place, outdated, freed}
 use Rattle.mapping.proofs.PidLaws.{below_later}
-use Rattle.mapping.proofs.TableLaws.{differ, same_pid, equal_by}
+use Rattle.mapping.proofs.TableLaws.{differ, same_pid}
 use Rattle.mapping.proofs.SameTable.{same_table}
 use Rattle.climb_plan.specs.Changing.{SeenPage}
 use Rattle.climb_plan.specs.Rewriting.{Remade}

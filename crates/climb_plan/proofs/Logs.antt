@@ -8,6 +8,7 @@ use Rattle.std.proofs.lemmas.Bool.{eq-eqb, eqb-true}
 use Rattle.keys.specs.declared.settings.Settings.{Settings}
 use Rattle.keys.specs.declared.command.Command.{Command}
 use Rattle.index_page.specs.Over.{IsPageOver}
+use Rattle.keys.proofs.Basics.{equal_by}
 use Rattle.index_page.specs.Page.{PageOfKind}
 use Rattle.index_page.specs.Page.PageOfKind.{Leaf, Index}
 use Rattle.index_page.proofs.RuleLaws.{all_both}
@@ -17,7 +18,7 @@ use Rattle.mapping.specs.Levels.{Placed, Levels, pids, all_pids, levels_of, by_p
 use Rattle.mapping.specs.FreshPids.{is_among}
 use Rattle.mapping.proofs.PidLaws.{later_among, among_apart, among_either}
 use Rattle.mapping.specs.Proper.{AreRisingPids, HasIndexPages, HoldsLevels, HasRuns, IsTrueOf, AreLogsTrue, IsProper}
-use Rattle.mapping.proofs.TableLaws.{equal_by, same_pid, by_pid-holds, holds_where_found}
+use Rattle.mapping.proofs.TableLaws.{same_pid, by_pid-holds, holds_where_found}
 use Rattle.page_runs.specs.NetRun.{net_run}
 use Rattle.split_plan.specs.WorkedLevel.{worked_leaves}
 use Rattle.split_plan.proofs.RunLaws.{names-worked_leaves}

@@ -13,12 +13,13 @@ use Rattle.keys.specs.declared.command.Command.{Command}
 use Rattle.index_page.specs.Page.{first_key}
 use Rattle.index_page.specs.Rules.{IsHeaded, Fits, IsShortChange, IsShortValue, IsAnyPid}
 use Rattle.index_page.proofs.ListLaws.{all_weaker, all_keys, all_keys-append}
+use Rattle.mapping.specs.FreshPids.{IsNeverUnused}
 use Rattle.mapping.specs.Tree.{Tree}
 use Rattle.mapping.specs.Levels.{Placed, Levels, entries, joined, name, names, all_pids, levels_of, contents, all_pages, by_pid}
 use Rattle.mapping.proofs.LevelLaws.{levels_found}
 use Rattle.mapping.proofs.TileLaws.{Names, rising-joined, some_page}
 use Rattle.mapping.proofs.TableLaws.{rising-by_pid, by_pid-holds, all_pids_hold}
-use Rattle.mapping.proofs.PidLaws.{IsNeverUnused, used_is_never_unused}
+use Rattle.mapping.proofs.PidLaws.{used_is_never_unused}
 use Rattle.mapping.specs.Proper.{next_low, Tiled, Stacked, Distinct, AreLevels, AllFit, IsProper, HoldsLevels}
 use Rattle.page_runs.specs.NetRun.{net_run}
 use Rattle.page_runs.proofs.NetLaws.{with_run-net_run}
@@ -98,16 +99,16 @@ module _ (s : Settings) where
 
 -- ---- the levels after the commands
 
+-- no pid of a proper tree is unused
+pub never_unused : (s : Settings) (t : Tree) → IsProper s t → AllByRecursion (IsNeverUnused (keys_of t.pages)) (all_pids (levels_of t).level (levels_of t).above)
+never_unused s t proper = all_pids_hold (IsNeverUnused (keys_of t.pages)) t.pages (used_is_never_unused (keys_of t.pages) proper.tree.rising) (levels_of t) proper.held
+
 module _ {A : Type 0} (s : Settings) (t : Tree) (cs : List (Command A)) (fan : 1 < s.fan) (proper : IsProper s t) where
   abbrev leaves : List (Worked (List ℕ))
   leaves = worked_leaves s (net_run (contents t) cs) (levels_of t).level
 
   keep_names : names (placed_of leaves) ≡ names (levels_of t).level
   keep_names = names-worked_leaves s (net_run (contents t) cs) (levels_of t).level
-
-  -- no pid of the tree is unused
-  never_unused : AllByRecursion (IsNeverUnused (keys_of t.pages)) (all_pids (levels_of t).level (levels_of t).above)
-  never_unused = all_pids_hold (IsNeverUnused (keys_of t.pages)) t.pages (used_is_never_unused (keys_of t.pages) proper.tree.rising) (levels_of t) proper.held
 
   pub planned_are_levels : AreLevels (planned_levels s t cs)
   planned_are_levels =
@@ -116,7 +117,7 @@ module _ {A : Type 0} (s : Settings) (t : Tree) (cs : List (Command A)) (fan : 1
       let tiled : Tiled (placed_of leaves) None = tiled-leaves s cs l.level proper.levels.first proper.levels.tiled in
       let stacked = stacked-climb s (keys_of t.pages) 0 leaves l.level l.above fan keep_names proper.levels.stacked tiled in
       let renewed = renewed-climb s (keys_of t.pages) 0 leaves l.level l.above keep_names proper.levels.stacked in
-      let distinct : Distinct (all_pids c.tower.level c.tower.above) = distinct_renewed renewed.1 never_unused proper.levels.distinct in
+      let distinct : Distinct (all_pids c.tower.level c.tower.above) = distinct_renewed renewed.1 (never_unused s t proper) proper.levels.distinct in
       record {
         first = next_low-climb s (keys_of t.pages) 0 leaves l.above l.level keep_names proper.levels.stacked ∙ proper.levels.first;
         tiled = stacked.0;

@@ -15,6 +15,7 @@ use Rattle.mapping.specs.Table.{Mapping, pids_in_use, place_of, IsOldWithoutPlac
 use Rattle.mapping.specs.Tree.{Logged, Tree, listed_at, page_at}
 use Rattle.mapping.specs.Tree.Logged.{No, Old, Upto}
 use Rattle.mapping.specs.TreeInMemory.{TreeInMemory, AreAllHome, tree_of}
+use Rattle.mapping.proofs.SameTree.{root_on_top}
 use Rattle.mapping.proofs.TileLaws.{next_low-same}
 use Rattle.page_runs.specs.Worked.{Worked}
 use Rattle.split_plan.specs.WorkedLevel.{placed_of}
@@ -30,7 +31,7 @@ use Rattle.climb_plan.proofs.Climbs.{stacked-climb}
 use Rattle.climb_plan.proofs.Grown.{grown_is_kept, kept_are_no_more}
 use Rattle.climb_plan.proofs.Leaves.{tiled-leaves}
 use Rattle.climb_plan.proofs.ThroughClimb.{SomeLevel, ClimbsFrom, IsTooHigh}
-use Rattle.climb_plan.proofs.Untouched.{levels_above, height_by, root_on_top}
+use Rattle.climb_plan.proofs.Untouched.{levels_above, height_by}
 
 -- ---- tables with the same pids
 

@@ -7,13 +7,13 @@ use Rattle.keys.specs.declared.settings.Settings.{Settings}
 use Rattle.index_page.specs.Page.{Page, PageOfKind}
 use Rattle.index_page.specs.Page.PageOfKind.{Index}
 use Rattle.index_page.proofs.ListLaws.{all_apart}
-use Rattle.mapping.specs.FreshPids.{is_among}
+use Rattle.mapping.specs.FreshPids.{is_among, IsNeverUnused}
 use Rattle.mapping.specs.Levels.{Placed, pids, all_pids}
 use Rattle.mapping.specs.Proper.{Distinct, AreRisingPids}
 use Rattle.mapping.specs.Table.{Mapping, pids_in_use, place_of, with_rooms, fresh_pids, freed_all, IsOldWithoutPlace}
 use Rattle.mapping.specs.TreeInMemory.{TreeInMemory}
 use Rattle.mapping.proofs.LevelLaws.{pids-append}
-use Rattle.mapping.proofs.PidLaws.{IsNeverUnused, all_among}
+use Rattle.mapping.proofs.PidLaws.{all_among}
 use Rattle.page_runs.specs.TermWork.{IndexWorked}
 use Rattle.page_runs.specs.Worked.{Worked}
 use Rattle.split_plan.proofs.PidLaws.{distinct_renewed}

@@ -9,12 +9,12 @@ use Rattle.keys.specs.declared.settings.Settings.{Settings}
 use Rattle.index_page.specs.Page.{Page, PageOfKind}
 use Rattle.index_page.proofs.ListLaws.{all-append, all_apart}
 use Rattle.mapping.specs.Levels.{Placed, joined, pids}
-use Rattle.mapping.specs.FreshPids.{is_among, unused}
+use Rattle.mapping.specs.FreshPids.{is_among, unused, IsNeverUnused}
 use Rattle.mapping.specs.Outdate.{outdate_all}
 use Rattle.mapping.specs.Proper.{Distinct, AreRisingPids}
 use Rattle.mapping.specs.Table.{Mapping, pids_in_use, place_of, page_of}
 use Rattle.mapping.proofs.LevelLaws.{pids-append, same_pids}
-use Rattle.mapping.proofs.PidLaws.{IsNeverUnused, among_apart}
+use Rattle.mapping.proofs.PidLaws.{among_apart}
 use Rattle.page_runs.specs.Worked.{Worked, is_fat}
 use Rattle.split_plan.specs.Cut.{cut}
 use Rattle.split_plan.specs.WorkedLevel.{placed_of}

@@ -1,22 +1,23 @@
 -- A level of a climb once the levels above it have climbed: its pages can come home, its groups can be replaced, and then it has climbed.
-use Rattle.std.specs.Prelude.{◌≡◌, ◌≢◌, ℕ, ◌+◌, Bool, true, false, ◌||◌, nat_eq, List, [], ◌∷◌, ◌++◌, map, flat_map, length, Option, Some, None, IsSome}
+use Rattle.std.specs.Prelude.{◌≡◌, ◌≢◌, ℕ, ◌+◌, true, false, nat_eq, List, [], ◌∷◌, ◌++◌, map, flat_map, length, Option, Some, None, IsSome}
 use Rattle.std.proofs.Common.{refl, sym, ap, ◌∙◌, subst, arith}
 use Rattle.std.specs.List.{filter, AllByRecursion, range_with_len}
 use Rattle.std.proofs.lemmas.Bool.{or_parts, or_from, false_from_ne_true}
 use Rattle.keys.specs.Lists.{flat}
 use Rattle.keys.specs.declared.settings.Settings.{Settings}
+use Rattle.keys.proofs.Basics.{or_turned}
 use Rattle.index_page.specs.Page.{Page, PageOfKind}
 use Rattle.index_page.specs.Page.PageOfKind.{Index}
 use Rattle.index_page.proofs.ListLaws.{all_apart}
 use Rattle.mapping.specs.Levels.{Placed, pids, all_pids}
-use Rattle.mapping.specs.FreshPids.{is_among, unused}
+use Rattle.mapping.specs.FreshPids.{is_among, unused, IsNeverUnused}
 use Rattle.mapping.specs.Outdate.{outdate_all}
 use Rattle.mapping.specs.Proper.{Distinct, AreRisingPids}
 use Rattle.mapping.specs.Table.{Mapping, pids_in_use, place_of, page_of, with_rooms, fresh_pids}
 use Rattle.mapping.specs.Table as table
 use Rattle.mapping.specs.Tree.{Logged}
 use Rattle.mapping.specs.TreeInMemory.{TreeInMemory}
-use Rattle.mapping.proofs.PidLaws.{IsNeverUnused, all_among, among_left}
+use Rattle.mapping.proofs.PidLaws.{all_among, among_left}
 use Rattle.page_runs.specs.Worked.{Worked}
 use Rattle.split_plan.specs.Change.{Change, is_rewritten, changes, family_changes, fresh_of, all_new, all_fresh, all_outdated}
 use Rattle.split_plan.specs.WorkedLevel.{placed_of}
@@ -111,12 +112,6 @@ all_each P Q (n ∷ ns) f h = (f n h.0, all_each P Q ns f h.1)
 by_pid : (P : ℕ → Type 0) (ps : List (Placed ℕ)) → AllByRecursion P (pids ps) → AllByRecursion (λ p. P p.pid) ps
 by_pid P [] h = tt
 by_pid P (p ∷ ps) h = (h.0, by_pid P ps h.1)
-
-pub or_swapped : (a b : Bool) → (a || b) ≡ (b || a)
-or_swapped true true = refl
-or_swapped true false = refl
-or_swapped false true = refl
-or_swapped false false = refl
 
 module _ {V : Type 0} where
   to_parents : (P : ℕ → Type 0) (chs : List (Changing V)) → AllByRecursion (λ p. P p.pid) (parents_of chs) → AllByRecursion P (parent_pids chs)
@@ -293,7 +288,7 @@ module _ {V : Type 0} (s : Settings) (of : Page V → PageOfKind) (t : TreeInMem
         groups_outdated
         ∙ ap (λ (ls : List (ℕ × Logged)). outdate_all rewritten ls) (logged-all_come_home above.table xs ∙ ap (λ (ns : List ℕ). outdate_all ns above.table.logged) (sym (seen_replaced of t.table h.seen)))
         ∙ outdate-joined rewritten replaced above.table.logged
-        ∙ outdate-same (rewritten ++ replaced) (all_outdated all_here) above.table.logged (λ n. among-joined n rewritten replaced ∙ or_swapped (is_among n rewritten) (is_among n replaced) ∙ sym (outdated-level s used i ps ws n joined_here))
+        ∙ outdate-same (rewritten ++ replaced) (all_outdated all_here) above.table.logged (λ n. among-joined n rewritten replaced ∙ or_turned (is_among n rewritten) (is_among n replaced) ∙ sym (outdated-level s used i ps ws n joined_here))
 
     after_level : HasLevel of above.table table_after ws (all_new all_here) (all_fresh all_here)
     after_level =

@@ -4,16 +4,17 @@ use Rattle.std.proofs.Common.{sym, ap, ◌∙◌, subst, arith, append-nil}
 use Rattle.std.specs.List.{filter, AllByRecursion, range_with_len}
 use Rattle.keys.specs.Lists.{flat}
 use Rattle.keys.specs.declared.settings.Settings.{Settings}
+use Rattle.keys.proofs.Basics.{or_turned}
 use Rattle.index_page.specs.Page.{Page, PageOfKind}
 use Rattle.index_page.proofs.ListLaws.{all_apart}
 use Rattle.mapping.specs.Levels.{Placed, pids}
-use Rattle.mapping.specs.FreshPids.{is_among}
+use Rattle.mapping.specs.FreshPids.{is_among, IsNeverUnused}
 use Rattle.mapping.specs.Outdate.{outdate_all}
 use Rattle.mapping.specs.Proper.{Distinct, AreRisingPids}
 use Rattle.mapping.specs.Table.{Mapping, pids_in_use, place_of, page_of, with_rooms, fresh_pids}
 use Rattle.mapping.specs.Tree.{Logged}
 use Rattle.mapping.specs.TreeInMemory.{TreeInMemory}
-use Rattle.mapping.proofs.PidLaws.{IsNeverUnused, all_among}
+use Rattle.mapping.proofs.PidLaws.{all_among}
 use Rattle.page_runs.specs.Worked.{Worked}
 use Rattle.split_plan.specs.Change.{Change, is_rewritten, changes, fresh_of, all_new, all_fresh, all_outdated}
 use Rattle.split_plan.specs.WorkedLevel.{placed_of}
@@ -36,7 +37,7 @@ use Rattle.climb_plan.proofs.InstalledPages.{AreFreshFor, at_among}
 use Rattle.climb_plan.proofs.Installing.{distinct_first}
 use Rattle.climb_plan.proofs.InstallingLaws.{others-all_come_home, rising-all_come_home, logged-all_come_home}
 use Rattle.climb_plan.proofs.ThroughGroups.{fresh_numbers, groups_can_be_installed, groups_installed, groups_rising, groups_logged}
-use Rattle.climb_plan.proofs.ThroughLevel.{seen_pids, seen_distinct, seen_away, not_seen, home_back, pages_home, never_given, all_each, or_swapped}
+use Rattle.climb_plan.proofs.ThroughLevel.{seen_pids, seen_distinct, seen_away, not_seen, home_back, pages_home, never_given, all_each}
 use Rattle.climb_plan.proofs.Installed.{IsInstalled, worked_pids, replaced_among}
 
 module _ {V : Type 0} (s : Settings) (of : Page V → PageOfKind) (t u : TreeInMemory) (xs : List SeenPage) (ws : List (Worked V)) (used : List ℕ) (i : ℕ) (h : IsLevel of t xs ws [] used i)
@@ -169,7 +170,7 @@ module _ {V : Type 0} (s : Settings) (of : Page V → PageOfKind) (t u : TreeInM
       groups_logged s used of top_home i (ws ∷ []) home_rising group_never group_distinct
       ∙ ap (λ (ls : List (ℕ × Logged)). outdate_all rewritten ls) (logged-all_come_home u.table xs ∙ ap (λ (ns : List ℕ). outdate_all ns u.table.logged) (sym (seen_replaced of t.table h.seen)))
       ∙ outdate-joined rewritten replaced u.table.logged
-      ∙ outdate-same (rewritten ++ replaced) (all_outdated all_here) u.table.logged (λ n. among-joined n rewritten replaced ∙ or_swapped (is_among n rewritten) (is_among n replaced) ∙ sym (outdated-top s used i ws n))
+      ∙ outdate-same (rewritten ++ replaced) (all_outdated all_here) u.table.logged (λ n. among-joined n rewritten replaced ∙ or_turned (is_among n rewritten) (is_among n replaced) ∙ sym (outdated-top s used i ws n))
 
   after_level : HasLevel of u.table table_after ws (all_new all_here) (all_fresh all_here)
   after_level =

@@ -15,6 +15,7 @@ use Rattle.index_page.specs.Rules.{IsHeaded}
 use Rattle.mapping.specs.Tree.{Logged, Tree}
 use Rattle.mapping.specs.Levels.{Placed, Levels, entries, joined, name, index_at, levels_below, levels_of, contents, all_pages, by_pid, top_pid, pids}
 use Rattle.mapping.specs.Proper.{Stacked, IsBranchedTop, IsProper}
+use Rattle.mapping.proofs.SameTree.{root_on_top}
 use Rattle.mapping.proofs.TableOfLevels.{by_pid-unique}
 use Rattle.mapping.proofs.TileLaws.{Names}
 use Rattle.page_runs.specs.NetRun.{touched, net_run}
@@ -155,14 +156,6 @@ none_shrunk ls h =
 -- ---- the root and the height of a tree are those of its levels
 
 module _ (ps : List (ℕ × PageOfKind)) where
-  top_stays : (n : ℕ) (level : List ℕ) (u : List (Placed ℕ)) (us : List (List (Placed ℕ))) → top_pid (levels_below ps n level (u ∷ us)).level (levels_below ps n level (u ∷ us)).above ≡ top_pid u us
-  top_stays zero level u us = refl
-  top_stays (suc n) level u us = top_stays n (values_of (joined (map (index_at ps) level))) (map (index_at ps) level) (u ∷ us)
-
-  pub root_on_top : (n root : ℕ) → top_pid (levels_below ps n (root ∷ []) []).level (levels_below ps n (root ∷ []) []).above ≡ root
-  root_on_top zero root = refl
-  root_on_top (suc n) root = top_stays n (values_of (joined (map (index_at ps) (root ∷ [])))) (map (index_at ps) (root ∷ [])) []
-
   pub levels_above : (n : ℕ) (level : List ℕ) (above : List (List (Placed ℕ))) → length (levels_below ps n level above).above ≡ n + length above
   levels_above zero level above = let e : length above ≡ 0 + length above = omega arith in e
   levels_above (suc n) level above =

@@ -1,12 +1,12 @@
 -- A level in the course of a climb: its pages as code has them, of either kind, and as the plan has them.
-use Rattle.std.specs.Prelude.{◌≡◌, ◌≢◌, ℕ, ◌+◌, List, [], ◌∷◌, map, drop, length, Some, None}
+use Rattle.std.specs.Prelude.{◌≡◌, ℕ, ◌+◌, List, [], ◌∷◌, map, drop, length, Some, None}
 use Rattle.std.specs.List.{filter, AllByRecursion}
 use Rattle.keys.specs.Order.{IsRising}
 use Rattle.keys.specs.declared.settings.Settings.{Settings}
 use Rattle.index_page.specs.Page.{Page, PageOfKind, low_of}
 use Rattle.index_page.specs.Page.PageOfKind.{Index}
 use Rattle.mapping.specs.Levels.{Placed, pids, all_pids, top_pid}
-use Rattle.mapping.specs.FreshPids.{unused}
+use Rattle.mapping.specs.FreshPids.{unused, IsNeverUnused}
 use Rattle.mapping.specs.Proper.{next_low, Tiled, Stacked, Distinct, AreRisingPids}
 use Rattle.mapping.specs.Table.{Mapping, pids_in_use, with_rooms, fresh_pids, IsOldWithoutPlace}
 use Rattle.mapping.specs.TreeInMemory.{TreeInMemory}
@@ -45,10 +45,6 @@ abbrev pub group_counts : {V : Type 0} → List (Changing V) → List (ℕ × �
 group_counts chs = map (λ c. (c.parent.pid, length c.groups)) chs
 
 -- ---- levels
-
--- a number that is at no place of those that are not in use
-abbrev pub IsNeverUnused : List ℕ → ℕ → Type 0
-IsNeverUnused used n = (m : ℕ) → n ≢ unused used m
 
 -- a level of pages after their runs, of which those that were seen are away, and the levels above it, in a tree in which i
 -- numbers were given out before

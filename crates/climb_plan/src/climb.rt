@@ -7,6 +7,7 @@ ghost use Rattle.index_page.specs.Page.PageOfKind.{Leaf, Index};
 ghost use Rattle.keys.specs.declared.command.Command.{Command};
 ghost use Rattle.mapping.specs.Levels.{Placed};
 ghost use Rattle.mapping.specs.Tree as definitions;
+ghost use Rattle.mapping.specs.Tree.{most_levels};
 ghost use Rattle.mapping.specs.TreeInMemory.{AreAllHome, tree_of};
 ghost use Rattle.page_runs.specs.Worked.{Worked};
 ghost use Rattle.climb_plan.specs.Changing.{shown};
@@ -42,15 +43,15 @@ pub fn climb(
 ) -> Result<(), (Refused, Vec<LeafDone>)>
     requires fan { 1 < settings.now.fan }
     requires ready { (t : definitions.Tree) × (cs : List (Command Global)) × IsReady settings.now t cs tree.old (map (λ d. shown Leaf d.made.worked) leaves.items) }
-    requires height { tree.old.height ≤ 64 }
+    requires height { tree.old.height ≤ most_levels }
     ensures planned { OnOk result ((t : definitions.Tree) (cs : List (Command Global)) → IsReady settings.now t cs tree.old (map (λ d. shown Leaf d.made.worked) leaves.items) →
         AreAllHome tree.new × (tree_of tree.new ≡ planned_tree settings.now t cs)) }
-    ensures low { OnOk result (tree.new.height ≤ 64) }
+    ensures low { OnOk result (tree.new.height ≤ most_levels) }
     ensures back { IfErr result (λ e. e.1.items ≡ leaves.items) }
     ensures err { OnErr result (tree.new ≡ tree.old) }
     ensures high { IfErr result (λ e. (t : definitions.Tree) (cs : List (Command Global)) →
         IsReady settings.now t cs tree.old (map (λ d. shown Leaf d.made.worked) leaves.items) → e.0 ≡ Refused.TooHigh →
-        64 < (planned_tree settings.now t cs).height) }
+        most_levels < (planned_tree settings.now t cs).height) }
 {
     let depth = tree.height() - 1;
     climb_leaves(alloc, settings, tree, depth, leaves)?;
@@ -70,15 +71,16 @@ fn climb_leaves(
     requires fan { 1 < settings.now.fan }
     requires level { (ws : List (Worked (List ℕ))) × (ups : List (List (Placed ℕ))) × (used : List ℕ) × (i : ℕ)
         × IsLevel Leaf tree.old (map (λ d. shown Leaf d.made.worked) dones.items) ws ups used i × (depth ≡ length ups) }
-    requires height { tree.old.height ≤ 64 }
+    requires height { tree.old.height ≤ most_levels }
     ensures climbed { OnOk result ((ws : List (Worked (List ℕ))) (ups : List (List (Placed ℕ))) (used : List ℕ) (i : ℕ) →
         IsLevel Leaf tree.old (map (λ d. shown Leaf d.made.worked) dones.items) ws ups used i → depth ≡ length ups → HasClimbed Leaf tree.old tree.new ws ups (climb settings.now used i ws ups)) }
-    ensures low { OnOk result (tree.new.height ≤ 64) }
+    ensures low { OnOk result (tree.new.height ≤ most_levels) }
     ensures back { IfErr result (λ e. e.1.items ≡ dones.items) }
     ensures err { OnErr result (tree.new ≡ tree.old) }
     ensures high { IfErr result (λ e. (ws : List (Worked (List ℕ))) (ups : List (List (Placed ℕ))) (used : List ℕ) (i : ℕ) →
         IsLevel Leaf tree.old (map (λ d. shown Leaf d.made.worked) dones.items) ws ups used i → depth ≡ length ups → e.0 ≡ Refused.TooHigh →
-        64 + length ups < tree.old.height + length (climb settings.now used i ws ups).tower.above) }
+        most_levels + length ups
+        < tree.old.height + length (climb settings.now used i ws ups).tower.above) }
 {
     if dones.is_empty() {
         return Ok(());
@@ -119,15 +121,16 @@ fn climb_parents(
     requires fan { 1 < settings.now.fan }
     requires level { (ws : List (Worked ℕ)) × (ups : List (List (Placed ℕ))) × (used : List ℕ) × (i : ℕ)
         × IsLevel Index tree.old (map (λ d. shown Index d.made) dones.items) ws ups used i × (depth ≡ length ups) }
-    requires height { tree.old.height ≤ 64 }
+    requires height { tree.old.height ≤ most_levels }
     ensures climbed { OnOk result ((ws : List (Worked ℕ)) (ups : List (List (Placed ℕ))) (used : List ℕ) (i : ℕ) →
         IsLevel Index tree.old (map (λ d. shown Index d.made) dones.items) ws ups used i → depth ≡ length ups → HasClimbed Index tree.old tree.new ws ups (climb settings.now used i ws ups)) }
-    ensures low { OnOk result (tree.new.height ≤ 64) }
+    ensures low { OnOk result (tree.new.height ≤ most_levels) }
     ensures back { IfErr result (λ e. e.1.items ≡ dones.items) }
     ensures err { OnErr result (tree.new ≡ tree.old) }
     ensures high { IfErr result (λ e. (ws : List (Worked ℕ)) (ups : List (List (Placed ℕ))) (used : List ℕ) (i : ℕ) →
         IsLevel Index tree.old (map (λ d. shown Index d.made) dones.items) ws ups used i → depth ≡ length ups → e.0 ≡ Refused.TooHigh →
-        64 + length ups < tree.old.height + length (climb settings.now used i ws ups).tower.above) }
+        most_levels + length ups
+        < tree.old.height + length (climb settings.now used i ws ups).tower.above) }
 {
     if dones.is_empty() {
         return Ok(());

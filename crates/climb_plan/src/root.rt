@@ -5,6 +5,7 @@ ghost use Rattle.mapping.specs.Levels.{Placed, names, top_pid};
 ghost use Rattle.mapping.specs.FreshPids.{unused};
 ghost use Rattle.mapping.specs.Proper.{AreRisingPids};
 ghost use Rattle.mapping.specs.Table.{pids_in_use, fresh_pids, IsOldWithoutPlace};
+ghost use Rattle.mapping.specs.Tree.{most_levels};
 ghost use Rattle.climb_plan.specs.Climb.{grown};
 ghost use Rattle.climb_plan.specs.Rewriting.{named_pages};
 ghost use Rattle.climb_plan.specs.Installing.{AreDrawn, AreGrown};
@@ -39,13 +40,14 @@ pub(crate) fn grow(
     requires named { IsRising below.now }
     requires rising { AreRisingPids (pids_in_use tree.old.table) }
     requires logs { IsOldWithoutPlace tree.old.table }
-    requires height { height ≤ 64 }
+    requires height { height ≤ most_levels }
     ensures grown { (used : List ℕ) (i : ℕ) (ps : List (Placed ℕ)) → ((m : ℕ) → unused (pids_in_use tree.old.table) m ≡ unused used (i + m)) → names ps ≡ below.now →
         IfOk result (λ top. (top.0 ≡ top_pid ps (grown (length ps) settings.now used i ps)) × (top.1 ≡ height + length (grown (length ps) settings.now used i ps))
         × AreGrown tree.old tree.new (grown (length ps) settings.now used i ps)) }
-    ensures low { IfOk result (λ top. top.1 ≤ 64) }
+    ensures low { IfOk result (λ top. top.1 ≤ most_levels) }
     ensures high { (used : List ℕ) (i : ℕ) (ps : List (Placed ℕ)) → ((m : ℕ) → unused (pids_in_use tree.old.table) m ≡ unused used (i + m)) → names ps ≡ below.now →
-        result ≡ Err TooHigh → 64 < height + length (grown (length ps) settings.now used i ps) }
+        result ≡ Err TooHigh →
+        most_levels < height + length (grown (length ps) settings.now used i ps) }
     ensures err { OnErr result (tree.new ≡ tree.old) }
 {
     if below.len() == 1 {

@@ -6,6 +6,7 @@ ghost use Rattle.mapping.specs.FreshPids.{unused};
 ghost use Rattle.mapping.specs.Levels.{Placed, names, top_pid};
 ghost use Rattle.mapping.specs.Proper.{AreRisingPids};
 ghost use Rattle.mapping.specs.Table.{pids_in_use, IsOldWithoutPlace};
+ghost use Rattle.mapping.specs.Tree.{most_levels};
 ghost use Rattle.page_runs.specs.Worked.{Worked};
 ghost use Rattle.climb_plan.specs.Climb.{climb, grown};
 ghost use Rattle.climb_plan.specs.HasClimbed.{HasClimbed};
@@ -36,14 +37,14 @@ pub(crate) fn climb_root<D: Revised>(
     requires fan { 1 < settings.now.fan }
     requires some { 0 < length dones.items }
     requires level { (ws : List (Worked D.Cells)) × (used : List ℕ) × (i : ℕ) × IsLevel D.of tree.old (map D.seen dones.items) ws [] used i }
-    requires height { tree.old.height ≤ 64 }
+    requires height { tree.old.height ≤ most_levels }
     ensures climbed { OnOk result ((ws : List (Worked D.Cells)) (used : List ℕ) (i : ℕ) → IsLevel D.of tree.old (map D.seen dones.items) ws [] used i →
         HasClimbed D.of tree.old tree.new ws [] (climb settings.now used i ws [])) }
-    ensures low { OnOk result (tree.new.height ≤ 64) }
+    ensures low { OnOk result (tree.new.height ≤ most_levels) }
     ensures back { IfErr result (λ e. e.1.items ≡ dones.items) }
     ensures err { OnErr result (tree.new ≡ tree.old) }
     ensures high { IfErr result (λ e. (ws : List (Worked D.Cells)) (used : List ℕ) (i : ℕ) → IsLevel D.of tree.old (map D.seen dones.items) ws [] used i → e.0 ≡ Refused.TooHigh →
-        64 < tree.old.height + length (climb settings.now used i ws []).tower.above) }
+        most_levels < tree.old.height + length (climb settings.now used i ws []).tower.above) }
 {
     match change_root(alloc, settings, tree, &dones) {
         Ok((groups, root, height)) => {
@@ -67,13 +68,13 @@ fn change_root<D: Revised>(
     requires fan { 1 < settings.now.fan }
     requires some { 0 < length dones.now }
     requires level { (ws : List (Worked D.Cells)) × (used : List ℕ) × (i : ℕ) × IsLevel D.of tree.old (map D.seen dones.now) ws [] used i }
-    requires height { tree.old.height ≤ 64 }
+    requires height { tree.old.height ≤ most_levels }
     ensures changed { IfOk result (λ r. (ws : List (Worked D.Cells)) (used : List ℕ) (i : ℕ) → IsLevel D.of tree.old (map D.seen dones.now) ws [] used i →
         IsTopChanged settings.now D.of tree.old tree.new ws used i r.0.items r.1 r.2) }
-    ensures low { IfOk result (λ r. r.2 ≤ 64) }
+    ensures low { IfOk result (λ r. r.2 ≤ most_levels) }
     ensures err { OnErr result (tree.new ≡ tree.old) }
     ensures high { IfErr result (λ e. (ws : List (Worked D.Cells)) (used : List ℕ) (i : ℕ) → IsLevel D.of tree.old (map D.seen dones.now) ws [] used i → e ≡ Refused.TooHigh →
-        64 < tree.old.height + length (climb settings.now used i ws []).tower.above) }
+        most_levels < tree.old.height + length (climb settings.now used i ws []).tower.above) }
 {
     D::is_of_a_kind();
     let mut groups = cut_root(alloc, settings, dones)?;
@@ -118,13 +119,14 @@ fn grow_above(
     requires named { IsRising (top_names tree.old.root groups.now) }
     requires rising { AreRisingPids (pids_in_use tree.old.table) }
     requires logs { IsOldWithoutPlace tree.old.table }
-    requires height { tree.old.height ≤ 64 }
+    requires height { tree.old.height ≤ most_levels }
     ensures grown { (used : List ℕ) (i : ℕ) (ps : List (Placed ℕ)) → ((m : ℕ) → unused (pids_in_use tree.old.table) m ≡ unused used (i + m)) → names ps ≡ top_names tree.old.root groups.now →
         IfOk result (λ top. (top.0 ≡ top_pid ps (grown (length ps) settings.now used i ps)) × (top.1 ≡ tree.old.height + length (grown (length ps) settings.now used i ps))
         × AreGrown tree.old tree.new (grown (length ps) settings.now used i ps)) }
-    ensures low { IfOk result (λ top. top.1 ≤ 64) }
+    ensures low { IfOk result (λ top. top.1 ≤ most_levels) }
     ensures high { (used : List ℕ) (i : ℕ) (ps : List (Placed ℕ)) → ((m : ℕ) → unused (pids_in_use tree.old.table) m ≡ unused used (i + m)) → names ps ≡ top_names tree.old.root groups.now →
-        result ≡ Err TooHigh → 64 < tree.old.height + length (grown (length ps) settings.now used i ps) }
+        result ≡ Err TooHigh →
+        most_levels < tree.old.height + length (grown (length ps) settings.now used i ps) }
     ensures err { OnErr result (tree.new ≡ tree.old) }
 {
     let root = tree.root();

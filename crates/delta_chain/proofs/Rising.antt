@@ -1,18 +1,14 @@
 -- Lemmas on lists of entries that rise, for the proofs of this crate and of those above it.
 use Rattle.std.specs.Prelude.{◌≡◌, ℕ, zero, suc, ◌+◌, true, List, [], ◌∷◌, ◌++◌, length, drop, slice_get, Some}
-use Rattle.std.proofs.Common.{refl, ap, arith, Ordering, Less, Equal, Greater, ◌-◌}
+use Rattle.std.proofs.Common.{refl, ap, arith, Less, ◌-◌}
 use Rattle.std.specs.Ordering.{is_lt}
 use Rattle.std.specs.List.Sorted.{IsStrictlySortedBy}
 use Rattle.std.specs.Map.{keys_of}
 use Rattle.keys.specs.Order.{order, IsRising}
+use Rattle.keys.proofs.Basics.{less_by}
 use Rattle.keys.proofs.MapLaws.{IsBelowAll, total}
 use Rattle.delta_chain.specs.Building.{goes_last}
 use Rattle.delta_chain.proofs.Places.{front_under}
-
-less_by : (o : Ordering) → is_lt o ≡ true → o ≡ Less
-less_by Less h = refl
-less_by Equal h = absurd (cc)
-less_by Greater h = absurd (cc)
 
 module _ {V : Type 0} where
   -- a key above the last one is above the first

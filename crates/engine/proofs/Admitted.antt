@@ -15,11 +15,11 @@ pub passed_by : {U : Type 0} (o : Option Fault) (r : Result U Fault) (u v : U) �
 passed_by None r u v h e = refl
 passed_by (Some fault) r u v h e = absurd (cc)
 
-neither : {X : Type 0} (o p : Option X) → option_or o p ≡ None → (o ≡ None) × (p ≡ None)
+pub neither : {X : Type 0} (o p : Option X) → option_or o p ≡ None → (o ≡ None) × (p ≡ None)
 neither None p e = (refl, e)
 neither (Some x) p e = absurd (cc)
 
-none_where : (b : Bool) (fault : Fault) → (if b then Some fault else None) ≡ None → b ≡ false
+pub none_where : (b : Bool) (fault : Fault) → (if b then Some fault else None) ≡ None → b ≡ false
 none_where true fault e = absurd (cc)
 none_where false fault e = refl
 

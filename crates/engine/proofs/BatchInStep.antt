@@ -1,11 +1,8 @@
 -- A batch leaves a store in step with its disk.
-use Rattle.std.specs.Prelude.{◌≡◌, ◌↔◌, ℕ, Bool, true, false, nat_lt, List, Option, Some, None, if◌then◌else◌}
-use Rattle.std.proofs.Common.{refl}
-use Rattle.std.specs.Option.{option_or}
+use Rattle.std.specs.Prelude.{◌≡◌, ◌↔◌, ℕ, nat_lt, List, Some}
 use Rattle.std.proofs.lemmas.Bool.{ltb-false}
 use Rattle.keys.specs.Step.{map_after_all}
 use Rattle.keys.specs.declared.command.Command.{Command}
-use Rattle.keys.specs.declared.fault.Fault.{Fault}
 use Rattle.keys.specs.declared.settings.Settings.{Settings}
 use Rattle.index_page.specs.Over.{IsPageOver}
 use Rattle.index_page.specs.Page.{PageOfKind}
@@ -21,15 +18,8 @@ use Rattle.cleaner.specs.Steps.{KeepsStores}
 use Rattle.engine.specs.Batch.{height_fault}
 use Rattle.engine.specs.Refusal.{refusal}
 use Rattle.engine.specs.Steps.{batching}
-use Rattle.engine.proofs.Admitted.{admitted}
+use Rattle.engine.proofs.Admitted.{neither, none_where, admitted}
 
-neither : {X : Type 0} (o p : Option X) → option_or o p ≡ None → (o ≡ None) × (p ≡ None)
-neither None p e = (refl, e)
-neither (Some x) p e = absurd (cc)
-
-none_where : (b : Bool) (fault : Fault) → (if b then Some fault else None) ≡ None → b ≡ false
-none_where true fault e = absurd (cc)
-none_where false fault e = refl
 
 -- by the laws of the plan: what a page has in the log
 abbrev pub KeepsPages : {A : Type 0} → Settings → Tree → List (Command A) → Type 0

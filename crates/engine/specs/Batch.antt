@@ -5,15 +5,15 @@ use Rattle.keys.specs.declared.settings.Settings.{Settings}
 use Rattle.keys.specs.declared.command.Command.{Command}
 use Rattle.keys.specs.declared.fault.Fault.{Fault}
 use Rattle.keys.specs.declared.fault.Fault.TheVariants.{NoMemory, Spent}
-use Rattle.mapping.specs.Tree.{Tree}
+use Rattle.mapping.specs.Tree.{Tree, most_levels}
 use Rattle.climb_plan.specs.declared.refused.Refused.{Refused}
 use Rattle.climb_plan.specs.declared.refused.Refused.TheVariants as refusals
 use Rattle.climb_plan.specs.Plan.{planned_tree}
 use Rattle.engine.specs.Refusal.{refusal}
 
--- for want of memory, or since the planned tree would have more than 64 levels
+-- for want of memory, or since the planned tree would have more levels than a tree may have
 abbrev pub IsLaterFault : {A : Type 0} → Settings → Tree → List (Command A) → Fault → Type 0
-IsLaterFault s t cs fault = (fault ≡ NoMemory) ⊎ ((fault ≡ Spent) × (64 < (planned_tree s t cs).height))
+IsLaterFault s t cs fault = (fault ≡ NoMemory) ⊎ ((fault ≡ Spent) × (most_levels < (planned_tree s t cs).height))
 
 -- the fault of a climb that is refused
 abbrev pub fault_by : Refused → Fault
@@ -22,8 +22,8 @@ fault_by refusals.TooHigh = Spent
 
 -- what is wrong with a tree of so many levels
 abbrev pub height_fault : ℕ → Option Fault
-height_fault height = if nat_lt 64 height then Some Spent else None
+height_fault height = if nat_lt most_levels height then Some Spent else None
 
--- why a batch is refused but for want of memory: its own fault, or else that the planned tree would have more than 64 levels
+-- why a batch is refused but for want of memory: its own fault, or else that the planned tree would have too many levels
 abbrev pub refusal_by : {A : Type 0} → Settings → Tree → List (Command A) → Option Fault
 refusal_by s t cs = option_or (refusal s cs) (height_fault (planned_tree s t cs).height)

@@ -33,6 +33,10 @@ abbrev pub first_fault : {A : Type 0} → Settings → ℕ → List (Command A) 
 first_fault s place [] = None
 first_fault s place (c ∷ cs) = option_or (fault_at s place c) (first_fault s (place + 1) cs)
 
--- why a batch is refused: it has more than 65,535 commands, or else its first fault
+-- how many commands a batch may have at most
+abbrev pub longest_batch : ℕ
+longest_batch = 65535
+
+-- why a batch is refused: it has too many commands, or else its first fault
 abbrev pub refusal : {A : Type 0} → Settings → List (Command A) → Option Fault
-refusal s cs = if nat_lt 65535 (length cs) then Some BatchTooLong else first_fault s 0 cs
+refusal s cs = if nat_lt longest_batch (length cs) then Some BatchTooLong else first_fault s 0 cs

@@ -7,6 +7,7 @@ ghost use Rattle.keys.specs.Step.{replies_to, map_after_all};
 ghost use Rattle.mapping.specs.Levels.{contents, levels_of};
 ghost use Rattle.mapping.specs.Proper.{AreLevels, HoldsLevels};
 ghost use Rattle.mapping.specs.Tree as definitions;
+ghost use Rattle.mapping.specs.Tree.{most_levels};
 ghost use Rattle.mapping.specs.TreeInMemory.{AreAllHome, tree_of};
 ghost use Rattle.replies.specs.ByPlace.{AreAnswers, reply_at};
 ghost use Rattle.climb_plan.specs.Changing.{shown};
@@ -62,7 +63,7 @@ fn routes_to_leaves(
     commands: &[Command<Global>],
 ) -> Result<Vec<PageRun>, Fault>
     requires home { AreAllHome tree.now }
-    requires height { tree.now.height ≤ 64 }
+    requires height { tree.now.height ≤ most_levels }
     requires held { HoldsLevels (tree_of tree.now).pages (levels_of (tree_of tree.now)) }
     requires levels { AreLevels (levels_of (tree_of tree.now)) }
     ensures ok { IfOk result (λ runs. AreRoutesFor (tree_of tree.now) commands.now runs.items) }
@@ -116,11 +117,11 @@ fn finish(
     requires fan { 1 < settings.now.fan }
     requires answered { AreAnswers commands.now (answers (map (λ d. d.made) leaves.items)) }
     requires ready { (t : definitions.Tree) × (cs : List (Command Global)) × IsReady settings.now t cs tree.old (map (λ d. shown Leaf d.made.worked) leaves.items) }
-    requires height { tree.old.height ≤ 64 }
+    requires height { tree.old.height ≤ most_levels }
     ensures replies { IfOk result (λ replies. (place : ℕ) → slice_get replies.items place ≡ reply_at commands.now (answers (map (λ d. d.made) leaves.items)) place) }
     ensures planned { OnOk result ((t : definitions.Tree) (cs : List (Command Global)) → IsReady settings.now t cs tree.old (map (λ d. shown Leaf d.made.worked) leaves.items) →
         AreAllHome tree.new × (tree_of tree.new ≡ planned_tree settings.now t cs)) }
-    ensures low { OnOk result (tree.new.height ≤ 64) }
+    ensures low { OnOk result (tree.new.height ≤ most_levels) }
     ensures back { IfErr result (λ e. map (λ d. d.held) e.1.items ≡ map (λ d. d.held) leaves.items) }
     ensures err { OnErr result (tree.new ≡ tree.old) }
     ensures fault { IfErr result (λ e. (t : definitions.Tree) (cs : List (Command Global)) →

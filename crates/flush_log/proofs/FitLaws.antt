@@ -5,7 +5,8 @@ use Rattle.std.proofs.Common.{arith, leb-true}
 use Rattle.std.proofs.Math.Nat.{le-max_left, le-max_right, mul-le-mul_right}
 use Rattle.std.proofs.lemmas.Bool.{and_parts}
 use Rattle.std.proofs.lemmas.List.Sums.{sum_by-cons}
-use Rattle.keys.specs.Limits.{longest_frame, first_bad_field}
+use Rattle.keys.specs.Limits.{longest_change, longest_frame, first_bad_field}
+use Rattle.keys.specs.Sizes.{length_size, pid_size, segment_header_size, full_header_size, pair_header_size, child_header_size, change_header_size}
 use Rattle.keys.specs.declared.settings.Settings.{Settings}
 use Rattle.keys.proofs.LimitLaws.{checked}
 use Rattle.index_page.specs.Rules.{is_short_value, of_cell}
@@ -51,40 +52,40 @@ module _ {X : Type 0} (s : Settings) (is_short : X → Bool) (size : List ℕ ×
       omega arith
 
 module _ (s : Settings) where
-  short_value : (v : List ℕ) → is_short_value s v ≡ true → 2 + length v ≤ max (2 + s.max_value) 8
-  short_value v h = let short = leb-true (length v) s.max_value h in let most = le-max_left (2 + s.max_value) 8 in omega arith
+  short_value : (v : List ℕ) → is_short_value s v ≡ true → length_size + length v ≤ max (length_size + s.max_value) pid_size
+  short_value v h = let short = leb-true (length v) s.max_value h in let most = le-max_left (length_size + s.max_value) pid_size in omega arith
 
-  flagged_value : (o : Option (List ℕ)) → of_cell (is_short_value s) o ≡ true → where_present (λ v. 2 + length v) o ≤ max (2 + s.max_value) 8
+  flagged_value : (o : Option (List ℕ)) → of_cell (is_short_value s) o ≡ true → where_present (λ v. length_size + length v) o ≤ max (length_size + s.max_value) pid_size
   flagged_value None h = omega arith
   flagged_value (Some v) h = short_value v h
 
-  flagged_pid : (o : Option ℕ) → where_present (λ p. 8) o ≤ max (2 + s.max_value) 8
+  flagged_pid : (o : Option ℕ) → where_present (λ p. pid_size) o ≤ max (length_size + s.max_value) pid_size
   flagged_pid None = omega arith
-  flagged_pid (Some p) = le-max_right (2 + s.max_value) 8
+  flagged_pid (Some p) = le-max_right (length_size + s.max_value) pid_size
 
-  content_bound : (c : Content) → is_content s c ≡ true → size_of c ≤ 17 + s.max_key + s.fan * (3 + s.max_key + max (2 + s.max_value) 8)
+  content_bound : (c : Content) → is_content s c ≡ true → size_of c ≤ full_header_size + s.max_key + s.fan * longest_change s
   content_bound (FullLeaf low base) h =
       let (key, entries) = and_parts _ _ h in
       let low_short = leb-true (length low) s.max_key key in
-      let sum = entries_bound s (is_short_value s) (λ e. 4 + length e.0 + length e.1) (3 + s.max_key + max (2 + s.max_value) 8) (λ e k v. let short = short_value e.1 v in omega arith) base entries in
+      let sum = entries_bound s (is_short_value s) (λ e. pair_header_size + length e.0 + length e.1) (longest_change s) (λ e k v. let short = short_value e.1 v in omega arith) base entries in
       omega arith
   content_bound (DeltaLeaf run) h =
       let (some, changes) = and_parts (nat_lt 0 (length run)) (are_entries s (of_cell (is_short_value s)) run) h in
-      let sum = entries_bound s (of_cell (is_short_value s)) (λ e. 3 + length e.0 + where_present (λ v. 2 + length v) e.1) (3 + s.max_key + max (2 + s.max_value) 8) (λ e k v. let short = flagged_value e.1 v in omega arith) run changes in
+      let sum = entries_bound s (of_cell (is_short_value s)) (λ e. change_header_size + length e.0 + where_present (λ v. length_size + length v) e.1) (longest_change s) (λ e k v. let short = flagged_value e.1 v in omega arith) run changes in
       omega arith
   content_bound (FullIndex low base) h =
       let (key, entries) = and_parts _ _ h in
       let low_short = leb-true (length low) s.max_key key in
-      let most = le-max_right (2 + s.max_value) 8 in
-      let sum = entries_bound s is_pid (λ e. 10 + length e.0) (3 + s.max_key + max (2 + s.max_value) 8) (λ e k v. omega arith) base entries in
+      let most = le-max_right (length_size + s.max_value) pid_size in
+      let sum = entries_bound s is_pid (λ e. child_header_size + length e.0) (longest_change s) (λ e k v. omega arith) base entries in
       omega arith
   content_bound (DeltaIndex run) h =
       let (some, changes) = and_parts (nat_lt 0 (length run)) (are_entries s (of_cell is_pid) run) h in
-      let sum = entries_bound s (of_cell is_pid) (λ e. 3 + length e.0 + where_present (λ p. 8) e.1) (3 + s.max_key + max (2 + s.max_value) 8) (λ e k v. let short = flagged_pid e.1 in omega arith) run changes in
+      let sum = entries_bound s (of_cell is_pid) (λ e. change_header_size + length e.0 + where_present (λ p. pid_size) e.1) (longest_change s) (λ e k v. let short = flagged_pid e.1 in omega arith) run changes in
       omega arith
   content_bound Free h = omega arith
 
-  pub frame_fits : (f : Frame) → first_bad_field s ≡ None → is_within s f ≡ true → 16 + length (bytes_of f) ≤ s.seg_size
+  pub frame_fits : (f : Frame) → first_bad_field s ≡ None → is_within s f ≡ true → segment_header_size + length (bytes_of f) ≤ s.seg_size
   frame_fits f good within =
       let sized = (are_sized s good).longest in
       let size = frame-size f in

@@ -10,7 +10,7 @@ use Rattle.flush_log.specs.Segments.{segment_header, place_of, segment_bytes, la
 use Rattle.flush_log.specs.Reading.{is_at_tail, read_segment, followed_by, read_earlier, read_log, log}
 use Rattle.flush_log.specs.SettingsBlock.{store_settings}
 use Rattle.flush_log.specs.Slot.{is_slot, read_slot, newer, store_slot}
-use Rattle.flush_log.specs.NewStore.{first_frame, first_slot, new_bytes, disk_of_new}
+use Rattle.flush_log.specs.NewStore.{first_frame, first_tail, first_slot, new_bytes, disk_of_new}
 use Rattle.flush_log.proofs.FitLaws.{are_sized}
 use Rattle.flush_log.proofs.LayoutLaws.{last-is}
 use Rattle.flush_log.proofs.OverlayLaws.{length-overlay}
@@ -39,14 +39,14 @@ module _ (s : Settings) (disk : List ℕ) (good : first_bad_field s ≡ None) (r
 
   -- ---- the slot
 
-  first_tail : EndsIn s 33 0 33
-  first_tail = let sized = are_sized s good in let least = sized.least_size in record { is = omega arith; low = omega arith; high = omega arith }
+  first_ends : EndsIn s first_tail 0 first_tail
+  first_ends = let sized = are_sized s good in let least = sized.least_size in record { is = omega arith; low = omega arith; high = omega arith }
 
-  first_last : last_segment s 33 ≡ 0
+  first_last : last_segment s first_tail ≡ 0
   first_last =
       let least = (are_sized s good).least_size in
-      let is : 33 ≡ 0 * s.seg_size + 33 = omega arith in
-      ap (last_segment s) is ∙ last-is s 0 33 (omega arith) (omega arith)
+      let is : first_tail ≡ 0 * s.seg_size + first_tail = omega arith in
+      ap (last_segment s) is ∙ last-is s 0 first_tail (omega arith) (omega arith)
 
   pub first_good : is_slot s 1 first_slot ≡ true
   first_good =
@@ -59,7 +59,7 @@ module _ (s : Settings) (disk : List ℕ) (good : first_bad_field s ≡ None) (r
         own = refl;
         behind = omega arith;
         tail = omega arith;
-        ends = tail_good s 33 0 33 (omega arith) first_tail;
+        ends = tail_good s first_tail 0 first_tail (omega arith) first_ends;
         last = omega arith;
         root = omega arith;
         height = (omega arith, omega arith);
@@ -79,17 +79,17 @@ module _ (s : Settings) (disk : List ℕ) (good : first_bad_field s ≡ None) (r
   first_read : read_segment s is_at_tail 0 (segment_header 0 ++ bytes_of first_frame) ≡ Ok (record { segment = 0; frame = first_frame } ∷ [])
   first_read = holds-read s is_at_tail tail-ends 0 (segment_header 0 ++ bytes_of first_frame) [] (first_frame ∷ []) (frame-holds s good 0 (segment_header 0) [] first_frame first_within (header-holds s 0)) refl
 
-  first_bytes : take 33 (segment_bytes s new 0) ≡ segment_header 0 ++ bytes_of first_frame
+  first_bytes : take first_tail (segment_bytes s new 0) ≡ segment_header 0 ++ bytes_of first_frame
   first_bytes =
       let size = (are_sized s good).least_size in
       let first : place_of s 0 ≡ 512 + 0 * s.seg_size = ap (λ (m : ℕ). 512 + m * s.seg_size) (zero-mod s.segments) in
       let place : place_of s 0 ≡ 512 = omega (arith, first) in
-      take-take 33 s.seg_size (drop (place_of s 0) new) (omega arith) ∙ ap (λ (p : ℕ). take 33 (drop p new)) place
+      take-take first_tail s.seg_size (drop (place_of s 0) new) (omega arith) ∙ ap (λ (p : ℕ). take first_tail (drop p new)) place
 
-  pub new_log : log s new 0 33 ≡ Ok (record { segment = 0; frame = first_frame } ∷ [])
+  pub new_log : log s new 0 first_tail ≡ Ok (record { segment = 0; frame = first_frame } ∷ [])
   new_log =
-      let all : 33 - 0 * s.seg_size ≡ 33 = omega arith in
-      let used : bytes_in_use s 33 ≡ 33 = ap (λ (q : ℕ). 33 - q * s.seg_size) first_last ∙ all in
+      let all : first_tail - 0 * s.seg_size ≡ first_tail = omega arith in
+      let used : bytes_in_use s first_tail ≡ first_tail = ap (λ (q : ℕ). first_tail - q * s.seg_size) first_last ∙ all in
       ap₂ (λ (q : ℕ) (u : ℕ). read_log s new 0 (q - 0) u) first_last used
       ∙ ap (λ (bs : List ℕ). followed_by (read_earlier s new 0 0) (read_segment s is_at_tail 0 bs)) first_bytes
       ∙ ap (followed_by (read_earlier s new 0 0)) first_read

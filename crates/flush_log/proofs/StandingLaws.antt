@@ -7,6 +7,7 @@ use Rattle.keys.specs.Limits.{first_bad_field}
 use Rattle.keys.specs.declared.settings.Settings.{Settings}
 use Rattle.keys.specs.declared.fault.Fault.{Fault}
 use Rattle.keys.specs.declared.fault.Fault.TheVariants.{BadSegment, BadFrame}
+use Rattle.keys.proofs.CellLaws.{bytes_behind}
 use Rattle.frame_codec.specs.Frame.{Frame, bytes_of, is_within}
 use Rattle.frame_codec.specs.Reading.{read_frame}
 use Rattle.frame_codec.proofs.ReadLaws.{frame-stands}
@@ -16,10 +17,6 @@ use Rattle.flush_log.specs.Standing.{AreFrames, IsBrokenAt, IsFirstFault}
 use Rattle.flush_log.proofs.LayoutLaws.{split-tail}
 use Rattle.flush_log.proofs.ReadBackLaws.{ok}
 use Rattle.flush_log.proofs.SegmentLaws.{header-behind, header-holds, frame-holds, holds-read, Holds}
-
-bytes_behind : (us vs : List ℕ) → AreBytes (us ++ vs) → AreBytes vs
-bytes_behind [] vs h = h
-bytes_behind (u ∷ us) vs h = bytes_behind us vs h.1
 
 -- zeros up to the end
 padding-zeros : (bs : List ℕ) → is_padding bs ≡ true → bs ≡ replicate (length bs) 0

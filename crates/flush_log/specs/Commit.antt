@@ -8,7 +8,7 @@ use Rattle.flush_log.specs.Overlay.{overlay, IsBeside, AgreeAt}
 use Rattle.flush_log.specs.Segments.{HasSegments, last_segment}
 use Rattle.flush_log.specs.Layout.{Span, tail_after, place_of_span, with_spans}
 use Rattle.flush_log.specs.Disk.{Torn}
-use Rattle.flush_log.specs.Slot.{Slot, slot_place, slot_body, slot_bytes, is_open, store_slot}
+use Rattle.flush_log.specs.Slot.{Slot, slot_size, slot_place, slot_body, slot_bytes, is_open, store_slot}
 
 -- ---- calls of a disk
 
@@ -81,7 +81,7 @@ IsBesideSpans s spans place = AllByRecursion (λ r. IsBeside (place_of_span s r)
 
 -- a place is in none of these spans, and not in slot n
 abbrev pub IsBesideSlot : Settings → ℕ → List Span → ℕ → Type 0
-IsBesideSlot s n spans place = IsBeside (slot_place n) 64 place × IsBesideSpans s spans place
+IsBesideSlot s n spans place = IsBeside (slot_place n) slot_size place × IsBesideSpans s spans place
 
 -- what may be left of a commit that is not done: slot n is as it was, or closed with any bytes behind its gate, and all
 -- else is as it was but for these spans

@@ -1,5 +1,6 @@
 -- Where the frames of a text stand behind a tail, the bytes that are written for them, and when they are too many.
 use Rattle.std.specs.Prelude.{ℕ, zero, suc, ◌+◌, ◌-◌, ◌/◌, ◌%◌, Bool, ◌==◌, nat_le, if◌then◌else◌, List, [], ◌∷◌, ◌++◌, length, map, replicate}
+use Rattle.keys.specs.Sizes.{segment_header_size}
 use Rattle.keys.specs.declared.settings.Settings.{Settings}
 use Rattle.frame_codec.specs.Frame.{Frame, bytes_of}
 use Rattle.flush_log.specs.Overlay.{overlay}
@@ -24,11 +25,11 @@ placed_from s n offset [] = []
 placed_from s n offset (f ∷ fs) =
     if nat_le (offset + length (bytes_of f)) s.seg_size
     then record { segment = n; offset = offset; frame = f } ∷ placed_from s n (offset + length (bytes_of f)) fs
-    else (record { segment = suc n; offset = 16; frame = f } ∷ placed_from s (suc n) (16 + length (bytes_of f)) fs)
+    else (record { segment = suc n; offset = segment_header_size; frame = f } ∷ placed_from s (suc n) (segment_header_size + length (bytes_of f)) fs)
 
 -- where a frame may stand in a segment that is used up to this offset: not where its header will be
 abbrev pub behind_header : ℕ → ℕ
-behind_header zero = 16
+behind_header zero = segment_header_size
 behind_header (suc offset) = suc offset
 
 -- the frames of a text that is written from the tail on

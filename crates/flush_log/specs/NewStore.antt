@@ -1,24 +1,33 @@
 -- A disk on which a store was made.
-use Rattle.std.specs.Prelude.{ℕ, List, [], ◌++◌, replicate}
+use Rattle.std.specs.Prelude.{ℕ, ◌+◌, ◌-◌, List, [], ◌++◌, replicate}
 use Rattle.keys.specs.declared.settings.Settings.{Settings}
 use Rattle.frame_codec.specs.Frame.{Frame, bytes_of}
 use Rattle.frame_codec.specs.Frame.Content.{FullLeaf}
 use Rattle.flush_log.specs.Overlay.{overlay}
-use Rattle.flush_log.specs.Segments.{segment_header}
-use Rattle.flush_log.specs.SettingsBlock.{settings_block}
-use Rattle.flush_log.specs.Slot.{Slot, slot_bytes}
+use Rattle.flush_log.specs.Segments.{segment_header, segments_begin}
+use Rattle.flush_log.specs.SettingsBlock.{settings_block_size, settings_block}
+use Rattle.flush_log.specs.Slot.{Slot, slot_size, slot_place, slot_bytes}
 
 -- its log is one frame: an empty leaf with the pid 0
 abbrev pub first_frame : Frame
 first_frame = record { pid = 0; content = FullLeaf [] [] }
 
--- that leaf is the root, and the log ends behind the 17 bytes of the frame
-abbrev pub first_slot : Slot
-first_slot = record { sequence = 1; head = 0; tail = 33; root = 0; height = 1 }
+-- where the log ends: behind the header of segment 0 and that frame (16 + 17)
+abbrev pub first_tail : ℕ
+first_tail = 33
 
--- the bytes up to that tail: the settings block, slot 1, zeros in the rest of the first 512, and segment 0
+-- that leaf is the root
+abbrev pub first_slot : Slot
+first_slot = record { sequence = 1; head = 0; tail = first_tail; root = 0; height = 1 }
+
+-- the bytes up to that tail: the settings block, slot 1, zeros in the rest before the segments, and segment 0
 abbrev pub new_bytes : Settings → List ℕ
-new_bytes s = settings_block s ++ (replicate 128 0 ++ (slot_bytes first_slot ++ (replicate 256 0 ++ (segment_header 0 ++ bytes_of first_frame))))
+new_bytes s =
+    settings_block s
+    ++ (replicate (slot_place 1 - settings_block_size) 0
+    ++ (slot_bytes first_slot
+    ++ (replicate (segments_begin - (slot_place 1 + slot_size)) 0
+    ++ (segment_header 0 ++ bytes_of first_frame))))
 
 -- the disk afterwards, whatever its other bytes are
 abbrev pub disk_of_new : Settings → List ℕ → List ℕ

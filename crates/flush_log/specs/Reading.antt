@@ -1,6 +1,7 @@
 -- What the log holds between head and tail.
 use Rattle.std.specs.Prelude.{ℕ, zero, suc, ◌+◌, ◌-◌, Bool, true, false, nat_eq, if◌then◌else◌, List, [], ◌∷◌, ◌++◌, length, map, take, drop, Option, Some, None, Result, Ok, Err}
 use Rattle.std.specs.List.{starts_with}
+use Rattle.keys.specs.Sizes.{segment_header_size}
 use Rattle.keys.specs.declared.settings.Settings.{Settings}
 use Rattle.keys.specs.declared.fault.Fault.{Fault}
 use Rattle.keys.specs.declared.fault.Fault.TheVariants.{BadSegment, BadFrame}
@@ -55,7 +56,7 @@ in_segment n long (Err left) = Err (BadFrame n (long - left))
 abbrev pub read_segment : Settings → (List ℕ → Bool) → ℕ → List ℕ → Result (List Found) Fault
 read_segment s is_end n bytes =
     if starts_with nat_eq bytes (segment_header n)
-    then in_segment n (length bytes) (read_frames s is_end (length bytes) (drop 16 bytes))
+    then in_segment n (length bytes) (read_frames s is_end (length bytes) (drop segment_header_size bytes))
     else Err (BadSegment n)
 
 -- ---- the log

@@ -4,17 +4,29 @@ use Rattle.std.specs.Prelude.{◌≡◌, ℕ, ◌+◌, ◌-◌, ◌*◌, ◌/◌
 use Rattle.keys.specs.Cells.{number}
 use Rattle.keys.specs.declared.settings.Settings.{Settings}
 
--- the first 16 bytes of segment n
-abbrev pub segment_header : ℕ → List ℕ
-segment_header n = codes "BWSG" ++ ((number 4).spell 0 ++ (number 8).spell n)
+-- the word that a segment begins with
+abbrev pub segment_magic : List ℕ
+segment_magic = codes "BWSG"
 
--- where segment n stands in a file: behind the 512 bytes of settings and slots
+-- the bytes that segment n begins with
+abbrev pub segment_header : ℕ → List ℕ
+segment_header n = segment_magic ++ ((number 4).spell 0 ++ (number 8).spell n)
+
+-- where the segments begin in a file: behind the settings block and the slots
+abbrev pub segments_begin : ℕ
+segments_begin = 512
+
+-- where segment n stands in a file
 abbrev pub place_of : Settings → ℕ → ℕ
-place_of s n = 512 + n % s.segments * s.seg_size
+place_of s n = segments_begin + n % s.segments * s.seg_size
+
+-- how many bytes a disk has at least
+abbrev pub disk_size : Settings → ℕ
+disk_size s = segments_begin + s.segments * s.seg_size
 
 -- the file has room for all segments
 abbrev pub HasSegments : Settings → List ℕ → Type 0
-HasSegments s file = 512 + s.segments * s.seg_size ≤ length file
+HasSegments s file = disk_size s ≤ length file
 
 -- the bytes of segment n
 abbrev pub segment_bytes : Settings → List ℕ → ℕ → List ℕ

@@ -1,11 +1,12 @@
 -- The settings block, with which a disk begins.
-use Rattle.std.specs.Prelude.{ℕ, ◌+◌, ◌*◌, ◌&&◌, nat_le, if◌then◌else◌, List, ◌++◌, length, take, drop, replicate, Option, Some, None, is_none, Result, Ok, Err, codes}
+use Rattle.std.specs.Prelude.{ℕ, ◌&&◌, nat_le, if◌then◌else◌, List, ◌++◌, length, take, drop, replicate, Option, Some, None, is_none, Result, Ok, Err, codes}
 use Rattle.std.specs.Str.{bytes_eq}
 use Rattle.keys.specs.Cells.{read_number, number}
 use Rattle.keys.specs.Limits.{first_bad_field}
 use Rattle.keys.specs.declared.settings.Settings.{Settings}
 use Rattle.keys.specs.declared.fault.Fault.{Fault}
 use Rattle.keys.specs.declared.fault.Fault.TheVariants.{NotAStore}
+use Rattle.flush_log.specs.Segments.{disk_size}
 
 -- what was read, or 0
 abbrev pub number_or_0 : Option (ℕ × List ℕ) → ℕ
@@ -16,15 +17,23 @@ number_or_0 (Some p) = p.0
 abbrev pub number_at : ℕ → ℕ → List ℕ → ℕ
 number_at w place bytes = number_or_0 (read_number w (drop place bytes))
 
--- the 64 bytes of the block
+-- the word that a disk begins with
+abbrev pub store_magic : List ℕ
+store_magic = codes "BWBATCH1"
+
+-- how many bytes the block has
+abbrev pub settings_block_size : ℕ
+settings_block_size = 64
+
+-- the bytes of the block: its word, the numbers, and zeros
 abbrev pub settings_block : Settings → List ℕ
 settings_block s =
-    codes "BWBATCH1"
+    store_magic
     ++ (number 2).spell s.fan ++ (number 2).spell s.chain ++ (number 2).spell s.max_key ++ (number 2).spell s.max_value
     ++ (number 4).spell s.seg_size ++ (number 4).spell s.segments
     ++ replicate 40 0
 
--- the settings whose numbers stand at the places of the block
+-- the settings whose numbers stand at the places of the block: each with how many bytes it has, and where it stands
 abbrev pub settings_in : List ℕ → Settings
 settings_in bytes = record {
   fan = number_at 2 8 bytes;
@@ -45,8 +54,8 @@ read_settings bytes =
 -- the settings that were read of a disk, where it has room for all segments
 abbrev pub where_it_has_room : List ℕ → Option Settings → Result Settings Fault
 where_it_has_room disk None = Err NotAStore
-where_it_has_room disk (Some s) = if nat_le (512 + s.segments * s.seg_size) (length disk) then Ok s else Err NotAStore
+where_it_has_room disk (Some s) = if nat_le (disk_size s) (length disk) then Ok s else Err NotAStore
 
 -- the settings of the store that a disk holds
 abbrev pub store_settings : List ℕ → Result Settings Fault
-store_settings disk = where_it_has_room disk (read_settings (take 64 disk))
+store_settings disk = where_it_has_room disk (read_settings (take settings_block_size disk))

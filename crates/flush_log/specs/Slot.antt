@@ -5,9 +5,11 @@ use Rattle.std.specs.Prelude.{ℕ, ◌+◌, ◌*◌, ◌%◌, ◌^◌, Bool, ◌
 use Rattle.std.specs.Str.{bytes_eq}
 use Rattle.keys.specs.Cells.{number}
 use Rattle.keys.specs.Limits.{is_in_limits}
+use Rattle.keys.specs.Sizes.{segment_header_size}
 use Rattle.keys.specs.declared.settings.Settings.{Settings}
 use Rattle.keys.specs.declared.fault.Fault.{Fault}
 use Rattle.keys.specs.declared.fault.Fault.TheVariants.{NoSlot}
+use Rattle.mapping.specs.Tree.{most_levels}
 use Rattle.frame_codec.specs.Frame.{is_pid}
 use Rattle.flush_log.specs.Segments.{last_segment}
 use Rattle.flush_log.specs.SettingsBlock.{number_at}
@@ -27,11 +29,19 @@ pub record Slot : Type 0 where
 abbrev pub greatest : ℕ
 greatest = 2 ^ 62
 
+-- how many bytes a slot has
+abbrev pub slot_size : ℕ
+slot_size = 64
+
+-- where the slots begin on a disk
+abbrev pub slots_begin : ℕ
+slots_begin = 128
+
 -- where the slot for this sequence number stands; slot 0 is that for all even ones
 abbrev pub slot_place : ℕ → ℕ
-slot_place n = 128 + 64 * (n % 2)
+slot_place n = slots_begin + slot_size * (n % 2)
 
--- the 63 bytes behind the gate
+-- the bytes behind the gate
 abbrev pub slot_body : Slot → List ℕ
 slot_body t =
     replicate 7 0
@@ -39,11 +49,11 @@ slot_body t =
     ++ (number 4).spell t.height
     ++ replicate 20 0
 
--- the 64 bytes of an open slot
+-- the bytes of an open slot
 abbrev pub slot_bytes : Slot → List ℕ
 slot_bytes t = 1 ∷ slot_body t
 
--- the slot whose numbers stand at their places in these bytes
+-- the slot whose numbers stand at their places in these bytes: each with how many bytes it has, and where it stands
 abbrev pub slot_in : List ℕ → Slot
 slot_in bytes = record {
   sequence = number_at 8 8 bytes;
@@ -57,15 +67,15 @@ slot_in bytes = record {
 
 -- a position at which a log may end: at a segment's end, or behind a byte of a frame
 abbrev pub is_tail : Settings → ℕ → Bool
-is_tail s tail = tail % s.seg_size == 0 || nat_lt 16 (tail % s.seg_size)
+is_tail s tail = tail % s.seg_size == 0 || nat_lt segment_header_size (tail % s.seg_size)
 
 -- slot n may say this
 abbrev pub is_slot : Settings → ℕ → Slot → Bool
 is_slot s n t =
     is_in_limits 1 greatest t.sequence && t.sequence % 2 == n % 2
-    && nat_lt (t.head * s.seg_size + 16) t.tail && nat_le t.tail greatest && is_tail s t.tail
+    && nat_lt (t.head * s.seg_size + segment_header_size) t.tail && nat_le t.tail greatest && is_tail s t.tail
     && nat_lt (last_segment s t.tail) (t.head + s.segments)
-    && is_pid t.root && is_in_limits 1 64 t.height
+    && is_pid t.root && is_in_limits 1 most_levels t.height
 
 -- ---- reading
 
@@ -82,7 +92,7 @@ read_open s n bytes =
 
 -- what slot n of a disk says: nothing where it is closed
 abbrev pub read_slot : Settings → ℕ → List ℕ → Result (Option Slot) Fault
-read_slot s n disk = if is_open n disk then read_open s n (take 64 (drop (slot_place n) disk)) else Ok None
+read_slot s n disk = if is_open n disk then read_open s n (take slot_size (drop (slot_place n) disk)) else Ok None
 
 -- of what two slots say, what that with the greater sequence number does
 abbrev pub newer : Result (Option Slot) Fault → Result (Option Slot) Fault → Result Slot Fault

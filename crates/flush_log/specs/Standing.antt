@@ -1,6 +1,7 @@
 -- What stands in a segment, in words of its bytes: what a reading of it is to find.
 use Rattle.std.specs.Prelude.{◌≡◌, ◌⊎◌, ℕ, ◌+◌, ◌-◌, ◌<◌, ◌≤◌, Bool, true, false, List, ◌++◌, length, flat_map, replicate, take, None, Ok, Err}
 use Rattle.std.specs.List.{AllByRecursion}
+use Rattle.keys.specs.Sizes.{segment_header_size}
 use Rattle.keys.specs.declared.settings.Settings.{Settings}
 use Rattle.keys.specs.declared.fault.Fault.{Fault}
 use Rattle.frame_codec.specs.Frame.{Frame, bytes_of, is_within}
@@ -19,7 +20,7 @@ pub record IsBrokenAt (s : Settings) (is_end : List ℕ → Bool) (n offset : �
   pub behind : List ℕ
   pub within : AllByRecursion (λ f. is_within s f ≡ true) before
   pub spelled : bytes ≡ segment_header n ++ (flat_map bytes_of before ++ behind)
-  pub place : offset ≡ 16 + length (flat_map bytes_of before)
+  pub place : offset ≡ segment_header_size + length (flat_map bytes_of before)
   pub no_end : is_end behind ≡ false
   pub no_frame : read_frame s behind ≡ None
 

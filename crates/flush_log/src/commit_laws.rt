@@ -2,9 +2,11 @@
 ghost use Rattle.std.specs.Prelude.{◌≡◌, ◌⊎◌, ◌↔◌, ℕ, suc, ◌+◌, ◌-◌, ◌*◌, ◌/◌, ◌^◌, ◌<◌, ◌≤◌, true, List, [], ◌∷◌, ◌++◌, length, None, Ok};
 ghost use Rattle.std.specs.List.{AllByRecursion};
 ghost use Rattle.keys.specs.Limits.{first_bad_field};
+ghost use Rattle.keys.specs.Sizes.{segment_header_size};
 ghost use Rattle.keys.specs.declared.settings.Settings.{Settings};
+ghost use Rattle.mapping.specs.Tree.{most_levels};
 ghost use Rattle.frame_codec.specs.Frame.{Frame, is_within};
-ghost use Rattle.flush_log.specs.Segments.{place_of, HasSegments, position, last_segment};
+ghost use Rattle.flush_log.specs.Segments.{segments_begin, place_of, disk_size, HasSegments, position, last_segment};
 ghost use Rattle.flush_log.specs.Reading.{Found, log};
 ghost use Rattle.flush_log.specs.Layout.{Span, tail_after, found_in_text, spans, with_spans};
 ghost use Rattle.flush_log.specs.SettingsBlock.{store_settings};
@@ -15,23 +17,29 @@ ghost use Rattle.flush_log.specs.NewStore.{first_frame, first_slot, disk_of_new}
 /// A crash at any moment of a commit on a settled disk leaves the disk with nothing changed but the spans and the closed slot,
 /// or all that was committed. It leaves the first until the gate is being opened; once all calls have answered, the second.
 pub fn a_crash_leaves_what_was_before_or_all_of_a_commit()
-    ensures during { (s : Settings) (file : List ℕ) (rs : List Span) (t : Slot) (c : List ℕ) → 512 ≤ length file →
+    ensures during { (s : Settings) (file : List ℕ) (rs : List Span) (t : Slot) (c : List ℕ) →
+        segments_begin ≤ length file →
         AreWithin s (length file) rs → LeftDuring (commit_calls s file rs t) file c →
         IsBefore s t.sequence rs file c ⊎ (c ≡ committed s file rs t) }
-    ensures before { (s : Settings) (file : List ℕ) (rs : List Span) (t : Slot) (c : List ℕ) → 512 ≤ length file →
+    ensures before { (s : Settings) (file : List ℕ) (rs : List Span) (t : Slot) (c : List ℕ) →
+        segments_begin ≤ length file →
         AreWithin s (length file) rs → LeftDuring (prepare s file rs t) file c → IsBefore s t.sequence rs file c }
-    ensures read { (s : Settings) (file : List ℕ) (rs : List Span) (t : Slot) → 512 ≤ length file → AreWithin s (length file) rs →
+    ensures read { (s : Settings) (file : List ℕ) (rs : List Span) (t : Slot) →
+        segments_begin ≤ length file → AreWithin s (length file) rs →
         seen_after (commit_calls s file rs t) file ≡ committed s file rs t }
-    ensures after { (s : Settings) (file : List ℕ) (rs : List Span) (t : Slot) (c : List ℕ) → 512 ≤ length file →
+    ensures after { (s : Settings) (file : List ℕ) (rs : List Span) (t : Slot) (c : List ℕ) →
+        segments_begin ≤ length file →
         AreWithin s (length file) rs → MayLeave (commit_calls s file rs t) file (λ d. d ≡ file) c → c ≡ committed s file rs t }
 {}
 
 /// Until the gate of the next slot is open, a commit is hidden: settings, slot and log are read as before. So a crash at any moment of
 /// the commit of a text leaves these, or all that was committed.
 pub fn a_commit_is_hidden_until_its_gate_is_open()
-    ensures settings { (s : Settings) (n : ℕ) (rs : List Span) (file c : List ℕ) → 512 ≤ length file → IsBefore s n rs file c →
+    ensures settings { (s : Settings) (n : ℕ) (rs : List Span) (file c : List ℕ) →
+        segments_begin ≤ length file → IsBefore s n rs file c →
         store_settings c ≡ store_settings file }
-    ensures slot { (s : Settings) (t : Slot) (rs : List Span) (file c : List ℕ) → 512 ≤ length file → store_slot s file ≡ Ok t →
+    ensures slot { (s : Settings) (t : Slot) (rs : List Span) (file c : List ℕ) →
+        segments_begin ≤ length file → store_slot s file ≡ Ok t →
         IsBefore s (suc t.sequence) rs file c → store_slot s c ≡ Ok t }
     ensures log { (s : Settings) (file : List ℕ) (t : Slot) (text : List Frame) (c : List ℕ) → HasRoom s file t text →
         IsBefore s (suc t.sequence) (spans s t.tail text) file c → log s c t.head t.tail ≡ log s file t.head t.tail }
@@ -43,11 +51,14 @@ pub fn a_commit_is_hidden_until_its_gate_is_open()
 
 /// What was committed is read: the settings as before, the new slot as the store's, and the log as the spans left it.
 pub fn what_was_committed_is_read()
-    ensures length { (s : Settings) (file : List ℕ) (rs : List Span) (u : Slot) → 512 ≤ length file → AreWithin s (length file) rs →
+    ensures length { (s : Settings) (file : List ℕ) (rs : List Span) (u : Slot) →
+        segments_begin ≤ length file → AreWithin s (length file) rs →
         length (committed s file rs u) ≡ length file }
-    ensures settings { (s : Settings) (file : List ℕ) (rs : List Span) (u : Slot) → 512 ≤ length file → AreWithin s (length file) rs →
+    ensures settings { (s : Settings) (file : List ℕ) (rs : List Span) (u : Slot) →
+        segments_begin ≤ length file → AreWithin s (length file) rs →
         store_settings (committed s file rs u) ≡ store_settings file }
-    ensures slot { (s : Settings) (file : List ℕ) (rs : List Span) (t u : Slot) → first_bad_field s ≡ None → 512 ≤ length file →
+    ensures slot { (s : Settings) (file : List ℕ) (rs : List Span) (t u : Slot) → first_bad_field s ≡ None →
+        segments_begin ≤ length file →
         AreWithin s (length file) rs → store_slot s file ≡ Ok t → u.sequence ≡ suc t.sequence → is_slot s u.sequence u ≡ true →
         store_slot s (committed s file rs u) ≡ Ok u }
     ensures log { (s : Settings) (file : List ℕ) (rs : List Span) (u : Slot) (head tail : ℕ) → first_bad_field s ≡ None →
@@ -65,13 +76,13 @@ pub fn the_slot_of_a_commit_is_well_formed()
     ensures { (s : Settings) (n : ℕ) (t u : Slot) (text : List Frame) → first_bad_field s ≡ None → is_slot s n t ≡ true →
         AllByRecursion (λ f. is_within s f ≡ true) text → u.sequence ≡ suc t.sequence → u.sequence ≤ greatest →
         u.tail ≡ tail_after s t.tail text → u.tail ≤ greatest → t.head ≤ u.head → u.head ≤ last_segment s t.tail →
-        last_segment s u.tail < u.head + s.segments → u.root < 2 ^ 64 → 1 ≤ u.height → u.height ≤ 64 →
+        last_segment s u.tail < u.head + s.segments → u.root < 2 ^ 64 → 1 ≤ u.height → u.height ≤ most_levels →
         is_slot s u.sequence u ≡ true }
 {}
 
 /// A disk on which a store was made has its settings, the first slot, and a log of one empty leaf.
 pub fn a_new_store_is_one_empty_leaf()
-    ensures { (s : Settings) (disk : List ℕ) → first_bad_field s ≡ None → 512 + s.segments * s.seg_size ≤ length disk →
+    ensures { (s : Settings) (disk : List ℕ) → first_bad_field s ≡ None → HasSegments s disk →
         (store_settings (disk_of_new s disk) ≡ Ok s) × (store_slot s (disk_of_new s disk) ≡ Ok first_slot) ×
         (log s (disk_of_new s disk) first_slot.head first_slot.tail ≡ Ok (record { segment = 0; frame = first_frame } ∷ [])) }
 {}
@@ -81,16 +92,19 @@ pub fn a_new_store_is_one_empty_leaf()
 /// told by numbers that don't pass 2^64 either, be the head as great as it may.
 pub fn a_log_has_room_for_its_positions()
     ensures test { (s : Settings) (head tail : ℕ) → first_bad_field s ≡ None →
-        (head * s.seg_size + 16 < tail) ↔ ((16 < tail) × (head ≤ (tail - 17) / s.seg_size)) }
-    ensures head { (s : Settings) (head tail : ℕ) → first_bad_field s ≡ None → head * s.seg_size + 16 < tail → tail ≤ greatest →
-        head < 2 ^ 62 }
-    ensures next_head { (s : Settings) (head tail : ℕ) → first_bad_field s ≡ None → head * s.seg_size + 16 < tail → tail ≤ greatest →
+        (head * s.seg_size + segment_header_size < tail) ↔
+        ((segment_header_size < tail) × (head ≤ (tail - (segment_header_size + 1)) / s.seg_size)) }
+    ensures head { (s : Settings) (head tail : ℕ) → first_bad_field s ≡ None →
+        head * s.seg_size + segment_header_size < tail → tail ≤ greatest → head < greatest }
+    ensures next_head { (s : Settings) (head tail : ℕ) → first_bad_field s ≡ None →
+        head * s.seg_size + segment_header_size < tail → tail ≤ greatest →
         head + s.segments < 2 ^ 63 }
-    ensures position { (s : Settings) (head tail n offset : ℕ) → first_bad_field s ≡ None → head * s.seg_size + 16 < tail →
+    ensures position { (s : Settings) (head tail n offset : ℕ) → first_bad_field s ≡ None →
+        head * s.seg_size + segment_header_size < tail →
         tail ≤ greatest → n < head + s.segments → offset ≤ s.seg_size → position s n offset < 2 ^ 63 }
     ensures tail { (s : Settings) (tail : ℕ) (text : List Frame) → first_bad_field s ≡ None → tail ≤ greatest →
         AllByRecursion (λ f. is_within s f ≡ true) text → length text ≤ 2 ^ 41 → tail_after s tail text < 2 ^ 63 }
     ensures sequence { (n : ℕ) → n ≤ greatest → suc n < 2 ^ 63 }
     ensures place { (s : Settings) (n offset : ℕ) → first_bad_field s ≡ None → offset ≤ s.seg_size → place_of s n + offset < 2 ^ 37 }
-    ensures size { (s : Settings) → first_bad_field s ≡ None → 512 + s.segments * s.seg_size < 2 ^ 37 }
+    ensures size { (s : Settings) → first_bad_field s ≡ None → disk_size s < 2 ^ 37 }
 {}

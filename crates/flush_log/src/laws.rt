@@ -3,6 +3,7 @@ ghost use Rattle.std.specs.Prelude.{◌≡◌, ℕ, suc, ◌+◌, ◌*◌, ◌<�
 ghost use Rattle.std.specs.List.{AllByRecursion, filter, starts_with, sum_by};
 ghost use Rattle.keys.specs.Cells.{AreBytes};
 ghost use Rattle.keys.specs.Limits.{first_bad_field};
+ghost use Rattle.keys.specs.Sizes.{segment_header_size};
 ghost use Rattle.keys.specs.declared.settings.Settings.{Settings};
 ghost use Rattle.keys.specs.declared.fault.Fault.{Fault};
 ghost use Rattle.keys.specs.declared.fault.Fault.TheVariants.{BadSegment, BadFrame};
@@ -11,12 +12,13 @@ ghost use Rattle.flush_log.specs.Commit.{AreWithin, IsBesideSpans};
 ghost use Rattle.flush_log.specs.Layout.{placed, tail_after, found_in_text, is_full_for_flush, is_full_for_clean, spans, with_spans};
 ghost use Rattle.flush_log.specs.Overlay.{AgreeAt};
 ghost use Rattle.flush_log.specs.Reading.{Found, all_in, is_at_tail, is_padding, read_segment, log};
-ghost use Rattle.flush_log.specs.Segments.{segment_header, segment_bytes, HasSegments, IsInLog, last_segment};
+ghost use Rattle.flush_log.specs.Segments.{segment_header, segments_begin, disk_size, segment_bytes, HasSegments, IsInLog, last_segment};
 ghost use Rattle.flush_log.specs.Standing.{AreFrames, IsBrokenAt, IsFirstFault};
 
 /// Each frame that a store may have fits into a segment, behind its header.
 pub fn a_frame_fits_into_a_segment()
-    ensures { (s : Settings) (f : Frame) → first_bad_field s ≡ None → is_within s f ≡ true → 16 + length (bytes_of f) ≤ s.seg_size }
+    ensures { (s : Settings) (f : Frame) → first_bad_field s ≡ None → is_within s f ≡ true →
+        segment_header_size + length (bytes_of f) ≤ s.seg_size }
 {}
 
 /// A text that is written from the tail on is found by the next reading, in its order, behind what was found before: where
@@ -43,7 +45,7 @@ pub fn what_is_behind_the_tail_is_hidden()
     ensures hidden { (s : Settings) (file other : List ℕ) (head tail : ℕ) → first_bad_field s ≡ None → HasSegments s file → head * s.seg_size < tail →
         AgreeAt (IsInLog s head tail) file other → log s other head tail ≡ log s file head tail }
     ensures places { (s : Settings) (head tail place : ℕ) → first_bad_field s ≡ None → IsInLog s head tail place →
-        (512 ≤ place) × (place < 512 + s.segments * s.seg_size) }
+        (segments_begin ≤ place) × (place < disk_size s) }
 {}
 
 /// What is written for a text that finds room lies in no place of the log, and within the segments.
@@ -53,10 +55,10 @@ pub fn a_text_lies_behind_the_tail()
         (place : ℕ) → IsInLog s head tail place → IsBesideSpans s (spans s tail text) place }
     ensures apart { (s : Settings) (head tail : ℕ) (text : List Frame) → first_bad_field s ≡ None → head * s.seg_size < tail →
         AllByRecursion (λ f. is_within s f ≡ true) text → last_segment s (tail_after s tail text) < head + s.segments →
-        (place : ℕ) → place < 512 → IsBesideSpans s (spans s tail text) place }
+        (place : ℕ) → place < segments_begin → IsBesideSpans s (spans s tail text) place }
     ensures inside { (s : Settings) (head tail : ℕ) (text : List Frame) → first_bad_field s ≡ None → head * s.seg_size < tail →
         AllByRecursion (λ f. is_within s f ≡ true) text → last_segment s (tail_after s tail text) < head + s.segments →
-        AreWithin s (512 + s.segments * s.seg_size) (spans s tail text) }
+        AreWithin s (disk_size s) (spans s tail text) }
 {}
 
 /// From the next segment on a reading finds what it finds from the head on, but for the frames of the head segment. All that it finds

@@ -1,15 +1,16 @@
 //! What the settings block and the slots mean. Each law is the contract of a function with an empty body.
-ghost use Rattle.std.specs.Prelude.{◌≡◌, ◌⊎◌, ◌↔◌, ℕ, suc, ◌+◌, ◌*◌, ◌≤◌, true, false, List, length, take, drop, Some, None, Ok, Err};
+ghost use Rattle.std.specs.Prelude.{◌≡◌, ◌⊎◌, ◌↔◌, ℕ, suc, ◌≤◌, true, false, List, length, take, drop, Some, None, Ok, Err};
 ghost use Rattle.keys.specs.Limits.{first_bad_field};
 ghost use Rattle.keys.specs.declared.settings.Settings.{Settings};
 ghost use Rattle.keys.specs.declared.fault.Fault.{Fault};
 ghost use Rattle.keys.specs.declared.fault.Fault.TheVariants.{NoSlot};
-ghost use Rattle.flush_log.specs.SettingsBlock.{settings_block, read_settings, store_settings};
-ghost use Rattle.flush_log.specs.Slot.{Slot, slot_place, slot_bytes, is_slot, is_open, read_slot, store_slot};
+ghost use Rattle.flush_log.specs.Segments.{HasSegments};
+ghost use Rattle.flush_log.specs.SettingsBlock.{settings_block_size, settings_block, read_settings, store_settings};
+ghost use Rattle.flush_log.specs.Slot.{Slot, slot_size, slot_place, slot_bytes, is_slot, is_open, read_slot, store_slot};
 
 /// The settings that a store may have are read back from their block of 64 bytes, and what is read of bytes stands there.
 pub fn the_settings_block_is_read_back()
-    ensures length { (s : Settings) → length (settings_block s) ≡ 64 }
+    ensures length { (s : Settings) → length (settings_block s) ≡ settings_block_size }
     ensures read { (s : Settings) → first_bad_field s ≡ None → read_settings (settings_block s) ≡ Some s }
     ensures stands { (bytes : List ℕ) (s : Settings) → read_settings bytes ≡ Some s →
         (bytes ≡ settings_block s) × (first_bad_field s ≡ None) }
@@ -18,17 +19,17 @@ pub fn the_settings_block_is_read_back()
 /// A disk has the settings whose block it begins with, where it has room for all segments.
 pub fn a_disk_has_the_settings_of_its_block()
     ensures { (disk : List ℕ) (s : Settings) → store_settings disk ≡ Ok s ↔
-        (take 64 disk ≡ settings_block s) × (first_bad_field s ≡ None) × (512 + s.segments * s.seg_size ≤ length disk) }
+        (take settings_block_size disk ≡ settings_block s) × (first_bad_field s ≡ None) × HasSegments s disk }
 {}
 
 /// A slot that is well formed is read back from its 64 bytes, whatever else is on the disk; what is read of an open slot
 /// stands there and is well formed; and of a closed one nothing is read, whatever stands behind its gate.
 pub fn a_slot_is_read_back()
-    ensures length { (t : Slot) → length (slot_bytes t) ≡ 64 }
+    ensures length { (t : Slot) → length (slot_bytes t) ≡ slot_size }
     ensures read { (s : Settings) (n : ℕ) (t : Slot) (disk : List ℕ) → first_bad_field s ≡ None → is_slot s n t ≡ true →
-        take 64 (drop (slot_place n) disk) ≡ slot_bytes t → read_slot s n disk ≡ Ok (Some t) }
+        take slot_size (drop (slot_place n) disk) ≡ slot_bytes t → read_slot s n disk ≡ Ok (Some t) }
     ensures stands { (s : Settings) (n : ℕ) (t : Slot) (disk : List ℕ) → read_slot s n disk ≡ Ok (Some t) →
-        (take 64 (drop (slot_place n) disk) ≡ slot_bytes t) × (is_slot s n t ≡ true) }
+        (take slot_size (drop (slot_place n) disk) ≡ slot_bytes t) × (is_slot s n t ≡ true) }
     ensures closed { (s : Settings) (n : ℕ) (disk : List ℕ) → is_open n disk ≡ false ↔ read_slot s n disk ≡ Ok None }
 {}
 

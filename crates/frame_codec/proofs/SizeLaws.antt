@@ -3,6 +3,7 @@ use Rattle.std.proofs.Common.{◌≡◌, ℕ, ◌+◌, List, [], ◌∷◌, leng
 use Rattle.std.specs.List.{sum_by}
 use Rattle.std.proofs.lemmas.List.Sums.{sum_by-cons}
 use Rattle.keys.specs.Cells.{Codec, counted, value_cell, pid_cell}
+use Rattle.keys.specs.Sizes.{length_size, pid_size, frame_header_size, pair_header_size, child_header_size, change_header_size}
 use Rattle.frame_codec.specs.Codecs.{both, listed, spell_flag, flagged}
 use Rattle.frame_codec.specs.Frame.{Content, Frame, content_bytes, bytes_of}
 use Rattle.frame_codec.specs.Frame.Content.{FullLeaf, DeltaLeaf, FullIndex, DeltaIndex, Free}
@@ -17,10 +18,10 @@ each-size c size h (x ∷ xs) =
     let sum = sum_by-cons size x xs in
     omega arith
 
-value-entry : (e : List ℕ × List ℕ) → length ((both counted value_cell).spell e) ≡ 4 + length e.0 + length e.1
+value-entry : (e : List ℕ × List ℕ) → length ((both counted value_cell).spell e) ≡ pair_header_size + length e.0 + length e.1
 value-entry e = let joined = length-append (counted.spell e.0) (value_cell.spell e.1) in omega arith
 
-pid-entry : (e : List ℕ × ℕ) → length ((both counted pid_cell).spell e) ≡ 10 + length e.0
+pid-entry : (e : List ℕ × ℕ) → length ((both counted pid_cell).spell e) ≡ child_header_size + length e.0
 pid-entry e = let joined = length-append (counted.spell e.0) (pid_cell.spell e.1) in omega arith
 
 module _ {V : Type 0} (cell : Codec V) (size : V → ℕ) (is : (v : V) → length (cell.spell v) ≡ size v) where
@@ -28,26 +29,26 @@ module _ {V : Type 0} (cell : Codec V) (size : V → ℕ) (is : (v : V) → leng
   flag-size None = refl
   flag-size (Some v) = let one = is v in omega arith
 
-  change-size : (e : List ℕ × Option V) → length ((both counted (flagged cell)).spell e) ≡ 3 + length e.0 + where_present size e.1
+  change-size : (e : List ℕ × Option V) → length ((both counted (flagged cell)).spell e) ≡ change_header_size + length e.0 + where_present size e.1
   change-size e =
       let joined = length-append (counted.spell e.0) (spell_flag cell e.1) in
       let flag = flag-size e.1 in
       omega arith
 
-content-size : (c : Content) → 13 + length (content_bytes c) ≡ size_of c
+content-size : (c : Content) → frame_header_size + length (content_bytes c) ≡ size_of c
 content-size (FullLeaf low base) =
-    let entries = each-size (both counted value_cell) (λ e. 4 + length e.0 + length e.1) value-entry base in
+    let entries = each-size (both counted value_cell) (λ e. pair_header_size + length e.0 + length e.1) value-entry base in
     let joined = length-append (counted.spell low) ((listed (both counted value_cell)).spell base) in
     omega arith
 content-size (DeltaLeaf run) =
-    let changes = each-size (both counted (flagged value_cell)) (λ e. 3 + length e.0 + where_present (λ v. 2 + length v) e.1) (change-size value_cell (λ v. 2 + length v) (λ v. omega arith)) run in
+    let changes = each-size (both counted (flagged value_cell)) (λ e. change_header_size + length e.0 + where_present (λ v. length_size + length v) e.1) (change-size value_cell (λ v. length_size + length v) (λ v. omega arith)) run in
     omega arith
 content-size (FullIndex low base) =
-    let entries = each-size (both counted pid_cell) (λ e. 10 + length e.0) pid-entry base in
+    let entries = each-size (both counted pid_cell) (λ e. child_header_size + length e.0) pid-entry base in
     let joined = length-append (counted.spell low) ((listed (both counted pid_cell)).spell base) in
     omega arith
 content-size (DeltaIndex run) =
-    let changes = each-size (both counted (flagged pid_cell)) (λ e. 3 + length e.0 + where_present (λ p. 8) e.1) (change-size pid_cell (λ p. 8) (λ v. refl)) run in
+    let changes = each-size (both counted (flagged pid_cell)) (λ e. change_header_size + length e.0 + where_present (λ p. pid_size) e.1) (change-size pid_cell (λ p. pid_size) (λ v. refl)) run in
     omega arith
 content-size Free = refl
 

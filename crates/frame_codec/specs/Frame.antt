@@ -5,6 +5,7 @@ use Rattle.std.specs.Prelude.{ℕ, ◌+◌, ◌^◌, Bool, true, ◌&&◌, nat_l
 use Rattle.std.specs.List.{list_all}
 use Rattle.std.specs.Map.{keys_of}
 use Rattle.keys.specs.Cells.{Codec, number, counted, value_cell, pid_cell}
+use Rattle.keys.specs.Sizes.{pid_size}
 use Rattle.keys.specs.declared.settings.Settings.{Settings}
 use Rattle.index_page.specs.Rules.{do_rise, is_short_value, of_cell}
 use Rattle.frame_codec.specs.Codecs.{both, listed, flagged}
@@ -54,7 +55,7 @@ header = both (both (number 1) (number 4)) pid_cell
 
 -- the bytes of the frame
 abbrev pub bytes_of : Frame → List ℕ
-bytes_of f = header.spell ((kind_of f.content, 8 + length (content_bytes f.content)), f.pid) ++ content_bytes f.content
+bytes_of f = header.spell ((kind_of f.content, pid_size + length (content_bytes f.content)), f.pid) ++ content_bytes f.content
 
 -- ---- within settings
 

@@ -1,6 +1,7 @@
 -- Which frame bytes begin with: as a fact, and as a reader.
 use Rattle.std.specs.Prelude.{◌≡◌, ℕ, ◌+◌, true, ◌==◌, if◌then◌else◌, List, ◌++◌, length, Option, Some, None}
 use Rattle.keys.specs.Cells.{read_on, read_as, read_where, value_cell, pid_cell}
+use Rattle.keys.specs.Sizes.{pid_size}
 use Rattle.keys.specs.declared.settings.Settings.{Settings}
 use Rattle.frame_codec.specs.Frame.{Content, Frame, full, delta, content_bytes, header, bytes_of, is_within}
 use Rattle.frame_codec.specs.Frame.Content.{FullLeaf, DeltaLeaf, FullIndex, DeltaIndex, Free}
@@ -23,7 +24,7 @@ read_content kind bs =
 abbrev pub read_behind : (ℕ × ℕ) × ℕ → List ℕ → Option (Frame × List ℕ)
 read_behind h bs =
     read_as (λ c. record { pid = h.1; content = c })
-    (read_where (λ c. h.0.1 == 8 + length (content_bytes c)) (read_content h.0.0 bs))
+    (read_where (λ c. h.0.1 == pid_size + length (content_bytes c)) (read_content h.0.0 bs))
 
 -- the frame that the bytes begin with, whatever the settings
 abbrev pub read_any : List ℕ → Option (Frame × List ℕ)

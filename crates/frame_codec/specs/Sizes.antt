@@ -1,5 +1,6 @@
 -- How many bytes a frame has.
 use Rattle.std.specs.Prelude.{ℕ, ◌+◌, length, Option, Some, None, sum_by}
+use Rattle.keys.specs.Sizes.{length_size, pid_size, frame_header_size, full_header_size, delta_header_size, pair_header_size, child_header_size, change_header_size}
 use Rattle.frame_codec.specs.Frame.{Content}
 use Rattle.frame_codec.specs.Frame.Content.{FullLeaf, DeltaLeaf, FullIndex, DeltaIndex, Free}
 
@@ -10,8 +11,8 @@ where_present size (Some v) = size v
 
 -- the size of a frame with this content, from its kind to its last byte
 abbrev pub size_of : Content → ℕ
-size_of (FullLeaf low base) = 17 + length low + sum_by (λ e. 4 + length e.0 + length e.1) base
-size_of (DeltaLeaf run) = 15 + sum_by (λ e. 3 + length e.0 + where_present (λ v. 2 + length v) e.1) run
-size_of (FullIndex low base) = 17 + length low + sum_by (λ e. 10 + length e.0) base
-size_of (DeltaIndex run) = 15 + sum_by (λ e. 3 + length e.0 + where_present (λ p. 8) e.1) run
-size_of Free = 13
+size_of (FullLeaf low base) = full_header_size + length low + sum_by (λ e. pair_header_size + length e.0 + length e.1) base
+size_of (DeltaLeaf run) = delta_header_size + sum_by (λ e. change_header_size + length e.0 + where_present (λ v. length_size + length v) e.1) run
+size_of (FullIndex low base) = full_header_size + length low + sum_by (λ e. child_header_size + length e.0) base
+size_of (DeltaIndex run) = delta_header_size + sum_by (λ e. change_header_size + length e.0 + where_present (λ p. pid_size) e.1) run
+size_of Free = frame_header_size

@@ -1,5 +1,5 @@
 -- Lemmas on the places of children, for the proofs of this crate and of those above it.
-use Rattle.std.specs.Prelude.{◌≡◌, ◌≢◌, ◌↔◌, IsTrue, is_some, ℕ, ◌+◌, ◌<◌, Bool, true, false, not, cond, ◌&&◌, List, [], ◌∷◌, ◌++◌, map, length, count_by, Option, Some, None}
+use Rattle.std.specs.Prelude.{◌≡◌, ◌≢◌, ◌↔◌, IsTrue, is_some, ℕ, ◌+◌, ◌<◌, Bool, true, false, not, cond, List, [], ◌∷◌, ◌++◌, map, length, count_by, Option, Some, None}
 use Rattle.std.specs.Option.{option_map, option_or}
 use Rattle.std.proofs.Common.{refl, sym, ap, ◌∙◌, arith}
 use Rattle.std.specs.List.Sorted.{IsStrictlySortedBy}
@@ -7,6 +7,7 @@ use Rattle.std.specs.Map.{keys_of, values_of}
 use Rattle.std.proofs.lemmas.Bool.{and_parts, not-true}
 use Rattle.std.proofs.lemmas.List.Sums.{sum_by-cons}
 use Rattle.keys.specs.Order.{IsRising}
+use Rattle.keys.proofs.Basics.{and_false}
 use Rattle.keys.proofs.MapLaws.{IsBelowAll, below_all}
 use Rattle.page_search.specs.Floor.{floor}
 use Rattle.index_page.specs.Page.{PageOfKind, first_key, IsLeaf}
@@ -54,10 +55,6 @@ within low end k h b = rw (h, b) refl
 
 pub not_within_below : (low : List ℕ) (end : Option (List ℕ)) (k : List ℕ) → is_below k low ≡ true → is_within low end k ≡ false
 not_within_below low end k h = rw h refl
-
-and_false : (b c : Bool) → c ≡ false → (b && c) ≡ false
-and_false true c h = h
-and_false false c h = refl
 
 pub not_within_behind : (low : List ℕ) (end : Option (List ℕ)) (k : List ℕ) → is_before end k ≡ false → is_within low end k ≡ false
 not_within_behind low end k h = and_false (not (is_below k low)) (is_before end k) h

@@ -8,6 +8,7 @@ use Rattle.std.specs.Map.{keys_of}
 use Rattle.std.proofs.lemmas.Map.Keys.{sorted_tail}
 use Rattle.keys.specs.Order.{order, IsRising}
 use Rattle.keys.specs.OrderedMap.{value_at}
+use Rattle.keys.proofs.Basics.{less_by}
 use Rattle.keys.proofs.MapLaws.{total, order_itself, flipped_less, IsBelowAll}
 use Rattle.index_page.specs.Page.{first_key}
 use Rattle.index_page.specs.Range.{is_below, AreBelow, AreFrom, AreBefore, IsBefore}
@@ -20,11 +21,6 @@ pub record IsRunFor {X : Type 0} (low : List ℕ) (end : Option (List ℕ)) (run
   pub before : AreBefore end (keys_of run)
 
 -- ---- keys
-
-less_by : (o : Ordering) → is_lt o ≡ true → o ≡ Less
-less_by Less h = refl
-less_by Equal h = absurd (cc)
-less_by Greater h = absurd (cc)
 
 pub below_is_less : (j k : List ℕ) → is_below j k ≡ true → order j k ≡ Less
 below_is_less j k h = less_by (order j k) h

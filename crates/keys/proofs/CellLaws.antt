@@ -42,7 +42,7 @@ read_where-gave test (Some p) x rest h =
 
 -- ---- a reader that goes on behind a codec's
 
-bytes_behind : (us vs : List ℕ) → AreBytes (us ++ vs) → AreBytes vs
+pub bytes_behind : (us vs : List ℕ) → AreBytes (us ++ vs) → AreBytes vs
 bytes_behind [] vs h = h
 bytes_behind (u ∷ us) vs h = bytes_behind us vs h.1
 

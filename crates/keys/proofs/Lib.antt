@@ -1,3 +1,4 @@
+pub mod Basics
 pub mod CellLaws
 pub mod LimitLaws
 pub mod MapLaws

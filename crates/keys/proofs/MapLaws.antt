@@ -13,6 +13,7 @@ use Rattle.std.proofs.lemmas.Map.Entries.{lookup_head, lookup_tail, none_past_he
 use Rattle.std.proofs.lemmas.Map.Lookups.{exact_bytes}
 use Rattle.keys.specs.Order.{order, IsRising}
 use Rattle.keys.specs.OrderedMap.{value_at, with_pair, without}
+use Rattle.keys.proofs.Basics.{equal_by}
 
 -- ---- the order of keys
 
@@ -46,11 +47,6 @@ apart_by Greater q k h n = refl
 
 pub is_apart : (q k : List ℕ) → q ≢ k → is_eq (order q k) ≡ false
 is_apart q k n = apart_by (order q k) q k refl n
-
-equal_by : (o : Ordering) → is_eq o ≡ true → o ≡ Equal
-equal_by Less h = absurd (cc)
-equal_by Equal h = refl
-equal_by Greater h = absurd (cc)
 
 -- a test for one key passes at no other
 pub passes_same : (q k : List ℕ) → is_eq (order q k) ≡ true → q ≡ k

@@ -1,7 +1,6 @@
 -- Lemmas on scans that end at a nearer key, for the proofs of this crate and of those above it.
-use Rattle.std.specs.Prelude.{◌≡◌, ℕ, zero, suc, ◌≤◌, Bool, true, false, not, cond, ◌&&◌, List, [], ◌∷◌, ◌++◌, length, take, drop, slice_get, Option, Some, None}
-use Rattle.std.proofs.Common.{refl, sym, ap, ◌∙◌, arith, Ordering, Less, Equal, Greater}
-use Rattle.std.specs.Ordering.{is_lt}
+use Rattle.std.specs.Prelude.{◌≡◌, ℕ, zero, suc, ◌≤◌, Bool, true, false, not, cond, List, [], ◌∷◌, ◌++◌, length, take, drop, slice_get, Option, Some, None}
+use Rattle.std.proofs.Common.{refl, sym, ap, ◌∙◌, arith, Less}
 use Rattle.std.specs.List.Sorted.{IsStrictlySortedBy}
 use Rattle.std.specs.Map.{keys_of}
 use Rattle.std.specs.Option.{option_map}
@@ -14,13 +13,9 @@ use Rattle.keys.specs.declared.command.Command.{Command}
 use Rattle.keys.specs.declared.command.Command.TheVariants.{Get, Put, Add, Del, Scan}
 use Rattle.keys.specs.declared.command.Reply.{Reply}
 use Rattle.keys.specs.declared.command.Reply.TheVariants.{Rows}
+use Rattle.keys.proofs.Basics.{less_by, and_false}
 use Rattle.keys.proofs.MapLaws.{total, IsBelowAll}
 use Rattle.keys.proofs.RunLaws.{rising-map_after}
-
-less_by : (o : Ordering) → is_lt o ≡ true → o ≡ Less
-less_by Less h = refl
-less_by Equal h = absurd (cc)
-less_by Greater h = absurd (cc)
 
 below_through : (i j k : List ℕ) → is_below i j ≡ true → is_below j k ≡ true → is_below i k ≡ true
 below_through i j k h l = rw (total.trans i j k (less_by (order i j) h) (less_by (order j k) l)) refl
@@ -33,10 +28,6 @@ before_through (Some hi) k end h l = below_through k end hi l h
 not_behind_by : (b : Bool) (j k end : List ℕ) → is_below k end ≡ b → is_below j end ≡ false → order j k ≡ Less → b ≡ false
 not_behind_by true j k end e h l = absurd (let t : is_below j end ≡ true = below_through j k end (rw l refl) e in cc)
 not_behind_by false j k end e h l = refl
-
-and_false : (b c : Bool) → c ≡ false → (b && c) ≡ false
-and_false true c h = h
-and_false false c h = refl
 
 -- ---- rows
 

@@ -1,6 +1,6 @@
 -- The worked rows on settings, computed by the checker: fan 4, chain 2, keys and values of at most 16 bytes,
 -- segments of 256 bytes, four of them; and what is wrong with a fan of 3, or with keys of 64 bytes.
-use Rattle.std.specs.Prelude.{◌≡◌, ◌+◌, None, Some}
+use Rattle.std.specs.Prelude.{◌≡◌, ◌+◌, ◌*◌, None, Some}
 use Rattle.std.proofs.Common.{refl}
 use Rattle.keys.specs.Limits.{longest_frame, first_bad_field}
 use Rattle.keys.specs.declared.settings.Settings.{Settings}
@@ -16,7 +16,8 @@ all_good = refl
 fan_of_3 : first_bad_field (record small { fan = 3 }) ≡ Some Fan
 fan_of_3 = refl
 
-keys_of_64 : longest_frame (record small { max_key = 64 }) ≡ 97 + 340
+-- the headers of a segment and of a full frame, and a low key; and four changes, each with a key and a value
+keys_of_64 : longest_frame (record small { max_key = 64 }) ≡ 16 + 17 + 64 + 4 * (3 + 64 + (2 + 16))
 keys_of_64 = refl
 
 too_long_for_a_segment : first_bad_field (record small { max_key = 64 }) ≡ Some SegSize

@@ -8,5 +8,6 @@ pub mod Narrowed
 pub mod OrderedMap
 pub mod Range
 pub mod Results
+pub mod Sizes
 pub mod Step
 pub mod Words

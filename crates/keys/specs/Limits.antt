@@ -1,5 +1,6 @@
 -- Which settings a store may have.
-use Rattle.std.specs.Prelude.{ℕ, ◌+◌, ◌*◌, max, Bool, ◌&&◌, nat_le, if◌then◌else◌, List, Option, Some, None, codes}
+use Rattle.std.specs.Prelude.{ℕ, ◌+◌, ◌*◌, max, Bool, ◌&&◌, nat_le, if◌then◌else◌, List, [], ◌∷◌, Option, Some, None, codes}
+use Rattle.keys.specs.Sizes.{length_size, pid_size, segment_header_size, full_header_size, change_header_size}
 use Rattle.keys.specs.declared.settings.Settings.{Settings}
 use Rattle.keys.specs.declared.settings.Field.{Field}
 use Rattle.keys.specs.declared.settings.Field.TheVariants.{Fan, Chain, MaxKey, MaxValue, SegSize, Segments}
@@ -8,27 +9,34 @@ use Rattle.keys.specs.declared.settings.Field.TheVariants.{Fan, Chain, MaxKey, M
 abbrev pub is_in_limits : ℕ → ℕ → ℕ → Bool
 is_in_limits least greatest n = nat_le least n && nat_le n greatest
 
--- the bytes that a segment's header and the longest frame take: fan entries, each with its key and its cell
+-- the bytes that the longest change takes, with its key and its cell: a value, or a page id
+abbrev pub longest_change : Settings → ℕ
+longest_change s = change_header_size + s.max_key + max (length_size + s.max_value) pid_size
+
+-- the bytes that a segment's header and the longest frame take: a low key, and fan entries, each no longer than the longest change
 abbrev pub longest_frame : Settings → ℕ
-longest_frame s = 16 + 17 + s.max_key + s.fan * (3 + s.max_key + max (2 + s.max_value) 8)
+longest_frame s = segment_header_size + full_header_size + s.max_key + s.fan * longest_change s
+
+-- each field with its test, in the order in which they are looked at; last the segment's size, which has to hold the longest frame
+abbrev pub field_tests : Settings → List (Field × Bool)
+field_tests s =
+    (Fan, is_in_limits 4 64 s.fan)
+    ∷ (Chain, is_in_limits 1 16 s.chain)
+    ∷ (MaxKey, is_in_limits 1 255 s.max_key)
+    ∷ (MaxValue, is_in_limits 0 1024 s.max_value)
+    ∷ (SegSize, is_in_limits 256 1048576 s.seg_size)
+    ∷ (Segments, is_in_limits 3 65536 s.segments)
+    ∷ (SegSize, nat_le (longest_frame s) s.seg_size)
+    ∷ []
+
+-- the first field whose test fails
+abbrev pub first_failed : List (Field × Bool) → Option Field
+first_failed [] = None
+first_failed (t ∷ ts) = if t.1 then first_failed ts else Some t.0
 
 -- the first field that is out of range, and last the segment's size where the longest frame is longer
 abbrev pub first_bad_field : Settings → Option Field
-first_bad_field s =
-    if is_in_limits 4 64 s.fan then
-    (if is_in_limits 1 16 s.chain then
-    (if is_in_limits 1 255 s.max_key then
-    (if is_in_limits 0 1024 s.max_value then
-    (if is_in_limits 256 1048576 s.seg_size then
-    (if is_in_limits 3 65536 s.segments then
-    (if nat_le (longest_frame s) s.seg_size then None
-    else Some SegSize)
-    else Some Segments)
-    else Some SegSize)
-    else Some MaxValue)
-    else Some MaxKey)
-    else Some Chain)
-    else Some Fan
+first_bad_field s = first_failed (field_tests s)
 
 -- how a field is spelled
 abbrev pub field_name : Field → List ℕ

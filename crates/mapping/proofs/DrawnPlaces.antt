@@ -7,6 +7,7 @@ use Rattle.std.specs.Map.{keys_of, remove_entry}
 use Rattle.std.specs.BTreeMap.{insert_entry}
 use Rattle.std.proofs.lemmas.Cmp.{ranked}
 use Rattle.std.proofs.lemmas.Bool.{eq-eqb, eqb-true, or_parts}
+use Rattle.keys.proofs.Basics.{equal_by, or_swapped}
 use Rattle.mapping.specs.Tree.{Logged, listed_at}
 use Rattle.mapping.specs.Tree.Logged.{Old}
 use Rattle.mapping.specs.Outdate.{outdate, outdate_all}
@@ -14,7 +15,7 @@ use Rattle.mapping.specs.Proper.{AreRisingPids}
 use Rattle.mapping.specs.FreshPids.{is_among, unused, with_number}
 use Rattle.mapping.specs.Table.{Mapping, is_pid, pids_in_use, place_of, with_place, freed, room_by, with_room, with_rooms, fresh_pids, freed_all, IsOldWithoutPlace}
 use Rattle.mapping.proofs.PidLaws.{unused-is_free, unused-drawn, rising-with_number}
-use Rattle.mapping.proofs.TableLaws.{same_pid, equal_by, listed-insert_entry}
+use Rattle.mapping.proofs.TableLaws.{same_pid, listed-insert_entry}
 use Rattle.mapping.proofs.TableSlots.{same_mapping}
 use Rattle.mapping.proofs.SameTable.{rest_listed, same_table}
 use Rattle.mapping.proofs.InUse.{among_place, is_eq_same}
@@ -31,15 +32,10 @@ same_test_by false false m n e f = refl
 same_test : (m n : ℕ) → nat_eq m n ≡ is_eq (nat_cmp m n)
 same_test m n = same_test_by (nat_eq m n) (is_eq (nat_cmp m n)) m n refl refl
 
-or_grouped : (a b c : Bool) → (a || (b || c)) ≡ (b || (a || c))
-or_grouped true true c = refl
-or_grouped true false c = refl
-or_grouped false b c = refl
-
 -- a number is among a list with one more at its end, if it is that one, or among the list
 among_last : (q k : ℕ) (ns : List ℕ) → is_among q (ns ++ k ∷ []) ≡ (nat_eq q k || is_among q ns)
 among_last q k [] = refl
-among_last q k (n ∷ ns) = ap (λ (b : Bool). nat_eq q n || b) (among_last q k ns) ∙ or_grouped (nat_eq q n) (nat_eq q k) (is_among q ns)
+among_last q k (n ∷ ns) = ap (λ (b : Bool). nat_eq q n || b) (among_last q k ns) ∙ or_swapped (nat_eq q n) (nat_eq q k) (is_among q ns)
 
 none_if : {X : Type 0} (o : Option X) → is_some o ≡ false → o ≡ None
 none_if None h = refl

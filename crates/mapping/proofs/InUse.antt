@@ -6,11 +6,12 @@ use Rattle.std.specs.Map.{keys_of, lookup, remove_entry}
 use Rattle.std.specs.BTreeMap.{insert_entry}
 use Rattle.std.proofs.lemmas.Cmp.{tied_itself}
 use Rattle.std.proofs.lemmas.Bool.{eq-eqb, eqb-true}
+use Rattle.keys.proofs.Basics.{equal_by}
 use Rattle.mapping.specs.FreshPids.{is_among}
 use Rattle.mapping.specs.Table.{Mapping, is_pid, pids_in_use, place_of, with_place, freed, room_by, with_room}
 use Rattle.mapping.specs.Slots.{AreInUseBelow}
 use Rattle.mapping.proofs.PidLaws.{later_among}
-use Rattle.mapping.proofs.TableLaws.{total, same_pid, equal_by}
+use Rattle.mapping.proofs.TableLaws.{total, same_pid}
 
 or_step : (a b c : Bool) → (a || b) ≡ true → (b ≡ true → c ≡ true) → (a || c) ≡ true
 or_step true b c h f = refl

@@ -5,6 +5,7 @@ use Rattle.std.specs.List.{AllByRecursion, filter}
 use Rattle.std.specs.Ordering.{nat_cmp, is_eq}
 use Rattle.std.specs.Map.{keys_of, lookup}
 use Rattle.std.proofs.lemmas.Bool.{eq-eqb, eqb-true}
+use Rattle.keys.proofs.Basics.{equal_by, or_turned, or_grouped}
 use Rattle.mapping.specs.Tree.{Logged, or_no}
 use Rattle.mapping.specs.Tree.Logged.{No, Old, Upto}
 use Rattle.mapping.specs.FreshPids.{is_among, with_number}
@@ -14,7 +15,7 @@ use Rattle.mapping.specs.Table.{Mapping, is_pid, pids_in_use, place_of, log_of, 
 use Rattle.mapping.specs.Slots.{slot_pids, placed, listed, entry_if, table_of, is_known, known_pids}
 use Rattle.mapping.specs.declared.slots.Slot.{Slot}
 use Rattle.mapping.proofs.PidLaws.{among-with_number, all-with_number, rising-with_number}
-use Rattle.mapping.proofs.TableLaws.{same_pid, equal_by}
+use Rattle.mapping.proofs.TableLaws.{same_pid}
 use Rattle.mapping.proofs.Around.{lookup_none}
 use Rattle.mapping.proofs.InUse.{among_place, is_eq_same}
 use Rattle.mapping.proofs.Listing.{keys-listing}
@@ -120,16 +121,6 @@ or_same false c m n ns e f h = refl
 among-with_one : (b : Bool) (m n : ℕ) (ns : List ℕ) → is_among n ns ≡ b → is_among m (with_one b n ns) ≡ (nat_eq m n || is_among m ns)
 among-with_one true m n ns e = or_same (nat_eq m n) (is_among m ns) m n ns refl refl e
 among-with_one false m n ns e = among-with_number m n ns
-
-or_grouped : (a b c : Bool) → (a || (b || c)) ≡ ((a || b) || c)
-or_grouped true b c = refl
-or_grouped false b c = refl
-
-or_turned : (a b : Bool) → (a || b) ≡ (b || a)
-or_turned true true = refl
-or_turned true false = refl
-or_turned false true = refl
-or_turned false false = refl
 
 pub among-with_numbers : (k : ℕ) (ms ns : List ℕ) → is_among k (with_numbers ms ns) ≡ (is_among k ms || is_among k ns)
 among-with_numbers k [] ns = refl

@@ -3,7 +3,8 @@ use Rattle.std.specs.Prelude.{◌≡◌, ◌≢◌, ℕ, zero, suc, ◌<◌, ◌
 use Rattle.std.proofs.Common.{refl, sym, ap, ◌∙◌, arith, leb-true, leb-false, ltb-true, ltb-false, inl, inr}
 use Rattle.std.specs.List.{AllByRecursion}
 use Rattle.std.proofs.lemmas.Bool.{cases_lt, eq-eqb, eqb-true, eqb-false, or_parts}
-use Rattle.mapping.specs.FreshPids.{is_among, unused, with_number}
+use Rattle.keys.proofs.Basics.{or_swapped}
+use Rattle.mapping.specs.FreshPids.{is_among, unused, IsNeverUnused, with_number}
 use Rattle.mapping.specs.Proper.{AreRisingPids}
 
 -- ---- among others
@@ -100,10 +101,6 @@ first_is_used false u us m e a h =
     let l : m < u = leb-false u m e in
     let s : unused us m ≡ m = stays us m (below_later m u us l a) in
     omega arith
-
--- a number that is at no place of the unused ones
-abbrev pub IsNeverUnused : List ℕ → ℕ → Type 0
-IsNeverUnused used n = (m : ℕ) → n ≢ unused used m
 
 later_never : (u : ℕ) (us ns : List ℕ) → AllByRecursion (IsNeverUnused us) ns → AllByRecursion (IsNeverUnused (u ∷ us)) ns
 later_never u us [] h = tt
@@ -245,11 +242,6 @@ rising-with_number n [] r f = (tt, tt)
 rising-with_number n (u ∷ us) r f =
     let p = or_parts (nat_eq n u) (is_among n us) f in
     rising_by (nat_lt n u) n u us refl p.0 r (rising-with_number n us r.1 p.1)
-
-or_swapped : (a b c : Bool) → (a || (b || c)) ≡ (b || (a || c))
-or_swapped true true c = refl
-or_swapped true false c = refl
-or_swapped false b c = refl
 
 among_by : (b : Bool) (m n u : ℕ) (us rest : List ℕ) → is_among m rest ≡ (nat_eq m n || is_among m us) → is_among m (cond b (n ∷ u ∷ us) (u ∷ rest)) ≡ (nat_eq m n || is_among m (u ∷ us))
 among_by true m n u us rest h = refl

@@ -5,12 +5,13 @@ use Rattle.std.specs.Ordering.{nat_cmp, is_eq}
 use Rattle.std.specs.List.{AllByRecursion}
 use Rattle.std.specs.Map.{keys_of}
 use Rattle.std.proofs.lemmas.Cmp.{tied_itself, ranked}
+use Rattle.keys.proofs.Basics.{equal_by}
 use Rattle.index_page.specs.Page.{PageOfKind}
 use Rattle.mapping.specs.Tree.{Logged, Tree, listed_at, page_at, or_no, logged_of}
 use Rattle.mapping.specs.Tree.Logged.{No, Old, Upto}
 use Rattle.mapping.specs.Proper.{AreRisingPids, IsTrueOf, AreLogsTrue}
 use Rattle.mapping.proofs.PidLaws.{below_later}
-use Rattle.mapping.proofs.TableLaws.{total, equal_by, same_pid, differ}
+use Rattle.mapping.proofs.TableLaws.{total, same_pid, differ}
 
 module _ {V : Type 0} where
   first_listed : (e : ℕ × V) (es : List (ℕ × V)) → listed_at (e ∷ es) e.0 ≡ Some e.1

@@ -183,7 +183,7 @@ module _ (ps : List (ℕ × PageOfKind)) where
   top_stays zero level u us = refl
   top_stays (suc n) level u us = top_stays n (values_of (joined (map (index_at ps) level))) (map (index_at ps) level) (u ∷ us)
 
-  root_on_top : (n root : ℕ) → top_pid (levels_below ps n (root ∷ []) []).level (levels_below ps n (root ∷ []) []).above ≡ root
+  pub root_on_top : (n root : ℕ) → top_pid (levels_below ps n (root ∷ []) []).level (levels_below ps n (root ∷ []) []).above ≡ root
   root_on_top zero root = refl
   root_on_top (suc n) root = top_stays n (values_of (joined (map (index_at ps) (root ∷ [])))) (map (index_at ps) (root ∷ [])) []
 

@@ -8,6 +8,7 @@ use Rattle.std.specs.Map.{keys_of}
 use Rattle.std.specs.BTreeMap.{insert_entry}
 use Rattle.std.proofs.lemmas.Cmp.{nat_cmp_total, alike_right, tied_itself, ranked}
 use Rattle.std.proofs.lemmas.List.{map-append}
+use Rattle.keys.proofs.Basics.{equal_by}
 use Rattle.index_page.specs.Page.{PageOfKind}
 use Rattle.index_page.specs.Page.PageOfKind.{Leaf, Index}
 use Rattle.index_page.proofs.ListLaws.{all-append, all_apart}
@@ -21,11 +22,6 @@ pub total : IsTotalOrder nat_cmp
 total = nat_cmp_total
 
 -- ---- pids that compare alike are the same
-
-pub equal_by : (o : Ordering) → is_eq o ≡ true → o ≡ Equal
-equal_by Less h = absurd (cc)
-equal_by Equal h = refl
-equal_by Greater h = absurd (cc)
 
 pub same_pid : (m n : ℕ) → nat_cmp m n ≡ Equal → m ≡ n
 same_pid m n e = ranked m n Equal (sym e)

@@ -6,6 +6,7 @@ use Rattle.std.specs.List.{AllByRecursion}
 use Rattle.std.specs.Map.{keys_of}
 use Rattle.std.proofs.lemmas.Bool.{cases_lt, eqb-true}
 use Rattle.std.proofs.lemmas.Cmp.{tied_itself}
+use Rattle.keys.proofs.Basics.{equal_by}
 use Rattle.index_page.specs.Page.{PageOfKind}
 use Rattle.index_page.proofs.ListLaws.{all-append}
 use Rattle.mapping.specs.Tree.{page_at}
@@ -13,7 +14,7 @@ use Rattle.mapping.specs.Levels.{Placed, Levels, pids, all_pids, all_pages, by_p
 use Rattle.mapping.specs.FreshPids.{is_among}
 use Rattle.mapping.specs.Proper.{AreRisingPids, Distinct, HasLeaves, HasIndexPages, HoldsLevels}
 use Rattle.mapping.proofs.PidLaws.{below_later, among_either_by}
-use Rattle.mapping.proofs.TableLaws.{total, equal_by, same_pid, differ, rising-by_pid, by_pid-holds, holds_where_found}
+use Rattle.mapping.proofs.TableLaws.{total, same_pid, differ, rising-by_pid, by_pid-holds, holds_where_found}
 
 -- ---- tables with the same pages
 

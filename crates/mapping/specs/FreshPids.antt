@@ -1,5 +1,5 @@
 -- Which pids are given to new pages.
-use Rattle.std.specs.Prelude.{ℕ, suc, Bool, false, ◌||◌, nat_lt, nat_le, nat_eq, if◌then◌else◌, List, [], ◌∷◌}
+use Rattle.std.specs.Prelude.{◌≢◌, ℕ, suc, Bool, false, ◌||◌, nat_lt, nat_le, nat_eq, if◌then◌else◌, List, [], ◌∷◌}
 
 -- whether the number is among these
 abbrev pub is_among : ℕ → List ℕ → Bool
@@ -10,6 +10,10 @@ is_among n (m ∷ ms) = nat_eq n m || is_among n ms
 abbrev pub unused : List ℕ → ℕ → ℕ
 unused [] n = n
 unused (u ∷ us) n = unused us (if nat_le u n then suc n else n)
+
+-- a number that is at no place of those that are not among these
+abbrev pub IsNeverUnused : List ℕ → ℕ → Type 0
+IsNeverUnused used n = (m : ℕ) → n ≢ unused used m
 
 -- these rising numbers, with one more that isn't among them
 abbrev pub with_number : ℕ → List ℕ → List ℕ

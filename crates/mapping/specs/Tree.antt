@@ -18,6 +18,10 @@ pub record Tree : Type 0 where
   pub height : ℕ
   pub logged : List (ℕ × Logged)
 
+-- how many levels a tree may have at most
+abbrev pub most_levels : ℕ
+most_levels = 64
+
 -- a tree; the first segment of its log; the position behind the log's last frame; the number of the last flush or clean
 pub record Store : Type 0 where
   pub tree : Tree

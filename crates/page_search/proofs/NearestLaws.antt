@@ -10,6 +10,7 @@ use Rattle.std.proofs.lemmas.List.Sums.{sum_by-cons}
 use Rattle.std.proofs.lemmas.Map.Entries.{place_from_lookup}
 use Rattle.keys.specs.Order.{order, AreRisingKeys, IsRising}
 use Rattle.keys.specs.OrderedMap.{value_at}
+use Rattle.keys.proofs.Basics.{less_by}
 use Rattle.keys.proofs.MapLaws.{total, same_key, order_itself, passes_same, flipped_less, flipped_greater}
 use Rattle.delta_chain.specs.Layers.{Layers, said_or, held_under, holds, entries_of, IsInOrder}
 use Rattle.delta_chain.proofs.LayerLaws.{value_at-entries_of}
@@ -18,11 +19,6 @@ use Rattle.page_search.specs.Nearest.{is_on, nearness, past, are_first, named_un
 use Rattle.page_search.specs.declared.side.Side.{Side}
 use Rattle.page_search.specs.declared.side.Side.TheVariants.{UpTo, Below, Above}
 use Rattle.page_search.proofs.PlaceLaws.{rising-or_same, rising-by_place, value_at-there, key_at}
-
-less_by : (o : Ordering) → is_lt o ≡ true → o ≡ Less
-less_by Less h = refl
-less_by Equal h = absurd (cc)
-less_by Greater h = absurd (cc)
 
 -- ---- sides
 

@@ -38,19 +38,16 @@ none_left zero file c h = h
 none_left (suc k) file c h = h
 
 module _ (s : Settings) (file c : List ℕ) (tree : Tree) (on_disk : Store) (by : StandsBy s file on_disk) (is : IsStoreOf s (store_after tree by.slot) file) where
-  abbrev here : Store
-  here = store_after tree by.slot
-
-  by_text : (text : List Frame) → flush_text tree ≡ text → (now : Store) (bytes : List ℕ) → after_flush s here file ≡ left now bytes → LeftDuring (text_calls s here file text) file c
+  by_text : (text : List Frame) → flush_text tree ≡ text → (now : Store) (bytes : List ℕ) → after_flush s (store_after tree by.slot) file ≡ left now bytes → LeftDuring (text_calls s (store_after tree by.slot) file text) file c
       → (store_of_disk c ≡ store_of_disk file) ⊎ (c ≡ bytes)
   by_text [] e now bytes h during = inl (ap store_of_disk (none_left during.0 file c during.1))
   by_text (f ∷ fs) e now bytes h during =
       let some : flush_text tree ≢ [] = (λ none. (let x : f ∷ fs ≡ [] = sym e ∙ none in absurd (cc))) in
-      let t : Slot = flush_slot s here (flush_text tree) in
-      let done = commit-done t (is_full_for_flush s t.head t.tail) (store_after (flushed tree) t) now (committed s file (spans s by.slot.tail (flush_text tree)) t) bytes (sym (text-some s here file (flush_text tree) some) ∙ h) in
+      let t : Slot = flush_slot s (store_after tree by.slot) (flush_text tree) in
+      let done = commit-done t (is_full_for_flush s t.head t.tail) (store_after (flushed tree) t) now (committed s file (spans s by.slot.tail (flush_text tree)) t) bytes (sym (text-some s (store_after tree by.slot) file (flush_text tree) some) ∙ h) in
       let room = room_for s file tree by.slot by.found by.reads is.proper is.words is.height done.room in
       let calls : LeftDuring (commit_calls s file (spans s by.slot.tail (flush_text tree)) t) file c =
-      subst (λ (text : List Frame). LeftDuring (commit_calls s file (spans s by.slot.tail text) (flush_slot s here text)) file c) (sym e) during in
+      subst (λ (text : List Frame). LeftDuring (commit_calls s file (spans s by.slot.tail text) (flush_slot s (store_after tree by.slot) text)) file c) (sym e) during in
       elim (commit-crash s file c on_disk by (flush_text tree) t room refl calls) [
         | inl same ↦ inl same
         | inr whole ↦ inr (whole ∙ sym done.disk)

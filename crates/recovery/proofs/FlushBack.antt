@@ -117,24 +117,21 @@ abbrev pub StandsFor : Settings → Store → List ℕ → Type 0
 StandsFor s now bytes = (store_of_disk bytes ≡ Ok (s, now)) × IsInStep s now bytes
 
 module _ (s : Settings) (file : List ℕ) (tree : Tree) (on_disk : Store) (by : StandsBy s file on_disk) (proper : IsProper s tree) (logs : AreLogsTrue tree) (words : HasWordPids tree) (low : tree.height ≤ 64) where
-  abbrev here : Store
-  here = store_after tree by.slot
-
   abbrev flushed_store : Store
-  flushed_store = store_after (flushed tree) (flush_slot s here (flush_text tree))
+  flushed_store = store_after (flushed tree) (flush_slot s (store_after tree by.slot) (flush_text tree))
 
-  stands : AreInStep here on_disk → (bytes : List ℕ) → Reads s bytes (flush_slot s here (flush_text tree)) (by.found ++ found_in_text s by.slot.tail (flush_text tree)) → StandsFor s flushed_store bytes
+  stands : AreInStep (store_after tree by.slot) on_disk → (bytes : List ℕ) → Reads s bytes (flush_slot s (store_after tree by.slot) (flush_text tree)) (by.found ++ found_in_text s by.slot.tail (flush_text tree)) → StandsFor s flushed_store bytes
   stands step bytes reads =
-      let is = flush-read s here bytes by.found proper (known-frames s here on_disk file proper logs by step) reads in
-      (is, (flushed_store, is, itself-in_step tree.pages tree.root tree.height (flush_slot s here (flush_text tree))))
+      let is = flush-read s (store_after tree by.slot) bytes by.found proper (known-frames s (store_after tree by.slot) on_disk file proper logs by step) reads in
+      (is, (flushed_store, is, itself-in_step tree.pages tree.root tree.height (flush_slot s (store_after tree by.slot) (flush_text tree))))
 
   -- a flush that writes something
-  back : flush_text tree ≢ [] → AreInStep here on_disk → (now : Store) (bytes : List ℕ) → after_flush s here file ≡ left now bytes → StandsFor s now bytes
+  back : flush_text tree ≢ [] → AreInStep (store_after tree by.slot) on_disk → (now : Store) (bytes : List ℕ) → after_flush s (store_after tree by.slot) file ≡ left now bytes → StandsFor s now bytes
   back some step now bytes h =
-      let t : Slot = flush_slot s here (flush_text tree) in
+      let t : Slot = flush_slot s (store_after tree by.slot) (flush_text tree) in
       let full : Bool = is_full_for_flush s t.head t.tail in
       let file' : List ℕ = committed s file (spans s by.slot.tail (flush_text tree)) t in
-      let done = commit-done t full flushed_store now file' bytes (sym (text-some s here file (flush_text tree) some) ∙ h) in
+      let done = commit-done t full flushed_store now file' bytes (sym (text-some s (store_after tree by.slot) file (flush_text tree) some) ∙ h) in
       let reads = flush-reads s file tree by.slot by.found by.reads proper words low done.number done.tail done.room in
       subst (λ (x : Store). StandsFor s x bytes) (sym done.store) (subst (λ (x : List ℕ). StandsFor s flushed_store x) (sym done.disk) (stands step file' reads))
 

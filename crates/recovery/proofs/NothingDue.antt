@@ -7,6 +7,7 @@ use Rattle.std.specs.Ordering.{nat_cmp, is_eq}
 use Rattle.std.proofs.lemmas.List.{append-nil, length-drop, length-map, length-reverse}
 use Rattle.keys.specs.declared.fault.Fault.{Fault}
 use Rattle.keys.specs.declared.settings.Settings.{Settings}
+use Rattle.keys.proofs.Basics.{equal_by}
 use Rattle.index_page.specs.Page.{PageOfKind}
 use Rattle.index_page.specs.Page.PageOfKind.{Leaf, Index}
 use Rattle.mapping.specs.Flushed.{page_depth}
@@ -16,7 +17,7 @@ use Rattle.mapping.specs.Tree.Logged.{No, Old, Upto}
 use Rattle.mapping.proofs.InUse.{is_eq_same}
 use Rattle.mapping.proofs.SameTable.{same_logged}
 use Rattle.mapping.proofs.SameTree.{same_tree}
-use Rattle.mapping.proofs.TableLaws.{same_pid, equal_by, differ}
+use Rattle.mapping.proofs.TableLaws.{same_pid, differ}
 use Rattle.mapping.proofs.Walk.{nothing_found}
 use Rattle.frame_codec.specs.Frame.{Content, Frame}
 use Rattle.flush_log.specs.AfterFlush.{store_after}

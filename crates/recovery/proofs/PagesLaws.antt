@@ -6,6 +6,7 @@ use Rattle.std.specs.Map.{keys_of}
 use Rattle.std.specs.Ordering.{nat_cmp, is_eq}
 use Rattle.std.proofs.lemmas.Bool.{eqb-true, eq-eqb, or_parts}
 use Rattle.std.proofs.lemmas.List.{map-append}
+use Rattle.keys.proofs.Basics.{equal_by}
 use Rattle.mapping.specs.Finding.{Finding}
 use Rattle.mapping.specs.FreshPids.{is_among}
 use Rattle.mapping.specs.Proper.{AreRisingPids}
@@ -13,7 +14,7 @@ use Rattle.mapping.specs.Slots.{entry_if}
 use Rattle.mapping.specs.Tree.{listed_at, page_at}
 use Rattle.mapping.proofs.InUse.{is_eq_same}
 use Rattle.mapping.proofs.KnownPids.{among-with_numbers, rising-with_numbers}
-use Rattle.mapping.proofs.TableLaws.{same_pid, equal_by}
+use Rattle.mapping.proofs.TableLaws.{same_pid}
 use Rattle.frame_codec.specs.Frame.{Frame}
 use Rattle.recovery.specs.LogPages.{contents_of, in_log, pids_of, pages_of, broken_under, broken_in}
 use Rattle.recovery.specs.PageByLog.{page_in, is_broken}

@@ -5,7 +5,7 @@ use Rattle.index_page.specs.Over.{IsPageOver}
 use Rattle.index_page.specs.Page.{PageOfKind}
 use Rattle.mapping.specs.Flushed.{page_depth}
 use Rattle.mapping.specs.Proper.{AreLogsTrue, IsProper}
-use Rattle.mapping.specs.Tree.{Tree, Store, page_at, logged_of}
+use Rattle.mapping.specs.Tree.{Tree, most_levels, Store, page_at, logged_of}
 use Rattle.mapping.specs.Tree.Logged.{No, Upto}
 use Rattle.flush_log.specs.WordPids.{HasWordPids}
 use Rattle.recovery.specs.StoreOfDisk.{store_of_disk}
@@ -34,7 +34,7 @@ pub record IsStoreOf (s : Settings) (st : Store) (file : List ℕ) : Type 0 wher
   pub proper : IsProper s st.tree
   pub logs : AreLogsTrue st.tree
   pub words : HasWordPids st.tree
-  pub height : st.tree.height ≤ 64
+  pub height : st.tree.height ≤ most_levels
   pub step : IsInStep s st file
 
 -- what a tree that came of another keeps of what its log has: the log has a page of the same pids; it has no more of any page;

@@ -8,6 +8,7 @@ use Rattle.mapping.specs.Finding.{Finding, finding, or_else}
 use Rattle.mapping.specs.Tree.{Tree, Store, first_tree}
 use Rattle.frame_codec.specs.Frame.{Frame}
 use Rattle.flush_log.specs.FlushText.{tree_in_log}
+use Rattle.flush_log.specs.NewStore.{first_tail}
 use Rattle.flush_log.specs.Reading.{Found, log}
 use Rattle.flush_log.specs.SettingsBlock.{store_settings}
 use Rattle.flush_log.specs.Slot.{Slot, store_slot}
@@ -45,4 +46,4 @@ store_of_disk file = and_then (store_settings file) (λ s. store_under s file)
 
 -- the store of a new disk
 abbrev pub first_store : Store
-first_store = record { tree = first_tree; head = 0; tail = 33; sequence = 1 }
+first_store = record { tree = first_tree; head = 0; tail = first_tail; sequence = 1 }

@@ -2,7 +2,7 @@
 ghost use Rattle.std.specs.Prelude.{◌≡◌, ◌⊎◌, ℕ, suc, ◌≤◌, false, List, None, Ok};
 ghost use Rattle.keys.specs.Limits.{first_bad_field};
 ghost use Rattle.keys.specs.declared.settings.Settings.{Settings};
-ghost use Rattle.mapping.specs.Tree.{Tree, Store};
+ghost use Rattle.mapping.specs.Tree.{Tree, most_levels, Store};
 ghost use Rattle.mapping.specs.Proper.{AreLogsTrue, IsProper};
 ghost use Rattle.flush_log.specs.AfterFlush.{after_flush, flush_calls};
 ghost use Rattle.flush_log.specs.Commit.{LeftDuring};
@@ -53,6 +53,7 @@ pub fn a_new_disk_stands_for_the_first_store()
 
 /// A store stays in step with its disk when its tree is replaced by one that keeps what the log has: as a batch replaces it.
 pub fn a_tree_that_keeps_what_the_log_has_stays_in_step()
-    ensures { (s : Settings) (st : Store) (new : Tree) (file : List ℕ) → IsStoreOf s st file → IsProper s new → AreLogsTrue new → HasWordPids new → new.height ≤ 64 →
+    ensures { (s : Settings) (st : Store) (new : Tree) (file : List ℕ) → IsStoreOf s st file →
+        IsProper s new → AreLogsTrue new → HasWordPids new → new.height ≤ most_levels →
         KeepsLogged st.tree new → IsStoreOf s (record { tree = new; head = st.head; tail = st.tail; sequence = st.sequence }) file }
 {}

@@ -13,6 +13,7 @@ use Rattle.std.proofs.lemmas.List.Folds.{drop_split}
 use Rattle.std.proofs.lemmas.List.Sorted.{IsNonDecreasingBy-from_sort}
 use Rattle.std.proofs.lemmas.Map.Keys.{IsDistinct-IsPermutation, IsStrictlyIncreasing-from_distinct, sorted_from_strictly_increasing, Less-from_sorted}
 use Rattle.keys.specs.Order.{order}
+use Rattle.keys.proofs.Basics.{or_turned}
 use Rattle.keys.proofs.MapLaws.{total}
 use Rattle.keys.specs.CommandKey.{key_of}
 use Rattle.keys.specs.declared.command.Command.{Command}
@@ -109,12 +110,6 @@ within_from_by false c h = refl
 neither : (s t : Bool) → (s || t) ≡ false → (s ≡ false) × (t ≡ false)
 neither true t h = absurd (cc)
 neither false t h = (refl, h)
-
-or_turned : (a b : Bool) → (a || b) ≡ (b || a)
-or_turned true true = refl
-or_turned true false = refl
-or_turned false true = refl
-or_turned false false = refl
 
 onward_by : (a b c d e : Bool) → (e ≡ true → d ≡ true) → (((a && d) || (not a && b)) && (b && e)) ≡ (b && e)
 onward_by true true c true true f = refl

@@ -7,6 +7,7 @@ use Rattle.std.specs.Map.{keys_of}
 use Rattle.keys.specs.Order.{order, IsRising}
 use Rattle.keys.specs.OrderedMap.{value_at}
 use Rattle.keys.specs.Range.{is_below}
+use Rattle.keys.proofs.Basics.{less_by}
 use Rattle.keys.proofs.MapLaws.{total, passes_same, order_itself, IsBelowAll, below_all}
 use Rattle.keys.proofs.RangeLaws.{all_below}
 use Rattle.delta_chain.specs.Layers.{Layers, holds, entries_of, IsInOrder}
@@ -22,11 +23,6 @@ apart_by : (o : Ordering) (k j : List ℕ) → order k j ≡ o → is_eq o ≡ f
 apart_by Less k j e n = rw (total.antisymm j k, e) refl
 apart_by Equal k j e n = absurd (cc)
 apart_by Greater k j e n = rw (total.antisymm j k, e) refl
-
-less_by : (o : Ordering) → is_lt o ≡ true → o ≡ Less
-less_by Less h = refl
-less_by Equal h = absurd (cc)
-less_by Greater h = absurd (cc)
 
 pub itself : (k : List ℕ) → is_below k k ≡ false
 itself k = rw (order_itself k) refl

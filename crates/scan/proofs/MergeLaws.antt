@@ -9,6 +9,7 @@ use Rattle.std.specs.Option.{option_map}
 use Rattle.keys.specs.Order.{order, IsRising}
 use Rattle.keys.specs.OrderedMap.{value_at}
 use Rattle.keys.specs.Range.{is_below}
+use Rattle.keys.proofs.Basics.{less_by}
 use Rattle.keys.proofs.MapLaws.{IsBelowAll, below_all, same_key, flipped_less, flipped_greater}
 use Rattle.delta_chain.specs.Layers.{said_or, with_run}
 use Rattle.delta_chain.specs.Merging.{present, first_order, asserted, said_by}
@@ -23,11 +24,6 @@ use Rattle.scan.specs.Leaf.{from, behind}
 use Rattle.scan.specs.Merge.{StartsFrom}
 use Rattle.scan.proofs.LeafLaws.{behind-all, from-all, behind-skips, itself}
 use Rattle.scan.proofs.PassingLaws.{said_by-rises, behind-said_by}
-
-pub less_by : (o : Ordering) → is_lt o ≡ true → o ≡ Less
-less_by Less h = refl
-less_by Equal h = absurd (cc)
-less_by Greater h = absurd (cc)
 
 none_below_empty : (j : List ℕ) → is_lt (order j []) ≡ false
 none_below_empty [] = refl

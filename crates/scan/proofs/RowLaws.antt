@@ -1,13 +1,13 @@
 -- Lemmas on the rows that a scan gives.
 use Rattle.std.specs.Prelude.{◌≡◌, ℕ, zero, suc, ◌-◌, ◌<◌, pred, Bool, true, false, not, cond, ◌&&◌, List, [], ◌∷◌, ◌++◌, take, Option, Some, None}
-use Rattle.std.proofs.Common.{refl, sym, ap, ◌∙◌, subst, arith, Less, Ordering, Equal, Greater}
-use Rattle.std.specs.Ordering.{is_lt}
+use Rattle.std.proofs.Common.{refl, sym, ap, ◌∙◌, subst, arith, Less}
 use Rattle.std.specs.List.{take_while}
 use Rattle.std.specs.List.Sorted.{IsStrictlySortedBy}
 use Rattle.std.specs.Map.{keys_of}
 use Rattle.std.proofs.lemmas.List.Sums.{take_while-cons}
 use Rattle.keys.specs.Order.{order, IsRising}
 use Rattle.keys.specs.Range.{is_below, is_before, in_range, rows}
+use Rattle.keys.proofs.Basics.{less_by, and_false}
 use Rattle.keys.proofs.MapLaws.{total, IsBelowAll}
 use Rattle.delta_chain.specs.Layers.{Layers, entries_of}
 use Rattle.index_page.specs.Page.{Page}
@@ -22,11 +22,6 @@ use Rattle.scan.proofs.TreeLaws.{root_is_known, contents-from, contents-rise}
 
 -- ---- a range of rising pairs, cut at its end
 
-less_by : (o : Ordering) → is_lt o ≡ true → o ≡ Less
-less_by Less h = refl
-less_by Equal h = absurd (cc)
-less_by Greater h = absurd (cc)
-
 behind_by : (b : Bool) (i j end : List ℕ) → is_below j end ≡ b → is_below i end ≡ false → order i j ≡ Less → b ≡ false
 behind_by true i j end c n l = absurd (let t : is_below i end ≡ true = rw (total.trans i j end l (less_by (order j end) c)) refl in cc)
 behind_by false i j end c n l = refl
@@ -34,10 +29,6 @@ behind_by false i j end c n l = refl
 behind_end : (hi : Option (List ℕ)) (i j : List ℕ) → is_before hi i ≡ false → order i j ≡ Less → is_before hi j ≡ false
 behind_end None i j n l = absurd (cc)
 behind_end (Some end) i j n l = behind_by (is_below j end) i j end refl n l
-
-and_false : (b c : Bool) → c ≡ false → (b && c) ≡ false
-and_false true c h = h
-and_false false c h = refl
 
 module _ {V : Type 0} (lo : List ℕ) (hi : Option (List ℕ)) where
   abbrev Until : List (List ℕ × V) → List (List ℕ × V)

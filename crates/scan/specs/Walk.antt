@@ -1,16 +1,18 @@
--- A walk over the leaves of a tree in memory, by a path with room for 64 levels.
+-- A walk over the leaves of a tree in memory, by a path with room for as many levels as a tree may have.
 use Rattle.std.specs.Prelude.{◌≡◌, ℕ, pred, ◌-◌, ◌≤◌, List}
 use Rattle.smallvec.specs.SmallVec.{SmallVec}
 use Rattle.index_page.specs.Page.{Page}
+use Rattle.mapping.specs.Tree.{most_levels}
 use Rattle.mapping.specs.TreeInMemory.{TreeInMemory, AreAllHome, tree_of}
 use Rattle.scan.specs.Path.{leaves_from, leaves_left, leaf_pages, IsKnown, ArePathOf}
 
--- no page is away, there are at most 64 levels, the path has pages of the tree, and room for a page of each level
+-- no page is away, there are no more levels than a tree may have, the path has pages of the tree, and room for a page of
+-- each level
 pub record IsWalk (t : TreeInMemory) (path : SmallVec (List ℕ)) : Type 0 where
   pub home : AreAllHome t
-  pub height : t.height ≤ 64
+  pub height : t.height ≤ most_levels
   pub known : ArePathOf (tree_of t).pages (pred t.height) path.items
-  pub room : path.capacity ≡ 64
+  pub room : path.capacity ≡ most_levels
 
 -- so many levels below the root, there is this page
 pub record IsAt (t : TreeInMemory) (depth : ℕ) (pid : ℕ) : Type 0 where

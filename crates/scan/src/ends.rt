@@ -10,6 +10,7 @@ ghost use Rattle.keys.specs.Range.{is_below, in_range};
 ghost use Rattle.delta_chain.specs.Layers.{entries_of};
 ghost use Rattle.mapping.specs.Levels.{levels_of, names, contents};
 ghost use Rattle.mapping.specs.Proper.{AreLevels, HoldsLevels};
+ghost use Rattle.mapping.specs.Tree.{most_levels};
 ghost use Rattle.mapping.specs.TreeInMemory.{AreAllHome, tree_of};
 ghost use Rattle.scan.specs.Ends.{deleted, count_within, count_below, LacksAtMost, AreCertain, named_below};
 
@@ -31,7 +32,7 @@ pub fn scan_ends<'a>(
     commands: &[Command<Global>],
 ) -> Result<Vec<Option<&'a [u8]>>, AllocError>
     requires home { AreAllHome tree.now }
-    requires height { tree.now.height ≤ 64 }
+    requires height { tree.now.height ≤ most_levels }
     requires held { HoldsLevels (tree_of tree.now).pages (levels_of (tree_of tree.now)) }
     requires levels { AreLevels (levels_of (tree_of tree.now)) }
     ensures { IfOk result (λ ends. MayEndAtAll (keys_of (names (levels_of (tree_of tree.now)).level))
@@ -84,7 +85,7 @@ fn end_of<'a>(
     deleted: &[KeyRef<'_>],
 ) -> Option<&'a [u8]>
     requires home { AreAllHome tree.now }
-    requires height { tree.now.height ≤ 64 }
+    requires height { tree.now.height ≤ most_levels }
     requires held { HoldsLevels (tree_of tree.now).pages (levels_of (tree_of tree.now)) }
     requires levels { AreLevels (levels_of (tree_of tree.now)) }
     requires sorted { IsSorted order deleted.now }
@@ -118,7 +119,7 @@ fn end_of_scan<'a>(
     deleted: &[KeyRef<'_>],
 ) -> Option<&'a [u8]>
     requires home { AreAllHome tree.now }
-    requires height { tree.now.height ≤ 64 }
+    requires height { tree.now.height ≤ most_levels }
     requires held { HoldsLevels (tree_of tree.now).pages (levels_of (tree_of tree.now)) }
     requires levels { AreLevels (levels_of (tree_of tree.now)) }
     requires sorted { IsSorted order deleted.now }

@@ -1,5 +1,6 @@
 ghost use Rattle.std.specs.Prelude.{◌≡◌, ◌∷◌, ◌++◌, [], ◌≤◌, length, MatchOption};
 ghost use Rattle.std.specs.Iterator.{YieldsFirstBy, item_count};
+ghost use Rattle.mapping.specs.Tree.{most_levels};
 ghost use Rattle.mapping.specs.TreeInMemory.{AreAllHome};
 ghost use Rattle.scan.specs.Path.{leaf_with};
 ghost use Rattle.scan.specs.Walk.{IsWalk, IsAt, walk_from, walk_left};
@@ -44,7 +45,7 @@ impl<'a: 'k, 'k> Leaves<'a, 'k> {
     // The leaf for the key, and those behind it.
     pub(crate) fn new(alloc: Global, tree: &'a Tree<Global>, key: &'k [u8]) -> (Leaf<'a>, Self)
         requires home { AreAllHome tree.now }
-        requires height { tree.now.height ≤ 64 }
+        requires height { tree.now.height ≤ most_levels }
         requires known { IsAt tree.now 0 tree.now.root }
         ensures { walk_from tree.now 0 key.now tree.now.root
             ≡ leaf_with result.0.0.now result.0.1.now ∷ result.1 }

@@ -4,6 +4,7 @@ ghost use Rattle.std.specs.Option.{option_copied};
 ghost use Rattle.keys.specs.Range.{rows};
 ghost use Rattle.mapping.specs.Levels.{levels_of, contents};
 ghost use Rattle.mapping.specs.Proper.{AreLevels, HoldsLevels};
+ghost use Rattle.mapping.specs.Tree.{most_levels};
 ghost use Rattle.mapping.specs.TreeInMemory.{AreAllHome, tree_of};
 ghost use Rattle.scan.specs.Left.{pairs_left};
 
@@ -46,7 +47,7 @@ impl<'a> Rows<'a> {
         limit: u32,
     ) -> Self
         requires home { AreAllHome tree.now }
-        requires height { tree.now.height ≤ 64 }
+        requires height { tree.now.height ≤ most_levels }
         requires held { HoldsLevels (tree_of tree.now).pages (levels_of (tree_of tree.now)) }
         requires levels { AreLevels (levels_of (tree_of tree.now)) }
         ensures { result ≡ rows lo.now (option_copied hi.entry) limit (contents (tree_of tree.now)) }

@@ -6,8 +6,8 @@ use Rattle.keys.specs.declared.settings.Settings.{Settings}
 use Rattle.keys.specs.Lists.{flat}
 use Rattle.mapping.specs.Levels.{Placed, joined, pids}
 use Rattle.mapping.proofs.LevelLaws.{pids-append}
-use Rattle.mapping.specs.FreshPids.{unused}
-use Rattle.mapping.proofs.PidLaws.{IsNeverUnused, unused-rises}
+use Rattle.mapping.specs.FreshPids.{unused, IsNeverUnused}
+use Rattle.mapping.proofs.PidLaws.{unused-rises}
 use Rattle.mapping.specs.Proper.{Distinct}
 use Rattle.split_plan.specs.Cut.{cut}
 use Rattle.split_plan.specs.Groups.{groups}

@@ -9,6 +9,7 @@ use Rattle.std.specs.BTreeSet.{insert_key}
 use Rattle.std.proofs.lemmas.Cmp.{tied_itself}
 use Rattle.std.proofs.lemmas.Bool.{eq-eqb, eqb-true}
 use Rattle.keys.specs.declared.settings.Settings.{Settings}
+use Rattle.keys.proofs.Basics.{equal_by, or_swapped}
 use Rattle.index_page.specs.Page.{PageOfKind}
 use Rattle.index_page.specs.Page.PageOfKind.{Leaf, Index}
 use Rattle.index_page.specs.Children.{Place}
@@ -16,7 +17,7 @@ use Rattle.index_page.specs.Rules.{is_short_value, is_any_pid}
 use Rattle.mapping.specs.Tree.{page_at}
 use Rattle.mapping.specs.FreshPids.{is_among}
 use Rattle.mapping.specs.Finding.{Finding, common_rules, child_rule, first_broken, broken_leaf, broken_index, or_else, found_at, on_level, unmet, children_at, all_met, finding_below}
-use Rattle.mapping.proofs.TableLaws.{total, same_pid, equal_by}
+use Rattle.mapping.proofs.TableLaws.{total, same_pid}
 use Rattle.verify.specs.Met.{HaveMetTheSame}
 use Rattle.verify.specs.Seen.{broken_at, found_by, first_found}
 use Rattle.verify.specs.declared.look.Level.TheVariants.{Leaves, Above}
@@ -24,11 +25,6 @@ use Rattle.verify.specs.declared.look.Seen.{Seen}
 use Rattle.verify.specs.declared.look.Seen.TheVariants.{Broken, Sound}
 
 -- ---- one more in order
-
-or_swapped : (a b c : Bool) → (a || (b || c)) ≡ (b || (a || c))
-or_swapped true true c = refl
-or_swapped true false c = refl
-or_swapped false b c = refl
 
 or_twice : (a c : Bool) → (a || c) ≡ (a || (a || c))
 or_twice true c = refl
