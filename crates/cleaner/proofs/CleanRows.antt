@@ -7,28 +7,16 @@ use Rattle.keys.proofs.Literals.{S}
 use Rattle.mapping.specs.Tree.{Store}
 use Rattle.mapping.specs.Tree.Logged.{Upto}
 use Rattle.frame_codec.specs.Frame.{Frame}
-use Rattle.frame_codec.specs.Frame.Content.{FullLeaf, DeltaLeaf}
+use Rattle.frame_codec.specs.Frame.Content.{FullLeaf}
 use Rattle.flush_log.specs.Layout.{tail_after, found_in_text}
 use Rattle.flush_log.specs.Reading.{Found}
-use Rattle.flush_log.proofs.Literals.{pair, set, leaf, tree, frame, base_1, pages_of_row_4}
+use Rattle.flush_log.proofs.Literals.{pair, set, leaf, tree, frame, base_1, pages_of_row_4, sixteen, run, three}
 use Rattle.recovery.specs.StoreOfDisk.{store_of_disk}
 use Rattle.recovery.proofs.DiskForms.{disk}
 use Rattle.cleaner.specs.AfterClean.{after_clean}
 use Rattle.cleaner.specs.CleanText.{clean_text}
 
-abbrev sixteen : String
-sixteen = "0123456789abcdef"
-
 -- ---- row 15: every third flush writes a base, so that none of the head segment's lives
-
-abbrev run : List Frame
-run = frame 0 (DeltaLeaf (set "a" sixteen ∷ [])) ∷ []
-
-abbrev base : List Frame
-base = frame 0 (FullLeaf [] (pair "a" sixteen ∷ [])) ∷ []
-
-abbrev three : List (List Frame)
-three = run ∷ run ∷ base ∷ []
 
 -- what is found of texts that were written one after the other
 abbrev found_in_all : ℕ → List (List Frame) → List Found

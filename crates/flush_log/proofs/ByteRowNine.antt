@@ -4,15 +4,12 @@ use Rattle.std.proofs.Common.{refl}
 use Rattle.keys.specs.declared.fault.Fault.TheVariants.{BadFrame}
 use Rattle.keys.proofs.Literals.{S}
 use Rattle.frame_codec.specs.Frame.{Frame}
-use Rattle.frame_codec.specs.Frame.Content.{FullLeaf, DeltaLeaf, FullIndex}
+use Rattle.frame_codec.specs.Frame.Content.{DeltaLeaf}
 use Rattle.frame_codec.proofs.RowForms.{hex}
 use Rattle.flush_log.specs.Overlay.{overlay}
 use Rattle.flush_log.specs.Layout.{spans, with_spans, found_in_text}
 use Rattle.flush_log.specs.Reading.{log}
-use Rattle.flush_log.proofs.Literals.{frame, base_0, base_1, base_2}
-
-abbrev text : List Frame
-text = frame 0 (FullLeaf [] base_0) ∷ frame 1 (FullLeaf (codes "c") base_1) ∷ frame 2 (FullIndex [] base_2) ∷ []
+use Rattle.flush_log.proofs.Literals.{frame, text_of_row_4}
 
 -- the first span has zeros in the segment's last 12 bytes, the second one the next segment's header
 abbrev leaves : List ℕ
@@ -22,7 +19,7 @@ leaves = hex "01 00000018 0000000000000000 0000 0002 0001 61 0001 31 0001 62 000
 abbrev begun : List ℕ
 begun = hex "42575347 00000000 0000000000000001" ++ hex "03 00000021 0000000000000002 0000 0002 0000 0000000000000000 0001 63 0000000000000001"
 
-two_spans : spans S 179 text ≡ record { segment = 0; offset = 179; bytes = leaves ++ replicate 12 0 } ∷ record { segment = 1; offset = 0; bytes = begun } ∷ []
+two_spans : spans S 179 text_of_row_4 ≡ record { segment = 0; offset = 179; bytes = leaves ++ replicate 12 0 } ∷ record { segment = 1; offset = 0; bytes = begun } ∷ []
 two_spans = refl
 
 -- segments 0 and 1 with those spans behind a frame of 163 bytes, as the log of row 10 has them behind others; what lies behind
@@ -31,12 +28,12 @@ abbrev long : List Frame
 long = frame 0 (DeltaLeaf (map (λ k. (k ∷ codes "123456789abcdef", Some (codes "0123456789abcdef"))) (codes "0123"))) ∷ []
 
 abbrev file : List ℕ
-file = with_spans S (with_spans S (replicate 1024 7) (spans S 0 long)) (spans S 179 text)
+file = with_spans S (with_spans S (replicate 1024 7) (spans S 0 long)) (spans S 179 text_of_row_4)
 
-found : log S file 0 310 ≡ Ok (found_in_text S 0 long ++ found_in_text S 179 text)
+found : log S file 0 310 ≡ Ok (found_in_text S 0 long ++ found_in_text S 179 text_of_row_4)
 found = refl
 
-in_segments : found_in_text S 179 text ≡ map (λ f. record { segment = 0; frame = f }) (take 2 text) ++ map (λ f. record { segment = 1; frame = f }) (drop 2 text)
+in_segments : found_in_text S 179 text_of_row_4 ≡ map (λ f. record { segment = 0; frame = f }) (take 2 text_of_row_4) ++ map (λ f. record { segment = 1; frame = f }) (drop 2 text_of_row_4)
 in_segments = refl
 
 -- a byte of the padding isn't 0: the fault stands where the padding begins

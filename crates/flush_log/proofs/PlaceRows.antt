@@ -7,7 +7,7 @@ use Rattle.frame_codec.specs.Frame.{Frame, bytes_of}
 use Rattle.frame_codec.specs.Frame.Content.{FullLeaf, DeltaLeaf, FullIndex, DeltaIndex, Free}
 use Rattle.flush_log.specs.Layout.{placed, tail_after, spans, is_full_for_flush, is_full_for_clean}
 use Rattle.flush_log.specs.Segments.{segment_header, position}
-use Rattle.flush_log.proofs.Literals.{pair, set, gone, frame, base_0, base_1, base_2}
+use Rattle.flush_log.proofs.Literals.{pair, set, gone, frame, base_0, base_1, base_2, text_of_row_4, ones, sixteen, run, base, three}
 
 -- the positions of the frames of a text, and the tail behind it
 abbrev laid : ℕ → List Frame → List ℕ × ℕ
@@ -25,19 +25,13 @@ row_3 : laid 33 (frame 0 (DeltaLeaf (set "a" "1" ∷ [])) ∷ []) ≡ (33 ∷ []
 row_3 = refl
 
 -- row 4, and row 10 where the root doesn't fit behind the second leaf
-abbrev text_4 : List Frame
-text_4 = frame 0 (FullLeaf [] base_0) ∷ frame 1 (FullLeaf (codes "c") base_1) ∷ frame 2 (FullIndex [] base_2) ∷ []
-
-row_4 : laid 33 text_4 ≡ (33 ∷ 62 ∷ 98 ∷ [], 136)
+row_4 : laid 33 text_of_row_4 ≡ (33 ∷ 62 ∷ 98 ∷ [], 136)
 row_4 = refl
 
-row_10 : laid 179 text_4 ≡ (179 ∷ 208 ∷ 272 ∷ [], 310)
+row_10 : laid 179 text_of_row_4 ≡ (179 ∷ 208 ∷ 272 ∷ [], 310)
 row_10 = refl
 
 -- five leaves, then three index pages
-abbrev ones : String → List (List ℕ × List ℕ)
-ones keys = map (λ k. (k ∷ [], codes "1")) (codes keys)
-
 abbrev text_5 : List Frame
 text_5 = frame 0 (FullLeaf [] (ones "abc")) ∷ frame 1 (FullLeaf (codes "d") (ones "def")) ∷ frame 2 (FullLeaf (codes "g") (ones "ghij"))
     ∷ frame 3 (FullLeaf (codes "k") (ones "klm")) ∷ frame 4 (FullLeaf (codes "n") (ones "nopq"))
@@ -67,9 +61,6 @@ row_13 = refl
 abbrev nine : String
 nine = "012345678"
 
-abbrev sixteen : String
-sixteen = "0123456789abcdef"
-
 abbrev four_long : Frame
 four_long = frame 0 (DeltaLeaf (set "0123456789abcdef" sixteen ∷ set "1123456789abcdef" sixteen ∷ set "2123456789abcdef" sixteen ∷ set "3123456789abcdef" sixteen ∷ []))
 
@@ -90,15 +81,6 @@ row_14_next : laid 256 (frame 1 Free ∷ []) ≡ (272 ∷ [], 285)
 row_14_next = refl
 
 -- every third flush writes the base, the others a run
-abbrev run : List Frame
-run = frame 0 (DeltaLeaf (set "a" sixteen ∷ [])) ∷ []
-
-abbrev base : List Frame
-base = frame 0 (FullLeaf [] (pair "a" sixteen ∷ [])) ∷ []
-
-abbrev three : List (List Frame)
-three = run ∷ run ∷ base ∷ []
-
 row_15 : tails 33 (three ++ (three ++ (three ++ (three ++ (three ++ (run ∷ run ∷ []))))))
     ≡ 70 ∷ 107 ∷ 145 ∷ 182 ∷ 219 ∷ 310 ∷ 347 ∷ 384 ∷ 422 ∷ 459 ∷ 496 ∷ 566 ∷ 603 ∷ 640 ∷ 678 ∷ 715 ∷ 752 ∷ []
 row_15 = refl
