@@ -1,5 +1,5 @@
 -- The pages of a level that were seen are still away once the levels above have climbed.
-use Rattle.std.specs.Prelude.{◌≡◌, ◌≢◌, ℕ, true, false, List, [], ◌∷◌, ◌++◌, map, flat_map, Some, None}
+use Rattle.std.specs.Prelude.{◌≡◌, ◌≢◌, ℕ, true, false, List, [], ◌∷◌, ◌++◌, flat_map, Some, None}
 use Rattle.std.proofs.Common.{sym, ◌∙◌, subst}
 use Rattle.std.specs.List.{AllByRecursion}
 use Rattle.keys.specs.declared.settings.Settings.{Settings}
@@ -25,11 +25,8 @@ use Rattle.climb_plan.proofs.ChangingOutdated.{worked_pids-placed}
 use Rattle.climb_plan.proofs.ClimbingLevel.{parents_here, climbed_above, level_untouched}
 use Rattle.climb_plan.proofs.Families.{families-joined}
 use Rattle.climb_plan.proofs.InstallingLaws.{not_among}
+use Rattle.climb_plan.proofs.ThroughLevel.{seen_pids}
 use Rattle.climb_plan.proofs.ToldRuns.{terms_told, all_told}
-
--- the pids of pages that are seen
-abbrev pub seen_pids : List SeenPage → List ℕ
-seen_pids xs = map (λ x. x.pid) xs
 
 module _ {V : Type 0} (of : Page V → PageOfKind) (t : Mapping PageOfKind) where
   -- what holds of all pids of a level holds of those that are seen
