@@ -3,37 +3,25 @@ use Rattle.std.specs.Prelude.{◌≡◌, ℕ, List, [], ◌∷◌, ◌++◌, dro
 use Prim.Native.String.{String}
 use Rattle.std.proofs.Common.{refl}
 use Rattle.keys.specs.declared.fault.Fault.TheVariants.{NothingToClean}
+use Rattle.keys.proofs.Literals.{S}
 use Rattle.mapping.specs.Tree.{Store}
 use Rattle.mapping.specs.Tree.Logged.{Upto}
 use Rattle.frame_codec.specs.Frame.{Frame}
-use Rattle.frame_codec.specs.Frame.Content.{FullLeaf, DeltaLeaf}
-use Rattle.frame_codec.proofs.RowForms.{small}
+use Rattle.frame_codec.specs.Frame.Content.{FullLeaf}
 use Rattle.flush_log.specs.Layout.{tail_after, found_in_text}
 use Rattle.flush_log.specs.Reading.{Found}
-use Rattle.flush_log.proofs.Literals.{pair, set, leaf, tree, frame, base_1, pages_of_row_4}
+use Rattle.flush_log.proofs.Literals.{pair, set, leaf, tree, frame, base_1, pages_of_row_4, sixteen, run, three}
 use Rattle.recovery.specs.StoreOfDisk.{store_of_disk}
 use Rattle.recovery.proofs.DiskForms.{disk}
 use Rattle.cleaner.specs.AfterClean.{after_clean}
 use Rattle.cleaner.specs.CleanText.{clean_text}
 
-abbrev sixteen : String
-sixteen = "0123456789abcdef"
-
 -- ---- row 15: every third flush writes a base, so that none of the head segment's lives
-
-abbrev run : List Frame
-run = frame 0 (DeltaLeaf (set "a" sixteen ∷ [])) ∷ []
-
-abbrev base : List Frame
-base = frame 0 (FullLeaf [] (pair "a" sixteen ∷ [])) ∷ []
-
-abbrev three : List (List Frame)
-three = run ∷ run ∷ base ∷ []
 
 -- what is found of texts that were written one after the other
 abbrev found_in_all : ℕ → List (List Frame) → List Found
 found_in_all tail [] = []
-found_in_all tail (text ∷ texts) = found_in_text small tail text ++ found_in_all (tail_after small tail text) texts
+found_in_all tail (text ∷ texts) = found_in_text S tail text ++ found_in_all (tail_after S tail text) texts
 
 row_15 : clean_text 0 (found_in_all 16 ((frame 0 (FullLeaf [] []) ∷ []) ∷ (three ++ (three ++ (three ++ (three ++ (three ++ (run ∷ run ∷ [])))))))) ≡ []
 row_15 = refl
@@ -76,11 +64,11 @@ on_disk head tail sequence = record {
   sequence = sequence;
 }
 
-row_16 : after_clean small (in_memory 0 309 6) disk_before ≡ Ok (in_memory 1 464 7, disk_after)
+row_16 : after_clean S (in_memory 0 309 6) disk_before ≡ Ok (in_memory 1 464 7, disk_after)
 row_16 = refl
 
-row_16_read : store_of_disk disk_after ≡ Ok (small, on_disk 1 464 7)
+row_16_read : store_of_disk disk_after ≡ Ok (S, on_disk 1 464 7)
 row_16_read = refl
 
-row_16_again : after_clean small (in_memory 1 464 7) disk_after ≡ Err NothingToClean
+row_16_again : after_clean S (in_memory 1 464 7) disk_after ≡ Err NothingToClean
 row_16_again = refl

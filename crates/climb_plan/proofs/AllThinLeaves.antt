@@ -2,10 +2,12 @@
 -- one group: pids 1 and 2 are freed; root 0, height 1, no pairs.
 use Rattle.std.specs.Prelude.{◌≡◌, List, [], ◌∷◌, None}
 use Rattle.std.proofs.Common.{refl}
+use Rattle.keys.proofs.Literals.{S, a, b, c, d, e}
 use Rattle.mapping.specs.Tree.{Tree}
 use Rattle.mapping.specs.Levels.{contents}
 use Rattle.mapping.specs.Finding.{finding}
-use Rattle.climb_plan.proofs.Literals.{S, Batch, a, b, c, d, e, put, del, del_all, leaf, tree, fresh, after, five_puts}
+use Rattle.mapping.proofs.Literals.{leaf, tree}
+use Rattle.climb_plan.proofs.Literals.{Batch, put, del, del_all, fresh, after, five_puts}
 
 abbrev batches : List Batch
 batches = five_puts ∷ del_all (a ∷ b ∷ c ∷ d ∷ e ∷ []) ∷ (put a 1 ∷ put e 1 ∷ []) ∷ (del a ∷ del e ∷ []) ∷ []

@@ -5,10 +5,12 @@
 -- neighbour, then that neighbour, 13. Page 5 and the root get a run in front.
 use Rattle.std.specs.Prelude.{◌≡◌, ℕ, ◌+◌, [], ◌∷◌, ◌++◌, map, Some, None}
 use Rattle.std.proofs.Common.{refl}
+use Rattle.keys.proofs.Literals.{S, a, b, c, d, e, f, g, h, i, j, k, l, m, n, o, p, q}
 use Rattle.mapping.specs.Tree.{Tree}
 use Rattle.mapping.specs.Tree.Logged.{Old, Upto}
 use Rattle.mapping.specs.Finding.{finding}
-use Rattle.climb_plan.proofs.Literals.{S, Bytes, Batch, a, b, c, d, e, f, g, h, i, j, k, l, m, n, o, p, q, put, pair, ones, gone, leaf, index, index_under, tree, with_log, after}
+use Rattle.mapping.proofs.Literals.{gone, index_under, leaf, index, tree}
+use Rattle.climb_plan.proofs.Literals.{Bytes, Batch, put, pair, ones, with_log, after}
 use Rattle.climb_plan.proofs.RowThirteen.{tree_13}
 
 abbrev da : Bytes

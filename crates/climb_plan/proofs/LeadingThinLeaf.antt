@@ -3,10 +3,12 @@
 -- is 7 pages, height 3, 14 pairs in a proper tree.
 use Rattle.std.specs.Prelude.{◌≡◌, List, [], ◌∷◌, None, length}
 use Rattle.std.proofs.Common.{refl}
+use Rattle.keys.proofs.Literals.{S, a, b, c, d, e, f, g, h, i, j, k, l, m, n, o, p, q}
 use Rattle.mapping.specs.Tree.{Tree}
 use Rattle.mapping.specs.Levels.{contents}
 use Rattle.mapping.specs.Finding.{finding}
-use Rattle.climb_plan.proofs.Literals.{S, Batch, a, b, c, d, e, f, g, h, i, j, k, l, m, n, o, p, q, put, del, del_all, ones, gone, leaf, index, index_under, tree, fresh, after, seventeen_puts}
+use Rattle.mapping.proofs.Literals.{gone, index_under, leaf, index, tree}
+use Rattle.climb_plan.proofs.Literals.{Batch, put, del, del_all, ones, fresh, after, seventeen_puts}
 
 abbrev batches : List Batch
 batches = seventeen_puts ∷ del_all (a ∷ b ∷ c ∷ []) ∷ (put a 1 ∷ []) ∷ (del a ∷ []) ∷ []

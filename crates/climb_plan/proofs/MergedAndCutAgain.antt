@@ -4,9 +4,11 @@
 -- has one run, with e present (3) and i absent.
 use Rattle.std.specs.Prelude.{◌≡◌, List, [], ◌∷◌, Some, None}
 use Rattle.std.proofs.Common.{refl}
+use Rattle.keys.proofs.Literals.{T, a, b, c, d, e, f, g, h, i, j, k, l, m, n, o, p}
 use Rattle.mapping.specs.Tree.{Tree}
 use Rattle.mapping.specs.Finding.{finding}
-use Rattle.climb_plan.proofs.Literals.{T, Batch, a, b, c, d, e, f, g, h, i, j, k, l, m, n, o, p, put, put_ones, del_all, pair, set, ones, gone, leaf, leaf_under, index, index_under, tree, fresh, after}
+use Rattle.mapping.proofs.Literals.{gone, leaf_under, index_under, leaf, index, tree}
+use Rattle.climb_plan.proofs.Literals.{Batch, put, put_ones, del_all, pair, set, ones, fresh, after}
 
 abbrev sixteen_puts : Batch
 sixteen_puts = put_ones (a ∷ b ∷ c ∷ d ∷ e ∷ f ∷ g ∷ h ∷ i ∷ j ∷ k ∷ l ∷ m ∷ n ∷ o ∷ p ∷ [])

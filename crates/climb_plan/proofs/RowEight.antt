@@ -2,12 +2,11 @@
 -- is absent and ca has 9.
 use Rattle.std.specs.Prelude.{◌≡◌, [], ◌∷◌, None}
 use Rattle.std.proofs.Common.{refl}
+use Rattle.keys.proofs.Literals.{S, a, b, c, d, e, ca}
 use Rattle.mapping.specs.Tree.{Tree}
 use Rattle.mapping.specs.Finding.{finding}
-use Rattle.climb_plan.proofs.Literals.{S, Bytes, a, b, c, d, e, put, del, pair, set, gone, leaf, leaf_under, index, tree, fresh, after, five_puts}
-
-abbrev ca : Bytes
-ca = 99 ∷ 97 ∷ []
+use Rattle.mapping.proofs.Literals.{gone, leaf_under, leaf, index, tree}
+use Rattle.climb_plan.proofs.Literals.{put, del, pair, set, fresh, after, five_puts}
 
 abbrev tree_8 : Tree
 tree_8 = tree (

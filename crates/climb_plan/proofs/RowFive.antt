@@ -3,10 +3,12 @@
 -- (k, 3) and (n, 4); the root is 7; height 3. That is 17 pairs in a proper tree.
 use Rattle.std.specs.Prelude.{◌≡◌, [], ◌∷◌, None, length}
 use Rattle.std.proofs.Common.{refl}
+use Rattle.keys.proofs.Literals.{S, a, b, c, d, e, f, g, h, i, j, k, l, m, n, o, p, q}
 use Rattle.mapping.specs.Tree.{Tree}
 use Rattle.mapping.specs.Levels.{contents}
 use Rattle.mapping.specs.Finding.{finding}
-use Rattle.climb_plan.proofs.Literals.{S, a, b, c, d, e, f, g, h, i, j, k, l, m, n, o, p, q, ones, leaf, index, tree, fresh, after, seventeen_puts}
+use Rattle.mapping.proofs.Literals.{leaf, index, tree}
+use Rattle.climb_plan.proofs.Literals.{ones, fresh, after, seventeen_puts}
 
 abbrev tree_5 : Tree
 tree_5 = tree (

@@ -2,10 +2,11 @@
 -- key c; the root 2 has (empty, 0) and (c, 1); height 2. The log had the base of the empty leaf.
 use Rattle.std.specs.Prelude.{◌≡◌, [], ◌∷◌, None}
 use Rattle.std.proofs.Common.{refl}
+use Rattle.keys.proofs.Literals.{S}
 use Rattle.mapping.specs.Tree.{first_tree}
 use Rattle.mapping.specs.Tree.Logged.{Old}
 use Rattle.mapping.specs.Finding.{finding}
-use Rattle.climb_plan.proofs.Literals.{S, with_log, fresh, after, five_puts, tree_of_five}
+use Rattle.climb_plan.proofs.Literals.{with_log, fresh, after, five_puts, tree_of_five}
 
 row_4 : after S fresh (five_puts ∷ []) ≡ tree_of_five
 row_4 = refl

@@ -3,10 +3,12 @@
 -- bases of all three pages, and what it has of them now is old.
 use Rattle.std.specs.Prelude.{◌≡◌, List, [], ◌∷◌, None}
 use Rattle.std.proofs.Common.{refl}
+use Rattle.keys.proofs.Literals.{S, a, b, c, d, e}
 use Rattle.mapping.specs.Tree.{Tree}
 use Rattle.mapping.specs.Tree.Logged.{Old}
 use Rattle.mapping.specs.Finding.{finding}
-use Rattle.climb_plan.proofs.Literals.{S, Batch, a, b, c, d, e, put, del, del_all, pair, set, gone, leaf, leaf_under, index, tree, with_log, bases_of, fresh, after, five_puts}
+use Rattle.mapping.proofs.Literals.{gone, leaf_under, leaf, index, tree}
+use Rattle.climb_plan.proofs.Literals.{Batch, put, del, del_all, pair, set, with_log, bases_of, fresh, after, five_puts}
 
 abbrev flushed : Tree
 flushed = with_log (bases_of (0 ∷ 1 ∷ 2 ∷ [])) (after S fresh (five_puts ∷ []))

@@ -2,9 +2,10 @@
 -- The log had the base of page 0 alone: that is no longer the page's, and of pages 1 and 2 it still has nothing.
 use Rattle.std.specs.Prelude.{◌≡◌, [], ◌∷◌}
 use Rattle.std.proofs.Common.{refl}
+use Rattle.keys.proofs.Literals.{S, a, b, c, d, e}
 use Rattle.mapping.specs.Tree.{Tree, logged_of}
 use Rattle.mapping.specs.Tree.Logged.{No, Old}
-use Rattle.climb_plan.proofs.Literals.{S, a, b, c, d, e, put, del, del_all, with_log, bases_of, fresh, after, five_puts, tree_of_five}
+use Rattle.climb_plan.proofs.Literals.{put, del, del_all, with_log, bases_of, fresh, after, five_puts, tree_of_five}
 
 -- row 4 and row 9, without their flushes
 abbrev emptied : Tree

@@ -3,11 +3,13 @@
 -- a proper tree. The log had the bases of all eight pages; it no longer has those of 0 and 1.
 use Rattle.std.specs.Prelude.{◌≡◌, List, [], ◌∷◌, None, length}
 use Rattle.std.proofs.Common.{refl}
+use Rattle.keys.proofs.Literals.{S, a, b, c, d, e, f, g, h, i, j, k, l, m, n, o, p, q}
 use Rattle.mapping.specs.Tree.{Tree}
 use Rattle.mapping.specs.Tree.Logged.{Old}
 use Rattle.mapping.specs.Levels.{contents}
 use Rattle.mapping.specs.Finding.{finding}
-use Rattle.climb_plan.proofs.Literals.{S, Batch, a, b, c, d, e, f, g, h, i, j, k, l, m, n, o, p, q, put, del, del_all, ones, gone, leaf, index, index_under, tree, with_log, bases_of, fresh, after, seventeen_puts}
+use Rattle.mapping.proofs.Literals.{gone, index_under, leaf, index, tree}
+use Rattle.climb_plan.proofs.Literals.{Batch, put, del, del_all, ones, with_log, bases_of, fresh, after, seventeen_puts}
 
 abbrev flushed : Tree
 flushed = with_log (bases_of (0 ∷ 1 ∷ 2 ∷ 3 ∷ 4 ∷ 5 ∷ 6 ∷ 7 ∷ [])) (after S fresh (seventeen_puts ∷ []))

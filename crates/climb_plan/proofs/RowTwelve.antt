@@ -1,9 +1,11 @@
 -- Row 12: after row 4, `put a 9`: leaf 0 has one run, and the other pages are as they were.
 use Rattle.std.specs.Prelude.{◌≡◌, [], ◌∷◌, None}
 use Rattle.std.proofs.Common.{refl}
+use Rattle.keys.proofs.Literals.{S, a, b, c, d, e}
 use Rattle.mapping.specs.Tree.{Tree}
 use Rattle.mapping.specs.Finding.{finding}
-use Rattle.climb_plan.proofs.Literals.{S, a, b, c, d, e, put, pair, set, leaf, leaf_under, index, tree, fresh, after, five_puts}
+use Rattle.mapping.proofs.Literals.{leaf_under, leaf, index, tree}
+use Rattle.climb_plan.proofs.Literals.{put, pair, set, fresh, after, five_puts}
 
 abbrev tree_12 : Tree
 tree_12 = tree (

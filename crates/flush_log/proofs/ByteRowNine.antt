@@ -2,16 +2,14 @@
 use Rattle.std.specs.Prelude.{◌≡◌, ℕ, List, [], ◌∷◌, ◌++◌, map, replicate, take, drop, codes, Some, Ok, Err}
 use Rattle.std.proofs.Common.{refl}
 use Rattle.keys.specs.declared.fault.Fault.TheVariants.{BadFrame}
+use Rattle.keys.proofs.Literals.{S}
 use Rattle.frame_codec.specs.Frame.{Frame}
-use Rattle.frame_codec.specs.Frame.Content.{FullLeaf, DeltaLeaf, FullIndex}
-use Rattle.frame_codec.proofs.RowForms.{small, hex}
+use Rattle.frame_codec.specs.Frame.Content.{DeltaLeaf}
+use Rattle.frame_codec.proofs.RowForms.{hex}
 use Rattle.flush_log.specs.Overlay.{overlay}
 use Rattle.flush_log.specs.Layout.{spans, with_spans, found_in_text}
 use Rattle.flush_log.specs.Reading.{log}
-use Rattle.flush_log.proofs.Literals.{frame, base_0, base_1, base_2}
-
-abbrev text : List Frame
-text = frame 0 (FullLeaf [] base_0) ∷ frame 1 (FullLeaf (codes "c") base_1) ∷ frame 2 (FullIndex [] base_2) ∷ []
+use Rattle.flush_log.proofs.Literals.{frame, text_of_row_4}
 
 -- the first span has zeros in the segment's last 12 bytes, the second one the next segment's header
 abbrev leaves : List ℕ
@@ -21,7 +19,7 @@ leaves = hex "01 00000018 0000000000000000 0000 0002 0001 61 0001 31 0001 62 000
 abbrev begun : List ℕ
 begun = hex "42575347 00000000 0000000000000001" ++ hex "03 00000021 0000000000000002 0000 0002 0000 0000000000000000 0001 63 0000000000000001"
 
-two_spans : spans small 179 text ≡ record { segment = 0; offset = 179; bytes = leaves ++ replicate 12 0 } ∷ record { segment = 1; offset = 0; bytes = begun } ∷ []
+two_spans : spans S 179 text_of_row_4 ≡ record { segment = 0; offset = 179; bytes = leaves ++ replicate 12 0 } ∷ record { segment = 1; offset = 0; bytes = begun } ∷ []
 two_spans = refl
 
 -- segments 0 and 1 with those spans behind a frame of 163 bytes, as the log of row 10 has them behind others; what lies behind
@@ -30,22 +28,22 @@ abbrev long : List Frame
 long = frame 0 (DeltaLeaf (map (λ k. (k ∷ codes "123456789abcdef", Some (codes "0123456789abcdef"))) (codes "0123"))) ∷ []
 
 abbrev file : List ℕ
-file = with_spans small (with_spans small (replicate 1024 7) (spans small 0 long)) (spans small 179 text)
+file = with_spans S (with_spans S (replicate 1024 7) (spans S 0 long)) (spans S 179 text_of_row_4)
 
-found : log small file 0 310 ≡ Ok (found_in_text small 0 long ++ found_in_text small 179 text)
+found : log S file 0 310 ≡ Ok (found_in_text S 0 long ++ found_in_text S 179 text_of_row_4)
 found = refl
 
-in_segments : found_in_text small 179 text ≡ map (λ f. record { segment = 0; frame = f }) (take 2 text) ++ map (λ f. record { segment = 1; frame = f }) (drop 2 text)
+in_segments : found_in_text S 179 text_of_row_4 ≡ map (λ f. record { segment = 0; frame = f }) (take 2 text_of_row_4) ++ map (λ f. record { segment = 1; frame = f }) (drop 2 text_of_row_4)
 in_segments = refl
 
 -- a byte of the padding isn't 0: the fault stands where the padding begins
-padding_with_a_7 : log small (overlay file 767 (7 ∷ [])) 0 310 ≡ Err (BadFrame 0 244)
+padding_with_a_7 : log S (overlay file 767 (7 ∷ [])) 0 310 ≡ Err (BadFrame 0 244)
 padding_with_a_7 = refl
 
 -- zeros are no end in the last segment
-zeros_before_the_tail : log small (overlay file 822 (0 ∷ 0 ∷ [])) 0 312 ≡ Err (BadFrame 1 54)
+zeros_before_the_tail : log S (overlay file 822 (0 ∷ 0 ∷ [])) 0 312 ≡ Err (BadFrame 1 54)
 zeros_before_the_tail = refl
 
 -- of two faults the first one is answered
-first_of_two : log small (overlay (overlay file 783 (2 ∷ [])) 528 (9 ∷ [])) 0 310 ≡ Err (BadFrame 0 16)
+first_of_two : log S (overlay (overlay file 783 (2 ∷ [])) 528 (9 ∷ [])) 0 310 ≡ Err (BadFrame 0 16)
 first_of_two = refl

@@ -1,10 +1,11 @@
 -- What the worked rows of the log are written in: pages, trees, frames.
-use Rattle.std.specs.Prelude.{ℕ, List, [], ◌∷◌, Option, Some, None, codes}
+use Rattle.std.specs.Prelude.{ℕ, List, [], ◌∷◌, map, Option, Some, None, codes}
 use Prim.Native.String.{String}
 use Rattle.index_page.specs.Page.{PageOfKind}
 use Rattle.index_page.specs.Page.PageOfKind.{Leaf, Index}
 use Rattle.mapping.specs.Tree.{Logged, Tree}
 use Rattle.frame_codec.specs.Frame.{Content, Frame}
+use Rattle.frame_codec.specs.Frame.Content.{FullLeaf, DeltaLeaf, FullIndex}
 
 -- a pair of a key and a value, by their letters; a change that sets it, and one that takes the key away
 abbrev pub pair : String → String → List ℕ × List ℕ
@@ -44,3 +45,26 @@ base_2 = ([], 0) ∷ (codes "c", 1) ∷ []
 
 abbrev pub pages_of_row_4 : List (ℕ × PageOfKind)
 pages_of_row_4 = leaf 0 "" [] base_0 ∷ leaf 1 "c" [] base_1 ∷ index 2 "" [] base_2 ∷ []
+
+-- its text, once page 0 was replaced and the others are new
+abbrev pub text_of_row_4 : List Frame
+text_of_row_4 = frame 0 (FullLeaf [] base_0) ∷ frame 1 (FullLeaf (codes "c") base_1) ∷ frame 2 (FullIndex [] base_2) ∷ []
+
+-- ---- row 5: keys by their letters, each with the value 1
+
+abbrev pub ones : String → List (List ℕ × List ℕ)
+ones keys = map (λ k. (k ∷ [], codes "1")) (codes keys)
+
+-- ---- rows 15 and 16: every third flush writes the base, the others a run
+
+abbrev pub sixteen : String
+sixteen = "0123456789abcdef"
+
+abbrev pub run : List Frame
+run = frame 0 (DeltaLeaf (set "a" sixteen ∷ [])) ∷ []
+
+abbrev pub base : List Frame
+base = frame 0 (FullLeaf [] (pair "a" sixteen ∷ [])) ∷ []
+
+abbrev pub three : List (List Frame)
+three = run ∷ run ∷ base ∷ []

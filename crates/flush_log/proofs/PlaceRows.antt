@@ -2,21 +2,21 @@
 use Rattle.std.specs.Prelude.{◌≡◌, ℕ, true, false, List, [], ◌∷◌, ◌++◌, flat_map, replicate, map, codes}
 use Prim.Native.String.{String}
 use Rattle.std.proofs.Common.{refl}
+use Rattle.keys.proofs.Literals.{S}
 use Rattle.frame_codec.specs.Frame.{Frame, bytes_of}
 use Rattle.frame_codec.specs.Frame.Content.{FullLeaf, DeltaLeaf, FullIndex, DeltaIndex, Free}
-use Rattle.frame_codec.proofs.RowForms.{small}
 use Rattle.flush_log.specs.Layout.{placed, tail_after, spans, is_full_for_flush, is_full_for_clean}
 use Rattle.flush_log.specs.Segments.{segment_header, position}
-use Rattle.flush_log.proofs.Literals.{pair, set, gone, frame, base_0, base_1, base_2}
+use Rattle.flush_log.proofs.Literals.{pair, set, gone, frame, base_0, base_1, base_2, text_of_row_4, ones, sixteen, run, base, three}
 
 -- the positions of the frames of a text, and the tail behind it
 abbrev laid : ℕ → List Frame → List ℕ × ℕ
-laid tail text = (map (λ p. position small p.segment p.offset) (placed small tail text), tail_after small tail text)
+laid tail text = (map (λ p. position S p.segment p.offset) (placed S tail text), tail_after S tail text)
 
 -- the tails of texts that are written one after the other
 abbrev tails : ℕ → List (List Frame) → List ℕ
 tails tail [] = []
-tails tail (text ∷ texts) = tail_after small tail text ∷ tails (tail_after small tail text) texts
+tails tail (text ∷ texts) = tail_after S tail text ∷ tails (tail_after S tail text) texts
 
 row_1 : laid 33 [] ≡ ([], 33)
 row_1 = refl
@@ -25,19 +25,13 @@ row_3 : laid 33 (frame 0 (DeltaLeaf (set "a" "1" ∷ [])) ∷ []) ≡ (33 ∷ []
 row_3 = refl
 
 -- row 4, and row 10 where the root doesn't fit behind the second leaf
-abbrev text_4 : List Frame
-text_4 = frame 0 (FullLeaf [] base_0) ∷ frame 1 (FullLeaf (codes "c") base_1) ∷ frame 2 (FullIndex [] base_2) ∷ []
-
-row_4 : laid 33 text_4 ≡ (33 ∷ 62 ∷ 98 ∷ [], 136)
+row_4 : laid 33 text_of_row_4 ≡ (33 ∷ 62 ∷ 98 ∷ [], 136)
 row_4 = refl
 
-row_10 : laid 179 text_4 ≡ (179 ∷ 208 ∷ 272 ∷ [], 310)
+row_10 : laid 179 text_of_row_4 ≡ (179 ∷ 208 ∷ 272 ∷ [], 310)
 row_10 = refl
 
 -- five leaves, then three index pages
-abbrev ones : String → List (List ℕ × List ℕ)
-ones keys = map (λ k. (k ∷ [], codes "1")) (codes keys)
-
 abbrev text_5 : List Frame
 text_5 = frame 0 (FullLeaf [] (ones "abc")) ∷ frame 1 (FullLeaf (codes "d") (ones "def")) ∷ frame 2 (FullLeaf (codes "g") (ones "ghij"))
     ∷ frame 3 (FullLeaf (codes "k") (ones "klm")) ∷ frame 4 (FullLeaf (codes "n") (ones "nopq"))
@@ -57,7 +51,7 @@ row_7 = refl
 row_9 : laid 136 (frame 0 (FullLeaf [] []) ∷ frame 1 Free ∷ frame 2 Free ∷ []) ≡ (136 ∷ 153 ∷ 166 ∷ [], 179)
 row_9 = refl
 
-row_12 : tail_after small 33 (frame 0 (FullLeaf [] base_0) ∷ frame 0 (DeltaLeaf (set "a" "9" ∷ [])) ∷ frame 1 (FullLeaf (codes "c") base_1) ∷ frame 2 (FullIndex [] base_2) ∷ []) ≡ 158
+row_12 : tail_after S 33 (frame 0 (FullLeaf [] base_0) ∷ frame 0 (DeltaLeaf (set "a" "9" ∷ [])) ∷ frame 1 (FullLeaf (codes "c") base_1) ∷ frame 2 (FullIndex [] base_2) ∷ []) ≡ 158
 row_12 = refl
 
 row_13 : laid 399 (frame 0 (FullLeaf [] (ones "abc")) ∷ frame 1 Free ∷ frame 5 (DeltaIndex (gone "d" ∷ [])) ∷ []) ≡ (399 ∷ 434 ∷ 447 ∷ [], 466)
@@ -66,9 +60,6 @@ row_13 = refl
 -- values of nine bytes, and then keys and values of sixteen: the second frame ends where its segment does
 abbrev nine : String
 nine = "012345678"
-
-abbrev sixteen : String
-sixteen = "0123456789abcdef"
 
 abbrev four_long : Frame
 four_long = frame 0 (DeltaLeaf (set "0123456789abcdef" sixteen ∷ set "1123456789abcdef" sixteen ∷ set "2123456789abcdef" sixteen ∷ set "3123456789abcdef" sixteen ∷ []))
@@ -90,38 +81,29 @@ row_14_next : laid 256 (frame 1 Free ∷ []) ≡ (272 ∷ [], 285)
 row_14_next = refl
 
 -- every third flush writes the base, the others a run
-abbrev run : List Frame
-run = frame 0 (DeltaLeaf (set "a" sixteen ∷ [])) ∷ []
-
-abbrev base : List Frame
-base = frame 0 (FullLeaf [] (pair "a" sixteen ∷ [])) ∷ []
-
-abbrev three : List (List Frame)
-three = run ∷ run ∷ base ∷ []
-
 row_15 : tails 33 (three ++ (three ++ (three ++ (three ++ (three ++ (run ∷ run ∷ []))))))
     ≡ 70 ∷ 107 ∷ 145 ∷ 182 ∷ 219 ∷ 310 ∷ 347 ∷ 384 ∷ 422 ∷ 459 ∷ 496 ∷ 566 ∷ 603 ∷ 640 ∷ 678 ∷ 715 ∷ 752 ∷ []
 row_15 = refl
 
 -- the seventeenth is the last before a clean, and the clean itself finds room
-row_15_not_full : is_full_for_flush small 0 752 ≡ false
+row_15_not_full : is_full_for_flush S 0 752 ≡ false
 row_15_not_full = refl
 
-row_15_full : is_full_for_flush small 0 (tail_after small 752 base) ≡ true
+row_15_full : is_full_for_flush S 0 (tail_after S 752 base) ≡ true
 row_15_full = refl
 
-row_15_clean : is_full_for_clean small 0 822 ≡ false
+row_15_clean : is_full_for_clean S 0 822 ≡ false
 row_15_clean = refl
 
 row_15_cleaned : laid 752 base ≡ (784 ∷ [], 822)
 row_15_cleaned = refl
 
 -- the rest of segment 2 becomes zeros, and the next flush begins segment 3
-row_15_spans : spans small 752 base
+row_15_spans : spans S 752 base
     ≡ record { segment = 2; offset = 240; bytes = replicate 16 0 } ∷ record { segment = 3; offset = 0; bytes = segment_header 3 ++ flat_map bytes_of base } ∷ []
 row_15_spans = refl
 
-row_15_flushed : is_full_for_flush small 1 822 ≡ false
+row_15_flushed : is_full_for_flush S 1 822 ≡ false
 row_15_flushed = refl
 
 -- the flushes of row 16, and what its clean appends

@@ -2,7 +2,8 @@
 use Rattle.std.specs.Prelude.{◌≡◌, ℕ, Bool, true, false, List, ◌++◌, take, drop, replicate, Ok, Err}
 use Rattle.std.proofs.Common.{refl}
 use Rattle.keys.specs.declared.fault.Fault.TheVariants.{NoSlot}
-use Rattle.frame_codec.proofs.RowForms.{small, hex}
+use Rattle.keys.proofs.Literals.{S}
+use Rattle.frame_codec.proofs.RowForms.{hex}
 use Rattle.flush_log.specs.Overlay.{overlay}
 use Rattle.flush_log.specs.Slot.{Slot, slot_place, slot_bytes, is_slot, store_slot}
 use Rattle.flush_log.specs.NewStore.{first_slot, new_bytes}
@@ -12,7 +13,7 @@ use Rattle.flush_log.specs.NewStore.{first_slot, new_bytes}
 row_2 : slot_bytes first_slot ≡ hex "0100000000000000 0000000000000001 0000000000000000 0000000000000021 0000000000000000 00000001" ++ replicate 20 0
 row_2 = refl
 
-slot_0_of_new : take 64 (drop 128 (new_bytes small)) ≡ replicate 64 0
+slot_0_of_new : take 64 (drop 128 (new_bytes S)) ≡ replicate 64 0
 slot_0_of_new = refl
 
 abbrev slot_of_row_7 : Slot
@@ -37,38 +38,38 @@ row_9 = refl
 abbrev with_slot : Slot → List ℕ → List ℕ
 with_slot t disk = overlay disk (slot_place t.sequence) (slot_bytes t)
 
-of_new : store_slot small (new_bytes small) ≡ Ok first_slot
+of_new : store_slot S (new_bytes S) ≡ Ok first_slot
 of_new = refl
 
-of_row_7 : store_slot small (with_slot slot_of_row_7 (new_bytes small)) ≡ Ok slot_of_row_7
+of_row_7 : store_slot S (with_slot slot_of_row_7 (new_bytes S)) ≡ Ok slot_of_row_7
 of_row_7 = refl
 
-of_row_8 : store_slot small (with_slot slot_of_row_8 (with_slot slot_of_row_7 (new_bytes small))) ≡ Ok slot_of_row_8
+of_row_8 : store_slot S (with_slot slot_of_row_8 (with_slot slot_of_row_7 (new_bytes S))) ≡ Ok slot_of_row_8
 of_row_8 = refl
 
 -- row 21: the tail 51 may be; with both gates at 0 there is no slot
-tail_of_51 : store_slot small (overlay (with_slot (record slot_of_row_7 { tail = 52; root = 0; height = 1 }) (new_bytes small)) 159 (hex "33"))
+tail_of_51 : store_slot S (overlay (with_slot (record slot_of_row_7 { tail = 52; root = 0; height = 1 }) (new_bytes S)) 159 (hex "33"))
     ≡ Ok (record { sequence = 2; head = 0; tail = 51; root = 0; height = 1 })
 tail_of_51 = refl
 
-both_closed : store_slot small (overlay (overlay (with_slot slot_of_row_7 (new_bytes small)) 128 (hex "00")) 192 (hex "00")) ≡ Err NoSlot
+both_closed : store_slot S (overlay (overlay (with_slot slot_of_row_7 (new_bytes S)) 128 (hex "00")) 192 (hex "00")) ≡ Err NoSlot
 both_closed = refl
 
 -- an open slot that is not well formed is refused beside one that is; what is behind a closed gate is not looked at
-byte_of_zeros : store_slot small (overlay (with_slot slot_of_row_7 (new_bytes small)) 135 (hex "01")) ≡ Err NoSlot
+byte_of_zeros : store_slot S (overlay (with_slot slot_of_row_7 (new_bytes S)) 135 (hex "01")) ≡ Err NoSlot
 byte_of_zeros = refl
 
-last_of_zeros : store_slot small (overlay (with_slot slot_of_row_7 (new_bytes small)) 191 (hex "01")) ≡ Err NoSlot
+last_of_zeros : store_slot S (overlay (with_slot slot_of_row_7 (new_bytes S)) 191 (hex "01")) ≡ Err NoSlot
 last_of_zeros = refl
 
-closed : store_slot small (overlay (with_slot slot_of_row_7 (new_bytes small)) 128 (hex "02 01")) ≡ Ok first_slot
+closed : store_slot S (overlay (with_slot slot_of_row_7 (new_bytes S)) 128 (hex "02 01")) ≡ Ok first_slot
 closed = refl
 
 -- ---- which slots are well formed
 
 -- slot 0 may say this, with this head and tail
 abbrev may_end : ℕ → ℕ → Bool
-may_end head tail = is_slot small 0 (record { sequence = 2; head = head; tail = tail; root = 0; height = 1 })
+may_end head tail = is_slot S 0 (record { sequence = 2; head = head; tail = tail; root = 0; height = 1 })
 
 at_header : may_end 0 16 ≡ false
 at_header = refl
@@ -105,7 +106,7 @@ head_too_great : may_end 72057594037927936 33 ≡ false
 head_too_great = refl
 
 abbrev may_say : ℕ → ℕ → Bool
-may_say sequence height = is_slot small 0 (record { sequence = sequence; head = 0; tail = 33; root = 0; height = height })
+may_say sequence height = is_slot S 0 (record { sequence = sequence; head = 0; tail = 33; root = 0; height = height })
 
 sequences : (may_say 0 1 ≡ false) × (may_say 1 1 ≡ false) × (may_say 4611686018427387904 1 ≡ true) × (may_say 4611686018427387906 1 ≡ false)
 sequences = (refl, refl, refl, refl)

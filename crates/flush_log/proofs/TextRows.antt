@@ -1,13 +1,11 @@
 -- The texts of the flushes of the worked rows.
-use Rattle.std.specs.Prelude.{◌≡◌, ℕ, List, [], ◌∷◌, map, codes, drop}
-use Prim.Native.String.{String}
+use Rattle.std.specs.Prelude.{◌≡◌, [], ◌∷◌, codes, drop}
 use Rattle.std.proofs.Common.{refl}
 use Rattle.mapping.specs.Tree.{first_tree}
 use Rattle.mapping.specs.Tree.Logged.{Old, Upto}
-use Rattle.frame_codec.specs.Frame.{Frame}
 use Rattle.frame_codec.specs.Frame.Content.{FullLeaf, DeltaLeaf, FullIndex, DeltaIndex, Free}
 use Rattle.flush_log.specs.FlushText.{flush_text}
-use Rattle.flush_log.proofs.Literals.{pair, set, gone, leaf, index, tree, frame, base_0, base_1, base_2, pages_of_row_4}
+use Rattle.flush_log.proofs.Literals.{pair, set, gone, leaf, index, tree, frame, base_0, pages_of_row_4, text_of_row_4, ones}
 
 -- nothing of a new store
 row_1 : flush_text first_tree ≡ []
@@ -21,9 +19,6 @@ row_3_again : flush_text (tree (leaf 0 "" ((set "a" "1" ∷ []) ∷ []) [] ∷ [
 row_3_again = refl
 
 -- page 0 replaced and the others new
-abbrev text_of_row_4 : List Frame
-text_of_row_4 = frame 0 (FullLeaf [] base_0) ∷ frame 1 (FullLeaf (codes "c") base_1) ∷ frame 2 (FullIndex [] base_2) ∷ []
-
 row_4 : flush_text (tree pages_of_row_4 2 2 ((0, Old) ∷ [])) ≡ text_of_row_4
 row_4 = refl
 
@@ -49,9 +44,6 @@ one_of_two : flush_text (tree (leaf 0 "" ((set "a" "2" ∷ []) ∷ (set "a" "1" 
 one_of_two = refl
 
 -- ---- rows 5, 6, 14 and 15
-
-abbrev ones : String → List (List ℕ × List ℕ)
-ones keys = map (λ k. (k ∷ [], codes "1")) (codes keys)
 
 -- eight pages, all new but page 0, which was replaced
 row_5 : flush_text (tree (leaf 0 "" [] (ones "abc") ∷ leaf 1 "d" [] (ones "def") ∷ leaf 2 "g" [] (ones "ghij") ∷ leaf 3 "k" [] (ones "klm") ∷ leaf 4 "n" [] (ones "nopq")

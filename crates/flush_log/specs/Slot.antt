@@ -41,7 +41,7 @@ slots_begin = 128
 abbrev pub slot_place : ℕ → ℕ
 slot_place n = slots_begin + slot_size * (n % 2)
 
--- the bytes behind the gate
+-- the bytes behind the gate: zeros, the numbers, and zeros
 abbrev pub slot_body : Slot → List ℕ
 slot_body t =
     replicate 7 0

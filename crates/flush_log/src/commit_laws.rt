@@ -57,8 +57,8 @@ pub fn what_was_committed_is_read()
     ensures settings { (s : Settings) (file : List ℕ) (rs : List Span) (u : Slot) →
         segments_begin ≤ length file → AreWithin s (length file) rs →
         store_settings (committed s file rs u) ≡ store_settings file }
-    ensures slot { (s : Settings) (file : List ℕ) (rs : List Span) (t u : Slot) → first_bad_field s ≡ None →
-        segments_begin ≤ length file →
+    ensures slot { (s : Settings) (file : List ℕ) (rs : List Span) (t u : Slot) →
+        first_bad_field s ≡ None → segments_begin ≤ length file →
         AreWithin s (length file) rs → store_slot s file ≡ Ok t → u.sequence ≡ suc t.sequence → is_slot s u.sequence u ≡ true →
         store_slot s (committed s file rs u) ≡ Ok u }
     ensures log { (s : Settings) (file : List ℕ) (rs : List Span) (u : Slot) (head tail : ℕ) → first_bad_field s ≡ None →
@@ -76,8 +76,8 @@ pub fn the_slot_of_a_commit_is_well_formed()
     ensures { (s : Settings) (n : ℕ) (t u : Slot) (text : List Frame) → first_bad_field s ≡ None → is_slot s n t ≡ true →
         AllByRecursion (λ f. is_within s f ≡ true) text → u.sequence ≡ suc t.sequence → u.sequence ≤ greatest →
         u.tail ≡ tail_after s t.tail text → u.tail ≤ greatest → t.head ≤ u.head → u.head ≤ last_segment s t.tail →
-        last_segment s u.tail < u.head + s.segments → u.root < 2 ^ 64 → 1 ≤ u.height → u.height ≤ most_levels →
-        is_slot s u.sequence u ≡ true }
+        last_segment s u.tail < u.head + s.segments → u.root < 2 ^ 64 →
+        1 ≤ u.height → u.height ≤ most_levels → is_slot s u.sequence u ≡ true }
 {}
 
 /// A disk on which a store was made has its settings, the first slot, and a log of one empty leaf.

@@ -3,12 +3,9 @@ use Rattle.std.specs.Prelude.{◌≡◌, ℕ, ◌+◌, ◌*◌, ◌==◌, not, L
 use Prim.Native.String.{String}
 use Rattle.std.specs.List.{filter}
 use Rattle.std.specs.Char.{digit_value}
-use Rattle.keys.specs.declared.settings.Settings.{Settings}
+use Rattle.keys.proofs.Literals.{S}
 use Rattle.frame_codec.specs.Frame.{Frame, bytes_of}
 use Rattle.frame_codec.specs.Reading.{read_frame}
-
-abbrev pub small : Settings
-small = record { fan = 4; chain = 2; max_key = 16; max_value = 16; seg_size = 256; segments = 4 }
 
 -- the bytes that digits stand for, two digits each
 abbrev by_two : List ℕ → List ℕ
@@ -22,8 +19,8 @@ hex text = by_two (filter (λ c. not (c == 32)) (codes text))
 
 -- the frame's bytes are these, and it is read from them, also with more behind them
 abbrev pub IsSpelled : Frame → String → Type 0
-IsSpelled f text = (bytes_of f ≡ hex text) × (read_frame small (hex text ++ 7 ∷ 8 ∷ []) ≡ Some (f, 7 ∷ 8 ∷ []))
+IsSpelled f text = (bytes_of f ≡ hex text) × (read_frame S (hex text ++ 7 ∷ 8 ∷ []) ≡ Some (f, 7 ∷ 8 ∷ []))
 
 -- the bytes begin with no frame
 abbrev pub IsRefused : String → Type 0
-IsRefused text = read_frame small (hex text) ≡ None
+IsRefused text = read_frame S (hex text) ≡ None

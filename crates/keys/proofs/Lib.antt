@@ -1,6 +1,7 @@
 pub mod Basics
 pub mod CellLaws
 pub mod LimitLaws
+pub mod Literals
 pub mod MapLaws
 pub mod NarrowedLaws
 pub mod RangeLaws

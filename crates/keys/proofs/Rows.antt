@@ -4,9 +4,10 @@ use Rattle.std.specs.Prelude.{◌≡◌, ℕ, List, [], ◌∷◌, Some, None}
 use Rattle.std.proofs.Common.{refl}
 use Rattle.keys.specs.Step.{replies_to, map_after_all}
 use Rattle.keys.specs.declared.command.Command.{Command}
-use Rattle.keys.specs.declared.command.Command.TheVariants.{Get, Put, Add, Del, Scan}
+use Rattle.keys.specs.declared.command.Command.TheVariants.{Put, Add, Del, Scan}
 use Rattle.keys.specs.declared.command.Reply.{Reply}
 use Rattle.keys.specs.declared.command.Reply.TheVariants.{Value, Missing, New, Replaced, Exists, Added, Deleted, Rows}
+use Rattle.keys.proofs.Literals.{a, b, c, d, e, ca, row_2, row_8}
 
 abbrev Bytes : Type 0
 Bytes = List ℕ
@@ -27,25 +28,7 @@ replies m cs = replies_to m cs
 abbrev left : Pairs → Commands → Pairs
 left m cs = map_after_all m cs
 
-abbrev a : Bytes
-a = 97 ∷ []
-
-abbrev b : Bytes
-b = 98 ∷ []
-
-abbrev c : Bytes
-c = 99 ∷ []
-
-abbrev d : Bytes
-d = 100 ∷ []
-
-abbrev e : Bytes
-e = 101 ∷ []
-
 -- row 2: a key that comes, changes and goes within one batch
-abbrev row_2 : Commands
-row_2 = Get a ∷ Put a (49 ∷ []) ∷ Get a ∷ Put a (50 ∷ []) ∷ Get a ∷ Del a ∷ Get a ∷ []
-
 row_2_replies : replies [] row_2 ≡ Missing ∷ New ∷ Value (49 ∷ []) ∷ Replaced ∷ Value (50 ∷ []) ∷ Deleted ∷ Missing ∷ []
 row_2_replies = refl
 
@@ -104,12 +87,6 @@ beginnings_first = refl
 -- row 8: scans see what stands before them in the batch
 abbrev row_8_pairs : Pairs
 row_8_pairs = (a, 49 ∷ []) ∷ (b, 50 ∷ []) ∷ (c, 51 ∷ []) ∷ (d, 52 ∷ []) ∷ (e, 53 ∷ []) ∷ []
-
-abbrev ca : Bytes
-ca = 99 ∷ 97 ∷ []
-
-abbrev row_8 : Commands
-row_8 = Scan [] None 10 ∷ Del c ∷ Scan b (Some d) 10 ∷ Put ca (57 ∷ []) ∷ Scan b None 2 ∷ []
 
 row_8_replies : replies row_8_pairs row_8 ≡ Rows row_8_pairs ∷ Deleted ∷ Rows ((b, 50 ∷ []) ∷ []) ∷ New ∷ Rows ((b, 50 ∷ []) ∷ (ca, 57 ∷ []) ∷ []) ∷ []
 row_8_replies = refl

@@ -3,26 +3,23 @@
 use Rattle.std.specs.Prelude.{◌≡◌, ◌+◌, ◌*◌, None, Some}
 use Rattle.std.proofs.Common.{refl}
 use Rattle.keys.specs.Limits.{longest_frame, first_bad_field}
-use Rattle.keys.specs.declared.settings.Settings.{Settings}
 use Rattle.keys.specs.declared.settings.Field.TheVariants.{Fan, Chain, SegSize}
+use Rattle.keys.proofs.Literals.{S}
 
-abbrev small : Settings
-small = record { fan = 4; chain = 2; max_key = 16; max_value = 16; seg_size = 256; segments = 4 }
-
-all_good : first_bad_field small ≡ None
+all_good : first_bad_field S ≡ None
 all_good = refl
 
 -- row 25
-fan_of_3 : first_bad_field (record small { fan = 3 }) ≡ Some Fan
+fan_of_3 : first_bad_field (record S { fan = 3 }) ≡ Some Fan
 fan_of_3 = refl
 
 -- the headers of a segment and of a full frame, and a low key; and four changes, each with a key and a value
-keys_of_64 : longest_frame (record small { max_key = 64 }) ≡ 16 + 17 + 64 + 4 * (3 + 64 + (2 + 16))
+keys_of_64 : longest_frame (record S { max_key = 64 }) ≡ 16 + 17 + 64 + 4 * (3 + 64 + (2 + 16))
 keys_of_64 = refl
 
-too_long_for_a_segment : first_bad_field (record small { max_key = 64 }) ≡ Some SegSize
+too_long_for_a_segment : first_bad_field (record S { max_key = 64 }) ≡ Some SegSize
 too_long_for_a_segment = refl
 
 -- the first of several is named
-several : first_bad_field (record small { chain = 17; segments = 2 }) ≡ Some Chain
+several : first_bad_field (record S { chain = 17; segments = 2 }) ≡ Some Chain
 several = refl

@@ -1,11 +1,12 @@
 -- What is found in trees that are made by hand, under settings S: rows 6.1 and 13.1 to 13.6, and small trees for each rule.
 use Rattle.std.specs.Prelude.{◌≡◌, ℕ, List, [], ◌∷◌, None, length, replicate}
 use Rattle.std.proofs.Common.{refl}
+use Rattle.keys.proofs.Literals.{S, a, b, c, d, e}
 use Rattle.index_page.specs.Page.{PageOfKind}
 use Rattle.mapping.specs.Tree.{Tree}
 use Rattle.mapping.specs.Levels.{contents}
 use Rattle.mapping.specs.Finding.{finding}
-use Rattle.mapping.proofs.Literals.{S, Bytes, a, b, c, d, e, pairs, set, gone, leaf, leaf_under, index, index_under, tree, lone_leaf, two_leaves, found}
+use Rattle.mapping.proofs.Literals.{Bytes, pairs, set, gone, leaf, leaf_under, index, index_under, tree, lone_leaf, two_leaves, found}
 
 -- ---- row 6.1: leaf 0 has a and c, leaf 1 has the low key c and the key c, index page 2 has (empty, 0) and (c, 1); an empty
 -- leaf 9; root 2, height 2. The key c is out of leaf 0's range. Without it there, page 9 is not reached. Without that too,

@@ -11,7 +11,7 @@ pub mod KnownPids
 mod Level
 pub mod LevelLaws
 mod Listing
-mod Literals
+pub mod Literals
 mod MetPids
 mod Parts
 pub mod PidLaws

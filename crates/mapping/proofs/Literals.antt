@@ -1,6 +1,6 @@
--- What the examples of findings are written in: settings, keys, pages, trees.
+-- What the examples of findings and the worked rows are written in: pages, trees.
 use Rattle.std.specs.Prelude.{ℕ, List, [], ◌∷◌, map, Option, Some, None}
-use Rattle.keys.specs.declared.settings.Settings.{Settings}
+use Rattle.keys.proofs.Literals.{c}
 use Rattle.index_page.specs.Page.{PageOfKind}
 use Rattle.index_page.specs.Page.PageOfKind.{Leaf, Index}
 use Rattle.mapping.specs.Tree.{Tree}
@@ -8,26 +8,6 @@ use Rattle.mapping.specs.Finding.{Finding}
 
 abbrev pub Bytes : Type 0
 Bytes = List ℕ
-
-abbrev pub S : Settings
-S = record { fan = 4; chain = 2; max_key = 16; max_value = 16; seg_size = 256; segments = 4 }
-
--- ---- keys: a letter is the key of that one byte
-
-abbrev pub a : Bytes
-a = 97 ∷ []
-
-abbrev pub b : Bytes
-b = 98 ∷ []
-
-abbrev pub c : Bytes
-c = 99 ∷ []
-
-abbrev pub d : Bytes
-d = 100 ∷ []
-
-abbrev pub e : Bytes
-e = 101 ∷ []
 
 -- ---- pages
 

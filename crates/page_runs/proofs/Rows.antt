@@ -4,9 +4,10 @@ use Rattle.std.specs.Prelude.{◌≡◌, ℕ, List, [], ◌∷◌, Option, None,
 use Rattle.std.proofs.Common.{refl}
 use Rattle.keys.specs.Step.{replies_to}
 use Rattle.keys.specs.declared.command.Command.{Command}
-use Rattle.keys.specs.declared.command.Command.TheVariants.{Get, Put, Add, Del, Scan}
+use Rattle.keys.specs.declared.command.Command.TheVariants.{Put, Add, Del}
 use Rattle.keys.specs.declared.command.Reply.TheVariants.{New, Deleted, Rows}
 use Rattle.keys.specs.declared.settings.Settings.{Settings}
+use Rattle.keys.proofs.Literals.{S, a, b, c, d, e, ca, row_2, row_8}
 use Rattle.delta_chain.specs.Layers.{Layers, entries_of, depth_of}
 use Rattle.page_runs.specs.AfterRun.{after_run, class_after}
 use Rattle.page_runs.specs.NetRun.{net_run}
@@ -25,41 +26,20 @@ Change = Bytes × Option Bytes
 abbrev Commands : Type 0
 Commands = List (Command ℕ)
 
-abbrev small : Settings
-small = record { fan = 4; chain = 2; max_key = 16; max_value = 16; seg_size = 256; segments = 4 }
-
 -- the net run of a batch on a page, the page after it, and its class
 abbrev run_on : Page → Commands → List Change
 run_on p cs = net_run (entries_of p) cs
 
 abbrev page_after : Page → Commands → Page
-page_after p cs = after_run small p (run_on p cs)
+page_after p cs = after_run S p (run_on p cs)
 
 abbrev class_then : Page → Commands → Class
-class_then p cs = class_after small p (run_on p cs)
+class_then p cs = class_after S p (run_on p cs)
 
 abbrev empty : Page
 empty = record { runs = []; base = [] }
 
-abbrev a : Bytes
-a = 97 ∷ []
-
-abbrev b : Bytes
-b = 98 ∷ []
-
-abbrev c : Bytes
-c = 99 ∷ []
-
-abbrev d : Bytes
-d = 100 ∷ []
-
-abbrev e : Bytes
-e = 101 ∷ []
-
 -- row 2: a key that comes, changes and goes within one batch is absent in the run
-abbrev row_2 : Commands
-row_2 = Get a ∷ Put a (49 ∷ []) ∷ Get a ∷ Put a (50 ∷ []) ∷ Get a ∷ Del a ∷ Get a ∷ []
-
 row_2_run : run_on empty row_2 ≡ (a, None) ∷ []
 row_2_run = refl
 
@@ -154,14 +134,8 @@ first_changes_class : class_after wide three_in_front (run_on three_in_front (Pu
 first_changes_class = refl
 
 -- row 8: the second page of a store at fan 4, from the key c on: its part of the scans' rows
-abbrev ca : Bytes
-ca = 99 ∷ 97 ∷ []
-
 abbrev from_c : Page
 from_c = record { runs = []; base = (c, 51 ∷ []) ∷ (d, 52 ∷ []) ∷ (e, 53 ∷ []) ∷ [] }
-
-abbrev row_8 : Commands
-row_8 = Scan [] None 10 ∷ Del c ∷ Scan b (Some d) 10 ∷ Put ca (57 ∷ []) ∷ Scan b None 2 ∷ []
 
 row_8_replies : replies_to (entries_of from_c) row_8
     ≡ Rows ((c, 51 ∷ []) ∷ (d, 52 ∷ []) ∷ (e, 53 ∷ []) ∷ []) ∷ Deleted ∷ Rows [] ∷ New ∷ Rows ((ca, 57 ∷ []) ∷ (d, 52 ∷ []) ∷ []) ∷ []

@@ -2,8 +2,8 @@
 use Rattle.std.specs.Prelude.{◌≡◌, ℕ, List, [], ◌∷◌, ◌++◌, take, drop, Ok, Err}
 use Rattle.std.proofs.Common.{refl}
 use Rattle.keys.specs.declared.fault.Fault.TheVariants.{NotAStore, NoSlot, BadSegment, BadFrame, BadStructure}
+use Rattle.keys.proofs.Literals.{S}
 use Rattle.mapping.specs.Tree.{first_tree}
-use Rattle.frame_codec.proofs.RowForms.{small}
 use Rattle.flush_log.specs.Overlay.{overlay}
 use Rattle.recovery.specs.StoreOfDisk.{store_of_disk}
 use Rattle.recovery.proofs.DiskForms.{disk_of_row_2, disk_of_row_4, disk_of_row_10}
@@ -40,7 +40,7 @@ row_13_6 : IsFound (set 167 0 (set 171 1 disk_of_row_4)) 10 1
 row_13_6 = refl
 
 -- the newer slot's gate is closed
-row_13_7 : store_of_disk (set 128 0 disk_of_row_4) ≡ Ok (small, record { tree = first_tree; head = 0; tail = 33; sequence = 1 })
+row_13_7 : store_of_disk (set 128 0 disk_of_row_4) ≡ Ok (S, record { tree = first_tree; head = 0; tail = 33; sequence = 1 })
 row_13_7 = refl
 
 -- ---- the disk of row 10
