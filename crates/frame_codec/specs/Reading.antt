@@ -6,7 +6,7 @@ use Rattle.frame_codec.specs.Frame.{Content, Frame, full, delta, content_bytes, 
 use Rattle.frame_codec.specs.Frame.Content.{FullLeaf, DeltaLeaf, FullIndex, DeltaIndex, Free}
 
 -- the bytes begin with this frame, which is within the settings, and the rest stands behind it
-pub record BeginsWith (s : Settings) (bs : List ℕ) (f : Frame) (rest : List ℕ) : Type 0 where
+pub record BeginsWithFrame (s : Settings) (bs : List ℕ) (f : Frame) (rest : List ℕ) : Type 0 where
   pub within : is_within s f ≡ true
   pub bytes : bs ≡ bytes_of f ++ rest
 

@@ -9,7 +9,7 @@ ghost use Rattle.index_page.specs.Page.{Page};
 ghost use Rattle.index_page.specs.Rules.{IsShortValue, Fits};
 ghost use Rattle.frame_codec.specs.Frame.{Frame, bytes_of, is_within};
 ghost use Rattle.frame_codec.specs.Frame.Content.{FullLeaf, DeltaLeaf, FullIndex, DeltaIndex};
-ghost use Rattle.frame_codec.specs.Reading.{BeginsWith, read_frame};
+ghost use Rattle.frame_codec.specs.Reading.{BeginsWithFrame, read_frame};
 ghost use Rattle.frame_codec.specs.Sizes.{size_of};
 
 /// A value of up to 65,535 bytes and a page id are read back from their cells, whatever stands behind them, and what is
@@ -46,9 +46,9 @@ pub fn a_frame_has_one_spelling()
 /// The reader finds a frame just where bytes begin with one, and it finds that frame.
 pub fn what_is_read_is_what_stands_there()
     ensures found { (s : Settings) (bytes : List ℕ) (f : Frame) (rest : List ℕ) → AreBytes bytes →
-        read_frame s bytes ≡ Some (f, rest) → BeginsWith s bytes f rest }
+        read_frame s bytes ≡ Some (f, rest) → BeginsWithFrame s bytes f rest }
     ensures none { (s : Settings) (bytes : List ℕ) (f : Frame) (rest : List ℕ) → first_bad_field s ≡ None →
-        read_frame s bytes ≡ None → BeginsWith s bytes f rest → ⊥ }
+        read_frame s bytes ≡ None → BeginsWithFrame s bytes f rest → ⊥ }
 {}
 
 /// A frame has as many bytes as its fields tell.
