@@ -22,7 +22,7 @@ use Rattle.page_search.specs.Costs.{fewest_among, is_among, fewest_in, walk_most
 use Rattle.page_search.specs.Digits.{binary_digits}
 use Rattle.page_search.specs.Floor.{floor}
 use Rattle.page_search.specs.Nearest.{is_on, nearness, past, named_under, named_by, IsNearestWith, IsNearest, is_nearer_than, is_passed, count_passed}
-use Rattle.page_search.specs.Places.{GoesTo}
+use Rattle.page_search.specs.Places.{KeyGoesTo}
 use Rattle.page_search.specs.declared.side.Side.{Side}
 use Rattle.page_search.specs.declared.side.Side.TheVariants.{UpTo, Below, Above}
 use Rattle.page_search.proofs.NearestLaws.{nearness-same, nearness-flipped, nearness-past, not_past, past-on, itself_up_to, held-named}
@@ -36,7 +36,7 @@ none_among k (j ∷ ks) h = rw (h 0 j refl) (none_among k ks (λ m i p. h (suc m
 is_among-there : (k : List ℕ) (ks : List (List ℕ)) (at : ℕ) → slice_get ks at ≡ Some k → is_among k ks ≡ true
 is_among-there k ks at p = any_passes_from_place (λ j. is_eq (order k j)) ks at k p (is_itself k)
 
-is_among-goes_to : (k : List ℕ) (ks : List (List ℕ)) (at : ℕ) → GoesTo k ks at → is_among k ks ≡ false
+is_among-goes_to : (k : List ℕ) (ks : List (List ℕ)) (at : ℕ) → KeyGoesTo k ks at → is_among k ks ≡ false
 is_among-goes_to k ks at g = none_among k ks (λ m j p.
     elim (cases_lt m at) [
       | inl l ↦ rw (flipped_less j k (g.below m j l p)) refl
@@ -47,7 +47,7 @@ is_among-goes_to k ks at g = none_among k ks (λ m j p.
 pub least_there : (k : List ℕ) (ks : List (List ℕ)) (at before after stop : ℕ) → slice_get ks at ≡ Some k → min (before + fewest_among true (length ks)) stop ≤ after → min (before + fewest_among (is_among k ks) (length ks)) stop ≤ after
 least_there k ks at before after stop p h = rw (is_among-there k ks at p) h
 
-pub least_apart : (k : List ℕ) (ks : List (List ℕ)) (at before after stop : ℕ) → GoesTo k ks at → min (before + fewest_among false (length ks)) stop ≤ after → min (before + fewest_among (is_among k ks) (length ks)) stop ≤ after
+pub least_apart : (k : List ℕ) (ks : List (List ℕ)) (at before after stop : ℕ) → KeyGoesTo k ks at → min (before + fewest_among false (length ks)) stop ≤ after → min (before + fewest_among (is_among k ks) (length ks)) stop ≤ after
 least_apart k ks at before after stop g h = rw (is_among-goes_to k ks at g) h
 
 -- ---- one walk
