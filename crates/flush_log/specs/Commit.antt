@@ -85,5 +85,5 @@ IsBesideSlot s n spans place = IsBeside (slot_place n) 64 place × IsBesideSpans
 
 -- what may be left of a commit that is not done: slot n is as it was, or closed with any bytes behind its gate, and all
 -- else is as it was but for these spans
-abbrev pub IsBefore : Settings → ℕ → List Span → List ℕ → List ℕ → Type 0
-IsBefore s n spans file c = AgreeAt (IsBesideSpans s spans) file c ⊎ ((is_open n c ≡ false) × AgreeAt (IsBesideSlot s n spans) file c)
+abbrev pub IsUncommitted : Settings → ℕ → List Span → List ℕ → List ℕ → Type 0
+IsUncommitted s n spans file c = AgreeAt (IsBesideSpans s spans) file c ⊎ ((is_open n c ≡ false) × AgreeAt (IsBesideSlot s n spans) file c)

@@ -9,7 +9,7 @@ ghost use Rattle.flush_log.specs.Reading.{Found, log};
 ghost use Rattle.flush_log.specs.Layout.{Span, tail_after, found_in_text, spans, with_spans};
 ghost use Rattle.flush_log.specs.SettingsBlock.{store_settings};
 ghost use Rattle.flush_log.specs.Slot.{Slot, greatest, is_slot, store_slot};
-ghost use Rattle.flush_log.specs.Commit.{seen_after, MayLeave, LeftDuring, AreWithin, prepare, commit_calls, committed, HasRoom, IsBefore};
+ghost use Rattle.flush_log.specs.Commit.{seen_after, MayLeave, LeftDuring, AreWithin, prepare, commit_calls, committed, HasRoom, IsUncommitted};
 ghost use Rattle.flush_log.specs.NewStore.{first_frame, first_slot, disk_of_new};
 
 /// A crash at any moment of a commit on a settled disk leaves the disk with nothing changed but the spans and the closed slot,
@@ -17,9 +17,9 @@ ghost use Rattle.flush_log.specs.NewStore.{first_frame, first_slot, disk_of_new}
 pub fn a_crash_leaves_what_was_before_or_all_of_a_commit()
     ensures during { (s : Settings) (file : List ℕ) (rs : List Span) (t : Slot) (c : List ℕ) → 512 ≤ length file →
         AreWithin s (length file) rs → LeftDuring (commit_calls s file rs t) file c →
-        IsBefore s t.sequence rs file c ⊎ (c ≡ committed s file rs t) }
+        IsUncommitted s t.sequence rs file c ⊎ (c ≡ committed s file rs t) }
     ensures before { (s : Settings) (file : List ℕ) (rs : List Span) (t : Slot) (c : List ℕ) → 512 ≤ length file →
-        AreWithin s (length file) rs → LeftDuring (prepare s file rs t) file c → IsBefore s t.sequence rs file c }
+        AreWithin s (length file) rs → LeftDuring (prepare s file rs t) file c → IsUncommitted s t.sequence rs file c }
     ensures read { (s : Settings) (file : List ℕ) (rs : List Span) (t : Slot) → 512 ≤ length file → AreWithin s (length file) rs →
         seen_after (commit_calls s file rs t) file ≡ committed s file rs t }
     ensures after { (s : Settings) (file : List ℕ) (rs : List Span) (t : Slot) (c : List ℕ) → 512 ≤ length file →
@@ -29,12 +29,12 @@ pub fn a_crash_leaves_what_was_before_or_all_of_a_commit()
 /// Until the gate of the next slot is open, a commit is hidden: settings, slot and log are read as before. So a crash at any moment of
 /// the commit of a text leaves these, or all that was committed.
 pub fn a_commit_is_hidden_until_its_gate_is_open()
-    ensures settings { (s : Settings) (n : ℕ) (rs : List Span) (file c : List ℕ) → 512 ≤ length file → IsBefore s n rs file c →
+    ensures settings { (s : Settings) (n : ℕ) (rs : List Span) (file c : List ℕ) → 512 ≤ length file → IsUncommitted s n rs file c →
         store_settings c ≡ store_settings file }
     ensures slot { (s : Settings) (t : Slot) (rs : List Span) (file c : List ℕ) → 512 ≤ length file → store_slot s file ≡ Ok t →
-        IsBefore s (suc t.sequence) rs file c → store_slot s c ≡ Ok t }
+        IsUncommitted s (suc t.sequence) rs file c → store_slot s c ≡ Ok t }
     ensures log { (s : Settings) (file : List ℕ) (t : Slot) (text : List Frame) (c : List ℕ) → HasRoom s file t text →
-        IsBefore s (suc t.sequence) (spans s t.tail text) file c → log s c t.head t.tail ≡ log s file t.head t.tail }
+        IsUncommitted s (suc t.sequence) (spans s t.tail text) file c → log s c t.head t.tail ≡ log s file t.head t.tail }
     ensures crash { (s : Settings) (file : List ℕ) (t : Slot) (text : List Frame) (u : Slot) (c : List ℕ) → HasRoom s file t text →
         u.sequence ≡ suc t.sequence → LeftDuring (commit_calls s file (spans s t.tail text) u) file c →
         ((store_settings c ≡ store_settings file) × (store_slot s c ≡ Ok t) × (log s c t.head t.tail ≡ log s file t.head t.tail)) ⊎
