@@ -107,13 +107,13 @@ abbrev pub index_under : List (ℕ × PageOfKind) → ℕ → PageOfKind
 index_under pages pid = Index (as_index (page_at pages pid))
 
 -- a share of an index page that can be handed down
-pub record IsReady {A : Type 0} (pages : List (ℕ × PageOfKind)) (cs : List (Command A)) (s : Share) : Type 0 where
+pub record IsReadyShare {A : Type 0} (pages : List (ℕ × PageOfKind)) (cs : List (Command A)) (s : Share) : Type 0 where
   pub held : page_at pages s.pid ≡ Some (index_under pages s.pid)
   pub share : CanHandDownShare cs (index_under pages s.pid) s
 
 -- shares of index pages that can be handed down, with their keys
-pub record AreReady {A : Type 0} (pages : List (ℕ × PageOfKind)) (cs : List (Command A)) (shares : List Lent) : Type 0 where
-  pub each : AllByRecursion (IsReady pages cs) (lent_shares shares)
+pub record AreReadyShares {A : Type 0} (pages : List (ℕ × PageOfKind)) (cs : List (Command A)) (shares : List Lent) : Type 0 where
+  pub each : AllByRecursion (IsReadyShare pages cs) (lent_shares shares)
   pub keys : AreKeyedShares cs shares
 
 -- what becomes of a share: the shares of its page's children
