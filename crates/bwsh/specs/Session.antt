@@ -169,8 +169,8 @@ Prints old new lines right end =
     ⊎ ((end ≡ Err Device) × ((front : List ℕ) × BeginsWith (flat lines) front × Appends old new front))
 
 -- the order is accepted, and leaves this tree with its map
-abbrev pub Leaves : Settings → Tree → Order → Tree → Type 0
-Leaves settings tree order after = (refusal_of settings tree order ≡ None) × (after ≡ tree_behind settings tree order) × (contents after ≡ map_behind (contents tree) order)
+abbrev pub LeavesTree : Settings → Tree → Order → Tree → Type 0
+LeavesTree settings tree order after = (refusal_of settings tree order ≡ None) × (after ≡ tree_behind settings tree order) × (contents after ≡ map_behind (contents tree) order)
 
 -- what these orders print on a store of these settings and this tree, and how they end, is right but for memory and devices
 unfoldable pub Runs : Settings → Tree → List Order → Option (List ℕ) → Option (List ℕ) → Result (Unit {0}) Ending → Type 0

@@ -13,7 +13,7 @@ ghost use Rattle.bwsh.specs.declared.session.Ending.TheVariants as endings;
 ghost use Rattle.bwsh.specs.BatchFile.{said_by, first_bad, orders_of};
 ghost use Rattle.keys.specs.declared.settings.Settings.{Settings};
 ghost use Rattle.bwsh.specs.Options.{Tells, AsksForHelp, AreRefused};
-ghost use Rattle.bwsh.specs.Session.{status_of, status_of_end, ending_text, unread_text, ending_by, printed_by, BeginsWith, IsBegun, IsTold, IsReadEnding, IsForWords, Prints, PrintsOneText, Leaves, Runs, Answers, EndsBy, EndsTold};
+ghost use Rattle.bwsh.specs.Session.{status_of, status_of_end, ending_text, unread_text, ending_by, printed_by, BeginsWith, IsBegun, IsTold, IsReadEnding, IsForWords, Prints, PrintsOneText, LeavesTree, Runs, Answers, EndsBy, EndsTold};
 ghost use Rattle.bwsh.specs.Shown.{shown_reply, shown_report};
 
 use crate::batch_file::{Order, TextFault, parse};
@@ -199,7 +199,7 @@ fn run_order<R: Threads + Sync, O: Write>(
     out: &mut O,
 ) -> Result<(), Ending>
     ensures runs { Runs store.old.settings store.old.tree (order.now ∷ []) (O.contents out.old) (O.contents out.new) result }
-    ensures leaves { OnOk result (Leaves store.old.settings store.old.tree order.now store.new.tree) }
+    ensures leaves { OnOk result (LeavesTree store.old.settings store.old.tree order.now store.new.tree) }
     ensures settings { store.new.settings ≡ store.old.settings }
 {
     match order {
