@@ -13,7 +13,7 @@ use Rattle.flush_log.specs.Commit.{AreWithin, IsBesideSpans}
 use Rattle.flush_log.specs.Overlay.{IsBeside, AgreeAt}
 use Rattle.flush_log.specs.Reading.{log}
 use Rattle.flush_log.specs.Segments.{place_of, HasSegments, IsInLog, position, last_segment, bytes_in_use}
-use Rattle.flush_log.specs.Layout.{Placed, Span, placed_from, behind_header, tail_after, end_of, longer, begun, opened, spans_from, spans, place_of_span}
+use Rattle.flush_log.specs.Layout.{PlacedFrame, Span, placed_from, behind_header, tail_after, end_of, longer, begun, opened, spans_from, spans, place_of_span}
 use Rattle.flush_log.proofs.FitLaws.{are_sized}
 use Rattle.flush_log.proofs.LayoutLaws.{end_point, by_places, AllFit, split-tail, Start, starts, opened-segment, opened-end, opened-inside, behind_header-within, text-last, goes_on_span, next_span, filled-end}
 use Rattle.flush_log.proofs.LayoutLaws.Start.{Inside, Behind}
@@ -108,7 +108,7 @@ module _ (s : Settings) where
             ]
       ]
 
-  abbrev AreBehind : ℕ → ℕ → ℕ → ℕ → ℕ → List Frame → List Placed → Type 0
+  abbrev AreBehind : ℕ → ℕ → ℕ → ℕ → ℕ → List Frame → List PlacedFrame → Type 0
   AreBehind head q used n offset fs ps = (n ≤ (end_point n offset ps).0) × ((r : Span) → r.segment ≡ n → end_of r ≡ offset → q ≤ n → (n ≡ q → used ≤ r.offset) → offset ≤ s.seg_size → AllFit s fs →
       (end_point n offset ps).0 < head + s.segments → AllByRecursion (IsBehind head q used) (spans_from s r ps))
 
