@@ -19,7 +19,7 @@ use Rattle.bwsh.specs.declared.session.Ending.TheVariants.{Words, Bad, Device}
 use Rattle.bwsh.specs.declared.session.Ending.TheVariants as endings
 use Rattle.bwsh.specs.BatchFile.{said_by, first_bad, orders_of}
 use Rattle.bwsh.specs.Session.{status_of_end, refusal_of, tree_behind, map_behind, own_lines, answer_lines, printed_by, accepted, orders_end, first_refusal, stopped_by, hindered_by, hindrance, end_after, lines_after, session_end, session_lines, IsReadEnding, IsForWords, BeginsWith, Prints, PrintsOneText, Runs, Answers, EndsBy}
-use Rattle.bwsh.specs.Options.{Tells, AsksForHelp, AreRefused, is_refusal, IsRightKind}
+use Rattle.bwsh.specs.Options.{AsksForSettings, AsksForHelp, AreRefused, is_refusal, IsRightKind}
 use Rattle.clap.specs.declared.error.kind.ErrorKind.{ErrorKind}
 use Rattle.clap.specs.declared.error.kind.ErrorKind.TheVariants.{DisplayHelp, OutOfMemory}
 use Rattle.bwsh.proofs.Prints.{front-more, front-trans, front-flat, Prints-front, Prints-flushed, IfSome-known}
@@ -209,13 +209,13 @@ module _ (settings : Settings) (known old new : Option (List ℕ)) where
 -- the words ask for help, or tell settings and all that the text orders under these is printed
 abbrev IsAllDone : List (List ℕ) → Option (List ℕ) → Option (List ℕ) → Option (List ℕ) → Type 0
 IsAllDone words known old new =
-    AsksForHelp words ⊎ ((settings : Settings) × Tells words settings × IfSome known (λ text. (first_bad 1 (said_by text) ≡ None) × Appends old new (printed_by settings text)))
+    AsksForHelp words ⊎ ((settings : Settings) × AsksForSettings words settings × IfSome known (λ text. (first_bad 1 (said_by text) ≡ None) × Appends old new (printed_by settings text)))
 
 -- the words ask for help, or nothing is printed, or they tell settings and a beginning of what the text orders under these is printed
 abbrev HasBegun : List (List ℕ) → Option (List ℕ) → Option (List ℕ) → Option (List ℕ) → Type 0
 HasBegun words known old new =
     AsksForHelp words ⊎ Appends old new []
-    ⊎ ((settings : Settings) × Tells words settings × IfSome known (λ text. (front : List ℕ) × BeginsWith (printed_by settings text) front × Appends old new front))
+    ⊎ ((settings : Settings) × AsksForSettings words settings × IfSome known (λ text. (front : List ℕ) × BeginsWith (printed_by settings text) front × Appends old new front))
 
 pub status-one : (end : Result (Unit {0}) Ending) (status : ℕ) → status ≡ status_of_end end → (status ≡ 0) ⊎ (status ≡ 2) ⊎ (status ≡ 3) ⊎ (status ≡ 4)
 status-one (Ok done) status e = inl e

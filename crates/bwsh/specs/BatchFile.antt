@@ -41,9 +41,9 @@ orders_of pending (says.Verify ∷ rest) = last_order pending ++ Verify ∷ orde
 orders_of pending (_ ∷ rest) = orders_of pending rest
 
 -- the fault tells of the first bad line, or that memory was refused
-abbrev pub Tells : List Says → TextFault → Type 0
-Tells says (faults.Bad n why) = first_bad 1 says ≡ Some (n, why)
-Tells says faults.Memory = Unit {0}
+abbrev pub IsRightFault : List Says → TextFault → Type 0
+IsRightFault says (faults.Bad n why) = first_bad 1 says ≡ Some (n, why)
+IsRightFault says faults.Memory = Unit {0}
 
 -- the commands of an order
 abbrev pub commands_of : Order → List (Command Global)

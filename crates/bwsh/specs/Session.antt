@@ -25,7 +25,7 @@ use Rattle.bwsh.specs.declared.session.Ending.TheVariants.{Words, Bad, Device}
 use Rattle.bwsh.specs.declared.session.Ending.TheVariants as endings
 use Rattle.bwsh.specs.BatchFile.{said_by, first_bad, orders_of}
 use Rattle.bwsh.specs.Line.{why_text}
-use Rattle.bwsh.specs.Options.{Tells, AsksForHelp, AreRefused}
+use Rattle.bwsh.specs.Options.{AsksForSettings, AsksForHelp, AreRefused}
 use Rattle.bwsh.specs.Shown.{shown_reply, shown_report}
 
 -- the exit status of a session that ends before all is done
@@ -194,7 +194,7 @@ IsForWords (Err _) = ⊥
 -- with nothing read, and help where they ask for it; or with nothing printed either, where they are refused
 abbrev pub EndsBy : List (List ℕ) → Option (List ℕ) → Option (List ℕ) → Option (List ℕ) → Type 0 → Type 0 → Result (Unit {0}) Ending → Type 0
 EndsBy words known old new unread untouched end =
-    ((settings : Settings) × Tells words settings × Answers settings known old new end)
+    ((settings : Settings) × AsksForSettings words settings × Answers settings known old new end)
     ⊎ (unread × AsksForHelp words × PrintsOneText old new end)
     ⊎ (unread × untouched × ((AreRefused words × IsForWords end) ⊎ (end ≡ Err (endings.Fault NoMemory))))
 

@@ -12,7 +12,7 @@ ghost use Rattle.bwsh.specs.declared.session.Ending.TheVariants.{Device};
 ghost use Rattle.bwsh.specs.declared.session.Ending.TheVariants as endings;
 ghost use Rattle.bwsh.specs.BatchFile.{said_by, first_bad, orders_of};
 ghost use Rattle.keys.specs.declared.settings.Settings.{Settings};
-ghost use Rattle.bwsh.specs.Options.{Tells, AsksForHelp, AreRefused};
+ghost use Rattle.bwsh.specs.Options.{AsksForSettings, AsksForHelp, AreRefused};
 ghost use Rattle.bwsh.specs.Session.{status_of, status_of_end, ending_text, unread_text, ending_by, printed_by, BeginsWith, IsBegun, IsTold, IsReadEnding, IsForWords, Prints, PrintsOneText, LeavesTree, Runs, Answers, EndsBy, EndsTold};
 ghost use Rattle.bwsh.specs.Shown.{shown_reply, shown_report};
 
@@ -370,12 +370,12 @@ pub fn session<R: AllocGlobal + Threads + Sync, I: Read, O: Write, E: Write>(
 
     // What stands on the output with each status: always a beginning of what the orders of the input answer on a new store of the
     // settings that the words tell, unless that is help.
-    ensures done { result ≡ 0 → AsksForHelp (map string_bytes words.now) ⊎ ((settings : Settings) × Tells (map string_bytes words.now) settings
+    ensures done { result ≡ 0 → AsksForHelp (map string_bytes words.now) ⊎ ((settings : Settings) × AsksForSettings (map string_bytes words.now) settings
         × IfSome (I.remaining input.old) (λ text. (first_bad 1 (said_by text) ≡ None) × Appends (O.contents out.old) (O.contents out.new) (printed_by settings text))) }
     ensures bad { result ≡ 3 → Appends (O.contents out.old) (O.contents out.new) []
         × IfSome (I.remaining input.old) (λ text. first_bad 1 (said_by text) ≢ None) }
     ensures beginning { AsksForHelp (map string_bytes words.now) ⊎ Appends (O.contents out.old) (O.contents out.new) []
-        ⊎ ((settings : Settings) × Tells (map string_bytes words.now) settings × IfSome (I.remaining input.old) (λ text. (front : List ℕ)
+        ⊎ ((settings : Settings) × AsksForSettings (map string_bytes words.now) settings × IfSome (I.remaining input.old) (λ text. (front : List ℕ)
         × BeginsWith (printed_by settings text) front × Appends (O.contents out.old) (O.contents out.new) front)) }
 
     // How it ends, and what is read and printed, is right for the words and the text but for memory and devices.
