@@ -16,8 +16,9 @@ use Rattle.delta_chain.specs.Layers.{said_or, with_run}
 use Rattle.delta_chain.specs.Merging.{asserted}
 use Rattle.delta_chain.proofs.LayerLaws.{value_at-with_run, rising-with_run}
 use Rattle.delta_chain.proofs.Overlays.{said_over, rising-asserted}
+use Rattle.index_page.specs.Page.{as_changes}
 use Rattle.scan.specs.Leaf.{from}
-use Rattle.page_runs.specs.PageRows.{as_changes, named, present_ones, rows_left}
+use Rattle.page_runs.specs.PageRows.{named, present_ones, rows_left}
 use Rattle.page_runs.proofs.PageRows.{rising-as_changes, rising-in_range, rising-named}
 
 with_true : (b : Bool) → (b && true) ≡ b

@@ -16,7 +16,8 @@ use Rattle.delta_chain.proofs.LayerLaws.{rising-with_run, rising-entries_of}
 use Rattle.scan.specs.Leaf.{from}
 use Rattle.delta_chain.proofs.Merges.{first_stays, first_goes, change_stays}
 use Rattle.delta_chain.proofs.Overlays.{rising-asserted}
-use Rattle.page_runs.specs.PageRows.{ahead, as_changes, named}
+use Rattle.index_page.specs.Page.{as_changes}
+use Rattle.page_runs.specs.PageRows.{ahead, named}
 
 -- ---- the part of a map from a key on
 

@@ -1,10 +1,11 @@
 -- A page and the changes to it, gone through together in key order.
-use Rattle.std.specs.Prelude.{ℕ, List, [], ◌∷◌, map, flat_map, take, drop, Option, Some, None}
+use Rattle.std.specs.Prelude.{ℕ, List, [], ◌∷◌, flat_map, take, drop, Option, Some, None}
 use Rattle.std.specs.Borrow.{Bor}
 use Rattle.std.specs.List.{filter}
 use Rattle.std.specs.Option.{option_copied}
 use Rattle.keys.specs.Range.{is_before}
 use Rattle.delta_chain.specs.Merging.{present, overlaid}
+use Rattle.index_page.specs.Page.{as_changes}
 use Rattle.page_runs.specs.declared.changes_from.KeptFrom.{KeptFrom}
 use Rattle.page_runs.specs.declared.changes_from.KeptFrom.TheVariants.{Few, Many}
 
@@ -24,10 +25,6 @@ ahead shows (Some x) rest = shows x ∷ rest
 abbrev pub changes_left : KeptFrom → List (List ℕ × Option (List ℕ))
 changes_left (Few run at) = drop at run.now
 changes_left (Many range) = range
-
--- pairs as changes
-abbrev pub as_changes : {V : Type 0} → List (List ℕ × V) → List (List ℕ × Option V)
-as_changes {V} pairs = map {B = List ℕ × Option V} (λ (p : List ℕ × V). (p.0, Some p.1)) pairs
 
 -- each key that the pairs or the changes name, with its value, or its absence, under the changes
 abbrev pub named : {V : Type 0} → List (List ℕ × V) → List (List ℕ × Option V) → List (List ℕ × Option V)
