@@ -20,7 +20,7 @@ use Rattle.flush_log.specs.Slot.{Slot}
 use Rattle.flush_log.specs.WordPids.{IsWord, NamesWords, HasWordPids}
 use Rattle.recovery.specs.InStep.{IsStoreOf}
 use Rattle.recovery.specs.LogPages.{contents_of, in_log, pids_of, pages_under, pages_of}
-use Rattle.recovery.specs.PageByLog.{is_start, from_last, InLog, begun, continued, told, page_in}
+use Rattle.recovery.specs.PageByLog.{is_start, from_last, InLog, begun_page, continued, told, page_in}
 use Rattle.recovery.specs.PageByLog.InLog.{Missing, Present, Broken}
 use Rattle.recovery.specs.StoreOfDisk.{frames_in, store_by_log, store_of_disk}
 use Rattle.recovery.proofs.FoundWithin.{log-within}
@@ -70,7 +70,7 @@ ToldWords Missing = ⊤
 ToldWords (Present p) = NamesWords p
 ToldWords Broken = ⊤
 
-begun_words : (c : Content) → ContentWords c → ToldWords (begun c)
+begun_words : (c : Content) → ContentWords c → ToldWords (begun_page c)
 begun_words (FullLeaf low base) h = tt
 begun_words (DeltaLeaf run) h = tt
 begun_words (FullIndex low base) h = h
@@ -97,7 +97,7 @@ fold_words t (c ∷ cs) h w = fold_words (continued t c) cs (continued_words t c
 
 told_words : (cs : List Content) → AllByRecursion ContentWords cs → ToldWords (told cs)
 told_words [] w = tt
-told_words (c ∷ cs) w = fold_words (begun c) cs (begun_words c w.0) w.1
+told_words (c ∷ cs) w = fold_words (begun_page c) cs (begun_words c w.0) w.1
 
 -- ---- the pages of a log
 

@@ -10,7 +10,7 @@ use Rattle.index_page.specs.Page.PageOfKind.{Leaf, Index}
 use Rattle.frame_codec.specs.Frame.{Content}
 use Rattle.frame_codec.specs.Frame.Content.{DeltaLeaf, DeltaIndex, Free}
 use Rattle.flush_log.specs.FlushText.{base_content, run_contents, whole_page}
-use Rattle.recovery.specs.PageByLog.{is_start, from_last, InLog, with_run, begun, continued, told, page_by_log}
+use Rattle.recovery.specs.PageByLog.{is_start, from_last, InLog, with_run, begun_page, continued, told, page_by_log}
 use Rattle.recovery.specs.PageByLog.InLog.{Missing, Present}
 use Rattle.recovery.specs.InStep.{IsOver, IsLogged}
 use Rattle.recovery.proofs.PartLaws.{from_last-at, from_last-more, from_last-none}
@@ -101,7 +101,7 @@ page-free cs = ap told (from_last-at is_start cs Free [] refl refl)
 
 told-more : (part ds : List Content) (p : PageOfKind) → told part ≡ Present p → told (part ++ ds) ≡ fold continued (Present p) ds
 told-more [] ds p e = absurd (cc)
-told-more (c ∷ cs) ds p e = fold-append continued (begun c) cs ds ∙ ap (λ t. fold continued t ds) e
+told-more (c ∷ cs) ds p e = fold-append continued (begun_page c) cs ds ∙ ap (λ t. fold continued t ds) e
 
 starts_by : (b : Bool) (cs : List Content) (p : PageOfKind) → list_any is_start cs ≡ b → page_by_log cs ≡ Present p → b ≡ true
 starts_by true cs p s e = refl
