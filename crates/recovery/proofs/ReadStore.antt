@@ -20,7 +20,7 @@ use Rattle.flush_log.specs.Slot.{Slot}
 use Rattle.flush_log.specs.WordPids.{IsWord, NamesWords, HasWordPids}
 use Rattle.recovery.specs.InStep.{IsStoreOf}
 use Rattle.recovery.specs.LogPages.{contents_of, in_log, pids_of, pages_under, pages_of}
-use Rattle.recovery.specs.PageByLog.{is_start, from_last, InLog, begun_page, continued, told, page_in}
+use Rattle.recovery.specs.PageByLog.{is_start, from_last, InLog, begun_page, continued, told_page, page_in}
 use Rattle.recovery.specs.PageByLog.InLog.{Missing, Present, Broken}
 use Rattle.recovery.specs.StoreOfDisk.{frames_in, store_by_log, store_of_disk}
 use Rattle.recovery.proofs.FoundWithin.{log-within}
@@ -95,7 +95,7 @@ fold_words : (t : InLog) (cs : List Content) → ToldWords t → AllByRecursion 
 fold_words t [] h w = h
 fold_words t (c ∷ cs) h w = fold_words (continued t c) cs (continued_words t c h w.0) w.1
 
-told_words : (cs : List Content) → AllByRecursion ContentWords cs → ToldWords (told cs)
+told_words : (cs : List Content) → AllByRecursion ContentWords cs → ToldWords (told_page cs)
 told_words [] w = tt
 told_words (c ∷ cs) w = fold_words (begun_page c) cs (begun_words c w.0) w.1
 

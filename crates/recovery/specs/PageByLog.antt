@@ -42,13 +42,13 @@ continued (Present (Index p)) (DeltaIndex run) = Present (Index (with_run p run)
 continued _ _ = Broken
 
 -- what contents say that begin with a base, or with there being no page
-abbrev pub told : List Content → InLog
-told [] = Missing
-told (c ∷ cs) = fold continued (begun_page c) cs
+abbrev pub told_page : List Content → InLog
+told_page [] = Missing
+told_page (c ∷ cs) = fold continued (begun_page c) cs
 
 -- the page of a pid, by all its contents in order: what the part from the last base or free frame on tells
 abbrev pub page_by_log : List Content → InLog
-page_by_log cs = told (from_last is_start cs)
+page_by_log cs = told_page (from_last is_start cs)
 
 -- the page, if there is one
 abbrev pub page_in : InLog → Option PageOfKind
