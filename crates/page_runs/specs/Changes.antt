@@ -4,6 +4,6 @@ use Rattle.page_runs.specs.declared.changes.Kept.{Kept}
 use Rattle.page_runs.specs.declared.changes.Kept.TheVariants.{Few, Many}
 
 -- the changes as a run
-abbrev pub changes_of : Kept → List (List ℕ × Option (List ℕ))
-changes_of (Few run) = run
-changes_of (Many map) = map.entries
+abbrev pub changes_kept : Kept → List (List ℕ × Option (List ℕ))
+changes_kept (Few run) = run
+changes_kept (Many map) = map.entries

@@ -47,9 +47,9 @@ impl Model for Changes {
 
     ghost Value = { List (List ℕ × Option (List ℕ)) };
 
-    ghost use Rattle.page_runs.specs.Changes.{changes_of};
+    ghost use Rattle.page_runs.specs.Changes.{changes_kept};
 
-    ghost view = { λ c. changes_of c.kept };
+    ghost view = { λ c. changes_kept c.kept };
 }
 
 impl Changes {
