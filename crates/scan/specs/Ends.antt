@@ -22,10 +22,6 @@ deleted cs = flat_map deleted_by cs
 abbrev pub count_within : List ℕ → List ℕ → List (List ℕ) → ℕ
 count_within low end keys = length (filter (λ k. is_within low (Some end) k) keys)
 
--- how many of the keys are below this one
-abbrev pub count_below : List ℕ → List (List ℕ) → ℕ
-count_below key keys = length (filter (λ k. is_below k key) keys)
-
 -- in each range, the second map lacks at most as many of the first one's pairs as there are of these keys
 abbrev pub LacksAtMost : List (List ℕ) → List (List ℕ × List ℕ) → List (List ℕ × List ℕ) → Type 0
 LacksAtMost keys m n = (low end : List ℕ) → length (in_range low (Some end) m) ≤ length (in_range low (Some end) n) + count_within low end keys
