@@ -73,8 +73,8 @@ rewriting [] all = []
 rewriting (p ∷ ps) all = with_rewriting p.pid (rewritten_groups (take (length (entries p)) all)) (rewriting ps (drop (length (entries p)) all))
 
 -- each such parent with how many of its groups are rewritten, and all these groups
-abbrev pub counted : List Rewriting → List (ℕ × ℕ)
-counted rs = map (λ r. (r.parent, length r.groups)) rs
+abbrev pub rewriting_counts : List Rewriting → List (ℕ × ℕ)
+rewriting_counts rs = map (λ r. (r.parent, length r.groups)) rs
 
 abbrev pub groups_of : List Rewriting → List (List SeenPage)
 groups_of rs = flat_map (λ r. r.groups) rs
