@@ -4,7 +4,7 @@ use Rattle.std.proofs.Common.{refl, sym, ap, ◌∙◌, arith, subst}
 use Rattle.std.proofs.lemmas.List.{take_at}
 use Rattle.index_page.specs.Page.{PageOfKind}
 use Rattle.mapping.specs.LogState.{log_state}
-use Rattle.mapping.specs.Flushed.{logged_whole, flushed, logged_then}
+use Rattle.mapping.specs.Flushed.{logged_whole, marked_as_written, logged_then}
 use Rattle.mapping.specs.Proper.{AreRisingPids}
 use Rattle.mapping.specs.Table.{Mapping}
 use Rattle.mapping.specs.Slots.{slot_pids, placed, listed, entry_if, table_of, AreInUseBelow, AreSlots}
@@ -69,7 +69,7 @@ logged-then (s ∷ ss) =
     ap (λ x. entry_if s.pid (listed (log_state (logged_then s.page))) ++ x) (logged-then ss)
     ∙ logged_by s.pid s.page (table_of ss).places
 
-table-then : (ss : List (Slot PageOfKind)) → table_of (map slot_then ss) ≡ flushed (table_of ss)
+table-then : (ss : List (Slot PageOfKind)) → table_of (map slot_then ss) ≡ marked_as_written (table_of ss)
 table-then ss = same_mapping _ _ _ _ (places-then ss) (logged-then ss)
 
 -- the slots stand as before
@@ -80,8 +80,8 @@ slots-then ss n a = record {
 }
 
 -- once the loop has ended, and the slots stand in their vector again
-pub all-flushed : (was ss ts : List (Slot PageOfKind)) (n i len : ℕ) → AreSlots was n → ss ≡ was → ts ≡ so_far ss i → length ts ≤ i → length ts ≡ len
-    → AreSlots (take len (ts ++ drop (length ts) was)) n × (table_of (take len (ts ++ drop (length ts) was)) ≡ flushed (table_of was))
-all-flushed was ss ts n i len a e f l g =
+pub all-marked_as_written : (was ss ts : List (Slot PageOfKind)) (n i len : ℕ) → AreSlots was n → ss ≡ was → ts ≡ so_far ss i → length ts ≤ i → length ts ≡ len
+    → AreSlots (take len (ts ++ drop (length ts) was)) n × (table_of (take len (ts ++ drop (length ts) was)) ≡ marked_as_written (table_of was))
+all-marked_as_written was ss ts n i len a e f l g =
     let all : take len (ts ++ drop (length ts) was) ≡ map slot_then was = take_at ts (drop (length ts) was) len g ∙ so_far-all ss ts i f l ∙ ap (map slot_then) e in
     (subst (λ (x : List (Slot PageOfKind)). AreSlots x n) (sym all) (slots-then was n a), ap table_of all ∙ table-then was)

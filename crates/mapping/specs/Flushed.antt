@@ -26,8 +26,8 @@ abbrev pub logged_whole : List (ℕ × Option PageOfKind) → List (ℕ × tree.
 logged_whole es = map (λ e. (e.0, upto (depth_counted e.1))) (home_pages es)
 
 -- the table once the log has each page at home as it is, and nothing of any other pid
-abbrev pub flushed : Mapping PageOfKind → Mapping PageOfKind
-flushed t = record { places = t.places; logged = logged_whole t.places }
+abbrev pub marked_as_written : Mapping PageOfKind → Mapping PageOfKind
+marked_as_written t = record { places = t.places; logged = logged_whole t.places }
 
 -- the code's log state of what stands in a slot then
 abbrev pub logged_then : Place PageOfKind → Logged

@@ -5,7 +5,7 @@ ghost use Rattle.std.specs.Map.{keys_of};
 ghost use Rattle.mapping.specs.LogState.{log_state};
 ghost use Rattle.mapping.specs.Proper.{AreRisingPids};
 ghost use Rattle.mapping.specs.Table.{no_places, place_of, page_of, log_of, with_place, outdated, freed, with_room, with_rooms, pids_in_use, fresh_pids, pids_in_use_or_old};
-ghost use Rattle.mapping.specs.Flushed.{flushed};
+ghost use Rattle.mapping.specs.Flushed.{marked_as_written};
 ghost use Rattle.mapping.specs.TreeInMemory.{home_pages};
 
 use crate::flush::logged_then;
@@ -191,7 +191,7 @@ impl<A: Allocator + Copy> Table<Page<A>, A> {
     /// Says that the log has each page at home as it is, with all its runs, and nothing of any other pid. The places stay,
     /// and it takes no memory.
     pub fn flushed(&mut self)
-        ensures { self.new ≡ flushed self.old }
+        ensures { self.new ≡ marked_as_written self.old }
     {
         for slot in self.slots.iter_mut() {
             slot.logged = logged_then(&slot.page);
