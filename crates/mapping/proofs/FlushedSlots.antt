@@ -4,7 +4,7 @@ use Rattle.std.proofs.Common.{refl, sym, ap, ◌∙◌, arith, subst}
 use Rattle.std.proofs.lemmas.List.{take_at}
 use Rattle.index_page.specs.Page.{PageOfKind}
 use Rattle.mapping.specs.LogState.{log_state}
-use Rattle.mapping.specs.Flushed.{logged_whole, marked_as_written, logged_then}
+use Rattle.mapping.specs.Flushed.{logged_home_pages, marked_as_written, logged_then}
 use Rattle.mapping.specs.Proper.{AreRisingPids}
 use Rattle.mapping.specs.Table.{Mapping}
 use Rattle.mapping.specs.Slots.{slot_pids, placed, listed, entry_if, table_of, AreInUseBelow, AreSlots}
@@ -58,12 +58,12 @@ places-then : (ss : List (Slot PageOfKind)) → (table_of (map slot_then ss)).pl
 places-then [] = refl
 places-then (s ∷ ss) = ap (λ (es : List (ℕ × Option PageOfKind)). entry_if s.pid (placed s.page) ++ es) (places-then ss)
 
-logged_by : (n : ℕ) (p : Place PageOfKind) (es : List (ℕ × Option PageOfKind)) → entry_if n (listed (log_state (logged_then p))) ++ logged_whole es ≡ logged_whole (entry_if n (placed p) ++ es)
+logged_by : (n : ℕ) (p : Place PageOfKind) (es : List (ℕ × Option PageOfKind)) → entry_if n (listed (log_state (logged_then p))) ++ logged_home_pages es ≡ logged_home_pages (entry_if n (placed p) ++ es)
 logged_by n Vacant es = refl
 logged_by n Away es = refl
 logged_by n (Home p) es = refl
 
-logged-then : (ss : List (Slot PageOfKind)) → (table_of (map slot_then ss)).logged ≡ logged_whole (table_of ss).places
+logged-then : (ss : List (Slot PageOfKind)) → (table_of (map slot_then ss)).logged ≡ logged_home_pages (table_of ss).places
 logged-then [] = refl
 logged-then (s ∷ ss) =
     ap (λ x. entry_if s.pid (listed (log_state (logged_then s.page))) ++ x) (logged-then ss)

@@ -22,12 +22,12 @@ abbrev pub depth_counted : PageOfKind → ℕ
 depth_counted p = min (page_depth p) (2 ^ 64 - 1)
 
 -- each page at home, with all its runs
-abbrev pub logged_whole : List (ℕ × Option PageOfKind) → List (ℕ × tree.Logged)
-logged_whole es = map (λ e. (e.0, upto (depth_counted e.1))) (home_pages es)
+abbrev pub logged_home_pages : List (ℕ × Option PageOfKind) → List (ℕ × tree.Logged)
+logged_home_pages es = map (λ e. (e.0, upto (depth_counted e.1))) (home_pages es)
 
 -- the table once the log has each page at home as it is, and nothing of any other pid
 abbrev pub marked_as_written : Mapping PageOfKind → Mapping PageOfKind
-marked_as_written t = record { places = t.places; logged = logged_whole t.places }
+marked_as_written t = record { places = t.places; logged = logged_home_pages t.places }
 
 -- the code's log state of what stands in a slot then
 abbrev pub logged_then : Place PageOfKind → Logged
