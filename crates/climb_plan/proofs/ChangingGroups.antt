@@ -10,7 +10,7 @@ use Rattle.mapping.specs.Levels.{Placed, entries}
 use Rattle.page_runs.specs.Worked.{Worked, is_thin, is_fat}
 use Rattle.split_plan.specs.Groups.{Gathered, with_child, gathered, with_leading, groups}
 use Rattle.split_plan.specs.WorkedLevel.{placed_of}
-use Rattle.split_plan.specs.Change.{Change, is_rewritten, remade, fresh, freed, changes, family_changes, fresh_of, all_fresh}
+use Rattle.split_plan.specs.Change.{Change, is_rewritten, remade, fresh, freed_by, changes, family_changes, fresh_of, all_fresh}
 use Rattle.split_plan.specs.Terms.{freed_of, terms}
 use Rattle.split_plan.proofs.ChangeLaws.{remade_by}
 use Rattle.climb_plan.specs.Climb.{families}
@@ -149,7 +149,7 @@ module _ {V : Type 0} where
   fresh-changing_changes s used i chs = flat_map-flat fresh (changing_changes s used i chs) ∙ ap (λ (cs : List (Change V)). fresh_of cs) (flat-changing_changes s used i chs)
 
   pub freed-changing_changes : (s : Settings) (used : List ℕ) (i : ℕ) (chs : List (Changing V)) → all_freed (changing_changes s used i chs) ≡ freed_of (changes s used i (changing_groups chs))
-  freed-changing_changes s used i chs = flat_map-flat freed (changing_changes s used i chs) ∙ ap (λ (cs : List (Change V)). freed_of cs) (flat-changing_changes s used i chs)
+  freed-changing_changes s used i chs = flat_map-flat freed_by (changing_changes s used i chs) ∙ ap (λ (cs : List (Change V)). freed_of cs) (flat-changing_changes s used i chs)
 
   -- those that change have the groups that are rewritten
   joined-with_changing : (gs : List (List (Worked V))) (p : Placed ℕ) (chs : List (Changing V)) → (let c : Changing V = record { parent = p; groups = gs } in changing_groups (with_changing gs c chs) ≡ gs ++ changing_groups chs)
@@ -175,7 +175,7 @@ module _ {V : Type 0} where
   alike_flat : (css dss : List (List (Change V))) → AreAlike (flat css) (flat dss) → AreAllAlike css dss
   alike_flat css dss a = record {
     fresh = flat_map-flat fresh css ∙ a.fresh ∙ sym (flat_map-flat fresh dss);
-    freed = flat_map-flat freed css ∙ a.freed ∙ sym (flat_map-flat freed dss);
+    freed = flat_map-flat freed_by css ∙ a.freed ∙ sym (flat_map-flat freed_by dss);
   }
 
   pub alike_level : (s : Settings) (used : List ℕ) (i : ℕ) (ps : List (Placed ℕ)) (ws : List (Worked V)) → AreAllAlike (family_changes s used i (families ps ws)) (changing_changes s used i (changing ps ws))
