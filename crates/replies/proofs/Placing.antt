@@ -14,7 +14,7 @@ use Rattle.keys.specs.declared.command.Command.TheVariants.{Get, Put, Add, Del, 
 use Rattle.keys.specs.declared.command.Reply.{Reply}
 use Rattle.keys.specs.declared.command.Reply.TheVariants.{Missing, Rows}
 use Rattle.keys.specs.declared.piece.Piece.{Piece}
-use Rattle.replies.specs.ByPlace.{pieces_at, rows_of, is_rows, lone, joined, joined_at, reply_at, is_scan_by, is_scan_at, IsPlaceOf, AreAnswers, limit_of, limit_by, blank_of, with_answer, gathered}
+use Rattle.replies.specs.ByPlace.{pieces_at, rows_of, is_rows, lone, joined, joined_at, reply_at, is_scan_by, is_scan_at, IsPlaceOf, AreAnswers, limit_of, limit_by, blank_of, with_answer, with_pieces}
 
 -- ---- lists
 
@@ -49,13 +49,13 @@ abbrev pub replies_of : {A : Type 0} → List (Piece A) → List (Reply A)
 replies_of ps = map (λ p. p.reply) ps
 
 module _ {A : Type 0} where
-  pub length-gathered : (cs : List (Command A)) (ps : List (Piece A)) (rs : List (Reply A)) → length (gathered cs ps rs) ≡ length rs
-  length-gathered cs [] rs = refl
-  length-gathered cs (p ∷ ps) rs = length-gathered cs ps _ ∙ length-set rs p.place _
+  pub length-with_pieces : (cs : List (Command A)) (ps : List (Piece A)) (rs : List (Reply A)) → length (with_pieces cs ps rs) ≡ length rs
+  length-with_pieces cs [] rs = refl
+  length-with_pieces cs (p ∷ ps) rs = length-with_pieces cs ps _ ∙ length-set rs p.place _
 
-  gathered-append : (cs : List (Command A)) (ps qs : List (Piece A)) (rs : List (Reply A)) → gathered cs (ps ++ qs) rs ≡ gathered cs qs (gathered cs ps rs)
-  gathered-append cs [] qs rs = refl
-  gathered-append cs (p ∷ ps) qs rs = gathered-append cs ps qs _
+  with_pieces-append : (cs : List (Command A)) (ps qs : List (Piece A)) (rs : List (Reply A)) → with_pieces cs (ps ++ qs) rs ≡ with_pieces cs qs (with_pieces cs ps rs)
+  with_pieces-append cs [] qs rs = refl
+  with_pieces-append cs (p ∷ ps) qs rs = with_pieces-append cs ps qs _
 
   pub within-rest : (cs : List (Command A)) (q : Piece A) (left rest : List (Piece A)) → left ≡ q ∷ rest → All (IsPlaceOf cs) left → All (IsPlaceOf cs) rest
   within-rest cs q left rest e h = All-rest (IsPlaceOf cs) q rest left e h
@@ -64,13 +64,13 @@ module _ {A : Type 0} where
   within-first cs q left rest e h = All-head (IsPlaceOf cs) q rest (subst (All (IsPlaceOf cs)) e h)
 
   -- what was made of what stood at the piece's place is put there
-  pub gathered-rest : (cs : List (Command A)) (q : Piece A) (left rest : List (Piece A)) (rs end : List (Reply A)) (c : Command A) (old new : Reply A) → left ≡ q ∷ rest → gathered cs left rs ≡ end
-      → q.place < length cs → q.place < length rs → c ≡ get_or cs q.place c → new ≡ with_answer (limit_of c) (get_or rs q.place old) q.reply → gathered cs rest (set rs q.place new) ≡ end
-  gathered-rest cs q left rest rs end c old new e h within room is made =
+  pub with_pieces-rest : (cs : List (Command A)) (q : Piece A) (left rest : List (Piece A)) (rs end : List (Reply A)) (c : Command A) (old new : Reply A) → left ≡ q ∷ rest → with_pieces cs left rs ≡ end
+      → q.place < length cs → q.place < length rs → c ≡ get_or cs q.place c → new ≡ with_answer (limit_of c) (get_or rs q.place old) q.reply → with_pieces cs rest (set rs q.place new) ≡ end
+  with_pieces-rest cs q left rest rs end c old new e h within room is made =
       let limit : limit_by (slice_get cs q.place) ≡ limit_of c = ap limit_by (slice_get_read cs (length cs) q.place c refl within is) in
       let stood : get_or rs q.place q.reply ≡ get_or rs q.place old = get_or_from_slice_get rs q.place (get_or rs q.place old) q.reply (slice_get-get_or rs q.place old room) in
       let put : new ≡ with_answer (limit_by (slice_get cs q.place)) (get_or rs q.place q.reply) q.reply = made ∙ ap (λ (n : ℕ). with_answer n (get_or rs q.place old) q.reply) (sym limit) ∙ ap (λ (at : Reply A). with_answer (limit_by (slice_get cs q.place)) at q.reply) (sym stood) in
-      ap (λ (r : Reply A). gathered cs rest (set rs q.place r)) put ∙ subst (λ (ps : List (Piece A)). gathered cs ps rs ≡ end) e h
+      ap (λ (r : Reply A). with_pieces cs rest (set rs q.place r)) put ∙ subst (λ (ps : List (Piece A)). with_pieces cs ps rs ≡ end) e h
 
   -- ---- one page more
 
@@ -86,8 +86,8 @@ module _ {A : Type 0} where
       let back : drop (length page) (flat left) ≡ flat rest = ap (drop (length page)) parts ∙ drop_at page (flat rest) (length page) refl in
       subst (All (IsPlaceOf cs)) back (All-drop (IsPlaceOf cs) (length page) (flat left) h)
 
-  pub gathered-page : (cs : List (Command A)) (page : List (Piece A)) (left rest : List (List (Piece A))) (rs end : List (Reply A)) → left ≡ page ∷ rest → gathered cs (flat left) rs ≡ end → gathered cs (flat rest) (gathered cs page rs) ≡ end
-  gathered-page cs page left rest rs end e h = sym (gathered-append cs page (flat rest) rs) ∙ subst (λ (pages : List (List (Piece A))). gathered cs (flat pages) rs ≡ end) e h
+  pub with_pieces-page : (cs : List (Command A)) (page : List (Piece A)) (left rest : List (List (Piece A))) (rs end : List (Reply A)) → left ≡ page ∷ rest → with_pieces cs (flat left) rs ≡ end → with_pieces cs (flat rest) (with_pieces cs page rs) ≡ end
+  with_pieces-page cs page left rest rs end e h = sym (with_pieces-append cs page (flat rest) rs) ∙ subst (λ (pages : List (List (Piece A))). with_pieces cs (flat pages) rs ≡ end) e h
 
   -- ---- what stands at a place
 
@@ -107,7 +107,7 @@ module _ {A : Type 0} where
   added_more false cs p ps rs i e h = rw (get-set false rs p.place i (with_answer (limit_by (slice_get cs p.place)) (get_or rs p.place p.reply) p.reply) e h) refl
 
   gathered-get : (cs : List (Command A)) (ps : List (Piece A)) (rs : List (Reply A)) (i : ℕ) → i < length rs
-      → slice_get (gathered cs ps rs) i ≡ added (limit_by (slice_get cs i)) (slice_get rs i) (replies_of (pieces_at ps i))
+      → slice_get (with_pieces cs ps rs) i ≡ added (limit_by (slice_get cs i)) (slice_get rs i) (replies_of (pieces_at ps i))
   unfolding added
   gathered-get cs [] rs i h = refl
   gathered-get cs (p ∷ ps) rs i h =
@@ -188,10 +188,10 @@ module _ {A : Type 0} where
   length-blanks cs = length-map cs blank_of
 
   -- the list that the pieces make of the blanks has the reply of each place
-  pub replies-gathered : (cs : List (Command A)) (ps : List (Piece A)) → AreAnswers cs ps → (i : ℕ) → slice_get (gathered cs ps (blanks_of cs)) i ≡ reply_at cs ps i
-  replies-gathered cs ps answers i = elim ((slice_get_cases cs i).1) [
+  pub replies-with_pieces : (cs : List (Command A)) (ps : List (Piece A)) → AreAnswers cs ps → (i : ℕ) → slice_get (with_pieces cs ps (blanks_of cs)) i ≡ reply_at cs ps i
+  replies-with_pieces cs ps answers i = elim ((slice_get_cases cs i).1) [
     | inl w ↦ gathered-get cs ps (blanks_of cs) i (let all = length-blanks cs in let h = w.1 in omega arith) ∙ at_place cs ps i w.0 answers w.1 w.2
-    | inr w ↦ past cs ps (gathered cs ps (blanks_of cs)) i (length-gathered cs ps (blanks_of cs) ∙ length-blanks cs) w.0
+    | inr w ↦ past cs ps (with_pieces cs ps (blanks_of cs)) i (length-with_pieces cs ps (blanks_of cs) ∙ length-blanks cs) w.0
   ]
 
   -- ---- the law

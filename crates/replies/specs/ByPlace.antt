@@ -91,6 +91,6 @@ limit_by None = 0
 limit_by (Some c) = limit_of c
 
 -- the list after these pieces, each added at its place
-abbrev pub gathered : {A : Type 0} → List (Command A) → List (Piece A) → List (Reply A) → List (Reply A)
-gathered cs [] rs = rs
-gathered cs (p ∷ ps) rs = gathered cs ps (slice_set rs p.place (with_answer (limit_by (slice_get cs p.place)) (slice_index_or rs p.place p.reply) p.reply))
+abbrev pub with_pieces : {A : Type 0} → List (Command A) → List (Piece A) → List (Reply A) → List (Reply A)
+with_pieces cs [] rs = rs
+with_pieces cs (p ∷ ps) rs = with_pieces cs ps (slice_set rs p.place (with_answer (limit_by (slice_get cs p.place)) (slice_index_or rs p.place p.reply) p.reply))
