@@ -14,7 +14,7 @@ use Rattle.mapping.specs.Outdate.{outdate_all}
 use Rattle.mapping.specs.TreeInMemory.{TreeInMemory}
 use Rattle.mapping.specs.Proper.{Distinct}
 use Rattle.mapping.proofs.TableLaws.{total, same_pid, equal_by, differ, listed-insert_entry}
-use Rattle.page_runs.specs.TermWork.{TermHeld, held_of}
+use Rattle.page_runs.specs.TermWork.{TermHeld, term_held_of}
 use Rattle.page_runs.specs.declared.term_work.TermJob.{TermJob}
 use Rattle.climb_plan.specs.Changing.{SeenPage}
 use Rattle.climb_plan.specs.Rewriting.{Remade}
@@ -116,7 +116,7 @@ pub home_apart : (t : Mapping PageOfKind) (x : SeenPage) → KeepsOthers t (come
 home_apart t x = by_replaced x.replaced t x.pid x.page
 
 -- what was undone, put back, is what was held
-pub put_held : (tree now : TreeInMemory) (held : TermHeld) (job : TermJob) → held_of job ≡ held → now ≡ record tree { table = with_place tree.table job.pid (Some job.page) } → now ≡ record tree { table = with_place tree.table held.pid (Some held.page) }
+pub put_held : (tree now : TreeInMemory) (held : TermHeld) (job : TermJob) → term_held_of job ≡ held → now ≡ record tree { table = with_place tree.table job.pid (Some job.page) } → now ≡ record tree { table = with_place tree.table held.pid (Some held.page) }
 put_held tree now held job e n = n ∙ ap (λ (h : TermHeld). record tree { table = with_place tree.table h.pid (Some h.page) }) e
 
 -- ---- groups are replaced
@@ -297,21 +297,21 @@ held_apart t u k (x ∷ xs) keeps d =
     ap (λ (o : Option (Option PageOfKind)). record { page = page_or_none (at_home o); pid = x.0; terms = x.1 } ∷ map (parent_held u) xs) (keeps x.0 d.0)
     ∙ ap (λ (hs : List TermHeld). parent_held t x ∷ hs) (held_apart t u k xs keeps d.1)
 
-held_push : (done : List TermJob) (job : TermJob) (hs : List TermHeld) → map held_of (done ++ job ∷ []) ++ hs ≡ map held_of done ++ held_of job ∷ hs
+held_push : (done : List TermJob) (job : TermJob) (hs : List TermHeld) → map term_held_of (done ++ job ∷ []) ++ hs ≡ map term_held_of done ++ term_held_of job ∷ hs
 held_push [] job hs = refl
-held_push (d ∷ ds) job hs = ap (λ (x : List TermHeld). held_of d ∷ x) (held_push ds job hs)
+held_push (d ∷ ds) job hs = ap (λ (x : List TermHeld). term_held_of d ∷ x) (held_push ds job hs)
 
 pub held_step : (tree now : TreeInMemory) (done pushed : List TermJob) (job : TermJob) (x : Told) (xs all : List Told) (hs : List TermHeld) → all ≡ x ∷ xs → now ≡ record tree { table = with_place tree.table x.0 None } → AreParentsHome tree.table (map (λ t. t.0) all)
-    → pushed ≡ done ++ job ∷ [] → job.pid ≡ x.0 → job.terms ≡ x.1 → page_of tree.table x.0 ≡ Some job.page → map held_of done ++ map (parent_held tree.table) all ≡ hs → map held_of pushed ++ map (parent_held now.table) xs ≡ hs
+    → pushed ≡ done ++ job ∷ [] → job.pid ≡ x.0 → job.terms ≡ x.1 → page_of tree.table x.0 ≡ Some job.page → map term_held_of done ++ map (parent_held tree.table) all ≡ hs → map term_held_of pushed ++ map (parent_held now.table) xs ≡ hs
 held_step tree now done pushed job x xs all hs e n home p a b c h =
     let t : Mapping PageOfKind = with_place tree.table x.0 None in
     let apart = (subst (λ (ys : List Told). AreParentsHome tree.table (map (λ t. t.0) ys)) e home).1.0 in
     let rest : map (parent_held now.table) xs ≡ map (parent_held tree.table) xs = ap (λ (y : TreeInMemory). map (parent_held y.table) xs) n ∙ held_apart tree.table t x.0 xs (placed_apart tree.table x.0 None) apart in
     let make : PageOfKind → ℕ → List (List ℕ × Option ℕ) → TermHeld = λ q k r. record { page = q; pid = k; terms = r } in
-    let first : held_of job ≡ parent_held tree.table x = ap (λ (k : ℕ). make job.page k job.terms) a ∙ ap (λ (r : List (List ℕ × Option ℕ)). make job.page x.0 r) b ∙ ap (λ (o : Option PageOfKind). make (page_or_none o) x.0 x.1) (sym c) in
-    ap (λ (ys : List TermJob). map held_of ys ++ map (parent_held now.table) xs) p
+    let first : term_held_of job ≡ parent_held tree.table x = ap (λ (k : ℕ). make job.page k job.terms) a ∙ ap (λ (r : List (List ℕ × Option ℕ)). make job.page x.0 r) b ∙ ap (λ (o : Option PageOfKind). make (page_or_none o) x.0 x.1) (sym c) in
+    ap (λ (ys : List TermJob). map term_held_of ys ++ map (parent_held now.table) xs) p
     ∙ held_push done job (map (parent_held now.table) xs)
-    ∙ ap (λ (ys : List TermHeld). map held_of done ++ held_of job ∷ ys) rest
-    ∙ ap (λ (y : TermHeld). map held_of done ++ y ∷ map (parent_held tree.table) xs) first
-    ∙ ap (λ (ys : List Told). map held_of done ++ map (parent_held tree.table) ys) (sym e)
+    ∙ ap (λ (ys : List TermHeld). map term_held_of done ++ term_held_of job ∷ ys) rest
+    ∙ ap (λ (y : TermHeld). map term_held_of done ++ y ∷ map (parent_held tree.table) xs) first
+    ∙ ap (λ (ys : List Told). map term_held_of done ++ map (parent_held tree.table) ys) (sym e)
     ∙ h

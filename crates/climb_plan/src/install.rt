@@ -4,7 +4,7 @@ ghost use Rattle.std.specs.Prelude.{◌≡◌, map, Some, None, IsSome, IfOk, On
 ghost use Rattle.std.specs.List.{AllByRecursion};
 ghost use Rattle.std.specs.Vec.Iter.{into_iter_items};
 ghost use Rattle.mapping.specs.Proper.{Distinct, AreRisingPids};
-ghost use Rattle.page_runs.specs.TermWork.{index_made, held_of};
+ghost use Rattle.page_runs.specs.TermWork.{index_made, term_held_of};
 ghost use Rattle.mapping.specs.Table.{page_of, place_of, with_place, outdated, pids_in_use};
 ghost use Rattle.climb_plan.specs.Installing.{all_taken, all_put, AreAway, AreParentsHome, parent_held, come_home, all_come_home, members_freed, put_under, group_installed, all_installed, CanInstall, CanInstallAll};
 
@@ -53,7 +53,7 @@ fn take_all(
     told: Vec<(u64, Run<Pid, Global>)>,
 ) -> Result<Vec<TermJob>, AllocError>
     requires { AreParentsHome tree.old.table (map (λ t. t.0) told.items) }
-    ensures held { IfOk result (λ jobs. map held_of jobs.items ≡ map (parent_held tree.old.table) told.items) }
+    ensures held { IfOk result (λ jobs. map term_held_of jobs.items ≡ map (parent_held tree.old.table) told.items) }
     ensures taken { OnOk result (tree.new ≡ record tree.old { table = all_taken tree.old.table (map (λ t. t.0) told.items) }) }
     ensures err { OnErr result (tree.new ≡ tree.old) }
 {
