@@ -106,14 +106,14 @@ module _ {A : Type 0} where
       rw (get-set true rs p.place i (with_answer (limit_by (slice_get cs p.place)) (get_or rs p.place p.reply) p.reply) e h, same, slice_get-get_or rs i p.reply h) refl
   added_more false cs p ps rs i e h = rw (get-set false rs p.place i (with_answer (limit_by (slice_get cs p.place)) (get_or rs p.place p.reply) p.reply) e h) refl
 
-  gathered-get : (cs : List (Command A)) (ps : List (Piece A)) (rs : List (Reply A)) (i : ℕ) → i < length rs
+  with_pieces-get : (cs : List (Command A)) (ps : List (Piece A)) (rs : List (Reply A)) (i : ℕ) → i < length rs
       → slice_get (with_pieces cs ps rs) i ≡ added (limit_by (slice_get cs i)) (slice_get rs i) (replies_of (pieces_at ps i))
   unfolding added
-  gathered-get cs [] rs i h = refl
-  gathered-get cs (p ∷ ps) rs i h =
+  with_pieces-get cs [] rs i h = refl
+  with_pieces-get cs (p ∷ ps) rs i h =
       let now = set rs p.place (with_answer (limit_by (slice_get cs p.place)) (get_or rs p.place p.reply) p.reply) in
       let within : i < length now = rw length-set h in
-      gathered-get cs ps now i within ∙ added_more (p.place == i) cs p (pieces_at ps i) rs i refl h
+      with_pieces-get cs ps now i within ∙ added_more (p.place == i) cs p (pieces_at ps i) rs i refl h
 
   -- ---- answers of one kind
 
@@ -190,7 +190,7 @@ module _ {A : Type 0} where
   -- the list that the pieces make of the blanks has the reply of each place
   pub replies-with_pieces : (cs : List (Command A)) (ps : List (Piece A)) → AreAnswers cs ps → (i : ℕ) → slice_get (with_pieces cs ps (blanks_of cs)) i ≡ reply_at cs ps i
   replies-with_pieces cs ps answers i = elim ((slice_get_cases cs i).1) [
-    | inl w ↦ gathered-get cs ps (blanks_of cs) i (let all = length-blanks cs in let h = w.1 in omega arith) ∙ at_place cs ps i w.0 answers w.1 w.2
+    | inl w ↦ with_pieces-get cs ps (blanks_of cs) i (let all = length-blanks cs in let h = w.1 in omega arith) ∙ at_place cs ps i w.0 answers w.1 w.2
     | inr w ↦ past cs ps (with_pieces cs ps (blanks_of cs)) i (length-with_pieces cs ps (blanks_of cs) ∙ length-blanks cs) w.0
   ]
 
