@@ -4,7 +4,7 @@ ghost use Rattle.std.specs.Option.{option_copied, option_map};
 ghost use Rattle.keys.specs.Order.{AreRisingKeys};
 ghost use Rattle.delta_chain.specs.Layers.{holds, entries_of, IsInOrder};
 ghost use Rattle.page_search.specs.Above.{above};
-ghost use Rattle.page_search.specs.Costs.{fewest_among, is_among, walk_most, walk_least, nearest_most, floor_most, above_most};
+ghost use Rattle.page_search.specs.Costs.{fewest_among, is_key_among, walk_most, walk_least, nearest_most, floor_most, above_most};
 ghost use Rattle.page_search.specs.Digits.{binary_digits};
 ghost use Rattle.page_search.specs.Floor.{floor};
 ghost use Rattle.page_search.specs.Nearest.{named_under, named_by, IsNearest, HasNoneOn, IsNearestPlace, Parts};
@@ -124,7 +124,7 @@ fn nearest_place<L: Keyed>(list: &L, key: &[u8], side: Side, probes: &mut Probes
     ensures rising { AreRisingKeys (L.keys list.now) }
     ensures cost { probes.new ≤ probes.old + binary_digits (length (L.keys list.now)) }
     ensures least { min
-        (probes.old + fewest_among (is_among key.now (L.keys list.now)) (length (L.keys list.now)))
+        (probes.old + fewest_among (is_key_among key.now (L.keys list.now)) (length (L.keys list.now)))
         u64.MAX ≤ probes.new }
     ensures kept { probes.old ≤ probes.new }
 {
@@ -143,7 +143,7 @@ fn parting<L: Keyed>(list: &L, key: &[u8], side: Side, probes: &mut Probes) -> u
     ensures place { Parts side key.now (L.keys list.now) result }
     ensures cost { probes.new ≤ probes.old + binary_digits (length (L.keys list.now)) }
     ensures least { min
-        (probes.old + fewest_among (is_among key.now (L.keys list.now)) (length (L.keys list.now)))
+        (probes.old + fewest_among (is_key_among key.now (L.keys list.now)) (length (L.keys list.now)))
         u64.MAX ≤ probes.new }
     ensures kept { probes.old ≤ probes.new }
 {
