@@ -28,7 +28,7 @@ use Rattle.mapping.proofs.TileLaws.{Names, next_names, next_low-parents, rising-
 use Rattle.mapping.proofs.LevelLaws.{values_of-names, index_pages_found}
 use Rattle.mapping.proofs.Joined.{next_joined}
 use Rattle.routing.specs.BatchKeys.{key_or_empty, key_at}
-use Rattle.routing.specs.Routes.{is_passed, Route, has_some, ranges, routes}
+use Rattle.routing.specs.Routes.{is_some_that, Route, has_some, ranges, routes}
 use Rattle.routing.proofs.BatchOrder.{routes_of_shares}
 use Rattle.routing.specs.SortedPlaces.{order_of_places, AreInKeyOrder, AreSortedPlaces, reaches, reaches_at}
 use Rattle.routing.specs.Keyed.{AreKeyed}
@@ -109,7 +109,7 @@ module _ {A : Type 0} (cs : List (Command A)) (low : List ℕ) (end : Option (Li
   scan_by true e lo hi c n m b h = rw (c, before_low hi low e n h) refl
   scan_by false e lo hi c n m b h = rw (c, before_high end lo e m b) refl
 
-  reaches_child : (e : List ℕ) (o : Option (Command A)) → is_below e low ≡ false → IsBefore end e → is_passed (reaches e) o ≡ true → (is_passed (reaches low) o || is_within low end (key_or_empty o)) ≡ true
+  reaches_child : (e : List ℕ) (o : Option (Command A)) → is_below e low ≡ false → IsBefore end e → is_some_that (reaches e) o ≡ true → (is_some_that (reaches low) o || is_within low end (key_or_empty o)) ≡ true
   reaches_child e None n m h = absurd (cc)
   reaches_child e (Some (Get k)) n m h = absurd (cc)
   reaches_child e (Some (Put k v)) n m h = absurd (cc)
