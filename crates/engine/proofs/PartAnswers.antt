@@ -11,6 +11,7 @@ use Rattle.std.proofs.lemmas.List.Sums.{length-filter}
 use Rattle.keys.specs.CommandKey.{key_of, is_scan}
 use Rattle.keys.specs.Order.{IsRising}
 use Rattle.keys.specs.OrderedMap.{value_at}
+use Rattle.keys.specs.Places.{is_some_that, is_scan_at}
 use Rattle.keys.specs.Range.{in_range}
 use Rattle.keys.specs.Step.{found, reply_to, map_after, replies_to}
 use Rattle.keys.specs.declared.command.Command.{Command}
@@ -28,7 +29,7 @@ use Rattle.routing.specs.Routes.{goes_to, places_from, places_within, ranges}
 use Rattle.routing.proofs.RouteLaws.{goes_by_key, within_all}
 use Rattle.page_runs.specs.Replies.{commands_at, pieces_of}
 use Rattle.page_runs.proofs.PageParts.{map_after-part, reply_to-part, rows-parts}
-use Rattle.replies.specs.ByPlace.{pieces_at, rows_of, is_rows, lone, joined, joined_at, reply_at, is_scan_by, is_scan_at, IsPlaceOf, AreAnswers}
+use Rattle.replies.specs.ByPlace.{pieces_at, rows_of, is_rows, lone, joined, joined_at, reply_at, IsPlaceOf, AreAnswers}
 use Rattle.replies.proofs.Placing.{same_at_each, replies_of, joined-lone}
 use Rattle.engine.proofs.CommandsWithin.{commands_within}
 
@@ -112,7 +113,7 @@ module _ {A : Type 0} where
     kinds-answers all n m [] h = tt
     kinds-answers all n m (c ∷ left) h =
         let s = stands_first n all c left h in
-        all_if (λ p. is_rows p.reply ≡ is_scan_at all p.place) (goes_to low end c) _ _ (kind-reply_to (in_range low end m) c ∙ sym (ap is_scan_by s.0)) (kinds-answers all (suc n) (map_after m c) left s.1)
+        all_if (λ p. is_rows p.reply ≡ is_scan_at all p.place) (goes_to low end c) _ _ (kind-reply_to (in_range low end m) c ∙ sym (ap (is_some_that is_scan) s.0)) (kinds-answers all (suc n) (map_after m c) left s.1)
 
     -- ---- what a page answers at a place
 

@@ -9,12 +9,13 @@ use Rattle.std.proofs.lemmas.List.Elements.{All-head, All-tail, All-rest, All-ta
 use Rattle.std.proofs.lemmas.Option.{gets, none-some, same_Some, slice_get_past, slice_get_cases, slice_get-get_or, slice_get-map, slice_get_read, get_or_from_slice_get}
 use Rattle.keys.specs.CommandKey.{is_scan}
 use Rattle.keys.specs.Lists.{flat}
+use Rattle.keys.specs.Places.{is_some_that, is_scan_at}
 use Rattle.keys.specs.declared.command.Command.{Command}
 use Rattle.keys.specs.declared.command.Command.TheVariants.{Get, Put, Add, Del, Scan}
 use Rattle.keys.specs.declared.command.Reply.{Reply}
 use Rattle.keys.specs.declared.command.Reply.TheVariants.{Missing, Rows}
 use Rattle.keys.specs.declared.piece.Piece.{Piece}
-use Rattle.replies.specs.ByPlace.{pieces_at, rows_of, is_rows, lone, joined, joined_at, reply_at, is_scan_by, is_scan_at, IsPlaceOf, AreAnswers, limit_of, limit_by, blank_of, with_answer, with_pieces}
+use Rattle.replies.specs.ByPlace.{pieces_at, rows_of, is_rows, lone, joined, joined_at, reply_at, IsPlaceOf, AreAnswers, limit_of, limit_by, blank_of, with_answer, with_pieces}
 
 -- ---- lists
 
@@ -176,7 +177,7 @@ module _ {A : Type 0} where
       → added (limit_by (slice_get cs i)) (slice_get (blanks_of cs) i) (replies_of (pieces_at ps i)) ≡ reply_at cs ps i
   unfolding added
   at_place cs ps i c answers h is =
-      let scan : is_scan_at cs i ≡ is_scan c = ap is_scan_by is in
+      let scan : is_scan_at cs i ≡ is_scan c = ap (is_some_that is_scan) is in
       let blank : slice_get (blanks_of cs) i ≡ Some (blank_of c) = slice_get-map blank_of cs i ∙ ap (option_map blank_of) is in
       let one : is_scan c ≡ false → length (replies_of (pieces_at ps i)) ≡ 1 = (λ plain. length-map (pieces_at ps i) (λ p. p.reply) ∙ answers.once i h (scan ∙ plain)) in
       rw (blank, is) (by_command c (replies_of (pieces_at ps i)) (kinds (is_scan c) cs ps i scan answers.kind) one)
@@ -218,7 +219,7 @@ module _ {A : Type 0} where
   joined-lone (Del k) rs h = refl
   joined-lone (Scan lo hi limit) rs h = absurd (cc)
 
-  joined_at-lone : (o : Option (Command A)) (c : Command A) (rs : List (Reply A)) → o ≡ Some c → is_scan_by o ≡ false → joined_at o rs ≡ lone rs
+  joined_at-lone : (o : Option (Command A)) (c : Command A) (rs : List (Reply A)) → o ≡ Some c → is_some_that is_scan o ≡ false → joined_at o rs ≡ lone rs
   joined_at-lone None c rs is h = absurd (cc)
   joined_at-lone (Some d) c rs is h = joined-lone d rs h
 
@@ -271,10 +272,10 @@ module _ {A : Type 0} where
         one.1 ∙ read_lone cs rs (pieces_at ps i) i one.0 plain (filter_passes (λ q. q.place == i) ps) (All-filter (λ q. q.place == i) (HasPieces cs rs) ps told)
 
     there : (i : ℕ) (c : Command A) → i < length cs → slice_get cs i ≡ Some c → reply_at cs ps i ≡ slice_get rs i
-    there i (Get k) h is = plain_there i h (ap is_scan_by is)
-    there i (Put k v) h is = plain_there i h (ap is_scan_by is)
-    there i (Add k v) h is = plain_there i h (ap is_scan_by is)
-    there i (Del k) h is = plain_there i h (ap is_scan_by is)
+    there i (Get k) h is = plain_there i h (ap (is_some_that is_scan) is)
+    there i (Put k v) h is = plain_there i h (ap (is_some_that is_scan) is)
+    there i (Add k v) h is = plain_there i h (ap (is_some_that is_scan) is)
+    there i (Del k) h is = plain_there i h (ap (is_some_that is_scan) is)
     there i (Scan lo hi limit) h is = reply_at-scan cs ps i lo hi limit is ∙ sym (scans i lo hi limit is)
 
     -- the list in which all of them stand is the list of the replies

@@ -1,7 +1,7 @@
 -- The reply at each place of a batch, by what the pages answer.
 use Rattle.std.specs.Prelude.{◌≡◌, ℕ, ◌<◌, ◌==◌, Bool, true, false, List, [], ◌∷◌, ◌++◌, map, slice_set, slice_index_or, take, flat_map, length, slice_get, Option, Some, None}
 use Rattle.std.specs.List.{All, filter}
-use Rattle.keys.specs.CommandKey.{is_scan}
+use Rattle.keys.specs.Places.{is_scan_at}
 use Rattle.keys.specs.declared.command.Command.{Command}
 use Rattle.keys.specs.declared.command.Command.TheVariants.{Get, Put, Add, Del, Scan}
 use Rattle.keys.specs.declared.command.Reply.{Reply}
@@ -44,14 +44,6 @@ joined_at (Some c) rs = joined c rs
 -- the reply at a place
 abbrev pub reply_at : {A : Type 0} → List (Command A) → List (Piece A) → ℕ → Option (Reply A)
 reply_at cs ps place = joined_at (slice_get cs place) (map (λ p. p.reply) (pieces_at ps place))
-
--- whether a scan stands at the place
-abbrev pub is_scan_by : {A : Type 0} → Option (Command A) → Bool
-is_scan_by None = false
-is_scan_by (Some c) = is_scan c
-
-abbrev pub is_scan_at : {A : Type 0} → List (Command A) → ℕ → Bool
-is_scan_at cs place = is_scan_by (slice_get cs place)
 
 -- whether a piece's place is one of the batch
 abbrev pub IsPlaceOf : {A : Type 0} → List (Command A) → Piece A → Type 0

@@ -7,6 +7,7 @@ use Rattle.std.proofs.lemmas.List.{map-append, take_more}
 use Rattle.std.proofs.lemmas.List.Sorted.{IsPermutation-trans, IsPermutation-append_comm}
 use Rattle.std.proofs.lemmas.List.Kept.{IsStrictlySortedBy-filter}
 use Rattle.keys.specs.CommandKey.{key_of}
+use Rattle.keys.specs.Places.{is_some_that}
 use Rattle.keys.specs.declared.command.Command.{Command}
 use Rattle.index_page.specs.Range.{is_within}
 use Rattle.index_page.specs.Children.{Place}
@@ -14,7 +15,7 @@ use Rattle.index_page.proofs.ListLaws.{all-filter}
 use Rattle.mapping.specs.FreshPids.{is_among}
 use Rattle.routing.specs.BatchKeys.{key_or_empty}
 use Rattle.routing.specs.Keyed.{Keyed, places_of}
-use Rattle.routing.specs.Routes.{is_some_that, places_within, Route, route_to, has_some, has_places}
+use Rattle.routing.specs.Routes.{places_within, Route, route_to, has_some, has_places}
 use Rattle.routing.specs.SortedPlaces.{order_of_places, AreSortedPlaces, begins_in, reaches, reaches_at, AreSortedWithin, AreSortedReaching}
 use Rattle.routing.specs.Shares.{Share, all_of, has_any, Lent, share_of_lent, lent_shares, HasEachPlaceOnce, is_in_range, share_of, shares, IsInBatchOrder, AreInBatchOrder}
 use Rattle.routing.proofs.RouteLaws.{among-places, within_all}

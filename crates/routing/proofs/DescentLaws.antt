@@ -7,6 +7,7 @@ use Rattle.std.proofs.Math.Seq.{drop-cons}
 use Rattle.std.proofs.lemmas.Bool.{cases_lt, and_parts}
 use Rattle.std.proofs.lemmas.List.Elements.{All-from_recursion}
 use Rattle.std.proofs.lemmas.List.Kept.{IsStrictlySortedBy-filter}
+use Rattle.keys.specs.Places.{is_some_that}
 use Rattle.keys.specs.declared.command.Command.{Command}
 use Rattle.keys.specs.declared.command.Command.TheVariants.{Get, Put, Add, Del, Scan}
 use Rattle.index_page.specs.Page.{Page, PageOfKind}
@@ -28,7 +29,7 @@ use Rattle.mapping.proofs.TileLaws.{Names, next_names, next_low-parents, rising-
 use Rattle.mapping.proofs.LevelLaws.{values_of-names, index_pages_found}
 use Rattle.mapping.proofs.Joined.{next_joined}
 use Rattle.routing.specs.BatchKeys.{key_or_empty, key_at}
-use Rattle.routing.specs.Routes.{is_some_that, Route, has_some, ranges, routes}
+use Rattle.routing.specs.Routes.{Route, has_some, ranges, routes}
 use Rattle.routing.proofs.BatchOrder.{routes_of_shares}
 use Rattle.routing.specs.SortedPlaces.{order_of_places, AreInKeyOrder, AreSortedPlaces, reaches, reaches_at}
 use Rattle.routing.specs.Keyed.{AreKeyed}

@@ -11,6 +11,7 @@ use Rattle.std.proofs.lemmas.Map.Keys.{IsStrictlyIncreasing-from_sorted}
 use Rattle.keys.specs.Order.{order}
 use Rattle.keys.proofs.MapLaws.{total}
 use Rattle.keys.specs.CommandKey.{key_of, is_scan}
+use Rattle.keys.specs.Places.{is_some_that}
 use Rattle.keys.specs.declared.command.Command.{Command}
 use Rattle.keys.specs.declared.command.Command.TheVariants.{Get, Put, Add, Del, Scan}
 use Rattle.index_page.specs.Range.{is_below, is_before, is_within, IsBefore}
@@ -24,7 +25,7 @@ use Rattle.mapping.proofs.PidLaws.{all_among}
 use Rattle.mapping.proofs.TileLaws.{low_is_before}
 use Rattle.routing.specs.Places.{places_below}
 use Rattle.routing.specs.SortedPlaces.{begins_in, reaches}
-use Rattle.routing.specs.Routes.{goes_to, is_some_that, goes_at, places_from, places_within, Route, route_to, has_places, ranges, routes, AreRoutesTo}
+use Rattle.routing.specs.Routes.{goes_to, goes_at, places_from, places_within, Route, route_to, has_places, ranges, routes, AreRoutesTo}
 use Rattle.routing.specs.Routes.AreRoutesTo.{none, next, left_out}
 
 -- ---- numbers that rise

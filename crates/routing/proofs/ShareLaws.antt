@@ -8,6 +8,7 @@ use Rattle.std.proofs.lemmas.List.Elements.{filter-append, All-from_recursion}
 use Rattle.keys.specs.Order.{order, IsRising}
 use Rattle.keys.proofs.MapLaws.{total}
 use Rattle.keys.specs.CommandKey.{is_scan}
+use Rattle.keys.specs.Places.{is_some_that, is_scan_at}
 use Rattle.keys.specs.declared.command.Command.{Command}
 use Rattle.keys.specs.declared.command.Command.TheVariants.{Get, Put, Add, Del, Scan}
 use Rattle.index_page.specs.Page.{PageOfKind, first_key, low_of}
@@ -17,7 +18,7 @@ use Rattle.index_page.proofs.ListLaws.{all-append, all_weaker, all_apart}
 use Rattle.index_page.proofs.RangeLaws.{below_is_less, less_is_below}
 use Rattle.index_page.proofs.ChildLaws.{next_key, children-cons, within, not_within_below, not_within_behind}
 use Rattle.routing.specs.BatchKeys.{key_at}
-use Rattle.routing.specs.Routes.{is_some_that, is_scan_at, Route, has_some, has_places}
+use Rattle.routing.specs.Routes.{Route, has_some, has_places}
 use Rattle.routing.specs.SortedPlaces.{order_of_places, AreInKeyOrder, reaches, reaches_at}
 use Rattle.routing.specs.Keyed.{Keyed, places_of, AreKeyed, has_key_below}
 use Rattle.routing.specs.Shares.{Share, all_of, Lent, share_of_lent, lent_shares, AreKeyedShares, is_in_range, share_of, shares, root_shares, shares_below, AreNoScans, is_met, CanHandDown, CanHandDownKeyed, CanHandDownShare}

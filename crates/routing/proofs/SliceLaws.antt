@@ -15,6 +15,7 @@ use Rattle.std.proofs.lemmas.Map.Keys.{IsDistinct-IsPermutation, IsStrictlyIncre
 use Rattle.keys.specs.Order.{order}
 use Rattle.keys.proofs.MapLaws.{total}
 use Rattle.keys.specs.CommandKey.{key_of}
+use Rattle.keys.specs.Places.{is_some_that}
 use Rattle.keys.specs.declared.command.Command.{Command}
 use Rattle.keys.specs.declared.command.Command.TheVariants.{Get, Put, Add, Del, Scan}
 use Rattle.index_page.specs.Range.{is_below, is_before, is_within, IsBefore}
@@ -25,7 +26,7 @@ use Rattle.mapping.proofs.PidLaws.{all_among}
 use Rattle.mapping.specs.FreshPids.{is_among}
 use Rattle.routing.specs.BatchKeys.{key_or_empty, key_at}
 use Rattle.routing.specs.Places.{places_below}
-use Rattle.routing.specs.Routes.{goes_to, is_some_that, places_from, places_within}
+use Rattle.routing.specs.Routes.{goes_to, places_from, places_within}
 use Rattle.routing.specs.SortedPlaces.{order_of_places, AreInKeyOrder, AreSortedPlaces, begins_in, reaches, reaches_at, AreSortedWithin, AreSortedReaching}
 use Rattle.routing.proofs.RouteLaws.{among-places, goes_as, all_places, within_parts, rising-places_from, among-append}
 use Rattle.routing.proofs.SortLaws.{total_places, holds_among, among-permutation, same_sorted, same_number}

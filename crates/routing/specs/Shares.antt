@@ -3,6 +3,7 @@ use Rattle.std.specs.Prelude.{◌≡◌, ℕ, ◌<◌, Bool, true, false, ◌||�
 use Rattle.std.specs.List.{AllByRecursion, IsDistinct, filter, list_any}
 use Rattle.std.specs.List.Sorted.{IsPermutation, IsNonDecreasing}
 use Rattle.keys.specs.Order.{IsRising}
+use Rattle.keys.specs.Places.{is_scan_at}
 use Rattle.keys.specs.declared.command.Command.{Command}
 use Rattle.index_page.specs.Page.{PageOfKind, first_key, low_of}
 use Rattle.index_page.specs.Page.PageOfKind.{Index}
@@ -12,7 +13,7 @@ use Rattle.mapping.specs.Tree.{page_at}
 use Rattle.mapping.specs.Levels.{as_index}
 use Rattle.routing.specs.BatchKeys.{key_at}
 use Rattle.routing.specs.Keyed.{Keyed, places_of, AreKeyed}
-use Rattle.routing.specs.Routes.{is_scan_at, Route, has_some}
+use Rattle.routing.specs.Routes.{Route, has_some}
 use Rattle.routing.specs.SortedPlaces.{AreInKeyOrder, reaches_at}
 
 -- a page's pid, the places of the commands that begin in the page, and those of the scans that reach it from the left

@@ -5,6 +5,7 @@ use Rattle.std.specs.Ordering.{nat_cmp, ordering_then}
 use Rattle.std.specs.List.Sorted.{IsPermutation, IsStrictlySortedBy}
 use Rattle.keys.specs.Order.{order}
 use Rattle.keys.specs.CommandKey.{key_of}
+use Rattle.keys.specs.Places.{is_some_that}
 use Rattle.keys.specs.declared.command.Command.{Command}
 use Rattle.keys.specs.declared.command.Command.TheVariants.{Get, Put, Add, Del, Scan}
 use Rattle.index_page.specs.Range.{is_within}
@@ -12,7 +13,7 @@ use Rattle.index_page.specs.Children.{is_between}
 use Rattle.mapping.specs.FreshPids.{is_among}
 use Rattle.routing.specs.BatchKeys.{key_at}
 use Rattle.routing.specs.Places.{places_below}
-use Rattle.routing.specs.Routes.{is_some_that, places_from}
+use Rattle.routing.specs.Routes.{places_from}
 
 -- how two places stand to each other: by the keys of their commands, and where these are equal by the places
 abbrev pub order_of_places : {A : Type 0} → List (Command A) → ℕ → ℕ → Ordering
