@@ -9,7 +9,7 @@ use Rattle.std.proofs.lemmas.Cmp.{tied_itself}
 use Rattle.index_page.specs.Page.{PageOfKind}
 use Rattle.index_page.proofs.ListLaws.{all_apart}
 use Rattle.mapping.specs.Tree.{listed_at}
-use Rattle.mapping.specs.Table.{Mapping, is_pid, place_of, page_of, at_home, with_place, outdated, freed}
+use Rattle.mapping.specs.Table.{Mapping, is_same_pid, place_of, page_of, at_home, with_place, outdated, freed}
 use Rattle.mapping.specs.Outdate.{outdate_all}
 use Rattle.mapping.specs.TreeInMemory.{TreeInMemory}
 use Rattle.mapping.specs.Proper.{Distinct}
@@ -36,9 +36,9 @@ module _ {V : Type 0} where
   removed_by false false q k e es rest f g d ih = rw g ih
 
   -- what is listed under another pid once a pid's entry is taken away
-  removed_apart : (q k : ℕ) (es : List (ℕ × V)) → q ≢ k → listed_at (remove_entry (is_pid k) es) q ≡ listed_at es q
+  removed_apart : (q k : ℕ) (es : List (ℕ × V)) → q ≢ k → listed_at (remove_entry (is_same_pid k) es) q ≡ listed_at es q
   removed_apart q k [] d = refl
-  removed_apart q k (e ∷ es) d = removed_by (is_eq (nat_cmp k e.0)) (is_eq (nat_cmp q e.0)) q k e es (remove_entry (is_pid k) es) refl refl d (removed_apart q k es d)
+  removed_apart q k (e ∷ es) d = removed_by (is_eq (nat_cmp k e.0)) (is_eq (nat_cmp q e.0)) q k e es (remove_entry (is_same_pid k) es) refl refl d (removed_apart q k es d)
 
 module _ {P : Type 0} (t : Mapping P) (k : ℕ) where
   -- what was put into a place is there

@@ -13,7 +13,7 @@ use Rattle.mapping.specs.Tree.{Logged, listed_at}
 use Rattle.mapping.specs.Outdate.{outdate_all}
 use Rattle.mapping.specs.FreshPids.{is_among}
 use Rattle.mapping.specs.Proper.{Distinct, AreRisingPids}
-use Rattle.mapping.specs.Table.{Mapping, is_pid, pids_in_use, place_of, page_of, at_home, with_place, outdated, freed}
+use Rattle.mapping.specs.Table.{Mapping, is_same_pid, pids_in_use, place_of, page_of, at_home, with_place, outdated, freed}
 use Rattle.mapping.proofs.PidLaws.{below_later}
 use Rattle.mapping.proofs.TableLaws.{differ, same_pid, equal_by}
 use Rattle.mapping.proofs.SameTable.{same_table}
@@ -64,17 +64,17 @@ module _ {V : Type 0} where
   all_left_by Q true e es rest p a r = a
   all_left_by Q false e es rest p a r = (p, r)
 
-  all_keys_left : (Q : ℕ → Type 0) (k : ℕ) (es : List (ℕ × V)) → AllByRecursion Q (keys_of es) → AllByRecursion Q (keys_of (remove_entry (is_pid k) es))
+  all_keys_left : (Q : ℕ → Type 0) (k : ℕ) (es : List (ℕ × V)) → AllByRecursion Q (keys_of es) → AllByRecursion Q (keys_of (remove_entry (is_same_pid k) es))
   all_keys_left Q k [] a = tt
-  all_keys_left Q k (e ∷ es) a = all_left_by Q (is_pid k e.0) e es (remove_entry (is_pid k) es) a.0 a.1 (all_keys_left Q k es a.1)
+  all_keys_left Q k (e ∷ es) a = all_left_by Q (is_same_pid k e.0) e es (remove_entry (is_same_pid k) es) a.0 a.1 (all_keys_left Q k es a.1)
 
   rising_left_by : (b : Bool) (e : ℕ × V) (es rest : List (ℕ × V)) → AreRisingPids (keys_of es) → AllByRecursion (λ n. e.0 < n) (keys_of rest) → AreRisingPids (keys_of rest) → AreRisingPids (keys_of (cond b es (e ∷ rest)))
   rising_left_by true e es rest r a s = r
   rising_left_by false e es rest r a s = (a, s)
 
-  rising_left : (k : ℕ) (es : List (ℕ × V)) → AreRisingPids (keys_of es) → AreRisingPids (keys_of (remove_entry (is_pid k) es))
+  rising_left : (k : ℕ) (es : List (ℕ × V)) → AreRisingPids (keys_of es) → AreRisingPids (keys_of (remove_entry (is_same_pid k) es))
   rising_left k [] r = tt
-  rising_left k (e ∷ es) r = rising_left_by (is_pid k e.0) e es (remove_entry (is_pid k) es) r.1 (all_keys_left (λ n. e.0 < n) k es r.0) (rising_left k es r.1)
+  rising_left k (e ∷ es) r = rising_left_by (is_same_pid k e.0) e es (remove_entry (is_same_pid k) es) r.1 (all_keys_left (λ n. e.0 < n) k es r.0) (rising_left k es r.1)
 
 abbrev Pages : Type 0
 Pages = Mapping PageOfKind
@@ -228,15 +228,15 @@ lookup_gone k (e ∷ es) a =
     let apart : k ≢ e.0 = (λ h. let l : k < e.0 = a.0 in omega arith) in
     rw (differ k e.0 apart) (lookup_gone k es a.1)
 
-gone_by : {V : Type 0} → (b : Bool) (k : ℕ) (e : ℕ × V) (es rest : List (ℕ × V)) → is_pid k e.0 ≡ b → AreRisingPids (keys_of (e ∷ es)) → listed_at rest k ≡ None → listed_at (cond b es (e ∷ rest)) k ≡ None
+gone_by : {V : Type 0} → (b : Bool) (k : ℕ) (e : ℕ × V) (es rest : List (ℕ × V)) → is_same_pid k e.0 ≡ b → AreRisingPids (keys_of (e ∷ es)) → listed_at rest k ≡ None → listed_at (cond b es (e ∷ rest)) k ≡ None
 gone_by true k e es rest h r n =
     let same : k ≡ e.0 = same_pid k e.0 (equal_by (nat_cmp k e.0) h) in
     lookup_gone k es (subst (λ (m : ℕ). AllByRecursion (λ n. m < n) (keys_of es)) (sym same) r.0)
 gone_by false k e es rest h r n = rw h n
 
-gone_entry : {V : Type 0} → (k : ℕ) (es : List (ℕ × V)) → AreRisingPids (keys_of es) → listed_at (remove_entry (is_pid k) es) k ≡ None
+gone_entry : {V : Type 0} → (k : ℕ) (es : List (ℕ × V)) → AreRisingPids (keys_of es) → listed_at (remove_entry (is_same_pid k) es) k ≡ None
 gone_entry k [] r = refl
-gone_entry k (e ∷ es) r = gone_by (is_pid k e.0) k e es (remove_entry (is_pid k) es) refl r (gone_entry k es r.1)
+gone_entry k (e ∷ es) r = gone_by (is_same_pid k e.0) k e es (remove_entry (is_same_pid k) es) refl r (gone_entry k es r.1)
 
 pub rising_gone : (t : Pages) (k : ℕ) → Rises t → Rises (gone_from t k)
 rising_gone t k r = rising_freed (with_place t k None) k (rising_with_place t k None r)

@@ -9,7 +9,7 @@ use Rattle.index_page.specs.Page.PageOfKind.{Index}
 use Rattle.mapping.specs.FreshPids.{is_among}
 use Rattle.mapping.specs.Levels.{Placed, pids}
 use Rattle.mapping.specs.Proper.{Distinct, AreRisingPids}
-use Rattle.mapping.specs.Table.{Mapping, is_pid, pids_in_use, place_of, with_rooms, fresh_pids, freed_all}
+use Rattle.mapping.specs.Table.{Mapping, is_same_pid, pids_in_use, place_of, with_rooms, fresh_pids, freed_all}
 use Rattle.mapping.proofs.DrawnPlaces.{drawn-away, other-place}
 use Rattle.climb_plan.specs.Changing.{AreHome}
 use Rattle.climb_plan.specs.Installing.{all_taken, all_put, AreAway, AreLost}
@@ -31,7 +31,7 @@ home_again u [] h = tt
 home_again u (q ∷ qs) h = (h.0, home_again u qs h.1)
 
 -- a pid that isn't in use has no place
-nothing_listed : (k : ℕ) (es : List (ℕ × Option PageOfKind)) → is_among k (keys_of es) ≡ false → lookup (is_pid k) es ≡ None
+nothing_listed : (k : ℕ) (es : List (ℕ × Option PageOfKind)) → is_among k (keys_of es) ≡ false → lookup (is_same_pid k) es ≡ None
 nothing_listed k [] h = refl
 nothing_listed k (e ∷ es) h =
     let apart = or_parts (nat_eq k e.0) (is_among k (keys_of es)) h in

@@ -5,7 +5,7 @@ use Rattle.std.specs.Ordering.{nat_cmp, is_eq}
 use Rattle.std.specs.List.{AllByRecursion, filter}
 use Rattle.std.specs.Map.{keys_of, lookup}
 use Rattle.mapping.specs.Tree.{listed_at}
-use Rattle.mapping.specs.Table.{is_pid, at_home}
+use Rattle.mapping.specs.Table.{is_same_pid, at_home}
 use Rattle.mapping.specs.TreeInMemory.{home_pages}
 use Rattle.mapping.specs.Slots.{placed, entry_if, slot_pids, table_of, is_home_place, is_home, home_pids}
 use Rattle.mapping.specs.declared.slots.Place.{Place}
@@ -17,12 +17,12 @@ module _ {P : Type 0} where
   found_by true p later here h = refl
   found_by false p later here h = h
 
-  home_by : (n m : ℕ) (o : Option P) (es : List (ℕ × Option P)) → IsSome o → at_home (lookup (is_pid n) es) ≡ listed_at (home_pages es) n → at_home (lookup (is_pid n) ((m, o) ∷ es)) ≡ listed_at (home_pages ((m, o) ∷ es)) n
+  home_by : (n m : ℕ) (o : Option P) (es : List (ℕ × Option P)) → IsSome o → at_home (lookup (is_same_pid n) es) ≡ listed_at (home_pages es) n → at_home (lookup (is_same_pid n) ((m, o) ∷ es)) ≡ listed_at (home_pages ((m, o) ∷ es)) n
   home_by n m None es h e = absurd (cc)
-  home_by n m (Some p) es h e = found_by (is_eq (nat_cmp n m)) p (lookup (is_pid n) es) (listed_at (home_pages es) n) e
+  home_by n m (Some p) es h e = found_by (is_eq (nat_cmp n m)) p (lookup (is_same_pid n) es) (listed_at (home_pages es) n) e
 
   -- where all pages are at home, the page at home under a pid is the one that is listed
-  pub page-home : (es : List (ℕ × Option P)) (n : ℕ) → AllByRecursion (λ e. IsSome e.1) es → at_home (lookup (is_pid n) es) ≡ listed_at (home_pages es) n
+  pub page-home : (es : List (ℕ × Option P)) (n : ℕ) → AllByRecursion (λ e. IsSome e.1) es → at_home (lookup (is_same_pid n) es) ≡ listed_at (home_pages es) n
   page-home [] n a = refl
   page-home (e ∷ es) n a = home_by n e.0 e.1 es a.0 (page-home es n a.1)
 

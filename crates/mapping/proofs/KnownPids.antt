@@ -10,7 +10,7 @@ use Rattle.mapping.specs.Tree.Logged.{No, Old, Upto}
 use Rattle.mapping.specs.FreshPids.{is_among, with_number}
 use Rattle.mapping.specs.Proper.{AreRisingPids}
 use Rattle.mapping.specs.LogState.{log_state}
-use Rattle.mapping.specs.Table.{Mapping, is_pid, pids_in_use, place_of, log_of, is_old, old_pids, with_numbers, pids_in_use_or_old}
+use Rattle.mapping.specs.Table.{Mapping, is_same_pid, pids_in_use, place_of, log_of, is_old, old_pids, with_numbers, pids_in_use_or_old}
 use Rattle.mapping.specs.Slots.{slot_pids, placed, listed, entry_if, table_of, is_known, known_pids}
 use Rattle.mapping.specs.declared.slots.Slot.{Slot}
 use Rattle.mapping.proofs.PidLaws.{among-with_number, all-with_number, rising-with_number}
@@ -160,11 +160,11 @@ old_here false true old k l os later e f g ih h = let x = is_eq_same k l.0 (eqb-
 old_here false false true k l os later e f g ih h = rw f ih
 old_here false false false k l os later e f g ih h = ih
 
-pub among-old : (k : ℕ) (ls : List (ℕ × Logged)) → AreRisingPids (keys_of ls) → is_among k (keys_of (filter (λ l. is_old l.1) ls)) ≡ is_old (or_no (lookup (is_pid k) ls))
+pub among-old : (k : ℕ) (ls : List (ℕ × Logged)) → AreRisingPids (keys_of ls) → is_among k (keys_of (filter (λ l. is_old l.1) ls)) ≡ is_old (or_no (lookup (is_same_pid k) ls))
 among-old k [] r = refl
 among-old k (l ∷ ls) r =
-    old_here (is_eq (nat_cmp k l.0)) (nat_eq k l.0) (is_old l.1) k l (filter (λ l. is_old l.1) ls) (lookup (is_pid k) ls) refl refl refl (among-old k ls r.1)
-    (λ e. ap (λ (n : ℕ). lookup (is_pid n) ls) e ∙ lookup_none l.0 ls r.0)
+    old_here (is_eq (nat_cmp k l.0)) (nat_eq k l.0) (is_old l.1) k l (filter (λ l. is_old l.1) ls) (lookup (is_same_pid k) ls) refl refl refl (among-old k ls r.1)
+    (λ e. ap (λ (n : ℕ). lookup (is_same_pid n) ls) e ∙ lookup_none l.0 ls r.0)
 
 -- a pid is among them exactly if it has a place, or the log has `Old` of it
 pub among-in_use_or_old : {P : Type 0} (t : Mapping P) (k : ℕ) → AreRisingPids (keys_of t.logged) → is_among k (pids_in_use_or_old t) ≡ (is_some (place_of t k) || is_old (log_of t k))
