@@ -7,7 +7,7 @@ use Rattle.std.proofs.lemmas.Bool.{cases_lt}
 use Rattle.std.proofs.lemmas.List.{take-take}
 use Rattle.keys.specs.Limits.{first_bad_field}
 use Rattle.keys.specs.declared.settings.Settings.{Settings}
-use Rattle.frame_codec.specs.Frame.{Frame, bytes_of, is_within}
+use Rattle.frame_codec.specs.Frame.{Frame, bytes_of, is_frame}
 use Rattle.index_page.proofs.ListLaws.{all_weaker}
 use Rattle.flush_log.specs.Commit.{AreWithin, IsBesideSpans}
 use Rattle.flush_log.specs.Overlay.{IsBeside, AgreeAt}
@@ -149,7 +149,7 @@ module _ (s : Settings) where
       (all-behind head q used (suc q) 16 fs).1 (opened (suc q) 0) refl (opened-end (suc q) 0) (omega arith) (λ e. absurd (omega arith)) high all free
 
   module _ (good : first_bad_field s ≡ None) where
-    text-behind : (head tail : ℕ) (text : List Frame) → head * s.seg_size < tail → AllByRecursion (λ f. is_within s f ≡ true) text → last_segment s (tail_after s tail text) < head + s.segments
+    text-behind : (head tail : ℕ) (text : List Frame) → head * s.seg_size < tail → AllByRecursion (λ f. is_frame s f ≡ true) text → last_segment s (tail_after s tail text) < head + s.segments
         → AllByRecursion (IsBehind head (last_segment s tail) (bytes_in_use s tail)) (spans s tail text)
     text-behind head tail [] h within free = tt
     text-behind head tail (f ∷ fs) h within free =
@@ -161,7 +161,7 @@ module _ (s : Settings) where
         (starts s (last_segment s tail) (bytes_in_use s tail) tail split.is split.high (omega arith)) split.low (omega arith) all (omega (arith, last, free))
 
     -- no place of the log is in a span of a text that finds room
-    pub text-beside : (head tail : ℕ) (text : List Frame) → head * s.seg_size < tail → AllByRecursion (λ f. is_within s f ≡ true) text → last_segment s (tail_after s tail text) < head + s.segments
+    pub text-beside : (head tail : ℕ) (text : List Frame) → head * s.seg_size < tail → AllByRecursion (λ f. is_frame s f ≡ true) text → last_segment s (tail_after s tail text) < head + s.segments
         → (place : ℕ) → IsInLog s head tail place → IsBesideSpans s (spans s tail text) place
     text-beside head tail text h within free place in_log =
         let least = (are_sized s good).least_size in
@@ -170,13 +170,13 @@ module _ (s : Settings) where
         (λ r behind. beside head tail (last_segment s tail) (bytes_in_use s tail) r split.is split.high behind place in_log) (spans s tail text) (text-behind head tail text h within free)
 
     -- nor one before the segments; and all lie within them
-    pub text-apart : (head tail : ℕ) (text : List Frame) → head * s.seg_size < tail → AllByRecursion (λ f. is_within s f ≡ true) text → last_segment s (tail_after s tail text) < head + s.segments
+    pub text-apart : (head tail : ℕ) (text : List Frame) → head * s.seg_size < tail → AllByRecursion (λ f. is_frame s f ≡ true) text → last_segment s (tail_after s tail text) < head + s.segments
         → (place : ℕ) → place < 512 → IsBesideSpans s (spans s tail text) place
     text-apart head tail text h within free place low =
         all_weaker (IsBehind head (last_segment s tail) (bytes_in_use s tail)) (λ r. IsBeside (place_of_span s r) (length r.bytes) place)
         (λ r behind. inl (omega (arith, low))) (spans s tail text) (text-behind head tail text h within free)
 
-    pub text-inside : (head tail : ℕ) (text : List Frame) → head * s.seg_size < tail → AllByRecursion (λ f. is_within s f ≡ true) text → last_segment s (tail_after s tail text) < head + s.segments
+    pub text-inside : (head tail : ℕ) (text : List Frame) → head * s.seg_size < tail → AllByRecursion (λ f. is_frame s f ≡ true) text → last_segment s (tail_after s tail text) < head + s.segments
         → AreWithin s (512 + s.segments * s.seg_size) (spans s tail text)
     text-inside head tail text h within free =
         let least = (are_sized s good).least_count in

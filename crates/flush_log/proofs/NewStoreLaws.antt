@@ -5,7 +5,7 @@ use Rattle.std.proofs.lemmas.Bool.{and_from}
 use Rattle.std.proofs.lemmas.List.{take-take}
 use Rattle.keys.specs.Limits.{first_bad_field}
 use Rattle.keys.specs.declared.settings.Settings.{Settings}
-use Rattle.frame_codec.specs.Frame.{bytes_of, is_within}
+use Rattle.frame_codec.specs.Frame.{bytes_of, is_frame}
 use Rattle.flush_log.specs.Segments.{segment_header, place_of, segment_bytes, last_segment, bytes_in_use}
 use Rattle.flush_log.specs.Reading.{is_at_tail, read_segment, followed_by, read_earlier, read_log, log}
 use Rattle.flush_log.specs.SettingsBlock.{store_settings}
@@ -73,7 +73,7 @@ module _ (s : Settings) (disk : List ℕ) (good : first_bad_field s ≡ None) (r
 
   -- ---- the log
 
-  first_within : is_within s first_frame ≡ true
+  first_within : is_frame s first_frame ≡ true
   first_within = and_from _ _ refl (and_from _ _ (le-leb 0 s.max_key (omega arith)) (and_from _ _ (and_from _ _ (le-leb 0 s.fan (omega arith)) refl) refl))
 
   first_read : read_segment s is_at_tail 0 (segment_header 0 ++ bytes_of first_frame) ≡ Ok (record { segment = 0; frame = first_frame } ∷ [])

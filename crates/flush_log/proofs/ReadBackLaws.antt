@@ -6,7 +6,7 @@ use Rattle.std.proofs.lemmas.List.{take_all, length-take}
 use Rattle.keys.specs.Limits.{first_bad_field}
 use Rattle.keys.specs.declared.settings.Settings.{Settings}
 use Rattle.keys.specs.declared.fault.Fault.{Fault}
-use Rattle.frame_codec.specs.Frame.{Frame, bytes_of, is_within}
+use Rattle.frame_codec.specs.Frame.{Frame, bytes_of, is_frame}
 use Rattle.flush_log.specs.Overlay.{overlay}
 use Rattle.flush_log.specs.Reading.{Found, all_in, is_at_tail, is_padding, read_segment, followed_by, read_earlier, read_log, log}
 use Rattle.flush_log.specs.Segments.{place_of, HasSegments, segment_bytes, last_segment, bytes_in_use}
@@ -84,7 +84,7 @@ module _ (s : Settings) (good : first_bad_field s ≡ None) where
   map_push n (g ∷ fs) f = ap (λ (xs : List Found). record { segment = n; frame = g } ∷ xs) (map_push n fs f)
 
   -- a frame more in the same segment
-  stands-longer : (file : List ℕ) (head k : ℕ) (r : Span) (found : List Found) (f : Frame) → end_of r + length (bytes_of f) ≤ s.seg_size → is_within s f ≡ true
+  stands-longer : (file : List ℕ) (head k : ℕ) (r : Span) (found : List Found) (f : Frame) → end_of r + length (bytes_of f) ≤ s.seg_size → is_frame s f ≡ true
       → Stands file head k r found → Stands file head k (longer r (bytes_of f)) (found ++ record { segment = r.segment; frame = f } ∷ [])
   stands-longer file head k r found f room within h = record {
     before = h.before;
@@ -143,7 +143,7 @@ module _ (s : Settings) (good : first_bad_field s ≡ None) where
 
   abbrev AreRead : ℕ → ℕ → List Frame → List PlacedFrame → Type 0
   AreRead n offset fs ps = (n ≤ (end_point n offset ps).0) × ((file : List ℕ) (head k : ℕ) (r : Span) (found : List Found) → r.segment ≡ n → end_of r ≡ offset →
-      Stands file head k r found → AllByRecursion (λ f. is_within s f ≡ true) fs → Leaves file head found n offset r ps)
+      Stands file head k r found → AllByRecursion (λ f. is_frame s f ≡ true) fs → Leaves file head found n offset r ps)
 
   read-none : (n offset : ℕ) → AreRead n offset [] []
   read-none n offset = (
@@ -239,7 +239,7 @@ module _ (s : Settings) (good : first_bad_field s ≡ None) where
       }
 
   text-behind : (file : List ℕ) (head q used n at : ℕ) (found : List Found) (fs : List Frame) → Start s q used n at → head ≤ q → 1 ≤ used → used ≤ s.seg_size
-      → HasSegments s file → read_log s file head (q - head) used ≡ ok found → AllByRecursion (λ f. is_within s f ≡ true) fs
+      → HasSegments s file → read_log s file head (q - head) used ≡ ok found → AllByRecursion (λ f. is_frame s f ≡ true) fs
       → (let ps : List PlacedFrame = placed_from s n (behind_header at) fs in (end_point n (behind_header at) ps).0 < head + s.segments
       → read_log s (with_spans s file (spans_from s (opened n at) ps)) head ((end_point n (behind_header at) ps).0 - head) (end_point n (behind_header at) ps).1 ≡ ok (found ++ map found_at ps))
   text-behind file head q used n at found fs (Inside room) from low high whole h within free =
@@ -260,11 +260,11 @@ module _ (s : Settings) (good : first_bad_field s ≡ None) where
       read file head (suc k) (begun (suc q) []) found refl (opened-end q 0) first within
       ((end_point (suc q) 16 (placed_from s (suc q) 16 fs)).0 - head) (omega (arith, rise, from)) (omega (arith, rise, free, from))
 
-  pub all_fit : (fs : List Frame) → AllByRecursion (λ f. is_within s f ≡ true) fs → AllFit s fs
+  pub all_fit : (fs : List Frame) → AllByRecursion (λ f. is_frame s f ≡ true) fs → AllFit s fs
   all_fit [] within = tt
   all_fit (f ∷ fs) within = (frame_fits s f good within.0, all_fit fs within.1)
 
-  pub text-back : (file : List ℕ) (head tail : ℕ) (found : List Found) (text : List Frame) → HasSegments s file → AllByRecursion (λ f. is_within s f ≡ true) text → head * s.seg_size < tail
+  pub text-back : (file : List ℕ) (head tail : ℕ) (found : List Found) (text : List Frame) → HasSegments s file → AllByRecursion (λ f. is_frame s f ≡ true) text → head * s.seg_size < tail
       → log s file head tail ≡ ok found → last_segment s (tail_after s tail text) < head + s.segments
       → log s (with_spans s file (spans s tail text)) head (tail_after s tail text) ≡ ok (found ++ found_in_text s tail text)
   text-back file head tail found [] whole within h read free = read ∙ ap ok (sym (append-nil found))

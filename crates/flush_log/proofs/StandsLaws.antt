@@ -8,7 +8,7 @@ use Rattle.std.proofs.lemmas.Nat.{mod_below}
 use Rattle.keys.specs.Limits.{first_bad_field}
 use Rattle.keys.specs.declared.settings.Settings.{Settings}
 use Rattle.index_page.proofs.ListLaws.{all_weaker}
-use Rattle.frame_codec.specs.Frame.{Frame, bytes_of, is_within}
+use Rattle.frame_codec.specs.Frame.{Frame, bytes_of, is_frame}
 use Rattle.flush_log.specs.Overlay.{overlay}
 use Rattle.flush_log.specs.Segments.{segment_header, HasSegments, segment_bytes, last_segment, bytes_in_use}
 use Rattle.flush_log.specs.Layout.{PlacedFrame, Span, placed_from, placed, behind_header, tail_after, end_of, longer, filled, begun, opened, spans_from, spans, place_of_span, with_spans}
@@ -135,7 +135,7 @@ module _ (s : Settings) where
       ))
 
   -- each frame of a text that finds room stands at its place
-  pub text-stands : first_bad_field s ≡ None → (file : List ℕ) (head tail : ℕ) (text : List Frame) → HasSegments s file → AllByRecursion (λ f. is_within s f ≡ true) text → head * s.seg_size < tail
+  pub text-stands : first_bad_field s ≡ None → (file : List ℕ) (head tail : ℕ) (text : List Frame) → HasSegments s file → AllByRecursion (λ f. is_frame s f ≡ true) text → head * s.seg_size < tail
       → last_segment s (tail_after s tail text) < head + s.segments
       → AllByRecursion (λ p. take (length (bytes_of p.frame)) (drop p.offset (segment_bytes s (with_spans s file (spans s tail text)) p.segment)) ≡ bytes_of p.frame) (placed s tail text)
   text-stands good file head tail [] whole within h free = tt

@@ -3,7 +3,7 @@ use Rattle.std.specs.Prelude.{◌≡◌, ◌⊎◌, ℕ, ◌+◌, ◌<◌, ◌�
 use Rattle.std.specs.List.{AllByRecursion}
 use Rattle.keys.specs.Limits.{first_bad_field}
 use Rattle.keys.specs.declared.settings.Settings.{Settings}
-use Rattle.frame_codec.specs.Frame.{Frame, is_within}
+use Rattle.frame_codec.specs.Frame.{Frame, is_frame}
 use Rattle.flush_log.specs.Overlay.{overlay, IsBeside, AgreeAt}
 use Rattle.flush_log.specs.Segments.{HasSegments, last_segment}
 use Rattle.flush_log.specs.Layout.{Span, tail_after, place_of_span, with_spans}
@@ -70,7 +70,7 @@ pub record HasRoom (s : Settings) (file : List ℕ) (t : Slot) (text : List Fram
   pub good : first_bad_field s ≡ None
   pub whole : HasSegments s file
   pub slot : store_slot s file ≡ Ok t
-  pub within : AllByRecursion (λ f. is_within s f ≡ true) text
+  pub within : AllByRecursion (λ f. is_frame s f ≡ true) text
   pub free : last_segment s (tail_after s t.tail text) < t.head + s.segments
 
 -- ---- what may be left of it

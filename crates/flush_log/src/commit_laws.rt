@@ -3,7 +3,7 @@ ghost use Rattle.std.specs.Prelude.{◌≡◌, ◌⊎◌, ◌↔◌, ℕ, suc, �
 ghost use Rattle.std.specs.List.{AllByRecursion};
 ghost use Rattle.keys.specs.Limits.{first_bad_field};
 ghost use Rattle.keys.specs.declared.settings.Settings.{Settings};
-ghost use Rattle.frame_codec.specs.Frame.{Frame, is_within};
+ghost use Rattle.frame_codec.specs.Frame.{Frame, is_frame};
 ghost use Rattle.flush_log.specs.Segments.{place_of, HasSegments, position, last_segment};
 ghost use Rattle.flush_log.specs.Reading.{Found, log};
 ghost use Rattle.flush_log.specs.Layout.{Span, tail_after, found_in_text, spans, with_spans};
@@ -63,7 +63,7 @@ pub fn what_was_committed_is_read()
 /// stays or moves to no later segment than the last one.
 pub fn the_slot_of_a_commit_is_well_formed()
     ensures { (s : Settings) (n : ℕ) (t u : Slot) (text : List Frame) → first_bad_field s ≡ None → is_slot s n t ≡ true →
-        AllByRecursion (λ f. is_within s f ≡ true) text → u.sequence ≡ suc t.sequence → u.sequence ≤ greatest →
+        AllByRecursion (λ f. is_frame s f ≡ true) text → u.sequence ≡ suc t.sequence → u.sequence ≤ greatest →
         u.tail ≡ tail_after s t.tail text → u.tail ≤ greatest → t.head ≤ u.head → u.head ≤ last_segment s t.tail →
         last_segment s u.tail < u.head + s.segments → u.root < 2 ^ 64 → 1 ≤ u.height → u.height ≤ 64 →
         is_slot s u.sequence u ≡ true }
@@ -89,7 +89,7 @@ pub fn a_log_has_room_for_its_positions()
     ensures position { (s : Settings) (head tail n offset : ℕ) → first_bad_field s ≡ None → head * s.seg_size + 16 < tail →
         tail ≤ greatest → n < head + s.segments → offset ≤ s.seg_size → position s n offset < 2 ^ 63 }
     ensures tail { (s : Settings) (tail : ℕ) (text : List Frame) → first_bad_field s ≡ None → tail ≤ greatest →
-        AllByRecursion (λ f. is_within s f ≡ true) text → length text ≤ 2 ^ 41 → tail_after s tail text < 2 ^ 63 }
+        AllByRecursion (λ f. is_frame s f ≡ true) text → length text ≤ 2 ^ 41 → tail_after s tail text < 2 ^ 63 }
     ensures sequence { (n : ℕ) → n ≤ greatest → suc n < 2 ^ 63 }
     ensures place { (s : Settings) (n offset : ℕ) → first_bad_field s ≡ None → offset ≤ s.seg_size → place_of s n + offset < 2 ^ 37 }
     ensures size { (s : Settings) → first_bad_field s ≡ None → 512 + s.segments * s.seg_size < 2 ^ 37 }

@@ -5,7 +5,7 @@ use Rattle.keys.specs.Cells.{Codec, AreBytes, ReadsSpellings, read_as, read_wher
 use Rattle.keys.specs.declared.settings.Settings.{Settings}
 use Rattle.keys.proofs.CellLaws.{gave, same_reading, nothing_read, read_as-gave, read_where-gave, goes_on, number-spelled, counted-spelled, pid-spelled}
 use Rattle.frame_codec.specs.Codecs.{both, listed, flagged}
-use Rattle.frame_codec.specs.Frame.{Content, Frame, full, delta, kind_of, content_bytes, header, bytes_of, is_within}
+use Rattle.frame_codec.specs.Frame.{Content, Frame, full, delta, kind_of, content_bytes, header, bytes_of, is_frame}
 use Rattle.frame_codec.specs.Frame.Content.{FullLeaf, DeltaLeaf, FullIndex, DeltaIndex, Free}
 use Rattle.frame_codec.specs.Reading.{BeginsWithFrame, read_content, read_behind, read_any, read_frame}
 use Rattle.keys.specs.Limits.{first_bad_field}
@@ -78,7 +78,7 @@ any-spelled bs f rest bytes h =
 
 pub frame-stands : (s : Settings) (bs : List ℕ) (f : Frame) (rest : List ℕ) → AreBytes bs → read_frame s bs ≡ Some (f, rest) → BeginsWithFrame s bs f rest
 frame-stands s bs f rest bytes h =
-    let (read, within) = read_where-gave (is_within s) (read_any bs) f rest h in
+    let (read, within) = read_where-gave (is_frame s) (read_any bs) f rest h in
     record { within = within; bytes = any-spelled bs f rest bytes read }
 
 -- where nothing is read, no frame stands

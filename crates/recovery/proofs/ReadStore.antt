@@ -12,7 +12,7 @@ use Rattle.index_page.proofs.ListLaws.{all-append, all-filter}
 use Rattle.mapping.specs.Slots.{entry_if}
 use Rattle.mapping.specs.Tree.{Store}
 use Rattle.mapping.proofs.KnownPids.{all-with_numbers}
-use Rattle.frame_codec.specs.Frame.{Content, Frame, is_pid, is_key, is_content, is_within}
+use Rattle.frame_codec.specs.Frame.{Content, Frame, is_pid, is_key, is_content, is_frame}
 use Rattle.frame_codec.specs.Frame.Content.{FullLeaf, DeltaLeaf, FullIndex, DeltaIndex, Free}
 use Rattle.flush_log.specs.FlushText.{logged_whole, tree_in_log}
 use Rattle.flush_log.specs.Reading.{Found}
@@ -101,8 +101,8 @@ told_words (c ∷ cs) w = fold_words (begun_page c) cs (begun_words c w.0) w.1
 
 -- ---- the pages of a log
 
-module _ (s : Settings) (fs : List Frame) (within : AllByRecursion (λ f. is_within s f ≡ true) fs) where
-  parts_within : (gs : List Frame) → AllByRecursion (λ f. is_within s f ≡ true) gs → AllByRecursion (λ f. IsWord f.pid × ContentWords f.content) gs
+module _ (s : Settings) (fs : List Frame) (within : AllByRecursion (λ f. is_frame s f ≡ true) fs) where
+  parts_within : (gs : List Frame) → AllByRecursion (λ f. is_frame s f ≡ true) gs → AllByRecursion (λ f. IsWord f.pid × ContentWords f.content) gs
   parts_within [] a = tt
   parts_within (g ∷ gs) a =
       let (pid, content) = and_parts (is_pid g.pid) (is_content s g.content) a.0 in
@@ -144,7 +144,7 @@ words-in_log ps root height r a = record { root = r; pages = a; logged = logged_
 
 -- ---- the store
 
-frames_within : (s : Settings) (found : List Found) → AllByRecursion (λ f. is_within s f.frame ≡ true) found → AllByRecursion (λ f. is_within s f ≡ true) (frames_in found)
+frames_within : (s : Settings) (found : List Found) → AllByRecursion (λ f. is_frame s f.frame ≡ true) found → AllByRecursion (λ f. is_frame s f ≡ true) (frames_in found)
 frames_within s [] a = tt
 frames_within s (f ∷ fs) a = (a.0, frames_within s fs a.1)
 
