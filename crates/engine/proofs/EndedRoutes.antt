@@ -34,7 +34,7 @@ use Rattle.page_runs.specs.NetRun.{net_run}
 use Rattle.page_runs.specs.Replies.{ArePlacesOf, commands_at, pieces_of}
 use Rattle.page_runs.specs.Worked.{worked}
 use Rattle.page_runs.proofs.EndedBatch.{AreNear, near_ends, EndsBefore, AllEndBefore, all_end_before, replies-ended, net_run-ended, net_run-with_ends}
-use Rattle.replies.specs.ByPlace.{joined as joined_replies, joined_at, reply_at, pieces_at, is_rows, AreAnswers}
+use Rattle.replies.specs.ByPlace.{joined_replies, joined_replies_at, reply_at, pieces_at, is_rows, AreAnswers}
 use Rattle.split_plan.specs.WorkedLevel.{worked_leaves}
 use Rattle.climb_plan.specs.Climb.{Climbed, climb}
 use Rattle.climb_plan.specs.Plan.{shrunk, shrunk_pids, planned_tree}
@@ -129,7 +129,7 @@ module _ (cs : List (Command Global)) (ends : List (Option (List ℕ))) where
   joined-with_end (Some end) (Del k) rs = refl
   joined-with_end (Some end) (Scan lo hi limit) rs = refl
 
-  joined_by : (end : Option (List ℕ)) (o : Option (Command Global)) (rs : List (Reply Global)) → joined_at (option_map (with_end end) o) rs ≡ joined_at o rs
+  joined_by : (end : Option (List ℕ)) (o : Option (Command Global)) (rs : List (Reply Global)) → joined_replies_at (option_map (with_end end) o) rs ≡ joined_replies_at o rs
   joined_by end None rs = refl
   joined_by end (Some c) rs = joined-with_end end c rs
 
@@ -137,7 +137,7 @@ module _ (cs : List (Command Global)) (ends : List (Option (List ℕ))) where
   pub reply-ended : (ps : List (Piece Global)) (place : ℕ) → reply_at (with_ends cs ends) ps place ≡ reply_at cs ps place
   reply-ended ps place =
       let rs : List (Reply Global) = map (λ p. p.reply) (pieces_at ps place) in
-      ap (λ (o : Option (Command Global)). joined_at o rs) (get-with_ends cs ends place) ∙ joined_by (first_end (drop place ends)) (slice_get cs place) rs
+      ap (λ (o : Option (Command Global)). joined_replies_at o rs) (get-with_ends cs ends place) ∙ joined_by (first_end (drop place ends)) (slice_get cs place) rs
 
   -- and are answers to either
   pub answers-ended : (ps : List (Piece Global)) → AreAnswers (with_ends cs ends) ps → AreAnswers cs ps

@@ -15,7 +15,7 @@ use Rattle.keys.specs.declared.command.Command.TheVariants.{Get, Put, Add, Del, 
 use Rattle.keys.specs.declared.command.Reply.{Reply}
 use Rattle.keys.specs.declared.command.Reply.TheVariants.{Missing, Rows}
 use Rattle.keys.specs.declared.piece.Piece.{Piece}
-use Rattle.replies.specs.ByPlace.{pieces_at, rows_of, is_rows, lone, joined, joined_at, reply_at, IsPlaceOf, AreAnswers, limit_of, limit_by, blank_of, with_answer, with_pieces}
+use Rattle.replies.specs.ByPlace.{pieces_at, rows_of, is_rows, lone, joined_replies, joined_replies_at, reply_at, IsPlaceOf, AreAnswers, limit_of, limit_by, blank_of, with_answer, with_pieces}
 
 -- ---- lists
 
@@ -148,7 +148,7 @@ module _ {A : Type 0} where
   added-one limit at (r ∷ []) h one = ap (λ (x : Reply A). Some x) (goes_over limit at r (All-head (IsOfKind false) r [] h))
   added-one limit at (r ∷ (q ∷ rs)) h one = absurd (omega arith)
 
-  by_command : (c : Command A) (rs : List (Reply A)) → All (IsOfKind (is_scan c)) rs → (is_scan c ≡ false → length rs ≡ 1) → added (limit_of c) (Some (blank_of c)) rs ≡ joined c rs
+  by_command : (c : Command A) (rs : List (Reply A)) → All (IsOfKind (is_scan c)) rs → (is_scan c ≡ false → length rs ≡ 1) → added (limit_of c) (Some (blank_of c)) rs ≡ joined_replies c rs
   by_command (Get k) rs h one = added-one 0 Missing rs h (one refl)
   by_command (Put k v) rs h one = added-one 0 Missing rs h (one refl)
   by_command (Add k v) rs h one = added-one 0 Missing rs h (one refl)
@@ -183,7 +183,7 @@ module _ {A : Type 0} where
       rw (blank, is) (by_command c (replies_of (pieces_at ps i)) (kinds (is_scan c) cs ps i scan answers.kind) one)
 
   past : (cs : List (Command A)) (ps : List (Piece A)) (xs : List (Reply A)) (i : ℕ) → length xs ≡ length cs → length cs ≤ i → slice_get xs i ≡ reply_at cs ps i
-  past cs ps xs i len h = slice_get_past xs i (omega arith) ∙ sym (ap (λ (o : Option (Command A)). joined_at o (replies_of (pieces_at ps i))) (slice_get_past cs i h))
+  past cs ps xs i len h = slice_get_past xs i (omega arith) ∙ sym (ap (λ (o : Option (Command A)). joined_replies_at o (replies_of (pieces_at ps i))) (slice_get_past cs i h))
 
   length-blanks : (cs : List (Command A)) → length (blanks_of cs) ≡ length cs
   length-blanks cs = length-map cs blank_of
@@ -209,19 +209,19 @@ module _ {A : Type 0} where
   pub reply_at-scan : (cs : List (Command A)) (ps : List (Piece A)) (place : ℕ) (lo : List ℕ) (hi : Option (List ℕ)) (limit : ℕ) → slice_get cs place ≡ Some (Scan lo hi limit)
       → reply_at cs ps place ≡ Some (Rows (take limit (rows_at ps place)))
   reply_at-scan cs ps place lo hi limit is =
-      ap (λ (o : Option (Command A)). joined_at o (replies_of (pieces_at ps place))) is ∙ ap (λ (xs : List (List ℕ × List ℕ)). Some (Rows (take limit xs))) (rows_joined (pieces_at ps place))
+      ap (λ (o : Option (Command A)). joined_replies_at o (replies_of (pieces_at ps place))) is ∙ ap (λ (xs : List (List ℕ × List ℕ)). Some (Rows (take limit xs))) (rows_joined (pieces_at ps place))
 
   -- the reply to a command that is no scan is the lone answer
-  pub joined-lone : (c : Command A) (rs : List (Reply A)) → is_scan c ≡ false → joined c rs ≡ lone rs
-  joined-lone (Get k) rs h = refl
-  joined-lone (Put k v) rs h = refl
-  joined-lone (Add k v) rs h = refl
-  joined-lone (Del k) rs h = refl
-  joined-lone (Scan lo hi limit) rs h = absurd (cc)
+  pub joined_replies-lone : (c : Command A) (rs : List (Reply A)) → is_scan c ≡ false → joined_replies c rs ≡ lone rs
+  joined_replies-lone (Get k) rs h = refl
+  joined_replies-lone (Put k v) rs h = refl
+  joined_replies-lone (Add k v) rs h = refl
+  joined_replies-lone (Del k) rs h = refl
+  joined_replies-lone (Scan lo hi limit) rs h = absurd (cc)
 
-  joined_at-lone : (o : Option (Command A)) (c : Command A) (rs : List (Reply A)) → o ≡ Some c → is_some_that is_scan o ≡ false → joined_at o rs ≡ lone rs
-  joined_at-lone None c rs is h = absurd (cc)
-  joined_at-lone (Some d) c rs is h = joined-lone d rs h
+  joined_replies_at-lone : (o : Option (Command A)) (c : Command A) (rs : List (Reply A)) → o ≡ Some c → is_some_that is_scan o ≡ false → joined_replies_at o rs ≡ lone rs
+  joined_replies_at-lone None c rs is h = absurd (cc)
+  joined_replies_at-lone (Some d) c rs is h = joined_replies-lone d rs h
 
   -- the one piece of a place, where its command is no scan
   abbrev IsOnePiece : List (Command A) → List (Piece A) → ℕ → Type 0
@@ -229,7 +229,7 @@ module _ {A : Type 0} where
 
   one_piece : (cs : List (Command A)) (ps : List (Piece A)) (i : ℕ) → AreAnswers cs ps → i < length cs → is_scan_at cs i ≡ false → IsOnePiece cs ps i
   one_piece cs ps i answers h plain = elim ((slice_get_cases cs i).1) [
-    | inl w ↦ (answers.once i h plain, joined_at-lone (slice_get cs i) w.0 (replies_of (pieces_at ps i)) w.2 plain)
+    | inl w ↦ (answers.once i h plain, joined_replies_at-lone (slice_get cs i) w.0 (replies_of (pieces_at ps i)) w.2 plain)
     | inr w ↦ absurd (let past = w.0 in omega arith)
   ]
 

@@ -29,21 +29,21 @@ lone _ = None
 
 -- the reply to a command that what the pages answer makes: of a scan their rows, joined and cut at the limit; of another
 -- command the answer of its one page
-abbrev pub joined : {A : Type 0} → Command A → List (Reply A) → Option (Reply A)
-joined (Get k) rs = lone rs
-joined (Put k v) rs = lone rs
-joined (Add k v) rs = lone rs
-joined (Del k) rs = lone rs
-joined (Scan lo hi limit) rs = Some (Rows (take limit (flat_map rows_of rs)))
+abbrev pub joined_replies : {A : Type 0} → Command A → List (Reply A) → Option (Reply A)
+joined_replies (Get k) rs = lone rs
+joined_replies (Put k v) rs = lone rs
+joined_replies (Add k v) rs = lone rs
+joined_replies (Del k) rs = lone rs
+joined_replies (Scan lo hi limit) rs = Some (Rows (take limit (flat_map rows_of rs)))
 
 -- the same of the command at a place
-abbrev pub joined_at : {A : Type 0} → Option (Command A) → List (Reply A) → Option (Reply A)
-joined_at None rs = None
-joined_at (Some c) rs = joined c rs
+abbrev pub joined_replies_at : {A : Type 0} → Option (Command A) → List (Reply A) → Option (Reply A)
+joined_replies_at None rs = None
+joined_replies_at (Some c) rs = joined_replies c rs
 
 -- the reply at a place
 abbrev pub reply_at : {A : Type 0} → List (Command A) → List (Piece A) → ℕ → Option (Reply A)
-reply_at cs ps place = joined_at (slice_get cs place) (map (λ p. p.reply) (pieces_at ps place))
+reply_at cs ps place = joined_replies_at (slice_get cs place) (map (λ p. p.reply) (pieces_at ps place))
 
 -- whether a piece's place is one of the batch
 abbrev pub IsPlaceOf : {A : Type 0} → List (Command A) → Piece A → Type 0
