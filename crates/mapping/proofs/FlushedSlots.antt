@@ -7,7 +7,7 @@ use Rattle.mapping.specs.LogState.{log_state}
 use Rattle.mapping.specs.Flushed.{logged_home_pages, marked_as_written, logged_then}
 use Rattle.mapping.specs.Proper.{AreRisingPids}
 use Rattle.mapping.specs.Table.{Mapping}
-use Rattle.mapping.specs.Slots.{slot_pids, placed, listed, entry_if, table_of, AreInUseBelow, AreSlots}
+use Rattle.mapping.specs.Slots.{slot_pids, listed_place, listed_state, entry_if, table_of, AreInUseBelow, AreSlots}
 use Rattle.mapping.specs.declared.logged.Logged.{Logged}
 use Rattle.mapping.specs.declared.slots.Place.{Place}
 use Rattle.mapping.specs.declared.slots.Place.TheVariants.{Vacant, Away, Home}
@@ -56,9 +56,9 @@ pids-then (s ∷ ss) = ap (λ (ns : List ℕ). s.pid ∷ ns) (pids-then ss)
 
 places-then : (ss : List (Slot PageOfKind)) → (table_of (map slot_then ss)).places ≡ (table_of ss).places
 places-then [] = refl
-places-then (s ∷ ss) = ap (λ (es : List (ℕ × Option PageOfKind)). entry_if s.pid (placed s.page) ++ es) (places-then ss)
+places-then (s ∷ ss) = ap (λ (es : List (ℕ × Option PageOfKind)). entry_if s.pid (listed_place s.page) ++ es) (places-then ss)
 
-logged_by : (n : ℕ) (p : Place PageOfKind) (es : List (ℕ × Option PageOfKind)) → entry_if n (listed (log_state (logged_then p))) ++ logged_home_pages es ≡ logged_home_pages (entry_if n (placed p) ++ es)
+logged_by : (n : ℕ) (p : Place PageOfKind) (es : List (ℕ × Option PageOfKind)) → entry_if n (listed_state (log_state (logged_then p))) ++ logged_home_pages es ≡ logged_home_pages (entry_if n (listed_place p) ++ es)
 logged_by n Vacant es = refl
 logged_by n Away es = refl
 logged_by n (Home p) es = refl
@@ -66,7 +66,7 @@ logged_by n (Home p) es = refl
 logged-then : (ss : List (Slot PageOfKind)) → (table_of (map slot_then ss)).logged ≡ logged_home_pages (table_of ss).places
 logged-then [] = refl
 logged-then (s ∷ ss) =
-    ap (λ x. entry_if s.pid (listed (log_state (logged_then s.page))) ++ x) (logged-then ss)
+    ap (λ x. entry_if s.pid (listed_state (log_state (logged_then s.page))) ++ x) (logged-then ss)
     ∙ logged_by s.pid s.page (table_of ss).places
 
 table-then : (ss : List (Slot PageOfKind)) → table_of (map slot_then ss) ≡ marked_as_written (table_of ss)

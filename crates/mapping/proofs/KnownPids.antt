@@ -11,7 +11,7 @@ use Rattle.mapping.specs.FreshPids.{is_among, with_number}
 use Rattle.mapping.specs.Proper.{AreRisingPids}
 use Rattle.mapping.specs.LogState.{log_state}
 use Rattle.mapping.specs.Table.{Mapping, is_same_pid, pids_in_use, place_of, log_of, is_old, old_pids, with_numbers, pids_in_use_or_old}
-use Rattle.mapping.specs.Slots.{slot_pids, placed, listed, entry_if, table_of, is_known, known_pids}
+use Rattle.mapping.specs.Slots.{slot_pids, listed_place, listed_state, entry_if, table_of, is_known, known_pids}
 use Rattle.mapping.specs.declared.slots.Slot.{Slot}
 use Rattle.mapping.proofs.PidLaws.{among-with_number, all-with_number, rising-with_number}
 use Rattle.mapping.proofs.TableLaws.{same_pid, equal_by}
@@ -85,7 +85,7 @@ all_olds Q (l ∷ ls) a = all_by_old Q (is_old l.1) l (filter (λ l. is_old l.1)
 module _ {P : Type 0} where
   -- with one slot more in front
   known_by : (k : ℕ) (o : Option (Option P)) (l : Logged) (es : List (ℕ × Option P)) (ls : List (ℕ × Logged)) → AllByRecursion (λ n. k < n) (keys_of es) → AllByRecursion (λ n. k < n) (olds ls)
-      → with_numbers (olds (entry_if k (listed l) ++ ls)) (keys_of (entry_if k o ++ es)) ≡ cond (is_some o || is_old l) (k ∷ with_numbers (olds ls) (keys_of es)) (with_numbers (olds ls) (keys_of es))
+      → with_numbers (olds (entry_if k (listed_state l) ++ ls)) (keys_of (entry_if k o ++ es)) ≡ cond (is_some o || is_old l) (k ∷ with_numbers (olds ls) (keys_of es)) (with_numbers (olds ls) (keys_of es))
   known_by k None No es ls a b = refl
   known_by k None Old es ls a b = one_first k (with_numbers (olds ls) (keys_of es)) (all-with_numbers (λ n. k < n) (olds ls) (keys_of es) b a)
   known_by k None (Upto n) es ls a b = refl
@@ -104,11 +104,11 @@ module _ {P : Type 0} where
   known-table [] r = refl
   known-table (s ∷ ss) r =
       let t = table_of ss in
-      let used = keys-listing (λ (s : Slot P). s.pid) (λ s. placed s.page) (λ n. s.pid < n) ss r.0 in
-      let logged = all_olds (λ n. s.pid < n) t.logged (keys-listing (λ (s : Slot P). s.pid) (λ s. listed (log_state s.logged)) (λ n. s.pid < n) ss r.0) in
+      let used = keys-listing (λ (s : Slot P). s.pid) (λ s. listed_place s.page) (λ n. s.pid < n) ss r.0 in
+      let logged = all_olds (λ n. s.pid < n) t.logged (keys-listing (λ (s : Slot P). s.pid) (λ s. listed_state (log_state s.logged)) (λ n. s.pid < n) ss r.0) in
       pick_by (is_known s) s (filter is_known ss)
       ∙ ap (λ (ns : List ℕ). cond (is_known s) (s.pid ∷ ns) ns) (known-table ss r.1)
-      ∙ sym (known_by s.pid (placed s.page) (log_state s.logged) t.places t.logged used logged)
+      ∙ sym (known_by s.pid (listed_place s.page) (log_state s.logged) t.places t.logged used logged)
 
 -- ---- the law
 

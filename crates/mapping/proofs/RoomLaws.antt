@@ -7,7 +7,7 @@ use Rattle.mapping.specs.Proper.{AreRisingPids}
 use Rattle.mapping.specs.Tree.Logged.{No}
 use Rattle.mapping.specs.LogState.{log_state}
 use Rattle.mapping.specs.Table.{Mapping, place_of, room_by, with_room}
-use Rattle.mapping.specs.Slots.{slot_pids, placed, table_of, StandsAt, GoesTo, AreInUseBelow, AreSlots}
+use Rattle.mapping.specs.Slots.{slot_pids, listed_place, table_of, StandsAt, GoesTo, AreInUseBelow, AreSlots}
 use Rattle.mapping.specs.declared.slots.Place.TheVariants.{Vacant}
 use Rattle.mapping.specs.declared.slots.Slot.{Slot}
 use Rattle.mapping.proofs.InUse.{in_use-with_place}
@@ -27,10 +27,10 @@ module _ {P : Type 0} (ss : List (Slot P)) (r : AreRisingPids (slot_pids ss)) (i
   all_below_zero = record { rising = r; in_use = λ n l. absurd (omega arith) }
 
   -- a vacant slot gets a place
-  pub room_vacant : (s t : Slot P) → StandsAt (slot_pids ss) k i → s ≡ get_or ss i s → s.page ≡ Vacant → t.pid ≡ s.pid → placed t.page ≡ Some None → t.logged ≡ s.logged → HaveRoom (set ss i t) ss k
+  pub room_vacant : (s t : Slot P) → StandsAt (slot_pids ss) k i → s ≡ get_or ss i s → s.page ≡ Vacant → t.pid ≡ s.pid → listed_place t.page ≡ Some None → t.logged ≡ s.logged → HaveRoom (set ss i t) ss k
   room_vacant s t stands read v e f g =
       let both = page_changed ss 0 all_below_zero i k s stands read t None e f g in
-      let none : place_of (table_of ss) k ≡ None = place-slot ss i k s r (slot_here ss i k s stands read) ∙ ap placed v in
+      let none : place_of (table_of ss) k ≡ None = place-slot ss i k s r (slot_here ss i k s stands read) ∙ ap listed_place v in
       (both.0.rising, both.1 ∙ ap (λ (o : Option (Option P)). room_by o (table_of ss) k) (sym none))
 
   -- the pid has a place
@@ -41,7 +41,7 @@ module _ {P : Type 0} (ss : List (Slot P)) (r : AreRisingPids (slot_pids ss)) (i
       subst (λ (x : List (Slot P)). HaveRoom x ss k) (sym same) (r, sym (room_by_some (place_of (table_of ss) k) (table_of ss) k some))
 
   -- a slot comes in for the pid
-  pub room_new : (t : Slot P) → GoesTo (slot_pids ss) k i → t.pid ≡ k → placed t.page ≡ Some None → log_state t.logged ≡ No → HaveRoom (insert ss i t) ss k
+  pub room_new : (t : Slot P) → GoesTo (slot_pids ss) k i → t.pid ≡ k → listed_place t.page ≡ Some None → log_state t.logged ≡ No → HaveRoom (insert ss i t) ss k
   room_new t goes e f g =
       let at : GoesTo (slot_pids ss) t.pid i = subst (λ (n : ℕ). GoesTo (slot_pids ss) n i) (sym e) goes in
       let none : place_of (table_of ss) k ≡ None = place-gap ss i k goes in

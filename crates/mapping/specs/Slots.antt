@@ -11,17 +11,17 @@ use Rattle.mapping.specs.declared.slots.Place.{Place}
 use Rattle.mapping.specs.declared.slots.Place.TheVariants.{Vacant, Away, Home}
 use Rattle.mapping.specs.declared.slots.Slot.{Slot}
 
--- a place, if there is one
-abbrev pub placed : {P : Type 0} → Place P → Option (Option P)
-placed Vacant = None
-placed Away = Some None
-placed (Home p) = Some (Some p)
+-- what is listed of a place: nothing where there is none
+abbrev pub listed_place : {P : Type 0} → Place P → Option (Option P)
+listed_place Vacant = None
+listed_place Away = Some None
+listed_place (Home p) = Some (Some p)
 
 -- what is listed of a log state: nothing for `No`
-abbrev pub listed : Logged → Option Logged
-listed No = None
-listed Old = Some Old
-listed (Upto k) = Some (Upto k)
+abbrev pub listed_state : Logged → Option Logged
+listed_state No = None
+listed_state Old = Some Old
+listed_state (Upto k) = Some (Upto k)
 
 -- what is under a pid, as a list of entries
 abbrev pub entry_if : {V : Type 0} → ℕ → Option V → List (ℕ × V)
@@ -35,13 +35,13 @@ slot_pids ss = map (λ s. s.pid) ss
 -- the slots that aren't vacant, and those of which the log has something
 abbrev pub table_of : {P : Type 0} → List (Slot P) → Mapping P
 table_of ss = record {
-  places = flat_map (λ s. entry_if s.pid (placed s.page)) ss;
-  logged = flat_map (λ s. entry_if s.pid (listed (log_state s.logged))) ss;
+  places = flat_map (λ s. entry_if s.pid (listed_place s.page)) ss;
+  logged = flat_map (λ s. entry_if s.pid (listed_state (log_state s.logged))) ss;
 }
 
 -- the slot's pid has a place, or the log has `Old` of it
 abbrev pub is_known : {P : Type 0} → Slot P → Bool
-is_known s = is_some (placed s.page) || is_old (log_state s.logged)
+is_known s = is_some (listed_place s.page) || is_old (log_state s.logged)
 
 -- the pids of such slots
 abbrev pub known_pids : {P : Type 0} → List (Slot P) → List ℕ
