@@ -18,8 +18,8 @@ use Rattle.delta_chain.proofs.LayerLaws.{value_at-with_run, rising-with_run}
 use Rattle.delta_chain.proofs.Overlays.{said_over, rising-asserted}
 use Rattle.index_page.specs.Page.{as_changes}
 use Rattle.scan.specs.Leaf.{from}
-use Rattle.page_runs.specs.PageRows.{named, present_ones, rows_left}
-use Rattle.page_runs.proofs.PageRows.{rising-as_changes, rising-in_range, rising-named}
+use Rattle.page_runs.specs.PageRows.{named_by_either, present_ones, rows_left}
+use Rattle.page_runs.proofs.PageRows.{rising-as_changes, rising-in_range, rising-named_by_either}
 
 with_true : (b : Bool) → (b && true) ≡ b
 with_true true = refl
@@ -77,11 +77,11 @@ module _ {V : Type 0} where
   rising-present ((k, Some v) ∷ cs) r = (all_present (λ j. order k j ≡ Less) cs r.0, rising-present cs r.1)
 
   -- of the keys that pairs and changes name, those that have a value are the pairs under the changes
-  present-named : (ps : List (List ℕ × V)) (cs : List (List ℕ × Option V)) → IsRising ps → IsRising cs → present_ones (named ps cs) ≡ with_run ps cs
-  present-named ps cs r s =
-      let n = rising-named ps cs r in
-      same_map (present_ones (named ps cs)) (with_run ps cs) (rising-present (named ps cs) n) (rising-with_run ps cs r)
-      (λ q. value_at-present (named ps cs) q n
+  present-named_by_either : (ps : List (List ℕ × V)) (cs : List (List ℕ × Option V)) → IsRising ps → IsRising cs → present_ones (named_by_either ps cs) ≡ with_run ps cs
+  present-named_by_either ps cs r s =
+      let n = rising-named_by_either ps cs r in
+      same_map (present_ones (named_by_either ps cs)) (with_run ps cs) (rising-present (named_by_either ps cs) n) (rising-with_run ps cs r)
+      (λ q. value_at-present (named_by_either ps cs) q n
       ∙ ap (λ (t : Option (Option V)). said_or t None) (value_at-with_run (as_changes ps) (asserted cs) q (rising-as_changes ps r) (rising-asserted cs s))
       ∙ said_over cs q (value_at q (as_changes ps)) None
       ∙ ap (λ (t : Option V). said_or (value_at q cs) t) (value_at-as_changes ps q)
@@ -131,13 +131,13 @@ module _ {V : Type 0} where
       ∙ kept-same (λ k. is_within low None k && is_before end k) (is_within low end) es (λ k. ap (λ (b : Bool). b && is_before end k) (with_true (not (is_below k low))))
 
   -- the rows of a page under changes are those that the keys from the low key on give
-  pub rows-start : (low : List ℕ) (end : Option (List ℕ)) (limit : ℕ) (m : List (List ℕ × V)) (cs : List (List ℕ × Option V)) → IsRising m → IsRising cs → rows_left end (limit - 0) (named (from low m) (in_range low None cs)) ≡ rows low end limit (with_run m cs)
+  pub rows-start : (low : List ℕ) (end : Option (List ℕ)) (limit : ℕ) (m : List (List ℕ × V)) (cs : List (List ℕ × Option V)) → IsRising m → IsRising cs → rows_left end (limit - 0) (named_by_either (from low m) (in_range low None cs)) ≡ rows low end limit (with_run m cs)
   rows-start low end limit m cs r s =
       let whole : limit - 0 ≡ limit = omega arith in
-      ap (λ (n : ℕ). rows_left end n (named (from low m) (in_range low None cs))) whole
-      ∙ ap (λ (es : List (List ℕ × V)). rows_left end limit (named es (in_range low None cs))) (from-in_range low m)
+      ap (λ (n : ℕ). rows_left end n (named_by_either (from low m) (in_range low None cs))) whole
+      ∙ ap (λ (es : List (List ℕ × V)). rows_left end limit (named_by_either es (in_range low None cs))) (from-in_range low m)
       ∙ ap (λ (es : List (List ℕ × V)). take limit (filter (λ e. is_before end e.0) es))
-      (present-named (in_range low None m) (in_range low None cs) (rising-in_range low None m r) (rising-in_range low None cs s) ∙ in_range-with_run low None m cs r s)
+      (present-named_by_either (in_range low None m) (in_range low None cs) (rising-in_range low None m r) (rising-in_range low None cs s) ∙ in_range-with_run low None m cs r s)
       ∙ ap (λ (es : List (List ℕ × V)). take limit es) (before-in_range low end (with_run m cs))
 
   -- ---- a step

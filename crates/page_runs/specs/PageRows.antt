@@ -27,8 +27,8 @@ changes_left (Few run at) = drop at run.now
 changes_left (Many range) = range
 
 -- each key that the pairs or the changes name, with its value, or its absence, under the changes
-abbrev pub named : {V : Type 0} → List (List ℕ × V) → List (List ℕ × Option V) → List (List ℕ × Option V)
-named pairs changes = overlaid (as_changes pairs) changes
+abbrev pub named_by_either : {V : Type 0} → List (List ℕ × V) → List (List ℕ × Option V) → List (List ℕ × Option V)
+named_by_either pairs changes = overlaid (as_changes pairs) changes
 
 -- those that have a value
 abbrev pub present_ones : {V : Type 0} → List (List ℕ × Option V) → List (List ℕ × V)
