@@ -18,7 +18,7 @@ use Rattle.delta_chain.proofs.LayerLaws.{value_at-with_run, rising-with_run}
 use Rattle.delta_chain.proofs.Overlays.{said_over, rising-asserted}
 use Rattle.index_page.specs.Page.{as_changes}
 use Rattle.scan.specs.Leaf.{from}
-use Rattle.page_runs.specs.PageRows.{named_by_either, present_ones, rows_left}
+use Rattle.page_runs.specs.PageRows.{named_by_either, present_ones, rows_of_changes}
 use Rattle.page_runs.proofs.PageRows.{rising-as_changes, rising-in_range, rising-named_by_either}
 
 with_true : (b : Bool) → (b && true) ≡ b
@@ -131,11 +131,11 @@ module _ {V : Type 0} where
       ∙ kept-same (λ k. is_within low None k && is_before end k) (is_within low end) es (λ k. ap (λ (b : Bool). b && is_before end k) (with_true (not (is_below k low))))
 
   -- the rows of a page under changes are those that the keys from the low key on give
-  pub rows-start : (low : List ℕ) (end : Option (List ℕ)) (limit : ℕ) (m : List (List ℕ × V)) (cs : List (List ℕ × Option V)) → IsRising m → IsRising cs → rows_left end (limit - 0) (named_by_either (from low m) (in_range low None cs)) ≡ rows low end limit (with_run m cs)
+  pub rows-start : (low : List ℕ) (end : Option (List ℕ)) (limit : ℕ) (m : List (List ℕ × V)) (cs : List (List ℕ × Option V)) → IsRising m → IsRising cs → rows_of_changes end (limit - 0) (named_by_either (from low m) (in_range low None cs)) ≡ rows low end limit (with_run m cs)
   rows-start low end limit m cs r s =
       let whole : limit - 0 ≡ limit = omega arith in
-      ap (λ (n : ℕ). rows_left end n (named_by_either (from low m) (in_range low None cs))) whole
-      ∙ ap (λ (es : List (List ℕ × V)). rows_left end limit (named_by_either es (in_range low None cs))) (from-in_range low m)
+      ap (λ (n : ℕ). rows_of_changes end n (named_by_either (from low m) (in_range low None cs))) whole
+      ∙ ap (λ (es : List (List ℕ × V)). rows_of_changes end limit (named_by_either es (in_range low None cs))) (from-in_range low m)
       ∙ ap (λ (es : List (List ℕ × V)). take limit (filter (λ e. is_before end e.0) es))
       (present-named_by_either (in_range low None m) (in_range low None cs) (rising-in_range low None m r) (rising-in_range low None cs s) ∙ in_range-with_run low None m cs r s)
       ∙ ap (λ (es : List (List ℕ × V)). take limit es) (before-in_range low end (with_run m cs))
@@ -143,15 +143,15 @@ module _ {V : Type 0} where
   -- ---- a step
 
   pub row-added : (end : Option (List ℕ)) (limit : ℕ) (out all : List (List ℕ × V)) (k : List ℕ) (v : V) (rest : List (List ℕ × Option V)) → length out < limit → is_before end k ≡ true
-      → out ++ rows_left end (limit - length out) ((k, Some v) ∷ rest) ≡ all → (out ++ (k, v) ∷ []) ++ rows_left end (limit - length (out ++ (k, v) ∷ [])) rest ≡ all
+      → out ++ rows_of_changes end (limit - length out) ((k, Some v) ∷ rest) ≡ all → (out ++ (k, v) ∷ []) ++ rows_of_changes end (limit - length (out ++ (k, v) ∷ [])) rest ≡ all
   row-added end limit out all k v rest few before h =
       let longer : length (out ++ (k, v) ∷ []) ≡ length out + 1 = length-append out ((k, v) ∷ []) in
       let one_more : limit - length out ≡ suc (limit - length (out ++ (k, v) ∷ [])) = omega arith in
-      let whole : out ++ (k, v) ∷ rows_left end (limit - length (out ++ (k, v) ∷ [])) rest ≡ all = rw (before, one_more) at h in
-      append_assoc out ((k, v) ∷ []) (rows_left end (limit - length (out ++ (k, v) ∷ [])) rest) ∙ whole
+      let whole : out ++ (k, v) ∷ rows_of_changes end (limit - length (out ++ (k, v) ∷ [])) rest ≡ all = rw (before, one_more) at h in
+      append_assoc out ((k, v) ∷ []) (rows_of_changes end (limit - length (out ++ (k, v) ∷ [])) rest) ∙ whole
 
   -- at the limit there are no more rows
-  pub rows-full : (end : Option (List ℕ)) (limit : ℕ) (out all : List (List ℕ × V)) (rest : List (List ℕ × Option V)) → limit ≤ length out → out ++ rows_left end (limit - length out) rest ≡ all → out ≡ all
+  pub rows-full : (end : Option (List ℕ)) (limit : ℕ) (out all : List (List ℕ × V)) (rest : List (List ℕ × Option V)) → limit ≤ length out → out ++ rows_of_changes end (limit - length out) rest ≡ all → out ≡ all
   rows-full end limit out all rest full h =
       let none : limit - length out ≡ 0 = omega arith in
       let whole : out ++ [] ≡ all = rw none at h in
@@ -162,7 +162,7 @@ module _ {V : Type 0} where
   taken_none (suc n) = refl
 
   -- nor behind the last key
-  pub rows-none : (end : Option (List ℕ)) (n : ℕ) (out all : List (List ℕ × V)) (rest : List (List ℕ × Option V)) → rest ≡ [] → out ++ rows_left end n rest ≡ all → out ≡ all
+  pub rows-none : (end : Option (List ℕ)) (n : ℕ) (out all : List (List ℕ × V)) (rest : List (List ℕ × Option V)) → rest ≡ [] → out ++ rows_of_changes end n rest ≡ all → out ≡ all
   rows-none end n out all rest e h =
       let whole : out ++ take n [] ≡ all = rw e at h in
       sym (append-nil out) ∙ ap (λ (es : List (List ℕ × V)). out ++ es) (sym (taken_none n)) ∙ whole
@@ -178,12 +178,12 @@ module _ {V : Type 0} where
 
   -- nor from a key on that isn't below the end
   pub rows-past : (end : Option (List ℕ)) (n : ℕ) (out all : List (List ℕ × V)) (k : List ℕ) (o : Option V) (rest : List (List ℕ × Option V)) → IsRising ((k, o) ∷ rest) → is_before end k ≡ false
-      → out ++ rows_left end n ((k, o) ∷ rest) ≡ all → out ≡ all
+      → out ++ rows_of_changes end n ((k, o) ∷ rest) ≡ all → out ≡ all
   rows-past end n out all k o rest r h t =
       sym (append-nil out) ∙ ap (λ (es : List (List ℕ × V)). out ++ es) (sym (ap (λ (es : List (List ℕ × V)). take n es) (none_behind end k o rest r h) ∙ taken_none n)) ∙ t
 
   -- an absent key gives no row
   pub row-absent : (end : Option (List ℕ)) (n : ℕ) (out all : List (List ℕ × V)) (k : List ℕ) (o : Option (Bor V)) (rest : List (List ℕ × Option V)) → ((x : Bor V) → o ≡ Some x → ⊥)
-      → out ++ rows_left end n ((k, option_copied o) ∷ rest) ≡ all → out ++ rows_left end n rest ≡ all
+      → out ++ rows_of_changes end n ((k, option_copied o) ∷ rest) ≡ all → out ++ rows_of_changes end n rest ≡ all
   row-absent end n out all k None rest a h = h
   row-absent end n out all k (Some x) rest a h = absurd (a x refl)

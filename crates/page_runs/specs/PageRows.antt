@@ -35,5 +35,5 @@ abbrev pub present_ones : {V : Type 0} → List (List ℕ × Option V) → List 
 present_ones changes = flat_map (λ c. present c.0 c.1) changes
 
 -- the rows that they give: those below the end, as many as the limit at most
-abbrev pub rows_left : {V : Type 0} → Option (List ℕ) → ℕ → List (List ℕ × Option V) → List (List ℕ × V)
-rows_left end limit changes = take limit (filter (λ e. is_before end e.0) (present_ones changes))
+abbrev pub rows_of_changes : {V : Type 0} → Option (List ℕ) → ℕ → List (List ℕ × Option V) → List (List ℕ × V)
+rows_of_changes end limit changes = take limit (filter (λ e. is_before end e.0) (present_ones changes))
