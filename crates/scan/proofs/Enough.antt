@@ -21,7 +21,7 @@ use Rattle.keys.proofs.RangeLaws.{none_in_range}
 use Rattle.delta_chain.specs.Layers.{Layers, with_change, with_run, entries_under, entries_of}
 use Rattle.index_page.proofs.RangeLaws.{less_is_below, below_is_less, less_through, not_below_lower}
 use Rattle.page_search.specs.Places.{count_below}
-use Rattle.scan.specs.Ends.{deleted_by, deleted, count_within, LacksAtMost, AreCertain, keyed_below, named_under, named_below}
+use Rattle.scan.specs.Ends.{deleted_by, deleted, count_within, LacksAtMost, AreCertain, keyed_below, named_below_under, named_below}
 
 -- ---- how many are kept of a list, one element at a time
 
@@ -254,7 +254,7 @@ module _ (lo : List ℕ) where
       omega (arith, one, rest, parts)
 
   -- no more entries are below a key than are named below it
-  pub entries_below : (runs : List (List (List ℕ × Option (List ℕ)))) (base : Pairs) → length (Below (entries_under runs base)) ≤ named_under lo runs base
+  pub entries_below : (runs : List (List (List ℕ × Option (List ℕ)))) (base : Pairs) → length (Below (entries_under runs base)) ≤ named_below_under lo runs base
   entries_below [] base = omega arith
   entries_below (run ∷ runs) base =
       let here = run_adds (entries_under runs base) run in
@@ -319,6 +319,6 @@ one_list_more most named place new all key p below run e c s h =
 
 pub last_list : (most named place new all : ℕ) (key : List ℕ) (p : Layers (List ℕ)) → p.runs ≡ [] → place ≡ count_below key (keys_of p.base) → new ≡ min (named + place) most → min (named + named_below key p) most ≡ min all most → new ≡ min all most
 last_list most named place new all key p e c s h =
-    let whole : named_below key p ≡ keyed_below key p.base = ap (λ (runs : List (List (List ℕ × Option (List ℕ)))). named_under key runs p.base) e in
+    let whole : named_below key p ≡ keyed_below key p.base = ap (λ (runs : List (List (List ℕ × Option (List ℕ)))). named_below_under key runs p.base) e in
     let here : keyed_below key p.base ≡ place = below-place key p.base place c in
     omega (arith, whole, here, s, h)

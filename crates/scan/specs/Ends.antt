@@ -35,10 +35,10 @@ abbrev pub keyed_below : {X : Type 0} → List ℕ → List (List ℕ × X) → 
 keyed_below key es = length (filter (λ e. is_below e.0 key) es)
 
 -- how many keys runs and a base name below this one, each list by itself
-abbrev pub named_under : List ℕ → List (List (List ℕ × Option (List ℕ))) → List (List ℕ × List ℕ) → ℕ
-named_under key [] base = keyed_below key base
-named_under key (run ∷ runs) base = named_under key runs base + keyed_below key run
+abbrev pub named_below_under : List ℕ → List (List (List ℕ × Option (List ℕ))) → List (List ℕ × List ℕ) → ℕ
+named_below_under key [] base = keyed_below key base
+named_below_under key (run ∷ runs) base = named_below_under key runs base + keyed_below key run
 
 -- and those of a page
 abbrev pub named_below : List ℕ → Layers (List ℕ) → ℕ
-named_below key p = named_under key p.runs p.base
+named_below key p = named_below_under key p.runs p.base
