@@ -9,7 +9,7 @@ use Rattle.std.proofs.lemmas.Cmp.{tied_itself}
 use Rattle.index_page.specs.Page.{PageOfKind}
 use Rattle.index_page.proofs.ListLaws.{all_apart}
 use Rattle.mapping.specs.Tree.{listed_at}
-use Rattle.mapping.specs.Table.{Mapping, is_same_pid, place_of, page_of, at_home, with_place, outdated, freed}
+use Rattle.mapping.specs.Table.{Mapping, is_same_pid, place_of, page_of, at_home, with_place, log_outdated, freed}
 use Rattle.mapping.specs.Outdate.{outdate_all}
 use Rattle.mapping.specs.TreeInMemory.{TreeInMemory}
 use Rattle.mapping.specs.Proper.{Distinct}
@@ -92,9 +92,9 @@ home_step tree now done x xs all r n h =
 
 -- the tree once the log doesn't know the pid, where that is so
 abbrev pub known_less : TreeInMemory → Bool → ℕ → TreeInMemory
-known_less tree b pid = record tree { table = if b then outdated tree.table pid else tree.table }
+known_less tree b pid = record tree { table = if b then log_outdated tree.table pid else tree.table }
 
-pub known_less_then : (tree out now : TreeInMemory) (b : Bool) (pid : ℕ) → b ≡ true → now ≡ out → out ≡ record tree { table = outdated tree.table pid } → now ≡ known_less tree b pid
+pub known_less_then : (tree out now : TreeInMemory) (b : Bool) (pid : ℕ) → b ≡ true → now ≡ out → out ≡ record tree { table = log_outdated tree.table pid } → now ≡ known_less tree b pid
 known_less_then tree out now true pid e m n = m ∙ n
 known_less_then tree out now false pid e m n = absurd (cc)
 
@@ -108,8 +108,8 @@ home_made tree mid now x seen page s p m n =
     let put : TreeInMemory → SeenPage → PageOfKind → TreeInMemory = λ t y q. record t { table = with_place t.table y.pid (Some q) } in
     n ∙ ap (λ (t : TreeInMemory). put t seen page) m ∙ ap (λ (y : SeenPage). put (known_less tree y.replaced y.pid) y page) s ∙ ap (λ (q : PageOfKind). put (known_less tree x.replaced x.pid) x q) p
 
-by_replaced : (b : Bool) (t : Mapping PageOfKind) (k : ℕ) (p : PageOfKind) → KeepsOthers t (with_place (if b then outdated t k else t) k (Some p)) k
-by_replaced true t k p q d = placed_apart (outdated t k) k (Some p) q d
+by_replaced : (b : Bool) (t : Mapping PageOfKind) (k : ℕ) (p : PageOfKind) → KeepsOthers t (with_place (if b then log_outdated t k else t) k (Some p)) k
+by_replaced true t k p q d = placed_apart (log_outdated t k) k (Some p) q d
 by_replaced false t k p q d = placed_apart t k (Some p) q d
 
 pub home_apart : (t : Mapping PageOfKind) (x : SeenPage) → KeepsOthers t (come_home t x) x.pid
@@ -209,7 +209,7 @@ distinct_last [] ns d = d
 distinct_last (m ∷ ms) ns d = distinct_last ms ns d.1
 
 abbrev pub replaced_by : Mapping PageOfKind → ℕ → PageOfKind → Mapping PageOfKind
-replaced_by t k p = with_place (outdated t k) k (Some p)
+replaced_by t k p = with_place (log_outdated t k) k (Some p)
 
 module _ (tree : TreeInMemory) (r : Remade) (k : ℕ) (ks : List ℕ) (p : PageOfKind) (can : CanInstall tree.table r) (ms : r.members ≡ k ∷ ks) (replaced : TreeInMemory) (is : replaced ≡ record tree { table = replaced_by tree.table k p }) where
   abbrev distinct : Distinct (k ∷ ks ++ r.fresh)
@@ -219,13 +219,13 @@ module _ (tree : TreeInMemory) (r : Remade) (k : ℕ) (ks : List ℕ) (p : PageO
   members_home xs e =
       let home : AllByRecursion (λ pid. IsSome (page_of tree.table pid)) (k ∷ ks) = subst (λ (ns : List ℕ). AllByRecursion (λ pid. IsSome (page_of tree.table pid)) ns) ms can.members in
       let t : Mapping PageOfKind = replaced_by tree.table k p in
-      let rest : AreAllAtHome t ks = (all_kept (λ o. IsSome (at_home o)) tree.table t k (placed_apart (outdated tree.table k) k (Some p)) ks (all_apart (λ m. m ≢ k) ks r.fresh distinct.0).0 home.1, distinct_first ks r.fresh distinct.1) in
+      let rest : AreAllAtHome t ks = (all_kept (λ o. IsSome (at_home o)) tree.table t k (placed_apart (log_outdated tree.table k) k (Some p)) ks (all_apart (λ m. m ≢ k) ks r.fresh distinct.0).0 home.1, distinct_first ks r.fresh distinct.1) in
       subst (λ (x : TreeInMemory). AreAllAtHome x.table xs) (sym is) (subst (λ (ns : List ℕ). AreAllAtHome t ns) (sym e) rest)
 
   pub fresh_away : (less : TreeInMemory) (xs fresh : List ℕ) → xs ≡ ks → fresh ≡ r.fresh → less ≡ tree_freed replaced xs → AreAway less.table fresh
   fresh_away less xs fresh e f l =
       let t : Mapping PageOfKind = replaced_by tree.table k p in
-      let here : AllByRecursion (λ pid. place_of t pid ≡ Some None) r.fresh = all_kept (λ o. o ≡ Some None) tree.table t k (placed_apart (outdated tree.table k) k (Some p)) r.fresh (all_apart (λ m. m ≢ k) ks r.fresh distinct.0).1 can.fresh in
+      let here : AllByRecursion (λ pid. place_of t pid ≡ Some None) r.fresh = all_kept (λ o. o ≡ Some None) tree.table t k (placed_apart (log_outdated tree.table k) k (Some p)) r.fresh (all_apart (λ m. m ≢ k) ks r.fresh distinct.0).1 can.fresh in
       let rest : AreAway (members_freed t ks) r.fresh = (members_kept (λ o. o ≡ Some None) t ks r.fresh distinct.1 here, distinct_last ks r.fresh distinct.1) in
       let same : less ≡ record tree { table = members_freed t ks } = l ∙ ap (λ (x : TreeInMemory). tree_freed x xs) is ∙ ap (λ (x : List ℕ). tree_freed (record tree { table = t }) x) e in
       subst (λ (x : TreeInMemory). AreAway x.table fresh) (sym same) (subst (λ (x : List ℕ). AreAway (members_freed t ks) x) (sym f) rest)
@@ -250,17 +250,17 @@ put_again : {V : Type 0} → (es : List (ℕ × V)) (k : ℕ) (v w : V) → inse
 put_again [] k v w = rw (tied_itself total k) refl
 put_again (e ∷ es) k v w = put_again_by (nat_cmp k e.0) k v w e es (insert_entry nat_cmp es k v) (insert_entry nat_cmp es k w) refl (put_again es k v w)
 
-pub replaced_tree : (tree taken known now : TreeInMemory) (k : ℕ) (p : PageOfKind) → taken ≡ record tree { table = with_place tree.table k None } → known ≡ record taken { table = outdated taken.table k }
-    → now ≡ record known { table = with_place known.table k (Some p) } → now ≡ record tree { table = with_place (outdated tree.table k) k (Some p) }
+pub replaced_tree : (tree taken known now : TreeInMemory) (k : ℕ) (p : PageOfKind) → taken ≡ record tree { table = with_place tree.table k None } → known ≡ record taken { table = log_outdated taken.table k }
+    → now ≡ record known { table = with_place known.table k (Some p) } → now ≡ record tree { table = with_place (log_outdated tree.table k) k (Some p) }
 replaced_tree tree taken known now k p a b n =
     let put : TreeInMemory → TreeInMemory = λ t. record t { table = with_place t.table k (Some p) } in
-    let less : TreeInMemory → TreeInMemory = λ t. record t { table = outdated t.table k } in
+    let less : TreeInMemory → TreeInMemory = λ t. record t { table = log_outdated t.table k } in
     n ∙ ap put (b ∙ ap less a)
     ∙ ap (λ (es : List (ℕ × Option PageOfKind)). record tree { table = record { places = es; logged = outdate_all (k ∷ []) tree.table.logged } }) (put_again tree.table.places k None (Some p))
 
-pub taken_away : (tree taken known : TreeInMemory) (k : ℕ) → taken ≡ record tree { table = with_place tree.table k None } → known ≡ record taken { table = outdated taken.table k } → place_of known.table k ≡ Some None
+pub taken_away : (tree taken known : TreeInMemory) (k : ℕ) → taken ≡ record tree { table = with_place tree.table k None } → known ≡ record taken { table = log_outdated taken.table k } → place_of known.table k ≡ Some None
 taken_away tree taken known k a b =
-    let less : TreeInMemory → TreeInMemory = λ t. record t { table = outdated t.table k } in
+    let less : TreeInMemory → TreeInMemory = λ t. record t { table = log_outdated t.table k } in
     ap (λ (t : TreeInMemory). place_of t.table k) (b ∙ ap less a) ∙ place_here tree.table k None
 
 pub taken_here : (tree taken : TreeInMemory) (k : ℕ) → taken ≡ record tree { table = with_place tree.table k None } → place_of taken.table k ≡ Some None

@@ -5,7 +5,7 @@ ghost use Rattle.std.specs.List.{AllByRecursion};
 ghost use Rattle.std.specs.Vec.Iter.{into_iter_items};
 ghost use Rattle.mapping.specs.Proper.{Distinct, AreRisingPids};
 ghost use Rattle.page_runs.specs.TermWork.{index_made, term_held_of};
-ghost use Rattle.mapping.specs.Table.{page_of, place_of, with_place, outdated, pids_in_use};
+ghost use Rattle.mapping.specs.Table.{page_of, place_of, with_place, log_outdated, pids_in_use};
 ghost use Rattle.climb_plan.specs.Installing.{all_taken, all_put, AreAway, AreParentsHome, parent_held, come_home, all_come_home, members_freed, put_under, group_installed, all_installed, CanInstall, CanInstallAll};
 
 use crate::change::Rewritten;
@@ -159,7 +159,7 @@ fn install(tree: &mut Tree<Global>, group: Rewritten)
 // Puts the page into the place of another, which the log doesn't know then.
 fn replace(tree: &mut Tree<Global>, pid: u64, page: Page<Global>)
     requires { IsSome (page_of tree.old.table pid) }
-    ensures { tree.new ≡ record tree.old { table = with_place (outdated tree.old.table pid) pid (Some page) } }
+    ensures { tree.new ≡ record tree.old { table = with_place (log_outdated tree.old.table pid) pid (Some page) } }
 {
     let place = Pid(pid);
     let _before = tree.take(place);

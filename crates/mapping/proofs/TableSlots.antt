@@ -10,7 +10,7 @@ use Rattle.mapping.specs.Tree.Logged.{No, Old, Upto}
 use Rattle.mapping.specs.Outdate.{outdate}
 use Rattle.mapping.specs.LogState.{log_state}
 use Rattle.mapping.specs.Proper.{AreRisingPids}
-use Rattle.mapping.specs.Table.{Mapping, at_home, place_of, log_of, with_place, outdated, freed}
+use Rattle.mapping.specs.Table.{Mapping, at_home, place_of, log_of, with_place, log_outdated, freed}
 use Rattle.mapping.specs.Slots.{slot_pids, listed_place, listed_state, table_of, StandsAt, GoesTo, AreInUseBelow, AreSlots}
 use Rattle.mapping.specs.declared.slots.Place.{Place}
 use Rattle.mapping.specs.declared.slots.Place.TheVariants.{Vacant, Away, Home}
@@ -108,8 +108,8 @@ module _ {P : Type 0} where
         same_mapping _ _ _ _ (remove-slot pid_of place_in ss i k s r h t e f)
         (outdate-slot pid_of log_in ss i k s r h t e (ap listed_state g ∙ listed_state-outdate (log_state s.logged)))
 
-    pub outdated-slot : (t : Slot P) → t.pid ≡ k → t.page ≡ s.page → log_state t.logged ≡ outdate (log_state s.logged) → table_of (set ss i t) ≡ outdated (table_of ss) k
-    outdated-slot t e f g =
+    pub log_outdated-slot : (t : Slot P) → t.pid ≡ k → t.page ≡ s.page → log_state t.logged ≡ outdate (log_state s.logged) → table_of (set ss i t) ≡ log_outdated (table_of ss) k
+    log_outdated-slot t e f g =
         same_mapping _ _ _ _ (same-slot pid_of place_in ss i k s r h t e (ap listed_place f))
         (outdate-slot pid_of log_in ss i k s r h t e (ap listed_state g ∙ listed_state-outdate (log_state s.logged)))
 
@@ -130,8 +130,8 @@ module _ {P : Type 0} where
     pub log-gap : log_of (table_of ss) k ≡ No
     log-gap = ap or_no (lookup-gap pid_of log_in ss i k h)
 
-    pub outdated-gap : outdated (table_of ss) k ≡ table_of ss
-    outdated-gap = same_mapping _ _ _ _ refl (outdate-gap pid_of log_in ss i k h)
+    pub log_outdated-gap : log_outdated (table_of ss) k ≡ table_of ss
+    log_outdated-gap = same_mapping _ _ _ _ refl (outdate-gap pid_of log_in ss i k h)
 
     pub with_place-gap : (t : Slot P) (p : Option P) → t.pid ≡ k → listed_place t.page ≡ Some p → log_state t.logged ≡ No → table_of (insert ss i t) ≡ with_place (table_of ss) k p
     with_place-gap t p e f g =
@@ -161,8 +161,8 @@ module _ {P : Type 0} (ss : List (Slot P)) (n : ℕ) (a : AreSlots ss n) (i k : 
 
   -- what the log has is outdated
   pub slot_outdated : (t : Slot P) → t.pid ≡ s.pid → t.page ≡ s.page → log_state t.logged ≡ outdate (log_state s.logged)
-      → AreSlots (set ss i t) n × (table_of (set ss i t) ≡ outdated (table_of ss) k)
+      → AreSlots (set ss i t) n × (table_of (set ss i t) ≡ log_outdated (table_of ss) k)
   slot_outdated t e f g =
       let pid_is : t.pid ≡ k = e ∙ here.pid_is in
-      let eq = outdated-slot ss i k s a.rising here t pid_is f g in
-      (slots-set ss i k s a.rising here n t pid_is (outdated (table_of ss) k) eq a.in_use, eq)
+      let eq = log_outdated-slot ss i k s a.rising here t pid_is f g in
+      (slots-set ss i k s a.rising here n t pid_is (log_outdated (table_of ss) k) eq a.in_use, eq)

@@ -48,8 +48,8 @@ abbrev pub with_place : {P : Type 0} → Mapping P → ℕ → Option P → Mapp
 with_place t pid p = record { places = insert_entry nat_cmp t.places pid p; logged = t.logged }
 
 -- the table once what the log has of the pid is outdated
-abbrev pub outdated : {P : Type 0} → Mapping P → ℕ → Mapping P
-outdated t pid = record { places = t.places; logged = outdate_all (pid ∷ []) t.logged }
+abbrev pub log_outdated : {P : Type 0} → Mapping P → ℕ → Mapping P
+log_outdated t pid = record { places = t.places; logged = outdate_all (pid ∷ []) t.logged }
 
 -- the table without the pid's place: what the log has of it is outdated
 abbrev pub freed : {P : Type 0} → Mapping P → ℕ → Mapping P

@@ -4,7 +4,7 @@ ghost use Rattle.std.specs.List.{AllByRecursion};
 ghost use Rattle.std.specs.Map.{keys_of};
 ghost use Rattle.mapping.specs.LogState.{log_state};
 ghost use Rattle.mapping.specs.Proper.{AreRisingPids};
-ghost use Rattle.mapping.specs.Table.{no_places, place_of, page_of, log_of, with_place, outdated, freed, with_room, with_rooms, pids_in_use, fresh_pids, pids_in_use_or_old};
+ghost use Rattle.mapping.specs.Table.{no_places, place_of, page_of, log_of, with_place, log_outdated, freed, with_room, with_rooms, pids_in_use, fresh_pids, pids_in_use_or_old};
 ghost use Rattle.mapping.specs.Flushed.{marked_as_written};
 ghost use Rattle.mapping.specs.TreeInMemory.{home_pages};
 
@@ -151,7 +151,7 @@ impl<P: Drop, A: Allocator + Copy> Table<P, A> {
 
     /// Says that the pid's page isn't the one that the log knows.
     pub fn outdate(&mut self, pid: u64)
-        ensures { self.new ≡ outdated self.old pid }
+        ensures { self.new ≡ log_outdated self.old pid }
     {
         if let Ok(at) = slot_of(&self.slots, pid) {
             let slot = &mut self.slots[at];
