@@ -5,7 +5,7 @@ use Rattle.scan.specs.declared.leaf.Kept.{Kept}
 use Rattle.scan.specs.declared.leaf.Kept.TheVariants.{Plain, Merging, Searching}
 
 -- what is left of a leaf that is walked in any of them
-abbrev pub pairs_of : Kept → List (List ℕ × List ℕ)
-pairs_of (Plain left) = left
-pairs_of (Merging m) = merged m
-pairs_of (Searching left) = left
+abbrev pub pairs_kept : Kept → List (List ℕ × List ℕ)
+pairs_kept (Plain left) = left
+pairs_kept (Merging m) = merged m
+pairs_kept (Searching left) = left

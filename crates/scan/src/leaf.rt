@@ -2,7 +2,7 @@ ghost use Rattle.std.specs.Prelude.{◌≡◌, []};
 ghost use Rattle.std.specs.Iterator.{YieldsFirstBy, item_count};
 ghost use Rattle.delta_chain.specs.Layers.{entries_of};
 ghost use Rattle.scan.specs.Leaf.{from};
-ghost use Rattle.scan.specs.Kept.{pairs_of};
+ghost use Rattle.scan.specs.Kept.{pairs_kept};
 
 use crate::base_pairs::BasePairs;
 use crate::merge::{Merge, next_pair};
@@ -30,11 +30,11 @@ enum Kept<'a> {
 
 impl<'a> Model for LeafPairs<'a> {
     ghost use Rattle.std.specs.Prelude.{List, ℕ};
-    ghost use Rattle.scan.specs.Kept.{pairs_of};
+    ghost use Rattle.scan.specs.Kept.{pairs_kept};
 
     ghost Value = { List (List ℕ × List ℕ) };
 
-    ghost view = { λ l. pairs_of l.kept };
+    ghost view = { λ l. pairs_kept l.kept };
 }
 
 impl<'a> LeafPairs<'a> {
@@ -68,7 +68,7 @@ impl<'a> LeafPairs<'a> {
 // A leaf with runs. The places of a merge are large, so this is kept apart from the walk along a base.
 #[inline(never)]
 fn among_runs<'a>(alloc: Global, chain: &'a Chain<Value<Global>, Global>, key: &[u8]) -> Kept<'a>
-    ensures { pairs_of result ≡ from key.now (entries_of chain.now) }
+    ensures { pairs_kept result ≡ from key.now (entries_of chain.now) }
 {
     if chain.depth() <= 16 {
         Kept::Merging(Merge::new(alloc, chain, key))
