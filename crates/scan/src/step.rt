@@ -15,11 +15,11 @@ pub(crate) struct Step<'a> {
 
 impl<'a> Model for Step<'a> {
     ghost use Rattle.std.specs.Prelude.{List, ℕ};
-    ghost use Rattle.scan.specs.Path.{pids_of};
+    ghost use Rattle.scan.specs.Path.{pids_left};
 
     ghost Value = { List ℕ };
 
-    ghost view = { λ s. pids_of s.children };
+    ghost view = { λ s. pids_left s.children };
 }
 
 impl<'a> Step<'a> {
