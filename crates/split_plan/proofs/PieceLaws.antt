@@ -11,7 +11,7 @@ use Rattle.mapping.specs.Table.{fresh_pids}
 use Rattle.page_runs.specs.Worked.{Worked}
 use Rattle.split_plan.specs.Change.{fresh_pages, replacements}
 use Rattle.split_plan.specs.Cut.{cut}
-use Rattle.split_plan.specs.Pieces.{pages_from, joined_pages, pieces_of}
+use Rattle.split_plan.specs.Pieces.{pages_from, joined_pages, pages_made}
 use Rattle.split_plan.specs.WorkedLevel.{placed_of}
 
 module _ {V : Type 0} where
@@ -32,7 +32,7 @@ module _ {V : Type 0} where
 
   -- the pages in the place of a rewritten group are what is made of its members
   pub pages-replacements : (s : Settings) (used : List ℕ) (i : ℕ) (w : Worked V) (ws : List (Worked V)) →
-      map (λ p. p.page) (replacements used i w.placed (cut s.fan (joined (placed_of (w ∷ ws))))) ≡ pieces_of s (map (λ p. p.page) (placed_of (w ∷ ws)))
+      map (λ p. p.page) (replacements used i w.placed (cut s.fan (joined (placed_of (w ∷ ws))))) ≡ pages_made s (map (λ p. p.page) (placed_of (w ∷ ws)))
   pages-replacements s used i w ws =
       pages-of_pieces used i w.placed (cut s.fan (joined (placed_of (w ∷ ws))))
       ∙ ap (λ (es : List (List ℕ × V)). pages_from w.placed.page.low (cut s.fan es)) (sym (joined-pages (placed_of (w ∷ ws))))
