@@ -12,7 +12,7 @@ use Rattle.index_page.proofs.ListLaws.{all_weaker}
 use Rattle.flush_log.specs.Commit.{AreWithin, IsBesideSpans}
 use Rattle.flush_log.specs.Overlay.{IsBeside, AgreeAt}
 use Rattle.flush_log.specs.Reading.{log}
-use Rattle.flush_log.specs.Segments.{place_of, HasSegments, IsInLog, position, last_segment, bytes_in_use}
+use Rattle.flush_log.specs.Segments.{place_of_segment, HasSegments, IsInLog, position, last_segment, bytes_in_use}
 use Rattle.flush_log.specs.Layout.{PlacedFrame, Span, placed_from, behind_header, tail_after, end_of, longer, begun, opened, spans_from, spans, place_of_span}
 use Rattle.flush_log.proofs.FitLaws.{are_sized}
 use Rattle.flush_log.proofs.LayoutLaws.{end_point, by_places, AllFit, split-tail, Start, starts, opened-segment, opened-end, opened-inside, behind_header-within, text-last, goes_on_span, next_span, filled-end}
@@ -49,9 +49,9 @@ module _ (s : Settings) where
       log-same s file other head k used
       (λ m less. let room = place-within s (head + m) count in
       let below = next_above (head + m) (last_segment s tail) (omega (arith, less, from)) in
-      part_same (IsInLog s head tail) file other (place_of s (head + m)) s.seg_size (omega (arith, room, whole)) (λ i a b. record {
+      part_same (IsInLog s head tail) file other (place_of_segment s (head + m)) s.seg_size (omega (arith, room, whole)) (λ i a b. record {
         segment = head + m;
-        offset = i - place_of s (head + m);
+        offset = i - place_of_segment s (head + m);
         from_head = omega arith;
         in_segment = omega (arith, a, b);
         before_tail = omega (arith, a, b, below, is, low);
@@ -59,16 +59,16 @@ module _ (s : Settings) where
       }) same)
       (let room = place-within s (head + k) count in
       let same_start : (head + (last_segment s tail - head)) * s.seg_size ≡ last_segment s tail * s.seg_size = ap (λ (m : ℕ). m * s.seg_size) (sym at) in
-      take-take used s.seg_size (drop (place_of s (head + k)) other) high
-      ∙ part_same (IsInLog s head tail) file other (place_of s (head + k)) used (omega (arith, room, whole, high)) (λ i a b. record {
+      take-take used s.seg_size (drop (place_of_segment s (head + k)) other) high
+      ∙ part_same (IsInLog s head tail) file other (place_of_segment s (head + k)) used (omega (arith, room, whole, high)) (λ i a b. record {
         segment = head + k;
-        offset = i - place_of s (head + k);
+        offset = i - place_of_segment s (head + k);
         from_head = omega arith;
         in_segment = omega (arith, a, b, high);
         before_tail = omega (arith, a, b, is, same_start);
         stands = omega (arith, a);
       }) same
-      ∙ sym (take-take used s.seg_size (drop (place_of s (head + k)) file) high))
+      ∙ sym (take-take used s.seg_size (drop (place_of_segment s (head + k)) file) high))
 
 -- ---- where a text is written
 
@@ -101,7 +101,7 @@ module _ (s : Settings) where
               | inr most ↦
                   (let same : r.segment ≡ q = omega (arith, above, most, later) in
                   let here : in_log.segment ≡ r.segment = omega (arith, above, most, later) in
-                  let start : place_of s in_log.segment ≡ place_of s r.segment = ap (λ (n : ℕ). place_of s n) here in
+                  let start : place_of_segment s in_log.segment ≡ place_of_segment s r.segment = ap (λ (n : ℕ). place_of_segment s n) here in
                   let first : in_log.segment * s.seg_size ≡ q * s.seg_size = ap (λ (n : ℕ). n * s.seg_size) (here ∙ same) in
                   let beyond = h.beyond same in
                   inl (omega (arith, stands, start, first, before, is, beyond)))

@@ -7,7 +7,7 @@ use Rattle.keys.specs.declared.fault.Fault.TheVariants.{NotAStore}
 use Rattle.flush_log.specs.Overlay.{IsBeside, AgreeAt}
 use Rattle.frame_codec.specs.Frame.{Frame}
 use Rattle.index_page.proofs.ListLaws.{all_weaker}
-use Rattle.flush_log.specs.Segments.{place_of, HasSegments, IsInLog, segment_bytes, last_segment, bytes_in_use}
+use Rattle.flush_log.specs.Segments.{place_of_segment, HasSegments, IsInLog, segment_bytes, last_segment, bytes_in_use}
 use Rattle.flush_log.specs.Reading.{Found, log}
 use Rattle.flush_log.specs.Layout.{Span, tail_after, found_in_text, spans, place_of_span, with_spans}
 use Rattle.flush_log.specs.SettingsBlock.{read_settings, where_it_has_room, store_settings}
@@ -123,7 +123,7 @@ log-behind s file other some whole same head tail =
     bytes : (n : ℕ) → segment_bytes s other n ≡ segment_bytes s file n
     bytes n =
         let room = place-within s n some in
-        part_same (λ i. 512 ≤ i) file other (place_of s n) s.seg_size (omega arith) (λ i low high. omega arith) same
+        part_same (λ i. 512 ≤ i) file other (place_of_segment s n) s.seg_size (omega arith) (λ i low high. omega arith) same
 
 pub after-log : (s : Settings) (file : List ℕ) (spans : List Span) (u : Slot) → HasSegments s file → AreWithin s (length file) spans → 0 < s.segments → (head tail : ℕ)
     → log s (committed s file spans u) head tail ≡ log s (with_spans s file spans) head tail

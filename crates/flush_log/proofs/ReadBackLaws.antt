@@ -9,7 +9,7 @@ use Rattle.keys.specs.declared.fault.Fault.{Fault}
 use Rattle.frame_codec.specs.Frame.{Frame, bytes_of, is_frame}
 use Rattle.flush_log.specs.Overlay.{overlay}
 use Rattle.flush_log.specs.Reading.{Found, all_in, is_at_tail, is_padding, read_segment, followed_by, read_earlier, read_log, log}
-use Rattle.flush_log.specs.Segments.{place_of, HasSegments, segment_bytes, last_segment, bytes_in_use}
+use Rattle.flush_log.specs.Segments.{place_of_segment, HasSegments, segment_bytes, last_segment, bytes_in_use}
 use Rattle.flush_log.specs.Layout.{PlacedFrame, Span, placed_from, placed, behind_header, tail_after, found_in_text, end_of, longer, filled, begun, opened, spans_from, spans, place_of_span, with_spans}
 use Rattle.flush_log.proofs.FitLaws.{are_sized, frame_fits}
 use Rattle.flush_log.proofs.SegmentLaws.{Holds, header-holds, frame-holds, holds-read, read-holds, tail-ends, padding-ends, zeros-pad}
@@ -33,7 +33,7 @@ module _ (s : Settings) where
       ∙ ap (λ (bs : List ℕ). followed_by (read_earlier s file head k) (read_segment s is_at_tail (head + k) bs)) last
 
   pub segment-short : (file : List ℕ) (n : ℕ) → length (segment_bytes s file n) ≤ s.seg_size
-  segment-short file n = let e = length-take s.seg_size (drop (place_of s n) file) in grind (arith, e)
+  segment-short file n = let e = length-take s.seg_size (drop (place_of_segment s n) file) in grind (arith, e)
 
 abbrev pub ok : List Found → Result (List Found) Fault
 ok found = Ok found

@@ -4,7 +4,7 @@ use Rattle.keys.specs.declared.settings.Settings.{Settings}
 use Rattle.frame_codec.specs.Frame.{Frame, bytes_of}
 use Rattle.flush_log.specs.Overlay.{overlay}
 use Rattle.flush_log.specs.Reading.{Found}
-use Rattle.flush_log.specs.Segments.{segment_header, place_of, position, last_segment}
+use Rattle.flush_log.specs.Segments.{segment_header, place_of_segment, position, last_segment}
 
 -- ---- places
 
@@ -100,7 +100,7 @@ spans s tail (f ∷ fs) = spans_from s (opened (tail / s.seg_size) (tail % s.seg
 
 -- where a span stands in a file
 abbrev pub place_of_span : Settings → Span → ℕ
-place_of_span s r = place_of s r.segment + r.offset
+place_of_span s r = place_of_segment s r.segment + r.offset
 
 -- the bytes of a file with these spans written
 abbrev pub with_spans : Settings → List ℕ → List Span → List ℕ

@@ -9,8 +9,8 @@ abbrev pub segment_header : ℕ → List ℕ
 segment_header n = codes "BWSG" ++ ((number 4).spell 0 ++ (number 8).spell n)
 
 -- where segment n stands in a file: behind the 512 bytes of settings and slots
-abbrev pub place_of : Settings → ℕ → ℕ
-place_of s n = 512 + n % s.segments * s.seg_size
+abbrev pub place_of_segment : Settings → ℕ → ℕ
+place_of_segment s n = 512 + n % s.segments * s.seg_size
 
 -- the file has room for all segments
 abbrev pub HasSegments : Settings → List ℕ → Type 0
@@ -18,7 +18,7 @@ HasSegments s file = 512 + s.segments * s.seg_size ≤ length file
 
 -- the bytes of segment n
 abbrev pub segment_bytes : Settings → List ℕ → ℕ → List ℕ
-segment_bytes s file n = take s.seg_size (drop (place_of s n) file)
+segment_bytes s file n = take s.seg_size (drop (place_of_segment s n) file)
 
 -- the position of an offset in segment n
 abbrev pub position : Settings → ℕ → ℕ → ℕ
@@ -31,7 +31,7 @@ pub record IsInLog (s : Settings) (head tail : ℕ) (place : ℕ) : Type 0 where
   pub from_head : head ≤ segment
   pub in_segment : offset < s.seg_size
   pub before_tail : position s segment offset < tail
-  pub stands : place ≡ place_of s segment + offset
+  pub stands : place ≡ place_of_segment s segment + offset
 
 -- the last segment in use
 abbrev pub last_segment : Settings → ℕ → ℕ

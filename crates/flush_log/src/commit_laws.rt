@@ -4,7 +4,7 @@ ghost use Rattle.std.specs.List.{AllByRecursion};
 ghost use Rattle.keys.specs.Limits.{first_bad_field};
 ghost use Rattle.keys.specs.declared.settings.Settings.{Settings};
 ghost use Rattle.frame_codec.specs.Frame.{Frame, is_frame};
-ghost use Rattle.flush_log.specs.Segments.{place_of, HasSegments, position, last_segment};
+ghost use Rattle.flush_log.specs.Segments.{place_of_segment, HasSegments, position, last_segment};
 ghost use Rattle.flush_log.specs.Reading.{Found, log};
 ghost use Rattle.flush_log.specs.Layout.{Span, tail_after, found_in_text, spans, with_spans};
 ghost use Rattle.flush_log.specs.SettingsBlock.{store_settings};
@@ -91,6 +91,6 @@ pub fn a_log_has_room_for_its_positions()
     ensures tail { (s : Settings) (tail : ℕ) (text : List Frame) → first_bad_field s ≡ None → tail ≤ greatest →
         AllByRecursion (λ f. is_frame s f ≡ true) text → length text ≤ 2 ^ 41 → tail_after s tail text < 2 ^ 63 }
     ensures sequence { (n : ℕ) → n ≤ greatest → suc n < 2 ^ 63 }
-    ensures place { (s : Settings) (n offset : ℕ) → first_bad_field s ≡ None → offset ≤ s.seg_size → place_of s n + offset < 2 ^ 37 }
+    ensures place { (s : Settings) (n offset : ℕ) → first_bad_field s ≡ None → offset ≤ s.seg_size → place_of_segment s n + offset < 2 ^ 37 }
     ensures size { (s : Settings) → first_bad_field s ≡ None → 512 + s.segments * s.seg_size < 2 ^ 37 }
 {}
