@@ -4,7 +4,7 @@ use Rattle.std.specs.Borrow.{Bor}
 use Rattle.std.specs.List.{filter}
 use Rattle.std.specs.Option.{option_copied}
 use Rattle.keys.specs.Range.{is_before}
-use Rattle.delta_chain.specs.Merging.{present, overlaid}
+use Rattle.delta_chain.specs.Merging.{pair_if, overlaid}
 use Rattle.index_page.specs.Page.{as_changes}
 use Rattle.page_runs.specs.declared.changes_from.KeptFrom.{KeptFrom}
 use Rattle.page_runs.specs.declared.changes_from.KeptFrom.TheVariants.{Few, Many}
@@ -32,7 +32,7 @@ named_by_either pairs changes = overlaid (as_changes pairs) changes
 
 -- those that have a value
 abbrev pub present_ones : {V : Type 0} → List (List ℕ × Option V) → List (List ℕ × V)
-present_ones changes = flat_map (λ c. present c.0 c.1) changes
+present_ones changes = flat_map (λ c. pair_if c.0 c.1) changes
 
 -- the rows that they give: those below the end, as many as the limit at most
 abbrev pub rows_of_changes : {V : Type 0} → Option (List ℕ) → ℕ → List (List ℕ × Option V) → List (List ℕ × V)

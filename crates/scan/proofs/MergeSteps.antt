@@ -10,7 +10,7 @@ use Rattle.std.specs.Option.{option_map}
 use Rattle.keys.specs.Order.{order, IsRising}
 use Rattle.keys.proofs.MapLaws.{order_itself}
 use Rattle.delta_chain.specs.Layers.{Layers, with_run, entries_of, IsInOrder}
-use Rattle.delta_chain.specs.Merging.{present, first_order, said_by}
+use Rattle.delta_chain.specs.Merging.{pair_if, first_order, said_by}
 use Rattle.delta_chain.proofs.Merges.{rising_behind, first_stays}
 use Rattle.delta_chain.proofs.Places.{front_under}
 use Rattle.page_search.specs.Places.{count_below}
@@ -190,12 +190,12 @@ module _ {V : Type 0} where
 
   -- a change taken
   pub change_taken : (k : List ℕ) (o : Option V) (es later : List (List ℕ × V)) (cs changes : Changes V) (runs : List (Changes V)) → IsRising es → IsRising cs → cs ≡ (k, o) ∷ said_by runs → said_by runs ≡ changes → StartsFrom k es → later ≡ behind k es
-      → (with_run es cs ≡ present k o ++ with_run later changes) × (length changes < length cs)
+      → (with_run es cs ≡ pair_if k o ++ with_run later changes) × (length changes < length cs)
   change_taken k o es later cs changes runs r s h g n b =
       let s' : IsRising ((k, o) ∷ said_by runs) = subst (λ (x : Changes V). IsRising x) h s in
       let count : length cs ≡ suc (length changes) = ap length h ∙ ap (λ (x : Changes V). suc (length x)) g in (
         ap (λ (x : Changes V). with_run es x) h ∙ change_next es (k, o) (said_by runs) r s' n
-            ∙ ap (λ (x : Changes V). present k o ++ with_run (behind k es) x) g ∙ ap (λ (x : List (List ℕ × V)). present k o ++ with_run x changes) (sym b),
+            ∙ ap (λ (x : Changes V). pair_if k o ++ with_run (behind k es) x) g ∙ ap (λ (x : List (List ℕ × V)). pair_if k o ++ with_run x changes) (sym b),
         omega arith,
       )
 
