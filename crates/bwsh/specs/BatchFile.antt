@@ -18,8 +18,8 @@ abbrev pub lines : List ℕ → List (List ℕ)
 lines text = map without_terminator (lines_of text)
 
 -- what the lines of a text say
-abbrev pub said_by : List ℕ → List Says
-said_by text = map line_says (lines text)
+abbrev pub text_says : List ℕ → List Says
+text_says text = map line_says (lines text)
 
 -- the number of the first bad line, and what is wrong with it, where the first of these lines has the number n
 abbrev pub first_bad : ℕ → List Says → Option (ℕ × Why)

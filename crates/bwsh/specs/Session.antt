@@ -23,7 +23,7 @@ use Rattle.bwsh.specs.declared.batch_file.TextFault.TheVariants as faults
 use Rattle.bwsh.specs.declared.session.Ending.{Ending}
 use Rattle.bwsh.specs.declared.session.Ending.TheVariants.{Words, Bad, Device}
 use Rattle.bwsh.specs.declared.session.Ending.TheVariants as endings
-use Rattle.bwsh.specs.BatchFile.{said_by, first_bad, orders_of}
+use Rattle.bwsh.specs.BatchFile.{text_says, first_bad, orders_of}
 use Rattle.bwsh.specs.Line.{why_text}
 use Rattle.bwsh.specs.Options.{AsksForSettings, AsksForHelp, AreRefused}
 use Rattle.bwsh.specs.Shown.{shown_reply, shown_report}
@@ -89,7 +89,7 @@ printed settings tree m orders = flat (answer_lines settings tree m orders)
 
 -- all that the orders of a text print on a new store of these settings, were each accepted
 abbrev pub printed_by : Settings → List ℕ → List ℕ
-printed_by settings text = printed settings first_tree [] (orders_of [] (said_by text))
+printed_by settings text = printed settings first_tree [] (orders_of [] (text_says text))
 
 -- why a store of these settings and this tree refuses the order by its right, if it does
 unfoldable pub refusal_of : Settings → Tree → Order → Option Fault
@@ -122,7 +122,7 @@ hindered_by None field = option_map (λ f. endings.Fault (BadSettings f)) field
 
 -- why no order of this text is run under these settings, if none is: a bad line, and else settings that are refused
 abbrev pub hindrance : Settings → List ℕ → Option Ending
-hindrance settings text = hindered_by (first_bad 1 (said_by text)) (first_bad_field settings)
+hindrance settings text = hindered_by (first_bad 1 (text_says text)) (first_bad_field settings)
 
 -- how a session ends by its right where this hinders it, if anything does, and else these orders are run
 abbrev pub end_after : Settings → Option Ending → List Order → Result (Unit {0}) Ending
@@ -136,11 +136,11 @@ lines_after settings None orders = answer_lines settings first_tree [] (accepted
 
 -- how a session on this text ends by its right
 abbrev pub session_end : Settings → List ℕ → Result (Unit {0}) Ending
-session_end settings text = end_after settings (hindrance settings text) (orders_of [] (said_by text))
+session_end settings text = end_after settings (hindrance settings text) (orders_of [] (text_says text))
 
 -- the lines that a session on this text prints by its right
 abbrev pub session_lines : Settings → List ℕ → List (List ℕ)
-session_lines settings text = lines_after settings (hindrance settings text) (orders_of [] (said_by text))
+session_lines settings text = lines_after settings (hindrance settings text) (orders_of [] (text_says text))
 
 -- a session whose text has this first bad line, if it has one, can end so before anything is run
 abbrev pub IsReadEnding : Option (ℕ × Why) → Ending → Type 0
