@@ -10,7 +10,7 @@ use Rattle.index_page.specs.Page.PageOfKind.{Leaf, Index}
 use Rattle.frame_codec.specs.Frame.{Content}
 use Rattle.frame_codec.specs.Frame.Content.{DeltaLeaf, DeltaIndex, Free}
 use Rattle.flush_log.specs.FlushText.{base_content, run_contents, whole_page}
-use Rattle.recovery.specs.PageByLog.{is_start, from_last, InLog, with_run, begun_page, continued, told_page, page_by_log}
+use Rattle.recovery.specs.PageByLog.{is_start, from_last, InLog, with_newer_run, begun_page, continued, told_page, page_by_log}
 use Rattle.recovery.specs.PageByLog.InLog.{Missing, Present}
 use Rattle.recovery.specs.InStep.{IsOver, IsLogged}
 use Rattle.recovery.proofs.PartLaws.{from_last-at, from_last-more, from_last-none}
@@ -27,7 +27,7 @@ none-drop test (suc k) (x ∷ xs) e = none-drop test k xs (or_parts (test x) (li
 
 -- of one kind of page: how its pages and its deltas are made, and that a delta puts a run in front
 module _ {V : Type 0} (made : Page V → PageOfKind) (delta : List (List ℕ × Option V) → Content)
-    (step : (p : Page V) (run : List (List ℕ × Option V)) → continued (Present (made p)) (delta run) ≡ Present (made (with_run p run)))
+    (step : (p : Page V) (run : List (List ℕ × Option V)) → continued (Present (made p)) (delta run) ≡ Present (made (with_newer_run p run)))
     (no_start : (run : List (List ℕ × Option V)) → is_start (delta run) ≡ false) where
   -- the page of these
   abbrev page : List ℕ → List (List ℕ × V) → List (List (List ℕ × Option V)) → InLog
@@ -65,10 +65,10 @@ module _ {V : Type 0} (made : Page V → PageOfKind) (delta : List (List ℕ × 
 
 -- ---- pages of either kind
 
-leaf_step : (p : Page (List ℕ)) (run : List (List ℕ × Option (List ℕ))) → continued (Present (Leaf p)) (DeltaLeaf run) ≡ Present (Leaf (with_run p run))
+leaf_step : (p : Page (List ℕ)) (run : List (List ℕ × Option (List ℕ))) → continued (Present (Leaf p)) (DeltaLeaf run) ≡ Present (Leaf (with_newer_run p run))
 leaf_step p run = refl
 
-index_step : (p : Page ℕ) (run : List (List ℕ × Option ℕ)) → continued (Present (Index p)) (DeltaIndex run) ≡ Present (Index (with_run p run))
+index_step : (p : Page ℕ) (run : List (List ℕ × Option ℕ)) → continued (Present (Index p)) (DeltaIndex run) ≡ Present (Index (with_newer_run p run))
 index_step p run = refl
 
 no_runs_start : (p : PageOfKind) → list_any is_start (run_contents p) ≡ false

@@ -26,8 +26,8 @@ pub data InLog : Type 0 where
   Broken : InLog
 
 -- a page with one more run
-abbrev pub with_run : {V : Type 0} → Page V → List (List ℕ × Option V) → Page V
-with_run p run = record { low = p.low; layers = record { runs = run ∷ p.layers.runs; base = p.layers.base } }
+abbrev pub with_newer_run : {V : Type 0} → Page V → List (List ℕ × Option V) → Page V
+with_newer_run p run = record { low = p.low; layers = record { runs = run ∷ p.layers.runs; base = p.layers.base } }
 
 -- what the first content says by itself
 abbrev pub begun_page : Content → InLog
@@ -37,8 +37,8 @@ begun_page _ = Missing
 
 -- and one more content behind it: it has to be a delta of the page's kind
 abbrev pub continued : InLog → Content → InLog
-continued (Present (Leaf p)) (DeltaLeaf run) = Present (Leaf (with_run p run))
-continued (Present (Index p)) (DeltaIndex run) = Present (Index (with_run p run))
+continued (Present (Leaf p)) (DeltaLeaf run) = Present (Leaf (with_newer_run p run))
+continued (Present (Index p)) (DeltaIndex run) = Present (Index (with_newer_run p run))
 continued _ _ = Broken
 
 -- what contents say that begin with a base, or with there being no page
