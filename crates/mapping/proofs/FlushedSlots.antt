@@ -9,8 +9,8 @@ use Rattle.mapping.specs.Proper.{AreRisingPids}
 use Rattle.mapping.specs.Table.{Mapping}
 use Rattle.mapping.specs.Slots.{slot_pids, listed_place, listed_state, entry_if, table_of, AreInUseBelow, AreSlots}
 use Rattle.mapping.specs.declared.logged.Logged.{Logged}
-use Rattle.mapping.specs.declared.slots.Place.{Place}
-use Rattle.mapping.specs.declared.slots.Place.TheVariants.{Vacant, Away, Home}
+use Rattle.mapping.specs.declared.slots.TablePlace.{TablePlace}
+use Rattle.mapping.specs.declared.slots.TablePlace.TheVariants.{Vacant, Away, Home}
 use Rattle.mapping.specs.declared.slots.Slot.{Slot}
 use Rattle.mapping.proofs.TableSlots.{same_mapping}
 
@@ -58,7 +58,7 @@ places-then : (ss : List (Slot PageOfKind)) → (table_of (map slot_then ss)).pl
 places-then [] = refl
 places-then (s ∷ ss) = ap (λ (es : List (ℕ × Option PageOfKind)). entry_if s.pid (listed_place s.page) ++ es) (places-then ss)
 
-logged_by : (n : ℕ) (p : Place PageOfKind) (es : List (ℕ × Option PageOfKind)) → entry_if n (listed_state (log_state (logged_then p))) ++ logged_home_pages es ≡ logged_home_pages (entry_if n (listed_place p) ++ es)
+logged_by : (n : ℕ) (p : TablePlace PageOfKind) (es : List (ℕ × Option PageOfKind)) → entry_if n (listed_state (log_state (logged_then p))) ++ logged_home_pages es ≡ logged_home_pages (entry_if n (listed_place p) ++ es)
 logged_by n Vacant es = refl
 logged_by n Away es = refl
 logged_by n (Home p) es = refl

@@ -8,8 +8,8 @@ use Rattle.mapping.specs.Tree.{listed_at}
 use Rattle.mapping.specs.Table.{is_same_pid, at_home}
 use Rattle.mapping.specs.TreeInMemory.{home_pages}
 use Rattle.mapping.specs.Slots.{listed_place, entry_if, slot_pids, table_of, is_home_place, is_home, home_pids}
-use Rattle.mapping.specs.declared.slots.Place.{Place}
-use Rattle.mapping.specs.declared.slots.Place.TheVariants.{Vacant, Away, Home}
+use Rattle.mapping.specs.declared.slots.TablePlace.{TablePlace}
+use Rattle.mapping.specs.declared.slots.TablePlace.TheVariants.{Vacant, Away, Home}
 use Rattle.mapping.specs.declared.slots.Slot.{Slot}
 
 module _ {P : Type 0} where
@@ -28,7 +28,7 @@ module _ {P : Type 0} where
 
 -- the pids of the slots whose pages are at home are those of the pages
 module _ {P : Type 0} where
-  one-home : (pid : ℕ) (p : Place P) (later : List ℕ) (es : List (ℕ × Option P)) → later ≡ keys_of (home_pages es)
+  one-home : (pid : ℕ) (p : TablePlace P) (later : List ℕ) (es : List (ℕ × Option P)) → later ≡ keys_of (home_pages es)
       → cond (is_home_place p) (pid ∷ later) later ≡ keys_of (home_pages (entry_if pid (listed_place p) ++ es))
   one-home pid Vacant later es h = h
   one-home pid Away later es h = h

@@ -8,7 +8,7 @@ use Rattle.mapping.specs.Tree.Logged.{No}
 use Rattle.mapping.specs.LogState.{log_state}
 use Rattle.mapping.specs.Table.{Mapping, place_of, room_by, with_room}
 use Rattle.mapping.specs.Slots.{slot_pids, listed_place, table_of, StandsAt, GoesTo, AreInUseBelow, AreSlots}
-use Rattle.mapping.specs.declared.slots.Place.TheVariants.{Vacant}
+use Rattle.mapping.specs.declared.slots.TablePlace.TheVariants.{Vacant}
 use Rattle.mapping.specs.declared.slots.Slot.{Slot}
 use Rattle.mapping.proofs.InUse.{in_use-with_place}
 use Rattle.mapping.proofs.Listing.{rising-insert}

@@ -12,8 +12,8 @@ use Rattle.mapping.specs.LogState.{log_state}
 use Rattle.mapping.specs.Proper.{AreRisingPids}
 use Rattle.mapping.specs.Table.{Mapping, at_home, place_of, log_of, with_place, log_outdated, freed}
 use Rattle.mapping.specs.Slots.{slot_pids, listed_place, listed_state, table_of, StandsAt, GoesTo, AreInUseBelow, AreSlots}
-use Rattle.mapping.specs.declared.slots.Place.{Place}
-use Rattle.mapping.specs.declared.slots.Place.TheVariants.{Vacant, Away, Home}
+use Rattle.mapping.specs.declared.slots.TablePlace.{TablePlace}
+use Rattle.mapping.specs.declared.slots.TablePlace.TheVariants.{Vacant, Away, Home}
 use Rattle.mapping.specs.declared.slots.Slot.{Slot}
 use Rattle.mapping.proofs.InUse.{in_use-with_place, in_use-freed}
 use Rattle.mapping.proofs.Listing.{IsSlot, slot_read, found_within, pids-set, lookup-slot, insert-slot, remove-slot, same-slot, outdate-slot, lookup-gap, insert-gap, same-gap, outdate-gap}
@@ -77,17 +77,17 @@ module _ {P : Type 0} where
   pub goes_within : (ss : List (Slot P)) (i k : ℕ) → GoesTo (slot_pids ss) k i → i ≤ length ss
   goes_within ss i k e = let within : i ≤ length (slot_pids ss) = e.within in omega (arith, length-map ss pid_of)
 
-  pub not_home : (p : Place P) → ((x : P) → p ≡ Home x → ⊥) → at_home (listed_place p) ≡ None
+  pub not_home : (p : TablePlace P) → ((x : P) → p ≡ Home x → ⊥) → at_home (listed_place p) ≡ None
   not_home Vacant h = refl
   not_home Away h = refl
   not_home (Home x) h = absurd (h x refl)
 
-  pub not_away : (p : Place P) → (p ≡ Away → ⊥) → listed_place p ≡ Some None → ⊥
+  pub not_away : (p : TablePlace P) → (p ≡ Away → ⊥) → listed_place p ≡ Some None → ⊥
   not_away Vacant h e = absurd (cc)
   not_away Away h e = h refl
   not_away (Home x) h e = absurd (cc)
 
-  pub not_vacant : (p : Place P) → (p ≡ Vacant → ⊥) → is_some (listed_place p) ≡ true
+  pub not_vacant : (p : TablePlace P) → (p ≡ Vacant → ⊥) → is_some (listed_place p) ≡ true
   not_vacant Vacant h = absurd (h refl)
   not_vacant Away h = refl
   not_vacant (Home x) h = refl

@@ -9,8 +9,8 @@ use Rattle.mapping.specs.Table.{Mapping}
 use Rattle.mapping.specs.TreeInMemory.{home_pages}
 use Rattle.mapping.specs.declared.logged.Logged.{Logged}
 use Rattle.mapping.specs.declared.logged.Logged.TheVariants.{No, Upto}
-use Rattle.mapping.specs.declared.slots.Place.{Place}
-use Rattle.mapping.specs.declared.slots.Place.TheVariants.{Vacant, Away, Home}
+use Rattle.mapping.specs.declared.slots.TablePlace.{TablePlace}
+use Rattle.mapping.specs.declared.slots.TablePlace.TheVariants.{Vacant, Away, Home}
 
 -- how many runs a page has, whatever its kind
 abbrev pub page_depth : PageOfKind → ℕ
@@ -30,7 +30,7 @@ abbrev pub marked_as_written : Mapping PageOfKind → Mapping PageOfKind
 marked_as_written t = record { places = t.places; logged = logged_home_pages t.places }
 
 -- the code's log state of what stands in a slot then
-abbrev pub logged_then : Place PageOfKind → Logged
+abbrev pub logged_then : TablePlace PageOfKind → Logged
 logged_then Vacant = No
 logged_then Away = No
 logged_then (Home p) = Upto (depth_counted p)

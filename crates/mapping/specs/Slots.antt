@@ -7,12 +7,12 @@ use Rattle.mapping.specs.FreshPids.{is_among}
 use Rattle.mapping.specs.Proper.{AreRisingPids}
 use Rattle.mapping.specs.Table.{Mapping, pids_in_use, is_old}
 use Rattle.mapping.specs.LogState.{log_state}
-use Rattle.mapping.specs.declared.slots.Place.{Place}
-use Rattle.mapping.specs.declared.slots.Place.TheVariants.{Vacant, Away, Home}
+use Rattle.mapping.specs.declared.slots.TablePlace.{TablePlace}
+use Rattle.mapping.specs.declared.slots.TablePlace.TheVariants.{Vacant, Away, Home}
 use Rattle.mapping.specs.declared.slots.Slot.{Slot}
 
 -- what is listed of a place: nothing where there is none
-abbrev pub listed_place : {P : Type 0} → Place P → Option (Option P)
+abbrev pub listed_place : {P : Type 0} → TablePlace P → Option (Option P)
 listed_place Vacant = None
 listed_place Away = Some None
 listed_place (Home p) = Some (Some p)
@@ -48,7 +48,7 @@ abbrev pub known_pids : {P : Type 0} → List (Slot P) → List ℕ
 known_pids ss = slot_pids (filter is_known ss)
 
 -- the slot's page is at home
-abbrev pub is_home_place : {P : Type 0} → Place P → Bool
+abbrev pub is_home_place : {P : Type 0} → TablePlace P → Bool
 is_home_place Vacant = false
 is_home_place Away = false
 is_home_place (Home p) = true

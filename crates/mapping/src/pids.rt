@@ -3,7 +3,7 @@ ghost use Rattle.std.specs.Iterator.{YieldsFirst, item_count};
 ghost use Rattle.mapping.specs.Slots.{is_known, is_home};
 
 use crate::logged::Logged;
-use crate::slots::{Place, Slot};
+use crate::slots::{Slot, TablePlace};
 use std::marker::Model;
 
 /// The pids that are in use, and those of which the log has `Old`, by rising number. It takes no memory. Contracts see it
@@ -82,12 +82,12 @@ impl<'a, P> Iterator for HomePids<'a, P> {
 fn is_home<P>(slot: &Slot<P>) -> bool
     ensures { result ≡ is_home slot.now }
 {
-    matches!(&slot.page, Place::Home(_))
+    matches!(&slot.page, TablePlace::Home(_))
 }
 
 // Whether the slot's pid has a place, or the log has `Old` of it.
 fn is_known<P>(slot: &Slot<P>) -> bool
     ensures { result ≡ is_known slot.now }
 {
-    !matches!(&slot.page, Place::Vacant) || slot.logged == Logged::Old
+    !matches!(&slot.page, TablePlace::Vacant) || slot.logged == Logged::Old
 }

@@ -4,7 +4,7 @@ ghost use Rattle.mapping.specs.Table.{with_room, with_rooms, pids_in_use, fresh_
 ghost use Rattle.mapping.specs.Slots.{slot_pids, table_of, AreSlots};
 
 use crate::logged::Logged;
-use crate::slots::{Place, Slot, is_used, slot_of};
+use crate::slots::{Slot, TablePlace, is_used, slot_of};
 use std::alloc::{AllocError, Allocator};
 
 // Makes a place for the pid, whose page is away, where it has none. It is refused only where the slots fill their room.
@@ -23,14 +23,14 @@ pub(crate) fn occupy<P: Drop, A: Allocator + Copy>(
     match slot_of(slots, pid) {
         Ok(at) => {
             let slot = &mut slots[at];
-            if let Place::Vacant = &slot.page {
-                slot.page = Place::Away;
+            if let TablePlace::Vacant = &slot.page {
+                slot.page = TablePlace::Away;
             }
         }
         Err(at) => {
             let slot = Slot {
                 pid,
-                page: Place::Away,
+                page: TablePlace::Away,
                 logged: Logged::No,
             };
             slots.insert(at, slot)?;

@@ -8,7 +8,7 @@ use crate::logged::Logged;
 
 // What stands in a slot for its pid: no place, a place whose page is away, or the page.
 #[derive(Drop)]
-pub(crate) enum Place<P> {
+pub(crate) enum TablePlace<P> {
     Vacant,
     Away,
     Home(P),
@@ -18,7 +18,7 @@ pub(crate) enum Place<P> {
 #[derive(Drop)]
 pub(crate) struct Slot<P> {
     pub(crate) pid: u64,
-    pub(crate) page: Place<P>,
+    pub(crate) page: TablePlace<P>,
     pub(crate) logged: Logged,
 }
 
@@ -52,7 +52,7 @@ pub(crate) fn is_used<P>(slots: &[Slot<P>], pid: u64) -> bool
     ensures { result ≡ is_some (place_of (table_of slots.now) pid) }
 {
     match slot_of(slots, pid) {
-        Ok(at) => !matches!(&slots[at].page, Place::Vacant),
+        Ok(at) => !matches!(&slots[at].page, TablePlace::Vacant),
         Err(_) => false,
     }
 }
@@ -62,7 +62,7 @@ pub(crate) fn are_all_home<P>(slots: &[Slot<P>]) -> bool
     ensures { IsTrue result ↔ AllByRecursion (λ e. IsSome e.1) (table_of slots.now).places }
 {
     for slot in slots {
-        if matches!(&slot.page, Place::Away) {
+        if matches!(&slot.page, TablePlace::Away) {
             return false;
         }
     }

@@ -12,7 +12,7 @@ use crate::flush::logged_then;
 use crate::logged::Logged;
 use crate::pids::{HomePids, Pids};
 use crate::room::{least_free, occupy, occupy_all};
-use crate::slots::{Place, Slot, are_all_home, is_used, slot_in_use, slot_of};
+use crate::slots::{Slot, TablePlace, are_all_home, is_used, slot_in_use, slot_of};
 use index_page::Page;
 use std::alloc::{AllocError, Allocator};
 use std::marker::Model;
@@ -64,7 +64,7 @@ impl<P: Drop, A: Allocator + Copy> Table<P, A> {
         ensures { IsTrue result ↔ (place_of self.now pid ≡ Some None) }
     {
         match slot_of(&self.slots, pid) {
-            Ok(at) => matches!(&self.slots[at].page, Place::Away),
+            Ok(at) => matches!(&self.slots[at].page, TablePlace::Away),
             Err(_) => false,
         }
     }
@@ -75,7 +75,7 @@ impl<P: Drop, A: Allocator + Copy> Table<P, A> {
     {
         match slot_of(&self.slots, pid) {
             Ok(at) => match &self.slots[at].page {
-                Place::Home(page) => Some(page),
+                TablePlace::Home(page) => Some(page),
                 _ => None,
             },
             Err(_) => None,
@@ -122,8 +122,8 @@ impl<P: Drop, A: Allocator + Copy> Table<P, A> {
         ensures table { self.new ≡ with_place self.old pid None }
     {
         let at = slot_in_use(&self.slots, pid);
-        match mem::replace(&mut self.slots[at].page, Place::Away) {
-            Place::Home(page) => page,
+        match mem::replace(&mut self.slots[at].page, TablePlace::Away) {
+            TablePlace::Home(page) => page,
             _ => unreachable!(),
         }
     }
@@ -134,7 +134,7 @@ impl<P: Drop, A: Allocator + Copy> Table<P, A> {
         ensures { self.new ≡ with_place self.old pid (Some page) }
     {
         let at = slot_in_use(&self.slots, pid);
-        self.slots[at].page = Place::Home(page);
+        self.slots[at].page = TablePlace::Home(page);
     }
 
     /// Gives up the place of a page that is away. What the log has of the pid is of no present page then.
@@ -144,7 +144,7 @@ impl<P: Drop, A: Allocator + Copy> Table<P, A> {
     {
         let at = slot_in_use(&self.slots, pid);
         let slot = &mut self.slots[at];
-        slot.page = Place::Vacant;
+        slot.page = TablePlace::Vacant;
         slot.logged = slot.logged.outdated();
         self.filled = self.filled.min(pid);
     }
