@@ -10,7 +10,7 @@ use Rattle.mapping.specs.TreeInMemory.{home_pages}
 use Rattle.mapping.specs.Slots.{listed_place, entry_if, slot_pids, table_of, is_home_place, is_home, home_pids}
 use Rattle.mapping.specs.declared.slots.TablePlace.{TablePlace}
 use Rattle.mapping.specs.declared.slots.TablePlace.TheVariants.{Vacant, Away, Home}
-use Rattle.mapping.specs.declared.slots.Slot.{Slot}
+use Rattle.mapping.specs.declared.slots.TableSlot.{TableSlot}
 
 module _ {P : Type 0} where
   found_by : (b : Bool) (p : P) (later : Option (Option P)) (here : Option P) → at_home later ≡ here → at_home (cond b (Some (Some p)) later) ≡ cond b (Some p) here
@@ -34,10 +34,10 @@ module _ {P : Type 0} where
   one-home pid Away later es h = h
   one-home pid (Home p) later es h = ap (λ (x : List ℕ). pid ∷ x) h
 
-  slot-home : (b : Bool) (s : Slot P) (ss : List (Slot P)) → slot_pids (cond b (s ∷ ss) ss) ≡ cond b (s.pid ∷ slot_pids ss) (slot_pids ss)
+  slot-home : (b : Bool) (s : TableSlot P) (ss : List (TableSlot P)) → slot_pids (cond b (s ∷ ss) ss) ≡ cond b (s.pid ∷ slot_pids ss) (slot_pids ss)
   slot-home true s ss = refl
   slot-home false s ss = refl
 
-  pub pids-home : (ss : List (Slot P)) → home_pids ss ≡ keys_of (home_pages (table_of ss).places)
+  pub pids-home : (ss : List (TableSlot P)) → home_pids ss ≡ keys_of (home_pages (table_of ss).places)
   pids-home [] = refl
   pids-home (s ∷ ss) = slot-home (is_home s) s (filter is_home ss) ∙ one-home s.pid s.page (home_pids ss) (table_of ss).places (pids-home ss)

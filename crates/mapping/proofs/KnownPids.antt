@@ -12,7 +12,7 @@ use Rattle.mapping.specs.Proper.{AreRisingPids}
 use Rattle.mapping.specs.LogState.{log_state}
 use Rattle.mapping.specs.Table.{Mapping, is_same_pid, pids_in_use, place_of, log_of, is_old, old_pids, with_numbers, pids_in_use_or_old}
 use Rattle.mapping.specs.Slots.{slot_pids, listed_place, listed_state, entry_if, table_of, is_known, known_pids}
-use Rattle.mapping.specs.declared.slots.Slot.{Slot}
+use Rattle.mapping.specs.declared.slots.TableSlot.{TableSlot}
 use Rattle.mapping.proofs.PidLaws.{among-with_number, all-with_number, rising-with_number}
 use Rattle.mapping.proofs.TableLaws.{same_pid, equal_by}
 use Rattle.mapping.proofs.Around.{lookup_none}
@@ -95,17 +95,17 @@ module _ {P : Type 0} where
       ap (λ (x : List ℕ). with_one (is_among k x) k x) e ∙ one_there k (with_numbers (olds ls) (keys_of es))
   known_by k (Some p) (Upto n) es ls a b = numbers_behind k (olds ls) (keys_of es) b
 
-  pick_by : (b : Bool) (s : Slot P) (ss : List (Slot P)) → slot_pids (cond b (s ∷ ss) ss) ≡ cond b (s.pid ∷ slot_pids ss) (slot_pids ss)
+  pick_by : (b : Bool) (s : TableSlot P) (ss : List (TableSlot P)) → slot_pids (cond b (s ∷ ss) ss) ≡ cond b (s.pid ∷ slot_pids ss) (slot_pids ss)
   pick_by true s ss = refl
   pick_by false s ss = refl
 
   -- the known pids of slots are those of their table
-  pub known-table : (ss : List (Slot P)) → AreRisingPids (slot_pids ss) → known_pids ss ≡ pids_in_use_or_old (table_of ss)
+  pub known-table : (ss : List (TableSlot P)) → AreRisingPids (slot_pids ss) → known_pids ss ≡ pids_in_use_or_old (table_of ss)
   known-table [] r = refl
   known-table (s ∷ ss) r =
       let t = table_of ss in
-      let used = keys-listing (λ (s : Slot P). s.pid) (λ s. listed_place s.page) (λ n. s.pid < n) ss r.0 in
-      let logged = all_olds (λ n. s.pid < n) t.logged (keys-listing (λ (s : Slot P). s.pid) (λ s. listed_state (log_state s.logged)) (λ n. s.pid < n) ss r.0) in
+      let used = keys-listing (λ (s : TableSlot P). s.pid) (λ s. listed_place s.page) (λ n. s.pid < n) ss r.0 in
+      let logged = all_olds (λ n. s.pid < n) t.logged (keys-listing (λ (s : TableSlot P). s.pid) (λ s. listed_state (log_state s.logged)) (λ n. s.pid < n) ss r.0) in
       pick_by (is_known s) s (filter is_known ss)
       ∙ ap (λ (ns : List ℕ). cond (is_known s) (s.pid ∷ ns) ns) (known-table ss r.1)
       ∙ sym (known_by s.pid (listed_place s.page) (log_state s.logged) t.places t.logged used logged)

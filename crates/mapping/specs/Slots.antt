@@ -9,7 +9,7 @@ use Rattle.mapping.specs.Table.{Mapping, pids_in_use, is_old}
 use Rattle.mapping.specs.LogState.{log_state}
 use Rattle.mapping.specs.declared.slots.TablePlace.{TablePlace}
 use Rattle.mapping.specs.declared.slots.TablePlace.TheVariants.{Vacant, Away, Home}
-use Rattle.mapping.specs.declared.slots.Slot.{Slot}
+use Rattle.mapping.specs.declared.slots.TableSlot.{TableSlot}
 
 -- what is listed of a place: nothing where there is none
 abbrev pub listed_place : {P : Type 0} → TablePlace P → Option (Option P)
@@ -29,22 +29,22 @@ entry_if pid None = []
 entry_if pid (Some v) = (pid, v) ∷ []
 
 -- the pids of slots
-abbrev pub slot_pids : {P : Type 0} → List (Slot P) → List ℕ
+abbrev pub slot_pids : {P : Type 0} → List (TableSlot P) → List ℕ
 slot_pids ss = map (λ s. s.pid) ss
 
 -- the slots that aren't vacant, and those of which the log has something
-abbrev pub table_of : {P : Type 0} → List (Slot P) → Mapping P
+abbrev pub table_of : {P : Type 0} → List (TableSlot P) → Mapping P
 table_of ss = record {
   places = flat_map (λ s. entry_if s.pid (listed_place s.page)) ss;
   logged = flat_map (λ s. entry_if s.pid (listed_state (log_state s.logged))) ss;
 }
 
 -- the slot's pid has a place, or the log has `Old` of it
-abbrev pub is_known : {P : Type 0} → Slot P → Bool
+abbrev pub is_known : {P : Type 0} → TableSlot P → Bool
 is_known s = is_some (listed_place s.page) || is_old (log_state s.logged)
 
 -- the pids of such slots
-abbrev pub known_pids : {P : Type 0} → List (Slot P) → List ℕ
+abbrev pub known_pids : {P : Type 0} → List (TableSlot P) → List ℕ
 known_pids ss = slot_pids (filter is_known ss)
 
 -- the slot's page is at home
@@ -53,11 +53,11 @@ is_home_place Vacant = false
 is_home_place Away = false
 is_home_place (Home p) = true
 
-abbrev pub is_home : {P : Type 0} → Slot P → Bool
+abbrev pub is_home : {P : Type 0} → TableSlot P → Bool
 is_home s = is_home_place s.page
 
 -- the pids of such slots
-abbrev pub home_pids : {P : Type 0} → List (Slot P) → List ℕ
+abbrev pub home_pids : {P : Type 0} → List (TableSlot P) → List ℕ
 home_pids ss = slot_pids (filter is_home ss)
 
 -- the pid stands at this place
@@ -75,6 +75,6 @@ abbrev pub AreInUseBelow : {P : Type 0} → Mapping P → ℕ → Type 0
 AreInUseBelow t n = (k : ℕ) → k < n → is_among k (pids_in_use t) ≡ true
 
 -- slots by rising pid, with a number below which none is free
-pub record AreSlots {P : Type 0} (ss : List (Slot P)) (filled : ℕ) : Type 0 where
+pub record AreSlots {P : Type 0} (ss : List (TableSlot P)) (filled : ℕ) : Type 0 where
   pub rising : AreRisingPids (slot_pids ss)
   pub in_use : AreInUseBelow (table_of ss) filled

@@ -12,7 +12,7 @@ use crate::flush::logged_then;
 use crate::logged::Logged;
 use crate::pids::{HomePids, Pids};
 use crate::room::{least_free, occupy, occupy_all};
-use crate::slots::{Slot, TablePlace, are_all_home, is_used, slot_in_use, slot_of};
+use crate::slots::{TablePlace, TableSlot, are_all_home, is_used, slot_in_use, slot_of};
 use index_page::Page;
 use std::alloc::{AllocError, Allocator};
 use std::marker::Model;
@@ -24,7 +24,7 @@ use std::mem;
 #[derive(Drop)]
 pub struct Table<P, A: Allocator> {
     // By rising pid. A slot stays when its place goes, so that most slots stand at their pids' own numbers.
-    slots: Vec<Slot<P>, A>,
+    slots: Vec<TableSlot<P>, A>,
     // Each number below this one has a place.
     filled: u64,
 }
