@@ -13,7 +13,7 @@ ghost use Rattle.page_search.specs.declared.side.Side.TheVariants.{UpTo, Above};
 use crate::probes::Probes;
 use crate::search::place;
 use crate::side::Side;
-use delta_chain::{Chain, Keyed};
+use delta_chain::{Chain, KeyList};
 use keys::KeyRef;
 use std::alloc::Allocator;
 
@@ -119,7 +119,7 @@ fn nearest_named<'a, V, A: Allocator + Copy>(
 }
 
 // The place of the list's nearest key on this side.
-fn nearest_place<L: Keyed>(list: &L, key: &[u8], side: Side, probes: &mut Probes) -> Option<usize>
+fn nearest_place<L: KeyList>(list: &L, key: &[u8], side: Side, probes: &mut Probes) -> Option<usize>
     ensures place { MatchOption result (HasNoneOn side key.now (L.keys list.now)) (IsNearestPlace side key.now (L.keys list.now)) }
     ensures rising { AreRisingKeys (L.keys list.now) }
     ensures cost { probes.new ≤ probes.old + binary_digits (length (L.keys list.now)) }
@@ -139,7 +139,7 @@ fn nearest_place<L: Keyed>(list: &L, key: &[u8], side: Side, probes: &mut Probes
 
 // The place that parts the keys on this side from the others: the first key that is above the one looked for, or for
 // `Below` isn't below it.
-fn parting<L: Keyed>(list: &L, key: &[u8], side: Side, probes: &mut Probes) -> usize
+fn parting<L: KeyList>(list: &L, key: &[u8], side: Side, probes: &mut Probes) -> usize
     ensures place { Parts side key.now (L.keys list.now) result }
     ensures cost { probes.new ≤ probes.old + binary_digits (length (L.keys list.now)) }
     ensures least { min

@@ -10,7 +10,7 @@ ghost use Rattle.page_search.specs.Digits.{binary_digits};
 ghost use Rattle.page_search.specs.Places.{count_below, KeyGoesTo};
 
 use crate::probes::Probes;
-use delta_chain::{Base, Chain, Keyed};
+use delta_chain::{Base, Chain, KeyList};
 use keys::KeyRef;
 use std::alloc::Allocator;
 use std::cmp::Ordering;
@@ -68,7 +68,7 @@ fn find_in_base<'a, V, A: Allocator + Copy>(
 
 /// `Ok` is the place where the key is, `Err` the place where it would go. Each comparison at least halves what is
 /// left, and one that meets the key ends the search, so no further test for equality is needed.
-pub fn place<L: Keyed>(list: &L, key: &[u8], probes: &mut Probes) -> Result<usize, usize>
+pub fn place<L: KeyList>(list: &L, key: &[u8], probes: &mut Probes) -> Result<usize, usize>
     ensures place { MatchResult result (λ at. slice_get (L.keys list.now) at ≡ Some key.now) (KeyGoesTo key.now (L.keys list.now)) }
     ensures rising { AreRisingKeys (L.keys list.now) }
     ensures cost { probes.new ≤ probes.old + binary_digits (length (L.keys list.now)) }
