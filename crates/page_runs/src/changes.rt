@@ -15,7 +15,7 @@ use std::alloc::{AllocError, Global};
 use std::collections::BTreeMap;
 use std::marker::Model;
 
-pub(crate) type Leaf = Chain<Value<Global>, Global>;
+pub(crate) type LeafChain = Chain<Value<Global>, Global>;
 
 pub(crate) type LeafRun = Run<Value<Global>, Global>;
 
@@ -73,7 +73,7 @@ impl Changes {
     /// What the key has on the page by now: what the changes say of it, else what the page holds.
     pub(crate) fn value_now<'a>(
         &'a self,
-        page: &'a Leaf,
+        page: &'a LeafChain,
         key: &Key<Global>,
     ) -> Option<&'a Value<Global>>
         requires { IsInOrder page.now }

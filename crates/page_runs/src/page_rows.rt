@@ -8,7 +8,7 @@ ghost use Rattle.scan.specs.Leaf.{from};
 ghost use Rattle.page_runs.specs.PageRows.{change_lent, named_by_either};
 ghost use Rattle.page_runs.specs.Replay.{map_by_now};
 
-use crate::changes::{Changes, Leaf};
+use crate::changes::{Changes, LeafChain};
 use crate::changes_from::{Change, ChangesFrom};
 use keys::{Key, RowList, Value, compare};
 use scan::LeafPairs;
@@ -21,7 +21,7 @@ use std::marker::Model;
 #[inline(never)]
 pub(crate) fn rows_of(
     alloc: Global,
-    page: &Leaf,
+    page: &LeafChain,
     changes: &Changes,
     low: &Key<Global>,
     end: &Option<Key<Global>>,
@@ -76,7 +76,7 @@ impl<'a> Model for NamedKeys<'a> {
 
 impl<'a> NamedKeys<'a> {
     // The keys from this one on.
-    fn new(alloc: Global, page: &'a Leaf, changes: &'a Changes, low: &'a Key<Global>) -> Self
+    fn new(alloc: Global, page: &'a LeafChain, changes: &'a Changes, low: &'a Key<Global>) -> Self
         requires { IsInOrder page.now }
         ensures named { result ≡ named_by_either (from low.now (entries_of page.now)) (in_range low.now None changes.now) }
         ensures rising { IsRising result }
