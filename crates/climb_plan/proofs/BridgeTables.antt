@@ -10,12 +10,12 @@ use Rattle.std.proofs.lemmas.Bool.{eq-eqb, eqb-true, or_parts, or_from, false_fr
 use Rattle.index_page.specs.Page.{PageOfKind}
 use Rattle.mapping.specs.FreshPids.{is_among, unused}
 use Rattle.mapping.specs.Proper.{AreRisingPids}
-use Rattle.mapping.specs.Table.{Mapping, is_same_pid, pids_in_use, place_of, with_place, fresh_pids}
+use Rattle.mapping.specs.Table.{Mapping, is_same_pid, pids_in_use, place_of, with_place, fresh_pids, IsOldWithoutPlace}
 use Rattle.mapping.specs.Tree.{Logged}
 use Rattle.mapping.specs.Tree.Logged.{Old}
 use Rattle.mapping.proofs.PidLaws.{below_later}
 use Rattle.mapping.proofs.TableLaws.{total, differ, listed-insert_entry}
-use Rattle.climb_plan.specs.Installing.{all_taken, AreLost}
+use Rattle.climb_plan.specs.Installing.{all_taken}
 use Rattle.climb_plan.specs.Level.{IsNeverUnused}
 
 -- ---- an entry in the place of another
@@ -130,7 +130,7 @@ lost_by true t u n pid a e h = absurd (let f = a.away pid e in cc)
 lost_by false t u n pid a e h = sym (a.others pid e) ∙ h
 
 -- once pages were taken too, the log still has something old at the most of a pid without a place
-pub lost_after : (t u : Mapping PageOfKind) (n : ℕ) (ns : List ℕ) → AreDrawn t u n → AreLost t → AreLost (all_taken u ns)
+pub lost_after : (t u : Mapping PageOfKind) (n : ℕ) (ns : List ℕ) → AreDrawn t u n → IsOldWithoutPlace t → IsOldWithoutPlace (all_taken u ns)
 lost_after t u n ns a h = subst (λ (ls : List (ℕ × Logged)). AllByRecursion (λ l. place_of (all_taken u ns) l.0 ≡ None → l.1 ≡ Old) ls) (sym (taken_logged u ns ∙ a.logged)) (each t.logged h)
   where
     each : (ls : List (ℕ × Logged)) → AllByRecursion (λ l. place_of t l.0 ≡ None → l.1 ≡ Old) ls → AllByRecursion (λ l. place_of (all_taken u ns) l.0 ≡ None → l.1 ≡ Old) ls

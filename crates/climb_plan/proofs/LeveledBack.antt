@@ -9,10 +9,10 @@ use Rattle.index_page.specs.Page.PageOfKind.{Index}
 use Rattle.mapping.specs.FreshPids.{is_among}
 use Rattle.mapping.specs.Levels.{Placed, pids}
 use Rattle.mapping.specs.Proper.{Distinct, AreRisingPids}
-use Rattle.mapping.specs.Table.{Mapping, is_same_pid, pids_in_use, place_of, with_rooms, fresh_pids, freed_all}
+use Rattle.mapping.specs.Table.{Mapping, is_same_pid, pids_in_use, place_of, with_rooms, fresh_pids, freed_all, IsOldWithoutPlace}
 use Rattle.mapping.proofs.DrawnPlaces.{drawn-away, other-place}
 use Rattle.climb_plan.specs.Changing.{AreHome}
-use Rattle.climb_plan.specs.Installing.{all_taken, all_put, AreAway, AreLost}
+use Rattle.climb_plan.specs.Installing.{all_taken, all_put, AreAway}
 use Rattle.climb_plan.specs.Level.{drawn_and_taken}
 use Rattle.climb_plan.proofs.BridgeTables.{test_false}
 use Rattle.climb_plan.proofs.InstallingLaws.{away-all_taken, put_back_is_before}
@@ -73,5 +73,5 @@ module _ (t : Mapping PageOfKind) (rising : AreRisingPids (pids_in_use t)) (n : 
     drawn_still_away = subst (λ (u : Mapping PageOfKind). AreAway u fresh) (sym parents_back) (drawn_away t rising n)
 
     -- and once they are given back, the table is what it was
-    pub all_back : AreLost t → freed_all (all_put taken (put_again qs)) fresh ≡ t
+    pub all_back : IsOldWithoutPlace t → freed_all (all_put taken (put_again qs)) fresh ≡ t
     all_back lost = ap (λ (u : Mapping PageOfKind). freed_all u fresh) parents_back ∙ drawn_back t rising n lost

@@ -6,10 +6,10 @@ use Rattle.std.proofs.lemmas.List.{map-append, take_at}
 use Rattle.index_page.specs.Page.{PageOfKind}
 use Rattle.mapping.specs.FreshPids.{is_among, unused}
 use Rattle.mapping.specs.Proper.{Distinct, AreRisingPids}
-use Rattle.mapping.specs.Table.{Mapping, pids_in_use, place_of, with_rooms, fresh_pids, freed_all}
+use Rattle.mapping.specs.Table.{Mapping, pids_in_use, place_of, with_rooms, fresh_pids, freed_all, IsOldWithoutPlace}
 use Rattle.mapping.proofs.DrawnPlaces.{drawn-away, away-place, freed-back}
 use Rattle.mapping.proofs.PidLaws.{unused-rises, all_among}
-use Rattle.climb_plan.specs.Installing.{AreAway, AreLost}
+use Rattle.climb_plan.specs.Installing.{AreAway}
 use Rattle.climb_plan.specs.Rewriting.{Remade, numbered, numbers}
 
 -- ---- numbers in order
@@ -65,7 +65,7 @@ module _ (t : Mapping PageOfKind) (rising : AreRisingPids (pids_in_use t)) (n : 
       each (m ∷ ms) h = (away-place t rising n m h.0, each ms h.1)
 
   -- to give them back gives the table back
-  pub drawn_back : AreLost t → freed_all rooms fresh ≡ t
+  pub drawn_back : IsOldWithoutPlace t → freed_all rooms fresh ≡ t
   drawn_back lost = freed-back t rooms fresh n rising (drawn-away t rising n) lost
 
 -- ---- of groups

@@ -9,7 +9,7 @@ use Rattle.index_page.specs.Page.{Page, PageOfKind}
 use Rattle.mapping.specs.Levels.{Placed, name, names, pids, top_pid}
 use Rattle.mapping.specs.FreshPids.{unused}
 use Rattle.mapping.specs.Proper.{next_low, AreRisingPids}
-use Rattle.mapping.specs.Table.{Mapping, pids_in_use, with_rooms, fresh_pids, freed_all}
+use Rattle.mapping.specs.Table.{Mapping, pids_in_use, with_rooms, fresh_pids, freed_all, IsOldWithoutPlace}
 use Rattle.mapping.specs.TreeInMemory.{TreeInMemory}
 use Rattle.mapping.proofs.LevelLaws.{same_pids}
 use Rattle.mapping.proofs.TileLaws.{Names, rising-names}
@@ -21,7 +21,7 @@ use Rattle.split_plan.proofs.ChangeLaws.{remade_by, remade_begins}
 use Rattle.climb_plan.specs.Changing.{SeenPage, shown, AreSeen}
 use Rattle.climb_plan.specs.Changing.AreSeen.{worked, at_home}
 use Rattle.climb_plan.specs.Climb.{climb, grown}
-use Rattle.climb_plan.specs.Installing.{AreLost, AreGrown}
+use Rattle.climb_plan.specs.Installing.{AreGrown}
 use Rattle.climb_plan.specs.Level.{IsKind, IsLevel, remade_of, next_tree, IsTopChanged}
 use Rattle.climb_plan.specs.Rewriting.{Remade, is_rewritten_seen, cut_group, CanBeCut, HaveSome, numbered, numbers, named_pages, top_names}
 use Rattle.climb_plan.proofs.BridgeDrawn.{drawn_places}
@@ -125,7 +125,7 @@ pub record IsTopDrawn {V : Type 0} (s : Settings) (of : Page V → PageOfKind) (
   pub some : 0 < length (top_names u.root given)
   pub named : IsRising (top_names u.root given)
   pub rising : AreRisingPids (pids_in_use u.table)
-  pub lost : AreLost u.table
+  pub lost : IsOldWithoutPlace u.table
   pub changed : (after : TreeInMemory) (pid levels : ℕ)
       → ((used : List ℕ) (i : ℕ) (ps : List (Placed ℕ)) → ((m : ℕ) → unused (pids_in_use u.table) m ≡ unused used (i + m)) → names ps ≡ top_names u.root given
       → (pid ≡ top_pid ps (grown (length ps) s used i ps)) × (levels ≡ u.height + length (grown (length ps) s used i ps)) × AreGrown u after (grown (length ps) s used i ps))
@@ -215,7 +215,7 @@ module _ {V : Type 0} (s : Settings) (of : Page V → PageOfKind) (kind : IsKind
         let count : length like_top ≡ length top = sym (length-map like_top name) ∙ ap (λ (ns : Names). length ns) like_named ∙ length-map top name in
         ap (λ (n : ℕ). grown n s used j like_top) count ∙ grown-named (length top) s used j like_top top like_named
 
-    ready_lost : AreLost ready_on_top.table
+    ready_lost : IsOldWithoutPlace ready_on_top.table
     ready_lost = lost_after t.table (with_rooms t.table (fresh_pids (pids_in_use t.table) count_here)) count_here [] (drawn_places count_here t.table h.rising) h.lost
 
     -- levels can grow above it, and with them it is what the plan makes of it

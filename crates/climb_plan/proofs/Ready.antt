@@ -11,7 +11,7 @@ use Rattle.index_page.specs.Page.PageOfKind.{Leaf}
 use Rattle.mapping.specs.Levels.{Placed, names, levels_of}
 use Rattle.mapping.specs.FreshPids.{unused}
 use Rattle.mapping.specs.Proper.{AreRisingPids, IsTrueOf}
-use Rattle.mapping.specs.Table.{Mapping, pids_in_use, place_of}
+use Rattle.mapping.specs.Table.{Mapping, pids_in_use, place_of, IsOldWithoutPlace}
 use Rattle.mapping.specs.Tree.{Logged, Tree, listed_at, page_at}
 use Rattle.mapping.specs.Tree.Logged.{No, Old, Upto}
 use Rattle.mapping.specs.TreeInMemory.{TreeInMemory, AreAllHome, tree_of}
@@ -21,7 +21,6 @@ use Rattle.split_plan.specs.WorkedLevel.{placed_of}
 use Rattle.climb_plan.specs.Changing.{SeenPage}
 use Rattle.climb_plan.specs.Climb.{Climbed, kept}
 use Rattle.climb_plan.specs.HasClimbed.{HasClimbed, CanShrink, HasShrunk}
-use Rattle.climb_plan.specs.Installing.{AreLost}
 use Rattle.climb_plan.specs.Level.{IsLevel}
 use Rattle.climb_plan.specs.Plan.{climbed, planned_tree}
 use Rattle.climb_plan.specs.Ready.{IsReady}
@@ -72,7 +71,7 @@ module _ {A : Type 0} (s : Settings) (fan : 1 < s.fan) (t : Tree) (cs : List (Co
   same_names = keep_names s t cs fan r.proper
 
   -- what the log has of a pid without a place is old
-  ready_lost : AreLost m.table
+  ready_lost : IsOldWithoutPlace m.table
   ready_lost = lost_by m.table t.pages m.table.logged r.in_use (subst (λ (ls : List (ℕ × Logged)). AllByRecursion (λ l. IsTrueOf (page_at t.pages l.0) l.1) ls) (sym r.logged) r.logs.each)
 
   -- they are a level, under the levels of the tree

@@ -15,7 +15,7 @@ use Rattle.mapping.specs.FreshPids.{is_among, unused}
 use Rattle.mapping.specs.Tree.{Logged}
 use Rattle.mapping.specs.Tree.Logged.{Old}
 use Rattle.mapping.specs.Proper.{AreRisingPids, Distinct, Tiled}
-use Rattle.mapping.specs.Table.{Mapping, pids_in_use, place_of, freed_all, with_rooms, fresh_pids}
+use Rattle.mapping.specs.Table.{Mapping, pids_in_use, place_of, freed_all, with_rooms, fresh_pids, IsOldWithoutPlace}
 use Rattle.mapping.specs.TreeInMemory.{TreeInMemory}
 use Rattle.mapping.proofs.PidLaws.{all_among}
 use Rattle.mapping.proofs.TileLaws.{rising-names}
@@ -28,7 +28,7 @@ use Rattle.split_plan.proofs.Renewed.{Renewed}
 use Rattle.split_plan.proofs.Renewed.Renewed.{done as none_drawn, draw}
 use Rattle.climb_plan.specs.Climb.{grown}
 use Rattle.climb_plan.specs.Rewriting.{named_pages}
-use Rattle.climb_plan.specs.Installing.{AreLost, AreAway, AreDrawn, AreGrown, put_under}
+use Rattle.climb_plan.specs.Installing.{AreAway, AreDrawn, AreGrown, put_under}
 use Rattle.climb_plan.proofs.InstalledPages.{at_among}
 use Rattle.climb_plan.proofs.Installing.{tree_under}
 use Rattle.climb_plan.proofs.InstallingLaws.{AreUnder, home-put_under, others-put_under, rising-put_under, logged-put_under, none_joined, none_each, none_behind, each_other}
@@ -39,7 +39,7 @@ abbrev pub tree_less : TreeInMemory → List ℕ → TreeInMemory
 tree_less tree pids = record tree { table = freed_all tree.table pids }
 
 -- the tree as it was before pids were drawn
-pub drawn_back : (tree drawn now : TreeInMemory) (ks all : List ℕ) → AreDrawn tree drawn ks → AreLost tree.table → all ≡ ks → now ≡ tree_less drawn all → now ≡ tree
+pub drawn_back : (tree drawn now : TreeInMemory) (ks all : List ℕ) → AreDrawn tree drawn ks → IsOldWithoutPlace tree.table → all ≡ ks → now ≡ tree_less drawn all → now ≡ tree
 drawn_back tree drawn now ks all d l e n =
     let whole : ℕ → ℕ → Mapping PageOfKind → TreeInMemory = λ r h t. record { table = t; root = r; height = h } in
     n ∙ ap (λ (x : List ℕ). tree_less drawn x) e ∙ ap (λ (t : Mapping PageOfKind). whole drawn.root drawn.height t) (d.back l)
@@ -98,7 +98,7 @@ pub drawn_is : (tree now : TreeInMemory) (n : ℕ) (pids : List ℕ) → pids �
     → (with_rooms tree.table (fresh_pids (pids_in_use tree.table) n)).logged ≡ tree.table.logged
     → AreRisingPids (pids_in_use (with_rooms tree.table (fresh_pids (pids_in_use tree.table) n)))
     → ((m : ℕ) → unused (pids_in_use (with_rooms tree.table (fresh_pids (pids_in_use tree.table) n))) m ≡ unused (pids_in_use tree.table) (n + m))
-    → (AreLost tree.table → freed_all (with_rooms tree.table (fresh_pids (pids_in_use tree.table) n)) (fresh_pids (pids_in_use tree.table) n) ≡ tree.table)
+    → (IsOldWithoutPlace tree.table → freed_all (with_rooms tree.table (fresh_pids (pids_in_use tree.table) n)) (fresh_pids (pids_in_use tree.table) n) ≡ tree.table)
     → AreDrawn tree now pids
 drawn_is tree now n pids e w away others logged rising next back =
     let fresh : List ℕ = fresh_pids (pids_in_use tree.table) n in
@@ -299,7 +299,7 @@ module _ (s : Settings) (ns : List Name) (pages : List PageOfKind) (fresh : List
   still_lost [] a = tt
   still_lost (l ∷ ls) a = (λ h. a.0 (had_none l.0 h), still_lost ls a.1)
 
-  pub drawn_lost : AreLost tree.table → AreLost drawn.table
+  pub drawn_lost : IsOldWithoutPlace tree.table → IsOldWithoutPlace drawn.table
   drawn_lost a = subst (λ (ls : List (ℕ × Logged)). AllByRecursion (λ l. place_of drawn.table l.0 ≡ None → l.1 ≡ Old) ls) (sym is.are_drawn.logged) (still_lost tree.table.logged a)
 
   -- ---- what grows above it

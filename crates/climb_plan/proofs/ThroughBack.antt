@@ -10,7 +10,7 @@ use Rattle.index_page.proofs.ListLaws.{all_apart}
 use Rattle.mapping.specs.FreshPids.{is_among}
 use Rattle.mapping.specs.Levels.{Placed, pids, all_pids}
 use Rattle.mapping.specs.Proper.{Distinct, AreRisingPids}
-use Rattle.mapping.specs.Table.{Mapping, pids_in_use, place_of, with_rooms, fresh_pids, freed_all}
+use Rattle.mapping.specs.Table.{Mapping, pids_in_use, place_of, with_rooms, fresh_pids, freed_all, IsOldWithoutPlace}
 use Rattle.mapping.specs.TreeInMemory.{TreeInMemory}
 use Rattle.mapping.proofs.LevelLaws.{pids-append}
 use Rattle.mapping.proofs.PidLaws.{IsNeverUnused, all_among}
@@ -20,7 +20,7 @@ use Rattle.split_plan.proofs.PidLaws.{distinct_renewed}
 use Rattle.split_plan.specs.Change.{Change, changes, fresh_of}
 use Rattle.split_plan.specs.WorkedLevel.{placed_of}
 use Rattle.climb_plan.specs.Changing.{SeenPage, AreHome, Changing, changing, changing_groups, parents_of}
-use Rattle.climb_plan.specs.Installing.{AreAway, AreLost, all_put, all_taken}
+use Rattle.climb_plan.specs.Installing.{AreAway, all_put, all_taken}
 use Rattle.climb_plan.specs.Level.{IsLevel, IsChanged, parent_pids, remade_of}
 use Rattle.climb_plan.specs.Rewriting.{Remade}
 use Rattle.climb_plan.proofs.BridgeDrawn.{drawn_places}
@@ -157,7 +157,7 @@ module _ {V : Type 0} {of : Page V → PageOfKind} {s : Settings} {t ready : Tre
         subst (λ (rs : List Remade). AreAway back.table (flat_map (λ r. r.fresh) rs)) (sym handed) (fresh_are_away s k.fan of t ready xs l.0 l.1 l.2 l.3 l.4 groups parents l.5 changed back put_back)
 
     pub refused_back : {after : TreeInMemory} → after ≡ record back { table = freed_all back.table (flat_map (λ r. r.fresh) all) }
-        → ((m : Mapping PageOfKind) (n : ℕ) → AreRisingPids (pids_in_use m) → AreLost m → freed_all (with_rooms m (fresh_pids (pids_in_use m) n)) (fresh_pids (pids_in_use m) n) ≡ m) → after ≡ t
+        → ((m : Mapping PageOfKind) (n : ℕ) → AreRisingPids (pids_in_use m) → IsOldWithoutPlace m → freed_all (with_rooms m (fresh_pids (pids_in_use m) n)) (fresh_pids (pids_in_use m) n) ≡ m) → after ≡ t
     refused_back {after = after} r law =
         let n : ℕ = length (fresh_of (changes s l.3 l.4 (changing_groups (changing l.1 l.0)))) in
         let ns : List ℕ = fresh_pids (pids_in_use t.table) n in

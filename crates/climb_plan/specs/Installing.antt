@@ -6,8 +6,7 @@ use Rattle.index_page.specs.Page.PageOfKind.{Leaf, Index}
 use Rattle.mapping.specs.FreshPids.{is_among, unused}
 use Rattle.mapping.specs.Levels.{Placed, pids}
 use Rattle.mapping.specs.Proper.{Distinct, AreRisingPids}
-use Rattle.mapping.specs.Tree.Logged.{Old}
-use Rattle.mapping.specs.Table.{Mapping, pids_in_use, place_of, page_of, with_place, log_outdated, freed, freed_all}
+use Rattle.mapping.specs.Table.{Mapping, pids_in_use, place_of, page_of, with_place, log_outdated, freed, freed_all, IsOldWithoutPlace}
 use Rattle.page_runs.specs.TermWork.{TermHeld}
 use Rattle.climb_plan.specs.Changing.{SeenPage}
 use Rattle.mapping.specs.TreeInMemory.{TreeInMemory}
@@ -99,12 +98,6 @@ abbrev pub CanInstallAll : Mapping PageOfKind → List Remade → Type 0
 CanInstallAll t [] = ⊤
 CanInstallAll t (r ∷ rs) = CanInstall t r × CanInstallAll (group_installed t r) rs
 
--- ---- the log
-
--- of a pid without a place the log has something old at the most
-abbrev pub AreLost : Mapping PageOfKind → Type 0
-AreLost t = AllByRecursion (λ l. place_of t l.0 ≡ None → l.1 ≡ Old) t.logged
-
 -- ---- levels grow
 
 -- pids were drawn: their places are away, and the next that are drawn come behind them; all else of the tree stayed, and to
@@ -117,7 +110,7 @@ pub record AreDrawn (before after : TreeInMemory) (pids : List ℕ) : Type 0 whe
   pub logged : after.table.logged ≡ before.table.logged
   pub root : after.root ≡ before.root
   pub height : after.height ≡ before.height
-  pub back : AreLost before.table → freed_all after.table pids ≡ before.table
+  pub back : IsOldWithoutPlace before.table → freed_all after.table pids ≡ before.table
 
 -- levels of index pages came home, where their pids had no place; all else of the tree stayed
 pub record AreGrown (before after : TreeInMemory) (ls : List (List (Placed ℕ))) : Type 0 where

@@ -8,7 +8,7 @@ use Rattle.index_page.specs.Page.PageOfKind.{Index}
 use Rattle.mapping.specs.Levels.{Placed, pids, all_pids, top_pid}
 use Rattle.mapping.specs.FreshPids.{unused}
 use Rattle.mapping.specs.Proper.{next_low, Tiled, Stacked, Distinct, AreRisingPids}
-use Rattle.mapping.specs.Table.{Mapping, pids_in_use, with_rooms, fresh_pids}
+use Rattle.mapping.specs.Table.{Mapping, pids_in_use, with_rooms, fresh_pids, IsOldWithoutPlace}
 use Rattle.mapping.specs.TreeInMemory.{TreeInMemory}
 use Rattle.page_runs.specs.TermWork.{IndexWorked}
 use Rattle.page_runs.specs.Worked.{Worked}
@@ -18,7 +18,7 @@ use Rattle.split_plan.specs.Terms.{terms}
 use Rattle.split_plan.specs.WorkedLevel.{worked_parents, placed_of}
 use Rattle.climb_plan.specs.Changing.{SeenPage, shown, AreSeen, AreHome, Changing, changing, parents_of, changing_groups, changing_changes}
 use Rattle.climb_plan.specs.Climb.{climb}
-use Rattle.climb_plan.specs.Installing.{AreLost, AreGrown, all_taken}
+use Rattle.climb_plan.specs.Installing.{AreGrown, all_taken}
 use Rattle.climb_plan.specs.Rewriting.{Remade, cut_group, freed_names}
 
 -- ---- kinds
@@ -69,7 +69,7 @@ pub record IsLevel {V : Type 0} (of : Page V → PageOfKind) (t : TreeInMemory) 
   pub old : AllByRecursion (IsNeverUnused used) (all_pids (placed_of ws) ups)
   pub rising : AreRisingPids (pids_in_use t.table)
   pub drawn : (m : ℕ) → unused (pids_in_use t.table) m ≡ unused used (i + m)
-  pub lost : AreLost t.table
+  pub lost : IsOldWithoutPlace t.table
 
 -- the table once so many numbers were drawn, and these pages taken
 abbrev pub drawn_and_taken : Mapping PageOfKind → ℕ → List ℕ → Mapping PageOfKind

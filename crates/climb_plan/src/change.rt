@@ -4,10 +4,10 @@ ghost use Rattle.keys.specs.Lists.{flat};
 ghost use Rattle.keys.specs.Order.{IsRising};
 ghost use Rattle.mapping.specs.FreshPids.{unused};
 ghost use Rattle.mapping.specs.Proper.{AreRisingPids};
-ghost use Rattle.mapping.specs.Table.{pids_in_use, with_rooms, fresh_pids, freed_all};
+ghost use Rattle.mapping.specs.Table.{pids_in_use, with_rooms, fresh_pids, freed_all, IsOldWithoutPlace};
 ghost use Rattle.split_plan.specs.Pieces.{pages_lent};
 ghost use Rattle.climb_plan.specs.Rewriting.{seen_name, all_seen, cut_group, CanBeCut, joined_groups, freed_names, fresh_names, named_pages, HaveSome, numbered, numbers, terms_of, terms_by_parent, CanBeTold};
-ghost use Rattle.climb_plan.specs.Installing.{AreAway, AreLost};
+ghost use Rattle.climb_plan.specs.Installing.{AreAway};
 
 use crate::seen::Seen;
 use crew::work_all;
@@ -156,7 +156,7 @@ fn names_of(alloc: Global, pages: &[Seen<'_>]) -> Result<Vec<Name>, AllocError>
 pub(crate) fn draw_all(tree: &mut Tree<Global>, all: &mut [Rewritten]) -> Result<(), AllocError>
     requires some { HaveSome all.old }
     requires rising { AreRisingPids (pids_in_use tree.old.table) }
-    requires logs { AreLost tree.old.table }
+    requires logs { IsOldWithoutPlace tree.old.table }
     ensures numbers { OnOk result ((used : List ℕ) (i : ℕ) → ((m : ℕ) → unused (pids_in_use tree.old.table) m ≡ unused used (i + m)) → all.new ≡ numbered used i all.old) }
     ensures tree { OnOk result (tree.new ≡ record tree.old { table = with_rooms tree.old.table (fresh_pids (pids_in_use tree.old.table) (numbers all.old)) }) }
     ensures err { OnErr result (tree.new ≡ tree.old) }

@@ -4,10 +4,10 @@ ghost use Rattle.keys.specs.Order.{IsRising};
 ghost use Rattle.mapping.specs.Levels.{Placed, names, top_pid};
 ghost use Rattle.mapping.specs.FreshPids.{unused};
 ghost use Rattle.mapping.specs.Proper.{AreRisingPids};
-ghost use Rattle.mapping.specs.Table.{pids_in_use, fresh_pids};
+ghost use Rattle.mapping.specs.Table.{pids_in_use, fresh_pids, IsOldWithoutPlace};
 ghost use Rattle.climb_plan.specs.Climb.{grown};
 ghost use Rattle.climb_plan.specs.Rewriting.{named_pages};
-ghost use Rattle.climb_plan.specs.Installing.{AreLost, AreDrawn, AreGrown};
+ghost use Rattle.climb_plan.specs.Installing.{AreDrawn, AreGrown};
 ghost use Rattle.climb_plan.specs.declared.refused.Refused.TheVariants.{TooHigh};
 
 use crate::change::free_all;
@@ -38,7 +38,7 @@ pub(crate) fn grow(
     requires some { 0 < length below.now }
     requires named { IsRising below.now }
     requires rising { AreRisingPids (pids_in_use tree.old.table) }
-    requires logs { AreLost tree.old.table }
+    requires logs { IsOldWithoutPlace tree.old.table }
     requires height { height ≤ 64 }
     ensures grown { (used : List ℕ) (i : ℕ) (ps : List (Placed ℕ)) → ((m : ℕ) → unused (pids_in_use tree.old.table) m ≡ unused used (i + m)) → names ps ≡ below.now →
         IfOk result (λ top. (top.0 ≡ top_pid ps (grown (length ps) settings.now used i ps)) × (top.1 ≡ height + length (grown (length ps) settings.now used i ps))
@@ -76,7 +76,7 @@ fn draw_names(
     pages: &[Page<Global>],
 ) -> Result<(Vec<u64>, Vec<Name>), AllocError>
     requires rising { AreRisingPids (pids_in_use tree.old.table) }
-    requires logs { AreLost tree.old.table }
+    requires logs { IsOldWithoutPlace tree.old.table }
     ensures pids { IfOk result (λ drawn. drawn.0.items ≡ fresh_pids (pids_in_use tree.old.table) (length pages.now)) }
     ensures names { IfOk result (λ drawn. drawn.1.items ≡ named_pages pages.now drawn.0.items) }
     ensures drawn { IfOk result (λ drawn. AreDrawn tree.old tree.new drawn.0.items) }

@@ -5,11 +5,11 @@ ghost use Rattle.keys.specs.Order.{IsRising};
 ghost use Rattle.mapping.specs.FreshPids.{unused};
 ghost use Rattle.mapping.specs.Levels.{Placed, names, top_pid};
 ghost use Rattle.mapping.specs.Proper.{AreRisingPids};
-ghost use Rattle.mapping.specs.Table.{pids_in_use};
+ghost use Rattle.mapping.specs.Table.{pids_in_use, IsOldWithoutPlace};
 ghost use Rattle.page_runs.specs.Worked.{Worked};
 ghost use Rattle.climb_plan.specs.Climb.{climb, grown};
 ghost use Rattle.climb_plan.specs.HasClimbed.{HasClimbed};
-ghost use Rattle.climb_plan.specs.Installing.{AreLost, AreGrown};
+ghost use Rattle.climb_plan.specs.Installing.{AreGrown};
 ghost use Rattle.climb_plan.specs.Level.{IsLevel, IsTopChanged};
 ghost use Rattle.climb_plan.specs.Rewriting.{is_rewritten_seen, cut_group, CanBeCut, top_names};
 ghost use Rattle.climb_plan.specs.declared.refused.Refused.TheVariants.{TooHigh};
@@ -117,7 +117,7 @@ fn grow_above(
     requires some { 0 < length (top_names tree.old.root groups.now) }
     requires named { IsRising (top_names tree.old.root groups.now) }
     requires rising { AreRisingPids (pids_in_use tree.old.table) }
-    requires logs { AreLost tree.old.table }
+    requires logs { IsOldWithoutPlace tree.old.table }
     requires height { tree.old.height ≤ 64 }
     ensures grown { (used : List ℕ) (i : ℕ) (ps : List (Placed ℕ)) → ((m : ℕ) → unused (pids_in_use tree.old.table) m ≡ unused used (i + m)) → names ps ≡ top_names tree.old.root groups.now →
         IfOk result (λ top. (top.0 ≡ top_pid ps (grown (length ps) settings.now used i ps)) × (top.1 ≡ tree.old.height + length (grown (length ps) settings.now used i ps))
