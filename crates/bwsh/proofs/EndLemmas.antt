@@ -17,9 +17,9 @@ use Rattle.bwsh.specs.declared.batch_file.Order.{Order}
 use Rattle.bwsh.specs.declared.session.Ending.{Ending}
 use Rattle.bwsh.specs.declared.session.Ending.TheVariants.{Words, Bad, Device}
 use Rattle.bwsh.specs.declared.session.Ending.TheVariants as endings
-use Rattle.bwsh.specs.BatchFile.{said_by, first_bad, orders_of}
+use Rattle.bwsh.specs.BatchFile.{text_says, first_bad, orders_of}
 use Rattle.bwsh.specs.Session.{status_of_end, refusal_of, tree_behind, map_behind, own_lines, answer_lines, printed_by, accepted, orders_end, first_refusal, stopped_by, hindered_by, hindrance, end_after, lines_after, session_end, session_lines, IsReadEnding, IsForWords, BeginsWith, Prints, PrintsOneText, Runs, Answers, EndsBy}
-use Rattle.bwsh.specs.Options.{Tells, AsksForHelp, AreRefused, is_refusal, IsRightKind}
+use Rattle.bwsh.specs.Options.{AsksForSettings, AsksForHelp, AreRefused, is_refusal, IsRightKind}
 use Rattle.clap.specs.declared.error.kind.ErrorKind.{ErrorKind}
 use Rattle.clap.specs.declared.error.kind.ErrorKind.TheVariants.{DisplayHelp, OutOfMemory}
 use Rattle.bwsh.proofs.Prints.{front-more, front-trans, front-flat, Prints-front, Prints-flushed, IfSome-known}
@@ -79,27 +79,27 @@ module _ (settings : Settings) (old new : Option (List ℕ)) (orders : List Orde
       subst (λ (os : List Order). Prints old new (answer_lines settings first_tree [] (accepted settings first_tree os)) (orders_end settings first_tree os) end) e_ran p3
 
 module _ (settings : Settings) (known old : Option (List ℕ)) (text : List ℕ) (is_known : IfSome known (λ bytes. text ≡ bytes)) where
-  pub Answers-unread : (early : Ending) → IsReadEnding (first_bad 1 (said_by text)) early → Answers settings known old old (Err early)
+  pub Answers-unread : (early : Ending) → IsReadEnding (first_bad 1 (text_says text)) early → Answers settings known old old (Err early)
   unfolding Answers
   Answers-unread early h =
-      (text, is_known, Prints-early_end settings old old (orders_of [] (said_by text)) (hindrance settings text) early (early_read (first_bad 1 (said_by text)) (first_bad_field settings) early h))
+      (text, is_known, Prints-early_end settings old old (orders_of [] (text_says text)) (hindrance settings text) early (early_read (first_bad 1 (text_says text)) (first_bad_field settings) early h))
 
-  module _ (no_bad : first_bad 1 (said_by text) ≡ None) {T : Type 0} (result : Result T Fault)
+  module _ (no_bad : first_bad 1 (text_says text) ≡ None) {T : Type 0} (result : Result T Fault)
       (created : MatchOption (first_bad_field settings) (IsOkUnless result NoMemory) (λ f. result ≡ Err (BadSettings f))) where
     pub Answers-uncreated : (fault : Fault) → result ≡ Err fault → Answers settings known old old (Err (endings.Fault fault))
     unfolding Answers
     Answers-uncreated fault e =
         let early = subst (λ (b : Option (ℕ × Why)). IsEarly (hindered_by b (first_bad_field settings)) (endings.Fault fault)) (sym no_bad) (early_created (first_bad_field settings) fault result e created) in
-        (text, is_known, Prints-early_end settings old old (orders_of [] (said_by text)) (hindrance settings text) (endings.Fault fault) early)
+        (text, is_known, Prints-early_end settings old old (orders_of [] (text_says text)) (hindrance settings text) (endings.Fault fault) early)
 
     pub Answers-run : (store : T) (mid new : Option (List ℕ)) (of_store : Settings) (tree : Tree) (ran items : List Order) (done end : Result (Unit {0}) Ending) → result ≡ Ok store
-        → of_store ≡ settings → tree ≡ first_tree → contents tree ≡ [] → ran ≡ items → items ≡ orders_of [] (said_by text) → Runs of_store tree ran old mid done
+        → of_store ≡ settings → tree ≡ first_tree → contents tree ≡ [] → ran ≡ items → items ≡ orders_of [] (text_says text) → Runs of_store tree ran old mid done
         → Keeps mid new → (end ≡ done) ⊎ (end ≡ Err Device) → Answers settings known old new end
     unfolding Answers
     Answers-run store mid new of_store tree ran items done end e e_settings e_tree e_contents e_ran e_items p kept ended =
-        let orders = orders_of [] (said_by text) in
+        let orders = orders_of [] (text_says text) in
         let own = Runs-first settings old mid orders of_store tree ran done e_settings e_tree e_contents (e_ran ∙ e_items) p in
-        let printed = Prints-run settings old mid orders (first_bad 1 (said_by text)) (first_bad_field settings) done no_bad (right_settings (first_bad_field settings) store result e created) own in
+        let printed = Prints-run settings old mid orders (first_bad 1 (text_says text)) (first_bad_field settings) done no_bad (right_settings (first_bad_field settings) store result e created) own in
         (text, is_known, Prints-flushed old mid new (session_lines settings text) (session_end settings text) done end printed kept ended)
 
 -- ---- what follows from the end
@@ -168,30 +168,30 @@ module _ (settings : Settings) where
 -- ---- what follows of a session whose words tell settings
 
 module _ (settings : Settings) (known old new : Option (List ℕ)) where
-  told_done : (done : Unit {0}) → Answers settings known old new (Ok done) → IfSome known (λ text. (first_bad 1 (said_by text) ≡ None) × Appends old new (printed_by settings text))
+  told_done : (done : Unit {0}) → Answers settings known old new (Ok done) → IfSome known (λ text. (first_bad 1 (text_says text) ≡ None) × Appends old new (printed_by settings text))
   unfolding Answers
   told_done done (text, is_known, p) =
-      IfSome-known known text (λ (t : List ℕ). (first_bad 1 (said_by t) ≡ None) × Appends old new (printed_by settings t)) is_known (by p) where
-        by : Prints old new (session_lines settings text) (session_end settings text) (Ok done) → (first_bad 1 (said_by text) ≡ None) × Appends old new (printed_by settings text)
+      IfSome-known known text (λ (t : List ℕ). (first_bad 1 (text_says t) ≡ None) × Appends old new (printed_by settings t)) is_known (by p) where
+        by : Prints old new (session_lines settings text) (session_end settings text) (Ok done) → (first_bad 1 (text_says text) ≡ None) × Appends old new (printed_by settings text)
         by (inl (e, a)) =
-            let (none, lines) = done_right settings (orders_of [] (said_by text)) (first_bad 1 (said_by text)) (first_bad_field settings) done e in
+            let (none, lines) = done_right settings (orders_of [] (text_says text)) (first_bad 1 (text_says text)) (first_bad_field settings) done e in
             (none, subst (λ (l : List (List ℕ)). Appends old new (flat l)) lines a)
         by (inr (inl (e, q))) = absurd (cc)
         by (inr (inr (e, q))) = absurd (cc)
 
-  told_bad : (line : ℕ) (why : Why) → Answers settings known old new (Err (Bad line why)) → Appends old new [] × IfSome known (λ text. first_bad 1 (said_by text) ≢ None)
+  told_bad : (line : ℕ) (why : Why) → Answers settings known old new (Err (Bad line why)) → Appends old new [] × IfSome known (λ text. first_bad 1 (text_says text) ≢ None)
   unfolding Answers
   told_bad line why (text, is_known, p) = by p where
-    by : Prints old new (session_lines settings text) (session_end settings text) (Err (Bad line why)) → Appends old new [] × IfSome known (λ t. first_bad 1 (said_by t) ≢ None)
+    by : Prints old new (session_lines settings text) (session_end settings text) (Err (Bad line why)) → Appends old new [] × IfSome known (λ t. first_bad 1 (text_says t) ≢ None)
     by (inl (e, a)) =
-        let (some, lines) = bad_right settings (orders_of [] (said_by text)) (first_bad 1 (said_by text)) (first_bad_field settings) line why e in
-        (subst (λ (l : List (List ℕ)). Appends old new (flat l)) lines a, IfSome-known known text (λ (t : List ℕ). first_bad 1 (said_by t) ≢ None) is_known some)
+        let (some, lines) = bad_right settings (orders_of [] (text_says text)) (first_bad 1 (text_says text)) (first_bad_field settings) line why e in
+        (subst (λ (l : List (List ℕ)). Appends old new (flat l)) lines a, IfSome-known known text (λ (t : List ℕ). first_bad 1 (text_says t) ≢ None) is_known some)
     by (inr (inl (e, q))) = absurd (cc)
     by (inr (inr (e, q))) = absurd (cc)
 
   told_words : (error : Error) → Answers settings known old new (Err (Words error)) → ⊥
   unfolding Answers
-  told_words error (text, is_known, inl (e, a)) = words_right settings (orders_of [] (said_by text)) (first_bad 1 (said_by text)) (first_bad_field settings) error e
+  told_words error (text, is_known, inl (e, a)) = words_right settings (orders_of [] (text_says text)) (first_bad 1 (text_says text)) (first_bad_field settings) error e
   told_words error (text, is_known, inr (inl (e, q))) = cc
   told_words error (text, is_known, inr (inr (e, q))) = cc
 
@@ -199,7 +199,7 @@ module _ (settings : Settings) (known old new : Option (List ℕ)) where
       → IfSome known (λ text. (front : List ℕ) × BeginsWith (printed_by settings text) front × Appends old new front)
   unfolding Answers
   told_front end (text, is_known, p) =
-      let orders = orders_of [] (said_by text) in
+      let orders = orders_of [] (text_says text) in
       let (front, begins, a) = Prints-front old new (session_lines settings text) (session_end settings text) end p in
       let whole = front-trans (printed_by settings text) (flat (session_lines settings text)) front (front-flat (answer_lines settings first_tree [] orders) (session_lines settings text) (front_right settings orders (hindrance settings text))) begins in
       IfSome-known known text (λ (t : List ℕ). (f : List ℕ) × BeginsWith (printed_by settings t) f × Appends old new f) is_known (front, whole, a)
@@ -209,13 +209,13 @@ module _ (settings : Settings) (known old new : Option (List ℕ)) where
 -- the words ask for help, or tell settings and all that the text orders under these is printed
 abbrev IsAllDone : List (List ℕ) → Option (List ℕ) → Option (List ℕ) → Option (List ℕ) → Type 0
 IsAllDone words known old new =
-    AsksForHelp words ⊎ ((settings : Settings) × Tells words settings × IfSome known (λ text. (first_bad 1 (said_by text) ≡ None) × Appends old new (printed_by settings text)))
+    AsksForHelp words ⊎ ((settings : Settings) × AsksForSettings words settings × IfSome known (λ text. (first_bad 1 (text_says text) ≡ None) × Appends old new (printed_by settings text)))
 
 -- the words ask for help, or nothing is printed, or they tell settings and a beginning of what the text orders under these is printed
 abbrev HasBegun : List (List ℕ) → Option (List ℕ) → Option (List ℕ) → Option (List ℕ) → Type 0
 HasBegun words known old new =
     AsksForHelp words ⊎ Appends old new []
-    ⊎ ((settings : Settings) × Tells words settings × IfSome known (λ text. (front : List ℕ) × BeginsWith (printed_by settings text) front × Appends old new front))
+    ⊎ ((settings : Settings) × AsksForSettings words settings × IfSome known (λ text. (front : List ℕ) × BeginsWith (printed_by settings text) front × Appends old new front))
 
 pub status-one : (end : Result (Unit {0}) Ending) (status : ℕ) → status ≡ status_of_end end → (status ≡ 0) ⊎ (status ≡ 2) ⊎ (status ≡ 3) ⊎ (status ≡ 4)
 status-one (Ok done) status e = inl e
@@ -277,7 +277,7 @@ module _ (words : List (List ℕ)) (known old new : Option (List ℕ)) (unread u
   done_end (Ok done) s (inr (inr (not_read, not_touched, inr e))) = absurd (cc)
 
   bad_end : (end : Result (Unit {0}) Ending) → status_of_end end ≡ 3 → EndsBy words known old new unread untouched end
-      → Appends old new [] × IfSome known (λ text. first_bad 1 (said_by text) ≢ None)
+      → Appends old new [] × IfSome known (λ text. first_bad 1 (text_says text) ≢ None)
   bad_end (Ok done) s p = absurd (omega arith)
   bad_end (Err (Words error)) s p = absurd (omega arith)
   bad_end (Err (endings.Fault fault)) s p = absurd (omega arith)
@@ -300,7 +300,7 @@ pub record Follows (words : List (List ℕ)) (known old new : Option (List ℕ))
   pub refused : (status ≡ 2) ↔ (AreRefused words × (status ≢ 4))
   pub untouched_is : AreRefused words → unread × untouched
   pub done : status ≡ 0 → IsAllDone words known old new
-  pub bad : status ≡ 3 → Appends old new [] × IfSome known (λ text. first_bad 1 (said_by text) ≢ None)
+  pub bad : status ≡ 3 → Appends old new [] × IfSome known (λ text. first_bad 1 (text_says text) ≢ None)
   pub beginning : HasBegun words known old new
 
 pub all_follows : (words : List (List ℕ)) (known old new : Option (List ℕ)) (unread untouched : Type 0) (status : ℕ) (end : Result (Unit {0}) Ending) → status ≡ status_of_end end

@@ -23,7 +23,7 @@ use Rattle.bwsh.specs.declared.batch_file.Order.{Order}
 use Rattle.bwsh.specs.declared.batch_file.Order.TheVariants.{Batch, Verify}
 use Rattle.bwsh.specs.declared.session.Ending.{Ending}
 use Rattle.bwsh.specs.declared.session.Ending.TheVariants as endings
-use Rattle.bwsh.specs.Session.{refusal_of, tree_behind, map_behind, own_lines, answer_lines, accepted, orders_end, Prints, Runs, Leaves}
+use Rattle.bwsh.specs.Session.{refusal_of, tree_behind, map_behind, own_lines, answer_lines, accepted, orders_end, Prints, Runs, LeavesTree}
 use Rattle.bwsh.specs.Shown.{shown_reply, shown_report}
 use Rattle.bwsh.proofs.Prints.{Prints-all, Prints-behind, Prints-early}
 
@@ -115,7 +115,7 @@ module _ (settings : Settings) (tree : Tree) (order : Order) (old new : Option (
   Runs-stops rest early p = stops_by rest early (refusal_of settings tree order) refl p
 
   -- all of it is done: what the rest prints is behind it
-  pub Runs-goes_on : (rest : List Order) (after : Tree) (last : Option (List ℕ)) (done : Unit {0}) (end : Result (Unit {0}) Ending) → Leaves settings tree order after
+  pub Runs-goes_on : (rest : List Order) (after : Tree) (last : Option (List ℕ)) (done : Unit {0}) (end : Result (Unit {0}) Ending) → LeavesTree settings tree order after
       → Runs settings tree (order ∷ []) old new (Ok done) → Runs settings after rest new last end → Runs settings tree (order ∷ rest) old last end
   unfolding Runs
   Runs-goes_on rest after last done end (none, is, map_is) p q =
@@ -156,8 +156,8 @@ module _ {T : Type 0} (settings : Settings) (tree after : Tree) (order : Order) 
     unfolding tree_behind
     tree_is = planned
 
-    pub Leaves-answered : contents after ≡ map_after_all (contents tree) commands → Leaves settings tree order after
-    Leaves-answered e = subst (λ (o : Order). Leaves settings tree o after) (sym order_is) (none, tree_is, e)
+    pub LeavesTree-answered : contents after ≡ map_after_all (contents tree) commands → LeavesTree settings tree order after
+    LeavesTree-answered e = subst (λ (o : Order). LeavesTree settings tree o after) (sym order_is) (none, tree_is, e)
 
 -- ---- what a verify answers
 
@@ -180,8 +180,8 @@ module _ (settings : Settings) (tree : Tree) (order : Order) (order_is : order �
   unfolding tree_behind
   unmoved = refl
 
-  pub Leaves-verified : Leaves settings tree order tree
-  Leaves-verified = subst (λ (o : Order). Leaves settings tree o tree) (sym order_is) (never_refused, unmoved, refl)
+  pub LeavesTree-verified : LeavesTree settings tree order tree
+  LeavesTree-verified = subst (λ (o : Order). LeavesTree settings tree o tree) (sym order_is) (never_refused, unmoved, refl)
 
 -- ---- orders one after the other
 
@@ -203,8 +203,8 @@ module _ (settings : Settings) (first tree : Tree) (orders left : List Order) (o
         let p2 = subst (λ (s : Settings). Runs s tree (order ∷ []) now new (Err early)) same p in
         leads new (Err early) (subst (λ (l : List Order). Runs settings tree l now new (Err early)) (sym is) (Runs-stops settings tree order now new rest early p2))
 
-    pub Leads-goes_on : (after : Tree) (done : Unit {0}) → Leaves of_store tree order after → Runs of_store tree (order ∷ []) now new (Ok done) → Leads settings first orders old after rest new
+    pub Leads-goes_on : (after : Tree) (done : Unit {0}) → LeavesTree of_store tree order after → Runs of_store tree (order ∷ []) now new (Ok done) → Leads settings first orders old after rest new
     Leads-goes_on after done leaves p last end q =
-        let leaves2 = subst (λ (s : Settings). Leaves s tree order after) same leaves in
+        let leaves2 = subst (λ (s : Settings). LeavesTree s tree order after) same leaves in
         let p2 = subst (λ (s : Settings). Runs s tree (order ∷ []) now new (Ok done)) same p in
         leads last end (subst (λ (l : List Order). Runs settings tree l now last end) (sym is) (Runs-goes_on settings tree order now new rest after last done end leaves2 p2 q))

@@ -8,7 +8,7 @@ use Rattle.std.proofs.lemmas.Bool.{and_parts}
 use Rattle.std.proofs.lemmas.Bool.Decides.{nat_tests}
 use Rattle.std.proofs.lemmas.List.Elements.{recursion_from_All, All-from_recursion}
 use Rattle.std.proofs.lemmas.List.Splits.{slice_split_none}
-use Rattle.bwsh.specs.Token.{hex_value, stands_for_itself, hex_byte, in_front, unescaped, token_bytes, hex_digit, shown_byte, shown_token}
+use Rattle.bwsh.specs.Token.{hex_value, stands_for_itself, hex_byte, byte_in_front, unescaped, token_bytes, hex_digit, shown_byte, shown_token}
 use Rattle.bwsh.specs.Words.{is_blank, words_of}
 
 digit_of_digit : (n : ℕ) → n < 16 → digit_value (hex_digit n) ≡ n
@@ -21,7 +21,7 @@ digit_is_read n h = rw (digit_of_digit n h) (grind (arith, nat_tests))
 self_is : (b : ℕ) → stands_for_itself b ≡ true → (eqb b 37 ≡ false) × (33 ≤ b) × (b ≤ 126)
 self_is b h = grind (arith, nat_tests)
 
-front_self : (b : ℕ) (cs : List ℕ) → stands_for_itself b ≡ true → unescaped (b ∷ cs) ≡ in_front (Some b) (unescaped cs)
+front_self : (b : ℕ) (cs : List ℕ) → stands_for_itself b ≡ true → unescaped (b ∷ cs) ≡ byte_in_front (Some b) (unescaped cs)
 front_self b [] h = rw h refl
 front_self b (d ∷ []) h = rw h refl
 front_self b (d ∷ e ∷ cs) h = rw (h, (self_is b h).0) refl
@@ -31,7 +31,7 @@ pub unescaped-plain : (cs : List ℕ) → list_all stands_for_itself cs ≡ true
 unescaped-plain [] h = refl
 unescaped-plain (c ∷ cs) h =
     let (own, others) = and_parts (stands_for_itself c) (list_all stands_for_itself cs) h in
-    front_self c cs own ∙ ap (in_front (Some c)) (unescaped-plain cs others)
+    front_self c cs own ∙ ap (byte_in_front (Some c)) (unescaped-plain cs others)
 
 hex_is_read : (b : ℕ) → b < 256 → hex_byte (hex_digit (b / 16)) (hex_digit (b % 16)) ≡ Some b
 hex_is_read b h =
@@ -40,13 +40,13 @@ hex_is_read b h =
     let whole : 16 * (b / 16) + b % 16 ≡ b = omega arith in
     rw (digit_is_read (b / 16) high, digit_is_read (b % 16) low) (ap Some whole)
 
-front_by : (t : Bool) (b : ℕ) (cs : List ℕ) → stands_for_itself b ≡ t → b < 256 → unescaped (shown_byte b ++ cs) ≡ in_front (Some b) (unescaped cs)
+front_by : (t : Bool) (b : ℕ) (cs : List ℕ) → stands_for_itself b ≡ t → b < 256 → unescaped (shown_byte b ++ cs) ≡ byte_in_front (Some b) (unescaped cs)
 front_by true b cs h l = rw h (front_self b cs h)
 front_by false b cs h l = rw (h, hex_is_read b l) refl
 
 unescaped-shown : (bs : List ℕ) → AllByRecursion (λ b. b < 256) bs → unescaped (flat_map shown_byte bs) ≡ Some bs
 unescaped-shown [] a = refl
-unescaped-shown (b ∷ bs) a = front_by (stands_for_itself b) b (flat_map shown_byte bs) refl a.0 ∙ ap (in_front (Some b)) (unescaped-shown bs a.1)
+unescaped-shown (b ∷ bs) a = front_by (stands_for_itself b) b (flat_map shown_byte bs) refl a.0 ∙ ap (byte_in_front (Some b)) (unescaped-shown bs a.1)
 
 -- the text of some bytes is neither empty nor the percent sign alone
 token_by : (t : Bool) (b : ℕ) (cs : List ℕ) → stands_for_itself b ≡ t → token_bytes (shown_byte b ++ cs) ≡ unescaped (shown_byte b ++ cs)

@@ -3,10 +3,10 @@ use Rattle.std.proofs.Common.{◌≡◌, ℕ, true, false, List, [], ◌∷◌, 
 use Rattle.std.specs.List.{list_all, flat_map}
 use Rattle.std.proofs.lemmas.Bool.{and_parts}
 use Rattle.std.specs.Str.{bytes_eq}
-use Rattle.bwsh.specs.Token.{percent, in_front, with_front, unescaped, token_bytes, stands_for_itself, shown_byte, shown_token}
+use Rattle.bwsh.specs.Token.{percent, byte_in_front, with_front, unescaped, token_bytes, stands_for_itself, shown_byte, shown_token}
 
 -- one more byte in front
-pub with_front_more : (front : List ℕ) (b : ℕ) (bs : Option (List ℕ)) → with_front (front ++ b ∷ []) bs ≡ with_front front (in_front (Some b) bs)
+pub with_front_more : (front : List ℕ) (b : ℕ) (bs : Option (List ℕ)) → with_front (front ++ b ∷ []) bs ≡ with_front front (byte_in_front (Some b) bs)
 with_front_more front b None = refl
 with_front_more front b (Some xs) = ap Some (append_assoc front (b ∷ []) xs)
 

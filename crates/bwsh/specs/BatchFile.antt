@@ -18,8 +18,8 @@ abbrev pub lines : List ℕ → List (List ℕ)
 lines text = map without_terminator (lines_of text)
 
 -- what the lines of a text say
-abbrev pub said_by : List ℕ → List Says
-said_by text = map line_says (lines text)
+abbrev pub text_says : List ℕ → List Says
+text_says text = map line_says (lines text)
 
 -- the number of the first bad line, and what is wrong with it, where the first of these lines has the number n
 abbrev pub first_bad : ℕ → List Says → Option (ℕ × Why)
@@ -41,9 +41,9 @@ orders_of pending (says.Verify ∷ rest) = last_order pending ++ Verify ∷ orde
 orders_of pending (_ ∷ rest) = orders_of pending rest
 
 -- the fault tells of the first bad line, or that memory was refused
-abbrev pub Tells : List Says → TextFault → Type 0
-Tells says (faults.Bad n why) = first_bad 1 says ≡ Some (n, why)
-Tells says faults.Memory = Unit {0}
+abbrev pub IsRightFault : List Says → TextFault → Type 0
+IsRightFault says (faults.Bad n why) = first_bad 1 says ≡ Some (n, why)
+IsRightFault says faults.Memory = Unit {0}
 
 -- the commands of an order
 abbrev pub commands_of : Order → List (Command Global)

@@ -32,9 +32,9 @@ key_and_value (key ∷ value ∷ []) = ok_or (option_zip (token_bytes key) (toke
 key_and_value _ = Err WordCount
 
 -- what is said where a command is made of this, or where this is what is wrong
-abbrev pub said : {X : Type 0} → (X → Command Global) → Result X Why → Says
-said command (Ok x) = Says.Command (command x)
-said command (Err why) = Bad why
+abbrev pub command_or_bad : {X : Type 0} → (X → Command Global) → Result X Why → Says
+command_or_bad command (Ok x) = Says.Command (command x)
+command_or_bad command (Err why) = Bad why
 
 -- the upper bound that a token stands for, if it is one: the star alone is no bound
 abbrev pub bound_of : List ℕ → Option (Option (List ℕ))
@@ -67,10 +67,10 @@ order_says word behind =
 -- what is said by this word and those behind it
 abbrev pub command_says : List ℕ → List (List ℕ) → Says
 command_says word behind =
-    if bytes_eq word (codes "put") then said (λ (k, v). Put k v) (key_and_value behind) else (
-    if bytes_eq word (codes "add") then said (λ (k, v). Add k v) (key_and_value behind) else (
-    if bytes_eq word (codes "get") then said Get (only_key behind) else (
-    if bytes_eq word (codes "del") then said Del (only_key behind) else (
+    if bytes_eq word (codes "put") then command_or_bad (λ (k, v). Put k v) (key_and_value behind) else (
+    if bytes_eq word (codes "add") then command_or_bad (λ (k, v). Add k v) (key_and_value behind) else (
+    if bytes_eq word (codes "get") then command_or_bad Get (only_key behind) else (
+    if bytes_eq word (codes "del") then command_or_bad Del (only_key behind) else (
     if bytes_eq word (codes "scan") then scan_says behind else
     order_says word behind))))
 

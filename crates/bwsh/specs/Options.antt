@@ -125,8 +125,8 @@ settings_of given = record {
 }
 
 -- the words ask for these settings
-abbrev pub Tells : List Text → Settings → Type 0
-Tells words s = (given : Given) × (asked words ≡ settings given) × (s ≡ settings_of given)
+abbrev pub AsksForSettings : List Text → Settings → Type 0
+AsksForSettings words s = (given : Given) × (asked words ≡ settings given) × (s ≡ settings_of given)
 
 -- the words ask for help
 abbrev pub AsksForHelp : List Text → Type 0

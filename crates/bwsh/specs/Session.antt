@@ -23,9 +23,9 @@ use Rattle.bwsh.specs.declared.batch_file.TextFault.TheVariants as faults
 use Rattle.bwsh.specs.declared.session.Ending.{Ending}
 use Rattle.bwsh.specs.declared.session.Ending.TheVariants.{Words, Bad, Device}
 use Rattle.bwsh.specs.declared.session.Ending.TheVariants as endings
-use Rattle.bwsh.specs.BatchFile.{said_by, first_bad, orders_of}
+use Rattle.bwsh.specs.BatchFile.{text_says, first_bad, orders_of}
 use Rattle.bwsh.specs.Line.{why_text}
-use Rattle.bwsh.specs.Options.{Tells, AsksForHelp, AreRefused}
+use Rattle.bwsh.specs.Options.{AsksForSettings, AsksForHelp, AreRefused}
 use Rattle.bwsh.specs.Shown.{shown_reply, shown_report}
 
 -- the exit status of a session that ends before all is done
@@ -89,7 +89,7 @@ printed settings tree m orders = flat (answer_lines settings tree m orders)
 
 -- all that the orders of a text print on a new store of these settings, were each accepted
 abbrev pub printed_by : Settings → List ℕ → List ℕ
-printed_by settings text = printed settings first_tree [] (orders_of [] (said_by text))
+printed_by settings text = printed settings first_tree [] (orders_of [] (text_says text))
 
 -- why a store of these settings and this tree refuses the order by its right, if it does
 unfoldable pub refusal_of : Settings → Tree → Order → Option Fault
@@ -122,7 +122,7 @@ hindered_by None field = option_map (λ f. endings.Fault (BadSettings f)) field
 
 -- why no order of this text is run under these settings, if none is: a bad line, and else settings that are refused
 abbrev pub hindrance : Settings → List ℕ → Option Ending
-hindrance settings text = hindered_by (first_bad 1 (said_by text)) (first_bad_field settings)
+hindrance settings text = hindered_by (first_bad 1 (text_says text)) (first_bad_field settings)
 
 -- how a session ends by its right where this hinders it, if anything does, and else these orders are run
 abbrev pub end_after : Settings → Option Ending → List Order → Result (Unit {0}) Ending
@@ -136,11 +136,11 @@ lines_after settings None orders = answer_lines settings first_tree [] (accepted
 
 -- how a session on this text ends by its right
 abbrev pub session_end : Settings → List ℕ → Result (Unit {0}) Ending
-session_end settings text = end_after settings (hindrance settings text) (orders_of [] (said_by text))
+session_end settings text = end_after settings (hindrance settings text) (orders_of [] (text_says text))
 
 -- the lines that a session on this text prints by its right
 abbrev pub session_lines : Settings → List ℕ → List (List ℕ)
-session_lines settings text = lines_after settings (hindrance settings text) (orders_of [] (said_by text))
+session_lines settings text = lines_after settings (hindrance settings text) (orders_of [] (text_says text))
 
 -- a session whose text has this first bad line, if it has one, can end so before anything is run
 abbrev pub IsReadEnding : Option (ℕ × Why) → Ending → Type 0
@@ -169,8 +169,8 @@ Prints old new lines right end =
     ⊎ ((end ≡ Err Device) × ((front : List ℕ) × BeginsWith (flat lines) front × Appends old new front))
 
 -- the order is accepted, and leaves this tree with its map
-abbrev pub Leaves : Settings → Tree → Order → Tree → Type 0
-Leaves settings tree order after = (refusal_of settings tree order ≡ None) × (after ≡ tree_behind settings tree order) × (contents after ≡ map_behind (contents tree) order)
+abbrev pub LeavesTree : Settings → Tree → Order → Tree → Type 0
+LeavesTree settings tree order after = (refusal_of settings tree order ≡ None) × (after ≡ tree_behind settings tree order) × (contents after ≡ map_behind (contents tree) order)
 
 -- what these orders print on a store of these settings and this tree, and how they end, is right but for memory and devices
 unfoldable pub Runs : Settings → Tree → List Order → Option (List ℕ) → Option (List ℕ) → Result (Unit {0}) Ending → Type 0
@@ -194,7 +194,7 @@ IsForWords (Err _) = ⊥
 -- with nothing read, and help where they ask for it; or with nothing printed either, where they are refused
 abbrev pub EndsBy : List (List ℕ) → Option (List ℕ) → Option (List ℕ) → Option (List ℕ) → Type 0 → Type 0 → Result (Unit {0}) Ending → Type 0
 EndsBy words known old new unread untouched end =
-    ((settings : Settings) × Tells words settings × Answers settings known old new end)
+    ((settings : Settings) × AsksForSettings words settings × Answers settings known old new end)
     ⊎ (unread × AsksForHelp words × PrintsOneText old new end)
     ⊎ (unread × untouched × ((AreRefused words × IsForWords end) ⊎ (end ≡ Err (endings.Fault NoMemory))))
 

@@ -26,8 +26,8 @@ abbrev pub hex_byte : ℕ → ℕ → Option ℕ
 hex_byte high low = option_map (λ (h, l). 16 * h + l) (option_zip (hex_value high) (hex_value low))
 
 -- the byte and then the bytes, where both are there
-abbrev pub in_front : Option ℕ → Option (List ℕ) → Option (List ℕ)
-in_front b bs = option_map (λ (x, xs). x ∷ xs) (option_zip b bs)
+abbrev pub byte_in_front : Option ℕ → Option (List ℕ) → Option (List ℕ)
+byte_in_front b bs = option_map (λ (x, xs). x ∷ xs) (option_zip b bs)
 
 -- the first bytes and then the others, where those are there
 abbrev pub with_front : List ℕ → Option (List ℕ) → Option (List ℕ)
@@ -36,9 +36,9 @@ with_front front bs = option_map (λ xs. front ++ xs) bs
 -- what characters stand for: a percent sign and the two behind it for one byte, any other for itself
 abbrev pub unescaped : List ℕ → Option (List ℕ)
 unescaped [] = Some []
-unescaped (c ∷ []) = in_front (own_byte c) (Some [])
-unescaped (c ∷ d ∷ []) = in_front (own_byte c) (unescaped (d ∷ []))
-unescaped (c ∷ d ∷ e ∷ cs) = if c == percent then in_front (hex_byte d e) (unescaped cs) else in_front (own_byte c) (unescaped (d ∷ e ∷ cs))
+unescaped (c ∷ []) = byte_in_front (own_byte c) (Some [])
+unescaped (c ∷ d ∷ []) = byte_in_front (own_byte c) (unescaped (d ∷ []))
+unescaped (c ∷ d ∷ e ∷ cs) = if c == percent then byte_in_front (hex_byte d e) (unescaped cs) else byte_in_front (own_byte c) (unescaped (d ∷ e ∷ cs))
 
 -- the bytes that a token stands for, if it is one: the percent sign alone is the empty string
 abbrev pub token_bytes : List ℕ → Option (List ℕ)

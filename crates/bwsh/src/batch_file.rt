@@ -1,7 +1,7 @@
 //! Batch files.
 ghost use Rattle.std.specs.Prelude.{◌≡◌, ◌++◌, [], Some, None, IfOk, IfErr, OnOk};
 ghost use Rattle.bwsh.specs.declared.batch_file.TextFault.TheVariants.{Memory};
-ghost use Rattle.bwsh.specs.BatchFile.{said_by, first_bad, last_order, orders_of, Tells};
+ghost use Rattle.bwsh.specs.BatchFile.{text_says, first_bad, last_order, orders_of, IsRightFault};
 
 use crate::line::{LineReader, Says, Why};
 use bstr::ByteSlice;
@@ -82,9 +82,9 @@ fn push_pending(pending: Vec<Command<Global>>, orders: &mut Vec<Order>) -> Resul
 /// What the lines of the text order, all of them. Where a line is bad nothing is ordered: the answer tells of the
 /// first such line. `TextFault::Memory` can be the answer to any text.
 pub fn parse(alloc: Global, text: &[u8]) -> Result<Vec<Order>, TextFault>
-    ensures bad { IfErr result (Tells (said_by text.now)) }
-    ensures good { IfOk result (λ _. first_bad 1 (said_by text.now) ≡ None) }
-    ensures orders { IfOk result (λ orders. orders.items ≡ orders_of [] (said_by text.now)) }
+    ensures bad { IfErr result (IsRightFault (text_says text.now)) }
+    ensures good { IfOk result (λ _. first_bad 1 (text_says text.now) ≡ None) }
+    ensures orders { IfOk result (λ orders. orders.items ≡ orders_of [] (text_says text.now)) }
 {
     let mut reader = LineReader::new(alloc);
     let mut orders = Vec::new(alloc);

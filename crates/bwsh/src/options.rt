@@ -1,7 +1,7 @@
 //! The words of the command line: the settings of the store.
 ghost use Rattle.std.specs.Prelude.{◌≡◌, IfOk, IfErr, Some, false, true};
 ghost use Rattle.clap.specs.Words.{FailsBy, app_of, fault_of, found_of, kind_of, matches_of, one_of, rows_of, rule_of, without_minus};
-ghost use Rattle.bwsh.specs.Options.{Given, IsRightKind, Tells, Text, is_number, number_of, settings_of, texts};
+ghost use Rattle.bwsh.specs.Options.{Given, IsRightKind, AsksForSettings, Text, is_number, number_of, settings_of, texts};
 ghost use Rattle.bwsh.specs.CommandLine.{AreNumbers, bwsh, finished_rows, number_rule};
 
 mod asked;
@@ -116,7 +116,7 @@ fn settings(matches: &ArgMatches<'_>) -> Settings
 /// [--segments N]`, in any order, `--fan=N` too, and `--help` or `-h`. What is not given has its default. Whether the
 /// numbers are in range is for `Settings::check` to say.
 pub fn options(alloc: Global, words: &[String]) -> Result<Options, Error>
-    ensures ok { IfOk result (λ o. Tells (texts words.now) o.settings) }
+    ensures ok { IfOk result (λ o. AsksForSettings (texts words.now) o.settings) }
     ensures err { IfErr result (λ e. IsRightKind (texts words.now) (kind_of e)) }
 {
     let matches = parse(alloc, words)?;

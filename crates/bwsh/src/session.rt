@@ -10,10 +10,10 @@ ghost use Rattle.keys.specs.declared.fault.Fault.TheVariants.{NoMemory};
 ghost use Rattle.bwsh.specs.declared.session.Ending.{Ending};
 ghost use Rattle.bwsh.specs.declared.session.Ending.TheVariants.{Device};
 ghost use Rattle.bwsh.specs.declared.session.Ending.TheVariants as endings;
-ghost use Rattle.bwsh.specs.BatchFile.{said_by, first_bad, orders_of};
+ghost use Rattle.bwsh.specs.BatchFile.{text_says, first_bad, orders_of};
 ghost use Rattle.keys.specs.declared.settings.Settings.{Settings};
-ghost use Rattle.bwsh.specs.Options.{Tells, AsksForHelp, AreRefused};
-ghost use Rattle.bwsh.specs.Session.{status_of, status_of_end, ending_text, unread_text, ending_by, printed_by, BeginsWith, IsBegun, IsTold, IsReadEnding, IsForWords, Prints, PrintsOneText, Leaves, Runs, Answers, EndsBy, EndsTold};
+ghost use Rattle.bwsh.specs.Options.{AsksForSettings, AsksForHelp, AreRefused};
+ghost use Rattle.bwsh.specs.Session.{status_of, status_of_end, ending_text, unread_text, ending_by, printed_by, BeginsWith, IsBegun, IsTold, IsReadEnding, IsForWords, Prints, PrintsOneText, LeavesTree, Runs, Answers, EndsBy, EndsTold};
 ghost use Rattle.bwsh.specs.Shown.{shown_reply, shown_report};
 
 use crate::batch_file::{Order, TextFault, parse};
@@ -115,7 +115,7 @@ fn read_fault(error: io::Error) -> Ending
 // Reads all of the input, and returns the orders of its text.
 fn read_orders<I: Read>(alloc: Global, input: &mut I) -> Result<Vec<Order>, Ending>
     ensures { (text : List ℕ) × IfSome (I.remaining input.old) (λ known. text ≡ known)
-        × MatchResult result (λ orders. (first_bad 1 (said_by text) ≡ None) × (orders.items ≡ orders_of [] (said_by text))) (IsReadEnding (first_bad 1 (said_by text))) }
+        × MatchResult result (λ orders. (first_bad 1 (text_says text) ≡ None) × (orders.items ≡ orders_of [] (text_says text))) (IsReadEnding (first_bad 1 (text_says text))) }
 {
     let mut text = Vec::new(alloc);
     if let Err(error) = input.read_to_end(&mut text) {
@@ -199,7 +199,7 @@ fn run_order<R: Threads + Sync, O: Write>(
     out: &mut O,
 ) -> Result<(), Ending>
     ensures runs { Runs store.old.settings store.old.tree (order.now ∷ []) (O.contents out.old) (O.contents out.new) result }
-    ensures leaves { OnOk result (Leaves store.old.settings store.old.tree order.now store.new.tree) }
+    ensures leaves { OnOk result (LeavesTree store.old.settings store.old.tree order.now store.new.tree) }
     ensures settings { store.new.settings ≡ store.old.settings }
 {
     match order {
@@ -370,12 +370,12 @@ pub fn session<R: AllocGlobal + Threads + Sync, I: Read, O: Write, E: Write>(
 
     // What stands on the output with each status: always a beginning of what the orders of the input answer on a new store of the
     // settings that the words tell, unless that is help.
-    ensures done { result ≡ 0 → AsksForHelp (map string_bytes words.now) ⊎ ((settings : Settings) × Tells (map string_bytes words.now) settings
-        × IfSome (I.remaining input.old) (λ text. (first_bad 1 (said_by text) ≡ None) × Appends (O.contents out.old) (O.contents out.new) (printed_by settings text))) }
+    ensures done { result ≡ 0 → AsksForHelp (map string_bytes words.now) ⊎ ((settings : Settings) × AsksForSettings (map string_bytes words.now) settings
+        × IfSome (I.remaining input.old) (λ text. (first_bad 1 (text_says text) ≡ None) × Appends (O.contents out.old) (O.contents out.new) (printed_by settings text))) }
     ensures bad { result ≡ 3 → Appends (O.contents out.old) (O.contents out.new) []
-        × IfSome (I.remaining input.old) (λ text. first_bad 1 (said_by text) ≢ None) }
+        × IfSome (I.remaining input.old) (λ text. first_bad 1 (text_says text) ≢ None) }
     ensures beginning { AsksForHelp (map string_bytes words.now) ⊎ Appends (O.contents out.old) (O.contents out.new) []
-        ⊎ ((settings : Settings) × Tells (map string_bytes words.now) settings × IfSome (I.remaining input.old) (λ text. (front : List ℕ)
+        ⊎ ((settings : Settings) × AsksForSettings (map string_bytes words.now) settings × IfSome (I.remaining input.old) (λ text. (front : List ℕ)
         × BeginsWith (printed_by settings text) front × Appends (O.contents out.old) (O.contents out.new) front)) }
 
     // How it ends, and what is read and printed, is right for the words and the text but for memory and devices.

@@ -1,7 +1,7 @@
 //! Tokens: how the words of a batch file stand for byte strings.
 ghost use Rattle.std.specs.Prelude.{◌≡◌, ◌<◌, ◌++◌, ◌/◌, ◌%◌, [], ◌∷◌, length, take, Some, None, if◌then◌else◌, IfOk, IfSome, MatchOption, OnOk, OnErr};
 ghost use Rattle.std.specs.List.{list_all};
-ghost use Rattle.bwsh.specs.Token.{hex_value, hex_byte, stands_for_itself, unescaped, in_front, with_front, token_bytes, hex_digit, shown_byte, shown_token};
+ghost use Rattle.bwsh.specs.Token.{hex_value, hex_byte, stands_for_itself, unescaped, byte_in_front, with_front, token_bytes, hex_digit, shown_byte, shown_token};
 
 use std::alloc::AllocError;
 
@@ -44,7 +44,7 @@ fn are_plain(bytes: &[u8]) -> bool
 // The byte that the front of the text stands for, and the text behind it.
 fn first_byte(text: &[u8]) -> Option<(u8, &[u8])>
     requires { 0 < length text.now }
-    ensures value { MatchOption result (unescaped text.now ≡ None) (λ first. unescaped text.now ≡ in_front (Some first.0) (unescaped first.1.now)) }
+    ensures value { MatchOption result (unescaped text.now ≡ None) (λ first. unescaped text.now ≡ byte_in_front (Some first.0) (unescaped first.1.now)) }
     ensures shorter { IfSome result (λ first. length first.1.now < length text.now) }
 {
     match text {

@@ -7,7 +7,7 @@ use Rattle.std.proofs.lemmas.List.Folds.{list_any-append}
 use Rattle.frame_codec.specs.Frame.{Content, Frame}
 use Rattle.frame_codec.specs.Frame.Content.{FullLeaf, DeltaLeaf, FullIndex, DeltaIndex, Free}
 use Rattle.flush_log.specs.Reading.{Found}
-use Rattle.recovery.specs.PageByLog.{is_start, from_last, continued, told, page_by_log, is_broken}
+use Rattle.recovery.specs.PageByLog.{is_start, from_last, continued, told_page, page_by_log, is_broken}
 use Rattle.recovery.specs.PageByLog.InLog.{Missing, Broken}
 use Rattle.recovery.specs.StoreOfDisk.{frames_in}
 use Rattle.recovery.proofs.PartLaws.{IsPart, from_last-none, from_last-behind, from_last-more, from_last-at, from_last-map, from_last-is, from_last-all, from_last-some, none-append, any-map}
@@ -41,10 +41,10 @@ missing_breaks (DeltaIndex run) = refl
 missing_breaks Free = refl
 
 -- behind a free frame there is nothing, unless it is finding 1
-free_alone : (cs : List Content) → is_broken (told (Free ∷ cs)) ≡ false → cs ≡ []
+free_alone : (cs : List Content) → is_broken (told_page (Free ∷ cs)) ≡ false → cs ≡ []
 free_alone [] e = refl
 free_alone (c ∷ cs) e =
-    let broken : told (Free ∷ c ∷ cs) ≡ Broken = ap (λ t. fold continued t cs) (missing_breaks c) ∙ broken_stays cs in
+    let broken : told_page (Free ∷ c ∷ cs) ≡ Broken = ap (λ t. fold continued t cs) (missing_breaks c) ∙ broken_stays cs in
     let both : true ≡ false = ap is_broken (sym broken) ∙ e in
     absurd (cc)
 
@@ -73,7 +73,7 @@ contents_in [] = refl
 contents_in (f ∷ fs) = ap (λ (cs : List Content). f.frame.content ∷ cs) (contents_in fs)
 
 missing : (cs : List Content) → list_any is_start cs ≡ false → page_by_log cs ≡ Missing
-missing cs e = ap told (from_last-none is_start cs e)
+missing cs e = ap told_page (from_last-none is_start cs e)
 
 -- of a pid: what stands in the head segment, and what stands behind it
 module _ (head : ℕ) (hs ts : List Found) (within : AllByRecursion (λ f. nat_eq f.segment head ≡ true) hs) (behind : AllByRecursion (λ f. nat_eq f.segment head ≡ false) ts)
@@ -88,8 +88,8 @@ module _ (head : ℕ) (hs ts : List Found) (within : AllByRecursion (λ f. nat_e
   abbrev Same : Type 0
   Same = page_by_log (said_all ts ++ carried_contents part) ≡ page_by_log (said_all (hs ++ ts))
 
-  before_is : page_by_log (said_all (hs ++ ts)) ≡ told (said_all part)
-  before_is = ap told (from_last-map said is_start (hs ++ ts))
+  before_is : page_by_log (said_all (hs ++ ts)) ≡ told_page (said_all part)
+  before_is = ap told_page (from_last-map said is_start (hs ++ ts))
 
   starts_behind : list_any starts ts ≡ true → Same
   starts_behind e =
@@ -97,7 +97,7 @@ module _ (head : ℕ) (hs ts : List Found) (within : AllByRecursion (λ f. nat_e
       let none : carried head part ≡ [] = ap (carried head) later ∙ carried_none head (from_last starts ts) (from_last-all starts (λ f. nat_eq f.segment head ≡ false) ts behind) in
       ap (λ (fs : List Frame). page_by_log (said_all ts ++ map (λ (f : Frame). f.content) fs)) none
       ∙ ap page_by_log (append-nil (said_all ts))
-      ∙ ap told (from_last-map said is_start ts ∙ ap said_all (sym later))
+      ∙ ap told_page (from_last-map said is_start ts ∙ ap said_all (sym later))
       ∙ sym before_is
 
   no_start : list_any starts ts ≡ false → list_any starts hs ≡ false → Same
@@ -106,7 +106,7 @@ module _ (head : ℕ) (hs ts : List Found) (within : AllByRecursion (λ f. nat_e
       ap (λ (fs : List Found). page_by_log (said_all ts ++ carried_contents fs)) none
       ∙ ap page_by_log (append-nil (said_all ts))
       ∙ missing (said_all ts) (any-map said is_start ts ∙ e)
-      ∙ ap (λ (fs : List Found). told (said_all fs)) (sym none)
+      ∙ ap (λ (fs : List Found). told_page (said_all fs)) (sym none)
       ∙ sym before_is
 
   -- the part begins in the head segment
@@ -116,18 +116,18 @@ module _ (head : ℕ) (hs ts : List Found) (within : AllByRecursion (λ f. nat_e
       ap (λ (fs : List Found). page_by_log (said_all ts ++ carried_contents fs)) e
       ∙ ap (λ (fs : List Frame). page_by_log (said_all ts ++ map (λ (f : Frame). f.content) fs)) (carried_all head y ys h base)
       ∙ ap (λ (cs : List Content). page_by_log (said_all ts ++ cs)) (contents_in (y ∷ ys))
-      ∙ ap told (from_last-at is_start (said_all ts) (said y) (said_all ys) s (any-map said is_start ys ∙ n))
-      ∙ ap (λ (fs : List Found). told (said_all fs)) (sym e)
+      ∙ ap told_page (from_last-at is_start (said_all ts) (said y) (said_all ys) s (any-map said is_start ys ∙ n))
+      ∙ ap (λ (fs : List Found). told_page (said_all fs)) (sym e)
       ∙ sym before_is
   of_part y ys e s n h none false base =
       let free : said y ≡ Free = free_or_base (said y) s base in
-      let is : page_by_log (said_all (hs ++ ts)) ≡ told (Free ∷ said_all ys) = before_is ∙ ap (λ (fs : List Found). told (said_all fs)) e ∙ ap (λ (c : Content). told (c ∷ said_all ys)) free in
+      let is : page_by_log (said_all (hs ++ ts)) ≡ told_page (Free ∷ said_all ys) = before_is ∙ ap (λ (fs : List Found). told_page (said_all fs)) e ∙ ap (λ (c : Content). told_page (c ∷ said_all ys)) free in
       let alone : said_all ys ≡ [] = free_alone (said_all ys) (ap is_broken (sym is) ∙ sound) in
       ap (λ (fs : List Found). page_by_log (said_all ts ++ carried_contents fs)) e
       ∙ ap (λ (fs : List Frame). page_by_log (said_all ts ++ map (λ (f : Frame). f.content) fs)) (carried_free head y ys h base)
       ∙ ap page_by_log (append-nil (said_all ts))
       ∙ missing (said_all ts) (any-map said is_start ts ∙ none)
-      ∙ ap (λ (cs : List Content). told (Free ∷ cs)) (sym alone)
+      ∙ ap (λ (cs : List Content). told_page (Free ∷ cs)) (sym alone)
       ∙ sym is
 
   starts_within : (fs : List Found) → from_last starts hs ≡ fs → list_any starts fs ≡ true → IsPart starts fs → AllByRecursion (λ f. nat_eq f.segment head ≡ true) fs → list_any starts hs ≡ true → list_any starts ts ≡ false → Same

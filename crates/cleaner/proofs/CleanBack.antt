@@ -13,7 +13,7 @@ use Rattle.index_page.proofs.ListLaws.{all_weaker}
 use Rattle.mapping.specs.Finding.{Finding, finding}
 use Rattle.mapping.specs.Proper.{AreLogsTrue, IsProper}
 use Rattle.mapping.specs.Tree.{Tree, Store}
-use Rattle.frame_codec.specs.Frame.{Frame, is_within}
+use Rattle.frame_codec.specs.Frame.{Frame, is_frame}
 use Rattle.flush_log.specs.AfterFlush.{store_after}
 use Rattle.flush_log.specs.Commit.{HasRoom, committed}
 use Rattle.flush_log.specs.FlushText.{tree_in_log}
@@ -50,7 +50,7 @@ in_head n (f ∷ fs) = (eq-eqb n n refl, in_head n fs)
 
 -- ---- what is read afterwards
 
-module _ (s : Settings) (file : List ℕ) (slot : Slot) (found : List Found) (reads : Reads s file slot found) (more : slot.head < last_segment s slot.tail) (within : AllByRecursion (λ f. is_within s f.frame ≡ true) found) (sound : broken_in (frames_in found) ≡ None)
+module _ (s : Settings) (file : List ℕ) (slot : Slot) (found : List Found) (reads : Reads s file slot found) (more : slot.head < last_segment s slot.tail) (within : AllByRecursion (λ f. is_frame s f.frame ≡ true) found) (sound : broken_in (frames_in found) ≡ None)
     (proper : finding s (tree_by_log slot (frames_in found)) ≡ None) where
   abbrev text : List Frame
   text = clean_text slot.head found
@@ -68,7 +68,7 @@ module _ (s : Settings) (file : List ℕ) (slot : Slot) (found : List Found) (re
   pub room_for : is_full_for_clean s slot.head next.tail ≡ false → HasRoom s file slot text
   room_for free =
       let (block, good, whole) = store_settings-are file s reads.settings in
-      record { good = good; whole = whole; slot = reads.slot; within = all-clean_text (λ f. is_within s f ≡ true) slot.head found within; free = room-for-clean s slot.head next.tail free }
+      record { good = good; whole = whole; slot = reads.slot; within = all-clean_text (λ f. is_frame s f ≡ true) slot.head found within; free = room-for-clean s slot.head next.tail free }
 
   clean-reads : next.sequence ≤ greatest → next.tail ≤ greatest → is_full_for_clean s slot.head next.tail ≡ false → Reads s file' next (off.rest ++ found_in_text s slot.tail text)
   clean-reads number small free =

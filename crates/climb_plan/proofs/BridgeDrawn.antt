@@ -10,7 +10,7 @@ use Rattle.std.proofs.lemmas.Bool.{eq-eqb, or_parts}
 use Rattle.index_page.specs.Page.{PageOfKind}
 use Rattle.mapping.specs.FreshPids.{is_among, unused, with_number}
 use Rattle.mapping.specs.Proper.{AreRisingPids}
-use Rattle.mapping.specs.Table.{Mapping, is_pid, pids_in_use, place_of, with_place, room_by, with_rooms, fresh_pids}
+use Rattle.mapping.specs.Table.{Mapping, is_same_pid, pids_in_use, place_of, with_place, room_by, with_rooms, fresh_pids}
 use Rattle.mapping.proofs.PidLaws.{unused-is_free, unused-drawn, rising-with_number}
 use Rattle.mapping.proofs.TableLaws.{same_pid, listed-insert_entry}
 use Rattle.climb_plan.proofs.BridgeTables.{test_true, test_false, AreDrawn}
@@ -18,7 +18,7 @@ use Rattle.climb_plan.proofs.BridgeTables.{test_true, test_false, AreDrawn}
 -- ---- an entry under a pid that had none
 
 module _ {X : Type 0} where
-  nothing_there : (k : ℕ) (es : List (ℕ × X)) → is_among k (keys_of es) ≡ false → lookup (is_pid k) es ≡ None
+  nothing_there : (k : ℕ) (es : List (ℕ × X)) → is_among k (keys_of es) ≡ false → lookup (is_same_pid k) es ≡ None
   nothing_there k [] h = refl
   nothing_there k (e ∷ es) h =
       let apart = or_parts (nat_eq k e.0) (is_among k (keys_of es)) h in

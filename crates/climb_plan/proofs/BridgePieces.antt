@@ -15,7 +15,7 @@ use Rattle.split_plan.specs.Change.{fresh_pages, replacements, is_rewritten, rem
 use Rattle.split_plan.proofs.ChangeLaws.{remade_by, length-fresh_pages}
 use Rattle.split_plan.specs.Cut.{cut}
 use Rattle.split_plan.proofs.CutLaws.{cut_some}
-use Rattle.split_plan.specs.Pieces.{pages_from, joined_pages, pieces_of, group_made}
+use Rattle.split_plan.specs.Pieces.{pages_from, joined_pages, pages_made, group_made}
 use Rattle.split_plan.specs.WorkedLevel.{placed_of}
 use Rattle.climb_plan.specs.Changing.{shown}
 use Rattle.climb_plan.specs.Level.{IsKind, remade_of}
@@ -180,7 +180,7 @@ all_leaves (p ∷ ps) = (tt, all_leaves ps)
 pub leaves_are_kind : IsKind Leaf
 leaves_are_kind = record {
   low = λ p. refl;
-  made = λ s p ps. ap (λ (qs : List (Page (List ℕ))). map Leaf (pieces_of s (p ∷ qs))) (leaves_back ps);
+  made = λ s p ps. ap (λ (qs : List (Page (List ℕ))). map Leaf (pages_made s (p ∷ qs))) (leaves_back ps);
   join = λ p ps r. (all_leaves ps, subst (λ (qs : List (Page (List ℕ))). IsRising (joined_pages (p ∷ qs))) (sym (leaves_back ps)) r);
 }
 
@@ -196,6 +196,6 @@ all_index_pages (p ∷ ps) = (tt, all_index_pages ps)
 pub index_pages_are_kind : IsKind Index
 index_pages_are_kind = record {
   low = λ p. refl;
-  made = λ s p ps. ap (λ (qs : List (Page ℕ)). map Index (pieces_of s (p ∷ qs))) (index_pages_back ps);
+  made = λ s p ps. ap (λ (qs : List (Page ℕ)). map Index (pages_made s (p ∷ qs))) (index_pages_back ps);
   join = λ p ps r. (all_index_pages ps, subst (λ (qs : List (Page ℕ)). IsRising (joined_pages (p ∷ qs))) (sym (index_pages_back ps)) r);
 }

@@ -15,7 +15,7 @@ use Rattle.split_plan.specs.Change.{is_rewritten}
 use Rattle.split_plan.specs.WorkedLevel.{placed_of}
 use Rattle.climb_plan.specs.Changing.{SeenPage, shown, same, AreSeen, AreHome, Changing, rewritten, with_changing, changing, changing_groups}
 use Rattle.climb_plan.specs.Level.{group_counts, IsKind, IsLevel}
-use Rattle.climb_plan.specs.Rewriting.{seen_name, is_thin_seen, is_rewritten_seen, AreSeenIn, rewritten_groups, Rewriting, with_rewriting, rewriting, counted, groups_of, IsLevelSeen}
+use Rattle.climb_plan.specs.Rewriting.{seen_name, is_thin_seen, is_rewritten_seen, AreSeenIn, rewritten_groups, Rewriting, with_rewriting, rewriting, rewriting_counts, groups_of, IsLevelSeen}
 
 -- ---- groups of what is made of elements are made of their groups
 
@@ -112,15 +112,15 @@ module _ {V : Type 0} (of : Page V → PageOfKind) where
       ∙ ap (λ (rs : List Rewriting). with_rewriting p.pid (shown_groups (rewritten f)) rs) (rewriting-shown ps more)
       ∙ with_rewriting-shown (rewritten f) p (changing ps more)
 
-  counted_each : (chs : List (Changing V)) → counted (map rewriting_of chs) ≡ group_counts chs
+  counted_each : (chs : List (Changing V)) → rewriting_counts (map rewriting_of chs) ≡ group_counts chs
   counted_each [] = refl
   counted_each (c ∷ chs) =
       let pair : ℕ → ℕ × ℕ = λ n. (c.parent.pid, n) in
-      ap (λ (n : ℕ). pair n ∷ counted (map rewriting_of chs)) (length-map c.groups (λ (g : List (Worked V)). map (shown of) g)) ∙ ap (λ (cs : List (ℕ × ℕ)). pair (length c.groups) ∷ cs) (counted_each chs)
+      ap (λ (n : ℕ). pair n ∷ rewriting_counts (map rewriting_of chs)) (length-map c.groups (λ (g : List (Worked V)). map (shown of) g)) ∙ ap (λ (cs : List (ℕ × ℕ)). pair (length c.groups) ∷ cs) (counted_each chs)
 
   -- each such parent has as many groups that are rewritten
-  pub counted-shown : (ps : List (Placed ℕ)) (ws : List (Worked V)) → counted (rewriting ps (map (shown of) ws)) ≡ group_counts (changing ps ws)
-  counted-shown ps ws = ap (λ (rs : List Rewriting). counted rs) (rewriting-shown ps ws) ∙ counted_each (changing ps ws)
+  pub rewriting_counts-shown : (ps : List (Placed ℕ)) (ws : List (Worked V)) → rewriting_counts (rewriting ps (map (shown of) ws)) ≡ group_counts (changing ps ws)
+  rewriting_counts-shown ps ws = ap (λ (rs : List Rewriting). rewriting_counts rs) (rewriting-shown ps ws) ∙ counted_each (changing ps ws)
 
   groups_each : (chs : List (Changing V)) → groups_of (map rewriting_of chs) ≡ shown_groups (changing_groups chs)
   groups_each [] = refl

@@ -10,7 +10,7 @@ use Rattle.std.proofs.lemmas.Bool.{eq-eqb, eqb-true, or_parts, or_from, false_fr
 use Rattle.index_page.specs.Page.{PageOfKind}
 use Rattle.mapping.specs.FreshPids.{is_among, unused, IsNeverUnused}
 use Rattle.mapping.specs.Proper.{AreRisingPids}
-use Rattle.mapping.specs.Table.{Mapping, is_pid, pids_in_use, place_of, with_place, fresh_pids, IsOldWithoutPlace}
+use Rattle.mapping.specs.Table.{Mapping, pids_in_use, place_of, with_place, fresh_pids, IsOldWithoutPlace, is_same_pid}
 use Rattle.mapping.specs.Tree.{Logged}
 use Rattle.mapping.specs.Tree.Logged.{Old}
 use Rattle.mapping.proofs.PidLaws.{below_later}
@@ -20,23 +20,23 @@ use Rattle.climb_plan.specs.Installing.{all_taken}
 -- ---- an entry in the place of another
 
 module _ {X : Type 0} where
-  none_below : (k : ℕ) (es : List (ℕ × X)) → AllByRecursion (λ n. k < n) (keys_of es) → lookup (is_pid k) es ≡ None
+  none_below : (k : ℕ) (es : List (ℕ × X)) → AllByRecursion (λ n. k < n) (keys_of es) → lookup (is_same_pid k) es ≡ None
   none_below k [] a = refl
   none_below k (e ∷ es) a =
       let apart : k ≢ e.0 = (λ q. let l : k < e.0 = a.0 in omega arith) in
       rw (differ k e.0 apart) (none_below k es a.1)
 
-  kept_by : (o : Ordering) (k : ℕ) (v : X) (e : ℕ × X) (es rest : List (ℕ × X)) → nat_cmp k e.0 ≡ o → AllByRecursion (λ n. e.0 < n) (keys_of es) → is_some (cond (is_eq o) (Some e.1) (lookup (is_pid k) es)) ≡ true
-      → (is_some (lookup (is_pid k) es) ≡ true → keys_of rest ≡ keys_of es) → keys_of (match_ordering o ((k, v) ∷ e ∷ es) ((e.0, v) ∷ es) (e ∷ rest)) ≡ keys_of (e ∷ es)
+  kept_by : (o : Ordering) (k : ℕ) (v : X) (e : ℕ × X) (es rest : List (ℕ × X)) → nat_cmp k e.0 ≡ o → AllByRecursion (λ n. e.0 < n) (keys_of es) → is_some (cond (is_eq o) (Some e.1) (lookup (is_same_pid k) es)) ≡ true
+      → (is_some (lookup (is_same_pid k) es) ≡ true → keys_of rest ≡ keys_of es) → keys_of (match_ordering o ((k, v) ∷ e ∷ es) ((e.0, v) ∷ es) (e ∷ rest)) ≡ keys_of (e ∷ es)
   kept_by Less k v e es rest c a h ih =
       let l : k < e.0 = ranked k e.0 Less (sym c) in
-      let none : is_some (lookup (is_pid k) es) ≡ false = ap (λ (o : Option X). is_some o) (none_below k es (below_later k e.0 (keys_of es) l a)) in
+      let none : is_some (lookup (is_same_pid k) es) ≡ false = ap (λ (o : Option X). is_some o) (none_below k es (below_later k e.0 (keys_of es) l a)) in
       absurd (cc)
   kept_by Equal k v e es rest c a h ih = refl
   kept_by Greater k v e es rest c a h ih = ap (λ (ns : List ℕ). e.0 ∷ ns) (ih h)
 
   -- no pid comes or goes
-  keys_kept : (es : List (ℕ × X)) (k : ℕ) (v : X) → AreRisingPids (keys_of es) → is_some (lookup (is_pid k) es) ≡ true → keys_of (insert_entry nat_cmp es k v) ≡ keys_of es
+  keys_kept : (es : List (ℕ × X)) (k : ℕ) (v : X) → AreRisingPids (keys_of es) → is_some (lookup (is_same_pid k) es) ≡ true → keys_of (insert_entry nat_cmp es k v) ≡ keys_of es
   keys_kept [] k v r h = absurd (cc)
   keys_kept (e ∷ es) k v r h = kept_by (nat_cmp k e.0) k v e es (insert_entry nat_cmp es k v) refl r.0 h (λ g. keys_kept es k v r.1 g)
 

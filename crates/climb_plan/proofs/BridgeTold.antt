@@ -22,7 +22,7 @@ use Rattle.split_plan.proofs.TermLaws.{names_apart, tiled_family_apart}
 use Rattle.split_plan.specs.WorkedLevel.{placed_of}
 use Rattle.climb_plan.specs.Changing.{SeenPage, shown, Changing, rewritten, with_changing, changing, changing_groups, changing_changes}
 use Rattle.climb_plan.specs.Level.{IsKind, remade_of, parent_pids, group_counts}
-use Rattle.climb_plan.specs.Rewriting.{Remade, freed_names, named_pages, fresh_names, terms_of, told, CanBeTold}
+use Rattle.climb_plan.specs.Rewriting.{Remade, freed_names, named_pages, fresh_names, terms_of, CanBeTold, terms_by_parent}
 use Rattle.climb_plan.proofs.BridgeSeen.{shown_groups, names-shown}
 use Rattle.climb_plan.proofs.ChangingGroups.{flat-changing_changes, alike_rewritten}
 use Rattle.climb_plan.proofs.Told.{each_told}
@@ -125,7 +125,7 @@ module _ {X : Type 0} where
       dropped [] vs = refl
       dropped (u ∷ us) vs = dropped us vs
 
-told_step : (pid n : ℕ) (cs : List (ℕ × ℕ)) (fs more : List Names) (rs later : List Remade) → n ≡ length fs → n ≡ length rs → (let all : List (ℕ × ℕ) = (pid, n) ∷ cs in told all (fs ++ more) (rs ++ later) ≡ (pid, terms_of fs rs) ∷ told cs more later)
+told_step : (pid n : ℕ) (cs : List (ℕ × ℕ)) (fs more : List Names) (rs later : List Remade) → n ≡ length fs → n ≡ length rs → (let all : List (ℕ × ℕ) = (pid, n) ∷ cs in terms_by_parent all (fs ++ more) (rs ++ later) ≡ (pid, terms_of fs rs) ∷ terms_by_parent cs more later)
 told_step pid n cs fs more rs later e f =
     rw (first_taken n fs more e, first_dropped n fs more e, first_taken n rs later f, first_dropped n rs later f) refl
 
@@ -208,7 +208,7 @@ module _ {V : Type 0} (of : Page V → PageOfKind) where
 
     -- what all parents are told
     pub told-shown : (s : Settings) (used : List ℕ) (i : ℕ) (chs : List (Changing V))
-        → told (group_counts chs) (freed_in (changing_groups chs)) (made_in (changes s used i (changing_groups chs))) ≡ each_told (parent_pids chs) (map terms (changing_changes s used i chs))
+        → terms_by_parent (group_counts chs) (freed_in (changing_groups chs)) (made_in (changes s used i (changing_groups chs))) ≡ each_told (parent_pids chs) (map terms (changing_changes s used i chs))
     told-shown s used i [] = refl
     told-shown s used i (c ∷ chs) =
         let gs : List (List (Worked V)) = c.groups in
@@ -218,11 +218,11 @@ module _ {V : Type 0} (of : Page V → PageOfKind) where
         let later : List (Change V) = changes s used j more in
         let counts : List (ℕ × ℕ) = group_counts (c ∷ chs) in
         let pair : List (List ℕ × Option ℕ) → ℕ × List (List ℕ × Option ℕ) = λ run. (c.parent.pid, run) in
-        ap (λ (ds : List (Change V)). told counts (freed_in (gs ++ more)) (made_in ds)) (changes_apart s used i c chs)
-        ∙ ap (λ (rs : List Remade). told counts (freed_in (gs ++ more)) rs) (map-append (remade_of of) cs later)
-        ∙ ap (λ (fs : List Names). told counts fs (made_in cs ++ made_in later)) (freed_in-append gs more)
+        ap (λ (ds : List (Change V)). terms_by_parent counts (freed_in (gs ++ more)) (made_in ds)) (changes_apart s used i c chs)
+        ∙ ap (λ (rs : List Remade). terms_by_parent counts (freed_in (gs ++ more)) rs) (map-append (remade_of of) cs later)
+        ∙ ap (λ (fs : List Names). terms_by_parent counts fs (made_in cs ++ made_in later)) (freed_in-append gs more)
         ∙ told_step c.parent.pid (length gs) (group_counts chs) (freed_in gs) (freed_in more) (made_in cs) (made_in later) (length-freed_in gs) (length-made_in s used i gs)
-        ∙ ap (λ (run : List (List ℕ × Option ℕ)). pair run ∷ told (group_counts chs) (freed_in more) (made_in later)) (terms-shown s used i gs)
+        ∙ ap (λ (run : List (List ℕ × Option ℕ)). pair run ∷ terms_by_parent (group_counts chs) (freed_in more) (made_in later)) (terms-shown s used i gs)
         ∙ ap (λ (rest : List (ℕ × List (List ℕ × Option ℕ))). pair (terms cs) ∷ rest) (told-shown s used j chs)
 
     told_each : (s : Settings) (used : List ℕ) (i : ℕ) (chs : List (Changing V)) → AllByRecursion (HasRisingNames s used) chs → CanBeTold (group_counts chs) (freed_in (changing_groups chs)) (made_in (changes s used i (changing_groups chs)))

@@ -9,7 +9,7 @@ use Rattle.keys.proofs.Basics.{equal_by}
 use Rattle.index_page.specs.Page.{PageOfKind}
 use Rattle.mapping.specs.FreshPids.{is_among, unused}
 use Rattle.mapping.specs.Proper.{Distinct}
-use Rattle.mapping.specs.Table.{Mapping, is_pid, pids_in_use, place_of, freed, with_rooms, fresh_pids, freed_all}
+use Rattle.mapping.specs.Table.{Mapping, is_same_pid, pids_in_use, place_of, freed, with_rooms, fresh_pids, freed_all}
 use Rattle.mapping.specs.TreeInMemory.{TreeInMemory}
 use Rattle.mapping.proofs.PidLaws.{all_among, unused-rises}
 use Rattle.mapping.proofs.TableLaws.{same_pid, differ}
@@ -19,17 +19,17 @@ use Rattle.climb_plan.specs.Installing.{AreAway}
 -- ---- places that are freed
 
 module _ {V : Type 0} where
-  other_by : (b : Bool) (k q : ℕ) (e : ℕ × V) (es rest : List (ℕ × V)) → is_pid k e.0 ≡ b → q ≢ k → lookup (is_pid q) rest ≡ lookup (is_pid q) es → lookup (is_pid q) (cond b es (e ∷ rest)) ≡ lookup (is_pid q) (e ∷ es)
+  other_by : (b : Bool) (k q : ℕ) (e : ℕ × V) (es rest : List (ℕ × V)) → is_same_pid k e.0 ≡ b → q ≢ k → lookup (is_same_pid q) rest ≡ lookup (is_same_pid q) es → lookup (is_same_pid q) (cond b es (e ∷ rest)) ≡ lookup (is_same_pid q) (e ∷ es)
   other_by true k q e es rest h d ih =
       let same : k ≡ e.0 = same_pid k e.0 (equal_by (nat_cmp k e.0) h) in
       let apart : is_eq (nat_cmp q e.0) ≡ false = differ q e.0 (λ x. d (x ∙ sym same)) in
-      ap (λ (c : Bool). cond c (Some e.1) (lookup (is_pid q) es)) (sym apart)
+      ap (λ (c : Bool). cond c (Some e.1) (lookup (is_same_pid q) es)) (sym apart)
   other_by false k q e es rest h d ih = ap (λ (o : Option V). cond (is_eq (nat_cmp q e.0)) (Some e.1) o) ih
 
   -- the other places stay
-  other_listed : (k q : ℕ) (es : List (ℕ × V)) → q ≢ k → lookup (is_pid q) (remove_entry (is_pid k) es) ≡ lookup (is_pid q) es
+  other_listed : (k q : ℕ) (es : List (ℕ × V)) → q ≢ k → lookup (is_same_pid q) (remove_entry (is_same_pid k) es) ≡ lookup (is_same_pid q) es
   other_listed k q [] d = refl
-  other_listed k q (e ∷ es) d = other_by (is_pid k e.0) k q e es (remove_entry (is_pid k) es) refl d (other_listed k q es d)
+  other_listed k q (e ∷ es) d = other_by (is_same_pid k e.0) k q e es (remove_entry (is_same_pid k) es) refl d (other_listed k q es d)
 
 -- the places of others stay away
 still_away : (t : Mapping PageOfKind) (k : ℕ) (pids : List ℕ) → AllByRecursion (λ m. m ≢ k) pids → AllByRecursion (λ pid. place_of t pid ≡ Some None) pids → AllByRecursion (λ pid. place_of (freed t k) pid ≡ Some None) pids

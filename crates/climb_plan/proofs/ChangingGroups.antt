@@ -9,7 +9,7 @@ use Rattle.mapping.specs.Levels.{Placed, entries}
 use Rattle.page_runs.specs.Worked.{Worked, is_thin}
 use Rattle.split_plan.specs.Groups.{groups}
 use Rattle.split_plan.specs.WorkedLevel.{placed_of}
-use Rattle.split_plan.specs.Change.{Change, is_rewritten, remade, fresh, freed, changes, family_changes, fresh_of, all_fresh}
+use Rattle.split_plan.specs.Change.{Change, is_rewritten, remade, fresh, freed_by, changes, family_changes, fresh_of, all_fresh}
 use Rattle.split_plan.specs.Terms.{freed_of, terms}
 use Rattle.split_plan.proofs.ChangeLaws.{remade_by}
 use Rattle.climb_plan.specs.Climb.{families}
@@ -138,7 +138,7 @@ module _ {V : Type 0} where
   alike_flat : (css dss : List (List (Change V))) → AreAlike (flat css) (flat dss) → AreAllAlike css dss
   alike_flat css dss a = record {
     fresh = flat_map-flat fresh css ∙ a.fresh ∙ sym (flat_map-flat fresh dss);
-    freed = flat_map-flat freed css ∙ a.freed ∙ sym (flat_map-flat freed dss);
+    freed = flat_map-flat freed_by css ∙ a.freed ∙ sym (flat_map-flat freed_by dss);
   }
 
   pub alike_level : (s : Settings) (used : List ℕ) (i : ℕ) (ps : List (Placed ℕ)) (ws : List (Worked V)) → AreAllAlike (family_changes s used i (families ps ws)) (changing_changes s used i (changing ps ws))

@@ -10,12 +10,12 @@ use Rattle.keys.proofs.Basics.{equal_by}
 use Rattle.index_page.specs.Page.{PageOfKind}
 use Rattle.index_page.proofs.ListLaws.{all_apart}
 use Rattle.mapping.specs.Tree.{listed_at}
-use Rattle.mapping.specs.Table.{Mapping, is_pid, place_of, page_of, at_home, with_place, outdated, freed}
+use Rattle.mapping.specs.Table.{Mapping, is_same_pid, place_of, page_of, at_home, with_place, log_outdated, freed}
 use Rattle.mapping.specs.Outdate.{outdate_all}
 use Rattle.mapping.specs.TreeInMemory.{TreeInMemory}
 use Rattle.mapping.specs.Proper.{Distinct}
 use Rattle.mapping.proofs.TableLaws.{total, same_pid, differ, listed-insert_entry}
-use Rattle.page_runs.specs.TermWork.{TermHeld, held_of}
+use Rattle.page_runs.specs.TermWork.{TermHeld, term_held_of}
 use Rattle.page_runs.specs.declared.term_work.TermJob.{TermJob}
 use Rattle.climb_plan.specs.Changing.{SeenPage}
 use Rattle.climb_plan.specs.Rewriting.{Remade}
@@ -37,9 +37,9 @@ module _ {V : Type 0} where
   removed_by false false q k e es rest f g d ih = rw g ih
 
   -- what is listed under another pid once a pid's entry is taken away
-  removed_apart : (q k : ℕ) (es : List (ℕ × V)) → q ≢ k → listed_at (remove_entry (is_pid k) es) q ≡ listed_at es q
+  removed_apart : (q k : ℕ) (es : List (ℕ × V)) → q ≢ k → listed_at (remove_entry (is_same_pid k) es) q ≡ listed_at es q
   removed_apart q k [] d = refl
-  removed_apart q k (e ∷ es) d = removed_by (is_eq (nat_cmp k e.0)) (is_eq (nat_cmp q e.0)) q k e es (remove_entry (is_pid k) es) refl refl d (removed_apart q k es d)
+  removed_apart q k (e ∷ es) d = removed_by (is_eq (nat_cmp k e.0)) (is_eq (nat_cmp q e.0)) q k e es (remove_entry (is_same_pid k) es) refl refl d (removed_apart q k es d)
 
 module _ {P : Type 0} (t : Mapping P) (k : ℕ) where
   -- what was put into a place is there
@@ -91,15 +91,15 @@ pub home_step : (tree now done : TreeInMemory) (x : SeenPage) (xs all : List See
 home_step tree now done x xs all r n h =
     ap (λ (y : TreeInMemory). tree_home y xs) n ∙ ap (λ (y : List SeenPage). tree_home tree y) (sym r) ∙ h
 
-by_replaced : (b : Bool) (t : Mapping PageOfKind) (k : ℕ) (p : PageOfKind) → KeepsOthers t (with_place (if b then outdated t k else t) k (Some p)) k
-by_replaced true t k p q d = placed_apart (outdated t k) k (Some p) q d
+by_replaced : (b : Bool) (t : Mapping PageOfKind) (k : ℕ) (p : PageOfKind) → KeepsOthers t (with_place (if b then log_outdated t k else t) k (Some p)) k
+by_replaced true t k p q d = placed_apart (log_outdated t k) k (Some p) q d
 by_replaced false t k p q d = placed_apart t k (Some p) q d
 
 pub home_apart : (t : Mapping PageOfKind) (x : SeenPage) → KeepsOthers t (come_home t x) x.pid
 home_apart t x = by_replaced x.replaced t x.pid x.page
 
 -- what was undone, put back, is what was held
-pub put_held : (tree now : TreeInMemory) (held : TermHeld) (job : TermJob) → held_of job ≡ held → now ≡ record tree { table = with_place tree.table job.pid (Some job.page) } → now ≡ record tree { table = with_place tree.table held.pid (Some held.page) }
+pub put_held : (tree now : TreeInMemory) (held : TermHeld) (job : TermJob) → term_held_of job ≡ held → now ≡ record tree { table = with_place tree.table job.pid (Some job.page) } → now ≡ record tree { table = with_place tree.table held.pid (Some held.page) }
 put_held tree now held job e n = n ∙ ap (λ (h : TermHeld). record tree { table = with_place tree.table h.pid (Some h.page) }) e
 
 -- ---- groups are replaced
@@ -189,7 +189,7 @@ distinct_last [] ns d = d
 distinct_last (m ∷ ms) ns d = distinct_last ms ns d.1
 
 abbrev pub replaced_by : Mapping PageOfKind → ℕ → PageOfKind → Mapping PageOfKind
-replaced_by t k p = with_place (outdated t k) k (Some p)
+replaced_by t k p = with_place (log_outdated t k) k (Some p)
 
 module _ (tree : TreeInMemory) (r : Remade) (k : ℕ) (ks : List ℕ) (p : PageOfKind) (can : CanInstall tree.table r) (ms : r.members ≡ k ∷ ks) (replaced : TreeInMemory) (is : replaced ≡ record tree { table = replaced_by tree.table k p }) where
   abbrev distinct : Distinct (k ∷ ks ++ r.fresh)
@@ -199,13 +199,13 @@ module _ (tree : TreeInMemory) (r : Remade) (k : ℕ) (ks : List ℕ) (p : PageO
   members_home xs e =
       let home : AllByRecursion (λ pid. IsSome (page_of tree.table pid)) (k ∷ ks) = subst (λ (ns : List ℕ). AllByRecursion (λ pid. IsSome (page_of tree.table pid)) ns) ms can.members in
       let t : Mapping PageOfKind = replaced_by tree.table k p in
-      let rest : AreAllAtHome t ks = (all_kept (λ o. IsSome (at_home o)) tree.table t k (placed_apart (outdated tree.table k) k (Some p)) ks (all_apart (λ m. m ≢ k) ks r.fresh distinct.0).0 home.1, distinct_first ks r.fresh distinct.1) in
+      let rest : AreAllAtHome t ks = (all_kept (λ o. IsSome (at_home o)) tree.table t k (placed_apart (log_outdated tree.table k) k (Some p)) ks (all_apart (λ m. m ≢ k) ks r.fresh distinct.0).0 home.1, distinct_first ks r.fresh distinct.1) in
       subst (λ (x : TreeInMemory). AreAllAtHome x.table xs) (sym is) (subst (λ (ns : List ℕ). AreAllAtHome t ns) (sym e) rest)
 
   pub fresh_away : (less : TreeInMemory) (xs fresh : List ℕ) → xs ≡ ks → fresh ≡ r.fresh → less ≡ tree_freed replaced xs → AreAway less.table fresh
   fresh_away less xs fresh e f l =
       let t : Mapping PageOfKind = replaced_by tree.table k p in
-      let here : AllByRecursion (λ pid. place_of t pid ≡ Some None) r.fresh = all_kept (λ o. o ≡ Some None) tree.table t k (placed_apart (outdated tree.table k) k (Some p)) r.fresh (all_apart (λ m. m ≢ k) ks r.fresh distinct.0).1 can.fresh in
+      let here : AllByRecursion (λ pid. place_of t pid ≡ Some None) r.fresh = all_kept (λ o. o ≡ Some None) tree.table t k (placed_apart (log_outdated tree.table k) k (Some p)) r.fresh (all_apart (λ m. m ≢ k) ks r.fresh distinct.0).1 can.fresh in
       let rest : AreAway (members_freed t ks) r.fresh = (members_kept (λ o. o ≡ Some None) t ks r.fresh distinct.1 here, distinct_last ks r.fresh distinct.1) in
       let same : less ≡ record tree { table = members_freed t ks } = l ∙ ap (λ (x : TreeInMemory). tree_freed x xs) is ∙ ap (λ (x : List ℕ). tree_freed (record tree { table = t }) x) e in
       subst (λ (x : TreeInMemory). AreAway x.table fresh) (sym same) (subst (λ (x : List ℕ). AreAway (members_freed t ks) x) (sym f) rest)
@@ -230,17 +230,17 @@ put_again : {V : Type 0} → (es : List (ℕ × V)) (k : ℕ) (v w : V) → inse
 put_again [] k v w = rw (tied_itself total k) refl
 put_again (e ∷ es) k v w = put_again_by (nat_cmp k e.0) k v w e es (insert_entry nat_cmp es k v) (insert_entry nat_cmp es k w) refl (put_again es k v w)
 
-pub replaced_tree : (tree taken known now : TreeInMemory) (k : ℕ) (p : PageOfKind) → taken ≡ record tree { table = with_place tree.table k None } → known ≡ record taken { table = outdated taken.table k }
-    → now ≡ record known { table = with_place known.table k (Some p) } → now ≡ record tree { table = with_place (outdated tree.table k) k (Some p) }
+pub replaced_tree : (tree taken known now : TreeInMemory) (k : ℕ) (p : PageOfKind) → taken ≡ record tree { table = with_place tree.table k None } → known ≡ record taken { table = log_outdated taken.table k }
+    → now ≡ record known { table = with_place known.table k (Some p) } → now ≡ record tree { table = with_place (log_outdated tree.table k) k (Some p) }
 replaced_tree tree taken known now k p a b n =
     let put : TreeInMemory → TreeInMemory = λ t. record t { table = with_place t.table k (Some p) } in
-    let less : TreeInMemory → TreeInMemory = λ t. record t { table = outdated t.table k } in
+    let less : TreeInMemory → TreeInMemory = λ t. record t { table = log_outdated t.table k } in
     n ∙ ap put (b ∙ ap less a)
     ∙ ap (λ (es : List (ℕ × Option PageOfKind)). record tree { table = record { places = es; logged = outdate_all (k ∷ []) tree.table.logged } }) (put_again tree.table.places k None (Some p))
 
-pub taken_away : (tree taken known : TreeInMemory) (k : ℕ) → taken ≡ record tree { table = with_place tree.table k None } → known ≡ record taken { table = outdated taken.table k } → place_of known.table k ≡ Some None
+pub taken_away : (tree taken known : TreeInMemory) (k : ℕ) → taken ≡ record tree { table = with_place tree.table k None } → known ≡ record taken { table = log_outdated taken.table k } → place_of known.table k ≡ Some None
 taken_away tree taken known k a b =
-    let less : TreeInMemory → TreeInMemory = λ t. record t { table = outdated t.table k } in
+    let less : TreeInMemory → TreeInMemory = λ t. record t { table = log_outdated t.table k } in
     ap (λ (t : TreeInMemory). place_of t.table k) (b ∙ ap less a) ∙ place_here tree.table k None
 
 pub taken_here : (tree taken : TreeInMemory) (k : ℕ) → taken ≡ record tree { table = with_place tree.table k None } → place_of taken.table k ≡ Some None
@@ -277,21 +277,21 @@ held_apart t u k (x ∷ xs) keeps d =
     ap (λ (o : Option (Option PageOfKind)). record { page = page_or_none (at_home o); pid = x.0; terms = x.1 } ∷ map (parent_held u) xs) (keeps x.0 d.0)
     ∙ ap (λ (hs : List TermHeld). parent_held t x ∷ hs) (held_apart t u k xs keeps d.1)
 
-held_push : (done : List TermJob) (job : TermJob) (hs : List TermHeld) → map held_of (done ++ job ∷ []) ++ hs ≡ map held_of done ++ held_of job ∷ hs
+held_push : (done : List TermJob) (job : TermJob) (hs : List TermHeld) → map term_held_of (done ++ job ∷ []) ++ hs ≡ map term_held_of done ++ term_held_of job ∷ hs
 held_push [] job hs = refl
-held_push (d ∷ ds) job hs = ap (λ (x : List TermHeld). held_of d ∷ x) (held_push ds job hs)
+held_push (d ∷ ds) job hs = ap (λ (x : List TermHeld). term_held_of d ∷ x) (held_push ds job hs)
 
 pub held_step : (tree now : TreeInMemory) (done pushed : List TermJob) (job : TermJob) (x : Told) (xs all : List Told) (hs : List TermHeld) → all ≡ x ∷ xs → now ≡ record tree { table = with_place tree.table x.0 None } → AreParentsHome tree.table (map (λ t. t.0) all)
-    → pushed ≡ done ++ job ∷ [] → job.pid ≡ x.0 → job.terms ≡ x.1 → page_of tree.table x.0 ≡ Some job.page → map held_of done ++ map (parent_held tree.table) all ≡ hs → map held_of pushed ++ map (parent_held now.table) xs ≡ hs
+    → pushed ≡ done ++ job ∷ [] → job.pid ≡ x.0 → job.terms ≡ x.1 → page_of tree.table x.0 ≡ Some job.page → map term_held_of done ++ map (parent_held tree.table) all ≡ hs → map term_held_of pushed ++ map (parent_held now.table) xs ≡ hs
 held_step tree now done pushed job x xs all hs e n home p a b c h =
     let t : Mapping PageOfKind = with_place tree.table x.0 None in
     let apart = (subst (λ (ys : List Told). AreParentsHome tree.table (map (λ t. t.0) ys)) e home).1.0 in
     let rest : map (parent_held now.table) xs ≡ map (parent_held tree.table) xs = ap (λ (y : TreeInMemory). map (parent_held y.table) xs) n ∙ held_apart tree.table t x.0 xs (placed_apart tree.table x.0 None) apart in
     let make : PageOfKind → ℕ → List (List ℕ × Option ℕ) → TermHeld = λ q k r. record { page = q; pid = k; terms = r } in
-    let first : held_of job ≡ parent_held tree.table x = ap (λ (k : ℕ). make job.page k job.terms) a ∙ ap (λ (r : List (List ℕ × Option ℕ)). make job.page x.0 r) b ∙ ap (λ (o : Option PageOfKind). make (page_or_none o) x.0 x.1) (sym c) in
-    ap (λ (ys : List TermJob). map held_of ys ++ map (parent_held now.table) xs) p
+    let first : term_held_of job ≡ parent_held tree.table x = ap (λ (k : ℕ). make job.page k job.terms) a ∙ ap (λ (r : List (List ℕ × Option ℕ)). make job.page x.0 r) b ∙ ap (λ (o : Option PageOfKind). make (page_or_none o) x.0 x.1) (sym c) in
+    ap (λ (ys : List TermJob). map term_held_of ys ++ map (parent_held now.table) xs) p
     ∙ held_push done job (map (parent_held now.table) xs)
-    ∙ ap (λ (ys : List TermHeld). map held_of done ++ held_of job ∷ ys) rest
-    ∙ ap (λ (y : TermHeld). map held_of done ++ y ∷ map (parent_held tree.table) xs) first
-    ∙ ap (λ (ys : List Told). map held_of done ++ map (parent_held tree.table) ys) (sym e)
+    ∙ ap (λ (ys : List TermHeld). map term_held_of done ++ term_held_of job ∷ ys) rest
+    ∙ ap (λ (y : TermHeld). map term_held_of done ++ y ∷ map (parent_held tree.table) xs) first
+    ∙ ap (λ (ys : List Told). map term_held_of done ++ map (parent_held tree.table) ys) (sym e)
     ∙ h

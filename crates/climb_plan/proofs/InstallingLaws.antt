@@ -14,7 +14,7 @@ use Rattle.mapping.specs.Tree.{Logged, listed_at}
 use Rattle.mapping.specs.Outdate.{outdate_all}
 use Rattle.mapping.specs.FreshPids.{is_among}
 use Rattle.mapping.specs.Proper.{Distinct, AreRisingPids}
-use Rattle.mapping.specs.Table.{Mapping, is_pid, pids_in_use, place_of, page_of, at_home, with_place, outdated, freed}
+use Rattle.mapping.specs.Table.{Mapping, is_same_pid, pids_in_use, place_of, page_of, at_home, with_place, log_outdated, freed}
 use Rattle.mapping.proofs.PidLaws.{below_later}
 use Rattle.mapping.proofs.TableLaws.{differ, same_pid}
 use Rattle.mapping.proofs.SameTable.{same_table}
@@ -65,17 +65,17 @@ module _ {V : Type 0} where
   all_left_by Q true e es rest p a r = a
   all_left_by Q false e es rest p a r = (p, r)
 
-  all_keys_left : (Q : ℕ → Type 0) (k : ℕ) (es : List (ℕ × V)) → AllByRecursion Q (keys_of es) → AllByRecursion Q (keys_of (remove_entry (is_pid k) es))
+  all_keys_left : (Q : ℕ → Type 0) (k : ℕ) (es : List (ℕ × V)) → AllByRecursion Q (keys_of es) → AllByRecursion Q (keys_of (remove_entry (is_same_pid k) es))
   all_keys_left Q k [] a = tt
-  all_keys_left Q k (e ∷ es) a = all_left_by Q (is_pid k e.0) e es (remove_entry (is_pid k) es) a.0 a.1 (all_keys_left Q k es a.1)
+  all_keys_left Q k (e ∷ es) a = all_left_by Q (is_same_pid k e.0) e es (remove_entry (is_same_pid k) es) a.0 a.1 (all_keys_left Q k es a.1)
 
   rising_left_by : (b : Bool) (e : ℕ × V) (es rest : List (ℕ × V)) → AreRisingPids (keys_of es) → AllByRecursion (λ n. e.0 < n) (keys_of rest) → AreRisingPids (keys_of rest) → AreRisingPids (keys_of (cond b es (e ∷ rest)))
   rising_left_by true e es rest r a s = r
   rising_left_by false e es rest r a s = (a, s)
 
-  rising_left : (k : ℕ) (es : List (ℕ × V)) → AreRisingPids (keys_of es) → AreRisingPids (keys_of (remove_entry (is_pid k) es))
+  rising_left : (k : ℕ) (es : List (ℕ × V)) → AreRisingPids (keys_of es) → AreRisingPids (keys_of (remove_entry (is_same_pid k) es))
   rising_left k [] r = tt
-  rising_left k (e ∷ es) r = rising_left_by (is_pid k e.0) e es (remove_entry (is_pid k) es) r.1 (all_keys_left (λ n. e.0 < n) k es r.0) (rising_left k es r.1)
+  rising_left k (e ∷ es) r = rising_left_by (is_same_pid k e.0) e es (remove_entry (is_same_pid k) es) r.1 (all_keys_left (λ n. e.0 < n) k es r.0) (rising_left k es r.1)
 
 abbrev Pages : Type 0
 Pages = Mapping PageOfKind
@@ -156,8 +156,8 @@ put_back_is_before t es r d h =
 
 -- ---- pages that come home
 
-rising_home_by : (b : Bool) (t : Pages) (k : ℕ) (p : PageOfKind) → Rises t → Rises (with_place (if b then outdated t k else t) k (Some p))
-rising_home_by true t k p r = rising_with_place (outdated t k) k (Some p) r
+rising_home_by : (b : Bool) (t : Pages) (k : ℕ) (p : PageOfKind) → Rises t → Rises (with_place (if b then log_outdated t k else t) k (Some p))
+rising_home_by true t k p r = rising_with_place (log_outdated t k) k (Some p) r
 rising_home_by false t k p r = rising_with_place t k (Some p) r
 
 pub rising-all_come_home : (t : Pages) (xs : List SeenPage) → Rises t → Rises (all_come_home t xs)
@@ -170,8 +170,8 @@ others-all_come_home q t (x ∷ xs) h =
     let a = none_of q x.pid (map (λ y. y.pid) xs) h in
     others-all_come_home q (come_home t x) xs a.1 ∙ home_apart t x q a.0
 
-home_here_by : (b : Bool) (t : Pages) (k : ℕ) (p : PageOfKind) → place_of (with_place (if b then outdated t k else t) k (Some p)) k ≡ Some (Some p)
-home_here_by true t k p = place_here (outdated t k) k (Some p)
+home_here_by : (b : Bool) (t : Pages) (k : ℕ) (p : PageOfKind) → place_of (with_place (if b then log_outdated t k else t) k (Some p)) k ≡ Some (Some p)
+home_here_by true t k p = place_here (log_outdated t k) k (Some p)
 home_here_by false t k p = place_here t k (Some p)
 
 -- pages that came home are there
@@ -211,7 +211,7 @@ outdate_none : (ls : List (ℕ × Logged)) → outdate_all [] ls ≡ ls
 outdate_none [] = refl
 outdate_none (l ∷ ls) = ap (λ (ms : List (ℕ × Logged)). l ∷ ms) (outdate_none ls)
 
-logged_home_by : (b : Bool) (t u : Pages) (x : SeenPage) (xs : List SeenPage) → x.replaced ≡ b → u.logged ≡ outdate_all (replaced_pids xs) (with_place (if b then outdated t x.pid else t) x.pid (Some x.page)).logged
+logged_home_by : (b : Bool) (t u : Pages) (x : SeenPage) (xs : List SeenPage) → x.replaced ≡ b → u.logged ≡ outdate_all (replaced_pids xs) (with_place (if b then log_outdated t x.pid else t) x.pid (Some x.page)).logged
     → u.logged ≡ outdate_all (map (λ y. y.pid) (if b then x ∷ filter (λ y. y.replaced) xs else filter (λ y. y.replaced) xs)) t.logged
 logged_home_by true t u x xs e h = h ∙ outdate_more x.pid (replaced_pids xs) t.logged
 logged_home_by false t u x xs e h = h
@@ -229,15 +229,15 @@ lookup_gone k (e ∷ es) a =
     let apart : k ≢ e.0 = (λ h. let l : k < e.0 = a.0 in omega arith) in
     rw (differ k e.0 apart) (lookup_gone k es a.1)
 
-gone_by : {V : Type 0} → (b : Bool) (k : ℕ) (e : ℕ × V) (es rest : List (ℕ × V)) → is_pid k e.0 ≡ b → AreRisingPids (keys_of (e ∷ es)) → listed_at rest k ≡ None → listed_at (cond b es (e ∷ rest)) k ≡ None
+gone_by : {V : Type 0} → (b : Bool) (k : ℕ) (e : ℕ × V) (es rest : List (ℕ × V)) → is_same_pid k e.0 ≡ b → AreRisingPids (keys_of (e ∷ es)) → listed_at rest k ≡ None → listed_at (cond b es (e ∷ rest)) k ≡ None
 gone_by true k e es rest h r n =
     let same : k ≡ e.0 = same_pid k e.0 (equal_by (nat_cmp k e.0) h) in
     lookup_gone k es (subst (λ (m : ℕ). AllByRecursion (λ n. m < n) (keys_of es)) (sym same) r.0)
 gone_by false k e es rest h r n = rw h n
 
-gone_entry : {V : Type 0} → (k : ℕ) (es : List (ℕ × V)) → AreRisingPids (keys_of es) → listed_at (remove_entry (is_pid k) es) k ≡ None
+gone_entry : {V : Type 0} → (k : ℕ) (es : List (ℕ × V)) → AreRisingPids (keys_of es) → listed_at (remove_entry (is_same_pid k) es) k ≡ None
 gone_entry k [] r = refl
-gone_entry k (e ∷ es) r = gone_by (is_pid k e.0) k e es (remove_entry (is_pid k) es) refl r (gone_entry k es r.1)
+gone_entry k (e ∷ es) r = gone_by (is_same_pid k e.0) k e es (remove_entry (is_same_pid k) es) refl r (gone_entry k es r.1)
 
 pub rising_gone : (t : Pages) (k : ℕ) → Rises t → Rises (gone_from t k)
 rising_gone t k r = rising_freed (with_place t k None) k (rising_with_place t k None r)
@@ -336,7 +336,7 @@ each_other P Q [] f a = tt
 each_other P Q (k ∷ ks) f a = (f k a.0, each_other P Q ks f a.1)
 
 first_apart : (k q : ℕ) (t : Pages) (p : PageOfKind) → q ≢ k → place_of (replaced_by t k p) q ≡ place_of t q
-first_apart k q t p d = placed_apart (outdated t k) k (Some p) q d
+first_apart k q t p d = placed_apart (log_outdated t k) k (Some p) q d
 
 replaced_group : (t : Pages) (k : ℕ) (ks fresh : List ℕ) (p : PageOfKind) (ps : List PageOfKind) → Rises t → Distinct ((k ∷ ks) ++ fresh) → length (p ∷ ps) ≡ suc (length fresh)
     → IsReplaced t (put_under (members_freed (replaced_by t k p) ks) fresh ps) (record { members = k ∷ ks; pieces = p ∷ ps; fresh = fresh })
@@ -346,9 +346,9 @@ replaced_group t k ks fresh p ps r d n =
     let u : Pages = put_under b fresh ps in
     let count : length ps ≡ length fresh = omega arith in
     let k_apart = none_joined k ks fresh (not_among k (ks ++ fresh) d.0) in
-    let first : place_of u k ≡ Some (Some p) = others-put_under k b fresh ps k_apart.1 ∙ others-members_freed k a ks k_apart.0 ∙ place_here (outdated t k) k (Some p) in
+    let first : place_of u k ≡ Some (Some p) = others-put_under k b fresh ps k_apart.1 ∙ others-members_freed k a ks k_apart.0 ∙ place_here (log_outdated t k) k (Some p) in
     let later : AreUnder u fresh ps = home-put_under b fresh ps (distinct_last ks fresh d.1) count in
-    let rises : Rises a = rising_with_place (outdated t k) k (Some p) r in
+    let rises : Rises a = rising_with_place (log_outdated t k) k (Some p) r in
     let gone : AllByRecursion (λ q. place_of b q ≡ None) ks = none-members_freed a ks rises (distinct_first ks fresh d.1) in
     let stay : AllByRecursion (λ q. place_of u q ≡ place_of b q) ks = each_other (λ q. is_among q fresh ≡ false) (λ q. place_of u q ≡ place_of b q) ks (λ q h. others-put_under q b fresh ps h) (none_each ks fresh d.1) in
     record {
@@ -356,7 +356,7 @@ replaced_group t k ks fresh p ps r d n =
       freed = stay_none b u ks stay gone;
       others = λ q h. (let x = none_of q k (ks ++ fresh) h in let y = none_joined q ks fresh x.1 in others-put_under q b fresh ps y.1 ∙ others-members_freed q a ks y.0 ∙ first_apart k q t p x.0);
       logged = logged-put_under b fresh ps ∙ logged-members_freed a ks ∙ outdate_more k ks t.logged;
-      rising = λ s. rising-put_under b fresh ps (rising-members_freed a ks (rising_with_place (outdated t k) k (Some p) s));
+      rising = λ s. rising-put_under b fresh ps (rising-members_freed a ks (rising_with_place (log_outdated t k) k (Some p) s));
     }
 
 replaced_by_parts : (t : Pages) (members fresh : List ℕ) (pieces : List PageOfKind) → Rises t → 0 < length members → Distinct (members ++ fresh) → length pieces ≡ suc (length fresh)

@@ -10,7 +10,7 @@ use Rattle.index_page.specs.Page.PageOfKind.{Leaf, Index}
 use Rattle.mapping.specs.Proper.{Distinct, AreRisingPids}
 use Rattle.mapping.specs.Table.{Mapping, pids_in_use, place_of, page_of, at_home}
 use Rattle.mapping.specs.TreeInMemory.{TreeInMemory}
-use Rattle.page_runs.specs.TermWork.{TermHeld, held_of, index_made}
+use Rattle.page_runs.specs.TermWork.{TermHeld, term_held_of, index_made}
 use Rattle.page_runs.specs.Worked.{Worked}
 use Rattle.page_runs.specs.declared.term_work.TermJob.{TermJob}
 use Rattle.climb_plan.specs.Installing.{all_taken, all_put, AreAway, IsIndexAt, AreParentsHome, page_or_none, parent_held}
@@ -29,11 +29,11 @@ held_keys : (t : Mapping PageOfKind) (xs : List Told) → keys_of (map under_pid
 held_keys t [] = refl
 held_keys t (x ∷ xs) = ap (λ (ks : List ℕ). x.0 ∷ ks) (held_keys t xs)
 
-job_pids : (js : List TermJob) → map (λ j. j.pid) js ≡ map (λ h. h.pid) (map held_of js)
+job_pids : (js : List TermJob) → map (λ j. j.pid) js ≡ map (λ h. h.pid) (map term_held_of js)
 job_pids [] = refl
 job_pids (j ∷ js) = ap (λ (ks : List ℕ). j.pid ∷ ks) (job_pids js)
 
-job_pages : (js : List TermJob) → map (λ j. (j.pid, j.page)) js ≡ map under_pid (map held_of js)
+job_pages : (js : List TermJob) → map (λ j. (j.pid, j.page)) js ≡ map under_pid (map term_held_of js)
 job_pages [] = refl
 job_pages (j ∷ js) = ap (λ (es : List (ℕ × PageOfKind)). (j.pid, j.page) ∷ es) (job_pages js)
 
@@ -46,14 +46,14 @@ held_indexes : (t : Mapping PageOfKind) (xs : List Told) → AllByRecursion (λ 
 held_indexes t [] a = tt
 held_indexes t (x ∷ xs) a = (index_there (page_of t x.0) a.0, held_indexes t xs a.1)
 
-job_indexes : (js : List TermJob) → AllByRecursion (λ h. IsIndex h.page) (map held_of js) → AllByRecursion (λ j. IsIndex (held_of j).page) js
+job_indexes : (js : List TermJob) → AllByRecursion (λ h. IsIndex h.page) (map term_held_of js) → AllByRecursion (λ j. IsIndex (term_held_of j).page) js
 job_indexes [] a = tt
 job_indexes (j ∷ js) a = (a.0, job_indexes js a.1)
 
 -- the jobs hold index pages
-pub all_indexes : (t : Mapping PageOfKind) (js : List TermJob) (xs : List Told) → map held_of js ≡ map (parent_held t) xs → AreParentsHome t (map (λ x. x.0) xs) → All (λ j. IsIndex (held_of j).page) js
+pub all_indexes : (t : Mapping PageOfKind) (js : List TermJob) (xs : List Told) → map term_held_of js ≡ map (parent_held t) xs → AreParentsHome t (map (λ x. x.0) xs) → All (λ j. IsIndex (term_held_of j).page) js
 all_indexes t js xs e h =
-    All-from_recursion (λ (j : TermJob). IsIndex (held_of j).page) js (job_indexes js (subst (λ (hs : List TermHeld). AllByRecursion (λ h. IsIndex h.page) hs) (sym e) (held_indexes t xs h.0)))
+    All-from_recursion (λ (j : TermJob). IsIndex (term_held_of j).page) js (job_indexes js (subst (λ (hs : List TermHeld). AllByRecursion (λ h. IsIndex h.page) hs) (sym e) (held_indexes t xs h.0)))
 
 pub made_of : (s : Settings) (t : Mapping PageOfKind) (hs : List TermHeld) (xs : List Told) (ws : List (Worked ℕ)) → ws ≡ map (index_made s) hs → hs ≡ map (parent_held t) xs → ws ≡ map (λ x. index_made s (parent_held t x)) xs
 made_of s t hs xs ws e h = e ∙ ap (λ (ys : List TermHeld). map (index_made s) ys) h ∙ joined xs
@@ -72,7 +72,7 @@ held_home t [] a = tt
 held_home t (x ∷ xs) a = (home_there (place_of t x.0) a.0, held_home t xs a.1)
 
 -- where jobs come back, the places of their pages are away
-pub back_away : (tree taken : TreeInMemory) (js again : List TermJob) (xs : List Told) → taken ≡ tree_taken tree (map (λ x. x.0) xs) → map held_of js ≡ map (parent_held tree.table) xs → map held_of again ≡ map held_of js
+pub back_away : (tree taken : TreeInMemory) (js again : List TermJob) (xs : List Told) → taken ≡ tree_taken tree (map (λ x. x.0) xs) → map term_held_of js ≡ map (parent_held tree.table) xs → map term_held_of again ≡ map term_held_of js
     → AreParentsHome tree.table (map (λ x. x.0) xs) → AreAway taken.table (map (λ j. j.pid) again)
 back_away tree taken js again xs n e f h =
     let ks : List ℕ = map (λ x. x.0) xs in
@@ -81,7 +81,7 @@ back_away tree taken js again xs n e f h =
     subst (λ (y : TreeInMemory). AreAway y.table (map (λ j. j.pid) again)) (sym n) (subst (λ (ns : List ℕ). AreAway (all_taken tree.table ks) ns) (sym same) all)
 
 -- and once they are put back the tree is as it was
-pub back_is_before : (tree taken now : TreeInMemory) (js again : List TermJob) (xs : List Told) → taken ≡ tree_taken tree (map (λ x. x.0) xs) → map held_of js ≡ map (parent_held tree.table) xs → map held_of again ≡ map held_of js
+pub back_is_before : (tree taken now : TreeInMemory) (js again : List TermJob) (xs : List Told) → taken ≡ tree_taken tree (map (λ x. x.0) xs) → map term_held_of js ≡ map (parent_held tree.table) xs → map term_held_of again ≡ map term_held_of js
     → now ≡ tree_put taken (map (λ j. (j.pid, j.page)) again) → AreParentsHome tree.table (map (λ x. x.0) xs) → AreRisingPids (pids_in_use tree.table) → now ≡ tree
 back_is_before tree taken now js again xs n e f p h r =
     let ks : List ℕ = map (λ x. x.0) xs in

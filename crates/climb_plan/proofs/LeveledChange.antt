@@ -16,7 +16,7 @@ use Rattle.split_plan.specs.WorkedLevel.{worked_parents}
 use Rattle.climb_plan.specs.Changing.{SeenPage, shown, changing, parents_of, changing_groups, changing_changes}
 use Rattle.climb_plan.specs.Installing.{all_taken, parent_held, AreAway, AreParentsHome}
 use Rattle.climb_plan.specs.Level.{IsKind, parent_pids, group_counts, IsLevel, IsCut, IsChanged}
-use Rattle.climb_plan.specs.Rewriting.{Remade, HaveSome, numbered, numbers, told, CanBeTold}
+use Rattle.climb_plan.specs.Rewriting.{Remade, HaveSome, numbered, numbers, terms_by_parent, CanBeTold}
 use Rattle.climb_plan.proofs.BridgeDrawn.{drawn_places}
 use Rattle.climb_plan.proofs.BridgeGroups.{changing_rewritten}
 use Rattle.climb_plan.proofs.BridgeNext.{new_here, can_be_taken, told_here, taken_here, made_here, held_here}
@@ -58,11 +58,11 @@ module _ {V : Type 0} (s : Settings) (of : Page V → PageOfKind) (kind : IsKind
     pub remade_here : given ≡ made_in of (changes s used i rewritten_here)
     remade_here = numbered_so ∙ ap (numbered used i) cut.pieces ∙ numbered-shown of kind s used i rewritten_here (changing_rewritten ps ws)
 
-    told_so : told counts freed given ≡ told_here s of t xs ws ps ups used i z h
+    told_so : terms_by_parent counts freed given ≡ told_here s of t xs ws ps ups used i z h
     told_so =
-        ap (λ (cs : List (ℕ × ℕ)). told cs freed given) cut.counts
-        ∙ ap (λ (fs : List (List (List ℕ × ℕ))). told (group_counts (changing ps ws)) fs given) cut.names
-        ∙ ap (λ (rs : List Remade). told (group_counts (changing ps ws)) (freed_in of rewritten_here) rs) remade_here
+        ap (λ (cs : List (ℕ × ℕ)). terms_by_parent cs freed given) cut.counts
+        ∙ ap (λ (fs : List (List (List ℕ × ℕ))). terms_by_parent (group_counts (changing ps ws)) fs given) cut.names
+        ∙ ap (λ (rs : List Remade). terms_by_parent (group_counts (changing ps ws)) (freed_in of rewritten_here) rs) remade_here
         ∙ told-shown of kind s used i (changing ps ws)
 
     -- the parents can be told
@@ -80,7 +80,7 @@ module _ {V : Type 0} (s : Settings) (of : Page V → PageOfKind) (kind : IsKind
       same_tree = drawn ∙ ap (λ (n : ℕ). with_table t (with_rooms t.table (fresh_pids (pids_in_use t.table) n))) count
 
       -- and taken
-      pub parents_home : AreParentsHome u.table (map (λ e. e.0) (told counts freed given))
+      pub parents_home : AreParentsHome u.table (map (λ e. e.0) (terms_by_parent counts freed given))
       parents_home =
           subst (λ (es : List (ℕ × List (List ℕ × Option ℕ))). AreParentsHome u.table (map (λ e. e.0) es)) (sym told_so)
           (subst (λ (ns : List ℕ). AreParentsHome u.table ns) (sym (taken_here s of t xs ws ps ups used i z h))
@@ -90,8 +90,8 @@ module _ {V : Type 0} (s : Settings) (of : Page V → PageOfKind) (kind : IsKind
       still_rising = subst (λ (v : TreeInMemory). AreRisingPids (pids_in_use v.table)) (sym same_tree) (drawn_places (new_here s of t xs ws ps ups used i) t.table h.rising).rising
 
       -- what became of the level
-      pub all_changed : (after : TreeInMemory) (parents : List IndexWorked) → map (λ d. d.made) parents ≡ map (λ e. index_made s (parent_held u.table e)) (told counts freed given)
-          → map (λ d. d.held) parents ≡ map (parent_held u.table) (told counts freed given) → after ≡ with_table u (all_taken u.table (map (λ e. e.0) (told counts freed given)))
+      pub all_changed : (after : TreeInMemory) (parents : List IndexWorked) → map (λ d. d.made) parents ≡ map (λ e. index_made s (parent_held u.table e)) (terms_by_parent counts freed given)
+          → map (λ d. d.held) parents ≡ map (parent_held u.table) (terms_by_parent counts freed given) → after ≡ with_table u (all_taken u.table (map (λ e. e.0) (terms_by_parent counts freed given)))
           → IsChanged s of t after ws ps used i given parents
       all_changed after parents made held taken =
           let pair : TermHeld → ℕ × PageOfKind = λ x. (x.pid, x.page) in
@@ -118,9 +118,9 @@ module _ {V : Type 0} (s : Settings) (of : Page V → PageOfKind) (kind : IsKind
 pub record IsDrawn {V : Type 0} (s : Settings) (of : Page V → PageOfKind) (t u : TreeInMemory) (ws : List (Worked V)) (ps : List (Placed ℕ)) (used : List ℕ) (i : ℕ) (counts : List (ℕ × ℕ)) (freed : List (List (List ℕ × ℕ))) (given : List Remade) : Type 0 where
   pub rising : AreRisingPids (pids_in_use u.table)
   pub names : CanBeTold counts freed given
-  pub home : AreParentsHome u.table (map (λ e. e.0) (told counts freed given))
-  pub changed : (after : TreeInMemory) (parents : List IndexWorked) → map (λ d. d.made) parents ≡ map (λ e. index_made s (parent_held u.table e)) (told counts freed given)
-      → map (λ d. d.held) parents ≡ map (parent_held u.table) (told counts freed given) → after ≡ with_table u (all_taken u.table (map (λ e. e.0) (told counts freed given)))
+  pub home : AreParentsHome u.table (map (λ e. e.0) (terms_by_parent counts freed given))
+  pub changed : (after : TreeInMemory) (parents : List IndexWorked) → map (λ d. d.made) parents ≡ map (λ e. index_made s (parent_held u.table e)) (terms_by_parent counts freed given)
+      → map (λ d. d.held) parents ≡ map (parent_held u.table) (terms_by_parent counts freed given) → after ≡ with_table u (all_taken u.table (map (λ e. e.0) (terms_by_parent counts freed given)))
       → IsChanged s of t after ws ps used i given parents
 
 pub level_drawn : {V : Type 0} (s : Settings) (of : Page V → PageOfKind) (kind : IsKind of) (z : 0 < s.fan) (t u : TreeInMemory) (xs : List SeenPage) (ws : List (Worked V)) (ps : List (Placed ℕ)) (ups : List (List (Placed ℕ))) (used : List ℕ) (i : ℕ)

@@ -8,9 +8,9 @@ use Rattle.mapping.specs.TreeInMemory.{TreeInMemory}
 use Rattle.page_runs.specs.Worked.{Worked}
 use Rattle.climb_plan.specs.Changing.{SeenPage, shown, changing, changing_groups}
 use Rattle.climb_plan.specs.Level.{IsKind, IsLevel, IsCut}
-use Rattle.climb_plan.specs.Rewriting.{rewriting, counted, groups_of, IsLevelSeen, Remade, cut_group, freed_names, CanBeCut}
+use Rattle.climb_plan.specs.Rewriting.{rewriting, rewriting_counts, groups_of, IsLevelSeen, Remade, cut_group, freed_names, CanBeCut}
 use Rattle.climb_plan.proofs.BridgeGroups.{can_be_cut}
-use Rattle.climb_plan.proofs.BridgeSeen.{counted-shown, groups-shown, shown_groups, level_seen}
+use Rattle.climb_plan.proofs.BridgeSeen.{rewriting_counts-shown, groups-shown, shown_groups, level_seen}
 
 module _ {V : Type 0} (of : Page V → PageOfKind) (kind : IsKind of) (t : TreeInMemory) (xs ys : List SeenPage) (depth : ℕ) (same : ys ≡ xs) where
   -- code sees the level
@@ -26,7 +26,7 @@ module _ {V : Type 0} (of : Page V → PageOfKind) (kind : IsKind of) (t : TreeI
 
   -- what is made of them
   pub all_cut : (s : Settings) (counts : List (ℕ × ℕ)) (gs : List (List SeenPage)) (freed : List (List (List ℕ × ℕ))) (made : List Remade)
-      → ((all : List SeenPage) (qs : List (Placed ℕ)) (vps : List (List (Placed ℕ))) → IsLevelSeen t depth ys all qs vps → counts ≡ counted (rewriting qs all))
+      → ((all : List SeenPage) (qs : List (Placed ℕ)) (vps : List (List (Placed ℕ))) → IsLevelSeen t depth ys all qs vps → counts ≡ rewriting_counts (rewriting qs all))
       → ((all : List SeenPage) (qs : List (Placed ℕ)) (vps : List (List (Placed ℕ))) → IsLevelSeen t depth ys all qs vps → gs ≡ groups_of (rewriting qs all))
       → freed ≡ map freed_names gs → made ≡ map (cut_group s) gs
       → (ws : List (Worked V)) (ps : List (Placed ℕ)) (ups : List (List (Placed ℕ))) (used : List ℕ) (i : ℕ) → IsLevel of t xs ws (ps ∷ ups) used i → depth ≡ length ups → IsCut s of ws ps counts freed made
@@ -34,7 +34,7 @@ module _ {V : Type 0} (of : Page V → PageOfKind) (kind : IsKind of) (t : TreeI
       let seen = level_in_sight ws ps ups used i h e in
       let same_groups : gs ≡ shown_groups of (changing_groups (changing ps ws)) = given_groups (map (shown of) ws) ps ups seen ∙ groups-shown of ps ws in
       record {
-        counts = given_counts (map (shown of) ws) ps ups seen ∙ counted-shown of ps ws;
+        counts = given_counts (map (shown of) ws) ps ups seen ∙ rewriting_counts-shown of ps ws;
         names = names ∙ ap (λ (hs : List (List SeenPage)). map freed_names hs) same_groups;
         pieces = pieces ∙ ap (λ (hs : List (List SeenPage)). map (cut_group s) hs) same_groups;
       }

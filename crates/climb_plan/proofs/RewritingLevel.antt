@@ -21,7 +21,7 @@ use Rattle.page_runs.specs.declared.class.Class.{Class}
 use Rattle.page_runs.specs.Worked.{is_fat_class}
 use Rattle.split_plan.specs.Groups.{Gathered, with_child, gathered, with_leading}
 use Rattle.climb_plan.specs.Changing.{SeenPage, calls}
-use Rattle.climb_plan.specs.Rewriting.{seen_name, lows, AreSeenIn, is_thin_seen, is_rewritten_seen, rewritten_groups, Rewriting, with_rewriting, rewriting, counted, groups_of, IsLevelSeen, IsQuiet, HasFirstCall, pids_for, IsFamilyOf}
+use Rattle.climb_plan.specs.Rewriting.{seen_name, lows, AreSeenIn, is_thin_seen, is_rewritten_seen, rewritten_groups, Rewriting, with_rewriting, rewriting, rewriting_counts, groups_of, IsLevelSeen, IsQuiet, HasFirstCall, pids_for, IsFamilyOf}
 use Rattle.climb_plan.specs.Rewriting.AreSeenIn.{worked, at_home}
 use Rattle.climb_plan.proofs.DescentWay.{pid_for}
 use Rattle.climb_plan.proofs.RewritingFamily.{Names}
@@ -225,10 +225,10 @@ pub record IsLeft (t : Mapping PageOfKind) (xs all : List SeenPage) (ps : List (
   pub parts : ps ≡ done ++ rest
   pub linked : joined rest ≡ map seen_name left
   pub seen : AreSeenIn t xs left
-  pub all_parents : parents ++ counted (rewriting rest left) ≡ counted (rewriting ps all)
+  pub all_parents : parents ++ rewriting_counts (rewriting rest left) ≡ rewriting_counts (rewriting ps all)
   pub all_groups : made ++ groups_of (rewriting rest left) ≡ groups_of (rewriting ps all)
 
-counted_with : (pid : ℕ) (gs : List (List SeenPage)) (rs : List Rewriting) → counted (with_rewriting pid gs []) ++ counted rs ≡ counted (with_rewriting pid gs rs)
+counted_with : (pid : ℕ) (gs : List (List SeenPage)) (rs : List Rewriting) → rewriting_counts (with_rewriting pid gs []) ++ rewriting_counts rs ≡ rewriting_counts (with_rewriting pid gs rs)
 counted_with pid [] rs = refl
 counted_with pid (g ∷ gs) rs = refl
 
@@ -240,10 +240,10 @@ module _ (t : TreeInMemory) (depth : ℕ) (all_xs all : List SeenPage) (ps : Lis
   pub at_first : IsLeft t.table all_xs all ps [] []
   at_first = record { done = []; rest = ps; left = all; parts = refl; linked = h.linked; seen = h.seen; all_parents = refl; all_groups = refl }
 
-  pub at_last : (xs : List SeenPage) (parents : List (ℕ × ℕ)) (made : List (List SeenPage)) → IsLeft t.table xs all ps parents made → AllByRecursion IsQuiet xs → (parents ≡ counted (rewriting ps all)) × (made ≡ groups_of (rewriting ps all))
+  pub at_last : (xs : List SeenPage) (parents : List (ℕ × ℕ)) (made : List (List SeenPage)) → IsLeft t.table xs all ps parents made → AllByRecursion IsQuiet xs → (parents ≡ rewriting_counts (rewriting ps all)) × (made ≡ groups_of (rewriting ps all))
   at_last xs parents made s q =
       let nothing : rewriting s.rest s.left ≡ [] = none_called t.table s.rest s.left xs s.linked s.seen q in
-      (sym (append-nil parents) ∙ ap (λ (rs : List Rewriting). parents ++ counted rs) (sym nothing) ∙ s.all_parents, sym (append-nil made) ∙ ap (λ (rs : List Rewriting). made ++ groups_of rs) (sym nothing) ∙ s.all_groups)
+      (sym (append-nil parents) ∙ ap (λ (rs : List Rewriting). parents ++ rewriting_counts rs) (sym nothing) ∙ s.all_parents, sym (append-nil made) ∙ ap (λ (rs : List Rewriting). made ++ groups_of rs) (sym nothing) ∙ s.all_groups)
 
   module _ (xs : List SeenPage) (parents : List (ℕ × ℕ)) (made : List (List SeenPage)) (low : List ℕ) (s : IsLeft t.table xs all ps parents made) (f : HasFirstCall xs low) where
     -- the family of the first page that calls
@@ -309,7 +309,7 @@ module _ (t : TreeInMemory) (depth : ℕ) (all_xs all : List SeenPage) (ps : Lis
         let inside = is_inside in
         absurd (cc)
 
-    pub at_next : (ys : List SeenPage) (more : List (ℕ × ℕ)) (most : List (List SeenPage)) → AreSeenIn t.table ys found.later → more ≡ parents ++ counted (with_rewriting found.parent.pid (rewritten_groups found.children) []) → most ≡ made ++ rewritten_groups found.children → IsLeft t.table ys all ps more most
+    pub at_next : (ys : List SeenPage) (more : List (ℕ × ℕ)) (most : List (List SeenPage)) → AreSeenIn t.table ys found.later → more ≡ parents ++ rewriting_counts (with_rewriting found.parent.pid (rewritten_groups found.children) []) → most ≡ made ++ rewritten_groups found.children → IsLeft t.table ys all ps more most
     at_next ys more most seen m g =
         let pid : ℕ = found.parent.pid in
         let gs : List (List SeenPage) = rewritten_groups found.children in
@@ -323,7 +323,7 @@ module _ (t : TreeInMemory) (depth : ℕ) (all_xs all : List SeenPage) (ps : Lis
           linked = found.later_linked;
           seen = seen;
           all_parents =
-              ap (λ (cs : List (ℕ × ℕ)). cs ++ counted rs) m ∙ append_assoc parents (counted (with_rewriting pid gs [])) (counted rs) ∙ ap (λ (cs : List (ℕ × ℕ)). parents ++ cs) (counted_with pid gs rs) ∙ ap (λ (qs : List Rewriting). parents ++ counted qs) (sym found.same) ∙ s.all_parents;
+              ap (λ (cs : List (ℕ × ℕ)). cs ++ rewriting_counts rs) m ∙ append_assoc parents (rewriting_counts (with_rewriting pid gs [])) (rewriting_counts rs) ∙ ap (λ (cs : List (ℕ × ℕ)). parents ++ cs) (counted_with pid gs rs) ∙ ap (λ (qs : List Rewriting). parents ++ rewriting_counts qs) (sym found.same) ∙ s.all_parents;
           all_groups =
               ap (λ (hs : List (List SeenPage)). hs ++ groups_of rs) g ∙ append_assoc made gs (groups_of rs) ∙ ap (λ (hs : List (List SeenPage)). made ++ hs) (groups_with pid gs rs) ∙ ap (λ (qs : List Rewriting). made ++ groups_of qs) (sym found.same) ∙ s.all_groups;
         }

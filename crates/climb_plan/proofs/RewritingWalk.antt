@@ -4,7 +4,7 @@ use Rattle.std.proofs.Common.{sym, ap, ◌∙◌, subst, arith}
 use Rattle.mapping.specs.Levels.{Placed}
 use Rattle.mapping.specs.TreeInMemory.{TreeInMemory}
 use Rattle.climb_plan.specs.Changing.{SeenPage}
-use Rattle.climb_plan.specs.Rewriting.{all_seen, AreSeenIn, rewritten_groups, with_rewriting, counted, IsLevelSeen, HasFirstCall, pids_for, IsFamilyOf}
+use Rattle.climb_plan.specs.Rewriting.{all_seen, AreSeenIn, rewritten_groups, with_rewriting, rewriting_counts, IsLevelSeen, HasFirstCall, pids_for, IsFamilyOf}
 use Rattle.climb_plan.specs.declared.seen.Seen.{Seen}
 use Rattle.climb_plan.proofs.RewritingGroups.{drop_further}
 use Rattle.climb_plan.proofs.RewritingLevel as walk
@@ -41,7 +41,7 @@ module _ (t : TreeInMemory) (depth : ℕ) (all_xs all : List SeenPage) (ps : Lis
     some_behind (suc n) k = omega arith
 
     pub left_behind : (behind : ℕ) (more : List (ℕ × ℕ)) (most : List (List SeenPage)) → OfFamily (λ p children later. AreSeenIn t.table (all_seen (drop behind again)) later)
-        → OfFamily (λ p children later. more ≡ parents ++ counted (with_rewriting p.pid (rewritten_groups children) [])) → OfFamily (λ p children later. most ≡ made ++ rewritten_groups children) → IsLeft t.table (all_seen (drop (done + behind) seen)) all ps more most
+        → OfFamily (λ p children later. more ≡ parents ++ rewriting_counts (with_rewriting p.pid (rewritten_groups children) [])) → OfFamily (λ p children later. most ≡ made ++ rewritten_groups children) → IsLeft t.table (all_seen (drop (done + behind) seen)) all ps more most
     unfolding next_family
     left_behind behind more most k m g =
         let n = next_family in

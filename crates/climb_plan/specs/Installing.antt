@@ -6,7 +6,7 @@ use Rattle.index_page.specs.Page.PageOfKind.{Leaf, Index}
 use Rattle.mapping.specs.FreshPids.{is_among, unused}
 use Rattle.mapping.specs.Levels.{Placed, pids}
 use Rattle.mapping.specs.Proper.{Distinct, AreRisingPids}
-use Rattle.mapping.specs.Table.{Mapping, pids_in_use, place_of, page_of, with_place, outdated, freed, freed_all, IsOldWithoutPlace}
+use Rattle.mapping.specs.Table.{Mapping, pids_in_use, place_of, page_of, with_place, freed, freed_all, IsOldWithoutPlace, log_outdated}
 use Rattle.page_runs.specs.TermWork.{TermHeld}
 use Rattle.climb_plan.specs.Changing.{SeenPage}
 use Rattle.mapping.specs.TreeInMemory.{TreeInMemory}
@@ -51,7 +51,7 @@ AreParentsHome t pids = AllByRecursion (λ pid. IsIndexAt (page_of t pid)) pids 
 
 -- the table with a page put home after its run; where it was replaced the log doesn't know it
 abbrev pub come_home : Mapping PageOfKind → SeenPage → Mapping PageOfKind
-come_home t x = with_place (if x.replaced then outdated t x.pid else t) x.pid (Some x.page)
+come_home t x = with_place (if x.replaced then log_outdated t x.pid else t) x.pid (Some x.page)
 
 abbrev pub all_come_home : Mapping PageOfKind → List SeenPage → Mapping PageOfKind
 all_come_home t [] = t
@@ -74,7 +74,7 @@ put_under t (pid ∷ pids) (p ∷ ps) = put_under (with_place t pid (Some p)) pi
 abbrev pub first_replaced : Mapping PageOfKind → List ℕ → List PageOfKind → Mapping PageOfKind
 first_replaced t [] pages = t
 first_replaced t (pid ∷ pids) [] = t
-first_replaced t (pid ∷ pids) (p ∷ ps) = with_place (outdated t pid) pid (Some p)
+first_replaced t (pid ∷ pids) (p ∷ ps) = with_place (log_outdated t pid) pid (Some p)
 
 -- the table once a group is replaced by what is made of it
 abbrev pub group_installed : Mapping PageOfKind → Remade → Mapping PageOfKind

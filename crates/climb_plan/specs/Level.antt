@@ -13,7 +13,7 @@ use Rattle.mapping.specs.TreeInMemory.{TreeInMemory}
 use Rattle.page_runs.specs.TermWork.{IndexWorked}
 use Rattle.page_runs.specs.Worked.{Worked}
 use Rattle.split_plan.specs.Change.{Change, is_rewritten, changes, fresh_of}
-use Rattle.split_plan.specs.Pieces.{joined_pages, pieces_of, group_made, CanJoin}
+use Rattle.split_plan.specs.Pieces.{joined_pages, pages_made, group_made, CanJoin}
 use Rattle.split_plan.specs.Terms.{terms}
 use Rattle.split_plan.specs.WorkedLevel.{worked_parents, placed_of}
 use Rattle.climb_plan.specs.Changing.{SeenPage, shown, AreSeen, AreHome, Changing, changing, parents_of, changing_groups, changing_changes}
@@ -27,7 +27,7 @@ use Rattle.climb_plan.specs.Rewriting.{Remade, cut_group, freed_names}
 -- can be joined where their entries rise
 pub record IsKind {V : Type 0} (of : Page V → PageOfKind) : Type 0 where
   pub low : (p : Page V) → low_of (of p) ≡ p.low
-  pub made : (s : Settings) (p : Page V) (ps : List (Page V)) → group_made s (map of (p ∷ ps)) ≡ map of (pieces_of s (p ∷ ps))
+  pub made : (s : Settings) (p : Page V) (ps : List (Page V)) → group_made s (map of (p ∷ ps)) ≡ map of (pages_made s (p ∷ ps))
   pub join : (p : Page V) (ps : List (Page V)) → IsRising (joined_pages (p ∷ ps)) → CanJoin (map of (p ∷ ps))
 
 -- ---- what is made of groups

@@ -73,8 +73,8 @@ rewriting [] all = []
 rewriting (p ∷ ps) all = with_rewriting p.pid (rewritten_groups (take (length (entries p)) all)) (rewriting ps (drop (length (entries p)) all))
 
 -- each such parent with how many of its groups are rewritten, and all these groups
-abbrev pub counted : List Rewriting → List (ℕ × ℕ)
-counted rs = map (λ r. (r.parent, length r.groups)) rs
+abbrev pub rewriting_counts : List Rewriting → List (ℕ × ℕ)
+rewriting_counts rs = map (λ r. (r.parent, length r.groups)) rs
 
 abbrev pub groups_of : List Rewriting → List (List SeenPage)
 groups_of rs = flat_map (λ r. r.groups) rs
@@ -213,9 +213,9 @@ abbrev pub terms_of : List (List (List ℕ × ℕ)) → List Remade → List (Li
 terms_of fs rs = with_run (absent (flat fs)) (present (flat_map fresh_names rs))
 
 -- each parent with the run of its terms: so many of the groups are its own
-abbrev pub told : List (ℕ × ℕ) → List (List (List ℕ × ℕ)) → List Remade → List (ℕ × List (List ℕ × Option ℕ))
-told [] fs rs = []
-told (c ∷ cs) fs rs = (c.0, terms_of (take c.1 fs) (take c.1 rs)) ∷ told cs (drop c.1 fs) (drop c.1 rs)
+abbrev pub terms_by_parent : List (ℕ × ℕ) → List (List (List ℕ × ℕ)) → List Remade → List (ℕ × List (List ℕ × Option ℕ))
+terms_by_parent [] fs rs = []
+terms_by_parent (c ∷ cs) fs rs = (c.0, terms_of (take c.1 fs) (take c.1 rs)) ∷ terms_by_parent cs (drop c.1 fs) (drop c.1 rs)
 
 -- each parent has so many groups, and their names can be told, since they rise
 abbrev pub CanBeTold : List (ℕ × ℕ) → List (List (List ℕ × ℕ)) → List Remade → Type 0

@@ -6,7 +6,7 @@ ghost use Rattle.mapping.specs.FreshPids.{unused};
 ghost use Rattle.mapping.specs.Proper.{AreRisingPids};
 ghost use Rattle.mapping.specs.Table.{pids_in_use, with_rooms, fresh_pids, freed_all, IsOldWithoutPlace};
 ghost use Rattle.split_plan.specs.Pieces.{pages_lent};
-ghost use Rattle.climb_plan.specs.Rewriting.{seen_name, all_seen, cut_group, CanBeCut, joined_groups, freed_names, fresh_names, named_pages, HaveSome, numbered, numbers, terms_of, told, CanBeTold};
+ghost use Rattle.climb_plan.specs.Rewriting.{seen_name, all_seen, cut_group, CanBeCut, joined_groups, freed_names, fresh_names, named_pages, HaveSome, numbered, numbers, terms_of, CanBeTold, terms_by_parent};
 ghost use Rattle.climb_plan.specs.Installing.{AreAway};
 
 use crate::seen::Seen;
@@ -218,7 +218,7 @@ pub(crate) fn all_terms(
     all: &[Rewritten],
 ) -> Result<Vec<(u64, Run<Pid, Global>)>, AllocError>
     requires { CanBeTold parents.now (map (λ names. names.items) freed.items) all.now }
-    ensures { IfOk result (λ runs. runs.items ≡ told parents.now (map (λ names. names.items) freed.items) all.now) }
+    ensures { IfOk result (λ runs. runs.items ≡ terms_by_parent parents.now (map (λ names. names.items) freed.items) all.now) }
 {
     let mut runs = Vec::with_capacity(alloc, parents.len())?;
     let mut freed = VecDeque::from(freed);

@@ -8,7 +8,7 @@ ghost use Rattle.mapping.specs.Levels.{Placed};
 ghost use Rattle.mapping.specs.Table.{page_of};
 ghost use Rattle.page_runs.specs.declared.class.Class.TheVariants.{Same};
 ghost use Rattle.climb_plan.specs.Changing.{SeenPage};
-ghost use Rattle.climb_plan.specs.Rewriting.{seen_now, all_seen, AreSeenIn, AreParents, IsLevelSeen, IsQuiet, HasFirstCall, pids_for, AreParted, begins_at, IsNextChild, IsFamilyOf, rewriting, rewritten_groups, with_rewriting, counted, groups_of, is_rewritten_seen};
+ghost use Rattle.climb_plan.specs.Rewriting.{seen_now, all_seen, AreSeenIn, AreParents, IsLevelSeen, IsQuiet, HasFirstCall, pids_for, AreParted, begins_at, IsNextChild, IsFamilyOf, rewriting, rewritten_groups, with_rewriting, rewriting_counts, groups_of, is_rewritten_seen};
 
 use crate::seen::Seen;
 use keys::{Pid, compare};
@@ -36,7 +36,7 @@ pub(crate) fn rewrites<'a>(
 ) -> Result<ToRewrite<'a>, AllocError>
     requires { (all : List SeenPage) × (ps : List (Placed ℕ)) × (ups : List (List (Placed ℕ))) × IsLevelSeen tree.now depth (all_seen seen.now) all ps ups }
     ensures parents { IfOk result (λ r. (all : List SeenPage) (ps : List (Placed ℕ)) (ups : List (List (Placed ℕ))) → IsLevelSeen tree.now depth (all_seen seen.now) all ps ups →
-        r.parents.items ≡ counted (rewriting ps all)) }
+        r.parents.items ≡ rewriting_counts (rewriting ps all)) }
     ensures groups { IfOk result (λ r. (all : List SeenPage) (ps : List (Placed ℕ)) (ups : List (List (Placed ℕ))) → IsLevelSeen tree.now depth (all_seen seen.now) all ps ups →
         map (λ g. all_seen g.items) r.groups.items ≡ groups_of (rewriting ps all)) }
 {
@@ -103,7 +103,7 @@ fn add_family<'a>(
         IsFamilyOf tree.now.table (all_seen seen.now) p before from children later → AreSeenIn tree.now.table (all_seen (drop behind seen.now)) later) }
     ensures parents { OnOk result ((p : Placed ℕ) (before from children later : List SeenPage) → parent ≡ p.pid →
         IsFamilyOf tree.now.table (all_seen seen.now) p before from children later →
-        rewrites.new.parents.items ≡ rewrites.old.parents.items ++ counted (with_rewriting p.pid (rewritten_groups children) [])) }
+        rewrites.new.parents.items ≡ rewrites.old.parents.items ++ rewriting_counts (with_rewriting p.pid (rewritten_groups children) [])) }
     ensures groups { OnOk result ((p : Placed ℕ) (before from children later : List SeenPage) → parent ≡ p.pid →
         IsFamilyOf tree.now.table (all_seen seen.now) p before from children later →
         map (λ g. all_seen g.items) rewrites.new.groups.items ≡ map (λ g. all_seen g.items) rewrites.old.groups.items ++ rewritten_groups children) }

@@ -4,8 +4,8 @@ ghost use Rattle.std.specs.Prelude.{◌≡◌, map, Some, None, IsSome, IfOk, On
 ghost use Rattle.std.specs.List.{AllByRecursion};
 ghost use Rattle.std.specs.Vec.Iter.{into_iter_items};
 ghost use Rattle.mapping.specs.Proper.{Distinct, AreRisingPids};
-ghost use Rattle.page_runs.specs.TermWork.{index_made, held_of};
-ghost use Rattle.mapping.specs.Table.{page_of, place_of, with_place, outdated, pids_in_use};
+ghost use Rattle.page_runs.specs.TermWork.{index_made, term_held_of};
+ghost use Rattle.mapping.specs.Table.{page_of, place_of, with_place, log_outdated, pids_in_use};
 ghost use Rattle.climb_plan.specs.Installing.{all_taken, all_put, AreAway, AreParentsHome, parent_held, come_home, all_come_home, members_freed, put_under, group_installed, all_installed, CanInstall, CanInstallAll};
 
 use crate::change::Rewritten;
@@ -53,7 +53,7 @@ fn take_all(
     told: Vec<(u64, Run<Pid, Global>)>,
 ) -> Result<Vec<TermJob>, AllocError>
     requires { AreParentsHome tree.old.table (map (λ t. t.0) told.items) }
-    ensures held { IfOk result (λ jobs. map held_of jobs.items ≡ map (parent_held tree.old.table) told.items) }
+    ensures held { IfOk result (λ jobs. map term_held_of jobs.items ≡ map (parent_held tree.old.table) told.items) }
     ensures taken { OnOk result (tree.new ≡ record tree.old { table = all_taken tree.old.table (map (λ t. t.0) told.items) }) }
     ensures err { OnErr result (tree.new ≡ tree.old) }
 {
@@ -159,7 +159,7 @@ fn install(tree: &mut Tree<Global>, group: Rewritten)
 // Puts the page into the place of another, which the log doesn't know then.
 fn replace(tree: &mut Tree<Global>, pid: u64, page: Page<Global>)
     requires { IsSome (page_of tree.old.table pid) }
-    ensures { tree.new ≡ record tree.old { table = with_place (outdated tree.old.table pid) pid (Some page) } }
+    ensures { tree.new ≡ record tree.old { table = with_place (log_outdated tree.old.table pid) pid (Some page) } }
 {
     let place = Pid(pid);
     let _before = tree.take(place);

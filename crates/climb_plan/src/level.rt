@@ -7,7 +7,7 @@ ghost use Rattle.page_runs.specs.TermWork.{index_made};
 ghost use Rattle.page_runs.specs.Worked.{Worked};
 ghost use Rattle.climb_plan.specs.Installing.{all_taken, AreParentsHome, parent_held};
 ghost use Rattle.climb_plan.specs.Level.{IsLevel, IsCut, IsChanged};
-ghost use Rattle.climb_plan.specs.Rewriting.{told, CanBeTold};
+ghost use Rattle.climb_plan.specs.Rewriting.{terms_by_parent, CanBeTold};
 
 use crate::change::{Rewritten, all_freed, all_terms, cut_all, draw_all, free_drawn};
 use crate::family::rewrites;
@@ -66,13 +66,13 @@ fn tell_parents(
 ) -> Result<Vec<TermDone>, AllocError>
     requires rising { AreRisingPids (pids_in_use tree.old.table) }
     requires names { CanBeTold parents.now (map (λ names. names.items) freed.items) groups.now }
-    requires home { AreParentsHome tree.old.table (map (λ t. t.0) (told parents.now (map (λ names. names.items) freed.items) groups.now)) }
+    requires home { AreParentsHome tree.old.table (map (λ t. t.0) (terms_by_parent parents.now (map (λ names. names.items) freed.items) groups.now)) }
     ensures made { IfOk result (λ dones. map (λ d. d.made) dones.items ≡
-        map (λ t. index_made settings.now (parent_held tree.old.table t)) (told parents.now (map (λ names. names.items) freed.items) groups.now)) }
+        map (λ t. index_made settings.now (parent_held tree.old.table t)) (terms_by_parent parents.now (map (λ names. names.items) freed.items) groups.now)) }
     ensures held { IfOk result (λ dones. map (λ d. d.held) dones.items ≡
-        map (parent_held tree.old.table) (told parents.now (map (λ names. names.items) freed.items) groups.now)) }
+        map (parent_held tree.old.table) (terms_by_parent parents.now (map (λ names. names.items) freed.items) groups.now)) }
     ensures taken { OnOk result (tree.new ≡ record tree.old
-        { table = all_taken tree.old.table (map (λ t. t.0) (told parents.now (map (λ names. names.items) freed.items) groups.now)) }) }
+        { table = all_taken tree.old.table (map (λ t. t.0) (terms_by_parent parents.now (map (λ names. names.items) freed.items) groups.now)) }) }
     ensures err { OnErr result (tree.new ≡ tree.old) }
 {
     let told = all_terms(alloc, parents, freed, groups)?;

@@ -6,7 +6,7 @@ use Rattle.keys.specs.Order.{order, IsRising}
 use Rattle.keys.specs.OrderedMap.{without}
 use Rattle.keys.proofs.MapLaws.{IsBelowAll, below_all, same_key, order_itself, flipped_less, flipped_greater}
 use Rattle.delta_chain.specs.Layers.{with_change, with_run}
-use Rattle.delta_chain.specs.Merging.{present, first_order}
+use Rattle.delta_chain.specs.Merging.{pair_if, first_order}
 use Rattle.delta_chain.proofs.Places.{drop_pair, front_under, front_at}
 
 module _ {T : Type 0} where
@@ -34,7 +34,7 @@ module _ {V : Type 0} where
   without_absent k (e ∷ es) a = rw a.0 (ap (λ (m : List (List ℕ × V)). e ∷ m) (without_absent k es a.1))
 
   -- a change below every key goes in front
-  change_in_front : (es : List (List ℕ × V)) (k : List ℕ) (o : Option V) → IsRising es → first_order es k ≡ Greater → with_change es k o ≡ present k o ++ es
+  change_in_front : (es : List (List ℕ × V)) (k : List ℕ) (o : Option V) → IsRising es → first_order es k ≡ Greater → with_change es k o ≡ pair_if k o ++ es
   change_in_front [] k None r h = refl
   change_in_front [] k (Some v) r h = refl
   change_in_front (e ∷ es) k None r h =
@@ -59,11 +59,11 @@ module _ {V : Type 0} where
       ap (λ (m : List (List ℕ × V)). with_run m cs)
       (ap (λ (k : List ℕ). with_change (e ∷ es) k c.1) (sym s) ∙ change_of_first e es c.1 r ∙ ap (λ (k : List ℕ). with_change es k c.1) s)
 
-  change_goes : (es : List (List ℕ × V)) (k : List ℕ) (o : Option V) (cs : List (List ℕ × Option V)) → IsBelowAll k (keys_of cs) → with_run (present k o ++ es) cs ≡ present k o ++ with_run es cs
+  change_goes : (es : List (List ℕ × V)) (k : List ℕ) (o : Option V) (cs : List (List ℕ × Option V)) → IsBelowAll k (keys_of cs) → with_run (pair_if k o ++ es) cs ≡ pair_if k o ++ with_run es cs
   change_goes es k None cs a = refl
   change_goes es k (Some v) cs a = run_behind (k, v) es cs a
 
-  pub change_stays : (es : List (List ℕ × V)) (c : List ℕ × Option V) (cs : List (List ℕ × Option V)) → IsRising es → IsRising (c ∷ cs) → first_order es c.0 ≡ Greater → with_run es (c ∷ cs) ≡ present c.0 c.1 ++ with_run es cs
+  pub change_stays : (es : List (List ℕ × V)) (c : List ℕ × Option V) (cs : List (List ℕ × Option V)) → IsRising es → IsRising (c ∷ cs) → first_order es c.0 ≡ Greater → with_run es (c ∷ cs) ≡ pair_if c.0 c.1 ++ with_run es cs
   change_stays es c cs r s h =
       ap (λ (m : List (List ℕ × V)). with_run m cs) (change_in_front es c.0 c.1 r h) ∙ change_goes es c.0 c.1 cs (sorted_head order c.0 (keys_of cs) s)
 
@@ -87,12 +87,12 @@ module _ {V : Type 0} where
       let w : with_run (drop from es) (drop at run) ≡ with_run (drop (suc from) es) (drop at run) = rw (e.1, c.1) (first_goes e.0 (drop (suc from) es) (k, c.0) (drop (suc at) run) s l) in
       ap (λ (m : List (List ℕ × V)). out ++ m) (sym w) ∙ t
 
-  pub greater_step : (es : List (List ℕ × V)) (run : List (List ℕ × Option V)) (from at : ℕ) (k : List ℕ) (o : Option V) (out all : List (List ℕ × V)) → IsRising es → IsRising run → slice_get (keys_of run) at ≡ Some k → slice_get (values_of run) at ≡ Some o → Greater ≡ first_order (drop from es) k → out ++ with_run (drop from es) (drop at run) ≡ all → (out ++ present k o) ++ with_run (drop from es) (drop (suc at) run) ≡ all
+  pub greater_step : (es : List (List ℕ × V)) (run : List (List ℕ × Option V)) (from at : ℕ) (k : List ℕ) (o : Option V) (out all : List (List ℕ × V)) → IsRising es → IsRising run → slice_get (keys_of run) at ≡ Some k → slice_get (values_of run) at ≡ Some o → Greater ≡ first_order (drop from es) k → out ++ with_run (drop from es) (drop at run) ≡ all → (out ++ pair_if k o) ++ with_run (drop from es) (drop (suc at) run) ≡ all
   greater_step es run from at k o out all r s hk ho h t =
       let f : drop at run ≡ (k, o) ∷ drop (suc at) run = drop_pair run at k o hk ho in
       let s' : IsRising ((k, o) ∷ drop (suc at) run) = rw f at (rising_behind at run s) in
-      let w : with_run (drop from es) (drop at run) ≡ present k o ++ with_run (drop from es) (drop (suc at) run) = rw f (change_stays (drop from es) (k, o) (drop (suc at) run) (rising_behind from es r) s' (sym h)) in
-      append_assoc out (present k o) (with_run (drop from es) (drop (suc at) run)) ∙ ap (λ (m : List (List ℕ × V)). out ++ m) (sym w) ∙ t
+      let w : with_run (drop from es) (drop at run) ≡ pair_if k o ++ with_run (drop from es) (drop (suc at) run) = rw f (change_stays (drop from es) (k, o) (drop (suc at) run) (rising_behind from es r) s' (sym h)) in
+      append_assoc out (pair_if k o) (with_run (drop from es) (drop (suc at) run)) ∙ ap (λ (m : List (List ℕ × V)). out ++ m) (sym w) ∙ t
 
   -- where the first pair does not stand above the key there is one
   pub there_is_one : (es : List (List ℕ × V)) (from : ℕ) (k : List ℕ) (o : Ordering) → o ≡ first_order (drop from es) k → (o ≡ Greater → ⊥) → from < length es

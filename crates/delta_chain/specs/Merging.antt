@@ -6,9 +6,9 @@ use Rattle.keys.specs.Order.{order}
 use Rattle.delta_chain.specs.Layers.{with_run}
 
 -- the key with its value, where it has one
-abbrev pub present : {V : Type 0} → List ℕ → Option V → List (List ℕ × V)
-present k None = []
-present k (Some v) = (k, v) ∷ []
+abbrev pub pair_if : {V : Type 0} → List ℕ → Option V → List (List ℕ × V)
+pair_if k None = []
+pair_if k (Some v) = (k, v) ∷ []
 
 -- how the first key stands to k; where there is none, as one above every key
 abbrev pub first_order : {V : Type 0} → List (List ℕ × V) → List ℕ → Ordering

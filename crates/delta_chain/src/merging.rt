@@ -4,7 +4,7 @@ ghost use Rattle.std.specs.Option.{option_copied};
 ghost use Rattle.keys.specs.Order.{IsRising};
 ghost use Rattle.delta_chain.specs.Layers.{with_run};
 ghost use Rattle.delta_chain.specs.Lent.{pairs_lent};
-ghost use Rattle.delta_chain.specs.Merging.{present, first_order, overlaid};
+ghost use Rattle.delta_chain.specs.Merging.{pair_if, first_order, overlaid};
 
 use crate::base::Base;
 use crate::pairs::Pairs;
@@ -118,7 +118,7 @@ fn push_change<'a, V, A: Allocator + Copy>(
     change: Option<&'a V>,
 )
     requires { vec_len lent.old < vec_capacity lent.old }
-    ensures pairs { pairs_lent lent.new.items ≡ pairs_lent lent.old.items ++ present key.now (option_copied change.entry) }
+    ensures pairs { pairs_lent lent.new.items ≡ pairs_lent lent.old.items ++ pair_if key.now (option_copied change.entry) }
     ensures count { vec_len lent.new ≤ vec_len lent.old + 1 }
     ensures room { vec_capacity lent.new ≡ vec_capacity lent.old }
 {

@@ -18,7 +18,7 @@ use Rattle.mapping.specs.Proper.{Distinct, AreRisingPids}
 use Rattle.mapping.specs.Table.{Mapping, pids_in_use, place_of, page_of, at_home, with_place}
 use Rattle.mapping.specs.TreeInMemory.{TreeInMemory}
 use Rattle.routing.specs.Routes.{Route}
-use Rattle.page_runs.specs.LeafWork.{LeafHeld, LeafMade, LeafWorked, IsLeafHeld, leaf_made, held_of}
+use Rattle.page_runs.specs.LeafWork.{LeafHeld, LeafMade, LeafWorked, IsLeafHeld, leaf_made, leaf_held_of}
 use Rattle.page_runs.specs.Replies.{ArePlacesOf}
 use Rattle.page_runs.specs.declared.leaf_work.LeafJob.{LeafJob}
 use Rattle.replies.specs.ByPlace.{reply_at, AreAnswers}
@@ -63,7 +63,7 @@ module _ (cs : List (Command Global)) (ds : List LeafWorked) (xss : List (List (
 -- ---- leaves are put back
 
 -- what was undone, put back, is what was held
-pub put_held : (tree now : TreeInMemory) (held : LeafHeld) (job : LeafJob) → held_of job ≡ held → now ≡ record tree { table = with_place tree.table job.page_run.pid (Some job.page) } → now ≡ record tree { table = with_place tree.table held.route.pid (Some held.page) }
+pub put_held : (tree now : TreeInMemory) (held : LeafHeld) (job : LeafJob) → leaf_held_of job ≡ held → now ≡ record tree { table = with_place tree.table job.page_run.pid (Some job.page) } → now ≡ record tree { table = with_place tree.table held.route.pid (Some held.page) }
 put_held tree now held job e n = n ∙ ap (λ (h : LeafHeld). record tree { table = with_place tree.table h.route.pid (Some h.page) }) e
 
 -- ---- leaves are taken
@@ -89,23 +89,23 @@ held_apart t u k (r ∷ rs) keeps d =
     ap (λ (o : Option (Option PageOfKind)). record { page = page_or_none (at_home o); route = r } ∷ map (leaf_held u) rs) (keeps r.pid d.0)
     ∙ ap (λ (hs : List LeafHeld). leaf_held t r ∷ hs) (held_apart t u k rs keeps d.1)
 
-held_push : (done : List LeafJob) (job : LeafJob) (hs : List LeafHeld) → map held_of (done ++ job ∷ []) ++ hs ≡ map held_of done ++ held_of job ∷ hs
-held_push done job hs = ap (λ (x : List LeafHeld). x ++ hs) (map_push held_of done job) ∙ append_assoc (map held_of done) (held_of job ∷ []) hs
+held_push : (done : List LeafJob) (job : LeafJob) (hs : List LeafHeld) → map leaf_held_of (done ++ job ∷ []) ++ hs ≡ map leaf_held_of done ++ leaf_held_of job ∷ hs
+held_push done job hs = ap (λ (x : List LeafHeld). x ++ hs) (map_push leaf_held_of done job) ∙ append_assoc (map leaf_held_of done) (leaf_held_of job ∷ []) hs
 
 -- the job of a leaf that was taken is pushed, and what is held is what was held and is left
 pub held_step : (tree now : TreeInMemory) (done pushed : List LeafJob) (job : LeafJob) (r : Route) (rs all : List Route) (hs : List LeafHeld) → all ≡ r ∷ rs → now ≡ record tree { table = with_place tree.table r.pid None } → AreLeavesHome tree.table (route_pids all)
-    → pushed ≡ done ++ job ∷ [] → job.page_run ≡ r → page_of tree.table r.pid ≡ Some job.page → map held_of done ++ map (leaf_held tree.table) all ≡ hs → map held_of pushed ++ map (leaf_held now.table) rs ≡ hs
+    → pushed ≡ done ++ job ∷ [] → job.page_run ≡ r → page_of tree.table r.pid ≡ Some job.page → map leaf_held_of done ++ map (leaf_held tree.table) all ≡ hs → map leaf_held_of pushed ++ map (leaf_held now.table) rs ≡ hs
 held_step tree now done pushed job r rs all hs e n home p a b h =
     let t : Mapping PageOfKind = with_place tree.table r.pid None in
     let apart = (subst (λ (ys : List Route). AreLeavesHome tree.table (route_pids ys)) e home).1.0 in
     let rest : map (leaf_held now.table) rs ≡ map (leaf_held tree.table) rs = ap (λ (y : TreeInMemory). map (leaf_held y.table) rs) n ∙ held_apart tree.table t r.pid rs (placed_apart tree.table r.pid None) apart in
     let make : PageOfKind → Route → LeafHeld = λ q x. record { page = q; route = x } in
-    let first : held_of job ≡ leaf_held tree.table r = ap (λ (x : Route). make job.page x) a ∙ ap (λ (o : Option PageOfKind). make (page_or_none o) r) (sym b) in
-    ap (λ (ys : List LeafJob). map held_of ys ++ map (leaf_held now.table) rs) p
+    let first : leaf_held_of job ≡ leaf_held tree.table r = ap (λ (x : Route). make job.page x) a ∙ ap (λ (o : Option PageOfKind). make (page_or_none o) r) (sym b) in
+    ap (λ (ys : List LeafJob). map leaf_held_of ys ++ map (leaf_held now.table) rs) p
     ∙ held_push done job (map (leaf_held now.table) rs)
-    ∙ ap (λ (ys : List LeafHeld). map held_of done ++ held_of job ∷ ys) rest
-    ∙ ap (λ (y : LeafHeld). map held_of done ++ y ∷ map (leaf_held tree.table) rs) first
-    ∙ ap (λ (ys : List Route). map held_of done ++ map (leaf_held tree.table) ys) (sym e)
+    ∙ ap (λ (ys : List LeafHeld). map leaf_held_of done ++ leaf_held_of job ∷ ys) rest
+    ∙ ap (λ (y : LeafHeld). map leaf_held_of done ++ y ∷ map (leaf_held tree.table) rs) first
+    ∙ ap (λ (ys : List Route). map leaf_held_of done ++ map (leaf_held tree.table) ys) (sym e)
     ∙ h
 
 -- ---- leaves are worked
@@ -120,14 +120,14 @@ held_leaves t cs [] a b = tt
 held_leaves t cs (r ∷ rs) a b =
     (record { leaf = leaf_there (page_of t r.pid) a.0; places = b.0 }, held_leaves t cs rs a.1 b.1)
 
-job_leaves : (cs : List (Command Global)) (js : List LeafJob) → AllByRecursion (IsLeafHeld cs) (map held_of js) → AllByRecursion (λ j. IsLeafHeld cs (held_of j)) js
+job_leaves : (cs : List (Command Global)) (js : List LeafJob) → AllByRecursion (IsLeafHeld cs) (map leaf_held_of js) → AllByRecursion (λ j. IsLeafHeld cs (leaf_held_of j)) js
 job_leaves cs [] a = tt
 job_leaves cs (j ∷ js) a = (a.0, job_leaves cs js a.1)
 
 -- the jobs hold leaves, and places of the batch
-pub all_leaves : (t : Mapping PageOfKind) (cs : List (Command Global)) (js : List LeafJob) (rs : List Route) → map held_of js ≡ map (leaf_held t) rs → AreLeafRoutes t cs rs → All (λ j. IsLeafHeld cs (held_of j)) js
+pub all_leaves : (t : Mapping PageOfKind) (cs : List (Command Global)) (js : List LeafJob) (rs : List Route) → map leaf_held_of js ≡ map (leaf_held t) rs → AreLeafRoutes t cs rs → All (λ j. IsLeafHeld cs (leaf_held_of j)) js
 all_leaves t cs js rs e h =
-    All-from_recursion (λ (j : LeafJob). IsLeafHeld cs (held_of j)) js (job_leaves cs js (subst (λ (hs : List LeafHeld). AllByRecursion (IsLeafHeld cs) hs) (sym e) (held_leaves t cs rs h.home h.places)))
+    All-from_recursion (λ (j : LeafJob). IsLeafHeld cs (leaf_held_of j)) js (job_leaves cs js (subst (λ (hs : List LeafHeld). AllByRecursion (IsLeafHeld cs) hs) (sym e) (held_leaves t cs rs h.home h.places)))
 
 pub made_of : (s : Settings) (cs : List (Command Global)) (t : Mapping PageOfKind) (hs : List LeafHeld) (rs : List Route) (ms : List LeafMade) → ms ≡ map (leaf_made s cs) hs → hs ≡ map (leaf_held t) rs → ms ≡ leaves_made s cs t rs
 made_of s cs t hs rs ms e h = e ∙ ap (map (leaf_made s cs)) h ∙ map-map (leaf_made s cs) (leaf_held t) rs
@@ -145,11 +145,11 @@ held_keys : (t : Mapping PageOfKind) (rs : List Route) → keys_of (map under_pi
 held_keys t [] = refl
 held_keys t (r ∷ rs) = ap (λ (ks : List ℕ). r.pid ∷ ks) (held_keys t rs)
 
-job_pids : (js : List LeafJob) → map (λ j. j.page_run.pid) js ≡ map (λ h. h.route.pid) (map held_of js)
-job_pids js = sym (map-map (λ (h : LeafHeld). h.route.pid) held_of js)
+job_pids : (js : List LeafJob) → map (λ j. j.page_run.pid) js ≡ map (λ h. h.route.pid) (map leaf_held_of js)
+job_pids js = sym (map-map (λ (h : LeafHeld). h.route.pid) leaf_held_of js)
 
-job_pages : (js : List LeafJob) → map (λ j. (j.page_run.pid, j.page)) js ≡ map under_pid (map held_of js)
-job_pages js = sym (map-map under_pid held_of js)
+job_pages : (js : List LeafJob) → map (λ j. (j.page_run.pid, j.page)) js ≡ map under_pid (map leaf_held_of js)
+job_pages js = sym (map-map under_pid leaf_held_of js)
 
 home_there : (o : Option (Option PageOfKind)) → IsLeafAt (at_home o) → o ≡ Some (Some (page_or_none (at_home o)))
 home_there None h = absurd h
@@ -161,7 +161,7 @@ held_home t [] a = tt
 held_home t (r ∷ rs) a = (home_there (place_of t r.pid) a.0, held_home t rs a.1)
 
 -- where jobs come back, the places of their pages are away
-pub back_away : (tree taken : TreeInMemory) (js again : List LeafJob) (rs : List Route) → taken ≡ tree_taken tree (route_pids rs) → map held_of js ≡ map (leaf_held tree.table) rs → map held_of again ≡ map held_of js → Distinct (route_pids rs)
+pub back_away : (tree taken : TreeInMemory) (js again : List LeafJob) (rs : List Route) → taken ≡ tree_taken tree (route_pids rs) → map leaf_held_of js ≡ map (leaf_held tree.table) rs → map leaf_held_of again ≡ map leaf_held_of js → Distinct (route_pids rs)
     → AreAway taken.table (map (λ j. j.page_run.pid) again)
 back_away tree taken js again rs n e f d =
     let ks : List ℕ = route_pids rs in
@@ -170,7 +170,7 @@ back_away tree taken js again rs n e f d =
     subst (λ (y : TreeInMemory). AreAway y.table (map (λ j. j.page_run.pid) again)) (sym n) (subst (λ (ns : List ℕ). AreAway (all_taken tree.table ks) ns) (sym same) all)
 
 -- and once they are put back the tree is as it was
-pub back_is_before : (tree taken now : TreeInMemory) (js again : List LeafJob) (rs : List Route) → taken ≡ tree_taken tree (route_pids rs) → map held_of js ≡ map (leaf_held tree.table) rs → map held_of again ≡ map held_of js
+pub back_is_before : (tree taken now : TreeInMemory) (js again : List LeafJob) (rs : List Route) → taken ≡ tree_taken tree (route_pids rs) → map leaf_held_of js ≡ map (leaf_held tree.table) rs → map leaf_held_of again ≡ map leaf_held_of js
     → now ≡ tree_put taken (map (λ j. (j.page_run.pid, j.page)) again) → AreLeavesHome tree.table (route_pids rs) → AreRisingPids (pids_in_use tree.table) → now ≡ tree
 back_is_before tree taken now js again rs n e f p h r =
     let ks : List ℕ = route_pids rs in

@@ -7,8 +7,10 @@ use Rattle.std.specs.Map.{keys_of}
 use Rattle.std.specs.Option.{option_map}
 use Rattle.std.specs.declared.alloc.Global.{Global}
 use Rattle.std.proofs.lemmas.List.Elements.{All-weaker}
+use Rattle.keys.specs.CommandKey.{is_scan}
 use Rattle.keys.specs.Narrowed.{with_end, first_end, with_ends, MayEndAtAll}
 use Rattle.keys.specs.Order.{IsRising}
+use Rattle.keys.specs.Places.{is_some_that, is_scan_at}
 use Rattle.keys.specs.Range.{in_range}
 use Rattle.keys.specs.Step.{replies_to}
 use Rattle.keys.specs.declared.command.Command.{Command}
@@ -32,7 +34,7 @@ use Rattle.page_runs.specs.NetRun.{net_run}
 use Rattle.page_runs.specs.Replies.{ArePlacesOf, commands_at, pieces_of}
 use Rattle.page_runs.specs.Worked.{worked}
 use Rattle.page_runs.proofs.EndedBatch.{AreNear, near_ends, EndsBefore, AllEndBefore, all_end_before, replies-ended, net_run-ended, net_run-with_ends}
-use Rattle.replies.specs.ByPlace.{joined as joined_replies, joined_at, reply_at, pieces_at, is_rows, is_scan_by, is_scan_at, AreAnswers}
+use Rattle.replies.specs.ByPlace.{joined_replies, joined_replies_at, reply_at, pieces_at, is_rows, AreAnswers}
 use Rattle.split_plan.specs.WorkedLevel.{worked_leaves}
 use Rattle.climb_plan.specs.Climb.{Climbed, climb}
 use Rattle.climb_plan.specs.Plan.{shrunk, shrunk_pids, planned_tree}
@@ -112,12 +114,12 @@ module _ (cs : List (Command Global)) (ends : List (Option (List ℕ))) where
   pub places-ended : (rs : List Route) → AllByRecursion (λ r. ArePlacesOf (with_ends cs ends) r.places) rs → AllByRecursion (λ r. ArePlacesOf cs r.places) rs
   places-ended rs a = subst (λ (n : ℕ). AllByRecursion (λ r. AllByRecursion (λ place. place < n) r.places) rs) (length-with_ends cs ends) a
 
-  scan_by : (end : Option (List ℕ)) (o : Option (Command Global)) → is_scan_by (option_map (with_end end) o) ≡ is_scan_by o
+  scan_by : (end : Option (List ℕ)) (o : Option (Command Global)) → is_some_that is_scan (option_map (with_end end) o) ≡ is_some_that is_scan o
   scan_by end None = refl
   scan_by end (Some c) = scan-with_end end c
 
   scan-ended : (place : ℕ) → is_scan_at (with_ends cs ends) place ≡ is_scan_at cs place
-  scan-ended place = ap is_scan_by (get-with_ends cs ends place) ∙ scan_by (first_end (drop place ends)) (slice_get cs place)
+  scan-ended place = ap (is_some_that is_scan) (get-with_ends cs ends place) ∙ scan_by (first_end (drop place ends)) (slice_get cs place)
 
   joined-with_end : (end : Option (List ℕ)) (c : Command Global) (rs : List (Reply Global)) → joined_replies (with_end end c) rs ≡ joined_replies c rs
   joined-with_end None c rs = refl
@@ -127,7 +129,7 @@ module _ (cs : List (Command Global)) (ends : List (Option (List ℕ))) where
   joined-with_end (Some end) (Del k) rs = refl
   joined-with_end (Some end) (Scan lo hi limit) rs = refl
 
-  joined_by : (end : Option (List ℕ)) (o : Option (Command Global)) (rs : List (Reply Global)) → joined_at (option_map (with_end end) o) rs ≡ joined_at o rs
+  joined_by : (end : Option (List ℕ)) (o : Option (Command Global)) (rs : List (Reply Global)) → joined_replies_at (option_map (with_end end) o) rs ≡ joined_replies_at o rs
   joined_by end None rs = refl
   joined_by end (Some c) rs = joined-with_end end c rs
 
@@ -135,7 +137,7 @@ module _ (cs : List (Command Global)) (ends : List (Option (List ℕ))) where
   pub reply-ended : (ps : List (Piece Global)) (place : ℕ) → reply_at (with_ends cs ends) ps place ≡ reply_at cs ps place
   reply-ended ps place =
       let rs : List (Reply Global) = map (λ p. p.reply) (pieces_at ps place) in
-      ap (λ (o : Option (Command Global)). joined_at o rs) (get-with_ends cs ends place) ∙ joined_by (first_end (drop place ends)) (slice_get cs place) rs
+      ap (λ (o : Option (Command Global)). joined_replies_at o rs) (get-with_ends cs ends place) ∙ joined_by (first_end (drop place ends)) (slice_get cs place) rs
 
   -- and are answers to either
   pub answers-ended : (ps : List (Piece Global)) → AreAnswers (with_ends cs ends) ps → AreAnswers cs ps

@@ -11,6 +11,7 @@ use Rattle.std.proofs.lemmas.List.Sums.{length-filter}
 use Rattle.keys.specs.CommandKey.{key_of, is_scan}
 use Rattle.keys.specs.Order.{IsRising}
 use Rattle.keys.specs.OrderedMap.{value_at}
+use Rattle.keys.specs.Places.{is_some_that, is_scan_at}
 use Rattle.keys.specs.Range.{in_range}
 use Rattle.keys.specs.Step.{found, reply_to, map_after, replies_to}
 use Rattle.keys.specs.declared.command.Command.{Command}
@@ -28,8 +29,8 @@ use Rattle.routing.specs.Routes.{goes_to, places_from, places_within, ranges}
 use Rattle.routing.proofs.RouteLaws.{goes_by_key, within_all}
 use Rattle.page_runs.specs.Replies.{commands_at, pieces_of}
 use Rattle.page_runs.proofs.PageParts.{map_after-part, reply_to-part, rows-parts}
-use Rattle.replies.specs.ByPlace.{pieces_at, rows_of, is_rows, lone, joined, joined_at, reply_at, is_scan_by, is_scan_at, IsPlaceOf, AreAnswers}
-use Rattle.replies.proofs.Placing.{same_at_each, replies_of, joined-lone}
+use Rattle.replies.specs.ByPlace.{pieces_at, rows_of, is_rows, lone, joined_replies, joined_replies_at, reply_at, IsPlaceOf, AreAnswers}
+use Rattle.replies.proofs.Placing.{same_at_each, replies_of, joined_replies-lone}
 use Rattle.engine.proofs.CommandsWithin.{commands_within}
 
 abbrev Pairs : Type 0
@@ -112,7 +113,7 @@ module _ {A : Type 0} where
     kinds-answers all n m [] h = tt
     kinds-answers all n m (c ∷ left) h =
         let s = stands_first n all c left h in
-        all_if (λ p. is_rows p.reply ≡ is_scan_at all p.place) (goes_to low end c) _ _ (kind-reply_to (in_range low end m) c ∙ sym (ap is_scan_by s.0)) (kinds-answers all (suc n) (map_after m c) left s.1)
+        all_if (λ p. is_rows p.reply ≡ is_scan_at all p.place) (goes_to low end c) _ _ (kind-reply_to (in_range low end m) c ∙ sym (ap (is_some_that is_scan) s.0)) (kinds-answers all (suc n) (map_after m c) left s.1)
 
     -- ---- what a page answers at a place
 
@@ -220,11 +221,11 @@ module _ {A : Type 0} where
       ∙ ap (λ (xs : Pairs). (if goes_to at.low at.end c then rows_of (reply_to (in_range at.low at.end m) c) else []) ++ xs) (rows_joined m c ats)
 
   module _ {V : Type 0} (level : List (Placed V)) (first : next_low level None ≡ Some []) (tiled : Tiled level None) where
-    plain_joined : (m : Pairs) (c : Command A) → IsRising m → is_scan c ≡ false → joined c (all_own m c (ranges level)) ≡ Some (reply_to m c)
-    plain_joined m c rising plain = joined-lone c (all_own m c (ranges level)) plain ∙ ap (λ (rs : List (Reply A)). lone rs) (one_reply m c rising plain level first tiled)
+    plain_joined : (m : Pairs) (c : Command A) → IsRising m → is_scan c ≡ false → joined_replies c (all_own m c (ranges level)) ≡ Some (reply_to m c)
+    plain_joined m c rising plain = joined_replies-lone c (all_own m c (ranges level)) plain ∙ ap (λ (rs : List (Reply A)). lone rs) (one_reply m c rising plain level first tiled)
 
     -- what the pages answer to a command makes the reply of the whole map
-    joined_own : (m : Pairs) (c : Command A) → IsRising m → joined c (all_own m c (ranges level)) ≡ Some (reply_to m c)
+    joined_own : (m : Pairs) (c : Command A) → IsRising m → joined_replies c (all_own m c (ranges level)) ≡ Some (reply_to m c)
     joined_own m (Get k) r = plain_joined m (Get k) r refl
     joined_own m (Put k v) r = plain_joined m (Put k v) r refl
     joined_own m (Add k v) r = plain_joined m (Add k v) r refl
@@ -232,7 +233,7 @@ module _ {A : Type 0} where
     joined_own m (Scan lo hi limit) r =
         ap (λ (xs : Pairs). Some (Rows (take limit xs))) (rows_joined m (Scan lo hi limit) (ranges level)) ∙ ap (λ (xs : Pairs). Some (Rows xs)) (rows-parts A level m lo hi limit first tiled r)
 
-    joined_all : (m : Pairs) (cs : List (Command A)) (i : ℕ) → IsRising m → joined_at (slice_get cs i) (all_at m cs i (ranges level)) ≡ slice_get (replies_to m cs) i
+    joined_all : (m : Pairs) (cs : List (Command A)) (i : ℕ) → IsRising m → joined_replies_at (slice_get cs i) (all_at m cs i (ranges level)) ≡ slice_get (replies_to m cs) i
     joined_all m [] i r = refl
     joined_all m (c ∷ cs) zero r = joined_own m c r
     joined_all m (c ∷ cs) (suc i) r = joined_all (map_after m c) cs i (rising-map_after m c r)
@@ -256,4 +257,4 @@ module _ {A : Type 0} where
 
       -- and the replies that their answers make are those of the whole map
       pub answers_make_the_replies : (rs : List (Reply A)) → ((i : ℕ) → slice_get rs i ≡ reply_at cs answers i) → rs ≡ replies_to m cs
-      answers_make_the_replies rs made = same_at_each rs (replies_to m cs) (λ i. made i ∙ ap (joined_at (slice_get cs i)) (all_answers_at m cs i (ranges level)) ∙ joined_all m cs i rising)
+      answers_make_the_replies rs made = same_at_each rs (replies_to m cs) (λ i. made i ∙ ap (joined_replies_at (slice_get cs i)) (all_answers_at m cs i (ranges level)) ∙ joined_all m cs i rising)

@@ -2,7 +2,7 @@
 ghost use Rattle.std.specs.Prelude.{◌≡◌, ℕ, Some, None, map, slice_get, vec_items, IfOk, OnOk, OnErr};
 ghost use Rattle.mapping.specs.Proper.{AreRisingPids};
 ghost use Rattle.mapping.specs.Table.{pids_in_use, place_of, with_place};
-ghost use Rattle.page_runs.specs.LeafWork.{held_of};
+ghost use Rattle.page_runs.specs.LeafWork.{leaf_held_of};
 ghost use Rattle.replies.specs.ByPlace.{AreAnswers, reply_at};
 ghost use Rattle.climb_plan.specs.Installing.{all_taken, all_put, AreAway};
 ghost use Rattle.engine.specs.Leaves.{route_pids, AreLeavesHome, AreLeafRoutes, leaf_held, leaves_made, answers, without_answers};
@@ -52,7 +52,7 @@ fn take_leaves(
     page_runs: Vec<PageRun>,
 ) -> Result<Vec<LeafJob>, AllocError>
     requires { AreLeavesHome tree.old.table (route_pids page_runs.items) }
-    ensures held { IfOk result (λ jobs. map held_of jobs.items ≡ map (leaf_held tree.old.table) page_runs.items) }
+    ensures held { IfOk result (λ jobs. map leaf_held_of jobs.items ≡ map (leaf_held tree.old.table) page_runs.items) }
     ensures taken { OnOk result (tree.new ≡ record tree.old { table = all_taken tree.old.table (route_pids page_runs.items) }) }
     ensures err { OnErr result (tree.new ≡ tree.old) }
 {

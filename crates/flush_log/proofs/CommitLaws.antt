@@ -6,7 +6,7 @@ use Rattle.flush_log.specs.Overlay.{overlay, IsBeside, AgreeAt}
 use Rattle.flush_log.specs.Layout.{Span, place_of_span, with_spans}
 use Rattle.flush_log.specs.Disk.{Torn}
 use Rattle.flush_log.specs.Slot.{Slot, slot_place, slot_body, slot_bytes, is_open}
-use Rattle.flush_log.specs.Commit.{Call, seen_after, MayLeave, LeftDuring, AreWithin, close_gate, prepare, open_gate, commit_calls, committed, IsBesideSpans, IsBesideSlot, IsBefore}
+use Rattle.flush_log.specs.Commit.{Call, seen_after, MayLeave, LeftDuring, AreWithin, close_gate, prepare, open_gate, commit_calls, committed, IsBesideSpans, IsBesideSlot, IsUncommitted}
 use Rattle.flush_log.specs.Commit.Call.{Write, Sync}
 use Rattle.flush_log.proofs.OverlayLaws.{length-overlay, overlay-beside, overlay-at, overlay-is, agree_same, agree_then, agree_less, agree_over}
 use Rattle.flush_log.proofs.CallLaws.{During, seen_after-append, leave-append, during-append, after_all, writes, seen_after-writes, writes-during}
@@ -56,7 +56,7 @@ module _ (s : Settings) (file : List ℕ) (spans : List Span) (t : Slot) (long :
   place = slot_place t.sequence
 
   abbrev Before : List ℕ → Type 0
-  Before c = IsBefore s t.sequence spans file c
+  Before c = IsUncommitted s t.sequence spans file c
 
   place_low : place + 64 ≤ 256
   place_low = slot_low t.sequence

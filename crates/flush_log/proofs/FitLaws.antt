@@ -10,7 +10,7 @@ use Rattle.keys.specs.Sizes.{length_size, pid_size, segment_header_size, full_he
 use Rattle.keys.specs.declared.settings.Settings.{Settings}
 use Rattle.keys.proofs.LimitLaws.{checked}
 use Rattle.index_page.specs.Rules.{is_short_value, of_cell}
-use Rattle.frame_codec.specs.Frame.{Content, Frame, bytes_of, is_pid, is_key, are_entries, is_content, is_within}
+use Rattle.frame_codec.specs.Frame.{Content, Frame, bytes_of, is_pid, is_key, are_entries, is_content, is_frame}
 use Rattle.frame_codec.specs.Frame.Content.{FullLeaf, DeltaLeaf, FullIndex, DeltaIndex, Free}
 use Rattle.frame_codec.specs.Sizes.{where_present, size_of}
 use Rattle.frame_codec.proofs.SizeLaws.{frame-size}
@@ -85,7 +85,7 @@ module _ (s : Settings) where
       omega arith
   content_bound Free h = omega arith
 
-  pub frame_fits : (f : Frame) → first_bad_field s ≡ None → is_within s f ≡ true → segment_header_size + length (bytes_of f) ≤ s.seg_size
+  pub frame_fits : (f : Frame) → first_bad_field s ≡ None → is_frame s f ≡ true → segment_header_size + length (bytes_of f) ≤ s.seg_size
   frame_fits f good within =
       let sized = (are_sized s good).longest in
       let size = frame-size f in

@@ -7,13 +7,13 @@ use Rattle.std.proofs.lemmas.Bool.{cases_lt}
 use Rattle.std.proofs.lemmas.List.{take-take}
 use Rattle.keys.specs.Limits.{first_bad_field}
 use Rattle.keys.specs.declared.settings.Settings.{Settings}
-use Rattle.frame_codec.specs.Frame.{Frame, bytes_of, is_within}
+use Rattle.frame_codec.specs.Frame.{Frame, bytes_of, is_frame}
 use Rattle.index_page.proofs.ListLaws.{all_weaker}
 use Rattle.flush_log.specs.Commit.{AreWithin, IsBesideSpans}
 use Rattle.flush_log.specs.Overlay.{IsBeside, AgreeAt}
 use Rattle.flush_log.specs.Reading.{log}
-use Rattle.flush_log.specs.Segments.{place_of, HasSegments, IsInLog, position, last_segment, bytes_in_use}
-use Rattle.flush_log.specs.Layout.{Placed, Span, placed_from, behind_header, tail_after, end_of, longer, begun, opened, spans_from, spans, place_of_span}
+use Rattle.flush_log.specs.Segments.{place_of_segment, HasSegments, IsInLog, position, last_segment, bytes_in_use}
+use Rattle.flush_log.specs.Layout.{PlacedFrame, Span, placed_from, behind_header, tail_after, end_of, longer, begun, opened, spans_from, spans, place_of_span}
 use Rattle.flush_log.proofs.FitLaws.{are_sized}
 use Rattle.flush_log.proofs.LayoutLaws.{end_point, by_places, AllFit, split-tail, Start, starts, opened-segment, opened-end, opened-inside, behind_header-within, text-last, goes_on_span, next_span, filled-end}
 use Rattle.flush_log.proofs.LayoutLaws.Start.{Inside, Behind}
@@ -49,9 +49,9 @@ module _ (s : Settings) where
       log-same s file other head k used
       (λ m less. let room = place-within s (head + m) count in
       let below = next_above (head + m) (last_segment s tail) (omega (arith, less, from)) in
-      part_same (IsInLog s head tail) file other (place_of s (head + m)) s.seg_size (omega (arith, room, whole)) (λ i a b. record {
+      part_same (IsInLog s head tail) file other (place_of_segment s (head + m)) s.seg_size (omega (arith, room, whole)) (λ i a b. record {
         segment = head + m;
-        offset = i - place_of s (head + m);
+        offset = i - place_of_segment s (head + m);
         from_head = omega arith;
         in_segment = omega (arith, a, b);
         before_tail = omega (arith, a, b, below, is, low);
@@ -59,16 +59,16 @@ module _ (s : Settings) where
       }) same)
       (let room = place-within s (head + k) count in
       let same_start : (head + (last_segment s tail - head)) * s.seg_size ≡ last_segment s tail * s.seg_size = ap (λ (m : ℕ). m * s.seg_size) (sym at) in
-      take-take used s.seg_size (drop (place_of s (head + k)) other) high
-      ∙ part_same (IsInLog s head tail) file other (place_of s (head + k)) used (omega (arith, room, whole, high)) (λ i a b. record {
+      take-take used s.seg_size (drop (place_of_segment s (head + k)) other) high
+      ∙ part_same (IsInLog s head tail) file other (place_of_segment s (head + k)) used (omega (arith, room, whole, high)) (λ i a b. record {
         segment = head + k;
-        offset = i - place_of s (head + k);
+        offset = i - place_of_segment s (head + k);
         from_head = omega arith;
         in_segment = omega (arith, a, b, high);
         before_tail = omega (arith, a, b, is, same_start);
         stands = omega (arith, a);
       }) same
-      ∙ sym (take-take used s.seg_size (drop (place_of s (head + k)) file) high))
+      ∙ sym (take-take used s.seg_size (drop (place_of_segment s (head + k)) file) high))
 
 -- ---- where a text is written
 
@@ -101,14 +101,14 @@ module _ (s : Settings) where
               | inr most ↦
                   (let same : r.segment ≡ q = omega (arith, above, most, later) in
                   let here : in_log.segment ≡ r.segment = omega (arith, above, most, later) in
-                  let start : place_of s in_log.segment ≡ place_of s r.segment = ap (λ (n : ℕ). place_of s n) here in
+                  let start : place_of_segment s in_log.segment ≡ place_of_segment s r.segment = ap (λ (n : ℕ). place_of_segment s n) here in
                   let first : in_log.segment * s.seg_size ≡ q * s.seg_size = ap (λ (n : ℕ). n * s.seg_size) (here ∙ same) in
                   let beyond = h.beyond same in
                   inl (omega (arith, stands, start, first, before, is, beyond)))
             ]
       ]
 
-  abbrev AreBehind : ℕ → ℕ → ℕ → ℕ → ℕ → List Frame → List Placed → Type 0
+  abbrev AreBehind : ℕ → ℕ → ℕ → ℕ → ℕ → List Frame → List PlacedFrame → Type 0
   AreBehind head q used n offset fs ps = (n ≤ (end_point n offset ps).0) × ((r : Span) → r.segment ≡ n → end_of r ≡ offset → q ≤ n → (n ≡ q → used ≤ r.offset) → offset ≤ s.seg_size → AllFit s fs →
       (end_point n offset ps).0 < head + s.segments → AllByRecursion (IsBehind head q used) (spans_from s r ps))
 
@@ -149,7 +149,7 @@ module _ (s : Settings) where
       (all-behind head q used (suc q) 16 fs).1 (opened (suc q) 0) refl (opened-end (suc q) 0) (omega arith) (λ e. absurd (omega arith)) high all free
 
   module _ (good : first_bad_field s ≡ None) where
-    text-behind : (head tail : ℕ) (text : List Frame) → head * s.seg_size < tail → AllByRecursion (λ f. is_within s f ≡ true) text → last_segment s (tail_after s tail text) < head + s.segments
+    text-behind : (head tail : ℕ) (text : List Frame) → head * s.seg_size < tail → AllByRecursion (λ f. is_frame s f ≡ true) text → last_segment s (tail_after s tail text) < head + s.segments
         → AllByRecursion (IsBehind head (last_segment s tail) (bytes_in_use s tail)) (spans s tail text)
     text-behind head tail [] h within free = tt
     text-behind head tail (f ∷ fs) h within free =
@@ -161,7 +161,7 @@ module _ (s : Settings) where
         (starts s (last_segment s tail) (bytes_in_use s tail) tail split.is split.high (omega arith)) split.low (omega arith) all (omega (arith, last, free))
 
     -- no place of the log is in a span of a text that finds room
-    pub text-beside : (head tail : ℕ) (text : List Frame) → head * s.seg_size < tail → AllByRecursion (λ f. is_within s f ≡ true) text → last_segment s (tail_after s tail text) < head + s.segments
+    pub text-beside : (head tail : ℕ) (text : List Frame) → head * s.seg_size < tail → AllByRecursion (λ f. is_frame s f ≡ true) text → last_segment s (tail_after s tail text) < head + s.segments
         → (place : ℕ) → IsInLog s head tail place → IsBesideSpans s (spans s tail text) place
     text-beside head tail text h within free place in_log =
         let least = (are_sized s good).least_size in
@@ -170,13 +170,13 @@ module _ (s : Settings) where
         (λ r behind. beside head tail (last_segment s tail) (bytes_in_use s tail) r split.is split.high behind place in_log) (spans s tail text) (text-behind head tail text h within free)
 
     -- nor one before the segments; and all lie within them
-    pub text-apart : (head tail : ℕ) (text : List Frame) → head * s.seg_size < tail → AllByRecursion (λ f. is_within s f ≡ true) text → last_segment s (tail_after s tail text) < head + s.segments
+    pub text-apart : (head tail : ℕ) (text : List Frame) → head * s.seg_size < tail → AllByRecursion (λ f. is_frame s f ≡ true) text → last_segment s (tail_after s tail text) < head + s.segments
         → (place : ℕ) → place < 512 → IsBesideSpans s (spans s tail text) place
     text-apart head tail text h within free place low =
         all_weaker (IsBehind head (last_segment s tail) (bytes_in_use s tail)) (λ r. IsBeside (place_of_span s r) (length r.bytes) place)
         (λ r behind. inl (omega (arith, low))) (spans s tail text) (text-behind head tail text h within free)
 
-    pub text-inside : (head tail : ℕ) (text : List Frame) → head * s.seg_size < tail → AllByRecursion (λ f. is_within s f ≡ true) text → last_segment s (tail_after s tail text) < head + s.segments
+    pub text-inside : (head tail : ℕ) (text : List Frame) → head * s.seg_size < tail → AllByRecursion (λ f. is_frame s f ≡ true) text → last_segment s (tail_after s tail text) < head + s.segments
         → AreWithin s (512 + s.segments * s.seg_size) (spans s tail text)
     text-inside head tail text h within free =
         let least = (are_sized s good).least_count in

@@ -10,15 +10,15 @@ use Rattle.keys.specs.declared.settings.Settings.{Settings}
 use Rattle.frame_codec.specs.Frame.{Frame, bytes_of}
 use Rattle.flush_log.specs.Reading.{Found}
 use Rattle.flush_log.specs.Segments.{position, last_segment, bytes_in_use}
-use Rattle.flush_log.specs.Layout.{Placed, offset_behind, placed_from, placed, behind_header, tail_behind, tail_after, Span, longer, filled, begun, spans_from, end_of, opened}
+use Rattle.flush_log.specs.Layout.{PlacedFrame, offset_behind, placed_from, placed, behind_header, tail_behind, tail_after, Span, longer, filled, begun, spans_from, end_of, opened}
 
 -- the segment and the offset behind the last of some frames
-abbrev pub end_point : ℕ → ℕ → List Placed → ℕ × ℕ
+abbrev pub end_point : ℕ → ℕ → List PlacedFrame → ℕ × ℕ
 end_point n offset [] = (n, offset)
 end_point n offset (p ∷ ps) = end_point p.segment (offset_behind p) ps
 
 -- a frame as it is found where it stands
-abbrev pub found_at : Placed → Found
+abbrev pub found_at : PlacedFrame → Found
 found_at p = record { segment = p.segment; frame = p.frame }
 
 module _ (s : Settings) where
@@ -27,13 +27,13 @@ module _ (s : Settings) where
   AllFit fs = AllByRecursion (λ f. 16 + length (bytes_of f) ≤ s.seg_size) fs
 
   -- what is so of every text, from every place on, is shown by cases: no frame is left; the next one fits in; it doesn't
-  module _ (P : ℕ → ℕ → List Frame → List Placed → Type 0)
+  module _ (P : ℕ → ℕ → List Frame → List PlacedFrame → Type 0)
       (none : (n offset : ℕ) → P n offset [] [])
-      (fits : (n offset : ℕ) (f : Frame) (fs : List Frame) (ps : List Placed) → offset + length (bytes_of f) ≤ s.seg_size → P n (offset + length (bytes_of f)) fs ps
+      (fits : (n offset : ℕ) (f : Frame) (fs : List Frame) (ps : List PlacedFrame) → offset + length (bytes_of f) ≤ s.seg_size → P n (offset + length (bytes_of f)) fs ps
       → P n offset (f ∷ fs) (record { segment = n; offset = offset; frame = f } ∷ ps))
-      (over : (n offset : ℕ) (f : Frame) (fs : List Frame) (ps : List Placed) → P (suc n) (16 + length (bytes_of f)) fs ps
+      (over : (n offset : ℕ) (f : Frame) (fs : List Frame) (ps : List PlacedFrame) → P (suc n) (16 + length (bytes_of f)) fs ps
       → P n offset (f ∷ fs) (record { segment = suc n; offset = 16; frame = f } ∷ ps)) where
-    by_test : (n offset : ℕ) (f : Frame) (fs : List Frame) (here there : List Placed) (b : Bool) → nat_le (offset + length (bytes_of f)) s.seg_size ≡ b
+    by_test : (n offset : ℕ) (f : Frame) (fs : List Frame) (here there : List PlacedFrame) (b : Bool) → nat_le (offset + length (bytes_of f)) s.seg_size ≡ b
         → P n (offset + length (bytes_of f)) fs here → P (suc n) (16 + length (bytes_of f)) fs there
         → P n offset (f ∷ fs) (if b then (record { segment = n; offset = offset; frame = f } ∷ here) else (record { segment = suc n; offset = 16; frame = f } ∷ there))
     by_test n offset f fs here there true h same next = fits n offset f fs here (leb-true (offset + length (bytes_of f)) s.seg_size h) same
@@ -47,7 +47,7 @@ module _ (s : Settings) where
 
   -- ---- where the last frame ends
 
-  pub tail-behind : (n offset : ℕ) (ps : List Placed) → tail_behind s (position s n offset) ps ≡ position s (end_point n offset ps).0 (end_point n offset ps).1
+  pub tail-behind : (n offset : ℕ) (ps : List PlacedFrame) → tail_behind s (position s n offset) ps ≡ position s (end_point n offset ps).0 (end_point n offset ps).1
   tail-behind n offset [] = refl
   tail-behind n offset (p ∷ ps) = tail-behind p.segment (offset_behind p) ps
 
@@ -65,7 +65,7 @@ module _ (s : Settings) where
       by_places (λ n offset fs ps. n ≤ (end_point n offset ps).0) (λ n offset. omega arith) (λ n offset f fs ps room later. later) (λ n offset f fs ps later. omega arith)
 
   -- it lies within its segment
-  abbrev pub EndsWithin : ℕ → ℕ → List Placed → Type 0
+  abbrev pub EndsWithin : ℕ → ℕ → List PlacedFrame → Type 0
   EndsWithin n offset ps = (1 ≤ (end_point n offset ps).1) × ((end_point n offset ps).1 ≤ s.seg_size)
 
   pub ends-within : (n offset : ℕ) (fs : List Frame) → 1 ≤ offset → offset ≤ s.seg_size → AllFit fs → EndsWithin n offset (placed_from s n offset fs)
@@ -178,10 +178,10 @@ module _ (s : Settings) where
       ∙ filled_sum r.offset (length r.bytes) s.seg_size h
 
   -- a frame in the segment of the span makes it longer; one in the next segment fills it
-  pub goes_on_span : (r : Span) (p : Placed) (ps : List Placed) → r.segment ≡ p.segment → spans_from s r (p ∷ ps) ≡ spans_from s (longer r (bytes_of p.frame)) ps
+  pub goes_on_span : (r : Span) (p : PlacedFrame) (ps : List PlacedFrame) → r.segment ≡ p.segment → spans_from s r (p ∷ ps) ≡ spans_from s (longer r (bytes_of p.frame)) ps
   goes_on_span r p ps same =
       ap (λ (b : Bool). if b then spans_from s (longer r (bytes_of p.frame)) ps else (filled s r ∷ spans_from s (begun p.segment (bytes_of p.frame)) ps)) (eq-eqb p.segment r.segment (sym same))
 
-  pub next_span : (r : Span) (p : Placed) (ps : List Placed) → p.segment ≡ suc r.segment → spans_from s r (p ∷ ps) ≡ filled s r ∷ spans_from s (begun p.segment (bytes_of p.frame)) ps
+  pub next_span : (r : Span) (p : PlacedFrame) (ps : List PlacedFrame) → p.segment ≡ suc r.segment → spans_from s r (p ∷ ps) ≡ filled s r ∷ spans_from s (begun p.segment (bytes_of p.frame)) ps
   next_span r p ps next =
       ap (λ (b : Bool). if b then spans_from s (longer r (bytes_of p.frame)) ps else (filled s r ∷ spans_from s (begun p.segment (bytes_of p.frame)) ps)) (ne_eqb p.segment r.segment (λ e. omega arith))

@@ -5,8 +5,8 @@ use Rattle.std.proofs.lemmas.Bool.{and_from}
 use Rattle.std.proofs.lemmas.List.{take-take}
 use Rattle.keys.specs.Limits.{first_bad_field}
 use Rattle.keys.specs.declared.settings.Settings.{Settings}
-use Rattle.frame_codec.specs.Frame.{bytes_of, is_within}
-use Rattle.flush_log.specs.Segments.{segment_header, place_of, segment_bytes, last_segment, bytes_in_use}
+use Rattle.frame_codec.specs.Frame.{bytes_of, is_frame}
+use Rattle.flush_log.specs.Segments.{segment_header, place_of_segment, segment_bytes, last_segment, bytes_in_use}
 use Rattle.flush_log.specs.Reading.{is_at_tail, read_segment, followed_by, read_earlier, read_log, log}
 use Rattle.flush_log.specs.SettingsBlock.{store_settings}
 use Rattle.flush_log.specs.Slot.{is_slot, read_slot, newer, store_slot}
@@ -73,7 +73,7 @@ module _ (s : Settings) (disk : List ℕ) (good : first_bad_field s ≡ None) (r
 
   -- ---- the log
 
-  first_within : is_within s first_frame ≡ true
+  first_within : is_frame s first_frame ≡ true
   first_within = and_from _ _ refl (and_from _ _ (le-leb 0 s.max_key (omega arith)) (and_from _ _ (and_from _ _ (le-leb 0 s.fan (omega arith)) refl) refl))
 
   first_read : read_segment s is_at_tail 0 (segment_header 0 ++ bytes_of first_frame) ≡ Ok (record { segment = 0; frame = first_frame } ∷ [])
@@ -82,9 +82,9 @@ module _ (s : Settings) (disk : List ℕ) (good : first_bad_field s ≡ None) (r
   first_bytes : take first_tail (segment_bytes s new 0) ≡ segment_header 0 ++ bytes_of first_frame
   first_bytes =
       let size = (are_sized s good).least_size in
-      let first : place_of s 0 ≡ 512 + 0 * s.seg_size = ap (λ (m : ℕ). 512 + m * s.seg_size) (zero-mod s.segments) in
-      let place : place_of s 0 ≡ 512 = omega (arith, first) in
-      take-take first_tail s.seg_size (drop (place_of s 0) new) (omega arith) ∙ ap (λ (p : ℕ). take first_tail (drop p new)) place
+      let first : place_of_segment s 0 ≡ 512 + 0 * s.seg_size = ap (λ (m : ℕ). 512 + m * s.seg_size) (zero-mod s.segments) in
+      let place : place_of_segment s 0 ≡ 512 = omega (arith, first) in
+      take-take first_tail s.seg_size (drop (place_of_segment s 0) new) (omega arith) ∙ ap (λ (p : ℕ). take first_tail (drop p new)) place
 
   pub new_log : log s new 0 first_tail ≡ Ok (record { segment = 0; frame = first_frame } ∷ [])
   new_log =

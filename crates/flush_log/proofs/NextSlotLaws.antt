@@ -5,7 +5,7 @@ use Rattle.std.proofs.Math.Nat.{mul-le-mul_right, le-div_iff_mul-le, div-mul-le_
 use Rattle.std.specs.List.{AllByRecursion}
 use Rattle.keys.specs.Limits.{first_bad_field}
 use Rattle.keys.specs.declared.settings.Settings.{Settings}
-use Rattle.frame_codec.specs.Frame.{Frame, is_within}
+use Rattle.frame_codec.specs.Frame.{Frame, is_frame}
 use Rattle.flush_log.specs.Segments.{position, last_segment, bytes_in_use}
 use Rattle.flush_log.specs.Layout.{placed_from, placed, behind_header, tail_after}
 use Rattle.flush_log.specs.Slot.{Slot, greatest, is_tail, is_slot}
@@ -59,7 +59,7 @@ module _ (s : Settings) where
     ends : EndsIn new (last_segment s new) (bytes_in_use s new)
     rises : last_segment s tail ≤ last_segment s new
 
-  new_end : first_bad_field s ≡ None → (n : ℕ) (t : Slot) → IsSlot s n t → (text : List Frame) → AllByRecursion (λ f. is_within s f ≡ true) text → NewEnd t.tail (tail_after s t.tail text)
+  new_end : first_bad_field s ≡ None → (n : ℕ) (t : Slot) → IsSlot s n t → (text : List Frame) → AllByRecursion (λ f. is_frame s f ≡ true) text → NewEnd t.tail (tail_after s t.tail text)
   new_end good n t slot [] within = let sized = are_sized s good in record { ends = slot_ends n t sized.least_size slot; rises = omega arith }
   new_end good n t slot (f ∷ fs) within =
       let sized = are_sized s good in
@@ -84,7 +84,7 @@ module _ (s : Settings) where
       }
 
 -- where its number and its tail are not spent, and its segments are free
-pub next_good : (s : Settings) (n : ℕ) (t u : Slot) (text : List Frame) → first_bad_field s ≡ None → IsSlot s n t → AllByRecursion (λ f. is_within s f ≡ true) text →
+pub next_good : (s : Settings) (n : ℕ) (t u : Slot) (text : List Frame) → first_bad_field s ≡ None → IsSlot s n t → AllByRecursion (λ f. is_frame s f ≡ true) text →
     u.sequence ≡ suc t.sequence → u.sequence ≤ greatest → u.tail ≡ tail_after s t.tail text → u.tail ≤ greatest → t.head ≤ u.head → u.head ≤ last_segment s t.tail →
     last_segment s u.tail < u.head + s.segments → u.root < 2 ^ 64 → 1 ≤ u.height → u.height ≤ 64 → is_slot s u.sequence u ≡ true
 next_good s n t u text good slot within next few tail small from to free root low high =

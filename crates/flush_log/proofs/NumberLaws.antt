@@ -4,8 +4,8 @@ use Rattle.std.specs.List.{AllByRecursion}
 use Rattle.std.proofs.Math.Nat.{le-div_iff_mul-le, mul-le-mul, mul-le-mul_left, mul-le-mul_right}
 use Rattle.keys.specs.Limits.{first_bad_field}
 use Rattle.keys.specs.declared.settings.Settings.{Settings}
-use Rattle.frame_codec.specs.Frame.{Frame, is_within}
-use Rattle.flush_log.specs.Segments.{place_of, position}
+use Rattle.frame_codec.specs.Frame.{Frame, is_frame}
+use Rattle.flush_log.specs.Segments.{place_of_segment, position}
 use Rattle.flush_log.specs.Layout.{tail_after}
 use Rattle.flush_log.specs.Slot.{greatest}
 use Rattle.flush_log.proofs.FitLaws.{are_sized}
@@ -17,7 +17,7 @@ module _ (s : Settings) (good : first_bad_field s ≡ None) where
   pub room : s.segments * s.seg_size ≤ 2 ^ 36
   room = let sized = are_sized s good in let all = mul-le-mul sized.most_count sized.most_size in omega arith
 
-  pub place_small : (n offset : ℕ) → offset ≤ s.seg_size → place_of s n + offset ≤ 512 + 2 ^ 36
+  pub place_small : (n offset : ℕ) → offset ≤ s.seg_size → place_of_segment s n + offset ≤ 512 + 2 ^ 36
   place_small n offset within =
       let sized = are_sized s good in
       let few = sized.least_count in
@@ -44,7 +44,7 @@ module _ (s : Settings) (head tail : ℕ) (good : first_bad_field s ≡ None) (b
       omega arith
 
 -- a text of so many frames moves the tail by 2^62 at the most
-pub tail_small : (s : Settings) (tail : ℕ) (text : List Frame) → first_bad_field s ≡ None → tail ≤ greatest → AllByRecursion (λ f. is_within s f ≡ true) text → length text ≤ 2 ^ 41 → tail_after s tail text < 2 ^ 63
+pub tail_small : (s : Settings) (tail : ℕ) (text : List Frame) → first_bad_field s ≡ None → tail ≤ greatest → AllByRecursion (λ f. is_frame s f ≡ true) text → length text ≤ 2 ^ 41 → tail_after s tail text < 2 ^ 63
 tail_small s tail text good small within few =
     let most = (are_sized s good).most_size in
     let bound = tail-bounded s good tail text within in

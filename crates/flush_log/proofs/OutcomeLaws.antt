@@ -7,12 +7,12 @@ use Rattle.keys.specs.declared.fault.Fault.TheVariants.{NotAStore}
 use Rattle.flush_log.specs.Overlay.{IsBeside, AgreeAt}
 use Rattle.frame_codec.specs.Frame.{Frame}
 use Rattle.index_page.proofs.ListLaws.{all_weaker}
-use Rattle.flush_log.specs.Segments.{place_of, HasSegments, IsInLog, segment_bytes, last_segment, bytes_in_use}
+use Rattle.flush_log.specs.Segments.{place_of_segment, HasSegments, IsInLog, segment_bytes, last_segment, bytes_in_use}
 use Rattle.flush_log.specs.Reading.{Found, log}
 use Rattle.flush_log.specs.Layout.{Span, tail_after, found_in_text, spans, place_of_span, with_spans}
 use Rattle.flush_log.specs.SettingsBlock.{read_settings, where_it_has_room, store_settings}
 use Rattle.flush_log.specs.Slot.{Slot, slot_place, slot_bytes, is_slot, is_open, read_open, read_slot, newer, store_slot}
-use Rattle.flush_log.specs.Commit.{LeftDuring, AreWithin, commit_calls, committed, HasRoom, IsBesideSpans, IsBesideSlot, IsBefore}
+use Rattle.flush_log.specs.Commit.{LeftDuring, AreWithin, commit_calls, committed, HasRoom, IsBesideSpans, IsBesideSlot, IsUncommitted}
 use Rattle.flush_log.proofs.OverlayLaws.{overlay-beside, overlay-part, agree_then, agree_less, part_same}
 use Rattle.flush_log.proofs.SlotLaws.{IsSlot, Said, said, bytes_of_slot, closed, slot-back, slot-stands, slot-is, store_slot-read, store_slot-alone, store_slot-next}
 use Rattle.flush_log.proofs.PlaceLaws.{place-within}
@@ -50,11 +50,11 @@ apart n i low high = elim (cases_eq (n % 2) 0) [ inl even ↦ inl (omega arith) 
 
 module _ (s : Settings) (n : ℕ) (spans : List Span) (file c : List ℕ) (long : 512 ≤ length file) where
   -- all but the slot and the spans is as it was
-  pub all_but : IsBefore s n spans file c → AgreeAt (IsBesideSlot s n spans) file c
+  pub all_but : IsUncommitted s n spans file c → AgreeAt (IsBesideSlot s n spans) file c
   all_but (inl same) = agree_less (IsBesideSpans s spans) (IsBesideSlot s n spans) file c (λ i out. out.1) same
   all_but (inr (shut, same)) = same
 
-  pub before-settings : IsBefore s n spans file c → store_settings c ≡ store_settings file
+  pub before-settings : IsUncommitted s n spans file c → store_settings c ≡ store_settings file
   before-settings before =
       settings_same (IsBesideSlot s n spans) file c (all_but before) (omega arith) (λ i low. (inl (omega arith), low_beside s spans i (omega arith)))
 
@@ -63,7 +63,7 @@ module _ (s : Settings) (n : ℕ) (spans : List Span) (file c : List ℕ) (long 
       let low = slot_low m in
       slot_same (IsBesideSpans s spans) file c same s m (omega arith) (λ i from to. low_beside s spans i (omega arith))
 
-pub before-slot : (s : Settings) (t : Slot) (spans : List Span) (file c : List ℕ) → 512 ≤ length file → store_slot s file ≡ Ok t → IsBefore s (suc t.sequence) spans file c → store_slot s c ≡ Ok t
+pub before-slot : (s : Settings) (t : Slot) (spans : List Span) (file c : List ℕ) → 512 ≤ length file → store_slot s file ≡ Ok t → IsUncommitted s (suc t.sequence) spans file c → store_slot s c ≡ Ok t
 before-slot s t spans file c long is (inl same) =
     ap₂ newer (slot_as_before s t.sequence spans file c long 0 same) (slot_as_before s t.sequence spans file c long 1 same) ∙ is
 before-slot s t spans file c long is (inr (shut, same)) =
@@ -123,7 +123,7 @@ log-behind s file other some whole same head tail =
     bytes : (n : ℕ) → segment_bytes s other n ≡ segment_bytes s file n
     bytes n =
         let room = place-within s n some in
-        part_same (λ i. 512 ≤ i) file other (place_of s n) s.seg_size (omega arith) (λ i low high. omega arith) same
+        part_same (λ i. 512 ≤ i) file other (place_of_segment s n) s.seg_size (omega arith) (λ i low high. omega arith) same
 
 pub after-log : (s : Settings) (file : List ℕ) (spans : List Span) (u : Slot) → HasSegments s file → AreWithin s (length file) spans → 0 < s.segments → (head tail : ℕ)
     → log s (committed s file spans u) head tail ≡ log s (with_spans s file spans) head tail
@@ -147,7 +147,7 @@ module _ (s : Settings) (file : List ℕ) (t : Slot) (text : List Frame) (h : Ha
       within_more s (512 + s.segments * s.seg_size) (length file) (spans s t.tail text) h.whole (text-inside s h.good t.head t.tail text (omega arith) h.within h.free)
 
   -- the log is as it was
-  pub before-log : (c : List ℕ) → IsBefore s (suc t.sequence) (spans s t.tail text) file c → log s c t.head t.tail ≡ log s file t.head t.tail
+  pub before-log : (c : List ℕ) → IsUncommitted s (suc t.sequence) (spans s t.tail text) file c → log s c t.head t.tail ≡ log s file t.head t.tail
   before-log c before =
       let behind = slot_good.behind in
       let sized = are_sized s h.good in
@@ -174,7 +174,7 @@ module _ (s : Settings) (file : List ℕ) (t : Slot) (text : List Frame) (h : Ha
       let long : 512 ≤ length file = let all = h.whole in omega arith in
       ⊎_elim
       (λ before.
-      let hid : IsBefore s (suc t.sequence) (spans s t.tail text) file c = subst (λ (n : ℕ). IsBefore s n (spans s t.tail text) file c) next before in
+      let hid : IsUncommitted s (suc t.sequence) (spans s t.tail text) file c = subst (λ (n : ℕ). IsUncommitted s n (spans s t.tail text) file c) next before in
       inl (before-settings s (suc t.sequence) (spans s t.tail text) file c long hid, before-slot s t (spans s t.tail text) file c long h.slot hid, before-log c hid))
       (λ whole. inr whole)
       (left-during s file (spans s t.tail text) u long text-fits c left)

@@ -8,7 +8,7 @@ use Rattle.std.proofs.lemmas.List.{places, same_lists}
 use Rattle.keys.specs.declared.settings.Settings.{Settings}
 use Rattle.flush_log.specs.Layout.{Span, end_of, place_of_span}
 use Rattle.flush_log.specs.Overlay.{overlay}
-use Rattle.flush_log.specs.Segments.{place_of, HasSegments, segment_bytes}
+use Rattle.flush_log.specs.Segments.{place_of_segment, HasSegments, segment_bytes}
 use Rattle.flush_log.proofs.OverlayLaws.{length-overlay}
 
 -- ---- overlays
@@ -36,14 +36,14 @@ remainders_differ a b m l h e =
     ]
 
 module _ (s : Settings) where
-  pub place-within : (n : ℕ) → 0 < s.segments → place_of s n + s.seg_size ≤ 512 + s.segments * s.seg_size
+  pub place-within : (n : ℕ) → 0 < s.segments → place_of_segment s n + s.seg_size ≤ 512 + s.segments * s.seg_size
   place-within n h =
       let l : n % s.segments + 1 ≤ s.segments = (let r = mod_below n s.segments h in omega arith) in
       let p : (n % s.segments + 1) * s.seg_size ≤ s.segments * s.seg_size = mul-le-mul_right s.seg_size l in
       omega arith
 
   -- segments that are in use at one time stand beside one another
-  pub places-beside : (m n : ℕ) → m % s.segments ≢ n % s.segments → (place_of s m + s.seg_size ≤ place_of s n) ⊎ (place_of s n + s.seg_size ≤ place_of s m)
+  pub places-beside : (m n : ℕ) → m % s.segments ≢ n % s.segments → (place_of_segment s m + s.seg_size ≤ place_of_segment s n) ⊎ (place_of_segment s n + s.seg_size ≤ place_of_segment s m)
   places-beside m n h =
       elim (cases_lt (m % s.segments) (n % s.segments)) [
         | inl t ↦ inl (let l : m % s.segments + 1 ≤ n % s.segments = omega arith in let p : (m % s.segments + 1) * s.seg_size ≤ n % s.segments * s.seg_size = mul-le-mul_right s.seg_size l in omega arith)
@@ -64,11 +64,11 @@ module _ (s : Settings) where
       → take (end_of r) (segment_bytes s (overlay file (place_of_span s r) r.bytes) r.segment) ≡ take r.offset (segment_bytes s file r.segment) ++ r.bytes
   segment-written file r w h l =
       let p = span-within file r w h l in
-      overlay-within file r.bytes (place_of s r.segment) r.offset s.seg_size l (omega arith)
+      overlay-within file r.bytes (place_of_segment s r.segment) r.offset s.seg_size l (omega arith)
 
   pub segment-beside : (file : List ℕ) (r : Span) (m : ℕ) → HasSegments s file → 0 < s.segments → end_of r ≤ s.seg_size → m % s.segments ≢ r.segment % s.segments
       → segment_bytes s (overlay file (place_of_span s r) r.bytes) m ≡ segment_bytes s file m
   segment-beside file r m w h l ne =
       let p = span-within file r w h l in
       let apart = places-beside m r.segment ne in
-      overlay-beside file r.bytes (place_of s m) (place_of_span s r) s.seg_size (omega arith) (grind (arith, apart, l))
+      overlay-beside file r.bytes (place_of_segment s m) (place_of_span s r) s.seg_size (omega arith) (grind (arith, apart, l))

@@ -6,11 +6,11 @@ use Rattle.std.proofs.lemmas.List.{take_all, length-take}
 use Rattle.keys.specs.Limits.{first_bad_field}
 use Rattle.keys.specs.declared.settings.Settings.{Settings}
 use Rattle.keys.specs.declared.fault.Fault.{Fault}
-use Rattle.frame_codec.specs.Frame.{Frame, bytes_of, is_within}
+use Rattle.frame_codec.specs.Frame.{Frame, bytes_of, is_frame}
 use Rattle.flush_log.specs.Overlay.{overlay}
 use Rattle.flush_log.specs.Reading.{Found, all_in, is_at_tail, is_padding, read_segment, followed_by, read_earlier, read_log, log}
-use Rattle.flush_log.specs.Segments.{place_of, HasSegments, segment_bytes, last_segment, bytes_in_use}
-use Rattle.flush_log.specs.Layout.{Placed, Span, placed_from, placed, behind_header, tail_after, found_in_text, end_of, longer, filled, begun, opened, spans_from, spans, place_of_span, with_spans}
+use Rattle.flush_log.specs.Segments.{place_of_segment, HasSegments, segment_bytes, last_segment, bytes_in_use}
+use Rattle.flush_log.specs.Layout.{PlacedFrame, Span, placed_from, placed, behind_header, tail_after, found_in_text, end_of, longer, filled, begun, opened, spans_from, spans, place_of_span, with_spans}
 use Rattle.flush_log.proofs.FitLaws.{are_sized, frame_fits}
 use Rattle.flush_log.proofs.SegmentLaws.{Holds, header-holds, frame-holds, holds-read, read-holds, tail-ends, padding-ends, zeros-pad}
 use Rattle.flush_log.proofs.PlaceLaws.{remainders_differ, whole-written, segment-written, segment-beside}
@@ -33,7 +33,7 @@ module _ (s : Settings) where
       ∙ ap (λ (bs : List ℕ). followed_by (read_earlier s file head k) (read_segment s is_at_tail (head + k) bs)) last
 
   pub segment-short : (file : List ℕ) (n : ℕ) → length (segment_bytes s file n) ≤ s.seg_size
-  segment-short file n = let e = length-take s.seg_size (drop (place_of s n) file) in grind (arith, e)
+  segment-short file n = let e = length-take s.seg_size (drop (place_of_segment s n) file) in grind (arith, e)
 
 abbrev pub ok : List Found → Result (List Found) Fault
 ok found = Ok found
@@ -84,7 +84,7 @@ module _ (s : Settings) (good : first_bad_field s ≡ None) where
   map_push n (g ∷ fs) f = ap (λ (xs : List Found). record { segment = n; frame = g } ∷ xs) (map_push n fs f)
 
   -- a frame more in the same segment
-  stands-longer : (file : List ℕ) (head k : ℕ) (r : Span) (found : List Found) (f : Frame) → end_of r + length (bytes_of f) ≤ s.seg_size → is_within s f ≡ true
+  stands-longer : (file : List ℕ) (head k : ℕ) (r : Span) (found : List Found) (f : Frame) → end_of r + length (bytes_of f) ≤ s.seg_size → is_frame s f ≡ true
       → Stands file head k r found → Stands file head k (longer r (bytes_of f)) (found ++ record { segment = r.segment; frame = f } ∷ [])
   stands-longer file head k r found f room within h = record {
     before = h.before;
@@ -137,13 +137,13 @@ module _ (s : Settings) (good : first_bad_field s ≡ None) where
   -- ---- a text behind it
 
   -- with the spans of these frames written, the log up to their end reads as they do, behind what was found
-  abbrev pub Leaves : List ℕ → ℕ → List Found → ℕ → ℕ → Span → List Placed → Type 0
+  abbrev pub Leaves : List ℕ → ℕ → List Found → ℕ → ℕ → Span → List PlacedFrame → Type 0
   Leaves file head found n offset r ps = (j : ℕ) → (end_point n offset ps).0 ≡ head + j → j < s.segments →
       read_log s (with_spans s file (spans_from s r ps)) head j (end_point n offset ps).1 ≡ ok (found ++ map found_at ps)
 
-  abbrev AreRead : ℕ → ℕ → List Frame → List Placed → Type 0
+  abbrev AreRead : ℕ → ℕ → List Frame → List PlacedFrame → Type 0
   AreRead n offset fs ps = (n ≤ (end_point n offset ps).0) × ((file : List ℕ) (head k : ℕ) (r : Span) (found : List Found) → r.segment ≡ n → end_of r ≡ offset →
-      Stands file head k r found → AllByRecursion (λ f. is_within s f ≡ true) fs → Leaves file head found n offset r ps)
+      Stands file head k r found → AllByRecursion (λ f. is_frame s f ≡ true) fs → Leaves file head found n offset r ps)
 
   read-none : (n offset : ℕ) → AreRead n offset [] []
   read-none n offset = (
@@ -156,12 +156,12 @@ module _ (s : Settings) (good : first_bad_field s ≡ None) where
         ∙ ap ok (sym (append-nil found)),
   )
 
-  read-fits : (n offset : ℕ) (f : Frame) (fs : List Frame) (ps : List Placed) → offset + length (bytes_of f) ≤ s.seg_size → AreRead n (offset + length (bytes_of f)) fs ps
+  read-fits : (n offset : ℕ) (f : Frame) (fs : List Frame) (ps : List PlacedFrame) → offset + length (bytes_of f) ≤ s.seg_size → AreRead n (offset + length (bytes_of f)) fs ps
       → AreRead n offset (f ∷ fs) (record { segment = n; offset = offset; frame = f } ∷ ps)
   read-fits n offset f fs ps room later = (
     later.0,
     λ file head k r found number end h within j is free.
-        let p : Placed = record { segment = n; offset = offset; frame = f } in
+        let p : PlacedFrame = record { segment = n; offset = offset; frame = f } in
         let long = length-append r.bytes (bytes_of f) in
         let here : Stands file head k (longer r (bytes_of f)) (found ++ record { segment = n; frame = f } ∷ []) =
         rw (sym number) (stands-longer file head k r found f (omega (arith, end, room)) within.0 h) in
@@ -171,12 +171,12 @@ module _ (s : Settings) (good : first_bad_field s ≡ None) where
         ∙ ap ok (append_assoc found (record { segment = n; frame = f } ∷ []) (map found_at ps)),
   )
 
-  read-over : (n offset : ℕ) (f : Frame) (fs : List Frame) (ps : List Placed) → AreRead (suc n) (16 + length (bytes_of f)) fs ps
+  read-over : (n offset : ℕ) (f : Frame) (fs : List Frame) (ps : List PlacedFrame) → AreRead (suc n) (16 + length (bytes_of f)) fs ps
       → AreRead n offset (f ∷ fs) (record { segment = suc n; offset = 16; frame = f } ∷ ps)
   read-over n offset f fs ps later = (
     let rise = later.0 in omega arith,
     λ file head k r found number end h within j is free.
-        let p : Placed = record { segment = suc n; offset = 16; frame = f } in
+        let p : PlacedFrame = record { segment = suc n; offset = 16; frame = f } in
         let up = later.0 in
         let at = h.number in
         let fit = frame_fits s f good within.0 in
@@ -239,8 +239,8 @@ module _ (s : Settings) (good : first_bad_field s ≡ None) where
       }
 
   text-behind : (file : List ℕ) (head q used n at : ℕ) (found : List Found) (fs : List Frame) → Start s q used n at → head ≤ q → 1 ≤ used → used ≤ s.seg_size
-      → HasSegments s file → read_log s file head (q - head) used ≡ ok found → AllByRecursion (λ f. is_within s f ≡ true) fs
-      → (let ps : List Placed = placed_from s n (behind_header at) fs in (end_point n (behind_header at) ps).0 < head + s.segments
+      → HasSegments s file → read_log s file head (q - head) used ≡ ok found → AllByRecursion (λ f. is_frame s f ≡ true) fs
+      → (let ps : List PlacedFrame = placed_from s n (behind_header at) fs in (end_point n (behind_header at) ps).0 < head + s.segments
       → read_log s (with_spans s file (spans_from s (opened n at) ps)) head ((end_point n (behind_header at) ps).0 - head) (end_point n (behind_header at) ps).1 ≡ ok (found ++ map found_at ps))
   text-behind file head q used n at found fs (Inside room) from low high whole h within free =
       let k : ℕ = q - head in
@@ -260,11 +260,11 @@ module _ (s : Settings) (good : first_bad_field s ≡ None) where
       read file head (suc k) (begun (suc q) []) found refl (opened-end q 0) first within
       ((end_point (suc q) 16 (placed_from s (suc q) 16 fs)).0 - head) (omega (arith, rise, from)) (omega (arith, rise, free, from))
 
-  pub all_fit : (fs : List Frame) → AllByRecursion (λ f. is_within s f ≡ true) fs → AllFit s fs
+  pub all_fit : (fs : List Frame) → AllByRecursion (λ f. is_frame s f ≡ true) fs → AllFit s fs
   all_fit [] within = tt
   all_fit (f ∷ fs) within = (frame_fits s f good within.0, all_fit fs within.1)
 
-  pub text-back : (file : List ℕ) (head tail : ℕ) (found : List Found) (text : List Frame) → HasSegments s file → AllByRecursion (λ f. is_within s f ≡ true) text → head * s.seg_size < tail
+  pub text-back : (file : List ℕ) (head tail : ℕ) (found : List Found) (text : List Frame) → HasSegments s file → AllByRecursion (λ f. is_frame s f ≡ true) text → head * s.seg_size < tail
       → log s file head tail ≡ ok found → last_segment s (tail_after s tail text) < head + s.segments
       → log s (with_spans s file (spans s tail text)) head (tail_after s tail text) ≡ ok (found ++ found_in_text s tail text)
   text-back file head tail found [] whole within h read free = read ∙ ap ok (sym (append-nil found))

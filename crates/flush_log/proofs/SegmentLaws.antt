@@ -8,7 +8,7 @@ use Rattle.keys.specs.Limits.{first_bad_field}
 use Rattle.keys.specs.declared.settings.Settings.{Settings}
 use Rattle.keys.specs.declared.fault.Fault.TheVariants.{BadSegment}
 use Rattle.keys.proofs.CellLaws.{gave, nothing_read}
-use Rattle.frame_codec.specs.Frame.{Frame, bytes_of, is_within}
+use Rattle.frame_codec.specs.Frame.{Frame, bytes_of, is_frame}
 use Rattle.frame_codec.specs.Reading.{read_frame}
 use Rattle.frame_codec.proofs.FrameLaws.{in_limits, frame-back}
 use Rattle.frame_codec.proofs.LongerLaws.{frame-longer, nothing_at_all, nothing_at_zero}
@@ -99,7 +99,7 @@ module _ (s : Settings) where
   tail-goes_on (suc most) (b ∷ bs) fs h = one-goes_on most (b ∷ bs) fs (read_frame s (b ∷ bs)) refl h (λ rest gs read. tail-goes_on most rest gs read)
 
   -- so do bytes with a frame more
-  frame-goes_on : first_bad_field s ≡ None → (bs : List ℕ) (fs : List Frame) (f : Frame) → is_within s f ≡ true → GoesOn bs fs → GoesOn (bs ++ bytes_of f) (fs ++ f ∷ [])
+  frame-goes_on : first_bad_field s ≡ None → (bs : List ℕ) (fs : List Frame) (f : Frame) → is_frame s f ≡ true → GoesOn bs fs → GoesOn (bs ++ bytes_of f) (fs ++ f ∷ [])
   frame-goes_on good bs fs f within on is_end marks more gs reads =
       let read : read_frame s (bytes_of f ++ more) ≡ gave f more = frame-back s (in_limits s good) f within more in
       let here : Reads is_end (bs ++ (bytes_of f ++ more)) (fs ++ f ∷ gs) = on is_end marks (bytes_of f ++ more) (f ∷ gs) (reads-more is_end marks (bytes_of f ++ more) f more gs read reads) in
@@ -125,7 +125,7 @@ module _ (s : Settings) where
   header-holds n = record { behind = []; headed = sym (append-nil (segment_header n)); few = omega arith; on = λ is_end marks more gs reads. reads }
 
   -- a frame more
-  pub frame-holds : first_bad_field s ≡ None → (n : ℕ) (bytes : List ℕ) (fs : List Frame) (f : Frame) → is_within s f ≡ true → Holds n bytes fs → Holds n (bytes ++ bytes_of f) (fs ++ f ∷ [])
+  pub frame-holds : first_bad_field s ≡ None → (n : ℕ) (bytes : List ℕ) (fs : List Frame) (f : Frame) → is_frame s f ≡ true → Holds n bytes fs → Holds n (bytes ++ bytes_of f) (fs ++ f ∷ [])
   frame-holds good n bytes fs f within h = record {
     behind = h.behind ++ bytes_of f;
     headed = ap (λ (bs : List ℕ). bs ++ bytes_of f) h.headed ∙ append_assoc (segment_header n) h.behind (bytes_of f);

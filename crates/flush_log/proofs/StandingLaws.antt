@@ -8,7 +8,7 @@ use Rattle.keys.specs.declared.settings.Settings.{Settings}
 use Rattle.keys.specs.declared.fault.Fault.{Fault}
 use Rattle.keys.specs.declared.fault.Fault.TheVariants.{BadSegment, BadFrame}
 use Rattle.keys.proofs.CellLaws.{bytes_behind}
-use Rattle.frame_codec.specs.Frame.{Frame, bytes_of, is_within}
+use Rattle.frame_codec.specs.Frame.{Frame, bytes_of, is_frame}
 use Rattle.frame_codec.specs.Reading.{read_frame}
 use Rattle.frame_codec.proofs.ReadLaws.{frame-stands}
 use Rattle.flush_log.specs.Reading.{Found, all_in, is_at_tail, is_padding, with_first, read_then, read_frames, in_segment, read_segment, followed_by, read_earlier, log}
@@ -32,14 +32,14 @@ module _ (s : Settings) where
   -- frames and an end behind them; or frames and neither a frame nor an end
   record AreSpelled (is_end : List ℕ → Bool) (bs : List ℕ) (fs : List Frame) : Type 0 where
     behind : List ℕ
-    within : AllByRecursion (λ f. is_within s f ≡ true) fs
+    within : AllByRecursion (λ f. is_frame s f ≡ true) fs
     spelled : bs ≡ flat_map bytes_of fs ++ behind
     end : is_end behind ≡ true
 
   record AreBroken (is_end : List ℕ → Bool) (bs : List ℕ) (left : ℕ) : Type 0 where
     before : List Frame
     behind : List ℕ
-    within : AllByRecursion (λ f. is_within s f ≡ true) before
+    within : AllByRecursion (λ f. is_frame s f ≡ true) before
     spelled : bs ≡ flat_map bytes_of before ++ behind
     long : left ≡ length behind
     no_end : is_end behind ≡ false
@@ -193,7 +193,7 @@ module _ (s : Settings) where
   -- ---- and what stands so is read
 
   module _ (good : first_bad_field s ≡ None) (n : ℕ) where
-    frames-hold : (bytes : List ℕ) (here fs : List Frame) → AllByRecursion (λ f. is_within s f ≡ true) fs → Holds s n bytes here → Holds s n (bytes ++ flat_map bytes_of fs) (here ++ fs)
+    frames-hold : (bytes : List ℕ) (here fs : List Frame) → AllByRecursion (λ f. is_frame s f ≡ true) fs → Holds s n bytes here → Holds s n (bytes ++ flat_map bytes_of fs) (here ++ fs)
     frames-hold bytes here [] within h = rw (append-nil bytes, append-nil here) h
     frames-hold bytes here (f ∷ fs) within h =
         rw (sym (append_assoc bytes (bytes_of f) (flat_map bytes_of fs)), sym (append_assoc here (f ∷ []) fs))

@@ -8,10 +8,10 @@ use Rattle.std.proofs.lemmas.Nat.{mod_below}
 use Rattle.keys.specs.Limits.{first_bad_field}
 use Rattle.keys.specs.declared.settings.Settings.{Settings}
 use Rattle.index_page.proofs.ListLaws.{all_weaker}
-use Rattle.frame_codec.specs.Frame.{Frame, bytes_of, is_within}
+use Rattle.frame_codec.specs.Frame.{Frame, bytes_of, is_frame}
 use Rattle.flush_log.specs.Overlay.{overlay}
 use Rattle.flush_log.specs.Segments.{segment_header, HasSegments, segment_bytes, last_segment, bytes_in_use}
-use Rattle.flush_log.specs.Layout.{Placed, Span, placed_from, placed, behind_header, tail_after, end_of, longer, filled, begun, opened, spans_from, spans, place_of_span, with_spans}
+use Rattle.flush_log.specs.Layout.{PlacedFrame, Span, placed_from, placed, behind_header, tail_after, end_of, longer, filled, begun, opened, spans_from, spans, place_of_span, with_spans}
 use Rattle.flush_log.proofs.FitLaws.{are_sized}
 use Rattle.flush_log.proofs.LayoutLaws.{end_point, by_places, AllFit, split-tail, Start, starts, opened-segment, opened-end, behind_header-within, text-last, goes_on_span, next_span, filled-end}
 use Rattle.flush_log.proofs.LayoutLaws.Start.{Inside, Behind}
@@ -40,12 +40,12 @@ module _ (s : Settings) where
       let within = place-within s n some in grind (arith, places, within, whole, room)
 
   -- what the spans of a span that is being written leave: they lie in segments from its own on; what it has stands, and so does each frame
-  record AllStand (head n : ℕ) (file : List ℕ) (r : Span) (rs : List Span) (ps : List Placed) : Type 0 where
+  record AllStand (head n : ℕ) (file : List ℕ) (r : Span) (rs : List Span) (ps : List PlacedFrame) : Type 0 where
     spans : AllByRecursion (λ q. (n ≤ q.segment) × (q.segment < head + s.segments) × (end_of q ≤ s.seg_size)) rs
     span : take (end_of r) (segment_bytes s (with_spans s file rs) r.segment) ≡ take r.offset (segment_bytes s file r.segment) ++ r.bytes
     frames : AllByRecursion (λ p. take (length (bytes_of p.frame)) (drop p.offset (segment_bytes s (with_spans s file rs) p.segment)) ≡ bytes_of p.frame) ps
 
-  abbrev Standing : ℕ → ℕ → List Frame → List Placed → Type 0
+  abbrev Standing : ℕ → ℕ → List Frame → List PlacedFrame → Type 0
   Standing n offset fs ps = (n ≤ (end_point n offset ps).0) × ((head : ℕ) (file : List ℕ) (r : Span) → r.segment ≡ n → end_of r ≡ offset → offset ≤ s.seg_size → AllFit s fs → HasSegments s file → 0 < s.segments →
       head ≤ n → (end_point n offset ps).0 < head + s.segments → AllStand head n file r (spans_from s r ps) ps)
 
@@ -59,7 +59,7 @@ module _ (s : Settings) where
     },
   )
 
-  stand-longer : (head n : ℕ) (file : List ℕ) (r : Span) (rs : List Span) (ps : List Placed) (f : Frame) → r.segment ≡ n → end_of r ≤ s.seg_size → HasSegments s file → 0 < s.segments
+  stand-longer : (head n : ℕ) (file : List ℕ) (r : Span) (rs : List Span) (ps : List PlacedFrame) (f : Frame) → r.segment ≡ n → end_of r ≤ s.seg_size → HasSegments s file → 0 < s.segments
       → AllStand head n file (longer r (bytes_of f)) rs ps → AllStand head n file r rs (record { segment = n; offset = end_of r; frame = f } ∷ ps)
   stand-longer head n file r rs ps f number room whole some h =
       let new : List ℕ = segment_bytes s (with_spans s file rs) r.segment in
@@ -75,7 +75,7 @@ module _ (s : Settings) where
         frames = (subst (λ (m : ℕ). take (length (bytes_of f)) (drop (end_of r) (segment_bytes s (with_spans s file rs) m)) ≡ bytes_of f) number both.1, h.frames);
       }
 
-  stand-over : (head n : ℕ) (file : List ℕ) (r : Span) (rs : List Span) (ps : List Placed) (f : Frame) → r.segment ≡ n → end_of r ≤ s.seg_size → HasSegments s file → 0 < s.segments → head ≤ n → n < head + s.segments
+  stand-over : (head n : ℕ) (file : List ℕ) (r : Span) (rs : List Span) (ps : List PlacedFrame) (f : Frame) → r.segment ≡ n → end_of r ≤ s.seg_size → HasSegments s file → 0 < s.segments → head ≤ n → n < head + s.segments
       → AllStand head (suc n) (overlay file (place_of_span s (filled s r)) (filled s r).bytes) (begun (suc n) (bytes_of f)) rs ps
       → AllStand head n file r (filled s r ∷ rs) (record { segment = suc n; offset = 16; frame = f } ∷ ps)
   stand-over head n file r rs ps f number room whole some from free h =
@@ -114,7 +114,7 @@ module _ (s : Settings) where
       (λ n offset f fs ps fit later. (
         later.0,
         λ head file r number end room all whole some from free.
-            let p : Placed = record { segment = n; offset = offset; frame = f } in
+            let p : PlacedFrame = record { segment = n; offset = offset; frame = f } in
             let long = length-append r.bytes (bytes_of f) in
             let h = later.1 head file (longer r (bytes_of f)) number (omega (arith, long, end)) fit all.1 whole some from free in
             let here = stand-longer head n file r (spans_from s (longer r (bytes_of f)) ps) ps f number (omega (arith, end, room)) whole some h in
@@ -124,7 +124,7 @@ module _ (s : Settings) where
       (λ n offset f fs ps later. (
         let rise = later.0 in omega arith,
         λ head file r number end room all whole some from free.
-            let p : Placed = record { segment = suc n; offset = 16; frame = f } in
+            let p : PlacedFrame = record { segment = suc n; offset = 16; frame = f } in
             let rise = later.0 in
             let one = all.0 in
             let full = filled-end s r (omega (arith, end, room)) in
@@ -135,7 +135,7 @@ module _ (s : Settings) where
       ))
 
   -- each frame of a text that finds room stands at its place
-  pub text-stands : first_bad_field s ≡ None → (file : List ℕ) (head tail : ℕ) (text : List Frame) → HasSegments s file → AllByRecursion (λ f. is_within s f ≡ true) text → head * s.seg_size < tail
+  pub text-stands : first_bad_field s ≡ None → (file : List ℕ) (head tail : ℕ) (text : List Frame) → HasSegments s file → AllByRecursion (λ f. is_frame s f ≡ true) text → head * s.seg_size < tail
       → last_segment s (tail_after s tail text) < head + s.segments
       → AllByRecursion (λ p. take (length (bytes_of p.frame)) (drop p.offset (segment_bytes s (with_spans s file (spans s tail text)) p.segment)) ≡ bytes_of p.frame) (placed s tail text)
   text-stands good file head tail [] whole within h free = tt

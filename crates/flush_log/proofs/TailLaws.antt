@@ -8,7 +8,7 @@ use Rattle.std.proofs.lemmas.List.Sums.{sum_by-cons}
 use Rattle.std.proofs.lemmas.Nat.{div-add-mod', mod_below}
 use Rattle.keys.specs.Limits.{first_bad_field}
 use Rattle.keys.specs.declared.settings.Settings.{Settings}
-use Rattle.frame_codec.specs.Frame.{Frame, bytes_of, is_within}
+use Rattle.frame_codec.specs.Frame.{Frame, bytes_of, is_frame}
 use Rattle.flush_log.specs.Layout.{placed_from, placed, behind_header, tail_after, is_full_for_flush, is_full_for_clean}
 use Rattle.flush_log.specs.Segments.{position, last_segment}
 use Rattle.flush_log.proofs.FitLaws.{are_sized}
@@ -55,7 +55,7 @@ module _ (s : Settings) where
 
   module _ (good : first_bad_field s ≡ None) where
     -- a text's bytes lie between its tails
-    pub tail-rises : (tail : ℕ) (text : List Frame) → AllByRecursion (λ f. is_within s f ≡ true) text → tail + sum_by (λ f. length (bytes_of f)) text ≤ tail_after s tail text
+    pub tail-rises : (tail : ℕ) (text : List Frame) → AllByRecursion (λ f. is_frame s f ≡ true) text → tail + sum_by (λ f. length (bytes_of f)) text ≤ tail_after s tail text
     tail-rises tail [] within = omega arith
     tail-rises tail (f ∷ fs) within =
         let least = (are_sized s good).least_size in
@@ -68,7 +68,7 @@ module _ (s : Settings) where
         omega (arith, is, above, first)
 
     -- each frame moves it into the next segment at most
-    pub tail-bounded : (tail : ℕ) (text : List Frame) → AllByRecursion (λ f. is_within s f ≡ true) text → tail_after s tail text ≤ tail + (length text + 1) * s.seg_size
+    pub tail-bounded : (tail : ℕ) (text : List Frame) → AllByRecursion (λ f. is_frame s f ≡ true) text → tail_after s tail text ≤ tail + (length text + 1) * s.seg_size
     tail-bounded tail [] within = omega arith
     tail-bounded tail (f ∷ fs) within =
         let least = (are_sized s good).least_size in
@@ -98,7 +98,7 @@ pub room-for-flush : (s : Settings) (head tail : ℕ) → is_full_for_flush s he
 room-for-flush s head tail h = let room = leb-false (head + s.segments - 1) (last_segment s tail) h in omega arith
 
 -- a text of as many bytes as all segments have finds no room
-pub too-long : (s : Settings) (head tail : ℕ) (text : List Frame) → first_bad_field s ≡ None → AllByRecursion (λ f. is_within s f ≡ true) text → head * s.seg_size < tail
+pub too-long : (s : Settings) (head tail : ℕ) (text : List Frame) → first_bad_field s ≡ None → AllByRecursion (λ f. is_frame s f ≡ true) text → head * s.seg_size < tail
     → s.segments * s.seg_size ≤ sum_by (λ f. length (bytes_of f)) text → is_full_for_clean s head (tail_after s tail text) ≡ true
 too-long s head tail text good within less long = of (is_full_for_clean s head (tail_after s tail text)) refl
   where

@@ -3,7 +3,7 @@ use Rattle.std.specs.Prelude.{◌≡◌, ◌⊎◌, ℕ, ◌+◌, ◌<◌, ◌�
 use Rattle.std.specs.List.{AllByRecursion}
 use Rattle.keys.specs.Limits.{first_bad_field}
 use Rattle.keys.specs.declared.settings.Settings.{Settings}
-use Rattle.frame_codec.specs.Frame.{Frame, is_within}
+use Rattle.frame_codec.specs.Frame.{Frame, is_frame}
 use Rattle.flush_log.specs.Overlay.{overlay, IsBeside, AgreeAt}
 use Rattle.flush_log.specs.Segments.{HasSegments, last_segment}
 use Rattle.flush_log.specs.Layout.{Span, tail_after, place_of_span, with_spans}
@@ -70,7 +70,7 @@ pub record HasRoom (s : Settings) (file : List ℕ) (t : Slot) (text : List Fram
   pub good : first_bad_field s ≡ None
   pub whole : HasSegments s file
   pub slot : store_slot s file ≡ Ok t
-  pub within : AllByRecursion (λ f. is_within s f ≡ true) text
+  pub within : AllByRecursion (λ f. is_frame s f ≡ true) text
   pub free : last_segment s (tail_after s t.tail text) < t.head + s.segments
 
 -- ---- what may be left of it
@@ -85,5 +85,5 @@ IsBesideSlot s n spans place = IsBeside (slot_place n) slot_size place × IsBesi
 
 -- what may be left of a commit that is not done: slot n is as it was, or closed with any bytes behind its gate, and all
 -- else is as it was but for these spans
-abbrev pub IsBefore : Settings → ℕ → List Span → List ℕ → List ℕ → Type 0
-IsBefore s n spans file c = AgreeAt (IsBesideSpans s spans) file c ⊎ ((is_open n c ≡ false) × AgreeAt (IsBesideSlot s n spans) file c)
+abbrev pub IsUncommitted : Settings → ℕ → List Span → List ℕ → List ℕ → Type 0
+IsUncommitted s n spans file c = AgreeAt (IsBesideSpans s spans) file c ⊎ ((is_open n c ≡ false) × AgreeAt (IsBesideSlot s n spans) file c)

@@ -5,22 +5,22 @@ use Rattle.keys.specs.declared.settings.Settings.{Settings}
 use Rattle.frame_codec.specs.Frame.{Frame, bytes_of}
 use Rattle.flush_log.specs.Overlay.{overlay}
 use Rattle.flush_log.specs.Reading.{Found}
-use Rattle.flush_log.specs.Segments.{segment_header, place_of, position, last_segment}
+use Rattle.flush_log.specs.Segments.{segment_header, place_of_segment, position, last_segment}
 
 -- ---- places
 
 -- a frame, and where it stands
-pub record Placed : Type 0 where
+pub record PlacedFrame : Type 0 where
   pub segment : ℕ
   pub offset : ℕ
   pub frame : Frame
 
 -- the offset behind a frame
-abbrev pub offset_behind : Placed → ℕ
+abbrev pub offset_behind : PlacedFrame → ℕ
 offset_behind p = p.offset + length (bytes_of p.frame)
 
 -- each frame of a text, from an offset of segment n on: where it fits in there, else behind the header of the next segment
-abbrev pub placed_from : Settings → ℕ → ℕ → List Frame → List Placed
+abbrev pub placed_from : Settings → ℕ → ℕ → List Frame → List PlacedFrame
 placed_from s n offset [] = []
 placed_from s n offset (f ∷ fs) =
     if nat_le (offset + length (bytes_of f)) s.seg_size
@@ -33,11 +33,11 @@ behind_header zero = segment_header_size
 behind_header (suc offset) = suc offset
 
 -- the frames of a text that is written from the tail on
-abbrev pub placed : Settings → ℕ → List Frame → List Placed
+abbrev pub placed : Settings → ℕ → List Frame → List PlacedFrame
 placed s tail text = placed_from s (tail / s.seg_size) (behind_header (tail % s.seg_size)) text
 
 -- the position behind the last of these frames
-abbrev pub tail_behind : Settings → ℕ → List Placed → ℕ
+abbrev pub tail_behind : Settings → ℕ → List PlacedFrame → ℕ
 tail_behind s tail [] = tail
 tail_behind s tail (p ∷ ps) = tail_behind s (position s p.segment (offset_behind p)) ps
 
@@ -87,7 +87,7 @@ opened n zero = begun n []
 opened n (suc offset) = record { segment = n; offset = suc offset; bytes = [] }
 
 -- the spans of these frames, of which this one is being written: each segment that is left is filled, the next one is begun
-abbrev pub spans_from : Settings → Span → List Placed → List Span
+abbrev pub spans_from : Settings → Span → List PlacedFrame → List Span
 spans_from s r [] = r ∷ []
 spans_from s r (p ∷ ps) =
     if p.segment == r.segment
@@ -101,7 +101,7 @@ spans s tail (f ∷ fs) = spans_from s (opened (tail / s.seg_size) (tail % s.seg
 
 -- where a span stands in a file
 abbrev pub place_of_span : Settings → Span → ℕ
-place_of_span s r = place_of s r.segment + r.offset
+place_of_span s r = place_of_segment s r.segment + r.offset
 
 -- the bytes of a file with these spans written
 abbrev pub with_spans : Settings → List ℕ → List Span → List ℕ

@@ -17,8 +17,8 @@ abbrev pub segments_begin : ℕ
 segments_begin = 512
 
 -- where segment n stands in a file
-abbrev pub place_of : Settings → ℕ → ℕ
-place_of s n = segments_begin + n % s.segments * s.seg_size
+abbrev pub place_of_segment : Settings → ℕ → ℕ
+place_of_segment s n = segments_begin + n % s.segments * s.seg_size
 
 -- how many bytes a disk has at least
 abbrev pub disk_size : Settings → ℕ
@@ -30,7 +30,7 @@ HasSegments s file = disk_size s ≤ length file
 
 -- the bytes of segment n
 abbrev pub segment_bytes : Settings → List ℕ → ℕ → List ℕ
-segment_bytes s file n = take s.seg_size (drop (place_of s n) file)
+segment_bytes s file n = take s.seg_size (drop (place_of_segment s n) file)
 
 -- the position of an offset in segment n
 abbrev pub position : Settings → ℕ → ℕ → ℕ
@@ -43,7 +43,7 @@ pub record IsInLog (s : Settings) (head tail : ℕ) (place : ℕ) : Type 0 where
   pub from_head : head ≤ segment
   pub in_segment : offset < s.seg_size
   pub before_tail : position s segment offset < tail
-  pub stands : place ≡ place_of s segment + offset
+  pub stands : place ≡ place_of_segment s segment + offset
 
 -- the last segment in use
 abbrev pub last_segment : Settings → ℕ → ℕ

@@ -4,21 +4,21 @@ use Rattle.std.specs.List.{AllByRecursion}
 use Rattle.keys.specs.Sizes.{segment_header_size}
 use Rattle.keys.specs.declared.settings.Settings.{Settings}
 use Rattle.keys.specs.declared.fault.Fault.{Fault}
-use Rattle.frame_codec.specs.Frame.{Frame, bytes_of, is_within}
+use Rattle.frame_codec.specs.Frame.{Frame, bytes_of, is_frame}
 use Rattle.frame_codec.specs.Reading.{read_frame}
 use Rattle.flush_log.specs.Reading.{Found, is_at_tail, is_padding, read_segment, read_earlier}
 use Rattle.flush_log.specs.Segments.{segment_header, segment_bytes, last_segment, bytes_in_use}
 
 -- the bytes are the header of segment n, these frames and so many zeros
 pub record AreFrames (s : Settings) (n : ℕ) (fs : List Frame) (zeros : ℕ) (bytes : List ℕ) : Type 0 where
-  pub within : AllByRecursion (λ f. is_within s f ≡ true) fs
+  pub within : AllByRecursion (λ f. is_frame s f ≡ true) fs
   pub spelled : bytes ≡ segment_header n ++ (flat_map bytes_of fs ++ replicate zeros 0)
 
 -- the bytes are that header, some frames up to an offset, and then neither a frame nor the end
 pub record IsBrokenAt (s : Settings) (is_end : List ℕ → Bool) (n offset : ℕ) (bytes : List ℕ) : Type 0 where
   pub before : List Frame
   pub behind : List ℕ
-  pub within : AllByRecursion (λ f. is_within s f ≡ true) before
+  pub within : AllByRecursion (λ f. is_frame s f ≡ true) before
   pub spelled : bytes ≡ segment_header n ++ (flat_map bytes_of before ++ behind)
   pub place : offset ≡ segment_header_size + length (flat_map bytes_of before)
   pub no_end : is_end behind ≡ false

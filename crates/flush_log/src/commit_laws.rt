@@ -5,13 +5,13 @@ ghost use Rattle.keys.specs.Limits.{first_bad_field};
 ghost use Rattle.keys.specs.Sizes.{segment_header_size};
 ghost use Rattle.keys.specs.declared.settings.Settings.{Settings};
 ghost use Rattle.mapping.specs.Tree.{most_levels};
-ghost use Rattle.frame_codec.specs.Frame.{Frame, is_within};
-ghost use Rattle.flush_log.specs.Segments.{segments_begin, place_of, disk_size, HasSegments, position, last_segment};
+ghost use Rattle.frame_codec.specs.Frame.{Frame, is_frame};
+ghost use Rattle.flush_log.specs.Segments.{segments_begin, disk_size, HasSegments, position, last_segment, place_of_segment};
 ghost use Rattle.flush_log.specs.Reading.{Found, log};
 ghost use Rattle.flush_log.specs.Layout.{Span, tail_after, found_in_text, spans, with_spans};
 ghost use Rattle.flush_log.specs.SettingsBlock.{store_settings};
 ghost use Rattle.flush_log.specs.Slot.{Slot, greatest, is_slot, store_slot};
-ghost use Rattle.flush_log.specs.Commit.{seen_after, MayLeave, LeftDuring, AreWithin, prepare, commit_calls, committed, HasRoom, IsBefore};
+ghost use Rattle.flush_log.specs.Commit.{seen_after, MayLeave, LeftDuring, AreWithin, prepare, commit_calls, committed, HasRoom, IsUncommitted};
 ghost use Rattle.flush_log.specs.NewStore.{first_frame, first_slot, disk_of_new};
 
 /// A crash at any moment of a commit on a settled disk leaves the disk with nothing changed but the spans and the closed slot,
@@ -20,10 +20,10 @@ pub fn a_crash_leaves_what_was_before_or_all_of_a_commit()
     ensures during { (s : Settings) (file : List ℕ) (rs : List Span) (t : Slot) (c : List ℕ) →
         segments_begin ≤ length file →
         AreWithin s (length file) rs → LeftDuring (commit_calls s file rs t) file c →
-        IsBefore s t.sequence rs file c ⊎ (c ≡ committed s file rs t) }
+        IsUncommitted s t.sequence rs file c ⊎ (c ≡ committed s file rs t) }
     ensures before { (s : Settings) (file : List ℕ) (rs : List Span) (t : Slot) (c : List ℕ) →
         segments_begin ≤ length file →
-        AreWithin s (length file) rs → LeftDuring (prepare s file rs t) file c → IsBefore s t.sequence rs file c }
+        AreWithin s (length file) rs → LeftDuring (prepare s file rs t) file c → IsUncommitted s t.sequence rs file c }
     ensures read { (s : Settings) (file : List ℕ) (rs : List Span) (t : Slot) →
         segments_begin ≤ length file → AreWithin s (length file) rs →
         seen_after (commit_calls s file rs t) file ≡ committed s file rs t }
@@ -36,13 +36,13 @@ pub fn a_crash_leaves_what_was_before_or_all_of_a_commit()
 /// the commit of a text leaves these, or all that was committed.
 pub fn a_commit_is_hidden_until_its_gate_is_open()
     ensures settings { (s : Settings) (n : ℕ) (rs : List Span) (file c : List ℕ) →
-        segments_begin ≤ length file → IsBefore s n rs file c →
+        segments_begin ≤ length file → IsUncommitted s n rs file c →
         store_settings c ≡ store_settings file }
     ensures slot { (s : Settings) (t : Slot) (rs : List Span) (file c : List ℕ) →
         segments_begin ≤ length file → store_slot s file ≡ Ok t →
-        IsBefore s (suc t.sequence) rs file c → store_slot s c ≡ Ok t }
+        IsUncommitted s (suc t.sequence) rs file c → store_slot s c ≡ Ok t }
     ensures log { (s : Settings) (file : List ℕ) (t : Slot) (text : List Frame) (c : List ℕ) → HasRoom s file t text →
-        IsBefore s (suc t.sequence) (spans s t.tail text) file c → log s c t.head t.tail ≡ log s file t.head t.tail }
+        IsUncommitted s (suc t.sequence) (spans s t.tail text) file c → log s c t.head t.tail ≡ log s file t.head t.tail }
     ensures crash { (s : Settings) (file : List ℕ) (t : Slot) (text : List Frame) (u : Slot) (c : List ℕ) → HasRoom s file t text →
         u.sequence ≡ suc t.sequence → LeftDuring (commit_calls s file (spans s t.tail text) u) file c →
         ((store_settings c ≡ store_settings file) × (store_slot s c ≡ Ok t) × (log s c t.head t.tail ≡ log s file t.head t.tail)) ⊎
@@ -74,7 +74,7 @@ pub fn what_was_committed_is_read()
 /// stays or moves to no later segment than the last one.
 pub fn the_slot_of_a_commit_is_well_formed()
     ensures { (s : Settings) (n : ℕ) (t u : Slot) (text : List Frame) → first_bad_field s ≡ None → is_slot s n t ≡ true →
-        AllByRecursion (λ f. is_within s f ≡ true) text → u.sequence ≡ suc t.sequence → u.sequence ≤ greatest →
+        AllByRecursion (λ f. is_frame s f ≡ true) text → u.sequence ≡ suc t.sequence → u.sequence ≤ greatest →
         u.tail ≡ tail_after s t.tail text → u.tail ≤ greatest → t.head ≤ u.head → u.head ≤ last_segment s t.tail →
         last_segment s u.tail < u.head + s.segments → u.root < 2 ^ 64 →
         1 ≤ u.height → u.height ≤ most_levels → is_slot s u.sequence u ≡ true }
@@ -103,8 +103,8 @@ pub fn a_log_has_room_for_its_positions()
         head * s.seg_size + segment_header_size < tail →
         tail ≤ greatest → n < head + s.segments → offset ≤ s.seg_size → position s n offset < 2 ^ 63 }
     ensures tail { (s : Settings) (tail : ℕ) (text : List Frame) → first_bad_field s ≡ None → tail ≤ greatest →
-        AllByRecursion (λ f. is_within s f ≡ true) text → length text ≤ 2 ^ 41 → tail_after s tail text < 2 ^ 63 }
+        AllByRecursion (λ f. is_frame s f ≡ true) text → length text ≤ 2 ^ 41 → tail_after s tail text < 2 ^ 63 }
     ensures sequence { (n : ℕ) → n ≤ greatest → suc n < 2 ^ 63 }
-    ensures place { (s : Settings) (n offset : ℕ) → first_bad_field s ≡ None → offset ≤ s.seg_size → place_of s n + offset < 2 ^ 37 }
+    ensures place { (s : Settings) (n offset : ℕ) → first_bad_field s ≡ None → offset ≤ s.seg_size → place_of_segment s n + offset < 2 ^ 37 }
     ensures size { (s : Settings) → first_bad_field s ≡ None → disk_size s < 2 ^ 37 }
 {}

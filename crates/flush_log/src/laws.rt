@@ -7,7 +7,7 @@ ghost use Rattle.keys.specs.Sizes.{segment_header_size};
 ghost use Rattle.keys.specs.declared.settings.Settings.{Settings};
 ghost use Rattle.keys.specs.declared.fault.Fault.{Fault};
 ghost use Rattle.keys.specs.declared.fault.Fault.TheVariants.{BadSegment, BadFrame};
-ghost use Rattle.frame_codec.specs.Frame.{Frame, bytes_of, is_within};
+ghost use Rattle.frame_codec.specs.Frame.{Frame, bytes_of, is_frame};
 ghost use Rattle.flush_log.specs.Commit.{AreWithin, IsBesideSpans};
 ghost use Rattle.flush_log.specs.Layout.{placed, tail_after, found_in_text, is_full_for_flush, is_full_for_clean, spans, with_spans};
 ghost use Rattle.flush_log.specs.Overlay.{AgreeAt};
@@ -17,7 +17,7 @@ ghost use Rattle.flush_log.specs.Standing.{AreFrames, IsBrokenAt, IsFirstFault};
 
 /// Each frame that a store may have fits into a segment, behind its header.
 pub fn a_frame_fits_into_a_segment()
-    ensures { (s : Settings) (f : Frame) → first_bad_field s ≡ None → is_within s f ≡ true →
+    ensures { (s : Settings) (f : Frame) → first_bad_field s ≡ None → is_frame s f ≡ true →
         segment_header_size + length (bytes_of f) ≤ s.seg_size }
 {}
 
@@ -25,7 +25,7 @@ pub fn a_frame_fits_into_a_segment()
 /// it needs no more segments than there are. A clean may use them all, and a flush leaves one.
 pub fn a_text_is_read_back()
     ensures { (s : Settings) (file : List ℕ) (head tail : ℕ) (found : List Found) (text : List Frame) → first_bad_field s ≡ None → HasSegments s file →
-        AllByRecursion (λ f. is_within s f ≡ true) text → head * s.seg_size < tail → log s file head tail ≡ Ok found →
+        AllByRecursion (λ f. is_frame s f ≡ true) text → head * s.seg_size < tail → log s file head tail ≡ Ok found →
         last_segment s (tail_after s tail text) < head + s.segments →
         log s (with_spans s file (spans s tail text)) head (tail_after s tail text) ≡ Ok (found ++ found_in_text s tail text) }
 {}
@@ -33,7 +33,7 @@ pub fn a_text_is_read_back()
 /// Once a text is written, each of its frames stands at its place: in its segment, at its offset.
 pub fn each_frame_stands_at_its_place()
     ensures { (s : Settings) (file : List ℕ) (head tail : ℕ) (text : List Frame) → first_bad_field s ≡ None → HasSegments s file →
-        AllByRecursion (λ f. is_within s f ≡ true) text → head * s.seg_size < tail →
+        AllByRecursion (λ f. is_frame s f ≡ true) text → head * s.seg_size < tail →
         last_segment s (tail_after s tail text) < head + s.segments →
         AllByRecursion (λ p. take (length (bytes_of p.frame)) (drop p.offset (segment_bytes s (with_spans s file (spans s tail text)) p.segment)) ≡ bytes_of p.frame)
         (placed s tail text) }
@@ -51,13 +51,13 @@ pub fn what_is_behind_the_tail_is_hidden()
 /// What is written for a text that finds room lies in no place of the log, and within the segments.
 pub fn a_text_lies_behind_the_tail()
     ensures behind { (s : Settings) (head tail : ℕ) (text : List Frame) → first_bad_field s ≡ None → head * s.seg_size < tail →
-        AllByRecursion (λ f. is_within s f ≡ true) text → last_segment s (tail_after s tail text) < head + s.segments →
+        AllByRecursion (λ f. is_frame s f ≡ true) text → last_segment s (tail_after s tail text) < head + s.segments →
         (place : ℕ) → IsInLog s head tail place → IsBesideSpans s (spans s tail text) place }
     ensures apart { (s : Settings) (head tail : ℕ) (text : List Frame) → first_bad_field s ≡ None → head * s.seg_size < tail →
-        AllByRecursion (λ f. is_within s f ≡ true) text → last_segment s (tail_after s tail text) < head + s.segments →
+        AllByRecursion (λ f. is_frame s f ≡ true) text → last_segment s (tail_after s tail text) < head + s.segments →
         (place : ℕ) → place < segments_begin → IsBesideSpans s (spans s tail text) place }
     ensures inside { (s : Settings) (head tail : ℕ) (text : List Frame) → first_bad_field s ≡ None → head * s.seg_size < tail →
-        AllByRecursion (λ f. is_within s f ≡ true) text → last_segment s (tail_after s tail text) < head + s.segments →
+        AllByRecursion (λ f. is_frame s f ≡ true) text → last_segment s (tail_after s tail text) < head + s.segments →
         AreWithin s (disk_size s) (spans s tail text) }
 {}
 
@@ -76,15 +76,15 @@ pub fn the_head_segment_is_taken_off()
 /// the segments that there are. A flush finds room only where another segment stays free. A text of as many
 /// bytes as all segments have finds none.
 pub fn a_text_moves_the_tail()
-    ensures rises { (s : Settings) (tail : ℕ) (text : List Frame) → first_bad_field s ≡ None → AllByRecursion (λ f. is_within s f ≡ true) text →
+    ensures rises { (s : Settings) (tail : ℕ) (text : List Frame) → first_bad_field s ≡ None → AllByRecursion (λ f. is_frame s f ≡ true) text →
         tail + sum_by (λ f. length (bytes_of f)) text ≤ tail_after s tail text }
-    ensures bounded { (s : Settings) (tail : ℕ) (text : List Frame) → first_bad_field s ≡ None → AllByRecursion (λ f. is_within s f ≡ true) text →
+    ensures bounded { (s : Settings) (tail : ℕ) (text : List Frame) → first_bad_field s ≡ None → AllByRecursion (λ f. is_frame s f ≡ true) text →
         tail_after s tail text ≤ tail + (length text + 1) * s.seg_size }
     ensures in_room { (s : Settings) (head tail : ℕ) → first_bad_field s ≡ None → last_segment s tail < head + s.segments →
         tail ≤ (head + s.segments) * s.seg_size }
     ensures clean { (s : Settings) (head tail : ℕ) → is_full_for_clean s head tail ≡ false → last_segment s tail < head + s.segments }
     ensures flush { (s : Settings) (head tail : ℕ) → is_full_for_flush s head tail ≡ false → last_segment s tail + 1 < head + s.segments }
-    ensures too_long { (s : Settings) (head tail : ℕ) (text : List Frame) → first_bad_field s ≡ None → AllByRecursion (λ f. is_within s f ≡ true) text →
+    ensures too_long { (s : Settings) (head tail : ℕ) (text : List Frame) → first_bad_field s ≡ None → AllByRecursion (λ f. is_frame s f ≡ true) text →
         head * s.seg_size < tail → s.segments * s.seg_size ≤ sum_by (λ f. length (bytes_of f)) text →
         (is_full_for_clean s head (tail_after s tail text) ≡ true) × (is_full_for_flush s head (tail_after s tail text) ≡ true) }
 {}

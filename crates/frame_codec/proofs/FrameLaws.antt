@@ -9,7 +9,7 @@ use Rattle.keys.proofs.LimitLaws.{checked}
 use Rattle.keys.proofs.CellLaws.{gave, same_reading, number-back, counted-back, length-counted, pid-back}
 use Rattle.index_page.specs.Rules.{is_short_value, of_cell}
 use Rattle.frame_codec.specs.Codecs.{both, listed, spell_flag, flagged}
-use Rattle.frame_codec.specs.Frame.{Content, Frame, full, delta, kind_of, content_bytes, header, bytes_of, is_pid, is_key, are_entries, is_full, is_run, is_content, is_within}
+use Rattle.frame_codec.specs.Frame.{Content, Frame, full, delta, kind_of, content_bytes, header, bytes_of, is_pid, is_key, are_entries, is_full, is_run, is_content, is_frame}
 use Rattle.frame_codec.specs.Frame.Content.{FullLeaf, DeltaLeaf, FullIndex, DeltaIndex, Free}
 use Rattle.frame_codec.specs.Reading.{read_content, read_behind, read_any, read_frame}
 use Rattle.frame_codec.proofs.CodecLaws.{both-back, listed-back, flagged-back, absent-back}
@@ -161,7 +161,7 @@ module _ (s : Settings) (limits : AreInLimits s) where
   header-back kind len pid k l p =
       both-back (both (number 1) (number 4)) pid_cell ((kind, len), pid) (both-back (number 1) (number 4) (kind, len) (number-back 1 kind k) (number-back 4 len l)) (pid-back pid p)
 
-  pub any-back : (f : Frame) → is_within s f ≡ true → (rest : List ℕ) → read_any (bytes_of f ++ rest) ≡ gave f rest
+  pub any-back : (f : Frame) → is_frame s f ≡ true → (rest : List ℕ) → read_any (bytes_of f ++ rest) ≡ gave f rest
   any-back f h rest =
       let (pid, content) = and_parts (is_pid f.pid) (is_content s f.content) h in
       let c = f.content in
@@ -172,11 +172,11 @@ module _ (s : Settings) (limits : AreInLimits s) where
       ∙ ap (λ o. read_as (λ d. record { pid = f.pid; content = d }) (read_where (λ d. n == 8 + length (content_bytes d)) o)) (content-back c content rest)
       ∙ rw (eq-eqb n n refl) refl
 
-  pub frame-back : (f : Frame) → is_within s f ≡ true → (rest : List ℕ) → read_frame s (bytes_of f ++ rest) ≡ gave f rest
+  pub frame-back : (f : Frame) → is_frame s f ≡ true → (rest : List ℕ) → read_frame s (bytes_of f ++ rest) ≡ gave f rest
   frame-back f h rest = rw (any-back f h rest) (rw h refl)
 
 -- no frame's bytes begin another's
-pub same_frame : (s : Settings) (f g : Frame) (u v : List ℕ) → first_bad_field s ≡ None → is_within s f ≡ true → is_within s g ≡ true
+pub same_frame : (s : Settings) (f g : Frame) (u v : List ℕ) → first_bad_field s ≡ None → is_frame s f ≡ true → is_frame s g ≡ true
     → bytes_of f ++ u ≡ bytes_of g ++ v → (f ≡ g) × (u ≡ v)
 same_frame s f g u v good hf hg e =
     let limits = in_limits s good in

@@ -6,7 +6,7 @@ use Rattle.keys.specs.Cells.{Codec, read_on, read_as, read_where, read_number, n
 use Rattle.keys.specs.declared.settings.Settings.{Settings}
 use Rattle.keys.proofs.CellLaws.{gave, same_reading, nothing_read}
 use Rattle.frame_codec.specs.Codecs.{both, read_each, listed, read_flag, flagged}
-use Rattle.frame_codec.specs.Frame.{Content, Frame, full, delta, content_bytes, header, is_within}
+use Rattle.frame_codec.specs.Frame.{Content, Frame, full, delta, content_bytes, header, is_frame}
 use Rattle.frame_codec.specs.Frame.Content.{FullLeaf, DeltaLeaf, FullIndex, DeltaIndex, Free}
 use Rattle.frame_codec.specs.Reading.{read_content, read_behind, read_any, read_frame}
 
@@ -103,19 +103,19 @@ behind-local h =
     (where-local (λ c. h.0.1 == 8 + length (content_bytes c)) (read_content h.0.0) (content-local h.0.0))
 
 pub frame-longer : (s : Settings) → IsLocal (read_frame s)
-frame-longer s = where-local (is_within s) read_any (on-local header.read read_behind header-local behind-local)
+frame-longer s = where-local (is_frame s) read_any (on-local header.read read_behind header-local behind-local)
 
 -- ---- no frame begins with a byte 0
 
 pub nothing_at_all : (s : Settings) → read_frame s [] ≡ None
 nothing_at_all s = refl
 
-zero_and_length : (s : Settings) (n : ℕ) (o : Option (ℕ × List ℕ)) → read_where (is_within s) (read_on (read_as (λ pid. ((0, n), pid)) o) read_behind) ≡ None
+zero_and_length : (s : Settings) (n : ℕ) (o : Option (ℕ × List ℕ)) → read_where (is_frame s) (read_on (read_as (λ pid. ((0, n), pid)) o) read_behind) ≡ None
 zero_and_length s n None = refl
 zero_and_length s n (Some p) = refl
 
 zero_kind : (s : Settings) (o : Option (ℕ × List ℕ)) →
-    read_where (is_within s) (read_on (read_on (read_as (λ n. (0, n)) o) (λ h rest. read_as (λ pid. (h, pid)) (read_number 8 rest))) read_behind) ≡ None
+    read_where (is_frame s) (read_on (read_on (read_as (λ n. (0, n)) o) (λ h rest. read_as (λ pid. (h, pid)) (read_number 8 rest))) read_behind) ≡ None
 zero_kind s None = refl
 zero_kind s (Some p) = zero_and_length s p.0 (read_number 8 p.1)
 

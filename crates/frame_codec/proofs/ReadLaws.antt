@@ -5,9 +5,9 @@ use Rattle.keys.specs.Cells.{Codec, AreBytes, ReadsSpellings, read_as, read_wher
 use Rattle.keys.specs.declared.settings.Settings.{Settings}
 use Rattle.keys.proofs.CellLaws.{gave, same_reading, nothing_read, read_as-gave, read_where-gave, goes_on, number-spelled, counted-spelled, pid-spelled}
 use Rattle.frame_codec.specs.Codecs.{both, listed, flagged}
-use Rattle.frame_codec.specs.Frame.{Content, Frame, full, delta, kind_of, content_bytes, header, bytes_of, is_within}
+use Rattle.frame_codec.specs.Frame.{Content, Frame, full, delta, kind_of, content_bytes, header, bytes_of, is_frame}
 use Rattle.frame_codec.specs.Frame.Content.{FullLeaf, DeltaLeaf, FullIndex, DeltaIndex, Free}
-use Rattle.frame_codec.specs.Reading.{BeginsWith, read_content, read_behind, read_any, read_frame}
+use Rattle.frame_codec.specs.Reading.{BeginsWithFrame, read_content, read_behind, read_any, read_frame}
 use Rattle.keys.specs.Limits.{first_bad_field}
 use Rattle.frame_codec.proofs.FrameLaws.{in_limits, frame-back}
 use Rattle.frame_codec.proofs.CodecLaws.{both-spelled, listed-spelled, flagged-spelled}
@@ -76,11 +76,11 @@ any-spelled bs f rest bytes h =
     ∙ sym (append_assoc (header.spell ((kind_of c, 8 + length (content_bytes c)), pid)) (content_bytes c) rest)
     ∙ ap (λ (g : Frame). bytes_of g ++ rest) is
 
-pub frame-stands : (s : Settings) (bs : List ℕ) (f : Frame) (rest : List ℕ) → AreBytes bs → read_frame s bs ≡ Some (f, rest) → BeginsWith s bs f rest
+pub frame-stands : (s : Settings) (bs : List ℕ) (f : Frame) (rest : List ℕ) → AreBytes bs → read_frame s bs ≡ Some (f, rest) → BeginsWithFrame s bs f rest
 frame-stands s bs f rest bytes h =
-    let (read, within) = read_where-gave (is_within s) (read_any bs) f rest h in
+    let (read, within) = read_where-gave (is_frame s) (read_any bs) f rest h in
     record { within = within; bytes = any-spelled bs f rest bytes read }
 
 -- where nothing is read, no frame stands
-pub none-stands : (s : Settings) (bs : List ℕ) (f : Frame) (rest : List ℕ) → first_bad_field s ≡ None → read_frame s bs ≡ None → BeginsWith s bs f rest → ⊥
+pub none-stands : (s : Settings) (bs : List ℕ) (f : Frame) (rest : List ℕ) → first_bad_field s ≡ None → read_frame s bs ≡ None → BeginsWithFrame s bs f rest → ⊥
 none-stands s bs f rest good h stands = nothing_read _ (sym h ∙ ap (read_frame s) stands.bytes ∙ frame-back s (in_limits s good) f stands.within rest)

@@ -10,20 +10,20 @@ use Rattle.keys.specs.Order.{IsRising}
 use Rattle.keys.specs.declared.settings.Settings.{Settings}
 use Rattle.delta_chain.specs.Layers.{AllRise, IsInOrder}
 use Rattle.index_page.specs.Page.{Page, bare, as_changes, said_under, named}
-use Rattle.index_page.specs.Range.{is_within as is_in_range, AreFrom}
+use Rattle.index_page.specs.Range.{is_within, AreFrom}
 use Rattle.index_page.specs.Rules.{do_rise, is_short_value, IsShortValue, of_cell, OfCell, IsShortChange, IsRunSized, Fits}
 use Rattle.index_page.proofs.ListLaws.{all_apart, all_weaker}
 use Rattle.index_page.proofs.RuleLaws.{decides_all, decides_le, decides-keeps_range}
-use Rattle.frame_codec.specs.Frame.{is_pid, is_key, is_full, is_run, is_within}
+use Rattle.frame_codec.specs.Frame.{is_pid, is_key, is_full, is_run, is_frame}
 use Rattle.frame_codec.specs.Frame.Content.{FullLeaf, DeltaLeaf, FullIndex, DeltaIndex}
 
 -- ---- keys
 
-in_range : (k : List ℕ) → is_in_range [] None k ≡ true
+in_range : (k : List ℕ) → is_within [] None k ≡ true
 in_range [] = refl
 in_range (b ∷ k) = refl
 
-all_in_range : (ks : List (List ℕ)) → list_all (is_in_range [] None) ks ≡ true
+all_in_range : (ks : List (List ℕ)) → list_all (is_within [] None) ks ≡ true
 all_in_range [] = refl
 all_in_range (k ∷ ks) = both_true (in_range k) (all_in_range ks)
 
@@ -111,17 +111,17 @@ pub decides-pid : (p : ℕ) → Decides (is_pid p) (p < 2 ^ 64)
 decides-pid p = (ltb-true p (2 ^ 64), lt-ltb p (2 ^ 64))
 
 pub leaf_within : (s : Settings) (pid : ℕ) (p : Page (List ℕ)) → pid < 2 ^ 64 → length p.low ≤ s.max_key → IsInOrder p.layers → Fits s (IsShortValue s) p →
-    (is_within s (record { pid = pid; content = FullLeaf p.low p.layers.base }) ≡ true)
-    × AllByRecursion (λ run. is_within s (record { pid = pid; content = DeltaLeaf run }) ≡ true) p.layers.runs
+    (is_frame s (record { pid = pid; content = FullLeaf p.low p.layers.base }) ≡ true)
+    × AllByRecursion (λ run. is_frame s (record { pid = pid; content = DeltaLeaf run }) ≡ true) p.layers.runs
 leaf_within s pid p at low rising fits =
     let numbered = (decides-pid pid).1 at in
     let (base, runs) = page_passes s (is_short_value s) (IsShortValue s) (decides-value s) p low rising fits in
-    (both_true numbered base, all_weaker (λ run. is_run s (is_short_value s) run ≡ true) (λ run. is_within s (record { pid = pid; content = DeltaLeaf run }) ≡ true) (λ run h. both_true numbered h) p.layers.runs runs)
+    (both_true numbered base, all_weaker (λ run. is_run s (is_short_value s) run ≡ true) (λ run. is_frame s (record { pid = pid; content = DeltaLeaf run }) ≡ true) (λ run h. both_true numbered h) p.layers.runs runs)
 
 pub index_within : (s : Settings) (pid : ℕ) (p : Page ℕ) → pid < 2 ^ 64 → length p.low ≤ s.max_key → IsInOrder p.layers → Fits s (λ q. q < 2 ^ 64) p →
-    (is_within s (record { pid = pid; content = FullIndex p.low p.layers.base }) ≡ true)
-    × AllByRecursion (λ run. is_within s (record { pid = pid; content = DeltaIndex run }) ≡ true) p.layers.runs
+    (is_frame s (record { pid = pid; content = FullIndex p.low p.layers.base }) ≡ true)
+    × AllByRecursion (λ run. is_frame s (record { pid = pid; content = DeltaIndex run }) ≡ true) p.layers.runs
 index_within s pid p at low rising fits =
     let numbered = (decides-pid pid).1 at in
     let (base, runs) = page_passes s is_pid (λ q. q < 2 ^ 64) decides-pid p low rising fits in
-    (both_true numbered base, all_weaker (λ run. is_run s is_pid run ≡ true) (λ run. is_within s (record { pid = pid; content = DeltaIndex run }) ≡ true) (λ run h. both_true numbered h) p.layers.runs runs)
+    (both_true numbered base, all_weaker (λ run. is_run s is_pid run ≡ true) (λ run. is_frame s (record { pid = pid; content = DeltaIndex run }) ≡ true) (λ run h. both_true numbered h) p.layers.runs runs)

@@ -1,6 +1,6 @@
 -- A frame of the log: what it says of a page, its bytes, and which frames a store with given settings may have.
 -- A further kind is a further case of each definition on `Content` and a further line of `read_content`. Where a log has a
--- version, `is_within` and `read_frame` are to take it, and `is_within` to ask for a kind that the version knows.
+-- version, `is_frame` and `read_frame` are to take it, and `is_frame` to ask for a kind that the version knows.
 use Rattle.std.specs.Prelude.{ℕ, ◌+◌, ◌^◌, Bool, true, ◌&&◌, nat_le, nat_lt, List, [], ◌++◌, length, Option}
 use Rattle.std.specs.List.{list_all}
 use Rattle.std.specs.Map.{keys_of}
@@ -88,5 +88,5 @@ is_content s (DeltaIndex run) = is_run s is_pid run
 is_content s Free = true
 
 -- the frame is one that a store with these settings may have
-abbrev pub is_within : Settings → Frame → Bool
-is_within s f = is_pid f.pid && is_content s f.content
+abbrev pub is_frame : Settings → Frame → Bool
+is_frame s f = is_pid f.pid && is_content s f.content

@@ -3,12 +3,12 @@ use Rattle.std.specs.Prelude.{◌≡◌, ℕ, ◌+◌, true, ◌==◌, if◌then
 use Rattle.keys.specs.Cells.{read_on, read_as, read_where, value_cell, pid_cell}
 use Rattle.keys.specs.Sizes.{pid_size}
 use Rattle.keys.specs.declared.settings.Settings.{Settings}
-use Rattle.frame_codec.specs.Frame.{Content, Frame, full, delta, content_bytes, header, bytes_of, is_within}
+use Rattle.frame_codec.specs.Frame.{Content, Frame, full, delta, content_bytes, header, bytes_of, is_frame}
 use Rattle.frame_codec.specs.Frame.Content.{FullLeaf, DeltaLeaf, FullIndex, DeltaIndex, Free}
 
 -- the bytes begin with this frame, which is within the settings, and the rest stands behind it
-pub record BeginsWith (s : Settings) (bs : List ℕ) (f : Frame) (rest : List ℕ) : Type 0 where
-  pub within : is_within s f ≡ true
+pub record BeginsWithFrame (s : Settings) (bs : List ℕ) (f : Frame) (rest : List ℕ) : Type 0 where
+  pub within : is_frame s f ≡ true
   pub bytes : bs ≡ bytes_of f ++ rest
 
 -- the content of a frame of this kind
@@ -32,4 +32,4 @@ read_any bs = read_on (header.read bs) read_behind
 
 -- the frame within the settings that the bytes begin with, and the bytes behind it
 abbrev pub read_frame : Settings → List ℕ → Option (Frame × List ℕ)
-read_frame s bs = read_where (is_within s) (read_any bs)
+read_frame s bs = read_where (is_frame s) (read_any bs)

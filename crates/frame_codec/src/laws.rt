@@ -7,9 +7,9 @@ ghost use Rattle.keys.specs.declared.settings.Settings.{Settings};
 ghost use Rattle.delta_chain.specs.Layers.{IsInOrder};
 ghost use Rattle.index_page.specs.Page.{Page};
 ghost use Rattle.index_page.specs.Rules.{IsShortValue, Fits};
-ghost use Rattle.frame_codec.specs.Frame.{Frame, bytes_of, is_within};
+ghost use Rattle.frame_codec.specs.Frame.{Frame, bytes_of, is_frame};
 ghost use Rattle.frame_codec.specs.Frame.Content.{FullLeaf, DeltaLeaf, FullIndex, DeltaIndex};
-ghost use Rattle.frame_codec.specs.Reading.{BeginsWith, read_frame};
+ghost use Rattle.frame_codec.specs.Reading.{BeginsWithFrame, read_frame};
 ghost use Rattle.frame_codec.specs.Sizes.{size_of};
 
 /// A value of up to 65,535 bytes and a page id are read back from their cells, whatever stands behind them, and what is
@@ -27,7 +27,7 @@ pub fn a_cell_is_read_back()
 
 /// A frame is read back from its bytes, whatever stands behind them.
 pub fn a_frame_is_read_back()
-    ensures { (s : Settings) (f : Frame) (rest : List ℕ) → first_bad_field s ≡ None → is_within s f ≡ true →
+    ensures { (s : Settings) (f : Frame) (rest : List ℕ) → first_bad_field s ≡ None → is_frame s f ≡ true →
         read_frame s (bytes_of f ++ rest) ≡ Some (f, rest) }
 {}
 
@@ -40,15 +40,15 @@ pub fn what_is_read_needs_no_byte_behind_it()
 /// Two frames whose bytes begin alike are the same frame: no spelling begins another.
 pub fn a_frame_has_one_spelling()
     ensures { (s : Settings) (f g : Frame) (behind other : List ℕ) → first_bad_field s ≡ None →
-        is_within s f ≡ true → is_within s g ≡ true → bytes_of f ++ behind ≡ bytes_of g ++ other → (f ≡ g) × (behind ≡ other) }
+        is_frame s f ≡ true → is_frame s g ≡ true → bytes_of f ++ behind ≡ bytes_of g ++ other → (f ≡ g) × (behind ≡ other) }
 {}
 
 /// The reader finds a frame just where bytes begin with one, and it finds that frame.
 pub fn what_is_read_is_what_stands_there()
     ensures found { (s : Settings) (bytes : List ℕ) (f : Frame) (rest : List ℕ) → AreBytes bytes →
-        read_frame s bytes ≡ Some (f, rest) → BeginsWith s bytes f rest }
+        read_frame s bytes ≡ Some (f, rest) → BeginsWithFrame s bytes f rest }
     ensures none { (s : Settings) (bytes : List ℕ) (f : Frame) (rest : List ℕ) → first_bad_field s ≡ None →
-        read_frame s bytes ≡ None → BeginsWith s bytes f rest → ⊥ }
+        read_frame s bytes ≡ None → BeginsWithFrame s bytes f rest → ⊥ }
 {}
 
 /// A frame has as many bytes as its fields tell.
@@ -60,10 +60,10 @@ pub fn a_frame_has_its_size()
 pub fn a_page_has_frames_within_settings()
     ensures leaf { (s : Settings) (pid : ℕ) (p : Page (List ℕ)) → pid < 2 ^ 64 → length p.low ≤ s.max_key → IsInOrder p.layers →
         Fits s (IsShortValue s) p →
-        (is_within s (record { pid = pid; content = FullLeaf p.low p.layers.base }) ≡ true) ×
-        AllByRecursion (λ run. is_within s (record { pid = pid; content = DeltaLeaf run }) ≡ true) p.layers.runs }
+        (is_frame s (record { pid = pid; content = FullLeaf p.low p.layers.base }) ≡ true) ×
+        AllByRecursion (λ run. is_frame s (record { pid = pid; content = DeltaLeaf run }) ≡ true) p.layers.runs }
     ensures index_page { (s : Settings) (pid : ℕ) (p : Page ℕ) → pid < 2 ^ 64 → length p.low ≤ s.max_key → IsInOrder p.layers →
         Fits s (λ child. child < 2 ^ 64) p →
-        (is_within s (record { pid = pid; content = FullIndex p.low p.layers.base }) ≡ true) ×
-        AllByRecursion (λ run. is_within s (record { pid = pid; content = DeltaIndex run }) ≡ true) p.layers.runs }
+        (is_frame s (record { pid = pid; content = FullIndex p.low p.layers.base }) ≡ true) ×
+        AllByRecursion (λ run. is_frame s (record { pid = pid; content = DeltaIndex run }) ≡ true) p.layers.runs }
 {}

@@ -6,6 +6,6 @@ use Rattle.index_page.specs.declared.page.State.{State}
 use Rattle.index_page.specs.declared.page.State.TheVariants.{Values, Pids}
 
 -- a leaf of the values, or an index page of the pids
-abbrev pub page_of : {A : Type 0} → List ℕ → State A → PageOfKind
-page_of low (Values chain) = Leaf (record { low = low; layers = chain })
-page_of low (Pids chain) = Index (record { low = low; layers = chain })
+abbrev pub page_of_state : {A : Type 0} → List ℕ → State A → PageOfKind
+page_of_state low (Values chain) = Leaf (record { low = low; layers = chain })
+page_of_state low (Pids chain) = Index (record { low = low; layers = chain })

@@ -35,9 +35,9 @@ impl<A: Allocator> Model for Page<A> {
 
     ghost Value = { PageOfKind };
 
-    ghost use Rattle.index_page.specs.Stated.{page_of};
+    ghost use Rattle.index_page.specs.Stated.{page_of_state};
 
-    ghost view = { λ p. page_of p.low p.state };
+    ghost view = { λ p. page_of_state p.low p.state };
 }
 
 impl<A: Allocator + Copy> Page<A> {

@@ -3,9 +3,10 @@ pub mod CommandKey
 pub mod Finding
 pub mod Limits
 pub mod Lists
-pub mod Order
 pub mod Narrowed
+pub mod Order
 pub mod OrderedMap
+pub mod Places
 pub mod Range
 pub mod Results
 pub mod Sizes

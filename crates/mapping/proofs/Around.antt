@@ -11,7 +11,7 @@ use Rattle.std.proofs.lemmas.Bool.{eq-eqb, eqb-true}
 use Rattle.std.proofs.lemmas.List.{map-append}
 use Rattle.mapping.specs.Tree.{Logged}
 use Rattle.mapping.specs.Outdate.{outdate, outdate_all}
-use Rattle.mapping.specs.Table.{is_pid}
+use Rattle.mapping.specs.Table.{is_same_pid}
 use Rattle.mapping.specs.Slots.{entry_if}
 
 -- ---- how pids compare
@@ -37,19 +37,19 @@ pub record IsAround {V : Type 0} (es : List (ℕ × V)) (k : ℕ) (fs : List (�
   pub above : AllByRecursion (λ n. k < n) (keys_of fs)
 
 module _ {V : Type 0} (k : ℕ) where
-  lookup_past : (es fs : List (ℕ × V)) → AllByRecursion (λ n. n < k) (keys_of es) → lookup (is_pid k) (es ++ fs) ≡ lookup (is_pid k) fs
+  lookup_past : (es fs : List (ℕ × V)) → AllByRecursion (λ n. n < k) (keys_of es) → lookup (is_same_pid k) (es ++ fs) ≡ lookup (is_same_pid k) fs
   lookup_past [] fs b = refl
   lookup_past (e ∷ es) fs b = rw (is_greater k e.0 b.0) (lookup_past es fs b.1)
 
-  pub lookup_none : (fs : List (ℕ × V)) → AllByRecursion (λ n. k < n) (keys_of fs) → lookup (is_pid k) fs ≡ None
+  pub lookup_none : (fs : List (ℕ × V)) → AllByRecursion (λ n. k < n) (keys_of fs) → lookup (is_same_pid k) fs ≡ None
   lookup_none [] a = refl
   lookup_none (f ∷ fs) a = rw (is_less k f.0 a.0) (lookup_none fs a.1)
 
-  lookup_here : (o : Option V) (fs : List (ℕ × V)) → AllByRecursion (λ n. k < n) (keys_of fs) → lookup (is_pid k) (entry_if k o ++ fs) ≡ o
+  lookup_here : (o : Option V) (fs : List (ℕ × V)) → AllByRecursion (λ n. k < n) (keys_of fs) → lookup (is_same_pid k) (entry_if k o ++ fs) ≡ o
   lookup_here None fs a = lookup_none fs a
   lookup_here (Some v) fs a = rw (is_equal k) refl
 
-  pub lookup-around : (es : List (ℕ × V)) (o : Option V) (fs : List (ℕ × V)) → IsAround es k fs → lookup (is_pid k) (around es k o fs) ≡ o
+  pub lookup-around : (es : List (ℕ × V)) (o : Option V) (fs : List (ℕ × V)) → IsAround es k fs → lookup (is_same_pid k) (around es k o fs) ≡ o
   lookup-around es o fs h = lookup_past es (entry_if k o ++ fs) h.below ∙ lookup_here o fs h.above
 
   insert_past : (es fs : List (ℕ × V)) (v : V) → AllByRecursion (λ n. n < k) (keys_of es) → insert_entry nat_cmp (es ++ fs) k v ≡ es ++ insert_entry nat_cmp fs k v
@@ -64,19 +64,19 @@ module _ {V : Type 0} (k : ℕ) where
   pub insert-around : (es : List (ℕ × V)) (o : Option V) (fs : List (ℕ × V)) (v : V) → IsAround es k fs → insert_entry nat_cmp (around es k o fs) k v ≡ around es k (Some v) fs
   insert-around es o fs v h = insert_past es (entry_if k o ++ fs) v h.below ∙ ap (λ (x : List (ℕ × V)). es ++ x) (insert_here o fs v h.above)
 
-  remove_past : (es fs : List (ℕ × V)) → AllByRecursion (λ n. n < k) (keys_of es) → remove_entry (is_pid k) (es ++ fs) ≡ es ++ remove_entry (is_pid k) fs
+  remove_past : (es fs : List (ℕ × V)) → AllByRecursion (λ n. n < k) (keys_of es) → remove_entry (is_same_pid k) (es ++ fs) ≡ es ++ remove_entry (is_same_pid k) fs
   remove_past [] fs b = refl
   remove_past (e ∷ es) fs b = rw (is_greater k e.0 b.0) (ap (λ (x : List (ℕ × V)). e ∷ x) (remove_past es fs b.1))
 
-  remove_none : (fs : List (ℕ × V)) → AllByRecursion (λ n. k < n) (keys_of fs) → remove_entry (is_pid k) fs ≡ fs
+  remove_none : (fs : List (ℕ × V)) → AllByRecursion (λ n. k < n) (keys_of fs) → remove_entry (is_same_pid k) fs ≡ fs
   remove_none [] a = refl
   remove_none (f ∷ fs) a = rw (is_less k f.0 a.0) (ap (λ (x : List (ℕ × V)). f ∷ x) (remove_none fs a.1))
 
-  remove_here : (o : Option V) (fs : List (ℕ × V)) → AllByRecursion (λ n. k < n) (keys_of fs) → remove_entry (is_pid k) (entry_if k o ++ fs) ≡ fs
+  remove_here : (o : Option V) (fs : List (ℕ × V)) → AllByRecursion (λ n. k < n) (keys_of fs) → remove_entry (is_same_pid k) (entry_if k o ++ fs) ≡ fs
   remove_here None fs a = remove_none fs a
   remove_here (Some v) fs a = rw (is_equal k) refl
 
-  pub remove-around : (es : List (ℕ × V)) (o : Option V) (fs : List (ℕ × V)) → IsAround es k fs → remove_entry (is_pid k) (around es k o fs) ≡ around es k None fs
+  pub remove-around : (es : List (ℕ × V)) (o : Option V) (fs : List (ℕ × V)) → IsAround es k fs → remove_entry (is_same_pid k) (around es k o fs) ≡ around es k None fs
   remove-around es o fs h = remove_past es (entry_if k o ++ fs) h.below ∙ ap (λ (x : List (ℕ × V)). es ++ x) (remove_here o fs h.above)
 
 -- ---- what the log has, once one pid is outdated

@@ -13,7 +13,7 @@ use Rattle.mapping.specs.Tree.Logged.{Old}
 use Rattle.mapping.specs.Outdate.{outdate, outdate_all}
 use Rattle.mapping.specs.Proper.{AreRisingPids}
 use Rattle.mapping.specs.FreshPids.{is_among, unused, with_number}
-use Rattle.mapping.specs.Table.{Mapping, is_pid, pids_in_use, place_of, with_place, freed, room_by, with_room, with_rooms, fresh_pids, freed_all, IsOldWithoutPlace}
+use Rattle.mapping.specs.Table.{Mapping, is_same_pid, pids_in_use, place_of, with_place, freed, room_by, with_room, with_rooms, fresh_pids, freed_all, IsOldWithoutPlace}
 use Rattle.mapping.proofs.PidLaws.{unused-is_free, unused-drawn, rising-with_number}
 use Rattle.mapping.proofs.TableLaws.{same_pid, listed-insert_entry}
 use Rattle.mapping.proofs.TableSlots.{same_mapping}
@@ -63,18 +63,18 @@ module _ {V : Type 0} where
   all_by Q true e es rest p a r = a
   all_by Q false e es rest p a r = (p, r)
 
-  all-remove_entry : (Q : ℕ → Type 0) (k : ℕ) (es : List (ℕ × V)) → AllByRecursion Q (keys_of es) → AllByRecursion Q (keys_of (remove_entry (is_pid k) es))
+  all-remove_entry : (Q : ℕ → Type 0) (k : ℕ) (es : List (ℕ × V)) → AllByRecursion Q (keys_of es) → AllByRecursion Q (keys_of (remove_entry (is_same_pid k) es))
   all-remove_entry Q k [] a = tt
-  all-remove_entry Q k (e ∷ es) a = all_by Q (is_pid k e.0) e es (remove_entry (is_pid k) es) a.0 a.1 (all-remove_entry Q k es a.1)
+  all-remove_entry Q k (e ∷ es) a = all_by Q (is_same_pid k e.0) e es (remove_entry (is_same_pid k) es) a.0 a.1 (all-remove_entry Q k es a.1)
 
   rising_by : (b : Bool) (e : ℕ × V) (es rest : List (ℕ × V)) → AreRisingPids (keys_of es) → AllByRecursion (λ n. e.0 < n) (keys_of rest) → AreRisingPids (keys_of rest) → AreRisingPids (keys_of (cond b es (e ∷ rest)))
   rising_by true e es rest r a s = r
   rising_by false e es rest r a s = (a, s)
 
-  rising-remove_entry : (k : ℕ) (es : List (ℕ × V)) → AreRisingPids (keys_of es) → AreRisingPids (keys_of (remove_entry (is_pid k) es))
+  rising-remove_entry : (k : ℕ) (es : List (ℕ × V)) → AreRisingPids (keys_of es) → AreRisingPids (keys_of (remove_entry (is_same_pid k) es))
   rising-remove_entry k [] r = tt
   rising-remove_entry k (e ∷ es) r =
-      rising_by (is_pid k e.0) e es (remove_entry (is_pid k) es) r.1 (all-remove_entry (λ n. e.0 < n) k es r.0) (rising-remove_entry k es r.1)
+      rising_by (is_same_pid k e.0) e es (remove_entry (is_same_pid k) es) r.1 (all-remove_entry (λ n. e.0 < n) k es r.0) (rising-remove_entry k es r.1)
 
   none_by : (b : Bool) → ◌≡◌ {A = Option V} None (cond b None None)
   none_by true = refl
@@ -97,9 +97,9 @@ module _ {V : Type 0} where
       ∙ pass_by (is_eq (nat_cmp q e.0)) (is_eq (nat_cmp q k)) q k e (listed_at es q) refl refl h
 
   -- what is listed once a pid's entry is taken away
-  listed-remove_entry : (k q : ℕ) (es : List (ℕ × V)) → AreRisingPids (keys_of es) → listed_at (remove_entry (is_pid k) es) q ≡ cond (is_eq (nat_cmp q k)) None (listed_at es q)
+  listed-remove_entry : (k q : ℕ) (es : List (ℕ × V)) → AreRisingPids (keys_of es) → listed_at (remove_entry (is_same_pid k) es) q ≡ cond (is_eq (nat_cmp q k)) None (listed_at es q)
   listed-remove_entry k q [] r = none_by (is_eq (nat_cmp q k))
-  listed-remove_entry k q (e ∷ es) r = removed_by (is_eq (nat_cmp k e.0)) k q e es (remove_entry (is_pid k) es) refl r (listed-remove_entry k q es r.1)
+  listed-remove_entry k q (e ∷ es) r = removed_by (is_eq (nat_cmp k e.0)) k q e es (remove_entry (is_same_pid k) es) refl r (listed-remove_entry k q es r.1)
 
 -- ---- pids drawn
 

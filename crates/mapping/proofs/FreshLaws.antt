@@ -8,8 +8,8 @@ use Rattle.mapping.specs.Proper.{AreRisingPids}
 use Rattle.mapping.specs.LogState.{log_state}
 use Rattle.mapping.specs.FreshPids.{is_among, unused}
 use Rattle.mapping.specs.Table.{Mapping, pids_in_use, with_room, with_rooms, fresh_pids}
-use Rattle.mapping.specs.Slots.{slot_pids, placed, listed, table_of, AreInUseBelow, AreSlots}
-use Rattle.mapping.specs.declared.slots.Slot.{Slot}
+use Rattle.mapping.specs.Slots.{slot_pids, listed_place, listed_state, table_of, AreInUseBelow, AreSlots}
+use Rattle.mapping.specs.declared.slots.TableSlot.{TableSlot}
 use Rattle.mapping.proofs.PidLaws.{unused-is_free, unused-rises, unused-leaves_none}
 use Rattle.mapping.proofs.InUse.{among_kept, among_made}
 use Rattle.mapping.proofs.Listing.{rising-listing}
@@ -81,12 +81,12 @@ all_drawn used pids m count k a h = let x = a.few in a.drawn ∙ ap (fresh_pids 
 -- ---- places
 
 -- the pids in use rise, where those of the slots do
-pub rising-in_use : {P : Type 0} (ss : List (Slot P)) → AreRisingPids (slot_pids ss) → AreRisingPids (pids_in_use (table_of ss))
-rising-in_use ss r = rising-listing (λ s. s.pid) (λ s. placed s.page) ss r
+pub rising-in_use : {P : Type 0} (ss : List (TableSlot P)) → AreRisingPids (slot_pids ss) → AreRisingPids (pids_in_use (table_of ss))
+rising-in_use ss r = rising-listing (λ s. s.pid) (λ s. listed_place s.page) ss r
 
 -- and so do those of which the log has something
-pub rising-logged : {P : Type 0} (ss : List (Slot P)) → AreRisingPids (slot_pids ss) → AreRisingPids (keys_of (table_of ss).logged)
-rising-logged ss r = rising-listing (λ s. s.pid) (λ s. listed (log_state s.logged)) ss r
+pub rising-logged : {P : Type 0} (ss : List (TableSlot P)) → AreRisingPids (slot_pids ss) → AreRisingPids (keys_of (table_of ss).logged)
+rising-logged ss r = rising-listing (λ s. s.pid) (λ s. listed_state (log_state s.logged)) ss r
 
 module _ {P : Type 0} where
   pub with_rooms-push : (t : Mapping P) (pids : List ℕ) (k : ℕ) → with_rooms t (pids ++ k ∷ []) ≡ with_room (with_rooms t pids) k
@@ -132,7 +132,7 @@ module _ {P : Type 0} where
 
 -- ---- slots
 
-module _ {P : Type 0} (ss ts : List (Slot P)) (n count : ℕ) (pids : List ℕ) (a : AreSlots ss n) (r : AreRisingPids (slot_pids ts)) (e : table_of ts ≡ with_rooms (table_of ss) pids) where
+module _ {P : Type 0} (ss ts : List (TableSlot P)) (n count : ℕ) (pids : List ℕ) (a : AreSlots ss n) (r : AreRisingPids (slot_pids ts)) (e : table_of ts ≡ with_rooms (table_of ss) pids) where
   abbrev held : List ℕ
   held = pids_in_use (table_of ss)
 

@@ -8,7 +8,7 @@ use Rattle.std.proofs.lemmas.Cmp.{tied_itself}
 use Rattle.std.proofs.lemmas.Bool.{eq-eqb, eqb-true}
 use Rattle.keys.proofs.Basics.{equal_by}
 use Rattle.mapping.specs.FreshPids.{is_among}
-use Rattle.mapping.specs.Table.{Mapping, is_pid, pids_in_use, place_of, with_place, freed, room_by, with_room}
+use Rattle.mapping.specs.Table.{Mapping, is_same_pid, pids_in_use, place_of, with_place, freed, room_by, with_room}
 use Rattle.mapping.specs.Slots.{AreInUseBelow}
 use Rattle.mapping.proofs.PidLaws.{later_among}
 use Rattle.mapping.proofs.TableLaws.{total, same_pid}
@@ -41,9 +41,9 @@ module _ {V : Type 0} (q k : ℕ) where
   remove_by false e es rest s d h f = or_step (nat_eq q e.0) (is_among q (keys_of es)) (is_among q (keys_of rest)) h f
 
   -- so does what isn't given up
-  among-remove_entry : (es : List (ℕ × V)) → q ≢ k → is_among q (keys_of es) ≡ true → is_among q (keys_of (remove_entry (is_pid k) es)) ≡ true
+  among-remove_entry : (es : List (ℕ × V)) → q ≢ k → is_among q (keys_of es) ≡ true → is_among q (keys_of (remove_entry (is_same_pid k) es)) ≡ true
   among-remove_entry [] d h = absurd (cc)
-  among-remove_entry (e ∷ es) d h = remove_by (is_eq (nat_cmp k e.0)) e es (remove_entry (is_pid k) es) refl d h (among-remove_entry es d)
+  among-remove_entry (e ∷ es) d h = remove_by (is_eq (nat_cmp k e.0)) e es (remove_entry (is_same_pid k) es) refl d h (among-remove_entry es d)
 
 pub is_eq_same : (m n : ℕ) → m ≡ n → is_eq (nat_cmp m n) ≡ true
 is_eq_same m n e = ap (λ (x : ℕ). is_eq (nat_cmp m x)) (sym e) ∙ ap is_eq (tied_itself total m)
@@ -67,9 +67,9 @@ module _ {V : Type 0} (k : ℕ) where
   there_by false true e rest s t = let x = is_eq_same k e.0 (eqb-true k e.0 t) in absurd (cc)
 
   -- a pid is in use exactly if it has a place
-  pub among-lookup : (es : List (ℕ × V)) → is_some (lookup (is_pid k) es) ≡ is_among k (keys_of es)
+  pub among-lookup : (es : List (ℕ × V)) → is_some (lookup (is_same_pid k) es) ≡ is_among k (keys_of es)
   among-lookup [] = refl
-  among-lookup (e ∷ es) = there_by (is_eq (nat_cmp k e.0)) (nat_eq k e.0) e (lookup (is_pid k) es) refl refl ∙ ap (λ (b : Bool). nat_eq k e.0 || b) (among-lookup es)
+  among-lookup (e ∷ es) = there_by (is_eq (nat_cmp k e.0)) (nat_eq k e.0) e (lookup (is_same_pid k) es) refl refl ∙ ap (λ (b : Bool). nat_eq k e.0 || b) (among-lookup es)
 
 module _ {P : Type 0} (t : Mapping P) where
   pub in_use-with_place : (k : ℕ) (p : Option P) (n : ℕ) → AreInUseBelow t n → AreInUseBelow (with_place t k p) n

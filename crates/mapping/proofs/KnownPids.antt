@@ -11,9 +11,9 @@ use Rattle.mapping.specs.Tree.Logged.{No, Old, Upto}
 use Rattle.mapping.specs.FreshPids.{is_among, with_number}
 use Rattle.mapping.specs.Proper.{AreRisingPids}
 use Rattle.mapping.specs.LogState.{log_state}
-use Rattle.mapping.specs.Table.{Mapping, is_pid, pids_in_use, place_of, log_of, is_old, old_pids, with_numbers, pids_in_use_or_old}
-use Rattle.mapping.specs.Slots.{slot_pids, placed, listed, entry_if, table_of, is_known, known_pids}
-use Rattle.mapping.specs.declared.slots.Slot.{Slot}
+use Rattle.mapping.specs.Table.{Mapping, is_same_pid, pids_in_use, place_of, log_of, is_old, old_pids, with_numbers, pids_in_use_or_old}
+use Rattle.mapping.specs.Slots.{slot_pids, listed_place, listed_state, entry_if, table_of, is_known, known_pids}
+use Rattle.mapping.specs.declared.slots.TableSlot.{TableSlot}
 use Rattle.mapping.proofs.PidLaws.{among-with_number, all-with_number, rising-with_number}
 use Rattle.mapping.proofs.TableLaws.{same_pid}
 use Rattle.mapping.proofs.Around.{lookup_none}
@@ -86,7 +86,7 @@ all_olds Q (l ∷ ls) a = all_by_old Q (is_old l.1) l (filter (λ l. is_old l.1)
 module _ {P : Type 0} where
   -- with one slot more in front
   known_by : (k : ℕ) (o : Option (Option P)) (l : Logged) (es : List (ℕ × Option P)) (ls : List (ℕ × Logged)) → AllByRecursion (λ n. k < n) (keys_of es) → AllByRecursion (λ n. k < n) (olds ls)
-      → with_numbers (olds (entry_if k (listed l) ++ ls)) (keys_of (entry_if k o ++ es)) ≡ cond (is_some o || is_old l) (k ∷ with_numbers (olds ls) (keys_of es)) (with_numbers (olds ls) (keys_of es))
+      → with_numbers (olds (entry_if k (listed_state l) ++ ls)) (keys_of (entry_if k o ++ es)) ≡ cond (is_some o || is_old l) (k ∷ with_numbers (olds ls) (keys_of es)) (with_numbers (olds ls) (keys_of es))
   known_by k None No es ls a b = refl
   known_by k None Old es ls a b = one_first k (with_numbers (olds ls) (keys_of es)) (all-with_numbers (λ n. k < n) (olds ls) (keys_of es) b a)
   known_by k None (Upto n) es ls a b = refl
@@ -96,20 +96,20 @@ module _ {P : Type 0} where
       ap (λ (x : List ℕ). with_one (is_among k x) k x) e ∙ one_there k (with_numbers (olds ls) (keys_of es))
   known_by k (Some p) (Upto n) es ls a b = numbers_behind k (olds ls) (keys_of es) b
 
-  pick_by : (b : Bool) (s : Slot P) (ss : List (Slot P)) → slot_pids (cond b (s ∷ ss) ss) ≡ cond b (s.pid ∷ slot_pids ss) (slot_pids ss)
+  pick_by : (b : Bool) (s : TableSlot P) (ss : List (TableSlot P)) → slot_pids (cond b (s ∷ ss) ss) ≡ cond b (s.pid ∷ slot_pids ss) (slot_pids ss)
   pick_by true s ss = refl
   pick_by false s ss = refl
 
   -- the known pids of slots are those of their table
-  pub known-table : (ss : List (Slot P)) → AreRisingPids (slot_pids ss) → known_pids ss ≡ pids_in_use_or_old (table_of ss)
+  pub known-table : (ss : List (TableSlot P)) → AreRisingPids (slot_pids ss) → known_pids ss ≡ pids_in_use_or_old (table_of ss)
   known-table [] r = refl
   known-table (s ∷ ss) r =
       let t = table_of ss in
-      let used = keys-listing (λ (s : Slot P). s.pid) (λ s. placed s.page) (λ n. s.pid < n) ss r.0 in
-      let logged = all_olds (λ n. s.pid < n) t.logged (keys-listing (λ (s : Slot P). s.pid) (λ s. listed (log_state s.logged)) (λ n. s.pid < n) ss r.0) in
+      let used = keys-listing (λ (s : TableSlot P). s.pid) (λ s. listed_place s.page) (λ n. s.pid < n) ss r.0 in
+      let logged = all_olds (λ n. s.pid < n) t.logged (keys-listing (λ (s : TableSlot P). s.pid) (λ s. listed_state (log_state s.logged)) (λ n. s.pid < n) ss r.0) in
       pick_by (is_known s) s (filter is_known ss)
       ∙ ap (λ (ns : List ℕ). cond (is_known s) (s.pid ∷ ns) ns) (known-table ss r.1)
-      ∙ sym (known_by s.pid (placed s.page) (log_state s.logged) t.places t.logged used logged)
+      ∙ sym (known_by s.pid (listed_place s.page) (log_state s.logged) t.places t.logged used logged)
 
 -- ---- the law
 
@@ -151,11 +151,11 @@ old_here false true old k l os later e f g ih h = let x = is_eq_same k l.0 (eqb-
 old_here false false true k l os later e f g ih h = rw f ih
 old_here false false false k l os later e f g ih h = ih
 
-pub among-old : (k : ℕ) (ls : List (ℕ × Logged)) → AreRisingPids (keys_of ls) → is_among k (keys_of (filter (λ l. is_old l.1) ls)) ≡ is_old (or_no (lookup (is_pid k) ls))
+pub among-old : (k : ℕ) (ls : List (ℕ × Logged)) → AreRisingPids (keys_of ls) → is_among k (keys_of (filter (λ l. is_old l.1) ls)) ≡ is_old (or_no (lookup (is_same_pid k) ls))
 among-old k [] r = refl
 among-old k (l ∷ ls) r =
-    old_here (is_eq (nat_cmp k l.0)) (nat_eq k l.0) (is_old l.1) k l (filter (λ l. is_old l.1) ls) (lookup (is_pid k) ls) refl refl refl (among-old k ls r.1)
-    (λ e. ap (λ (n : ℕ). lookup (is_pid n) ls) e ∙ lookup_none l.0 ls r.0)
+    old_here (is_eq (nat_cmp k l.0)) (nat_eq k l.0) (is_old l.1) k l (filter (λ l. is_old l.1) ls) (lookup (is_same_pid k) ls) refl refl refl (among-old k ls r.1)
+    (λ e. ap (λ (n : ℕ). lookup (is_same_pid n) ls) e ∙ lookup_none l.0 ls r.0)
 
 -- a pid is among them exactly if it has a place, or the log has `Old` of it
 pub among-in_use_or_old : {P : Type 0} (t : Mapping P) (k : ℕ) → AreRisingPids (keys_of t.logged) → is_among k (pids_in_use_or_old t) ≡ (is_some (place_of t k) || is_old (log_of t k))

@@ -13,7 +13,7 @@ use Rattle.index_page.proofs.ListLaws.{all-append}
 use Rattle.mapping.specs.Tree.{Logged}
 use Rattle.mapping.specs.Outdate.{outdate, outdate_all}
 use Rattle.mapping.specs.Proper.{AreRisingPids}
-use Rattle.mapping.specs.Table.{is_pid}
+use Rattle.mapping.specs.Table.{is_same_pid}
 use Rattle.mapping.specs.Slots.{entry_if, StandsAt, GoesTo}
 use Rattle.mapping.proofs.PidLaws.{below_later}
 use Rattle.mapping.proofs.Around.{around, IsAround, lookup-around, insert-around, remove-around, outdate-around}
@@ -139,8 +139,8 @@ module _ {S V : Type 0} (pid : S → ℕ) (say : S → Option V) where
       }
 
   module _ (ss : List S) (i k : ℕ) (s : S) (r : AreRisingPids (map pid ss)) (h : IsSlot pid ss i k s) where
-    pub lookup-slot : lookup (is_pid k) (listing ss) ≡ say s
-    lookup-slot = ap (lookup (is_pid k)) (listing-slot ss i k s h) ∙ lookup-around k (listing (take i ss)) (say s) (listing (drop (suc i) ss)) (around_slot ss i k s r h)
+    pub lookup-slot : lookup (is_same_pid k) (listing ss) ≡ say s
+    lookup-slot = ap (lookup (is_same_pid k)) (listing-slot ss i k s h) ∙ lookup-around k (listing (take i ss)) (say s) (listing (drop (suc i) ss)) (around_slot ss i k s r h)
 
     pub insert-slot : (t : S) (v : V) → pid t ≡ k → say t ≡ Some v → listing (set ss i t) ≡ insert_entry nat_cmp (listing ss) k v
     insert-slot t v e f =
@@ -149,12 +149,12 @@ module _ {S V : Type 0} (pid : S → ℕ) (say : S → Option V) where
         ∙ sym (insert-around k (listing (take i ss)) (say s) (listing (drop (suc i) ss)) v (around_slot ss i k s r h))
         ∙ ap (λ (es : List (ℕ × V)). insert_entry nat_cmp es k v) (sym (listing-slot ss i k s h))
 
-    pub remove-slot : (t : S) → pid t ≡ k → say t ≡ None → listing (set ss i t) ≡ remove_entry (is_pid k) (listing ss)
+    pub remove-slot : (t : S) → pid t ≡ k → say t ≡ None → listing (set ss i t) ≡ remove_entry (is_same_pid k) (listing ss)
     remove-slot t e f =
         listing-set ss i k t h.within e
         ∙ ap (λ (o : Option V). around (listing (take i ss)) k o (listing (drop (suc i) ss))) f
         ∙ sym (remove-around k (listing (take i ss)) (say s) (listing (drop (suc i) ss)) (around_slot ss i k s r h))
-        ∙ ap (remove_entry (is_pid k)) (sym (listing-slot ss i k s h))
+        ∙ ap (remove_entry (is_same_pid k)) (sym (listing-slot ss i k s h))
 
     pub same-slot : (t : S) → pid t ≡ k → say t ≡ say s → listing (set ss i t) ≡ listing ss
     same-slot t e f =
@@ -174,8 +174,8 @@ module _ {S V : Type 0} (pid : S → ℕ) (say : S → Option V) where
   }
 
   module _ (ss : List S) (i k : ℕ) (h : GoesTo (map pid ss) k i) where
-    pub lookup-gap : lookup (is_pid k) (listing ss) ≡ None
-    lookup-gap = ap (lookup (is_pid k)) (listing-gap ss i k) ∙ lookup-around k (listing (take i ss)) None (listing (drop i ss)) (around_gap ss i k h)
+    pub lookup-gap : lookup (is_same_pid k) (listing ss) ≡ None
+    lookup-gap = ap (lookup (is_same_pid k)) (listing-gap ss i k) ∙ lookup-around k (listing (take i ss)) None (listing (drop i ss)) (around_gap ss i k h)
 
     pub insert-gap : (t : S) (v : V) → pid t ≡ k → say t ≡ Some v → listing (insert ss i t) ≡ insert_entry nat_cmp (listing ss) k v
     insert-gap t v e f =

@@ -13,7 +13,7 @@ use Rattle.index_page.specs.Page.{PageOfKind}
 use Rattle.index_page.specs.Page.PageOfKind.{Leaf, Index}
 use Rattle.index_page.proofs.ListLaws.{all-append, all_apart}
 use Rattle.mapping.specs.Tree.{listed_at, page_at}
-use Rattle.mapping.specs.Levels.{Placed, Levels, pids, all_pids, leaf_pages, index_pages, all_pages, by_pid}
+use Rattle.mapping.specs.Levels.{Placed, Levels, pids, all_pids, listed_leaves, listed_index_pages, all_pages, by_pid}
 use Rattle.mapping.specs.FreshPids.{is_among}
 use Rattle.mapping.specs.Proper.{Distinct, AreRisingPids, HasLeaves, HasIndexPages, HoldsLevels}
 use Rattle.mapping.proofs.PidLaws.{all_among, below_later}
@@ -126,43 +126,43 @@ rising-by_pid (p ∷ ps) = rising-insert_entry (by_pid ps) p.0 p.1 (rising-by_pi
 
 -- ---- the table of some levels
 
-leaves_in : (t : List (ℕ × PageOfKind)) (ps : List (Placed (List ℕ))) → Has t (leaf_pages ps) → HasLeaves t ps
+leaves_in : (t : List (ℕ × PageOfKind)) (ps : List (Placed (List ℕ))) → Has t (listed_leaves ps) → HasLeaves t ps
 leaves_in t [] h = tt
 leaves_in t (p ∷ ps) h = (h.0, leaves_in t ps h.1)
 
-index_pages_in : (t : List (ℕ × PageOfKind)) (ps : List (Placed ℕ)) → Has t (index_pages ps) → HasIndexPages t ps
+index_pages_in : (t : List (ℕ × PageOfKind)) (ps : List (Placed ℕ)) → Has t (listed_index_pages ps) → HasIndexPages t ps
 index_pages_in t [] h = tt
 index_pages_in t (p ∷ ps) h = (h.0, index_pages_in t ps h.1)
 
-levels_in : (t : List (ℕ × PageOfKind)) (ls : List (List (Placed ℕ))) → Has t (flat_map index_pages ls) → AllByRecursion (HasIndexPages t) ls
+levels_in : (t : List (ℕ × PageOfKind)) (ls : List (List (Placed ℕ))) → Has t (flat_map listed_index_pages ls) → AllByRecursion (HasIndexPages t) ls
 levels_in t [] h = tt
 levels_in t (l ∷ ls) h =
-    let a = all_apart (λ (e : ℕ × PageOfKind). page_at t e.0 ≡ Some e.1) (index_pages l) (flat_map index_pages ls) h in
+    let a = all_apart (λ (e : ℕ × PageOfKind). page_at t e.0 ≡ Some e.1) (listed_index_pages l) (flat_map listed_index_pages ls) h in
     (index_pages_in t l a.0, levels_in t ls a.1)
 
-leaf_keys : (ps : List (Placed (List ℕ))) → keys_of (leaf_pages ps) ≡ pids ps
+leaf_keys : (ps : List (Placed (List ℕ))) → keys_of (listed_leaves ps) ≡ pids ps
 leaf_keys [] = refl
 leaf_keys (p ∷ ps) = ap (λ (ns : List ℕ). p.pid ∷ ns) (leaf_keys ps)
 
-index_keys : (ps : List (Placed ℕ)) → keys_of (index_pages ps) ≡ pids ps
+index_keys : (ps : List (Placed ℕ)) → keys_of (listed_index_pages ps) ≡ pids ps
 index_keys [] = refl
 index_keys (p ∷ ps) = ap (λ (ns : List ℕ). p.pid ∷ ns) (index_keys ps)
 
 keys-append : (ps qs : List (ℕ × PageOfKind)) → keys_of (ps ++ qs) ≡ keys_of ps ++ keys_of qs
 keys-append ps qs = map-append (λ e. e.0) ps qs
 
-levels_keys : (ls : List (List (Placed ℕ))) → keys_of (flat_map index_pages ls) ≡ flat_map pids ls
+levels_keys : (ls : List (List (Placed ℕ))) → keys_of (flat_map listed_index_pages ls) ≡ flat_map pids ls
 levels_keys [] = refl
 levels_keys (l ∷ ls) =
-    keys-append (index_pages l) (flat_map index_pages ls)
-    ∙ ap (λ (ns : List ℕ). ns ++ keys_of (flat_map index_pages ls)) (index_keys l)
+    keys-append (listed_index_pages l) (flat_map listed_index_pages ls)
+    ∙ ap (λ (ns : List ℕ). ns ++ keys_of (flat_map listed_index_pages ls)) (index_keys l)
     ∙ ap (λ (ns : List ℕ). pids l ++ ns) (levels_keys ls)
 
 -- the pids of the levels' pages are those of the levels
 pub keys_of-all_pages : (l : Levels) → keys_of (all_pages l) ≡ all_pids l.level l.above
 keys_of-all_pages l =
-    keys-append (leaf_pages l.level) (flat_map index_pages l.above)
-    ∙ ap (λ (ns : List ℕ). ns ++ keys_of (flat_map index_pages l.above)) (leaf_keys l.level)
+    keys-append (listed_leaves l.level) (flat_map listed_index_pages l.above)
+    ∙ ap (λ (ns : List ℕ). ns ++ keys_of (flat_map listed_index_pages l.above)) (leaf_keys l.level)
     ∙ ap (λ (ns : List ℕ). pids l.level ++ ns) (levels_keys l.above)
 
 -- the table that is made of levels with distinct pids has their pages, and no other
@@ -172,7 +172,7 @@ by_pid-holds l d =
     let k : keys_of (all_pages l) ≡ all_pids l.level l.above = keys_of-all_pages l in
     let e : Distinct (keys_of (all_pages l)) = subst (λ (ns : List ℕ). Distinct ns) (sym k) d in
     let h : Has table (all_pages l) = has-by_pid (all_pages l) (all_pages l) (has_each (all_pages l) e) in
-    let a = all_apart (λ (p : ℕ × PageOfKind). page_at table p.0 ≡ Some p.1) (leaf_pages l.level) (flat_map index_pages l.above) h in
+    let a = all_apart (λ (p : ℕ × PageOfKind). page_at table p.0 ≡ Some p.1) (listed_leaves l.level) (flat_map listed_index_pages l.above) h in
     let among : AllByRecursion (λ n. is_among n (all_pids l.level l.above) ≡ true) (keys_of (all_pages l)) =
     subst (λ (ns : List ℕ). AllByRecursion (λ n. is_among n (all_pids l.level l.above) ≡ true) ns) (sym k) (all_among (all_pids l.level l.above)) in
     record {

@@ -9,8 +9,8 @@ use Rattle.mapping.specs.Table.{Mapping}
 use Rattle.mapping.specs.TreeInMemory.{home_pages}
 use Rattle.mapping.specs.declared.logged.Logged.{Logged}
 use Rattle.mapping.specs.declared.logged.Logged.TheVariants.{No, Upto}
-use Rattle.mapping.specs.declared.slots.Place.{Place}
-use Rattle.mapping.specs.declared.slots.Place.TheVariants.{Vacant, Away, Home}
+use Rattle.mapping.specs.declared.slots.TablePlace.{TablePlace}
+use Rattle.mapping.specs.declared.slots.TablePlace.TheVariants.{Vacant, Away, Home}
 
 -- how many runs a page has, whatever its kind
 abbrev pub page_depth : PageOfKind → ℕ
@@ -22,15 +22,15 @@ abbrev pub depth_counted : PageOfKind → ℕ
 depth_counted p = min (page_depth p) (2 ^ 64 - 1)
 
 -- each page at home, with all its runs
-abbrev pub logged_whole : List (ℕ × Option PageOfKind) → List (ℕ × tree.Logged)
-logged_whole es = map (λ e. (e.0, upto (depth_counted e.1))) (home_pages es)
+abbrev pub logged_home_pages : List (ℕ × Option PageOfKind) → List (ℕ × tree.Logged)
+logged_home_pages es = map (λ e. (e.0, upto (depth_counted e.1))) (home_pages es)
 
 -- the table once the log has each page at home as it is, and nothing of any other pid
-abbrev pub flushed : Mapping PageOfKind → Mapping PageOfKind
-flushed t = record { places = t.places; logged = logged_whole t.places }
+abbrev pub marked_as_written : Mapping PageOfKind → Mapping PageOfKind
+marked_as_written t = record { places = t.places; logged = logged_home_pages t.places }
 
 -- the code's log state of what stands in a slot then
-abbrev pub logged_then : Place PageOfKind → Logged
+abbrev pub logged_then : TablePlace PageOfKind → Logged
 logged_then Vacant = No
 logged_then Away = No
 logged_then (Home p) = Upto (depth_counted p)

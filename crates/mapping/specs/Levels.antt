@@ -74,14 +74,14 @@ abbrev pub all_pids : {V : Type 0} → List (Placed V) → List (List (Placed �
 all_pids level above = pids level ++ flat_map pids above
 
 -- the pages of the levels, as a table keeps them
-abbrev pub leaf_pages : List (Placed (List ℕ)) → List (ℕ × PageOfKind)
-leaf_pages ps = map (λ p. (p.pid, Leaf p.page)) ps
+abbrev pub listed_leaves : List (Placed (List ℕ)) → List (ℕ × PageOfKind)
+listed_leaves ps = map (λ p. (p.pid, Leaf p.page)) ps
 
-abbrev pub index_pages : List (Placed ℕ) → List (ℕ × PageOfKind)
-index_pages ps = map (λ p. (p.pid, Index p.page)) ps
+abbrev pub listed_index_pages : List (Placed ℕ) → List (ℕ × PageOfKind)
+listed_index_pages ps = map (λ p. (p.pid, Index p.page)) ps
 
 abbrev pub all_pages : Levels → List (ℕ × PageOfKind)
-all_pages l = leaf_pages l.level ++ flat_map index_pages l.above
+all_pages l = listed_leaves l.level ++ flat_map listed_index_pages l.above
 
 -- pages by rising pid
 abbrev pub by_pid : List (ℕ × PageOfKind) → List (ℕ × PageOfKind)

@@ -7,21 +7,21 @@ use Rattle.mapping.specs.FreshPids.{is_among}
 use Rattle.mapping.specs.Proper.{AreRisingPids}
 use Rattle.mapping.specs.Table.{Mapping, pids_in_use, is_old}
 use Rattle.mapping.specs.LogState.{log_state}
-use Rattle.mapping.specs.declared.slots.Place.{Place}
-use Rattle.mapping.specs.declared.slots.Place.TheVariants.{Vacant, Away, Home}
-use Rattle.mapping.specs.declared.slots.Slot.{Slot}
+use Rattle.mapping.specs.declared.slots.TablePlace.{TablePlace}
+use Rattle.mapping.specs.declared.slots.TablePlace.TheVariants.{Vacant, Away, Home}
+use Rattle.mapping.specs.declared.slots.TableSlot.{TableSlot}
 
--- a place, if there is one
-abbrev pub placed : {P : Type 0} → Place P → Option (Option P)
-placed Vacant = None
-placed Away = Some None
-placed (Home p) = Some (Some p)
+-- what is listed of a place: nothing where there is none
+abbrev pub listed_place : {P : Type 0} → TablePlace P → Option (Option P)
+listed_place Vacant = None
+listed_place Away = Some None
+listed_place (Home p) = Some (Some p)
 
 -- what is listed of a log state: nothing for `No`
-abbrev pub listed : Logged → Option Logged
-listed No = None
-listed Old = Some Old
-listed (Upto k) = Some (Upto k)
+abbrev pub listed_state : Logged → Option Logged
+listed_state No = None
+listed_state Old = Some Old
+listed_state (Upto k) = Some (Upto k)
 
 -- what is under a pid, as a list of entries
 abbrev pub entry_if : {V : Type 0} → ℕ → Option V → List (ℕ × V)
@@ -29,35 +29,35 @@ entry_if pid None = []
 entry_if pid (Some v) = (pid, v) ∷ []
 
 -- the pids of slots
-abbrev pub slot_pids : {P : Type 0} → List (Slot P) → List ℕ
+abbrev pub slot_pids : {P : Type 0} → List (TableSlot P) → List ℕ
 slot_pids ss = map (λ s. s.pid) ss
 
 -- the slots that aren't vacant, and those of which the log has something
-abbrev pub table_of : {P : Type 0} → List (Slot P) → Mapping P
+abbrev pub table_of : {P : Type 0} → List (TableSlot P) → Mapping P
 table_of ss = record {
-  places = flat_map (λ s. entry_if s.pid (placed s.page)) ss;
-  logged = flat_map (λ s. entry_if s.pid (listed (log_state s.logged))) ss;
+  places = flat_map (λ s. entry_if s.pid (listed_place s.page)) ss;
+  logged = flat_map (λ s. entry_if s.pid (listed_state (log_state s.logged))) ss;
 }
 
 -- the slot's pid has a place, or the log has `Old` of it
-abbrev pub is_known : {P : Type 0} → Slot P → Bool
-is_known s = is_some (placed s.page) || is_old (log_state s.logged)
+abbrev pub is_known : {P : Type 0} → TableSlot P → Bool
+is_known s = is_some (listed_place s.page) || is_old (log_state s.logged)
 
 -- the pids of such slots
-abbrev pub known_pids : {P : Type 0} → List (Slot P) → List ℕ
+abbrev pub known_pids : {P : Type 0} → List (TableSlot P) → List ℕ
 known_pids ss = slot_pids (filter is_known ss)
 
 -- the slot's page is at home
-abbrev pub is_home_place : {P : Type 0} → Place P → Bool
+abbrev pub is_home_place : {P : Type 0} → TablePlace P → Bool
 is_home_place Vacant = false
 is_home_place Away = false
 is_home_place (Home p) = true
 
-abbrev pub is_home : {P : Type 0} → Slot P → Bool
+abbrev pub is_home : {P : Type 0} → TableSlot P → Bool
 is_home s = is_home_place s.page
 
 -- the pids of such slots
-abbrev pub home_pids : {P : Type 0} → List (Slot P) → List ℕ
+abbrev pub home_pids : {P : Type 0} → List (TableSlot P) → List ℕ
 home_pids ss = slot_pids (filter is_home ss)
 
 -- the pid stands at this place
@@ -75,6 +75,6 @@ abbrev pub AreInUseBelow : {P : Type 0} → Mapping P → ℕ → Type 0
 AreInUseBelow t n = (k : ℕ) → k < n → is_among k (pids_in_use t) ≡ true
 
 -- slots by rising pid, with a number below which none is free
-pub record AreSlots {P : Type 0} (ss : List (Slot P)) (filled : ℕ) : Type 0 where
+pub record AreSlots {P : Type 0} (ss : List (TableSlot P)) (filled : ℕ) : Type 0 where
   pub rising : AreRisingPids (slot_pids ss)
   pub in_use : AreInUseBelow (table_of ss) filled

@@ -15,8 +15,8 @@ pub record Mapping (P : Type 0) : Type 0 where
   pub logged : List (ℕ × Logged)
 
 -- the test for a pid
-abbrev pub is_pid : ℕ → ℕ → Bool
-is_pid pid n = is_eq (nat_cmp pid n)
+abbrev pub is_same_pid : ℕ → ℕ → Bool
+is_same_pid pid n = is_eq (nat_cmp pid n)
 
 -- no places, and nothing of any page in the log
 abbrev pub no_places : {P : Type 0} → Mapping P
@@ -28,7 +28,7 @@ pids_in_use t = keys_of t.places
 
 -- the pid's place, if it has one
 abbrev pub place_of : {P : Type 0} → Mapping P → ℕ → Option (Option P)
-place_of t pid = lookup (is_pid pid) t.places
+place_of t pid = lookup (is_same_pid pid) t.places
 
 -- the page in a place, if there is one at home
 abbrev pub at_home : {P : Type 0} → Option (Option P) → Option P
@@ -41,19 +41,19 @@ page_of t pid = at_home (place_of t pid)
 
 -- what the log has of the pid
 abbrev pub log_of : {P : Type 0} → Mapping P → ℕ → Logged
-log_of t pid = or_no (lookup (is_pid pid) t.logged)
+log_of t pid = or_no (lookup (is_same_pid pid) t.logged)
 
 -- the table with this in the pid's place: a page, or none while it is away
 abbrev pub with_place : {P : Type 0} → Mapping P → ℕ → Option P → Mapping P
 with_place t pid p = record { places = insert_entry nat_cmp t.places pid p; logged = t.logged }
 
 -- the table once what the log has of the pid is outdated
-abbrev pub outdated : {P : Type 0} → Mapping P → ℕ → Mapping P
-outdated t pid = record { places = t.places; logged = outdate_all (pid ∷ []) t.logged }
+abbrev pub log_outdated : {P : Type 0} → Mapping P → ℕ → Mapping P
+log_outdated t pid = record { places = t.places; logged = outdate_all (pid ∷ []) t.logged }
 
 -- the table without the pid's place: what the log has of it is outdated
 abbrev pub freed : {P : Type 0} → Mapping P → ℕ → Mapping P
-freed t pid = record { places = remove_entry (is_pid pid) t.places; logged = outdate_all (pid ∷ []) t.logged }
+freed t pid = record { places = remove_entry (is_same_pid pid) t.places; logged = outdate_all (pid ∷ []) t.logged }
 
 -- the table with a place for the pid: one that is away, where it had none
 abbrev pub room_by : {P : Type 0} → Option (Option P) → Mapping P → ℕ → Mapping P

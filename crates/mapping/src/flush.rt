@@ -2,7 +2,7 @@ ghost use Rattle.std.specs.Prelude.{◌≡◌};
 ghost use Rattle.mapping.specs.Flushed.{depth_counted, logged_then};
 
 use crate::logged::Logged;
-use crate::slots::Place;
+use crate::slots::TablePlace;
 use index_page::Page;
 use std::alloc::Allocator;
 
@@ -20,11 +20,11 @@ fn depth<A: Allocator + Copy>(page: &Page<A>) -> u64
 }
 
 // What the log has of the slot's pid, once it has all pages that are at home.
-pub(crate) fn logged_then<A: Allocator + Copy>(place: &Place<Page<A>>) -> Logged
+pub(crate) fn logged_then<A: Allocator + Copy>(place: &TablePlace<Page<A>>) -> Logged
     ensures { result ≡ logged_then place.now }
 {
     match place {
-        Place::Home(page) => Logged::Upto(depth(page)),
+        TablePlace::Home(page) => Logged::Upto(depth(page)),
         _ => Logged::No,
     }
 }

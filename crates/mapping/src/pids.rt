@@ -3,14 +3,14 @@ ghost use Rattle.std.specs.Iterator.{YieldsFirst, item_count};
 ghost use Rattle.mapping.specs.Slots.{is_known, is_home};
 
 use crate::logged::Logged;
-use crate::slots::{Place, Slot};
+use crate::slots::{TablePlace, TableSlot};
 use std::marker::Model;
 
 /// The pids that are in use, and those of which the log has `Old`, by rising number. It takes no memory. Contracts see it
 /// as the list of those that are left.
 #[derive(Drop)]
 pub struct Pids<'a, P> {
-    pub(crate) slots: &'a [Slot<P>],
+    pub(crate) slots: &'a [TableSlot<P>],
 }
 
 impl<'a, P> Model for Pids<'a, P> {
@@ -46,7 +46,7 @@ impl<'a, P> Iterator for Pids<'a, P> {
 /// that are left.
 #[derive(Drop)]
 pub struct HomePids<'a, P> {
-    pub(crate) slots: &'a [Slot<P>],
+    pub(crate) slots: &'a [TableSlot<P>],
 }
 
 impl<'a, P> Model for HomePids<'a, P> {
@@ -79,15 +79,15 @@ impl<'a, P> Iterator for HomePids<'a, P> {
 }
 
 // Whether the slot's page is at home.
-fn is_home<P>(slot: &Slot<P>) -> bool
+fn is_home<P>(slot: &TableSlot<P>) -> bool
     ensures { result ≡ is_home slot.now }
 {
-    matches!(&slot.page, Place::Home(_))
+    matches!(&slot.page, TablePlace::Home(_))
 }
 
 // Whether the slot's pid has a place, or the log has `Old` of it.
-fn is_known<P>(slot: &Slot<P>) -> bool
+fn is_known<P>(slot: &TableSlot<P>) -> bool
     ensures { result ≡ is_known slot.now }
 {
-    !matches!(&slot.page, Place::Vacant) || slot.logged == Logged::Old
+    !matches!(&slot.page, TablePlace::Vacant) || slot.logged == Logged::Old
 }

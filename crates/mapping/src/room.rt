@@ -4,12 +4,12 @@ ghost use Rattle.mapping.specs.Table.{with_room, with_rooms, pids_in_use, fresh_
 ghost use Rattle.mapping.specs.Slots.{slot_pids, table_of, AreSlots};
 
 use crate::logged::Logged;
-use crate::slots::{Place, Slot, is_used, slot_of};
+use crate::slots::{TablePlace, TableSlot, is_used, slot_of};
 use std::alloc::{AllocError, Allocator};
 
 // Makes a place for the pid, whose page is away, where it has none. It is refused only where the slots fill their room.
 pub(crate) fn occupy<P: Drop, A: Allocator + Copy>(
-    slots: &mut Vec<Slot<P>, A>,
+    slots: &mut Vec<TableSlot<P>, A>,
     pid: u64,
 ) -> Result<(), AllocError>
     requires { AreRisingPids (slot_pids slots.old.items) }
@@ -23,14 +23,14 @@ pub(crate) fn occupy<P: Drop, A: Allocator + Copy>(
     match slot_of(slots, pid) {
         Ok(at) => {
             let slot = &mut slots[at];
-            if let Place::Vacant = &slot.page {
-                slot.page = Place::Away;
+            if let TablePlace::Vacant = &slot.page {
+                slot.page = TablePlace::Away;
             }
         }
         Err(at) => {
-            let slot = Slot {
+            let slot = TableSlot {
                 pid,
-                page: Place::Away,
+                page: TablePlace::Away,
                 logged: Logged::No,
             };
             slots.insert(at, slot)?;
@@ -41,7 +41,7 @@ pub(crate) fn occupy<P: Drop, A: Allocator + Copy>(
 
 // Makes a place for each of the pids, as `occupy` does. Where memory is refused, nothing has changed.
 pub(crate) fn occupy_all<P: Drop, A: Allocator + Copy>(
-    slots: &mut Vec<Slot<P>, A>,
+    slots: &mut Vec<TableSlot<P>, A>,
     pids: &[u64],
 ) -> Result<(), AllocError>
     requires { AreRisingPids (slot_pids slots.old.items) }
@@ -59,7 +59,7 @@ pub(crate) fn occupy_all<P: Drop, A: Allocator + Copy>(
 // So many of the least numbers that have no place, where each below this one has a place. There may be too few.
 pub(crate) fn least_free<P, A: Allocator + Copy>(
     alloc: A,
-    slots: &[Slot<P>],
+    slots: &[TableSlot<P>],
     from: u64,
     count: usize,
 ) -> Result<Vec<u64, A>, AllocError>

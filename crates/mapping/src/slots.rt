@@ -8,7 +8,7 @@ use crate::logged::Logged;
 
 // What stands in a slot for its pid: no place, a place whose page is away, or the page.
 #[derive(Drop)]
-pub(crate) enum Place<P> {
+pub(crate) enum TablePlace<P> {
     Vacant,
     Away,
     Home(P),
@@ -16,15 +16,15 @@ pub(crate) enum Place<P> {
 
 // A pid with its place, if it has one, and what the log has of it.
 #[derive(Drop)]
-pub(crate) struct Slot<P> {
+pub(crate) struct TableSlot<P> {
     pub(crate) pid: u64,
-    pub(crate) page: Place<P>,
+    pub(crate) page: TablePlace<P>,
     pub(crate) logged: Logged,
 }
 
 // `Ok` is where the pid's slot is, `Err` where it would go. A slot stands at its pid's own number at the latest, and
 // mostly there: so that is looked at first, and what is behind it never.
-pub(crate) fn slot_of<P>(slots: &[Slot<P>], pid: u64) -> Result<usize, usize>
+pub(crate) fn slot_of<P>(slots: &[TableSlot<P>], pid: u64) -> Result<usize, usize>
     requires { AreRisingPids (slot_pids slots.now) }
     ensures { MatchResult result (StandsAt (slot_pids slots.now) pid) (GoesTo (slot_pids slots.now) pid) }
 {
@@ -39,7 +39,7 @@ pub(crate) fn slot_of<P>(slots: &[Slot<P>], pid: u64) -> Result<usize, usize>
 }
 
 // The same by halves.
-fn search<P>(slots: &[Slot<P>], pid: u64) -> Result<usize, usize>
+fn search<P>(slots: &[TableSlot<P>], pid: u64) -> Result<usize, usize>
     requires { AreRisingPids (slot_pids slots.now) }
     ensures { MatchResult result (StandsAt (slot_pids slots.now) pid) (GoesTo (slot_pids slots.now) pid) }
 {
@@ -47,22 +47,22 @@ fn search<P>(slots: &[Slot<P>], pid: u64) -> Result<usize, usize>
 }
 
 // Whether the pid has a place.
-pub(crate) fn is_used<P>(slots: &[Slot<P>], pid: u64) -> bool
+pub(crate) fn is_used<P>(slots: &[TableSlot<P>], pid: u64) -> bool
     requires { AreRisingPids (slot_pids slots.now) }
     ensures { result ≡ is_some (place_of (table_of slots.now) pid) }
 {
     match slot_of(slots, pid) {
-        Ok(at) => !matches!(&slots[at].page, Place::Vacant),
+        Ok(at) => !matches!(&slots[at].page, TablePlace::Vacant),
         Err(_) => false,
     }
 }
 
 // Whether no page is away.
-pub(crate) fn are_all_home<P>(slots: &[Slot<P>]) -> bool
+pub(crate) fn are_all_home<P>(slots: &[TableSlot<P>]) -> bool
     ensures { IsTrue result ↔ AllByRecursion (λ e. IsSome e.1) (table_of slots.now).places }
 {
     for slot in slots {
-        if matches!(&slot.page, Place::Away) {
+        if matches!(&slot.page, TablePlace::Away) {
             return false;
         }
     }
@@ -70,7 +70,7 @@ pub(crate) fn are_all_home<P>(slots: &[Slot<P>]) -> bool
 }
 
 // Where the slot of a pid is that has a place.
-pub(crate) fn slot_in_use<P>(slots: &[Slot<P>], pid: u64) -> usize
+pub(crate) fn slot_in_use<P>(slots: &[TableSlot<P>], pid: u64) -> usize
     requires rising { AreRisingPids (slot_pids slots.now) }
     requires in_use { IsSome (place_of (table_of slots.now) pid) }
     ensures { StandsAt (slot_pids slots.now) pid result }

@@ -4,15 +4,15 @@ ghost use Rattle.std.specs.List.{AllByRecursion};
 ghost use Rattle.std.specs.Map.{keys_of};
 ghost use Rattle.mapping.specs.LogState.{log_state};
 ghost use Rattle.mapping.specs.Proper.{AreRisingPids};
-ghost use Rattle.mapping.specs.Table.{no_places, place_of, page_of, log_of, with_place, outdated, freed, with_room, with_rooms, pids_in_use, fresh_pids, pids_in_use_or_old};
-ghost use Rattle.mapping.specs.Flushed.{flushed};
+ghost use Rattle.mapping.specs.Table.{no_places, place_of, page_of, log_of, with_place, log_outdated, freed, with_room, with_rooms, pids_in_use, fresh_pids, pids_in_use_or_old};
+ghost use Rattle.mapping.specs.Flushed.{marked_as_written};
 ghost use Rattle.mapping.specs.TreeInMemory.{home_pages};
 
 use crate::flush::logged_then;
 use crate::logged::Logged;
 use crate::pids::{HomePids, Pids};
 use crate::room::{least_free, occupy, occupy_all};
-use crate::slots::{Place, Slot, are_all_home, is_used, slot_in_use, slot_of};
+use crate::slots::{TablePlace, TableSlot, are_all_home, is_used, slot_in_use, slot_of};
 use index_page::Page;
 use std::alloc::{AllocError, Allocator};
 use std::marker::Model;
@@ -24,7 +24,7 @@ use std::mem;
 #[derive(Drop)]
 pub struct Table<P, A: Allocator> {
     // By rising pid. A slot stays when its place goes, so that most slots stand at their pids' own numbers.
-    slots: Vec<Slot<P>, A>,
+    slots: Vec<TableSlot<P>, A>,
     // Each number below this one has a place.
     filled: u64,
 }
@@ -64,7 +64,7 @@ impl<P: Drop, A: Allocator + Copy> Table<P, A> {
         ensures { IsTrue result ↔ (place_of self.now pid ≡ Some None) }
     {
         match slot_of(&self.slots, pid) {
-            Ok(at) => matches!(&self.slots[at].page, Place::Away),
+            Ok(at) => matches!(&self.slots[at].page, TablePlace::Away),
             Err(_) => false,
         }
     }
@@ -75,7 +75,7 @@ impl<P: Drop, A: Allocator + Copy> Table<P, A> {
     {
         match slot_of(&self.slots, pid) {
             Ok(at) => match &self.slots[at].page {
-                Place::Home(page) => Some(page),
+                TablePlace::Home(page) => Some(page),
                 _ => None,
             },
             Err(_) => None,
@@ -122,8 +122,8 @@ impl<P: Drop, A: Allocator + Copy> Table<P, A> {
         ensures table { self.new ≡ with_place self.old pid None }
     {
         let at = slot_in_use(&self.slots, pid);
-        match mem::replace(&mut self.slots[at].page, Place::Away) {
-            Place::Home(page) => page,
+        match mem::replace(&mut self.slots[at].page, TablePlace::Away) {
+            TablePlace::Home(page) => page,
             _ => unreachable!(),
         }
     }
@@ -134,7 +134,7 @@ impl<P: Drop, A: Allocator + Copy> Table<P, A> {
         ensures { self.new ≡ with_place self.old pid (Some page) }
     {
         let at = slot_in_use(&self.slots, pid);
-        self.slots[at].page = Place::Home(page);
+        self.slots[at].page = TablePlace::Home(page);
     }
 
     /// Gives up the place of a page that is away. What the log has of the pid is of no present page then.
@@ -144,14 +144,14 @@ impl<P: Drop, A: Allocator + Copy> Table<P, A> {
     {
         let at = slot_in_use(&self.slots, pid);
         let slot = &mut self.slots[at];
-        slot.page = Place::Vacant;
+        slot.page = TablePlace::Vacant;
         slot.logged = slot.logged.outdated();
         self.filled = self.filled.min(pid);
     }
 
     /// Says that the pid's page isn't the one that the log knows.
     pub fn outdate(&mut self, pid: u64)
-        ensures { self.new ≡ outdated self.old pid }
+        ensures { self.new ≡ log_outdated self.old pid }
     {
         if let Ok(at) = slot_of(&self.slots, pid) {
             let slot = &mut self.slots[at];
@@ -191,7 +191,7 @@ impl<A: Allocator + Copy> Table<Page<A>, A> {
     /// Says that the log has each page at home as it is, with all its runs, and nothing of any other pid. The places stay,
     /// and it takes no memory.
     pub fn flushed(&mut self)
-        ensures { self.new ≡ flushed self.old }
+        ensures { self.new ≡ marked_as_written self.old }
     {
         for slot in self.slots.iter_mut() {
             slot.logged = logged_then(&slot.page);

@@ -6,7 +6,7 @@ ghost use Rattle.index_page.specs.Page.PageOfKind.{Leaf};
 ghost use Rattle.mapping.specs.Tree.{page_at};
 ghost use Rattle.mapping.specs.LogState.{log_state};
 ghost use Rattle.mapping.specs.Proper.{AreRisingPids};
-ghost use Rattle.mapping.specs.Table.{place_of, page_of, log_of, with_place, outdated, freed, with_rooms, pids_in_use, fresh_pids};
+ghost use Rattle.mapping.specs.Table.{place_of, page_of, log_of, with_place, freed, with_rooms, pids_in_use, fresh_pids, log_outdated};
 ghost use Rattle.mapping.specs.TreeInMemory.{AreAllHome, tree_of, new_in_memory};
 
 use crate::logged::Logged;
@@ -117,7 +117,7 @@ impl<A: Allocator + Copy> Tree<A> {
 
     /// Says that the page isn't the one that the log knows.
     pub fn outdate(&mut self, pid: Pid)
-        ensures { self.new ≡ record self.old { table = outdated self.old.table pid } }
+        ensures { self.new ≡ record self.old { table = log_outdated self.old.table pid } }
     {
         self.table.outdate(pid.0);
     }

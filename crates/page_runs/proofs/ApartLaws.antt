@@ -13,7 +13,7 @@ use Rattle.keys.specs.declared.command.Command.TheVariants.{Get, Put, Add, Del, 
 use Rattle.keys.specs.declared.command.Reply.{Reply}
 use Rattle.page_runs.specs.NetRun.{net_run}
 use Rattle.page_runs.proofs.NetLaws.{Pairs, said_if, value_at-touched, untouched_once}
-use Rattle.page_runs.specs.Apart.{is_on, single_key, is_on_one, IsOff, IsWithin, TakesAll, TakesNoOther, replies_where, AgreeOn}
+use Rattle.page_runs.specs.Apart.{single_key, is_on_one, IsOff, IsWithin, TakesAll, TakesNoOther, replies_where, AgreeOn, is_on_key}
 use Rattle.page_runs.proofs.Touching.{touches, is_touched}
 
 -- ---- keys
@@ -54,33 +54,33 @@ said_same false false q m x e f = refl
 
 module _ {A : Type 0} where
   -- a command on one key is on that key and no other
-  is_on-single_key : (c : Command A) (k q : List ℕ) → single_key c ≡ Some k → is_on c q ≡ is_eq (order q k)
-  is_on-single_key (Get j) k q h = let s : j ≡ k = cc in ap (λ (i : List ℕ). is_eq (order q i)) s
-  is_on-single_key (Put j v) k q h = let s : j ≡ k = cc in ap (λ (i : List ℕ). is_eq (order q i)) s
-  is_on-single_key (Add j v) k q h = let s : j ≡ k = cc in ap (λ (i : List ℕ). is_eq (order q i)) s
-  is_on-single_key (Del j) k q h = let s : j ≡ k = cc in ap (λ (i : List ℕ). is_eq (order q i)) s
-  is_on-single_key (Scan lo hi limit) k q h = absurd (cc)
+  is_on_key-single_key : (c : Command A) (k q : List ℕ) → single_key c ≡ Some k → is_on_key c q ≡ is_eq (order q k)
+  is_on_key-single_key (Get j) k q h = let s : j ≡ k = cc in ap (λ (i : List ℕ). is_eq (order q i)) s
+  is_on_key-single_key (Put j v) k q h = let s : j ≡ k = cc in ap (λ (i : List ℕ). is_eq (order q i)) s
+  is_on_key-single_key (Add j v) k q h = let s : j ≡ k = cc in ap (λ (i : List ℕ). is_eq (order q i)) s
+  is_on_key-single_key (Del j) k q h = let s : j ≡ k = cc in ap (λ (i : List ℕ). is_eq (order q i)) s
+  is_on_key-single_key (Scan lo hi limit) k q h = absurd (cc)
 
   pub within_by_key : (is_own : List ℕ → Bool) (c : Command A) (k : List ℕ) → single_key c ≡ Some k → is_own k ≡ true → IsWithin is_own c
-  within_by_key is_own c k h n = λ q o. is_on-single_key c k q h ∙ own_key is_own q k o n
+  within_by_key is_own c k h n = λ q o. is_on_key-single_key c k q h ∙ own_key is_own q k o n
 
   pub off_by_key : (is_own : List ℕ → Bool) (c : Command A) (k : List ℕ) → single_key c ≡ Some k → is_own k ≡ false → IsOff is_own c
-  off_by_key is_own c k h n = λ q o. is_on-single_key c k q h ∙ other_key is_own q k o n
+  off_by_key is_own c k h n = λ q o. is_on_key-single_key c k q h ∙ other_key is_own q k o n
 
   -- it touches no key that it isn't on, so it leaves that key as it was
-  touches_none_else : (m : Pairs) (c : Command A) (q : List ℕ) → is_on c q ≡ false → touches q m c ≡ false
+  touches_none_else : (m : Pairs) (c : Command A) (q : List ℕ) → is_on_key c q ≡ false → touches q m c ≡ false
   touches_none_else m (Get k) q h = refl
   touches_none_else m (Put k v) q h = h
   touches_none_else m (Add k v) q h = ap (λ (b : Bool). not (is_some (value_at k m)) && b) h ∙ never_both (not (is_some (value_at k m)))
   touches_none_else m (Del k) q h = ap (λ (b : Bool). is_some (value_at k m) && b) h ∙ never_both (is_some (value_at k m))
   touches_none_else m (Scan lo hi limit) q h = refl
 
-  value_at-elsewhere : (m : Pairs) (c : Command A) (q : List ℕ) → IsRising m → is_on c q ≡ false → value_at q (map_after m c) ≡ value_at q m
+  value_at-elsewhere : (m : Pairs) (c : Command A) (q : List ℕ) → IsRising m → is_on_key c q ≡ false → value_at q (map_after m c) ≡ value_at q m
   value_at-elsewhere m c q r h = untouched_once m c q r (touches_none_else m c q h)
 
   -- where two maps have the same at a key, they have the same there after the command, and it touches the key in both or
   -- in none
-  after_on : (m x : Pairs) (c : Command A) (q : List ℕ) → is_on c q ≡ true → IsRising m → IsRising x → value_at q m ≡ value_at q x → value_at q (map_after m c) ≡ value_at q (map_after x c)
+  after_on : (m x : Pairs) (c : Command A) (q : List ℕ) → is_on_key c q ≡ true → IsRising m → IsRising x → value_at q m ≡ value_at q x → value_at q (map_after m c) ≡ value_at q (map_after x c)
   after_on m x (Get k) q h r s e = e
   after_on m x (Put k v) q h r s e = let same : q ≡ k = passes_same q k h in rw same (value_at-with_pair_here m k v ∙ sym (value_at-with_pair_here x k v))
   after_on m x (Add k v) q h r s e =
@@ -90,11 +90,11 @@ module _ {A : Type 0} where
   after_on m x (Del k) q h r s e = let same : q ≡ k = passes_same q k h in rw same (value_at-without_here m k r ∙ sym (value_at-without_here x k s))
   after_on m x (Scan lo hi limit) q h r s e = e
 
-  after_by : (b : Bool) (m x : Pairs) (c : Command A) (q : List ℕ) → is_on c q ≡ b → IsRising m → IsRising x → value_at q m ≡ value_at q x → value_at q (map_after m c) ≡ value_at q (map_after x c)
+  after_by : (b : Bool) (m x : Pairs) (c : Command A) (q : List ℕ) → is_on_key c q ≡ b → IsRising m → IsRising x → value_at q m ≡ value_at q x → value_at q (map_after m c) ≡ value_at q (map_after x c)
   after_by true m x c q h r s e = after_on m x c q h r s e
   after_by false m x c q h r s e = value_at-elsewhere m c q r h ∙ e ∙ sym (value_at-elsewhere x c q s h)
 
-  touches_on : (m x : Pairs) (c : Command A) (q : List ℕ) → is_on c q ≡ true → value_at q m ≡ value_at q x → touches q m c ≡ touches q x c
+  touches_on : (m x : Pairs) (c : Command A) (q : List ℕ) → is_on_key c q ≡ true → value_at q m ≡ value_at q x → touches q m c ≡ touches q x c
   touches_on m x (Get k) q h e = refl
   touches_on m x (Put k v) q h e = refl
   touches_on m x (Add k v) q h e =
@@ -107,7 +107,7 @@ module _ {A : Type 0} where
       ap (λ (o : Option (List ℕ)). is_some o && is_eq (order q k)) here
   touches_on m x (Scan lo hi limit) q h e = refl
 
-  touches_by : (b : Bool) (m x : Pairs) (c : Command A) (q : List ℕ) → is_on c q ≡ b → value_at q m ≡ value_at q x → touches q m c ≡ touches q x c
+  touches_by : (b : Bool) (m x : Pairs) (c : Command A) (q : List ℕ) → is_on_key c q ≡ b → value_at q m ≡ value_at q x → touches q m c ≡ touches q x c
   touches_by true m x c q h e = touches_on m x c q h e
   touches_by false m x c q h e = touches_none_else m c q h ∙ sym (touches_none_else x c q h)
 
@@ -153,7 +153,7 @@ module _ {A : Type 0} where
   module _ (is_own : List ℕ → Bool) (is_taken : Command A → Bool) where
     -- the maps agree after a command that both get, and after one off these keys that one of them gets
     agree_taken : (m x : Pairs) (c : Command A) → IsRising m → IsRising x → AgreeOn is_own m x → AgreeOn is_own (map_after m c) (map_after x c)
-    agree_taken m x c r s a = λ q h. after_by (is_on c q) m x c q refl r s (a q h)
+    agree_taken m x c r s a = λ q h. after_by (is_on_key c q) m x c q refl r s (a q h)
 
     agree_left : (m x : Pairs) (c : Command A) → IsRising m → AgreeOn is_own m x → IsOff is_own c → AgreeOn is_own (map_after m c) x
     agree_left m x c r a off = λ q h. value_at-elsewhere m c q r (off q h) ∙ a q h
@@ -190,7 +190,7 @@ module _ {A : Type 0} where
         → ((n y : Pairs) → IsRising n → IsRising y → AgreeOn is_own n y → is_touched q n cs ≡ is_touched q y (filter is_taken cs))
         → (touches q m c || is_touched q (map_after m c) cs) ≡ is_touched q x (cond b (c ∷ filter is_taken cs) (filter is_taken cs))
     touched_by true m x c cs q t e r s a h ih =
-        ap (λ (u : Bool). u || is_touched q (map_after m c) cs) (touches_by (is_on c q) m x c q refl (a q h))
+        ap (λ (u : Bool). u || is_touched q (map_after m c) cs) (touches_by (is_on_key c q) m x c q refl (a q h))
         ∙ ap (λ (u : Bool). touches q x c || u) (ih (map_after m c) (map_after x c) (rising-map_after m c r) (rising-map_after x c s) (agree_taken m x c r s a))
     touched_by false m x c cs q t e r s a h ih =
         ap (λ (u : Bool). u || is_touched q (map_after m c) cs) (touches_none_else m c q (t c e q h))

@@ -8,6 +8,7 @@ use Rattle.std.specs.Map.{keys_of}
 use Rattle.std.specs.Option.{option_map}
 use Rattle.keys.specs.Narrowed.{with_end, first_end, with_ends, IsEnough, MayEndAt, MayEndAtAll}
 use Rattle.keys.specs.Order.{order, IsRising}
+use Rattle.keys.specs.Places.{is_some_that}
 use Rattle.keys.specs.Range.{is_below, is_before, is_within, in_range, rows}
 use Rattle.keys.specs.Step.{reply_to, map_after, replies_to, map_after_all}
 use Rattle.keys.specs.declared.command.Command.{Command}
@@ -20,7 +21,7 @@ use Rattle.keys.proofs.RunLaws.{rising-map_after}
 use Rattle.index_page.specs.Children.{Place, children, is_between}
 use Rattle.index_page.proofs.ChildLaws.{place_of, next_key, children-cons}
 use Rattle.index_page.proofs.RangeLaws.{below_is_less, less_is_below, not_below_lower, not_below_itself, low_through}
-use Rattle.routing.specs.Routes.{goes_to, goes_at, is_passed}
+use Rattle.routing.specs.Routes.{goes_to, goes_at}
 use Rattle.page_runs.specs.NetRun.{noted_by, touched, net_run}
 use Rattle.page_runs.specs.Replies.{commands_at}
 use Rattle.page_runs.proofs.PageParts.{Pairs, map_after-part}
@@ -140,7 +141,7 @@ module _ {A : Type 0} (cs : List (Command A)) (ends : List (Option (List ℕ))) 
   commands-ended places rest place = ap (λ (o : Option (Command A)). option_to_list o ++ rest) (get-with_ends cs ends place)
 
   module _ (keys : List (List ℕ)) (near : AreNear keys) (low : List ℕ) (page_end : Option (List ℕ)) (before : EndsBefore keys low page_end) where
-    replies_by : (place : ℕ) (o : Option (Command A)) (m : Pairs) (ds es : List (Command A)) → slice_get cs place ≡ o → IsRising m → is_passed (goes_to low page_end) (option_map (with_end (end_of place)) o) ≡ true
+    replies_by : (place : ℕ) (o : Option (Command A)) (m : Pairs) (ds es : List (Command A)) → slice_get cs place ≡ o → IsRising m → is_some_that (goes_to low page_end) (option_map (with_end (end_of place)) o) ≡ true
         → ((x : Pairs) → IsRising x → replies_to (in_range low page_end x) ds ≡ replies_to (in_range low page_end x) es)
         → replies_to (in_range low page_end m) (ended_at place o ++ ds) ≡ replies_to (in_range low page_end m) (option_to_list o ++ es)
     replies_by place None m ds es h r g ih = absurd (cc)
@@ -160,8 +161,8 @@ module _ {A : Type 0} (cs : List (Command A)) (ends : List (Option (List ℕ))) 
         → replies_to (in_range low page_end m) (commands_at (with_ends cs ends) places) ≡ replies_to (in_range low page_end m) (commands_at cs places)
     replies-ended [] m r a = refl
     replies-ended (place ∷ places) m r a =
-        let goes : is_passed (goes_to low page_end) (option_map (with_end (end_of place)) (slice_get cs place)) ≡ true =
-        sym (ap (is_passed (goes_to low page_end)) (get-with_ends cs ends place)) ∙ a.0 in
+        let goes : is_some_that (goes_to low page_end) (option_map (with_end (end_of place)) (slice_get cs place)) ≡ true =
+        sym (ap (is_some_that (goes_to low page_end)) (get-with_ends cs ends place)) ∙ a.0 in
         ap (λ (ds : List (Command A)). replies_to (in_range low page_end m) ds) (commands-ended places (commands_at (with_ends cs ends) places) place)
         ∙ replies_by place (slice_get cs place) m (commands_at (with_ends cs ends) places) (commands_at cs places) refl r goes (λ x rx. replies-ended places x rx a.1)
 

@@ -13,20 +13,21 @@ use Rattle.keys.specs.OrderedMap.{value_at}
 use Rattle.keys.specs.Range.{is_below, is_before, is_within, in_range, rows}
 use Rattle.keys.proofs.MapLaws.{total, passes_same, same_map, value_at_rest}
 use Rattle.delta_chain.specs.Layers.{said_or, with_run}
-use Rattle.delta_chain.specs.Merging.{asserted, present}
+use Rattle.delta_chain.specs.Merging.{asserted, pair_if}
 use Rattle.delta_chain.proofs.LayerLaws.{value_at-with_run, rising-with_run}
 use Rattle.delta_chain.proofs.Overlays.{said_over, rising-asserted}
+use Rattle.index_page.specs.Page.{as_changes}
 use Rattle.scan.specs.Leaf.{from}
-use Rattle.page_runs.specs.PageRows.{as_changes, named}
-use Rattle.page_runs.proofs.PageRows.{rising-as_changes, rising-in_range, rising-named}
+use Rattle.page_runs.specs.PageRows.{named_by_either}
+use Rattle.page_runs.proofs.PageRows.{rising-as_changes, rising-in_range, rising-named_by_either}
 
 -- those that have a value
 abbrev pub present_ones : {V : Type 0} → List (List ℕ × Option V) → List (List ℕ × V)
-present_ones changes = flat_map (λ c. present c.0 c.1) changes
+present_ones changes = flat_map (λ c. pair_if c.0 c.1) changes
 
 -- the rows that they give: those below the end, as many as the limit at most
-abbrev pub rows_left : {V : Type 0} → Option (List ℕ) → ℕ → List (List ℕ × Option V) → List (List ℕ × V)
-rows_left end limit changes = take limit (filter (λ e. is_before end e.0) (present_ones changes))
+abbrev pub rows_of_changes : {V : Type 0} → Option (List ℕ) → ℕ → List (List ℕ × Option V) → List (List ℕ × V)
+rows_of_changes end limit changes = take limit (filter (λ e. is_before end e.0) (present_ones changes))
 
 with_true : (b : Bool) → (b && true) ≡ b
 with_true true = refl
@@ -84,11 +85,11 @@ module _ {V : Type 0} where
   rising-present ((k, Some v) ∷ cs) r = (all_present (λ j. order k j ≡ Less) cs r.0, rising-present cs r.1)
 
   -- of the keys that pairs and changes name, those that have a value are the pairs under the changes
-  present-named : (ps : List (List ℕ × V)) (cs : List (List ℕ × Option V)) → IsRising ps → IsRising cs → present_ones (named ps cs) ≡ with_run ps cs
-  present-named ps cs r s =
-      let n = rising-named ps cs r in
-      same_map (present_ones (named ps cs)) (with_run ps cs) (rising-present (named ps cs) n) (rising-with_run ps cs r)
-      (λ q. value_at-present (named ps cs) q n
+  present-named_by_either : (ps : List (List ℕ × V)) (cs : List (List ℕ × Option V)) → IsRising ps → IsRising cs → present_ones (named_by_either ps cs) ≡ with_run ps cs
+  present-named_by_either ps cs r s =
+      let n = rising-named_by_either ps cs r in
+      same_map (present_ones (named_by_either ps cs)) (with_run ps cs) (rising-present (named_by_either ps cs) n) (rising-with_run ps cs r)
+      (λ q. value_at-present (named_by_either ps cs) q n
       ∙ ap (λ (t : Option (Option V)). said_or t None) (value_at-with_run (as_changes ps) (asserted cs) q (rising-as_changes ps r) (rising-asserted cs s))
       ∙ said_over cs q (value_at q (as_changes ps)) None
       ∙ ap (λ (t : Option V). said_or (value_at q cs) t) (value_at-as_changes ps q)
@@ -138,27 +139,27 @@ module _ {V : Type 0} where
       ∙ kept-same (λ k. is_within low None k && is_before end k) (is_within low end) es (λ k. ap (λ (b : Bool). b && is_before end k) (with_true (not (is_below k low))))
 
   -- the rows of a page under changes are those that the keys from the low key on give
-  pub rows-start : (low : List ℕ) (end : Option (List ℕ)) (limit : ℕ) (m : List (List ℕ × V)) (cs : List (List ℕ × Option V)) → IsRising m → IsRising cs → rows_left end (limit - 0) (named (from low m) (in_range low None cs)) ≡ rows low end limit (with_run m cs)
+  pub rows-start : (low : List ℕ) (end : Option (List ℕ)) (limit : ℕ) (m : List (List ℕ × V)) (cs : List (List ℕ × Option V)) → IsRising m → IsRising cs → rows_of_changes end (limit - 0) (named_by_either (from low m) (in_range low None cs)) ≡ rows low end limit (with_run m cs)
   rows-start low end limit m cs r s =
       let whole : limit - 0 ≡ limit = omega arith in
-      ap (λ (n : ℕ). rows_left end n (named (from low m) (in_range low None cs))) whole
-      ∙ ap (λ (es : List (List ℕ × V)). rows_left end limit (named es (in_range low None cs))) (from-in_range low m)
+      ap (λ (n : ℕ). rows_of_changes end n (named_by_either (from low m) (in_range low None cs))) whole
+      ∙ ap (λ (es : List (List ℕ × V)). rows_of_changes end limit (named_by_either es (in_range low None cs))) (from-in_range low m)
       ∙ ap (λ (es : List (List ℕ × V)). take limit (filter (λ e. is_before end e.0) es))
-      (present-named (in_range low None m) (in_range low None cs) (rising-in_range low None m r) (rising-in_range low None cs s) ∙ in_range-with_run low None m cs r s)
+      (present-named_by_either (in_range low None m) (in_range low None cs) (rising-in_range low None m r) (rising-in_range low None cs s) ∙ in_range-with_run low None m cs r s)
       ∙ ap (λ (es : List (List ℕ × V)). take limit es) (before-in_range low end (with_run m cs))
 
   -- ---- a step
 
   pub row-added : (end : Option (List ℕ)) (limit : ℕ) (out all : List (List ℕ × V)) (k : List ℕ) (v : V) (rest : List (List ℕ × Option V)) → length out < limit → is_before end k ≡ true
-      → out ++ rows_left end (limit - length out) ((k, Some v) ∷ rest) ≡ all → (out ++ (k, v) ∷ []) ++ rows_left end (limit - length (out ++ (k, v) ∷ [])) rest ≡ all
+      → out ++ rows_of_changes end (limit - length out) ((k, Some v) ∷ rest) ≡ all → (out ++ (k, v) ∷ []) ++ rows_of_changes end (limit - length (out ++ (k, v) ∷ [])) rest ≡ all
   row-added end limit out all k v rest few before h =
       let longer : length (out ++ (k, v) ∷ []) ≡ length out + 1 = length-append out ((k, v) ∷ []) in
       let one_more : limit - length out ≡ suc (limit - length (out ++ (k, v) ∷ [])) = omega arith in
-      let whole : out ++ (k, v) ∷ rows_left end (limit - length (out ++ (k, v) ∷ [])) rest ≡ all = rw (before, one_more) at h in
-      append_assoc out ((k, v) ∷ []) (rows_left end (limit - length (out ++ (k, v) ∷ [])) rest) ∙ whole
+      let whole : out ++ (k, v) ∷ rows_of_changes end (limit - length (out ++ (k, v) ∷ [])) rest ≡ all = rw (before, one_more) at h in
+      append_assoc out ((k, v) ∷ []) (rows_of_changes end (limit - length (out ++ (k, v) ∷ [])) rest) ∙ whole
 
   -- at the limit there are no more rows
-  pub rows-full : (end : Option (List ℕ)) (limit : ℕ) (out all : List (List ℕ × V)) (rest : List (List ℕ × Option V)) → limit ≤ length out → out ++ rows_left end (limit - length out) rest ≡ all → out ≡ all
+  pub rows-full : (end : Option (List ℕ)) (limit : ℕ) (out all : List (List ℕ × V)) (rest : List (List ℕ × Option V)) → limit ≤ length out → out ++ rows_of_changes end (limit - length out) rest ≡ all → out ≡ all
   rows-full end limit out all rest full h =
       let none : limit - length out ≡ 0 = omega arith in
       let whole : out ++ [] ≡ all = rw none at h in
@@ -169,7 +170,7 @@ module _ {V : Type 0} where
   taken_none (suc n) = refl
 
   -- nor behind the last key
-  pub rows-none : (end : Option (List ℕ)) (n : ℕ) (out all : List (List ℕ × V)) (rest : List (List ℕ × Option V)) → rest ≡ [] → out ++ rows_left end n rest ≡ all → out ≡ all
+  pub rows-none : (end : Option (List ℕ)) (n : ℕ) (out all : List (List ℕ × V)) (rest : List (List ℕ × Option V)) → rest ≡ [] → out ++ rows_of_changes end n rest ≡ all → out ≡ all
   rows-none end n out all rest e h =
       let whole : out ++ take n [] ≡ all = rw e at h in
       sym (append-nil out) ∙ ap (λ (es : List (List ℕ × V)). out ++ es) (sym (taken_none n)) ∙ whole
@@ -185,12 +186,12 @@ module _ {V : Type 0} where
 
   -- nor from a key on that isn't below the end
   pub rows-past : (end : Option (List ℕ)) (n : ℕ) (out all : List (List ℕ × V)) (k : List ℕ) (o : Option V) (rest : List (List ℕ × Option V)) → IsRising ((k, o) ∷ rest) → is_before end k ≡ false
-      → out ++ rows_left end n ((k, o) ∷ rest) ≡ all → out ≡ all
+      → out ++ rows_of_changes end n ((k, o) ∷ rest) ≡ all → out ≡ all
   rows-past end n out all k o rest r h t =
       sym (append-nil out) ∙ ap (λ (es : List (List ℕ × V)). out ++ es) (sym (ap (λ (es : List (List ℕ × V)). take n es) (none_behind end k o rest r h) ∙ taken_none n)) ∙ t
 
   -- an absent key gives no row
   pub row-absent : (end : Option (List ℕ)) (n : ℕ) (out all : List (List ℕ × V)) (k : List ℕ) (o : Option (Bor V)) (rest : List (List ℕ × Option V)) → ((x : Bor V) → o ≡ Some x → ⊥)
-      → out ++ rows_left end n ((k, option_copied o) ∷ rest) ≡ all → out ++ rows_left end n rest ≡ all
+      → out ++ rows_of_changes end n ((k, option_copied o) ∷ rest) ≡ all → out ++ rows_of_changes end n rest ≡ all
   row-absent end n out all k None rest a h = h
   row-absent end n out all k (Some x) rest a h = absurd (a x refl)

@@ -16,7 +16,8 @@ use Rattle.delta_chain.proofs.LayerLaws.{rising-with_run, rising-entries_of}
 use Rattle.scan.specs.Leaf.{from}
 use Rattle.delta_chain.proofs.Merges.{first_stays, first_goes, change_stays}
 use Rattle.delta_chain.proofs.Overlays.{rising-asserted}
-use Rattle.page_runs.specs.PageRows.{ahead, as_changes, named}
+use Rattle.index_page.specs.Page.{as_changes}
+use Rattle.page_runs.specs.PageRows.{ahead, named_by_either}
 
 -- ---- the part of a map from a key on
 
@@ -57,24 +58,24 @@ module _ {V : Type 0} where
   pub rising-as_changes : (ps : List (List ℕ × V)) → IsRising ps → IsRising (as_changes ps)
   rising-as_changes ps r = rw (keys_of-as_changes ps) r
 
-  pub named-less : (p : List ℕ × V) (ps : List (List ℕ × V)) (c : List ℕ × Option V) (cs : List (List ℕ × Option V)) → IsRising (c ∷ cs) → order p.0 c.0 ≡ Less → named (p ∷ ps) (c ∷ cs) ≡ (p.0, Some p.1) ∷ named ps (c ∷ cs)
-  named-less p ps c cs r h = first_stays (p.0, Some p.1) (as_changes ps) (c.0, Some c.1) (asserted cs) (rising-asserted (c ∷ cs) r) h
+  pub named_by_either-less : (p : List ℕ × V) (ps : List (List ℕ × V)) (c : List ℕ × Option V) (cs : List (List ℕ × Option V)) → IsRising (c ∷ cs) → order p.0 c.0 ≡ Less → named_by_either (p ∷ ps) (c ∷ cs) ≡ (p.0, Some p.1) ∷ named_by_either ps (c ∷ cs)
+  named_by_either-less p ps c cs r h = first_stays (p.0, Some p.1) (as_changes ps) (c.0, Some c.1) (asserted cs) (rising-asserted (c ∷ cs) r) h
 
-  pub named-change : (ps : List (List ℕ × V)) (c : List ℕ × Option V) (cs : List (List ℕ × Option V)) → IsRising ps → IsRising (c ∷ cs) → first_order (as_changes ps) c.0 ≡ Greater → named ps (c ∷ cs) ≡ c ∷ named ps cs
-  named-change ps c cs r s h = change_stays (as_changes ps) (c.0, Some c.1) (asserted cs) (rising-as_changes ps r) (rising-asserted (c ∷ cs) s) h
+  pub named_by_either-change : (ps : List (List ℕ × V)) (c : List ℕ × Option V) (cs : List (List ℕ × Option V)) → IsRising ps → IsRising (c ∷ cs) → first_order (as_changes ps) c.0 ≡ Greater → named_by_either ps (c ∷ cs) ≡ c ∷ named_by_either ps cs
+  named_by_either-change ps c cs r s h = change_stays (as_changes ps) (c.0, Some c.1) (asserted cs) (rising-as_changes ps r) (rising-asserted (c ∷ cs) s) h
 
   second_above : (p : List ℕ × V) (ps : List (List ℕ × V)) (k : List ℕ) → IsRising (p ∷ ps) → order p.0 k ≡ Equal → first_order (as_changes ps) k ≡ Greater
   unfolding IsStrictlySortedBy
   second_above p [] k r h = refl
   second_above p (q ∷ ps) k r h = let s : p.0 ≡ k = same_key p.0 k h in rw (← s) (flipped_less p.0 q.0 (r.0).0)
 
-  pub named-equal : (p : List ℕ × V) (ps : List (List ℕ × V)) (c : List ℕ × Option V) (cs : List (List ℕ × Option V)) → IsRising (p ∷ ps) → IsRising (c ∷ cs) → order p.0 c.0 ≡ Equal → named (p ∷ ps) (c ∷ cs) ≡ c ∷ named ps cs
-  named-equal p ps c cs r s h =
+  pub named_by_either-equal : (p : List ℕ × V) (ps : List (List ℕ × V)) (c : List ℕ × Option V) (cs : List (List ℕ × Option V)) → IsRising (p ∷ ps) → IsRising (c ∷ cs) → order p.0 c.0 ≡ Equal → named_by_either (p ∷ ps) (c ∷ cs) ≡ c ∷ named_by_either ps cs
+  named_by_either-equal p ps c cs r s h =
       first_goes (p.0, Some p.1) (as_changes ps) (c.0, Some c.1) (asserted cs) (rising-as_changes (p ∷ ps) r) h
-      ∙ named-change ps c cs (sorted_tail order p.0 (keys_of ps) r) s (second_above p ps c.0 r h)
+      ∙ named_by_either-change ps c cs (sorted_tail order p.0 (keys_of ps) r) s (second_above p ps c.0 r h)
 
-  pub rising-named : (ps : List (List ℕ × V)) (cs : List (List ℕ × Option V)) → IsRising ps → IsRising (named ps cs)
-  rising-named ps cs r = rising-with_run (as_changes ps) (asserted cs) (rising-as_changes ps r)
+  pub rising-named_by_either : (ps : List (List ℕ × V)) (cs : List (List ℕ × Option V)) → IsRising ps → IsRising (named_by_either ps cs)
+  rising-named_by_either ps cs r = rising-with_run (as_changes ps) (asserted cs) (rising-as_changes ps r)
 
   pub rising-from : (low : List ℕ) (p : Layers V) → IsInOrder p → IsRising (from low (entries_of p))
   rising-from low p a = rising-filtered (λ e. not (is_below e.0 low)) (entries_of p) (rising-entries_of p a)
@@ -86,22 +87,22 @@ module _ {L M V : Type 0} (shows : L → List ℕ × V) (says : M → List ℕ �
   Next view r old new = MatchOption r ((old ≡ []) × (new ≡ [])) (λ x. old ≡ view x ∷ new)
 
   pub less_step : (o : Option L) (q : Option M) (p : L) (c : M) (r : Option L) (ps ps' : List (List ℕ × V)) (cs : List (List ℕ × Option V)) → o ≡ Some p → q ≡ Some c → IsRising (ahead says q cs) → order (shows p).0 (says c).0 ≡ Less → Next shows r ps ps'
-      → named (ahead shows o ps) (ahead says q cs) ≡ ((shows p).0, Some (shows p).1) ∷ named (ahead shows r ps') (ahead says q cs)
+      → named_by_either (ahead shows o ps) (ahead says q cs) ≡ ((shows p).0, Some (shows p).1) ∷ named_by_either (ahead shows r ps') (ahead says q cs)
   less_step o q p c r ps ps' cs f g i h n =
-      rw (f, g, next_ahead shows r ps ps' n) (named-less (shows p) ps (says c) cs (rw g at i) h)
+      rw (f, g, next_ahead shows r ps ps' n) (named_by_either-less (shows p) ps (says c) cs (rw g at i) h)
 
   pub greater_step : (o : Option L) (q : Option M) (p : L) (c : M) (r : Option M) (ps : List (List ℕ × V)) (cs cs' : List (List ℕ × Option V)) → o ≡ Some p → q ≡ Some c → IsRising (ahead shows o ps) → IsRising (ahead says q cs) → order (shows p).0 (says c).0 ≡ Greater → Next says r cs cs'
-      → named (ahead shows o ps) (ahead says q cs) ≡ says c ∷ named (ahead shows o ps) (ahead says r cs')
+      → named_by_either (ahead shows o ps) (ahead says q cs) ≡ says c ∷ named_by_either (ahead shows o ps) (ahead says r cs')
   greater_step o q p c r ps cs cs' f g i j h n =
-      rw (f, g, next_ahead says r cs cs' n) (named-change (shows p ∷ ps) (says c) cs (rw f at i) (rw g at j) h)
+      rw (f, g, next_ahead says r cs cs' n) (named_by_either-change (shows p ∷ ps) (says c) cs (rw f at i) (rw g at j) h)
 
   pub equal_step : (o : Option L) (q : Option M) (p : L) (c : M) (r : Option L) (s : Option M) (ps ps' : List (List ℕ × V)) (cs cs' : List (List ℕ × Option V)) → o ≡ Some p → q ≡ Some c → IsRising (ahead shows o ps) → IsRising (ahead says q cs) → order (shows p).0 (says c).0 ≡ Equal → Next shows r ps ps' → Next says s cs cs'
-      → named (ahead shows o ps) (ahead says q cs) ≡ says c ∷ named (ahead shows r ps') (ahead says s cs')
+      → named_by_either (ahead shows o ps) (ahead says q cs) ≡ says c ∷ named_by_either (ahead shows r ps') (ahead says s cs')
   equal_step o q p c r s ps ps' cs cs' f g i j h m n =
-      rw (f, g, next_ahead shows r ps ps' m, next_ahead says s cs cs' n) (named-equal (shows p) ps (says c) cs (rw f at i) (rw g at j) h)
+      rw (f, g, next_ahead shows r ps ps' m, next_ahead says s cs cs' n) (named_by_either-equal (shows p) ps (says c) cs (rw f at i) (rw g at j) h)
 
   pub change_alone : (o : Option L) (q : Option M) (c : M) (r : Option M) (ps : List (List ℕ × V)) (cs cs' : List (List ℕ × Option V)) → o ≡ None → q ≡ Some c → IsRising (ahead says q cs) → Next says r cs cs'
-      → named (ahead shows o ps) (ahead says q cs) ≡ says c ∷ named (ahead shows o ps) (ahead says r cs')
+      → named_by_either (ahead shows o ps) (ahead says q cs) ≡ says c ∷ named_by_either (ahead shows o ps) (ahead says r cs')
   unfolding IsStrictlySortedBy
   change_alone o q c r ps cs cs' f g i n =
-      rw (f, g, next_ahead says r cs cs' n) (named-change [] (says c) cs tt (rw g at i) refl)
+      rw (f, g, next_ahead says r cs cs' n) (named_by_either-change [] (says c) cs tt (rw g at i) refl)

@@ -9,12 +9,12 @@ use Rattle.keys.specs.declared.command.Command.TheVariants.{Get, Put, Add, Del, 
 use Rattle.keys.specs.declared.command.Reply.{Reply}
 
 -- whether the command is on the key; a scan is on none
-abbrev pub is_on : {A : Type 0} → Command A → List ℕ → Bool
-is_on (Get k) q = is_eq (order q k)
-is_on (Put k v) q = is_eq (order q k)
-is_on (Add k v) q = is_eq (order q k)
-is_on (Del k) q = is_eq (order q k)
-is_on (Scan lo hi limit) q = false
+abbrev pub is_on_key : {A : Type 0} → Command A → List ℕ → Bool
+is_on_key (Get k) q = is_eq (order q k)
+is_on_key (Put k v) q = is_eq (order q k)
+is_on_key (Add k v) q = is_eq (order q k)
+is_on_key (Del k) q = is_eq (order q k)
+is_on_key (Scan lo hi limit) q = false
 
 -- the key of a command on one key
 abbrev pub single_key : {A : Type 0} → Command A → Option (List ℕ)
@@ -30,11 +30,11 @@ is_on_one is_own c = option_map_or is_own (single_key c) false
 
 -- the command is on none of these keys
 abbrev pub IsOff : {A : Type 0} → (List ℕ → Bool) → Command A → Type 0
-IsOff is_own c = (q : List ℕ) → is_own q ≡ true → is_on c q ≡ false
+IsOff is_own c = (q : List ℕ) → is_own q ≡ true → is_on_key c q ≡ false
 
 -- the command is on none but these keys
 abbrev pub IsWithin : {A : Type 0} → (List ℕ → Bool) → Command A → Type 0
-IsWithin is_own c = (q : List ℕ) → is_own q ≡ false → is_on c q ≡ false
+IsWithin is_own c = (q : List ℕ) → is_own q ≡ false → is_on_key c q ≡ false
 
 -- every command on one of these keys is taken
 abbrev pub TakesAll : {A : Type 0} → (List ℕ → Bool) → (Command A → Bool) → Type 0

@@ -46,8 +46,8 @@ leaf_made s batch h =
     }
 
 -- what a job holds
-abbrev pub held_of : LeafJob → LeafHeld
-held_of j = record { page = j.page; route = j.page_run }
+abbrev pub leaf_held_of : LeafJob → LeafHeld
+leaf_held_of j = record { page = j.page; route = j.page_run }
 
 -- a leaf that was worked: what its job held, and what was made of it
 pub record LeafWorked : Type 0 where

@@ -1,8 +1,9 @@
 -- A page and the changes to it, gone through together in key order.
-use Rattle.std.specs.Prelude.{ℕ, List, [], ◌∷◌, map, drop, Option, Some, None}
+use Rattle.std.specs.Prelude.{ℕ, List, [], ◌∷◌, drop, Option, Some, None}
 use Rattle.std.specs.Borrow.{Bor}
 use Rattle.std.specs.Option.{option_copied}
 use Rattle.delta_chain.specs.Merging.{overlaid}
+use Rattle.index_page.specs.Page.{as_changes}
 use Rattle.page_runs.specs.declared.changes_from.KeptFrom.{KeptFrom}
 use Rattle.page_runs.specs.declared.changes_from.KeptFrom.TheVariants.{Few, Many}
 
@@ -23,10 +24,6 @@ abbrev pub changes_left : KeptFrom → List (List ℕ × Option (List ℕ))
 changes_left (Few run at) = drop at run.now
 changes_left (Many range) = range
 
--- pairs as changes
-abbrev pub as_changes : {V : Type 0} → List (List ℕ × V) → List (List ℕ × Option V)
-as_changes {V} pairs = map {B = List ℕ × Option V} (λ (p : List ℕ × V). (p.0, Some p.1)) pairs
-
 -- each key that the pairs or the changes name, with its value, or its absence, under the changes
-abbrev pub named : {V : Type 0} → List (List ℕ × V) → List (List ℕ × Option V) → List (List ℕ × Option V)
-named pairs changes = overlaid (as_changes pairs) changes
+abbrev pub named_by_either : {V : Type 0} → List (List ℕ × V) → List (List ℕ × Option V) → List (List ℕ × Option V)
+named_by_either pairs changes = overlaid (as_changes pairs) changes

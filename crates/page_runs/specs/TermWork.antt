@@ -24,8 +24,8 @@ abbrev pub index_made : Settings → TermHeld → Worked ℕ
 index_made s h = worked s (placed_index h) h.terms
 
 -- what a job holds
-abbrev pub held_of : TermJob → TermHeld
-held_of j = record { page = j.page; pid = j.pid; terms = j.terms }
+abbrev pub term_held_of : TermJob → TermHeld
+term_held_of j = record { page = j.page; pid = j.pid; terms = j.terms }
 
 -- an index page that was worked: what its job held, and what was made of it
 pub record IndexWorked : Type 0 where

@@ -15,7 +15,7 @@ use std::alloc::{AllocError, Global};
 use std::collections::BTreeMap;
 use std::marker::Model;
 
-pub(crate) type Leaf = Chain<Value<Global>, Global>;
+pub(crate) type LeafChain = Chain<Value<Global>, Global>;
 
 pub(crate) type LeafRun = Run<Value<Global>, Global>;
 
@@ -31,13 +31,13 @@ const FEW: usize = 32;
 /// is built out of order takes time by the square of its length. Without changes neither takes memory.
 #[derive(Drop)]
 pub(crate) struct Changes {
-    kept: Kept,
+    kept: KeptChanges,
     // How many commands may change a key: there are no more changes.
     writes: usize,
 }
 
 #[derive(Drop)]
-enum Kept {
+enum KeptChanges {
     Few(LeafRun),
     Many(ChangeMap),
 }
@@ -47,9 +47,9 @@ impl Model for Changes {
 
     ghost Value = { List (List ℕ × Option (List ℕ)) };
 
-    ghost use Rattle.page_runs.specs.Changes.{changes_of};
+    ghost use Rattle.page_runs.specs.Changes.{changes_kept};
 
-    ghost view = { λ c. changes_of c.kept };
+    ghost view = { λ c. changes_kept c.kept };
 }
 
 impl Changes {
@@ -63,9 +63,9 @@ impl Changes {
     {
         let writes = count_writes(commands, places);
         let kept = if writes <= FEW || do_rise(commands, places) {
-            Kept::Few(Run::empty(alloc))
+            KeptChanges::Few(Run::empty(alloc))
         } else {
-            Kept::Many(BTreeMap::new(alloc))
+            KeptChanges::Many(BTreeMap::new(alloc))
         };
         Changes { kept, writes }
     }
@@ -73,7 +73,7 @@ impl Changes {
     /// What the key has on the page by now: what the changes say of it, else what the page holds.
     pub(crate) fn value_now<'a>(
         &'a self,
-        page: &'a Leaf,
+        page: &'a LeafChain,
         key: &Key<Global>,
     ) -> Option<&'a Value<Global>>
         requires { IsInOrder page.now }
@@ -81,13 +81,13 @@ impl Changes {
     {
         // `len` is called only for the proof: it says that the keys rise.
         match &self.kept {
-            Kept::Few(run) => {
+            KeptChanges::Few(run) => {
                 let _rising = run.len();
                 if let Some(at) = run.place(key.as_bytes()) {
                     return run.change(at);
                 }
             }
-            Kept::Many(map) => {
+            KeptChanges::Many(map) => {
                 let _rising = map.len();
                 if let Some(change) = map.get(key) {
                     return change.as_ref();
@@ -104,11 +104,11 @@ impl Changes {
     {
         // `len` is called only for the proof: it says that the keys rise.
         match &self.kept {
-            Kept::Few(run) => {
+            KeptChanges::Few(run) => {
                 let _rising = run.len();
                 ChangesFrom::of_run(run, run.lower(low.as_bytes()))
             }
-            Kept::Many(map) => {
+            KeptChanges::Many(map) => {
                 let _rising = map.len();
                 ChangesFrom::of_map(map.range(low..))
             }
@@ -131,7 +131,7 @@ impl Changes {
         };
         let room = self.writes.min(FEW);
         match &mut self.kept {
-            Kept::Few(run) => {
+            KeptChanges::Few(run) => {
                 // A run keeps its room while it stands in front of the page, so it is given no more than it can need, and
                 // grows where that is much.
                 if run.len() == 0 {
@@ -139,7 +139,7 @@ impl Changes {
                 }
                 run.set(key, change)
             }
-            Kept::Many(map) => {
+            KeptChanges::Many(map) => {
                 map.insert(key, change)?;
                 Ok(())
             }
@@ -155,8 +155,8 @@ impl Changes {
             writes: _writes,
         } = self;
         match kept {
-            Kept::Few(run) => Ok(run),
-            Kept::Many(map) => run_of(alloc, map),
+            KeptChanges::Few(run) => Ok(run),
+            KeptChanges::Many(map) => run_of(alloc, map),
         }
     }
 }

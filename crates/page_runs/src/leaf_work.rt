@@ -106,7 +106,7 @@ impl LeafDone {
 }
 
 impl<'a> Work for LeafWork<'a> {
-    ghost use Rattle.page_runs.specs.LeafWork.{LeafHeld, LeafMade, IsLeafHeld, leaf_made, held_of};
+    ghost use Rattle.page_runs.specs.LeafWork.{LeafHeld, LeafMade, IsLeafHeld, leaf_made, leaf_held_of};
 
     type Job = LeafJob;
 
@@ -118,7 +118,7 @@ impl<'a> Work for LeafWork<'a> {
 
     ghost accepts = { λ w h. IsLeafHeld w.commands.now h };
 
-    ghost held = { held_of };
+    ghost held = { leaf_held_of };
 
     ghost origin = { λ d. d.held };
 

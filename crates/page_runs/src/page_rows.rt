@@ -5,10 +5,10 @@ ghost use Rattle.keys.specs.Order.{IsRising};
 ghost use Rattle.keys.specs.Range.{is_before, in_range, rows};
 ghost use Rattle.delta_chain.specs.Layers.{entries_of, IsInOrder};
 ghost use Rattle.scan.specs.Leaf.{from};
-ghost use Rattle.page_runs.specs.PageRows.{change_lent, named};
+ghost use Rattle.page_runs.specs.PageRows.{change_lent, named_by_either};
 ghost use Rattle.page_runs.specs.Replay.{map_by_now};
 
-use crate::changes::{Changes, Leaf};
+use crate::changes::{Changes, LeafChain};
 use crate::changes_from::{Change, ChangesFrom};
 use keys::{Key, RowList, Value, compare, is_before};
 use scan::LeafPairs;
@@ -21,7 +21,7 @@ use std::marker::Model;
 #[inline(never)]
 pub(crate) fn rows_of(
     alloc: Global,
-    page: &Leaf,
+    page: &LeafChain,
     changes: &Changes,
     low: &Key<Global>,
     end: &Option<Key<Global>>,
@@ -65,20 +65,20 @@ struct NamedKeys<'a> {
 impl<'a> Model for NamedKeys<'a> {
     ghost use Rattle.std.specs.Prelude.{List, ℕ, Option};
     ghost use Rattle.keys.specs.Order.{IsRising};
-    ghost use Rattle.page_runs.specs.PageRows.{ahead, pair_lent, change_lent, named};
+    ghost use Rattle.page_runs.specs.PageRows.{ahead, pair_lent, change_lent, named_by_either};
 
     ghost Value = { List (List ℕ × Option (List ℕ)) };
 
-    ghost view = { λ n. named (ahead pair_lent n.pair n.pairs) (ahead change_lent n.change n.changes) };
+    ghost view = { λ n. named_by_either (ahead pair_lent n.pair n.pairs) (ahead change_lent n.change n.changes) };
 
     ghost invariant = { λ n. IsRising (ahead pair_lent n.pair n.pairs) × IsRising (ahead change_lent n.change n.changes) };
 }
 
 impl<'a> NamedKeys<'a> {
     // The keys from this one on.
-    fn new(alloc: Global, page: &'a Leaf, changes: &'a Changes, low: &'a Key<Global>) -> Self
+    fn new(alloc: Global, page: &'a LeafChain, changes: &'a Changes, low: &'a Key<Global>) -> Self
         requires { IsInOrder page.now }
-        ensures named { result ≡ named (from low.now (entries_of page.now)) (in_range low.now None changes.now) }
+        ensures named { result ≡ named_by_either (from low.now (entries_of page.now)) (in_range low.now None changes.now) }
         ensures rising { IsRising result }
         ensures changes_rise { IsRising changes.now }
     {

@@ -9,7 +9,7 @@ ghost use Rattle.page_runs.specs.NetRun.{noted_by, net_run};
 ghost use Rattle.page_runs.specs.Replay.{map_by_now, entries_after};
 ghost use Rattle.page_runs.specs.Replies.{commands_at, pieces_of, ArePlacesOf};
 
-use crate::changes::{Changes, Leaf, LeafRun};
+use crate::changes::{Changes, LeafChain, LeafRun};
 use crate::page_rows::rows_of;
 use keys::{Command, Key, Piece, Reply, Value};
 use std::alloc::{AllocError, Global};
@@ -20,7 +20,7 @@ use std::alloc::{AllocError, Global};
 pub(crate) fn replay(
     alloc: Global,
     commands: &[Command<Global>],
-    page: &Leaf,
+    page: &LeafChain,
     places: &[usize],
 ) -> Result<(LeafRun, Vec<Piece<Global>>, usize), AllocError>
     requires { ArePlacesOf commands.now places.now }
@@ -59,7 +59,7 @@ fn entries_after(before: usize, reply: &Reply<Global>) -> usize
 // The reply to the command, on the page with the changes so far.
 fn execute(
     alloc: Global,
-    page: &Leaf,
+    page: &LeafChain,
     changes: &mut Changes,
     command: &Command<Global>,
 ) -> Result<Reply<Global>, AllocError>
@@ -82,7 +82,7 @@ fn execute(
 
 fn get(
     alloc: Global,
-    page: &Leaf,
+    page: &LeafChain,
     changes: &Changes,
     key: &Key<Global>,
 ) -> Result<Reply<Global>, AllocError>
@@ -97,7 +97,7 @@ fn get(
 
 fn put(
     alloc: Global,
-    page: &Leaf,
+    page: &LeafChain,
     changes: &mut Changes,
     key: &Key<Global>,
     value: &Value<Global>,
@@ -116,7 +116,7 @@ fn put(
 
 fn add(
     alloc: Global,
-    page: &Leaf,
+    page: &LeafChain,
     changes: &mut Changes,
     key: &Key<Global>,
     value: &Value<Global>,
@@ -134,7 +134,7 @@ fn add(
 
 fn del(
     alloc: Global,
-    page: &Leaf,
+    page: &LeafChain,
     changes: &mut Changes,
     key: &Key<Global>,
 ) -> Result<Reply<Global>, AllocError>

@@ -93,7 +93,7 @@ impl TermDone {
 
 impl Work for TermWork {
     ghost use Rattle.index_page.specs.Page.{IsIndex};
-    ghost use Rattle.page_runs.specs.TermWork.{TermHeld, index_made, held_of};
+    ghost use Rattle.page_runs.specs.TermWork.{TermHeld, index_made, term_held_of};
     ghost use Rattle.page_runs.specs.Worked.{Worked};
     ghost use Rattle.std.specs.Prelude.{ℕ};
 
@@ -107,7 +107,7 @@ impl Work for TermWork {
 
     ghost accepts = { λ w h. IsIndex h.page };
 
-    ghost held = { held_of };
+    ghost held = { term_held_of };
 
     ghost origin = { λ d. d.held };
 

@@ -14,7 +14,7 @@ use Rattle.keys.proofs.Basics.{less_by}
 use Rattle.keys.proofs.MapLaws.{total, same_key, order_itself, passes_same, flipped_less, flipped_greater}
 use Rattle.delta_chain.specs.Layers.{Layers, said_or, held_under, holds, entries_of, IsInOrder}
 use Rattle.delta_chain.proofs.LayerLaws.{value_at-entries_of}
-use Rattle.page_search.specs.Places.{GoesTo}
+use Rattle.page_search.specs.Places.{KeyGoesTo}
 use Rattle.page_search.specs.Nearest.{is_on, nearness, past, are_first, named_under, IsNearest, HasNoneOn, IsNearestPlace, Parts}
 use Rattle.page_search.specs.declared.side.Side.{Side}
 use Rattle.page_search.specs.declared.side.Side.TheVariants.{UpTo, Below, Above}
@@ -78,7 +78,7 @@ on_above Below k i h = rw (flipped_less k i h) refl
 on_above Above k i h = rw h refl
 
 -- where the key isn't there, it is the place where it would go
-pub parts-goes_to : (s : Side) (k : List ℕ) (ks : List (List ℕ)) (at : ℕ) → GoesTo k ks at → Parts s k ks at
+pub parts-goes_to : (s : Side) (k : List ℕ) (ks : List (List ℕ)) (at : ℕ) → KeyGoesTo k ks at → Parts s k ks at
 parts-goes_to s k ks at g = record {
   within = g.within;
   before = λ m i l p. on_below s k i (g.below m i l p);

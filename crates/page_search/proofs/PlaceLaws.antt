@@ -12,7 +12,7 @@ use Rattle.std.proofs.lemmas.Map.Made.{is_some-lookup}
 use Rattle.keys.specs.Order.{order, AreRisingKeys, IsRising}
 use Rattle.keys.specs.OrderedMap.{value_at}
 use Rattle.keys.proofs.MapLaws.{total, alike, order_itself, is_itself, flipped_less}
-use Rattle.page_search.specs.Places.{count_below, AreBelowBefore, AreAboveFrom, GoesTo}
+use Rattle.page_search.specs.Places.{count_below, AreBelowBefore, AreAboveFrom, KeyGoesTo}
 
 -- of rising keys, each is below those behind it
 pub rising-by_place : (ks : List (List ℕ)) (m n : ℕ) (i j : List ℕ) → AreRisingKeys ks → slice_get ks m ≡ Some i → slice_get ks n ≡ Some j → m < n → order i j ≡ Less
@@ -113,7 +113,7 @@ module _ (k : List ℕ) (ks : List (List ℕ)) where
       omega arith
 
   -- where a key would go, that is how many keys are below it
-  pub count_below-goes_to : (at : ℕ) → AreRisingKeys ks → GoesTo k ks at → count_below k ks ≡ at
+  pub count_below-goes_to : (at : ℕ) → AreRisingKeys ks → KeyGoesTo k ks at → count_below k ks ≡ at
   count_below-goes_to at r g =
       let no_fewer = count_below-reaches at r g.within g.below in
       let no_more = count_below-ends at r g.above (cases_lt at (length ks)) in
@@ -156,7 +156,7 @@ module _ {V : Type 0} where
   key_at es at e p = rw (slice_get-map, p) refl
 
   -- where a key would go, the entries have nothing at it
-  pub value_at-goes_to : (k : List ℕ) (es : List (List ℕ × V)) (at : ℕ) → IsRising es → GoesTo k (keys_of es) at → value_at k es ≡ None
+  pub value_at-goes_to : (k : List ℕ) (es : List (List ℕ × V)) (at : ℕ) → IsRising es → KeyGoesTo k (keys_of es) at → value_at k es ≡ None
   value_at-goes_to k es at r g =
       lookup_at_gap total k es at r
       (λ m e l p. flipped_less e.0 k (g.below m e.0 l (key_at es m e p)))

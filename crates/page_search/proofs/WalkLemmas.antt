@@ -18,50 +18,50 @@ use Rattle.delta_chain.specs.Merging.{asserted, said_by}
 use Rattle.delta_chain.proofs.LayerLaws.{value_at-with_run}
 use Rattle.delta_chain.proofs.Overlays.{rising-asserted, rising-said_by}
 use Rattle.page_search.specs.Above.{above}
-use Rattle.page_search.specs.Costs.{fewest_among, is_among, fewest_in, walk_most, walk_least, nearest_most, floor_most, above_most}
+use Rattle.page_search.specs.Costs.{fewest_among, is_key_among, fewest_in, walk_most, walk_least, nearest_most, floor_most, above_most}
 use Rattle.page_search.specs.Digits.{binary_digits}
 use Rattle.page_search.specs.Floor.{floor}
 use Rattle.page_search.specs.Nearest.{is_on, nearness, past, named_under, named_by, IsNearestWith, IsNearest, is_nearer_than, is_passed, count_passed}
-use Rattle.page_search.specs.Places.{GoesTo}
+use Rattle.page_search.specs.Places.{KeyGoesTo}
 use Rattle.page_search.specs.declared.side.Side.{Side}
 use Rattle.page_search.specs.declared.side.Side.TheVariants.{UpTo, Below, Above}
 use Rattle.page_search.proofs.NearestLaws.{nearness-same, nearness-flipped, nearness-past, not_past, past-on, itself_up_to, held-named}
 
 -- ---- whether a search meets the key
 
-none_among : (k : List ℕ) (ks : List (List ℕ)) → ((m : ℕ) (j : List ℕ) → slice_get ks m ≡ Some j → is_eq (order k j) ≡ false) → is_among k ks ≡ false
+none_among : (k : List ℕ) (ks : List (List ℕ)) → ((m : ℕ) (j : List ℕ) → slice_get ks m ≡ Some j → is_eq (order k j) ≡ false) → is_key_among k ks ≡ false
 none_among k [] h = refl
 none_among k (j ∷ ks) h = rw (h 0 j refl) (none_among k ks (λ m i p. h (suc m) i p))
 
-is_among-there : (k : List ℕ) (ks : List (List ℕ)) (at : ℕ) → slice_get ks at ≡ Some k → is_among k ks ≡ true
-is_among-there k ks at p = any_passes_from_place (λ j. is_eq (order k j)) ks at k p (is_itself k)
+is_key_among-there : (k : List ℕ) (ks : List (List ℕ)) (at : ℕ) → slice_get ks at ≡ Some k → is_key_among k ks ≡ true
+is_key_among-there k ks at p = any_passes_from_place (λ j. is_eq (order k j)) ks at k p (is_itself k)
 
-is_among-goes_to : (k : List ℕ) (ks : List (List ℕ)) (at : ℕ) → GoesTo k ks at → is_among k ks ≡ false
-is_among-goes_to k ks at g = none_among k ks (λ m j p.
+is_key_among-goes_to : (k : List ℕ) (ks : List (List ℕ)) (at : ℕ) → KeyGoesTo k ks at → is_key_among k ks ≡ false
+is_key_among-goes_to k ks at g = none_among k ks (λ m j p.
     elim (cases_lt m at) [
       | inl l ↦ rw (flipped_less j k (g.below m j l p)) refl
       | inr l ↦ rw (g.above m j l p) refl
     ])
 
 -- what a search costs at least where it meets the key, and where it doesn't
-pub least_there : (k : List ℕ) (ks : List (List ℕ)) (at before after stop : ℕ) → slice_get ks at ≡ Some k → min (before + fewest_among true (length ks)) stop ≤ after → min (before + fewest_among (is_among k ks) (length ks)) stop ≤ after
-least_there k ks at before after stop p h = rw (is_among-there k ks at p) h
+pub least_there : (k : List ℕ) (ks : List (List ℕ)) (at before after stop : ℕ) → slice_get ks at ≡ Some k → min (before + fewest_among true (length ks)) stop ≤ after → min (before + fewest_among (is_key_among k ks) (length ks)) stop ≤ after
+least_there k ks at before after stop p h = rw (is_key_among-there k ks at p) h
 
-pub least_apart : (k : List ℕ) (ks : List (List ℕ)) (at before after stop : ℕ) → GoesTo k ks at → min (before + fewest_among false (length ks)) stop ≤ after → min (before + fewest_among (is_among k ks) (length ks)) stop ≤ after
-least_apart k ks at before after stop g h = rw (is_among-goes_to k ks at g) h
+pub least_apart : (k : List ℕ) (ks : List (List ℕ)) (at before after stop : ℕ) → KeyGoesTo k ks at → min (before + fewest_among false (length ks)) stop ≤ after → min (before + fewest_among (is_key_among k ks) (length ks)) stop ≤ after
+least_apart k ks at before after stop g h = rw (is_key_among-goes_to k ks at g) h
 
 -- ---- one walk
 
-among : {V : Type 0} (k : List ℕ) (es : List (List ℕ × V)) → fewest_among (is_among k (keys_of es)) (length (keys_of es)) ≡ fewest_in k es
+among : {V : Type 0} (k : List ℕ) (es : List (List ℕ × V)) → fewest_among (is_key_among k (keys_of es)) (length (keys_of es)) ≡ fewest_in k es
 among k es = rw (length-keys_of, is_some-lookup (λ j. is_eq (order k j)) es) refl
 
 module _ {V : Type 0} (k : List ℕ) where
   -- a search in the base alone
-  pub least_of_base : (base : List (List ℕ × V)) (before after stop : ℕ) → min (before + fewest_among (is_among k (keys_of base)) (length (keys_of base))) stop ≤ after → min (before + walk_least k (record { runs = []; base = base })) stop ≤ after
+  pub least_of_base : (base : List (List ℕ × V)) (before after stop : ℕ) → min (before + fewest_among (is_key_among k (keys_of base)) (length (keys_of base))) stop ≤ after → min (before + walk_least k (record { runs = []; base = base })) stop ≤ after
   least_of_base base before after stop h = omega (arith, among k base)
 
   -- a search in a run too, behind a walk over what is below it
-  pub least_with_run : (run : List (List ℕ × Option V)) (runs : List (List (List ℕ × Option V))) (base : List (List ℕ × V)) (before between after stop : ℕ) → min (before + walk_least k (record { runs = runs; base = base })) stop ≤ between → min (between + fewest_among (is_among k (keys_of run)) (length (keys_of run))) stop ≤ after → min (before + walk_least k (record { runs = run ∷ runs; base = base })) stop ≤ after
+  pub least_with_run : (run : List (List ℕ × Option V)) (runs : List (List (List ℕ × Option V))) (base : List (List ℕ × V)) (before between after stop : ℕ) → min (before + walk_least k (record { runs = runs; base = base })) stop ≤ between → min (between + fewest_among (is_key_among k (keys_of run)) (length (keys_of run))) stop ≤ after → min (before + walk_least k (record { runs = run ∷ runs; base = base })) stop ≤ after
   least_with_run run runs base before between after stop p q = omega (arith, among k run, sum_by-cons (λ es. fewest_in k es) run runs)
 
 module _ {V : Type 0} where

@@ -35,8 +35,8 @@ abbrev pub find_least : {V : Type 0} → List ℕ → Layers V → ℕ
 find_least k p = cost_under fewest_among k p.runs p.base
 
 -- whether the key is one of these
-abbrev pub is_among : List ℕ → List (List ℕ) → Bool
-is_among k ks = list_any (λ j. is_eq (order k j)) ks
+abbrev pub is_key_among : List ℕ → List (List ℕ) → Bool
+is_key_among k ks = list_any (λ j. is_eq (order k j)) ks
 
 -- at least so many where the key is looked for among these entries
 abbrev pub fewest_in : {V : Type 0} → List ℕ → List (List ℕ × V) → ℕ

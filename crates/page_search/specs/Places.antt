@@ -17,7 +17,7 @@ abbrev pub AreAboveFrom : List ℕ → List (List ℕ) → ℕ → Type 0
 AreAboveFrom k ks at = (m : ℕ) (j : List ℕ) → at ≤ m → slice_get ks m ≡ Some j → order k j ≡ Less
 
 -- the key is not there, and this is the place where it would go
-pub record GoesTo (k : List ℕ) (ks : List (List ℕ)) (at : ℕ) : Type 0 where
+pub record KeyGoesTo (k : List ℕ) (ks : List (List ℕ)) (at : ℕ) : Type 0 where
   pub within : at ≤ length ks
   pub below : AreBelowBefore k ks at
   pub above : AreAboveFrom k ks at

@@ -4,7 +4,7 @@ ghost use Rattle.std.specs.Option.{option_copied, option_map};
 ghost use Rattle.keys.specs.Order.{AreRisingKeys};
 ghost use Rattle.delta_chain.specs.Layers.{holds, entries_of, IsInOrder};
 ghost use Rattle.page_search.specs.Above.{above};
-ghost use Rattle.page_search.specs.Costs.{fewest_among, is_among, walk_most, walk_least, nearest_most, floor_most, above_most};
+ghost use Rattle.page_search.specs.Costs.{fewest_among, is_key_among, walk_most, walk_least, nearest_most, floor_most, above_most};
 ghost use Rattle.page_search.specs.Digits.{binary_digits};
 ghost use Rattle.page_search.specs.Floor.{floor};
 ghost use Rattle.page_search.specs.Nearest.{named_under, named_by, IsNearest, HasNoneOn, IsNearestPlace, Parts};
@@ -13,7 +13,7 @@ ghost use Rattle.page_search.specs.declared.side.Side.TheVariants.{UpTo, Above};
 use crate::probes::Probes;
 use crate::search::place;
 use crate::side::Side;
-use delta_chain::{Chain, Keyed};
+use delta_chain::{Chain, KeyList};
 use keys::KeyRef;
 use std::alloc::Allocator;
 
@@ -119,12 +119,12 @@ fn nearest_named<'a, V, A: Allocator + Copy>(
 }
 
 // The place of the list's nearest key on this side.
-fn nearest_place<L: Keyed>(list: &L, key: &[u8], side: Side, probes: &mut Probes) -> Option<usize>
+fn nearest_place<L: KeyList>(list: &L, key: &[u8], side: Side, probes: &mut Probes) -> Option<usize>
     ensures place { MatchOption result (HasNoneOn side key.now (L.keys list.now)) (IsNearestPlace side key.now (L.keys list.now)) }
     ensures rising { AreRisingKeys (L.keys list.now) }
     ensures cost { probes.new ≤ probes.old + binary_digits (length (L.keys list.now)) }
     ensures least { min
-        (probes.old + fewest_among (is_among key.now (L.keys list.now)) (length (L.keys list.now)))
+        (probes.old + fewest_among (is_key_among key.now (L.keys list.now)) (length (L.keys list.now)))
         u64.MAX ≤ probes.new }
     ensures kept { probes.old ≤ probes.new }
 {
@@ -139,11 +139,11 @@ fn nearest_place<L: Keyed>(list: &L, key: &[u8], side: Side, probes: &mut Probes
 
 // The place that parts the keys on this side from the others: the first key that is above the one looked for, or for
 // `Below` isn't below it.
-fn parting<L: Keyed>(list: &L, key: &[u8], side: Side, probes: &mut Probes) -> usize
+fn parting<L: KeyList>(list: &L, key: &[u8], side: Side, probes: &mut Probes) -> usize
     ensures place { Parts side key.now (L.keys list.now) result }
     ensures cost { probes.new ≤ probes.old + binary_digits (length (L.keys list.now)) }
     ensures least { min
-        (probes.old + fewest_among (is_among key.now (L.keys list.now)) (length (L.keys list.now)))
+        (probes.old + fewest_among (is_key_among key.now (L.keys list.now)) (length (L.keys list.now)))
         u64.MAX ≤ probes.new }
     ensures kept { probes.old ≤ probes.new }
 {

@@ -7,10 +7,10 @@ ghost use Rattle.keys.specs.OrderedMap.{value_at};
 ghost use Rattle.delta_chain.specs.Layers.{holds};
 ghost use Rattle.page_search.specs.Costs.{fewest_among, find_cost, find_least};
 ghost use Rattle.page_search.specs.Digits.{binary_digits};
-ghost use Rattle.page_search.specs.Places.{count_below, GoesTo};
+ghost use Rattle.page_search.specs.Places.{count_below, KeyGoesTo};
 
 use crate::probes::Probes;
-use delta_chain::{Base, Chain, Keyed};
+use delta_chain::{Base, Chain, KeyList};
 use keys::KeyRef;
 use std::alloc::Allocator;
 use std::cmp::Ordering;
@@ -68,8 +68,8 @@ fn find_in_base<'a, V, A: Allocator + Copy>(
 
 /// `Ok` is the place where the key is, `Err` the place where it would go. Each comparison at least halves what is
 /// left, and one that meets the key ends the search, so no further test for equality is needed.
-pub fn place<L: Keyed>(list: &L, key: &[u8], probes: &mut Probes) -> Result<usize, usize>
-    ensures place { MatchResult result (λ at. slice_get (L.keys list.now) at ≡ Some key.now) (GoesTo key.now (L.keys list.now)) }
+pub fn place<L: KeyList>(list: &L, key: &[u8], probes: &mut Probes) -> Result<usize, usize>
+    ensures place { MatchResult result (λ at. slice_get (L.keys list.now) at ≡ Some key.now) (KeyGoesTo key.now (L.keys list.now)) }
     ensures rising { AreRisingKeys (L.keys list.now) }
     ensures cost { probes.new ≤ probes.old + binary_digits (length (L.keys list.now)) }
     ensures least { min (probes.old + fewest_among (is_ok result) (length (L.keys list.now))) u64.MAX ≤ probes.new }

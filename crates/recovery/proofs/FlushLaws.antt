@@ -10,7 +10,7 @@ use Rattle.mapping.proofs.Walk.{nothing_found}
 use Rattle.frame_codec.specs.Frame.{Frame, bytes_of}
 use Rattle.flush_log.specs.AfterFlush.{flush_slot, store_after}
 use Rattle.flush_log.specs.FlushText.{flush_text, tree_in_log, flushed}
-use Rattle.flush_log.specs.Layout.{Placed, placed_from, placed, found_in_text}
+use Rattle.flush_log.specs.Layout.{PlacedFrame, placed_from, placed, found_in_text}
 use Rattle.flush_log.specs.Reading.{Found}
 use Rattle.flush_log.specs.Slot.{Slot}
 use Rattle.recovery.specs.InStep.{AreInStep}
@@ -21,22 +21,22 @@ use Rattle.recovery.proofs.TextLaws.{IsKnown, pages-after, sound-after}
 
 -- ---- the frames of a text
 
-frame_by : (b : Bool) (f : Frame) (here there : Placed) (xs ys : List Placed) → here.frame ≡ f → there.frame ≡ f → map (λ (p : Placed). p.frame) xs ≡ map (λ (p : Placed). p.frame) ys
-    → map (λ (p : Placed). p.frame) (if b then here ∷ xs else (there ∷ ys)) ≡ f ∷ map (λ (p : Placed). p.frame) ys
-frame_by true f here there xs ys e g h = ap (λ (x : Frame). x ∷ map (λ (p : Placed). p.frame) xs) e ∙ ap (λ (fs : List Frame). f ∷ fs) h
-frame_by false f here there xs ys e g h = ap (λ (x : Frame). x ∷ map (λ (p : Placed). p.frame) ys) g
+frame_by : (b : Bool) (f : Frame) (here there : PlacedFrame) (xs ys : List PlacedFrame) → here.frame ≡ f → there.frame ≡ f → map (λ (p : PlacedFrame). p.frame) xs ≡ map (λ (p : PlacedFrame). p.frame) ys
+    → map (λ (p : PlacedFrame). p.frame) (if b then here ∷ xs else (there ∷ ys)) ≡ f ∷ map (λ (p : PlacedFrame). p.frame) ys
+frame_by true f here there xs ys e g h = ap (λ (x : Frame). x ∷ map (λ (p : PlacedFrame). p.frame) xs) e ∙ ap (λ (fs : List Frame). f ∷ fs) h
+frame_by false f here there xs ys e g h = ap (λ (x : Frame). x ∷ map (λ (p : PlacedFrame). p.frame) ys) g
 
-frames-placed_from : (s : Settings) (n offset : ℕ) (fs : List Frame) → map (λ (p : Placed). p.frame) (placed_from s n offset fs) ≡ fs
+frames-placed_from : (s : Settings) (n offset : ℕ) (fs : List Frame) → map (λ (p : PlacedFrame). p.frame) (placed_from s n offset fs) ≡ fs
 frames-placed_from s n offset [] = refl
 frames-placed_from s n offset (f ∷ fs) =
     let later = frames-placed_from s (suc n) (16 + length (bytes_of f)) fs in
-    let here : Placed = record { segment = n; offset = offset; frame = f } in
-    let there : Placed = record { segment = suc n; offset = 16; frame = f } in
+    let here : PlacedFrame = record { segment = n; offset = offset; frame = f } in
+    let there : PlacedFrame = record { segment = suc n; offset = 16; frame = f } in
     frame_by (nat_le (offset + length (bytes_of f)) s.seg_size) f here there (placed_from s n (offset + length (bytes_of f)) fs) (placed_from s (suc n) (16 + length (bytes_of f)) fs) refl refl
     (frames-placed_from s n (offset + length (bytes_of f)) fs ∙ sym later)
     ∙ ap (λ (gs : List Frame). f ∷ gs) later
 
-frames-placed : (ps : List Placed) → map (λ (f : Found). f.frame) (map (λ (p : Placed). (let q : Found = record { segment = p.segment; frame = p.frame } in q)) ps) ≡ map (λ (p : Placed). p.frame) ps
+frames-placed : (ps : List PlacedFrame) → map (λ (f : Found). f.frame) (map (λ (p : PlacedFrame). (let q : Found = record { segment = p.segment; frame = p.frame } in q)) ps) ≡ map (λ (p : PlacedFrame). p.frame) ps
 frames-placed [] = refl
 frames-placed (p ∷ ps) = ap (λ (fs : List Frame). p.frame ∷ fs) (frames-placed ps)
 

@@ -7,7 +7,7 @@ use Rattle.keys.specs.declared.fault.Fault.{Fault}
 use Rattle.keys.specs.declared.fault.Fault.TheVariants.{BadSegment}
 use Rattle.keys.specs.declared.settings.Settings.{Settings}
 use Rattle.index_page.proofs.ListLaws.{all-append}
-use Rattle.frame_codec.specs.Frame.{Frame, is_within}
+use Rattle.frame_codec.specs.Frame.{Frame, is_frame}
 use Rattle.frame_codec.specs.Reading.{read_any, read_frame}
 use Rattle.flush_log.specs.Reading.{Found, all_in, is_at_tail, is_padding, with_first, read_then, read_frames, in_segment, read_segment, followed_by, read_earlier, log}
 use Rattle.flush_log.specs.Segments.{segment_header, segment_bytes, last_segment, bytes_in_use}
@@ -17,23 +17,23 @@ use Rattle.flush_log.proofs.SegmentLaws.{in_segment-ok}
 module _ (s : Settings) where
   -- frames within the settings
   abbrev Good : List Frame → Type 0
-  Good fs = AllByRecursion (λ f. is_within s f ≡ true) fs
+  Good fs = AllByRecursion (λ f. is_frame s f ≡ true) fs
 
   abbrev GoodFound : List Found → Type 0
-  GoodFound found = AllByRecursion (λ f. is_within s f.frame ≡ true) found
+  GoodFound found = AllByRecursion (λ f. is_frame s f.frame ≡ true) found
 
   abbrev frames_read : List Frame → Result (List Frame) ℕ
   frames_read fs = Ok fs
 
   -- ---- one frame
 
-  passed_by : (b : Bool) (x : Frame) (rest : List ℕ) (p : Frame × List ℕ) → is_within s x ≡ b → (let none : Option (Frame × List ℕ) = None in (if b then Some (x, rest) else none) ≡ Some p) → is_within s p.0 ≡ true
-  passed_by true x rest p e h = let same : (x, rest) ≡ p = cc in ap (λ (q : Frame × List ℕ). is_within s q.0) (sym same) ∙ e
+  passed_by : (b : Bool) (x : Frame) (rest : List ℕ) (p : Frame × List ℕ) → is_frame s x ≡ b → (let none : Option (Frame × List ℕ) = None in (if b then Some (x, rest) else none) ≡ Some p) → is_frame s p.0 ≡ true
+  passed_by true x rest p e h = let same : (x, rest) ≡ p = cc in ap (λ (q : Frame × List ℕ). is_frame s q.0) (sym same) ∙ e
   passed_by false x rest p e h = absurd (cc)
 
-  of_any : (o : Option (Frame × List ℕ)) (p : Frame × List ℕ) → read_where (is_within s) o ≡ Some p → is_within s p.0 ≡ true
+  of_any : (o : Option (Frame × List ℕ)) (p : Frame × List ℕ) → read_where (is_frame s) o ≡ Some p → is_frame s p.0 ≡ true
   of_any None p h = absurd (cc)
-  of_any (Some q) p h = passed_by (is_within s q.0) q.0 q.1 p refl h
+  of_any (Some q) p h = passed_by (is_frame s q.0) q.0 q.1 p refl h
 
   -- ---- a segment
 
@@ -44,7 +44,7 @@ module _ (s : Settings) where
   none_read : (fs : List Frame) → frames_read [] ≡ frames_read fs → Good fs
   none_read fs e = let same : [] ≡ fs = cc in subst (λ (gs : List Frame). Good gs) same tt
 
-  then_by : (left : ℕ) (o : Option (Frame × List ℕ)) (next : List ℕ → Result (List Frame) ℕ) (fs : List Frame) → ((p : Frame × List ℕ) → o ≡ Some p → is_within s p.0 ≡ true)
+  then_by : (left : ℕ) (o : Option (Frame × List ℕ)) (next : List ℕ → Result (List Frame) ℕ) (fs : List Frame) → ((p : Frame × List ℕ) → o ≡ Some p → is_frame s p.0 ≡ true)
       → ((bytes : List ℕ) (gs : List Frame) → next bytes ≡ frames_read gs → Good gs) → read_then left o next ≡ frames_read fs → Good fs
   then_by left None next fs within later e = absurd (cc)
   then_by left (Some p) next fs within later e =
@@ -79,7 +79,7 @@ module _ (s : Settings) where
   both : (x y : Result (List Found) Fault) (found : List Found) → followed_by x y ≡ ok found → ((xs : List Found) → x ≡ ok xs → GoodFound xs) → ((ys : List Found) → y ≡ ok ys → GoodFound ys) → GoodFound found
   both x y found e f g =
       let (xs, ys, before, behind, same) = followed_by-ok x y found e in
-      subst (λ (zs : List Found). GoodFound zs) (sym same) (all-append (λ z. is_within s z.frame ≡ true) xs ys (f xs before) (g ys behind))
+      subst (λ (zs : List Found). GoodFound zs) (sym same) (all-append (λ z. is_frame s z.frame ≡ true) xs ys (f xs before) (g ys behind))
 
   earlier-within : (file : List ℕ) (head k : ℕ) (found : List Found) → read_earlier s file head k ≡ ok found → GoodFound found
   earlier-within file head zero found e = let same : [] ≡ found = cc in subst (λ (xs : List Found). GoodFound xs) same tt

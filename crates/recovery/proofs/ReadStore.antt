@@ -12,7 +12,7 @@ use Rattle.index_page.proofs.ListLaws.{all-append, all-filter}
 use Rattle.mapping.specs.Slots.{entry_if}
 use Rattle.mapping.specs.Tree.{Store}
 use Rattle.mapping.proofs.KnownPids.{all-with_numbers}
-use Rattle.frame_codec.specs.Frame.{Content, Frame, is_pid, is_key, is_content, is_within}
+use Rattle.frame_codec.specs.Frame.{Content, Frame, is_pid, is_key, is_content, is_frame}
 use Rattle.frame_codec.specs.Frame.Content.{FullLeaf, DeltaLeaf, FullIndex, DeltaIndex, Free}
 use Rattle.flush_log.specs.FlushText.{logged_whole, tree_in_log}
 use Rattle.flush_log.specs.Reading.{Found}
@@ -21,7 +21,7 @@ use Rattle.flush_log.specs.WordPids.{IsWord, NamesWords, HasWordPids}
 use Rattle.flush_log.specs.AfterFlush.{store_after}
 use Rattle.recovery.specs.InStep.{IsStoreOf}
 use Rattle.recovery.specs.LogPages.{contents_of, in_log, pids_of, pages_under, pages_of}
-use Rattle.recovery.specs.PageByLog.{is_start, from_last, InLog, begun, continued, told, page_in}
+use Rattle.recovery.specs.PageByLog.{is_start, from_last, InLog, begun_page, continued, told_page, page_in}
 use Rattle.recovery.specs.PageByLog.InLog.{Missing, Present, Broken}
 use Rattle.recovery.specs.StoreOfDisk.{frames_in, tree_by_log, store_of_disk}
 use Rattle.recovery.proofs.FoundWithin.{log-within}
@@ -71,7 +71,7 @@ ToldWords Missing = ⊤
 ToldWords (Present p) = NamesWords p
 ToldWords Broken = ⊤
 
-begun_words : (c : Content) → ContentWords c → ToldWords (begun c)
+begun_words : (c : Content) → ContentWords c → ToldWords (begun_page c)
 begun_words (FullLeaf low base) h = tt
 begun_words (DeltaLeaf run) h = tt
 begun_words (FullIndex low base) h = h
@@ -96,14 +96,14 @@ fold_words : (t : InLog) (cs : List Content) → ToldWords t → AllByRecursion 
 fold_words t [] h w = h
 fold_words t (c ∷ cs) h w = fold_words (continued t c) cs (continued_words t c h w.0) w.1
 
-told_words : (cs : List Content) → AllByRecursion ContentWords cs → ToldWords (told cs)
+told_words : (cs : List Content) → AllByRecursion ContentWords cs → ToldWords (told_page cs)
 told_words [] w = tt
-told_words (c ∷ cs) w = fold_words (begun c) cs (begun_words c w.0) w.1
+told_words (c ∷ cs) w = fold_words (begun_page c) cs (begun_words c w.0) w.1
 
 -- ---- the pages of a log
 
-module _ (s : Settings) (fs : List Frame) (within : AllByRecursion (λ f. is_within s f ≡ true) fs) where
-  parts_within : (gs : List Frame) → AllByRecursion (λ f. is_within s f ≡ true) gs → AllByRecursion (λ f. IsWord f.pid × ContentWords f.content) gs
+module _ (s : Settings) (fs : List Frame) (within : AllByRecursion (λ f. is_frame s f ≡ true) fs) where
+  parts_within : (gs : List Frame) → AllByRecursion (λ f. is_frame s f ≡ true) gs → AllByRecursion (λ f. IsWord f.pid × ContentWords f.content) gs
   parts_within [] a = tt
   parts_within (g ∷ gs) a =
       let (pid, content) = and_parts (is_pid g.pid) (is_content s g.content) a.0 in
@@ -145,7 +145,7 @@ words-in_log ps root height r a = record { root = r; pages = a; logged = logged_
 
 -- ---- the store
 
-frames_within : (s : Settings) (found : List Found) → AllByRecursion (λ f. is_within s f.frame ≡ true) found → AllByRecursion (λ f. is_within s f ≡ true) (frames_in found)
+frames_within : (s : Settings) (found : List Found) → AllByRecursion (λ f. is_frame s f.frame ≡ true) found → AllByRecursion (λ f. is_frame s f ≡ true) (frames_in found)
 frames_within s [] a = tt
 frames_within s (f ∷ fs) a = (a.0, frames_within s fs a.1)
 

@@ -8,7 +8,7 @@ use Rattle.keys.specs.declared.settings.Settings.{Settings}
 use Rattle.keys.proofs.LimitLaws.{checked}
 use Rattle.index_page.specs.Page.{PageOfKind}
 use Rattle.index_page.specs.Page.PageOfKind.{Leaf, Index}
-use Rattle.mapping.specs.Flushed.{page_depth, depth_counted, flushed as marked}
+use Rattle.mapping.specs.Flushed.{page_depth, depth_counted, marked_as_written}
 use Rattle.mapping.specs.Proper.{IsProper}
 use Rattle.mapping.specs.Table.{is_old, with_numbers, pids_in_use_or_old}
 use Rattle.mapping.specs.Tree.{Logged, Tree, page_at}
@@ -49,7 +49,7 @@ all_counted s t (p ∷ ps) few proper a =
     ap (λ (n : ℕ). one n ∷ map (λ q. (let l : ℕ × Logged = (q.0, Upto (depth_counted q.1)) in l)) ps) (counted s p.1 few (page-is_good s t proper p.0 p.1 a.0))
     ∙ ap (λ (ls : List (ℕ × Logged)). one (page_depth p.1) ∷ ls) (all_counted s t ps few proper a.1)
 
-pub table-marked : (s : Settings) (t : TreeInMemory) → first_bad_field s ≡ None → IsProper s (tree_of t) → tree_of (record { table = marked t.table; root = t.root; height = t.height }) ≡ flushed (tree_of t)
+pub table-marked : (s : Settings) (t : TreeInMemory) → first_bad_field s ≡ None → IsProper s (tree_of t) → tree_of (record { table = marked_as_written t.table; root = t.root; height = t.height }) ≡ flushed (tree_of t)
 table-marked s t good proper =
     let few : s.chain ≤ 16 = (checked s good).chain in
     let pages : List (ℕ × PageOfKind) = home_pages t.table.places in

@@ -11,7 +11,7 @@ use Rattle.index_page.specs.Page.PageOfKind.{Leaf, Index}
 use Rattle.frame_codec.specs.Frame.{Content}
 use Rattle.frame_codec.specs.Frame.Content.{DeltaLeaf, DeltaIndex, Free}
 use Rattle.flush_log.specs.FlushText.{base_content, run_contents, whole_page}
-use Rattle.recovery.specs.PageByLog.{is_start, from_last, InLog, with_run, begun, continued, told, page_by_log}
+use Rattle.recovery.specs.PageByLog.{is_start, from_last, InLog, with_newer_run, begun_page, continued, told_page, page_by_log}
 use Rattle.recovery.specs.PageByLog.InLog.{Missing, Present}
 use Rattle.recovery.specs.InStep.{IsLogged}
 use Rattle.recovery.proofs.PartLaws.{from_last-at, from_last-more, from_last-none}
@@ -28,7 +28,7 @@ none-drop test (suc k) (x ∷ xs) e = none-drop test k xs (or_parts (test x) (li
 
 -- of one kind of page: how its pages and its deltas are made, and that a delta puts a run in front
 module _ {V : Type 0} (made : Page V → PageOfKind) (delta : List (List ℕ × Option V) → Content)
-    (step : (p : Page V) (run : List (List ℕ × Option V)) → continued (Present (made p)) (delta run) ≡ Present (made (with_run p run)))
+    (step : (p : Page V) (run : List (List ℕ × Option V)) → continued (Present (made p)) (delta run) ≡ Present (made (with_newer_run p run)))
     (no_start : (run : List (List ℕ × Option V)) → is_start (delta run) ≡ false) where
   -- the page of these
   abbrev page : List ℕ → List (List ℕ × V) → List (List (List ℕ × Option V)) → InLog
@@ -66,10 +66,10 @@ module _ {V : Type 0} (made : Page V → PageOfKind) (delta : List (List ℕ × 
 
 -- ---- pages of either kind
 
-leaf_step : (p : Page (List ℕ)) (run : List (List ℕ × Option (List ℕ))) → continued (Present (Leaf p)) (DeltaLeaf run) ≡ Present (Leaf (with_run p run))
+leaf_step : (p : Page (List ℕ)) (run : List (List ℕ × Option (List ℕ))) → continued (Present (Leaf p)) (DeltaLeaf run) ≡ Present (Leaf (with_newer_run p run))
 leaf_step p run = refl
 
-index_step : (p : Page ℕ) (run : List (List ℕ × Option ℕ)) → continued (Present (Index p)) (DeltaIndex run) ≡ Present (Index (with_run p run))
+index_step : (p : Page ℕ) (run : List (List ℕ × Option ℕ)) → continued (Present (Index p)) (DeltaIndex run) ≡ Present (Index (with_newer_run p run))
 index_step p run = refl
 
 no_runs_start : (p : PageOfKind) → list_any is_start (run_contents p) ≡ false
@@ -80,7 +80,7 @@ base_starts : (p : PageOfKind) → is_start (base_content p) ≡ true
 base_starts (Leaf p) = refl
 base_starts (Index p) = refl
 
-told-whole : (p : PageOfKind) → told (whole_page p) ≡ Present p
+told-whole : (p : PageOfKind) → told_page (whole_page p) ≡ Present p
 told-whole (Leaf p) = fold_all (λ q. Leaf q) (λ run. DeltaLeaf run) leaf_step (λ run. refl) p.low p.layers.base p.layers.runs
 told-whole (Index p) = fold_all (λ q. Index q) (λ run. DeltaIndex run) index_step (λ run. refl) p.low p.layers.base p.layers.runs
 
@@ -94,25 +94,25 @@ fold-newer k (Index x) (Leaf p) h = absurd h.1
 
 -- the whole page, whatever stands before it
 pub page-whole : (cs : List Content) (p : PageOfKind) → page_by_log (cs ++ whole_page p) ≡ Present p
-page-whole cs p = ap told (from_last-at is_start cs (base_content p) (run_contents p) (base_starts p) (no_runs_start p)) ∙ told-whole p
+page-whole cs p = ap told_page (from_last-at is_start cs (base_content p) (run_contents p) (base_starts p) (no_runs_start p)) ∙ told-whole p
 
 -- that there is no page
 pub page-free : (cs : List Content) → page_by_log (cs ++ Free ∷ []) ≡ Missing
-page-free cs = ap told (from_last-at is_start cs Free [] refl refl)
+page-free cs = ap told_page (from_last-at is_start cs Free [] refl refl)
 
-told-more : (part ds : List Content) (p : PageOfKind) → told part ≡ Present p → told (part ++ ds) ≡ fold continued (Present p) ds
+told-more : (part ds : List Content) (p : PageOfKind) → told_page part ≡ Present p → told_page (part ++ ds) ≡ fold continued (Present p) ds
 told-more [] ds p e = absurd (cc)
-told-more (c ∷ cs) ds p e = fold-append continued (begun c) cs ds ∙ ap (λ t. fold continued t ds) e
+told-more (c ∷ cs) ds p e = fold-append continued (begun_page c) cs ds ∙ ap (λ t. fold continued t ds) e
 
 starts_by : (b : Bool) (cs : List Content) (p : PageOfKind) → list_any is_start cs ≡ b → page_by_log cs ≡ Present p → b ≡ true
 starts_by true cs p s e = refl
-starts_by false cs p s e = let none : Missing ≡ Present p = ap told (sym (from_last-none is_start cs s)) ∙ e in absurd (cc)
+starts_by false cs p s e = let none : Missing ≡ Present p = ap told_page (sym (from_last-none is_start cs s)) ∙ e in absurd (cc)
 
 -- the newer runs, behind the base and the older ones
 pub page-newer : (cs : List Content) (k : ℕ) (logged now : PageOfKind) → page_by_log cs ≡ Present logged → IsLogged k (Some logged) (Some now) → page_by_log (cs ++ drop k (run_contents now)) ≡ Present now
 page-newer cs k logged now e h =
     let newer = drop k (run_contents now) in
     let starts = starts_by (list_any is_start cs) cs logged refl e in
-    ap told (from_last-more is_start cs newer starts (none-drop is_start k (run_contents now) (no_runs_start now)))
+    ap told_page (from_last-more is_start cs newer starts (none-drop is_start k (run_contents now) (no_runs_start now)))
     ∙ told-more (from_last is_start cs) newer logged e
     ∙ fold-newer k logged now h

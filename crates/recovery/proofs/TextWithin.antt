@@ -16,7 +16,7 @@ use Rattle.mapping.specs.Table.{is_old}
 use Rattle.mapping.specs.Tree.{Logged, Tree, page_at, logged_of}
 use Rattle.mapping.specs.Tree.Logged.{No, Old, Upto}
 use Rattle.mapping.proofs.KnownPids.{all-with_numbers}
-use Rattle.frame_codec.specs.Frame.{Content, is_within}
+use Rattle.frame_codec.specs.Frame.{Content, is_frame}
 use Rattle.frame_codec.specs.Frame.Content.{DeltaLeaf, DeltaIndex, Free}
 use Rattle.frame_codec.proofs.WithinLaws.{decides-pid, leaf_within, index_within}
 use Rattle.flush_log.specs.FlushText.{base_content, run_contents, lacking, frames_of, pid_text, pids_to_write, flush_text}
@@ -43,7 +43,7 @@ module _ {X : Type 0} (P : X → Type 0) where
 
 module _ (s : Settings) (pid : ℕ) (word : IsWord pid) where
   abbrev Within : Content → Type 0
-  Within c = is_within s (record { pid = pid; content = c }) ≡ true
+  Within c = is_frame s (record { pid = pid; content = c }) ≡ true
 
   with_words : (cs : List (List ℕ × Option ℕ)) → AllByRecursion (IsShortChange s IsAnyPid) cs → AllByRecursion (λ c. OfCell IsWord c.1) cs → AllByRecursion (IsShortChange s IsWord) cs
   with_words [] a w = tt
@@ -71,8 +71,8 @@ module _ (s : Settings) (pid : ℕ) (word : IsWord pid) where
   lacking_within None Old f = (free_within, tt)
   lacking_within None (Upto k) f = tt
 
-  frames_within : (cs : List Content) → AllByRecursion Within cs → AllByRecursion (λ f. is_within s f ≡ true) (frames_of pid cs)
-  frames_within cs a = all-map (λ f. is_within s f ≡ true) (λ c. record { pid = pid; content = c }) cs a
+  frames_within : (cs : List Content) → AllByRecursion Within cs → AllByRecursion (λ f. is_frame s f ≡ true) (frames_of pid cs)
+  frames_within cs a = all-map (λ f. is_frame s f ≡ true) (λ c. record { pid = pid; content = c }) cs a
 
 -- ---- a tree
 
@@ -85,21 +85,21 @@ module _ (s : Settings) (t : Tree) (proper : IsProper s t) (words : HasWordPids 
       first_by true here rest w e f = let same : here ≡ p = cc in subst (λ (q : PageOfKind). NamesWords q) same w
       first_by false here rest w e f = f e
 
-  pid_within : (pid : ℕ) → IsWord pid → AllByRecursion (λ f. is_within s f ≡ true) (pid_text t pid)
+  pid_within : (pid : ℕ) → IsWord pid → AllByRecursion (λ f. is_frame s f ≡ true) (pid_text t pid)
   pid_within pid word =
       let due : List Content = lacking (page_at t.pages pid) (logged_of t pid) in
       frames_within s pid word due (lacking_within s pid word (page_at t.pages pid) (logged_of t pid) (λ p e. (page-is_good s t proper pid p e, names_by t.pages pid p words.pages e)))
 
-  all_within : (pids : List ℕ) → AllByRecursion IsWord pids → AllByRecursion (λ f. is_within s f ≡ true) (flat_map (pid_text t) pids)
+  all_within : (pids : List ℕ) → AllByRecursion IsWord pids → AllByRecursion (λ f. is_frame s f ≡ true) (flat_map (pid_text t) pids)
   all_within [] a = tt
-  all_within (pid ∷ pids) a = all-append (λ f. is_within s f ≡ true) (pid_text t pid) (flat_map (pid_text t) pids) (pid_within pid a.0) (all_within pids a.1)
+  all_within (pid ∷ pids) a = all-append (λ f. is_frame s f ≡ true) (pid_text t pid) (flat_map (pid_text t) pids) (pid_within pid a.0) (all_within pids a.1)
 
   word_pages : (ps : List (ℕ × PageOfKind)) → AllByRecursion (λ e. IsWord e.0 × NamesWords e.1) ps → AllByRecursion IsWord (keys_of ps)
   word_pages [] a = tt
   word_pages (p ∷ ps) a = (a.0.0, word_pages ps a.1)
 
   -- each frame of the text is within the settings
-  pub text-within : AllByRecursion (λ f. is_within s f ≡ true) (flush_text t)
+  pub text-within : AllByRecursion (λ f. is_frame s f ≡ true) (flush_text t)
   text-within =
       let olds = all_keys-filter IsWord (λ l. is_old l.1) t.logged (all_keys IsWord t.logged words.logged) in
       all_within (pids_to_write t) (all-with_numbers IsWord (keys_of (filter (λ l. is_old l.1) t.logged)) (keys_of t.pages) olds (word_pages t.pages words.pages))

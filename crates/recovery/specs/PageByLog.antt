@@ -26,29 +26,29 @@ pub data InLog : Type 0 where
   Broken : InLog
 
 -- a page with one more run
-abbrev pub with_run : {V : Type 0} → Page V → List (List ℕ × Option V) → Page V
-with_run p run = record { low = p.low; layers = record { runs = run ∷ p.layers.runs; base = p.layers.base } }
+abbrev pub with_newer_run : {V : Type 0} → Page V → List (List ℕ × Option V) → Page V
+with_newer_run p run = record { low = p.low; layers = record { runs = run ∷ p.layers.runs; base = p.layers.base } }
 
 -- what the first content says by itself
-abbrev pub begun : Content → InLog
-begun (FullLeaf low base) = Present (Leaf (bare low base))
-begun (FullIndex low base) = Present (Index (bare low base))
-begun _ = Missing
+abbrev pub begun_page : Content → InLog
+begun_page (FullLeaf low base) = Present (Leaf (bare low base))
+begun_page (FullIndex low base) = Present (Index (bare low base))
+begun_page _ = Missing
 
 -- and one more content behind it: it has to be a delta of the page's kind
 abbrev pub continued : InLog → Content → InLog
-continued (Present (Leaf p)) (DeltaLeaf run) = Present (Leaf (with_run p run))
-continued (Present (Index p)) (DeltaIndex run) = Present (Index (with_run p run))
+continued (Present (Leaf p)) (DeltaLeaf run) = Present (Leaf (with_newer_run p run))
+continued (Present (Index p)) (DeltaIndex run) = Present (Index (with_newer_run p run))
 continued _ _ = Broken
 
 -- what contents say that begin with a base, or with there being no page
-abbrev pub told : List Content → InLog
-told [] = Missing
-told (c ∷ cs) = fold continued (begun c) cs
+abbrev pub told_page : List Content → InLog
+told_page [] = Missing
+told_page (c ∷ cs) = fold continued (begun_page c) cs
 
 -- the page of a pid, by all its contents in order: what the part from the last base or free frame on tells
 abbrev pub page_by_log : List Content → InLog
-page_by_log cs = told (from_last is_start cs)
+page_by_log cs = told_page (from_last is_start cs)
 
 -- the page, if there is one
 abbrev pub page_in : InLog → Option PageOfKind

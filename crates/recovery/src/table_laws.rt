@@ -3,7 +3,7 @@
 ghost use Rattle.std.specs.Prelude.{◌≡◌, None};
 ghost use Rattle.keys.specs.Limits.{first_bad_field};
 ghost use Rattle.keys.specs.declared.settings.Settings.{Settings};
-ghost use Rattle.mapping.specs.Flushed.{flushed as marked};
+ghost use Rattle.mapping.specs.Flushed.{marked_as_written};
 ghost use Rattle.mapping.specs.Proper.{IsProper};
 ghost use Rattle.mapping.specs.Table.{pids_in_use_or_old};
 ghost use Rattle.mapping.specs.TreeInMemory.{TreeInMemory, AreAllHome, tree_of};
@@ -17,5 +17,5 @@ pub fn a_flush_goes_over_the_pids_that_the_table_knows()
 /// A table that is marked as written holds the tree that a flush leaves.
 pub fn a_table_marked_as_written_holds_the_flushed_tree()
     ensures { (s : Settings) (t : TreeInMemory) → first_bad_field s ≡ None → IsProper s (tree_of t) →
-        tree_of (record { table = marked t.table; root = t.root; height = t.height }) ≡ flushed (tree_of t) }
+        tree_of (record { table = marked_as_written t.table; root = t.root; height = t.height }) ≡ flushed (tree_of t) }
 {}

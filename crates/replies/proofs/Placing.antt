@@ -9,12 +9,13 @@ use Rattle.std.proofs.lemmas.List.Elements.{All-head, All-tail, All-rest, All-dr
 use Rattle.std.proofs.lemmas.Option.{gets, none-some, same_Some, slice_get_past, slice_get_cases, slice_get-get_or, slice_get-map, slice_get_read, get_or_from_slice_get}
 use Rattle.keys.specs.CommandKey.{is_scan}
 use Rattle.keys.specs.Lists.{flat}
+use Rattle.keys.specs.Places.{is_some_that, is_scan_at}
 use Rattle.keys.specs.declared.command.Command.{Command}
 use Rattle.keys.specs.declared.command.Command.TheVariants.{Get, Put, Add, Del, Scan}
 use Rattle.keys.specs.declared.command.Reply.{Reply}
 use Rattle.keys.specs.declared.command.Reply.TheVariants.{Missing, Rows}
 use Rattle.keys.specs.declared.piece.Piece.{Piece}
-use Rattle.replies.specs.ByPlace.{pieces_at, rows_of, is_rows, lone, joined, joined_at, reply_at, is_scan_by, is_scan_at, IsPlaceOf, AreAnswers, limit_of, limit_by, blank_of, with_answer, gathered}
+use Rattle.replies.specs.ByPlace.{pieces_at, rows_of, is_rows, lone, joined_replies, joined_replies_at, reply_at, IsPlaceOf, AreAnswers, limit_of, limit_by, blank_of, with_answer, with_pieces}
 
 -- ---- lists
 
@@ -49,13 +50,13 @@ abbrev pub replies_of : {A : Type 0} → List (Piece A) → List (Reply A)
 replies_of ps = map (λ p. p.reply) ps
 
 module _ {A : Type 0} where
-  pub length-gathered : (cs : List (Command A)) (ps : List (Piece A)) (rs : List (Reply A)) → length (gathered cs ps rs) ≡ length rs
-  length-gathered cs [] rs = refl
-  length-gathered cs (p ∷ ps) rs = length-gathered cs ps _ ∙ length-set rs p.place _
+  pub length-with_pieces : (cs : List (Command A)) (ps : List (Piece A)) (rs : List (Reply A)) → length (with_pieces cs ps rs) ≡ length rs
+  length-with_pieces cs [] rs = refl
+  length-with_pieces cs (p ∷ ps) rs = length-with_pieces cs ps _ ∙ length-set rs p.place _
 
-  gathered-append : (cs : List (Command A)) (ps qs : List (Piece A)) (rs : List (Reply A)) → gathered cs (ps ++ qs) rs ≡ gathered cs qs (gathered cs ps rs)
-  gathered-append cs [] qs rs = refl
-  gathered-append cs (p ∷ ps) qs rs = gathered-append cs ps qs _
+  with_pieces-append : (cs : List (Command A)) (ps qs : List (Piece A)) (rs : List (Reply A)) → with_pieces cs (ps ++ qs) rs ≡ with_pieces cs qs (with_pieces cs ps rs)
+  with_pieces-append cs [] qs rs = refl
+  with_pieces-append cs (p ∷ ps) qs rs = with_pieces-append cs ps qs _
 
   pub within-rest : (cs : List (Command A)) (q : Piece A) (left rest : List (Piece A)) → left ≡ q ∷ rest → All (IsPlaceOf cs) left → All (IsPlaceOf cs) rest
   within-rest cs q left rest e h = All-rest (IsPlaceOf cs) q rest left e h
@@ -64,13 +65,13 @@ module _ {A : Type 0} where
   within-first cs q left rest e h = All-head (IsPlaceOf cs) q rest (subst (All (IsPlaceOf cs)) e h)
 
   -- what was made of what stood at the piece's place is put there
-  pub gathered-rest : (cs : List (Command A)) (q : Piece A) (left rest : List (Piece A)) (rs end : List (Reply A)) (c : Command A) (old new : Reply A) → left ≡ q ∷ rest → gathered cs left rs ≡ end
-      → q.place < length cs → q.place < length rs → c ≡ get_or cs q.place c → new ≡ with_answer (limit_of c) (get_or rs q.place old) q.reply → gathered cs rest (set rs q.place new) ≡ end
-  gathered-rest cs q left rest rs end c old new e h within room is made =
+  pub with_pieces-rest : (cs : List (Command A)) (q : Piece A) (left rest : List (Piece A)) (rs end : List (Reply A)) (c : Command A) (old new : Reply A) → left ≡ q ∷ rest → with_pieces cs left rs ≡ end
+      → q.place < length cs → q.place < length rs → c ≡ get_or cs q.place c → new ≡ with_answer (limit_of c) (get_or rs q.place old) q.reply → with_pieces cs rest (set rs q.place new) ≡ end
+  with_pieces-rest cs q left rest rs end c old new e h within room is made =
       let limit : limit_by (slice_get cs q.place) ≡ limit_of c = ap limit_by (slice_get_read cs (length cs) q.place c refl within is) in
       let stood : get_or rs q.place q.reply ≡ get_or rs q.place old = get_or_from_slice_get rs q.place (get_or rs q.place old) q.reply (slice_get-get_or rs q.place old room) in
       let put : new ≡ with_answer (limit_by (slice_get cs q.place)) (get_or rs q.place q.reply) q.reply = made ∙ ap (λ (n : ℕ). with_answer n (get_or rs q.place old) q.reply) (sym limit) ∙ ap (λ (at : Reply A). with_answer (limit_by (slice_get cs q.place)) at q.reply) (sym stood) in
-      ap (λ (r : Reply A). gathered cs rest (set rs q.place r)) put ∙ subst (λ (ps : List (Piece A)). gathered cs ps rs ≡ end) e h
+      ap (λ (r : Reply A). with_pieces cs rest (set rs q.place r)) put ∙ subst (λ (ps : List (Piece A)). with_pieces cs ps rs ≡ end) e h
 
   -- ---- one page more
 
@@ -80,8 +81,8 @@ module _ {A : Type 0} where
       let back : drop (length page) (flat left) ≡ flat rest = ap (drop (length page)) parts ∙ drop_at page (flat rest) (length page) refl in
       subst (All (IsPlaceOf cs)) back (All-drop (IsPlaceOf cs) (length page) (flat left) h)
 
-  pub gathered-page : (cs : List (Command A)) (page : List (Piece A)) (left rest : List (List (Piece A))) (rs end : List (Reply A)) → left ≡ page ∷ rest → gathered cs (flat left) rs ≡ end → gathered cs (flat rest) (gathered cs page rs) ≡ end
-  gathered-page cs page left rest rs end e h = sym (gathered-append cs page (flat rest) rs) ∙ subst (λ (pages : List (List (Piece A))). gathered cs (flat pages) rs ≡ end) e h
+  pub with_pieces-page : (cs : List (Command A)) (page : List (Piece A)) (left rest : List (List (Piece A))) (rs end : List (Reply A)) → left ≡ page ∷ rest → with_pieces cs (flat left) rs ≡ end → with_pieces cs (flat rest) (with_pieces cs page rs) ≡ end
+  with_pieces-page cs page left rest rs end e h = sym (with_pieces-append cs page (flat rest) rs) ∙ subst (λ (pages : List (List (Piece A))). with_pieces cs (flat pages) rs ≡ end) e h
 
   -- ---- what stands at a place
 
@@ -100,14 +101,14 @@ module _ {A : Type 0} where
       rw (get-set true rs p.place i (with_answer (limit_by (slice_get cs p.place)) (get_or rs p.place p.reply) p.reply) e h, same, slice_get-get_or rs i p.reply h) refl
   added_more false cs p ps rs i e h = rw (get-set false rs p.place i (with_answer (limit_by (slice_get cs p.place)) (get_or rs p.place p.reply) p.reply) e h) refl
 
-  gathered-get : (cs : List (Command A)) (ps : List (Piece A)) (rs : List (Reply A)) (i : ℕ) → i < length rs
-      → slice_get (gathered cs ps rs) i ≡ added (limit_by (slice_get cs i)) (slice_get rs i) (replies_of (pieces_at ps i))
+  with_pieces-get : (cs : List (Command A)) (ps : List (Piece A)) (rs : List (Reply A)) (i : ℕ) → i < length rs
+      → slice_get (with_pieces cs ps rs) i ≡ added (limit_by (slice_get cs i)) (slice_get rs i) (replies_of (pieces_at ps i))
   unfolding added
-  gathered-get cs [] rs i h = refl
-  gathered-get cs (p ∷ ps) rs i h =
+  with_pieces-get cs [] rs i h = refl
+  with_pieces-get cs (p ∷ ps) rs i h =
       let now = set rs p.place (with_answer (limit_by (slice_get cs p.place)) (get_or rs p.place p.reply) p.reply) in
       let within : i < length now = rw length-set h in
-      gathered-get cs ps now i within ∙ added_more (p.place == i) cs p (pieces_at ps i) rs i refl h
+      with_pieces-get cs ps now i within ∙ added_more (p.place == i) cs p (pieces_at ps i) rs i refl h
 
   -- ---- answers of one kind
 
@@ -141,7 +142,7 @@ module _ {A : Type 0} where
   added-one limit at (r ∷ []) h one = ap (λ (x : Reply A). Some x) (goes_over limit at r (All-head (IsOfKind false) r [] h))
   added-one limit at (r ∷ (q ∷ rs)) h one = absurd (omega arith)
 
-  by_command : (c : Command A) (rs : List (Reply A)) → All (IsOfKind (is_scan c)) rs → (is_scan c ≡ false → length rs ≡ 1) → added (limit_of c) (Some (blank_of c)) rs ≡ joined c rs
+  by_command : (c : Command A) (rs : List (Reply A)) → All (IsOfKind (is_scan c)) rs → (is_scan c ≡ false → length rs ≡ 1) → added (limit_of c) (Some (blank_of c)) rs ≡ joined_replies c rs
   by_command (Get k) rs h one = added-one 0 Missing rs h (one refl)
   by_command (Put k v) rs h one = added-one 0 Missing rs h (one refl)
   by_command (Add k v) rs h one = added-one 0 Missing rs h (one refl)
@@ -170,22 +171,22 @@ module _ {A : Type 0} where
       → added (limit_by (slice_get cs i)) (slice_get (blanks_of cs) i) (replies_of (pieces_at ps i)) ≡ reply_at cs ps i
   unfolding added
   at_place cs ps i c answers h is =
-      let scan : is_scan_at cs i ≡ is_scan c = ap is_scan_by is in
+      let scan : is_scan_at cs i ≡ is_scan c = ap (is_some_that is_scan) is in
       let blank : slice_get (blanks_of cs) i ≡ Some (blank_of c) = slice_get-map blank_of cs i ∙ ap (option_map blank_of) is in
       let one : is_scan c ≡ false → length (replies_of (pieces_at ps i)) ≡ 1 = (λ plain. length-map (pieces_at ps i) (λ p. p.reply) ∙ answers.once i h (scan ∙ plain)) in
       rw (blank, is) (by_command c (replies_of (pieces_at ps i)) (kinds (is_scan c) cs ps i scan answers.kind) one)
 
   past : (cs : List (Command A)) (ps : List (Piece A)) (xs : List (Reply A)) (i : ℕ) → length xs ≡ length cs → length cs ≤ i → slice_get xs i ≡ reply_at cs ps i
-  past cs ps xs i len h = slice_get_past xs i (omega arith) ∙ sym (ap (λ (o : Option (Command A)). joined_at o (replies_of (pieces_at ps i))) (slice_get_past cs i h))
+  past cs ps xs i len h = slice_get_past xs i (omega arith) ∙ sym (ap (λ (o : Option (Command A)). joined_replies_at o (replies_of (pieces_at ps i))) (slice_get_past cs i h))
 
   length-blanks : (cs : List (Command A)) → length (blanks_of cs) ≡ length cs
   length-blanks cs = length-map cs blank_of
 
   -- the list that the pieces make of the blanks has the reply of each place
-  pub replies-gathered : (cs : List (Command A)) (ps : List (Piece A)) → AreAnswers cs ps → (i : ℕ) → slice_get (gathered cs ps (blanks_of cs)) i ≡ reply_at cs ps i
-  replies-gathered cs ps answers i = elim ((slice_get_cases cs i).1) [
-    | inl w ↦ gathered-get cs ps (blanks_of cs) i (let all = length-blanks cs in let h = w.1 in omega arith) ∙ at_place cs ps i w.0 answers w.1 w.2
-    | inr w ↦ past cs ps (gathered cs ps (blanks_of cs)) i (length-gathered cs ps (blanks_of cs) ∙ length-blanks cs) w.0
+  pub replies-with_pieces : (cs : List (Command A)) (ps : List (Piece A)) → AreAnswers cs ps → (i : ℕ) → slice_get (with_pieces cs ps (blanks_of cs)) i ≡ reply_at cs ps i
+  replies-with_pieces cs ps answers i = elim ((slice_get_cases cs i).1) [
+    | inl w ↦ with_pieces-get cs ps (blanks_of cs) i (let all = length-blanks cs in let h = w.1 in omega arith) ∙ at_place cs ps i w.0 answers w.1 w.2
+    | inr w ↦ past cs ps (with_pieces cs ps (blanks_of cs)) i (length-with_pieces cs ps (blanks_of cs) ∙ length-blanks cs) w.0
   ]
 
   -- ---- the law
@@ -202,19 +203,19 @@ module _ {A : Type 0} where
   pub reply_at-scan : (cs : List (Command A)) (ps : List (Piece A)) (place : ℕ) (lo : List ℕ) (hi : Option (List ℕ)) (limit : ℕ) → slice_get cs place ≡ Some (Scan lo hi limit)
       → reply_at cs ps place ≡ Some (Rows (take limit (rows_at ps place)))
   reply_at-scan cs ps place lo hi limit is =
-      ap (λ (o : Option (Command A)). joined_at o (replies_of (pieces_at ps place))) is ∙ ap (λ (xs : List (List ℕ × List ℕ)). Some (Rows (take limit xs))) (rows_joined (pieces_at ps place))
+      ap (λ (o : Option (Command A)). joined_replies_at o (replies_of (pieces_at ps place))) is ∙ ap (λ (xs : List (List ℕ × List ℕ)). Some (Rows (take limit xs))) (rows_joined (pieces_at ps place))
 
   -- the reply to a command that is no scan is the lone answer
-  pub joined-lone : (c : Command A) (rs : List (Reply A)) → is_scan c ≡ false → joined c rs ≡ lone rs
-  joined-lone (Get k) rs h = refl
-  joined-lone (Put k v) rs h = refl
-  joined-lone (Add k v) rs h = refl
-  joined-lone (Del k) rs h = refl
-  joined-lone (Scan lo hi limit) rs h = absurd (cc)
+  pub joined_replies-lone : (c : Command A) (rs : List (Reply A)) → is_scan c ≡ false → joined_replies c rs ≡ lone rs
+  joined_replies-lone (Get k) rs h = refl
+  joined_replies-lone (Put k v) rs h = refl
+  joined_replies-lone (Add k v) rs h = refl
+  joined_replies-lone (Del k) rs h = refl
+  joined_replies-lone (Scan lo hi limit) rs h = absurd (cc)
 
-  joined_at-lone : (o : Option (Command A)) (c : Command A) (rs : List (Reply A)) → o ≡ Some c → is_scan_by o ≡ false → joined_at o rs ≡ lone rs
-  joined_at-lone None c rs is h = absurd (cc)
-  joined_at-lone (Some d) c rs is h = joined-lone d rs h
+  joined_replies_at-lone : (o : Option (Command A)) (c : Command A) (rs : List (Reply A)) → o ≡ Some c → is_some_that is_scan o ≡ false → joined_replies_at o rs ≡ lone rs
+  joined_replies_at-lone None c rs is h = absurd (cc)
+  joined_replies_at-lone (Some d) c rs is h = joined_replies-lone d rs h
 
   -- the one piece of a place, where its command is no scan
   abbrev IsOnePiece : List (Command A) → List (Piece A) → ℕ → Type 0
@@ -222,7 +223,7 @@ module _ {A : Type 0} where
 
   one_piece : (cs : List (Command A)) (ps : List (Piece A)) (i : ℕ) → AreAnswers cs ps → i < length cs → is_scan_at cs i ≡ false → IsOnePiece cs ps i
   one_piece cs ps i answers h plain = elim ((slice_get_cases cs i).1) [
-    | inl w ↦ (answers.once i h plain, joined_at-lone (slice_get cs i) w.0 (replies_of (pieces_at ps i)) w.2 plain)
+    | inl w ↦ (answers.once i h plain, joined_replies_at-lone (slice_get cs i) w.0 (replies_of (pieces_at ps i)) w.2 plain)
     | inr w ↦ absurd (let past = w.0 in omega arith)
   ]
 
@@ -265,10 +266,10 @@ module _ {A : Type 0} where
         one.1 ∙ read_lone cs rs (pieces_at ps i) i one.0 plain (filter_passes (λ q. q.place == i) ps) (All-filter (λ q. q.place == i) (HasPieces cs rs) ps told)
 
     there : (i : ℕ) (c : Command A) → i < length cs → slice_get cs i ≡ Some c → reply_at cs ps i ≡ slice_get rs i
-    there i (Get k) h is = plain_there i h (ap is_scan_by is)
-    there i (Put k v) h is = plain_there i h (ap is_scan_by is)
-    there i (Add k v) h is = plain_there i h (ap is_scan_by is)
-    there i (Del k) h is = plain_there i h (ap is_scan_by is)
+    there i (Get k) h is = plain_there i h (ap (is_some_that is_scan) is)
+    there i (Put k v) h is = plain_there i h (ap (is_some_that is_scan) is)
+    there i (Add k v) h is = plain_there i h (ap (is_some_that is_scan) is)
+    there i (Del k) h is = plain_there i h (ap (is_some_that is_scan) is)
     there i (Scan lo hi limit) h is = reply_at-scan cs ps i lo hi limit is ∙ sym (scans i lo hi limit is)
 
     -- the list in which all of them stand is the list of the replies

@@ -1,7 +1,7 @@
 -- The reply at each place of a batch, by what the pages answer.
 use Rattle.std.specs.Prelude.{◌≡◌, ℕ, ◌<◌, ◌==◌, Bool, true, false, List, [], ◌∷◌, ◌++◌, map, slice_set, slice_index_or, take, flat_map, length, slice_get, Option, Some, None}
 use Rattle.std.specs.List.{All, filter}
-use Rattle.keys.specs.CommandKey.{is_scan}
+use Rattle.keys.specs.Places.{is_scan_at}
 use Rattle.keys.specs.declared.command.Command.{Command}
 use Rattle.keys.specs.declared.command.Command.TheVariants.{Get, Put, Add, Del, Scan}
 use Rattle.keys.specs.declared.command.Reply.{Reply}
@@ -29,29 +29,21 @@ lone _ = None
 
 -- the reply to a command that what the pages answer makes: of a scan their rows, joined and cut at the limit; of another
 -- command the answer of its one page
-abbrev pub joined : {A : Type 0} → Command A → List (Reply A) → Option (Reply A)
-joined (Get k) rs = lone rs
-joined (Put k v) rs = lone rs
-joined (Add k v) rs = lone rs
-joined (Del k) rs = lone rs
-joined (Scan lo hi limit) rs = Some (Rows (take limit (flat_map rows_of rs)))
+abbrev pub joined_replies : {A : Type 0} → Command A → List (Reply A) → Option (Reply A)
+joined_replies (Get k) rs = lone rs
+joined_replies (Put k v) rs = lone rs
+joined_replies (Add k v) rs = lone rs
+joined_replies (Del k) rs = lone rs
+joined_replies (Scan lo hi limit) rs = Some (Rows (take limit (flat_map rows_of rs)))
 
 -- the same of the command at a place
-abbrev pub joined_at : {A : Type 0} → Option (Command A) → List (Reply A) → Option (Reply A)
-joined_at None rs = None
-joined_at (Some c) rs = joined c rs
+abbrev pub joined_replies_at : {A : Type 0} → Option (Command A) → List (Reply A) → Option (Reply A)
+joined_replies_at None rs = None
+joined_replies_at (Some c) rs = joined_replies c rs
 
 -- the reply at a place
 abbrev pub reply_at : {A : Type 0} → List (Command A) → List (Piece A) → ℕ → Option (Reply A)
-reply_at cs ps place = joined_at (slice_get cs place) (map (λ p. p.reply) (pieces_at ps place))
-
--- whether a scan stands at the place
-abbrev pub is_scan_by : {A : Type 0} → Option (Command A) → Bool
-is_scan_by None = false
-is_scan_by (Some c) = is_scan c
-
-abbrev pub is_scan_at : {A : Type 0} → List (Command A) → ℕ → Bool
-is_scan_at cs place = is_scan_by (slice_get cs place)
+reply_at cs ps place = joined_replies_at (slice_get cs place) (map (λ p. p.reply) (pieces_at ps place))
 
 -- whether a piece's place is one of the batch
 abbrev pub IsPlaceOf : {A : Type 0} → List (Command A) → Piece A → Type 0
@@ -91,6 +83,6 @@ limit_by None = 0
 limit_by (Some c) = limit_of c
 
 -- the list after these pieces, each added at its place
-abbrev pub gathered : {A : Type 0} → List (Command A) → List (Piece A) → List (Reply A) → List (Reply A)
-gathered cs [] rs = rs
-gathered cs (p ∷ ps) rs = gathered cs ps (slice_set rs p.place (with_answer (limit_by (slice_get cs p.place)) (slice_index_or rs p.place p.reply) p.reply))
+abbrev pub with_pieces : {A : Type 0} → List (Command A) → List (Piece A) → List (Reply A) → List (Reply A)
+with_pieces cs [] rs = rs
+with_pieces cs (p ∷ ps) rs = with_pieces cs ps (slice_set rs p.place (with_answer (limit_by (slice_get cs p.place)) (slice_index_or rs p.place p.reply) p.reply))

@@ -2,12 +2,13 @@
 //! body.
 ghost use Rattle.std.specs.Prelude.{◌≡◌, ℕ, false, List, map, take, flat_map, length, slice_get, Option, Some};
 ghost use Rattle.std.specs.List.{All};
+ghost use Rattle.keys.specs.Places.{is_scan_at};
 ghost use Rattle.keys.specs.declared.command.Command.{Command};
 ghost use Rattle.keys.specs.declared.command.Command.TheVariants.{Scan};
 ghost use Rattle.keys.specs.declared.command.Reply.{Reply};
 ghost use Rattle.keys.specs.declared.command.Reply.TheVariants.{Rows};
 ghost use Rattle.keys.specs.declared.piece.Piece.{Piece};
-ghost use Rattle.replies.specs.ByPlace.{AreAnswers, is_scan_at, pieces_at, rows_of, reply_at};
+ghost use Rattle.replies.specs.ByPlace.{AreAnswers, pieces_at, rows_of, reply_at};
 
 use std::alloc::Allocator;
 

@@ -7,7 +7,7 @@ ghost use Rattle.std.specs.Prelude.{◌≡◌, ℕ, ◌<◌, map, take, length, 
 ghost use Rattle.std.specs.List.{All};
 ghost use Rattle.keys.specs.Lists.{flat};
 ghost use Rattle.keys.specs.declared.command.Reply.TheVariants.{Rows};
-ghost use Rattle.replies.specs.ByPlace.{AreAnswers, IsPlaceOf, reply_at, blank_of, limit_of, with_rows, with_answer, gathered};
+ghost use Rattle.replies.specs.ByPlace.{AreAnswers, IsPlaceOf, reply_at, blank_of, limit_of, with_rows, with_answer, with_pieces};
 
 use keys::{Command, Piece, Reply, RowList};
 use std::alloc::{AllocError, Global};
@@ -39,7 +39,7 @@ fn add_page(
 ) -> Result<(), AllocError>
     requires count { length replies.old ≡ length commands.now }
     requires within { All (IsPlaceOf commands.now) pieces.items }
-    ensures { OnOk result (replies.new ≡ gathered commands.now pieces.items replies.old) }
+    ensures { OnOk result (replies.new ≡ with_pieces commands.now pieces.items replies.old) }
 {
     for Piece { place, reply } in pieces {
         add(&mut replies[place], &commands[place], reply)?;

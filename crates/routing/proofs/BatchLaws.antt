@@ -6,10 +6,10 @@ use Rattle.std.specs.List.{list_any}
 use Rattle.std.specs.Option.{option_map}
 use Rattle.keys.specs.CommandKey.{key_of, is_scan}
 use Rattle.keys.specs.Narrowed.{with_end, first_end, with_ends}
+use Rattle.keys.specs.Places.{is_scan_at}
 use Rattle.keys.specs.declared.command.Command.{Command}
 use Rattle.keys.proofs.NarrowedLaws.{key-with_end, scan-with_end, length-with_ends, get-with_ends}
 use Rattle.routing.specs.BatchKeys.{key_at}
-use Rattle.routing.specs.Routes.{is_scan_at}
 use Rattle.routing.specs.SortedPlaces.{reaches, reaches_at}
 
 first_behind : {X : Type 0} (end_of : X → Option (List ℕ)) (xs : List X) (place : ℕ) (x : X) → slice_get xs place ≡ Some x → end_of x ≡ first_end (drop place (map end_of xs))

@@ -7,6 +7,7 @@ use Rattle.std.proofs.lemmas.List.{map-append, take_more}
 use Rattle.std.proofs.lemmas.List.Sorted.{IsPermutation-trans, IsPermutation-append_comm}
 use Rattle.std.proofs.lemmas.List.Kept.{IsStrictlySortedBy-filter}
 use Rattle.keys.specs.CommandKey.{key_of}
+use Rattle.keys.specs.Places.{is_some_that}
 use Rattle.keys.specs.declared.command.Command.{Command}
 use Rattle.index_page.specs.Range.{is_within}
 use Rattle.index_page.specs.Children.{Place}
@@ -14,7 +15,7 @@ use Rattle.index_page.proofs.ListLaws.{all-filter}
 use Rattle.mapping.specs.FreshPids.{is_among}
 use Rattle.routing.specs.BatchKeys.{key_or_empty}
 use Rattle.routing.specs.Keyed.{Keyed, places_of}
-use Rattle.routing.specs.Routes.{is_passed, places_within, Route, route_to, has_some, has_places}
+use Rattle.routing.specs.Routes.{places_within, Route, route_to, has_some, has_places}
 use Rattle.routing.specs.SortedPlaces.{order_of_places, AreSortedPlaces, begins_in, reaches, reaches_at, AreSortedWithin, AreSortedReaching}
 use Rattle.routing.specs.Shares.{Share, all_of, has_any, Lent, share_of_lent, lent_shares, HasEachPlaceOnce, is_in_range, share_of, shares, IsInBatchOrder, AreInBatchOrder}
 use Rattle.routing.proofs.RouteLaws.{among-places, within_all}
@@ -66,17 +67,17 @@ routes_by true true s r ss (o ∷ os) ts e f a ih = ap (λ (x : Route). x ∷ os
 routes_by false false s r ss os ts e f a ih = ih os a
 
 module _ {A : Type 0} (cs : List (Command A)) where
-  own_by : (o : Option (Command A)) (low : List ℕ) (end : Option (List ℕ)) (n : ℕ) → slice_get cs n ≡ o → (is_passed (begins_in [] None) o && is_in_range cs low end n) ≡ is_passed (begins_in low end) o
+  own_by : (o : Option (Command A)) (low : List ℕ) (end : Option (List ℕ)) (n : ℕ) → slice_get cs n ≡ o → (is_some_that (begins_in [] None) o && is_in_range cs low end n) ≡ is_some_that (begins_in low end) o
   own_by None low end n e = refl
   own_by (Some c) low end n e =
       let own : is_in_range cs low end n ≡ is_within low end (key_of c) = ap (λ (o : Option (Command A)). is_within low end (key_or_empty o)) e in
       rw (within_all (key_of c)) own
 
-  reach_by : (o : Option (Command A)) (low : List ℕ) → (is_passed (begins_in [] None) o && is_passed (reaches low) o) ≡ is_passed (reaches low) o
+  reach_by : (o : Option (Command A)) (low : List ℕ) → (is_some_that (begins_in [] None) o && is_some_that (reaches low) o) ≡ is_some_that (reaches low) o
   reach_by None low = refl
   reach_by (Some c) low = rw (within_all (key_of c)) refl
 
-  among_sorted : (ps : List ℕ) → AreSortedPlaces cs ps → (n : ℕ) → is_among n ps ≡ is_passed (begins_in [] None) (slice_get cs n)
+  among_sorted : (ps : List ℕ) → AreSortedPlaces cs ps → (n : ℕ) → is_among n ps ≡ is_some_that (begins_in [] None) (slice_get cs n)
   among_sorted ps h n = (sorted_within_all cs ps h).own n ∙ among-places n (begins_in [] None) cs
 
   -- of the sorted places, those in a range are the sorted places of the range

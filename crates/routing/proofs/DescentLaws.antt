@@ -7,6 +7,7 @@ use Rattle.std.proofs.Math.Seq.{drop-cons}
 use Rattle.std.proofs.lemmas.Bool.{cases_lt, and_parts}
 use Rattle.std.proofs.lemmas.List.Elements.{All-from_recursion}
 use Rattle.std.proofs.lemmas.List.Kept.{IsStrictlySortedBy-filter}
+use Rattle.keys.specs.Places.{is_some_that}
 use Rattle.keys.specs.declared.command.Command.{Command}
 use Rattle.keys.specs.declared.command.Command.TheVariants.{Get, Put, Add, Del, Scan}
 use Rattle.index_page.specs.Page.{PageOfKind}
@@ -28,11 +29,11 @@ use Rattle.mapping.proofs.TileLaws.{Names, next_names, next_low-parents, rising-
 use Rattle.mapping.proofs.LevelLaws.{values_of-names, index_pages_found}
 use Rattle.mapping.proofs.Joined.{next_joined}
 use Rattle.routing.specs.BatchKeys.{key_or_empty, key_at}
-use Rattle.routing.specs.Routes.{is_passed, Route, has_some, ranges, routes}
+use Rattle.routing.specs.Routes.{Route, has_some, ranges, routes}
 use Rattle.routing.proofs.BatchOrder.{routes_of_shares}
 use Rattle.routing.specs.SortedPlaces.{order_of_places, AreInKeyOrder, AreSortedPlaces, reaches, reaches_at}
 use Rattle.routing.specs.Keyed.{AreKeyed}
-use Rattle.routing.specs.Shares.{Share, all_of, Lent, share_of_lent, lent_shares, AreKeyedShares, is_in_range, shares, shares_below, CanHandDownShare, index_under, IsReady, AreReady, share_below, AreInBatchOrder}
+use Rattle.routing.specs.Shares.{Share, all_of, Lent, share_of_lent, lent_shares, AreKeyedShares, is_in_range, shares, shares_below, CanHandDownShare, index_under, IsReadyShare, AreReadyShares, share_below, AreInBatchOrder}
 use Rattle.routing.proofs.RouteLaws.{among-append}
 use Rattle.routing.proofs.SortLaws.{total_places, same_place, same_sorted}
 use Rattle.routing.proofs.SliceLaws.{reaching_below, among-filter, in_order-append, none_pass}
@@ -109,7 +110,7 @@ module _ {A : Type 0} (cs : List (Command A)) (low : List ℕ) (end : Option (Li
   scan_by true e lo hi c n m b h = rw (c, before_low hi low e n h) refl
   scan_by false e lo hi c n m b h = rw (c, before_high end lo e m b) refl
 
-  reaches_child : (e : List ℕ) (o : Option (Command A)) → is_below e low ≡ false → IsBefore end e → is_passed (reaches e) o ≡ true → (is_passed (reaches low) o || is_within low end (key_or_empty o)) ≡ true
+  reaches_child : (e : List ℕ) (o : Option (Command A)) → is_below e low ≡ false → IsBefore end e → is_some_that (reaches e) o ≡ true → (is_some_that (reaches low) o || is_within low end (key_or_empty o)) ≡ true
   reaches_child e None n m h = absurd (cc)
   reaches_child e (Some (Get k)) n m h = absurd (cc)
   reaches_child e (Some (Put k v)) n m h = absurd (cc)
@@ -181,7 +182,7 @@ module _ {A : Type 0} (cs : List (Command A)) (pages : List (ℕ × PageOfKind))
   below-share pid (x ∷ xs) rs ss = refl
 
   -- a share that is ready, of a page that is found
-  ready_now : (s : Share) (page : PageOfKind) → IsReady pages cs s → Some page ≡ page_at pages s.pid → (page ≡ index_under pages s.pid) × CanHandDownShare cs page s
+  ready_now : (s : Share) (page : PageOfKind) → IsReadyShare pages cs s → Some page ≡ page_at pages s.pid → (page ≡ index_under pages s.pid) × CanHandDownShare cs page s
   ready_now s page h e =
       let both : Some page ≡ Some (index_under pages s.pid) = e ∙ h.held in
       let same : page ≡ index_under pages s.pid = cc in
@@ -201,25 +202,25 @@ module _ {A : Type 0} (cs : List (Command A)) (pages : List (ℕ × PageOfKind))
   share_at_drop all i d l = let e : suc i ≡ i + 1 = omega arith in drop-cons all i d l ∙ ap (λ (j : ℕ). get_or all i d ∷ drop j all) e
 
   -- of shares that are ready, the one that was taken from a place can be handed down
-  pub ready_share : (all : List Lent) (i : ℕ) (d l : Lent) (pid : ℕ) (page : PageOfKind) → i < length all → l ≡ get_or all i d → pid ≡ l.pid → AreReady pages cs all → Some page ≡ page_at pages pid → CanHandDownShare cs page (share_of_lent l)
-  ready_share all i d l pid page w t q h e = (ready_now (share_of_lent l) page (share_taken (IsReady pages cs) all i d l w t h.each) (e ∙ ap (λ (n : ℕ). page_at pages n) q)).1
+  pub ready_share : (all : List Lent) (i : ℕ) (d l : Lent) (pid : ℕ) (page : PageOfKind) → i < length all → l ≡ get_or all i d → pid ≡ l.pid → AreReadyShares pages cs all → Some page ≡ page_at pages pid → CanHandDownShare cs page (share_of_lent l)
+  ready_share all i d l pid page w t q h e = (ready_now (share_of_lent l) page (share_taken (IsReadyShare pages cs) all i d l w t h.each) (e ∙ ap (λ (n : ℕ). page_at pages n) q)).1
 
-  pub ready_keys : (all : List Lent) (i : ℕ) (d l : Lent) → i < length all → l ≡ get_or all i d → AreReady pages cs all → AreKeyed cs l.keyed
+  pub ready_keys : (all : List Lent) (i : ℕ) (d l : Lent) → i < length all → l ≡ get_or all i d → AreReadyShares pages cs all → AreKeyed cs l.keyed
   ready_keys all i d l w t h = subst (λ (x : Lent). AreKeyed cs x.keyed) (sym t) (All-from_recursion (λ (share : Lent). AreKeyed cs share.keyed) all h.keys i d w)
 
   -- and its page isn't missing
-  pub not_missing : (all : List Lent) (i : ℕ) (d l : Lent) (pid : ℕ) → i < length all → l ≡ get_or all i d → pid ≡ l.pid → AreReady pages cs all → None ≡ page_at pages pid → ⊥
+  pub not_missing : (all : List Lent) (i : ℕ) (d l : Lent) (pid : ℕ) → i < length all → l ≡ get_or all i d → pid ≡ l.pid → AreReadyShares pages cs all → None ≡ page_at pages pid → ⊥
   not_missing all i d l pid w t q h e =
-      let both : None ≡ Some (index_under pages l.pid) = e ∙ ap (λ (n : ℕ). page_at pages n) q ∙ (share_taken (IsReady pages cs) all i d l w t h.each).held in
+      let both : None ≡ Some (index_under pages l.pid) = e ∙ ap (λ (n : ℕ). page_at pages n) q ∙ (share_taken (IsReadyShare pages cs) all i d l w t h.each).held in
       cc
 
-  pub share_step : (all old new : List Lent) (i : ℕ) (d l : Lent) (pid : ℕ) (page : PageOfKind) (whole : List Share) → i < length all → l ≡ get_or all i d → pid ≡ l.pid → AreReady pages cs all
+  pub share_step : (all old new : List Lent) (i : ℕ) (d l : Lent) (pid : ℕ) (page : PageOfKind) (whole : List Share) → i < length all → l ≡ get_or all i d → pid ≡ l.pid → AreReadyShares pages cs all
       → Some page ≡ page_at pages pid → lent_shares new ≡ lent_shares old ++ shares_below cs page (all_of (share_of_lent l))
       → lent_shares old ++ flat_map (share_below pages cs) (lent_shares (drop i all)) ≡ whole
       → lent_shares new ++ flat_map (share_below pages cs) (lent_shares (drop (i + 1) all)) ≡ whole
   share_step all old new i d l pid page whole w t q a e n h =
       let now = subst (λ (ss : List Lent). lent_shares old ++ flat_map (share_below pages cs) (lent_shares ss) ≡ whole) (share_at_drop all i d w ∙ ap (λ (x : Lent). x ∷ drop (i + 1) all) (sym t)) h in
-      level_step old new (drop (i + 1) all) l page whole (ready_now (share_of_lent l) page (share_taken (IsReady pages cs) all i d l w t a.each) (e ∙ ap (λ (m : ℕ). page_at pages m) q)).0 n now
+      level_step old new (drop (i + 1) all) l page whole (ready_now (share_of_lent l) page (share_taken (IsReadyShare pages cs) all i d l w t a.each) (e ∙ ap (λ (m : ℕ). page_at pages m) q)).0 n now
 
   -- the entries of a page before an end
   entries_before : (end : Option (List ℕ)) (p : Placed ℕ) → IsTile end p → AreBefore end (keys_of (levels.entries p))
@@ -250,13 +251,13 @@ module _ {A : Type 0} (cs : List (Command A)) (pages : List (ℕ × PageOfKind))
       ∙ sym (shares-append cs ps (children es (next_key (joined up) end)) (children (joined up) end))
       ∙ ap (λ (ats : List Place). shares cs ps ats) (sym (children-append es (joined up) end))
 
-  ready_by : (b : Bool) (s : Share) (ss : List Share) → IsReady pages cs s → AllByRecursion (IsReady pages cs) ss → AllByRecursion (IsReady pages cs) (cond b (s ∷ ss) ss)
+  ready_by : (b : Bool) (s : Share) (ss : List Share) → IsReadyShare pages cs s → AllByRecursion (IsReadyShare pages cs) ss → AllByRecursion (IsReadyShare pages cs) (cond b (s ∷ ss) ss)
   ready_by true s ss h a = (h, a)
   ready_by false s ss h a = a
 
   -- the share of a page can be handed down
   ready_page : (p : Placed ℕ) (end : Option (List ℕ)) (ps : List ℕ) → page_at pages p.pid ≡ Some (Index p.page) → IsHeaded 1 p.page → IsTile end p → AreInKeyOrder cs ps
-      → (let s : Share = record { pid = p.pid; own = filter (is_in_range cs p.page.low end) ps; reaching = filter (reaches_at cs p.page.low) ps } in IsReady pages cs s)
+      → (let s : Share = record { pid = p.pid; own = filter (is_in_range cs p.page.low end) ps; reaching = filter (reaches_at cs p.page.low) ps } in IsReadyShare pages cs s)
   ready_page p end ps held headed tile o =
       let own : List ℕ = filter (is_in_range cs p.page.low end) ps in
       let reaching : List ℕ = filter (reaches_at cs p.page.low) ps in
@@ -280,7 +281,7 @@ module _ {A : Type 0} (cs : List (Command A)) (pages : List (ℕ × PageOfKind))
       }
 
   -- and so can those of all pages of a level
-  pub ready_level : (up : List (Placed ℕ)) (end : Option (List ℕ)) (ps : List ℕ) → IsIndexLevel pages end up → AreInKeyOrder cs ps → AllByRecursion (IsReady pages cs) (shares cs ps (children (names up) end))
+  pub ready_level : (up : List (Placed ℕ)) (end : Option (List ℕ)) (ps : List ℕ) → IsIndexLevel pages end up → AreInKeyOrder cs ps → AllByRecursion (IsReadyShare pages cs) (shares cs ps (children (names up) end))
   ready_level [] end ps l o = tt
   ready_level (p ∷ up) end ps l o =
       let next : Option (List ℕ) = next_low up end in
@@ -290,11 +291,11 @@ module _ {A : Type 0} (cs : List (Command A)) (pages : List (ℕ × PageOfKind))
       let rest : List Share = shares cs ps (children (names up) end) in
       let later : IsIndexLevel pages end up = record { held = l.held.1; headed = l.headed.1; tiled = l.tiled.1 } in
       let some : Bool = has_some own || has_some reaching in
-      let both : AllByRecursion (IsReady pages cs) (cond some (s ∷ rest) rest) = ready_by some s rest (ready_page p next ps l.held.0 l.headed.0 l.tiled.0 o) (ready_level up end ps later o) in
+      let both : AllByRecursion (IsReadyShare pages cs) (cond some (s ∷ rest) rest) = ready_by some s rest (ready_page p next ps l.held.0 l.headed.0 l.tiled.0 o) (ready_level up end ps later o) in
       let e : shares cs ps (children (names (p ∷ up)) end) ≡ cond some (s ∷ rest) rest =
       ap (λ (ats : List Place). shares cs ps ats) (children-cons (name p) (names up) end)
       ∙ ap (λ (x : Option (List ℕ)). shares cs ps ((let at : Place = record { pid = p.pid; low = p.page.low; end = x } in at) ∷ children (names up) end)) (next_names up end) in
-      subst (λ (ss : List Share). AllByRecursion (IsReady pages cs) ss) (sym e) both
+      subst (λ (ss : List Share). AllByRecursion (IsReadyShare pages cs) ss) (sym e) both
 
 -- ---- the levels of a tree, from the root down
 
@@ -404,12 +405,12 @@ module _ (t : Tree) (held : HoldsLevels t.pages (levels_of t)) (levels : AreLeve
         ∙ ap (λ (j : ℕ). SharesAt j) n
 
     -- and they can be
-    shares-ready : (i : ℕ) (ss : List Share) → i < pred t.height → AreInKeyOrder cs ps → ss ≡ SharesAt i → AllByRecursion (IsReady t.pages cs) ss
+    shares-ready : (i : ℕ) (ss : List Share) → i < pred t.height → AreInKeyOrder cs ps → ss ≡ SharesAt i → AllByRecursion (IsReadyShare t.pages cs) ss
     shares-ready i ss l o e =
         let here = level_at i l in
-        subst (λ (x : List Share). AllByRecursion (IsReady t.pages cs) x) (sym (e ∙ by_names (names_at t.pages t.root i) (names here.level) here.named)) (ready_level cs t.pages here.level None ps here.known o)
+        subst (λ (x : List Share). AllByRecursion (IsReadyShare t.pages cs) x) (sym (e ∙ by_names (names_at t.pages t.root i) (names here.level) here.named)) (ready_level cs t.pages here.level None ps here.known o)
 
-    pub level_ready : (i : ℕ) (all : List Lent) → i < pred t.height → AreInKeyOrder cs ps → lent_shares all ≡ SharesAt i → AreKeyedShares cs all → AreReady t.pages cs all
+    pub level_ready : (i : ℕ) (all : List Lent) → i < pred t.height → AreInKeyOrder cs ps → lent_shares all ≡ SharesAt i → AreKeyedShares cs all → AreReadyShares t.pages cs all
     level_ready i all l o e k = record { each = shares-ready i (lent_shares all) l o e; keys = k }
 
     -- the shares of the leaves, each in the order of the batch, are the routes

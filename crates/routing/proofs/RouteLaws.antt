@@ -11,6 +11,7 @@ use Rattle.std.proofs.lemmas.Map.Keys.{IsStrictlyIncreasing-from_sorted}
 use Rattle.keys.specs.Order.{order}
 use Rattle.keys.proofs.MapLaws.{total}
 use Rattle.keys.specs.CommandKey.{key_of, is_scan}
+use Rattle.keys.specs.Places.{is_some_that}
 use Rattle.keys.specs.declared.command.Command.{Command}
 use Rattle.keys.specs.declared.command.Command.TheVariants.{Get, Put, Add, Del, Scan}
 use Rattle.index_page.specs.Range.{is_below, is_before, is_within, IsBefore}
@@ -24,7 +25,7 @@ use Rattle.mapping.proofs.PidLaws.{all_among}
 use Rattle.mapping.proofs.TileLaws.{low_is_before}
 use Rattle.routing.specs.Places.{places_below}
 use Rattle.routing.specs.SortedPlaces.{begins_in, reaches}
-use Rattle.routing.specs.Routes.{goes_to, is_passed, goes_at, places_from, places_within, Route, route_to, has_places, ranges, routes, AreRoutesTo}
+use Rattle.routing.specs.Routes.{goes_to, goes_at, places_from, places_within, Route, route_to, has_places, ranges, routes, AreRoutesTo}
 use Rattle.routing.specs.Routes.AreRoutesTo.{none, next, left_out}
 
 -- ---- numbers that rise
@@ -122,7 +123,7 @@ later_among_by true n ms = let e : nat_eq (suc n) 0 ≡ false = apart_by (nat_eq
 later_among_by false n ms = refl
 
 -- a place is among those of what passes exactly if what stands there passes
-pub among-places : {X : Type 0} (n : ℕ) (passes : X → Bool) (xs : List X) → is_among n (places_from 0 passes xs) ≡ is_passed passes (slice_get xs n)
+pub among-places : {X : Type 0} (n : ℕ) (passes : X → Bool) (xs : List X) → is_among n (places_from 0 passes xs) ≡ is_some_that passes (slice_get xs n)
 among-places n passes [] = refl
 among-places zero passes (x ∷ xs) = first_among_by (passes x) (places_from 1 passes xs) (rw (places_from-suc 0 passes xs) (zero_among (places_from 0 passes xs)))
 among-places (suc n) passes (x ∷ xs) =
@@ -159,14 +160,14 @@ later_counted_by true n ms =
 later_counted_by false n ms = refl
 
 -- a place is there once if what stands there passes, else not at all
-count-places : {X : Type 0} (n : ℕ) (passes : X → Bool) (xs : List X) → count_of n (places_from 0 passes xs) ≡ cond (is_passed passes (slice_get xs n)) 1 0
+count-places : {X : Type 0} (n : ℕ) (passes : X → Bool) (xs : List X) → count_of n (places_from 0 passes xs) ≡ cond (is_some_that passes (slice_get xs n)) 1 0
 count-places n passes [] = refl
 count-places zero passes (x ∷ xs) = first_counted_by (passes x) (places_from 1 passes xs) (rw (places_from-suc 0 passes xs) (zero_counted (places_from 0 passes xs)))
 count-places (suc n) passes (x ∷ xs) =
     later_counted_by (passes x) n (places_from 1 passes xs) ∙ ap (λ (is : List ℕ). count_of (suc n) is) (places_from-suc 0 passes xs) ∙ count-suc n (places_from 0 passes xs) ∙ count-places n passes xs
 
 -- what stands at a place that there is passes, where all do
-all_passed_at : {X : Type 0} (passes : X → Bool) → ((x : X) → passes x ≡ true) → (xs : List X) (n : ℕ) → n < length xs → is_passed passes (slice_get xs n) ≡ true
+all_passed_at : {X : Type 0} (passes : X → Bool) → ((x : X) → passes x ≡ true) → (xs : List X) (n : ℕ) → n < length xs → is_some_that passes (slice_get xs n) ≡ true
 all_passed_at passes h [] n l = absurd (omega arith)
 all_passed_at passes h (x ∷ xs) zero l = h x
 all_passed_at passes h (x ∷ xs) (suc n) l = all_passed_at passes h xs n (omega arith)
@@ -317,22 +318,22 @@ module _ {A : Type 0} where
       ∙ sum_by-append (λ m. cond (nat_eq m n) 1 0) (places_within at.low at.end cs) (all_kept cs ats)
       ∙ ap (λ (m : ℕ). m + count_of n (all_kept cs ats)) (count-places n (goes_to at.low at.end) cs)
 
-  goes_where_begun : (low : List ℕ) (end : Option (List ℕ)) (o : Option (Command A)) → is_passed (begins_in low end) o ≡ true → is_passed (goes_to low end) o ≡ true
+  goes_where_begun : (low : List ℕ) (end : Option (List ℕ)) (o : Option (Command A)) → is_some_that (begins_in low end) o ≡ true → is_some_that (goes_to low end) o ≡ true
   goes_where_begun low end None h = absurd (cc)
   goes_where_begun low end (Some c) h = goes_as low end c ∙ rw h refl
 
-  begun_apart : (low mid : List ℕ) (end : Option (List ℕ)) (o : Option (Command A)) → order low mid ≡ Less → IsBefore end mid → is_passed (begins_in low end) o ≡ true
-      → (is_passed (begins_in low (Some mid)) o ≡ true) ⊎ (is_passed (begins_in mid end) o ≡ true)
+  begun_apart : (low mid : List ℕ) (end : Option (List ℕ)) (o : Option (Command A)) → order low mid ≡ Less → IsBefore end mid → is_some_that (begins_in low end) o ≡ true
+      → (is_some_that (begins_in low (Some mid)) o ≡ true) ⊎ (is_some_that (begins_in mid end) o ≡ true)
   begun_apart low mid end None l m h = absurd (cc)
   begun_apart low mid end (Some c) l m h =
       one_of_two (is_within low (Some mid) (key_of c)) (is_within mid end (key_of c)) (sym (within_parts low mid end (key_of c) l m) ∙ h)
 
-  point_goes_by : (low : List ℕ) (end : Option (List ℕ)) (o : Option (Command A)) → is_passed is_scan o ≡ false → is_passed (goes_to low end) o ≡ is_passed (begins_in low end) o
+  point_goes_by : (low : List ℕ) (end : Option (List ℕ)) (o : Option (Command A)) → is_some_that is_scan o ≡ false → is_some_that (goes_to low end) o ≡ is_some_that (begins_in low end) o
   point_goes_by low end None s = refl
   point_goes_by low end (Some c) s = goes_by_key low end c s
 
   begun_counted : (low mid : List ℕ) (end : Option (List ℕ)) (o : Option (Command A)) → order low mid ≡ Less → IsBefore end mid
-      → cond (is_passed (begins_in low (Some mid)) o) 1 0 + cond (is_passed (begins_in mid end) o) 1 0 ≡ cond (is_passed (begins_in low end) o) 1 0
+      → cond (is_some_that (begins_in low (Some mid)) o) 1 0 + cond (is_some_that (begins_in mid end) o) 1 0 ≡ cond (is_some_that (begins_in low end) o) 1 0
   begun_counted low mid end None l m = refl
   begun_counted low mid end (Some c) l m =
       both_counted (is_within low (Some mid) (key_of c)) (is_within mid end (key_of c)) (is_within low end (key_of c)) (within_parts low mid end (key_of c) l m) (within_one low mid end (key_of c))
@@ -345,7 +346,7 @@ module _ {A : Type 0} where
     routes-within level cs = below-kept cs (ranges level)
 
     -- of pages that tile a range, the routes have each place whose command begins in the range
-    some-tiled : (cs : List (Command A)) (n : ℕ) (p : Placed V) (ps : List (Placed V)) (end : Option (List ℕ)) → Tiled (p ∷ ps) end → is_passed (begins_in p.page.low end) (slice_get cs n) ≡ true
+    some-tiled : (cs : List (Command A)) (n : ℕ) (p : Placed V) (ps : List (Placed V)) (end : Option (List ℕ)) → Tiled (p ∷ ps) end → is_some_that (begins_in p.page.low end) (slice_get cs n) ≡ true
         → is_among n (all_kept cs (children (names (p ∷ ps)) end)) ≡ true
     some-tiled cs n p [] end h b =
         let at : Place = record { pid = p.pid; low = p.page.low; end = end } in
@@ -363,11 +364,11 @@ module _ {A : Type 0} where
     pub routes-some : (level : List (Placed V)) (cs : List (Command A)) (place : ℕ) → next_low level None ≡ Some [] → Tiled level None → place < length cs → is_among place (flat_map (λ r. r.places) (routes level cs)) ≡ true
     routes-some [] cs n f h l = absurd (cc)
     routes-some (p ∷ ps) cs n f h l =
-        some-tiled cs n p ps None h (ap (λ (k : List ℕ). is_passed (begins_in k None) (slice_get cs n)) (first_page p ps f) ∙ all_passed_at (begins_in [] None) (λ c. within_all (key_of c)) cs n l)
+        some-tiled cs n p ps None h (ap (λ (k : List ℕ). is_some_that (begins_in k None) (slice_get cs n)) (first_page p ps f) ∙ all_passed_at (begins_in [] None) (λ c. within_all (key_of c)) cs n l)
 
     -- of pages that tile a range, the routes have a place just once whose command is no scan and begins in the range
-    once-tiled : (cs : List (Command A)) (n : ℕ) (p : Placed V) (ps : List (Placed V)) (end : Option (List ℕ)) → Tiled (p ∷ ps) end → is_passed is_scan (slice_get cs n) ≡ false
-        → count_of n (all_kept cs (children (names (p ∷ ps)) end)) ≡ cond (is_passed (begins_in p.page.low end) (slice_get cs n)) 1 0
+    once-tiled : (cs : List (Command A)) (n : ℕ) (p : Placed V) (ps : List (Placed V)) (end : Option (List ℕ)) → Tiled (p ∷ ps) end → is_some_that is_scan (slice_get cs n) ≡ false
+        → count_of n (all_kept cs (children (names (p ∷ ps)) end)) ≡ cond (is_some_that (begins_in p.page.low end) (slice_get cs n)) 1 0
     once-tiled cs n p [] end h s =
         let at : Place = record { pid = p.pid; low = p.page.low; end = end } in
         count_kept-cons cs n at [] ∙ rw (point_goes_by p.page.low end (slice_get cs n) s) (omega arith)
@@ -378,9 +379,9 @@ module _ {A : Type 0} where
         ∙ rw (point_goes_by p.page.low (Some q.page.low) (slice_get cs n) s, once-tiled cs n q qs end h.1 s) (begun_counted p.page.low q.page.low end (slice_get cs n) h.0.low (low_is_before q qs end h.1))
 
     -- of pages that tile all keys, they have each such place once
-    pub routes-once : (level : List (Placed V)) (cs : List (Command A)) (place : ℕ) → next_low level None ≡ Some [] → Tiled level None → place < length cs → is_passed is_scan (slice_get cs place) ≡ false
+    pub routes-once : (level : List (Placed V)) (cs : List (Command A)) (place : ℕ) → next_low level None ≡ Some [] → Tiled level None → place < length cs → is_some_that is_scan (slice_get cs place) ≡ false
         → count_by (λ other. nat_eq other place) (flat_map (λ r. r.places) (routes level cs)) ≡ 1
     routes-once [] cs n f h l s = absurd (cc)
     routes-once (p ∷ ps) cs n f h l s =
         once-tiled cs n p ps None h s
-        ∙ ap (λ (b : Bool). cond b 1 0) (ap (λ (k : List ℕ). is_passed (begins_in k None) (slice_get cs n)) (first_page p ps f) ∙ all_passed_at (begins_in [] None) (λ c. within_all (key_of c)) cs n l)
+        ∙ ap (λ (b : Bool). cond b 1 0) (ap (λ (k : List ℕ). is_some_that (begins_in k None) (slice_get cs n)) (first_page p ps f) ∙ all_passed_at (begins_in [] None) (λ c. within_all (key_of c)) cs n l)

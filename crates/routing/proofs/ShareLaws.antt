@@ -8,6 +8,7 @@ use Rattle.std.proofs.lemmas.List.Elements.{filter-append, All-from_recursion}
 use Rattle.keys.specs.Order.{order, IsRising}
 use Rattle.keys.proofs.MapLaws.{total}
 use Rattle.keys.specs.CommandKey.{is_scan}
+use Rattle.keys.specs.Places.{is_some_that, is_scan_at}
 use Rattle.keys.specs.declared.command.Command.{Command}
 use Rattle.keys.specs.declared.command.Command.TheVariants.{Get, Put, Add, Del, Scan}
 use Rattle.index_page.specs.Page.{PageOfKind, first_key, low_of}
@@ -17,7 +18,7 @@ use Rattle.index_page.proofs.ListLaws.{all-append, all_weaker, all_apart}
 use Rattle.index_page.proofs.RangeLaws.{below_is_less, less_is_below}
 use Rattle.index_page.proofs.ChildLaws.{next_key, children-cons, within, not_within_below, not_within_behind}
 use Rattle.routing.specs.BatchKeys.{key_at}
-use Rattle.routing.specs.Routes.{is_passed, is_scan_at, Route, has_some, has_places}
+use Rattle.routing.specs.Routes.{Route, has_some, has_places}
 use Rattle.routing.specs.SortedPlaces.{order_of_places, AreInKeyOrder, reaches, reaches_at}
 use Rattle.routing.specs.Keyed.{Keyed, places_of, AreKeyed, has_key_below}
 use Rattle.routing.specs.Shares.{Share, all_of, Lent, share_of_lent, lent_shares, AreKeyedShares, is_in_range, share_of, shares, root_shares, shares_below, AreNoScans, is_met, CanHandDown, CanHandDownKeyed, CanHandDownShare}
@@ -196,7 +197,7 @@ module _ {A : Type 0} (cs : List (Command A)) where
   point_never low (Del k) s = refl
   point_never low (Scan lo hi limit) s = absurd (cc)
 
-  never_by : (low : List ℕ) (o : Option (Command A)) → is_passed is_scan o ≡ false → is_passed (reaches low) o ≡ false
+  never_by : (low : List ℕ) (o : Option (Command A)) → is_some_that is_scan o ≡ false → is_some_that (reaches low) o ≡ false
   never_by low None h = refl
   never_by low (Some c) h = point_never low c h
 

@@ -16,6 +16,7 @@ use Rattle.keys.specs.Order.{order}
 use Rattle.keys.proofs.Basics.{or_turned}
 use Rattle.keys.proofs.MapLaws.{total}
 use Rattle.keys.specs.CommandKey.{key_of}
+use Rattle.keys.specs.Places.{is_some_that}
 use Rattle.keys.specs.declared.command.Command.{Command}
 use Rattle.keys.specs.declared.command.Command.TheVariants.{Get, Put, Add, Del, Scan}
 use Rattle.index_page.specs.Range.{is_below, is_before, is_within, IsBefore}
@@ -26,7 +27,7 @@ use Rattle.mapping.proofs.PidLaws.{all_among}
 use Rattle.mapping.specs.FreshPids.{is_among}
 use Rattle.routing.specs.BatchKeys.{key_or_empty, key_at}
 use Rattle.routing.specs.Places.{places_below}
-use Rattle.routing.specs.Routes.{goes_to, is_passed, places_from, places_within}
+use Rattle.routing.specs.Routes.{goes_to, places_from, places_within}
 use Rattle.routing.specs.SortedPlaces.{order_of_places, AreInKeyOrder, AreSortedPlaces, begins_in, reaches, reaches_at, AreSortedWithin, AreSortedReaching}
 use Rattle.routing.proofs.RouteLaws.{among-places, goes_as, all_places, within_parts, rising-places_from, among-append}
 use Rattle.routing.proofs.SortLaws.{total_places, holds_among, among-permutation, same_sorted, same_number}
@@ -138,8 +139,8 @@ module _ {A : Type 0} (cs : List (Command A)) where
   IsFromKey k place = is_below (key_at cs place) k ≡ false
 
   parts_by : (o : Option (Command A)) (low mid : List ℕ) (end : Option (List ℕ)) (n : ℕ) (ms ns : List ℕ) → slice_get cs n ≡ o → order low mid ≡ Less → IsBefore end mid
-      → AllByRecursion (IsBelowKey mid) ms → AllByRecursion (IsFromKey mid) ns → (is_among n ms || is_among n ns) ≡ is_passed (begins_in low end) o
-      → (is_among n ms ≡ is_passed (begins_in low (Some mid)) o) × (is_among n ns ≡ is_passed (begins_in mid end) o)
+      → AllByRecursion (IsBelowKey mid) ms → AllByRecursion (IsFromKey mid) ns → (is_among n ms || is_among n ns) ≡ is_some_that (begins_in low end) o
+      → (is_among n ms ≡ is_some_that (begins_in low (Some mid)) o) × (is_among n ns ≡ is_some_that (begins_in mid end) o)
   parts_by None low mid end n ms ns p l m a b e = neither (is_among n ms) (is_among n ns) e
   parts_by (Some c) low mid end n ms ns p l m a b e =
       let k = key_of c in
@@ -192,7 +193,7 @@ module _ {A : Type 0} (cs : List (Command A)) where
   -- ---- what begins in a page, and what reaches it
 
   -- a scan that reaches a page begins below its low key
-  reaching_below_by : (low : List ℕ) (o : Option (Command A)) → is_passed (reaches low) o ≡ true → is_below (key_or_empty o) low ≡ true
+  reaching_below_by : (low : List ℕ) (o : Option (Command A)) → is_some_that (reaches low) o ≡ true → is_below (key_or_empty o) low ≡ true
   reaching_below_by low None h = absurd (cc)
   reaching_below_by low (Some (Get k)) h = absurd (cc)
   reaching_below_by low (Some (Put k v)) h = absurd (cc)
@@ -203,12 +204,12 @@ module _ {A : Type 0} (cs : List (Command A)) where
   pub reaching_below : (low : List ℕ) (place : ℕ) → reaches_at cs low place ≡ true → IsBelowKey low place
   reaching_below low place h = reaching_below_by low (slice_get cs place) h
 
-  begun_from_by : (low : List ℕ) (end : Option (List ℕ)) (o : Option (Command A)) → is_passed (begins_in low end) o ≡ true → is_below (key_or_empty o) low ≡ false
+  begun_from_by : (low : List ℕ) (end : Option (List ℕ)) (o : Option (Command A)) → is_some_that (begins_in low end) o ≡ true → is_below (key_or_empty o) low ≡ false
   begun_from_by low end None h = absurd (cc)
   begun_from_by low end (Some c) h = (parts_within low end (key_of c) h).0
 
   -- what passes is all that is there
-  only_passed : (passes : Command A → Bool) (P : ℕ → Type 0) → ((n : ℕ) → is_passed passes (slice_get cs n) ≡ true → P n) → (ps : List ℕ) → ((n : ℕ) → is_among n ps ≡ is_among n (places_from 0 passes cs)) → AllByRecursion P ps
+  only_passed : (passes : Command A → Bool) (P : ℕ → Type 0) → ((n : ℕ) → is_some_that passes (slice_get cs n) ≡ true → P n) → (ps : List ℕ) → ((n : ℕ) → is_among n ps ≡ is_among n (places_from 0 passes cs)) → AllByRecursion P ps
   only_passed passes P f ps own = all_weaker (λ n. is_among n ps ≡ true) P (λ n h. f n (sym (among-places n passes cs) ∙ sym (own n) ∙ h)) ps (all_among ps)
 
   pub all_reaching_below : (low : List ℕ) (rs : List ℕ) → AreSortedReaching low cs rs → AllByRecursion (IsBelowKey low) rs
@@ -228,7 +229,7 @@ module _ {A : Type 0} (cs : List (Command A)) where
   in_order-append low (r ∷ rs) ps a b s t =
       (all-append (λ p. order_of_places cs r p ≡ Less) rs ps s.0 (before_all low r ps a.0 b), in_order-append low rs ps a.1 b s.1 t)
 
-  both_go : (low : List ℕ) (end : Option (List ℕ)) (o : Option (Command A)) → (is_passed (reaches low) o || is_passed (begins_in low end) o) ≡ is_passed (goes_to low end) o
+  both_go : (low : List ℕ) (end : Option (List ℕ)) (o : Option (Command A)) → (is_some_that (reaches low) o || is_some_that (begins_in low end) o) ≡ is_some_that (goes_to low end) o
   both_go low end None = refl
   both_go low end (Some c) = or_turned (reaches low c) (begins_in low end c) ∙ sym (goes_as low end c)
 
@@ -250,7 +251,7 @@ module _ {A : Type 0} (cs : List (Command A)) where
   -- ---- which of them go on
 
   -- what reaches a page begins in the one before it, or reaches that
-  onward_is : (low mid : List ℕ) (o : Option (Command A)) → order low mid ≡ Less → ((is_passed (reaches low) o || is_passed (begins_in low (Some mid)) o) && is_passed (reaches mid) o) ≡ is_passed (reaches mid) o
+  onward_is : (low mid : List ℕ) (o : Option (Command A)) → order low mid ≡ Less → ((is_some_that (reaches low) o || is_some_that (begins_in low (Some mid)) o) && is_some_that (reaches mid) o) ≡ is_some_that (reaches mid) o
   onward_is low mid None l = refl
   onward_is low mid (Some (Get k)) l = none_pass (is_within low (Some mid) k)
   onward_is low mid (Some (Put k v)) l = none_pass (is_within low (Some mid) k)
@@ -268,7 +269,7 @@ module _ {A : Type 0} (cs : List (Command A)) where
     in_order = IsStrictlySortedBy-filter (order_of_places cs) (reaches_at cs mid) (rs ++ ps) (both_in_order low (Some mid) rs ps r h);
   }
 
-  pub none_reach_by : (o : Option (Command A)) → is_passed (reaches []) o ≡ false
+  pub none_reach_by : (o : Option (Command A)) → is_some_that (reaches []) o ≡ false
   none_reach_by None = refl
   none_reach_by (Some (Get k)) = refl
   none_reach_by (Some (Put k v)) = refl

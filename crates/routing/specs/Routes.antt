@@ -1,8 +1,8 @@
 -- Which commands go to which page of a level.
-use Rattle.std.specs.Prelude.{◌≡◌, ℕ, suc, ◌<◌, Bool, true, false, ◌||◌, List, [], ◌∷◌, map, length, slice_get, Option, Some, None, if◌then◌else◌}
+use Rattle.std.specs.Prelude.{◌≡◌, ℕ, suc, ◌<◌, Bool, true, false, ◌||◌, List, [], ◌∷◌, map, length, slice_get, Option, None, if◌then◌else◌}
 use Rattle.std.specs.List.{AllByRecursion, filter}
 use Rattle.std.specs.List.Sorted.{IsStrictlyIncreasing}
-use Rattle.keys.specs.CommandKey.{is_scan}
+use Rattle.keys.specs.Places.{is_some_that}
 use Rattle.keys.specs.declared.command.Command.{Command}
 use Rattle.keys.specs.declared.command.Command.TheVariants.{Get, Put, Add, Del, Scan}
 use Rattle.index_page.specs.Range.{is_within}
@@ -18,18 +18,9 @@ goes_to low end (Add k v) = is_within low end k
 goes_to low end (Del k) = is_within low end k
 goes_to low end (Scan lo hi limit) = is_within low end lo || is_between lo hi low
 
--- whether there is an item, and it passes
-abbrev pub is_passed : {X : Type 0} → (X → Bool) → Option X → Bool
-is_passed passes None = false
-is_passed passes (Some x) = passes x
-
 -- whether the command at this place goes to the page with this range
 abbrev pub goes_at : {A : Type 0} → List (Command A) → List ℕ → Option (List ℕ) → ℕ → Bool
-goes_at cs low end place = is_passed (goes_to low end) (slice_get cs place)
-
--- whether a scan stands at this place
-abbrev pub is_scan_at : {A : Type 0} → List (Command A) → ℕ → Bool
-is_scan_at cs place = is_passed is_scan (slice_get cs place)
+goes_at cs low end place = is_some_that (goes_to low end) (slice_get cs place)
 
 -- the places, counted from this number on, of the items that pass
 abbrev pub places_from : {X : Type 0} → ℕ → (X → Bool) → List X → List ℕ

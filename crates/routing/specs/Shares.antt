@@ -3,6 +3,7 @@ use Rattle.std.specs.Prelude.{◌≡◌, ℕ, ◌<◌, Bool, true, false, ◌||�
 use Rattle.std.specs.List.{AllByRecursion, IsDistinct, filter, list_any}
 use Rattle.std.specs.List.Sorted.{IsPermutation, IsNonDecreasing}
 use Rattle.keys.specs.Order.{IsRising}
+use Rattle.keys.specs.Places.{is_scan_at}
 use Rattle.keys.specs.declared.command.Command.{Command}
 use Rattle.index_page.specs.Page.{PageOfKind, first_key, low_of}
 use Rattle.index_page.specs.Page.PageOfKind.{Index}
@@ -12,7 +13,7 @@ use Rattle.mapping.specs.Tree.{page_at}
 use Rattle.mapping.specs.Levels.{as_index}
 use Rattle.routing.specs.BatchKeys.{key_at}
 use Rattle.routing.specs.Keyed.{Keyed, places_of, AreKeyed}
-use Rattle.routing.specs.Routes.{is_scan_at, Route, has_some}
+use Rattle.routing.specs.Routes.{Route, has_some}
 use Rattle.routing.specs.SortedPlaces.{AreInKeyOrder, reaches_at}
 
 -- a page's pid, the places of the commands that begin in the page, and those of the scans that reach it from the left
@@ -107,13 +108,13 @@ abbrev pub index_under : List (ℕ × PageOfKind) → ℕ → PageOfKind
 index_under pages pid = Index (as_index (page_at pages pid))
 
 -- a share of an index page that can be handed down
-pub record IsReady {A : Type 0} (pages : List (ℕ × PageOfKind)) (cs : List (Command A)) (s : Share) : Type 0 where
+pub record IsReadyShare {A : Type 0} (pages : List (ℕ × PageOfKind)) (cs : List (Command A)) (s : Share) : Type 0 where
   pub held : page_at pages s.pid ≡ Some (index_under pages s.pid)
   pub share : CanHandDownShare cs (index_under pages s.pid) s
 
 -- shares of index pages that can be handed down, with their keys
-pub record AreReady {A : Type 0} (pages : List (ℕ × PageOfKind)) (cs : List (Command A)) (shares : List Lent) : Type 0 where
-  pub each : AllByRecursion (IsReady pages cs) (lent_shares shares)
+pub record AreReadyShares {A : Type 0} (pages : List (ℕ × PageOfKind)) (cs : List (Command A)) (shares : List Lent) : Type 0 where
+  pub each : AllByRecursion (IsReadyShare pages cs) (lent_shares shares)
   pub keys : AreKeyedShares cs shares
 
 -- what becomes of a share: the shares of its page's children

@@ -5,6 +5,7 @@ use Rattle.std.specs.Ordering.{nat_cmp, ordering_then}
 use Rattle.std.specs.List.Sorted.{IsPermutation, IsStrictlySortedBy}
 use Rattle.keys.specs.Order.{order}
 use Rattle.keys.specs.CommandKey.{key_of}
+use Rattle.keys.specs.Places.{is_some_that}
 use Rattle.keys.specs.declared.command.Command.{Command}
 use Rattle.keys.specs.declared.command.Command.TheVariants.{Get, Put, Add, Del, Scan}
 use Rattle.index_page.specs.Range.{is_within}
@@ -12,7 +13,7 @@ use Rattle.index_page.specs.Children.{is_between}
 use Rattle.mapping.specs.FreshPids.{is_among}
 use Rattle.routing.specs.BatchKeys.{key_at}
 use Rattle.routing.specs.Places.{places_below}
-use Rattle.routing.specs.Routes.{is_passed, places_from}
+use Rattle.routing.specs.Routes.{places_from}
 
 -- how two places stand to each other: by the keys of their commands, and where these are equal by the places
 abbrev pub order_of_places : {A : Type 0} → List (Command A) → ℕ → ℕ → Ordering
@@ -41,7 +42,7 @@ reaches low (Scan lo hi limit) = is_between lo hi low
 
 -- whether the command at this place does
 abbrev pub reaches_at : {A : Type 0} → List (Command A) → List ℕ → ℕ → Bool
-reaches_at cs low place = is_passed (reaches low) (slice_get cs place)
+reaches_at cs low place = is_some_that (reaches low) (slice_get cs place)
 
 -- the places of the commands that begin in the page with this range, in the order of their keys
 pub record AreSortedWithin {A : Type 0} (low : List ℕ) (end : Option (List ℕ)) (cs : List (Command A)) (ps : List ℕ) : Type 0 where

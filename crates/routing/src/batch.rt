@@ -4,8 +4,8 @@ ghost use Rattle.std.specs.List.{list_any};
 ghost use Rattle.std.specs.Option.{option_copied};
 ghost use Rattle.keys.specs.CommandKey.{is_scan};
 ghost use Rattle.keys.specs.Narrowed.{first_end, with_ends};
+ghost use Rattle.keys.specs.Places.{is_scan_at};
 ghost use Rattle.routing.specs.BatchKeys.{key_at};
-ghost use Rattle.routing.specs.Routes.{is_scan_at};
 ghost use Rattle.routing.specs.SortedPlaces.{reaches_at};
 
 use crate::reaching::reaches;

@@ -11,7 +11,7 @@ ghost use Rattle.mapping.specs.TreeInMemory.{AreAllHome, tree_of};
 ghost use Rattle.routing.specs.Keyed.{places_of, AreKeyed};
 ghost use Rattle.routing.specs.Routes.{routes};
 ghost use Rattle.routing.specs.SortedPlaces.{AreSortedPlaces};
-ghost use Rattle.routing.specs.Shares.{share_of_lent, lent_shares, all_of, root_shares, shares_below, next_key, CanHandDownKeyed, CanHandDownShare, is_met, AreNoScans, AreReady, AreKeyedShares, share_below, HasEachPlaceOnce, AreInBatchOrder};
+ghost use Rattle.routing.specs.Shares.{share_of_lent, lent_shares, all_of, root_shares, shares_below, next_key, CanHandDownKeyed, CanHandDownShare, is_met, AreNoScans, AreReadyShares, AreKeyedShares, share_below, HasEachPlaceOnce, AreInBatchOrder};
 
 use crate::batch::BatchWithEnds;
 use crate::page_run::PageRun;
@@ -96,7 +96,7 @@ fn one_level_down<'a, 'k>(
 ) -> Result<Vec<Share<'a, 'k>>, AllocError>
     requires home { AreAllHome tree.now }
     requires scanned { scanned ≡ list_any is_scan batch.now }
-    requires ready { AreReady (tree_of tree.now).pages batch.now shares.now }
+    requires ready { AreReadyShares (tree_of tree.now).pages batch.now shares.now }
     ensures shares { IfOk result (λ below. lent_shares below.items ≡
         flat_map (share_below (tree_of tree.now).pages batch.now) (lent_shares shares.now)) }
     ensures keys { IfOk result (λ below. AreKeyedShares batch.now below.items) }

@@ -4,6 +4,7 @@ ghost use Rattle.std.specs.declared.cmp.Ordering.TheVariants.{Less};
 ghost use Rattle.std.specs.List.{AllByRecursion, filter};
 ghost use Rattle.std.specs.List.Sorted.{IsPermutation, IsNonDecreasing};
 ghost use Rattle.keys.specs.Order.{order};
+ghost use Rattle.keys.specs.Places.{is_scan_at};
 ghost use Rattle.keys.specs.declared.command.Command.{Command};
 ghost use Rattle.keys.specs.declared.command.Command.TheVariants.{Scan};
 ghost use Rattle.index_page.specs.Children.{Place, meets};
@@ -12,7 +13,7 @@ ghost use Rattle.mapping.specs.FreshPids.{is_among};
 ghost use Rattle.mapping.specs.Levels.{Placed};
 ghost use Rattle.mapping.specs.Proper.{next_low, Tiled};
 ghost use Rattle.routing.specs.BatchKeys.{key_at};
-ghost use Rattle.routing.specs.Routes.{goes_to, is_scan_at, places_within, ranges, routes, AreRoutesTo};
+ghost use Rattle.routing.specs.Routes.{goes_to, places_within, ranges, routes, AreRoutesTo};
 ghost use Rattle.routing.specs.SortedPlaces.{reaches_at, AreSortedPlaces, AreSortedWithin, AreSortedReaching};
 
 use std::alloc::Allocator;

@@ -3,9 +3,9 @@ ghost use Rattle.std.specs.Prelude.{◌≡◌, ◌++◌, IfOk};
 ghost use Rattle.std.specs.List.{filter, list_any};
 ghost use Rattle.std.specs.Option.{option_copied, option_or};
 ghost use Rattle.keys.specs.Narrowed.{with_end};
+ghost use Rattle.keys.specs.Places.{is_scan_at};
 ghost use Rattle.index_page.specs.Range.{is_before};
 ghost use Rattle.routing.specs.Keyed.{places_of};
-ghost use Rattle.routing.specs.Routes.{is_scan_at};
 ghost use Rattle.routing.specs.SortedPlaces.{reaches, reaches_at};
 
 use crate::batch::BatchWithEnds;

@@ -20,8 +20,8 @@ use Rattle.keys.proofs.MapLaws.{total, passes_same}
 use Rattle.keys.proofs.RangeLaws.{none_in_range}
 use Rattle.delta_chain.specs.Layers.{Layers, with_change, with_run, entries_under, entries_of}
 use Rattle.index_page.proofs.RangeLaws.{less_is_below, below_is_less, less_through, not_below_lower}
-use Rattle.page_search.specs.Places as places
-use Rattle.scan.specs.Ends.{deleted_by, deleted, count_within, count_below, LacksAtMost, AreCertain, keyed_below, named_under, named_below}
+use Rattle.page_search.specs.Places.{count_below}
+use Rattle.scan.specs.Ends.{deleted_by, deleted, count_within, LacksAtMost, AreCertain, keyed_below, named_below_under, named_below}
 
 -- ---- how many are kept of a list, one element at a time
 
@@ -110,7 +110,10 @@ parted_keys key keys s = λ i j d l w h.
 
 -- those within a range are those below its end, but for those below its start
 pub count_between : (low end : List ℕ) (keys : List (List ℕ)) → is_below low end ≡ true → count_within low end keys + count_below low keys ≡ count_below end keys
-count_between low end keys h = apart (λ k. is_below k low) (λ k. is_below k end) keys (λ k b. below_through k low end b h)
+count_between low end keys h =
+    ap (λ (n : ℕ). count_within low end keys + n) (sym (length-filter (λ k. is_below k low) keys))
+    ∙ apart (λ k. is_below k low) (λ k. is_below k end) keys (λ k b. below_through k low end b h)
+    ∙ length-filter (λ k. is_below k end) keys
 
 -- ---- what commands leave in a range
 
@@ -251,7 +254,7 @@ module _ (lo : List ℕ) where
       omega (arith, one, rest, parts)
 
   -- no more entries are below a key than are named below it
-  pub entries_below : (runs : List (List (List ℕ × Option (List ℕ)))) (base : Pairs) → length (Below (entries_under runs base)) ≤ named_under lo runs base
+  pub entries_below : (runs : List (List (List ℕ × Option (List ℕ)))) (base : Pairs) → length (Below (entries_under runs base)) ≤ named_below_under lo runs base
   entries_below [] base = omega arith
   entries_below (run ∷ runs) base =
       let here = run_adds (entries_under runs base) run in
@@ -267,7 +270,7 @@ module _ (lo : List ℕ) where
   below-keys (e ∷ es) = keys_by (is_below e.0 lo) e e.0 (Below es) (filter (λ k. is_below k lo) (keys_of es)) (below-keys es)
 
   -- what a search in a list finds
-  pub below-place : {X : Type 0} (es : List (List ℕ × X)) (n : ℕ) → n ≡ places.count_below lo (keys_of es) → keyed_below lo es ≡ n
+  pub below-place : {X : Type 0} (es : List (List ℕ × X)) (n : ℕ) → n ≡ count_below lo (keys_of es) → keyed_below lo es ≡ n
   below-place es n h = below-keys es ∙ length-filter (λ k. is_below k lo) (keys_of es) ∙ sym h
 
   parted_by : (w b c : Bool) (e : List ℕ × List ℕ) (es rest : Pairs) → is_below e.0 lo ≡ b → (w ≡ true → c ≡ true) → length es ≤ length (Below es) + length rest
@@ -307,15 +310,15 @@ none_behind lo low end n b =
 
 -- ---- the lists of a leaf, counted one after the other up to the greatest number
 
-pub one_list_more : (most named place new all : ℕ) (key : List ℕ) (p below : Layers (List ℕ)) (run : List (List ℕ × Option (List ℕ))) → p ≡ record below { runs = run ∷ below.runs } → place ≡ places.count_below key (keys_of run)
+pub one_list_more : (most named place new all : ℕ) (key : List ℕ) (p below : Layers (List ℕ)) (run : List (List ℕ × Option (List ℕ))) → p ≡ record below { runs = run ∷ below.runs } → place ≡ count_below key (keys_of run)
     → new ≡ min (named + place) most → min (named + named_below key p) most ≡ min all most → min (new + named_below key below) most ≡ min all most
 one_list_more most named place new all key p below run e c s h =
     let whole : named_below key p ≡ named_below key below + keyed_below key run = ap (named_below key) e in
     let here : keyed_below key run ≡ place = below-place key run place c in
     omega (arith, whole, here, s, h)
 
-pub last_list : (most named place new all : ℕ) (key : List ℕ) (p : Layers (List ℕ)) → p.runs ≡ [] → place ≡ places.count_below key (keys_of p.base) → new ≡ min (named + place) most → min (named + named_below key p) most ≡ min all most → new ≡ min all most
+pub last_list : (most named place new all : ℕ) (key : List ℕ) (p : Layers (List ℕ)) → p.runs ≡ [] → place ≡ count_below key (keys_of p.base) → new ≡ min (named + place) most → min (named + named_below key p) most ≡ min all most → new ≡ min all most
 last_list most named place new all key p e c s h =
-    let whole : named_below key p ≡ keyed_below key p.base = ap (λ (runs : List (List (List ℕ × Option (List ℕ)))). named_under key runs p.base) e in
+    let whole : named_below key p ≡ keyed_below key p.base = ap (λ (runs : List (List (List ℕ × Option (List ℕ)))). named_below_under key runs p.base) e in
     let here : keyed_below key p.base ≡ place = below-place key p.base place c in
     omega (arith, whole, here, s, h)

@@ -12,7 +12,7 @@ use Rattle.keys.specs.Range.{is_below}
 use Rattle.keys.proofs.Basics.{less_by}
 use Rattle.keys.proofs.MapLaws.{IsBelowAll, below_all, same_key, flipped_less, flipped_greater}
 use Rattle.delta_chain.specs.Layers.{said_or, with_run}
-use Rattle.delta_chain.specs.Merging.{present, first_order, asserted, said_by}
+use Rattle.delta_chain.specs.Merging.{pair_if, first_order, asserted, said_by}
 use Rattle.delta_chain.proofs.LayerLaws.{value_at-with_run}
 use Rattle.delta_chain.proofs.Merges.{first_stays, first_goes, change_stays}
 use Rattle.delta_chain.proofs.Places.{drop_pair}
@@ -94,17 +94,17 @@ module _ {V : Type 0} where
       flipped_less k f.0 (rw (sym same) r.0.0)
 
   next_by : (o : Ordering) (e : List ℕ × V) (es : List (List ℕ × V)) (c : List ℕ × Option V) (cs : List (List ℕ × Option V)) → order e.0 c.0 ≡ o → is_lt o ≡ false → IsRising (e ∷ es) → IsRising (c ∷ cs)
-      → with_run (e ∷ es) (c ∷ cs) ≡ present c.0 c.1 ++ with_run (behind c.0 (e ∷ es)) cs
+      → with_run (e ∷ es) (c ∷ cs) ≡ pair_if c.0 c.1 ++ with_run (behind c.0 (e ∷ es)) cs
   unfolding IsStrictlySortedBy
   next_by Less e es c cs h n r s = absurd (cc)
   next_by Equal e es c cs h n r s =
       first_goes e es c cs r h ∙ change_stays es c cs r.1 s (greater_first c.0 e es r h)
-      ∙ ap (λ (x : List (List ℕ × V)). present c.0 c.1 ++ with_run x cs) (sym (past_first c.0 e es r h))
+      ∙ ap (λ (x : List (List ℕ × V)). pair_if c.0 c.1 ++ with_run x cs) (sym (past_first c.0 e es r h))
   next_by Greater e es c cs h n r s =
-      change_stays (e ∷ es) c cs r s h ∙ ap (λ (x : List (List ℕ × V)). present c.0 c.1 ++ with_run x cs) (sym (before_first c.0 e es r h))
+      change_stays (e ∷ es) c cs r s h ∙ ap (λ (x : List (List ℕ × V)). pair_if c.0 c.1 ++ with_run x cs) (sym (before_first c.0 e es r h))
 
   -- a change before which no pair stands comes next, and the pair that has its key goes
-  pub change_next : (es : List (List ℕ × V)) (c : List ℕ × Option V) (cs : List (List ℕ × Option V)) → IsRising es → IsRising (c ∷ cs) → StartsFrom c.0 es → with_run es (c ∷ cs) ≡ present c.0 c.1 ++ with_run (behind c.0 es) cs
+  pub change_next : (es : List (List ℕ × V)) (c : List ℕ × Option V) (cs : List (List ℕ × Option V)) → IsRising es → IsRising (c ∷ cs) → StartsFrom c.0 es → with_run es (c ∷ cs) ≡ pair_if c.0 c.1 ++ with_run (behind c.0 es) cs
   change_next [] c cs r s n = change_stays [] c cs r s refl
   change_next (e ∷ es) c cs r s n = next_by (order e.0 c.0) e es c cs refl n r s
 

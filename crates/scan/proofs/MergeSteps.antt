@@ -11,12 +11,12 @@ use Rattle.keys.specs.Order.{order, IsRising}
 use Rattle.keys.proofs.Basics.{less_by}
 use Rattle.keys.proofs.MapLaws.{order_itself}
 use Rattle.delta_chain.specs.Layers.{Layers, with_run, entries_of, IsInOrder}
-use Rattle.delta_chain.specs.Merging.{present, first_order, said_by}
+use Rattle.delta_chain.specs.Merging.{pair_if, first_order, said_by}
 use Rattle.delta_chain.proofs.Merges.{rising_behind, first_stays}
 use Rattle.delta_chain.proofs.Places.{front_under}
 use Rattle.page_search.specs.Places.{count_below}
 use Rattle.scan.specs.Leaf.{from, behind}
-use Rattle.scan.specs.Merge.{StartsFrom, BeginsWith, ArePairsNext, changes_after, IsMerge}
+use Rattle.scan.specs.Merge.{StartsFrom, ArePairsNext, changes_after, IsMerge, StartsAt}
 use Rattle.scan.proofs.MergeLaws.{drop-count_below, change_at, past_first, before_first, change_next, newest_first, older_first, said_behind, all_start}
 use Rattle.scan.proofs.PassingLaws.{said_by-rises, rising-behind_all, rising-from_all, rising-base_of, from-entries}
 
@@ -85,18 +85,18 @@ module _ {V : Type 0} where
   pub least_same : (o : Option (List ℕ × Option V)) (runs : List (Changes V)) (at : ℕ) (l : Changes V) → 0 < at → at ≤ length runs → l ≡ slice_index_or runs (at - 1) l → None ≡ slice_get l 0 → o ≡ slice_get (said_by (drop at runs)) 0 → o ≡ slice_get (said_by (drop (at - 1) runs)) 0
   least_same o runs at l p w i n h = said_empty o l (drop at runs) n h ∙ ap (λ (x : List (Changes V)). slice_get (said_by x) 0) (sym (front_item runs at l p w i))
 
-  begins_with : (l : Changes V) (c : List ℕ × Option V) → Some c ≡ slice_get l 0 → BeginsWith c.0 l
+  begins_with : (l : Changes V) (c : List ℕ × Option V) → Some c ≡ slice_get l 0 → StartsAt c.0 l
   begins_with [] c h = absurd (cc)
   begins_with (e ∷ es) c h = let first : c ≡ e = cc in rw first (order_itself e.0)
 
   -- a run begins with its first change, wherever it stands among the runs
-  pub begins_at : (runs : List (Changes V)) (at : ℕ) (l : Changes V) (c : List ℕ × Option V) → l ≡ slice_index_or runs at l → Some c ≡ slice_get l 0 → at < length runs → BeginsWith c.0 (slice_index_or runs at [])
+  pub begins_at : (runs : List (Changes V)) (at : ℕ) (l : Changes V) (c : List ℕ × Option V) → l ≡ slice_index_or runs at l → Some c ≡ slice_get l 0 → at < length runs → StartsAt c.0 (slice_index_or runs at [])
   begins_at [] at l c i h n = absurd (omega arith)
   begins_at (r ∷ runs) zero l c i h n = rw (sym i) (begins_with l c h)
   begins_at (r ∷ runs) (suc at) l c i h n = begins_at runs at l c i h (omega arith)
 
   -- a list whose first key is k goes past it
-  pub head_passed : (k : List ℕ) (es : List (List ℕ × V)) → IsRising es → BeginsWith k es → drop 1 es ≡ behind k es
+  pub head_passed : (k : List ℕ) (es : List (List ℕ × V)) → IsRising es → StartsAt k es → drop 1 es ≡ behind k es
   head_passed k [] r h = absurd (cc)
   head_passed k (e ∷ es) r h = sym (past_first k e es r h)
 
@@ -191,12 +191,12 @@ module _ {V : Type 0} where
 
   -- a change taken
   pub change_taken : (k : List ℕ) (o : Option V) (es later : List (List ℕ × V)) (cs changes : Changes V) (runs : List (Changes V)) → IsRising es → IsRising cs → cs ≡ (k, o) ∷ said_by runs → said_by runs ≡ changes → StartsFrom k es → later ≡ behind k es
-      → (with_run es cs ≡ present k o ++ with_run later changes) × (length changes < length cs)
+      → (with_run es cs ≡ pair_if k o ++ with_run later changes) × (length changes < length cs)
   change_taken k o es later cs changes runs r s h g n b =
       let s' : IsRising ((k, o) ∷ said_by runs) = subst (λ (x : Changes V). IsRising x) h s in
       let count : length cs ≡ suc (length changes) = ap length h ∙ ap (λ (x : Changes V). suc (length x)) g in (
         ap (λ (x : Changes V). with_run es x) h ∙ change_next es (k, o) (said_by runs) r s' n
-            ∙ ap (λ (x : Changes V). present k o ++ with_run (behind k es) x) g ∙ ap (λ (x : List (List ℕ × V)). present k o ++ with_run x changes) (sym b),
+            ∙ ap (λ (x : Changes V). pair_if k o ++ with_run (behind k es) x) g ∙ ap (λ (x : List (List ℕ × V)). pair_if k o ++ with_run x changes) (sym b),
         omega arith,
       )
 

@@ -22,10 +22,6 @@ deleted cs = flat_map deleted_by cs
 abbrev pub count_within : List ℕ → List ℕ → List (List ℕ) → ℕ
 count_within low end keys = length (filter (λ k. is_within low (Some end) k) keys)
 
--- how many of the keys are below this one
-abbrev pub count_below : List ℕ → List (List ℕ) → ℕ
-count_below key keys = length (filter (λ k. is_below k key) keys)
-
 -- in each range, the second map lacks at most as many of the first one's pairs as there are of these keys
 abbrev pub LacksAtMost : List (List ℕ) → List (List ℕ × List ℕ) → List (List ℕ × List ℕ) → Type 0
 LacksAtMost keys m n = (low end : List ℕ) → length (in_range low (Some end) m) ≤ length (in_range low (Some end) n) + count_within low end keys
@@ -39,10 +35,10 @@ abbrev pub keyed_below : {X : Type 0} → List ℕ → List (List ℕ × X) → 
 keyed_below key es = length (filter (λ e. is_below e.0 key) es)
 
 -- how many keys runs and a base name below this one, each list by itself
-abbrev pub named_under : List ℕ → List (List (List ℕ × Option (List ℕ))) → List (List ℕ × List ℕ) → ℕ
-named_under key [] base = keyed_below key base
-named_under key (run ∷ runs) base = named_under key runs base + keyed_below key run
+abbrev pub named_below_under : List ℕ → List (List (List ℕ × Option (List ℕ))) → List (List ℕ × List ℕ) → ℕ
+named_below_under key [] base = keyed_below key base
+named_below_under key (run ∷ runs) base = named_below_under key runs base + keyed_below key run
 
 -- and those of a page
 abbrev pub named_below : List ℕ → Layers (List ℕ) → ℕ
-named_below key p = named_under key p.runs p.base
+named_below key p = named_below_under key p.runs p.base

@@ -32,8 +32,8 @@ StartsFrom k [] = ⊤
 StartsFrom k (e ∷ es) = is_below e.0 k ≡ false
 
 -- the first key is k
-abbrev pub BeginsWith : {V : Type 0} → List ℕ → List (List ℕ × V) → Type 0
-BeginsWith k es = first_order es k ≡ Equal
+abbrev pub StartsAt : {V : Type 0} → List ℕ → List (List ℕ × V) → Type 0
+StartsAt k es = first_order es k ≡ Equal
 
 -- what a merge keeps in order: its changes, each of its runs, and its base
 pub record IsMerge (cs : List (List ℕ × Option (List ℕ))) (rs : List (List (List ℕ × Option (List ℕ)))) (es : List (List ℕ × List ℕ)) : Type 0 where

@@ -11,9 +11,9 @@ use Rattle.mapping.specs.Tree.{page_at}
 use Rattle.mapping.specs.Levels.{joined, as_leaf, as_index, index_at}
 
 -- the pids of children that are left, where there is such a list
-abbrev pub pids_of : Option (List (List ℕ × ℕ)) → List ℕ
-pids_of None = []
-pids_of (Some es) = values_of es
+abbrev pub pids_left : Option (List (List ℕ × ℕ)) → List ℕ
+pids_left None = []
+pids_left (Some es) = values_of es
 
 -- the entries of the index page under a pid
 abbrev pub entries_at : List (ℕ × PageOfKind) → ℕ → List (List ℕ × ℕ)

@@ -6,7 +6,7 @@ ghost use Rattle.scan.specs.Leaf.{from, behind};
 ghost use Rattle.scan.specs.Ahead.{changes_of};
 ghost use Rattle.scan.specs.Merge.{StartsFrom};
 
-use delta_chain::{Keyed, Run};
+use delta_chain::{KeyList, Run};
 use keys::{KeyRef, Value};
 use page_search::{Probes, place};
 use std::alloc::Global;
@@ -101,7 +101,7 @@ fn head_at<'a>(run: &'a Run<Value<Global>, Global>, at: usize) -> Option<Head<'a
 }
 
 // The place of the first key that isn't below this one. It is found by halves; no key is below the empty one.
-pub(crate) fn place_from<L: Keyed>(list: &L, key: &[u8]) -> usize
+pub(crate) fn place_from<L: KeyList>(list: &L, key: &[u8]) -> usize
     ensures place { result ≡ count_below key.now (L.keys list.now) }
     ensures rising { AreRisingKeys (L.keys list.now) }
 {

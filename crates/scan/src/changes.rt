@@ -6,7 +6,7 @@ ghost use Rattle.keys.specs.Order.{IsRising};
 ghost use Rattle.delta_chain.specs.Layers.{depth_of};
 ghost use Rattle.delta_chain.specs.Merging.{said_by};
 ghost use Rattle.scan.specs.Leaf.{from, behind};
-ghost use Rattle.scan.specs.Merge.{StartsFrom, BeginsWith};
+ghost use Rattle.scan.specs.Merge.{StartsFrom, StartsAt};
 
 use crate::ahead::{Ahead, Change};
 use delta_chain::Chain;
@@ -48,7 +48,7 @@ pub(crate) fn next_change<'a>(runs: &mut Runs<'a>) -> Option<Change<'a>>
 fn least<'a>(runs: &[Ahead<'a>]) -> Option<(usize, Change<'a>)>
     requires { AllByRecursion IsRising runs.now }
     ensures change { option_map (λ f. (f.1.0, option_copied f.1.1)) result ≡ slice_get (said_by runs.now) 0 }
-    ensures place { IfSome result (λ f. BeginsWith f.1.0 (slice_index_or runs.now f.0 [])) }
+    ensures place { IfSome result (λ f. StartsAt f.1.0 (slice_index_or runs.now f.0 [])) }
 {
     let mut least: Option<Change<'a>> = None;
     let mut place = 0;
@@ -80,7 +80,7 @@ fn least<'a>(runs: &[Ahead<'a>]) -> Option<(usize, Change<'a>)>
 // Each run goes past this key, and none is behind it. The run at the place begins with it, so that the key's bytes needn't be
 // looked at there.
 fn pass_all<'a>(runs: &mut [Ahead<'a>], place: usize, key: &KeyRef<'_>)
-    requires place { BeginsWith key.now (slice_index_or runs.old place []) }
+    requires place { StartsAt key.now (slice_index_or runs.old place []) }
     requires starts { AllByRecursion (StartsFrom key.now) runs.old }
     requires rising { AllByRecursion IsRising runs.old }
     ensures { runs.new ≡ map (behind key.now) runs.old }

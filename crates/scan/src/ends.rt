@@ -8,11 +8,12 @@ ghost use Rattle.keys.specs.Narrowed.{IsEnough, MayEndAt, MayEndAtAll};
 ghost use Rattle.keys.specs.Order.{order};
 ghost use Rattle.keys.specs.Range.{is_below, in_range};
 ghost use Rattle.delta_chain.specs.Layers.{entries_of};
+ghost use Rattle.page_search.specs.Places.{count_below};
 ghost use Rattle.mapping.specs.Levels.{levels_of, names, contents};
 ghost use Rattle.mapping.specs.Proper.{AreLevels, HoldsLevels};
 ghost use Rattle.mapping.specs.Tree.{most_levels};
 ghost use Rattle.mapping.specs.TreeInMemory.{AreAllHome, tree_of};
-ghost use Rattle.scan.specs.Ends.{deleted, count_within, count_below, LacksAtMost, AreCertain, named_below};
+ghost use Rattle.scan.specs.Ends.{deleted, count_within, LacksAtMost, AreCertain, named_below};
 
 use crate::ahead::place_from;
 use crate::leaves::Leaves;

@@ -2,7 +2,7 @@ ghost use Rattle.std.specs.Prelude.{◌≡◌, []};
 ghost use Rattle.std.specs.Iterator.{YieldsFirstBy, item_count};
 ghost use Rattle.delta_chain.specs.Layers.{entries_of};
 ghost use Rattle.scan.specs.Leaf.{from};
-ghost use Rattle.scan.specs.Kept.{pairs_of};
+ghost use Rattle.scan.specs.Ways.{pairs_of_way};
 
 use crate::base_pairs::BasePairs;
 use crate::merge::{Merge, next_pair};
@@ -16,13 +16,13 @@ use std::marker::Model;
 /// memory. Contracts see it as the list of those that are left.
 #[derive(Drop)]
 pub struct LeafPairs<'a> {
-    kept: Kept<'a>,
+    way: Way<'a>,
 }
 
 // How a leaf is walked: without runs along its base, and with up to 16 by a merge. With more, for which there are no places,
 // it is searched from key to key.
 #[derive(Drop)]
-enum Kept<'a> {
+enum Way<'a> {
     Plain(BasePairs<'a>),
     Merging(Merge<'a>),
     Searching(Search<'a>),
@@ -30,11 +30,11 @@ enum Kept<'a> {
 
 impl<'a> Model for LeafPairs<'a> {
     ghost use Rattle.std.specs.Prelude.{List, ℕ};
-    ghost use Rattle.scan.specs.Kept.{pairs_of};
+    ghost use Rattle.scan.specs.Ways.{pairs_of_way};
 
     ghost Value = { List (List ℕ × List ℕ) };
 
-    ghost view = { λ l. pairs_of l.kept };
+    ghost view = { λ l. pairs_of_way l.way };
 }
 
 impl<'a> LeafPairs<'a> {
@@ -44,11 +44,11 @@ impl<'a> LeafPairs<'a> {
     {
         if chain.depth() == 0 {
             LeafPairs {
-                kept: Kept::Plain(BasePairs::new(chain.base(), key)),
+                way: Way::Plain(BasePairs::new(chain.base(), key)),
             }
         } else {
             LeafPairs {
-                kept: among_runs(alloc, chain, key),
+                way: among_runs(alloc, chain, key),
             }
         }
     }
@@ -57,9 +57,9 @@ impl<'a> LeafPairs<'a> {
     pub(crate) fn restart(&mut self, alloc: Global, chain: &'a Chain<Value<Global>, Global>)
         ensures { self.new ≡ from [] (entries_of chain.now) }
     {
-        match &mut self.kept {
-            Kept::Plain(pairs) if chain.depth() == 0 => *pairs = BasePairs::new(chain.base(), &[]),
-            Kept::Merging(merge) if chain.depth() <= 16 => merge.restart(chain, &[]),
+        match &mut self.way {
+            Way::Plain(pairs) if chain.depth() == 0 => *pairs = BasePairs::new(chain.base(), &[]),
+            Way::Merging(merge) if chain.depth() <= 16 => merge.restart(chain, &[]),
             _ => *self = LeafPairs::new(alloc, chain, &[]),
         }
     }
@@ -67,13 +67,13 @@ impl<'a> LeafPairs<'a> {
 
 // A leaf with runs. The places of a merge are large, so this is kept apart from the walk along a base.
 #[inline(never)]
-fn among_runs<'a>(alloc: Global, chain: &'a Chain<Value<Global>, Global>, key: &[u8]) -> Kept<'a>
-    ensures { pairs_of result ≡ from key.now (entries_of chain.now) }
+fn among_runs<'a>(alloc: Global, chain: &'a Chain<Value<Global>, Global>, key: &[u8]) -> Way<'a>
+    ensures { pairs_of_way result ≡ from key.now (entries_of chain.now) }
 {
     if chain.depth() <= 16 {
-        Kept::Merging(Merge::new(alloc, chain, key))
+        Way::Merging(Merge::new(alloc, chain, key))
     } else {
-        Kept::Searching(Search::new(chain, key))
+        Way::Searching(Search::new(chain, key))
     }
 }
 
@@ -85,10 +85,10 @@ impl<'a> Iterator for LeafPairs<'a> {
     ghost remaining = { item_count (λ left. left) };
 
     fn next(&mut self) -> Option<(&'a [u8], &'a Value<Global>)> {
-        match &mut self.kept {
-            Kept::Plain(pairs) => pairs.next(),
-            Kept::Merging(merge) => next_pair(merge),
-            Kept::Searching(search) => search.next(),
+        match &mut self.way {
+            Way::Plain(pairs) => pairs.next(),
+            Way::Merging(merge) => next_pair(merge),
+            Way::Searching(search) => search.next(),
         }
     }
 }

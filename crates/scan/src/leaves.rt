@@ -5,7 +5,7 @@ ghost use Rattle.mapping.specs.TreeInMemory.{AreAllHome};
 ghost use Rattle.scan.specs.Path.{leaf_with};
 ghost use Rattle.scan.specs.Walk.{IsWalk, IsAt, walk_from, walk_left};
 
-use crate::step::Step;
+use crate::step::PathStep;
 use delta_chain::Chain;
 use keys::{Pid, Value};
 use mapping::Tree;
@@ -18,7 +18,7 @@ pub(crate) type Leaf<'a> = (&'a [u8], &'a Chain<Value<Global>, Global>);
 
 // The index pages on the way to a leaf, from the root down, each with its children behind that way. A tree has at most 64
 // levels, so it needs no memory.
-type Path<'k> = SmallVec<Step<'k>, 64>;
+type Path<'k> = SmallVec<PathStep<'k>, 64>;
 
 /// The leaves of a tree behind one that was come to, from left to right. From one to the next it goes up only as far as
 /// there are no more children, and takes no memory. Contracts see it as these pages. The
@@ -90,7 +90,7 @@ fn descend<'a: 'k, 'k>(
         if let Some(chain) = page.as_leaf() {
             return (page.low(), chain);
         }
-        let mut step = Step::new(page.children(key, None));
+        let mut step = PathStep::new(page.children(key, None));
         let Some(child) = step.next() else {
             unreachable!()
         };

@@ -2,7 +2,7 @@ ghost use Rattle.std.specs.Prelude.{◌≡◌, ◌<◌, ◌≤◌, ◌∷◌, �
 ghost use Rattle.std.specs.Option.{option_copied};
 ghost use Rattle.std.specs.declared.cmp.Ordering.TheVariants.{Less};
 ghost use Rattle.delta_chain.specs.Layers.{entries_of, depth_of};
-ghost use Rattle.delta_chain.specs.Merging.{first_order, present};
+ghost use Rattle.delta_chain.specs.Merging.{first_order, pair_if};
 ghost use Rattle.scan.specs.Leaf.{from, behind};
 ghost use Rattle.scan.specs.Merge.{merged, ArePairsNext, StartsFrom};
 
@@ -73,7 +73,7 @@ impl<'a> Merge<'a> {
     // The next change, unless a pair of the base stands before it. A pair that has its key is passed.
     pub(crate) fn take_change(&mut self) -> Option<Change<'a>>
         ensures { MatchOption result ((self.new ≡ self.old) × ArePairsNext self.old.changes self.old.pairs)
-            (λ c. (merged self.old ≡ present c.0 (option_copied c.1) ++ merged self.new) × (length self.new.changes < length self.old.changes)) }
+            (λ c. (merged self.old ≡ pair_if c.0 (option_copied c.1) ++ merged self.new) × (length self.new.changes < length self.old.changes)) }
     {
         let at = match &self.change {
             Some(change) => past(self.base, self.at, &change.0)?,

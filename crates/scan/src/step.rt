@@ -9,25 +9,25 @@ use std::marker::Model;
 /// The children of one index page that are still to come: a step of a path down the tree. Contracts see it as their page
 /// ids, in order. The default has none.
 #[derive(Default, Drop)]
-pub(crate) struct Step<'a> {
+pub(crate) struct PathStep<'a> {
     children: Option<Children<'a, Global>>,
 }
 
-impl<'a> Model for Step<'a> {
+impl<'a> Model for PathStep<'a> {
     ghost use Rattle.std.specs.Prelude.{List, ℕ};
-    ghost use Rattle.scan.specs.Path.{pids_of};
+    ghost use Rattle.scan.specs.Path.{pids_left};
 
     ghost Value = { List ℕ };
 
-    ghost view = { λ s. pids_of s.children };
+    ghost view = { λ s. pids_left s.children };
 }
 
-impl<'a> Step<'a> {
+impl<'a> PathStep<'a> {
     // The step that these children are.
     pub(crate) fn new(children: Children<'a, Global>) -> Self
         ensures { result ≡ values_of children.entry }
     {
-        Step {
+        PathStep {
             children: Some(children),
         }
     }

@@ -13,7 +13,7 @@ use Rattle.delta_chain.specs.Lent.{pairs_lent}
 use Rattle.delta_chain.proofs.Lending.{length-pairs_lent}
 use Rattle.index_page.specs.Page.{Page, PageOfKind, bare, first_key}
 use Rattle.split_plan.specs.Cut.{piece_count, pieces, cut}
-use Rattle.split_plan.specs.Pieces.{pages_lent, joined_pages, low_at, pages_from, pieces_of}
+use Rattle.split_plan.specs.Pieces.{pages_lent, joined_pages, low_at, pages_from, pages_made}
 use Rattle.split_plan.proofs.CutLaws.{cut-joined, cut_full, cut_nothing}
 use Rattle.split_plan.proofs.Full.{AllFull}
 
@@ -107,7 +107,7 @@ kind_at P (d ∷ ds) (suc at) page a l h = let m : at < length ds = omega arith 
 
 module _ {V : Type 0} (taken : PageOfKind → Page V) where
   -- the pages of joined entries from the first member's low key are what is made of the members
-  pub remade_is : (s : Settings) (members : List (Bor PageOfKind)) (first : Bor PageOfKind) (low : List ℕ) (es : List (List ℕ × V)) → Some first ≡ slice_get members 0 → low ≡ (taken first.now).low → es ≡ joined_pages (map taken (pages_lent members)) → pages_from low (cut s.fan es) ≡ pieces_of s (map taken (pages_lent members))
+  pub remade_is : (s : Settings) (members : List (Bor PageOfKind)) (first : Bor PageOfKind) (low : List ℕ) (es : List (List ℕ × V)) → Some first ≡ slice_get members 0 → low ≡ (taken first.now).low → es ≡ joined_pages (map taken (pages_lent members)) → pages_from low (cut s.fan es) ≡ pages_made s (map taken (pages_lent members))
   remade_is s [] first low es f h j = absurd (cc)
   remade_is s (m ∷ ms) first low es f h j = let e : first ≡ m = cc in rw (h, e, j) refl
 

@@ -42,8 +42,8 @@ remade s used i (w ∷ ws) =
     if is_rewritten (w ∷ ws) then replacements used i w.placed (cut s.fan (joined (placed_of (w ∷ ws)))) else placed_of (w ∷ ws)
 
 -- the pages that are freed, and the new ones
-abbrev pub freed : {V : Type 0} → Change V → List (Placed V)
-freed c = drop 1 (placed_of c.members)
+abbrev pub freed_by : {V : Type 0} → Change V → List (Placed V)
+freed_by c = drop 1 (placed_of c.members)
 
 abbrev pub fresh : {V : Type 0} → Change V → List (Placed V)
 fresh c = drop 1 c.pages

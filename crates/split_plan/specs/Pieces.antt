@@ -23,15 +23,15 @@ abbrev pub joined_pages : {V : Type 0} → List (Page V) → List (List ℕ × V
 joined_pages ps = flat_map entries ps
 
 -- what is made of a group's members: their entries joined and cut, the first piece at the first member's low key
-abbrev pub pieces_of : {V : Type 0} → Settings → List (Page V) → List (Page V)
-pieces_of s [] = []
-pieces_of s (p ∷ ps) = pages_from p.low (cut s.fan (joined_pages (p ∷ ps)))
+abbrev pub pages_made : {V : Type 0} → Settings → List (Page V) → List (Page V)
+pages_made s [] = []
+pages_made s (p ∷ ps) = pages_from p.low (cut s.fan (joined_pages (p ∷ ps)))
 
 -- the same of pages of either kind, which are of one kind
 abbrev pub group_made : Settings → List PageOfKind → List PageOfKind
 group_made s [] = []
-group_made s (Leaf p ∷ ms) = map Leaf (pieces_of s (map leaf_of (Leaf p ∷ ms)))
-group_made s (Index p ∷ ms) = map Index (pieces_of s (map index_of (Index p ∷ ms)))
+group_made s (Leaf p ∷ ms) = map Leaf (pages_made s (map leaf_of (Leaf p ∷ ms)))
+group_made s (Index p ∷ ms) = map Index (pages_made s (map index_of (Index p ∷ ms)))
 
 -- members that can be joined: they are of one kind, and their entries rise
 abbrev pub CanJoin : List PageOfKind → Type 0

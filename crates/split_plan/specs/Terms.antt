@@ -5,7 +5,7 @@ use Rattle.std.specs.declared.cmp.Ordering.TheVariants.{Less, Greater}
 use Rattle.keys.specs.Order.{order}
 use Rattle.delta_chain.specs.Layers.{with_run}
 use Rattle.mapping.specs.Levels.{Placed, names}
-use Rattle.split_plan.specs.Change.{Change, freed, fresh_of}
+use Rattle.split_plan.specs.Change.{Change, freed_by, fresh_of}
 
 -- a run in which the low keys of these names are absent
 abbrev pub absent : List (List ℕ × ℕ) → List (List ℕ × Option ℕ)
@@ -16,7 +16,7 @@ abbrev pub present : List (List ℕ × ℕ) → List (List ℕ × Option (Option
 present ns = map (λ n. (n.0, Some (Some n.1))) ns
 
 abbrev pub freed_of : {V : Type 0} → List (Change V) → List (Placed V)
-freed_of cs = flat_map freed cs
+freed_of cs = flat_map freed_by cs
 
 -- the parent's run: the low keys of freed members absent, and over that those of new pieces with their pids
 abbrev pub terms : {V : Type 0} → List (Change V) → List (List ℕ × Option ℕ)

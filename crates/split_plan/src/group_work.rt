@@ -4,7 +4,7 @@ ghost use Rattle.keys.specs.Order.{IsRising};
 ghost use Rattle.index_page.specs.Page.{bare, first_key};
 ghost use Rattle.index_page.specs.Page.PageOfKind.{Index};
 ghost use Rattle.split_plan.specs.Cut.{cut};
-ghost use Rattle.split_plan.specs.Pieces.{pages_lent, CanJoin, group_made, joined_pages, pieces_of};
+ghost use Rattle.split_plan.specs.Pieces.{pages_lent, CanJoin, group_made, joined_pages, pages_made};
 
 use crate::cutting::{cut_pages, first_key, joined};
 use crate::kind::Kind;
@@ -143,7 +143,7 @@ fn remade_as<'a, V: Kind + 'a>(
     requires fan { 0 < settings.now.fan }
     requires kind { AllByRecursion V.is_of (pages_lent members.now) }
     requires rising { IsRising (joined_pages (map V.taken (pages_lent members.now))) }
-    ensures { IfOk result (λ pages. pages.items ≡ map V.made (pieces_of settings.now (map V.taken (pages_lent members.now)))) }
+    ensures { IfOk result (λ pages. pages.items ≡ map V.made (pages_made settings.now (map V.taken (pages_lent members.now)))) }
 {
     let Some(first) = members.first() else {
         return Ok(Vec::new(alloc));

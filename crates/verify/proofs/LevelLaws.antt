@@ -24,7 +24,7 @@ use Rattle.verify.proofs.MetLaws.{first_found-same, same_next}
 use Rattle.verify.specs.Seen.{broken_at, seen_as, seen_at, found_by, first_found, pairs_of, all_pairs}
 use Rattle.verify.specs.declared.look.Level.{Level}
 use Rattle.verify.specs.declared.look.Level.TheVariants.{Leaves, Above}
-use Rattle.verify.specs.declared.look.Seen.{Seen}
+use Rattle.verify.specs.declared.look.Verdict.{Verdict}
 
 -- ---- what is seen of a page by itself, and whether it has been met: together what is found there
 
@@ -157,7 +157,7 @@ module _ {T E : Type 0} where
 pub from_here : {X : Type 0} (xs : List X) (at : ℕ) (x : X) → at < length xs → x ≡ get_or xs at x → drop at xs ≡ x ∷ drop (at + 1) xs
 from_here xs at x l e = drop_more xs at x l ∙ ap (λ y. y ∷ drop (at + 1) xs) (sym e)
 
-module _ (ats : List Place) (seen : List Seen) (at : ℕ) (p : Place) (s : Seen) (h : drop at ats ≡ p ∷ drop (at + 1) ats) (i : drop at seen ≡ s ∷ drop (at + 1) seen) where
+module _ (ats : List Place) (seen : List Verdict) (at : ℕ) (p : Place) (s : Verdict) (h : drop at ats ≡ p ∷ drop (at + 1) ats) (i : drop at seen ≡ s ∷ drop (at + 1) seen) where
   pub found_step : (met after : List ℕ) (pid : ℕ) (all : Option Finding) → pid ≡ p.pid → found_by met pid s ≡ None → HaveMetTheSame after (pid ∷ met)
       → first_found met (drop at ats) (drop at seen) ≡ all → first_found after (drop (at + 1) ats) (drop (at + 1) seen) ≡ all
   found_step met after pid all e none same found =
@@ -166,7 +166,7 @@ module _ (ats : List Place) (seen : List Seen) (at : ℕ) (p : Place) (s : Seen)
       first_found-same after (pid ∷ met) (drop (at + 1) ats) (drop (at + 1) seen) same
       ∙ ap (λ (n : ℕ). rest (n ∷ met)) e
       ∙ sym (ap (λ (o : Option Finding). or_else o (rest (p.pid ∷ met))) own)
-      ∙ sym (ap (λ (x : List Place). first_found met x (drop at seen)) h ∙ ap (λ (x : List Seen). first_found met (p ∷ drop (at + 1) ats) x) i)
+      ∙ sym (ap (λ (x : List Place). first_found met x (drop at seen)) h ∙ ap (λ (x : List Verdict). first_found met (p ∷ drop (at + 1) ats) x) i)
       ∙ found
 
   -- what is wrong here is what is wrong with all
@@ -175,7 +175,7 @@ module _ (ats : List Place) (seen : List Seen) (at : ℕ) (p : Place) (s : Seen)
       let rest : Option Finding = first_found (p.pid ∷ met) (drop (at + 1) ats) (drop (at + 1) seen) in
       let here : or_else (found_by met pid s) rest ≡ all =
       ap (λ (n : ℕ). or_else (found_by met n s) rest) e
-      ∙ sym (ap (λ (x : List Place). first_found met x (drop at seen)) h ∙ ap (λ (x : List Seen). first_found met (p ∷ drop (at + 1) ats) x) i)
+      ∙ sym (ap (λ (x : List Place). first_found met x (drop at seen)) h ∙ ap (λ (x : List Verdict). first_found met (p ∷ drop (at + 1) ats) x) i)
       ∙ found
       in
       subst (λ (o : Option Finding). IsFaultOf o fault) here (fault_or_else (found_by met pid s) rest fault told)

@@ -21,8 +21,8 @@ use Rattle.mapping.proofs.TableLaws.{total, same_pid}
 use Rattle.verify.specs.Met.{HaveMetTheSame}
 use Rattle.verify.specs.Seen.{broken_at, found_by, first_found}
 use Rattle.verify.specs.declared.look.Level.TheVariants.{Leaves, Above}
-use Rattle.verify.specs.declared.look.Seen.{Seen}
-use Rattle.verify.specs.declared.look.Seen.TheVariants.{Broken, Sound}
+use Rattle.verify.specs.declared.look.Verdict.{Verdict}
+use Rattle.verify.specs.declared.look.Verdict.TheVariants.{Broken, Sound}
 
 -- ---- one more in order
 
@@ -65,11 +65,11 @@ same_next at ats met after h = λ m. same_after ats after (at.pid ∷ met) h m �
 
 -- ---- what is found
 
-found_by-same : (met other : List ℕ) (pid : ℕ) (s : Seen) → HaveMetTheSame met other → found_by met pid s ≡ found_by other pid s
+found_by-same : (met other : List ℕ) (pid : ℕ) (s : Verdict) → HaveMetTheSame met other → found_by met pid s ≡ found_by other pid s
 found_by-same met other pid (Broken rule) h = refl
 found_by-same met other pid (Sound pairs) h = ap (λ (b : Bool). if b then Some (record { rule = 9; pid = pid }) else None) (h pid)
 
-pub first_found-same : (met other : List ℕ) (ats : List Place) (seen : List Seen) → HaveMetTheSame met other → first_found met ats seen ≡ first_found other ats seen
+pub first_found-same : (met other : List ℕ) (ats : List Place) (seen : List Verdict) → HaveMetTheSame met other → first_found met ats seen ≡ first_found other ats seen
 first_found-same met other [] seen h = refl
 first_found-same met other (at ∷ ats) [] h = refl
 first_found-same met other (at ∷ ats) (s ∷ seen) h =

@@ -9,7 +9,7 @@ ghost use Rattle.index_page.specs.Range.{is_within};
 ghost use Rattle.index_page.specs.Rules.{is_short_value, is_any_pid, of_cell, is_run_sized, is_short_change};
 ghost use Rattle.verify.specs.Sizes.{sizes_under};
 
-use delta_chain::{Base, Chain, Keyed, Run};
+use delta_chain::{Base, Chain, KeyList, Run};
 use keys::{Pid, Settings, Value, compare, is_before};
 use std::alloc::Allocator;
 
@@ -49,7 +49,7 @@ fn is_within(low: &[u8], end: Option<&[u8]>, key: &[u8]) -> bool
 }
 
 // Whether each key of the list lies in the range.
-fn keys_within<L: Keyed>(list: &L, low: &[u8], end: Option<&[u8]>) -> bool
+fn keys_within<L: KeyList>(list: &L, low: &[u8], end: Option<&[u8]>) -> bool
     ensures { result ≡ list_all (is_within low.now (option_copied end.entry)) (L.keys list.now) }
 {
     for at in 0..list.len() {

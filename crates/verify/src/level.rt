@@ -9,7 +9,7 @@ ghost use Rattle.verify.specs.Met.{HaveMetTheSame};
 ghost use Rattle.verify.specs.Report.{IsFaultOf};
 ghost use Rattle.verify.specs.Seen.{seen_at, broken_at, found_by, first_found, pairs_of, all_pairs};
 
-use crate::look::{Level, Seen, look};
+use crate::look::{Level, Verdict, look};
 use crate::met::Met;
 use crate::place::Place;
 use crate::rules::MET_BEFORE;
@@ -50,22 +50,22 @@ fn look_at_all(
     settings: &Settings,
     level: Level,
     places: &[Place<'_>],
-) -> Result<Vec<Seen>, AllocError>
+) -> Result<Vec<Verdict>, AllocError>
     requires { AreAllHome tree.now }
     ensures { IfOk result (λ seen. seen.items ≡ map (seen_at settings.now level (tree_of tree.now).pages) places.now) }
 {
     places
         .par_iter()
         .map(
-            |at: &Place<'_>| -> Result<Seen, AllocError>
+            |at: &Place<'_>| -> Result<Verdict, AllocError>
                 ensures { AreAllHome tree.entry.now → IfOk result (λ seen. seen ≡ seen_at settings.entry.now level (tree_of tree.entry.now).pages at.now) }
             { look(alloc, tree, settings, level, at) },
         )
-        .collect::<Result<Vec<Seen>, AllocError>>(rt, alloc)?
+        .collect::<Result<Vec<Verdict>, AllocError>>(rt, alloc)?
 }
 
 // Meets the pages from left to right, up to the first at which something is wrong.
-fn meet_all(places: &[Place<'_>], seen: &[Seen], met: &mut Met) -> Result<u128, Fault>
+fn meet_all(places: &[Place<'_>], seen: &[Verdict], met: &mut Met) -> Result<u128, Fault>
     requires { length seen.now ≡ length places.now }
     ensures ok { OnOk result (first_found met.old places.now seen.now ≡ None) }
     ensures pairs { IfOk result (λ pairs. pairs ≡ all_pairs seen.now) }
@@ -82,7 +82,7 @@ fn meet_all(places: &[Place<'_>], seen: &[Seen], met: &mut Met) -> Result<u128, 
 }
 
 // Meets a page of which this is seen. It gives the number of its pairs.
-fn meet_page(pid: Pid, seen: Seen, met: &mut Met) -> Result<usize, Fault>
+fn meet_page(pid: Pid, seen: Verdict, met: &mut Met) -> Result<usize, Fault>
     ensures ok { OnOk result (found_by met.old pid seen ≡ None) }
     ensures pairs { IfOk result (λ pairs. pairs ≡ pairs_of seen) }
     ensures met { OnOk result (HaveMetTheSame met.new (pid ∷ met.old)) }
@@ -90,8 +90,8 @@ fn meet_page(pid: Pid, seen: Seen, met: &mut Met) -> Result<usize, Fault>
     ensures err { IfErr result (IsFaultOf (found_by met.old pid seen)) }
 {
     match seen {
-        Seen::Broken(rule) => Err(Fault::BadStructure(Finding { rule, pid })),
-        Seen::Sound(pairs) => {
+        Verdict::Broken(rule) => Err(Fault::BadStructure(Finding { rule, pid })),
+        Verdict::Sound(pairs) => {
             if met.meet(pid)? {
                 Ok(pairs)
             } else {

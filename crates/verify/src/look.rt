@@ -25,7 +25,7 @@ pub(crate) enum Level {
 
 /// What is seen of a page by itself.
 #[derive(Clone, Copy)]
-pub(crate) enum Seen {
+pub(crate) enum Verdict {
     /// It breaks this rule, and none before it.
     Broken(u32),
     /// Nothing is wrong with it, and it holds so many pairs; an index page holds none.
@@ -39,20 +39,20 @@ pub(crate) fn look(
     settings: &Settings,
     level: Level,
     at: &Place<'_>,
-) -> Result<Seen, AllocError>
+) -> Result<Verdict, AllocError>
     ensures { AreAllHome tree.now → IfOk result (λ seen. seen ≡ seen_at settings.now level (tree_of tree.now).pages at.now) }
 {
     let Some(page) = tree.page(at.pid) else {
-        return Ok(Seen::Broken(NO_PAGE));
+        return Ok(Verdict::Broken(NO_PAGE));
     };
     match level {
         Level::Leaves => match page.as_leaf() {
             Some(chain) => look_at_leaf(alloc, settings, at, page.low(), chain),
-            None => Ok(Seen::Broken(WRONG_KIND)),
+            None => Ok(Verdict::Broken(WRONG_KIND)),
         },
         Level::Above(least) => match page.as_index() {
             Some(chain) => look_at_index(alloc, settings, least, at, page.low(), chain),
-            None => Ok(Seen::Broken(WRONG_KIND)),
+            None => Ok(Verdict::Broken(WRONG_KIND)),
         },
     }
 }
@@ -64,15 +64,15 @@ fn look_at_leaf(
     at: &Place<'_>,
     low: &[u8],
     chain: &Chain<Value<Global>, Global>,
-) -> Result<Seen, AllocError>
+) -> Result<Verdict, AllocError>
     ensures { IfOk result (λ seen. seen ≡ seen_as (broken_leaf settings.now [] at.now (Some (Leaf (record { low = low.now; layers = chain.now }))))
         (length (entries (record { low = low.now; layers = chain.now })))) }
 {
     if let Some(rule) = broken_rule(settings, at, low, chain) {
-        return Ok(Seen::Broken(rule));
+        return Ok(Verdict::Broken(rule));
     }
     let pairs = chain.pairs(alloc)?;
-    Ok(Seen::Sound(pairs.len()))
+    Ok(Verdict::Sound(pairs.len()))
 }
 
 // An index page, on a level above.
@@ -83,17 +83,17 @@ fn look_at_index(
     at: &Place<'_>,
     low: &[u8],
     chain: &Chain<Pid, Global>,
-) -> Result<Seen, AllocError>
+) -> Result<Verdict, AllocError>
     ensures { IfOk result (λ seen. seen ≡ seen_as (broken_index settings.now least [] at.now (Some (Index (record { low = low.now; layers = chain.now })))) 0) }
 {
     if let Some(rule) = broken_rule(settings, at, low, chain) {
-        return Ok(Seen::Broken(rule));
+        return Ok(Verdict::Broken(rule));
     }
     let children = chain.pairs(alloc)?;
     if !is_headed(&children, least, low) {
-        return Ok(Seen::Broken(CHILDREN));
+        return Ok(Verdict::Broken(CHILDREN));
     }
-    Ok(Seen::Sound(0))
+    Ok(Verdict::Sound(0))
 }
 
 // Whether there are so many children at least, and the first is at the low key.

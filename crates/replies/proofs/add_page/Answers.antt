@@ -1,6 +1,6 @@
 use Rattle.std.proofs.Common.{◌∙◌, arith}
 use Rattle.std.proofs.lemmas.List.{length-set}
-use Rattle.replies.proofs.Placing.{within-first, within-rest, gathered-rest}
+use Rattle.replies.proofs.Placing.{within-first, within-rest, with_pieces-rest}
 use Rattle.replies.proofs.add_page.Goals as goal
 
 pub loop-place-preserved : goal.loop-place-preserved
@@ -11,5 +11,5 @@ loop-place-preserved c =
     record {
       count = length-set at.replies c.in-Some.field-0.place _ ∙ at.invariant.count;
       within = within-rest _ _ _ _ left at.invariant.within;
-      gathered = gathered-rest _ _ _ _ _ _ c.index-commands-place.result c.index-replies-place.result _ left at.invariant.gathered within (omega arith) c.index-commands-place.is c.in_ok-add.ensures;
+      gathered = with_pieces-rest _ _ _ _ _ _ c.index-commands-place.result c.index-replies-place.result _ left at.invariant.gathered within (omega arith) c.index-commands-place.is c.in_ok-add.ensures;
     }

@@ -1,7 +1,7 @@
 use Rattle.std.proofs.Common.{◌≡◌, length}
 use Rattle.std.specs.List.{All}
 use Rattle.std.specs.Vec.Iter.{into_iter_items}
-use Rattle.replies.specs.ByPlace.{IsPlaceOf, gathered}
+use Rattle.replies.specs.ByPlace.{IsPlaceOf, with_pieces}
 use Rattle.replies.proofs.add_page.Given as goal
 
 -- the pieces that are left make of the list what all make of the first one; their places are within it
@@ -9,5 +9,5 @@ abbrev pub invariant-loop-place : goal.invariant-loop-place
 invariant-loop-place l = record {
   count : length l.replies ≡ length l.commands;
   within : All (IsPlaceOf l.commands) (into_iter_items l.place-iterator);
-  gathered : gathered l.commands (into_iter_items l.place-iterator) l.replies ≡ gathered l.commands l.fn.pieces.items l.fn.replies;
+  gathered : with_pieces l.commands (into_iter_items l.place-iterator) l.replies ≡ with_pieces l.commands l.fn.pieces.items l.fn.replies;
 }

@@ -3,7 +3,7 @@ use Rattle.std.proofs.lemmas.Result.{err_from_is_err_and}
 use Rattle.std.specs.declared.alloc.Global.{Global}
 use Rattle.keys.specs.declared.command.Command.{Command}
 use Rattle.bwsh.specs.declared.batch_file.Order.TheVariants.{Batch}
-use Rattle.bwsh.proofs.RunLemmas.{OnOk-always, Runs-refused, Runs-answered, Leaves-answered, Runs-unverified, Runs-verified, Leaves-verified}
+use Rattle.bwsh.proofs.RunLemmas.{OnOk-always, Runs-refused, Runs-answered, LeavesTree-answered, Runs-unverified, Runs-verified, LeavesTree-verified}
 use Rattle.bwsh.proofs.session.run_order.Goals as goal
 
 pub returns-in_err-replies-in-Batch-clause-runs : goal.returns-in_err-replies-in-Batch-clause-runs
@@ -26,7 +26,7 @@ returns-in_ok-replies-in-Batch-clause-leaves g c =
     let store = c.args.store.now in
     let is = c.in-Batch.is ∙ ap (λ (cs : List (Command Global)). Batch cs) (sym c.commands.ensures) in
     let ok = c.in_ok-replies-in-Batch in
-    OnOk-always c.write_replies.result (Leaves-answered store.settings store.tree c.batch.new.self.tree c.args.order.now c.commands.result.now is c.batch.result c.batch.ensures.refused
+    OnOk-always c.write_replies.result (LeavesTree-answered store.settings store.tree c.batch.new.self.tree c.args.order.now c.commands.result.now is c.batch.result c.batch.ensures.refused
     _ ok.was c.batch.ensures.sound.1.height ok.ensures.tree ok.ensures.contents)
 
 pub returns-in_err-report-in-Verify-clause-runs : goal.returns-in_err-report-in-Verify-clause-runs
@@ -43,4 +43,4 @@ returns-in_ok-report-in-Verify-clause-runs g c =
 pub returns-in_ok-report-in-Verify-clause-leaves : goal.returns-in_ok-report-in-Verify-clause-leaves
 returns-in_ok-report-in-Verify-clause-leaves g c =
     let store = c.args.store.now in
-    OnOk-always c.write_report.result (Leaves-verified store.settings store.tree c.args.order.now c.in-Verify.is)
+    OnOk-always c.write_report.result (LeavesTree-verified store.settings store.tree c.args.order.now c.in-Verify.is)

@@ -1,5 +1,5 @@
 use Rattle.std.proofs.Common.{map}
-use Rattle.page_runs.specs.TermWork.{held_of}
+use Rattle.page_runs.specs.TermWork.{term_held_of}
 use Rattle.climb_plan.proofs.InstallingParents.{all_indexes, made_of, back_away, back_is_before}
 use Rattle.climb_plan.proofs.install.work_parents.Goals as goal
 
@@ -12,7 +12,7 @@ put_back-requires c =
 
 pub returns-in-Ok-clause-made : goal.returns-in-Ok-clause-made
 returns-in-Ok-clause-made c =
-    made_of c.args.settings.now c.args.tree.now.table (map held_of c.in_ok-jobs.jobs.items) c.args.told.items _ c.in-Ok.ensures.made c.in_ok-jobs.ensures.held
+    made_of c.args.settings.now c.args.tree.now.table (map term_held_of c.in_ok-jobs.jobs.items) c.args.told.items _ c.in-Ok.ensures.made c.in_ok-jobs.ensures.held
 
 pub returns-in-Err-clause-err : goal.returns-in-Err-clause-err
 returns-in-Err-clause-err c rising =

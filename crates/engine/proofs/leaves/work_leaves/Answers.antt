@@ -1,5 +1,5 @@
 use Rattle.std.proofs.Common.{map}
-use Rattle.page_runs.specs.LeafWork.{held_of}
+use Rattle.page_runs.specs.LeafWork.{leaf_held_of}
 use Rattle.engine.proofs.BatchLeaves.{all_leaves, made_of, back_away, back_is_before}
 use Rattle.engine.proofs.leaves.work_leaves.Goals as goal
 
@@ -16,7 +16,7 @@ put_back-requires c =
 
 pub returns-in-Ok-clause-made : goal.returns-in-Ok-clause-made
 returns-in-Ok-clause-made c =
-    made_of c.args.settings.now c.args.commands.now c.args.tree.now.table (map held_of c.in_ok-jobs.jobs.items) c.args.page_runs.items _ c.in-Ok.ensures.made c.in_ok-jobs.ensures.held
+    made_of c.args.settings.now c.args.commands.now c.args.tree.now.table (map leaf_held_of c.in_ok-jobs.jobs.items) c.args.page_runs.items _ c.in-Ok.ensures.made c.in_ok-jobs.ensures.held
 
 pub returns-in-Err-clause-err : goal.returns-in-Err-clause-err
 returns-in-Err-clause-err c rising =

@@ -1,5 +1,5 @@
 use Rattle.std.proofs.Common.{◌∙◌, ap, is_some, not, sym}
-use Rattle.mapping.specs.Slots.{placed}
+use Rattle.mapping.specs.Slots.{listed_place}
 use Rattle.mapping.proofs.TableSlots.{stands_within, stands_up_to, not_vacant, place-gap, place-slot, slot_here}
 use Rattle.mapping.proofs.slots.is_used.Goals as goal
 use Rattle.mapping.proofs.slots.is_used.Goals.{in-Vacant, in_default}
@@ -9,9 +9,9 @@ returns-after-matches g c =
     let slots = c.args.slots.now in
     let slot = c.index-slots-at.result in
     let here = slot_here slots c.in-Ok.at c.args.pid slot c.in-Ok.ensures c.index-slots-at.is in
-    let place = ap is_some (place-slot slots c.in-Ok.at c.args.pid slot c.requires here) ∙ ap (λ slot. is_some (placed slot.page)) c.index-slots-at.is in
+    let place = ap is_some (place-slot slots c.in-Ok.at c.args.pid slot c.requires here) ∙ ap (λ slot. is_some (listed_place slot.page)) c.index-slots-at.is in
     elim c.match-matches.branch [
-      | in-Vacant w ↦ ap not w.matches-is ∙ sym (place ∙ ap (λ x. is_some (placed x)) w.in-Vacant.is)
+      | in-Vacant w ↦ ap not w.matches-is ∙ sym (place ∙ ap (λ x. is_some (listed_place x)) w.in-Vacant.is)
       | in_default w ↦ ap not w.matches-is ∙ sym (place ∙ not_vacant _ w.in_default.not-Vacant)
     ]
 

@@ -6,7 +6,7 @@ use Rattle.page_search.proofs.search.place.Given as goal
 -- What is left is from low up to high: the key is above what stands before it and below what stands behind it.
 abbrev pub invariant-loop-low : goal.invariant-loop-low
 invariant-loop-low g l =
-    let keys : List (List ℕ) = g.L.Keyed.keys l.list in
+    let keys : List (List ℕ) = g.L.KeyList.keys l.list in
     record {
       ordered : l.low ≤ l.high;
       within : l.high ≤ length keys;

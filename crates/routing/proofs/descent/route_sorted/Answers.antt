@@ -3,7 +3,7 @@ use Rattle.std.specs.List.{AllByRecursion}
 use Rattle.rayon.proofs.ListFacts.{IfOk-then}
 use Rattle.mapping.specs.TreeInMemory.{tree_of}
 use Rattle.routing.specs.Keyed.{places_of}
-use Rattle.routing.specs.Shares.{Share, Lent, AreReady, HasEachPlaceOnce, lent_shares, root_shares}
+use Rattle.routing.specs.Shares.{Share, Lent, AreReadyShares, HasEachPlaceOnce, lent_shares, root_shares}
 use Rattle.routing.proofs.BatchOrder.{once-shares}
 use Rattle.routing.proofs.ShareLaws.{shares-root}
 use Rattle.routing.proofs.DescentLaws.{shares-next, level_ready, shares-last, below_pred, same_pred}
@@ -22,7 +22,7 @@ one_level_down-requires-clause-ready c =
     let cs = c.args.batch.now in
     let within : c.loop-level._level < c.args.tree.now.height - 1 = omega arith in
     let ready = level_ready (tree_of c.args.tree.now) c.requires.held c.requires.levels cs (places_of c.args.keyed.now) c.loop-level._level c.loop-level.shares.items (below_pred c.loop-level._level c.args.tree.now.height within) c.requires.sorted.in_order c.loop-level.invariant.shares c.loop-level.invariant.keys in
-    subst (λ (ss : List Lent). AreReady (tree_of c.args.tree.now).pages cs ss) (sym c.deref.ensures.value) ready
+    subst (λ (ss : List Lent). AreReadyShares (tree_of c.args.tree.now).pages cs ss) (sym c.deref.ensures.value) ready
 
 pub loop-level-preserved : goal.loop-level-preserved
 loop-level-preserved c =

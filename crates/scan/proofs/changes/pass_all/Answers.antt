@@ -2,7 +2,7 @@ use Rattle.std.proofs.Common.{ap, sym, subst, ◌∙◌, slice_set, slice_index_
 use Rattle.std.proofs.lemmas.List.Edits.{map_over_more}
 use Rattle.keys.specs.Order.{IsRising}
 use Rattle.scan.specs.Leaf.{behind}
-use Rattle.scan.specs.Merge.{StartsFrom, BeginsWith}
+use Rattle.scan.specs.Merge.{StartsFrom, StartsAt}
 use Rattle.scan.proofs.MergeSteps.{item_ahead, item_is, all_at, head_passed}
 use Rattle.scan.proofs.changes.pass_all.Goals.{then-at-place, else-at-place}
 use Rattle.scan.proofs.changes.pass_all.Goals as goal
@@ -26,8 +26,8 @@ loop-at-preserved c =
     elim c.if-at-place.branch [
       | then-at-place w ↦
           let rising : IsRising item = subst IsRising (sym ahead) (all_at IsRising c.args.runs.now c.loop-at.at c.index-runs-at.result c.requires.rising c.loop-at-test.true) in
-          let first : BeginsWith key item =
-          subst (BeginsWith key) (sym (ahead ∙ item_is c.args.runs.now c.loop-at.at c.index-runs-at.result [] c.loop-at-test.true ∙ ap (λ (n : ℕ). slice_index_or c.args.runs.now n []) w.if-at-place.true)) c.requires.place in
+          let first : StartsAt key item =
+          subst (StartsAt key) (sym (ahead ∙ item_is c.args.runs.now c.loop-at.at c.index-runs-at.result [] c.loop-at-test.true ∙ ap (λ (n : ℕ). slice_index_or c.args.runs.now n []) w.if-at-place.true)) c.requires.place in
           w.runs-is ∙ ap (λ x. slice_set c.loop-at.runs c.loop-at.at x) (w.advance.ensures ∙ head_passed key item rising first ∙ ap (behind key) (sym c.index-runs-at.is)) ∙ over
       | else-at-place w ↦
           w.runs-is ∙ ap (λ x. slice_set c.loop-at.runs c.loop-at.at x) (w.pass.ensures ∙ ap (behind key) (sym c.index-runs-at.is)) ∙ over

@@ -6,8 +6,8 @@ use Rattle.verify.proofs.chain_tests.keys_within.Goals as goal
 
 pub returns-then-not-is_within : goal.returns-then-not-is_within
 returns-then-not-is_within g c =
-    all_fails (is_within c.args.low.now (option_copied c.args.end)) (g.L.Keyed.keys c.args.list.now) c.loop-at.at c.key.result.now _ c.key.ensures (sym c.if-not-is_within.ensures) c.loop-at.invariant
+    all_fails (is_within c.args.low.now (option_copied c.args.end)) (g.L.KeyList.keys c.args.list.now) c.loop-at.at c.key.result.now _ c.key.ensures (sym c.if-not-is_within.ensures) c.loop-at.invariant
 
 pub loop-at-preserved : goal.loop-at-preserved
 loop-at-preserved g c =
-    all_next (is_within c.args.low.now (option_copied c.args.end)) (g.L.Keyed.keys c.args.list.now) c.loop-at.at c.key.result.now _ c.key.ensures (sym c.if-not-is_within.ensures) c.loop-at.invariant
+    all_next (is_within c.args.low.now (option_copied c.args.end)) (g.L.KeyList.keys c.args.list.now) c.loop-at.at c.key.result.now _ c.key.ensures (sym c.if-not-is_within.ensures) c.loop-at.invariant

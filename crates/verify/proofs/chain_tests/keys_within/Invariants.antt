@@ -6,4 +6,4 @@ use Rattle.verify.proofs.chain_tests.keys_within.Given as goal
 
 -- each key before this place lies in the range
 abbrev pub invariant-loop-at : goal.invariant-loop-at
-invariant-loop-at g l = list_all (is_within l.low (option_copied l.end)) (drop l.at (g.L.Keyed.keys l.list)) ≡ list_all (is_within l.low (option_copied l.end)) (g.L.Keyed.keys l.list)
+invariant-loop-at g l = list_all (is_within l.low (option_copied l.end)) (drop l.at (g.L.KeyList.keys l.list)) ≡ list_all (is_within l.low (option_copied l.end)) (g.L.KeyList.keys l.list)

@@ -1,6 +1,6 @@
 use Rattle.std.proofs.Common.{sym, ap, ◌∙◌}
 use Rattle.mapping.specs.Table.{at_home}
-use Rattle.mapping.specs.Slots.{placed}
+use Rattle.mapping.specs.Slots.{listed_place}
 use Rattle.mapping.proofs.TableSlots.{stands_within, slot_here, not_home, place-slot, place-gap}
 use Rattle.mapping.proofs.table.Table.get.Goals as goal
 
@@ -8,7 +8,7 @@ pub returns-in-Home : goal.returns-in-Home
 returns-in-Home g c =
     let slots = c.self.inside.slots.items in
     let here = slot_here slots c.in-Ok.at c.args.pid c.index.result.now (rw c.deref.ensures.value at c.in-Ok.ensures) c.index.ensures in
-    rw (← c.self.view_is) (sym (ap at_home (place-slot slots c.in-Ok.at c.args.pid c.index.result.now c.self.invariant.rising here) ∙ ap (λ x. at_home (placed x)) c.in-Home.is))
+    rw (← c.self.view_is) (sym (ap at_home (place-slot slots c.in-Ok.at c.args.pid c.index.result.now c.self.invariant.rising here) ∙ ap (λ x. at_home (listed_place x)) c.in-Home.is))
 
 pub returns-in_default : goal.returns-in_default
 returns-in_default g c =

@@ -1,6 +1,6 @@
 use Rattle.std.proofs.Common.{refl, sym, ap, ◌∙◌}
 use mathlib.Core.Bool.{false≢true}
-use Rattle.mapping.specs.Slots.{placed}
+use Rattle.mapping.specs.Slots.{listed_place}
 use Rattle.mapping.proofs.TableSlots.{stands_within, slot_here, not_away, place-slot, place-gap}
 use Rattle.mapping.proofs.table.Table.is_away.Goals as goal
 
@@ -8,7 +8,7 @@ pub returns-in-Away : goal.returns-in-Away
 returns-in-Away g c =
     let slots = c.self.inside.slots.items in
     let here = slot_here slots c.in-Ok.at c.args.pid c.index.result.now (rw c.deref.ensures.value at c.in-Ok.ensures) c.index.ensures in
-    let place = place-slot slots c.in-Ok.at c.args.pid c.index.result.now c.self.invariant.rising here ∙ ap placed c.in-Away.is in
+    let place = place-slot slots c.in-Ok.at c.args.pid c.index.result.now c.self.invariant.rising here ∙ ap listed_place c.in-Away.is in
     rw (← c.self.view_is) (λ h. place, λ e. refl)
 
 pub returns-in_default : goal.returns-in_default

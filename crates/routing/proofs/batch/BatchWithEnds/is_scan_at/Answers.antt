@@ -1,6 +1,6 @@
 use Rattle.std.proofs.Common.{ap, sym, ◌∙◌}
 use Rattle.keys.specs.CommandKey.{is_scan}
-use Rattle.routing.specs.Routes.{is_passed}
+use Rattle.keys.specs.Places.{is_some_that}
 use Rattle.routing.proofs.BatchLaws.{past, scan_there}
 use Rattle.routing.proofs.batch.BatchWithEnds.is_scan_at.Goals as goal
 
@@ -10,4 +10,4 @@ returns-in-Some c =
     ∙ scan_there c.self.inside.commands.now _ c.args.self.now c.self.view_is c.args.place c.in-Some.command.now c.in-Some.ensures.lookup.3.0 c.in-Some.ensures.lookup.1
 
 pub returns-in-None : goal.returns-in-None
-returns-in-None c = ap (λ found. is_passed is_scan found) (sym (past c.self.inside.commands.now _ c.args.self.now c.self.view_is c.args.place c.in-None.ensures.lookup.3))
+returns-in-None c = ap (λ found. is_some_that is_scan found) (sym (past c.self.inside.commands.now _ c.args.self.now c.self.view_is c.args.place c.in-None.ensures.lookup.3))

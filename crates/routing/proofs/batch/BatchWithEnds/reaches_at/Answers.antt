@@ -1,7 +1,7 @@
 use Rattle.std.proofs.Common.{drop, map, ap, sym, ◌∙◌}
 use Rattle.std.specs.Option.{option_copied}
 use Rattle.keys.specs.Narrowed.{first_end}
-use Rattle.routing.specs.Routes.{is_passed}
+use Rattle.keys.specs.Places.{is_some_that}
 use Rattle.routing.specs.SortedPlaces.{reaches}
 use Rattle.routing.proofs.BatchLaws.{past, reaches_there}
 use Rattle.routing.proofs.batch.BatchWithEnds.reaches_at.Goals as goal
@@ -13,4 +13,4 @@ returns-in-Some c =
     ∙ reaches_there c.self.inside.commands.now _ c.args.self.now c.self.view_is c.args.low.now (option_copied c.end_at.result) c.args.place c.in-Some.command.now end c.in-Some.ensures.lookup.3.0 c.in-Some.ensures.lookup.1
 
 pub returns-in-None : goal.returns-in-None
-returns-in-None c = ap (λ found. is_passed (reaches c.args.low.now) found) (sym (past c.self.inside.commands.now _ c.args.self.now c.self.view_is c.args.place c.in-None.ensures.lookup.3))
+returns-in-None c = ap (λ found. is_some_that (reaches c.args.low.now) found) (sym (past c.self.inside.commands.now _ c.args.self.now c.self.view_is c.args.place c.in-None.ensures.lookup.3))

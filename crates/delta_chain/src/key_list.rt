@@ -8,7 +8,7 @@ use keys::KeyRef;
 use std::alloc::Allocator;
 
 /// A list of strictly rising keys that is read by place, so that search is written once for every such list.
-pub trait Keyed {
+pub trait KeyList {
     ghost keys: { Self → List (List ℕ) };
 
     /// How many keys there are.
@@ -27,7 +27,7 @@ pub trait Keyed {
         ensures { slice_get (keys self.now) at ≡ Some result };
 }
 
-impl<V, A: Allocator + Copy> Keyed for Base<V, A> {
+impl<V, A: Allocator + Copy> KeyList for Base<V, A> {
     ghost keys = { keys_of };
 
     fn len(&self) -> usize {
@@ -43,7 +43,7 @@ impl<V, A: Allocator + Copy> Keyed for Base<V, A> {
     }
 }
 
-impl<V, A: Allocator + Copy> Keyed for Run<V, A> {
+impl<V, A: Allocator + Copy> KeyList for Run<V, A> {
     ghost keys = { keys_of };
 
     fn len(&self) -> usize {

@@ -1,0 +1,13 @@
+-- Places of a batch, counted from 0.
+use Rattle.std.specs.Prelude.{ℕ, Bool, false, List, slice_get, Option, Some, None}
+use Rattle.keys.specs.CommandKey.{is_scan}
+use Rattle.keys.specs.declared.command.Command.{Command}
+
+-- whether there is an item, and it passes
+abbrev pub is_some_that : {X : Type 0} → (X → Bool) → Option X → Bool
+is_some_that passes None = false
+is_some_that passes (Some x) = passes x
+
+-- whether a scan stands at this place
+abbrev pub is_scan_at : {A : Type 0} → List (Command A) → ℕ → Bool
+is_scan_at cs place = is_some_that is_scan (slice_get cs place)
