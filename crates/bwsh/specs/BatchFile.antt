@@ -3,6 +3,7 @@ use Rattle.std.specs.Prelude.{◌≡◌, ℕ, ◌+◌, List, [], ◌∷◌, ◌+
 use Rattle.std.specs.declared.alloc.Global.{Global}
 use Rattle.keys.specs.declared.command.Command.{Command}
 use Rattle.bstr.specs.Text.{lines_of, without_terminator}
+use Rattle.keys.specs.Bytes.{Bytes}
 use Rattle.bwsh.specs.declared.line.Says.{Says}
 use Rattle.bwsh.specs.declared.line.Says.TheVariants.{Go, Bad}
 use Rattle.bwsh.specs.declared.line.Says.TheVariants as says
@@ -14,11 +15,11 @@ use Rattle.bwsh.specs.declared.batch_file.TextFault.TheVariants as faults
 use Rattle.bwsh.specs.Line.{line_says}
 
 -- the lines of a text, each without the LF or CR LF at its end
-abbrev pub lines : List ℕ → List (List ℕ)
+abbrev pub lines : Bytes → List Bytes
 lines text = map without_terminator (lines_of text)
 
 -- what the lines of a text say
-abbrev pub text_says : List ℕ → List Says
+abbrev pub text_says : Bytes → List Says
 text_says text = map line_says (lines text)
 
 -- the number of the first bad line, and what is wrong with it, where the first of these lines has the number n

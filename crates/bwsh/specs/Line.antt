@@ -4,6 +4,7 @@ use Rattle.std.specs.List.{starts_with}
 use Rattle.std.specs.Option.{ok_or, option_map, option_zip}
 use Rattle.std.specs.Str.{bytes_eq}
 use Rattle.std.specs.declared.alloc.Global.{Global}
+use Rattle.keys.specs.Bytes.{Bytes}
 use Rattle.keys.specs.declared.command.Command.{Command}
 use Rattle.keys.specs.declared.command.Command.TheVariants.{Get, Put, Add, Del, Scan}
 use Rattle.bwsh.specs.declared.line.Says.{Says}
@@ -15,19 +16,19 @@ use Rattle.bwsh.specs.Token.{token_bytes}
 use Rattle.bwsh.specs.Words.{words_of}
 
 -- what is wrong with a line, in words
-abbrev pub why_text : Why → List ℕ
+abbrev pub why_text : Why → Bytes
 why_text UnknownCommand = codes "unknown command"
 why_text WordCount = codes "wrong number of words"
 why_text BadToken = codes "bad token"
 why_text BadNumber = codes "bad number"
 
 -- the key that these words are
-abbrev pub only_key : List (List ℕ) → Result (List ℕ) Why
+abbrev pub only_key : List Bytes → Result (Bytes) Why
 only_key (key ∷ []) = ok_or (token_bytes key) BadToken
 only_key _ = Err WordCount
 
 -- the key and the value that these words are
-abbrev pub key_and_value : List (List ℕ) → Result (List ℕ × List ℕ) Why
+abbrev pub key_and_value : List Bytes → Result (Bytes × Bytes) Why
 key_and_value (key ∷ value ∷ []) = ok_or (option_zip (token_bytes key) (token_bytes value)) BadToken
 key_and_value _ = Err WordCount
 
@@ -37,35 +38,35 @@ command_or_bad command (Ok x) = Says.Command (command x)
 command_or_bad command (Err why) = Bad why
 
 -- the upper bound that a token stands for, if it is one: the star alone is no bound
-abbrev pub bound_of : List ℕ → Option (Option (List ℕ))
+abbrev pub bound_of : Bytes → Option (Option Bytes)
 bound_of token = if bytes_eq token (codes "*") then Some None else option_map (λ key. Some key) (token_bytes token)
 
 -- what is said by a lower bound, an upper bound and a limit behind `scan`, each if it is there
-abbrev pub scan_by : Option (List ℕ) → Option (Option (List ℕ)) → Option ℕ → Says
+abbrev pub scan_by : Option Bytes → Option (Option Bytes) → Option ℕ → Says
 scan_by None hi limit = Bad BadToken
 scan_by (Some lo) None limit = Bad BadToken
 scan_by (Some lo) (Some hi) None = Bad BadNumber
 scan_by (Some lo) (Some hi) (Some limit) = Says.Command (Scan lo hi limit)
 
 -- what is said by these words behind `scan`
-abbrev pub scan_says : List (List ℕ) → Says
+abbrev pub scan_says : List Bytes → Says
 scan_says (lo ∷ hi ∷ limit ∷ []) = scan_by (token_bytes lo) (bound_of hi) (number_in limit)
 scan_says _ = Bad WordCount
 
 -- this is said, where no words stand behind
-abbrev pub alone : Says → List (List ℕ) → Says
+abbrev pub alone : Says → List Bytes → Says
 alone says [] = says
 alone says _ = Bad WordCount
 
 -- what is said by this word and those behind it, where it is none of a command
-abbrev pub order_says : List ℕ → List (List ℕ) → Says
+abbrev pub order_says : Bytes → List Bytes → Says
 order_says word behind =
     if bytes_eq word (codes "go") then alone Go behind else (
     if bytes_eq word (codes "verify") then alone Verify behind else
     Bad UnknownCommand)
 
 -- what is said by this word and those behind it
-abbrev pub command_says : List ℕ → List (List ℕ) → Says
+abbrev pub command_says : Bytes → List Bytes → Says
 command_says word behind =
     if bytes_eq word (codes "put") then command_or_bad (λ (k, v). Put k v) (key_and_value behind) else (
     if bytes_eq word (codes "add") then command_or_bad (λ (k, v). Add k v) (key_and_value behind) else (
@@ -75,10 +76,10 @@ command_says word behind =
     order_says word behind))))
 
 -- what a line of these words says: nothing where there are none, or where the first begins with `#`
-abbrev pub words_say : List (List ℕ) → Says
+abbrev pub words_say : List Bytes → Says
 words_say [] = Nothing
 words_say (word ∷ behind) = if starts_with nat_eq word (codes "#") then Nothing else command_says word behind
 
 -- what the line says
-abbrev pub line_says : List ℕ → Says
+abbrev pub line_says : Bytes → Says
 line_says line = words_say (words_of line)

@@ -1,13 +1,14 @@
 -- Numbers: how a word writes one.
-use Rattle.std.specs.Prelude.{ℕ, Bool, not, ◌&&◌, nat_eq, nat_le, if◌then◌else◌, List, length, Option, Some, None}
+use Rattle.std.specs.Prelude.{ℕ, Bool, not, ◌&&◌, nat_eq, nat_le, if◌then◌else◌, length, Option, Some, None}
 use Rattle.std.specs.Char.{is_ascii_digit}
 use Rattle.std.specs.List.{list_all}
 use Rattle.std.specs.Str.Parse.{digits_value}
+use Rattle.keys.specs.Bytes.{Bytes}
 
 -- whether the word has decimal digits alone, and one at least
-abbrev pub is_decimal : List ℕ → Bool
+abbrev pub is_decimal : Bytes → Bool
 is_decimal word = not (nat_eq (length word) 0) && list_all is_ascii_digit word
 
 -- the number that a word writes in decimal digits, where it is at most 4294967295; zeros may stand in front
-abbrev pub number_in : List ℕ → Option ℕ
+abbrev pub number_in : Bytes → Option ℕ
 number_in word = if is_decimal word && nat_le (digits_value 10 word) 4294967295 then Some (digits_value 10 word) else None

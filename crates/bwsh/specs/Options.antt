@@ -9,10 +9,11 @@ use Rattle.clap.specs.Lexer.{long_of, short_of}
 use Rattle.clap.specs.ValueTests.{is_signed_in}
 use Rattle.clap.specs.declared.error.kind.ErrorKind.{ErrorKind}
 use Rattle.clap.specs.declared.error.kind.ErrorKind.TheVariants.{InvalidValue, UnknownArgument, ValueValidation, TooManyValues, ArgumentConflict, DisplayHelp, OutOfMemory}
+use Rattle.keys.specs.Bytes.{Bytes}
 
 -- a text, as its bytes
 abbrev pub Text : Type 0
-Text = List ℕ
+Text = Bytes
 
 -- the words, as text
 abbrev pub texts : List (String Global) → List Text

@@ -3,6 +3,7 @@ use Rattle.std.specs.Prelude.{◌≡◌, ◌⊎◌, ℕ, List, [], ◌∷◌, �
 use Rattle.std.specs.Option.{option_map, option_or}
 use Rattle.std.specs.Fmt.{decimal}
 use Rattle.std.specs.Io.KnownBytes.{Appends}
+use Rattle.keys.specs.Bytes.{Bytes, Pairs}
 use Rattle.keys.specs.Lists.{flat}
 use Rattle.keys.specs.Limits.{first_bad_field}
 use Rattle.keys.specs.Step.{replies_to, map_after_all}
@@ -41,19 +42,19 @@ status_of_end (Ok done) = 0
 status_of_end (Err early) = status_of early
 
 -- what an ending prints, with its line feed, where a clause can say it
-abbrev pub ending_text : Ending → Option (List ℕ)
+abbrev pub ending_text : Ending → Option Bytes
 ending_text (Words error) = None
 ending_text (Bad line why) = Some (codes "line " ++ decimal line ++ codes ": " ++ why_text why ++ 10 ∷ [])
 ending_text (endings.Fault fault) = None
 ending_text Device = Some (codes "fault 9 Device" ++ 10 ∷ [])
 
 -- what is told of an end, where a clause can say it: nothing of one with all done
-abbrev pub told_text : Result (Unit {0}) Ending → Option (List ℕ)
+abbrev pub told_text : Result (Unit {0}) Ending → Option Bytes
 told_text (Ok done) = Some []
 told_text (Err early) = ending_text early
 
 -- what is told of words that cannot be read, with its line feed
-abbrev pub unread_text : List ℕ
+abbrev pub unread_text : Bytes
 unread_text = codes "error: a word of the command line is no text" ++ 10 ∷ []
 
 -- the ending of a session whose text is not read
@@ -62,7 +63,7 @@ ending_by (faults.Bad line why) = Bad line why
 ending_by faults.Memory = endings.Fault NoMemory
 
 -- the map that an order leaves
-abbrev pub map_behind : List (List ℕ × List ℕ) → Order → List (List ℕ × List ℕ)
+abbrev pub map_behind : Pairs Bytes → Order → Pairs Bytes
 map_behind m (Batch commands) = map_after_all m commands
 map_behind m Verify = m
 
@@ -73,22 +74,22 @@ tree_behind settings tree Verify = tree
 
 -- the lines that an order answers, with their line feeds, where the store has this tree and holds this map before it: to a batch
 -- the replies of the map, the lines of each as one text; to a verify the report on the tree
-abbrev pub own_lines : Tree → List (List ℕ × List ℕ) → Order → List (List ℕ)
+abbrev pub own_lines : Tree → Pairs Bytes → Order → List Bytes
 own_lines tree m (Batch commands) = map shown_reply (replies_to m commands)
 own_lines tree m Verify = shown_report (report tree) ∷ []
 
 -- the lines that orders answer one after the other; each leaves its tree and its map to the next
-abbrev pub answer_lines : Settings → Tree → List (List ℕ × List ℕ) → List Order → List (List ℕ)
+abbrev pub answer_lines : Settings → Tree → Pairs Bytes → List Order → List Bytes
 answer_lines settings tree m [] = []
 answer_lines settings tree m (order ∷ rest) =
     own_lines tree m order ++ answer_lines settings (tree_behind settings tree order) (map_behind m order) rest
 
 -- the text of these lines
-abbrev pub printed : Settings → Tree → List (List ℕ × List ℕ) → List Order → List ℕ
+abbrev pub printed : Settings → Tree → Pairs Bytes → List Order → Bytes
 printed settings tree m orders = flat (answer_lines settings tree m orders)
 
 -- all that the orders of a text print on a new store of these settings, were each accepted
-abbrev pub printed_by : Settings → List ℕ → List ℕ
+abbrev pub printed_by : Settings → Bytes → Bytes
 printed_by settings text = printed settings first_tree [] (orders_of [] (text_says text))
 
 -- why a store of these settings and this tree refuses the order by its right, if it does
@@ -121,7 +122,7 @@ hindered_by (Some bad) field = Some (Bad bad.0 bad.1)
 hindered_by None field = option_map (λ f. endings.Fault (BadSettings f)) field
 
 -- why no order of this text is run under these settings, if none is: a bad line, and else settings that are refused
-abbrev pub hindrance : Settings → List ℕ → Option Ending
+abbrev pub hindrance : Settings → Bytes → Option Ending
 hindrance settings text = hindered_by (first_bad 1 (text_says text)) (first_bad_field settings)
 
 -- how a session ends by its right where this hinders it, if anything does, and else these orders are run
@@ -130,16 +131,16 @@ end_after settings (Some early) orders = Err early
 end_after settings None orders = orders_end settings first_tree orders
 
 -- the lines that it prints by its right
-abbrev pub lines_after : Settings → Option Ending → List Order → List (List ℕ)
+abbrev pub lines_after : Settings → Option Ending → List Order → List Bytes
 lines_after settings (Some early) orders = []
 lines_after settings None orders = answer_lines settings first_tree [] (accepted settings first_tree orders)
 
 -- how a session on this text ends by its right
-abbrev pub session_end : Settings → List ℕ → Result (Unit {0}) Ending
+abbrev pub session_end : Settings → Bytes → Result (Unit {0}) Ending
 session_end settings text = end_after settings (hindrance settings text) (orders_of [] (text_says text))
 
 -- the lines that a session on this text prints by its right
-abbrev pub session_lines : Settings → List ℕ → List (List ℕ)
+abbrev pub session_lines : Settings → Bytes → List Bytes
 session_lines settings text = lines_after settings (hindrance settings text) (orders_of [] (text_says text))
 
 -- a session whose text has this first bad line, if it has one, can end so before anything is run
@@ -154,35 +155,35 @@ abbrev pub BeginsWith : {X : Type 0} → List X → List X → Type 0
 BeginsWith {X} xs front = (rest : List X) × (xs ≡ front ++ rest)
 
 -- known bytes grow by a beginning of this text
-abbrev pub IsBegun : Option (List ℕ) → Option (List ℕ) → List ℕ → Type 0
-IsBegun old new text = (front : List ℕ) × BeginsWith text front × Appends old new front
+abbrev pub IsBegun : Option Bytes → Option Bytes → Bytes → Type 0
+IsBegun old new text = (front : Bytes) × BeginsWith text front × Appends old new front
 
 -- known bytes grow by a beginning of what is told of this end, where a clause can say what that is
-abbrev pub IsTold : Result (Unit {0}) Ending → Option (List ℕ) → Option (List ℕ) → Type 0
+abbrev pub IsTold : Result (Unit {0}) Ending → Option Bytes → Option Bytes → Type 0
 IsTold end old new = IfSome (told_text end) (IsBegun old new)
 
 -- known bytes grow by all of the lines where the end is the right one; memory can be refused behind some whole lines, and a device can fail anywhere
-abbrev pub Prints : Option (List ℕ) → Option (List ℕ) → List (List ℕ) → Result (Unit {0}) Ending → Result (Unit {0}) Ending → Type 0
+abbrev pub Prints : Option Bytes → Option Bytes → List Bytes → Result (Unit {0}) Ending → Result (Unit {0}) Ending → Type 0
 Prints old new lines right end =
     ((end ≡ right) × Appends old new (flat lines))
-    ⊎ ((end ≡ Err (endings.Fault NoMemory)) × ((front : List (List ℕ)) × BeginsWith lines front × Appends old new (flat front)))
-    ⊎ ((end ≡ Err Device) × ((front : List ℕ) × BeginsWith (flat lines) front × Appends old new front))
+    ⊎ ((end ≡ Err (endings.Fault NoMemory)) × ((front : List Bytes) × BeginsWith lines front × Appends old new (flat front)))
+    ⊎ ((end ≡ Err Device) × ((front : Bytes) × BeginsWith (flat lines) front × Appends old new front))
 
 -- the order is accepted, and leaves this tree with its map
 abbrev pub LeavesTree : Settings → Tree → Order → Tree → Type 0
 LeavesTree settings tree order after = (refusal_of settings tree order ≡ None) × (after ≡ tree_behind settings tree order) × (contents after ≡ map_behind (contents tree) order)
 
 -- what these orders print on a store of these settings and this tree, and how they end, is right but for memory and devices
-unfoldable pub Runs : Settings → Tree → List Order → Option (List ℕ) → Option (List ℕ) → Result (Unit {0}) Ending → Type 0
+unfoldable pub Runs : Settings → Tree → List Order → Option Bytes → Option Bytes → Result (Unit {0}) Ending → Type 0
 Runs settings tree orders old new end = Prints old new (answer_lines settings tree (contents tree) (accepted settings tree orders)) (orders_end settings tree orders) end
 
 -- what a session prints under these settings, and how it ends, is right for a text, which is the known one, but for memory and devices
-unfoldable pub Answers : Settings → Option (List ℕ) → Option (List ℕ) → Option (List ℕ) → Result (Unit {0}) Ending → Type 0
-Answers settings known old new end = (text : List ℕ) × IfSome known (λ bytes. text ≡ bytes) × Prints old new (session_lines settings text) (session_end settings text) end
+unfoldable pub Answers : Settings → Option Bytes → Option Bytes → Option Bytes → Result (Unit {0}) Ending → Type 0
+Answers settings known old new end = (text : Bytes) × IfSome known (λ bytes. text ≡ bytes) × Prints old new (session_lines settings text) (session_end settings text) end
 
 -- a text is printed, but for memory and devices
-abbrev pub PrintsOneText : Option (List ℕ) → Option (List ℕ) → Result (Unit {0}) Ending → Type 0
-PrintsOneText old new end = (text : List ℕ) × Prints old new (text ∷ []) (Ok tt) end
+abbrev pub PrintsOneText : Option Bytes → Option Bytes → Result (Unit {0}) Ending → Type 0
+PrintsOneText old new end = (text : Bytes) × Prints old new (text ∷ []) (Ok tt) end
 
 -- this is how a session for refused words ends
 abbrev pub IsForWords : Result (Unit {0}) Ending → Type 0
@@ -192,13 +193,13 @@ IsForWords (Err _) = ⊥
 
 -- how a session with these words ends and what it prints, but for memory and devices: as it should under the settings that they tell; or
 -- with nothing read, and help where they ask for it; or with nothing printed either, where they are refused
-abbrev pub EndsBy : List (List ℕ) → Option (List ℕ) → Option (List ℕ) → Option (List ℕ) → Type 0 → Type 0 → Result (Unit {0}) Ending → Type 0
+abbrev pub EndsBy : List Bytes → Option Bytes → Option Bytes → Option Bytes → Type 0 → Type 0 → Result (Unit {0}) Ending → Type 0
 EndsBy words known old new unread untouched end =
     ((settings : Settings) × AsksForSettings words settings × Answers settings known old new end)
     ⊎ (unread × AsksForHelp words × PrintsOneText old new end)
     ⊎ (unread × untouched × ((AreRefused words × IsForWords end) ⊎ (end ≡ Err (endings.Fault NoMemory))))
 
 -- a session with these words ends with this status: it has an end that is right as `EndsBy` says, and that is told
-abbrev pub EndsTold : List (List ℕ) → Option (List ℕ) → Option (List ℕ) → Option (List ℕ) → Option (List ℕ) → Option (List ℕ) → Type 0 → Type 0 → ℕ → Type 0
+abbrev pub EndsTold : List Bytes → Option Bytes → Option Bytes → Option Bytes → Option Bytes → Option Bytes → Type 0 → Type 0 → ℕ → Type 0
 EndsTold words known old new told_old told_new unread untouched status =
     (end : Result (Unit {0}) Ending) × (status ≡ status_of_end end) × EndsBy words known old new unread untouched end × IsTold end told_old told_new

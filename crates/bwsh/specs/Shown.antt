@@ -1,13 +1,14 @@
 -- Replies and reports as they are printed.
-use Rattle.std.specs.Prelude.{ℕ, List, [], ◌∷◌, ◌++◌, length, flat_map, codes}
+use Rattle.std.specs.Prelude.{[], ◌∷◌, ◌++◌, length, flat_map, codes}
 use Rattle.std.specs.Fmt.{decimal}
+use Rattle.keys.specs.Bytes.{Bytes}
 use Rattle.keys.specs.declared.command.Reply.{Reply}
 use Rattle.keys.specs.declared.command.Reply.TheVariants.{Value, Missing, New, Replaced, Added, Exists, Deleted, Rows}
 use Rattle.verify.specs.declared.report.Report.{Report}
 use Rattle.bwsh.specs.Token.{shown_token}
 
 -- what the first line of a reply says
-abbrev pub reply_text : {A : Type 0} → Reply A → List ℕ
+abbrev pub reply_text : {A : Type 0} → Reply A → Bytes
 reply_text (Value v) = codes "value " ++ shown_token v
 reply_text Missing = codes "missing"
 reply_text New = codes "new"
@@ -18,18 +19,18 @@ reply_text Deleted = codes "deleted"
 reply_text (Rows rows) = codes "rows " ++ decimal (length rows)
 
 -- the line of a row: its key, a space and its value, with the line feed
-abbrev pub shown_row : List ℕ × List ℕ → List ℕ
+abbrev pub shown_row : Bytes × Bytes → Bytes
 shown_row row = shown_token row.0 ++ 32 ∷ shown_token row.1 ++ 10 ∷ []
 
 -- the lines of a reply's rows; only one to a scan has any
-abbrev pub row_lines : {A : Type 0} → Reply A → List ℕ
+abbrev pub row_lines : {A : Type 0} → Reply A → Bytes
 row_lines (Rows rows) = flat_map shown_row rows
 row_lines _ = []
 
 -- the lines of a reply, each with its line feed
-abbrev pub shown_reply : {A : Type 0} → Reply A → List ℕ
+abbrev pub shown_reply : {A : Type 0} → Reply A → Bytes
 shown_reply reply = reply_text reply ++ 10 ∷ row_lines reply
 
 -- the line of a report: its pages, its height and its pairs, with the line feed
-abbrev pub shown_report : Report → List ℕ
+abbrev pub shown_report : Report → Bytes
 shown_report report = codes "ok " ++ decimal report.pages ++ 32 ∷ decimal report.height ++ 32 ∷ decimal report.pairs ++ 10 ∷ []

@@ -1,9 +1,10 @@
 -- Tokens: how the words of a batch file stand for byte strings.
-use Rattle.std.specs.Prelude.{ℕ, ◌+◌, ◌*◌, ◌/◌, ◌%◌, Bool, not, ◌&&◌, ◌==◌, nat_lt, if◌then◌else◌, List, [], ◌∷◌, ◌++◌, length, Option, Some, None}
+use Rattle.std.specs.Prelude.{ℕ, ◌+◌, ◌*◌, ◌/◌, ◌%◌, Bool, not, ◌&&◌, ◌==◌, nat_lt, if◌then◌else◌, [], ◌∷◌, ◌++◌, length, Option, Some, None}
 use Rattle.std.specs.List.{flat_map}
 use Rattle.std.specs.Str.{bytes_eq}
 use Rattle.std.specs.Option.{option_map, option_zip}
 use Rattle.std.specs.Char.{digit_value, is_digit, is_ascii_graphic}
+use Rattle.keys.specs.Bytes.{Bytes}
 
 -- the sign that two hexadecimal digits follow, and that alone is the empty string
 abbrev pub percent : ℕ
@@ -26,22 +27,22 @@ abbrev pub hex_byte : ℕ → ℕ → Option ℕ
 hex_byte high low = option_map (λ (h, l). 16 * h + l) (option_zip (hex_value high) (hex_value low))
 
 -- the byte and then the bytes, where both are there
-abbrev pub byte_in_front : Option ℕ → Option (List ℕ) → Option (List ℕ)
+abbrev pub byte_in_front : Option ℕ → Option Bytes → Option Bytes
 byte_in_front b bs = option_map (λ (x, xs). x ∷ xs) (option_zip b bs)
 
 -- the first bytes and then the others, where those are there
-abbrev pub with_front : List ℕ → Option (List ℕ) → Option (List ℕ)
+abbrev pub with_front : Bytes → Option Bytes → Option Bytes
 with_front front bs = option_map (λ xs. front ++ xs) bs
 
 -- what characters stand for: a percent sign and the two behind it for one byte, any other for itself
-abbrev pub unescaped : List ℕ → Option (List ℕ)
+abbrev pub unescaped : Bytes → Option Bytes
 unescaped [] = Some []
 unescaped (c ∷ []) = byte_in_front (own_byte c) (Some [])
 unescaped (c ∷ d ∷ []) = byte_in_front (own_byte c) (unescaped (d ∷ []))
 unescaped (c ∷ d ∷ e ∷ cs) = if c == percent then byte_in_front (hex_byte d e) (unescaped cs) else byte_in_front (own_byte c) (unescaped (d ∷ e ∷ cs))
 
 -- the bytes that a token stands for, if it is one: the percent sign alone is the empty string
-abbrev pub token_bytes : List ℕ → Option (List ℕ)
+abbrev pub token_bytes : Bytes → Option Bytes
 token_bytes t = if bytes_eq t (percent ∷ []) then Some [] else (if length t == 0 then None else unescaped t)
 
 -- the upper case digit of a number below 16
@@ -49,10 +50,10 @@ abbrev pub hex_digit : ℕ → ℕ
 hex_digit n = if nat_lt n 10 then 48 + n else 55 + n
 
 -- a byte as it is printed: escaped only where it does not stand for itself
-abbrev pub shown_byte : ℕ → List ℕ
+abbrev pub shown_byte : ℕ → Bytes
 shown_byte b = if stands_for_itself b then b ∷ [] else percent ∷ hex_digit (b / 16) ∷ hex_digit (b % 16) ∷ []
 
 -- a byte string as it is printed
-abbrev pub shown_token : List ℕ → List ℕ
+abbrev pub shown_token : Bytes → Bytes
 shown_token [] = percent ∷ []
 shown_token (b ∷ bs) = flat_map shown_byte (b ∷ bs)

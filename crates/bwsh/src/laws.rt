@@ -1,7 +1,8 @@
 //! What the definitions of `specs/` mean. Each law is the contract of a function with an empty body.
-ghost use Rattle.std.specs.Prelude.{◌≡◌, ◌≢◌, ◌<◌, ◌≤◌, ℕ, List, [], ◌∷◌, ◌++◌, map, Some};
+ghost use Rattle.std.specs.Prelude.{◌≡◌, ◌≢◌, ◌<◌, ◌≤◌, List, [], ◌∷◌, ◌++◌, map, Some};
 ghost use Rattle.std.specs.List.{All, flat_map};
 ghost use Rattle.std.specs.declared.alloc.Global.{Global};
+ghost use Rattle.keys.specs.Bytes.{Bytes, Pairs};
 ghost use Rattle.keys.specs.declared.command.Command.{Command};
 ghost use Rattle.keys.specs.Step.{replies_to, map_after_all};
 ghost use Rattle.keys.specs.declared.settings.Settings.{Settings};
@@ -20,9 +21,9 @@ ghost use Rattle.bwsh.specs.Words.{words_of};
 
 /// A byte string as it is printed is one word, of characters from 0x21 to 0x7E, and reads back as that byte string.
 pub fn what_is_printed_is_read_back()
-    ensures bytes { (bs : List ℕ) → All (λ b. b < 256) bs → token_bytes (shown_token bs) ≡ Some bs }
-    ensures printable { (bs : List ℕ) → All (λ b. b < 256) bs → All (λ c. (0x21 ≤ c) × (c ≤ 0x7E)) (shown_token bs) }
-    ensures one_word { (bs : List ℕ) → All (λ b. b < 256) bs → words_of (shown_token bs) ≡ shown_token bs ∷ [] }
+    ensures bytes { (bs : Bytes) → All (λ b. b < 256) bs → token_bytes (shown_token bs) ≡ Some bs }
+    ensures printable { (bs : Bytes) → All (λ b. b < 256) bs → All (λ c. (0x21 ≤ c) × (c ≤ 0x7E)) (shown_token bs) }
+    ensures one_word { (bs : Bytes) → All (λ b. b < 256) bs → words_of (shown_token bs) ≡ shown_token bs ∷ [] }
 {}
 
 /// The commands of the orders, joined end to end, are the commands that the lines say: each once, in their order.
@@ -40,10 +41,10 @@ pub fn batches_are_read_back()
 /// A batch prints the lines of its replies, in front of what the orders behind it print on the tree and the map that it leaves. A
 /// verify prints the line of the report on the tree, and leaves both as they are.
 pub fn each_order_prints_its_answer()
-    ensures none { (settings : Settings) → (tree : Tree) → (m : List (List ℕ × List ℕ)) → printed settings tree m [] ≡ [] }
-    ensures batch { (settings : Settings) → (tree : Tree) → (m : List (List ℕ × List ℕ)) → (commands : List (Command Global)) → (rest : List Order) →
+    ensures none { (settings : Settings) → (tree : Tree) → (m : Pairs Bytes) → printed settings tree m [] ≡ [] }
+    ensures batch { (settings : Settings) → (tree : Tree) → (m : Pairs Bytes) → (commands : List (Command Global)) → (rest : List Order) →
         printed settings tree m (Batch commands ∷ rest) ≡ flat_map shown_reply (replies_to m commands) ++ printed settings (planned_tree settings tree commands) (map_after_all m commands) rest }
-    ensures verify { (settings : Settings) → (tree : Tree) → (m : List (List ℕ × List ℕ)) → (rest : List Order) →
+    ensures verify { (settings : Settings) → (tree : Tree) → (m : Pairs Bytes) → (rest : List Order) →
         printed settings tree m (Verify ∷ rest) ≡ shown_report (report tree) ++ printed settings tree m rest }
 {}
 
@@ -51,7 +52,7 @@ pub fn each_order_prints_its_answer()
 /// makes no difference how they are cut into batches, nor what the settings and the tree are. So it is for lines of which none
 /// says `verify`.
 pub fn the_commands_are_answered_in_order()
-    ensures orders { (settings : Settings) → (tree : Tree) → (m : List (List ℕ × List ℕ)) → (orders : List Order) → All (λ o. o ≢ Verify) orders →
+    ensures orders { (settings : Settings) → (tree : Tree) → (m : Pairs Bytes) → (orders : List Order) → All (λ o. o ≢ Verify) orders →
         printed settings tree m orders ≡ flat_map shown_reply (replies_to m (flat_map commands_of orders)) }
     ensures lines { (settings : Settings) → (tree : Tree) → (said : List Says) → All (λ s. s ≢ says.Verify) said →
         printed settings tree [] (orders_of [] said) ≡ flat_map shown_reply (replies_to [] (commands_said said)) }

@@ -1,7 +1,8 @@
 //! The program: reads the words of its command line, and runs the session that they ask for.
-ghost use Rattle.std.specs.Prelude.{◌≡◌, ◌↔◌, ◌⊎◌, ℕ, List, map, drop, IfOk, IfErr};
+ghost use Rattle.std.specs.Prelude.{◌≡◌, ◌↔◌, ◌⊎◌, List, map, drop, IfOk, IfErr};
 ghost use Rattle.std.specs.String.{string_bytes};
 ghost use Rattle.std.specs.IoError.{error_kind};
+ghost use Rattle.keys.specs.Bytes.{Bytes};
 ghost use Rattle.bwsh.specs.Session.{unread_text, IsBegun, EndsTold};
 
 use crate::session::{session, unread_words};
@@ -59,7 +60,7 @@ pub fn run_program<R: Env + AllocGlobal + Threads + Sync, I: Read, O: Write, E: 
     out: &mut O,
     err: &mut E,
 ) -> u8
-    ensures ends { ((words : List (List ℕ)) × EndsTold words
+    ensures ends { ((words : List Bytes) × EndsTold words
         (I.remaining input.old) (O.contents out.old) (O.contents out.new)
         (E.contents err.old) (E.contents err.new)
         (input.new ≡ input.old) (out.new ≡ out.old) result)

@@ -1,11 +1,12 @@
 //! A session: the batch file is read, and run on a new store of the settings that the command line tells.
-ghost use Rattle.std.specs.Prelude.{◌≡◌, ◌≢◌, ◌↔◌, ◌⊎◌, ℕ, List, [], ◌∷◌, ◌++◌, map, None, IfSome, Result, Ok, Err, IfOk, OnOk, OnErr, IsOkUnless, MatchResult, take, length, ◌≤◌};
+ghost use Rattle.std.specs.Prelude.{◌≡◌, ◌≢◌, ◌↔◌, ◌⊎◌, ℕ, [], ◌∷◌, ◌++◌, map, None, IfSome, Result, Ok, Err, IfOk, OnOk, OnErr, IsOkUnless, MatchResult, take, length, ◌≤◌};
 ghost use Rattle.std.specs.List.{flat_map};
 ghost use Rattle.std.specs.String.{string_bytes};
 ghost use Rattle.std.specs.IoError.{error_kind};
 ghost use Rattle.std.specs.Io.KnownBytes.{Appends, Keeps};
 ghost use Rattle.clap.specs.Words.{kind_of};
 ghost use Rattle.clap.specs.declared.error.kind.ErrorKind.TheVariants.{DisplayHelp, OutOfMemory};
+ghost use Rattle.keys.specs.Bytes.{Bytes};
 ghost use Rattle.keys.specs.declared.fault.Fault.TheVariants.{NoMemory};
 ghost use Rattle.bwsh.specs.declared.session.Ending.{Ending};
 ghost use Rattle.bwsh.specs.declared.session.Ending.TheVariants.{Device};
@@ -114,7 +115,7 @@ fn read_fault(error: io::Error) -> Ending
 
 // Reads all of the input, and returns the orders of its text.
 fn read_orders<I: Read>(alloc: Global, input: &mut I) -> Result<Vec<Order>, Ending>
-    ensures { (text : List ℕ) × IfSome (I.remaining input.old) (λ known. text ≡ known)
+    ensures { (text : Bytes) × IfSome (I.remaining input.old) (λ known. text ≡ known)
         × MatchResult result (λ orders. (first_bad 1 (text_says text) ≡ None) × (orders.items ≡ orders_of [] (text_says text))) (IsReadEnding (first_bad 1 (text_says text))) }
 {
     let mut text = Vec::new(alloc);
@@ -152,7 +153,7 @@ fn write_some<O: Write>(bytes: &[u8], out: &mut O) -> Result<usize, Ending>
 // Writes the bytes. Where the output fails, the first of them stand there; `write_all` would not say so.
 fn write_bytes<O: Write>(bytes: &[u8], out: &mut O) -> Result<(), Ending>
     ensures ok { OnOk result (Appends (O.contents out.old) (O.contents out.new) bytes.now) }
-    ensures err { OnErr result ((front : List ℕ) × BeginsWith bytes.now front × Appends (O.contents out.old) (O.contents out.new) front) }
+    ensures err { OnErr result ((front : Bytes) × BeginsWith bytes.now front × Appends (O.contents out.old) (O.contents out.new) front) }
     ensures device { IsOkUnless result Ending.Device }
 {
     let mut rest = bytes;
@@ -375,7 +376,7 @@ pub fn session<R: AllocGlobal + Threads + Sync, I: Read, O: Write, E: Write>(
     ensures bad { result ≡ 3 → Appends (O.contents out.old) (O.contents out.new) []
         × IfSome (I.remaining input.old) (λ text. first_bad 1 (text_says text) ≢ None) }
     ensures beginning { AsksForHelp (map string_bytes words.now) ⊎ Appends (O.contents out.old) (O.contents out.new) []
-        ⊎ ((settings : Settings) × AsksForSettings (map string_bytes words.now) settings × IfSome (I.remaining input.old) (λ text. (front : List ℕ)
+        ⊎ ((settings : Settings) × AsksForSettings (map string_bytes words.now) settings × IfSome (I.remaining input.old) (λ text. (front : Bytes)
         × BeginsWith (printed_by settings text) front × Appends (O.contents out.old) (O.contents out.new) front)) }
 
     // How it ends, and what is read and printed, is right for the words and the text but for memory and devices.

@@ -1,5 +1,6 @@
 -- A clean: why it is refused, and what it leaves of the store and of its disk.
 use Rattle.std.specs.Prelude.{ℕ, suc, nat_eq, if◌then◌else◌, List, take, drop, Result, Err}
+use Rattle.keys.specs.Bytes.{Bytes}
 use Rattle.keys.specs.declared.settings.Settings.{Settings}
 use Rattle.keys.specs.declared.fault.Fault.{Fault}
 use Rattle.keys.specs.declared.fault.Fault.TheVariants.{NothingToClean}
@@ -17,11 +18,11 @@ use Rattle.recovery.specs.StoreOfDisk.{unless_found, frames_in}
 use Rattle.cleaner.specs.CleanText.{clean_text}
 
 -- what the slot for this sequence number says, as it stands on the disk
-abbrev pub slot_on_disk : ℕ → List ℕ → Slot
+abbrev pub slot_on_disk : ℕ → Bytes → Slot
 slot_on_disk n file = slot_in (take slot_size (drop (slot_place n) file))
 
 -- the slot for this text of a store: the root and the height stay those on the disk, and the head is one further
-abbrev pub clean_slot : Settings → Store → List ℕ → List Frame → Slot
+abbrev pub clean_slot : Settings → Store → Bytes → List Frame → Slot
 clean_slot s st file text = record {
   sequence = suc st.sequence;
   head = suc st.head;
@@ -31,17 +32,17 @@ clean_slot s st file text = record {
 }
 
 -- what a text that is carried on leaves: the tree in memory stays
-abbrev pub after_carried : Settings → Store → List ℕ → List Frame → Result (Store × List ℕ) Fault
+abbrev pub after_carried : Settings → Store → Bytes → List Frame → Result (Store × Bytes) Fault
 after_carried s st file text =
     let t : Slot = clean_slot s st file text in
     after_commit t (is_full_for_clean s st.head t.tail) (store_after st.tree t) (committed s file (spans s st.tail text) t)
 
 -- what a clean of these frames leaves, unless they say what fits no page
-abbrev pub after_clean_of : Settings → Store → List ℕ → List Found → Result (Store × List ℕ) Fault
+abbrev pub after_clean_of : Settings → Store → Bytes → List Found → Result (Store × Bytes) Fault
 after_clean_of s st file found = and_then (unless_found (broken_in (frames_in found)) (clean_text st.head found)) (after_carried s st file)
 
 -- what a clean leaves of a store and of the bytes of its disk, or why it is refused: first where one segment alone is in use
-abbrev pub after_clean : Settings → Store → List ℕ → Result (Store × List ℕ) Fault
+abbrev pub after_clean : Settings → Store → Bytes → Result (Store × Bytes) Fault
 after_clean s st file =
     if nat_eq st.head (last_segment s st.tail)
     then Err NothingToClean
@@ -50,5 +51,5 @@ after_clean s st file =
 -- ---- the calls of the disk
 
 -- the calls by which a clean of these frames is written
-abbrev pub clean_calls : Settings → Store → List ℕ → List Found → List Call
+abbrev pub clean_calls : Settings → Store → Bytes → List Found → List Call
 clean_calls s st file found = commit_calls s file (spans s st.tail (clean_text st.head found)) (clean_slot s st file (clean_text st.head found))

@@ -1,5 +1,6 @@
 -- Batches, flushes and cleans, one after the other, over a store and the bytes of its disk.
 use Rattle.std.specs.Prelude.{◌≡◌, ℕ, List, [], ◌∷◌, length, take, Option, Some, None, Result, Ok, Err}
+use Rattle.keys.specs.Bytes.{Bytes}
 use Rattle.keys.specs.Lists.{flat}
 use Rattle.keys.specs.Step.{replies_to, map_after_all}
 use Rattle.keys.specs.declared.command.Command.{Command}
@@ -40,11 +41,11 @@ abbrev pub with_tree : Store → Tree → Store
 with_tree st t = record { tree = t; head = st.head; tail = st.tail; sequence = st.sequence }
 
 -- what a step leaves of a store and of the bytes of its disk, behind its answer; or why it is refused
-abbrev pub unless_refused : {A : Type 0} → Option Fault → Answer A → Store → List ℕ → Result (Answer A × (Store × List ℕ)) Fault
+abbrev pub unless_refused : {A : Type 0} → Option Fault → Answer A → Store → Bytes → Result (Answer A × (Store × Bytes)) Fault
 unless_refused None answer st file = Ok (answer, (st, file))
 unless_refused (Some fault) answer st file = Err fault
 
-abbrev pub after_step : {A : Type 0} → Batching A → Settings → Store → List ℕ → Step A → Result (Answer A × (Store × List ℕ)) Fault
+abbrev pub after_step : {A : Type 0} → Batching A → Settings → Store → Bytes → Step A → Result (Answer A × (Store × Bytes)) Fault
 after_step b s st file (Batch cs) = unless_refused (b.refusal st.tree cs) (Replies (replies_to (contents st.tree) cs)) (with_tree st (b.planned st.tree cs)) file
 after_step b s st file Flush = and_then (after_flush s st file) (λ p. Ok (Flushed p.0.sequence, p))
 after_step b s st file Clean = and_then (after_clean s st file) (λ p. Ok (Cleaned p.0.head, p))
@@ -53,7 +54,7 @@ after_step b s st file Clean = and_then (after_clean s st file) (λ p. Ok (Clean
 pub record Played (A : Type 0) : Type 0 where
   pub answers : List (Answer A)
   pub store : Store
-  pub bytes : List ℕ
+  pub bytes : Bytes
   pub fault : Option Fault
 
 -- the same behind another answer
@@ -61,12 +62,12 @@ abbrev pub behind_answer : {A : Type 0} → Answer A → Played A → Played A
 behind_answer a p = record { answers = a ∷ p.answers; store = p.store; bytes = p.bytes; fault = p.fault }
 
 -- what is played on from what a step left; where it was refused, nothing is, and the store and the bytes stay
-abbrev pub played_on : {A : Type 0} → Store → List ℕ → Result (Answer A × (Store × List ℕ)) Fault → (Store → List ℕ → Played A) → Played A
+abbrev pub played_on : {A : Type 0} → Store → Bytes → Result (Answer A × (Store × Bytes)) Fault → (Store → Bytes → Played A) → Played A
 played_on st file (Ok p) next = behind_answer p.0 (next p.1.0 p.1.1)
 played_on st file (Err fault) next = record { answers = []; store = st; bytes = file; fault = Some fault }
 
 -- the steps, played on a store and the bytes of its disk
-abbrev pub plays : {A : Type 0} → Batching A → Settings → Store → List ℕ → List (Step A) → Played A
+abbrev pub plays : {A : Type 0} → Batching A → Settings → Store → Bytes → List (Step A) → Played A
 plays b s st file [] = record { answers = []; store = st; bytes = file; fault = None }
 plays b s st file (x ∷ xs) = played_on st file (after_step b s st file x) (λ now bytes. plays b s now bytes xs)
 
@@ -103,7 +104,7 @@ trees_in_turn b now (Clean ∷ xs) = trees_in_turn b now xs
 
 -- a batch that isn't refused does to what a store holds what its commands do, and leaves the store in step with its disk
 abbrev pub KeepsStores : {A : Type 0} → Settings → Batching A → Type 0
-KeepsStores {A} s b = (st : Store) (file : List ℕ) (cs : List (Command A)) → IsStoreOf s st file → b.refusal st.tree cs ≡ None → HasWordPids (b.planned st.tree cs) →
+KeepsStores {A} s b = (st : Store) (file : Bytes) (cs : List (Command A)) → IsStoreOf s st file → b.refusal st.tree cs ≡ None → HasWordPids (b.planned st.tree cs) →
     (contents (b.planned st.tree cs) ≡ map_after_all (contents st.tree) cs) × IsStoreOf s (with_tree st (b.planned st.tree cs)) file
 
 -- Of steps that were played, as far as they were, on a store with this tree, whose disk stood for one with the tree that is

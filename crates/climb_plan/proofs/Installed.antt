@@ -6,7 +6,7 @@ use Rattle.mapping.specs.Levels.{pids}
 use Rattle.mapping.specs.FreshPids.{is_among}
 use Rattle.mapping.specs.Table.{Mapping, place_of}
 use Rattle.page_runs.specs.Worked.{Worked}
-use Rattle.split_plan.specs.Change.{Change, changes, new_of}
+use Rattle.split_plan.specs.Change.{Change, new_of}
 use Rattle.split_plan.specs.Terms.{freed_of}
 use Rattle.climb_plan.specs.Changing.{AreHome}
 

@@ -6,7 +6,7 @@ use Rattle.std.proofs.lemmas.List.{take_more, drop_more, length-map}
 use Rattle.keys.specs.Order.{IsRising}
 use Rattle.index_page.specs.Page as page
 use Rattle.index_page.specs.Page.{Page, PageOfKind, low_of, IsLeaf}
-use Rattle.index_page.specs.Page.PageOfKind.{Leaf, Index}
+use Rattle.index_page.specs.Page.PageOfKind.{Index}
 use Rattle.mapping.specs.Levels.{Placed, entries}
 use Rattle.mapping.specs.Table.{Mapping, page_of}
 use Rattle.climb_plan.specs.Changing.{SeenPage}

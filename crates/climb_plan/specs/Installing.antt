@@ -1,6 +1,7 @@
 -- What a climb does to the mapping table, one page after the other.
 use Rattle.std.specs.Prelude.{◌≡◌, ℕ, suc, ◌+◌, ◌<◌, ⊤, false, List, [], ◌∷◌, ◌++◌, flat_map, drop, length, Option, Some, None, IsSome, if◌then◌else◌}
 use Rattle.std.specs.List.{AllByRecursion}
+use Rattle.keys.specs.Bytes.{Changes, Names}
 use Rattle.index_page.specs.Page.{PageOfKind}
 use Rattle.index_page.specs.Page.PageOfKind.{Leaf, Index}
 use Rattle.mapping.specs.FreshPids.{is_among, unused}
@@ -35,7 +36,7 @@ abbrev pub page_or_none : Option PageOfKind → PageOfKind
 page_or_none None = Leaf (record { low = []; layers = record { runs = []; base = [] } })
 page_or_none (Some p) = p
 
-abbrev pub parent_held : Mapping PageOfKind → ℕ × List (List ℕ × Option ℕ) → TermHeld
+abbrev pub parent_held : Mapping PageOfKind → ℕ × Changes ℕ → TermHeld
 parent_held t told = record { page = page_or_none (page_of t told.0); pid = told.0; terms = told.1 }
 
 -- these pids have index pages at home, each another
@@ -124,7 +125,7 @@ pub record AreGrown (before after : TreeInMemory) (ls : List (List (Placed ℕ))
 -- ---- the root shrinks
 
 -- the pid of the only child that entries name, where there is just one
-abbrev pub only_pid : List (List ℕ × ℕ) → Option ℕ
+abbrev pub only_pid : Names → Option ℕ
 only_pid [] = None
 only_pid (e ∷ []) = Some e.1
 only_pid (e ∷ f ∷ es) = None

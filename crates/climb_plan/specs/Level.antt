@@ -1,6 +1,7 @@
 -- A level in the course of a climb: its pages as code has them, of either kind, and as the plan has them.
 use Rattle.std.specs.Prelude.{◌≡◌, ℕ, ◌+◌, List, [], ◌∷◌, map, drop, length, Some, None}
 use Rattle.std.specs.List.{filter, AllByRecursion}
+use Rattle.keys.specs.Bytes.{Names}
 use Rattle.keys.specs.Order.{IsRising}
 use Rattle.keys.specs.declared.settings.Settings.{Settings}
 use Rattle.index_page.specs.Page.{Page, PageOfKind, low_of}
@@ -72,7 +73,7 @@ next_tree t n taken = record { table = drawn_and_taken t.table n taken; root = t
 -- ---- what becomes of a level
 
 -- the groups of a level that are rewritten, cut, with the parents and the names that are freed
-pub record IsCut {V : Type 0} (s : Settings) (of : Page V → PageOfKind) (ws : List (Worked V)) (ps : List (Placed ℕ)) (parents : List (ℕ × ℕ)) (freed : List (List (List ℕ × ℕ))) (groups : List Remade) : Type 0 where
+pub record IsCut {V : Type 0} (s : Settings) (of : Page V → PageOfKind) (ws : List (Worked V)) (ps : List (Placed ℕ)) (parents : List (ℕ × ℕ)) (freed : List Names) (groups : List Remade) : Type 0 where
   pub counts : parents ≡ group_counts (changing ps ws)
   pub names : freed ≡ map freed_names (map (λ g. map (shown of) g) (changing_groups (changing ps ws)))
   pub pieces : groups ≡ map (cut_group s) (map (λ g. map (shown of) g) (changing_groups (changing ps ws)))

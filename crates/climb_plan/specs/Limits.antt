@@ -1,12 +1,13 @@
 -- Which commands are within the settings.
-use Rattle.std.specs.Prelude.{ℕ, ◌≤◌, List, length, IfSome}
+use Rattle.std.specs.Prelude.{◌≤◌, List, length, IfSome}
 use Rattle.std.specs.List.{AllByRecursion}
+use Rattle.keys.specs.Bytes.{Bytes}
 use Rattle.keys.specs.declared.settings.Settings.{Settings}
 use Rattle.keys.specs.declared.command.Command.{Command}
 use Rattle.keys.specs.declared.command.Command.TheVariants.{Get, Put, Add, Del, Scan}
 
 -- the key and the value of a command, and the bounds of a scan, are no longer than the settings allow
-abbrev pub IsShortPair : Settings → List ℕ → List ℕ → Type 0
+abbrev pub IsShortPair : Settings → Bytes → Bytes → Type 0
 IsShortPair s k v = (length k ≤ s.max_key) × (length v ≤ s.max_value)
 
 abbrev pub IsShortCommand : {A : Type 0} → Settings → Command A → Type 0

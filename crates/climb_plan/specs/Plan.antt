@@ -1,6 +1,7 @@
 -- What a batch makes of a store.
 use Rattle.std.specs.Prelude.{ℕ, suc, List, ◌++◌, flat_map, drop, length}
 use Rattle.std.specs.Map.{keys_of}
+use Rattle.keys.specs.Bytes.{Bytes}
 use Rattle.keys.specs.declared.settings.Settings.{Settings}
 use Rattle.keys.specs.declared.command.Command.{Command}
 use Rattle.mapping.specs.Tree.{Tree, Store}
@@ -11,13 +12,13 @@ use Rattle.split_plan.specs.WorkedLevel.{worked_leaves}
 use Rattle.climb_plan.specs.Climb.{Climbed, climb, kept}
 
 -- the levels after the commands: each leaf gets its part of the net run, and the levels above get their terms
-abbrev pub climbed : {A : Type 0} → Settings → Tree → List (Command A) → Climbed (List ℕ)
+abbrev pub climbed : {A : Type 0} → Settings → Tree → List (Command A) → Climbed Bytes
 climbed s t cs =
     let l : Levels = levels_of t in
     climb s (keys_of t.pages) 0 (worked_leaves s (net_run (contents t) cs) l.level) l.above
 
 -- those that are left once the root has shrunk
-abbrev pub shrunk : Climbed (List ℕ) → Levels
+abbrev pub shrunk : Climbed Bytes → Levels
 shrunk c = record { level = c.tower.level; above = kept c.tower.above }
 
 abbrev pub planned_levels : {A : Type 0} → Settings → Tree → List (Command A) → Levels
@@ -31,7 +32,7 @@ shrunk_pids ls = flat_map pids (drop (length (kept ls)) ls)
 -- those that went with the old root
 abbrev pub outdated_pids : {A : Type 0} → Settings → Tree → List (Command A) → List ℕ
 outdated_pids s t cs =
-    let c : Climbed (List ℕ) = climbed s t cs in
+    let c : Climbed Bytes = climbed s t cs in
     c.outdated ++ shrunk_pids c.tower.above
 
 -- the tree after the commands

@@ -1,6 +1,7 @@
 -- Which groups of a level are rewritten, and what is made of them, in words of pages of either kind, as code has them.
-use Rattle.std.specs.Prelude.{◌≡◌, ℕ, ◌+◌, ◌-◌, ◌<◌, ◌≤◌, ⊤, Bool, false, true, List, [], ◌∷◌, ◌++◌, map, flat_map, take, drop, length, Option, Some, None}
+use Rattle.std.specs.Prelude.{◌≡◌, ℕ, ◌+◌, ◌-◌, ◌<◌, ◌≤◌, ⊤, Bool, false, true, List, [], ◌∷◌, ◌++◌, map, flat_map, take, drop, length, Some, None}
 use Rattle.std.specs.List.{filter, AllByRecursion, range_with_len}
+use Rattle.keys.specs.Bytes.{Bytes, Changes, Names}
 use Rattle.keys.specs.Lists.{flat}
 use Rattle.keys.specs.Order.{IsRising}
 use Rattle.keys.specs.declared.settings.Settings.{Settings}
@@ -33,7 +34,7 @@ abbrev pub all_seen : List Seen → List SeenPage
 all_seen xs = map seen_now xs
 
 -- what a parent's entry says of it
-abbrev pub seen_name : SeenPage → List ℕ × ℕ
+abbrev pub seen_name : SeenPage → Bytes × ℕ
 seen_name x = (low_of x.page, x.pid)
 
 abbrev pub is_thin_seen : SeenPage → Bool
@@ -104,7 +105,7 @@ abbrev pub IsQuiet : SeenPage → Type 0
 IsQuiet x = calls x.class ≡ false
 
 -- the low keys of pages
-abbrev pub lows : List SeenPage → List (List ℕ)
+abbrev pub lows : List SeenPage → List Bytes
 lows xs = map (λ x. low_of x.page) xs
 
 -- of these pages the first that is thin or fat, with those in front of it and those behind
@@ -114,26 +115,26 @@ pub record IsFirstCall (xs quiet : List SeenPage) (x : SeenPage) (more : List Se
   pub call : calls x.class ≡ true
 
 -- the key is the low key of the first page that is thin or fat
-abbrev pub HasFirstCall : List SeenPage → List ℕ → Type 0
+abbrev pub HasFirstCall : List SeenPage → Bytes → Type 0
 HasFirstCall xs low = (quiet : List SeenPage) × (x : SeenPage) × (more : List SeenPage) × IsFirstCall xs quiet x more × (low ≡ low_of x.page)
 
 -- of a level's pages the pids of those in whose range the key lies
-abbrev pub pids_for : List (Placed ℕ) → List ℕ → List ℕ
+abbrev pub pids_for : List (Placed ℕ) → Bytes → List ℕ
 pids_for ps k = map (λ at. at.pid) (filter (is_place_for k) (children (names ps) None))
 
 -- pages whose low keys are below a key, and pages whose low keys are not
-pub record AreParted (k : List ℕ) (xs before from : List SeenPage) : Type 0 where
+pub record AreParted (k : Bytes) (xs before from : List SeenPage) : Type 0 where
   pub joined : xs ≡ before ++ from
   pub below : AreBelow k (lows before)
   pub others : AreFrom k (lows from)
 
 -- whether the first of these pages has this low key
-abbrev pub begins_at : List ℕ → List SeenPage → Bool
+abbrev pub begins_at : Bytes → List SeenPage → Bool
 begins_at low [] = false
 begins_at low (x ∷ xs) = is_same_key (low_of x.page) low
 
 -- the first of the pages that are left of a level, of which these got a run
-pub record IsNextChild (t : Mapping PageOfKind) (xs : List SeenPage) (low : List ℕ) (pid : ℕ) (x : SeenPage) (later : List SeenPage) : Type 0 where
+pub record IsNextChild (t : Mapping PageOfKind) (xs : List SeenPage) (low : Bytes) (pid : ℕ) (x : SeenPage) (later : List SeenPage) : Type 0 where
   pub seen : AreSeenIn t xs (x ∷ later)
   pub same_low : low ≡ low_of x.page
   pub same_pid : pid ≡ x.pid
@@ -170,7 +171,7 @@ abbrev pub CanBeCut : List (List SeenPage) → Type 0
 CanBeCut gs = AllByRecursion (λ g. CanJoin (map (λ x. x.page) g)) gs
 
 -- the names of the members that are freed
-abbrev pub freed_names : List SeenPage → List (List ℕ × ℕ)
+abbrev pub freed_names : List SeenPage → Names
 freed_names g = map seen_name (drop 1 g)
 
 -- each group has a page
@@ -190,35 +191,35 @@ numbers [] = 0
 numbers (r ∷ rs) = (length r.pieces - 1) + numbers rs
 
 -- the low keys of pages with these pids
-abbrev pub named_pages : List PageOfKind → List ℕ → List (List ℕ × ℕ)
+abbrev pub named_pages : List PageOfKind → List ℕ → Names
 named_pages [] pids = []
 named_pages (p ∷ ps) [] = []
 named_pages (p ∷ ps) (pid ∷ pids) = (low_of p, pid) ∷ named_pages ps pids
 
 -- the names of a group's new pieces
-abbrev pub fresh_names : Remade → List (List ℕ × ℕ)
+abbrev pub fresh_names : Remade → Names
 fresh_names r = named_pages (drop 1 r.pieces) r.fresh
 
 -- and those of all of its pieces, the first under the first member's pid
-abbrev pub group_names : Remade → List (List ℕ × ℕ)
+abbrev pub group_names : Remade → Names
 group_names r = named_pages r.pieces (take 1 r.members ++ r.fresh)
 
 -- of the pages of the highest level: of this group's pieces, or of the root as it was where there is no group
-abbrev pub top_names : ℕ → List Remade → List (List ℕ × ℕ)
+abbrev pub top_names : ℕ → List Remade → Names
 top_names root [] = ([], root) ∷ []
 top_names root (r ∷ rs) = group_names r
 
 -- the run of the terms of a parent, of the names that are freed in its groups and of those of the new pieces
-abbrev pub terms_of : List (List (List ℕ × ℕ)) → List Remade → List (List ℕ × Option ℕ)
+abbrev pub terms_of : List Names → List Remade → Changes ℕ
 terms_of fs rs = with_run (absent (flat fs)) (present (flat_map fresh_names rs))
 
 -- each parent with the run of its terms: so many of the groups are its own
-abbrev pub terms_by_parent : List (ℕ × ℕ) → List (List (List ℕ × ℕ)) → List Remade → List (ℕ × List (List ℕ × Option ℕ))
+abbrev pub terms_by_parent : List (ℕ × ℕ) → List Names → List Remade → List (ℕ × Changes ℕ)
 terms_by_parent [] fs rs = []
 terms_by_parent (c ∷ cs) fs rs = (c.0, terms_of (take c.1 fs) (take c.1 rs)) ∷ terms_by_parent cs (drop c.1 fs) (drop c.1 rs)
 
 -- each parent has so many groups, and their names can be told, since they rise
-abbrev pub CanBeTold : List (ℕ × ℕ) → List (List (List ℕ × ℕ)) → List Remade → Type 0
+abbrev pub CanBeTold : List (ℕ × ℕ) → List Names → List Remade → Type 0
 CanBeTold [] fs rs = ⊤
 CanBeTold (c ∷ cs) fs rs =
     (c.1 ≤ length fs) × (c.1 ≤ length rs) × IsRising (flat (take c.1 fs)) × IsRising (flat_map fresh_names (take c.1 rs))

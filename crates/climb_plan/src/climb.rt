@@ -3,6 +3,7 @@
 //! undoes what it did, and the level below it does the same. (The Bw-tree's splits and merges, made a level at a time as
 //! PALM makes them.)
 ghost use Rattle.std.specs.Prelude.{◌≡◌, ◌<◌, ◌≤◌, ◌+◌, ℕ, List, map, length, IfErr, OnOk, OnErr};
+ghost use Rattle.keys.specs.Bytes.{Bytes};
 ghost use Rattle.index_page.specs.Page.PageOfKind.{Leaf, Index};
 ghost use Rattle.keys.specs.declared.command.Command.{Command};
 ghost use Rattle.mapping.specs.Levels.{Placed};
@@ -69,15 +70,15 @@ fn climb_leaves(
     dones: Vec<LeafDone>,
 ) -> Result<(), (Refused, Vec<LeafDone>)>
     requires fan { 1 < settings.now.fan }
-    requires level { (ws : List (Worked (List ℕ))) × (ups : List (List (Placed ℕ))) × (used : List ℕ) × (i : ℕ)
+    requires level { (ws : List (Worked Bytes)) × (ups : List (List (Placed ℕ))) × (used : List ℕ) × (i : ℕ)
         × IsLevel Leaf tree.old (map (λ d. shown Leaf d.made.worked) dones.items) ws ups used i × (depth ≡ length ups) }
     requires height { tree.old.height ≤ most_levels }
-    ensures climbed { OnOk result ((ws : List (Worked (List ℕ))) (ups : List (List (Placed ℕ))) (used : List ℕ) (i : ℕ) →
+    ensures climbed { OnOk result ((ws : List (Worked Bytes)) (ups : List (List (Placed ℕ))) (used : List ℕ) (i : ℕ) →
         IsLevel Leaf tree.old (map (λ d. shown Leaf d.made.worked) dones.items) ws ups used i → depth ≡ length ups → HasClimbed Leaf tree.old tree.new ws ups (climb settings.now used i ws ups)) }
     ensures low { OnOk result (tree.new.height ≤ most_levels) }
     ensures back { IfErr result (λ e. e.1.items ≡ dones.items) }
     ensures err { OnErr result (tree.new ≡ tree.old) }
-    ensures high { IfErr result (λ e. (ws : List (Worked (List ℕ))) (ups : List (List (Placed ℕ))) (used : List ℕ) (i : ℕ) →
+    ensures high { IfErr result (λ e. (ws : List (Worked Bytes)) (ups : List (List (Placed ℕ))) (used : List ℕ) (i : ℕ) →
         IsLevel Leaf tree.old (map (λ d. shown Leaf d.made.worked) dones.items) ws ups used i → depth ≡ length ups → e.0 ≡ Refused.TooHigh →
         most_levels + length ups
         < tree.old.height + length (climb settings.now used i ws ups).tower.above) }

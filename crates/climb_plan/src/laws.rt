@@ -2,6 +2,7 @@
 ghost use Rattle.std.specs.Prelude.{◌≡◌, ◌↔◌, ◌⊎◌, ℕ, ◌+◌, true, false, not, List, [], ◌∷◌, ◌++◌, map, drop, length, None, Some, if◌then◌else◌};
 ghost use Rattle.std.specs.List.{AllByRecursion, Any, filter, range_with_len};
 ghost use Rattle.std.specs.Map.{keys_of};
+ghost use Rattle.keys.specs.Bytes.{Bytes};
 ghost use Rattle.keys.specs.Limits.{first_bad_field};
 ghost use Rattle.keys.specs.Step.{map_after_all};
 ghost use Rattle.keys.specs.declared.command.Command.{Command};
@@ -85,7 +86,7 @@ pub fn the_root_shrinks_while_it_has_one_child()
 pub fn commands_that_come_to_nothing_change_nothing<A: Allocator>()
     ensures store { (s : Settings) (st : Store) (cs : List (Command A)) → IsProper s st.tree → net_run (contents st.tree) cs ≡ [] → plan s st cs ≡ st }
     ensures outdated { (s : Settings) (st : Store) (cs : List (Command A)) → IsProper s st.tree → net_run (contents st.tree) cs ≡ [] → outdated_pids s st.tree cs ≡ [] }
-    ensures gets { (s : Settings) (st : Store) (keys : List (List ℕ)) → IsProper s st.tree → plan {A = A} s st (map (λ k. Get k) keys) ≡ st }
+    ensures gets { (s : Settings) (st : Store) (keys : List Bytes) → IsProper s st.tree → plan {A = A} s st (map (λ k. Get k) keys) ≡ st }
 {}
 
 /// The pids of new pages are the numbers not in use, from the least on without a gap, in the order in which the pages

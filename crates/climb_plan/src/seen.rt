@@ -78,9 +78,10 @@ pub(crate) trait Revised: Drop {
 }
 
 impl Revised for LeafDone {
-    ghost use Rattle.std.specs.Prelude.{ℕ, List, refl};
+    ghost use Rattle.std.specs.Prelude.{refl};
+    ghost use Rattle.keys.specs.Bytes.{Bytes};
 
-    ghost Cells = { List ℕ };
+    ghost Cells = { Bytes };
 
     ghost of = { Leaf };
 

@@ -1,5 +1,6 @@
 //! The root shrinks while it has one child.
 ghost use Rattle.std.specs.Prelude.{◌≡◌, ℕ, ◌-◌, ◌<◌, List, IsSome};
+ghost use Rattle.keys.specs.Bytes.{Bytes};
 ghost use Rattle.keys.specs.Order.{IsRising};
 ghost use Rattle.index_page.specs.Children.{child_entries};
 ghost use Rattle.mapping.specs.Levels.{Placed};
@@ -13,8 +14,8 @@ use std::alloc::Global;
 
 /// While the root is an index page with one child, gives up its place, and the child is the root. It takes no memory.
 pub(crate) fn shrink(tree: &mut Tree<Global>)
-    requires { (level : List (Placed (List ℕ))) × (ls : List (List (Placed ℕ))) × CanShrink tree.old level ls }
-    ensures { (level : List (Placed (List ℕ))) (ls : List (List (Placed ℕ))) → CanShrink tree.old level ls → HasShrunk tree.old tree.new level ls }
+    requires { (level : List (Placed Bytes)) × (ls : List (List (Placed ℕ))) × CanShrink tree.old level ls }
+    ensures { (level : List (Placed Bytes)) (ls : List (List (Placed ℕ))) → CanShrink tree.old level ls → HasShrunk tree.old tree.new level ls }
 {
     while tree.height() > 1 {
         let Some(child) = only_child(tree) else {

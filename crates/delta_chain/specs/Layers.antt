@@ -1,12 +1,13 @@
 -- The state of a page, apart from its kind and low key.
 use Rattle.std.specs.Prelude.{ℕ, List, [], ◌∷◌, Option, Some, None, length}
+use Rattle.keys.specs.Bytes.{Bytes, Pairs, Changes}
 use Rattle.keys.specs.Order.{IsRising}
 use Rattle.keys.specs.OrderedMap.{value_at, with_pair, without}
 
 -- runs of changes, newest first, and the base under them; a change is a value, or absence
 pub record Layers (V : Type 0) : Type 0 where
-  pub runs : List (List (List ℕ × Option V))
-  pub base : List (List ℕ × V)
+  pub runs : List (Changes V)
+  pub base : Pairs V
 
 -- what a run says of a key, else what is below it
 abbrev pub said_or : {V : Type 0} → Option (Option V) → Option V → Option V
@@ -14,31 +15,31 @@ said_or None below = below
 said_or (Some change) below = change
 
 -- what the newest run that names the key says of it, else what the base says
-abbrev pub held_under : {V : Type 0} → List ℕ → List (List (List ℕ × Option V)) → List (List ℕ × V) → Option V
+abbrev pub held_under : {V : Type 0} → Bytes → List (Changes V) → Pairs V → Option V
 held_under k [] base = value_at k base
 held_under k (run ∷ runs) base = said_or (value_at k run) (held_under k runs base)
 
 -- what the page holds at the key
-abbrev pub holds : {V : Type 0} → Layers V → List ℕ → Option V
+abbrev pub holds : {V : Type 0} → Layers V → Bytes → Option V
 holds p k = held_under k p.runs p.base
 
 -- entries with one key's change: its value set, or the key taken away
-abbrev pub with_change : {V : Type 0} → List (List ℕ × V) → List ℕ → Option V → List (List ℕ × V)
+abbrev pub with_change : {V : Type 0} → Pairs V → Bytes → Option V → Pairs V
 with_change m k None = without m k
 with_change m k (Some v) = with_pair m k v
 
 -- entries with each change of a run
-abbrev pub with_run : {V : Type 0} → List (List ℕ × V) → List (List ℕ × Option V) → List (List ℕ × V)
+abbrev pub with_run : {V : Type 0} → Pairs V → Changes V → Pairs V
 with_run m [] = m
 with_run m (c ∷ cs) = with_run (with_change m c.0 c.1) cs
 
 -- the base with each run, the oldest first
-abbrev pub entries_under : {V : Type 0} → List (List (List ℕ × Option V)) → List (List ℕ × V) → List (List ℕ × V)
+abbrev pub entries_under : {V : Type 0} → List (Changes V) → Pairs V → Pairs V
 entries_under [] base = base
 entries_under (run ∷ runs) base = with_run (entries_under runs base) run
 
 -- the page's entries: its present keys with their values, in key order
-abbrev pub entries_of : {V : Type 0} → Layers V → List (List ℕ × V)
+abbrev pub entries_of : {V : Type 0} → Layers V → Pairs V
 entries_of p = entries_under p.runs p.base
 
 -- the number of runs
@@ -46,7 +47,7 @@ abbrev pub depth_of : {V : Type 0} → Layers V → ℕ
 depth_of p = length p.runs
 
 -- the keys of each run rise, and those of the base
-abbrev pub AllRise : {V : Type 0} → List (List (List ℕ × Option V)) → List (List ℕ × V) → Type 0
+abbrev pub AllRise : {V : Type 0} → List (Changes V) → Pairs V → Type 0
 AllRise [] base = IsRising base
 AllRise (run ∷ runs) base = IsRising run × AllRise runs base
 

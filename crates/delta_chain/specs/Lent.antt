@@ -1,7 +1,8 @@
 -- What pairs of references stand for.
-use Rattle.std.specs.Prelude.{ℕ, List, map}
+use Rattle.std.specs.Prelude.{List, map}
 use Rattle.std.specs.Borrow.{Bor}
+use Rattle.keys.specs.Bytes.{Bytes, Pairs}
 
 -- the keys and cells that the references point to
-abbrev pub pairs_lent : {V : Type 0} → List (Bor (List ℕ) × Bor V) → List (List ℕ × V)
-pairs_lent {V} lent = map {B = List ℕ × V} (λ (e : Bor (List ℕ) × Bor V). (e.0.now, e.1.now)) lent
+abbrev pub pairs_lent : {V : Type 0} → List (Bor Bytes × Bor V) → Pairs V
+pairs_lent {V} lent = map {B = Bytes × V} (λ (e : Bor Bytes × Bor V). (e.0.now, e.1.now)) lent

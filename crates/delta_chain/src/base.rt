@@ -20,10 +20,10 @@ pub struct Base<V, A: Allocator> {
 }
 
 impl<V, A: Allocator> Model for Base<V, A> {
-    ghost use Rattle.std.specs.Prelude.{List, ℕ};
+    ghost use Rattle.keys.specs.Bytes.{Pairs};
     ghost use Rattle.delta_chain.specs.Packed.{packed_from, IsPacked};
 
-    ghost Value = { List (List ℕ × V) };
+    ghost Value = { Pairs V };
 
     ghost view = { λ b. packed_from 0 b.bytes.items b.ends.items b.cells.items };
 

@@ -33,9 +33,9 @@ pub struct BaseBuilder<V, A: Allocator> {
 }
 
 impl<V, A: Allocator> Model for BaseBuilder<V, A> {
-    ghost use Rattle.std.specs.Prelude.{List, ℕ};
+    ghost use Rattle.keys.specs.Bytes.{Pairs};
 
-    ghost Value = { List (List ℕ × V) };
+    ghost Value = { Pairs V };
 
     ghost view = { λ b. b.base };
 }

@@ -16,10 +16,10 @@ pub(crate) struct Entries<T, A: Allocator> {
 }
 
 impl<T, A: Allocator> Model for Entries<T, A> {
-    ghost use Rattle.std.specs.Prelude.{List, ℕ};
+    ghost use Rattle.keys.specs.Bytes.{Pairs};
     ghost use Rattle.keys.specs.Order.{IsRising};
 
-    ghost Value = { List (List ℕ × T) };
+    ghost Value = { Pairs T };
 
     ghost view = { λ e. e.items.items };
 

@@ -1,5 +1,6 @@
-ghost use Rattle.std.specs.Prelude.{◌≡◌, ◌<◌, ℕ, List, length, slice_get};
+ghost use Rattle.std.specs.Prelude.{◌≡◌, ◌<◌, List, length, slice_get};
 ghost use Rattle.std.specs.Map.{keys_of};
+ghost use Rattle.keys.specs.Bytes.{Bytes};
 ghost use Rattle.keys.specs.Order.{AreRisingKeys};
 
 use crate::base::Base;
@@ -9,7 +10,7 @@ use std::alloc::Allocator;
 
 /// A list of strictly rising keys that is read by place, so that search is written once for every such list.
 pub trait KeyList {
-    ghost keys: { Self → List (List ℕ) };
+    ghost keys: { Self → List Bytes };
 
     /// How many keys there are.
     fn len(&self) -> usize

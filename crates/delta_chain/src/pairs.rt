@@ -17,9 +17,10 @@ pub struct Pairs<'a, V, A: Allocator> {
 }
 
 impl<'a, V, A: Allocator> Model for Pairs<'a, V, A> {
-    ghost use Rattle.std.specs.Prelude.{List, ℕ};
+    ghost use Rattle.std.specs.Prelude.{List};
+    ghost use Rattle.keys.specs.Bytes.{Bytes};
 
-    ghost Value = { List (List ℕ × V) };
+    ghost Value = { List (Bytes × V) };
 
     ghost use Rattle.delta_chain.specs.Lent.{pairs_lent};
 

@@ -20,9 +20,9 @@ pub struct Run<V, A: Allocator> {
 }
 
 impl<V, A: Allocator> Model for Run<V, A> {
-    ghost use Rattle.std.specs.Prelude.{List, ℕ, Option};
+    ghost use Rattle.keys.specs.Bytes.{Changes};
 
-    ghost Value = { List (List ℕ × Option V) };
+    ghost Value = { Changes V };
 
     ghost view = { λ r. r.changes };
 }

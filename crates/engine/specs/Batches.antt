@@ -1,5 +1,6 @@
 -- Batches that are executed one after the other.
-use Rattle.std.specs.Prelude.{ℕ, List, [], ◌∷◌}
+use Rattle.std.specs.Prelude.{List, [], ◌∷◌}
+use Rattle.keys.specs.Bytes.{Bytes, Pairs}
 use Rattle.keys.specs.Step.{replies_to, map_after_all}
 use Rattle.keys.specs.declared.command.Command.{Command}
 use Rattle.keys.specs.declared.command.Reply.{Reply}
@@ -8,12 +9,12 @@ use Rattle.mapping.specs.Tree.{Tree}
 use Rattle.climb_plan.specs.Plan.{planned_tree}
 
 -- the replies to each batch, where each finds the map that the one before it left
-abbrev pub replies_in_turn : {A : Type 0} → List (List ℕ × List ℕ) → List (List (Command A)) → List (List (Reply A))
+abbrev pub replies_in_turn : {A : Type 0} → Pairs Bytes → List (List (Command A)) → List (List (Reply A))
 replies_in_turn m [] = []
 replies_in_turn m (b ∷ bs) = replies_to m b ∷ replies_in_turn (map_after_all m b) bs
 
 -- the map that the last of the batches leaves
-abbrev pub map_in_turn : {A : Type 0} → List (List ℕ × List ℕ) → List (List (Command A)) → List (List ℕ × List ℕ)
+abbrev pub map_in_turn : {A : Type 0} → Pairs Bytes → List (List (Command A)) → Pairs Bytes
 map_in_turn m [] = m
 map_in_turn m (b ∷ bs) = map_in_turn (map_after_all m b) bs
 

@@ -3,6 +3,7 @@ use Rattle.std.specs.Prelude.{◌≡◌, ℕ, ⊤, List, [], map, Option, Some, 
 use Rattle.std.specs.List.{AllByRecursion}
 use Rattle.std.specs.Map.{keys_of}
 use Rattle.std.specs.declared.alloc.Global.{Global}
+use Rattle.keys.specs.Bytes.{Bytes}
 use Rattle.keys.specs.Lists.{flat}
 use Rattle.keys.specs.Narrowed.{with_ends, MayEndAtAll}
 use Rattle.keys.specs.declared.command.Command.{Command}
@@ -23,7 +24,7 @@ use Rattle.climb_plan.specs.Installing.{page_or_none}
 abbrev pub AreRoutesFor : Tree → List (Command Global) → List Route → Type 0
 AreRoutesFor t cs rs =
     let level = (levels_of t).level in
-    (ends : List (Option (List ℕ))) × MayEndAtAll (keys_of (names level)) (contents t) cs ends
+    (ends : List (Option Bytes)) × MayEndAtAll (keys_of (names level)) (contents t) cs ends
     × (rs ≡ routes level (with_ends cs ends))
 
 abbrev pub IsLeafAt : Option PageOfKind → Type 0
@@ -36,7 +37,7 @@ abbrev pub route_pids : List Route → List ℕ
 route_pids rs = map (λ r. r.pid) rs
 
 -- these pids have leaves at home, each another
-abbrev pub AreLeavesHome : Mapping PageOfKind → List ℕ → Type 0
+abbrev pub AreLeavesHome : Mapping PageOfKind → Bytes → Type 0
 AreLeavesHome t pids = AllByRecursion (λ pid. IsLeafAt (page_of t pid)) pids × Distinct pids
 
 -- these routes go to leaves that are at home, each to another, and their places are places of the batch

@@ -1,6 +1,7 @@
 -- Which batches are refused, and with which fault.
 use Rattle.std.specs.Prelude.{ℕ, ◌+◌, nat_lt, length, if◌then◌else◌, List, [], ◌∷◌, Option, Some, None}
 use Rattle.std.specs.Option.{option_or}
+use Rattle.keys.specs.Bytes.{Bytes}
 use Rattle.keys.specs.declared.settings.Settings.{Settings}
 use Rattle.keys.specs.declared.command.Command.{Command}
 use Rattle.keys.specs.declared.command.Command.TheVariants.{Get, Put, Add, Del, Scan}
@@ -8,15 +9,15 @@ use Rattle.keys.specs.declared.fault.Fault.{Fault}
 use Rattle.keys.specs.declared.fault.Fault.TheVariants.{KeyTooLong, ValueTooLong, BatchTooLong}
 
 -- what is wrong with a key of the command at this place
-abbrev pub key_fault : Settings → ℕ → List ℕ → Option Fault
+abbrev pub key_fault : Settings → ℕ → Bytes → Option Fault
 key_fault s place k = if nat_lt s.max_key (length k) then Some (KeyTooLong place) else None
 
 -- what is wrong with a value of the command at this place
-abbrev pub value_fault : Settings → ℕ → List ℕ → Option Fault
+abbrev pub value_fault : Settings → ℕ → Bytes → Option Fault
 value_fault s place v = if nat_lt s.max_value (length v) then Some (ValueTooLong place) else None
 
 -- what is wrong with the upper bound of the scan at this place
-abbrev pub bound_fault : Settings → ℕ → Option (List ℕ) → Option Fault
+abbrev pub bound_fault : Settings → ℕ → Option Bytes → Option Fault
 bound_fault s place None = None
 bound_fault s place (Some hi) = key_fault s place hi
 

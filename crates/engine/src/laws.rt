@@ -1,7 +1,8 @@
 //! What batches, flushes and cleans do one after the other, in the words of one of them. Each law is the contract of a
 //! function with an empty body.
-ghost use Rattle.std.specs.Prelude.{◌≡◌, ℕ, List, length, take, None, Ok};
+ghost use Rattle.std.specs.Prelude.{◌≡◌, List, length, take, None, Ok};
 ghost use Rattle.std.specs.List.{AllByRecursion};
+ghost use Rattle.keys.specs.Bytes.{Bytes, Pairs};
 ghost use Rattle.keys.specs.Limits.{first_bad_field};
 ghost use Rattle.keys.specs.Lists.{flat};
 ghost use Rattle.keys.specs.Step.{replies_to, map_after_all};
@@ -30,9 +31,9 @@ use std::alloc::Allocator;
 /// Batches that are executed one after the other give the replies, and leave the map, of one batch of all their
 /// commands: it makes no difference how a list of commands is cut into batches.
 pub fn batches_are_their_commands_joined<A: Allocator>()
-    ensures replies { (m : List (List ℕ × List ℕ)) (batches : List (List (Command A))) →
+    ensures replies { (m : Pairs Bytes) (batches : List (List (Command A))) →
         flat (replies_in_turn m batches) ≡ replies_to m (flat batches) }
-    ensures map { (m : List (List ℕ × List ℕ)) (batches : List (List (Command A))) →
+    ensures map { (m : Pairs Bytes) (batches : List (List (Command A))) →
         map_in_turn m batches ≡ map_after_all m (flat batches) }
 {}
 
@@ -53,7 +54,7 @@ pub fn batches_are_planned_in_turn<A: Allocator>()
 
 /// A batch that isn't refused leaves a store in step with the bytes of its disk, which it doesn't touch.
 pub fn a_batch_stays_in_step<A: Allocator>()
-    ensures { (s : Settings) (st : Store) (file : List ℕ) (cs : List (Command A)) → first_bad_field s ≡ None → IsStoreOf s st file →
+    ensures { (s : Settings) (st : Store) (file : Bytes) (cs : List (Command A)) → first_bad_field s ≡ None → IsStoreOf s st file →
         refusal_by s st.tree cs ≡ None → HasWordPids (planned_tree s st.tree cs) → IsStoreOf s (plan s st cs) file }
 {
     the_plan_holds_the_map_after_the_commands::<A>();
@@ -66,7 +67,7 @@ pub fn a_batch_stays_in_step<A: Allocator>()
 /// disk stands for the store of the last flush, with the head, the tail and the number that there are now. The page ids of the
 /// trees on the way are numbers of 64 bits, as all are in memory.
 pub fn steps_answer_as_a_map_and_are_read_back<A: Allocator>()
-    ensures { (s : Settings) (st on_disk : Store) (file : List ℕ) (steps : List (Step A)) → first_bad_field s ≡ None → IsStoreOf s st file →
+    ensures { (s : Settings) (st on_disk : Store) (file : Bytes) (steps : List (Step A)) → first_bad_field s ≡ None → IsStoreOf s st file →
         store_of_disk file ≡ Ok (s, on_disk) →
         AllByRecursion HasWordPids (trees_in_turn (batching s) st.tree (take (length (plays (batching s) s st file steps).answers) steps)) →
         ArePlayed (batching s) s st.tree on_disk.tree steps (plays (batching s) s st file steps) }

@@ -1,5 +1,6 @@
 -- A flush: why it is refused, and what it leaves of the store and of its disk.
-use Rattle.std.specs.Prelude.{ℕ, suc, Bool, ◌||◌, nat_lt, if◌then◌else◌, List, [], ◌∷◌, Result, Ok, Err}
+use Rattle.std.specs.Prelude.{suc, Bool, ◌||◌, nat_lt, if◌then◌else◌, List, [], ◌∷◌, Result, Ok, Err}
+use Rattle.keys.specs.Bytes.{Bytes}
 use Rattle.keys.specs.declared.settings.Settings.{Settings}
 use Rattle.keys.specs.declared.fault.Fault.{Fault}
 use Rattle.keys.specs.declared.fault.Fault.TheVariants.{Spent, Full}
@@ -23,27 +24,27 @@ abbrev pub store_after : Tree → Slot → Store
 store_after tree t = record { tree = tree; head = t.head; tail = t.tail; sequence = t.sequence }
 
 -- why a commit is refused: its numbers are spent, or the log is full. Else the store and the bytes after it.
-abbrev pub after_commit : Slot → Bool → Store → List ℕ → Result (Store × List ℕ) Fault
+abbrev pub after_commit : Slot → Bool → Store → Bytes → Result (Store × Bytes) Fault
 after_commit t is_full st file = if is_spent t then Err Spent else (if is_full then Err Full else Ok (st, file))
 
 -- what a text of a store leaves: nothing is written for an empty one, and the store stays
-abbrev pub after_text : Settings → Store → List ℕ → List Frame → Result (Store × List ℕ) Fault
+abbrev pub after_text : Settings → Store → Bytes → List Frame → Result (Store × Bytes) Fault
 after_text s st file [] = Ok (st, file)
 after_text s st file (f ∷ fs) =
     let t : Slot = flush_slot s st (f ∷ fs) in
     after_commit t (is_full_for_flush s t.head t.tail) (store_after (flushed st.tree) t) (committed s file (spans s st.tail (f ∷ fs)) t)
 
 -- what a flush leaves of a store and of the bytes of its disk, or why it is refused
-abbrev pub after_flush : Settings → Store → List ℕ → Result (Store × List ℕ) Fault
+abbrev pub after_flush : Settings → Store → Bytes → Result (Store × Bytes) Fault
 after_flush s st file = after_text s st file (flush_text st.tree)
 
 -- ---- the calls of the disk
 
 -- the calls by which a text of a store is written: none for an empty one
-abbrev pub text_calls : Settings → Store → List ℕ → List Frame → List Call
+abbrev pub text_calls : Settings → Store → Bytes → List Frame → List Call
 text_calls s st file [] = []
 text_calls s st file (f ∷ fs) = commit_calls s file (spans s st.tail (f ∷ fs)) (flush_slot s st (f ∷ fs))
 
 -- the calls of a flush
-abbrev pub flush_calls : Settings → Store → List ℕ → List Call
+abbrev pub flush_calls : Settings → Store → Bytes → List Call
 flush_calls s st file = text_calls s st file (flush_text st.tree)

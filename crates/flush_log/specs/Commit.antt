@@ -1,6 +1,7 @@
 -- The calls of a commit, which makes a new slot the store's, and what a crash may leave of them.
 use Rattle.std.specs.Prelude.{◌≡◌, ◌⊎◌, ℕ, ◌+◌, ◌<◌, ◌≤◌, Bool, true, false, List, [], ◌∷◌, ◌++◌, map, length, take, None, Ok}
 use Rattle.std.specs.List.{AllByRecursion}
+use Rattle.keys.specs.Bytes.{Bytes}
 use Rattle.keys.specs.Limits.{first_bad_field}
 use Rattle.keys.specs.declared.settings.Settings.{Settings}
 use Rattle.frame_codec.specs.Frame.{Frame, is_frame}
@@ -14,25 +15,25 @@ use Rattle.flush_log.specs.Slot.{Slot, slot_size, slot_place, slot_body, slot_by
 
 -- a call that changes a disk: bytes are written from a place on, or all that was written is made to last
 pub data Call : Type 0 where
-  Write : ℕ → List ℕ → Call
+  Write : ℕ → Bytes → Call
   Sync : Call
 
 -- what a read gives after these calls, of what it gave before
-abbrev pub seen_after : List Call → List ℕ → List ℕ
+abbrev pub seen_after : List Call → Bytes → Bytes
 seen_after [] seen = seen
 seen_after (Write at bytes ∷ calls) seen = seen_after calls (overlay seen at bytes)
 seen_after (Sync ∷ calls) seen = seen_after calls seen
 
 -- What a crash after these calls may leave, where before them a read gave `seen` and a crash might leave what `might` says.
 -- Between two syncs there may be any bytes where something was written; after a sync there is what a read gives.
-abbrev pub MayLeave : List Call → List ℕ → (List ℕ → Type 0) → List ℕ → Type 0
+abbrev pub MayLeave : List Call → Bytes → (Bytes → Type 0) → Bytes → Type 0
 MayLeave [] seen might c = might c
-MayLeave (Write at bytes ∷ calls) seen might c = MayLeave calls (overlay seen at bytes) (λ e. (d : List ℕ) × might d × Torn at (length bytes) d e) c
+MayLeave (Write at bytes ∷ calls) seen might c = MayLeave calls (overlay seen at bytes) (λ e. (d : Bytes) × might d × Torn at (length bytes) d e) c
 MayLeave (Sync ∷ calls) seen might c = MayLeave calls seen (λ e. e ≡ seen) c
 
 -- What a crash at some moment of these calls may leave of a settled disk: what one after the first k of them may. A crash in
 -- a write, or after one that failed, leaves what one after it may leave; a sync that failed settles nothing.
-abbrev pub LeftDuring : List Call → List ℕ → List ℕ → Type 0
+abbrev pub LeftDuring : List Call → Bytes → Bytes → Type 0
 LeftDuring calls file c = (k : ℕ) × MayLeave (take k calls) file (λ d. d ≡ file) c
 
 -- ---- the calls of the commit of slot t
@@ -47,7 +48,7 @@ close_gate true place = Write place (0 ∷ []) ∷ []
 close_gate false place = []
 
 -- steps 1 to 5: the gate is closed, the spans are written, and then the slot behind its gate
-abbrev pub prepare : Settings → List ℕ → List Span → Slot → List Call
+abbrev pub prepare : Settings → Bytes → List Span → Slot → List Call
 prepare s file spans t =
     close_gate (is_open t.sequence file) (slot_place t.sequence)
     ++ (map (λ r. Write (place_of_span s r) r.bytes) spans
@@ -58,15 +59,15 @@ abbrev pub open_gate : Slot → List Call
 open_gate t = Write (slot_place t.sequence) (1 ∷ []) ∷ Sync ∷ []
 
 -- the seven steps, on a disk with these bytes
-abbrev pub commit_calls : Settings → List ℕ → List Span → Slot → List Call
+abbrev pub commit_calls : Settings → Bytes → List Span → Slot → List Call
 commit_calls s file spans t = prepare s file spans t ++ open_gate t
 
 -- the bytes after the commit
-abbrev pub committed : Settings → List ℕ → List Span → Slot → List ℕ
+abbrev pub committed : Settings → Bytes → List Span → Slot → Bytes
 committed s file spans t = overlay (with_spans s file spans) (slot_place t.sequence) (slot_bytes t)
 
 -- a text of frames finds room behind the tail of a disk's slot, on a disk that has room for all segments
-pub record HasRoom (s : Settings) (file : List ℕ) (t : Slot) (text : List Frame) : Type 0 where
+pub record HasRoom (s : Settings) (file : Bytes) (t : Slot) (text : List Frame) : Type 0 where
   pub good : first_bad_field s ≡ None
   pub whole : HasSegments s file
   pub slot : store_slot s file ≡ Ok t
@@ -85,5 +86,5 @@ IsBesideSlot s n spans place = IsBeside (slot_place n) slot_size place × IsBesi
 
 -- what may be left of a commit that is not done: slot n is as it was, or closed with any bytes behind its gate, and all
 -- else is as it was but for these spans
-abbrev pub IsUncommitted : Settings → ℕ → List Span → List ℕ → List ℕ → Type 0
+abbrev pub IsUncommitted : Settings → ℕ → List Span → Bytes → Bytes → Type 0
 IsUncommitted s n spans file c = AgreeAt (IsBesideSpans s spans) file c ⊎ ((is_open n c ≡ false) × AgreeAt (IsBesideSlot s n spans) file c)

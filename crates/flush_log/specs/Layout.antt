@@ -1,5 +1,6 @@
 -- Where the frames of a text stand behind a tail, the bytes that are written for them, and when they are too many.
 use Rattle.std.specs.Prelude.{ℕ, zero, suc, ◌+◌, ◌-◌, ◌/◌, ◌%◌, Bool, ◌==◌, nat_le, if◌then◌else◌, List, [], ◌∷◌, ◌++◌, length, map, replicate}
+use Rattle.keys.specs.Bytes.{Bytes}
 use Rattle.keys.specs.Sizes.{segment_header_size}
 use Rattle.keys.specs.declared.settings.Settings.{Settings}
 use Rattle.frame_codec.specs.Frame.{Frame, bytes_of}
@@ -63,14 +64,14 @@ is_full_for_clean s head tail = nat_le (head + s.segments) (last_segment s tail)
 pub record Span : Type 0 where
   pub segment : ℕ
   pub offset : ℕ
-  pub bytes : List ℕ
+  pub bytes : Bytes
 
 -- the offset behind them
 abbrev pub end_of : Span → ℕ
 end_of r = r.offset + length r.bytes
 
 -- the span and more bytes
-abbrev pub longer : Span → List ℕ → Span
+abbrev pub longer : Span → Bytes → Span
 longer r bytes = record { segment = r.segment; offset = r.offset; bytes = r.bytes ++ bytes }
 
 -- the span and zeros to the end of its segment
@@ -78,7 +79,7 @@ abbrev pub filled : Settings → Span → Span
 filled s r = longer r (replicate (s.seg_size - end_of r) 0)
 
 -- a segment's header and these bytes
-abbrev pub begun : ℕ → List ℕ → Span
+abbrev pub begun : ℕ → Bytes → Span
 begun n bytes = record { segment = n; offset = 0; bytes = segment_header n ++ bytes }
 
 -- the span that a text begins with: nothing so far, or the header where the segment is to be begun
@@ -104,6 +105,6 @@ abbrev pub place_of_span : Settings → Span → ℕ
 place_of_span s r = place_of_segment s r.segment + r.offset
 
 -- the bytes of a file with these spans written
-abbrev pub with_spans : Settings → List ℕ → List Span → List ℕ
+abbrev pub with_spans : Settings → Bytes → List Span → Bytes
 with_spans s file [] = file
 with_spans s file (r ∷ rs) = with_spans s (overlay file (place_of_span s r) r.bytes) rs

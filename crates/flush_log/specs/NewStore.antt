@@ -1,5 +1,6 @@
 -- A disk on which a store was made.
-use Rattle.std.specs.Prelude.{ℕ, ◌+◌, ◌-◌, List, [], ◌++◌, replicate}
+use Rattle.std.specs.Prelude.{ℕ, ◌+◌, ◌-◌, [], ◌++◌, replicate}
+use Rattle.keys.specs.Bytes.{Bytes}
 use Rattle.keys.specs.declared.settings.Settings.{Settings}
 use Rattle.frame_codec.specs.Frame.{Frame, bytes_of}
 use Rattle.frame_codec.specs.Frame.Content.{FullLeaf}
@@ -21,7 +22,7 @@ abbrev pub first_slot : Slot
 first_slot = record { sequence = 1; head = 0; tail = first_tail; root = 0; height = 1 }
 
 -- the bytes up to that tail: the settings block, slot 1, zeros in the rest before the segments, and segment 0
-abbrev pub new_bytes : Settings → List ℕ
+abbrev pub new_bytes : Settings → Bytes
 new_bytes s =
     settings_block s
     ++ (replicate (slot_place 1 - settings_block_size) 0
@@ -30,5 +31,5 @@ new_bytes s =
     ++ (segment_header 0 ++ bytes_of first_frame))))
 
 -- the disk afterwards, whatever its other bytes are
-abbrev pub disk_of_new : Settings → List ℕ → List ℕ
+abbrev pub disk_of_new : Settings → Bytes → Bytes
 disk_of_new s disk = overlay disk 0 (new_bytes s)

@@ -1,6 +1,7 @@
 -- What the log holds between head and tail.
 use Rattle.std.specs.Prelude.{ℕ, zero, suc, ◌+◌, ◌-◌, Bool, true, false, nat_eq, if◌then◌else◌, List, [], ◌∷◌, ◌++◌, length, map, take, drop, Option, Some, None, Result, Ok, Err}
 use Rattle.std.specs.List.{starts_with}
+use Rattle.keys.specs.Bytes.{Bytes}
 use Rattle.keys.specs.Sizes.{segment_header_size}
 use Rattle.keys.specs.declared.settings.Settings.{Settings}
 use Rattle.keys.specs.declared.fault.Fault.{Fault}
@@ -17,12 +18,12 @@ pub record Found : Type 0 where
 -- ---- one segment
 
 -- where the frames of the last segment end: at the tail, where no byte is left
-abbrev pub is_at_tail : List ℕ → Bool
+abbrev pub is_at_tail : Bytes → Bool
 is_at_tail [] = true
 is_at_tail (b ∷ bytes) = false
 
 -- where those of an earlier one end: where zeros alone are left, or nothing
-abbrev pub is_padding : List ℕ → Bool
+abbrev pub is_padding : Bytes → Bool
 is_padding [] = true
 is_padding (zero ∷ bytes) = is_padding bytes
 is_padding (suc b ∷ bytes) = false
@@ -33,12 +34,12 @@ with_first f (Ok fs) = Ok (f ∷ fs)
 with_first f (Err left) = Err left
 
 -- the frame that was read, and what is read behind it; where none was, how many bytes are left
-abbrev pub read_then : ℕ → Option (Frame × List ℕ) → (List ℕ → Result (List Frame) ℕ) → Result (List Frame) ℕ
+abbrev pub read_then : ℕ → Option (Frame × Bytes) → (Bytes → Result (List Frame) ℕ) → Result (List Frame) ℕ
 read_then left None next = Err left
 read_then left (Some read) next = with_first read.0 (next read.1)
 
 -- the frames, at most so many, that bytes are up to their end; or how many bytes are left where there is neither a frame nor the end
-abbrev pub read_frames : Settings → (List ℕ → Bool) → ℕ → List ℕ → Result (List Frame) ℕ
+abbrev pub read_frames : Settings → (Bytes → Bool) → ℕ → Bytes → Result (List Frame) ℕ
 read_frames s is_end zero bytes = if is_end bytes then Ok [] else Err (length bytes)
 read_frames s is_end (suc most) bytes =
     if is_end bytes then Ok [] else read_then (length bytes) (read_frame s bytes) (λ behind. read_frames s is_end most behind)
@@ -53,7 +54,7 @@ in_segment n long (Ok fs) = Ok (all_in n fs)
 in_segment n long (Err left) = Err (BadFrame n (long - left))
 
 -- what these bytes of segment n hold: the frames behind its header, up to their end
-abbrev pub read_segment : Settings → (List ℕ → Bool) → ℕ → List ℕ → Result (List Found) Fault
+abbrev pub read_segment : Settings → (Bytes → Bool) → ℕ → Bytes → Result (List Found) Fault
 read_segment s is_end n bytes =
     if starts_with nat_eq bytes (segment_header n)
     then in_segment n (length bytes) (read_frames s is_end (length bytes) (drop segment_header_size bytes))
@@ -68,14 +69,14 @@ followed_by (Ok found) (Err fault) = Err fault
 followed_by (Err fault) next = Err fault
 
 -- what k segments hold from the head on, behind each of which is another
-abbrev pub read_earlier : Settings → List ℕ → ℕ → ℕ → Result (List Found) Fault
+abbrev pub read_earlier : Settings → Bytes → ℕ → ℕ → Result (List Found) Fault
 read_earlier s file head zero = Ok []
 read_earlier s file head (suc k) = followed_by (read_earlier s file head k) (read_segment s is_padding (head + k) (segment_bytes s file (head + k)))
 
 -- what those hold, and the first `used` bytes of the next one
-abbrev pub read_log : Settings → List ℕ → ℕ → ℕ → ℕ → Result (List Found) Fault
+abbrev pub read_log : Settings → Bytes → ℕ → ℕ → ℕ → Result (List Found) Fault
 read_log s file head k used = followed_by (read_earlier s file head k) (read_segment s is_at_tail (head + k) (take used (segment_bytes s file (head + k))))
 
 -- the frames between head and tail, in the order in which they stand; or the fault at the least position
-abbrev pub log : Settings → List ℕ → ℕ → ℕ → Result (List Found) Fault
+abbrev pub log : Settings → Bytes → ℕ → ℕ → Result (List Found) Fault
 log s file head tail = read_log s file head (last_segment s tail - head) (bytes_in_use s tail)

@@ -1,15 +1,16 @@
 -- The segments of a disk: where each stands, and what it begins with. Segment numbers only grow; segment n takes the room of
 -- segment n - segments.
-use Rattle.std.specs.Prelude.{◌≡◌, ℕ, ◌+◌, ◌-◌, ◌*◌, ◌/◌, ◌%◌, ◌<◌, ◌≤◌, List, ◌++◌, length, take, drop, codes}
+use Rattle.std.specs.Prelude.{◌≡◌, ℕ, ◌+◌, ◌-◌, ◌*◌, ◌/◌, ◌%◌, ◌<◌, ◌≤◌, ◌++◌, length, take, drop, codes}
+use Rattle.keys.specs.Bytes.{Bytes}
 use Rattle.keys.specs.Cells.{number}
 use Rattle.keys.specs.declared.settings.Settings.{Settings}
 
 -- the word that a segment begins with
-abbrev pub segment_magic : List ℕ
+abbrev pub segment_magic : Bytes
 segment_magic = codes "BWSG"
 
 -- the bytes that segment n begins with
-abbrev pub segment_header : ℕ → List ℕ
+abbrev pub segment_header : ℕ → Bytes
 segment_header n = segment_magic ++ ((number 4).spell 0 ++ (number 8).spell n)
 
 -- where the segments begin in a file: behind the settings block and the slots
@@ -25,11 +26,11 @@ abbrev pub disk_size : Settings → ℕ
 disk_size s = segments_begin + s.segments * s.seg_size
 
 -- the file has room for all segments
-abbrev pub HasSegments : Settings → List ℕ → Type 0
+abbrev pub HasSegments : Settings → Bytes → Type 0
 HasSegments s file = disk_size s ≤ length file
 
 -- the bytes of segment n
-abbrev pub segment_bytes : Settings → List ℕ → ℕ → List ℕ
+abbrev pub segment_bytes : Settings → Bytes → ℕ → Bytes
 segment_bytes s file n = take s.seg_size (drop (place_of_segment s n) file)
 
 -- the position of an offset in segment n

@@ -1,6 +1,7 @@
 -- The settings block, with which a disk begins.
-use Rattle.std.specs.Prelude.{ℕ, ◌&&◌, nat_le, if◌then◌else◌, List, ◌++◌, length, take, drop, replicate, Option, Some, None, is_none, Result, Ok, Err, codes}
+use Rattle.std.specs.Prelude.{ℕ, ◌&&◌, nat_le, if◌then◌else◌, ◌++◌, length, take, drop, replicate, Option, Some, None, is_none, Result, Ok, Err, codes}
 use Rattle.std.specs.Str.{bytes_eq}
+use Rattle.keys.specs.Bytes.{Bytes}
 use Rattle.keys.specs.Cells.{read_number, number}
 use Rattle.keys.specs.Limits.{first_bad_field}
 use Rattle.keys.specs.declared.settings.Settings.{Settings}
@@ -9,16 +10,16 @@ use Rattle.keys.specs.declared.fault.Fault.TheVariants.{NotAStore}
 use Rattle.flush_log.specs.Segments.{disk_size}
 
 -- what was read, or 0
-abbrev pub number_or_0 : Option (ℕ × List ℕ) → ℕ
+abbrev pub number_or_0 : Option (ℕ × Bytes) → ℕ
 number_or_0 None = 0
 number_or_0 (Some p) = p.0
 
 -- the number that w bytes from this place on are, or 0 where there are fewer
-abbrev pub number_at : ℕ → ℕ → List ℕ → ℕ
+abbrev pub number_at : ℕ → ℕ → Bytes → ℕ
 number_at w place bytes = number_or_0 (read_number w (drop place bytes))
 
 -- the word that a disk begins with
-abbrev pub store_magic : List ℕ
+abbrev pub store_magic : Bytes
 store_magic = codes "BWBATCH1"
 
 -- how many bytes the block has
@@ -26,7 +27,7 @@ abbrev pub settings_block_size : ℕ
 settings_block_size = 64
 
 -- the bytes of the block: its word, the numbers, and zeros
-abbrev pub settings_block : Settings → List ℕ
+abbrev pub settings_block : Settings → Bytes
 settings_block s =
     store_magic
     ++ (number 2).spell s.fan ++ (number 2).spell s.chain ++ (number 2).spell s.max_key ++ (number 2).spell s.max_value
@@ -34,7 +35,7 @@ settings_block s =
     ++ replicate 40 0
 
 -- the settings whose numbers stand at the places of the block: each with how many bytes it has, and where it stands
-abbrev pub settings_in : List ℕ → Settings
+abbrev pub settings_in : Bytes → Settings
 settings_in bytes = record {
   fan = number_at 2 8 bytes;
   chain = number_at 2 10 bytes;
@@ -45,17 +46,17 @@ settings_in bytes = record {
 }
 
 -- the settings that these bytes spell, byte for byte, where they are ones that a store may have
-abbrev pub read_settings : List ℕ → Option Settings
+abbrev pub read_settings : Bytes → Option Settings
 read_settings bytes =
     if bytes_eq (settings_block (settings_in bytes)) bytes && is_none (first_bad_field (settings_in bytes))
     then Some (settings_in bytes)
     else None
 
 -- the settings that were read of a disk, where it has room for all segments
-abbrev pub where_it_has_room : List ℕ → Option Settings → Result Settings Fault
+abbrev pub where_it_has_room : Bytes → Option Settings → Result Settings Fault
 where_it_has_room disk None = Err NotAStore
 where_it_has_room disk (Some s) = if nat_le (disk_size s) (length disk) then Ok s else Err NotAStore
 
 -- the settings of the store that a disk holds
-abbrev pub store_settings : List ℕ → Result Settings Fault
+abbrev pub store_settings : Bytes → Result Settings Fault
 store_settings disk = where_it_has_room disk (read_settings (take settings_block_size disk))

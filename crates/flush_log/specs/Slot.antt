@@ -1,8 +1,9 @@
 -- The two slots: where the log begins and ends, and the root. The open one with the greater sequence number is the store's.
 -- Where a slot tells its version, that is a further number of `Slot`, `slot_body` and `slot_in`, and `is_slot` is to ask for
 -- one that is known.
-use Rattle.std.specs.Prelude.{ℕ, ◌+◌, ◌*◌, ◌%◌, ◌^◌, Bool, ◌&&◌, ◌||◌, ◌==◌, nat_le, nat_lt, if◌then◌else◌, List, ◌∷◌, ◌++◌, take, drop, replicate, slice_index, Option, Some, None, Result, Ok, Err}
+use Rattle.std.specs.Prelude.{ℕ, ◌+◌, ◌*◌, ◌%◌, ◌^◌, Bool, ◌&&◌, ◌||◌, ◌==◌, nat_le, nat_lt, if◌then◌else◌, ◌∷◌, ◌++◌, take, drop, replicate, slice_index, Option, Some, None, Result, Ok, Err}
 use Rattle.std.specs.Str.{bytes_eq}
+use Rattle.keys.specs.Bytes.{Bytes}
 use Rattle.keys.specs.Cells.{number}
 use Rattle.keys.specs.Limits.{is_in_limits}
 use Rattle.keys.specs.Sizes.{segment_header_size}
@@ -42,7 +43,7 @@ abbrev pub slot_place : ℕ → ℕ
 slot_place n = slots_begin + slot_size * (n % 2)
 
 -- the bytes behind the gate: zeros, the numbers, and zeros
-abbrev pub slot_body : Slot → List ℕ
+abbrev pub slot_body : Slot → Bytes
 slot_body t =
     replicate 7 0
     ++ (number 8).spell t.sequence ++ (number 8).spell t.head ++ (number 8).spell t.tail ++ (number 8).spell t.root
@@ -50,11 +51,11 @@ slot_body t =
     ++ replicate 20 0
 
 -- the bytes of an open slot
-abbrev pub slot_bytes : Slot → List ℕ
+abbrev pub slot_bytes : Slot → Bytes
 slot_bytes t = 1 ∷ slot_body t
 
 -- the slot whose numbers stand at their places in these bytes: each with how many bytes it has, and where it stands
-abbrev pub slot_in : List ℕ → Slot
+abbrev pub slot_in : Bytes → Slot
 slot_in bytes = record {
   sequence = number_at 8 8 bytes;
   head = number_at 8 16 bytes;
@@ -80,18 +81,18 @@ is_slot s n t =
 -- ---- reading
 
 -- the gate of slot n stands open
-abbrev pub is_open : ℕ → List ℕ → Bool
+abbrev pub is_open : ℕ → Bytes → Bool
 is_open n disk = slice_index disk (slot_place n) == 1
 
 -- the slot that these bytes of an open slot n spell, byte for byte, where they are one that it may say
-abbrev pub read_open : Settings → ℕ → List ℕ → Result (Option Slot) Fault
+abbrev pub read_open : Settings → ℕ → Bytes → Result (Option Slot) Fault
 read_open s n bytes =
     if bytes_eq (slot_bytes (slot_in bytes)) bytes && is_slot s n (slot_in bytes)
     then Ok (Some (slot_in bytes))
     else Err NoSlot
 
 -- what slot n of a disk says: nothing where it is closed
-abbrev pub read_slot : Settings → ℕ → List ℕ → Result (Option Slot) Fault
+abbrev pub read_slot : Settings → ℕ → Bytes → Result (Option Slot) Fault
 read_slot s n disk = if is_open n disk then read_open s n (take slot_size (drop (slot_place n) disk)) else Ok None
 
 -- of what two slots say, what that with the greater sequence number does
@@ -104,5 +105,5 @@ newer (Ok None) (Ok (Some u)) = Ok u
 newer (Ok (Some t)) (Ok (Some u)) = Ok (if nat_lt t.sequence u.sequence then u else t)
 
 -- the slot of the store that a disk holds
-abbrev pub store_slot : Settings → List ℕ → Result Slot Fault
+abbrev pub store_slot : Settings → Bytes → Result Slot Fault
 store_slot s disk = newer (read_slot s 0 disk) (read_slot s 1 disk)

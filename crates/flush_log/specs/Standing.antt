@@ -1,6 +1,7 @@
 -- What stands in a segment, in words of its bytes: what a reading of it is to find.
 use Rattle.std.specs.Prelude.{◌≡◌, ◌⊎◌, ℕ, ◌+◌, ◌-◌, ◌<◌, ◌≤◌, Bool, true, false, List, ◌++◌, length, flat_map, replicate, take, None, Ok, Err}
 use Rattle.std.specs.List.{AllByRecursion}
+use Rattle.keys.specs.Bytes.{Bytes}
 use Rattle.keys.specs.Sizes.{segment_header_size}
 use Rattle.keys.specs.declared.settings.Settings.{Settings}
 use Rattle.keys.specs.declared.fault.Fault.{Fault}
@@ -10,14 +11,14 @@ use Rattle.flush_log.specs.Reading.{Found, is_at_tail, is_padding, read_segment,
 use Rattle.flush_log.specs.Segments.{segment_header, segment_bytes, last_segment, bytes_in_use}
 
 -- the bytes are the header of segment n, these frames and so many zeros
-pub record AreFrames (s : Settings) (n : ℕ) (fs : List Frame) (zeros : ℕ) (bytes : List ℕ) : Type 0 where
+pub record AreFrames (s : Settings) (n : ℕ) (fs : List Frame) (zeros : ℕ) (bytes : Bytes) : Type 0 where
   pub within : AllByRecursion (λ f. is_frame s f ≡ true) fs
   pub spelled : bytes ≡ segment_header n ++ (flat_map bytes_of fs ++ replicate zeros 0)
 
 -- the bytes are that header, some frames up to an offset, and then neither a frame nor the end
-pub record IsBrokenAt (s : Settings) (is_end : List ℕ → Bool) (n offset : ℕ) (bytes : List ℕ) : Type 0 where
+pub record IsBrokenAt (s : Settings) (is_end : Bytes → Bool) (n offset : ℕ) (bytes : Bytes) : Type 0 where
   pub before : List Frame
-  pub behind : List ℕ
+  pub behind : Bytes
   pub within : AllByRecursion (λ f. is_frame s f ≡ true) before
   pub spelled : bytes ≡ segment_header n ++ (flat_map bytes_of before ++ behind)
   pub place : offset ≡ segment_header_size + length (flat_map bytes_of before)
@@ -26,7 +27,7 @@ pub record IsBrokenAt (s : Settings) (is_end : List ℕ → Bool) (n offset : �
 
 -- the segments from the head up to n hold this, and segment n has the fault; it is the last one, which is read up to the tail, or has
 -- another one behind it
-pub record IsFirstFault (s : Settings) (file : List ℕ) (head tail n : ℕ) (fault : Fault) : Type 0 where
+pub record IsFirstFault (s : Settings) (file : Bytes) (head tail n : ℕ) (fault : Fault) : Type 0 where
   pub before : List Found
   pub from_head : head ≤ n
   pub earlier : read_earlier s file head (n - head) ≡ Ok before

@@ -1,6 +1,7 @@
 //! What a crash leaves of a commit, and what is read of it. Each law is the contract of a function with an empty body.
 ghost use Rattle.std.specs.Prelude.{◌≡◌, ◌⊎◌, ◌↔◌, ℕ, suc, ◌+◌, ◌-◌, ◌*◌, ◌/◌, ◌^◌, ◌<◌, ◌≤◌, true, List, [], ◌∷◌, ◌++◌, length, None, Ok};
 ghost use Rattle.std.specs.List.{AllByRecursion};
+ghost use Rattle.keys.specs.Bytes.{Bytes};
 ghost use Rattle.keys.specs.Limits.{first_bad_field};
 ghost use Rattle.keys.specs.Sizes.{segment_header_size};
 ghost use Rattle.keys.specs.declared.settings.Settings.{Settings};
@@ -17,17 +18,17 @@ ghost use Rattle.flush_log.specs.NewStore.{first_frame, first_slot, disk_of_new}
 /// A crash at any moment of a commit on a settled disk leaves the disk with nothing changed but the spans and the closed slot,
 /// or all that was committed. It leaves the first until the gate is being opened; once all calls have answered, the second.
 pub fn a_crash_leaves_what_was_before_or_all_of_a_commit()
-    ensures during { (s : Settings) (file : List ℕ) (rs : List Span) (t : Slot) (c : List ℕ) →
+    ensures during { (s : Settings) (file : Bytes) (rs : List Span) (t : Slot) (c : Bytes) →
         segments_begin ≤ length file →
         AreWithin s (length file) rs → LeftDuring (commit_calls s file rs t) file c →
         IsUncommitted s t.sequence rs file c ⊎ (c ≡ committed s file rs t) }
-    ensures before { (s : Settings) (file : List ℕ) (rs : List Span) (t : Slot) (c : List ℕ) →
+    ensures before { (s : Settings) (file : Bytes) (rs : List Span) (t : Slot) (c : Bytes) →
         segments_begin ≤ length file →
         AreWithin s (length file) rs → LeftDuring (prepare s file rs t) file c → IsUncommitted s t.sequence rs file c }
-    ensures read { (s : Settings) (file : List ℕ) (rs : List Span) (t : Slot) →
+    ensures read { (s : Settings) (file : Bytes) (rs : List Span) (t : Slot) →
         segments_begin ≤ length file → AreWithin s (length file) rs →
         seen_after (commit_calls s file rs t) file ≡ committed s file rs t }
-    ensures after { (s : Settings) (file : List ℕ) (rs : List Span) (t : Slot) (c : List ℕ) →
+    ensures after { (s : Settings) (file : Bytes) (rs : List Span) (t : Slot) (c : Bytes) →
         segments_begin ≤ length file →
         AreWithin s (length file) rs → MayLeave (commit_calls s file rs t) file (λ d. d ≡ file) c → c ≡ committed s file rs t }
 {}
@@ -35,15 +36,15 @@ pub fn a_crash_leaves_what_was_before_or_all_of_a_commit()
 /// Until the gate of the next slot is open, a commit is hidden: settings, slot and log are read as before. So a crash at any moment of
 /// the commit of a text leaves these, or all that was committed.
 pub fn a_commit_is_hidden_until_its_gate_is_open()
-    ensures settings { (s : Settings) (n : ℕ) (rs : List Span) (file c : List ℕ) →
+    ensures settings { (s : Settings) (n : ℕ) (rs : List Span) (file c : Bytes) →
         segments_begin ≤ length file → IsUncommitted s n rs file c →
         store_settings c ≡ store_settings file }
-    ensures slot { (s : Settings) (t : Slot) (rs : List Span) (file c : List ℕ) →
+    ensures slot { (s : Settings) (t : Slot) (rs : List Span) (file c : Bytes) →
         segments_begin ≤ length file → store_slot s file ≡ Ok t →
         IsUncommitted s (suc t.sequence) rs file c → store_slot s c ≡ Ok t }
-    ensures log { (s : Settings) (file : List ℕ) (t : Slot) (text : List Frame) (c : List ℕ) → HasRoom s file t text →
+    ensures log { (s : Settings) (file : Bytes) (t : Slot) (text : List Frame) (c : Bytes) → HasRoom s file t text →
         IsUncommitted s (suc t.sequence) (spans s t.tail text) file c → log s c t.head t.tail ≡ log s file t.head t.tail }
-    ensures crash { (s : Settings) (file : List ℕ) (t : Slot) (text : List Frame) (u : Slot) (c : List ℕ) → HasRoom s file t text →
+    ensures crash { (s : Settings) (file : Bytes) (t : Slot) (text : List Frame) (u : Slot) (c : Bytes) → HasRoom s file t text →
         u.sequence ≡ suc t.sequence → LeftDuring (commit_calls s file (spans s t.tail text) u) file c →
         ((store_settings c ≡ store_settings file) × (store_slot s c ≡ Ok t) × (log s c t.head t.tail ≡ log s file t.head t.tail)) ⊎
         (c ≡ committed s file (spans s t.tail text) u) }
@@ -51,22 +52,22 @@ pub fn a_commit_is_hidden_until_its_gate_is_open()
 
 /// What was committed is read: the settings as before, the new slot as the store's, and the log as the spans left it.
 pub fn what_was_committed_is_read()
-    ensures length { (s : Settings) (file : List ℕ) (rs : List Span) (u : Slot) →
+    ensures length { (s : Settings) (file : Bytes) (rs : List Span) (u : Slot) →
         segments_begin ≤ length file → AreWithin s (length file) rs →
         length (committed s file rs u) ≡ length file }
-    ensures settings { (s : Settings) (file : List ℕ) (rs : List Span) (u : Slot) →
+    ensures settings { (s : Settings) (file : Bytes) (rs : List Span) (u : Slot) →
         segments_begin ≤ length file → AreWithin s (length file) rs →
         store_settings (committed s file rs u) ≡ store_settings file }
-    ensures slot { (s : Settings) (file : List ℕ) (rs : List Span) (t u : Slot) →
+    ensures slot { (s : Settings) (file : Bytes) (rs : List Span) (t u : Slot) →
         first_bad_field s ≡ None → segments_begin ≤ length file →
         AreWithin s (length file) rs → store_slot s file ≡ Ok t → u.sequence ≡ suc t.sequence → is_slot s u.sequence u ≡ true →
         store_slot s (committed s file rs u) ≡ Ok u }
-    ensures log { (s : Settings) (file : List ℕ) (rs : List Span) (u : Slot) (head tail : ℕ) → first_bad_field s ≡ None →
+    ensures log { (s : Settings) (file : Bytes) (rs : List Span) (u : Slot) (head tail : ℕ) → first_bad_field s ≡ None →
         HasSegments s file → AreWithin s (length file) rs → log s (committed s file rs u) head tail ≡ log s (with_spans s file rs) head tail }
-    ensures text { (s : Settings) (file : List ℕ) (t : Slot) (text : List Frame) (u : Slot) (found : List Found) → HasRoom s file t text →
+    ensures text { (s : Settings) (file : Bytes) (t : Slot) (text : List Frame) (u : Slot) (found : List Found) → HasRoom s file t text →
         log s file t.head t.tail ≡ Ok found →
         log s (committed s file (spans s t.tail text) u) t.head (tail_after s t.tail text) ≡ Ok (found ++ found_in_text s t.tail text) }
-    ensures within { (s : Settings) (file : List ℕ) (t : Slot) (text : List Frame) → HasRoom s file t text →
+    ensures within { (s : Settings) (file : Bytes) (t : Slot) (text : List Frame) → HasRoom s file t text →
         AreWithin s (length file) (spans s t.tail text) }
 {}
 
@@ -82,7 +83,7 @@ pub fn the_slot_of_a_commit_is_well_formed()
 
 /// A disk on which a store was made has its settings, the first slot, and a log of one empty leaf.
 pub fn a_new_store_is_one_empty_leaf()
-    ensures { (s : Settings) (disk : List ℕ) → first_bad_field s ≡ None → HasSegments s disk →
+    ensures { (s : Settings) (disk : Bytes) → first_bad_field s ≡ None → HasSegments s disk →
         (store_settings (disk_of_new s disk) ≡ Ok s) × (store_slot s (disk_of_new s disk) ≡ Ok first_slot) ×
         (log s (disk_of_new s disk) first_slot.head first_slot.tail ≡ Ok (record { segment = 0; frame = first_frame } ∷ [])) }
 {}

@@ -1,6 +1,7 @@
 //! What the definitions of `specs/` mean. Each law is the contract of a function with an empty body.
 ghost use Rattle.std.specs.Prelude.{◌≡◌, ℕ, suc, ◌+◌, ◌*◌, ◌<◌, ◌≤◌, Bool, true, false, not, nat_eq, List, [], ◌++◌, length, take, drop, None, Ok, Err};
 ghost use Rattle.std.specs.List.{AllByRecursion, filter, starts_with, sum_by};
+ghost use Rattle.keys.specs.Bytes.{Bytes};
 ghost use Rattle.keys.specs.Cells.{AreBytes};
 ghost use Rattle.keys.specs.Limits.{first_bad_field};
 ghost use Rattle.keys.specs.Sizes.{segment_header_size};
@@ -24,7 +25,7 @@ pub fn a_frame_fits_into_a_segment()
 /// A text that is written from the tail on is found by the next reading, in its order, behind what was found before: where
 /// it needs no more segments than there are. A clean may use them all, and a flush leaves one.
 pub fn a_text_is_read_back()
-    ensures { (s : Settings) (file : List ℕ) (head tail : ℕ) (found : List Found) (text : List Frame) → first_bad_field s ≡ None → HasSegments s file →
+    ensures { (s : Settings) (file : Bytes) (head tail : ℕ) (found : List Found) (text : List Frame) → first_bad_field s ≡ None → HasSegments s file →
         AllByRecursion (λ f. is_frame s f ≡ true) text → head * s.seg_size < tail → log s file head tail ≡ Ok found →
         last_segment s (tail_after s tail text) < head + s.segments →
         log s (with_spans s file (spans s tail text)) head (tail_after s tail text) ≡ Ok (found ++ found_in_text s tail text) }
@@ -32,7 +33,7 @@ pub fn a_text_is_read_back()
 
 /// Once a text is written, each of its frames stands at its place: in its segment, at its offset.
 pub fn each_frame_stands_at_its_place()
-    ensures { (s : Settings) (file : List ℕ) (head tail : ℕ) (text : List Frame) → first_bad_field s ≡ None → HasSegments s file →
+    ensures { (s : Settings) (file : Bytes) (head tail : ℕ) (text : List Frame) → first_bad_field s ≡ None → HasSegments s file →
         AllByRecursion (λ f. is_frame s f ≡ true) text → head * s.seg_size < tail →
         last_segment s (tail_after s tail text) < head + s.segments →
         AllByRecursion (λ p. take (length (bytes_of p.frame)) (drop p.offset (segment_bytes s (with_spans s file (spans s tail text)) p.segment)) ≡ bytes_of p.frame)
@@ -42,7 +43,7 @@ pub fn each_frame_stands_at_its_place()
 /// Two files that agree at the places of the log have the same log, whatever else they hold: behind the tail, in segments that are
 /// free, and before all segments.
 pub fn what_is_behind_the_tail_is_hidden()
-    ensures hidden { (s : Settings) (file other : List ℕ) (head tail : ℕ) → first_bad_field s ≡ None → HasSegments s file → head * s.seg_size < tail →
+    ensures hidden { (s : Settings) (file other : Bytes) (head tail : ℕ) → first_bad_field s ≡ None → HasSegments s file → head * s.seg_size < tail →
         AgreeAt (IsInLog s head tail) file other → log s other head tail ≡ log s file head tail }
     ensures places { (s : Settings) (head tail place : ℕ) → first_bad_field s ≡ None → IsInLog s head tail place →
         (segments_begin ≤ place) × (place < disk_size s) }
@@ -64,9 +65,9 @@ pub fn a_text_lies_behind_the_tail()
 /// From the next segment on a reading finds what it finds from the head on, but for the frames of the head segment. All that it finds
 /// stands from the head to the last segment, and a text from the tail's segment on.
 pub fn the_head_segment_is_taken_off()
-    ensures rest { (s : Settings) (file : List ℕ) (head tail : ℕ) (found : List Found) → head < last_segment s tail → log s file head tail ≡ Ok found →
+    ensures rest { (s : Settings) (file : Bytes) (head tail : ℕ) (found : List Found) → head < last_segment s tail → log s file head tail ≡ Ok found →
         log s file (suc head) tail ≡ Ok (filter (λ f. not (nat_eq f.segment head)) found) }
-    ensures found { (s : Settings) (file : List ℕ) (head tail : ℕ) (found : List Found) → first_bad_field s ≡ None → head * s.seg_size < tail →
+    ensures found { (s : Settings) (file : Bytes) (head tail : ℕ) (found : List Found) → first_bad_field s ≡ None → head * s.seg_size < tail →
         log s file head tail ≡ Ok found → AllByRecursion (λ f. (head ≤ f.segment) × (f.segment ≤ last_segment s tail)) found }
     ensures text { (s : Settings) (tail : ℕ) (text : List Frame) → first_bad_field s ≡ None → 0 < tail →
         AllByRecursion (λ f. last_segment s tail ≤ f.segment) (found_in_text s tail text) }
@@ -93,22 +94,22 @@ pub fn a_text_moves_the_tail()
 /// stands so is found. Where a reading tells that a header or a frame is bad, the header isn't there, or neither a frame nor the
 /// end stands at that offset, behind good frames.
 pub fn a_segment_is_read_as_it_stands()
-    ensures earlier { (s : Settings) (n : ℕ) (bytes : List ℕ) (found : List Found) → AreBytes bytes → read_segment s is_padding n bytes ≡ Ok found →
+    ensures earlier { (s : Settings) (n : ℕ) (bytes : Bytes) (found : List Found) → AreBytes bytes → read_segment s is_padding n bytes ≡ Ok found →
         (fs : List Frame) × (zeros : ℕ) × AreFrames s n fs zeros bytes × (found ≡ all_in n fs) }
-    ensures last { (s : Settings) (n : ℕ) (bytes : List ℕ) (found : List Found) → AreBytes bytes → read_segment s is_at_tail n bytes ≡ Ok found →
+    ensures last { (s : Settings) (n : ℕ) (bytes : Bytes) (found : List Found) → AreBytes bytes → read_segment s is_at_tail n bytes ≡ Ok found →
         (fs : List Frame) × AreFrames s n fs 0 bytes × (found ≡ all_in n fs) }
-    ensures earlier_back { (s : Settings) (n zeros : ℕ) (bytes : List ℕ) (fs : List Frame) → first_bad_field s ≡ None →
+    ensures earlier_back { (s : Settings) (n zeros : ℕ) (bytes : Bytes) (fs : List Frame) → first_bad_field s ≡ None →
         AreFrames s n fs zeros bytes → read_segment s is_padding n bytes ≡ Ok (all_in n fs) }
-    ensures last_back { (s : Settings) (n : ℕ) (bytes : List ℕ) (fs : List Frame) → first_bad_field s ≡ None →
+    ensures last_back { (s : Settings) (n : ℕ) (bytes : Bytes) (fs : List Frame) → first_bad_field s ≡ None →
         AreFrames s n fs 0 bytes → read_segment s is_at_tail n bytes ≡ Ok (all_in n fs) }
-    ensures bad_segment { (s : Settings) (is_end : List ℕ → Bool) (n m : ℕ) (bytes : List ℕ) → read_segment s is_end n bytes ≡ Err (BadSegment m) →
+    ensures bad_segment { (s : Settings) (is_end : Bytes → Bool) (n m : ℕ) (bytes : Bytes) → read_segment s is_end n bytes ≡ Err (BadSegment m) →
         (m ≡ n) × (starts_with nat_eq bytes (segment_header n) ≡ false) }
-    ensures bad_frame { (s : Settings) (is_end : List ℕ → Bool) (n m offset : ℕ) (bytes : List ℕ) → AreBytes bytes → is_end [] ≡ true →
+    ensures bad_frame { (s : Settings) (is_end : Bytes → Bool) (n m offset : ℕ) (bytes : Bytes) → AreBytes bytes → is_end [] ≡ true →
         read_segment s is_end n bytes ≡ Err (BadFrame m offset) → (m ≡ n) × IsBrokenAt s is_end n offset bytes }
 {}
 
 /// The fault that a reading answers is that of the first segment that has one.
 pub fn the_first_fault_is_answered()
-    ensures { (s : Settings) (file : List ℕ) (head tail : ℕ) (fault : Fault) → first_bad_field s ≡ None → head * s.seg_size < tail →
+    ensures { (s : Settings) (file : Bytes) (head tail : ℕ) (fault : Fault) → first_bad_field s ≡ None → head * s.seg_size < tail →
         log s file head tail ≡ Err fault → (n : ℕ) × IsFirstFault s file head tail n fault }
 {}

@@ -5,8 +5,8 @@ use Rattle.std.proofs.lemmas.List.{take-append-le, drop-append-le}
 use Rattle.keys.specs.Cells.{Codec, read_on, read_as, read_where, read_number, number, read_bytes, counted, value_cell, pid_cell}
 use Rattle.keys.specs.declared.settings.Settings.{Settings}
 use Rattle.keys.proofs.CellLaws.{gave, same_reading, nothing_read}
-use Rattle.frame_codec.specs.Codecs.{both, read_each, listed, read_flag, flagged}
-use Rattle.frame_codec.specs.Frame.{Content, Frame, full, delta, content_bytes, header, is_frame}
+use Rattle.frame_codec.specs.Codecs.{both, read_each, listed, flagged}
+use Rattle.frame_codec.specs.Frame.{full, delta, content_bytes, header, is_frame}
 use Rattle.frame_codec.specs.Frame.Content.{FullLeaf, DeltaLeaf, FullIndex, DeltaIndex, Free}
 use Rattle.frame_codec.specs.Reading.{read_content, read_behind, read_any, read_frame}
 

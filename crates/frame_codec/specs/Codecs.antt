@@ -1,5 +1,6 @@
 -- Codecs that are made of others.
 use Rattle.std.specs.Prelude.{ℕ, zero, suc, List, [], ◌∷◌, ◌++◌, length, flat_map, Option, Some, None}
+use Rattle.keys.specs.Bytes.{Bytes}
 use Rattle.keys.specs.Cells.{Codec, read_on, read_as, number}
 
 -- two things, one behind the other
@@ -10,7 +11,7 @@ both c d = record {
 }
 
 -- n things, each behind the one before it
-abbrev pub read_each : {X : Type 0} → Codec X → ℕ → List ℕ → Option (List X × List ℕ)
+abbrev pub read_each : {X : Type 0} → Codec X → ℕ → Bytes → Option (List X × Bytes)
 read_each c zero bs = Some ([], bs)
 read_each c (suc n) bs = read_on (c.read bs) (λ x rest. read_as (λ xs. x ∷ xs) (read_each c n rest))
 
@@ -22,12 +23,12 @@ listed c = record {
 }
 
 -- a cell or its absence: the flag 1, of one byte, and the cell; or the flag 0
-abbrev pub spell_flag : {V : Type 0} → Codec V → Option V → List ℕ
+abbrev pub spell_flag : {V : Type 0} → Codec V → Option V → Bytes
 spell_flag c None = 0 ∷ []
 spell_flag c (Some v) = 1 ∷ c.spell v
 
 -- the same as it is read; there is no other flag
-abbrev pub read_flag : {V : Type 0} → Codec V → List ℕ → Option (Option V × List ℕ)
+abbrev pub read_flag : {V : Type 0} → Codec V → Bytes → Option (Option V × Bytes)
 read_flag c [] = None
 read_flag c (zero ∷ bs) = Some (None, bs)
 read_flag c (suc zero ∷ bs) = read_as (λ v. Some v) (c.read bs)

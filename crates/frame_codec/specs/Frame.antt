@@ -1,9 +1,10 @@
 -- A frame of the log: what it says of a page, its bytes, and which frames a store with given settings may have.
 -- A further kind is a further case of each definition on `Content` and a further line of `read_content`. Where a log has a
 -- version, `is_frame` and `read_frame` are to take it, and `is_frame` to ask for a kind that the version knows.
-use Rattle.std.specs.Prelude.{ℕ, ◌+◌, ◌^◌, Bool, true, ◌&&◌, nat_le, nat_lt, List, [], ◌++◌, length, Option}
+use Rattle.std.specs.Prelude.{ℕ, ◌+◌, ◌^◌, Bool, true, ◌&&◌, nat_le, nat_lt, [], ◌++◌, length}
 use Rattle.std.specs.List.{list_all}
 use Rattle.std.specs.Map.{keys_of}
+use Rattle.keys.specs.Bytes.{Bytes, Pairs, Changes, Names}
 use Rattle.keys.specs.Cells.{Codec, number, counted, value_cell, pid_cell}
 use Rattle.keys.specs.Sizes.{pid_size}
 use Rattle.keys.specs.declared.settings.Settings.{Settings}
@@ -12,10 +13,10 @@ use Rattle.frame_codec.specs.Codecs.{both, listed, flagged}
 
 -- the page is a base under a low key; or it got a run; or there is no such page
 pub data Content : Type 0 where
-  FullLeaf : List ℕ → List (List ℕ × List ℕ) → Content
-  DeltaLeaf : List (List ℕ × Option (List ℕ)) → Content
-  FullIndex : List ℕ → List (List ℕ × ℕ) → Content
-  DeltaIndex : List (List ℕ × Option ℕ) → Content
+  FullLeaf : Bytes → Pairs Bytes → Content
+  DeltaLeaf : Changes Bytes → Content
+  FullIndex : Bytes → Names → Content
+  DeltaIndex : Changes ℕ → Content
   Free : Content
 
 -- what is said of the page with this pid
@@ -26,11 +27,11 @@ pub record Frame : Type 0 where
 -- ---- bytes
 
 -- a low key and a base, of keys with their cells
-abbrev pub full : {V : Type 0} → Codec V → Codec (List ℕ × List (List ℕ × V))
+abbrev pub full : {V : Type 0} → Codec V → Codec (Bytes × Pairs V)
 full cell = both counted (listed (both counted cell))
 
 -- a run, of keys with their cells or none
-abbrev pub delta : {V : Type 0} → Codec V → Codec (List (List ℕ × Option V))
+abbrev pub delta : {V : Type 0} → Codec V → Codec (Changes V)
 delta cell = listed (both counted (flagged cell))
 
 -- the number that names the kind
@@ -42,7 +43,7 @@ kind_of (DeltaIndex run) = 4
 kind_of Free = 5
 
 -- the bytes behind the pid
-abbrev pub content_bytes : Content → List ℕ
+abbrev pub content_bytes : Content → Bytes
 content_bytes (FullLeaf low base) = (full value_cell).spell (low, base)
 content_bytes (DeltaLeaf run) = (delta value_cell).spell run
 content_bytes (FullIndex low base) = (full pid_cell).spell (low, base)
@@ -54,7 +55,7 @@ abbrev pub header : Codec ((ℕ × ℕ) × ℕ)
 header = both (both (number 1) (number 4)) pid_cell
 
 -- the bytes of the frame
-abbrev pub bytes_of : Frame → List ℕ
+abbrev pub bytes_of : Frame → Bytes
 bytes_of f = header.spell ((kind_of f.content, pid_size + length (content_bytes f.content)), f.pid) ++ content_bytes f.content
 
 -- ---- within settings
@@ -64,19 +65,19 @@ abbrev pub is_pid : ℕ → Bool
 is_pid p = nat_lt p (2 ^ 64)
 
 -- a key is no longer than the settings allow
-abbrev pub is_key : Settings → List ℕ → Bool
+abbrev pub is_key : Settings → Bytes → Bool
 is_key s k = nat_le (length k) s.max_key
 
 -- there are no more than fan, their keys rise, and each key and what it has are within the settings
-abbrev pub are_entries : {X : Type 0} → Settings → (X → Bool) → List (List ℕ × X) → Bool
+abbrev pub are_entries : {X : Type 0} → Settings → (X → Bool) → Pairs X → Bool
 are_entries s is_short es = nat_le (length es) s.fan && do_rise (keys_of es) && list_all (λ e. is_key s e.0 && is_short e.1) es
 
 -- a base with its low key
-abbrev pub is_full : {V : Type 0} → Settings → (V → Bool) → List ℕ → List (List ℕ × V) → Bool
+abbrev pub is_full : {V : Type 0} → Settings → (V → Bool) → Bytes → Pairs V → Bool
 is_full s is_short low base = is_key s low && are_entries s is_short base
 
 -- a run, which has one change at least
-abbrev pub is_run : {V : Type 0} → Settings → (V → Bool) → List (List ℕ × Option V) → Bool
+abbrev pub is_run : {V : Type 0} → Settings → (V → Bool) → Changes V → Bool
 is_run s is_short run = nat_lt 0 (length run) && are_entries s (of_cell is_short) run
 
 -- what is asked of a content, by its kind

@@ -1,5 +1,6 @@
 -- Which frame bytes begin with: as a fact, and as a reader.
-use Rattle.std.specs.Prelude.{◌≡◌, ℕ, ◌+◌, true, ◌==◌, if◌then◌else◌, List, ◌++◌, length, Option, Some, None}
+use Rattle.std.specs.Prelude.{◌≡◌, ℕ, ◌+◌, true, ◌==◌, if◌then◌else◌, ◌++◌, length, Option, Some, None}
+use Rattle.keys.specs.Bytes.{Bytes}
 use Rattle.keys.specs.Cells.{read_on, read_as, read_where, value_cell, pid_cell}
 use Rattle.keys.specs.Sizes.{pid_size}
 use Rattle.keys.specs.declared.settings.Settings.{Settings}
@@ -7,12 +8,12 @@ use Rattle.frame_codec.specs.Frame.{Content, Frame, full, delta, content_bytes, 
 use Rattle.frame_codec.specs.Frame.Content.{FullLeaf, DeltaLeaf, FullIndex, DeltaIndex, Free}
 
 -- the bytes begin with this frame, which is within the settings, and the rest stands behind it
-pub record BeginsWithFrame (s : Settings) (bs : List ℕ) (f : Frame) (rest : List ℕ) : Type 0 where
+pub record BeginsWithFrame (s : Settings) (bs : Bytes) (f : Frame) (rest : Bytes) : Type 0 where
   pub within : is_frame s f ≡ true
   pub bytes : bs ≡ bytes_of f ++ rest
 
 -- the content of a frame of this kind
-abbrev pub read_content : ℕ → List ℕ → Option (Content × List ℕ)
+abbrev pub read_content : ℕ → Bytes → Option (Content × Bytes)
 read_content kind bs =
     if kind == 1 then read_as (λ p. FullLeaf p.0 p.1) ((full value_cell).read bs) else
     (if kind == 2 then read_as (λ run. DeltaLeaf run) ((delta value_cell).read bs) else
@@ -21,15 +22,15 @@ read_content kind bs =
     (if kind == 5 then Some (Free, bs) else None))))
 
 -- the frame whose header this is, where its content has just the length that the header tells
-abbrev pub read_behind : (ℕ × ℕ) × ℕ → List ℕ → Option (Frame × List ℕ)
+abbrev pub read_behind : (ℕ × ℕ) × ℕ → Bytes → Option (Frame × Bytes)
 read_behind h bs =
     read_as (λ c. record { pid = h.1; content = c })
     (read_where (λ c. h.0.1 == pid_size + length (content_bytes c)) (read_content h.0.0 bs))
 
 -- the frame that the bytes begin with, whatever the settings
-abbrev pub read_any : List ℕ → Option (Frame × List ℕ)
+abbrev pub read_any : Bytes → Option (Frame × Bytes)
 read_any bs = read_on (header.read bs) read_behind
 
 -- the frame within the settings that the bytes begin with, and the bytes behind it
-abbrev pub read_frame : Settings → List ℕ → Option (Frame × List ℕ)
+abbrev pub read_frame : Settings → Bytes → Option (Frame × Bytes)
 read_frame s bs = read_where (is_frame s) (read_any bs)

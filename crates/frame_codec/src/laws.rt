@@ -1,6 +1,7 @@
 //! What the definitions of `specs/` mean. Each law is the contract of a function with an empty body.
-ghost use Rattle.std.specs.Prelude.{◌≡◌, ℕ, ◌+◌, ◌<◌, ◌≤◌, ◌^◌, true, List, ◌++◌, length, Some, None};
+ghost use Rattle.std.specs.Prelude.{◌≡◌, ℕ, ◌+◌, ◌<◌, ◌≤◌, ◌^◌, true, ◌++◌, length, Some, None};
 ghost use Rattle.std.specs.List.{AllByRecursion};
+ghost use Rattle.keys.specs.Bytes.{Bytes};
 ghost use Rattle.keys.specs.Cells.{AreBytes, IsReadBack, ReadsSpellings, value_cell, pid_cell};
 ghost use Rattle.keys.specs.Limits.{first_bad_field};
 ghost use Rattle.keys.specs.declared.settings.Settings.{Settings};
@@ -15,39 +16,39 @@ ghost use Rattle.frame_codec.specs.Sizes.{size_of};
 /// A value of up to 65,535 bytes and a page id are read back from their cells, whatever stands behind them, and what is
 /// read of bytes stands there. No cell begins another.
 pub fn a_cell_is_read_back()
-    ensures value { (v : List ℕ) → length v < 65536 → IsReadBack value_cell v }
+    ensures value { (v : Bytes) → length v < 65536 → IsReadBack value_cell v }
     ensures pid { (p : ℕ) → p < 2 ^ 64 → IsReadBack pid_cell p }
     ensures values { ReadsSpellings value_cell }
     ensures pids { ReadsSpellings pid_cell }
-    ensures one_value { (v w : List ℕ) (behind other : List ℕ) → length v < 65536 → length w < 65536 →
+    ensures one_value { (v w : Bytes) (behind other : Bytes) → length v < 65536 → length w < 65536 →
         value_cell.spell v ++ behind ≡ value_cell.spell w ++ other → (v ≡ w) × (behind ≡ other) }
-    ensures one_pid { (p q : ℕ) (behind other : List ℕ) → p < 2 ^ 64 → q < 2 ^ 64 →
+    ensures one_pid { (p q : ℕ) (behind other : Bytes) → p < 2 ^ 64 → q < 2 ^ 64 →
         pid_cell.spell p ++ behind ≡ pid_cell.spell q ++ other → (p ≡ q) × (behind ≡ other) }
 {}
 
 /// A frame is read back from its bytes, whatever stands behind them.
 pub fn a_frame_is_read_back()
-    ensures { (s : Settings) (f : Frame) (rest : List ℕ) → first_bad_field s ≡ None → is_frame s f ≡ true →
+    ensures { (s : Settings) (f : Frame) (rest : Bytes) → first_bad_field s ≡ None → is_frame s f ≡ true →
         read_frame s (bytes_of f ++ rest) ≡ Some (f, rest) }
 {}
 
 /// A frame that is read of bytes is read of them too where more bytes follow.
 pub fn what_is_read_needs_no_byte_behind_it()
-    ensures { (s : Settings) (bytes : List ℕ) (f : Frame) (rest more : List ℕ) → read_frame s bytes ≡ Some (f, rest) →
+    ensures { (s : Settings) (bytes : Bytes) (f : Frame) (rest more : Bytes) → read_frame s bytes ≡ Some (f, rest) →
         read_frame s (bytes ++ more) ≡ Some (f, rest ++ more) }
 {}
 
 /// Two frames whose bytes begin alike are the same frame: no spelling begins another.
 pub fn a_frame_has_one_spelling()
-    ensures { (s : Settings) (f g : Frame) (behind other : List ℕ) → first_bad_field s ≡ None →
+    ensures { (s : Settings) (f g : Frame) (behind other : Bytes) → first_bad_field s ≡ None →
         is_frame s f ≡ true → is_frame s g ≡ true → bytes_of f ++ behind ≡ bytes_of g ++ other → (f ≡ g) × (behind ≡ other) }
 {}
 
 /// The reader finds a frame just where bytes begin with one, and it finds that frame.
 pub fn what_is_read_is_what_stands_there()
-    ensures found { (s : Settings) (bytes : List ℕ) (f : Frame) (rest : List ℕ) → AreBytes bytes →
+    ensures found { (s : Settings) (bytes : Bytes) (f : Frame) (rest : Bytes) → AreBytes bytes →
         read_frame s bytes ≡ Some (f, rest) → BeginsWithFrame s bytes f rest }
-    ensures none { (s : Settings) (bytes : List ℕ) (f : Frame) (rest : List ℕ) → first_bad_field s ≡ None →
+    ensures none { (s : Settings) (bytes : Bytes) (f : Frame) (rest : Bytes) → first_bad_field s ≡ None →
         read_frame s bytes ≡ None → BeginsWithFrame s bytes f rest → ⊥ }
 {}
 
@@ -58,7 +59,7 @@ pub fn a_frame_has_its_size()
 
 /// The base of a page that is in order and within the settings is so as a frame, and so is each of its runs.
 pub fn a_page_has_frames_within_settings()
-    ensures leaf { (s : Settings) (pid : ℕ) (p : Page (List ℕ)) → pid < 2 ^ 64 → length p.low ≤ s.max_key → IsInOrder p.layers →
+    ensures leaf { (s : Settings) (pid : ℕ) (p : Page Bytes) → pid < 2 ^ 64 → length p.low ≤ s.max_key → IsInOrder p.layers →
         Fits s (IsShortValue s) p →
         (is_frame s (record { pid = pid; content = FullLeaf p.low p.layers.base }) ≡ true) ×
         AllByRecursion (λ run. is_frame s (record { pid = pid; content = DeltaLeaf run }) ≡ true) p.layers.runs }

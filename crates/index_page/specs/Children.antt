@@ -1,6 +1,7 @@
 -- The children of an index page, each with its range.
 use Rattle.std.specs.Prelude.{◌≡◌, ℕ, ◌<◌, Bool, false, ◌&&◌, ◌||◌, List, [], ◌∷◌, map, length, Option, Some, None, if◌then◌else◌}
 use Rattle.std.specs.List.{filter}
+use Rattle.keys.specs.Bytes.{Bytes, Names}
 use Rattle.index_page.specs.Page.{PageOfKind, entries, first_key}
 use Rattle.index_page.specs.Page.PageOfKind.{Leaf, Index}
 use Rattle.index_page.specs.Range.{is_below, is_before, is_within}
@@ -8,51 +9,51 @@ use Rattle.index_page.specs.Range.{is_below, is_before, is_within}
 -- what an entry of an index page says of a child: its pid, and the range from the entry's key to the next entry's
 pub record Place : Type 0 where
   pub pid : ℕ
-  pub low : List ℕ
-  pub end : Option (List ℕ)
+  pub low : Bytes
+  pub end : Option Bytes
 
 -- the children that entries name, the last of them up to the page's own end
-abbrev pub children : List (List ℕ × ℕ) → Option (List ℕ) → List Place
+abbrev pub children : Names → Option Bytes → List Place
 children [] end = []
 children (e ∷ []) end = record { pid = e.1; low = e.0; end = end } ∷ []
 children (e ∷ f ∷ es) end = record { pid = e.1; low = e.0; end = Some f.0 } ∷ children (f ∷ es) end
 
 -- whether the key lies in the range of the place
-abbrev pub is_place_for : List ℕ → Place → Bool
+abbrev pub is_place_for : Bytes → Place → Bool
 is_place_for k at = is_within at.low at.end k
 
 -- the entries of an index page; a leaf has no children
-abbrev pub child_entries : PageOfKind → List (List ℕ × ℕ)
+abbrev pub child_entries : PageOfKind → Names
 child_entries (Leaf p) = []
 child_entries (Index p) = entries p
 
 -- the page has a child, and the first one's key isn't above the key
-abbrev pub HasChildFor : PageOfKind → List ℕ → Type 0
+abbrev pub HasChildFor : PageOfKind → Bytes → Type 0
 HasChildFor p k = (0 < length (child_entries p)) × (is_below k (first_key (child_entries p)) ≡ false)
 
 -- where the first entry's key isn't above k: the pid of the child in whose range k lies, and the next entry's key, at which that range ends
-abbrev pub child_with_end : List ℕ → List (List ℕ × ℕ) → ℕ × Option (List ℕ)
+abbrev pub child_with_end : Bytes → Names → ℕ × Option Bytes
 child_with_end k [] = (0, None)
 child_with_end k (e ∷ []) = (e.1, None)
 child_with_end k (e ∷ f ∷ es) = if is_below k f.0 then (e.1, Some f.0) else child_with_end k (f ∷ es)
 
 -- whether a key lies behind lo and before hi
-abbrev pub is_between : List ℕ → Option (List ℕ) → List ℕ → Bool
+abbrev pub is_between : Bytes → Option Bytes → Bytes → Bool
 is_between lo hi k = is_below lo k && is_before hi k
 
 -- whether the range of the place meets the bounds, from lo on and before hi: lo lies in it, or it begins behind lo and before hi
-abbrev pub meets : List ℕ → Option (List ℕ) → Place → Bool
+abbrev pub meets : Bytes → Option Bytes → Place → Bool
 meets lo hi at = is_place_for lo at || is_between lo hi at.low
 
 -- of the children that entries name, the last one's range open: the low keys and pids of those whose range meets the bounds, in order
-abbrev pub children_within : List ℕ → Option (List ℕ) → List (List ℕ × ℕ) → List (List ℕ × ℕ)
+abbrev pub children_within : Bytes → Option Bytes → Names → Names
 children_within lo hi es = map (λ at. (at.low, at.pid)) (filter (meets lo hi) (children es None))
 
 -- the entries whose keys lie behind k and before hi
-abbrev pub entries_between : List ℕ → Option (List ℕ) → List (List ℕ × ℕ) → List (List ℕ × ℕ)
+abbrev pub entries_between : Bytes → Option Bytes → Names → Names
 entries_between k hi es = filter (λ e. is_between k hi e.0) es
 
 -- what is left of a walk over entries up to hi: the next one, where there is one, and those behind it
-abbrev pub left_from : Option (List ℕ × ℕ) → Option (List ℕ) → List (List ℕ × ℕ) → List (List ℕ × ℕ)
+abbrev pub left_from : Option (Bytes × ℕ) → Option Bytes → Names → Names
 left_from None hi es = []
 left_from (Some e) hi es = e ∷ entries_between e.0 hi es

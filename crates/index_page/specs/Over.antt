@@ -1,5 +1,6 @@
 -- When a page is an older one with newer runs in front.
-use Rattle.std.specs.Prelude.{◌≡◌, ℕ, List, ◌++◌, Option}
+use Rattle.std.specs.Prelude.{◌≡◌, List, ◌++◌}
+use Rattle.keys.specs.Bytes.{Changes}
 use Rattle.index_page.specs.Page.{Page, PageOfKind}
 use Rattle.index_page.specs.Page.PageOfKind.{Leaf, Index}
 
@@ -7,7 +8,7 @@ use Rattle.index_page.specs.Page.PageOfKind.{Leaf, Index}
 pub record IsOver {V : Type 0} (older now : Page V) : Type 0 where
   pub low : now.low ≡ older.low
   pub base : now.layers.base ≡ older.layers.base
-  pub runs : (newer : List (List (List ℕ × Option V))) × (now.layers.runs ≡ newer ++ older.layers.runs)
+  pub runs : (newer : List (Changes V)) × (now.layers.runs ≡ newer ++ older.layers.runs)
 
 -- and they are of one kind: the older page stands as it did under the one that is now
 abbrev pub IsPageOver : PageOfKind → PageOfKind → Type 0

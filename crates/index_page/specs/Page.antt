@@ -1,25 +1,26 @@
 -- A page: its low key, and what it holds.
-use Rattle.std.specs.Prelude.{ℕ, ⊤, List, [], ◌∷◌, ◌++◌, map, Option, Some}
+use Rattle.std.specs.Prelude.{ℕ, ⊤, List, [], ◌∷◌, ◌++◌, map, Some}
 use Rattle.std.specs.Map.{keys_of}
+use Rattle.keys.specs.Bytes.{Bytes, Pairs, Changes}
 use Rattle.delta_chain.specs.Layers.{Layers, entries_of}
 
 -- a page whose keys have cells of type V; its range of keys begins at its low key
 pub record Page (V : Type 0) : Type 0 where
-  pub low : List ℕ
+  pub low : Bytes
   pub layers : Layers V
 
 -- a leaf has values; an index page has, under their low keys, the pids of its children
 pub data PageOfKind : Type 0 where
-  Leaf : Page (List ℕ) → PageOfKind
+  Leaf : Page Bytes → PageOfKind
   Index : Page ℕ → PageOfKind
 
 -- a page's low key, whatever its kind
-abbrev pub low_of : PageOfKind → List ℕ
+abbrev pub low_of : PageOfKind → Bytes
 low_of (Leaf p) = p.low
 low_of (Index p) = p.low
 
 -- the page that a leaf is, and the page that an index page is; a page of the other kind counts as one that holds nothing
-abbrev pub leaf_of : PageOfKind → Page (List ℕ)
+abbrev pub leaf_of : PageOfKind → Page Bytes
 leaf_of (Leaf p) = p
 leaf_of (Index p) = record { low = p.low; layers = record { runs = []; base = [] } }
 
@@ -37,31 +38,31 @@ IsIndex (Leaf p) = ⊥
 IsIndex (Index p) = ⊤
 
 -- a page that is a base without runs
-abbrev pub bare : {V : Type 0} → List ℕ → List (List ℕ × V) → Page V
+abbrev pub bare : {V : Type 0} → Bytes → Pairs V → Page V
 bare low base = record { low = low; layers = record { runs = []; base = base } }
 
 -- the present pairs of the page, in key order
-abbrev pub entries : {V : Type 0} → Page V → List (List ℕ × V)
+abbrev pub entries : {V : Type 0} → Page V → Pairs V
 entries p = entries_of p.layers
 
 -- the key of the first pair, and the empty key where there is none
-abbrev pub first_key : {V : Type 0} → List (List ℕ × V) → List ℕ
+abbrev pub first_key : {V : Type 0} → Pairs V → Bytes
 first_key [] = []
 first_key (e ∷ es) = e.0
 
 -- what pairs say, as changes: each key has its value
-abbrev pub as_changes : {V : Type 0} → List (List ℕ × V) → List (List ℕ × Option V)
+abbrev pub as_changes : {V : Type 0} → Pairs V → Changes V
 as_changes es = map (λ e. (e.0, Some e.1)) es
 
 -- what the runs say, newest first, and under them the base
-abbrev pub said_under : {V : Type 0} → List (List (List ℕ × Option V)) → List (List ℕ × V) → List (List ℕ × Option V)
+abbrev pub said_under : {V : Type 0} → List (Changes V) → Pairs V → Changes V
 said_under [] base = as_changes base
 said_under (run ∷ runs) base = run ++ said_under runs base
 
 -- all that the page says of any key
-abbrev pub said : {V : Type 0} → Page V → List (List ℕ × Option V)
+abbrev pub said : {V : Type 0} → Page V → Changes V
 said p = said_under p.layers.runs p.layers.base
 
 -- the keys that it names
-abbrev pub named : {V : Type 0} → Page V → List (List ℕ)
+abbrev pub named : {V : Type 0} → Page V → List Bytes
 named p = keys_of (said p)

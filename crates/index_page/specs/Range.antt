@@ -1,24 +1,25 @@
 -- Keys that lie in a range: from a low key on, and below an end where there is one.
-use Rattle.std.specs.Prelude.{◌≡◌, ℕ, true, false, ⊤, List, Option, Some, None}
+use Rattle.std.specs.Prelude.{◌≡◌, true, false, ⊤, List, Option, Some, None}
 use Rattle.std.specs.declared.cmp.Ordering.TheVariants.{Less}
 use Rattle.std.specs.List.{AllByRecursion}
+use Rattle.keys.specs.Bytes.{Bytes}
 use Rattle.keys.specs.Order.{order}
 pub use Rattle.keys.specs.Range.{is_below, is_before, is_within}
 
 -- all keys are below k
-abbrev pub AreBelow : List ℕ → List (List ℕ) → Type 0
+abbrev pub AreBelow : Bytes → List Bytes → Type 0
 AreBelow k ks = AllByRecursion (λ j. is_below j k ≡ true) ks
 
 -- no key is below k
-abbrev pub AreFrom : List ℕ → List (List ℕ) → Type 0
+abbrev pub AreFrom : Bytes → List Bytes → Type 0
 AreFrom k ks = AllByRecursion (λ j. is_below j k ≡ false) ks
 
 -- all keys are below the end
-abbrev pub AreBefore : Option (List ℕ) → List (List ℕ) → Type 0
+abbrev pub AreBefore : Option Bytes → List Bytes → Type 0
 AreBefore None ks = ⊤
 AreBefore (Some end) ks = AreBelow end ks
 
 -- the key is below the end
-abbrev pub IsBefore : Option (List ℕ) → List ℕ → Type 0
+abbrev pub IsBefore : Option Bytes → Bytes → Type 0
 IsBefore None k = ⊤
 IsBefore (Some end) k = order k end ≡ Less

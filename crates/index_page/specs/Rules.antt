@@ -3,6 +3,7 @@ use Rattle.std.specs.Prelude.{◌≡◌, ℕ, ◌≤◌, ◌<◌, Bool, true, �
 use Rattle.std.specs.Ordering.{is_lt, is_eq}
 use Rattle.std.specs.List.{AllByRecursion, list_all}
 use Rattle.std.specs.Map.{keys_of}
+use Rattle.keys.specs.Bytes.{Bytes, Pairs, Changes}
 use Rattle.keys.specs.Order.{order}
 use Rattle.keys.specs.declared.settings.Settings.{Settings}
 use Rattle.delta_chain.specs.Layers.{IsInOrder}
@@ -12,35 +13,35 @@ use Rattle.index_page.specs.Range.{is_within, AreFrom, AreBefore}
 -- ---- its keys
 
 -- the keys of each run and of the base rise, and lie from this low key on and before this end
-pub record KeepsRange {V : Type 0} (low : List ℕ) (end : Option (List ℕ)) (p : Page V) : Type 0 where
+pub record KeepsRange {V : Type 0} (low : Bytes) (end : Option Bytes) (p : Page V) : Type 0 where
   pub rising : IsInOrder p.layers
   pub from : AreFrom low (named p)
   pub before : AreBefore end (named p)
 
 -- whether each key is below the next
-abbrev pub do_rise : List (List ℕ) → Bool
+abbrev pub do_rise : List Bytes → Bool
 do_rise [] = true
 do_rise (k ∷ []) = true
 do_rise (k ∷ j ∷ ks) = is_lt (order k j) && do_rise (j ∷ ks)
 
 -- whether the keys of each run and of the base rise
-abbrev pub all_rise : {V : Type 0} → List (List (List ℕ × Option V)) → List (List ℕ × V) → Bool
+abbrev pub all_rise : {V : Type 0} → List (Changes V) → Pairs V → Bool
 all_rise [] base = do_rise (keys_of base)
 all_rise (run ∷ runs) base = do_rise (keys_of run) && all_rise runs base
 
-abbrev pub keeps_range : {V : Type 0} → List ℕ → Option (List ℕ) → Page V → Bool
+abbrev pub keeps_range : {V : Type 0} → Bytes → Option Bytes → Page V → Bool
 keeps_range low end p = all_rise p.layers.runs p.layers.base && list_all (is_within low end) (named p)
 
 -- ---- its sizes
 
 -- a value is within the settings, and so is every pid
-abbrev pub IsShortValue : Settings → List ℕ → Type 0
+abbrev pub IsShortValue : Settings → Bytes → Type 0
 IsShortValue s v = length v ≤ s.max_value
 
 abbrev pub IsAnyPid : ℕ → Type 0
 IsAnyPid pid = ⊤
 
-abbrev pub is_short_value : Settings → List ℕ → Bool
+abbrev pub is_short_value : Settings → Bytes → Bool
 is_short_value s v = nat_le (length v) s.max_value
 
 abbrev pub is_any_pid : ℕ → Bool
@@ -56,11 +57,11 @@ of_cell is_short None = true
 of_cell is_short (Some v) = is_short v
 
 -- a change whose key, and whose cell, is within the settings
-pub record IsShortChange {V : Type 0} (s : Settings) (IsShort : V → Type 0) (c : List ℕ × Option V) : Type 0 where
+pub record IsShortChange {V : Type 0} (s : Settings) (IsShort : V → Type 0) (c : Bytes × Option V) : Type 0 where
   pub key : length c.0 ≤ s.max_key
   pub cell : OfCell IsShort c.1
 
-abbrev pub is_short_change : {V : Type 0} → Settings → (V → Bool) → List ℕ × Option V → Bool
+abbrev pub is_short_change : {V : Type 0} → Settings → (V → Bool) → Bytes × Option V → Bool
 is_short_change s is_short c = nat_le (length c.0) s.max_key && of_cell is_short c.1
 
 -- a run has at least one change, and at most fan of them
@@ -91,7 +92,7 @@ pub record IsHeaded (least : ℕ) (p : Page ℕ) : Type 0 where
   pub some : least ≤ length (entries p)
   pub first : first_key (entries p) ≡ p.low
 
-abbrev pub is_same_key : List ℕ → List ℕ → Bool
+abbrev pub is_same_key : Bytes → Bytes → Bool
 is_same_key j k = is_eq (order j k)
 
 abbrev pub is_headed : ℕ → Page ℕ → Bool

@@ -1,11 +1,11 @@
 -- What a page in memory stands for.
-use Rattle.std.specs.Prelude.{ℕ, List}
 use Rattle.index_page.specs.Page.{PageOfKind}
 use Rattle.index_page.specs.Page.PageOfKind.{Leaf, Index}
 use Rattle.index_page.specs.declared.page.State.{State}
 use Rattle.index_page.specs.declared.page.State.TheVariants.{Values, Pids}
+use Rattle.keys.specs.Bytes.{Bytes}
 
 -- a leaf of the values, or an index page of the pids
-abbrev pub page_of_state : {A : Type 0} → List ℕ → State A → PageOfKind
+abbrev pub page_of_state : {A : Type 0} → Bytes → State A → PageOfKind
 page_of_state low (Values chain) = Leaf (record { low = low; layers = chain })
 page_of_state low (Pids chain) = Index (record { low = low; layers = chain })

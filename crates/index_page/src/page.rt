@@ -1,6 +1,7 @@
-ghost use Rattle.std.specs.Prelude.{◌≡◌, ℕ, ◌∷◌, [], true, ◌↔◌, List, Option, map, MatchOption, IsTrue};
+ghost use Rattle.std.specs.Prelude.{◌≡◌, ℕ, ◌∷◌, [], true, ◌↔◌, Option, map, MatchOption, IsTrue};
 ghost use Rattle.std.specs.List.{filter};
 ghost use Rattle.std.specs.Option.{option_copied, option_map, option_or};
+ghost use Rattle.keys.specs.Bytes.{Bytes};
 ghost use Rattle.keys.specs.Order.{IsRising};
 ghost use Rattle.page_search.specs.Floor.{floor};
 ghost use Rattle.page_search.specs.Above.{above};
@@ -124,7 +125,7 @@ impl<A: Allocator + Copy> Page<A> {
     /// no memory.
     pub fn child_for(&self, key: &[u8]) -> Pid
         requires { HasChildFor self.now key.now }
-        ensures { (end : Option (List ℕ)) → is_before end key.now ≡ true → map (λ at. at.pid) (filter (is_place_for key.now) (children (child_entries self.now) end)) ≡ result ∷ [] }
+        ensures { (end : Option Bytes) → is_before end key.now ≡ true → map (λ at. at.pid) (filter (is_place_for key.now) (children (child_entries self.now) end)) ≡ result ∷ [] }
     {
         match self.last_child(key) {
             Some(child) => child.1,
@@ -138,8 +139,8 @@ impl<A: Allocator + Copy> Page<A> {
     pub fn child_with_end(&self, key: &[u8]) -> (Pid, Option<&[u8]>)
         requires { HasChildFor self.now key.now }
         ensures child { (result.0, option_copied result.1) ≡ child_with_end key.now (child_entries self.now) }
-        ensures place { (end : Option (List ℕ)) → is_before end key.now ≡ true →
-            map {B = ℕ × Option (List ℕ)} (λ at. (at.pid, at.end)) (filter (is_place_for key.now) (children (child_entries self.now) end)) ≡ (result.0, option_or (option_copied result.1) end) ∷ [] }
+        ensures place { (end : Option Bytes) → is_before end key.now ≡ true →
+            map {B = ℕ × Option Bytes} (λ at. (at.pid, at.end)) (filter (is_place_for key.now) (children (child_entries self.now) end)) ≡ (result.0, option_or (option_copied result.1) end) ∷ [] }
     {
         match self.last_child(key) {
             Some(child) => (child.1, self.next_key(key)),

@@ -24,12 +24,12 @@ pub(crate) enum NextChild<'a> {
 }
 
 impl<'a, A: Allocator> Model for Children<'a, A> {
-    ghost use Rattle.std.specs.Prelude.{List, ℕ};
     ghost use Rattle.std.specs.Option.{option_copied};
+    ghost use Rattle.keys.specs.Bytes.{Names};
     ghost use Rattle.index_page.specs.Children.{child_entries};
     ghost use Rattle.index_page.specs.NextChild.{left_with};
 
-    ghost Value = { List (List ℕ × ℕ) };
+    ghost Value = { Names };
 
     ghost view = { λ c. left_with c.next (option_copied c.end) (child_entries c.page.now) };
 }

@@ -1,46 +1,47 @@
 -- How numbers, keys, values and page ids are spelled in bytes, and how they are read.
-use Rattle.std.specs.Prelude.{◌≡◌, ℕ, zero, suc, ◌+◌, ◌*◌, ◌^◌, ◌<◌, Bool, nat_le, if◌then◌else◌, List, [], ◌∷◌, ◌++◌, length, take, drop, Option, Some, None}
+use Rattle.std.specs.Prelude.{◌≡◌, ℕ, zero, suc, ◌+◌, ◌*◌, ◌^◌, ◌<◌, Bool, nat_le, if◌then◌else◌, [], ◌∷◌, ◌++◌, length, take, drop, Option, Some, None}
 use Rattle.std.specs.Int.{bytes_high_first}
 use Rattle.std.specs.List.{AllByRecursion}
+use Rattle.keys.specs.Bytes.{Bytes}
 
 -- a spelling in bytes, and its reader: what bytes begin with, where they begin with a spelling, and the bytes behind it
 pub record Codec (X : Type 0) : Type 0 where
-  pub spell : X → List ℕ
-  pub read : List ℕ → Option (X × List ℕ)
+  pub spell : X → Bytes
+  pub read : Bytes → Option (X × Bytes)
 
 -- each is a byte
-abbrev pub AreBytes : List ℕ → Type 0
+abbrev pub AreBytes : Bytes → Type 0
 AreBytes bs = AllByRecursion (λ b. b < 256) bs
 
 -- ---- what is asked of a codec
 
 -- x is read back from its spelling, whatever stands behind it
 abbrev pub IsReadBack : {X : Type 0} → Codec X → X → Type 0
-IsReadBack c x = (rest : List ℕ) → c.read (c.spell x ++ rest) ≡ Some (x, rest)
+IsReadBack c x = (rest : Bytes) → c.read (c.spell x ++ rest) ≡ Some (x, rest)
 
 -- what is read from bytes stands there in its spelling
 abbrev pub ReadsSpellings : {X : Type 0} → Codec X → Type 0
-ReadsSpellings {X = X} c = (bs : List ℕ) (x : X) (rest : List ℕ) → AreBytes bs → c.read bs ≡ Some (x, rest) → bs ≡ c.spell x ++ rest
+ReadsSpellings {X = X} c = (bs : Bytes) (x : X) (rest : Bytes) → AreBytes bs → c.read bs ≡ Some (x, rest) → bs ≡ c.spell x ++ rest
 
 -- ---- steps of a reader
 
 -- what comes of what was read and of the bytes behind it, where there is any
-abbrev pub read_on : {X Y : Type 0} → Option (X × List ℕ) → (X → List ℕ → Option (Y × List ℕ)) → Option (Y × List ℕ)
+abbrev pub read_on : {X Y : Type 0} → Option (X × Bytes) → (X → Bytes → Option (Y × Bytes)) → Option (Y × Bytes)
 read_on None next = None
 read_on (Some p) next = next p.0 p.1
 
 -- what was read, as f has it
-abbrev pub read_as : {X Y : Type 0} → (X → Y) → Option (X × List ℕ) → Option (Y × List ℕ)
+abbrev pub read_as : {X Y : Type 0} → (X → Y) → Option (X × Bytes) → Option (Y × Bytes)
 read_as f o = read_on o (λ x rest. Some (f x, rest))
 
 -- what was read, where it passes the test
-abbrev pub read_where : {X : Type 0} → (X → Bool) → Option (X × List ℕ) → Option (X × List ℕ)
+abbrev pub read_where : {X : Type 0} → (X → Bool) → Option (X × Bytes) → Option (X × Bytes)
 read_where test o = read_on o (λ x rest. if test x then Some (x, rest) else None)
 
 -- ---- numbers
 
 -- the number that the first w bytes are, the highest byte first
-abbrev pub read_number : ℕ → List ℕ → Option (ℕ × List ℕ)
+abbrev pub read_number : ℕ → Bytes → Option (ℕ × Bytes)
 read_number zero bs = Some (0, bs)
 read_number (suc w) [] = None
 read_number (suc w) (b ∷ bs) = read_as (λ n. b * 256 ^ w + n) (read_number w bs)
@@ -52,15 +53,15 @@ number w = record { spell = bytes_high_first w; read = read_number w }
 -- ---- keys and cells
 
 -- the first n bytes
-abbrev pub read_bytes : ℕ → List ℕ → Option (List ℕ × List ℕ)
+abbrev pub read_bytes : ℕ → Bytes → Option (Bytes × Bytes)
 read_bytes n bs = if nat_le n (length bs) then Some (take n bs, drop n bs) else None
 
 -- bytes: how many there are, in two bytes, and then they themselves; so a key is spelled
-abbrev pub counted : Codec (List ℕ)
+abbrev pub counted : Codec Bytes
 counted = record { spell = λ bs. (number 2).spell (length bs) ++ bs; read = λ bs. read_on ((number 2).read bs) read_bytes }
 
 -- a value
-abbrev pub value_cell : Codec (List ℕ)
+abbrev pub value_cell : Codec Bytes
 value_cell = counted
 
 -- a page id, in eight bytes

@@ -1,10 +1,11 @@
 -- The key that a command is on.
-use Rattle.std.specs.Prelude.{ℕ, Bool, true, false, List}
+use Rattle.std.specs.Prelude.{Bool, true, false}
+use Rattle.keys.specs.Bytes.{Bytes}
 use Rattle.keys.specs.declared.command.Command.{Command}
 use Rattle.keys.specs.declared.command.Command.TheVariants.{Get, Put, Add, Del, Scan}
 
 -- the key that a command reads or changes; of a scan it is the lower bound
-abbrev pub key_of : {A : Type 0} → Command A → List ℕ
+abbrev pub key_of : {A : Type 0} → Command A → Bytes
 key_of (Get k) = k
 key_of (Put k v) = k
 key_of (Add k v) = k

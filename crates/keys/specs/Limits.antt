@@ -1,5 +1,6 @@
 -- Which settings a store may have.
 use Rattle.std.specs.Prelude.{ℕ, ◌+◌, ◌*◌, max, Bool, ◌&&◌, nat_le, if◌then◌else◌, List, [], ◌∷◌, Option, Some, None, codes}
+use Rattle.keys.specs.Bytes.{Bytes}
 use Rattle.keys.specs.Sizes.{length_size, pid_size, segment_header_size, full_header_size, change_header_size}
 use Rattle.keys.specs.declared.settings.Settings.{Settings}
 use Rattle.keys.specs.declared.settings.Field.{Field}
@@ -39,7 +40,7 @@ abbrev pub first_bad_field : Settings → Option Field
 first_bad_field s = first_failed (field_tests s)
 
 -- how a field is spelled
-abbrev pub field_name : Field → List ℕ
+abbrev pub field_name : Field → Bytes
 field_name Fan = codes "fan"
 field_name Chain = codes "chain"
 field_name MaxKey = codes "max_key"

@@ -1,12 +1,13 @@
 -- Scans that end at a nearer key, since they have as many rows as they may before it.
 use Rattle.std.specs.Prelude.{◌≡◌, ℕ, ◌≤◌, true, ⊤, List, [], ◌∷◌, length, drop, slice_get, Option, Some, None}
+use Rattle.keys.specs.Bytes.{Bytes, Pairs}
 use Rattle.keys.specs.Range.{is_below, is_before, in_range}
 use Rattle.keys.specs.Step.{map_after}
 use Rattle.keys.specs.declared.command.Command.{Command}
 use Rattle.keys.specs.declared.command.Command.TheVariants.{Get, Put, Add, Del, Scan}
 
 -- a scan with this key as its upper bound, where there is one; another command is as it was
-abbrev pub with_end : {A : Type 0} → Option (List ℕ) → Command A → Command A
+abbrev pub with_end : {A : Type 0} → Option Bytes → Command A → Command A
 with_end None c = c
 with_end (Some end) (Get k) = Get k
 with_end (Some end) (Put k v) = Put k v
@@ -15,25 +16,25 @@ with_end (Some end) (Del k) = Del k
 with_end (Some end) (Scan lo hi limit) = Scan lo (Some end) limit
 
 -- the first of these, and none where the list is at its end
-abbrev pub first_end : List (Option (List ℕ)) → Option (List ℕ)
+abbrev pub first_end : List (Option Bytes) → Option Bytes
 first_end [] = None
 first_end (end ∷ ends) = end
 
 -- each scan with the upper bound that stands at its place
-abbrev pub with_ends : {A : Type 0} → List (Command A) → List (Option (List ℕ)) → List (Command A)
+abbrev pub with_ends : {A : Type 0} → List (Command A) → List (Option Bytes) → List (Command A)
 with_ends [] ends = []
 with_ends (c ∷ cs) ends = with_end (first_end ends) c ∷ with_ends cs (drop 1 ends)
 
 -- a scan of this map may end at this key: it is one of these keys, lies within the scan's bounds, and before it there are as many
 -- pairs as the scan may have rows
-pub record IsEnough (keys : List (List ℕ)) (m : List (List ℕ × List ℕ)) (lo : List ℕ) (hi : Option (List ℕ)) (limit : ℕ) (end : List ℕ) : Type 0 where
+pub record IsEnough (keys : List Bytes) (m : Pairs Bytes) (lo : Bytes) (hi : Option Bytes) (limit : ℕ) (end : Bytes) : Type 0 where
   pub known : (at : ℕ) × (slice_get keys at ≡ Some end)
   pub behind : is_below lo end ≡ true
   pub before : is_before hi end ≡ true
   pub rows : limit ≤ length (in_range lo (Some end) m)
 
 -- a command may have this end, where there is one
-abbrev pub MayEndAt : {A : Type 0} → List (List ℕ) → List (List ℕ × List ℕ) → Command A → Option (List ℕ) → Type 0
+abbrev pub MayEndAt : {A : Type 0} → List Bytes → Pairs Bytes → Command A → Option Bytes → Type 0
 MayEndAt keys m c None = ⊤
 MayEndAt keys m (Get k) (Some end) = ⊤
 MayEndAt keys m (Put k v) (Some end) = ⊤
@@ -42,6 +43,6 @@ MayEndAt keys m (Del k) (Some end) = ⊤
 MayEndAt keys m (Scan lo hi limit) (Some end) = IsEnough keys m lo hi limit end
 
 -- each scan may have the end that stands at its place, on the map as it is at its place
-abbrev pub MayEndAtAll : {A : Type 0} → List (List ℕ) → List (List ℕ × List ℕ) → List (Command A) → List (Option (List ℕ)) → Type 0
+abbrev pub MayEndAtAll : {A : Type 0} → List Bytes → Pairs Bytes → List (Command A) → List (Option Bytes) → Type 0
 MayEndAtAll keys m [] ends = ⊤
 MayEndAtAll keys m (c ∷ cs) ends = MayEndAt keys m c (first_end ends) × MayEndAtAll keys (map_after m c) cs (drop 1 ends)

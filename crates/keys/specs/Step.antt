@@ -1,5 +1,6 @@
 -- What a command answers and what it leaves, of an ordered map; and a run of commands.
-use Rattle.std.specs.Prelude.{ℕ, List, [], ◌∷◌, Option, Some, None, is_some, if◌then◌else◌}
+use Rattle.std.specs.Prelude.{List, [], ◌∷◌, Option, Some, None, is_some, if◌then◌else◌}
+use Rattle.keys.specs.Bytes.{Bytes, Pairs}
 use Rattle.keys.specs.OrderedMap.{value_at, with_pair, without}
 use Rattle.keys.specs.Range.{rows}
 use Rattle.keys.specs.declared.command.Command.{Command}
@@ -8,12 +9,12 @@ use Rattle.keys.specs.declared.command.Reply.{Reply}
 use Rattle.keys.specs.declared.command.Reply.TheVariants.{Value, Missing, New, Replaced, Added, Exists, Deleted, Rows}
 
 -- the reply to a Get that finds this
-abbrev pub found : {A : Type 0} → Option (List ℕ) → Reply A
+abbrev pub found : {A : Type 0} → Option Bytes → Reply A
 found None = Missing
 found (Some v) = Value v
 
 -- the reply to the command, of the map before it
-abbrev pub reply_to : {A : Type 0} → List (List ℕ × List ℕ) → Command A → Reply A
+abbrev pub reply_to : {A : Type 0} → Pairs Bytes → Command A → Reply A
 reply_to m (Get k) = found (value_at k m)
 reply_to m (Put k v) = if is_some (value_at k m) then Replaced else New
 reply_to m (Add k v) = if is_some (value_at k m) then Exists else Added
@@ -21,7 +22,7 @@ reply_to m (Del k) = if is_some (value_at k m) then Deleted else Missing
 reply_to m (Scan lo hi limit) = Rows (rows lo hi limit m)
 
 -- the map after the command
-abbrev pub map_after : {A : Type 0} → List (List ℕ × List ℕ) → Command A → List (List ℕ × List ℕ)
+abbrev pub map_after : {A : Type 0} → Pairs Bytes → Command A → Pairs Bytes
 map_after m (Get k) = m
 map_after m (Put k v) = with_pair m k v
 map_after m (Add k v) = if is_some (value_at k m) then m else with_pair m k v
@@ -29,11 +30,11 @@ map_after m (Del k) = without m k
 map_after m (Scan lo hi limit) = m
 
 -- the replies to commands that are executed in the order of the list
-abbrev pub replies_to : {A : Type 0} → List (List ℕ × List ℕ) → List (Command A) → List (Reply A)
+abbrev pub replies_to : {A : Type 0} → Pairs Bytes → List (Command A) → List (Reply A)
 replies_to m [] = []
 replies_to m (c ∷ cs) = reply_to m c ∷ replies_to (map_after m c) cs
 
 -- the map after them all
-abbrev pub map_after_all : {A : Type 0} → List (List ℕ × List ℕ) → List (Command A) → List (List ℕ × List ℕ)
+abbrev pub map_after_all : {A : Type 0} → Pairs Bytes → List (Command A) → Pairs Bytes
 map_after_all m [] = m
 map_after_all m (c ∷ cs) = map_after_all (map_after m c) cs

@@ -1,17 +1,18 @@
 -- The first bytes of a byte string as one number, by which byte strings are told apart at a glance.
-use Rattle.std.specs.Prelude.{◌≡◌, ℕ, zero, suc, ◌+◌, ◌*◌, List, [], ◌∷◌}
+use Rattle.std.specs.Prelude.{◌≡◌, ℕ, zero, suc, ◌+◌, ◌*◌, [], ◌∷◌}
+use Rattle.keys.specs.Bytes.{Bytes}
 use Rattle.keys.specs.Cells.{AreBytes}
 
 -- the next k bytes behind a number, the greatest first; zeros stand for those that aren't there
-abbrev pub word_behind : ℕ → ℕ → List ℕ → ℕ
+abbrev pub word_behind : ℕ → ℕ → Bytes → ℕ
 word_behind zero n bs = n
 word_behind (suc k) n [] = word_behind k (n * 256) []
 word_behind (suc k) n (b ∷ bs) = word_behind k (n * 256 + b) bs
 
 -- the first eight
-abbrev pub first_word : List ℕ → ℕ
+abbrev pub first_word : Bytes → ℕ
 first_word bs = word_behind 8 0 bs
 
 -- the number is the first word of these bytes
-abbrev pub IsWordOf : ℕ → List ℕ → Type 0
+abbrev pub IsWordOf : ℕ → Bytes → Type 0
 IsWordOf n bs = (n ≡ first_word bs) × AreBytes bs

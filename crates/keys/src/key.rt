@@ -19,9 +19,9 @@ pub struct Key<A: Allocator> {
 }
 
 impl<A: Allocator> Model for Key<A> {
-    ghost use Rattle.std.specs.Prelude.{List, ℕ};
+    ghost use Rattle.keys.specs.Bytes.{Bytes};
 
-    ghost Value = { List ℕ };
+    ghost Value = { Bytes };
 
     ghost view = { λ k. k.bytes.items };
 }

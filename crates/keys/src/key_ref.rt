@@ -23,10 +23,10 @@ pub struct KeyRef<'a> {
 }
 
 impl<'a> Model for KeyRef<'a> {
-    ghost use Rattle.std.specs.Prelude.{List, ℕ};
+    ghost use Rattle.keys.specs.Bytes.{Bytes};
     ghost use Rattle.keys.specs.Words.{IsWordOf};
 
-    ghost Value = { List ℕ };
+    ghost Value = { Bytes };
 
     ghost view = { λ k. k.bytes.now };
 
@@ -126,10 +126,10 @@ pub struct KeyWithWord<A: Allocator> {
 }
 
 impl<A: Allocator> Model for KeyWithWord<A> {
-    ghost use Rattle.std.specs.Prelude.{List, ℕ};
+    ghost use Rattle.keys.specs.Bytes.{Bytes};
     ghost use Rattle.keys.specs.Words.{IsWordOf};
 
-    ghost Value = { List ℕ };
+    ghost Value = { Bytes };
 
     ghost view = { λ k. k.key };
 

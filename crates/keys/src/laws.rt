@@ -5,6 +5,7 @@ ghost use Rattle.std.specs.List.{AllByRecursion};
 ghost use Rattle.std.specs.Map.{keys_of};
 ghost use Rattle.std.specs.declared.cmp.Ordering.TheVariants.{Equal};
 ghost use Rattle.std.specs.Cmp.{IsTotalOrder};
+ghost use Rattle.keys.specs.Bytes.{Bytes, Pairs};
 ghost use Rattle.keys.specs.Order.{order, IsRising};
 ghost use Rattle.keys.specs.OrderedMap.{value_at, with_pair, without};
 ghost use Rattle.keys.specs.Narrowed.{with_ends, IsEnough, MayEndAtAll};
@@ -19,71 +20,71 @@ use std::alloc::Allocator;
 /// The order of keys is total, and keys that compare alike are the same bytes.
 pub fn keys_are_totally_ordered()
     ensures total { IsTotalOrder order }
-    ensures exact { (j k : List ℕ) → order j k ≡ Equal → j ≡ k }
+    ensures exact { (j k : Bytes) → order j k ≡ Equal → j ≡ k }
 {}
 
 /// What is put at a key is read back, and every other key has what it had.
 pub fn what_is_put_is_read_back<V>()
-    ensures here { (m : List (List ℕ × V)) (k : List ℕ) (v : V) → value_at k (with_pair m k v) ≡ Some v }
-    ensures elsewhere { (m : List (List ℕ × V)) (k q : List ℕ) (v : V) → q ≢ k → value_at q (with_pair m k v) ≡ value_at q m }
-    ensures rising { (m : List (List ℕ × V)) (k : List ℕ) (v : V) → IsRising m → IsRising (with_pair m k v) }
+    ensures here { (m : Pairs V) (k : Bytes) (v : V) → value_at k (with_pair m k v) ≡ Some v }
+    ensures elsewhere { (m : Pairs V) (k q : Bytes) (v : V) → q ≢ k → value_at q (with_pair m k v) ≡ value_at q m }
+    ensures rising { (m : Pairs V) (k : Bytes) (v : V) → IsRising m → IsRising (with_pair m k v) }
 {}
 
 /// What is deleted is missing, and every other key has what it had.
 pub fn what_is_deleted_is_missing<V>()
-    ensures here { (m : List (List ℕ × V)) (k : List ℕ) → IsRising m → value_at k (without m k) ≡ None }
-    ensures elsewhere { (m : List (List ℕ × V)) (k q : List ℕ) → IsRising m → q ≢ k → value_at q (without m k) ≡ value_at q m }
-    ensures rising { (m : List (List ℕ × V)) (k : List ℕ) → IsRising m → IsRising (without m k) }
+    ensures here { (m : Pairs V) (k : Bytes) → IsRising m → value_at k (without m k) ≡ None }
+    ensures elsewhere { (m : Pairs V) (k q : Bytes) → IsRising m → q ≢ k → value_at q (without m k) ≡ value_at q m }
+    ensures rising { (m : Pairs V) (k : Bytes) → IsRising m → IsRising (without m k) }
 {}
 
 /// Two maps that have the same at every key are the same list of pairs.
 pub fn a_map_is_what_it_has<V>()
-    ensures { (m n : List (List ℕ × V)) → IsRising m → IsRising n → ((q : List ℕ) → value_at q m ≡ value_at q n) → m ≡ n }
+    ensures { (m n : Pairs V) → IsRising m → IsRising n → ((q : Bytes) → value_at q m ≡ value_at q n) → m ≡ n }
 {}
 
 /// Commands leave a map of strictly rising keys.
 pub fn commands_keep_the_order<A: Allocator>()
-    ensures one { (m : List (List ℕ × List ℕ)) (c : Command A) → IsRising m → IsRising (map_after m c) }
-    ensures all { (m : List (List ℕ × List ℕ)) (cs : List (Command A)) → IsRising m → IsRising (map_after_all m cs) }
+    ensures one { (m : Pairs Bytes) (c : Command A) → IsRising m → IsRising (map_after m c) }
+    ensures all { (m : Pairs Bytes) (cs : List (Command A)) → IsRising m → IsRising (map_after_all m cs) }
 {}
 
 /// A scan is answered with the rows of its range, and leaves the map as it was.
 pub fn a_scan_leaves_the_map<A: Allocator>()
-    ensures reply { (m : List (List ℕ × List ℕ)) (lo : List ℕ) (hi : Option (List ℕ)) (limit : ℕ) → reply_to {A = A} m (Scan lo hi limit) ≡ Rows (rows lo hi limit m) }
-    ensures map { (m : List (List ℕ × List ℕ)) (lo : List ℕ) (hi : Option (List ℕ)) (limit : ℕ) → map_after {A = A} m (Scan lo hi limit) ≡ m }
+    ensures reply { (m : Pairs Bytes) (lo : Bytes) (hi : Option Bytes) (limit : ℕ) → reply_to {A = A} m (Scan lo hi limit) ≡ Rows (rows lo hi limit m) }
+    ensures map { (m : Pairs Bytes) (lo : Bytes) (hi : Option Bytes) (limit : ℕ) → map_after {A = A} m (Scan lo hi limit) ≡ m }
 {}
 
 /// Lists of commands joined end to end are executed one after the other: the second list finds the map that the
 /// first one left. So what is proved of one batch is proved of any list of batches.
 pub fn joined_commands_follow_one_another<A: Allocator>()
-    ensures replies { (m : List (List ℕ × List ℕ)) (cs ds : List (Command A)) →
+    ensures replies { (m : Pairs Bytes) (cs ds : List (Command A)) →
         replies_to m (cs ++ ds) ≡ replies_to m cs ++ replies_to (map_after_all m cs) ds }
-    ensures map { (m : List (List ℕ × List ℕ)) (cs ds : List (Command A)) →
+    ensures map { (m : Pairs Bytes) (cs ds : List (Command A)) →
         map_after_all m (cs ++ ds) ≡ map_after_all (map_after_all m cs) ds }
 {}
 
 /// The rows of a range rise. Each is a pair of the map whose key lies in the range; and such a pair is a row, unless there
 /// are as many rows as may be, each of a lesser key. There are none where the range is empty, or none may be.
 pub fn rows_are_the_first_pairs_of_a_range<V>()
-    ensures rising { (m : List (List ℕ × V)) (lo : List ℕ) (hi : Option (List ℕ)) (limit : ℕ) → IsRising m → IsRising (rows lo hi limit m) }
-    ensures held { (m : List (List ℕ × V)) (lo : List ℕ) (hi : Option (List ℕ)) (limit : ℕ) (k : List ℕ) (v : V) → IsRising m →
+    ensures rising { (m : Pairs V) (lo : Bytes) (hi : Option Bytes) (limit : ℕ) → IsRising m → IsRising (rows lo hi limit m) }
+    ensures held { (m : Pairs V) (lo : Bytes) (hi : Option Bytes) (limit : ℕ) (k : Bytes) (v : V) → IsRising m →
         value_at k (rows lo hi limit m) ≡ Some v → (value_at k m ≡ Some v) × (is_within lo hi k ≡ true) }
-    ensures none_left_out { (m : List (List ℕ × V)) (lo : List ℕ) (hi : Option (List ℕ)) (limit : ℕ) (k : List ℕ) (v : V) → IsRising m →
+    ensures none_left_out { (m : Pairs V) (lo : Bytes) (hi : Option Bytes) (limit : ℕ) (k : Bytes) (v : V) → IsRising m →
         value_at k m ≡ Some v → is_within lo hi k ≡ true →
         (value_at k (rows lo hi limit m) ≡ Some v) ⊎ ((length (rows lo hi limit m) ≡ limit) × AllByRecursion (λ j. is_below j k ≡ true) (keys_of (rows lo hi limit m))) }
-    ensures at_most { (m : List (List ℕ × V)) (lo : List ℕ) (hi : Option (List ℕ)) (limit : ℕ) → length (rows lo hi limit m) ≤ limit }
-    ensures empty_range { (m : List (List ℕ × V)) (lo hi : List ℕ) (limit : ℕ) → is_below lo hi ≡ false → rows lo (Some hi) limit m ≡ [] }
-    ensures no_limit_left { (m : List (List ℕ × V)) (lo : List ℕ) (hi : Option (List ℕ)) → rows lo hi 0 m ≡ [] }
+    ensures at_most { (m : Pairs V) (lo : Bytes) (hi : Option Bytes) (limit : ℕ) → length (rows lo hi limit m) ≤ limit }
+    ensures empty_range { (m : Pairs V) (lo hi : Bytes) (limit : ℕ) → is_below lo hi ≡ false → rows lo (Some hi) limit m ≡ [] }
+    ensures no_limit_left { (m : Pairs V) (lo : Bytes) (hi : Option Bytes) → rows lo hi 0 m ≡ [] }
 {}
 
 /// A scan that ends at a nearer key, before which it has as many rows as it may, is answered as before; so what lies behind that key
 /// needn't be looked at for it. Replies and map of a batch are the same, whichever of its scans end so.
 pub fn a_scan_with_enough_rows_may_end<A: Allocator>()
-    ensures rows { (keys : List (List ℕ)) (m : List (List ℕ × List ℕ)) (lo : List ℕ) (hi : Option (List ℕ)) (limit : ℕ)
-        (end : List ℕ) → IsRising m → IsEnough keys m lo hi limit end → rows lo (Some end) limit m ≡ rows lo hi limit m }
-    ensures replies { (keys : List (List ℕ)) (m : List (List ℕ × List ℕ)) (cs : List (Command A))
-        (ends : List (Option (List ℕ))) → IsRising m → MayEndAtAll keys m cs ends →
+    ensures rows { (keys : List Bytes) (m : Pairs Bytes) (lo : Bytes) (hi : Option Bytes) (limit : ℕ)
+        (end : Bytes) → IsRising m → IsEnough keys m lo hi limit end → rows lo (Some end) limit m ≡ rows lo hi limit m }
+    ensures replies { (keys : List Bytes) (m : Pairs Bytes) (cs : List (Command A))
+        (ends : List (Option Bytes)) → IsRising m → MayEndAtAll keys m cs ends →
         replies_to m (with_ends cs ends) ≡ replies_to m cs }
-    ensures map { (m : List (List ℕ × List ℕ)) (cs : List (Command A)) (ends : List (Option (List ℕ))) →
+    ensures map { (m : Pairs Bytes) (cs : List (Command A)) (ends : List (Option Bytes)) →
         map_after_all m (with_ends cs ends) ≡ map_after_all m cs }
 {}

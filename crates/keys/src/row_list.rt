@@ -14,9 +14,9 @@ pub struct RowList<A: Allocator> {
 }
 
 impl<A: Allocator> Model for RowList<A> {
-    ghost use Rattle.std.specs.Prelude.{List, ℕ};
+    ghost use Rattle.keys.specs.Bytes.{Bytes, Pairs};
 
-    ghost Value = { List (List ℕ × List ℕ) };
+    ghost Value = { Pairs Bytes };
 
     ghost view = { λ l. l.rows.items };
 }

@@ -10,9 +10,9 @@ pub struct Value<A: Allocator> {
 }
 
 impl<A: Allocator> Model for Value<A> {
-    ghost use Rattle.std.specs.Prelude.{List, ℕ};
+    ghost use Rattle.keys.specs.Bytes.{Bytes};
 
-    ghost Value = { List ℕ };
+    ghost Value = { Bytes };
 
     ghost view = { λ v. v.bytes.items };
 }

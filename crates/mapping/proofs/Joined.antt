@@ -7,8 +7,7 @@ use Rattle.std.specs.Map.{keys_of}
 use Rattle.keys.specs.Order.{IsRising}
 use Rattle.delta_chain.proofs.LayerLaws.{rising-entries_of}
 use Rattle.index_page.specs.Page as page
-use Rattle.index_page.specs.Page.{Page, PageOfKind, first_key, as_changes, said_under, named}
-use Rattle.index_page.specs.Page.PageOfKind.{Leaf, Index}
+use Rattle.index_page.specs.Page.{Page, PageOfKind, first_key, named}
 use Rattle.index_page.specs.Range.{is_below, AreBefore, IsBefore}
 use Rattle.index_page.specs.Rules.{IsHeaded}
 use Rattle.index_page.proofs.RangeLaws.{below_is_less}

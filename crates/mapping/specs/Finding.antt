@@ -1,5 +1,6 @@
 -- What is wrong with a tree: the least finding, by the walk from its root.
 use Rattle.std.specs.Prelude.{ℕ, zero, suc, pred, Bool, not, List, [], ◌∷◌, ◌++◌, map, flat_map, Option, Some, None, if◌then◌else◌}
+use Rattle.keys.specs.Bytes.{Bytes}
 pub use Rattle.keys.specs.Finding.{Finding}
 use Rattle.keys.specs.declared.settings.Settings.{Settings}
 use Rattle.index_page.specs.Page.{Page, PageOfKind, entries}
@@ -60,7 +61,7 @@ unmet met [] = None
 unmet met (p ∷ ps) = if is_among p.0 met then unmet met ps else Some (record { rule = 10; pid = p.0 })
 
 -- the places of a page's children
-abbrev pub children_of_page : Option (List ℕ) → Option PageOfKind → List Place
+abbrev pub children_of_page : Option Bytes → Option PageOfKind → List Place
 children_of_page end (Some (Index p)) = children (entries p) end
 children_of_page end _ = []
 

@@ -3,6 +3,7 @@ use Rattle.std.specs.Prelude.{ℕ, zero, suc, pred, List, [], ◌∷◌, ◌++�
 use Rattle.std.specs.Ordering.{nat_cmp}
 use Rattle.std.specs.Map.{values_of}
 use Rattle.std.specs.BTreeMap.{insert_entry}
+use Rattle.keys.specs.Bytes.{Bytes, Pairs, Names}
 use Rattle.index_page.specs.Page as page
 use Rattle.index_page.specs.Page.{Page, PageOfKind, bare}
 use Rattle.index_page.specs.Page.PageOfKind.{Leaf, Index}
@@ -14,17 +15,17 @@ pub record Placed (V : Type 0) : Type 0 where
   pub page : Page V
 
 -- the present pairs of a page, and of the pages of a level, in order
-abbrev pub entries : {V : Type 0} → Placed V → List (List ℕ × V)
+abbrev pub entries : {V : Type 0} → Placed V → Pairs V
 entries p = page.entries p.page
 
-abbrev pub joined : {V : Type 0} → List (Placed V) → List (List ℕ × V)
+abbrev pub joined : {V : Type 0} → List (Placed V) → Pairs V
 joined ps = flat_map entries ps
 
 -- what a parent's entry says of a page: its low key and its pid
-abbrev pub name : {V : Type 0} → Placed V → List ℕ × ℕ
+abbrev pub name : {V : Type 0} → Placed V → Bytes × ℕ
 name p = (p.page.low, p.pid)
 
-abbrev pub names : {V : Type 0} → List (Placed V) → List (List ℕ × ℕ)
+abbrev pub names : {V : Type 0} → List (Placed V) → Names
 names ps = map name ps
 
 abbrev pub pids : {V : Type 0} → List (Placed V) → List ℕ
@@ -37,10 +38,10 @@ pub record Tower (V : Type 0) : Type 0 where
 
 -- the levels of a tree: the leaves, and the levels of index pages above them
 abbrev pub Levels : Type 0
-Levels = Tower (List ℕ)
+Levels = Tower Bytes
 
 -- the leaf, or the index page, under a pid, and an empty one where there is none of that kind
-abbrev pub as_leaf : Option PageOfKind → Page (List ℕ)
+abbrev pub as_leaf : Option PageOfKind → Page Bytes
 as_leaf (Some (Leaf p)) = p
 as_leaf _ = bare [] []
 
@@ -48,7 +49,7 @@ abbrev pub as_index : Option PageOfKind → Page ℕ
 as_index (Some (Index p)) = p
 as_index _ = bare [] []
 
-abbrev pub leaf_at : List (ℕ × PageOfKind) → ℕ → Placed (List ℕ)
+abbrev pub leaf_at : List (ℕ × PageOfKind) → ℕ → Placed Bytes
 leaf_at ps pid = record { pid = pid; page = as_leaf (page_at ps pid) }
 
 abbrev pub index_at : List (ℕ × PageOfKind) → ℕ → Placed ℕ
@@ -66,7 +67,7 @@ abbrev pub levels_of : Tree → Levels
 levels_of t = levels_below t.pages (pred t.height) (t.root ∷ []) []
 
 -- all present pairs of the leaves below the root, in order
-abbrev pub contents : Tree → List (List ℕ × List ℕ)
+abbrev pub contents : Tree → Pairs Bytes
 contents t = joined (levels_of t).level
 
 -- all pids of the levels
@@ -74,7 +75,7 @@ abbrev pub all_pids : {V : Type 0} → List (Placed V) → List (List (Placed �
 all_pids level above = pids level ++ flat_map pids above
 
 -- the pages of the levels, as a table keeps them
-abbrev pub listed_leaves : List (Placed (List ℕ)) → List (ℕ × PageOfKind)
+abbrev pub listed_leaves : List (Placed Bytes) → List (ℕ × PageOfKind)
 listed_leaves ps = map (λ p. (p.pid, Leaf p.page)) ps
 
 abbrev pub listed_index_pages : List (Placed ℕ) → List (ℕ × PageOfKind)

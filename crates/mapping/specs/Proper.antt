@@ -2,6 +2,7 @@
 use Rattle.std.specs.Prelude.{◌≡◌, ◌≢◌, ℕ, ◌<◌, ◌≤◌, true, ⊤, List, [], ◌∷◌, length, Option, Some, None}
 use Rattle.std.specs.List.{AllByRecursion}
 use Rattle.std.specs.Map.{keys_of}
+use Rattle.keys.specs.Bytes.{Bytes}
 use Rattle.keys.specs.declared.settings.Settings.{Settings}
 use Rattle.index_page.specs.Page.{PageOfKind}
 use Rattle.index_page.specs.Page.PageOfKind.{Leaf, Index}
@@ -15,16 +16,16 @@ use Rattle.mapping.specs.FreshPids.{is_among}
 -- ---- ranges
 
 -- the low key of the first of the pages, else the end
-abbrev pub next_low : {V : Type 0} → List (Placed V) → Option (List ℕ) → Option (List ℕ)
+abbrev pub next_low : {V : Type 0} → List (Placed V) → Option Bytes → Option Bytes
 next_low [] end = end
 next_low (p ∷ ps) end = Some p.page.low
 
 -- each page's keys lie from its low key on, and before the next page's, which is greater
-pub record IsTile {V : Type 0} (end : Option (List ℕ)) (p : Placed V) : Type 0 where
+pub record IsTile {V : Type 0} (end : Option Bytes) (p : Placed V) : Type 0 where
   pub keys : KeepsRange p.page.low end p.page
   pub low : IsBefore end p.page.low
 
-abbrev pub Tiled : {V : Type 0} → List (Placed V) → Option (List ℕ) → Type 0
+abbrev pub Tiled : {V : Type 0} → List (Placed V) → Option Bytes → Type 0
 Tiled [] end = ⊤
 Tiled (p ∷ ps) end = IsTile (next_low ps end) p × Tiled ps end
 
@@ -74,7 +75,7 @@ AreRisingPids [] = ⊤
 AreRisingPids (n ∷ ns) = AllByRecursion (λ m. n < m) ns × AreRisingPids ns
 
 -- the table has the leaves, and the index pages
-abbrev pub HasLeaves : List (ℕ × PageOfKind) → List (Placed (List ℕ)) → Type 0
+abbrev pub HasLeaves : List (ℕ × PageOfKind) → List (Placed Bytes) → Type 0
 HasLeaves ps level = AllByRecursion (λ p. page_at ps p.pid ≡ Some (Leaf p.page)) level
 
 abbrev pub HasIndexPages : List (ℕ × PageOfKind) → List (Placed ℕ) → Type 0

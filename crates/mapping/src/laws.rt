@@ -1,6 +1,7 @@
 //! What the definitions of `specs/` mean. Each law is the contract of a function with an empty body.
 ghost use Rattle.std.specs.Prelude.{◌≡◌, ◌↔◌, ◌<◌, ◌≤◌, ◌+◌, ℕ, suc, false, List, [], None, length, Bool, true, ◌||◌, nat_eq, ◌∷◌, ◌++◌, Option, Some, is_some, count_by};
 ghost use Rattle.std.specs.Map.{keys_of};
+ghost use Rattle.keys.specs.Bytes.{Bytes};
 ghost use Rattle.keys.specs.Order.{IsRising};
 ghost use Rattle.keys.specs.declared.settings.Settings.{Settings};
 ghost use Rattle.index_page.specs.Page.{PageOfKind};
@@ -73,15 +74,15 @@ pub fn a_table_is_what_it_has<V>()
 /// from the first low key on and before the end is within the range of just one page, and any other key within that of
 /// none; and what the page has at such a key is what all pages of the level, joined, have there.
 pub fn each_key_of_a_level_is_in_one_page<V>()
-    ensures range { (xs ys : List (Placed V)) (p : Placed V) (end : Option (List ℕ)) →
+    ensures range { (xs ys : List (Placed V)) (p : Placed V) (end : Option Bytes) →
         children (names (xs ++ p ∷ ys)) end ≡ children (names xs) (Some p.page.low) ++ record { pid = p.pid; low = p.page.low; end = next_low ys end } ∷ children (names ys) end }
-    ensures one { (ps : List (Placed V)) (end : Option (List ℕ)) (low k : List ℕ) → Tiled ps end → next_low ps end ≡ Some low → is_within low end k ≡ true →
+    ensures one { (ps : List (Placed V)) (end : Option Bytes) (low k : Bytes) → Tiled ps end → next_low ps end ≡ Some low → is_within low end k ≡ true →
         count_by (is_place_for k) (children (names ps) end) ≡ 1 }
-    ensures none { (ps : List (Placed V)) (end : Option (List ℕ)) (low k : List ℕ) → Tiled ps end → next_low ps end ≡ Some low → is_within low end k ≡ false →
+    ensures none { (ps : List (Placed V)) (end : Option Bytes) (low k : Bytes) → Tiled ps end → next_low ps end ≡ Some low → is_within low end k ≡ false →
         count_by (is_place_for k) (children (names ps) end) ≡ 0 }
-    ensures found { (ps : List (Placed V)) (end : Option (List ℕ)) (low k : List ℕ) → next_low ps end ≡ Some low → is_within low end k ≡ true →
+    ensures found { (ps : List (Placed V)) (end : Option Bytes) (low k : Bytes) → next_low ps end ≡ Some low → is_within low end k ≡ true →
         (xs : List (Placed V)) × (p : Placed V) × (ys : List (Placed V)) × (ps ≡ xs ++ p ∷ ys) × (is_within p.page.low (next_low ys end) k ≡ true) }
-    ensures held { (xs ys : List (Placed V)) (p : Placed V) (end : Option (List ℕ)) (k : List ℕ) → Tiled (xs ++ p ∷ ys) end → is_within p.page.low (next_low ys end) k ≡ true →
+    ensures held { (xs ys : List (Placed V)) (p : Placed V) (end : Option Bytes) (k : Bytes) → Tiled (xs ++ p ∷ ys) end → is_within p.page.low (next_low ys end) k ≡ true →
         value_at k (entries p) ≡ value_at k (joined (xs ++ p ∷ ys)) }
 {}
 

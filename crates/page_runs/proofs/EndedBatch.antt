@@ -6,10 +6,10 @@ use Rattle.std.specs.List.{AllByRecursion, filter}
 use Rattle.std.specs.List.Sorted.{IsStrictlySortedBy}
 use Rattle.std.specs.Map.{keys_of}
 use Rattle.std.specs.Option.{option_map}
-use Rattle.keys.specs.Narrowed.{with_end, first_end, with_ends, IsEnough, MayEndAt, MayEndAtAll}
+use Rattle.keys.specs.Narrowed.{with_end, first_end, with_ends, MayEndAt, MayEndAtAll}
 use Rattle.keys.specs.Order.{order, IsRising}
 use Rattle.keys.specs.Places.{is_some_that}
-use Rattle.keys.specs.Range.{is_below, is_before, is_within, in_range, rows}
+use Rattle.keys.specs.Range.{is_below, is_before, is_within, in_range}
 use Rattle.keys.specs.Step.{reply_to, map_after, replies_to, map_after_all}
 use Rattle.keys.specs.declared.command.Command.{Command}
 use Rattle.keys.specs.declared.command.Command.TheVariants.{Get, Put, Add, Del, Scan}
@@ -19,7 +19,7 @@ use Rattle.keys.proofs.MapLaws.{total, same_key, flipped_greater, IsBelowAll}
 use Rattle.keys.proofs.NarrowedLaws.{before_through, map-with_end, map_all-with_ends, get-with_ends}
 use Rattle.keys.proofs.RunLaws.{rising-map_after}
 use Rattle.index_page.specs.Children.{Place, children, is_between}
-use Rattle.index_page.proofs.ChildLaws.{place_of, next_key, children-cons}
+use Rattle.index_page.proofs.ChildLaws.{next_key, children-cons}
 use Rattle.index_page.proofs.RangeLaws.{below_is_less, less_is_below, not_below_lower, not_below_itself, low_through}
 use Rattle.routing.specs.Routes.{goes_to, goes_at}
 use Rattle.page_runs.specs.NetRun.{noted_by, touched, net_run}

@@ -1,7 +1,8 @@
 -- The commands of a batch that are on some of the keys, taken by themselves.
-use Rattle.std.specs.Prelude.{◌≡◌, ℕ, Bool, true, false, List, [], ◌∷◌, Option, Some, None, if◌then◌else◌}
+use Rattle.std.specs.Prelude.{◌≡◌, Bool, true, false, List, [], ◌∷◌, Option, Some, None, if◌then◌else◌}
 use Rattle.std.specs.Option.{option_map_or}
 use Rattle.std.specs.Ordering.{is_eq}
+use Rattle.keys.specs.Bytes.{Bytes, Pairs}
 use Rattle.keys.specs.Order.{order}
 use Rattle.keys.specs.OrderedMap.{value_at}
 use Rattle.keys.specs.declared.command.Command.{Command}
@@ -9,7 +10,7 @@ use Rattle.keys.specs.declared.command.Command.TheVariants.{Get, Put, Add, Del, 
 use Rattle.keys.specs.declared.command.Reply.{Reply}
 
 -- whether the command is on the key; a scan is on none
-abbrev pub is_on_key : {A : Type 0} → Command A → List ℕ → Bool
+abbrev pub is_on_key : {A : Type 0} → Command A → Bytes → Bool
 is_on_key (Get k) q = is_eq (order q k)
 is_on_key (Put k v) q = is_eq (order q k)
 is_on_key (Add k v) q = is_eq (order q k)
@@ -17,7 +18,7 @@ is_on_key (Del k) q = is_eq (order q k)
 is_on_key (Scan lo hi limit) q = false
 
 -- the key of a command on one key
-abbrev pub single_key : {A : Type 0} → Command A → Option (List ℕ)
+abbrev pub single_key : {A : Type 0} → Command A → Option Bytes
 single_key (Get k) = Some k
 single_key (Put k v) = Some k
 single_key (Add k v) = Some k
@@ -25,23 +26,23 @@ single_key (Del k) = Some k
 single_key (Scan lo hi limit) = None
 
 -- whether the command is on one key, and that is one of these
-abbrev pub is_on_one : {A : Type 0} → (List ℕ → Bool) → Command A → Bool
+abbrev pub is_on_one : {A : Type 0} → (Bytes → Bool) → Command A → Bool
 is_on_one is_own c = option_map_or is_own (single_key c) false
 
 -- the command is on none of these keys
-abbrev pub IsOff : {A : Type 0} → (List ℕ → Bool) → Command A → Type 0
-IsOff is_own c = (q : List ℕ) → is_own q ≡ true → is_on_key c q ≡ false
+abbrev pub IsOff : {A : Type 0} → (Bytes → Bool) → Command A → Type 0
+IsOff is_own c = (q : Bytes) → is_own q ≡ true → is_on_key c q ≡ false
 
 -- the command is on none but these keys
-abbrev pub IsWithin : {A : Type 0} → (List ℕ → Bool) → Command A → Type 0
-IsWithin is_own c = (q : List ℕ) → is_own q ≡ false → is_on_key c q ≡ false
+abbrev pub IsWithin : {A : Type 0} → (Bytes → Bool) → Command A → Type 0
+IsWithin is_own c = (q : Bytes) → is_own q ≡ false → is_on_key c q ≡ false
 
 -- every command on one of these keys is taken
-abbrev pub TakesAll : {A : Type 0} → (List ℕ → Bool) → (Command A → Bool) → Type 0
+abbrev pub TakesAll : {A : Type 0} → (Bytes → Bool) → (Command A → Bool) → Type 0
 TakesAll {A} is_own is_taken = (c : Command A) → is_taken c ≡ false → IsOff is_own c
 
 -- no command on another key is taken
-abbrev pub TakesNoOther : {A : Type 0} → (List ℕ → Bool) → (Command A → Bool) → Type 0
+abbrev pub TakesNoOther : {A : Type 0} → (Bytes → Bool) → (Command A → Bool) → Type 0
 TakesNoOther {A} is_own is_taken = (c : Command A) → is_taken c ≡ true → IsWithin is_own c
 
 -- of replies to commands, those to the commands that pass
@@ -51,5 +52,5 @@ replies_where passes (c ∷ cs) [] = []
 replies_where passes (c ∷ cs) (r ∷ rs) = if passes c then r ∷ replies_where passes cs rs else replies_where passes cs rs
 
 -- two maps have the same at each of these keys
-abbrev pub AgreeOn : (List ℕ → Bool) → List (List ℕ × List ℕ) → List (List ℕ × List ℕ) → Type 0
-AgreeOn is_own m x = (q : List ℕ) → is_own q ≡ true → value_at q m ≡ value_at q x
+abbrev pub AgreeOn : (Bytes → Bool) → Pairs Bytes → Pairs Bytes → Type 0
+AgreeOn is_own m x = (q : Bytes) → is_own q ≡ true → value_at q m ≡ value_at q x

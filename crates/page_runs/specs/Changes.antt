@@ -1,9 +1,9 @@
 -- What the commands of a leaf have changed so far, in either of the ways in which it is kept.
-use Rattle.std.specs.Prelude.{ℕ, List, Option}
 use Rattle.page_runs.specs.declared.changes.KeptChanges.{KeptChanges}
 use Rattle.page_runs.specs.declared.changes.KeptChanges.TheVariants.{Few, Many}
+use Rattle.keys.specs.Bytes.{Bytes, Changes}
 
 -- the changes as a run
-abbrev pub changes_kept : KeptChanges → List (List ℕ × Option (List ℕ))
+abbrev pub changes_kept : KeptChanges → Changes Bytes
 changes_kept (Few run) = run
 changes_kept (Many map) = map.entries

@@ -1,6 +1,7 @@
 -- What a leaf's job holds, and what is made of it.
-use Rattle.std.specs.Prelude.{ℕ, List}
+use Rattle.std.specs.Prelude.{List}
 use Rattle.std.specs.declared.alloc.Global.{Global}
+use Rattle.keys.specs.Bytes.{Bytes}
 use Rattle.keys.specs.Step.{replies_to}
 use Rattle.keys.specs.declared.command.Command.{Command}
 use Rattle.keys.specs.declared.piece.Piece.{Piece}
@@ -23,7 +24,7 @@ pub record LeafHeld : Type 0 where
 
 -- the leaf afterwards, under its pid, its class, whether it was replaced, and its answers with their places
 pub record LeafMade : Type 0 where
-  pub worked : Worked (List ℕ)
+  pub worked : Worked Bytes
   pub pieces : List (Piece Global)
 
 -- what may be worked: the page is a leaf, and its commands' places are places of the batch
@@ -32,7 +33,7 @@ pub record IsLeafHeld (batch : List (Command Global)) (h : LeafHeld) : Type 0 wh
   pub places : ArePlacesOf batch h.route.places
 
 -- the leaf under its pid
-abbrev pub placed_leaf : LeafHeld → Placed (List ℕ)
+abbrev pub placed_leaf : LeafHeld → Placed Bytes
 placed_leaf h = record { pid = h.route.pid; page = leaf_of h.page }
 
 -- what is made of a leaf: what the net run of its commands on its own entries makes of it, and the replies to them
@@ -55,7 +56,7 @@ pub record LeafWorked : Type 0 where
   pub made : LeafMade
 
 -- a page that was worked, from the page now and its way back
-abbrev pub leaf_worked : PageOfKind → WayBack (List ℕ) → Route → List (Piece Global) → LeafWorked
+abbrev pub leaf_worked : PageOfKind → WayBack Bytes → Route → List (Piece Global) → LeafWorked
 leaf_worked page way_back route pieces =
     let now = leaf_of page in
     record {
@@ -67,6 +68,6 @@ leaf_worked page way_back route pieces =
     }
 
 -- the page is a leaf, and the way back is one from it
-abbrev pub IsWorkedLeaf : PageOfKind → WayBack (List ℕ) → Type 0
+abbrev pub IsWorkedLeaf : PageOfKind → WayBack Bytes → Type 0
 IsWorkedLeaf (Leaf p) way_back = CanUndo p.layers way_back
 IsWorkedLeaf (Index p) way_back = ⊥

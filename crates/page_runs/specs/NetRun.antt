@@ -1,17 +1,18 @@
 -- The net run of a list of commands: what they come to, key by key.
-use Rattle.std.specs.Prelude.{ℕ, List, [], ◌∷◌, Option, is_some, if◌then◌else◌}
+use Rattle.std.specs.Prelude.{List, [], ◌∷◌, is_some, if◌then◌else◌}
+use Rattle.keys.specs.Bytes.{Bytes, Pairs, Changes}
 use Rattle.keys.specs.OrderedMap.{value_at, with_pair}
 use Rattle.keys.specs.Step.{map_after, map_after_all}
 use Rattle.keys.specs.declared.command.Command.{Command}
 use Rattle.keys.specs.declared.command.Command.TheVariants.{Get, Put, Add, Del, Scan}
 
 -- a run with the key in it, at its value in this map, or absent
-abbrev pub noted : {V : Type 0} → List (List ℕ × V) → List (List ℕ × Option V) → List ℕ → List (List ℕ × Option V)
+abbrev pub noted : {V : Type 0} → Pairs V → Changes V → Bytes → Changes V
 noted after run k = with_pair run k (value_at k after)
 
 -- a run with the command's key noted, where the command touches it: a Put always, an Add where the map before it
 -- lacks the key, a Del where the map before it has the key
-abbrev pub noted_by : {A : Type 0} → List (List ℕ × List ℕ) → List (List ℕ × List ℕ) → Command A → List (List ℕ × Option (List ℕ)) → List (List ℕ × Option (List ℕ))
+abbrev pub noted_by : {A : Type 0} → Pairs Bytes → Pairs Bytes → Command A → Changes Bytes → Changes Bytes
 noted_by after before (Get k) run = run
 noted_by after before (Put k v) run = noted after run k
 noted_by after before (Add k v) run = if is_some (value_at k before) then run else noted after run k
@@ -19,10 +20,10 @@ noted_by after before (Del k) run = if is_some (value_at k before) then noted af
 noted_by after before (Scan lo hi limit) run = run
 
 -- the touched keys, each with its value or absence in the map after all the commands
-abbrev pub touched : {A : Type 0} → List (List ℕ × List ℕ) → List (List ℕ × List ℕ) → List (Command A) → List (List ℕ × Option (List ℕ))
+abbrev pub touched : {A : Type 0} → Pairs Bytes → Pairs Bytes → List (Command A) → Changes Bytes
 touched after before [] = []
 touched after before (c ∷ cs) = noted_by after before c (touched after (map_after before c) cs)
 
 -- the net run on a map: its touched keys in rising order, each with its value or absence after all the commands
-abbrev pub net_run : {A : Type 0} → List (List ℕ × List ℕ) → List (Command A) → List (List ℕ × Option (List ℕ))
+abbrev pub net_run : {A : Type 0} → Pairs Bytes → List (Command A) → Changes Bytes
 net_run m cs = touched (map_after_all m cs) m cs

@@ -1,5 +1,6 @@
 -- What the way back of a page keeps: what the page was before its run, and what became of it.
-use Rattle.std.specs.Prelude.{ℕ, ◌<◌, ⊤, Bool, true, false, List, [], ◌∷◌, drop, length, Option}
+use Rattle.std.specs.Prelude.{◌<◌, ⊤, Bool, true, false, List, [], ◌∷◌, drop, length}
+use Rattle.keys.specs.Bytes.{Changes}
 use Rattle.delta_chain.specs.Layers.{Layers}
 use Rattle.page_runs.specs.declared.class.Class.{Class}
 use Rattle.page_runs.specs.declared.class.Class.TheVariants.{Same as SameClass, Changed}
@@ -11,7 +12,7 @@ abbrev pub popped : {V : Type 0} → Layers V → Layers V
 popped p = record { runs = drop 1 p.runs; base = p.base }
 
 -- the newest of these runs, and the empty run where there is none
-abbrev pub newest : {V : Type 0} → List (List (List ℕ × Option V)) → List (List ℕ × Option V)
+abbrev pub newest : {V : Type 0} → List (Changes V) → Changes V
 newest [] = []
 newest (run ∷ runs) = run
 
@@ -22,7 +23,7 @@ page_before p InFront = popped p
 page_before p (Replaced class before) = popped before
 
 -- the run
-abbrev pub run_before : {V : Type 0} → Layers V → WayBack V → List (List ℕ × Option V)
+abbrev pub run_before : {V : Type 0} → Layers V → WayBack V → Changes V
 run_before p (Same run) = run
 run_before p InFront = newest p.runs
 run_before p (Replaced class before) = newest before.runs

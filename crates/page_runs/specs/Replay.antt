@@ -1,11 +1,12 @@
 -- A page while commands are replayed on it.
-use Rattle.std.specs.Prelude.{ℕ, ◌+◌, ◌-◌, List, Option}
+use Rattle.std.specs.Prelude.{ℕ, ◌+◌, ◌-◌}
+use Rattle.keys.specs.Bytes.{Pairs, Changes}
 use Rattle.keys.specs.declared.command.Reply.{Reply}
 use Rattle.keys.specs.declared.command.Reply.TheVariants.{Value, Missing, New, Replaced, Added, Exists, Deleted, Rows}
 use Rattle.delta_chain.specs.Layers.{Layers, with_run, entries_of}
 
 -- the map by now: the page's entries with the changes so far
-abbrev pub map_by_now : {V : Type 0} → Layers V → List (List ℕ × Option V) → List (List ℕ × V)
+abbrev pub map_by_now : {V : Type 0} → Layers V → Changes V → Pairs V
 map_by_now p changes = with_run (entries_of p) changes
 
 -- how many entries there are after a command, from how many were before it and its reply

@@ -1,5 +1,6 @@
 -- What an index page's job holds, and what is made of it.
-use Rattle.std.specs.Prelude.{ℕ, List, Option}
+use Rattle.std.specs.Prelude.{ℕ}
+use Rattle.keys.specs.Bytes.{Changes}
 use Rattle.keys.specs.declared.settings.Settings.{Settings}
 use Rattle.index_page.specs.Page.{PageOfKind, index_of}
 use Rattle.index_page.specs.Page.PageOfKind.{Leaf, Index}
@@ -13,7 +14,7 @@ use Rattle.page_runs.specs.declared.term_work.TermJob.{TermJob}
 pub record TermHeld : Type 0 where
   pub page : PageOfKind
   pub pid : ℕ
-  pub terms : List (List ℕ × Option ℕ)
+  pub terms : Changes ℕ
 
 -- the index page under its pid
 abbrev pub placed_index : TermHeld → Placed ℕ

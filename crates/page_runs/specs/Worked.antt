@@ -1,5 +1,6 @@
 -- What a run makes of a page under its pid.
-use Rattle.std.specs.Prelude.{ℕ, Bool, true, false, List, Option}
+use Rattle.std.specs.Prelude.{Bool, true, false}
+use Rattle.keys.specs.Bytes.{Changes}
 use Rattle.keys.specs.declared.settings.Settings.{Settings}
 use Rattle.mapping.specs.Levels.{Placed}
 use Rattle.page_runs.specs.AfterRun.{after_run, class_after, is_replaced}
@@ -13,7 +14,7 @@ pub record Worked (V : Type 0) : Type 0 where
   pub replaced : Bool
 
 -- the page after a run, under its pid and with its low key
-abbrev pub worked : {V : Type 0} → Settings → Placed V → List (List ℕ × Option V) → Worked V
+abbrev pub worked : {V : Type 0} → Settings → Placed V → Changes V → Worked V
 worked s p run = record {
   placed = record { pid = p.pid; page = record { low = p.page.low; layers = after_run s p.page.layers run } };
   class = class_after s p.page.layers run;

@@ -43,9 +43,10 @@ enum KeptChanges {
 }
 
 impl Model for Changes {
-    ghost use Rattle.std.specs.Prelude.{List, ℕ, Option};
+    ghost use Rattle.std.specs.Prelude.{List, Option};
+    ghost use Rattle.keys.specs.Bytes.{Bytes};
 
-    ghost Value = { List (List ℕ × Option (List ℕ)) };
+    ghost Value = { List (Bytes × Option Bytes) };
 
     ghost use Rattle.page_runs.specs.Changes.{changes_kept};
 

@@ -25,10 +25,11 @@ enum KeptFrom<'a> {
 }
 
 impl<'a> Model for ChangesFrom<'a> {
-    ghost use Rattle.std.specs.Prelude.{List, ℕ, Option};
+    ghost use Rattle.std.specs.Prelude.{List, Option};
+    ghost use Rattle.keys.specs.Bytes.{Bytes};
     ghost use Rattle.page_runs.specs.PageRows.{changes_left};
 
-    ghost Value = { List (List ℕ × Option (List ℕ)) };
+    ghost Value = { List (Bytes × Option Bytes) };
 
     ghost view = { λ c. changes_left c.kept };
 }

@@ -1,6 +1,7 @@
 //! What the definitions of `specs/` mean. Each law is the contract of a function with an empty body.
 ghost use Rattle.std.specs.Prelude.{◌≡◌, ℕ, Bool, true, false, if◌then◌else◌, List, [], flat_map, take, Option, Some, None};
 ghost use Rattle.std.specs.List.{filter};
+ghost use Rattle.keys.specs.Bytes.{Bytes, Pairs, Changes};
 ghost use Rattle.keys.specs.CommandKey.{is_scan};
 ghost use Rattle.keys.specs.Order.{IsRising};
 ghost use Rattle.keys.specs.OrderedMap.{value_at};
@@ -21,14 +22,14 @@ use std::alloc::Allocator;
 
 /// The net run of commands takes the map before them to the map after them, and its keys rise.
 pub fn the_net_run_is_what_the_commands_come_to<A: Allocator>()
-    ensures map { (m : List (List ℕ × List ℕ)) (cs : List (Command A)) → IsRising m → with_run m (net_run m cs) ≡ map_after_all m cs }
-    ensures rising { (m : List (List ℕ × List ℕ)) (cs : List (Command A)) → IsRising (net_run m cs) }
+    ensures map { (m : Pairs Bytes) (cs : List (Command A)) → IsRising m → with_run m (net_run m cs) ≡ map_after_all m cs }
+    ensures rising { (m : Pairs Bytes) (cs : List (Command A)) → IsRising (net_run m cs) }
 {}
 
 /// A page's entries after a run are its entries with the run applied, whether the page was replaced or not.
 pub fn a_page_after_a_run_has_the_run_applied<V>()
-    ensures entries { (s : Settings) (p : Layers V) (run : List (List ℕ × Option V)) → entries_of (after_run s p run) ≡ with_run (entries_of p) run }
-    ensures in_order { (s : Settings) (p : Layers V) (run : List (List ℕ × Option V)) → IsInOrder p → IsRising run → IsInOrder (after_run s p run) }
+    ensures entries { (s : Settings) (p : Layers V) (run : Changes V) → entries_of (after_run s p run) ≡ with_run (entries_of p) run }
+    ensures in_order { (s : Settings) (p : Layers V) (run : Changes V) → IsInOrder p → IsRising run → IsInOrder (after_run s p run) }
 {}
 
 /// The commands on some of the keys can be worked by themselves, on any map that agrees with the whole one on these
@@ -37,31 +38,31 @@ pub fn a_page_after_a_run_has_the_run_applied<V>()
 /// of these keys what the net run of all commands says; where no command on another key is taken, it names no other key.
 /// A command on one key is on these keys alone or wholly off them, as its key is.
 pub fn commands_on_some_keys_are_worked_apart<A: Allocator>()
-    ensures replies { (is_own : List ℕ → Bool) (is_taken : Command A → Bool) (m x : List (List ℕ × List ℕ)) (cs : List (Command A)) →
+    ensures replies { (is_own : Bytes → Bool) (is_taken : Command A → Bool) (m x : Pairs Bytes) (cs : List (Command A)) →
         TakesAll is_own is_taken → IsRising m → IsRising x → AgreeOn is_own m x →
         replies_where (is_on_one is_own) cs (replies_to m cs) ≡ replies_where (is_on_one is_own) (filter is_taken cs) (replies_to x (filter is_taken cs)) }
-    ensures all_replies { (is_own : List ℕ → Bool) (x : List (List ℕ × List ℕ)) (cs : List (Command A)) → let own = filter (is_on_one is_own) cs in
+    ensures all_replies { (is_own : Bytes → Bool) (x : Pairs Bytes) (cs : List (Command A)) → let own = filter (is_on_one is_own) cs in
         replies_where (is_on_one is_own) own (replies_to x own) ≡ replies_to x own }
-    ensures map { (is_own : List ℕ → Bool) (is_taken : Command A → Bool) (m x : List (List ℕ × List ℕ)) (cs : List (Command A)) →
+    ensures map { (is_own : Bytes → Bool) (is_taken : Command A → Bool) (m x : Pairs Bytes) (cs : List (Command A)) →
         TakesAll is_own is_taken → IsRising m → IsRising x → AgreeOn is_own m x →
         AgreeOn is_own (map_after_all m cs) (map_after_all x (filter is_taken cs)) }
-    ensures run { (is_own : List ℕ → Bool) (is_taken : Command A → Bool) (m x : List (List ℕ × List ℕ)) (cs : List (Command A)) (k : List ℕ) →
+    ensures run { (is_own : Bytes → Bool) (is_taken : Command A → Bool) (m x : Pairs Bytes) (cs : List (Command A)) (k : Bytes) →
         TakesAll is_own is_taken → IsRising m → IsRising x → AgreeOn is_own m x → is_own k ≡ true →
         value_at k (net_run m cs) ≡ value_at k (net_run x (filter is_taken cs)) }
-    ensures no_other { (is_own : List ℕ → Bool) (is_taken : Command A → Bool) (x : List (List ℕ × List ℕ)) (cs : List (Command A)) (k : List ℕ) →
+    ensures no_other { (is_own : Bytes → Bool) (is_taken : Command A → Bool) (x : Pairs Bytes) (cs : List (Command A)) (k : Bytes) →
         TakesNoOther is_own is_taken → is_own k ≡ false →
         value_at k (net_run x (filter is_taken cs)) ≡ None }
-    ensures within { (is_own : List ℕ → Bool) (c : Command A) (k : List ℕ) → single_key c ≡ Some k → is_own k ≡ true → IsWithin is_own c }
-    ensures off { (is_own : List ℕ → Bool) (c : Command A) (k : List ℕ) → single_key c ≡ Some k → is_own k ≡ false → IsOff is_own c }
+    ensures within { (is_own : Bytes → Bool) (c : Command A) (k : Bytes) → single_key c ≡ Some k → is_own k ≡ true → IsWithin is_own c }
+    ensures off { (is_own : Bytes → Bool) (c : Command A) (k : Bytes) → single_key c ≡ Some k → is_own k ≡ false → IsOff is_own c }
 {}
 
 /// What a command leaves within a page's range is what it leaves of the page's own pairs, where it goes to the page; a command
 /// on a key gets its page's answer; and a scan's rows are those of its pages, joined in their order and cut at the limit.
 pub fn each_page_answers_its_part<V, A: Allocator>()
-    ensures map { (low : List ℕ) (end : Option (List ℕ)) (m : List (List ℕ × List ℕ)) (c : Command A) → IsRising m →
+    ensures map { (low : Bytes) (end : Option Bytes) (m : Pairs Bytes) (c : Command A) → IsRising m →
         in_range low end (map_after m c) ≡ (if goes_to low end c then map_after (in_range low end m) c else in_range low end m) }
-    ensures reply { (low : List ℕ) (end : Option (List ℕ)) (m : List (List ℕ × List ℕ)) (c : Command A) → IsRising m → is_scan c ≡ false → goes_to low end c ≡ true →
+    ensures reply { (low : Bytes) (end : Option Bytes) (m : Pairs Bytes) (c : Command A) → IsRising m → is_scan c ≡ false → goes_to low end c ≡ true →
         reply_to (in_range low end m) c ≡ reply_to m c }
-    ensures rows { (level : List (Placed V)) (m : List (List ℕ × List ℕ)) (lo : List ℕ) (hi : Option (List ℕ)) (limit : ℕ) → next_low level None ≡ Some [] → Tiled level None → IsRising m →
+    ensures rows { (level : List (Placed V)) (m : Pairs Bytes) (lo : Bytes) (hi : Option Bytes) (limit : ℕ) → next_low level None ≡ Some [] → Tiled level None → IsRising m →
         take limit (flat_map (λ at. if goes_to {A = A} at.low at.end (Scan lo hi limit) then rows lo hi limit (in_range at.low at.end m) else []) (ranges level)) ≡ rows lo hi limit m }
 {}

@@ -63,11 +63,11 @@ struct NamedKeys<'a> {
 }
 
 impl<'a> Model for NamedKeys<'a> {
-    ghost use Rattle.std.specs.Prelude.{List, ℕ, Option};
+    ghost use Rattle.keys.specs.Bytes.{Bytes, Changes};
     ghost use Rattle.keys.specs.Order.{IsRising};
     ghost use Rattle.page_runs.specs.PageRows.{ahead, pair_lent, change_lent, named_by_either};
 
-    ghost Value = { List (List ℕ × Option (List ℕ)) };
+    ghost Value = { Changes Bytes };
 
     ghost view = { λ n. named_by_either (ahead pair_lent n.pair n.pairs) (ahead change_lent n.change n.changes) };
 

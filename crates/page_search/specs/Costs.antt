@@ -2,6 +2,7 @@
 use Rattle.std.specs.Prelude.{ℕ, ◌+◌, ◌*◌, ◌/◌, Bool, List, [], ◌∷◌, length, sum_by, Option, is_some, if◌then◌else◌}
 use Rattle.std.specs.List.{list_any}
 use Rattle.std.specs.Ordering.{is_eq}
+use Rattle.keys.specs.Bytes.{Bytes, Pairs, Changes}
 use Rattle.keys.specs.Order.{order}
 use Rattle.keys.specs.OrderedMap.{value_at}
 use Rattle.delta_chain.specs.Layers.{Layers, entries_of}
@@ -22,24 +23,24 @@ abbrev pub fewest_among : Bool → ℕ → ℕ
 fewest_among is_there n = if is_there then 1 else binary_digits ((n + 1) / 2)
 
 -- what the lists cost up to and with the first run that names the key, or all lists, where each costs by these two
-abbrev pub cost_under : {V : Type 0} → (Bool → ℕ → ℕ) → List ℕ → List (List (List ℕ × Option V)) → List (List ℕ × V) → ℕ
+abbrev pub cost_under : {V : Type 0} → (Bool → ℕ → ℕ) → Bytes → List (Changes V) → Pairs V → ℕ
 cost_under cost k [] base = cost (is_some (value_at k base)) (length base)
 cost_under cost k (run ∷ runs) base = cost (is_some (value_at k run)) (length run) + (if is_some (value_at k run) then 0 else cost_under cost k runs base)
 
 -- what a search for the key in the page may take
-abbrev pub find_cost : {V : Type 0} → List ℕ → Layers V → ℕ
+abbrev pub find_cost : {V : Type 0} → Bytes → Layers V → ℕ
 find_cost k p = cost_under most_among k p.runs p.base
 
 -- what a search for the key in the page takes at least
-abbrev pub find_least : {V : Type 0} → List ℕ → Layers V → ℕ
+abbrev pub find_least : {V : Type 0} → Bytes → Layers V → ℕ
 find_least k p = cost_under fewest_among k p.runs p.base
 
 -- whether the key is one of these
-abbrev pub is_key_among : List ℕ → List (List ℕ) → Bool
+abbrev pub is_key_among : Bytes → List Bytes → Bool
 is_key_among k ks = list_any (λ j. is_eq (order k j)) ks
 
 -- at least so many where the key is looked for among these entries
-abbrev pub fewest_in : {V : Type 0} → List ℕ → List (List ℕ × V) → ℕ
+abbrev pub fewest_in : {V : Type 0} → Bytes → Pairs V → ℕ
 fewest_in k es = fewest_among (is_some (value_at k es)) (length es)
 
 -- what one walk may take: a search in each run and in the base, and for each run one comparison of the nearest key there with the nearest below
@@ -47,17 +48,17 @@ abbrev pub walk_most : {V : Type 0} → Layers V → ℕ
 walk_most p = sum_by (λ run. binary_digits (length run) + 1) p.runs + binary_digits (length p.base)
 
 -- what one walk takes at least: a search for the key in each run and in the base
-abbrev pub walk_least : {V : Type 0} → List ℕ → Layers V → ℕ
+abbrev pub walk_least : {V : Type 0} → Bytes → Layers V → ℕ
 walk_least k p = sum_by (λ run. fewest_in k run) p.runs + fewest_in k p.base
 
 -- what a search on this side of k may take that comes to this entry, or to none: one walk, and one more for each absent key that it passes
-abbrev pub nearest_most : {V : Type 0} → Side → List ℕ → Option (List ℕ × V) → Layers V → ℕ
+abbrev pub nearest_most : {V : Type 0} → Side → Bytes → Option (Bytes × V) → Layers V → ℕ
 nearest_most s k x p = (1 + count_passed s k x (said_by p.runs)) * walk_most p
 
 -- what a search for the page's last entry whose key isn't above k may take
-abbrev pub floor_most : {V : Type 0} → List ℕ → Layers V → ℕ
+abbrev pub floor_most : {V : Type 0} → Bytes → Layers V → ℕ
 floor_most k p = nearest_most UpTo k (floor k (entries_of p)) p
 
 -- what a search for the page's first entry whose key is above k may take
-abbrev pub above_most : {V : Type 0} → List ℕ → Layers V → ℕ
+abbrev pub above_most : {V : Type 0} → Bytes → Layers V → ℕ
 above_most k p = nearest_most Above k (above k (entries_of p)) p

@@ -2,22 +2,23 @@
 use Rattle.std.specs.Prelude.{◌≡◌, ℕ, ◌<◌, ◌≤◌, List, length, slice_get, Some, count_by}
 use Rattle.std.specs.Ordering.{is_lt}
 use Rattle.std.specs.declared.cmp.Ordering.TheVariants.{Less}
+use Rattle.keys.specs.Bytes.{Bytes}
 use Rattle.keys.specs.Order.{order}
 
 -- how many of the keys are below the key
-abbrev pub count_below : List ℕ → List (List ℕ) → ℕ
+abbrev pub count_below : Bytes → List Bytes → ℕ
 count_below k ks = count_by (λ j. is_lt (order j k)) ks
 
 -- each key that stands before this place is below the key
-abbrev pub AreBelowBefore : List ℕ → List (List ℕ) → ℕ → Type 0
-AreBelowBefore k ks at = (m : ℕ) (j : List ℕ) → m < at → slice_get ks m ≡ Some j → order j k ≡ Less
+abbrev pub AreBelowBefore : Bytes → List Bytes → ℕ → Type 0
+AreBelowBefore k ks at = (m : ℕ) (j : Bytes) → m < at → slice_get ks m ≡ Some j → order j k ≡ Less
 
 -- each key that stands at this place or behind it is above the key
-abbrev pub AreAboveFrom : List ℕ → List (List ℕ) → ℕ → Type 0
-AreAboveFrom k ks at = (m : ℕ) (j : List ℕ) → at ≤ m → slice_get ks m ≡ Some j → order k j ≡ Less
+abbrev pub AreAboveFrom : Bytes → List Bytes → ℕ → Type 0
+AreAboveFrom k ks at = (m : ℕ) (j : Bytes) → at ≤ m → slice_get ks m ≡ Some j → order k j ≡ Less
 
 -- the key is not there, and this is the place where it would go
-pub record KeyGoesTo (k : List ℕ) (ks : List (List ℕ)) (at : ℕ) : Type 0 where
+pub record KeyGoesTo (k : Bytes) (ks : List Bytes) (at : ℕ) : Type 0 where
   pub within : at ≤ length ks
   pub below : AreBelowBefore k ks at
   pub above : AreAboveFrom k ks at

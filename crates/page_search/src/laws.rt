@@ -1,6 +1,7 @@
 //! What the definitions of `specs/` mean. Each law is the contract of a function with an empty body.
 ghost use Rattle.std.specs.Prelude.{◌≡◌, ◌+◌, ◌*◌, ◌^◌, ◌<◌, ◌≤◌, ◌↔◌, ℕ, false, List, slice_get, Some};
 ghost use Rattle.std.specs.declared.cmp.Ordering.TheVariants.{Less};
+ghost use Rattle.keys.specs.Bytes.{Bytes};
 ghost use Rattle.keys.specs.Order.{order, AreRisingKeys};
 ghost use Rattle.page_search.specs.Costs.{most_among, fewest_among};
 ghost use Rattle.page_search.specs.Digits.{binary_digits};
@@ -23,6 +24,6 @@ pub fn a_search_is_by_halves()
 
 /// Of rising keys, just those that stand before a key's count are below the key.
 pub fn keys_below_stand_first()
-    ensures { (k : List ℕ) (ks : List (List ℕ)) (at : ℕ) (j : List ℕ) → AreRisingKeys ks → slice_get ks at ≡ Some j →
+    ensures { (k : Bytes) (ks : List Bytes) (at : ℕ) (j : Bytes) → AreRisingKeys ks → slice_get ks at ≡ Some j →
         ((order j k ≡ Less) ↔ (at < count_below k ks)) }
 {}

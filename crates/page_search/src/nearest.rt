@@ -1,6 +1,7 @@
 //! Search for the entry that is nearest to a key on one side of it.
-ghost use Rattle.std.specs.Prelude.{◌≡◌, ◌+◌, ◌≤◌, ℕ, true, List, length, min, is_some, Some, MatchOption};
+ghost use Rattle.std.specs.Prelude.{◌≡◌, ◌+◌, ◌≤◌, true, length, min, is_some, Some, MatchOption};
 ghost use Rattle.std.specs.Option.{option_copied, option_map};
+ghost use Rattle.keys.specs.Bytes.{Bytes};
 ghost use Rattle.keys.specs.Order.{AreRisingKeys};
 ghost use Rattle.delta_chain.specs.Layers.{holds, entries_of, IsInOrder};
 ghost use Rattle.page_search.specs.Above.{above};
@@ -28,7 +29,7 @@ pub fn floor<'a, V, A: Allocator + Copy>(
 ) -> Option<(&'a [u8], &'a V)>
     ensures value { option_map (λ e. (e.0.now, e.1.now)) result ≡ floor key.now (entries_of chain.now) }
     ensures cost { probes.new ≤ probes.old + floor_most key.now chain.now }
-    ensures one_walk { (e : List ℕ × V) →
+    ensures one_walk { (e : Bytes × V) →
         IsNearest UpTo key.now (named_by chain.now) (Some (e.0, Some e.1)) →
         probes.new ≤ probes.old + walk_most chain.now }
     ensures at_key { is_some (holds chain.now key.now) ≡ true →
@@ -49,7 +50,7 @@ pub fn above<'a, V, A: Allocator + Copy>(
 ) -> Option<(&'a [u8], &'a V)>
     ensures value { option_map (λ e. (e.0.now, e.1.now)) result ≡ above key.now (entries_of chain.now) }
     ensures cost { probes.new ≤ probes.old + above_most key.now chain.now }
-    ensures one_walk { (e : List ℕ × V) →
+    ensures one_walk { (e : Bytes × V) →
         IsNearest Above key.now (named_by chain.now) (Some (e.0, Some e.1)) →
         probes.new ≤ probes.old + walk_most chain.now }
     ensures least { min (probes.old + walk_least key.now chain.now) u64.MAX ≤ probes.new }
@@ -71,7 +72,7 @@ fn nearest<'a, V, A: Allocator + Copy>(
     ensures value { IsNearest side key.now (holds chain.now) (option_map (λ e. (e.0.now, e.1.now)) result) }
     ensures cost { probes.new ≤ probes.old +
         nearest_most side key.now (option_map (λ e. (e.0.now, e.1.now)) result) chain.now }
-    ensures one_walk { (e : List ℕ × V) →
+    ensures one_walk { (e : Bytes × V) →
         IsNearest side key.now (named_by chain.now) (Some (e.0, Some e.1)) →
         probes.new ≤ probes.old + walk_most chain.now }
     ensures least { min (probes.old + walk_least key.now chain.now) u64.MAX ≤ probes.new }

@@ -1,5 +1,6 @@
 -- When a store in memory is in step with the bytes of its disk: what it holds that the log says is what the log says.
-use Rattle.std.specs.Prelude.{◌≡◌, ◌↔◌, ℕ, ◌≤◌, List, Option, Some, None, Ok}
+use Rattle.std.specs.Prelude.{◌≡◌, ◌↔◌, ℕ, ◌≤◌, Option, Some, None, Ok}
+use Rattle.keys.specs.Bytes.{Bytes}
 use Rattle.keys.specs.declared.settings.Settings.{Settings}
 use Rattle.index_page.specs.Over.{IsPageOver}
 use Rattle.index_page.specs.Page.{PageOfKind}
@@ -25,12 +26,12 @@ pub record AreInStep (st on_disk : Store) : Type 0 where
   pub upto : (pid k : ℕ) → logged_of st.tree pid ≡ Upto k → IsLogged k (page_at on_disk.tree.pages pid) (page_at st.tree.pages pid)
 
 -- the disk stands for a store, with these settings, with which this one is in step
-abbrev pub IsInStep : Settings → Store → List ℕ → Type 0
+abbrev pub IsInStep : Settings → Store → Bytes → Type 0
 IsInStep s st file = (on_disk : Store) × (store_of_disk file ≡ Ok (s, on_disk)) × AreInStep st on_disk
 
 -- what is true of every store and of the bytes of its disk: its tree is proper, what it knows of its log is true, its page ids
 -- and its height are numbers that a slot and frames have room for, and it is in step
-pub record IsStoreOf (s : Settings) (st : Store) (file : List ℕ) : Type 0 where
+pub record IsStoreOf (s : Settings) (st : Store) (file : Bytes) : Type 0 where
   pub proper : IsProper s st.tree
   pub logs : AreLogsTrue st.tree
   pub words : HasWordPids st.tree

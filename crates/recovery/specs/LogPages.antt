@@ -1,6 +1,7 @@
 -- What the frames of a whole log say: the pages, or the first finding of a page by its log.
 use Rattle.std.specs.Prelude.{ℕ, nat_eq, if◌then◌else◌, List, [], ◌∷◌, map, flat_map, Option, Some, None}
 use Rattle.std.specs.List.{filter}
+use Rattle.keys.specs.Bytes.{Bytes}
 use Rattle.index_page.specs.Page.{PageOfKind}
 use Rattle.mapping.specs.Finding.{Finding}
 use Rattle.mapping.specs.Slots.{entry_if}
@@ -21,7 +22,7 @@ abbrev pub pids_of : List Frame → List ℕ
 pids_of fs = with_numbers (map (λ f. f.pid) fs) []
 
 -- of these pids, those with a page, and their pages
-abbrev pub pages_under : List Frame → List ℕ → List (ℕ × PageOfKind)
+abbrev pub pages_under : List Frame → Bytes → List (ℕ × PageOfKind)
 pages_under fs pids = flat_map (λ pid. entry_if pid (page_in (in_log fs pid))) pids
 
 -- the pages of a log, by rising pid
@@ -29,7 +30,7 @@ abbrev pub pages_of : List Frame → List (ℕ × PageOfKind)
 pages_of fs = pages_under fs (pids_of fs)
 
 -- of these pids, the first of which the log says what fits no page
-abbrev pub broken_under : List Frame → List ℕ → Option Finding
+abbrev pub broken_under : List Frame → Bytes → Option Finding
 broken_under fs [] = None
 broken_under fs (pid ∷ pids) = if is_broken (in_log fs pid) then Some (record { rule = 1; pid = pid }) else broken_under fs pids
 

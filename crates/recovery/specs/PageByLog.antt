@@ -1,6 +1,7 @@
 -- What the frames of one pid, in the order of the log, say of its page.
-use Rattle.std.specs.Prelude.{ℕ, Bool, true, false, not, ◌&&◌, if◌then◌else◌, List, [], ◌∷◌, fold, Option, Some, None}
+use Rattle.std.specs.Prelude.{Bool, true, false, not, ◌&&◌, if◌then◌else◌, List, [], ◌∷◌, fold, Option, Some, None}
 use Rattle.std.specs.List.{list_any}
+use Rattle.keys.specs.Bytes.{Changes}
 use Rattle.index_page.specs.Page.{Page, PageOfKind, bare}
 use Rattle.index_page.specs.Page.PageOfKind.{Leaf, Index}
 use Rattle.frame_codec.specs.Frame.{Content}
@@ -26,7 +27,7 @@ pub data InLog : Type 0 where
   Broken : InLog
 
 -- a page with one more run
-abbrev pub with_newer_run : {V : Type 0} → Page V → List (List ℕ × Option V) → Page V
+abbrev pub with_newer_run : {V : Type 0} → Page V → Changes V → Page V
 with_newer_run p run = record { low = p.low; layers = record { runs = run ∷ p.layers.runs; base = p.layers.base } }
 
 -- what the first content says by itself

@@ -1,5 +1,6 @@
 -- The store that the bytes of a disk stand for; or the one fault that they have. What a fault comes before isn't looked at.
-use Rattle.std.specs.Prelude.{ℕ, List, map, Option, Some, None, Result, Ok, Err}
+use Rattle.std.specs.Prelude.{List, map, Option, Some, None, Result, Ok, Err}
+use Rattle.keys.specs.Bytes.{Bytes}
 use Rattle.keys.specs.declared.settings.Settings.{Settings}
 use Rattle.keys.specs.declared.fault.Fault.{Fault}
 use Rattle.keys.specs.declared.fault.Fault.TheVariants.{BadStructure}
@@ -33,15 +34,15 @@ abbrev pub wrong_in : Settings → Slot → List Frame → Option Finding
 wrong_in s t fs = or_else (broken_in fs) (finding s (tree_by_log t fs))
 
 -- the store of a slot of a disk
-abbrev pub store_of_slot : Settings → List ℕ → Slot → Result Store Fault
+abbrev pub store_of_slot : Settings → Bytes → Slot → Result Store Fault
 store_of_slot s file t = and_then (log s file t.head t.tail) (λ found. unless_found (wrong_in s t (frames_in found)) (store_after (tree_by_log t (frames_in found)) t))
 
 -- the store of a disk with these settings
-abbrev pub store_under : Settings → List ℕ → Result (Settings × Store) Fault
+abbrev pub store_under : Settings → Bytes → Result (Settings × Store) Fault
 store_under s file = and_then (store_slot s file) (λ t. and_then (store_of_slot s file t) (λ st. Ok (s, st)))
 
 -- the settings and the store of a disk
-abbrev pub store_of_disk : List ℕ → Result (Settings × Store) Fault
+abbrev pub store_of_disk : Bytes → Result (Settings × Store) Fault
 store_of_disk file = and_then (store_settings file) (λ s. store_under s file)
 
 -- the store of a new disk

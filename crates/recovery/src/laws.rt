@@ -1,5 +1,6 @@
 //! What the definitions of `specs/` mean. Each law is the contract of a function with an empty body.
-ghost use Rattle.std.specs.Prelude.{◌≡◌, ◌⊎◌, ℕ, suc, ◌≤◌, false, List, None, Ok};
+ghost use Rattle.std.specs.Prelude.{◌≡◌, ◌⊎◌, suc, ◌≤◌, false, None, Ok};
+ghost use Rattle.keys.specs.Bytes.{Bytes};
 ghost use Rattle.keys.specs.Limits.{first_bad_field};
 ghost use Rattle.keys.specs.declared.settings.Settings.{Settings};
 ghost use Rattle.mapping.specs.Tree.{Tree, most_levels, Store};
@@ -20,40 +21,40 @@ ghost use Rattle.recovery.specs.StoreOfDisk.{first_store, store_of_disk};
 /// is. Its tree is the one before, of which the log now has each page as it is, and nothing of any other pid. A flush that has
 /// nothing to write leaves store and disk, and so it is already.
 pub fn what_was_flushed_is_what_is_read()
-    ensures read { (s : Settings) (st now : Store) (file bytes : List ℕ) → IsStoreOf s st file → after_flush s st file ≡ Ok (now, bytes) →
+    ensures read { (s : Settings) (st now : Store) (file bytes : Bytes) → IsStoreOf s st file → after_flush s st file ≡ Ok (now, bytes) →
         (store_of_disk bytes ≡ Ok (s, now)) × IsStoreOf s now bytes }
-    ensures tree { (s : Settings) (st now : Store) (file bytes : List ℕ) → IsStoreOf s st file → after_flush s st file ≡ Ok (now, bytes) →
+    ensures tree { (s : Settings) (st now : Store) (file bytes : Bytes) → IsStoreOf s st file → after_flush s st file ≡ Ok (now, bytes) →
         now.tree ≡ flushed st.tree }
 {}
 
 /// A crash at any moment of a flush leaves a disk that stands for the store that it stood for, or all that the flush leaves.
 pub fn a_crash_in_a_flush_leaves_the_store_before_or_after()
-    ensures { (s : Settings) (st now : Store) (file bytes c : List ℕ) → IsStoreOf s st file → after_flush s st file ≡ Ok (now, bytes) →
+    ensures { (s : Settings) (st now : Store) (file bytes c : Bytes) → IsStoreOf s st file → after_flush s st file ≡ Ok (now, bytes) →
         LeftDuring (flush_calls s st file) file c → (store_of_disk c ≡ store_of_disk file) ⊎ (c ≡ bytes) }
 {}
 
 /// The store that a disk stands for is one as every store is: proper, and in step with that disk, whatever the disk's bytes are.
 pub fn what_is_read_is_a_store()
-    ensures { (s : Settings) (st : Store) (file : List ℕ) → store_of_disk file ≡ Ok (s, st) → IsStoreOf s st file }
+    ensures { (s : Settings) (st : Store) (file : Bytes) → store_of_disk file ≡ Ok (s, st) → IsStoreOf s st file }
 {}
 
 /// Bytes behind the tail, in free segments, in a closed slot and in no part of the format don't matter: a disk that agrees with
 /// another at all places that a reading looks at stands for the same store.
 pub fn bytes_that_no_reading_looks_at_do_not_matter()
-    ensures closed { (s : Settings) (st : Store) (file c : List ℕ) → store_of_disk file ≡ Ok (s, st) → AgreeAt (IsLookedAt s st) file c →
+    ensures closed { (s : Settings) (st : Store) (file c : Bytes) → store_of_disk file ≡ Ok (s, st) → AgreeAt (IsLookedAt s st) file c →
         is_open (suc st.sequence) c ≡ false → store_of_disk c ≡ Ok (s, st) }
-    ensures same { (s : Settings) (st : Store) (file c : List ℕ) → store_of_disk file ≡ Ok (s, st) →
+    ensures same { (s : Settings) (st : Store) (file c : Bytes) → store_of_disk file ≡ Ok (s, st) →
         AgreeAt (λ place. IsLookedAt s st place ⊎ IsInSlot (suc st.sequence) place) file c → store_of_disk c ≡ Ok (s, st) }
 {}
 
 /// The disk of a new store stands for the first store, whatever bytes it had.
 pub fn a_new_disk_stands_for_the_first_store()
-    ensures { (s : Settings) (disk : List ℕ) → first_bad_field s ≡ None → HasSegments s disk → store_of_disk (disk_of_new s disk) ≡ Ok (s, first_store) }
+    ensures { (s : Settings) (disk : Bytes) → first_bad_field s ≡ None → HasSegments s disk → store_of_disk (disk_of_new s disk) ≡ Ok (s, first_store) }
 {}
 
 /// A store stays in step with its disk when its tree is replaced by one that keeps what the log has: as a batch replaces it.
 pub fn a_tree_that_keeps_what_the_log_has_stays_in_step()
-    ensures { (s : Settings) (st : Store) (new : Tree) (file : List ℕ) → IsStoreOf s st file →
+    ensures { (s : Settings) (st : Store) (new : Tree) (file : Bytes) → IsStoreOf s st file →
         IsProper s new → AreLogsTrue new → HasWordPids new → new.height ≤ most_levels →
         KeepsLogged st.tree new → IsStoreOf s (record { tree = new; head = st.head; tail = st.tail; sequence = st.sequence }) file }
 {}

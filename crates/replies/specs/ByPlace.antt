@@ -1,6 +1,7 @@
 -- The reply at each place of a batch, by what the pages answer.
 use Rattle.std.specs.Prelude.{◌≡◌, ℕ, ◌<◌, ◌==◌, Bool, true, false, List, [], ◌∷◌, ◌++◌, map, slice_set, slice_index_or, take, flat_map, length, slice_get, Option, Some, None}
 use Rattle.std.specs.List.{All, filter}
+use Rattle.keys.specs.Bytes.{Bytes, Pairs}
 use Rattle.keys.specs.Places.{is_scan_at}
 use Rattle.keys.specs.declared.command.Command.{Command}
 use Rattle.keys.specs.declared.command.Command.TheVariants.{Get, Put, Add, Del, Scan}
@@ -13,7 +14,7 @@ abbrev pub pieces_at : {A : Type 0} → List (Piece A) → ℕ → List (Piece A
 pieces_at ps place = filter (λ p. p.place == place) ps
 
 -- the rows of an answer; only one to a scan has any
-abbrev pub rows_of : {A : Type 0} → Reply A → List (List ℕ × List ℕ)
+abbrev pub rows_of : {A : Type 0} → Reply A → Pairs Bytes
 rows_of (Rows rows) = rows
 rows_of _ = []
 
@@ -68,7 +69,7 @@ blank_of (Scan lo hi limit) = Rows []
 blank_of _ = Missing
 
 -- rows with more behind them, cut at a limit
-abbrev pub with_rows : {A : Type 0} → ℕ → Reply A → List (List ℕ × List ℕ) → Reply A
+abbrev pub with_rows : {A : Type 0} → ℕ → Reply A → Pairs Bytes → Reply A
 with_rows limit (Rows rows) more = Rows (take limit (rows ++ more))
 with_rows limit at more = at
 

@@ -2,6 +2,7 @@
 //! body.
 ghost use Rattle.std.specs.Prelude.{◌≡◌, ℕ, false, List, map, take, flat_map, length, slice_get, Option, Some};
 ghost use Rattle.std.specs.List.{All};
+ghost use Rattle.keys.specs.Bytes.{Bytes};
 ghost use Rattle.keys.specs.Places.{is_scan_at};
 ghost use Rattle.keys.specs.declared.command.Command.{Command};
 ghost use Rattle.keys.specs.declared.command.Command.TheVariants.{Scan};
@@ -17,12 +18,12 @@ use std::alloc::Allocator;
 /// at their places is the list of the replies.
 pub fn each_piece_has_the_reply_at_its_place<A: Allocator>()
     ensures here { (cs : List (Command A)) (ps : List (Piece A)) → AreAnswers cs ps → All (λ p. is_scan_at cs p.place ≡ false → reply_at cs ps p.place ≡ Some p.reply) ps }
-    ensures scan { (cs : List (Command A)) (ps : List (Piece A)) (place : ℕ) (lo : List ℕ) (hi : Option (List ℕ)) (limit : ℕ) → slice_get cs place ≡ Some (Scan lo hi limit) →
+    ensures scan { (cs : List (Command A)) (ps : List (Piece A)) (place : ℕ) (lo : Bytes) (hi : Option Bytes) (limit : ℕ) → slice_get cs place ≡ Some (Scan lo hi limit) →
         reply_at cs ps place ≡ Some (Rows (take limit (flat_map (λ p. rows_of p.reply) (pieces_at ps place)))) }
     ensures determined { (cs : List (Command A)) (ps : List (Piece A)) (xs rs : List (Reply A)) → AreAnswers cs ps → ((place : ℕ) → slice_get xs place ≡ reply_at cs ps place) →
         length rs ≡ length cs →
         All (λ p. is_scan_at cs p.place ≡ false → slice_get rs p.place ≡ Some p.reply) ps →
-        ((place : ℕ) (lo : List ℕ) (hi : Option (List ℕ)) (limit : ℕ) → slice_get cs place ≡ Some (Scan lo hi limit) →
+        ((place : ℕ) (lo : Bytes) (hi : Option Bytes) (limit : ℕ) → slice_get cs place ≡ Some (Scan lo hi limit) →
         slice_get rs place ≡ Some (Rows (take limit (flat_map (λ p. rows_of p.reply) (pieces_at ps place))))) →
         xs ≡ rs }
 {}

@@ -23,7 +23,7 @@ use Rattle.mapping.specs.FreshPids.{is_among}
 use Rattle.keys.proofs.MapLaws.{total}
 use Rattle.mapping.specs.Tree.{Tree, page_at}
 use Rattle.mapping.specs.Levels as levels
-use Rattle.mapping.specs.Levels.{Placed, Levels, joined, name, names, pids, as_leaf, as_index, leaf_at, index_at, levels_below, levels_of, first_pid, top_pid}
+use Rattle.mapping.specs.Levels.{Placed, Levels, joined, name, names, as_index, leaf_at, index_at, levels_below, levels_of, first_pid, top_pid}
 use Rattle.mapping.specs.Proper.{next_low, IsTile, Tiled, Stacked, AreLevels, HasIndexPages, HoldsLevels}
 use Rattle.mapping.proofs.TileLaws.{Names, next_names, next_low-parents, rising-tile}
 use Rattle.mapping.proofs.LevelLaws.{values_of-names, index_pages_found}

@@ -1,6 +1,7 @@
 -- Places of a batch beside the keys of their commands, as they are sorted and handed down.
 use Rattle.std.specs.Prelude.{◌≡◌, ℕ, Bool, List, map}
 use Rattle.std.specs.List.{AllByRecursion}
+use Rattle.keys.specs.Bytes.{Bytes}
 use Rattle.keys.specs.declared.command.Command.{Command}
 use Rattle.keys.specs.declared.key_ref.KeyRef.{KeyRef}
 use Rattle.index_page.specs.Range.{is_below}
@@ -19,5 +20,5 @@ abbrev pub AreKeyed : {A : Type 0} → List (Command A) → List Keyed → Type 
 AreKeyed cs entries = AllByRecursion (λ entry. entry.0 ≡ key_at cs entry.1) entries
 
 -- whether the key is below this one
-abbrev pub has_key_below : List ℕ → Keyed → Bool
+abbrev pub has_key_below : Bytes → Keyed → Bool
 has_key_below k entry = is_below entry.0 k

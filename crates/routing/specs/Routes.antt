@@ -2,6 +2,7 @@
 use Rattle.std.specs.Prelude.{◌≡◌, ℕ, suc, ◌<◌, Bool, true, false, ◌||◌, List, [], ◌∷◌, map, length, slice_get, Option, None, if◌then◌else◌}
 use Rattle.std.specs.List.{AllByRecursion, filter}
 use Rattle.std.specs.List.Sorted.{IsStrictlyIncreasing}
+use Rattle.keys.specs.Bytes.{Bytes}
 use Rattle.keys.specs.Places.{is_some_that}
 use Rattle.keys.specs.declared.command.Command.{Command}
 use Rattle.keys.specs.declared.command.Command.TheVariants.{Get, Put, Add, Del, Scan}
@@ -11,7 +12,7 @@ use Rattle.mapping.specs.Levels.{Placed, names}
 
 -- whether a command goes to the page with this range of keys: to the page whose range has the command's key, which of a scan
 -- is its lower bound; and a scan also to each page whose low key lies between its bounds
-abbrev pub goes_to : {A : Type 0} → List ℕ → Option (List ℕ) → Command A → Bool
+abbrev pub goes_to : {A : Type 0} → Bytes → Option Bytes → Command A → Bool
 goes_to low end (Get k) = is_within low end k
 goes_to low end (Put k v) = is_within low end k
 goes_to low end (Add k v) = is_within low end k
@@ -19,7 +20,7 @@ goes_to low end (Del k) = is_within low end k
 goes_to low end (Scan lo hi limit) = is_within low end lo || is_between lo hi low
 
 -- whether the command at this place goes to the page with this range
-abbrev pub goes_at : {A : Type 0} → List (Command A) → List ℕ → Option (List ℕ) → ℕ → Bool
+abbrev pub goes_at : {A : Type 0} → List (Command A) → Bytes → Option Bytes → ℕ → Bool
 goes_at cs low end place = is_some_that (goes_to low end) (slice_get cs place)
 
 -- the places, counted from this number on, of the items that pass
@@ -28,7 +29,7 @@ places_from n passes [] = []
 places_from n passes (x ∷ xs) = if passes x then n ∷ places_from (suc n) passes xs else places_from (suc n) passes xs
 
 -- the places, counted from 0, of the commands that go to the page with this range
-abbrev pub places_within : {A : Type 0} → List ℕ → Option (List ℕ) → List (Command A) → List ℕ
+abbrev pub places_within : {A : Type 0} → Bytes → Option Bytes → List (Command A) → List ℕ
 places_within low end cs = places_from 0 (goes_to low end) cs
 
 -- a page's pid, and the places of the commands that go to it

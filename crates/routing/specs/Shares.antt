@@ -2,6 +2,7 @@
 use Rattle.std.specs.Prelude.{◌≡◌, ℕ, ◌<◌, Bool, true, false, ◌||◌, ⊤, List, [], ◌∷◌, ◌++◌, map, length, nat_eq, Option, Some, None}
 use Rattle.std.specs.List.{AllByRecursion, IsDistinct, filter, list_any}
 use Rattle.std.specs.List.Sorted.{IsPermutation, IsNonDecreasing}
+use Rattle.keys.specs.Bytes.{Bytes}
 use Rattle.keys.specs.Order.{IsRising}
 use Rattle.keys.specs.Places.{is_scan_at}
 use Rattle.keys.specs.declared.command.Command.{Command}
@@ -51,7 +52,7 @@ abbrev pub HasEachPlaceOnce : Share → Type 0
 HasEachPlaceOnce s = IsDistinct nat_eq (all_of s)
 
 -- whether the key of the command at this place lies in the range
-abbrev pub is_in_range : {A : Type 0} → List (Command A) → List ℕ → Option (List ℕ) → ℕ → Bool
+abbrev pub is_in_range : {A : Type 0} → List (Command A) → Bytes → Option Bytes → ℕ → Bool
 is_in_range cs low end place = is_within low end (key_at cs place)
 
 -- a page's pid, and those of these places whose commands begin in it, and whose commands reach it
@@ -72,7 +73,7 @@ shares_below cs page ps = shares cs ps (children (child_entries page) None)
 
 -- a key of the next child that gets anything, of those from this low key on: the low key where scans reach the child there, else
 -- the first key of what begins in children, if there is any
-abbrev pub next_key : List ℕ → List ℕ → List Keyed → Option (List ℕ)
+abbrev pub next_key : Bytes → List ℕ → List Keyed → Option Bytes
 next_key low (r ∷ rs) entries = Some low
 next_key low [] [] = None
 next_key low [] (e ∷ es) = Some e.0

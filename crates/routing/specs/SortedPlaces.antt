@@ -3,6 +3,7 @@ use Rattle.std.specs.Prelude.{◌≡◌, ℕ, Bool, false, List, length, slice_g
 use Rattle.std.specs.declared.cmp.Ordering.{Ordering}
 use Rattle.std.specs.Ordering.{nat_cmp, ordering_then}
 use Rattle.std.specs.List.Sorted.{IsPermutation, IsStrictlySortedBy}
+use Rattle.keys.specs.Bytes.{Bytes}
 use Rattle.keys.specs.Order.{order}
 use Rattle.keys.specs.CommandKey.{key_of}
 use Rattle.keys.specs.Places.{is_some_that}
@@ -29,11 +30,11 @@ pub record AreSortedPlaces {A : Type 0} (cs : List (Command A)) (ps : List ℕ) 
   pub in_order : AreInKeyOrder cs ps
 
 -- whether a command begins in the page with this range: its key lies in the range
-abbrev pub begins_in : {A : Type 0} → List ℕ → Option (List ℕ) → Command A → Bool
+abbrev pub begins_in : {A : Type 0} → Bytes → Option Bytes → Command A → Bool
 begins_in low end c = is_within low end (key_of c)
 
 -- whether a command reaches the page with this low key from the left: it is a scan, and the low key lies between its bounds
-abbrev pub reaches : {A : Type 0} → List ℕ → Command A → Bool
+abbrev pub reaches : {A : Type 0} → Bytes → Command A → Bool
 reaches low (Get k) = false
 reaches low (Put k v) = false
 reaches low (Add k v) = false
@@ -41,15 +42,15 @@ reaches low (Del k) = false
 reaches low (Scan lo hi limit) = is_between lo hi low
 
 -- whether the command at this place does
-abbrev pub reaches_at : {A : Type 0} → List (Command A) → List ℕ → ℕ → Bool
+abbrev pub reaches_at : {A : Type 0} → List (Command A) → Bytes → ℕ → Bool
 reaches_at cs low place = is_some_that (reaches low) (slice_get cs place)
 
 -- the places of the commands that begin in the page with this range, in the order of their keys
-pub record AreSortedWithin {A : Type 0} (low : List ℕ) (end : Option (List ℕ)) (cs : List (Command A)) (ps : List ℕ) : Type 0 where
+pub record AreSortedWithin {A : Type 0} (low : Bytes) (end : Option Bytes) (cs : List (Command A)) (ps : List ℕ) : Type 0 where
   pub own : (place : ℕ) → is_among place ps ≡ is_among place (places_from 0 (begins_in low end) cs)
   pub in_order : AreInKeyOrder cs ps
 
 -- the places of the commands that reach the page with this low key, in the order of their keys
-pub record AreSortedReaching {A : Type 0} (low : List ℕ) (cs : List (Command A)) (ps : List ℕ) : Type 0 where
+pub record AreSortedReaching {A : Type 0} (low : Bytes) (cs : List (Command A)) (ps : List ℕ) : Type 0 where
   pub own : (place : ℕ) → is_among place ps ≡ is_among place (places_from 0 (reaches low) cs)
   pub in_order : AreInKeyOrder cs ps

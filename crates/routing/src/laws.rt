@@ -3,6 +3,7 @@ ghost use Rattle.std.specs.Prelude.{◌≡◌, ◌<◌, ◌==◌, ◌++◌, ℕ,
 ghost use Rattle.std.specs.declared.cmp.Ordering.TheVariants.{Less};
 ghost use Rattle.std.specs.List.{AllByRecursion, filter};
 ghost use Rattle.std.specs.List.Sorted.{IsPermutation, IsNonDecreasing};
+ghost use Rattle.keys.specs.Bytes.{Bytes};
 ghost use Rattle.keys.specs.Order.{order};
 ghost use Rattle.keys.specs.Places.{is_scan_at};
 ghost use Rattle.keys.specs.declared.command.Command.{Command};
@@ -32,7 +33,7 @@ pub fn each_command_goes_to_its_pages<V, A: Allocator>()
 
 /// A scan goes to just those pages whose ranges meet its bounds: from the lower one on, and before the upper one.
 pub fn a_scan_goes_to_the_pages_that_it_meets<A: Allocator>()
-    ensures { (lo : List ℕ) (hi : Option (List ℕ)) (limit : ℕ) (at : Place) → goes_to {A = A} at.low at.end (Scan lo hi limit) ≡ meets lo hi at }
+    ensures { (lo : Bytes) (hi : Option Bytes) (limit : ℕ) (at : Place) → goes_to {A = A} at.low at.end (Scan lo hi limit) ≡ meets lo hi at }
 {}
 
 /// The routes of a level are to its pages, from left to right, and each has what goes to its page: some places of the
@@ -53,15 +54,15 @@ pub fn sorted_places_are_determined<A: Allocator>()
 pub fn sorted_places_are_handed_down<A: Allocator>()
     ensures all { (cs : List (Command A)) (ps : List ℕ) → AreSortedPlaces cs ps → AreSortedWithin [] None cs ps }
     ensures none { (cs : List (Command A)) → AreSortedReaching [] cs [] }
-    ensures parted { (cs : List (Command A)) (low mid : List ℕ) (end : Option (List ℕ)) (ps : List ℕ) (n : ℕ) →
+    ensures parted { (cs : List (Command A)) (low mid : Bytes) (end : Option Bytes) (ps : List ℕ) (n : ℕ) →
         AreSortedWithin low end cs ps → order low mid ≡ Less → IsBefore end mid →
         AllByRecursion (λ place. is_below (key_at cs place) mid ≡ true) (take n ps) →
         AllByRecursion (λ place. is_below (key_at cs place) mid ≡ false) (drop n ps) →
         AreSortedWithin low (Some mid) cs (take n ps) × AreSortedWithin mid end cs (drop n ps) }
-    ensures onward { (cs : List (Command A)) (low mid : List ℕ) (rs ps : List ℕ) →
+    ensures onward { (cs : List (Command A)) (low mid : Bytes) (rs ps : List ℕ) →
         AreSortedReaching low cs rs → AreSortedWithin low (Some mid) cs ps → order low mid ≡ Less →
         AreSortedReaching mid cs (filter (reaches_at cs mid) (rs ++ ps)) }
-    ensures in_batch_order { (cs : List (Command A)) (low : List ℕ) (end : Option (List ℕ)) (rs ps qs : List ℕ) →
+    ensures in_batch_order { (cs : List (Command A)) (low : Bytes) (end : Option Bytes) (rs ps qs : List ℕ) →
         AreSortedReaching low cs rs → AreSortedWithin low end cs ps → IsPermutation (rs ++ ps) qs → IsNonDecreasing qs →
         qs ≡ places_within low end cs }
 {}

@@ -1,17 +1,18 @@
 -- What is left of a walk over the pairs of one leaf.
-use Rattle.std.specs.Prelude.{ℕ, not, List, [], ◌∷◌, Option, Some, None}
+use Rattle.std.specs.Prelude.{not, [], ◌∷◌, Option, Some, None}
 use Rattle.std.specs.List.{filter}
+use Rattle.keys.specs.Bytes.{Bytes, Pairs}
 use Rattle.keys.specs.Range.{is_below}
 
 -- the pairs from a key on
-abbrev pub from : {V : Type 0} → List ℕ → List (List ℕ × V) → List (List ℕ × V)
+abbrev pub from : {V : Type 0} → Bytes → Pairs V → Pairs V
 from k es = filter (λ e. not (is_below e.0 k)) es
 
 -- the pairs behind a key
-abbrev pub behind : {V : Type 0} → List ℕ → List (List ℕ × V) → List (List ℕ × V)
+abbrev pub behind : {V : Type 0} → Bytes → Pairs V → Pairs V
 behind k es = filter (λ e. is_below k e.0) es
 
 -- the next pair, where there is one, and those behind it
-abbrev pub left_after : {V : Type 0} → Option (List ℕ × V) → List (List ℕ × V) → List (List ℕ × V)
+abbrev pub left_after : {V : Type 0} → Option (Bytes × V) → Pairs V → Pairs V
 left_after None es = []
 left_after (Some e) es = e ∷ behind e.0 es

@@ -1,42 +1,43 @@
 -- What a merge of a leaf's runs and its base has left.
-use Rattle.std.specs.Prelude.{◌≡◌, ℕ, false, List, [], ◌∷◌, Option, Some, None, ⊤}
+use Rattle.std.specs.Prelude.{◌≡◌, false, List, [], ◌∷◌, Option, Some, None, ⊤}
 use Rattle.std.specs.declared.cmp.Ordering.TheVariants.{Less, Equal}
 use Rattle.std.specs.List.{AllByRecursion}
+use Rattle.keys.specs.Bytes.{Bytes, Pairs, Changes}
 use Rattle.keys.specs.Order.{IsRising}
 use Rattle.keys.specs.Range.{is_below}
 use Rattle.delta_chain.specs.Layers.{with_run}
 use Rattle.delta_chain.specs.Merging.{first_order}
 
 -- changes behind a first one, where there is one
-abbrev pub changes_after : {V : Type 0} → Option (List ℕ × Option V) → List (List ℕ × Option V) → List (List ℕ × Option V)
+abbrev pub changes_after : {V : Type 0} → Option (Bytes × Option V) → Changes V → Changes V
 changes_after None cs = []
 changes_after (Some c) cs = c ∷ cs
 
 -- changes, and the pairs under them
 pub record Merged : Type 0 where
-  pub changes : List (List ℕ × Option (List ℕ))
-  pub pairs : List (List ℕ × List ℕ)
+  pub changes : Changes Bytes
+  pub pairs : Pairs Bytes
 
 -- the pairs with the changes to them
-abbrev pub merged : Merged → List (List ℕ × List ℕ)
+abbrev pub merged : Merged → Pairs Bytes
 merged m = with_run m.pairs m.changes
 
 -- no change stands before the first of the pairs
-abbrev pub ArePairsNext : {V : Type 0} → List (List ℕ × Option V) → List (List ℕ × V) → Type 0
+abbrev pub ArePairsNext : {V : Type 0} → Changes V → Pairs V → Type 0
 ArePairsNext [] es = ⊤
 ArePairsNext (c ∷ cs) es = first_order es c.0 ≡ Less
 
 -- the first key, if there is one, is not below k
-abbrev pub StartsFrom : {V : Type 0} → List ℕ → List (List ℕ × V) → Type 0
+abbrev pub StartsFrom : {V : Type 0} → Bytes → Pairs V → Type 0
 StartsFrom k [] = ⊤
 StartsFrom k (e ∷ es) = is_below e.0 k ≡ false
 
 -- the first key is k
-abbrev pub StartsAt : {V : Type 0} → List ℕ → List (List ℕ × V) → Type 0
+abbrev pub StartsAt : {V : Type 0} → Bytes → Pairs V → Type 0
 StartsAt k es = first_order es k ≡ Equal
 
 -- what a merge keeps in order: its changes, each of its runs, and its base
-pub record IsMerge (cs : List (List ℕ × Option (List ℕ))) (rs : List (List (List ℕ × Option (List ℕ)))) (es : List (List ℕ × List ℕ)) : Type 0 where
+pub record IsMerge (cs : Changes Bytes) (rs : List (Changes Bytes)) (es : Pairs Bytes) : Type 0 where
   pub changes : IsRising cs
   pub runs : AllByRecursion IsRising rs
   pub base : IsRising es

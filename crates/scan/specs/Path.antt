@@ -2,6 +2,7 @@
 use Rattle.std.specs.Prelude.{◌≡◌, ℕ, zero, suc, ◌<◌, ⊤, List, [], ◌∷◌, ◌++◌, map, flat_map, length, Option, Some, None}
 use Rattle.std.specs.List.{AllByRecursion}
 use Rattle.std.specs.Map.{values_of}
+use Rattle.keys.specs.Bytes.{Bytes, Pairs, Names}
 use Rattle.keys.specs.Order.{IsRising}
 use Rattle.delta_chain.specs.Layers.{Layers}
 use Rattle.index_page.specs.Page.{Page, PageOfKind, entries}
@@ -11,12 +12,12 @@ use Rattle.mapping.specs.Tree.{page_at}
 use Rattle.mapping.specs.Levels.{joined, as_leaf, as_index, index_at}
 
 -- the pids of children that are left, where there is such a list
-abbrev pub pids_left : Option (List (List ℕ × ℕ)) → List ℕ
+abbrev pub pids_left : Option Names → List ℕ
 pids_left None = []
 pids_left (Some es) = values_of es
 
 -- the entries of the index page under a pid
-abbrev pub entries_at : List (ℕ × PageOfKind) → ℕ → List (List ℕ × ℕ)
+abbrev pub entries_at : List (ℕ × PageOfKind) → ℕ → Names
 entries_at ps pid = entries (as_index (page_at ps pid))
 
 -- the pids of the leaves that are so many levels below these pages, in order
@@ -25,12 +26,12 @@ leaves_under ps zero pids = pids
 leaves_under ps (suc n) pids = leaves_under ps n (values_of (joined (map (index_at ps) pids)))
 
 -- what is found below the first of some children, and then all leaves that are below the others
-abbrev pub leaves_from_first : (List ℕ × ℕ → List ℕ) → (List ℕ → List ℕ) → List (List ℕ × ℕ) → List ℕ
+abbrev pub leaves_from_first : (Bytes × ℕ → List ℕ) → (List ℕ → List ℕ) → Names → List ℕ
 leaves_from_first first under [] = []
 leaves_from_first first under (e ∷ es) = first e ++ under (values_of es)
 
 -- of the leaves n levels below a page, those from a key on: below the first child whose range meets such keys, and behind it
-abbrev pub leaves_from : List (ℕ × PageOfKind) → ℕ → List ℕ → ℕ → List ℕ
+abbrev pub leaves_from : List (ℕ × PageOfKind) → ℕ → Bytes → ℕ → List ℕ
 leaves_from ps zero key pid = pid ∷ []
 leaves_from ps (suc n) key pid = leaves_from_first (λ e. leaves_from ps n key e.1) (leaves_under ps n) (children_within key None (entries_at ps pid))
 
@@ -41,18 +42,18 @@ leaves_left ps zero (pids ∷ path) = []
 leaves_left ps (suc n) (pids ∷ path) = leaves_left ps n path ++ leaves_under ps n pids
 
 -- a leaf: its low key, and what it holds
-abbrev pub leaf_with : List ℕ → Layers (List ℕ) → Page (List ℕ)
+abbrev pub leaf_with : Bytes → Layers Bytes → Page Bytes
 leaf_with low layers = record { low = low; layers = layers }
 
 -- the leaf under a pid, and those under some pids
-abbrev pub leaf_under : List (ℕ × PageOfKind) → ℕ → Page (List ℕ)
+abbrev pub leaf_under : List (ℕ × PageOfKind) → ℕ → Page Bytes
 leaf_under ps pid = as_leaf (page_at ps pid)
 
-abbrev pub leaf_pages : List (ℕ × PageOfKind) → List ℕ → List (Page (List ℕ))
+abbrev pub leaf_pages : List (ℕ × PageOfKind) → List ℕ → List (Page Bytes)
 leaf_pages ps pids = map (leaf_under ps) pids
 
 -- the pairs of leaves, each behind those of the one before it
-abbrev pub pairs : List (Page (List ℕ)) → List (List ℕ × List ℕ)
+abbrev pub pairs : List (Page Bytes) → Pairs Bytes
 pairs ls = flat_map entries ls
 
 -- under the pid is a leaf, or n levels above the leaves an index page with children, by rising keys, and each is such a page

@@ -1,6 +1,7 @@
 -- A walk over the leaves of a tree in memory, by a path with room for as many levels as a tree may have.
 use Rattle.std.specs.Prelude.{◌≡◌, ℕ, pred, ◌-◌, ◌≤◌, List}
 use Rattle.smallvec.specs.SmallVec.{SmallVec}
+use Rattle.keys.specs.Bytes.{Bytes}
 use Rattle.index_page.specs.Page.{Page}
 use Rattle.mapping.specs.Tree.{most_levels}
 use Rattle.mapping.specs.TreeInMemory.{TreeInMemory, AreAllHome, tree_of}
@@ -20,8 +21,8 @@ pub record IsAt (t : TreeInMemory) (depth : ℕ) (pid : ℕ) : Type 0 where
   pub known : IsKnown (tree_of t).pages (pred t.height - depth) pid
 
 -- the leaves that a way down for the key from this page comes to, and those that a path leads to
-abbrev pub walk_from : TreeInMemory → ℕ → List ℕ → ℕ → List (Page (List ℕ))
+abbrev pub walk_from : TreeInMemory → ℕ → Bytes → ℕ → List (Page Bytes)
 walk_from t depth key pid = leaf_pages (tree_of t).pages (leaves_from (tree_of t).pages (pred t.height - depth) key pid)
 
-abbrev pub walk_left : TreeInMemory → List (List ℕ) → List (Page (List ℕ))
+abbrev pub walk_left : TreeInMemory → List (List ℕ) → List (Page Bytes)
 walk_left t path = leaf_pages (tree_of t).pages (leaves_left (tree_of t).pages (pred t.height) path)

@@ -32,10 +32,10 @@ pub(crate) struct Ahead<'a> {
 }
 
 impl<'a> Model for Ahead<'a> {
-    ghost use Rattle.std.specs.Prelude.{List, ℕ, Option};
+    ghost use Rattle.keys.specs.Bytes.{Bytes, Changes};
     ghost use Rattle.scan.specs.Ahead.{changes_of};
 
-    ghost Value = { List (List ℕ × Option (List ℕ)) };
+    ghost Value = { Changes Bytes };
 
     ghost view = { λ a. changes_of a.head };
 }

@@ -16,9 +16,10 @@ pub(crate) struct BasePairs<'a> {
 }
 
 impl<'a> Model for BasePairs<'a> {
-    ghost use Rattle.std.specs.Prelude.{List, ℕ, drop};
+    ghost use Rattle.std.specs.Prelude.{drop};
+    ghost use Rattle.keys.specs.Bytes.{Bytes, Pairs};
 
-    ghost Value = { List (List ℕ × List ℕ) };
+    ghost Value = { Pairs Bytes };
 
     ghost view = { λ b. drop b.at b.base.now };
 }

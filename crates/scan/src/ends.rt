@@ -1,9 +1,10 @@
 //! The keys at which a batch's scans may end, since before them there are certainly as many rows as each may have. So a scan
 //! goes only to the leaves before its end, and not to each that its range meets.
-ghost use Rattle.std.specs.Prelude.{◌≡◌, ℕ, ◌≤◌, List, true, Some, map, min, IfOk, IfSome};
+ghost use Rattle.std.specs.Prelude.{◌≡◌, ◌≤◌, true, Some, map, min, IfOk, IfSome};
 ghost use Rattle.std.specs.List.Sorted.{IsPermutation, IsSorted};
 ghost use Rattle.std.specs.Map.{keys_of};
 ghost use Rattle.std.specs.Option.{option_copied};
+ghost use Rattle.keys.specs.Bytes.{Bytes, Pairs};
 ghost use Rattle.keys.specs.Narrowed.{IsEnough, MayEndAt, MayEndAtAll};
 ghost use Rattle.keys.specs.Order.{order};
 ghost use Rattle.keys.specs.Range.{is_below, in_range};
@@ -90,7 +91,7 @@ fn end_of<'a>(
     requires held { HoldsLevels (tree_of tree.now).pages (levels_of (tree_of tree.now)) }
     requires levels { AreLevels (levels_of (tree_of tree.now)) }
     requires sorted { IsSorted order deleted.now }
-    ensures { (m : List (List ℕ × List ℕ)) → LacksAtMost deleted.now (contents (tree_of tree.now)) m
+    ensures { (m : Pairs Bytes) → LacksAtMost deleted.now (contents (tree_of tree.now)) m
         → MayEndAt (keys_of (names (levels_of (tree_of tree.now)).level))
         m command.now (option_copied result) }
 {
@@ -124,7 +125,7 @@ fn end_of_scan<'a>(
     requires held { HoldsLevels (tree_of tree.now).pages (levels_of (tree_of tree.now)) }
     requires levels { AreLevels (levels_of (tree_of tree.now)) }
     requires sorted { IsSorted order deleted.now }
-    ensures { (m : List (List ℕ × List ℕ)) → LacksAtMost deleted.now (contents (tree_of tree.now)) m
+    ensures { (m : Pairs Bytes) → LacksAtMost deleted.now (contents (tree_of tree.now)) m
         → IfSome result (λ end. IsEnough (keys_of (names (levels_of (tree_of tree.now)).level))
         m lo.now (option_copied hi.entry) limit end.now) }
 {
@@ -154,7 +155,7 @@ fn certain_pairs(
     deleted: &[KeyRef<'_>],
 ) -> usize
     requires sorted { IsSorted order deleted.now }
-    ensures { (m n : List (List ℕ × List ℕ)) → LacksAtMost deleted.now m n
+    ensures { (m n : Pairs Bytes) → LacksAtMost deleted.now m n
         → is_below low.now end.now ≡ true
         → entries_of chain.now ≡ in_range low.now (Some end.now) m
         → AreCertain lo.now n low.now end.now result }
@@ -175,7 +176,7 @@ fn certain_behind(
     deleted: &[KeyRef<'_>],
 ) -> usize
     requires sorted { IsSorted order deleted.now }
-    ensures { (low : List ℕ) (m n : List (List ℕ × List ℕ)) → LacksAtMost deleted.now m n
+    ensures { (low : Bytes) (m n : Pairs Bytes) → LacksAtMost deleted.now m n
         → is_below low lo.now ≡ true
         → entries_of chain.now ≡ in_range low (Some end.now) m
         → AreCertain lo.now n low end.now result }

@@ -29,10 +29,10 @@ enum Way<'a> {
 }
 
 impl<'a> Model for LeafPairs<'a> {
-    ghost use Rattle.std.specs.Prelude.{List, ℕ};
+    ghost use Rattle.keys.specs.Bytes.{Bytes, Pairs};
     ghost use Rattle.scan.specs.Ways.{pairs_of_way};
 
-    ghost Value = { List (List ℕ × List ℕ) };
+    ghost Value = { Pairs Bytes };
 
     ghost view = { λ l. pairs_of_way l.way };
 }

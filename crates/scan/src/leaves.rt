@@ -30,11 +30,12 @@ pub(crate) struct Leaves<'a, 'k> {
 }
 
 impl<'a, 'k> Model for Leaves<'a, 'k> {
-    ghost use Rattle.std.specs.Prelude.{List, ℕ};
+    ghost use Rattle.std.specs.Prelude.{List};
+    ghost use Rattle.keys.specs.Bytes.{Bytes};
     ghost use Rattle.index_page.specs.Page.{Page};
     ghost use Rattle.scan.specs.Walk.{IsWalk, walk_left};
 
-    ghost Value = { List (Page (List ℕ)) };
+    ghost Value = { List (Page Bytes) };
 
     ghost view = { λ l. walk_left l.tree.now l.path.items };
 

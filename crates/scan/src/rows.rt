@@ -27,11 +27,11 @@ pub struct Rows<'a> {
 }
 
 impl<'a> Model for Rows<'a> {
-    ghost use Rattle.std.specs.Prelude.{List, ℕ};
     ghost use Rattle.std.specs.Option.{option_copied};
+    ghost use Rattle.keys.specs.Bytes.{Bytes, Pairs};
     ghost use Rattle.scan.specs.Left.{pairs_left, rows_left};
 
-    ghost Value = { List (List ℕ × List ℕ) };
+    ghost Value = { Pairs Bytes };
 
     ghost view = { λ r. rows_left r.left (option_copied r.hi) (pairs_left r.leaf r.leaves) };
 }

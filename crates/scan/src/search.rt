@@ -18,12 +18,12 @@ pub(crate) struct Search<'a> {
 }
 
 impl<'a> Model for Search<'a> {
-    ghost use Rattle.std.specs.Prelude.{List, ℕ};
     ghost use Rattle.std.specs.Option.{option_map};
+    ghost use Rattle.keys.specs.Bytes.{Bytes, Pairs};
     ghost use Rattle.delta_chain.specs.Layers.{entries_of};
     ghost use Rattle.scan.specs.Leaf.{left_after};
 
-    ghost Value = { List (List ℕ × List ℕ) };
+    ghost Value = { Pairs Bytes };
 
     ghost view = { λ l. left_after (option_map (λ e. (e.0.now, e.1.now)) l.next) (entries_of l.chain.now) };
 }

@@ -9,7 +9,7 @@ use Rattle.keys.specs.OrderedMap.{with_pair, without}
 use Rattle.keys.proofs.MapLaws.{total, IsBelowAll, all_keys-with_pair, all_keys-without}
 use Rattle.keys.specs.declared.settings.Settings.{Settings}
 use Rattle.delta_chain.specs.Layers.{Layers, with_change, with_run}
-use Rattle.index_page.specs.Page.{Page, said, said_under, as_changes, named}
+use Rattle.index_page.specs.Page.{Page, said_under}
 use Rattle.index_page.specs.Page as page
 use Rattle.index_page.specs.Range.{is_below, AreBelow, AreFrom}
 use Rattle.index_page.proofs.ListLaws.{all-append}

@@ -1,6 +1,7 @@
 -- What is made of the groups of a level's pages.
 use Rattle.std.specs.Prelude.{◌≡◌, ℕ, suc, ◌+◌, ◌⊎◌, Bool, true, false, ◌||◌, List, [], ◌∷◌, map, flat_map, drop, length, if◌then◌else◌}
 use Rattle.std.specs.List.{filter, Any}
+use Rattle.keys.specs.Bytes.{Bytes, Pairs}
 use Rattle.keys.specs.declared.settings.Settings.{Settings}
 use Rattle.index_page.specs.Page.{bare, first_key}
 use Rattle.mapping.specs.Levels.{Placed, joined}
@@ -16,16 +17,16 @@ pub record Change (V : Type 0) : Type 0 where
   pub pages : List (Placed V)
 
 -- a page under a pid
-abbrev pub placed_bare : {V : Type 0} → ℕ → List ℕ → List (List ℕ × V) → Placed V
+abbrev pub placed_bare : {V : Type 0} → ℕ → Bytes → Pairs V → Placed V
 placed_bare pid low base = record { pid = pid; page = bare low base }
 
 -- new pages, each with its first key as its low key; i fresh pids were given out before
-abbrev pub fresh_pages : {V : Type 0} → List ℕ → ℕ → List (List (List ℕ × V)) → List (Placed V)
+abbrev pub fresh_pages : {V : Type 0} → List ℕ → ℕ → List (Pairs V) → List (Placed V)
 fresh_pages used i [] = []
 fresh_pages used i (b ∷ bs) = placed_bare (unused used i) (first_key b) b ∷ fresh_pages used (suc i) bs
 
 -- the first piece has the first member's pid and low key, the others are new pages
-abbrev pub replacements : {V : Type 0} → List ℕ → ℕ → Placed V → List (List (List ℕ × V)) → List (Placed V)
+abbrev pub replacements : {V : Type 0} → List ℕ → ℕ → Placed V → List (Pairs V) → List (Placed V)
 replacements used i first [] = []
 replacements used i first (b ∷ bs) = placed_bare first.pid first.page.low b ∷ fresh_pages used i bs
 

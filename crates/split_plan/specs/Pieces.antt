@@ -2,6 +2,7 @@
 use Rattle.std.specs.Prelude.{ℕ, zero, suc, List, [], ◌∷◌, map, flat_map}
 use Rattle.std.specs.Borrow.{Bor}
 use Rattle.std.specs.List.{AllByRecursion}
+use Rattle.keys.specs.Bytes.{Bytes, Pairs}
 use Rattle.keys.specs.Order.{IsRising}
 use Rattle.keys.specs.declared.settings.Settings.{Settings}
 use Rattle.index_page.specs.Page.{Page, PageOfKind, bare, first_key, entries, IsLeaf, IsIndex, leaf_of, index_of}
@@ -9,17 +10,17 @@ use Rattle.index_page.specs.Page.PageOfKind.{Leaf, Index}
 use Rattle.split_plan.specs.Cut.{cut}
 
 -- pages of these pieces: the first has this low key, each other its own first key
-abbrev pub pages_from : {V : Type 0} → List ℕ → List (List (List ℕ × V)) → List (Page V)
+abbrev pub pages_from : {V : Type 0} → Bytes → List (Pairs V) → List (Page V)
 pages_from low [] = []
 pages_from low (b ∷ bs) = bare low b ∷ map (λ c. bare (first_key c) c) bs
 
 -- the low key of the piece at a place: this one for the first, and else its own first key
-abbrev pub low_at : {V : Type 0} → List ℕ → ℕ → List (List ℕ × V) → List ℕ
+abbrev pub low_at : {V : Type 0} → Bytes → ℕ → Pairs V → Bytes
 low_at low zero b = low
 low_at low (suc i) b = first_key b
 
 -- the entries of pages, joined
-abbrev pub joined_pages : {V : Type 0} → List (Page V) → List (List ℕ × V)
+abbrev pub joined_pages : {V : Type 0} → List (Page V) → Pairs V
 joined_pages ps = flat_map entries ps
 
 -- what is made of a group's members: their entries joined and cut, the first piece at the first member's low key

@@ -1,6 +1,7 @@
 //! What the definitions of `specs/` mean. Each law is the contract of a function with an empty body.
 ghost use Rattle.std.specs.Prelude.{◌≡◌, ◌<◌, ◌/◌, ℕ, ◌⊎◌, ◌↔◌, Bool, true, false, List, [], ◌∷◌, Option, Some, None, length, drop, map, flat_map};
 ghost use Rattle.std.specs.List.{AllByRecursion, Any};
+ghost use Rattle.keys.specs.Bytes.{Bytes, Changes};
 ghost use Rattle.keys.specs.Order.{IsRising};
 ghost use Rattle.keys.specs.OrderedMap.{value_at};
 ghost use Rattle.keys.specs.declared.settings.Settings.{Settings};
@@ -57,7 +58,7 @@ pub fn outdated_pages_were_replaced_or_rewritten<V>()
 
 /// Leaves after their parts of a run have, joined, all their entries with the run applied.
 pub fn leaves_share_a_run<V>()
-    ensures { (s : Settings) (run : List (List ℕ × Option V)) (p : Placed V) (ps : List (Placed V)) (end : Option (List ℕ)) → Tiled (p ∷ ps) end →
+    ensures { (s : Settings) (run : Changes V) (p : Placed V) (ps : List (Placed V)) (end : Option Bytes) → Tiled (p ∷ ps) end →
         joined (placed_of (worked_leaves s run (p ∷ ps))) ≡ with_run (joined (p ∷ ps)) run }
 {}
 
@@ -65,20 +66,20 @@ pub fn leaves_share_a_run<V>()
 pub fn what_is_made_of_groups_has_their_entries<V>()
     ensures entries { (s : Settings) (used : List ℕ) (i : ℕ) (f : List (Worked V)) →
         joined (new_of (changes s used i (groups is_thin f))) ≡ joined (placed_of f) }
-    ensures tiled { (s : Settings) (used : List ℕ) (i : ℕ) (f : List (Worked V)) (end : Option (List ℕ)) → 0 < s.fan → Tiled (placed_of f) end →
+    ensures tiled { (s : Settings) (used : List ℕ) (i : ℕ) (f : List (Worked V)) (end : Option Bytes) → 0 < s.fan → Tiled (placed_of f) end →
         Tiled (new_of (changes s used i (groups is_thin f))) end }
-    ensures first { (s : Settings) (used : List ℕ) (i : ℕ) (f : List (Worked V)) (end : Option (List ℕ)) →
+    ensures first { (s : Settings) (used : List ℕ) (i : ℕ) (f : List (Worked V)) (end : Option Bytes) →
         next_low (new_of (changes s used i (groups is_thin f))) end ≡ next_low (placed_of f) end }
 {}
 
 /// The terms of a family rise. They name the low keys of freed members and of new pieces, and no other: a new piece's
 /// has its pid, any other is absent. They turn the names of the family into those of the pages that are made of it.
 pub fn terms_name_the_new_pages<V>()
-    ensures rising { (s : Settings) (used : List ℕ) (i : ℕ) (f : List (Worked V)) (end : Option (List ℕ)) → 0 < s.fan → Tiled (placed_of f) end →
+    ensures rising { (s : Settings) (used : List ℕ) (i : ℕ) (f : List (Worked V)) (end : Option Bytes) → 0 < s.fan → Tiled (placed_of f) end →
         IsRising (terms (changes s used i (groups is_thin f))) }
-    ensures said { (s : Settings) (used : List ℕ) (i : ℕ) (f : List (Worked V)) (end : Option (List ℕ)) (k : List ℕ) → 0 < s.fan → Tiled (placed_of f) end →
+    ensures said { (s : Settings) (used : List ℕ) (i : ℕ) (f : List (Worked V)) (end : Option Bytes) (k : Bytes) → 0 < s.fan → Tiled (placed_of f) end →
         value_at k (terms (changes s used i (groups is_thin f)))
         ≡ term_at (value_at k (names (fresh_of (changes s used i (groups is_thin f))))) (value_at k (names (freed_of (changes s used i (groups is_thin f))))) }
-    ensures names { (s : Settings) (used : List ℕ) (i : ℕ) (f : List (Worked V)) (end : Option (List ℕ)) → 0 < s.fan → Tiled (placed_of f) end →
+    ensures names { (s : Settings) (used : List ℕ) (i : ℕ) (f : List (Worked V)) (end : Option Bytes) → 0 < s.fan → Tiled (placed_of f) end →
         with_run (names (placed_of f)) (terms (changes s used i (groups is_thin f))) ≡ names (new_of (changes s used i (groups is_thin f))) }
 {}

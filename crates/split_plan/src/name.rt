@@ -10,9 +10,10 @@ pub struct Name {
 }
 
 impl Model for Name {
-    ghost use Rattle.std.specs.Prelude.{List, ℕ};
+    ghost use Rattle.std.specs.Prelude.{ℕ};
+    ghost use Rattle.keys.specs.Bytes.{Bytes};
 
-    ghost Value = { List ℕ × ℕ };
+    ghost Value = { Bytes × ℕ };
 
     ghost view = { λ n. (n.low, n.pid) };
 }
