@@ -6,12 +6,12 @@ use Rattle.mapping.proofs.table.Table.outdate.Goals as goal
 pub invariant_of-self : goal.invariant_of-self
 invariant_of-self g c =
     let stands = rw c.deref.ensures.value at c.in-Ok.ensures in
-    (slot_outdated c.self.inside.slots.items c.self.inside.filled c.self.invariant c.in-Ok.at c.args.pid c.index_mut-slot.result.now stands c.index_mut-slot.ensures.value _ refl refl c.log_outdated-slot.ensures).0
+    (slot_outdated c.self.inside.slots.items c.self.inside.filled c.self.invariant c.in-Ok.at c.args.pid c.index_mut-slot.result.now stands c.index_mut-slot.ensures.value _ refl refl c.outdated-slot.ensures).0
 
 pub returns-in-Ok : goal.returns-in-Ok
 returns-in-Ok g c =
     let stands = rw c.deref.ensures.value at c.in-Ok.ensures in
-    (slot_outdated c.self.inside.slots.items c.self.inside.filled c.self.invariant c.in-Ok.at c.args.pid c.index_mut-slot.result.now stands c.index_mut-slot.ensures.value _ refl refl c.log_outdated-slot.ensures).1
+    (slot_outdated c.self.inside.slots.items c.self.inside.filled c.self.invariant c.in-Ok.at c.args.pid c.index_mut-slot.result.now stands c.index_mut-slot.ensures.value _ refl refl c.outdated-slot.ensures).1
     ∙ ap (λ t. log_outdated t c.args.pid) c.self.view_is
 
 -- of a pid without a slot the log has nothing
