@@ -147,7 +147,7 @@ def sessions(work):
             Phase("scans of 100 rows, one a batch", len(starts), 1, lambda: work.scans(starts, 100), lambda: work.lines_of_scans(starts, 100)),
             Phase("open scans of 100 rows", len(starts), 1_000, lambda: work.open_scans(starts, 100), lambda: work.lines_of_scans(starts, 100)),
             Phase("open scans of 100 rows, one a batch", len(starts), 1, lambda: work.open_scans(starts, 100), lambda: work.lines_of_scans(starts, 100)),
-            Phase("first row, 10,000 times in a batch", 10_000, 10_000, lambda: ["scan % * 1"] * 10_000, lambda: [2] * 10_000),
+            Phase("first row, 10,000 times in a batch", 50_000, 10_000, lambda: ["scan % * 1"] * 50_000, lambda: [2] * 50_000),
             Phase("one scan of all pairs", 1, 1, lambda: ["scan % * 4294967295"], lambda: [1 + pairs]),
         ],
     ]

@@ -99,5 +99,3 @@ module _ (s : Settings) (t : Tree) where
       let v = subst (λ (m : ℕ). HasComeTo s t m least met ats) e w in
       subst (λ (o : Option Finding). IsFaultOf o fault) v.found
       (fault_or_else (on_level (broken_at s (Above least) t.pages) met ats) (finding_below s t.pages n 1 (all_met met ats) (flat_map (children_at t.pages) ats)) fault f)
-
-  module _ (met : List ℕ) (ats : List Place) (w : HasComeTo s t 0 1 met ats) where
