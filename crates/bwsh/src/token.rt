@@ -97,7 +97,7 @@ fn hex_digit(value: u8) -> u8
     if value < 10 {
         b'0' + value
     } else {
-        b'A' + (value - 10)
+        b'A' - 10 + value
     }
 }
 

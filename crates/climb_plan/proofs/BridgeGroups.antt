@@ -91,7 +91,6 @@ module _ {V : Type 0} where
 -- ---- the groups can be cut
 
 module _ {V : Type 0} (of : Page V → PageOfKind) where
-
   module _ (kind : IsKind of) where
     cut_one : (g : List (Worked V)) → is_rewritten g ≡ true → IsInOrder g → CanJoin (map (λ x. x.page) (map (shown of) g))
     cut_one [] e h = absurd (cc)

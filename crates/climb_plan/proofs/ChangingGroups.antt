@@ -18,7 +18,6 @@ use Rattle.climb_plan.specs.Changing.{Changing, rewritten, with_changing, changi
 -- ---- families in which nothing calls
 
 module _ {V : Type 0} where
-
   -- ---- groups that are not rewritten
 
   -- what becomes of a group that isn't rewritten

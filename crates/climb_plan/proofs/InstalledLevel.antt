@@ -20,7 +20,6 @@ use Rattle.climb_plan.proofs.InstalledPages.{AreFreshFor, installed-groups, free
 use Rattle.climb_plan.proofs.Installed.{worked_pids, IsInstalled}
 
 module _ {V : Type 0} where
-
   -- ---- a level
 
   -- in the table after, the pages that are made of a level are at home, those that went have no place, and all but the

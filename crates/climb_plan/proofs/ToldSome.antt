@@ -19,7 +19,6 @@ module _ {V : Type 0} where
 -- ---- terms of some freed or fresh pages aren't empty
 
 module _ {V : Type 0} where
-
   -- ---- a group that is rewritten frees a page, or has a fresh one
 
   -- groups that are rewritten, whose fat members have more than fan entries

@@ -20,7 +20,6 @@ use Rattle.engine.specs.Refusal.{refusal}
 use Rattle.engine.specs.Steps.{batching}
 use Rattle.engine.proofs.Admitted.{neither, none_where, admitted}
 
-
 -- by the laws of the plan: what a page has in the log
 abbrev pub KeepsPages : {A : Type 0} → Settings → Tree → List (Command A) → Type 0
 KeepsPages s t cs = (pid k : ℕ) (p : PageOfKind) → logged_of (planned_tree s t cs) pid ≡ Upto k → page_at t.pages pid ≡ Some p →

@@ -85,7 +85,6 @@ from_nothing ((x ∷ xs) ∷ ks) = (refl, from_nothing ks)
 -- ---- lists of pairs
 
 module _ {X : Type 0} where
-
   pub before_apart : (end : Option (List ℕ)) (xs ys : List (List ℕ × X)) → AreBefore end (keys_of (xs ++ ys)) → AreBefore end (keys_of xs) × AreBefore end (keys_of ys)
   before_apart None xs ys a = (tt, tt)
   before_apart (Some hi) xs ys a = all_keys_apart (λ j. is_below j hi ≡ true) xs ys a
