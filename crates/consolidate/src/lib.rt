@@ -18,6 +18,3 @@ pub fn consolidate<V: Cell<A> + Drop, A: Allocator + Copy>(
     let pairs = chain.pairs(alloc)?;
     pairs.copied_base(alloc)
 }
-
-#[cfg(test)]
-mod tests;

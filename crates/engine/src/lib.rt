@@ -1,6 +1,8 @@
 //! The store: a tree of pages, and batches of commands that are executed on it.
 #![tactic(auto)]
 
+#[cfg(test)]
+mod bases;
 mod execute;
 pub mod laws;
 mod leaves;
@@ -10,6 +12,8 @@ mod refusal;
 pub mod store;
 #[cfg(test)]
 mod tests;
+#[cfg(test)]
+mod trees_by_hand;
 
 pub use crate::store::Store;
 pub use scan::Rows;

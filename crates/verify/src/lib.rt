@@ -9,8 +9,6 @@ mod page_rules;
 mod place;
 pub mod report;
 mod rules;
-#[cfg(test)]
-mod tests;
 pub mod walk;
 
 pub use crate::report::Report;

@@ -1,11 +1,11 @@
 //! What no clause says: that the definitions of a proper tree and of findings mean the worked examples, with a tree for each finding.
-use crate::walk::verify;
 use delta_chain::{Base, BaseBuilder, Chain, Run};
 use index_page::Page;
 use keys::{Fault, Key, Pid, Settings, Value};
 use mapping::{Table, Tree};
 use std::alloc::{AllocError, Global};
 use std::thread::Threads;
+use verify::verify;
 
 const S: Settings = Settings {
     fan: 4,

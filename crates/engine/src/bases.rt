@@ -1,4 +1,5 @@
-use crate::consolidate;
+//! Bases as `consolidate` makes them, and the keys that they hold.
+use consolidate::consolidate;
 use delta_chain::{Base, BaseBuilder, Chain, PushError, Run};
 use keys::{Key, Pid, Value};
 use std::alloc::{AllocError, Global};
