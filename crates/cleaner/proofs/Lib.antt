@@ -3,4 +3,3 @@ pub mod CleanBack
 mod CleanCrash
 mod CleanLaws
 mod CleanRows
-pub mod StepsLaws

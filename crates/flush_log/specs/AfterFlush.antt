@@ -11,6 +11,10 @@ use Rattle.flush_log.specs.FlushText.{flush_text, flushed}
 use Rattle.flush_log.specs.Layout.{tail_after, spans, is_full_for_flush}
 use Rattle.flush_log.specs.Slot.{Slot, greatest}
 
+-- the slot that says of a store what a slot says
+abbrev pub slot_of : Store → Slot
+slot_of st = record { sequence = st.sequence; head = st.head; tail = st.tail; root = st.tree.root; height = st.tree.height }
+
 -- the slot for this text of a store
 abbrev pub flush_slot : Settings → Store → List Frame → Slot
 flush_slot s st text = record { sequence = suc st.sequence; head = st.head; tail = tail_after s st.tail text; root = st.tree.root; height = st.tree.height }
@@ -22,6 +26,10 @@ is_spent t = nat_lt greatest t.sequence || nat_lt greatest t.tail
 -- the store of a slot, with this tree
 abbrev pub store_after : Tree → Slot → Store
 store_after tree t = record { tree = tree; head = t.head; tail = t.tail; sequence = t.sequence }
+
+-- the store with another tree: a batch doesn't touch the log
+abbrev pub with_tree : Store → Tree → Store
+with_tree st tree = record { tree = tree; head = st.head; tail = st.tail; sequence = st.sequence }
 
 -- why a commit is refused: its numbers are spent, or the log is full. Else the store and the bytes after it.
 abbrev pub after_commit : Slot → Bool → Store → Bytes → Result (Store × Bytes) Fault
