@@ -1,5 +1,5 @@
 mod CarryLaws
 pub mod CleanBack
-mod CleanCrash
+pub mod CleanCrash
 mod CleanLaws
 mod CleanRows

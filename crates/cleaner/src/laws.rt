@@ -1,11 +1,10 @@
 //! What the definitions of `specs/` mean. Each law is the contract of a function with an empty body.
-ghost use Rattle.std.specs.Prelude.{◌≡◌, ◌⊎◌, suc, List, Ok};
+ghost use Rattle.std.specs.Prelude.{◌≡◌, ◌⊎◌, suc, Ok};
 ghost use Rattle.keys.specs.Bytes.{Bytes};
 ghost use Rattle.keys.specs.declared.settings.Settings.{Settings};
 ghost use Rattle.mapping.specs.Tree.{Store};
 ghost use Rattle.flush_log.specs.AfterFlush.{with_tree};
 ghost use Rattle.flush_log.specs.Commit.{LeftDuring};
-ghost use Rattle.flush_log.specs.Reading.{Found, log};
 ghost use Rattle.recovery.specs.InStep.{AreInStep, IsInStep, IsStore, IsStoreOf};
 ghost use Rattle.recovery.specs.StoreOfDisk.{store_of_disk};
 ghost use Rattle.cleaner.specs.AfterClean.{after_clean, clean_calls};
@@ -27,6 +26,6 @@ pub fn a_clean_keeps_the_store()
 
 /// A crash at any moment of a clean leaves a disk that stands for the store that it stood for, or all that the clean leaves.
 pub fn a_crash_in_a_clean_leaves_the_store_before_or_after()
-    ensures { (s : Settings) (st now : Store) (file bytes c : Bytes) (found : List Found) → IsInStep s st file → after_clean s st file ≡ Ok (now, bytes) →
-        log s file st.head st.tail ≡ Ok found → LeftDuring (clean_calls s st file found) file c → (store_of_disk c ≡ store_of_disk file) ⊎ (c ≡ bytes) }
+    ensures { (s : Settings) (st now : Store) (file bytes c : Bytes) → IsInStep s st file → after_clean s st file ≡ Ok (now, bytes) →
+        LeftDuring (clean_calls s st file) file c → (store_of_disk c ≡ store_of_disk file) ⊎ (c ≡ bytes) }
 {}
