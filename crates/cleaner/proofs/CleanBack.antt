@@ -11,17 +11,15 @@ use Rattle.keys.specs.declared.settings.Settings.{Settings}
 use Rattle.keys.specs.Results.{and_then}
 use Rattle.index_page.proofs.ListLaws.{all_weaker}
 use Rattle.mapping.specs.Finding.{Finding, finding}
-use Rattle.mapping.specs.Proper.{AreLogsTrue, IsProper}
 use Rattle.mapping.specs.Tree.{Tree, Store}
 use Rattle.frame_codec.specs.Frame.{Frame, is_frame}
-use Rattle.flush_log.specs.AfterFlush.{store_after}
+use Rattle.flush_log.specs.AfterFlush.{slot_of, store_after}
 use Rattle.flush_log.specs.Commit.{HasRoom, committed}
 use Rattle.flush_log.specs.FlushText.{tree_in_log}
 use Rattle.flush_log.specs.Layout.{tail_after, found_in_text, spans, is_full_for_clean}
 use Rattle.flush_log.specs.Reading.{Found, all_in, log}
 use Rattle.flush_log.specs.Segments.{last_segment}
 use Rattle.flush_log.specs.Slot.{Slot, greatest, slot_in, store_slot}
-use Rattle.flush_log.specs.WordPids.{HasWordPids}
 use Rattle.flush_log.proofs.FitLaws.{are_sized}
 use Rattle.flush_log.proofs.HeadLaws.{HeadOff, head-off}
 use Rattle.flush_log.proofs.LayoutLaws.{split-tail}
@@ -31,7 +29,7 @@ use Rattle.flush_log.proofs.ReadBackLaws.{text-back}
 use Rattle.flush_log.proofs.SettingsLaws.{store_settings-are}
 use Rattle.flush_log.proofs.SlotLaws.{IsSlot, slot-is, slot_stands, store_slot-read, slot-stands}
 use Rattle.flush_log.proofs.TailLaws.{room-for-clean}
-use Rattle.recovery.specs.InStep.{AreInStep, IsInStep, IsStoreOf}
+use Rattle.recovery.specs.InStep.{AreInStep, IsInStep, IsStore, IsStoreOf}
 use Rattle.recovery.specs.LogPages.{pages_of, broken_in}
 use Rattle.recovery.specs.StoreOfDisk.{unless_found, frames_in, tree_by_log, store_of_disk}
 use Rattle.recovery.proofs.FlushBack.{IsCommitted, left, commit-done, same_store}
@@ -258,14 +256,29 @@ cleaned-store s st now file bytes h =
     let store = (clean-done s st file now bytes h).done.store in
     (ap (λ (x : Store). x.tree) store, ap (λ (x : Store). x.head) store, ap (λ (x : Store). x.sequence) store)
 
-pub clean-kept : (s : Settings) (st now : Store) (file bytes : List ℕ) → IsStoreOf s st file → after_clean s st file ≡ left now bytes → IsStoreOf s now bytes
+-- it stays one as every store is, whatever its disk does
+pub clean-kept : (s : Settings) (st now : Store) (file bytes : List ℕ) → IsStore s st → after_clean s st file ≡ left now bytes → IsStore s now
 clean-kept s st now file bytes is h =
+    let c : IsClean s st file now bytes = clean-done s st file now bytes h in
+    let done = c.done in
+    let text : List Frame = clean_text st.head c.found in
+    let t : Slot = clean_slot s st file text in
+    let was : IsSlot s st.sequence (slot_of st) = slot-is s st.sequence (slot_of st) is.slot in
+    let size = (are_sized s is.good).least_size in
+    let behind = was.behind in
+    let from = (split-tail s st.head st.tail (omega arith) (omega arith)).from in
+    let more : st.head < last_segment s st.tail = elim (cases_lt st.head (last_segment s st.tail)) [ inl k ↦ k | inr k ↦ absurd (c.more (omega (arith, from))) ] in
+    let free = room-for-clean s st.head t.tail done.room in
+    let within = all-clean_text (λ f. is_frame s f ≡ true) st.head c.found (log-within s file st.head st.tail c.found c.read) in
+    subst (λ (x : Store). IsStore s x) (sym done.store) (record {
+      good = is.good;
+      proper = is.proper;
+      logs = is.logs;
+      slot = next_good s st.sequence (slot_of st) (slot_of (store_after st.tree t)) text is.good was within refl done.number refl done.tail (omega arith) (omega (arith, more)) (omega (arith, free)) was.root was.height.0 was.height.1;
+    })
+
+-- and in step
+pub clean-in_step : (s : Settings) (st now : Store) (file bytes : List ℕ) → IsStoreOf s st file → after_clean s st file ≡ left now bytes → IsStoreOf s now bytes
+clean-in_step s st now file bytes is h =
     let (on_disk, read, step) = is.step in
-    let tree : st.tree ≡ now.tree = sym (cleaned-store s st now file bytes h).0 in
-    record {
-      proper = subst (λ (t : Tree). IsProper s t) tree is.proper;
-      logs = subst (λ (t : Tree). AreLogsTrue t) tree is.logs;
-      words = subst (λ (t : Tree). HasWordPids t) tree is.words;
-      height = subst (λ (t : Tree). t.height ≤ 64) tree is.height;
-      step = (clean-back s st on_disk file read step now bytes h).1;
-    }
+    record { is = clean-kept s st now file bytes is.is h; step = (clean-back s st on_disk file read step now bytes h).1 }

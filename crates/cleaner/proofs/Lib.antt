@@ -1,6 +1,5 @@
 mod CarryLaws
 pub mod CleanBack
-mod CleanCrash
+pub mod CleanCrash
 mod CleanLaws
 mod CleanRows
-pub mod StepsLaws

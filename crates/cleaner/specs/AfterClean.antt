@@ -1,5 +1,5 @@
 -- A clean: why it is refused, and what it leaves of the store and of its disk.
-use Rattle.std.specs.Prelude.{ℕ, suc, nat_eq, if◌then◌else◌, List, take, drop, Result, Err}
+use Rattle.std.specs.Prelude.{ℕ, suc, nat_eq, if◌then◌else◌, List, [], take, drop, Result, Ok, Err}
 use Rattle.keys.specs.Bytes.{Bytes}
 use Rattle.keys.specs.declared.settings.Settings.{Settings}
 use Rattle.keys.specs.declared.fault.Fault.{Fault}
@@ -7,8 +7,8 @@ use Rattle.keys.specs.declared.fault.Fault.TheVariants.{NothingToClean}
 use Rattle.keys.specs.Results.{and_then}
 use Rattle.mapping.specs.Tree.{Store}
 use Rattle.frame_codec.specs.Frame.{Frame}
-use Rattle.flush_log.specs.AfterFlush.{store_after, after_commit}
-use Rattle.flush_log.specs.Commit.{Call, commit_calls, committed}
+use Rattle.flush_log.specs.AfterFlush.{Commit, file_after, calls_of, store_after, after_commit}
+use Rattle.flush_log.specs.Commit.{Call}
 use Rattle.flush_log.specs.Layout.{tail_after, spans, is_full_for_clean}
 use Rattle.flush_log.specs.Reading.{Found, log}
 use Rattle.flush_log.specs.Segments.{last_segment}
@@ -31,11 +31,15 @@ clean_slot s st file text = record {
   height = (slot_on_disk st.sequence file).height;
 }
 
+-- the commit of this text
+abbrev pub clean_commit : Settings → Store → Bytes → List Frame → Commit
+clean_commit s st file text = record { slot = clean_slot s st file text; spans = spans s st.tail text }
+
 -- what a text that is carried on leaves: the tree in memory stays
 abbrev pub after_carried : Settings → Store → Bytes → List Frame → Result (Store × Bytes) Fault
 after_carried s st file text =
-    let t : Slot = clean_slot s st file text in
-    after_commit t (is_full_for_clean s st.head t.tail) (store_after st.tree t) (committed s file (spans s st.tail text) t)
+    let m : Commit = clean_commit s st file text in
+    after_commit m.slot (is_full_for_clean s st.head m.slot.tail) (store_after st.tree m.slot) (file_after s file m)
 
 -- what a clean of these frames leaves, unless they say what fits no page
 abbrev pub after_clean_of : Settings → Store → Bytes → List Found → Result (Store × Bytes) Fault
@@ -50,6 +54,11 @@ after_clean s st file =
 
 -- ---- the calls of the disk
 
--- the calls by which a clean of these frames is written
-abbrev pub clean_calls : Settings → Store → Bytes → List Found → List Call
-clean_calls s st file found = commit_calls s file (spans s st.tail (clean_text st.head found)) (clean_slot s st file (clean_text st.head found))
+-- the calls by which a clean of what was found is written: none where a fault was found
+abbrev pub clean_calls_of : Settings → Store → Bytes → Result (List Found) Fault → List Call
+clean_calls_of s st file (Ok found) = calls_of s file (clean_commit s st file (clean_text st.head found))
+clean_calls_of s st file (Err fault) = []
+
+-- the calls of a clean
+abbrev pub clean_calls : Settings → Store → Bytes → List Call
+clean_calls s st file = clean_calls_of s st file (log s file st.head st.tail)

@@ -1,3 +1,2 @@
 pub mod AfterClean
 pub mod CleanText
-pub mod Steps

@@ -1,27 +1,31 @@
 //! What the definitions of `specs/` mean. Each law is the contract of a function with an empty body.
-ghost use Rattle.std.specs.Prelude.{◌≡◌, ◌⊎◌, suc, List, Ok};
+ghost use Rattle.std.specs.Prelude.{◌≡◌, ◌⊎◌, suc, Ok};
 ghost use Rattle.keys.specs.Bytes.{Bytes};
 ghost use Rattle.keys.specs.declared.settings.Settings.{Settings};
 ghost use Rattle.mapping.specs.Tree.{Store};
+ghost use Rattle.flush_log.specs.AfterFlush.{with_tree};
 ghost use Rattle.flush_log.specs.Commit.{LeftDuring};
-ghost use Rattle.flush_log.specs.Reading.{Found, log};
-ghost use Rattle.recovery.specs.InStep.{AreInStep, IsInStep, IsStoreOf};
+ghost use Rattle.recovery.specs.InStep.{AreInStep, IsInStep, IsStore, IsStoreOf};
 ghost use Rattle.recovery.specs.StoreOfDisk.{store_of_disk};
 ghost use Rattle.cleaner.specs.AfterClean.{after_clean, clean_calls};
 
 /// A clean keeps the store: the disk after it stands for the tree that it stood for, with the head, tail and number that
-/// the clean leaves. The tree in memory stays as it is, with what was not flushed, and in step with the disk.
+/// the clean leaves. The tree in memory stays as it is, with what was not flushed, and in step with the disk. Whatever the
+/// disk does, the store stays one as every store is.
 pub fn a_clean_keeps_the_store()
     ensures disk { (s : Settings) (st on_disk now : Store) (file bytes : Bytes) → store_of_disk file ≡ Ok (s, on_disk) → AreInStep st on_disk →
         after_clean s st file ≡ Ok (now, bytes) →
-        (store_of_disk bytes ≡ Ok (s, record { tree = on_disk.tree; head = now.head; tail = now.tail; sequence = now.sequence })) × IsInStep s now bytes }
+        (store_of_disk bytes ≡ Ok (s, with_tree now on_disk.tree)) × IsInStep s now bytes }
     ensures memory { (s : Settings) (st now : Store) (file bytes : Bytes) → after_clean s st file ≡ Ok (now, bytes) →
         (now.tree ≡ st.tree) × (now.head ≡ suc st.head) × (now.sequence ≡ suc st.sequence) }
-    ensures kept { (s : Settings) (st now : Store) (file bytes : Bytes) → IsStoreOf s st file → after_clean s st file ≡ Ok (now, bytes) → IsStoreOf s now bytes }
+    ensures step { (s : Settings) (st now : Store) (file bytes : Bytes) → IsStoreOf s st file → after_clean s st file ≡ Ok (now, bytes) →
+        IsStoreOf s now bytes }
+    ensures kept { (s : Settings) (st now : Store) (file bytes : Bytes) → IsStore s st → after_clean s st file ≡ Ok (now, bytes) →
+        IsStore s now }
 {}
 
 /// A crash at any moment of a clean leaves a disk that stands for the store that it stood for, or all that the clean leaves.
 pub fn a_crash_in_a_clean_leaves_the_store_before_or_after()
-    ensures { (s : Settings) (st now : Store) (file bytes c : Bytes) (found : List Found) → IsInStep s st file → after_clean s st file ≡ Ok (now, bytes) →
-        log s file st.head st.tail ≡ Ok found → LeftDuring (clean_calls s st file found) file c → (store_of_disk c ≡ store_of_disk file) ⊎ (c ≡ bytes) }
+    ensures { (s : Settings) (st now : Store) (file bytes c : Bytes) → IsInStep s st file → after_clean s st file ≡ Ok (now, bytes) →
+        LeftDuring (clean_calls s st file) file c → (store_of_disk c ≡ store_of_disk file) ⊎ (c ≡ bytes) }
 {}

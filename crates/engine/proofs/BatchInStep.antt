@@ -1,5 +1,5 @@
 -- A batch leaves a store in step with its disk.
-use Rattle.std.specs.Prelude.{◌≡◌, ◌↔◌, ℕ, nat_lt, List, Some}
+use Rattle.std.specs.Prelude.{◌≡◌, ◌↔◌, ℕ, ◌^◌, ◌<◌, ◌≤◌, nat_lt, List, Some, None}
 use Rattle.std.proofs.lemmas.Bool.{ltb-false}
 use Rattle.keys.specs.Step.{map_after_all}
 use Rattle.keys.specs.declared.command.Command.{Command}
@@ -8,16 +8,17 @@ use Rattle.index_page.specs.Over.{IsPageOver}
 use Rattle.index_page.specs.Page.{PageOfKind}
 use Rattle.mapping.specs.Levels.{contents}
 use Rattle.mapping.specs.Proper.{AreLogsTrue, IsProper}
-use Rattle.mapping.specs.Tree.{Tree, page_at, logged_of}
+use Rattle.mapping.specs.Tree.{Tree, Store, page_at, logged_of}
 use Rattle.mapping.specs.Tree.Logged.{No, Upto}
+use Rattle.flush_log.specs.AfterFlush.{with_tree}
 use Rattle.climb_plan.specs.Limits.{AreShort}
 use Rattle.climb_plan.specs.Plan.{planned_tree}
-use Rattle.recovery.specs.InStep.{KeepsLogged}
+use Rattle.recovery.specs.InStep.{KeepsLogged, IsStore}
 use Rattle.recovery.proofs.KeptStore.{batch-kept}
-use Rattle.cleaner.specs.Steps.{KeepsStores}
-use Rattle.engine.specs.Batch.{height_fault}
+use Rattle.recovery.proofs.StepLaws.{kept-in_step}
+use Rattle.engine.specs.Batch.{height_fault, refusal_by}
 use Rattle.engine.specs.Refusal.{refusal}
-use Rattle.engine.specs.Steps.{batching}
+use Rattle.engine.specs.Steps.{KeepsStores, batching}
 use Rattle.engine.proofs.Admitted.{neither, none_where, admitted}
 
 -- by the laws of the plan: what a page has in the log
@@ -39,11 +40,23 @@ module _ {A : Type 0} (s : Settings)
     over = λ pid k page e f. pages t cs p pid k page e f;
   }
 
-  -- a batch that isn't refused leaves a store in step with the same bytes, and does to what it holds what its commands do
-  pub keeps_stores : KeepsStores {A = A} s (batching s)
-  keeps_stores st file cs h allowed words =
+  -- a batch that isn't refused leaves one as every store is
+  pub keeps_store : (st : Store) (cs : List (Command A)) → IsStore s st → refusal_by s st.tree cs ≡ None → (planned_tree s st.tree cs).root < 2 ^ 64 → IsStore s (with_tree st (planned_tree s st.tree cs))
+  keeps_store st cs h allowed root =
       let parts = neither (refusal s cs) (height_fault (planned_tree s st.tree cs).height) allowed in
-      let low = ltb-false 64 (planned_tree s st.tree cs).height (none_where (nat_lt 64 (planned_tree s st.tree cs).height) _ parts.1) in (
-        holds st.tree cs h.proper,
-        batch-kept s st (planned_tree s st.tree cs) file h (proper st.tree cs h.proper (admitted s cs parts.0)) (logs st.tree cs h.proper h.logs) words low (keeps_logged st.tree cs h.proper),
+      batch-kept s st (planned_tree s st.tree cs) h (proper st.tree cs h.proper (admitted s cs parts.0)) (logs st.tree cs h.proper h.logs) root (low_by (planned_tree s st.tree cs).height parts.1)
+    where
+      low_by : (height : ℕ) → height_fault height ≡ None → height ≤ 64
+      low_by height e = ltb-false 64 height (none_where (nat_lt 64 height) _ e)
+
+  -- in step with the same bytes, and does to what it holds what its commands do
+  pub keeps_stores : KeepsStores {A = A} s (batching s)
+  keeps_stores st file cs h allowed root =
+      let (on_disk, read, step) = h.step in
+      let new : Tree = planned_tree s st.tree cs in (
+        holds st.tree cs h.is.proper,
+        record {
+          is = keeps_store st cs h.is allowed root;
+          step = (on_disk, read, kept-in_step st new on_disk (keeps_logged st.tree cs h.is.proper) step);
+        },
       )

@@ -13,4 +13,5 @@ mod PartAnswers
 mod Readied
 mod Routed
 mod SeenLeaves
+mod StepsLaws
 mod Verified

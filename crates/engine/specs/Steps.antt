@@ -1,10 +1,131 @@
--- Steps of a store on its disk: batches as they are planned, flushes and cleans.
+-- Steps of a store on its disk: batches, flushes and cleans, one after the other, over the store and the bytes of its disk.
+use Rattle.std.specs.Prelude.{◌≡◌, ℕ, ◌^◌, ◌<◌, ⊤, List, [], ◌∷◌, length, take, Option, Some, None, Result, Ok, Err}
+use Rattle.keys.specs.Bytes.{Bytes}
+use Rattle.keys.specs.Lists.{flat}
+use Rattle.keys.specs.Step.{replies_to, map_after_all}
+use Rattle.keys.specs.declared.command.Command.{Command}
+use Rattle.keys.specs.declared.command.Reply.{Reply}
+use Rattle.keys.specs.declared.fault.Fault.{Fault}
 use Rattle.keys.specs.declared.settings.Settings.{Settings}
+use Rattle.mapping.specs.Levels.{contents}
+use Rattle.mapping.specs.Tree.{Tree, Store}
+use Rattle.flush_log.specs.AfterFlush.{with_tree, after_flush}
+use Rattle.flush_log.specs.FlushText.{HasFrames, flushed}
+use Rattle.recovery.specs.InStep.{IsStoreOf}
+use Rattle.recovery.specs.StoreOfDisk.{and_then, store_of_disk}
 use Rattle.climb_plan.specs.Plan.{planned_tree}
-use Rattle.cleaner.specs.Steps.{Batching}
+use Rattle.cleaner.specs.AfterClean.{after_clean}
 use Rattle.engine.specs.Batch.{refusal_by}
-pub use Rattle.cleaner.specs.Steps
 
--- what a batch does to a tree, under these settings
+-- ---- steps and answers
+
+pub data Step (A : Type 0) : Type 0 where
+  Batch : List (Command A) → Step A
+  Flush : Step A
+  Clean : Step A
+
+-- the replies to a batch; after a flush the sequence number; after a clean the head segment
+pub data Answer (A : Type 0) : Type 0 where
+  Replies : List (Reply A) → Answer A
+  Flushed : ℕ → Answer A
+  Cleaned : ℕ → Answer A
+
+-- what batches do to a tree: why one is refused, or else the tree after it
+pub record Batching (A : Type 0) : Type 0 where
+  pub refusal : Tree → List (Command A) → Option Fault
+  pub planned : Tree → List (Command A) → Tree
+
+-- what they do under these settings
 abbrev pub batching : {A : Type 0} → Settings → Batching A
 batching s = record { refusal = λ t cs. refusal_by s t cs; planned = λ t cs. planned_tree s t cs }
+
+-- ---- what they leave
+
+-- what a step leaves of a store and of the bytes of its disk, behind its answer; or why it is refused
+abbrev pub unless_refused : {A : Type 0} → Option Fault → Answer A → Store → Bytes → Result (Answer A × (Store × Bytes)) Fault
+unless_refused None answer st file = Ok (answer, (st, file))
+unless_refused (Some fault) answer st file = Err fault
+
+abbrev pub after_step : {A : Type 0} → Batching A → Settings → Store → Bytes → Step A → Result (Answer A × (Store × Bytes)) Fault
+after_step b s st file (Batch cs) = unless_refused (b.refusal st.tree cs) (Replies (replies_to (contents st.tree) cs)) (with_tree st (b.planned st.tree cs)) file
+after_step b s st file Flush = and_then (after_flush s st file) (λ p. Ok (Flushed p.0.sequence, p))
+after_step b s st file Clean = and_then (after_clean s st file) (λ p. Ok (Cleaned p.0.head, p))
+
+-- the answers to steps up to the first that is refused, what they leave, and why that one was refused
+pub record Played (A : Type 0) : Type 0 where
+  pub answers : List (Answer A)
+  pub store : Store
+  pub bytes : Bytes
+  pub fault : Option Fault
+
+-- the same behind another answer
+abbrev pub behind_answer : {A : Type 0} → Answer A → Played A → Played A
+behind_answer a p = record { answers = a ∷ p.answers; store = p.store; bytes = p.bytes; fault = p.fault }
+
+-- what is played on from what a step left; where it was refused, nothing is, and the store and the bytes stay
+abbrev pub played_on : {A : Type 0} → Store → Bytes → Result (Answer A × (Store × Bytes)) Fault → (Store → Bytes → Played A) → Played A
+played_on st file (Ok p) next = behind_answer p.0 (next p.1.0 p.1.1)
+played_on st file (Err fault) next = record { answers = []; store = st; bytes = file; fault = Some fault }
+
+-- the steps, played on a store and the bytes of its disk
+abbrev pub plays : {A : Type 0} → Batching A → Settings → Store → Bytes → List (Step A) → Played A
+plays b s st file [] = record { answers = []; store = st; bytes = file; fault = None }
+plays b s st file (x ∷ xs) = played_on st file (after_step b s st file x) (λ now bytes. plays b s now bytes xs)
+
+-- ---- what they come to
+
+-- the batches among steps, and the replies among answers
+abbrev pub batches_among : {A : Type 0} → List (Step A) → List (List (Command A))
+batches_among [] = []
+batches_among (Batch cs ∷ xs) = cs ∷ batches_among xs
+batches_among (Flush ∷ xs) = batches_among xs
+batches_among (Clean ∷ xs) = batches_among xs
+
+abbrev pub replies_among : {A : Type 0} → List (Answer A) → List (List (Reply A))
+replies_among [] = []
+replies_among (Replies rs ∷ answers) = rs ∷ replies_among answers
+replies_among (Flushed n ∷ answers) = replies_among answers
+replies_among (Cleaned n ∷ answers) = replies_among answers
+
+-- the tree that the last flush of these steps wrote, or the one that was written before them
+abbrev pub last_written : {A : Type 0} → Batching A → Tree → Tree → List (Step A) → Tree
+last_written b written now [] = written
+last_written b written now (Batch cs ∷ xs) = last_written b written (b.planned now cs) xs
+last_written b written now (Flush ∷ xs) = last_written b (flushed now) (flushed now) xs
+last_written b written now (Clean ∷ xs) = last_written b written now xs
+
+-- the tree after a step that isn't refused
+abbrev pub tree_after : {A : Type 0} → Batching A → Tree → Step A → Tree
+tree_after b now (Batch cs) = b.planned now cs
+tree_after b now Flush = flushed now
+tree_after b now Clean = now
+
+-- a step's numbers have 64 bits, as all have in memory: those of a flush's frames, and the root's page id after a batch
+abbrev pub HasWords : {A : Type 0} → Batching A → Settings → Tree → Step A → Type 0
+HasWords b s now (Batch cs) = (b.planned now cs).root < 2 ^ 64
+HasWords b s now Flush = HasFrames s now
+HasWords b s now Clean = ⊤
+
+-- so have these steps' numbers, one step after the other
+abbrev pub HaveWords : {A : Type 0} → Batching A → Settings → Tree → List (Step A) → Type 0
+HaveWords b s now [] = ⊤
+HaveWords b s now (x ∷ xs) = HasWords b s now x × HaveWords b s (tree_after b now x) xs
+
+-- ---- what is promised of them
+
+-- a batch that isn't refused does to what a store holds what its commands do, and leaves the store in step with its disk
+abbrev pub KeepsStores : {A : Type 0} → Settings → Batching A → Type 0
+KeepsStores {A} s b = (st : Store) (file : Bytes) (cs : List (Command A)) → IsStoreOf s st file → b.refusal st.tree cs ≡ None →
+    (b.planned st.tree cs).root < 2 ^ 64 →
+    (contents (b.planned st.tree cs) ≡ map_after_all (contents st.tree) cs) × IsStoreOf s (with_tree st (b.planned st.tree cs)) file
+
+-- Of steps that were played, as far as they were, on a store with this tree, whose disk stood for one with the tree that is
+-- written: the replies are those of an ordered map that takes all their commands one by one, and the store holds what that map
+-- holds; the disk stands for the tree of the last flush, or else for the one that was written, with the head, the tail and the
+-- number that there are now.
+pub record ArePlayed {A : Type 0} (b : Batching A) (s : Settings) (now written : Tree) (steps : List (Step A)) (p : Played A) : Type 0 where
+  pub replies : flat (replies_among p.answers) ≡ replies_to (contents now) (flat (batches_among (take (length p.answers) steps)))
+  pub holds : contents p.store.tree ≡ map_after_all (contents now) (flat (batches_among (take (length p.answers) steps)))
+  pub disk : store_of_disk p.bytes
+      ≡ Ok (s, with_tree p.store (last_written b written now (take (length p.answers) steps)))
+  pub store : IsStoreOf s p.store p.bytes

@@ -1,6 +1,6 @@
 //! What batches, flushes and cleans do one after the other, in the words of one of them. Each law is the contract of a
 //! function with an empty body.
-ghost use Rattle.std.specs.Prelude.{◌≡◌, List, length, take, None, Ok};
+ghost use Rattle.std.specs.Prelude.{◌≡◌, ◌^◌, ◌<◌, List, length, take, None, Ok};
 ghost use Rattle.std.specs.List.{AllByRecursion};
 ghost use Rattle.keys.specs.Bytes.{Bytes, Pairs};
 ghost use Rattle.keys.specs.Limits.{first_bad_field};
@@ -13,15 +13,13 @@ ghost use Rattle.mapping.specs.Proper.{AreLogsTrue, IsProper};
 ghost use Rattle.mapping.specs.Tree.{Tree, Store};
 ghost use Rattle.climb_plan.specs.Limits.{AreShort};
 ghost use Rattle.climb_plan.specs.Plan.{plan, planned_tree};
-ghost use Rattle.flush_log.specs.WordPids.{HasWordPids};
-ghost use Rattle.recovery.specs.InStep.{IsStoreOf};
+ghost use Rattle.recovery.specs.InStep.{IsStore, IsStoreOf};
 ghost use Rattle.recovery.specs.StoreOfDisk.{store_of_disk};
-ghost use Rattle.cleaner.specs.Steps.{Step, ArePlayed, plays, trees_in_turn};
 ghost use Rattle.engine.specs.Batch.{refusal_by};
 ghost use Rattle.engine.specs.Batches.{replies_in_turn, map_in_turn, tree_in_turn};
-ghost use Rattle.engine.specs.Steps.{batching};
+ghost use Rattle.engine.specs.Steps.{Step, HaveWords, ArePlayed, batching, plays};
 
-use cleaner::step_laws::steps_are_played_one_by_one;
+use crate::step_laws::steps_are_played_one_by_one;
 use climb_plan::laws::{
     the_log_states_stay_true, the_plan_holds_the_map_after_the_commands,
     the_plan_of_a_proper_store_is_proper, what_the_log_has_of_a_page_stays_true,
@@ -52,10 +50,13 @@ pub fn batches_are_planned_in_turn<A: Allocator>()
     the_log_states_stay_true::<A>();
 }
 
-/// A batch that isn't refused leaves a store in step with the bytes of its disk, which it doesn't touch.
+/// A batch that isn't refused leaves a store in step with the bytes of its disk, which it doesn't touch; and one as every store
+/// is, whatever its disk does. The root's page id is a number of 64 bits, as it is in memory.
 pub fn a_batch_stays_in_step<A: Allocator>()
-    ensures { (s : Settings) (st : Store) (file : Bytes) (cs : List (Command A)) → first_bad_field s ≡ None → IsStoreOf s st file →
-        refusal_by s st.tree cs ≡ None → HasWordPids (planned_tree s st.tree cs) → IsStoreOf s (plan s st cs) file }
+    ensures step { (s : Settings) (st : Store) (file : Bytes) (cs : List (Command A)) → IsStoreOf s st file →
+        refusal_by s st.tree cs ≡ None → (planned_tree s st.tree cs).root < 2 ^ 64 → IsStoreOf s (plan s st cs) file }
+    ensures kept { (s : Settings) (st : Store) (cs : List (Command A)) → IsStore s st →
+        refusal_by s st.tree cs ≡ None → (planned_tree s st.tree cs).root < 2 ^ 64 → IsStore s (plan s st cs) }
 {
     the_plan_holds_the_map_after_the_commands::<A>();
     the_plan_of_a_proper_store_is_proper::<A>();
@@ -64,12 +65,12 @@ pub fn a_batch_stays_in_step<A: Allocator>()
 }
 
 /// Batches, flushes and cleans, one after the other, up to the first that is refused: the replies are those of an ordered map, and the
-/// disk stands for the store of the last flush, with the head, the tail and the number that there are now. The page ids of the
-/// trees on the way are numbers of 64 bits, as all are in memory.
+/// disk stands for the store of the last flush, with the head, the tail and the number that there are now. The numbers on
+/// the way have 64 bits, as all have in memory.
 pub fn steps_answer_as_a_map_and_are_read_back<A: Allocator>()
-    ensures { (s : Settings) (st on_disk : Store) (file : Bytes) (steps : List (Step A)) → first_bad_field s ≡ None → IsStoreOf s st file →
+    ensures { (s : Settings) (st on_disk : Store) (file : Bytes) (steps : List (Step A)) → IsStoreOf s st file →
         store_of_disk file ≡ Ok (s, on_disk) →
-        AllByRecursion HasWordPids (trees_in_turn (batching s) st.tree (take (length (plays (batching s) s st file steps).answers) steps)) →
+        HaveWords (batching s) s st.tree (take (length (plays (batching s) s st file steps).answers) steps) →
         ArePlayed (batching s) s st.tree on_disk.tree steps (plays (batching s) s st file steps) }
 {
     steps_are_played_one_by_one::<A>();

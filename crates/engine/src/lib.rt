@@ -9,6 +9,7 @@ mod leaves;
 #[cfg(test)]
 mod parts;
 mod refusal;
+pub mod step_laws;
 pub mod store;
 #[cfg(test)]
 mod tests;

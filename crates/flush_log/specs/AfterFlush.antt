@@ -8,12 +8,33 @@ use Rattle.mapping.specs.Tree.{Tree, Store}
 use Rattle.frame_codec.specs.Frame.{Frame}
 use Rattle.flush_log.specs.Commit.{Call, commit_calls, committed}
 use Rattle.flush_log.specs.FlushText.{flush_text, flushed}
-use Rattle.flush_log.specs.Layout.{tail_after, spans, is_full_for_flush}
+use Rattle.flush_log.specs.Layout.{Span, tail_after, spans, is_full_for_flush}
 use Rattle.flush_log.specs.Slot.{Slot, greatest}
+
+-- the slot that says of a store what a slot says
+abbrev pub slot_of : Store → Slot
+slot_of st = record { sequence = st.sequence; head = st.head; tail = st.tail; root = st.tree.root; height = st.tree.height }
 
 -- the slot for this text of a store
 abbrev pub flush_slot : Settings → Store → List Frame → Slot
 flush_slot s st text = record { sequence = suc st.sequence; head = st.head; tail = tail_after s st.tail text; root = st.tree.root; height = st.tree.height }
+
+-- a commit: its slot, and what is written of its text
+pub record Commit : Type 0 where
+  pub slot : Slot
+  pub spans : List Span
+
+-- the bytes after it
+abbrev pub file_after : Settings → Bytes → Commit → Bytes
+file_after s file m = committed s file m.spans m.slot
+
+-- the calls of the disk by which it is made
+abbrev pub calls_of : Settings → Bytes → Commit → List Call
+calls_of s file m = commit_calls s file m.spans m.slot
+
+-- the commit of this text of a store
+abbrev pub flush_commit : Settings → Store → List Frame → Commit
+flush_commit s st text = record { slot = flush_slot s st text; spans = spans s st.tail text }
 
 -- its number or its tail is above the greatest
 abbrev pub is_spent : Slot → Bool
@@ -23,6 +44,10 @@ is_spent t = nat_lt greatest t.sequence || nat_lt greatest t.tail
 abbrev pub store_after : Tree → Slot → Store
 store_after tree t = record { tree = tree; head = t.head; tail = t.tail; sequence = t.sequence }
 
+-- the store with another tree: a batch doesn't touch the log
+abbrev pub with_tree : Store → Tree → Store
+with_tree st tree = record { tree = tree; head = st.head; tail = st.tail; sequence = st.sequence }
+
 -- why a commit is refused: its numbers are spent, or the log is full. Else the store and the bytes after it.
 abbrev pub after_commit : Slot → Bool → Store → Bytes → Result (Store × Bytes) Fault
 after_commit t is_full st file = if is_spent t then Err Spent else (if is_full then Err Full else Ok (st, file))
@@ -31,8 +56,8 @@ after_commit t is_full st file = if is_spent t then Err Spent else (if is_full t
 abbrev pub after_text : Settings → Store → Bytes → List Frame → Result (Store × Bytes) Fault
 after_text s st file [] = Ok (st, file)
 after_text s st file (f ∷ fs) =
-    let t : Slot = flush_slot s st (f ∷ fs) in
-    after_commit t (is_full_for_flush s t.head t.tail) (store_after (flushed st.tree) t) (committed s file (spans s st.tail (f ∷ fs)) t)
+    let m : Commit = flush_commit s st (f ∷ fs) in
+    after_commit m.slot (is_full_for_flush s m.slot.head m.slot.tail) (store_after (flushed st.tree) m.slot) (file_after s file m)
 
 -- what a flush leaves of a store and of the bytes of its disk, or why it is refused
 abbrev pub after_flush : Settings → Store → Bytes → Result (Store × Bytes) Fault
@@ -43,7 +68,7 @@ after_flush s st file = after_text s st file (flush_text st.tree)
 -- the calls by which a text of a store is written: none for an empty one
 abbrev pub text_calls : Settings → Store → Bytes → List Frame → List Call
 text_calls s st file [] = []
-text_calls s st file (f ∷ fs) = commit_calls s file (spans s st.tail (f ∷ fs)) (flush_slot s st (f ∷ fs))
+text_calls s st file (f ∷ fs) = calls_of s file (flush_commit s st (f ∷ fs))
 
 -- the calls of a flush
 abbrev pub flush_calls : Settings → Store → Bytes → List Call

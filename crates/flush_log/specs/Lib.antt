@@ -10,4 +10,3 @@ pub mod Segments
 pub mod SettingsBlock
 pub mod Slot
 pub mod Standing
-pub mod WordPids

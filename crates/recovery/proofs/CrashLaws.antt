@@ -6,7 +6,7 @@ use Rattle.mapping.specs.Tree.{Tree, Store}
 use Rattle.frame_codec.specs.Frame.{Frame}
 use Rattle.flush_log.specs.AfterFlush.{flush_slot, store_after, after_flush, text_calls, flush_calls}
 use Rattle.flush_log.specs.Commit.{HasRoom, MayLeave, LeftDuring, commit_calls, committed}
-use Rattle.flush_log.specs.FlushText.{flush_text, flushed}
+use Rattle.flush_log.specs.FlushText.{flush_text, HasFrames, flushed}
 use Rattle.flush_log.specs.Layout.{spans, is_full_for_flush}
 use Rattle.flush_log.specs.Slot.{Slot}
 use Rattle.flush_log.proofs.OutcomeLaws.{text-crash}
@@ -37,7 +37,7 @@ none_left : (k : ℕ) (file c : List ℕ) → MayLeave (take k []) file (λ d. d
 none_left zero file c h = h
 none_left (suc k) file c h = h
 
-module _ (s : Settings) (file c : List ℕ) (tree : Tree) (on_disk : Store) (by : StandsBy s file on_disk) (is : IsStoreOf s (store_after tree by.slot) file) where
+module _ (s : Settings) (file c : List ℕ) (tree : Tree) (on_disk : Store) (by : StandsBy s file on_disk) (within : HasFrames s tree) where
   by_text : (text : List Frame) → flush_text tree ≡ text → (now : Store) (bytes : List ℕ) → after_flush s (store_after tree by.slot) file ≡ left now bytes → LeftDuring (text_calls s (store_after tree by.slot) file text) file c
       → (store_of_disk c ≡ store_of_disk file) ⊎ (c ≡ bytes)
   by_text [] e now bytes h during = inl (ap store_of_disk (none_left during.0 file c during.1))
@@ -45,7 +45,7 @@ module _ (s : Settings) (file c : List ℕ) (tree : Tree) (on_disk : Store) (by 
       let some : flush_text tree ≢ [] = (λ none. (let x : f ∷ fs ≡ [] = sym e ∙ none in absurd (cc))) in
       let t : Slot = flush_slot s (store_after tree by.slot) (flush_text tree) in
       let done = commit-done t (is_full_for_flush s t.head t.tail) (store_after (flushed tree) t) now (committed s file (spans s by.slot.tail (flush_text tree)) t) bytes (sym (text-some s (store_after tree by.slot) file (flush_text tree) some) ∙ h) in
-      let room = room_for s file tree by.slot by.found by.reads is.proper is.words is.height done.room in
+      let room = room_for s tree by.slot within file by.found by.reads done.room in
       let calls : LeftDuring (commit_calls s file (spans s by.slot.tail (flush_text tree)) t) file c =
       subst (λ (text : List Frame). LeftDuring (commit_calls s file (spans s by.slot.tail text) (flush_slot s (store_after tree by.slot) text)) file c) (sym e) during in
       elim (commit-crash s file c on_disk by (flush_text tree) t room refl calls) [
@@ -54,15 +54,15 @@ module _ (s : Settings) (file c : List ℕ) (tree : Tree) (on_disk : Store) (by 
       ]
 
 -- a crash at any moment of a flush leaves the store that the disk stood for, or all that the flush leaves
-pub flush-crash : (s : Settings) (st now : Store) (file bytes c : List ℕ) → IsStoreOf s st file → after_flush s st file ≡ left now bytes → LeftDuring (flush_calls s st file) file c
+pub flush-crash : (s : Settings) (st now : Store) (file bytes c : List ℕ) → IsStoreOf s st file → HasFrames s st.tree → after_flush s st file ≡ left now bytes → LeftDuring (flush_calls s st file) file c
     → (store_of_disk c ≡ store_of_disk file) ⊎ (c ≡ bytes)
-flush-crash s st now file bytes c is h during =
+flush-crash s st now file bytes c is within h during =
     let (on_disk, read, are) = is.step in
     let by : StandsBy s file on_disk = store-stands s file on_disk read in
     let slot : Slot = by.slot in
     let store = by.store in
     let same : store_after st.tree slot ≡ st =
     same_store st slot.head slot.tail slot.sequence (are.head ∙ ap (λ (x : Store). x.head) store) (are.tail ∙ ap (λ (x : Store). x.tail) store) (are.sequence ∙ ap (λ (x : Store). x.sequence) store) in
-    by_text s file c st.tree on_disk by (subst (λ (x : Store). IsStoreOf s x file) (sym same) is) (flush_text st.tree) refl now bytes
+    by_text s file c st.tree on_disk by within (flush_text st.tree) refl now bytes
     (ap (λ (x : Store). after_flush s x file) same ∙ h)
     (subst (λ (x : Store). LeftDuring (text_calls s x file (flush_text st.tree)) file c) (sym same) during)

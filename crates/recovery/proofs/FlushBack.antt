@@ -1,33 +1,30 @@
 -- The disk after a flush stands for the store after it.
-use Rattle.std.specs.Prelude.{◌≡◌, ◌≢◌, ◌-◌, ℕ, ◌+◌, ◌≤◌, Bool, true, false, nat_lt, if◌then◌else◌, List, [], ◌∷◌, ◌++◌, Result, Ok, Err}
+use Rattle.std.specs.Prelude.{◌≡◌, ◌≢◌, ◌-◌, ℕ, ◌+◌, ◌≤◌, Bool, true, false, nat_lt, ◌<◌, ◌^◌, if◌then◌else◌, List, [], ◌∷◌, ◌++◌, None, Result, Ok, Err}
 use Rattle.std.proofs.Common.{refl, sym, ap, ◌∙◌, arith, subst}
 use Rattle.std.proofs.lemmas.Bool.{or_parts, ltb-false, leb-false}
 use Rattle.keys.specs.declared.fault.Fault.{Fault}
 use Rattle.keys.specs.declared.fault.Fault.TheVariants.{Spent, Full}
 use Rattle.keys.specs.declared.settings.Settings.{Settings}
-use Rattle.mapping.specs.Proper.{AreLogsTrue, IsProper}
 use Rattle.mapping.specs.Tree.{Tree, Store}
 use Rattle.frame_codec.specs.Frame.{Frame}
-use Rattle.flush_log.specs.AfterFlush.{flush_slot, is_spent, store_after, after_commit, after_text, after_flush}
+use Rattle.flush_log.specs.AfterFlush.{slot_of, flush_slot, is_spent, store_after, after_commit, after_text, after_flush}
 use Rattle.flush_log.specs.Commit.{HasRoom, committed}
-use Rattle.flush_log.specs.FlushText.{flush_text, flushed}
+use Rattle.flush_log.specs.FlushText.{flush_text, HasFrames, flushed}
 use Rattle.flush_log.specs.Layout.{found_in_text, spans, is_full_for_flush}
 use Rattle.flush_log.specs.Reading.{Found}
 use Rattle.flush_log.specs.Segments.{last_segment}
 use Rattle.flush_log.specs.Slot.{Slot, greatest, is_slot}
-use Rattle.flush_log.specs.WordPids.{HasWordPids}
+use Rattle.keys.specs.Limits.{first_bad_field}
 use Rattle.flush_log.proofs.FitLaws.{are_sized}
 use Rattle.flush_log.proofs.LayoutLaws.{split-tail}
 use Rattle.flush_log.proofs.NextSlotLaws.{next_good}
-use Rattle.flush_log.proofs.OutcomeLaws.{slot_good, text-fits, after-text, after-settings, after-slot}
+use Rattle.flush_log.proofs.OutcomeLaws.{text-fits, after-text, after-settings, after-slot}
 use Rattle.flush_log.proofs.SettingsLaws.{store_settings-are}
-use Rattle.flush_log.proofs.SlotLaws.{IsSlot}
-use Rattle.recovery.specs.InStep.{AreInStep, IsInStep}
+use Rattle.flush_log.proofs.SlotLaws.{IsSlot, slot-is}
+use Rattle.recovery.specs.InStep.{AreInStep, IsStore, IsStoreOf}
 use Rattle.recovery.specs.StoreOfDisk.{store_of_disk}
 use Rattle.recovery.proofs.FlushLaws.{known-frames, flush-read}
-use Rattle.recovery.proofs.StepLaws.{itself-in_step}
 use Rattle.recovery.proofs.StoreLaws.{Reads, StandsBy, store-stands}
-use Rattle.recovery.proofs.TextWithin.{text-within}
 
 -- ---- a commit that is not refused
 
@@ -66,7 +63,7 @@ text-some s st file (f ∷ fs) some = refl
 
 -- ---- what is read afterwards
 
-module _ (s : Settings) (file : List ℕ) (tree : Tree) (slot : Slot) (found : List Found) (reads : Reads s file slot found) (proper : IsProper s tree) (words : HasWordPids tree) (low : tree.height ≤ 64) where
+module _ (s : Settings) (tree : Tree) (slot : Slot) (within : HasFrames s tree) where
   abbrev text : List Frame
   text = flush_text tree
 
@@ -74,35 +71,40 @@ module _ (s : Settings) (file : List ℕ) (tree : Tree) (slot : Slot) (found : L
   abbrev next : Slot
   next = flush_slot s (store_after tree slot) text
 
-  pub room_for : is_full_for_flush s slot.head next.tail ≡ false → HasRoom s file slot text
-  room_for free =
-      let (block, good, whole) = store_settings-are file s reads.settings in
-      let sized = are_sized s good in
-      let some = sized.least_count in
-      let last = leb-false (slot.head + s.segments - 1) (last_segment s next.tail) free in
-      record { good = good; whole = whole; slot = reads.slot; within = text-within s tree proper words; free = omega (arith, last, some) }
-
-  pub flush-reads : next.sequence ≤ greatest → next.tail ≤ greatest → is_full_for_flush s slot.head next.tail ≡ false
-      → Reads s (committed s file (spans s slot.tail text) next) next (found ++ found_in_text s slot.tail text)
-  flush-reads number small free =
-      let room = room_for free in
-      let good = room.good in
+  -- where its numbers aren't spent and a segment stays free, it is well formed
+  pub next-good : first_bad_field s ≡ None → IsSlot s slot.sequence slot → tree.root < 2 ^ 64 → 1 ≤ tree.height → tree.height ≤ 64
+      → next.sequence ≤ greatest → next.tail ≤ greatest → is_full_for_flush s slot.head next.tail ≡ false → is_slot s next.sequence next ≡ true
+  next-good good was root some low number small free =
       let sized = are_sized s good in
       let size = sized.least_size in
-      let whole = room.whole in
-      let fits = text-fits s file slot text room in
-      let was : IsSlot s slot.sequence slot = slot_good s file slot text room in
-      let last = room.free in
-      let is : is_slot s next.sequence next ≡ true =
-      next_good s slot.sequence slot next text good was room.within refl number refl small (omega arith) (head_low was size) last words.root proper.tree.some low in
-      record {
-        settings = after-settings s file (spans s slot.tail text) next (omega (arith, whole)) fits ∙ reads.settings;
-        slot = after-slot s file (spans s slot.tail text) next (omega (arith, whole)) fits slot (omega (arith, size)) reads.slot refl is;
-        log = after-text s file slot text room next found reads.log;
-      }
-    where
-      head_low : IsSlot s slot.sequence slot → 256 ≤ s.seg_size → slot.head ≤ last_segment s slot.tail
-      head_low was size = let behind = was.behind in (split-tail s slot.head slot.tail (omega arith) (omega arith)).from
+      let count = sized.least_count in
+      let behind = was.behind in
+      let from = (split-tail s slot.head slot.tail (omega arith) (omega arith)).from in
+      let last = leb-false (slot.head + s.segments - 1) (last_segment s next.tail) free in
+      next_good s slot.sequence slot next text good was within refl number refl small (omega arith) from (omega (arith, last, count)) root some low
+
+  module _ (file : List ℕ) (found : List Found) (reads : Reads s file slot found) where
+    pub room_for : is_full_for_flush s slot.head next.tail ≡ false → HasRoom s file slot text
+    room_for free =
+        let (block, good, whole) = store_settings-are file s reads.settings in
+        let sized = are_sized s good in
+        let some = sized.least_count in
+        let last = leb-false (slot.head + s.segments - 1) (last_segment s next.tail) free in
+        record { good = good; whole = whole; slot = reads.slot; within = within; free = omega (arith, last, some) }
+
+    pub flush-reads : is_slot s next.sequence next ≡ true → is_full_for_flush s slot.head next.tail ≡ false
+        → Reads s (committed s file (spans s slot.tail text) next) next (found ++ found_in_text s slot.tail text)
+    flush-reads is free =
+        let room = room_for free in
+        let sized = are_sized s room.good in
+        let size = sized.least_size in
+        let whole = room.whole in
+        let fits = text-fits s file slot text room in
+        record {
+          settings = after-settings s file (spans s slot.tail text) next (omega (arith, whole)) fits ∙ reads.settings;
+          slot = after-slot s file (spans s slot.tail text) next (omega (arith, whole)) fits slot (omega (arith, size)) reads.slot refl is;
+          log = after-text s file slot text room next found reads.log;
+        }
 
 -- ---- the law
 
@@ -112,39 +114,44 @@ same_store st h l n e f g =
     ∙ ap (λ (x : ℕ). (let y : Store = record { tree = st.tree; head = st.head; tail = x; sequence = n } in y)) (sym f)
     ∙ ap (λ (x : ℕ). (let y : Store = record { tree = st.tree; head = st.head; tail = st.tail; sequence = x } in y)) (sym g)
 
--- the disk stands for that store, and it is in step with it
-abbrev pub StandsFor : Settings → Store → List ℕ → Type 0
-StandsFor s now bytes = (store_of_disk bytes ≡ Ok (s, now)) × IsInStep s now bytes
+-- the slot of a flush of a store is well formed
+pub next-good_of : (s : Settings) (st : Store) → IsStore s st → HasFrames s st.tree → (let t : Slot = flush_slot s st (flush_text st.tree) in
+    t.sequence ≤ greatest → t.tail ≤ greatest → is_full_for_flush s t.head t.tail ≡ false → is_slot s t.sequence t ≡ true)
+next-good_of s st is within number small free =
+    let was : IsSlot s st.sequence (slot_of st) = slot-is s st.sequence (slot_of st) is.slot in
+    next-good s st.tree (slot_of st) within is.good was was.root was.height.0 was.height.1 number small free
 
-module _ (s : Settings) (file : List ℕ) (tree : Tree) (on_disk : Store) (by : StandsBy s file on_disk) (proper : IsProper s tree) (logs : AreLogsTrue tree) (words : HasWordPids tree) (low : tree.height ≤ 64) where
+module _ (s : Settings) (file : List ℕ) (tree : Tree) (on_disk : Store) (by : StandsBy s file on_disk) (is : IsStore s (store_after tree by.slot)) (within : HasFrames s tree) where
   abbrev flushed_store : Store
   flushed_store = store_after (flushed tree) (flush_slot s (store_after tree by.slot) (flush_text tree))
 
-  stands : AreInStep (store_after tree by.slot) on_disk → (bytes : List ℕ) → Reads s bytes (flush_slot s (store_after tree by.slot) (flush_text tree)) (by.found ++ found_in_text s by.slot.tail (flush_text tree)) → StandsFor s flushed_store bytes
-  stands step bytes reads =
-      let is = flush-read s (store_after tree by.slot) bytes by.found proper (known-frames s (store_after tree by.slot) on_disk file proper logs by step) reads in
-      (is, (flushed_store, is, itself-in_step tree.pages tree.root tree.height (flush_slot s (store_after tree by.slot) (flush_text tree))))
+  stands : AreInStep (store_after tree by.slot) on_disk → (bytes : List ℕ) → Reads s bytes (flush_slot s (store_after tree by.slot) (flush_text tree)) (by.found ++ found_in_text s by.slot.tail (flush_text tree)) → store_of_disk bytes ≡ Ok (s, flushed_store)
+  stands step bytes reads = flush-read s (store_after tree by.slot) bytes by.found is.proper (known-frames s (store_after tree by.slot) on_disk file is.proper is.logs by step) reads
 
   -- a flush that writes something
-  back : flush_text tree ≢ [] → AreInStep (store_after tree by.slot) on_disk → (now : Store) (bytes : List ℕ) → after_flush s (store_after tree by.slot) file ≡ left now bytes → StandsFor s now bytes
+  back : flush_text tree ≢ [] → AreInStep (store_after tree by.slot) on_disk → (now : Store) (bytes : List ℕ) → after_flush s (store_after tree by.slot) file ≡ left now bytes → store_of_disk bytes ≡ Ok (s, now)
   back some step now bytes h =
       let t : Slot = flush_slot s (store_after tree by.slot) (flush_text tree) in
       let full : Bool = is_full_for_flush s t.head t.tail in
       let file' : List ℕ = committed s file (spans s by.slot.tail (flush_text tree)) t in
       let done = commit-done t full flushed_store now file' bytes (sym (text-some s (store_after tree by.slot) file (flush_text tree) some) ∙ h) in
-      let reads = flush-reads s file tree by.slot by.found by.reads proper words low done.number done.tail done.room in
-      subst (λ (x : Store). StandsFor s x bytes) (sym done.store) (subst (λ (x : List ℕ). StandsFor s flushed_store x) (sym done.disk) (stands step file' reads))
+      let good = next-good_of s (store_after tree by.slot) is within done.number done.tail done.room in
+      let reads = flush-reads s tree by.slot within file by.found by.reads good done.room in
+      subst (λ (x : Store). store_of_disk bytes ≡ answer x) (sym done.store) (subst (λ (x : List ℕ). store_of_disk x ≡ answer flushed_store) (sym done.disk) (stands step file' reads))
+    where
+      answer : Store → Result (Settings × Store) Fault
+      answer x = Ok (s, x)
 
-module _ (s : Settings) (st : Store) (file : List ℕ) (proper : IsProper s st.tree) (logs : AreLogsTrue st.tree) (words : HasWordPids st.tree) (low : st.tree.height ≤ 64) (step : IsInStep s st file) where
+module _ (s : Settings) (st : Store) (file : List ℕ) (is : IsStoreOf s st file) (within : HasFrames s st.tree) where
   -- what was flushed is what is read
-  pub flush-back : flush_text st.tree ≢ [] → (now : Store) (bytes : List ℕ) → after_flush s st file ≡ left now bytes → StandsFor s now bytes
+  pub flush-back : flush_text st.tree ≢ [] → (now : Store) (bytes : List ℕ) → after_flush s st file ≡ left now bytes → store_of_disk bytes ≡ Ok (s, now)
   flush-back some now bytes h =
-      let (on_disk, is, are) = step in
-      let by : StandsBy s file on_disk = store-stands s file on_disk is in
+      let (on_disk, read, are) = is.step in
+      let by : StandsBy s file on_disk = store-stands s file on_disk read in
       let slot : Slot = by.slot in
       let store = by.store in
       let same : store_after st.tree slot ≡ st =
       same_store st slot.head slot.tail slot.sequence (are.head ∙ ap (λ (x : Store). x.head) store) (are.tail ∙ ap (λ (x : Store). x.tail) store) (are.sequence ∙ ap (λ (x : Store). x.sequence) store) in
-      back s file st.tree on_disk by proper logs words low some
+      back s file st.tree on_disk by (subst (λ (x : Store). IsStore s x) (sym same) is.is) within some
       (subst (λ (x : Store). AreInStep x on_disk) (sym same) are) now bytes
       (ap (λ (x : Store). after_flush s x file) same ∙ h)

@@ -48,7 +48,7 @@ frames-text s tail found text =
 
 -- ---- the tree that is written
 
-proper-flushed : (s : Settings) (t : Tree) → IsProper s t → IsProper s (flushed t)
+pub proper-flushed : (s : Settings) (t : Tree) → IsProper s t → IsProper s (flushed t)
 proper-flushed s t p = record { tree = record { rising = p.tree.rising; some = p.tree.some }; held = p.held; levels = p.levels; fit = p.fit }
 
 finding-flushed : (s : Settings) (t : Tree) → IsProper s t → finding s (flushed t) ≡ None

@@ -1,26 +1,27 @@
 -- What flushes and batches leave of a store that is one as every store is.
-use Rattle.std.specs.Prelude.{◌≡◌, ◌≢◌, ℕ, ◌≤◌, List, [], ◌∷◌, Ok}
+use Rattle.std.specs.Prelude.{◌≡◌, ◌≢◌, ℕ, ◌^◌, ◌<◌, ◌≤◌, List, [], ◌∷◌, Ok}
 use Rattle.std.proofs.Common.{refl, sym, ap, ◌∙◌, subst}
 use Rattle.keys.specs.declared.settings.Settings.{Settings}
 use Rattle.mapping.specs.Proper.{AreLogsTrue, IsProper}
 use Rattle.mapping.specs.Tree.{Tree, Store}
 use Rattle.frame_codec.specs.Frame.{Frame}
-use Rattle.flush_log.specs.AfterFlush.{store_after, flush_slot, after_text, after_flush}
+use Rattle.flush_log.specs.AfterFlush.{slot_of, store_after, flush_slot, after_text, after_flush}
 use Rattle.flush_log.specs.Commit.{committed}
-use Rattle.flush_log.specs.FlushText.{flush_text, flushed}
+use Rattle.flush_log.specs.FlushText.{flush_text, HasFrames, flushed}
 use Rattle.flush_log.specs.Layout.{spans, is_full_for_flush}
 use Rattle.flush_log.specs.Slot.{Slot}
-use Rattle.flush_log.specs.WordPids.{HasWordPids}
-use Rattle.recovery.specs.InStep.{KeepsLogged, IsStoreOf}
+use Rattle.flush_log.proofs.SlotLaws.{IsSlot, slot-is, is-slot}
+use Rattle.recovery.specs.InStep.{KeepsLogged, IsStore, IsStoreOf}
 use Rattle.recovery.specs.StoreOfDisk.{store_of_disk}
-use Rattle.recovery.proofs.FlushBack.{left, commit-done, flush-back}
-use Rattle.recovery.proofs.NothingDue.{nothing-due, all-written}
+use Rattle.recovery.proofs.FlushBack.{IsCommitted, left, commit-done, next-good_of, flush-back}
+use Rattle.recovery.proofs.FlushLaws.{proper-flushed}
+use Rattle.recovery.proofs.NothingDue.{nothing-due, all-written, logs-in_log}
 use Rattle.recovery.proofs.ReadStore.{store-read}
 use Rattle.recovery.proofs.StepLaws.{kept-in_step}
 
 -- ---- a flush
 
-module _ (s : Settings) (st : Store) (file : List ℕ) (is : IsStoreOf s st file) where
+module _ (s : Settings) (st : Store) (file : List ℕ) (is : IsStoreOf s st file) (within : HasFrames s st.tree) where
   -- nothing is written for an empty text
   none_by : (now : Store) (bytes : List ℕ) → store_of_disk file ≡ Ok (s, st) → left st file ≡ left now bytes → store_of_disk bytes ≡ Ok (s, now)
   none_by now bytes here h =
@@ -33,31 +34,80 @@ module _ (s : Settings) (st : Store) (file : List ℕ) (is : IsStoreOf s st file
   read_by : (text : List Frame) → flush_text st.tree ≡ text → (now : Store) (bytes : List ℕ) → after_flush s st file ≡ left now bytes → store_of_disk bytes ≡ Ok (s, now)
   read_by [] e now bytes h =
       let nothing : left st file ≡ left now bytes = sym (ap (after_text s st file) e) ∙ h in
-      none_by now bytes (all-written s st file is.proper is.logs is.step e) nothing
-  read_by (f ∷ fs) e now bytes h =
-      (flush-back s st file is.proper is.logs is.words is.height is.step (λ none. some_frame f fs (sym e ∙ none)) now bytes h).0
+      none_by now bytes (all-written s st file is.is.proper is.is.logs is.step e) nothing
+  read_by (f ∷ fs) e now bytes h = flush-back s st file is within (λ none. some_frame f fs (sym e ∙ none)) now bytes h
 
   -- the disk after a flush stands for the store after it
   pub flush-read_back : (now : Store) (bytes : List ℕ) → after_flush s st file ≡ left now bytes → (store_of_disk bytes ≡ Ok (s, now)) × IsStoreOf s now bytes
   flush-read_back now bytes h = let read = read_by (flush_text st.tree) refl now bytes h in (read, store-read s now bytes read)
 
--- after a flush the tree is the one that its disk has
-pub flushed-tree : (s : Settings) (st now : Store) (file bytes : List ℕ) → IsStoreOf s st file → after_flush s st file ≡ left now bytes → now.tree ≡ flushed st.tree
-flushed-tree s st now file bytes is h = of (flush_text st.tree) refl h
+-- what a flush leaves of a store: all as it was, where nothing was to be written; else what was committed
+data IsFlushed (s : Settings) (st now : Store) (file bytes : List ℕ) : Type 0 where
+  Nothing : flush_text st.tree ≡ [] → now ≡ st → IsFlushed s st now file bytes
+  Something : (let t : Slot = flush_slot s st (flush_text st.tree) in
+      IsCommitted t (is_full_for_flush s t.head t.tail) (store_after (flushed st.tree) t) (committed s file (spans s st.tail (flush_text st.tree)) t) now bytes) → IsFlushed s st now file bytes
+
+is_flushed : (s : Settings) (st now : Store) (file bytes : List ℕ) (text : List Frame) → flush_text st.tree ≡ text → after_text s st file text ≡ left now bytes → IsFlushed s st now file bytes
+is_flushed s st now file bytes [] none h =
+    let same : (let p : Store × List ℕ = (now, bytes) in p ≡ (st, file)) = cc in
+    Nothing none (ap (λ (p : Store × List ℕ). p.0) same)
+is_flushed s st now file bytes (f ∷ fs) some h =
+    let t : Slot = flush_slot s st (f ∷ fs) in
+    let done = commit-done t (is_full_for_flush s t.head t.tail) (store_after (flushed st.tree) t) now (committed s file (spans s st.tail (f ∷ fs)) t) bytes h in
+    Something (subst (λ (text : List Frame). Done text) (sym some) done)
   where
-    of : (text : List Frame) → flush_text st.tree ≡ text → after_text s st file text ≡ left now bytes → now.tree ≡ flushed st.tree
-    of [] none e =
-        let same : (let p : Store × List ℕ = (now, bytes) in p ≡ (st, file)) = cc in
-        ap (λ (p : Store × List ℕ). p.0.tree) same ∙ sym (nothing-due st.tree is.proper.tree.rising is.logs none)
-    of (f ∷ fs) some e =
-        let t : Slot = flush_slot s st (f ∷ fs) in
-        ap (λ (x : Store). x.tree) (commit-done t (is_full_for_flush s t.head t.tail) (store_after (flushed st.tree) t) now (committed s file (spans s st.tail (f ∷ fs)) t) bytes e).store
+    Done : List Frame → Type 0
+    Done text = (let t : Slot = flush_slot s st text in IsCommitted t (is_full_for_flush s t.head t.tail) (store_after (flushed st.tree) t) (committed s file (spans s st.tail text) t) now bytes)
+
+-- after a flush the tree is the one that its disk has
+pub flushed-tree : (s : Settings) (st now : Store) (file bytes : List ℕ) → IsStore s st → after_flush s st file ≡ left now bytes → now.tree ≡ flushed st.tree
+flushed-tree s st now file bytes is h = of (is_flushed s st now file bytes (flush_text st.tree) refl h)
+  where
+    of : IsFlushed s st now file bytes → now.tree ≡ flushed st.tree
+    of (Nothing none same) = ap (λ (x : Store). x.tree) same ∙ sym (nothing-due st.tree is.proper.tree.rising is.logs none)
+    of (Something done) = ap (λ (x : Store). x.tree) done.store
+
+-- a flush keeps a store one as every store is, whatever its disk does
+pub flush-kept : (s : Settings) (st now : Store) (file bytes : List ℕ) → IsStore s st → HasFrames s st.tree → after_flush s st file ≡ left now bytes → IsStore s now
+flush-kept s st now file bytes is within h = of (is_flushed s st now file bytes (flush_text st.tree) refl h)
+  where
+    of : IsFlushed s st now file bytes → IsStore s now
+    of (Nothing none same) = subst (λ (x : Store). IsStore s x) (sym same) is
+    of (Something done) =
+        subst (λ (x : Store). IsStore s x) (sym done.store) (record {
+          good = is.good;
+          proper = proper-flushed s st.tree is.proper;
+          logs = logs-in_log st.tree.pages st.tree.root st.tree.height is.proper.tree.rising;
+          slot = next-good_of s st is within done.number done.tail done.room;
+        })
 
 -- ---- a batch
 
--- a tree that keeps what the log has, in the place of the one there was
-pub batch-kept : (s : Settings) (st : Store) (new : Tree) (file : List ℕ) → IsStoreOf s st file → IsProper s new → AreLogsTrue new → HasWordPids new → new.height ≤ 64 → KeepsLogged st.tree new
+-- a tree in the place of the one there was
+pub batch-kept : (s : Settings) (st : Store) (new : Tree) → IsStore s st → IsProper s new → AreLogsTrue new → new.root < 2 ^ 64 → new.height ≤ 64
+    → IsStore s (record { tree = new; head = st.head; tail = st.tail; sequence = st.sequence })
+batch-kept s st new is proper logs root height =
+    let was : IsSlot s st.sequence (slot_of st) = slot-is s st.sequence (slot_of st) is.slot in
+    let now : Store = record { tree = new; head = st.head; tail = st.tail; sequence = st.sequence } in
+    record {
+      good = is.good;
+      proper = proper;
+      logs = logs;
+      slot = is-slot s st.sequence (slot_of now) (record {
+        sequence = was.sequence;
+        own = was.own;
+        behind = was.behind;
+        tail = was.tail;
+        ends = was.ends;
+        last = was.last;
+        root = root;
+        height = (proper.tree.some, height);
+      });
+    }
+
+-- one that keeps what the log has stays in step
+pub batch-in_step : (s : Settings) (st : Store) (new : Tree) (file : List ℕ) → IsStoreOf s st file → IsProper s new → AreLogsTrue new → new.root < 2 ^ 64 → new.height ≤ 64 → KeepsLogged st.tree new
     → IsStoreOf s (record { tree = new; head = st.head; tail = st.tail; sequence = st.sequence }) file
-batch-kept s st new file is proper logs words height keeps =
+batch-in_step s st new file is proper logs root height keeps =
     let (on_disk, read, step) = is.step in
-    record { proper = proper; logs = logs; words = words; height = height; step = (on_disk, read, kept-in_step st new on_disk keeps step) }
+    record { is = batch-kept s st new is.is proper logs root height; step = (on_disk, read, kept-in_step st new on_disk keeps step) }

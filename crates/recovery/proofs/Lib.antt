@@ -20,4 +20,3 @@ pub mod StoreLaws
 pub mod TableLaws
 mod TellLaws
 pub mod TextLaws
-mod TextWithin

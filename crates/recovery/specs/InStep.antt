@@ -1,14 +1,16 @@
 -- When a store in memory is in step with the bytes of its disk: what it holds that the log says is what the log says.
-use Rattle.std.specs.Prelude.{◌≡◌, ◌↔◌, ℕ, ◌≤◌, Option, Some, None, Ok}
+use Rattle.std.specs.Prelude.{◌≡◌, ◌↔◌, ℕ, true, Option, Some, None, Ok}
 use Rattle.keys.specs.Bytes.{Bytes}
+use Rattle.keys.specs.Limits.{first_bad_field}
 use Rattle.keys.specs.declared.settings.Settings.{Settings}
 use Rattle.index_page.specs.Over.{IsPageOver}
 use Rattle.index_page.specs.Page.{PageOfKind}
 use Rattle.mapping.specs.Flushed.{page_depth}
 use Rattle.mapping.specs.Proper.{AreLogsTrue, IsProper}
-use Rattle.mapping.specs.Tree.{Tree, most_levels, Store, page_at, logged_of}
+use Rattle.mapping.specs.Tree.{Tree, Store, page_at, logged_of}
 use Rattle.mapping.specs.Tree.Logged.{No, Upto}
-use Rattle.flush_log.specs.WordPids.{HasWordPids}
+use Rattle.flush_log.specs.AfterFlush.{slot_of}
+use Rattle.flush_log.specs.Slot.{is_slot}
 use Rattle.recovery.specs.StoreOfDisk.{store_of_disk}
 
 -- the log has a page with k runs, and the page that there is has these runs, newer ones in front
@@ -29,13 +31,17 @@ pub record AreInStep (st on_disk : Store) : Type 0 where
 abbrev pub IsInStep : Settings → Store → Bytes → Type 0
 IsInStep s st file = (on_disk : Store) × (store_of_disk file ≡ Ok (s, on_disk)) × AreInStep st on_disk
 
--- what is true of every store and of the bytes of its disk: its tree is proper, what it knows of its log is true, its page ids
--- and its height are numbers that a slot and frames have room for, and it is in step
-pub record IsStoreOf (s : Settings) (st : Store) (file : Bytes) : Type 0 where
+-- what is true of every store, whatever its disk does: its settings are within their ranges, its tree is proper, what it knows
+-- of its log is true, and its numbers are those of a slot that is well formed
+pub record IsStore (s : Settings) (st : Store) : Type 0 where
+  pub good : first_bad_field s ≡ None
   pub proper : IsProper s st.tree
   pub logs : AreLogsTrue st.tree
-  pub words : HasWordPids st.tree
-  pub height : st.tree.height ≤ most_levels
+  pub slot : is_slot s st.sequence (slot_of st) ≡ true
+
+-- and of the bytes of a disk that does as it should: the store is in step with them
+pub record IsStoreOf (s : Settings) (st : Store) (file : Bytes) : Type 0 where
+  pub is : IsStore s st
   pub step : IsInStep s st file
 
 -- what a tree that came of another keeps of what its log has: the log has a page of the same pids; it has no more of any page;

@@ -1,36 +1,38 @@
 //! What the definitions of `specs/` mean. Each law is the contract of a function with an empty body.
-ghost use Rattle.std.specs.Prelude.{◌≡◌, ◌⊎◌, suc, ◌≤◌, false, None, Ok};
+ghost use Rattle.std.specs.Prelude.{◌≡◌, ◌⊎◌, suc, ◌^◌, ◌<◌, ◌≤◌, false, None, Ok};
 ghost use Rattle.keys.specs.Bytes.{Bytes};
 ghost use Rattle.keys.specs.Limits.{first_bad_field};
 ghost use Rattle.keys.specs.declared.settings.Settings.{Settings};
 ghost use Rattle.mapping.specs.Tree.{Tree, most_levels, Store};
 ghost use Rattle.mapping.specs.Proper.{AreLogsTrue, IsProper};
-ghost use Rattle.flush_log.specs.AfterFlush.{after_flush, flush_calls};
+ghost use Rattle.flush_log.specs.AfterFlush.{with_tree, after_flush, flush_calls};
 ghost use Rattle.flush_log.specs.Commit.{LeftDuring};
-ghost use Rattle.flush_log.specs.FlushText.{flushed};
+ghost use Rattle.flush_log.specs.FlushText.{HasFrames, flushed};
 ghost use Rattle.flush_log.specs.NewStore.{disk_of_new};
 ghost use Rattle.flush_log.specs.Overlay.{AgreeAt};
 ghost use Rattle.flush_log.specs.Segments.{HasSegments};
 ghost use Rattle.flush_log.specs.Slot.{is_open};
-ghost use Rattle.flush_log.specs.WordPids.{HasWordPids};
-ghost use Rattle.recovery.specs.InStep.{KeepsLogged, IsStoreOf};
+ghost use Rattle.recovery.specs.InStep.{KeepsLogged, IsStore, IsStoreOf};
 ghost use Rattle.recovery.specs.LookedAt.{IsInSlot, IsLookedAt};
 ghost use Rattle.recovery.specs.StoreOfDisk.{first_store, store_of_disk};
 
 /// What was flushed is what is read: the disk after a flush stands for the very store after it, which is one as every store
 /// is. Its tree is the one before, of which the log now has each page as it is, and nothing of any other pid. A flush that has
-/// nothing to write leaves store and disk, and so it is already.
+/// nothing to write leaves store and disk, and so it is already. The frames of its text are such as a store may have, which they are
+/// where page ids are numbers of 64 bits, as in memory. Whatever the disk does, the store stays one as every store is.
 pub fn what_was_flushed_is_what_is_read()
-    ensures read { (s : Settings) (st now : Store) (file bytes : Bytes) → IsStoreOf s st file → after_flush s st file ≡ Ok (now, bytes) →
-        (store_of_disk bytes ≡ Ok (s, now)) × IsStoreOf s now bytes }
-    ensures tree { (s : Settings) (st now : Store) (file bytes : Bytes) → IsStoreOf s st file → after_flush s st file ≡ Ok (now, bytes) →
+    ensures read { (s : Settings) (st now : Store) (file bytes : Bytes) → IsStoreOf s st file → HasFrames s st.tree →
+        after_flush s st file ≡ Ok (now, bytes) → (store_of_disk bytes ≡ Ok (s, now)) × IsStoreOf s now bytes }
+    ensures tree { (s : Settings) (st now : Store) (file bytes : Bytes) → IsStore s st → after_flush s st file ≡ Ok (now, bytes) →
         now.tree ≡ flushed st.tree }
+    ensures kept { (s : Settings) (st now : Store) (file bytes : Bytes) → IsStore s st → HasFrames s st.tree →
+        after_flush s st file ≡ Ok (now, bytes) → IsStore s now }
 {}
 
 /// A crash at any moment of a flush leaves a disk that stands for the store that it stood for, or all that the flush leaves.
 pub fn a_crash_in_a_flush_leaves_the_store_before_or_after()
-    ensures { (s : Settings) (st now : Store) (file bytes c : Bytes) → IsStoreOf s st file → after_flush s st file ≡ Ok (now, bytes) →
-        LeftDuring (flush_calls s st file) file c → (store_of_disk c ≡ store_of_disk file) ⊎ (c ≡ bytes) }
+    ensures { (s : Settings) (st now : Store) (file bytes c : Bytes) → IsStoreOf s st file → HasFrames s st.tree →
+        after_flush s st file ≡ Ok (now, bytes) → LeftDuring (flush_calls s st file) file c → (store_of_disk c ≡ store_of_disk file) ⊎ (c ≡ bytes) }
 {}
 
 /// The store that a disk stands for is one as every store is: proper, and in step with that disk, whatever the disk's bytes are.
@@ -52,9 +54,12 @@ pub fn a_new_disk_stands_for_the_first_store()
     ensures { (s : Settings) (disk : Bytes) → first_bad_field s ≡ None → HasSegments s disk → store_of_disk (disk_of_new s disk) ≡ Ok (s, first_store) }
 {}
 
-/// A store stays in step with its disk when its tree is replaced by one that keeps what the log has: as a batch replaces it.
+/// A store stays in step with its disk when its tree is replaced by one that keeps what the log has: as a batch replaces it. It stays
+/// one as every store is whatever its disk does.
 pub fn a_tree_that_keeps_what_the_log_has_stays_in_step()
-    ensures { (s : Settings) (st : Store) (new : Tree) (file : Bytes) → IsStoreOf s st file →
-        IsProper s new → AreLogsTrue new → HasWordPids new → new.height ≤ most_levels →
-        KeepsLogged st.tree new → IsStoreOf s (record { tree = new; head = st.head; tail = st.tail; sequence = st.sequence }) file }
+    ensures step { (s : Settings) (st : Store) (new : Tree) (file : Bytes) → IsStoreOf s st file →
+        IsProper s new → AreLogsTrue new → new.root < 2 ^ 64 → new.height ≤ most_levels →
+        KeepsLogged st.tree new → IsStoreOf s (with_tree st new) file }
+    ensures kept { (s : Settings) (st : Store) (new : Tree) → IsStore s st → IsProper s new → AreLogsTrue new → new.root < 2 ^ 64 →
+        new.height ≤ most_levels → IsStore s (with_tree st new) }
 {}

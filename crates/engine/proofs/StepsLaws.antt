@@ -1,6 +1,5 @@
 -- Steps that are played one after the other: what they answer, and what their disk stands for.
 use Rattle.std.specs.Prelude.{◌≡◌, ℕ, List, [], ◌∷◌, ◌++◌, length, take, Option, Some, None, Result, Ok, Err}
-use Rattle.std.specs.List.{AllByRecursion}
 use Rattle.std.proofs.Common.{refl, sym, ap, ◌∙◌, subst}
 use Rattle.keys.specs.Lists.{flat}
 use Rattle.keys.specs.Step.{replies_to, map_after_all}
@@ -12,34 +11,23 @@ use Rattle.keys.specs.Results.{and_then}
 use Rattle.keys.proofs.RunLaws.{replies_to-append, map_after_all-append}
 use Rattle.mapping.specs.Levels.{contents}
 use Rattle.mapping.specs.Tree.{Tree, Store}
-use Rattle.flush_log.specs.AfterFlush.{after_flush}
+use Rattle.flush_log.specs.AfterFlush.{with_tree, after_flush}
 use Rattle.flush_log.specs.FlushText.{flushed}
-use Rattle.flush_log.specs.WordPids.{HasWordPids}
 use Rattle.recovery.specs.InStep.{IsInStep, AreInStep, IsStoreOf}
 use Rattle.recovery.specs.StoreOfDisk.{store_of_disk}
 use Rattle.recovery.proofs.FlushBack.{left, same_store}
 use Rattle.recovery.proofs.KeptStore.{flushed-tree, flush-read_back}
 use Rattle.cleaner.specs.AfterClean.{after_clean}
-use Rattle.cleaner.specs.Steps.{Step, Batching, Played, with_tree, unless_refused, played_on, plays, batches_among, trees_in_turn, KeepsStores, ArePlayed}
-use Rattle.cleaner.specs.Steps.Step.{Batch, Flush, Clean}
-use Rattle.cleaner.specs.Steps.Answer.{Replies, Flushed, Cleaned}
-use Rattle.cleaner.proofs.CleanBack.{clean-done, clean-back}
+use Rattle.engine.specs.Steps.{Step, Batching, Played, unless_refused, played_on, plays, batches_among, HaveWords, KeepsStores, ArePlayed}
+use Rattle.engine.specs.Steps.Step.{Batch, Flush, Clean}
+use Rattle.engine.specs.Steps.Answer.{Replies, Flushed, Cleaned}
+use Rattle.cleaner.proofs.CleanBack.{clean-done, clean-back, clean-in_step}
 
 -- ---- one step
 
 -- a clean leaves the tree
 cleaned-tree : (s : Settings) (st now : Store) (file bytes : List ℕ) → after_clean s st file ≡ left now bytes → now.tree ≡ st.tree
 cleaned-tree s st now file bytes h = ap (λ (x : Store). x.tree) (clean-done s st file now bytes h).done.store
-
--- and the store one as every store is
-cleaned-store : (s : Settings) (st now : Store) (file bytes : List ℕ) → IsStoreOf s st file → now.tree ≡ st.tree → IsInStep s now bytes → IsStoreOf s now bytes
-cleaned-store s st now file bytes is same step = record {
-  proper = rw same is.proper;
-  logs = rw same is.logs;
-  words = rw same is.words;
-  height = rw same is.height;
-  step = step;
-}
 
 -- ---- steps
 
@@ -49,7 +37,7 @@ stored s st = Ok (s, st)
 
 -- the store that a disk stands for is the one with which a store is in step, with the same ends of the log
 with_ends : (s : Settings) (st on_disk : Store) (file : List ℕ) → store_of_disk file ≡ Ok (s, on_disk) → IsInStep s st file
-    → AreInStep st on_disk × (store_of_disk file ≡ Ok (s, record { tree = on_disk.tree; head = st.head; tail = st.tail; sequence = st.sequence }))
+    → AreInStep st on_disk × (store_of_disk file ≡ Ok (s, with_tree st on_disk.tree))
 with_ends s st on_disk file read (other, is, step) =
     let both : stored s other ≡ stored s on_disk = sym is ∙ read in
     let pair : (let p : Settings × Store = (s, other) in p ≡ (s, on_disk)) = cc in
@@ -58,9 +46,9 @@ with_ends s st on_disk file read (other, is, step) =
     (here, read ∙ ap (stored s) (sym (same_store on_disk st.head st.tail st.sequence (sym here.head) (sym here.tail) (sym here.sequence))))
 
 module _ {A : Type 0} (b : Batching A) (s : Settings) (keeps : KeepsStores s b) where
-  -- the trees of these steps, as far as they were played, have pids of 64 bits
-  abbrev HaveWords : Tree → List (Step A) → Played A → Type 0
-  HaveWords now steps p = AllByRecursion HasWordPids (trees_in_turn b now (take (length p.answers) steps))
+  -- the numbers of these steps, as far as they were played, have 64 bits
+  abbrev WordsIn : Tree → List (Step A) → Played A → Type 0
+  WordsIn now steps p = HaveWords b s now (take (length p.answers) steps)
 
   -- where nothing more is played
   stopped : (st on_disk : Store) (file : List ℕ) (steps : List (Step A)) (fault : Option Fault) → store_of_disk file ≡ Ok (s, on_disk) → IsStoreOf s st file
@@ -69,13 +57,13 @@ module _ {A : Type 0} (b : Batching A) (s : Settings) (keeps : KeepsStores s b) 
 
   -- what is played on from a store
   abbrev PlaysOn : List (Step A) → Type 0
-  PlaysOn xs = (st on_disk : Store) (file : List ℕ) → store_of_disk file ≡ Ok (s, on_disk) → IsStoreOf s st file → HaveWords st.tree xs (plays b s st file xs)
+  PlaysOn xs = (st on_disk : Store) (file : List ℕ) → store_of_disk file ≡ Ok (s, on_disk) → IsStoreOf s st file → WordsIn st.tree xs (plays b s st file xs)
       → ArePlayed b s st.tree on_disk.tree xs (plays b s st file xs)
 
   module _ (st on_disk : Store) (file : List ℕ) (xs : List (Step A)) (read : store_of_disk file ≡ Ok (s, on_disk)) (is : IsStoreOf s st file) (on : PlaysOn xs) where
     batch_on : (cs : List (Command A)) (o : Option Fault) → b.refusal st.tree cs ≡ o
         → (let p : Played A = played_on st file (unless_refused o (Replies (replies_to (contents st.tree) cs)) (with_tree st (b.planned st.tree cs)) file) (λ now bytes. plays b s now bytes xs) in
-        HaveWords st.tree (Batch cs ∷ xs) p → ArePlayed b s st.tree on_disk.tree (Batch cs ∷ xs) p)
+        WordsIn st.tree (Batch cs ∷ xs) p → ArePlayed b s st.tree on_disk.tree (Batch cs ∷ xs) p)
     batch_on cs (Some fault) e words = stopped st on_disk file (Batch cs ∷ xs) (Some fault) read is
     batch_on cs None e words =
         let now : Store = with_tree st (b.planned st.tree cs) in
@@ -92,29 +80,29 @@ module _ {A : Type 0} (b : Batching A) (s : Settings) (keeps : KeepsStores s b) 
 
     flush_on : (r : Result (Store × List ℕ) Fault) → after_flush s st file ≡ r
         → (let p : Played A = played_on st file (and_then r (λ q. Ok (Flushed q.0.sequence, q))) (λ now bytes. plays b s now bytes xs) in
-        HaveWords st.tree (Flush ∷ xs) p → ArePlayed b s st.tree on_disk.tree (Flush ∷ xs) p)
+        WordsIn st.tree (Flush ∷ xs) p → ArePlayed b s st.tree on_disk.tree (Flush ∷ xs) p)
     flush_on (Err fault) e words = stopped st on_disk file (Flush ∷ xs) (Some fault) read is
     flush_on (Ok q) e words =
         let now : Store = q.0 in
         let bytes : List ℕ = q.1 in
-        let (here, store) = flush-read_back s st file is now bytes e in
-        let same : now.tree ≡ flushed st.tree = flushed-tree s st now file bytes is e in
-        let later = on now now bytes here store (subst (λ (t : Tree). HaveWords t xs (plays b s now bytes xs)) (sym same) words.1) in
+        let (here, store) = flush-read_back s st file is words.0 now bytes e in
+        let same : now.tree ≡ flushed st.tree = flushed-tree s st now file bytes is.is e in
+        let later = on now now bytes here store (subst (λ (t : Tree). WordsIn t xs (plays b s now bytes xs)) (sym same) words.1) in
         let shown : ArePlayed b s (flushed st.tree) (flushed st.tree) xs (plays b s now bytes xs) = subst (λ (t : Tree). ArePlayed b s t t xs (plays b s now bytes xs)) same later in
         record { replies = shown.replies; holds = shown.holds; disk = shown.disk; store = shown.store }
 
     clean_on : (r : Result (Store × List ℕ) Fault) → after_clean s st file ≡ r
         → (let p : Played A = played_on st file (and_then r (λ q. Ok (Cleaned q.0.head, q))) (λ now bytes. plays b s now bytes xs) in
-        HaveWords st.tree (Clean ∷ xs) p → ArePlayed b s st.tree on_disk.tree (Clean ∷ xs) p)
+        WordsIn st.tree (Clean ∷ xs) p → ArePlayed b s st.tree on_disk.tree (Clean ∷ xs) p)
     clean_on (Err fault) e words = stopped st on_disk file (Clean ∷ xs) (Some fault) read is
     clean_on (Ok q) e words =
         let now : Store = q.0 in
         let bytes : List ℕ = q.1 in
         let (here, step) = clean-back s st on_disk file read (with_ends s st on_disk file read is.step).0 now bytes e in
         let same : now.tree ≡ st.tree = cleaned-tree s st now file bytes e in
-        let store = cleaned-store s st now file bytes is same step in
-        let later = on now (record { tree = on_disk.tree; head = now.head; tail = now.tail; sequence = now.sequence }) bytes here store
-        (subst (λ (t : Tree). HaveWords t xs (plays b s now bytes xs)) (sym same) words) in
+        let store : IsStoreOf s now bytes = clean-in_step s st now file bytes is e in
+        let later = on now (with_tree now on_disk.tree) bytes here store
+        (subst (λ (t : Tree). WordsIn t xs (plays b s now bytes xs)) (sym same) words.1) in
         let shown : ArePlayed b s st.tree on_disk.tree xs (plays b s now bytes xs) = subst (λ (t : Tree). ArePlayed b s t on_disk.tree xs (plays b s now bytes xs)) same later in
         record { replies = shown.replies; holds = shown.holds; disk = shown.disk; store = shown.store }
 

@@ -1,13 +1,11 @@
 //! What steps come to that are played one after the other. The law is the contract of a function with an empty body.
 ghost use Rattle.std.specs.Prelude.{◌≡◌, List, length, take, Ok};
-ghost use Rattle.std.specs.List.{AllByRecursion};
 ghost use Rattle.keys.specs.Bytes.{Bytes};
 ghost use Rattle.keys.specs.declared.settings.Settings.{Settings};
 ghost use Rattle.mapping.specs.Tree.{Store};
-ghost use Rattle.flush_log.specs.WordPids.{HasWordPids};
 ghost use Rattle.recovery.specs.InStep.{IsStoreOf};
 ghost use Rattle.recovery.specs.StoreOfDisk.{store_of_disk};
-ghost use Rattle.cleaner.specs.Steps.{Step, Batching, KeepsStores, ArePlayed, plays, trees_in_turn};
+ghost use Rattle.engine.specs.Steps.{Step, Batching, HaveWords, KeepsStores, ArePlayed, plays};
 
 use std::alloc::Allocator;
 
@@ -17,6 +15,6 @@ use std::alloc::Allocator;
 pub fn steps_are_played_one_by_one<A: Allocator>()
     ensures { (b : Batching A) (s : Settings) (steps : List (Step A)) (st on_disk : Store) (file : Bytes) → KeepsStores s b →
         store_of_disk file ≡ Ok (s, on_disk) → IsStoreOf s st file →
-        AllByRecursion HasWordPids (trees_in_turn b st.tree (take (length (plays b s st file steps).answers) steps)) →
+        HaveWords b s st.tree (take (length (plays b s st file steps).answers) steps) →
         ArePlayed b s st.tree on_disk.tree steps (plays b s st file steps) }
 {}
