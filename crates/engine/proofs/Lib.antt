@@ -10,6 +10,7 @@ mod InTurn
 mod LeafRoutes
 mod OwnRuns
 mod PartAnswers
+mod PlayLaws
 mod Readied
 mod Routed
 mod SeenLeaves

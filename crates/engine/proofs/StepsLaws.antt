@@ -18,7 +18,7 @@ use Rattle.recovery.specs.StoreOfDisk.{store_of_disk}
 use Rattle.recovery.proofs.FlushBack.{left, same_store}
 use Rattle.recovery.proofs.KeptStore.{flushed-tree, flush-read_back}
 use Rattle.cleaner.specs.AfterClean.{after_clean}
-use Rattle.engine.specs.Steps.{Step, Batching, Played, unless_refused, played_on, plays, batches_among, HaveWords, KeepsStores, ArePlayed}
+use Rattle.engine.specs.Steps.{Step, Answer, Batching, Played, unless_refused, played_on, plays, batches_among, HasWords, here_and_on, HaveWords, KeepsStores, ArePlayed}
 use Rattle.engine.specs.Steps.Step.{Batch, Flush, Clean}
 use Rattle.engine.specs.Steps.Answer.{Replies, Flushed, Cleaned}
 use Rattle.cleaner.proofs.CleanBack.{clean-done, clean-back, clean-in_step}
@@ -46,10 +46,6 @@ with_ends s st on_disk file read (other, is, step) =
     (here, read ∙ ap (stored s) (sym (same_store on_disk st.head st.tail st.sequence (sym here.head) (sym here.tail) (sym here.sequence))))
 
 module _ {A : Type 0} (b : Batching A) (s : Settings) (keeps : KeepsStores s b) where
-  -- the numbers of these steps, as far as they were played, have 64 bits
-  abbrev WordsIn : Tree → List (Step A) → Played A → Type 0
-  WordsIn now steps p = HaveWords b s now (take (length p.answers) steps)
-
   -- where nothing more is played
   stopped : (st on_disk : Store) (file : List ℕ) (steps : List (Step A)) (fault : Option Fault) → store_of_disk file ≡ Ok (s, on_disk) → IsStoreOf s st file
       → ArePlayed b s st.tree on_disk.tree steps (record { answers = []; store = st; bytes = file; fault = fault })
@@ -57,13 +53,18 @@ module _ {A : Type 0} (b : Batching A) (s : Settings) (keeps : KeepsStores s b) 
 
   -- what is played on from a store
   abbrev PlaysOn : List (Step A) → Type 0
-  PlaysOn xs = (st on_disk : Store) (file : List ℕ) → store_of_disk file ≡ Ok (s, on_disk) → IsStoreOf s st file → WordsIn st.tree xs (plays b s st file xs)
+  PlaysOn xs = (st on_disk : Store) (file : List ℕ) → store_of_disk file ≡ Ok (s, on_disk) → IsStoreOf s st file → HaveWords b s st file xs
       → ArePlayed b s st.tree on_disk.tree xs (plays b s st file xs)
+
+  -- the numbers of this step and of those behind it
+  abbrev WordsOn : Store → List (Step A) → Step A → Result (Answer A × (Store × List ℕ)) Fault → Type 0
+  WordsOn st xs x r = here_and_on r (HasWords b s st.tree x) (λ now bytes. HaveWords b s now bytes xs)
 
   module _ (st on_disk : Store) (file : List ℕ) (xs : List (Step A)) (read : store_of_disk file ≡ Ok (s, on_disk)) (is : IsStoreOf s st file) (on : PlaysOn xs) where
     batch_on : (cs : List (Command A)) (o : Option Fault) → b.refusal st.tree cs ≡ o
-        → (let p : Played A = played_on st file (unless_refused o (Replies (replies_to (contents st.tree) cs)) (with_tree st (b.planned st.tree cs)) file) (λ now bytes. plays b s now bytes xs) in
-        WordsIn st.tree (Batch cs ∷ xs) p → ArePlayed b s st.tree on_disk.tree (Batch cs ∷ xs) p)
+        → (let r = unless_refused o (Replies (replies_to (contents st.tree) cs)) (with_tree st (b.planned st.tree cs)) file in
+        let p : Played A = played_on st file r (λ now bytes. plays b s now bytes xs) in
+        WordsOn st xs (Batch cs) r → ArePlayed b s st.tree on_disk.tree (Batch cs ∷ xs) p)
     batch_on cs (Some fault) e words = stopped st on_disk file (Batch cs ∷ xs) (Some fault) read is
     batch_on cs None e words =
         let now : Store = with_tree st (b.planned st.tree cs) in
@@ -79,21 +80,23 @@ module _ {A : Type 0} (b : Batching A) (s : Settings) (keeps : KeepsStores s b) 
         }
 
     flush_on : (r : Result (Store × List ℕ) Fault) → after_flush s st file ≡ r
-        → (let p : Played A = played_on st file (and_then r (λ q. Ok (Flushed q.0.sequence, q))) (λ now bytes. plays b s now bytes xs) in
-        WordsIn st.tree (Flush ∷ xs) p → ArePlayed b s st.tree on_disk.tree (Flush ∷ xs) p)
+        → (let u : Result (Answer A × (Store × List ℕ)) Fault = and_then r (λ q. Ok (Flushed q.0.sequence, q)) in
+        let p : Played A = played_on st file u (λ now bytes. plays b s now bytes xs) in
+        WordsOn st xs Flush u → ArePlayed b s st.tree on_disk.tree (Flush ∷ xs) p)
     flush_on (Err fault) e words = stopped st on_disk file (Flush ∷ xs) (Some fault) read is
     flush_on (Ok q) e words =
         let now : Store = q.0 in
         let bytes : List ℕ = q.1 in
         let (here, store) = flush-read_back s st file is words.0 now bytes e in
         let same : now.tree ≡ flushed st.tree = flushed-tree s st now file bytes is.is e in
-        let later = on now now bytes here store (subst (λ (t : Tree). WordsIn t xs (plays b s now bytes xs)) (sym same) words.1) in
+        let later = on now now bytes here store words.1 in
         let shown : ArePlayed b s (flushed st.tree) (flushed st.tree) xs (plays b s now bytes xs) = subst (λ (t : Tree). ArePlayed b s t t xs (plays b s now bytes xs)) same later in
         record { replies = shown.replies; holds = shown.holds; disk = shown.disk; store = shown.store }
 
     clean_on : (r : Result (Store × List ℕ) Fault) → after_clean s st file ≡ r
-        → (let p : Played A = played_on st file (and_then r (λ q. Ok (Cleaned q.0.head, q))) (λ now bytes. plays b s now bytes xs) in
-        WordsIn st.tree (Clean ∷ xs) p → ArePlayed b s st.tree on_disk.tree (Clean ∷ xs) p)
+        → (let u : Result (Answer A × (Store × List ℕ)) Fault = and_then r (λ q. Ok (Cleaned q.0.head, q)) in
+        let p : Played A = played_on st file u (λ now bytes. plays b s now bytes xs) in
+        WordsOn st xs Clean u → ArePlayed b s st.tree on_disk.tree (Clean ∷ xs) p)
     clean_on (Err fault) e words = stopped st on_disk file (Clean ∷ xs) (Some fault) read is
     clean_on (Ok q) e words =
         let now : Store = q.0 in
@@ -101,8 +104,7 @@ module _ {A : Type 0} (b : Batching A) (s : Settings) (keeps : KeepsStores s b) 
         let (here, step) = clean-back s st on_disk file read (with_ends s st on_disk file read is.step).0 now bytes e in
         let same : now.tree ≡ st.tree = cleaned-tree s st now file bytes e in
         let store : IsStoreOf s now bytes = clean-in_step s st now file bytes is e in
-        let later = on now (with_tree now on_disk.tree) bytes here store
-        (subst (λ (t : Tree). WordsIn t xs (plays b s now bytes xs)) (sym same) words.1) in
+        let later = on now (with_tree now on_disk.tree) bytes here store words.1 in
         let shown : ArePlayed b s st.tree on_disk.tree xs (plays b s now bytes xs) = subst (λ (t : Tree). ArePlayed b s t on_disk.tree xs (plays b s now bytes xs)) same later in
         record { replies = shown.replies; holds = shown.holds; disk = shown.disk; store = shown.store }
 

@@ -1,5 +1,5 @@
 -- Steps of a store on its disk: batches, flushes and cleans, one after the other, over the store and the bytes of its disk.
-use Rattle.std.specs.Prelude.{◌≡◌, ℕ, ◌^◌, ◌<◌, ⊤, List, [], ◌∷◌, length, take, Option, Some, None, Result, Ok, Err}
+use Rattle.std.specs.Prelude.{◌≡◌, ◌⊎◌, ℕ, ◌^◌, ◌<◌, ◌≤◌, ⊤, List, [], ◌∷◌, ◌++◌, length, take, Option, Some, None, Result, Ok, Err}
 use Rattle.keys.specs.Bytes.{Bytes}
 use Rattle.keys.specs.Lists.{flat}
 use Rattle.keys.specs.Step.{replies_to, map_after_all}
@@ -9,12 +9,13 @@ use Rattle.keys.specs.declared.fault.Fault.{Fault}
 use Rattle.keys.specs.declared.settings.Settings.{Settings}
 use Rattle.mapping.specs.Levels.{contents}
 use Rattle.mapping.specs.Tree.{Tree, Store}
-use Rattle.flush_log.specs.AfterFlush.{with_tree, after_flush}
+use Rattle.flush_log.specs.AfterFlush.{with_tree, after_flush, flush_calls}
+use Rattle.flush_log.specs.Commit.{Call, LeftDuring}
 use Rattle.flush_log.specs.FlushText.{HasFrames, flushed}
 use Rattle.recovery.specs.InStep.{IsStoreOf}
 use Rattle.recovery.specs.StoreOfDisk.{and_then, store_of_disk}
 use Rattle.climb_plan.specs.Plan.{planned_tree}
-use Rattle.cleaner.specs.AfterClean.{after_clean}
+use Rattle.cleaner.specs.AfterClean.{after_clean, clean_calls}
 use Rattle.engine.specs.Batch.{refusal_by}
 
 -- ---- steps and answers
@@ -72,6 +73,15 @@ abbrev pub plays : {A : Type 0} → Batching A → Settings → Store → Bytes 
 plays b s st file [] = record { answers = []; store = st; bytes = file; fault = None }
 plays b s st file (x ∷ xs) = played_on st file (after_step b s st file x) (λ now bytes. plays b s now bytes xs)
 
+-- and what is played after them: nothing, where one of them was refused
+abbrev pub with_later : {A : Type 0} → Option Fault → Played A → Played A → Played A
+with_later None p q = record { answers = p.answers ++ q.answers; store = q.store; bytes = q.bytes; fault = q.fault }
+with_later (Some fault) p q = p
+
+-- more steps, played on from what is left
+abbrev pub plays_further : {A : Type 0} → Batching A → Settings → Played A → List (Step A) → Played A
+plays_further b s p xs = with_later p.fault p (plays b s p.store p.bytes xs)
+
 -- ---- what they come to
 
 -- the batches among steps, and the replies among answers
@@ -94,11 +104,7 @@ last_written b written now (Batch cs ∷ xs) = last_written b written (b.planned
 last_written b written now (Flush ∷ xs) = last_written b (flushed now) (flushed now) xs
 last_written b written now (Clean ∷ xs) = last_written b written now xs
 
--- the tree after a step that isn't refused
-abbrev pub tree_after : {A : Type 0} → Batching A → Tree → Step A → Tree
-tree_after b now (Batch cs) = b.planned now cs
-tree_after b now Flush = flushed now
-tree_after b now Clean = now
+-- ---- what is asked of their numbers
 
 -- a step's numbers have 64 bits, as all have in memory: those of a flush's frames, and the root's page id after a batch
 abbrev pub HasWords : {A : Type 0} → Batching A → Settings → Tree → Step A → Type 0
@@ -106,10 +112,37 @@ HasWords b s now (Batch cs) = (b.planned now cs).root < 2 ^ 64
 HasWords b s now Flush = HasFrames s now
 HasWords b s now Clean = ⊤
 
--- so have these steps' numbers, one step after the other
-abbrev pub HaveWords : {A : Type 0} → Batching A → Settings → Tree → List (Step A) → Type 0
-HaveWords b s now [] = ⊤
-HaveWords b s now (x ∷ xs) = HasWords b s now x × HaveWords b s (tree_after b now x) xs
+-- what is so of a step, and of those behind it; nothing of one that is refused
+abbrev pub here_and_on : {A : Type 0} → Result (Answer A × (Store × Bytes)) Fault → Type 0 → (Store → Bytes → Type 0) → Type 0
+here_and_on (Ok p) here next = here × next p.1.0 p.1.1
+here_and_on (Err fault) here next = ⊤
+
+-- the numbers of the steps that are played have 64 bits
+abbrev pub HaveWords : {A : Type 0} → Batching A → Settings → Store → Bytes → List (Step A) → Type 0
+HaveWords b s st file [] = ⊤
+HaveWords b s st file (x ∷ xs) = here_and_on (after_step b s st file x) (HasWords b s st.tree x) (λ now bytes. HaveWords b s now bytes xs)
+
+-- ---- what a crash leaves
+
+-- the calls of the disk by which a step is done that isn't refused
+abbrev pub step_calls : {A : Type 0} → Settings → Store → Bytes → Step A → List Call
+step_calls s st file (Batch cs) = []
+step_calls s st file Flush = flush_calls s st file
+step_calls s st file Clean = clean_calls s st file
+
+-- what a crash leaves during these calls, or later; a step that is refused makes none
+abbrev pub left_on : {A : Type 0} → Result (Answer A × (Store × Bytes)) Fault → List Call → Bytes → Bytes → (Store → Bytes → Type 0) → Type 0
+left_on (Ok p) calls file c next = LeftDuring calls file c ⊎ next p.1.0 p.1.1
+left_on (Err fault) calls file c next = c ≡ file
+
+-- what a crash at some moment of a play may leave of a settled disk: what one during the calls of some step may
+abbrev pub LeftInPlay : {A : Type 0} → Batching A → Settings → Store → Bytes → List (Step A) → Bytes → Type 0
+LeftInPlay b s st file [] c = c ≡ file
+LeftInPlay b s st file (x ∷ xs) c = left_on (after_step b s st file x) (step_calls s st file x) file c (λ now bytes. LeftInPlay b s now bytes xs c)
+
+-- a disk stands for what its bytes stood for when n of these steps were played, and all that are played are no fewer
+abbrev pub StandsAfterSome : {A : Type 0} → Batching A → Settings → Store → Bytes → List (Step A) → Bytes → Type 0
+StandsAfterSome b s st file steps c = (n : ℕ) × (n ≤ length (plays b s st file steps).answers) × (store_of_disk c ≡ store_of_disk (plays b s st file (take n steps)).bytes)
 
 -- ---- what is promised of them
 

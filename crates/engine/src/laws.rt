@@ -1,6 +1,6 @@
 //! What batches, flushes and cleans do one after the other, in the words of one of them. Each law is the contract of a
 //! function with an empty body.
-ghost use Rattle.std.specs.Prelude.{◌≡◌, ◌^◌, ◌<◌, List, length, take, None, Ok};
+ghost use Rattle.std.specs.Prelude.{◌≡◌, ◌^◌, ◌<◌, List, None, Ok};
 ghost use Rattle.std.specs.List.{AllByRecursion};
 ghost use Rattle.keys.specs.Bytes.{Bytes, Pairs};
 ghost use Rattle.keys.specs.Limits.{first_bad_field};
@@ -17,7 +17,7 @@ ghost use Rattle.recovery.specs.InStep.{IsStore, IsStoreOf};
 ghost use Rattle.recovery.specs.StoreOfDisk.{store_of_disk};
 ghost use Rattle.engine.specs.Batch.{refusal_by};
 ghost use Rattle.engine.specs.Batches.{replies_in_turn, map_in_turn, tree_in_turn};
-ghost use Rattle.engine.specs.Steps.{Step, HaveWords, ArePlayed, batching, plays};
+ghost use Rattle.engine.specs.Steps.{Step, HaveWords, KeepsStores, ArePlayed, batching, plays};
 
 use crate::step_laws::steps_are_played_one_by_one;
 use climb_plan::laws::{
@@ -57,6 +57,7 @@ pub fn a_batch_stays_in_step<A: Allocator>()
         refusal_by s st.tree cs ≡ None → (planned_tree s st.tree cs).root < 2 ^ 64 → IsStoreOf s (plan s st cs) file }
     ensures kept { (s : Settings) (st : Store) (cs : List (Command A)) → IsStore s st →
         refusal_by s st.tree cs ≡ None → (planned_tree s st.tree cs).root < 2 ^ 64 → IsStore s (plan s st cs) }
+    ensures batches { (s : Settings) → KeepsStores {A = A} s (batching s) }
 {
     the_plan_holds_the_map_after_the_commands::<A>();
     the_plan_of_a_proper_store_is_proper::<A>();
@@ -70,12 +71,9 @@ pub fn a_batch_stays_in_step<A: Allocator>()
 pub fn steps_answer_as_a_map_and_are_read_back<A: Allocator>()
     ensures { (s : Settings) (st on_disk : Store) (file : Bytes) (steps : List (Step A)) → IsStoreOf s st file →
         store_of_disk file ≡ Ok (s, on_disk) →
-        HaveWords (batching s) s st.tree (take (length (plays (batching s) s st file steps).answers) steps) →
+        HaveWords (batching s) s st file steps →
         ArePlayed (batching s) s st.tree on_disk.tree steps (plays (batching s) s st file steps) }
 {
+    a_batch_stays_in_step::<A>();
     steps_are_played_one_by_one::<A>();
-    the_plan_holds_the_map_after_the_commands::<A>();
-    the_plan_of_a_proper_store_is_proper::<A>();
-    the_log_states_stay_true::<A>();
-    what_the_log_has_of_a_page_stays_true::<A>();
 }

@@ -33,7 +33,7 @@ module _ (s : Settings) (file c : List ℕ) (on_disk : Store) (by : StandsBy s f
 -- ---- a flush
 
 -- without a call nothing changes
-none_left : (k : ℕ) (file c : List ℕ) → MayLeave (take k []) file (λ d. d ≡ file) c → c ≡ file
+pub none_left : (k : ℕ) (file c : List ℕ) → MayLeave (take k []) file (λ d. d ≡ file) c → c ≡ file
 none_left zero file c h = h
 none_left (suc k) file c h = h
 

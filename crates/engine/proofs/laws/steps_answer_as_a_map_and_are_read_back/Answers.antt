@@ -1,13 +1,6 @@
 use Rattle.engine.specs.Steps.{batching}
-use Rattle.engine.proofs.BatchInStep.{keeps_stores}
-use Rattle.engine.proofs.Routed.{as_store}
 use Rattle.engine.proofs.laws.steps_answer_as_a_map_and_are_read_back.Goals as goal
 
 pub returns : goal.returns
 returns g c s st on_disk file steps h is words =
-    c.steps_are_played_one_by_one.ensures (batching s) s steps st on_disk file (keeps_stores s (λ t b p. c.the_plan_holds_the_map_after_the_commands.ensures s (as_store t) b h.is.good p)
-    (λ t b p short. c.the_plan_of_a_proper_store_is_proper.ensures s (as_store t) b h.is.good p short)
-    (λ t b p l. c.the_log_states_stay_true.ensures s (as_store t) b h.is.good p l)
-    (λ t b pid. c.what_the_log_has_of_a_page_stays_true.ensures.none s (as_store t) b pid)
-    (λ t b pid k e. c.what_the_log_has_of_a_page_stays_true.ensures.upto s (as_store t) b pid k e)
-    (λ t b p pid k page e f. c.what_the_log_has_of_a_page_stays_true.ensures.stands s (as_store t) b pid k page h.is.good p e f)) is h words
+    c.steps_are_played_one_by_one.ensures (batching s) s steps st on_disk file (c.a_batch_stays_in_step.ensures.batches s) is h words
