@@ -6,5 +6,8 @@
 #![tactic(auto)]
 
 pub mod commit_laws;
+pub mod disk;
 pub mod laws;
 pub mod slot_laws;
+
+pub use crate::disk::{Disk, DiskFault};
