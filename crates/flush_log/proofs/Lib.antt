@@ -17,6 +17,7 @@ pub mod OverlayLaws
 pub mod PlaceLaws
 mod PlaceRows
 pub mod ReadBackLaws
+pub mod RecordLaws
 pub mod SegmentLaws
 pub mod SettingsLaws
 pub mod SlotLaws

@@ -8,6 +8,9 @@
 pub mod commit_laws;
 pub mod disk;
 pub mod laws;
+pub mod mem_disk;
+pub mod record_laws;
 pub mod slot_laws;
 
 pub use crate::disk::{Disk, DiskFault};
+pub use crate::mem_disk::MemDisk;
