@@ -1,3 +1,4 @@
+pub mod BlockReading
 mod ByteRowNine
 mod ByteRowOne
 mod ByteRowThree
@@ -17,9 +18,11 @@ pub mod OverlayLaws
 pub mod PlaceLaws
 mod PlaceRows
 pub mod ReadBackLaws
+pub mod ReadNumbers
 pub mod SegmentLaws
 pub mod SettingsLaws
 pub mod SlotLaws
+pub mod SlotReading
 mod SlotRows
 pub mod StandingLaws
 pub mod StandsLaws

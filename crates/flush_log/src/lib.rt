@@ -7,4 +7,6 @@
 
 pub mod commit_laws;
 pub mod laws;
+pub mod settings_block;
+pub mod slot;
 pub mod slot_laws;
