@@ -17,6 +17,7 @@ pub mod OutcomeLaws
 pub mod OverlayLaws
 pub mod PlaceLaws
 mod PlaceRows
+pub mod PutTogether
 pub mod ReadBackLaws
 pub mod ReadNumbers
 pub mod SegmentLaws

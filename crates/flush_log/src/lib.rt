@@ -7,6 +7,8 @@
 
 pub mod commit_laws;
 pub mod laws;
+pub mod new_store;
+pub mod segments;
 pub mod settings_block;
 pub mod slot;
 pub mod slot_laws;

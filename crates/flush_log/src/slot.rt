@@ -7,15 +7,13 @@ ghost use Rattle.mapping.specs.Tree.{most_levels};
 ghost use Rattle.flush_log.specs.Segments.{last_segment};
 ghost use Rattle.flush_log.specs.Slot.{greatest, slot_size, slot_place, slot_bytes, slot_in, is_tail, is_slot, read_slot, newer};
 
+use crate::segments::{SEGMENT_HEADER_SIZE, last_segment};
 use byteorder::{BigEndian, ByteOrder};
 use keys::{Fault, Pid, Settings};
 use std::marker::Model;
 
 /// The greatest position of a log, and the greatest sequence number.
 pub const GREATEST: u64 = 1 << 62;
-
-// How many bytes a segment's header has.
-pub(crate) const SEGMENT_HEADER_SIZE: u64 = 16;
 
 /// What a slot says of the store. Contracts see it as the definitions' slot.
 #[derive(Clone, Copy, Debug, PartialEq, Eq)]
@@ -95,7 +93,7 @@ fn is_in_segments(settings: &Settings, head: u64, tail: u64) -> bool
     requires tail { tail ≤ greatest }
     ensures { result ≡ nat_lt (last_segment settings.now tail) (head + settings.now.segments) }
 {
-    (tail - 1) / u64::from(settings.seg_size) < head + u64::from(settings.segments)
+    last_segment(settings, tail) < head + u64::from(settings.segments)
 }
 
 // Whether a log may go from this head to this tail.
