@@ -1,3 +1,4 @@
+pub mod BlockReading
 mod ByteRowNine
 mod ByteRowOne
 mod ByteRowThree
@@ -16,11 +17,14 @@ pub mod OutcomeLaws
 pub mod OverlayLaws
 pub mod PlaceLaws
 mod PlaceRows
+pub mod PutTogether
 pub mod ReadBackLaws
+pub mod ReadNumbers
 pub mod RecordLaws
 pub mod SegmentLaws
 pub mod SettingsLaws
 pub mod SlotLaws
+pub mod SlotReading
 mod SlotRows
 pub mod StandingLaws
 pub mod StandsLaws

@@ -9,7 +9,11 @@ pub mod commit_laws;
 pub mod disk;
 pub mod laws;
 pub mod mem_disk;
+pub mod new_store;
 pub mod record_laws;
+pub mod segments;
+pub mod settings_block;
+pub mod slot;
 pub mod slot_laws;
 
 pub use crate::disk::{Disk, DiskFault};
