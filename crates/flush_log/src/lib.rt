@@ -5,6 +5,7 @@
 //! before, or all of it.
 #![tactic(auto)]
 
+pub mod commit;
 pub mod commit_laws;
 pub mod disk;
 pub mod laws;
@@ -16,5 +17,6 @@ pub mod settings_block;
 pub mod slot;
 pub mod slot_laws;
 
+pub use crate::commit::{WrittenSpan, write_commit};
 pub use crate::disk::{Disk, DiskFault};
 pub use crate::mem_disk::MemDisk;
