@@ -1,9 +1,11 @@
+pub mod BlockReading
 mod ByteRowNine
 mod ByteRowOne
 mod ByteRowThree
 pub mod CallLaws
 pub mod CalledLaws
 pub mod CommitLaws
+pub mod CommitRuns
 pub mod FitLaws
 pub mod HeadLaws
 pub mod HideLaws
@@ -16,11 +18,17 @@ pub mod OutcomeLaws
 pub mod OverlayLaws
 pub mod PlaceLaws
 mod PlaceRows
+pub mod PutTogether
 pub mod ReadBackLaws
+pub mod ReadNumbers
+pub mod RecordLaws
 pub mod SegmentLaws
 pub mod SettingsLaws
 pub mod SlotLaws
+pub mod SlotReading
 mod SlotRows
+pub mod SlotRuns
+pub mod SpanRuns
 pub mod StandingLaws
 pub mod StandsLaws
 pub mod TailLaws

@@ -135,7 +135,7 @@ said t = Ok (Some t)
 abbrev pub bytes_of_slot : ℕ → List ℕ → List ℕ
 bytes_of_slot n disk = take 64 (drop (slot_place n) disk)
 
-gate_is_first : (place : ℕ) (disk : List ℕ) → get_or (take 64 (drop place disk)) 0 0 ≡ get_or disk place 0
+pub gate_is_first : (place : ℕ) (disk : List ℕ) → get_or (take 64 (drop place disk)) 0 0 ≡ get_or disk place 0
 gate_is_first place disk =
     let first : get_or (take 64 (drop place disk)) 0 0 ≡ get_or disk (place + 0) 0 = search (rules, places) in
     let same : place + 0 ≡ place = omega arith in

@@ -5,6 +5,18 @@
 //! before, or all of it.
 #![tactic(auto)]
 
+pub mod commit;
 pub mod commit_laws;
+pub mod disk;
 pub mod laws;
+pub mod mem_disk;
+pub mod new_store;
+pub mod record_laws;
+pub mod segments;
+pub mod settings_block;
+pub mod slot;
 pub mod slot_laws;
+
+pub use crate::commit::{WrittenSpan, write_commit};
+pub use crate::disk::{Disk, DiskFault};
+pub use crate::mem_disk::MemDisk;

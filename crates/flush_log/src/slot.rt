@@ -1,0 +1,169 @@
+//! The two slots of a disk: which bytes one has, what is read of it, and which of two is the store's.
+ghost use Rattle.std.specs.Prelude.{◌≡◌, ℕ, ◌*◌, ◌+◌, ◌%◌, ◌^◌, ◌<◌, ◌≤◌, ◌&&◌, ◌==◌, nat_lt, nat_le, length, take, drop, None};
+ghost use Rattle.keys.specs.Bytes.{Bytes};
+ghost use Rattle.keys.specs.Limits.{is_in_limits, first_bad_field};
+ghost use Rattle.keys.specs.Sizes.{segment_header_size};
+ghost use Rattle.mapping.specs.Tree.{most_levels};
+ghost use Rattle.flush_log.specs.Segments.{last_segment};
+ghost use Rattle.flush_log.specs.Slot.{greatest, slot_size, slot_place, slot_bytes, slot_in, is_tail, is_slot, read_slot, newer};
+
+use crate::segments::{SEGMENT_HEADER_SIZE, last_segment};
+use byteorder::{BigEndian, ByteOrder};
+use keys::{Fault, Pid, Settings};
+use std::marker::Model;
+
+/// The greatest position of a log, and the greatest sequence number.
+pub const GREATEST: u64 = 1 << 62;
+
+/// What a slot says of the store. Contracts see it as the definitions' slot.
+#[derive(Clone, Copy, Debug, PartialEq, Eq)]
+pub struct Slot {
+    /// How often the store was committed, counted from 1.
+    pub sequence: u64,
+    /// The number of the log's first segment.
+    pub head: u64,
+    /// The position where the log ends, in bytes.
+    pub tail: u64,
+    /// The root page.
+    pub root: Pid,
+    /// How many levels the tree has.
+    pub height: u32,
+}
+
+impl Model for Slot {
+    ghost use Rattle.flush_log.specs.Slot.{Slot as SlotSaid};
+
+    ghost Value = { SlotSaid };
+
+    ghost view = { λ t. record { sequence = t.sequence; head = t.head; tail = t.tail; root = t.root; height = t.height } };
+
+    ghost inverse = { λ t. record { sequence = t.sequence; head = t.head; tail = t.tail; root = t.root; height = t.height } };
+}
+
+/// The bytes of the open slot that says this.
+pub fn slot_bytes(slot: &Slot) -> [u8; 64]
+    ensures { result ≡ slot_bytes slot.now }
+{
+    let mut bytes = [0; 64];
+    bytes[0] = 1;
+    BigEndian::write_u64(&mut bytes[8..16], slot.sequence);
+    BigEndian::write_u64(&mut bytes[16..24], slot.head);
+    BigEndian::write_u64(&mut bytes[24..32], slot.tail);
+    BigEndian::write_u64(&mut bytes[32..40], slot.root.0);
+    BigEndian::write_u32(&mut bytes[40..44], slot.height);
+    bytes
+}
+
+// The slot whose numbers stand at their places in these bytes.
+fn slot_in(bytes: &[u8]) -> Slot
+    requires { length bytes.now ≡ slot_size }
+    ensures said { result ≡ slot_in bytes.now }
+    ensures root { result.root < 2 ^ 64 }
+{
+    Slot {
+        sequence: BigEndian::read_u64(&bytes[8..16]),
+        head: BigEndian::read_u64(&bytes[16..24]),
+        tail: BigEndian::read_u64(&bytes[24..32]),
+        root: Pid(BigEndian::read_u64(&bytes[32..40])),
+        height: BigEndian::read_u32(&bytes[40..44]),
+    }
+}
+
+// Whether the tail lies behind the head segment's header. The head may be any number, so it is told by a quotient.
+fn is_behind(settings: &Settings, head: u64, tail: u64) -> bool
+    requires { first_bad_field settings.now ≡ None }
+    ensures { result ≡ nat_lt (head * settings.now.seg_size + segment_header_size) tail }
+{
+    SEGMENT_HEADER_SIZE < tail && head <= (tail - (SEGMENT_HEADER_SIZE + 1)) / u64::from(settings.seg_size)
+}
+
+// Whether a log may end at this position: at a segment's end, or behind a byte of a frame.
+fn is_tail(settings: &Settings, tail: u64) -> bool
+    requires { first_bad_field settings.now ≡ None }
+    ensures { result ≡ is_tail settings.now tail }
+{
+    let offset = tail % u64::from(settings.seg_size);
+    offset == 0 || SEGMENT_HEADER_SIZE < offset
+}
+
+// Whether the last segment in use is one of those from the head on.
+fn is_in_segments(settings: &Settings, head: u64, tail: u64) -> bool
+    requires checked { first_bad_field settings.now ≡ None }
+    requires behind { head * settings.now.seg_size + segment_header_size < tail }
+    requires tail { tail ≤ greatest }
+    ensures { result ≡ nat_lt (last_segment settings.now tail) (head + settings.now.segments) }
+{
+    last_segment(settings, tail) < head + u64::from(settings.segments)
+}
+
+// Whether a log may go from this head to this tail.
+fn is_log(settings: &Settings, head: u64, tail: u64) -> bool
+    requires { first_bad_field settings.now ≡ None }
+    ensures { result ≡ (nat_lt (head * settings.now.seg_size + segment_header_size) tail && nat_le tail greatest &&
+        is_tail settings.now tail && nat_lt (last_segment settings.now tail) (head + settings.now.segments)) }
+{
+    is_behind(settings, head, tail)
+        && tail <= GREATEST
+        && is_tail(settings, tail)
+        && is_in_segments(settings, head, tail)
+}
+
+// Whether slot `n` may have this sequence number.
+fn is_sequence(n: u64, sequence: u64) -> bool
+    ensures { result ≡ (is_in_limits 1 greatest sequence && sequence % 2 == n % 2) }
+{
+    1 <= sequence && sequence <= GREATEST && sequence % 2 == n % 2
+}
+
+// Whether a tree may have so many levels.
+fn is_height(height: u32) -> bool
+    ensures { result ≡ is_in_limits 1 most_levels height }
+{
+    1 <= height && height <= 64
+}
+
+// Whether slot `n` of a store with these settings may say this.
+fn is_slot(settings: &Settings, n: u64, slot: &Slot) -> bool
+    requires checked { first_bad_field settings.now ≡ None }
+    requires root { slot.now.root < 2 ^ 64 }
+    ensures { result ≡ is_slot settings.now n slot.now }
+{
+    is_sequence(n, slot.sequence)
+        && is_log(settings, slot.head, slot.tail)
+        && is_height(slot.height)
+}
+
+/// What slot `n` says by its 64 bytes: nothing where its gate is closed. Refuses an open one that is not well formed, with
+/// `Fault::NoSlot`.
+pub fn read_slot(settings: &Settings, n: u64, bytes: &[u8]) -> Result<Option<Slot>, Fault>
+    requires checked { first_bad_field settings.now ≡ None }
+    requires length { length bytes.now ≡ slot_size }
+    ensures { (disk : Bytes) → take slot_size (drop (slot_place n) disk) ≡ bytes.now →
+        result ≡ read_slot settings.now n disk }
+{
+    if bytes[0] != 1 {
+        return Ok(None);
+    }
+    let slot = slot_in(bytes);
+    if slot_bytes(&slot).as_slice() == bytes && is_slot(settings, n, &slot) {
+        Ok(Some(slot))
+    } else {
+        Err(Fault::NoSlot)
+    }
+}
+
+/// Of what the two slots say, what that with the greater sequence number does. The first fault is answered, and
+/// `Fault::NoSlot` where none is open.
+pub fn newer(
+    first: Result<Option<Slot>, Fault>,
+    second: Result<Option<Slot>, Fault>,
+) -> Result<Slot, Fault>
+    ensures { result ≡ newer first second }
+{
+    match (first?, second?) {
+        (Some(one), Some(other)) if one.sequence < other.sequence => Ok(other),
+        (Some(one), _) => Ok(one),
+        (None, Some(other)) => Ok(other),
+        (None, None) => Err(Fault::NoSlot),
+    }
+}
