@@ -8,6 +8,7 @@ pub mod CommitLaws
 pub mod FitLaws
 pub mod HeadLaws
 pub mod HideLaws
+pub mod ImageLaws
 pub mod LayoutLaws
 pub mod Literals
 pub mod NewStoreLaws
@@ -18,6 +19,7 @@ pub mod OverlayLaws
 pub mod PlaceLaws
 mod PlaceRows
 pub mod PutTogether
+pub mod ReachLaws
 pub mod ReadBackLaws
 pub mod ReadNumbers
 pub mod SegmentLaws

@@ -6,6 +6,7 @@
 #![tactic(auto)]
 
 pub mod commit_laws;
+pub mod image;
 pub mod laws;
 pub mod new_store;
 pub mod segments;
