@@ -1,3 +1,4 @@
+pub mod AdmitLaws
 pub mod BlockReading
 mod ByteRowNine
 mod ByteRowOne

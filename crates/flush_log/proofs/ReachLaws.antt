@@ -1,14 +1,17 @@
 -- How far frames bring the end of a log.
-use Rattle.std.proofs.Common.{◌≡◌, ℕ, suc, ◌+◌, ◌*◌, ◌/◌, ◌%◌, ◌<◌, ◌≤◌, Bool, true, false, nat_le, nat_lt, if◌then◌else◌, List, [], ◌∷◌, ◌++◌, length, map, drop, Option, Some, None, refl, sym, ap, ◌∙◌, arith, leb-true, lt-ltb, subst, append_assoc}
+use Rattle.std.proofs.Common.{◌≡◌, ℕ, suc, ◌+◌, ◌*◌, ◌/◌, ◌%◌, ◌<◌, ◌≤◌, Bool, true, false, nat_le, nat_lt, if◌then◌else◌, List, [], ◌∷◌, ◌++◌, length, map, drop, Option, Some, None, refl, sym, ap, ◌∙◌, arith, leb-true, lt-ltb, ltb-true, ltb-false, le-ltb, add-one, zero, get_or, slice_get, subst}
 use Rattle.std.proofs.lemmas.Bool.{leb-false}
 use Rattle.std.proofs.lemmas.Nat.{div-add-mod', mod_below}
 use Rattle.keys.specs.Bytes.{Bytes}
 use Rattle.keys.specs.declared.settings.Settings.{Settings}
 use Rattle.frame_codec.specs.Frame.{Frame, bytes_of}
-use Rattle.flush_log.specs.Images.{frames_in, FitSegments, Reached, from_tail, reached, behind_frame, behind_frames, IsReached, unless_spent}
+use Rattle.flush_log.specs.Images.{FitSegments, Reached, from_tail, reached, behind_frame, behind_frames, IsReached, unless_spent}
 use Rattle.flush_log.specs.Layout.{behind_header, PlacedFrame, placed_from, tail_behind, tail_after}
 use Rattle.flush_log.specs.Slot.{greatest}
 use Rattle.flush_log.proofs.LayoutLaws.{behind_header-within}
+
+abbrev pub some_tail : ℕ → Option ℕ
+some_tail t = Some t
 
 module _ (s : Settings) where
   -- one more frame
@@ -93,8 +96,91 @@ module _ (s : Settings) where
   fits-before [] vs h = tt
   fits-before (u ∷ us) vs h = (h.0, fits-before us vs h.1)
 
-  -- one position above the greatest, and each later one is
-  pub spent-on : (r : Reached) (frames : List Bytes) → IsReached s r → FitSegments s frames → greatest < r.tail → None ≡ unless_spent (behind_frames s r frames)
-  spent-on r frames is fits over =
-      let rise = frames-rise r frames is fits in
-      sym (ap (λ (b : Bool). (let none : Option Reached = None in if b then none else Some (behind_frames s r frames))) (lt-ltb greatest (behind_frames s r frames).tail (omega arith)))
+  -- from a start over all frames, as far as the rest; none of the positions on the way is above the greatest
+  pub record Walk (start : Reached) (frames : List Bytes) (r : Reached) (rest : List Bytes) : Type 0 where
+    pub walked : behind_frames s r rest ≡ behind_frames s start frames
+    pub is : IsReached s r
+    pub fits : FitSegments s rest
+    pub room : r.tail ≤ greatest
+
+  pub walk-on : (start : Reached) (frames : List Bytes) (r q : Reached) (us vs : List Bytes) → Walk start frames r (us ++ vs) → q ≡ behind_frames s r us → q.tail ≤ greatest → Walk start frames q vs
+  walk-on start frames r q us vs w h room =
+      let before = fits-before us vs w.fits in
+      record {
+        walked = ap (λ (x : Reached). behind_frames s x vs) h ∙ sym (frames-append r us vs) ∙ w.walked;
+        is = subst (λ (x : Reached). IsReached s x) (sym h) (frames-are r us w.is before);
+        fits = fits-behind us vs w.fits;
+        room = room;
+      }
+
+  abbrev told : Reached → Bool → Option Reached
+  told r b = if b then None else Some r
+
+  -- one position is above the greatest, and so each later one
+  pub walk-spent : (start : Reached) (frames : List Bytes) (r q : Reached) (us vs : List Bytes) → Walk start frames r (us ++ vs) → q ≡ behind_frames s r us → greatest < q.tail → None ≡ unless_spent (behind_frames s start frames)
+  walk-spent start frames r q us vs w h over =
+      let before = fits-before us vs w.fits in
+      let is = subst (λ (x : Reached). IsReached s x) (sym h) (frames-are r us w.is before) in
+      let rise = frames-rise q vs is (fits-behind us vs w.fits) in
+      let all : behind_frames s q vs ≡ behind_frames s start frames = ap (λ (x : Reached). behind_frames s x vs) h ∙ sym (frames-append r us vs) ∙ w.walked in
+      let same = ap (λ (x : Reached). x.tail) all in
+      sym (ap (told (behind_frames s start frames)) (lt-ltb greatest (behind_frames s start frames).tail (omega (arith, rise, same, over))))
+
+  pub walk-end : (start : Reached) (frames : List Bytes) (r : Reached) (rest : List Bytes) → Walk start frames r rest → rest ≡ [] → Some r ≡ unless_spent (behind_frames s start frames)
+  walk-end start frames r rest w none =
+      let same : r ≡ behind_frames s start frames = ap (behind_frames s r) (sym none) ∙ w.walked in
+      sym (ap (told r) (le-ltb greatest r.tail w.room)) ∙ ap unless_spent same
+
+  -- what a walk over some of the frames tells
+  pub told_none : (q : Reached) → None ≡ unless_spent q → greatest < q.tail
+  told_none q = of (nat_lt greatest q.tail) refl
+    where
+      of : (b : Bool) → nat_lt greatest q.tail ≡ b → None ≡ told q b → greatest < q.tail
+      of true is h = ltb-true greatest q.tail is
+      of false is h = absurd (cc)
+
+  pub told_some : (r q : Reached) → Some r ≡ unless_spent q → (r ≡ q) × (r.tail ≤ greatest)
+  told_some r q = of (nat_lt greatest q.tail) refl
+    where
+      of : (b : Bool) → nat_lt greatest q.tail ≡ b → Some r ≡ told q b → (r ≡ q) × (r.tail ≤ greatest)
+      of true is h = absurd (cc)
+      of false is h =
+          let same : r ≡ q = cc in
+          let low = ltb-false greatest q.tail is in
+          let tails = ap (λ (x : Reached). x.tail) same in
+          (same, omega (arith, low, tails))
+
+  -- ---- the tail after a text
+
+  abbrev pub tail_told : ℕ → Bool → Option ℕ
+  tail_told t b = if b then None else Some t
+
+  pub text_tail : (tail : ℕ) (frames : List Bytes) (text : List Frame) → frames ≡ map (λ f. bytes_of f) text → (behind_frames s (from_tail s tail) frames).tail ≡ tail_after s tail text
+  text_tail tail frames text h = ap (λ (bs : List Bytes). (behind_frames s (from_tail s tail) bs).tail) h ∙ tail_reached (from_tail s tail) text
+
+  pub text_spent : (q : Reached) (t : ℕ) → None ≡ unless_spent q → q.tail ≡ t → None ≡ tail_told t (nat_lt greatest t)
+  text_spent q t h same = let over = told_none q h in sym (ap (tail_told t) (lt-ltb greatest t (omega (arith, over, same))))
+
+  pub text_ends : (r q : Reached) (t : ℕ) → Some r ≡ unless_spent q → q.tail ≡ t → Some r.tail ≡ tail_told t (nat_lt greatest t)
+  text_ends r q t h same =
+      let (is, low) = told_some r q h in
+      let tail : r.tail ≡ t = ap (λ (x : Reached). x.tail) is ∙ same in
+      sym (ap (tail_told r.tail) (le-ltb greatest r.tail low)) ∙ ap (λ (n : ℕ). tail_told n (nat_lt greatest n)) tail
+
+-- ---- places of a list
+
+pub front_item : {X : Type 0} (xs : List X) (at : ℕ) (x : X) → at < length xs → x ≡ get_or xs at x → drop at xs ≡ x ∷ drop (at + 1) xs
+front_item {X = X} xs at x l h = rw add-one (of xs at l h)
+  where
+    of : (ys : List X) (i : ℕ) → i < length ys → x ≡ get_or ys i x → drop i ys ≡ x ∷ drop (suc i) ys
+    of [] i l h = absurd (omega arith)
+    of (y ∷ ys) zero l h = ap (λ (z : X). z ∷ ys) (sym h)
+    of (y ∷ ys) (suc i) l h = let m : i < length ys = omega arith in of ys i m h
+
+pub front : {X : Type 0} (xs : List X) (at : ℕ) (x : X) → slice_get xs at ≡ Some x → drop at xs ≡ x ∷ drop (at + 1) xs
+front {X = X} xs at x h = rw add-one (of xs at h)
+  where
+    of : (ys : List X) (i : ℕ) → slice_get ys i ≡ Some x → drop i ys ≡ x ∷ drop (suc i) ys
+    of [] i h = absurd (cc)
+    of (y ∷ ys) zero h = let same : y ≡ x = cc in ap (λ (z : X). z ∷ ys) same
+    of (y ∷ ys) (suc i) h = of ys i h

@@ -8,6 +8,7 @@
 pub mod commit_laws;
 pub mod image;
 pub mod laws;
+pub mod layout;
 pub mod new_store;
 pub mod segments;
 pub mod settings_block;
