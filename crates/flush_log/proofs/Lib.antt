@@ -23,6 +23,7 @@ pub mod PutTogether
 pub mod ReachLaws
 pub mod ReadBackLaws
 pub mod ReadNumbers
+pub mod RecordLaws
 pub mod SegmentLaws
 pub mod SettingsLaws
 pub mod SlotLaws

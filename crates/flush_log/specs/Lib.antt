@@ -7,6 +7,7 @@ pub mod Layout
 pub mod NewStore
 pub mod Overlay
 pub mod Reading
+pub mod Record
 pub mod Segments
 pub mod SettingsBlock
 pub mod Slot

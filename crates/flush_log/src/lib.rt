@@ -6,11 +6,17 @@
 #![tactic(auto)]
 
 pub mod commit_laws;
+pub mod disk;
 pub mod image;
 pub mod laws;
 pub mod layout;
+pub mod mem_disk;
 pub mod new_store;
+pub mod record_laws;
 pub mod segments;
 pub mod settings_block;
 pub mod slot;
 pub mod slot_laws;
+
+pub use crate::disk::{Disk, DiskFault};
+pub use crate::mem_disk::MemDisk;
