@@ -1,3 +1,4 @@
+pub mod AdmitLaws
 pub mod BlockReading
 mod ByteRowNine
 mod ByteRowOne
@@ -9,6 +10,7 @@ pub mod CommitRuns
 pub mod FitLaws
 pub mod HeadLaws
 pub mod HideLaws
+pub mod ImageLaws
 pub mod LayoutLaws
 pub mod Literals
 pub mod NewStoreLaws
@@ -19,6 +21,7 @@ pub mod OverlayLaws
 pub mod PlaceLaws
 mod PlaceRows
 pub mod PutTogether
+pub mod ReachLaws
 pub mod ReadBackLaws
 pub mod ReadNumbers
 pub mod RecordLaws

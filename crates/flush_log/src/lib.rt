@@ -8,7 +8,9 @@
 pub mod commit;
 pub mod commit_laws;
 pub mod disk;
+pub mod image;
 pub mod laws;
+pub mod layout;
 pub mod mem_disk;
 pub mod new_store;
 pub mod record_laws;

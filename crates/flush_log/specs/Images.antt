@@ -1,0 +1,76 @@
+-- The frames of a text as the code has them: images, each the frames of one page back to back. And how far such frames bring
+-- the end of a log, one after the other.
+use Rattle.std.specs.Prelude.{◌≡◌, ℕ, suc, ◌+◌, ◌*◌, ◌/◌, ◌%◌, ◌≤◌, Bool, nat_le, nat_lt, if◌then◌else◌, List, [], ◌∷◌, ◌++◌, length, map, slice_range, Option, Some, None, Result, Ok, Err}
+use Rattle.std.specs.List.{AllByRecursion}
+use Rattle.keys.specs.Bytes.{Bytes}
+use Rattle.keys.specs.Sizes.{segment_header_size}
+use Rattle.keys.specs.declared.settings.Settings.{Settings}
+use Rattle.keys.specs.declared.fault.Fault.{Fault}
+use Rattle.keys.specs.declared.fault.Fault.TheVariants.{Full, Spent}
+use Rattle.frame_codec.specs.Frame.{Frame, bytes_of}
+use Rattle.flush_log.specs.AfterFlush.{is_spent}
+use Rattle.flush_log.specs.Layout.{behind_header}
+use Rattle.flush_log.specs.Segments.{position}
+use Rattle.flush_log.specs.Slot.{Slot, greatest}
+
+-- ---- images
+
+-- the parts of these bytes: the first begins at a place, each goes up to its end, and the next begins there
+abbrev pub cut_at : ℕ → Bytes → List ℕ → List Bytes
+cut_at from bytes [] = []
+cut_at from bytes (end ∷ ends) = slice_range bytes from end ∷ cut_at end bytes ends
+
+-- the bytes of each frame of these images
+abbrev pub frames_in : List (List Bytes) → List Bytes
+frames_in [] = []
+frames_in (image ∷ images) = image ++ frames_in images
+
+-- these are the frames of this text
+abbrev pub AreOfText : List (List Bytes) → List Frame → Type 0
+AreOfText images text = frames_in images ≡ map (λ f. bytes_of f) text
+
+-- each of these fits into a segment, behind its header
+abbrev pub FitSegments : Settings → List Bytes → Type 0
+FitSegments s frames = AllByRecursion (λ bytes. segment_header_size + length bytes ≤ s.seg_size) frames
+
+-- ---- the end of a log
+
+-- the segment and the offset where the next frame stands if it fits in there, and the position behind the last one
+pub record Reached : Type 0 where
+  pub segment : ℕ
+  pub offset : ℕ
+  pub tail : ℕ
+
+-- where a text begins that is written from this tail on
+abbrev pub from_tail : Settings → ℕ → Reached
+from_tail s tail = record { segment = tail / s.seg_size; offset = behind_header (tail % s.seg_size); tail = tail }
+
+-- behind an offset of a segment
+abbrev pub reached : Settings → ℕ → ℕ → Reached
+reached s n offset = record { segment = n; offset = offset; tail = position s n offset }
+
+-- behind one more frame of so many bytes
+abbrev pub behind_frame : Settings → Reached → ℕ → Reached
+behind_frame s r size =
+    if nat_le (r.offset + size) s.seg_size
+    then reached s r.segment (r.offset + size)
+    else reached s (suc r.segment) (segment_header_size + size)
+
+-- behind all of these
+abbrev pub behind_frames : Settings → Reached → List Bytes → Reached
+behind_frames s r [] = r
+behind_frames s r (bytes ∷ frames) = behind_frames s (behind_frame s r (length bytes)) frames
+
+-- the end lies in its segment, and the position behind the last frame from the segment's start up to it
+pub record IsReached (s : Settings) (r : Reached) : Type 0 where
+  pub within : r.offset ≤ s.seg_size
+  pub above : r.segment * s.seg_size ≤ r.tail
+  pub below : r.tail ≤ position s r.segment r.offset
+
+-- nothing, where the position is above the greatest
+abbrev pub unless_spent : Reached → Option Reached
+unless_spent r = if nat_lt greatest r.tail then None else Some r
+
+-- the tail of a commit's slot, or why the commit is refused: its numbers are spent, or the log is full
+abbrev pub admitted : Slot → Bool → Result ℕ Fault
+admitted t is_full = if is_spent t then Err Spent else (if is_full then Err Full else Ok t.tail)
