@@ -1,3 +1,4 @@
+pub mod Appended
 pub mod Codecs
 pub mod Frame
 pub mod Reading
