@@ -5,5 +5,6 @@
 //! bytes a frame has; the base and the runs of a page are frames. The same of cells.
 #![tactic(auto)]
 
+mod cell;
 pub mod laws;
 mod parts;
