@@ -14,3 +14,4 @@ mod RefusedRows
 pub mod RowForms
 pub mod SizeLaws
 pub mod WithinLaws
+pub mod WriteLaws

@@ -8,3 +8,4 @@
 mod cell;
 pub mod laws;
 mod parts;
+mod write;

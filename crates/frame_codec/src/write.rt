@@ -1,0 +1,68 @@
+//! Frames written from what a page holds. Each is appended to bytes whose memory is asked for once, by the frame's size.
+ghost use Rattle.std.specs.Prelude.{◌≡◌, ◌+◌, ◌<◌, ◌^◌, ◌++◌, true, length, flat_map, IfOk, OnOk, OnErr};
+ghost use Rattle.std.specs.List.{list_all};
+ghost use Rattle.index_page.specs.Rules.{of_cell};
+ghost use Rattle.keys.specs.Cells.{counted};
+ghost use Rattle.frame_codec.specs.Appended.{HasRoomFor, IsAppended, IsCount, AreSpellable};
+ghost use Rattle.frame_codec.specs.Codecs.{both, listed, flagged};
+ghost use Rattle.frame_codec.specs.Frame.{full, delta, header, is_pid};
+
+use crate::cell::{FrameCell, append_flagged, flagged_len};
+use crate::parts::{append_byte, append_counted, append_length, append_pid, append_u32};
+use delta_chain::{Base, Run};
+use keys::Pid;
+use std::alloc::{AllocError, Global};
+
+// How many bytes the entries of a base take.
+fn base_len<V: FrameCell>(base: &Base<V, Global>) -> usize
+    requires small { AreSpellable V.codec base.now }
+    requires few { length (flat_map (both counted V.codec).spell base.now) < 2 ^ 31 }
+    ensures { result ≡ length (flat_map (both counted V.codec).spell base.now) }
+{
+    let mut len: usize = 0;
+    for at in 0..base.len() {
+        len += 2 + base.key(at).len() + base.cell(at).spelled_len();
+    }
+    len
+}
+
+// How many bytes the changes of a run take.
+fn run_len<V: FrameCell>(run: &Run<V, Global>) -> usize
+    requires small { AreSpellable (flagged V.codec) run.now }
+    requires few { length (flat_map (both counted (flagged V.codec)).spell run.now) < 2 ^ 31 }
+    ensures { result ≡ length (flat_map (both counted (flagged V.codec)).spell run.now) }
+{
+    let mut len: usize = 0;
+    for at in 0..run.len() {
+        len += 2 + run.key(at).len() + flagged_len(run.change(at));
+    }
+    len
+}
+
+// Appends the entries of a base, one behind the other. There is room for them.
+fn append_entries<V: FrameCell>(base: &Base<V, Global>, out: &mut Vec<u8>)
+    requires small { AreSpellable V.codec base.now }
+    requires room { HasRoomFor out.old (length (flat_map (both counted V.codec).spell base.now)) }
+    ensures bytes { IsAppended out.old out.new (flat_map (both counted V.codec).spell base.now) }
+    ensures words { list_all (λ e. V.is_word e.1) base.now ≡ true }
+{
+    for at in 0..base.len() {
+        let cell = base.cell(at);
+        append_counted(out, base.key(at));
+        cell.append(out);
+    }
+}
+
+// Appends the changes of a run, one behind the other. There is room for them.
+fn append_changes<V: FrameCell>(run: &Run<V, Global>, out: &mut Vec<u8>)
+    requires small { AreSpellable (flagged V.codec) run.now }
+    requires room { HasRoomFor out.old (length (flat_map (both counted (flagged V.codec)).spell run.now)) }
+    ensures bytes { IsAppended out.old out.new (flat_map (both counted (flagged V.codec)).spell run.now) }
+    ensures words { list_all (λ e. of_cell V.is_word e.1) run.now ≡ true }
+{
+    for at in 0..run.len() {
+        let change = run.change(at);
+        append_counted(out, run.key(at));
+        append_flagged(out, change);
+    }
+}
