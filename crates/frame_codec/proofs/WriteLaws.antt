@@ -1,13 +1,16 @@
 -- Entries that are spelled one behind the other, by place.
-use Rattle.std.proofs.Common.{◌≡◌, ℕ, zero, suc, ◌+◌, ◌<◌, ◌≤◌, Bool, true, ◌&&◌, List, [], ◌∷◌, ◌++◌, length, drop, flat_map, slice_get, Option, Some, None, Vec, vec_len, vec_capacity, refl, sym, ap, ◌∙◌, arith, add-one, append_assoc, length-append}
+use Rattle.std.proofs.Common.{◌≡◌, ℕ, zero, suc, ◌+◌, ◌<◌, ◌≤◌, Bool, true, ◌&&◌, List, [], ◌∷◌, ◌++◌, length, drop, flat_map, slice_get, Option, Some, None, Vec, vec_len, vec_capacity, refl, sym, ap, subst, ◌∙◌, arith, add-one, append_assoc, length-append}
 use Rattle.std.proofs.lemmas.List.{append-nil, drop_all}
 use Rattle.std.specs.List.{AllByRecursion, list_all}
 use Rattle.std.specs.Map.{keys_of, values_of}
-use Rattle.keys.specs.Cells.{Codec, counted}
+use Rattle.keys.specs.Cells.{Codec, number, counted}
+use Rattle.keys.specs.Sizes.{pid_size}
 use Rattle.keys.proofs.CellLaws.{length-counted}
 use Rattle.delta_chain.proofs.Places.{drop_pair}
 use Rattle.frame_codec.specs.Appended.{HasRoomFor, IsAppended, IsCount, AreSpellable}
-use Rattle.frame_codec.specs.Codecs.{both}
+use Rattle.frame_codec.specs.Codecs.{both, listed, flagged}
+use Rattle.frame_codec.specs.Frame.{full, delta, header}
+use Rattle.frame_codec.specs.Sized.{framed}
 
 -- ---- bytes behind bytes
 
@@ -108,3 +111,35 @@ module _ {X : Type 0} (cell : Codec X) (es : List (List ℕ × X)) where
         let none : spelled_from at ≡ [] = ap (flat_map (both counted cell).spell) (drop_all at es l) in
         let same : up.done ≡ spelled_from 0 = sym (append-nil up.done) ∙ ap (λ (zs : List ℕ). up.done ++ zs) (sym none) ∙ up.all in
         rw same at up.appended
+
+-- ---- frames
+
+-- what stands behind the pid was appended to what stands before it
+pub framed-whole : {Z : Type 0} (old mid new : Vec ℕ Z) (kind pid n : ℕ) (bytes : List ℕ) → n ≡ length bytes
+    → IsAppended old mid (header.spell ((kind, pid_size + n), pid)) → IsAppended mid new bytes → new.items ≡ old.items ++ framed kind pid bytes
+framed-whole old mid new kind pid n bytes e head behind =
+    (appended-on old mid new (header.spell ((kind, pid_size + n), pid)) bytes head behind).items
+    ∙ ap (λ (m : ℕ). old.items ++ (header.spell ((kind, pid_size + m), pid) ++ bytes)) e
+
+module _ {Z : Type 0} {V : Type 0} (cell : Codec V) (kind pid n m : ℕ) (old mid b new : Vec ℕ Z) where
+  counts : {X : Type 0} (a : Vec ℕ Z) (es : List X) → m ≡ length es → IsAppended a b ((number 2).spell m) → IsAppended a b ((number 2).spell (length es))
+  counts a es e h = subst (λ k. IsAppended a b ((number 2).spell k)) e h
+
+  pub full-framed : (a : Vec ℕ Z) (low : List ℕ) (base : List (List ℕ × V)) → n ≡ 4 + length low + length (flat_map (both counted cell).spell base) → m ≡ length base
+      → IsAppended old mid (header.spell ((kind, pid_size + n), pid)) → IsAppended mid a (counted.spell low) → IsAppended a b ((number 2).spell m)
+      → IsAppended b new (flat_map (both counted cell).spell base) → new.items ≡ old.items ++ framed kind pid ((full cell).spell (low, base))
+  full-framed a low base e f head key count entries =
+      let all : IsAppended a new ((listed (both counted cell)).spell base) =
+      appended-on a b new ((number 2).spell (length base)) (flat_map (both counted cell).spell base) (counts a base f count) entries in
+      let behind : IsAppended mid new ((full cell).spell (low, base)) = appended-on mid a new (counted.spell low) ((listed (both counted cell)).spell base) key all in
+      let joined = length-append (counted.spell low) ((listed (both counted cell)).spell base) in
+      let long = length-counted low in
+      framed-whole old mid new kind pid n ((full cell).spell (low, base)) (omega arith) head behind
+
+  pub delta-framed : (run : List (List ℕ × Option V)) → n ≡ 2 + length (flat_map (both counted (flagged cell)).spell run) → m ≡ length run
+      → IsAppended old mid (header.spell ((kind, pid_size + n), pid)) → IsAppended mid b ((number 2).spell m)
+      → IsAppended b new (flat_map (both counted (flagged cell)).spell run) → new.items ≡ old.items ++ framed kind pid ((delta cell).spell run)
+  delta-framed run e f head count changes =
+      let behind : IsAppended mid new ((delta cell).spell run) =
+      appended-on mid b new ((number 2).spell (length run)) (flat_map (both counted (flagged cell)).spell run) (counts mid run f count) changes in
+      framed-whole old mid new kind pid n ((delta cell).spell run) (omega arith) head behind

@@ -6,6 +6,7 @@
 #![tactic(auto)]
 
 mod cell;
+mod kinds;
 pub mod laws;
 mod parts;
 mod write;

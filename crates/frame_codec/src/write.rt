@@ -3,9 +3,11 @@ ghost use Rattle.std.specs.Prelude.{◌≡◌, ◌+◌, ◌<◌, ◌^◌, ◌++�
 ghost use Rattle.std.specs.List.{list_all};
 ghost use Rattle.index_page.specs.Rules.{of_cell};
 ghost use Rattle.keys.specs.Cells.{counted};
+ghost use Rattle.keys.specs.Sizes.{pid_size};
 ghost use Rattle.frame_codec.specs.Appended.{HasRoomFor, IsAppended, IsCount, AreSpellable};
 ghost use Rattle.frame_codec.specs.Codecs.{both, listed, flagged};
 ghost use Rattle.frame_codec.specs.Frame.{full, delta, header, is_pid};
+ghost use Rattle.frame_codec.specs.Sized.{framed};
 
 use crate::cell::{FrameCell, append_flagged, flagged_len};
 use crate::parts::{append_byte, append_counted, append_length, append_pid, append_u32};
@@ -65,4 +67,64 @@ fn append_changes<V: FrameCell>(run: &Run<V, Global>, out: &mut Vec<u8>)
         append_counted(out, run.key(at));
         append_flagged(out, change);
     }
+}
+
+// Asks for the memory of a whole frame with so many bytes behind the pid, and appends what stands before those. Where memory
+// is refused nothing is appended.
+fn begin_frame(kind: u8, pid: Pid, len: usize, out: &mut Vec<u8>) -> Result<(), AllocError>
+    requires { len < 2 ^ 31 }
+    ensures ok { OnOk result (IsAppended out.old out.new (header.spell ((kind, pid_size + len), pid))) }
+    ensures room { OnOk result (HasRoomFor out.new len) }
+    ensures err { OnErr result (out.new.items ≡ out.old.items) }
+    ensures word { OnOk result (is_pid pid ≡ true) }
+{
+    let behind = 8 + len;
+    out.reserve(5 + behind)?;
+    append_byte(out, kind);
+    append_u32(out, behind as u32);
+    append_pid(out, pid);
+    Ok(())
+}
+
+// Appends the frame of this kind with a low key and a base.
+fn write_full<V: FrameCell>(
+    kind: u8,
+    pid: Pid,
+    low: &[u8],
+    base: &Base<V, Global>,
+    out: &mut Vec<u8>,
+) -> Result<(), AllocError>
+    requires low { IsCount (length low.now) }
+    requires count { IsCount (length base.now) }
+    requires small { AreSpellable V.codec base.now }
+    requires few { length ((full V.codec).spell (low.now, base.now)) < 2 ^ 31 }
+    ensures ok { OnOk result (out.new.items ≡ out.old.items ++ framed kind pid ((full V.codec).spell (low.now, base.now))) }
+    ensures err { OnErr result (out.new.items ≡ out.old.items) }
+    ensures words { OnOk result ((is_pid pid ≡ true) × (list_all (λ e. V.is_word e.1) base.now ≡ true)) }
+{
+    begin_frame(kind, pid, 4 + low.len() + base_len(base), out)?;
+    append_counted(out, low);
+    append_length(out, base.len());
+    append_entries(base, out);
+    Ok(())
+}
+
+// Appends the frame of this kind with a run.
+fn write_delta<V: FrameCell>(
+    kind: u8,
+    pid: Pid,
+    run: &Run<V, Global>,
+    out: &mut Vec<u8>,
+) -> Result<(), AllocError>
+    requires count { IsCount (length run.now) }
+    requires small { AreSpellable (flagged V.codec) run.now }
+    requires few { length ((delta V.codec).spell run.now) < 2 ^ 31 }
+    ensures ok { OnOk result (out.new.items ≡ out.old.items ++ framed kind pid ((delta V.codec).spell run.now)) }
+    ensures err { OnErr result (out.new.items ≡ out.old.items) }
+    ensures words { OnOk result ((is_pid pid ≡ true) × (list_all (λ e. of_cell V.is_word e.1) run.now ≡ true)) }
+{
+    begin_frame(kind, pid, 2 + run_len(run), out)?;
+    append_length(out, run.len());
+    append_changes(run, out);
+    Ok(())
 }
