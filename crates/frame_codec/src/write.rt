@@ -6,13 +6,15 @@ ghost use Rattle.keys.specs.Cells.{counted};
 ghost use Rattle.keys.specs.Sizes.{pid_size};
 ghost use Rattle.frame_codec.specs.Appended.{HasRoomFor, IsAppended, IsCount, AreSpellable};
 ghost use Rattle.frame_codec.specs.Codecs.{both, listed, flagged};
-ghost use Rattle.frame_codec.specs.Frame.{full, delta, header, is_pid};
-ghost use Rattle.frame_codec.specs.Sized.{framed};
+ghost use Rattle.frame_codec.specs.Frame.{full, delta, header, bytes_of, is_pid};
+ghost use Rattle.frame_codec.specs.Frame.Content.{FullLeaf, DeltaLeaf, FullIndex, DeltaIndex, Free};
+ghost use Rattle.frame_codec.specs.Sized.{IsSized, HasWords, framed};
 
 use crate::cell::{FrameCell, append_flagged, flagged_len};
+use crate::kinds::{DELTA_INDEX, DELTA_LEAF, FREE, FULL_INDEX, FULL_LEAF};
 use crate::parts::{append_byte, append_counted, append_length, append_pid, append_u32};
 use delta_chain::{Base, Run};
-use keys::Pid;
+use keys::{Pid, Value};
 use std::alloc::{AllocError, Global};
 
 // How many bytes the entries of a base take.
@@ -127,4 +129,72 @@ fn write_delta<V: FrameCell>(
     append_length(out, run.len());
     append_changes(run, out);
     Ok(())
+}
+
+/// Appends the frame that says that the page is this base under this low key, from its kind to its last byte. On Ok each
+/// page id in it is known to be of 64 bits. Where memory is refused nothing is appended. So do the other writers.
+pub fn write_full_leaf(
+    pid: Pid,
+    low: &[u8],
+    base: &Base<Value<Global>, Global>,
+    out: &mut Vec<u8>,
+) -> Result<(), AllocError>
+    requires { IsSized (FullLeaf low.now base.now) }
+    ensures ok { OnOk result (out.new.items ≡ out.old.items ++ bytes_of (record { pid = pid; content = FullLeaf low.now base.now })) }
+    ensures words { OnOk result (HasWords (record { pid = pid; content = FullLeaf low.now base.now })) }
+    ensures err { OnErr result (out.new.items ≡ out.old.items) }
+{
+    write_full(FULL_LEAF, pid, low, base, out)
+}
+
+/// Appends the frame that says that the page, a leaf, got this run.
+pub fn write_delta_leaf(
+    pid: Pid,
+    run: &Run<Value<Global>, Global>,
+    out: &mut Vec<u8>,
+) -> Result<(), AllocError>
+    requires { IsSized (DeltaLeaf run.now) }
+    ensures ok { OnOk result (out.new.items ≡ out.old.items ++ bytes_of (record { pid = pid; content = DeltaLeaf run.now })) }
+    ensures words { OnOk result (HasWords (record { pid = pid; content = DeltaLeaf run.now })) }
+    ensures err { OnErr result (out.new.items ≡ out.old.items) }
+{
+    write_delta(DELTA_LEAF, pid, run, out)
+}
+
+/// Appends the frame that says that the page, an index page, is this base under this low key.
+pub fn write_full_index(
+    pid: Pid,
+    low: &[u8],
+    base: &Base<Pid, Global>,
+    out: &mut Vec<u8>,
+) -> Result<(), AllocError>
+    requires { IsSized (FullIndex low.now base.now) }
+    ensures ok { OnOk result (out.new.items ≡ out.old.items ++ bytes_of (record { pid = pid; content = FullIndex low.now base.now })) }
+    ensures words { OnOk result (HasWords (record { pid = pid; content = FullIndex low.now base.now })) }
+    ensures err { OnErr result (out.new.items ≡ out.old.items) }
+{
+    write_full(FULL_INDEX, pid, low, base, out)
+}
+
+/// Appends the frame that says that the page, an index page, got this run.
+pub fn write_delta_index(
+    pid: Pid,
+    run: &Run<Pid, Global>,
+    out: &mut Vec<u8>,
+) -> Result<(), AllocError>
+    requires { IsSized (DeltaIndex run.now) }
+    ensures ok { OnOk result (out.new.items ≡ out.old.items ++ bytes_of (record { pid = pid; content = DeltaIndex run.now })) }
+    ensures words { OnOk result (HasWords (record { pid = pid; content = DeltaIndex run.now })) }
+    ensures err { OnErr result (out.new.items ≡ out.old.items) }
+{
+    write_delta(DELTA_INDEX, pid, run, out)
+}
+
+/// Appends the frame that says that there is no such page.
+pub fn write_free(pid: Pid, out: &mut Vec<u8>) -> Result<(), AllocError>
+    ensures ok { OnOk result (out.new.items ≡ out.old.items ++ bytes_of (record { pid = pid; content = Free })) }
+    ensures words { OnOk result (HasWords (record { pid = pid; content = Free })) }
+    ensures err { OnErr result (out.new.items ≡ out.old.items) }
+{
+    begin_frame(FREE, pid, 0, out)
 }
