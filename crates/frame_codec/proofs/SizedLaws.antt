@@ -4,14 +4,15 @@ use Rattle.std.proofs.lemmas.Bool.{and_parts}
 use Rattle.std.specs.Cmp.Derive.{both_true}
 use Rattle.std.specs.List.{list_all}
 use Rattle.keys.specs.Cells.{Codec, counted, value_cell, pid_cell}
+use Rattle.keys.specs.Limits.{first_bad_field}
 use Rattle.keys.specs.declared.settings.Settings.{Settings}
 use Rattle.keys.proofs.CellLaws.{length-counted}
 use Rattle.index_page.specs.Rules.{is_short_value, is_any_pid, of_cell}
 use Rattle.frame_codec.specs.Appended.{IsCount, AreSpellable}
 use Rattle.frame_codec.specs.Codecs.{both, listed, spell_flag, flagged}
-use Rattle.frame_codec.specs.Frame.{full, delta, is_pid, is_key, are_entries, is_full, is_run, is_frame}
+use Rattle.frame_codec.specs.Frame.{Content, Frame, full, delta, is_pid, is_key, are_entries, is_full, is_run, is_content, is_frame}
 use Rattle.frame_codec.specs.Frame.Content.{FullLeaf, DeltaLeaf, FullIndex, DeltaIndex, Free}
-use Rattle.frame_codec.specs.Sized.{IsSized, HasWords}
+use Rattle.frame_codec.specs.Sized.{has_sizes, IsSized, HasWords}
 use Rattle.frame_codec.proofs.FrameLaws.{AreInLimits, in_limits}
 
 -- ---- lengths
@@ -128,3 +129,35 @@ pub index_run-words : (pid : ℕ) (run : List (List ℕ × Option ℕ)) → is_p
 index_run-words pid run p w s h =
     let (some, entries) = and_parts _ _ h in
     both_true p (both_true some (word_entries s (Option ℕ) (of_cell is_any_pid) (of_cell is_pid) (of_cell is_pid) any_cell run entries w))
+
+-- ---- what a frame tells of its sizes
+
+any_pids : (s : Settings) (es : List (List ℕ × ℕ)) → list_all (λ e. is_key s e.0 && is_pid e.1) es ≡ true → list_all (λ e. is_key s e.0 && is_any_pid e.1) es ≡ true
+any_pids s [] h = refl
+any_pids s (e ∷ es) h =
+    let (one, rest) = and_parts _ _ h in
+    both_true (both_true (and_parts (is_key s e.0) (is_pid e.1) one).0 refl) (any_pids s es rest)
+
+any_changes : (s : Settings) (es : List (List ℕ × Option ℕ)) → list_all (λ e. is_key s e.0 && of_cell is_pid e.1) es ≡ true → list_all (λ e. is_key s e.0 && of_cell is_any_pid e.1) es ≡ true
+any_changes s [] h = refl
+any_changes s ((k, None) ∷ es) h =
+    let (one, rest) = and_parts _ _ h in both_true one (any_changes s es rest)
+any_changes s ((k, Some p) ∷ es) h =
+    let (one, rest) = and_parts _ _ h in
+    both_true (both_true (and_parts (is_key s k) (is_pid p) one).0 refl) (any_changes s es rest)
+
+sizes-content : (s : Settings) (c : Content) → is_content s c ≡ true → has_sizes s c ≡ true
+sizes-content s (FullLeaf low base) h = h
+sizes-content s (DeltaLeaf run) h = h
+sizes-content s (FullIndex low base) h =
+    let (key, entries) = and_parts (is_key s low) (are_entries s is_pid base) h in
+    let (sized, each) = and_parts _ _ entries in
+    both_true key (both_true sized (any_pids s base each))
+sizes-content s (DeltaIndex run) h =
+    let (some, entries) = and_parts _ _ h in
+    let (sized, each) = and_parts _ _ entries in
+    both_true some (both_true sized (any_changes s run each))
+sizes-content s Free h = refl
+
+pub sized-frame : (f : Frame) → ((s : Settings) × (first_bad_field s ≡ None) × (is_frame s f ≡ true)) → IsSized f.content
+sized-frame f (s, good, h) = (s, good, sizes-content s f.content (and_parts (is_pid f.pid) (is_content s f.content) h).1)

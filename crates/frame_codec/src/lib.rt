@@ -6,6 +6,7 @@
 #![tactic(auto)]
 
 mod cell;
+pub mod frame;
 mod kinds;
 pub mod laws;
 mod parts;

@@ -1,16 +1,20 @@
 //! Frames written from what a page holds. Each is appended to bytes whose memory is asked for once, by the frame's size.
-ghost use Rattle.std.specs.Prelude.{◌≡◌, ◌+◌, ◌<◌, ◌^◌, ◌++◌, true, length, flat_map, IfOk, OnOk, OnErr};
+ghost use Rattle.std.specs.Prelude.{◌≡◌, ◌+◌, ◌<◌, ◌^◌, ◌++◌, true, length, flat_map, None, OnOk, OnErr};
 ghost use Rattle.std.specs.List.{list_all};
 ghost use Rattle.index_page.specs.Rules.{of_cell};
 ghost use Rattle.keys.specs.Cells.{counted};
+ghost use Rattle.keys.specs.Limits.{first_bad_field};
 ghost use Rattle.keys.specs.Sizes.{pid_size};
+ghost use Rattle.keys.specs.declared.settings.Settings.{Settings};
 ghost use Rattle.frame_codec.specs.Appended.{HasRoomFor, IsAppended, IsCount, AreSpellable};
 ghost use Rattle.frame_codec.specs.Codecs.{both, listed, flagged};
-ghost use Rattle.frame_codec.specs.Frame.{full, delta, header, bytes_of, is_pid};
+ghost use Rattle.frame_codec.specs.Frame.{full, delta, header, bytes_of, is_pid, is_frame};
 ghost use Rattle.frame_codec.specs.Frame.Content.{FullLeaf, DeltaLeaf, FullIndex, DeltaIndex, Free};
+ghost use Rattle.frame_codec.specs.Shown.{frame_of};
 ghost use Rattle.frame_codec.specs.Sized.{IsSized, HasWords, framed};
 
 use crate::cell::{FrameCell, append_flagged, flagged_len};
+use crate::frame::Frame;
 use crate::kinds::{DELTA_INDEX, DELTA_LEAF, FREE, FULL_INDEX, FULL_LEAF};
 use crate::parts::{append_byte, append_counted, append_length, append_pid, append_u32};
 use delta_chain::{Base, Run};
@@ -197,4 +201,19 @@ pub fn write_free(pid: Pid, out: &mut Vec<u8>) -> Result<(), AllocError>
     ensures err { OnErr result (out.new.items ≡ out.old.items) }
 {
     begin_frame(FREE, pid, 0, out)
+}
+
+/// Appends the frame.
+pub fn write_frame(frame: &Frame, out: &mut Vec<u8>) -> Result<(), AllocError>
+    requires { (s : Settings) × (first_bad_field s ≡ None) × (is_frame s (frame_of frame.now) ≡ true) }
+    ensures ok { OnOk result (out.new.items ≡ out.old.items ++ bytes_of (frame_of frame.now)) }
+    ensures err { OnErr result (out.new.items ≡ out.old.items) }
+{
+    match frame {
+        Frame::FullLeaf { pid, low, base } => write_full_leaf(*pid, low.as_bytes(), base, out),
+        Frame::DeltaLeaf { pid, run } => write_delta_leaf(*pid, run, out),
+        Frame::FullIndex { pid, low, base } => write_full_index(*pid, low.as_bytes(), base, out),
+        Frame::DeltaIndex { pid, run } => write_delta_index(*pid, run, out),
+        Frame::Free { pid } => write_free(*pid, out),
+    }
 }
