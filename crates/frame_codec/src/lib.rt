@@ -10,4 +10,5 @@ pub mod frame;
 mod kinds;
 pub mod laws;
 mod parts;
+mod read;
 mod write;

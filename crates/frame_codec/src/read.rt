@@ -1,0 +1,74 @@
+//! Frames read from bytes, whatever these are. Nothing is held but what a frame keeps, and no more entries than `fan`.
+ghost use Rattle.std.specs.Prelude.{◌≡◌, ◌&&◌, None, Some, IfOk, MatchOption};
+ghost use Rattle.keys.specs.Cells.{read_where, counted};
+ghost use Rattle.frame_codec.specs.Codecs.{both, read_each, listed, flagged};
+ghost use Rattle.frame_codec.specs.Frame.{full, delta, header, is_key, are_entries, is_full, is_run};
+ghost use Rattle.index_page.specs.Rules.{of_cell};
+
+use crate::cell::{FrameCell, read_flagged};
+use crate::frame::Frame;
+use crate::parts::{read_byte, read_counted, read_length, read_pid, read_u32};
+use delta_chain::{Base, BaseBuilder, PushError, Run};
+use keys::{Key, Pid, Settings};
+use std::alloc::{AllocError, Global};
+
+// The kind at the front, the length and the page id, with the bytes behind them.
+fn read_header(bytes: &[u8]) -> Option<(u8, u32, Pid, &[u8])>
+    ensures { let read = header.read bytes.now in
+        MatchOption result (read ≡ None) (λ p. read ≡ Some (((p.0, p.1), p.2), p.3.now)) }
+{
+    let (kind, rest) = read_byte(bytes)?;
+    let (len, rest) = read_u32(rest)?;
+    let Some((pid, rest)) = read_pid(rest) else {
+        return None;
+    };
+    Some((kind, len, pid, rest))
+}
+
+// The key at the front, if it is no longer than settings allow, with the bytes behind it.
+fn read_key<'a>(bytes: &'a [u8], settings: &Settings) -> Option<(&'a [u8], &'a [u8])>
+    ensures { let read = read_where (is_key settings.now) (counted.read bytes.now) in
+        MatchOption result (read ≡ None) (λ p. read ≡ Some (p.0.now, p.1.now)) }
+{
+    let (key, rest) = read_counted(bytes)?;
+    if key.len() > settings.max_key as usize {
+        return None;
+    }
+    Some((key, rest))
+}
+
+// The entry of a base at the front, if a frame may have it, with the bytes behind it.
+fn read_entry<'a, V: FrameCell>(
+    alloc: Global,
+    bytes: &'a [u8],
+    settings: &Settings,
+) -> Result<Option<(&'a [u8], V, &'a [u8])>, AllocError>
+    ensures { let read = read_where (λ e. is_key settings.now e.0 && V.is_short settings.now e.1) ((both counted V.codec).read bytes.now) in
+        IfOk result (λ found. MatchOption found (read ≡ None) (λ p. read ≡ Some ((p.0.now, p.1), p.2.now))) }
+{
+    let Some((key, rest)) = read_key(bytes, settings) else {
+        return Ok(None);
+    };
+    let Some((cell, rest)) = V::read(alloc, rest, settings)? else {
+        return Ok(None);
+    };
+    Ok(Some((key, cell, rest)))
+}
+
+// The change of a run at the front, if a frame may have it, with the bytes behind it.
+fn read_change<'a, V: FrameCell>(
+    alloc: Global,
+    bytes: &'a [u8],
+    settings: &Settings,
+) -> Result<Option<(&'a [u8], Option<V>, &'a [u8])>, AllocError>
+    ensures { let read = read_where (λ e. is_key settings.now e.0 && of_cell (V.is_short settings.now) e.1) ((both counted (flagged V.codec)).read bytes.now) in
+        IfOk result (λ found. MatchOption found (read ≡ None) (λ p. read ≡ Some ((p.0.now, p.1), p.2.now))) }
+{
+    let Some((key, rest)) = read_key(bytes, settings) else {
+        return Ok(None);
+    };
+    let Some((change, rest)) = read_flagged(alloc, rest, settings)? else {
+        return Ok(None);
+    };
+    Ok(Some((key, change, rest)))
+}
