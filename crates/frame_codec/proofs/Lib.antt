@@ -7,6 +7,7 @@ mod ByteRowSix
 mod ByteRowTen
 mod ByteRowTwelve
 pub mod CodecLaws
+pub mod EachLaws
 pub mod FrameLaws
 pub mod LongerLaws
 pub mod ReadLaws

@@ -72,3 +72,33 @@ fn read_change<'a, V: FrameCell>(
     };
     Ok(Some((key, change, rest)))
 }
+
+// As many entries as this, in a base of its own, with the bytes behind them.
+fn read_base<'a, V: FrameCell>(
+    alloc: Global,
+    count: usize,
+    bytes: &'a [u8],
+    settings: &Settings,
+) -> Result<Option<(Base<V, Global>, &'a [u8])>, AllocError>
+    ensures { let read = read_where (are_entries settings.now (V.is_short settings.now)) (read_each (both counted V.codec) count bytes.now) in
+        IfOk result (λ found. MatchOption found (read ≡ None) (λ p. read ≡ Some (p.0, p.1.now))) }
+{
+    if count > settings.fan as usize {
+        return Ok(None);
+    }
+    let mut builder = BaseBuilder::with_capacity(alloc, count, 0)?;
+    let mut rest = bytes;
+    for _at in 0..count {
+        let Some((key, cell, behind)) = read_entry(alloc, rest, settings)? else {
+            return Ok(None);
+        };
+        match builder.push(key, cell) {
+            Ok(()) => rest = behind,
+            Err(PushError::OutOfOrder) => return Ok(None),
+            Err(PushError::NoMemory) => return Err(AllocError),
+        }
+    }
+    let base = builder.finish();
+    let _in_order = base.len();
+    Ok(Some((base, rest)))
+}
