@@ -1,19 +1,19 @@
 -- Entries read one behind the other: where reading has come to, and what comes of all.
-use Rattle.std.proofs.Common.{◌≡◌, ℕ, zero, suc, ◌+◌, ◌<◌, ◌≤◌, Bool, true, false, ◌&&◌, nat_le, if◌then◌else◌, List, [], ◌∷◌, ◌++◌, length, Option, Some, None, refl, sym, ap, ◌∙◌, arith, append_assoc, length-append, le-leb, leb-true}
+use Rattle.std.proofs.Common.{◌≡◌, ℕ, zero, suc, ◌+◌, ◌<◌, ◌≤◌, Bool, true, false, ◌&&◌, nat_le, nat_lt, if◌then◌else◌, List, [], ◌∷◌, ◌++◌, length, Option, Some, None, refl, sym, ap, ◌∙◌, arith, append_assoc, length-append, le-leb, leb-true}
 use Rattle.std.proofs.lemmas.List.{append-nil}
-use Rattle.std.proofs.lemmas.Bool.{and_parts}
+use Rattle.std.proofs.lemmas.Bool.{and_parts, lt-ltb}
 use Rattle.std.specs.Cmp.Derive.{both_true}
 use Rattle.std.specs.List.{list_all}
 use Rattle.std.specs.Map.{keys_of}
-use Rattle.keys.specs.Cells.{Codec, read_on, read_as, read_where, counted}
+use Rattle.keys.specs.Cells.{Codec, read_on, read_as, read_where, read_number, counted}
 use Rattle.keys.specs.Order.{IsRising}
 use Rattle.keys.specs.declared.settings.Settings.{Settings}
 use Rattle.keys.proofs.CellLaws.{gave, nothing_read, same_reading, read_as-gave, read_where-gave}
 use Rattle.delta_chain.specs.Building.{goes_last}
 use Rattle.delta_chain.proofs.Rising.{goes_last-rising}
-use Rattle.index_page.specs.Rules.{do_rise}
-use Rattle.frame_codec.specs.Codecs.{both, read_each}
-use Rattle.frame_codec.specs.Frame.{is_key, are_entries}
+use Rattle.index_page.specs.Rules.{do_rise, of_cell}
+use Rattle.frame_codec.specs.Codecs.{both, read_each, flagged}
+use Rattle.frame_codec.specs.Frame.{delta, is_key, are_entries, is_run}
 use Rattle.frame_codec.proofs.WithinLaws.{decides-rising}
 
 -- what comes of those that were read and of what is read of the rest, where all together pass the test
@@ -196,3 +196,17 @@ module _ {X : Type 0} (s : Settings) (short : X → Bool) (cell : Codec X) where
             let failed : are_entries s short p.0 ≡ false =
             fails_first (nat_le (length p.0) s.fan && do_rise (keys_of p.0)) (list_all is_entry p.0) (fails_first (nat_le (length p.0) s.fan) (do_rise (keys_of p.0)) over) in
             rw failed refl
+
+-- a run, where its count was read and there are some
+pub read-run : {V : Type 0} (s : Settings) (short : V → Bool) (cell : Codec V) (bs : List ℕ) (count : ℕ) (rest : List ℕ) → read_number 2 bs ≡ gave count rest → (count ≡ 0 → ⊥)
+    → read_where (is_run s short) ((delta cell).read bs) ≡ read_entries s (of_cell short) (flagged cell) count rest
+read-run {V = V} s short cell bs count rest h some =
+    ap (λ (o : Option (ℕ × List ℕ)). read_where (is_run s short) (read_on o (read_each (both counted (flagged cell))))) h ∙ of (read_each (both counted (flagged cell)) count rest) refl
+  where
+    of : (o : Option (List (List ℕ × Option V) × List ℕ)) → read_each (both counted (flagged cell)) count rest ≡ o
+        → read_where (is_run s short) o ≡ read_where (are_entries s (of_cell short)) o
+    of None is = refl
+    of (Some p) is =
+        let long = each-long (both counted (flagged cell)) count rest p.0 p.1 is in
+        let passed : nat_lt 0 (length p.0) ≡ true = lt-ltb 0 (length p.0) (omega (arith, some)) in
+        rw passed refl

@@ -102,3 +102,71 @@ fn read_base<'a, V: FrameCell>(
     let _in_order = base.len();
     Ok(Some((base, rest)))
 }
+
+// As many changes as this, in a run of its own, with the bytes behind them.
+fn read_run<'a, V: FrameCell>(
+    alloc: Global,
+    count: usize,
+    bytes: &'a [u8],
+    settings: &Settings,
+) -> Result<Option<(Run<V, Global>, &'a [u8])>, AllocError>
+    ensures { let read = read_where (are_entries settings.now (of_cell (V.is_short settings.now))) (read_each (both counted (flagged V.codec)) count bytes.now) in
+        IfOk result (λ found. MatchOption found (read ≡ None) (λ p. read ≡ Some (p.0, p.1.now))) }
+{
+    if count > settings.fan as usize {
+        return Ok(None);
+    }
+    let mut run = Run::with_capacity(alloc, count)?;
+    let mut rest = bytes;
+    for _at in 0..count {
+        let Some((key, change, behind)) = read_change(alloc, rest, settings)? else {
+            return Ok(None);
+        };
+        match run.push(Key::from_bytes(alloc, key)?, change) {
+            Ok(()) => rest = behind,
+            Err(PushError::OutOfOrder) => return Ok(None),
+            Err(PushError::NoMemory) => return Err(AllocError),
+        }
+    }
+    let _in_order = run.len();
+    Ok(Some((run, rest)))
+}
+
+// The low key and the base at the front, if a frame may have them, with the bytes behind them.
+fn read_full<'a, V: FrameCell>(
+    alloc: Global,
+    bytes: &'a [u8],
+    settings: &Settings,
+) -> Result<Option<(Key<Global>, Base<V, Global>, &'a [u8])>, AllocError>
+    ensures { let read = read_where (λ p. is_full settings.now (V.is_short settings.now) p.0 p.1) ((full V.codec).read bytes.now) in
+        IfOk result (λ found. MatchOption found (read ≡ None) (λ p. read ≡ Some ((p.0, p.1), p.2.now))) }
+{
+    let Some((low, rest)) = read_key(bytes, settings) else {
+        return Ok(None);
+    };
+    let Some((count, rest)) = read_length(rest) else {
+        return Ok(None);
+    };
+    let Some((base, rest)) = read_base(alloc, count, rest, settings)? else {
+        return Ok(None);
+    };
+    Ok(Some((Key::from_bytes(alloc, low)?, base, rest)))
+}
+
+// The run at the front, if a frame may have it, with the bytes behind it.
+fn read_delta<'a, V: FrameCell>(
+    alloc: Global,
+    bytes: &'a [u8],
+    settings: &Settings,
+) -> Result<Option<(Run<V, Global>, &'a [u8])>, AllocError>
+    ensures { let read = read_where (is_run settings.now (V.is_short settings.now)) ((delta V.codec).read bytes.now) in
+        IfOk result (λ found. MatchOption found (read ≡ None) (λ p. read ≡ Some (p.0, p.1.now))) }
+{
+    let Some((count, rest)) = read_length(bytes) else {
+        return Ok(None);
+    };
+    if count == 0 {
+        return Ok(None);
+    }
+    read_run(alloc, count, rest, settings)
+}
