@@ -1,12 +1,15 @@
 //! Frames read from bytes, whatever these are. Nothing is held but what a frame keeps, and no more entries than `fan`.
 ghost use Rattle.std.specs.Prelude.{◌≡◌, ◌&&◌, None, Some, IfOk, MatchOption};
-ghost use Rattle.keys.specs.Cells.{read_where, counted};
+ghost use Rattle.keys.specs.Cells.{read_as, read_where, counted};
 ghost use Rattle.frame_codec.specs.Codecs.{both, read_each, listed, flagged};
-ghost use Rattle.frame_codec.specs.Frame.{full, delta, header, is_key, are_entries, is_full, is_run};
+ghost use Rattle.frame_codec.specs.Frame.{full, delta, header, is_key, are_entries, is_full, is_run, is_content};
+ghost use Rattle.frame_codec.specs.Reading.{read_content};
+ghost use Rattle.frame_codec.specs.Shown.{frame_of};
 ghost use Rattle.index_page.specs.Rules.{of_cell};
 
 use crate::cell::{FrameCell, read_flagged};
 use crate::frame::Frame;
+use crate::kinds::{DELTA_INDEX, DELTA_LEAF, FREE, FULL_INDEX, FULL_LEAF};
 use crate::parts::{read_byte, read_counted, read_length, read_pid, read_u32};
 use delta_chain::{Base, BaseBuilder, PushError, Run};
 use keys::{Key, Pid, Settings};
@@ -169,4 +172,45 @@ fn read_delta<'a, V: FrameCell>(
         return Ok(None);
     }
     read_run(alloc, count, rest, settings)
+}
+
+// The frame of this kind and page id whose content is at the front, if a store may have it, with the bytes behind it.
+fn read_content<'a>(
+    alloc: Global,
+    kind: u8,
+    pid: Pid,
+    bytes: &'a [u8],
+    settings: &Settings,
+) -> Result<Option<(Frame, &'a [u8])>, AllocError>
+    ensures { let read = read_as (λ content. record { pid = pid; content = content }) (read_where (is_content settings.now) (read_content kind bytes.now)) in
+        IfOk result (λ found. MatchOption found (read ≡ None) (λ p. read ≡ Some (frame_of p.0, p.1.now))) }
+{
+    match kind {
+        FULL_LEAF => {
+            let Some((low, base, rest)) = read_full(alloc, bytes, settings)? else {
+                return Ok(None);
+            };
+            Ok(Some((Frame::FullLeaf { pid, low, base }, rest)))
+        }
+        DELTA_LEAF => {
+            let Some((run, rest)) = read_delta(alloc, bytes, settings)? else {
+                return Ok(None);
+            };
+            Ok(Some((Frame::DeltaLeaf { pid, run }, rest)))
+        }
+        FULL_INDEX => {
+            let Some((low, base, rest)) = read_full(alloc, bytes, settings)? else {
+                return Ok(None);
+            };
+            Ok(Some((Frame::FullIndex { pid, low, base }, rest)))
+        }
+        DELTA_INDEX => {
+            let Some((run, rest)) = read_delta(alloc, bytes, settings)? else {
+                return Ok(None);
+            };
+            Ok(Some((Frame::DeltaIndex { pid, run }, rest)))
+        }
+        FREE => Ok(Some((Frame::Free { pid }, bytes))),
+        _ => Ok(None),
+    }
 }
