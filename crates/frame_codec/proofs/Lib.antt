@@ -7,10 +7,13 @@ mod ByteRowSix
 mod ByteRowTen
 mod ByteRowTwelve
 pub mod CodecLaws
+pub mod EachLaws
 pub mod FrameLaws
 pub mod LongerLaws
 pub mod ReadLaws
 mod RefusedRows
 pub mod RowForms
 pub mod SizeLaws
+pub mod SizedLaws
 pub mod WithinLaws
+pub mod WriteLaws

@@ -1,4 +1,7 @@
+pub mod Appended
 pub mod Codecs
 pub mod Frame
 pub mod Reading
+pub mod Shown
+pub mod Sized
 pub mod Sizes

@@ -5,4 +5,10 @@
 //! bytes a frame has; the base and the runs of a page are frames. The same of cells.
 #![tactic(auto)]
 
+mod cell;
+pub mod frame;
+mod kinds;
 pub mod laws;
+mod parts;
+mod read;
+mod write;
