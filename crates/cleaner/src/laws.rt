@@ -2,8 +2,7 @@
 ghost use Rattle.std.specs.Prelude.{◌≡◌, ◌⊎◌, suc, Ok};
 ghost use Rattle.keys.specs.Bytes.{Bytes};
 ghost use Rattle.keys.specs.declared.settings.Settings.{Settings};
-ghost use Rattle.mapping.specs.Tree.{Store};
-ghost use Rattle.flush_log.specs.AfterFlush.{with_tree};
+ghost use Rattle.mapping.specs.Tree.{Store, with_tree};
 ghost use Rattle.flush_log.specs.Commit.{LeftDuring};
 ghost use Rattle.recovery.specs.InStep.{AreInStep, IsInStep, IsStore, IsStoreOf};
 ghost use Rattle.recovery.specs.StoreOfDisk.{store_of_disk};

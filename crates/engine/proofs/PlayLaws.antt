@@ -5,8 +5,8 @@ use Rattle.std.proofs.lemmas.List.{length-append, take-append-le}
 use Rattle.keys.specs.declared.fault.Fault.{Fault}
 use Rattle.keys.specs.declared.settings.Settings.{Settings}
 use Rattle.keys.specs.Results.{and_then}
-use Rattle.mapping.specs.Tree.{Store}
-use Rattle.flush_log.specs.AfterFlush.{with_tree, after_flush}
+use Rattle.mapping.specs.Tree.{Store, with_tree}
+use Rattle.flush_log.specs.AfterFlush.{after_flush}
 use Rattle.flush_log.specs.Commit.{LeftDuring}
 use Rattle.recovery.specs.InStep.{IsStoreOf}
 use Rattle.recovery.specs.StoreOfDisk.{store_of_disk}

@@ -10,8 +10,8 @@ use Rattle.keys.specs.declared.settings.Settings.{Settings}
 use Rattle.keys.specs.Results.{and_then}
 use Rattle.keys.proofs.RunLaws.{replies_to-append, map_after_all-append}
 use Rattle.mapping.specs.Levels.{contents}
-use Rattle.mapping.specs.Tree.{Tree, Store}
-use Rattle.flush_log.specs.AfterFlush.{with_tree, after_flush}
+use Rattle.mapping.specs.Tree.{Tree, Store, with_tree}
+use Rattle.flush_log.specs.AfterFlush.{after_flush}
 use Rattle.flush_log.specs.FlushText.{flushed}
 use Rattle.recovery.specs.InStep.{IsInStep, AreInStep, IsStoreOf}
 use Rattle.recovery.specs.StoreOfDisk.{store_of_disk}

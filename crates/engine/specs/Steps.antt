@@ -8,8 +8,8 @@ use Rattle.keys.specs.declared.command.Reply.{Reply}
 use Rattle.keys.specs.declared.fault.Fault.{Fault}
 use Rattle.keys.specs.declared.settings.Settings.{Settings}
 use Rattle.mapping.specs.Levels.{contents}
-use Rattle.mapping.specs.Tree.{Tree, Store}
-use Rattle.flush_log.specs.AfterFlush.{with_tree, after_flush, flush_calls}
+use Rattle.mapping.specs.Tree.{Tree, Store, with_tree}
+use Rattle.flush_log.specs.AfterFlush.{after_flush, flush_calls}
 use Rattle.flush_log.specs.Commit.{Call, LeftDuring}
 use Rattle.flush_log.specs.FlushText.{HasFrames, flushed}
 use Rattle.recovery.specs.InStep.{IsStoreOf}
@@ -140,7 +140,7 @@ abbrev pub LeftInPlay : {A : Type 0} → Batching A → Settings → Store → B
 LeftInPlay b s st file [] c = c ≡ file
 LeftInPlay b s st file (x ∷ xs) c = left_on (after_step b s st file x) (step_calls s st file x) file c (λ now bytes. LeftInPlay b s now bytes xs c)
 
--- a disk stands for what its bytes stood for when n of these steps were played, and all that are played are no fewer
+-- a disk stands for what its bytes stand for once the first n of these steps are played, where no fewer of them are
 abbrev pub StandsAfterSome : {A : Type 0} → Batching A → Settings → Store → Bytes → List (Step A) → Bytes → Type 0
 StandsAfterSome b s st file steps c = (n : ℕ) × (n ≤ length (plays b s st file steps).answers) × (store_of_disk c ≡ store_of_disk (plays b s st file (take n steps)).bytes)
 
@@ -159,6 +159,5 @@ KeepsStores {A} s b = (st : Store) (file : Bytes) (cs : List (Command A)) → Is
 pub record ArePlayed {A : Type 0} (b : Batching A) (s : Settings) (now written : Tree) (steps : List (Step A)) (p : Played A) : Type 0 where
   pub replies : flat (replies_among p.answers) ≡ replies_to (contents now) (flat (batches_among (take (length p.answers) steps)))
   pub holds : contents p.store.tree ≡ map_after_all (contents now) (flat (batches_among (take (length p.answers) steps)))
-  pub disk : store_of_disk p.bytes
-      ≡ Ok (s, with_tree p.store (last_written b written now (take (length p.answers) steps)))
+  pub disk : store_of_disk p.bytes ≡ Ok (s, with_tree p.store (last_written b written now (take (length p.answers) steps)))
   pub store : IsStoreOf s p.store p.bytes

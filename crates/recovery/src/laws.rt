@@ -3,9 +3,9 @@ ghost use Rattle.std.specs.Prelude.{◌≡◌, ◌⊎◌, suc, ◌^◌, ◌<◌,
 ghost use Rattle.keys.specs.Bytes.{Bytes};
 ghost use Rattle.keys.specs.Limits.{first_bad_field};
 ghost use Rattle.keys.specs.declared.settings.Settings.{Settings};
-ghost use Rattle.mapping.specs.Tree.{Tree, most_levels, Store};
+ghost use Rattle.mapping.specs.Tree.{Tree, most_levels, Store, with_tree};
 ghost use Rattle.mapping.specs.Proper.{AreLogsTrue, IsProper};
-ghost use Rattle.flush_log.specs.AfterFlush.{with_tree, after_flush, flush_calls};
+ghost use Rattle.flush_log.specs.AfterFlush.{after_flush, flush_calls};
 ghost use Rattle.flush_log.specs.Commit.{LeftDuring};
 ghost use Rattle.flush_log.specs.FlushText.{HasFrames, flushed};
 ghost use Rattle.flush_log.specs.NewStore.{disk_of_new};
@@ -49,9 +49,10 @@ pub fn bytes_that_no_reading_looks_at_do_not_matter()
         AgreeAt (λ place. IsLookedAt s st place ⊎ IsInSlot (suc st.sequence) place) file c → store_of_disk c ≡ Ok (s, st) }
 {}
 
-/// The disk of a new store stands for the first store, whatever bytes it had.
+/// The disk of a new store stands for the first store, which is one as every store is, whatever bytes it had.
 pub fn a_new_disk_stands_for_the_first_store()
-    ensures { (s : Settings) (disk : Bytes) → first_bad_field s ≡ None → HasSegments s disk → store_of_disk (disk_of_new s disk) ≡ Ok (s, first_store) }
+    ensures { (s : Settings) (disk : Bytes) → first_bad_field s ≡ None → HasSegments s disk →
+        (store_of_disk (disk_of_new s disk) ≡ Ok (s, first_store)) × IsStoreOf s first_store (disk_of_new s disk) }
 {}
 
 /// A store stays in step with its disk when its tree is replaced by one that keeps what the log has: as a batch replaces it. It stays
