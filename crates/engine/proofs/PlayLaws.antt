@@ -16,13 +16,9 @@ use Rattle.recovery.proofs.KeptStore.{flush-read_back}
 use Rattle.cleaner.specs.AfterClean.{after_clean}
 use Rattle.cleaner.proofs.CleanBack.{clean-in_step}
 use Rattle.cleaner.proofs.CleanCrash.{clean-crash}
-use Rattle.engine.specs.Steps.{Step, Answer, Batching, Played, unless_refused, after_step, behind_answer, played_on, plays, with_later, plays_further, HasWords, here_and_on, HaveWords, step_calls, left_on, LeftInPlay, StandsAfterSome, KeepsStores}
+use Rattle.engine.specs.Steps.{Step, Answer, Batching, Played, Stepped, unless_refused, after_step, behind_answer, played_on, plays, with_later, plays_further, HasWords, here_and_on, HaveWords, step_calls, left_on, LeftInPlay, StandsAfterSome, KeepsStores}
 use Rattle.engine.specs.Steps.Step.{Batch, Flush, Clean}
 use Rattle.engine.specs.Steps.Answer.{Flushed, Cleaned}
-
--- what a step answers and leaves
-abbrev Stepped : Type 0 → Type 0
-Stepped A = Result (Answer A × (Store × List ℕ)) Fault
 
 -- ---- in parts
 

@@ -32,7 +32,8 @@ pub fn what_was_flushed_is_what_is_read()
 /// A crash at any moment of a flush leaves a disk that stands for the store that it stood for, or all that the flush leaves.
 pub fn a_crash_in_a_flush_leaves_the_store_before_or_after()
     ensures { (s : Settings) (st now : Store) (file bytes c : Bytes) → IsStoreOf s st file → HasFrames s st.tree →
-        after_flush s st file ≡ Ok (now, bytes) → LeftDuring (flush_calls s st file) file c → (store_of_disk c ≡ store_of_disk file) ⊎ (c ≡ bytes) }
+        after_flush s st file ≡ Ok (now, bytes) → LeftDuring (flush_calls s st file) file c →
+        (store_of_disk c ≡ store_of_disk file) ⊎ (c ≡ bytes) }
 {}
 
 /// The store that a disk stands for is one as every store is: proper, and in step with that disk, whatever the disk's bytes are.
