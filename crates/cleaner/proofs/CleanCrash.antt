@@ -17,7 +17,7 @@ use Rattle.recovery.proofs.CrashLaws.{commit-crash}
 use Rattle.recovery.proofs.FlushBack.{left, same_store}
 use Rattle.recovery.proofs.FoundWithin.{log-within}
 use Rattle.recovery.proofs.StoreLaws.{StandsBy, store-stands}
-use Rattle.cleaner.specs.AfterClean.{after_clean, clean_calls_of, clean_calls}
+use Rattle.cleaner.specs.AfterClean.{after_clean, clean_calls_by, clean_calls}
 use Rattle.cleaner.specs.CleanText.{clean_text}
 use Rattle.cleaner.proofs.CleanBack.{IsCleanOf, clean-of, next_of, room_for}
 
@@ -32,7 +32,7 @@ module _ (s : Settings) (file c : List ℕ) (tree : Tree) (on_disk : Store) (by 
       let proper = subst (λ (fs : List Found). finding s (tree_by_log slot (frames_in fs)) ≡ None) of.same by.proper in
       let room = room_for s file slot of.found of.reads of.more (log-within s file slot.head slot.tail of.found of.reads.log) of.sound proper done.room in
       let calls : LeftDuring (commit_calls s file (spans s slot.tail text) (next_of slot s text)) file c =
-      subst (λ (t : Slot). LeftDuring (commit_calls s file (spans s slot.tail text) t) file c) of.is_next (subst (λ (r : Result (List Found) Fault). LeftDuring (clean_calls_of s (store_after tree by.slot) file r) file c) of.reads.log during) in
+      subst (λ (t : Slot). LeftDuring (commit_calls s file (spans s slot.tail text) t) file c) of.is_next (subst (λ (r : Result (List Found) Fault). LeftDuring (clean_calls_by s (store_after tree by.slot) file r) file c) of.reads.log during) in
       elim (commit-crash s file c on_disk by text (next_of slot s text) room refl calls) [
         | inl kept ↦ inl kept
         | inr whole ↦ inr (whole ∙ sym done.disk)

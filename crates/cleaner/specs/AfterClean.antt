@@ -7,7 +7,7 @@ use Rattle.keys.specs.declared.fault.Fault.TheVariants.{NothingToClean}
 use Rattle.keys.specs.Results.{and_then}
 use Rattle.mapping.specs.Tree.{Store}
 use Rattle.frame_codec.specs.Frame.{Frame}
-use Rattle.flush_log.specs.AfterFlush.{Commit, file_after, calls_of, store_after, after_commit}
+use Rattle.flush_log.specs.AfterFlush.{Commit, file_after, calls_for, store_after, after_commit}
 use Rattle.flush_log.specs.Commit.{Call}
 use Rattle.flush_log.specs.Layout.{tail_after, spans, is_full_for_clean}
 use Rattle.flush_log.specs.Reading.{Found, log}
@@ -55,10 +55,10 @@ after_clean s st file =
 -- ---- the calls of the disk
 
 -- the calls by which a clean of what was found is written: none where a fault was found
-abbrev pub clean_calls_of : Settings → Store → Bytes → Result (List Found) Fault → List Call
-clean_calls_of s st file (Ok found) = calls_of s file (clean_commit s st file (clean_text st.head found))
-clean_calls_of s st file (Err fault) = []
+abbrev pub clean_calls_by : Settings → Store → Bytes → Result (List Found) Fault → List Call
+clean_calls_by s st file (Ok found) = calls_for s file (clean_commit s st file (clean_text st.head found))
+clean_calls_by s st file (Err fault) = []
 
 -- the calls of a clean
 abbrev pub clean_calls : Settings → Store → Bytes → List Call
-clean_calls s st file = clean_calls_of s st file (log s file st.head st.tail)
+clean_calls s st file = clean_calls_by s st file (log s file st.head st.tail)

@@ -2,8 +2,7 @@
 ghost use Rattle.std.specs.Prelude.{◌≡◌, ◌⊎◌, suc, Ok};
 ghost use Rattle.keys.specs.Bytes.{Bytes};
 ghost use Rattle.keys.specs.declared.settings.Settings.{Settings};
-ghost use Rattle.mapping.specs.Tree.{Store};
-ghost use Rattle.flush_log.specs.AfterFlush.{with_tree};
+ghost use Rattle.mapping.specs.Tree.{Store, with_tree};
 ghost use Rattle.flush_log.specs.Commit.{LeftDuring};
 ghost use Rattle.recovery.specs.InStep.{AreInStep, IsInStep, IsStore, IsStoreOf};
 ghost use Rattle.recovery.specs.StoreOfDisk.{store_of_disk};
@@ -13,8 +12,8 @@ ghost use Rattle.cleaner.specs.AfterClean.{after_clean, clean_calls};
 /// the clean leaves. The tree in memory stays as it is, with what was not flushed, and in step with the disk. Whatever the
 /// disk does, the store stays one as every store is.
 pub fn a_clean_keeps_the_store()
-    ensures disk { (s : Settings) (st on_disk now : Store) (file bytes : Bytes) → store_of_disk file ≡ Ok (s, on_disk) → AreInStep st on_disk →
-        after_clean s st file ≡ Ok (now, bytes) →
+    ensures disk { (s : Settings) (st on_disk now : Store) (file bytes : Bytes) →
+        store_of_disk file ≡ Ok (s, on_disk) → AreInStep st on_disk → after_clean s st file ≡ Ok (now, bytes) →
         (store_of_disk bytes ≡ Ok (s, with_tree now on_disk.tree)) × IsInStep s now bytes }
     ensures memory { (s : Settings) (st now : Store) (file bytes : Bytes) → after_clean s st file ≡ Ok (now, bytes) →
         (now.tree ≡ st.tree) × (now.head ≡ suc st.head) × (now.sequence ≡ suc st.sequence) }

@@ -4,7 +4,7 @@ use Rattle.std.specs.Map.{keys_of}
 use Rattle.keys.specs.Bytes.{Bytes}
 use Rattle.keys.specs.declared.settings.Settings.{Settings}
 use Rattle.keys.specs.declared.command.Command.{Command}
-use Rattle.mapping.specs.Tree.{Tree, Store}
+use Rattle.mapping.specs.Tree.{Tree, Store, with_tree}
 use Rattle.mapping.specs.Outdate.{outdate_all}
 use Rattle.mapping.specs.Levels.{Placed, Levels, levels_of, contents, all_pages, by_pid, top_pid, pids}
 use Rattle.page_runs.specs.NetRun.{net_run}
@@ -46,6 +46,6 @@ planned_tree s t cs =
       logged = outdate_all (outdated_pids s t cs) t.logged;
     }
 
--- the store after the commands: a batch doesn't touch the log
+-- the store after the commands
 abbrev pub plan : {A : Type 0} → Settings → Store → List (Command A) → Store
-plan s st cs = record { tree = planned_tree s st.tree cs; head = st.head; tail = st.tail; sequence = st.sequence }
+plan s st cs = with_tree st (planned_tree s st.tree cs)

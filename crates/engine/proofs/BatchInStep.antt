@@ -8,9 +8,8 @@ use Rattle.index_page.specs.Over.{IsPageOver}
 use Rattle.index_page.specs.Page.{PageOfKind}
 use Rattle.mapping.specs.Levels.{contents}
 use Rattle.mapping.specs.Proper.{AreLogsTrue, IsProper}
-use Rattle.mapping.specs.Tree.{Tree, Store, page_at, logged_of}
+use Rattle.mapping.specs.Tree.{Tree, Store, page_at, logged_of, with_tree}
 use Rattle.mapping.specs.Tree.Logged.{No, Upto}
-use Rattle.flush_log.specs.AfterFlush.{with_tree}
 use Rattle.climb_plan.specs.Limits.{AreShort}
 use Rattle.climb_plan.specs.Plan.{planned_tree}
 use Rattle.recovery.specs.InStep.{KeepsLogged, IsStore}

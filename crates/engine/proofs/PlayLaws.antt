@@ -5,8 +5,8 @@ use Rattle.std.proofs.lemmas.List.{length-append, take-append-le}
 use Rattle.keys.specs.declared.fault.Fault.{Fault}
 use Rattle.keys.specs.declared.settings.Settings.{Settings}
 use Rattle.keys.specs.Results.{and_then}
-use Rattle.mapping.specs.Tree.{Store}
-use Rattle.flush_log.specs.AfterFlush.{with_tree, after_flush}
+use Rattle.mapping.specs.Tree.{Store, with_tree}
+use Rattle.flush_log.specs.AfterFlush.{after_flush}
 use Rattle.flush_log.specs.Commit.{LeftDuring}
 use Rattle.recovery.specs.InStep.{IsStoreOf}
 use Rattle.recovery.specs.StoreOfDisk.{store_of_disk}
@@ -16,13 +16,9 @@ use Rattle.recovery.proofs.KeptStore.{flush-read_back}
 use Rattle.cleaner.specs.AfterClean.{after_clean}
 use Rattle.cleaner.proofs.CleanBack.{clean-in_step}
 use Rattle.cleaner.proofs.CleanCrash.{clean-crash}
-use Rattle.engine.specs.Steps.{Step, Answer, Batching, Played, unless_refused, after_step, behind_answer, played_on, plays, with_later, plays_further, HasWords, here_and_on, HaveWords, step_calls, left_on, LeftInPlay, StandsAfterSome, KeepsStores}
+use Rattle.engine.specs.Steps.{Step, Answer, Batching, Played, Stepped, unless_refused, after_step, behind_answer, played_on, plays, with_later, plays_further, HasWords, here_and_on, HaveWords, step_calls, left_on, LeftInPlay, StandsAfterSome, KeepsStores}
 use Rattle.engine.specs.Steps.Step.{Batch, Flush, Clean}
 use Rattle.engine.specs.Steps.Answer.{Flushed, Cleaned}
-
--- what a step answers and leaves
-abbrev Stepped : Type 0 → Type 0
-Stepped A = Result (Answer A × (Store × List ℕ)) Fault
 
 -- ---- in parts
 

@@ -10,15 +10,15 @@ use Rattle.keys.specs.declared.settings.Settings.{Settings}
 use Rattle.keys.specs.Results.{and_then}
 use Rattle.keys.proofs.RunLaws.{replies_to-append, map_after_all-append}
 use Rattle.mapping.specs.Levels.{contents}
-use Rattle.mapping.specs.Tree.{Tree, Store}
-use Rattle.flush_log.specs.AfterFlush.{with_tree, after_flush}
+use Rattle.mapping.specs.Tree.{Tree, Store, with_tree}
+use Rattle.flush_log.specs.AfterFlush.{after_flush}
 use Rattle.flush_log.specs.FlushText.{flushed}
 use Rattle.recovery.specs.InStep.{IsInStep, AreInStep, IsStoreOf}
 use Rattle.recovery.specs.StoreOfDisk.{store_of_disk}
 use Rattle.recovery.proofs.FlushBack.{left, same_store}
 use Rattle.recovery.proofs.KeptStore.{flushed-tree, flush-read_back}
 use Rattle.cleaner.specs.AfterClean.{after_clean}
-use Rattle.engine.specs.Steps.{Step, Answer, Batching, Played, unless_refused, played_on, plays, batches_among, HasWords, here_and_on, HaveWords, KeepsStores, ArePlayed}
+use Rattle.engine.specs.Steps.{Step, Batching, Played, Stepped, unless_refused, played_on, plays, batches_among, HasWords, here_and_on, HaveWords, KeepsStores, ArePlayed}
 use Rattle.engine.specs.Steps.Step.{Batch, Flush, Clean}
 use Rattle.engine.specs.Steps.Answer.{Replies, Flushed, Cleaned}
 use Rattle.cleaner.proofs.CleanBack.{clean-done, clean-back, clean-in_step}
@@ -57,7 +57,7 @@ module _ {A : Type 0} (b : Batching A) (s : Settings) (keeps : KeepsStores s b) 
       → ArePlayed b s st.tree on_disk.tree xs (plays b s st file xs)
 
   -- the numbers of this step and of those behind it
-  abbrev WordsOn : Store → List (Step A) → Step A → Result (Answer A × (Store × List ℕ)) Fault → Type 0
+  abbrev WordsOn : Store → List (Step A) → Step A → Stepped A → Type 0
   WordsOn st xs x r = here_and_on r (HasWords b s st.tree x) (λ now bytes. HaveWords b s now bytes xs)
 
   module _ (st on_disk : Store) (file : List ℕ) (xs : List (Step A)) (read : store_of_disk file ≡ Ok (s, on_disk)) (is : IsStoreOf s st file) (on : PlaysOn xs) where
@@ -80,7 +80,7 @@ module _ {A : Type 0} (b : Batching A) (s : Settings) (keeps : KeepsStores s b) 
         }
 
     flush_on : (r : Result (Store × List ℕ) Fault) → after_flush s st file ≡ r
-        → (let u : Result (Answer A × (Store × List ℕ)) Fault = and_then r (λ q. Ok (Flushed q.0.sequence, q)) in
+        → (let u : Stepped A = and_then r (λ q. Ok (Flushed q.0.sequence, q)) in
         let p : Played A = played_on st file u (λ now bytes. plays b s now bytes xs) in
         WordsOn st xs Flush u → ArePlayed b s st.tree on_disk.tree (Flush ∷ xs) p)
     flush_on (Err fault) e words = stopped st on_disk file (Flush ∷ xs) (Some fault) read is
@@ -94,7 +94,7 @@ module _ {A : Type 0} (b : Batching A) (s : Settings) (keeps : KeepsStores s b) 
         record { replies = shown.replies; holds = shown.holds; disk = shown.disk; store = shown.store }
 
     clean_on : (r : Result (Store × List ℕ) Fault) → after_clean s st file ≡ r
-        → (let u : Result (Answer A × (Store × List ℕ)) Fault = and_then r (λ q. Ok (Cleaned q.0.head, q)) in
+        → (let u : Stepped A = and_then r (λ q. Ok (Cleaned q.0.head, q)) in
         let p : Played A = played_on st file u (λ now bytes. plays b s now bytes xs) in
         WordsOn st xs Clean u → ArePlayed b s st.tree on_disk.tree (Clean ∷ xs) p)
     clean_on (Err fault) e words = stopped st on_disk file (Clean ∷ xs) (Some fault) read is

@@ -1,5 +1,6 @@
 pub mod Batch
 pub mod Batches
+pub mod Late
 pub mod Leaves
 pub mod Refusal
 pub mod State

@@ -8,8 +8,8 @@ use Rattle.keys.specs.declared.command.Reply.{Reply}
 use Rattle.keys.specs.declared.fault.Fault.{Fault}
 use Rattle.keys.specs.declared.settings.Settings.{Settings}
 use Rattle.mapping.specs.Levels.{contents}
-use Rattle.mapping.specs.Tree.{Tree, Store}
-use Rattle.flush_log.specs.AfterFlush.{with_tree, after_flush, flush_calls}
+use Rattle.mapping.specs.Tree.{Tree, Store, with_tree}
+use Rattle.flush_log.specs.AfterFlush.{after_flush, flush_calls}
 use Rattle.flush_log.specs.Commit.{Call, LeftDuring}
 use Rattle.flush_log.specs.FlushText.{HasFrames, flushed}
 use Rattle.recovery.specs.InStep.{IsStoreOf}
@@ -43,12 +43,16 @@ batching s = record { refusal = λ t cs. refusal_by s t cs; planned = λ t cs. p
 -- ---- what they leave
 
 -- what a step leaves of a store and of the bytes of its disk, behind its answer; or why it is refused
-abbrev pub unless_refused : {A : Type 0} → Option Fault → Answer A → Store → Bytes → Result (Answer A × (Store × Bytes)) Fault
+abbrev pub Stepped : Type 0 → Type 0
+Stepped A = Result (Answer A × (Store × Bytes)) Fault
+
+abbrev pub unless_refused : {A : Type 0} → Option Fault → Answer A → Store → Bytes → Stepped A
 unless_refused None answer st file = Ok (answer, (st, file))
 unless_refused (Some fault) answer st file = Err fault
 
-abbrev pub after_step : {A : Type 0} → Batching A → Settings → Store → Bytes → Step A → Result (Answer A × (Store × Bytes)) Fault
-after_step b s st file (Batch cs) = unless_refused (b.refusal st.tree cs) (Replies (replies_to (contents st.tree) cs)) (with_tree st (b.planned st.tree cs)) file
+abbrev pub after_step : {A : Type 0} → Batching A → Settings → Store → Bytes → Step A → Stepped A
+after_step b s st file (Batch cs) =
+    unless_refused (b.refusal st.tree cs) (Replies (replies_to (contents st.tree) cs)) (with_tree st (b.planned st.tree cs)) file
 after_step b s st file Flush = and_then (after_flush s st file) (λ p. Ok (Flushed p.0.sequence, p))
 after_step b s st file Clean = and_then (after_clean s st file) (λ p. Ok (Cleaned p.0.head, p))
 
@@ -64,7 +68,7 @@ abbrev pub behind_answer : {A : Type 0} → Answer A → Played A → Played A
 behind_answer a p = record { answers = a ∷ p.answers; store = p.store; bytes = p.bytes; fault = p.fault }
 
 -- what is played on from what a step left; where it was refused, nothing is, and the store and the bytes stay
-abbrev pub played_on : {A : Type 0} → Store → Bytes → Result (Answer A × (Store × Bytes)) Fault → (Store → Bytes → Played A) → Played A
+abbrev pub played_on : {A : Type 0} → Store → Bytes → Stepped A → (Store → Bytes → Played A) → Played A
 played_on st file (Ok p) next = behind_answer p.0 (next p.1.0 p.1.1)
 played_on st file (Err fault) next = record { answers = []; store = st; bytes = file; fault = Some fault }
 
@@ -113,7 +117,7 @@ HasWords b s now Flush = HasFrames s now
 HasWords b s now Clean = ⊤
 
 -- what is so of a step, and of those behind it; nothing of one that is refused
-abbrev pub here_and_on : {A : Type 0} → Result (Answer A × (Store × Bytes)) Fault → Type 0 → (Store → Bytes → Type 0) → Type 0
+abbrev pub here_and_on : {A : Type 0} → Stepped A → Type 0 → (Store → Bytes → Type 0) → Type 0
 here_and_on (Ok p) here next = here × next p.1.0 p.1.1
 here_and_on (Err fault) here next = ⊤
 
@@ -131,18 +135,21 @@ step_calls s st file Flush = flush_calls s st file
 step_calls s st file Clean = clean_calls s st file
 
 -- what a crash leaves during these calls, or later; a step that is refused makes none
-abbrev pub left_on : {A : Type 0} → Result (Answer A × (Store × Bytes)) Fault → List Call → Bytes → Bytes → (Store → Bytes → Type 0) → Type 0
+abbrev pub left_on : {A : Type 0} → Stepped A → List Call → Bytes → Bytes → (Store → Bytes → Type 0) → Type 0
 left_on (Ok p) calls file c next = LeftDuring calls file c ⊎ next p.1.0 p.1.1
 left_on (Err fault) calls file c next = c ≡ file
 
 -- what a crash at some moment of a play may leave of a settled disk: what one during the calls of some step may
 abbrev pub LeftInPlay : {A : Type 0} → Batching A → Settings → Store → Bytes → List (Step A) → Bytes → Type 0
 LeftInPlay b s st file [] c = c ≡ file
-LeftInPlay b s st file (x ∷ xs) c = left_on (after_step b s st file x) (step_calls s st file x) file c (λ now bytes. LeftInPlay b s now bytes xs c)
+LeftInPlay b s st file (x ∷ xs) c =
+    left_on (after_step b s st file x) (step_calls s st file x) file c (λ now bytes. LeftInPlay b s now bytes xs c)
 
--- a disk stands for what its bytes stood for when n of these steps were played, and all that are played are no fewer
+-- a disk stands for what its bytes stand for once the first n of these steps are played, where no fewer of them are
 abbrev pub StandsAfterSome : {A : Type 0} → Batching A → Settings → Store → Bytes → List (Step A) → Bytes → Type 0
-StandsAfterSome b s st file steps c = (n : ℕ) × (n ≤ length (plays b s st file steps).answers) × (store_of_disk c ≡ store_of_disk (plays b s st file (take n steps)).bytes)
+StandsAfterSome b s st file steps c =
+    (n : ℕ) × (n ≤ length (plays b s st file steps).answers)
+    × (store_of_disk c ≡ store_of_disk (plays b s st file (take n steps)).bytes)
 
 -- ---- what is promised of them
 
@@ -159,6 +166,5 @@ KeepsStores {A} s b = (st : Store) (file : Bytes) (cs : List (Command A)) → Is
 pub record ArePlayed {A : Type 0} (b : Batching A) (s : Settings) (now written : Tree) (steps : List (Step A)) (p : Played A) : Type 0 where
   pub replies : flat (replies_among p.answers) ≡ replies_to (contents now) (flat (batches_among (take (length p.answers) steps)))
   pub holds : contents p.store.tree ≡ map_after_all (contents now) (flat (batches_among (take (length p.answers) steps)))
-  pub disk : store_of_disk p.bytes
-      ≡ Ok (s, with_tree p.store (last_written b written now (take (length p.answers) steps)))
+  pub disk : store_of_disk p.bytes ≡ Ok (s, with_tree p.store (last_written b written now (take (length p.answers) steps)))
   pub store : IsStoreOf s p.store p.bytes

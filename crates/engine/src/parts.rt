@@ -25,6 +25,8 @@ fn faults_print_number_name_and_what_they_carry(rt: HostRuntime) -> Result<(), F
         (Fault::ValueTooLong(65_534), "3 ValueTooLong 65534"),
         (Fault::BatchTooLong, "4 BatchTooLong"),
         (Fault::NoMemory, "6 NoMemory"),
+        (Fault::Failed, "8 Failed"),
+        (Fault::Device, "9 Device"),
         (Fault::Full, "10 Full"),
         (Fault::NothingToClean, "11 NothingToClean"),
         (Fault::NotAStore, "12 NotAStore"),
@@ -39,6 +41,7 @@ fn faults_print_number_name_and_what_they_carry(rt: HostRuntime) -> Result<(), F
             "16 BadStructure 5 70",
         ),
         (Fault::Spent, "17 Spent"),
+        (Fault::DiskTooSmall, "18 DiskTooSmall"),
     ];
     for fault in &shown {
         assert_eq!(rt; fault.0.to_string(rt.alloc())?.as_str(), fault.1);

@@ -11,7 +11,7 @@ use Rattle.flush_log.specs.FlushText.{flush_text, flushed}
 use Rattle.flush_log.specs.Layout.{Span, tail_after, spans, is_full_for_flush}
 use Rattle.flush_log.specs.Slot.{Slot, greatest}
 
--- the slot that says of a store what a slot says
+-- what a slot says of a store
 abbrev pub slot_of : Store → Slot
 slot_of st = record { sequence = st.sequence; head = st.head; tail = st.tail; root = st.tree.root; height = st.tree.height }
 
@@ -29,8 +29,8 @@ abbrev pub file_after : Settings → Bytes → Commit → Bytes
 file_after s file m = committed s file m.spans m.slot
 
 -- the calls of the disk by which it is made
-abbrev pub calls_of : Settings → Bytes → Commit → List Call
-calls_of s file m = commit_calls s file m.spans m.slot
+abbrev pub calls_for : Settings → Bytes → Commit → List Call
+calls_for s file m = commit_calls s file m.spans m.slot
 
 -- the commit of this text of a store
 abbrev pub flush_commit : Settings → Store → List Frame → Commit
@@ -43,10 +43,6 @@ is_spent t = nat_lt greatest t.sequence || nat_lt greatest t.tail
 -- the store of a slot, with this tree
 abbrev pub store_after : Tree → Slot → Store
 store_after tree t = record { tree = tree; head = t.head; tail = t.tail; sequence = t.sequence }
-
--- the store with another tree: a batch doesn't touch the log
-abbrev pub with_tree : Store → Tree → Store
-with_tree st tree = record { tree = tree; head = st.head; tail = st.tail; sequence = st.sequence }
 
 -- why a commit is refused: its numbers are spent, or the log is full. Else the store and the bytes after it.
 abbrev pub after_commit : Slot → Bool → Store → Bytes → Result (Store × Bytes) Fault
@@ -68,7 +64,7 @@ after_flush s st file = after_text s st file (flush_text st.tree)
 -- the calls by which a text of a store is written: none for an empty one
 abbrev pub text_calls : Settings → Store → Bytes → List Frame → List Call
 text_calls s st file [] = []
-text_calls s st file (f ∷ fs) = calls_of s file (flush_commit s st (f ∷ fs))
+text_calls s st file (f ∷ fs) = calls_for s file (flush_commit s st (f ∷ fs))
 
 -- the calls of a flush
 abbrev pub flush_calls : Settings → Store → Bytes → List Call

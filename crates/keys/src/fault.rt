@@ -7,7 +7,7 @@ use std::alloc::{AllocError, AllocFailed};
 use thiserror::Error;
 
 /// Why a call of the store is refused. It prints as its number, its name and what it carries, in decimal, with
-/// single spaces between. After each of these the store is as it was before the call.
+/// single spaces between. After each of these but `Device` the store is as it was before the call.
 #[derive(Debug, Drop, Error, PartialEq, Eq)]
 pub enum Fault {
     /// This field of the settings is out of range.
@@ -25,6 +25,12 @@ pub enum Fault {
     /// Memory was refused.
     #[error("6 NoMemory")]
     NoMemory,
+    /// A call before this one failed: the store is to be opened again from its disk.
+    #[error("8 Failed")]
+    Failed,
+    /// The disk failed. The pages in memory are as before the call; what was being written may be on the disk or not.
+    #[error("9 Device")]
+    Device,
     /// What is to be written would leave no segment free.
     #[error("10 Full")]
     Full,
@@ -49,6 +55,9 @@ pub enum Fault {
     /// The tree would have more than 64 levels, or a position or the sequence number would pass 2^62.
     #[error("17 Spent")]
     Spent,
+    /// The disk is too short for the segments that the settings ask for.
+    #[error("18 DiskTooSmall")]
+    DiskTooSmall,
 }
 
 impl From<AllocError> for Fault {

@@ -29,6 +29,10 @@ pub record Store : Type 0 where
   pub tail : ℕ
   pub sequence : ℕ
 
+-- the store with another tree: a batch doesn't touch the log
+abbrev pub with_tree : Store → Tree → Store
+with_tree st tree = record { tree = tree; head = st.head; tail = st.tail; sequence = st.sequence }
+
 -- the tree of a new store: one empty leaf, which the log has
 abbrev pub first_tree : Tree
 first_tree = record { pages = (0, Leaf (bare [] [])) ∷ []; root = 0; height = 1; logged = (0, Upto 0) ∷ [] }

@@ -3,7 +3,7 @@ use Rattle.std.specs.Prelude.{◌≡◌, ◌≢◌, ℕ, ◌^◌, ◌<◌, ◌�
 use Rattle.std.proofs.Common.{refl, sym, ap, ◌∙◌, subst}
 use Rattle.keys.specs.declared.settings.Settings.{Settings}
 use Rattle.mapping.specs.Proper.{AreLogsTrue, IsProper}
-use Rattle.mapping.specs.Tree.{Tree, Store}
+use Rattle.mapping.specs.Tree.{Tree, Store, with_tree}
 use Rattle.frame_codec.specs.Frame.{Frame}
 use Rattle.flush_log.specs.AfterFlush.{slot_of, store_after, flush_slot, after_text, after_flush}
 use Rattle.flush_log.specs.Commit.{committed}
@@ -85,10 +85,10 @@ flush-kept s st now file bytes is within h = of (is_flushed s st now file bytes 
 
 -- a tree in the place of the one there was
 pub batch-kept : (s : Settings) (st : Store) (new : Tree) → IsStore s st → IsProper s new → AreLogsTrue new → new.root < 2 ^ 64 → new.height ≤ 64
-    → IsStore s (record { tree = new; head = st.head; tail = st.tail; sequence = st.sequence })
+    → IsStore s (with_tree st new)
 batch-kept s st new is proper logs root height =
     let was : IsSlot s st.sequence (slot_of st) = slot-is s st.sequence (slot_of st) is.slot in
-    let now : Store = record { tree = new; head = st.head; tail = st.tail; sequence = st.sequence } in
+    let now : Store = with_tree st new in
     record {
       good = is.good;
       proper = proper;
@@ -107,7 +107,7 @@ batch-kept s st new is proper logs root height =
 
 -- one that keeps what the log has stays in step
 pub batch-in_step : (s : Settings) (st : Store) (new : Tree) (file : List ℕ) → IsStoreOf s st file → IsProper s new → AreLogsTrue new → new.root < 2 ^ 64 → new.height ≤ 64 → KeepsLogged st.tree new
-    → IsStoreOf s (record { tree = new; head = st.head; tail = st.tail; sequence = st.sequence }) file
+    → IsStoreOf s (with_tree st new) file
 batch-in_step s st new file is proper logs root height keeps =
     let (on_disk, read, step) = is.step in
     record { is = batch-kept s st new is.is proper logs root height; step = (on_disk, read, kept-in_step st new on_disk keeps step) }

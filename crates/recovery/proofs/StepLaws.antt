@@ -6,7 +6,7 @@ use Rattle.index_page.specs.Over.{IsOver, IsPageOver}
 use Rattle.index_page.specs.Page.{Page, PageOfKind}
 use Rattle.index_page.specs.Page.PageOfKind.{Leaf, Index}
 use Rattle.mapping.specs.Flushed.{page_depth}
-use Rattle.mapping.specs.Tree.{Logged, Tree, Store, listed_at, page_at, or_no}
+use Rattle.mapping.specs.Tree.{Logged, Tree, Store, with_tree, listed_at, page_at, or_no}
 use Rattle.mapping.specs.Tree.Logged.{No, Upto}
 use Rattle.flush_log.specs.AfterFlush.{store_after}
 use Rattle.flush_log.specs.FlushText.{logged_whole, tree_in_log}
@@ -78,7 +78,7 @@ logged_later k (Some x) (Some p) later h f =
     rw e (h.0, page_over x p q h.1 over)
 
 -- a store with such a tree is in step where that one was
-pub kept-in_step : (st : Store) (new : Tree) (on_disk : Store) → KeepsLogged st.tree new → AreInStep st on_disk → AreInStep (record { tree = new; head = st.head; tail = st.tail; sequence = st.sequence }) on_disk
+pub kept-in_step : (st : Store) (new : Tree) (on_disk : Store) → KeepsLogged st.tree new → AreInStep st on_disk → AreInStep (with_tree st new) on_disk
 kept-in_step st new on_disk keeps h = record {
   head = h.head;
   tail = h.tail;

@@ -1,5 +1,5 @@
 -- A flush on the table that holds a tree in memory.
-use Rattle.std.specs.Prelude.{◌≡◌, ℕ, ◌≤◌, List, [], ◌∷◌, map, Option, Some, None, IsSome}
+use Rattle.std.specs.Prelude.{◌≡◌, ◌↔◌, ℕ, ◌≤◌, List, [], ◌∷◌, ◌++◌, map, flat_map, Option, Some, None, IsSome}
 use Rattle.std.proofs.Common.{refl, ap, ◌∙◌, arith}
 use Rattle.std.specs.List.{AllByRecursion, filter}
 use Rattle.std.specs.Map.{keys_of}
@@ -11,10 +11,11 @@ use Rattle.index_page.specs.Page.PageOfKind.{Leaf, Index}
 use Rattle.mapping.specs.Flushed.{page_depth, depth_counted, marked_as_written}
 use Rattle.mapping.specs.Proper.{IsProper}
 use Rattle.mapping.specs.Table.{is_old, with_numbers, pids_in_use_or_old}
-use Rattle.mapping.specs.Tree.{Logged, Tree, page_at}
+use Rattle.mapping.specs.Tree.{Logged, Tree, page_at, logged_of}
 use Rattle.mapping.specs.Tree.Logged.{Upto}
 use Rattle.mapping.specs.TreeInMemory.{TreeInMemory, AreAllHome, home_pages, tree_of}
-use Rattle.flush_log.specs.FlushText.{logged_whole, pids_to_write, flushed}
+use Rattle.frame_codec.specs.Frame.{Content}
+use Rattle.flush_log.specs.FlushText.{lacking, frames_of, pid_text, pids_to_write, flush_text, logged_whole, flushed}
 use Rattle.recovery.proofs.NothingDue.{each_has}
 use Rattle.recovery.proofs.ProperPages.{IsGoodOfKind, page-is_good}
 
@@ -31,6 +32,31 @@ module _ {P : Type 0} where
 
 pub pids-known : (t : TreeInMemory) → AreAllHome t → pids_to_write (tree_of t) ≡ pids_in_use_or_old t.table
 pids-known t home = ap (λ (ns : List ℕ). with_numbers (keys_of (filter (λ l. is_old l.1) t.table.logged)) ns) (keys-home t.table.places home)
+
+-- ---- an empty text
+
+both_empty : {X : Type 0} → (xs ys : List X) → xs ++ ys ≡ [] → (xs ≡ []) × (ys ≡ [])
+both_empty [] ys e = (refl, e)
+both_empty (x ∷ xs) ys e = absurd (cc)
+
+no_frames : (pid : ℕ) (cs : List Content) → frames_of pid cs ≡ [] → cs ≡ []
+no_frames pid [] e = refl
+no_frames pid (c ∷ cs) e = absurd (cc)
+
+module _ (t : Tree) where
+  abbrev LacksNothing : ℕ → Type 0
+  LacksNothing pid = lacking (page_at t.pages pid) (logged_of t pid) ≡ []
+
+  none_lacks : (pids : List ℕ) → flat_map (pid_text t) pids ≡ [] → AllByRecursion LacksNothing pids
+  none_lacks [] e = tt
+  none_lacks (pid ∷ pids) e = let (here, rest) = both_empty (pid_text t pid) (flat_map (pid_text t) pids) e in (no_frames pid (lacking (page_at t.pages pid) (logged_of t pid)) here, none_lacks pids rest)
+
+  nothing_written : (pids : List ℕ) → AllByRecursion LacksNothing pids → flat_map (pid_text t) pids ≡ []
+  nothing_written [] a = refl
+  nothing_written (pid ∷ pids) a = ap (λ (cs : List Content). frames_of pid cs ++ flat_map (pid_text t) pids) a.0 ∙ nothing_written pids a.1
+
+  pub empty-text : (flush_text t ≡ []) ↔ AllByRecursion LacksNothing (pids_to_write t)
+  empty-text = (none_lacks (pids_to_write t), nothing_written (pids_to_write t))
 
 -- ---- log states
 

@@ -3,9 +3,9 @@ ghost use Rattle.std.specs.Prelude.{◌≡◌, ◌⊎◌, suc, ◌^◌, ◌<◌,
 ghost use Rattle.keys.specs.Bytes.{Bytes};
 ghost use Rattle.keys.specs.Limits.{first_bad_field};
 ghost use Rattle.keys.specs.declared.settings.Settings.{Settings};
-ghost use Rattle.mapping.specs.Tree.{Tree, most_levels, Store};
+ghost use Rattle.mapping.specs.Tree.{Tree, most_levels, Store, with_tree};
 ghost use Rattle.mapping.specs.Proper.{AreLogsTrue, IsProper};
-ghost use Rattle.flush_log.specs.AfterFlush.{with_tree, after_flush, flush_calls};
+ghost use Rattle.flush_log.specs.AfterFlush.{after_flush, flush_calls};
 ghost use Rattle.flush_log.specs.Commit.{LeftDuring};
 ghost use Rattle.flush_log.specs.FlushText.{HasFrames, flushed};
 ghost use Rattle.flush_log.specs.NewStore.{disk_of_new};
@@ -32,7 +32,8 @@ pub fn what_was_flushed_is_what_is_read()
 /// A crash at any moment of a flush leaves a disk that stands for the store that it stood for, or all that the flush leaves.
 pub fn a_crash_in_a_flush_leaves_the_store_before_or_after()
     ensures { (s : Settings) (st now : Store) (file bytes c : Bytes) → IsStoreOf s st file → HasFrames s st.tree →
-        after_flush s st file ≡ Ok (now, bytes) → LeftDuring (flush_calls s st file) file c → (store_of_disk c ≡ store_of_disk file) ⊎ (c ≡ bytes) }
+        after_flush s st file ≡ Ok (now, bytes) → LeftDuring (flush_calls s st file) file c →
+        (store_of_disk c ≡ store_of_disk file) ⊎ (c ≡ bytes) }
 {}
 
 /// The store that a disk stands for is one as every store is: proper, and in step with that disk, whatever the disk's bytes are.
@@ -49,9 +50,10 @@ pub fn bytes_that_no_reading_looks_at_do_not_matter()
         AgreeAt (λ place. IsLookedAt s st place ⊎ IsInSlot (suc st.sequence) place) file c → store_of_disk c ≡ Ok (s, st) }
 {}
 
-/// The disk of a new store stands for the first store, whatever bytes it had.
+/// The disk of a new store stands for the first store, which is one as every store is, whatever bytes it had.
 pub fn a_new_disk_stands_for_the_first_store()
-    ensures { (s : Settings) (disk : Bytes) → first_bad_field s ≡ None → HasSegments s disk → store_of_disk (disk_of_new s disk) ≡ Ok (s, first_store) }
+    ensures { (s : Settings) (disk : Bytes) → first_bad_field s ≡ None → HasSegments s disk →
+        (store_of_disk (disk_of_new s disk) ≡ Ok (s, first_store)) × IsStoreOf s first_store (disk_of_new s disk) }
 {}
 
 /// A store stays in step with its disk when its tree is replaced by one that keeps what the log has: as a batch replaces it. It stays

@@ -1,13 +1,13 @@
 use Rattle.std.specs.Prelude.{◌≡◌}
 use Rattle.std.proofs.Common.{ap}
-use Rattle.mapping.specs.Tree.{Tree, Store}
+use Rattle.mapping.specs.Tree.{Tree, Store, with_tree}
 use Rattle.mapping.specs.Levels.{contents}
 use Rattle.climb_plan.proofs.Untouched.{tree_stays, nothing_outdated, gets, net_run-gets}
 use Rattle.climb_plan.proofs.laws.commands_that_come_to_nothing_change_nothing.Goals as goal
 
 -- the store round a tree
-store_same : (st : Store) (t : Tree) → t ≡ st.tree → (let made : Tree → Store = λ x. record { tree = x; head = st.head; tail = st.tail; sequence = st.sequence } in made t ≡ st)
-store_same st t e = ap (λ (x : Tree). (let r : Store = record { tree = x; head = st.head; tail = st.tail; sequence = st.sequence } in r)) e
+store_same : (st : Store) (t : Tree) → t ≡ st.tree → with_tree st t ≡ st
+store_same st t e = ap (λ (x : Tree). with_tree st x) e
 
 pub returns : goal.returns
 returns g c = record {

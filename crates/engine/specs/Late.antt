@@ -1,0 +1,37 @@
+-- Faults that a store and its bytes don't decide, and what the making of a store leaves.
+use Rattle.std.specs.Prelude.{◌≡◌, ◌⊎◌, ℕ, ◌-◌, ◌^◌, ◌<◌, nat_lt, if◌then◌else◌, length, Option, Some, None, Result, Ok, Err}
+use Rattle.std.specs.Option.{option_or}
+use Rattle.keys.specs.Bytes.{Bytes}
+use Rattle.keys.specs.Limits.{first_bad_field}
+use Rattle.keys.specs.declared.fault.Fault.{Fault}
+use Rattle.keys.specs.declared.fault.Fault.TheVariants.{BadSettings, NoMemory, Device, DiskTooSmall}
+use Rattle.keys.specs.declared.settings.Field.{Field}
+use Rattle.keys.specs.declared.settings.Settings.{Settings}
+use Rattle.mapping.specs.Tree.{Store}
+use Rattle.flush_log.specs.NewStore.{disk_of_new}
+use Rattle.flush_log.specs.Segments.{disk_size}
+use Rattle.recovery.specs.StoreOfDisk.{first_store}
+
+-- a disk has failed, whose count of failures was the first and is the second: it grew, or stands at its greatest
+abbrev pub HasFailed : ℕ → ℕ → Type 0
+HasFailed old new = (old < new) ⊎ (new ≡ 2 ^ 64 - 1)
+
+-- memory was refused, or the disk has failed
+abbrev pub IsLate : ℕ → ℕ → Fault → Type 0
+IsLate old new fault = (fault ≡ NoMemory) ⊎ ((fault ≡ Device) × HasFailed old new)
+
+-- why no store is made on a disk of so many bytes: a field of the settings is bad, or the disk has no room for all segments
+abbrev pub field_fault : Option Field → Option Fault
+field_fault None = None
+field_fault (Some field) = Some (BadSettings field)
+
+abbrev pub create_refusal : Settings → ℕ → Option Fault
+create_refusal s size = option_or (field_fault (first_bad_field s)) (if nat_lt size (disk_size s) then Some DiskTooSmall else None)
+
+-- what the making of a store leaves on a disk with these bytes, or why it is refused
+abbrev pub made_unless : Option Fault → Settings → Bytes → Result (Store × Bytes) Fault
+made_unless None s disk = Ok (first_store, disk_of_new s disk)
+made_unless (Some fault) s disk = Err fault
+
+abbrev pub after_create : Settings → Bytes → Result (Store × Bytes) Fault
+after_create s disk = made_unless (create_refusal s (length disk)) s disk
