@@ -7,6 +7,8 @@ pub mod CallLaws
 pub mod CalledLaws
 pub mod CommitLaws
 pub mod FitLaws
+pub mod GatherLaws
+pub mod GatherRuns
 pub mod HeadLaws
 pub mod HideLaws
 pub mod ImageLaws
