@@ -1,7 +1,7 @@
 -- How bytes are gathered for a segment, and what the gathered spans are.
 use Rattle.std.proofs.Common.{◌≡◌, ℕ, zero, suc, ◌+◌, ◌-◌, ◌*◌, ◌/◌, ◌%◌, ◌<◌, ◌≤◌, Bool, true, false, nat_le, if◌then◌else◌, List, [], ◌∷◌, ◌++◌, length, length-append, map, take, drop, replicate, slice_range, refl, sym, ap, ◌∙◌, arith, le-leb, add-one}
 use Rattle.std.proofs.lemmas.Bool.{lt-leb}
-use Rattle.std.proofs.lemmas.List.{places, same_lists, length-take-le, length-drop}
+use Rattle.std.proofs.lemmas.List.{places, same_lists, length-take-le, length-drop, length-replicate}
 use Rattle.std.proofs.Math.Nat.{mul-le-mul_left}
 use Rattle.keys.specs.Bytes.{Bytes}
 use Rattle.frame_codec.specs.Frame.{Frame, bytes_of}
@@ -19,6 +19,15 @@ use borrow.Rule.Slice.PartMut.{put_mid}
 pub put_behind : (buffer new : Bytes) (from at size end : ℕ) → from ≤ at → at + size ≡ end → end ≤ length buffer → length new ≡ size
     → slice_range (put_mid at size buffer new) from end ≡ slice_range buffer from at ++ new
 put_behind buffer new from at size end rising is within long = same_lists _ _ (grind (arith, places)) (λ k d h. grind (arith, places))
+
+-- and zeros
+pub put_zeros : (buffer new : Bytes) (from at end size : ℕ) → from ≤ at → at ≤ end → end ≤ length buffer → size ≡ end - at → new ≡ replicate size 0
+    → slice_range (put_mid at (end - at) buffer new) from end ≡ slice_range buffer from at ++ replicate (end - at) 0
+put_zeros buffer new from at end size rising upto within long zeros =
+    let same : new ≡ replicate (end - at) 0 = zeros ∙ ap (λ (n : ℕ). replicate n 0) long in
+    let count : length new ≡ end - at = ap (λ (bs : Bytes). length bs) same ∙ length-replicate {A = ℕ} (end - at) 0 in
+    put_behind buffer new from at (end - at) end rising (omega arith) within count
+    ∙ ap (λ (bs : Bytes). slice_range buffer from at ++ bs) same
 
 -- ---- what is gathered, and the spans that are left
 
