@@ -1,9 +1,9 @@
 -- A walk over frames that gathers and writes them: what is written, and what a crash leaves meanwhile.
-use Rattle.std.proofs.Common.{◌≡◌, ℕ, ◌≤◌, IsTrue, Result, Ok, Err, OnOk, List, [], ◌∷◌, ◌++◌, length, refl, sym, ap, subst, ◌∙◌, arith, ◌⊎◌, inl, inr}
+use Rattle.std.proofs.Common.{◌≡◌, ℕ, ◌≤◌, IsTrue, Result, Ok, Err, OnOk, List, [], ◌∷◌, ◌++◌, refl, sym, ap, subst, ◌∙◌, arith, ◌⊎◌, inl, inr}
 use Rattle.keys.specs.Bytes.{Bytes}
 use Rattle.keys.specs.declared.settings.Settings.{Settings}
 use Rattle.flush_log.specs.Commit.{IsBesideSpans}
-use Rattle.flush_log.specs.Disk.{View, Lawful, Kept, Elapses, Leaves}
+use Rattle.flush_log.specs.Disk.{View, Lawful, Kept, Leaves}
 use Rattle.flush_log.specs.Gathering.{left_by, open_after}
 use Rattle.flush_log.specs.Images.{FitSegments}
 use Rattle.flush_log.specs.Layout.{Span, place_of_span, with_spans}
@@ -149,8 +149,8 @@ module _ (s : Settings) (start : Span) (frames : List Bytes) (old : View) where
     pub ends-leaves : IsTrue old.is_honest → (IsTrue now.is_honest → Leaves now new (Beside (r ∷ []))) → Leaves old new (Beside all_spans)
     ends-leaves honest wrote =
         let last = leaves_less now new (Beside (r ∷ [])) (Beside all_spans)
-            (λ d e h. agree_less (IsBesideSpans s (r ∷ [])) (IsBesideSpans s all_spans) d e
-            (λ place k. subst (λ (x : Span). IsBesideSpans s (x ∷ []) place) (sym going.same) (beside-behind s (left_by s start frames) (open_after s start frames ∷ []) place k)) h)
-            (wrote (alive honest)) in
+        (λ d e h. agree_less (IsBesideSpans s (r ∷ [])) (IsBesideSpans s all_spans) d e
+        (λ place k. subst (λ (x : Span). IsBesideSpans s (x ∷ []) place) (sym going.same) (beside-behind s (left_by s start frames) (open_after s start frames ∷ []) place k)) h)
+        (wrote (alive honest)) in
         then old now new (Beside all_spans) (Beside all_spans) (Beside all_spans) (law (alive honest))
         (λ d e f. agree_then (IsBesideSpans s all_spans) d e f) (λ d e h. h) (leaves-all now (going.crash honest)) last

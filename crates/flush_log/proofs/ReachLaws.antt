@@ -1,6 +1,5 @@
 -- How far frames bring the end of a log.
 use Rattle.std.proofs.Common.{◌≡◌, ℕ, suc, ◌+◌, ◌*◌, ◌/◌, ◌%◌, ◌<◌, ◌≤◌, Bool, true, false, nat_le, nat_lt, if◌then◌else◌, List, [], ◌∷◌, ◌++◌, length, map, drop, Option, Some, None, refl, sym, ap, ◌∙◌, arith, leb-true, lt-ltb, ltb-true, ltb-false, le-ltb, add-one, zero, get_or, slice_get, subst}
-use Rattle.std.proofs.lemmas.Bool.{leb-false}
 use Rattle.std.proofs.lemmas.Nat.{div-add-mod', mod_below}
 use Rattle.std.specs.List.{AllByRecursion}
 use Rattle.keys.specs.Bytes.{Bytes}
@@ -8,7 +7,7 @@ use Rattle.keys.specs.Limits.{first_bad_field}
 use Rattle.keys.specs.declared.settings.Settings.{Settings}
 use Rattle.frame_codec.specs.Frame.{Frame, bytes_of, is_frame}
 use Rattle.flush_log.specs.Images.{frames_in, AreOfText, FitSegments, Reached, from_tail, reached, behind_frame, behind_frames, IsReached, unless_spent}
-use Rattle.flush_log.specs.Layout.{behind_header, PlacedFrame, placed_from, tail_behind, tail_after}
+use Rattle.flush_log.specs.Layout.{behind_header, placed_from, tail_behind, tail_after}
 use Rattle.flush_log.specs.Slot.{greatest}
 use Rattle.flush_log.proofs.FitLaws.{frame_fits}
 use Rattle.flush_log.proofs.LayoutLaws.{behind_header-within}

@@ -99,7 +99,10 @@ fn put_frame<D: Disk>(
         return Ok(Part { end, ..part });
     }
     pad(buffer, part.end, seg_size);
-    let whole = Part { end: seg_size, ..part };
+    let whole = Part {
+        end: seg_size,
+        ..part
+    };
     write_part(disk, settings, whole, buffer)?;
     let segment = part.segment + 1;
     put(buffer, 0, &segment_header(segment));
@@ -188,10 +191,10 @@ pub fn write_text<D: Disk>(
     ensures failed { CountsFailure result (D.failed disk.old) (D.failed disk.new) }
     ensures written { (text : List Frame) → AreOfText images.now text → 1 ≤ length text →
         IsTrue (D.view disk.old).is_honest → OnOk result ((D.view disk.new).seen
-            ≡ with_spans settings.now (D.view disk.old).seen (spans settings.now tail text)) }
+        ≡ with_spans settings.now (D.view disk.old).seen (spans settings.now tail text)) }
     ensures crash { (text : List Frame) → AreOfText images.now text → 1 ≤ length text →
         IsTrue (D.view disk.old).is_honest → Leaves (D.view disk.old) (D.view disk.new)
-            (AgreeAt (IsBesideSpans settings.now (spans settings.now tail text))) }
+        (AgreeAt (IsBesideSpans settings.now (spans settings.now tail text))) }
 {
     let mut part = begin_part(settings, tail, buffer);
     for image in images {

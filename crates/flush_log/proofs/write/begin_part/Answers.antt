@@ -1,4 +1,4 @@
-use Rattle.std.proofs.Common.{◌≡◌, ℕ, ◌+◌, ◌/◌, ◌%◌, ◌++◌, ◌≤◌, length, slice_range, ap, subst, ◌∙◌, arith}
+use Rattle.std.proofs.Common.{◌≡◌, ℕ, ◌+◌, ◌/◌, ◌%◌, ◌++◌, length, slice_range, ap, subst, ◌∙◌, arith}
 use Rattle.keys.specs.Bytes.{Bytes}
 use Rattle.flush_log.specs.Layout.{opened}
 use Rattle.flush_log.proofs.GatherLaws.{begun_is}

@@ -1,4 +1,4 @@
-use Rattle.std.proofs.Common.{◌∷◌, [], ◌+◌, ◌≤◌, drop, length, subst, ◌∙◌, arith}
+use Rattle.std.proofs.Common.{◌∷◌, [], ◌+◌, drop, subst, ◌∙◌, arith}
 use Rattle.flush_log.specs.Gathering.{span_of}
 use Rattle.flush_log.proofs.ReachLaws.{front}
 use Rattle.flush_log.proofs.GatherRuns.{Going, going-room, going-leaves, going-on}

@@ -1,13 +1,12 @@
-use Rattle.std.proofs.Common.{◌≡◌, refl, ◌∷◌, [], ◌++◌, ◌+◌, ◌/◌, ◌%◌, ◌≤◌, drop, length, List, sym, ap, subst, ◌∙◌, arith}
+use Rattle.std.proofs.Common.{refl, ◌+◌, ◌/◌, ◌%◌, drop, List, sym, ap, subst, ◌∙◌, arith}
 use Rattle.std.proofs.lemmas.List.{at_drop_all}
 use Rattle.keys.specs.Bytes.{Bytes}
 use Rattle.flush_log.specs.Commit.{IsBesideSpans}
 use Rattle.flush_log.specs.Disk.{Leaves}
-use Rattle.flush_log.specs.Gathering.{span_of, open_after}
+use Rattle.flush_log.specs.Gathering.{span_of}
 use Rattle.flush_log.specs.Images.{frames_in, FitSegments}
 use Rattle.flush_log.specs.Layout.{Span, opened, with_spans}
 use Rattle.flush_log.specs.Overlay.{AgreeAt}
-use Rattle.flush_log.specs.Slot.{greatest}
 use Rattle.flush_log.proofs.FitLaws.{are_sized}
 use Rattle.flush_log.proofs.GatherLaws.{text-spans, open-upto}
 use Rattle.flush_log.proofs.GatherRuns.{Going, going-starts, going-room, going-leaves, going-on, leaves-all, on_ok, alive, ends-written, ends-leaves}
