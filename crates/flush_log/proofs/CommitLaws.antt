@@ -6,7 +6,7 @@ use Rattle.flush_log.specs.Overlay.{overlay, IsBeside, AgreeAt}
 use Rattle.flush_log.specs.Layout.{Span, place_of_span, with_spans}
 use Rattle.flush_log.specs.Disk.{Torn}
 use Rattle.flush_log.specs.Slot.{Slot, slot_place, slot_body, slot_bytes, is_open}
-use Rattle.flush_log.specs.Commit.{Call, seen_after, MayLeave, LeftDuring, AreWithin, close_gate, prepare, open_gate, commit_calls, committed, IsBesideSpans, IsBesideSlot, IsUncommitted}
+use Rattle.flush_log.specs.Commit.{Call, seen_after, MayLeave, LeftDuring, AreWithin, close_gate, IsClosing, prepare, open_gate, commit_calls, committed, IsBesideSpans, IsBesideSlot, IsUncommitted}
 use Rattle.flush_log.specs.Commit.Call.{Write, Sync}
 use Rattle.flush_log.proofs.OverlayLaws.{length-overlay, overlay-beside, overlay-at, overlay-is, agree_same, agree_then, agree_less, agree_over}
 use Rattle.flush_log.proofs.CallLaws.{During, seen_after-append, leave-append, during-append, after_all, writes, seen_after-writes, writes-during}
@@ -69,8 +69,7 @@ module _ (s : Settings) (file : List ℕ) (spans : List Span) (t : Slot) (long :
 
   -- the gate is being closed, where it is to be
   abbrev Closing : Bool → List ℕ → Type 0
-  Closing true c = Torn place 1 file c
-  Closing false c = c ≡ file
+  Closing b c = IsClosing b place file c
 
   no_torn : (c : List ℕ) → c ≡ file → Torn place 1 file c
   no_torn c is = subst (λ (f : List ℕ). Torn place 1 file f) (sym is) (agree_same (IsBeside place 1) file)
@@ -103,7 +102,7 @@ module _ (s : Settings) (file : List ℕ) (spans : List Span) (t : Slot) (long :
       (agree_less (IsBesideSpans s spans) (IsBesideSlot s t.sequence spans) d c (λ i out. out.1) same)
 
   -- the spans are torn, over a gate that is being closed
-  before_from : (b : Bool) → is_open t.sequence file ≡ b → (d c : List ℕ) → Closing b d → AgreeAt (IsBesideSpans s spans) d c → Before c
+  pub before_from : (b : Bool) → is_open t.sequence file ≡ b → (d c : List ℕ) → Closing b d → AgreeAt (IsBesideSpans s spans) d c → Before c
   before_from false was d c is same = inl (subst (λ (f : List ℕ). AgreeAt (IsBesideSpans s spans) f c) is same)
   before_from true was d c torn same = elim (cases_Bool (is_open t.sequence c)) [
     | inl stands ↦
@@ -140,7 +139,7 @@ module _ (s : Settings) (file : List ℕ) (spans : List Span) (t : Slot) (long :
         of false is = no_torn shut_file is
         of true torn = torn
 
-    shut_fit : AreWithin s (length shut_file) spans
+    pub shut_fit : AreWithin s (length shut_file) spans
     shut_fit = within_same s file shut_file spans shut_torn.long fit
 
     mid_same : AgreeAt (IsBesideSpans s spans) shut_file mid
@@ -148,7 +147,7 @@ module _ (s : Settings) (file : List ℕ) (spans : List Span) (t : Slot) (long :
         subst (λ (f : List ℕ). AgreeAt (IsBesideSpans s spans) shut_file f) (sym (seen_after-writes s spans shut_file))
         (spans-beside s spans shut_file shut_fit)
 
-    mid_agree : AgreeAt (IsBesideSlot s t.sequence spans) file mid
+    pub mid_agree : AgreeAt (IsBesideSlot s t.sequence spans) file mid
     mid_agree = slot_agree shut_file mid shut_torn mid_same
 
     shut_gate : (get_or shut_file place 0 == 1) ≡ false
@@ -160,7 +159,7 @@ module _ (s : Settings) (file : List ℕ) (spans : List Span) (t : Slot) (long :
             let zero_place : place ≡ place + 0 = omega arith in
             ap (λ (n : ℕ). n == 1) (overlay-at file place (0 ∷ []) place 0 gate_fits zero_place (omega arith))
 
-    mid_shut : is_open t.sequence mid ≡ false
+    pub mid_shut : is_open t.sequence mid ≡ false
     mid_shut = ap (λ (n : ℕ). n == 1) (mid_same.same place gate_beside) ∙ shut_gate
 
     -- the slot behind its gate was changed alone

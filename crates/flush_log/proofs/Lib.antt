@@ -6,6 +6,7 @@ mod ByteRowThree
 pub mod CallLaws
 pub mod CalledLaws
 pub mod CommitLaws
+pub mod CommitRuns
 pub mod FitLaws
 pub mod GatherLaws
 pub mod GatherRuns
@@ -31,6 +32,8 @@ pub mod SettingsLaws
 pub mod SlotLaws
 pub mod SlotReading
 mod SlotRows
+pub mod SlotRuns
+pub mod SpanRuns
 pub mod StandingLaws
 pub mod StandsLaws
 pub mod TailLaws

@@ -1,11 +1,21 @@
 -- What a crash leaves of runs of calls, on any disk: for the proofs of what writes to a disk. A view is no value that a contract
 -- can name for all, so these laws stand on no function.
-use Rattle.std.proofs.Common.{◌≡◌, inl, inr, ⊎_elim, ℕ, zero, suc, List, [], ◌∷◌, ◌++◌, length, refl, sym, ap, subst, ◌∙◌, arith}
+use Rattle.std.proofs.Common.{◌≡◌, inl, inr, ⊎_elim, ℕ, zero, suc, ◌+◌, ◌-◌, ◌^◌, min, List, [], ◌∷◌, ◌++◌, length, refl, sym, ap, subst, ◌∙◌, arith}
+use Rattle.std.proofs.lemmas.Bool.{cases_lt}
 use Rattle.flush_log.specs.Overlay.{overlay}
-use Rattle.flush_log.specs.Disk.{View, Lawful, Only, IsSettled, Torn, Elapses, Leaves, LeavesOnly}
+use Rattle.flush_log.specs.Disk.{HasFailed, View, Lawful, Only, IsSettled, Torn, Elapses, Leaves, LeavesOnly}
 use Rattle.flush_log.specs.Commit.{Call, seen_after, MayLeave, LeftDuring}
 use Rattle.flush_log.specs.Commit.Call.{Write, Sync}
 use Rattle.flush_log.proofs.CallLaws.{During, TornFrom, seen_after-append, after_all}
+
+-- ---- failures
+
+-- one failure is one
+pub counted_failed : (old new : ℕ) → new ≡ min (old + 1) (2 ^ 64 - 1) → HasFailed old new
+counted_failed old new is = elim (cases_lt (old + 1) (2 ^ 64 - 1)) [
+  | inl less ↦ inl (omega (arith, is, less))
+  | inr most ↦ inr (omega (arith, is, most))
+]
 
 -- ---- runs by steps
 

@@ -47,6 +47,11 @@ abbrev pub close_gate : Bool → ℕ → List Call
 close_gate true place = Write place (0 ∷ []) ∷ []
 close_gate false place = []
 
+-- what may be left while it is closed
+abbrev pub IsClosing : Bool → ℕ → Bytes → Bytes → Type 0
+IsClosing true place file c = Torn place 1 file c
+IsClosing false place file c = c ≡ file
+
 -- steps 1 to 5: the gate is closed, the spans are written, and then the slot behind its gate
 abbrev pub prepare : Settings → Bytes → List Span → Slot → List Call
 prepare s file spans t =
@@ -75,6 +80,10 @@ pub record HasRoom (s : Settings) (file : Bytes) (t : Slot) (text : List Frame) 
   pub free : last_segment s (tail_after s t.tail text) < t.head + s.segments
 
 -- ---- what may be left of it
+
+-- what may be left while slot n is written behind its closed gate: it is closed still, and all else is as it was
+abbrev pub IsBehindGate : ℕ → Bytes → Bytes → Type 0
+IsBehindGate n file c = (is_open n c ≡ false) × AgreeAt (IsBeside (slot_place n) slot_size) file c
 
 -- a place is in none of these spans
 abbrev pub IsBesideSpans : Settings → List Span → ℕ → Type 0

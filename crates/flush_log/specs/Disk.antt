@@ -1,5 +1,5 @@
 -- What a disk is at one moment: what a read gives and what a crash leaves; and what calls do to that.
-use Rattle.std.specs.Prelude.{◌≡◌, ◌⊎◌, ◌↔◌, ℕ, ◌+◌, ◌-◌, ◌^◌, ◌≤◌, min, Bool, IsTrue, length, Result, MatchResult}
+use Rattle.std.specs.Prelude.{◌≡◌, ◌⊎◌, ◌↔◌, ℕ, ◌+◌, ◌-◌, ◌^◌, ◌<◌, ◌≤◌, min, Bool, IsTrue, length, Result, MatchResult}
 use Rattle.keys.specs.Bytes.{Bytes}
 use Rattle.flush_log.specs.Overlay.{IsBeside, AgreeAt}
 
@@ -80,3 +80,7 @@ pub record LeavesOnly (old new : View) (P : Bytes → Type 0) : Type 0 where
 -- a call counts as failed just where it answered Err; the count stops at its greatest
 abbrev pub CountsFailure : {X E : Type 0} → Result X E → ℕ → ℕ → Type 0
 CountsFailure result old new = MatchResult result (λ _. new ≡ old) (λ _. new ≡ min (old + 1) (2 ^ 64 - 1))
+
+-- a call failed meanwhile: the count grew, or it stands at its greatest
+abbrev pub HasFailed : ℕ → ℕ → Type 0
+HasFailed old new = (old < new) ⊎ (new ≡ 2 ^ 64 - 1)

@@ -5,6 +5,7 @@
 //! before, or all of it.
 #![tactic(auto)]
 
+pub mod commit;
 pub mod commit_laws;
 pub mod disk;
 pub mod image;
@@ -19,5 +20,6 @@ pub mod slot;
 pub mod slot_laws;
 pub mod write;
 
+pub use crate::commit::{WrittenSpan, write_commit};
 pub use crate::disk::{Disk, DiskFault};
 pub use crate::mem_disk::MemDisk;
