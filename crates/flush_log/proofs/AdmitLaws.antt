@@ -1,11 +1,11 @@
 -- Why a commit is refused, told by its tail.
-use Rattle.std.proofs.Common.{◌≡◌, ℕ, ◌+◌, ◌-◌, ◌≤◌, Bool, true, false, nat_le, if◌then◌else◌, Option, Some, None, Result, Ok, Err, refl, sym, ap, ◌∙◌, arith}
+use Rattle.std.proofs.Common.{◌≡◌, ℕ, ◌+◌, ◌-◌, Bool, true, false, nat_le, if◌then◌else◌, Option, Some, None, Result, Ok, Err, refl, sym, ap, ◌∙◌, arith}
 use Rattle.keys.specs.declared.settings.Settings.{Settings}
 use Rattle.keys.specs.declared.fault.Fault.{Fault}
 use Rattle.keys.specs.declared.fault.Fault.TheVariants.{Full, Spent}
 use Rattle.flush_log.specs.AfterFlush.{is_spent}
 use Rattle.flush_log.specs.Images.{admitted}
-use Rattle.flush_log.specs.Layout.{is_full_for_flush, is_full_for_clean}
+use Rattle.flush_log.specs.Layout.{is_full_for_clean}
 use Rattle.flush_log.specs.Segments.{last_segment}
 use Rattle.flush_log.specs.Slot.{Slot}
 

@@ -1,5 +1,5 @@
 -- Frames that are held back to back.
-use Rattle.std.proofs.Common.{◌≡◌, ℕ, zero, suc, ◌+◌, ◌-◌, ◌<◌, ◌≤◌, List, [], ◌∷◌, ◌++◌, length, get_or, slice_get, slice_range, Some, refl, sym, ap, ◌∙◌, arith}
+use Rattle.std.proofs.Common.{◌≡◌, ℕ, zero, suc, ◌-◌, ◌<◌, ◌≤◌, List, [], ◌∷◌, length, get_or, slice_get, slice_range, Some, refl, ap, arith}
 use native.Mathlib.Numerals.{unary_clauses}
 use Rattle.keys.specs.Bytes.{Bytes}
 use Rattle.delta_chain.specs.Packed.{AreEnds}

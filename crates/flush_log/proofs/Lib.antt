@@ -8,6 +8,8 @@ pub mod CalledLaws
 pub mod CommitLaws
 pub mod CommitRuns
 pub mod FitLaws
+pub mod GatherLaws
+pub mod GatherRuns
 pub mod HeadLaws
 pub mod HideLaws
 pub mod ImageLaws

@@ -1,5 +1,5 @@
 -- A list whose parts are written one after the other.
-use Rattle.std.proofs.Common.{◌≡◌, ℕ, ◌+◌, [], ◌++◌, length, length-append, take, drop, ap, ap₂, ◌∙◌, append_assoc, append-nil, arith}
+use Rattle.std.proofs.Common.{◌≡◌, ℕ, ◌+◌, [], ◌++◌, length, length-append, drop, ap, ap₂, ◌∙◌, append_assoc, append-nil, arith}
 use Rattle.std.proofs.lemmas.List.{take_at, drop_at}
 use Rattle.keys.specs.Bytes.{Bytes}
 use borrow.Rule.Slice.PartMut.{put_mid}

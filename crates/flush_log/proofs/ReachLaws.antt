@@ -1,13 +1,15 @@
 -- How far frames bring the end of a log.
 use Rattle.std.proofs.Common.{◌≡◌, ℕ, suc, ◌+◌, ◌*◌, ◌/◌, ◌%◌, ◌<◌, ◌≤◌, Bool, true, false, nat_le, nat_lt, if◌then◌else◌, List, [], ◌∷◌, ◌++◌, length, map, drop, Option, Some, None, refl, sym, ap, ◌∙◌, arith, leb-true, lt-ltb, ltb-true, ltb-false, le-ltb, add-one, zero, get_or, slice_get, subst}
-use Rattle.std.proofs.lemmas.Bool.{leb-false}
 use Rattle.std.proofs.lemmas.Nat.{div-add-mod', mod_below}
+use Rattle.std.specs.List.{AllByRecursion}
 use Rattle.keys.specs.Bytes.{Bytes}
+use Rattle.keys.specs.Limits.{first_bad_field}
 use Rattle.keys.specs.declared.settings.Settings.{Settings}
-use Rattle.frame_codec.specs.Frame.{Frame, bytes_of}
-use Rattle.flush_log.specs.Images.{FitSegments, Reached, from_tail, reached, behind_frame, behind_frames, IsReached, unless_spent}
-use Rattle.flush_log.specs.Layout.{behind_header, PlacedFrame, placed_from, tail_behind, tail_after}
+use Rattle.frame_codec.specs.Frame.{Frame, bytes_of, is_frame}
+use Rattle.flush_log.specs.Images.{frames_in, AreOfText, FitSegments, Reached, from_tail, reached, behind_frame, behind_frames, IsReached, unless_spent}
+use Rattle.flush_log.specs.Layout.{behind_header, placed_from, tail_behind, tail_after}
 use Rattle.flush_log.specs.Slot.{greatest}
+use Rattle.flush_log.proofs.FitLaws.{frame_fits}
 use Rattle.flush_log.proofs.LayoutLaws.{behind_header-within}
 
 abbrev pub some_tail : ℕ → Option ℕ
@@ -166,6 +168,14 @@ module _ (s : Settings) where
       let (is, low) = told_some r q h in
       let tail : r.tail ≡ t = ap (λ (x : Reached). x.tail) is ∙ same in
       sym (ap (tail_told r.tail) (le-ltb greatest r.tail low)) ∙ ap (λ (n : ℕ). tail_told n (nat_lt greatest n)) tail
+
+-- the frames of a text that a store may have fit
+pub text-fits : (s : Settings) → first_bad_field s ≡ None → (images : List (List Bytes)) (text : List Frame) → AreOfText images text → AllByRecursion (λ f. is_frame s f ≡ true) text → FitSegments s (frames_in images)
+text-fits s good images text of within = subst (FitSegments s) (sym of) (each text within)
+  where
+    each : (fs : List Frame) → AllByRecursion (λ f. is_frame s f ≡ true) fs → FitSegments s (map (λ f. bytes_of f) fs)
+    each [] h = tt
+    each (f ∷ fs) h = (frame_fits s f good h.0, each fs h.1)
 
 -- ---- places of a list
 

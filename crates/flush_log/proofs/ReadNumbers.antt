@@ -1,5 +1,5 @@
 -- A number that the library reads of bytes is the one that the definitions read there.
-use Rattle.std.proofs.Common.{◌≡◌, ℕ, zero, suc, ◌+◌, ◌*◌, ◌^◌, ◌≤◌, ◌<◌, List, [], ◌∷◌, length, length-drop, take, drop, Option, Some, None, slice_index, refl, sym, ap, ◌∙◌, arith}
+use Rattle.std.proofs.Common.{◌≡◌, ℕ, zero, suc, ◌+◌, ◌*◌, ◌^◌, ◌≤◌, [], ◌∷◌, length, length-drop, take, drop, Option, Some, refl, sym, ap, ◌∙◌, arith}
 use Rattle.byteorder.specs.Endian.{big_from}
 use Rattle.byteorder.specs.Numbers.{big_from-cons, big_from-take}
 use Rattle.keys.specs.Bytes.{Bytes}

@@ -1,5 +1,5 @@
 //! The log on a disk: the settings block and the slots, the segments, where the frames of a text stand, what a reading finds, and
-//! the commit that makes a text and a slot the store's. So far there are the definitions, in `specs/`, and the laws on them.
+//! the commit that makes a text and a slot the store's. `specs/` has the definitions.
 //!
 //! Laws: what is spelled is read back; a text that is written is found by the next reading; a crash during a commit leaves what was
 //! before, or all of it.
@@ -18,6 +18,7 @@ pub mod segments;
 pub mod settings_block;
 pub mod slot;
 pub mod slot_laws;
+pub mod write;
 
 pub use crate::commit::{WrittenSpan, write_commit};
 pub use crate::disk::{Disk, DiskFault};

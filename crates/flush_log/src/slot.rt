@@ -74,7 +74,8 @@ fn is_behind(settings: &Settings, head: u64, tail: u64) -> bool
     requires { first_bad_field settings.now ≡ None }
     ensures { result ≡ nat_lt (head * settings.now.seg_size + segment_header_size) tail }
 {
-    SEGMENT_HEADER_SIZE < tail && head <= (tail - (SEGMENT_HEADER_SIZE + 1)) / u64::from(settings.seg_size)
+    SEGMENT_HEADER_SIZE < tail
+        && head <= (tail - (SEGMENT_HEADER_SIZE + 1)) / u64::from(settings.seg_size)
 }
 
 // Whether a log may end at this position: at a segment's end, or behind a byte of a frame.

@@ -1,6 +1,5 @@
-use Rattle.std.proofs.Common.{◌≡◌, ◌<◌, ◌≤◌, ◌+◌, ◌∷◌, [], ◌++◌, drop, length, subst, sym, ap, ◌∙◌, arith}
-use Rattle.keys.specs.Bytes.{Bytes}
-use Rattle.flush_log.specs.Images.{Reached, behind_frame}
+use Rattle.std.proofs.Common.{◌<◌, ◌≤◌, ◌+◌, ◌∷◌, [], drop, subst, ap, arith}
+use Rattle.flush_log.specs.Images.{Reached}
 use Rattle.flush_log.specs.Slot.{greatest}
 use Rattle.flush_log.proofs.ReachLaws.{Walk, walk-on, walk-spent, front}
 use Rattle.flush_log.proofs.layout.behind_image.Goals as goal

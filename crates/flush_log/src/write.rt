@@ -1,0 +1,204 @@
+//! The frames of a text written behind the tail of a log, one write for each segment.
+ghost use Rattle.std.specs.Prelude.{◌≡◌, ℕ, ◌+◌, ◌-◌, ◌/◌, ◌%◌, ◌≤◌, List, ◌∷◌, [], ◌++◌, IsTrue, length, replicate, slice_range, None, IfOk, OnOk};
+ghost use Rattle.keys.specs.Limits.{first_bad_field};
+ghost use Rattle.keys.specs.Sizes.{segment_header_size};
+ghost use Rattle.frame_codec.specs.Frame.{Frame};
+ghost use Rattle.flush_log.specs.Disk.{Kept, Leaves, CountsFailure};
+ghost use Rattle.flush_log.specs.Overlay.{AgreeAt};
+ghost use Rattle.flush_log.specs.Commit.{IsBesideSpans};
+ghost use Rattle.flush_log.specs.Gathering.{left_by, open_after, span_of, IsInside};
+ghost use Rattle.flush_log.specs.Images.{frames_in, AreOfText, FitSegments};
+ghost use Rattle.flush_log.specs.Layout.{opened, tail_after, spans, with_spans};
+ghost use Rattle.flush_log.specs.Segments.{disk_size};
+ghost use Rattle.flush_log.specs.Slot.{greatest};
+
+use crate::disk::{Disk, DiskFault};
+use crate::image::Image;
+use crate::segments::{place_of_segment, segment_header};
+use keys::Settings;
+
+// What is gathered of a segment and not yet written: from an offset on, up to another. A buffer has the segment's bytes at
+// their offsets.
+#[derive(Clone, Copy)]
+struct Part {
+    segment: u64,
+    from: usize,
+    end: usize,
+}
+
+// Puts bytes behind what is gathered up to a place.
+fn put(buffer: &mut [u8], at: usize, bytes: &[u8])
+    requires { at + length bytes.now ≤ length buffer.old }
+    ensures { (from : ℕ) → from ≤ at →
+        slice_range buffer.new from (at + length bytes.now) ≡ slice_range buffer.old from at ++ bytes.now }
+{
+    buffer[at..at + bytes.len()].copy_from_slice(bytes);
+}
+
+// Puts zeros behind what is gathered up to a place.
+fn pad(buffer: &mut [u8], at: usize, end: usize)
+    requires rising { at ≤ end }
+    requires within { end ≤ length buffer.old }
+    ensures { (from : ℕ) → from ≤ at →
+        slice_range buffer.new from end ≡ slice_range buffer.old from at ++ replicate (end - at) 0 }
+{
+    buffer[at..end].fill(0);
+}
+
+// Writes what is gathered of a segment.
+fn write_part<D: Disk>(
+    disk: &mut D,
+    settings: &Settings,
+    part: Part,
+    buffer: &[u8],
+) -> Result<(), DiskFault>
+    requires checked { first_bad_field settings.now ≡ None }
+    requires inside { IsInside settings.now part }
+    requires buffer { settings.now.seg_size ≤ length buffer.now }
+    requires within { disk_size settings.now ≤ (D.view disk.old).size }
+    ensures kept { Kept (D.view disk.old) (D.view disk.new) }
+    ensures failed { CountsFailure result (D.failed disk.old) (D.failed disk.new) }
+    ensures written { IsTrue (D.view disk.old).is_honest → OnOk result ((D.view disk.new).seen
+        ≡ with_spans settings.now (D.view disk.old).seen (span_of part buffer.now ∷ [])) }
+    ensures crash { IsTrue (D.view disk.old).is_honest → Leaves (D.view disk.old) (D.view disk.new)
+        (AgreeAt (IsBesideSpans settings.now (span_of part buffer.now ∷ []))) }
+{
+    let at = place_of_segment(settings, part.segment) + part.from as u64;
+    disk.write_at(at, &buffer[part.from..part.end])
+}
+
+// Gathers a frame: behind what is gathered, where it fits into the segment. Else the segment is filled with zeros and written,
+// and the frame stands behind the header of the next one.
+fn put_frame<D: Disk>(
+    disk: &mut D,
+    settings: &Settings,
+    part: Part,
+    buffer: &mut [u8],
+    frame: &[u8],
+) -> Result<Part, DiskFault>
+    requires checked { first_bad_field settings.now ≡ None }
+    requires inside { IsInside settings.now part }
+    requires buffer { settings.now.seg_size ≤ length buffer.old }
+    requires within { disk_size settings.now ≤ (D.view disk.old).size }
+    requires fits { segment_header_size + length frame.now ≤ settings.now.seg_size }
+    requires room { (open_after settings.now (span_of part buffer.old) (frame.now ∷ [])).segment ≤ greatest }
+    ensures inside { IfOk result (λ next. IsInside settings.now next) }
+    ensures same { IfOk result (λ next. span_of next buffer.new
+        ≡ open_after settings.now (span_of part buffer.old) (frame.now ∷ [])) }
+    ensures kept { Kept (D.view disk.old) (D.view disk.new) }
+    ensures failed { CountsFailure result (D.failed disk.old) (D.failed disk.new) }
+    ensures written { IsTrue (D.view disk.old).is_honest → OnOk result ((D.view disk.new).seen
+        ≡ with_spans settings.now (D.view disk.old).seen (left_by settings.now (span_of part buffer.old) (frame.now ∷ []))) }
+    ensures crash { IsTrue (D.view disk.old).is_honest → Leaves (D.view disk.old) (D.view disk.new)
+        (AgreeAt (IsBesideSpans settings.now (left_by settings.now (span_of part buffer.old) (frame.now ∷ [])))) }
+{
+    let seg_size = settings.seg_size as usize;
+    let end = part.end + frame.len();
+    if end <= seg_size {
+        put(buffer, part.end, frame);
+        return Ok(Part { end, ..part });
+    }
+    pad(buffer, part.end, seg_size);
+    let whole = Part {
+        end: seg_size,
+        ..part
+    };
+    write_part(disk, settings, whole, buffer)?;
+    let segment = part.segment + 1;
+    put(buffer, 0, &segment_header(segment));
+    put(buffer, 16, frame);
+    Ok(Part {
+        segment,
+        from: 0,
+        end: 16 + frame.len(),
+    })
+}
+
+// Gathers the frames of an image, each as `put_frame` does.
+fn put_image<D: Disk>(
+    disk: &mut D,
+    settings: &Settings,
+    part: Part,
+    buffer: &mut [u8],
+    image: &Image,
+) -> Result<Part, DiskFault>
+    requires checked { first_bad_field settings.now ≡ None }
+    requires inside { IsInside settings.now part }
+    requires buffer { settings.now.seg_size ≤ length buffer.old }
+    requires within { disk_size settings.now ≤ (D.view disk.old).size }
+    requires fits { FitSegments settings.now image.now }
+    requires room { (open_after settings.now (span_of part buffer.old) image.now).segment ≤ greatest }
+    ensures inside { IfOk result (λ next. IsInside settings.now next) }
+    ensures same { IfOk result (λ next. span_of next buffer.new
+        ≡ open_after settings.now (span_of part buffer.old) image.now) }
+    ensures kept { Kept (D.view disk.old) (D.view disk.new) }
+    ensures failed { CountsFailure result (D.failed disk.old) (D.failed disk.new) }
+    ensures written { IsTrue (D.view disk.old).is_honest → OnOk result ((D.view disk.new).seen
+        ≡ with_spans settings.now (D.view disk.old).seen (left_by settings.now (span_of part buffer.old) image.now)) }
+    ensures crash { IsTrue (D.view disk.old).is_honest → Leaves (D.view disk.old) (D.view disk.new)
+        (AgreeAt (IsBesideSpans settings.now (left_by settings.now (span_of part buffer.old) image.now))) }
+{
+    let mut gathered = part;
+    for at in 0..image.len() {
+        gathered = put_frame(disk, settings, gathered, buffer, image.frame(at))?;
+    }
+    Ok(gathered)
+}
+
+// Begins to gather a text that is written from this tail on: with a segment's header, where the segment is begun.
+fn begin_part(settings: &Settings, tail: u64, buffer: &mut [u8]) -> Part
+    requires checked { first_bad_field settings.now ≡ None }
+    requires buffer { settings.now.seg_size ≤ length buffer.old }
+    ensures inside { IsInside settings.now result }
+    ensures same { span_of result buffer.new ≡ opened (tail / settings.now.seg_size) (tail % settings.now.seg_size) }
+{
+    let seg_size = u64::from(settings.seg_size);
+    let segment = tail / seg_size;
+    let used = (tail % seg_size) as usize;
+    if used > 0 {
+        return Part {
+            segment,
+            from: used,
+            end: used,
+        };
+    }
+    put(buffer, 0, &segment_header(segment));
+    Part {
+        segment,
+        from: 0,
+        end: 16,
+    }
+}
+
+/// Writes the frames of a text behind the tail, one call for each segment: the header where a segment is begun, the frames,
+/// and zeros to the end of a segment that is left. `buffer` is where a segment's bytes are gathered, and has room for one.
+/// Where a call fails the rest is not made.
+///
+/// A crash meanwhile leaves what was before, but for any bytes where the text is written.
+pub fn write_text<D: Disk>(
+    disk: &mut D,
+    settings: &Settings,
+    tail: u64,
+    images: &[Image],
+    buffer: &mut [u8],
+) -> Result<(), DiskFault>
+    requires checked { first_bad_field settings.now ≡ None }
+    requires within { disk_size settings.now ≤ (D.view disk.old).size }
+    requires buffer { settings.now.seg_size ≤ length buffer.old }
+    requires fits { FitSegments settings.now (frames_in images.now) }
+    requires room { (text : List Frame) × AreOfText images.now text × (tail_after settings.now tail text ≤ greatest) }
+    ensures kept { Kept (D.view disk.old) (D.view disk.new) }
+    ensures failed { CountsFailure result (D.failed disk.old) (D.failed disk.new) }
+    ensures written { (text : List Frame) → AreOfText images.now text → 1 ≤ length text →
+        IsTrue (D.view disk.old).is_honest → OnOk result ((D.view disk.new).seen
+        ≡ with_spans settings.now (D.view disk.old).seen (spans settings.now tail text)) }
+    ensures crash { (text : List Frame) → AreOfText images.now text → 1 ≤ length text →
+        IsTrue (D.view disk.old).is_honest → Leaves (D.view disk.old) (D.view disk.new)
+        (AgreeAt (IsBesideSpans settings.now (spans settings.now tail text))) }
+{
+    let mut part = begin_part(settings, tail, buffer);
+    for image in images {
+        part = put_image(disk, settings, part, buffer, image)?;
+    }
+    write_part(disk, settings, part, buffer)
+}
