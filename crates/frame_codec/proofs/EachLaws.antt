@@ -77,11 +77,11 @@ each-long c (suc n) bs xs rest h = more_long c n (each-long c n) (c.read bs) xs 
 
 -- ---- entries
 
-not_true : (b : Bool) → (b ≡ true → ⊥) → b ≡ false
+pub not_true : (b : Bool) → (b ≡ true → ⊥) → b ≡ false
 not_true true h = absurd (h refl)
 not_true false h = refl
 
-fails_last : (a b : Bool) → b ≡ false → (a && b) ≡ false
+pub fails_last : (a b : Bool) → b ≡ false → (a && b) ≡ false
 fails_last true b h = h
 fails_last false b h = refl
 
