@@ -1,5 +1,6 @@
 //! Frames read from bytes, whatever these are. Nothing is held but what a frame keeps, and no more entries than `fan`.
-ghost use Rattle.std.specs.Prelude.{◌≡◌, ◌≤◌, ◌&&◌, true, length, drop, None, Some, IfOk, IfSome, MatchOption};
+ghost use Rattle.std.specs.Prelude.{◌≡◌, ◌≤◌, ◌&&◌, true, ⊤, length, drop, None, Some, IfOk, IfSome, MatchOption};
+ghost use Rattle.keys.specs.Bytes.{Bytes};
 ghost use Rattle.keys.specs.Cells.{read_as, read_where, counted};
 ghost use Rattle.frame_codec.specs.Codecs.{both, read_each, listed, flagged};
 ghost use Rattle.frame_codec.specs.Frame.{full, delta, header, bytes_of, is_pid, is_key, are_entries, is_full, is_run, is_content};
@@ -77,6 +78,32 @@ fn read_change<'a, V: FrameCell>(
     Ok(Some((key, change, rest)))
 }
 
+// How many bytes the key of the entry at the front has, if a frame may have the entry, with the bytes behind it.
+fn skip_entry<'a, V: FrameCell>(bytes: &'a [u8], settings: &Settings) -> Option<(usize, &'a [u8])>
+    ensures { let read = read_where (λ e. is_key settings.now e.0 && V.is_short settings.now e.1) ((both counted V.codec).read bytes.now) in
+        MatchOption result (read ≡ None) (λ p. (e : Bytes × V) × (read ≡ Some (e, p.1.now))) }
+{
+    let (key, rest) = read_key(bytes, settings)?;
+    let rest = V::skip(rest, settings)?;
+    Some((key.len(), rest))
+}
+
+// How many bytes the keys of as many entries as this have together, so that memory is asked for once, and for no bytes in
+// which no such entries stand.
+fn key_bytes<V: FrameCell>(count: usize, bytes: &[u8], settings: &Settings) -> Option<usize>
+    ensures { let read = read_where (are_entries settings.now (V.is_short settings.now)) (read_each (both counted V.codec) count bytes.now) in
+        MatchOption result (read ≡ None) (λ _. ⊤) }
+{
+    let mut sum: usize = 0;
+    let mut rest = bytes;
+    for _at in 0..count {
+        let (len, behind) = skip_entry::<V>(rest, settings)?;
+        sum = sum.saturating_add(len);
+        rest = behind;
+    }
+    Some(sum)
+}
+
 // As many entries as this, in a base of its own, with the bytes behind them.
 fn read_base<'a, V: FrameCell>(
     alloc: Global,
@@ -90,7 +117,10 @@ fn read_base<'a, V: FrameCell>(
     if count > settings.fan as usize {
         return Ok(None);
     }
-    let mut builder = BaseBuilder::with_capacity(alloc, count, 0)?;
+    let Some(key_bytes) = key_bytes::<V>(count, bytes, settings) else {
+        return Ok(None);
+    };
+    let mut builder = BaseBuilder::with_capacity(alloc, count, key_bytes)?;
     let mut rest = bytes;
     for _at in 0..count {
         let Some((key, cell, behind)) = read_entry(alloc, rest, settings)? else {
