@@ -75,13 +75,24 @@ pub each-long : {X : Type 0} (c : Codec X) (n : ℕ) (bs : List ℕ) (xs : List 
 each-long c zero bs xs rest h = let e = (same_reading [] xs bs rest h).0 in ap length (sym e)
 each-long c (suc n) bs xs rest h = more_long c n (each-long c n) (c.read bs) xs rest h
 
+-- two things that were read, one behind the other
+pub both-passed : {X Y : Type 0} (a : X → Bool) (b : Y → Bool) (c : Codec X) (d : Codec Y) (bs : List ℕ) (x : X) (behind : List ℕ) (y : Y) (rest : List ℕ)
+    → read_where a (c.read bs) ≡ Some (x, behind) → read_where b (d.read behind) ≡ Some (y, rest) → read_where (λ (p : X × Y). a p.0 && b p.1) ((both c d).read bs) ≡ Some ((x, y), rest)
+both-passed {X = X} {Y = Y} a b c d bs x behind y rest h k =
+    let (first, passed) = read_where-gave a (c.read bs) x behind h in
+    let (second, passed_too) = read_where-gave b (d.read behind) y rest k in
+    let test : X × Y → Bool = λ p. a p.0 && b p.1 in
+    ap (λ (o : Option (X × List ℕ)). read_where test (read_on o (λ v more. read_as (λ (w : Y). (v, w)) (d.read more)))) first
+    ∙ ap (λ (o : Option (Y × List ℕ)). read_where test (read_as (λ (w : Y). (x, w)) o)) second
+    ∙ rw (passed, passed_too) refl
+
 -- ---- entries
 
-not_true : (b : Bool) → (b ≡ true → ⊥) → b ≡ false
+pub not_true : (b : Bool) → (b ≡ true → ⊥) → b ≡ false
 not_true true h = absurd (h refl)
 not_true false h = refl
 
-fails_last : (a b : Bool) → b ≡ false → (a && b) ≡ false
+pub fails_last : (a b : Bool) → b ≡ false → (a && b) ≡ false
 fails_last true b h = h
 fails_last false b h = refl
 

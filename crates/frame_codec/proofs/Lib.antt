@@ -8,6 +8,7 @@ mod ByteRowTen
 mod ByteRowTwelve
 pub mod CodecLaws
 pub mod EachLaws
+pub mod FoundLaws
 pub mod FrameLaws
 pub mod LongerLaws
 pub mod ReadLaws

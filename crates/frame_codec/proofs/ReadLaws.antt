@@ -20,13 +20,13 @@ delta-spelled : {V : Type 0} (cell : Codec V) → ReadsSpellings cell → ReadsS
 delta-spelled cell sc =
     listed-spelled (both counted (flagged cell)) (both-spelled counted (flagged cell) counted-spelled (flagged-spelled cell sc))
 
-header-spelled : ReadsSpellings header
+pub header-spelled : ReadsSpellings header
 header-spelled =
     both-spelled (both (number 1) (number 4)) pid_cell (both-spelled (number 1) (number 4) (number-spelled 1) (number-spelled 4)) pid-spelled
 
 module _ (kind : ℕ) (bs : List ℕ) (bytes : AreBytes bs) (c : Content) (rest : List ℕ) where
   -- the content is of this kind, and its bytes stand at the front
-  abbrev Stands : Type 0
+  abbrev pub Stands : Type 0
   Stands = (kind ≡ kind_of c) × (bs ≡ content_bytes c ++ rest)
 
   -- the reader of one kind, or of the others
@@ -49,7 +49,7 @@ module _ (kind : ℕ) (bs : List ℕ) (bytes : AreBytes bs) (c : Content) (rest 
       let (is, left) = same_reading Free c bs rest h in
       (eqb-true kind 5 same ∙ ap kind_of is, left ∙ ap (λ (d : Content). content_bytes d ++ rest) is)
 
-  content-spelled : read_content kind bs ≡ gave c rest → Stands
+  pub content-spelled : read_content kind bs ≡ gave c rest → Stands
   content-spelled =
       either (kind == 1) _ _ (of_kind 1 (full value_cell) (λ p. FullLeaf p.0 p.1) (full-spelled value_cell counted-spelled) (λ x. refl) (λ x. refl))
       (either (kind == 2) _ _ (of_kind 2 (delta value_cell) (λ run. DeltaLeaf run) (delta-spelled value_cell counted-spelled) (λ x. refl) (λ x. refl))

@@ -1,6 +1,7 @@
 //! What a page has at a key, as frames spell it: a value or a page id, and the absence of either.
-ghost use Rattle.std.specs.Prelude.{◌≡◌, ◌+◌, ◌<◌, true, length, None, Some, IfOk, MatchOption};
+ghost use Rattle.std.specs.Prelude.{◌≡◌, ℕ, ◌+◌, ◌<◌, true, length, None, Some, IfOk, MatchOption};
 ghost use Rattle.std.specs.Option.{option_copied};
+ghost use Rattle.keys.specs.Bytes.{Bytes};
 ghost use Rattle.keys.specs.Cells.{read_where};
 ghost use Rattle.index_page.specs.Rules.{of_cell};
 ghost use Rattle.frame_codec.specs.Appended.{HasRoomFor, IsAppended, IsCount};
@@ -35,6 +36,11 @@ pub(crate) trait FrameCell: Drop {
         ensures { IfOk result (λ found. MatchOption found
             (read_where (is_short settings.now) (codec.read bytes.now) ≡ None)
             (λ p. read_where (is_short settings.now) (codec.read bytes.now) ≡ Some (p.0, p.1.now))) };
+
+    /// The bytes behind the cell at the front, if a frame may have it.
+    fn skip<'a>(bytes: &'a [u8], settings: &Settings) -> Option<&'a [u8]>
+        ensures { let read = read_where (is_short settings.now) (codec.read bytes.now) in
+            MatchOption result (read ≡ None) (λ rest. (cell : Self) × (read ≡ Some (cell, rest.now))) };
 
     /// How many bytes the cell takes.
     fn spelled_len(&self) -> usize
@@ -85,6 +91,17 @@ impl FrameCell for Value<Global> {
         Ok(Some((Value::from_bytes(alloc, value)?, rest)))
     }
 
+    fn skip<'a>(bytes: &'a [u8], settings: &Settings) -> Option<&'a [u8]>
+        ensures { let read = read_where (is_short_value settings.now) (value_cell.read bytes.now) in
+            MatchOption result (read ≡ None) (λ rest. (cell : Bytes) × (read ≡ Some (cell, rest.now))) }
+    {
+        let (value, rest) = read_counted(bytes)?;
+        if value.len() > settings.max_value as usize {
+            return None;
+        }
+        Some(rest)
+    }
+
     fn spelled_len(&self) -> usize {
         2 + self.len()
     }
@@ -120,6 +137,16 @@ impl FrameCell for Pid {
             (λ p. read_where is_pid (pid_cell.read bytes.now) ≡ Some (p.0, p.1.now))) }
     {
         Ok(read_pid(bytes))
+    }
+
+    fn skip<'a>(bytes: &'a [u8], _settings: &Settings) -> Option<&'a [u8]>
+        ensures { let read = read_where is_pid (pid_cell.read bytes.now) in
+            MatchOption result (read ≡ None) (λ rest. (cell : ℕ) × (read ≡ Some (cell, rest.now))) }
+    {
+        match read_pid(bytes) {
+            Some((_, rest)) => Some(rest),
+            None => None,
+        }
     }
 
     fn spelled_len(&self) -> usize {

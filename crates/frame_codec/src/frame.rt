@@ -24,7 +24,12 @@ pub enum Frame {
         base: Base<Pid, Global>,
     },
     /// The page, an index page, got this run.
-    DeltaIndex { pid: Pid, run: Run<Pid, Global> },
+    DeltaIndex {
+        pid: Pid,
+        run: Run<Pid, Global>,
+    },
     /// There is no such page.
-    Free { pid: Pid },
+    Free {
+        pid: Pid,
+    },
 }

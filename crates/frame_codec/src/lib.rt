@@ -1,5 +1,5 @@
 //! What a frame of the log is: what each kind says of a page, its bytes, and which frames a store with given settings may
-//! have. So far there are the definitions, in `specs/`, and the laws on them.
+//! have. Frames are read from bytes, whatever these are, and are written from a page's own base and runs.
 //!
 //! Laws: a frame is read back from its bytes; no frame's bytes begin another's; what is read is what stands there; how many
 //! bytes a frame has; the base and the runs of a page are frames. The same of cells.
@@ -10,5 +10,11 @@ pub mod frame;
 mod kinds;
 pub mod laws;
 mod parts;
-mod read;
-mod write;
+pub mod read;
+pub mod write;
+
+pub use crate::frame::Frame;
+pub use crate::read::read_frame;
+pub use crate::write::{
+    write_delta_index, write_delta_leaf, write_frame, write_free, write_full_index, write_full_leaf,
+};

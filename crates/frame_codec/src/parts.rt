@@ -39,7 +39,8 @@ pub(crate) fn read_u32(bytes: &[u8]) -> Option<(u32, &[u8])>
 
 /// The page id at the front, with the bytes behind it.
 pub(crate) fn read_pid(bytes: &[u8]) -> Option<(Pid, &[u8])>
-    ensures { MatchOption result (pid_cell.read bytes.now ≡ None) (λ p. pid_cell.read bytes.now ≡ Some (p.0, p.1.now)) }
+    ensures number { MatchOption result (pid_cell.read bytes.now ≡ None) (λ p. pid_cell.read bytes.now ≡ Some (p.0, p.1.now)) }
+    ensures word { IfSome result (λ p. is_pid p.0 ≡ true) }
 {
     if bytes.len() < 8 {
         return None;

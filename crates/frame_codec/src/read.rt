@@ -1,9 +1,10 @@
 //! Frames read from bytes, whatever these are. Nothing is held but what a frame keeps, and no more entries than `fan`.
-ghost use Rattle.std.specs.Prelude.{◌≡◌, ◌&&◌, None, Some, IfOk, MatchOption};
+ghost use Rattle.std.specs.Prelude.{◌≡◌, ◌≤◌, ◌&&◌, true, ⊤, length, drop, None, Some, IfOk, IfSome, MatchOption};
+ghost use Rattle.keys.specs.Bytes.{Bytes};
 ghost use Rattle.keys.specs.Cells.{read_as, read_where, counted};
 ghost use Rattle.frame_codec.specs.Codecs.{both, read_each, listed, flagged};
-ghost use Rattle.frame_codec.specs.Frame.{full, delta, header, is_key, are_entries, is_full, is_run, is_content};
-ghost use Rattle.frame_codec.specs.Reading.{read_content};
+ghost use Rattle.frame_codec.specs.Frame.{full, delta, header, bytes_of, is_pid, is_key, are_entries, is_full, is_run, is_content};
+ghost use Rattle.frame_codec.specs.Reading.{read_content, read_frame};
 ghost use Rattle.frame_codec.specs.Shown.{frame_of};
 ghost use Rattle.index_page.specs.Rules.{of_cell};
 
@@ -15,17 +16,18 @@ use delta_chain::{Base, BaseBuilder, PushError, Run};
 use keys::{Key, Pid, Settings};
 use std::alloc::{AllocError, Global};
 
-// The kind at the front, the length and the page id, with the bytes behind them.
-fn read_header(bytes: &[u8]) -> Option<(u8, u32, Pid, &[u8])>
-    ensures { let read = header.read bytes.now in
+// The kind at the front, the length and the number that is the page id, with the bytes behind them.
+fn read_header(bytes: &[u8]) -> Option<(u8, u32, u64, &[u8])>
+    ensures header { let read = header.read bytes.now in
         MatchOption result (read ≡ None) (λ p. read ≡ Some (((p.0, p.1), p.2), p.3.now)) }
+    ensures word { IfSome result (λ p. is_pid p.2 ≡ true) }
 {
     let (kind, rest) = read_byte(bytes)?;
     let (len, rest) = read_u32(rest)?;
     let Some((pid, rest)) = read_pid(rest) else {
         return None;
     };
-    Some((kind, len, pid, rest))
+    Some((kind, len, pid.0, rest))
 }
 
 // The key at the front, if it is no longer than settings allow, with the bytes behind it.
@@ -76,6 +78,32 @@ fn read_change<'a, V: FrameCell>(
     Ok(Some((key, change, rest)))
 }
 
+// How many bytes the key of the entry at the front has, if a frame may have the entry, with the bytes behind it.
+fn skip_entry<'a, V: FrameCell>(bytes: &'a [u8], settings: &Settings) -> Option<(usize, &'a [u8])>
+    ensures { let read = read_where (λ e. is_key settings.now e.0 && V.is_short settings.now e.1) ((both counted V.codec).read bytes.now) in
+        MatchOption result (read ≡ None) (λ p. (e : Bytes × V) × (read ≡ Some (e, p.1.now))) }
+{
+    let (key, rest) = read_key(bytes, settings)?;
+    let rest = V::skip(rest, settings)?;
+    Some((key.len(), rest))
+}
+
+// How many bytes the keys of as many entries as this have together, so that memory is asked for once, and for no bytes in
+// which no such entries stand.
+fn key_bytes<V: FrameCell>(count: usize, bytes: &[u8], settings: &Settings) -> Option<usize>
+    ensures { let read = read_where (are_entries settings.now (V.is_short settings.now)) (read_each (both counted V.codec) count bytes.now) in
+        MatchOption result (read ≡ None) (λ _. ⊤) }
+{
+    let mut sum: usize = 0;
+    let mut rest = bytes;
+    for _at in 0..count {
+        let (len, behind) = skip_entry::<V>(rest, settings)?;
+        sum = sum.saturating_add(len);
+        rest = behind;
+    }
+    Some(sum)
+}
+
 // As many entries as this, in a base of its own, with the bytes behind them.
 fn read_base<'a, V: FrameCell>(
     alloc: Global,
@@ -89,7 +117,10 @@ fn read_base<'a, V: FrameCell>(
     if count > settings.fan as usize {
         return Ok(None);
     }
-    let mut builder = BaseBuilder::with_capacity(alloc, count, 0)?;
+    let Some(key_bytes) = key_bytes::<V>(count, bytes, settings) else {
+        return Ok(None);
+    };
+    let mut builder = BaseBuilder::with_capacity(alloc, count, key_bytes)?;
     let mut rest = bytes;
     for _at in 0..count {
         let Some((key, cell, behind)) = read_entry(alloc, rest, settings)? else {
@@ -213,4 +244,29 @@ fn read_content<'a>(
         FREE => Ok(Some((Frame::Free { pid }, bytes))),
         _ => Ok(None),
     }
+}
+
+/// The frame at the front of these bytes, if a store with these settings may have it, and how many bytes it takes. They may
+/// be any bytes. Want of memory is the one error, and what was read by then is dropped.
+pub fn read_frame(
+    alloc: Global,
+    bytes: &[u8],
+    settings: &Settings,
+) -> Result<Option<(Frame, usize)>, AllocError>
+    ensures found { let read = read_frame settings.now bytes.now in
+        IfOk result (λ found. MatchOption found (read ≡ None) (λ p. read ≡ Some (frame_of p.0, drop p.1 bytes.now))) }
+    ensures size { IfOk result (λ found. IfSome found (λ p. p.1 ≡ length (bytes_of (frame_of p.0)))) }
+    ensures within { IfOk result (λ found. IfSome found (λ p. p.1 ≤ length bytes.now)) }
+{
+    let Some((kind, len, pid, content)) = read_header(bytes) else {
+        return Ok(None);
+    };
+    let Some((frame, rest)) = read_content(alloc, kind, Pid(pid), content, settings)? else {
+        return Ok(None);
+    };
+    // The length counts from the page id on.
+    if len as usize != 8 + (content.len() - rest.len()) {
+        return Ok(None);
+    }
+    Ok(Some((frame, bytes.len() - rest.len())))
 }
