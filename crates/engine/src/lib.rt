@@ -3,6 +3,8 @@
 
 #[cfg(test)]
 mod bases;
+#[cfg(test)]
+mod disk_rows;
 mod execute;
 pub mod laws;
 mod leaves;
