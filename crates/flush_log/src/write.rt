@@ -14,8 +14,11 @@ ghost use Rattle.flush_log.specs.Slot.{greatest};
 
 use crate::disk::{Disk, DiskFault};
 use crate::image::Image;
-use crate::segments::{place_of_segment, segment_header};
+use crate::segments::{SEGMENT_HEADER_SIZE, place_of_segment, segment_header};
 use keys::Settings;
+
+// Where the frames begin in a segment.
+const FRAMES_BEGIN: usize = SEGMENT_HEADER_SIZE as usize;
 
 // What is gathered of a segment and not yet written: from an offset on, up to another. A buffer has the segment's bytes at
 // their offsets.
@@ -106,11 +109,11 @@ fn put_frame<D: Disk>(
     write_part(disk, settings, whole, buffer)?;
     let segment = part.segment + 1;
     put(buffer, 0, &segment_header(segment));
-    put(buffer, 16, frame);
+    put(buffer, FRAMES_BEGIN, frame);
     Ok(Part {
         segment,
         from: 0,
-        end: 16 + frame.len(),
+        end: FRAMES_BEGIN + frame.len(),
     })
 }
 
@@ -166,7 +169,7 @@ fn begin_part(settings: &Settings, tail: u64, buffer: &mut [u8]) -> Part
     Part {
         segment,
         from: 0,
-        end: 16,
+        end: FRAMES_BEGIN,
     }
 }
 
