@@ -13,4 +13,6 @@ pub mod ReadLaws
 mod RefusedRows
 pub mod RowForms
 pub mod SizeLaws
+pub mod SizedLaws
 pub mod WithinLaws
+pub mod WriteLaws

@@ -5,4 +5,8 @@
 //! bytes a frame has; the base and the runs of a page are frames. The same of cells.
 #![tactic(auto)]
 
+mod cell;
+mod kinds;
 pub mod laws;
+mod parts;
+mod write;

@@ -1,0 +1,7 @@
+use Rattle.std.proofs.Common.{◌≡◌, ◌+◌, length}
+use Rattle.frame_codec.proofs.WriteLaws.{spelled_from}
+use Rattle.frame_codec.proofs.write.base_len.Given as goal
+
+-- what the entries from this place on take comes on top
+abbrev pub invariant-loop-at : goal.invariant-loop-at
+invariant-loop-at g l = l.len + length (spelled_from g.V.FrameCell.codec l.base l.at) ≡ length (spelled_from g.V.FrameCell.codec l.base 0)

@@ -1,0 +1,8 @@
+use Rattle.std.proofs.Common.{◌≡◌, ◌+◌, length}
+use Rattle.frame_codec.specs.Codecs.{flagged}
+use Rattle.frame_codec.proofs.WriteLaws.{spelled_from}
+use Rattle.frame_codec.proofs.write.run_len.Given as goal
+
+-- what the changes from this place on take comes on top
+abbrev pub invariant-loop-at : goal.invariant-loop-at
+invariant-loop-at g l = l.len + length (spelled_from (flagged g.V.FrameCell.codec) l.run l.at) ≡ length (spelled_from (flagged g.V.FrameCell.codec) l.run 0)

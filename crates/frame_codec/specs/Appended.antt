@@ -1,0 +1,23 @@
+-- Bytes that were put behind others, in room that was there.
+use Rattle.std.specs.Prelude.{◌≡◌, ◌+◌, ◌<◌, ◌≤◌, ℕ, List, ◌++◌, length, Vec, vec_len, vec_capacity}
+use Rattle.std.specs.List.{AllByRecursion}
+use Rattle.keys.specs.Bytes.{Bytes, Pairs}
+use Rattle.keys.specs.Cells.{Codec}
+
+-- as many bytes fit behind those that are there, without more memory
+abbrev pub HasRoomFor : {Z : Type 0} → Vec ℕ Z → ℕ → Type 0
+HasRoomFor out n = vec_len out + n ≤ vec_capacity out
+
+-- these bytes stand behind the old ones, and no room was lost
+pub record IsAppended {Z : Type 0} (old : Vec ℕ Z) (new : Vec ℕ Z) (bytes : Bytes) : Type 0 where
+  pub items : new.items ≡ old.items ++ bytes
+  pub len : vec_len new ≡ vec_len old + length bytes
+  pub room : vec_capacity old ≤ vec_capacity new
+
+-- a length that two bytes can tell
+abbrev pub IsCount : ℕ → Type 0
+IsCount n = n < 65536
+
+-- of each entry the key, and the spelling of what it has, are short enough for their lengths to be told
+abbrev pub AreSpellable : {X : Type 0} → Codec X → Pairs X → Type 0
+AreSpellable cell es = AllByRecursion (λ e. IsCount (length e.0) × IsCount (length (cell.spell e.1))) es

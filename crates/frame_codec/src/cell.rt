@@ -1,0 +1,179 @@
+//! What a page has at a key, as frames spell it: a value or a page id, and the absence of either.
+ghost use Rattle.std.specs.Prelude.{◌≡◌, ◌+◌, ◌<◌, true, length, None, Some, IfOk, MatchOption};
+ghost use Rattle.std.specs.Option.{option_copied};
+ghost use Rattle.keys.specs.Cells.{read_where};
+ghost use Rattle.index_page.specs.Rules.{of_cell};
+ghost use Rattle.frame_codec.specs.Appended.{HasRoomFor, IsAppended, IsCount};
+ghost use Rattle.frame_codec.specs.Codecs.{spell_flag, flagged};
+
+use crate::parts::{append_byte, append_counted, append_pid, read_counted, read_pid};
+use keys::{Pid, Settings, Value};
+use std::alloc::{AllocError, Global};
+
+/// A kind of cell: the values of leaves, or the page ids of index pages.
+pub(crate) trait FrameCell: Drop {
+    ghost use Rattle.std.specs.Prelude.{Bool, true};
+    ghost use Rattle.keys.specs.Cells.{Codec};
+    ghost use Rattle.keys.specs.declared.settings.Settings as limits;
+
+    // How a cell is spelled, and which cells a frame may have under settings.
+    ghost codec: { Codec Self };
+
+    ghost is_short: { limits.Settings → Self → Bool };
+
+    // What of that can be known of a cell that nobody looked at, and what a look at it tells.
+    ghost has_size: { limits.Settings → Self → Bool };
+
+    ghost is_word: { Self → Bool };
+
+    /// The cell at the front, if a frame may have it, with the bytes behind it.
+    fn read<'a>(
+        alloc: Global,
+        bytes: &'a [u8],
+        settings: &Settings,
+    ) -> Result<Option<(Self, &'a [u8])>, AllocError>
+        ensures { IfOk result (λ found. MatchOption found
+            (read_where (is_short settings.now) (codec.read bytes.now) ≡ None)
+            (λ p. read_where (is_short settings.now) (codec.read bytes.now) ≡ Some (p.0, p.1.now))) };
+
+    /// How many bytes the cell takes.
+    fn spelled_len(&self) -> usize
+        requires { IsCount (length (codec.spell self.now)) }
+        ensures { result ≡ length (codec.spell self.now) };
+
+    /// Appends the cell. There is room for it.
+    fn append(&self, out: &mut Vec<u8>)
+        requires small { IsCount (length (codec.spell self.now)) }
+        requires room { HasRoomFor out.old (length (codec.spell self.now)) }
+        ensures bytes { IsAppended out.old out.new (codec.spell self.now) }
+        ensures word { is_word self.now ≡ true };
+
+    // The two together are what is asked of a frame.
+    ghost is_short_by_both: { (s : limits.Settings) (cell : Self) → has_size s cell ≡ true → is_word cell ≡ true → is_short s cell ≡ true };
+}
+
+impl FrameCell for Value<Global> {
+    ghost use Rattle.std.specs.Prelude.{true};
+    ghost use Rattle.keys.specs.Cells.{value_cell};
+    ghost use Rattle.index_page.specs.Rules.{is_short_value};
+
+    ghost codec = { value_cell };
+
+    ghost is_short = { is_short_value };
+
+    ghost has_size = { is_short_value };
+
+    ghost is_word = { λ _. true };
+
+    ghost is_short_by_both = { λ s cell h k. h };
+
+    fn read<'a>(
+        alloc: Global,
+        bytes: &'a [u8],
+        settings: &Settings,
+    ) -> Result<Option<(Self, &'a [u8])>, AllocError>
+        ensures { IfOk result (λ found. MatchOption found
+            (read_where (is_short_value settings.now) (value_cell.read bytes.now) ≡ None)
+            (λ p. read_where (is_short_value settings.now) (value_cell.read bytes.now) ≡ Some (p.0, p.1.now))) }
+    {
+        let Some((value, rest)) = read_counted(bytes) else {
+            return Ok(None);
+        };
+        if value.len() > settings.max_value as usize {
+            return Ok(None);
+        }
+        Ok(Some((Value::from_bytes(alloc, value)?, rest)))
+    }
+
+    fn spelled_len(&self) -> usize {
+        2 + self.len()
+    }
+
+    fn append(&self, out: &mut Vec<u8>) {
+        append_counted(out, self.as_bytes());
+    }
+}
+
+impl FrameCell for Pid {
+    ghost use Rattle.std.specs.Prelude.{true};
+    ghost use Rattle.keys.specs.Cells.{pid_cell};
+    ghost use Rattle.index_page.specs.Rules.{is_any_pid};
+    ghost use Rattle.frame_codec.specs.Frame.{is_pid};
+
+    ghost codec = { pid_cell };
+
+    ghost is_short = { λ _. is_pid };
+
+    ghost has_size = { λ _. is_any_pid };
+
+    ghost is_word = { is_pid };
+
+    ghost is_short_by_both = { λ s cell h k. k };
+
+    fn read<'a>(
+        _alloc: Global,
+        bytes: &'a [u8],
+        _settings: &Settings,
+    ) -> Result<Option<(Self, &'a [u8])>, AllocError>
+        ensures { IfOk result (λ found. MatchOption found
+            (read_where is_pid (pid_cell.read bytes.now) ≡ None)
+            (λ p. read_where is_pid (pid_cell.read bytes.now) ≡ Some (p.0, p.1.now))) }
+    {
+        Ok(read_pid(bytes))
+    }
+
+    fn spelled_len(&self) -> usize {
+        8
+    }
+
+    fn append(&self, out: &mut Vec<u8>) {
+        append_pid(out, *self);
+    }
+}
+
+/// The flag at the front, and the cell behind a flag 1, if a frame may have it, with the bytes behind that.
+pub(crate) fn read_flagged<'a, V: FrameCell>(
+    alloc: Global,
+    bytes: &'a [u8],
+    settings: &Settings,
+) -> Result<Option<(Option<V>, &'a [u8])>, AllocError>
+    ensures { IfOk result (λ found. MatchOption found
+        (read_where (of_cell (V.is_short settings.now)) ((flagged V.codec).read bytes.now) ≡ None)
+        (λ p. read_where (of_cell (V.is_short settings.now)) ((flagged V.codec).read bytes.now) ≡ Some (p.0, p.1.now))) }
+{
+    match bytes.split_first() {
+        Some((0, rest)) => Ok(Some((None, rest))),
+        Some((1, rest)) => match V::read(alloc, rest, settings)? {
+            Some((cell, rest)) => Ok(Some((Some(cell), rest))),
+            None => Ok(None),
+        },
+        _ => Ok(None),
+    }
+}
+
+/// How many bytes the flag takes, with the cell where there is one.
+pub(crate) fn flagged_len<V: FrameCell>(cell: Option<&V>) -> usize
+    requires { IsCount (length (spell_flag V.codec (option_copied cell))) }
+    ensures { result ≡ length (spell_flag V.codec (option_copied cell.entry)) }
+{
+    match cell {
+        None => 1,
+        Some(cell) => 1 + cell.spelled_len(),
+    }
+}
+
+/// Appends the flag, and the cell where there is one. There is room for them.
+pub(crate) fn append_flagged<V: FrameCell>(out: &mut Vec<u8>, cell: Option<&V>)
+    requires small { IsCount (length (spell_flag V.codec (option_copied cell))) }
+    requires room { HasRoomFor out.old (length (spell_flag V.codec (option_copied cell))) }
+    ensures bytes { IsAppended out.old out.new (spell_flag V.codec (option_copied cell.entry)) }
+    ensures word { of_cell V.is_word (option_copied cell.entry) ≡ true }
+{
+    match cell {
+        None => append_byte(out, 0),
+        Some(cell) => {
+            append_byte(out, 1);
+            cell.append(out);
+        }
+    }
+}

@@ -1,0 +1,200 @@
+//! Frames written from what a page holds. Each is appended to bytes whose memory is asked for once, by the frame's size.
+ghost use Rattle.std.specs.Prelude.{◌≡◌, ◌+◌, ◌<◌, ◌^◌, ◌++◌, true, length, flat_map, IfOk, OnOk, OnErr};
+ghost use Rattle.std.specs.List.{list_all};
+ghost use Rattle.index_page.specs.Rules.{of_cell};
+ghost use Rattle.keys.specs.Cells.{counted};
+ghost use Rattle.keys.specs.Sizes.{pid_size};
+ghost use Rattle.frame_codec.specs.Appended.{HasRoomFor, IsAppended, IsCount, AreSpellable};
+ghost use Rattle.frame_codec.specs.Codecs.{both, listed, flagged};
+ghost use Rattle.frame_codec.specs.Frame.{full, delta, header, bytes_of, is_pid};
+ghost use Rattle.frame_codec.specs.Frame.Content.{FullLeaf, DeltaLeaf, FullIndex, DeltaIndex, Free};
+ghost use Rattle.frame_codec.specs.Sized.{IsSized, HasWords, framed};
+
+use crate::cell::{FrameCell, append_flagged, flagged_len};
+use crate::kinds::{DELTA_INDEX, DELTA_LEAF, FREE, FULL_INDEX, FULL_LEAF};
+use crate::parts::{append_byte, append_counted, append_length, append_pid, append_u32};
+use delta_chain::{Base, Run};
+use keys::{Pid, Value};
+use std::alloc::{AllocError, Global};
+
+// How many bytes the entries of a base take.
+fn base_len<V: FrameCell>(base: &Base<V, Global>) -> usize
+    requires small { AreSpellable V.codec base.now }
+    requires few { length (flat_map (both counted V.codec).spell base.now) < 2 ^ 31 }
+    ensures { result ≡ length (flat_map (both counted V.codec).spell base.now) }
+{
+    let mut len: usize = 0;
+    for at in 0..base.len() {
+        len += 2 + base.key(at).len() + base.cell(at).spelled_len();
+    }
+    len
+}
+
+// How many bytes the changes of a run take.
+fn run_len<V: FrameCell>(run: &Run<V, Global>) -> usize
+    requires small { AreSpellable (flagged V.codec) run.now }
+    requires few { length (flat_map (both counted (flagged V.codec)).spell run.now) < 2 ^ 31 }
+    ensures { result ≡ length (flat_map (both counted (flagged V.codec)).spell run.now) }
+{
+    let mut len: usize = 0;
+    for at in 0..run.len() {
+        len += 2 + run.key(at).len() + flagged_len(run.change(at));
+    }
+    len
+}
+
+// Appends the entries of a base, one behind the other. There is room for them.
+fn append_entries<V: FrameCell>(base: &Base<V, Global>, out: &mut Vec<u8>)
+    requires small { AreSpellable V.codec base.now }
+    requires room { HasRoomFor out.old (length (flat_map (both counted V.codec).spell base.now)) }
+    ensures bytes { IsAppended out.old out.new (flat_map (both counted V.codec).spell base.now) }
+    ensures words { list_all (λ e. V.is_word e.1) base.now ≡ true }
+{
+    for at in 0..base.len() {
+        let cell = base.cell(at);
+        append_counted(out, base.key(at));
+        cell.append(out);
+    }
+}
+
+// Appends the changes of a run, one behind the other. There is room for them.
+fn append_changes<V: FrameCell>(run: &Run<V, Global>, out: &mut Vec<u8>)
+    requires small { AreSpellable (flagged V.codec) run.now }
+    requires room { HasRoomFor out.old (length (flat_map (both counted (flagged V.codec)).spell run.now)) }
+    ensures bytes { IsAppended out.old out.new (flat_map (both counted (flagged V.codec)).spell run.now) }
+    ensures words { list_all (λ e. of_cell V.is_word e.1) run.now ≡ true }
+{
+    for at in 0..run.len() {
+        let change = run.change(at);
+        append_counted(out, run.key(at));
+        append_flagged(out, change);
+    }
+}
+
+// Asks for the memory of a whole frame with so many bytes behind the pid, and appends what stands before those. Where memory
+// is refused nothing is appended.
+fn begin_frame(kind: u8, pid: Pid, len: usize, out: &mut Vec<u8>) -> Result<(), AllocError>
+    requires { len < 2 ^ 31 }
+    ensures ok { OnOk result (IsAppended out.old out.new (header.spell ((kind, pid_size + len), pid))) }
+    ensures room { OnOk result (HasRoomFor out.new len) }
+    ensures err { OnErr result (out.new.items ≡ out.old.items) }
+    ensures word { OnOk result (is_pid pid ≡ true) }
+{
+    let behind = 8 + len;
+    out.reserve(5 + behind)?;
+    append_byte(out, kind);
+    append_u32(out, behind as u32);
+    append_pid(out, pid);
+    Ok(())
+}
+
+// Appends the frame of this kind with a low key and a base.
+fn write_full<V: FrameCell>(
+    kind: u8,
+    pid: Pid,
+    low: &[u8],
+    base: &Base<V, Global>,
+    out: &mut Vec<u8>,
+) -> Result<(), AllocError>
+    requires low { IsCount (length low.now) }
+    requires count { IsCount (length base.now) }
+    requires small { AreSpellable V.codec base.now }
+    requires few { length ((full V.codec).spell (low.now, base.now)) < 2 ^ 31 }
+    ensures ok { OnOk result (out.new.items ≡ out.old.items ++ framed kind pid ((full V.codec).spell (low.now, base.now))) }
+    ensures err { OnErr result (out.new.items ≡ out.old.items) }
+    ensures words { OnOk result ((is_pid pid ≡ true) × (list_all (λ e. V.is_word e.1) base.now ≡ true)) }
+{
+    begin_frame(kind, pid, 4 + low.len() + base_len(base), out)?;
+    append_counted(out, low);
+    append_length(out, base.len());
+    append_entries(base, out);
+    Ok(())
+}
+
+// Appends the frame of this kind with a run.
+fn write_delta<V: FrameCell>(
+    kind: u8,
+    pid: Pid,
+    run: &Run<V, Global>,
+    out: &mut Vec<u8>,
+) -> Result<(), AllocError>
+    requires count { IsCount (length run.now) }
+    requires small { AreSpellable (flagged V.codec) run.now }
+    requires few { length ((delta V.codec).spell run.now) < 2 ^ 31 }
+    ensures ok { OnOk result (out.new.items ≡ out.old.items ++ framed kind pid ((delta V.codec).spell run.now)) }
+    ensures err { OnErr result (out.new.items ≡ out.old.items) }
+    ensures words { OnOk result ((is_pid pid ≡ true) × (list_all (λ e. of_cell V.is_word e.1) run.now ≡ true)) }
+{
+    begin_frame(kind, pid, 2 + run_len(run), out)?;
+    append_length(out, run.len());
+    append_changes(run, out);
+    Ok(())
+}
+
+/// Appends the frame that says that the page is this base under this low key, from its kind to its last byte. On Ok each
+/// page id in it is known to be of 64 bits. Where memory is refused nothing is appended. So do the other writers.
+pub fn write_full_leaf(
+    pid: Pid,
+    low: &[u8],
+    base: &Base<Value<Global>, Global>,
+    out: &mut Vec<u8>,
+) -> Result<(), AllocError>
+    requires { IsSized (FullLeaf low.now base.now) }
+    ensures ok { OnOk result (out.new.items ≡ out.old.items ++ bytes_of (record { pid = pid; content = FullLeaf low.now base.now })) }
+    ensures words { OnOk result (HasWords (record { pid = pid; content = FullLeaf low.now base.now })) }
+    ensures err { OnErr result (out.new.items ≡ out.old.items) }
+{
+    write_full(FULL_LEAF, pid, low, base, out)
+}
+
+/// Appends the frame that says that the page, a leaf, got this run.
+pub fn write_delta_leaf(
+    pid: Pid,
+    run: &Run<Value<Global>, Global>,
+    out: &mut Vec<u8>,
+) -> Result<(), AllocError>
+    requires { IsSized (DeltaLeaf run.now) }
+    ensures ok { OnOk result (out.new.items ≡ out.old.items ++ bytes_of (record { pid = pid; content = DeltaLeaf run.now })) }
+    ensures words { OnOk result (HasWords (record { pid = pid; content = DeltaLeaf run.now })) }
+    ensures err { OnErr result (out.new.items ≡ out.old.items) }
+{
+    write_delta(DELTA_LEAF, pid, run, out)
+}
+
+/// Appends the frame that says that the page, an index page, is this base under this low key.
+pub fn write_full_index(
+    pid: Pid,
+    low: &[u8],
+    base: &Base<Pid, Global>,
+    out: &mut Vec<u8>,
+) -> Result<(), AllocError>
+    requires { IsSized (FullIndex low.now base.now) }
+    ensures ok { OnOk result (out.new.items ≡ out.old.items ++ bytes_of (record { pid = pid; content = FullIndex low.now base.now })) }
+    ensures words { OnOk result (HasWords (record { pid = pid; content = FullIndex low.now base.now })) }
+    ensures err { OnErr result (out.new.items ≡ out.old.items) }
+{
+    write_full(FULL_INDEX, pid, low, base, out)
+}
+
+/// Appends the frame that says that the page, an index page, got this run.
+pub fn write_delta_index(
+    pid: Pid,
+    run: &Run<Pid, Global>,
+    out: &mut Vec<u8>,
+) -> Result<(), AllocError>
+    requires { IsSized (DeltaIndex run.now) }
+    ensures ok { OnOk result (out.new.items ≡ out.old.items ++ bytes_of (record { pid = pid; content = DeltaIndex run.now })) }
+    ensures words { OnOk result (HasWords (record { pid = pid; content = DeltaIndex run.now })) }
+    ensures err { OnErr result (out.new.items ≡ out.old.items) }
+{
+    write_delta(DELTA_INDEX, pid, run, out)
+}
+
+/// Appends the frame that says that there is no such page.
+pub fn write_free(pid: Pid, out: &mut Vec<u8>) -> Result<(), AllocError>
+    ensures ok { OnOk result (out.new.items ≡ out.old.items ++ bytes_of (record { pid = pid; content = Free })) }
+    ensures words { OnOk result (HasWords (record { pid = pid; content = Free })) }
+    ensures err { OnErr result (out.new.items ≡ out.old.items) }
+{
+    begin_frame(FREE, pid, 0, out)
+}
