@@ -18,6 +18,7 @@ pub mod OutcomeLaws
 pub mod OverlayLaws
 pub mod PlaceLaws
 mod PlaceRows
+pub mod ProperPages
 pub mod PutTogether
 pub mod ReachLaws
 pub mod ReadBackLaws

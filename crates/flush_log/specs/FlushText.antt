@@ -1,14 +1,15 @@
 -- What a flush writes: the frames that the log still lacks, in the order of their pids.
-use Rattle.std.specs.Prelude.{ℕ, List, [], ◌∷◌, map, flat_map, reverse, drop, Option, Some, None}
-use Rattle.std.specs.List.{filter}
+use Rattle.std.specs.Prelude.{◌≡◌, ℕ, true, List, [], ◌∷◌, map, flat_map, reverse, drop, Option, Some, None}
+use Rattle.std.specs.List.{AllByRecursion, filter}
 use Rattle.std.specs.Map.{keys_of}
+use Rattle.keys.specs.declared.settings.Settings.{Settings}
 use Rattle.index_page.specs.Page.{PageOfKind}
 use Rattle.index_page.specs.Page.PageOfKind.{Leaf, Index}
 use Rattle.mapping.specs.Tree.{Logged, Tree, page_at, logged_of}
 use Rattle.mapping.specs.Tree.Logged.{No, Old, Upto}
 use Rattle.mapping.specs.Table.{is_old, with_numbers}
 use Rattle.mapping.specs.Flushed.{page_depth}
-use Rattle.frame_codec.specs.Frame.{Content, Frame}
+use Rattle.frame_codec.specs.Frame.{Content, Frame, is_frame}
 use Rattle.frame_codec.specs.Frame.Content.{FullLeaf, DeltaLeaf, FullIndex, DeltaIndex, Free}
 
 -- a page's base, with its low key. A version of the log with kinds of its own for bases takes them here.
@@ -49,6 +50,10 @@ pids_to_write t = with_numbers (keys_of (filter (λ l. is_old l.1) t.logged)) (k
 -- the text of a flush
 abbrev pub flush_text : Tree → List Frame
 flush_text t = flat_map (pid_text t) (pids_to_write t)
+
+-- each frame of that text is one that a store with these settings may have: so it is where page ids are numbers of 64 bits
+abbrev pub HasFrames : Settings → Tree → Type 0
+HasFrames s t = AllByRecursion (λ f. is_frame s f ≡ true) (flush_text t)
 
 -- each page with all its runs
 abbrev pub logged_whole : List (ℕ × PageOfKind) → List (ℕ × Logged)

@@ -2,6 +2,7 @@ pub mod AfterFlush
 pub mod Commit
 pub mod Disk
 pub mod FlushText
+pub mod ImageWork
 pub mod Images
 pub mod Layout
 pub mod NewStore

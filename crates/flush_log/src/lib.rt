@@ -7,6 +7,8 @@
 
 pub mod commit_laws;
 pub mod image;
+
+mod kind;
 pub mod laws;
 pub mod new_store;
 pub mod segments;

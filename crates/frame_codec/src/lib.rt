@@ -9,4 +9,6 @@ mod cell;
 mod kinds;
 pub mod laws;
 mod parts;
-mod write;
+pub mod write;
+
+pub use crate::write::{write_delta_index, write_delta_leaf, write_free, write_full_index, write_full_leaf};

@@ -16,7 +16,7 @@ use Rattle.mapping.specs.Tree.Logged.{Upto}
 use Rattle.mapping.specs.TreeInMemory.{TreeInMemory, AreAllHome, home_pages, tree_of}
 use Rattle.flush_log.specs.FlushText.{logged_whole, pids_to_write, flushed}
 use Rattle.recovery.proofs.NothingDue.{each_has}
-use Rattle.recovery.proofs.ProperPages.{IsGoodOfKind, page-is_good}
+use Rattle.flush_log.proofs.ProperPages.{IsGoodOfKind, page-is_good}
 
 -- ---- pids
 

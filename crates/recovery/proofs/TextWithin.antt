@@ -21,7 +21,7 @@ use Rattle.frame_codec.specs.Frame.Content.{DeltaLeaf, DeltaIndex, Free}
 use Rattle.frame_codec.proofs.WithinLaws.{decides-pid, leaf_within, index_within}
 use Rattle.flush_log.specs.FlushText.{base_content, run_contents, lacking, frames_of, pid_text, pids_to_write, flush_text}
 use Rattle.flush_log.specs.WordPids.{IsWord, NamesWords, HasWordPids}
-use Rattle.recovery.proofs.ProperPages.{IsGoodOfKind, page-is_good}
+use Rattle.flush_log.proofs.ProperPages.{IsGoodOfKind, page-is_good}
 
 -- ---- lists
 
