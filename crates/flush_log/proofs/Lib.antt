@@ -33,3 +33,4 @@ pub mod StandsLaws
 pub mod TailLaws
 mod TextRows
 pub mod ViewLaws
+pub mod WrittenLaws

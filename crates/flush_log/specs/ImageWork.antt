@@ -1,5 +1,5 @@
 -- What a job of the work on images holds, and what is made of it.
-use Rattle.std.specs.Prelude.{ℕ, ◌^◌, ◌<◌, ⊤, List, map, Option, Some, None}
+use Rattle.std.specs.Prelude.{◌≡◌, ℕ, ◌^◌, ◌<◌, ⊤, List, [], ◌∷◌, ◌++◌, map, drop, Option, Some, None}
 use Rattle.std.specs.Borrow.{Bor}
 use Rattle.std.specs.List.{AllByRecursion}
 use Rattle.std.specs.Option.{option_copied}
@@ -8,9 +8,10 @@ use Rattle.index_page.specs.Page.{PageOfKind}
 use Rattle.mapping.specs.Flushed.{page_depth}
 use Rattle.mapping.specs.LogState.{log_state}
 use Rattle.mapping.specs.Tree.{Logged, Tree, page_at, logged_of}
+use Rattle.mapping.specs.Tree.Logged.{No, Old, Upto}
 use Rattle.mapping.specs.declared.logged.Logged as of_code
-use Rattle.frame_codec.specs.Frame.{Frame, bytes_of}
-use Rattle.frame_codec.specs.Sized.{IsSized}
+use Rattle.frame_codec.specs.Frame.{Content, Frame, bytes_of}
+use Rattle.frame_codec.specs.Sized.{IsSized, HasWords}
 use Rattle.flush_log.specs.FlushText.{lacking, frames_of}
 
 -- a pid, its page if it has one, and what the log has of it
@@ -44,3 +45,18 @@ HasFewRuns (Some p) = page_depth p < 2 ^ 31
 pub record CanBeWritten (h : ImageHeld) : Type 0 where
   pub sized : AllByRecursion IsSized (lacking h.page h.logged)
   pub few : HasFewRuns h.page
+
+-- the same of a page of which these are the base and the runs, the oldest first
+abbrev pub lacking_by : Logged → Content → List Content → List Content
+lacking_by No base runs = base ∷ runs
+lacking_by Old base runs = base ∷ runs
+lacking_by (Upto k) base runs = drop k runs
+
+-- these contents were written behind what was there, as frames of one pid, and each page id in them is of 64 bits
+pub record AreWritten (pid : ℕ) (cs : List Content) (old new : List Bytes) : Type 0 where
+  pub bytes : new ≡ old ++ map (λ f. bytes_of f) (frames_of pid cs)
+  pub words : AllByRecursion HasWords (frames_of pid cs)
+
+-- this is the image of what a job holds
+abbrev pub IsImageOf : ImageHeld → List Bytes → Type 0
+IsImageOf h image = AreWritten h.pid (lacking h.page h.logged) [] image

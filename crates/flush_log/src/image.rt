@@ -10,7 +10,7 @@ use crate::kind::Kind;
 use delta_chain::{Base, Run};
 use frame_codec::write_free;
 use keys::Pid;
-use std::alloc::{AllocError, Global};
+use std::alloc::{AllocError, Allocator, Global};
 use std::marker::Model;
 
 /// What is written of one page: its frames, back to back. Contracts see it as the list of each frame's bytes.
@@ -55,11 +55,11 @@ impl Image {
     }
 
     // Appends the frame of a base under its low key. Each page id in it is known to be of 64 bits then, as with the other frames.
-    pub(crate) fn push_full<V: Kind>(
+    pub(crate) fn push_full<V: Kind<A>, A: Allocator>(
         &mut self,
         pid: Pid,
         low: &[u8],
-        base: &Base<V, Global>,
+        base: &Base<V, A>,
     ) -> Result<(), AllocError>
         requires { IsSized (V.full low.now base.now) }
         ensures ok { OnOk result (self.new ≡ self.old ++ bytes_of (record { pid = pid; content = V.full low.now base.now }) ∷ []) }
@@ -72,10 +72,10 @@ impl Image {
     }
 
     // Appends the frame of a run.
-    pub(crate) fn push_delta<V: Kind>(
+    pub(crate) fn push_delta<V: Kind<A>, A: Allocator>(
         &mut self,
         pid: Pid,
-        run: &Run<V, Global>,
+        run: &Run<V, A>,
     ) -> Result<(), AllocError>
         requires { IsSized (V.delta run.now) }
         ensures ok { OnOk result (self.new ≡ self.old ++ bytes_of (record { pid = pid; content = V.delta run.now }) ∷ []) }

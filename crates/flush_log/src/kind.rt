@@ -1,10 +1,10 @@
 use delta_chain::{Base, Run};
 use frame_codec::{write_delta_index, write_delta_leaf, write_full_index, write_full_leaf};
 use keys::{Pid, Value};
-use std::alloc::{AllocError, Global};
+use std::alloc::{AllocError, Allocator, Global};
 
 /// A kind of page, by the cells that its pages have: values for leaves, page ids for index pages.
-pub(crate) trait Kind: Drop {
+pub(crate) trait Kind<A: Allocator>: Drop {
     ghost use Rattle.std.specs.Prelude.{◌≡◌, ◌++◌, OnOk, OnErr};
     ghost use Rattle.keys.specs.Bytes.{Bytes, Pairs, Changes};
     ghost use Rattle.frame_codec.specs.Frame.{Content, bytes_of};
@@ -19,7 +19,7 @@ pub(crate) trait Kind: Drop {
     fn write_full(
         pid: Pid,
         low: &[u8],
-        base: &Base<Self, Global>,
+        base: &Base<Self, A>,
         out: &mut Vec<u8>,
     ) -> Result<(), AllocError>
         requires { IsSized (full low.now base.now) }
@@ -28,18 +28,14 @@ pub(crate) trait Kind: Drop {
         ensures err { OnErr result (out.new.items ≡ out.old.items) };
 
     /// Appends the frame of a run. Where memory is refused nothing is appended.
-    fn write_delta(
-        pid: Pid,
-        run: &Run<Self, Global>,
-        out: &mut Vec<u8>,
-    ) -> Result<(), AllocError>
+    fn write_delta(pid: Pid, run: &Run<Self, A>, out: &mut Vec<u8>) -> Result<(), AllocError>
         requires { IsSized (delta run.now) }
         ensures ok { OnOk result (out.new.items ≡ out.old.items ++ bytes_of (record { pid = pid; content = delta run.now })) }
         ensures words { OnOk result (HasWords (record { pid = pid; content = delta run.now })) }
         ensures err { OnErr result (out.new.items ≡ out.old.items) };
 }
 
-impl Kind for Value<Global> {
+impl Kind<Global> for Value<Global> {
     ghost use Rattle.std.specs.Prelude.{◌≡◌, ◌++◌, OnOk, OnErr};
     ghost use Rattle.frame_codec.specs.Frame.{bytes_of};
     ghost use Rattle.frame_codec.specs.Frame.Content.{FullLeaf, DeltaLeaf};
@@ -63,11 +59,7 @@ impl Kind for Value<Global> {
         write_full_leaf(pid, low, base, out)
     }
 
-    fn write_delta(
-        pid: Pid,
-        run: &Run<Self, Global>,
-        out: &mut Vec<u8>,
-    ) -> Result<(), AllocError>
+    fn write_delta(pid: Pid, run: &Run<Self, Global>, out: &mut Vec<u8>) -> Result<(), AllocError>
         requires { IsSized (DeltaLeaf run.now) }
         ensures ok { OnOk result (out.new.items ≡ out.old.items ++ bytes_of (record { pid = pid; content = DeltaLeaf run.now })) }
         ensures words { OnOk result (HasWords (record { pid = pid; content = DeltaLeaf run.now })) }
@@ -77,7 +69,7 @@ impl Kind for Value<Global> {
     }
 }
 
-impl Kind for Pid {
+impl Kind<Global> for Pid {
     ghost use Rattle.std.specs.Prelude.{◌≡◌, ◌++◌, OnOk, OnErr};
     ghost use Rattle.frame_codec.specs.Frame.{bytes_of};
     ghost use Rattle.frame_codec.specs.Frame.Content.{FullIndex, DeltaIndex};
@@ -101,11 +93,7 @@ impl Kind for Pid {
         write_full_index(pid, low, base, out)
     }
 
-    fn write_delta(
-        pid: Pid,
-        run: &Run<Self, Global>,
-        out: &mut Vec<u8>,
-    ) -> Result<(), AllocError>
+    fn write_delta(pid: Pid, run: &Run<Self, Global>, out: &mut Vec<u8>) -> Result<(), AllocError>
         requires { IsSized (DeltaIndex run.now) }
         ensures ok { OnOk result (out.new.items ≡ out.old.items ++ bytes_of (record { pid = pid; content = DeltaIndex run.now })) }
         ensures words { OnOk result (HasWords (record { pid = pid; content = DeltaIndex run.now })) }

@@ -7,7 +7,7 @@
 
 pub mod commit_laws;
 pub mod image;
-
+pub mod image_work;
 mod kind;
 pub mod laws;
 pub mod new_store;
