@@ -1,5 +1,5 @@
 -- Faults that a store and its bytes don't decide, and what the making of a store leaves.
-use Rattle.std.specs.Prelude.{◌≡◌, ◌⊎◌, ℕ, ◌-◌, ◌^◌, ◌<◌, nat_lt, if◌then◌else◌, length, Option, Some, None, Result, Ok, Err}
+use Rattle.std.specs.Prelude.{◌≡◌, ◌⊎◌, ℕ, nat_lt, if◌then◌else◌, length, Option, Some, None, Result, Ok, Err}
 use Rattle.std.specs.Option.{option_or}
 use Rattle.keys.specs.Bytes.{Bytes}
 use Rattle.keys.specs.Limits.{first_bad_field}
@@ -8,13 +8,10 @@ use Rattle.keys.specs.declared.fault.Fault.TheVariants.{BadSettings, NoMemory, D
 use Rattle.keys.specs.declared.settings.Field.{Field}
 use Rattle.keys.specs.declared.settings.Settings.{Settings}
 use Rattle.mapping.specs.Tree.{Store}
+use Rattle.flush_log.specs.Disk.{HasFailed}
 use Rattle.flush_log.specs.NewStore.{disk_of_new}
 use Rattle.flush_log.specs.Segments.{disk_size}
 use Rattle.recovery.specs.StoreOfDisk.{first_store}
-
--- a disk has failed, whose count of failures was the first and is the second: it grew, or stands at its greatest
-abbrev pub HasFailed : ℕ → ℕ → Type 0
-HasFailed old new = (old < new) ⊎ (new ≡ 2 ^ 64 - 1)
 
 -- memory was refused, or the disk has failed
 abbrev pub IsLate : ℕ → ℕ → Fault → Type 0

@@ -1,5 +1,6 @@
 -- Frames that are held back to back.
-use Rattle.std.proofs.Common.{◌≡◌, ℕ, zero, suc, ◌-◌, ◌<◌, ◌≤◌, List, [], ◌∷◌, length, get_or, slice_get, slice_range, Some, refl, ap, arith}
+use Rattle.std.proofs.Common.{◌≡◌, ℕ, zero, suc, ◌+◌, ◌-◌, ◌<◌, ◌≤◌, List, [], ◌∷◌, ◌++◌, length, take, drop, get_or, slice_get, slice_range, Some, refl, sym, ap, ◌∙◌, arith, length-append}
+use Rattle.std.proofs.lemmas.List.{length-drop, take_all, take-append-le, drop-append-le}
 use native.Mathlib.Numerals.{unary_clauses}
 use Rattle.keys.specs.Bytes.{Bytes}
 use Rattle.delta_chain.specs.Packed.{AreEnds}
@@ -53,3 +54,47 @@ first_frame_cut bytes ends (suc at) end l n e = absurd (omega (arith, n))
 -- a place among the frames is one among the ends
 pub place_of_frame : (bytes : Bytes) (ends : List ℕ) (at : ℕ) → at < length (cut_at 0 bytes ends) → at < length ends
 place_of_frame bytes ends at h = let n = length-cut 0 bytes ends in omega (arith, h, n)
+
+-- ---- one frame more
+
+-- the ends lead on over more bytes
+pub ends-push : (from : ℕ) (ends : List ℕ) (last next : ℕ) → AreEnds from ends last → last ≤ next → AreEnds from (ends ++ next ∷ []) next
+ends-push from [] last next h l = (omega (arith, h), refl)
+ends-push from (end ∷ ends) last next h l = (h.0, ends-push end ends last next h.1 l)
+
+part_stays : (bytes more : Bytes) (from end : ℕ) → from ≤ end → end ≤ length bytes → slice_range (bytes ++ more) from end ≡ slice_range bytes from end
+part_stays bytes more from end l m =
+    let n : end - from ≤ length (drop from bytes) = rw (length-drop from bytes) (omega arith) in
+    ap (λ (x : List ℕ). take (end - from) x) (drop-append-le from bytes more (omega arith)) ∙ take-append-le (end - from) (drop from bytes) more n
+
+part_behind : (bytes more : Bytes) (end : ℕ) → end ≡ length bytes + length more → slice_range (bytes ++ more) (length bytes) end ≡ more
+part_behind [] more end h = simp unary_clauses (take_all end more (omega (arith, h)))
+part_behind (b ∷ bytes) more zero h = absurd (omega (arith, h))
+part_behind (b ∷ bytes) more (suc end) h =
+    let n : suc end - suc (length bytes) ≡ end - length bytes = omega arith in
+    rw n (part_behind bytes more end (omega (arith, h)))
+
+cut_more : (from : ℕ) (bytes more : Bytes) (ends : List ℕ) (end : ℕ) → AreEnds from ends (length bytes) → end ≡ length bytes + length more
+    → cut_at from (bytes ++ more) (ends ++ end ∷ []) ≡ cut_at from bytes ends ++ more ∷ []
+cut_more from bytes more [] end h e =
+    let part : slice_range (bytes ++ more) from end ≡ more = rw h (part_behind bytes more end e) in
+    ap (λ (x : List ℕ). x ∷ []) part
+cut_more from bytes more (f ∷ ends) end h e =
+    let upto = ends_upto f ends (length bytes) h.1 in
+    ap (λ (x : List ℕ). x ∷ cut_at f (bytes ++ more) (ends ++ end ∷ [])) (part_stays bytes more from f h.0 upto)
+    ∙ ap (λ (xs : List (List ℕ)). slice_range bytes from f ∷ xs) (cut_more f bytes more ends end h.1 e)
+
+-- the bytes and the ends with a frame behind them, as they are held then
+pub record IsLonger (old : List Bytes) (bytes : Bytes) (ends : List ℕ) (frame : Bytes) : Type 0 where
+  pub cut : AreEnds 0 ends (length bytes)
+  pub shown : cut_at 0 bytes ends ≡ old ++ frame ∷ []
+
+pub frame-push : (bytes now frame : Bytes) (ends later : List ℕ) (old : List Bytes) → AreEnds 0 ends (length bytes) → cut_at 0 bytes ends ≡ old
+    → now ≡ bytes ++ frame → later ≡ ends ++ length now ∷ [] → IsLonger old now later frame
+frame-push bytes now frame ends later old h shown e f =
+    let size = length-append bytes frame in
+    let more : length now ≡ length bytes + length frame = ap length e ∙ size in
+    rw f (record {
+      cut = ends-push 0 ends (length bytes) (length now) h (omega arith);
+      shown = ap (λ (bs : List ℕ). cut_at 0 bs (ends ++ length now ∷ [])) e ∙ cut_more 0 bytes frame ends (length now) h more ∙ ap (λ (xs : List (List ℕ)). xs ++ frame ∷ []) shown;
+    })

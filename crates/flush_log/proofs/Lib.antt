@@ -22,6 +22,7 @@ pub mod OutcomeLaws
 pub mod OverlayLaws
 pub mod PlaceLaws
 mod PlaceRows
+pub mod ProperPages
 pub mod PutTogether
 pub mod ReachLaws
 pub mod ReadBackLaws
@@ -39,3 +40,4 @@ pub mod StandsLaws
 pub mod TailLaws
 mod TextRows
 pub mod ViewLaws
+pub mod WrittenLaws

@@ -3,6 +3,7 @@ pub mod Commit
 pub mod Disk
 pub mod FlushText
 pub mod Gathering
+pub mod ImageWork
 pub mod Images
 pub mod Layout
 pub mod NewStore

@@ -1,8 +1,16 @@
 //! The frames of one page as they are written, back to back.
-ghost use Rattle.std.specs.Prelude.{◌≡◌, ◌<◌, length, slice_get};
+ghost use Rattle.std.specs.Prelude.{◌≡◌, ◌<◌, ◌++◌, ◌∷◌, [], length, slice_get, IfOk, OnOk};
 ghost use Rattle.delta_chain.specs.Packed.{AreEnds};
+ghost use Rattle.frame_codec.specs.Frame.{bytes_of};
+ghost use Rattle.frame_codec.specs.Frame.Content.{Free};
+ghost use Rattle.frame_codec.specs.Sized.{IsSized, HasWords};
 ghost use Rattle.flush_log.specs.Images.{cut_at};
 
+use crate::kind::Kind;
+use delta_chain::{Base, Run};
+use frame_codec::write_free;
+use keys::Pid;
+use std::alloc::{AllocError, Allocator, Global};
 use std::marker::Model;
 
 /// What is written of one page: its frames, back to back. Contracts see it as the list of each frame's bytes.
@@ -33,6 +41,61 @@ impl Image {
         ensures { result ≡ cut_at 0 bytes.items ends.items }
     {
         Image { bytes, ends }
+    }
+
+    // An image without frames, with room for the ends of so many.
+    pub(crate) fn with_capacity(alloc: Global, frames: usize) -> Result<Self, AllocError>
+        ensures { IfOk result (λ image. image ≡ []) }
+    {
+        let ends = Vec::with_capacity(alloc, frames)?;
+        Ok(Image {
+            bytes: Vec::new(alloc),
+            ends,
+        })
+    }
+
+    // Appends the frame of a base under its low key. Each page id in it is known to be of 64 bits then, as with the other frames.
+    pub(crate) fn push_full<V: Kind<A>, A: Allocator>(
+        &mut self,
+        pid: Pid,
+        low: &[u8],
+        base: &Base<V, A>,
+    ) -> Result<(), AllocError>
+        requires { IsSized (V.full low.now base.now) }
+        ensures ok { OnOk result (self.new ≡ self.old ++ bytes_of (record { pid = pid; content = V.full low.now base.now }) ∷ []) }
+        ensures words { OnOk result (HasWords (record { pid = pid; content = V.full low.now base.now })) }
+    {
+        self.ends.reserve(1)?;
+        V::write_full(pid, low, base, &mut self.bytes)?;
+        self.ends.push_reserved(self.bytes.len());
+        Ok(())
+    }
+
+    // Appends the frame of a run.
+    pub(crate) fn push_delta<V: Kind<A>, A: Allocator>(
+        &mut self,
+        pid: Pid,
+        run: &Run<V, A>,
+    ) -> Result<(), AllocError>
+        requires { IsSized (V.delta run.now) }
+        ensures ok { OnOk result (self.new ≡ self.old ++ bytes_of (record { pid = pid; content = V.delta run.now }) ∷ []) }
+        ensures words { OnOk result (HasWords (record { pid = pid; content = V.delta run.now })) }
+    {
+        self.ends.reserve(1)?;
+        V::write_delta(pid, run, &mut self.bytes)?;
+        self.ends.push_reserved(self.bytes.len());
+        Ok(())
+    }
+
+    // Appends the frame that says that there is no such page.
+    pub(crate) fn push_free(&mut self, pid: Pid) -> Result<(), AllocError>
+        ensures ok { OnOk result (self.new ≡ self.old ++ bytes_of (record { pid = pid; content = Free }) ∷ []) }
+        ensures words { OnOk result (HasWords (record { pid = pid; content = Free })) }
+    {
+        self.ends.reserve(1)?;
+        write_free(pid, &mut self.bytes)?;
+        self.ends.push_reserved(self.bytes.len());
+        Ok(())
     }
 
     /// How many frames there are.

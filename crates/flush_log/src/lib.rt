@@ -9,6 +9,8 @@ pub mod commit;
 pub mod commit_laws;
 pub mod disk;
 pub mod image;
+pub mod image_work;
+mod kind;
 pub mod laws;
 pub mod layout;
 pub mod mem_disk;

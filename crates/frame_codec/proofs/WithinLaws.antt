@@ -98,7 +98,7 @@ module _ {V : Type 0} (s : Settings) (test : V → Bool) (Is : V → Type 0) (d 
       let (rest, base_rises, base_short) = runs_pass runs base rising.1 sized.1 of_rest in
       (((decides-run run).1 (sized.0, rising.0, of_run), rest), base_rises, base_short)
 
-  page_passes : (p : Page V) → length p.low ≤ s.max_key → IsInOrder p.layers → Fits s Is p →
+  pub page_passes : (p : Page V) → length p.low ≤ s.max_key → IsInOrder p.layers → Fits s Is p →
       (is_full s test p.low p.layers.base ≡ true) × AllByRecursion (λ run. is_run s test run ≡ true) p.layers.runs
   page_passes p low rising fits =
       let (runs, base_rises, base_short) = runs_pass p.layers.runs p.layers.base rising fits.runs fits.changes in

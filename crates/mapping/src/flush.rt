@@ -6,8 +6,8 @@ use crate::slots::TablePlace;
 use index_page::Page;
 use std::alloc::Allocator;
 
-// How many runs the page has, up to the greatest `u64`.
-fn depth<A: Allocator + Copy>(page: &Page<A>) -> u64
+/// How many runs the page has, up to the greatest `u64`.
+pub fn depth<A: Allocator + Copy>(page: &Page<A>) -> u64
     ensures { result ≡ depth_counted page.now }
 {
     if let Some(chain) = page.as_leaf() {

@@ -14,6 +14,7 @@ mod slots;
 pub mod table;
 pub mod tree;
 
+pub use crate::flush::depth;
 pub use crate::logged::Logged;
 pub use crate::pids::{HomePids, Pids};
 pub use crate::table::Table;

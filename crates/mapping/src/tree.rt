@@ -6,11 +6,11 @@ ghost use Rattle.index_page.specs.Page.PageOfKind.{Leaf};
 ghost use Rattle.mapping.specs.Tree.{page_at};
 ghost use Rattle.mapping.specs.LogState.{log_state};
 ghost use Rattle.mapping.specs.Proper.{AreRisingPids};
-ghost use Rattle.mapping.specs.Table.{place_of, page_of, log_of, with_place, freed, with_rooms, pids_in_use, fresh_pids, log_outdated};
+ghost use Rattle.mapping.specs.Table.{place_of, page_of, log_of, with_place, freed, with_rooms, pids_in_use, fresh_pids, log_outdated, pids_in_use_or_old};
 ghost use Rattle.mapping.specs.TreeInMemory.{AreAllHome, tree_of, new_in_memory};
 
 use crate::logged::Logged;
-use crate::pids::HomePids;
+use crate::pids::{HomePids, Pids};
 use crate::table::Table;
 use delta_chain::{Base, Chain};
 use index_page::Page;
@@ -88,6 +88,14 @@ impl<A: Allocator + Copy> Tree<A> {
         ensures { result ≡ keys_of (tree_of self.now).pages }
     {
         self.table.home_pids()
+    }
+
+    /// The page ids that are in use, and those of which the log has `Old`, by rising number: those of which a flush may have
+    /// something to write. It takes no memory.
+    pub fn known_pids(&self) -> Pids<'_, Page<A>>
+        ensures { result ≡ pids_in_use_or_old self.now.table }
+    {
+        self.table.pids()
     }
 
     /// Takes the page out of its place, which is away afterwards. This takes no memory, as `put` and `free` do not.

@@ -13,7 +13,6 @@ pub mod NothingDue
 mod PageRows
 pub mod PagesLaws
 pub mod PartLaws
-pub mod ProperPages
 pub mod ReadStore
 pub mod StepLaws
 pub mod StoreLaws

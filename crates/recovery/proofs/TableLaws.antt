@@ -17,7 +17,7 @@ use Rattle.mapping.specs.TreeInMemory.{TreeInMemory, AreAllHome, home_pages, tre
 use Rattle.frame_codec.specs.Frame.{Content}
 use Rattle.flush_log.specs.FlushText.{lacking, frames_of, pid_text, pids_to_write, flush_text, logged_whole, flushed}
 use Rattle.recovery.proofs.NothingDue.{each_has}
-use Rattle.recovery.proofs.ProperPages.{IsGoodOfKind, page-is_good}
+use Rattle.flush_log.proofs.ProperPages.{IsGoodOfKind, page-is_good}
 
 -- ---- pids
 

@@ -1,0 +1,62 @@
+-- What a job of the work on images holds, and what is made of it.
+use Rattle.std.specs.Prelude.{◌≡◌, ℕ, ◌^◌, ◌<◌, ⊤, List, [], ◌∷◌, ◌++◌, map, drop, Option, Some, None}
+use Rattle.std.specs.Borrow.{Bor}
+use Rattle.std.specs.List.{AllByRecursion}
+use Rattle.std.specs.Option.{option_copied}
+use Rattle.keys.specs.Bytes.{Bytes}
+use Rattle.index_page.specs.Page.{PageOfKind}
+use Rattle.mapping.specs.Flushed.{page_depth}
+use Rattle.mapping.specs.LogState.{log_state}
+use Rattle.mapping.specs.Tree.{Logged, Tree, page_at, logged_of}
+use Rattle.mapping.specs.Tree.Logged.{No, Old, Upto}
+use Rattle.mapping.specs.declared.logged.Logged as of_code
+use Rattle.frame_codec.specs.Frame.{Content, Frame, bytes_of}
+use Rattle.frame_codec.specs.Sized.{IsSized, HasWords}
+use Rattle.flush_log.specs.FlushText.{lacking, frames_of}
+
+-- a pid, its page if it has one, and what the log has of it
+pub record ImageHeld : Type 0 where
+  pub pid : ℕ
+  pub page : Option PageOfKind
+  pub logged : Logged
+
+-- what a job holds, from its parts
+abbrev pub image_held : ℕ → Option (Bor PageOfKind) → of_code.Logged → ImageHeld
+image_held pid page logged = record { pid = pid; page = option_copied page; logged = log_state logged }
+
+-- what is to be held of a pid of a tree
+abbrev pub held_of_pid : Tree → ℕ → ImageHeld
+held_of_pid t pid = record { pid = pid; page = page_at t.pages pid; logged = logged_of t pid }
+
+-- the frames that are to be written of it
+abbrev pub held_text : ImageHeld → List Frame
+held_text h = frames_of h.pid (lacking h.page h.logged)
+
+-- the bytes of these
+abbrev pub image_made : ImageHeld → List Bytes
+image_made h = map (λ f. bytes_of f) (held_text h)
+
+-- the page has far fewer runs than a machine number counts
+abbrev pub HasFewRuns : Option PageOfKind → Type 0
+HasFewRuns None = ⊤
+HasFewRuns (Some p) = page_depth p < 2 ^ 31
+
+-- what may be worked: what is to be written is such as a store may have, by its sizes, and the runs are few
+pub record CanBeWritten (h : ImageHeld) : Type 0 where
+  pub sized : AllByRecursion IsSized (lacking h.page h.logged)
+  pub few : HasFewRuns h.page
+
+-- the same of a page of which these are the base and the runs, the oldest first
+abbrev pub lacking_by : Logged → Content → List Content → List Content
+lacking_by No base runs = base ∷ runs
+lacking_by Old base runs = base ∷ runs
+lacking_by (Upto k) base runs = drop k runs
+
+-- these contents were written behind what was there, as frames of one pid, and each page id in them is of 64 bits
+pub record AreWritten (pid : ℕ) (cs : List Content) (old new : List Bytes) : Type 0 where
+  pub bytes : new ≡ old ++ map (λ f. bytes_of f) (frames_of pid cs)
+  pub words : AllByRecursion HasWords (frames_of pid cs)
+
+-- this is the image of what a job holds
+abbrev pub IsImageOf : ImageHeld → List Bytes → Type 0
+IsImageOf h image = AreWritten h.pid (lacking h.page h.logged) [] image

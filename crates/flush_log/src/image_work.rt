@@ -1,0 +1,238 @@
+//! The work of a flush: what is to be written of each page, as the bytes of its frames.
+ghost use Rattle.std.specs.Prelude.{◌≡◌, ◌^◌, ◌<◌, ◌∷◌, [], map, reverse, drop, Some, None, IfOk, OnOk};
+ghost use Rattle.std.specs.List.{AllByRecursion};
+ghost use Rattle.delta_chain.specs.Layers.{depth_of};
+ghost use Rattle.mapping.specs.Flushed.{page_depth};
+ghost use Rattle.mapping.specs.LogState.{log_state};
+ghost use Rattle.frame_codec.specs.Sized.{IsSized, HasWords};
+ghost use Rattle.flush_log.specs.FlushText.{lacking};
+ghost use Rattle.flush_log.specs.ImageWork.{image_held, held_text, image_made, CanBeWritten, lacking_by, AreWritten, IsImageOf};
+
+use crate::image::Image;
+use crate::kind::Kind;
+use crew::{Turn, Work};
+use delta_chain::Chain;
+use index_page::Page;
+use keys::{Pid, Value};
+use mapping::Logged;
+use std::alloc::{AllocError, Allocator, Global};
+use std::marker::{Model, PhantomData};
+
+/// The work of making images: a page and what the log has of it go in; the frames that the log lacks come out.
+#[derive(Drop)]
+pub struct ImageWork<'a> {
+    /// Where images are allocated.
+    pub alloc: Global,
+    // The pages of its jobs are lent.
+    lent: PhantomData<&'a Page<Global>>,
+}
+
+/// A page id, its page if it has one, and what the log has of it.
+#[derive(Drop)]
+pub struct ImageJob<'a> {
+    pub pid: Pid,
+    pub page: Option<&'a Page<Global>>,
+    pub logged: Logged,
+}
+
+/// The image that was made of a job, with the job. Contracts see it as what the job held: by that the image is known.
+#[derive(Drop)]
+pub struct ImageDone<'a> {
+    job: ImageJob<'a>,
+    image: Image,
+}
+
+impl<'a> ImageWork<'a> {
+    /// The work with this allocator.
+    pub fn new(alloc: Global) -> Self {
+        ImageWork {
+            alloc,
+            lent: PhantomData,
+        }
+    }
+}
+
+impl<'a> Model for ImageDone<'a> {
+    ghost use Rattle.flush_log.specs.ImageWork.{ImageHeld, image_held, IsImageOf};
+
+    ghost Value = { ImageHeld };
+
+    ghost view = { λ d. image_held d.job.pid d.job.page d.job.logged };
+
+    ghost invariant = { λ d. IsImageOf (image_held d.job.pid d.job.page d.job.logged) d.image };
+}
+
+impl<'a> ImageDone<'a> {
+    /// The image, for good: the job cannot be given back any more. Each page id in its frames is known to be of 64 bits.
+    pub fn into_image(self) -> Image
+        ensures image { result ≡ image_made self.entry }
+        ensures words { AllByRecursion HasWords (held_text self.entry) }
+    {
+        let ImageDone { job: _job, image } = self;
+        image
+    }
+}
+
+impl<'a> Work for ImageWork<'a> {
+    ghost use Rattle.std.specs.Prelude.{List};
+    ghost use Rattle.keys.specs.Bytes.{Bytes};
+    ghost use Rattle.flush_log.specs.ImageWork.{ImageHeld, image_held, image_made, CanBeWritten};
+
+    type Job = ImageJob<'a>;
+
+    type Done = ImageDone<'a>;
+
+    ghost Held = { ImageHeld };
+
+    ghost Made = { List Bytes };
+
+    ghost accepts = { λ _ h. CanBeWritten h };
+
+    ghost held = { λ j. image_held j.pid j.page j.logged };
+
+    ghost origin = { λ d. d };
+
+    ghost outcome = { λ d. image_made d };
+
+    ghost made = { λ _ h. image_made h };
+
+    fn work(&self, job: ImageJob<'a>) -> Turn<ImageJob<'a>, ImageDone<'a>> {
+        let ImageJob { pid, page, logged } = job;
+        match image_of(self.alloc, pid, page, logged) {
+            Ok(image) => Turn::Done(ImageDone {
+                job: ImageJob { pid, page, logged },
+                image,
+            }),
+            Err(_) => Turn::Back(ImageJob { pid, page, logged }),
+        }
+    }
+
+    fn undo(&self, done: ImageDone<'a>) -> ImageJob<'a> {
+        done.job
+    }
+}
+
+// The image of what a job holds.
+fn image_of(
+    alloc: Global,
+    pid: Pid,
+    page: Option<&Page<Global>>,
+    logged: Logged,
+) -> Result<Image, AllocError>
+    requires { CanBeWritten (image_held pid page logged) }
+    ensures { IfOk result (λ image. IsImageOf (image_held pid page.entry logged) image) }
+{
+    match page {
+        None => free_image(alloc, pid, logged),
+        Some(page) => page_image(alloc, pid, page, logged),
+    }
+}
+
+// The image of a page id without a page.
+fn free_image(alloc: Global, pid: Pid, logged: Logged) -> Result<Image, AllocError>
+    ensures { IfOk result (λ image. AreWritten pid (lacking None (log_state logged)) [] image) }
+{
+    if logged != Logged::Old {
+        return Image::with_capacity(alloc, 0);
+    }
+    let mut image = Image::with_capacity(alloc, 1)?;
+    image.push_free(pid)?;
+    Ok(image)
+}
+
+// The image of a page.
+fn page_image(
+    alloc: Global,
+    pid: Pid,
+    page: &Page<Global>,
+    logged: Logged,
+) -> Result<Image, AllocError>
+    requires few { page_depth page.now < 2 ^ 31 }
+    requires sized { AllByRecursion IsSized (lacking (Some page.now) (log_state logged)) }
+    ensures { IfOk result (λ image. AreWritten pid (lacking (Some page.now) (log_state logged)) [] image) }
+{
+    if let Some(chain) = page.as_leaf() {
+        return chain_image::<Value<Global>>(alloc, pid, page.low(), chain, logged);
+    }
+    match page.as_index() {
+        Some(chain) => chain_image::<Pid>(alloc, pid, page.low(), chain, logged),
+        None => unreachable!(),
+    }
+}
+
+// The image of a page of this kind.
+fn chain_image<V: Kind<Global>>(
+    alloc: Global,
+    pid: Pid,
+    low: &[u8],
+    chain: &Chain<V, Global>,
+    logged: Logged,
+) -> Result<Image, AllocError>
+    requires few { depth_of chain.now < 2 ^ 31 }
+    requires sized { AllByRecursion IsSized (lacking_by (log_state logged) (V.full low.now chain.now.base) (map V.delta (reverse chain.now.runs))) }
+    ensures { IfOk result (λ image. AreWritten pid (lacking_by (log_state logged) (V.full low.now chain.now.base) (map V.delta (reverse chain.now.runs))) [] image) }
+{
+    match logged {
+        Logged::Upto(kept) => newer_image(alloc, pid, chain, kept),
+        _ => whole_image(alloc, pid, low, chain),
+    }
+}
+
+// The image of a page of which the log has nothing: its base and its runs.
+fn whole_image<V: Kind<Global>>(
+    alloc: Global,
+    pid: Pid,
+    low: &[u8],
+    chain: &Chain<V, Global>,
+) -> Result<Image, AllocError>
+    requires few { depth_of chain.now < 2 ^ 31 }
+    requires base { IsSized (V.full low.now chain.now.base) }
+    requires runs { AllByRecursion IsSized (map V.delta (reverse chain.now.runs)) }
+    ensures { IfOk result (λ image. AreWritten pid (V.full low.now chain.now.base ∷ map V.delta (reverse chain.now.runs)) [] image) }
+{
+    let depth = chain.depth() as usize;
+    let mut image = Image::with_capacity(alloc, depth + 1)?;
+    image.push_full(pid, low, chain.base())?;
+    push_runs(&mut image, pid, chain, 0)?;
+    Ok(image)
+}
+
+// The image of a page of which the log has the base and so many of the oldest runs: its other runs.
+fn newer_image<V: Kind<Global>>(
+    alloc: Global,
+    pid: Pid,
+    chain: &Chain<V, Global>,
+    kept: u64,
+) -> Result<Image, AllocError>
+    requires few { depth_of chain.now < 2 ^ 31 }
+    requires sized { AllByRecursion IsSized (drop kept (map V.delta (reverse chain.now.runs))) }
+    ensures { IfOk result (λ image. AreWritten pid (drop kept (map V.delta (reverse chain.now.runs))) [] image) }
+{
+    let newer = chain.depth().saturating_sub(kept) as usize;
+    let mut image = Image::with_capacity(alloc, newer)?;
+    push_runs(&mut image, pid, chain, kept)?;
+    Ok(image)
+}
+
+// Appends the runs behind so many of the oldest, the oldest of them first.
+fn push_runs<V: Kind<A>, A: Allocator + Copy>(
+    image: &mut Image,
+    pid: Pid,
+    chain: &Chain<V, A>,
+    kept: u64,
+) -> Result<(), AllocError>
+    requires few { depth_of chain.now < 2 ^ 31 }
+    requires sized { AllByRecursion IsSized (drop kept (map V.delta (reverse chain.now.runs))) }
+    ensures { OnOk result (AreWritten pid (drop kept (map V.delta (reverse chain.now.runs))) image.old image.new) }
+{
+    if chain.depth() <= kept {
+        return Ok(());
+    }
+    match chain.newest() {
+        None => Ok(()),
+        Some((run, below)) => {
+            push_runs(image, pid, below, kept)?;
+            image.push_delta(pid, run)
+        }
+    }
+}
