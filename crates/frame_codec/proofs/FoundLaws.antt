@@ -1,12 +1,12 @@
 -- What a frame comes to, from its header and from its content as the settings allow it.
-use Rattle.std.proofs.Common.{◌≡◌, ℕ, suc, ◌+◌, ◌-◌, ◌<◌, ◌≤◌, Fits, w8, get_or, [], ◌∷◌, Bool, true, false, ◌&&◌, ◌==◌, if◌then◌else◌, List, ◌++◌, length, drop, Option, Some, None, refl, sym, ap, ◌∙◌, arith, length-append, eq-eqb}
+use Rattle.std.proofs.Common.{◌≡◌, ℕ, suc, ◌+◌, ◌-◌, ◌≤◌, Fits, w8, get_or, [], ◌∷◌, Bool, true, false, ◌==◌, if◌then◌else◌, List, length, drop, Option, Some, None, refl, sym, ap, ◌∙◌, arith, length-append, eq-eqb}
 use Rattle.std.proofs.Math.Seq.{drop-append_seam}
 use Rattle.std.proofs.lemmas.Bool.{eqb-true}
 use Rattle.keys.specs.Cells.{AreBytes, read_on, read_as, read_where}
 use Rattle.keys.specs.declared.settings.Settings.{Settings}
 use Rattle.keys.proofs.CellLaws.{gave, nothing_read, read_as-gave, read_where-gave, bytes_behind}
 use Rattle.frame_codec.specs.Frame.{Content, Frame, content_bytes, header, bytes_of, is_pid, is_content, is_frame}
-use Rattle.frame_codec.specs.Reading.{read_content, read_behind, read_any, read_frame}
+use Rattle.frame_codec.specs.Reading.{read_content, read_behind, read_frame}
 use Rattle.frame_codec.proofs.EachLaws.{not_true, fails_last}
 use Rattle.frame_codec.proofs.ReadLaws.{header-spelled, content-spelled, frame-stands}
 

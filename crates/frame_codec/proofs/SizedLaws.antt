@@ -1,5 +1,5 @@
 -- What the sizes of a content tell: how long its spelling is, and that it is a frame's where its cells are of their type.
-use Rattle.std.proofs.Common.{◌≡◌, ℕ, ◌+◌, ◌*◌, ◌^◌, ◌<◌, ◌≤◌, Bool, true, ◌&&◌, List, [], ◌∷◌, length, flat_map, Option, Some, None, refl, ap, ◌∙◌, arith, length-append, leb-true}
+use Rattle.std.proofs.Common.{◌≡◌, ℕ, ◌*◌, ◌^◌, ◌<◌, ◌≤◌, Bool, true, ◌&&◌, List, [], ◌∷◌, length, flat_map, Option, Some, None, refl, arith, length-append, leb-true}
 use Rattle.std.proofs.lemmas.Bool.{and_parts}
 use Rattle.std.specs.Cmp.Derive.{both_true}
 use Rattle.std.specs.List.{list_all}
@@ -8,7 +8,7 @@ use Rattle.keys.specs.Limits.{first_bad_field}
 use Rattle.keys.specs.declared.settings.Settings.{Settings}
 use Rattle.keys.proofs.CellLaws.{length-counted}
 use Rattle.index_page.specs.Rules.{is_short_value, is_any_pid, of_cell}
-use Rattle.frame_codec.specs.Appended.{IsCount, AreSpellable}
+use Rattle.frame_codec.specs.Appended.{AreSpellable}
 use Rattle.frame_codec.specs.Codecs.{both, listed, spell_flag, flagged}
 use Rattle.frame_codec.specs.Frame.{Content, Frame, full, delta, is_pid, is_key, are_entries, is_full, is_run, is_content, is_frame}
 use Rattle.frame_codec.specs.Frame.Content.{FullLeaf, DeltaLeaf, FullIndex, DeltaIndex, Free}

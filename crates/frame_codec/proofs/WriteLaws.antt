@@ -1,7 +1,7 @@
 -- Entries that are spelled one behind the other, by place.
-use Rattle.std.proofs.Common.{◌≡◌, ℕ, zero, suc, ◌+◌, ◌<◌, ◌≤◌, Bool, true, ◌&&◌, List, [], ◌∷◌, ◌++◌, length, drop, flat_map, slice_get, Option, Some, None, Vec, vec_len, vec_capacity, refl, sym, ap, subst, ◌∙◌, arith, add-one, append_assoc, length-append}
+use Rattle.std.proofs.Common.{◌≡◌, ℕ, zero, suc, ◌+◌, ◌≤◌, Bool, true, ◌&&◌, List, [], ◌∷◌, ◌++◌, length, drop, flat_map, slice_get, Option, Some, Vec, refl, sym, ap, subst, ◌∙◌, arith, add-one, append_assoc, length-append}
 use Rattle.std.proofs.lemmas.List.{append-nil, drop_all}
-use Rattle.std.specs.List.{AllByRecursion, list_all}
+use Rattle.std.specs.List.{list_all}
 use Rattle.std.specs.Map.{keys_of, values_of}
 use Rattle.keys.specs.Cells.{Codec, number, counted}
 use Rattle.keys.specs.Sizes.{pid_size}

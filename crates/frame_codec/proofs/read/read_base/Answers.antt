@@ -1,4 +1,4 @@
-use Rattle.std.proofs.Common.{rules, ◌≡◌, false, ap}
+use Rattle.std.proofs.Common.{rules, ◌≡◌, false}
 use Rattle.delta_chain.specs.Building.{goes_last}
 use Rattle.frame_codec.proofs.EachLaws.{read-none, read-next, read-ends, read-falls, read-done, read-many}
 use Rattle.frame_codec.proofs.read.read_base.Goals as goal

@@ -1,4 +1,4 @@
-use Rattle.std.proofs.Common.{rules, ◌≡◌, false, ap}
+use Rattle.std.proofs.Common.{rules, ◌≡◌, false}
 use Rattle.index_page.specs.Rules.{of_cell}
 use Rattle.frame_codec.specs.Codecs.{flagged}
 use Rattle.delta_chain.specs.Building.{goes_last}

@@ -1,4 +1,4 @@
-use Rattle.std.proofs.Common.{◌+◌, ◌≤◌, length, refl, arith}
+use Rattle.std.proofs.Common.{◌≤◌, length, refl, arith}
 use Rattle.std.specs.Option.{option_copied}
 use Rattle.index_page.specs.Rules.{of_cell}
 use Rattle.frame_codec.specs.Codecs.{flagged}

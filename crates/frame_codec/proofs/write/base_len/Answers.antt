@@ -1,4 +1,4 @@
-use Rattle.std.proofs.Common.{◌≡◌, ◌+◌, [], length, flat_map, ap, arith}
+use Rattle.std.proofs.Common.{◌≡◌, length, flat_map, ap, arith}
 use Rattle.std.proofs.lemmas.List.{drop_all}
 use Rattle.keys.specs.Cells.{counted}
 use Rattle.frame_codec.specs.Codecs.{both}

@@ -1,4 +1,4 @@
-use Rattle.std.proofs.Common.{◌≡◌, ◌+◌, [], length, flat_map, ap, arith}
+use Rattle.std.proofs.Common.{◌≡◌, length, flat_map, ap, arith}
 use Rattle.std.proofs.lemmas.List.{drop_all}
 use Rattle.std.specs.Option.{option_copied}
 use Rattle.frame_codec.specs.Codecs.{flagged}

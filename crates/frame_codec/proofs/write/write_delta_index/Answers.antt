@@ -1,4 +1,4 @@
-use Rattle.std.proofs.Common.{◌<◌, arith}
+use Rattle.std.proofs.Common.{arith}
 use Rattle.std.proofs.lemmas.Result.{on_ok_weaker}
 use Rattle.keys.specs.Cells.{pid_cell}
 use Rattle.frame_codec.proofs.SizedLaws.{index_run-short, delta-few, index_run-words}

@@ -1,4 +1,3 @@
-use Rattle.std.proofs.Common.{subst, sym, ◌∙◌, ap}
 use Rattle.frame_codec.specs.Shown.{frame_of}
 use Rattle.frame_codec.proofs.SizedLaws.{sized-frame}
 use Rattle.frame_codec.proofs.write.write_frame.Goals as goal

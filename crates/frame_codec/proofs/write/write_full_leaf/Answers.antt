@@ -1,4 +1,4 @@
-use Rattle.std.proofs.Common.{◌<◌, arith}
+use Rattle.std.proofs.Common.{arith}
 use Rattle.std.proofs.lemmas.Result.{on_ok_weaker}
 use Rattle.keys.specs.Cells.{value_cell}
 use Rattle.frame_codec.proofs.SizedLaws.{leaf-short, full-few, leaf-words}

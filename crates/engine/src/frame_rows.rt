@@ -1,0 +1,179 @@
+//! Frames as bytes: the frames of the worked examples are read as what they say and written again as they stand, and bytes
+//! that are no frame are refused.
+ghost use Rattle.std.specs.Prelude.{◌≡◌, None};
+ghost use Rattle.keys.specs.Limits.{first_bad_field};
+
+use delta_chain::{Base, Run};
+use frame_codec::{Frame, read_frame, write_frame};
+use keys::{Pid, Settings, Value};
+use std::alloc::{AllocError, Global};
+use std::test::Fail;
+
+const SETTINGS: Settings = Settings {
+    fan: 4,
+    chain: 2,
+    max_key: 16,
+    max_value: 16,
+    seg_size: 256,
+    segments: 4,
+};
+
+const EMPTY_LEAF: &[u8] = b"\x01\0\0\0\x0c\0\0\0\0\0\0\0\0\0\0\0\0";
+
+const A_ABSENT: &[u8] = b"\x02\0\0\0\x0e\0\0\0\0\0\0\0\0\0\x01\0\x01a\0";
+
+const A_PUT: &[u8] = b"\x02\0\0\0\x11\0\0\0\0\0\0\0\0\0\x01\0\x01a\x01\0\x011";
+
+const LEAF_0: &[u8] = b"\x01\0\0\0\x18\0\0\0\0\0\0\0\0\0\0\0\x02\0\x01a\0\x011\0\x01b\0\x012";
+
+const LEAF_1: &[u8] =
+    b"\x01\0\0\0\x1f\0\0\0\0\0\0\0\x01\0\x01c\0\x03\0\x01c\0\x013\0\x01d\0\x014\0\x01e\0\x015";
+
+const ROOT: &[u8] =
+    b"\x03\0\0\0\x21\0\0\0\0\0\0\0\x02\0\0\0\x02\0\0\0\0\0\0\0\0\0\0\0\x01c\0\0\0\0\0\0\0\x01";
+
+const FREE_1: &[u8] = b"\x05\0\0\0\x08\0\0\0\0\0\0\0\x01";
+
+const A_3: &[u8] = b"\x01\0\0\0\x12\0\0\0\0\0\0\0\0\0\0\0\x01\0\x01a\0\x013";
+
+const FOUR_PUT: &[u8] =
+    b"\x02\0\0\0\x26\0\0\0\0\0\0\0\0\0\x04\0\x01a\x01\0\x011\0\x01b\x01\0\x012\0\x01c\x01\0\x013\0\x01d\x01\0\x014";
+
+// The keys of a list, each with the first byte of its value, or its page id, or `-` where it is absent.
+fn leaf_text(alloc: Global, base: &Base<Value<Global>, Global>) -> Result<Vec<u8>, AllocError> {
+    let mut text = Vec::new(alloc);
+    for at in 0..base.len() {
+        text.extend_from_slice(base.key(at))?;
+        text.extend_from_slice(base.cell(at).as_bytes())?;
+    }
+    Ok(text)
+}
+
+fn run_text(alloc: Global, run: &Run<Value<Global>, Global>) -> Result<Vec<u8>, AllocError> {
+    let mut text = Vec::new(alloc);
+    for at in 0..run.len() {
+        text.extend_from_slice(run.key(at))?;
+        text.extend_from_slice(match run.change(at) {
+            Some(value) => value.as_bytes(),
+            None => b"-",
+        })?;
+    }
+    Ok(text)
+}
+
+fn index_text(alloc: Global, base: &Base<Pid, Global>) -> Result<Vec<u8>, AllocError> {
+    let mut text = Vec::new(alloc);
+    for at in 0..base.len() {
+        text.extend_from_slice(base.key(at))?;
+        text.extend_from_slice(if base.cell(at).0 == 0 { b"0" } else { b"1" })?;
+    }
+    Ok(text)
+}
+
+// What a frame says, as its low key, a colon and its entries; and its page id.
+fn said(alloc: Global, frame: &Frame) -> Result<(Vec<u8>, u64), AllocError> {
+    match frame {
+        Frame::FullLeaf { pid, low, base } => {
+            let mut text = low.as_bytes().to_vec(alloc)?;
+            text.extend_from_slice(b":")?;
+            text.extend_from_slice(leaf_text(alloc, base)?.as_slice())?;
+            Ok((text, pid.0))
+        }
+        Frame::DeltaLeaf { pid, run } => Ok((run_text(alloc, run)?, pid.0)),
+        Frame::FullIndex { pid, low, base } => {
+            let mut text = low.as_bytes().to_vec(alloc)?;
+            text.extend_from_slice(b":")?;
+            text.extend_from_slice(index_text(alloc, base)?.as_slice())?;
+            Ok((text, pid.0))
+        }
+        Frame::DeltaIndex { pid, run } => {
+            let count = if run.len() == 1 { b"one" } else { b"few" };
+            Ok((count.to_vec(alloc)?, pid.0))
+        }
+        Frame::Free { pid } => Ok((b"free".to_vec(alloc)?, pid.0)),
+    }
+}
+
+#[test]
+fn the_frames_of_the_examples_are_read(rt: HostRuntime) -> Result<(), Fail> {
+    let rows: [(&[u8], &[u8], u64); 9] = [
+        (EMPTY_LEAF, b":", 0),
+        (A_ABSENT, b"a-", 0),
+        (A_PUT, b"a1", 0),
+        (LEAF_0, b":a1b2", 0),
+        (LEAF_1, b"c:c3d4e5", 1),
+        (ROOT, b":0c1", 2),
+        (FREE_1, b"free", 1),
+        (A_3, b":a3", 0),
+        (FOUR_PUT, b"a1b2c3d4", 0),
+    ];
+    for row in &rows {
+        match read_frame(rt.alloc(), row.0, &SETTINGS)? {
+            Some((frame, size)) => {
+                let (text, pid) = said(rt.alloc(), &frame)?;
+                assert_eq!(rt; text.as_slice(), row.1);
+                assert_eq!(rt; pid, row.2);
+                assert_eq!(rt; size, row.0.len());
+            }
+            None => assert!(rt; false),
+        }
+    }
+    Ok(())
+}
+
+// The frame at the front of these bytes, written again.
+fn again(alloc: Global, bytes: &[u8], settings: &Settings) -> Result<Option<Vec<u8>>, AllocError>
+    requires { first_bad_field settings.now ≡ None }
+{
+    match read_frame(alloc, bytes, settings)? {
+        Some((frame, _)) => {
+            let mut out = Vec::new(alloc);
+            write_frame(&frame, &mut out)?;
+            Ok(Some(out))
+        }
+        None => Ok(None),
+    }
+}
+
+#[test]
+fn the_frames_of_the_examples_are_written_as_they_stand(rt: HostRuntime) -> Result<(), Fail> {
+    let rows: [&[u8]; 9] = [
+        EMPTY_LEAF, A_ABSENT, A_PUT, LEAF_0, LEAF_1, ROOT, FREE_1, A_3, FOUR_PUT,
+    ];
+    for row in &rows {
+        match again(rt.alloc(), row, &SETTINGS)? {
+            Some(out) => assert_eq!(rt; out.as_slice(), *row),
+            None => assert!(rt; false),
+        }
+    }
+    Ok(())
+}
+
+#[test]
+fn bytes_that_are_no_frame_are_refused(rt: HostRuntime) -> Result<(), Fail> {
+    let refused: [&[u8]; 11] = [
+        // b before a; a twice.
+        b"\x01\0\0\0\x18\0\0\0\0\0\0\0\0\0\0\0\x02\0\x01b\0\x012\0\x01a\0\x011",
+        b"\x01\0\0\0\x18\0\0\0\0\0\0\0\0\0\0\0\x02\0\x01a\0\x012\0\x01a\0\x011",
+        // A flag of 2.
+        b"\x02\0\0\0\x11\0\0\0\0\0\0\0\0\0\x01\0\x01a\x02\0\x011",
+        // A length that is one too small, and one too large.
+        b"\x01\0\0\0\x0b\0\0\0\0\0\0\0\0\0\0\0\0",
+        b"\x01\0\0\0\x0d\0\0\0\0\0\0\0\0\0\0\0\0\0",
+        // A run without changes.
+        b"\x02\0\0\0\x0a\0\0\0\0\0\0\0\0\0\0",
+        // A run of five.
+        b"\x02\0\0\0\x1e\0\0\0\0\0\0\0\0\0\x05\0\x01a\0\0\x01b\0\0\x01c\0\0\x01d\0\0\x01e\0",
+        // A key of 17 bytes.
+        b"\x02\0\0\0\x1e\0\0\0\0\0\0\0\0\0\x01\0\x11abcdefghijklmnopq\0",
+        // The kinds 0 and 6.
+        b"\0\0\0\0\x08\0\0\0\0\0\0\0\x01",
+        b"\x06\0\0\0\x08\0\0\0\0\0\0\0\x01",
+        // A frame that is cut off.
+        b"\x05\0\0\0\x08\0\0\0\0\0\0\0",
+    ];
+    for bytes in &refused {
+        assert!(rt; read_frame(rt.alloc(), bytes, &SETTINGS)?.is_none());
+    }
+    Ok(())
+}
