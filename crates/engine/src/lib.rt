@@ -6,6 +6,8 @@ mod bases;
 #[cfg(test)]
 mod disk_rows;
 mod execute;
+#[cfg(test)]
+mod frame_rows;
 pub mod laws;
 mod leaves;
 #[cfg(test)]
