@@ -31,6 +31,7 @@ mod SlotRows
 pub mod StandingLaws
 pub mod StandsLaws
 pub mod TailLaws
+pub mod TextImages
 mod TextRows
 pub mod ViewLaws
 pub mod WrittenLaws

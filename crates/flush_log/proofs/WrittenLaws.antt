@@ -50,7 +50,7 @@ module _ {X : Type 0} (f : X → Content) where
   length_reverse [] = refl
   length_reverse (x ∷ xs) = ap length (reverse-append (x ∷ []) xs) ∙ length-append (reverse xs) (x ∷ []) ∙ (let e = length_reverse xs in omega arith)
 
-  length_contents : (runs : List X) → length (contents runs) ≡ length runs
+  pub length_contents : (runs : List X) → length (contents runs) ≡ length runs
   length_contents runs = length_map (reverse runs) ∙ length_reverse runs
 
   map_append : (xs ys : List X) → map f (xs ++ ys) ≡ map f xs ++ map f ys

@@ -15,3 +15,4 @@ pub mod segments;
 pub mod settings_block;
 pub mod slot;
 pub mod slot_laws;
+pub mod text;
