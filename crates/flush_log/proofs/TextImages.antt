@@ -2,7 +2,8 @@
 use Rattle.std.proofs.Common.{◌≡◌, ◌≢◌, ℕ, zero, suc, ◌^◌, ◌<◌, true, List, [], ◌∷◌, ◌++◌, length, map, flat_map, reverse, drop, Option, Some, None, IsSome, Result, Ok, Err, IfOk, IsTrue, ◌↔◌, Bool, false, nat_le, get_or, refl, sym, ap, ◌∙◌, arith, subst, leb-true, le-leb, append_assoc, append-nil}
 use Rattle.std.specs.List.{AllByRecursion, filter}
 use Rattle.std.specs.Map.{keys_of}
-use Rattle.std.proofs.lemmas.List.{reverse-append, drop_all, length-drop}
+use Rattle.std.proofs.lemmas.List.{reverse-append, drop_all, length-drop, map-append}
+use Rattle.std.proofs.lemmas.Grind.{flat_map-append}
 use Rattle.keys.specs.Bytes.{Bytes}
 use Rattle.keys.specs.Limits.{first_bad_field}
 use Rattle.keys.specs.declared.settings.Settings.{Settings}
@@ -107,10 +108,6 @@ text-frames t words s proper = frames_by s (flush_text t) (sized (pids_to_write 
 
 -- ---- the jobs
 
-texts-append : (hs gs : List ImageHeld) → flat_map held_text (hs ++ gs) ≡ flat_map held_text hs ++ flat_map held_text gs
-texts-append [] gs = refl
-texts-append (h ∷ hs) gs = ap (λ (fs : List Frame). held_text h ++ fs) (texts-append hs gs) ∙ sym (append_assoc (held_text h) (flat_map held_text hs) (flat_map held_text gs))
-
 -- the text so far, and that of the pids that are left
 abbrev pub text_with : Tree → List ImageHeld → List ℕ → List Frame
 text_with t hs left = flat_map held_text hs ++ flat_map (pid_text t) left
@@ -122,18 +119,14 @@ pub text-push : (t : Tree) (hs : List ImageHeld) (pid : ℕ) (left : List ℕ) (
 text-push t hs pid left all h =
     let rest : List Frame = flat_map (pid_text t) left in
     let one : flat_map held_text (held_of_pid t pid ∷ []) ≡ pid_text t pid = append-nil (pid_text t pid) in
-    ap (λ (fs : List Frame). fs ++ rest) (texts-append hs (held_of_pid t pid ∷ []) ∙ ap (λ (fs : List Frame). flat_map held_text hs ++ fs) one)
+    ap (λ (fs : List Frame). fs ++ rest) (flat_map-append held_text hs (held_of_pid t pid ∷ []) ∙ ap (λ (fs : List Frame). flat_map held_text hs ++ fs) one)
     ∙ append_assoc (flat_map held_text hs) (pid_text t pid) rest ∙ h
 
 -- ---- the images
 
-bytes-append : (fs gs : List Frame) → map (λ f. bytes_of f) (fs ++ gs) ≡ map (λ f. bytes_of f) fs ++ map (λ f. bytes_of f) gs
-bytes-append [] gs = refl
-bytes-append (f ∷ fs) gs = ap (λ (bs : List Bytes). bytes_of f ∷ bs) (bytes-append fs gs)
-
 pub images-joined : (hs : List ImageHeld) → frames_in (map image_made hs) ≡ map (λ f. bytes_of f) (flat_map held_text hs)
 images-joined [] = refl
-images-joined (h ∷ hs) = ap (λ (bs : List Bytes). image_made h ++ bs) (images-joined hs) ∙ sym (bytes-append (held_text h) (flat_map held_text hs))
+images-joined (h ∷ hs) = ap (λ (bs : List Bytes). image_made h ++ bs) (images-joined hs) ∙ sym (map-append (λ f. bytes_of f) (held_text h) (flat_map held_text hs))
 
 none_of : (fs : List Frame) → map (λ f. bytes_of f) fs ≡ [] → fs ≡ []
 none_of [] e = refl
@@ -192,12 +185,8 @@ few_runs t pid h e can = subst (λ (g : ImageHeld). HasFewRuns g.page) (sym e) c
 pub jobs-start : (t : TreeInMemory) (from : List ℕ) → AreAllHome t → from ≡ pids_in_use_or_old t.table → flat_map (pid_text (tree_of t)) from ≡ flush_text (tree_of t)
 jobs-start t from home e = ap (λ (ns : List ℕ). flat_map (pid_text (tree_of t)) ns) (e ∙ known-pids t home)
 
-held-append : (js : List ImageJob) (j : ImageJob) → map job_held (js ++ j ∷ []) ≡ map job_held js ++ job_held j ∷ []
-held-append [] j = refl
-held-append (i ∷ js) j = ap (λ (hs : List ImageHeld). job_held i ∷ hs) (held-append js j)
-
 held-push : (t : Tree) (js ks : List ImageJob) (j : ImageJob) (pid : ℕ) → ks ≡ js ++ j ∷ [] → job_held j ≡ held_of_pid t pid → map job_held ks ≡ map job_held js ++ held_of_pid t pid ∷ []
-held-push t js ks j pid e h = ap (λ (is : List ImageJob). map job_held is) e ∙ held-append js j ∙ ap (λ (g : ImageHeld). map job_held js ++ g ∷ []) h
+held-push t js ks j pid e h = ap (λ (is : List ImageJob). map job_held is) e ∙ map-append job_held js (j ∷ []) ∙ ap (λ (g : ImageHeld). map job_held js ++ g ∷ []) h
 
 pub jobs-push : (t : Tree) (js ks : List ImageJob) (j : ImageJob) (pid : ℕ) (from left : List ℕ) (all : List Frame) → ks ≡ js ++ j ∷ [] → job_held j ≡ held_of_pid t pid → from ≡ pid ∷ left
     → text_with t (map job_held js) from ≡ all → text_with t (map job_held ks) left ≡ all
