@@ -32,6 +32,13 @@ written-then pid cs ds old mid new a b =
       words = subst (λ (fs : List Frame). AllByRecursion HasWords fs) (sym (map-append (of_pid pid) cs ds)) (all-append HasWords (frames_of pid cs) (frames_of pid ds) a.words b.words);
     }
 
+-- the first content of an image, and then the others
+pub written-first : (pid : ℕ) (c d : Content) (cs : List Content) (start one new : List Bytes) → start ≡ [] → d ≡ c → one ≡ start ++ bytes_of (record { pid = pid; content = d }) ∷ []
+    → HasWords (record { pid = pid; content = d }) → AreWritten pid cs one new → AreWritten pid (c ∷ cs) [] new
+written-first pid c d cs start one new none same e w more =
+    let first : one ≡ bytes_of (record { pid = pid; content = d }) ∷ [] = e ∙ ap (λ (bs : List Bytes). bs ++ bytes_of (record { pid = pid; content = d }) ∷ []) none in
+    subst (λ (x : Content). AreWritten pid (x ∷ cs) [] new) same (written-then pid (d ∷ []) cs [] one new (written-one pid d [] one first w) more)
+
 -- ---- runs, the oldest first
 
 module _ {X : Type 0} (f : X → Content) where
