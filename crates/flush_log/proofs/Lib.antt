@@ -38,6 +38,7 @@ pub mod SpanRuns
 pub mod StandingLaws
 pub mod StandsLaws
 pub mod TailLaws
+pub mod TextImages
 mod TextRows
 pub mod ViewLaws
 pub mod WrittenLaws

@@ -1,8 +1,8 @@
 -- What is written of a page, part by part.
-use Rattle.std.proofs.Common.{◌≡◌, ℕ, suc, ◌≤◌, List, [], ◌∷◌, ◌++◌, length, map, reverse, drop, refl, sym, ap, ◌∙◌, arith, subst, append_assoc, append-nil, length-append, OnOk, Result, Ok, Err}
+use Rattle.std.proofs.Common.{◌≡◌, ℕ, ◌≤◌, List, [], ◌∷◌, ◌++◌, length, map, reverse, drop, sym, ap, ◌∙◌, arith, subst, append_assoc, append-nil, OnOk, Result, Ok, Err}
 use Rattle.std.specs.List.{AllByRecursion}
 use Rattle.std.specs.declared.alloc.AllocError.{AllocError}
-use Rattle.std.proofs.lemmas.List.{reverse-append, drop-append-le, drop_all}
+use Rattle.std.proofs.lemmas.List.{reverse-append, drop-append-le, drop_all, length-map, length-reverse, map-append}
 use Rattle.keys.specs.Bytes.{Bytes}
 use Rattle.index_page.proofs.ListLaws.{all-append, all_apart}
 use Rattle.frame_codec.specs.Frame.{Content, Frame, bytes_of}
@@ -18,23 +18,26 @@ written-none pid old = record { bytes = sym (append-nil old); words = tt }
 pub written-one : (pid : ℕ) (c : Content) (old new : List Bytes) → new ≡ old ++ bytes_of (record { pid = pid; content = c }) ∷ [] → HasWords (record { pid = pid; content = c }) → AreWritten pid (c ∷ []) old new
 written-one pid c old new e w = record { bytes = e; words = (w, tt) }
 
-frames-append : (pid : ℕ) (cs ds : List Content) → frames_of pid (cs ++ ds) ≡ frames_of pid cs ++ frames_of pid ds
-frames-append pid [] ds = refl
-frames-append pid (c ∷ cs) ds = ap (λ (fs : List Frame). record { pid = pid; content = c } ∷ fs) (frames-append pid cs ds)
-
-bytes-append : (fs gs : List Frame) → map (λ f. bytes_of f) (fs ++ gs) ≡ map (λ f. bytes_of f) fs ++ map (λ f. bytes_of f) gs
-bytes-append [] gs = refl
-bytes-append (f ∷ fs) gs = ap (λ (bs : List Bytes). bytes_of f ∷ bs) (bytes-append fs gs)
+-- a content as a frame
+abbrev of_pid : ℕ → Content → Frame
+of_pid pid c = record { pid = pid; content = c }
 
 pub written-then : (pid : ℕ) (cs ds : List Content) (old mid new : List Bytes) → AreWritten pid cs old mid → AreWritten pid ds mid new → AreWritten pid (cs ++ ds) old new
 written-then pid cs ds old mid new a b =
     let one : List Bytes = map (λ f. bytes_of f) (frames_of pid cs) in
     let two : List Bytes = map (λ f. bytes_of f) (frames_of pid ds) in
-    let parts : map (λ f. bytes_of f) (frames_of pid (cs ++ ds)) ≡ one ++ two = ap (λ (fs : List Frame). map (λ f. bytes_of f) fs) (frames-append pid cs ds) ∙ bytes-append (frames_of pid cs) (frames_of pid ds) in
+    let parts : map (λ f. bytes_of f) (frames_of pid (cs ++ ds)) ≡ one ++ two = ap (λ (fs : List Frame). map (λ f. bytes_of f) fs) (map-append (of_pid pid) cs ds) ∙ map-append (λ f. bytes_of f) (frames_of pid cs) (frames_of pid ds) in
     record {
       bytes = b.bytes ∙ ap (λ (bs : List Bytes). bs ++ two) a.bytes ∙ append_assoc old one two ∙ ap (λ (bs : List Bytes). old ++ bs) (sym parts);
-      words = subst (λ (fs : List Frame). AllByRecursion HasWords fs) (sym (frames-append pid cs ds)) (all-append HasWords (frames_of pid cs) (frames_of pid ds) a.words b.words);
+      words = subst (λ (fs : List Frame). AllByRecursion HasWords fs) (sym (map-append (of_pid pid) cs ds)) (all-append HasWords (frames_of pid cs) (frames_of pid ds) a.words b.words);
     }
+
+-- the first content of an image, and then the others
+pub written-first : (pid : ℕ) (c d : Content) (cs : List Content) (start one new : List Bytes) → start ≡ [] → d ≡ c → one ≡ start ++ bytes_of (record { pid = pid; content = d }) ∷ []
+    → HasWords (record { pid = pid; content = d }) → AreWritten pid cs one new → AreWritten pid (c ∷ cs) [] new
+written-first pid c d cs start one new none same e w more =
+    let first : one ≡ bytes_of (record { pid = pid; content = d }) ∷ [] = e ∙ ap (λ (bs : List Bytes). bs ++ bytes_of (record { pid = pid; content = d }) ∷ []) none in
+    subst (λ (x : Content). AreWritten pid (x ∷ cs) [] new) same (written-then pid (d ∷ []) cs [] one new (written-one pid d [] one first w) more)
 
 -- ---- runs, the oldest first
 
@@ -42,20 +45,8 @@ module _ {X : Type 0} (f : X → Content) where
   abbrev contents : List X → List Content
   contents runs = map f (reverse runs)
 
-  length_map : (xs : List X) → length (map f xs) ≡ length xs
-  length_map [] = refl
-  length_map (x ∷ xs) = ap suc (length_map xs)
-
-  length_reverse : (xs : List X) → length (reverse xs) ≡ length xs
-  length_reverse [] = refl
-  length_reverse (x ∷ xs) = ap length (reverse-append (x ∷ []) xs) ∙ length-append (reverse xs) (x ∷ []) ∙ (let e = length_reverse xs in omega arith)
-
-  length_contents : (runs : List X) → length (contents runs) ≡ length runs
-  length_contents runs = length_map (reverse runs) ∙ length_reverse runs
-
-  map_append : (xs ys : List X) → map f (xs ++ ys) ≡ map f xs ++ map f ys
-  map_append [] ys = refl
-  map_append (x ∷ xs) ys = ap (λ (cs : List Content). f x ∷ cs) (map_append xs ys)
+  pub length_contents : (runs : List X) → length (contents runs) ≡ length runs
+  length_contents runs = length-map (reverse runs) f ∙ length-reverse runs
 
   pub none_newer : (k : ℕ) (runs : List X) → length runs ≤ k → drop k (contents runs) ≡ []
   none_newer k runs h = let n = length_contents runs in drop_all k (contents runs) (omega arith)
@@ -64,7 +55,7 @@ module _ {X : Type 0} (f : X → Content) where
   newest_last k run runs h =
       let n = length_contents runs in
       ap (λ (xs : List X). drop k (map f xs)) (reverse-append (run ∷ []) runs)
-      ∙ ap (λ (cs : List Content). drop k cs) (map_append (reverse runs) (run ∷ []))
+      ∙ ap (λ (cs : List Content). drop k cs) (map-append f (reverse runs) (run ∷ []))
       ∙ drop-append-le k (contents runs) (f run ∷ []) (omega arith)
 
   -- a chain's runs from its newest: what stands before it, and it

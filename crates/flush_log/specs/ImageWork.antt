@@ -1,18 +1,22 @@
 -- What a job of the work on images holds, and what is made of it.
-use Rattle.std.specs.Prelude.{◌≡◌, ℕ, ◌^◌, ◌<◌, ⊤, List, [], ◌∷◌, ◌++◌, map, drop, Option, Some, None}
+use Rattle.std.specs.Prelude.{◌≡◌, ◌≢◌, ℕ, ◌^◌, ◌<◌, ⊤, List, [], ◌∷◌, ◌++◌, map, drop, Option, Some, None}
 use Rattle.std.specs.Borrow.{Bor}
 use Rattle.std.specs.List.{AllByRecursion}
 use Rattle.std.specs.Option.{option_copied}
 use Rattle.keys.specs.Bytes.{Bytes}
+use Rattle.keys.specs.Limits.{first_bad_field}
+use Rattle.keys.specs.declared.settings.Settings.{Settings}
 use Rattle.index_page.specs.Page.{PageOfKind}
 use Rattle.mapping.specs.Flushed.{page_depth}
 use Rattle.mapping.specs.LogState.{log_state}
+use Rattle.mapping.specs.Proper.{IsProper}
 use Rattle.mapping.specs.Tree.{Logged, Tree, page_at, logged_of}
 use Rattle.mapping.specs.Tree.Logged.{No, Old, Upto}
 use Rattle.mapping.specs.declared.logged.Logged as of_code
 use Rattle.frame_codec.specs.Frame.{Content, Frame, bytes_of}
 use Rattle.frame_codec.specs.Sized.{IsSized, HasWords}
 use Rattle.flush_log.specs.FlushText.{lacking, frames_of}
+use Rattle.flush_log.specs.declared.image_work.ImageJob.{ImageJob}
 
 -- a pid, its page if it has one, and what the log has of it
 pub record ImageHeld : Type 0 where
@@ -20,9 +24,12 @@ pub record ImageHeld : Type 0 where
   pub page : Option PageOfKind
   pub logged : Logged
 
--- what a job holds, from its parts
+-- what a job holds: from its parts, and as a job
 abbrev pub image_held : ℕ → Option (Bor PageOfKind) → of_code.Logged → ImageHeld
 image_held pid page logged = record { pid = pid; page = option_copied page; logged = log_state logged }
+
+abbrev pub job_held : ImageJob → ImageHeld
+job_held j = image_held j.pid j.page j.logged
 
 -- what is to be held of a pid of a tree
 abbrev pub held_of_pid : Tree → ℕ → ImageHeld
@@ -46,7 +53,11 @@ pub record CanBeWritten (h : ImageHeld) : Type 0 where
   pub sized : AllByRecursion IsSized (lacking h.page h.logged)
   pub few : HasFewRuns h.page
 
--- the same of a page of which these are the base and the runs, the oldest first
+-- such a job of which something is to be written
+abbrev pub IsDue : ImageHeld → Type 0
+IsDue h = CanBeWritten h × (held_text h ≢ [])
+
+-- the contents that are to be written of a page of which these are the base and the runs, the oldest first
 abbrev pub lacking_by : Logged → Content → List Content → List Content
 lacking_by No base runs = base ∷ runs
 lacking_by Old base runs = base ∷ runs
@@ -60,3 +71,7 @@ pub record AreWritten (pid : ℕ) (cs : List Content) (old new : List Bytes) : T
 -- this is the image of what a job holds
 abbrev pub IsImageOf : ImageHeld → List Bytes → Type 0
 IsImageOf h image = AreWritten h.pid (lacking h.page h.logged) [] image
+
+-- the tree of a store: it is proper under settings that pass their check
+abbrev pub IsOfStore : Tree → Type 0
+IsOfStore t = (s : Settings) × (first_bad_field s ≡ None) × IsProper s t

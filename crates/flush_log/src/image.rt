@@ -1,10 +1,8 @@
 //! The frames of one page as they are written, back to back.
 ghost use Rattle.std.specs.Prelude.{◌≡◌, ◌<◌, ◌++◌, ◌∷◌, [], length, slice_get, IfOk, OnOk};
-ghost use Rattle.delta_chain.specs.Packed.{AreEnds};
 ghost use Rattle.frame_codec.specs.Frame.{bytes_of};
 ghost use Rattle.frame_codec.specs.Frame.Content.{Free};
 ghost use Rattle.frame_codec.specs.Sized.{IsSized, HasWords};
-ghost use Rattle.flush_log.specs.Images.{cut_at};
 
 use crate::kind::Kind;
 use delta_chain::{Base, Run};
@@ -35,14 +33,6 @@ impl Model for Image {
 }
 
 impl Image {
-    // The image of these bytes, cut where the frames end.
-    pub(crate) fn of_bytes(bytes: Vec<u8>, ends: Vec<usize>) -> Self
-        requires { AreEnds 0 ends.items (length bytes.items) }
-        ensures { result ≡ cut_at 0 bytes.items ends.items }
-    {
-        Image { bytes, ends }
-    }
-
     // An image without frames, with room for the ends of so many.
     pub(crate) fn with_capacity(alloc: Global, frames: usize) -> Result<Self, AllocError>
         ensures { IfOk result (λ image. image ≡ []) }

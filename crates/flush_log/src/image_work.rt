@@ -53,13 +53,13 @@ impl<'a> ImageWork<'a> {
 }
 
 impl<'a> Model for ImageDone<'a> {
-    ghost use Rattle.flush_log.specs.ImageWork.{ImageHeld, image_held, IsImageOf};
+    ghost use Rattle.flush_log.specs.ImageWork.{ImageHeld, job_held, IsImageOf};
 
     ghost Value = { ImageHeld };
 
-    ghost view = { λ d. image_held d.job.pid d.job.page d.job.logged };
+    ghost view = { λ d. job_held d.job };
 
-    ghost invariant = { λ d. IsImageOf (image_held d.job.pid d.job.page d.job.logged) d.image };
+    ghost invariant = { λ d. IsImageOf (job_held d.job) d.image };
 }
 
 impl<'a> ImageDone<'a> {
@@ -76,7 +76,7 @@ impl<'a> ImageDone<'a> {
 impl<'a> Work for ImageWork<'a> {
     ghost use Rattle.std.specs.Prelude.{List};
     ghost use Rattle.keys.specs.Bytes.{Bytes};
-    ghost use Rattle.flush_log.specs.ImageWork.{ImageHeld, image_held, image_made, CanBeWritten};
+    ghost use Rattle.flush_log.specs.ImageWork.{ImageHeld, job_held, image_made, CanBeWritten};
 
     type Job = ImageJob<'a>;
 
@@ -88,7 +88,7 @@ impl<'a> Work for ImageWork<'a> {
 
     ghost accepts = { λ _ h. CanBeWritten h };
 
-    ghost held = { λ j. image_held j.pid j.page j.logged };
+    ghost held = { job_held };
 
     ghost origin = { λ d. d };
 

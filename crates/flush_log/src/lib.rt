@@ -20,6 +20,7 @@ pub mod segments;
 pub mod settings_block;
 pub mod slot;
 pub mod slot_laws;
+pub mod text;
 pub mod write;
 
 pub use crate::commit::{WrittenSpan, write_commit};

@@ -1,0 +1,19 @@
+use Rattle.std.proofs.Common.{◌∙◌, ◌≡◌, false, rules}
+use Rattle.mapping.specs.TreeInMemory.{tree_of}
+use Rattle.flush_log.specs.FlushText.{flush_text}
+use Rattle.flush_log.specs.ImageWork.{job_held}
+use Rattle.flush_log.proofs.TextImages.{can_be_written, few_runs, some_due, not_all_written, jobs-start}
+use Rattle.flush_log.proofs.text.is_all_written.Goals as goal
+
+pub loop-pid-init : goal.loop-pid-init
+loop-pid-init c = jobs-start c.args.tree.now c.into_iter-pid-iterator.result c.requires.home (c.into_iter-pid-iterator.ensures.into_iter_gives ∙ c.known_pids-pid-items.ensures)
+
+pub is_written-requires : goal.is_written-requires
+is_written-requires c = few_runs (tree_of c.args.tree.now) c.in-Some.pid (job_held c.job_of-job.result) c.job_of-job.ensures (can_be_written (tree_of c.args.tree.now) c.in-Some.pid c.requires.proper)
+
+pub returns-then-not-is_written : goal.returns-then-not-is_written
+returns-then-not-is_written c =
+    let fails : c.is_written.result ≡ false = search rules in
+    let due = some_due (tree_of c.args.tree.now) c.in-Some.pid (job_held c.job_of-job.result) c.is_written.result c.job_of-job.ensures c.is_written.ensures fails in
+    let some = not_all_written (tree_of c.args.tree.now) c.in-Some.pid c.next.new.self c.loop-pid.pid-iterator (flush_text (tree_of c.args.tree.now)) c.in-Some.ensures.steps c.loop-pid.invariant due in
+    (λ h. absurd (cc), λ e. absurd (some e))
