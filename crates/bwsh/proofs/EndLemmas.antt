@@ -1,6 +1,6 @@
 -- Lemmas on how a session ends.
 use Rattle.std.proofs.Common.{true, false, ◌≡◌, ◌≢◌, ◌↔◌, ◌⊎◌, inl, inr, ℕ, List, [], ◌∷◌, Option, Some, None, IfSome, Result, Ok, Err, refl, sym, ap, ◌∙◌, subst, arith}
-use Rattle.std.specs.Prelude.{MatchOption, IsOkUnless}
+use Rattle.std.specs.Prelude.{MatchOption, IfErr}
 use Rattle.std.specs.Option.{option_map}
 use Rattle.std.specs.Io.KnownBytes.{Appends, Keeps}
 use Rattle.std.proofs.KnownBytes.{Appends-nil}
@@ -10,7 +10,6 @@ use Rattle.keys.specs.declared.fault.Fault.{Fault}
 use Rattle.keys.specs.declared.fault.Fault.TheVariants.{BadSettings, NoMemory}
 use Rattle.keys.specs.declared.settings.Settings.{Settings}
 use Rattle.keys.specs.declared.settings.Field.{Field}
-use Rattle.mapping.specs.Tree.{Tree, first_tree}
 use Rattle.mapping.specs.Levels.{contents}
 use Rattle.bwsh.specs.declared.line.Why.{Why}
 use Rattle.bwsh.specs.declared.batch_file.Order.{Order}
@@ -18,7 +17,7 @@ use Rattle.bwsh.specs.declared.session.Ending.{Ending}
 use Rattle.bwsh.specs.declared.session.Ending.TheVariants.{Words, Bad, Device}
 use Rattle.bwsh.specs.declared.session.Ending.TheVariants as endings
 use Rattle.bwsh.specs.BatchFile.{text_says, first_bad, orders_of}
-use Rattle.bwsh.specs.Session.{status_of_end, refusal_of, tree_behind, map_behind, own_lines, answer_lines, printed_by, accepted, orders_end, first_refusal, stopped_by, hindered_by, hindrance, end_after, lines_after, session_end, session_lines, IsReadEnding, IsForWords, BeginsWith, Prints, PrintsOneText, Runs, Answers, EndsBy}
+use Rattle.bwsh.specs.Session.{status_of_end, Stored, first_stored, refusal_of, behind, map_behind, own_lines, answer_lines, printed_by, accepted, orders_end, first_refusal, stopped_by, hindered_by, hindrance, end_after, lines_after, session_end, session_lines, IsReadEnding, IsForWords, BeginsWith, Prints, PrintsOneText, Runs, Answers, EndsBy}
 use Rattle.bwsh.specs.Options.{AsksForSettings, AsksForHelp, AreRefused, is_refusal, IsRightKind}
 use Rattle.clap.specs.declared.error.kind.ErrorKind.{ErrorKind}
 use Rattle.clap.specs.declared.error.kind.ErrorKind.TheVariants.{DisplayHelp, OutOfMemory}
@@ -42,16 +41,15 @@ early_read bad field (Bad line why) h = inl (ap (λ (b : Option (ℕ × Why)). h
 early_read bad field (endings.Fault fault) h = inr (inl (ap (λ (f : Fault). endings.Fault f) h))
 early_read bad field Device h = inr (inr refl)
 
-early_created : {T : Type 0} (field : Option Field) (fault : Fault) (result : Result T Fault) → result ≡ Err fault
-    → MatchOption field (IsOkUnless result NoMemory) (λ f. result ≡ Err (BadSettings f)) → IsEarly (hindered_by None field) (endings.Fault fault)
-early_created {T} None fault result e p =
-    inr (inl (ap (λ (f : Fault). endings.Fault f) (subst (λ (x : Result T Fault). IsOkUnless x NoMemory) e p)))
-early_created (Some f) fault result e p =
-    let same : BadSettings f ≡ fault = cc in
-    inl (ap (λ (x : Fault). Some (endings.Fault x)) same)
+early_created : {T : Type 0} (field : Option Field) (early : Ending) (result : Result T Ending) → result ≡ Err early
+    → MatchOption field (IfErr result (λ e. (e ≡ endings.Fault NoMemory) ⊎ (e ≡ Device))) (λ f. result ≡ Err (endings.Fault (BadSettings f))) → IsEarly (hindered_by None field) early
+early_created {T} None early result e p = inr (subst (λ (x : Result T Ending). IfErr x (λ e. (e ≡ endings.Fault NoMemory) ⊎ (e ≡ Device))) e p)
+early_created (Some f) early result e p =
+    let same : endings.Fault (BadSettings f) ≡ early = cc in
+    inl (ap (λ (x : Ending). Some x) same)
 
-right_settings : {T : Type 0} (field : Option Field) (x : T) (result : Result T Fault) → result ≡ Ok x
-    → MatchOption field (IsOkUnless result NoMemory) (λ f. result ≡ Err (BadSettings f)) → field ≡ None
+right_settings : {T : Type 0} (field : Option Field) (x : T) (result : Result T Ending) → result ≡ Ok x
+    → MatchOption field (IfErr result (λ e. (e ≡ endings.Fault NoMemory) ⊎ (e ≡ Device))) (λ f. result ≡ Err (endings.Fault (BadSettings f))) → field ≡ None
 right_settings None x result e p = refl
 right_settings (Some f) x result e p = absurd (cc)
 
@@ -64,19 +62,19 @@ module _ (settings : Settings) (old new : Option (List ℕ)) (orders : List Orde
   Prints-early_end hindered early (inr (inr e)) =
       inr (inr (ap (λ (x : Ending). Err x) e, ([], (flat (lines_after settings hindered orders), refl), Appends-nil old)))
 
-  -- nothing hinders it: the orders are run on the first tree
-  Prints-run : (bad : Option (ℕ × Why)) (field : Option Field) (end : Result (Unit {0}) Ending) → bad ≡ None → field ≡ None → Prints old new (answer_lines settings first_tree [] (accepted settings first_tree orders)) (orders_end settings first_tree orders) end
+  -- nothing hinders it: the orders are run on a new store
+  Prints-run : (bad : Option (ℕ × Why)) (field : Option Field) (end : Result (Unit {0}) Ending) → bad ≡ None → field ≡ None → Prints old new (answer_lines settings (first_stored settings) [] (accepted settings (first_stored settings) orders)) (orders_end settings (first_stored settings) orders) end
       → Prints old new (lines_after settings (hindered_by bad field) orders) (end_after settings (hindered_by bad field) orders) end
   Prints-run bad field end no_bad no_field p = rw (no_bad, no_field) p
 
-  Runs-first : (of_store : Settings) (tree : Tree) (ran : List Order) (end : Result (Unit {0}) Ending) → of_store ≡ settings → tree ≡ first_tree → contents tree ≡ [] → ran ≡ orders → Runs of_store tree ran old new end
-      → Prints old new (answer_lines settings first_tree [] (accepted settings first_tree orders)) (orders_end settings first_tree orders) end
+  Runs-first : (of_store : Settings) (at : Stored) (ran : List Order) (end : Result (Unit {0}) Ending) → of_store ≡ settings → at ≡ first_stored settings → contents at.0.tree ≡ [] → ran ≡ orders → Runs of_store at ran old new end
+      → Prints old new (answer_lines settings (first_stored settings) [] (accepted settings (first_stored settings) orders)) (orders_end settings (first_stored settings) orders) end
   unfolding Runs
-  Runs-first of_store tree ran end e_settings e_tree e_contents e_ran p =
-      let p1 = subst (λ (s : Settings). Prints old new (answer_lines s tree (contents tree) (accepted s tree ran)) (orders_end s tree ran) end) e_settings p in
-      let p2 = subst (λ (m : List (List ℕ × List ℕ)). Prints old new (answer_lines settings tree m (accepted settings tree ran)) (orders_end settings tree ran) end) e_contents p1 in
-      let p3 = subst (λ (t : Tree). Prints old new (answer_lines settings t [] (accepted settings t ran)) (orders_end settings t ran) end) e_tree p2 in
-      subst (λ (os : List Order). Prints old new (answer_lines settings first_tree [] (accepted settings first_tree os)) (orders_end settings first_tree os) end) e_ran p3
+  Runs-first of_store at ran end e_settings e_at e_contents e_ran p =
+      let p1 = subst (λ (s : Settings). Prints old new (answer_lines s at (contents at.0.tree) (accepted s at ran)) (orders_end s at ran) end) e_settings p in
+      let p2 = subst (λ (m : List (List ℕ × List ℕ)). Prints old new (answer_lines settings at m (accepted settings at ran)) (orders_end settings at ran) end) e_contents p1 in
+      let p3 = subst (λ (t : Stored). Prints old new (answer_lines settings t [] (accepted settings t ran)) (orders_end settings t ran) end) e_at p2 in
+      subst (λ (os : List Order). Prints old new (answer_lines settings (first_stored settings) [] (accepted settings (first_stored settings) os)) (orders_end settings (first_stored settings) os) end) e_ran p3
 
 module _ (settings : Settings) (known old : Option (List ℕ)) (text : List ℕ) (is_known : IfSome known (λ bytes. text ≡ bytes)) where
   pub Answers-unread : (early : Ending) → IsReadEnding (first_bad 1 (text_says text)) early → Answers settings known old old (Err early)
@@ -84,21 +82,21 @@ module _ (settings : Settings) (known old : Option (List ℕ)) (text : List ℕ)
   Answers-unread early h =
       (text, is_known, Prints-early_end settings old old (orders_of [] (text_says text)) (hindrance settings text) early (early_read (first_bad 1 (text_says text)) (first_bad_field settings) early h))
 
-  module _ (no_bad : first_bad 1 (text_says text) ≡ None) {T : Type 0} (result : Result T Fault)
-      (created : MatchOption (first_bad_field settings) (IsOkUnless result NoMemory) (λ f. result ≡ Err (BadSettings f))) where
-    pub Answers-uncreated : (fault : Fault) → result ≡ Err fault → Answers settings known old old (Err (endings.Fault fault))
+  module _ (no_bad : first_bad 1 (text_says text) ≡ None) {T : Type 0} (result : Result T Ending)
+      (created : MatchOption (first_bad_field settings) (IfErr result (λ e. (e ≡ endings.Fault NoMemory) ⊎ (e ≡ Device))) (λ f. result ≡ Err (endings.Fault (BadSettings f)))) where
+    pub Answers-uncreated : (early : Ending) → result ≡ Err early → Answers settings known old old (Err early)
     unfolding Answers
-    Answers-uncreated fault e =
-        let early = subst (λ (b : Option (ℕ × Why)). IsEarly (hindered_by b (first_bad_field settings)) (endings.Fault fault)) (sym no_bad) (early_created (first_bad_field settings) fault result e created) in
-        (text, is_known, Prints-early_end settings old old (orders_of [] (text_says text)) (hindrance settings text) (endings.Fault fault) early)
+    Answers-uncreated early e =
+        let so = subst (λ (b : Option (ℕ × Why)). IsEarly (hindered_by b (first_bad_field settings)) early) (sym no_bad) (early_created (first_bad_field settings) early result e created) in
+        (text, is_known, Prints-early_end settings old old (orders_of [] (text_says text)) (hindrance settings text) early so)
 
-    pub Answers-run : (store : T) (mid new : Option (List ℕ)) (of_store : Settings) (tree : Tree) (ran items : List Order) (done end : Result (Unit {0}) Ending) → result ≡ Ok store
-        → of_store ≡ settings → tree ≡ first_tree → contents tree ≡ [] → ran ≡ items → items ≡ orders_of [] (text_says text) → Runs of_store tree ran old mid done
+    pub Answers-run : (store : T) (mid new : Option (List ℕ)) (of_store : Settings) (at : Stored) (ran items : List Order) (done end : Result (Unit {0}) Ending) → result ≡ Ok store
+        → of_store ≡ settings → at ≡ first_stored settings → contents at.0.tree ≡ [] → ran ≡ items → items ≡ orders_of [] (text_says text) → Runs of_store at ran old mid done
         → Keeps mid new → (end ≡ done) ⊎ (end ≡ Err Device) → Answers settings known old new end
     unfolding Answers
-    Answers-run store mid new of_store tree ran items done end e e_settings e_tree e_contents e_ran e_items p kept ended =
+    Answers-run store mid new of_store at ran items done end e e_settings e_at e_contents e_ran e_items p kept ended =
         let orders = orders_of [] (text_says text) in
-        let own = Runs-first settings old mid orders of_store tree ran done e_settings e_tree e_contents (e_ran ∙ e_items) p in
+        let own = Runs-first settings old mid orders of_store at ran done e_settings e_at e_contents (e_ran ∙ e_items) p in
         let printed = Prints-run settings old mid orders (first_bad 1 (text_says text)) (first_bad_field settings) done no_bad (right_settings (first_bad_field settings) store result e created) own in
         (text, is_known, Prints-flushed old mid new (session_lines settings text) (session_end settings text) done end printed kept ended)
 
@@ -106,38 +104,38 @@ module _ (settings : Settings) (known old : Option (List ℕ)) (text : List ℕ)
 
 module _ (settings : Settings) where
   -- the orders are all accepted where none stops them
-  all_by : (tree : Tree) (order : Order) (rest : List Order) (r : Option Fault) → refusal_of settings tree order ≡ r → (done : Unit {0})
-      → Ok done ≡ orders_end settings tree (order ∷ rest)
-      → (Ok done ≡ orders_end settings (tree_behind settings tree order) rest → accepted settings (tree_behind settings tree order) rest ≡ rest)
-      → accepted settings tree (order ∷ rest) ≡ order ∷ rest
-  all_by tree order rest None h done e further = rw h (ap (λ (l : List Order). order ∷ l) (further (rw h at e)))
-  all_by tree order rest (Some fault) h done e further =
+  all_by : (at : Stored) (order : Order) (rest : List Order) (r : Option Fault) → refusal_of settings at order ≡ r → (done : Unit {0})
+      → Ok done ≡ orders_end settings at (order ∷ rest)
+      → (Ok done ≡ orders_end settings (behind settings at order) rest → accepted settings (behind settings at order) rest ≡ rest)
+      → accepted settings at (order ∷ rest) ≡ order ∷ rest
+  all_by at order rest None h done e further = rw h (ap (λ (l : List Order). order ∷ l) (further (rw h at e)))
+  all_by at order rest (Some fault) h done e further =
       let no : Ok done ≡ Err (endings.Fault fault) = rw h at e in
       absurd (cc)
 
-  accepted-all : (tree : Tree) (orders : List Order) (done : Unit {0}) → Ok done ≡ orders_end settings tree orders → accepted settings tree orders ≡ orders
-  accepted-all tree [] done e = refl
-  accepted-all tree (order ∷ rest) done e = all_by tree order rest (refusal_of settings tree order) refl done e (accepted-all (tree_behind settings tree order) rest done)
+  accepted-all : (at : Stored) (orders : List Order) (done : Unit {0}) → Ok done ≡ orders_end settings at orders → accepted settings at orders ≡ orders
+  accepted-all at [] done e = refl
+  accepted-all at (order ∷ rest) done e = all_by at order rest (refusal_of settings at order) refl done e (accepted-all (behind settings at order) rest done)
 
   -- what is accepted is answered first
-  front_by : (m : List (List ℕ × List ℕ)) (tree : Tree) (order : Order) (rest : List Order) (r : Option Fault) → refusal_of settings tree order ≡ r
-      → BeginsWith (answer_lines settings (tree_behind settings tree order) (map_behind m order) rest)
-      (answer_lines settings (tree_behind settings tree order) (map_behind m order) (accepted settings (tree_behind settings tree order) rest))
-      → BeginsWith (answer_lines settings tree m (order ∷ rest)) (answer_lines settings tree m (accepted settings tree (order ∷ rest)))
-  front_by m tree order rest None h begins =
-      let behind = tree_behind settings tree order in
-      rw h (front-more (own_lines tree m order) (answer_lines settings behind (map_behind m order) rest) (answer_lines settings behind (map_behind m order) (accepted settings behind rest)) begins)
-  front_by m tree order rest (Some fault) h begins = rw h (answer_lines settings tree m (order ∷ rest), refl)
+  front_by : (m : List (List ℕ × List ℕ)) (at : Stored) (order : Order) (rest : List Order) (r : Option Fault) → refusal_of settings at order ≡ r
+      → BeginsWith (answer_lines settings (behind settings at order) (map_behind m order) rest)
+      (answer_lines settings (behind settings at order) (map_behind m order) (accepted settings (behind settings at order) rest))
+      → BeginsWith (answer_lines settings at m (order ∷ rest)) (answer_lines settings at m (accepted settings at (order ∷ rest)))
+  front_by m at order rest None h begins =
+      let then = behind settings at order in
+      rw h (front-more (own_lines settings at m order) (answer_lines settings then (map_behind m order) rest) (answer_lines settings then (map_behind m order) (accepted settings then rest)) begins)
+  front_by m at order rest (Some fault) h begins = rw h (answer_lines settings at m (order ∷ rest), refl)
 
-  accepted-front : (m : List (List ℕ × List ℕ)) (tree : Tree) (orders : List Order) → BeginsWith (answer_lines settings tree m orders) (answer_lines settings tree m (accepted settings tree orders))
-  accepted-front m tree [] = ([], refl)
-  accepted-front m tree (order ∷ rest) =
-      front_by m tree order rest (refusal_of settings tree order) refl (accepted-front (map_behind m order) (tree_behind settings tree order) rest)
+  accepted-front : (m : List (List ℕ × List ℕ)) (at : Stored) (orders : List Order) → BeginsWith (answer_lines settings at m orders) (answer_lines settings at m (accepted settings at orders))
+  accepted-front m at [] = ([], refl)
+  accepted-front m at (order ∷ rest) =
+      front_by m at order rest (refusal_of settings at order) refl (accepted-front (map_behind m order) (behind settings at order) rest)
 
   module _ (orders : List Order) where
     done_right : (bad : Option (ℕ × Why)) (field : Option Field) (done : Unit {0}) → Ok done ≡ end_after settings (hindered_by bad field) orders
-        → (bad ≡ None) × (lines_after settings (hindered_by bad field) orders ≡ answer_lines settings first_tree [] orders)
-    done_right None None done e = (refl, ap (answer_lines settings first_tree []) (accepted-all first_tree orders done e))
+        → (bad ≡ None) × (lines_after settings (hindered_by bad field) orders ≡ answer_lines settings (first_stored settings) [] orders)
+    done_right None None done e = (refl, ap (answer_lines settings (first_stored settings) []) (accepted-all (first_stored settings) orders done e))
     done_right None (Some f) done e = absurd (cc)
     done_right (Some b) field done e = absurd (cc)
 
@@ -152,18 +150,18 @@ module _ (settings : Settings) where
 
     bad_right : (bad : Option (ℕ × Why)) (field : Option Field) (line : ℕ) (why : Why) → Err (Bad line why) ≡ end_after settings (hindered_by bad field) orders
         → (bad ≢ None) × (lines_after settings (hindered_by bad field) orders ≡ [])
-    bad_right None None line why e = absurd (bad_stop (first_refusal settings first_tree orders) line why e)
+    bad_right None None line why e = absurd (bad_stop (first_refusal settings (first_stored settings) orders) line why e)
     bad_right None (Some f) line why e = absurd (cc)
     bad_right (Some b) field line why e = (λ no. cc, refl)
 
     words_right : (bad : Option (ℕ × Why)) (field : Option Field) (error : Error) → Err (Words error) ≡ end_after settings (hindered_by bad field) orders → ⊥
-    words_right None None error e = words_stop (first_refusal settings first_tree orders) error e
+    words_right None None error e = words_stop (first_refusal settings (first_stored settings) orders) error e
     words_right None (Some f) error e = cc
     words_right (Some b) field error e = cc
 
-    front_right : (hindered : Option Ending) → BeginsWith (answer_lines settings first_tree [] orders) (lines_after settings hindered orders)
-    front_right None = accepted-front [] first_tree orders
-    front_right (Some early) = (answer_lines settings first_tree [] orders, refl)
+    front_right : (hindered : Option Ending) → BeginsWith (answer_lines settings (first_stored settings) [] orders) (lines_after settings hindered orders)
+    front_right None = accepted-front [] (first_stored settings) orders
+    front_right (Some early) = (answer_lines settings (first_stored settings) [] orders, refl)
 
 -- ---- what follows of a session whose words tell settings
 
@@ -201,7 +199,7 @@ module _ (settings : Settings) (known old new : Option (List ℕ)) where
   told_front end (text, is_known, p) =
       let orders = orders_of [] (text_says text) in
       let (front, begins, a) = Prints-front old new (session_lines settings text) (session_end settings text) end p in
-      let whole = front-trans (printed_by settings text) (flat (session_lines settings text)) front (front-flat (answer_lines settings first_tree [] orders) (session_lines settings text) (front_right settings orders (hindrance settings text))) begins in
+      let whole = front-trans (printed_by settings text) (flat (session_lines settings text)) front (front-flat (answer_lines settings (first_stored settings) [] orders) (session_lines settings text) (front_right settings orders (hindrance settings text))) begins in
       IfSome-known known text (λ (t : List ℕ). (f : List ℕ) × BeginsWith (printed_by settings t) f × Appends old new f) is_known (front, whole, a)
 
 -- ---- what follows of any session

@@ -1,3 +1,4 @@
+mod AnswerLemmas
 mod AskedLemmas
 mod ClapLemmas
 mod CommandLineLemmas
@@ -11,6 +12,7 @@ mod Prints
 mod ReadLemmas
 mod RunLemmas
 mod ShowLemmas
+mod StoreLemmas
 mod TellLemmas
 mod TokenLaws
 mod TokenLemmas

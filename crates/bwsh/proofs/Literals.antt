@@ -10,7 +10,7 @@ use Rattle.bwsh.specs.declared.line.Says.{Says}
 use Rattle.bwsh.specs.declared.line.Says.TheVariants.{Nothing, Go, Bad}
 use Rattle.bwsh.specs.declared.line.Says.TheVariants as says
 use Rattle.bwsh.specs.declared.line.Why.TheVariants.{UnknownCommand, WordCount, BadToken, BadNumber}
-use Rattle.bwsh.specs.declared.batch_file.Order.TheVariants.{Batch, Verify}
+use Rattle.bwsh.specs.declared.batch_file.Order.TheVariants.{Batch, Flush, Verify}
 use Rattle.bwsh.specs.Token.{token_bytes, shown_token}
 use Rattle.bwsh.specs.Words.{words_of}
 use Rattle.bwsh.specs.Line.{line_says}
@@ -100,6 +100,9 @@ no_limit = refl
 verify_alone : line_says (codes " verify ") ≡ says.Verify
 verify_alone = refl
 
+flush_alone : line_says (codes "flush") ≡ says.Flush
+flush_alone = refl
+
 verify_with_a_word : line_says (codes "verify 1") ≡ Bad WordCount
 verify_with_a_word = refl
 
@@ -117,7 +120,10 @@ none_of_seven_is_bad = refl
 the_second_is_bad : first_bad 1 (map line_says (codes "put a 1" ∷ codes "frob x" ∷ codes "put" ∷ [])) ≡ Some (2, UnknownCommand)
 the_second_is_bad = refl
 
--- a verify runs the pending batch only where it has commands
+-- a flush and a verify run the pending batch only where it has commands
+flushes : orders_of [] (map line_says (codes "flush" ∷ codes "get a" ∷ codes "flush" ∷ codes "verify" ∷ [])) ≡ Flush ∷ Batch (Get (97 ∷ []) ∷ []) ∷ Flush ∷ Verify ∷ []
+flushes = refl
+
 verifies : orders_of [] (map line_says (codes "verify" ∷ codes "get a" ∷ codes "verify" ∷ codes "go" ∷ [])) ≡ Verify ∷ Batch (Get (97 ∷ []) ∷ []) ∷ Verify ∷ Batch [] ∷ []
 verifies = refl
 

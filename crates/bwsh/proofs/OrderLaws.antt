@@ -7,8 +7,8 @@ use Rattle.bwsh.specs.declared.line.Says.{Says}
 use Rattle.bwsh.specs.declared.line.Says.TheVariants.{Nothing, Go, Bad}
 use Rattle.bwsh.specs.declared.line.Says.TheVariants as says
 use Rattle.bwsh.specs.declared.batch_file.Order.{Order}
-use Rattle.bwsh.specs.declared.batch_file.Order.TheVariants.{Batch, Verify}
-use Rattle.bwsh.specs.BatchFile.{last_order, orders_of, commands_of, commands_said, batch_lines}
+use Rattle.bwsh.specs.declared.batch_file.Order.TheVariants.{Batch, Flush, Verify}
+use Rattle.bwsh.specs.BatchFile.{last_order, orders_of, commands_of, commands_said, batch_lines, IsBatch, IsForBatches}
 
 commands-last_order : (pending : List (Command Global)) → flat_map commands_of (last_order pending) ≡ pending ++ []
 commands-last_order [] = refl
@@ -24,6 +24,8 @@ pub commands-orders_of : (pending : List (Command Global)) (says : List Says) �
 commands-orders_of pending [] = commands-last_order pending
 commands-orders_of pending (Says.Command command ∷ rest) = commands-orders_of (pending ++ command ∷ []) rest ∙ append_assoc pending (command ∷ []) (commands_said rest)
 commands-orders_of pending (Go ∷ rest) = ap (λ (cs : List (Command Global)). pending ++ cs) (commands-orders_of [] rest)
+commands-orders_of pending (says.Flush ∷ rest) =
+    commands-last_first pending (Flush ∷ orders_of [] rest) ∙ ap (λ (cs : List (Command Global)). pending ++ cs) (commands-orders_of [] rest)
 commands-orders_of pending (says.Verify ∷ rest) =
     commands-last_first pending (Verify ∷ orders_of [] rest) ∙ ap (λ (cs : List (Command Global)). pending ++ cs) (commands-orders_of [] rest)
 commands-orders_of pending (Nothing ∷ rest) = commands-orders_of pending rest
@@ -42,15 +44,16 @@ orders_of-batch_lines (commands ∷ batches) =
     one_batch [] commands (flat_map batch_lines batches)
     ∙ ap (λ (orders : List Order). Batch commands ∷ orders) (orders_of-batch_lines batches)
 
--- where no line says `verify`, all orders are batches
-batches-last_order : (pending : List (Command Global)) → AllByRecursion (λ o. o ≢ Verify) (last_order pending)
+-- where no line says `flush` or `verify`, all orders are batches
+batches-last_order : (pending : List (Command Global)) → AllByRecursion IsBatch (last_order pending)
 batches-last_order [] = tt
-batches-last_order (command ∷ commands) = (λ e. cc, tt)
+batches-last_order (command ∷ commands) = (tt, tt)
 
-pub batches-orders_of : (pending : List (Command Global)) (said : List Says) → AllByRecursion (λ s. s ≢ says.Verify) said → AllByRecursion (λ o. o ≢ Verify) (orders_of pending said)
-batches-orders_of pending [] none = batches-last_order pending
-batches-orders_of pending (Says.Command command ∷ rest) none = batches-orders_of (pending ++ command ∷ []) rest none.1
-batches-orders_of pending (Go ∷ rest) none = (λ e. cc, batches-orders_of [] rest none.1)
-batches-orders_of pending (says.Verify ∷ rest) none = absurd (none.0 refl)
-batches-orders_of pending (Nothing ∷ rest) none = batches-orders_of pending rest none.1
-batches-orders_of pending (Bad why ∷ rest) none = batches-orders_of pending rest none.1
+pub batches-orders_of : (pending : List (Command Global)) (said : List Says) → AllByRecursion IsForBatches said → AllByRecursion IsBatch (orders_of pending said)
+batches-orders_of pending [] only = batches-last_order pending
+batches-orders_of pending (Says.Command command ∷ rest) only = batches-orders_of (pending ++ command ∷ []) rest only.1
+batches-orders_of pending (Go ∷ rest) only = (tt, batches-orders_of [] rest only.1)
+batches-orders_of pending (says.Flush ∷ rest) only = absurd only.0
+batches-orders_of pending (says.Verify ∷ rest) only = absurd only.0
+batches-orders_of pending (Nothing ∷ rest) only = batches-orders_of pending rest only.1
+batches-orders_of pending (Bad why ∷ rest) only = batches-orders_of pending rest only.1

@@ -1,210 +1,266 @@
 -- Lemmas on what orders print, and how they end.
-use Rattle.std.proofs.Common.{true, false, ◌≡◌, ◌<◌, ◌≤◌, ◌+◌, ◌⊎◌, inl, inr, ℕ, length, drop, get_or, List, [], ◌∷◌, ◌++◌, map, Option, Some, None, Result, Ok, Err, refl, sym, ap, ◌∙◌, subst, append-nil, arith}
-use Rattle.std.specs.Prelude.{nat_lt, MatchOption, IfErr, OnOk}
-use Rattle.std.specs.Option.{option_or}
+use Rattle.std.proofs.Common.{◌≡◌, ◌≢◌, ◌<◌, ◌+◌, ◌⊎◌, inl, inr, ℕ, length, drop, get_or, List, [], ◌∷◌, ◌++◌, map, Option, Some, None, Result, Ok, Err, refl, sym, ap, ◌∙◌, subst, append-nil, arith}
+use Rattle.std.specs.Prelude.{OnOk, take}
+use Rattle.std.specs.List.{flat_map}
 use Rattle.std.specs.declared.alloc.Global.{Global}
 use Rattle.std.proofs.lemmas.List.{drop_more}
-use Rattle.std.proofs.lemmas.Bool.Decides.{nat_tests}
 use Rattle.std.proofs.KnownBytes.{Appends-nil}
 use Rattle.keys.specs.Step.{replies_to, map_after_all}
 use Rattle.keys.specs.declared.fault.Fault.{Fault}
-use Rattle.keys.specs.declared.fault.Fault.TheVariants.{NoMemory, Spent}
+use Rattle.keys.specs.declared.fault.Fault.TheVariants.{NoMemory, Device}
 use Rattle.keys.specs.declared.command.Command.{Command}
 use Rattle.keys.specs.declared.command.Reply.{Reply}
 use Rattle.keys.specs.declared.settings.Settings.{Settings}
-use Rattle.mapping.specs.Tree.{Tree, most_levels}
 use Rattle.mapping.specs.Levels.{contents}
-use Rattle.climb_plan.specs.Plan.{planned_tree}
+use Rattle.keys.specs.Lists.{flat}
+use Rattle.mapping.specs.Tree.{Store}
+use Rattle.flush_log.specs.AfterFlush.{after_flush}
+use Rattle.recovery.specs.StoreOfDisk.{store_of_disk, and_then}
+use Rattle.engine.specs.Plays.{IsPlayed, IsStepFault, IsPlayFault, step_of, answer_of}
+use Rattle.engine.specs.Steps.{Step, Answer, Played, Stepped, ArePlayed, unless_refused, played_on, batches_among, after_step, batching, plays}
+use Rattle.engine.specs.declared.step.Step as code_step
+use Rattle.engine.specs.declared.step.Step.TheVariants as called
+use Rattle.engine.specs.declared.step.Answer as code_answer
 use Rattle.verify.specs.Report.{report}
 use Rattle.verify.specs.declared.report.Report.{Report}
-use Rattle.engine.specs.Refusal.{refusal}
-use Rattle.engine.specs.Batch.{IsLaterFault, height_fault}
 use Rattle.bwsh.specs.declared.batch_file.Order.{Order}
-use Rattle.bwsh.specs.declared.batch_file.Order.TheVariants.{Batch, Verify}
+use Rattle.bwsh.specs.declared.batch_file.Order.TheVariants.{Batch, Flush, Verify}
 use Rattle.bwsh.specs.declared.session.Ending.{Ending}
 use Rattle.bwsh.specs.declared.session.Ending.TheVariants as endings
-use Rattle.bwsh.specs.Session.{refusal_of, tree_behind, map_behind, own_lines, answer_lines, accepted, orders_end, Prints, Runs, LeavesTree}
-use Rattle.bwsh.specs.Shown.{shown_reply, shown_report}
+use Rattle.bwsh.specs.Session.{Stored, step_in, left_by, refused_by, behind_step, refusal_of_step, refusal_of, behind, map_behind, own_lines, answer_lines, accepted, orders_end, Prints, Runs, LeavesStored}
+use Rattle.bwsh.specs.Shown.{shown_reply, shown_flushed, shown_report, shown_answer}
 use Rattle.bwsh.proofs.Prints.{Prints-all, Prints-behind, Prints-early}
 
 pub OnOk-always : {A B P : Type 0} (r : Result A B) → P → OnOk r P
 OnOk-always (Ok x) p = p
 OnOk-always (Err x) p = tt
 
--- ---- the right of a batch
-
--- no more levels than a tree may have are no fault
-levels_right : (height : ℕ) → height ≤ most_levels → height_fault height ≡ None
-levels_right height low =
-    let no : nat_lt most_levels height ≡ false = grind (arith, nat_tests) in
-    rw no refl
-
-levels_wrong : (height : ℕ) → most_levels < height → height_fault height ≡ Some Spent
-levels_wrong height high =
-    let yes : nat_lt most_levels height ≡ true = grind (arith, nat_tests) in
-    rw yes refl
-
--- how a batch is refused, where its own fault is this one, if it has one, and the planned tree this high
-abbrev pub IsRefusedBy : {T : Type 0} → ℕ → Option Fault → Result T Fault → Type 0
-IsRefusedBy height own result = MatchOption own (IfErr result (λ f. (f ≡ NoMemory) ⊎ ((f ≡ Spent) × (most_levels < height)))) (λ right. result ≡ Err right)
-
-later : (height : ℕ) (fault : Fault) → (fault ≡ NoMemory) ⊎ ((fault ≡ Spent) × (most_levels < height)) → (fault ≡ NoMemory) ⊎ (height_fault height ≡ Some fault)
-later height fault (inl e) = inl e
-later height fault (inr (e, high)) = inr (levels_wrong height high ∙ ap (λ (f : Fault). Some f) (sym e))
-
-module _ {T : Type 0} (height : ℕ) where
-  -- a batch that is refused is refused for want of memory, or by its right
-  refused_rightly : (own : Option Fault) (fault : Fault) (result : Result T Fault) → result ≡ Err fault → IsRefusedBy height own result
-      → (fault ≡ NoMemory) ⊎ (option_or own (height_fault height) ≡ Some fault)
-  refused_rightly None fault result e p = later height fault (subst (λ (x : Result T Fault). IfErr x (λ f. (f ≡ NoMemory) ⊎ ((f ≡ Spent) × (most_levels < height)))) e p)
-  refused_rightly (Some right) fault result e p =
-      let same : right ≡ fault = cc in
-      inr (ap (λ (f : Fault). Some f) same)
-
-  -- a batch that is answered isn't refused by its right
-  answered_rightly : (own : Option Fault) (x : T) (result : Result T Fault) → result ≡ Ok x → height ≤ most_levels → IsRefusedBy height own result
-      → option_or own (height_fault height) ≡ None
-  answered_rightly None x result e low p = levels_right height low
-  answered_rightly (Some right) x result e low p = absurd (cc)
-
 -- ---- orders
 
-pub Runs-none : (settings : Settings) (tree : Tree) (old : Option (List ℕ)) → Runs settings tree [] old old (Ok tt)
+pub Runs-none : (settings : Settings) (at : Stored) (old : Option (List ℕ)) → Runs settings at [] old old (Ok tt)
 unfolding Runs
-Runs-none settings tree old = inl (refl, Appends-nil old)
+Runs-none settings at old = inl (refl, Appends-nil old)
 
-module _ (settings : Settings) (tree : Tree) (order : Order) (old new : Option (List ℕ)) where
+module _ (settings : Settings) (at : Stored) (order : Order) (old new : Option (List ℕ)) where
   -- the lines of the order, and what it leaves
   abbrev lines : List (List ℕ)
-  lines = own_lines tree (contents tree) order
+  lines = own_lines settings at (contents at.0.tree) order
 
-  abbrev behind : Tree
-  behind = tree_behind settings tree order
+  abbrev then : Stored
+  then = behind settings at order
 
   -- the lines that orders answer behind it
-  abbrev further : Tree → List Order → List (List ℕ)
-  further t rest = answer_lines settings t (map_behind (contents tree) order) (accepted settings t rest)
+  abbrev further : Stored → List Order → List (List ℕ)
+  further t rest = answer_lines settings t (map_behind (contents at.0.tree) order) (accepted settings t rest)
 
   -- the order stops here for want of memory, or by its right
-  pub stopped : (fault : Fault) → (fault ≡ NoMemory) ⊎ (refusal_of settings tree order ≡ Some fault)
-      → Runs settings tree (order ∷ []) old old (Err (endings.Fault fault))
+  pub stopped : (fault : Fault) → (fault ≡ NoMemory) ⊎ (refusal_of settings at order ≡ Some fault)
+      → Runs settings at (order ∷ []) old old (Err (endings.Fault fault))
   unfolding Runs
   stopped fault (inl memory) =
-      inr (inl (ap (λ (f : Fault). Err (endings.Fault f)) memory, ([], (answer_lines settings tree (contents tree) (accepted settings tree (order ∷ [])), refl), Appends-nil old)))
+      inr (inl (ap (λ (f : Fault). Err (endings.Fault f)) memory, ([], (answer_lines settings at (contents at.0.tree) (accepted settings at (order ∷ [])), refl), Appends-nil old)))
   stopped fault (inr some) = rw some (inl (refl, Appends-nil old))
 
   -- the order is answered
-  pub answered : (end : Result (Unit {0}) Ending) → refusal_of settings tree order ≡ None → Prints old new lines (Ok tt) end
-      → Runs settings tree (order ∷ []) old new end
+  pub answered : (end : Result (Unit {0}) Ending) → refusal_of settings at order ≡ None → Prints old new lines (Ok tt) end
+      → Runs settings at (order ∷ []) old new end
   unfolding Runs
   answered end none p = rw none (subst (λ (l : List (List ℕ)). Prints old new l (Ok tt) end) (sym (append-nil lines)) p)
 
   -- it stops early: so do the orders that it stands before
-  stops_by : (rest : List Order) (early : Ending) (r : Option Fault) → refusal_of settings tree order ≡ r
-      → Runs settings tree (order ∷ []) old new (Err early) → Runs settings tree (order ∷ rest) old new (Err early)
+  stops_by : (rest : List Order) (early : Ending) (r : Option Fault) → refusal_of settings at order ≡ r
+      → Runs settings at (order ∷ []) old new (Err early) → Runs settings at (order ∷ rest) old new (Err early)
   unfolding Runs
   stops_by rest early None none p =
       let own : Prints old new (lines ++ []) (Ok tt) (Err early) = rw none at p in
-      rw none (Prints-early old new lines (further behind rest) (orders_end settings behind rest) early
+      rw none (Prints-early old new lines (further then rest) (orders_end settings then rest) early
       (subst (λ (l : List (List ℕ)). Prints old new l (Ok tt) (Err early)) (append-nil lines) own))
   stops_by rest early (Some fault) some p =
       let own : Prints old new [] (Err (endings.Fault fault)) (Err early) = rw some at p in
       rw some own
 
-  pub Runs-stops : (rest : List Order) (early : Ending) → Runs settings tree (order ∷ []) old new (Err early) → Runs settings tree (order ∷ rest) old new (Err early)
-  Runs-stops rest early p = stops_by rest early (refusal_of settings tree order) refl p
+  pub Runs-stops : (rest : List Order) (early : Ending) → Runs settings at (order ∷ []) old new (Err early) → Runs settings at (order ∷ rest) old new (Err early)
+  Runs-stops rest early p = stops_by rest early (refusal_of settings at order) refl p
 
   -- all of it is done: what the rest prints is behind it
-  pub Runs-goes_on : (rest : List Order) (after : Tree) (last : Option (List ℕ)) (done : Unit {0}) (end : Result (Unit {0}) Ending) → LeavesTree settings tree order after
-      → Runs settings tree (order ∷ []) old new (Ok done) → Runs settings after rest new last end → Runs settings tree (order ∷ rest) old last end
+  pub Runs-goes_on : (rest : List Order) (after : Stored) (last : Option (List ℕ)) (done : Unit {0}) (end : Result (Unit {0}) Ending) → LeavesStored settings at order after
+      → Runs settings at (order ∷ []) old new (Ok done) → Runs settings after rest new last end → Runs settings at (order ∷ rest) old last end
   unfolding Runs
   Runs-goes_on rest after last done end (none, is, map_is) p q =
       let own : Prints old new (lines ++ []) (Ok tt) (Ok done) = rw none at p in
       let printed = Prints-all old new lines (Ok tt) done (subst (λ (l : List (List ℕ)). Prints old new l (Ok tt) (Ok done)) (append-nil lines) own) in
       let next = subst (λ (m : List (List ℕ × List ℕ)). Prints new last (answer_lines settings after m (accepted settings after rest)) (orders_end settings after rest) end) map_is q in
-      let then_on = subst (λ (t : Tree). Prints new last (further t rest) (orders_end settings t rest) end) is next in
-      rw none (Prints-behind old new last lines (further behind rest) (orders_end settings behind rest) end printed then_on)
+      let then_on = subst (λ (t : Stored). Prints new last (further t rest) (orders_end settings t rest) end) is next in
+      rw none (Prints-behind old new last lines (further then rest) (orders_end settings then rest) end printed then_on)
 
--- ---- what a batch answers
+  -- a device fails before anything of it is written
+  pub cut_off : Runs settings at (order ∷ []) old old (Err endings.Device)
+  unfolding Runs
+  cut_off = inr (inr (refl, ([], (flat (answer_lines settings at (contents at.0.tree) (accepted settings at (order ∷ []))), refl), Appends-nil old)))
 
-module _ {T : Type 0} (settings : Settings) (tree after : Tree) (order : Order) (commands : List (Command Global)) (order_is : order ≡ Batch commands)
-    (result : Result T Fault) (refused : MatchOption (refusal settings commands) (IfErr result (IsLaterFault settings tree commands)) (λ fault. result ≡ Err fault)) where
-  refusal_is : refusal_of settings tree (Batch commands) ≡ option_or (refusal settings commands) (height_fault (planned_tree settings tree commands).height)
-  unfolding refusal_of
-  refusal_is = refl
+-- ---- what a step answers
 
-  pub Runs-refused : (old : Option (List ℕ)) (fault : Fault) → result ≡ Err fault → Runs settings tree (order ∷ []) old old (Err (endings.Fault fault))
-  Runs-refused old fault e =
-      let why = refused_rightly (planned_tree settings tree commands).height (refusal settings commands) fault result e refused in
-      subst (λ (o : Order). Runs settings tree (o ∷ []) old old (Err (endings.Fault fault))) (sym order_is) (stopped settings tree (Batch commands) old old fault (map_right why)) where
-        map_right : (fault ≡ NoMemory) ⊎ (option_or (refusal settings commands) (height_fault (planned_tree settings tree commands).height) ≡ Some fault)
-            → (fault ≡ NoMemory) ⊎ (refusal_of settings tree (Batch commands) ≡ Some fault)
-        map_right (inl memory) = inl memory
-        map_right (inr some) = inr (refusal_is ∙ some)
+-- a step that is played alone
+module _ (settings : Settings) (st : Store) (file : List ℕ) (y : Step Global) where
+  abbrev alone : Played Global
+  alone = plays (batching settings) settings st file (y ∷ [])
 
-  module _ (answer : T) (ok : result ≡ Ok answer) (low : after.height ≤ most_levels) (planned : after ≡ planned_tree settings tree commands) where
-    none : refusal_of settings tree (Batch commands) ≡ None
-    none = refusal_is ∙ answered_rightly (planned_tree settings tree commands).height (refusal settings commands) answer result ok (subst (λ (t : Tree). t.height ≤ most_levels) planned low) refused
+  abbrev played_by : Stepped Global → Played Global
+  played_by r = played_on st file r (λ now bytes. plays (batching settings) settings now bytes [])
 
-    pub Runs-answered : (old new : Option (List ℕ)) (end : Result (Unit {0}) Ending) (shown replies : List (Reply Global)) → shown ≡ replies → replies ≡ replies_to (contents tree) commands
-        → Prints old new (map shown_reply shown) (Ok tt) end → Runs settings tree (order ∷ []) old new end
-    Runs-answered old new end shown replies same are p =
-        subst (λ (o : Order). Runs settings tree (o ∷ []) old new end) (sym order_is) (answered settings tree (Batch commands) old new end none
-        (subst (λ (rs : List (Reply Global)). Prints old new (map shown_reply rs) (Ok tt) end) (same ∙ are) p))
+  done_by : (r : Stepped Global) → (played_by r).fault ≡ None → (p : Answer Global × (Store × List ℕ)) × (r ≡ Ok p)
+  done_by (Ok p) e = (p, refl)
+  done_by (Err fault) e = absurd (cc)
 
-    tree_is : after ≡ tree_behind settings tree (Batch commands)
-    unfolding tree_behind
-    tree_is = planned
+  alone_is : (p : Answer Global × (Store × List ℕ)) → after_step (batching settings) settings st file y ≡ Ok p → alone ≡ record { answers = p.0 ∷ []; store = p.1.0; bytes = p.1.1; fault = None }
+  alone_is p done = ap played_by done
 
-    pub LeavesTree-answered : contents after ≡ map_after_all (contents tree) commands → LeavesTree settings tree order after
-    LeavesTree-answered e = subst (λ (o : Order). LeavesTree settings tree o after) (sym order_is) (none, tree_is, e)
+answered_batch : (o : Option Fault) (a : Answer Global) (st : Store) (file : List ℕ) (p : Answer Global × (Store × List ℕ)) → unless_refused o a st file ≡ Ok p → p.0 ≡ a
+answered_batch None a st file p e =
+    let same : (let q : Answer Global × (Store × List ℕ) = (a, (st, file)) in q ≡ p) = cc in
+    sym (ap (λ (q : Answer Global × (Store × List ℕ)). q.0) same)
+answered_batch (Some fault) a st file p e = absurd (cc)
+
+answered_flush : (r : Result (Store × List ℕ) Fault) (p : Answer Global × (Store × List ℕ)) → (let u : Stepped Global = and_then r (λ q. Ok (Answer.Flushed q.0.sequence, q)) in u ≡ Ok p) → p.0 ≡ Answer.Flushed p.1.0.sequence
+answered_flush (Ok q) p e =
+    let same : (let u : Answer Global × (Store × List ℕ) = (Answer.Flushed q.0.sequence, q) in u ≡ p) = cc in
+    sym (ap (λ (u : Answer Global × (Store × List ℕ)). u.0) same) ∙ ap (λ (u : Answer Global × (Store × List ℕ)). Answer.Flushed u.1.0.sequence) same
+answered_flush (Err fault) p e = absurd (cc)
+
+module _ (settings : Settings) (st : Store) (file : List ℕ) where
+  abbrev at : Stored
+  at = (st, file)
+
+  abbrev steps_to : Step Global → Answer Global × (Store × List ℕ) → Type 0
+  steps_to y p = after_step (batching settings) settings st file y ≡ Ok p
+
+  -- the lines of an order are those of what its step answers
+  lines_of : (order : Order) (y : Step Global) (p : Answer Global × (Store × List ℕ)) → step_in order ≡ Some y → steps_to y p → behind settings at order ≡ p.1
+      → own_lines settings at (contents st.tree) order ≡ shown_answer p.0
+  lines_of (Batch cs) y p is done left =
+      let same : Step.Batch cs ≡ y = cc in
+      sym (ap shown_answer (answered_batch _ _ _ file p (subst (λ (z : Step Global). steps_to z p) (sym same) done)))
+  lines_of Flush y p is done left =
+      let same : (let z : Step Global = Step.Flush in z ≡ y) = cc in
+      ap (λ (q : Stored). shown_flushed q.0.sequence ∷ []) left
+      ∙ sym (ap shown_answer (answered_flush (after_flush settings st file) p (subst (λ (z : Step Global). steps_to z p) (sym same) done)))
+  lines_of Verify y p is done left = absurd (cc)
+
+  -- the map that a step leaves is that of its order
+  map_of : (order : Order) (y : Step Global) (m : List (List ℕ × List ℕ)) → step_in order ≡ Some y → map_after_all m (flat (batches_among (y ∷ []))) ≡ map_behind m order
+  map_of (Batch cs) y m is =
+      let same : Step.Batch cs ≡ y = cc in
+      ap (λ (z : Step Global). map_after_all m (flat (batches_among (z ∷ [])))) (sym same) ∙ ap (map_after_all m) (append-nil cs)
+  map_of Flush y m is =
+      let same : (let z : Step Global = Step.Flush in z ≡ y) = cc in
+      ap (λ (z : Step Global). map_after_all m (flat (batches_among (z ∷ [])))) (sym same)
+  map_of Verify y m is = absurd (cc)
+
+  module _ (order : Order) (x : code_step.Step) (is : step_in order ≡ Some (step_of x)) where
+    right_by : (fault : Fault) → after_step (batching settings) settings st file (step_of x) ≡ Err fault → refusal_of settings at order ≡ Some fault
+    unfolding refusal_of
+    right_by fault e = ap (refusal_of_step settings at) is ∙ ap refused_by e
+
+    late_by : (old new : ℕ) (z : code_step.Step) (fault : Fault) → fault ≢ Device → z ≡ x → IsStepFault settings st file old new (step_of z) fault → (fault ≡ NoMemory) ⊎ (refusal_of settings at order ≡ Some fault)
+    late_by old new z fault other same (inl right) = inr (right_by fault (subst (λ (y : code_step.Step). after_step (batching settings) settings st file (step_of y) ≡ Err fault) same right))
+    late_by old new (called.Batch cs) fault other same (inr late) = inl late.0
+    late_by old new called.Flush fault other same (inr (inl memory)) = inl memory.0
+    late_by old new called.Flush fault other same (inr (inr device)) = absurd (other device.0)
+
+    why_by : (old new place : ℕ) (fault : Fault) → place ≡ 0 → fault ≢ Device → IsPlayFault settings st file old new (x ∷ []) place fault → (fault ≡ NoMemory) ⊎ (refusal_of settings at order ≡ Some fault)
+    why_by old new place fault first other (inl memory) = inl memory.1
+    why_by old new place fault first other (inr (z, rest, behind_is, refused)) =
+        let front : x ∷ [] ≡ z ∷ rest = subst (λ (n : ℕ). drop n (x ∷ []) ≡ z ∷ rest) first behind_is in
+        let same : z ≡ x = cc in
+        let own = subst (λ (n : ℕ). (let p : Played Global = plays (batching settings) settings st file (map step_of (take n (x ∷ []))) in IsStepFault settings p.store p.bytes old new (step_of z) fault)) first refused in
+        late_by old new z fault other same own
+
+    pub Runs-refused : (text : Option (List ℕ)) (old new place : ℕ) (fault : Fault) → place < 1 → fault ≢ Device → IsPlayFault settings st file old new (x ∷ []) place fault
+        → Runs settings at (order ∷ []) text text (Err (endings.Fault fault))
+    Runs-refused text old new place fault first other refused = stopped settings at order text text fault (why_by old new place fault (omega (arith, first)) other refused)
+
+    module _ (said : List code_answer.Answer) (after : Store) (bytes : List ℕ) (played : IsPlayed settings st file (step_of x ∷ []) said after)
+        (bytes_are : bytes ≡ (plays (batching settings) settings st file (step_of x ∷ [])).bytes) where
+      abbrev outcome : (p : Answer Global × (Store × List ℕ)) × steps_to (step_of x) p
+      outcome = done_by settings st file (step_of x) (after_step (batching settings) settings st file (step_of x)) played.unrefused
+
+      abbrev whole : alone settings st file (step_of x) ≡ record { answers = outcome.0.0 ∷ []; store = outcome.0.1.0; bytes = outcome.0.1.1; fault = None }
+      whole = alone_is settings st file (step_of x) outcome.0 outcome.1
+
+      left_is : behind settings at order ≡ outcome.0.1
+      unfolding behind
+      left_is = ap (behind_step settings at) is ∙ ap (left_by at) outcome.1
+
+      none : refusal_of settings at order ≡ None
+      unfolding refusal_of
+      none = ap (refusal_of_step settings at) is ∙ ap refused_by outcome.1
+
+      pub Runs-answered : (old new : Option (List ℕ)) (end : Result (Unit {0}) Ending) → Prints old new (flat_map shown_answer (map answer_of said)) (Ok tt) end → Runs settings at (order ∷ []) old new end
+      Runs-answered old new end p =
+          let said_is = played.answers ∙ ap (λ (q : Played Global). q.answers) whole in
+          let lines_are = ap (flat_map shown_answer) said_is ∙ append-nil (shown_answer outcome.0.0) ∙ sym (lines_of order (step_of x) outcome.0 is outcome.1 left_is) in
+          answered settings at order old new end none (subst (λ (l : List (List ℕ)). Prints old new l (Ok tt) end) lines_are p)
+
+      after_is : (after, bytes) ≡ outcome.0.1
+      after_is =
+          ap (λ (a : Store). (let q : Stored = (a, bytes) in q)) (played.store ∙ ap (λ (q : Played Global). q.store) whole)
+          ∙ ap (λ (f : List ℕ). (let q : Stored = (outcome.0.1.0, f) in q)) (bytes_are ∙ ap (λ (q : Played Global). q.bytes) whole)
+
+      pub LeavesStored-answered : (on_disk : Store) → ArePlayed (batching settings) settings st.tree on_disk.tree (step_of x ∷ []) (alone settings st file (step_of x)) → LeavesStored settings at order (after, bytes)
+      LeavesStored-answered on_disk are =
+          let holds = subst (λ (q : Played Global). contents q.store.tree ≡ map_after_all (contents st.tree) (flat (batches_among (take (length q.answers) (step_of x ∷ []))))) whole are.holds in
+          (
+            none,
+            after_is ∙ sym left_is,
+            ap (λ (q : Stored). contents q.0.tree) after_is ∙ holds ∙ map_of order (step_of x) (contents st.tree) is
+          )
 
 -- ---- what a verify answers
 
-module _ (settings : Settings) (tree : Tree) (order : Order) (order_is : order ≡ Verify) where
-  never_refused : refusal_of settings tree Verify ≡ None
+module _ (settings : Settings) (at : Stored) (order : Order) (order_is : order ≡ Verify) where
+  never_refused : refusal_of settings at Verify ≡ None
   unfolding refusal_of
   never_refused = refl
 
-  pub Runs-unverified : (old : Option (List ℕ)) (fault : Fault) → fault ≡ NoMemory → Runs settings tree (order ∷ []) old old (Err (endings.Fault fault))
+  pub Runs-unverified : (old : Option (List ℕ)) (fault : Fault) → fault ≡ NoMemory → Runs settings at (order ∷ []) old old (Err (endings.Fault fault))
   Runs-unverified old fault e =
-      subst (λ (o : Order). Runs settings tree (o ∷ []) old old (Err (endings.Fault fault))) (sym order_is) (stopped settings tree Verify old old fault (inl e))
+      subst (λ (o : Order). Runs settings at (o ∷ []) old old (Err (endings.Fault fault))) (sym order_is) (stopped settings at Verify old old fault (inl e))
 
-  pub Runs-verified : (old new : Option (List ℕ)) (end : Result (Unit {0}) Ending) (told : Report) → told ≡ report tree → Prints old new (shown_report told ∷ []) (Ok tt) end
-      → Runs settings tree (order ∷ []) old new end
+  pub Runs-verified : (old new : Option (List ℕ)) (end : Result (Unit {0}) Ending) (told : Report) → told ≡ report at.0.tree → Prints old new (shown_report told ∷ []) (Ok tt) end
+      → Runs settings at (order ∷ []) old new end
   Runs-verified old new end told is p =
-      subst (λ (o : Order). Runs settings tree (o ∷ []) old new end) (sym order_is) (answered settings tree Verify old new end never_refused
+      subst (λ (o : Order). Runs settings at (o ∷ []) old new end) (sym order_is) (answered settings at Verify old new end never_refused
       (subst (λ (r : Report). Prints old new (shown_report r ∷ []) (Ok tt) end) is p))
 
-  unmoved : tree ≡ tree_behind settings tree Verify
-  unfolding tree_behind
+  unmoved : at ≡ behind settings at Verify
+  unfolding behind
   unmoved = refl
 
-  pub LeavesTree-verified : LeavesTree settings tree order tree
-  LeavesTree-verified = subst (λ (o : Order). LeavesTree settings tree o tree) (sym order_is) (never_refused, unmoved, refl)
+  pub LeavesStored-verified : LeavesStored settings at order at
+  LeavesStored-verified = subst (λ (o : Order). LeavesStored settings at o at) (sym order_is) (never_refused, unmoved, refl)
 
 -- ---- orders one after the other
 
 -- what the orders that are left print behind what stands there is, behind what stood there first, what all of them print
-abbrev pub Leads : Settings → Tree → List Order → Option (List ℕ) → Tree → List Order → Option (List ℕ) → Type 0
-Leads settings first orders old tree left now = (new : Option (List ℕ)) (end : Result (Unit {0}) Ending) → Runs settings tree left now new end → Runs settings first orders old new end
+abbrev pub Leads : Settings → Stored → List Order → Option (List ℕ) → Stored → List Order → Option (List ℕ) → Type 0
+Leads settings first orders old at left now = (new : Option (List ℕ)) (end : Result (Unit {0}) Ending) → Runs settings at left now new end → Runs settings first orders old new end
 
 -- the orders from this place on
 pub orders_left : (orders : List Order) (i : ℕ) (order : Order) → i < length orders → order ≡ get_or orders i order → drop i orders ≡ order ∷ drop (i + 1) orders
 orders_left orders i order h is = drop_more orders i order h ∙ ap (λ (o : Order). o ∷ drop (i + 1) orders) (sym is)
 
-module _ (settings : Settings) (first tree : Tree) (orders left : List Order) (old now : Option (List ℕ)) (leads : Leads settings first orders old tree left now) where
+module _ (settings : Settings) (first at : Stored) (orders left : List Order) (old now : Option (List ℕ)) (leads : Leads settings first orders old at left now) where
   pub Leads-done : left ≡ [] → Runs settings first orders old now (Ok tt)
-  Leads-done none = leads now (Ok tt) (subst (λ (l : List Order). Runs settings tree l now now (Ok tt)) (sym none) (Runs-none settings tree now))
+  Leads-done none = leads now (Ok tt) (subst (λ (l : List Order). Runs settings at l now now (Ok tt)) (sym none) (Runs-none settings at now))
 
   module _ (order : Order) (rest : List Order) (is : left ≡ order ∷ rest) (of_store : Settings) (same : of_store ≡ settings) (new : Option (List ℕ)) where
-    pub Leads-stops : (early : Ending) → Runs of_store tree (order ∷ []) now new (Err early) → Runs settings first orders old new (Err early)
+    pub Leads-stops : (early : Ending) → Runs of_store at (order ∷ []) now new (Err early) → Runs settings first orders old new (Err early)
     Leads-stops early p =
-        let p2 = subst (λ (s : Settings). Runs s tree (order ∷ []) now new (Err early)) same p in
-        leads new (Err early) (subst (λ (l : List Order). Runs settings tree l now new (Err early)) (sym is) (Runs-stops settings tree order now new rest early p2))
+        let p2 = subst (λ (s : Settings). Runs s at (order ∷ []) now new (Err early)) same p in
+        leads new (Err early) (subst (λ (l : List Order). Runs settings at l now new (Err early)) (sym is) (Runs-stops settings at order now new rest early p2))
 
-    pub Leads-goes_on : (after : Tree) (done : Unit {0}) → LeavesTree of_store tree order after → Runs of_store tree (order ∷ []) now new (Ok done) → Leads settings first orders old after rest new
+    pub Leads-goes_on : (after : Stored) (done : Unit {0}) → LeavesStored of_store at order after → Runs of_store at (order ∷ []) now new (Ok done) → Leads settings first orders old after rest new
     Leads-goes_on after done leaves p last end q =
-        let leaves2 = subst (λ (s : Settings). LeavesTree s tree order after) same leaves in
-        let p2 = subst (λ (s : Settings). Runs s tree (order ∷ []) now new (Ok done)) same p in
-        leads last end (subst (λ (l : List Order). Runs settings tree l now last end) (sym is) (Runs-goes_on settings tree order now new rest after last done end leaves2 p2 q))
+        let leaves2 = subst (λ (s : Settings). LeavesStored s at order after) same leaves in
+        let p2 = subst (λ (s : Settings). Runs s at (order ∷ []) now new (Ok done)) same p in
+        leads last end (subst (λ (l : List Order). Runs settings at l now last end) (sym is) (Runs-goes_on settings at order now new rest after last done end leaves2 p2 q))

@@ -1,5 +1,5 @@
 -- Batch files: what the lines of a file say, all of them together.
-use Rattle.std.specs.Prelude.{◌≡◌, ℕ, ◌+◌, List, [], ◌∷◌, ◌++◌, map, Option, Some, None}
+use Rattle.std.specs.Prelude.{◌≡◌, ⊤, ℕ, ◌+◌, List, [], ◌∷◌, ◌++◌, map, Option, Some, None}
 use Rattle.std.specs.declared.alloc.Global.{Global}
 use Rattle.keys.specs.declared.command.Command.{Command}
 use Rattle.bstr.specs.Text.{lines_of, without_terminator}
@@ -9,7 +9,7 @@ use Rattle.bwsh.specs.declared.line.Says.TheVariants.{Go, Bad}
 use Rattle.bwsh.specs.declared.line.Says.TheVariants as says
 use Rattle.bwsh.specs.declared.line.Why.{Why}
 use Rattle.bwsh.specs.declared.batch_file.Order.{Order}
-use Rattle.bwsh.specs.declared.batch_file.Order.TheVariants.{Batch, Verify}
+use Rattle.bwsh.specs.declared.batch_file.Order.TheVariants.{Batch, Flush, Verify}
 use Rattle.bwsh.specs.declared.batch_file.TextFault.{TextFault}
 use Rattle.bwsh.specs.declared.batch_file.TextFault.TheVariants as faults
 use Rattle.bwsh.specs.Line.{line_says}
@@ -38,6 +38,7 @@ abbrev pub orders_of : List (Command Global) → List Says → List Order
 orders_of pending [] = last_order pending
 orders_of pending (Says.Command command ∷ rest) = orders_of (pending ++ command ∷ []) rest
 orders_of pending (Go ∷ rest) = Batch pending ∷ orders_of [] rest
+orders_of pending (says.Flush ∷ rest) = last_order pending ++ Flush ∷ orders_of [] rest
 orders_of pending (says.Verify ∷ rest) = last_order pending ++ Verify ∷ orders_of [] rest
 orders_of pending (_ ∷ rest) = orders_of pending rest
 
@@ -46,9 +47,22 @@ abbrev pub IsRightFault : List Says → TextFault → Type 0
 IsRightFault says (faults.Bad n why) = first_bad 1 says ≡ Some (n, why)
 IsRightFault says faults.Memory = Unit {0}
 
+-- the order is a batch
+abbrev pub IsBatch : Order → Type 0
+IsBatch (Batch commands) = ⊤
+IsBatch Flush = ⊥
+IsBatch Verify = ⊥
+
+-- the line orders nothing but batches
+abbrev pub IsForBatches : Says → Type 0
+IsForBatches says.Flush = ⊥
+IsForBatches says.Verify = ⊥
+IsForBatches _ = ⊤
+
 -- the commands of an order
 abbrev pub commands_of : Order → List (Command Global)
 commands_of (Batch commands) = commands
+commands_of Flush = []
 commands_of Verify = []
 
 -- the commands that lines say

@@ -1,8 +1,9 @@
 -- What a session runs and prints, and how it ends.
-use Rattle.std.specs.Prelude.{◌≡◌, ◌⊎◌, ℕ, List, [], ◌∷◌, ◌++◌, map, is_some, codes, if◌then◌else◌, Option, Some, None, IfSome, Result, Ok, Err}
+use Rattle.std.specs.Prelude.{◌≡◌, ◌⊎◌, ℕ, List, [], ◌∷◌, ◌++◌, map, is_some, codes, replicate, if◌then◌else◌, Option, Some, None, IfSome, Result, Ok, Err}
 use Rattle.std.specs.Option.{option_map, option_or}
 use Rattle.std.specs.Fmt.{decimal}
 use Rattle.std.specs.Io.KnownBytes.{Appends}
+use Rattle.std.specs.declared.alloc.Global.{Global}
 use Rattle.keys.specs.Bytes.{Bytes, Pairs}
 use Rattle.keys.specs.Lists.{flat}
 use Rattle.keys.specs.Limits.{first_bad_field}
@@ -11,14 +12,18 @@ use Rattle.keys.specs.declared.settings.Settings.{Settings}
 use Rattle.keys.specs.declared.settings.Field.{Field}
 use Rattle.keys.specs.declared.fault.Fault.{Fault}
 use Rattle.keys.specs.declared.fault.Fault.TheVariants.{BadSettings, NoMemory}
-use Rattle.mapping.specs.Tree.{Tree, first_tree}
+use Rattle.mapping.specs.Tree.{Store}
 use Rattle.mapping.specs.Levels.{contents}
-use Rattle.climb_plan.specs.Plan.{planned_tree}
 use Rattle.verify.specs.Report.{report}
-use Rattle.engine.specs.Batch.{refusal_by}
+use Rattle.flush_log.specs.Disk.{View}
+use Rattle.flush_log.specs.NewStore.{disk_of_new}
+use Rattle.flush_log.specs.Segments.{disk_size}
+use Rattle.recovery.specs.StoreOfDisk.{first_store}
+use Rattle.engine.specs.State.{State}
+use Rattle.engine.specs.Steps.{Step, Stepped, batching, after_step}
 use Rattle.bwsh.specs.declared.line.Why.{Why}
 use Rattle.bwsh.specs.declared.batch_file.Order.{Order}
-use Rattle.bwsh.specs.declared.batch_file.Order.TheVariants.{Batch, Verify}
+use Rattle.bwsh.specs.declared.batch_file.Order.TheVariants.{Batch, Flush, Verify}
 use Rattle.bwsh.specs.declared.batch_file.TextFault.{TextFault}
 use Rattle.bwsh.specs.declared.batch_file.TextFault.TheVariants as faults
 use Rattle.bwsh.specs.declared.session.Ending.{Ending}
@@ -27,7 +32,7 @@ use Rattle.bwsh.specs.declared.session.Ending.TheVariants as endings
 use Rattle.bwsh.specs.BatchFile.{text_says, first_bad, orders_of}
 use Rattle.bwsh.specs.Line.{why_text}
 use Rattle.bwsh.specs.Options.{AsksForSettings, AsksForHelp, AreRefused}
-use Rattle.bwsh.specs.Shown.{shown_reply, shown_report}
+use Rattle.bwsh.specs.Shown.{shown_reply, shown_flushed, shown_report}
 
 -- the exit status of a session that ends before all is done
 abbrev pub status_of : Ending → ℕ
@@ -62,50 +67,86 @@ abbrev pub ending_by : TextFault → Ending
 ending_by (faults.Bad line why) = Bad line why
 ending_by faults.Memory = endings.Fault NoMemory
 
+-- a store, and the bytes of its disk
+abbrev pub Stored : Type 0
+Stored = Store × Bytes
+
+abbrev pub stored : {D : Type 0} → (D → View) → State D → Stored
+stored view x = (x.store, (view x.disk).seen)
+
+-- a new one under these settings, whose disk was all zeros
+abbrev pub first_stored : Settings → Stored
+first_stored settings = (first_store, disk_of_new settings (replicate (disk_size settings) 0))
+
+-- the step that an order is, if it is one
+abbrev pub step_in : Order → Option (Step Global)
+step_in (Batch commands) = Some (Step.Batch commands)
+step_in Flush = Some Step.Flush
+step_in Verify = None
+
+-- what a step leaves of what is stored, and why it is refused, if it is
+abbrev pub left_by : Stored → Stepped Global → Stored
+left_by at (Ok p) = p.1
+left_by at (Err fault) = at
+
+abbrev pub refused_by : Stepped Global → Option Fault
+refused_by (Ok p) = None
+refused_by (Err fault) = Some fault
+
+-- the same of a step that there may be
+abbrev pub behind_step : Settings → Stored → Option (Step Global) → Stored
+behind_step settings at None = at
+behind_step settings at (Some x) = left_by at (after_step (batching settings) settings at.0 at.1 x)
+
+abbrev pub refusal_of_step : Settings → Stored → Option (Step Global) → Option Fault
+refusal_of_step settings at None = None
+refusal_of_step settings at (Some x) = refused_by (after_step (batching settings) settings at.0 at.1 x)
+
+-- what an order leaves of what is stored
+unfoldable pub behind : Settings → Stored → Order → Stored
+behind settings at order = behind_step settings at (step_in order)
+
+-- why a store of these settings refuses the order by its right, if it does
+unfoldable pub refusal_of : Settings → Stored → Order → Option Fault
+refusal_of settings at order = refusal_of_step settings at (step_in order)
+
 -- the map that an order leaves
 abbrev pub map_behind : Pairs Bytes → Order → Pairs Bytes
 map_behind m (Batch commands) = map_after_all m commands
+map_behind m Flush = m
 map_behind m Verify = m
 
--- the tree that it leaves
-unfoldable pub tree_behind : Settings → Tree → Order → Tree
-tree_behind settings tree (Batch commands) = planned_tree settings tree commands
-tree_behind settings tree Verify = tree
+-- the lines that an order answers, with their line feeds, where this is stored, and the store holds this map before it: to a batch
+-- the replies of the map, the lines of each as one text; to a flush the sequence number that it leaves; to a verify the report on
+-- the tree
+abbrev pub own_lines : Settings → Stored → Pairs Bytes → Order → List Bytes
+own_lines settings at m (Batch commands) = map shown_reply (replies_to m commands)
+own_lines settings at m Flush = shown_flushed (behind settings at Flush).0.sequence ∷ []
+own_lines settings at m Verify = shown_report (report at.0.tree) ∷ []
 
--- the lines that an order answers, with their line feeds, where the store has this tree and holds this map before it: to a batch
--- the replies of the map, the lines of each as one text; to a verify the report on the tree
-abbrev pub own_lines : Tree → Pairs Bytes → Order → List Bytes
-own_lines tree m (Batch commands) = map shown_reply (replies_to m commands)
-own_lines tree m Verify = shown_report (report tree) ∷ []
-
--- the lines that orders answer one after the other; each leaves its tree and its map to the next
-abbrev pub answer_lines : Settings → Tree → Pairs Bytes → List Order → List Bytes
-answer_lines settings tree m [] = []
-answer_lines settings tree m (order ∷ rest) =
-    own_lines tree m order ++ answer_lines settings (tree_behind settings tree order) (map_behind m order) rest
+-- the lines that orders answer one after the other; each leaves what is stored and its map to the next
+abbrev pub answer_lines : Settings → Stored → Pairs Bytes → List Order → List Bytes
+answer_lines settings at m [] = []
+answer_lines settings at m (order ∷ rest) =
+    own_lines settings at m order ++ answer_lines settings (behind settings at order) (map_behind m order) rest
 
 -- the text of these lines
-abbrev pub printed : Settings → Tree → Pairs Bytes → List Order → Bytes
-printed settings tree m orders = flat (answer_lines settings tree m orders)
+abbrev pub printed : Settings → Stored → Pairs Bytes → List Order → Bytes
+printed settings at m orders = flat (answer_lines settings at m orders)
 
 -- all that the orders of a text print on a new store of these settings, were each accepted
 abbrev pub printed_by : Settings → Bytes → Bytes
-printed_by settings text = printed settings first_tree [] (orders_of [] (text_says text))
+printed_by settings text = printed settings (first_stored settings) [] (orders_of [] (text_says text))
 
--- why a store of these settings and this tree refuses the order by its right, if it does
-unfoldable pub refusal_of : Settings → Tree → Order → Option Fault
-refusal_of settings tree (Batch commands) = refusal_by settings tree commands
-refusal_of settings tree Verify = None
-
--- why it refuses the first of the orders that it refuses, if there is one; each that is accepted leaves its tree to the next
-abbrev pub first_refusal : Settings → Tree → List Order → Option Fault
-first_refusal settings tree [] = None
-first_refusal settings tree (order ∷ rest) = option_or (refusal_of settings tree order) (first_refusal settings (tree_behind settings tree order) rest)
+-- why a store refuses the first of the orders that it refuses, if there is one; each that is accepted leaves what is stored to the next
+abbrev pub first_refusal : Settings → Stored → List Order → Option Fault
+first_refusal settings at [] = None
+first_refusal settings at (order ∷ rest) = option_or (refusal_of settings at order) (first_refusal settings (behind settings at order) rest)
 
 -- the orders in front of that one, or all of them
-abbrev pub accepted : Settings → Tree → List Order → List Order
-accepted settings tree [] = []
-accepted settings tree (order ∷ rest) = if is_some (refusal_of settings tree order) then [] else order ∷ accepted settings (tree_behind settings tree order) rest
+abbrev pub accepted : Settings → Stored → List Order → List Order
+accepted settings at [] = []
+accepted settings at (order ∷ rest) = if is_some (refusal_of settings at order) then [] else order ∷ accepted settings (behind settings at order) rest
 
 -- an end for this reason, or with all done
 abbrev pub stopped_by : Option Ending → Result (Unit {0}) Ending
@@ -113,8 +154,8 @@ stopped_by None = Ok tt
 stopped_by (Some early) = Err early
 
 -- how orders end by their right: at the first that the store refuses, or with all done
-abbrev pub orders_end : Settings → Tree → List Order → Result (Unit {0}) Ending
-orders_end settings tree orders = stopped_by (option_map (λ fault. endings.Fault fault) (first_refusal settings tree orders))
+abbrev pub orders_end : Settings → Stored → List Order → Result (Unit {0}) Ending
+orders_end settings at orders = stopped_by (option_map (λ fault. endings.Fault fault) (first_refusal settings at orders))
 
 -- why no order is run, where the text has this first bad line, if it has one, and the settings this first bad field
 abbrev pub hindered_by : Option (ℕ × Why) → Option Field → Option Ending
@@ -128,12 +169,12 @@ hindrance settings text = hindered_by (first_bad 1 (text_says text)) (first_bad_
 -- how a session ends by its right where this hinders it, if anything does, and else these orders are run
 abbrev pub end_after : Settings → Option Ending → List Order → Result (Unit {0}) Ending
 end_after settings (Some early) orders = Err early
-end_after settings None orders = orders_end settings first_tree orders
+end_after settings None orders = orders_end settings (first_stored settings) orders
 
 -- the lines that it prints by its right
 abbrev pub lines_after : Settings → Option Ending → List Order → List Bytes
 lines_after settings (Some early) orders = []
-lines_after settings None orders = answer_lines settings first_tree [] (accepted settings first_tree orders)
+lines_after settings None orders = answer_lines settings (first_stored settings) [] (accepted settings (first_stored settings) orders)
 
 -- how a session on this text ends by its right
 abbrev pub session_end : Settings → Bytes → Result (Unit {0}) Ending
@@ -169,13 +210,15 @@ Prints old new lines right end =
     ⊎ ((end ≡ Err (endings.Fault NoMemory)) × ((front : List Bytes) × BeginsWith lines front × Appends old new (flat front)))
     ⊎ ((end ≡ Err Device) × ((front : Bytes) × BeginsWith (flat lines) front × Appends old new front))
 
--- the order is accepted, and leaves this tree with its map
-abbrev pub LeavesTree : Settings → Tree → Order → Tree → Type 0
-LeavesTree settings tree order after = (refusal_of settings tree order ≡ None) × (after ≡ tree_behind settings tree order) × (contents after ≡ map_behind (contents tree) order)
+-- the order is accepted, and leaves this stored, with its map
+abbrev pub LeavesStored : Settings → Stored → Order → Stored → Type 0
+LeavesStored settings at order after =
+    (refusal_of settings at order ≡ None) × (after ≡ behind settings at order) × (contents after.0.tree ≡ map_behind (contents at.0.tree) order)
 
--- what these orders print on a store of these settings and this tree, and how they end, is right but for memory and devices
-unfoldable pub Runs : Settings → Tree → List Order → Option Bytes → Option Bytes → Result (Unit {0}) Ending → Type 0
-Runs settings tree orders old new end = Prints old new (answer_lines settings tree (contents tree) (accepted settings tree orders)) (orders_end settings tree orders) end
+-- what these orders print where this is stored under these settings, and how they end, is right but for memory and devices
+unfoldable pub Runs : Settings → Stored → List Order → Option Bytes → Option Bytes → Result (Unit {0}) Ending → Type 0
+Runs settings at orders old new end =
+    Prints old new (answer_lines settings at (contents at.0.tree) (accepted settings at orders)) (orders_end settings at orders) end
 
 -- what a session prints under these settings, and how it ends, is right for a text, which is the known one, but for memory and devices
 unfoldable pub Answers : Settings → Option Bytes → Option Bytes → Option Bytes → Result (Unit {0}) Ending → Type 0

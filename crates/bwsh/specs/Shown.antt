@@ -1,9 +1,11 @@
--- Replies and reports as they are printed.
-use Rattle.std.specs.Prelude.{[], ◌∷◌, ◌++◌, length, flat_map, codes}
+-- Replies, sequence numbers and reports as they are printed.
+use Rattle.std.specs.Prelude.{ℕ, List, [], ◌∷◌, ◌++◌, map, length, flat_map, codes}
 use Rattle.std.specs.Fmt.{decimal}
 use Rattle.keys.specs.Bytes.{Bytes}
 use Rattle.keys.specs.declared.command.Reply.{Reply}
 use Rattle.keys.specs.declared.command.Reply.TheVariants.{Value, Missing, New, Replaced, Added, Exists, Deleted, Rows}
+use Rattle.engine.specs.Steps.{Answer}
+use Rattle.engine.specs.Steps.Answer.{Replies, Flushed, Cleaned}
 use Rattle.verify.specs.declared.report.Report.{Report}
 use Rattle.bwsh.specs.Token.{shown_token}
 
@@ -34,3 +36,17 @@ shown_reply reply = reply_text reply ++ 10 ∷ row_lines reply
 -- the line of a report: its pages, its height and its pairs, with the line feed
 abbrev pub shown_report : Report → Bytes
 shown_report report = codes "ok " ++ decimal report.pages ++ 32 ∷ decimal report.height ++ 32 ∷ decimal report.pairs ++ 10 ∷ []
+
+-- the line of a flush: the sequence number, with the line feed
+abbrev pub shown_flushed : ℕ → Bytes
+shown_flushed sequence = codes "flushed " ++ decimal sequence ++ 10 ∷ []
+
+-- the line of a clean: the head segment, with the line feed
+abbrev pub shown_cleaned : ℕ → Bytes
+shown_cleaned head = codes "cleaned " ++ decimal head ++ 10 ∷ []
+
+-- the lines of an answer; those of a reply are one text
+abbrev pub shown_answer : {A : Type 0} → Answer A → List Bytes
+shown_answer (Replies replies) = map shown_reply replies
+shown_answer (Flushed sequence) = shown_flushed sequence ∷ []
+shown_answer (Cleaned head) = shown_cleaned head ∷ []

@@ -1,5 +1,5 @@
 //! Batch files.
-ghost use Rattle.std.specs.Prelude.{◌≡◌, ◌++◌, [], Some, None, IfOk, IfErr, OnOk};
+ghost use Rattle.std.specs.Prelude.{◌≡◌, ◌∷◌, ◌++◌, [], Some, None, IfOk, IfErr, OnOk};
 ghost use Rattle.bwsh.specs.declared.batch_file.TextFault.TheVariants.{Memory};
 ghost use Rattle.bwsh.specs.BatchFile.{text_says, first_bad, last_order, orders_of, IsRightFault};
 
@@ -40,6 +40,8 @@ impl Batch {
 pub enum Order {
     /// To run this batch, which may have no commands.
     Batch(Batch),
+    /// To write what the log lacks, and tell the sequence number.
+    Flush,
     /// To verify the store, and tell of its pages, its height and its pairs.
     Verify,
 }
@@ -79,6 +81,22 @@ fn push_pending(pending: Vec<Command<Global>>, orders: &mut Vec<Order>) -> Resul
     Ok(())
 }
 
+// Orders the pending commands to be run, if there are any, and then this. None are pending any more.
+fn push_behind(
+    alloc: Global,
+    pending: &mut Vec<Command<Global>>,
+    order: Order,
+    orders: &mut Vec<Order>,
+) -> Result<(), AllocError>
+    ensures orders { OnOk result (orders.new.items ≡ orders.old.items ++ last_order pending.old.items ++ order ∷ []) }
+    ensures pending { pending.new.items ≡ [] }
+{
+    let commands = mem::replace(pending, Vec::new(alloc));
+    push_pending(commands, orders)?;
+    orders.push(order)?;
+    Ok(())
+}
+
 /// What the lines of the text order, all of them. Where a line is bad nothing is ordered: the answer tells of the
 /// first such line. `TextFault::Memory` can be the answer to any text.
 pub fn parse(alloc: Global, text: &[u8]) -> Result<Vec<Order>, TextFault>
@@ -99,11 +117,8 @@ pub fn parse(alloc: Global, text: &[u8]) -> Result<Vec<Order>, TextFault>
                 let commands = mem::replace(&mut pending, Vec::new(alloc));
                 orders.push(Order::Batch(Batch { commands }))?;
             }
-            Says::Verify => {
-                let commands = mem::replace(&mut pending, Vec::new(alloc));
-                push_pending(commands, &mut orders)?;
-                orders.push(Order::Verify)?;
-            }
+            Says::Flush => push_behind(alloc, &mut pending, Order::Flush, &mut orders)?,
+            Says::Verify => push_behind(alloc, &mut pending, Order::Verify, &mut orders)?,
             Says::Bad(why) => return Err(TextFault::Bad { line, why }),
         }
     }

@@ -1,21 +1,18 @@
 //! What the definitions of `specs/` mean. Each law is the contract of a function with an empty body.
-ghost use Rattle.std.specs.Prelude.{◌≡◌, ◌≢◌, ◌<◌, ◌≤◌, List, [], ◌∷◌, ◌++◌, map, Some};
+ghost use Rattle.std.specs.Prelude.{◌≡◌, ◌<◌, ◌≤◌, List, [], ◌∷◌, ◌++◌, map, Some};
 ghost use Rattle.std.specs.List.{All, flat_map};
 ghost use Rattle.std.specs.declared.alloc.Global.{Global};
 ghost use Rattle.keys.specs.Bytes.{Bytes, Pairs};
 ghost use Rattle.keys.specs.declared.command.Command.{Command};
 ghost use Rattle.keys.specs.Step.{replies_to, map_after_all};
 ghost use Rattle.keys.specs.declared.settings.Settings.{Settings};
-ghost use Rattle.mapping.specs.Tree.{Tree};
-ghost use Rattle.climb_plan.specs.Plan.{planned_tree};
 ghost use Rattle.verify.specs.Report.{report};
 ghost use Rattle.bwsh.specs.declared.batch_file.Order.{Order};
-ghost use Rattle.bwsh.specs.declared.batch_file.Order.TheVariants.{Batch, Verify};
+ghost use Rattle.bwsh.specs.declared.batch_file.Order.TheVariants.{Batch, Flush, Verify};
 ghost use Rattle.bwsh.specs.declared.line.Says.{Says};
-ghost use Rattle.bwsh.specs.declared.line.Says.TheVariants as says;
-ghost use Rattle.bwsh.specs.BatchFile.{orders_of, commands_of, commands_said, batch_lines};
-ghost use Rattle.bwsh.specs.Session.{printed};
-ghost use Rattle.bwsh.specs.Shown.{shown_reply, shown_report};
+ghost use Rattle.bwsh.specs.BatchFile.{orders_of, commands_of, commands_said, batch_lines, IsBatch, IsForBatches};
+ghost use Rattle.bwsh.specs.Session.{Stored, printed, behind};
+ghost use Rattle.bwsh.specs.Shown.{shown_reply, shown_flushed, shown_report};
 ghost use Rattle.bwsh.specs.Token.{token_bytes, shown_token};
 ghost use Rattle.bwsh.specs.Words.{words_of};
 
@@ -38,22 +35,26 @@ pub fn batches_are_read_back()
         orders_of [] (flat_map batch_lines batches) ≡ map (λ commands. Batch commands) batches }
 {}
 
-/// A batch prints the lines of its replies, in front of what the orders behind it print on the tree and the map that it leaves. A
-/// verify prints the line of the report on the tree, and leaves both as they are.
+/// A batch prints the lines of its replies, in front of what the orders behind it print on what it leaves and its map. A flush prints
+/// the line of the sequence number that it leaves, and leaves the map as it is. A verify prints the line of the report on the
+/// tree, and leaves all as it is.
 pub fn each_order_prints_its_answer()
-    ensures none { (settings : Settings) → (tree : Tree) → (m : Pairs Bytes) → printed settings tree m [] ≡ [] }
-    ensures batch { (settings : Settings) → (tree : Tree) → (m : Pairs Bytes) → (commands : List (Command Global)) → (rest : List Order) →
-        printed settings tree m (Batch commands ∷ rest) ≡ flat_map shown_reply (replies_to m commands) ++ printed settings (planned_tree settings tree commands) (map_after_all m commands) rest }
-    ensures verify { (settings : Settings) → (tree : Tree) → (m : Pairs Bytes) → (rest : List Order) →
-        printed settings tree m (Verify ∷ rest) ≡ shown_report (report tree) ++ printed settings tree m rest }
+    ensures none { (settings : Settings) → (at : Stored) → (m : Pairs Bytes) → printed settings at m [] ≡ [] }
+    ensures batch { (settings : Settings) → (at : Stored) → (m : Pairs Bytes) → (commands : List (Command Global)) → (rest : List Order) →
+        printed settings at m (Batch commands ∷ rest)
+            ≡ flat_map shown_reply (replies_to m commands) ++ printed settings (behind settings at (Batch commands)) (map_after_all m commands) rest }
+    ensures flush { (settings : Settings) → (at : Stored) → (m : Pairs Bytes) → (rest : List Order) →
+        printed settings at m (Flush ∷ rest) ≡ shown_flushed (behind settings at Flush).0.sequence ++ printed settings (behind settings at Flush) m rest }
+    ensures verify { (settings : Settings) → (at : Stored) → (m : Pairs Bytes) → (rest : List Order) →
+        printed settings at m (Verify ∷ rest) ≡ shown_report (report at.0.tree) ++ printed settings at m rest }
 {}
 
-/// Where none is a verify, what is printed in all are an ordered map's replies to the commands that are ordered, one after the other: it
-/// makes no difference how they are cut into batches, nor what the settings and the tree are. So it is for lines of which none
-/// says `verify`.
+/// Where all are batches, what is printed in all are an ordered map's replies to the commands that are ordered, one after the other: it
+/// makes no difference how they are cut into batches, nor what the settings are and what is stored. So it is for lines of which
+/// none says `flush` or `verify`.
 pub fn the_commands_are_answered_in_order()
-    ensures orders { (settings : Settings) → (tree : Tree) → (m : Pairs Bytes) → (orders : List Order) → All (λ o. o ≢ Verify) orders →
-        printed settings tree m orders ≡ flat_map shown_reply (replies_to m (flat_map commands_of orders)) }
-    ensures lines { (settings : Settings) → (tree : Tree) → (said : List Says) → All (λ s. s ≢ says.Verify) said →
-        printed settings tree [] (orders_of [] said) ≡ flat_map shown_reply (replies_to [] (commands_said said)) }
+    ensures orders { (settings : Settings) → (at : Stored) → (m : Pairs Bytes) → (orders : List Order) → All IsBatch orders →
+        printed settings at m orders ≡ flat_map shown_reply (replies_to m (flat_map commands_of orders)) }
+    ensures lines { (settings : Settings) → (at : Stored) → (said : List Says) → All IsForBatches said →
+        printed settings at [] (orders_of [] said) ≡ flat_map shown_reply (replies_to [] (commands_said said)) }
 {}

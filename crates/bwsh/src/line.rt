@@ -46,6 +46,8 @@ pub enum Says {
     Command(Command<Global>),
     /// The pending batch is to run.
     Go,
+    /// The pending batch is to run, if it has commands, and then the store is to be flushed.
+    Flush,
     /// The pending batch is to run, if it has commands, and then the store is to be verified.
     Verify,
     /// It is no line of a batch file.
@@ -198,6 +200,9 @@ fn order(word: &[u8], words: &[u8]) -> Says
 {
     if word == b"go".as_slice() {
         return alone(Says::Go, words);
+    }
+    if word == b"flush".as_slice() {
+        return alone(Says::Flush, words);
     }
     if word == b"verify".as_slice() {
         return alone(Says::Verify, words);

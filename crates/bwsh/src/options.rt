@@ -23,9 +23,10 @@ Lines of the batch file:
   scan LO HI LIMIT  Answers LIMIT pairs at most, in the order of their keys, from LO up to HI, which
                     is not among them; the star * as HI is no bound
   go                Runs the commands since the last batch, as one batch
+  flush             Runs these too, if there are any, and then writes what the log lacks
   verify            Runs these too, if there are any, and then checks the whole tree
   # ...             A comment
-Commands behind the last go or verify are run at the end.
+Commands behind the last go, flush or verify are run at the end.
 
 Keys and values are words of printed ASCII. In them %XX is the byte of two hexadecimal digits, as
 %20 for a space, and % alone is the word of no bytes.
@@ -34,7 +35,7 @@ Exit status:
   0  All is done, or help was asked for
   2  The words of the command line are refused; nothing was read
   3  A line of the batch file is bad; nothing was run
-  4  A fault: settings or a batch that are refused, no memory, or a device\
+  4  A fault: settings or a batch that are refused, a full log, no memory, or a device\
 ";
 
 // An option that takes a number.

@@ -1,5 +1,5 @@
 //! A session: the batch file is read, and run on a new store of the settings that the command line tells.
-ghost use Rattle.std.specs.Prelude.{◌≡◌, ◌≢◌, ◌↔◌, ◌⊎◌, ℕ, [], ◌∷◌, ◌++◌, map, None, IfSome, Result, Ok, Err, IfOk, OnOk, OnErr, IsOkUnless, MatchResult, take, length, ◌≤◌};
+ghost use Rattle.std.specs.Prelude.{false, IsTrue, IfErr, MatchOption, ◌≡◌, ◌≢◌, ◌↔◌, ◌⊎◌, ℕ, [], ◌∷◌, ◌++◌, map, None, Some, IfSome, Result, Ok, Err, IfOk, OnOk, OnErr, IsOkUnless, MatchResult, take, length, ◌≤◌};
 ghost use Rattle.std.specs.List.{flat_map};
 ghost use Rattle.std.specs.String.{string_bytes};
 ghost use Rattle.std.specs.IoError.{error_kind};
@@ -7,21 +7,26 @@ ghost use Rattle.std.specs.Io.KnownBytes.{Appends, Keeps};
 ghost use Rattle.clap.specs.Words.{kind_of};
 ghost use Rattle.clap.specs.declared.error.kind.ErrorKind.TheVariants.{DisplayHelp, OutOfMemory};
 ghost use Rattle.keys.specs.Bytes.{Bytes};
+ghost use Rattle.keys.specs.Limits.{first_bad_field};
 ghost use Rattle.keys.specs.declared.fault.Fault.TheVariants.{NoMemory};
+ghost use Rattle.mapping.specs.Levels.{contents};
+ghost use Rattle.flush_log.specs.Disk.{Kept};
+ghost use Rattle.engine.specs.Plays.{step_of, answer_of};
 ghost use Rattle.bwsh.specs.declared.session.Ending.{Ending};
 ghost use Rattle.bwsh.specs.declared.session.Ending.TheVariants.{Device};
 ghost use Rattle.bwsh.specs.declared.session.Ending.TheVariants as endings;
 ghost use Rattle.bwsh.specs.BatchFile.{text_says, first_bad, orders_of};
 ghost use Rattle.keys.specs.declared.settings.Settings.{Settings};
 ghost use Rattle.bwsh.specs.Options.{AsksForSettings, AsksForHelp, AreRefused};
-ghost use Rattle.bwsh.specs.Session.{status_of, status_of_end, ending_text, unread_text, ending_by, printed_by, BeginsWith, IsBegun, IsTold, IsReadEnding, IsForWords, Prints, PrintsOneText, LeavesTree, Runs, Answers, EndsBy, EndsTold};
-ghost use Rattle.bwsh.specs.Shown.{shown_reply, shown_report};
+ghost use Rattle.bwsh.specs.Session.{status_of, status_of_end, ending_text, unread_text, ending_by, printed_by, BeginsWith, IsBegun, IsTold, IsReadEnding, IsForWords, Prints, PrintsOneText, LeavesStored, Runs, Answers, EndsBy, EndsTold, step_in, stored, first_stored};
+ghost use Rattle.bwsh.specs.Shown.{shown_reply, shown_flushed, shown_report, shown_answer};
 
 use crate::batch_file::{Order, TextFault, parse};
 use crate::line::Why;
 use crate::options::options;
-use crate::show::{show_reply, show_report};
-use engine::Store;
+use crate::show::{show_flushed, show_reply, show_report};
+use engine::{Answer, Disk, MemDisk, Step, Store};
+use flush_log::segments::disk_size;
 use keys::{Fault, Reply, Settings};
 use std::alloc::{AllocError, Global};
 use std::fmt::{InlineText, Write as _};
@@ -182,6 +187,15 @@ fn write_replies<O: Write>(
     Ok(shown?)
 }
 
+// Writes the line of a flush that left this sequence number, in the memory of `lines`.
+fn write_flushed<O: Write>(sequence: u64, lines: &mut Vec<u8>, out: &mut O) -> Result<(), Ending>
+    ensures { Prints (O.contents out.old) (O.contents out.new) (shown_flushed sequence ∷ []) (Ok tt) result }
+{
+    lines.clear();
+    show_flushed(sequence, lines)?;
+    write_bytes(lines, out)
+}
+
 // Writes the line of the report, in the memory of `lines`.
 fn write_report<O: Write>(report: &Report, lines: &mut Vec<u8>, out: &mut O) -> Result<(), Ending>
     ensures { Prints (O.contents out.old) (O.contents out.new) (shown_report report.now ∷ []) (Ok tt) result }
@@ -191,23 +205,81 @@ fn write_report<O: Write>(report: &Report, lines: &mut Vec<u8>, out: &mut O) -> 
     write_bytes(lines, out)
 }
 
-// Runs an order, and writes what it answers.
-fn run_order<R: Threads + Sync, O: Write>(
+// Writes the lines of an answer.
+fn write_answer<O: Write>(answer: &Answer, lines: &mut Vec<u8>, out: &mut O) -> Result<(), Ending>
+    ensures { Prints (O.contents out.old) (O.contents out.new) (shown_answer (answer_of answer.now)) (Ok tt) result }
+{
+    match answer {
+        Answer::Replies(replies) => write_replies(replies, lines, out),
+        Answer::Flushed(sequence) => write_flushed(*sequence, lines, out),
+    }
+}
+
+// Writes the lines of the answers.
+fn write_answers<O: Write>(
+    answers: &[Answer],
+    lines: &mut Vec<u8>,
+    out: &mut O,
+) -> Result<(), Ending>
+    ensures { Prints (O.contents out.old) (O.contents out.new) (flat_map shown_answer (map answer_of answers.now)) (Ok tt) result }
+{
+    for answer in answers {
+        write_answer(answer, lines, out)?;
+    }
+    Ok(())
+}
+
+// Why a session ends whose store answered this.
+fn store_fault(fault: Fault) -> Ending
+    ensures { ((fault ≡ Fault.Device) × (result ≡ Ending.Device)) ⊎ ((fault ≢ Fault.Device) × (result ≡ Ending.Fault fault)) }
+{
+    match fault {
+        Fault::Device => Ending::Device,
+        _ => Ending::Fault(fault),
+    }
+}
+
+// Plays a step, and writes what it answers.
+fn run_step<R: Threads + Sync, D: Disk, O: Write>(
     rt: &R,
-    store: &mut Store,
+    store: &mut Store<D>,
+    step: Step<'_>,
+    lines: &mut Vec<u8>,
+    out: &mut O,
+) -> Result<(), Ending>
+    requires fine { store.old.has_failed ≡ false }
+    requires honest { IsTrue (D.view store.old.disk).is_honest }
+    ensures runs { (order : Order) → step_in order ≡ Some (step_of step.entry) →
+        Runs store.old.settings (stored D.view store.old) (order ∷ []) (O.contents out.old) (O.contents out.new) result }
+    ensures leaves { (order : Order) → step_in order ≡ Some (step_of step.entry) →
+        OnOk result (LeavesStored store.old.settings (stored D.view store.old) order (stored D.view store.new)) }
+    ensures rest { (store.new.settings ≡ store.old.settings) × Kept (D.view store.old.disk) (D.view store.new.disk) }
+    ensures failed { OnOk result (store.new.has_failed ≡ store.old.has_failed) }
+{
+    match store.play(rt, &[step]) {
+        Ok(answers) => write_answers(&answers, lines, out),
+        Err(refused) => Err(store_fault(refused.2)),
+    }
+}
+
+// Runs an order, and writes what it answers.
+fn run_order<R: Threads + Sync, D: Disk, O: Write>(
+    rt: &R,
+    store: &mut Store<D>,
     order: &Order,
     lines: &mut Vec<u8>,
     out: &mut O,
 ) -> Result<(), Ending>
-    ensures runs { Runs store.old.settings store.old.tree (order.now ∷ []) (O.contents out.old) (O.contents out.new) result }
-    ensures leaves { OnOk result (LeavesTree store.old.settings store.old.tree order.now store.new.tree) }
-    ensures settings { store.new.settings ≡ store.old.settings }
+    requires fine { store.old.has_failed ≡ false }
+    requires honest { IsTrue (D.view store.old.disk).is_honest }
+    ensures runs { Runs store.old.settings (stored D.view store.old) (order.now ∷ []) (O.contents out.old) (O.contents out.new) result }
+    ensures leaves { OnOk result (LeavesStored store.old.settings (stored D.view store.old) order.now (stored D.view store.new)) }
+    ensures rest { (store.new.settings ≡ store.old.settings) × Kept (D.view store.old.disk) (D.view store.new.disk) }
+    ensures failed { OnOk result (store.new.has_failed ≡ store.old.has_failed) }
 {
     match order {
-        Order::Batch(batch) => {
-            let replies = store.batch(rt, batch.commands())?;
-            write_replies(&replies, lines, out)
-        }
+        Order::Batch(batch) => run_step(rt, store, Step::Batch(batch.commands()), lines, out),
+        Order::Flush => run_step(rt, store, Step::Flush, lines, out),
         Order::Verify => {
             let report = store.verify(rt)?;
             write_report(&report, lines, out)
@@ -216,13 +288,15 @@ fn run_order<R: Threads + Sync, O: Write>(
 }
 
 // Runs the orders one after the other, and writes what each answers before the next runs.
-fn run_orders<R: AllocGlobal + Threads + Sync, O: Write>(
+fn run_orders<R: AllocGlobal + Threads + Sync, D: Disk, O: Write>(
     rt: &R,
-    store: &mut Store,
+    store: &mut Store<D>,
     orders: &[Order],
     out: &mut O,
 ) -> Result<(), Ending>
-    ensures { Runs store.old.settings store.old.tree orders.now (O.contents out.old) (O.contents out.new) result }
+    requires fine { store.old.has_failed ≡ false }
+    requires honest { IsTrue (D.view store.old.disk).is_honest }
+    ensures { Runs store.old.settings (stored D.view store.old) orders.now (O.contents out.old) (O.contents out.new) result }
 {
     let mut lines = Vec::new(rt.alloc());
     for order in orders {
@@ -242,6 +316,21 @@ fn flush<O: Write>(done: Result<(), Ending>, out: &mut O) -> Result<(), Ending>
     }
 }
 
+// A new store on a disk in memory, which has just the room that it needs.
+fn new_store(alloc: Global, settings: Settings) -> Result<Store<MemDisk<Global>>, Ending>
+    ensures refused { MatchOption (first_bad_field settings) (IfErr result (λ early. (early ≡ Ending.Fault Fault.NoMemory) ⊎ (early ≡ Ending.Device)))
+        (λ field. result ≡ Err (Ending.Fault (Fault.BadSettings field))) }
+    ensures made { IfOk result (λ store. (store.settings ≡ settings) × (stored ⟦<MemDisk<Global> as Disk>⟧.view store ≡ first_stored settings)
+        × (contents store.store.tree ≡ []) × (store.has_failed ≡ false) × IsTrue (⟦<MemDisk<Global> as Disk>⟧.view store.disk).is_honest) }
+{
+    settings.check()?;
+    let disk = MemDisk::new(alloc, disk_size(&settings) as usize)?;
+    match Store::create(alloc, disk, settings) {
+        Ok(store) => Ok(store),
+        Err(refused) => Err(store_fault(refused.0)),
+    }
+}
+
 /// Reads the batch file that `input` holds, and runs it on a new store of these settings. The answers go to `out`, in
 /// lines. Where all is done, or a line is bad or the settings are refused (nothing is run then), or the store
 /// refuses an order, all answers stand there. Where memory is refused, some first lines of them do; where a device
@@ -256,7 +345,7 @@ pub fn run<R: AllocGlobal + Threads + Sync, I: Read, O: Write>(
     ensures { Answers settings (I.remaining input.old) (O.contents out.old) (O.contents out.new) result }
 {
     let orders = read_orders(rt.alloc(), input)?;
-    let mut store = Store::create(rt.alloc(), settings)?;
+    let mut store = new_store(rt.alloc(), settings)?;
     let done = run_orders(rt, &mut store, &orders, out);
     flush(done, out)
 }

@@ -1,8 +1,8 @@
-//! Replies and reports as they are printed.
+//! Replies, sequence numbers and reports as they are printed.
 ghost use Rattle.std.specs.Prelude.{◌≡◌, ◌∷◌, ◌++◌, [], codes, length, take, OnOk, OnErr};
 ghost use Rattle.std.specs.Fmt.{decimal};
 ghost use Rattle.std.specs.List.{flat_map};
-ghost use Rattle.bwsh.specs.Shown.{reply_text, row_lines, shown_reply, shown_report, shown_row};
+ghost use Rattle.bwsh.specs.Shown.{reply_text, row_lines, shown_reply, shown_flushed, shown_report, shown_row};
 
 use crate::token::push_token;
 use keys::{Key, Reply, Value};
@@ -85,6 +85,15 @@ pub fn show_reply(reply: &Reply<Global>, out: &mut Vec<u8>) -> Result<(), AllocE
         out.truncate(len);
     }
     shown
+}
+
+/// Appends the line of a flush that left this sequence number, with its line feed. After an `Err` `out` is as it was before.
+pub fn show_flushed(sequence: u64, out: &mut Vec<u8>) -> Result<(), AllocError>
+    ensures ok { OnOk result (out.new.items ≡ out.old.items ++ shown_flushed sequence) }
+    ensures err { OnErr result (out.new.items ≡ out.old.items) }
+{
+    let line = format!(in *out.allocator(); "flushed {sequence}\n")?;
+    out.extend_from_slice(line.as_bytes())
 }
 
 /// Appends the line of the report, with its line feed. After an `Err` `out` is as it was before.

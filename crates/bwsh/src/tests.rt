@@ -54,6 +54,9 @@ fn scans_and_reports(rt: HostRuntime) {
     let input = b"put %20%00 %25\ngo\nscan % * 5\nverify\n";
     let out = b"new\nrows 1\n%20%00 %25\nok 1 1 1\n";
     check(&rt, &[], input, 0, out, b"");
+    let input = b"put %20%00 %25\ngo\nscan % * 5\nflush\nverify\n";
+    let out = b"new\nrows 1\n%20%00 %25\nflushed 2\nok 1 1 1\n";
+    check(&rt, &[], input, 0, out, b"");
     let input = b"put ! 1\nput * 2\nput a %\nscan % %2A 9\nscan * * 02\nscan * ! 9\nverify";
     let out = b"new\nnew\nnew\nrows 1\n! 1\nrows 2\n* 2\na %\nrows 0\nok 1 1 3\n";
     check(&rt, &[], input, 0, out, b"");
@@ -87,6 +90,49 @@ fn check_behind_puts<R: AllocGlobal + Abort + Threads + Sync>(
     let mut out = b"new\n".as_slice().repeatn(alloc, 17)?;
     out.extend_from_slice(printed)?;
     check(rt, &words, &input, 0, &out, b"");
+    Ok(())
+}
+
+// A flush runs the pending commands first. Where the log has all, it leaves the number as it is.
+#[test]
+fn a_flush_tells_its_number(rt: HostRuntime) {
+    check(&rt, &[], b"flush\n", 0, b"flushed 1\n", b"");
+    let input = b"put a 1\nflush\nadd a 2\nflush\ndel a\nflush\nverify";
+    let out = b"new\nflushed 2\nexists\nflushed 2\ndeleted\nflushed 3\nok 1 1 0\n";
+    check(&rt, &[], input, 0, out, b"");
+    check(
+        &rt,
+        &[],
+        b"flush a\n",
+        3,
+        b"",
+        b"line 1: wrong number of words\n",
+    );
+}
+
+// Example log 15: the eighteenth flush would leave no segment free. What was answered before it stands.
+#[test]
+fn a_full_log_ends_the_session(rt: HostRuntime) -> Result<(), Fail> {
+    let alloc = rt.alloc();
+    let words = vec![in alloc;
+        String::from_str(alloc, "--fan=4")?,
+        String::from_str(alloc, "--chain=2")?,
+        String::from_str(alloc, "--max-key=16")?,
+        String::from_str(alloc, "--max-value=16")?,
+        String::from_str(alloc, "--seg-size=256")?,
+        String::from_str(alloc, "--segments=4")?,
+    ]?;
+    let input = b"put a 0123456789abcdef\nflush\n"
+        .as_slice()
+        .repeatn(alloc, 18)?;
+    let mut out = Vec::new(alloc);
+    out.extend_from_slice(b"new\nflushed 2\n")?;
+    for sequence in 3..19 {
+        let lines = format!(in alloc; "replaced\nflushed {sequence}\n")?;
+        out.extend_from_slice(lines.as_bytes())?;
+    }
+    out.extend_from_slice(b"replaced\n")?;
+    check(&rt, &words, &input, 4, &out, b"fault 10 Full\n");
     Ok(())
 }
 
@@ -166,13 +212,14 @@ fn words_are_refused(rt: HostRuntime) -> Result<(), Fail> {
 }
 
 // What the help has to say: each kind of line, what a segment has to hold, and the exit statuses.
-const HELP: [&str; 14] = [
+const HELP: [&str; 15] = [
     "put K V",
     "add K V",
     "get K",
     "del K",
     "scan LO HI LIMIT",
     "go",
+    "flush",
     "verify",
     "#",
     "%20",

@@ -1,18 +1,24 @@
 mod Admitted
 mod Answered
+pub mod BatchDone
 mod BatchInStep
 mod BatchLeaves
 mod CommandsWithin
-mod Created
+mod CreateLaws
 mod EndedRoutes
 mod Executed
+mod FlushDone
+mod FlushPlan
 mod InTurn
 mod LeafRoutes
 mod OwnRuns
 mod PartAnswers
 mod PlayLaws
+mod PlayTurn
 mod Readied
+mod ReadLaws
 mod Routed
 mod SeenLeaves
+mod StepDone
 mod StepsLaws
 mod Verified

@@ -30,7 +30,7 @@ use Rattle.climb_plan.proofs.Climbing.{still_home_above}
 use Rattle.climb_plan.proofs.Installing.{distinct_first}
 use Rattle.climb_plan.proofs.InstallingLaws.{none_of, not_among, away-all_taken, put_back_is_before, none_behind}
 use Rattle.engine.specs.Leaves.{route_pids, leaves_made}
-use Rattle.engine.specs.State.{IsSoundInMemory}
+use Rattle.engine.specs.SoundTree.{IsSoundInMemory}
 use Rattle.engine.proofs.OwnRuns.{all_left}
 use Rattle.engine.proofs.SeenLeaves.{all_routed, distinct_routes, seen_from}
 

@@ -28,7 +28,7 @@ use Rattle.climb_plan.specs.Plan.{planned_tree}
 use Rattle.climb_plan.specs.Ready.{IsReady}
 use Rattle.climb_plan.proofs.ArrivedPages.{home_keys}
 use Rattle.engine.specs.Leaves.{AreRoutesFor, AreLeafRoutes, leaf_held, leaves_made, answers, route_pids}
-use Rattle.engine.specs.State.{IsSoundInMemory}
+use Rattle.engine.specs.SoundTree.{IsSoundInMemory}
 use Rattle.engine.proofs.Answered.{routes_here, leaf_parts, routes_are_leaves, answered_rightly, answered_as_a_map}
 use Rattle.engine.proofs.EndedRoutes.{level_ended, planned-ended, places-ended, reply-ended, answers-ended}
 use Rattle.engine.proofs.Executed.{held_all, seen_leaves}

@@ -1,7 +1,10 @@
 pub mod Batch
 pub mod Batches
+pub mod Calls
 pub mod Late
 pub mod Leaves
+pub mod Plays
 pub mod Refusal
+pub mod SoundTree
 pub mod State
 pub mod Steps

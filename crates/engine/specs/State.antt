@@ -1,28 +1,36 @@
--- What a store holds.
-use Rattle.std.specs.Prelude.{◌≡◌, ◌≤◌, None}
-use Rattle.keys.specs.Limits.{first_bad_field}
+-- What a store on a disk holds, and what is true of every one.
+use Rattle.std.specs.Prelude.{◌≡◌, ◌≤◌, Bool, false, IsTrue}
 use Rattle.keys.specs.declared.settings.Settings.{Settings}
-use Rattle.mapping.specs.Tree.{Tree, most_levels}
-use Rattle.mapping.specs.Proper.{AreLogsTrue, IsProper}
+use Rattle.mapping.specs.Tree.{Store}
 use Rattle.mapping.specs.TreeInMemory.{TreeInMemory, AreAllHome, tree_of}
+use Rattle.flush_log.specs.Disk.{View}
+use Rattle.flush_log.specs.Segments.{disk_size}
+use Rattle.recovery.specs.InStep.{IsStore, IsInStep}
+use Rattle.engine.specs.declared.store.Log.{Log}
 
--- the settings of a store, and its tree
-pub record State : Type 0 where
+-- the settings, what the definitions call a store, the disk, and whether a call of the disk has failed for a store that wrote
+pub record State (D : Type 0) : Type 0 where
   pub settings : Settings
-  pub tree : Tree
+  pub store : Store
+  pub disk : D
+  pub has_failed : Bool
 
--- what is true of every store: its settings are within their ranges, its tree is proper, what its log has is true, and it
--- has no more levels than a tree may have
-pub record IsSound (st : State) : Type 0 where
-  pub settings : first_bad_field st.settings ≡ None
-  pub proper : IsProper st.settings st.tree
-  pub logs : AreLogsTrue st.tree
-  pub height : st.tree.height ≤ most_levels
+-- What is true of every store, where disks are seen so: it is one as every store is, its disk has room for all segments, and on a
+-- disk that does as it should, as long as no call has failed, it is in step with what a read gives.
+pub record IsSound {D : Type 0} (view : D → View) (x : State D) : Type 0 where
+  pub is : IsStore x.settings x.store
+  pub room : disk_size x.settings ≤ (view x.disk).size
+  pub step : x.has_failed ≡ false → IsTrue (view x.disk).is_honest → IsInStep x.settings x.store (view x.disk).seen
 
--- a store as it is in memory, where all pages are at home
-abbrev pub state_of : Settings → TreeInMemory → State
-state_of s t = record { settings = s; tree = tree_of t }
+-- the store of a tree in memory and its log
+abbrev pub store_in : TreeInMemory → Log → Store
+store_in t log = record { tree = tree_of t; head = log.head; tail = log.tail; sequence = log.sequence }
 
-pub record IsSoundInMemory (s : Settings) (t : TreeInMemory) : Type 0 where
+-- and with all else that a store has in memory
+abbrev pub state_of : {D : Type 0} → Settings → TreeInMemory → Log → D → Bool → State D
+state_of s t log disk has_failed = record { settings = s; store = store_in t log; disk = disk; has_failed = has_failed }
+
+-- and sound, where all pages are at home
+pub record IsSoundStore {D : Type 0} (view : D → View) (s : Settings) (t : TreeInMemory) (log : Log) (disk : D) (has_failed : Bool) : Type 0 where
   pub home : AreAllHome t
-  pub sound : IsSound (state_of s t)
+  pub sound : IsSound view (state_of s t log disk has_failed)

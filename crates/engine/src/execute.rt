@@ -16,7 +16,7 @@ ghost use Rattle.climb_plan.specs.Plan.{planned_tree};
 ghost use Rattle.climb_plan.specs.Ready.{IsReady};
 ghost use Rattle.engine.specs.Batch.{IsLaterFault, fault_by};
 ghost use Rattle.engine.specs.Leaves.{answers, AreRoutesFor};
-ghost use Rattle.engine.specs.State.{IsSoundInMemory};
+ghost use Rattle.engine.specs.SoundTree.{IsSoundInMemory};
 
 use crate::leaves::{take_replies, undo_leaves, work_leaves};
 use climb_plan::Refused;

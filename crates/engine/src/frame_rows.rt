@@ -18,25 +18,26 @@ const SETTINGS: Settings = Settings {
     segments: 4,
 };
 
-const EMPTY_LEAF: &[u8] = b"\x01\0\0\0\x0c\0\0\0\0\0\0\0\0\0\0\0\0";
+pub(crate) const EMPTY_LEAF: &[u8] = b"\x01\0\0\0\x0c\0\0\0\0\0\0\0\0\0\0\0\0";
 
-const A_ABSENT: &[u8] = b"\x02\0\0\0\x0e\0\0\0\0\0\0\0\0\0\x01\0\x01a\0";
+pub(crate) const A_ABSENT: &[u8] = b"\x02\0\0\0\x0e\0\0\0\0\0\0\0\0\0\x01\0\x01a\0";
 
-const A_PUT: &[u8] = b"\x02\0\0\0\x11\0\0\0\0\0\0\0\0\0\x01\0\x01a\x01\0\x011";
+pub(crate) const A_PUT: &[u8] = b"\x02\0\0\0\x11\0\0\0\0\0\0\0\0\0\x01\0\x01a\x01\0\x011";
 
-const LEAF_0: &[u8] = b"\x01\0\0\0\x18\0\0\0\0\0\0\0\0\0\0\0\x02\0\x01a\0\x011\0\x01b\0\x012";
+pub(crate) const LEAF_0: &[u8] =
+    b"\x01\0\0\0\x18\0\0\0\0\0\0\0\0\0\0\0\x02\0\x01a\0\x011\0\x01b\0\x012";
 
-const LEAF_1: &[u8] =
+pub(crate) const LEAF_1: &[u8] =
     b"\x01\0\0\0\x1f\0\0\0\0\0\0\0\x01\0\x01c\0\x03\0\x01c\0\x013\0\x01d\0\x014\0\x01e\0\x015";
 
-const ROOT: &[u8] =
+pub(crate) const ROOT: &[u8] =
     b"\x03\0\0\0\x21\0\0\0\0\0\0\0\x02\0\0\0\x02\0\0\0\0\0\0\0\0\0\0\0\x01c\0\0\0\0\0\0\0\x01";
 
-const FREE_1: &[u8] = b"\x05\0\0\0\x08\0\0\0\0\0\0\0\x01";
+pub(crate) const FREE_1: &[u8] = b"\x05\0\0\0\x08\0\0\0\0\0\0\0\x01";
 
-const A_3: &[u8] = b"\x01\0\0\0\x12\0\0\0\0\0\0\0\0\0\0\0\x01\0\x01a\0\x013";
+pub(crate) const A_3: &[u8] = b"\x01\0\0\0\x12\0\0\0\0\0\0\0\0\0\0\0\x01\0\x01a\0\x013";
 
-const FOUR_PUT: &[u8] =
+pub(crate) const FOUR_PUT: &[u8] =
     b"\x02\0\0\0\x26\0\0\0\0\0\0\0\0\0\x04\0\x01a\x01\0\x011\0\x01b\x01\0\x012\0\x01c\x01\0\x013\0\x01d\x01\0\x014";
 
 // The keys of a list, each with the first byte of its value, or its page id, or `-` where it is absent.

@@ -11,8 +11,11 @@ mod frame_rows;
 pub mod laws;
 mod leaves;
 #[cfg(test)]
+mod log_rows;
+#[cfg(test)]
 mod parts;
 mod refusal;
+pub mod step;
 pub mod step_laws;
 pub mod store;
 #[cfg(test)]
@@ -20,6 +23,8 @@ mod tests;
 #[cfg(test)]
 mod trees_by_hand;
 
+pub use crate::step::{Answer, Step};
 pub use crate::store::Store;
+pub use flush_log::{Disk, DiskFault, MemDisk};
 pub use scan::Rows;
 pub use verify::Report;

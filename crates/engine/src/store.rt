@@ -1,67 +1,146 @@
-ghost use Rattle.std.specs.Prelude.{◌≡◌, [], IsOk, IfOk, IfErr, OnOk, OnErr, IsOkUnless, MatchOption, Err};
-ghost use Rattle.keys.specs.Limits.{first_bad_field};
-ghost use Rattle.keys.specs.declared.fault.Fault.TheVariants.{NoMemory};
+//! The store: a tree of pages and its log on a disk.
+ghost use Rattle.std.specs.Prelude.{◌≡◌, ◌≢◌, [], None, Ok, Err, IsTrue, IsOk, IfOk, IsErr, IfErr, OnOk, OnErr, MatchOption, true, false};
 ghost use Rattle.std.specs.Option.{option_copied};
 ghost use Rattle.keys.specs.Range.{rows};
 ghost use Rattle.keys.specs.Step.{replies_to, map_after_all};
+ghost use Rattle.keys.specs.declared.fault.Fault.TheVariants.{NoMemory, Device, Failed};
 ghost use Rattle.mapping.specs.Levels.{contents};
-ghost use Rattle.mapping.specs.Tree.{first_tree};
-ghost use Rattle.climb_plan.specs.Plan.{planned_tree};
-ghost use Rattle.engine.specs.Batch.{IsLaterFault};
+ghost use Rattle.climb_plan.specs.Plan.{plan};
+ghost use Rattle.mapping.specs.TreeInMemory.{new_in_memory};
+ghost use Rattle.flush_log.specs.Disk.{IsSettled, Kept};
+ghost use Rattle.flush_log.specs.NewStore.{disk_of_new};
+ghost use Rattle.recovery.specs.StoreOfDisk.{first_store};
+ghost use Rattle.engine.specs.Batch.{IsLaterFault, refusal_by};
+ghost use Rattle.engine.specs.Late.{IsLate, create_refusal, after_create};
 ghost use Rattle.engine.specs.Refusal.{refusal};
 ghost use Rattle.engine.specs.State.{IsSound};
+ghost use Rattle.engine.specs.Steps.{HasWords, batching};
+ghost use Rattle.engine.specs.Steps.Step.{Batch};
 ghost use Rattle.verify.specs.Report.{report};
 
+mod flush;
+mod play;
+
 use crate::execute::execute;
+use crate::laws::a_batch_stays_in_step;
 use crate::refusal::admit;
+use flush_log::Disk;
+use flush_log::commit::write_through;
+use flush_log::new_store::{first_slot, new_bytes};
+use flush_log::segments::disk_size;
 use keys::{Command, Fault, Reply, Settings};
 use mapping::laws::{
     nothing_is_found_exactly_in_a_proper_tree, the_first_tree_is_proper_and_empty,
 };
 use mapping::{Tree, new_tree};
+use recovery::laws::a_new_disk_stands_for_the_first_store;
 use scan::Rows;
 use std::alloc::Global;
 use std::marker::Model;
 use std::thread::Threads;
 use verify::Report;
 
-/// A store of keys and values: a tree of pages under a mapping table. Contracts see it as its settings and its tree; what is true of
-/// every store is its invariant.
+// Where the log begins and ends, and the number of its last commit.
+#[derive(Clone, Copy)]
+struct Log {
+    head: u64,
+    tail: u64,
+    sequence: u64,
+}
+
+/// A store of keys and values: a tree of pages under a mapping table, whose log is on a disk. Contracts see it as a `State`; what is
+/// true of every store is its invariant, whatever the disk does.
+///
+/// Once a call of the disk has failed in a flush, every later batch and flush answers `Fault::Failed`.
 #[derive(Drop)]
-pub struct Store {
+pub struct Store<D: Disk> {
     settings: Settings,
     alloc: Global,
     tree: Tree<Global>,
+    log: Log,
+    disk: D,
+    has_failed: bool,
 }
 
-impl Model for Store {
-    ghost use Rattle.engine.specs.State.{State, state_of, IsSoundInMemory};
+impl<D: Disk> Model for Store<D> {
+    ghost use Rattle.engine.specs.State.{State, state_of, IsSoundStore};
 
-    ghost Value = { State };
+    ghost Value = { State D };
 
-    ghost view = { λ s. state_of s.settings s.tree };
+    ghost view = { λ s. state_of s.settings s.tree s.log s.disk s.has_failed };
 
-    ghost invariant = { λ s. IsSoundInMemory s.settings s.tree };
+    ghost invariant = { λ s. IsSoundStore D.view s.settings s.tree s.log s.disk s.has_failed };
 }
 
-impl Store {
-    /// A store that holds nothing yet: one empty leaf. The first field of the settings that is out of range
-    /// is `Fault::BadSettings`, as `Settings::check` says; else there is only `Fault::NoMemory`.
-    pub fn create(alloc: Global, settings: Settings) -> Result<Store, Fault>
-        ensures refused { MatchOption (first_bad_field settings) (IsOkUnless result Fault.NoMemory) (λ field. result ≡ Err (Fault.BadSettings field)) }
-        ensures settings { IfOk result (λ store. store.settings ≡ settings) }
-        ensures tree { IfOk result (λ store. store.tree ≡ first_tree) }
-        ensures contents { IfOk result (λ store. contents store.tree ≡ []) }
-        ensures sound { IfOk result IsSound }
+// The log of a new store.
+fn first_log() -> Log
+    ensures { (result.head ≡ first_store.head) × (result.tail ≡ first_store.tail) × (result.sequence ≡ first_store.sequence) }
+{
+    let slot = first_slot();
+    Log {
+        head: slot.head,
+        tail: slot.tail,
+        sequence: slot.sequence,
+    }
+}
+
+// Makes the disk one of a new store, and gives the tree. Nothing is written before all else has answered.
+fn make<D: Disk>(alloc: Global, disk: &mut D, settings: &Settings) -> Result<Tree<Global>, Fault>
+    ensures refused { MatchOption (create_refusal settings.now (D.view disk.old).size)
+        (IfErr result (IsLate (D.failed disk.old) (D.failed disk.new)))
+        (λ fault. result ≡ Err fault) }
+    ensures kept { Kept (D.view disk.old) (D.view disk.new) }
+    ensures back { IfErr result (λ fault. fault ≢ Fault.Device → disk.new ≡ disk.old) }
+    ensures tree { IfOk result (λ tree. tree ≡ new_in_memory) }
+    ensures counted { OnOk result (D.failed disk.new ≡ D.failed disk.old) }
+    ensures bytes { IsTrue (D.view disk.old).is_honest →
+        OnOk result (((D.view disk.new).seen ≡ disk_of_new settings.now (D.view disk.old).seen) × IsSettled (D.view disk.new)) }
+{
+    settings.check()?;
+    if disk.len() < disk_size(settings) {
+        return Err(Fault::DiskTooSmall);
+    }
+    let tree = new_tree(alloc)?;
+    write_through(disk, 0, &new_bytes(settings))?;
+    Ok(tree)
+}
+
+impl<D: Disk> Store<D> {
+    /// Makes a store on a disk: it holds nothing yet, and its log is one empty leaf. What the disk held is lost.
+    ///
+    /// The first field of the settings that is out of range is `Fault::BadSettings`, as `Settings::check` says; then a disk that
+    /// has no room for all segments is `Fault::DiskTooSmall`; then there are `Fault::NoMemory`, and `Fault::Device` where a
+    /// call of the disk failed. After an `Err` the disk is handed back: as it was, but after `Fault::Device`.
+    pub fn create(alloc: Global, disk: D, settings: Settings) -> Result<Store<D>, (Fault, D)>
+        // Which fault: that of the settings and of the size, and else a late one.
+        ensures refused { MatchOption (create_refusal settings (D.view disk).size)
+            (IfErr result (λ e. IsLate (D.failed disk) (D.failed e.1) e.0))
+            (λ fault. IsErr result × IfErr result (λ e. e.0 ≡ fault)) }
+        ensures back { IfErr result (λ e. Kept (D.view disk) (D.view e.1) × (e.0 ≢ Fault.Device → e.1 ≡ disk)) }
+
+        ensures made { IfOk result (λ made. (made.settings ≡ settings) × (made.store ≡ first_store) × (made.has_failed ≡ false)) }
+        ensures contents { IfOk result (λ made. contents made.store.tree ≡ []) }
+        ensures kept { IfOk result (λ made. Kept (D.view disk) (D.view made.disk) × (D.failed made.disk ≡ D.failed disk)) }
+        // On an honest disk: these bytes, and settled.
+        ensures bytes { IsTrue (D.view disk).is_honest → IfOk result (λ made.
+            (after_create settings (D.view disk).seen ≡ Ok (made.store, (D.view made.disk).seen)) × IsSettled (D.view made.disk)) }
+        ensures sound { IfOk result (λ made. IsSound D.view made) }
     {
         // Only for the proof.
         the_first_tree_is_proper_and_empty();
-        settings.check()?;
-        Ok(Store {
-            settings,
-            alloc,
-            tree: new_tree(alloc)?,
-        })
+        a_new_disk_stands_for_the_first_store();
+        let mut disk = disk;
+        match make(alloc, &mut disk, &settings) {
+            Ok(tree) => Ok(Store {
+                settings,
+                alloc,
+                tree,
+                log: first_log(),
+                disk,
+                has_failed: false,
+            }),
+            Err(fault) => Err((fault, disk)),
+        }
     }
 
     /// The settings that the store was created with.
@@ -71,37 +150,58 @@ impl Store {
         self.settings
     }
 
-    /// Executes the commands in the order of their places, and returns the reply to each at its place. A batch of
-    /// more than 65,535 commands is `Fault::BatchTooLong`. Else the first command with a key that is too long is
-    /// `Fault::KeyTooLong`, and with a value that is too long `Fault::ValueTooLong`, with its place; a command's key
-    /// comes before its value. Else there is `Fault::NoMemory`, where memory was refused, and `Fault::Spent`, where the
+    /// The disk. What is written to it beside the store is not the store's.
+    pub fn disk(&self) -> &D
+        ensures { result.now ≡ self.now.disk }
+    {
+        &self.disk
+    }
+
+    /// Executes the commands in the order of their places, and returns the reply to each at its place. A store that has failed
+    /// is `Fault::Failed`. A batch of more than 65,535 commands is `Fault::BatchTooLong`. Else the first command with a key that
+    /// is too long is `Fault::KeyTooLong`, and with a value that is too long `Fault::ValueTooLong`, with its place; a command's
+    /// key comes before its value. Else there is `Fault::NoMemory`, where memory was refused, and `Fault::Spent`, where the
     /// tree would have more than 64 levels. After an `Err` the store is as it was, and the same batch can be called again.
+    ///
+    /// The disk gets nothing of it before the next flush.
     pub fn batch(
         &mut self,
         rt: &(impl Threads + Sync),
         commands: &[Command<Global>],
     ) -> Result<Vec<Reply<Global>>, Fault>
         // The replies are those of an ordered map; the pages, the root, the height and what the log has are the plan's.
-        ensures replies { IfOk result (λ replies. replies.items ≡ replies_to (contents self.old.tree) commands.now) }
-        ensures tree { OnOk result (self.new.tree ≡ planned_tree self.old.settings self.old.tree commands.now) }
-        ensures contents { OnOk result (contents self.new.tree ≡ map_after_all (contents self.old.tree) commands.now) }
+        ensures replies { IfOk result (λ replies. replies.items ≡ replies_to (contents self.old.store.tree) commands.now) }
+        ensures store { OnOk result (self.new.store ≡ plan self.old.settings self.old.store commands.now) }
+        ensures contents { OnOk result (contents self.new.store.tree ≡ map_after_all (contents self.old.store.tree) commands.now) }
+        ensures rest { (self.new.settings ≡ self.old.settings) × (self.new.disk ≡ self.old.disk) × (self.new.has_failed ≡ self.old.has_failed) }
 
         // Which fault, and that there is no other but for want of memory and for the height.
-        ensures refused { MatchOption (refusal self.old.settings commands.now) (IfErr result (IsLaterFault self.old.settings self.old.tree commands.now)) (λ fault. result ≡ Err fault) }
+        ensures failed { self.old.has_failed ≡ true → result ≡ Err Fault.Failed }
+        ensures refused { self.old.has_failed ≡ false → MatchOption (refusal self.old.settings commands.now)
+            (IfErr result (IsLaterFault self.old.settings self.old.store.tree commands.now)) (λ fault. result ≡ Err fault) }
         ensures unchanged { OnErr result (self.new ≡ self.old) }
-        ensures settings { self.new.settings ≡ self.old.settings }
+        // One that is done is refused by nothing, and its root's page id has 64 bits.
+        ensures allowed { OnOk result ((refusal_by self.old.settings self.old.store.tree commands.now ≡ None)
+            × HasWords (batching self.old.settings) self.old.settings self.old.store.tree (Batch commands.now)) }
 
         // The store was sound, and is so again.
-        ensures sound { IsSound self.old × IsSound self.new }
+        ensures sound { IsSound D.view self.old × IsSound D.view self.new }
     {
+        // Only for the proof.
+        a_batch_stays_in_step::<Global>();
+        if self.has_failed {
+            return Err(Fault::Failed);
+        }
         admit(&self.settings, commands)?;
-        execute(rt, self.alloc, &self.settings, &mut self.tree, commands)
+        let replies = execute(rt, self.alloc, &self.settings, &mut self.tree, commands)?;
+        let _of_64_bits = self.tree.root();
+        Ok(replies)
     }
 
     /// Looks at every page, whether the tree is proper. It always is, so the answer is the report: how many pages the tree
     /// has, how many levels, and how many pairs. It is refused only for want of memory, with `Fault::NoMemory`.
     pub fn verify(&self, rt: &(impl Threads + Sync)) -> Result<Report, Fault>
-        ensures ok { IfOk result (λ told. told ≡ report self.now.tree) }
+        ensures ok { IfOk result (λ told. told ≡ report self.now.store.tree) }
         ensures err { IfErr result (λ fault. fault ≡ NoMemory) }
     {
         // Only for the proof.
@@ -110,7 +210,8 @@ impl Store {
     }
 
     /// The first `limit` pairs whose keys are `lo` or above, and below `hi` where it is given, in key order. They are lent out
-    /// of the pages, and neither this nor the rows take memory. The bounds may be of any length.
+    /// of the pages, and neither this nor the rows take memory. The bounds may be of any length. A store that has failed answers
+    /// too.
     pub fn range<'a>(
         &'a self,
         lo: &'a [u8],
@@ -118,14 +219,22 @@ impl Store {
         limit: u32,
     ) -> Result<Rows<'a>, Fault>
         ensures succeeds { IsOk result }
-        ensures rows { IfOk result (λ left. left ≡ rows lo.now (option_copied hi.entry) limit (contents self.now.tree)) }
+        ensures rows { IfOk result (λ left. left ≡ rows lo.now (option_copied hi.entry) limit (contents self.now.store.tree)) }
     {
         Ok(Rows::new(self.alloc, &self.tree, lo, hi, limit))
+    }
+
+    /// Gives the store up, and its disk back.
+    pub fn close(self) -> D
+        ensures { result ≡ self.disk }
+    {
+        let Store { disk, .. } = self;
+        disk
     }
 }
 
 #[cfg(test)]
-impl Store {
+impl<D: Disk> Store<D> {
     // The tree, for tests to look at.
     pub(crate) fn tree(&self) -> &Tree<Global> {
         &self.tree

@@ -2,6 +2,8 @@
 //! too, that the longest batch is answered, and that many batches answer as a map of std does.
 use crate::store::Store;
 use delta_chain::{Chain, Pairs};
+use flush_log::MemDisk;
+use flush_log::segments::disk_size;
 use index_page::Page;
 use keys::{Command, Fault, Key, Pid, Reply, Settings, Value};
 use mapping::{Logged, Tree};
@@ -10,7 +12,7 @@ use std::alloc::{AllocError, Global};
 use std::collections::BTreeMap;
 use std::thread::Threads;
 
-const S: Settings = Settings {
+pub(crate) const S: Settings = Settings {
     fan: 4,
     chain: 2,
     max_key: 16,
@@ -28,7 +30,7 @@ const T: Settings = Settings {
     segments: 4,
 };
 
-// An example: its batches, their answers and the tree afterwards. A command is a word: `k=v` puts, `-k` deletes, `k` looks up, and
+// An example: its batches, their answers and the tree afterwards. A command is a word: `k=v` puts, `+k=v` adds, `-k` deletes, `k` looks up, and
 // `[lo,hi,limit` scans, with `*` for no upper bound.
 struct Row {
     name: &'static str,
@@ -37,9 +39,10 @@ struct Row {
     outcome: &'static str,
 }
 
-const FIVE_PUTS: &str = "a=1 b=2 c=3 d=4 e=5";
+pub(crate) const FIVE_PUTS: &str = "a=1 b=2 c=3 d=4 e=5";
 
-const SEVENTEEN_PUTS: &str = "a=1 b=1 c=1 d=1 e=1 f=1 g=1 h=1 i=1 j=1 k=1 l=1 m=1 n=1 o=1 p=1 q=1";
+pub(crate) const SEVENTEEN_PUTS: &str =
+    "a=1 b=1 c=1 d=1 e=1 f=1 g=1 h=1 i=1 j=1 k=1 l=1 m=1 n=1 o=1 p=1 q=1";
 
 const ROWS: [Row; 15] = [
     Row {
@@ -213,6 +216,16 @@ const ROWS: [Row; 15] = [
     },
 ];
 
+// A new store, on a disk in memory that has no byte more than it needs.
+pub(crate) fn new_store(
+    alloc: Global,
+    settings: Settings,
+) -> Result<Store<MemDisk<Global>>, Fault> {
+    settings.check()?;
+    let disk = MemDisk::new(alloc, disk_size(&settings) as usize)?;
+    Store::create(alloc, disk, settings).map_err(|(fault, _disk)| fault)
+}
+
 // More page ids than any of the rows uses.
 const MANY_PIDS: u64 = 12;
 
@@ -238,7 +251,10 @@ fn command(alloc: Global, word: &str) -> Result<Command<Global>, AllocError> {
     }
     if let Some((name, value)) = word.split_once('=') {
         let value = Value::from_bytes(alloc, value.as_bytes())?;
-        return Ok(Command::Put(key(alloc, name)?, value));
+        return Ok(match name.strip_prefix('+') {
+            Some(name) => Command::Add(key(alloc, name)?, value),
+            None => Command::Put(key(alloc, name)?, value),
+        });
     }
     match word.strip_prefix('-') {
         Some(name) => Ok(Command::Del(key(alloc, name)?)),
@@ -246,7 +262,7 @@ fn command(alloc: Global, word: &str) -> Result<Command<Global>, AllocError> {
     }
 }
 
-fn commands(alloc: Global, batch: &str) -> Result<Vec<Command<Global>>, AllocError> {
+pub(crate) fn commands(alloc: Global, batch: &str) -> Result<Vec<Command<Global>>, AllocError> {
     let mut commands = Vec::new(alloc);
     for word in batch.split(' ') {
         commands.push(command(alloc, word)?)?;
@@ -255,7 +271,7 @@ fn commands(alloc: Global, batch: &str) -> Result<Vec<Command<Global>>, AllocErr
 }
 
 // The reply's letter; of a value the first byte, and of rows a bracket.
-fn letter(reply: &Reply<Global>) -> char {
+pub(crate) fn letter(reply: &Reply<Global>) -> char {
     match reply {
         Reply::Value(value) => match value.as_bytes().first() {
             Some(byte) => char::from(*byte),
@@ -353,7 +369,11 @@ fn write_page(
 }
 
 // The root, the height, and each page by rising page id.
-fn write_tree(alloc: Global, text: &mut String, tree: &Tree<Global>) -> Result<(), AllocError> {
+pub(crate) fn write_tree(
+    alloc: Global,
+    text: &mut String,
+    tree: &Tree<Global>,
+) -> Result<(), AllocError> {
     write!(text, "root {}, height {}\n", tree.root().0, tree.height())?;
     for pid in 0..MANY_PIDS {
         if let Some(page) = tree.page(Pid(pid)) {
@@ -366,7 +386,7 @@ fn write_tree(alloc: Global, text: &mut String, tree: &Tree<Global>) -> Result<(
 // What the store answers to the batch, and where memory is refused, to the same batch again.
 fn answer(
     rt: &(impl Threads + Sync),
-    store: &mut Store,
+    store: &mut Store<MemDisk<Global>>,
     batch: &[Command<Global>],
 ) -> Result<Vec<Reply<Global>>, Fault> {
     match store.batch(rt, batch) {
@@ -387,18 +407,24 @@ fn write_reply(text: &mut String, reply: &Reply<Global>) -> Result<(), AllocErro
     text.push(']')
 }
 
+// What the replies are.
+pub(crate) fn write_replies(
+    text: &mut String,
+    replies: &[Reply<Global>],
+) -> Result<(), AllocError> {
+    for reply in replies {
+        write_reply(text, reply)?;
+    }
+    Ok(())
+}
+
 // What the replies are, or the fault.
 fn write_answer(
     text: &mut String,
     answer: Result<Vec<Reply<Global>>, Fault>,
 ) -> Result<(), AllocError> {
     match answer {
-        Ok(replies) => {
-            for reply in &replies {
-                write_reply(text, reply)?;
-            }
-            Ok(())
-        }
+        Ok(replies) => write_replies(text, &replies),
         Err(fault) => write!(text, "{fault}"),
     }
 }
@@ -408,7 +434,7 @@ fn write_answers(
     rt: &(impl Threads + Sync),
     alloc: Global,
     text: &mut String,
-    store: &mut Store,
+    store: &mut Store<MemDisk<Global>>,
     batches: &[&str],
 ) -> Result<(), AllocError> {
     for batch in batches {
@@ -421,7 +447,7 @@ fn write_answers(
 
 // Whether the row's batches, on a new store, are answered as told and leave the tree that is told.
 fn comes_out(rt: &(impl Threads + Sync), alloc: Global, row: &Row) -> Result<bool, Fault> {
-    let mut store = Store::create(alloc, row.settings)?;
+    let mut store = new_store(alloc, row.settings)?;
     let mut text = String::new(alloc);
     write_answers(rt, alloc, &mut text, &mut store, row.batches)?;
     write_tree(alloc, &mut text, store.tree())?;
@@ -459,7 +485,7 @@ fn the_rows_come_out(rt: HostRuntime) {
 }
 
 // The keys and the values of rows.
-fn write_rows(text: &mut String, rows: Rows<'_>) -> Result<(), AllocError> {
+pub(crate) fn write_rows(text: &mut String, rows: Rows<'_>) -> Result<(), AllocError> {
     for (key, value) in rows {
         write_row(text, key, value)?;
     }
@@ -468,7 +494,7 @@ fn write_rows(text: &mut String, rows: Rows<'_>) -> Result<(), AllocError> {
 
 // Ranges of the map that the batches of row 8 leave.
 fn write_ranges(rt: &(impl Threads + Sync), alloc: Global, text: &mut String) -> Result<(), Fault> {
-    let mut store = Store::create(alloc, S)?;
+    let mut store = new_store(alloc, S)?;
     for batch in [FIVE_PUTS, "c -c c ca=9 ca b"] {
         let batch = commands(alloc, batch)?;
         store.batch(rt, &batch)?;
@@ -522,7 +548,7 @@ fn pages_and_entries(tree: &Tree<Global>) -> (usize, usize) {
 }
 
 // Whether the tree of row 18 is in the store.
-fn is_row_18(store: &Store) -> bool {
+fn is_row_18(store: &Store<MemDisk<Global>>) -> bool {
     let tree = store.tree();
     let (pages, entries) = pages_and_entries(tree);
     let first = match tree.page(Pid(0)) {
@@ -540,18 +566,32 @@ fn is_row_18(store: &Store) -> bool {
 fn count_replies(
     rt: &(impl Threads + Sync),
     alloc: Global,
-    store: &mut Store,
+    store: &mut Store<MemDisk<Global>>,
     count: u32,
 ) -> Result<usize, Fault> {
     Ok(store.batch(rt, &many_puts(alloc, count)?)?.len())
 }
 
-// Whether the longest batch is answered and leaves the tree of row 18, and one of one command more is refused.
+// Whether a flush is refused, as its pages find no room, and the disk stays as it was.
+fn is_full(alloc: Global, store: &mut Store<MemDisk<Global>>) -> Result<bool, AllocError> {
+    let before = store.disk().bytes().to_vec(alloc)?;
+    let flushed = store.flush();
+    Ok(flushed == Err(Fault::Full) && store.disk().bytes() == before.as_slice())
+}
+
+// Whether the longest batch is answered and leaves the tree of row 18, for which the log has no room, and one of one command more is
+// refused.
 fn is_longest_batch_answered(rt: &(impl Threads + Sync), alloc: Global) -> Result<bool, Fault> {
-    let mut store = Store::create(alloc, S)?;
+    let mut store = new_store(alloc, S)?;
     let longest = count_replies(rt, alloc, &mut store, 65_535)?;
     let longer = count_replies(rt, alloc, &mut store, 65_536);
-    Ok(longest == 65_535 && matches!(longer, Err(Fault::BatchTooLong)) && is_row_18(&store))
+    let is_full = is_full(alloc, &mut store)?;
+    Ok(
+        longest == 65_535
+            && matches!(longer, Err(Fault::BatchTooLong))
+            && is_full
+            && is_row_18(&store),
+    )
 }
 
 #[test]
@@ -663,7 +703,7 @@ fn draw_batch(
 fn is_answered_alike(
     rt: &(impl Threads + Sync),
     alloc: Global,
-    store: &mut Store,
+    store: &mut Store<MemDisk<Global>>,
     map: &mut BTreeMap<u8, u8, Global>,
     state: &mut u64,
     puts: u64,
@@ -687,7 +727,7 @@ fn are_letters(
 // Whether eighty batches are answered alike, and after each the tree is proper and has as many pairs as the map. It grows through
 // five, shrinks through five, and so on.
 fn are_answered_alike(rt: &(impl Threads + Sync), alloc: Global) -> Result<bool, Fault> {
-    let mut store = Store::create(alloc, S)?;
+    let mut store = new_store(alloc, S)?;
     let mut map = BTreeMap::new(alloc);
     let mut state = 20_261_122;
     let mut alike = true;
@@ -732,7 +772,7 @@ fn greatest_batch(alloc: Global) -> Result<Vec<Command<Global>>, AllocError> {
 
 // How many bytes the store finds at the longest key, once another key was put seventeen times, a batch each.
 fn bytes_found(rt: &(impl Threads + Sync), alloc: Global) -> Result<usize, Fault> {
-    let mut store = Store::create(alloc, GREATEST)?;
+    let mut store = new_store(alloc, GREATEST)?;
     store.batch(rt, &greatest_batch(alloc)?)?;
     for _batch in 0..17 {
         store.batch(rt, &commands(alloc, "a=1")?)?;

@@ -34,7 +34,6 @@ pub mod SlotLaws
 pub mod SlotReading
 mod SlotRows
 pub mod SlotRuns
-pub mod SpanRuns
 pub mod StandingLaws
 pub mod StandsLaws
 pub mod TailLaws

@@ -1,5 +1,5 @@
 -- What may be left while a slot is written behind its gate.
-use Rattle.std.proofs.Common.{◌≡◌, ◌⊎◌, inl, inr, ⊎_elim, ℕ, zero, suc, ◌+◌, ◌<◌, ◌≤◌, false, ◌==◌, List, [], ◌∷◌, length, get_or, take, drop, refl, sym, ap, subst, ◌∙◌, arith, eqb-true}
+use Rattle.std.proofs.Common.{◌≡◌, ◌⊎◌, inl, inr, ⊎_elim, ℕ, zero, suc, ◌+◌, ◌*◌, ◌<◌, ◌≤◌, false, ◌==◌, List, [], ◌∷◌, length, get_or, take, drop, refl, sym, ap, subst, ◌∙◌, arith, eqb-true}
 use Rattle.std.proofs.lemmas.Bool.{cases_Bool}
 use Rattle.keys.specs.declared.settings.Settings.{Settings}
 use Rattle.flush_log.specs.Overlay.{overlay, IsBeside, AgreeAt}
@@ -66,6 +66,10 @@ module _ (t : Slot) (file : List ℕ) (long : 512 ≤ length file) where
         ∙ opened)
     | inr shut ↦ inl (shut, agree_then (IsBeside place 64) file staged c (of_body file staged staged_same) (of_gate staged c torn))
   ]
+
+-- a disk that has room for all segments has room for the slots
+pub slots_within : (s : Settings) (size : ℕ) → 512 + s.segments * s.seg_size ≤ size → 512 ≤ size
+slots_within s size room = omega (arith, room)
 
 pub has_slots : (v : View) → Lawful v → 512 ≤ v.size → 512 ≤ length v.seen
 has_slots v law long = let whole = law.whole in omega (arith, whole, long)

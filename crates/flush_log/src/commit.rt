@@ -1,49 +1,47 @@
-//! The commit: the calls that make spans of bytes and a slot the store's, in an order in which a crash leaves all that was
-//! before, or all that is committed.
-ghost use Rattle.std.specs.Prelude.{◌≡◌, ◌⊎◌, ◌+◌, ◌∷◌, [], ◌≤◌, false, IsTrue, length, None, OnOk};
+//! The commit: the calls that make a text and a slot the store's, in an order in which a crash leaves all that was before, or all
+//! that is committed.
+ghost use Rattle.std.specs.Prelude.{◌≡◌, ◌⊎◌, ◌+◌, ◌≤◌, List, false, IsTrue, length, None, IfOk, OnOk};
 ghost use Rattle.keys.specs.Limits.{first_bad_field};
-ghost use Rattle.flush_log.specs.Overlay.{overlay, AgreeAt};
-ghost use Rattle.flush_log.specs.Disk.{IsSettled, Torn, Kept, Leaves, LeavesOnly, CountsFailure};
-ghost use Rattle.flush_log.specs.Segments.{segments_begin};
-ghost use Rattle.flush_log.specs.Layout.{with_spans};
-ghost use Rattle.flush_log.specs.Slot.{slot_place, slot_bytes, is_open as is_open_on};
-ghost use Rattle.flush_log.specs.Commit.{seen_after, AreWithin, close_gate, IsClosing, committed, IsBehindGate, IsBesideSpans, IsUncommitted};
+ghost use Rattle.frame_codec.specs.Frame.{Frame};
+ghost use Rattle.flush_log.specs.Overlay.{overlay};
+ghost use Rattle.flush_log.specs.Disk.{IsSettled, Torn, Kept, Same, Leaves, LeavesOnly, CountsFailure};
+ghost use Rattle.flush_log.specs.Images.{frames_in, AreOfText, FitSegments};
+ghost use Rattle.flush_log.specs.Segments.{segments_begin, disk_size};
+ghost use Rattle.flush_log.specs.Layout.{spans, tail_after, with_spans};
+ghost use Rattle.flush_log.specs.Slot.{greatest, slot_place, slot_bytes, is_open as is_open_on};
+ghost use Rattle.flush_log.specs.Commit.{seen_after, AreWithin, close_gate, IsClosing, committed, IsBehindGate, IsUncommitted};
 
 use crate::disk::{Disk, DiskFault};
-use crate::segments::place_of_segment;
-use crate::slot::{Slot, slot_bytes};
+use crate::image::Image;
+use crate::slot::{SLOT_SIZE, Slot, slot_bytes};
+use crate::write::write_text;
 use keys::Settings;
-use std::alloc::Allocator;
-use std::marker::Model;
 
-/// Bytes for a place in a segment, which one call writes. Contracts see it as the definitions' span.
-#[derive(Drop)]
-pub struct WrittenSpan<A: Allocator> {
-    /// The number of the segment.
-    pub segment: u64,
-    /// The place in the segment, in bytes.
-    pub offset: u32,
-    /// What is to stand there.
-    pub bytes: Vec<u8, A>,
-}
-
-impl<A: Allocator> Model for WrittenSpan<A> {
-    ghost use Rattle.flush_log.specs.Layout.{Span};
-
-    ghost Value = { Span };
-
-    ghost view = { λ r. record { segment = r.segment; offset = r.offset; bytes = r.bytes.items } };
-}
+// Where the slots begin on a disk.
+const SLOTS_BEGIN: u64 = 128;
 
 // Where the slot for a sequence number stands on a disk.
 fn slot_place(sequence: u64) -> u64
     ensures { result ≡ slot_place sequence }
 {
-    128 + 64 * (sequence % 2)
+    SLOTS_BEGIN + SLOT_SIZE as u64 * (sequence % 2)
 }
 
-// One write, made to last.
-fn write_through<D: Disk>(disk: &mut D, at: u64, bytes: &[u8]) -> Result<(), DiskFault>
+/// Whether the gate of the slot for this sequence number stands open.
+pub fn is_gate_open<D: Disk>(disk: &mut D, sequence: u64) -> Result<bool, DiskFault>
+    requires { segments_begin ≤ (D.view disk.old).size }
+    ensures kept { Kept (D.view disk.old) (D.view disk.new) }
+    ensures failed { CountsFailure result (D.failed disk.old) (D.failed disk.new) }
+    ensures gate { IsTrue (D.view disk.old).is_honest → IfOk result (λ is_open. is_open ≡ is_open_on sequence (D.view disk.old).seen) }
+    ensures same { IsTrue (D.view disk.old).is_honest → Same (D.view disk.old) (D.view disk.new) }
+{
+    let mut gate = [0];
+    disk.read_at(slot_place(sequence), &mut gate)?;
+    Ok(gate[0] == 1)
+}
+
+/// One write, made to last.
+pub fn write_through<D: Disk>(disk: &mut D, at: u64, bytes: &[u8]) -> Result<(), DiskFault>
     requires { at + length bytes.now ≤ (D.view disk.old).size }
     ensures kept { Kept (D.view disk.old) (D.view disk.new) }
     ensures failed { CountsFailure result (D.failed disk.old) (D.failed disk.new) }
@@ -74,52 +72,6 @@ pub fn close_gate<D: Disk>(disk: &mut D, sequence: u64, is_open: bool) -> Result
     Ok(())
 }
 
-// One write for each span.
-fn write_spans<D: Disk, A: Allocator>(
-    disk: &mut D,
-    settings: &Settings,
-    spans: &[WrittenSpan<A>],
-) -> Result<(), DiskFault>
-    requires good { first_bad_field settings.now ≡ None }
-    requires within { AreWithin settings.now (D.view disk.old).size spans.now }
-    ensures kept { Kept (D.view disk.old) (D.view disk.new) }
-    ensures failed { CountsFailure result (D.failed disk.old) (D.failed disk.new) }
-    ensures written { IsTrue (D.view disk.old).is_honest →
-        OnOk result ((D.view disk.new).seen ≡ with_spans settings.now (D.view disk.old).seen spans.now) }
-    ensures crash { IsTrue (D.view disk.old).is_honest →
-        Leaves (D.view disk.old) (D.view disk.new) (AgreeAt (IsBesideSpans settings.now spans.now)) }
-{
-    for span in spans {
-        let at = place_of_segment(settings, span.segment) + u64::from(span.offset);
-        disk.write_at(at, &span.bytes)?;
-    }
-    Ok(())
-}
-
-// The first half of a commit: the gate is closed, and the spans are written and made to last.
-fn prepare<D: Disk, A: Allocator>(
-    disk: &mut D,
-    settings: &Settings,
-    sequence: u64,
-    is_open: bool,
-    spans: &[WrittenSpan<A>],
-) -> Result<(), DiskFault>
-    requires good { first_bad_field settings.now ≡ None }
-    requires long { segments_begin ≤ (D.view disk.old).size }
-    requires within { AreWithin settings.now (D.view disk.old).size spans.now }
-    ensures kept { Kept (D.view disk.old) (D.view disk.new) }
-    ensures failed { CountsFailure result (D.failed disk.old) (D.failed disk.new) }
-    ensures written { IsTrue (D.view disk.old).is_honest → OnOk result ((D.view disk.new).seen
-        ≡ with_spans settings.now (seen_after (close_gate is_open (slot_place sequence)) (D.view disk.old).seen) spans.now) }
-    ensures settled { IsTrue (D.view disk.old).is_honest → OnOk result (IsSettled (D.view disk.new)) }
-    ensures crash { IsSettled (D.view disk.old) → is_open ≡ is_open_on sequence (D.view disk.old).seen →
-        LeavesOnly (D.view disk.old) (D.view disk.new) (IsUncommitted settings.now sequence spans.now (D.view disk.old).seen) }
-{
-    close_gate(disk, sequence, is_open)?;
-    write_spans(disk, settings, spans)?;
-    disk.sync()
-}
-
 /// Writes a slot behind its closed gate, and then opens the gate. A crash leaves the slot closed, or all of it.
 pub fn write_slot<D: Disk>(disk: &mut D, slot: &Slot) -> Result<(), DiskFault>
     requires { segments_begin ≤ (D.view disk.old).size }
@@ -138,30 +90,71 @@ pub fn write_slot<D: Disk>(disk: &mut D, slot: &Slot) -> Result<(), DiskFault>
     write_through(disk, gate, &bytes[..1])
 }
 
-/// Writes spans and makes a slot the store's. `is_open` says whether the gate of the slot's place stands open. Where a call
-/// fails the rest is not made.
-///
-/// On a settled disk a crash at any moment since the call began leaves what was before, or all that is committed.
-pub fn write_commit<D: Disk, A: Allocator>(
+// The first half of a flush: the gate is closed, and the text is written and made to last.
+fn write_hidden<D: Disk>(
     disk: &mut D,
     settings: &Settings,
+    tail: u64,
+    images: &[Image],
+    sequence: u64,
     is_open: bool,
-    spans: &[WrittenSpan<A>],
-    slot: &Slot,
+    buffer: &mut [u8],
 ) -> Result<(), DiskFault>
-    requires good { first_bad_field settings.now ≡ None }
-    requires long { segments_begin ≤ (D.view disk.old).size }
-    requires within { AreWithin settings.now (D.view disk.old).size spans.now }
+    requires checked { first_bad_field settings.now ≡ None }
+    requires within { disk_size settings.now ≤ (D.view disk.old).size }
+    requires buffer { settings.now.seg_size ≤ length buffer.old }
+    requires fits { FitSegments settings.now (frames_in images.now) }
+    requires room { (text : List Frame) × AreOfText images.now text × (tail_after settings.now tail text ≤ greatest) }
     ensures kept { Kept (D.view disk.old) (D.view disk.new) }
     ensures failed { CountsFailure result (D.failed disk.old) (D.failed disk.new) }
-    ensures written { IsTrue (D.view disk.old).is_honest →
-        OnOk result ((D.view disk.new).seen ≡ committed settings.now (D.view disk.old).seen spans.now slot.now) }
+    ensures written { (text : List Frame) → AreOfText images.now text → 1 ≤ length text → IsTrue (D.view disk.old).is_honest →
+        OnOk result ((D.view disk.new).seen ≡ with_spans settings.now
+            (seen_after (close_gate is_open (slot_place sequence)) (D.view disk.old).seen) (spans settings.now tail text)) }
     ensures settled { IsTrue (D.view disk.old).is_honest → OnOk result (IsSettled (D.view disk.new)) }
-    ensures crash { IsSettled (D.view disk.old) → is_open ≡ is_open_on slot.now.sequence (D.view disk.old).seen →
+    ensures crash { (text : List Frame) → AreOfText images.now text → 1 ≤ length text →
+        AreWithin settings.now (disk_size settings.now) (spans settings.now tail text) →
+        IsSettled (D.view disk.old) → is_open ≡ is_open_on sequence (D.view disk.old).seen →
         LeavesOnly (D.view disk.old) (D.view disk.new)
-        (λ c. IsUncommitted settings.now slot.now.sequence spans.now (D.view disk.old).seen c
-        ⊎ (c ≡ committed settings.now (D.view disk.old).seen spans.now slot.now)) }
+        (IsUncommitted settings.now sequence (spans settings.now tail text) (D.view disk.old).seen) }
 {
-    prepare(disk, settings, slot.sequence, is_open, spans)?;
+    close_gate(disk, sequence, is_open)?;
+    write_text(disk, settings, tail, images, buffer)?;
+    disk.sync()
+}
+
+/// Writes the frames of a text behind the tail of a log, and then makes a slot the store's: the slot's gate is closed where it
+/// stands open, the frames are written and made to last, then the slot's other bytes, and then its gate is opened. `is_open` says
+/// whether the gate stands open; `buffer` is where a segment's bytes are gathered. Where a call fails the rest is not made.
+///
+/// On a settled disk a crash at any moment since the call began leaves what was before, or all that is committed. A text that
+/// finds room lies within the disk.
+pub fn write_flush<D: Disk>(
+    disk: &mut D,
+    settings: &Settings,
+    tail: u64,
+    images: &[Image],
+    slot: &Slot,
+    is_open: bool,
+    buffer: &mut [u8],
+) -> Result<(), DiskFault>
+    requires checked { first_bad_field settings.now ≡ None }
+    requires within { disk_size settings.now ≤ (D.view disk.old).size }
+    requires buffer { settings.now.seg_size ≤ length buffer.old }
+    requires fits { FitSegments settings.now (frames_in images.now) }
+    requires room { (text : List Frame) × AreOfText images.now text × (tail_after settings.now tail text ≤ greatest) }
+    ensures kept { Kept (D.view disk.old) (D.view disk.new) }
+    ensures failed { CountsFailure result (D.failed disk.old) (D.failed disk.new) }
+    ensures written { (text : List Frame) → AreOfText images.now text → 1 ≤ length text →
+        AreWithin settings.now (disk_size settings.now) (spans settings.now tail text) → IsTrue (D.view disk.old).is_honest →
+        OnOk result ((D.view disk.new).seen ≡ committed settings.now (D.view disk.old).seen (spans settings.now tail text) slot.now) }
+    ensures settled { IsTrue (D.view disk.old).is_honest → OnOk result (IsSettled (D.view disk.new)) }
+    ensures crash { (text : List Frame) → AreOfText images.now text → 1 ≤ length text →
+        AreWithin settings.now (disk_size settings.now) (spans settings.now tail text) →
+        IsSettled (D.view disk.old) → is_open ≡ is_open_on slot.now.sequence (D.view disk.old).seen →
+        LeavesOnly (D.view disk.old) (D.view disk.new)
+        (λ c. IsUncommitted settings.now slot.now.sequence (spans settings.now tail text) (D.view disk.old).seen c
+        ⊎ (c ≡ committed settings.now (D.view disk.old).seen (spans settings.now tail text) slot.now)) }
+{
+    write_hidden(disk, settings, tail, images, slot.sequence, is_open, buffer)?;
     write_slot(disk, slot)
 }

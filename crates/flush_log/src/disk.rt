@@ -1,11 +1,22 @@
 //! What the log asks of a disk. `specs/Disk.antt` has what a disk is at one moment, and what a crash leaves of it.
 ghost use Rattle.std.specs.Prelude.{◌≡◌, ℕ, ◌+◌, ◌≤◌, IsTrue, length, take, drop, OnOk};
+ghost use Rattle.keys.specs.declared.fault.Fault.TheVariants.{Device};
 ghost use Rattle.flush_log.specs.Overlay.{overlay};
 ghost use Rattle.flush_log.specs.Disk.{View, Lawful, IsSettled, Torn, Kept, Same, Leaves, CountsFailure};
+
+use keys::Fault;
 
 /// A call of a disk failed.
 #[derive(Clone, Copy, Debug, PartialEq, Eq)]
 pub struct DiskFault;
+
+impl From<DiskFault> for Fault {
+    ghost from_gives = { λ _ fault. fault ≡ Device };
+
+    fn from(_failed: DiskFault) -> Fault {
+        Fault::Device
+    }
+}
 
 /// A disk of a fixed length. Its calls want memory, time and luck, so each may fail.
 ///

@@ -23,6 +23,6 @@ pub mod slot_laws;
 pub mod text;
 pub mod write;
 
-pub use crate::commit::{WrittenSpan, write_commit};
+pub use crate::commit::{is_gate_open, write_flush};
 pub use crate::disk::{Disk, DiskFault};
 pub use crate::mem_disk::MemDisk;

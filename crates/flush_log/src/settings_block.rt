@@ -1,4 +1,4 @@
-//! The settings block, with which a disk begins, and what else a new store's first bytes are.
+//! The settings block, with which a disk begins.
 ghost use Rattle.std.specs.Prelude.{◌≡◌, length, None};
 ghost use Rattle.keys.specs.Limits.{first_bad_field};
 ghost use Rattle.flush_log.specs.SettingsBlock.{settings_block_size, settings_block, settings_in, read_settings};

@@ -15,6 +15,9 @@ use std::marker::Model;
 /// The greatest position of a log, and the greatest sequence number.
 pub const GREATEST: u64 = 1 << 62;
 
+/// How many bytes a slot has.
+pub const SLOT_SIZE: usize = 64;
+
 /// What a slot says of the store. Contracts see it as the definitions' slot.
 #[derive(Clone, Copy, Debug, PartialEq, Eq)]
 pub struct Slot {
@@ -41,10 +44,10 @@ impl Model for Slot {
 }
 
 /// The bytes of the open slot that says this.
-pub fn slot_bytes(slot: &Slot) -> [u8; 64]
+pub fn slot_bytes(slot: &Slot) -> [u8; SLOT_SIZE]
     ensures { result ≡ slot_bytes slot.now }
 {
-    let mut bytes = [0; 64];
+    let mut bytes = [0; SLOT_SIZE];
     bytes[0] = 1;
     BigEndian::write_u64(&mut bytes[8..16], slot.sequence);
     BigEndian::write_u64(&mut bytes[16..24], slot.head);

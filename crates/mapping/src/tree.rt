@@ -7,6 +7,7 @@ ghost use Rattle.mapping.specs.Tree.{page_at};
 ghost use Rattle.mapping.specs.LogState.{log_state};
 ghost use Rattle.mapping.specs.Proper.{AreRisingPids};
 ghost use Rattle.mapping.specs.Table.{place_of, page_of, log_of, with_place, freed, with_rooms, pids_in_use, fresh_pids, log_outdated, pids_in_use_or_old};
+ghost use Rattle.mapping.specs.Flushed.{marked_as_written};
 ghost use Rattle.mapping.specs.TreeInMemory.{AreAllHome, tree_of, new_in_memory};
 
 use crate::logged::Logged;
@@ -147,6 +148,13 @@ impl<A: Allocator + Copy> Tree<A> {
     {
         self.root = root;
         self.height = height;
+    }
+
+    /// Says that the log has each page at home as it is, with all its runs, and nothing of any other page id. It takes no memory.
+    pub fn flushed(&mut self)
+        ensures { self.new ≡ record self.old { table = marked_as_written self.old.table } }
+    {
+        self.table.flushed();
     }
 }
 

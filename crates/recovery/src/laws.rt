@@ -1,13 +1,14 @@
 //! What the definitions of `specs/` mean. Each law is the contract of a function with an empty body.
-ghost use Rattle.std.specs.Prelude.{◌≡◌, ◌⊎◌, suc, ◌^◌, ◌<◌, ◌≤◌, false, None, Ok};
+ghost use Rattle.std.specs.Prelude.{◌≡◌, ◌≢◌, ◌⊎◌, [], suc, ◌^◌, ◌<◌, ◌≤◌, false, None, Ok};
 ghost use Rattle.keys.specs.Bytes.{Bytes};
 ghost use Rattle.keys.specs.Limits.{first_bad_field};
 ghost use Rattle.keys.specs.declared.settings.Settings.{Settings};
 ghost use Rattle.mapping.specs.Tree.{Tree, most_levels, Store, with_tree};
 ghost use Rattle.mapping.specs.Proper.{AreLogsTrue, IsProper};
 ghost use Rattle.flush_log.specs.AfterFlush.{after_flush, flush_calls};
-ghost use Rattle.flush_log.specs.Commit.{LeftDuring};
-ghost use Rattle.flush_log.specs.FlushText.{HasFrames, flushed};
+ghost use Rattle.flush_log.specs.Commit.{LeftDuring, IsUncommitted};
+ghost use Rattle.flush_log.specs.Layout.{spans};
+ghost use Rattle.flush_log.specs.FlushText.{flush_text, HasFrames, flushed};
 ghost use Rattle.flush_log.specs.NewStore.{disk_of_new};
 ghost use Rattle.flush_log.specs.Overlay.{AgreeAt};
 ghost use Rattle.flush_log.specs.Segments.{HasSegments};
@@ -29,9 +30,13 @@ pub fn what_was_flushed_is_what_is_read()
         after_flush s st file ≡ Ok (now, bytes) → IsStore s now }
 {}
 
-/// A crash at any moment of a flush leaves a disk that stands for the store that it stood for, or all that the flush leaves.
+/// A crash at any moment of a flush leaves a disk that stands for the store that it stood for, or all that the flush leaves. Until
+/// its commit is done it stands for the first.
 pub fn a_crash_in_a_flush_leaves_the_store_before_or_after()
-    ensures { (s : Settings) (st now : Store) (file bytes c : Bytes) → IsStoreOf s st file → HasFrames s st.tree →
+    ensures hidden { (s : Settings) (st now : Store) (file bytes c : Bytes) → IsStoreOf s st file → HasFrames s st.tree →
+        flush_text st.tree ≢ [] → after_flush s st file ≡ Ok (now, bytes) →
+        IsUncommitted s (suc st.sequence) (spans s st.tail (flush_text st.tree)) file c → store_of_disk c ≡ store_of_disk file }
+    ensures calls { (s : Settings) (st now : Store) (file bytes c : Bytes) → IsStoreOf s st file → HasFrames s st.tree →
         after_flush s st file ≡ Ok (now, bytes) → LeftDuring (flush_calls s st file) file c →
         (store_of_disk c ≡ store_of_disk file) ⊎ (c ≡ bytes) }
 {}

@@ -1,10 +1,11 @@
 use Rattle.std.proofs.Common.{refl}
-use Rattle.bwsh.proofs.PrintedLaws.{printed-batch, printed-verify}
+use Rattle.bwsh.proofs.PrintedLaws.{printed-batch, printed-flush, printed-verify}
 use Rattle.bwsh.proofs.laws.each_order_prints_its_answer.Goals as goal
 
 pub returns : goal.returns
 returns c = record {
-  none = λ settings tree m. refl;
+  none = λ settings at m. refl;
   batch = printed-batch;
+  flush = printed-flush;
   verify = printed-verify;
 }

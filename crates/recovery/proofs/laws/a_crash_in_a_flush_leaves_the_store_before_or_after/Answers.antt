@@ -1,5 +1,5 @@
-use Rattle.recovery.proofs.CrashLaws.{flush-crash}
+use Rattle.recovery.proofs.CrashLaws.{flush-hidden, flush-crash}
 use Rattle.recovery.proofs.laws.a_crash_in_a_flush_leaves_the_store_before_or_after.Goals as goal
 
 pub returns : goal.returns
-returns c = flush-crash
+returns c = record { hidden = flush-hidden; calls = flush-crash }

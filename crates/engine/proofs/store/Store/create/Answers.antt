@@ -1,12 +1,25 @@
-use Rattle.std.proofs.Common.{rules}
-use Rattle.engine.proofs.Created.{created, passed_by}
-use Rattle.keys.specs.Limits.{first_bad_field}
+use Rattle.engine.specs.Late.{create_refusal}
+use Rattle.engine.proofs.CreateLaws.{not_refused, first-is, made-bytes, made-sound}
 use Rattle.engine.proofs.store.Store.create.Goals as goal
 
 pub invariant_of-result : goal.invariant_of-result
-invariant_of-result c =
-    created c.args.settings c.in_ok-new_tree.field-0 (search rules) (passed_by (first_bad_field c.args.settings) c.check.result tt c.check.ensures (search rules)) c.the_first_tree_is_proper_and_empty.ensures.proper c.the_first_tree_is_proper_and_empty.ensures.logs
+invariant_of-result g c =
+    let view = g.D.Disk.view in
+    let old = c.args.disk in
+    let free = not_refused (λ fault. fault) (create_refusal c.args.settings (view old).size) c.make.result _ _ c.make.ensures.refused c.in-Ok.is in
+    let is = first-is c.in-Ok.tree c.first_log.result c.in-Ok.ensures.tree c.first_log.ensures in
+    made-sound view c.args.settings c.in-Ok.tree c.first_log.result old c.make.new.disk is free (λ honest. g.met.D.Disk.lawful old honest) (λ honest. (c.in-Ok.ensures.bytes honest).0)
+    c.in-Ok.ensures.tree c.make.ensures.kept c.a_new_disk_stands_for_the_first_store.ensures
 
-pub returns-clause-sound : goal.returns-clause-sound
-returns-clause-sound c =
-    (created c.args.settings c.in_ok-new_tree.field-0 (search rules) (passed_by (first_bad_field c.args.settings) c.check.result tt c.check.ensures (search rules)) c.the_first_tree_is_proper_and_empty.ensures.proper c.the_first_tree_is_proper_and_empty.ensures.logs).sound
+pub returns-in-Ok-clause-bytes : goal.returns-in-Ok-clause-bytes
+returns-in-Ok-clause-bytes g c honest =
+    let view = g.D.Disk.view in
+    let old = c.args.disk in
+    let free = not_refused (λ fault. fault) (create_refusal c.args.settings (view old).size) c.make.result _ _ c.make.ensures.refused c.in-Ok.is in
+    let is = first-is c.in-Ok.tree c.first_log.result c.in-Ok.ensures.tree c.first_log.ensures in (
+      made-bytes view c.args.settings c.in-Ok.tree c.first_log.result old c.make.new.disk is free (λ h. g.met.D.Disk.lawful old h) (λ h. (c.in-Ok.ensures.bytes h).0) honest,
+      (c.in-Ok.ensures.bytes honest).1,
+    )
+
+pub returns-in-Ok-clause-sound : goal.returns-in-Ok-clause-sound
+returns-in-Ok-clause-sound g c = (invariant_of-result g c).sound

@@ -1,0 +1,265 @@
+-- A turn of a play: one step more.
+use Rattle.std.specs.Prelude.{◌≡◌, ◌≢◌, ◌⊎◌, ℕ, zero, suc, ◌+◌, ◌<◌, IsTrue, true, false, List, [], ◌∷◌, ◌++◌, length, map, take, drop, Option, Some, None, Result, Ok, Err}
+use Rattle.std.proofs.Common.{refl, sym, ap, ◌∙◌, subst, inl, inr, arith, get_or}
+use Rattle.std.proofs.lemmas.List.{map-append, take_more, drop_more}
+use Rattle.std.specs.declared.alloc.Global.{Global}
+use Rattle.keys.specs.declared.fault.Fault.{Fault}
+use Rattle.keys.specs.declared.fault.Fault.TheVariants.{BadSettings, KeyTooLong, ValueTooLong, BatchTooLong, NoMemory, Failed, Device, Full, NothingToClean, NotAStore, NoSlot, BadSegment, BadFrame, BadStructure, Spent, DiskTooSmall}
+use Rattle.keys.specs.declared.settings.Settings.{Settings}
+use Rattle.mapping.specs.Tree.{Store}
+use Rattle.flush_log.specs.AfterFlush.{after_flush}
+use Rattle.flush_log.specs.Disk.{View, Lawful, IsSettled, Kept, HasFailed, LeavesOnly}
+use Rattle.flush_log.proofs.ViewLaws.{only_then, weaker, now_leaves}
+use Rattle.recovery.specs.StoreOfDisk.{store_of_disk, and_then}
+use Rattle.engine.specs.Plays.{IsPlayed, IsStepFault, IsLeftInStep, step_of, answer_of, tried}
+use Rattle.engine.specs.State.{State, IsSound}
+use Rattle.engine.specs.Steps.{Step, Answer, Played, Stepped, StandsAfterSome, HasWords, HaveWords, here_and_on, unless_refused, played_on, with_later, after_step, batching, plays, plays_further}
+use Rattle.engine.specs.Steps.Answer.{Flushed}
+use Rattle.engine.specs.declared.step.Step as code_step
+use Rattle.engine.specs.declared.step.Step.TheVariants as called
+use Rattle.engine.specs.declared.step.Answer as code_answer
+use Rattle.engine.proofs.FlushDone.{flush-refused-elsewhere, flush-done-elsewhere}
+use Rattle.engine.proofs.PlayLaws.{plays-append, words-append, stands-later, stands-last}
+use Rattle.engine.proofs.ReadLaws.{leaves_itself}
+
+-- ---- steps as they are called
+
+-- one more of them
+pub one_taken : (xs : List code_step.Step) (i : ℕ) (x : code_step.Step) → i < length xs → x ≡ get_or xs i x → map step_of (take (i + 1) xs) ≡ map step_of (take i xs) ++ step_of x ∷ []
+one_taken xs i x h is =
+    ap (map step_of) (take_more xs i x h)
+    ∙ map-append step_of (take i xs) (get_or xs i x ∷ [])
+    ∙ ap (λ (y : code_step.Step). map step_of (take i xs) ++ step_of y ∷ []) (sym is)
+
+-- and the one behind those that were taken
+pub one_behind : (xs : List code_step.Step) (i : ℕ) (x : code_step.Step) → i < length xs → x ≡ get_or xs i x → drop i xs ≡ x ∷ drop (i + 1) xs
+one_behind xs i x h is = drop_more xs i x h ∙ ap (λ (y : code_step.Step). y ∷ drop (i + 1) xs) (sym is)
+
+-- where none are taken of some, none are asked for
+pub none_taken : (xs : List code_step.Step) (i : ℕ) → i < length xs → map step_of (take i xs) ≡ [] → i ≡ 0
+none_taken xs zero h e = refl
+none_taken [] (suc i) h e = absurd (omega (arith, h))
+none_taken (x ∷ xs) (suc i) h e = absurd (cc)
+
+-- ---- how far a play has come
+
+pub device_or_not : (fault : Fault) → (fault ≡ Device) ⊎ ((fault ≢ Device) × ((n : ℕ) → tried fault n ≡ n))
+device_or_not Device = inl refl
+device_or_not (BadSettings a) = inr ((λ e. cc), λ n. refl)
+device_or_not (KeyTooLong a) = inr ((λ e. cc), λ n. refl)
+device_or_not (ValueTooLong a) = inr ((λ e. cc), λ n. refl)
+device_or_not BatchTooLong = inr ((λ e. cc), λ n. refl)
+device_or_not NoMemory = inr ((λ e. cc), λ n. refl)
+device_or_not Failed = inr ((λ e. cc), λ n. refl)
+device_or_not Full = inr ((λ e. cc), λ n. refl)
+device_or_not NothingToClean = inr ((λ e. cc), λ n. refl)
+device_or_not NotAStore = inr ((λ e. cc), λ n. refl)
+device_or_not NoSlot = inr ((λ e. cc), λ n. refl)
+device_or_not (BadSegment a) = inr ((λ e. cc), λ n. refl)
+device_or_not (BadFrame a b) = inr ((λ e. cc), λ n. refl)
+device_or_not (BadStructure a) = inr ((λ e. cc), λ n. refl)
+device_or_not Spent = inr ((λ e. cc), λ n. refl)
+device_or_not DiskTooSmall = inr ((λ e. cc), λ n. refl)
+
+pub reached_device : (xs : List code_step.Step) (fault : Fault) (n i : ℕ) (x : code_step.Step) → fault ≡ Device → n ≡ i → i < length xs → x ≡ get_or xs i x
+    → map step_of (take (tried fault n) xs) ≡ map step_of (take i xs) ++ step_of x ∷ []
+reached_device xs fault n i x device same h is =
+    ap (λ (f : Fault). map step_of (take (tried f n) xs)) device
+    ∙ ap (λ (k : ℕ). map step_of (take (k + 1) xs)) same
+    ∙ one_taken xs i x h is
+
+pub reached_other : (xs : List code_step.Step) (fault : Fault) (n i : ℕ) → tried fault n ≡ n → n ≡ i → map step_of (take (tried fault n) xs) ≡ map step_of (take i xs)
+reached_other xs fault n i none same = ap (λ (k : ℕ). map step_of (take k xs)) (none ∙ same)
+
+-- ---- faults don't look at the bytes
+
+refused_on : (r q : Result (Store × List ℕ) Fault) (answer : Store × List ℕ → Answer Global) (fault : Fault) → ((f : Fault) → r ≡ Err f → q ≡ Err f)
+    → (let u : Stepped Global = and_then r (λ p. Ok (answer p, p)) in u ≡ Err fault) → (let u : Stepped Global = and_then q (λ p. Ok (answer p, p)) in u ≡ Err fault)
+refused_on (Ok p) q answer fault so e = absurd (cc)
+refused_on (Err f) q answer fault so e =
+    ap (λ (r : Result (Store × List ℕ) Fault). (let u : Stepped Global = and_then r (λ p. Ok (answer p, p)) in u)) (so f refl) ∙ e
+
+batch_on : (o : Option Fault) (answer : Answer Global) (st : Store) (file other : List ℕ) (fault : Fault) → unless_refused o answer st file ≡ Err fault → unless_refused o answer st other ≡ Err fault
+batch_on None answer st file other fault e = absurd (cc)
+batch_on (Some f) answer st file other fault e = e
+
+pub fault_elsewhere : (s : Settings) (st : Store) (file other : List ℕ) (old new was : ℕ) (x : code_step.Step) (fault : Fault) → was ≡ old
+    → IsStepFault s st file was new (step_of x) fault → IsStepFault s st other old new (step_of x) fault
+fault_elsewhere s st file other old new was (called.Batch cs) fault same (inl right) = inl (batch_on _ _ _ file other fault right)
+fault_elsewhere s st file other old new was (called.Batch cs) fault same (inr late) = inr late
+fault_elsewhere s st file other old new was called.Flush fault same (inl right) =
+    inl (refused_on (after_flush s st file) (after_flush s st other) (λ p. Flushed p.0.sequence) fault (λ f e. flush-refused-elsewhere s st file other f e) right)
+fault_elsewhere s st file other old new was called.Flush fault same (inr (inl memory)) = inr (inl memory)
+fault_elsewhere s st file other old new was called.Flush fault same (inr (inr (device, failed, (some, now, bytes, done)))) =
+    let (more, there) = flush-done-elsewhere s st file other now bytes done in
+    inr (inr (device, subst (λ (n : ℕ). HasFailed n new) same failed, (some, now, more, there)))
+
+-- ---- one step more
+
+module _ (s : Settings) (st : Store) (file : List ℕ) where
+  abbrev at : List (Step Global) → Played Global
+  at xs = plays (batching s) s st file xs
+
+  one_more : (p : Played Global) (x : Step Global) (a : Answer Global) (now : Store) (bytes : List ℕ) → p.fault ≡ None → after_step (batching s) s p.store p.bytes x ≡ Ok (a, (now, bytes))
+      → plays_further (batching s) s p (x ∷ []) ≡ record { answers = p.answers ++ a ∷ []; store = now; bytes = bytes; fault = None }
+  one_more p x a now bytes none done =
+      ap (λ (o : Option Fault). with_later o p (plays (batching s) s p.store p.bytes (x ∷ []))) none
+      ∙ ap (λ (r : Stepped Global). with_later None p (played_on p.store p.bytes r (λ n f. plays (batching s) s n f []))) done
+
+  next_of : (xs : List (Step Global)) (x : Step Global) (a : Answer Global) (now : Store) (bytes : List ℕ) → (at xs).fault ≡ None → after_step (batching s) s (at xs).store (at xs).bytes x ≡ Ok (a, (now, bytes))
+      → at (xs ++ x ∷ []) ≡ record { answers = (at xs).answers ++ a ∷ []; store = now; bytes = bytes; fault = None }
+  next_of xs x a now bytes none done = plays-append (batching s) s st file xs (x ∷ []) ∙ one_more (at xs) x a now bytes none done
+
+  module _ (xs : List (Step Global)) (said : List code_answer.Answer) (cur : Store) (is : IsPlayed s st file xs said cur) (x : Step Global) where
+    there : (a : Answer Global) (now : Store) (bytes : List ℕ) → after_step (batching s) s cur (at xs).bytes x ≡ Ok (a, (now, bytes)) → after_step (batching s) s (at xs).store (at xs).bytes x ≡ Ok (a, (now, bytes))
+    there a now bytes done = subst (λ (y : Store). after_step (batching s) s y (at xs).bytes x ≡ Ok (a, (now, bytes))) is.store done
+
+    still_played : (a : code_answer.Answer) (now : Store) (bytes : List ℕ) → after_step (batching s) s cur (at xs).bytes x ≡ Ok (answer_of a, (now, bytes)) → IsPlayed s st file (xs ++ x ∷ []) (said ++ a ∷ []) now
+    still_played a now bytes done =
+        let e = next_of xs x (answer_of a) now bytes is.unrefused (there (answer_of a) now bytes done) in
+        record {
+          unrefused = ap (λ (p : Played Global). p.fault) e;
+          answers = map-append answer_of said (a ∷ []) ∙ ap (λ (l : List (Answer Global)). l ++ answer_of a ∷ []) is.answers ∙ sym (ap (λ (p : Played Global). p.answers) e);
+          store = sym (ap (λ (p : Played Global). p.store) e);
+        }
+
+    still_bytes : (a : Answer Global) (now : Store) (bytes : List ℕ) → after_step (batching s) s cur (at xs).bytes x ≡ Ok (a, (now, bytes)) → (at (xs ++ x ∷ [])).bytes ≡ bytes
+    still_bytes a now bytes done = ap (λ (p : Played Global). p.bytes) (next_of xs x a now bytes is.unrefused (there a now bytes done))
+
+    one_word : (r : Stepped Global) (here : Type 0) → here → here_and_on r here (λ now bytes. HaveWords {A = Global} (batching s) s now bytes [])
+    one_word (Ok p) here w = (w, tt)
+    one_word (Err fault) here w = tt
+
+    still_words : HaveWords (batching s) s st file xs → HasWords (batching s) s cur.tree x → HaveWords (batching s) s st file (xs ++ x ∷ [])
+    still_words words here =
+        words-append (batching s) s st file xs (x ∷ []) words
+        (λ none. one_word (after_step (batching s) s (at xs).store (at xs).bytes x) _ (subst (λ (y : Store). HasWords (batching s) s y.tree x) is.store here))
+
+    -- ---- what a crash leaves
+
+    left_by : (seen c : List ℕ) → seen ≡ (at xs).bytes → IsLeftInStep s cur seen x c → (store_of_disk c ≡ store_of_disk (at xs).bytes) ⊎ (store_of_disk c ≡ store_of_disk (at (xs ++ x ∷ [])).bytes)
+    left_by seen c same (inl before) = inl (before ∙ ap store_of_disk same)
+    left_by seen c same (inr (a, now, done)) =
+        inr (ap store_of_disk (sym (still_bytes a now c (subst (λ (f : List ℕ). after_step (batching s) s cur f x ≡ Ok (a, (now, c))) same done))))
+
+    left_in : (seen c : List ℕ) → seen ≡ (at xs).bytes → IsLeftInStep s cur seen x c → StandsAfterSome (batching s) s st file (xs ++ x ∷ []) c
+    left_in seen c same left = elim (left_by seen c same left) [
+      | inl before ↦ stands-later (batching s) s st file c xs (x ∷ []) (stands-last (batching s) s st file c xs before)
+      | inr after ↦ stands-last (batching s) s st file c (xs ++ x ∷ []) after
+    ]
+
+-- ---- turns
+
+-- these steps of a play were done, and answered so
+pub record IsTurn {D : Type 0} (view : D → View) (failures : D → ℕ) (old : State D) (xs : List (Step Global)) (said : List code_answer.Answer) (now : State D) : Type 0 where
+  pub sound : IsSound view now
+  pub settings : now.settings ≡ old.settings
+  pub has_failed : now.has_failed ≡ old.has_failed
+  pub failed : failures now.disk ≡ failures old.disk
+  pub kept : Kept (view old.disk) (view now.disk)
+  pub none : old.has_failed ≡ true → xs ≡ []
+  pub played : IsPlayed old.settings old.store (view old.disk).seen xs said now.store
+  pub words : HaveWords (batching old.settings) old.settings old.store (view old.disk).seen xs
+  pub bytes : IsTrue (view old.disk).is_honest → (view now.disk).seen ≡ (plays (batching old.settings) old.settings old.store (view old.disk).seen xs).bytes
+  pub settled : IsSettled (view old.disk) → IsSettled (view now.disk)
+  pub crash : old.has_failed ≡ false → IsSettled (view old.disk)
+      → LeavesOnly (view old.disk) (view now.disk) (StandsAfterSome (batching old.settings) old.settings old.store (view old.disk).seen xs)
+
+module _ {D : Type 0} (view : D → View) (failures : D → ℕ) (lawful : (disk : D) → IsTrue (view disk).is_honest → Lawful (view disk)) (old : State D) where
+  abbrev s : Settings
+  s = old.settings
+
+  -- none yet
+  pub no_turn : IsSound view old → IsTurn view failures old [] [] old
+  no_turn sound = record {
+    sound = sound;
+    settings = refl;
+    has_failed = refl;
+    failed = refl;
+    kept = record { honest = refl; size = refl };
+    none = λ _. refl;
+    played = record { unrefused = refl; answers = refl; store = refl };
+    words = tt;
+    bytes = λ _. refl;
+    settled = λ settled. settled;
+    crash = λ _ settled. leaves_itself (view old.disk) _ (lawful old.disk settled.honest) settled
+        (stands-last (batching s) s old.store (view old.disk).seen (view old.disk).seen [] refl);
+  }
+
+  -- what is left where a step was begun behind these, whether it was refused or not
+  module _ (xs : List (Step Global)) (said : List code_answer.Answer) (cur : State D) (turn : IsTurn view failures old xs said cur) (next : State D) (x : Step Global) where
+    abbrev first : List ℕ
+    first = (view old.disk).seen
+
+    abbrev Stands : List (Step Global) → List ℕ → Type 0
+    Stands ys c = StandsAfterSome (batching s) s old.store first ys c
+
+    abbrev Left : Settings → List ℕ → Type 0
+    Left z c = IsLeftInStep z cur.store (view cur.disk).seen x c
+
+    abbrev CrashOfStep : Type 0
+    CrashOfStep = cur.has_failed ≡ false → IsSettled (view cur.disk) → LeavesOnly (view cur.disk) (view next.disk) (Left cur.settings)
+
+    still_honest : IsTrue (view old.disk).is_honest → IsTrue (view cur.disk).is_honest
+    still_honest honest = subst IsTrue (sym turn.kept.honest) honest
+
+    step_leaves : CrashOfStep → old.has_failed ≡ false → IsSettled (view old.disk) → LeavesOnly (view cur.disk) (view next.disk) (Left s)
+    step_leaves crash fine was =
+        subst (λ (z : Settings). LeavesOnly (view cur.disk) (view next.disk) (Left z)) turn.settings (crash (turn.has_failed ∙ fine) (turn.settled was))
+
+    pub crash_on : CrashOfStep → old.has_failed ≡ false → IsSettled (view old.disk) → LeavesOnly (view old.disk) (view next.disk) (Stands (xs ++ x ∷ []))
+    crash_on crash fine was =
+        only_then (view old.disk) (view cur.disk) (view next.disk) (Stands (xs ++ x ∷ []))
+        (weaker (view old.disk) (view cur.disk) (Stands xs) (Stands (xs ++ x ∷ [])) (λ c h. stands-later (batching s) s old.store first c xs (x ∷ []) h) (turn.crash fine was))
+        (weaker (view cur.disk) (view next.disk) (Left s) (Stands (xs ++ x ∷ []))
+        (λ c left. left_in s old.store first xs said cur.store turn.played x (view cur.disk).seen c (turn.bytes was.honest) left)
+        (step_leaves crash fine was))
+
+    pub left_behind_it : Kept (view cur.disk) (view next.disk) → CrashOfStep → old.has_failed ≡ false → IsSettled (view old.disk) → (c : List ℕ) → (view next.disk).may_leave c
+        → (store_of_disk c ≡ store_of_disk (plays (batching s) s old.store first xs).bytes) ⊎ (store_of_disk c ≡ store_of_disk (plays (batching s) s old.store first (xs ++ x ∷ [])).bytes)
+    left_behind_it kept crash fine was c left =
+        left_by s old.store first xs said cur.store turn.played x (view cur.disk).seen c (turn.bytes was.honest)
+        (now_leaves (view cur.disk) (view next.disk) (Left s) (lawful next.disk (subst IsTrue (sym kept.honest) (still_honest was.honest))) (step_leaves crash fine was) c left)
+
+    -- a step that is done
+    abbrev DoneOn : Settings → code_answer.Answer → List ℕ → List ℕ → Type 0
+    DoneOn z a file bytes = after_step (batching z) z cur.store file x ≡ Ok (answer_of a, (next.store, bytes))
+
+    pub goes_on : (a : code_answer.Answer) → ((file : List ℕ) → (bytes : List ℕ) × DoneOn cur.settings a file bytes)
+        → (next.settings ≡ cur.settings) × Kept (view cur.disk) (view next.disk)
+        → (next.has_failed ≡ cur.has_failed) × (failures next.disk ≡ failures cur.disk)
+        → cur.has_failed ≡ false
+        → (IsTrue (view cur.disk).is_honest → DoneOn cur.settings a (view cur.disk).seen (view next.disk).seen)
+        → (IsSettled (view cur.disk) → IsSettled (view next.disk))
+        → CrashOfStep
+        → HasWords (batching cur.settings) cur.settings cur.store.tree x
+        → IsSound view next
+        → IsTurn view failures old (xs ++ x ∷ []) (said ++ a ∷ []) next
+    goes_on a ok rest counted fine bytes settled crash words sound =
+        let (file, done) = ok (plays (batching s) s old.store first xs).bytes in
+        let one : DoneOn s a (plays (batching s) s old.store first xs).bytes file = subst (λ (z : Settings). DoneOn z a (plays (batching s) s old.store first xs).bytes file) turn.settings done in
+        record {
+          sound = sound;
+          settings = rest.0 ∙ turn.settings;
+          has_failed = counted.0 ∙ turn.has_failed;
+          failed = counted.1 ∙ turn.failed;
+          kept = record { honest = rest.1.honest ∙ turn.kept.honest; size = rest.1.size ∙ turn.kept.size };
+          none = λ bad. (let same = turn.has_failed in absurd (cc));
+          played = still_played s old.store first xs said cur.store turn.played x a next.store file one;
+          words = still_words s old.store first xs said cur.store turn.played x turn.words (subst (λ (z : Settings). HasWords (batching z) z cur.store.tree x) turn.settings words);
+          bytes = λ honest. sym (still_bytes s old.store first xs said cur.store turn.played x (answer_of a) next.store (view next.disk).seen
+              (subst (λ (f : List ℕ). DoneOn s a f (view next.disk).seen) (turn.bytes honest)
+              (subst (λ (z : Settings). DoneOn z a (view cur.disk).seen (view next.disk).seen) turn.settings (bytes (still_honest honest)))));
+          settled = λ was. settled (turn.settled was);
+          crash = λ fine was. crash_on crash fine was;
+        }
+
+  -- why a step behind them is refused
+  pub refused_behind : (xs : List (Step Global)) (said : List code_answer.Answer) (cur : State D) → IsTurn view failures old xs said cur → (x : code_step.Step) (count : ℕ) (fault : Fault)
+      → IsStepFault cur.settings cur.store (view cur.disk).seen (failures cur.disk) count (step_of x) fault
+      → (let p : Played Global = plays (batching s) s old.store (view old.disk).seen xs in IsStepFault s p.store p.bytes (failures old.disk) count (step_of x) fault)
+  refused_behind xs said cur turn x count fault why =
+      let p : Played Global = plays (batching s) s old.store (view old.disk).seen xs in
+      let here = subst (λ (z : Settings). IsStepFault z cur.store (view cur.disk).seen (failures cur.disk) count (step_of x) fault) turn.settings why in
+      fault_elsewhere s p.store (view cur.disk).seen p.bytes (failures old.disk) count (failures cur.disk) x fault turn.failed
+      (subst (λ (y : Store). IsStepFault s y (view cur.disk).seen (failures cur.disk) count (step_of x) fault) turn.played.store here)

@@ -1,0 +1,32 @@
+-- A call that changes nothing of a disk, and what comes after it.
+use Rattle.std.proofs.Common.{inl, inr, ⊎_elim, ℕ, ◌≤◌, List, IsTrue, sym, subst, ◌∙◌, arith}
+use Rattle.flush_log.specs.Disk.{View, Lawful, IsSettled, Kept, Same, LeavesOnly}
+
+pub settled_still : (old new : View) → Kept old new → Same old new → IsSettled old → IsSettled new
+settled_still old new kept same settled = record {
+  honest = subst IsTrue (sym kept.honest) settled.honest;
+  only = λ c left. settled.only c ((same.may_leave c).0 left) ∙ sym same.seen;
+}
+
+pub left_behind : (a b c : View) (P : List ℕ → Type 0) → Same a b → LeavesOnly b c P → LeavesOnly a c P
+left_behind a b c P same run = record {
+  later = subst (λ (m : ℕ). m ≤ c.moment) same.moment run.later;
+  each = λ x left. run.each x (subst (λ (m : ℕ). c.left_since m x) (sym same.moment) left);
+  before = λ t x le left. ⊎_elim (λ was. inl ((same.left_since t x).0 was)) (λ now. inr now) (run.before t x (subst (λ (m : ℕ). t ≤ m) (sym same.moment) le) left);
+}
+
+-- of a settled disk a crash leaves what is read
+pub leaves_itself : (v : View) (P : List ℕ → Type 0) → Lawful v → IsSettled v → P v.seen → LeavesOnly v v P
+leaves_itself v P law settled p = record {
+  later = Prim.omega arith;
+  each = λ c left. subst P (sym (settled.only c (law.only_now c left))) p;
+  before = λ t c le left. inl left;
+}
+
+-- and so behind a call that changes nothing
+pub leaves_the_same : (old new : View) (P : List ℕ → Type 0) → Lawful old → Same old new → IsSettled old → P old.seen → LeavesOnly old new P
+leaves_the_same old new P law same settled p = record {
+  later = subst (λ (m : ℕ). old.moment ≤ m) (sym same.moment) (Prim.omega arith);
+  each = λ c left. subst P (sym (settled.only c (law.only_now c ((same.left_since old.moment c).0 left)))) p;
+  before = λ t c le left. inl ((same.left_since t c).0 left);
+}

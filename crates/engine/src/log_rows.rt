@@ -1,0 +1,1098 @@
+//! The log as bytes: what the flushes of docs/EXAMPLES.md write, and by which calls; what is written where a store is made; and
+//! what is left and answered where the log is full, or where a call of the disk fails.
+ghost use Rattle.std.specs.Prelude.{◌≡◌, false, length, ⊤};
+ghost use Rattle.flush_log.specs.Disk.{CountsFailure};
+
+use crate::frame_rows::{A_3, A_ABSENT, A_PUT, EMPTY_LEAF, FOUR_PUT, FREE_1, LEAF_0, LEAF_1, ROOT};
+use crate::step::{Answer, Step};
+use crate::store::Store;
+use crate::tests::{FIVE_PUTS, S, SEVENTEEN_PUTS, commands, write_replies, write_rows, write_tree};
+use flush_log::{Disk, DiskFault, MemDisk};
+use keys::{Command, Fault, Field, Settings};
+use std::alloc::{AllocError, Global};
+use std::process::Abort;
+use std::test::Fail;
+use std::thread::Threads;
+
+// The length of the shortest disk under the settings S: 512 bytes and four segments.
+const SHORTEST: usize = 1_536;
+
+// What each byte of a disk is before a store is made on it.
+const OLD: u8 = 0xa5;
+
+// What a slot says; its head is 0. Sequence number 0 stands for a slot of zeros.
+#[derive(Clone, Copy)]
+struct SlotRow {
+    sequence: u64,
+    tail: u64,
+    root: u64,
+    height: u32,
+}
+
+const NO_SLOT: SlotRow = SlotRow {
+    sequence: 0,
+    tail: 0,
+    root: 0,
+    height: 0,
+};
+
+const FIRST_SLOT: SlotRow = SlotRow {
+    sequence: 1,
+    tail: 33,
+    root: 0,
+    height: 1,
+};
+
+const FIVE_PUTS_SLOT: SlotRow = SlotRow {
+    sequence: 2,
+    tail: 136,
+    root: 2,
+    height: 2,
+};
+
+const SEVENTEEN_PUTS_SLOT: SlotRow = SlotRow {
+    sequence: 2,
+    tail: 399,
+    root: 7,
+    height: 3,
+};
+
+// An example: its steps, what they answer, and then the two slots and what the log has behind the frame of the first leaf, up to its tail.
+// A step is a word: `flush` is a flush, and each other one a batch, the empty one without commands.
+struct Row {
+    name: &'static str,
+    steps: &'static [&'static str],
+    answers: &'static str,
+    slots: [SlotRow; 2],
+    log: &'static [&'static [u8]],
+}
+
+const SETTINGS_BLOCK: &[u8] = b"BWBATCH1\0\x04\0\x02\0\x10\0\x10\0\0\x01\0\0\0\0\x04";
+
+const FIRST_SLOT_BYTES: &[u8] =
+    b"\x01\0\0\0\0\0\0\0\0\0\0\0\0\0\0\x01\0\0\0\0\0\0\0\0\0\0\0\0\0\0\0\x21\0\0\0\0\0\0\0\0\
+    \0\0\0\x01\0\0\0\0\0\0\0\0\0\0\0\0\0\0\0\0\0\0\0\0";
+
+const FIVE_PUTS_SLOT_BYTES: &[u8] =
+    b"\x01\0\0\0\0\0\0\0\0\0\0\0\0\0\0\x02\0\0\0\0\0\0\0\0\0\0\0\0\0\0\0\x88\0\0\0\0\0\0\0\x02\
+    \0\0\0\x02\0\0\0\0\0\0\0\0\0\0\0\0\0\0\0\0\0\0\0\0";
+
+const PUT_AGAIN_SLOT_BYTES: &[u8] =
+    b"\x01\0\0\0\0\0\0\0\0\0\0\0\0\0\0\x04\0\0\0\0\0\0\0\0\0\0\0\0\0\0\x01\x36\0\0\0\0\0\0\0\x02\
+    \0\0\0\x02\0\0\0\0\0\0\0\0\0\0\0\0\0\0\0\0\0\0\0\0";
+
+const HEADER_0: &[u8] = b"BWSG\0\0\0\0\0\0\0\0\0\0\0\0";
+
+const HEADER_1: &[u8] = b"BWSG\0\0\0\0\0\0\0\0\0\0\0\x01";
+
+const HEADER_2: &[u8] = b"BWSG\0\0\0\0\0\0\0\0\0\0\0\x02";
+
+const FREE_2: &[u8] = b"\x05\0\0\0\x08\0\0\0\0\0\0\0\x02";
+
+const A_PUT_9: &[u8] = b"\x02\0\0\0\x11\0\0\0\0\0\0\0\0\0\x01\0\x01a\x01\0\x019";
+
+const LEAF_ABC: &[u8] =
+    b"\x01\0\0\0\x1e\0\0\0\0\0\0\0\0\0\0\0\x03\0\x01a\0\x011\0\x01b\0\x011\0\x01c\0\x011";
+
+const LEAF_DEF: &[u8] =
+    b"\x01\0\0\0\x1f\0\0\0\0\0\0\0\x01\0\x01d\0\x03\0\x01d\0\x011\0\x01e\0\x011\0\x01f\0\x011";
+
+const LEAF_GHIJ: &[u8] =
+    b"\x01\0\0\0\x25\0\0\0\0\0\0\0\x02\0\x01g\0\x04\0\x01g\0\x011\0\x01h\0\x011\0\x01i\0\x011\0\x01j\0\x011";
+
+const LEAF_KLM: &[u8] =
+    b"\x01\0\0\0\x1f\0\0\0\0\0\0\0\x03\0\x01k\0\x03\0\x01k\0\x011\0\x01l\0\x011\0\x01m\0\x011";
+
+const LEAF_NOPQ: &[u8] =
+    b"\x01\0\0\0\x25\0\0\0\0\0\0\0\x04\0\x01n\0\x04\0\x01n\0\x011\0\x01o\0\x011\0\x01p\0\x011\0\x01q\0\x011";
+
+const INDEX_5: &[u8] =
+    b"\x03\0\0\0\x21\0\0\0\0\0\0\0\x05\0\0\0\x02\0\0\0\0\0\0\0\0\0\0\0\x01d\0\0\0\0\0\0\0\x01";
+
+const INDEX_6: &[u8] = b"\x03\0\0\0\x2e\0\0\0\0\0\0\0\x06\0\x01g\0\x03\
+    \0\x01g\0\0\0\0\0\0\0\x02\0\x01k\0\0\0\0\0\0\0\x03\0\x01n\0\0\0\0\0\0\0\x04";
+
+const INDEX_7: &[u8] =
+    b"\x03\0\0\0\x21\0\0\0\0\0\0\0\x07\0\0\0\x02\0\0\0\0\0\0\0\0\0\x05\0\x01g\0\0\0\0\0\0\0\x06";
+
+const D_ABSENT_IN_5: &[u8] = b"\x04\0\0\0\x0e\0\0\0\0\0\0\0\x05\0\x01\0\x01d\0";
+
+const NINE_BYTES_PUT: &[u8] = b"\x02\0\0\0\x37\0\0\0\0\0\0\0\0\0\x03\
+    \0\x01a\x01\0\x09123456789\0\x01b\x01\0\x09123456789\0\x01c\x01\0\x09123456789";
+
+const TEN_BYTES_PUT: &[u8] = b"\x02\0\0\0\x38\0\0\0\0\0\0\0\0\0\x03\
+    \0\x01a\x01\0\x09123456789\0\x01b\x01\0\x09123456789\0\x01c\x01\0\x0a1234567890";
+
+const SIXTEEN_BYTES_PUT: &[u8] = b"\x02\0\0\0\x9e\0\0\0\0\0\0\0\0\0\x04\
+    \0\x10sixteen_bytes_k1\x01\0\x10sixteen_bytes_v1\0\x10sixteen_bytes_k2\x01\0\x10sixteen_bytes_v2\
+    \0\x10sixteen_bytes_k3\x01\0\x10sixteen_bytes_v3\0\x10sixteen_bytes_k4\x01\0\x10sixteen_bytes_v4";
+
+const SIXTEEN_BYTES_LEAF: &[u8] = b"\x01\0\0\0\x9c\0\0\0\0\0\0\0\0\0\0\0\x04\
+    \0\x10sixteen_bytes_k1\0\x10sixteen_bytes_v1\0\x10sixteen_bytes_k2\0\x10sixteen_bytes_v2\
+    \0\x10sixteen_bytes_k3\0\x10sixteen_bytes_v3\0\x10sixteen_bytes_k4\0\x10sixteen_bytes_v4";
+
+const FOUR_LONG_PUTS: &str = "sixteen_bytes_k1=sixteen_bytes_v1 sixteen_bytes_k2=sixteen_bytes_v2 \
+    sixteen_bytes_k3=sixteen_bytes_v3 sixteen_bytes_k4=sixteen_bytes_v4";
+
+const LONG_PUT: &str = "a=0123456789abcdef";
+
+const LONG_A_PUT: &[u8] = b"\x02\0\0\0\x20\0\0\0\0\0\0\0\0\0\x01\0\x01a\x01\0\x100123456789abcdef";
+
+const LONG_A_LEAF: &[u8] = b"\x01\0\0\0\x21\0\0\0\0\0\0\0\0\0\0\0\x01\0\x01a\0\x100123456789abcdef";
+
+const LONG_A_AND_B_LEAF: &[u8] =
+    b"\x01\0\0\0\x27\0\0\0\0\0\0\0\0\0\0\0\x02\0\x01a\0\x100123456789abcdef\0\x01b\0\x012";
+
+const ROWS: [Row; 17] = [
+    Row {
+        name: "a new store",
+        steps: &[],
+        answers: "",
+        slots: [NO_SLOT, FIRST_SLOT],
+        log: &[],
+    },
+    Row {
+        name: "log 1",
+        steps: &["", "flush"],
+        answers: "; flushed 1; ",
+        slots: [NO_SLOT, FIRST_SLOT],
+        log: &[],
+    },
+    Row {
+        name: "log 2",
+        steps: &["a a=1 a a=2 a -a a", "flush"],
+        answers: "MN1R2DM; flushed 2; ",
+        slots: [
+            SlotRow {
+                sequence: 2,
+                tail: 52,
+                ..FIRST_SLOT
+            },
+            FIRST_SLOT,
+        ],
+        log: &[A_ABSENT],
+    },
+    Row {
+        name: "log 3",
+        steps: &["a=1", "flush", "+a=2", "flush"],
+        answers: "N; flushed 2; E; flushed 2; ",
+        slots: [
+            SlotRow {
+                sequence: 2,
+                tail: 55,
+                ..FIRST_SLOT
+            },
+            FIRST_SLOT,
+        ],
+        log: &[A_PUT],
+    },
+    Row {
+        name: "log 4",
+        steps: &[FIVE_PUTS, "flush"],
+        answers: "NNNNN; flushed 2; ",
+        slots: [FIVE_PUTS_SLOT, FIRST_SLOT],
+        log: &[LEAF_0, LEAF_1, ROOT],
+    },
+    // The frame of page 5 would end behind the segment.
+    Row {
+        name: "log 5",
+        steps: &[SEVENTEEN_PUTS, "flush"],
+        answers: "NNNNNNNNNNNNNNNNN; flushed 2; ",
+        slots: [SEVENTEEN_PUTS_SLOT, FIRST_SLOT],
+        log: &[
+            LEAF_ABC, LEAF_DEF, LEAF_GHIJ, LEAF_KLM, LEAF_NOPQ, &[0; 32], HEADER_1, INDEX_5,
+            INDEX_6, INDEX_7,
+        ],
+    },
+    Row {
+        name: "log 6",
+        steps: &["a=1 b=2 c=3 d=4", "flush"],
+        answers: "NNNN; flushed 2; ",
+        slots: [
+            SlotRow {
+                sequence: 2,
+                tail: 76,
+                ..FIRST_SLOT
+            },
+            FIRST_SLOT,
+        ],
+        log: &[FOUR_PUT],
+    },
+    Row {
+        name: "log 7",
+        steps: &["a=1", "a=2", "a=3", "flush"],
+        answers: "N; R; R; flushed 2; ",
+        slots: [
+            SlotRow {
+                sequence: 2,
+                tail: 56,
+                ..FIRST_SLOT
+            },
+            FIRST_SLOT,
+        ],
+        log: &[A_3],
+    },
+    Row {
+        name: "log 9",
+        steps: &[FIVE_PUTS, "flush", "-a -b -c -d -e", "a=1", "-a", "flush"],
+        answers: "NNNNN; flushed 2; DDDDD; N; D; flushed 3; ",
+        slots: [
+            FIVE_PUTS_SLOT,
+            SlotRow {
+                sequence: 3,
+                tail: 179,
+                ..FIRST_SLOT
+            },
+        ],
+        log: &[LEAF_0, LEAF_1, ROOT, EMPTY_LEAF, FREE_1, FREE_2],
+    },
+    Row {
+        name: "log 10",
+        steps: &PUT_AGAIN,
+        answers: "NNNNN; flushed 2; DDDDD; N; D; flushed 3; NNNNN; flushed 4; ",
+        slots: [
+            SlotRow {
+                sequence: 4,
+                tail: 310,
+                ..FIVE_PUTS_SLOT
+            },
+            SlotRow {
+                sequence: 3,
+                tail: 179,
+                ..FIRST_SLOT
+            },
+        ],
+        log: &[
+            LEAF_0, LEAF_1, ROOT, EMPTY_LEAF, FREE_1, FREE_2, LEAF_0, LEAF_1, &[0; 12], HEADER_1,
+            ROOT,
+        ],
+    },
+    Row {
+        name: "log 12",
+        steps: &[FIVE_PUTS, "a=9", "flush"],
+        answers: "NNNNN; R; flushed 2; ",
+        slots: [
+            SlotRow {
+                tail: 158,
+                ..FIVE_PUTS_SLOT
+            },
+            FIRST_SLOT,
+        ],
+        log: &[LEAF_0, A_PUT_9, LEAF_1, ROOT],
+    },
+    Row {
+        name: "log 13",
+        steps: &[SEVENTEEN_PUTS, "flush", "-d -e -f", "d=1", "-d", "flush"],
+        answers: "NNNNNNNNNNNNNNNNN; flushed 2; DDD; N; D; flushed 3; ",
+        slots: [
+            SEVENTEEN_PUTS_SLOT,
+            SlotRow {
+                sequence: 3,
+                tail: 466,
+                ..SEVENTEEN_PUTS_SLOT
+            },
+        ],
+        log: &[
+            LEAF_ABC,
+            LEAF_DEF,
+            LEAF_GHIJ,
+            LEAF_KLM,
+            LEAF_NOPQ,
+            &[0; 32],
+            HEADER_1,
+            INDEX_5,
+            INDEX_6,
+            INDEX_7,
+            LEAF_ABC,
+            FREE_1,
+            D_ABSENT_IN_5,
+        ],
+    },
+    // The frame ends where the segment does, and the next one is not begun.
+    Row {
+        name: "log 14",
+        steps: &[
+            "a=123456789 b=123456789 c=123456789",
+            "flush",
+            FOUR_LONG_PUTS,
+            "flush",
+        ],
+        answers: "NNN; flushed 2; NNNN; flushed 3; ",
+        slots: [
+            SlotRow {
+                sequence: 2,
+                tail: 93,
+                ..FIRST_SLOT
+            },
+            SlotRow {
+                sequence: 3,
+                tail: 256,
+                ..FIRST_SLOT
+            },
+        ],
+        log: &[NINE_BYTES_PUT, SIXTEEN_BYTES_PUT],
+    },
+    // The next flush begins it.
+    Row {
+        name: "log 14, and a flush more",
+        steps: &[
+            "a=123456789 b=123456789 c=123456789",
+            "flush",
+            FOUR_LONG_PUTS,
+            "flush",
+            "-a -b -c",
+            "flush",
+        ],
+        answers: "NNN; flushed 2; NNNN; flushed 3; DDD; flushed 4; ",
+        slots: [
+            SlotRow {
+                sequence: 4,
+                tail: 433,
+                ..FIRST_SLOT
+            },
+            SlotRow {
+                sequence: 3,
+                tail: 256,
+                ..FIRST_SLOT
+            },
+        ],
+        log: &[
+            NINE_BYTES_PUT,
+            SIXTEEN_BYTES_PUT,
+            HEADER_1,
+            SIXTEEN_BYTES_LEAF,
+        ],
+    },
+    Row {
+        name: "log 14, with ten bytes",
+        steps: &[
+            "a=123456789 b=123456789 c=1234567890",
+            "flush",
+            FOUR_LONG_PUTS,
+            "flush",
+        ],
+        answers: "NNN; flushed 2; NNNN; flushed 3; ",
+        slots: [
+            SlotRow {
+                sequence: 2,
+                tail: 94,
+                ..FIRST_SLOT
+            },
+            SlotRow {
+                sequence: 3,
+                tail: 435,
+                ..FIRST_SLOT
+            },
+        ],
+        log: &[TEN_BYTES_PUT, &[0; 162], HEADER_1, SIXTEEN_BYTES_PUT],
+    },
+    // Up to its clean.
+    Row {
+        name: "log 16",
+        steps: &[
+            FIVE_PUTS, "flush", LONG_PUT, "flush", LONG_PUT, "flush", LONG_PUT, "flush", LONG_PUT,
+            "flush", "z=9",
+        ],
+        answers: "NNNNN; flushed 2; R; flushed 3; R; flushed 4; R; flushed 5; R; flushed 6; N; ",
+        slots: [
+            SlotRow {
+                sequence: 6,
+                tail: 309,
+                ..FIVE_PUTS_SLOT
+            },
+            SlotRow {
+                sequence: 5,
+                tail: 254,
+                ..FIVE_PUTS_SLOT
+            },
+        ],
+        log: &[
+            LEAF_0,
+            LEAF_1,
+            ROOT,
+            LONG_A_PUT,
+            LONG_A_PUT,
+            LONG_A_AND_B_LEAF,
+            &[0; 2],
+            HEADER_1,
+            LONG_A_PUT,
+        ],
+    },
+    // The steps behind one that is refused are not begun.
+    Row {
+        name: "a refused step",
+        steps: &["a=1", "flush", "b=1 seventeen_bytes_!=2", "c=3", "flush"],
+        answers: "N; flushed 2; 2: 2 KeyTooLong 1",
+        slots: [
+            SlotRow {
+                sequence: 2,
+                tail: 55,
+                ..FIRST_SLOT
+            },
+            FIRST_SLOT,
+        ],
+        log: &[A_PUT],
+    },
+];
+
+const PUT_AGAIN: [&str; 8] = [
+    FIVE_PUTS,
+    "flush",
+    "-a -b -c -d -e",
+    "a=1",
+    "-a",
+    "flush",
+    FIVE_PUTS,
+    "flush",
+];
+
+// A disk in memory of this length, on which something else was before.
+fn used_disk(alloc: Global, len: usize) -> Result<MemDisk<Global>, Fault> {
+    let mut disk = MemDisk::new(alloc, len)?;
+    let old = vec![in alloc; OLD; len]?;
+    if disk.len() == len as u64 {
+        disk.write_at(0, &old)?;
+    }
+    Ok(disk)
+}
+
+// A new store under the settings S on a disk that is longer than it needs.
+fn store_on_used_disk(alloc: Global) -> Result<Store<MemDisk<Global>>, Fault> {
+    let disk = used_disk(alloc, SHORTEST + 100)?;
+    Store::create(alloc, disk, S).map_err(|(fault, _disk)| fault)
+}
+
+// The commands of a word that is a batch.
+fn batch_of(alloc: Global, word: &str) -> Result<Vec<Command<Global>>, AllocError> {
+    if word.is_empty() {
+        Ok(Vec::new(alloc))
+    } else {
+        commands(alloc, word)
+    }
+}
+
+fn batches_of(alloc: Global, words: &[&str]) -> Result<Vec<Vec<Command<Global>>>, AllocError> {
+    let mut batches = Vec::new(alloc);
+    for word in words {
+        batches.push(batch_of(alloc, *word)?)?;
+    }
+    Ok(batches)
+}
+
+// Appends what steps answered.
+fn write_answers(text: &mut String, answers: &[Answer]) -> Result<(), AllocError> {
+    for answer in answers {
+        match answer {
+            Answer::Replies(replies) => write_replies(text, replies)?,
+            Answer::Flushed(sequence) => write!(text, "flushed {sequence}")?,
+        }
+        text.push_str("; ")?;
+    }
+    Ok(())
+}
+
+// Plays a step, a flush where the word says so, and else the batch, and appends what it answers. Returns why it is refused.
+fn write_step<D: Disk>(
+    rt: &(impl Threads + Sync),
+    store: &mut Store<D>,
+    word: &str,
+    batch: &[Command<Global>],
+    text: &mut String,
+) -> Result<Option<Fault>, AllocError> {
+    let step = if word == "flush" {
+        Step::Flush
+    } else {
+        Step::Batch(batch)
+    };
+    match store.play(rt, &[step]) {
+        Ok(answers) => {
+            write_answers(text, &answers)?;
+            Ok(None)
+        }
+        Err(refused) => Ok(Some(refused.2)),
+    }
+}
+
+// What the store answers to the steps that the words say, one after the other, up to one that is refused: of that its place and the
+// fault. A step that finds no memory is begun once again.
+fn play<D: Disk>(
+    rt: &(impl Threads + Sync),
+    alloc: Global,
+    store: &mut Store<D>,
+    words: &[&str],
+) -> Result<String, AllocError> {
+    let batches = batches_of(alloc, words)?;
+    let mut text = String::new(alloc);
+    for place in 0..words.len().min(batches.len()) {
+        let mut refused = write_step(rt, store, words[place], &batches[place], &mut text)?;
+        if refused == Some(Fault::NoMemory) {
+            refused = write_step(rt, store, words[place], &batches[place], &mut text)?;
+        }
+        if let Some(fault) = refused {
+            write!(text, "{place}: {fault}")?;
+            return Ok(text);
+        }
+    }
+    Ok(text)
+}
+
+// What the store answers to these steps in one call; of one that is refused its place and the fault.
+fn play_at_once<D: Disk>(
+    rt: &(impl Threads + Sync),
+    alloc: Global,
+    store: &mut Store<D>,
+    steps: &[Step<'_>],
+) -> Result<String, AllocError> {
+    let mut text = String::new(alloc);
+    match store.play(rt, steps) {
+        Ok(answers) => write_answers(&mut text, &answers)?,
+        Err(refused) => {
+            write_answers(&mut text, &refused.1)?;
+            write!(text, "{}: {}", refused.0, refused.2)?;
+        }
+    }
+    Ok(text)
+}
+
+// The bytes of a slot.
+fn bytes_of_slot(slot: &SlotRow) -> [u8; 64] {
+    let mut bytes = [0; 64];
+    bytes[0] = u8::from(slot.sequence > 0);
+    bytes[8..16].copy_from_slice(&slot.sequence.to_be_bytes());
+    bytes[24..32].copy_from_slice(&slot.tail.to_be_bytes());
+    bytes[32..40].copy_from_slice(&slot.root.to_be_bytes());
+    bytes[40..44].copy_from_slice(&slot.height.to_be_bytes());
+    bytes
+}
+
+// What is left of the bytes behind the parts that stand at their front, one behind the other.
+fn behind<'a>(bytes: &'a [u8], parts: &[&[u8]]) -> Option<&'a [u8]> {
+    let mut left = bytes;
+    for part in parts {
+        left = left.strip_prefix(*part)?;
+    }
+    Some(left)
+}
+
+fn is_old(bytes: &[u8]) -> bool {
+    bytes.iter().all(|byte| *byte == OLD)
+}
+
+// Whether the disk has these slots and this log, and else what it had before the store was made.
+fn is_disk(bytes: &[u8], slots: &[SlotRow; 2], log: &[&[u8]]) -> bool {
+    let slot_0 = bytes_of_slot(&slots[0]);
+    let slot_1 = bytes_of_slot(&slots[1]);
+    let front: [&[u8]; 8] = [
+        SETTINGS_BLOCK,
+        &[0; 40],
+        &[0; 64],
+        &slot_0,
+        &slot_1,
+        &[0; 256],
+        HEADER_0,
+        EMPTY_LEAF,
+    ];
+    match behind(bytes, &front) {
+        Some(bytes) => behind(bytes, log).is_some_and(is_old),
+        None => false,
+    }
+}
+
+// Whether the row's steps, on a new store, are answered as told and leave the disk that is told. A disk in memory fails only where
+// memory is refused, and then nothing can be told.
+fn comes_out(rt: &(impl Threads + Sync), alloc: Global, row: &Row) -> Result<bool, Fault> {
+    let mut store = store_on_used_disk(alloc)?;
+    let answers = play(rt, alloc, &mut store, row.steps)?;
+    if store.disk().failures() > 0 {
+        return Err(Fault::Device);
+    }
+    Ok(answers.as_str() == row.answers && is_disk(store.disk().bytes(), &row.slots, row.log))
+}
+
+// To be run with each allocation refused in turn too, by `rt try --test --fail-alloc N` for each N, in a copy where this is the only
+// test. Then at most one row can't be told.
+#[test]
+fn the_rows_come_out(rt: HostRuntime) {
+    let mut right = 0usize;
+    for row in &ROWS {
+        match comes_out(&rt, rt.alloc(), row) {
+            Ok(is_right) => {
+                assert!(rt; is_right, "{}", row.name);
+                right = right.saturating_add(1);
+            }
+            Err(_) => {}
+        }
+    }
+    assert!(rt; right >= 16, "{right} right");
+}
+
+// The bytes from this place on.
+fn from_place(bytes: &[u8], place: usize) -> &[u8] {
+    if place <= bytes.len() {
+        &bytes[place..]
+    } else {
+        &[]
+    }
+}
+
+fn has_slot(bytes: &[u8], slot: &SlotRow) -> bool {
+    let place = if slot.sequence % 2 == 0 { 128 } else { 192 };
+    from_place(bytes, place).starts_with(&bytes_of_slot(slot))
+}
+
+#[test]
+fn slots_are_spelled_as_told(rt: HostRuntime) -> Result<(), Fail> {
+    let rows: [(&[&str], usize, &[u8]); 3] = [
+        (&[], 192, FIRST_SLOT_BYTES),
+        (&[FIVE_PUTS, "flush"], 128, FIVE_PUTS_SLOT_BYTES),
+        (&PUT_AGAIN, 128, PUT_AGAIN_SLOT_BYTES),
+    ];
+    for (steps, place, slot) in &rows {
+        let mut store = store_on_used_disk(rt.alloc())?;
+        play(&rt, rt.alloc(), &mut store, *steps)?;
+        assert_eq!(rt; slot.len(), 64);
+        assert!(rt; from_place(store.disk().bytes(), *place).starts_with(*slot));
+    }
+    Ok(())
+}
+
+// Disks that have no room, and settings that are out of range, which are found first.
+#[test]
+fn a_disk_that_is_refused_is_handed_back(rt: HostRuntime) -> Result<(), Fail> {
+    let few = Settings { fan: 3, ..S };
+    let long = Settings { max_key: 64, ..S };
+    let rows = [
+        (S, SHORTEST - 1, Fault::DiskTooSmall),
+        (S, 0, Fault::DiskTooSmall),
+        (few, SHORTEST, Fault::BadSettings(Field::Fan)),
+        (few, 0, Fault::BadSettings(Field::Fan)),
+        (long, SHORTEST - 1, Fault::BadSettings(Field::SegSize)),
+    ];
+    for (settings, len, refusal) in &rows {
+        let made = Store::create(rt.alloc(), used_disk(rt.alloc(), *len)?, *settings);
+        let is_handed_back = made.is_err_and(|(fault, disk)| {
+            fault == *refusal && disk.bytes().len() == *len && is_old(disk.bytes())
+        });
+        assert!(rt; is_handed_back, "{refusal}");
+    }
+    Ok(())
+}
+
+#[test]
+fn a_disk_of_just_its_length_is_enough(rt: HostRuntime) -> Result<(), Fail> {
+    let made = Store::create(rt.alloc(), used_disk(rt.alloc(), SHORTEST)?, S);
+    let disk = made.map_err(|(fault, _disk)| fault)?.close();
+    assert_eq!(rt; disk.bytes().len(), SHORTEST);
+    assert!(rt; is_disk(disk.bytes(), &[NO_SLOT, FIRST_SLOT], &[]));
+    Ok(())
+}
+
+// The tails after seventeen flushes of a value of sixteen bytes: of three the first two write a run each, and the third a base.
+const TAILS: [u64; 17] = [
+    70, 107, 145, 182, 219, 310, 347, 384, 422, 459, 496, 566, 603, 640, 678, 715, 752,
+];
+
+const FULL_SLOTS: [SlotRow; 2] = [
+    SlotRow {
+        sequence: 18,
+        tail: 752,
+        ..FIRST_SLOT
+    },
+    SlotRow {
+        sequence: 17,
+        tail: 715,
+        ..FIRST_SLOT
+    },
+];
+
+const FULL_LOG: &[&[u8]] = &[
+    LONG_A_PUT,
+    LONG_A_PUT,
+    LONG_A_LEAF,
+    LONG_A_PUT,
+    LONG_A_PUT,
+    &[0; 37],
+    HEADER_1,
+    LONG_A_LEAF,
+    LONG_A_PUT,
+    LONG_A_PUT,
+    LONG_A_LEAF,
+    LONG_A_PUT,
+    LONG_A_PUT,
+    &[0; 16],
+    HEADER_2,
+    LONG_A_LEAF,
+    LONG_A_PUT,
+    LONG_A_PUT,
+    LONG_A_LEAF,
+    LONG_A_PUT,
+    LONG_A_PUT,
+];
+
+// Puts the value and flushes, seventeen times.
+fn fill(
+    rt: &(impl Abort + Threads + Sync),
+    alloc: Global,
+    store: &mut Store<MemDisk<Global>>,
+) -> Result<(), AllocError> {
+    let mut sequence = 1u64;
+    for tail in TAILS {
+        let reply = if sequence == 1 { 'N' } else { 'R' };
+        sequence = sequence.saturating_add(1);
+        let told = format!(in alloc; "{reply}; flushed {sequence}; ")?;
+        let answers = play(rt, alloc, store, &[LONG_PUT, "flush"])?;
+        assert_eq!(rt; answers.as_str(), told.as_str());
+        let slot = SlotRow {
+            sequence,
+            tail,
+            ..FIRST_SLOT
+        };
+        assert!(rt; has_slot(store.disk().bytes(), &slot), "{tail}");
+    }
+    Ok(())
+}
+
+// The pages, with what the log has of each, and the pairs.
+fn look(alloc: Global, store: &Store<MemDisk<Global>>) -> Result<String, Fault> {
+    let mut text = String::new(alloc);
+    write_tree(alloc, &mut text, store.tree())?;
+    write_rows(&mut text, store.range(b"", None, 100)?)?;
+    Ok(text)
+}
+
+// The flush would leave no segment free. It is refused as often as it is asked for, and batches are answered as before.
+#[test]
+fn a_full_log_stays_as_it_is(rt: HostRuntime) -> Result<(), Fail> {
+    let alloc = rt.alloc();
+    let mut store = store_on_used_disk(alloc)?;
+    fill(&rt, alloc, &mut store)?;
+    assert!(rt; is_disk(store.disk().bytes(), &FULL_SLOTS, FULL_LOG));
+    let answers = play(&rt, alloc, &mut store, &[LONG_PUT])?;
+    assert_eq!(rt; answers.as_str(), "R; ");
+    let before = look(alloc, &store)?;
+    for _time in 0..3 {
+        assert_eq!(rt; store.flush(), Err(Fault::Full));
+        assert_eq!(rt; look(alloc, &store)?.as_str(), before.as_str());
+        assert!(rt; is_disk(store.disk().bytes(), &FULL_SLOTS, FULL_LOG));
+    }
+    let answers = play(&rt, alloc, &mut store, &["+b=2", "flush", "c=3"])?;
+    assert_eq!(rt; answers.as_str(), "A; 1: 10 Full");
+    assert!(rt; is_disk(store.disk().bytes(), &FULL_SLOTS, FULL_LOG));
+    let answers = play(&rt, alloc, &mut store, &["b c"])?;
+    assert_eq!(rt; answers.as_str(), "2M; ");
+    Ok(())
+}
+
+// A disk that keeps a list of its calls, of which the one with this number, counted from 1, fails and does nothing.
+#[derive(Drop)]
+struct FailingDisk {
+    bytes: Vec<u8>,
+    list: String,
+    calls: u64,
+    fails_at: u64,
+    failures: u64,
+}
+
+impl FailingDisk {
+    fn new(alloc: Global, fails_at: u64) -> Result<FailingDisk, AllocError> {
+        Ok(FailingDisk {
+            bytes: vec![in alloc; 0; SHORTEST]?,
+            list: String::new(alloc),
+            calls: 0,
+            fails_at,
+            failures: 0,
+        })
+    }
+
+    // Counts a call, and fails where it is the one that fails.
+    fn count(&mut self) -> Result<(), DiskFault>
+        ensures bytes { self.new.bytes.items ≡ self.old.bytes.items }
+        ensures failed { CountsFailure result self.old.failures self.new.failures }
+    {
+        self.calls = self.calls.saturating_add(1);
+        if self.calls == self.fails_at {
+            self.failures = self.failures.saturating_add(1);
+            return Err(DiskFault);
+        }
+        Ok(())
+    }
+}
+
+impl Disk for FailingDisk {
+    ghost view = { λ d. record {
+      is_honest = false;
+      size = length d.bytes.items;
+      seen = d.bytes.items;
+      may_leave = λ _. ⊤;
+      moment = 0;
+      left_since = λ _ _. ⊤;
+    } };
+
+    ghost failed = { λ d. d.failures };
+
+    ghost lawful = { λ disk honest. absurd (cc) };
+
+    fn len(&self) -> u64 {
+        self.bytes.len() as u64
+    }
+
+    fn failures(&self) -> u64 {
+        self.failures
+    }
+
+    fn read_at(&mut self, at: u64, buf: &mut [u8]) -> Result<(), DiskFault> {
+        self.count()?;
+        let _ = write!(self.list, "read {at} {}; ", buf.len());
+        let from = at as usize;
+        buf.copy_from_slice(&self.bytes[from..from + buf.len()]);
+        Ok(())
+    }
+
+    fn write_at(&mut self, at: u64, bytes: &[u8]) -> Result<(), DiskFault> {
+        self.count()?;
+        let _ = match bytes {
+            [byte] => write!(self.list, "gate {at} {byte}; "),
+            _ => write!(self.list, "write {at} {}; ", bytes.len()),
+        };
+        let from = at as usize;
+        self.bytes[from..from + bytes.len()].copy_from_slice(bytes);
+        Ok(())
+    }
+
+    fn sync(&mut self) -> Result<(), DiskFault> {
+        self.count()?;
+        let _ = self.list.push_str("sync; ");
+        Ok(())
+    }
+}
+
+// A new store under the settings S on a disk whose call of this number fails.
+fn failing_store(alloc: Global, fails_at: u64) -> Result<Store<FailingDisk>, Fault> {
+    let disk = FailingDisk::new(alloc, fails_at)?;
+    Store::create(alloc, disk, S).map_err(|(fault, _disk)| fault)
+}
+
+// The gate that stands open is closed; the text goes out by a write for each segment; then the slot, and then its gate. A write of one
+// byte is told with it.
+#[test]
+fn the_calls_of_a_flush_have_their_order(rt: HostRuntime) -> Result<(), Fail> {
+    let rows: [(&[&str], &str); 4] = [
+        (
+            &[FIVE_PUTS, "flush"],
+            "write 0 545; sync; \
+             read 128 1; write 545 103; sync; write 129 63; sync; gate 128 1; sync; ",
+        ),
+        (
+            &[SEVENTEEN_PUTS, "flush"],
+            "write 0 545; sync; \
+             read 128 1; write 545 223; write 768 143; sync; write 129 63; sync; gate 128 1; sync; ",
+        ),
+        (
+            &PUT_AGAIN,
+            "write 0 545; sync; \
+             read 128 1; write 545 103; sync; write 129 63; sync; gate 128 1; sync; \
+             read 192 1; gate 192 0; write 648 43; sync; write 193 63; sync; gate 192 1; sync; \
+             read 128 1; gate 128 0; write 691 77; write 768 54; sync; write 129 63; sync; gate 128 1; sync; ",
+        ),
+        (
+            &[
+                "a=123456789 b=123456789 c=123456789",
+                "flush",
+                FOUR_LONG_PUTS,
+                "flush",
+                "-a -b -c",
+                "flush",
+            ],
+            "write 0 545; sync; \
+             read 128 1; write 545 60; sync; write 129 63; sync; gate 128 1; sync; \
+             read 192 1; gate 192 0; write 605 163; sync; write 193 63; sync; gate 192 1; sync; \
+             read 128 1; gate 128 0; write 768 177; sync; write 129 63; sync; gate 128 1; sync; ",
+        ),
+    ];
+    for (steps, calls) in &rows {
+        let mut store = failing_store(rt.alloc(), 0)?;
+        play(&rt, rt.alloc(), &mut store, *steps)?;
+        assert_eq!(rt; store.disk().list.as_str(), *calls);
+    }
+    Ok(())
+}
+
+// Each call of the disk but those that make the store would fail.
+#[test]
+fn an_empty_flush_calls_no_disk(rt: HostRuntime) -> Result<(), Fail> {
+    let mut store = failing_store(rt.alloc(), 3)?;
+    let answers = play(&rt, rt.alloc(), &mut store, &["flush", "a -a", "flush"])?;
+    assert_eq!(rt; answers.as_str(), "flushed 1; MM; flushed 1; ");
+    assert_eq!(rt; store.disk().calls, 2);
+
+    let mut store = failing_store(rt.alloc(), 10)?;
+    let words = [FIVE_PUTS, "flush", "flush", "+a=2 e", "flush"];
+    let answers = play(&rt, rt.alloc(), &mut store, &words)?;
+    assert_eq!(rt;
+        answers.as_str(),
+        "NNNNN; flushed 2; flushed 2; E5; flushed 2; "
+    );
+    assert_eq!(rt; store.disk().calls, 9);
+    Ok(())
+}
+
+#[test]
+fn no_store_is_made_where_a_call_fails(rt: HostRuntime) -> Result<(), Fail> {
+    for fails_at in 1..3u64 {
+        let disk = FailingDisk::new(rt.alloc(), fails_at)?;
+        let is_handed_back = Store::create(rt.alloc(), disk, S).is_err_and(|(fault, disk)| {
+            fault == Fault::Device && disk.calls == fails_at && disk.failures == 1
+        });
+        assert!(rt; is_handed_back, "{fails_at}");
+    }
+    assert_eq!(rt; failing_store(rt.alloc(), 3)?.close().calls, 2);
+    Ok(())
+}
+
+// What a store does before a flush, how many calls of the disk that takes and then the flush, the sequence number that the flush
+// gives, and the pairs that the store holds.
+struct FailingRow {
+    steps: &'static [&'static str],
+    calls_before: u64,
+    calls: u64,
+    sequence: u8,
+    pairs: &'static str,
+}
+
+const FAILING_ROWS: [FailingRow; 3] = [
+    FailingRow {
+        steps: &[FIVE_PUTS],
+        calls_before: 2,
+        calls: 7,
+        sequence: 2,
+        pairs: " a=1 b=2 c=3 d=4 e=5;",
+    },
+    // The text goes into two segments.
+    FailingRow {
+        steps: &[SEVENTEEN_PUTS],
+        calls_before: 2,
+        calls: 8,
+        sequence: 2,
+        pairs: " a=1 b=1 c=1 d=1 e=1 f=1 g=1 h=1 i=1 j=1 k=1 l=1 m=1 n=1 o=1 p=1 q=1;",
+    },
+    // The gate of the slot stands open before.
+    FailingRow {
+        steps: &[SEVENTEEN_PUTS, "flush", "-d -e -f", "d=1", "-d"],
+        calls_before: 10,
+        calls: 8,
+        sequence: 3,
+        pairs: " a=1 b=1 c=1 g=1 h=1 i=1 j=1 k=1 l=1 m=1 n=1 o=1 p=1 q=1;",
+    },
+];
+
+// The last byte of the sequence number of a slot, where its gate stands open.
+fn sequence_at(bytes: &[u8], place: usize) -> u8 {
+    match from_place(bytes, place) {
+        [1, ..] => from_place(bytes, place.saturating_add(15))
+            .first()
+            .copied()
+            .unwrap_or(0),
+        _ => 0,
+    }
+}
+
+// The last byte of the greatest sequence number in an open slot.
+fn sequence_on(bytes: &[u8]) -> u8 {
+    sequence_at(bytes, 128).max(sequence_at(bytes, 192))
+}
+
+// Steps of which each is refused once a store has failed, whatever else is wrong with it, and those behind it are not begun.
+const REFUSED_STEPS: [&[&str]; 5] = [
+    &[FIVE_PUTS, "flush"],
+    &["a", "flush"],
+    &["", "a"],
+    &["seventeen_bytes_!", "a"],
+    &["flush", "a"],
+];
+
+// Looks at a store after a call in its flush has failed: it answers nothing but look-ups of ranges and `verify`, and calls the
+// disk no more.
+fn look_at_failed(
+    rt: &(impl Abort + Threads + Sync),
+    alloc: Global,
+    row: &FailingRow,
+    store: &mut Store<FailingDisk>,
+) -> Result<(), Fault> {
+    for steps in REFUSED_STEPS {
+        let answers = play(rt, alloc, store, steps)?;
+        assert!(rt; answers.as_str() == "0: 8 Failed");
+    }
+    assert!(rt; matches!(store.batch(rt, &[]), Err(Fault::Failed)));
+    assert_eq!(rt; store.flush(), Err(Fault::Failed));
+    let answers = play(rt, alloc, store, &[])?;
+    assert!(rt; answers.is_empty());
+    let mut pairs = String::new(alloc);
+    write_rows(&mut pairs, store.range(b"", None, 100)?)?;
+    assert!(rt; pairs.as_str() == row.pairs);
+    store.verify(rt)?;
+    Ok(())
+}
+
+// Before the gate is opened the disk holds the store of before, and from then on the one that was flushed.
+fn look_where_a_call_fails(
+    rt: &(impl Abort + Threads + Sync),
+    alloc: Global,
+    row: &FailingRow,
+    failing: u64,
+) -> Result<(), Fault> {
+    let fails_at = row.calls_before.saturating_add(failing);
+    let mut store = failing_store(alloc, fails_at)?;
+    play(rt, alloc, &mut store, row.steps)?;
+    assert_eq!(rt; store.disk().calls, row.calls_before);
+    assert_eq!(rt; store.flush(), Err(Fault::Device));
+    look_at_failed(rt, alloc, row, &mut store)?;
+    let disk = store.close();
+    assert_eq!(rt; (disk.calls, disk.failures), (fails_at, 1));
+    let is_open = failing == row.calls;
+    let sequence = sequence_on(&disk.bytes);
+    assert_eq!(rt; sequence.saturating_add(u8::from(!is_open)), row.sequence);
+    Ok(())
+}
+
+#[test]
+fn a_store_has_failed_where_a_call_of_its_flush_fails(rt: HostRuntime) -> Result<(), Fail> {
+    for row in &FAILING_ROWS {
+        for failing in 1..row.calls.saturating_add(1) {
+            look_where_a_call_fails(&rt, rt.alloc(), row, failing)?;
+        }
+        let all = row.calls_before.saturating_add(row.calls);
+        let mut store = failing_store(rt.alloc(), all.saturating_add(1))?;
+        play(&rt, rt.alloc(), &mut store, row.steps)?;
+        assert_eq!(rt; store.flush(), Ok(u64::from(row.sequence)));
+        assert_eq!(rt; store.disk().calls, all);
+    }
+    Ok(())
+}
+
+// The steps behind one that is refused are not begun. A store that has failed does no step; no steps are always done.
+#[test]
+fn a_play_stops_where_a_step_is_refused(rt: HostRuntime) -> Result<(), Fail> {
+    let alloc = rt.alloc();
+    let one = batch_of(alloc, "a=1")?;
+    let long = batch_of(alloc, "b=1 seventeen_bytes_!=2")?;
+    let steps = [
+        Step::Batch(&one),
+        Step::Flush,
+        Step::Batch(&long),
+        Step::Flush,
+    ];
+    let mut store = store_on_used_disk(alloc)?;
+    let told = play_at_once(&rt, alloc, &mut store, &steps)?;
+    assert_eq!(rt; told.as_str(), "N; flushed 2; 2: 2 KeyTooLong 1");
+    let told = play_at_once(&rt, alloc, &mut store, &[])?;
+    assert!(rt; told.is_empty());
+    // The first call of its first flush fails.
+    let mut store = failing_store(alloc, 3)?;
+    let told = play_at_once(&rt, alloc, &mut store, &steps)?;
+    assert_eq!(rt; told.as_str(), "N; 1: 9 Device");
+    let told = play_at_once(&rt, alloc, &mut store, &steps)?;
+    assert_eq!(rt; told.as_str(), "0: 8 Failed");
+    let told = play_at_once(&rt, alloc, &mut store, &[])?;
+    assert!(rt; told.is_empty());
+    Ok(())
+}
