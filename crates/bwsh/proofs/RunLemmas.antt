@@ -208,11 +208,10 @@ module _ (settings : Settings) (st : Store) (file : List ℕ) where
 
       pub LeavesStored-answered : (on_disk : Store) → ArePlayed (batching settings) settings st.tree on_disk.tree (step_of x ∷ []) (alone settings st file (step_of x)) → LeavesStored settings at order (after, bytes)
       LeavesStored-answered on_disk are =
-          let holds = subst (λ (q : Played Global). contents q.store.tree ≡ map_after_all (contents st.tree) (flat (batches_among (take (length q.answers) (step_of x ∷ []))))) whole are.holds in
-          (
+          let holds = subst (λ (q : Played Global). contents q.store.tree ≡ map_after_all (contents st.tree) (flat (batches_among (take (length q.answers) (step_of x ∷ []))))) whole are.holds in (
             none,
             after_is ∙ sym left_is,
-            ap (λ (q : Stored). contents q.0.tree) after_is ∙ holds ∙ map_of order (step_of x) (contents st.tree) is
+            ap (λ (q : Stored). contents q.0.tree) after_is ∙ holds ∙ map_of order (step_of x) (contents st.tree) is,
           )
 
 -- ---- what a verify answers

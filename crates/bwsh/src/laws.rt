@@ -42,7 +42,7 @@ pub fn each_order_prints_its_answer()
     ensures none { (settings : Settings) → (at : Stored) → (m : Pairs Bytes) → printed settings at m [] ≡ [] }
     ensures batch { (settings : Settings) → (at : Stored) → (m : Pairs Bytes) → (commands : List (Command Global)) → (rest : List Order) →
         printed settings at m (Batch commands ∷ rest)
-            ≡ flat_map shown_reply (replies_to m commands) ++ printed settings (behind settings at (Batch commands)) (map_after_all m commands) rest }
+        ≡ flat_map shown_reply (replies_to m commands) ++ printed settings (behind settings at (Batch commands)) (map_after_all m commands) rest }
     ensures flush { (settings : Settings) → (at : Stored) → (m : Pairs Bytes) → (rest : List Order) →
         printed settings at m (Flush ∷ rest) ≡ shown_flushed (behind settings at Flush).0.sequence ++ printed settings (behind settings at Flush) m rest }
     ensures verify { (settings : Settings) → (at : Stored) → (m : Pairs Bytes) → (rest : List Order) →

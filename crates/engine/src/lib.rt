@@ -7,6 +7,8 @@ mod bases;
 mod disk_rows;
 mod execute;
 #[cfg(test)]
+mod failing_disk_rows;
+#[cfg(test)]
 mod frame_rows;
 pub mod laws;
 mod leaves;

@@ -109,7 +109,7 @@ fn write_hidden<D: Disk>(
     ensures failed { CountsFailure result (D.failed disk.old) (D.failed disk.new) }
     ensures written { (text : List Frame) → AreOfText images.now text → 1 ≤ length text → IsTrue (D.view disk.old).is_honest →
         OnOk result ((D.view disk.new).seen ≡ with_spans settings.now
-            (seen_after (close_gate is_open (slot_place sequence)) (D.view disk.old).seen) (spans settings.now tail text)) }
+        (seen_after (close_gate is_open (slot_place sequence)) (D.view disk.old).seen) (spans settings.now tail text)) }
     ensures settled { IsTrue (D.view disk.old).is_honest → OnOk result (IsSettled (D.view disk.new)) }
     ensures crash { (text : List Frame) → AreOfText images.now text → 1 ≤ length text →
         AreWithin settings.now (disk_size settings.now) (spans settings.now tail text) →

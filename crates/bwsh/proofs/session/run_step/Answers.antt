@@ -34,7 +34,7 @@ returns-in-Err-clause-runs g c order is =
     let view = g.D.Disk.view in
     let out = g.O.Write.contents c.args.out.now in
     ⊎_elim
-        (λ device. rw device.1 (cut_off store.settings (stored view store) order out out))
-        (λ other. rw other.1 (Runs-refused store.settings store.store (view store.disk).seen order c.args.step is out _ _ c.in-Err.refused.0 c.in-Err.refused.2
-        c.in-Err.ensures.err.0 other.0 (c.in-Err.ensures.refused c.requires.fine)))
-        c.store_fault.ensures
+    (λ device. rw device.1 (cut_off store.settings (stored view store) order out out))
+    (λ other. rw other.1 (Runs-refused store.settings store.store (view store.disk).seen order c.args.step is out _ _ c.in-Err.refused.0 c.in-Err.refused.2
+    c.in-Err.ensures.err.0 other.0 (c.in-Err.ensures.refused c.requires.fine)))
+    c.store_fault.ensures

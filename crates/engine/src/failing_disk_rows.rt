@@ -1,0 +1,331 @@
+//! The calls by which a store reaches its disk, in their order, and what is left and answered where one of them fails.
+ghost use Rattle.std.specs.Prelude.{◌≡◌, false, length, ⊤};
+ghost use Rattle.flush_log.specs.Disk.{CountsFailure};
+
+use crate::log_rows::{
+    FOUR_LONG_PUTS, PUT_AGAIN, SHORTEST, batch_of, from_place, play, play_at_once,
+    store_on_used_disk,
+};
+use crate::step::Step;
+use crate::store::Store;
+use crate::tests::{FIVE_PUTS, S, SEVENTEEN_PUTS, write_rows};
+use flush_log::{Disk, DiskFault};
+use keys::Fault;
+use std::alloc::{AllocError, Global};
+use std::process::Abort;
+use std::test::Fail;
+use std::thread::Threads;
+
+// A disk that keeps a list of its calls, of which the one with this number, counted from 1, fails and does nothing.
+#[derive(Drop)]
+struct FailingDisk {
+    bytes: Vec<u8>,
+    list: String,
+    calls: u64,
+    fails_at: u64,
+    failures: u64,
+}
+
+impl FailingDisk {
+    fn new(alloc: Global, fails_at: u64) -> Result<FailingDisk, AllocError> {
+        Ok(FailingDisk {
+            bytes: vec![in alloc; 0; SHORTEST]?,
+            list: String::new(alloc),
+            calls: 0,
+            fails_at,
+            failures: 0,
+        })
+    }
+
+    // Counts a call, and fails where it is the one that fails.
+    fn count(&mut self) -> Result<(), DiskFault>
+        ensures bytes { self.new.bytes.items ≡ self.old.bytes.items }
+        ensures failed { CountsFailure result self.old.failures self.new.failures }
+    {
+        self.calls = self.calls.saturating_add(1);
+        if self.calls == self.fails_at {
+            self.failures = self.failures.saturating_add(1);
+            return Err(DiskFault);
+        }
+        Ok(())
+    }
+}
+
+impl Disk for FailingDisk {
+    ghost view = { λ d. record {
+      is_honest = false;
+      size = length d.bytes.items;
+      seen = d.bytes.items;
+      may_leave = λ _. ⊤;
+      moment = 0;
+      left_since = λ _ _. ⊤;
+    } };
+
+    ghost failed = { λ d. d.failures };
+
+    ghost lawful = { λ disk honest. absurd (cc) };
+
+    fn len(&self) -> u64 {
+        self.bytes.len() as u64
+    }
+
+    fn failures(&self) -> u64 {
+        self.failures
+    }
+
+    fn read_at(&mut self, at: u64, buf: &mut [u8]) -> Result<(), DiskFault> {
+        self.count()?;
+        let _ = write!(self.list, "read {at} {}; ", buf.len());
+        let from = at as usize;
+        buf.copy_from_slice(&self.bytes[from..from + buf.len()]);
+        Ok(())
+    }
+
+    fn write_at(&mut self, at: u64, bytes: &[u8]) -> Result<(), DiskFault> {
+        self.count()?;
+        let _ = match bytes {
+            [byte] => write!(self.list, "gate {at} {byte}; "),
+            _ => write!(self.list, "write {at} {}; ", bytes.len()),
+        };
+        let from = at as usize;
+        self.bytes[from..from + bytes.len()].copy_from_slice(bytes);
+        Ok(())
+    }
+
+    fn sync(&mut self) -> Result<(), DiskFault> {
+        self.count()?;
+        let _ = self.list.push_str("sync; ");
+        Ok(())
+    }
+}
+
+// A new store under the settings S on a disk whose call of this number fails.
+fn failing_store(alloc: Global, fails_at: u64) -> Result<Store<FailingDisk>, Fault> {
+    let disk = FailingDisk::new(alloc, fails_at)?;
+    Store::create(alloc, disk, S).map_err(|(fault, _disk)| fault)
+}
+
+// The gate that stands open is closed; the text goes out by a write for each segment; then the slot, and then its gate. A write of one
+// byte is told with it.
+#[test]
+fn the_calls_of_a_flush_have_their_order(rt: HostRuntime) -> Result<(), Fail> {
+    let rows: [(&[&str], &str); 4] = [
+        (
+            &[FIVE_PUTS, "flush"],
+            "write 0 545; sync; \
+             read 128 1; write 545 103; sync; write 129 63; sync; gate 128 1; sync; ",
+        ),
+        (
+            &[SEVENTEEN_PUTS, "flush"],
+            "write 0 545; sync; \
+             read 128 1; write 545 223; write 768 143; sync; write 129 63; sync; gate 128 1; sync; ",
+        ),
+        (
+            &PUT_AGAIN,
+            "write 0 545; sync; \
+             read 128 1; write 545 103; sync; write 129 63; sync; gate 128 1; sync; \
+             read 192 1; gate 192 0; write 648 43; sync; write 193 63; sync; gate 192 1; sync; \
+             read 128 1; gate 128 0; write 691 77; write 768 54; sync; write 129 63; sync; gate 128 1; sync; ",
+        ),
+        (
+            &[
+                "a=123456789 b=123456789 c=123456789",
+                "flush",
+                FOUR_LONG_PUTS,
+                "flush",
+                "-a -b -c",
+                "flush",
+            ],
+            "write 0 545; sync; \
+             read 128 1; write 545 60; sync; write 129 63; sync; gate 128 1; sync; \
+             read 192 1; gate 192 0; write 605 163; sync; write 193 63; sync; gate 192 1; sync; \
+             read 128 1; gate 128 0; write 768 177; sync; write 129 63; sync; gate 128 1; sync; ",
+        ),
+    ];
+    for (steps, calls) in &rows {
+        let mut store = failing_store(rt.alloc(), 0)?;
+        play(&rt, rt.alloc(), &mut store, *steps)?;
+        assert_eq!(rt; store.disk().list.as_str(), *calls);
+    }
+    Ok(())
+}
+
+// Each call of the disk but those that make the store would fail.
+#[test]
+fn an_empty_flush_calls_no_disk(rt: HostRuntime) -> Result<(), Fail> {
+    let mut store = failing_store(rt.alloc(), 3)?;
+    let answers = play(&rt, rt.alloc(), &mut store, &["flush", "a -a", "flush"])?;
+    assert_eq!(rt; answers.as_str(), "flushed 1; MM; flushed 1; ");
+    assert_eq!(rt; store.disk().calls, 2);
+
+    let mut store = failing_store(rt.alloc(), 10)?;
+    let words = [FIVE_PUTS, "flush", "flush", "+a=2 e", "flush"];
+    let answers = play(&rt, rt.alloc(), &mut store, &words)?;
+    assert_eq!(rt;
+        answers.as_str(),
+        "NNNNN; flushed 2; flushed 2; E5; flushed 2; "
+    );
+    assert_eq!(rt; store.disk().calls, 9);
+    Ok(())
+}
+
+#[test]
+fn no_store_is_made_where_a_call_fails(rt: HostRuntime) -> Result<(), Fail> {
+    for fails_at in 1..3u64 {
+        let disk = FailingDisk::new(rt.alloc(), fails_at)?;
+        let is_handed_back = Store::create(rt.alloc(), disk, S).is_err_and(|(fault, disk)| {
+            fault == Fault::Device && disk.calls == fails_at && disk.failures == 1
+        });
+        assert!(rt; is_handed_back, "{fails_at}");
+    }
+    assert_eq!(rt; failing_store(rt.alloc(), 3)?.close().calls, 2);
+    Ok(())
+}
+
+// What a store does before a flush, how many calls of the disk that takes and then the flush, the sequence number that the flush
+// gives, and the pairs that the store holds.
+struct FailingRow {
+    steps: &'static [&'static str],
+    calls_before: u64,
+    calls: u64,
+    sequence: u8,
+    pairs: &'static str,
+}
+
+const FAILING_ROWS: [FailingRow; 3] = [
+    FailingRow {
+        steps: &[FIVE_PUTS],
+        calls_before: 2,
+        calls: 7,
+        sequence: 2,
+        pairs: " a=1 b=2 c=3 d=4 e=5;",
+    },
+    // The text goes into two segments.
+    FailingRow {
+        steps: &[SEVENTEEN_PUTS],
+        calls_before: 2,
+        calls: 8,
+        sequence: 2,
+        pairs: " a=1 b=1 c=1 d=1 e=1 f=1 g=1 h=1 i=1 j=1 k=1 l=1 m=1 n=1 o=1 p=1 q=1;",
+    },
+    // The gate of the slot stands open before.
+    FailingRow {
+        steps: &[SEVENTEEN_PUTS, "flush", "-d -e -f", "d=1", "-d"],
+        calls_before: 10,
+        calls: 8,
+        sequence: 3,
+        pairs: " a=1 b=1 c=1 g=1 h=1 i=1 j=1 k=1 l=1 m=1 n=1 o=1 p=1 q=1;",
+    },
+];
+
+// The last byte of the sequence number of a slot, where its gate stands open.
+fn sequence_at(bytes: &[u8], place: usize) -> u8 {
+    match from_place(bytes, place) {
+        [1, ..] => from_place(bytes, place.saturating_add(15))
+            .first()
+            .copied()
+            .unwrap_or(0),
+        _ => 0,
+    }
+}
+
+// The last byte of the greatest sequence number in an open slot.
+fn sequence_on(bytes: &[u8]) -> u8 {
+    sequence_at(bytes, 128).max(sequence_at(bytes, 192))
+}
+
+// Steps of which each is refused once a store has failed, whatever else is wrong with it, and those behind it are not begun.
+const REFUSED_STEPS: [&[&str]; 5] = [
+    &[FIVE_PUTS, "flush"],
+    &["a", "flush"],
+    &["", "a"],
+    &["seventeen_bytes_!", "a"],
+    &["flush", "a"],
+];
+
+// Looks at a store after a call in its flush has failed: it answers nothing but look-ups of ranges and `verify`, and calls the
+// disk no more.
+fn look_at_failed(
+    rt: &(impl Abort + Threads + Sync),
+    alloc: Global,
+    row: &FailingRow,
+    store: &mut Store<FailingDisk>,
+) -> Result<(), Fault> {
+    for steps in REFUSED_STEPS {
+        let answers = play(rt, alloc, store, steps)?;
+        assert!(rt; answers.as_str() == "0: 8 Failed");
+    }
+    assert!(rt; matches!(store.batch(rt, &[]), Err(Fault::Failed)));
+    assert_eq!(rt; store.flush(), Err(Fault::Failed));
+    let answers = play(rt, alloc, store, &[])?;
+    assert!(rt; answers.is_empty());
+    let mut pairs = String::new(alloc);
+    write_rows(&mut pairs, store.range(b"", None, 100)?)?;
+    assert!(rt; pairs.as_str() == row.pairs);
+    store.verify(rt)?;
+    Ok(())
+}
+
+// Before the gate is opened the disk holds the store of before, and from then on the one that was flushed.
+fn look_where_a_call_fails(
+    rt: &(impl Abort + Threads + Sync),
+    alloc: Global,
+    row: &FailingRow,
+    failing: u64,
+) -> Result<(), Fault> {
+    let fails_at = row.calls_before.saturating_add(failing);
+    let mut store = failing_store(alloc, fails_at)?;
+    play(rt, alloc, &mut store, row.steps)?;
+    assert_eq!(rt; store.disk().calls, row.calls_before);
+    assert_eq!(rt; store.flush(), Err(Fault::Device));
+    look_at_failed(rt, alloc, row, &mut store)?;
+    let disk = store.close();
+    assert_eq!(rt; (disk.calls, disk.failures), (fails_at, 1));
+    let is_open = failing == row.calls;
+    let sequence = sequence_on(&disk.bytes);
+    assert_eq!(rt; sequence.saturating_add(u8::from(!is_open)), row.sequence);
+    Ok(())
+}
+
+#[test]
+fn a_store_has_failed_where_a_call_of_its_flush_fails(rt: HostRuntime) -> Result<(), Fail> {
+    for row in &FAILING_ROWS {
+        for failing in 1..row.calls.saturating_add(1) {
+            look_where_a_call_fails(&rt, rt.alloc(), row, failing)?;
+        }
+        let all = row.calls_before.saturating_add(row.calls);
+        let mut store = failing_store(rt.alloc(), all.saturating_add(1))?;
+        play(&rt, rt.alloc(), &mut store, row.steps)?;
+        assert_eq!(rt; store.flush(), Ok(u64::from(row.sequence)));
+        assert_eq!(rt; store.disk().calls, all);
+    }
+    Ok(())
+}
+
+// The steps behind one that is refused are not begun. A store that has failed does no step; no steps are always done.
+#[test]
+fn a_play_stops_where_a_step_is_refused(rt: HostRuntime) -> Result<(), Fail> {
+    let alloc = rt.alloc();
+    let one = batch_of(alloc, "a=1")?;
+    let long = batch_of(alloc, "b=1 seventeen_bytes_!=2")?;
+    let steps = [
+        Step::Batch(&one),
+        Step::Flush,
+        Step::Batch(&long),
+        Step::Flush,
+    ];
+    let mut store = store_on_used_disk(alloc)?;
+    let told = play_at_once(&rt, alloc, &mut store, &steps)?;
+    assert_eq!(rt; told.as_str(), "N; flushed 2; 2: 2 KeyTooLong 1");
+    let told = play_at_once(&rt, alloc, &mut store, &[])?;
+    assert!(rt; told.is_empty());
+    // The first call of its first flush fails.
+    let mut store = failing_store(alloc, 3)?;
+    let told = play_at_once(&rt, alloc, &mut store, &steps)?;
+    assert_eq!(rt; told.as_str(), "N; 1: 9 Device");
+    let told = play_at_once(&rt, alloc, &mut store, &steps)?;
+    assert_eq!(rt; told.as_str(), "0: 8 Failed");
+    let told = play_at_once(&rt, alloc, &mut store, &[])?;
+    assert!(rt; told.is_empty());
+    Ok(())
+}
