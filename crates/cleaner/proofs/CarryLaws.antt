@@ -7,11 +7,11 @@ use Rattle.std.proofs.lemmas.List.Folds.{list_any-append}
 use Rattle.frame_codec.specs.Frame.{Content, Frame}
 use Rattle.frame_codec.specs.Frame.Content.{FullLeaf, DeltaLeaf, FullIndex, DeltaIndex, Free}
 use Rattle.flush_log.specs.Reading.{Found}
-use Rattle.recovery.specs.PageByLog.{is_start, from_last, continued, told_page, page_by_log, is_broken}
+use Rattle.recovery.specs.PageByLog.{is_base, is_start, from_last, continued, told_page, page_by_log, is_broken}
 use Rattle.recovery.specs.PageByLog.InLog.{Missing, Broken}
 use Rattle.recovery.specs.StoreOfDisk.{frames_in}
 use Rattle.recovery.proofs.PartLaws.{IsPart, from_last-none, from_last-behind, from_last-more, from_last-at, from_last-map, from_last-is, from_last-all, from_last-some, none-append, any-map}
-use Rattle.cleaner.specs.CleanText.{is_base, carried}
+use Rattle.cleaner.specs.CleanText.{carried}
 
 -- ---- one pid
 

@@ -142,15 +142,15 @@ some-segments false r now bytes e = (refl, e)
 pub record IsClean (s : Settings) (st : Store) (file : List ℕ) (now : Store) (bytes : List ℕ) : Type 0 where
   pub more : st.head ≢ last_segment s st.tail
   pub found : List Found
-  pub read : log s file st.head st.tail ≡ Ok found
+  pub read : log s file (slot_of st) ≡ Ok found
   pub sound : broken_in (frames_in found) ≡ None
   pub done : IsCommitted (clean_slot s st file (clean_text st.head found)) (is_full_for_clean s st.head (clean_slot s st file (clean_text st.head found)).tail)
       (store_after st.tree (clean_slot s st file (clean_text st.head found))) (committed s file (spans s st.tail (clean_text st.head found)) (clean_slot s st file (clean_text st.head found))) now bytes
 
 pub clean-done : (s : Settings) (st : Store) (file : List ℕ) (now : Store) (bytes : List ℕ) → after_clean s st file ≡ left now bytes → IsClean s st file now bytes
 clean-done s st file now bytes e =
-    let (some, goes) = some-segments (nat_eq st.head (last_segment s st.tail)) (and_then (log s file st.head st.tail) (after_clean_of s st file)) now bytes e in
-    let (found, read, rest) = ok-then (log s file st.head st.tail) (after_clean_of s st file) (now, bytes) goes in
+    let (some, goes) = some-segments (nat_eq st.head (last_segment s st.tail)) (and_then (log s file (slot_of st)) (after_clean_of s st file)) now bytes e in
+    let (found, read, rest) = ok-then (log s file (slot_of st)) (after_clean_of s st file) (now, bytes) goes in
     let (sound, done) = unless-ok (broken_in (frames_in found)) (clean_text st.head found) (after_carried s st file) (now, bytes) rest in
     let t : Slot = clean_slot s st file (clean_text st.head found) in
     record {
@@ -176,7 +176,7 @@ module _ (s : Settings) (file : List ℕ) (tree : Tree) (on_disk : Store) (by : 
   same_step : (u : Slot) → AreInStep (store_after tree by.slot) on_disk → AreInStep (store_after tree u) (store_after on_disk.tree u)
   same_step u step = record { head = refl; tail = refl; sequence = refl; none = step.none; upto = step.upto }
 
-  same_found : (found : List Found) → log s file by.slot.head by.slot.tail ≡ Ok found → by.found ≡ found
+  same_found : (found : List Found) → log s file by.slot ≡ Ok found → by.found ≡ found
   same_found found read =
       let both : (let mine : Result (List Found) Fault = Ok by.found in mine ≡ Ok found) = sym by.reads.log ∙ read in
       cc

@@ -10,12 +10,12 @@ use Rattle.mapping.proofs.SameTable.{same_table}
 use Rattle.frame_codec.specs.Frame.{Content, Frame}
 use Rattle.flush_log.specs.Reading.{Found}
 use Rattle.recovery.specs.LogPages.{contents_of, in_log, pids_of, pages_of, broken_in}
-use Rattle.recovery.specs.PageByLog.{from_last, page_by_log, page_in, is_broken}
+use Rattle.recovery.specs.PageByLog.{is_base, from_last, page_by_log, page_in, is_broken}
 use Rattle.recovery.specs.StoreOfDisk.{frames_in}
 use Rattle.recovery.proofs.PagesLaws.{pids, contents-append, among-pids_of, none_of, page_at-pages_of, rising-pages_of, none_broken, not_broken}
 use Rattle.recovery.proofs.PartLaws.{from_last-all}
 use Rattle.recovery.proofs.TextLaws.{turned, made-under}
-use Rattle.cleaner.specs.CleanText.{telling, is_base, carried, clean_text}
+use Rattle.cleaner.specs.CleanText.{telling, carried, clean_text}
 use Rattle.cleaner.proofs.CarryLaws.{starts, said_all, same-told}
 
 -- ---- what was found of a pid

@@ -7,7 +7,7 @@ use Rattle.keys.specs.declared.fault.Fault.TheVariants.{NothingToClean}
 use Rattle.keys.specs.Results.{and_then}
 use Rattle.mapping.specs.Tree.{Store}
 use Rattle.frame_codec.specs.Frame.{Frame}
-use Rattle.flush_log.specs.AfterFlush.{Commit, file_after, calls_for, store_after, after_commit}
+use Rattle.flush_log.specs.AfterFlush.{Commit, slot_of, file_after, calls_for, store_after, after_commit}
 use Rattle.flush_log.specs.Commit.{Call}
 use Rattle.flush_log.specs.Layout.{tail_after, spans, is_full_for_clean}
 use Rattle.flush_log.specs.Reading.{Found, log}
@@ -50,7 +50,7 @@ abbrev pub after_clean : Settings → Store → Bytes → Result (Store × Bytes
 after_clean s st file =
     if nat_eq st.head (last_segment s st.tail)
     then Err NothingToClean
-    else and_then (log s file st.head st.tail) (after_clean_of s st file)
+    else and_then (log s file (slot_of st)) (after_clean_of s st file)
 
 -- ---- the calls of the disk
 
@@ -61,4 +61,4 @@ clean_calls_by s st file (Err fault) = []
 
 -- the calls of a clean
 abbrev pub clean_calls : Settings → Store → Bytes → List Call
-clean_calls s st file = clean_calls_by s st file (log s file st.head st.tail)
+clean_calls s st file = clean_calls_by s st file (log s file (slot_of st))

@@ -8,7 +8,7 @@ use Rattle.keys.specs.declared.settings.Settings.{Settings}
 use Rattle.keys.specs.declared.fault.Fault.{Fault}
 use Rattle.keys.specs.declared.fault.Fault.TheVariants.{BadSegment}
 use Rattle.frame_codec.specs.Frame.{Frame}
-use Rattle.flush_log.specs.Reading.{Found, all_in, is_at_tail, is_padding, in_segment, read_frames, read_segment, followed_by, read_earlier, read_log, log}
+use Rattle.flush_log.specs.Reading.{Found, all_in, is_at_tail, is_padding, in_segment, read_frames, read_segment, followed_by, read_earlier, read_log, log_between}
 use Rattle.flush_log.specs.Segments.{segment_header, segment_bytes, last_segment, bytes_in_use}
 use Rattle.index_page.proofs.ListLaws.{all_weaker}
 use Rattle.flush_log.specs.Layout.{placed_from, behind_header, found_in_text}
@@ -107,14 +107,14 @@ filter-all : (n high : ℕ) (found : List Found) → AllByRecursion (λ f. (suc 
 filter-all n high [] above = refl
 filter-all n high (f ∷ found) above = rw (ne_eqb f.segment n (λ e. let one = above.0 in omega (arith, one, e))) (ap (λ (xs : List Found). f ∷ xs) (filter-all n high found above.1))
 
-module _ (s : Settings) (file : List ℕ) (head tail : ℕ) (found : List Found) (more : head < last_segment s tail) (read : log s file head tail ≡ ok found) where
+module _ (s : Settings) (file : List ℕ) (head tail : ℕ) (found : List Found) (more : head < last_segment s tail) (read : log_between s file head tail ≡ ok found) where
   -- what was found in the head segment, and the rest, which is what is found from the next one on
   pub record HeadOff : Type 0 where
     pub here : List Frame
     pub rest : List Found
     pub all : found ≡ all_in head here ++ rest
     pub later : AllByRecursion (λ f. (suc head ≤ f.segment) × (f.segment ≤ last_segment s tail)) rest
-    pub read_on : log s file (suc head) tail ≡ ok rest
+    pub read_on : log_between s file (suc head) tail ≡ ok rest
 
   -- the same of segments that are counted
   off_by : (count k used : ℕ) → count ≡ suc k → read_log s file head count used ≡ ok found
@@ -123,7 +123,7 @@ module _ (s : Settings) (file : List ℕ) (head tail : ℕ) (found : List Found)
       followed_by-ok (read_segment s is_padding head (segment_bytes s file head)) (read_log s file (suc head) k used) found
       (sym (log-first s file head k used) ∙ subst (λ (n : ℕ). read_log s file head n used ≡ ok found) is reads)
 
-  made_of : (in_head rest : List Found) → read_segment s is_padding head (segment_bytes s file head) ≡ ok in_head → log s file (suc head) tail ≡ ok rest → found ≡ in_head ++ rest → HeadOff
+  made_of : (in_head rest : List Found) → read_segment s is_padding head (segment_bytes s file head) ≡ ok in_head → log_between s file (suc head) tail ≡ ok rest → found ≡ in_head ++ rest → HeadOff
   made_of in_head rest first behind all =
       let (here, are) = segment-ok s is_padding head (segment_bytes s file head) in_head first in
       record {
@@ -138,7 +138,7 @@ module _ (s : Settings) (file : List ℕ) (head tail : ℕ) (found : List Found)
   pub head-off : HeadOff
   head-off = let parts = off_by (last_segment s tail - head) (last_segment s tail - suc head) (bytes_in_use s tail) (omega (arith, more)) read in made_of parts.0 parts.1 parts.2 parts.3 parts.4
 
-  pub head-filtered : log s file (suc head) tail ≡ ok (filter (λ f. not (nat_eq f.segment head)) found)
+  pub head-filtered : log_between s file (suc head) tail ≡ ok (filter (λ f. not (nat_eq f.segment head)) found)
   head-filtered =
       let off = head-off in
       off.read_on
@@ -149,7 +149,7 @@ module _ (s : Settings) (file : List ℕ) (head tail : ℕ) (found : List Found)
 
 module _ (s : Settings) where
   -- all that is found stands in a segment from the head to the last
-  pub found-in : (file : List ℕ) (head tail : ℕ) (found : List Found) → 0 < s.seg_size → head * s.seg_size < tail → log s file head tail ≡ ok found
+  pub found-in : (file : List ℕ) (head tail : ℕ) (found : List Found) → 0 < s.seg_size → head * s.seg_size < tail → log_between s file head tail ≡ ok found
       → AllByRecursion (λ f. (head ≤ f.segment) × (f.segment ≤ last_segment s tail)) found
   found-in file head tail found some h read =
       let split = split-tail s head tail some h in

@@ -11,7 +11,7 @@ use Rattle.frame_codec.specs.Frame.{Frame, bytes_of, is_frame}
 use Rattle.index_page.proofs.ListLaws.{all_weaker}
 use Rattle.flush_log.specs.Commit.{AreWithin, IsBesideSpans}
 use Rattle.flush_log.specs.Overlay.{IsBeside, AgreeAt}
-use Rattle.flush_log.specs.Reading.{log}
+use Rattle.flush_log.specs.Reading.{log_between}
 use Rattle.flush_log.specs.Segments.{place_of_segment, HasSegments, IsInLog, position, last_segment, bytes_in_use}
 use Rattle.flush_log.specs.Layout.{PlacedFrame, Span, placed_from, behind_header, tail_after, end_of, longer, begun, opened, spans_from, spans, place_of_span}
 use Rattle.flush_log.proofs.FitLaws.{are_sized}
@@ -35,7 +35,7 @@ module _ (s : Settings) where
       (omega (arith, is), omega (arith, is, low, p))
 
   -- files that agree at the places of the log have the same one
-  pub hidden : (file other : List ℕ) (head tail : ℕ) → 0 < s.seg_size → 0 < s.segments → HasSegments s file → head * s.seg_size < tail → AgreeAt (IsInLog s head tail) file other → log s other head tail ≡ log s file head tail
+  pub hidden : (file other : List ℕ) (head tail : ℕ) → 0 < s.seg_size → 0 < s.segments → HasSegments s file → head * s.seg_size < tail → AgreeAt (IsInLog s head tail) file other → log_between s other head tail ≡ log_between s file head tail
   hidden file other head tail size count whole h same =
       let split = split-tail s head tail size h in
       let q : ℕ = last_segment s tail in

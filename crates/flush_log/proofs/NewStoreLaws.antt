@@ -7,7 +7,7 @@ use Rattle.keys.specs.Limits.{first_bad_field}
 use Rattle.keys.specs.declared.settings.Settings.{Settings}
 use Rattle.frame_codec.specs.Frame.{bytes_of, is_frame}
 use Rattle.flush_log.specs.Segments.{segment_header, place_of_segment, segment_bytes, last_segment, bytes_in_use}
-use Rattle.flush_log.specs.Reading.{is_at_tail, read_segment, followed_by, read_earlier, read_log, log}
+use Rattle.flush_log.specs.Reading.{is_at_tail, read_segment, followed_by, read_earlier, read_log, log_between}
 use Rattle.flush_log.specs.SettingsBlock.{store_settings}
 use Rattle.flush_log.specs.Slot.{is_slot, read_slot, newer, store_slot}
 use Rattle.flush_log.specs.NewStore.{first_frame, first_tail, first_slot, new_bytes, disk_of_new}
@@ -86,7 +86,7 @@ module _ (s : Settings) (disk : List ℕ) (good : first_bad_field s ≡ None) (r
       let place : place_of_segment s 0 ≡ 512 = omega (arith, first) in
       take-take first_tail s.seg_size (drop (place_of_segment s 0) new) (omega arith) ∙ ap (λ (p : ℕ). take first_tail (drop p new)) place
 
-  pub new_log : log s new 0 first_tail ≡ Ok (record { segment = 0; frame = first_frame } ∷ [])
+  pub new_log : log_between s new 0 first_tail ≡ Ok (record { segment = 0; frame = first_frame } ∷ [])
   new_log =
       let all : first_tail - 0 * s.seg_size ≡ first_tail = omega arith in
       let used : bytes_in_use s first_tail ≡ first_tail = ap (λ (q : ℕ). first_tail - q * s.seg_size) first_last ∙ all in

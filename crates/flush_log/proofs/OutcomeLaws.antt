@@ -8,7 +8,7 @@ use Rattle.flush_log.specs.Overlay.{IsBeside, AgreeAt}
 use Rattle.frame_codec.specs.Frame.{Frame}
 use Rattle.index_page.proofs.ListLaws.{all_weaker}
 use Rattle.flush_log.specs.Segments.{place_of_segment, HasSegments, IsInLog, segment_bytes, last_segment, bytes_in_use}
-use Rattle.flush_log.specs.Reading.{Found, log}
+use Rattle.flush_log.specs.Reading.{Found, log, log_between}
 use Rattle.flush_log.specs.Layout.{Span, tail_after, found_in_text, spans, place_of_span, with_spans}
 use Rattle.flush_log.specs.SettingsBlock.{read_settings, where_it_has_room, store_settings}
 use Rattle.flush_log.specs.Slot.{Slot, slot_place, slot_bytes, is_slot, is_open, read_open, read_slot, newer, store_slot}
@@ -115,7 +115,7 @@ module _ (s : Settings) (file : List ℕ) (spans : List Span) (u : Slot) (long :
       agree_less (IsBeside (slot_place u.sequence) 64) (λ i. 512 ≤ i) (with_spans s file spans) after (λ i high. inr (omega arith)) written_beside
 
 -- the log stands there alone
-pub log-behind : (s : Settings) (file other : List ℕ) → 0 < s.segments → HasSegments s file → AgreeAt (λ i. 512 ≤ i) file other → (head tail : ℕ) → log s other head tail ≡ log s file head tail
+pub log-behind : (s : Settings) (file other : List ℕ) → 0 < s.segments → HasSegments s file → AgreeAt (λ i. 512 ≤ i) file other → (head tail : ℕ) → log_between s other head tail ≡ log_between s file head tail
 log-behind s file other some whole same head tail =
     log-same s file other head (last_segment s tail - head) (bytes_in_use s tail) (λ m h. bytes (head + m))
     (ap (λ (bs : List ℕ). take (bytes_in_use s tail) bs) (bytes (head + (last_segment s tail - head))))
@@ -126,7 +126,7 @@ log-behind s file other some whole same head tail =
         part_same (λ i. 512 ≤ i) file other (place_of_segment s n) s.seg_size (omega arith) (λ i low high. omega arith) same
 
 pub after-log : (s : Settings) (file : List ℕ) (spans : List Span) (u : Slot) → HasSegments s file → AreWithin s (length file) spans → 0 < s.segments → (head tail : ℕ)
-    → log s (committed s file spans u) head tail ≡ log s (with_spans s file spans) head tail
+    → log_between s (committed s file spans u) head tail ≡ log_between s (with_spans s file spans) head tail
 after-log s file spans u whole fit some head tail =
     let long = (spans-beside s spans file fit).long in
     log-behind s (with_spans s file spans) (committed s file spans u) some (omega (arith, whole, long)) (after-behind s file spans u (omega (arith, whole)) fit) head tail
@@ -147,7 +147,7 @@ module _ (s : Settings) (file : List ℕ) (t : Slot) (text : List Frame) (h : Ha
       within_more s (512 + s.segments * s.seg_size) (length file) (spans s t.tail text) h.whole (text-inside s h.good t.head t.tail text (omega arith) h.within h.free)
 
   -- the log is as it was
-  pub before-log : (c : List ℕ) → IsUncommitted s (suc t.sequence) (spans s t.tail text) file c → log s c t.head t.tail ≡ log s file t.head t.tail
+  pub before-log : (c : List ℕ) → IsUncommitted s (suc t.sequence) (spans s t.tail text) file c → log s c t ≡ log s file t
   before-log c before =
       let behind = slot_good.behind in
       let sized = are_sized s h.good in
@@ -160,7 +160,7 @@ module _ (s : Settings) (file : List ℕ) (t : Slot) (text : List Frame) (h : Ha
       (all_but s (suc t.sequence) (spans s t.tail text) file c (let all = h.whole in omega arith) before))
 
   -- the text is read behind what was there
-  pub after-text : (u : Slot) (found : List Found) → log s file t.head t.tail ≡ Ok found → log s (committed s file (spans s t.tail text) u) t.head (tail_after s t.tail text) ≡ Ok (found ++ found_in_text s t.tail text)
+  pub after-text : (u : Slot) (found : List Found) → log s file t ≡ Ok found → log_between s (committed s file (spans s t.tail text) u) t.head (tail_after s t.tail text) ≡ Ok (found ++ found_in_text s t.tail text)
   after-text u found read =
       let behind = slot_good.behind in
       let count = (are_sized s h.good).least_count in
@@ -169,7 +169,7 @@ module _ (s : Settings) (file : List ℕ) (t : Slot) (text : List Frame) (h : Ha
 
   -- a crash at any moment of its commit leaves the store's settings, slot and log, or all that was committed
   pub text-crash : (u : Slot) → u.sequence ≡ suc t.sequence → (c : List ℕ) → LeftDuring (commit_calls s file (spans s t.tail text) u) file c →
-      ((store_settings c ≡ store_settings file) × (store_slot s c ≡ Ok t) × (log s c t.head t.tail ≡ log s file t.head t.tail)) ⊎ (c ≡ committed s file (spans s t.tail text) u)
+      ((store_settings c ≡ store_settings file) × (store_slot s c ≡ Ok t) × (log s c t ≡ log s file t)) ⊎ (c ≡ committed s file (spans s t.tail text) u)
   text-crash u next c left =
       let long : 512 ≤ length file = let all = h.whole in omega arith in
       ⊎_elim

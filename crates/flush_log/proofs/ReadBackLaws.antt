@@ -8,7 +8,7 @@ use Rattle.keys.specs.declared.settings.Settings.{Settings}
 use Rattle.keys.specs.declared.fault.Fault.{Fault}
 use Rattle.frame_codec.specs.Frame.{Frame, bytes_of, is_frame}
 use Rattle.flush_log.specs.Overlay.{overlay}
-use Rattle.flush_log.specs.Reading.{Found, all_in, is_at_tail, is_padding, read_segment, followed_by, read_earlier, read_log, log}
+use Rattle.flush_log.specs.Reading.{Found, all_in, is_at_tail, is_padding, read_segment, followed_by, read_earlier, read_log, log_between}
 use Rattle.flush_log.specs.Segments.{place_of_segment, HasSegments, segment_bytes, last_segment, bytes_in_use}
 use Rattle.flush_log.specs.Layout.{PlacedFrame, Span, placed_from, placed, behind_header, tail_after, found_in_text, end_of, longer, filled, begun, opened, spans_from, spans, place_of_span, with_spans}
 use Rattle.flush_log.proofs.FitLaws.{are_sized, frame_fits}
@@ -265,8 +265,8 @@ module _ (s : Settings) (good : first_bad_field s ≡ None) where
   all_fit (f ∷ fs) within = (frame_fits s f good within.0, all_fit fs within.1)
 
   pub text-back : (file : List ℕ) (head tail : ℕ) (found : List Found) (text : List Frame) → HasSegments s file → AllByRecursion (λ f. is_frame s f ≡ true) text → head * s.seg_size < tail
-      → log s file head tail ≡ ok found → last_segment s (tail_after s tail text) < head + s.segments
-      → log s (with_spans s file (spans s tail text)) head (tail_after s tail text) ≡ ok (found ++ found_in_text s tail text)
+      → log_between s file head tail ≡ ok found → last_segment s (tail_after s tail text) < head + s.segments
+      → log_between s (with_spans s file (spans s tail text)) head (tail_after s tail text) ≡ ok (found ++ found_in_text s tail text)
   text-back file head tail found [] whole within h read free = read ∙ ap ok (sym (append-nil found))
   text-back file head tail found (f ∷ fs) whole within h read free =
       let n : ℕ = tail / s.seg_size in

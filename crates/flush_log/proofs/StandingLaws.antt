@@ -11,7 +11,7 @@ use Rattle.keys.proofs.CellLaws.{bytes_behind}
 use Rattle.frame_codec.specs.Frame.{Frame, bytes_of, is_frame}
 use Rattle.frame_codec.specs.Reading.{read_frame}
 use Rattle.frame_codec.proofs.ReadLaws.{frame-stands}
-use Rattle.flush_log.specs.Reading.{Found, all_in, is_at_tail, is_padding, with_first, read_then, read_frames, in_segment, read_segment, followed_by, read_earlier, log}
+use Rattle.flush_log.specs.Reading.{Found, all_in, is_at_tail, is_padding, with_first, read_then, read_frames, in_segment, read_segment, followed_by, read_earlier, log_between}
 use Rattle.flush_log.specs.Segments.{segment_header, segment_bytes, last_segment, bytes_in_use}
 use Rattle.flush_log.specs.Standing.{AreFrames, IsBrokenAt, IsFirstFault}
 use Rattle.flush_log.proofs.LayoutLaws.{split-tail}
@@ -225,7 +225,7 @@ module _ (s : Settings) (file : List ℕ) where
         | inr p ↦ (k, p.0, omega arith, p.1, p.2)
       ]
 
-  pub first-fault : (head tail : ℕ) (fault : Fault) → 0 < s.seg_size → head * s.seg_size < tail → log s file head tail ≡ Err fault → (n : ℕ) × IsFirstFault s file head tail n fault
+  pub first-fault : (head tail : ℕ) (fault : Fault) → 0 < s.seg_size → head * s.seg_size < tail → log_between s file head tail ≡ Err fault → (n : ℕ) × IsFirstFault s file head tail n fault
   first-fault head tail fault some less h =
       let split = split-tail s head tail some less in
       let from = split.from in

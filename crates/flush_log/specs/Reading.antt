@@ -9,6 +9,7 @@ use Rattle.keys.specs.declared.fault.Fault.TheVariants.{BadSegment, BadFrame}
 use Rattle.frame_codec.specs.Frame.{Frame}
 use Rattle.frame_codec.specs.Reading.{read_frame}
 use Rattle.flush_log.specs.Segments.{segment_header, segment_bytes, last_segment, bytes_in_use}
+use Rattle.flush_log.specs.Slot.{Slot}
 
 -- a frame, and the number of the segment in which it stands
 pub record Found : Type 0 where
@@ -78,5 +79,9 @@ abbrev pub read_log : Settings → Bytes → ℕ → ℕ → ℕ → Result (Lis
 read_log s file head k used = followed_by (read_earlier s file head k) (read_segment s is_at_tail (head + k) (take used (segment_bytes s file (head + k))))
 
 -- the frames between head and tail, in the order in which they stand; or the fault at the least position
-abbrev pub log : Settings → Bytes → ℕ → ℕ → Result (List Found) Fault
-log s file head tail = read_log s file head (last_segment s tail - head) (bytes_in_use s tail)
+abbrev pub log_between : Settings → Bytes → ℕ → ℕ → Result (List Found) Fault
+log_between s file head tail = read_log s file head (last_segment s tail - head) (bytes_in_use s tail)
+
+-- the frames between the head and the tail of a slot
+abbrev pub log : Settings → Bytes → Slot → Result (List Found) Fault
+log s file t = log_between s file t.head t.tail

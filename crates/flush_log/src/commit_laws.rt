@@ -8,7 +8,7 @@ ghost use Rattle.keys.specs.declared.settings.Settings.{Settings};
 ghost use Rattle.mapping.specs.Tree.{most_levels};
 ghost use Rattle.frame_codec.specs.Frame.{Frame, is_frame};
 ghost use Rattle.flush_log.specs.Segments.{segments_begin, disk_size, HasSegments, position, last_segment, place_of_segment};
-ghost use Rattle.flush_log.specs.Reading.{Found, log};
+ghost use Rattle.flush_log.specs.Reading.{Found, log, log_between};
 ghost use Rattle.flush_log.specs.Layout.{Span, tail_after, found_in_text, spans, with_spans};
 ghost use Rattle.flush_log.specs.SettingsBlock.{store_settings};
 ghost use Rattle.flush_log.specs.Slot.{Slot, greatest, is_slot, store_slot};
@@ -43,10 +43,10 @@ pub fn a_commit_is_hidden_until_its_gate_is_open()
         segments_begin ≤ length file → store_slot s file ≡ Ok t →
         IsUncommitted s (suc t.sequence) rs file c → store_slot s c ≡ Ok t }
     ensures log { (s : Settings) (file : Bytes) (t : Slot) (text : List Frame) (c : Bytes) → HasRoom s file t text →
-        IsUncommitted s (suc t.sequence) (spans s t.tail text) file c → log s c t.head t.tail ≡ log s file t.head t.tail }
+        IsUncommitted s (suc t.sequence) (spans s t.tail text) file c → log s c t ≡ log s file t }
     ensures crash { (s : Settings) (file : Bytes) (t : Slot) (text : List Frame) (u : Slot) (c : Bytes) → HasRoom s file t text →
         u.sequence ≡ suc t.sequence → LeftDuring (commit_calls s file (spans s t.tail text) u) file c →
-        ((store_settings c ≡ store_settings file) × (store_slot s c ≡ Ok t) × (log s c t.head t.tail ≡ log s file t.head t.tail)) ⊎
+        ((store_settings c ≡ store_settings file) × (store_slot s c ≡ Ok t) × (log s c t ≡ log s file t)) ⊎
         (c ≡ committed s file (spans s t.tail text) u) }
 {}
 
@@ -63,10 +63,10 @@ pub fn what_was_committed_is_read()
         AreWithin s (length file) rs → store_slot s file ≡ Ok t → u.sequence ≡ suc t.sequence → is_slot s u.sequence u ≡ true →
         store_slot s (committed s file rs u) ≡ Ok u }
     ensures log { (s : Settings) (file : Bytes) (rs : List Span) (u : Slot) (head tail : ℕ) → first_bad_field s ≡ None →
-        HasSegments s file → AreWithin s (length file) rs → log s (committed s file rs u) head tail ≡ log s (with_spans s file rs) head tail }
+        HasSegments s file → AreWithin s (length file) rs → log_between s (committed s file rs u) head tail ≡ log_between s (with_spans s file rs) head tail }
     ensures text { (s : Settings) (file : Bytes) (t : Slot) (text : List Frame) (u : Slot) (found : List Found) → HasRoom s file t text →
-        log s file t.head t.tail ≡ Ok found →
-        log s (committed s file (spans s t.tail text) u) t.head (tail_after s t.tail text) ≡ Ok (found ++ found_in_text s t.tail text) }
+        log s file t ≡ Ok found →
+        log_between s (committed s file (spans s t.tail text) u) t.head (tail_after s t.tail text) ≡ Ok (found ++ found_in_text s t.tail text) }
     ensures within { (s : Settings) (file : Bytes) (t : Slot) (text : List Frame) → HasRoom s file t text →
         AreWithin s (length file) (spans s t.tail text) }
 {}
@@ -85,7 +85,7 @@ pub fn the_slot_of_a_commit_is_well_formed()
 pub fn a_new_store_is_one_empty_leaf()
     ensures { (s : Settings) (disk : Bytes) → first_bad_field s ≡ None → HasSegments s disk →
         (store_settings (disk_of_new s disk) ≡ Ok s) × (store_slot s (disk_of_new s disk) ≡ Ok first_slot) ×
-        (log s (disk_of_new s disk) first_slot.head first_slot.tail ≡ Ok (record { segment = 0; frame = first_frame } ∷ [])) }
+        (log s (disk_of_new s disk) first_slot ≡ Ok (record { segment = 0; frame = first_frame } ∷ [])) }
 {}
 
 /// Machine numbers of 64 bits suffice for a log: with a head and a tail that a slot may have, all that is computed on the way

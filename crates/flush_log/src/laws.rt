@@ -12,7 +12,7 @@ ghost use Rattle.frame_codec.specs.Frame.{Frame, bytes_of, is_frame};
 ghost use Rattle.flush_log.specs.Commit.{AreWithin, IsBesideSpans};
 ghost use Rattle.flush_log.specs.Layout.{placed, tail_after, found_in_text, is_full_for_flush, is_full_for_clean, spans, with_spans};
 ghost use Rattle.flush_log.specs.Overlay.{AgreeAt};
-ghost use Rattle.flush_log.specs.Reading.{Found, all_in, is_at_tail, is_padding, read_segment, log};
+ghost use Rattle.flush_log.specs.Reading.{Found, all_in, is_at_tail, is_padding, read_segment, log_between};
 ghost use Rattle.flush_log.specs.Segments.{segment_header, segments_begin, disk_size, segment_bytes, HasSegments, IsInLog, last_segment};
 ghost use Rattle.flush_log.specs.Standing.{AreFrames, IsBrokenAt, IsFirstFault};
 
@@ -26,9 +26,9 @@ pub fn a_frame_fits_into_a_segment()
 /// it needs no more segments than there are. A clean may use them all, and a flush leaves one.
 pub fn a_text_is_read_back()
     ensures { (s : Settings) (file : Bytes) (head tail : ℕ) (found : List Found) (text : List Frame) → first_bad_field s ≡ None → HasSegments s file →
-        AllByRecursion (λ f. is_frame s f ≡ true) text → head * s.seg_size < tail → log s file head tail ≡ Ok found →
+        AllByRecursion (λ f. is_frame s f ≡ true) text → head * s.seg_size < tail → log_between s file head tail ≡ Ok found →
         last_segment s (tail_after s tail text) < head + s.segments →
-        log s (with_spans s file (spans s tail text)) head (tail_after s tail text) ≡ Ok (found ++ found_in_text s tail text) }
+        log_between s (with_spans s file (spans s tail text)) head (tail_after s tail text) ≡ Ok (found ++ found_in_text s tail text) }
 {}
 
 /// Once a text is written, each of its frames stands at its place: in its segment, at its offset.
@@ -44,7 +44,7 @@ pub fn each_frame_stands_at_its_place()
 /// free, and before all segments.
 pub fn what_is_behind_the_tail_is_hidden()
     ensures hidden { (s : Settings) (file other : Bytes) (head tail : ℕ) → first_bad_field s ≡ None → HasSegments s file → head * s.seg_size < tail →
-        AgreeAt (IsInLog s head tail) file other → log s other head tail ≡ log s file head tail }
+        AgreeAt (IsInLog s head tail) file other → log_between s other head tail ≡ log_between s file head tail }
     ensures places { (s : Settings) (head tail place : ℕ) → first_bad_field s ≡ None → IsInLog s head tail place →
         (segments_begin ≤ place) × (place < disk_size s) }
 {}
@@ -65,10 +65,10 @@ pub fn a_text_lies_behind_the_tail()
 /// From the next segment on a reading finds what it finds from the head on, but for the frames of the head segment. All that it finds
 /// stands from the head to the last segment, and a text from the tail's segment on.
 pub fn the_head_segment_is_taken_off()
-    ensures rest { (s : Settings) (file : Bytes) (head tail : ℕ) (found : List Found) → head < last_segment s tail → log s file head tail ≡ Ok found →
-        log s file (suc head) tail ≡ Ok (filter (λ f. not (nat_eq f.segment head)) found) }
+    ensures rest { (s : Settings) (file : Bytes) (head tail : ℕ) (found : List Found) → head < last_segment s tail → log_between s file head tail ≡ Ok found →
+        log_between s file (suc head) tail ≡ Ok (filter (λ f. not (nat_eq f.segment head)) found) }
     ensures found { (s : Settings) (file : Bytes) (head tail : ℕ) (found : List Found) → first_bad_field s ≡ None → head * s.seg_size < tail →
-        log s file head tail ≡ Ok found → AllByRecursion (λ f. (head ≤ f.segment) × (f.segment ≤ last_segment s tail)) found }
+        log_between s file head tail ≡ Ok found → AllByRecursion (λ f. (head ≤ f.segment) × (f.segment ≤ last_segment s tail)) found }
     ensures text { (s : Settings) (tail : ℕ) (text : List Frame) → first_bad_field s ≡ None → 0 < tail →
         AllByRecursion (λ f. last_segment s tail ≤ f.segment) (found_in_text s tail text) }
 {}
@@ -111,5 +111,5 @@ pub fn a_segment_is_read_as_it_stands()
 /// The fault that a reading answers is that of the first segment that has one.
 pub fn the_first_fault_is_answered()
     ensures { (s : Settings) (file : Bytes) (head tail : ℕ) (fault : Fault) → first_bad_field s ≡ None → head * s.seg_size < tail →
-        log s file head tail ≡ Err fault → (n : ℕ) × IsFirstFault s file head tail n fault }
+        log_between s file head tail ≡ Err fault → (n : ℕ) × IsFirstFault s file head tail n fault }
 {}

@@ -9,7 +9,7 @@ use Rattle.keys.specs.declared.settings.Settings.{Settings}
 use Rattle.index_page.proofs.ListLaws.{all-append}
 use Rattle.frame_codec.specs.Frame.{Frame, is_frame}
 use Rattle.frame_codec.specs.Reading.{read_any, read_frame}
-use Rattle.flush_log.specs.Reading.{Found, all_in, is_at_tail, is_padding, with_first, read_then, read_frames, in_segment, read_segment, followed_by, read_earlier, log}
+use Rattle.flush_log.specs.Reading.{Found, all_in, is_at_tail, is_padding, with_first, read_then, read_frames, in_segment, read_segment, followed_by, read_earlier, log_between}
 use Rattle.flush_log.specs.Segments.{segment_header, segment_bytes, last_segment, bytes_in_use}
 use Rattle.flush_log.proofs.ReadBackLaws.{ok, followed_by-ok}
 use Rattle.flush_log.proofs.SegmentLaws.{in_segment-ok}
@@ -87,7 +87,7 @@ module _ (s : Settings) where
       both (read_earlier s file head k) (read_segment s is_padding (head + k) (segment_bytes s file (head + k))) found e
       (λ xs h. earlier-within file head k xs h) (λ ys h. segment-within is_padding (head + k) (segment_bytes s file (head + k)) ys h)
 
-  pub log-within : (file : List ℕ) (head tail : ℕ) (found : List Found) → log s file head tail ≡ ok found → GoodFound found
+  pub log-within : (file : List ℕ) (head tail : ℕ) (found : List Found) → log_between s file head tail ≡ ok found → GoodFound found
   log-within file head tail found e =
       let k : ℕ = last_segment s tail - head in
       let used : ℕ = bytes_in_use s tail in

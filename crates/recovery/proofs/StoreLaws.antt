@@ -17,7 +17,7 @@ use Rattle.recovery.specs.StoreOfDisk.{unless_found, frames_in, tree_by_log, wro
 pub record Reads (s : Settings) (file : List ℕ) (t : Slot) (found : List Found) : Type 0 where
   pub settings : store_settings file ≡ Ok s
   pub slot : store_slot s file ≡ Ok t
-  pub log : log s file t.head t.tail ≡ Ok found
+  pub log : log s file t ≡ Ok found
 
 -- a disk stands for this store by this slot and these frames
 pub record StandsBy (s : Settings) (file : List ℕ) (on_disk : Store) : Type 0 where
@@ -50,7 +50,7 @@ stands-for s file t found reads sound proper =
     then-ok (store_settings file) (λ s. store_under s file) s reads.settings
     ∙ then-ok (store_slot s file) (λ t. and_then (store_of_slot s file t) pair) t reads.slot
     ∙ ap (λ (r : Result Store Fault). and_then r pair)
-    (then-ok (log s file t.head t.tail) (λ found. unless_found (wrong_in s t (frames_in found)) (store_after (tree_by_log t (frames_in found)) t)) found reads.log
+    (then-ok (log s file t) (λ found. unless_found (wrong_in s t (frames_in found)) (store_after (tree_by_log t (frames_in found)) t)) found reads.log
     ∙ ap (λ (o : Option Finding). unless_found o st) (nothing_wrong (broken_in fs) (finding s (tree_by_log t fs)) sound proper))
 
 -- ---- and the store is made of what is read
@@ -74,7 +74,7 @@ store-stands s file on_disk e =
     let (t, slot, of_slot) = ok-then (store_slot r file) (λ t. and_then (store_of_slot r file t) (λ st. Ok (r, st))) (s, on_disk) under in
     let (st, made, last) = ok-then (store_of_slot r file t) (λ st. Ok (r, st)) (s, on_disk) of_slot in
     let (same, stores) = same_pair r s st on_disk last in
-    let (found, read, checked) = ok-then (log r file t.head t.tail) (λ found. unless_found (wrong_in r t (frames_in found)) (store_after (tree_by_log t (frames_in found)) t)) st made in
+    let (found, read, checked) = ok-then (log r file t) (λ found. unless_found (wrong_in r t (frames_in found)) (store_after (tree_by_log t (frames_in found)) t)) st made in
     let (sound, is) = unless-ok (wrong_in r t (frames_in found)) (store_after (tree_by_log t (frames_in found)) t) st checked in
     let (whole, proper) = nothing_found_in (broken_in (frames_in found)) (finding r (tree_by_log t (frames_in found))) sound in
     subst (λ (q : Settings). StandsBy q file on_disk) same (record {

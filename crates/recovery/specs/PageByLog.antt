@@ -1,5 +1,5 @@
 -- What the frames of one pid, in the order of the log, say of its page.
-use Rattle.std.specs.Prelude.{Bool, true, false, not, ◌&&◌, if◌then◌else◌, List, [], ◌∷◌, fold, Option, Some, None}
+use Rattle.std.specs.Prelude.{Bool, true, false, not, ◌&&◌, ◌||◌, if◌then◌else◌, List, [], ◌∷◌, fold, Option, Some, None, is_some}
 use Rattle.std.specs.List.{list_any}
 use Rattle.keys.specs.Bytes.{Changes}
 use Rattle.index_page.specs.Page.{Page, PageOfKind, bare}
@@ -7,13 +7,26 @@ use Rattle.index_page.specs.Page.PageOfKind.{Leaf, Index}
 use Rattle.frame_codec.specs.Frame.{Content}
 use Rattle.frame_codec.specs.Frame.Content.{FullLeaf, DeltaLeaf, FullIndex, DeltaIndex, Free}
 
--- a base, or that there is no page: what stands before it no longer counts. A further kind of base is one more case.
+-- the page that a base is by itself. A further kind of base is one more case.
+abbrev pub base_in : Content → Option PageOfKind
+base_in (FullLeaf low base) = Some (Leaf (bare low base))
+base_in (DeltaLeaf run) = None
+base_in (FullIndex low base) = Some (Index (bare low base))
+base_in (DeltaIndex run) = None
+base_in Free = None
+
+-- whether a content is a base
+abbrev pub is_base : Content → Bool
+is_base c = is_some (base_in c)
+
+-- whether it says that there is no page
+abbrev pub is_free : Content → Bool
+is_free Free = true
+is_free _ = false
+
+-- a base, or that there is no page: what stands before it no longer counts
 abbrev pub is_start : Content → Bool
-is_start (FullLeaf low base) = true
-is_start (DeltaLeaf run) = false
-is_start (FullIndex low base) = true
-is_start (DeltaIndex run) = false
-is_start Free = true
+is_start c = is_base c || is_free c
 
 -- what begins with the last that passes the test; nothing where none does
 abbrev pub from_last : {X : Type 0} → (X → Bool) → List X → List X
@@ -26,15 +39,18 @@ pub data InLog : Type 0 where
   Present : PageOfKind → InLog
   Broken : InLog
 
+-- a page, or that there is none
+abbrev pub present_or_missing : Option PageOfKind → InLog
+present_or_missing None = Missing
+present_or_missing (Some p) = Present p
+
 -- a page with one more run
 abbrev pub with_newer_run : {V : Type 0} → Page V → Changes V → Page V
 with_newer_run p run = record { low = p.low; layers = record { runs = run ∷ p.layers.runs; base = p.layers.base } }
 
 -- what the first content says by itself
 abbrev pub begun_page : Content → InLog
-begun_page (FullLeaf low base) = Present (Leaf (bare low base))
-begun_page (FullIndex low base) = Present (Index (bare low base))
-begun_page _ = Missing
+begun_page c = present_or_missing (base_in c)
 
 -- and one more content behind it: it has to be a delta of the page's kind
 abbrev pub continued : InLog → Content → InLog

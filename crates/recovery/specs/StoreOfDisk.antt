@@ -35,7 +35,7 @@ wrong_in s t fs = or_else (broken_in fs) (finding s (tree_by_log t fs))
 
 -- the store of a slot of a disk
 abbrev pub store_of_slot : Settings → Bytes → Slot → Result Store Fault
-store_of_slot s file t = and_then (log s file t.head t.tail) (λ found. unless_found (wrong_in s t (frames_in found)) (store_after (tree_by_log t (frames_in found)) t))
+store_of_slot s file t = and_then (log s file t) (λ found. unless_found (wrong_in s t (frames_in found)) (store_after (tree_by_log t (frames_in found)) t))
 
 -- the store of a disk with these settings
 abbrev pub store_under : Settings → Bytes → Result (Settings × Store) Fault
