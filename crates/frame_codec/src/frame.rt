@@ -1,3 +1,4 @@
+//! A frame of the log as a value, as a reader of segments keeps it.
 use delta_chain::{Base, Run};
 use keys::{Key, Pid, Value};
 use std::alloc::Global;
