@@ -14,6 +14,7 @@ mod PageRows
 pub mod PagesLaws
 pub mod PartLaws
 pub mod ReadStore
+mod ScanLaws
 pub mod StepLaws
 pub mod StoreLaws
 pub mod TableLaws

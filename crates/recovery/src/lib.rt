@@ -7,4 +7,5 @@
 #![tactic(auto)]
 
 pub mod laws;
+pub mod scan_segment;
 pub mod table_laws;
