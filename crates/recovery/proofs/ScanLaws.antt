@@ -1,20 +1,19 @@
 -- How a segment's frames are read one by one.
-use Rattle.std.proofs.Common.{◌≡◌, ℕ, zero, suc, ◌+◌, ◌-◌, ◌<◌, ◌≤◌, ◌==◌, ◌&&◌, nat_eq, Bool, true, false, if◌then◌else◌, List, [], ◌∷◌, ◌++◌, length, length-append, map, take, drop, Option, Some, None, Result, Ok, Err, MatchOption, IfSome, refl, sym, ap, subst, ◌∙◌, arith}
+use Rattle.std.proofs.Common.{◌≡◌, ℕ, zero, suc, ◌+◌, ◌-◌, ◌<◌, ◌≤◌, ◌==◌, ◌&&◌, nat_eq, Bool, true, false, List, [], ◌∷◌, ◌++◌, length, length-append, map, take, drop, Option, Some, None, Result, Ok, Err, MatchOption, IfSome, refl, sym, ap, subst, ◌∙◌, arith}
 use Rattle.std.specs.List.{list_all, starts_with}
 use Rattle.std.proofs.lemmas.Bool.{ne_eqb}
 use Rattle.std.proofs.lemmas.List.{length-drop, map-append, take_all}
 use Rattle.keys.specs.Bytes.{Bytes}
 use Rattle.keys.specs.declared.settings.Settings.{Settings}
 use Rattle.keys.specs.declared.fault.Fault.{Fault}
-use Rattle.keys.specs.declared.fault.Fault.TheVariants.{BadFrame, BadSegment}
+use Rattle.keys.specs.declared.fault.Fault.TheVariants.{BadFrame}
 use Rattle.frame_codec.specs.Frame.{Frame, bytes_of}
 use Rattle.frame_codec.specs.Reading.{read_frame}
 use Rattle.frame_codec.specs.Shown.{frame_of}
 use Rattle.frame_codec.specs.declared.frame.Frame as code
-use Rattle.flush_log.specs.Reading.{Found, all_in, is_padding, with_first, read_then, read_frames, in_segment}
+use Rattle.flush_log.specs.Reading.{Found, all_in, is_padding, with_first, read_frames, in_segment}
 use Rattle.flush_log.specs.Segments.{segment_header}
 use Rattle.recovery.specs.Scan.{HeldSegment, is_end_at, scanned}
-use Rattle.recovery.specs.declared.scan_segment.End.{End}
 
 pub padding-zeros : (bytes : Bytes) → list_all (λ b. b == 0) bytes ≡ is_padding bytes
 padding-zeros [] = refl
