@@ -10,6 +10,7 @@ use Rattle.flush_log.specs.Reading.{Found}
 use Rattle.recovery.specs.PageByLog.{is_base, is_start, from_last, continued, told_page, page_by_log, is_broken}
 use Rattle.recovery.specs.PageByLog.InLog.{Missing, Broken}
 use Rattle.recovery.specs.StoreOfDisk.{frames_in}
+use Rattle.recovery.proofs.BrokenLaws.{broken-stays, missing-breaks}
 use Rattle.recovery.proofs.PartLaws.{IsPart, from_last-none, from_last-behind, from_last-more, from_last-at, from_last-map, from_last-is, from_last-all, from_last-some, none-append, any-map}
 use Rattle.cleaner.specs.CleanText.{carried}
 
@@ -25,26 +26,11 @@ starts f = is_start f.frame.content
 abbrev pub said_all : List Found → List Content
 said_all fs = map (λ (f : Found). f.frame.content) fs
 
-broken_stays : (cs : List Content) → fold continued Broken cs ≡ Broken
-broken_stays [] = refl
-broken_stays (FullLeaf low base ∷ cs) = broken_stays cs
-broken_stays (DeltaLeaf run ∷ cs) = broken_stays cs
-broken_stays (FullIndex low base ∷ cs) = broken_stays cs
-broken_stays (DeltaIndex run ∷ cs) = broken_stays cs
-broken_stays (Free ∷ cs) = broken_stays cs
-
-missing_breaks : (c : Content) → continued Missing c ≡ Broken
-missing_breaks (FullLeaf low base) = refl
-missing_breaks (DeltaLeaf run) = refl
-missing_breaks (FullIndex low base) = refl
-missing_breaks (DeltaIndex run) = refl
-missing_breaks Free = refl
-
 -- behind a free frame there is nothing, unless it is finding 1
 free_alone : (cs : List Content) → is_broken (told_page (Free ∷ cs)) ≡ false → cs ≡ []
 free_alone [] e = refl
 free_alone (c ∷ cs) e =
-    let broken : told_page (Free ∷ c ∷ cs) ≡ Broken = ap (λ t. fold continued t cs) (missing_breaks c) ∙ broken_stays cs in
+    let broken : told_page (Free ∷ c ∷ cs) ≡ Broken = ap (λ t. fold continued t cs) (missing-breaks c) ∙ broken-stays cs in
     let both : true ≡ false = ap is_broken (sym broken) ∙ e in
     absurd (cc)
 

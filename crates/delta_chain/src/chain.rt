@@ -186,6 +186,17 @@ impl<V: Drop, A: Allocator + Copy> Chain<V, A> {
             }
         }
     }
+
+    /// The base of a chain without runs. This undoes `of_base`.
+    pub fn into_base(self) -> Base<V, A>
+        requires { self.runs ≡ [] }
+        ensures { result ≡ self.base }
+    {
+        match self.link {
+            Link::Bottom(base) => base,
+            Link::Front(..) => unreachable!(),
+        }
+    }
 }
 
 impl<V: Cell<A> + Drop, A: Allocator + Copy> Chain<V, A> {

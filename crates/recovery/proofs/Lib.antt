@@ -1,3 +1,4 @@
+pub mod BrokenLaws
 pub mod CrashLaws
 mod DamagedRows
 pub mod DiskForms
@@ -14,6 +15,8 @@ mod PageRows
 pub mod PagesLaws
 pub mod PartLaws
 pub mod ReadStore
+mod RebuildLaws
+mod ScanLaws
 pub mod StepLaws
 pub mod StoreLaws
 pub mod TableLaws

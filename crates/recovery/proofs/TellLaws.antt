@@ -80,7 +80,7 @@ base_starts : (p : PageOfKind) → is_start (base_content p) ≡ true
 base_starts (Leaf p) = refl
 base_starts (Index p) = refl
 
-told-whole : (p : PageOfKind) → told_page (whole_page p) ≡ Present p
+pub told-whole : (p : PageOfKind) → told_page (whole_page p) ≡ Present p
 told-whole (Leaf p) = fold_all (λ q. Leaf q) (λ run. DeltaLeaf run) leaf_step (λ run. refl) p.low p.layers.base p.layers.runs
 told-whole (Index p) = fold_all (λ q. Index q) (λ run. DeltaIndex run) index_step (λ run. refl) p.low p.layers.base p.layers.runs
 
@@ -100,7 +100,7 @@ page-whole cs p = ap told_page (from_last-at is_start cs (base_content p) (run_c
 pub page-free : (cs : List Content) → page_by_log (cs ++ Free ∷ []) ≡ Missing
 page-free cs = ap told_page (from_last-at is_start cs Free [] refl refl)
 
-told-more : (part ds : List Content) (p : PageOfKind) → told_page part ≡ Present p → told_page (part ++ ds) ≡ fold continued (Present p) ds
+pub told-more : (part ds : List Content) (p : PageOfKind) → told_page part ≡ Present p → told_page (part ++ ds) ≡ fold continued (Present p) ds
 told-more [] ds p e = absurd (cc)
 told-more (c ∷ cs) ds p e = fold-append continued (begun_page c) cs ds ∙ ap (λ t. fold continued t ds) e
 

@@ -6,5 +6,8 @@
 //! after; what a flush of a tree is on its table in memory.
 #![tactic(auto)]
 
+pub mod built_page;
 pub mod laws;
+pub mod rebuild;
+pub mod scan_segment;
 pub mod table_laws;

@@ -1,0 +1,103 @@
+-- How a page is built of what its frames say, and taken apart again.
+use Rattle.std.proofs.Common.{◌≡◌, suc, ◌≤◌, List, [], ◌∷◌, ◌++◌, map, reverse, length, fold, Option, None, refl, sym, ap, ◌∙◌, arith}
+use Rattle.std.proofs.lemmas.List.{map-append, length-map, length-reverse, reverse-append, reverse-reverse, append_assoc, append-nil}
+use Rattle.keys.specs.Bytes.{Changes}
+use Rattle.frame_codec.specs.Frame.{Content}
+use Rattle.frame_codec.specs.declared.frame.Frame as code
+use Rattle.index_page.specs.Page.{PageOfKind}
+use Rattle.flush_log.specs.FlushText.{whole_page}
+use Rattle.recovery.specs.PageByLog.{InLog, base_in, begun_page, present_or_missing, continued, told_page}
+use Rattle.recovery.specs.PageByLog.InLog.{Present, Broken}
+use Rattle.recovery.specs.Rebuild.{content_of, contents_in}
+use Rattle.recovery.proofs.BrokenLaws.{broken-stays, missing-breaks}
+use Rattle.recovery.proofs.TellLaws.{told-whole, told-more}
+
+map_reverse : {A B : Type 0} (f : A → B) (xs : List A) → map f (reverse xs) ≡ reverse (map f xs)
+map_reverse f [] = refl
+map_reverse f (x ∷ xs) =
+    ap (λ ys. map f ys) (reverse-append (x ∷ []) xs)
+    ∙ map-append f (reverse xs) (x ∷ [])
+    ∙ ap (λ ys. ys ++ f x ∷ []) (map_reverse f xs)
+    ∙ sym (reverse-append (f x ∷ []) (map f xs))
+
+-- of one kind of run
+module _ {V : Type 0} (delta : Changes V → Content) where
+  -- a base and runs, the oldest first, turned round
+  pub turned : (base : Content) (runs : List (Changes V)) → map delta runs ++ base ∷ [] ≡ reverse (base ∷ map delta (reverse runs))
+  turned base runs =
+      ap (λ (cs : List Content). cs ++ base ∷ []) (sym (reverse-reverse (map delta runs)) ∙ ap reverse (sym (map_reverse delta runs)))
+      ∙ sym (reverse-append (base ∷ []) (map delta (reverse runs)))
+
+  pub count_all : (base : Content) (runs : List (Changes V)) → length (base ∷ map delta (reverse runs)) ≡ suc (length runs)
+  count_all base runs = ap suc (length-map (reverse runs) delta ∙ length-reverse runs)
+
+  -- what frames say, and then what is still to be appended: runs, the newest first, and a base
+  abbrev pub with_all : List code.Frame → List (Changes V) → Content → List Content
+  with_all items runs base = contents_in items ++ (map delta runs ++ base ∷ [])
+
+  pub one-more : (items now : List code.Frame) (f : code.Frame) (run : Changes V) (runs : List (Changes V)) (base : Content)
+      → now ≡ items ++ f ∷ [] → content_of f ≡ delta run → with_all now runs base ≡ with_all items (run ∷ runs) base
+  one-more items now f run runs base made says =
+      ap (λ (fs : List code.Frame). contents_in fs ++ (map delta runs ++ base ∷ [])) made
+      ∙ ap (λ (cs : List Content). cs ++ (map delta runs ++ base ∷ [])) (map-append content_of items (f ∷ []))
+      ∙ append_assoc (contents_in items) (content_of f ∷ []) (map delta runs ++ base ∷ [])
+      ∙ ap (λ (c : Content). contents_in items ++ c ∷ (map delta runs ++ base ∷ [])) says
+
+-- frames on a list, of which the last is on top, turned round
+turned_round : (items : List code.Frame) (f : code.Frame) → reverse (contents_in (items ++ f ∷ [])) ≡ content_of f ∷ reverse (contents_in items)
+turned_round items f = ap reverse (map-append content_of items (f ∷ [])) ∙ reverse-append (contents_in items) (content_of f ∷ [])
+
+-- what is left of a log, where a frame is put back on top and the list is turned round
+pub one-put-back : (items made now : List code.Frame) (f : code.Frame) → made ≡ items ++ f ∷ [] → now ≡ reverse made
+    → contents_in now ≡ content_of f ∷ reverse (contents_in items)
+one-put-back items made now f put turned =
+    ap (λ (fs : List code.Frame). contents_in fs) turned ∙ map_reverse content_of made ∙ ap (λ (fs : List code.Frame). reverse (contents_in fs)) put ∙ turned_round items f
+
+-- and the frames of a page on top of it
+pub page-put-back : (items made taken now : List code.Frame) (f : code.Frame) (cs : List Content) → made ≡ items ++ f ∷ []
+    → contents_in taken ≡ contents_in made ++ reverse cs → now ≡ reverse taken
+    → contents_in now ≡ cs ++ content_of f ∷ reverse (contents_in items)
+page-put-back items made taken now f cs put apart turned =
+    ap (λ (fs : List code.Frame). contents_in fs) turned ∙ map_reverse content_of taken ∙ ap reverse apart
+    ∙ reverse-append (contents_in made) (reverse cs)
+    ∙ ap (λ (ds : List Content). ds ++ reverse (contents_in made)) (reverse-reverse cs)
+    ∙ ap (λ (ds : List Content). cs ++ ds) (ap (λ (fs : List code.Frame). reverse (contents_in fs)) put ∙ turned_round items f)
+
+-- ---- what they say
+
+-- behind what is no base any frame is broken
+pub none-broken : (c : Content) (cs : List Content) → base_in c ≡ None → 1 ≤ length cs → fold continued (begun_page c) cs ≡ Broken
+none-broken c [] none some = absurd (omega (arith, some))
+none-broken c (d ∷ cs) none some =
+    ap (λ (o : Option PageOfKind). fold continued (continued (present_or_missing o) d) cs) none
+    ∙ ap (λ (told : InLog). fold continued told cs) (missing-breaks d)
+    ∙ broken-stays cs
+
+-- the first frame is the one on top of the list that was turned round
+pub popped : (items turned left : List code.Frame) (f : code.Frame) → turned ≡ reverse items → turned ≡ left ++ f ∷ []
+    → contents_in items ≡ content_of f ∷ reverse (contents_in left)
+popped items turned left f round top =
+    let again : items ≡ reverse (left ++ f ∷ []) = sym (reverse-reverse items) ∙ ap reverse (sym round ∙ top) in
+    one-put-back left (left ++ f ∷ []) items f refl again
+
+-- and the next one
+pub next_left : (frames left : List code.Frame) (f : code.Frame) → frames ≡ left ++ f ∷ [] → reverse (contents_in frames) ≡ content_of f ∷ reverse (contents_in left)
+next_left frames left f top = ap (λ (fs : List code.Frame). reverse (contents_in fs)) top ∙ turned_round left f
+
+-- a page with a frame behind it that doesn't fit
+pub broken-told : (p : PageOfKind) (c : Content) (cs all : List Content) → continued (Present p) c ≡ Broken → whole_page p ++ c ∷ cs ≡ all → Broken ≡ told_page all
+broken-told p c cs all unfit is =
+    sym (ap told_page (sym is) ∙ told-more (whole_page p) (c ∷ cs) p (told-whole p) ∙ ap (λ (told : InLog). fold continued told cs) unfit ∙ broken-stays cs)
+
+-- and a page alone
+pub page-told : (p : PageOfKind) (frames : List code.Frame) (all : List Content) → length frames ≡ 0 → whole_page p ++ reverse (contents_in frames) ≡ all → Present p ≡ told_page all
+page-told p [] all none is = sym (ap told_page (sym is ∙ append-nil (whole_page p)) ∙ told-whole p)
+page-told p (f ∷ fs) all none is = absurd (omega (arith, none))
+
+-- the frames of a page, taken apart onto an empty list that is turned round then
+pub whole-put-back : (room taken now : List code.Frame) (cs : List Content) → room ≡ [] → contents_in taken ≡ contents_in room ++ reverse cs → now ≡ reverse taken
+    → contents_in now ≡ cs
+whole-put-back room taken now cs none apart turned =
+    ap (λ (fs : List code.Frame). contents_in fs) turned ∙ map_reverse content_of taken
+    ∙ ap reverse (apart ∙ ap (λ (fs : List code.Frame). contents_in fs ++ reverse cs) none)
+    ∙ reverse-reverse cs

@@ -1,0 +1,154 @@
+//! The scan of a segment: its bytes give its frames, or its first fault.
+ghost use Rattle.std.specs.Prelude.{◌≡◌, ◌⊎◌, ◌^◌, ◌<◌, ◌==◌, map, length, Ok, Err, IfOk, IfErr};
+ghost use Rattle.std.specs.List.{list_all};
+ghost use Rattle.keys.specs.declared.fault.Fault.TheVariants.{NoMemory};
+ghost use Rattle.frame_codec.specs.Shown.{frame_of};
+ghost use Rattle.flush_log.specs.Reading.{all_in};
+ghost use Rattle.recovery.specs.Scan.{is_end_at, held_segment, scanned};
+
+use crew::{Turn, Work};
+use flush_log::segments::segment_header;
+use frame_codec::{Frame, read_frame};
+use keys::{Fault, Settings};
+use std::alloc::Global;
+use std::marker::PhantomData;
+
+/// Where the frames of a segment end.
+#[derive(Clone, Copy)]
+pub enum End {
+    /// Where its bytes do: it is the last segment, whose bytes are those up to the tail.
+    Tail,
+    /// Where zeros alone are left, or nothing: another segment stands behind it.
+    Padding,
+}
+
+/// A segment in use.
+#[derive(Clone, Copy)]
+pub struct Segment<'a> {
+    /// Its number.
+    pub number: u64,
+    /// Where its frames end.
+    pub end: End,
+    /// Its bytes.
+    pub bytes: &'a [u8],
+}
+
+fn are_zeros(bytes: &[u8]) -> bool
+    ensures { result ≡ list_all (λ b. b == 0) bytes.now }
+{
+    bytes.iter().all(|byte| *byte == 0)
+}
+
+// Whether the frames end where these bytes are left.
+fn is_end(end: End, rest: &[u8]) -> bool
+    ensures { result ≡ is_end_at end rest.now }
+{
+    match end {
+        End::Tail => rest.is_empty(),
+        End::Padding => are_zeros(rest),
+    }
+}
+
+/// The frames of a segment: those behind its header, up to their end. The bytes may be any.
+///
+/// A header of another segment, or none, is `Fault::BadSegment`. Where there is neither a frame nor the end of the frames, that is
+/// `Fault::BadFrame` with the offset; the first such place counts, and what stands behind it is not looked at. Else there is
+/// `Fault::NoMemory`.
+pub fn scan_segment(
+    alloc: Global,
+    settings: &Settings,
+    segment: Segment<'_>,
+) -> Result<Vec<Frame>, Fault>
+    requires { length (held_segment segment).bytes < 2 ^ 32 }
+    ensures ok { IfOk result (λ frames.
+        scanned settings.now (held_segment segment.entry) ≡ Ok (all_in segment.entry.number (map frame_of frames.items))) }
+    ensures err { IfErr result (λ fault. (fault ≡ NoMemory) ⊎ (scanned settings.now (held_segment segment.entry) ≡ Err fault)) }
+{
+    let Segment { number, end, bytes } = segment;
+    let header = segment_header(number);
+    if !bytes.starts_with(&header) {
+        return Err(Fault::BadSegment(number));
+    }
+    let mut frames = Vec::new(alloc);
+    let mut rest = &bytes[header.len()..];
+    while !is_end(end, rest) {
+        let Some((frame, size)) = read_frame(alloc, rest, settings)? else {
+            return Err(Fault::BadFrame(number, (bytes.len() - rest.len()) as u32));
+        };
+        frames.push(frame)?;
+        rest = &rest[size..];
+    }
+    Ok(frames)
+}
+
+/// The work of scanning segments: a segment goes in, whose bytes are lent; its frames or its first fault come out.
+#[derive(Drop)]
+pub struct ScanWork<'a> {
+    alloc: Global,
+    settings: Settings,
+    lent: PhantomData<&'a [u8]>,
+}
+
+/// What a scan of a segment gave, with the segment.
+#[derive(Drop)]
+pub struct ScanDone<'a> {
+    segment: Segment<'a>,
+    /// Its frames, or its first fault.
+    pub scan: Result<Vec<Frame>, Fault>,
+}
+
+impl<'a> ScanWork<'a> {
+    /// The work with this allocator, on segments under these settings.
+    pub fn new(alloc: Global, settings: &Settings) -> Self
+        ensures { result.settings ≡ settings.now }
+    {
+        ScanWork {
+            alloc,
+            settings: *settings,
+            lent: PhantomData,
+        }
+    }
+}
+
+impl<'a> Work for ScanWork<'a> {
+    ghost use Rattle.std.specs.Prelude.{◌^◌, ◌<◌, List, Result, length};
+    ghost use Rattle.keys.specs.declared.fault.Fault.{Fault};
+    ghost use Rattle.flush_log.specs.Reading.{Found};
+    ghost use Rattle.recovery.specs.Scan.{HeldSegment, held_segment, scanned, told_by_scan};
+
+    type Job = Segment<'a>;
+
+    type Done = ScanDone<'a>;
+
+    ghost Held = { HeldSegment };
+
+    ghost Made = { Result (List Found) Fault };
+
+    ghost accepts = { λ _ h. length h.bytes < 2 ^ 32 };
+
+    ghost held = { held_segment };
+
+    ghost origin = { λ d. held_segment d.segment };
+
+    ghost outcome = { λ d. told_by_scan d.segment.number d.scan };
+
+    ghost made = { λ w h. scanned w.settings h };
+
+    fn work(&self, job: Segment<'a>) -> Turn<Segment<'a>, ScanDone<'a>> {
+        match scan_segment(self.alloc, &self.settings, job) {
+            Ok(frames) => Turn::Done(ScanDone {
+                segment: job,
+                scan: Ok(frames),
+            }),
+            Err(Fault::NoMemory) => Turn::Back(job),
+            Err(fault) => Turn::Done(ScanDone {
+                segment: job,
+                scan: Err(fault),
+            }),
+        }
+    }
+
+    fn undo(&self, done: ScanDone<'a>) -> Segment<'a> {
+        done.segment
+    }
+}
