@@ -11,11 +11,12 @@ from pathlib import Path
 from run import LONG, PROGRAM, Work
 
 SETTINGS = "--fan 32 --chain 16 --seg-size 1048576 --segments 256".split()
+SEGMENT = 65_536  # bytes, where the text of a flush is measured in segments
 AGAIN = 20  # flushes after one put
 MARK = "get -\ngo\n"  # prints `missing`, and so tells that all before it is done
 
 
-def write_session(path, work):
+def write_session(path, work, again=AGAIN):
     """A load in long batches, a flush, and then a put and a flush, a few times."""
     with open(path, "w") as file:
         file.write(MARK)
@@ -24,8 +25,27 @@ def write_session(path, work):
                 file.write(f"put {key} {work.value(at)}\n")
             file.write("go\n")
         file.write(MARK + "flush\n" + MARK)
-        for at in range(AGAIN):
+        for at in range(again):
             file.write(f"put {work.keys[at * 7]} {work.value(at)}\ngo\n{MARK}flush\n")
+
+
+def holds(program, path, segments):
+    """Whether a log of so many segments has room for the first flush and one segment free."""
+    settings = f"--fan 32 --chain 16 --seg-size {SEGMENT} --segments {segments}".split()
+    with open(path, "rb") as file:
+        ended = subprocess.run([program, *settings], stdin=file, stdout=subprocess.DEVNULL, stderr=subprocess.PIPE)
+    if ended.returncode and ended.stderr != b"fault 10 Full\n":
+        sys.exit(f"{program} ended with {ended.returncode}: {ended.stderr!r}")
+    return ended.returncode == 0
+
+
+def text_bytes(program, path, pairs):
+    """How many bytes the first flush writes, up to a segment."""
+    low, high = 0, 2 + 400 * pairs // SEGMENT
+    while high - low > 1:
+        middle = (low + high) // 2
+        low, high = (low, middle) if holds(program, path, middle) else (middle, high)
+    return (high - 1) * SEGMENT
 
 
 def resident(process):
@@ -77,8 +97,10 @@ def main():
         path = Path(folder) / "session"
         write_session(path, work)
         load, first, grown, one = min(measure(options.program, work, path) for _ in range(3))
+        write_session(path, work, again=0)
+        text = text_bytes(options.program, path, options.pairs)
     print(f"load {load:.2f} s; first flush {first:.3f} s, {first / load:.2f} of it; {grown / options.pairs:.0f} bytes a pair")
-    print(f"flush after one put {one * 1000:.3f} ms")
+    print(f"flush after one put {one * 1000:.3f} ms; the first flush writes {text / options.pairs:.1f} bytes a pair")
 
 
 if __name__ == "__main__":
