@@ -8,6 +8,7 @@ pub mod FlushBack
 pub mod FlushLaws
 mod FlushRows
 pub mod FoundWithin
+mod GatherLaws
 mod HiddenBytes
 pub mod KeptStore
 pub mod NothingDue

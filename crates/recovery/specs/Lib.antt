@@ -1,4 +1,5 @@
 pub mod BuiltPage
+pub mod Gathered
 pub mod InStep
 pub mod LogPages
 pub mod LookedAt

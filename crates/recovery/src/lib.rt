@@ -7,6 +7,7 @@
 #![tactic(auto)]
 
 pub mod built_page;
+pub mod gather;
 pub mod laws;
 pub mod rebuild;
 pub mod scan_segment;
