@@ -1,5 +1,6 @@
 //! The store that the bytes of a disk stand for: the pages by their frames, or the one fault that the bytes have; and when a
-//! store in memory is in step with its disk. So far there are the definitions, in `specs/`, and the laws on them.
+//! store in memory is in step with its disk. So far segments are scanned, frames gathered by page, and pages built again of them; what
+//! makes a store of these is still to come.
 //!
 //! Laws: what was flushed is what is read; what is read is a store; a new disk stands for the first store; a tree that keeps
 //! what the log has stays in step; bytes that no reading looks at don't matter; a crash in a flush leaves the store before or
