@@ -5,9 +5,9 @@ use Rattle.mapping.specs.FreshPids.{is_among}
 use Rattle.indexmap.specs.IndexMap.{IndexMap, get}
 use Rattle.frame_codec.specs.Frame.{Content, Frame}
 use Rattle.frame_codec.specs.declared.frame.Frame as code
-use Rattle.recovery.specs.LogPages.{contents_of}
+use Rattle.recovery.specs.LogPages.{contents_of, pids_of}
 use Rattle.recovery.specs.PageByLog.{is_start, from_last}
-use Rattle.recovery.specs.Rebuild.{contents_in}
+use Rattle.recovery.specs.Rebuild.{HeldLog, contents_in}
 
 -- one more behind some, unless there are none
 abbrev pub behind_some : List Content → Content → List Content
@@ -28,3 +28,11 @@ kept_of (Some frames) = contents_in frames.items
 pub record AreGathered {S : Type 0} (by_pid : IndexMap ℕ (Vec code.Frame Global) S) (fs : List Frame) : Type 0 where
   pub each : (pid : ℕ) → kept_of (get nat_eq by_pid pid) ≡ from_last is_start (contents_of pid fs)
   pub pids : (pid : ℕ) → is_some (get nat_eq by_pid pid) ≡ is_among pid (map (λ f. f.pid) fs)
+
+-- the log of a page, as it is kept under its pid
+abbrev pub log_under : ℕ × Vec code.Frame Global → HeldLog
+log_under e = record { pid = e.0; contents = contents_in e.1.items }
+
+-- the logs of all pages of which these frames speak, by rising pid
+abbrev pub logs_of : List Frame → List HeldLog
+logs_of fs = map (λ pid. record { pid = pid; contents = from_last is_start (contents_of pid fs) }) (pids_of fs)

@@ -1,12 +1,13 @@
 //! Frames are gathered by page: of each page id those that tell its page, in the order of the log.
-ghost use Rattle.std.specs.Prelude.{◌≡◌, ◌++◌, ◌∷◌, [], List, IfOk, IfErr, OnOk};
+ghost use Rattle.std.specs.Prelude.{◌≡◌, ◌++◌, ◌∷◌, [], List, map, IfOk, IfErr, OnOk};
 ghost use Rattle.keys.specs.declared.fault.Fault.TheVariants.{NoMemory};
 ghost use Rattle.frame_codec.specs.Frame as said;
 ghost use Rattle.frame_codec.specs.Shown.{frame_of};
-ghost use Rattle.recovery.specs.Gathered.{AreGathered, kept_with};
+ghost use Rattle.recovery.specs.Gathered.{AreGathered, kept_with, log_under, logs_of};
 ghost use Rattle.recovery.specs.PageByLog.{is_start};
-ghost use Rattle.recovery.specs.Rebuild.{content_of, contents_in};
+ghost use Rattle.recovery.specs.Rebuild.{content_of, contents_in, held_log};
 
+use crate::rebuild::PageLog;
 use frame_codec::Frame;
 use indexmap::IndexMap;
 use keys::{Fault, Pid};
@@ -60,6 +61,23 @@ fn with_frame(mut frames: Vec<Frame>, frame: Frame) -> Result<Vec<Frame>, AllocE
     Ok(frames)
 }
 
+// The logs of pages, in the order in which the map has them.
+fn logs_in(alloc: Global, by_pid: IndexMap<u64, Vec<Frame>>) -> Result<Vec<PageLog>, AllocError>
+    ensures { IfOk result (λ logs. map held_log logs.items ≡ map log_under by_pid.entries) }
+{
+    let mut logs = Vec::new(alloc);
+    logs.reserve(by_pid.len())?;
+    for entry in by_pid {
+        let (pid, frames) = entry;
+        logs.reserve(1)?;
+        logs.push_reserved(PageLog {
+            pid: Pid(pid),
+            frames,
+        });
+    }
+    Ok(logs)
+}
+
 impl Gathering {
     /// No frames yet.
     pub fn new(alloc: Global) -> Self
@@ -84,5 +102,14 @@ impl Gathering {
         let frames = with_frame(frames, frame)?;
         self.by_pid.insert(pid, frames)?;
         Ok(())
+    }
+    /// The logs of all pages of which a frame came, by rising page id.
+    pub fn into_logs(self) -> Result<Vec<PageLog>, Fault>
+        ensures ok { (fs : List said.Frame) → AreGathered self.by_pid fs → IfOk result (λ logs. map held_log logs.items ≡ logs_of fs) }
+        ensures err { IfErr result (λ fault. fault ≡ NoMemory) }
+    {
+        let Gathering { alloc, mut by_pid } = self;
+        by_pid.sort_unstable_keys()?;
+        Ok(logs_in(alloc, by_pid)?)
     }
 }

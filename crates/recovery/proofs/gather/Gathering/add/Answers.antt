@@ -1,6 +1,5 @@
 use Rattle.std.proofs.Common.{◌≡◌, ◌∙◌, ℕ, cond, nat_eq, List, Option, None, Some, Vec, Global, ap, sym}
 use Rattle.indexmap.specs.IndexMap.{get}
-use Rattle.frame_codec.specs.Frame.{Content}
 use Rattle.frame_codec.specs.declared.frame.Frame as code
 use Rattle.frame_codec.specs.Shown.{frame_of}
 use Rattle.recovery.specs.Gathered.{kept_of, kept_with}
