@@ -1,6 +1,6 @@
 -- How a page is built of what its frames say, and taken apart again.
-use Rattle.std.proofs.Common.{◌≡◌, suc, ◌≤◌, List, [], ◌∷◌, ◌++◌, map, reverse, length, fold, Option, None, refl, sym, ap, ◌∙◌, arith}
-use Rattle.std.proofs.lemmas.List.{map-append, length-map, length-reverse, reverse-append, reverse-reverse, append_assoc, append-nil}
+use Rattle.std.proofs.Common.{◌≡◌, ◌≤◌, List, [], ◌∷◌, ◌++◌, map, reverse, length, fold, Option, None, refl, sym, ap, ◌∙◌, arith}
+use Rattle.std.proofs.lemmas.List.{map-append, reverse-append, reverse-reverse, append-nil}
 use Rattle.keys.specs.Bytes.{Changes}
 use Rattle.frame_codec.specs.Frame.{Content}
 use Rattle.frame_codec.specs.declared.frame.Frame as code
@@ -28,20 +28,9 @@ module _ {V : Type 0} (delta : Changes V → Content) where
       ap (λ (cs : List Content). cs ++ base ∷ []) (sym (reverse-reverse (map delta runs)) ∙ ap reverse (sym (map_reverse delta runs)))
       ∙ sym (reverse-append (base ∷ []) (map delta (reverse runs)))
 
-  pub count_all : (base : Content) (runs : List (Changes V)) → length (base ∷ map delta (reverse runs)) ≡ suc (length runs)
-  count_all base runs = ap suc (length-map (reverse runs) delta ∙ length-reverse runs)
-
   -- what frames say, and then what is still to be appended: runs, the newest first, and a base
   abbrev pub with_all : List code.Frame → List (Changes V) → Content → List Content
   with_all items runs base = contents_in items ++ (map delta runs ++ base ∷ [])
-
-  pub one-more : (items now : List code.Frame) (f : code.Frame) (run : Changes V) (runs : List (Changes V)) (base : Content)
-      → now ≡ items ++ f ∷ [] → content_of f ≡ delta run → with_all now runs base ≡ with_all items (run ∷ runs) base
-  one-more items now f run runs base made says =
-      ap (λ (fs : List code.Frame). contents_in fs ++ (map delta runs ++ base ∷ [])) made
-      ∙ ap (λ (cs : List Content). cs ++ (map delta runs ++ base ∷ [])) (map-append content_of items (f ∷ []))
-      ∙ append_assoc (contents_in items) (content_of f ∷ []) (map delta runs ++ base ∷ [])
-      ∙ ap (λ (c : Content). contents_in items ++ c ∷ (map delta runs ++ base ∷ [])) says
 
 -- frames on a list, of which the last is on top, turned round
 turned_round : (items : List code.Frame) (f : code.Frame) → reverse (contents_in (items ++ f ∷ [])) ≡ content_of f ∷ reverse (contents_in items)
