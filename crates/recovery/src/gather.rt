@@ -13,8 +13,7 @@ use indexmap::IndexMap;
 use keys::{Fault, Pid};
 use std::alloc::{AllocError, Global};
 
-/// Frames by page id. What a frame makes void is dropped when that frame comes, so that there is never more than what the pages
-/// that live take.
+/// Frames by page id: of each page those that tell it so far. What a frame makes void is dropped when that frame comes.
 #[derive(Drop)]
 pub struct Gathering {
     alloc: Global,
@@ -65,8 +64,7 @@ fn with_frame(mut frames: Vec<Frame>, frame: Frame) -> Result<Vec<Frame>, AllocE
 fn logs_in(alloc: Global, by_pid: IndexMap<u64, Vec<Frame>>) -> Result<Vec<PageLog>, AllocError>
     ensures { IfOk result (λ logs. map held_log logs.items ≡ map log_under by_pid.entries) }
 {
-    let mut logs = Vec::new(alloc);
-    logs.reserve(by_pid.len())?;
+    let mut logs = Vec::with_capacity(alloc, by_pid.len())?;
     for entry in by_pid {
         let (pid, frames) = entry;
         logs.reserve(1)?;
@@ -103,6 +101,7 @@ impl Gathering {
         self.by_pid.insert(pid, frames)?;
         Ok(())
     }
+
     /// The logs of all pages of which a frame came, by rising page id.
     pub fn into_logs(self) -> Result<Vec<PageLog>, Fault>
         ensures ok { (fs : List said.Frame) → AreGathered self.by_pid fs → IfOk result (λ logs. map held_log logs.items ≡ logs_of fs) }
