@@ -15,6 +15,7 @@ use Rattle.mapping.specs.Proper.{AreRisingPids}
 use Rattle.mapping.proofs.KnownPids.{among-with_numbers, rising-with_numbers}
 use Rattle.frame_codec.specs.Frame.{Content, Frame}
 use Rattle.frame_codec.specs.declared.frame.Frame as code
+use Rattle.recovery.specs.BuiltTree.{log_pids}
 use Rattle.recovery.specs.Gathered.{AreGathered, behind_some, kept_with, kept_of, log_under, logs_of}
 use Rattle.recovery.specs.LogPages.{contents_of, pids_of}
 use Rattle.recovery.specs.PageByLog.{is_start, from_last}
@@ -212,13 +213,24 @@ among_found : (n : ℕ) (es : List (ℕ × Vec code.Frame Global)) → is_among 
 among_found n [] = refl
 among_found n ((k, v) ∷ es) = among_by_found (nat_eq n k) n k v es refl (among_found n es)
 
+log_pids-under : (es : List (ℕ × Vec code.Frame Global)) → log_pids (map log_under es) ≡ keys_of es
+log_pids-under [] = refl
+log_pids-under (e ∷ es) = ap (λ (ns : List ℕ). e.0 ∷ ns) (log_pids-under es)
+
+-- once the pids are sorted, they rise
+keys-rise : (ns : List ℕ) → IsSorted nat_cmp ns → IsDistinct nat_eq ns → AreRisingPids ns
+keys-rise ns sorted distinct = rising ns (IsStrictlyIncreasing-from_distinct ns (IsNonDecreasingBy-from_sort (λ (n : ℕ). n) ns sorted) distinct)
+
+-- and so do those of the logs
+pub pids-rise : (es : List (ℕ × Vec code.Frame Global)) (hs : List HeldLog) → IsSorted nat_cmp (keys_of es) → IsDistinct nat_eq (keys_of es) → hs ≡ map log_under es → AreRisingPids (log_pids hs)
+pids-rise es hs sorted distinct e = subst (λ (ns : List ℕ). AreRisingPids ns) (sym (ap log_pids e ∙ log_pids-under es)) (keys-rise (keys_of es) sorted distinct)
+
 -- of frames that are gathered, once the pids are sorted
 pub logs-gathered : {S : Type 0} (old now : IndexMap ℕ (Vec code.Frame Global) S) (fs : List Frame) → IsSorted nat_cmp (keys_of now.entries) → IsDistinct nat_eq (keys_of now.entries)
     → ((n : ℕ) → get nat_eq old n ≡ get nat_eq now n) → AreGathered old fs → map log_under now.entries ≡ logs_of fs
 logs-gathered old now fs sorted distinct same h =
     let es = now.entries in
-    let strict = IsStrictlyIncreasing-from_distinct (keys_of es) (IsNonDecreasingBy-from_sort (λ (n : ℕ). n) (keys_of es) sorted) distinct in
-    let rise = rising (keys_of es) strict in
+    let rise = keys-rise (keys_of es) sorted distinct in
     let each : (n : ℕ) → kept_of (lookup (nat_eq n) es) ≡ from_last is_start (contents_of n fs) = λ n. ap (λ o. kept_of o) (sym (same n)) ∙ h.each n in
     let pids : (n : ℕ) → is_among n (keys_of es) ≡ is_among n (pids_of fs) =
     λ n. among_found n es ∙ ap (λ o. is_some o) (sym (same n)) ∙ h.pids n ∙ sym (among-with_numbers n (map (λ (f : Frame). f.pid) fs) [] ∙ or_none (is_among n (map (λ (f : Frame). f.pid) fs))) in

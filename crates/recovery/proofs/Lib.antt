@@ -1,4 +1,5 @@
 pub mod BrokenLaws
+mod BuildLaws
 pub mod CrashLaws
 mod DamagedRows
 pub mod DiskForms
@@ -15,9 +16,15 @@ pub mod NothingDue
 mod PageRows
 pub mod PagesLaws
 pub mod PartLaws
+mod ReadBlock
+pub mod ReadBytes
+mod ReadLog
+mod ReadSlots
 pub mod ReadStore
 mod RebuildLaws
+mod RecoverLaws
 mod ScanLaws
+mod SoFarLaws
 pub mod StepLaws
 pub mod StoreLaws
 pub mod TableLaws

@@ -1,8 +1,10 @@
 //! Frames are gathered by page: of each page id those that tell its page, in the order of the log.
 ghost use Rattle.std.specs.Prelude.{◌≡◌, ◌++◌, ◌∷◌, [], List, map, IfOk, IfErr, OnOk};
 ghost use Rattle.keys.specs.declared.fault.Fault.TheVariants.{NoMemory};
+ghost use Rattle.mapping.specs.Proper.{AreRisingPids};
 ghost use Rattle.frame_codec.specs.Frame as said;
 ghost use Rattle.frame_codec.specs.Shown.{frame_of};
+ghost use Rattle.recovery.specs.BuiltTree.{log_pids};
 ghost use Rattle.recovery.specs.Gathered.{AreGathered, kept_with, log_under, logs_of};
 ghost use Rattle.recovery.specs.PageByLog.{is_start};
 ghost use Rattle.recovery.specs.Rebuild.{content_of, contents_in, held_log};
@@ -105,6 +107,7 @@ impl Gathering {
     /// The logs of all pages of which a frame came, by rising page id.
     pub fn into_logs(self) -> Result<Vec<PageLog>, Fault>
         ensures ok { (fs : List said.Frame) → AreGathered self.by_pid fs → IfOk result (λ logs. map held_log logs.items ≡ logs_of fs) }
+        ensures rising { IfOk result (λ logs. AreRisingPids (log_pids (map held_log logs.items))) }
         ensures err { IfErr result (λ fault. fault ≡ NoMemory) }
     {
         let Gathering { alloc, mut by_pid } = self;

@@ -1,15 +1,19 @@
 //! The store that the bytes of a disk stand for: the pages by their frames, or the one fault that the bytes have; and when a
-//! store in memory is in step with its disk. So far segments are scanned, frames gathered by page, and pages built again of them; what
-//! makes a store of these is still to come.
+//! store in memory is in step with its disk. `recover` reads it: settings, slot and log, segment by segment (`read_disk`,
+//! `scan_segment`), whose frames are gathered by page (`gather`), pages built of them (`rebuild`), and put into a tree that is looked
+//! at (`build_tree`).
 //!
 //! Laws: what was flushed is what is read; what is read is a store; a new disk stands for the first store; a tree that keeps
 //! what the log has stays in step; bytes that no reading looks at don't matter; a crash in a flush leaves the store before or
 //! after; what a flush of a tree is on its table in memory.
 #![tactic(auto)]
 
+mod build_tree;
 pub mod built_page;
 pub mod gather;
 pub mod laws;
+mod read_disk;
 pub mod rebuild;
+pub mod recover;
 pub mod scan_segment;
 pub mod table_laws;

@@ -1,0 +1,62 @@
+-- Bytes that a reading of a disk may have found.
+use Rattle.std.specs.Prelude.{◌≡◌, ◌⊎◌, ℕ, Bool, true, false, IsTrue, List, replicate, Result, Ok, Err, IsErrAnd, MatchResult}
+use Rattle.std.proofs.Common.{refl, sym, subst, ◌∙◌, inl}
+use Rattle.std.proofs.lemmas.List.{length-replicate}
+use Rattle.keys.specs.declared.fault.Fault.{Fault}
+use Rattle.flush_log.specs.Disk.{View, Lawful, Kept, Same}
+use Rattle.recovery.specs.Recovered.{IsReadOf, IsLate}
+
+-- ---- the first
+
+-- there are such bytes: what a read gives where the disk is honest, else any
+pub first_read : (v : View) → (IsTrue v.is_honest → Lawful v) → (file : List ℕ) × IsReadOf v file
+first_read v law = of v.is_honest refl
+  where
+    of : (b : Bool) → v.is_honest ≡ b → (file : List ℕ) × IsReadOf v file
+    of true honest = (v.seen, record { whole = (law honest).whole; honest = λ h. refl })
+    of false honest = (
+      replicate v.size 0,
+      record { whole = length-replicate v.size 0; honest = λ h. absurd (cc) },
+    )
+
+-- ---- calls that change nothing, one after the other
+
+pub kept_self : (v : View) → Kept v v
+kept_self v = record { honest = refl; size = refl }
+
+pub same_self : (v : View) → Same v v
+same_self v = record { seen = refl; may_leave = λ c. (λ h. h, λ h. h); moment = refl; left_since = λ t c. (λ h. h, λ h. h) }
+
+pub kept_then : (a b c : View) → Kept a b → Kept b c → Kept a c
+kept_then a b c ab bc = record { honest = bc.honest ∙ ab.honest; size = bc.size ∙ ab.size }
+
+pub same_then : (a b c : View) → Same a b → Same b c → Same a c
+same_then a b c ab bc = record {
+  seen = bc.seen ∙ ab.seen;
+  may_leave = λ x. (λ h. (ab.may_leave x).0 ((bc.may_leave x).0 h), λ h. (bc.may_leave x).1 ((ab.may_leave x).1 h));
+  moment = bc.moment ∙ ab.moment;
+  left_since = λ t x. (λ h. (ab.left_since t x).0 ((bc.left_since t x).0 h), λ h. (bc.left_since t x).1 ((ab.left_since t x).1 h));
+}
+
+-- ---- what was told
+
+-- what the bytes decide, or a late fault
+abbrev pub IsToldBy : {X : Type 0} → Result X Fault → (Fault → Type 0) → Result X Fault → Type 0
+IsToldBy told Late result = MatchResult result (λ x. told ≡ Ok x) (λ fault. (told ≡ Err fault) ⊎ Late fault)
+
+pub as_told : {X : Type 0} (told : Result X Fault) (Late : Fault → Type 0) (r : Result X Fault) → r ≡ told → IsToldBy told Late r
+as_told told Late (Ok x) e = sym e
+as_told told Late (Err fault) e = inl (sym e)
+
+-- a fault that was handed on
+pub handed_on : {X : Type 0} (r : Result X Fault) (P : X → Type 0) (Q : Fault → Type 0) (fault : Fault) → IsErrAnd r (λ f. f ≡ fault) → Q fault → MatchResult r P Q
+handed_on (Ok x) P Q fault is h = absurd is
+handed_on (Err f) P Q fault is h = subst Q (sym is) h
+
+-- one that was late stays so, where no read had failed before
+pub late_since : (old mid new : ℕ) (fault : Fault) → mid ≡ old → IsLate mid new fault → IsLate old new fault
+late_since old mid new fault same h = subst (λ (n : ℕ). IsLate n new fault) same h
+
+pub or_late : {X : Type 0} (r : Result X Fault) (P : X → Type 0) (Q Late : Fault → Type 0) → MatchResult r P Q → MatchResult r P (λ fault. Q fault ⊎ Late fault)
+or_late (Ok x) P Q Late h = h
+or_late (Err fault) P Q Late h = inl h

@@ -1,0 +1,110 @@
+-- What a recovery comes to, by what is read of its disk part by part.
+use Rattle.std.specs.Prelude.{◌≡◌, ◌⊎◌, ℕ, IsTrue, List, Option, Some, None, Result, Ok, Err}
+use Rattle.std.proofs.Common.{sym, ap, subst, ◌∙◌, inl, inr}
+use Rattle.keys.specs.Bytes.{Bytes}
+use Rattle.keys.specs.declared.fault.Fault.{Fault}
+use Rattle.keys.specs.declared.fault.Fault.TheVariants.{NoMemory, BadStructure}
+use Rattle.keys.specs.declared.settings.Settings.{Settings}
+use Rattle.mapping.specs.Finding.{Finding}
+use Rattle.mapping.specs.Tree.{Store, Tree}
+use Rattle.mapping.specs.TreeInMemory.{TreeInMemory, AreAllHome, tree_of}
+use Rattle.frame_codec.specs.Frame.{Frame}
+use Rattle.flush_log.specs.AfterFlush.{store_after}
+use Rattle.flush_log.specs.Disk.{View, Kept, Same}
+use Rattle.flush_log.specs.Reading.{Found, log}
+use Rattle.flush_log.specs.SettingsBlock.{store_settings}
+use Rattle.flush_log.specs.Slot.{Slot, store_slot}
+use Rattle.recovery.specs.Gathered.{AreGathered}
+use Rattle.recovery.specs.Recovered.{IsReadOf, IsLate, IsLogRead, store_recovered}
+use Rattle.recovery.specs.StoreOfDisk.{and_then, frames_in, store_of_disk, store_of_slot, store_under, tree_by_log, unless_found, wrong_in}
+use Rattle.recovery.proofs.ReadBytes.{same_then}
+use Rattle.recovery.specs.declared.gather.Gathering.{Gathering}
+use Rattle.recovery.specs.declared.recover.LogRead.{LogRead}
+
+-- ---- calls that change nothing of a disk
+
+-- the same on an honest disk, which stays honest
+pub same_on : (a b c : View) → Kept a b → (IsTrue a.is_honest → Same a b) → (IsTrue b.is_honest → Same b c) → IsTrue a.is_honest → Same a c
+same_on a b c kept first second honest = same_then a b c (first honest) (second (subst IsTrue (sym kept.honest) honest))
+
+-- what was read later was read of the disk as it was before
+pub read_before : (a b : View) (file : Bytes) → Kept a b → (IsTrue a.is_honest → Same a b) → IsReadOf b file → IsReadOf a file
+read_before a b file kept same read = record {
+  whole = read.whole ∙ kept.size;
+  honest = λ honest. read.honest (subst IsTrue (sym kept.honest) honest) ∙ (same honest).seen;
+}
+
+-- a late fault behind calls that did not fail
+pub late_behind : (old mid new : ℕ) (fault : Fault) → mid ≡ old → IsLate mid new fault → IsLate old new fault
+late_behind old mid new fault same late = subst (λ (n : ℕ). IsLate n new fault) same late
+
+-- ---- what the bytes of a disk stand for
+
+abbrev found_store : Settings → Store → Result (Settings × Store) Fault
+found_store s st = Ok (s, st)
+
+abbrev of_settings : Bytes → Result Settings Fault → Result (Settings × Store) Fault
+of_settings file r = and_then r (λ s. store_under s file)
+
+abbrev of_slot : Settings → Bytes → Result Slot Fault → Result (Settings × Store) Fault
+of_slot s file r = and_then r (λ t. and_then (store_of_slot s file t) (λ st. found_store s st))
+
+abbrev of_log : Settings → Slot → Result (List Found) Fault → Result Store Fault
+of_log s t r = and_then r (λ found. unless_found (wrong_in s t (frames_in found)) (store_after (tree_by_log t (frames_in found)) t))
+
+abbrev of_store : Settings → Result Store Fault → Result (Settings × Store) Fault
+of_store s r = and_then r (λ st. found_store s st)
+
+abbrev of_finding : Settings → Slot → List Found → Option Finding → Result Store Fault
+of_finding s t found o = unless_found o (store_after (tree_by_log t (frames_in found)) t)
+
+pub no_settings : (file : Bytes) (fault : Fault) → store_settings file ≡ Err fault → store_of_disk file ≡ Err fault
+no_settings file fault e = ap (of_settings file) e
+
+module _ (file : Bytes) (s : Settings) (settings : store_settings file ≡ Ok s) where
+  pub no_slot : (fault : Fault) → store_slot s file ≡ Err fault → store_of_disk file ≡ Err fault
+  no_slot fault e = ap (of_settings file) settings ∙ ap (of_slot s file) e
+
+  module _ (t : Slot) (slot : store_slot s file ≡ Ok t) where
+    by_log : store_of_disk file ≡ of_store s (store_of_slot s file t)
+    by_log = ap (of_settings file) settings ∙ ap (of_slot s file) slot
+
+    pub no_log : (fault : Fault) → log s file t ≡ Err fault → store_of_disk file ≡ Err fault
+    no_log fault e = by_log ∙ ap (of_store s) (ap (of_log s t) e)
+
+    module _ (found : List Found) (is : log s file t ≡ Ok found) where
+      by_finding : store_of_disk file ≡ of_store s (of_finding s t found (wrong_in s t (frames_in found)))
+      by_finding = by_log ∙ ap (of_store s) (ap (of_log s t) is)
+
+      pub wrong_store : (f : Finding) → wrong_in s t (frames_in found) ≡ Some f → store_of_disk file ≡ Err (BadStructure f)
+      wrong_store f e = by_finding ∙ ap (λ o. of_store s (of_finding s t found o)) e
+
+      pub right_store : wrong_in s t (frames_in found) ≡ None → store_of_disk file ≡ Ok (s, store_after (tree_by_log t (frames_in found)) t)
+      right_store e = by_finding ∙ ap (λ o. of_store s (of_finding s t found o)) e
+
+-- ---- what was read, by the parts in which it is handed on
+
+-- of whatever frames were gathered, the tree is right; or the fault is
+abbrev pub IsTreeOf : TreeInMemory → Settings → Slot → Gathering → Type 0
+IsTreeOf tree s t g = (fs : List Frame) → AreGathered g.by_pid fs → (wrong_in s t fs ≡ None) × (tree_of tree ≡ tree_by_log t fs) × AreAllHome tree
+
+abbrev pub IsRefusedTree : Fault → Settings → Slot → Gathering → Type 0
+IsRefusedTree fault s t g = (fs : List Frame) → AreGathered g.by_pid fs → (fault ≡ NoMemory) ⊎ ((f : Finding) × (wrong_in s t fs ≡ Some f) × (fault ≡ BadStructure f))
+
+module _ (file : Bytes) (r : LogRead) (read : IsLogRead r file) where
+  pub tree-recovered : (tree : TreeInMemory) → IsTreeOf tree r.settings r.slot r.gathering
+      → (store_of_disk file ≡ Ok (r.settings, store_recovered (record { settings = r.settings; slot = r.slot; tree = tree }))) × AreAllHome tree
+  tree-recovered tree right =
+      let (none, is, home) = right (frames_in read.found) read.gathered in (
+        right_store file r.settings read.settings r.slot read.slot read.found read.log none ∙ ap (λ (u : Tree). found_store r.settings (store_after u r.slot)) (sym is),
+        home,
+      )
+
+  pub tree-refused : (old new : ℕ) (fault : Fault) → IsRefusedTree fault r.settings r.slot r.gathering → (store_of_disk file ≡ Err fault) ⊎ IsLate old new fault
+  tree-refused old new fault refused = elim (refused (frames_in read.found) read.gathered) [
+    | inl memory ↦ inr (inl memory)
+    | inr wrong ↦ inl (wrong_store file r.settings read.settings r.slot read.slot read.found read.log wrong.0 wrong.1 ∙ ap (λ (f : Fault). refused_with f) (sym wrong.2))
+  ]
+    where
+      refused_with : Fault → Result (Settings × Store) Fault
+      refused_with f = Err f

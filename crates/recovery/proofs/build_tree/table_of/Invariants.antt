@@ -1,0 +1,7 @@
+use Rattle.std.specs.Vec.Iter.{into_iter_items}
+use Rattle.recovery.proofs.BuildLaws.{IsFilledBy}
+use Rattle.recovery.proofs.build_tree.table_of.Given as goal
+
+-- what is left fills the table as all fill an empty one
+abbrev pub invariant-loop-rebuilt : goal.invariant-loop-rebuilt
+invariant-loop-rebuilt l = IsFilledBy l.table (into_iter_items l.rebuilt-iterator) l.fn.made.items

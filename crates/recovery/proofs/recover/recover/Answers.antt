@@ -1,0 +1,23 @@
+use Rattle.std.proofs.lemmas.Result.{err_from_is_err_and}
+use Rattle.recovery.proofs.RecoverLaws.{tree-recovered, tree-refused}
+use Rattle.recovery.proofs.recover.recover.Goals as goal
+
+pub returns-in_err-tree-clause-read : goal.returns-in_err-tree-clause-read
+returns-in_err-tree-clause-read g c =
+    let r = c.in_ok-settings in
+    let (file, read, log) = r.ensures.read in
+    let p = err_from_is_err_and c.from_residual-in_err-tree.result c.from_residual-in_err-tree.ensures.1 in
+    rw (p.1, p.2) (
+      file,
+      read,
+      tree-refused file r.field-0 log _ _ c.in_err-tree.field-0.0 c.in_err-tree.ensures.err,
+    )
+
+pub returns-clause-read : goal.returns-clause-read
+returns-clause-read g c =
+    let r = c.in_ok-settings in
+    let (file, read, log) = r.ensures.read in (
+      file,
+      read,
+      tree-recovered file r.field-0 log c.in_ok-tree.tree c.in_ok-tree.ensures.ok,
+    )

@@ -1,0 +1,14 @@
+-- What was found of a log so far.
+use Rattle.std.specs.Prelude.{◌≡◌, ℕ, List, Option, Some, None, Result, Ok, Err, Vec}
+use Rattle.std.specs.declared.alloc.Global.{Global}
+use Rattle.keys.specs.declared.fault.Fault.{Fault}
+use Rattle.indexmap.specs.IndexMap.{IndexMap}
+use Rattle.frame_codec.specs.declared.frame.Frame as code
+use Rattle.flush_log.specs.Reading.{Found}
+use Rattle.recovery.specs.Gathered.{AreGathered}
+use Rattle.recovery.specs.StoreOfDisk.{frames_in}
+
+-- what is kept of a log of which the segments so far tell this: the frames, by pid, as long as there is no fault; else the fault
+abbrev pub IsSoFar : {S : Type 0} → IndexMap ℕ (Vec code.Frame Global) S → Option Fault → Result (List Found) Fault → Type 0
+IsSoFar by_pid None told = (found : List Found) × (told ≡ Ok found) × AreGathered by_pid (frames_in found)
+IsSoFar by_pid (Some fault) told = told ≡ Err fault
