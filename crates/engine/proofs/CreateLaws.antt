@@ -12,9 +12,11 @@ use Rattle.keys.specs.declared.settings.Field.{Field}
 use Rattle.keys.specs.declared.settings.Settings.{Settings}
 use Rattle.mapping.specs.Tree.{Store}
 use Rattle.mapping.specs.TreeInMemory.{TreeInMemory, new_in_memory, tree_of}
+use Rattle.flush_log.specs.AfterFlush.{store_after}
 use Rattle.flush_log.specs.Disk.{View, Lawful, Kept}
-use Rattle.flush_log.specs.NewStore.{new_bytes, disk_of_new}
+use Rattle.flush_log.specs.NewStore.{first_slot, new_bytes, disk_of_new}
 use Rattle.flush_log.specs.Segments.{HasSegments, disk_size}
+use Rattle.flush_log.specs.Slot.{Slot}
 use Rattle.flush_log.proofs.FitLaws.{are_sized}
 use Rattle.recovery.specs.InStep.{IsInStep, IsStoreOf}
 use Rattle.recovery.specs.StoreOfDisk.{first_store, store_of_disk}
@@ -43,13 +45,19 @@ new-fits s bytes len small size good is room whole least =
     let long : length bytes ≡ 545 = rw is refl in
     omega (arith, product, long, room, whole, least)
 
--- a new tree under a first log is the first store
-pub first-is : (tree : TreeInMemory) (log : Log) → tree ≡ new_in_memory → (log.head ≡ first_store.head) × (log.tail ≡ first_store.tail) × (log.sequence ≡ first_store.sequence) → store_in tree log ≡ first_store
-first-is tree log new (head, tail, sequence) =
-    ap (λ (t : TreeInMemory). store_in t log) new
-    ∙ ap (λ (n : ℕ). (let x : Store = record { tree = tree_of new_in_memory; head = n; tail = log.tail; sequence = log.sequence } in x)) head
-    ∙ ap (λ (n : ℕ). (let x : Store = record { tree = tree_of new_in_memory; head = first_store.head; tail = n; sequence = log.sequence } in x)) tail
-    ∙ ap (λ (n : ℕ). (let x : Store = record { tree = tree_of new_in_memory; head = first_store.head; tail = first_store.tail; sequence = n } in x)) sequence
+-- the store of a slot, as its log is kept
+pub opened-is : (tree : TreeInMemory) (slot : Slot) (log : Log) → (log.head ≡ slot.head) × (log.tail ≡ slot.tail) × (log.sequence ≡ slot.sequence) → store_in tree log ≡ store_after (tree_of tree) slot
+opened-is tree slot log (head, tail, sequence) =
+    ap (λ (n : ℕ). (let x : Store = record { tree = tree_of tree; head = n; tail = log.tail; sequence = log.sequence } in x)) head
+    ∙ ap (λ (n : ℕ). (let x : Store = record { tree = tree_of tree; head = slot.head; tail = n; sequence = log.sequence } in x)) tail
+    ∙ ap (λ (n : ℕ). (let x : Store = record { tree = tree_of tree; head = slot.head; tail = slot.tail; sequence = n } in x)) sequence
+
+-- a new tree under the log of the first slot is the first store
+pub first-is : (tree : TreeInMemory) (slot : Slot) (log : Log) → tree ≡ new_in_memory → slot ≡ first_slot → (log.head ≡ slot.head) × (log.tail ≡ slot.tail) × (log.sequence ≡ slot.sequence) → store_in tree log ≡ first_store
+first-is tree slot log new first same =
+    opened-is tree slot log same
+    ∙ ap (λ (t : Slot). store_after (tree_of tree) t) first
+    ∙ ap (λ (t : TreeInMemory). store_after (tree_of t) first_slot) new
 
 module _ {D : Type 0} (view : D → View) (s : Settings) (tree : TreeInMemory) (log : Log) (old new : D) (is : store_in tree log ≡ first_store) (free : create_refusal s (view old).size ≡ None)
     (law : IsTrue (view old).is_honest → Lawful (view old)) (bytes : IsTrue (view old).is_honest → (view new).seen ≡ disk_of_new s (view old).seen) where

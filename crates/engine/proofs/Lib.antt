@@ -11,6 +11,7 @@ mod FlushDone
 mod FlushPlan
 mod InTurn
 mod LeafRoutes
+mod OpenedLaws
 mod OwnRuns
 mod PartAnswers
 mod PlayLaws

@@ -1,21 +1,17 @@
 -- Faults that a store and its bytes don't decide, and what the making of a store leaves.
-use Rattle.std.specs.Prelude.{◌≡◌, ◌⊎◌, ℕ, nat_lt, if◌then◌else◌, length, Option, Some, None, Result, Ok, Err}
+use Rattle.std.specs.Prelude.{ℕ, nat_lt, if◌then◌else◌, length, Option, Some, None, Result, Ok, Err}
 use Rattle.std.specs.Option.{option_or}
 use Rattle.keys.specs.Bytes.{Bytes}
 use Rattle.keys.specs.Limits.{first_bad_field}
 use Rattle.keys.specs.declared.fault.Fault.{Fault}
-use Rattle.keys.specs.declared.fault.Fault.TheVariants.{BadSettings, NoMemory, Device, DiskTooSmall}
+use Rattle.keys.specs.declared.fault.Fault.TheVariants.{BadSettings, DiskTooSmall}
 use Rattle.keys.specs.declared.settings.Field.{Field}
 use Rattle.keys.specs.declared.settings.Settings.{Settings}
 use Rattle.mapping.specs.Tree.{Store}
-use Rattle.flush_log.specs.Disk.{HasFailed}
 use Rattle.flush_log.specs.NewStore.{disk_of_new}
 use Rattle.flush_log.specs.Segments.{disk_size}
+pub use Rattle.recovery.specs.Recovered.{IsLate}
 use Rattle.recovery.specs.StoreOfDisk.{first_store}
-
--- memory was refused, or the disk has failed
-abbrev pub IsLate : ℕ → ℕ → Fault → Type 0
-IsLate old new fault = (fault ≡ NoMemory) ⊎ ((fault ≡ Device) × HasFailed old new)
 
 -- why no store is made on a disk of so many bytes: a field of the settings is bad, or the disk has no room for all segments
 abbrev pub field_fault : Option Field → Option Fault

@@ -18,18 +18,22 @@ use std::thread::Threads;
 
 // A disk that keeps a list of its calls, of which the one with this number, counted from 1, fails and does nothing.
 #[derive(Drop)]
-struct FailingDisk {
-    bytes: Vec<u8>,
+pub(crate) struct FailingDisk {
+    pub(crate) bytes: Vec<u8>,
     list: String,
-    calls: u64,
+    pub(crate) calls: u64,
     fails_at: u64,
     failures: u64,
 }
 
 impl FailingDisk {
-    fn new(alloc: Global, fails_at: u64) -> Result<FailingDisk, AllocError> {
+    pub(crate) fn new(
+        alloc: Global,
+        bytes: &[u8],
+        fails_at: u64,
+    ) -> Result<FailingDisk, AllocError> {
         Ok(FailingDisk {
-            bytes: vec![in alloc; 0; SHORTEST]?,
+            bytes: bytes.to_vec(alloc)?,
             list: String::new(alloc),
             calls: 0,
             fails_at,
@@ -100,8 +104,8 @@ impl Disk for FailingDisk {
 }
 
 // A new store under the settings S on a disk whose call of this number fails.
-fn failing_store(alloc: Global, fails_at: u64) -> Result<Store<FailingDisk>, Fault> {
-    let disk = FailingDisk::new(alloc, fails_at)?;
+pub(crate) fn failing_store(alloc: Global, fails_at: u64) -> Result<Store<FailingDisk>, Fault> {
+    let disk = FailingDisk::new(alloc, &[0; SHORTEST], fails_at)?;
     Store::create(alloc, disk, S).map_err(|(fault, _disk)| fault)
 }
 
@@ -172,7 +176,7 @@ fn an_empty_flush_calls_no_disk(rt: HostRuntime) -> Result<(), Fail> {
 #[test]
 fn no_store_is_made_where_a_call_fails(rt: HostRuntime) -> Result<(), Fail> {
     for fails_at in 1..3u64 {
-        let disk = FailingDisk::new(rt.alloc(), fails_at)?;
+        let disk = FailingDisk::new(rt.alloc(), &[0; SHORTEST], fails_at)?;
         let is_handed_back = Store::create(rt.alloc(), disk, S).is_err_and(|(fault, disk)| {
             fault == Fault::Device && disk.calls == fails_at && disk.failures == 1
         });

@@ -9,6 +9,8 @@ mod execute;
 #[cfg(test)]
 mod failing_disk_rows;
 #[cfg(test)]
+mod failing_recovery_rows;
+#[cfg(test)]
 mod frame_rows;
 pub mod laws;
 mod leaves;
@@ -16,6 +18,8 @@ mod leaves;
 mod log_rows;
 #[cfg(test)]
 mod parts;
+#[cfg(test)]
+mod recovery_rows;
 mod refusal;
 pub mod step;
 pub mod step_laws;

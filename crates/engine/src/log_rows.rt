@@ -132,7 +132,7 @@ pub(crate) const FOUR_LONG_PUTS: &str =
     "sixteen_bytes_k1=sixteen_bytes_v1 sixteen_bytes_k2=sixteen_bytes_v2 \
     sixteen_bytes_k3=sixteen_bytes_v3 sixteen_bytes_k4=sixteen_bytes_v4";
 
-const LONG_PUT: &str = "a=0123456789abcdef";
+pub(crate) const LONG_PUT: &str = "a=0123456789abcdef";
 
 const LONG_A_PUT: &[u8] = b"\x02\0\0\0\x20\0\0\0\0\0\0\0\0\0\x01\0\x01a\x01\0\x100123456789abcdef";
 
@@ -444,14 +444,19 @@ pub(crate) const PUT_AGAIN: [&str; 8] = [
     "flush",
 ];
 
-// A disk in memory of this length, on which something else was before.
-fn used_disk(alloc: Global, len: usize) -> Result<MemDisk<Global>, Fault> {
-    let mut disk = MemDisk::new(alloc, len)?;
-    let old = vec![in alloc; OLD; len]?;
-    if disk.len() == len as u64 {
-        disk.write_at(0, &old)?;
+// A disk in memory that has these bytes.
+pub(crate) fn disk_of(alloc: Global, bytes: &[u8]) -> Result<MemDisk<Global>, Fault> {
+    let mut disk = MemDisk::new(alloc, bytes.len())?;
+    if disk.len() == bytes.len() as u64 {
+        disk.write_at(0, bytes)?;
     }
     Ok(disk)
+}
+
+// A disk in memory of this length, on which something else was before.
+fn used_disk(alloc: Global, len: usize) -> Result<MemDisk<Global>, Fault> {
+    let old = vec![in alloc; OLD; len]?;
+    disk_of(alloc, &old)
 }
 
 // A new store under the settings S on a disk that is longer than it needs.
@@ -751,7 +756,7 @@ fn fill(
 }
 
 // The pages, with what the log has of each, and the pairs.
-fn look(alloc: Global, store: &Store<MemDisk<Global>>) -> Result<String, Fault> {
+pub(crate) fn look<D: Disk>(alloc: Global, store: &Store<D>) -> Result<String, Fault> {
     let mut text = String::new(alloc);
     write_tree(alloc, &mut text, store.tree())?;
     write_rows(&mut text, store.range(b"", None, 100)?)?;

@@ -20,6 +20,7 @@ ghost use Rattle.verify.specs.Report.{report};
 
 mod flush;
 mod play;
+mod reopen;
 
 use crate::execute::execute;
 use crate::laws::a_batch_stays_in_step;
@@ -28,6 +29,7 @@ use flush_log::Disk;
 use flush_log::commit::write_through;
 use flush_log::new_store::{first_slot, new_bytes};
 use flush_log::segments::disk_size;
+use flush_log::slot::Slot;
 use keys::{Command, Fault, Reply, Settings};
 use mapping::laws::{
     nothing_is_found_exactly_in_a_proper_tree, the_first_tree_is_proper_and_empty,
@@ -72,11 +74,10 @@ impl<D: Disk> Model for Store<D> {
     ghost invariant = { λ s. IsSoundStore D.view s.settings s.tree s.log s.disk s.has_failed };
 }
 
-// The log of a new store.
-fn first_log() -> Log
-    ensures { (result.head ≡ first_store.head) × (result.tail ≡ first_store.tail) × (result.sequence ≡ first_store.sequence) }
+// Where the log of a slot begins and ends, and the number of its commit.
+fn log_of(slot: &Slot) -> Log
+    ensures { (result.head ≡ slot.now.head) × (result.tail ≡ slot.now.tail) × (result.sequence ≡ slot.now.sequence) }
 {
-    let slot = first_slot();
     Log {
         head: slot.head,
         tail: slot.tail,
@@ -135,7 +136,7 @@ impl<D: Disk> Store<D> {
                 settings,
                 alloc,
                 tree,
-                log: first_log(),
+                log: log_of(&first_slot()),
                 disk,
                 has_failed: false,
             }),
@@ -238,5 +239,10 @@ impl<D: Disk> Store<D> {
     // The tree, for tests to look at.
     pub(crate) fn tree(&self) -> &Tree<Global> {
         &self.tree
+    }
+
+    // Where the log begins and ends, and the number of its last commit.
+    pub(crate) fn head_tail_and_sequence(&self) -> (u64, u64, u64) {
+        (self.log.head, self.log.tail, self.log.sequence)
     }
 }

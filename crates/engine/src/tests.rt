@@ -187,7 +187,7 @@ const ROWS: [Row; 15] = [
         settings: S,
         batches: &["=1 sixteen_bytes_ok=2 seventeen_bytes_!=3"],
         outcome: "2 KeyTooLong 2; root 0, height 1\n\
-            0 low= log=Upto leaf runs=0:\n",
+            0 low= log=Upto0 leaf runs=0:\n",
     },
     // A value that is too long is found after a key that is.
     Row {
@@ -200,7 +200,7 @@ const ROWS: [Row; 15] = [
             "a",
         ],
         outcome: "N; 3 ValueTooLong 1; 2 KeyTooLong 1; s; root 0, height 1\n\
-            0 low= log=Upto leaf runs=1: a=sixteen_bytes_ok\n",
+            0 low= log=Upto0 leaf runs=1: a=sixteen_bytes_ok\n",
     },
     // A scan's bounds are keys, of which the lower one comes first.
     Row {
@@ -212,7 +212,7 @@ const ROWS: [Row; 15] = [
             "[sixteen_bytes_ok,sixteen_bytes_ok,1",
         ],
         outcome: "2 KeyTooLong 0; 2 KeyTooLong 1; []; root 0, height 1\n\
-            0 low= log=Upto leaf runs=0:\n",
+            0 low= log=Upto0 leaf runs=0:\n",
     },
 ];
 
@@ -287,11 +287,12 @@ pub(crate) fn letter(reply: &Reply<Global>) -> char {
     }
 }
 
-fn log_word(log: Logged) -> &'static str {
+// What the log has of a page; of its runs how many.
+fn write_logged(text: &mut String, log: Logged) -> Result<(), AllocError> {
     match log {
-        Logged::No => " log=No",
-        Logged::Old => " log=Old",
-        Logged::Upto(_) => " log=Upto",
+        Logged::No => text.push_str(" log=No"),
+        Logged::Old => text.push_str(" log=Old"),
+        Logged::Upto(runs) => write!(text, " log=Upto{runs}"),
     }
 }
 
@@ -358,7 +359,7 @@ fn write_page(
 ) -> Result<(), AllocError> {
     write!(text, "{} low=", pid.0)?;
     write_bytes(text, page.low())?;
-    text.push_str(log_word(log))?;
+    write_logged(text, log)?;
     if let Some(chain) = page.as_leaf() {
         return write_leaf(alloc, text, chain);
     }

@@ -1,0 +1,24 @@
+use Rattle.engine.proofs.OpenedLaws.{opened-seen, opened-store, refused-seen}
+use Rattle.engine.proofs.store.Store.recover.Goals as goal
+
+pub invariant_of-result : goal.invariant_of-result
+invariant_of-result g c =
+    let (file, read, told) = c.in-Ok.ensures.read in
+    let r = c.in-Ok.found in
+    opened-store g.D.Disk.view r.settings r.tree r.slot c.log_of-log.result c.args.disk c.recover.new.disk file read told.0 c.in-Ok.ensures.kept c.in-Ok.ensures.same
+    c.what_is_read_is_a_store.ensures c.log_of-log.ensures told.1
+
+pub returns-in-Ok-clause-sound : goal.returns-in-Ok-clause-sound
+returns-in-Ok-clause-sound g c = (invariant_of-result g c).sound
+
+pub returns-in-Ok-clause-honest : goal.returns-in-Ok-clause-honest
+returns-in-Ok-clause-honest g c =
+    let (file, read, told) = c.in-Ok.ensures.read in
+    let r = c.in-Ok.found in
+    opened-seen g.D.Disk.view r.settings r.tree r.slot c.log_of-log.result c.args.disk c.recover.new.disk file read told.0 c.in-Ok.ensures.kept c.in-Ok.ensures.same
+    c.what_is_read_is_a_store.ensures c.log_of-log.ensures
+
+pub returns-in-Err-clause-honest : goal.returns-in-Err-clause-honest
+returns-in-Err-clause-honest g c =
+    let (file, read, told) = c.in-Err.ensures.read in
+    refused-seen (g.D.Disk.view c.args.disk) file c.in-Err.fault _ read told

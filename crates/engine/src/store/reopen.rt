@@ -1,0 +1,94 @@
+//! A store comes back: from the disk that holds it, or from its own.
+ghost use Rattle.std.specs.Prelude.{◌≡◌, false, IsTrue, IfOk, OnOk};
+ghost use Rattle.keys.specs.Bytes.{Bytes};
+ghost use Rattle.flush_log.specs.Disk.{CountsFailure, IsSettled, Kept, Leaves, Same};
+ghost use Rattle.recovery.specs.Recovered.{IsReadOf};
+ghost use Rattle.engine.specs.Opened.{IsOpened, disk_left};
+ghost use Rattle.engine.specs.State.{IsSound};
+
+use crate::store::{Store, log_of};
+use flush_log::disk::{Disk, DiskFault};
+use keys::Fault;
+use recovery::laws::what_is_read_is_a_store;
+use recovery::recover::recover;
+use std::alloc::Global;
+use std::thread::Threads;
+
+// Makes all that was written to the disk last.
+fn settle<D: Disk>(disk: &mut D) -> Result<(), DiskFault>
+    ensures kept { Kept (D.view disk.old) (D.view disk.new) }
+    ensures failed { CountsFailure result (D.failed disk.old) (D.failed disk.new) }
+    ensures settled { IsTrue (D.view disk.old).is_honest → OnOk result (IsSettled (D.view disk.new)) }
+    ensures seen { IsTrue (D.view disk.old).is_honest → (D.view disk.new).seen ≡ (D.view disk.old).seen }
+    ensures crash { IsTrue (D.view disk.old).is_honest → Leaves (D.view disk.old) (D.view disk.new) (λ before c. c ≡ before) }
+{
+    disk.sync()
+}
+
+impl<D: Disk> Store<D> {
+    /// Opens the store that the disk holds: its pages, root, height and settings are those that were flushed last. It writes nothing.
+    ///
+    /// A disk that holds no store is refused with exactly one fault, as `recovery::recover` says: `Fault::NotAStore`,
+    /// `Fault::NoSlot`, `Fault::BadSegment`, `Fault::BadFrame` or `Fault::BadStructure`. Besides there are `Fault::NoMemory`, and
+    /// `Fault::Device` where a read failed. After an `Err` the disk is handed back as it was.
+    pub fn recover(
+        rt: &(impl Threads + Sync),
+        alloc: Global,
+        disk: D,
+    ) -> Result<Store<D>, (Fault, D)>
+        // Of bytes that were read, whatever the disk does; on an honest one these are what a read gives.
+        ensures read { (file : Bytes) × IsReadOf (D.view disk) file × IsOpened D.failed file (D.failed disk) result }
+        ensures honest { IsTrue (D.view disk).is_honest → IsOpened D.failed (D.view disk).seen (D.failed disk) result }
+        ensures fine { IfOk result (λ opened. opened.has_failed ≡ false) }
+
+        // No byte changed, and nothing of what a crash may leave.
+        ensures same { IsTrue (D.view disk).is_honest → Same (D.view disk) (D.view (disk_left result)) }
+        ensures kept { Kept (D.view disk) (D.view (disk_left result)) }
+        ensures counted { IfOk result (λ opened. D.failed opened.disk ≡ D.failed disk) }
+        ensures sound { IfOk result (λ opened. IsSound D.view opened) }
+    {
+        // Only for the proof.
+        what_is_read_is_a_store();
+        let mut disk = disk;
+        match recover(rt, alloc, &mut disk) {
+            Ok(found) => {
+                let log = log_of(&found.slot);
+                Ok(Store {
+                    settings: found.settings,
+                    alloc,
+                    tree: found.tree,
+                    log,
+                    disk,
+                    has_failed: false,
+                })
+            }
+            Err(fault) => Err((fault, disk)),
+        }
+    }
+
+    /// Gives up what the store has in memory, makes all that was written to its disk last, and opens the store that the disk
+    /// holds: that of the last flush. So a store goes on that has failed (`Fault::Failed`).
+    ///
+    /// `Fault::Device` where a call of the disk failed; else as `Store::recover`. After an `Err` the disk is handed back, with what a
+    /// read gives as it was.
+    pub fn reopen(self, rt: &(impl Threads + Sync)) -> Result<Store<D>, (Fault, D)>
+        ensures read { (file : Bytes) × IsReadOf (D.view self.disk) file × IsOpened D.failed file (D.failed self.disk) result }
+        ensures honest { IsTrue (D.view self.disk).is_honest → IsOpened D.failed (D.view self.disk).seen (D.failed self.disk) result }
+        ensures fine { IfOk result (λ opened. opened.has_failed ≡ false) }
+
+        // What a read gives stays; the disk is settled where it is Ok, and a crash meanwhile leaves what it might have left before.
+        ensures seen { IsTrue (D.view self.disk).is_honest → (D.view (disk_left result)).seen ≡ (D.view self.disk).seen }
+        ensures settled { IsTrue (D.view self.disk).is_honest → IfOk result (λ opened. IsSettled (D.view opened.disk)) }
+        ensures crash { IsTrue (D.view self.disk).is_honest → Leaves (D.view self.disk) (D.view (disk_left result)) (λ before c. c ≡ before) }
+        ensures kept { Kept (D.view self.disk) (D.view (disk_left result)) }
+        ensures counted { IfOk result (λ opened. D.failed opened.disk ≡ D.failed self.disk) }
+        ensures sound { IfOk result (λ opened. IsSound D.view opened) }
+    {
+        let alloc = self.alloc;
+        let mut disk = self.close();
+        match settle(&mut disk) {
+            Ok(()) => Store::recover(rt, alloc, disk),
+            Err(failed) => Err((failed.into(), disk)),
+        }
+    }
+}
