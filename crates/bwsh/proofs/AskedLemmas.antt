@@ -1,54 +1,64 @@
 -- What the words of the command line ask for is what `clap` finds in them, or why it refuses them.
-use Rattle.std.proofs.Common.{◌≡◌, ◌∙◌, ◌++◌, ◌||◌, ◌&&◌, ◌==◌, ap, refl, sym, subst, inl, inr, Bool, true, false, cond, List, [], ◌∷◌, map, Option, Some, None, Result, Ok, Err, IfErr, IsErrAnd, codes}
-use Rattle.std.specs.Prelude.{is_some}
+use Rattle.std.proofs.Common.{◌≡◌, ◌∙◌, ◌++◌, ◌||◌, ◌&&◌, ◌==◌, not, ap, refl, sym, subst, inl, inr, Bool, true, false, cond, List, [], ◌∷◌, map, Option, Some, None, Result, Ok, Err, IfErr, IsErrAnd, codes}
+use Rattle.std.specs.Prelude.{is_some, pos}
 use Rattle.std.specs.List.{fold, list_all, list_any}
 use Rattle.std.specs.Str.{bytes_eq}
 use Rattle.std.proofs.lemmas.Slice.Eq.{bytes_eq-Decides}
 use Rattle.clap.specs.Kinds.{HasKind, IsAmong, Kinds, or_else}
 use Rattle.clap.specs.Walk.{Held, Row, Rule, arg_by_id, arg_by_long, has_row, idle, nothing_held, settled, walk, walk_from, with_default}
-use Rattle.clap.specs.Simple.{built, entered}
+use Rattle.clap.specs.Simple.{built, entered, filled}
+use Rattle.clap.specs.declared.builder.value_parser.ValueParser.TheVariants as vp
+use Rattle.clap.specs.declared.builder.value_parser.Reading.TheVariants.{AsWritten, WithoutMinus}
 use Rattle.clap.specs.Faults.{defaults_fault, entered_fault, fault_of, level_fault, settle_fault, walk_fault}
 use Rattle.clap.specs.Words.{kind_of, matches_of}
 use Rattle.clap.specs.declared.error.Error.{Error}
 use Rattle.clap.specs.declared.error.kind.ErrorKind.{ErrorKind}
 use Rattle.clap.specs.declared.error.kind.ErrorKind.TheVariants.{DisplayHelp, ValueValidation}
 use Rattle.clap.proofs.WalkLemmas.{both}
-use Rattle.bwsh.specs.Options.{Asked, settings, help, refused, Given, IsRightKind, Text, asked, is_number, is_refusal}
-use Rattle.bwsh.specs.CommandLine.{AreNumbers, built_rule, bwsh, finished_rows, given_row, option_defaults}
-use Rattle.bwsh.proofs.TurnLemmas.{HasOptions, built_help, held, or_else-none, shape, standing}
+use Rattle.bwsh.specs.Options.{Asked, options, help, refused, Given, IsRightKind, Text, asked, is_number, is_refusal, takes_number}
+use Rattle.bwsh.specs.CommandLine.{AreGivable, built_number, built_rules, bwsh, finished_rows, given_row, number_defaults, text_rule}
+use Rattle.bwsh.proofs.TurnLemmas.{HasOptions, TakesText, built_create, built_help, held, or_else-none, shape, standing}
 use Rattle.bwsh.proofs.CommandLineLemmas.{Comes, rest_fault, rest_rows, words_come}
 
 -- ---- the options of the command line
 
+-- the rule of `--disk`
+abbrev built_disk : Rule
+built_disk = filled (text_rule (codes "disk"))
+
+-- what stands behind the options that take a number
+abbrev last_rules : List Rule
+last_rules = built_disk ∷ built_create ∷ built_help ∷ []
+
 abbrev pub rules : List Rule
-rules = map built_rule option_defaults ++ built_help ∷ []
+rules = map built_number number_defaults ++ last_rules
 
 -- these are what is found of the option by its name and by its id
 abbrev IsKnownAs : Text → Option Rule → Option Rule → Type 0
-IsKnownAs name by_long by_id = (default : Text) × (by_long ≡ Some (built_rule (name, default))) × (by_id ≡ Some (built_rule (name, default)))
+IsKnownAs name by_long by_id = (default : Text) × (by_long ≡ Some (built_number (name, default))) × (by_id ≡ Some (built_number (name, default)))
 
 known_in : (ps : List (Text × Text)) (more : List Rule) (name : Text) → list_any (λ p. bytes_eq p.0 name) ps ≡ true
-    → IsKnownAs name (arg_by_long (map built_rule ps ++ more) name) (arg_by_id (map built_rule ps ++ more) name)
+    → IsKnownAs name (arg_by_long (map built_number ps ++ more) name) (arg_by_id (map built_number ps ++ more) name)
 known_in [] more name e = cc
 known_in (p ∷ ps) more name e = go (bytes_eq p.0 name) refl e (known_in ps more name)
   where
     go : (b : Bool) → bytes_eq p.0 name ≡ b → (b || list_any (λ q. bytes_eq q.0 name) ps) ≡ true
-        → (list_any (λ q. bytes_eq q.0 name) ps ≡ true → IsKnownAs name (arg_by_long (map built_rule ps ++ more) name) (arg_by_id (map built_rule ps ++ more) name))
-        → IsKnownAs name (cond (true && (b || false)) (Some (built_rule p)) (arg_by_long (map built_rule ps ++ more) name))
-        (cond b (Some (built_rule p)) (arg_by_id (map built_rule ps ++ more) name))
+        → (list_any (λ q. bytes_eq q.0 name) ps ≡ true → IsKnownAs name (arg_by_long (map built_number ps ++ more) name) (arg_by_id (map built_number ps ++ more) name))
+        → IsKnownAs name (cond (true && (b || false)) (Some (built_number p)) (arg_by_long (map built_number ps ++ more) name))
+        (cond b (Some (built_number p)) (arg_by_id (map built_number ps ++ more) name))
     go true hit any later =
-        let same = ap (λ (n : Text). Some (built_rule (n, p.1))) ((bytes_eq-Decides p.0 name).0 hit) in
+        let same = ap (λ (n : Text). Some (built_number (n, p.1))) ((bytes_eq-Decides p.0 name).0 hit) in
         (p.1, same, same)
     go false other any later = later any
 
 long_after : (ps : List (Text × Text)) (more : List Rule) (name : Text) → list_any (λ p. bytes_eq p.0 name) ps ≡ false
-    → arg_by_long (map built_rule ps ++ more) name ≡ arg_by_long more name
+    → arg_by_long (map built_number ps ++ more) name ≡ arg_by_long more name
 long_after [] more name e = refl
 long_after (p ∷ ps) more name e = go (bytes_eq p.0 name) e (long_after ps more name)
   where
     go : (b : Bool) → (b || list_any (λ q. bytes_eq q.0 name) ps) ≡ false
-        → (list_any (λ q. bytes_eq q.0 name) ps ≡ false → arg_by_long (map built_rule ps ++ more) name ≡ arg_by_long more name)
-        → cond (true && (b || false)) (Some (built_rule p)) (arg_by_long (map built_rule ps ++ more) name) ≡ arg_by_long more name
+        → (list_any (λ q. bytes_eq q.0 name) ps ≡ false → arg_by_long (map built_number ps ++ more) name ≡ arg_by_long more name)
+        → cond (true && (b || false)) (Some (built_number p)) (arg_by_long (map built_number ps ++ more) name) ≡ arg_by_long more name
     go true any later = cc
     go false any later = later any
 
@@ -56,11 +66,38 @@ or_false : (b : Bool) → (b || false) ≡ b
 or_false true = refl
 or_false false = refl
 
+or_splits : (b d : Bool) → (b || d) ≡ false → (b ≡ false) × (d ≡ false)
+or_splits true d e = cc
+or_splits false d e = (refl, e)
+
+known_text : (name : Text) (b : Bool) → takes_number name ≡ b → (b || bytes_eq (codes "disk") name) ≡ true → TakesText rules name
+known_text name true is e =
+    let k = known_in number_defaults last_rules name is in
+    record {
+      defaults = k.0 ∷ [];
+      parser = vp.Signed (pos 0) (pos 4294967295);
+      checks = λ text. ap (λ (b : Bool). cond (not b || is_number text) [] (ValueValidation ∷ [])) (sym is);
+      reads = ap (λ (b : Bool). cond b WithoutMinus AsWritten) (sym is);
+      by_long = k.1;
+      by_id = k.2;
+    }
+known_text name false is hit = subst (TakesText rules) ((bytes_eq-Decides (codes "disk") name).0 hit) (record {
+  defaults = [];
+  parser = vp.String;
+  checks = λ text. refl;
+  reads = refl;
+  by_long = refl;
+  by_id = refl;
+})
+
 has_options : HasOptions rules
 has_options = record {
-  known = λ name is. known_in option_defaults (built_help ∷ []) name is;
+  known = λ name takes. known_text name (takes_number name) refl takes;
+  create = refl;
   help = refl;
-  others = λ name is other. long_after option_defaults (built_help ∷ []) name is ∙ rw other refl;
+  others = λ name takes no_create no_help.
+      let (no_number, no_disk) = or_splits (takes_number name) _ takes in
+      long_after number_defaults last_rules name no_number ∙ rw (no_disk, no_create, no_help) refl;
   short = λ x. ap (λ (b : Bool). cond b (Some built_help) None) (or_false (104 == x));
   positional = refl;
 }
@@ -77,22 +114,33 @@ both_same : {X : Type 0} (b : Bool) (x : X) → cond b x x ≡ x
 both_same true x = refl
 both_same false x = refl
 
-no_default : (b : Bool) (kinds : Kinds) → or_else (cond (b || true) [] kinds) [] ≡ []
-no_default true kinds = refl
-no_default false kinds = refl
+no_default : (b : Bool) (kinds next : Kinds) → or_else (cond (b || true) [] kinds) next ≡ next
+no_default true kinds next = refl
+no_default false kinds next = refl
+
+flag_default : (b : Bool) (next : Kinds) → or_else (cond (b || false) [] []) next ≡ next
+flag_default true next = refl
+flag_default false next = refl
 
 default_passes : (b d : Bool) → d ≡ true → cond (b || false) [] (or_else (cond d [] (ValueValidation ∷ [])) []) ≡ []
 default_passes true d e = refl
 default_passes false true e = refl
 default_passes false false e = cc
 
-defaults_pass : (ps : List (Text × Text)) (rows : List Row) → list_all (λ p. is_number p.1) ps ≡ true → defaults_fault rows (map built_rule ps ++ built_help ∷ []) ≡ []
+last_pass : (rows : List Row) → defaults_fault rows last_rules ≡ []
 unfolding defaults_fault
-defaults_pass [] rows e = no_default (has_row (codes "help") rows) _
+last_pass rows =
+    let then_rows = with_default rows built_disk in
+    no_default (has_row (codes "disk") rows) _ _ ∙ flag_default (has_row (codes "create") then_rows) _
+    ∙ no_default (has_row (codes "help") (with_default then_rows built_create)) _ _
+
+defaults_pass : (ps : List (Text × Text)) (rows : List Row) → list_all (λ p. is_number p.1) ps ≡ true → defaults_fault rows (map built_number ps ++ last_rules) ≡ []
+unfolding defaults_fault
+defaults_pass [] rows e = last_pass rows
 defaults_pass (p ∷ ps) rows e =
     let parts = both _ _ e in
-    ap (λ (ks : Kinds). or_else ks (defaults_fault (with_default rows (built_rule p)) (map built_rule ps ++ built_help ∷ []))) (default_passes (has_row p.0 rows) (is_number p.1) parts.0)
-    ∙ defaults_pass ps (with_default rows (built_rule p)) parts.1
+    ap (λ (ks : Kinds). or_else ks (defaults_fault (with_default rows (built_number p)) (map built_number ps ++ last_rules))) (default_passes (has_row p.0 rows) (is_number p.1) parts.0)
+    ∙ defaults_pass ps (with_default rows (built_number p)) parts.1
 
 nothing_behind : (words settle defaults : Kinds) → defaults ≡ [] → or_else words (or_else [] (or_else settle (or_else defaults []))) ≡ or_else words settle
 nothing_behind words settle defaults e = rw e (ap (or_else words) (or_else-none settle))
@@ -101,19 +149,19 @@ faults_are : (words : List Text) → fault_of bwsh words ≡ rest_fault rules (s
 faults_are words =
     let end = (walk rules [] nothing_held words) in
     no_level nothing_held words end.stopped
-    ∙ nothing_behind (walk_fault (shape rules) [] (walk_from nothing_held) words) (settle_fault rules false end.held) _ (defaults_pass option_defaults (settled rules end.held).rows refl)
+    ∙ nothing_behind (walk_fault (shape rules) [] (walk_from nothing_held) words) (settle_fault rules false end.held) _ (defaults_pass number_defaults (settled rules end.held).rows refl)
 
-rows_are : (words : List Text) → matches_of bwsh words ≡ fold with_default (rest_rows rules (standing [] None idle false) words) (map built_rule option_defaults)
+rows_are : (words : List Text) → matches_of bwsh words ≡ fold with_default (rest_rows rules (standing [] None idle false) words) built_rules
 rows_are words =
-    let found = fold with_default (rest_rows rules (standing [] None idle false) words) (map built_rule option_defaults) in
+    let found = fold with_default (rest_rows rules (standing [] None idle false) words) built_rules in
     both_same (has_row (codes "help") found) found
 
 -- ---- the whole
 
 from_asked : (words : List Text) (kinds : Kinds) (rows : List Row) (asked_for : Asked) → asked words ≡ asked_for → Comes kinds rows asked_for
-    → (kinds ≡ [] → (given : Given) × (asked words ≡ settings given) × (rows ≡ map given_row given) × AreNumbers given)
+    → (kinds ≡ [] → (given : Given) × (asked words ≡ options given) × (rows ≡ map given_row given) × AreGivable given)
     × ((kind : ErrorKind) → IsAmong kind kinds → IsRightKind words kind)
-from_asked words kinds rows (settings given) e h = (λ none. (given, e, h.1, h.2), λ kind among. absurd (subst (IsAmong kind) h.0 among))
+from_asked words kinds rows (options given) e h = (λ none. (given, e, h.1, h.2), λ kind among. absurd (subst (IsAmong kind) h.0 among))
 from_asked words kinds rows help e h = (
   λ none. let bad : [] ≡ DisplayHelp ∷ [] = sym none ∙ h in cc,
   λ kind among. elim (subst (IsAmong kind) h among) [
@@ -133,12 +181,12 @@ words_come_to : (words : List Text) → Comes (fault_of bwsh words) (rest_rows r
 words_come_to words =
     subst (λ (ks : Kinds). Comes ks (rest_rows rules (standing [] None idle false) words) (asked words)) (sym (faults_are words)) (words_come rules has_options words)
 
--- where nothing is wrong the words ask for settings, and what is found is what was given
-pub settings_are_asked : (words : List Text) (rows : List Row) → fault_of bwsh words ≡ [] → rows ≡ matches_of bwsh words
-    → (given : Given) × (asked words ≡ settings given) × (rows ≡ finished_rows given) × AreNumbers given
-settings_are_asked words rows none is_rows =
+-- where nothing is wrong the words ask for what was given, and that is what is found
+pub options_are_asked : (words : List Text) (rows : List Row) → fault_of bwsh words ≡ [] → rows ≡ matches_of bwsh words
+    → (given : Given) × (asked words ≡ options given) × (rows ≡ finished_rows given) × AreGivable given
+options_are_asked words rows none is_rows =
     let w = (from_asked words _ _ (asked words) refl (words_come_to words)).0 none in
-    (w.0, w.1, is_rows ∙ rows_are words ∙ ap (λ (rs : List Row). fold with_default rs (map built_rule option_defaults)) w.2, w.3)
+    (w.0, w.1, is_rows ∙ rows_are words ∙ ap (λ (rs : List Row). fold with_default rs built_rules) w.2, w.3)
 
 -- an error is want of memory, or right for the words
 pub error_is_right : (words : List Text) (e : Error) → HasKind (fault_of bwsh words) e → IsRightKind words (kind_of e)

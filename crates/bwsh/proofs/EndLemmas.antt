@@ -1,24 +1,26 @@
 -- Lemmas on how a session ends.
-use Rattle.std.proofs.Common.{true, false, ◌≡◌, ◌≢◌, ◌↔◌, ◌⊎◌, inl, inr, ℕ, List, [], ◌∷◌, Option, Some, None, IfSome, Result, Ok, Err, refl, sym, ap, ◌∙◌, subst, arith}
-use Rattle.std.specs.Prelude.{MatchOption, IfErr}
+use Rattle.std.proofs.Common.{Bool, true, false, ◌≡◌, ◌≢◌, ◌↔◌, ◌⊎◌, inl, inr, ℕ, List, [], ◌∷◌, Option, Some, None, IfSome, Result, Ok, Err, refl, sym, ap, ◌∙◌, subst, arith}
+use Rattle.std.specs.Prelude.{IsOk, replicate, String}
+use Rattle.std.specs.declared.alloc.Global.{Global}
 use Rattle.std.specs.Option.{option_map}
 use Rattle.std.specs.Io.KnownBytes.{Appends, Keeps}
 use Rattle.std.proofs.KnownBytes.{Appends-nil}
 use Rattle.keys.specs.Lists.{flat}
-use Rattle.keys.specs.Limits.{first_bad_field}
 use Rattle.keys.specs.declared.fault.Fault.{Fault}
-use Rattle.keys.specs.declared.fault.Fault.TheVariants.{BadSettings, NoMemory}
+use Rattle.keys.specs.declared.fault.Fault.TheVariants.{NoMemory}
 use Rattle.keys.specs.declared.settings.Settings.{Settings}
-use Rattle.keys.specs.declared.settings.Field.{Field}
 use Rattle.mapping.specs.Levels.{contents}
+use Rattle.flush_log.specs.Segments.{disk_size}
+use Rattle.engine.specs.State.{State}
 use Rattle.bwsh.specs.declared.line.Why.{Why}
 use Rattle.bwsh.specs.declared.batch_file.Order.{Order}
 use Rattle.bwsh.specs.declared.session.Ending.{Ending}
 use Rattle.bwsh.specs.declared.session.Ending.TheVariants.{Words, Bad, Device}
 use Rattle.bwsh.specs.declared.session.Ending.TheVariants as endings
 use Rattle.bwsh.specs.BatchFile.{text_says, first_bad, orders_of}
-use Rattle.bwsh.specs.Session.{status_of_end, Stored, first_stored, refusal_of, behind, map_behind, own_lines, answer_lines, printed_by, accepted, orders_end, first_refusal, stopped_by, hindered_by, hindrance, end_after, lines_after, session_end, session_lines, IsReadEnding, IsForWords, BeginsWith, Prints, PrintsOneText, Runs, Answers, EndsBy}
-use Rattle.bwsh.specs.Options.{AsksForSettings, AsksForHelp, AreRefused, is_refusal, IsRightKind}
+use Rattle.bwsh.specs.Session.{status_of_end, Stored, Start, IsStart, IsStartBy, new_start, found_start, refusal_of, behind, map_behind, own_lines, answer_lines, printed, printed_by, accepted, orders_end, first_refusal, stopped_by, end_after, lines_after, session_end, session_lines, IsReadEnding, IsUnopened, Opens, IsForWords, BeginsWith, Prints, PrintsOneText, Runs, RunsFrom, Answers, EndsBy}
+use Rattle.bwsh.specs.Options.{Told, AsksFor, AsksForHelp, AreRefused, is_refusal, IsRightKind, told_of}
+use Rattle.bwsh.specs.declared.options.asked.Options.{Options}
 use Rattle.clap.specs.declared.error.kind.ErrorKind.{ErrorKind}
 use Rattle.clap.specs.declared.error.kind.ErrorKind.TheVariants.{DisplayHelp, OutOfMemory}
 use Rattle.bwsh.proofs.Prints.{front-more, front-trans, front-flat, Prints-front, Prints-flushed, IfSome-known}
@@ -31,74 +33,65 @@ pub IsReadEnding-of_fault : (bad : Option (ℕ × Why)) (early : Ending) → (ea
 IsReadEnding-of_fault bad early (inl e) = rw e refl
 IsReadEnding-of_fault bad early (inr e) = rw e tt
 
--- with the reason that hinders it, or for want of memory, or by a device
-abbrev IsEarly : Option Ending → Ending → Type 0
-IsEarly hindered early = (hindered ≡ Some early) ⊎ (early ≡ endings.Fault NoMemory) ⊎ (early ≡ Device)
+module _ (old : Option (List ℕ)) (start : Start) (orders : List Order) where
+  Prints-unread : (bad : Option (ℕ × Why)) (early : Ending) → IsReadEnding bad early → Prints old old (lines_after bad start orders) (end_after bad start orders) (Err early)
+  Prints-unread bad (Words error) h = absurd h
+  Prints-unread bad (Bad line why) h = rw h (inl (refl, Appends-nil old))
+  Prints-unread bad (endings.Fault fault) h =
+      inr (inl (ap (λ (f : Fault). Err (endings.Fault f)) h, ([], (lines_after bad start orders, refl), Appends-nil old)))
+  Prints-unread bad Device h = inr (inr (refl, ([], (flat (lines_after bad start orders), refl), Appends-nil old)))
 
-early_read : (bad : Option (ℕ × Why)) (field : Option Field) (early : Ending) → IsReadEnding bad early → IsEarly (hindered_by bad field) early
-early_read bad field (Words error) h = absurd h
-early_read bad field (Bad line why) h = inl (ap (λ (b : Option (ℕ × Why)). hindered_by b field) h)
-early_read bad field (endings.Fault fault) h = inr (inl (ap (λ (f : Fault). endings.Fault f) h))
-early_read bad field Device h = inr (inr refl)
+  Prints-unopened : (early : Ending) → IsUnopened start early → Prints old old (lines_after None start orders) (end_after None start orders) (Err early)
+  Prints-unopened early (inl (fault, is, e)) = rw (is, e) (inl (refl, Appends-nil old))
+  Prints-unopened early (inr (inl e)) =
+      inr (inl (ap (λ (x : Ending). Err x) e, ([], (lines_after None start orders, refl), Appends-nil old)))
+  Prints-unopened early (inr (inr e)) =
+      inr (inr (ap (λ (x : Ending). Err x) e, ([], (flat (lines_after None start orders), refl), Appends-nil old)))
 
-early_created : {T : Type 0} (field : Option Field) (early : Ending) (result : Result T Ending) → result ≡ Err early
-    → MatchOption field (IfErr result (λ e. (e ≡ endings.Fault NoMemory) ⊎ (e ≡ Device))) (λ f. result ≡ Err (endings.Fault (BadSettings f))) → IsEarly (hindered_by None field) early
-early_created {T} None early result e p = inr (subst (λ (x : Result T Ending). IfErr x (λ e. (e ≡ endings.Fault NoMemory) ⊎ (e ≡ Device))) e p)
-early_created (Some f) early result e p =
-    let same : endings.Fault (BadSettings f) ≡ early = cc in
-    inl (ap (λ (x : Ending). Some x) same)
+  module _ {D : Type 0} (opened : Result (State D) Ending) (opens : Opens start opened) where
+    -- there is no store
+    pub RunsFrom-unopened : (early : Ending) → opened ≡ Err early → RunsFrom start orders old old (Err early)
+    unfolding RunsFrom
+    RunsFrom-unopened early e = Prints-unopened early (subst (Opens start) e opens)
 
-right_settings : {T : Type 0} (field : Option Field) (x : T) (result : Result T Ending) → result ≡ Ok x
-    → MatchOption field (IfErr result (λ e. (e ≡ endings.Fault NoMemory) ⊎ (e ≡ Device))) (λ f. result ≡ Err (endings.Fault (BadSettings f))) → field ≡ None
-right_settings None x result e p = refl
-right_settings (Some f) x result e p = absurd (cc)
+    -- there is one: the orders are run on it, whatever bytes are said to be on its disk
+    pub RunsFrom-opened : (x : State D) (mid new : Option (List ℕ)) (done end : Result (Unit {0}) Ending) → opened ≡ Ok x
+        → ((file : List ℕ) → Runs x.settings (x.store, file) orders old mid done) → Keeps mid new → (end ≡ done) ⊎ (end ≡ Err Device) → RunsFrom start orders old new end
+    unfolding RunsFrom Runs
+    RunsFrom-opened x mid new done end e runs kept ended =
+        let (file, start_is) = subst (Opens start) e opens in
+        rw start_is (Prints-flushed old mid new (lines_after None (Ok (x.settings, (x.store, file))) orders) (end_after None (Ok (x.settings, (x.store, file))) orders) done end (runs file) kept ended)
 
-module _ (settings : Settings) (old new : Option (List ℕ)) (orders : List Order) where
-  Prints-early_end : (hindered : Option Ending) (early : Ending) → IsEarly hindered early → Prints old old (lines_after settings hindered orders) (end_after settings hindered orders) (Err early)
-  Prints-early_end hindered early (inl e) =
-      subst (λ (h : Option Ending). Prints old old (lines_after settings h orders) (end_after settings h orders) (Err early)) (sym e) (inl (refl, Appends-nil old))
-  Prints-early_end hindered early (inr (inl e)) =
-      inr (inl (ap (λ (x : Ending). Err x) e, ([], (lines_after settings hindered orders, refl), Appends-nil old)))
-  Prints-early_end hindered early (inr (inr e)) =
-      inr (inr (ap (λ (x : Ending). Err x) e, ([], (flat (lines_after settings hindered orders), refl), Appends-nil old)))
+-- what is told has some right start
+start_of : (settings : Settings) (disk : Option (List ℕ)) (create : Bool) → (start : Start) × IsStartBy settings disk create start
+start_of settings None create = (new_start settings (replicate (disk_size settings) 0), refl)
+start_of settings (Some path) true = (new_start settings [], ([], refl))
+start_of settings (Some path) false = (found_start [], ([], refl))
 
-  -- nothing hinders it: the orders are run on a new store
-  Prints-run : (bad : Option (ℕ × Why)) (field : Option Field) (end : Result (Unit {0}) Ending) → bad ≡ None → field ≡ None → Prints old new (answer_lines settings (first_stored settings) [] (accepted settings (first_stored settings) orders)) (orders_end settings (first_stored settings) orders) end
-      → Prints old new (lines_after settings (hindered_by bad field) orders) (end_after settings (hindered_by bad field) orders) end
-  Prints-run bad field end no_bad no_field p = rw (no_bad, no_field) p
+-- what is told of a store in memory, of one in a file that is made anew, and of one that a file holds
+module _ (o : Options) where
+  pub IsStart-in_memory : o.disk ≡ None → IsStart (told_of o) (new_start o.settings (replicate (disk_size o.settings) 0))
+  IsStart-in_memory e = rw e refl
 
-  Runs-first : (of_store : Settings) (at : Stored) (ran : List Order) (end : Result (Unit {0}) Ending) → of_store ≡ settings → at ≡ first_stored settings → contents at.0.tree ≡ [] → ran ≡ orders → Runs of_store at ran old new end
-      → Prints old new (answer_lines settings (first_stored settings) [] (accepted settings (first_stored settings) orders)) (orders_end settings (first_stored settings) orders) end
-  unfolding Runs
-  Runs-first of_store at ran end e_settings e_at e_contents e_ran p =
-      let p1 = subst (λ (s : Settings). Prints old new (answer_lines s at (contents at.0.tree) (accepted s at ran)) (orders_end s at ran) end) e_settings p in
-      let p2 = subst (λ (m : List (List ℕ × List ℕ)). Prints old new (answer_lines settings at m (accepted settings at ran)) (orders_end settings at ran) end) e_contents p1 in
-      let p3 = subst (λ (t : Stored). Prints old new (answer_lines settings t [] (accepted settings t ran)) (orders_end settings t ran) end) e_at p2 in
-      subst (λ (os : List Order). Prints old new (answer_lines settings (first_stored settings) [] (accepted settings (first_stored settings) os)) (orders_end settings (first_stored settings) os) end) e_ran p3
+  pub IsStart-anew : (path : String Global) → o.disk ≡ Some path → o.create ≡ true → (file : List ℕ) → IsStart (told_of o) (new_start o.settings file)
+  IsStart-anew path e create file = rw (e, create) (file, refl)
 
-module _ (settings : Settings) (known old : Option (List ℕ)) (text : List ℕ) (is_known : IfSome known (λ bytes. text ≡ bytes)) where
-  pub Answers-unread : (early : Ending) → IsReadEnding (first_bad 1 (text_says text)) early → Answers settings known old old (Err early)
+  pub IsStart-found : (path : String Global) → o.disk ≡ Some path → o.create ≡ false → (file : List ℕ) → IsStart (told_of o) (found_start file)
+  IsStart-found path e create file = rw (e, create) (file, refl)
+
+module _ (told : Told) (known old : Option (List ℕ)) (text : List ℕ) (is_known : IfSome known (λ bytes. text ≡ bytes)) where
+  pub Answers-unread : (early : Ending) → IsReadEnding (first_bad 1 (text_says text)) early → Answers told known old old (Err early)
   unfolding Answers
   Answers-unread early h =
-      (text, is_known, Prints-early_end settings old old (orders_of [] (text_says text)) (hindrance settings text) early (early_read (first_bad 1 (text_says text)) (first_bad_field settings) early h))
+      let (start, is) = start_of told.settings told.disk told.create in
+      (text, is_known, start, is, Prints-unread old start (orders_of [] (text_says text)) (first_bad 1 (text_says text)) early h)
 
-  module _ (no_bad : first_bad 1 (text_says text) ≡ None) {T : Type 0} (result : Result T Ending)
-      (created : MatchOption (first_bad_field settings) (IfErr result (λ e. (e ≡ endings.Fault NoMemory) ⊎ (e ≡ Device))) (λ f. result ≡ Err (endings.Fault (BadSettings f)))) where
-    pub Answers-uncreated : (early : Ending) → result ≡ Err early → Answers settings known old old (Err early)
-    unfolding Answers
-    Answers-uncreated early e =
-        let so = subst (λ (b : Option (ℕ × Why)). IsEarly (hindered_by b (first_bad_field settings)) early) (sym no_bad) (early_created (first_bad_field settings) early result e created) in
-        (text, is_known, Prints-early_end settings old old (orders_of [] (text_says text)) (hindrance settings text) early so)
-
-    pub Answers-run : (store : T) (mid new : Option (List ℕ)) (of_store : Settings) (at : Stored) (ran items : List Order) (done end : Result (Unit {0}) Ending) → result ≡ Ok store
-        → of_store ≡ settings → at ≡ first_stored settings → contents at.0.tree ≡ [] → ran ≡ items → items ≡ orders_of [] (text_says text) → Runs of_store at ran old mid done
-        → Keeps mid new → (end ≡ done) ⊎ (end ≡ Err Device) → Answers settings known old new end
-    unfolding Answers
-    Answers-run store mid new of_store at ran items done end e e_settings e_at e_contents e_ran e_items p kept ended =
-        let orders = orders_of [] (text_says text) in
-        let own = Runs-first settings old mid orders of_store at ran done e_settings e_at e_contents (e_ran ∙ e_items) p in
-        let printed = Prints-run settings old mid orders (first_bad 1 (text_says text)) (first_bad_field settings) done no_bad (right_settings (first_bad_field settings) store result e created) own in
-        (text, is_known, Prints-flushed old mid new (session_lines settings text) (session_end settings text) done end printed kept ended)
+  pub Answers-run : (new : Option (List ℕ)) (end : Result (Unit {0}) Ending) (ran items : List Order) → first_bad 1 (text_says text) ≡ None → ran ≡ items → items ≡ orders_of [] (text_says text)
+      → (start : Start) → IsStart told start → RunsFrom start ran old new end → Answers told known old new end
+  unfolding Answers RunsFrom
+  Answers-run new end ran items no_bad e_ran e_items start is p =
+      let run = subst (λ (os : List Order). Prints old new (lines_after None start os) (end_after None start os) end) (e_ran ∙ e_items) p in
+      (text, is_known, start, is, rw no_bad run)
 
 -- ---- what follows from the end
 
@@ -132,88 +125,102 @@ module _ (settings : Settings) where
   accepted-front m at (order ∷ rest) =
       front_by m at order rest (refusal_of settings at order) refl (accepted-front (map_behind m order) (behind settings at order) rest)
 
-  module _ (orders : List Order) where
-    done_right : (bad : Option (ℕ × Why)) (field : Option Field) (done : Unit {0}) → Ok done ≡ end_after settings (hindered_by bad field) orders
-        → (bad ≡ None) × (lines_after settings (hindered_by bad field) orders ≡ answer_lines settings (first_stored settings) [] orders)
-    done_right None None done e = (refl, ap (answer_lines settings (first_stored settings) []) (accepted-all (first_stored settings) orders done e))
-    done_right None (Some f) done e = absurd (cc)
-    done_right (Some b) field done e = absurd (cc)
+-- the right end is a bad line only where there is one, and is never for the words
+bad_stop : (r : Option Fault) (line : ℕ) (why : Why) → Err (Bad line why) ≡ stopped_by (option_map (λ fault. endings.Fault fault) r) → ⊥
+bad_stop None line why e = cc
+bad_stop (Some fault) line why e = cc
 
-    -- the right end is a bad line only where there is one, and is never for the words
-    bad_stop : (r : Option Fault) (line : ℕ) (why : Why) → Err (Bad line why) ≡ stopped_by (option_map (λ fault. endings.Fault fault) r) → ⊥
-    bad_stop None line why e = cc
-    bad_stop (Some fault) line why e = cc
+words_stop : (r : Option Fault) (error : Error) → Err (Words error) ≡ stopped_by (option_map (λ fault. endings.Fault fault) r) → ⊥
+words_stop None error e = cc
+words_stop (Some fault) error e = cc
 
-    words_stop : (r : Option Fault) (error : Error) → Err (Words error) ≡ stopped_by (option_map (λ fault. endings.Fault fault) r) → ⊥
-    words_stop None error e = cc
-    words_stop (Some fault) error e = cc
+module _ (text : List ℕ) where
+  -- the orders of the text
+  abbrev ordered : List Order
+  ordered = orders_of [] (text_says text)
 
-    bad_right : (bad : Option (ℕ × Why)) (field : Option Field) (line : ℕ) (why : Why) → Err (Bad line why) ≡ end_after settings (hindered_by bad field) orders
-        → (bad ≢ None) × (lines_after settings (hindered_by bad field) orders ≡ [])
-    bad_right None None line why e = absurd (bad_stop (first_refusal settings (first_stored settings) orders) line why e)
-    bad_right None (Some f) line why e = absurd (cc)
-    bad_right (Some b) field line why e = (λ no. cc, refl)
+  done_right : (bad : Option (ℕ × Why)) (start : Start) (done : Unit {0}) → Ok done ≡ end_after bad start ordered
+      → (bad ≡ None) × IsOk start × (flat (lines_after bad start ordered) ≡ printed_by start text)
+  done_right None (Ok p) done e = (refl, refl, ap (λ (os : List Order). printed p.0 p.1 (contents p.1.0.tree) os) (accepted-all p.0 p.1 ordered done e))
+  done_right None (Err fault) done e = absurd (cc)
+  done_right (Some b) start done e = absurd (cc)
 
-    words_right : (bad : Option (ℕ × Why)) (field : Option Field) (error : Error) → Err (Words error) ≡ end_after settings (hindered_by bad field) orders → ⊥
-    words_right None None error e = words_stop (first_refusal settings (first_stored settings) orders) error e
-    words_right None (Some f) error e = cc
-    words_right (Some b) field error e = cc
+  bad_right : (bad : Option (ℕ × Why)) (start : Start) (line : ℕ) (why : Why) → Err (Bad line why) ≡ end_after bad start ordered → (bad ≢ None) × (lines_after bad start ordered ≡ [])
+  bad_right None (Ok p) line why e = absurd (bad_stop (first_refusal p.0 p.1 ordered) line why e)
+  bad_right None (Err fault) line why e = absurd (cc)
+  bad_right (Some b) start line why e = (λ no. cc, refl)
 
-    front_right : (hindered : Option Ending) → BeginsWith (answer_lines settings (first_stored settings) [] orders) (lines_after settings hindered orders)
-    front_right None = accepted-front [] (first_stored settings) orders
-    front_right (Some early) = (answer_lines settings (first_stored settings) [] orders, refl)
+  words_right : (bad : Option (ℕ × Why)) (start : Start) (error : Error) → Err (Words error) ≡ end_after bad start ordered → ⊥
+  words_right None (Ok p) error e = words_stop (first_refusal p.0 p.1 ordered) error e
+  words_right None (Err fault) error e = cc
+  words_right (Some b) start error e = cc
 
--- ---- what follows of a session whose words tell settings
+  front_right : (bad : Option (ℕ × Why)) (start : Start) → BeginsWith (printed_by start text) (flat (lines_after bad start ordered))
+  front_right None (Ok p) =
+      let m = contents p.1.0.tree in
+      front-flat (answer_lines p.0 p.1 m ordered) (answer_lines p.0 p.1 m (accepted p.0 p.1 ordered)) (accepted-front p.0 m p.1 ordered)
+  front_right None (Err fault) = ([], refl)
+  front_right (Some b) start = (printed_by start text, refl)
 
-module _ (settings : Settings) (known old new : Option (List ℕ)) where
-  told_done : (done : Unit {0}) → Answers settings known old new (Ok done) → IfSome known (λ text. (first_bad 1 (text_says text) ≡ None) × Appends old new (printed_by settings text))
+-- ---- what follows of a session whose words tell something
+
+-- all that the text orders is printed, from a right start that has a store
+abbrev IsDoneOn : Told → Option (List ℕ) → Option (List ℕ) → List ℕ → Type 0
+IsDoneOn told old new text = (first_bad 1 (text_says text) ≡ None) × ((start : Start) × IsStart told start × IsOk start × Appends old new (printed_by start text))
+
+-- a beginning of it is
+abbrev HasBegunOn : Told → Option (List ℕ) → Option (List ℕ) → List ℕ → Type 0
+HasBegunOn told old new text = (start : Start) × IsStart told start × ((front : List ℕ) × BeginsWith (printed_by start text) front × Appends old new front)
+
+module _ (told : Told) (known old new : Option (List ℕ)) where
+  told_done : (done : Unit {0}) → Answers told known old new (Ok done) → IfSome known (IsDoneOn told old new)
   unfolding Answers
-  told_done done (text, is_known, p) =
-      IfSome-known known text (λ (t : List ℕ). (first_bad 1 (text_says t) ≡ None) × Appends old new (printed_by settings t)) is_known (by p) where
-        by : Prints old new (session_lines settings text) (session_end settings text) (Ok done) → (first_bad 1 (text_says text) ≡ None) × Appends old new (printed_by settings text)
+  told_done done (text, is_known, start, is, p) =
+      IfSome-known known text (IsDoneOn told old new) is_known (by p) where
+        by : Prints old new (session_lines start text) (session_end start text) (Ok done) → IsDoneOn told old new text
         by (inl (e, a)) =
-            let (none, lines) = done_right settings (orders_of [] (text_says text)) (first_bad 1 (text_says text)) (first_bad_field settings) done e in
-            (none, subst (λ (l : List (List ℕ)). Appends old new (flat l)) lines a)
+            let (none, opened, lines) = done_right text (first_bad 1 (text_says text)) start done e in
+            (none, (start, is, opened, subst (λ (l : List ℕ). Appends old new l) lines a))
         by (inr (inl (e, q))) = absurd (cc)
         by (inr (inr (e, q))) = absurd (cc)
 
-  told_bad : (line : ℕ) (why : Why) → Answers settings known old new (Err (Bad line why)) → Appends old new [] × IfSome known (λ text. first_bad 1 (text_says text) ≢ None)
+  told_bad : (line : ℕ) (why : Why) → Answers told known old new (Err (Bad line why)) → Appends old new [] × IfSome known (λ text. first_bad 1 (text_says text) ≢ None)
   unfolding Answers
-  told_bad line why (text, is_known, p) = by p where
-    by : Prints old new (session_lines settings text) (session_end settings text) (Err (Bad line why)) → Appends old new [] × IfSome known (λ t. first_bad 1 (text_says t) ≢ None)
+  told_bad line why (text, is_known, start, is, p) = by p where
+    by : Prints old new (session_lines start text) (session_end start text) (Err (Bad line why)) → Appends old new [] × IfSome known (λ t. first_bad 1 (text_says t) ≢ None)
     by (inl (e, a)) =
-        let (some, lines) = bad_right settings (orders_of [] (text_says text)) (first_bad 1 (text_says text)) (first_bad_field settings) line why e in
+        let (some, lines) = bad_right text (first_bad 1 (text_says text)) start line why e in
         (subst (λ (l : List (List ℕ)). Appends old new (flat l)) lines a, IfSome-known known text (λ (t : List ℕ). first_bad 1 (text_says t) ≢ None) is_known some)
     by (inr (inl (e, q))) = absurd (cc)
     by (inr (inr (e, q))) = absurd (cc)
 
-  told_words : (error : Error) → Answers settings known old new (Err (Words error)) → ⊥
+  told_words : (error : Error) → Answers told known old new (Err (Words error)) → ⊥
   unfolding Answers
-  told_words error (text, is_known, inl (e, a)) = words_right settings (orders_of [] (text_says text)) (first_bad 1 (text_says text)) (first_bad_field settings) error e
-  told_words error (text, is_known, inr (inl (e, q))) = cc
-  told_words error (text, is_known, inr (inr (e, q))) = cc
+  told_words error (text, is_known, start, is, inl (e, a)) = words_right text (first_bad 1 (text_says text)) start error e
+  told_words error (text, is_known, start, is, inr (inl (e, q))) = cc
+  told_words error (text, is_known, start, is, inr (inr (e, q))) = cc
 
-  told_front : (end : Result (Unit {0}) Ending) → Answers settings known old new end
-      → IfSome known (λ text. (front : List ℕ) × BeginsWith (printed_by settings text) front × Appends old new front)
+  told_front : (end : Result (Unit {0}) Ending) → Answers told known old new end → IfSome known (HasBegunOn told old new)
   unfolding Answers
-  told_front end (text, is_known, p) =
-      let orders = orders_of [] (text_says text) in
-      let (front, begins, a) = Prints-front old new (session_lines settings text) (session_end settings text) end p in
-      let whole = front-trans (printed_by settings text) (flat (session_lines settings text)) front (front-flat (answer_lines settings (first_stored settings) [] orders) (session_lines settings text) (front_right settings orders (hindrance settings text))) begins in
-      IfSome-known known text (λ (t : List ℕ). (f : List ℕ) × BeginsWith (printed_by settings t) f × Appends old new f) is_known (front, whole, a)
+  told_front end (text, is_known, start, is, p) =
+      let (front, begins, a) = Prints-front old new (session_lines start text) (session_end start text) end p in
+      let whole = front-trans (printed_by start text) (flat (session_lines start text)) front (front_right text (first_bad 1 (text_says text)) start) begins in
+      IfSome-known known text (HasBegunOn told old new) is_known (start, is, (front, whole, a))
 
 -- ---- what follows of any session
 
--- the words ask for help, or tell settings and all that the text orders under these is printed
+-- the words ask for help, or tell what all that the text orders is printed for
 abbrev IsAllDone : List (List ℕ) → Option (List ℕ) → Option (List ℕ) → Option (List ℕ) → Type 0
-IsAllDone words known old new =
-    AsksForHelp words ⊎ ((settings : Settings) × AsksForSettings words settings × IfSome known (λ text. (first_bad 1 (text_says text) ≡ None) × Appends old new (printed_by settings text)))
+IsAllDone words known old new = AsksForHelp words ⊎ ((told : Told) × AsksFor words told × IfSome known (IsDoneOn told old new))
 
--- the words ask for help, or nothing is printed, or they tell settings and a beginning of what the text orders under these is printed
+-- the words ask for help, or nothing is printed, or they tell what a beginning of all that the text orders is printed for
 abbrev HasBegun : List (List ℕ) → Option (List ℕ) → Option (List ℕ) → Option (List ℕ) → Type 0
 HasBegun words known old new =
-    AsksForHelp words ⊎ Appends old new []
-    ⊎ ((settings : Settings) × AsksForSettings words settings × IfSome known (λ text. (front : List ℕ) × BeginsWith (printed_by settings text) front × Appends old new front))
+    AsksForHelp words ⊎ Appends old new [] ⊎ ((told : Told) × AsksFor words told × IfSome known (HasBegunOn told old new))
+
+-- words that tell something are not refused
+not_refused : (words : List (List ℕ)) (told : Told) → AsksFor words told → AreRefused words → ⊥
+not_refused words told (given, tells, is) refused = cc
 
 pub status-one : (end : Result (Unit {0}) Ending) (status : ℕ) → status ≡ status_of_end end → (status ≡ 0) ⊎ (status ≡ 2) ⊎ (status ≡ 3) ⊎ (status ≡ 4)
 status-one (Ok done) status e = inl e
@@ -235,7 +242,7 @@ module _ (words : List (List ℕ)) (known old new : Option (List ℕ)) (unread u
   refused_end (Err (Bad line why)) p s = absurd (omega arith)
   refused_end (Err (endings.Fault fault)) p s = absurd (omega arith)
   refused_end (Err Device) p s = absurd (omega arith)
-  refused_end (Err (Words error)) (inl (settings, tells, answers)) s = absurd (told_words settings known old new error answers)
+  refused_end (Err (Words error)) (inl (told, tells, answers)) s = absurd (told_words told known old new error answers)
   refused_end (Err (Words error)) (inr (inl (not_read, asks, printed_help))) s =
       let four = one_text old new (Words error) printed_help in absurd (omega arith)
   refused_end (Err (Words error)) (inr (inr (not_read, not_touched, inl (refused, for_words)))) s = refused
@@ -250,7 +257,7 @@ module _ (words : List (List ℕ)) (known old new : Option (List ℕ)) (unread u
 
   when_refused : (end : Result (Unit {0}) Ending) → EndsBy words known old new unread untouched end → AreRefused words
       → ((status_of_end end ≡ 2) ⊎ (status_of_end end ≡ 4)) × unread × untouched
-  when_refused end (inl (settings, (given, tells, is), answers)) refused = absurd (cc)
+  when_refused end (inl (told, tells, answers)) refused = absurd (not_refused words told tells refused)
   when_refused end (inr (inl (not_read, asks, printed_help))) refused = absurd (cc)
   when_refused end (inr (inr (not_read, not_touched, inl (is_refused, for_words)))) refused = (inl (for_words_status end for_words), not_read, not_touched)
   when_refused end (inr (inr (not_read, not_touched, inr e))) refused = (inr (ap status_of_end e), not_read, not_touched)
@@ -269,7 +276,7 @@ module _ (words : List (List ℕ)) (known old new : Option (List ℕ)) (unread u
   done_end (Err (Bad line why)) s p = absurd (omega arith)
   done_end (Err (endings.Fault fault)) s p = absurd (omega arith)
   done_end (Err Device) s p = absurd (omega arith)
-  done_end (Ok done) s (inl (settings, tells, answers)) = inr (settings, tells, told_done settings known old new done answers)
+  done_end (Ok done) s (inl (told, tells, answers)) = inr (told, tells, told_done told known old new done answers)
   done_end (Ok done) s (inr (inl (not_read, asks, printed_help))) = inl asks
   done_end (Ok done) s (inr (inr (not_read, not_touched, inl (refused, for_words)))) = absurd for_words
   done_end (Ok done) s (inr (inr (not_read, not_touched, inr e))) = absurd (cc)
@@ -280,7 +287,7 @@ module _ (words : List (List ℕ)) (known old new : Option (List ℕ)) (unread u
   bad_end (Err (Words error)) s p = absurd (omega arith)
   bad_end (Err (endings.Fault fault)) s p = absurd (omega arith)
   bad_end (Err Device) s p = absurd (omega arith)
-  bad_end (Err (Bad line why)) s (inl (settings, tells, answers)) = told_bad settings known old new line why answers
+  bad_end (Err (Bad line why)) s (inl (told, tells, answers)) = told_bad told known old new line why answers
   bad_end (Err (Bad line why)) s (inr (inl (not_read, asks, printed_help))) =
       let four = one_text old new (Bad line why) printed_help in absurd (omega arith)
   bad_end (Err (Bad line why)) s (inr (inr (not_read, not_touched, inl (refused, for_words)))) = absurd for_words
@@ -288,7 +295,7 @@ module _ (words : List (List ℕ)) (known old new : Option (List ℕ)) (unread u
 
   beginning_end : (end : Result (Unit {0}) Ending) → (untouched → Appends old new []) → EndsBy words known old new unread untouched end
       → HasBegun words known old new
-  beginning_end end kept (inl (settings, tells, answers)) = inr (inr (settings, tells, told_front settings known old new end answers))
+  beginning_end end kept (inl (told, tells, answers)) = inr (inr (told, tells, told_front told known old new end answers))
   beginning_end end kept (inr (inl (not_read, asks, printed_help))) = inl asks
   beginning_end end kept (inr (inr (not_read, not_touched, q))) = inr (inl (kept not_touched))
 

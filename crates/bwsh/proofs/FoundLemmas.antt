@@ -1,29 +1,20 @@
 -- What is found for the options: what was given, and the defaults of the others.
-use Rattle.std.proofs.Common.{◌≡◌, ◌∙◌, ◌++◌, ◌||◌, ap, refl, sym, subst, ℕ, Bool, true, false, cond, List, [], ◌∷◌, map, Option, Some, None}
+use Rattle.std.proofs.Common.{◌≡◌, ◌∙◌, ◌++◌, ◌||◌, ap, refl, sym, subst, ℕ, Bool, true, false, cond, List, [], ◌∷◌, map, not, Option, Some, None, append-nil, codes, is_some}
 use Rattle.std.specs.List.{find, fold}
-use Rattle.std.specs.Option.{option_map}
-use Rattle.std.specs.Prelude.{option_and_then, unwrap_or}
+use Rattle.std.specs.Option.{option_map, option_or}
+use Rattle.std.specs.Prelude.{option_and_then, slice_get, unwrap_or}
 use Rattle.std.specs.Str.{bytes_eq}
 use Rattle.std.proofs.lemmas.List.Elements.{All-head, All-tail}
 use Rattle.std.proofs.lemmas.Slice.Eq.{bytes_eq-Decides}
 use Rattle.keys.specs.declared.settings.Settings.{Settings}
 use Rattle.clap.specs.Lexer.{without_minus}
-use Rattle.clap.specs.Walk.{Row, at_row, has_row, more_values, one_of, row_text, with_default, with_values}
-use Rattle.clap.specs.declared.builder.value_parser.Reading.TheVariants.{WithoutMinus}
+use Rattle.clap.specs.Walk.{Row, Rule, at_row, default_rows, first_of, has_row, more_values, one_of, reading_by, row_text, with_default}
+use Rattle.clap.specs.declared.builder.value_parser.Reading.TheVariants.{AsWritten, WithoutMinus}
 use Rattle.clap.specs.declared.parser.matches.ValueSource.TheVariants.{DefaultValue}
+use Rattle.clap.specs.Values.{read_as}
 use Rattle.clap.proofs.WalkLemmas.{find-map}
-use Rattle.bwsh.specs.Options.{Text, Given, is_number, number_of, number_or}
-use Rattle.bwsh.specs.CommandLine.{AreNumbers, built_rule, finished_rows, given_row, option_defaults}
-
--- what is found for an option that was not
-abbrev pub default_row : Text × Text → Row
-default_row p = record {
-  id = p.0;
-  values = p.1 ∷ [];
-  count = None;
-  source = Some DefaultValue;
-  reading = WithoutMinus;
-}
+use Rattle.bwsh.specs.Options.{Text, Given, disk_of, fits, is_given, is_number, number_of, number_or, takes_number}
+use Rattle.bwsh.specs.CommandLine.{AreGivable, IsGivable, built_rules, finished_rows, given_row, reading_at}
 
 abbrev pub at : Text → Row → Bool
 at id r = bytes_eq r.id id
@@ -64,90 +55,166 @@ no_row id (r ∷ rs) e = go (bytes_eq r.id id) (no_row id rs) e
     go true later e = cc
     go false later e = later e
 
-default_if : (p : Text × Text) (rows : List Row) (b : Bool) → has_row p.0 rows ≡ b
-    → cond b rows (with_values p.0 WithoutMinus DefaultValue (p.1 ∷ []) rows) ≡ cond b rows (rows ++ default_row p ∷ [])
-default_if p rows true e = refl
-default_if p rows false e = at_row-missing p.0 (more_values DefaultValue (p.1 ∷ [])) _ rows e
+-- what is found of the defaults of an option that was not given
+abbrev pub default_values : Rule → List Row
+default_values a = default_rows a.id (reading_by a) a.defaults []
 
--- an option that has no row gets its default
-with_default-is : (p : Text × Text) (rows : List Row) → with_default rows (built_rule p) ≡ cond (has_row p.0 rows) rows (rows ++ default_row p ∷ [])
-with_default-is p rows = default_if p rows (has_row p.0 rows) refl
-
-stays : (p : Text × Text) (id : Text) (rows : List Row) (r : Row) → find (at id) rows ≡ Some r → find (at id) (with_default rows (built_rule p)) ≡ Some r
-stays p id rows r e = subst (λ (xs : List Row). find (at id) xs ≡ Some r) (sym (with_default-is p rows)) (go (has_row p.0 rows))
+-- an option that has no row gets its defaults
+with_default-is : (a : Rule) (rows : List Row) → with_default rows a ≡ cond (has_row a.id rows) rows (rows ++ default_values a)
+with_default-is a rows = go (has_row a.id rows) refl
   where
-    go : (b : Bool) → find (at id) (cond b rows (rows ++ default_row p ∷ [])) ≡ Some r
+    added : (values : List Text) → has_row a.id rows ≡ false
+        → default_rows a.id (reading_by a) values rows ≡ rows ++ default_rows a.id (reading_by a) values []
+    added [] e = sym (append-nil rows)
+    added (v ∷ vs) e = at_row-missing a.id (more_values DefaultValue (v ∷ vs)) _ rows e
+
+    go : (b : Bool) → has_row a.id rows ≡ b → cond b rows (default_rows a.id (reading_by a) a.defaults rows) ≡ cond b rows (rows ++ default_values a)
+    go true e = refl
+    go false e = added a.defaults e
+
+stays : (a : Rule) (id : Text) (rows : List Row) (r : Row) → find (at id) rows ≡ Some r → find (at id) (with_default rows a) ≡ Some r
+stays a id rows r e = subst (λ (xs : List Row). find (at id) xs ≡ Some r) (sym (with_default-is a rows)) (go (has_row a.id rows))
+  where
+    go : (b : Bool) → find (at id) (cond b rows (rows ++ default_values a)) ≡ Some r
     go true = e
     go false = find-append-some (at id) rows _ r e
 
-stays_missing : (p : Text × Text) (id : Text) (rows : List Row) → bytes_eq p.0 id ≡ false → find (at id) rows ≡ None → find (at id) (with_default rows (built_rule p)) ≡ None
-stays_missing p id rows other e = subst (λ (xs : List Row). find (at id) xs ≡ None) (sym (with_default-is p rows)) (go (has_row p.0 rows))
+none_of : (a : Rule) (id : Text) → bytes_eq a.id id ≡ false → find (at id) (default_values a) ≡ None
+none_of a id other = go a.defaults
   where
-    go : (b : Bool) → find (at id) (cond b rows (rows ++ default_row p ∷ [])) ≡ None
+    go : (values : List Text) → find (at id) (default_rows a.id (reading_by a) values []) ≡ None
+    go [] = refl
+    go (v ∷ vs) = rw other refl
+
+stays_missing : (a : Rule) (id : Text) (rows : List Row) → bytes_eq a.id id ≡ false → find (at id) rows ≡ None → find (at id) (with_default rows a) ≡ None
+stays_missing a id rows other e = subst (λ (xs : List Row). find (at id) xs ≡ None) (sym (with_default-is a rows)) (go (has_row a.id rows))
+  where
+    go : (b : Bool) → find (at id) (cond b rows (rows ++ default_values a)) ≡ None
     go true = e
-    go false = find-append-none (at id) rows _ e ∙ rw other refl
+    go false = find-append-none (at id) rows _ e ∙ none_of a id other
 
-comes_in : (p : Text × Text) (id : Text) (rows : List Row) → bytes_eq p.0 id ≡ true → find (at id) rows ≡ None → find (at id) (with_default rows (built_rule p)) ≡ Some (default_row p)
-comes_in p id rows hit e = subst (λ (xs : List Row). find (at id) xs ≡ Some (default_row p)) (sym (with_default-is p rows)) (go (has_row p.0 rows) same)
+comes_in : (a : Rule) (id : Text) (rows : List Row) → bytes_eq a.id id ≡ true → find (at id) rows ≡ None
+    → find (at id) (with_default rows a) ≡ find (at id) (default_values a)
+comes_in a id rows hit e = subst (λ (xs : List Row). find (at id) xs ≡ find (at id) (default_values a)) (sym (with_default-is a rows)) (go (has_row a.id rows) same)
   where
-    same : has_row p.0 rows ≡ false
-    same = subst (λ (t : Text). has_row t rows ≡ false) (sym ((bytes_eq-Decides p.0 id).0 hit)) (no_row id rows e)
+    same : has_row a.id rows ≡ false
+    same = subst (λ (t : Text). has_row t rows ≡ false) (sym ((bytes_eq-Decides a.id id).0 hit)) (no_row id rows e)
 
-    go : (b : Bool) → b ≡ false → find (at id) (cond b rows (rows ++ default_row p ∷ [])) ≡ Some (default_row p)
+    go : (b : Bool) → b ≡ false → find (at id) (cond b rows (rows ++ default_values a)) ≡ find (at id) (default_values a)
     go true bad = cc
-    go false ok = find-append-none (at id) rows _ e ∙ rw hit refl
+    go false ok = find-append-none (at id) rows _ e
 
-pub found_given : (ps : List (Text × Text)) (id : Text) (rows : List Row) (r : Row) → find (at id) rows ≡ Some r
-    → find (at id) (fold with_default rows (map built_rule ps)) ≡ Some r
+-- what is found stays found
+found_given : (rules : List Rule) (id : Text) (rows : List Row) (r : Row) → find (at id) rows ≡ Some r
+    → find (at id) (fold with_default rows rules) ≡ Some r
 found_given [] id rows r e = e
-found_given (p ∷ ps) id rows r e = found_given ps id (with_default rows (built_rule p)) r (stays p id rows r e)
+found_given (a ∷ rules) id rows r e = found_given rules id (with_default rows a) r (stays a id rows r e)
 
-pub found_default : (ps : List (Text × Text)) (id : Text) (rows : List Row) → find (at id) rows ≡ None
-    → find (at id) (fold with_default rows (map built_rule ps)) ≡ option_map default_row (find (λ p. bytes_eq p.0 id) ps)
+-- the rows of all defaults
+abbrev pub defaults_in : List Rule → List Row
+defaults_in [] = []
+defaults_in (a ∷ rules) = default_values a ++ defaults_in rules
+
+-- what is not found yet comes from the default
+default_found : (a : Rule) (id : Text) (rows : List Row) → find (at id) rows ≡ None → find (at id) (with_default rows a) ≡ find (at id) (default_values a)
+default_found a id rows e = go (bytes_eq a.id id) refl
+  where
+    go : (b : Bool) → bytes_eq a.id id ≡ b → find (at id) (with_default rows a) ≡ find (at id) (default_values a)
+    go true hit = comes_in a id rows hit e
+    go false other = stays_missing a id rows other e ∙ sym (none_of a id other)
+
+-- and from the first default that there is
+found_default : (rules : List Rule) (id : Text) (rows : List Row) → find (at id) rows ≡ None
+    → find (at id) (fold with_default rows rules) ≡ find (at id) (defaults_in rules)
 found_default [] id rows e = e
-found_default (p ∷ ps) id rows e = go (bytes_eq p.0 id) refl (found_default ps id (with_default rows (built_rule p)))
+found_default (a ∷ rules) id rows e = go (find (at id) (default_values a)) refl (found_default rules id (with_default rows a))
   where
-    go : (b : Bool) → bytes_eq p.0 id ≡ b
-        → (find (at id) (with_default rows (built_rule p)) ≡ None → find (at id) (fold with_default (with_default rows (built_rule p)) (map built_rule ps))
-        ≡ option_map default_row (find (λ q. bytes_eq q.0 id) ps))
-        → find (at id) (fold with_default (with_default rows (built_rule p)) (map built_rule ps))
-        ≡ option_map default_row (cond b (Some p) (find (λ q. bytes_eq q.0 id) ps))
-    go true hit later = found_given ps id _ _ (comes_in p id rows hit e)
-    go false other later = later (stays_missing p id rows other e)
+    go : (o : Option Row) → find (at id) (default_values a) ≡ o
+        → (find (at id) (with_default rows a) ≡ None → find (at id) (fold with_default (with_default rows a) rules) ≡ find (at id) (defaults_in rules))
+        → find (at id) (fold with_default (with_default rows a) rules) ≡ find (at id) (default_values a ++ defaults_in rules)
+    go (Some r) is later =
+        found_given rules id (with_default rows a) r (default_found a id rows e ∙ is) ∙ sym (find-append-some (at id) (default_values a) (defaults_in rules) r is)
+    go None is later = later (default_found a id rows e ∙ is) ∙ sym (find-append-none (at id) (default_values a) (defaults_in rules) is)
 
--- what was given is a number
-found_is_number : (name : Text) (given : Given) (g : Text × Text) → AreNumbers given → find (λ h. bytes_eq h.0 name) given ≡ Some g → is_number g.1 ≡ true
-found_is_number name [] g all e = cc
-found_is_number name (h ∷ given) g all e = go (bytes_eq h.0 name) (found_is_number name given g (All-tail (λ (k : Text × Text). is_number k.1 ≡ true) h given all)) e
+-- ---- what was given
+
+-- what was given has its name, and can be given
+found_fits : (name : Text) (given : Given) (g : Text × Text) → AreGivable given → find (λ h. bytes_eq h.0 name) given ≡ Some g → (g.0 ≡ name) × IsGivable g
+found_fits name [] g all e = cc
+found_fits name (h ∷ given) g all e = go (bytes_eq h.0 name) refl (found_fits name given g (All-tail IsGivable h given all)) e
   where
-    go : (b : Bool) → (find (λ k. bytes_eq k.0 name) given ≡ Some g → is_number g.1 ≡ true)
-        → cond b (Some h) (find (λ k. bytes_eq k.0 name) given) ≡ Some g → is_number g.1 ≡ true
-    go true later e = subst (λ (o : Option (Text × Text)). is_number (unwrap_or o g).1 ≡ true) e (All-head (λ (k : Text × Text). is_number k.1 ≡ true) h given all)
-    go false later e = later e
+    go : (b : Bool) → bytes_eq h.0 name ≡ b → (find (λ k. bytes_eq k.0 name) given ≡ Some g → (g.0 ≡ name) × IsGivable g)
+        → cond b (Some h) (find (λ k. bytes_eq k.0 name) given) ≡ Some g → (g.0 ≡ name) × IsGivable g
+    go true hit later e =
+        let same : h ≡ g = ap (λ (o : Option (Text × Text)). unwrap_or o h) e in
+        subst (λ (k : Text × Text). (k.0 ≡ name) × IsGivable k) same ((bytes_eq-Decides h.0 name).0 hit, All-head IsGivable h given all)
+    go false other later e = later e
 
-default_text : (default : Text) (o : Option (Text × Text)) → option_map (λ p. p.1) o ≡ Some default
-    → option_and_then row_text (option_map default_row o) ≡ Some (without_minus default)
-default_text default None e = cc
-default_text default (Some p) e = ap (option_map without_minus) e
+-- what is found under its name, in the end
+found_at : (name : Text) (given : Given) (o : Option (Text × Text)) → find (λ g. bytes_eq g.0 name) given ≡ o
+    → find (at name) (finished_rows given) ≡ option_or (option_map given_row o) (find (at name) (defaults_in built_rules))
+found_at name given (Some g) e = found_given built_rules name (map given_row given) (given_row g) (sym (find-map (at name) given_row given) ∙ ap (option_map given_row) e)
+found_at name given None e = found_default built_rules name (map given_row given) (sym (find-map (at name) given_row given) ∙ ap (option_map given_row) e)
+
+-- the text that is read under its name
+given_text : (name : Text) (g : Text × Text) → g.0 ≡ name → row_text (given_row g) ≡ Some (read_as (reading_at name) g.1)
+given_text name g same = ap (λ (n : Text). Some (read_as (reading_at n) g.1)) same
+
+-- what is found for a number that was not given
+abbrev default_row : Text × Text → Row
+default_row p = record {
+  id = p.0;
+  values = p.1 ∷ [];
+  count = None;
+  source = Some DefaultValue;
+  reading = WithoutMinus;
+}
 
 -- the number that is read under the name of an option is what was given for it, else its default
-pub field_read : (name default : Text) (most : ℕ) (given : Given) (rows : List Row) (result : ℕ)
-    → option_map (λ p. p.1) (find (λ p. bytes_eq p.0 name) option_defaults) ≡ Some default → is_number default ≡ true → number_of default ≡ most
-    → AreNumbers given → rows ≡ finished_rows given
+pub field_read : (name default : Text) (most : ℕ) (given : Given) (rows : List Row) (result : ℕ) → takes_number name ≡ true
+    → find (at name) (defaults_in built_rules) ≡ Some (default_row (name, default)) → is_number default ≡ true → number_of default ≡ most
+    → AreGivable given → rows ≡ finished_rows given
     → ((text : Text) → is_number text ≡ true → one_of name rows ≡ Some (without_minus text) → result ≡ number_of text)
     → result ≡ number_or most name given
-field_read name default most given rows result is_default number value all is_rows read = go (find (λ g. bytes_eq g.0 name) given) refl
+field_read name default most given rows result takes is_default number value all is_rows read = go (find (λ g. bytes_eq g.0 name) given) refl
   where
     go : (o : Option (Text × Text)) → find (λ g. bytes_eq g.0 name) given ≡ o → result ≡ unwrap_or (option_map (λ g. number_of g.1) o) most
     go (Some g) e =
-        let row = sym (find-map (at name) given_row given) ∙ ap (option_map given_row) e in
-        read g.1 (found_is_number name given g all e)
-        (ap (one_of name) is_rows ∙ ap (option_and_then row_text) (found_given option_defaults name (map given_row given) (given_row g) row))
-    go None e =
-        let row = sym (find-map (at name) given_row given) ∙ ap (option_map given_row) e in
-        read default number
-        (ap (one_of name) is_rows ∙ ap (option_and_then row_text) (found_default option_defaults name (map given_row given) row) ∙ default_text default (find (λ p. bytes_eq p.0 name) option_defaults) is_default)
-        ∙ value
+        let (named, (fit, flag)) = found_fits name given g all e in
+        let is_right : fits name g.1 ≡ true = ap (λ (n : Text). fits n g.1) (sym named) ∙ fit in
+        read g.1 (ap (λ (b : Bool). not b || is_number g.1) (sym takes) ∙ is_right)
+        (ap (one_of name) is_rows ∙ ap (option_and_then row_text) (found_at name given (Some g) e) ∙ given_text name g named
+        ∙ ap (λ (b : Bool). Some (read_as (cond b WithoutMinus AsWritten) g.1)) takes)
+    go None e = read default number (ap (one_of name) is_rows ∙ ap (option_and_then row_text) (found_at name given None e ∙ is_default)) ∙ value
+
+-- the path that is read is what was given
+pub path_read : (given : Given) (rows : List Row) (result : Option Text) → rows ≡ finished_rows given → result ≡ first_of (codes "disk") rows → result ≡ disk_of given
+path_read given rows result is_rows read = read ∙ ap (first_of (codes "disk")) is_rows ∙ go (find (λ g. bytes_eq g.0 (codes "disk")) given) refl
+  where
+    go : (o : Option (Text × Text)) → find (λ g. bytes_eq g.0 (codes "disk")) given ≡ o → first_of (codes "disk") (finished_rows given) ≡ option_map (λ g. g.1) o
+    go (Some g) e = ap (option_and_then (λ (r : Row). slice_get r.values 0)) (found_at (codes "disk") given (Some g) e)
+    go None e = ap (option_and_then (λ (r : Row). slice_get r.values 0)) (found_at (codes "disk") given None e)
+
+given_found : (name : Text) (given : Given) → is_given name given ≡ is_some (find (λ g. bytes_eq g.0 name) given)
+given_found name [] = refl
+given_found name (g ∷ given) = go (bytes_eq g.0 name) (given_found name given)
+  where
+    go : (b : Bool) → is_given name given ≡ is_some (find (λ g. bytes_eq g.0 name) given) → (b || is_given name given) ≡ is_some (cond b (Some g) (find (λ g. bytes_eq g.0 name) given))
+    go true later = refl
+    go false later = later
+
+-- the flag is read where it was given
+pub flag_read : (given : Given) (rows : List Row) (result : Bool) → AreGivable given → rows ≡ finished_rows given
+    → (one_of (codes "create") rows ≡ Some (codes "true") → result ≡ true) → (one_of (codes "create") rows ≡ Some (codes "false") → result ≡ false)
+    → result ≡ is_given (codes "create") given
+flag_read given rows result all is_rows set unset = go (find (λ g. bytes_eq g.0 (codes "create")) given) refl ∙ sym (given_found (codes "create") given)
+  where
+    go : (o : Option (Text × Text)) → find (λ g. bytes_eq g.0 (codes "create")) given ≡ o → result ≡ is_some o
+    go (Some g) e =
+        let (named, (fit, flag)) = found_fits (codes "create") given g all e in
+        set (ap (one_of (codes "create")) is_rows ∙ ap (option_and_then row_text) (found_at (codes "create") given (Some g) e)
+        ∙ given_text (codes "create") g named ∙ ap (λ (t : Text). Some t) (flag ((bytes_eq-Decides (codes "create") g.0).1 (sym named))))
+    go None e = unset (ap (one_of (codes "create")) is_rows ∙ ap (option_and_then row_text) (found_at (codes "create") given None e))
 
 abbrev settings_with : ℕ → ℕ → ℕ → ℕ → ℕ → ℕ → Settings
 settings_with a b c d e f = record { fan = a; chain = b; max_key = c; max_value = d; seg_size = e; segments = f }

@@ -1,5 +1,6 @@
 mod AnswerLemmas
 mod AskedLemmas
+mod BytesLaws
 mod ClapLemmas
 mod CommandLineLemmas
 mod EndLemmas

@@ -1,5 +1,5 @@
 -- The definitions at a few literals.
-use Rattle.std.proofs.Common.{◌≡◌, ℕ, List, [], ◌∷◌, ◌++◌, map, Some, None, refl, arith}
+use Rattle.std.proofs.Common.{◌≡◌, ℕ, List, [], ◌∷◌, ◌++◌, map, Some, None, refl, arith, true, false}
 use Rattle.std.specs.Prelude.{codes}
 use Rattle.std.proofs.lemmas.Fmt.{decimal_digit}
 use Rattle.keys.specs.declared.command.Command.TheVariants.{Get, Put, Del, Scan}
@@ -15,6 +15,7 @@ use Rattle.bwsh.specs.Token.{token_bytes, shown_token}
 use Rattle.bwsh.specs.Words.{words_of}
 use Rattle.bwsh.specs.Line.{line_says}
 use Rattle.bwsh.specs.Number.{number_in}
+use Rattle.bwsh.specs.Options.{asked, options, refused, told_by}
 use Rattle.bwsh.specs.Shown.{shown_reply}
 use Rattle.bwsh.specs.BatchFile.{lines, first_bad, orders_of}
 
@@ -146,3 +147,33 @@ scanned rows = Rows rows
 some_rows : shown_reply (scanned ((32 ∷ 0 ∷ [], 37 ∷ []) ∷ ([], []) ∷ [])) ≡ codes "rows 2" ++ 10 ∷ codes "%20%00 %25" ++ 10 ∷ codes "% %" ++ 10 ∷ []
 unfolding scanned
 some_rows = rw (decimal_digit 2 (omega arith)) refl
+
+-- the options of a command line stand in any order
+some_options : asked (codes "--create" ∷ codes "--disk" ∷ codes "a b" ∷ codes "--fan=8" ∷ [])
+    ≡ options ((codes "create", codes "true") ∷ (codes "disk", codes "a b") ∷ (codes "fan", codes "8") ∷ [])
+some_options = refl
+
+told_options : told_by ((codes "create", codes "true") ∷ (codes "disk", codes "a b") ∷ (codes "fan", codes "8") ∷ [])
+    ≡ record { settings = record { fan = 8; chain = 4; max_key = 64; max_value = 256; seg_size = 65536; segments = 64 }; disk = Some (codes "a b"); create = true }
+told_options = refl
+
+nothing_told : told_by []
+    ≡ record { settings = record { fan = 16; chain = 4; max_key = 64; max_value = 256; seg_size = 65536; segments = 64 }; disk = None; create = false }
+nothing_told = refl
+
+-- a path is any text, but behind `--disk` none that looks like a flag
+an_empty_path : asked (codes "--disk" ∷ [] ∷ []) ≡ options ((codes "disk", []) ∷ [])
+an_empty_path = refl
+
+a_path_with_a_hyphen : asked (codes "--disk=--create" ∷ []) ≡ options ((codes "disk", codes "--create") ∷ [])
+a_path_with_a_hyphen = refl
+
+no_path : asked (codes "--disk" ∷ codes "--create" ∷ []) ≡ refused
+no_path = refl
+
+-- the flag takes no text, and is given once
+a_flag_with_a_text : asked (codes "--create=true" ∷ []) ≡ refused
+a_flag_with_a_text = refl
+
+a_flag_twice : asked (codes "--create" ∷ codes "--create" ∷ []) ≡ refused
+a_flag_twice = refl

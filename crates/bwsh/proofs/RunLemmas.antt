@@ -1,23 +1,25 @@
 -- Lemmas on what orders print, and how they end.
 use Rattle.std.proofs.Common.{◌≡◌, ◌≢◌, ◌<◌, ◌+◌, ◌⊎◌, inl, inr, ℕ, length, drop, get_or, List, [], ◌∷◌, ◌++◌, map, Option, Some, None, Result, Ok, Err, refl, sym, ap, ◌∙◌, subst, append-nil, arith}
-use Rattle.std.specs.Prelude.{OnOk, take}
+use Rattle.std.specs.Prelude.{Bool, true, false, if◌then◌else◌, OnOk, take}
 use Rattle.std.specs.List.{flat_map}
 use Rattle.std.specs.declared.alloc.Global.{Global}
 use Rattle.std.proofs.lemmas.List.{drop_more}
 use Rattle.std.proofs.KnownBytes.{Appends-nil}
-use Rattle.keys.specs.Step.{replies_to, map_after_all}
+use Rattle.keys.specs.Step.{map_after_all}
 use Rattle.keys.specs.declared.fault.Fault.{Fault}
-use Rattle.keys.specs.declared.fault.Fault.TheVariants.{NoMemory, Device}
+use Rattle.keys.specs.declared.fault.Fault.TheVariants.{NoMemory, Device, Spent, Full}
 use Rattle.keys.specs.declared.command.Command.{Command}
-use Rattle.keys.specs.declared.command.Reply.{Reply}
 use Rattle.keys.specs.declared.settings.Settings.{Settings}
 use Rattle.mapping.specs.Levels.{contents}
 use Rattle.keys.specs.Lists.{flat}
 use Rattle.mapping.specs.Tree.{Store}
-use Rattle.flush_log.specs.AfterFlush.{after_flush}
-use Rattle.recovery.specs.StoreOfDisk.{store_of_disk, and_then}
+use Rattle.climb_plan.specs.Plan.{plan}
+use Rattle.flush_log.specs.AfterFlush.{after_flush, after_text, flush_commit, file_after, store_after, is_spent}
+use Rattle.flush_log.specs.FlushText.{flush_text, flushed}
+use Rattle.flush_log.specs.Layout.{is_full_for_flush}
+use Rattle.recovery.specs.StoreOfDisk.{and_then}
 use Rattle.engine.specs.Plays.{IsPlayed, IsStepFault, IsPlayFault, step_of, answer_of}
-use Rattle.engine.specs.Steps.{Step, Answer, Played, Stepped, ArePlayed, unless_refused, played_on, batches_among, after_step, batching, plays}
+use Rattle.engine.specs.Steps.{Step, Answer, Played, Stepped, unless_refused, played_on, after_step, batching, plays}
 use Rattle.engine.specs.declared.step.Step as code_step
 use Rattle.engine.specs.declared.step.Step.TheVariants as called
 use Rattle.engine.specs.declared.step.Answer as code_answer
@@ -28,7 +30,7 @@ use Rattle.bwsh.specs.declared.batch_file.Order.TheVariants.{Batch, Flush, Verif
 use Rattle.bwsh.specs.declared.session.Ending.{Ending}
 use Rattle.bwsh.specs.declared.session.Ending.TheVariants as endings
 use Rattle.bwsh.specs.Session.{Stored, step_in, left_by, refused_by, behind_step, refusal_of_step, refusal_of, behind, map_behind, own_lines, answer_lines, accepted, orders_end, Prints, Runs, LeavesStored}
-use Rattle.bwsh.specs.Shown.{shown_reply, shown_flushed, shown_report, shown_answer}
+use Rattle.bwsh.specs.Shown.{shown_flushed, shown_report, shown_answer}
 use Rattle.bwsh.proofs.Prints.{Prints-all, Prints-behind, Prints-early}
 
 pub OnOk-always : {A B P : Type 0} (r : Result A B) → P → OnOk r P
@@ -46,8 +48,8 @@ module _ (settings : Settings) (at : Stored) (order : Order) (old new : Option (
   abbrev lines : List (List ℕ)
   lines = own_lines settings at (contents at.0.tree) order
 
-  abbrev then : Stored
-  then = behind settings at order
+  abbrev left : Stored
+  left = behind settings at order
 
   -- the lines that orders answer behind it
   abbrev further : Stored → List Order → List (List ℕ)
@@ -73,7 +75,7 @@ module _ (settings : Settings) (at : Stored) (order : Order) (old new : Option (
   unfolding Runs
   stops_by rest early None none p =
       let own : Prints old new (lines ++ []) (Ok tt) (Err early) = rw none at p in
-      rw none (Prints-early old new lines (further then rest) (orders_end settings then rest) early
+      rw none (Prints-early old new lines (further left rest) (orders_end settings left rest) early
       (subst (λ (l : List (List ℕ)). Prints old new l (Ok tt) (Err early)) (append-nil lines) own))
   stops_by rest early (Some fault) some p =
       let own : Prints old new [] (Err (endings.Fault fault)) (Err early) = rw some at p in
@@ -91,7 +93,7 @@ module _ (settings : Settings) (at : Stored) (order : Order) (old new : Option (
       let printed = Prints-all old new lines (Ok tt) done (subst (λ (l : List (List ℕ)). Prints old new l (Ok tt) (Ok done)) (append-nil lines) own) in
       let next = subst (λ (m : List (List ℕ × List ℕ)). Prints new last (answer_lines settings after m (accepted settings after rest)) (orders_end settings after rest) end) map_is q in
       let then_on = subst (λ (t : Stored). Prints new last (further t rest) (orders_end settings t rest) end) is next in
-      rw none (Prints-behind old new last lines (further then rest) (orders_end settings then rest) end printed then_on)
+      rw none (Prints-behind old new last lines (further left rest) (orders_end settings left rest) end printed then_on)
 
   -- a device fails before anything of it is written
   pub cut_off : Runs settings at (order ∷ []) old old (Err endings.Device)
@@ -127,7 +129,83 @@ answered_flush (Ok q) p e =
     sym (ap (λ (u : Answer Global × (Store × List ℕ)). u.0) same) ∙ ap (λ (u : Answer Global × (Store × List ℕ)). Answer.Flushed u.1.0.sequence) same
 answered_flush (Err fault) p e = absurd (cc)
 
-module _ (settings : Settings) (st : Store) (file : List ℕ) where
+-- ---- the bytes of a disk don't matter
+
+-- all that a step answers and leaves but for the bytes
+abbrev pub without_bytes : Stepped Global → Result (Answer Global × Store) Fault
+without_bytes (Ok p) = Ok (p.0, p.1.0)
+without_bytes (Err fault) = Err fault
+
+batch-same : (o : Option Fault) (a : Answer Global) (st : Store) (f g : List ℕ) → without_bytes (unless_refused o a st f) ≡ without_bytes (unless_refused o a st g)
+batch-same None a st f g = refl
+batch-same (Some fault) a st f g = refl
+
+-- the answer to a flush that leaves this
+abbrev flush_answer : Result (Store × List ℕ) Fault → Stepped Global
+flush_answer r = and_then r (λ q. Ok (Answer.Flushed q.0.sequence, q))
+
+-- what a flush leaves that is refused for the first reason, for the second, or not
+abbrev committed_unless : Bool → Bool → Store → List ℕ → Result (Store × List ℕ) Fault
+committed_unless spent full now bytes = if spent then Err Spent else (if full then Err Full else Ok (now, bytes))
+
+commit-same : (spent full : Bool) (now : Store) (f g : List ℕ) → without_bytes (flush_answer (committed_unless spent full now f)) ≡ without_bytes (flush_answer (committed_unless spent full now g))
+commit-same true full now f g = refl
+commit-same false true now f g = refl
+commit-same false false now f g = refl
+
+commit-leaves : (spent full : Bool) (now : Store) (f : List ℕ) (p : Answer Global × (Store × List ℕ)) → flush_answer (committed_unless spent full now f) ≡ Ok p → p.1.0 ≡ now
+commit-leaves true full now f p e = absurd (cc)
+commit-leaves false true now f p e = absurd (cc)
+commit-leaves false false now f p e =
+    let same : (let q : Answer Global × (Store × List ℕ) = (Answer.Flushed now.sequence, (now, f)) in q ≡ p) = cc in
+    sym (ap (λ (q : Answer Global × (Store × List ℕ)). q.1.0) same)
+
+batch-leaves : (o : Option Fault) (a : Answer Global) (now : Store) (f : List ℕ) (p : Answer Global × (Store × List ℕ)) → unless_refused o a now f ≡ Ok p → p.1.0 ≡ now
+batch-leaves None a now f p e =
+    let same : (let q : Answer Global × (Store × List ℕ) = (a, (now, f)) in q ≡ p) = cc in
+    sym (ap (λ (q : Answer Global × (Store × List ℕ)). q.1.0) same)
+batch-leaves (Some fault) a now f p e = absurd (cc)
+
+module _ (settings : Settings) (st : Store) where
+  text-same : (f g : List ℕ) (text : _) → without_bytes (flush_answer (after_text settings st f text)) ≡ without_bytes (flush_answer (after_text settings st g text))
+  text-same f g [] = refl
+  text-same f g (x ∷ xs) =
+      let m = flush_commit settings st (x ∷ xs) in
+      commit-same (is_spent m.slot) (is_full_for_flush settings m.slot.head m.slot.tail) (store_after (flushed st.tree) m.slot) (file_after settings f m) (file_after settings g m)
+
+  text-leaves : (f : List ℕ) (text : _) (p : Answer Global × (Store × List ℕ)) → flush_answer (after_text settings st f text) ≡ Ok p → contents p.1.0.tree ≡ contents st.tree
+  text-leaves f [] p e =
+      let same : (let q : Answer Global × (Store × List ℕ) = (Answer.Flushed st.sequence, (st, f)) in q ≡ p) = cc in
+      sym (ap (λ (q : Answer Global × (Store × List ℕ)). contents q.1.0.tree) same)
+  text-leaves f (x ∷ xs) p e =
+      let m = flush_commit settings st (x ∷ xs) in
+      ap (λ (s : Store). contents s.tree) (commit-leaves (is_spent m.slot) (is_full_for_flush settings m.slot.head m.slot.tail) (store_after (flushed st.tree) m.slot) (file_after settings f m) p e)
+
+  -- what the step of an order leaves with these bytes
+  abbrev pub stepped : List ℕ → Step Global → Stepped Global
+  stepped f y = after_step (batching settings) settings st f y
+
+  pub order-same : (f g : List ℕ) (order : Order) → (y : Step Global) → step_in order ≡ Some y → without_bytes (stepped f y) ≡ without_bytes (stepped g y)
+  order-same f g (Batch cs) y is =
+      let same : Step.Batch cs ≡ y = cc in
+      subst (λ (z : Step Global). without_bytes (stepped f z) ≡ without_bytes (stepped g z)) same (batch-same _ _ _ f g)
+  order-same f g Flush y is =
+      let same : (let z : Step Global = Step.Flush in z ≡ y) = cc in
+      subst (λ (z : Step Global). without_bytes (stepped f z) ≡ without_bytes (stepped g z)) same (text-same f g (flush_text st.tree))
+  order-same f g Verify y is = absurd (cc)
+
+answered-back : (r : Stepped Global) (q : Answer Global × Store) → without_bytes r ≡ Ok q → (bytes : List ℕ) × (r ≡ Ok (q.0, (q.1, bytes)))
+answered-back (Ok p) q e =
+    let same : (let s : Answer Global × Store = (p.0, p.1.0) in s ≡ q) = cc in
+    (p.1.1, ap (λ (s : Answer Global × Store). (let u : Stepped Global = Ok (s.0, (s.1, p.1.1)) in u)) same)
+answered-back (Err fault) q e = absurd (cc)
+
+refused-back : (r : Stepped Global) (fault : Fault) → without_bytes r ≡ Err fault → r ≡ Err fault
+refused-back (Ok p) fault e = absurd (cc)
+refused-back (Err f) fault e = (let same : f ≡ fault = cc in ap (λ (x : Fault). (let u : Stepped Global = Err x in u)) same)
+
+-- a step is played on a disk with the bytes `seen`; what is said of it is said with any bytes
+module _ (settings : Settings) (st : Store) (seen file : List ℕ) where
   abbrev at : Stored
   at = (st, file)
 
@@ -146,73 +224,83 @@ module _ (settings : Settings) (st : Store) (file : List ℕ) where
       ∙ sym (ap shown_answer (answered_flush (after_flush settings st file) p (subst (λ (z : Step Global). steps_to z p) (sym same) done)))
   lines_of Verify y p is done left = absurd (cc)
 
+  -- a batch that is planned holds the map after its commands
+  abbrev PlansHold : Type 0
+  PlansHold = (cs : List (Command Global)) → contents (plan settings st cs).tree ≡ map_after_all (contents st.tree) cs
+
   -- the map that a step leaves is that of its order
-  map_of : (order : Order) (y : Step Global) (m : List (List ℕ × List ℕ)) → step_in order ≡ Some y → map_after_all m (flat (batches_among (y ∷ []))) ≡ map_behind m order
-  map_of (Batch cs) y m is =
+  map_of : PlansHold → (order : Order) (y : Step Global) (p : Answer Global × (Store × List ℕ)) → step_in order ≡ Some y → steps_to y p
+      → contents p.1.0.tree ≡ map_behind (contents st.tree) order
+  map_of hold (Batch cs) y p is done =
       let same : Step.Batch cs ≡ y = cc in
-      ap (λ (z : Step Global). map_after_all m (flat (batches_among (z ∷ [])))) (sym same) ∙ ap (map_after_all m) (append-nil cs)
-  map_of Flush y m is =
+      ap (λ (s : Store). contents s.tree) (batch-leaves _ _ (plan settings st cs) file p (subst (λ (z : Step Global). steps_to z p) (sym same) done)) ∙ hold cs
+  map_of hold Flush y p is done =
       let same : (let z : Step Global = Step.Flush in z ≡ y) = cc in
-      ap (λ (z : Step Global). map_after_all m (flat (batches_among (z ∷ [])))) (sym same)
-  map_of Verify y m is = absurd (cc)
+      text-leaves settings st file (flush_text st.tree) p (subst (λ (z : Step Global). steps_to z p) (sym same) done)
+  map_of hold Verify y p is done = absurd (cc)
 
   module _ (order : Order) (x : code_step.Step) (is : step_in order ≡ Some (step_of x)) where
-    right_by : (fault : Fault) → after_step (batching settings) settings st file (step_of x) ≡ Err fault → refusal_of settings at order ≡ Some fault
+    right_by : (fault : Fault) → after_step (batching settings) settings st seen (step_of x) ≡ Err fault → refusal_of settings at order ≡ Some fault
     unfolding refusal_of
-    right_by fault e = ap (refusal_of_step settings at) is ∙ ap refused_by e
+    right_by fault e =
+        let here = refused-back (stepped settings st file (step_of x)) fault (order-same settings st file seen order (step_of x) is ∙ ap without_bytes e) in
+        ap (refusal_of_step settings at) is ∙ ap refused_by here
 
-    late_by : (old new : ℕ) (z : code_step.Step) (fault : Fault) → fault ≢ Device → z ≡ x → IsStepFault settings st file old new (step_of z) fault → (fault ≡ NoMemory) ⊎ (refusal_of settings at order ≡ Some fault)
-    late_by old new z fault other same (inl right) = inr (right_by fault (subst (λ (y : code_step.Step). after_step (batching settings) settings st file (step_of y) ≡ Err fault) same right))
+    late_by : (old new : ℕ) (z : code_step.Step) (fault : Fault) → fault ≢ Device → z ≡ x → IsStepFault settings st seen old new (step_of z) fault → (fault ≡ NoMemory) ⊎ (refusal_of settings at order ≡ Some fault)
+    late_by old new z fault other same (inl right) = inr (right_by fault (subst (λ (y : code_step.Step). after_step (batching settings) settings st seen (step_of y) ≡ Err fault) same right))
     late_by old new (called.Batch cs) fault other same (inr late) = inl late.0
     late_by old new called.Flush fault other same (inr (inl memory)) = inl memory.0
     late_by old new called.Flush fault other same (inr (inr device)) = absurd (other device.0)
 
-    why_by : (old new place : ℕ) (fault : Fault) → place ≡ 0 → fault ≢ Device → IsPlayFault settings st file old new (x ∷ []) place fault → (fault ≡ NoMemory) ⊎ (refusal_of settings at order ≡ Some fault)
+    why_by : (old new place : ℕ) (fault : Fault) → place ≡ 0 → fault ≢ Device → IsPlayFault settings st seen old new (x ∷ []) place fault → (fault ≡ NoMemory) ⊎ (refusal_of settings at order ≡ Some fault)
     why_by old new place fault first other (inl memory) = inl memory.1
     why_by old new place fault first other (inr (z, rest, behind_is, refused)) =
         let front : x ∷ [] ≡ z ∷ rest = subst (λ (n : ℕ). drop n (x ∷ []) ≡ z ∷ rest) first behind_is in
         let same : z ≡ x = cc in
-        let own = subst (λ (n : ℕ). (let p : Played Global = plays (batching settings) settings st file (map step_of (take n (x ∷ []))) in IsStepFault settings p.store p.bytes old new (step_of z) fault)) first refused in
+        let own = subst (λ (n : ℕ). (let p : Played Global = plays (batching settings) settings st seen (map step_of (take n (x ∷ []))) in IsStepFault settings p.store p.bytes old new (step_of z) fault)) first refused in
         late_by old new z fault other same own
 
-    pub Runs-refused : (text : Option (List ℕ)) (old new place : ℕ) (fault : Fault) → place < 1 → fault ≢ Device → IsPlayFault settings st file old new (x ∷ []) place fault
+    pub Runs-refused : (text : Option (List ℕ)) (old new place : ℕ) (fault : Fault) → place < 1 → fault ≢ Device → IsPlayFault settings st seen old new (x ∷ []) place fault
         → Runs settings at (order ∷ []) text text (Err (endings.Fault fault))
     Runs-refused text old new place fault first other refused = stopped settings at order text text fault (why_by old new place fault (omega (arith, first)) other refused)
 
-    module _ (said : List code_answer.Answer) (after : Store) (bytes : List ℕ) (played : IsPlayed settings st file (step_of x ∷ []) said after)
-        (bytes_are : bytes ≡ (plays (batching settings) settings st file (step_of x ∷ [])).bytes) where
-      abbrev outcome : (p : Answer Global × (Store × List ℕ)) × steps_to (step_of x) p
-      outcome = done_by settings st file (step_of x) (after_step (batching settings) settings st file (step_of x)) played.unrefused
+    module _ (said : List code_answer.Answer) (after : Store) (played : IsPlayed settings st seen (step_of x ∷ []) said after) where
+      abbrev outcome : (p : Answer Global × (Store × List ℕ)) × (after_step (batching settings) settings st seen (step_of x) ≡ Ok p)
+      outcome = done_by settings st seen (step_of x) (after_step (batching settings) settings st seen (step_of x)) played.unrefused
 
-      abbrev whole : alone settings st file (step_of x) ≡ record { answers = outcome.0.0 ∷ []; store = outcome.0.1.0; bytes = outcome.0.1.1; fault = None }
-      whole = alone_is settings st file (step_of x) outcome.0 outcome.1
+      abbrev whole : alone settings st seen (step_of x) ≡ record { answers = outcome.0.0 ∷ []; store = outcome.0.1.0; bytes = outcome.0.1.1; fault = None }
+      whole = alone_is settings st seen (step_of x) outcome.0 outcome.1
 
-      left_is : behind settings at order ≡ outcome.0.1
+      -- with these bytes too it does so
+      abbrev here : (bytes : List ℕ) × (after_step (batching settings) settings st file (step_of x) ≡ Ok (outcome.0.0, (outcome.0.1.0, bytes)))
+      here = answered-back (stepped settings st file (step_of x)) (outcome.0.0, outcome.0.1.0) (order-same settings st file seen order (step_of x) is ∙ ap without_bytes outcome.1)
+
+      left_is : behind settings at order ≡ (outcome.0.1.0, here.0)
       unfolding behind
-      left_is = ap (behind_step settings at) is ∙ ap (left_by at) outcome.1
+      left_is = ap (behind_step settings at) is ∙ ap (left_by at) here.1
 
       none : refusal_of settings at order ≡ None
       unfolding refusal_of
-      none = ap (refusal_of_step settings at) is ∙ ap refused_by outcome.1
+      none = ap (refusal_of_step settings at) is ∙ ap refused_by here.1
 
       pub Runs-answered : (old new : Option (List ℕ)) (end : Result (Unit {0}) Ending) → Prints old new (flat_map shown_answer (map answer_of said)) (Ok tt) end → Runs settings at (order ∷ []) old new end
       Runs-answered old new end p =
           let said_is = played.answers ∙ ap (λ (q : Played Global). q.answers) whole in
-          let lines_are = ap (flat_map shown_answer) said_is ∙ append-nil (shown_answer outcome.0.0) ∙ sym (lines_of order (step_of x) outcome.0 is outcome.1 left_is) in
+          let lines_are = ap (flat_map shown_answer) said_is ∙ append-nil (shown_answer outcome.0.0) ∙ sym (lines_of order (step_of x) (outcome.0.0, (outcome.0.1.0, here.0)) is here.1 left_is) in
           answered settings at order old new end none (subst (λ (l : List (List ℕ)). Prints old new l (Ok tt) end) lines_are p)
 
-      after_is : (after, bytes) ≡ outcome.0.1
-      after_is =
-          ap (λ (a : Store). (let q : Stored = (a, bytes) in q)) (played.store ∙ ap (λ (q : Played Global). q.store) whole)
-          ∙ ap (λ (f : List ℕ). (let q : Stored = (outcome.0.1.0, f) in q)) (bytes_are ∙ ap (λ (q : Played Global). q.bytes) whole)
+      after_is : after ≡ outcome.0.1.0
+      after_is = played.store ∙ ap (λ (q : Played Global). q.store) whole
 
-      pub LeavesStored-answered : (on_disk : Store) → ArePlayed (batching settings) settings st.tree on_disk.tree (step_of x ∷ []) (alone settings st file (step_of x)) → LeavesStored settings at order (after, bytes)
-      LeavesStored-answered on_disk are =
-          let holds = subst (λ (q : Played Global). contents q.store.tree ≡ map_after_all (contents st.tree) (flat (batches_among (take (length q.answers) (step_of x ∷ []))))) whole are.holds in (
-            none,
-            after_is ∙ sym left_is,
-            ap (λ (q : Stored). contents q.0.tree) after_is ∙ holds ∙ map_of order (step_of x) (contents st.tree) is,
-          )
+      pub LeavesStored-answered : PlansHold → (bytes : List ℕ) × LeavesStored settings at order (after, bytes)
+      LeavesStored-answered hold = (
+        here.0,
+        (
+          none,
+          ap (λ (a : Store). (let q : Stored = (a, here.0) in q)) after_is ∙ sym left_is,
+          ap (λ (a : Store). contents a.tree) after_is ∙ map_of hold order (step_of x) (outcome.0.0, (outcome.0.1.0, here.0)) is here.1,
+        ),
+      )
 
 -- ---- what a verify answers
 

@@ -1,31 +1,66 @@
 -- What `clap` makes of one word of the command line.
-use Rattle.std.proofs.Common.{◌≡◌, ◌∙◌, ◌==◌, ap, refl, sym, subst, ℕ, Bool, true, false, cond, List, [], ◌∷◌, length, Option, Some, None, codes}
+use Rattle.std.proofs.Common.{◌≡◌, ◌∙◌, ◌==◌, ◌&&◌, ap, refl, sym, subst, ℕ, Bool, true, false, cond, List, [], ◌∷◌, length, Option, Some, None, codes}
 use Rattle.std.specs.Prelude.{slice_get}
 use Rattle.std.specs.Option.{option_map_or}
 use Rattle.std.specs.Str.{bytes_eq, chars}
 use Rattle.std.proofs.lemmas.Slice.Eq.{bytes_eq-Decides}
 use Rattle.clap.specs.Lexer.{long_of, short_of}
-use Rattle.clap.specs.Kinds.{Kinds, or_else}
-use Rattle.clap.specs.Walk.{Held, Row, Rule, Step, Waiting, Walk, after_flag, after_step, arg_by_id, arg_by_index, arg_by_long, arg_by_short, bundle_met, bundle_step, idle, long_met, long_or_other, option, plain as not_flag, plain_word, positional, settled_rows, subcommand_met, subcommand_or_other, short_or_plain, trailing, used, walked}
-use Rattle.clap.specs.Simple.{Shape, built, filled, help_rule}
-use Rattle.clap.specs.Faults.{bundle_fault, bundle_step_fault, flag_word_fault, flags_fault, long_fault, other_fault, settle_fault, short_fault, step_fault, turn_fault, use_fault}
+use Rattle.clap.specs.Kinds.{Kinds, or_else, value_kinds}
+use Rattle.clap.specs.Walk.{Held, Row, Rule, Step, Waiting, Walk, after_flag, after_step, arg_by_id, arg_by_index, arg_by_long, arg_by_short, bundle_met, bundle_step, has_row, idle, long_met, long_or_other, option, plain as not_flag, plain_word, positional, settled_rows, subcommand_met, subcommand_or_other, short_or_plain, takes_values, trailing, used, walked, with_values, without}
+use Rattle.clap.specs.Simple.{Shape, built, filled, help_rule, new_rule}
+use Rattle.clap.specs.Values.{reading_of}
+use Rattle.clap.specs.Faults.{bundle_fault, bundle_step_fault, flag_word_fault, flags_fault, long_fault, option_fault, other_fault, settle_fault, short_fault, step_fault, turn_fault, use_fault}
 use Rattle.clap.specs.declared.error.kind.ErrorKind.{ErrorKind}
-use Rattle.clap.specs.declared.error.kind.ErrorKind.TheVariants.{DisplayHelp, TooManyValues, UnknownArgument}
-use Rattle.bwsh.specs.Options.{Sort, awaits, gives, asks, ends, plain, unknown, Text, is_option, is_refusal, sort_by, sort_of, sort_of_long, sort_of_short}
-use Rattle.bwsh.specs.CommandLine.{built_rule, bwsh}
+use Rattle.clap.specs.declared.error.kind.ErrorKind.TheVariants.{ArgumentConflict, DisplayHelp, TooManyValues, UnknownArgument, ValueValidation}
+use Rattle.clap.specs.declared.builder.value_parser.Reading.{Reading}
+use Rattle.clap.specs.declared.builder.value_parser.ValueParser.{ValueParser}
+use Rattle.clap.specs.declared.parser.matches.ValueSource.TheVariants.{CommandLine}
+use Rattle.bwsh.specs.Options.{Sort, awaits, gives, asks, ends, plain, unknown, Text, fits, is_refusal, sort_by, sort_of, sort_of_flag, sort_of_long, sort_of_short, takes_text}
+use Rattle.bwsh.specs.CommandLine.{bwsh, flag_rule, reading_at}
 
 -- the rule of `--help`
 abbrev pub built_help : Rule
 built_help = filled help_rule
 
+-- the rule of `--create`
+abbrev pub built_create : Rule
+built_create = filled (flag_rule (codes "create"))
+
+-- an option that takes a text, with these defaults, and checked so
+abbrev pub taking : Text → List Text → ValueParser → Rule
+taking name defaults parser = record (filled (new_rule name)) {
+  long = Some name;
+  value_names = 1;
+  defaults = defaults;
+  parser = Some parser;
+}
+
+-- an option that takes a text is known by its name, and checks and reads its text as it should
+pub record TakesText (c : List Rule) (name : Text) : Type 0 where
+  pub defaults : List Text
+  pub parser : ValueParser
+  pub checks : (text : Text) → value_kinds false parser text ≡ cond (fits name text) [] (ValueValidation ∷ [])
+  pub reads : reading_of parser ≡ reading_at name
+  pub by_long : arg_by_long c name ≡ Some (taking name defaults parser)
+  pub by_id : arg_by_id c name ≡ Some (taking name defaults parser)
+
 -- these are the options of the command line
 pub record HasOptions (c : List Rule) : Type 0 where
-  pub known : (name : Text) → is_option name ≡ true
-      → (default : Text) × (arg_by_long c name ≡ Some (built_rule (name, default))) × (arg_by_id c name ≡ Some (built_rule (name, default)))
+  pub known : (name : Text) → takes_text name ≡ true → TakesText c name
+  pub create : arg_by_long c (codes "create") ≡ Some built_create
   pub help : arg_by_long c (codes "help") ≡ Some built_help
-  pub others : (name : Text) → is_option name ≡ false → bytes_eq (codes "help") name ≡ false → arg_by_long c name ≡ None
+  pub others : (name : Text) → takes_text name ≡ false → bytes_eq (codes "create") name ≡ false → bytes_eq (codes "help") name ≡ false
+      → arg_by_long c name ≡ None
   pub short : (x : ℕ) → arg_by_short c x ≡ cond (104 == x) (Some built_help) None
   pub positional : arg_by_index c 1 ≡ None
+
+-- the fault of an option that is given this text
+abbrev pub given_fault : Text → Text → List Row → Kinds
+given_fault name text rows = cond (has_row name rows) (ArgumentConflict ∷ []) (cond (fits name text) [] (ValueValidation ∷ []))
+
+-- and what is found then
+abbrev pub given_rows : Text → Text → List Row → List Row
+given_rows name text rows = with_values name (reading_at name) CommandLine (text ∷ []) (without name rows)
 
 -- the command line with these rules
 abbrev pub shape : List Rule → Shape
@@ -40,13 +75,17 @@ held rows pen = record { rows = rows; pending = pen; skip = 0 }
 abbrev pub standing : List Row → Pending → Waiting → Bool → Walk
 standing rows pen waiting is_trailing = record { held = held rows pen; waiting = waiting; position = 1; is_trailing = is_trailing; stopped = None }
 
+-- if the option is the flag, this is its text
+abbrev pub HasText : Text → Text → Type 0
+HasText name text = bytes_eq (codes "create") name ≡ true → text ≡ codes "true"
+
 -- a word of this sort has this fault, and leaves the walk so
 abbrev pub TurnIs : List Rule → List Row → Pending → Waiting → Text → Kinds → Walk → Sort → Type 0
-TurnIs c rows pen waiting word kinds after (awaits name) = (is_option name ≡ true) × (kinds ≡ settle_fault c false (held rows pen))
+TurnIs c rows pen waiting word kinds after (awaits name) = (takes_text name ≡ true) × (kinds ≡ settle_fault c false (held rows pen))
     × (after ≡ standing (settled_rows c pen rows) (Some (name, [])) (option name) false)
-TurnIs c rows pen waiting word kinds after (gives name text) = (is_option name ≡ true)
-    × ((default : Text) × (kinds ≡ or_else (settle_fault c false (held rows pen)) (use_fault false (built_rule (name, default)) (text ∷ []) (settled_rows c pen rows)))
-    × (after ≡ standing (used (built_rule (name, default)) (text ∷ []) (settled_rows c pen rows)) None idle false))
+TurnIs c rows pen waiting word kinds after (gives name text) = HasText name text
+    × (kinds ≡ or_else (settle_fault c false (held rows pen)) (given_fault name text (settled_rows c pen rows)))
+    × (after ≡ standing (given_rows name text (settled_rows c pen rows)) None idle false)
 TurnIs c rows pen waiting word kinds after asks = kinds ≡ or_else (settle_fault c false (held rows pen)) (DisplayHelp ∷ [])
 TurnIs c rows pen waiting word kinds after ends = (kinds ≡ []) × (after ≡ standing rows pen waiting true)
 TurnIs c rows pen waiting word kinds after plain =
@@ -67,6 +106,35 @@ pub or_else-last : (ks : Kinds) (k : ErrorKind) (next : Kinds) → or_else (or_e
 or_else-last [] k next = refl
 or_else-last (x ∷ ks) k next = refl
 
+-- an option that takes a text is not the flag
+pub not_flag_text : (name text : Text) → takes_text name ≡ true → HasText name text
+not_flag_text name text takes hit =
+    let bad : false ≡ true = subst (λ (n : Text). takes_text n ≡ true) (sym ((bytes_eq-Decides (codes "create") name).0 hit)) takes in
+    cc
+
+-- an option that was given before, and else a text that is none for it
+repeat_or : (b d : Bool) → or_else (cond (b && true) (ArgumentConflict ∷ []) []) (or_else (cond d [] (ValueValidation ∷ [])) [])
+    ≡ cond b (ArgumentConflict ∷ []) (cond d [] (ValueValidation ∷ []))
+repeat_or false false = refl
+repeat_or false true = refl
+repeat_or true d = refl
+
+-- one use of an option with a text
+pub use_is : (c : List Rule) (name text : Text) (k : TakesText c name) (rows : List Row)
+    → use_fault false (taking name k.defaults k.parser) (text ∷ []) rows ≡ given_fault name text rows
+use_is c name text k rows =
+    ap (λ (ks : Kinds). or_else (cond (has_row name rows && true) (ArgumentConflict ∷ []) []) (or_else ks [])) (k.checks text)
+    ∙ repeat_or (has_row name rows) (fits name text)
+
+-- and what is found then
+pub used_is : (c : List Rule) (name text : Text) (k : TakesText c name) (rows : List Row)
+    → used (taking name k.defaults k.parser) (text ∷ []) rows ≡ given_rows name text rows
+used_is c name text k rows = ap (λ (how : Reading). with_values name how CommandLine (text ∷ []) (without name rows)) k.reads
+
+-- one use of the flag
+flag_fault : (rows : List Row) → use_fault false built_create [] rows ≡ given_fault (codes "create") (codes "true") rows
+flag_fault rows = repeat_or (has_row (codes "create") rows) true
+
 module _ (c : List Rule) (facts : HasOptions c) (rows : List Row) (pen : Pending) (waiting : Waiting) (word : Text) where
   abbrev here : Held
   here = held rows pen
@@ -86,58 +154,85 @@ module _ (c : List Rule) (facts : HasOptions c) (rows : List Row) (pen : Pending
   met_long o v = after_flag c waiting word (long_met c o v here).0 (long_met c o v here).1
 
   -- `--name=text` of an option
-  gives_turn : (name text default : Text) (o : Option Rule) → is_option name ≡ true → Some (built_rule (name, default)) ≡ o
+  gives_turn : (name text : Text) (k : TakesText c name) (o : Option Rule) → takes_text name ≡ true → Some (taking name k.defaults k.parser) ≡ o
       → Turn (long_fault c false o (Some text) here) (met_long o (Some text)) (gives name text)
-  gives_turn name text default o is e =
+  gives_turn name text k o is e =
+      let settled = settled_rows c pen rows in
       subst (λ (r : Option Rule). Turn (long_fault c false r (Some text) here) (met_long r (Some text)) (gives name text))
-      e (is, (default, or_else-none _, refl))
+      e (
+        not_flag_text name text is,
+        or_else-none _ ∙ ap (or_else (settle_fault c false here)) (use_is c name text k settled),
+        ap (λ (rs : List Row). standing rs None idle false) (used_is c name text k settled),
+      )
 
   -- `--name` of an option
-  awaits_turn : (name default : Text) (o : Option Rule) → is_option name ≡ true → Some (built_rule (name, default)) ≡ o
+  awaits_turn : (name : Text) (k : TakesText c name) (o : Option Rule) → takes_text name ≡ true → Some (taking name k.defaults k.parser) ≡ o
       → Turn (long_fault c false o None here) (met_long o None) (awaits name)
-  awaits_turn name default o is e =
+  awaits_turn name k o is e =
       subst (λ (r : Option Rule). Turn (long_fault c false r None here) (met_long r None) (awaits name))
       e (is, or_else-none _, refl)
+
+  -- `--create`
+  create_turn : (name : Text) (o : Option Rule) → codes "create" ≡ name → Some built_create ≡ o
+      → Turn (long_fault c false o None here) (met_long o None) (gives name (codes "true"))
+  create_turn name o same e =
+      subst (λ (n : Text). Turn (long_fault c false o None here) (met_long o None) (gives n (codes "true"))) same
+      (subst (λ (r : Option Rule). Turn (long_fault c false r None here) (met_long r None) (gives (codes "create") (codes "true"))) e (
+        λ _. refl,
+        or_else-none _ ∙ ap (or_else (settle_fault c false here)) (flag_fault (settled_rows c pen rows)),
+        refl,
+      ))
 
   -- a name that there is not
   unknown_turn : (v : Option Text) (o : Option Rule) (met : Held × Step) → None ≡ o → Turn (long_fault c false o v here) met unknown
   unknown_turn v o met e = subst (λ (r : Option Rule). Turn (long_fault c false r v here) met unknown) e (UnknownArgument, refl, refl)
 
-  -- `--help` with a text
-  unneeded_turn : (text : Text) (o : Option Rule) (met : Held × Step) → Some built_help ≡ o → Turn (long_fault c false o (Some text) here) met unknown
-  unneeded_turn text o met e = subst (λ (r : Option Rule). Turn (long_fault c false r (Some text) here) met unknown) e (TooManyValues, refl, refl)
+  -- a flag with a text
+  unneeded_turn : (text : Text) (o : Option Rule) (flag : Rule) (met : Held × Step) → takes_values flag ≡ false → Some flag ≡ o
+      → Turn (long_fault c false o (Some text) here) met unknown
+  unneeded_turn text o flag met takes_none e =
+      subst (λ (r : Option Rule). Turn (long_fault c false r (Some text) here) met unknown) e (
+        TooManyValues,
+        ap (λ (b : Bool). fault_with (cond b (option_fault c false flag (Some text) here) (TooManyValues ∷ [])) met) takes_none,
+        refl,
+      )
 
   -- `--help`
   help_turn : (o : Option Rule) (met : Held × Step) → Some built_help ≡ o → Turn (long_fault c false o None here) met asks
   help_turn o met e = subst (λ (r : Option Rule). Turn (long_fault c false r None here) met asks) e (or_else-last _ DisplayHelp _)
 
-  help_at : (name : Text) → bytes_eq (codes "help") name ≡ true → Some built_help ≡ arg_by_long c name
-  help_at name hit = subst (λ (n : Text). Some built_help ≡ arg_by_long c n) ((bytes_eq-Decides (codes "help") name).0 hit) (sym facts.help)
+  flag_at : (flag name : Text) (a : Rule) → bytes_eq flag name ≡ true → arg_by_long c flag ≡ Some a → Some a ≡ arg_by_long c name
+  flag_at flag name a hit known = subst (λ (n : Text). Some a ≡ arg_by_long c n) ((bytes_eq-Decides flag name).0 hit) (sym known)
 
-  other_with : (name text : Text) (b : Bool) (met : Held × Step) → bytes_eq (codes "help") name ≡ b → is_option name ≡ false
+  other_with : (name text : Text) (b d : Bool) (met : Held × Step) → bytes_eq (codes "create") name ≡ b → bytes_eq (codes "help") name ≡ d → takes_text name ≡ false
       → Turn (long_fault c false (arg_by_long c name) (Some text) here) met unknown
-  other_with name text false met other is = unknown_turn (Some text) (arg_by_long c name) met (sym (facts.others name is other))
-  other_with name text true met hit is = unneeded_turn text (arg_by_long c name) met (help_at name hit)
+  other_with name text true d met hit other is = unneeded_turn text (arg_by_long c name) built_create met refl (flag_at (codes "create") name built_create hit facts.create)
+  other_with name text false true met other hit is = unneeded_turn text (arg_by_long c name) built_help met refl (flag_at (codes "help") name built_help hit facts.help)
+  other_with name text false false met no_create no_help is = unknown_turn (Some text) (arg_by_long c name) met (sym (facts.others name is no_create no_help))
 
-  other_alone : (name : Text) (b : Bool) (met : Held × Step) → bytes_eq (codes "help") name ≡ b → is_option name ≡ false
-      → Turn (long_fault c false (arg_by_long c name) None here) met (cond b asks unknown)
-  other_alone name false met other is = unknown_turn None (arg_by_long c name) met (sym (facts.others name is other))
-  other_alone name true met hit is = help_turn (arg_by_long c name) met (help_at name hit)
+  other_alone : (name : Text) (b d : Bool) → bytes_eq (codes "create") name ≡ b → bytes_eq (codes "help") name ≡ d → takes_text name ≡ false
+      → Turn (long_fault c false (arg_by_long c name) None here) (met_long (arg_by_long c name) None) (cond b (gives name (codes "true")) (cond d asks unknown))
+  other_alone name true d hit other is =
+      create_turn name (arg_by_long c name) ((bytes_eq-Decides (codes "create") name).0 hit) (flag_at (codes "create") name built_create hit facts.create)
+  other_alone name false true other hit is = help_turn (arg_by_long c name) (met_long (arg_by_long c name) None) (flag_at (codes "help") name built_help hit facts.help)
+  other_alone name false false no_create no_help is =
+      unknown_turn None (arg_by_long c name) (met_long (arg_by_long c name) None) (sym (facts.others name is no_create no_help))
 
-  long_with : (name text : Text) (b : Bool) → is_option name ≡ b
+  long_with : (name text : Text) (b : Bool) → takes_text name ≡ b
       → Turn (long_fault c false (arg_by_long c name) (Some text) here) (met_long (arg_by_long c name) (Some text)) (cond b (gives name text) unknown)
-  long_with name text true is = let k = facts.known name is in gives_turn name text k.0 (arg_by_long c name) is (sym k.1)
-  long_with name text false is = other_with name text (bytes_eq (codes "help") name) (met_long (arg_by_long c name) (Some text)) refl is
+  long_with name text true is = let k = facts.known name is in gives_turn name text k (arg_by_long c name) is (sym k.by_long)
+  long_with name text false is =
+      other_with name text (bytes_eq (codes "create") name) (bytes_eq (codes "help") name) (met_long (arg_by_long c name) (Some text)) refl refl is
 
-  long_alone : (name : Text) (b : Bool) → is_option name ≡ b
-      → Turn (long_fault c false (arg_by_long c name) None here) (met_long (arg_by_long c name) None) (cond b (awaits name) (cond (bytes_eq (codes "help") name) asks unknown))
-  long_alone name true is = let k = facts.known name is in awaits_turn name k.0 (arg_by_long c name) is (sym k.1)
-  long_alone name false is = other_alone name (bytes_eq (codes "help") name) (met_long (arg_by_long c name) None) refl is
+  long_alone : (name : Text) (b : Bool) → takes_text name ≡ b
+      → Turn (long_fault c false (arg_by_long c name) None here) (met_long (arg_by_long c name) None) (cond b (awaits name) (sort_of_flag name))
+  long_alone name true is = let k = facts.known name is in awaits_turn name k (arg_by_long c name) is (sym k.by_long)
+  long_alone name false is = other_alone name (bytes_eq (codes "create") name) (bytes_eq (codes "help") name) refl refl is
 
   long_turn : (name : Text) (v : Option Text)
       → Turn (long_fault c false (arg_by_long c name) v here) (met_long (arg_by_long c name) v) (sort_of_long name v)
-  long_turn name (Some text) = long_with name text (is_option name) refl
-  long_turn name None = long_alone name (is_option name) refl
+  long_turn name (Some text) = long_with name text (takes_text name) refl
+  long_turn name None = long_alone name (takes_text name) refl
 
   -- `-h`, alone or in front of more
   short_by : (b : Bool) (o : Option Rule) (rest : Text) (next : Held → Kinds) (met : Held × Step) → cond b (Some built_help) None ≡ o

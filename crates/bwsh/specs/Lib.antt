@@ -1,5 +1,6 @@
 pub mod BatchFile
 pub mod CommandLine
+pub mod FileDisk
 pub mod Line
 pub mod Number
 pub mod Options

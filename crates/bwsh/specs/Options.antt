@@ -1,5 +1,5 @@
 -- What the words of the command line ask for.
-use Rattle.std.specs.Prelude.{◌≡◌, ◌⊎◌, ◌==◌, ℕ, Bool, true, false, List, [], ◌∷◌, ◌++◌, Option, Some, None, if◌then◌else◌, unwrap_or, option_map, find, slice_get, map, string_bytes, String, codes, pos}
+use Rattle.std.specs.Prelude.{◌≡◌, ◌⊎◌, ◌==◌, ◌||◌, ℕ, Bool, true, false, not, List, [], ◌∷◌, ◌++◌, Option, Some, None, if◌then◌else◌, unwrap_or, option_map, find, slice_get, map, string_bytes, String, codes, pos}
 use Rattle.std.specs.List.{list_any}
 use Rattle.std.specs.Str.{bytes_eq, chars}
 use Rattle.std.specs.Str.Parse.{digits_value, without_leading_sign}
@@ -10,6 +10,7 @@ use Rattle.clap.specs.ValueTests.{is_signed_in}
 use Rattle.clap.specs.declared.error.kind.ErrorKind.{ErrorKind}
 use Rattle.clap.specs.declared.error.kind.ErrorKind.TheVariants.{InvalidValue, UnknownArgument, ValueValidation, TooManyValues, ArgumentConflict, DisplayHelp, OutOfMemory}
 use Rattle.keys.specs.Bytes.{Bytes}
+use Rattle.bwsh.specs.declared.options.asked.Options.{Options}
 
 -- a text, as its bytes
 abbrev pub Text : Type 0
@@ -20,16 +21,24 @@ abbrev pub texts : List (String Global) → List Text
 texts = map string_bytes
 
 -- the options that take a number
-abbrev pub option_names : List Text
-option_names = codes "fan" ∷ codes "chain" ∷ codes "max-key" ∷ codes "max-value" ∷ codes "seg-size" ∷ codes "segments" ∷ []
+abbrev pub number_names : List Text
+number_names = codes "fan" ∷ codes "chain" ∷ codes "max-key" ∷ codes "max-value" ∷ codes "seg-size" ∷ codes "segments" ∷ []
 
--- the name is one of theirs
-abbrev pub is_option : Text → Bool
-is_option name = list_any (λ known. bytes_eq known name) option_names
+-- the option takes a number
+abbrev pub takes_number : Text → Bool
+takes_number name = list_any (λ known. bytes_eq known name) number_names
+
+-- the option takes a text: a number, or the path of the file in which the store is
+abbrev pub takes_text : Text → Bool
+takes_text name = takes_number name || bytes_eq (codes "disk") name
 
 -- the text is a whole number from 0 to 4294967295, in digits behind a sign or none
 abbrev pub is_number : Text → Bool
 is_number text = is_signed_in (pos 0) (pos 4294967295) text
+
+-- the text is one for the option: where that takes a number, it is a number
+abbrev pub fits : Text → Text → Bool
+fits name text = not (takes_number name) || is_number text
 
 -- the number that a text with or without a sign writes
 abbrev pub number_of : Text → ℕ
@@ -45,10 +54,14 @@ pub data Sort : Type 0 where
   plain : Sort
   unknown : Sort
 
+-- `--name` of what takes no text: `--create` is as an option with the text `true`
+abbrev pub sort_of_flag : Text → Sort
+sort_of_flag name = if bytes_eq (codes "create") name then gives name (codes "true") else (if bytes_eq (codes "help") name then asks else unknown)
+
 -- `--name`, or `--name=text`
 abbrev pub sort_of_long : Text → Option Text → Sort
-sort_of_long name (Some text) = if is_option name then gives name text else unknown
-sort_of_long name None = if is_option name then awaits name else (if bytes_eq (codes "help") name then asks else unknown)
+sort_of_long name (Some text) = if takes_text name then gives name text else unknown
+sort_of_long name None = if takes_text name then awaits name else sort_of_flag name
 
 -- `-x`, by the first character behind the hyphen, where only `h` (104) is known; in a text there always is one
 abbrev pub sort_of_short : Option ℕ → Sort
@@ -65,7 +78,7 @@ sort_by None None = plain
 abbrev pub sort_of : Text → Sort
 sort_of word = if bytes_eq word (codes "--") then ends else sort_by (long_of word) (short_of word)
 
--- the options that were given, each with the text of its number
+-- the options that were given, each with its text
 abbrev pub Given : Type 0
 Given = List (Text × Text)
 
@@ -73,20 +86,20 @@ Given = List (Text × Text)
 abbrev pub is_given : Text → Given → Bool
 is_given name given = list_any (λ g. bytes_eq g.0 name) given
 
--- what words come to: settings, help, or a refusal
+-- what words come to: options, help, or a refusal
 pub data Asked : Type 0 where
-  settings : Given → Asked
+  options : Given → Asked
   help : Asked
   refused : Asked
 
--- an option is given its text, and the rest comes to what `next` says; no option is given twice, or no number
+-- an option is given its text, and the rest comes to what `next` says; no option is given twice, or a text that is none for it
 abbrev pub taken : Text → Text → Given → (Given → Asked) → Asked
 taken name text given next = if is_given name given then refused
-    else (if is_number text then next (given ++ (name, text) ∷ []) else refused)
+    else (if fits name text then next (given ++ (name, text) ∷ []) else refused)
 
 -- behind `--` nothing stands
 abbrev pub at_end : List Text → Given → Asked
-at_end [] given = settings given
+at_end [] given = options given
 at_end (word ∷ rest) given = refused
 
 -- a word where no option waits for its text, and one where this option does, and so takes the word
@@ -102,7 +115,7 @@ asked_by (Some name) _ word rest given next = refused
 
 -- what the words come to, behind what was given before, where this option waits for its text or none does
 abbrev pub asked_from : List Text → Option Text → Given → Asked
-asked_from [] None given = settings given
+asked_from [] None given = options given
 asked_from [] (Some name) given = refused
 asked_from (word ∷ rest) waiting given = asked_by waiting (sort_of word) word rest given (asked_from rest)
 
@@ -125,9 +138,27 @@ settings_of given = record {
   segments = number_or 64 (codes "segments") given;
 }
 
--- the words ask for these settings
-abbrev pub AsksForSettings : List Text → Settings → Type 0
-AsksForSettings words s = (given : Given) × (asked words ≡ settings given) × (s ≡ settings_of given)
+-- the path that was given, if one was
+abbrev pub disk_of : Given → Option Text
+disk_of given = option_map (λ g. g.1) (find (λ g. bytes_eq g.0 (codes "disk")) given)
+
+-- what words ask for: the six settings, the file in which the store is, if it is in one, and whether that file is made anew
+pub record Told : Type 0 where
+  pub settings : Settings
+  pub disk : Option Text
+  pub create : Bool
+
+-- what was given asks for this
+abbrev pub told_by : Given → Told
+told_by given = record { settings = settings_of given; disk = disk_of given; create = is_given (codes "create") given }
+
+-- the words ask for these
+abbrev pub AsksFor : List Text → Told → Type 0
+AsksFor words told = (given : Given) × (asked words ≡ options given) × (told ≡ told_by given)
+
+-- what the options of the code say, as text
+abbrev pub told_of : Options → Told
+told_of o = record { settings = o.settings; disk = option_map string_bytes o.disk; create = o.create }
 
 -- the words ask for help
 abbrev pub AsksForHelp : List Text → Type 0

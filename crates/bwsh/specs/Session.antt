@@ -1,5 +1,5 @@
--- What a session runs and prints, and how it ends.
-use Rattle.std.specs.Prelude.{◌≡◌, ◌⊎◌, ℕ, List, [], ◌∷◌, ◌++◌, map, is_some, codes, replicate, if◌then◌else◌, Option, Some, None, IfSome, Result, Ok, Err}
+-- What a session starts on, what it runs and prints, and how it ends.
+use Rattle.std.specs.Prelude.{◌≡◌, ◌⊎◌, ℕ, Bool, true, false, List, [], ◌∷◌, ◌++◌, map, is_some, codes, replicate, if◌then◌else◌, Option, Some, None, IfSome, Result, Ok, Err}
 use Rattle.std.specs.Option.{option_map, option_or}
 use Rattle.std.specs.Fmt.{decimal}
 use Rattle.std.specs.Io.KnownBytes.{Appends}
@@ -15,10 +15,9 @@ use Rattle.keys.specs.declared.fault.Fault.TheVariants.{BadSettings, NoMemory}
 use Rattle.mapping.specs.Tree.{Store}
 use Rattle.mapping.specs.Levels.{contents}
 use Rattle.verify.specs.Report.{report}
-use Rattle.flush_log.specs.Disk.{View}
 use Rattle.flush_log.specs.NewStore.{disk_of_new}
 use Rattle.flush_log.specs.Segments.{disk_size}
-use Rattle.recovery.specs.StoreOfDisk.{first_store}
+use Rattle.recovery.specs.StoreOfDisk.{first_store, store_of_disk}
 use Rattle.engine.specs.State.{State}
 use Rattle.engine.specs.Steps.{Step, Stepped, batching, after_step}
 use Rattle.bwsh.specs.declared.line.Why.{Why}
@@ -31,7 +30,7 @@ use Rattle.bwsh.specs.declared.session.Ending.TheVariants.{Words, Bad, Device}
 use Rattle.bwsh.specs.declared.session.Ending.TheVariants as endings
 use Rattle.bwsh.specs.BatchFile.{text_says, first_bad, orders_of}
 use Rattle.bwsh.specs.Line.{why_text}
-use Rattle.bwsh.specs.Options.{AsksForSettings, AsksForHelp, AreRefused}
+use Rattle.bwsh.specs.Options.{Text, Told, AsksFor, AsksForHelp, AreRefused}
 use Rattle.bwsh.specs.Shown.{shown_reply, shown_flushed, shown_report}
 
 -- the exit status of a session that ends before all is done
@@ -71,12 +70,42 @@ ending_by faults.Memory = endings.Fault NoMemory
 abbrev pub Stored : Type 0
 Stored = Store × Bytes
 
-abbrev pub stored : {D : Type 0} → (D → View) → State D → Stored
-stored view x = (x.store, (view x.disk).seen)
+-- a new one under these settings, on a disk that had these bytes
+abbrev pub first_stored : Settings → Bytes → Stored
+first_stored settings file = (first_store, disk_of_new settings file)
 
--- a new one under these settings, whose disk was all zeros
-abbrev pub first_stored : Settings → Stored
-first_stored settings = (first_store, disk_of_new settings (replicate (disk_size settings) 0))
+-- what a session starts on: the settings and what is stored; or why there is none
+abbrev pub Start : Type 0
+Start = Result (Settings × Stored) Fault
+
+-- this under these settings, unless they have a bad field
+abbrev pub start_unless : Option Field → Settings → Stored → Start
+start_unless None settings at = Ok (settings, at)
+start_unless (Some field) settings at = Err (BadSettings field)
+
+-- a new store under these settings, on a disk that had these bytes
+abbrev pub new_start : Settings → Bytes → Start
+new_start settings file = start_unless (first_bad_field settings) settings (first_stored settings file)
+
+-- the store that the bytes of a disk stand for, with its own settings; or the fault that they have
+abbrev pub start_by : Bytes → Result (Settings × Store) Fault → Start
+start_by file (Ok p) = Ok (p.0, (p.1, file))
+start_by file (Err fault) = Err fault
+
+abbrev pub found_start : Bytes → Start
+found_start file = start_by file (store_of_disk file)
+
+-- this is a right start under these settings for a store that is kept in this file, if in one, which is made anew or is not. In
+-- memory it is a new store, on a disk of zeros; in a file that is made anew too, whatever bytes this had; else it is what the
+-- bytes of the file stand for, whichever they are.
+abbrev pub IsStartBy : Settings → Option Text → Bool → Start → Type 0
+IsStartBy settings None create start = start ≡ new_start settings (replicate (disk_size settings) 0)
+IsStartBy settings (Some path) true start = (file : Bytes) × (start ≡ new_start settings file)
+IsStartBy settings (Some path) false start = (file : Bytes) × (start ≡ found_start file)
+
+-- it is for what the words tell
+abbrev pub IsStart : Told → Start → Type 0
+IsStart told start = IsStartBy told.settings told.disk told.create start
 
 -- the step that an order is, if it is one
 abbrev pub step_in : Order → Option (Step Global)
@@ -134,9 +163,10 @@ answer_lines settings at m (order ∷ rest) =
 abbrev pub printed : Settings → Stored → Pairs Bytes → List Order → Bytes
 printed settings at m orders = flat (answer_lines settings at m orders)
 
--- all that the orders of a text print on a new store of these settings, were each accepted
-abbrev pub printed_by : Settings → Bytes → Bytes
-printed_by settings text = printed settings (first_stored settings) [] (orders_of [] (text_says text))
+-- all that the orders of a text print from this start, were each accepted: nothing, where there is no store
+abbrev pub printed_by : Start → Bytes → Bytes
+printed_by (Ok p) text = printed p.0 p.1 (contents p.1.0.tree) (orders_of [] (text_says text))
+printed_by (Err fault) text = []
 
 -- why a store refuses the first of the orders that it refuses, if there is one; each that is accepted leaves what is stored to the next
 abbrev pub first_refusal : Settings → Stored → List Order → Option Fault
@@ -157,32 +187,26 @@ stopped_by (Some early) = Err early
 abbrev pub orders_end : Settings → Stored → List Order → Result (Unit {0}) Ending
 orders_end settings at orders = stopped_by (option_map (λ fault. endings.Fault fault) (first_refusal settings at orders))
 
--- why no order is run, where the text has this first bad line, if it has one, and the settings this first bad field
-abbrev pub hindered_by : Option (ℕ × Why) → Option Field → Option Ending
-hindered_by (Some bad) field = Some (Bad bad.0 bad.1)
-hindered_by None field = option_map (λ f. endings.Fault (BadSettings f)) field
-
--- why no order of this text is run under these settings, if none is: a bad line, and else settings that are refused
-abbrev pub hindrance : Settings → Bytes → Option Ending
-hindrance settings text = hindered_by (first_bad 1 (text_says text)) (first_bad_field settings)
-
--- how a session ends by its right where this hinders it, if anything does, and else these orders are run
-abbrev pub end_after : Settings → Option Ending → List Order → Result (Unit {0}) Ending
-end_after settings (Some early) orders = Err early
-end_after settings None orders = orders_end settings (first_stored settings) orders
+-- how a session with this first bad line, if there is one, ends by its right, that starts so and would run these orders: a bad
+-- line goes before the fault of a start that has no store
+abbrev pub end_after : Option (ℕ × Why) → Start → List Order → Result (Unit {0}) Ending
+end_after (Some bad) start orders = Err (Bad bad.0 bad.1)
+end_after None (Err fault) orders = Err (endings.Fault fault)
+end_after None (Ok p) orders = orders_end p.0 p.1 orders
 
 -- the lines that it prints by its right
-abbrev pub lines_after : Settings → Option Ending → List Order → List Bytes
-lines_after settings (Some early) orders = []
-lines_after settings None orders = answer_lines settings (first_stored settings) [] (accepted settings (first_stored settings) orders)
+abbrev pub lines_after : Option (ℕ × Why) → Start → List Order → List Bytes
+lines_after (Some bad) start orders = []
+lines_after None (Err fault) orders = []
+lines_after None (Ok p) orders = answer_lines p.0 p.1 (contents p.1.0.tree) (accepted p.0 p.1 orders)
 
 -- how a session on this text ends by its right
-abbrev pub session_end : Settings → Bytes → Result (Unit {0}) Ending
-session_end settings text = end_after settings (hindrance settings text) (orders_of [] (text_says text))
+abbrev pub session_end : Start → Bytes → Result (Unit {0}) Ending
+session_end start text = end_after (first_bad 1 (text_says text)) start (orders_of [] (text_says text))
 
 -- the lines that a session on this text prints by its right
-abbrev pub session_lines : Settings → Bytes → List Bytes
-session_lines settings text = lines_after settings (hindrance settings text) (orders_of [] (text_says text))
+abbrev pub session_lines : Start → Bytes → List Bytes
+session_lines start text = lines_after (first_bad 1 (text_says text)) start (orders_of [] (text_says text))
 
 -- a session whose text has this first bad line, if it has one, can end so before anything is run
 abbrev pub IsReadEnding : Option (ℕ × Why) → Ending → Type 0
@@ -220,9 +244,23 @@ unfoldable pub Runs : Settings → Stored → List Order → Option Bytes → Op
 Runs settings at orders old new end =
     Prints old new (answer_lines settings at (contents at.0.tree) (accepted settings at orders)) (orders_end settings at orders) end
 
--- what a session prints under these settings, and how it ends, is right for a text, which is the known one, but for memory and devices
-unfoldable pub Answers : Settings → Option Bytes → Option Bytes → Option Bytes → Result (Unit {0}) Ending → Type 0
-Answers settings known old new end = (text : Bytes) × IfSome known (λ bytes. text ≡ bytes) × Prints old new (session_lines settings text) (session_end settings text) end
+-- what these orders print from this start, and how they end, is right but for memory and devices
+unfoldable pub RunsFrom : Start → List Order → Option Bytes → Option Bytes → Result (Unit {0}) Ending → Type 0
+RunsFrom start orders old new end = Prints old new (lines_after None start orders) (end_after None start orders) end
+
+-- a session that starts so can end so before anything is run
+abbrev pub IsUnopened : Start → Ending → Type 0
+IsUnopened start early = ((fault : Fault) × (start ≡ Err fault) × (early ≡ endings.Fault fault)) ⊎ (early ≡ endings.Fault NoMemory) ⊎ (early ≡ Device)
+
+-- the opening of a store for a session that starts so gives its settings and its store; or why there is none
+abbrev pub Opens : {D : Type 0} → Start → Result (State D) Ending → Type 0
+Opens start (Ok x) = (file : Bytes) × (start ≡ Ok (x.settings, (x.store, file)))
+Opens start (Err early) = IsUnopened start early
+
+-- what a session prints that is told this, and how it ends, is right for a text, which is the known one, and a start, but for memory and devices
+unfoldable pub Answers : Told → Option Bytes → Option Bytes → Option Bytes → Result (Unit {0}) Ending → Type 0
+Answers told known old new end =
+    (text : Bytes) × IfSome known (λ bytes. text ≡ bytes) × (start : Start) × IsStart told start × Prints old new (session_lines start text) (session_end start text) end
 
 -- a text is printed, but for memory and devices
 abbrev pub PrintsOneText : Option Bytes → Option Bytes → Result (Unit {0}) Ending → Type 0
@@ -234,11 +272,11 @@ IsForWords (Ok done) = ⊥
 IsForWords (Err (Words error)) = Unit {0}
 IsForWords (Err _) = ⊥
 
--- how a session with these words ends and what it prints, but for memory and devices: as it should under the settings that they tell; or
+-- how a session with these words ends and what it prints, but for memory and devices: as it should for what they tell; or
 -- with nothing read, and help where they ask for it; or with nothing printed either, where they are refused
 abbrev pub EndsBy : List Bytes → Option Bytes → Option Bytes → Option Bytes → Type 0 → Type 0 → Result (Unit {0}) Ending → Type 0
 EndsBy words known old new unread untouched end =
-    ((settings : Settings) × AsksForSettings words settings × Answers settings known old new end)
+    ((told : Told) × AsksFor words told × Answers told known old new end)
     ⊎ (unread × AsksForHelp words × PrintsOneText old new end)
     ⊎ (unread × untouched × ((AreRefused words × IsForWords end) ⊎ (end ≡ Err (endings.Fault NoMemory))))
 

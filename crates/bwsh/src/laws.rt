@@ -6,12 +6,13 @@ ghost use Rattle.keys.specs.Bytes.{Bytes, Pairs};
 ghost use Rattle.keys.specs.declared.command.Command.{Command};
 ghost use Rattle.keys.specs.Step.{replies_to, map_after_all};
 ghost use Rattle.keys.specs.declared.settings.Settings.{Settings};
+ghost use Rattle.mapping.specs.Tree.{Store};
 ghost use Rattle.verify.specs.Report.{report};
 ghost use Rattle.bwsh.specs.declared.batch_file.Order.{Order};
 ghost use Rattle.bwsh.specs.declared.batch_file.Order.TheVariants.{Batch, Flush, Verify};
 ghost use Rattle.bwsh.specs.declared.line.Says.{Says};
 ghost use Rattle.bwsh.specs.BatchFile.{orders_of, commands_of, commands_said, batch_lines, IsBatch, IsForBatches};
-ghost use Rattle.bwsh.specs.Session.{Stored, printed, behind};
+ghost use Rattle.bwsh.specs.Session.{Stored, accepted, answer_lines, behind, orders_end, printed};
 ghost use Rattle.bwsh.specs.Shown.{shown_reply, shown_flushed, shown_report};
 ghost use Rattle.bwsh.specs.Token.{token_bytes, shown_token};
 ghost use Rattle.bwsh.specs.Words.{words_of};
@@ -57,4 +58,15 @@ pub fn the_commands_are_answered_in_order()
         printed settings at m orders ≡ flat_map shown_reply (replies_to m (flat_map commands_of orders)) }
     ensures lines { (settings : Settings) → (at : Stored) → (said : List Says) → All IsForBatches said →
         printed settings at [] (orders_of [] said) ≡ flat_map shown_reply (replies_to [] (commands_said said)) }
+{}
+
+/// What orders answer, which of them are accepted and how they end doesn't depend on the bytes of the disk: it makes no difference
+/// which these are said to be, but where a store is read of them.
+pub fn the_bytes_of_the_disk_do_not_matter()
+    ensures lines { (settings : Settings) → (st : Store) → (file other : Bytes) → (m : Pairs Bytes) → (orders : List Order) →
+        answer_lines settings (st, file) m orders ≡ answer_lines settings (st, other) m orders }
+    ensures accepted { (settings : Settings) → (st : Store) → (file other : Bytes) → (orders : List Order) →
+        accepted settings (st, file) orders ≡ accepted settings (st, other) orders }
+    ensures end { (settings : Settings) → (st : Store) → (file other : Bytes) → (orders : List Order) →
+        orders_end settings (st, file) orders ≡ orders_end settings (st, other) orders }
 {}

@@ -1,7 +1,8 @@
-//! `bwsh`: reads a batch file from standard input, runs it on a new store, and prints what it answers.
+//! `bwsh`: reads a batch file from standard input, runs it on a store, and prints what it answers.
 #![tactic(auto)]
 
 pub mod batch_file;
+pub mod file_disk;
 pub mod laws;
 pub mod line;
 pub mod number;

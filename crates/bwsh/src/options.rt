@@ -1,20 +1,23 @@
-//! The words of the command line: the settings of the store.
-ghost use Rattle.std.specs.Prelude.{◌≡◌, IfOk, IfErr, Some, false, true};
+//! The words of the command line: the settings of the store, and the file that it is in.
+ghost use Rattle.std.specs.Prelude.{◌≡◌, IfOk, IfErr, Some, codes, false, option_map, string_bytes, true};
 ghost use Rattle.clap.specs.Words.{FailsBy, app_of, fault_of, found_of, kind_of, matches_of, one_of, rows_of, rule_of, without_minus};
-ghost use Rattle.bwsh.specs.Options.{Given, IsRightKind, AsksForSettings, Text, is_number, number_of, settings_of, texts};
-ghost use Rattle.bwsh.specs.CommandLine.{AreNumbers, bwsh, finished_rows, number_rule};
+ghost use Rattle.bwsh.specs.Options.{AsksFor, Given, IsRightKind, Text, disk_of, is_given, is_number, number_of, settings_of, texts, told_of};
+ghost use Rattle.bwsh.specs.CommandLine.{AreGivable, bwsh, finished_rows, flag_rule, number_rule, text_rule};
 
 mod asked;
 #[cfg(test)]
 mod tests;
 
 pub use asked::Options;
-use clap::{Arg, ArgMatches, Command, Error, value_parser};
+use clap::{Arg, ArgAction, ArgMatches, Command, Error, value_parser};
 use keys::Settings;
 use std::alloc::{AllocError, Global};
 
 // What the help says behind the options.
 const AFTER_HELP: &str = "\
+A store in a file has the settings with which the file was made. Those of the command line are for a
+store in memory, and for a file that is made anew; otherwise they are ignored.
+
 Lines of the batch file:
   put K V           Stores the value V under the key K
   add K V           Stores V under K, if nothing stands there
@@ -51,12 +54,34 @@ fn number<'a>(alloc: Global, name: &'a str, default: &'a str, help: &'a str) -> 
         .help(help)
 }
 
+// An option that takes the path of a file.
+fn path<'a>(alloc: Global, name: &'a str, help: &'a str) -> Arg<'a>
+    ensures rule { rule_of result ≡ text_rule name.entry.now }
+    ensures local { result.global ≡ false }
+{
+    Arg::new(alloc, name)
+        .long(name)
+        .value_name("PATH")
+        .help(help)
+}
+
+// An option that takes nothing.
+fn flag<'a>(alloc: Global, name: &'a str, help: &'a str) -> Arg<'a>
+    ensures rule { rule_of result ≡ flag_rule name.entry.now }
+    ensures local { result.global ≡ false }
+{
+    Arg::new(alloc, name)
+        .long(name)
+        .action(ArgAction::SetTrue)
+        .help(help)
+}
+
 // The command line of `bwsh`.
 fn command<'a>(alloc: Global) -> Result<Command<'a>, AllocError>
     ensures { IfOk result (λ c. app_of c ≡ bwsh) }
 {
     Command::new(alloc, "bwsh")
-        .about("Runs the batch file on standard input on a new store, and prints the replies")
+        .about("Runs the batch file on standard input on a store, and prints the replies")
         .after_help(AFTER_HELP)
         .no_binary_name(true)
         .arg(number(
@@ -80,7 +105,17 @@ fn command<'a>(alloc: Global) -> Result<Command<'a>, AllocError>
             "Bytes of a segment of the log, 256 to 1048576; \
             it has to hold a full page of the greatest keys and values",
         ))?
-        .arg(number(alloc, "segments", "64", "Segments of the log, 3 to 65536"))
+        .arg(number(alloc, "segments", "64", "Segments of the log, 3 to 65536"))?
+        .arg(path(
+            alloc,
+            "disk",
+            "File that holds the store; without it the store is in memory and ends with the program",
+        ))?
+        .arg(flag(
+            alloc,
+            "create",
+            "Makes the file anew, with the settings of this command line; what it held is lost",
+        ))
 }
 
 // What clap finds in the words.
@@ -91,7 +126,7 @@ fn parse<'a>(alloc: Global, words: &'a [String]) -> Result<ArgMatches<'a>, Error
     command(alloc)?.try_get_matches_from(words)
 }
 
-// The number that was found under the name: each option has a default, so there is always one.
+// The number that was found under the name: each option that takes one has a default, so there is always one.
 fn number_at(matches: &ArgMatches<'_>, name: &str) -> u32
     ensures { (text : Text) → is_number text ≡ true → one_of name.now (rows_of (found_of matches.now)) ≡ Some (without_minus text)
         → result ≡ number_of text }
@@ -101,7 +136,7 @@ fn number_at(matches: &ArgMatches<'_>, name: &str) -> u32
 
 // The settings that were found.
 fn settings(matches: &ArgMatches<'_>) -> Settings
-    ensures { (given : Given) → AreNumbers given → rows_of (found_of matches.now) ≡ finished_rows given → result ≡ settings_of given }
+    ensures { (given : Given) → AreGivable given → rows_of (found_of matches.now) ≡ finished_rows given → result ≡ settings_of given }
 {
     Settings {
         fan: number_at(matches, "fan"),
@@ -113,15 +148,36 @@ fn settings(matches: &ArgMatches<'_>) -> Settings
     }
 }
 
+// A copy of the path that was found, if one was.
+fn disk(alloc: Global, matches: &ArgMatches<'_>) -> Result<Option<String>, AllocError>
+    ensures { (given : Given) → rows_of (found_of matches.now) ≡ finished_rows given
+        → IfOk result (λ disk. option_map string_bytes disk ≡ disk_of given) }
+{
+    match matches.get_str("disk") {
+        Some(path) => Ok(Some(String::from_str(alloc, path)?)),
+        None => Ok(None),
+    }
+}
+
+// Whether the file is to be made anew.
+fn create(matches: &ArgMatches<'_>) -> bool
+    ensures { (given : Given) → AreGivable given → rows_of (found_of matches.now) ≡ finished_rows given → result ≡ is_given (codes "create") given }
+{
+    matches.get_flag("create")
+}
+
 /// Reads the words behind the program's name: `[--fan N] [--chain N] [--max-key N] [--max-value N] [--seg-size N]
-/// [--segments N]`, in any order, `--fan=N` too, and `--help` or `-h`. What is not given has its default. Whether the
-/// numbers are in range is for `Settings::check` to say.
+/// [--segments N] [--disk PATH] [--create]`, in any order, `--fan=N` too, and `--help` or `-h`. A number that is not
+/// given has its default. Whether the numbers are in range is for `Settings::check` to say.
 pub fn options(alloc: Global, words: &[String]) -> Result<Options, Error>
-    ensures ok { IfOk result (λ o. AsksForSettings (texts words.now) o.settings) }
+    ensures ok { IfOk result (λ o. AsksFor (texts words.now) (told_of o)) }
     ensures err { IfErr result (λ e. IsRightKind (texts words.now) (kind_of e)) }
 {
     let matches = parse(alloc, words)?;
+    let disk = disk(alloc, &matches)?;
     Ok(Options {
         settings: settings(&matches),
+        disk,
+        create: create(&matches),
     })
 }

@@ -7,7 +7,7 @@ ghost use Rattle.bwsh.specs.Session.{unread_text, IsBegun, EndsTold};
 
 use crate::session::{session, unread_words};
 use std::io::{ErrorKind, Read, Write};
-use std::rt::Env;
+use std::rt::{Env, Files};
 use std::thread::Threads;
 use std::{env, io};
 
@@ -29,7 +29,7 @@ fn behind_name(words: &[String]) -> &[String]
 /// Does what all these words of the command line ask for, of which the first is the program's name, and returns the
 /// exit status of the session. Where they cannot be read, that alone is told, and the status is that of
 /// `unread_words`.
-pub fn run_words<R: AllocGlobal + Threads + Sync, I: Read, O: Write, E: Write>(
+pub fn run_words<R: AllocGlobal + Threads + Sync + Files, I: Read, O: Write, E: Write>(
     rt: &R,
     words: io::Result<Vec<String>>,
     input: &mut I,
@@ -54,7 +54,7 @@ pub fn run_words<R: AllocGlobal + Threads + Sync, I: Read, O: Write, E: Write>(
 
 /// Does what the words of the command line ask for, and returns the exit status. No clause of the library says which
 /// words an environment gives; a session with some words ends so, or they cannot be read.
-pub fn run_program<R: Env + AllocGlobal + Threads + Sync, I: Read, O: Write, E: Write>(
+pub fn run_program<R: Env + AllocGlobal + Threads + Sync + Files, I: Read, O: Write, E: Write>(
     rt: &R,
     input: &mut I,
     out: &mut O,

@@ -1,5 +1,5 @@
-//! A session: the batch file is read, and run on a new store of the settings that the command line tells.
-ghost use Rattle.std.specs.Prelude.{false, IsTrue, IfErr, MatchOption, ◌≡◌, ◌≢◌, ◌↔◌, ◌⊎◌, ℕ, [], ◌∷◌, ◌++◌, map, None, Some, IfSome, Result, Ok, Err, IfOk, OnOk, OnErr, IsOkUnless, MatchResult, take, length, ◌≤◌};
+//! A session: the batch file is read, and run on the store that the command line tells: a new one in memory, or one in a file.
+ghost use Rattle.std.specs.Prelude.{false, ◌≡◌, ◌≢◌, ◌↔◌, ◌⊎◌, ℕ, [], ◌∷◌, ◌++◌, map, None, Some, IfSome, Result, Ok, Err, IsOk, IfOk, OnOk, OnErr, IsOkUnless, MatchResult, take, length, ◌≤◌};
 ghost use Rattle.std.specs.List.{flat_map};
 ghost use Rattle.std.specs.String.{string_bytes};
 ghost use Rattle.std.specs.IoError.{error_kind};
@@ -9,28 +9,30 @@ ghost use Rattle.clap.specs.declared.error.kind.ErrorKind.TheVariants.{DisplayHe
 ghost use Rattle.keys.specs.Bytes.{Bytes};
 ghost use Rattle.keys.specs.Limits.{first_bad_field};
 ghost use Rattle.keys.specs.declared.fault.Fault.TheVariants.{NoMemory};
-ghost use Rattle.mapping.specs.Levels.{contents};
-ghost use Rattle.flush_log.specs.Disk.{Kept};
+ghost use Rattle.flush_log.specs.Segments.{disk_size};
 ghost use Rattle.engine.specs.Plays.{step_of, answer_of};
 ghost use Rattle.bwsh.specs.declared.session.Ending.{Ending};
 ghost use Rattle.bwsh.specs.declared.session.Ending.TheVariants.{Device};
 ghost use Rattle.bwsh.specs.declared.session.Ending.TheVariants as endings;
 ghost use Rattle.bwsh.specs.BatchFile.{text_says, first_bad, orders_of};
-ghost use Rattle.keys.specs.declared.settings.Settings.{Settings};
-ghost use Rattle.bwsh.specs.Options.{AsksForSettings, AsksForHelp, AreRefused};
-ghost use Rattle.bwsh.specs.Session.{status_of, status_of_end, ending_text, unread_text, ending_by, printed_by, BeginsWith, IsBegun, IsTold, IsReadEnding, IsForWords, Prints, PrintsOneText, LeavesStored, Runs, Answers, EndsBy, EndsTold, step_in, stored, first_stored};
+ghost use Rattle.bwsh.specs.Options.{Told, AsksFor, AsksForHelp, AreRefused, told_of};
+ghost use Rattle.bwsh.specs.Session.{status_of, status_of_end, ending_text, unread_text, ending_by, printed_by, BeginsWith, IsBegun, IsTold, IsReadEnding, IsForWords, Prints, PrintsOneText, LeavesStored, Runs, RunsFrom, Start, IsStart, Opens, Answers, EndsBy, EndsTold, step_in, new_start, found_start};
 ghost use Rattle.bwsh.specs.Shown.{shown_reply, shown_flushed, shown_report, shown_answer};
 
 use crate::batch_file::{Order, TextFault, parse};
+use crate::file_disk::FileDisk;
 use crate::line::Why;
-use crate::options::options;
+use crate::options::{Options, options};
 use crate::show::{show_flushed, show_reply, show_report};
+use climb_plan::laws::the_plan_holds_the_map_after_the_commands;
 use engine::{Answer, Disk, MemDisk, Step, Store};
 use flush_log::segments::disk_size;
 use keys::{Fault, Reply, Settings};
 use std::alloc::{AllocError, Global};
 use std::fmt::{InlineText, Write as _};
+use std::fs::OpenOptions;
 use std::io::{ErrorKind, Read, Write};
+use std::rt::Files;
 use std::thread::Threads;
 use std::{fmt, io};
 use verify::Report;
@@ -50,7 +52,7 @@ pub enum Ending {
     Bad { line: u64, why: Why },
     /// The store answered with a fault, or memory was refused.
     Fault(Fault),
-    /// The input could not be read, or the output could not be written.
+    /// The input or the file of the store could not be read, or the output or that file could not be written.
     Device,
 }
 
@@ -239,7 +241,7 @@ fn store_fault(fault: Fault) -> Ending
     }
 }
 
-// Plays a step, and writes what it answers.
+// Plays a step, and writes what it answers. What it answers and leaves doesn't depend on the bytes of the disk.
 fn run_step<R: Threads + Sync, D: Disk, O: Write>(
     rt: &R,
     store: &mut Store<D>,
@@ -248,14 +250,15 @@ fn run_step<R: Threads + Sync, D: Disk, O: Write>(
     out: &mut O,
 ) -> Result<(), Ending>
     requires fine { store.old.has_failed ≡ false }
-    requires honest { IsTrue (D.view store.old.disk).is_honest }
-    ensures runs { (order : Order) → step_in order ≡ Some (step_of step.entry) →
-        Runs store.old.settings (stored D.view store.old) (order ∷ []) (O.contents out.old) (O.contents out.new) result }
-    ensures leaves { (order : Order) → step_in order ≡ Some (step_of step.entry) →
-        OnOk result (LeavesStored store.old.settings (stored D.view store.old) order (stored D.view store.new)) }
-    ensures rest { (store.new.settings ≡ store.old.settings) × Kept (D.view store.old.disk) (D.view store.new.disk) }
+    ensures runs { (file : Bytes) → (order : Order) → step_in order ≡ Some (step_of step.entry) →
+        Runs store.old.settings (store.old.store, file) (order ∷ []) (O.contents out.old) (O.contents out.new) result }
+    ensures leaves { (file : Bytes) → (order : Order) → step_in order ≡ Some (step_of step.entry) →
+        OnOk result ((bytes : Bytes) × LeavesStored store.old.settings (store.old.store, file) order (store.new.store, bytes)) }
+    ensures settings { store.new.settings ≡ store.old.settings }
     ensures failed { OnOk result (store.new.has_failed ≡ store.old.has_failed) }
 {
+    // Only for the proof.
+    the_plan_holds_the_map_after_the_commands::<Global>();
     match store.play(rt, &[step]) {
         Ok(answers) => write_answers(&answers, lines, out),
         Err(refused) => Err(store_fault(refused.2)),
@@ -271,10 +274,10 @@ fn run_order<R: Threads + Sync, D: Disk, O: Write>(
     out: &mut O,
 ) -> Result<(), Ending>
     requires fine { store.old.has_failed ≡ false }
-    requires honest { IsTrue (D.view store.old.disk).is_honest }
-    ensures runs { Runs store.old.settings (stored D.view store.old) (order.now ∷ []) (O.contents out.old) (O.contents out.new) result }
-    ensures leaves { OnOk result (LeavesStored store.old.settings (stored D.view store.old) order.now (stored D.view store.new)) }
-    ensures rest { (store.new.settings ≡ store.old.settings) × Kept (D.view store.old.disk) (D.view store.new.disk) }
+    ensures runs { (file : Bytes) → Runs store.old.settings (store.old.store, file) (order.now ∷ []) (O.contents out.old) (O.contents out.new) result }
+    ensures leaves { (file : Bytes) →
+        OnOk result ((bytes : Bytes) × LeavesStored store.old.settings (store.old.store, file) order.now (store.new.store, bytes)) }
+    ensures settings { store.new.settings ≡ store.old.settings }
     ensures failed { OnOk result (store.new.has_failed ≡ store.old.has_failed) }
 {
     match order {
@@ -295,8 +298,7 @@ fn run_orders<R: AllocGlobal + Threads + Sync, D: Disk, O: Write>(
     out: &mut O,
 ) -> Result<(), Ending>
     requires fine { store.old.has_failed ≡ false }
-    requires honest { IsTrue (D.view store.old.disk).is_honest }
-    ensures { Runs store.old.settings (stored D.view store.old) orders.now (O.contents out.old) (O.contents out.new) result }
+    ensures { (file : Bytes) → Runs store.old.settings (store.old.store, file) orders.now (O.contents out.old) (O.contents out.new) result }
 {
     let mut lines = Vec::new(rt.alloc());
     for order in orders {
@@ -316,38 +318,125 @@ fn flush<O: Write>(done: Result<(), Ending>, out: &mut O) -> Result<(), Ending>
     }
 }
 
-// A new store on a disk in memory, which has just the room that it needs.
-fn new_store(alloc: Global, settings: Settings) -> Result<Store<MemDisk<Global>>, Ending>
-    ensures refused { MatchOption (first_bad_field settings) (IfErr result (λ early. (early ≡ Ending.Fault Fault.NoMemory) ⊎ (early ≡ Ending.Device)))
-        (λ field. result ≡ Err (Ending.Fault (Fault.BadSettings field))) }
-    ensures made { IfOk result (λ store. (store.settings ≡ settings) × (stored ⟦<MemDisk<Global> as Disk>⟧.view store ≡ first_stored settings)
-        × (contents store.store.tree ≡ []) × (store.has_failed ≡ false) × IsTrue (⟦<MemDisk<Global> as Disk>⟧.view store.disk).is_honest) }
+// A new store on a disk that has room for it.
+fn store_made<D: Disk + Drop>(
+    alloc: Global,
+    disk: D,
+    settings: Settings,
+) -> Result<Store<D>, Ending>
+    requires good { first_bad_field settings ≡ None }
+    requires room { disk_size settings ≤ (D.view disk).size }
+    ensures opens { (file : Bytes) → Opens (new_start settings file) result }
+    ensures fine { IfOk result (λ store. store.has_failed ≡ false) }
 {
-    settings.check()?;
-    let disk = MemDisk::new(alloc, disk_size(&settings) as usize)?;
     match Store::create(alloc, disk, settings) {
         Ok(store) => Ok(store),
         Err(refused) => Err(store_fault(refused.0)),
     }
 }
 
-/// Reads the batch file that `input` holds, and runs it on a new store of these settings. The answers go to `out`, in
-/// lines. Where all is done, or a line is bad or the settings are refused (nothing is run then), or the store
-/// refuses an order, all answers stand there. Where memory is refused, some first lines of them do; where a device
-/// fails, some first bytes. A bad line goes before settings that are refused, and a fault of the output before one
-/// that was found earlier.
-pub fn run<R: AllocGlobal + Threads + Sync, I: Read, O: Write>(
+// A new store on a disk in memory, which has just the room that it needs.
+fn store_in_memory(alloc: Global, settings: Settings) -> Result<Store<MemDisk<Global>>, Ending>
+    ensures opens { (file : Bytes) → Opens (new_start settings file) result }
+    ensures fine { IfOk result (λ store. store.has_failed ≡ false) }
+{
+    settings.check()?;
+    let disk = MemDisk::new(alloc, disk_size(&settings) as usize)?;
+    store_made(alloc, disk, settings)
+}
+
+// Opens the file to be read and written. If it is to be made where there is none, that is done.
+fn open_file<R: Files>(rt: &R, path: &str, create: bool) -> io::Result<R::File> {
+    OpenOptions::new()
+        .read(true)
+        .write(true)
+        .create(create)
+        .open(rt, path)
+}
+
+// The disk of the file, which is made anew with this length, all zeros.
+fn new_disk<R: Files>(rt: &R, path: &str, len: u64) -> io::Result<FileDisk<R::File>>
+    ensures { IfOk result (λ disk. (⟦<FileDisk<R::File> as Disk>⟧.view disk).size ≡ len) }
+{
+    FileDisk::of_zeros(open_file(rt, path, true)?, len)
+}
+
+// The disk of the file that there is.
+fn old_disk<R: Files>(rt: &R, path: &str) -> io::Result<FileDisk<R::File>> {
+    FileDisk::of_file(open_file(rt, path, false)?)
+}
+
+// A new store in the file, which is made anew. Where the settings are refused the file isn't touched.
+fn new_store_in_file<R: AllocGlobal + Files>(
     rt: &R,
+    path: &str,
     settings: Settings,
+) -> Result<Store<FileDisk<R::File>>, Ending>
+    ensures opens { (file : Bytes) → Opens (new_start settings file) result }
+    ensures fine { IfOk result (λ store. store.has_failed ≡ false) }
+{
+    settings.check()?;
+    match new_disk(rt, path, disk_size(&settings)) {
+        Ok(disk) => store_made(rt.alloc(), disk, settings),
+        Err(_) => Err(Ending::Device),
+    }
+}
+
+// The store that the file holds. Nothing is written.
+fn store_in_file<R: AllocGlobal + Threads + Sync + Files>(
+    rt: &R,
+    path: &str,
+) -> Result<Store<FileDisk<R::File>>, Ending>
+    ensures opens { (file : Bytes) × Opens (found_start file) result }
+    ensures fine { IfOk result (λ store. store.has_failed ≡ false) }
+{
+    let Ok(disk) = old_disk(rt, path) else {
+        return Err(Ending::Device);
+    };
+    match Store::recover(rt, rt.alloc(), disk) {
+        Ok(store) => Ok(store),
+        Err(refused) => Err(store_fault(refused.0)),
+    }
+}
+
+// Runs the orders on the store that was opened, and hands on to the device what was written.
+fn run_opened<R: AllocGlobal + Threads + Sync, D: Disk + Drop, O: Write>(
+    rt: &R,
+    opened: Result<Store<D>, Ending>,
+    orders: &[Order],
+    out: &mut O,
+) -> Result<(), Ending>
+    requires fine { IfOk opened (λ store. store.has_failed ≡ false) }
+    ensures { (start : Start) → Opens start opened → RunsFrom start orders.now (O.contents out.old) (O.contents out.new) result }
+{
+    let mut store = opened?;
+    let done = run_orders(rt, &mut store, orders, out);
+    flush(done, out)
+}
+
+/// Reads the batch file that `input` holds, and runs it on the store that is told: a new one in memory, or in a file that is
+/// made anew; or the one that the file holds. The answers go to `out`, in lines. Where all is done, or a line is bad or
+/// there is no store (nothing is run then), or the store refuses an order, all answers stand there. Where memory is
+/// refused, some first lines of them do; where a device fails, some first bytes. A bad line goes before settings
+/// that are refused and before a fault of the file, and a fault of the output before one that was found earlier. A file
+/// of which no store is made, or that can't be opened, stays as it was.
+pub fn run<R: AllocGlobal + Threads + Sync + Files, I: Read, O: Write>(
+    rt: &R,
+    told: &Options,
     input: &mut I,
     out: &mut O,
 ) -> Result<(), Ending>
-    ensures { Answers settings (I.remaining input.old) (O.contents out.old) (O.contents out.new) result }
+    ensures { Answers (told_of told.now) (I.remaining input.old) (O.contents out.old) (O.contents out.new) result }
 {
     let orders = read_orders(rt.alloc(), input)?;
-    let mut store = new_store(rt.alloc(), settings)?;
-    let done = run_orders(rt, &mut store, &orders, out);
-    flush(done, out)
+    match &told.disk {
+        None => run_opened(rt, store_in_memory(rt.alloc(), told.settings), &orders, out),
+        Some(path) if told.create => {
+            let opened = new_store_in_file(rt, path, told.settings);
+            run_opened(rt, opened, &orders, out)
+        }
+        Some(path) => run_opened(rt, store_in_file(rt, path), &orders, out),
+    }
 }
 
 // Prints the help that was asked for.
@@ -373,7 +462,7 @@ fn answer_words<O: Write>(alloc: Global, error: clap::Error, out: &mut O) -> Res
 }
 
 // Does what the words ask for.
-fn obey<R: AllocGlobal + Threads + Sync, I: Read, O: Write>(
+fn obey<R: AllocGlobal + Threads + Sync + Files, I: Read, O: Write>(
     rt: &R,
     words: &[String],
     input: &mut I,
@@ -382,7 +471,7 @@ fn obey<R: AllocGlobal + Threads + Sync, I: Read, O: Write>(
     ensures { EndsBy (map string_bytes words.now) (I.remaining input.old) (O.contents out.old) (O.contents out.new) (input.new ≡ input.old) (out.new ≡ out.old) result }
 {
     match options(rt.alloc(), words) {
-        Ok(told) => run(rt, told.settings, input, out),
+        Ok(told) => run(rt, &told, input, out),
         Err(error) => answer_words(rt.alloc(), error, out),
     }
 }
@@ -436,16 +525,16 @@ pub fn unread_words<E: Write>(error: io::Error, err: &mut E) -> u8
     }
 }
 
-/// Does what the `words` of the command line ask for, and returns the exit status. Where they tell settings, the batch
-/// file that `input` holds is run on a new store of these. The answers go to `out`, in lines; what stopped the
+/// Does what the `words` of the command line ask for, and returns the exit status. Where they tell a store, the batch
+/// file that `input` holds is run on it, as `run` says. The answers go to `out`, in lines; what stopped the
 /// session goes to `err`.
 ///
 /// - 0: all is done; or the words ask for help, which went to `out`, and nothing was read.
 /// - 2: the words are refused. Nothing was read.
-/// - 3: a line of the batch file is bad. Nothing was run.
+/// - 3: a line of the batch file is bad. Nothing was run, and no file was opened.
 /// - 4: a fault. The answers to what was run before it stand in `out`, or some first of them where memory was refused
 ///   or a device failed.
-pub fn session<R: AllocGlobal + Threads + Sync, I: Read, O: Write, E: Write>(
+pub fn session<R: AllocGlobal + Threads + Sync + Files, I: Read, O: Write, E: Write>(
     rt: &R,
     words: &[String],
     input: &mut I,
@@ -458,15 +547,17 @@ pub fn session<R: AllocGlobal + Threads + Sync, I: Read, O: Write, E: Write>(
     ensures refused { (result ≡ 2) ↔ (AreRefused (map string_bytes words.now) × (result ≢ 4)) }
     ensures untouched { AreRefused (map string_bytes words.now) → (input.new ≡ input.old) × (out.new ≡ out.old) }
 
-    // What stands on the output with each status: always a beginning of what the orders of the input answer on a new store of the
-    // settings that the words tell, unless that is help.
-    ensures done { result ≡ 0 → AsksForHelp (map string_bytes words.now) ⊎ ((settings : Settings) × AsksForSettings (map string_bytes words.now) settings
-        × IfSome (I.remaining input.old) (λ text. (first_bad 1 (text_says text) ≡ None) × Appends (O.contents out.old) (O.contents out.new) (printed_by settings text))) }
+    // What stands on the output with each status: always a beginning of what the orders of the input answer on the store that the
+    // words tell, unless that is help. In memory and in a file that is made anew it is a new one of the settings that they tell;
+    // else it is the one that the bytes of the file stand for, whichever these are.
+    ensures done { result ≡ 0 → AsksForHelp (map string_bytes words.now) ⊎ ((told : Told) × AsksFor (map string_bytes words.now) told
+        × IfSome (I.remaining input.old) (λ text. (first_bad 1 (text_says text) ≡ None)
+        × ((start : Start) × IsStart told start × IsOk start × Appends (O.contents out.old) (O.contents out.new) (printed_by start text)))) }
     ensures bad { result ≡ 3 → Appends (O.contents out.old) (O.contents out.new) []
         × IfSome (I.remaining input.old) (λ text. first_bad 1 (text_says text) ≢ None) }
     ensures beginning { AsksForHelp (map string_bytes words.now) ⊎ Appends (O.contents out.old) (O.contents out.new) []
-        ⊎ ((settings : Settings) × AsksForSettings (map string_bytes words.now) settings × IfSome (I.remaining input.old) (λ text. (front : Bytes)
-        × BeginsWith (printed_by settings text) front × Appends (O.contents out.old) (O.contents out.new) front)) }
+        ⊎ ((told : Told) × AsksFor (map string_bytes words.now) told × IfSome (I.remaining input.old) (λ text. (start : Start) × IsStart told start
+        × ((front : Bytes) × BeginsWith (printed_by start text) front × Appends (O.contents out.old) (O.contents out.new) front))) }
 
     // How it ends, and what is read and printed, is right for the words and the text but for memory and devices.
     // What goes to `err` is told of this end, or a beginning of it.

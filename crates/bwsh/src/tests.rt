@@ -1,19 +1,25 @@
 //! The rules of a batch file and of the command line, by example, and sessions whose input, output or memory fails.
 use crate::batch_file::{TextFault, parse};
+use crate::file_disk::FileDisk;
 use crate::line::Why;
+use crate::options::Options;
 use crate::program::run_program;
-use crate::session::{session, unread_words};
+use crate::session::{run, session, unread_words};
 use bstr::ByteSlice;
+use engine::Disk;
+use keys::Settings;
+use std::alloc::Allocator;
 use std::env::FillError;
-use std::io;
-use std::io::{Cursor, ErrorKind, Read, Write};
+use std::fs::{Metadata, OpenFile, OpenOptions};
+use std::io::{Cursor, ErrorKind, Read, Seek, SeekFrom, Write};
 use std::process::Abort;
-use std::rt::Env;
+use std::rt::{Env, Files};
 use std::test::Fail;
 use std::thread::Threads;
+use std::{env, fs, io};
 
 // Runs a session without words on the command line.
-fn run<R: AllocGlobal + Threads + Sync, I: Read, O: Write, E: Write>(
+fn run_plain<R: AllocGlobal + Threads + Sync + Files, I: Read, O: Write, E: Write>(
     rt: &R,
     input: &mut I,
     out: &mut O,
@@ -23,7 +29,7 @@ fn run<R: AllocGlobal + Threads + Sync, I: Read, O: Write, E: Write>(
 }
 
 // Asserts what a session with these words on the command line answers to this input.
-fn check<R: AllocGlobal + Abort + Threads + Sync>(
+fn check<R: AllocGlobal + Abort + Threads + Sync + Files>(
     rt: &R,
     words: &[String],
     input: &[u8],
@@ -71,7 +77,7 @@ const SEVENTEEN_DELETES: &[u8] =
     del j\ndel k\ndel l\ndel m\ndel n\ndel o\ndel p\ndel q\nverify\n";
 
 // Seventeen puts in small pages, and these lines behind them, which print this.
-fn check_behind_puts<R: AllocGlobal + Abort + Threads + Sync>(
+fn check_behind_puts<R: AllocGlobal + Abort + Threads + Sync + Files>(
     rt: &R,
     lines: &[u8],
     printed: &[u8],
@@ -286,6 +292,53 @@ impl<R> Env for OneWord<'_, R> {
     }
 }
 
+// It has no files.
+impl<R> Files for OneWord<'_, R> {
+    type File = Failing<ByBytes<Cursor<Vec<u8>>>>;
+
+    type Dir = Cursor<Vec<u8>>;
+
+    fn open_file(&self, _how: &OpenOptions, _path: &str) -> io::Result<Self::File> {
+        Err(io::Error::from(ErrorKind::Unsupported))
+    }
+
+    fn open_dir(&self, _path: &str) -> io::Result<Self::Dir> {
+        Err(io::Error::from(ErrorKind::Unsupported))
+    }
+
+    fn metadata(&self, _path: &str) -> io::Result<Metadata> {
+        Err(io::Error::from(ErrorKind::Unsupported))
+    }
+
+    fn symlink_metadata(&self, _path: &str) -> io::Result<Metadata> {
+        Err(io::Error::from(ErrorKind::Unsupported))
+    }
+
+    fn copy(&self, _from: &str, _to: &str) -> io::Result<u64> {
+        Err(io::Error::from(ErrorKind::Unsupported))
+    }
+
+    fn rename(&self, _from: &str, _to: &str) -> io::Result<()> {
+        Err(io::Error::from(ErrorKind::Unsupported))
+    }
+
+    fn remove_file(&self, _path: &str) -> io::Result<()> {
+        Err(io::Error::from(ErrorKind::Unsupported))
+    }
+
+    fn create_dir(&self, _path: &str) -> io::Result<()> {
+        Err(io::Error::from(ErrorKind::Unsupported))
+    }
+
+    fn remove_dir(&self, _path: &str) -> io::Result<()> {
+        Err(io::Error::from(ErrorKind::Unsupported))
+    }
+
+    fn remove_dir_all<B: Allocator>(&self, _alloc: B, _path: &str) -> io::Result<()> {
+        Err(io::Error::from(ErrorKind::Unsupported))
+    }
+}
+
 // Asserts how the program ends with this word on its command line.
 fn check_program<R: AllocGlobal + Abort + Threads + Sync>(
     rt: &R,
@@ -445,7 +498,7 @@ impl<S: Write> Write for Failing<S> {
 
 // Asserts how a session ends on this input, of which that many reads succeed, with an output of which that many
 // calls succeed.
-fn check_device<R: AllocGlobal + Abort + Threads + Sync>(
+fn check_device<R: AllocGlobal + Abort + Threads + Sync + Files>(
     rt: &R,
     input: &[u8],
     reads: usize,
@@ -465,14 +518,14 @@ fn check_device<R: AllocGlobal + Abort + Threads + Sync>(
         stream: Vec::new(rt.alloc()),
     };
     let mut told = Vec::new(rt.alloc());
-    let status = run(rt, &mut input, &mut written, &mut told);
+    let status = run_plain(rt, &mut input, &mut written, &mut told);
     assert_eq!(rt; status, 4);
     assert_eq!(rt; told.as_slice(), b"fault 9 Device\n".as_slice());
     assert_eq!(rt; written.stream.as_slice(), out);
 }
 
 // Asserts how a session ends whose output fails once, so, after that many calls.
-fn check_one_fault<R: AllocGlobal + Abort + Threads + Sync>(
+fn check_one_fault<R: AllocGlobal + Abort + Threads + Sync + Files>(
     rt: &R,
     kind: ErrorKind,
     calls: usize,
@@ -487,7 +540,7 @@ fn check_one_fault<R: AllocGlobal + Abort + Threads + Sync>(
         stream: Vec::new(rt.alloc()),
     };
     let mut told = Vec::new(rt.alloc());
-    let got = run(rt, &mut input, &mut written, &mut told);
+    let got = run_plain(rt, &mut input, &mut written, &mut told);
     assert_eq!(rt; got, status);
     assert_eq!(rt; written.stream.as_slice(), out);
 }
@@ -501,7 +554,7 @@ fn the_output_fails_once(rt: HostRuntime) {
 }
 
 // Asserts what is told of a bad line where the first so many writes to standard error fail so.
-fn check_told<R: AllocGlobal + Abort + Threads + Sync>(
+fn check_told<R: AllocGlobal + Abort + Threads + Sync + Files>(
     rt: &R,
     kind: ErrorKind,
     faults: usize,
@@ -515,7 +568,7 @@ fn check_told<R: AllocGlobal + Abort + Threads + Sync>(
         kind,
         stream: Vec::new(rt.alloc()),
     };
-    let status = run(rt, &mut input, &mut written, &mut told);
+    let status = run_plain(rt, &mut input, &mut written, &mut told);
     assert_eq!(rt; status, 3);
     assert_eq!(rt; told.stream.as_slice(), err);
 }
@@ -555,7 +608,7 @@ fn memory_is_refused(rt: HostRuntime) {
     let right = b"new\nvalue 1\nrows 1\nA 1\nok 1 1 1\ndeleted\nmissing\n";
     let mut out = Cursor::new([0u8; 64]);
     let mut err = Cursor::new([0u8; 64]);
-    let status = run(&rt, &mut input, &mut out, &mut err);
+    let status = run_plain(&rt, &mut input, &mut out, &mut err);
     let out = &out.get_ref()[..];
     let err = &err.get_ref()[..];
     if status == 0 {
@@ -601,7 +654,7 @@ fn a_byte_at_a_time(rt: HostRuntime) {
         stream: Vec::new(rt.alloc()),
     };
     let mut told = Vec::new(rt.alloc());
-    let status = run(&rt, &mut input, &mut written, &mut told);
+    let status = run_plain(&rt, &mut input, &mut written, &mut told);
     assert_eq!(rt; status, 0);
     assert_eq!(rt; written.stream.as_slice(), b"new\nvalue 1\n".as_slice());
 }
@@ -616,4 +669,155 @@ fn a_long_value_is_refused(rt: HostRuntime) -> Result<(), Fail> {
     put.push(b'v')?;
     check(&rt, &[], &put, 4, b"", b"fault 3 ValueTooLong 0\n");
     Ok(())
+}
+
+// Asserts how these lines are run on the store of this file. It is made anew with pages of so many entries; or it is the one
+// that the file holds, with settings on the command line that would be refused.
+fn check_in_file<R: AllocGlobal + Abort + Threads + Sync + Files>(
+    rt: &R,
+    path: &str,
+    fan: Option<u32>,
+    input: &[u8],
+    out: &[u8],
+    end: &str,
+) -> Result<(), Fail> {
+    let alloc = rt.alloc();
+    let told = Options {
+        settings: Settings {
+            fan: fan.unwrap_or(65),
+            chain: 2,
+            max_key: 16,
+            max_value: 16,
+            seg_size: 256,
+            segments: 4,
+        },
+        disk: Some(String::from_str(alloc, path)?),
+        create: fan.is_some(),
+    };
+    let mut input = input;
+    let mut written = Vec::new(alloc);
+    let text = match run(rt, &told, &mut input, &mut written) {
+        Ok(()) => String::new(alloc),
+        Err(ending) => format!(in alloc; "{ending}")?,
+    };
+    assert_eq!(rt; text.as_str(), end);
+    assert_eq!(rt; written.as_slice(), out);
+    Ok(())
+}
+
+// Where a line is bad or the settings are refused, no file is made, and one that there is stays. What was flushed is found again.
+#[test]
+fn a_store_is_kept_in_a_file(rt: HostRuntime) -> Result<(), Fail> {
+    let folder = env::temp_dir(&rt)?.join(rt.alloc(), "bwsh_kept_store")?;
+    let file = folder.join(rt.alloc(), "store")?;
+    let path = file.as_str();
+    let _ = fs::remove_dir_all(&rt, folder.as_str());
+    fs::create_dir(&rt, folder.as_str())?;
+    check_in_file(&rt, path, None, b"get a\n", b"", "fault 9 Device\n")?;
+    let told = "line 1: unknown command\n";
+    check_in_file(&rt, path, Some(4), b"frob\n", b"", told)?;
+    let refused = "fault 1 BadSettings fan\n";
+    check_in_file(&rt, path, Some(65), b"get a\n", b"", refused)?;
+    assert!(rt; !fs::exists(&rt, path)?);
+    let input = b"put a 1\nflush\nput b 2\n";
+    check_in_file(&rt, path, Some(4), input, b"new\nflushed 2\nnew\n", "")?;
+    // 512 bytes, and four segments.
+    assert_eq!(rt; fs::metadata(&rt, path)?.len(), 1_536);
+    let input = b"get a\nget b\nflush\n";
+    let out = b"value 1\nmissing\nflushed 2\n";
+    check_in_file(&rt, path, None, input, out, "")?;
+    check_in_file(&rt, path, Some(4), b"frob\n", b"", told)?;
+    check_in_file(&rt, path, Some(65), b"get a\n", b"", refused)?;
+    check_in_file(&rt, path, None, input, out, "")?;
+    check_in_file(&rt, path, Some(4), b"get a\n", b"missing\n", "")?;
+    fs::remove_dir_all(&rt, folder.as_str())?;
+    Ok(())
+}
+
+// A folder is no file that could be opened. A file that holds no store stays as it is.
+#[test]
+fn a_file_holds_no_store(rt: HostRuntime) -> Result<(), Fail> {
+    let folder = env::temp_dir(&rt)?.join(rt.alloc(), "bwsh_no_store")?;
+    let file = folder.join(rt.alloc(), "store")?;
+    let path = file.as_str();
+    let _ = fs::remove_dir_all(&rt, folder.as_str());
+    fs::create_dir(&rt, folder.as_str())?;
+    for fan in [None, Some(4)] {
+        check_in_file(
+            &rt,
+            folder.as_str(),
+            fan,
+            b"get a\n",
+            b"",
+            "fault 9 Device\n",
+        )?;
+    }
+    check_in_file(&rt, path, Some(4), b"", b"", "")?;
+    let mut short = fs::read(&rt, path)?;
+    short.truncate(1_535);
+    for bytes in [[0; 1_536].as_slice(), short.as_slice()] {
+        fs::write(&rt, path, bytes)?;
+        check_in_file(&rt, path, None, b"get a\n", b"", "fault 12 NotAStore\n")?;
+        assert_eq!(rt; fs::read(&rt, path)?.as_slice(), bytes);
+    }
+    fs::remove_dir_all(&rt, folder.as_str())?;
+    Ok(())
+}
+
+impl<S: Seek> Seek for Failing<S> {
+    fn seek(&mut self, to: SeekFrom) -> io::Result<u64> {
+        self.stream.seek(to)
+    }
+}
+
+impl<S: Seek> Seek for ByBytes<S> {
+    fn seek(&mut self, to: SeekFrom) -> io::Result<u64> {
+        self.stream.seek(to)
+    }
+}
+
+impl<S> OpenFile for Failing<S> {
+    fn metadata(&self) -> io::Result<Metadata> {
+        Err(io::Error::from(self.kind))
+    }
+
+    fn set_len(&self, _size: u64) -> io::Result<()> {
+        Ok(())
+    }
+
+    fn sync_all(&self) -> io::Result<()> {
+        Ok(())
+    }
+
+    fn sync_data(&self) -> io::Result<()> {
+        Ok(())
+    }
+}
+
+// Asserts how many calls of a disk fail that is over an empty file, which takes and gives a byte at a time, and whose third
+// call fails so. Four bytes are written and read, and then some behind the file's end.
+fn check_disk<R: AllocGlobal + Abort>(rt: &R, kind: ErrorKind, failures: u32) -> Result<(), Fail> {
+    let file = Failing {
+        calls: 2,
+        faults: 1,
+        kind,
+        stream: ByBytes {
+            stream: Cursor::new(Vec::new(rt.alloc())),
+        },
+    };
+    let mut disk = FileDisk::of_zeros(file, 16)?;
+    let mut back = [0; 4];
+    let is_done = disk.write_at(3, b"abcd").is_ok() && disk.read_at(3, &mut back).is_ok();
+    assert_eq!(rt; disk.failures(), u64::from(failures));
+    assert!(rt; !is_done || back == *b"abcd");
+    assert!(rt; disk.read_at(9, &mut back).is_err());
+    assert_eq!(rt; disk.failures(), u64::from(failures) + 1);
+    Ok(())
+}
+
+// A call that was interrupted is made again, and one that was cut short goes on.
+#[test]
+fn a_disk_over_a_file(rt: HostRuntime) -> Result<(), Fail> {
+    check_disk(&rt, ErrorKind::Interrupted, 0)?;
+    check_disk(&rt, ErrorKind::Other, 1)
 }

@@ -2,8 +2,12 @@
 use keys::Settings;
 
 /// What the command line asks for.
-#[derive(Clone, Copy, Debug, PartialEq, Eq)]
+#[derive(Drop)]
 pub struct Options {
-    /// The settings of the store that the session makes.
+    /// The settings of a store that is made.
     pub settings: Settings,
+    /// The file in which the store is. Without one it is in memory, and ends with the program.
+    pub disk: Option<String>,
+    /// Whether that file is made anew, so that what it held is lost. Without a file it changes nothing.
+    pub create: bool,
 }

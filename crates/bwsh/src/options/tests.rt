@@ -30,17 +30,41 @@ fn tells(alloc: Global, line: &str, numbers: [u32; 6]) -> Result<bool, AllocErro
     )
 }
 
+// Whether words tell this file, if any, and whether it is made anew.
+fn tell_file(
+    alloc: Global,
+    words: &[String],
+    path: Option<&str>,
+    create: bool,
+) -> Result<bool, AllocError> {
+    let Ok(told) = options(alloc, words) else {
+        return Ok(false);
+    };
+    Ok(told.disk.as_deref() == path && told.create == create)
+}
+
+// The same of a line.
+fn tells_file(
+    alloc: Global,
+    line: &str,
+    path: Option<&str>,
+    create: bool,
+) -> Result<bool, AllocError> {
+    let words = words_of(alloc, line)?;
+    tell_file(alloc, &words, path, create)
+}
+
 // How a line ends: 1 if it tells settings, 2 if it is refused, 0 if it asks for help.
 fn end_of(alloc: Global, line: &str) -> Result<i32, AllocError> {
     let words = words_of(alloc, line)?;
     match options(alloc, &words) {
-        Ok(_) => Ok(1),
+        Ok(_told) => Ok(1),
         Err(error) if matches!(error.kind(), ErrorKind::OutOfMemory) => Err(AllocError),
         Err(error) => Ok(error.exit_code()),
     }
 }
 
-const REFUSED: [&str; 9] = [
+const REFUSED: [&str; 21] = [
     "--fan 8 --chain 2 --fan 8",
     "--flan 8",
     "8",
@@ -50,9 +74,26 @@ const REFUSED: [&str; 9] = [
     "--fan",
     "--fan --help",
     "-- --fan 8",
+    "--disk a --disk b",
+    "--disk=a --fan 8 --disk=a",
+    "--create --create",
+    "--create --disk a --create",
+    "--disk",
+    "--create --disk",
+    "--disk --",
+    "--disk -- a",
+    "--disk --create",
+    "--disk -a",
+    "--create=x",
+    "--create x",
 ];
 
-const HELP: [&str; 3] = ["--help", "-h", "--fan 8 -h --flan"];
+const HELP: [&str; 4] = [
+    "--help",
+    "-h",
+    "--fan 8 -h --flan",
+    "--disk a --create -h --create",
+];
 
 #[test]
 fn what_is_given_is_told(rt: HostRuntime) -> Result<(), Fail> {
@@ -67,6 +108,40 @@ fn what_is_given_is_told(rt: HostRuntime) -> Result<(), Fail> {
             [0, 4, 64, 256, 65_536, u32::MAX]
         )?
     );
+    Ok(())
+}
+
+#[test]
+fn the_file_that_is_given_is_told(rt: HostRuntime) -> Result<(), Fail> {
+    let alloc = rt.alloc();
+    assert!(rt; tells_file(alloc, "", None, false)?);
+    assert!(rt; tells_file(alloc, "--disk a", Some("a"), false)?);
+    assert!(rt; tells_file(alloc, "--disk=a", Some("a"), false)?);
+    assert!(rt; tells_file(alloc, "--create", None, true)?);
+    assert!(rt; tells_file(alloc, "--disk a --create", Some("a"), true)?);
+    assert!(rt; tells_file(alloc, "--create --fan 8 --disk=a", Some("a"), true)?);
+    Ok(())
+}
+
+#[test]
+fn any_text_is_a_path(rt: HostRuntime) -> Result<(), Fail> {
+    let alloc = rt.alloc();
+    assert!(rt; tells_file(alloc, "--disk=", Some(""), false)?);
+    assert!(rt; tells_file(alloc, "--disk -", Some("-"), false)?);
+    assert!(rt; tells_file(alloc, "--disk=-h", Some("-h"), false)?);
+    assert!(rt; tells_file(alloc, "--disk=--create", Some("--create"), false)?);
+    assert!(rt; tells_file(alloc, "--disk=a=b", Some("a=b"), false)?);
+    let mut words = words_of(alloc, "--create --disk")?;
+    words.push(String::new(alloc))?;
+    assert!(rt; tell_file(alloc, &words, Some(""), true)?);
+    Ok(())
+}
+
+#[test]
+fn a_file_changes_no_setting(rt: HostRuntime) -> Result<(), Fail> {
+    let alloc = rt.alloc();
+    let line = "--disk 8 --create --chain 2";
+    assert!(rt; tells(alloc, line, [16, 2, 64, 256, 65_536, 64])?);
     Ok(())
 }
 

@@ -14,4 +14,6 @@ returns c =
     let three = rule_added _ _ _ _ _ c.in_ok-arg-3.ensures c.number-3.ensures.local two c.number-3.ensures.rule in
     let four = rule_added _ _ _ _ _ c.in_ok-arg-4.ensures c.number-4.ensures.local three c.number-4.ensures.rule in
     let five = rule_added _ _ _ _ _ c.in_ok-arg-5.ensures c.number-5.ensures.local four c.number-5.ensures.rule in
-    IfOk-weaker c.arg-6.result _ _ (λ _ added. rule_added _ _ _ _ _ added c.number-6.ensures.local five c.number-6.ensures.rule) c.arg-6.ensures
+    let six = rule_added _ _ _ _ _ c.in_ok-arg-6.ensures c.number-6.ensures.local five c.number-6.ensures.rule in
+    let seven = rule_added _ _ _ _ _ c.in_ok-arg-7.ensures c.path.ensures.local six c.path.ensures.rule in
+    IfOk-weaker c.arg-8.result _ _ (λ _ added. rule_added _ _ _ _ _ added c.flag.ensures.local seven c.flag.ensures.rule) c.arg-8.ensures

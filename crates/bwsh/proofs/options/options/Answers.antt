@@ -1,13 +1,15 @@
+use Rattle.std.proofs.Common.{refl}
 use Rattle.clap.specs.Words.{kind_of}
 use Rattle.bwsh.specs.Options.{IsRightKind, texts}
-use Rattle.bwsh.proofs.AskedLemmas.{settings_are_asked, error_is_right, handed_on}
+use Rattle.bwsh.proofs.AskedLemmas.{options_are_asked, error_is_right, handed_on}
 use Rattle.bwsh.proofs.options.options.Goals as goal
 
 pub returns : goal.returns
 returns c =
-    let w = settings_are_asked _ _ c.in_ok-matches.ensures.err c.in_ok-matches.ensures.ok in
+    let w = options_are_asked _ _ c.in_ok-matches.ensures.err c.in_ok-matches.ensures.ok in
+    let path = c.in_ok-disk.ensures w.0 w.2 in
     record {
-      ok = (w.0, w.1, c.settings.ensures w.0 w.3 w.2);
+      ok = (w.0, w.1, rw (c.settings.ensures w.0 w.3 w.2, path, c.create.ensures w.0 w.3 w.2) refl);
       err = tt;
     }
 

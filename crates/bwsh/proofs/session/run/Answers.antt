@@ -1,23 +1,37 @@
+use Rattle.std.proofs.Common.{[]}
+use Rattle.std.specs.Prelude.{replicate}
 use Rattle.std.proofs.lemmas.Result.{err_from_is_err_and}
-use Rattle.bwsh.proofs.EndLemmas.{Answers-unread, Answers-uncreated, Answers-run}
+use Rattle.flush_log.specs.Segments.{disk_size}
+use Rattle.bwsh.specs.Options.{told_of}
+use Rattle.bwsh.specs.Session.{new_start, found_start}
+use Rattle.bwsh.proofs.EndLemmas.{Answers-unread, Answers-run, IsStart-in_memory, IsStart-anew, IsStart-found}
 use Rattle.bwsh.proofs.session.run.Goals as goal
 
 pub returns-in_err-orders : goal.returns-in_err-orders
 returns-in_err-orders g c =
     let (text, known, ended) = c.in_err-orders.ensures in
     let p = err_from_is_err_and c.from_residual.result c.from_residual.ensures.1 in
-    rw (p.1, p.2) (Answers-unread c.args.settings _ _ text known _ ended)
+    rw (p.1, p.2) (Answers-unread (told_of c.args.told.now) _ _ text known _ ended)
 
-pub returns-in_err-store : goal.returns-in_err-store
-returns-in_err-store g c =
+pub returns-in-None : goal.returns-in-None
+returns-in-None g c =
     let (text, known, read) = c.in_ok-orders.ensures in
-    let p = err_from_is_err_and c.from_residual-in_err-store.result c.from_residual-in_err-store.ensures.1 in
-    rw (p.1, p.2) (Answers-uncreated c.args.settings _ _ text known read.0 c.new_store.result c.new_store.ensures.refused _ c.in_err-store.was)
+    let told = c.args.told.now in
+    let zeros = replicate (disk_size told.settings) 0 in
+    Answers-run (told_of told) _ _ text known _ _ c.deref.result.now _ read.0 c.deref.ensures.value read.1 (new_start told.settings zeros) (IsStart-in_memory told c.in-None.is)
+    (c.run_opened.ensures (new_start told.settings zeros) (c.store_in_memory.ensures.opens zeros))
+
+pub returns-in-Some : goal.returns-in-Some
+returns-in-Some g c =
+    let (text, known, read) = c.in_ok-orders.ensures in
+    let told = c.args.told.now in
+    Answers-run (told_of told) _ _ text known _ _ c.deref-in-Some-2.result.now _ read.0 c.deref-in-Some-2.ensures.value read.1 (new_start told.settings []) (IsStart-anew told c.in-Some.path c.in-Some.is c.if-told.true [])
+    (c.run_opened-in-Some.ensures (new_start told.settings []) (c.new_store_in_file-opened.ensures.opens []))
 
 pub returns : goal.returns
 returns g c =
     let (text, known, read) = c.in_ok-orders.ensures in
-    let made = c.in_ok-store.ensures.made in
-    let store = c.in_ok-store.store in
-    Answers-run c.args.settings _ _ text known read.0 c.new_store.result c.new_store.ensures.refused _ _ _ store.settings _ c.deref.result.now _ _ _ c.in_ok-store.was
-    made.0 made.1 made.2 c.deref.ensures.value read.1 c.run_orders-done.ensures c.flush.ensures.bytes c.flush.ensures.end
+    let told = c.args.told.now in
+    let (file, opens) = c.store_in_file.ensures.opens in
+    Answers-run (told_of told) _ _ text known _ _ c.deref-in-Some-2-3.result.now _ read.0 c.deref-in-Some-2-3.ensures.value read.1 (found_start file) (IsStart-found told c.in-Some-2.path c.in-Some-2.is c.if-told.false file)
+    (c.run_opened-in-Some-2.ensures (found_start file) opens)
