@@ -5,9 +5,9 @@ use std::collections::BTreeMap;
 use std::ops::Bound;
 use std::io::{self, Read, Write};
 
-type Map = BTreeMap<Vec<u8>, Vec<u8>>;
+pub type Map = BTreeMap<Vec<u8>, Vec<u8>>;
 
-enum Command {
+pub enum Command {
     Get(Vec<u8>),
     Put(Vec<u8>, Vec<u8>),
     Add(Vec<u8>, Vec<u8>),
@@ -16,7 +16,7 @@ enum Command {
 }
 
 #[derive(Clone)]
-enum Reply {
+pub enum Reply {
     Value(Vec<u8>),
     Word(&'static str),
     Rows(Vec<(Vec<u8>, Vec<u8>)>),
@@ -100,7 +100,7 @@ fn number(word: &[u8]) -> Option<usize> {
     std::str::from_utf8(word).ok()?.parse().ok()
 }
 
-fn command(words: &[&[u8]]) -> Option<Command> {
+pub fn command(words: &[&[u8]]) -> Option<Command> {
     Some(match words {
         [b"get", key] => Command::Get(token(key)?),
         [b"del", key] => Command::Del(token(key)?),
@@ -128,8 +128,9 @@ fn parse(text: &[u8]) -> Option<Vec<Vec<Command>>> {
 }
 
 // The replies to the commands, each at its command's place. They are run in the order of their keys, those of one key in
-// the order of their places; but where a batch has scans among changes, all in the order of their places.
-fn run_batch(map: &mut Map, commands: &[Command]) -> Vec<Reply> {
+// the order of their places; but where a batch has scans among changes, all in the order of their places. Each is told when it
+// has been run.
+pub fn run_batch(map: &mut Map, commands: &[Command], mut told: impl FnMut(&Command, &Reply)) -> Vec<Reply> {
     let mut keyed: Vec<_> = commands.iter().map(Command::key).zip(0..).collect();
     if !commands.iter().any(Command::is_scan) || !commands.iter().any(Command::is_change) {
         keyed.sort_unstable();
@@ -137,6 +138,7 @@ fn run_batch(map: &mut Map, commands: &[Command]) -> Vec<Reply> {
     let mut replies = vec![Reply::Word(""); commands.len()];
     for (_, place) in keyed {
         replies[place] = commands[place].run(map);
+        told(&commands[place], &replies[place]);
     }
     replies
 }
@@ -154,7 +156,7 @@ fn show_token(bytes: &[u8], lines: &mut Vec<u8>) {
     }
 }
 
-fn show(reply: &Reply, lines: &mut Vec<u8>) {
+pub fn show(reply: &Reply, lines: &mut Vec<u8>) {
     match reply {
         Reply::Word(word) => lines.extend_from_slice(word.as_bytes()),
         Reply::Value(value) => {
@@ -183,7 +185,7 @@ fn main() -> io::Result<()> {
     let mut out = io::stdout();
     for batch in &batches {
         lines.clear();
-        for reply in run_batch(&mut map, batch) {
+        for reply in run_batch(&mut map, batch, |_, _| {}) {
             show(&reply, &mut lines);
         }
         out.write_all(&lines)?;

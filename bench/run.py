@@ -248,13 +248,13 @@ class Results:
         return self.best[phase, PEER].cpu / self.best[phase, program].cpu
 
 
-def build_peer(folder):
-    """The command that runs the peer, or none where the machine has no plain Rust."""
+def build_peer(folder, name="peer"):
+    """The command that runs the peer of this name, or none where the machine has no plain Rust."""
     if shutil.which("rustc") is None:
         print("There is no rustc on this machine: the program is measured alone.")
         return None
-    peer = folder / "peer"
-    subprocess.run(["rustc", "--edition", "2021", "-O", "-o", peer, HERE / "peer.rs"], check=True)
+    peer = folder / name
+    subprocess.run(["rustc", "--edition", "2021", "-O", "-o", peer, HERE / f"{name}.rs"], check=True)
     return [peer]
 
 

@@ -1,0 +1,203 @@
+//! The peer with a file: what `bwsh --disk FILE` does, over std's `BTreeMap` and an append-only file. It reads the same text,
+//! and prints the same lines. As `bwsh` it reads all text first; then it makes its file anew (`--create`) or replays it.
+//! Without `--disk` there is no file; settings are not looked at.
+//!
+//! The file has a record for each command that changed something, as it is run, and one for each flush, which alone makes
+//! those before it count. A flush is one sync. Nothing tells a record that a power cut left wrong; a kill leaves none.
+
+#[allow(dead_code)]
+#[path = "peer.rs"]
+mod peer;
+
+use peer::{command, run_batch, show, Command, Map, Reply};
+use std::fs::{self, File};
+use std::io::{self, Read, Seek, SeekFrom, Write};
+use std::mem;
+
+const PUT: u8 = 1;
+const DEL: u8 = 2;
+const FLUSH: u8 = 3;
+const LONG: usize = 1 << 20; // what is kept before it is written
+
+enum Order {
+    Batch(Vec<Command>),
+    Flush,
+    Verify,
+}
+
+// The log: its file, if there is one, and what is to be written there.
+struct Log {
+    file: Option<File>,
+    behind: Vec<u8>,
+    sequence: u64,
+    is_changed: bool,
+}
+
+impl Log {
+    // A record: its length, in four bytes, its kind, and for a put the length of the key, in two bytes, the key, the value.
+    fn push(&mut self, kind: u8, parts: &[&[u8]]) {
+        let length = 1 + parts.iter().map(|part| part.len()).sum::<usize>();
+        self.behind.extend_from_slice(&(length as u32).to_be_bytes());
+        self.behind.push(kind);
+        for part in parts {
+            self.behind.extend_from_slice(part);
+        }
+    }
+
+    // Takes down a command, if it changed something.
+    fn note(&mut self, command: &Command, reply: &Reply) {
+        match (command, reply) {
+            (_, Reply::Word("missing" | "exists")) => return,
+            (Command::Put(key, value) | Command::Add(key, value), _) => {
+                self.push(PUT, &[&(key.len() as u16).to_be_bytes(), key, value])
+            }
+            (Command::Del(key), _) => self.push(DEL, &[key]),
+            _ => return,
+        }
+        self.is_changed = true;
+    }
+
+    // Writes what is there, if it is so long.
+    fn write(&mut self, least: usize) -> io::Result<()> {
+        if self.behind.len() >= least {
+            if let Some(file) = &mut self.file {
+                file.write_all(&self.behind)?;
+            }
+            self.behind.clear();
+        }
+        Ok(())
+    }
+
+    // Where something was changed, makes it count, and gives it the next number.
+    fn flush(&mut self) -> io::Result<u64> {
+        if mem::take(&mut self.is_changed) {
+            self.push(FLUSH, &[]);
+            self.write(0)?;
+            if let Some(file) = &self.file {
+                file.sync_data()?;
+            }
+            self.sequence += 1;
+        }
+        Ok(self.sequence)
+    }
+}
+
+// The first record, and what is behind it; none where the text ends before it does.
+fn record(text: &[u8]) -> Option<(&[u8], &[u8])> {
+    let (length, rest) = text.split_first_chunk::<4>()?;
+    rest.split_at_checked(u32::from_be_bytes(*length) as usize)
+}
+
+fn replay(map: &mut Map, record: &[u8]) -> Option<()> {
+    match record {
+        [PUT, high, low, rest @ ..] => {
+            let (key, value) = rest.split_at_checked(u16::from_be_bytes([*high, *low]) as usize)?;
+            map.insert(key.to_vec(), value.to_vec());
+        }
+        [DEL, key @ ..] => {
+            map.remove(key);
+        }
+        [FLUSH] => {}
+        _ => return None,
+    }
+    Some(())
+}
+
+// How much of the text is flushed, and the number of the last flush.
+fn flushed(text: &[u8]) -> (usize, u64) {
+    let (mut length, mut sequence) = (0, 1);
+    let mut rest = text;
+    while let Some((record, behind)) = record(rest) {
+        rest = behind;
+        if record == [FLUSH] {
+            (length, sequence) = (text.len() - rest.len(), sequence + 1);
+        }
+    }
+    (length, sequence)
+}
+
+// The map that the file tells, and its log, which goes on behind the last flush.
+fn recover(path: &str) -> io::Result<(Map, Log)> {
+    let text = fs::read(path)?;
+    let (length, sequence) = flushed(&text);
+    let mut map = Map::new();
+    let mut rest = &text[..length];
+    while let Some((record, behind)) = record(rest) {
+        replay(&mut map, record).ok_or(io::ErrorKind::InvalidData)?;
+        rest = behind;
+    }
+    let mut file = File::options().write(true).open(path)?;
+    file.set_len(length as u64)?;
+    file.seek(SeekFrom::End(0))?;
+    Ok((map, log(Some(file), sequence)))
+}
+
+fn log(file: Option<File>, sequence: u64) -> Log {
+    Log { file, behind: Vec::new(), sequence, is_changed: false }
+}
+
+// An empty map on a new file.
+fn create(path: &str) -> io::Result<(Map, Log)> {
+    let file = File::create(path)?;
+    file.sync_data()?;
+    Ok((Map::new(), log(Some(file), 1)))
+}
+
+fn parse(text: &[u8]) -> Option<Vec<Order>> {
+    let (mut orders, mut pending) = (Vec::new(), Vec::new());
+    for line in text.split(|&byte| byte == b'\n') {
+        let words: Vec<_> = line.split(|&byte| byte == b' ').filter(|word| !word.is_empty()).collect();
+        let order = match words.as_slice() {
+            [] => continue,
+            [b"go"] => None,
+            [b"flush"] => Some(Order::Flush),
+            [b"verify"] => Some(Order::Verify),
+            words => {
+                pending.push(command(words)?);
+                continue;
+            }
+        };
+        if order.is_none() || !pending.is_empty() {
+            orders.push(Order::Batch(mem::take(&mut pending)));
+        }
+        orders.extend(order);
+    }
+    if !pending.is_empty() {
+        orders.push(Order::Batch(pending));
+    }
+    Some(orders)
+}
+
+// Does what the order says, and appends its lines. A verify looks at nothing, and tells one page on one level.
+fn run(map: &mut Map, log: &mut Log, order: &Order, lines: &mut Vec<u8>) -> io::Result<()> {
+    match order {
+        Order::Batch(commands) => {
+            for reply in run_batch(map, commands, |command, reply| log.note(command, reply)) {
+                show(&reply, lines);
+            }
+            log.write(LONG)
+        }
+        Order::Flush => writeln!(lines, "flushed {}", log.flush()?),
+        Order::Verify => writeln!(lines, "ok 1 1 {}", map.len()),
+    }
+}
+
+fn main() -> io::Result<()> {
+    let words: Vec<_> = std::env::args().collect();
+    let mut text = Vec::new();
+    io::stdin().read_to_end(&mut text)?;
+    let orders = parse(&text).ok_or(io::ErrorKind::InvalidData)?;
+    let path = words.iter().skip_while(|word| *word != "--disk").nth(1);
+    let (mut map, mut log) = match path {
+        None => (Map::new(), log(None, 1)),
+        Some(path) if words.iter().any(|word| word == "--create") => create(path)?,
+        Some(path) => recover(path)?,
+    };
+    let (mut lines, mut out) = (Vec::new(), io::stdout());
+    for order in &orders {
+        lines.clear();
+        run(&mut map, &mut log, order, &mut lines)?;
+        out.write_all(&lines)?;
+    }
+    out.flush()
+}
