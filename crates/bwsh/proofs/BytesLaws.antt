@@ -1,18 +1,40 @@
--- What orders answer doesn't depend on the bytes of the disk.
-use Rattle.std.proofs.Common.{◌≡◌, ℕ, List, [], ◌∷◌, ◌++◌, Option, Some, None, Result, Ok, Err, refl, ap, ◌∙◌}
-use Rattle.std.specs.Prelude.{is_some, if◌then◌else◌}
+-- When the answers to orders don't depend on what the disk shows.
+use Rattle.std.proofs.Common.{◌≡◌, ℕ, List, [], ◌∷◌, ◌++◌, Option, Some, None, Result, Ok, Err, refl, sym, ap, ◌∙◌, subst}
+use Rattle.std.specs.Prelude.{⊤, Bool, true, false, is_some, if◌then◌else◌}
+use Rattle.std.specs.List.{All, AllByRecursion}
 use Rattle.std.specs.Option.{option_map, option_or}
 use Rattle.std.specs.declared.alloc.Global.{Global}
+use Rattle.std.proofs.lemmas.List.Elements.{recursion_from_All}
 use Rattle.keys.specs.declared.fault.Fault.{Fault}
 use Rattle.keys.specs.declared.settings.Settings.{Settings}
 use Rattle.mapping.specs.Tree.{Store}
-use Rattle.engine.specs.Steps.{Step, Answer, Stepped}
+use Rattle.flush_log.specs.AfterFlush.{after_text, flush_commit, file_after, store_after, is_spent}
+use Rattle.flush_log.specs.FlushText.{flush_text, flushed}
+use Rattle.flush_log.specs.Layout.{is_full_for_flush}
+use Rattle.engine.specs.Steps.{Step, Answer, Stepped, unless_refused, after_step, batching}
 use Rattle.bwsh.specs.declared.batch_file.Order.{Order}
-use Rattle.bwsh.specs.declared.batch_file.Order.TheVariants.{Batch, Flush, Verify}
+use Rattle.bwsh.specs.declared.batch_file.Order.TheVariants.{Batch, Flush, Clean, Verify}
 use Rattle.bwsh.specs.declared.session.Ending.TheVariants as endings
-use Rattle.bwsh.specs.Session.{Stored, step_in, left_by, refused_by, behind_step, refusal_of_step, behind, refusal_of, map_behind, own_lines, answer_lines, accepted, first_refusal, orders_end, stopped_by}
-use Rattle.bwsh.specs.Shown.{shown_flushed}
-use Rattle.bwsh.proofs.RunLemmas.{without_bytes, stepped, order-same}
+use Rattle.bwsh.specs.BatchFile.{IsNoClean}
+use Rattle.bwsh.specs.Session.{Stored, Reads, later, AreLeft, step_in, left_by, refused_by, behind_step, refusal_of_step, behind, refusal_of, map_behind, own_lines, answer_lines, accepted, first_refusal, orders_end, stopped_by}
+use Rattle.bwsh.specs.Shown.{shown_flushed, shown_cleaned}
+use Rattle.bwsh.proofs.RunLemmas.{flush_answer, committed_unless}
+
+-- ---- a step
+
+-- all that a step answers and leaves but for the bytes
+abbrev without_bytes : Stepped Global → Result (Answer Global × Store) Fault
+without_bytes (Ok p) = Ok (p.0, p.1.0)
+without_bytes (Err fault) = Err fault
+
+batch-same : (o : Option Fault) (a : Answer Global) (st : Store) (f g : List ℕ) → without_bytes (unless_refused o a st f) ≡ without_bytes (unless_refused o a st g)
+batch-same None a st f g = refl
+batch-same (Some fault) a st f g = refl
+
+commit-same : (spent full : Bool) (now : Store) (f g : List ℕ) → without_bytes (flush_answer (committed_unless spent full now f)) ≡ without_bytes (flush_answer (committed_unless spent full now g))
+commit-same true full now f g = refl
+commit-same false true now f g = refl
+commit-same false false now f g = refl
 
 -- two outcomes of a step that differ in the bytes at most
 left-same : (st : Store) (f g : List ℕ) (r q : Stepped Global) → without_bytes r ≡ without_bytes q → ((left_by (st, f) r).0 ≡ (left_by (st, g) q).0) × (refused_by r ≡ refused_by q)
@@ -23,50 +45,126 @@ left-same st f g (Err a) (Err b) e = let same : a ≡ b = cc in (refl, ap (λ (x
 left-same st f g (Ok p) (Err b) e = absurd (cc)
 left-same st f g (Err a) (Ok q) e = absurd (cc)
 
-module _ (settings : Settings) where
-  step-same : (st : Store) (f g : List ℕ) (o : Option (Step Global)) → ((y : Step Global) → o ≡ Some y → without_bytes (stepped settings st f y) ≡ without_bytes (stepped settings st g y))
+module _ (settings : Settings) (st : Store) (f g : List ℕ) where
+  text-same : (text : _) → without_bytes (flush_answer (after_text settings st f text)) ≡ without_bytes (flush_answer (after_text settings st g text))
+  text-same [] = refl
+  text-same (x ∷ xs) =
+      let m = flush_commit settings st (x ∷ xs) in
+      commit-same (is_spent m.slot) (is_full_for_flush settings m.slot.head m.slot.tail) (store_after (flushed st.tree) m.slot) (file_after settings f m) (file_after settings g m)
+
+  -- what the step of an order leaves with these bytes
+  abbrev stepped : List ℕ → Step Global → Stepped Global
+  stepped file y = after_step (batching settings) settings st file y
+
+  order-same : (order : Order) → IsNoClean order → (y : Step Global) → step_in order ≡ Some y → without_bytes (stepped f y) ≡ without_bytes (stepped g y)
+  order-same (Batch cs) only y is =
+      let same : Step.Batch cs ≡ y = cc in
+      subst (λ (z : Step Global). without_bytes (stepped f z) ≡ without_bytes (stepped g z)) same (batch-same _ _ _ f g)
+  order-same Flush only y is =
+      let same : (let z : Step Global = Step.Flush in z ≡ y) = cc in
+      subst (λ (z : Step Global). without_bytes (stepped f z) ≡ without_bytes (stepped g z)) same (text-same (flush_text st.tree))
+  order-same Clean only y is = absurd only
+  order-same Verify only y is = absurd (cc)
+
+  step-same : (o : Option (Step Global)) → ((y : Step Global) → o ≡ Some y → without_bytes (stepped f y) ≡ without_bytes (stepped g y))
       → ((behind_step settings (st, f) o).0 ≡ (behind_step settings (st, g) o).0) × (refusal_of_step settings (st, f) o ≡ refusal_of_step settings (st, g) o)
-  step-same st f g None same = (refl, refl)
-  step-same st f g (Some y) same = left-same st f g (stepped settings st f y) (stepped settings st g y) (same y refl)
+  step-same None same = (refl, refl)
+  step-same (Some y) same = left-same st f g (stepped f y) (stepped g y) (same y refl)
 
-  -- an order leaves the same store, and is refused for the same reason
-  behind-same : (st : Store) (f g : List ℕ) (order : Order) → ((behind settings (st, f) order).0 ≡ (behind settings (st, g) order).0) × (refusal_of settings (st, f) order ≡ refusal_of settings (st, g) order)
+  -- an order that is no clean leaves the same store, and is refused for the same reason
+  behind-same : (order : Order) → IsNoClean order → ((behind settings st f order).0 ≡ (behind settings st g order).0) × (refusal_of settings st f order ≡ refusal_of settings st g order)
   unfolding behind refusal_of
-  behind-same st f g order = step-same st f g (step_in order) (order-same settings st f g order)
+  behind-same order only = step-same (step_in order) (order-same order only)
 
-  own-same : (st : Store) (f g : List ℕ) (m : List (List ℕ × List ℕ)) (order : Order) → own_lines settings (st, f) m order ≡ own_lines settings (st, g) m order
-  own-same st f g m (Batch cs) = refl
-  own-same st f g m Flush = ap (λ (s : Store). shown_flushed s.sequence ∷ []) (behind-same st f g Flush).0
-  own-same st f g m Verify = refl
+  -- where it leaves the same store, it answers the same
+  own-same : (m : List (List ℕ × List ℕ)) (order : Order) → (behind settings st f order).0 ≡ (behind settings st g order).0 → own_lines settings st f m order ≡ own_lines settings st g m order
+  own-same m (Batch cs) same = refl
+  own-same m Flush same = ap (λ (s : Store). shown_flushed s.sequence ∷ []) same
+  own-same m Clean same = ap (λ (s : Store). shown_cleaned s.head ∷ []) same
+  own-same m Verify same = refl
 
-  pub lines-same : (st : Store) (f g : List ℕ) (m : List (List ℕ × List ℕ)) (orders : List Order) → answer_lines settings (st, f) m orders ≡ answer_lines settings (st, g) m orders
-  lines-same st f g m [] = refl
-  lines-same st f g m (order ∷ rest) =
-      let at = behind settings (st, f) order in
-      let bt = behind settings (st, g) order in
+-- ---- orders
+
+module _ (settings : Settings) where
+  -- each of the orders leaves the same store, and is refused for the same reason, whichever of the two the disk shows
+  abbrev AreAlike : Store → Reads → Reads → List Order → Type 0
+  AreAlike st shown other [] = ⊤
+  AreAlike st shown other (order ∷ rest) =
+      ((behind settings st (shown 0) order).0 ≡ (behind settings st (other 0) order).0)
+      × (refusal_of settings st (shown 0) order ≡ refusal_of settings st (other 0) order)
+      × AreAlike (behind settings st (shown 0) order).0 (later shown) (later other) rest
+
+  lines-alike : (st : Store) (shown other : Reads) (m : List (List ℕ × List ℕ)) (orders : List Order) → AreAlike st shown other orders
+      → answer_lines settings st shown m orders ≡ answer_lines settings st other m orders
+  lines-alike st shown other m [] alike = refl
+  lines-alike st shown other m (order ∷ rest) (same, refused, alike) =
+      let now : Store = (behind settings st (shown 0) order).0 in
       let n = map_behind m order in
-      let further = lines-same at.0 at.1 bt.1 n rest ∙ ap (λ (s : Store). answer_lines settings (s, bt.1) n rest) (behind-same st f g order).0 in
-      ap (λ (l : List (List ℕ)). l ++ answer_lines settings at n rest) (own-same st f g m order) ∙ ap (λ (l : List (List ℕ)). own_lines settings (st, g) m order ++ l) further
+      let further = lines-alike now (later shown) (later other) n rest alike ∙ ap (λ (s : Store). answer_lines settings s (later other) n rest) same in
+      ap (λ (l : List (List ℕ)). l ++ answer_lines settings now (later shown) n rest) (own-same settings st (shown 0) (other 0) m order same)
+      ∙ ap (λ (l : List (List ℕ)). own_lines settings st (other 0) m order ++ l) further
 
-  pub accepted-same : (st : Store) (f g : List ℕ) (orders : List Order) → accepted settings (st, f) orders ≡ accepted settings (st, g) orders
-  accepted-same st f g [] = refl
-  accepted-same st f g (order ∷ rest) =
-      let at = behind settings (st, f) order in
-      let bt = behind settings (st, g) order in
-      let same = behind-same st f g order in
-      let further = accepted-same at.0 at.1 bt.1 rest ∙ ap (λ (s : Store). accepted settings (s, bt.1) rest) same.0 in
-      ap (λ (r : Option Fault). if is_some r then [] else order ∷ accepted settings at rest) same.1
-      ∙ ap (λ (l : List Order). if is_some (refusal_of settings (st, g) order) then [] else order ∷ l) further
+  accepted-alike : (st : Store) (shown other : Reads) (orders : List Order) → AreAlike st shown other orders → accepted settings st shown orders ≡ accepted settings st other orders
+  accepted-alike st shown other [] alike = refl
+  accepted-alike st shown other (order ∷ rest) (same, refused, alike) =
+      let now : Store = (behind settings st (shown 0) order).0 in
+      let further = accepted-alike now (later shown) (later other) rest alike ∙ ap (λ (s : Store). accepted settings s (later other) rest) same in
+      ap (λ (r : Option Fault). if is_some r then [] else order ∷ accepted settings now (later shown) rest) refused
+      ∙ ap (λ (l : List Order). if is_some (refusal_of settings st (other 0) order) then [] else order ∷ l) further
 
-  refusal-same : (st : Store) (f g : List ℕ) (orders : List Order) → first_refusal settings (st, f) orders ≡ first_refusal settings (st, g) orders
-  refusal-same st f g [] = refl
-  refusal-same st f g (order ∷ rest) =
-      let at = behind settings (st, f) order in
-      let bt = behind settings (st, g) order in
-      let same = behind-same st f g order in
-      let further = refusal-same at.0 at.1 bt.1 rest ∙ ap (λ (s : Store). first_refusal settings (s, bt.1) rest) same.0 in
-      ap (λ (r : Option Fault). option_or r (first_refusal settings at rest)) same.1
-      ∙ ap (λ (r : Option Fault). option_or (refusal_of settings (st, g) order) r) further
+  refusal-alike : (st : Store) (shown other : Reads) (orders : List Order) → AreAlike st shown other orders → first_refusal settings st shown orders ≡ first_refusal settings st other orders
+  refusal-alike st shown other [] alike = refl
+  refusal-alike st shown other (order ∷ rest) (same, refused, alike) =
+      let now : Store = (behind settings st (shown 0) order).0 in
+      let further = refusal-alike now (later shown) (later other) rest alike ∙ ap (λ (s : Store). first_refusal settings s (later other) rest) same in
+      ap (λ (r : Option Fault). option_or r (first_refusal settings now (later shown) rest)) refused
+      ∙ ap (λ (r : Option Fault). option_or (refusal_of settings st (other 0) order) r) further
 
-  pub end-same : (st : Store) (f g : List ℕ) (orders : List Order) → orders_end settings (st, f) orders ≡ orders_end settings (st, g) orders
-  end-same st f g orders = ap (λ (r : Option Fault). stopped_by (option_map (λ fault. endings.Fault fault) r)) (refusal-same st f g orders)
+  end-alike : (st : Store) (shown other : Reads) (orders : List Order) → AreAlike st shown other orders → orders_end settings st shown orders ≡ orders_end settings st other orders
+  end-alike st shown other orders alike = ap (λ (r : Option Fault). stopped_by (option_map (λ fault. endings.Fault fault) r)) (refusal-alike st shown other orders alike)
+
+  -- so it is where none is a clean
+  alike-without_cleans : (st : Store) (shown other : Reads) (orders : List Order) → AllByRecursion IsNoClean orders → AreAlike st shown other orders
+  alike-without_cleans st shown other [] only = tt
+  alike-without_cleans st shown other (order ∷ rest) only =
+      let (same, refused) = behind-same settings st (shown 0) (other 0) order only.0 in
+      (same, refused, alike-without_cleans (behind settings st (shown 0) order).0 (later shown) (later other) rest only.1)
+
+  -- and where the disk shows what was left
+  alike-left : (st : Store) (file : List ℕ) (shown other : Reads) (orders : List Order) → AreLeft settings st file shown orders → AreLeft settings st file other orders
+      → AreAlike st shown other orders
+  alike-left st file shown other [] p q = tt
+  alike-left st file shown other (order ∷ rest) (first, p) (first_too, q) =
+      let bytes : shown 0 ≡ other 0 = first ∙ sym first_too in
+      let same = ap (λ (f : List ℕ). behind settings st f order) bytes in
+      let at : Stored = behind settings st (shown 0) order in
+      let here = subst (λ (a : Stored). AreLeft settings a.0 a.1 (later other) rest) (sym same) q in (
+        ap (λ (a : Stored). a.0) same,
+        ap (λ (f : List ℕ). refusal_of settings st f order) bytes,
+        alike-left at.0 at.1 (later shown) (later other) rest p here,
+      )
+
+pub lines-same : (settings : Settings) (st : Store) (shown other : Reads) (m : List (List ℕ × List ℕ)) (orders : List Order) → All IsNoClean orders
+    → answer_lines settings st shown m orders ≡ answer_lines settings st other m orders
+lines-same settings st shown other m orders only =
+    lines-alike settings st shown other m orders (alike-without_cleans settings st shown other orders (recursion_from_All IsNoClean orders only))
+
+pub accepted-same : (settings : Settings) (st : Store) (shown other : Reads) (orders : List Order) → All IsNoClean orders → accepted settings st shown orders ≡ accepted settings st other orders
+accepted-same settings st shown other orders only =
+    accepted-alike settings st shown other orders (alike-without_cleans settings st shown other orders (recursion_from_All IsNoClean orders only))
+
+pub end-same : (settings : Settings) (st : Store) (shown other : Reads) (orders : List Order) → All IsNoClean orders → orders_end settings st shown orders ≡ orders_end settings st other orders
+end-same settings st shown other orders only =
+    end-alike settings st shown other orders (alike-without_cleans settings st shown other orders (recursion_from_All IsNoClean orders only))
+
+pub lines-left : (settings : Settings) (st : Store) (file : List ℕ) (shown other : Reads) (m : List (List ℕ × List ℕ)) (orders : List Order)
+    → AreLeft settings st file shown orders → AreLeft settings st file other orders → answer_lines settings st shown m orders ≡ answer_lines settings st other m orders
+lines-left settings st file shown other m orders p q = lines-alike settings st shown other m orders (alike-left settings st file shown other orders p q)
+
+pub accepted-left : (settings : Settings) (st : Store) (file : List ℕ) (shown other : Reads) (orders : List Order)
+    → AreLeft settings st file shown orders → AreLeft settings st file other orders → accepted settings st shown orders ≡ accepted settings st other orders
+accepted-left settings st file shown other orders p q = accepted-alike settings st shown other orders (alike-left settings st file shown other orders p q)
+
+pub end-left : (settings : Settings) (st : Store) (file : List ℕ) (shown other : Reads) (orders : List Order)
+    → AreLeft settings st file shown orders → AreLeft settings st file other orders → orders_end settings st shown orders ≡ orders_end settings st other orders
+end-left settings st file shown other orders p q = end-alike settings st shown other orders (alike-left settings st file shown other orders p q)

@@ -1,8 +1,9 @@
 -- Lemmas on how a session ends.
 use Rattle.std.proofs.Common.{Bool, true, false, ◌≡◌, ◌≢◌, ◌↔◌, ◌⊎◌, inl, inr, ℕ, List, [], ◌∷◌, Option, Some, None, IfSome, Result, Ok, Err, refl, sym, ap, ◌∙◌, subst, arith}
-use Rattle.std.specs.Prelude.{IsOk, replicate, String}
+use Rattle.std.specs.Prelude.{IsTrue, IsOk, replicate, String}
 use Rattle.std.specs.declared.alloc.Global.{Global}
 use Rattle.std.specs.Option.{option_map}
+use Rattle.std.specs.String.{string_bytes}
 use Rattle.std.specs.Io.KnownBytes.{Appends, Keeps}
 use Rattle.std.proofs.KnownBytes.{Appends-nil}
 use Rattle.keys.specs.Lists.{flat}
@@ -10,6 +11,8 @@ use Rattle.keys.specs.declared.fault.Fault.{Fault}
 use Rattle.keys.specs.declared.fault.Fault.TheVariants.{NoMemory}
 use Rattle.keys.specs.declared.settings.Settings.{Settings}
 use Rattle.mapping.specs.Levels.{contents}
+use Rattle.mapping.specs.Tree.{Store}
+use Rattle.flush_log.specs.Disk.{View}
 use Rattle.flush_log.specs.Segments.{disk_size}
 use Rattle.engine.specs.State.{State}
 use Rattle.bwsh.specs.declared.line.Why.{Why}
@@ -18,12 +21,13 @@ use Rattle.bwsh.specs.declared.session.Ending.{Ending}
 use Rattle.bwsh.specs.declared.session.Ending.TheVariants.{Words, Bad, Device}
 use Rattle.bwsh.specs.declared.session.Ending.TheVariants as endings
 use Rattle.bwsh.specs.BatchFile.{text_says, first_bad, orders_of}
-use Rattle.bwsh.specs.Session.{status_of_end, Stored, Start, IsStart, IsStartBy, new_start, found_start, refusal_of, behind, map_behind, own_lines, answer_lines, printed, printed_by, accepted, orders_end, first_refusal, stopped_by, end_after, lines_after, session_end, session_lines, IsReadEnding, IsUnopened, Opens, IsForWords, BeginsWith, Prints, PrintsOneText, Runs, RunsFrom, Answers, EndsBy}
+use Rattle.bwsh.specs.Session.{status_of_end, Reads, later, Start, IsStart, IsStartBy, IsShown, AreLeft, AreLeftFrom, new_start, found_start, refusal_of, behind, map_behind, own_lines, answer_lines, printed, printed_by, accepted, orders_end, first_refusal, stopped_by, end_after, lines_after, session_end, session_lines, IsReadEnding, IsUnopened, IsHonestStore, Opens, IsForWords, BeginsWith, Prints, PrintsOneText, Runs, RunsOn, RunsFrom, Answers, EndsBy}
 use Rattle.bwsh.specs.Options.{Told, AsksFor, AsksForHelp, AreRefused, is_refusal, IsRightKind, told_of}
 use Rattle.bwsh.specs.declared.options.asked.Options.{Options}
 use Rattle.clap.specs.declared.error.kind.ErrorKind.{ErrorKind}
 use Rattle.clap.specs.declared.error.kind.ErrorKind.TheVariants.{DisplayHelp, OutOfMemory}
 use Rattle.bwsh.proofs.Prints.{front-more, front-trans, front-flat, Prints-front, Prints-flushed, IfSome-known}
+use Rattle.bwsh.proofs.RunLemmas.{left_shown, AreLeft-left_shown}
 use Rattle.clap.specs.declared.error.Error.{Error}
 
 -- ---- a session that ends before any order is run
@@ -33,34 +37,55 @@ pub IsReadEnding-of_fault : (bad : Option (ℕ × Why)) (early : Ending) → (ea
 IsReadEnding-of_fault bad early (inl e) = rw e refl
 IsReadEnding-of_fault bad early (inr e) = rw e tt
 
-module _ (old : Option (List ℕ)) (start : Start) (orders : List Order) where
-  Prints-unread : (bad : Option (ℕ × Why)) (early : Ending) → IsReadEnding bad early → Prints old old (lines_after bad start orders) (end_after bad start orders) (Err early)
+-- what was left from this start
+abbrev left_from : Start → List Order → Reads
+left_from (Ok p) orders = left_shown p.0 p.1.0 p.1.1 orders
+left_from (Err fault) orders = λ i. []
+
+AreLeftFrom-left_from : (start : Start) (orders : List Order) → AreLeftFrom start (left_from start orders) orders
+AreLeftFrom-left_from (Ok p) orders = AreLeft-left_shown p.0 p.1.0 p.1.1 orders
+AreLeftFrom-left_from (Err fault) orders = tt
+
+module _ (old : Option (List ℕ)) (start : Start) (shown : Reads) (orders : List Order) where
+  Prints-unread : (bad : Option (ℕ × Why)) (early : Ending) → IsReadEnding bad early
+      → Prints old old (lines_after bad start shown orders) (end_after bad start shown orders) (Err early)
   Prints-unread bad (Words error) h = absurd h
   Prints-unread bad (Bad line why) h = rw h (inl (refl, Appends-nil old))
   Prints-unread bad (endings.Fault fault) h =
-      inr (inl (ap (λ (f : Fault). Err (endings.Fault f)) h, ([], (lines_after bad start orders, refl), Appends-nil old)))
-  Prints-unread bad Device h = inr (inr (refl, ([], (flat (lines_after bad start orders), refl), Appends-nil old)))
+      inr (inl (ap (λ (f : Fault). Err (endings.Fault f)) h, ([], (lines_after bad start shown orders, refl), Appends-nil old)))
+  Prints-unread bad Device h = inr (inr (refl, ([], (flat (lines_after bad start shown orders), refl), Appends-nil old)))
 
-  Prints-unopened : (early : Ending) → IsUnopened start early → Prints old old (lines_after None start orders) (end_after None start orders) (Err early)
+  Prints-unopened : (early : Ending) → IsUnopened start early → Prints old old (lines_after None start shown orders) (end_after None start shown orders) (Err early)
   Prints-unopened early (inl (fault, is, e)) = rw (is, e) (inl (refl, Appends-nil old))
   Prints-unopened early (inr (inl e)) =
-      inr (inl (ap (λ (x : Ending). Err x) e, ([], (lines_after None start orders, refl), Appends-nil old)))
+      inr (inl (ap (λ (x : Ending). Err x) e, ([], (lines_after None start shown orders, refl), Appends-nil old)))
   Prints-unopened early (inr (inr e)) =
-      inr (inr (ap (λ (x : Ending). Err x) e, ([], (flat (lines_after None start orders), refl), Appends-nil old)))
+      inr (inr (ap (λ (x : Ending). Err x) e, ([], (flat (lines_after None start shown orders), refl), Appends-nil old)))
 
-  module _ {D : Type 0} (opened : Result (State D) Ending) (opens : Opens start opened) where
-    -- there is no store
-    pub RunsFrom-unopened : (early : Ending) → opened ≡ Err early → RunsFrom start orders old old (Err early)
-    unfolding RunsFrom
-    RunsFrom-unopened early e = Prints-unopened early (subst (Opens start) e opens)
+module _ (old : Option (List ℕ)) (start : Start) (orders : List Order) {D : Type 0} (view : D → View) (opened : Result (State D) Ending) (opens : Opens view start opened) where
+  -- there is no store
+  pub RunsFrom-unopened : (early : Ending) → opened ≡ Err early → RunsFrom (IsHonestStore view opened) start orders old old (Err early)
+  unfolding RunsFrom
+  RunsFrom-unopened early e =
+      let shown : Reads = left_from start orders in
+      (shown, λ h. AreLeftFrom-left_from start orders, Prints-unopened old start shown orders early (subst (Opens view start) e opens))
 
-    -- there is one: the orders are run on it, whatever bytes are said to be on its disk
-    pub RunsFrom-opened : (x : State D) (mid new : Option (List ℕ)) (done end : Result (Unit {0}) Ending) → opened ≡ Ok x
-        → ((file : List ℕ) → Runs x.settings (x.store, file) orders old mid done) → Keeps mid new → (end ≡ done) ⊎ (end ≡ Err Device) → RunsFrom start orders old new end
-    unfolding RunsFrom Runs
-    RunsFrom-opened x mid new done end e runs kept ended =
-        let (file, start_is) = subst (Opens start) e opens in
-        rw start_is (Prints-flushed old mid new (lines_after None (Ok (x.settings, (x.store, file))) orders) (end_after None (Ok (x.settings, (x.store, file))) orders) done end (runs file) kept ended)
+  -- there is one: the orders are run on it
+  pub RunsFrom-opened : (x : State D) (mid new : Option (List ℕ)) (done end : Result (Unit {0}) Ending) → opened ≡ Ok x
+      → RunsOn (view x.disk).is_honest x.settings x.store (view x.disk).seen orders old mid done → Keeps mid new → (end ≡ done) ⊎ (end ≡ Err Device)
+      → RunsFrom (IsHonestStore view opened) start orders old new end
+  unfolding RunsFrom Runs
+  RunsFrom-opened x mid new done end e (shown, are, runs) kept ended =
+      let (file, start_is, seen_is) = subst (Opens view start) e opens in
+      let is_left : IsHonestStore view opened → AreLeft x.settings x.store file shown orders = λ honest.
+      let h : IsTrue (view x.disk).is_honest = subst (IsHonestStore view) e honest in
+      subst (λ (f : List ℕ). AreLeft x.settings x.store f shown orders) (seen_is h) (are h) in
+      rw start_is (
+        shown,
+        is_left,
+        Prints-flushed old mid new (lines_after None (Ok (x.settings, (x.store, file))) shown orders)
+            (end_after None (Ok (x.settings, (x.store, file))) shown orders) done end runs kept ended,
+      )
 
 -- what is told has some right start
 start_of : (settings : Settings) (disk : Option (List ℕ)) (create : Bool) → (start : Start) × IsStartBy settings disk create start
@@ -79,51 +104,60 @@ module _ (o : Options) where
   pub IsStart-found : (path : String Global) → o.disk ≡ Some path → o.create ≡ false → (file : List ℕ) → IsStart (told_of o) (found_start file)
   IsStart-found path e create file = rw (e, create) (file, refl)
 
+-- a store in a file isn't in memory
+pub in_file : (o : Options) (path : String Global) → o.disk ≡ Some path → (told_of o).disk ≡ None → ⊥
+in_file o path e none = let bad : Some (string_bytes path) ≡ None = sym (ap (option_map string_bytes) e) ∙ none in cc
+
 module _ (told : Told) (known old : Option (List ℕ)) (text : List ℕ) (is_known : IfSome known (λ bytes. text ≡ bytes)) where
   pub Answers-unread : (early : Ending) → IsReadEnding (first_bad 1 (text_says text)) early → Answers told known old old (Err early)
   unfolding Answers
   Answers-unread early h =
       let (start, is) = start_of told.settings told.disk told.create in
-      (text, is_known, start, is, Prints-unread old start (orders_of [] (text_says text)) (first_bad 1 (text_says text)) early h)
+      let orders : List Order = orders_of [] (text_says text) in
+      let shown : Reads = left_from start orders in
+      (text, is_known, start, is, shown, λ memory. AreLeftFrom-left_from start orders, Prints-unread old start shown orders (first_bad 1 (text_says text)) early h)
 
   pub Answers-run : (new : Option (List ℕ)) (end : Result (Unit {0}) Ending) (ran items : List Order) → first_bad 1 (text_says text) ≡ None → ran ≡ items → items ≡ orders_of [] (text_says text)
-      → (start : Start) → IsStart told start → RunsFrom start ran old new end → Answers told known old new end
+      → (start : Start) → IsStart told start → (IsHonest : Type 0) → (told.disk ≡ None → IsHonest) → RunsFrom IsHonest start ran old new end → Answers told known old new end
   unfolding Answers RunsFrom
-  Answers-run new end ran items no_bad e_ran e_items start is p =
-      let run = subst (λ (os : List Order). Prints old new (lines_after None start os) (end_after None start os) end) (e_ran ∙ e_items) p in
-      (text, is_known, start, is, rw no_bad run)
+  Answers-run new end ran items no_bad e_ran e_items start is IsHonest honest p =
+      let (shown, are, run) = subst (λ (os : List Order). RunsFrom IsHonest start os old new end) (e_ran ∙ e_items) p in
+      (text, is_known, start, is, shown, λ memory. are (honest memory), rw no_bad run)
 
 -- ---- what follows from the end
 
 module _ (settings : Settings) where
   -- the orders are all accepted where none stops them
-  all_by : (at : Stored) (order : Order) (rest : List Order) (r : Option Fault) → refusal_of settings at order ≡ r → (done : Unit {0})
-      → Ok done ≡ orders_end settings at (order ∷ rest)
-      → (Ok done ≡ orders_end settings (behind settings at order) rest → accepted settings (behind settings at order) rest ≡ rest)
-      → accepted settings at (order ∷ rest) ≡ order ∷ rest
-  all_by at order rest None h done e further = rw h (ap (λ (l : List Order). order ∷ l) (further (rw h at e)))
-  all_by at order rest (Some fault) h done e further =
+  all_by : (st : Store) (shown : Reads) (order : Order) (rest : List Order) (r : Option Fault) → refusal_of settings st (shown 0) order ≡ r → (done : Unit {0})
+      → Ok done ≡ orders_end settings st shown (order ∷ rest)
+      → (Ok done ≡ orders_end settings (behind settings st (shown 0) order).0 (later shown) rest → accepted settings (behind settings st (shown 0) order).0 (later shown) rest ≡ rest)
+      → accepted settings st shown (order ∷ rest) ≡ order ∷ rest
+  all_by st shown order rest None h done e further = rw h (ap (λ (l : List Order). order ∷ l) (further (rw h at e)))
+  all_by st shown order rest (Some fault) h done e further =
       let no : Ok done ≡ Err (endings.Fault fault) = rw h at e in
       absurd (cc)
 
-  accepted-all : (at : Stored) (orders : List Order) (done : Unit {0}) → Ok done ≡ orders_end settings at orders → accepted settings at orders ≡ orders
-  accepted-all at [] done e = refl
-  accepted-all at (order ∷ rest) done e = all_by at order rest (refusal_of settings at order) refl done e (accepted-all (behind settings at order) rest done)
+  accepted-all : (st : Store) (shown : Reads) (orders : List Order) (done : Unit {0}) → Ok done ≡ orders_end settings st shown orders → accepted settings st shown orders ≡ orders
+  accepted-all st shown [] done e = refl
+  accepted-all st shown (order ∷ rest) done e =
+      all_by st shown order rest (refusal_of settings st (shown 0) order) refl done e (accepted-all (behind settings st (shown 0) order).0 (later shown) rest done)
 
   -- what is accepted is answered first
-  front_by : (m : List (List ℕ × List ℕ)) (at : Stored) (order : Order) (rest : List Order) (r : Option Fault) → refusal_of settings at order ≡ r
-      → BeginsWith (answer_lines settings (behind settings at order) (map_behind m order) rest)
-      (answer_lines settings (behind settings at order) (map_behind m order) (accepted settings (behind settings at order) rest))
-      → BeginsWith (answer_lines settings at m (order ∷ rest)) (answer_lines settings at m (accepted settings at (order ∷ rest)))
-  front_by m at order rest None h begins =
-      let then = behind settings at order in
-      rw h (front-more (own_lines settings at m order) (answer_lines settings then (map_behind m order) rest) (answer_lines settings then (map_behind m order) (accepted settings then rest)) begins)
-  front_by m at order rest (Some fault) h begins = rw h (answer_lines settings at m (order ∷ rest), refl)
+  front_by : (m : List (List ℕ × List ℕ)) (st : Store) (shown : Reads) (order : Order) (rest : List Order) (r : Option Fault) → refusal_of settings st (shown 0) order ≡ r
+      → (let now : Store = (behind settings st (shown 0) order).0 in BeginsWith (answer_lines settings now (later shown) (map_behind m order) rest)
+      (answer_lines settings now (later shown) (map_behind m order) (accepted settings now (later shown) rest)))
+      → BeginsWith (answer_lines settings st shown m (order ∷ rest)) (answer_lines settings st shown m (accepted settings st shown (order ∷ rest)))
+  front_by m st shown order rest None h begins =
+      let now : Store = (behind settings st (shown 0) order).0 in
+      rw h (front-more (own_lines settings st (shown 0) m order) (answer_lines settings now (later shown) (map_behind m order) rest)
+      (answer_lines settings now (later shown) (map_behind m order) (accepted settings now (later shown) rest)) begins)
+  front_by m st shown order rest (Some fault) h begins = rw h (answer_lines settings st shown m (order ∷ rest), refl)
 
-  accepted-front : (m : List (List ℕ × List ℕ)) (at : Stored) (orders : List Order) → BeginsWith (answer_lines settings at m orders) (answer_lines settings at m (accepted settings at orders))
-  accepted-front m at [] = ([], refl)
-  accepted-front m at (order ∷ rest) =
-      front_by m at order rest (refusal_of settings at order) refl (accepted-front (map_behind m order) (behind settings at order) rest)
+  accepted-front : (m : List (List ℕ × List ℕ)) (st : Store) (shown : Reads) (orders : List Order)
+      → BeginsWith (answer_lines settings st shown m orders) (answer_lines settings st shown m (accepted settings st shown orders))
+  accepted-front m st shown [] = ([], refl)
+  accepted-front m st shown (order ∷ rest) =
+      front_by m st shown order rest (refusal_of settings st (shown 0) order) refl (accepted-front (map_behind m order) (behind settings st (shown 0) order).0 (later shown) rest)
 
 -- the right end is a bad line only where there is one, and is never for the words
 bad_stop : (r : Option Fault) (line : ℕ) (why : Why) → Err (Bad line why) ≡ stopped_by (option_map (λ fault. endings.Fault fault) r) → ⊥
@@ -139,73 +173,80 @@ module _ (text : List ℕ) where
   abbrev ordered : List Order
   ordered = orders_of [] (text_says text)
 
-  done_right : (bad : Option (ℕ × Why)) (start : Start) (done : Unit {0}) → Ok done ≡ end_after bad start ordered
-      → (bad ≡ None) × IsOk start × (flat (lines_after bad start ordered) ≡ printed_by start text)
-  done_right None (Ok p) done e = (refl, refl, ap (λ (os : List Order). printed p.0 p.1 (contents p.1.0.tree) os) (accepted-all p.0 p.1 ordered done e))
-  done_right None (Err fault) done e = absurd (cc)
-  done_right (Some b) start done e = absurd (cc)
+  module _ (shown : Reads) where
+    done_right : (bad : Option (ℕ × Why)) (start : Start) (done : Unit {0}) → Ok done ≡ end_after bad start shown ordered
+        → (bad ≡ None) × IsOk start × (flat (lines_after bad start shown ordered) ≡ printed_by start shown text)
+    done_right None (Ok p) done e =
+        (refl, refl, ap (λ (os : List Order). printed p.0 p.1.0 shown (contents p.1.0.tree) os) (accepted-all p.0 p.1.0 shown ordered done e))
+    done_right None (Err fault) done e = absurd (cc)
+    done_right (Some b) start done e = absurd (cc)
 
-  bad_right : (bad : Option (ℕ × Why)) (start : Start) (line : ℕ) (why : Why) → Err (Bad line why) ≡ end_after bad start ordered → (bad ≢ None) × (lines_after bad start ordered ≡ [])
-  bad_right None (Ok p) line why e = absurd (bad_stop (first_refusal p.0 p.1 ordered) line why e)
-  bad_right None (Err fault) line why e = absurd (cc)
-  bad_right (Some b) start line why e = (λ no. cc, refl)
+    bad_right : (bad : Option (ℕ × Why)) (start : Start) (line : ℕ) (why : Why) → Err (Bad line why) ≡ end_after bad start shown ordered
+        → (bad ≢ None) × (lines_after bad start shown ordered ≡ [])
+    bad_right None (Ok p) line why e = absurd (bad_stop (first_refusal p.0 p.1.0 shown ordered) line why e)
+    bad_right None (Err fault) line why e = absurd (cc)
+    bad_right (Some b) start line why e = (λ no. cc, refl)
 
-  words_right : (bad : Option (ℕ × Why)) (start : Start) (error : Error) → Err (Words error) ≡ end_after bad start ordered → ⊥
-  words_right None (Ok p) error e = words_stop (first_refusal p.0 p.1 ordered) error e
-  words_right None (Err fault) error e = cc
-  words_right (Some b) start error e = cc
+    words_right : (bad : Option (ℕ × Why)) (start : Start) (error : Error) → Err (Words error) ≡ end_after bad start shown ordered → ⊥
+    words_right None (Ok p) error e = words_stop (first_refusal p.0 p.1.0 shown ordered) error e
+    words_right None (Err fault) error e = cc
+    words_right (Some b) start error e = cc
 
-  front_right : (bad : Option (ℕ × Why)) (start : Start) → BeginsWith (printed_by start text) (flat (lines_after bad start ordered))
-  front_right None (Ok p) =
-      let m = contents p.1.0.tree in
-      front-flat (answer_lines p.0 p.1 m ordered) (answer_lines p.0 p.1 m (accepted p.0 p.1 ordered)) (accepted-front p.0 m p.1 ordered)
-  front_right None (Err fault) = ([], refl)
-  front_right (Some b) start = (printed_by start text, refl)
+    front_right : (bad : Option (ℕ × Why)) (start : Start) → BeginsWith (printed_by start shown text) (flat (lines_after bad start shown ordered))
+    front_right None (Ok p) =
+        let m = contents p.1.0.tree in
+        front-flat (answer_lines p.0 p.1.0 shown m ordered) (answer_lines p.0 p.1.0 shown m (accepted p.0 p.1.0 shown ordered)) (accepted-front p.0 m p.1.0 shown ordered)
+    front_right None (Err fault) = ([], refl)
+    front_right (Some b) start = (printed_by start shown text, refl)
 
 -- ---- what follows of a session whose words tell something
 
 -- all that the text orders is printed, from a right start that has a store
 abbrev IsDoneOn : Told → Option (List ℕ) → Option (List ℕ) → List ℕ → Type 0
-IsDoneOn told old new text = (first_bad 1 (text_says text) ≡ None) × ((start : Start) × IsStart told start × IsOk start × Appends old new (printed_by start text))
+IsDoneOn told old new text =
+    (first_bad 1 (text_says text) ≡ None) × ((start : Start) × IsStart told start × IsOk start × (shown : Reads) × IsShown told start shown (orders_of [] (text_says text))
+    × Appends old new (printed_by start shown text))
 
 -- a beginning of it is
 abbrev HasBegunOn : Told → Option (List ℕ) → Option (List ℕ) → List ℕ → Type 0
-HasBegunOn told old new text = (start : Start) × IsStart told start × ((front : List ℕ) × BeginsWith (printed_by start text) front × Appends old new front)
+HasBegunOn told old new text =
+    (start : Start) × IsStart told start × (shown : Reads) × IsShown told start shown (orders_of [] (text_says text))
+    × ((front : List ℕ) × BeginsWith (printed_by start shown text) front × Appends old new front)
 
 module _ (told : Told) (known old new : Option (List ℕ)) where
   told_done : (done : Unit {0}) → Answers told known old new (Ok done) → IfSome known (IsDoneOn told old new)
   unfolding Answers
-  told_done done (text, is_known, start, is, p) =
+  told_done done (text, is_known, start, is, shown, is_shown, p) =
       IfSome-known known text (IsDoneOn told old new) is_known (by p) where
-        by : Prints old new (session_lines start text) (session_end start text) (Ok done) → IsDoneOn told old new text
+        by : Prints old new (session_lines start shown text) (session_end start shown text) (Ok done) → IsDoneOn told old new text
         by (inl (e, a)) =
-            let (none, opened, lines) = done_right text (first_bad 1 (text_says text)) start done e in
-            (none, (start, is, opened, subst (λ (l : List ℕ). Appends old new l) lines a))
+            let (none, opened, lines) = done_right text shown (first_bad 1 (text_says text)) start done e in
+            (none, (start, is, opened, shown, is_shown, subst (λ (l : List ℕ). Appends old new l) lines a))
         by (inr (inl (e, q))) = absurd (cc)
         by (inr (inr (e, q))) = absurd (cc)
 
   told_bad : (line : ℕ) (why : Why) → Answers told known old new (Err (Bad line why)) → Appends old new [] × IfSome known (λ text. first_bad 1 (text_says text) ≢ None)
   unfolding Answers
-  told_bad line why (text, is_known, start, is, p) = by p where
-    by : Prints old new (session_lines start text) (session_end start text) (Err (Bad line why)) → Appends old new [] × IfSome known (λ t. first_bad 1 (text_says t) ≢ None)
+  told_bad line why (text, is_known, start, is, shown, is_shown, p) = by p where
+    by : Prints old new (session_lines start shown text) (session_end start shown text) (Err (Bad line why)) → Appends old new [] × IfSome known (λ t. first_bad 1 (text_says t) ≢ None)
     by (inl (e, a)) =
-        let (some, lines) = bad_right text (first_bad 1 (text_says text)) start line why e in
+        let (some, lines) = bad_right text shown (first_bad 1 (text_says text)) start line why e in
         (subst (λ (l : List (List ℕ)). Appends old new (flat l)) lines a, IfSome-known known text (λ (t : List ℕ). first_bad 1 (text_says t) ≢ None) is_known some)
     by (inr (inl (e, q))) = absurd (cc)
     by (inr (inr (e, q))) = absurd (cc)
 
   told_words : (error : Error) → Answers told known old new (Err (Words error)) → ⊥
   unfolding Answers
-  told_words error (text, is_known, start, is, inl (e, a)) = words_right text (first_bad 1 (text_says text)) start error e
-  told_words error (text, is_known, start, is, inr (inl (e, q))) = cc
-  told_words error (text, is_known, start, is, inr (inr (e, q))) = cc
+  told_words error (text, is_known, start, is, shown, is_shown, inl (e, a)) = words_right text shown (first_bad 1 (text_says text)) start error e
+  told_words error (text, is_known, start, is, shown, is_shown, inr (inl (e, q))) = cc
+  told_words error (text, is_known, start, is, shown, is_shown, inr (inr (e, q))) = cc
 
   told_front : (end : Result (Unit {0}) Ending) → Answers told known old new end → IfSome known (HasBegunOn told old new)
   unfolding Answers
-  told_front end (text, is_known, start, is, p) =
-      let (front, begins, a) = Prints-front old new (session_lines start text) (session_end start text) end p in
-      let whole = front-trans (printed_by start text) (flat (session_lines start text)) front (front_right text (first_bad 1 (text_says text)) start) begins in
-      IfSome-known known text (HasBegunOn told old new) is_known (start, is, (front, whole, a))
+  told_front end (text, is_known, start, is, shown, is_shown, p) =
+      let (front, begins, a) = Prints-front old new (session_lines start shown text) (session_end start shown text) end p in
+      let whole = front-trans (printed_by start shown text) (flat (session_lines start shown text)) front (front_right text shown (first_bad 1 (text_says text)) start) begins in
+      IfSome-known known text (HasBegunOn told old new) is_known (start, is, shown, is_shown, (front, whole, a))
 
 -- ---- what follows of any session
 

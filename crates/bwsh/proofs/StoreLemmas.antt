@@ -1,6 +1,6 @@
 -- The store that a session opens.
-use Rattle.std.proofs.Common.{◌≡◌, ◌≢◌, ◌⊎◌, inl, inr, ◌≤◌, ℕ, false, List, Option, None, Some, Ok, Err, refl, ap, ◌∙◌, subst, arith}
-use Rattle.std.specs.Prelude.{MatchOption, nat_lt}
+use Rattle.std.proofs.Common.{◌≡◌, ◌≢◌, ◌⊎◌, inl, inr, ◌≤◌, ℕ, false, sym, List, Option, None, Some, Ok, Err, refl, ap, ◌∙◌, subst, arith}
+use Rattle.std.specs.Prelude.{IsTrue, length, MatchOption, nat_lt}
 use Rattle.std.proofs.lemmas.Bool.Decides.{nat_tests}
 use Rattle.keys.specs.Limits.{first_bad_field}
 use Rattle.keys.specs.declared.fault.Fault.{Fault}
@@ -8,16 +8,18 @@ use Rattle.keys.specs.declared.fault.Fault.TheVariants.{BadSettings}
 use Rattle.keys.specs.declared.fault.Fault.TheVariants as fault
 use Rattle.keys.specs.declared.settings.Field.{Field}
 use Rattle.keys.specs.declared.settings.Settings.{Settings}
+use Rattle.mapping.specs.Tree.{Store}
+use Rattle.flush_log.specs.Disk.{View, IsSettled, Kept, Same}
 use Rattle.flush_log.specs.NewStore.{disk_of_new}
 use Rattle.flush_log.specs.Segments.{disk_size}
 use Rattle.recovery.specs.Recovered.{IsLate}
 use Rattle.recovery.specs.StoreOfDisk.{first_store, store_of_disk}
-use Rattle.engine.specs.Late.{create_refusal}
+use Rattle.engine.specs.Late.{create_refusal, made_unless, after_create}
 use Rattle.engine.specs.State.{State}
 use Rattle.bwsh.specs.declared.session.Ending.{Ending}
 use Rattle.bwsh.specs.declared.session.Ending.TheVariants.{Device}
 use Rattle.bwsh.specs.declared.session.Ending.TheVariants as endings
-use Rattle.bwsh.specs.Session.{Start, IsUnopened, start_unless, start_by, first_stored, new_start, found_start}
+use Rattle.bwsh.specs.Session.{Start, Opens, IsUnopened, start_unless, start_by, first_stored, new_start, found_start}
 
 -- an ending for a fault: a device's is told as such
 abbrev pub IsEndingOf : Fault → Ending → Type 0
@@ -54,8 +56,23 @@ module _ (settings : Settings) (file : List ℕ) where
         let no : nat_lt size (disk_size settings) ≡ false = grind (arith, nat_tests) in
         rw (good, no) refl
 
-    pub Opens-made : {D : Type 0} (x : State D) → x.settings ≡ settings → x.store ≡ first_store → (bytes : List ℕ) × (new_start settings file ≡ Ok (x.settings, (x.store, bytes)))
-    Opens-made x e_settings e_store = (disk_of_new settings file, rw (e_settings, e_store) is_new)
+    -- it is made on a disk that is as honest as before
+    pub Opens-made : {D : Type 0} (view : D → View) (x : State D) (old : View) → x.settings ≡ settings → x.store ≡ first_store → (view x.disk).is_honest ≡ old.is_honest
+        → (IsTrue old.is_honest → old.seen ≡ file) → (IsTrue old.is_honest → (after_create settings old.seen ≡ Ok (x.store, (view x.disk).seen)) × IsSettled (view x.disk))
+        → disk_size settings ≤ old.size → (IsTrue old.is_honest → length old.seen ≡ old.size) → Opens view (new_start settings file) (Ok x)
+    Opens-made view x old e_settings e_store honest_is seen_is made room whole = (
+      disk_of_new settings file,
+      rw (e_settings, e_store) is_new,
+      λ honest.
+          let h : IsTrue old.is_honest = subst IsTrue honest_is honest in
+          bytes_by old.seen x.store (view x.disk).seen (seen_is h) (rw (whole h) room) (made h).0,
+    ) where
+      bytes_by : (seen : List ℕ) (st : Store) (now : List ℕ) → seen ≡ file → disk_size settings ≤ length seen → after_create settings seen ≡ Ok (st, now) → now ≡ disk_of_new settings file
+      bytes_by seen st now same fits e =
+          let none = unrefused (length seen) fits in
+          let made_of : made_unless None settings seen ≡ Ok (st, now) = subst (λ (o : Option Fault). made_unless o settings seen ≡ Ok (st, now)) none e in
+          let pair : (let p : Store × List ℕ = (first_store, disk_of_new settings seen) in p ≡ (st, now)) = cc in
+          sym (ap (λ (p : Store × List ℕ). p.1) pair) ∙ ap (disk_of_new settings) same
 
     pub IsUnopened-unmade : (size old new : ℕ) (f : Fault) (early : Ending) (Other : Fault → Type 0) → disk_size settings ≤ size
         → MatchOption (create_refusal settings size) (IsLate old new f) Other → IsEndingOf f early → IsUnopened (new_start settings file) early
@@ -64,8 +81,11 @@ module _ (settings : Settings) (file : List ℕ) where
 
 -- ---- the store of a file
 
-pub Opens-found : {D : Type 0} (file : List ℕ) (x : State D) → store_of_disk file ≡ Ok (x.settings, x.store) → (bytes : List ℕ) × (found_start file ≡ Ok (x.settings, (x.store, bytes)))
-Opens-found file x e = (file, ap (start_by file) e)
+-- it was found on a disk that is as it was
+pub Opens-found : {D : Type 0} (view : D → View) (file : List ℕ) (old : View) (x : State D) → store_of_disk file ≡ Ok (x.settings, x.store) → Kept old (view x.disk)
+    → (IsTrue old.is_honest → file ≡ old.seen) → (IsTrue old.is_honest → Same old (view x.disk)) → Opens view (found_start file) (Ok x)
+Opens-found view file old x e kept read same =
+    (file, ap (start_by file) e, λ honest. let h : IsTrue old.is_honest = subst IsTrue kept.honest honest in (same h).seen ∙ sym (read h))
 
 pub IsUnopened-found : (file : List ℕ) (old new : ℕ) (f : Fault) (early : Ending) → (store_of_disk file ≡ Err f) ⊎ IsLate old new f → IsEndingOf f early → IsUnopened (found_start file) early
 IsUnopened-found file old new f early (inl own) ending = right (found_start file) f early (ap (start_by file) own) ending

@@ -9,7 +9,7 @@ use Rattle.bwsh.specs.declared.line.Says.TheVariants.{Go, Bad}
 use Rattle.bwsh.specs.declared.line.Says.TheVariants as says
 use Rattle.bwsh.specs.declared.line.Why.{Why}
 use Rattle.bwsh.specs.declared.batch_file.Order.{Order}
-use Rattle.bwsh.specs.declared.batch_file.Order.TheVariants.{Batch, Flush, Verify}
+use Rattle.bwsh.specs.declared.batch_file.Order.TheVariants.{Batch, Flush, Clean, Verify}
 use Rattle.bwsh.specs.declared.batch_file.TextFault.{TextFault}
 use Rattle.bwsh.specs.declared.batch_file.TextFault.TheVariants as faults
 use Rattle.bwsh.specs.Line.{line_says}
@@ -39,6 +39,7 @@ orders_of pending [] = last_order pending
 orders_of pending (Says.Command command ∷ rest) = orders_of (pending ++ command ∷ []) rest
 orders_of pending (Go ∷ rest) = Batch pending ∷ orders_of [] rest
 orders_of pending (says.Flush ∷ rest) = last_order pending ++ Flush ∷ orders_of [] rest
+orders_of pending (says.Clean ∷ rest) = last_order pending ++ Clean ∷ orders_of [] rest
 orders_of pending (says.Verify ∷ rest) = last_order pending ++ Verify ∷ orders_of [] rest
 orders_of pending (_ ∷ rest) = orders_of pending rest
 
@@ -51,11 +52,18 @@ IsRightFault says faults.Memory = Unit {0}
 abbrev pub IsBatch : Order → Type 0
 IsBatch (Batch commands) = ⊤
 IsBatch Flush = ⊥
+IsBatch Clean = ⊥
 IsBatch Verify = ⊥
+
+-- the order is no clean
+abbrev pub IsNoClean : Order → Type 0
+IsNoClean Clean = ⊥
+IsNoClean _ = ⊤
 
 -- the line orders nothing but batches
 abbrev pub IsForBatches : Says → Type 0
 IsForBatches says.Flush = ⊥
+IsForBatches says.Clean = ⊥
 IsForBatches says.Verify = ⊥
 IsForBatches _ = ⊤
 
@@ -63,6 +71,7 @@ IsForBatches _ = ⊤
 abbrev pub commands_of : Order → List (Command Global)
 commands_of (Batch commands) = commands
 commands_of Flush = []
+commands_of Clean = []
 commands_of Verify = []
 
 -- the commands that lines say

@@ -1,5 +1,5 @@
 -- What a session starts on, what it runs and prints, and how it ends.
-use Rattle.std.specs.Prelude.{◌≡◌, ◌⊎◌, ℕ, Bool, true, false, List, [], ◌∷◌, ◌++◌, map, is_some, codes, replicate, if◌then◌else◌, Option, Some, None, IfSome, Result, Ok, Err}
+use Rattle.std.specs.Prelude.{◌≡◌, ◌⊎◌, ℕ, suc, Bool, true, false, IsTrue, ⊤, List, [], ◌∷◌, ◌++◌, map, is_some, codes, replicate, if◌then◌else◌, Option, Some, None, IfSome, Result, Ok, Err, IfOk, OnOk}
 use Rattle.std.specs.Option.{option_map, option_or}
 use Rattle.std.specs.Fmt.{decimal}
 use Rattle.std.specs.Io.KnownBytes.{Appends}
@@ -15,6 +15,7 @@ use Rattle.keys.specs.declared.fault.Fault.TheVariants.{BadSettings, NoMemory}
 use Rattle.mapping.specs.Tree.{Store}
 use Rattle.mapping.specs.Levels.{contents}
 use Rattle.verify.specs.Report.{report}
+use Rattle.flush_log.specs.Disk.{View}
 use Rattle.flush_log.specs.NewStore.{disk_of_new}
 use Rattle.flush_log.specs.Segments.{disk_size}
 use Rattle.recovery.specs.StoreOfDisk.{first_store, store_of_disk}
@@ -22,7 +23,7 @@ use Rattle.engine.specs.State.{State}
 use Rattle.engine.specs.Steps.{Step, Stepped, batching, after_step}
 use Rattle.bwsh.specs.declared.line.Why.{Why}
 use Rattle.bwsh.specs.declared.batch_file.Order.{Order}
-use Rattle.bwsh.specs.declared.batch_file.Order.TheVariants.{Batch, Flush, Verify}
+use Rattle.bwsh.specs.declared.batch_file.Order.TheVariants.{Batch, Flush, Clean, Verify}
 use Rattle.bwsh.specs.declared.batch_file.TextFault.{TextFault}
 use Rattle.bwsh.specs.declared.batch_file.TextFault.TheVariants as faults
 use Rattle.bwsh.specs.declared.session.Ending.{Ending}
@@ -31,7 +32,7 @@ use Rattle.bwsh.specs.declared.session.Ending.TheVariants as endings
 use Rattle.bwsh.specs.BatchFile.{text_says, first_bad, orders_of}
 use Rattle.bwsh.specs.Line.{why_text}
 use Rattle.bwsh.specs.Options.{Text, Told, AsksFor, AsksForHelp, AreRefused}
-use Rattle.bwsh.specs.Shown.{shown_reply, shown_flushed, shown_report}
+use Rattle.bwsh.specs.Shown.{shown_reply, shown_flushed, shown_cleaned, shown_report}
 
 -- the exit status of a session that ends before all is done
 abbrev pub status_of : Ending → ℕ
@@ -107,10 +108,19 @@ IsStartBy settings (Some path) false start = (file : Bytes) × (start ≡ found_
 abbrev pub IsStart : Told → Start → Type 0
 IsStart told start = IsStartBy told.settings told.disk told.create start
 
+-- what a read of the disk gives before each order, counted from 0
+abbrev pub Reads : Type 0
+Reads = ℕ → Bytes
+
+-- and before each of those behind the first
+abbrev pub later : Reads → Reads
+later shown = λ i. shown (suc i)
+
 -- the step that an order is, if it is one
 abbrev pub step_in : Order → Option (Step Global)
 step_in (Batch commands) = Some (Step.Batch commands)
 step_in Flush = Some Step.Flush
+step_in Clean = Some Step.Clean
 step_in Verify = None
 
 -- what a step leaves of what is stored, and why it is refused, if it is
@@ -131,52 +141,74 @@ abbrev pub refusal_of_step : Settings → Stored → Option (Step Global) → Op
 refusal_of_step settings at None = None
 refusal_of_step settings at (Some x) = refused_by (after_step (batching settings) settings at.0 at.1 x)
 
--- what an order leaves of what is stored
-unfoldable pub behind : Settings → Stored → Order → Stored
-behind settings at order = behind_step settings at (step_in order)
+-- what an order leaves of a store whose disk shows these bytes
+unfoldable pub behind : Settings → Store → Bytes → Order → Stored
+behind settings st file order = behind_step settings (st, file) (step_in order)
 
--- why a store of these settings refuses the order by its right, if it does
-unfoldable pub refusal_of : Settings → Stored → Order → Option Fault
-refusal_of settings at order = refusal_of_step settings at (step_in order)
+-- why a store of these settings, whose disk shows these bytes, refuses the order by its right, if it does
+unfoldable pub refusal_of : Settings → Store → Bytes → Order → Option Fault
+refusal_of settings st file order = refusal_of_step settings (st, file) (step_in order)
 
 -- the map that an order leaves
 abbrev pub map_behind : Pairs Bytes → Order → Pairs Bytes
 map_behind m (Batch commands) = map_after_all m commands
 map_behind m Flush = m
+map_behind m Clean = m
 map_behind m Verify = m
 
--- the lines that an order answers, with their line feeds, where this is stored, and the store holds this map before it: to a batch
--- the replies of the map, the lines of each as one text; to a flush the sequence number that it leaves; to a verify the report on
--- the tree
-abbrev pub own_lines : Settings → Stored → Pairs Bytes → Order → List Bytes
-own_lines settings at m (Batch commands) = map shown_reply (replies_to m commands)
-own_lines settings at m Flush = shown_flushed (behind settings at Flush).0.sequence ∷ []
-own_lines settings at m Verify = shown_report (report at.0.tree) ∷ []
+-- the lines that an order answers, with their line feeds, where the store holds this map before it, and its disk shows these bytes:
+-- to a batch the replies of the map, the lines of each as one text; to a flush the sequence number that it leaves; to a clean the
+-- head segment; to a verify the report on the tree
+abbrev pub own_lines : Settings → Store → Bytes → Pairs Bytes → Order → List Bytes
+own_lines settings st file m (Batch commands) = map shown_reply (replies_to m commands)
+own_lines settings st file m Flush = shown_flushed (behind settings st file Flush).0.sequence ∷ []
+own_lines settings st file m Clean = shown_cleaned (behind settings st file Clean).0.head ∷ []
+own_lines settings st file m Verify = shown_report (report st.tree) ∷ []
 
--- the lines that orders answer one after the other; each leaves what is stored and its map to the next
-abbrev pub answer_lines : Settings → Stored → Pairs Bytes → List Order → List Bytes
-answer_lines settings at m [] = []
-answer_lines settings at m (order ∷ rest) =
-    own_lines settings at m order ++ answer_lines settings (behind settings at order) (map_behind m order) rest
+-- the lines that orders answer one after the other, of a store whose disk shows these bytes before each; each leaves its store and its
+-- map to the next
+abbrev pub answer_lines : Settings → Store → Reads → Pairs Bytes → List Order → List Bytes
+answer_lines settings st shown m [] = []
+answer_lines settings st shown m (order ∷ rest) =
+    own_lines settings st (shown 0) m order
+    ++ answer_lines settings (behind settings st (shown 0) order).0 (later shown) (map_behind m order) rest
 
 -- the text of these lines
-abbrev pub printed : Settings → Stored → Pairs Bytes → List Order → Bytes
-printed settings at m orders = flat (answer_lines settings at m orders)
+abbrev pub printed : Settings → Store → Reads → Pairs Bytes → List Order → Bytes
+printed settings st shown m orders = flat (answer_lines settings st shown m orders)
 
 -- all that the orders of a text print from this start, were each accepted: nothing, where there is no store
-abbrev pub printed_by : Start → Bytes → Bytes
-printed_by (Ok p) text = printed p.0 p.1 (contents p.1.0.tree) (orders_of [] (text_says text))
-printed_by (Err fault) text = []
+abbrev pub printed_by : Start → Reads → Bytes → Bytes
+printed_by (Ok p) shown text = printed p.0 p.1.0 shown (contents p.1.0.tree) (orders_of [] (text_says text))
+printed_by (Err fault) shown text = []
 
--- why a store refuses the first of the orders that it refuses, if there is one; each that is accepted leaves what is stored to the next
-abbrev pub first_refusal : Settings → Stored → List Order → Option Fault
-first_refusal settings at [] = None
-first_refusal settings at (order ∷ rest) = option_or (refusal_of settings at order) (first_refusal settings (behind settings at order) rest)
+-- why a store refuses the first of the orders that it refuses, if there is one; each that is accepted leaves its store to the next
+abbrev pub first_refusal : Settings → Store → Reads → List Order → Option Fault
+first_refusal settings st shown [] = None
+first_refusal settings st shown (order ∷ rest) =
+    option_or (refusal_of settings st (shown 0) order) (first_refusal settings (behind settings st (shown 0) order).0 (later shown) rest)
 
 -- the orders in front of that one, or all of them
-abbrev pub accepted : Settings → Stored → List Order → List Order
-accepted settings at [] = []
-accepted settings at (order ∷ rest) = if is_some (refusal_of settings at order) then [] else order ∷ accepted settings (behind settings at order) rest
+abbrev pub accepted : Settings → Store → Reads → List Order → List Order
+accepted settings st shown [] = []
+accepted settings st shown (order ∷ rest) =
+    if is_some (refusal_of settings st (shown 0) order) then []
+    else order ∷ accepted settings (behind settings st (shown 0) order).0 (later shown) rest
+
+-- the disk shows what was left, before each of these orders: these bytes before the first
+abbrev pub AreLeft : Settings → Store → Bytes → Reads → List Order → Type 0
+AreLeft settings st file shown [] = ⊤
+AreLeft settings st file shown (order ∷ rest) =
+    (shown 0 ≡ file) × AreLeft settings (behind settings st (shown 0) order).0 (behind settings st (shown 0) order).1 (later shown) rest
+
+-- the same from this start
+abbrev pub AreLeftFrom : Start → Reads → List Order → Type 0
+AreLeftFrom (Ok p) shown orders = AreLeft p.0 p.1.0 p.1.1 shown orders
+AreLeftFrom (Err fault) shown orders = ⊤
+
+-- the disk can show this before each of these orders, where this is told: in memory what was left, in a file anything
+abbrev pub IsShown : Told → Start → Reads → List Order → Type 0
+IsShown told start shown orders = told.disk ≡ None → AreLeftFrom start shown orders
 
 -- an end for this reason, or with all done
 abbrev pub stopped_by : Option Ending → Result (Unit {0}) Ending
@@ -184,29 +216,29 @@ stopped_by None = Ok tt
 stopped_by (Some early) = Err early
 
 -- how orders end by their right: at the first that the store refuses, or with all done
-abbrev pub orders_end : Settings → Stored → List Order → Result (Unit {0}) Ending
-orders_end settings at orders = stopped_by (option_map (λ fault. endings.Fault fault) (first_refusal settings at orders))
+abbrev pub orders_end : Settings → Store → Reads → List Order → Result (Unit {0}) Ending
+orders_end settings st shown orders = stopped_by (option_map (λ fault. endings.Fault fault) (first_refusal settings st shown orders))
 
 -- how a session with this first bad line, if there is one, ends by its right, that starts so and would run these orders: a bad
 -- line goes before the fault of a start that has no store
-abbrev pub end_after : Option (ℕ × Why) → Start → List Order → Result (Unit {0}) Ending
-end_after (Some bad) start orders = Err (Bad bad.0 bad.1)
-end_after None (Err fault) orders = Err (endings.Fault fault)
-end_after None (Ok p) orders = orders_end p.0 p.1 orders
+abbrev pub end_after : Option (ℕ × Why) → Start → Reads → List Order → Result (Unit {0}) Ending
+end_after (Some bad) start shown orders = Err (Bad bad.0 bad.1)
+end_after None (Err fault) shown orders = Err (endings.Fault fault)
+end_after None (Ok p) shown orders = orders_end p.0 p.1.0 shown orders
 
 -- the lines that it prints by its right
-abbrev pub lines_after : Option (ℕ × Why) → Start → List Order → List Bytes
-lines_after (Some bad) start orders = []
-lines_after None (Err fault) orders = []
-lines_after None (Ok p) orders = answer_lines p.0 p.1 (contents p.1.0.tree) (accepted p.0 p.1 orders)
+abbrev pub lines_after : Option (ℕ × Why) → Start → Reads → List Order → List Bytes
+lines_after (Some bad) start shown orders = []
+lines_after None (Err fault) shown orders = []
+lines_after None (Ok p) shown orders = answer_lines p.0 p.1.0 shown (contents p.1.0.tree) (accepted p.0 p.1.0 shown orders)
 
 -- how a session on this text ends by its right
-abbrev pub session_end : Start → Bytes → Result (Unit {0}) Ending
-session_end start text = end_after (first_bad 1 (text_says text)) start (orders_of [] (text_says text))
+abbrev pub session_end : Start → Reads → Bytes → Result (Unit {0}) Ending
+session_end start shown text = end_after (first_bad 1 (text_says text)) start shown (orders_of [] (text_says text))
 
 -- the lines that a session on this text prints by its right
-abbrev pub session_lines : Start → Bytes → List Bytes
-session_lines start text = lines_after (first_bad 1 (text_says text)) start (orders_of [] (text_says text))
+abbrev pub session_lines : Start → Reads → Bytes → List Bytes
+session_lines start shown text = lines_after (first_bad 1 (text_says text)) start shown (orders_of [] (text_says text))
 
 -- a session whose text has this first bad line, if it has one, can end so before anything is run
 abbrev pub IsReadEnding : Option (ℕ × Why) → Ending → Type 0
@@ -234,33 +266,61 @@ Prints old new lines right end =
     ⊎ ((end ≡ Err (endings.Fault NoMemory)) × ((front : List Bytes) × BeginsWith lines front × Appends old new (flat front)))
     ⊎ ((end ≡ Err Device) × ((front : Bytes) × BeginsWith (flat lines) front × Appends old new front))
 
--- the order is accepted, and leaves this stored, with its map
-abbrev pub LeavesStored : Settings → Stored → Order → Stored → Type 0
-LeavesStored settings at order after =
-    (refusal_of settings at order ≡ None) × (after ≡ behind settings at order) × (contents after.0.tree ≡ map_behind (contents at.0.tree) order)
+-- what these orders print of a store of these settings, whose disk shows these bytes before each, and how they end, is right but for
+-- memory and devices
+unfoldable pub Runs : Settings → Store → Reads → List Order → Option Bytes → Option Bytes → Result (Unit {0}) Ending → Type 0
+Runs settings st shown orders old new end =
+    Prints old new (answer_lines settings st shown (contents st.tree) (accepted settings st shown orders))
+    (orders_end settings st shown orders) end
 
--- what these orders print where this is stored under these settings, and how they end, is right but for memory and devices
-unfoldable pub Runs : Settings → Stored → List Order → Option Bytes → Option Bytes → Result (Unit {0}) Ending → Type 0
-Runs settings at orders old new end =
-    Prints old new (answer_lines settings at (contents at.0.tree) (accepted settings at orders)) (orders_end settings at orders) end
+-- so it is where the disk shows some bytes before each: if it is honest, what was left, and these before the first
+abbrev pub RunsOn : Bool → Settings → Store → Bytes → List Order → Option Bytes → Option Bytes → Result (Unit {0}) Ending → Type 0
+RunsOn honest settings st left orders old new end =
+    (shown : Reads) × (IsTrue honest → AreLeft settings st left shown orders) × Runs settings st shown orders old new end
 
--- what these orders print from this start, and how they end, is right but for memory and devices
-unfoldable pub RunsFrom : Start → List Order → Option Bytes → Option Bytes → Result (Unit {0}) Ending → Type 0
-RunsFrom start orders old new end = Prints old new (lines_after None start orders) (end_after None start orders) end
+-- the order is accepted, where the disk shows these bytes, and leaves this store, with its map; and on an honest disk these bytes
+pub record LeavesStored (honest : Bool) (settings : Settings) (st : Store) (file : Bytes) (order : Order) (now : Store) (left : Bytes) : Type 0 where
+  pub unrefused : refusal_of settings st file order ≡ None
+  pub store : now ≡ (behind settings st file order).0
+  pub bytes : IsTrue honest → left ≡ (behind settings st file order).1
+  pub holds : contents now.tree ≡ map_behind (contents st.tree) order
+
+-- what one order prints, and how it ends, is right but for memory and devices, where the disk shows some bytes: if it is honest, these.
+-- Where all of it is done it leaves this store, and on an honest disk the bytes that come last.
+abbrev pub RunsOrder : Bool → Settings → Store → Bytes → Order → Option Bytes → Option Bytes → Result (Unit {0}) Ending → Store → Bytes → Type 0
+RunsOrder honest settings st left order old new end now bytes =
+    (file : Bytes) × (IsTrue honest → file ≡ left) × Runs settings st (λ i. file) (order ∷ []) old new end
+    × OnOk end (LeavesStored honest settings st file order now bytes)
+
+-- what these orders print from this start, and how they end, is right but for memory and devices, where the disk shows some bytes
+-- before each: what was left, where it is honest
+unfoldable pub RunsFrom : Type 0 → Start → List Order → Option Bytes → Option Bytes → Result (Unit {0}) Ending → Type 0
+RunsFrom IsHonest start orders old new end =
+    (shown : Reads) × (IsHonest → AreLeftFrom start shown orders)
+    × Prints old new (lines_after None start shown orders) (end_after None start shown orders) end
 
 -- a session that starts so can end so before anything is run
 abbrev pub IsUnopened : Start → Ending → Type 0
 IsUnopened start early = ((fault : Fault) × (start ≡ Err fault) × (early ≡ endings.Fault fault)) ⊎ (early ≡ endings.Fault NoMemory) ⊎ (early ≡ Device)
 
--- the opening of a store for a session that starts so gives its settings and its store; or why there is none
-abbrev pub Opens : {D : Type 0} → Start → Result (State D) Ending → Type 0
-Opens start (Ok x) = (file : Bytes) × (start ≡ Ok (x.settings, (x.store, file)))
-Opens start (Err early) = IsUnopened start early
+-- the opening of a store for a session that starts so gives its settings, its store and, on an honest disk, its bytes; or why there
+-- is none
+abbrev pub Opens : {D : Type 0} → (D → View) → Start → Result (State D) Ending → Type 0
+Opens view start (Ok x) =
+    (file : Bytes) × (start ≡ Ok (x.settings, (x.store, file))) × (IsTrue (view x.disk).is_honest → (view x.disk).seen ≡ file)
+Opens view start (Err early) = IsUnopened start early
 
--- what a session prints that is told this, and how it ends, is right for a text, which is the known one, and a start, but for memory and devices
+-- the disk of the store that was opened, if one was, is honest
+abbrev pub IsHonestStore : {D : Type 0} → (D → View) → Result (State D) Ending → Type 0
+IsHonestStore view opened = IfOk opened (λ x. IsTrue (view x.disk).is_honest)
+
+-- what a session prints that is told this, and how it ends, is right for a text, which is the known one, for a start, and for what the
+-- disk shows before each order, but for memory and devices
 unfoldable pub Answers : Told → Option Bytes → Option Bytes → Option Bytes → Result (Unit {0}) Ending → Type 0
 Answers told known old new end =
-    (text : Bytes) × IfSome known (λ bytes. text ≡ bytes) × (start : Start) × IsStart told start × Prints old new (session_lines start text) (session_end start text) end
+    (text : Bytes) × IfSome known (λ bytes. text ≡ bytes) × (start : Start) × IsStart told start
+    × (shown : Reads) × IsShown told start shown (orders_of [] (text_says text))
+    × Prints old new (session_lines start shown text) (session_end start shown text) end
 
 -- a text is printed, but for memory and devices
 abbrev pub PrintsOneText : Option Bytes → Option Bytes → Result (Unit {0}) Ending → Type 0

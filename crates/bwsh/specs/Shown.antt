@@ -1,4 +1,4 @@
--- Replies, sequence numbers and reports as they are printed.
+-- Replies, sequence numbers, head segments and reports as they are printed.
 use Rattle.std.specs.Prelude.{ℕ, List, [], ◌∷◌, ◌++◌, map, length, flat_map, codes}
 use Rattle.std.specs.Fmt.{decimal}
 use Rattle.keys.specs.Bytes.{Bytes}

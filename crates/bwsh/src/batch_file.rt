@@ -42,6 +42,8 @@ pub enum Order {
     Batch(Batch),
     /// To write what the log lacks, and tell the sequence number.
     Flush,
+    /// To free the first segment of the log, and tell which is the first now.
+    Clean,
     /// To verify the store, and tell of its pages, its height and its pairs.
     Verify,
 }
@@ -118,6 +120,7 @@ pub fn parse(alloc: Global, text: &[u8]) -> Result<Vec<Order>, TextFault>
                 orders.push(Order::Batch(Batch { commands }))?;
             }
             Says::Flush => push_behind(alloc, &mut pending, Order::Flush, &mut orders)?,
+            Says::Clean => push_behind(alloc, &mut pending, Order::Clean, &mut orders)?,
             Says::Verify => push_behind(alloc, &mut pending, Order::Verify, &mut orders)?,
             Says::Bad(why) => return Err(TextFault::Bad { line, why }),
         }

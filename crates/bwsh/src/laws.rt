@@ -9,11 +9,11 @@ ghost use Rattle.keys.specs.declared.settings.Settings.{Settings};
 ghost use Rattle.mapping.specs.Tree.{Store};
 ghost use Rattle.verify.specs.Report.{report};
 ghost use Rattle.bwsh.specs.declared.batch_file.Order.{Order};
-ghost use Rattle.bwsh.specs.declared.batch_file.Order.TheVariants.{Batch, Flush, Verify};
+ghost use Rattle.bwsh.specs.declared.batch_file.Order.TheVariants.{Batch, Flush, Clean, Verify};
 ghost use Rattle.bwsh.specs.declared.line.Says.{Says};
-ghost use Rattle.bwsh.specs.BatchFile.{orders_of, commands_of, commands_said, batch_lines, IsBatch, IsForBatches};
-ghost use Rattle.bwsh.specs.Session.{Stored, accepted, answer_lines, behind, orders_end, printed};
-ghost use Rattle.bwsh.specs.Shown.{shown_reply, shown_flushed, shown_report};
+ghost use Rattle.bwsh.specs.BatchFile.{orders_of, commands_of, commands_said, batch_lines, IsBatch, IsForBatches, IsNoClean};
+ghost use Rattle.bwsh.specs.Session.{AreLeft, Reads, accepted, answer_lines, behind, later, orders_end, printed};
+ghost use Rattle.bwsh.specs.Shown.{shown_reply, shown_flushed, shown_cleaned, shown_report};
 ghost use Rattle.bwsh.specs.Token.{token_bytes, shown_token};
 ghost use Rattle.bwsh.specs.Words.{words_of};
 
@@ -37,36 +37,56 @@ pub fn batches_are_read_back()
 {}
 
 /// A batch prints the lines of its replies, in front of what the orders behind it print on what it leaves and its map. A flush prints
-/// the line of the sequence number that it leaves, and leaves the map as it is. A verify prints the line of the report on the
-/// tree, and leaves all as it is.
+/// the line of the sequence number that it leaves, a clean that of the head segment, and both leave the map as it is. A verify prints
+/// the line of the report on the tree, and leaves all as it is.
 pub fn each_order_prints_its_answer()
-    ensures none { (settings : Settings) → (at : Stored) → (m : Pairs Bytes) → printed settings at m [] ≡ [] }
-    ensures batch { (settings : Settings) → (at : Stored) → (m : Pairs Bytes) → (commands : List (Command Global)) → (rest : List Order) →
-        printed settings at m (Batch commands ∷ rest)
-        ≡ flat_map shown_reply (replies_to m commands) ++ printed settings (behind settings at (Batch commands)) (map_after_all m commands) rest }
-    ensures flush { (settings : Settings) → (at : Stored) → (m : Pairs Bytes) → (rest : List Order) →
-        printed settings at m (Flush ∷ rest) ≡ shown_flushed (behind settings at Flush).0.sequence ++ printed settings (behind settings at Flush) m rest }
-    ensures verify { (settings : Settings) → (at : Stored) → (m : Pairs Bytes) → (rest : List Order) →
-        printed settings at m (Verify ∷ rest) ≡ shown_report (report at.0.tree) ++ printed settings at m rest }
+    ensures none { (settings : Settings) → (st : Store) → (shown : Reads) → (m : Pairs Bytes) → printed settings st shown m [] ≡ [] }
+    ensures batch { (settings : Settings) → (st : Store) → (shown : Reads) → (m : Pairs Bytes) → (commands : List (Command Global)) → (rest : List Order) →
+        printed settings st shown m (Batch commands ∷ rest) ≡ flat_map shown_reply (replies_to m commands)
+        ++ printed settings (behind settings st (shown 0) (Batch commands)).0 (later shown) (map_after_all m commands) rest }
+    ensures flush { (settings : Settings) → (st : Store) → (shown : Reads) → (m : Pairs Bytes) → (rest : List Order) →
+        printed settings st shown m (Flush ∷ rest) ≡ shown_flushed (behind settings st (shown 0) Flush).0.sequence
+        ++ printed settings (behind settings st (shown 0) Flush).0 (later shown) m rest }
+    ensures clean { (settings : Settings) → (st : Store) → (shown : Reads) → (m : Pairs Bytes) → (rest : List Order) →
+        printed settings st shown m (Clean ∷ rest) ≡ shown_cleaned (behind settings st (shown 0) Clean).0.head
+        ++ printed settings (behind settings st (shown 0) Clean).0 (later shown) m rest }
+    ensures verify { (settings : Settings) → (st : Store) → (shown : Reads) → (m : Pairs Bytes) → (rest : List Order) →
+        printed settings st shown m (Verify ∷ rest) ≡ shown_report (report st.tree) ++ printed settings st (later shown) m rest }
 {}
 
 /// Where all are batches, what is printed in all are an ordered map's replies to the commands that are ordered, one after the other: it
-/// makes no difference how they are cut into batches, nor what the settings are and what is stored. So it is for lines of which
-/// none says `flush` or `verify`.
+/// makes no difference how they are cut into batches, nor what the settings are, what is stored and what the disk shows. So it is
+/// for lines of which none says `flush`, `clean` or `verify`.
 pub fn the_commands_are_answered_in_order()
-    ensures orders { (settings : Settings) → (at : Stored) → (m : Pairs Bytes) → (orders : List Order) → All IsBatch orders →
-        printed settings at m orders ≡ flat_map shown_reply (replies_to m (flat_map commands_of orders)) }
-    ensures lines { (settings : Settings) → (at : Stored) → (said : List Says) → All IsForBatches said →
-        printed settings at [] (orders_of [] said) ≡ flat_map shown_reply (replies_to [] (commands_said said)) }
+    ensures orders { (settings : Settings) → (st : Store) → (shown : Reads) → (m : Pairs Bytes) → (orders : List Order) → All IsBatch orders →
+        printed settings st shown m orders ≡ flat_map shown_reply (replies_to m (flat_map commands_of orders)) }
+    ensures lines { (settings : Settings) → (st : Store) → (shown : Reads) → (said : List Says) → All IsForBatches said →
+        printed settings st shown [] (orders_of [] said) ≡ flat_map shown_reply (replies_to [] (commands_said said)) }
 {}
 
-/// What orders answer, which of them are accepted and how they end doesn't depend on the bytes of the disk: it makes no difference
-/// which these are said to be, but where a store is read of them.
+/// Where no order is a clean, what orders answer, which of them are accepted and how they end doesn't depend on the bytes of the disk:
+/// it makes no difference what it shows, but where a store is read of it.
 pub fn the_bytes_of_the_disk_do_not_matter()
-    ensures lines { (settings : Settings) → (st : Store) → (file other : Bytes) → (m : Pairs Bytes) → (orders : List Order) →
-        answer_lines settings (st, file) m orders ≡ answer_lines settings (st, other) m orders }
-    ensures accepted { (settings : Settings) → (st : Store) → (file other : Bytes) → (orders : List Order) →
-        accepted settings (st, file) orders ≡ accepted settings (st, other) orders }
-    ensures end { (settings : Settings) → (st : Store) → (file other : Bytes) → (orders : List Order) →
-        orders_end settings (st, file) orders ≡ orders_end settings (st, other) orders }
+    ensures lines { (settings : Settings) → (st : Store) → (shown other : Reads) → (m : Pairs Bytes) → (orders : List Order) → All IsNoClean orders →
+        answer_lines settings st shown m orders ≡ answer_lines settings st other m orders }
+    ensures accepted { (settings : Settings) → (st : Store) → (shown other : Reads) → (orders : List Order) → All IsNoClean orders →
+        accepted settings st shown orders ≡ accepted settings st other orders }
+    ensures end { (settings : Settings) → (st : Store) → (shown other : Reads) → (orders : List Order) → All IsNoClean orders →
+        orders_end settings st shown orders ≡ orders_end settings st other orders }
+{}
+
+/// Where the disk shows what was left, all of that is decided by the store and by the bytes of the disk before the first order, with
+/// cleans too. There is such a disk.
+pub fn what_was_left_decides_the_answers()
+    ensures lines { (settings : Settings) → (st : Store) → (file : Bytes) → (shown other : Reads) → (m : Pairs Bytes) → (orders : List Order) →
+        AreLeft settings st file shown orders → AreLeft settings st file other orders →
+        answer_lines settings st shown m orders ≡ answer_lines settings st other m orders }
+    ensures accepted { (settings : Settings) → (st : Store) → (file : Bytes) → (shown other : Reads) → (orders : List Order) →
+        AreLeft settings st file shown orders → AreLeft settings st file other orders →
+        accepted settings st shown orders ≡ accepted settings st other orders }
+    ensures end { (settings : Settings) → (st : Store) → (file : Bytes) → (shown other : Reads) → (orders : List Order) →
+        AreLeft settings st file shown orders → AreLeft settings st file other orders →
+        orders_end settings st shown orders ≡ orders_end settings st other orders }
+    ensures some { (settings : Settings) → (st : Store) → (file : Bytes) → (orders : List Order) →
+        (shown : Reads) × AreLeft settings st file shown orders }
 {}

@@ -48,6 +48,8 @@ pub enum Says {
     Go,
     /// The pending batch is to run, if it has commands, and then the store is to be flushed.
     Flush,
+    /// The pending batch is to run, if it has commands, and then the log is to be cleaned.
+    Clean,
     /// The pending batch is to run, if it has commands, and then the store is to be verified.
     Verify,
     /// It is no line of a batch file.
@@ -203,6 +205,9 @@ fn order(word: &[u8], words: &[u8]) -> Says
     }
     if word == b"flush".as_slice() {
         return alone(Says::Flush, words);
+    }
+    if word == b"clean".as_slice() {
+        return alone(Says::Clean, words);
     }
     if word == b"verify".as_slice() {
         return alone(Says::Verify, words);

@@ -27,9 +27,10 @@ Lines of the batch file:
                     is not among them; the star * as HI is no bound
   go                Runs the commands since the last batch, as one batch
   flush             Runs these too, if there are any, and then writes what the log lacks
+  clean             Runs these too, if there are any, and then frees the first segment of the log
   verify            Runs these too, if there are any, and then checks the whole tree
   # ...             A comment
-Commands behind the last go, flush or verify are run at the end.
+Commands behind the last go, flush, clean or verify are run at the end.
 
 Keys and values are words of printed ASCII. In them %XX is the byte of two hexadecimal digits, as
 %20 for a space, and % alone is the word of no bytes.
@@ -38,7 +39,8 @@ Exit status:
   0  All is done, or help was asked for
   2  The words of the command line are refused; nothing was read
   3  A line of the batch file is bad; nothing was run
-  4  A fault: settings or a batch that are refused, a full log, no memory, or a device\
+  4  A fault: settings or a batch that are refused, a full log or one with nothing to clean, no
+     memory, or a device\
 ";
 
 // An option that takes a number.

@@ -1,5 +1,5 @@
 //! A session: the batch file is read, and run on the store that the command line tells: a new one in memory, or one in a file.
-ghost use Rattle.std.specs.Prelude.{false, ◌≡◌, ◌≢◌, ◌↔◌, ◌⊎◌, ℕ, [], ◌∷◌, ◌++◌, map, None, Some, IfSome, Result, Ok, Err, IsOk, IfOk, OnOk, OnErr, IsOkUnless, MatchResult, take, length, ◌≤◌};
+ghost use Rattle.std.specs.Prelude.{false, IsTrue, replicate, ◌≡◌, ◌≢◌, ◌↔◌, ◌⊎◌, ℕ, [], ◌∷◌, ◌++◌, map, None, Some, IfSome, Result, Ok, Err, IsOk, IfOk, OnOk, OnErr, IsOkUnless, MatchResult, take, length, ◌≤◌};
 ghost use Rattle.std.specs.List.{flat_map};
 ghost use Rattle.std.specs.String.{string_bytes};
 ghost use Rattle.std.specs.IoError.{error_kind};
@@ -16,14 +16,15 @@ ghost use Rattle.bwsh.specs.declared.session.Ending.TheVariants.{Device};
 ghost use Rattle.bwsh.specs.declared.session.Ending.TheVariants as endings;
 ghost use Rattle.bwsh.specs.BatchFile.{text_says, first_bad, orders_of};
 ghost use Rattle.bwsh.specs.Options.{Told, AsksFor, AsksForHelp, AreRefused, told_of};
-ghost use Rattle.bwsh.specs.Session.{status_of, status_of_end, ending_text, unread_text, ending_by, printed_by, BeginsWith, IsBegun, IsTold, IsReadEnding, IsForWords, Prints, PrintsOneText, LeavesStored, Runs, RunsFrom, Start, IsStart, Opens, Answers, EndsBy, EndsTold, step_in, new_start, found_start};
-ghost use Rattle.bwsh.specs.Shown.{shown_reply, shown_flushed, shown_report, shown_answer};
+ghost use Rattle.bwsh.specs.Session.{status_of, status_of_end, ending_text, unread_text, ending_by, printed_by, BeginsWith, IsBegun, IsTold, IsReadEnding, IsForWords, Prints, PrintsOneText, Reads, RunsOn, RunsOrder, RunsFrom, Start, IsStart, IsShown, Opens, IsHonestStore, Answers, EndsBy, EndsTold, step_in, new_start, found_start};
+ghost use Rattle.bwsh.specs.Shown.{shown_reply, shown_flushed, shown_cleaned, shown_report, shown_answer};
 
 use crate::batch_file::{Order, TextFault, parse};
 use crate::file_disk::FileDisk;
 use crate::line::Why;
 use crate::options::{Options, options};
-use crate::show::{show_flushed, show_reply, show_report};
+use crate::show::{show_cleaned, show_flushed, show_reply, show_report};
+use cleaner::laws::a_clean_keeps_the_store;
 use climb_plan::laws::the_plan_holds_the_map_after_the_commands;
 use engine::{Answer, Disk, MemDisk, Step, Store};
 use flush_log::segments::disk_size;
@@ -198,6 +199,15 @@ fn write_flushed<O: Write>(sequence: u64, lines: &mut Vec<u8>, out: &mut O) -> R
     write_bytes(lines, out)
 }
 
+// Writes the line of a clean that left the log beginning in this segment, in the memory of `lines`.
+fn write_cleaned<O: Write>(head: u64, lines: &mut Vec<u8>, out: &mut O) -> Result<(), Ending>
+    ensures { Prints (O.contents out.old) (O.contents out.new) (shown_cleaned head ∷ []) (Ok tt) result }
+{
+    lines.clear();
+    show_cleaned(head, lines)?;
+    write_bytes(lines, out)
+}
+
 // Writes the line of the report, in the memory of `lines`.
 fn write_report<O: Write>(report: &Report, lines: &mut Vec<u8>, out: &mut O) -> Result<(), Ending>
     ensures { Prints (O.contents out.old) (O.contents out.new) (shown_report report.now ∷ []) (Ok tt) result }
@@ -214,6 +224,7 @@ fn write_answer<O: Write>(answer: &Answer, lines: &mut Vec<u8>, out: &mut O) -> 
     match answer {
         Answer::Replies(replies) => write_replies(replies, lines, out),
         Answer::Flushed(sequence) => write_flushed(*sequence, lines, out),
+        Answer::Cleaned(head) => write_cleaned(*head, lines, out),
     }
 }
 
@@ -241,7 +252,7 @@ fn store_fault(fault: Fault) -> Ending
     }
 }
 
-// Plays a step, and writes what it answers. What it answers and leaves doesn't depend on the bytes of the disk.
+// Plays a step, and writes what it answers.
 fn run_step<R: Threads + Sync, D: Disk, O: Write>(
     rt: &R,
     store: &mut Store<D>,
@@ -250,15 +261,16 @@ fn run_step<R: Threads + Sync, D: Disk, O: Write>(
     out: &mut O,
 ) -> Result<(), Ending>
     requires fine { store.old.has_failed ≡ false }
-    ensures runs { (file : Bytes) → (order : Order) → step_in order ≡ Some (step_of step.entry) →
-        Runs store.old.settings (store.old.store, file) (order ∷ []) (O.contents out.old) (O.contents out.new) result }
-    ensures leaves { (file : Bytes) → (order : Order) → step_in order ≡ Some (step_of step.entry) →
-        OnOk result ((bytes : Bytes) × LeavesStored store.old.settings (store.old.store, file) order (store.new.store, bytes)) }
+    ensures runs { (order : Order) → step_in order ≡ Some (step_of step.entry) →
+        RunsOrder (D.view store.old.disk).is_honest store.old.settings store.old.store (D.view store.old.disk).seen order
+        (O.contents out.old) (O.contents out.new) result store.new.store (D.view store.new.disk).seen }
     ensures settings { store.new.settings ≡ store.old.settings }
+    ensures honest { (D.view store.new.disk).is_honest ≡ (D.view store.old.disk).is_honest }
     ensures failed { OnOk result (store.new.has_failed ≡ store.old.has_failed) }
 {
     // Only for the proof.
     the_plan_holds_the_map_after_the_commands::<Global>();
+    a_clean_keeps_the_store();
     match store.play(rt, &[step]) {
         Ok(answers) => write_answers(&answers, lines, out),
         Err(refused) => Err(store_fault(refused.2)),
@@ -274,15 +286,16 @@ fn run_order<R: Threads + Sync, D: Disk, O: Write>(
     out: &mut O,
 ) -> Result<(), Ending>
     requires fine { store.old.has_failed ≡ false }
-    ensures runs { (file : Bytes) → Runs store.old.settings (store.old.store, file) (order.now ∷ []) (O.contents out.old) (O.contents out.new) result }
-    ensures leaves { (file : Bytes) →
-        OnOk result ((bytes : Bytes) × LeavesStored store.old.settings (store.old.store, file) order.now (store.new.store, bytes)) }
+    ensures runs { RunsOrder (D.view store.old.disk).is_honest store.old.settings store.old.store (D.view store.old.disk).seen order.now
+        (O.contents out.old) (O.contents out.new) result store.new.store (D.view store.new.disk).seen }
     ensures settings { store.new.settings ≡ store.old.settings }
+    ensures honest { (D.view store.new.disk).is_honest ≡ (D.view store.old.disk).is_honest }
     ensures failed { OnOk result (store.new.has_failed ≡ store.old.has_failed) }
 {
     match order {
         Order::Batch(batch) => run_step(rt, store, Step::Batch(batch.commands()), lines, out),
         Order::Flush => run_step(rt, store, Step::Flush, lines, out),
+        Order::Clean => run_step(rt, store, Step::Clean, lines, out),
         Order::Verify => {
             let report = store.verify(rt)?;
             write_report(&report, lines, out)
@@ -298,7 +311,8 @@ fn run_orders<R: AllocGlobal + Threads + Sync, D: Disk, O: Write>(
     out: &mut O,
 ) -> Result<(), Ending>
     requires fine { store.old.has_failed ≡ false }
-    ensures { (file : Bytes) → Runs store.old.settings (store.old.store, file) orders.now (O.contents out.old) (O.contents out.new) result }
+    ensures { RunsOn (D.view store.old.disk).is_honest store.old.settings store.old.store (D.view store.old.disk).seen orders.now
+        (O.contents out.old) (O.contents out.new) result }
 {
     let mut lines = Vec::new(rt.alloc());
     for order in orders {
@@ -326,7 +340,9 @@ fn store_made<D: Disk + Drop>(
 ) -> Result<Store<D>, Ending>
     requires good { first_bad_field settings ≡ None }
     requires room { disk_size settings ≤ (D.view disk).size }
-    ensures opens { (file : Bytes) → Opens (new_start settings file) result }
+    ensures opens { (file : Bytes) → (IsTrue (D.view disk).is_honest → (D.view disk).seen ≡ file) →
+        Opens D.view (new_start settings file) result }
+    ensures honest { IfOk result (λ store. (D.view store.disk).is_honest ≡ (D.view disk).is_honest) }
     ensures fine { IfOk result (λ store. store.has_failed ≡ false) }
 {
     match Store::create(alloc, disk, settings) {
@@ -337,7 +353,8 @@ fn store_made<D: Disk + Drop>(
 
 // A new store on a disk in memory, which has just the room that it needs.
 fn store_in_memory(alloc: Global, settings: Settings) -> Result<Store<MemDisk<Global>>, Ending>
-    ensures opens { (file : Bytes) → Opens (new_start settings file) result }
+    ensures opens { Opens ⟦<MemDisk<Global> as Disk>⟧.view (new_start settings (replicate (disk_size settings) 0)) result }
+    ensures honest { IsHonestStore ⟦<MemDisk<Global> as Disk>⟧.view result }
     ensures fine { IfOk result (λ store. store.has_failed ≡ false) }
 {
     settings.check()?;
@@ -372,7 +389,7 @@ fn new_store_in_file<R: AllocGlobal + Files>(
     path: &str,
     settings: Settings,
 ) -> Result<Store<FileDisk<R::File>>, Ending>
-    ensures opens { (file : Bytes) → Opens (new_start settings file) result }
+    ensures opens { (file : Bytes) → Opens ⟦<FileDisk<R::File> as Disk>⟧.view (new_start settings file) result }
     ensures fine { IfOk result (λ store. store.has_failed ≡ false) }
 {
     settings.check()?;
@@ -387,7 +404,7 @@ fn store_in_file<R: AllocGlobal + Threads + Sync + Files>(
     rt: &R,
     path: &str,
 ) -> Result<Store<FileDisk<R::File>>, Ending>
-    ensures opens { (file : Bytes) × Opens (found_start file) result }
+    ensures opens { (file : Bytes) × Opens ⟦<FileDisk<R::File> as Disk>⟧.view (found_start file) result }
     ensures fine { IfOk result (λ store. store.has_failed ≡ false) }
 {
     let Ok(disk) = old_disk(rt, path) else {
@@ -407,7 +424,8 @@ fn run_opened<R: AllocGlobal + Threads + Sync, D: Disk + Drop, O: Write>(
     out: &mut O,
 ) -> Result<(), Ending>
     requires fine { IfOk opened (λ store. store.has_failed ≡ false) }
-    ensures { (start : Start) → Opens start opened → RunsFrom start orders.now (O.contents out.old) (O.contents out.new) result }
+    ensures { (start : Start) → Opens D.view start opened →
+        RunsFrom (IsHonestStore D.view opened) start orders.now (O.contents out.old) (O.contents out.new) result }
 {
     let mut store = opened?;
     let done = run_orders(rt, &mut store, orders, out);
@@ -549,15 +567,18 @@ pub fn session<R: AllocGlobal + Threads + Sync + Files, I: Read, O: Write, E: Wr
 
     // What stands on the output with each status: always a beginning of what the orders of the input answer on the store that the
     // words tell, unless that is help. In memory and in a file that is made anew it is a new one of the settings that they tell;
-    // else it is the one that the bytes of the file stand for, whichever these are.
+    // else it is the one that the bytes of the file stand for, whichever these are. A clean is done of what the disk shows: in memory
+    // that is what was left, and a file may show anything.
     ensures done { result ≡ 0 → AsksForHelp (map string_bytes words.now) ⊎ ((told : Told) × AsksFor (map string_bytes words.now) told
         × IfSome (I.remaining input.old) (λ text. (first_bad 1 (text_says text) ≡ None)
-        × ((start : Start) × IsStart told start × IsOk start × Appends (O.contents out.old) (O.contents out.new) (printed_by start text)))) }
+        × ((start : Start) × IsStart told start × IsOk start × (shown : Reads) × IsShown told start shown (orders_of [] (text_says text))
+        × Appends (O.contents out.old) (O.contents out.new) (printed_by start shown text)))) }
     ensures bad { result ≡ 3 → Appends (O.contents out.old) (O.contents out.new) []
         × IfSome (I.remaining input.old) (λ text. first_bad 1 (text_says text) ≢ None) }
     ensures beginning { AsksForHelp (map string_bytes words.now) ⊎ Appends (O.contents out.old) (O.contents out.new) []
         ⊎ ((told : Told) × AsksFor (map string_bytes words.now) told × IfSome (I.remaining input.old) (λ text. (start : Start) × IsStart told start
-        × ((front : Bytes) × BeginsWith (printed_by start text) front × Appends (O.contents out.old) (O.contents out.new) front))) }
+        × (shown : Reads) × IsShown told start shown (orders_of [] (text_says text))
+        × ((front : Bytes) × BeginsWith (printed_by start shown text) front × Appends (O.contents out.old) (O.contents out.new) front))) }
 
     // How it ends, and what is read and printed, is right for the words and the text but for memory and devices.
     // What goes to `err` is told of this end, or a beginning of it.

@@ -1,8 +1,8 @@
-//! Replies, sequence numbers and reports as they are printed.
+//! Replies, sequence numbers, head segments and reports as they are printed.
 ghost use Rattle.std.specs.Prelude.{◌≡◌, ◌∷◌, ◌++◌, [], codes, length, take, OnOk, OnErr};
 ghost use Rattle.std.specs.Fmt.{decimal};
 ghost use Rattle.std.specs.List.{flat_map};
-ghost use Rattle.bwsh.specs.Shown.{reply_text, row_lines, shown_reply, shown_flushed, shown_report, shown_row};
+ghost use Rattle.bwsh.specs.Shown.{reply_text, row_lines, shown_reply, shown_flushed, shown_cleaned, shown_report, shown_row};
 
 use crate::token::push_token;
 use keys::{Key, Reply, Value};
@@ -93,6 +93,16 @@ pub fn show_flushed(sequence: u64, out: &mut Vec<u8>) -> Result<(), AllocError>
     ensures err { OnErr result (out.new.items ≡ out.old.items) }
 {
     let line = format!(in *out.allocator(); "flushed {sequence}\n")?;
+    out.extend_from_slice(line.as_bytes())
+}
+
+/// Appends the line of a clean that left the log beginning in this segment, with its line feed. After an `Err` `out` is as it was
+/// before.
+pub fn show_cleaned(head: u64, out: &mut Vec<u8>) -> Result<(), AllocError>
+    ensures ok { OnOk result (out.new.items ≡ out.old.items ++ shown_cleaned head) }
+    ensures err { OnErr result (out.new.items ≡ out.old.items) }
+{
+    let line = format!(in *out.allocator(); "cleaned {head}\n")?;
     out.extend_from_slice(line.as_bytes())
 }
 

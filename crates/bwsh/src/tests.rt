@@ -1,22 +1,20 @@
 //! The rules of a batch file and of the command line, by example, and sessions whose input, output or memory fails.
+mod files;
+
 use crate::batch_file::{TextFault, parse};
-use crate::file_disk::FileDisk;
 use crate::line::Why;
-use crate::options::Options;
 use crate::program::run_program;
-use crate::session::{run, session, unread_words};
+use crate::session::{session, unread_words};
 use bstr::ByteSlice;
-use engine::Disk;
-use keys::Settings;
-use std::alloc::Allocator;
+use std::alloc::{AllocError, Allocator, Global};
 use std::env::FillError;
-use std::fs::{Metadata, OpenFile, OpenOptions};
-use std::io::{Cursor, ErrorKind, Read, Seek, SeekFrom, Write};
+use std::fs::{Metadata, OpenOptions};
+use std::io;
+use std::io::{Cursor, ErrorKind, Read, Write};
 use std::process::Abort;
 use std::rt::{Env, Files};
 use std::test::Fail;
 use std::thread::Threads;
-use std::{env, fs, io};
 
 // Runs a session without words on the command line.
 fn run_plain<R: AllocGlobal + Threads + Sync + Files, I: Read, O: Write, E: Write>(
@@ -76,6 +74,18 @@ const SEVENTEEN_DELETES: &[u8] =
     b"go\ndel a\ndel b\ndel c\ndel d\ndel e\ndel f\ndel g\ndel h\ndel i\n\
     del j\ndel k\ndel l\ndel m\ndel n\ndel o\ndel p\ndel q\nverify\n";
 
+// The words for a store with small pages and small segments.
+fn small_store(alloc: Global) -> Result<Vec<String>, AllocError> {
+    Ok(vec![in alloc;
+        String::from_str(alloc, "--fan=4")?,
+        String::from_str(alloc, "--chain=2")?,
+        String::from_str(alloc, "--max-key=16")?,
+        String::from_str(alloc, "--max-value=16")?,
+        String::from_str(alloc, "--seg-size=256")?,
+        String::from_str(alloc, "--segments=4")?,
+    ]?)
+}
+
 // Seventeen puts in small pages, and these lines behind them, which print this.
 fn check_behind_puts<R: AllocGlobal + Abort + Threads + Sync + Files>(
     rt: &R,
@@ -83,14 +93,7 @@ fn check_behind_puts<R: AllocGlobal + Abort + Threads + Sync + Files>(
     printed: &[u8],
 ) -> Result<(), Fail> {
     let alloc = rt.alloc();
-    let words = vec![in alloc;
-        String::from_str(alloc, "--fan=4")?,
-        String::from_str(alloc, "--chain=2")?,
-        String::from_str(alloc, "--max-key=16")?,
-        String::from_str(alloc, "--max-value=16")?,
-        String::from_str(alloc, "--seg-size=256")?,
-        String::from_str(alloc, "--segments=4")?,
-    ]?;
+    let words = small_store(alloc)?;
     let mut input = SEVENTEEN_PUTS.to_vec(alloc)?;
     input.extend_from_slice(lines)?;
     let mut out = b"new\n".as_slice().repeatn(alloc, 17)?;
@@ -120,14 +123,7 @@ fn a_flush_tells_its_number(rt: HostRuntime) {
 #[test]
 fn a_full_log_ends_the_session(rt: HostRuntime) -> Result<(), Fail> {
     let alloc = rt.alloc();
-    let words = vec![in alloc;
-        String::from_str(alloc, "--fan=4")?,
-        String::from_str(alloc, "--chain=2")?,
-        String::from_str(alloc, "--max-key=16")?,
-        String::from_str(alloc, "--max-value=16")?,
-        String::from_str(alloc, "--seg-size=256")?,
-        String::from_str(alloc, "--segments=4")?,
-    ]?;
+    let words = small_store(alloc)?;
     let input = b"put a 0123456789abcdef\nflush\n"
         .as_slice()
         .repeatn(alloc, 18)?;
@@ -139,6 +135,34 @@ fn a_full_log_ends_the_session(rt: HostRuntime) -> Result<(), Fail> {
     }
     out.extend_from_slice(b"replaced\n")?;
     check(&rt, &words, &input, 4, &out, b"fault 10 Full\n");
+    Ok(())
+}
+
+// Example log 16: five pairs, then four new values of one, and a pair that isn't flushed. What lives in the first segment is
+// carried to the end of the log, and the segment with the number 1 is the first.
+const CLEANED: &[u8] = b"put a 1\nput b 2\nput c 3\nput d 4\nput e 5\nflush\n\
+    put a 0123456789abcdef\nflush\nput a 0123456789abcdef\nflush\n\
+    put a 0123456789abcdef\nflush\nput a 0123456789abcdef\nflush\n\
+    put z 9\nclean\nclean\n";
+
+const CLEANED_OUT: &[u8] = b"new\nnew\nnew\nnew\nnew\nflushed 2\nreplaced\nflushed 3\n\
+    replaced\nflushed 4\nreplaced\nflushed 5\nreplaced\nflushed 6\nnew\ncleaned 1\n";
+
+// A clean runs the pending commands first. Where one segment alone is in use it ends the session.
+#[test]
+fn a_clean_tells_the_first_segment(rt: HostRuntime) -> Result<(), Fail> {
+    let told = b"fault 11 NothingToClean\n";
+    check(&rt, &[], b"put a 1\nclean\nget a\n", 4, b"new\n", told);
+    check(
+        &rt,
+        &small_store(rt.alloc())?,
+        CLEANED,
+        4,
+        CLEANED_OUT,
+        told,
+    );
+    let told = b"line 1: wrong number of words\n";
+    check(&rt, &[], b"clean a\n", 3, b"", told);
     Ok(())
 }
 
@@ -218,7 +242,7 @@ fn words_are_refused(rt: HostRuntime) -> Result<(), Fail> {
 }
 
 // What the help has to say: each kind of line, what a segment has to hold, and the exit statuses.
-const HELP: [&str; 15] = [
+const HELP: [&str; 16] = [
     "put K V",
     "add K V",
     "get K",
@@ -226,6 +250,7 @@ const HELP: [&str; 15] = [
     "scan LO HI LIMIT",
     "go",
     "flush",
+    "clean",
     "verify",
     "#",
     "%20",
@@ -669,155 +694,4 @@ fn a_long_value_is_refused(rt: HostRuntime) -> Result<(), Fail> {
     put.push(b'v')?;
     check(&rt, &[], &put, 4, b"", b"fault 3 ValueTooLong 0\n");
     Ok(())
-}
-
-// Asserts how these lines are run on the store of this file. It is made anew with pages of so many entries; or it is the one
-// that the file holds, with settings on the command line that would be refused.
-fn check_in_file<R: AllocGlobal + Abort + Threads + Sync + Files>(
-    rt: &R,
-    path: &str,
-    fan: Option<u32>,
-    input: &[u8],
-    out: &[u8],
-    end: &str,
-) -> Result<(), Fail> {
-    let alloc = rt.alloc();
-    let told = Options {
-        settings: Settings {
-            fan: fan.unwrap_or(65),
-            chain: 2,
-            max_key: 16,
-            max_value: 16,
-            seg_size: 256,
-            segments: 4,
-        },
-        disk: Some(String::from_str(alloc, path)?),
-        create: fan.is_some(),
-    };
-    let mut input = input;
-    let mut written = Vec::new(alloc);
-    let text = match run(rt, &told, &mut input, &mut written) {
-        Ok(()) => String::new(alloc),
-        Err(ending) => format!(in alloc; "{ending}")?,
-    };
-    assert_eq!(rt; text.as_str(), end);
-    assert_eq!(rt; written.as_slice(), out);
-    Ok(())
-}
-
-// Where a line is bad or the settings are refused, no file is made, and one that there is stays. What was flushed is found again.
-#[test]
-fn a_store_is_kept_in_a_file(rt: HostRuntime) -> Result<(), Fail> {
-    let folder = env::temp_dir(&rt)?.join(rt.alloc(), "bwsh_kept_store")?;
-    let file = folder.join(rt.alloc(), "store")?;
-    let path = file.as_str();
-    let _ = fs::remove_dir_all(&rt, folder.as_str());
-    fs::create_dir(&rt, folder.as_str())?;
-    check_in_file(&rt, path, None, b"get a\n", b"", "fault 9 Device\n")?;
-    let told = "line 1: unknown command\n";
-    check_in_file(&rt, path, Some(4), b"frob\n", b"", told)?;
-    let refused = "fault 1 BadSettings fan\n";
-    check_in_file(&rt, path, Some(65), b"get a\n", b"", refused)?;
-    assert!(rt; !fs::exists(&rt, path)?);
-    let input = b"put a 1\nflush\nput b 2\n";
-    check_in_file(&rt, path, Some(4), input, b"new\nflushed 2\nnew\n", "")?;
-    // 512 bytes, and four segments.
-    assert_eq!(rt; fs::metadata(&rt, path)?.len(), 1_536);
-    let input = b"get a\nget b\nflush\n";
-    let out = b"value 1\nmissing\nflushed 2\n";
-    check_in_file(&rt, path, None, input, out, "")?;
-    check_in_file(&rt, path, Some(4), b"frob\n", b"", told)?;
-    check_in_file(&rt, path, Some(65), b"get a\n", b"", refused)?;
-    check_in_file(&rt, path, None, input, out, "")?;
-    check_in_file(&rt, path, Some(4), b"get a\n", b"missing\n", "")?;
-    fs::remove_dir_all(&rt, folder.as_str())?;
-    Ok(())
-}
-
-// A folder is no file that could be opened. A file that holds no store stays as it is.
-#[test]
-fn a_file_holds_no_store(rt: HostRuntime) -> Result<(), Fail> {
-    let folder = env::temp_dir(&rt)?.join(rt.alloc(), "bwsh_no_store")?;
-    let file = folder.join(rt.alloc(), "store")?;
-    let path = file.as_str();
-    let _ = fs::remove_dir_all(&rt, folder.as_str());
-    fs::create_dir(&rt, folder.as_str())?;
-    for fan in [None, Some(4)] {
-        check_in_file(
-            &rt,
-            folder.as_str(),
-            fan,
-            b"get a\n",
-            b"",
-            "fault 9 Device\n",
-        )?;
-    }
-    check_in_file(&rt, path, Some(4), b"", b"", "")?;
-    let mut short = fs::read(&rt, path)?;
-    short.truncate(1_535);
-    for bytes in [[0; 1_536].as_slice(), short.as_slice()] {
-        fs::write(&rt, path, bytes)?;
-        check_in_file(&rt, path, None, b"get a\n", b"", "fault 12 NotAStore\n")?;
-        assert_eq!(rt; fs::read(&rt, path)?.as_slice(), bytes);
-    }
-    fs::remove_dir_all(&rt, folder.as_str())?;
-    Ok(())
-}
-
-impl<S: Seek> Seek for Failing<S> {
-    fn seek(&mut self, to: SeekFrom) -> io::Result<u64> {
-        self.stream.seek(to)
-    }
-}
-
-impl<S: Seek> Seek for ByBytes<S> {
-    fn seek(&mut self, to: SeekFrom) -> io::Result<u64> {
-        self.stream.seek(to)
-    }
-}
-
-impl<S> OpenFile for Failing<S> {
-    fn metadata(&self) -> io::Result<Metadata> {
-        Err(io::Error::from(self.kind))
-    }
-
-    fn set_len(&self, _size: u64) -> io::Result<()> {
-        Ok(())
-    }
-
-    fn sync_all(&self) -> io::Result<()> {
-        Ok(())
-    }
-
-    fn sync_data(&self) -> io::Result<()> {
-        Ok(())
-    }
-}
-
-// Asserts how many calls of a disk fail that is over an empty file, which takes and gives a byte at a time, and whose third
-// call fails so. Four bytes are written and read, and then some behind the file's end.
-fn check_disk<R: AllocGlobal + Abort>(rt: &R, kind: ErrorKind, failures: u32) -> Result<(), Fail> {
-    let file = Failing {
-        calls: 2,
-        faults: 1,
-        kind,
-        stream: ByBytes {
-            stream: Cursor::new(Vec::new(rt.alloc())),
-        },
-    };
-    let mut disk = FileDisk::of_zeros(file, 16)?;
-    let mut back = [0; 4];
-    let is_done = disk.write_at(3, b"abcd").is_ok() && disk.read_at(3, &mut back).is_ok();
-    assert_eq!(rt; disk.failures(), u64::from(failures));
-    assert!(rt; !is_done || back == *b"abcd");
-    assert!(rt; disk.read_at(9, &mut back).is_err());
-    assert_eq!(rt; disk.failures(), u64::from(failures) + 1);
-    Ok(())
-}
-
-// A call that was interrupted is made again, and one that was cut short goes on.
-#[test]
-fn a_disk_over_a_file(rt: HostRuntime) -> Result<(), Fail> {
-    check_disk(&rt, ErrorKind::Interrupted, 0)?;
-    check_disk(&rt, ErrorKind::Other, 1)
 }

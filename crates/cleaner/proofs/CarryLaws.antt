@@ -43,7 +43,7 @@ free_or_base (DeltaIndex run) e f = absurd (cc)
 free_or_base Free e f = refl
 
 -- nothing is carried on of what stands behind the head segment
-carried_none : (head : ℕ) (fs : List Found) → AllByRecursion (λ f. nat_eq f.segment head ≡ false) fs → carried head fs ≡ []
+pub carried_none : (head : ℕ) (fs : List Found) → AllByRecursion (λ f. nat_eq f.segment head ≡ false) fs → carried head fs ≡ []
 carried_none head [] a = refl
 carried_none head (f ∷ fs) a = rw a.0 refl
 

@@ -176,7 +176,7 @@ module _ (s : Settings) (file : List ℕ) (tree : Tree) (on_disk : Store) (by : 
   same_step : (u : Slot) → AreInStep (store_after tree by.slot) on_disk → AreInStep (store_after tree u) (store_after on_disk.tree u)
   same_step u step = record { head = refl; tail = refl; sequence = refl; none = step.none; upto = step.upto }
 
-  same_found : (found : List Found) → log s file by.slot ≡ Ok found → by.found ≡ found
+  pub same_found : (found : List Found) → log s file by.slot ≡ Ok found → by.found ≡ found
   same_found found read =
       let both : (let mine : Result (List Found) Fault = Ok by.found in mine ≡ Ok found) = sym by.reads.log ∙ read in
       cc

@@ -20,14 +20,14 @@ use Rattle.cleaner.proofs.CarryLaws.{starts, said_all, same-told}
 
 -- ---- what was found of a pid
 
-abbrev of_pid : ℕ → List Found → List Found
+abbrev pub of_pid : ℕ → List Found → List Found
 of_pid pid found = filter (λ f. nat_eq f.frame.pid pid) found
 
 contents_by : (b : Bool) (f : Found) (fs : List Frame) (gs : List Found) → map (λ (g : Frame). g.content) fs ≡ said_all gs → map (λ (g : Frame). g.content) (cond b (f.frame ∷ fs) fs) ≡ said_all (cond b (f ∷ gs) gs)
 contents_by true f fs gs e = ap (λ (cs : List Content). f.frame.content ∷ cs) e
 contents_by false f fs gs e = e
 
-contents-found : (pid : ℕ) (found : List Found) → contents_of pid (frames_in found) ≡ said_all (of_pid pid found)
+pub contents-found : (pid : ℕ) (found : List Found) → contents_of pid (frames_in found) ≡ said_all (of_pid pid found)
 contents-found pid [] = refl
 contents-found pid (f ∷ fs) = contents_by (nat_eq f.frame.pid pid) f (filter (λ g. nat_eq g.pid pid) (frames_in fs)) (of_pid pid fs) (contents-found pid fs)
 
@@ -35,7 +35,7 @@ filter_by : (b : Bool) (f : Found) (xs ys zs : List Found) → xs ≡ ys ++ zs �
 filter_by true f xs ys zs e = ap (λ (x : List Found). f ∷ x) e
 filter_by false f xs ys zs e = e
 
-of_pid-append : (pid : ℕ) (xs ys : List Found) → of_pid pid (xs ++ ys) ≡ of_pid pid xs ++ of_pid pid ys
+pub of_pid-append : (pid : ℕ) (xs ys : List Found) → of_pid pid (xs ++ ys) ≡ of_pid pid xs ++ of_pid pid ys
 of_pid-append pid [] ys = refl
 of_pid-append pid (x ∷ xs) ys = filter_by (nat_eq x.frame.pid pid) x (of_pid pid (xs ++ ys)) (of_pid pid xs) (of_pid pid ys) (of_pid-append pid xs ys)
 

@@ -1,2 +1,4 @@
 pub mod AfterClean
+pub mod Cleaned
 pub mod CleanText
+pub mod Kept

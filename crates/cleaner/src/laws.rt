@@ -1,12 +1,16 @@
 //! What the definitions of `specs/` mean. Each law is the contract of a function with an empty body.
-ghost use Rattle.std.specs.Prelude.{◌≡◌, ◌⊎◌, suc, Ok};
+ghost use Rattle.std.specs.Prelude.{◌≡◌, ◌⊎◌, suc, List, Ok};
 ghost use Rattle.keys.specs.Bytes.{Bytes};
 ghost use Rattle.keys.specs.declared.settings.Settings.{Settings};
 ghost use Rattle.mapping.specs.Tree.{Store, with_tree};
-ghost use Rattle.flush_log.specs.Commit.{LeftDuring};
+ghost use Rattle.flush_log.specs.AfterFlush.{slot_of};
+ghost use Rattle.flush_log.specs.Commit.{LeftDuring, IsUncommitted};
+ghost use Rattle.flush_log.specs.Layout.{spans};
+ghost use Rattle.flush_log.specs.Reading.{Found, log};
 ghost use Rattle.recovery.specs.InStep.{AreInStep, IsInStep, IsStore, IsStoreOf};
 ghost use Rattle.recovery.specs.StoreOfDisk.{store_of_disk};
 ghost use Rattle.cleaner.specs.AfterClean.{after_clean, clean_calls};
+ghost use Rattle.cleaner.specs.CleanText.{clean_text};
 
 /// A clean keeps the store: the disk after it stands for the tree that it stood for, with the head, tail and number that
 /// the clean leaves. The tree in memory stays as it is, with what was not flushed, and in step with the disk. Whatever the
@@ -23,8 +27,12 @@ pub fn a_clean_keeps_the_store()
         IsStore s now }
 {}
 
-/// A crash at any moment of a clean leaves a disk that stands for the store that it stood for, or all that the clean leaves.
+/// A crash at any moment of a clean leaves a disk that stands for the store that it stood for, or all that the clean leaves. Until
+/// its commit is done it stands for the first.
 pub fn a_crash_in_a_clean_leaves_the_store_before_or_after()
-    ensures { (s : Settings) (st now : Store) (file bytes c : Bytes) → IsInStep s st file → after_clean s st file ≡ Ok (now, bytes) →
+    ensures hidden { (s : Settings) (st now : Store) (found : List Found) (file bytes c : Bytes) → IsInStep s st file →
+        after_clean s st file ≡ Ok (now, bytes) → log s file (slot_of st) ≡ Ok found →
+        IsUncommitted s (suc st.sequence) (spans s st.tail (clean_text st.head found)) file c → store_of_disk c ≡ store_of_disk file }
+    ensures calls { (s : Settings) (st now : Store) (file bytes c : Bytes) → IsInStep s st file → after_clean s st file ≡ Ok (now, bytes) →
         LeftDuring (clean_calls s st file) file c → (store_of_disk c ≡ store_of_disk file) ⊎ (c ≡ bytes) }
 {}

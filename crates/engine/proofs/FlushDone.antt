@@ -18,47 +18,8 @@ use Rattle.recovery.specs.StoreOfDisk.{store_of_disk}
 use Rattle.engine.specs.Calls.{IsPlan, WouldFlush}
 use Rattle.engine.specs.State.{IsSound}
 
--- ---- the bytes of a disk decide nothing of it but the bytes after it
-
 abbrev pub left : Store → List ℕ → Result (Store × List ℕ) Fault
 left now bytes = Ok (now, bytes)
-
-same_fault_by : (a b : Bool) (now : Store) (f g : List ℕ) (fault : Fault) → (if a then Err Spent else (if b then Err Full else left now f)) ≡ Err fault → (if a then Err Spent else (if b then Err Full else left now g)) ≡ Err fault
-same_fault_by true b now f g fault h = h
-same_fault_by false true now f g fault h = h
-same_fault_by false false now f g fault h = absurd (cc)
-
-same_store_by : (a b : Bool) (st now : Store) (f g bytes : List ℕ) → (if a then Err Spent else (if b then Err Full else left st f)) ≡ left now bytes → (if a then Err Spent else (if b then Err Full else left st g)) ≡ left now g
-same_store_by true b st now f g bytes h = absurd (cc)
-same_store_by false true st now f g bytes h = absurd (cc)
-same_store_by false false st now f g bytes h =
-    let same : (let x : Store × List ℕ = (st, f) in x ≡ (now, bytes)) = cc in
-    ap (λ (x : Store × List ℕ). left x.0 g) same
-
-module _ (s : Settings) (st : Store) (file other : List ℕ) where
-  refused_text : (text : List Frame) (fault : Fault) → after_text s st file text ≡ Err fault → after_text s st other text ≡ Err fault
-  refused_text [] fault h = absurd (cc)
-  refused_text (f ∷ fs) fault h =
-      let t : Slot = flush_slot s st (f ∷ fs) in
-      same_fault_by (is_spent t) (is_full_for_flush s t.head t.tail) (store_after (flushed st.tree) t)
-      (committed s file (spans s st.tail (f ∷ fs)) t) (committed s other (spans s st.tail (f ∷ fs)) t) fault h
-
-  done_text : (text : List Frame) (now : Store) (bytes : List ℕ) → after_text s st file text ≡ left now bytes → (more : List ℕ) × (after_text s st other text ≡ left now more)
-  done_text [] now bytes h =
-      let same : (let x : Store × List ℕ = (st, file) in x ≡ (now, bytes)) = cc in
-      (other, ap (λ (x : Store × List ℕ). left x.0 other) same)
-  done_text (f ∷ fs) now bytes h =
-      let t : Slot = flush_slot s st (f ∷ fs) in (
-        committed s other (spans s st.tail (f ∷ fs)) t,
-        same_store_by (is_spent t) (is_full_for_flush s t.head t.tail) (store_after (flushed st.tree) t) now
-            (committed s file (spans s st.tail (f ∷ fs)) t) (committed s other (spans s st.tail (f ∷ fs)) t) bytes h,
-      )
-
-  pub flush-refused-elsewhere : (fault : Fault) → after_flush s st file ≡ Err fault → after_flush s st other ≡ Err fault
-  flush-refused-elsewhere = refused_text (flush_text st.tree)
-
-  pub flush-done-elsewhere : (now : Store) (bytes : List ℕ) → after_flush s st file ≡ left now bytes → (more : List ℕ) × (after_flush s st other ≡ left now more)
-  flush-done-elsewhere = done_text (flush_text st.tree)
 
 -- an empty text leaves all
 pub nothing-flushed : (s : Settings) (st : Store) (file : List ℕ) → flush_text st.tree ≡ [] → after_flush s st file ≡ left st file

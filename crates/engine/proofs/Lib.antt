@@ -3,6 +3,7 @@ mod Answered
 pub mod BatchDone
 mod BatchInStep
 mod BatchLeaves
+mod CleanDone
 mod CommandsWithin
 mod CreateLaws
 mod EndedRoutes

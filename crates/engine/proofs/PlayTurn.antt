@@ -1,5 +1,5 @@
 -- A turn of a play: one step more.
-use Rattle.std.specs.Prelude.{◌≡◌, ◌≢◌, ◌⊎◌, ℕ, zero, suc, ◌+◌, ◌<◌, IsTrue, true, false, List, [], ◌∷◌, ◌++◌, length, map, take, drop, Option, Some, None, Result, Ok, Err}
+use Rattle.std.specs.Prelude.{◌≡◌, ◌≢◌, ◌⊎◌, ℕ, zero, suc, ◌+◌, ◌<◌, Bool, IsTrue, true, false, List, [], ◌∷◌, ◌++◌, length, map, take, drop, Option, None, Result, Ok, Err}
 use Rattle.std.proofs.Common.{refl, sym, ap, ◌∙◌, subst, inl, inr, arith, get_or}
 use Rattle.std.proofs.lemmas.List.{map-append, take_more, drop_more}
 use Rattle.std.specs.declared.alloc.Global.{Global}
@@ -7,20 +7,16 @@ use Rattle.keys.specs.declared.fault.Fault.{Fault}
 use Rattle.keys.specs.declared.fault.Fault.TheVariants.{BadSettings, KeyTooLong, ValueTooLong, BatchTooLong, NoMemory, Failed, Device, Full, NothingToClean, NotAStore, NoSlot, BadSegment, BadFrame, BadStructure, Spent, DiskTooSmall}
 use Rattle.keys.specs.declared.settings.Settings.{Settings}
 use Rattle.mapping.specs.Tree.{Store}
-use Rattle.flush_log.specs.AfterFlush.{after_flush}
-use Rattle.flush_log.specs.Disk.{View, Lawful, IsSettled, Kept, HasFailed, LeavesOnly}
+use Rattle.flush_log.specs.Disk.{View, Lawful, IsSettled, Kept, Same, LeavesOnly}
 use Rattle.flush_log.proofs.ViewLaws.{only_then, weaker, now_leaves}
-use Rattle.recovery.specs.StoreOfDisk.{store_of_disk, and_then}
-use Rattle.engine.specs.Plays.{IsPlayed, IsStepFault, IsLeftInStep, step_of, answer_of, tried}
+use Rattle.recovery.specs.StoreOfDisk.{store_of_disk}
+use Rattle.engine.specs.Plays.{IsPlayed, IsPlayedOn, IsStepDone, IsStepFault, IsLeftInStep, step_of, answer_of, tried}
 use Rattle.engine.specs.State.{State, IsSound}
-use Rattle.engine.specs.Steps.{Step, Answer, Played, Stepped, StandsAfterSome, HasWords, HaveWords, here_and_on, unless_refused, played_on, with_later, after_step, batching, plays, plays_further}
-use Rattle.engine.specs.Steps.Answer.{Flushed}
+use Rattle.engine.specs.Steps.{Step, Answer, Played, Stepped, StandsAfterSome, HasWords, HaveWords, here_and_on, played_on, with_later, after_step, batching, plays, plays_further}
 use Rattle.engine.specs.declared.step.Step as code_step
-use Rattle.engine.specs.declared.step.Step.TheVariants as called
 use Rattle.engine.specs.declared.step.Answer as code_answer
-use Rattle.engine.proofs.FlushDone.{flush-refused-elsewhere, flush-done-elsewhere}
 use Rattle.engine.proofs.PlayLaws.{plays-append, words-append, stands-later, stands-last}
-use Rattle.engine.proofs.ReadLaws.{leaves_itself}
+use Rattle.engine.proofs.ReadLaws.{leaves_itself, left_still, settled_still}
 
 -- ---- steps as they are called
 
@@ -71,28 +67,30 @@ reached_device xs fault n i x device same h is =
 pub reached_other : (xs : List code_step.Step) (fault : Fault) (n i : ℕ) → tried fault n ≡ n → n ≡ i → map step_of (take (tried fault n) xs) ≡ map step_of (take i xs)
 reached_other xs fault n i none same = ap (λ (k : ℕ). map step_of (take k xs)) (none ∙ same)
 
--- ---- faults don't look at the bytes
+-- ---- step by step, on any disk
 
-refused_on : (r q : Result (Store × List ℕ) Fault) (answer : Store × List ℕ → Answer Global) (fault : Fault) → ((f : Fault) → r ≡ Err f → q ≡ Err f)
-    → (let u : Stepped Global = and_then r (λ p. Ok (answer p, p)) in u ≡ Err fault) → (let u : Stepped Global = and_then q (λ p. Ok (answer p, p)) in u ≡ Err fault)
-refused_on (Ok p) q answer fault so e = absurd (cc)
-refused_on (Err f) q answer fault so e =
-    ap (λ (r : Result (Store × List ℕ) Fault). (let u : Stepped Global = and_then r (λ p. Ok (answer p, p)) in u)) (so f refl) ∙ e
+-- these steps were done one after the other, as `IsPlayed` says, and left these bytes last
+abbrev pub IsPlayedTo : Bool → Settings → Store → List ℕ → List (Step Global) → List code_answer.Answer → Store → List ℕ → Type 0
+IsPlayedTo honest s st left [] said now last = (said ≡ []) × (now ≡ st) × (last ≡ left)
+IsPlayedTo honest s st left (x ∷ xs) said now last =
+    (a : code_answer.Answer) × (rest : List code_answer.Answer) × (said ≡ a ∷ rest)
+    × (mid : Store) × (bytes : List ℕ) × IsStepDone honest s st left x a mid bytes × IsPlayedTo honest s mid bytes xs rest now last
 
-batch_on : (o : Option Fault) (answer : Answer Global) (st : Store) (file other : List ℕ) (fault : Fault) → unless_refused o answer st file ≡ Err fault → unless_refused o answer st other ≡ Err fault
-batch_on None answer st file other fault e = absurd (cc)
-batch_on (Some f) answer st file other fault e = e
+played_to : (honest : Bool) (s : Settings) (st : Store) (left : List ℕ) (xs : List (Step Global)) (said : List code_answer.Answer) (now : Store) (last : List ℕ) → IsPlayedTo honest s st left xs said now last → IsPlayed honest s st left xs said now
+played_to honest s st left [] said now last (none, same, is) = (none, same)
+played_to honest s st left (x ∷ xs) said now last (a, rest, is, mid, bytes, done, on) = (a, rest, is, mid, bytes, done, played_to honest s mid bytes xs rest now last on)
 
-pub fault_elsewhere : (s : Settings) (st : Store) (file other : List ℕ) (old new was : ℕ) (x : code_step.Step) (fault : Fault) → was ≡ old
-    → IsStepFault s st file was new (step_of x) fault → IsStepFault s st other old new (step_of x) fault
-fault_elsewhere s st file other old new was (called.Batch cs) fault same (inl right) = inl (batch_on _ _ _ file other fault right)
-fault_elsewhere s st file other old new was (called.Batch cs) fault same (inr late) = inr late
-fault_elsewhere s st file other old new was called.Flush fault same (inl right) =
-    inl (refused_on (after_flush s st file) (after_flush s st other) (λ p. Flushed p.0.sequence) fault (λ f e. flush-refused-elsewhere s st file other f e) right)
-fault_elsewhere s st file other old new was called.Flush fault same (inr (inl memory)) = inr (inl memory)
-fault_elsewhere s st file other old new was called.Flush fault same (inr (inr (device, failed, (some, now, bytes, done)))) =
-    let (more, there) = flush-done-elsewhere s st file other now bytes done in
-    inr (inr (device, subst (λ (n : ℕ). HasFailed n new) same failed, (some, now, more, there)))
+-- and one more
+played_more : (honest : Bool) (s : Settings) (st : Store) (left : List ℕ) (xs : List (Step Global)) (said : List code_answer.Answer) (mid : Store) (last : List ℕ) (x : Step Global) (a : code_answer.Answer) (now : Store) (bytes : List ℕ)
+    → IsPlayedTo honest s st left xs said mid last → IsStepDone honest s mid last x a now bytes → IsPlayedTo honest s st left (xs ++ x ∷ []) (said ++ a ∷ []) now bytes
+played_more honest s st left [] said mid last x a now bytes (none, same, is) done =
+    let there = subst (λ (f : List ℕ). IsStepDone honest s mid f x a now bytes) is done in
+    (a, [], ap (λ (l : List code_answer.Answer). l ++ a ∷ []) none, now, bytes, subst (λ (y : Store). IsStepDone honest s y left x a now bytes) same there, (refl, refl, refl))
+played_more honest s st left (y ∷ ys) said mid last x a now bytes (b, rest, is, m, f, first, on) done =
+    (b, rest ++ a ∷ [], ap (λ (l : List code_answer.Answer). l ++ a ∷ []) is, m, f, first, played_more honest s m f ys rest mid last x a now bytes on done)
+
+same_ok : {X : Type 0} (r : Result X Fault) (p q : X) → r ≡ Ok p → r ≡ Ok q → p ≡ q
+same_ok r p q first second = cc
 
 -- ---- one step more
 
@@ -110,11 +108,11 @@ module _ (s : Settings) (st : Store) (file : List ℕ) where
       → at (xs ++ x ∷ []) ≡ record { answers = (at xs).answers ++ a ∷ []; store = now; bytes = bytes; fault = None }
   next_of xs x a now bytes none done = plays-append (batching s) s st file xs (x ∷ []) ∙ one_more (at xs) x a now bytes none done
 
-  module _ (xs : List (Step Global)) (said : List code_answer.Answer) (cur : Store) (is : IsPlayed s st file xs said cur) (x : Step Global) where
+  module _ (xs : List (Step Global)) (said : List code_answer.Answer) (cur : Store) (is : IsPlayedOn s st file xs said cur) (x : Step Global) where
     there : (a : Answer Global) (now : Store) (bytes : List ℕ) → after_step (batching s) s cur (at xs).bytes x ≡ Ok (a, (now, bytes)) → after_step (batching s) s (at xs).store (at xs).bytes x ≡ Ok (a, (now, bytes))
     there a now bytes done = subst (λ (y : Store). after_step (batching s) s y (at xs).bytes x ≡ Ok (a, (now, bytes))) is.store done
 
-    still_played : (a : code_answer.Answer) (now : Store) (bytes : List ℕ) → after_step (batching s) s cur (at xs).bytes x ≡ Ok (answer_of a, (now, bytes)) → IsPlayed s st file (xs ++ x ∷ []) (said ++ a ∷ []) now
+    still_played : (a : code_answer.Answer) (now : Store) (bytes : List ℕ) → after_step (batching s) s cur (at xs).bytes x ≡ Ok (answer_of a, (now, bytes)) → IsPlayedOn s st file (xs ++ x ∷ []) (said ++ a ∷ []) now
     still_played a now bytes done =
         let e = next_of xs x (answer_of a) now bytes is.unrefused (there (answer_of a) now bytes done) in
         record {
@@ -158,12 +156,20 @@ pub record IsTurn {D : Type 0} (view : D → View) (failures : D → ℕ) (old :
   pub failed : failures now.disk ≡ failures old.disk
   pub kept : Kept (view old.disk) (view now.disk)
   pub none : old.has_failed ≡ true → xs ≡ []
-  pub played : IsPlayed old.settings old.store (view old.disk).seen xs said now.store
-  pub words : HaveWords (batching old.settings) old.settings old.store (view old.disk).seen xs
+  -- each was done of what a read gave; the last left what a read gives now
+  pub trace : (last : List ℕ) × IsPlayedTo (view old.disk).is_honest old.settings old.store (view old.disk).seen xs said now.store last × (IsTrue (view old.disk).is_honest → last ≡ (view now.disk).seen)
+  pub played : IsPlayed (view old.disk).is_honest old.settings old.store (view old.disk).seen xs said now.store
+  pub exact : IsTrue (view old.disk).is_honest → IsPlayedOn old.settings old.store (view old.disk).seen xs said now.store
+  pub words : IsTrue (view old.disk).is_honest → HaveWords (batching old.settings) old.settings old.store (view old.disk).seen xs
   pub bytes : IsTrue (view old.disk).is_honest → (view now.disk).seen ≡ (plays (batching old.settings) old.settings old.store (view old.disk).seen xs).bytes
   pub settled : IsSettled (view old.disk) → IsSettled (view now.disk)
   pub crash : old.has_failed ≡ false → IsSettled (view old.disk)
       → LeavesOnly (view old.disk) (view now.disk) (StandsAfterSome (batching old.settings) old.settings old.store (view old.disk).seen xs)
+
+-- of the same steps and answers
+pub turn_as : {D : Type 0} (view : D → View) (failures : D → ℕ) (old now : State D) (xs ys : List (Step Global)) (said told : List code_answer.Answer) → ys ≡ xs → told ≡ said → IsTurn view failures old xs said now → IsTurn view failures old ys told now
+turn_as view failures old now xs ys said told steps answers turn =
+    subst (λ (l : List code_answer.Answer). IsTurn view failures old ys l now) (sym answers) (subst (λ (l : List (Step Global)). IsTurn view failures old l said now) (sym steps) turn)
 
 module _ {D : Type 0} (view : D → View) (failures : D → ℕ) (lawful : (disk : D) → IsTrue (view disk).is_honest → Lawful (view disk)) (old : State D) where
   abbrev s : Settings
@@ -178,88 +184,141 @@ module _ {D : Type 0} (view : D → View) (failures : D → ℕ) (lawful : (disk
     failed = refl;
     kept = record { honest = refl; size = refl };
     none = λ _. refl;
-    played = record { unrefused = refl; answers = refl; store = refl };
-    words = tt;
+    trace = ((view old.disk).seen, (refl, refl, refl), λ _. refl);
+    played = (refl, refl);
+    exact = λ _. record { unrefused = refl; answers = refl; store = refl };
+    words = λ _. tt;
     bytes = λ _. refl;
     settled = λ settled. settled;
     crash = λ _ settled. leaves_itself (view old.disk) _ (lawful old.disk settled.honest) settled
         (stands-last (batching s) s old.store (view old.disk).seen (view old.disk).seen [] refl);
   }
 
-  -- what is left where a step was begun behind these, whether it was refused or not
-  module _ (xs : List (Step Global)) (said : List code_answer.Answer) (cur : State D) (turn : IsTurn view failures old xs said cur) (next : State D) (x : Step Global) where
+  -- a step behind these
+  module _ (xs : List (Step Global)) (said : List code_answer.Answer) (cur : State D) (turn : IsTurn view failures old xs said cur) (next : State D) where
     abbrev first : List ℕ
     first = (view old.disk).seen
 
     abbrev Stands : List (Step Global) → List ℕ → Type 0
     Stands ys c = StandsAfterSome (batching s) s old.store first ys c
 
-    abbrev Left : Settings → List ℕ → Type 0
-    Left z c = IsLeftInStep z cur.store (view cur.disk).seen x c
-
-    abbrev CrashOfStep : Type 0
-    CrashOfStep = cur.has_failed ≡ false → IsSettled (view cur.disk) → LeavesOnly (view cur.disk) (view next.disk) (Left cur.settings)
-
     still_honest : IsTrue (view old.disk).is_honest → IsTrue (view cur.disk).is_honest
     still_honest honest = subst IsTrue (sym turn.kept.honest) honest
 
-    step_leaves : CrashOfStep → old.has_failed ≡ false → IsSettled (view old.disk) → LeavesOnly (view cur.disk) (view next.disk) (Left s)
-    step_leaves crash fine was =
-        subst (λ (z : Settings). LeavesOnly (view cur.disk) (view next.disk) (Left z)) turn.settings (crash (turn.has_failed ∙ fine) (turn.settled was))
+    -- where it was refused, what was answered stays so
+    pub still_said : next.store ≡ cur.store → IsPlayed (view old.disk).is_honest s old.store first xs said next.store
+    still_said store = subst (λ (y : Store). IsPlayed (view old.disk).is_honest s old.store first xs said y) (sym store) turn.played
 
-    pub crash_on : CrashOfStep → old.has_failed ≡ false → IsSettled (view old.disk) → LeavesOnly (view old.disk) (view next.disk) (Stands (xs ++ x ∷ []))
-    crash_on crash fine was =
-        only_then (view old.disk) (view cur.disk) (view next.disk) (Stands (xs ++ x ∷ []))
-        (weaker (view old.disk) (view cur.disk) (Stands xs) (Stands (xs ++ x ∷ [])) (λ c h. stands-later (batching s) s old.store first c xs (x ∷ []) h) (turn.crash fine was))
-        (weaker (view cur.disk) (view next.disk) (Left s) (Stands (xs ++ x ∷ []))
-        (λ c left. left_in s old.store first xs said cur.store turn.played x (view cur.disk).seen c (turn.bytes was.honest) left)
-        (step_leaves crash fine was))
+    pub still_exact : next.store ≡ cur.store → IsTrue (view old.disk).is_honest → IsPlayedOn s old.store first xs said next.store
+    still_exact store honest = subst (λ (y : Store). IsPlayedOn s old.store first xs said y) (sym store) (turn.exact honest)
 
-    pub left_behind_it : Kept (view cur.disk) (view next.disk) → CrashOfStep → old.has_failed ≡ false → IsSettled (view old.disk) → (c : List ℕ) → (view next.disk).may_leave c
-        → (store_of_disk c ≡ store_of_disk (plays (batching s) s old.store first xs).bytes) ⊎ (store_of_disk c ≡ store_of_disk (plays (batching s) s old.store first (xs ++ x ∷ [])).bytes)
-    left_behind_it kept crash fine was c left =
-        left_by s old.store first xs said cur.store turn.played x (view cur.disk).seen c (turn.bytes was.honest)
-        (now_leaves (view cur.disk) (view next.disk) (Left s) (lawful next.disk (subst IsTrue (sym kept.honest) (still_honest was.honest))) (step_leaves crash fine was) c left)
-
-    -- a step that is done
-    abbrev DoneOn : Settings → code_answer.Answer → List ℕ → List ℕ → Type 0
-    DoneOn z a file bytes = after_step (batching z) z cur.store file x ≡ Ok (answer_of a, (next.store, bytes))
-
-    pub goes_on : (a : code_answer.Answer) → ((file : List ℕ) → (bytes : List ℕ) × DoneOn cur.settings a file bytes)
-        → (next.settings ≡ cur.settings) × Kept (view cur.disk) (view next.disk)
+    -- and all the rest, unless a call of the disk failed in it
+    pub stays : (next.settings ≡ cur.settings) × Kept (view cur.disk) (view next.disk)
+        → next.store ≡ cur.store
         → (next.has_failed ≡ cur.has_failed) × (failures next.disk ≡ failures cur.disk)
-        → cur.has_failed ≡ false
-        → (IsTrue (view cur.disk).is_honest → DoneOn cur.settings a (view cur.disk).seen (view next.disk).seen)
-        → (IsSettled (view cur.disk) → IsSettled (view next.disk))
-        → CrashOfStep
-        → HasWords (batching cur.settings) cur.settings cur.store.tree x
+        → (IsTrue (view cur.disk).is_honest → Same (view cur.disk) (view next.disk))
         → IsSound view next
-        → IsTurn view failures old (xs ++ x ∷ []) (said ++ a ∷ []) next
-    goes_on a ok rest counted fine bytes settled crash words sound =
-        let (file, done) = ok (plays (batching s) s old.store first xs).bytes in
-        let one : DoneOn s a (plays (batching s) s old.store first xs).bytes file = subst (λ (z : Settings). DoneOn z a (plays (batching s) s old.store first xs).bytes file) turn.settings done in
+        → IsTurn view failures old xs said next
+    stays rest store counted same sound =
+        let (last, on, seen) = turn.trace in
         record {
           sound = sound;
           settings = rest.0 ∙ turn.settings;
           has_failed = counted.0 ∙ turn.has_failed;
           failed = counted.1 ∙ turn.failed;
           kept = record { honest = rest.1.honest ∙ turn.kept.honest; size = rest.1.size ∙ turn.kept.size };
-          none = λ bad. (let same = turn.has_failed in absurd (cc));
-          played = still_played s old.store first xs said cur.store turn.played x a next.store file one;
-          words = still_words s old.store first xs said cur.store turn.played x turn.words (subst (λ (z : Settings). HasWords (batching z) z cur.store.tree x) turn.settings words);
-          bytes = λ honest. sym (still_bytes s old.store first xs said cur.store turn.played x (answer_of a) next.store (view next.disk).seen
-              (subst (λ (f : List ℕ). DoneOn s a f (view next.disk).seen) (turn.bytes honest)
-              (subst (λ (z : Settings). DoneOn z a (view cur.disk).seen (view next.disk).seen) turn.settings (bytes (still_honest honest)))));
-          settled = λ was. settled (turn.settled was);
-          crash = λ fine was. crash_on crash fine was;
+          none = turn.none;
+          trace = (
+            last,
+            subst (λ (y : Store). IsPlayedTo (view old.disk).is_honest s old.store first xs said y last) (sym store) on,
+            λ honest. seen honest ∙ sym (same (still_honest honest)).seen,
+          );
+          played = still_said store;
+          exact = λ honest. still_exact store honest;
+          words = turn.words;
+          bytes = λ honest. (same (still_honest honest)).seen ∙ turn.bytes honest;
+          settled = λ was. settled_still (view cur.disk) (view next.disk) rest.1 (same (still_honest was.honest)) (turn.settled was);
+          crash = λ fine was. left_still (view old.disk) (view cur.disk) (view next.disk) (Stands xs) (turn.crash fine was) (same (still_honest was.honest));
         }
 
-  -- why a step behind them is refused
-  pub refused_behind : (xs : List (Step Global)) (said : List code_answer.Answer) (cur : State D) → IsTurn view failures old xs said cur → (x : code_step.Step) (count : ℕ) (fault : Fault)
-      → IsStepFault cur.settings cur.store (view cur.disk).seen (failures cur.disk) count (step_of x) fault
-      → (let p : Played Global = plays (batching s) s old.store (view old.disk).seen xs in IsStepFault s p.store p.bytes (failures old.disk) count (step_of x) fault)
-  refused_behind xs said cur turn x count fault why =
-      let p : Played Global = plays (batching s) s old.store (view old.disk).seen xs in
-      let here = subst (λ (z : Settings). IsStepFault z cur.store (view cur.disk).seen (failures cur.disk) count (step_of x) fault) turn.settings why in
-      fault_elsewhere s p.store (view cur.disk).seen p.bytes (failures old.disk) count (failures cur.disk) x fault turn.failed
-      (subst (λ (y : Store). IsStepFault s y (view cur.disk).seen (failures cur.disk) count (step_of x) fault) turn.played.store here)
+    -- why it was refused
+    pub refused_behind : (y : code_step.Step) (count : ℕ) (fault : Fault) → next.store ≡ cur.store
+        → (file : List ℕ) × (IsTrue (view cur.disk).is_honest → file ≡ (view cur.disk).seen) × IsStepFault cur.settings cur.store file (failures cur.disk) count (step_of y) fault
+        → (file : List ℕ) × (IsTrue (view old.disk).is_honest → file ≡ (plays (batching s) s old.store first xs).bytes) × IsStepFault s next.store file (failures old.disk) count (step_of y) fault
+    refused_behind y count fault store (file, shown, why) =
+        let here = subst (λ (z : Settings). IsStepFault z cur.store file (failures cur.disk) count (step_of y) fault) turn.settings why in
+        let there = subst (λ (n : ℕ). IsStepFault s cur.store file n count (step_of y) fault) turn.failed here in (
+          file,
+          λ honest. shown (still_honest honest) ∙ turn.bytes honest,
+          subst (λ (z : Store). IsStepFault s z file (failures old.disk) count (step_of y) fault) (sym store) there,
+        )
+
+    -- what is left where it was begun, whether it was refused or not
+    module _ (x : Step Global) where
+      abbrev Left : Settings → List ℕ → Type 0
+      Left z c = IsLeftInStep z cur.store (view cur.disk).seen x c
+
+      abbrev CrashOfStep : Type 0
+      CrashOfStep = cur.has_failed ≡ false → IsSettled (view cur.disk) → LeavesOnly (view cur.disk) (view next.disk) (Left cur.settings)
+
+      step_leaves : CrashOfStep → old.has_failed ≡ false → IsSettled (view old.disk) → LeavesOnly (view cur.disk) (view next.disk) (Left s)
+      step_leaves crash fine was =
+          subst (λ (z : Settings). LeavesOnly (view cur.disk) (view next.disk) (Left z)) turn.settings (crash (turn.has_failed ∙ fine) (turn.settled was))
+
+      pub crash_on : CrashOfStep → old.has_failed ≡ false → IsSettled (view old.disk) → LeavesOnly (view old.disk) (view next.disk) (Stands (xs ++ x ∷ []))
+      crash_on crash fine was =
+          only_then (view old.disk) (view cur.disk) (view next.disk) (Stands (xs ++ x ∷ []))
+          (weaker (view old.disk) (view cur.disk) (Stands xs) (Stands (xs ++ x ∷ [])) (λ c h. stands-later (batching s) s old.store first c xs (x ∷ []) h) (turn.crash fine was))
+          (weaker (view cur.disk) (view next.disk) (Left s) (Stands (xs ++ x ∷ []))
+          (λ c left. left_in s old.store first xs said cur.store (turn.exact was.honest) x (view cur.disk).seen c (turn.bytes was.honest) left)
+          (step_leaves crash fine was))
+
+      pub left_behind_it : Kept (view cur.disk) (view next.disk) → CrashOfStep → old.has_failed ≡ false → IsSettled (view old.disk) → (c : List ℕ) → (view next.disk).may_leave c
+          → (store_of_disk c ≡ store_of_disk (plays (batching s) s old.store first xs).bytes) ⊎ (store_of_disk c ≡ store_of_disk (plays (batching s) s old.store first (xs ++ x ∷ [])).bytes)
+      left_behind_it kept crash fine was c left =
+          left_by s old.store first xs said cur.store (turn.exact was.honest) x (view cur.disk).seen c (turn.bytes was.honest)
+          (now_leaves (view cur.disk) (view next.disk) (Left s) (lawful next.disk (subst IsTrue (sym kept.honest) (still_honest was.honest))) (step_leaves crash fine was) c left)
+
+      -- a step that is done
+      abbrev DoneOn : Settings → code_answer.Answer → List ℕ → List ℕ → Type 0
+      DoneOn z a file bytes = after_step (batching z) z cur.store file x ≡ Ok (answer_of a, (next.store, bytes))
+
+      pub goes_on : (a : code_answer.Answer) → (bytes : List ℕ) × IsStepDone (view cur.disk).is_honest cur.settings cur.store (view cur.disk).seen x a next.store bytes
+          → (next.settings ≡ cur.settings) × Kept (view cur.disk) (view next.disk)
+          → (next.has_failed ≡ cur.has_failed) × (failures next.disk ≡ failures cur.disk)
+          → cur.has_failed ≡ false
+          → (IsTrue (view cur.disk).is_honest → DoneOn cur.settings a (view cur.disk).seen (view next.disk).seen)
+          → (IsSettled (view cur.disk) → IsSettled (view next.disk))
+          → CrashOfStep
+          → IsSound view next
+          → IsTurn view failures old (xs ++ x ∷ []) (said ++ a ∷ []) next
+      goes_on a (left, done) rest counted fine bytes settled crash sound =
+          let (last, on, seen) = turn.trace in
+          let here : IsStepDone (view cur.disk).is_honest s cur.store (view cur.disk).seen x a next.store left =
+          subst (λ (z : Settings). IsStepDone (view cur.disk).is_honest z cur.store (view cur.disk).seen x a next.store left) turn.settings done in
+          let there : IsStepDone (view old.disk).is_honest s cur.store last x a next.store left =
+          record { file = here.file; shown = λ honest. here.shown (still_honest honest) ∙ sym (seen honest); done = here.done; words = here.words } in
+          let more = played_more (view old.disk).is_honest s old.store first xs said cur.store last x a next.store left on there in
+          let now_seen : IsTrue (view old.disk).is_honest → DoneOn s a (view cur.disk).seen (view next.disk).seen =
+          λ honest. subst (λ (z : Settings). DoneOn z a (view cur.disk).seen (view next.disk).seen) turn.settings (bytes (still_honest honest)) in
+          let one : IsTrue (view old.disk).is_honest → DoneOn s a (plays (batching s) s old.store first xs).bytes (view next.disk).seen =
+          λ honest. subst (λ (f : List ℕ). DoneOn s a f (view next.disk).seen) (turn.bytes honest) (now_seen honest) in
+          record {
+            sound = sound;
+            settings = rest.0 ∙ turn.settings;
+            has_failed = counted.0 ∙ turn.has_failed;
+            failed = counted.1 ∙ turn.failed;
+            kept = record { honest = rest.1.honest ∙ turn.kept.honest; size = rest.1.size ∙ turn.kept.size };
+            none = λ bad. (let same = turn.has_failed in absurd (cc));
+            trace = (left, more, λ honest. same_left a left (view next.disk).seen (subst (λ (f : List ℕ). DoneOn s a f left) (here.shown (still_honest honest)) here.done) (now_seen honest));
+            played = played_to (view old.disk).is_honest s old.store first (xs ++ x ∷ []) (said ++ a ∷ []) next.store left more;
+            exact = λ honest. still_played s old.store first xs said cur.store (turn.exact honest) x a next.store (view next.disk).seen (one honest);
+            words = λ honest. still_words s old.store first xs said cur.store (turn.exact honest) x (turn.words honest) here.words;
+            bytes = λ honest. sym (still_bytes s old.store first xs said cur.store (turn.exact honest) x (answer_of a) next.store (view next.disk).seen (one honest));
+            settled = λ was. settled (turn.settled was);
+            crash = λ fine was. crash_on crash fine was;
+          }
+        where
+          same_left : (a : code_answer.Answer) (f g : List ℕ) → DoneOn s a (view cur.disk).seen f → DoneOn s a (view cur.disk).seen g → f ≡ g
+          same_left a f g one other =
+              ap (λ (p : Answer Global × (Store × List ℕ)). p.1.1) (same_ok (after_step (batching s) s cur.store (view cur.disk).seen x) (answer_of a, (next.store, f)) (answer_of a, (next.store, g)) one other)

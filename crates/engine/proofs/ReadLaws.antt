@@ -15,6 +15,14 @@ left_behind a b c P same run = record {
   before = λ t x le left. ⊎_elim (λ was. inl ((same.left_since t x).0 was)) (λ now. inr now) (run.before t x (subst (λ (m : ℕ). t ≤ m) (sym same.moment) le) left);
 }
 
+-- and what comes before it
+pub left_still : (a b c : View) (P : List ℕ → Type 0) → LeavesOnly a b P → Same b c → LeavesOnly a c P
+left_still a b c P run same = record {
+  later = subst (λ (m : ℕ). a.moment ≤ m) (sym same.moment) run.later;
+  each = λ x left. run.each x ((same.left_since a.moment x).0 left);
+  before = λ t x le left. run.before t x le ((same.left_since t x).0 left);
+}
+
 -- of a settled disk a crash leaves what is read
 pub leaves_itself : (v : View) (P : List ℕ → Type 0) → Lawful v → IsSettled v → P v.seen → LeavesOnly v v P
 leaves_itself v P law settled p = record {

@@ -1,7 +1,7 @@
 -- A step of a play, by the call that does it.
 use Rattle.std.specs.Prelude.{◌≡◌, ◌≢◌, ◌⊎◌, ℕ, ◌+◌, ◌<◌, nat_lt, Bool, true, false, if◌then◌else◌, List, [], ◌∷◌, Option, Some, None, MatchOption, Result, Ok, Err, IfErr}
 use Rattle.std.specs.Option.{option_or}
-use Rattle.std.proofs.Common.{refl, sym, ap, ◌∙◌, subst, inl, inr, arith}
+use Rattle.std.proofs.Common.{refl, sym, ap, ◌∙◌, subst, inl, inr, ⊎_elim, arith}
 use Rattle.std.proofs.lemmas.Bool.Decides.{nat_tests}
 use Rattle.std.specs.declared.alloc.Global.{Global}
 use Rattle.keys.specs.Step.{replies_to}
@@ -12,17 +12,20 @@ use Rattle.keys.specs.declared.fault.Fault.{Fault}
 use Rattle.keys.specs.declared.fault.Fault.TheVariants.{Device, Failed, Spent, KeyTooLong, ValueTooLong, BatchTooLong}
 use Rattle.keys.specs.declared.settings.Settings.{Settings}
 use Rattle.mapping.specs.Levels.{contents}
-use Rattle.mapping.specs.Tree.{Store, most_levels}
+use Rattle.mapping.specs.Tree.{Tree, Store, most_levels}
 use Rattle.climb_plan.specs.Plan.{plan, planned_tree}
 use Rattle.flush_log.specs.AfterFlush.{after_flush}
+use Rattle.flush_log.specs.Disk.{View, Same}
 use Rattle.recovery.specs.StoreOfDisk.{store_of_disk, and_then}
+use Rattle.cleaner.specs.AfterClean.{after_clean}
+use Rattle.cleaner.specs.Cleaned.{IsCleanFault}
 use Rattle.engine.specs.Batch.{IsLaterFault, height_fault, refusal_by}
 use Rattle.engine.specs.Calls.{IsFlushFault}
 use Rattle.engine.specs.Plays.{IsStepFault, IsLeftInStep}
 use Rattle.engine.specs.Refusal.{refusal, first_fault, fault_at, key_fault, value_fault, bound_fault}
-use Rattle.engine.specs.Steps.{Step, Stepped, unless_refused, after_step, batching}
-use Rattle.engine.specs.Steps.Step.{Batch, Flush}
-use Rattle.engine.specs.Steps.Answer.{Replies, Flushed}
+use Rattle.engine.specs.Steps.{Step, Stepped, HasWords, unless_refused, after_step, batching}
+use Rattle.engine.specs.Steps.Step.{Batch, Flush, Clean}
+use Rattle.engine.specs.Steps.Answer.{Replies, Flushed, Cleaned}
 
 pub fine_where : {T : Type 0} (b : Bool) (r : Result T Fault) (x : T) → r ≡ Ok x → (b ≡ true → r ≡ Err Failed) → b ≡ false
 fine_where false r x ok failed = refl
@@ -109,6 +112,9 @@ module _ {T : Type 0} (s : Settings) (st : Store) (cs : List (Command Global)) (
 
 -- ---- what is done
 
+pub words_of : (s : Settings) (t : Tree) (x y : Step Global) → y ≡ x → HasWords (batching s) s t x → HasWords (batching s) s t y
+words_of s t x y same words = subst (λ (z : Step Global). HasWords (batching s) s t z) (sym same) words
+
 module _ (s : Settings) (st now : Store) (file : List ℕ) (y : Step Global) where
   pub batch_done : (cs : List (Command Global)) (replies : List (Reply Global)) → y ≡ Batch cs → refusal_by s st.tree cs ≡ None → now ≡ plan s st cs → replies ≡ replies_to (contents st.tree) cs
       → after_step (batching s) s st file y ≡ Ok (Replies replies, (now, file))
@@ -124,6 +130,12 @@ module _ (s : Settings) (st now : Store) (file : List ℕ) (y : Step Global) whe
       ∙ ap (λ (r : Result (Store × List ℕ) Fault). (let q : Stepped Global = and_then r (λ p. Ok (Flushed p.0.sequence, p)) in q)) done
       ∙ ap (λ (k : ℕ). (let q : Stepped Global = Ok (Flushed k, (now, bytes)) in q)) (sym is)
 
+  pub clean_done : (bytes : List ℕ) (n : ℕ) → y ≡ Clean → n ≡ now.head → after_clean s st file ≡ Ok (now, bytes) → after_step (batching s) s st file y ≡ Ok (Cleaned n, (now, bytes))
+  clean_done bytes n same is done =
+      ap (after_step (batching s) s st file) same
+      ∙ ap (λ (r : Result (Store × List ℕ) Fault). (let q : Stepped Global = and_then r (λ p. Ok (Cleaned p.0.head, p)) in q)) done
+      ∙ ap (λ (k : ℕ). (let q : Stepped Global = Ok (Cleaned k, (now, bytes)) in q)) (sym is)
+
 module _ (s : Settings) (st : Store) (file : List ℕ) (y : Step Global) (same : y ≡ Flush) where
   pub flush_refused : (old new : ℕ) (fault : Fault) → IsFlushFault s st file old new fault → IsStepFault s st file old new y fault
   flush_refused old new fault why = subst (λ (z : Step Global). IsStepFault s st file old new z fault) (sym same) (by why) where
@@ -134,3 +146,19 @@ module _ (s : Settings) (st : Store) (file : List ℕ) (y : Step Global) (same :
   pub flush_left : (c : List ℕ) → (store_of_disk c ≡ store_of_disk file) ⊎ ((now : Store) × (after_flush s st file ≡ Ok (now, c))) → IsLeftInStep s st file y c
   flush_left c (inl before) = inl before
   flush_left c (inr (now, done)) = inr (Flushed now.sequence, now, flush_done s st now file y c now.sequence same refl done)
+
+module _ (s : Settings) (st : Store) (file : List ℕ) (y : Step Global) (same : y ≡ Clean) where
+  pub clean_refused : (old new : ℕ) (fault : Fault) → IsCleanFault s st file old new fault → IsStepFault s st file old new y fault
+  clean_refused old new fault why = subst (λ (z : Step Global). IsStepFault s st file old new z fault) (sym same) (by why) where
+    by : IsCleanFault s st file old new fault → IsStepFault s st file old new Clean fault
+    by (inl right) = inl (ap (λ (r : Result (Store × List ℕ) Fault). (let q : Stepped Global = and_then r (λ p. Ok (Cleaned p.0.head, p)) in q)) right)
+    by (inr late) = inr late
+
+  pub clean_left : (c : List ℕ) → (store_of_disk c ≡ store_of_disk file) ⊎ ((now : Store) × (after_clean s st file ≡ Ok (now, c))) → IsLeftInStep s st file y c
+  clean_left c (inl before) = inl before
+  clean_left c (inr (now, done)) = inr (Cleaned now.head, now, clean_done s st now file y c now.head same refl done)
+
+-- a clean that was refused without a call that failed has written nothing
+pub clean_same : (b : Bool) (old new : View) (fault : Fault) (W : Type 0) → (b ≡ true → Same old new) → (b ≡ false → Same old new ⊎ ((fault ≡ Device) × W)) → fault ≢ Device → Same old new
+clean_same true old new fault W failed written other = failed refl
+clean_same false old new fault W failed written other = ⊎_elim (λ same. same) (λ device. absurd (other device.0)) (written refl)

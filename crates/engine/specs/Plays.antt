@@ -1,5 +1,5 @@
 -- What a play answers and leaves: the steps that are called, in the words of the definitions of steps.
-use Rattle.std.specs.Prelude.{◌≡◌, ◌≢◌, ◌⊎◌, ℕ, ◌+◌, List, [], ◌∷◌, map, take, drop, None, Result, Ok, Err}
+use Rattle.std.specs.Prelude.{◌≡◌, ◌≢◌, ◌⊎◌, ℕ, ◌+◌, Bool, IsTrue, List, [], ◌∷◌, map, take, drop, None, Result, Ok, Err}
 use Rattle.std.specs.declared.alloc.Global.{Global}
 use Rattle.keys.specs.Bytes.{Bytes}
 use Rattle.keys.specs.declared.fault.Fault.{Fault}
@@ -8,12 +8,14 @@ use Rattle.keys.specs.declared.settings.Settings.{Settings}
 use Rattle.mapping.specs.Tree.{Store}
 use Rattle.flush_log.specs.Disk.{HasFailed}
 use Rattle.flush_log.specs.FlushText.{flush_text}
+use Rattle.flush_log.specs.Segments.{last_segment}
+use Rattle.recovery.specs.Recovered.{IsLate}
 use Rattle.recovery.specs.StoreOfDisk.{store_of_disk}
 use Rattle.engine.specs.Calls.{WouldFlush}
 use Rattle.engine.specs.Refusal.{refusal}
-use Rattle.engine.specs.Steps.{Step, Answer, Played, batching, after_step, plays}
+use Rattle.engine.specs.Steps.{Step, Answer, HasWords, batching, after_step, plays}
 use Rattle.engine.specs.Steps.Step.{Batch, Flush, Clean}
-use Rattle.engine.specs.Steps.Answer.{Replies, Flushed}
+use Rattle.engine.specs.Steps.Answer.{Replies, Flushed, Cleaned}
 use Rattle.engine.specs.declared.step.Step as code_step
 use Rattle.engine.specs.declared.step.Step.TheVariants as called
 use Rattle.engine.specs.declared.step.Answer as code_answer
@@ -25,11 +27,13 @@ use Rattle.engine.specs.declared.step.Answer.TheVariants as answered
 abbrev pub step_of : code_step.Step → Step Global
 step_of (called.Batch commands) = Batch commands.now
 step_of called.Flush = Flush
+step_of called.Clean = Clean
 
 -- and what it answers
 abbrev pub answer_of : code_answer.Answer → Answer Global
 answer_of (answered.Replies replies) = Replies replies.items
 answer_of (answered.Flushed n) = Flushed n
+answer_of (answered.Cleaned n) = Cleaned n
 
 -- ---- how far a play comes
 
@@ -56,30 +60,45 @@ UnlessDevice (Err e) P = e.2 ≢ Device → P
 -- ---- what is played
 
 -- none of these steps is refused, on a store and the bytes of its disk; they answer so, and leave this store
-pub record IsPlayed (s : Settings) (st : Store) (file : Bytes) (xs : List (Step Global)) (said : List code_answer.Answer) (now : Store) : Type 0 where
+pub record IsPlayedOn (s : Settings) (st : Store) (file : Bytes) (xs : List (Step Global)) (said : List code_answer.Answer) (now : Store) : Type 0 where
   pub unrefused : (plays (batching s) s st file xs).fault ≡ None
   pub answers : map answer_of said ≡ (plays (batching s) s st file xs).answers
   pub store : now ≡ (plays (batching s) s st file xs).store
 
+-- A step was done as it should be, of bytes that a read gave, and left the store and these bytes; its numbers have 64 bits. On an
+-- honest disk a read gives what was left before.
+pub record IsStepDone (honest : Bool) (s : Settings) (st : Store) (left : Bytes) (x : Step Global) (a : code_answer.Answer) (now : Store) (bytes : Bytes) : Type 0 where
+  pub file : Bytes
+  pub shown : IsTrue honest → file ≡ left
+  pub done : after_step (batching s) s st file x ≡ Ok (answer_of a, (now, bytes))
+  pub words : HasWords (batching s) s st.tree x
+
+-- so were these steps, one after the other, and answered so
+abbrev pub IsPlayed : Bool → Settings → Store → Bytes → List (Step Global) → List code_answer.Answer → Store → Type 0
+IsPlayed honest s st left [] said now = (said ≡ []) × (now ≡ st)
+IsPlayed honest s st left (x ∷ xs) said now =
+    (a : code_answer.Answer) × (rest : List code_answer.Answer) × (said ≡ a ∷ rest)
+    × (mid : Store) × (bytes : Bytes) × IsStepDone honest s st left x a mid bytes × IsPlayed honest s mid bytes xs rest now
+
 -- ---- what is refused
 
--- a step that isn't refused by its right is refused so: for want of memory; or since a call of the disk failed
+-- A step that isn't refused by its right is refused so: for want of memory; or since a call of the disk failed. A clean is so only
+-- where more than one segment is in use.
 abbrev pub IsLateInStep : Settings → Store → Bytes → ℕ → ℕ → Step Global → Fault → Type 0
 IsLateInStep s st file old new (Batch cs) fault = (fault ≡ NoMemory) × (refusal s cs ≡ None)
 IsLateInStep s st file old new Flush fault =
     ((fault ≡ NoMemory) × (flush_text st.tree ≢ [])) ⊎ ((fault ≡ Device) × HasFailed old new × WouldFlush s st file)
-IsLateInStep s st file old new Clean fault = ⊥
+IsLateInStep s st file old new Clean fault = (st.head ≢ last_segment s st.tail) × IsLate old new fault
 
 -- why a step of a store that has not failed is refused
 abbrev pub IsStepFault : Settings → Store → Bytes → ℕ → ℕ → Step Global → Fault → Type 0
 IsStepFault s st file old new x fault = (after_step (batching s) s st file x ≡ Err fault) ⊎ IsLateInStep s st file old new x fault
 
--- why the step behind these is refused, which are played; or there was no memory for the list of answers
+-- why the step behind those that are played is refused, on the store that they left; or there was no memory for the list of answers
 abbrev pub IsPlayFault : Settings → Store → Bytes → ℕ → ℕ → List code_step.Step → ℕ → Fault → Type 0
-IsPlayFault s st file old new xs place fault =
+IsPlayFault s now file old new xs place fault =
     ((place ≡ 0) × (fault ≡ NoMemory))
-    ⊎ ((x : code_step.Step) × (rest : List code_step.Step) × (drop place xs ≡ x ∷ rest)
-    × (let p : Played Global = plays (batching s) s st file (map step_of (take place xs)) in IsStepFault s p.store p.bytes old new (step_of x) fault))
+    ⊎ ((x : code_step.Step) × (rest : List code_step.Step) × (drop place xs ≡ x ∷ rest) × IsStepFault s now file old new (step_of x) fault)
 
 -- ---- what a crash leaves
 

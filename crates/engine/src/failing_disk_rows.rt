@@ -20,7 +20,7 @@ use std::thread::Threads;
 #[derive(Drop)]
 pub(crate) struct FailingDisk {
     pub(crate) bytes: Vec<u8>,
-    list: String,
+    pub(crate) list: String,
     pub(crate) calls: u64,
     fails_at: u64,
     failures: u64,

@@ -1,15 +1,28 @@
-//! The store: a tree of pages, and batches of commands that are executed on it.
+//! The store: a tree of pages on which batches of commands are executed, and its log on a disk, to which it is flushed and
+//! which is cleaned.
 #![tactic(auto)]
 
 #[cfg(test)]
 mod bases;
 #[cfg(test)]
+mod clean_rows;
+#[cfg(test)]
+mod crash_rows;
+#[cfg(test)]
+mod crash_run;
+#[cfg(test)]
+mod damaged_clean_rows;
+#[cfg(test)]
 mod disk_rows;
 mod execute;
+#[cfg(test)]
+mod failing_clean_rows;
 #[cfg(test)]
 mod failing_disk_rows;
 #[cfg(test)]
 mod failing_recovery_rows;
+#[cfg(test)]
+mod fault_rows;
 #[cfg(test)]
 mod frame_rows;
 pub mod laws;
@@ -31,6 +44,6 @@ mod trees_by_hand;
 
 pub use crate::step::{Answer, Step};
 pub use crate::store::Store;
-pub use flush_log::{Disk, DiskFault, MemDisk};
+pub use flush_log::{CrashDisk, Disk, DiskFault, Failing, FaultDisk, Fill, MemDisk};
 pub use scan::Rows;
 pub use verify::Report;

@@ -17,51 +17,56 @@ pub(crate) const SHORTEST: usize = 1_536;
 // What each byte of a disk is before a store is made on it.
 const OLD: u8 = 0xa5;
 
-// What a slot says; its head is 0. Sequence number 0 stands for a slot of zeros.
+// What a slot says. Sequence number 0 stands for a slot of zeros.
 #[derive(Clone, Copy)]
-struct SlotRow {
-    sequence: u64,
-    tail: u64,
-    root: u64,
-    height: u32,
+pub(crate) struct SlotRow {
+    pub(crate) sequence: u64,
+    pub(crate) head: u64,
+    pub(crate) tail: u64,
+    pub(crate) root: u64,
+    pub(crate) height: u32,
 }
 
-const NO_SLOT: SlotRow = SlotRow {
+pub(crate) const NO_SLOT: SlotRow = SlotRow {
     sequence: 0,
+    head: 0,
     tail: 0,
     root: 0,
     height: 0,
 };
 
-const FIRST_SLOT: SlotRow = SlotRow {
+pub(crate) const FIRST_SLOT: SlotRow = SlotRow {
     sequence: 1,
+    head: 0,
     tail: 33,
     root: 0,
     height: 1,
 };
 
-const FIVE_PUTS_SLOT: SlotRow = SlotRow {
+pub(crate) const FIVE_PUTS_SLOT: SlotRow = SlotRow {
     sequence: 2,
+    head: 0,
     tail: 136,
     root: 2,
     height: 2,
 };
 
-const SEVENTEEN_PUTS_SLOT: SlotRow = SlotRow {
+pub(crate) const SEVENTEEN_PUTS_SLOT: SlotRow = SlotRow {
     sequence: 2,
+    head: 0,
     tail: 399,
     root: 7,
     height: 3,
 };
 
 // An example: its steps, what they answer, and then the two slots and what the log has behind the frame of the first leaf, up to its tail.
-// A step is a word: `flush` is a flush, and each other one a batch, the empty one without commands.
-struct Row {
-    name: &'static str,
-    steps: &'static [&'static str],
-    answers: &'static str,
-    slots: [SlotRow; 2],
-    log: &'static [&'static [u8]],
+// A step is a word: `flush` is a flush, `clean` a clean, and each other one a batch, the empty one without commands.
+pub(crate) struct Row {
+    pub(crate) name: &'static str,
+    pub(crate) steps: &'static [&'static str],
+    pub(crate) answers: &'static str,
+    pub(crate) slots: [SlotRow; 2],
+    pub(crate) log: &'static [&'static [u8]],
 }
 
 const SETTINGS_BLOCK: &[u8] = b"BWBATCH1\0\x04\0\x02\0\x10\0\x10\0\0\x01\0\0\0\0\x04";
@@ -80,51 +85,51 @@ const PUT_AGAIN_SLOT_BYTES: &[u8] =
 
 const HEADER_0: &[u8] = b"BWSG\0\0\0\0\0\0\0\0\0\0\0\0";
 
-const HEADER_1: &[u8] = b"BWSG\0\0\0\0\0\0\0\0\0\0\0\x01";
+pub(crate) const HEADER_1: &[u8] = b"BWSG\0\0\0\0\0\0\0\0\0\0\0\x01";
 
-const HEADER_2: &[u8] = b"BWSG\0\0\0\0\0\0\0\0\0\0\0\x02";
+pub(crate) const HEADER_2: &[u8] = b"BWSG\0\0\0\0\0\0\0\0\0\0\0\x02";
 
-const FREE_2: &[u8] = b"\x05\0\0\0\x08\0\0\0\0\0\0\0\x02";
+pub(crate) const FREE_2: &[u8] = b"\x05\0\0\0\x08\0\0\0\0\0\0\0\x02";
 
 const A_PUT_9: &[u8] = b"\x02\0\0\0\x11\0\0\0\0\0\0\0\0\0\x01\0\x01a\x01\0\x019";
 
-const LEAF_ABC: &[u8] =
+pub(crate) const LEAF_ABC: &[u8] =
     b"\x01\0\0\0\x1e\0\0\0\0\0\0\0\0\0\0\0\x03\0\x01a\0\x011\0\x01b\0\x011\0\x01c\0\x011";
 
-const LEAF_DEF: &[u8] =
+pub(crate) const LEAF_DEF: &[u8] =
     b"\x01\0\0\0\x1f\0\0\0\0\0\0\0\x01\0\x01d\0\x03\0\x01d\0\x011\0\x01e\0\x011\0\x01f\0\x011";
 
-const LEAF_GHIJ: &[u8] =
+pub(crate) const LEAF_GHIJ: &[u8] =
     b"\x01\0\0\0\x25\0\0\0\0\0\0\0\x02\0\x01g\0\x04\0\x01g\0\x011\0\x01h\0\x011\0\x01i\0\x011\0\x01j\0\x011";
 
-const LEAF_KLM: &[u8] =
+pub(crate) const LEAF_KLM: &[u8] =
     b"\x01\0\0\0\x1f\0\0\0\0\0\0\0\x03\0\x01k\0\x03\0\x01k\0\x011\0\x01l\0\x011\0\x01m\0\x011";
 
-const LEAF_NOPQ: &[u8] =
+pub(crate) const LEAF_NOPQ: &[u8] =
     b"\x01\0\0\0\x25\0\0\0\0\0\0\0\x04\0\x01n\0\x04\0\x01n\0\x011\0\x01o\0\x011\0\x01p\0\x011\0\x01q\0\x011";
 
-const INDEX_5: &[u8] =
+pub(crate) const INDEX_5: &[u8] =
     b"\x03\0\0\0\x21\0\0\0\0\0\0\0\x05\0\0\0\x02\0\0\0\0\0\0\0\0\0\0\0\x01d\0\0\0\0\0\0\0\x01";
 
-const INDEX_6: &[u8] = b"\x03\0\0\0\x2e\0\0\0\0\0\0\0\x06\0\x01g\0\x03\
+pub(crate) const INDEX_6: &[u8] = b"\x03\0\0\0\x2e\0\0\0\0\0\0\0\x06\0\x01g\0\x03\
     \0\x01g\0\0\0\0\0\0\0\x02\0\x01k\0\0\0\0\0\0\0\x03\0\x01n\0\0\0\0\0\0\0\x04";
 
-const INDEX_7: &[u8] =
+pub(crate) const INDEX_7: &[u8] =
     b"\x03\0\0\0\x21\0\0\0\0\0\0\0\x07\0\0\0\x02\0\0\0\0\0\0\0\0\0\x05\0\x01g\0\0\0\0\0\0\0\x06";
 
 const D_ABSENT_IN_5: &[u8] = b"\x04\0\0\0\x0e\0\0\0\0\0\0\0\x05\0\x01\0\x01d\0";
 
-const NINE_BYTES_PUT: &[u8] = b"\x02\0\0\0\x37\0\0\0\0\0\0\0\0\0\x03\
+pub(crate) const NINE_BYTES_PUT: &[u8] = b"\x02\0\0\0\x37\0\0\0\0\0\0\0\0\0\x03\
     \0\x01a\x01\0\x09123456789\0\x01b\x01\0\x09123456789\0\x01c\x01\0\x09123456789";
 
 const TEN_BYTES_PUT: &[u8] = b"\x02\0\0\0\x38\0\0\0\0\0\0\0\0\0\x03\
     \0\x01a\x01\0\x09123456789\0\x01b\x01\0\x09123456789\0\x01c\x01\0\x0a1234567890";
 
-const SIXTEEN_BYTES_PUT: &[u8] = b"\x02\0\0\0\x9e\0\0\0\0\0\0\0\0\0\x04\
+pub(crate) const SIXTEEN_BYTES_PUT: &[u8] = b"\x02\0\0\0\x9e\0\0\0\0\0\0\0\0\0\x04\
     \0\x10sixteen_bytes_k1\x01\0\x10sixteen_bytes_v1\0\x10sixteen_bytes_k2\x01\0\x10sixteen_bytes_v2\
     \0\x10sixteen_bytes_k3\x01\0\x10sixteen_bytes_v3\0\x10sixteen_bytes_k4\x01\0\x10sixteen_bytes_v4";
 
-const SIXTEEN_BYTES_LEAF: &[u8] = b"\x01\0\0\0\x9c\0\0\0\0\0\0\0\0\0\0\0\x04\
+pub(crate) const SIXTEEN_BYTES_LEAF: &[u8] = b"\x01\0\0\0\x9c\0\0\0\0\0\0\0\0\0\0\0\x04\
     \0\x10sixteen_bytes_k1\0\x10sixteen_bytes_v1\0\x10sixteen_bytes_k2\0\x10sixteen_bytes_v2\
     \0\x10sixteen_bytes_k3\0\x10sixteen_bytes_v3\0\x10sixteen_bytes_k4\0\x10sixteen_bytes_v4";
 
@@ -134,11 +139,13 @@ pub(crate) const FOUR_LONG_PUTS: &str =
 
 pub(crate) const LONG_PUT: &str = "a=0123456789abcdef";
 
-const LONG_A_PUT: &[u8] = b"\x02\0\0\0\x20\0\0\0\0\0\0\0\0\0\x01\0\x01a\x01\0\x100123456789abcdef";
+pub(crate) const LONG_A_PUT: &[u8] =
+    b"\x02\0\0\0\x20\0\0\0\0\0\0\0\0\0\x01\0\x01a\x01\0\x100123456789abcdef";
 
-const LONG_A_LEAF: &[u8] = b"\x01\0\0\0\x21\0\0\0\0\0\0\0\0\0\0\0\x01\0\x01a\0\x100123456789abcdef";
+pub(crate) const LONG_A_LEAF: &[u8] =
+    b"\x01\0\0\0\x21\0\0\0\0\0\0\0\0\0\0\0\x01\0\x01a\0\x100123456789abcdef";
 
-const LONG_A_AND_B_LEAF: &[u8] =
+pub(crate) const LONG_A_AND_B_LEAF: &[u8] =
     b"\x01\0\0\0\x27\0\0\0\0\0\0\0\0\0\0\0\x02\0\x01a\0\x100123456789abcdef\0\x01b\0\x012";
 
 const ROWS: [Row; 17] = [
@@ -488,13 +495,14 @@ fn write_answers(text: &mut String, answers: &[Answer]) -> Result<(), AllocError
         match answer {
             Answer::Replies(replies) => write_replies(text, replies)?,
             Answer::Flushed(sequence) => write!(text, "flushed {sequence}")?,
+            Answer::Cleaned(head) => write!(text, "cleaned {head}")?,
         }
         text.push_str("; ")?;
     }
     Ok(())
 }
 
-// Plays a step, a flush where the word says so, and else the batch, and appends what it answers. Returns why it is refused.
+// Plays a step, a flush or a clean where the word says so, and else the batch, and appends what it answers. Returns why it is refused.
 fn write_step<D: Disk>(
     rt: &(impl Threads + Sync),
     store: &mut Store<D>,
@@ -502,10 +510,10 @@ fn write_step<D: Disk>(
     batch: &[Command<Global>],
     text: &mut String,
 ) -> Result<Option<Fault>, AllocError> {
-    let step = if word == "flush" {
-        Step::Flush
-    } else {
-        Step::Batch(batch)
+    let step = match word {
+        "flush" => Step::Flush,
+        "clean" => Step::Clean,
+        _ => Step::Batch(batch),
     };
     match store.play(rt, &[step]) {
         Ok(answers) => {
@@ -562,6 +570,7 @@ fn bytes_of_slot(slot: &SlotRow) -> [u8; 64] {
     let mut bytes = [0; 64];
     bytes[0] = u8::from(slot.sequence > 0);
     bytes[8..16].copy_from_slice(&slot.sequence.to_be_bytes());
+    bytes[16..24].copy_from_slice(&slot.head.to_be_bytes());
     bytes[24..32].copy_from_slice(&slot.tail.to_be_bytes());
     bytes[32..40].copy_from_slice(&slot.root.to_be_bytes());
     bytes[40..44].copy_from_slice(&slot.height.to_be_bytes());
@@ -582,7 +591,7 @@ fn is_old(bytes: &[u8]) -> bool {
 }
 
 // Whether the disk has these slots and this log, and else what it had before the store was made.
-fn is_disk(bytes: &[u8], slots: &[SlotRow; 2], log: &[&[u8]]) -> bool {
+pub(crate) fn is_disk(bytes: &[u8], slots: &[SlotRow; 2], log: &[&[u8]]) -> bool {
     let slot_0 = bytes_of_slot(&slots[0]);
     let slot_1 = bytes_of_slot(&slots[1]);
     let front: [&[u8]; 8] = [
@@ -603,7 +612,11 @@ fn is_disk(bytes: &[u8], slots: &[SlotRow; 2], log: &[&[u8]]) -> bool {
 
 // Whether the row's steps, on a new store, are answered as told and leave the disk that is told. A disk in memory fails only where
 // memory is refused, and then nothing can be told.
-fn comes_out(rt: &(impl Threads + Sync), alloc: Global, row: &Row) -> Result<bool, Fault> {
+pub(crate) fn comes_out(
+    rt: &(impl Threads + Sync),
+    alloc: Global,
+    row: &Row,
+) -> Result<bool, Fault> {
     let mut store = store_on_used_disk(alloc)?;
     let answers = play(rt, alloc, &mut store, row.steps)?;
     if store.disk().failures() > 0 {
@@ -708,7 +721,7 @@ const FULL_SLOTS: [SlotRow; 2] = [
     },
 ];
 
-const FULL_LOG: &[&[u8]] = &[
+pub(crate) const FULL_LOG: &[&[u8]] = &[
     LONG_A_PUT,
     LONG_A_PUT,
     LONG_A_LEAF,
@@ -733,7 +746,7 @@ const FULL_LOG: &[&[u8]] = &[
 ];
 
 // Puts the value and flushes, seventeen times.
-fn fill(
+pub(crate) fn fill(
     rt: &(impl Abort + Threads + Sync),
     alloc: Global,
     store: &mut Store<MemDisk<Global>>,

@@ -11,12 +11,12 @@ use std::alloc::Global;
 use std::test::Fail;
 use std::thread::Threads;
 
-// An example: its steps, of which the last is a flush, what an empty flush afterwards answers, and the store as it is told.
-struct Row {
-    name: &'static str,
-    steps: &'static [&'static str],
-    flushed: &'static str,
-    store: &'static str,
+// An example: its steps, of which the last is a flush or a clean, what an empty flush afterwards answers, and the store as it is told.
+pub(crate) struct Row {
+    pub(crate) name: &'static str,
+    pub(crate) steps: &'static [&'static str],
+    pub(crate) flushed: &'static str,
+    pub(crate) store: &'static str,
 }
 
 pub(crate) const FIRST_STORE: &str = "head 0, tail 33, number 1; root 0, height 1\n\
@@ -566,7 +566,7 @@ pub(crate) fn write_store<D: Disk>(
 }
 
 // Whether the store is told like this.
-fn is_told(
+pub(crate) fn is_told(
     rt: &(impl Threads + Sync),
     alloc: Global,
     store: &Store<MemDisk<Global>>,
@@ -578,7 +578,7 @@ fn is_told(
 }
 
 // The store that these steps leave, where the disk did not fail.
-fn store_after(
+pub(crate) fn store_after(
     rt: &(impl Threads + Sync),
     alloc: Global,
     steps: &[&str],
@@ -593,7 +593,11 @@ fn store_after(
 
 // Whether the row's store is told alike before it is closed, when it is recovered and when it is opened again. What is put and not
 // flushed is gone; nothing is left to flush then; and the bytes of the disk stay.
-fn comes_back(rt: &(impl Threads + Sync), alloc: Global, row: &Row) -> Result<bool, Fault> {
+pub(crate) fn comes_back(
+    rt: &(impl Threads + Sync),
+    alloc: Global,
+    row: &Row,
+) -> Result<bool, Fault> {
     let mut store = store_after(rt, alloc, row.steps)?;
     let mut is_right = is_told(rt, alloc, &store, row.store)?;
     let bytes = store.disk().bytes().to_vec(alloc)?;

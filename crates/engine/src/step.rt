@@ -9,6 +9,8 @@ pub enum Step<'a> {
     Batch(&'a [Command<Global>]),
     /// To write what the log lacks.
     Flush,
+    /// To make the first segment of the log free.
+    Clean,
 }
 
 /// What a step answers.
@@ -18,4 +20,6 @@ pub enum Answer {
     Replies(Vec<Reply<Global>>),
     /// The sequence number after a flush.
     Flushed(u64),
+    /// The number of the segment with which the log begins after a clean.
+    Cleaned(u64),
 }

@@ -18,6 +18,7 @@ ghost use Rattle.engine.specs.Steps.{HasWords, batching};
 ghost use Rattle.engine.specs.Steps.Step.{Batch};
 ghost use Rattle.verify.specs.Report.{report};
 
+mod clean;
 mod flush;
 mod play;
 mod reopen;
@@ -53,7 +54,7 @@ struct Log {
 /// A store of keys and values: a tree of pages under a mapping table, whose log is on a disk. Contracts see it as a `State`; what is
 /// true of every store is its invariant, whatever the disk does.
 ///
-/// Once a call of the disk has failed in a flush, every later batch and flush answers `Fault::Failed`.
+/// Once a call of the disk has failed in a flush or a clean, every later batch, flush and clean answers `Fault::Failed`.
 #[derive(Drop)]
 pub struct Store<D: Disk> {
     settings: Settings,

@@ -303,7 +303,7 @@ fn write_bytes(text: &mut String, bytes: &[u8]) -> Result<(), AllocError> {
     Ok(())
 }
 
-fn write_row(text: &mut String, key: &[u8], value: &[u8]) -> Result<(), AllocError> {
+pub(crate) fn write_row(text: &mut String, key: &[u8], value: &[u8]) -> Result<(), AllocError> {
     text.push(' ')?;
     write_bytes(text, key)?;
     text.push('=')?;
@@ -601,10 +601,10 @@ fn the_longest_batch_is_answered(rt: HostRuntime) {
 }
 
 // A command on a key of one byte: its kind, the key, and the value, a digit, which of a scan is the limit.
-type Draw = (u8, u8, u8);
+pub(crate) type Draw = (u8, u8, u8);
 
 // Numbers that look random: a linear congruence with the constants of Knuth's MMIX.
-fn next_number(state: &mut u64) -> u64 {
+pub(crate) fn next_number(state: &mut u64) -> u64 {
     *state = state
         .wrapping_mul(6_364_136_223_846_793_005)
         .wrapping_add(1_442_695_040_888_963_407);
@@ -613,7 +613,7 @@ fn next_number(state: &mut u64) -> u64 {
 
 // Draws a command. Of nine, one is a look-up, one a put of what isn't there, one a scan, those up to `puts` are puts, and the others
 // delete.
-fn draw(state: &mut u64, puts: u64) -> Draw {
+pub(crate) fn draw(state: &mut u64, puts: u64) -> Draw {
     let kind = match next_number(state) % 9 {
         0 => b'?',
         1 => b'+',
@@ -625,7 +625,7 @@ fn draw(state: &mut u64, puts: u64) -> Draw {
     (kind, key, b'0' + (next_number(state) % 10) as u8)
 }
 
-fn drawn_command(alloc: Global, draw: Draw) -> Result<Command<Global>, AllocError> {
+pub(crate) fn drawn_command(alloc: Global, draw: Draw) -> Result<Command<Global>, AllocError> {
     let (kind, key, digit) = draw;
     let key = Key::from_bytes(alloc, &[key])?;
     let value = Value::from_bytes(alloc, &[digit])?;
@@ -664,7 +664,7 @@ fn letter_of_map(map: &mut BTreeMap<u8, u8, Global>, draw: Draw) -> Result<char,
 }
 
 // What the map replies to the command, as `write_reply` has it.
-fn write_reply_of_map(
+pub(crate) fn write_reply_of_map(
     text: &mut String,
     map: &mut BTreeMap<u8, u8, Global>,
     draw: Draw,
@@ -715,7 +715,7 @@ fn is_answered_alike(
 }
 
 // Whether these are the letters of the replies.
-fn are_letters(
+pub(crate) fn are_letters(
     alloc: Global,
     letters: &str,
     answer: Result<Vec<Reply<Global>>, Fault>,

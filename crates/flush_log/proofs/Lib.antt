@@ -7,6 +7,7 @@ pub mod CallLaws
 pub mod CalledLaws
 pub mod CommitLaws
 pub mod CommitRuns
+pub mod CrashLaws
 pub mod FitLaws
 pub mod GatherLaws
 pub mod GatherRuns

@@ -6,7 +6,7 @@ use Rattle.flush_log.specs.Disk.{IsSettled, Torn, Leaves}
 use Rattle.flush_log.specs.Commit.{Call, seen_after}
 use Rattle.flush_log.specs.Commit.Call.{Write, Sync}
 use Rattle.flush_log.specs.Record.{view_of, AreCalls}
-use Rattle.flush_log.proofs.OverlayLaws.{length-overlay}
+use Rattle.flush_log.proofs.OverlayLaws.{length-overlay, overlay-beside}
 use Rattle.flush_log.proofs.CallLaws.{seen_after-append}
 use Rattle.flush_log.proofs.CalledLaws.{one_in_range, view-write, view-sync, view-settled}
 
@@ -40,6 +40,19 @@ module _ (n m : ℕ) (calls more : List Call) (same : m ≡ n) where
         ∙ sym (seen_after-append calls (Write at bytes ∷ []) (replicate n 0))
         ∙ ap (λ (xs : List Call). seen_after xs (replicate n 0)) (sym is)
         ∙ ap (λ (k : ℕ). seen_after more (replicate k 0)) (sym same)
+
+    -- what a read gives after it
+    pub write_seen : seen_after more (replicate m 0) ≡ overlay (seen_after calls (replicate n 0)) at bytes
+    write_seen =
+        ap (λ (k : ℕ). seen_after more (replicate k 0)) same
+        ∙ ap (λ (xs : List Call). seen_after xs (replicate n 0)) is
+        ∙ seen_after-append calls (Write at bytes ∷ []) (replicate n 0)
+
+    pub write_torn : (file : List ℕ) → length file ≡ n → file ≡ seen_after calls (replicate n 0) → Torn at (length bytes) (seen_after calls (replicate n 0)) (seen_after more (replicate m 0))
+    write_torn file long was =
+        let seen = ap (λ (f : List ℕ). length f) was in
+        subst (λ (f : List ℕ). Torn at (length bytes) (seen_after calls (replicate n 0)) f) (sym write_seen)
+        (overlay-beside (seen_after calls (replicate n 0)) at bytes (omega (arith, here, long, seen)))
 
     pub write_leaves : AreCalls n calls → Leaves (view_of (replicate n 0) calls) (view_of (replicate m 0) more) (Torn at (length bytes))
     write_leaves fit =

@@ -1,11 +1,13 @@
 -- What a crash leaves of runs of calls, on any disk: for the proofs of what writes to a disk. A view is no value that a contract
 -- can name for all, so these laws stand on no function.
-use Rattle.std.proofs.Common.{◌≡◌, inl, inr, ⊎_elim, ℕ, zero, suc, ◌+◌, ◌-◌, ◌^◌, min, List, [], ◌∷◌, ◌++◌, length, refl, sym, ap, subst, ◌∙◌, arith}
+use Rattle.std.proofs.Common.{◌≡◌, inl, inr, ⊎_elim, ℕ, zero, suc, ◌+◌, ◌-◌, ◌^◌, ◌≤◌, min, List, [], ◌∷◌, ◌++◌, length, take, refl, sym, ap, subst, ◌∙◌, arith}
 use Rattle.std.proofs.lemmas.Bool.{cases_lt}
-use Rattle.flush_log.specs.Overlay.{overlay}
+use Rattle.std.proofs.lemmas.List.{length-take}
+use Rattle.flush_log.specs.Overlay.{overlay, IsBeside}
 use Rattle.flush_log.specs.Disk.{HasFailed, View, Lawful, Only, IsSettled, Torn, Elapses, Leaves, LeavesOnly}
 use Rattle.flush_log.specs.Commit.{Call, seen_after, MayLeave, LeftDuring}
 use Rattle.flush_log.specs.Commit.Call.{Write, Sync}
+use Rattle.flush_log.proofs.OverlayLaws.{agree_less}
 use Rattle.flush_log.proofs.CallLaws.{During, TornFrom, seen_after-append, after_all}
 
 -- ---- failures
@@ -47,6 +49,32 @@ then a b c r s q law both one first second = record {
       (from.0, from.1, both from.0 mid.0 x from.2 mid.2))
       (second.time.splits a.moment x first.time.later left);
 }
+
+-- no call leaves what was there
+pub nothing_leaves : (v : View) (step : List ℕ → List ℕ → Type 0) → Lawful v → ((c : List ℕ) → step c c) → Leaves v v step
+nothing_leaves v step law stays = record {
+  time = record {
+    later = omega arith;
+    splits = λ t c le left. inl left;
+    keeps = λ t c le left. ⊎_elim (λ was. was) (λ now. law.counts_now t c le (law.only_now c now)) left;
+  };
+  crash = λ c left. (c, law.only_now c left, stays c);
+}
+
+-- what was torn in fewer bytes was torn in more
+pub torn_more : (at few many : ℕ) (file c : List ℕ) → few ≤ many → Torn at few file c → Torn at many file c
+torn_more at few many file c more torn =
+    agree_less (IsBeside at few) (IsBeside at many) file c (λ i out. ⊎_elim (λ low. inl low) (λ high. inr (omega (arith, more, high))) out) torn
+
+pub leaves_more : (old new : View) (at few many : ℕ) → few ≤ many → Leaves old new (Torn at few) → Leaves old new (Torn at many)
+leaves_more old new at few many more run = record {
+  time = run.time;
+  crash = λ c left. let from = run.crash c left in (from.0, from.1, torn_more at few many from.0 c more from.2);
+}
+
+-- of the first bytes of a range
+pub leaves_part : (old new : View) (at k : ℕ) (bytes : List ℕ) → Leaves old new (Torn at (length (take k bytes))) → Leaves old new (Torn at (length bytes))
+leaves_part old new at k bytes run = leaves_more old new at (length (take k bytes)) (length bytes) (let long = length-take k bytes in omega (arith, long)) run
 
 -- ---- runs by what they leave
 

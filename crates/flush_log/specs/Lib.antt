@@ -1,5 +1,6 @@
 pub mod AfterFlush
 pub mod Commit
+pub mod Crash
 pub mod Disk
 pub mod FlushText
 pub mod Gathering

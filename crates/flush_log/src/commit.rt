@@ -1,15 +1,15 @@
 //! The commit: the calls that make a text and a slot the store's, in an order in which a crash leaves all that was before, or all
 //! that is committed.
-ghost use Rattle.std.specs.Prelude.{◌≡◌, ◌⊎◌, ◌+◌, ◌≤◌, List, false, IsTrue, length, None, IfOk, OnOk};
+ghost use Rattle.std.specs.Prelude.{◌≡◌, ◌⊎◌, ◌+◌, ◌≤◌, List, [], false, IsTrue, length, None, IfOk, OnOk};
 ghost use Rattle.keys.specs.Limits.{first_bad_field};
 ghost use Rattle.frame_codec.specs.Frame.{Frame};
-ghost use Rattle.flush_log.specs.Overlay.{overlay};
+ghost use Rattle.flush_log.specs.Overlay.{overlay, AgreeAt};
 ghost use Rattle.flush_log.specs.Disk.{IsSettled, Torn, Kept, Same, Leaves, LeavesOnly, CountsFailure};
 ghost use Rattle.flush_log.specs.Images.{frames_in, AreOfText, FitSegments};
 ghost use Rattle.flush_log.specs.Segments.{segments_begin, disk_size};
 ghost use Rattle.flush_log.specs.Layout.{spans, tail_after, with_spans};
 ghost use Rattle.flush_log.specs.Slot.{greatest, slot_place, slot_bytes, is_open as is_open_on};
-ghost use Rattle.flush_log.specs.Commit.{seen_after, AreWithin, close_gate, IsClosing, committed, IsBehindGate, IsUncommitted};
+ghost use Rattle.flush_log.specs.Commit.{seen_after, AreWithin, close_gate, IsClosing, committed, IsBehindGate, IsBesideSpans, IsUncommitted};
 
 use crate::disk::{Disk, DiskFault};
 use crate::image::Image;
@@ -20,8 +20,8 @@ use keys::Settings;
 // Where the slots begin on a disk.
 const SLOTS_BEGIN: u64 = 128;
 
-// Where the slot for a sequence number stands on a disk.
-fn slot_place(sequence: u64) -> u64
+/// Where the slot for a sequence number stands on a disk.
+pub fn slot_place(sequence: u64) -> u64
     ensures { result ≡ slot_place sequence }
 {
     SLOTS_BEGIN + SLOT_SIZE as u64 * (sequence % 2)
@@ -90,7 +90,35 @@ pub fn write_slot<D: Disk>(disk: &mut D, slot: &Slot) -> Result<(), DiskFault>
     write_through(disk, gate, &bytes[..1])
 }
 
-// The first half of a flush: the gate is closed, and the text is written and made to last.
+// Writes the frames of a text behind the tail of a log, as `write_text` does, and nothing where there are none.
+fn write_images<D: Disk>(
+    disk: &mut D,
+    settings: &Settings,
+    tail: u64,
+    images: &[Image],
+    buffer: &mut [u8],
+) -> Result<(), DiskFault>
+    requires checked { first_bad_field settings.now ≡ None }
+    requires within { disk_size settings.now ≤ (D.view disk.old).size }
+    requires buffer { settings.now.seg_size ≤ length buffer.old }
+    requires fits { FitSegments settings.now (frames_in images.now) }
+    requires room { (text : List Frame) × AreOfText images.now text × (tail_after settings.now tail text ≤ greatest) }
+    ensures kept { Kept (D.view disk.old) (D.view disk.new) }
+    ensures failed { CountsFailure result (D.failed disk.old) (D.failed disk.new) }
+    ensures written { (text : List Frame) → AreOfText images.now text → (images.now ≡ []) ⊎ (1 ≤ length text) →
+        IsTrue (D.view disk.old).is_honest → OnOk result ((D.view disk.new).seen
+        ≡ with_spans settings.now (D.view disk.old).seen (spans settings.now tail text)) }
+    ensures crash { (text : List Frame) → AreOfText images.now text → (images.now ≡ []) ⊎ (1 ≤ length text) →
+        IsTrue (D.view disk.old).is_honest → Leaves (D.view disk.old) (D.view disk.new)
+        (AgreeAt (IsBesideSpans settings.now (spans settings.now tail text))) }
+{
+    if images.is_empty() {
+        return Ok(());
+    }
+    write_text(disk, settings, tail, images, buffer)
+}
+
+// The first half of a commit: the gate is closed, and the text is written and made to last.
 fn write_hidden<D: Disk>(
     disk: &mut D,
     settings: &Settings,
@@ -107,24 +135,26 @@ fn write_hidden<D: Disk>(
     requires room { (text : List Frame) × AreOfText images.now text × (tail_after settings.now tail text ≤ greatest) }
     ensures kept { Kept (D.view disk.old) (D.view disk.new) }
     ensures failed { CountsFailure result (D.failed disk.old) (D.failed disk.new) }
-    ensures written { (text : List Frame) → AreOfText images.now text → 1 ≤ length text → IsTrue (D.view disk.old).is_honest →
-        OnOk result ((D.view disk.new).seen ≡ with_spans settings.now
+    ensures written { (text : List Frame) → AreOfText images.now text → (images.now ≡ []) ⊎ (1 ≤ length text) →
+        IsTrue (D.view disk.old).is_honest → OnOk result ((D.view disk.new).seen ≡ with_spans settings.now
         (seen_after (close_gate is_open (slot_place sequence)) (D.view disk.old).seen) (spans settings.now tail text)) }
     ensures settled { IsTrue (D.view disk.old).is_honest → OnOk result (IsSettled (D.view disk.new)) }
-    ensures crash { (text : List Frame) → AreOfText images.now text → 1 ≤ length text →
+    ensures crash { (text : List Frame) → AreOfText images.now text → (images.now ≡ []) ⊎ (1 ≤ length text) →
         AreWithin settings.now (disk_size settings.now) (spans settings.now tail text) →
         IsSettled (D.view disk.old) → is_open ≡ is_open_on sequence (D.view disk.old).seen →
         LeavesOnly (D.view disk.old) (D.view disk.new)
         (IsUncommitted settings.now sequence (spans settings.now tail text) (D.view disk.old).seen) }
 {
     close_gate(disk, sequence, is_open)?;
-    write_text(disk, settings, tail, images, buffer)?;
+    write_images(disk, settings, tail, images, buffer)?;
     disk.sync()
 }
 
 /// Writes the frames of a text behind the tail of a log, and then makes a slot the store's: the slot's gate is closed where it
 /// stands open, the frames are written and made to last, then the slot's other bytes, and then its gate is opened. `is_open` says
 /// whether the gate stands open; `buffer` is where a segment's bytes are gathered. Where a call fails the rest is not made.
+///
+/// It serves a flush and a clean. The text of a clean may be empty: then nothing is written but the slot.
 ///
 /// On a settled disk a crash at any moment since the call began leaves what was before, or all that is committed. A text that
 /// finds room lies within the disk.
@@ -144,11 +174,11 @@ pub fn write_flush<D: Disk>(
     requires room { (text : List Frame) × AreOfText images.now text × (tail_after settings.now tail text ≤ greatest) }
     ensures kept { Kept (D.view disk.old) (D.view disk.new) }
     ensures failed { CountsFailure result (D.failed disk.old) (D.failed disk.new) }
-    ensures written { (text : List Frame) → AreOfText images.now text → 1 ≤ length text →
+    ensures written { (text : List Frame) → AreOfText images.now text → (images.now ≡ []) ⊎ (1 ≤ length text) →
         AreWithin settings.now (disk_size settings.now) (spans settings.now tail text) → IsTrue (D.view disk.old).is_honest →
         OnOk result ((D.view disk.new).seen ≡ committed settings.now (D.view disk.old).seen (spans settings.now tail text) slot.now) }
     ensures settled { IsTrue (D.view disk.old).is_honest → OnOk result (IsSettled (D.view disk.new)) }
-    ensures crash { (text : List Frame) → AreOfText images.now text → 1 ≤ length text →
+    ensures crash { (text : List Frame) → AreOfText images.now text → (images.now ≡ []) ⊎ (1 ≤ length text) →
         AreWithin settings.now (disk_size settings.now) (spans settings.now tail text) →
         IsSettled (D.view disk.old) → is_open ≡ is_open_on slot.now.sequence (D.view disk.old).seen →
         LeavesOnly (D.view disk.old) (D.view disk.new)

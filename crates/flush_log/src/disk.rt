@@ -1,5 +1,5 @@
 //! What the log asks of a disk. `specs/Disk.antt` has what a disk is at one moment, and what a crash leaves of it.
-ghost use Rattle.std.specs.Prelude.{◌≡◌, ℕ, ◌+◌, ◌≤◌, IsTrue, length, take, drop, OnOk};
+ghost use Rattle.std.specs.Prelude.{◌≡◌, ℕ, ◌+◌, ◌-◌, ◌^◌, ◌≤◌, min, IsTrue, length, take, drop, OnOk};
 ghost use Rattle.keys.specs.declared.fault.Fault.TheVariants.{Device};
 ghost use Rattle.flush_log.specs.Overlay.{overlay};
 ghost use Rattle.flush_log.specs.Disk.{View, Lawful, IsSettled, Torn, Kept, Same, Leaves, CountsFailure};
@@ -16,6 +16,14 @@ impl From<DiskFault> for Fault {
     fn from(_failed: DiskFault) -> Fault {
         Fault::Device
     }
+}
+
+// A call failed, and is counted. The count stops at its greatest.
+pub(crate) fn count_failure(failures: &mut u64) -> DiskFault
+    ensures { failures.new ≡ min (failures.old + 1) (2 ^ 64 - 1) }
+{
+    *failures = failures.saturating_add(1);
+    DiskFault
 }
 
 /// A disk of a fixed length. Its calls want memory, time and luck, so each may fail.

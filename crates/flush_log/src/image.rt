@@ -1,4 +1,4 @@
-//! The frames of one page as they are written, back to back.
+//! Frames as they are written, back to back.
 ghost use Rattle.std.specs.Prelude.{◌≡◌, ◌<◌, ◌++◌, ◌∷◌, [], length, slice_get, IfOk, OnOk};
 ghost use Rattle.frame_codec.specs.Frame.{bytes_of};
 ghost use Rattle.frame_codec.specs.Frame.Content.{Free};
@@ -11,7 +11,8 @@ use keys::Pid;
 use std::alloc::{AllocError, Allocator, Global};
 use std::marker::Model;
 
-/// What is written of one page: its frames, back to back. Contracts see it as the list of each frame's bytes.
+/// Frames that are written, back to back: those of one page in a flush, those that stay in a clean. Contracts see it as the list of
+/// each frame's bytes.
 #[derive(Drop)]
 pub struct Image {
     bytes: Vec<u8>,
@@ -42,6 +43,26 @@ impl Image {
             bytes: Vec::new(alloc),
             ends,
         })
+    }
+
+    /// An image without frames. No memory is taken for it yet.
+    pub fn new(alloc: Global) -> Self
+        ensures { result ≡ [] }
+    {
+        Image {
+            bytes: Vec::new(alloc),
+            ends: Vec::new(alloc),
+        }
+    }
+
+    /// Appends a frame that is spelled already, as where a clean carries one on. `Err` where memory was refused.
+    pub fn push(&mut self, frame: &[u8]) -> Result<(), AllocError>
+        ensures ok { OnOk result (self.new ≡ self.old ++ frame.now ∷ []) }
+    {
+        self.ends.reserve(1)?;
+        self.bytes.extend_from_slice(frame)?;
+        self.ends.push_reserved(self.bytes.len());
+        Ok(())
     }
 
     // Appends the frame of a base under its low key. Each page id in it is known to be of 64 bits then, as with the other frames.

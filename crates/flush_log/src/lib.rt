@@ -7,7 +7,9 @@
 
 pub mod commit;
 pub mod commit_laws;
+pub mod crash_disk;
 pub mod disk;
+pub mod fault_disk;
 pub mod image;
 pub mod image_work;
 mod kind;
@@ -24,5 +26,7 @@ pub mod text;
 pub mod write;
 
 pub use crate::commit::{is_gate_open, write_flush};
+pub use crate::crash_disk::{CrashDisk, Fill};
 pub use crate::disk::{Disk, DiskFault};
+pub use crate::fault_disk::{Failing, FaultDisk};
 pub use crate::mem_disk::MemDisk;

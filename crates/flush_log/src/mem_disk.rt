@@ -1,20 +1,20 @@
 //! A disk in memory: for tests, and for stores that need not last.
-ghost use Rattle.std.specs.Prelude.{◌≡◌, ℕ, ◌+◌, ◌-◌, ◌≤◌, ◌^◌, ◌∷◌, ◌++◌, [], min, length, replicate, refl, IfOk, OnOk, OnErr};
+ghost use Rattle.std.specs.Prelude.{◌≡◌, ℕ, ◌+◌, ◌≤◌, ◌∷◌, ◌++◌, [], length, replicate, refl, IfOk, OnOk, OnErr};
 ghost use Rattle.std.proofs.Common.{inl, ⊎_elim, sym, ap, ◌∙◌, arith};
 ghost use Rattle.std.proofs.Props.{props};
 ghost use Rattle.std.proofs.lemmas.List.{length-replicate};
 ghost use Rattle.flush_log.specs.Overlay.{overlay};
-ghost use Rattle.flush_log.specs.Disk.{IsSettled};
+ghost use Rattle.flush_log.specs.Disk.{IsSettled, Torn, Kept, Leaves, CountsFailure};
 ghost use Rattle.flush_log.specs.Commit.{seen_after};
 ghost use Rattle.flush_log.specs.Commit.Call.{Write, Sync};
 ghost use Rattle.flush_log.specs.Record.{view_of, AreCalls, call_of, calls_of};
 
-use crate::disk::{Disk, DiskFault};
+use crate::disk::{Disk, DiskFault, count_failure};
 use std::alloc::{AllocError, Allocator};
 
 // A call that changed the disk.
 #[derive(Drop)]
-enum RecordedCall<A: Allocator> {
+pub(crate) enum RecordedCall<A: Allocator> {
     Write { at: u64, bytes: Vec<u8, A> },
     Sync,
 }
@@ -52,6 +52,22 @@ impl<A: Allocator + Copy> MemDisk<A> {
         })
     }
 
+    // A disk that these bytes were written to, and made to last.
+    pub(crate) fn holding(alloc: A, bytes: Vec<u8, A>) -> Result<Self, AllocError>
+        ensures bytes { IfOk result (λ disk. disk.bytes.items ≡ bytes.items) }
+        ensures calls { IfOk result (λ disk. calls_of disk.calls.items ≡ Write 0 bytes.items ∷ Sync ∷ []) }
+    {
+        let mut calls = Vec::new(alloc);
+        note_write(alloc, &mut calls, 0, &bytes)?;
+        note(&mut calls, RecordedCall::Sync)?;
+        Ok(MemDisk {
+            alloc,
+            bytes,
+            calls,
+            failures: 0,
+        })
+    }
+
     /// What a read gives, of the whole disk.
     pub fn bytes(&self) -> &[u8]
         ensures { result.now ≡ (⟦<MemDisk<A> as Disk>⟧.view self.now).seen }
@@ -59,18 +75,54 @@ impl<A: Allocator + Copy> MemDisk<A> {
         &self.bytes
     }
 
-    // Memory was refused for a call, which so didn't happen.
-    fn refuse(&mut self) -> DiskFault
-        ensures calls { self.new.calls.items ≡ self.old.calls.items }
-        ensures bytes { self.new.bytes.items ≡ self.old.bytes.items }
-        ensures failures { self.new.failures ≡ min (self.old.failures + 1) (2 ^ 64 - 1) }
+    // The record.
+    pub(crate) fn calls(&self) -> &[RecordedCall<A>]
+        ensures { result.now ≡ self.now.calls.items }
     {
-        self.failures = self.failures.saturating_add(1);
-        DiskFault
+        &self.calls
+    }
+
+    // As `write_at`, with what it puts into the record.
+    pub(crate) fn write_recorded(&mut self, at: u64, bytes: &[u8]) -> Result<(), DiskFault>
+        requires { at + length bytes.now ≤ (⟦<MemDisk<A> as Disk>⟧.view self.old).size }
+        ensures done { OnOk result (calls_of self.new.calls.items ≡ calls_of self.old.calls.items ++ Write at bytes.now ∷ []) }
+        ensures refused { OnErr result (calls_of self.new.calls.items ≡ calls_of self.old.calls.items) }
+        ensures kept { Kept (⟦<MemDisk<A> as Disk>⟧.view self.old) (⟦<MemDisk<A> as Disk>⟧.view self.new) }
+        ensures long { length self.new.bytes.items ≡ length self.old.bytes.items }
+        ensures failed { CountsFailure result (⟦<MemDisk<A> as Disk>⟧.failed self.old) (⟦<MemDisk<A> as Disk>⟧.failed self.new) }
+        ensures written { OnOk result ((⟦<MemDisk<A> as Disk>⟧.view self.new).seen
+            ≡ overlay (⟦<MemDisk<A> as Disk>⟧.view self.old).seen at bytes.now) }
+        ensures torn { Torn at (length bytes.now) (⟦<MemDisk<A> as Disk>⟧.view self.old).seen (⟦<MemDisk<A> as Disk>⟧.view self.new).seen }
+        ensures crash { Leaves (⟦<MemDisk<A> as Disk>⟧.view self.old) (⟦<MemDisk<A> as Disk>⟧.view self.new) (Torn at (length bytes.now)) }
+    {
+        match note_write(self.alloc, &mut self.calls, at, bytes) {
+            Ok(()) => {
+                overwrite(&mut self.bytes, at as usize, bytes);
+                Ok(())
+            }
+            Err(_) => Err(count_failure(&mut self.failures)),
+        }
+    }
+
+    // As `sync`, with what it puts into the record.
+    pub(crate) fn sync_recorded(&mut self) -> Result<(), DiskFault>
+        ensures done { OnOk result (calls_of self.new.calls.items ≡ calls_of self.old.calls.items ++ Sync ∷ []) }
+        ensures refused { OnErr result (calls_of self.new.calls.items ≡ calls_of self.old.calls.items) }
+        ensures bytes { self.new.bytes.items ≡ self.old.bytes.items }
+        ensures failed { CountsFailure result (⟦<MemDisk<A> as Disk>⟧.failed self.old) (⟦<MemDisk<A> as Disk>⟧.failed self.new) }
+        ensures settled { OnOk result (IsSettled (⟦<MemDisk<A> as Disk>⟧.view self.new)) }
+        ensures seen { (⟦<MemDisk<A> as Disk>⟧.view self.new).seen ≡ (⟦<MemDisk<A> as Disk>⟧.view self.old).seen }
+        ensures crash { Leaves (⟦<MemDisk<A> as Disk>⟧.view self.old) (⟦<MemDisk<A> as Disk>⟧.view self.new) (λ before c. c ≡ before) }
+    {
+        match note(&mut self.calls, RecordedCall::Sync) {
+            Ok(()) => Ok(()),
+            Err(_) => Err(count_failure(&mut self.failures)),
+        }
     }
 }
 
-fn overwrite<A: Allocator>(file: &mut Vec<u8, A>, at: usize, bytes: &[u8])
+// Puts these bytes into a file from a place on.
+pub(crate) fn overwrite<A: Allocator>(file: &mut Vec<u8, A>, at: usize, bytes: &[u8])
     requires { at + length bytes.now ≤ length file.old.items }
     ensures { file.new.items ≡ overlay file.old.items at bytes.now }
 {
@@ -130,19 +182,10 @@ impl<A: Allocator + Copy> Disk for MemDisk<A> {
     }
 
     fn write_at(&mut self, at: u64, bytes: &[u8]) -> Result<(), DiskFault> {
-        match note_write(self.alloc, &mut self.calls, at, bytes) {
-            Ok(()) => {
-                overwrite(&mut self.bytes, at as usize, bytes);
-                Ok(())
-            }
-            Err(_) => Err(self.refuse()),
-        }
+        self.write_recorded(at, bytes)
     }
 
     fn sync(&mut self) -> Result<(), DiskFault> {
-        match note(&mut self.calls, RecordedCall::Sync) {
-            Ok(()) => Ok(()),
-            Err(_) => Err(self.refuse()),
-        }
+        self.sync_recorded()
     }
 }

@@ -57,8 +57,9 @@ pub fn slot_bytes(slot: &Slot) -> [u8; SLOT_SIZE]
     bytes
 }
 
-// The slot whose numbers stand at their places in these bytes.
-fn slot_in(bytes: &[u8]) -> Slot
+/// The slot whose numbers stand at their places in these bytes, of which nothing is asked: `read_slot` tells whether they are
+/// those of a slot that a store may have.
+pub fn slot_in(bytes: &[u8]) -> Slot
     requires { length bytes.now ≡ slot_size }
     ensures said { result ≡ slot_in bytes.now }
     ensures root { result.root < 2 ^ 64 }

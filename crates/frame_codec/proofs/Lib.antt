@@ -16,5 +16,6 @@ mod RefusedRows
 pub mod RowForms
 pub mod SizeLaws
 pub mod SizedLaws
+pub mod SkimLaws
 pub mod WithinLaws
 pub mod WriteLaws

@@ -5,3 +5,4 @@ pub mod Reading
 pub mod Shown
 pub mod Sized
 pub mod Sizes
+pub mod Skimmed

@@ -11,18 +11,29 @@ use crate::parts::{append_byte, append_counted, append_pid, read_counted, read_p
 use keys::{Pid, Settings, Value};
 use std::alloc::{AllocError, Global};
 
-/// A kind of cell: the values of leaves, or the page ids of index pages.
-pub(crate) trait FrameCell: Drop {
-    ghost use Rattle.std.specs.Prelude.{Bool, true};
+/// What frames have behind a key: a cell, or a change, which is a cell or its absence.
+pub(crate) trait Spelled {
+    ghost use Rattle.std.specs.Prelude.{Bool};
     ghost use Rattle.keys.specs.Cells.{Codec};
     ghost use Rattle.keys.specs.declared.settings.Settings as limits;
 
-    // How a cell is spelled, and which cells a frame may have under settings.
+    // How it is spelled, and which a frame may have under settings.
     ghost codec: { Codec Self };
 
     ghost is_short: { limits.Settings → Self → Bool };
 
-    // What of that can be known of a cell that nobody looked at, and what a look at it tells.
+    /// The bytes behind what is at the front, if a frame may have that.
+    fn skip<'a>(bytes: &'a [u8], settings: &Settings) -> Option<&'a [u8]>
+        ensures { let read = read_where (is_short settings.now) (codec.read bytes.now) in
+            MatchOption result (read ≡ None) (λ rest. (cell : Self) × (read ≡ Some (cell, rest.now))) };
+}
+
+/// A kind of cell: the values of leaves, or the page ids of index pages.
+pub(crate) trait FrameCell: Spelled + Drop {
+    ghost use Rattle.std.specs.Prelude.{Bool, true};
+    ghost use Rattle.keys.specs.declared.settings.Settings as limits;
+
+    // What of `is_short` can be known of a cell that nobody looked at, and what a look at it tells.
     ghost has_size: { limits.Settings → Self → Bool };
 
     ghost is_word: { Self → Bool };
@@ -34,38 +45,49 @@ pub(crate) trait FrameCell: Drop {
         settings: &Settings,
     ) -> Result<Option<(Self, &'a [u8])>, AllocError>
         ensures { IfOk result (λ found. MatchOption found
-            (read_where (is_short settings.now) (codec.read bytes.now) ≡ None)
-            (λ p. read_where (is_short settings.now) (codec.read bytes.now) ≡ Some (p.0, p.1.now))) };
-
-    /// The bytes behind the cell at the front, if a frame may have it.
-    fn skip<'a>(bytes: &'a [u8], settings: &Settings) -> Option<&'a [u8]>
-        ensures { let read = read_where (is_short settings.now) (codec.read bytes.now) in
-            MatchOption result (read ≡ None) (λ rest. (cell : Self) × (read ≡ Some (cell, rest.now))) };
+            (read_where (Self.is_short settings.now) (Self.codec.read bytes.now) ≡ None)
+            (λ p. read_where (Self.is_short settings.now) (Self.codec.read bytes.now) ≡ Some (p.0, p.1.now))) };
 
     /// How many bytes the cell takes.
     fn spelled_len(&self) -> usize
-        requires { IsCount (length (codec.spell self.now)) }
-        ensures { result ≡ length (codec.spell self.now) };
+        requires { IsCount (length (Self.codec.spell self.now)) }
+        ensures { result ≡ length (Self.codec.spell self.now) };
 
     /// Appends the cell. There is room for it.
     fn append(&self, out: &mut Vec<u8>)
-        requires small { IsCount (length (codec.spell self.now)) }
-        requires room { HasRoomFor out.old (length (codec.spell self.now)) }
-        ensures bytes { IsAppended out.old out.new (codec.spell self.now) }
+        requires small { IsCount (length (Self.codec.spell self.now)) }
+        requires room { HasRoomFor out.old (length (Self.codec.spell self.now)) }
+        ensures bytes { IsAppended out.old out.new (Self.codec.spell self.now) }
         ensures word { is_word self.now ≡ true };
 
     // The two together are what is asked of a frame.
-    ghost is_short_by_both: { (s : limits.Settings) (cell : Self) → has_size s cell ≡ true → is_word cell ≡ true → is_short s cell ≡ true };
+    ghost is_short_by_both: { (s : limits.Settings) (cell : Self) → has_size s cell ≡ true → is_word cell ≡ true → Self.is_short s cell ≡ true };
 }
 
-impl FrameCell for Value<Global> {
-    ghost use Rattle.std.specs.Prelude.{true};
+impl Spelled for Value<Global> {
     ghost use Rattle.keys.specs.Cells.{value_cell};
     ghost use Rattle.index_page.specs.Rules.{is_short_value};
 
     ghost codec = { value_cell };
 
     ghost is_short = { is_short_value };
+
+    fn skip<'a>(bytes: &'a [u8], settings: &Settings) -> Option<&'a [u8]>
+        ensures { let read = read_where (is_short_value settings.now) (value_cell.read bytes.now) in
+            MatchOption result (read ≡ None) (λ rest. (cell : Bytes) × (read ≡ Some (cell, rest.now))) }
+    {
+        let (value, rest) = read_counted(bytes)?;
+        if value.len() > settings.max_value as usize {
+            return None;
+        }
+        Some(rest)
+    }
+}
+
+impl FrameCell for Value<Global> {
+    ghost use Rattle.std.specs.Prelude.{true};
+    ghost use Rattle.keys.specs.Cells.{value_cell};
+    ghost use Rattle.index_page.specs.Rules.{is_short_value};
 
     ghost has_size = { is_short_value };
 
@@ -91,17 +113,6 @@ impl FrameCell for Value<Global> {
         Ok(Some((Value::from_bytes(alloc, value)?, rest)))
     }
 
-    fn skip<'a>(bytes: &'a [u8], settings: &Settings) -> Option<&'a [u8]>
-        ensures { let read = read_where (is_short_value settings.now) (value_cell.read bytes.now) in
-            MatchOption result (read ≡ None) (λ rest. (cell : Bytes) × (read ≡ Some (cell, rest.now))) }
-    {
-        let (value, rest) = read_counted(bytes)?;
-        if value.len() > settings.max_value as usize {
-            return None;
-        }
-        Some(rest)
-    }
-
     fn spelled_len(&self) -> usize {
         2 + self.len()
     }
@@ -111,15 +122,30 @@ impl FrameCell for Value<Global> {
     }
 }
 
-impl FrameCell for Pid {
-    ghost use Rattle.std.specs.Prelude.{true};
+impl Spelled for Pid {
     ghost use Rattle.keys.specs.Cells.{pid_cell};
-    ghost use Rattle.index_page.specs.Rules.{is_any_pid};
     ghost use Rattle.frame_codec.specs.Frame.{is_pid};
 
     ghost codec = { pid_cell };
 
     ghost is_short = { λ _. is_pid };
+
+    fn skip<'a>(bytes: &'a [u8], _settings: &Settings) -> Option<&'a [u8]>
+        ensures { let read = read_where is_pid (pid_cell.read bytes.now) in
+            MatchOption result (read ≡ None) (λ rest. (cell : ℕ) × (read ≡ Some (cell, rest.now))) }
+    {
+        match read_pid(bytes) {
+            Some((_, rest)) => Some(rest),
+            None => None,
+        }
+    }
+}
+
+impl FrameCell for Pid {
+    ghost use Rattle.std.specs.Prelude.{true};
+    ghost use Rattle.keys.specs.Cells.{pid_cell};
+    ghost use Rattle.index_page.specs.Rules.{is_any_pid};
+    ghost use Rattle.frame_codec.specs.Frame.{is_pid};
 
     ghost has_size = { λ _. is_any_pid };
 
@@ -139,22 +165,31 @@ impl FrameCell for Pid {
         Ok(read_pid(bytes))
     }
 
-    fn skip<'a>(bytes: &'a [u8], _settings: &Settings) -> Option<&'a [u8]>
-        ensures { let read = read_where is_pid (pid_cell.read bytes.now) in
-            MatchOption result (read ≡ None) (λ rest. (cell : ℕ) × (read ≡ Some (cell, rest.now))) }
-    {
-        match read_pid(bytes) {
-            Some((_, rest)) => Some(rest),
-            None => None,
-        }
-    }
-
     fn spelled_len(&self) -> usize {
         8
     }
 
     fn append(&self, out: &mut Vec<u8>) {
         append_pid(out, *self);
+    }
+}
+
+impl<V: Spelled> Spelled for Option<V> {
+    ghost use Rattle.std.specs.Prelude.{Option};
+
+    ghost codec = { flagged V.codec };
+
+    ghost is_short = { λ s. of_cell (V.is_short s) };
+
+    fn skip<'a>(bytes: &'a [u8], settings: &Settings) -> Option<&'a [u8]>
+        ensures { let read = read_where (of_cell (V.is_short settings.now)) ((flagged V.codec).read bytes.now) in
+            MatchOption result (read ≡ None) (λ rest. (cell : Option V) × (read ≡ Some (cell, rest.now))) }
+    {
+        match bytes.split_first() {
+            Some((0, rest)) => Some(rest),
+            Some((1, rest)) => V::skip(rest, settings),
+            _ => None,
+        }
     }
 }
 

@@ -11,10 +11,12 @@ mod kinds;
 pub mod laws;
 mod parts;
 pub mod read;
+pub mod skim;
 pub mod write;
 
 pub use crate::frame::Frame;
 pub use crate::read::read_frame;
+pub use crate::skim::{FrameKind, Skimmed, skim_frame};
 pub use crate::write::{
     write_delta_index, write_delta_leaf, write_frame, write_free, write_full_index, write_full_leaf,
 };

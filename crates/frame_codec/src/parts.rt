@@ -1,12 +1,13 @@
 //! The parts that frames are made of: numbers, and keys and values as they are spelled. Each is read by the definition's
 //! reader of it, and is appended to bytes that have room.
-ghost use Rattle.std.specs.Prelude.{◌≡◌, ◌+◌, ◌∷◌, [], true, length, None, Some, MatchOption, IfSome};
-ghost use Rattle.keys.specs.Cells.{read_number, number, counted, pid_cell};
+ghost use Rattle.std.specs.Prelude.{◌≡◌, ◌≢◌, ◌+◌, ◌-◌, ◌≤◌, ◌∷◌, [], true, length, None, Some, MatchOption, IfSome};
+ghost use Rattle.keys.specs.Cells.{read_number, read_where, number, counted, pid_cell};
+ghost use Rattle.keys.specs.Sizes.{pid_size};
 ghost use Rattle.frame_codec.specs.Appended.{HasRoomFor, IsAppended, IsCount};
-ghost use Rattle.frame_codec.specs.Frame.{is_pid};
+ghost use Rattle.frame_codec.specs.Frame.{header, is_pid, is_key};
 
 use byteorder::{BigEndian, ByteOrder};
-use keys::Pid;
+use keys::{Pid, Settings};
 
 /// The byte at the front, with the bytes behind it.
 pub(crate) fn read_byte(bytes: &[u8]) -> Option<(u8, &[u8])>
@@ -57,6 +58,46 @@ pub(crate) fn read_counted(bytes: &[u8]) -> Option<(&[u8], &[u8])>
         return None;
     }
     Some(rest.split_at(len))
+}
+
+/// The kind at the front, the length and the number that is the page id, with the bytes behind them.
+pub(crate) fn read_header(bytes: &[u8]) -> Option<(u8, u32, u64, &[u8])>
+    ensures header { let read = header.read bytes.now in
+        MatchOption result (read ≡ None) (λ p. read ≡ Some (((p.0, p.1), p.2), p.3.now)) }
+    ensures word { IfSome result (λ p. is_pid p.2 ≡ true) }
+{
+    let (kind, rest) = read_byte(bytes)?;
+    let (len, rest) = read_u32(rest)?;
+    let Some((pid, rest)) = read_pid(rest) else {
+        return None;
+    };
+    Some((kind, len, pid.0, rest))
+}
+
+/// The key at the front, if it is no longer than settings allow, with the bytes behind it.
+pub(crate) fn read_key<'a>(bytes: &'a [u8], settings: &Settings) -> Option<(&'a [u8], &'a [u8])>
+    ensures { let read = read_where (is_key settings.now) (counted.read bytes.now) in
+        MatchOption result (read ≡ None) (λ p. read ≡ Some (p.0.now, p.1.now)) }
+{
+    let (key, rest) = read_counted(bytes)?;
+    if key.len() > settings.max_key as usize {
+        return None;
+    }
+    Some((key, rest))
+}
+
+/// How many bytes the frame takes whose content stands before the rest, if the length in its header is right.
+pub(crate) fn frame_size(bytes: &[u8], len: u32, content: &[u8], rest: &[u8]) -> Option<usize>
+    requires behind { length rest.now ≤ length content.now }
+    requires within { length content.now ≤ length bytes.now }
+    ensures { MatchOption result (len ≢ pid_size + (length content.now - length rest.now))
+        (λ size. (len ≡ pid_size + (length content.now - length rest.now)) × (size ≡ length bytes.now - length rest.now)) }
+{
+    // The length counts from the page id on.
+    if len as usize != 8 + (content.len() - rest.len()) {
+        return None;
+    }
+    Some(bytes.len() - rest.len())
 }
 
 /// Appends the bytes. There is room for them, so that no memory is asked for.

@@ -1,9 +1,8 @@
 //! Frames read from bytes, whatever these are. Nothing is held but what a frame keeps, and no more entries than `fan`.
-ghost use Rattle.std.specs.Prelude.{◌≡◌, ◌≤◌, ◌&&◌, true, ⊤, length, drop, None, Some, IfOk, IfSome, MatchOption};
-ghost use Rattle.keys.specs.Bytes.{Bytes};
+ghost use Rattle.std.specs.Prelude.{◌≡◌, ◌≤◌, ◌&&◌, length, drop, None, Some, IfOk, IfSome, MatchOption};
 ghost use Rattle.keys.specs.Cells.{read_as, read_where, counted};
 ghost use Rattle.frame_codec.specs.Codecs.{both, read_each, listed, flagged};
-ghost use Rattle.frame_codec.specs.Frame.{full, delta, header, bytes_of, is_pid, is_key, are_entries, is_full, is_run, is_content};
+ghost use Rattle.frame_codec.specs.Frame.{full, delta, bytes_of, is_key, are_entries, is_full, is_run, is_content};
 ghost use Rattle.frame_codec.specs.Reading.{read_content, read_frame};
 ghost use Rattle.frame_codec.specs.Shown.{frame_of};
 ghost use Rattle.index_page.specs.Rules.{of_cell};
@@ -11,36 +10,11 @@ ghost use Rattle.index_page.specs.Rules.{of_cell};
 use crate::cell::{FrameCell, read_flagged};
 use crate::frame::Frame;
 use crate::kinds::{DELTA_INDEX, DELTA_LEAF, FREE, FULL_INDEX, FULL_LEAF};
-use crate::parts::{read_byte, read_counted, read_length, read_pid, read_u32};
+use crate::parts::{frame_size, read_header, read_key, read_length};
+use crate::skim::skim_entries;
 use delta_chain::{Base, BaseBuilder, PushError, Run};
 use keys::{Key, Pid, Settings};
 use std::alloc::{AllocError, Global};
-
-// The kind at the front, the length and the number that is the page id, with the bytes behind them.
-fn read_header(bytes: &[u8]) -> Option<(u8, u32, u64, &[u8])>
-    ensures header { let read = header.read bytes.now in
-        MatchOption result (read ≡ None) (λ p. read ≡ Some (((p.0, p.1), p.2), p.3.now)) }
-    ensures word { IfSome result (λ p. is_pid p.2 ≡ true) }
-{
-    let (kind, rest) = read_byte(bytes)?;
-    let (len, rest) = read_u32(rest)?;
-    let Some((pid, rest)) = read_pid(rest) else {
-        return None;
-    };
-    Some((kind, len, pid.0, rest))
-}
-
-// The key at the front, if it is no longer than settings allow, with the bytes behind it.
-fn read_key<'a>(bytes: &'a [u8], settings: &Settings) -> Option<(&'a [u8], &'a [u8])>
-    ensures { let read = read_where (is_key settings.now) (counted.read bytes.now) in
-        MatchOption result (read ≡ None) (λ p. read ≡ Some (p.0.now, p.1.now)) }
-{
-    let (key, rest) = read_counted(bytes)?;
-    if key.len() > settings.max_key as usize {
-        return None;
-    }
-    Some((key, rest))
-}
 
 // The entry of a base at the front, if a frame may have it, with the bytes behind it.
 fn read_entry<'a, V: FrameCell>(
@@ -78,32 +52,6 @@ fn read_change<'a, V: FrameCell>(
     Ok(Some((key, change, rest)))
 }
 
-// How many bytes the key of the entry at the front has, if a frame may have the entry, with the bytes behind it.
-fn skip_entry<'a, V: FrameCell>(bytes: &'a [u8], settings: &Settings) -> Option<(usize, &'a [u8])>
-    ensures { let read = read_where (λ e. is_key settings.now e.0 && V.is_short settings.now e.1) ((both counted V.codec).read bytes.now) in
-        MatchOption result (read ≡ None) (λ p. (e : Bytes × V) × (read ≡ Some (e, p.1.now))) }
-{
-    let (key, rest) = read_key(bytes, settings)?;
-    let rest = V::skip(rest, settings)?;
-    Some((key.len(), rest))
-}
-
-// How many bytes the keys of as many entries as this have together, so that memory is asked for once, and for no bytes in
-// which no such entries stand.
-fn key_bytes<V: FrameCell>(count: usize, bytes: &[u8], settings: &Settings) -> Option<usize>
-    ensures { let read = read_where (are_entries settings.now (V.is_short settings.now)) (read_each (both counted V.codec) count bytes.now) in
-        MatchOption result (read ≡ None) (λ _. ⊤) }
-{
-    let mut sum: usize = 0;
-    let mut rest = bytes;
-    for _at in 0..count {
-        let (len, behind) = skip_entry::<V>(rest, settings)?;
-        sum = sum.saturating_add(len);
-        rest = behind;
-    }
-    Some(sum)
-}
-
 // As many entries as this, in a base of its own, with the bytes behind them.
 fn read_base<'a, V: FrameCell>(
     alloc: Global,
@@ -114,10 +62,7 @@ fn read_base<'a, V: FrameCell>(
     ensures { let read = read_where (are_entries settings.now (V.is_short settings.now)) (read_each (both counted V.codec) count bytes.now) in
         IfOk result (λ found. MatchOption found (read ≡ None) (λ p. read ≡ Some (p.0, p.1.now))) }
 {
-    if count > settings.fan as usize {
-        return Ok(None);
-    }
-    let Some(key_bytes) = key_bytes::<V>(count, bytes, settings) else {
+    let Some((key_bytes, _end)) = skim_entries::<V>(count, bytes, settings) else {
         return Ok(None);
     };
     let mut builder = BaseBuilder::with_capacity(alloc, count, key_bytes)?;
@@ -126,11 +71,8 @@ fn read_base<'a, V: FrameCell>(
         let Some((key, cell, behind)) = read_entry(alloc, rest, settings)? else {
             return Ok(None);
         };
-        match builder.push(key, cell) {
-            Ok(()) => rest = behind,
-            Err(PushError::OutOfOrder) => return Ok(None),
-            Err(PushError::NoMemory) => return Err(AllocError),
-        }
+        builder.push_next(key, cell)?;
+        rest = behind;
     }
     let base = builder.finish();
     let _in_order = base.len();
@@ -264,9 +206,8 @@ pub fn read_frame(
     let Some((frame, rest)) = read_content(alloc, kind, Pid(pid), content, settings)? else {
         return Ok(None);
     };
-    // The length counts from the page id on.
-    if len as usize != 8 + (content.len() - rest.len()) {
+    let Some(size) = frame_size(bytes, len, content, rest) else {
         return Ok(None);
-    }
-    Ok(Some((frame, bytes.len() - rest.len())))
+    };
+    Ok(Some((frame, size)))
 }

@@ -60,11 +60,11 @@ among_by : (b : Bool) (n p : ℕ) (ns : List ℕ) → is_among n (ns ++ p ∷ []
 among_by true n p ns e = refl
 among_by false n p ns e = e
 
-among_more : (n p : ℕ) (ns : List ℕ) → is_among n (ns ++ p ∷ []) ≡ (is_among n ns || nat_eq n p)
+pub among_more : (n p : ℕ) (ns : List ℕ) → is_among n (ns ++ p ∷ []) ≡ (is_among n ns || nat_eq n p)
 among_more n p [] = or_none (nat_eq n p)
 among_more n p (m ∷ ns) = among_by (nat_eq n m) n p ns (among_more n p ns)
 
-same_turned : (b c : Bool) (m n : ℕ) → nat_eq m n ≡ b → nat_eq n m ≡ c → b ≡ c
+pub same_turned : (b c : Bool) (m n : ℕ) → nat_eq m n ≡ b → nat_eq n m ≡ c → b ≡ c
 same_turned true true m n e h = refl
 same_turned false false m n e h = refl
 same_turned true false m n e h = let x = eq-eqb n m (sym (eqb-true m n e)) in absurd (cc)
@@ -146,7 +146,7 @@ there : (m : ℕ) (ms : List ℕ) → is_among m (m ∷ ms) ≡ true
 there m ms = ap (λ (b : Bool). b || is_among m ms) (eq-eqb m m refl)
 
 -- rising lists with the same numbers are the same
-same_rising : (ms ns : List ℕ) → AreRisingPids ms → AreRisingPids ns → ((k : ℕ) → is_among k ms ≡ is_among k ns) → ms ≡ ns
+pub same_rising : (ms ns : List ℕ) → AreRisingPids ms → AreRisingPids ns → ((k : ℕ) → is_among k ms ≡ is_among k ns) → ms ≡ ns
 same_rising [] [] r s h = refl
 same_rising [] (n ∷ ns) r s h = let e : false ≡ true = h n ∙ there n ns in absurd (cc)
 same_rising (m ∷ ms) [] r s h = let e : true ≡ false = sym (there m ms) ∙ h m in absurd (cc)
@@ -204,12 +204,12 @@ module _ (g : ℕ → List Content) where
           absurd (cc)
       later n among false e = ap (λ o. kept_of o) (sym (found_by false k v n es e)) ∙ h n (ap (λ (b : Bool). b || is_among n (keys_of es)) e ∙ among)
 
-among_by_found : (b : Bool) (n k : ℕ) (v : Vec code.Frame Global) (es : List (ℕ × Vec code.Frame Global)) → nat_eq n k ≡ b → is_among n (keys_of es) ≡ is_some (lookup (nat_eq n) es)
+among_by_found : {V : Type 0} (b : Bool) (n k : ℕ) (v : V) (es : List (ℕ × V)) → nat_eq n k ≡ b → is_among n (keys_of es) ≡ is_some (lookup (nat_eq n) es)
     → (nat_eq n k || is_among n (keys_of es)) ≡ is_some (lookup (nat_eq n) ((k, v) ∷ es))
 among_by_found true n k v es e h = rw e refl
 among_by_found false n k v es e h = rw e h
 
-among_found : (n : ℕ) (es : List (ℕ × Vec code.Frame Global)) → is_among n (keys_of es) ≡ is_some (lookup (nat_eq n) es)
+pub among_found : {V : Type 0} (n : ℕ) (es : List (ℕ × V)) → is_among n (keys_of es) ≡ is_some (lookup (nat_eq n) es)
 among_found n [] = refl
 among_found n ((k, v) ∷ es) = among_by_found (nat_eq n k) n k v es refl (among_found n es)
 
@@ -218,7 +218,7 @@ log_pids-under [] = refl
 log_pids-under (e ∷ es) = ap (λ (ns : List ℕ). e.0 ∷ ns) (log_pids-under es)
 
 -- once the pids are sorted, they rise
-keys-rise : (ns : List ℕ) → IsSorted nat_cmp ns → IsDistinct nat_eq ns → AreRisingPids ns
+pub keys-rise : (ns : List ℕ) → IsSorted nat_cmp ns → IsDistinct nat_eq ns → AreRisingPids ns
 keys-rise ns sorted distinct = rising ns (IsStrictlyIncreasing-from_distinct ns (IsNonDecreasingBy-from_sort (λ (n : ℕ). n) ns sorted) distinct)
 
 -- and so do those of the logs

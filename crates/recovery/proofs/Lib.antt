@@ -9,7 +9,8 @@ pub mod FlushBack
 pub mod FlushLaws
 mod FlushRows
 pub mod FoundWithin
-mod GatherLaws
+pub mod FrontLaws
+pub mod GatherLaws
 mod HiddenBytes
 pub mod KeptStore
 pub mod NothingDue
@@ -23,7 +24,7 @@ mod ReadSlots
 pub mod ReadStore
 mod RebuildLaws
 mod RecoverLaws
-mod ScanLaws
+pub mod ScanLaws
 mod SoFarLaws
 pub mod StepLaws
 pub mod StoreLaws

@@ -1,8 +1,9 @@
 -- Bytes that a reading of a disk may have found.
-use Rattle.std.specs.Prelude.{◌≡◌, ◌⊎◌, ℕ, Bool, true, false, IsTrue, List, replicate, Result, Ok, Err, IsErrAnd, MatchResult}
+use Rattle.std.specs.Prelude.{◌≡◌, ◌≢◌, ◌⊎◌, ℕ, Bool, true, false, IsTrue, List, replicate, Result, Ok, Err, IsErrAnd, IfErr, OnOk, MatchResult}
 use Rattle.std.proofs.Common.{refl, sym, subst, ◌∙◌, inl}
 use Rattle.std.proofs.lemmas.List.{length-replicate}
 use Rattle.keys.specs.declared.fault.Fault.{Fault}
+use Rattle.keys.specs.declared.fault.Fault.TheVariants.{Device}
 use Rattle.flush_log.specs.Disk.{View, Lawful, Kept, Same}
 use Rattle.recovery.specs.Recovered.{IsReadOf, IsLate}
 
@@ -60,3 +61,31 @@ late_since old mid new fault same h = subst (λ (n : ℕ). IsLate n new fault) s
 pub or_late : {X : Type 0} (r : Result X Fault) (P : X → Type 0) (Q Late : Fault → Type 0) → MatchResult r P Q → MatchResult r P (λ fault. Q fault ⊎ Late fault)
 or_late (Ok x) P Q Late h = h
 or_late (Err fault) P Q Late h = inl h
+
+-- ---- of a call of which only the errors, or only the rest, is promised
+
+pub err_on : {X : Type 0} (r : Result X Fault) (Q : Fault → Type 0) (fault : Fault) → IsErrAnd r (λ f. f ≡ fault) → Q fault → IfErr r Q
+err_on (Ok x) Q fault is h = absurd is
+err_on (Err f) Q fault is h = subst Q (sym is) h
+
+pub not_ok : {X : Type 0} (r : Result X Fault) (P : Type 0) (fault : Fault) → IsErrAnd r (λ f. f ≡ fault) → OnOk r P
+not_ok (Ok x) P fault is = absurd is
+not_ok (Err f) P fault is = tt
+
+pub counted_on : {X : Type 0} (r : Result X Fault) (old mid new : ℕ) → mid ≡ old → OnOk r (new ≡ mid) → OnOk r (new ≡ old)
+counted_on r old mid new same h = subst (λ (n : ℕ). OnOk r (new ≡ n)) same h
+
+pub late_on : {X : Type 0} (r : Result X Fault) (old mid new : ℕ) → mid ≡ old → IfErr r (IsLate mid new) → IfErr r (IsLate old new)
+late_on r old mid new same h = subst (λ (n : ℕ). IfErr r (IsLate n new)) same h
+
+-- no call failed where the fault is not Device
+abbrev pub IsUncounted : ℕ → ℕ → Fault → Type 0
+IsUncounted old new fault = fault ≢ Device → new ≡ old
+
+pub uncounted_on : {X : Type 0} (r : Result X Fault) (old mid new : ℕ) → mid ≡ old → IfErr r (IsUncounted mid new) → IfErr r (IsUncounted old new)
+uncounted_on r old mid new same h = subst (λ (n : ℕ). IfErr r (IsUncounted n new)) same h
+
+-- none failed at all
+pub uncounted_by : {X : Type 0} (r : Result X Fault) (old new : ℕ) → new ≡ old → IfErr r (IsUncounted old new)
+uncounted_by (Ok x) old new same = tt
+uncounted_by (Err fault) old new same = λ other. same

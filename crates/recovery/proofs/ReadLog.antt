@@ -1,30 +1,26 @@
 -- What is read of the segments, one after the other.
-use Rattle.std.specs.Prelude.{◌≡◌, ℕ, suc, ◌+◌, ◌-◌, ◌*◌, ◌<◌, ◌≤◌, true, List, [], length, take, drop, Option, None, Result, Ok, Vec}
-use Rattle.std.specs.declared.alloc.Global.{Global}
-use Rattle.std.proofs.Common.{sym, ap, ap₂, subst, ◌∙◌, inl, arith}
+use Rattle.std.specs.Prelude.{◌≡◌, ℕ, suc, ◌+◌, ◌-◌, ◌*◌, ◌<◌, ◌≤◌, true, List, [], length, take, drop, None, Result, Ok, Err, OnOk}
+use Rattle.std.proofs.Common.{refl, sym, ap, subst, ◌∙◌, inl, arith}
 use Rattle.std.proofs.lemmas.List.{take-take}
 use Rattle.keys.specs.Limits.{first_bad_field}
 use Rattle.keys.specs.declared.settings.Settings.{Settings}
 use Rattle.keys.specs.declared.fault.Fault.{Fault}
-use Rattle.indexmap.specs.IndexMap.{IndexMap}
-use Rattle.frame_codec.specs.declared.frame.Frame as code
 use Rattle.flush_log.specs.Disk.{View}
-use Rattle.flush_log.specs.Overlay.{overlay, IsBeside, AgreeAt}
+use Rattle.flush_log.specs.Overlay.{overlay}
 use Rattle.flush_log.specs.Reading.{Found, is_padding, is_at_tail, read_segment, followed_by, read_earlier, log}
-use Rattle.flush_log.specs.Segments.{place_of_segment, HasSegments, segment_bytes, last_segment, bytes_in_use}
-use Rattle.flush_log.specs.SettingsBlock.{store_settings}
-use Rattle.flush_log.specs.Slot.{Slot, is_slot, store_slot, newer, read_slot}
-use Rattle.flush_log.proofs.CommitLaws.{slot_low}
+use Rattle.flush_log.specs.Segments.{segments_begin, disk_size, place_of_segment, HasSegments, segment_bytes, last_segment, bytes_in_use}
+use Rattle.flush_log.specs.Slot.{Slot, is_slot}
 use Rattle.flush_log.proofs.FitLaws.{are_sized}
 use Rattle.flush_log.proofs.LayoutLaws.{split-tail}
-use Rattle.flush_log.proofs.OutcomeLaws.{settings_same, slot_same}
-use Rattle.flush_log.proofs.OverlayLaws.{overlay-beside, overlay-part}
+use Rattle.flush_log.proofs.OverlayLaws.{overlay-part}
 use Rattle.flush_log.proofs.PlaceLaws.{remainders_differ, place-within, places-beside, overlay-beside as part-beside}
 use Rattle.flush_log.proofs.ReadBackLaws.{earlier-same}
-use Rattle.flush_log.proofs.SettingsLaws.{store_settings-are}
 use Rattle.flush_log.proofs.SlotLaws.{slot-is}
-use Rattle.recovery.specs.LogSoFar.{IsSoFar}
 use Rattle.recovery.specs.Recovered.{IsReadOf}
+
+-- what a log holds, or its first fault
+abbrev pub Told : Type 0
+Told = Result (List Found) Fault
 
 -- ---- one segment, put over the bytes so far
 
@@ -38,23 +34,9 @@ module _ (s : Settings) (good : first_bad_field s ≡ None) (file buf : List ℕ
   fits : place_of_segment s n + length buf ≤ length file
   fits = let room = place-within s n some_segments in omega (arith, room, whole, part)
 
-  agree : AgreeAt (IsBeside (place_of_segment s n) (length buf)) file with_part
-  agree = overlay-beside file (place_of_segment s n) buf fits
-
   -- what is in front of the segments stays
-  low : (i : ℕ) → i < 512 → IsBeside (place_of_segment s n) (length buf) i
-  low i less = inl (omega arith)
-
-  pub part-settings : store_settings with_part ≡ store_settings file
-  part-settings = settings_same (IsBeside (place_of_segment s n) (length buf)) file with_part agree (omega (arith, whole)) (λ i less. low i (omega (arith, less)))
-
-  one_slot : (m : ℕ) → read_slot s m with_part ≡ read_slot s m file
-  one_slot m =
-      let few = slot_low m in
-      slot_same (IsBeside (place_of_segment s n) (length buf)) file with_part agree s m (omega (arith, few, whole)) (λ i from to. low i (omega (arith, few, to)))
-
-  pub part-slot : store_slot s with_part ≡ store_slot s file
-  part-slot = ap₂ newer (one_slot 0) (one_slot 1)
+  pub part-front : take segments_begin with_part ≡ take segments_begin file
+  part-front = let at = fits in part-beside file buf 0 (place_of_segment s n) 512 (omega (arith, at)) (inl (omega arith))
 
   -- and so do the segments of the log in front of it
   pub part-earlier : (head k : ℕ) → n ≡ head + k → k < s.segments → read_earlier s with_part head k ≡ read_earlier s file head k
@@ -73,74 +55,78 @@ module _ (s : Settings) (good : first_bad_field s ≡ None) (file buf : List ℕ
 
 -- ---- all of them
 
--- bytes of which k segments from the head on were read, with this result
-pub record AreReadUpto {S : Type 0} (v : View) (s : Settings) (t : Slot) (k : ℕ) (by_pid : IndexMap ℕ (Vec code.Frame Global) S) (fault : Option Fault) (now : List ℕ) : Type 0 where
+-- bytes of which k segments from the head on were read, by what has taken what they hold; in front of the segments they are as these
+pub record AreReadUpto (Has : Told → Type 0) (v : View) (s : Settings) (t : Slot) (k : ℕ) (file now : List ℕ) : Type 0 where
   pub bytes : IsReadOf v now
-  pub settings : store_settings now ≡ Ok s
-  pub slot : store_slot s now ≡ Ok t
-  pub found : IsSoFar by_pid fault (read_earlier s now t.head k)
+  pub front : take segments_begin now ≡ take segments_begin file
+  pub found : Has (read_earlier s now t.head k)
 
-pub none-read : {S : Type 0} (v : View) (s : Settings) (t : Slot) (k : ℕ) (by_pid : IndexMap ℕ (Vec code.Frame Global) S) (fault : Option Fault) (file : List ℕ) → k ≡ 0
-    → IsReadOf v file → store_settings file ≡ Ok s → store_slot s file ≡ Ok t → IsSoFar by_pid fault (Ok []) → AreReadUpto v s t k by_pid fault file
-none-read v s t k by_pid fault file zero bytes settings slot h = record {
+pub none-read : (Has : Told → Type 0) (v : View) (s : Settings) (t : Slot) (k : ℕ) (file : List ℕ) → k ≡ 0 → IsReadOf v file → Has (Ok []) → AreReadUpto Has v s t k file file
+none-read Has v s t k file zero bytes h = record {
   bytes = bytes;
-  settings = settings;
-  slot = slot;
-  found = subst (λ (m : ℕ). IsSoFar by_pid fault (read_earlier s file t.head m)) (sym zero) h;
+  front = refl;
+  found = subst (λ (m : ℕ). Has (read_earlier s file t.head m)) (sym zero) h;
 }
 
-module _ {S : Type 0} (s : Settings) (t : Slot) (by_pid more : IndexMap ℕ (Vec code.Frame Global) S) (fault next : Option Fault) (now buf : List ℕ) where
-  has_room : store_settings now ≡ Ok s → HasSegments s now
-  has_room settings = (store_settings-are now s settings).2
+module _ (Has More : Told → Type 0) (s : Settings) (t : Slot) (file now buf : List ℕ) (old new : View) (n : ℕ) (good : first_bad_field s ≡ None) (size : disk_size s ≤ old.size) where
+  abbrev pub then_now : List ℕ
+  then_now = overlay now (place_of_segment s n) buf
+
+  has_room : IsReadOf old now → HasSegments s now
+  has_room read = let long = read.whole in omega (arith, long, size)
 
   -- one segment more
-  pub read-next : (old new : View) (n k l : ℕ) → first_bad_field s ≡ None → n ≡ t.head + k → l ≡ suc k → k < s.segments → length buf ≡ s.seg_size → AreReadUpto old s t k by_pid fault now
-      → IsReadOf new (overlay now (place_of_segment s n) buf)
-      → ((told : Result (List Found) Fault) → IsSoFar by_pid fault told → IsSoFar more next (followed_by told (read_segment s is_padding n buf)))
-      → AreReadUpto new s t l more next (overlay now (place_of_segment s n) buf)
-  read-next old new n k l good at count few all h bytes takes =
-      let whole = has_room h.settings in
+  pub read-next : (k l : ℕ) → n ≡ t.head + k → l ≡ suc k → k < s.segments → length buf ≡ s.seg_size → AreReadUpto Has old s t k file now
+      → IsReadOf new then_now → ((told : Told) → Has told → More (followed_by told (read_segment s is_padding n buf))) → AreReadUpto More new s t l file then_now
+  read-next k l at count few all h bytes takes =
+      let whole = has_room h.bytes in
       let part : length buf ≤ s.seg_size = omega (arith, all) in
-      let file = overlay now (place_of_segment s n) buf in
-      let earlier : Result (List Found) Fault = read_earlier s now t.head k in
-      let told : followed_by earlier (read_segment s is_padding n buf) ≡ read_earlier s file t.head (suc k) =
-      ap (λ (r : Result (List Found) Fault). followed_by r (read_segment s is_padding n buf)) (sym (part-earlier s good now buf n whole part t.head k at few))
-      ∙ ap (λ (bs : List ℕ). followed_by (read_earlier s file t.head k) (read_segment s is_padding n bs)) (sym (whole-read s good now buf n whole part all))
-      ∙ ap (λ (m : ℕ). followed_by (read_earlier s file t.head k) (read_segment s is_padding m (segment_bytes s file m))) at in
+      let earlier : Told = read_earlier s now t.head k in
+      let told : followed_by earlier (read_segment s is_padding n buf) ≡ read_earlier s then_now t.head (suc k) =
+      ap (λ (r : Told). followed_by r (read_segment s is_padding n buf)) (sym (part-earlier s good now buf n whole part t.head k at few))
+      ∙ ap (λ (bs : List ℕ). followed_by (read_earlier s then_now t.head k) (read_segment s is_padding n bs)) (sym (whole-read s good now buf n whole part all))
+      ∙ ap (λ (m : ℕ). followed_by (read_earlier s then_now t.head k) (read_segment s is_padding m (segment_bytes s then_now m))) at in
       record {
         bytes = bytes;
-        settings = part-settings s good now buf n whole part ∙ h.settings;
-        slot = part-slot s good now buf n whole part ∙ h.slot;
-        found = subst (λ (m : ℕ). IsSoFar more next (read_earlier s file t.head m)) (sym count)
-            (subst (λ (r : Result (List Found) Fault). IsSoFar more next r) told (takes earlier h.found));
+        front = part-front s good now buf n whole part ∙ h.front;
+        found = subst (λ (m : ℕ). More (read_earlier s then_now t.head m)) (sym count) (subst (λ (r : Told). More r) told (takes earlier h.found));
       }
 
-  -- and what is in use of the last one
-  pub read-last : (old : View) (n : ℕ) → first_bad_field s ≡ None → is_slot s t.sequence t ≡ true → n ≡ last_segment s t.tail → length buf ≡ bytes_in_use s t.tail
-      → AreReadUpto old s t (last_segment s t.tail - t.head) by_pid fault now
-      → ((told : Result (List Found) Fault) → IsSoFar by_pid fault told → IsSoFar more next (followed_by told (read_segment s is_at_tail n buf)))
-      → (store_settings (overlay now (place_of_segment s n) buf) ≡ Ok s) × (store_slot s (overlay now (place_of_segment s n) buf) ≡ Ok t)
-      × IsSoFar more next (log s (overlay now (place_of_segment s n) buf) t)
-  read-last old n good is_one last all h takes =
-      let whole = has_room h.settings in
-      let size = (are_sized s good).least_size in
+  -- what is in use of the last one
+  last_told : is_slot s t.sequence t ≡ true → n ≡ last_segment s t.tail → length buf ≡ bytes_in_use s t.tail → HasSegments s now
+      → (length buf ≤ s.seg_size) × (followed_by (read_earlier s now t.head (last_segment s t.tail - t.head)) (read_segment s is_at_tail n buf) ≡ log s then_now t)
+  last_told is_one last all whole =
+      let sized = (are_sized s good).least_size in
       let is = slot-is s t.sequence t is_one in
       let behind = is.behind in
       let room = is.last in
-      let split = split-tail s t.head t.tail (omega (arith, size)) (omega (arith, behind)) in
+      let split = split-tail s t.head t.tail (omega (arith, sized)) (omega (arith, behind)) in
       let from = split.from in
       let high = split.high in
       let k : ℕ = last_segment s t.tail - t.head in
       let at : n ≡ t.head + k = omega (arith, last, from) in
       let part : length buf ≤ s.seg_size = omega (arith, all, high) in
-      let file = overlay now (place_of_segment s n) buf in
-      let earlier : Result (List Found) Fault = read_earlier s now t.head k in
-      let bytes : take (bytes_in_use s t.tail) (segment_bytes s file n) ≡ buf = ap (λ (m : ℕ). take m (segment_bytes s file n)) (sym all) ∙ part-read s good now buf n whole part in
-      let told : followed_by earlier (read_segment s is_at_tail n buf) ≡ log s file t =
-      ap (λ (r : Result (List Found) Fault). followed_by r (read_segment s is_at_tail n buf)) (sym (part-earlier s good now buf n whole part t.head k at (omega (arith, room, last, from))))
-      ∙ ap (λ (bs : List ℕ). followed_by (read_earlier s file t.head k) (read_segment s is_at_tail n bs)) (sym bytes)
-      ∙ ap (λ (m : ℕ). followed_by (read_earlier s file t.head k) (read_segment s is_at_tail m (take (bytes_in_use s t.tail) (segment_bytes s file m)))) at in
-      (part-settings s good now buf n whole part ∙ h.settings, part-slot s good now buf n whole part ∙ h.slot, subst (λ (r : Result (List Found) Fault). IsSoFar more next r) told (takes earlier h.found))
+      let bytes : take (bytes_in_use s t.tail) (segment_bytes s then_now n) ≡ buf = ap (λ (m : ℕ). take m (segment_bytes s then_now n)) (sym all) ∙ part-read s good now buf n whole part in (
+        part,
+        ap (λ (r : Told). followed_by r (read_segment s is_at_tail n buf)) (sym (part-earlier s good now buf n whole part t.head k at (omega (arith, room, last, from))))
+            ∙ ap (λ (bs : List ℕ). followed_by (read_earlier s then_now t.head k) (read_segment s is_at_tail n bs)) (sym bytes)
+            ∙ ap (λ (m : ℕ). followed_by (read_earlier s then_now t.head k) (read_segment s is_at_tail m (take (bytes_in_use s t.tail) (segment_bytes s then_now m)))) at,
+      )
+
+  -- and that too, unless its reading failed
+  pub read-last : {X : Type 0} (r : Result X Fault) → is_slot s t.sequence t ≡ true → n ≡ last_segment s t.tail → length buf ≡ bytes_in_use s t.tail
+      → AreReadUpto Has old s t (last_segment s t.tail - t.head) file now → IsReadOf new now → OnOk r (IsReadOf new then_now)
+      → ((told : Told) → Has told → OnOk r (More (followed_by told (read_segment s is_at_tail n buf))))
+      → (after : List ℕ) × IsReadOf new after × (take segments_begin after ≡ take segments_begin file) × OnOk r (More (log s after t))
+  read-last (Ok x) is_one last all h stays bytes takes =
+      let whole = has_room h.bytes in
+      let (part, told) = last_told is_one last all whole in (
+        then_now,
+        bytes,
+        part-front s good now buf n whole part ∙ h.front,
+        subst (λ (r : Told). More r) told (takes (read_earlier s now t.head (last_segment s t.tail - t.head)) h.found),
+      )
+  read-last (Err fault) is_one last all h stays bytes takes = (now, stays, h.front, tt)
 
 -- ---- numbers
 

@@ -1,7 +1,8 @@
 //! Recovery: the bytes of a disk become a store again, or are answered with the one fault that they have.
-ghost use Rattle.std.specs.Prelude.{◌≡◌, ◌⊎◌, None, Ok, Err, IsTrue, IfOk, MatchResult, OnOk};
+ghost use Rattle.std.specs.Prelude.{◌≡◌, ◌≢◌, ◌⊎◌, None, Ok, Err, IsTrue, IfOk, IfErr, MatchResult, OnOk};
 ghost use Rattle.keys.specs.Bytes.{Bytes};
 ghost use Rattle.keys.specs.Limits.{first_bad_field};
+ghost use Rattle.keys.specs.declared.fault.Fault.TheVariants.{Device};
 ghost use Rattle.mapping.specs.TreeInMemory.{AreAllHome};
 ghost use Rattle.flush_log.specs.Disk.{Kept, Same};
 ghost use Rattle.recovery.specs.Recovered.{IsReadOf, IsLate, IsLogRead, store_recovered};
@@ -9,7 +10,7 @@ ghost use Rattle.recovery.specs.StoreOfDisk.{store_of_disk};
 
 use crate::build_tree::checked_tree;
 use crate::gather::Gathering;
-use crate::read_disk::{read_log, read_settings, read_store_slot};
+use crate::read_disk::{read_frames, read_settings, read_store_slot};
 use flush_log::Disk;
 use flush_log::slot::Slot;
 use keys::{Fault, Settings};
@@ -44,10 +45,11 @@ fn read_parts<D: Disk>(alloc: Global, disk: &mut D) -> Result<LogRead, Fault>
     ensures same { IsTrue (D.view disk.old).is_honest → Same (D.view disk.old) (D.view disk.new) }
     ensures kept { Kept (D.view disk.old) (D.view disk.new) }
     ensures counted { OnOk result (D.failed disk.new ≡ D.failed disk.old) }
+    ensures uncounted { IfErr result (λ fault. fault ≢ Device → D.failed disk.new ≡ D.failed disk.old) }
 {
     let settings = read_settings(disk)?;
     let slot = read_store_slot(disk, &settings)?;
-    let gathering = read_log(alloc, disk, &settings, &slot)?;
+    let gathering = read_frames(alloc, disk, &settings, &slot)?;
     Ok(LogRead {
         settings,
         slot,
@@ -74,6 +76,7 @@ pub fn recover<D: Disk>(
     ensures same { IsTrue (D.view disk.old).is_honest → Same (D.view disk.old) (D.view disk.new) }
     ensures kept { Kept (D.view disk.old) (D.view disk.new) }
     ensures counted { OnOk result (D.failed disk.new ≡ D.failed disk.old) }
+    ensures uncounted { IfErr result (λ fault. fault ≢ Device → D.failed disk.new ≡ D.failed disk.old) }
 {
     let LogRead {
         settings,

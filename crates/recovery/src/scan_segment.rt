@@ -39,8 +39,8 @@ fn are_zeros(bytes: &[u8]) -> bool
     bytes.iter().all(|byte| *byte == 0)
 }
 
-// Whether the frames end where these bytes are left.
-fn is_end(end: End, rest: &[u8]) -> bool
+/// Whether the frames end where these bytes are left.
+pub fn is_end(end: End, rest: &[u8]) -> bool
     ensures { result ≡ is_end_at end rest.now }
 {
     match end {

@@ -1,13 +1,13 @@
 //! The play: steps one after the other, up to the first that is refused.
-ghost use Rattle.std.specs.Prelude.{◌≡◌, ◌≢◌, ◌⊎◌, ◌<◌, [], map, length, Ok, Err, IsTrue, IfOk, IfErr, OnOk, true, false};
+ghost use Rattle.std.specs.Prelude.{◌≡◌, ◌≢◌, ◌⊎◌, ◌<◌, [], map, length, Ok, Err, IsTrue, IfOk, IfErr, OnOk, MatchResult, true, false};
 ghost use Rattle.keys.specs.Bytes.{Bytes};
 ghost use Rattle.keys.specs.declared.fault.Fault.TheVariants.{NoMemory, Device, Failed};
 ghost use Rattle.mapping.specs.Tree as definitions;
-ghost use Rattle.flush_log.specs.Disk.{IsSettled, Kept, LeavesOnly};
+ghost use Rattle.flush_log.specs.Disk.{IsSettled, Kept, LeavesOnly, Same};
 ghost use Rattle.recovery.specs.StoreOfDisk.{store_of_disk};
-ghost use Rattle.engine.specs.Plays.{IsPlayed, IsPlayFault, IsStepFault, IsLeftInStep, IsLeftBehind, UnlessDevice, step_of, answer_of, played, reached};
+ghost use Rattle.engine.specs.Plays.{IsPlayed, IsPlayedOn, IsPlayFault, IsStepDone, IsStepFault, IsLeftInStep, IsLeftBehind, UnlessDevice, step_of, answer_of, played, reached};
 ghost use Rattle.engine.specs.State.{IsSound};
-ghost use Rattle.engine.specs.Steps.{ArePlayed, HasWords, HaveWords, StandsAfterSome, batching, after_step, plays};
+ghost use Rattle.engine.specs.Steps.{ArePlayed, HaveWords, StandsAfterSome, batching, after_step, plays};
 
 use crate::laws::steps_answer_as_a_map_and_are_read_back;
 use crate::step::{Answer, Step};
@@ -20,17 +20,22 @@ use std::thread::Threads;
 impl<D: Disk> Store<D> {
     // Does a step.
     fn step(&mut self, rt: &(impl Threads + Sync), step: Step<'_>) -> Result<Answer, Fault>
-        // As it should, whatever the disk has.
-        ensures ok { IfOk result (λ answer. (file : Bytes) → (bytes : Bytes)
-            × (after_step (batching self.old.settings) self.old.settings self.old.store file (step_of step.entry) ≡ Ok (answer_of answer, (self.new.store, bytes)))) }
+        // As it should, of bytes that a read gave, whatever the disk does.
+        ensures ok { IfOk result (λ answer. (bytes : Bytes) × IsStepDone (D.view self.old.disk).is_honest
+            self.old.settings self.old.store (D.view self.old.disk).seen (step_of step.entry) answer self.new.store bytes) }
         ensures rest { (self.new.settings ≡ self.old.settings) × Kept (D.view self.old.disk) (D.view self.new.disk) }
 
         // Which fault, and what it leaves.
         ensures failed { self.old.has_failed ≡ true → result ≡ Err Fault.Failed }
-        ensures refused { self.old.has_failed ≡ false → IfErr result (IsStepFault self.old.settings self.old.store (D.view self.old.disk).seen
-            (D.failed self.old.disk) (D.failed self.new.disk) (step_of step.entry)) }
-        ensures unchanged { IfErr result (λ fault. fault ≢ Fault.Device → self.new ≡ self.old) }
-        ensures device { IfErr result (λ fault. fault ≡ Fault.Device → (self.new.store ≡ self.old.store) × (self.new.has_failed ≡ true)) }
+        ensures refused { self.old.has_failed ≡ false → IfErr result (λ fault. (file : Bytes)
+            × (IsTrue (D.view self.old.disk).is_honest → file ≡ (D.view self.old.disk).seen)
+            × IsStepFault self.old.settings self.old.store file (D.failed self.old.disk) (D.failed self.new.disk) (step_of step.entry) fault) }
+        ensures unchanged { IfErr result (λ fault. self.new.store ≡ self.old.store) }
+        ensures fine { IfErr result (λ fault. fault ≢ Fault.Device →
+            (self.new.has_failed ≡ self.old.has_failed) × (D.failed self.new.disk ≡ D.failed self.old.disk)) }
+        ensures same { IsTrue (D.view self.old.disk).is_honest →
+            IfErr result (λ fault. fault ≢ Fault.Device → Same (D.view self.old.disk) (D.view self.new.disk)) }
+        ensures device { IfErr result (λ fault. fault ≡ Fault.Device → self.new.has_failed ≡ true) }
         ensures counted { OnOk result ((self.new.has_failed ≡ self.old.has_failed) × (D.failed self.new.disk ≡ D.failed self.old.disk)) }
 
         // On an honest disk.
@@ -41,29 +46,33 @@ impl<D: Disk> Store<D> {
         ensures crash { self.old.has_failed ≡ false → IsSettled (D.view self.old.disk) → LeavesOnly (D.view self.old.disk) (D.view self.new.disk)
             (IsLeftInStep self.old.settings self.old.store (D.view self.old.disk).seen (step_of step.entry)) }
 
-        ensures words { OnOk result (HasWords (batching self.old.settings) self.old.settings self.old.store.tree (step_of step.entry)) }
         ensures sound { IsSound D.view self.old × IsSound D.view self.new }
     {
         match step {
             Step::Batch(commands) => Ok(Answer::Replies(self.batch(rt, commands)?)),
             Step::Flush => Ok(Answer::Flushed(self.flush()?)),
+            Step::Clean => Ok(Answer::Cleaned(self.clean()?)),
         }
     }
 
     /// Does the steps one after the other, up to the first that is refused, and returns the answer to each at its place. Where
-    /// one is refused, its place is told, with the answers to those before it and the fault, which are those that `batch` and `flush` give;
-    /// then the store is as those before it left it, but that it has failed after `Fault::Device`. Where there is
+    /// one is refused, its place is told, with the answers to those before it and the fault, which are those that `batch`, `flush` and
+    /// `clean` give; then the store is as those before it left it, but that it has failed after `Fault::Device`. Where there is
     /// no memory for the list of answers, that is place 0 with `Fault::NoMemory`. No steps are always done.
     pub fn play(
         &mut self,
         rt: &(impl Threads + Sync),
         steps: &[Step<'_>],
     ) -> Result<Vec<Answer>, (usize, Vec<Answer>, Fault)>
-        // All are played, or those before one that is refused, whatever the disk does: they answer, and leave the store, as they should.
-        ensures ok { IfOk result (λ answers. IsPlayed self.old.settings self.old.store (D.view self.old.disk).seen
-            (map step_of steps.now) answers.items self.new.store) }
-        ensures err { IfErr result (λ e. (e.0 < length steps.now) × IsPlayed self.old.settings self.old.store (D.view self.old.disk).seen
-            (played result steps.now) e.1.items self.new.store) }
+        // All are played, or those before one that is refused, whatever the disk does: each answers, and leaves the store, as it should, of
+        // bytes that a read gave. On an honest disk these are the bytes that the steps before it left.
+        ensures ok { IfOk result (λ answers. IsPlayed (D.view self.old.disk).is_honest
+            self.old.settings self.old.store (D.view self.old.disk).seen (map step_of steps.now) answers.items self.new.store) }
+        ensures err { IfErr result (λ e. (e.0 < length steps.now) × IsPlayed (D.view self.old.disk).is_honest
+            self.old.settings self.old.store (D.view self.old.disk).seen (played result steps.now) e.1.items self.new.store) }
+        ensures exact { IsTrue (D.view self.old.disk).is_honest → MatchResult result
+            (λ answers. IsPlayedOn self.old.settings self.old.store (D.view self.old.disk).seen (map step_of steps.now) answers.items self.new.store)
+            (λ e. IsPlayedOn self.old.settings self.old.store (D.view self.old.disk).seen (played result steps.now) e.1.items self.new.store) }
         ensures rest { (self.new.settings ≡ self.old.settings) × Kept (D.view self.old.disk) (D.view self.new.disk) }
 
         // On an honest disk, these bytes; and so: the replies are those of an ordered map, and the disk stands for the store of the last flush.
@@ -77,8 +86,9 @@ impl<D: Disk> Store<D> {
         // Which fault, and what it leaves.
         ensures failed { self.old.has_failed ≡ true → OnOk result (steps.now ≡ []) }
         ensures still_failed { self.old.has_failed ≡ true → IfErr result (λ e. (e.0 ≡ 0) × ((e.2 ≡ Fault.Failed) ⊎ (e.2 ≡ Fault.NoMemory))) }
-        ensures refused { self.old.has_failed ≡ false → IfErr result (λ e. IsPlayFault self.old.settings self.old.store (D.view self.old.disk).seen
-            (D.failed self.old.disk) (D.failed self.new.disk) steps.now e.0 e.2) }
+        ensures refused { self.old.has_failed ≡ false → IfErr result (λ e. (file : Bytes) × (IsTrue (D.view self.old.disk).is_honest → file
+            ≡ (plays (batching self.old.settings) self.old.settings self.old.store (D.view self.old.disk).seen (played result steps.now)).bytes)
+            × IsPlayFault self.old.settings self.new.store file (D.failed self.old.disk) (D.failed self.new.disk) steps.now e.0 e.2) }
         ensures device { IfErr result (λ e. e.2 ≡ Fault.Device → self.new.has_failed ≡ true) }
         ensures counted { UnlessDevice result ((self.new.has_failed ≡ self.old.has_failed) × (D.failed self.new.disk ≡ D.failed self.old.disk)) }
 
@@ -90,8 +100,9 @@ impl<D: Disk> Store<D> {
         ensures behind { self.old.has_failed ≡ false → IsSettled (D.view self.old.disk) → IfErr result (λ e. e.2 ≡ Fault.Device →
             (c : Bytes) → (D.view self.new.disk).may_leave c → IsLeftBehind self.old.settings self.old.store (D.view self.old.disk).seen steps.now e.0 c) }
 
-        // The numbers on the way have 64 bits. The store was sound, and is so again.
-        ensures words { HaveWords (batching self.old.settings) self.old.settings self.old.store (D.view self.old.disk).seen (played result steps.now) }
+        // The numbers on the way have 64 bits, on any disk as `IsPlayed` says. The store was sound, and is so again.
+        ensures words { IsTrue (D.view self.old.disk).is_honest →
+            HaveWords (batching self.old.settings) self.old.settings self.old.store (D.view self.old.disk).seen (played result steps.now) }
         ensures sound { IsSound D.view self.old × IsSound D.view self.new }
     {
         // Only for the proof.

@@ -1,11 +1,12 @@
 use Rattle.std.proofs.Common.{refl}
-use Rattle.bwsh.proofs.PrintedLaws.{printed-batch, printed-flush, printed-verify}
+use Rattle.bwsh.proofs.PrintedLaws.{printed-batch, printed-flush, printed-clean, printed-verify}
 use Rattle.bwsh.proofs.laws.each_order_prints_its_answer.Goals as goal
 
 pub returns : goal.returns
 returns c = record {
-  none = λ settings at m. refl;
+  none = λ settings st shown m. refl;
   batch = printed-batch;
   flush = printed-flush;
+  clean = printed-clean;
   verify = printed-verify;
 }

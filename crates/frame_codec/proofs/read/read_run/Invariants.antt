@@ -5,4 +5,4 @@ use Rattle.frame_codec.proofs.read.read_run.Given as goal
 
 -- the run has the changes before this place
 abbrev pub invariant-loop-at : goal.invariant-loop-at
-invariant-loop-at g l = IsReadUpTo l.settings (of_cell (g.V.FrameCell.is_short l.settings)) (flagged g.V.FrameCell.codec) l.count l.initial.rest l._at l.run l.rest
+invariant-loop-at g l = IsReadUpTo l.settings (of_cell (g.V.Spelled.is_short l.settings)) (flagged g.V.Spelled.codec) l.count l.initial.rest l._at l.run l.rest

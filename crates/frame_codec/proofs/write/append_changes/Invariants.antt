@@ -8,5 +8,5 @@ use Rattle.frame_codec.proofs.write.append_changes.Given as goal
 -- what stands before this place was appended, and each cell there is one of its type
 abbrev pub invariant-loop-at : goal.invariant-loop-at
 invariant-loop-at g l =
-    IsUpTo (flagged g.V.FrameCell.codec) l.run l.at l.initial.out l.out
+    IsUpTo (flagged g.V.Spelled.codec) l.run l.at l.initial.out l.out
     × (list_all (λ e. of_cell g.V.FrameCell.is_word e.1) (drop l.at l.run) ≡ list_all (λ e. of_cell g.V.FrameCell.is_word e.1) l.run)

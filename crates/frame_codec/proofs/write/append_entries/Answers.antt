@@ -4,22 +4,22 @@ use Rattle.frame_codec.proofs.WriteLaws.{spellable-at, tested-next, tested-done,
 use Rattle.frame_codec.proofs.write.append_entries.Goals as goal
 
 pub loop-at-init : goal.loop-at-init
-loop-at-init g c = (upto-none g.V.FrameCell.codec c.args.base.now c.args.out.now, refl)
+loop-at-init g c = (upto-none g.V.Spelled.codec c.args.base.now c.args.out.now, refl)
 
 pub append_counted-requires-clause-small : goal.append_counted-requires-clause-small
-append_counted-requires-clause-small g c = (spellable-at g.V.FrameCell.codec c.args.base.now c.loop-at.at c.key.result.now c.cell-cell.result.now c.requires.small c.key.ensures c.cell-cell.ensures).0
+append_counted-requires-clause-small g c = (spellable-at g.V.Spelled.codec c.args.base.now c.loop-at.at c.key.result.now c.cell-cell.result.now c.requires.small c.key.ensures c.cell-cell.ensures).0
 
 pub append_counted-requires-clause-room : goal.append_counted-requires-clause-room
 append_counted-requires-clause-room g c =
-    let room = upto-room g.V.FrameCell.codec c.args.base.now c.loop-at.at c.args.out.now c.loop-at.out c.key.result.now c.cell-cell.result.now c.requires.room c.loop-at.invariant.0 c.key.ensures c.cell-cell.ensures in
+    let room = upto-room g.V.Spelled.codec c.args.base.now c.loop-at.at c.args.out.now c.loop-at.out c.key.result.now c.cell-cell.result.now c.requires.room c.loop-at.invariant.0 c.key.ensures c.cell-cell.ensures in
     omega arith
 
 pub append-requires-clause-small : goal.append-requires-clause-small
-append-requires-clause-small g c = (spellable-at g.V.FrameCell.codec c.args.base.now c.loop-at.at c.key.result.now c.cell-cell.result.now c.requires.small c.key.ensures c.cell-cell.ensures).1
+append-requires-clause-small g c = (spellable-at g.V.Spelled.codec c.args.base.now c.loop-at.at c.key.result.now c.cell-cell.result.now c.requires.small c.key.ensures c.cell-cell.ensures).1
 
 pub append-requires-clause-room : goal.append-requires-clause-room
 append-requires-clause-room g c =
-    let room = upto-room g.V.FrameCell.codec c.args.base.now c.loop-at.at c.args.out.now c.loop-at.out c.key.result.now c.cell-cell.result.now c.requires.room c.loop-at.invariant.0 c.key.ensures c.cell-cell.ensures in
+    let room = upto-room g.V.Spelled.codec c.args.base.now c.loop-at.at c.args.out.now c.loop-at.out c.key.result.now c.cell-cell.result.now c.requires.room c.loop-at.invariant.0 c.key.ensures c.cell-cell.ensures in
     let len = c.append_counted.ensures.len in
     let more = c.append_counted.ensures.room in
     let key = length-counted c.key.result.now in
@@ -27,14 +27,14 @@ append-requires-clause-room g c =
 
 pub loop-at-preserved : goal.loop-at-preserved
 loop-at-preserved g c = (
-  upto-next g.V.FrameCell.codec c.args.base.now c.loop-at.at c.args.out.now c.loop-at.out c.append_counted.new.out c.append.new.out c.key.result.now c.cell-cell.result.now c.loop-at.invariant.0 c.key.ensures c.cell-cell.ensures c.append_counted.ensures c.append.ensures.bytes,
+  upto-next g.V.Spelled.codec c.args.base.now c.loop-at.at c.args.out.now c.loop-at.out c.append_counted.new.out c.append.new.out c.key.result.now c.cell-cell.result.now c.loop-at.invariant.0 c.key.ensures c.cell-cell.ensures c.append_counted.ensures c.append.ensures.bytes,
   tested-next (λ e. g.V.FrameCell.is_word e.1) c.args.base.now c.loop-at.at c.key.result.now c.cell-cell.result.now c.key.ensures c.cell-cell.ensures c.append.ensures.word c.loop-at.invariant.1,
 )
 
 pub returns-clause-bytes : goal.returns-clause-bytes
 returns-clause-bytes g c =
     let all : length c.args.base.now ≤ c.loop-at.at = omega (arith, c.loop-at-test.false, c.len-at-end.ensures.count) in
-    upto-done g.V.FrameCell.codec c.args.base.now c.loop-at.at c.args.out.now c.loop-at.out all c.loop-at.invariant.0
+    upto-done g.V.Spelled.codec c.args.base.now c.loop-at.at c.args.out.now c.loop-at.out all c.loop-at.invariant.0
 
 pub returns-clause-words : goal.returns-clause-words
 returns-clause-words g c =

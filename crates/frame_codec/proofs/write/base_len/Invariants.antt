@@ -4,4 +4,4 @@ use Rattle.frame_codec.proofs.write.base_len.Given as goal
 
 -- what the entries from this place on take comes on top
 abbrev pub invariant-loop-at : goal.invariant-loop-at
-invariant-loop-at g l = l.len + length (spelled_from g.V.FrameCell.codec l.base l.at) ≡ length (spelled_from g.V.FrameCell.codec l.base 0)
+invariant-loop-at g l = l.len + length (spelled_from g.V.Spelled.codec l.base l.at) ≡ length (spelled_from g.V.Spelled.codec l.base 0)

@@ -5,4 +5,4 @@ use Rattle.frame_codec.proofs.write.run_len.Given as goal
 
 -- what the changes from this place on take comes on top
 abbrev pub invariant-loop-at : goal.invariant-loop-at
-invariant-loop-at g l = l.len + length (spelled_from (flagged g.V.FrameCell.codec) l.run l.at) ≡ length (spelled_from (flagged g.V.FrameCell.codec) l.run 0)
+invariant-loop-at g l = l.len + length (spelled_from (flagged g.V.Spelled.codec) l.run l.at) ≡ length (spelled_from (flagged g.V.Spelled.codec) l.run 0)

@@ -2,7 +2,7 @@ use Rattle.std.proofs.Common.{◌≡◌, ◌⊎◌, Ok, Err, ◌∙◌, arith, i
 use Rattle.flush_log.specs.Overlay.{overlay}
 use Rattle.flush_log.specs.Slot.{store_slot}
 use Rattle.recovery.specs.Recovered.{IsLate}
-use Rattle.recovery.proofs.ReadBytes.{as_told, handed_on}
+use Rattle.recovery.proofs.ReadBytes.{IsUncounted, as_told, handed_on, err_on, uncounted_by}
 use Rattle.recovery.proofs.ReadSlots.{slots-settings, slots-read}
 use Rattle.recovery.proofs.read_disk.read_store_slot.Goals as goal
 
@@ -30,3 +30,11 @@ returns-clause-read g c file is settings =
       as_told (store_slot s now) (IsLate (g.D.Disk.failed c.args.disk.now) (g.D.Disk.failed c.read.new.disk)) c.slot_in.result
           (c.slot_in.ensures.read now (slots-read file slots (omega (arith, whole, within)) (omega (arith, long)))),
     )
+
+pub returns-in_err-read-clause-uncounted : goal.returns-in_err-read-clause-uncounted
+returns-in_err-read-clause-uncounted g c =
+    let failed = g.D.Disk.failed in
+    err_on c.from_residual.result (IsUncounted (failed c.args.disk.now) (failed c.read.new.disk)) c.in_err-read.field-0.0 c.from_residual.ensures.1 c.in_err-read.ensures.uncounted
+
+pub returns-clause-uncounted : goal.returns-clause-uncounted
+returns-clause-uncounted g c = uncounted_by c.slot_in.result (g.D.Disk.failed c.args.disk.now) (g.D.Disk.failed c.read.new.disk) c.in_ok-read.ensures.counted

@@ -1,4 +1,5 @@
 use Rattle.std.proofs.lemmas.Result.{err_from_is_err_and}
+use Rattle.recovery.proofs.ReadBytes.{IsUncounted, err_on}
 use Rattle.recovery.proofs.RecoverLaws.{tree-recovered, tree-refused}
 use Rattle.recovery.proofs.recover.recover.Goals as goal
 
@@ -21,3 +22,13 @@ returns-clause-read g c =
       read,
       tree-recovered file r.field-0 log c.in_ok-tree.tree c.in_ok-tree.ensures.ok,
     )
+
+pub returns-in_err-settings-clause-uncounted : goal.returns-in_err-settings-clause-uncounted
+returns-in_err-settings-clause-uncounted g c =
+    let failed = g.D.Disk.failed in
+    err_on c.from_residual.result (IsUncounted (failed c.args.disk.now) (failed c.read_parts.new.disk)) c.in_err-settings.field-0.0 c.from_residual.ensures.1 c.in_err-settings.ensures.uncounted
+
+pub returns-in_err-tree-clause-uncounted : goal.returns-in_err-tree-clause-uncounted
+returns-in_err-tree-clause-uncounted g c =
+    let failed = g.D.Disk.failed in
+    err_on c.from_residual-in_err-tree.result (IsUncounted (failed c.args.disk.now) (failed c.read_parts.new.disk)) c.in_err-tree.field-0.0 c.from_residual-in_err-tree.ensures.1 (λ other. c.in_ok-settings.ensures.counted)

@@ -1,11 +1,11 @@
-use Rattle.std.proofs.Common.{List, [], ◌∷◌, ◌++◌, inl, inr, sym, ap, ◌∙◌, subst, ⊎_elim, map, take, drop, arith, ◌+◌, Global}
+use Rattle.std.proofs.Common.{◌≡◌, List, [], inl, inr, refl, sym, ap, ◌∙◌, subst, ⊎_elim, map, take, drop, arith, ◌+◌, Global}
 use Rattle.std.proofs.lemmas.List.{take_all}
 use Rattle.flush_log.specs.Disk.{LeavesOnly}
 use Rattle.recovery.specs.StoreOfDisk.{store_of_disk}
-use Rattle.engine.specs.Plays.{IsPlayFault, step_of}
+use Rattle.engine.specs.Plays.{IsPlayed, IsPlayedOn, IsPlayFault, step_of}
 use Rattle.engine.specs.State.{IsSound}
 use Rattle.engine.specs.Steps.{Step, StandsAfterSome, HaveWords, batching, plays}
-use Rattle.engine.proofs.PlayTurn.{IsTurn, no_turn, goes_on, crash_on, left_behind_it, refused_behind, one_taken, one_behind, none_taken, device_or_not, reached_device, reached_other}
+use Rattle.engine.proofs.PlayTurn.{no_turn, turn_as, stays, still_said, still_exact, goes_on, crash_on, left_behind_it, refused_behind, one_taken, one_behind, none_taken, device_or_not, reached_device, reached_other}
 use Rattle.engine.proofs.StepDone.{fine_where}
 use Rattle.engine.proofs.store.Store.play.Goals as goal
 
@@ -14,6 +14,9 @@ returns-in-Err-clause-headline g c fine honest on_disk stands =
     let old = c.args.self.now in
     let sound : IsSound g.D.Disk.view old = rw (← c.self.view_is) c.self.invariant.sound in
     c.steps_answer_as_a_map_and_are_read_back.ensures old.settings old.store on_disk (g.D.Disk.view old.disk).seen [] (record { is = sound.is; step = sound.step fine honest }) stands tt
+
+pub returns-in-Err-clause-refused : goal.returns-in-Err-clause-refused
+returns-in-Err-clause-refused g c fine = ((g.D.Disk.view c.args.self.now.disk).seen, λ _. refl, inl (refl, refl))
 
 pub returns-in-Err-clause-crash : goal.returns-in-Err-clause-crash
 returns-in-Err-clause-crash g c =
@@ -28,8 +31,61 @@ loop-step-init g c =
     record {
       len = c.in-Ok.ensures.len;
       room = c.in-Ok.ensures.exact;
-      turn = subst (λ said. IsTurn g.D.Disk.view g.D.Disk.failed old [] said old) (sym c.in-Ok.ensures.items) (no_turn g.D.Disk.view g.D.Disk.failed g.met.D.Disk.lawful old sound);
+      turn = turn_as g.D.Disk.view g.D.Disk.failed old old _ _ _ _ refl c.in-Ok.ensures.items (no_turn g.D.Disk.view g.D.Disk.failed g.met.D.Disk.lawful old sound);
     }
+
+pub returns-in-Err-step-clause-err : goal.returns-in-Err-step-clause-err
+returns-in-Err-step-clause-err g c =
+    let old = c.args.self.now in
+    let view = g.D.Disk.view in
+    let at = c.loop-step in
+    let n_is = c.len.ensures ∙ at.invariant.len in
+    let below = c.loop-step-test.true in
+    let said = still_said view g.D.Disk.failed g.met.D.Disk.lawful old _ _ at.self at.invariant.turn c.step.new.self c.in-Err-step.ensures.unchanged in (
+      omega (arith, n_is, below),
+      subst (λ n. IsPlayed (view old.disk).is_honest old.settings old.store (view old.disk).seen (map step_of (take n c.args.steps.now)) at.answers.items c.step.new.self.store) (sym n_is) said,
+    )
+
+pub returns-in-Err-step-clause-exact : goal.returns-in-Err-step-clause-exact
+returns-in-Err-step-clause-exact g c honest =
+    let old = c.args.self.now in
+    let view = g.D.Disk.view in
+    let at = c.loop-step in
+    let n_is = c.len.ensures ∙ at.invariant.len in
+    let said = still_exact view g.D.Disk.failed g.met.D.Disk.lawful old _ _ at.self at.invariant.turn c.step.new.self c.in-Err-step.ensures.unchanged honest in
+    subst (λ n. IsPlayedOn old.settings old.store (view old.disk).seen (map step_of (take n c.args.steps.now)) at.answers.items c.step.new.self.store) (sym n_is) said
+
+pub returns-in-Err-step-clause-bytes : goal.returns-in-Err-step-clause-bytes
+returns-in-Err-step-clause-bytes g c honest other =
+    let old = c.args.self.now in
+    let view = g.D.Disk.view in
+    let s = old.settings in
+    let at = c.loop-step in
+    let n_is = c.len.ensures ∙ at.invariant.len in
+    let left = (stays view g.D.Disk.failed g.met.D.Disk.lawful old _ _ at.self at.invariant.turn c.step.new.self c.step.ensures.rest c.in-Err-step.ensures.unchanged (c.in-Err-step.ensures.fine other)
+    (λ h. c.in-Err-step.ensures.same h other) c.step.ensures.sound.1).bytes honest in
+    left ∙ ap (λ n. (plays (batching s) s old.store (view old.disk).seen (map step_of (take n c.args.steps.now))).bytes) (sym n_is)
+
+pub returns-in-Err-step-clause-settled : goal.returns-in-Err-step-clause-settled
+returns-in-Err-step-clause-settled g c settled other =
+    let view = g.D.Disk.view in
+    let at = c.loop-step in
+    (stays view g.D.Disk.failed g.met.D.Disk.lawful c.args.self.now _ _ at.self at.invariant.turn c.step.new.self c.step.ensures.rest c.in-Err-step.ensures.unchanged (c.in-Err-step.ensures.fine other)
+    (λ h. c.in-Err-step.ensures.same h other) c.step.ensures.sound.1).settled settled
+
+pub returns-in-Err-step-clause-counted : goal.returns-in-Err-step-clause-counted
+returns-in-Err-step-clause-counted g c other =
+    let at = c.loop-step in
+    let left = c.in-Err-step.ensures.fine other in
+    (left.0 ∙ at.invariant.turn.has_failed, left.1 ∙ at.invariant.turn.failed)
+
+pub returns-in-Err-step-clause-words : goal.returns-in-Err-step-clause-words
+returns-in-Err-step-clause-words g c honest =
+    let old = c.args.self.now in
+    let file = (g.D.Disk.view old.disk).seen in
+    let at = c.loop-step in
+    let n_is = c.len.ensures ∙ at.invariant.len in
+    subst (λ n. HaveWords (batching old.settings) old.settings old.store file (map step_of (take n c.args.steps.now))) (sym n_is) (at.invariant.turn.words honest)
 
 pub returns-in-Err-step-clause-headline : goal.returns-in-Err-step-clause-headline
 returns-in-Err-step-clause-headline g c fine honest on_disk stands =
@@ -38,7 +94,7 @@ returns-in-Err-step-clause-headline g c fine honest on_disk stands =
     let at = c.loop-step in
     let sound : IsSound g.D.Disk.view old = rw (← c.self.view_is) c.self.invariant.sound in
     let n_is = c.len.ensures ∙ at.invariant.len in
-    let words = subst (λ n. HaveWords (batching old.settings) old.settings old.store file (map step_of (take n c.args.steps.now))) (sym n_is) at.invariant.turn.words in
+    let words = subst (λ n. HaveWords (batching old.settings) old.settings old.store file (map step_of (take n c.args.steps.now))) (sym n_is) (at.invariant.turn.words honest) in
     c.steps_answer_as_a_map_and_are_read_back.ensures old.settings old.store on_disk file _ (record { is = sound.is; step = sound.step fine honest }) stands words
 
 pub returns-in-Err-step-clause-still_failed : goal.returns-in-Err-step-clause-still_failed
@@ -52,17 +108,18 @@ pub returns-in-Err-step-clause-refused : goal.returns-in-Err-step-clause-refused
 returns-in-Err-step-clause-refused g c fine =
     let old = c.args.self.now in
     let view = g.D.Disk.view in
+    let s = old.settings in
+    let now = c.step.new.self in
     let steps = c.args.steps.now in
     let at = c.loop-step in
     let n_is = c.len.ensures ∙ at.invariant.len in
-    let why = c.in-Err-step.ensures.refused (at.invariant.turn.has_failed ∙ fine) in
-    subst (λ n. IsPlayFault old.settings old.store (view old.disk).seen (g.D.Disk.failed old.disk) (g.D.Disk.failed c.step.new.self.disk) steps n c.in-Err-step.fault) (sym n_is)
-    (inr (
-      c.step-item.result,
-      drop (at.step-index + 1) steps,
-      one_behind steps at.step-index c.step-item.result c.loop-step-test.true c.step-item.is,
-      refused_behind view g.D.Disk.failed g.met.D.Disk.lawful old _ _ at.self at.invariant.turn c.step-item.result _ _ why,
-    ))
+    let (file, shown, why) = refused_behind view g.D.Disk.failed g.met.D.Disk.lawful old _ _ at.self at.invariant.turn now c.step-item.result _ _ c.in-Err-step.ensures.unchanged
+    (c.in-Err-step.ensures.refused (at.invariant.turn.has_failed ∙ fine)) in (
+      file,
+      λ honest. shown honest ∙ ap (λ n. (plays (batching s) s old.store (view old.disk).seen (map step_of (take n steps))).bytes) (sym n_is),
+      subst (λ n. IsPlayFault s now.store file (g.D.Disk.failed old.disk) (g.D.Disk.failed now.disk) steps n c.in-Err-step.fault) (sym n_is)
+          (inr (c.step-item.result, drop (at.step-index + 1) steps, one_behind steps at.step-index c.step-item.result c.loop-step-test.true c.step-item.is, why)),
+    )
 
 pub returns-in-Err-step-clause-crash : goal.returns-in-Err-step-clause-crash
 returns-in-Err-step-clause-crash g c fine settled =
@@ -76,8 +133,8 @@ returns-in-Err-step-clause-crash g c fine settled =
     (λ device. subst Stands (sym (reached_device steps c.in-Err-step.fault c.len.result at.step-index c.step-item.result device n_is c.loop-step-test.true c.step-item.is))
     (crash_on view g.D.Disk.failed g.met.D.Disk.lawful old _ _ at.self at.invariant.turn c.step.new.self (step_of c.step-item.result) c.step.ensures.crash fine settled))
     (λ other. subst Stands (sym (reached_other steps c.in-Err-step.fault c.len.result at.step-index (other.1 c.len.result) n_is))
-    (subst (λ x. LeavesOnly (view old.disk) (view x.disk) (StandsAfterSome (batching old.settings) old.settings old.store (view old.disk).seen (map step_of (take at.step-index steps))))
-    (sym (c.in-Err-step.ensures.unchanged other.0)) (at.invariant.turn.crash fine settled)))
+    ((stays view g.D.Disk.failed g.met.D.Disk.lawful old _ _ at.self at.invariant.turn c.step.new.self c.step.ensures.rest c.in-Err-step.ensures.unchanged (c.in-Err-step.ensures.fine other.0)
+    (λ honest. c.in-Err-step.ensures.same honest other.0) c.step.ensures.sound.1).crash fine settled))
     (device_or_not c.in-Err-step.fault)
 
 pub returns-in-Err-step-clause-behind : goal.returns-in-Err-step-clause-behind
@@ -104,14 +161,52 @@ loop-step-preserved g c =
     let ok = c.in-Ok-step.ensures in
     let fine = fine_where at.self.has_failed c.step.result c.in-Ok-step.answer c.in-Ok-step.is c.step.ensures.failed in
     let next = goes_on view g.D.Disk.failed g.met.D.Disk.lawful old _ _ at.self at.invariant.turn c.step.new.self (step_of c.step-item.result) c.in-Ok-step.answer
-    ok.ok c.step.ensures.rest ok.counted fine ok.bytes ok.settled c.step.ensures.crash ok.words c.step.ensures.sound.1 in
+    ok.ok c.step.ensures.rest ok.counted fine ok.bytes ok.settled c.step.ensures.crash c.step.ensures.sound.1 in
     record {
       len = c.push_reserved.ensures.len ∙ ap (λ n. n + 1) at.invariant.len;
       room = c.push_reserved.ensures.capacity ∙ at.invariant.room;
-      turn = subst (λ said. IsTurn view g.D.Disk.failed old (map step_of (take (at.step-index + 1) steps)) said c.step.new.self) (sym c.push_reserved.ensures.items)
-          (subst (λ ys. IsTurn view g.D.Disk.failed old ys (at.answers.items ++ c.in-Ok-step.answer ∷ []) c.step.new.self)
-          (sym (one_taken steps at.step-index c.step-item.result c.loop-step-test.true c.step-item.is)) next);
+      turn = turn_as view g.D.Disk.failed old c.step.new.self _ _ _ _ (one_taken steps at.step-index c.step-item.result c.loop-step-test.true c.step-item.is) c.push_reserved.ensures.items next;
     }
+
+pub returns-clause-ok : goal.returns-clause-ok
+returns-clause-ok g c =
+    let old = c.args.self.now in
+    let view = g.D.Disk.view in
+    let at = c.loop-step in
+    let all = take_all at.step-index c.args.steps.now (omega (arith, c.loop-step-test.false)) in
+    subst (λ xs. IsPlayed (view old.disk).is_honest old.settings old.store (view old.disk).seen (map step_of xs) at.answers.items at.self.store) all at.invariant.turn.played
+
+pub returns-clause-exact : goal.returns-clause-exact
+returns-clause-exact g c honest =
+    let old = c.args.self.now in
+    let at = c.loop-step in
+    let all = take_all at.step-index c.args.steps.now (omega (arith, c.loop-step-test.false)) in
+    subst (λ xs. IsPlayedOn old.settings old.store (g.D.Disk.view old.disk).seen (map step_of xs) at.answers.items at.self.store) all (at.invariant.turn.exact honest)
+
+pub returns-clause-bytes : goal.returns-clause-bytes
+returns-clause-bytes g c honest =
+    let old = c.args.self.now in
+    let view = g.D.Disk.view in
+    let s = old.settings in
+    let at = c.loop-step in
+    let all = take_all at.step-index c.args.steps.now (omega (arith, c.loop-step-test.false)) in
+    subst (λ xs. (view at.self.disk).seen ≡ (plays (batching s) s old.store (view old.disk).seen (map step_of xs)).bytes) all (at.invariant.turn.bytes honest)
+
+pub returns-clause-crash : goal.returns-clause-crash
+returns-clause-crash g c fine settled =
+    let old = c.args.self.now in
+    let view = g.D.Disk.view in
+    let s = old.settings in
+    let at = c.loop-step in
+    let all = take_all at.step-index c.args.steps.now (omega (arith, c.loop-step-test.false)) in
+    subst (λ xs. LeavesOnly (view old.disk) (view at.self.disk) (StandsAfterSome (batching s) s old.store (view old.disk).seen (map step_of xs))) all (at.invariant.turn.crash fine settled)
+
+pub returns-clause-words : goal.returns-clause-words
+returns-clause-words g c honest =
+    let old = c.args.self.now in
+    let at = c.loop-step in
+    let all = take_all at.step-index c.args.steps.now (omega (arith, c.loop-step-test.false)) in
+    subst (λ xs. HaveWords (batching old.settings) old.settings old.store (g.D.Disk.view old.disk).seen (map step_of xs)) all (at.invariant.turn.words honest)
 
 pub returns-clause-headline : goal.returns-clause-headline
 returns-clause-headline g c fine honest on_disk stands =
@@ -121,7 +216,7 @@ returns-clause-headline g c fine honest on_disk stands =
     let steps = c.args.steps.now in
     let sound : IsSound g.D.Disk.view old = rw (← c.self.view_is) c.self.invariant.sound in
     let all = take_all at.step-index steps (omega (arith, c.loop-step-test.false)) in
-    let words = subst (λ xs. HaveWords (batching old.settings) old.settings old.store file (map step_of xs)) all at.invariant.turn.words in
+    let words = subst (λ xs. HaveWords (batching old.settings) old.settings old.store file (map step_of xs)) all (at.invariant.turn.words honest) in
     c.steps_answer_as_a_map_and_are_read_back.ensures old.settings old.store on_disk file _ (record { is = sound.is; step = sound.step fine honest }) stands words
 
 pub returns-clause-sound : goal.returns-clause-sound

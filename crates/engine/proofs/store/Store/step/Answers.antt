@@ -1,20 +1,31 @@
 use Rattle.std.proofs.Common.{inl, refl, ap, sym, subst, ⊎_elim}
 use Rattle.std.proofs.lemmas.Result.{err_from_is_err_and}
+use Rattle.flush_log.specs.Disk.{IsSettled, LeavesOnly, Same}
 use Rattle.flush_log.specs.FlushText.{flush_text}
-use Rattle.flush_log.specs.Disk.{IsSettled, LeavesOnly}
 use Rattle.flush_log.proofs.ViewLaws.{weaker}
+use Rattle.recovery.proofs.ReadBytes.{same_self}
 use Rattle.engine.specs.Plays.{IsLeftInStep, step_of}
-use Rattle.engine.proofs.FlushDone.{flush-done-elsewhere}
+use Rattle.engine.specs.Steps.Step.{Batch, Flush, Clean}
+use Rattle.engine.proofs.PlayTurn.{device_or_not}
 use Rattle.engine.proofs.ReadLaws.{leaves_itself}
-use Rattle.engine.proofs.StepDone.{fine_where, empty_or_not, batch_never, batch_refused, batch_done, flush_done, flush_left}
+use Rattle.engine.proofs.StepDone.{fine_where, empty_or_not, words_of, batch_never, batch_refused, batch_done, flush_done, flush_refused, flush_left, clean_done, clean_refused, clean_left, clean_same}
 use Rattle.engine.proofs.store.Store.step.Goals as goal
+
+-- ---- a batch
 
 pub returns-in_err-batch-in-Batch-clause-refused : goal.returns-in_err-batch-in-Batch-clause-refused
 returns-in_err-batch-in-Batch-clause-refused g c fine =
     let old = c.args.self.now in
-    let view = g.D.Disk.view in
+    let file = (g.D.Disk.view old.disk).seen in
     let p = err_from_is_err_and c.from_residual.result c.from_residual.ensures.1 in
-    rw (p.1, p.2) (batch_refused old.settings old.store c.in-Batch.commands.now c.batch.result _ c.in_err-batch-in-Batch.was (view old.disk).seen _ _ (step_of c.args.step) (ap step_of c.in-Batch.is) (c.batch.ensures.refused fine))
+    rw (p.1, p.2) (file, λ _. refl, batch_refused old.settings old.store c.in-Batch.commands.now c.batch.result _ c.in_err-batch-in-Batch.was file _ _ (step_of c.args.step) (ap step_of c.in-Batch.is) (c.batch.ensures.refused fine))
+
+pub returns-in_err-batch-in-Batch-clause-same : goal.returns-in_err-batch-in-Batch-clause-same
+returns-in_err-batch-in-Batch-clause-same g c honest =
+    let view = g.D.Disk.view in
+    let old = c.args.self.now in
+    let p = err_from_is_err_and c.from_residual.result c.from_residual.ensures.1 in
+    rw (p.1, p.2) (λ other. subst (λ d. Same (view old.disk) (view d)) (sym c.batch.ensures.rest.1) (same_self (view old.disk)))
 
 pub returns-in_err-batch-in-Batch-clause-device : goal.returns-in_err-batch-in-Batch-clause-device
 returns-in_err-batch-in-Batch-clause-device g c =
@@ -30,10 +41,19 @@ returns-in_err-batch-in-Batch-clause-crash g c fine settled =
     subst (λ d. LeavesOnly (view old.disk) (view d) P) (sym c.batch.ensures.rest.1) (leaves_itself (view old.disk) P (g.met.D.Disk.lawful old.disk settled.honest) settled (inl refl))
 
 pub returns-in_ok-batch-in-Batch-clause-ok : goal.returns-in_ok-batch-in-Batch-clause-ok
-returns-in_ok-batch-in-Batch-clause-ok g c file =
+returns-in_ok-batch-in-Batch-clause-ok g c =
     let old = c.args.self.now in
+    let file = (g.D.Disk.view old.disk).seen in
     let ok = c.in_ok-batch-in-Batch.ensures in
-    (file, batch_done old.settings old.store c.batch.new.self.store file (step_of c.args.step) c.in-Batch.commands.now _ (ap step_of c.in-Batch.is) ok.allowed.0 ok.store ok.replies)
+    let same = ap step_of c.in-Batch.is in (
+      file,
+      record {
+        file = file;
+        shown = λ _. refl;
+        done = batch_done old.settings old.store c.batch.new.self.store file (step_of c.args.step) c.in-Batch.commands.now _ same ok.allowed.0 ok.store ok.replies;
+        words = words_of old.settings old.store.tree (Batch c.in-Batch.commands.now) (step_of c.args.step) same ok.allowed.1;
+      },
+    )
 
 pub returns-in_ok-batch-in-Batch-clause-crash : goal.returns-in_ok-batch-in-Batch-clause-crash
 returns-in_ok-batch-in-Batch-clause-crash g c fine settled =
@@ -42,6 +62,28 @@ returns-in_ok-batch-in-Batch-clause-crash g c fine settled =
     let P = IsLeftInStep old.settings old.store (view old.disk).seen (step_of c.args.step) in
     subst (λ d. LeavesOnly (view old.disk) (view d) P) (sym c.batch.ensures.rest.1) (leaves_itself (view old.disk) P (g.met.D.Disk.lawful old.disk settled.honest) settled (inl refl))
 
+-- ---- a flush
+
+pub returns-in_err-flush-in-Flush-clause-refused : goal.returns-in_err-flush-in-Flush-clause-refused
+returns-in_err-flush-in-Flush-clause-refused g c fine =
+    let old = c.args.self.now in
+    let file = (g.D.Disk.view old.disk).seen in
+    let p = err_from_is_err_and c.from_residual-in_err-flush-in-Flush.result c.from_residual-in_err-flush-in-Flush.ensures.1 in
+    rw (p.1, p.2) (file, λ _. refl, flush_refused old.settings old.store file (step_of c.args.step) (ap step_of c.in-Flush.is) _ _ _ (c.in_err-flush-in-Flush.ensures.refused fine))
+
+pub returns-in_err-flush-in-Flush-clause-unchanged : goal.returns-in_err-flush-in-Flush-clause-unchanged
+returns-in_err-flush-in-Flush-clause-unchanged g c =
+    let p = err_from_is_err_and c.from_residual-in_err-flush-in-Flush.result c.from_residual-in_err-flush-in-Flush.ensures.1 in
+    let left = c.in_err-flush-in-Flush.ensures in
+    rw p.1 (⊎_elim (λ device. (left.device device).0) (λ other. ap (λ x. x.store) (left.unchanged other.0)) (device_or_not _))
+
+pub returns-in_err-flush-in-Flush-clause-same : goal.returns-in_err-flush-in-Flush-clause-same
+returns-in_err-flush-in-Flush-clause-same g c honest =
+    let view = g.D.Disk.view in
+    let old = c.args.self.now in
+    let p = err_from_is_err_and c.from_residual-in_err-flush-in-Flush.result c.from_residual-in_err-flush-in-Flush.ensures.1 in
+    rw (p.1, p.2) (λ other. subst (λ x. Same (view old.disk) (view x.disk)) (sym (c.in_err-flush-in-Flush.ensures.unchanged other)) (same_self (view old.disk)))
+
 pub returns-in_err-flush-in-Flush-clause-crash : goal.returns-in_err-flush-in-Flush-clause-crash
 returns-in_err-flush-in-Flush-clause-crash g c fine settled =
     let old = c.args.self.now in
@@ -49,12 +91,20 @@ returns-in_err-flush-in-Flush-clause-crash g c fine settled =
     weaker (view old.disk) (view c.flush.new.self.disk) _ _ (λ d left. flush_left old.settings old.store (view old.disk).seen (step_of c.args.step) (ap step_of c.in-Flush.is) d left) (c.flush.ensures.crash fine settled)
 
 pub returns-in_ok-flush-in-Flush-clause-ok : goal.returns-in_ok-flush-in-Flush-clause-ok
-returns-in_ok-flush-in-Flush-clause-ok g c file =
+returns-in_ok-flush-in-Flush-clause-ok g c =
     let old = c.args.self.now in
-    let view = g.D.Disk.view in
-    let (n_is, (bytes, done)) = c.in_ok-flush-in-Flush.ensures.store in
-    let (more, there) = flush-done-elsewhere old.settings old.store (view old.disk).seen file c.flush.new.self.store bytes done in
-    (more, flush_done old.settings old.store c.flush.new.self.store file (step_of c.args.step) more _ (ap step_of c.in-Flush.is) n_is there)
+    let file = (g.D.Disk.view old.disk).seen in
+    let ok = c.in_ok-flush-in-Flush.ensures in
+    let same = ap step_of c.in-Flush.is in
+    let (n_is, (bytes, done)) = ok.store in (
+      bytes,
+      record {
+        file = file;
+        shown = λ _. refl;
+        done = flush_done old.settings old.store c.flush.new.self.store file (step_of c.args.step) bytes _ same n_is done;
+        words = words_of old.settings old.store.tree Flush (step_of c.args.step) same ok.frames;
+      },
+    )
 
 pub returns-in_ok-flush-in-Flush-clause-settled : goal.returns-in_ok-flush-in-Flush-clause-settled
 returns-in_ok-flush-in-Flush-clause-settled g c settled =
@@ -71,3 +121,58 @@ returns-in_ok-flush-in-Flush-clause-crash g c fine settled =
     let old = c.args.self.now in
     let view = g.D.Disk.view in
     weaker (view old.disk) (view c.flush.new.self.disk) _ _ (λ d left. flush_left old.settings old.store (view old.disk).seen (step_of c.args.step) (ap step_of c.in-Flush.is) d left) (c.flush.ensures.crash fine settled)
+
+-- ---- a clean
+
+pub returns-in_err-clean-in-Clean-clause-refused : goal.returns-in_err-clean-in-Clean-clause-refused
+returns-in_err-clean-in-Clean-clause-refused g c fine =
+    let old = c.args.self.now in
+    let p = err_from_is_err_and c.from_residual-in_err-clean-in-Clean.result c.from_residual-in_err-clean-in-Clean.ensures.1 in
+    let (file, read, why) = c.in_err-clean-in-Clean.ensures.read fine in
+    rw (p.1, p.2) (file, read.honest, clean_refused old.settings old.store file (step_of c.args.step) (ap step_of c.in-Clean.is) _ _ _ why)
+
+pub returns-in_err-clean-in-Clean-clause-same : goal.returns-in_err-clean-in-Clean-clause-same
+returns-in_err-clean-in-Clean-clause-same g c honest =
+    let view = g.D.Disk.view in
+    let old = c.args.self.now in
+    let p = err_from_is_err_and c.from_residual-in_err-clean-in-Clean.result c.from_residual-in_err-clean-in-Clean.ensures.1 in
+    rw (p.1, p.2) (λ other. clean_same old.has_failed (view old.disk) (view c.clean.new.self.disk) _ _
+    (λ bad. subst (λ x. Same (view old.disk) (view x.disk)) (sym (c.clean.ensures.failed bad).1) (same_self (view old.disk)))
+    (λ fine. c.in_err-clean-in-Clean.ensures.unwritten fine honest) other)
+
+pub returns-in_err-clean-in-Clean-clause-crash : goal.returns-in_err-clean-in-Clean-clause-crash
+returns-in_err-clean-in-Clean-clause-crash g c fine settled =
+    let old = c.args.self.now in
+    let view = g.D.Disk.view in
+    weaker (view old.disk) (view c.clean.new.self.disk) _ _ (λ d left. clean_left old.settings old.store (view old.disk).seen (step_of c.args.step) (ap step_of c.in-Clean.is) d left) (c.clean.ensures.crash fine settled)
+
+pub returns-in_ok-clean-in-Clean-clause-ok : goal.returns-in_ok-clean-in-Clean-clause-ok
+returns-in_ok-clean-in-Clean-clause-ok g c =
+    let old = c.args.self.now in
+    let same = ap step_of c.in-Clean.is in
+    let fine = fine_where old.has_failed c.clean.result _ c.in_ok-clean-in-Clean.was (λ bad. (c.clean.ensures.failed bad).0) in
+    let (file, read, (bytes, done, head)) = c.in_ok-clean-in-Clean.ensures.read fine in (
+      bytes,
+      record {
+        file = file;
+        shown = read.honest;
+        done = clean_done old.settings old.store c.clean.new.self.store file (step_of c.args.step) bytes _ same head done;
+        words = words_of old.settings old.store.tree Clean (step_of c.args.step) same tt;
+      },
+    )
+
+pub returns-in_ok-clean-in-Clean-clause-bytes : goal.returns-in_ok-clean-in-Clean-clause-bytes
+returns-in_ok-clean-in-Clean-clause-bytes g c honest =
+    let old = c.args.self.now in
+    let fine = fine_where old.has_failed c.clean.result _ c.in_ok-clean-in-Clean.was (λ bad. (c.clean.ensures.failed bad).0) in
+    let (file, read, (bytes, done, head)) = c.in_ok-clean-in-Clean.ensures.read fine in
+    clean_done old.settings old.store c.clean.new.self.store (g.D.Disk.view old.disk).seen (step_of c.args.step) _ _ (ap step_of c.in-Clean.is) head (c.in_ok-clean-in-Clean.ensures.bytes honest)
+
+pub returns-in_ok-clean-in-Clean-clause-settled : goal.returns-in_ok-clean-in-Clean-clause-settled
+returns-in_ok-clean-in-Clean-clause-settled g c settled = c.in_ok-clean-in-Clean.ensures.settled settled.honest
+
+pub returns-in_ok-clean-in-Clean-clause-crash : goal.returns-in_ok-clean-in-Clean-clause-crash
+returns-in_ok-clean-in-Clean-clause-crash g c fine settled =
+    let old = c.args.self.now in
+    let view = g.D.Disk.view in
+    weaker (view old.disk) (view c.clean.new.self.disk) _ _ (λ d left. clean_left old.settings old.store (view old.disk).seen (step_of c.args.step) (ap step_of c.in-Clean.is) d left) (c.clean.ensures.crash fine settled)

@@ -1,4 +1,4 @@
-use Rattle.std.proofs.Common.{◌≤◌, IsTrue, List, ℕ, sym, ap, subst, ◌∙◌}
+use Rattle.std.proofs.Common.{◌≤◌, IsTrue, List, ℕ, inr, sym, ap, subst, ◌∙◌}
 use Rattle.flush_log.specs.Commit.{AreWithin}
 use Rattle.flush_log.specs.FlushText.{flush_text}
 use Rattle.flush_log.specs.Images.{AreOfText, FitSegments, frames_in}
@@ -36,7 +36,7 @@ returns-clause-written g c = rw (← c.plan.view_is) (λ st same is some p hones
     let inside = subst (λ (n : ℕ). AreWithin s (disk_size s) (spans s n text)) same (plan-inside s st _ _ _ is some p) in
     let still = subst IsTrue (sym c.is_gate_open.ensures.kept.honest) honest in
     plan-written s st _ c.args.tail same (disk.view c.args.disk.now) (disk.view c.is_gate_open.new.disk) (disk.view c.write_flush.new.disk) (c.is_gate_open.ensures.same honest) c.write_flush.result
-    (c.write_flush.ensures.written text of (some_frame text some) inside still))
+    (c.write_flush.ensures.written text of (inr (some_frame text some)) inside still))
 
 pub returns-clause-crash : goal.returns-clause-crash
 returns-clause-crash g c = rw (← c.plan.view_is) (λ st same is some p settled.
@@ -50,4 +50,4 @@ returns-clause-crash g c = rw (← c.plan.view_is) (λ st same is some p settled
     let read = c.is_gate_open.ensures.same settled.honest in
     let gate = gate-still c.in_ok-is_open.is_open _ old mid read (c.in_ok-is_open.ensures.gate settled.honest) in
     plan-crashed s st _ _ _ c.args.tail p same old mid (disk.view c.write_flush.new.disk) read
-    (c.write_flush.ensures.crash text of (some_frame text some) inside (settled_still old mid c.is_gate_open.ensures.kept read settled) gate))
+    (c.write_flush.ensures.crash text of (inr (some_frame text some)) inside (settled_still old mid c.is_gate_open.ensures.kept read settled) gate))

@@ -1,0 +1,11 @@
+use Rattle.bwsh.proofs.RunLemmas.{left_shown, AreLeft-left_shown}
+use Rattle.bwsh.proofs.BytesLaws.{lines-left, accepted-left, end-left}
+use Rattle.bwsh.proofs.laws.what_was_left_decides_the_answers.Goals as goal
+
+pub returns : goal.returns
+returns c = record {
+  lines = lines-left;
+  accepted = accepted-left;
+  end = end-left;
+  some = λ settings st file orders. (left_shown settings st file orders, AreLeft-left_shown settings st file orders);
+}

@@ -1,0 +1,8 @@
+use Rattle.cleaner.proofs.SkimLaws.{found-none, fault-some}
+use Rattle.cleaner.proofs.skim_segment.LogSoFar.into_pages.Goals as goal
+
+pub returns-in-Some : goal.returns-in-Some
+returns-in-Some c told h = fault-some c.args.self.pages c.args.self.fault told c.in-Some.fault c.in-Some.is h
+
+pub returns-in-None : goal.returns-in-None
+returns-in-None c told h = found-none c.args.self.pages c.args.self.fault told c.in-None.is h

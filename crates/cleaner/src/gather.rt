@@ -1,0 +1,150 @@
+//! What is kept of each page while a log is read for a clean: what its frames tell, and those of them that are to be carried on.
+//!
+//! No frame is kept but those of pages that live in the head segment, and of these the bytes as they stand.
+ghost use Rattle.std.specs.Prelude.{◌≡◌, ◌++◌, ◌∷◌, [], List, IfOk, OnOk};
+ghost use Rattle.frame_codec.specs.Frame.{bytes_of};
+ghost use Rattle.frame_codec.specs.Skimmed.{IsSkimmed};
+ghost use Rattle.flush_log.specs.Reading.{Found};
+ghost use Rattle.cleaner.specs.Kept.{told_with, with_run, with_base, image_with, AreLive};
+
+use flush_log::image::Image;
+use frame_codec::{FrameKind, Skimmed};
+use indexmap::IndexMap;
+use std::alloc::{AllocError, Global};
+
+/// What the frames of a page tell that came so far. What stands before a base or a free frame no longer counts.
+#[derive(Clone, Copy, Debug, PartialEq, Eq)]
+pub enum Told {
+    /// There is neither a base nor a free frame yet.
+    Nothing,
+    /// There is a leaf.
+    Leaf,
+    /// There is an index page.
+    Index,
+    /// There is no such page.
+    Free,
+    /// They fit no page: a run stands where there is none, or one of the other kind.
+    Unfit,
+}
+
+/// What is kept of a page.
+#[derive(Drop)]
+pub struct Kept {
+    /// What its frames tell.
+    pub told: Told,
+    /// Its frames from its last base on, where that stands in the head segment; else none.
+    pub image: Image,
+}
+
+/// What is kept of each page, by page id. The segment where the first frame stands is taken for the log's head segment.
+#[derive(Drop)]
+pub struct LivePages {
+    pub(crate) alloc: Global,
+    /// The segment where the first frame stands, once one came.
+    pub first: Option<u64>,
+    /// What is kept, under the number of the page id.
+    pub by_pid: IndexMap<u64, Kept>,
+}
+
+// What is told with one more frame of this kind.
+fn told_with(told: Told, kind: FrameKind) -> Told
+    ensures { result ≡ told_with told kind }
+{
+    match kind {
+        FrameKind::FullLeaf => Told::Leaf,
+        FrameKind::DeltaLeaf => match told {
+            Told::Nothing => Told::Nothing,
+            Told::Leaf => Told::Leaf,
+            Told::Index => Told::Unfit,
+            Told::Free => Told::Unfit,
+            Told::Unfit => Told::Unfit,
+        },
+        FrameKind::FullIndex => Told::Index,
+        FrameKind::DeltaIndex => match told {
+            Told::Nothing => Told::Nothing,
+            Told::Leaf => Told::Unfit,
+            Told::Index => Told::Index,
+            Told::Free => Told::Unfit,
+            Told::Unfit => Told::Unfit,
+        },
+        FrameKind::Free => Told::Free,
+    }
+}
+
+// The image that begins with a base: that alone, where it stands in the head segment.
+fn with_base(alloc: Global, in_head: bool, frame: &[u8]) -> Result<Image, AllocError>
+    ensures { IfOk result (λ now. now ≡ with_base in_head frame.now) }
+{
+    let mut image = Image::new(alloc);
+    if in_head {
+        image.push(frame)?;
+    }
+    Ok(image)
+}
+
+// The image with a run behind it. Of a page that doesn't live in the head segment no run is kept.
+fn with_run(mut image: Image, frame: &[u8]) -> Result<Image, AllocError>
+    ensures { IfOk result (λ now. now ≡ with_run image frame.now) }
+{
+    if image.len() != 0 {
+        image.push(frame)?;
+    }
+    Ok(image)
+}
+
+// What is carried on of a page with one more frame of this kind.
+fn image_with(
+    alloc: Global,
+    image: Image,
+    kind: FrameKind,
+    in_head: bool,
+    frame: &[u8],
+) -> Result<Image, AllocError>
+    ensures { IfOk result (λ now. now ≡ image_with image kind in_head frame.now) }
+{
+    match kind {
+        FrameKind::FullLeaf => with_base(alloc, in_head, frame),
+        FrameKind::DeltaLeaf => with_run(image, frame),
+        FrameKind::FullIndex => with_base(alloc, in_head, frame),
+        FrameKind::DeltaIndex => with_run(image, frame),
+        FrameKind::Free => Ok(Image::new(alloc)),
+    }
+}
+
+impl LivePages {
+    /// Of a log of which no frame came yet.
+    pub fn new(alloc: Global) -> Self
+        ensures { AreLive result [] }
+    {
+        LivePages {
+            alloc,
+            first: None,
+            by_pid: IndexMap::new(alloc),
+        }
+    }
+
+    /// Takes the next frame of the log, which stands in this segment, by what was skimmed of it and its bytes. After an `Err` what is
+    /// kept of its page may be lost.
+    pub fn add(&mut self, segment: u64, skimmed: Skimmed, frame: &[u8]) -> Result<(), AllocError>
+        ensures { (found : List Found) (f : Found) → f.segment ≡ segment → IsSkimmed skimmed f.frame → frame.now ≡ bytes_of f.frame →
+            AreLive self.old found → OnOk result (AreLive self.new (found ++ f ∷ [])) }
+    {
+        let pid = skimmed.pid.0;
+        let first = self.first.unwrap_or(segment);
+        let before = match self.by_pid.swap_remove(&pid) {
+            Some(kept) => kept,
+            None => Kept {
+                told: Told::Nothing,
+                image: Image::new(self.alloc),
+            },
+        };
+        let Kept { told, image } = before;
+        let kept = Kept {
+            told: told_with(told, skimmed.kind),
+            image: image_with(self.alloc, image, skimmed.kind, segment == first, frame)?,
+        };
+        self.by_pid.insert(pid, kept)?;
+        self.first = Some(first);
+        Ok(())
+    }
+}

@@ -1,0 +1,90 @@
+use Rattle.std.proofs.Common.{refl, sym, ⊎_elim, ◌∙◌}
+use Rattle.engine.specs.State.{store_in}
+use Rattle.engine.proofs.CleanDone.{slot-in, cleaned-now, cleaned-sound, refused-sound}
+use Rattle.engine.proofs.store.Store.clean.Goals as goal
+
+pub clean-requires-clause-slot : goal.clean-requires-clause-slot
+clean-requires-clause-slot g c = rw (c.root.ensures, c.height.ensures) c.self.invariant.sound.is.slot
+
+-- ---- done
+
+pub invariant_of-self : goal.invariant_of-self
+invariant_of-self g c =
+    let s = c.self.inside.settings in
+    let tree = c.self.inside.tree in
+    let st = store_in tree c.self.inside.log in
+    let is = slot-in tree c.self.inside.log _ _ c.root.ensures c.height.ensures in
+    let (file, read, told) = c.in-Ok.ensures.read in
+    let (bytes, done) = told st is in
+    let law = c.a_clean_keeps_the_store.ensures in
+    record {
+      home = c.self.invariant.home;
+      sound = cleaned-sound g.D.Disk.view s st c.self.inside.disk c.clean.new.disk c.self.inside.has_failed c.self.invariant.sound c.if-self.false c.clean.ensures.kept
+          (store_in tree c.log_of-self-inside.result) file bytes law.kept law.step (cleaned-now _ tree c.in-Ok.committed c.log_of-self-inside.result bytes c.log_of-self-inside.ensures done)
+          (λ honest. cleaned-now _ tree c.in-Ok.committed c.log_of-self-inside.result _ c.log_of-self-inside.ensures (c.in-Ok.ensures.written honest st is));
+    }
+
+pub returns-in-Ok-clause-read : goal.returns-in-Ok-clause-read
+returns-in-Ok-clause-read g c = rw (← c.self.view_is) (λ fine.
+    let tree = c.self.inside.tree in
+    let log = c.self.inside.log in
+    let (file, read, told) = c.in-Ok.ensures.read in
+    let (bytes, done) = told (store_in tree log) (slot-in tree log _ _ c.root.ensures c.height.ensures) in
+    (file, read, (bytes, cleaned-now _ tree c.in-Ok.committed c.log_of-self-inside.result bytes c.log_of-self-inside.ensures done, refl)))
+
+pub returns-in-Ok-clause-bytes : goal.returns-in-Ok-clause-bytes
+returns-in-Ok-clause-bytes g c = rw (← c.self.view_is) (λ honest.
+    let tree = c.self.inside.tree in
+    let log = c.self.inside.log in
+    cleaned-now _ tree c.in-Ok.committed c.log_of-self-inside.result _ c.log_of-self-inside.ensures (c.in-Ok.ensures.written honest (store_in tree log) (slot-in tree log _ _ c.root.ensures c.height.ensures)))
+
+pub returns-in-Ok-clause-crash : goal.returns-in-Ok-clause-crash
+returns-in-Ok-clause-crash g c = rw (← c.self.view_is) (λ fine settled.
+    let tree = c.self.inside.tree in
+    let log = c.self.inside.log in
+    c.clean.ensures.crash settled (store_in tree log) (slot-in tree log _ _ c.root.ensures c.height.ensures) (c.self.invariant.sound.step fine settled.honest))
+
+pub returns-in-Ok-clause-sound : goal.returns-in-Ok-clause-sound
+returns-in-Ok-clause-sound g c = (rw (← c.self.view_is) c.self.invariant.sound, (invariant_of-self g c).sound)
+
+-- ---- refused
+
+pub invariant_of-self-in-Err : goal.invariant_of-self-in-Err
+invariant_of-self-in-Err g c =
+    let s = c.self.inside.settings in
+    let tree = c.self.inside.tree in
+    let st = store_in tree c.self.inside.log in
+    record {
+      home = c.self.invariant.home;
+      sound = refused-sound g.D.Disk.view s st c.self.inside.disk c.clean.new.disk c.self.inside.has_failed c.self.invariant.sound c.if-self.false c.clean.ensures.kept
+          c.is_of_disk-self-inside.result _ _ c.is_of_disk-self-inside.ensures (λ honest. c.in-Err.ensures.unwritten honest st (slot-in tree c.self.inside.log _ _ c.root.ensures c.height.ensures));
+    }
+
+pub returns-in-Err-clause-read : goal.returns-in-Err-clause-read
+returns-in-Err-clause-read g c = rw (← c.self.view_is) (λ fine.
+    let tree = c.self.inside.tree in
+    let log = c.self.inside.log in
+    let (file, read, told) = c.in-Err.ensures.read in
+    (file, read, told (store_in tree log) (slot-in tree log _ _ c.root.ensures c.height.ensures)))
+
+pub returns-in-Err-clause-fine : goal.returns-in-Err-clause-fine
+returns-in-Err-clause-fine g c = rw (← c.self.view_is) (λ other.
+    (⊎_elim (λ yes. absurd (other yes.0)) (λ no. no.1 ∙ sym c.if-self.false) c.is_of_disk-self-inside.ensures, c.in-Err.ensures.uncounted other))
+
+pub returns-in-Err-clause-device : goal.returns-in-Err-clause-device
+returns-in-Err-clause-device g c device = ⊎_elim (λ yes. yes.1) (λ no. absurd (no.0 device)) c.is_of_disk-self-inside.ensures
+
+pub returns-in-Err-clause-unwritten : goal.returns-in-Err-clause-unwritten
+returns-in-Err-clause-unwritten g c = rw (← c.self.view_is) (λ fine honest.
+    let tree = c.self.inside.tree in
+    let log = c.self.inside.log in
+    c.in-Err.ensures.unwritten honest (store_in tree log) (slot-in tree log _ _ c.root.ensures c.height.ensures))
+
+pub returns-in-Err-clause-crash : goal.returns-in-Err-clause-crash
+returns-in-Err-clause-crash g c = rw (← c.self.view_is) (λ fine settled.
+    let tree = c.self.inside.tree in
+    let log = c.self.inside.log in
+    c.clean.ensures.crash settled (store_in tree log) (slot-in tree log _ _ c.root.ensures c.height.ensures) (c.self.invariant.sound.step fine settled.honest))
+
+pub returns-in-Err-clause-sound : goal.returns-in-Err-clause-sound
+returns-in-Err-clause-sound g c = (rw (← c.self.view_is) c.self.invariant.sound, (invariant_of-self-in-Err g c).sound)

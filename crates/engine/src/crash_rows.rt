@@ -1,0 +1,152 @@
+//! Flushes and cleans that are stopped at each write and sync, as a machine is that crashes: which store comes back, whatever the crash
+//! left where something had been written.
+use crate::fault_rows::{ROWS, Row};
+use crate::log_rows::{SHORTEST, play};
+use crate::recovery_rows::{FIRST_STORE, write_opened};
+use crate::store::Store;
+use crate::tests::S;
+use flush_log::{CrashDisk, Fill};
+use keys::Fault;
+use std::alloc::Global;
+use std::process::Abort;
+use std::test::Fail;
+use std::thread::Threads;
+
+const FILLS: [Fill; 5] = [
+    Fill::Before,
+    Fill::Written,
+    Fill::Byte(0),
+    Fill::Byte(1),
+    Fill::Byte(255),
+];
+
+// The disk of a new store under the settings S on which these steps were played.
+fn disk_after(
+    rt: &(impl Threads + Sync),
+    alloc: Global,
+    steps: &[&str],
+) -> Result<CrashDisk<Global>, Fault> {
+    let disk = CrashDisk::new(alloc, SHORTEST)?;
+    let mut store = Store::create(alloc, disk, S).map_err(|(fault, _disk)| fault)?;
+    play(rt, alloc, &mut store, steps)?;
+    Ok(store.close())
+}
+
+// Opens the store, plays these steps on a disk that stops at the call of this number, and appends what they answer.
+fn play_to_stop(
+    rt: &(impl Threads + Sync),
+    alloc: Global,
+    text: &mut String,
+    disk: CrashDisk<Global>,
+    steps: &[&str],
+    call: u64,
+) -> Result<CrashDisk<Global>, Fault> {
+    let mut disk = disk;
+    disk.stop_at(call);
+    let mut store = Store::recover(rt, alloc, disk).map_err(|(fault, _disk)| fault)?;
+    text.push_str(play(rt, alloc, &mut store, steps)?.as_str())?;
+    Ok(store.close())
+}
+
+// The store that comes back after a crash.
+fn store_back(
+    rt: &(impl Threads + Sync),
+    alloc: Global,
+    disk: &CrashDisk<Global>,
+    fill: Fill,
+) -> Result<String, Fault> {
+    let mut text = String::new(alloc);
+    let crashed = disk.crashed(fill)?;
+    write_opened(rt, alloc, &mut text, Store::recover(rt, alloc, crashed))?;
+    Ok(text)
+}
+
+// Looks at a disk that was stopped at the call of this number, of a row. Up to the write that opens the gate the store of before
+// comes back; then the other one, where the gate may stand open; and once the step was answered the other one always.
+fn look_at_stopped(
+    rt: &(impl Abort + Threads + Sync),
+    alloc: Global,
+    row: &Row,
+    disk: &CrashDisk<Global>,
+    call: u64,
+) -> Result<(), Fault> {
+    for fill in FILLS {
+        let may_be_open = matches!(fill, Fill::Written | Fill::Byte(1));
+        let is_after = call > row.calls || (call.saturating_add(1) >= row.calls && may_be_open);
+        let told = if is_after { row.after } else { row.before };
+        let back = store_back(rt, alloc, disk, fill)?;
+        assert!(rt; back.as_str() == told, "{} {call}: {back}", row.name);
+    }
+    Ok(())
+}
+
+fn look_where_it_stops(
+    rt: &(impl Abort + Threads + Sync),
+    alloc: Global,
+    row: &Row,
+) -> Result<(), Fault> {
+    let disk = disk_after(rt, alloc, row.on_disk)?;
+    for call in 1..row.calls.saturating_add(2) {
+        let copy = disk.crashed(Fill::Written)?;
+        let mut text = String::new(alloc);
+        let stopped = play_to_stop(rt, alloc, &mut text, copy, row.steps, call)?;
+        assert_eq!(rt;
+            text.as_str() == row.answers,
+            call <= row.calls,
+            "{} {call}",
+            row.name
+        );
+        look_at_stopped(rt, alloc, row, &stopped, call)?;
+    }
+    Ok(())
+}
+
+#[test]
+fn one_of_two_stores_comes_back_where_a_step_is_stopped(rt: HostRuntime) -> Result<(), Fail> {
+    for row in &ROWS {
+        look_where_it_stops(&rt, rt.alloc(), row)?;
+    }
+    Ok(())
+}
+
+// What comes back where a flush is stopped while it writes the slot behind its gate, and then another one in its first write: a gate
+// that is closed is not written, so nothing opens it. In the end that flush is answered.
+fn answer_after_two_stops(
+    rt: &(impl Threads + Sync),
+    alloc: Global,
+    first: Fill,
+    second: Fill,
+) -> Result<String, Fault> {
+    let mut text = String::new(alloc);
+    let disk = disk_after(rt, alloc, &[])?;
+    let disk = play_to_stop(rt, alloc, &mut text, disk, &["a=1", "flush"], 3)?;
+    let disk = write_opened(
+        rt,
+        alloc,
+        &mut text,
+        Store::recover(rt, alloc, disk.crashed(first)?),
+    )?;
+    let disk = play_to_stop(rt, alloc, &mut text, disk, &["b=2", "flush"], 1)?;
+    let disk = write_opened(
+        rt,
+        alloc,
+        &mut text,
+        Store::recover(rt, alloc, disk.crashed(second)?),
+    )?;
+    play_to_stop(rt, alloc, &mut text, disk, &["b=2", "flush"], 7)?;
+    Ok(text)
+}
+
+#[test]
+fn a_closed_gate_stays_closed_through_two_stops(rt: HostRuntime) -> Result<(), Fail> {
+    let told = format!(in rt.alloc();
+        "N; 1: 9 Device{FIRST_STORE}N; 1: 9 Device{FIRST_STORE}N; flushed 2; "
+    )?;
+    for first in FILLS {
+        for second in FILLS {
+            let text = answer_after_two_stops(&rt, rt.alloc(), first, second)?;
+            assert!(rt; text.as_str() == told.as_str(), "{text}");
+        }
+    }
+    Ok(())
+}

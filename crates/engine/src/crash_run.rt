@@ -1,0 +1,284 @@
+//! A long run by a seed on a disk that stops: batches, flushes, cleans, openings and crashes. What comes back is what a map of std held at
+//! the last flush that was answered, or at the one that was stopped.
+use crate::store::Store;
+use crate::tests::{
+    S, are_letters, draw, drawn_command, next_number, write_reply_of_map, write_row, write_rows,
+};
+use flush_log::{CrashDisk, Fill};
+use keys::{Command, Fault, Settings};
+use scan::Rows;
+use std::alloc::{AllocError, Global};
+use std::collections::BTreeMap;
+use std::test::Fail;
+use std::thread::Threads;
+
+const EIGHT_SEGMENTS: Settings = Settings { segments: 8, ..S };
+
+// The length of the shortest disk under these settings: 512 bytes and the segments.
+const LENGTH: usize = 2_560;
+
+// How many keys there are, each of one byte.
+const KEYS: u8 = 24;
+
+// What a store is to hold: the pairs in memory; those of its last flush as text; and those of a flush that was stopped.
+#[derive(Drop)]
+struct Known {
+    map: BTreeMap<u8, u8, Global>,
+    flushed: String,
+    stopped: Option<String>,
+}
+
+// How often what happened; `stopped` counts stores that came back as of a flush that was stopped.
+#[derive(Clone, Copy)]
+struct Counts {
+    wrong: u32,
+    crashes: u32,
+    flushes: u32,
+    cleans: u32,
+    openings: u32,
+    stopped: u32,
+}
+
+fn count(number: &mut u32) {
+    *number = number.saturating_add(1);
+}
+
+// The pairs of the map, as those of a range are told.
+fn text_of_map(alloc: Global, map: &BTreeMap<u8, u8, Global>) -> Result<String, AllocError> {
+    let mut text = String::new(alloc);
+    for (key, value) in map.iter() {
+        write_row(&mut text, &[*key], &[*value])?;
+    }
+    text.push(';')?;
+    Ok(text)
+}
+
+// Makes the map that of the rows.
+fn take_rows(map: &mut BTreeMap<u8, u8, Global>, rows: Rows<'_>) -> Result<(), AllocError> {
+    map.clear();
+    for (key, value) in rows {
+        let value = value.first().copied().unwrap_or(0);
+        map.insert(key.first().copied().unwrap_or(0), value)?;
+    }
+    Ok(())
+}
+
+fn is_stopped(known: &Known, text: &str) -> bool {
+    match &known.stopped {
+        Some(stopped) => stopped.as_str() == text,
+        None => false,
+    }
+}
+
+// Looks at a store that came back, and notes what it holds: what was flushed, or was to be flushed by a flush that was stopped.
+fn look_at_opened(
+    rt: &(impl Threads + Sync),
+    alloc: Global,
+    store: &Store<CrashDisk<Global>>,
+    known: &mut Known,
+    counts: &mut Counts,
+) -> Result<(), Fault> {
+    let mut text = String::new(alloc);
+    write_rows(&mut text, store.range(b"", None, 100)?)?;
+    if text.as_str() != known.flushed.as_str() {
+        if is_stopped(known, &text) {
+            count(&mut counts.stopped);
+        } else {
+            count(&mut counts.wrong);
+        }
+    }
+    take_rows(&mut known.map, store.range(b"", None, 100)?)?;
+    if store.verify(rt)?.pairs != known.map.len() as u128 {
+        count(&mut counts.wrong);
+    }
+    known.flushed = text;
+    known.stopped = None;
+    Ok(())
+}
+
+// Draws a batch of a few commands, and appends the map's replies.
+fn draw_few(
+    alloc: Global,
+    map: &mut BTreeMap<u8, u8, Global>,
+    state: &mut u64,
+    letters: &mut String,
+) -> Result<Vec<Command<Global>>, AllocError> {
+    let mut batch = Vec::new(alloc);
+    for _place in 0..next_number(state) % 8 {
+        let (kind, key, digit) = draw(state, 4);
+        let drawn = (kind, key % KEYS, digit);
+        batch.push(drawn_command(alloc, drawn)?)?;
+        write_reply_of_map(letters, map, drawn)?;
+    }
+    Ok(batch)
+}
+
+fn do_batch(
+    rt: &(impl Threads + Sync),
+    alloc: Global,
+    store: &mut Store<CrashDisk<Global>>,
+    known: &mut Known,
+    state: &mut u64,
+    counts: &mut Counts,
+) -> Result<(), Fault> {
+    let mut letters = String::new(alloc);
+    let batch = draw_few(alloc, &mut known.map, state, &mut letters)?;
+    if !are_letters(alloc, &letters, store.batch(rt, &batch))? {
+        count(&mut counts.wrong);
+    }
+    Ok(())
+}
+
+// Whether the disk goes on.
+fn do_clean(store: &mut Store<CrashDisk<Global>>, counts: &mut Counts) -> Result<bool, Fault> {
+    match store.clean() {
+        Ok(_head) => {
+            count(&mut counts.cleans);
+            Ok(true)
+        }
+        Err(Fault::Device) => Ok(false),
+        Err(Fault::NothingToClean) => Ok(true),
+        Err(Fault::Full) => Ok(true),
+        Err(fault) => Err(fault),
+    }
+}
+
+// Flushes, and where the log is full cleans it. Returns whether the disk goes on.
+fn do_flush(
+    alloc: Global,
+    store: &mut Store<CrashDisk<Global>>,
+    known: &mut Known,
+    counts: &mut Counts,
+) -> Result<bool, Fault> {
+    let now = text_of_map(alloc, &known.map)?;
+    match store.flush() {
+        Ok(_sequence) => {
+            count(&mut counts.flushes);
+            known.flushed = now;
+            Ok(true)
+        }
+        Err(Fault::Device) => {
+            known.stopped = Some(now);
+            Ok(false)
+        }
+        Err(Fault::Full) => do_clean(store, counts),
+        Err(fault) => Err(fault),
+    }
+}
+
+// Does a step: of six, three are batches, two flushes and one a clean. Returns whether the disk goes on.
+fn do_step(
+    rt: &(impl Threads + Sync),
+    alloc: Global,
+    store: &mut Store<CrashDisk<Global>>,
+    known: &mut Known,
+    state: &mut u64,
+    counts: &mut Counts,
+) -> Result<bool, Fault> {
+    match next_number(state) % 6 {
+        0 => do_clean(store, counts),
+        1 | 2 => do_flush(alloc, store, known, counts),
+        _ => {
+            do_batch(rt, alloc, store, known, state, counts)?;
+            Ok(true)
+        }
+    }
+}
+
+// Does some steps, up to one in which the disk stops.
+fn do_steps(
+    rt: &(impl Threads + Sync),
+    alloc: Global,
+    store: &mut Store<CrashDisk<Global>>,
+    known: &mut Known,
+    state: &mut u64,
+    counts: &mut Counts,
+) -> Result<(), Fault> {
+    for _step in 0..next_number(state) % 12 {
+        if !do_step(rt, alloc, store, known, state, counts)? {
+            return Ok(());
+        }
+    }
+    Ok(())
+}
+
+// The disk after a crash.
+fn crash(
+    disk: &CrashDisk<Global>,
+    state: &mut u64,
+    counts: &mut Counts,
+) -> Result<CrashDisk<Global>, AllocError> {
+    count(&mut counts.crashes);
+    let byte = (next_number(state) % 256) as u8;
+    let fill = match next_number(state) % 6 {
+        0 => Fill::Before,
+        1 => Fill::Byte(0),
+        2 => Fill::Byte(1),
+        3 => Fill::Byte(byte),
+        _ => Fill::Written,
+    };
+    disk.crashed(fill)
+}
+
+// A round: the store is opened on a disk that stops at one of its next calls, and looked at; some steps; and then, of five times once it is
+// opened again, unless the disk has stopped, and else there is a crash.
+fn do_round(
+    rt: &(impl Threads + Sync),
+    alloc: Global,
+    disk: CrashDisk<Global>,
+    known: &mut Known,
+    state: &mut u64,
+    counts: &mut Counts,
+) -> Result<CrashDisk<Global>, Fault> {
+    let mut disk = disk;
+    disk.stop_at((next_number(state) % 24).saturating_add(1));
+    let mut store = Store::recover(rt, alloc, disk).map_err(|(fault, _disk)| fault)?;
+    look_at_opened(rt, alloc, &store, known, counts)?;
+    do_steps(rt, alloc, &mut store, known, state, counts)?;
+    if next_number(state) % 5 > 0 {
+        return Ok(crash(store.disk(), state, counts)?);
+    }
+    match store.reopen(rt) {
+        Ok(store) => {
+            count(&mut counts.openings);
+            look_at_opened(rt, alloc, &store, known, counts)?;
+            Ok(store.close())
+        }
+        Err(refused) => Ok(crash(&refused.1, state, counts)?),
+    }
+}
+
+fn run(rt: &(impl Threads + Sync), alloc: Global) -> Result<Counts, Fault> {
+    let map = BTreeMap::new(alloc);
+    let flushed = text_of_map(alloc, &map)?;
+    let mut known = Known {
+        map,
+        flushed,
+        stopped: None,
+    };
+    let mut counts = Counts {
+        wrong: 0,
+        crashes: 0,
+        flushes: 0,
+        cleans: 0,
+        openings: 0,
+        stopped: 0,
+    };
+    let mut state = 20_261_124;
+    let disk = CrashDisk::new(alloc, LENGTH)?;
+    let made = Store::create(alloc, disk, EIGHT_SEGMENTS);
+    let mut disk = made.map_err(|(fault, _disk)| fault)?.close();
+    for _round in 0..500 {
+        disk = do_round(rt, alloc, disk, &mut known, &mut state, &mut counts)?;
+    }
+    Ok(counts)
+}
+
+#[test]
+fn what_comes_back_is_what_was_flushed(rt: HostRuntime) -> Result<(), Fail> {
+    let counts = run(&rt, rt.alloc())?;
+    assert_eq!(rt; counts.wrong, 0);
+    assert!(rt; counts.crashes >= 300 && counts.openings >= 20);
+    assert!(rt; counts.flushes >= 100 && counts.cleans >= 50 && counts.stopped >= 10);
+    Ok(())
+}

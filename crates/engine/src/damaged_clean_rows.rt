@@ -1,0 +1,144 @@
+//! Cleans of a log whose bytes are damaged: which fault is answered, and that the store goes on.
+use crate::clean_rows::LONG_AND_Z;
+use crate::failing_disk_rows::FailingDisk;
+use crate::log_rows::{SHORTEST, play};
+use crate::store::Store;
+use crate::tests::S;
+use flush_log::{Disk, DiskFault};
+use keys::Fault;
+use std::alloc::Global;
+use std::test::Fail;
+use std::thread::Threads;
+
+// A disk that between two of its syncs reads other bytes at these places than it has.
+#[derive(Drop)]
+struct DamagedDisk {
+    disk: FailingDisk,
+    changes: &'static [(usize, u8)],
+    // How many syncs there were, and behind which of them it is damaged.
+    syncs: u64,
+    damaged_after: u64,
+}
+
+// Puts the bytes that stand at these places of the disk into what was read from this place on.
+fn damage(bytes: &mut [u8], at: u64, changes: &[(usize, u8)]) {
+    for (place, value) in changes {
+        if let Some(byte) = bytes.get_mut(place.wrapping_sub(at as usize)) {
+            *byte = *value;
+        }
+    }
+}
+
+impl Disk for DamagedDisk {
+    ghost view = { λ d. ⟦<FailingDisk as Disk>⟧.view d.disk };
+
+    ghost failed = { λ d. ⟦<FailingDisk as Disk>⟧.failed d.disk };
+
+    ghost lawful = { λ disk honest. absurd (cc) };
+
+    fn len(&self) -> u64 {
+        self.disk.len()
+    }
+
+    fn failures(&self) -> u64 {
+        self.disk.failures()
+    }
+
+    fn read_at(&mut self, at: u64, buf: &mut [u8]) -> Result<(), DiskFault> {
+        self.disk.read_at(at, buf)?;
+        if self.syncs == self.damaged_after {
+            damage(buf, at, self.changes);
+        }
+        Ok(())
+    }
+
+    fn write_at(&mut self, at: u64, bytes: &[u8]) -> Result<(), DiskFault> {
+        self.disk.write_at(at, bytes)
+    }
+
+    fn sync(&mut self) -> Result<(), DiskFault> {
+        self.syncs = self.syncs.saturating_add(1);
+        self.disk.sync()
+    }
+}
+
+// What a disk of log 16 reads otherwise, and what its clean answers then.
+struct Row {
+    changes: &'static [(usize, u8)],
+    fault: &'static str,
+}
+
+const ROWS: [Row; 8] = [
+    Row {
+        changes: &[(519, 1)],
+        fault: "14 BadSegment 0",
+    },
+    Row {
+        changes: &[(783, 2)],
+        fault: "14 BadSegment 1",
+    },
+    Row {
+        changes: &[(528, 9)],
+        fault: "15 BadFrame 0 16",
+    },
+    // In the padding.
+    Row {
+        changes: &[(767, 1)],
+        fault: "15 BadFrame 0 254",
+    },
+    Row {
+        changes: &[(784, 0)],
+        fault: "15 BadFrame 1 16",
+    },
+    // The first fault counts.
+    Row {
+        changes: &[(783, 2), (784, 0), (767, 1)],
+        fault: "15 BadFrame 0 254",
+    },
+    // The last run of page 0 is told of page 2, an index page.
+    Row {
+        changes: &[(796, 2)],
+        fault: "16 BadStructure 1 2",
+    },
+    // A fault of the bytes goes before that.
+    Row {
+        changes: &[(796, 2), (767, 1)],
+        fault: "15 BadFrame 0 254",
+    },
+];
+
+// What log 16's clean answers twice where the log is damaged, and then a flush, behind which it isn't, and a clean.
+fn answer_of_damaged(
+    rt: &(impl Threads + Sync),
+    alloc: Global,
+    changes: &'static [(usize, u8)],
+) -> Result<String, Fault> {
+    let disk = DamagedDisk {
+        disk: FailingDisk::new(alloc, &[0; SHORTEST], 0)?,
+        changes,
+        syncs: 0,
+        damaged_after: 16,
+    };
+    let made = Store::create(alloc, disk, S);
+    let mut store = made.map_err(|(fault, _disk)| fault)?;
+    play(rt, alloc, &mut store, &LONG_AND_Z)?;
+    let mut text = play(rt, alloc, &mut store, &["clean"])?;
+    text.push_str(", ")?;
+    text.push_str(play(rt, alloc, &mut store, &["clean"])?.as_str())?;
+    text.push_str(", ")?;
+    text.push_str(play(rt, alloc, &mut store, &["flush", "clean"])?.as_str())?;
+    Ok(text)
+}
+
+#[test]
+fn a_damaged_log_is_not_cleaned(rt: HostRuntime) -> Result<(), Fail> {
+    for row in &ROWS {
+        let text = answer_of_damaged(&rt, rt.alloc(), row.changes)?;
+        let told = format!(in rt.alloc();
+            "0: {}, 0: {}, flushed 7; cleaned 1; ",
+            row.fault, row.fault
+        )?;
+        assert!(rt; text.as_str() == told.as_str(), "{text}");
+    }
+    Ok(())
+}

@@ -1,0 +1,118 @@
+//! A clean of which a call of the disk fails, reads too, and one to which memory is refused.
+use crate::clean_rows::{LONG_AND_Z, LONG_STORE};
+use crate::failing_disk_rows::failing_store;
+use crate::log_rows::{look, play};
+use crate::recovery_rows::{store_after, write_opened, write_store};
+use crate::store::Store;
+use flush_log::{Disk, MemDisk};
+use keys::Fault;
+use std::alloc::Global;
+use std::test::Fail;
+use std::thread::Threads;
+
+// The disk of log 16 before its clean.
+pub(crate) const BEFORE_CLEAN: &str = "head 0, tail 309, number 6; root 2, height 2\n\
+    0 low= log=Upto1 leaf runs=1: a=0123456789abcdef b=2\n\
+    1 low=c log=Upto0 leaf runs=0: c=3 d=4 e=5\n\
+    2 low= log=Upto0 index runs=0: =0 c=1\n\
+    \x20a=0123456789abcdef b=2 c=3 d=4 e=5; 3 pages, height 2, 5 pairs";
+
+// How many calls come before the clean of log 16: two make the store, and the flushes make 7, 8, 8, 8 and 9.
+const CALLS_BEFORE: u64 = 42;
+
+// What log 16's clean answers where the call of this number fails, and another clean; and then the store, opened again.
+fn answer_of_failing_clean(
+    rt: &(impl Threads + Sync),
+    alloc: Global,
+    fails_at: u64,
+) -> Result<String, Fault> {
+    let mut store = failing_store(alloc, fails_at)?;
+    play(rt, alloc, &mut store, &LONG_AND_Z)?;
+    let mut text = play(rt, alloc, &mut store, &["clean"])?;
+    text.push_str(", ")?;
+    text.push_str(play(rt, alloc, &mut store, &["clean"])?.as_str())?;
+    text.push_str(", ")?;
+    write_opened(rt, alloc, &mut text, store.reopen(rt))?;
+    Ok(text)
+}
+
+// A slot, two segments and a gate are read; and then there are seven writes and syncs, of which the last but one opens the gate.
+#[test]
+fn a_store_has_failed_where_a_call_of_its_clean_fails(rt: HostRuntime) -> Result<(), Fail> {
+    let alloc = rt.alloc();
+    let mut store = failing_store(alloc, 0)?;
+    play(&rt, alloc, &mut store, &LONG_AND_Z)?;
+    assert_eq!(rt; store.disk().calls, CALLS_BEFORE);
+    assert_eq!(rt; store.clean(), Ok(1));
+    let last = store.disk().calls;
+    assert_eq!(rt; last, CALLS_BEFORE + 11);
+    for fails_at in CALLS_BEFORE + 1..CALLS_BEFORE + 12 {
+        let text = answer_of_failing_clean(&rt, alloc, fails_at)?;
+        let store = if fails_at < last {
+            BEFORE_CLEAN
+        } else {
+            LONG_STORE
+        };
+        let told = format!(in alloc; "0: 9 Device, 0: 8 Failed, {store}")?;
+        assert!(rt; text.as_str() == told.as_str(), "{fails_at}: {text}");
+    }
+    Ok(())
+}
+
+// Whether store and disk are those of log 16 before its clean.
+fn is_before_clean(
+    alloc: Global,
+    store: &Store<MemDisk<Global>>,
+    pages: &str,
+    bytes: &[u8],
+) -> Result<bool, Fault> {
+    Ok(
+        store.head_tail_and_sequence() == (0, 309, 6)
+            && look(alloc, store)?.as_str() == pages
+            && store.disk().bytes() == bytes,
+    )
+}
+
+// Whether the store is cleaned; where memory is refused, store and disk are as before, and then it is cleaned. Where the disk's record
+// finds no memory, either store is on it.
+fn is_cleaned_again(rt: &(impl Threads + Sync), alloc: Global) -> Result<bool, Fault> {
+    let mut store = store_after(rt, alloc, &LONG_AND_Z)?;
+    let pages = look(alloc, &store)?;
+    let bytes = store.disk().bytes().to_vec(alloc)?;
+    let mut cleaned = store.clean();
+    if cleaned == Err(Fault::NoMemory) {
+        if !is_before_clean(alloc, &store, &pages, &bytes)? {
+            return Ok(false);
+        }
+        cleaned = store.clean();
+    }
+    let is_same = look(alloc, &store)?.as_str() == pages.as_str();
+    let opened = store.reopen(rt).map_err(|(fault, _disk)| fault)?;
+    let mut text = String::new(alloc);
+    write_store(rt, alloc, &mut text, &opened)?;
+    Ok(
+        is_same
+            && match cleaned {
+                Ok(head) => head == 1 && text.as_str() == LONG_STORE,
+                Err(Fault::Device) => text.as_str() == LONG_STORE || text.as_str() == BEFORE_CLEAN,
+                Err(_) => false,
+            },
+    )
+}
+
+// To be run with each allocation refused in turn too, by `rt try --test --fail-alloc N` for each N, in a copy where this is the only
+// test. Where one is refused to what stands round the clean, one of the two can't be told.
+#[test]
+fn a_clean_without_memory_can_be_tried_again(rt: HostRuntime) {
+    let mut right = 0usize;
+    for _time in 0..2 {
+        match is_cleaned_again(&rt, rt.alloc()) {
+            Ok(is_right) => {
+                assert!(rt; is_right);
+                right = right.saturating_add(1);
+            }
+            Err(_) => {}
+        }
+    }
+    assert!(rt; right >= 1);
+}

@@ -1,0 +1,52 @@
+use Rattle.std.proofs.Common.{◌≡◌, ℕ, length, replicate, refl, ap, ◌∙◌}
+use Rattle.flush_log.specs.Commit.{seen_after}
+use Rattle.flush_log.specs.Record.{LeftNow, calls_of}
+use Rattle.flush_log.specs.Crash.{left_with}
+use Rattle.flush_log.proofs.CrashLaws.{left-written, left-now, tear-fits, tear-left, seen_as, seen_has}
+use Rattle.flush_log.proofs.crash_disk.CrashDisk.crashed.Goals as goal
+
+pub tear-requires : goal.tear-requires
+tear-requires g c =
+    let old = c.args.self.now in
+    let copied : c.in_ok-bytes.bytes.items ≡ old.settled.items = c.in_ok-bytes.ensures.items_if_clones_equal (λ x y h. h) ∙ c.deref.ensures.value in
+    tear-fits old.disk.calls.items c.calls.result.now c.calls.ensures (length old.disk.bytes.items) old.since old.settled.items c.in_ok-bytes.bytes.items copied old.disk.in_range old.left.long
+
+pub returns-clause-filled : goal.returns-clause-filled
+returns-clause-filled g c =
+    let old = c.args.self.now in
+    let n = length old.disk.bytes.items in
+    let copied : c.in_ok-bytes.bytes.items ≡ old.settled.items = c.in_ok-bytes.ensures.items_if_clones_equal (λ x y h. h) ∙ c.deref.ensures.value in
+    seen_as c.holding.result (λ disk. seen_after (calls_of disk.disk.calls.items) (replicate (length disk.disk.bytes.items) 0)) c.tear.new.file.items (left_with c.args.fill (calls_of old.disk.calls.items) (replicate n 0) (replicate n 0))
+    (tear-left old.disk.calls.items c.calls.result.now c.calls.ensures n old.since old.settled.items c.args.fill c.in_ok-bytes.bytes.items c.tear.new.file.items copied old.left c.tear.ensures.torn) c.holding.ensures.seen
+
+pub returns-clause-left : goal.returns-clause-left
+returns-clause-left g c =
+    let old = c.args.self.now in
+    let n = length old.disk.bytes.items in
+    let left = left_with c.args.fill (calls_of old.disk.calls.items) (replicate n 0) (replicate n 0) in
+    seen_has c.holding.result (λ disk. seen_after (calls_of disk.disk.calls.items) (replicate (length disk.disk.bytes.items) 0)) left (LeftNow (replicate n 0) (calls_of old.disk.calls.items))
+    (left-now c.args.fill n (calls_of old.disk.calls.items) left old.disk.in_range refl) (returns-clause-filled g c)
+
+pub returns-clause-written : goal.returns-clause-written
+returns-clause-written g c is =
+    let old = c.args.self.now in
+    let zeros = replicate (length old.disk.bytes.items) 0 in
+    let calls = calls_of old.disk.calls.items in
+    seen_as c.holding.result (λ disk. seen_after (calls_of disk.disk.calls.items) (replicate (length disk.disk.bytes.items) 0)) (left_with c.args.fill calls zeros zeros) (seen_after calls zeros)
+    (ap (λ fill. left_with fill calls zeros zeros) is ∙ left-written calls zeros) (returns-clause-filled g c)
+
+pub returns-clause-settled : goal.returns-clause-settled
+returns-clause-settled g c = c.holding.ensures.settled
+
+pub returns-clause-size : goal.returns-clause-size
+returns-clause-size g c =
+    let old = c.args.self.now in
+    let copied : c.in_ok-bytes.bytes.items ≡ old.settled.items = c.in_ok-bytes.ensures.items_if_clones_equal (λ x y h. h) ∙ c.deref.ensures.value in
+    seen_as c.holding.result (λ disk. length {A = ℕ} (replicate (length disk.disk.bytes.items) 0)) (length c.tear.new.file.items) (length {A = ℕ} (replicate (length old.disk.bytes.items) 0))
+    (c.tear.ensures.long ∙ ap length copied ∙ old.left.long) c.holding.ensures.size
+
+pub returns-clause-failures : goal.returns-clause-failures
+returns-clause-failures g c = c.holding.ensures.failures
+
+pub returns-clause-running : goal.returns-clause-running
+returns-clause-running g c = c.holding.ensures.running

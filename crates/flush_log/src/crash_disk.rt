@@ -1,0 +1,246 @@
+//! A disk for tests that stops as a machine does.
+ghost use Rattle.std.specs.Prelude.{◌≡◌, ◌+◌, ◌≤◌, ◌∷◌, [], length, replicate, None, refl, IfOk};
+ghost use Rattle.std.proofs.Common.{inl, ⊎_elim, sym, ap, ◌∙◌, arith};
+ghost use Rattle.std.proofs.Props.{props};
+ghost use Rattle.std.proofs.lemmas.List.{length-replicate};
+ghost use Rattle.flush_log.specs.Disk.{IsSettled, Kept, Same};
+ghost use Rattle.flush_log.specs.Record.{AreCalls, end_of_call, call_of, calls_of};
+ghost use Rattle.flush_log.specs.Crash.{torn_by, left_with, all_torn, IsSettledAt};
+
+use crate::disk::{Disk, DiskFault, count_failure};
+use crate::mem_disk::{MemDisk, RecordedCall, overwrite};
+use std::alloc::{AllocError, Allocator};
+
+/// What a crash leaves of a range that was written since the last sync.
+#[derive(Clone, Copy)]
+pub enum Fill {
+    /// The bytes that were there before it was written.
+    Before,
+    /// The bytes that were written.
+    Written,
+    /// This byte everywhere.
+    Byte(u8),
+}
+
+/// A disk in memory that can stop as a machine does: from a given call on every write and sync fails. A write at which it stops is
+/// made, and a sync does nothing; what comes later does nothing either, while a read still answers. What a crash leaves can be had at
+/// any moment, in three ways. The disk is honest, so all that is promised of a store on an honest disk holds on it.
+///
+/// It takes two calls to make a store, a write and a sync, and six to flush it first. Here the disk stops as the gate of the new
+/// slot is written, which is the fifth of the flush; a byte that is no gate is left there:
+///
+/// ```
+/// let mut disk = CrashDisk::new(alloc, 1_536)?;
+/// disk.stop_at(7);
+/// let mut store = Store::create(alloc, disk, settings).map_err(|(fault, _disk)| fault)?;
+/// store.batch(rt, &commands)?;
+/// assert!(rt; store.flush() == Err(Fault::Device));
+/// let left = store.disk().crashed(Fill::Byte(0xff))?;
+/// let opened = Store::recover(rt, alloc, left);
+/// ```
+///
+/// To crash at each call in turn, run the program once without `stop_at`, and then as often as `calls` counted. With each write and
+/// sync the disk takes more memory, as `MemDisk` does.
+#[derive(Drop)]
+pub struct CrashDisk<A: Allocator + Copy> {
+    alloc: A,
+    disk: MemDisk<A>,
+    // What a read gave at the last sync, and how many calls the record had then.
+    settled: Vec<u8, A>,
+    since: usize,
+    // The number of the call at which it stops.
+    stops_at: Option<u64>,
+    calls: u64,
+    failures: u64,
+    ghost left: { IsSettledAt (replicate (length disk.bytes.items) 0) (calls_of disk.calls.items) since settled.items } by { Prim.hlevel props },
+}
+
+// Where a write or a sync lies, by the call at which the disk stops.
+#[derive(Clone, Copy, PartialEq, Eq)]
+enum Moment {
+    Running,
+    Stopping,
+    Stopped,
+}
+
+impl<A: Allocator + Copy> CrashDisk<A> {
+    /// A disk of zeros, settled, that never stops. `Err` where memory was refused.
+    pub fn new(alloc: A, len: usize) -> Result<Self, AllocError>
+        ensures size { IfOk result (λ disk. (⟦<CrashDisk<A> as Disk>⟧.view disk).size ≡ len) }
+        ensures seen { IfOk result (λ disk. (⟦<CrashDisk<A> as Disk>⟧.view disk).seen ≡ replicate len 0) }
+        ensures settled { IfOk result (λ disk. IsSettled (⟦<CrashDisk<A> as Disk>⟧.view disk)) }
+        ensures failures { IfOk result (λ disk. ⟦<CrashDisk<A> as Disk>⟧.failed disk ≡ 0) }
+        ensures running { IfOk result (λ disk. disk.stops_at ≡ None) }
+    {
+        let mut bytes = Vec::new(alloc);
+        bytes.resize(len, 0)?;
+        CrashDisk::holding(alloc, bytes)
+    }
+
+    // A disk that holds these bytes, settled, and never stops.
+    fn holding(alloc: A, bytes: Vec<u8, A>) -> Result<Self, AllocError>
+        ensures size { IfOk result (λ disk. (⟦<CrashDisk<A> as Disk>⟧.view disk).size ≡ length bytes.items) }
+        ensures seen { IfOk result (λ disk. (⟦<CrashDisk<A> as Disk>⟧.view disk).seen ≡ bytes.items) }
+        ensures settled { IfOk result (λ disk. IsSettled (⟦<CrashDisk<A> as Disk>⟧.view disk)) }
+        ensures failures { IfOk result (λ disk. ⟦<CrashDisk<A> as Disk>⟧.failed disk ≡ 0) }
+        ensures running { IfOk result (λ disk. disk.stops_at ≡ None) }
+    {
+        let settled = bytes.to_vec(alloc)?;
+        let disk = MemDisk::holding(alloc, bytes)?;
+        let since = disk.calls().len();
+        Ok(CrashDisk {
+            alloc,
+            disk,
+            settled,
+            since,
+            stops_at: None,
+            calls: 0,
+            failures: 0,
+        })
+    }
+
+    /// From the write or sync with this number on, counted from 1 from now on, the disk has stopped.
+    pub fn stop_at(&mut self, call: u64)
+        ensures same { Same (⟦<CrashDisk<A> as Disk>⟧.view self.old) (⟦<CrashDisk<A> as Disk>⟧.view self.new) }
+        ensures kept { Kept (⟦<CrashDisk<A> as Disk>⟧.view self.old) (⟦<CrashDisk<A> as Disk>⟧.view self.new) }
+        ensures failures { ⟦<CrashDisk<A> as Disk>⟧.failed self.new ≡ ⟦<CrashDisk<A> as Disk>⟧.failed self.old }
+    {
+        self.stops_at = Some(self.calls.saturating_add(call));
+    }
+
+    /// How many writes and syncs came since the disk was made, with those that failed. The count stops at its greatest.
+    pub fn calls(&self) -> u64
+        ensures { result ≡ self.now.calls }
+    {
+        self.calls
+    }
+
+    /// What a read gives, of the whole disk.
+    pub fn bytes(&self) -> &[u8]
+        ensures { result.now ≡ (⟦<CrashDisk<A> as Disk>⟧.view self.now).seen }
+    {
+        self.disk.bytes()
+    }
+
+    /// What a crash of this disk now may leave, as a disk that is settled and never stops: what a read gave at the last sync, with
+    /// each range written since filled as `fill` says, one after the other. This disk stays as it is. `Err` where memory was refused.
+    pub fn crashed(&self, fill: Fill) -> Result<CrashDisk<A>, AllocError>
+        ensures left { IfOk result (λ disk. (⟦<CrashDisk<A> as Disk>⟧.view self.now).may_leave (⟦<CrashDisk<A> as Disk>⟧.view disk).seen) }
+        // Which of all that it may leave.
+        ensures filled { IfOk result (λ disk. (⟦<CrashDisk<A> as Disk>⟧.view disk).seen
+            ≡ left_with fill (calls_of self.now.disk.calls.items)
+            (replicate (length self.now.disk.bytes.items) 0) (replicate (length self.now.disk.bytes.items) 0)) }
+        ensures written { fill ≡ Fill.Written → IfOk result (λ disk. (⟦<CrashDisk<A> as Disk>⟧.view disk).seen
+            ≡ (⟦<CrashDisk<A> as Disk>⟧.view self.now).seen) }
+        ensures settled { IfOk result (λ disk. IsSettled (⟦<CrashDisk<A> as Disk>⟧.view disk)) }
+        ensures size { IfOk result (λ disk. (⟦<CrashDisk<A> as Disk>⟧.view disk).size ≡ (⟦<CrashDisk<A> as Disk>⟧.view self.now).size) }
+        ensures failures { IfOk result (λ disk. ⟦<CrashDisk<A> as Disk>⟧.failed disk ≡ 0) }
+        ensures running { IfOk result (λ disk. disk.stops_at ≡ None) }
+    {
+        let mut bytes = self.settled.to_vec(self.alloc)?;
+        tear(&mut bytes, &self.disk.calls()[self.since..], fill);
+        CrashDisk::holding(self.alloc, bytes)
+    }
+}
+
+// Counts a write or a sync, and says where it lies.
+fn next_moment(stops_at: Option<u64>, calls: &mut u64) -> Moment {
+    *calls = calls.saturating_add(1);
+    match stops_at {
+        Some(stop) if *calls == stop => Moment::Stopping,
+        Some(stop) if stop < *calls => Moment::Stopped,
+        _ => Moment::Running,
+    }
+}
+
+// Fills the ranges of these calls, one after the other.
+fn tear<A: Allocator>(file: &mut Vec<u8, A>, calls: &[RecordedCall<A>], fill: Fill)
+    requires { AreCalls (length file.old.items) (calls_of calls.now) }
+    ensures torn { file.new.items ≡ all_torn fill (calls_of calls.now) file.old.items }
+    ensures long { length file.new.items ≡ length file.old.items }
+{
+    for call in calls {
+        tear_call(file, call, fill);
+    }
+}
+
+// Fills the range of a call, where it is a write.
+fn tear_call<A: Allocator>(file: &mut Vec<u8, A>, call: &RecordedCall<A>, fill: Fill)
+    requires { end_of_call (call_of call.now) ≤ length file.old.items }
+    ensures torn { file.new.items ≡ all_torn fill (call_of call.now ∷ []) file.old.items }
+    ensures long { length file.new.items ≡ length file.old.items }
+{
+    match call {
+        RecordedCall::Write { at, bytes } => fill_range(file, *at as usize, bytes, fill),
+        RecordedCall::Sync => {}
+    }
+}
+
+// Fills the range of a write.
+fn fill_range<A: Allocator>(file: &mut Vec<u8, A>, at: usize, bytes: &[u8], fill: Fill)
+    requires { at + length bytes.now ≤ length file.old.items }
+    ensures torn { file.new.items ≡ torn_by fill at bytes.now file.old.items }
+    ensures long { length file.new.items ≡ length file.old.items }
+{
+    match fill {
+        Fill::Before => {}
+        Fill::Written => overwrite(file, at, bytes),
+        Fill::Byte(byte) => file[at..at + bytes.len()].fill(byte),
+    }
+}
+
+impl<A: Allocator + Copy> Disk for CrashDisk<A> {
+    ghost view = { λ d. ⟦<MemDisk<A> as Disk>⟧.view d.disk };
+
+    ghost failed = { λ d. d.failures };
+
+    ghost lawful = { λ d _. record {
+      whole = sym (ap length d.disk.recorded) ∙ sym (length-replicate (length d.disk.bytes.items) 0);
+      may_stay = inl refl;
+      counts_now = λ t c _ now. inl now;
+      only_now = λ c left. ⊎_elim (λ now. now) (λ earlier. absurd (Prim.omega (arith, earlier.1, earlier.2))) left;
+    } };
+
+    fn len(&self) -> u64 {
+        self.disk.len()
+    }
+
+    fn failures(&self) -> u64 {
+        self.failures
+    }
+
+    fn read_at(&mut self, at: u64, buf: &mut [u8]) -> Result<(), DiskFault> {
+        let from = at as usize;
+        buf.copy_from_slice(&self.disk.bytes()[from..from + buf.len()]);
+        Ok(())
+    }
+
+    fn write_at(&mut self, at: u64, bytes: &[u8]) -> Result<(), DiskFault> {
+        let moment = next_moment(self.stops_at, &mut self.calls);
+        if moment == Moment::Stopped {
+            return Err(count_failure(&mut self.failures));
+        }
+        match self.disk.write_recorded(at, bytes) {
+            Ok(()) if moment == Moment::Running => Ok(()),
+            _ => Err(count_failure(&mut self.failures)),
+        }
+    }
+
+    fn sync(&mut self) -> Result<(), DiskFault> {
+        if next_moment(self.stops_at, &mut self.calls) != Moment::Running {
+            return Err(count_failure(&mut self.failures));
+        }
+        match self.disk.sync_recorded() {
+            Ok(()) => {
+                tear(
+                    &mut self.settled,
+                    &self.disk.calls()[self.since..],
+                    Fill::Written,
+                );
+                self.since = self.disk.calls().len();
+                Ok(())
+            }
+            Err(_) => Err(count_failure(&mut self.failures)),
+        }
+    }
+}

@@ -1,0 +1,162 @@
+//! Frames told without being kept: which one stands at the front of bytes, whatever these are. No memory is taken.
+ghost use Rattle.std.specs.Prelude.{◌≡◌, ◌≤◌, ◌&&◌, length, take, drop, None, Some, IfSome, MatchOption};
+ghost use Rattle.std.specs.Option.{option_copied};
+ghost use Rattle.keys.specs.Bytes.{Bytes, Pairs, Changes};
+ghost use Rattle.keys.specs.Cells.{read_where, counted};
+ghost use Rattle.frame_codec.specs.Codecs.{both, read_each};
+ghost use Rattle.frame_codec.specs.Frame as said;
+ghost use Rattle.frame_codec.specs.Frame.{full, delta, bytes_of, is_key, are_entries, is_full, is_run, is_content};
+ghost use Rattle.frame_codec.specs.Reading.{read_content, read_frame};
+ghost use Rattle.frame_codec.specs.Skimmed.{kind_of, IsSkimmed, is_above};
+
+use crate::cell::{FrameCell, Spelled};
+use crate::kinds::{DELTA_INDEX, DELTA_LEAF, FREE, FULL_INDEX, FULL_LEAF};
+use crate::parts::{frame_size, read_header, read_key, read_length};
+use keys::{Pid, Settings, Value, compare};
+use std::alloc::Global;
+
+/// What kind of frame one is.
+#[derive(Clone, Copy, Debug, PartialEq, Eq)]
+pub enum FrameKind {
+    /// The page is a leaf, with a base under a low key.
+    FullLeaf,
+    /// The page, a leaf, got a run.
+    DeltaLeaf,
+    /// The page is an index page, with a base under a low key.
+    FullIndex,
+    /// The page, an index page, got a run.
+    DeltaIndex,
+    /// There is no such page.
+    Free,
+}
+
+/// What is told of a frame of which nothing is kept.
+#[derive(Clone, Copy, Debug, PartialEq, Eq)]
+pub struct Skimmed {
+    /// The page of which the frame says something.
+    pub pid: Pid,
+    /// What kind of frame it is.
+    pub kind: FrameKind,
+    /// How many bytes it takes, from its kind to its last byte.
+    pub size: usize,
+}
+
+// Whether the key is above the last one, if there is one.
+fn is_above(last: Option<&[u8]>, key: &[u8]) -> bool
+    ensures { result ≡ is_above (option_copied last.entry) key.now }
+{
+    match last {
+        None => true,
+        Some(last) => compare(last, key).is_lt(),
+    }
+}
+
+// The key of the entry of a base, or of the change of a run, at the front, if a frame may have it, with the bytes behind it.
+fn skip_entry<'a, C: Spelled>(bytes: &'a [u8], settings: &Settings) -> Option<(&'a [u8], &'a [u8])>
+    ensures { let read = read_where (λ e. is_key settings.now e.0 && C.is_short settings.now e.1) ((both counted C.codec).read bytes.now) in
+        MatchOption result (read ≡ None) (λ p. (cell : C) × (read ≡ Some ((p.0.now, cell), p.1.now))) }
+{
+    let (key, rest) = read_key(bytes, settings)?;
+    let rest = C::skip(rest, settings)?;
+    Some((key, rest))
+}
+
+/// How many bytes the keys of as many entries as this, or changes, have together, if a frame may have these, with the bytes
+/// behind them. So the memory of a base is asked for once, and for no bytes in which none stands.
+pub(crate) fn skim_entries<'a, C: Spelled>(
+    count: usize,
+    bytes: &'a [u8],
+    settings: &Settings,
+) -> Option<(usize, &'a [u8])>
+    ensures { let read = read_where (are_entries settings.now (C.is_short settings.now)) (read_each (both counted C.codec) count bytes.now) in
+        MatchOption result (read ≡ None) (λ p. (es : Pairs C) × (read ≡ Some (es, p.1.now))) }
+{
+    if count > settings.fan as usize {
+        return None;
+    }
+    let mut sum: usize = 0;
+    let mut last: Option<&[u8]> = None;
+    let mut rest = bytes;
+    for _at in 0..count {
+        let (key, behind) = skip_entry::<C>(rest, settings)?;
+        if !is_above(last, key) {
+            return None;
+        }
+        sum = sum.saturating_add(key.len());
+        last = Some(key);
+        rest = behind;
+    }
+    Some((sum, rest))
+}
+
+// The bytes behind the low key and the base at the front, if a frame may have them.
+fn skim_full<'a, V: FrameCell>(bytes: &'a [u8], settings: &Settings) -> Option<&'a [u8]>
+    ensures { let read = read_where (λ p. is_full settings.now (V.is_short settings.now) p.0 p.1) ((full V.codec).read bytes.now) in
+        MatchOption result (read ≡ None) (λ rest. (p : Bytes × Pairs V) × (read ≡ Some (p, rest.now))) }
+{
+    let (_low, rest) = read_key(bytes, settings)?;
+    let (count, rest) = read_length(rest)?;
+    let (_key_bytes, rest) = skim_entries::<V>(count, rest, settings)?;
+    Some(rest)
+}
+
+// The bytes behind the run at the front, if a frame may have it.
+fn skim_run<'a, V: FrameCell>(bytes: &'a [u8], settings: &Settings) -> Option<&'a [u8]>
+    ensures { let read = read_where (is_run settings.now (V.is_short settings.now)) ((delta V.codec).read bytes.now) in
+        MatchOption result (read ≡ None) (λ rest. (run : Changes V) × (read ≡ Some (run, rest.now))) }
+{
+    let (count, rest) = read_length(bytes)?;
+    if count == 0 {
+        return None;
+    }
+    let (_key_bytes, rest) = skim_entries::<Option<V>>(count, rest, settings)?;
+    Some(rest)
+}
+
+// The kind that this number names, with the bytes behind the content of that kind at the front, if a store may have it.
+fn skim_content<'a>(
+    number: u8,
+    bytes: &'a [u8],
+    settings: &Settings,
+) -> Option<(FrameKind, &'a [u8])>
+    ensures { let read = read_where (is_content settings.now) (read_content number bytes.now) in
+        MatchOption result (read ≡ None) (λ p. (content : said.Content) × (read ≡ Some (content, p.1.now)) × (kind_of content ≡ p.0)) }
+{
+    match number {
+        FULL_LEAF => {
+            let rest = skim_full::<Value<Global>>(bytes, settings)?;
+            Some((FrameKind::FullLeaf, rest))
+        }
+        DELTA_LEAF => {
+            let rest = skim_run::<Value<Global>>(bytes, settings)?;
+            Some((FrameKind::DeltaLeaf, rest))
+        }
+        FULL_INDEX => {
+            let rest = skim_full::<Pid>(bytes, settings)?;
+            Some((FrameKind::FullIndex, rest))
+        }
+        DELTA_INDEX => {
+            let rest = skim_run::<Pid>(bytes, settings)?;
+            Some((FrameKind::DeltaIndex, rest))
+        }
+        FREE => Some((FrameKind::Free, bytes)),
+        _ => None,
+    }
+}
+
+/// As `read_frame`, but of the frame at the front it is only told which it is, and no memory is taken. It is there for
+/// exactly the same bytes and settings.
+pub fn skim_frame(bytes: &[u8], settings: &Settings) -> Option<Skimmed>
+    ensures found { let read = read_frame settings.now bytes.now in MatchOption result (read ≡ None)
+        (λ k. (f : said.Frame) × (read ≡ Some (f, drop k.size bytes.now)) × IsSkimmed k f × (take k.size bytes.now ≡ bytes_of f)) }
+    ensures within { IfSome result (λ k. k.size ≤ length bytes.now) }
+{
+    let (number, len, pid, content) = read_header(bytes)?;
+    let (kind, rest) = skim_content(number, content, settings)?;
+    let size = frame_size(bytes, len, content, rest)?;
+    Some(Skimmed {
+        pid: Pid(pid),
+        kind,
+        size,
+    })
+}

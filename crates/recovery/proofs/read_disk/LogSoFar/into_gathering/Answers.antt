@@ -1,8 +1,0 @@
-use Rattle.recovery.proofs.SoFarLaws.{found-none, fault-some}
-use Rattle.recovery.proofs.read_disk.LogSoFar.into_gathering.Goals as goal
-
-pub returns-in-Some : goal.returns-in-Some
-returns-in-Some c told h = fault-some c.args.self.gathering.by_pid c.args.self.fault told c.in-Some.fault c.in-Some.is h
-
-pub returns-in-None : goal.returns-in-None
-returns-in-None c told h = found-none c.args.self.gathering.by_pid c.args.self.fault told c.in-None.is h
