@@ -1,5 +1,5 @@
 -- What is chosen of the pages that are kept.
-use Rattle.std.specs.Prelude.{◌≡◌, ◌≢◌, ◌⊎◌, ℕ, ◌≤◌, Bool, true, false, cond, ◌||◌, nat_eq, if◌then◌else◌, List, [], ◌∷◌, ◌++◌, length, map, flat_map, Option, Some, None, is_some, unwrap_or}
+use Rattle.std.specs.Prelude.{◌≡◌, ◌≢◌, ◌⊎◌, ℕ, ◌≤◌, Bool, true, false, cond, ◌||◌, nat_eq, List, [], ◌∷◌, ◌++◌, length, map, flat_map, Option, Some, None, is_some, unwrap_or}
 use Rattle.std.proofs.Common.{refl, sym, ap, ◌∙◌, subst, inl, inr, arith, append_assoc, append-nil}
 use Rattle.std.specs.List.{AllByRecursion, IsDistinct}
 use Rattle.std.specs.List.Sorted.{IsSorted}
@@ -18,8 +18,8 @@ use Rattle.mapping.proofs.KnownPids.{none_above, rising-with_numbers}
 use Rattle.frame_codec.specs.Frame.{Content, Frame, bytes_of}
 use Rattle.flush_log.specs.Images.{frames_in as frames_of_images, AreOfText}
 use Rattle.flush_log.specs.Reading.{Found}
-use Rattle.recovery.specs.LogPages.{contents_of, in_log, pids_of, broken_under, broken_in}
-use Rattle.recovery.specs.PageByLog.{InLog, is_start, from_last, told_page, is_broken}
+use Rattle.recovery.specs.LogPages.{in_log, pids_of, broken_under, broken_in}
+use Rattle.recovery.specs.PageByLog.{is_start, from_last, told_page, is_broken}
 use Rattle.recovery.specs.StoreOfDisk.{frames_in}
 use Rattle.recovery.proofs.GatherLaws.{same_rising, keys-rise, among_found}
 use Rattle.recovery.proofs.PagesLaws.{pids, among-pids_of}

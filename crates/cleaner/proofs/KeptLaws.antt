@@ -1,22 +1,21 @@
 -- What is kept of each page, one frame more at a time.
-use Rattle.std.specs.Prelude.{◌≡◌, ◌≢◌, ℕ, Bool, true, false, cond, ◌&&◌, ◌||◌, nat_eq, if◌then◌else◌, List, [], ◌∷◌, ◌++◌, map, fold, Option, Some, None, is_some, unwrap_or}
+use Rattle.std.specs.Prelude.{◌≡◌, ◌≢◌, ℕ, Bool, true, false, cond, ◌&&◌, ◌||◌, nat_eq, List, [], ◌∷◌, ◌++◌, map, Option, Some, None, is_some, unwrap_or}
 use Rattle.std.proofs.Common.{refl, sym, ap, ◌∙◌, subst}
 use Rattle.std.specs.List.{list_any}
-use Rattle.std.proofs.lemmas.Bool.{eqb-true, eq-eqb}
+use Rattle.std.proofs.lemmas.Bool.{eqb-true}
 use Rattle.std.proofs.lemmas.List.{map-append, append-nil}
 use Rattle.std.proofs.lemmas.List.Folds.{list_any-append}
 use Rattle.std.proofs.lemmas.List.Sums.{fold-append}
 use Rattle.indexmap.specs.IndexMap.{IndexMap, get}
-use Rattle.index_page.specs.Page.{Page, bare}
+use Rattle.index_page.specs.Page.{bare}
 use Rattle.index_page.specs.Page.PageOfKind.{Leaf, Index}
 use Rattle.mapping.specs.FreshPids.{is_among}
 use Rattle.frame_codec.specs.Frame.{Content, Frame, bytes_of}
 use Rattle.frame_codec.specs.Frame.Content.{FullLeaf, DeltaLeaf, FullIndex, DeltaIndex, Free}
 use Rattle.frame_codec.specs.Skimmed.{kind_of}
-use Rattle.frame_codec.specs.declared.skim.FrameKind.{FrameKind}
 use Rattle.flush_log.specs.Reading.{Found}
 use Rattle.recovery.specs.Gathered.{behind_some as contents_behind, kept_with}
-use Rattle.recovery.specs.PageByLog.{is_base, is_start, from_last, InLog, with_newer_run, begun_page, continued, told_page}
+use Rattle.recovery.specs.PageByLog.{is_base, from_last, InLog, with_newer_run, begun_page, continued, told_page}
 use Rattle.recovery.specs.PageByLog.InLog.{Missing, Present, Broken}
 use Rattle.recovery.specs.StoreOfDisk.{frames_in}
 use Rattle.recovery.proofs.GatherLaws.{among_more, same_turned}

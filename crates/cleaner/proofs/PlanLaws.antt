@@ -1,8 +1,8 @@
 -- What is known of a clean that is planned, or refused.
-use Rattle.std.specs.Prelude.{◌≡◌, ◌≢◌, ◌⊎◌, ℕ, suc, ◌+◌, ◌*◌, ◌<◌, ◌≤◌, Bool, true, false, nat_eq, nat_lt, if◌then◌else◌, IsTrue, List, [], ◌∷◌, ◌++◌, length, take, drop, None, Option, Some, Result, Ok, Err, MatchResult, IfOk, IfErr, IsErrAnd}
+use Rattle.std.specs.Prelude.{◌≡◌, ◌≢◌, ◌⊎◌, ℕ, suc, ◌+◌, ◌<◌, ◌≤◌, Bool, true, false, nat_eq, nat_lt, if◌then◌else◌, IsTrue, List, [], ◌∷◌, ◌++◌, length, take, drop, None, Option, Some, Result, Ok, Err, MatchResult, IfOk, IfErr, IsErrAnd}
 use Rattle.std.proofs.Common.{refl, sym, ap, ◌∙◌, arith, subst, inl, inr}
 use Rattle.std.specs.List.{AllByRecursion}
-use Rattle.std.proofs.lemmas.Bool.{cases_lt, ne_eqb, or_parts, ltb-false, eqb-true, eq-eqb}
+use Rattle.std.proofs.lemmas.Bool.{cases_lt, ne_eqb, or_parts, ltb-false, eq-eqb}
 use Rattle.std.proofs.lemmas.List.{drop-take, take-take}
 use Rattle.keys.specs.Limits.{first_bad_field}
 use Rattle.keys.specs.declared.fault.Fault.{Fault}
@@ -35,7 +35,7 @@ use Rattle.recovery.specs.LogPages.{broken_in}
 use Rattle.recovery.specs.Recovered.{IsReadOf, IsLate}
 use Rattle.recovery.specs.StoreOfDisk.{unless_found, frames_in}
 use Rattle.recovery.proofs.FoundWithin.{log-within}
-use Rattle.recovery.proofs.ReadBytes.{kept_then, same_then}
+use Rattle.recovery.proofs.ReadBytes.{same_then}
 use Rattle.cleaner.specs.AfterClean.{slot_on_disk, clean_slot, after_carried, after_clean_of, after_clean}
 use Rattle.cleaner.specs.Cleaned.{IsRefused, IsText, IsWriting, next_slot, IsPlan}
 use Rattle.cleaner.specs.CleanText.{clean_text}

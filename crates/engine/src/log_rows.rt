@@ -1,5 +1,4 @@
-//! The log as bytes: what the flushes of docs/EXAMPLES.md write; what is written where a store is made; and what is left and answered
-//! where the log is full.
+//! The log as bytes: what flushes and the making of a store write (docs/EXAMPLES.md), and what is left where the log is full.
 use crate::frame_rows::{A_3, A_ABSENT, A_PUT, EMPTY_LEAF, FOUR_PUT, FREE_1, LEAF_0, LEAF_1, ROOT};
 use crate::step::{Answer, Step};
 use crate::store::Store;

@@ -1,10 +1,10 @@
-use Rattle.std.proofs.Common.{◌≡◌, ◌≢◌, ◌⊎◌, ◌∙◌, ⊎_elim, ℕ, IsTrue, List, refl, inl, inr, sym, ap, subst}
+use Rattle.std.proofs.Common.{◌∙◌, ⊎_elim, IsTrue, refl, inl, inr, sym, ap, subst}
 use Rattle.keys.specs.declared.fault.Fault.TheVariants.{Device}
 use Rattle.flush_log.specs.AfterFlush.{slot_of}
 use Rattle.flush_log.specs.Segments.{last_segment}
 use Rattle.flush_log.specs.Slot.{Slot}
 use Rattle.flush_log.proofs.ViewLaws.{counted_failed}
-use Rattle.recovery.proofs.ReadBytes.{first_read, kept_self, same_self, handed_on}
+use Rattle.recovery.proofs.ReadBytes.{first_read, same_self, handed_on}
 use Rattle.cleaner.specs.CleanText.{clean_text}
 use Rattle.cleaner.proofs.PlanLaws.{err_on, nothing-refused, heads-same, heads-differ, plan-of, more-of, good-of, failed_since, clean-planned, by_slot}
 use Rattle.cleaner.proofs.DoneLaws.{settled_still, leaves_the_same, plan-crashed, plan-would, plan-written}

@@ -1,6 +1,5 @@
-use Rattle.std.proofs.Common.{◌≡◌, ◌≢◌, ◌⊎◌, ◌∙◌, ℕ, suc, ◌+◌, IsTrue, List, refl, inl, inr, sym, ap, subst, arith, rules}
+use Rattle.std.proofs.Common.{◌≡◌, ◌≢◌, ◌∙◌, ℕ, List, refl, inl, inr, sym, ap, subst, arith, rules}
 use Rattle.keys.specs.declared.fault.Fault.TheVariants.{NoMemory, Device}
-use Rattle.flush_log.specs.Disk.{Same}
 use Rattle.flush_log.specs.Images.{AreOfText, FitSegments, frames_in}
 use Rattle.flush_log.specs.Layout.{tail_after}
 use Rattle.flush_log.specs.Slot.{Slot}

@@ -1,7 +1,6 @@
-use Rattle.std.proofs.Common.{◌≡◌, List, sym, ap, ◌∙◌, arith, subst}
+use Rattle.std.proofs.Common.{◌∙◌, arith, subst}
 use Rattle.flush_log.specs.Overlay.{overlay}
-use Rattle.flush_log.specs.Slot.{Slot, slot_place}
-use Rattle.cleaner.specs.AfterClean.{slot_on_disk}
+use Rattle.flush_log.specs.Slot.{slot_place}
 use Rattle.recovery.specs.Recovered.{IsReadOf}
 use Rattle.cleaner.proofs.PlanLaws.{slot-read}
 use Rattle.cleaner.proofs.clean.read_slot_on_disk.Goals as goal

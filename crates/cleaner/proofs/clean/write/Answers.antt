@@ -3,7 +3,7 @@ use Rattle.flush_log.specs.Commit.{AreWithin}
 use Rattle.flush_log.specs.Images.{AreOfText, FitSegments, frames_in}
 use Rattle.flush_log.specs.Layout.{spans, tail_after}
 use Rattle.flush_log.specs.Segments.{disk_size}
-use Rattle.flush_log.specs.Slot.{Slot, greatest}
+use Rattle.flush_log.specs.Slot.{greatest}
 use Rattle.cleaner.specs.declared.clean.CleanPlan.{CleanPlan}
 use Rattle.cleaner.proofs.PlanLaws.{writing-fits, writing-room, writing-inside}
 use Rattle.cleaner.proofs.DoneLaws.{settled_still, gate-still, commit-left, commit-written}

@@ -1,10 +1,10 @@
-use Rattle.std.proofs.Common.{◌≡◌, ◌++◌, ◌∷◌, [], List, nat_eq, Bool, ℕ, cond, Option, None, Some, sym, ap, subst, ◌∙◌}
+use Rattle.std.proofs.Common.{◌≡◌, ◌++◌, ◌∷◌, [], List, nat_eq, ℕ, cond, Option, None, Some, sym, ap, subst, ◌∙◌}
 use Rattle.frame_codec.specs.Skimmed.{kind_of}
 use Rattle.frame_codec.specs.declared.skim.FrameKind.{FrameKind}
 use Rattle.frame_codec.specs.declared.skim.Skimmed.{Skimmed}
 use Rattle.indexmap.specs.IndexMap.{get}
 use Rattle.cleaner.specs.CleanText.{telling}
-use Rattle.cleaner.specs.Kept.{told_with, image_with, IsKept, IsKeptOf, AreKept, first_segment}
+use Rattle.cleaner.specs.Kept.{told_with, image_with, IsKept, AreKept, first_segment}
 use Rattle.cleaner.specs.declared.gather.Kept.{Kept}
 use Rattle.cleaner.proofs.KeptLaws.{kept-more, kept-none, kept-some, none-kept, pages-more, kept-before, first-more, found-more}
 use Rattle.cleaner.proofs.gather.LivePages.add.Goals as goal
