@@ -143,8 +143,8 @@ pub fn tail_of_flush(
     }
 }
 
-/// The tail of a clean that writes these images behind `tail`, in the commit with this sequence number, of a log that then begins
-/// at segment `head`. Refuses it with `Fault::Spent` where the number or the tail is above the greatest, and else with
+/// The tail of a clean that writes these images behind `tail`, in the commit with this sequence number, of a log that began at
+/// segment `head` until then. Refuses it with `Fault::Spent` where the number or the tail is above the greatest, and else with
 /// `Fault::Full` where it would need more segments than there are.
 pub fn tail_of_clean(
     settings: &Settings,
