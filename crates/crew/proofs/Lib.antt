@@ -1,0 +1,4 @@
+pub mod RoundLaws
+mod HomeLaws
+mod PieceLaws
+mod DrawnLaws

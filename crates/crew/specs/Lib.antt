@@ -1,1 +1,6 @@
 pub mod Turn
+pub mod Crew
+pub mod Round
+pub mod Pieces
+pub mod Home
+pub mod Drawn

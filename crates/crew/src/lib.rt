@@ -5,9 +5,20 @@
 ghost use Rattle.std.specs.Prelude.{◌≡◌};
 ghost use Rattle.crew.specs.Turn.{IfDone, IfBack};
 
-pub mod round;
+mod drawn;
+mod entry;
+mod home;
+mod in_turn;
+mod limits;
+mod machine;
+mod pieces;
+mod rounds;
 
-pub use crate::round::{undo_all, work_all};
+pub use crate::entry::{Gate, NoGate};
+pub use crate::in_turn::work_all;
+pub use crate::limits::{BadCrew, Crew};
+pub use crate::machine::Event;
+pub use crate::rounds::run_round;
 
 /// What became of a job.
 #[derive(Drop)]

@@ -1,6 +1,6 @@
 use Rattle.std.proofs.Common.{◌≡◌, ◌+◌, ◌≤◌, ◌++◌, map, reverse, length}
 use Rattle.std.specs.Prelude.{vec_capacity}
-use Rattle.crew.proofs.round.undo_all.Given as goal
+use Rattle.crew.proofs.in_turn.undo_all.Given as goal
 
 -- the jobs of what is left to undo, and those that lie on the list, its top first, are all the jobs; there is room for
 -- the rest

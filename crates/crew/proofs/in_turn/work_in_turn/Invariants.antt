@@ -1,7 +1,7 @@
 use Rattle.std.proofs.Common.{◌≡◌, ◌+◌, ◌≤◌, ◌++◌, map, reverse, length}
 use Rattle.std.specs.Prelude.{vec_capacity}
 use Rattle.std.specs.List.{All}
-use Rattle.crew.proofs.round.work_all.Given as goal
+use Rattle.crew.proofs.in_turn.work_in_turn.Given as goal
 
 -- what is done and the jobs on the list, its top first, come from all the jobs; both lists have room for all
 abbrev pub invariant-loop-job : goal.invariant-loop-job

@@ -1,0 +1,7 @@
+pub mod Totals
+mod Slots
+mod Claiming
+mod Sharing
+mod Opening
+mod Closing
+mod Gathering

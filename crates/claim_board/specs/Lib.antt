@@ -1,0 +1,3 @@
+pub mod Counting
+pub mod Rule
+pub mod Passes

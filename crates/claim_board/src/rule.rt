@@ -1,0 +1,82 @@
+//! The rule of a board, which each step on its table keeps.
+ghost use Rattle.std.specs.Prelude.{◌≡◌, ◌+◌, ◌-◌, ◌^◌, ◌<◌, ◌≤◌, [], ◌++◌, length, vec_len, vec_capacity};
+ghost use Rattle.claim_board.specs.Rule.{Keeps, Draws, hand};
+ghost use Rattle.claim_board.specs.declared.rule.Slot.TheVariants.{Kept};
+
+use atomic_table::{Join, Play, Split, TableRule};
+use std::collections::LinkedList;
+use std::snapshot::Snapshot;
+
+/// What lies in a slot of the table.
+#[derive(Drop)]
+pub(crate) enum Slot<P> {
+    /// A piece that nobody drew.
+    Piece(P),
+    /// What a draw leaves in the place of its piece.
+    Empty,
+    /// The list that the pieces came in, emptied. It waits in the last slot for those that are left.
+    Kept(Vec<P>),
+}
+
+/// What one pass, or one that stands for several, knows. It is for the proofs: no value of it is made.
+pub(crate) struct Hand<P> {
+    pub(crate) pieces: LinkedList<P>,
+    pub(crate) passes: usize,
+    pub(crate) drawn: LinkedList<u64>,
+    pub(crate) misses: u64,
+}
+
+/// What a board is told when it is opened: its pieces, the list that they came in, emptied, and how many passes it has.
+#[derive(Drop)]
+pub(crate) struct About<P> {
+    pub(crate) pieces: Snapshot<Vec<P>>,
+    pub(crate) list: Snapshot<Vec<P>>,
+    pub(crate) passes: usize,
+    pub(crate) ghost is_empty: { (list.value.items ≡ []) × (vec_len list.value ≡ 0) },
+    pub(crate) ghost has_room: { length pieces.value.items ≤ vec_capacity list.value },
+    pub(crate) ghost some: { 0 < passes },
+    pub(crate) ghost few: { length pieces.value.items + passes < 2 ^ 63 },
+}
+
+/// The numbers drawn are those below the word, each once.
+pub(crate) struct EachOnce;
+
+impl<P> TableRule<Slot<P>, Hand<P>, About<P>> for EachOnce {
+    ghost holds = { λ about s. Keeps about.pieces.value.items (Kept about.list.value) about.passes s };
+
+    ghost first = { λ about. hand about.pieces.value.items about.passes [] 0 };
+}
+
+/// A draw: the word goes up by one.
+pub(crate) struct Draw;
+
+impl<P> Play<Slot<P>, Hand<P>> for Draw {
+    ghost then = { λ step before number after. Draws before number after };
+}
+
+/// One pass is cut from a pass that stands for several.
+pub(crate) struct CutOne;
+
+impl<P> Split<Hand<P>> for CutOne {
+    ghost left = { λ v. hand v.pieces (v.passes - 1) v.drawn v.misses };
+
+    ghost right = { λ v. hand v.pieces 1 [] 0 };
+}
+
+/// All that a pass knows goes to a seat that holds no slot.
+pub(crate) struct HandOver;
+
+impl<P> Split<Hand<P>> for HandOver {
+    ghost left = { λ v. hand [] 0 [] 0 };
+
+    ghost right = { λ v. v };
+}
+
+/// One pass stands for two.
+pub(crate) struct StandForBoth;
+
+impl<P> Join<Hand<P>> for StandForBoth {
+    ghost both = { λ v w. hand v.pieces (v.passes + w.passes) (v.drawn ++ w.drawn) (v.misses + w.misses) };
+
+    ghost spent = { hand [] 0 [] 0 };
+}

@@ -1,0 +1,102 @@
+-- A round of work as a machine of events. It knows neither threads nor schedules: each job lies on the board in its piece, is held by one
+-- worker, or is home.
+use Rattle.std.specs.Prelude.{◌≡◌, ℕ, ◌+◌, length, List, [], ◌∷◌, ◌++◌, map, flat_map, set, replicate, eqb, if◌then◌else◌, slice_get, Option, Some, None}
+use Rattle.std.specs.List.{range_with_len}
+use Rattle.crew.specs.declared.machine.Event.{Event}
+use Rattle.crew.specs.declared.machine.Event.TheVariants.{Draw, Work, Back, Home}
+
+-- what became of a job: what was made of it, or the job as it was
+pub data Fate (J D : Type 0) : Type 0 where
+  Made : D → Fate J D
+  Kept : J → Fate J D
+
+-- what a worker holds: jobs that it has still to work, and what became of others, each with its number
+pub record Hand (J D : Type 0) : Type 0 where
+  pub unworked : List (ℕ × J)
+  pub worked : List (ℕ × Fate J D)
+
+-- the pieces that nobody drew, in order; what each worker holds; and what is home
+pub record State (J D : Type 0) : Type 0 where
+  pub board : List (List (ℕ × J))
+  pub hands : List (Hand J D)
+  pub home : List (ℕ × Fate J D)
+
+-- ---- jobs and their numbers
+
+-- the jobs of all pieces, in order
+abbrev pub joined : {J : Type 0} → List (List J) → List J
+joined pieces = flat_map (λ piece. piece) pieces
+
+-- the jobs with their numbers, of which the first is n
+abbrev pub numbered : {J : Type 0} → ℕ → List J → List (ℕ × J)
+numbered n [] = []
+numbered n (j ∷ js) = (n, j) ∷ numbered (n + 1) js
+
+-- so in all pieces
+abbrev pub numbered_pieces : {J : Type 0} → ℕ → List (List J) → List (List (ℕ × J))
+numbered_pieces n [] = []
+numbered_pieces n (piece ∷ pieces) = numbered n piece ∷ numbered_pieces (n + length piece) pieces
+
+-- what is noted of the number n
+abbrev pub fate_of : {F : Type 0} → ℕ → List (ℕ × F) → Option F
+fate_of n [] = None
+fate_of n (x ∷ rest) = if eqb x.0 n then Some x.1 else fate_of n rest
+
+-- ---- events; one that cannot happen changes nothing
+
+-- the worker of an event
+abbrev pub worker_of : Event → ℕ
+worker_of (Draw w) = w
+worker_of (Work w) = w
+worker_of (Back w) = w
+worker_of (Home w) = w
+
+module _ {J D : Type 0} where
+  abbrev pub with_hand : State J D → ℕ → Hand J D → State J D
+  with_hand s w hand = record { board = s.board; hands = set s.hands w hand; home = s.home }
+
+  -- a worker with no unworked job takes the next piece whole
+  abbrev pub draw_by : State J D → ℕ → List (ℕ × J) → List (ℕ × Fate J D) → List (List (ℕ × J)) → State J D
+  draw_by s w [] worked [] = s
+  draw_by s w [] worked (piece ∷ rest) =
+      record { board = rest; hands = set s.hands w (record { unworked = piece; worked = worked }); home = s.home }
+  draw_by s w (job ∷ jobs) worked board = s
+
+  -- its next job becomes this
+  abbrev pub work_by : State J D → ℕ → List (ℕ × J) → List (ℕ × Fate J D) → (J → Fate J D) → State J D
+  work_by s w [] worked fate = s
+  work_by s w (job ∷ jobs) worked fate = with_hand s w (record { unworked = jobs; worked = worked ++ (job.0, fate job.1) ∷ [] })
+
+  -- where nothing lies on the board, and it has no unworked job, all that it holds goes home
+  abbrev pub home_by : State J D → ℕ → List (ℕ × J) → List (ℕ × Fate J D) → List (List (ℕ × J)) → State J D
+  home_by s w [] worked [] = record { board = []; hands = set s.hands w (record { unworked = []; worked = [] }); home = s.home ++ worked }
+  home_by s w [] worked (piece ∷ rest) = s
+  home_by s w (job ∷ jobs) worked board = s
+
+  -- an event of the worker w, where it holds this
+  abbrev pub event_of : (J → D) → State J D → Option (Hand J D) → Event → State J D
+  event_of made s None event = s
+  event_of made s (Some hand) (Draw w) = draw_by s w hand.unworked hand.worked s.board
+  event_of made s (Some hand) (Work w) = work_by s w hand.unworked hand.worked (λ j. Made (made j))
+  event_of made s (Some hand) (Back w) = work_by s w hand.unworked hand.worked Kept
+  event_of made s (Some hand) (Home w) = home_by s w hand.unworked hand.worked s.board
+
+  abbrev pub after_event : (J → D) → State J D → Event → State J D
+  after_event made s event = event_of made s (slice_get s.hands (worker_of event)) event
+
+  abbrev pub after_events : (J → D) → State J D → List Event → State J D
+  after_events made s [] = s
+  after_events made s (event ∷ events) = after_events made (after_event made s event) events
+
+  -- all pieces on the board, and so many workers who hold nothing
+  abbrev pub begun : List (List J) → ℕ → State J D
+  begun pieces workers =
+      record { board = numbered_pieces 0 pieces; hands = replicate workers (record { unworked = []; worked = [] }); home = [] }
+
+  -- the round of these pieces after these events
+  abbrev pub round : (J → D) → List (List J) → ℕ → List Event → State J D
+  round made pieces workers events = after_events made (begun pieces workers) events
+
+  -- these were made of so many jobs, in the order of the jobs, and all are home
+  abbrev pub AreHome : State J D → ℕ → List D → Type 0
+  AreHome s jobs ds = map (λ n. fate_of n s.home) (range_with_len 0 jobs) ≡ map (λ d. Some (Made d)) ds

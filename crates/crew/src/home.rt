@@ -1,0 +1,90 @@
+//! What workers bring home of a round: what became of each piece, in its place.
+ghost use Rattle.std.specs.Prelude.{◌≡◌, ◌+◌, ◌^◌, ◌<◌, ◌≤◌, ◌++◌, ◌∷◌, [], map, length, IfOk, IfErr, vec_capacity};
+ghost use Rattle.std.specs.List.{AllByRecursion, flat_map};
+ghost use Rattle.crew.specs.Home.{placed, left_behind, home_origins, IsMadeHome};
+
+use crate::Work;
+use crate::in_turn::undo_behind;
+
+/// What became of the piece with this number: what was made of each of its jobs, or these as they were.
+#[derive(Drop)]
+pub(crate) struct Worked<J, D> {
+    pub(crate) number: u64,
+    pub(crate) made: Result<Vec<D>, Vec<J>>,
+}
+
+/// The place of a piece, once it is home.
+pub(crate) type Home<J, D> = Option<Result<Vec<D>, Vec<J>>>;
+
+// Puts a piece into its place.
+fn place<J: Drop, D: Drop>(homes: &mut Vec<Home<J, D>>, worked: Worked<J, D>)
+    ensures { homes.new.items ≡ placed homes.old.items (worked ∷ []) }
+{
+    let Worked { number, made } = worked;
+    let index = number as usize;
+    if index < homes.len() {
+        homes[index] = Some(made);
+    }
+}
+
+/// Puts pieces into their places.
+pub(crate) fn place_all<J: Drop, D: Drop>(homes: &mut Vec<Home<J, D>>, all: Vec<Worked<J, D>>)
+    ensures { homes.new.items ≡ placed homes.old.items all.items }
+{
+    for worked in all {
+        place(homes, worked);
+    }
+}
+
+/// Puts pieces that nobody drew into their places, from this number on.
+pub(crate) fn place_left<J: Drop, D: Drop>(
+    homes: &mut Vec<Home<J, D>>,
+    from: u64,
+    left: Vec<Vec<J>>,
+)
+    requires { from + length left.items < 2 ^ 64 }
+    ensures { homes.new.items ≡ placed homes.old.items (left_behind from left.items) }
+{
+    let mut number = from;
+    for piece in left {
+        let made = Err(piece);
+        place(homes, Worked { number, made });
+        number += 1;
+    }
+}
+
+/// What was made of all jobs, in their order; or, where a piece came back as it was, all jobs. It takes no memory, since both
+/// lists have room for all.
+pub(crate) fn gather<W: Work>(
+    work: &W,
+    homes: Vec<Home<W::Job, W::Done>>,
+    mut dones: Vec<W::Done>,
+    mut jobs: Vec<W::Job>,
+) -> Result<Vec<W::Done>, Vec<W::Job>>
+    requires made { AllByRecursion (IsMadeHome W.Work work.now) homes.items }
+    requires empty { (jobs.items ≡ []) × (dones.items ≡ []) }
+    requires room { (length (flat_map (home_origins W.Work) homes.items) ≤ vec_capacity jobs) × (length (flat_map (home_origins W.Work) homes.items) ≤ vec_capacity dones) }
+    ensures made { IfOk result (λ dones. map W.outcome dones.items ≡ map (W.made work.now) (flat_map (home_origins W.Work) homes.items)) }
+    ensures origin { IfOk result (λ dones. map W.origin dones.items ≡ flat_map (home_origins W.Work) homes.items) }
+    ensures held { IfErr result (λ again. map W.held again.items ≡ flat_map (home_origins W.Work) homes.items) }
+{
+    let mut refused = false;
+    for home in homes {
+        match home {
+            Some(Ok(mut made)) => {
+                let _fits = dones.append(&mut made);
+            }
+            Some(Err(mut back)) => {
+                refused = true;
+                undo_behind(work, &mut dones, &mut jobs);
+                let _fits = jobs.append(&mut back);
+            }
+            None => {}
+        }
+    }
+    if refused {
+        undo_behind(work, &mut dones, &mut jobs);
+        return Err(jobs);
+    }
+    Ok(dones)
+}
