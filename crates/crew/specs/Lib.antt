@@ -4,3 +4,5 @@ pub mod Round
 pub mod Pieces
 pub mod Home
 pub mod Drawn
+pub mod Marks
+pub mod SoundRound

@@ -9,15 +9,21 @@ mod drawn;
 mod entry;
 mod home;
 mod in_turn;
+pub mod laws;
 mod limits;
 mod machine;
+mod marks;
 mod pieces;
+mod progress;
 mod rounds;
+#[cfg(test)]
+mod tests;
 
 pub use crate::entry::{Gate, NoGate};
 pub use crate::in_turn::work_all;
 pub use crate::limits::{BadCrew, Crew};
-pub use crate::machine::Event;
+pub use crate::machine::{Event, Mark};
+pub use crate::marks::Round;
 pub use crate::rounds::run_round;
 
 /// What became of a job.

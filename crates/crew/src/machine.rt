@@ -12,3 +12,12 @@ pub enum Event {
     /// All that it holds goes home, where it has worked it all and nothing lies on the board.
     Home(usize),
 }
+
+/// What of a job is home.
+#[derive(Clone, Copy, Debug, PartialEq, Eq)]
+pub enum Mark {
+    /// What was made of it.
+    Made,
+    /// The job as it was, since memory was refused.
+    Back,
+}

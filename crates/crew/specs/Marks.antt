@@ -1,0 +1,55 @@
+-- What of the jobs of a round is home, by their numbers alone: it depends on no job, nor on what is made of one.
+use Rattle.std.specs.Prelude.{ℕ, ◌-◌, List, map, replicate, Option, option_map}
+use Rattle.std.specs.declared.ops.Range.{Range}
+use Rattle.crew.specs.declared.machine.Event.{Event}
+use Rattle.crew.specs.declared.machine.Event.TheVariants.{Work, Back}
+use Rattle.crew.specs.declared.machine.Mark.{Mark}
+use Rattle.crew.specs.declared.machine.Mark.TheVariants.{Made as MarkMade, Back as MarkBack}
+use Rattle.crew.specs.declared.progress.Hand.{Hand as HandByNumber}
+use Rattle.crew.specs.declared.progress.Progress.{Progress}
+use Rattle.crew.specs.Round.{Fate, Hand, State, numbered, fate_of}
+use Rattle.crew.specs.Round.Fate.{Made, Kept}
+
+-- ---- marks
+
+module _ {J D : Type 0} where
+  -- the mark of what became of a job
+  abbrev pub mark_of : Fate J D → Mark
+  mark_of (Made d) = MarkMade
+  mark_of (Kept j) = MarkBack
+
+  -- the mark of what is home under this number
+  abbrev pub mark_at : State J D → ℕ → Option Mark
+  mark_at s n = option_map mark_of (fate_of n s.home)
+
+-- ---- a round whose jobs are forgotten: of each only its number is left
+
+-- these jobs, forgotten
+abbrev pub forgotten : {J : Type 0} → List J → List (Unit {0})
+forgotten jobs = map (λ j. tt) jobs
+
+-- what became of a job with this mark
+abbrev pub fate_by : Mark → Fate (Unit {0}) (Unit {0})
+fate_by MarkMade = Made tt
+fate_by MarkBack = Kept tt
+
+-- the jobs with these numbers
+abbrev pub jobs_in : Range ℕ → List (ℕ × Unit {0})
+jobs_in span = numbered span.start (replicate (span.end - span.start) tt)
+
+-- what became of these jobs
+abbrev pub fates_by : List (ℕ × Mark) → List (ℕ × Fate (Unit {0}) (Unit {0}))
+fates_by marks = map (λ x. (x.0, fate_by x.1)) marks
+
+-- what a worker holds
+abbrev pub hand_by : HandByNumber → Hand (Unit {0}) (Unit {0})
+hand_by hand = record { unworked = jobs_in hand.unworked; worked = fates_by hand.worked.items }
+
+-- where all jobs are
+abbrev pub state_by : Progress → State (Unit {0}) (Unit {0})
+state_by p = record { board = map jobs_in p.board.items; hands = map hand_by p.hands.items; home = fates_by p.home.items }
+
+-- the event in which this worker's next job is given this mark
+abbrev pub event_by : Mark → ℕ → Event
+event_by MarkMade w = Work w
+event_by MarkBack w = Back w

@@ -1,0 +1,65 @@
+//! What of the jobs of a round is home after events, told without working any.
+ghost use Rattle.std.specs.Prelude.{◌≡◌, ℕ, ◌<◌, ◌^◌, length, map, slice_index_or, IfOk};
+ghost use Rattle.crew.specs.Round.{joined, round};
+ghost use Rattle.crew.specs.Marks.{mark_at};
+
+use crate::machine::{Event, Mark};
+use crate::progress::Progress;
+use std::alloc::{AllocError, Global};
+use std::marker::Model;
+
+/// What of the jobs of a round is home after events. Contracts see it as the mark of each job in turn, or `None`.
+#[derive(Drop)]
+pub struct Round {
+    marks: Vec<Option<Mark>>,
+}
+
+impl Model for Round {
+    ghost use Rattle.std.specs.Prelude.{List, Option};
+    ghost use Rattle.crew.specs.declared.machine.Mark.{Mark};
+
+    ghost Value = { List (Option Mark) };
+
+    ghost view = { λ r. r.marks.items };
+}
+
+impl Round {
+    /// The round of these pieces of jobs, shared by so many workers, after these events. An event that cannot happen, or of a worker that
+    /// there is not, changes nothing. It fails only for want of memory, for a mark each of all jobs among it.
+    pub fn after<J>(
+        alloc: Global,
+        pieces: &[Vec<J>],
+        workers: usize,
+        events: &[Event],
+    ) -> Result<Round, AllocError>
+        ensures { IfOk result (λ marks. (job : ℕ) →
+            slice_index_or marks job None ≡ mark_at (round (λ j. j) (map (λ piece. piece.items) pieces.now) workers events.now) job) }
+    {
+        let jobs = count_jobs(pieces)?;
+        let mut progress = Progress::begun(alloc, pieces, workers)?;
+        for event in events {
+            progress.pass(*event)?;
+        }
+        let marks = progress.marks(alloc, jobs)?;
+        Ok(Round { marks })
+    }
+
+    /// What is home of the job with this number, counted from 0 through the pieces joined. `None` where it is not home, or there is no
+    /// such job. It takes no memory.
+    pub fn home(&self, job: usize) -> Option<Mark>
+        ensures { result ≡ slice_index_or self.now job None }
+    {
+        self.marks.get(job).copied().flatten()
+    }
+}
+
+// How many jobs there are. More than a number can count have no room either.
+fn count_jobs<J>(pieces: &[Vec<J>]) -> Result<usize, AllocError>
+    ensures { IfOk result (λ jobs. jobs ≡ length (joined (map (λ piece. piece.items) pieces.now))) }
+{
+    let mut jobs = 0usize;
+    for piece in pieces {
+        jobs = jobs.checked_add(piece.len()).ok_or(AllocError)?;
+    }
+    Ok(jobs)
+}
