@@ -19,6 +19,7 @@ ghost use Rattle.cleaner.specs.Cleaned.{WouldClean, IsCleanFault, IsRefused, IsT
 
 use crate::choose::choose;
 use crate::skim_segment::LogSoFar;
+use crew::Crew;
 use flush_log::commit::slot_place;
 use flush_log::image::Image;
 use flush_log::layout::tail_of_clean;
@@ -29,6 +30,7 @@ use keys::{Fault, Settings};
 use recovery::read_bytes::read;
 use recovery::read_log::read_log;
 use std::alloc::Global;
+use std::thread::Threads;
 
 // What a clean writes: the images of its text, and the slot that commits them; and room for the bytes of a segment.
 #[derive(Drop)]
@@ -167,6 +169,8 @@ fn write<D: Disk>(
 /// failed. After a fault nothing was written, but after `Fault::Device` where the failure was in writing: then the disk holds the store
 /// of before or the one after.
 pub fn clean<D: Disk>(
+    _rt: &(impl Threads + Sync),
+    _crew: Crew,
     alloc: Global,
     disk: &mut D,
     settings: &Settings,

@@ -10,17 +10,21 @@ ghost use Rattle.climb_plan.specs.Installing.{all_taken, all_put, AreAway, ArePa
 
 use crate::change::Rewritten;
 use crate::seen::Revised;
-use crew::{Work, work_all};
+use crew::{Crew, Gate, Work, run_round};
 use delta_chain::Run;
 use index_page::Page;
 use keys::{Pid, Settings};
 use mapping::Tree;
 use page_runs::{TermDone, TermJob, TermWork};
 use std::alloc::{AllocError, Global};
+use std::thread::Threads;
 use std::vec::IntoIter;
 
 /// Takes the parents out of the tree, and works each with the run of its terms. Where memory is refused, the tree is as it was.
 pub(crate) fn work_parents(
+    rt: &(impl Threads + Sync),
+    crew: Crew,
+    gate: &impl Gate,
     alloc: Global,
     settings: &Settings,
     tree: &mut Tree<Global>,
@@ -37,7 +41,7 @@ pub(crate) fn work_parents(
         settings: *settings,
     };
     let jobs = take_all(alloc, tree, told)?;
-    match work_all(&work, jobs) {
+    match run_round(rt, crew, gate, &work, jobs) {
         Ok(dones) => Ok(dones),
         Err(jobs) => {
             put_back(tree, jobs);

@@ -1,5 +1,6 @@
 //! The cleans of docs/EXAMPLES.md: what they answer, the bytes that they leave, the store that comes back from these, and the calls of the
 //! disk that they make.
+use crate::crews::ALONE;
 use crate::failing_disk_rows::failing_store;
 use crate::frame_rows::{EMPTY_LEAF, FREE_1, LEAF_0, LEAF_1, ROOT};
 use crate::log_rows::{
@@ -525,12 +526,12 @@ fn a_full_log_has_room_after_a_clean(rt: HostRuntime) -> Result<(), Fail> {
     let answers = play(&rt, alloc, &mut store, &[LONG_PUT, "flush"])?;
     assert_eq!(rt; answers.as_str(), "R; 1: 10 Full");
     let before = look(alloc, &store)?;
-    assert_eq!(rt; store.clean(), Ok(1));
+    assert_eq!(rt; store.clean(&rt, ALONE), Ok(1));
     assert!(rt; is_disk(store.disk().bytes(), &CLEANED_SLOTS, FULL_LOG));
     assert_eq!(rt; look(alloc, &store)?.as_str(), before.as_str());
-    assert_eq!(rt; store.flush(), Ok(20));
+    assert_eq!(rt; store.flush(&rt, ALONE), Ok(20));
     assert!(rt; is_disk(store.disk().bytes(), &REFILLED_SLOTS, REFILLED_LOG));
-    let opened = store.reopen(&rt).map_err(|(fault, _disk)| fault);
+    let opened = store.reopen(&rt, ALONE).map_err(|(fault, _disk)| fault);
     assert!(rt; is_told(&rt, alloc, &opened?, REFILLED_STORE)?);
     Ok(())
 }
@@ -587,7 +588,7 @@ fn the_calls_of_a_clean_have_their_order(rt: HostRuntime) -> Result<(), Fail> {
 fn where_there_is_nothing_to_clean_no_disk_is_called(rt: HostRuntime) -> Result<(), Fail> {
     let mut store = failing_store(rt.alloc(), 3)?;
     for _time in 0..2 {
-        assert_eq!(rt; store.clean(), Err(Fault::NothingToClean));
+        assert_eq!(rt; store.clean(&rt, ALONE), Err(Fault::NothingToClean));
     }
     let answers = play(&rt, rt.alloc(), &mut store, &["a=1", "clean"])?;
     assert_eq!(rt; answers.as_str(), "N; 1: 11 NothingToClean");

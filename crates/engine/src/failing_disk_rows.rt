@@ -2,6 +2,7 @@
 ghost use Rattle.std.specs.Prelude.{◌≡◌, false, length, ⊤};
 ghost use Rattle.flush_log.specs.Disk.{CountsFailure};
 
+use crate::crews::ALONE;
 use crate::log_rows::{
     FOUR_LONG_PUTS, PUT_AGAIN, SHORTEST, batch_of, from_place, play, play_at_once,
     store_on_used_disk,
@@ -9,6 +10,7 @@ use crate::log_rows::{
 use crate::step::Step;
 use crate::store::Store;
 use crate::tests::{FIVE_PUTS, S, SEVENTEEN_PUTS, write_rows};
+use crew::NoGate;
 use flush_log::{Disk, DiskFault};
 use keys::Fault;
 use std::alloc::{AllocError, Global};
@@ -259,8 +261,8 @@ fn look_at_failed(
         let answers = play(rt, alloc, store, steps)?;
         assert!(rt; answers.as_str() == "0: 8 Failed");
     }
-    assert!(rt; matches!(store.batch(rt, &[]), Err(Fault::Failed)));
-    assert_eq!(rt; store.flush(), Err(Fault::Failed));
+    assert!(rt; matches!(store.batch(rt, ALONE, &NoGate, &[]), Err(Fault::Failed)));
+    assert_eq!(rt; store.flush(rt, ALONE), Err(Fault::Failed));
     let answers = play(rt, alloc, store, &[])?;
     assert!(rt; answers.is_empty());
     let mut pairs = String::new(alloc);
@@ -281,7 +283,7 @@ fn look_where_a_call_fails(
     let mut store = failing_store(alloc, fails_at)?;
     play(rt, alloc, &mut store, row.steps)?;
     assert_eq!(rt; store.disk().calls, row.calls_before);
-    assert_eq!(rt; store.flush(), Err(Fault::Device));
+    assert_eq!(rt; store.flush(rt, ALONE), Err(Fault::Device));
     look_at_failed(rt, alloc, row, &mut store)?;
     let disk = store.close();
     assert_eq!(rt; (disk.calls, disk.failures), (fails_at, 1));
@@ -300,7 +302,7 @@ fn a_store_has_failed_where_a_call_of_its_flush_fails(rt: HostRuntime) -> Result
         let all = row.calls_before.saturating_add(row.calls);
         let mut store = failing_store(rt.alloc(), all.saturating_add(1))?;
         play(&rt, rt.alloc(), &mut store, row.steps)?;
-        assert_eq!(rt; store.flush(), Ok(u64::from(row.sequence)));
+        assert_eq!(rt; store.flush(&rt, ALONE), Ok(u64::from(row.sequence)));
         assert_eq!(rt; store.disk().calls, all);
     }
     Ok(())

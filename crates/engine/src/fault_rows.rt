@@ -1,5 +1,6 @@
 //! Flushes and cleans of which a write or a sync fails, once or from there on: what is answered then, and which store the disk holds.
 use crate::clean_rows::LONG_STORE;
+use crate::crews::ALONE;
 use crate::failing_clean_rows::BEFORE_CLEAN;
 use crate::log_rows::{LONG_PUT, disk_of, play};
 use crate::recovery_rows::{FIRST_STORE, bytes_after, write_opened};
@@ -129,7 +130,7 @@ fn store_of(
     written: usize,
 ) -> Result<Store<FaultDisk<Global>>, Fault> {
     let disk = FaultDisk::new(disk_of(alloc, bytes)?, failing, written);
-    Store::recover(rt, alloc, disk).map_err(|(fault, _disk)| fault)
+    Store::recover(rt, alloc, disk, ALONE).map_err(|(fault, _disk)| fault)
 }
 
 // What is answered to the row's steps, and then to a batch, a flush and a clean; the pairs; what is opened again; and what is on the disk
@@ -148,10 +149,10 @@ fn answer_of_failing(
     }
     write_rows(&mut text, store.range(b"", None, 100)?)?;
     text.push(' ')?;
-    let disk = write_opened(rt, alloc, &mut text, store.reopen(rt))?;
+    let disk = write_opened(rt, alloc, &mut text, store.reopen(rt, ALONE))?;
     text.push_str(", ")?;
     let disk = disk.into_inner();
-    write_opened(rt, alloc, &mut text, Store::recover(rt, alloc, disk))?;
+    write_opened(rt, alloc, &mut text, Store::recover(rt, alloc, disk, ALONE))?;
     Ok(text)
 }
 
@@ -216,7 +217,7 @@ fn calls_of(rt: &(impl Threads + Sync), alloc: Global, row: &Row) -> Result<(u64
     play(rt, alloc, &mut store, row.steps)?;
     let calls = store.disk().calls();
     let mut text = String::new(alloc);
-    write_opened(rt, alloc, &mut text, store.reopen(rt))?;
+    write_opened(rt, alloc, &mut text, store.reopen(rt, ALONE))?;
     Ok((calls, text.as_str() == row.after))
 }
 

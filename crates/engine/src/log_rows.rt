@@ -1,8 +1,10 @@
 //! The log as bytes: what flushes and the making of a store write (docs/EXAMPLES.md), and what is left where the log is full.
+use crate::crews::ALONE;
 use crate::frame_rows::{A_3, A_ABSENT, A_PUT, EMPTY_LEAF, FOUR_PUT, FREE_1, LEAF_0, LEAF_1, ROOT};
 use crate::step::{Answer, Step};
 use crate::store::Store;
 use crate::tests::{FIVE_PUTS, S, SEVENTEEN_PUTS, commands, write_replies, write_rows, write_tree};
+use crew::NoGate;
 use flush_log::{Disk, MemDisk};
 use keys::{Command, Fault, Field, Settings};
 use std::alloc::{AllocError, Global};
@@ -514,7 +516,7 @@ fn write_step<D: Disk>(
         "clean" => Step::Clean,
         _ => Step::Batch(batch),
     };
-    match store.play(rt, &[step]) {
+    match store.play(rt, ALONE, &NoGate, &[step]) {
         Ok(answers) => {
             write_answers(text, &answers)?;
             Ok(None)
@@ -554,7 +556,7 @@ pub(crate) fn play_at_once<D: Disk>(
     steps: &[Step<'_>],
 ) -> Result<String, AllocError> {
     let mut text = String::new(alloc);
-    match store.play(rt, steps) {
+    match store.play(rt, ALONE, &NoGate, steps) {
         Ok(answers) => write_answers(&mut text, &answers)?,
         Err(refused) => {
             write_answers(&mut text, &refused.1)?;
@@ -786,7 +788,7 @@ fn a_full_log_stays_as_it_is(rt: HostRuntime) -> Result<(), Fail> {
     assert_eq!(rt; answers.as_str(), "R; ");
     let before = look(alloc, &store)?;
     for _time in 0..3 {
-        assert_eq!(rt; store.flush(), Err(Fault::Full));
+        assert_eq!(rt; store.flush(&rt, ALONE), Err(Fault::Full));
         assert_eq!(rt; look(alloc, &store)?.as_str(), before.as_str());
         assert!(rt; is_disk(store.disk().bytes(), &FULL_SLOTS, FULL_LOG));
     }

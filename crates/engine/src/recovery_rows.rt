@@ -1,5 +1,6 @@
 //! A store that comes back from its disk: it is the one of the last flush. A disk that is damaged is answered as the examples of
 //! docs/EXAMPLES.md tell it, and stays as it is.
+use crate::crews::ALONE;
 use crate::log_rows::{
     FOUR_LONG_PUTS, LONG_PUT, PUT_AGAIN, SHORTEST, disk_of, look, play, store_on_used_disk,
 };
@@ -602,11 +603,11 @@ pub(crate) fn comes_back(
     let mut is_right = is_told(rt, alloc, &store, row.store)?;
     let bytes = store.disk().bytes().to_vec(alloc)?;
     play(rt, alloc, &mut store, &["z=9 -a"])?;
-    let opened = Store::recover(rt, alloc, store.close());
+    let opened = Store::recover(rt, alloc, store.close(), ALONE);
     let mut store = opened.map_err(|(fault, _disk)| fault)?;
     is_right &= is_told(rt, alloc, &store, row.store)?;
     play(rt, alloc, &mut store, &["z=9 -a"])?;
-    let mut store = store.reopen(rt).map_err(|(fault, _disk)| fault)?;
+    let mut store = store.reopen(rt, ALONE).map_err(|(fault, _disk)| fault)?;
     is_right &= is_told(rt, alloc, &store, row.store)?;
     let flushed = play(rt, alloc, &mut store, &["", "flush"])?;
     is_right &= flushed.as_str() == row.flushed;
@@ -647,8 +648,13 @@ fn answer(rt: &(impl Threads + Sync), alloc: Global, bytes: &[u8]) -> Result<Str
     let mut text = String::new(alloc);
     let mut again = String::new(alloc);
     let disk = disk_of(alloc, bytes)?;
-    let disk = write_opened(rt, alloc, &mut text, Store::recover(rt, alloc, disk))?;
-    let disk = write_opened(rt, alloc, &mut again, Store::recover(rt, alloc, disk))?;
+    let disk = write_opened(rt, alloc, &mut text, Store::recover(rt, alloc, disk, ALONE))?;
+    let disk = write_opened(
+        rt,
+        alloc,
+        &mut again,
+        Store::recover(rt, alloc, disk, ALONE),
+    )?;
     if disk.bytes() != bytes || again.as_str() != text.as_str() {
         text.push_str(", and then otherwise")?;
     }
@@ -760,12 +766,12 @@ fn a_disk_with_any_byte_changed_has_one_answer(rt: HostRuntime) -> Result<(), Fa
 fn is_tried_again(rt: &(impl Threads + Sync), alloc: Global) -> Result<bool, Fault> {
     let bytes = bytes_after(rt, alloc, &PUT_AGAIN)?;
     let disk = disk_of(alloc, &bytes)?;
-    let opened = match Store::recover(rt, alloc, disk) {
+    let opened = match Store::recover(rt, alloc, disk, ALONE) {
         Err(refused) => {
             if refused.0 != Fault::NoMemory || refused.1.bytes() != bytes.as_slice() {
                 return Ok(false);
             }
-            Store::recover(rt, alloc, refused.1)
+            Store::recover(rt, alloc, refused.1, ALONE)
         }
         opened => opened,
     };

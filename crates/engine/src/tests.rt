@@ -1,6 +1,8 @@
 //! What no clause of the store says: that the worked examples of docs/EXAMPLES.md come out as they are told there, with memory refused
 //! too, that the longest batch is answered, and that many batches answer as a map of std does.
+use crate::crews::ALONE;
 use crate::store::Store;
+use crew::NoGate;
 use delta_chain::{Chain, Pairs};
 use flush_log::MemDisk;
 use flush_log::segments::disk_size;
@@ -390,8 +392,8 @@ fn answer(
     store: &mut Store<MemDisk<Global>>,
     batch: &[Command<Global>],
 ) -> Result<Vec<Reply<Global>>, Fault> {
-    match store.batch(rt, batch) {
-        Err(Fault::NoMemory) => store.batch(rt, batch),
+    match store.batch(rt, ALONE, &NoGate, batch) {
+        Err(Fault::NoMemory) => store.batch(rt, ALONE, &NoGate, batch),
         answered => answered,
     }
 }
@@ -498,7 +500,7 @@ fn write_ranges(rt: &(impl Threads + Sync), alloc: Global, text: &mut String) ->
     let mut store = new_store(alloc, S)?;
     for batch in [FIVE_PUTS, "c -c c ca=9 ca b"] {
         let batch = commands(alloc, batch)?;
-        store.batch(rt, &batch)?;
+        store.batch(rt, ALONE, &NoGate, &batch)?;
     }
     write_rows(text, store.range(b"b", None, 3)?)?;
     write_rows(text, store.range(b"b", Some(b"d"), 10)?)?;
@@ -570,13 +572,21 @@ fn count_replies(
     store: &mut Store<MemDisk<Global>>,
     count: u32,
 ) -> Result<usize, Fault> {
-    Ok(store.batch(rt, &many_puts(alloc, count)?)?.len())
+    Ok(
+        store
+            .batch(rt, ALONE, &NoGate, &many_puts(alloc, count)?)?
+            .len(),
+    )
 }
 
 // Whether a flush is refused, as its pages find no room, and the disk stays as it was.
-fn is_full(alloc: Global, store: &mut Store<MemDisk<Global>>) -> Result<bool, AllocError> {
+fn is_full(
+    rt: &(impl Threads + Sync),
+    alloc: Global,
+    store: &mut Store<MemDisk<Global>>,
+) -> Result<bool, AllocError> {
     let before = store.disk().bytes().to_vec(alloc)?;
-    let flushed = store.flush();
+    let flushed = store.flush(rt, ALONE);
     Ok(flushed == Err(Fault::Full) && store.disk().bytes() == before.as_slice())
 }
 
@@ -586,7 +596,7 @@ fn is_longest_batch_answered(rt: &(impl Threads + Sync), alloc: Global) -> Resul
     let mut store = new_store(alloc, S)?;
     let longest = count_replies(rt, alloc, &mut store, 65_535)?;
     let longer = count_replies(rt, alloc, &mut store, 65_536);
-    let is_full = is_full(alloc, &mut store)?;
+    let is_full = is_full(rt, alloc, &mut store)?;
     Ok(
         longest == 65_535
             && matches!(longer, Err(Fault::BatchTooLong))
@@ -774,12 +784,12 @@ fn greatest_batch(alloc: Global) -> Result<Vec<Command<Global>>, AllocError> {
 // How many bytes the store finds at the longest key, once another key was put seventeen times, a batch each.
 fn bytes_found(rt: &(impl Threads + Sync), alloc: Global) -> Result<usize, Fault> {
     let mut store = new_store(alloc, GREATEST)?;
-    store.batch(rt, &greatest_batch(alloc)?)?;
+    store.batch(rt, ALONE, &NoGate, &greatest_batch(alloc)?)?;
     for _batch in 0..17 {
-        store.batch(rt, &commands(alloc, "a=1")?)?;
+        store.batch(rt, ALONE, &NoGate, &commands(alloc, "a=1")?)?;
     }
     let look_up = vec![in alloc; Command::Get(longest_key(alloc)?)]?;
-    match store.batch(rt, &look_up)?.first() {
+    match store.batch(rt, ALONE, &NoGate, &look_up)?.first() {
         Some(Reply::Value(value)) => Ok(value.as_bytes().len()),
         _ => Ok(0),
     }

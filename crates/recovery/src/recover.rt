@@ -11,6 +11,7 @@ ghost use Rattle.recovery.specs.StoreOfDisk.{store_of_disk};
 use crate::build_tree::checked_tree;
 use crate::gather::Gathering;
 use crate::read_disk::{read_frames, read_settings, read_store_slot};
+use crew::Crew;
 use flush_log::Disk;
 use flush_log::slot::Slot;
 use keys::{Fault, Settings};
@@ -57,7 +58,7 @@ fn read_parts<D: Disk>(alloc: Global, disk: &mut D) -> Result<LogRead, Fault>
     })
 }
 
-/// Reads the store that the disk holds. It writes nothing.
+/// Reads the store that the disk holds. It writes nothing. The crew shares the work; which crew it is changes nothing of what is answered.
 ///
 /// A disk that has no settings block, or is shorter than that tells, is `Fault::NotAStore`; one of which no slot is open, or an
 /// open one is not well formed, `Fault::NoSlot`; then, of the log, the fault at the least position counts, `Fault::BadSegment` or
@@ -65,6 +66,7 @@ fn read_parts<D: Disk>(alloc: Global, disk: &mut D) -> Result<LogRead, Fault>
 /// `Fault::NoMemory`, and `Fault::Device` where a read failed: also where it failed behind a place that has a fault of the log.
 pub fn recover<D: Disk>(
     rt: &(impl Threads + Sync),
+    crew: Crew,
     alloc: Global,
     disk: &mut D,
 ) -> Result<Recovered, Fault>
@@ -83,7 +85,7 @@ pub fn recover<D: Disk>(
         slot,
         gathering,
     } = read_parts(alloc, disk)?;
-    let tree = checked_tree(rt, alloc, &settings, &slot, gathering)?;
+    let tree = checked_tree(rt, crew, alloc, &settings, &slot, gathering)?;
     Ok(Recovered {
         settings,
         slot,

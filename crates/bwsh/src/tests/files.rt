@@ -1,8 +1,9 @@
 //! Sessions on stores in files, and disks over files.
-use super::{ByBytes, CLEANED, CLEANED_OUT, Failing};
+use super::{ByBytes, CLEANED, CLEANED_OUT, Failing, check};
 use crate::file_disk::FileDisk;
 use crate::options::Options;
 use crate::session::run;
+use crew::Crew;
 use engine::Disk;
 use keys::Settings;
 use std::fs::{Metadata, OpenFile};
@@ -14,7 +15,7 @@ use std::thread::Threads;
 use std::{env, fs, io};
 
 // Asserts how these lines are run on the store of this file. It is made anew with pages of so many entries; or it is the one
-// that the file holds, with settings on the command line that would be refused.
+// that the file holds, with settings on the command line that would be refused. Two workers share the work.
 fn check_in_file<R: AllocGlobal + Abort + Threads + Sync + Files>(
     rt: &R,
     path: &str,
@@ -32,6 +33,10 @@ fn check_in_file<R: AllocGlobal + Abort + Threads + Sync + Files>(
             max_value: 16,
             seg_size: 256,
             segments: 4,
+        },
+        crew: Crew {
+            workers: 2,
+            grain: 1,
         },
         disk: Some(String::from_str(alloc, path)?),
         create: fan.is_some(),
@@ -96,6 +101,24 @@ fn a_store_in_a_file_is_cleaned(rt: HostRuntime) -> Result<(), Fail> {
         end,
     )?;
     fs::remove_dir_all(&rt, folder.as_str())?;
+    Ok(())
+}
+
+// A crew out of range goes before settings that are refused, and before the file, which isn't made. A bad line goes before it.
+#[test]
+fn a_crew_is_refused(rt: HostRuntime) -> Result<(), Fail> {
+    let alloc = rt.alloc();
+    let file = env::temp_dir(&rt)?.join(alloc, "bwsh_without_crew")?;
+    let disk = format!(in alloc; "--disk={}", file.as_str())?;
+    for crew in ["--workers=0", "--workers=65", "--grain=0", "--grain=65536"] {
+        let mut words = Vec::new(alloc);
+        for word in [crew, "--fan=3", disk.as_str(), "--create"] {
+            words.push(String::from_str(alloc, word)?)?;
+            check(&rt, &words, b"put a 1\n", 4, b"", b"fault 5 BadCrew\n");
+        }
+        check(&rt, &words, b"frob\n", 3, b"", b"line 1: unknown command\n");
+    }
+    assert!(rt; !fs::exists(&rt, file.as_str())?);
     Ok(())
 }
 

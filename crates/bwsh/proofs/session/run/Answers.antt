@@ -18,7 +18,7 @@ returns-in-None g c =
     let (text, known, read) = c.in_ok-orders.ensures in
     let told = c.args.told.now in
     let start = new_start told.settings (replicate (disk_size told.settings) 0) in
-    Answers-run (told_of told) _ _ text known _ _ c.deref.result.now _ read.0 c.deref.ensures.value read.1 start (IsStart-in_memory told c.in-None.is)
+    Answers-run (told_of told) _ _ text known _ _ c.deref.result.now _ read.0 c.deref.ensures.value read.1 start (IsStart-in_memory told in_range c.in-None.is)
     _ (λ memory. c.store_in_memory.ensures.honest) (c.run_opened.ensures start c.store_in_memory.ensures.opens)
 
 pub returns-in-Some : goal.returns-in-Some
@@ -27,7 +27,7 @@ returns-in-Some g c =
     let told = c.args.told.now in
     let start = new_start told.settings [] in
     Answers-run (told_of told) _ _ text known _ _ c.deref-in-Some-2.result.now _ read.0 c.deref-in-Some-2.ensures.value read.1 start
-    (IsStart-anew told c.in-Some.path c.in-Some.is c.if-told.true []) _ (λ memory. absurd (in_file told c.in-Some.path c.in-Some.is memory))
+    (IsStart-anew told in_range c.in-Some.path c.in-Some.is c.if-told.true []) _ (λ memory. absurd (in_file told c.in-Some.path c.in-Some.is memory))
     (c.run_opened-in-Some.ensures start (c.new_store_in_file-opened.ensures.opens []))
 
 pub returns : goal.returns
@@ -36,5 +36,5 @@ returns g c =
     let told = c.args.told.now in
     let (file, opens) = c.store_in_file.ensures.opens in
     Answers-run (told_of told) _ _ text known _ _ c.deref-in-Some-2-3.result.now _ read.0 c.deref-in-Some-2-3.ensures.value read.1 (found_start file)
-    (IsStart-found told c.in-Some-2.path c.in-Some-2.is c.if-told.false file) _ (λ memory. absurd (in_file told c.in-Some-2.path c.in-Some-2.is memory))
+    (IsStart-found told in_range c.in-Some-2.path c.in-Some-2.is c.if-told.false file) _ (λ memory. absurd (in_file told c.in-Some-2.path c.in-Some-2.is memory))
     (c.run_opened-in-Some-2.ensures (found_start file) opens)

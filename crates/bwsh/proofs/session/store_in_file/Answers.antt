@@ -3,5 +3,5 @@ use Rattle.bwsh.proofs.session.store_in_file.Goals as goal
 
 pub returns-in-Err-clause-opens : goal.returns-in-Err-clause-opens
 returns-in-Err-clause-opens g c =
-    let (file, is, fault) = c.in-Err.ensures.read in
+    let (file, is, fault) = c.in-Err.ensures.read c.requires.crew in
     (file, IsUnopened-found file _ _ c.in-Err.refused.0 _ fault c.store_fault.ensures)
