@@ -29,7 +29,7 @@ fn disk_after(
 ) -> Result<CrashDisk<Global>, Fault> {
     let disk = CrashDisk::new(alloc, SHORTEST)?;
     let mut store = Store::create(alloc, disk, S).map_err(|(fault, _disk)| fault)?;
-    play(rt, alloc, &mut store, steps)?;
+    play(rt, ALONE, alloc, &mut store, steps)?;
     Ok(store.close())
 }
 
@@ -45,7 +45,7 @@ fn play_to_stop(
     let mut disk = disk;
     disk.stop_at(call);
     let mut store = Store::recover(rt, alloc, disk, ALONE).map_err(|(fault, _disk)| fault)?;
-    text.push_str(play(rt, alloc, &mut store, steps)?.as_str())?;
+    text.push_str(play(rt, ALONE, alloc, &mut store, steps)?.as_str())?;
     Ok(store.close())
 }
 

@@ -28,10 +28,10 @@ fn answer_of_failing_clean(
     fails_at: u64,
 ) -> Result<String, Fault> {
     let mut store = failing_store(alloc, fails_at)?;
-    play(rt, alloc, &mut store, &LONG_AND_Z)?;
-    let mut text = play(rt, alloc, &mut store, &["clean"])?;
+    play(rt, ALONE, alloc, &mut store, &LONG_AND_Z)?;
+    let mut text = play(rt, ALONE, alloc, &mut store, &["clean"])?;
     text.push_str(", ")?;
-    text.push_str(play(rt, alloc, &mut store, &["clean"])?.as_str())?;
+    text.push_str(play(rt, ALONE, alloc, &mut store, &["clean"])?.as_str())?;
     text.push_str(", ")?;
     write_opened(rt, alloc, &mut text, store.reopen(rt, ALONE))?;
     Ok(text)
@@ -42,7 +42,7 @@ fn answer_of_failing_clean(
 fn a_store_has_failed_where_a_call_of_its_clean_fails(rt: HostRuntime) -> Result<(), Fail> {
     let alloc = rt.alloc();
     let mut store = failing_store(alloc, 0)?;
-    play(&rt, alloc, &mut store, &LONG_AND_Z)?;
+    play(&rt, ALONE, alloc, &mut store, &LONG_AND_Z)?;
     assert_eq!(rt; store.disk().calls, CALLS_BEFORE);
     assert_eq!(rt; store.clean(&rt, ALONE), Ok(1));
     let last = store.disk().calls;
@@ -77,7 +77,7 @@ fn is_before_clean(
 // Whether the store is cleaned; where memory is refused, store and disk are as before, and then it is cleaned. Where the disk's record
 // finds no memory, either store is on it.
 fn is_cleaned_again(rt: &(impl Threads + Sync), alloc: Global) -> Result<bool, Fault> {
-    let mut store = store_after(rt, alloc, &LONG_AND_Z)?;
+    let mut store = store_after(rt, ALONE, alloc, &LONG_AND_Z)?;
     let pages = look(alloc, &store)?;
     let bytes = store.disk().bytes().to_vec(alloc)?;
     let mut cleaned = store.clean(rt, ALONE);

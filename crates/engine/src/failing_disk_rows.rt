@@ -150,7 +150,7 @@ fn the_calls_of_a_flush_have_their_order(rt: HostRuntime) -> Result<(), Fail> {
     ];
     for (steps, calls) in &rows {
         let mut store = failing_store(rt.alloc(), 0)?;
-        play(&rt, rt.alloc(), &mut store, *steps)?;
+        play(&rt, ALONE, rt.alloc(), &mut store, *steps)?;
         assert_eq!(rt; store.disk().list.as_str(), *calls);
     }
     Ok(())
@@ -160,13 +160,13 @@ fn the_calls_of_a_flush_have_their_order(rt: HostRuntime) -> Result<(), Fail> {
 #[test]
 fn an_empty_flush_calls_no_disk(rt: HostRuntime) -> Result<(), Fail> {
     let mut store = failing_store(rt.alloc(), 3)?;
-    let answers = play(&rt, rt.alloc(), &mut store, &["flush", "a -a", "flush"])?;
+    let answers = play(&rt, ALONE, rt.alloc(), &mut store, &["flush", "a -a", "flush"])?;
     assert_eq!(rt; answers.as_str(), "flushed 1; MM; flushed 1; ");
     assert_eq!(rt; store.disk().calls, 2);
 
     let mut store = failing_store(rt.alloc(), 10)?;
     let words = [FIVE_PUTS, "flush", "flush", "+a=2 e", "flush"];
-    let answers = play(&rt, rt.alloc(), &mut store, &words)?;
+    let answers = play(&rt, ALONE, rt.alloc(), &mut store, &words)?;
     assert_eq!(rt;
         answers.as_str(),
         "NNNNN; flushed 2; flushed 2; E5; flushed 2; "
@@ -258,12 +258,12 @@ fn look_at_failed(
     store: &mut Store<FailingDisk>,
 ) -> Result<(), Fault> {
     for steps in REFUSED_STEPS {
-        let answers = play(rt, alloc, store, steps)?;
+        let answers = play(rt, ALONE, alloc, store, steps)?;
         assert!(rt; answers.as_str() == "0: 8 Failed");
     }
     assert!(rt; matches!(store.batch(rt, ALONE, &NoGate, &[]), Err(Fault::Failed)));
     assert_eq!(rt; store.flush(rt, ALONE), Err(Fault::Failed));
-    let answers = play(rt, alloc, store, &[])?;
+    let answers = play(rt, ALONE, alloc, store, &[])?;
     assert!(rt; answers.is_empty());
     let mut pairs = String::new(alloc);
     write_rows(&mut pairs, store.range(b"", None, 100)?)?;
@@ -281,7 +281,7 @@ fn look_where_a_call_fails(
 ) -> Result<(), Fault> {
     let fails_at = row.calls_before.saturating_add(failing);
     let mut store = failing_store(alloc, fails_at)?;
-    play(rt, alloc, &mut store, row.steps)?;
+    play(rt, ALONE, alloc, &mut store, row.steps)?;
     assert_eq!(rt; store.disk().calls, row.calls_before);
     assert_eq!(rt; store.flush(rt, ALONE), Err(Fault::Device));
     look_at_failed(rt, alloc, row, &mut store)?;
@@ -301,7 +301,7 @@ fn a_store_has_failed_where_a_call_of_its_flush_fails(rt: HostRuntime) -> Result
         }
         let all = row.calls_before.saturating_add(row.calls);
         let mut store = failing_store(rt.alloc(), all.saturating_add(1))?;
-        play(&rt, rt.alloc(), &mut store, row.steps)?;
+        play(&rt, ALONE, rt.alloc(), &mut store, row.steps)?;
         assert_eq!(rt; store.flush(&rt, ALONE), Ok(u64::from(row.sequence)));
         assert_eq!(rt; store.disk().calls, all);
     }

@@ -101,14 +101,14 @@ fn answer_after_failed_flush(
     fails_at: u64,
 ) -> Result<String, Fault> {
     let mut store = failing_store(alloc, fails_at)?;
-    let mut text = play(rt, alloc, &mut store, &["a=1", "flush"])?;
+    let mut text = play(rt, ALONE, alloc, &mut store, &["a=1", "flush"])?;
     text.push_str(", ")?;
-    text.push_str(play(rt, alloc, &mut store, &[""])?.as_str())?;
+    text.push_str(play(rt, ALONE, alloc, &mut store, &[""])?.as_str())?;
     text.push_str(", ")?;
     let mut store = store.reopen(rt, ALONE).map_err(|(fault, _disk)| fault)?;
     write_store(rt, alloc, &mut text, &store)?;
     text.push_str(", ")?;
-    text.push_str(play(rt, alloc, &mut store, &["a=1 b=2", "flush"])?.as_str())?;
+    text.push_str(play(rt, ALONE, alloc, &mut store, &["a=1 b=2", "flush"])?.as_str())?;
     Ok(text)
 }
 

@@ -142,10 +142,10 @@ fn answer_of_failing(
     store: Store<FaultDisk<Global>>,
 ) -> Result<String, Fault> {
     let mut store = store;
-    let mut text = play(rt, alloc, &mut store, row.steps)?;
+    let mut text = play(rt, ALONE, alloc, &mut store, row.steps)?;
     for word in ["a", "flush", "clean"] {
         text.push_str(", ")?;
-        text.push_str(play(rt, alloc, &mut store, &[word])?.as_str())?;
+        text.push_str(play(rt, ALONE, alloc, &mut store, &[word])?.as_str())?;
     }
     write_rows(&mut text, store.range(b"", None, 100)?)?;
     text.push(' ')?;
@@ -214,7 +214,7 @@ fn a_disk_has_one_of_two_stores_where_a_call_fails(rt: HostRuntime) -> Result<()
 fn calls_of(rt: &(impl Threads + Sync), alloc: Global, row: &Row) -> Result<(u64, bool), Fault> {
     let bytes = bytes_after(rt, alloc, row.on_disk)?;
     let mut store = store_of(rt, alloc, &bytes, Failing::Never, 0)?;
-    play(rt, alloc, &mut store, row.steps)?;
+    play(rt, ALONE, alloc, &mut store, row.steps)?;
     let calls = store.disk().calls();
     let mut text = String::new(alloc);
     write_opened(rt, alloc, &mut text, store.reopen(rt, ALONE))?;

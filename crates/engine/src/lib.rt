@@ -11,6 +11,8 @@ mod crash_rows;
 #[cfg(test)]
 mod crash_run;
 #[cfg(test)]
+mod crew_rows;
+#[cfg(test)]
 mod crews;
 #[cfg(test)]
 mod damaged_clean_rows;

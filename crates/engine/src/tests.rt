@@ -1,8 +1,8 @@
 //! What no clause of the store says: that the worked examples of docs/EXAMPLES.md come out as they are told there, with memory refused
 //! too, that the longest batch is answered, and that many batches answer as a map of std does.
-use crate::crews::ALONE;
+use crate::crews::{ALONE, CREWS};
 use crate::store::Store;
-use crew::NoGate;
+use crew::{Crew, NoGate};
 use delta_chain::{Chain, Pairs};
 use flush_log::MemDisk;
 use flush_log::segments::disk_size;
@@ -389,11 +389,12 @@ pub(crate) fn write_tree(
 // What the store answers to the batch, and where memory is refused, to the same batch again.
 fn answer(
     rt: &(impl Threads + Sync),
+    crew: Crew,
     store: &mut Store<MemDisk<Global>>,
     batch: &[Command<Global>],
 ) -> Result<Vec<Reply<Global>>, Fault> {
-    match store.batch(rt, ALONE, &NoGate, batch) {
-        Err(Fault::NoMemory) => store.batch(rt, ALONE, &NoGate, batch),
+    match store.batch(rt, crew, &NoGate, batch) {
+        Err(Fault::NoMemory) => store.batch(rt, crew, &NoGate, batch),
         answered => answered,
     }
 }
@@ -435,6 +436,7 @@ fn write_answer(
 // What the store answers to the batches, one after the other.
 fn write_answers(
     rt: &(impl Threads + Sync),
+    crew: Crew,
     alloc: Global,
     text: &mut String,
     store: &mut Store<MemDisk<Global>>,
@@ -442,17 +444,22 @@ fn write_answers(
 ) -> Result<(), AllocError> {
     for batch in batches {
         let batch = commands(alloc, *batch)?;
-        write_answer(text, answer(rt, store, &batch))?;
+        write_answer(text, answer(rt, crew, store, &batch))?;
         text.push_str("; ")?;
     }
     Ok(())
 }
 
 // Whether the row's batches, on a new store, are answered as told and leave the tree that is told.
-fn comes_out(rt: &(impl Threads + Sync), alloc: Global, row: &Row) -> Result<bool, Fault> {
+fn comes_out(
+    rt: &(impl Threads + Sync),
+    crew: Crew,
+    alloc: Global,
+    row: &Row,
+) -> Result<bool, Fault> {
     let mut store = new_store(alloc, row.settings)?;
     let mut text = String::new(alloc);
-    write_answers(rt, alloc, &mut text, &mut store, row.batches)?;
+    write_answers(rt, crew, alloc, &mut text, &mut store, row.batches)?;
     write_tree(alloc, &mut text, store.tree())?;
     Ok(text.as_str() == row.outcome)
 }
@@ -461,13 +468,14 @@ fn comes_out(rt: &(impl Threads + Sync), alloc: Global, row: &Row) -> Result<boo
 // are left out.
 fn rows_that_come_out(
     rt: &(impl Threads + Sync),
+    crew: Crew,
     alloc: Global,
     rows: &[Row],
 ) -> (usize, &'static str) {
     let mut right = 0usize;
     let mut wrong = "";
     for row in rows {
-        match comes_out(rt, alloc, row) {
+        match comes_out(rt, crew, alloc, row) {
             Ok(true) => right = right.saturating_add(1),
             Ok(false) => wrong = row.name,
             Err(_) => {}
@@ -480,11 +488,13 @@ fn rows_that_come_out(
 // test. Then at most one row can't be told.
 #[test]
 fn the_rows_come_out(rt: HostRuntime) {
-    let (right, wrong) = rows_that_come_out(&rt, rt.alloc(), &ROWS);
-    assert!(rt;
-        wrong.is_empty() && right >= 13,
-        "{right} right, {wrong} wrong"
-    );
+    for crew in &CREWS {
+        let (right, wrong) = rows_that_come_out(&rt, *crew, rt.alloc(), &ROWS);
+        assert!(rt;
+            wrong.is_empty() && right >= 13,
+            "{crew:?}: {right} right, {wrong} wrong"
+        );
+    }
 }
 
 // The keys and the values of rows.
@@ -721,7 +731,7 @@ fn is_answered_alike(
 ) -> Result<bool, AllocError> {
     let mut letters = String::new(alloc);
     let batch = draw_batch(alloc, map, state, puts, &mut letters)?;
-    are_letters(alloc, &letters, answer(rt, store, &batch))
+    are_letters(alloc, &letters, answer(rt, ALONE, store, &batch))
 }
 
 // Whether these are the letters of the replies.
