@@ -39,7 +39,12 @@ struct LogRead {
 }
 
 // Reads the settings, the slot and the log.
-fn read_parts<D: Disk>(alloc: Global, disk: &mut D) -> Result<LogRead, Fault>
+fn read_parts<D: Disk>(
+    rt: &(impl Threads + Sync),
+    crew: Crew,
+    alloc: Global,
+    disk: &mut D,
+) -> Result<LogRead, Fault>
     ensures read { (file : Bytes) × IsReadOf (D.view disk.old) file × MatchResult result (λ read. IsLogRead read file)
         (λ fault. (store_of_disk file ≡ Err fault) ⊎ IsLate (D.failed disk.old) (D.failed disk.new) fault) }
     ensures good { IfOk result (λ read. first_bad_field read.settings ≡ None) }
@@ -50,7 +55,7 @@ fn read_parts<D: Disk>(alloc: Global, disk: &mut D) -> Result<LogRead, Fault>
 {
     let settings = read_settings(disk)?;
     let slot = read_store_slot(disk, &settings)?;
-    let gathering = read_frames(alloc, disk, &settings, &slot)?;
+    let gathering = read_frames(rt, crew, alloc, disk, &settings, &slot)?;
     Ok(LogRead {
         settings,
         slot,
@@ -58,7 +63,8 @@ fn read_parts<D: Disk>(alloc: Global, disk: &mut D) -> Result<LogRead, Fault>
     })
 }
 
-/// Reads the store that the disk holds. It writes nothing. The crew shares the work; which crew it is changes nothing of what is answered.
+/// Reads the store that the disk holds. It writes nothing. The crew scans the segments and builds the pages; which crew it is changes
+/// nothing of what is answered.
 ///
 /// A disk that has no settings block, or is shorter than that tells, is `Fault::NotAStore`; one of which no slot is open, or an
 /// open one is not well formed, `Fault::NoSlot`; then, of the log, the fault at the least position counts, `Fault::BadSegment` or
@@ -84,7 +90,7 @@ pub fn recover<D: Disk>(
         settings,
         slot,
         gathering,
-    } = read_parts(alloc, disk)?;
+    } = read_parts(rt, crew, alloc, disk)?;
     let tree = checked_tree(rt, crew, alloc, &settings, &slot, gathering)?;
     Ok(Recovered {
         settings,
