@@ -2,13 +2,16 @@
 use Rattle.std.proofs.Common.{Bool, true, false, ◌≡◌, ◌≢◌, ◌↔◌, ◌⊎◌, inl, inr, ℕ, List, [], ◌∷◌, Option, Some, None, IfSome, Result, Ok, Err, refl, sym, ap, ◌∙◌, subst, arith}
 use Rattle.std.specs.Prelude.{IsTrue, IsOk, replicate, String}
 use Rattle.std.specs.declared.alloc.Global.{Global}
+use Rattle.std.specs.Bool.{MatchBool}
 use Rattle.std.specs.Option.{option_map}
 use Rattle.std.specs.String.{string_bytes}
 use Rattle.std.specs.Io.KnownBytes.{Appends, Keeps}
 use Rattle.std.proofs.KnownBytes.{Appends-nil}
+use Rattle.crew.specs.Crew.{is_crew}
+use Rattle.crew.specs.declared.limits.Crew.{Crew}
 use Rattle.keys.specs.Lists.{flat}
 use Rattle.keys.specs.declared.fault.Fault.{Fault}
-use Rattle.keys.specs.declared.fault.Fault.TheVariants.{NoMemory}
+use Rattle.keys.specs.declared.fault.Fault.TheVariants.{BadCrew, NoMemory}
 use Rattle.keys.specs.declared.settings.Settings.{Settings}
 use Rattle.mapping.specs.Levels.{contents}
 use Rattle.mapping.specs.Tree.{Store}
@@ -88,21 +91,47 @@ module _ (old : Option (List ℕ)) (start : Start) (orders : List Order) {D : Ty
       )
 
 -- what is told has some right start
-start_of : (settings : Settings) (disk : Option (List ℕ)) (create : Bool) → (start : Start) × IsStartBy settings disk create start
-start_of settings None create = (new_start settings (replicate (disk_size settings) 0), refl)
-start_of settings (Some path) true = (new_start settings [], ([], refl))
-start_of settings (Some path) false = (found_start [], ([], refl))
+start_by_rest : (settings : Settings) (disk : Option (List ℕ)) (create : Bool) → (start : Start) × IsStartBy settings disk create start
+start_by_rest settings None create = (new_start settings (replicate (disk_size settings) 0), refl)
+start_by_rest settings (Some path) true = (new_start settings [], ([], refl))
+start_by_rest settings (Some path) false = (found_start [], ([], refl))
+
+start_of : (in_range : Bool) (settings : Settings) (disk : Option (List ℕ)) (create : Bool)
+    → (start : Start) × MatchBool in_range (IsStartBy settings disk create start) (start ≡ Err BadCrew)
+start_of true settings disk create = start_by_rest settings disk create
+start_of false settings disk create = (Err BadCrew, refl)
+
+at_true : (b : Bool) (P Q : Type 0) → IsTrue b → P → MatchBool b P Q
+at_true true P Q is p = p
+at_true false P Q is p = cc
+
+at_false : (b : Bool) (P Q : Type 0) → b ≡ false → Q → MatchBool b P Q
+at_false true P Q is q = cc
+at_false false P Q is q = q
+
+-- what a check of the crew tells of it
+pub in_range : (b : Bool) → MatchBool b (true ≡ true) (false ≡ true) → IsTrue b
+in_range true p = refl
+in_range false p = cc
+
+pub out_of_range : (b : Bool) → MatchBool b (false ≡ true) (true ≡ true) → b ≡ false
+out_of_range true p = cc
+out_of_range false p = refl
 
 -- what is told of a store in memory, of one in a file that is made anew, and of one that a file holds
-module _ (o : Options) where
+module _ (o : Options) (in_range : IsTrue (is_crew o.crew)) where
+  -- this is a right start by what else is told
+  by_rest : (start : Start) → IsStartBy o.settings (told_of o).disk o.create start → IsStart (told_of o) start
+  by_rest start is = at_true (is_crew o.crew) (IsStartBy o.settings (told_of o).disk o.create start) (start ≡ Err BadCrew) in_range is
+
   pub IsStart-in_memory : o.disk ≡ None → IsStart (told_of o) (new_start o.settings (replicate (disk_size o.settings) 0))
-  IsStart-in_memory e = rw e refl
+  IsStart-in_memory e = by_rest _ (rw e refl)
 
   pub IsStart-anew : (path : String Global) → o.disk ≡ Some path → o.create ≡ true → (file : List ℕ) → IsStart (told_of o) (new_start o.settings file)
-  IsStart-anew path e create file = rw (e, create) (file, refl)
+  IsStart-anew path e create file = by_rest _ (rw (e, create) (file, refl))
 
   pub IsStart-found : (path : String Global) → o.disk ≡ Some path → o.create ≡ false → (file : List ℕ) → IsStart (told_of o) (found_start file)
-  IsStart-found path e create file = rw (e, create) (file, refl)
+  IsStart-found path e create file = by_rest _ (rw (e, create) (file, refl))
 
 -- a store in a file isn't in memory
 pub in_file : (o : Options) (path : String Global) → o.disk ≡ Some path → (told_of o).disk ≡ None → ⊥
@@ -112,10 +141,18 @@ module _ (told : Told) (known old : Option (List ℕ)) (text : List ℕ) (is_kno
   pub Answers-unread : (early : Ending) → IsReadEnding (first_bad 1 (text_says text)) early → Answers told known old old (Err early)
   unfolding Answers
   Answers-unread early h =
-      let (start, is) = start_of told.settings told.disk told.create in
+      let (start, is) = start_of (is_crew told.crew) told.settings told.disk told.create in
       let orders : List Order = orders_of [] (text_says text) in
       let shown : Reads = left_from start orders in
       (text, is_known, start, is, shown, λ memory. AreLeftFrom-left_from start orders, Prints-unread old start shown orders (first_bad 1 (text_says text)) early h)
+
+  -- the crew is out of range: nothing is run
+  pub Answers-no_crew : is_crew told.crew ≡ false → first_bad 1 (text_says text) ≡ None → Answers told known old old (Err (endings.Fault BadCrew))
+  unfolding Answers
+  Answers-no_crew out_of_range no_bad =
+      let start : Start = Err BadCrew in
+      let is : IsStart told start = at_false (is_crew told.crew) (IsStartBy told.settings told.disk told.create start) (start ≡ Err BadCrew) out_of_range refl in
+      (text, is_known, start, is, λ i. [], λ memory. tt, rw no_bad (inl (refl, Appends-nil old)))
 
   pub Answers-run : (new : Option (List ℕ)) (end : Result (Unit {0}) Ending) (ran items : List Order) → first_bad 1 (text_says text) ≡ None → ran ≡ items → items ≡ orders_of [] (text_says text)
       → (start : Start) → IsStart told start → (IsHonest : Type 0) → (told.disk ≡ None → IsHonest) → RunsFrom IsHonest start ran old new end → Answers told known old new end
@@ -123,6 +160,20 @@ module _ (told : Told) (known old : Option (List ℕ)) (text : List ℕ) (is_kno
   Answers-run new end ran items no_bad e_ran e_items start is IsHonest honest p =
       let (shown, are, run) = subst (λ (os : List Order). RunsFrom IsHonest start os old new end) (e_ran ∙ e_items) p in
       (text, is_known, start, is, shown, λ memory. are (honest memory), rw no_bad run)
+
+-- another crew that is in range where this one is
+pub Answers-crew : (told : Told) (crew : Crew) → is_crew crew ≡ is_crew told.crew → (known old new : Option (List ℕ)) (end : Result (Unit {0}) Ending)
+    → Answers told known old new end → Answers (record told { crew = crew }) known old new end
+unfolding Answers
+Answers-crew told crew same known old new end (text, is_known, start, is, shown, is_shown, printed_so) =
+    let is_right : Bool → Type 0 = λ b. MatchBool b (IsStartBy told.settings told.disk told.create start) (start ≡ Err BadCrew) in
+    (text, is_known, start, subst is_right (sym same) is, shown, is_shown, printed_so)
+
+-- no store where it is out of range
+pub IsStart-no_crew : (told : Told) → is_crew told.crew ≡ false → (start : Start) → IsStart told start → start ≡ Err BadCrew
+IsStart-no_crew told out_of_range start is =
+    let is_right : Bool → Type 0 = λ b. MatchBool b (IsStartBy told.settings told.disk told.create start) (start ≡ Err BadCrew) in
+    subst is_right out_of_range is
 
 -- ---- what follows from the end
 

@@ -6,6 +6,7 @@ use Rattle.std.specs.Prelude.{option_and_then, slice_get, unwrap_or}
 use Rattle.std.specs.Str.{bytes_eq}
 use Rattle.std.proofs.lemmas.List.Elements.{All-head, All-tail}
 use Rattle.std.proofs.lemmas.Slice.Eq.{bytes_eq-Decides}
+use Rattle.crew.specs.declared.limits.Crew.{Crew}
 use Rattle.keys.specs.declared.settings.Settings.{Settings}
 use Rattle.clap.specs.Lexer.{without_minus}
 use Rattle.clap.specs.Walk.{Row, Rule, at_row, default_rows, first_of, has_row, more_values, one_of, reading_by, row_text, with_default}
@@ -223,3 +224,10 @@ settings_with a b c d e f = record { fan = a; chain = b; max_key = c; max_value 
 pub settings_equal : {a b c d e f g h i j k l : ℕ} → a ≡ g → b ≡ h → c ≡ i → d ≡ j → e ≡ k → f ≡ l
     → settings_with a b c d e f ≡ settings_with g h i j k l
 settings_equal a b c d e f = rw (a, b, c, d, e, f) refl
+
+abbrev crew_with : ℕ → ℕ → Crew
+crew_with a b = record { workers = a; grain = b }
+
+-- so are crews
+pub crews_equal : {a b c d : ℕ} → a ≡ c → b ≡ d → crew_with a b ≡ crew_with c d
+crews_equal a b = rw (a, b) refl

@@ -154,11 +154,11 @@ some_options : asked (codes "--create" ∷ codes "--disk" ∷ codes "a b" ∷ co
 some_options = refl
 
 told_options : told_by ((codes "create", codes "true") ∷ (codes "disk", codes "a b") ∷ (codes "fan", codes "8") ∷ [])
-    ≡ record { settings = record { fan = 8; chain = 4; max_key = 64; max_value = 256; seg_size = 65536; segments = 64 }; disk = Some (codes "a b"); create = true }
+    ≡ record { settings = record { fan = 8; chain = 4; max_key = 64; max_value = 256; seg_size = 65536; segments = 64 }; crew = record { workers = 1; grain = 64 }; disk = Some (codes "a b"); create = true }
 told_options = refl
 
 nothing_told : told_by []
-    ≡ record { settings = record { fan = 16; chain = 4; max_key = 64; max_value = 256; seg_size = 65536; segments = 64 }; disk = None; create = false }
+    ≡ record { settings = record { fan = 16; chain = 4; max_key = 64; max_value = 256; seg_size = 65536; segments = 64 }; crew = record { workers = 1; grain = 64 }; disk = None; create = false }
 nothing_told = refl
 
 -- a path is any text, but behind `--disk` none that looks like a flag

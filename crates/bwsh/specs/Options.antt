@@ -5,6 +5,7 @@ use Rattle.std.specs.Str.{bytes_eq, chars}
 use Rattle.std.specs.Str.Parse.{digits_value, without_leading_sign}
 use Rattle.std.specs.declared.alloc.Global.{Global}
 use Rattle.keys.specs.declared.settings.Settings.{Settings}
+use Rattle.crew.specs.declared.limits.Crew.{Crew}
 use Rattle.clap.specs.Lexer.{long_of, short_of}
 use Rattle.clap.specs.ValueTests.{is_signed_in}
 use Rattle.clap.specs.declared.error.kind.ErrorKind.{ErrorKind}
@@ -22,7 +23,8 @@ texts = map string_bytes
 
 -- the options that take a number
 abbrev pub number_names : List Text
-number_names = codes "fan" ∷ codes "chain" ∷ codes "max-key" ∷ codes "max-value" ∷ codes "seg-size" ∷ codes "segments" ∷ []
+number_names = codes "fan" ∷ codes "chain" ∷ codes "max-key" ∷ codes "max-value" ∷ codes "seg-size" ∷ codes "segments"
+    ∷ codes "workers" ∷ codes "grain" ∷ []
 
 -- the option takes a number
 abbrev pub takes_number : Text → Bool
@@ -138,19 +140,24 @@ settings_of given = record {
   segments = number_or 64 (codes "segments") given;
 }
 
+-- the crew of what was given
+abbrev pub crew_of : Given → Crew
+crew_of given = record { workers = number_or 1 (codes "workers") given; grain = number_or 64 (codes "grain") given }
+
 -- the path that was given, if one was
 abbrev pub disk_of : Given → Option Text
 disk_of given = option_map (λ g. g.1) (find (λ g. bytes_eq g.0 (codes "disk")) given)
 
--- what words ask for: the six settings, the file in which the store is, if it is in one, and whether that file is made anew
+-- what words ask for: the six settings, the crew, the file in which the store is, if it is in one, and whether that file is made anew
 pub record Told : Type 0 where
   pub settings : Settings
+  pub crew : Crew
   pub disk : Option Text
   pub create : Bool
 
 -- what was given asks for this
 abbrev pub told_by : Given → Told
-told_by given = record { settings = settings_of given; disk = disk_of given; create = is_given (codes "create") given }
+told_by given = record { settings = settings_of given; crew = crew_of given; disk = disk_of given; create = is_given (codes "create") given }
 
 -- the words ask for these
 abbrev pub AsksFor : List Text → Told → Type 0
@@ -158,7 +165,7 @@ AsksFor words told = (given : Given) × (asked words ≡ options given) × (told
 
 -- what the options of the code say, as text
 abbrev pub told_of : Options → Told
-told_of o = record { settings = o.settings; disk = option_map string_bytes o.disk; create = o.create }
+told_of o = record { settings = o.settings; crew = o.crew; disk = option_map string_bytes o.disk; create = o.create }
 
 -- the words ask for help
 abbrev pub AsksForHelp : List Text → Type 0

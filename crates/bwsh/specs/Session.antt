@@ -1,9 +1,11 @@
 -- What a session starts on, what it runs and prints, and how it ends.
 use Rattle.std.specs.Prelude.{◌≡◌, ◌⊎◌, ℕ, suc, Bool, true, false, IsTrue, ⊤, List, [], ◌∷◌, ◌++◌, map, is_some, codes, replicate, if◌then◌else◌, Option, Some, None, IfSome, Result, Ok, Err, IfOk, OnOk}
+use Rattle.std.specs.Bool.{MatchBool}
 use Rattle.std.specs.Option.{option_map, option_or}
 use Rattle.std.specs.Fmt.{decimal}
 use Rattle.std.specs.Io.KnownBytes.{Appends}
 use Rattle.std.specs.declared.alloc.Global.{Global}
+use Rattle.crew.specs.Crew.{is_crew}
 use Rattle.keys.specs.Bytes.{Bytes, Pairs}
 use Rattle.keys.specs.Lists.{flat}
 use Rattle.keys.specs.Limits.{first_bad_field}
@@ -11,7 +13,7 @@ use Rattle.keys.specs.Step.{replies_to, map_after_all}
 use Rattle.keys.specs.declared.settings.Settings.{Settings}
 use Rattle.keys.specs.declared.settings.Field.{Field}
 use Rattle.keys.specs.declared.fault.Fault.{Fault}
-use Rattle.keys.specs.declared.fault.Fault.TheVariants.{BadSettings, NoMemory}
+use Rattle.keys.specs.declared.fault.Fault.TheVariants.{BadCrew, BadSettings, NoMemory}
 use Rattle.mapping.specs.Tree.{Store}
 use Rattle.mapping.specs.Levels.{contents}
 use Rattle.verify.specs.Report.{report}
@@ -104,9 +106,9 @@ IsStartBy settings None create start = start ≡ new_start settings (replicate (
 IsStartBy settings (Some path) true start = (file : Bytes) × (start ≡ new_start settings file)
 IsStartBy settings (Some path) false start = (file : Bytes) × (start ≡ found_start file)
 
--- it is for what the words tell
+-- it is for what the words tell: with a crew that is in range this, whichever the crew is; else there is no store, whatever else is told
 abbrev pub IsStart : Told → Start → Type 0
-IsStart told start = IsStartBy told.settings told.disk told.create start
+IsStart told start = MatchBool (is_crew told.crew) (IsStartBy told.settings told.disk told.create start) (start ≡ Err BadCrew)
 
 -- what a read of the disk gives before each order, counted from 0
 abbrev pub Reads : Type 0

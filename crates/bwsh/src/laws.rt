@@ -1,18 +1,23 @@
 //! What the definitions of `specs/` mean. Each law is the contract of a function with an empty body.
-ghost use Rattle.std.specs.Prelude.{◌≡◌, ◌<◌, ◌≤◌, List, [], ◌∷◌, ◌++◌, map, Some};
+ghost use Rattle.std.specs.Prelude.{◌≡◌, ◌<◌, ◌≤◌, false, List, [], ◌∷◌, ◌++◌, map, Option, Some, Result, Err};
 ghost use Rattle.std.specs.List.{All, flat_map};
 ghost use Rattle.std.specs.declared.alloc.Global.{Global};
+ghost use Rattle.crew.specs.Crew.{is_crew};
+ghost use Rattle.crew.specs.declared.limits.Crew.{Crew};
 ghost use Rattle.keys.specs.Bytes.{Bytes, Pairs};
 ghost use Rattle.keys.specs.declared.command.Command.{Command};
 ghost use Rattle.keys.specs.Step.{replies_to, map_after_all};
+ghost use Rattle.keys.specs.declared.fault.Fault.TheVariants.{BadCrew};
 ghost use Rattle.keys.specs.declared.settings.Settings.{Settings};
 ghost use Rattle.mapping.specs.Tree.{Store};
 ghost use Rattle.verify.specs.Report.{report};
 ghost use Rattle.bwsh.specs.declared.batch_file.Order.{Order};
 ghost use Rattle.bwsh.specs.declared.batch_file.Order.TheVariants.{Batch, Flush, Clean, Verify};
 ghost use Rattle.bwsh.specs.declared.line.Says.{Says};
+ghost use Rattle.bwsh.specs.declared.session.Ending.{Ending};
 ghost use Rattle.bwsh.specs.BatchFile.{orders_of, commands_of, commands_said, batch_lines, IsBatch, IsForBatches, IsNoClean};
-ghost use Rattle.bwsh.specs.Session.{AreLeft, Reads, accepted, answer_lines, behind, later, orders_end, printed};
+ghost use Rattle.bwsh.specs.Options.{Told};
+ghost use Rattle.bwsh.specs.Session.{Answers, AreLeft, IsStart, Reads, Start, accepted, answer_lines, behind, later, orders_end, printed};
 ghost use Rattle.bwsh.specs.Shown.{shown_reply, shown_flushed, shown_cleaned, shown_report};
 ghost use Rattle.bwsh.specs.Token.{token_bytes, shown_token};
 ghost use Rattle.bwsh.specs.Words.{words_of};
@@ -89,4 +94,12 @@ pub fn what_was_left_decides_the_answers()
         orders_end settings st shown orders ≡ orders_end settings st other orders }
     ensures some { (settings : Settings) → (st : Store) → (file : Bytes) → (orders : List Order) →
         (shown : Reads) × AreLeft settings st file shown orders }
+{}
+
+/// It makes no difference to what a session may print and how it may end who its crew is, but for whether that is in range. With one
+/// that isn't there is no store, whatever else the words tell.
+pub fn the_crew_does_not_matter()
+    ensures same { (told : Told) → (crew : Crew) → is_crew crew ≡ is_crew told.crew → (known old new : Option Bytes) → (end : Result (Unit {0}) Ending) →
+        Answers told known old new end → Answers (record told { crew = crew }) known old new end }
+    ensures refused { (told : Told) → is_crew told.crew ≡ false → (start : Start) → IsStart told start → start ≡ Err BadCrew }
 {}

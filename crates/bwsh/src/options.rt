@@ -1,7 +1,7 @@
-//! The words of the command line: the settings of the store, and the file that it is in.
+//! The words of the command line: the settings of the store, the crew that works on it, and the file that it is in.
 ghost use Rattle.std.specs.Prelude.{◌≡◌, IfOk, IfErr, Some, codes, false, option_map, string_bytes, true};
 ghost use Rattle.clap.specs.Words.{FailsBy, app_of, fault_of, found_of, kind_of, matches_of, one_of, rows_of, rule_of, without_minus};
-ghost use Rattle.bwsh.specs.Options.{AsksFor, Given, IsRightKind, Text, disk_of, is_given, is_number, number_of, settings_of, texts, told_of};
+ghost use Rattle.bwsh.specs.Options.{AsksFor, Given, IsRightKind, Text, crew_of, disk_of, is_given, is_number, number_of, settings_of, texts, told_of};
 ghost use Rattle.bwsh.specs.CommandLine.{AreGivable, bwsh, finished_rows, flag_rule, number_rule, text_rule};
 
 mod asked;
@@ -10,13 +10,15 @@ mod tests;
 
 pub use asked::Options;
 use clap::{Arg, ArgAction, ArgMatches, Command, Error, value_parser};
+use crew::Crew;
 use keys::Settings;
 use std::alloc::{AllocError, Global};
 
 // What the help says behind the options.
 const AFTER_HELP: &str = "\
 A store in a file has the settings with which the file was made. Those of the command line are for a
-store in memory, and for a file that is made anew; otherwise they are ignored.
+store in memory, and for a file that is made anew; otherwise they are ignored. Workers and grain are
+no settings of a store: they are for this session alone, which answers the same with any of them.
 
 Lines of the batch file:
   put K V           Stores the value V under the key K
@@ -39,8 +41,8 @@ Exit status:
   0  All is done, or help was asked for
   2  The words of the command line are refused; nothing was read
   3  A line of the batch file is bad; nothing was run
-  4  A fault: settings or a batch that are refused, a full log or one with nothing to clean, no
-     memory, or a device\
+  4  A fault: settings, workers, a grain or a batch that are refused, a full log or one with nothing
+     to clean, no memory, or a device\
 ";
 
 // An option that takes a number.
@@ -108,6 +110,18 @@ fn command<'a>(alloc: Global) -> Result<Command<'a>, AllocError>
             it has to hold a full page of the greatest keys and values",
         ))?
         .arg(number(alloc, "segments", "64", "Segments of the log, 3 to 65536"))?
+        .arg(number(
+            alloc,
+            "workers",
+            "1",
+            "Threads that share the work, 1 to 64",
+        ))?
+        .arg(number(
+            alloc,
+            "grain",
+            "64",
+            "Pages that one of them takes at a time, 1 to 65535",
+        ))?
         .arg(path(
             alloc,
             "disk",
@@ -150,6 +164,16 @@ fn settings(matches: &ArgMatches<'_>) -> Settings
     }
 }
 
+// The crew that was found.
+fn crew(matches: &ArgMatches<'_>) -> Crew
+    ensures { (given : Given) → AreGivable given → rows_of (found_of matches.now) ≡ finished_rows given → result ≡ crew_of given }
+{
+    Crew {
+        workers: number_at(matches, "workers"),
+        grain: number_at(matches, "grain"),
+    }
+}
+
 // A copy of the path that was found, if one was.
 fn disk(alloc: Global, matches: &ArgMatches<'_>) -> Result<Option<String>, AllocError>
     ensures { (given : Given) → rows_of (found_of matches.now) ≡ finished_rows given
@@ -169,8 +193,8 @@ fn create(matches: &ArgMatches<'_>) -> bool
 }
 
 /// Reads the words behind the program's name: `[--fan N] [--chain N] [--max-key N] [--max-value N] [--seg-size N]
-/// [--segments N] [--disk PATH] [--create]`, in any order, `--fan=N` too, and `--help` or `-h`. A number that is not
-/// given has its default. Whether the numbers are in range is for `Settings::check` to say.
+/// [--segments N] [--workers N] [--grain N] [--disk PATH] [--create]`, in any order, `--fan=N` too, and `--help` or `-h`. A
+/// number that is not given has its default. Whether the numbers are in range is for `Settings::check` and `Crew::check` to say.
 pub fn options(alloc: Global, words: &[String]) -> Result<Options, Error>
     ensures ok { IfOk result (λ o. AsksFor (texts words.now) (told_of o)) }
     ensures err { IfErr result (λ e. IsRightKind (texts words.now) (kind_of e)) }
@@ -179,6 +203,7 @@ pub fn options(alloc: Global, words: &[String]) -> Result<Options, Error>
     let disk = disk(alloc, &matches)?;
     Ok(Options {
         settings: settings(&matches),
+        crew: crew(&matches),
         disk,
         create: create(&matches),
     })

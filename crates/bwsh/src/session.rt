@@ -1,14 +1,16 @@
-//! A session: the batch file is read, and run on the store that the command line tells: a new one in memory, or one in a file.
+//! A session: the batch file is read, and run by a crew on the store that the command line tells: a new one in memory, or one in a file.
 ghost use Rattle.std.specs.Prelude.{false, IsTrue, replicate, ◌≡◌, ◌≢◌, ◌↔◌, ◌⊎◌, ℕ, [], ◌∷◌, ◌++◌, map, None, Some, IfSome, Result, Ok, Err, IsOk, IfOk, OnOk, OnErr, IsOkUnless, MatchResult, take, length, ◌≤◌};
 ghost use Rattle.std.specs.List.{flat_map};
 ghost use Rattle.std.specs.String.{string_bytes};
 ghost use Rattle.std.specs.IoError.{error_kind};
 ghost use Rattle.std.specs.Io.KnownBytes.{Appends, Keeps};
 ghost use Rattle.clap.specs.Words.{kind_of};
+ghost use Rattle.crew.specs.Crew.{is_crew};
 ghost use Rattle.clap.specs.declared.error.kind.ErrorKind.TheVariants.{DisplayHelp, OutOfMemory};
 ghost use Rattle.keys.specs.Bytes.{Bytes};
 ghost use Rattle.keys.specs.Limits.{first_bad_field};
 ghost use Rattle.keys.specs.declared.fault.Fault.TheVariants.{NoMemory};
+ghost use Rattle.keys.specs.declared.fault.Fault.TheVariants as faults;
 ghost use Rattle.flush_log.specs.Segments.{disk_size};
 ghost use Rattle.engine.specs.Plays.{step_of, answer_of};
 ghost use Rattle.bwsh.specs.declared.session.Ending.{Ending};
@@ -26,6 +28,7 @@ use crate::options::{Options, options};
 use crate::show::{show_cleaned, show_flushed, show_reply, show_report};
 use cleaner::laws::a_clean_keeps_the_store;
 use climb_plan::laws::the_plan_holds_the_map_after_the_commands;
+use crew::{BadCrew, Crew, NoGate};
 use engine::{Answer, Disk, MemDisk, Step, Store};
 use flush_log::segments::disk_size;
 use keys::{Fault, Reply, Settings};
@@ -96,6 +99,14 @@ impl From<Fault> for Ending {
 
     fn from(fault: Fault) -> Ending {
         Ending::Fault(fault)
+    }
+}
+
+impl From<BadCrew> for Ending {
+    ghost from_gives = { λ _ ending. ending ≡ endings.Fault faults.BadCrew };
+
+    fn from(_refused: BadCrew) -> Ending {
+        Ending::Fault(Fault::BadCrew)
     }
 }
 
@@ -255,11 +266,13 @@ fn store_fault(fault: Fault) -> Ending
 // Plays a step, and writes what it answers.
 fn run_step<R: Threads + Sync, D: Disk, O: Write>(
     rt: &R,
+    crew: Crew,
     store: &mut Store<D>,
     step: Step<'_>,
     lines: &mut Vec<u8>,
     out: &mut O,
 ) -> Result<(), Ending>
+    requires crew { IsTrue (is_crew crew) }
     requires fine { store.old.has_failed ≡ false }
     ensures runs { (order : Order) → step_in order ≡ Some (step_of step.entry) →
         RunsOrder (D.view store.old.disk).is_honest store.old.settings store.old.store (D.view store.old.disk).seen order
@@ -271,7 +284,7 @@ fn run_step<R: Threads + Sync, D: Disk, O: Write>(
     // Only for the proof.
     the_plan_holds_the_map_after_the_commands::<Global>();
     a_clean_keeps_the_store();
-    match store.play(rt, &[step]) {
+    match store.play(rt, crew, &NoGate, &[step]) {
         Ok(answers) => write_answers(&answers, lines, out),
         Err(refused) => Err(store_fault(refused.2)),
     }
@@ -280,11 +293,13 @@ fn run_step<R: Threads + Sync, D: Disk, O: Write>(
 // Runs an order, and writes what it answers.
 fn run_order<R: Threads + Sync, D: Disk, O: Write>(
     rt: &R,
+    crew: Crew,
     store: &mut Store<D>,
     order: &Order,
     lines: &mut Vec<u8>,
     out: &mut O,
 ) -> Result<(), Ending>
+    requires crew { IsTrue (is_crew crew) }
     requires fine { store.old.has_failed ≡ false }
     ensures runs { RunsOrder (D.view store.old.disk).is_honest store.old.settings store.old.store (D.view store.old.disk).seen order.now
         (O.contents out.old) (O.contents out.new) result store.new.store (D.view store.new.disk).seen }
@@ -293,9 +308,11 @@ fn run_order<R: Threads + Sync, D: Disk, O: Write>(
     ensures failed { OnOk result (store.new.has_failed ≡ store.old.has_failed) }
 {
     match order {
-        Order::Batch(batch) => run_step(rt, store, Step::Batch(batch.commands()), lines, out),
-        Order::Flush => run_step(rt, store, Step::Flush, lines, out),
-        Order::Clean => run_step(rt, store, Step::Clean, lines, out),
+        Order::Batch(batch) => {
+            run_step(rt, crew, store, Step::Batch(batch.commands()), lines, out)
+        }
+        Order::Flush => run_step(rt, crew, store, Step::Flush, lines, out),
+        Order::Clean => run_step(rt, crew, store, Step::Clean, lines, out),
         Order::Verify => {
             let report = store.verify(rt)?;
             write_report(&report, lines, out)
@@ -306,17 +323,19 @@ fn run_order<R: Threads + Sync, D: Disk, O: Write>(
 // Runs the orders one after the other, and writes what each answers before the next runs.
 fn run_orders<R: AllocGlobal + Threads + Sync, D: Disk, O: Write>(
     rt: &R,
+    crew: Crew,
     store: &mut Store<D>,
     orders: &[Order],
     out: &mut O,
 ) -> Result<(), Ending>
+    requires crew { IsTrue (is_crew crew) }
     requires fine { store.old.has_failed ≡ false }
     ensures { RunsOn (D.view store.old.disk).is_honest store.old.settings store.old.store (D.view store.old.disk).seen orders.now
         (O.contents out.old) (O.contents out.new) result }
 {
     let mut lines = Vec::new(rt.alloc());
     for order in orders {
-        run_order(rt, store, order, &mut lines, out)?;
+        run_order(rt, crew, store, order, &mut lines, out)?;
     }
     Ok(())
 }
@@ -402,15 +421,17 @@ fn new_store_in_file<R: AllocGlobal + Files>(
 // The store that the file holds. Nothing is written.
 fn store_in_file<R: AllocGlobal + Threads + Sync + Files>(
     rt: &R,
+    crew: Crew,
     path: &str,
 ) -> Result<Store<FileDisk<R::File>>, Ending>
+    requires crew { IsTrue (is_crew crew) }
     ensures opens { (file : Bytes) × Opens ⟦<FileDisk<R::File> as Disk>⟧.view (found_start file) result }
     ensures fine { IfOk result (λ store. store.has_failed ≡ false) }
 {
     let Ok(disk) = old_disk(rt, path) else {
         return Err(Ending::Device);
     };
-    match Store::recover(rt, rt.alloc(), disk) {
+    match Store::recover(rt, rt.alloc(), disk, crew) {
         Ok(store) => Ok(store),
         Err(refused) => Err(store_fault(refused.0)),
     }
@@ -419,25 +440,28 @@ fn store_in_file<R: AllocGlobal + Threads + Sync + Files>(
 // Runs the orders on the store that was opened, and hands on to the device what was written.
 fn run_opened<R: AllocGlobal + Threads + Sync, D: Disk + Drop, O: Write>(
     rt: &R,
+    crew: Crew,
     opened: Result<Store<D>, Ending>,
     orders: &[Order],
     out: &mut O,
 ) -> Result<(), Ending>
+    requires crew { IsTrue (is_crew crew) }
     requires fine { IfOk opened (λ store. store.has_failed ≡ false) }
     ensures { (start : Start) → Opens D.view start opened →
         RunsFrom (IsHonestStore D.view opened) start orders.now (O.contents out.old) (O.contents out.new) result }
 {
     let mut store = opened?;
-    let done = run_orders(rt, &mut store, orders, out);
+    let done = run_orders(rt, crew, &mut store, orders, out);
     flush(done, out)
 }
 
-/// Reads the batch file that `input` holds, and runs it on the store that is told: a new one in memory, or in a file that is
-/// made anew; or the one that the file holds. The answers go to `out`, in lines. Where all is done, or a line is bad or
-/// there is no store (nothing is run then), or the store refuses an order, all answers stand there. Where memory is
-/// refused, some first lines of them do; where a device fails, some first bytes. A bad line goes before settings
-/// that are refused and before a fault of the file, and a fault of the output before one that was found earlier. A file
-/// of which no store is made, or that can't be opened, stays as it was.
+/// Reads the batch file that `input` holds, and has it run by the crew on the store that is told: a new one in memory, or in a
+/// file that is made anew; or the one that the file holds. The answers go to `out`, in lines, and are the same for every
+/// crew. Where all is done, or a line is bad or there is no store (nothing is run then), or the store refuses an order, all
+/// answers stand there. Where memory is refused, some first lines of them do; where a device fails, some first bytes. A bad
+/// line goes before a crew out of range, and that before settings that are refused and before a fault of the file; and a
+/// fault of the output goes before one that was found earlier. A file of which no store is made, or that can't be opened,
+/// stays as it was.
 pub fn run<R: AllocGlobal + Threads + Sync + Files, I: Read, O: Write>(
     rt: &R,
     told: &Options,
@@ -447,13 +471,18 @@ pub fn run<R: AllocGlobal + Threads + Sync + Files, I: Read, O: Write>(
     ensures { Answers (told_of told.now) (I.remaining input.old) (O.contents out.old) (O.contents out.new) result }
 {
     let orders = read_orders(rt.alloc(), input)?;
+    let crew = told.crew;
+    crew.check()?;
     match &told.disk {
-        None => run_opened(rt, store_in_memory(rt.alloc(), told.settings), &orders, out),
+        None => {
+            let opened = store_in_memory(rt.alloc(), told.settings);
+            run_opened(rt, crew, opened, &orders, out)
+        }
         Some(path) if told.create => {
             let opened = new_store_in_file(rt, path, told.settings);
-            run_opened(rt, opened, &orders, out)
+            run_opened(rt, crew, opened, &orders, out)
         }
-        Some(path) => run_opened(rt, store_in_file(rt, path), &orders, out),
+        Some(path) => run_opened(rt, crew, store_in_file(rt, crew, path), &orders, out),
     }
 }
 
@@ -551,7 +580,7 @@ pub fn unread_words<E: Write>(error: io::Error, err: &mut E) -> u8
 /// - 2: the words are refused. Nothing was read.
 /// - 3: a line of the batch file is bad. Nothing was run, and no file was opened.
 /// - 4: a fault. The answers to what was run before it stand in `out`, or some first of them where memory was refused
-///   or a device failed.
+///   or a device failed. Where that is a crew out of range, nothing was run, and no file was opened.
 pub fn session<R: AllocGlobal + Threads + Sync + Files, I: Read, O: Write, E: Write>(
     rt: &R,
     words: &[String],
@@ -567,8 +596,9 @@ pub fn session<R: AllocGlobal + Threads + Sync + Files, I: Read, O: Write, E: Wr
 
     // What stands on the output with each status: always a beginning of what the orders of the input answer on the store that the
     // words tell, unless that is help. In memory and in a file that is made anew it is a new one of the settings that they tell;
-    // else it is the one that the bytes of the file stand for, whichever these are. A clean is done of what the disk shows: in memory
-    // that is what was left, and a file may show anything.
+    // else it is the one that the bytes of the file stand for, whichever these are. With a crew out of range there is none, and
+    // else the crew doesn't matter. A clean is done of what the disk shows: in memory that is what was left, and a file may show
+    // anything.
     ensures done { result ≡ 0 → AsksForHelp (map string_bytes words.now) ⊎ ((told : Told) × AsksFor (map string_bytes words.now) told
         × IfSome (I.remaining input.old) (λ text. (first_bad 1 (text_says text) ≡ None)
         × ((start : Start) × IsStart told start × IsOk start × (shown : Reads) × IsShown told start shown (orders_of [] (text_says text))

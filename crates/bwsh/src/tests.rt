@@ -166,6 +166,24 @@ fn a_clean_tells_the_first_segment(rt: HostRuntime) -> Result<(), Fail> {
     Ok(())
 }
 
+// The same with four workers, each of whom draws one page at a time, and with as many of both as there may be.
+#[test]
+fn a_crew_changes_no_answer(rt: HostRuntime) -> Result<(), Fail> {
+    let alloc = rt.alloc();
+    for crew in [
+        ["--workers=4", "--grain=1"],
+        ["--workers=64", "--grain=65535"],
+    ] {
+        let mut words = small_store(alloc)?;
+        for word in crew {
+            words.push(String::from_str(alloc, word)?)?;
+        }
+        let told = b"fault 11 NothingToClean\n";
+        check(&rt, &words, CLEANED, 4, CLEANED_OUT, told);
+    }
+    Ok(())
+}
+
 // The puts make three levels. Of three keys that go, a page goes too; where all go at once, each page stays, with one run.
 #[test]
 fn a_tree_is_verified(rt: HostRuntime) -> Result<(), Fail> {
@@ -241,8 +259,8 @@ fn words_are_refused(rt: HostRuntime) -> Result<(), Fail> {
     Ok(())
 }
 
-// What the help has to say: each kind of line, what a segment has to hold, and the exit statuses.
-const HELP: [&str; 16] = [
+// What the help has to say: each kind of line, what a segment has to hold, the ranges of a crew, and the exit statuses.
+const HELP: [&str; 20] = [
     "put K V",
     "add K V",
     "get K",
@@ -256,6 +274,10 @@ const HELP: [&str; 16] = [
     "%20",
     "--seg-size <N>",
     "a full page of the greatest keys and values",
+    "--workers <N>",
+    "the work, 1 to 64 ",
+    "--grain <N>",
+    "at a time, 1 to 65535 ",
     "2  The words",
     "3  A line",
     "4  A fault",
@@ -447,10 +469,11 @@ fn words_and_tokens(rt: HostRuntime) {
     );
 }
 
-// Many keys under small pages, in batches of ten: the tree grows to several levels, and shrinks to nothing.
+// Many keys under small pages, in batches of ten: the tree grows to several levels, and shrinks to nothing. So it does with four
+// workers.
 #[test]
 fn a_tree_grows_and_shrinks(rt: HostRuntime) -> Result<(), Fail> {
-    let words = vec![in rt.alloc(); String::from_str(rt.alloc(), "--fan=4")?]?;
+    let mut words = vec![in rt.alloc(); String::from_str(rt.alloc(), "--fan=4")?]?;
     let mut input = Vec::new(rt.alloc());
     // 389 and 1,000 have no divisor in common, so each key comes once, in no order.
     for place in 0..1_000u32 {
@@ -468,6 +491,9 @@ fn a_tree_grows_and_shrinks(rt: HostRuntime) -> Result<(), Fail> {
     let mut out = b"new\n".as_slice().repeatn(rt.alloc(), 1_000)?;
     let rest = b"value v\ndeleted\n".as_slice().repeatn(rt.alloc(), 1_000)?;
     out.extend_from_slice(&rest)?;
+    check(&rt, &words, &input, 0, &out, b"");
+    words.push(String::from_str(rt.alloc(), "--workers=4")?)?;
+    words.push(String::from_str(rt.alloc(), "--grain=1")?)?;
     check(&rt, &words, &input, 0, &out, b"");
     Ok(())
 }

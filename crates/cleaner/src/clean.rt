@@ -18,7 +18,8 @@ ghost use Rattle.cleaner.specs.AfterClean.{slot_on_disk, after_clean};
 ghost use Rattle.cleaner.specs.Cleaned.{WouldClean, IsCleanFault, IsRefused, IsText, IsWriting, IsPlan};
 
 use crate::choose::choose;
-use crate::skim_segment::LogSoFar;
+use crate::log_so_far::LogSoFar;
+use crew::Crew;
 use flush_log::commit::slot_place;
 use flush_log::image::Image;
 use flush_log::layout::tail_of_clean;
@@ -29,6 +30,7 @@ use keys::{Fault, Settings};
 use recovery::read_bytes::read;
 use recovery::read_log::read_log;
 use std::alloc::Global;
+use std::thread::Threads;
 
 // What a clean writes: the images of its text, and the slot that commits them; and room for the bytes of a segment.
 #[derive(Drop)]
@@ -56,6 +58,8 @@ fn read_slot_on_disk<D: Disk>(disk: &mut D, sequence: u64) -> Result<Slot, Fault
 
 // The images of the text of a clean, of what is read of the log with this slot.
 fn read_text<D: Disk>(
+    rt: &(impl Threads + Sync),
+    crew: Crew,
     alloc: Global,
     disk: &mut D,
     settings: &Settings,
@@ -75,12 +79,14 @@ fn read_text<D: Disk>(
     ensures uncounted { IfErr result (λ fault. fault ≢ Fault.Device → D.failed disk.new ≡ D.failed disk.old) }
 {
     let mut log = LogSoFar::new(alloc);
-    read_log(alloc, disk, settings, slot, &mut log)?;
+    read_log(rt, crew, alloc, disk, settings, slot, &mut log)?;
     choose(log.into_pages()?, slot.head)
 }
 
 // Plans the clean of a log of which more than one segment is in use. It reads the disk, and writes nothing.
 fn plan<D: Disk>(
+    rt: &(impl Threads + Sync),
+    crew: Crew,
     alloc: Global,
     disk: &mut D,
     settings: &Settings,
@@ -99,7 +105,7 @@ fn plan<D: Disk>(
     ensures uncounted { IfErr result (λ fault. fault ≢ Fault.Device → D.failed disk.new ≡ D.failed disk.old) }
 {
     let on_disk = read_slot_on_disk(disk, slot.sequence)?;
-    let images = read_text(alloc, disk, settings, slot)?;
+    let images = read_text(rt, crew, alloc, disk, settings, slot)?;
     let mut buffer = Vec::new(alloc);
     buffer.resize(settings.seg_size as usize, 0)?;
     let sequence = slot.sequence + 1;
@@ -158,7 +164,8 @@ fn write<D: Disk>(
 /// segment is free. Returns the slot of the commit: the head is one further, and the root and the height are those that the present
 /// slot has on the disk. `slot` is the store's: where its log begins and ends, and how often it was committed.
 ///
-/// It works on the log alone, so what a tree in memory has that the log lacks stays so.
+/// It works on the log alone, so what a tree in memory has that the log lacks stays so. The crew shares the work of skimming the log; which
+/// crew it is changes nothing of what is answered or written.
 ///
 /// Where the log is in one segment that is `Fault::NothingToClean`, and neither is memory taken nor the disk called. Else the log is
 /// read, and the first fault counts: that at the least position of the log, `Fault::BadSegment` or `Fault::BadFrame`; of the pages by
@@ -167,6 +174,8 @@ fn write<D: Disk>(
 /// failed. After a fault nothing was written, but after `Fault::Device` where the failure was in writing: then the disk holds the store
 /// of before or the one after.
 pub fn clean<D: Disk>(
+    rt: &(impl Threads + Sync),
+    crew: Crew,
     alloc: Global,
     disk: &mut D,
     settings: &Settings,
@@ -196,7 +205,7 @@ pub fn clean<D: Disk>(
     if slot.head == last_segment(settings, slot.tail) {
         return Err(Fault::NothingToClean);
     }
-    let mut plan = plan(alloc, disk, settings, slot)?;
+    let mut plan = plan(rt, crew, alloc, disk, settings, slot)?;
     write(disk, settings, slot.tail, &mut plan)?;
     Ok(plan.slot)
 }

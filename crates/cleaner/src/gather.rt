@@ -2,13 +2,13 @@
 //!
 //! No frame is kept but those of pages that live in the head segment, and of these the bytes as they stand.
 ghost use Rattle.std.specs.Prelude.{◌≡◌, ◌++◌, ◌∷◌, [], List, IfOk, OnOk};
-ghost use Rattle.frame_codec.specs.Frame.{bytes_of};
-ghost use Rattle.frame_codec.specs.Skimmed.{IsSkimmed};
 ghost use Rattle.flush_log.specs.Reading.{Found};
 ghost use Rattle.cleaner.specs.Kept.{told_with, with_run, with_base, image_with, AreLive};
+ghost use Rattle.cleaner.specs.Skim.{held_frame, skim_of};
 
+use crate::skim_segment::SkimmedFrame;
 use flush_log::image::Image;
-use frame_codec::{FrameKind, Skimmed};
+use frame_codec::FrameKind;
 use indexmap::IndexMap;
 use std::alloc::{AllocError, Global};
 
@@ -123,13 +123,13 @@ impl LivePages {
         }
     }
 
-    /// Takes the next frame of the log, which stands in this segment, by what was skimmed of it and its bytes. After an `Err` what is
-    /// kept of its page may be lost.
-    pub fn add(&mut self, segment: u64, skimmed: Skimmed, frame: &[u8]) -> Result<(), AllocError>
-        ensures { (found : List Found) (f : Found) → f.segment ≡ segment → IsSkimmed skimmed f.frame → frame.now ≡ bytes_of f.frame →
-            AreLive self.old found → OnOk result (AreLive self.new (found ++ f ∷ [])) }
+    /// Takes the next frame of the log, which stands in this segment, by what was skimmed of it. After an `Err` what is kept of its page
+    /// may be lost.
+    pub fn add(&mut self, segment: u64, frame: SkimmedFrame<'_>) -> Result<(), AllocError>
+        ensures { (found : List Found) (f : Found) → skim_of f ≡ held_frame segment frame.entry → AreLive self.old found →
+            OnOk result (AreLive self.new (found ++ f ∷ [])) }
     {
-        let pid = skimmed.pid.0;
+        let SkimmedFrame { pid, kind, bytes } = frame;
         let first = self.first.unwrap_or(segment);
         let before = match self.by_pid.swap_remove(&pid) {
             Some(kept) => kept,
@@ -140,8 +140,8 @@ impl LivePages {
         };
         let Kept { told, image } = before;
         let kept = Kept {
-            told: told_with(told, skimmed.kind),
-            image: image_with(self.alloc, image, skimmed.kind, segment == first, frame)?,
+            told: told_with(told, kind),
+            image: image_with(self.alloc, image, kind, segment == first, bytes)?,
         };
         self.by_pid.insert(pid, kept)?;
         self.first = Some(first);

@@ -1,41 +1,40 @@
-//! The log is read for a clean: the frames of each segment are told, one after the other, without being kept.
-ghost use Rattle.std.specs.Prelude.{◌≡◌, ◌⊎◌, ◌^◌, ◌<◌, ◌++◌, [], List, length, Result, Ok, Err, IfErr, OnOk, MatchResult};
-ghost use Rattle.keys.specs.declared.fault.Fault as faults;
+//! The skim of a segment: its bytes give what is told of its frames, or its first fault.
+ghost use Rattle.std.specs.Prelude.{◌≡◌, ◌⊎◌, ◌^◌, ◌<◌, map, length, Ok, Err, IfOk, IfErr};
 ghost use Rattle.keys.specs.declared.fault.Fault.TheVariants.{NoMemory};
-ghost use Rattle.frame_codec.specs.Frame as said;
-ghost use Rattle.flush_log.specs.Reading.{Found, all_in};
 ghost use Rattle.recovery.specs.Scan.{held_segment, scanned};
-ghost use Rattle.cleaner.specs.Kept.{AreLive, IsSoFar};
+ghost use Rattle.cleaner.specs.Skim.{held_frame, skims_of};
 
-use crate::gather::LivePages;
+use crew::{Turn, Work};
 use flush_log::segments::segment_header;
-use frame_codec::skim_frame;
+use frame_codec::{FrameKind, skim_frame};
 use keys::{Fault, Settings};
-use recovery::read_log::LogReader;
 use recovery::scan_segment::{Segment, is_end};
 use std::alloc::Global;
+use std::marker::PhantomData;
 
-/// What was read of a log so far.
-#[derive(Drop)]
-pub struct LogSoFar {
-    // What is kept of the pages in front of the first fault.
-    pages: LivePages,
-    // The first fault that the bytes have.
-    fault: Option<Fault>,
+/// What is told of a frame of a segment, and its bytes, which stay where they are.
+#[derive(Clone, Copy)]
+pub struct SkimmedFrame<'a> {
+    /// The number of the page id of which it says something.
+    pub pid: u64,
+    /// What kind of frame it is.
+    pub kind: FrameKind,
+    /// Its bytes.
+    pub bytes: &'a [u8],
 }
 
-// Takes the frames of a segment: those behind its header, up to their end. Its bytes may be any.
+// The frames of a segment: those behind its header, up to their end. Its bytes may be any.
 //
 // A header of another segment, or none, is `Fault::BadSegment`. Where there is neither a frame nor the end of the frames, that is
-// `Fault::BadFrame` with the offset. Else there is `Fault::NoMemory`. After a fault frames in front of it may have been taken.
-fn skim_segment(
+// `Fault::BadFrame` with the offset. Else there is `Fault::NoMemory`.
+fn skim_segment<'a>(
+    alloc: Global,
     settings: &Settings,
-    segment: Segment<'_>,
-    pages: &mut LivePages,
-) -> Result<(), Fault>
+    segment: Segment<'a>,
+) -> Result<Vec<SkimmedFrame<'a>>, Fault>
     requires { length (held_segment segment).bytes < 2 ^ 32 }
-    ensures ok { OnOk result ((fs : List said.Frame) × (scanned settings.now (held_segment segment.entry) ≡ Ok (all_in segment.entry.number fs)) ×
-        ((found : List Found) → AreLive pages.old found → AreLive pages.new (found ++ all_in segment.entry.number fs))) }
+    ensures ok { IfOk result (λ frames.
+        skims_of (scanned settings.now (held_segment segment.entry)) ≡ Ok (map (held_frame segment.entry.number) frames.items)) }
     ensures err { IfErr result (λ fault. (fault ≡ NoMemory) ⊎ (scanned settings.now (held_segment segment.entry) ≡ Err fault)) }
 {
     let Segment { number, end, bytes } = segment;
@@ -43,60 +42,93 @@ fn skim_segment(
     if !bytes.starts_with(&header) {
         return Err(Fault::BadSegment(number));
     }
+    let mut frames = Vec::new(alloc);
     let mut rest = &bytes[header.len()..];
     while !is_end(end, rest) {
         let Some(skimmed) = skim_frame(rest, settings) else {
             return Err(Fault::BadFrame(number, (bytes.len() - rest.len()) as u32));
         };
         let size = skimmed.size;
-        let frame = &rest[..size];
-        pages.add(number, skimmed, frame)?;
+        let frame = SkimmedFrame {
+            pid: skimmed.pid.0,
+            kind: skimmed.kind,
+            bytes: &rest[..size],
+        };
+        frames.push(frame)?;
         rest = &rest[size..];
     }
-    Ok(())
+    Ok(frames)
 }
 
-impl LogSoFar {
-    /// Nothing yet.
-    pub fn new(alloc: Global) -> Self
-        ensures { IsSoFar result.pages result.fault (Ok []) }
+/// The work of skimming segments: a segment goes in, whose bytes are lent; what is told of its frames or its first fault comes out.
+#[derive(Drop)]
+pub struct SkimWork<'a> {
+    alloc: Global,
+    settings: Settings,
+    lent: PhantomData<&'a [u8]>,
+}
+
+/// What a skim of a segment gave, with the segment.
+#[derive(Drop)]
+pub struct SkimDone<'a> {
+    /// The segment.
+    pub segment: Segment<'a>,
+    /// What is told of its frames, or its first fault.
+    pub skim: Result<Vec<SkimmedFrame<'a>>, Fault>,
+}
+
+impl<'a> SkimWork<'a> {
+    /// The work with this allocator, on segments under these settings.
+    pub fn new(alloc: Global, settings: &Settings) -> Self
+        ensures { result.settings ≡ settings.now }
     {
-        LogSoFar {
-            pages: LivePages::new(alloc),
-            fault: None,
+        SkimWork {
+            alloc,
+            settings: *settings,
+            lent: PhantomData,
+        }
+    }
+}
+
+impl<'a> Work for SkimWork<'a> {
+    ghost use Rattle.std.specs.Prelude.{◌^◌, ◌<◌, List, Result, length};
+    ghost use Rattle.keys.specs.declared.fault.Fault.{Fault};
+    ghost use Rattle.recovery.specs.Scan.{HeldSegment, held_segment, scanned};
+    ghost use Rattle.cleaner.specs.Skim.{HeldFrame, skims_of, told_of_skim};
+
+    type Job = Segment<'a>;
+
+    type Done = SkimDone<'a>;
+
+    ghost Held = { HeldSegment };
+
+    ghost Made = { Result (List HeldFrame) Fault };
+
+    ghost accepts = { λ _ h. length h.bytes < 2 ^ 32 };
+
+    ghost held = { held_segment };
+
+    ghost origin = { λ d. held_segment d.segment };
+
+    ghost outcome = { told_of_skim };
+
+    ghost made = { λ w h. skims_of (scanned w.settings h) };
+
+    fn work(&self, job: Segment<'a>) -> Turn<Segment<'a>, SkimDone<'a>> {
+        match skim_segment(self.alloc, &self.settings, job) {
+            Ok(frames) => Turn::Done(SkimDone {
+                segment: job,
+                skim: Ok(frames),
+            }),
+            Err(Fault::NoMemory) => Turn::Back(job),
+            Err(fault) => Turn::Done(SkimDone {
+                segment: job,
+                skim: Err(fault),
+            }),
         }
     }
 
-    /// What is kept of the pages, or the first fault.
-    pub fn into_pages(self) -> Result<LivePages, Fault>
-        ensures { (told : Result (List Found) faults.Fault) → IsSoFar self.pages self.fault told → MatchResult result
-            (λ pages. (found : List Found) × (told ≡ Ok found) × AreLive pages found) (λ fault. told ≡ Err fault) }
-    {
-        let LogSoFar { pages, fault } = self;
-        match fault {
-            Some(fault) => Err(fault),
-            None => Ok(pages),
-        }
-    }
-}
-
-impl LogReader for LogSoFar {
-    ghost use Rattle.cleaner.specs.Kept.{IsSoFar};
-
-    ghost has_read = { λ r told. IsSoFar r.pages r.fault told };
-
-    // Behind a fault nothing counts, and no segment is skimmed.
-    fn take(&mut self, settings: &Settings, segment: Segment<'_>) -> Result<(), Fault> {
-        if self.fault.is_some() {
-            return Ok(());
-        }
-        match skim_segment(settings, segment, &mut self.pages) {
-            Ok(()) => Ok(()),
-            Err(Fault::NoMemory) => Err(Fault::NoMemory),
-            Err(fault) => {
-                self.fault = Some(fault);
-                Ok(())
-            }
-        }
+    fn undo(&self, done: SkimDone<'a>) -> Segment<'a> {
+        done.segment
     }
 }

@@ -1,5 +1,5 @@
 -- What the pages that were seen say of all pages of a level.
-use Rattle.std.specs.Prelude.{◌≡◌, ℕ, Bool, true, false, cond, List, [], ◌∷◌, map}
+use Rattle.std.specs.Prelude.{◌≡◌, ℕ, Bool, true, false, cond, List, ◌∷◌, map}
 use Rattle.std.proofs.Common.{refl}
 use Rattle.std.specs.List.{filter}
 use Rattle.index_page.specs.Page.{Page, PageOfKind}

@@ -23,7 +23,6 @@ use Rattle.split_plan.proofs.PidLaws.{distinct_renewed, recast, renewed-append, 
 use Rattle.split_plan.proofs.Renewed.{Renewed}
 use Rattle.split_plan.proofs.Renewed.Renewed.{done, keep}
 use Rattle.split_plan.proofs.RunLaws.{names-worked_parents}
-use Rattle.climb_plan.specs.Changing.{same}
 use Rattle.climb_plan.specs.Climb.{Climbed, climb, families}
 use Rattle.climb_plan.specs.HasClimbed.{HasClimbed}
 use Rattle.climb_plan.proofs.ChangingOutdated.{worked_pids-placed, outdate-joined}

@@ -10,7 +10,7 @@ ghost use Rattle.climb_plan.specs.Rewriting.{seen_name, all_seen, cut_group, Can
 ghost use Rattle.climb_plan.specs.Installing.{AreAway};
 
 use crate::seen::Seen;
-use crew::work_all;
+use crew::{Crew, Gate, run_round};
 use delta_chain::Run;
 use index_page::Page;
 use keys::{Key, Pid, Settings};
@@ -20,6 +20,7 @@ use split_plan::{GroupDone, GroupJob, GroupWork, Name, terms};
 use std::alloc::{AllocError, Global};
 use std::collections::VecDeque;
 use std::marker::Model;
+use std::thread::Threads;
 
 /// A group that is rewritten: its members, and the pages that are made of them.
 #[derive(Drop)]
@@ -42,6 +43,9 @@ impl Model for Rewritten {
 
 /// The groups, cut. Their pieces have no numbers yet.
 pub(crate) fn cut_all(
+    rt: &(impl Threads + Sync),
+    crew: Crew,
+    gate: &impl Gate,
     alloc: Global,
     settings: &Settings,
     groups: &[Vec<Seen<'_>>],
@@ -52,7 +56,7 @@ pub(crate) fn cut_all(
 {
     let jobs = jobs_of(alloc, groups)?;
     let work = GroupWork::new(alloc, *settings);
-    match work_all(&work, jobs) {
+    match run_round(rt, crew, gate, &work, jobs) {
         Ok(dones) => all_cut(alloc, groups, dones),
         Err(_) => Err(AllocError),
     }

@@ -19,24 +19,30 @@ ghost use Rattle.climb_plan.specs.Plan.{planned_tree};
 ghost use Rattle.climb_plan.specs.Ready.{IsReady};
 
 use crate::change::free_drawn;
-use crate::install::{install_all, put_home, undo_parents};
+use crate::install::{install_all, put_home, put_leaves_home, undo_parents};
 use crate::level::{Changed, change_level};
 use crate::refused::Refused;
 use crate::seen::Revised;
 use crate::shrink::shrink;
 use crate::top::climb_root;
+use crew::{Crew, Gate};
 use index_page::Page;
 use keys::Settings;
 use mapping::Tree;
 use mapping::laws::drawn_pids_get_places_that_are_away;
 use page_runs::{LeafDone, TermDone};
 use std::alloc::Global;
+use std::thread::Threads;
 
 /// Climbs from these leaves, which were taken out of the tree and worked with the commands of a batch: they go home, their groups are cut
 /// and merged, and so on level by level upward, and the root shrinks while it has one child. The tree is the plan's then. Where it is
 /// refused, for want of memory or since the tree would have more than 64 levels, the tree is as it was, and the leaves come back as
-/// they were given. Only the parents of leaves that are thin or fat are visited.
+/// they were given. Only the parents of leaves that are thin or fat are visited. On each level the crew cuts the groups and works the parents;
+/// the gate is told of each piece of these, and neither changes what becomes of the tree.
 pub fn climb(
+    rt: &(impl Threads + Sync),
+    crew: Crew,
+    gate: &impl Gate,
     alloc: Global,
     settings: &Settings,
     tree: &mut Tree<Global>,
@@ -55,7 +61,7 @@ pub fn climb(
         most_levels < (planned_tree settings.now t cs).height) }
 {
     let depth = tree.height() - 1;
-    climb_leaves(alloc, settings, tree, depth, leaves)?;
+    climb_leaves(rt, crew, gate, alloc, settings, tree, depth, leaves)?;
     shrink(tree);
     Ok(())
 }
@@ -63,6 +69,9 @@ pub fn climb(
 // Climbs from these leaves, which were worked, and which are so many levels below the root. Where it is refused, the tree is as
 // it was, and the pages come back as they were given.
 fn climb_leaves(
+    rt: &(impl Threads + Sync),
+    crew: Crew,
+    gate: &impl Gate,
     alloc: Global,
     settings: &Settings,
     tree: &mut Tree<Global>,
@@ -87,16 +96,16 @@ fn climb_leaves(
         return Ok(());
     }
     if depth == 0 {
-        return climb_root(alloc, settings, tree, dones);
+        return climb_root(rt, crew, gate, alloc, settings, tree, dones);
     }
-    let changed = match change_level(alloc, settings, tree, depth - 1, &dones) {
+    let changed = match change_level(rt, crew, gate, alloc, settings, tree, depth - 1, &dones) {
         Ok(changed) => changed,
         Err(_) => return Err((Refused::NoMemory, dones)),
     };
     let Changed { groups, parents } = changed;
-    match climb_parents(alloc, settings, tree, depth - 1, parents) {
+    match climb_parents(rt, crew, gate, alloc, settings, tree, depth - 1, parents) {
         Ok(()) => {
-            put_home(tree, dones);
+            put_leaves_home(rt, crew, alloc, tree, dones);
             install_all(tree, groups);
             Ok(())
         }
@@ -113,6 +122,9 @@ fn climb_leaves(
 // Climbs from these index pages, which were worked, and which are so many levels below the root. Where it is refused, the tree is as
 // it was, and the pages come back as they were given.
 fn climb_parents(
+    rt: &(impl Threads + Sync),
+    crew: Crew,
+    gate: &impl Gate,
     alloc: Global,
     settings: &Settings,
     tree: &mut Tree<Global>,
@@ -137,14 +149,14 @@ fn climb_parents(
         return Ok(());
     }
     if depth == 0 {
-        return climb_root(alloc, settings, tree, dones);
+        return climb_root(rt, crew, gate, alloc, settings, tree, dones);
     }
-    let changed = match change_level(alloc, settings, tree, depth - 1, &dones) {
+    let changed = match change_level(rt, crew, gate, alloc, settings, tree, depth - 1, &dones) {
         Ok(changed) => changed,
         Err(_) => return Err((Refused::NoMemory, dones)),
     };
     let Changed { groups, parents } = changed;
-    match climb_parents(alloc, settings, tree, depth - 1, parents) {
+    match climb_parents(rt, crew, gate, alloc, settings, tree, depth - 1, parents) {
         Ok(()) => {
             put_home(tree, dones);
             install_all(tree, groups);

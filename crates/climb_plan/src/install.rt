@@ -4,23 +4,29 @@ ghost use Rattle.std.specs.Prelude.{◌≡◌, map, Some, None, IsSome, IfOk, On
 ghost use Rattle.std.specs.List.{AllByRecursion};
 ghost use Rattle.std.specs.Vec.Iter.{into_iter_items};
 ghost use Rattle.mapping.specs.Proper.{Distinct, AreRisingPids};
+ghost use Rattle.index_page.specs.Page.PageOfKind.{Leaf};
 ghost use Rattle.page_runs.specs.TermWork.{index_made, term_held_of};
+ghost use Rattle.climb_plan.specs.Changing.{shown};
 ghost use Rattle.mapping.specs.Table.{page_of, place_of, with_place, log_outdated, pids_in_use};
 ghost use Rattle.climb_plan.specs.Installing.{all_taken, all_put, AreAway, AreParentsHome, parent_held, come_home, all_come_home, members_freed, put_under, group_installed, all_installed, CanInstall, CanInstallAll};
 
 use crate::change::Rewritten;
 use crate::seen::Revised;
-use crew::{Work, work_all};
+use crew::{Crew, Gate, Work, drop_all, run_round};
 use delta_chain::Run;
 use index_page::Page;
 use keys::{Pid, Settings};
 use mapping::Tree;
-use page_runs::{TermDone, TermJob, TermWork};
+use page_runs::{LeafDone, LeafRest, TermDone, TermJob, TermWork};
 use std::alloc::{AllocError, Global};
+use std::thread::Threads;
 use std::vec::IntoIter;
 
 /// Takes the parents out of the tree, and works each with the run of its terms. Where memory is refused, the tree is as it was.
 pub(crate) fn work_parents(
+    rt: &(impl Threads + Sync),
+    crew: Crew,
+    gate: &impl Gate,
     alloc: Global,
     settings: &Settings,
     tree: &mut Tree<Global>,
@@ -37,7 +43,7 @@ pub(crate) fn work_parents(
         settings: *settings,
     };
     let jobs = take_all(alloc, tree, told)?;
-    match work_all(&work, jobs) {
+    match run_round(rt, crew, gate, &work, jobs) {
         Ok(dones) => Ok(dones),
         Err(jobs) => {
             put_back(tree, jobs);
@@ -128,6 +134,55 @@ fn come_home<D: Revised>(tree: &mut Tree<Global>, done: D)
         tree.outdate(pid);
     }
     tree.put(pid, done.into_page());
+}
+
+/// Puts the leaves home after their runs. What is left of their work, the leaves that were replaced among it, the crew drops, since that
+/// takes as long as to make new ones. It needs no memory: where there is none to keep that for the crew, it is dropped leaf by leaf.
+pub(crate) fn put_leaves_home(
+    rt: &(impl Threads + Sync),
+    crew: Crew,
+    alloc: Global,
+    tree: &mut Tree<Global>,
+    leaves: Vec<LeafDone>,
+)
+    requires { AreAway tree.old.table (map (λ d. (shown Leaf d.made.worked).pid) leaves.items) }
+    ensures { tree.new ≡ record tree.old { table = all_come_home tree.old.table (map (λ d. shown Leaf d.made.worked) leaves.items) } }
+{
+    drop_all(rt, crew, rests_of_leaves(alloc, tree, leaves))
+}
+
+// Puts the leaves home, and returns what is left of their work, as far as there is room for it.
+fn rests_of_leaves(alloc: Global, tree: &mut Tree<Global>, leaves: Vec<LeafDone>) -> Vec<LeafRest>
+    requires { AreAway tree.old.table (map (λ d. (shown Leaf d.made.worked).pid) leaves.items) }
+    ensures { tree.new ≡ record tree.old { table = all_come_home tree.old.table (map (λ d. shown Leaf d.made.worked) leaves.items) } }
+{
+    let mut rests = Vec::with_capacity(alloc, leaves.len()).unwrap_or(Vec::new(alloc));
+    for leaf in leaves {
+        let rest = leaf_comes_home(tree, leaf);
+        keep_if_room(&mut rests, rest);
+    }
+    rests
+}
+
+// Puts the item behind the others, where the list has room for it.
+fn keep_if_room<T: Drop>(items: &mut Vec<T>, item: T) {
+    if items.len() < items.capacity() {
+        items.push_reserved(item);
+    }
+}
+
+// Puts the leaf home after its run, and returns what is left of its work. Where it was replaced, the log doesn't know it.
+fn leaf_comes_home(tree: &mut Tree<Global>, leaf: LeafDone) -> LeafRest
+    requires { place_of tree.old.table (shown Leaf leaf.made.worked).pid ≡ Some None }
+    ensures { tree.new ≡ record tree.old { table = come_home tree.old.table (shown Leaf leaf.made.worked) } }
+{
+    let pid = leaf.pid();
+    if leaf.is_replaced() {
+        tree.outdate(pid);
+    }
+    let (page, rest) = leaf.into_page_and_rest();
+    tree.put(pid, page);
+    rest
 }
 
 /// Puts the pieces of the groups into their places, and gives up those of the members that are freed. All members are at

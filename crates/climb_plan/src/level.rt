@@ -13,11 +13,13 @@ use crate::change::{Rewritten, all_freed, all_terms, cut_all, draw_all, free_dra
 use crate::family::rewrites;
 use crate::install::work_parents;
 use crate::seen::{Revised, see_all};
+use crew::{Crew, Gate};
 use keys::Settings;
 use mapping::Tree;
 use page_runs::TermDone;
 use split_plan::Name;
 use std::alloc::{AllocError, Global};
+use std::thread::Threads;
 
 /// What became of a level: its groups, rewritten, with the numbers of their new pieces, and their parents, worked.
 #[derive(Drop)]
@@ -29,6 +31,9 @@ pub(crate) struct Changed {
 /// Cuts the groups of a level that are rewritten, draws the numbers of their new pieces, and works their parents, which are so many
 /// levels below the root. These of the level's pages were worked. Where memory is refused, the tree is as it was.
 pub(crate) fn change_level<D: Revised>(
+    rt: &(impl Threads + Sync),
+    crew: Crew,
+    gate: &impl Gate,
     alloc: Global,
     settings: &Settings,
     tree: &mut Tree<Global>,
@@ -43,9 +48,13 @@ pub(crate) fn change_level<D: Revised>(
     ensures err { OnErr result (tree.new ≡ tree.old) }
 {
     D::is_of_a_kind();
-    let (parents, freed, mut groups) = cut_level(alloc, settings, tree, depth, dones)?;
+    let (parents, freed, mut groups) = cut_level(
+        rt, crew, gate, alloc, settings, tree, depth, dones,
+    )?;
     draw_all(tree, &mut groups)?;
-    match tell_parents(alloc, settings, tree, &parents, freed, &groups) {
+    match tell_parents(
+        rt, crew, gate, alloc, settings, tree, &parents, freed, &groups,
+    ) {
         Ok(parents) => Ok(Changed { groups, parents }),
         Err(refused) => {
             free_drawn(tree, &groups);
@@ -57,6 +66,9 @@ pub(crate) fn change_level<D: Revised>(
 // Takes these parents out of the tree, and works each with the terms of its groups. Where memory is refused, the tree is as
 // it was.
 fn tell_parents(
+    rt: &(impl Threads + Sync),
+    crew: Crew,
+    gate: &impl Gate,
     alloc: Global,
     settings: &Settings,
     tree: &mut Tree<Global>,
@@ -76,12 +88,15 @@ fn tell_parents(
     ensures err { OnErr result (tree.new ≡ tree.old) }
 {
     let told = all_terms(alloc, parents, freed, groups)?;
-    work_parents(alloc, settings, tree, told)
+    work_parents(rt, crew, gate, alloc, settings, tree, told)
 }
 
 // The parents of the groups that are rewritten, with how many each has; the names that are freed in each group; and the
 // groups, cut.
 fn cut_level<D: Revised>(
+    rt: &(impl Threads + Sync),
+    crew: Crew,
+    gate: &impl Gate,
     alloc: Global,
     settings: &Settings,
     tree: &Tree<Global>,
@@ -98,6 +113,6 @@ fn cut_level<D: Revised>(
     let seen = see_all(alloc, dones)?;
     let to_rewrite = rewrites(alloc, tree, depth, &seen)?;
     let freed = all_freed(alloc, &to_rewrite.groups)?;
-    let groups = cut_all(alloc, settings, &to_rewrite.groups)?;
+    let groups = cut_all(rt, crew, gate, alloc, settings, &to_rewrite.groups)?;
     Ok((to_rewrite.parents, freed, groups))
 }

@@ -103,7 +103,7 @@ impl Revised for LeafDone {
     fn is_of_a_kind() {}
 
     fn into_page(self) -> Page<Global> {
-        let (page, _pieces) = self.into_page_and_pieces();
+        let (page, _rest) = self.into_page_and_rest();
         page
     }
 }

@@ -20,15 +20,20 @@ use crate::install::{install_all, put_home};
 use crate::refused::Refused;
 use crate::root::grow;
 use crate::seen::{Revised, Seen, see_all};
+use crew::{Crew, Gate};
 use keys::{Key, Pid, Settings};
 use mapping::Tree;
 use page_runs::Class;
 use split_plan::Name;
 use std::alloc::{AllocError, Global};
+use std::thread::Threads;
 
 /// Climbs from the root, which was worked and is the one page of this list: it is cut where it is fat, and levels grow above it. Where it
 /// is refused, the tree is as it was, and the page comes back as it was given.
 pub(crate) fn climb_root<D: Revised>(
+    rt: &(impl Threads + Sync),
+    crew: Crew,
+    gate: &impl Gate,
     alloc: Global,
     settings: &Settings,
     tree: &mut Tree<Global>,
@@ -46,7 +51,7 @@ pub(crate) fn climb_root<D: Revised>(
     ensures high { IfErr result (λ e. (ws : List (Worked D.Cells)) (used : List ℕ) (i : ℕ) → IsLevel D.of tree.old (map D.seen dones.items) ws [] used i → e.0 ≡ Refused.TooHigh →
         most_levels < tree.old.height + length (climb settings.now used i ws []).tower.above) }
 {
-    match change_root(alloc, settings, tree, &dones) {
+    match change_root(rt, crew, gate, alloc, settings, tree, &dones) {
         Ok((groups, root, height)) => {
             put_home(tree, dones);
             install_all(tree, groups);
@@ -60,6 +65,9 @@ pub(crate) fn climb_root<D: Revised>(
 // Cuts the root where it is fat, draws the numbers of its new pieces, and grows levels above them: the group, if it is one, the new root and
 // the number of levels. Where it is refused, the tree is as it was.
 fn change_root<D: Revised>(
+    rt: &(impl Threads + Sync),
+    crew: Crew,
+    gate: &impl Gate,
     alloc: Global,
     settings: &Settings,
     tree: &mut Tree<Global>,
@@ -77,7 +85,7 @@ fn change_root<D: Revised>(
         most_levels < tree.old.height + length (climb settings.now used i ws []).tower.above) }
 {
     D::is_of_a_kind();
-    let mut groups = cut_root(alloc, settings, dones)?;
+    let mut groups = cut_root(rt, crew, gate, alloc, settings, dones)?;
     draw_all(tree, &mut groups)?;
     match grow_above(alloc, settings, tree, &groups) {
         Ok((root, height)) => Ok((groups, root, height)),
@@ -90,6 +98,9 @@ fn change_root<D: Revised>(
 
 // The root as a group by itself, cut, where it is fat.
 fn cut_root<D: Revised>(
+    rt: &(impl Threads + Sync),
+    crew: Crew,
+    gate: &impl Gate,
     alloc: Global,
     settings: &Settings,
     dones: &[D],
@@ -104,7 +115,7 @@ fn cut_root<D: Revised>(
     if seen[0].class == Class::Fat {
         groups.push(seen)?;
     }
-    cut_all(alloc, settings, &groups)
+    cut_all(rt, crew, gate, alloc, settings, &groups)
 }
 
 // Grows levels above the root's pieces, if it was cut. Where it is refused, the tree is as it was.

@@ -2,7 +2,7 @@
 ghost use Rattle.std.specs.Prelude.{◌≡◌, ◌+◌, ◌<◌, ◌≤◌, ◌++◌, [], map, length, IfOk, IfErr, vec_capacity};
 ghost use Rattle.std.specs.List.{All};
 
-use crate::entry::{Gate, NoGate};
+use crate::entry::Gate;
 use crate::{Turn, Work};
 use std::alloc::Allocator;
 
@@ -41,20 +41,6 @@ pub(crate) fn work_in_turn<W: Work, G: Gate, A: Allocator + Copy>(
         }
     }
     Ok(dones)
-}
-
-/// Works the jobs one after the other in the caller's thread, as a round of one piece: what was made of each, in the order of the jobs; or,
-/// where memory was refused, all jobs as they were, in their order. The way back takes no memory.
-pub fn work_all<W: Work, A: Allocator + Copy>(
-    work: &W,
-    jobs: Vec<W::Job, A>,
-) -> Result<Vec<W::Done, A>, Vec<W::Job, A>>
-    requires { All (λ job. W.accepts work.now (W.held job)) jobs.items }
-    ensures made { IfOk result (λ dones. map W.outcome dones.items ≡ map (W.made work.now) (map W.held jobs.items)) }
-    ensures origin { IfOk result (λ dones. map W.origin dones.items ≡ map W.held jobs.items) }
-    ensures held { IfErr result (λ again. map W.held again.items ≡ map W.held jobs.items) }
-{
-    work_in_turn(&NoGate, 0, usize::MAX, work, jobs)
 }
 
 /// Undoes all that was made, and returns the jobs in their order, with the given ones behind them. It takes no memory,

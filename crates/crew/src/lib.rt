@@ -6,6 +6,7 @@ ghost use Rattle.std.specs.Prelude.{◌≡◌};
 ghost use Rattle.crew.specs.Turn.{IfDone, IfBack};
 
 mod drawn;
+mod dropping;
 mod entry;
 mod home;
 mod in_turn;
@@ -19,8 +20,8 @@ mod rounds;
 #[cfg(test)]
 mod tests;
 
+pub use crate::dropping::drop_all;
 pub use crate::entry::{Gate, NoGate};
-pub use crate::in_turn::work_all;
 pub use crate::limits::{BadCrew, Crew};
 pub use crate::machine::{Event, Mark};
 pub use crate::marks::Round;

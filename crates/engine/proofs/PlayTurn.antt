@@ -1,10 +1,10 @@
 -- A turn of a play: one step more.
-use Rattle.std.specs.Prelude.{◌≡◌, ◌≢◌, ◌⊎◌, ℕ, zero, suc, ◌+◌, ◌<◌, Bool, IsTrue, true, false, List, [], ◌∷◌, ◌++◌, length, map, take, drop, Option, None, Result, Ok, Err}
+use Rattle.std.specs.Prelude.{◌≡◌, ◌≢◌, ◌⊎◌, ℕ, zero, suc, ◌+◌, ◌<◌, ◌≤◌, Bool, IsTrue, true, false, List, [], ◌∷◌, ◌++◌, length, map, take, drop, Option, None, Result, Ok, Err}
 use Rattle.std.proofs.Common.{refl, sym, ap, ◌∙◌, subst, inl, inr, arith, get_or}
 use Rattle.std.proofs.lemmas.List.{map-append, take_more, drop_more}
 use Rattle.std.specs.declared.alloc.Global.{Global}
 use Rattle.keys.specs.declared.fault.Fault.{Fault}
-use Rattle.keys.specs.declared.fault.Fault.TheVariants.{BadSettings, KeyTooLong, ValueTooLong, BatchTooLong, NoMemory, Failed, Device, Full, NothingToClean, NotAStore, NoSlot, BadSegment, BadFrame, BadStructure, Spent, DiskTooSmall}
+use Rattle.keys.specs.declared.fault.Fault.TheVariants.{BadSettings, KeyTooLong, ValueTooLong, BatchTooLong, BadCrew, NoMemory, Failed, Device, Full, NothingToClean, NotAStore, NoSlot, BadSegment, BadFrame, BadStructure, Spent, DiskTooSmall}
 use Rattle.keys.specs.declared.settings.Settings.{Settings}
 use Rattle.mapping.specs.Tree.{Store}
 use Rattle.flush_log.specs.Disk.{View, Lawful, IsSettled, Kept, Same, LeavesOnly}
@@ -37,6 +37,11 @@ none_taken xs zero h e = refl
 none_taken [] (suc i) h e = absurd (omega (arith, h))
 none_taken (x ∷ xs) (suc i) h e = absurd (cc)
 
+-- where the first of some isn't done, and none is left, there are none
+pub none_left : (xs : List code_step.Step) (i : ℕ) → i ≡ 0 → length xs ≤ i → xs ≡ []
+none_left [] i first last = refl
+none_left (x ∷ xs) i first last = absurd (omega (arith, first, last))
+
 -- ---- how far a play has come
 
 pub device_or_not : (fault : Fault) → (fault ≡ Device) ⊎ ((fault ≢ Device) × ((n : ℕ) → tried fault n ≡ n))
@@ -45,6 +50,7 @@ device_or_not (BadSettings a) = inr ((λ e. cc), λ n. refl)
 device_or_not (KeyTooLong a) = inr ((λ e. cc), λ n. refl)
 device_or_not (ValueTooLong a) = inr ((λ e. cc), λ n. refl)
 device_or_not BatchTooLong = inr ((λ e. cc), λ n. refl)
+device_or_not BadCrew = inr ((λ e. cc), λ n. refl)
 device_or_not NoMemory = inr ((λ e. cc), λ n. refl)
 device_or_not Failed = inr ((λ e. cc), λ n. refl)
 device_or_not Full = inr ((λ e. cc), λ n. refl)

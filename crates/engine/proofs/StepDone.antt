@@ -9,7 +9,7 @@ use Rattle.keys.specs.declared.command.Command.{Command}
 use Rattle.keys.specs.declared.command.Command.TheVariants.{Get, Put, Add, Del, Scan}
 use Rattle.keys.specs.declared.command.Reply.{Reply}
 use Rattle.keys.specs.declared.fault.Fault.{Fault}
-use Rattle.keys.specs.declared.fault.Fault.TheVariants.{Device, Failed, Spent, KeyTooLong, ValueTooLong, BatchTooLong}
+use Rattle.keys.specs.declared.fault.Fault.TheVariants.{BadCrew, Device, Failed, Spent, KeyTooLong, ValueTooLong, BatchTooLong}
 use Rattle.keys.specs.declared.settings.Settings.{Settings}
 use Rattle.mapping.specs.Levels.{contents}
 use Rattle.mapping.specs.Tree.{Tree, Store, most_levels}
@@ -30,6 +30,10 @@ use Rattle.engine.specs.Steps.Answer.{Replies, Flushed, Cleaned}
 pub fine_where : {T : Type 0} (b : Bool) (r : Result T Fault) (x : T) → r ≡ Ok x → (b ≡ true → r ≡ Err Failed) → b ≡ false
 fine_where false r x ok failed = refl
 fine_where true r x ok failed = (let bad = failed refl in absurd (cc))
+
+pub able_where : {T : Type 0} (b : Bool) (r : Result T Fault) (x : T) → r ≡ Ok x → (b ≡ false → r ≡ Err BadCrew) → b ≡ true
+able_where true r x ok refused = refl
+able_where false r x ok refused = (let bad = refused refl in absurd (cc))
 
 pub empty_or_not : {X : Type 0} (xs : List X) → (xs ≡ []) ⊎ (xs ≢ [])
 empty_or_not [] = inl refl
@@ -84,9 +88,10 @@ module _ {T : Type 0} (s : Settings) (st : Store) (cs : List (Command Global)) (
     later_no (inr spent) = let why = spent.0 in cc
   never_by (Some f) other p e = let same : fault ≡ f = cc in other (ap (λ (x : Fault). Some x) (sym same ∙ e))
 
-  pub batch_never : (b : Bool) → (b ≡ true → result ≡ Err Failed) → (b ≡ false → Later (refusal s cs)) → fault ≢ Device
-  batch_never true failed later e = (let bad = failed refl in absurd (cc))
-  batch_never false failed later e = never_by (refusal s cs) (no_refusal_by s _ cs) (later refl) e
+  pub batch_never : (b able : Bool) → (b ≡ true → result ≡ Err Failed) → (b ≡ false → able ≡ false → result ≡ Err BadCrew) → (b ≡ false → able ≡ true → Later (refusal s cs)) → fault ≢ Device
+  batch_never true able failed refused later e = (let bad = failed refl in absurd (cc))
+  batch_never false false failed refused later e = (let bad = refused refl refl in absurd (cc))
+  batch_never false true failed refused later e = never_by (refusal s cs) (no_refusal_by s _ cs) (later refl refl) e
 
   high : (h : ℕ) → most_levels < h → height_fault h ≡ Some Spent
   high h more =

@@ -1,4 +1,4 @@
--- Which batches are refused, and with which fault.
+-- Which calls are refused for their crew, which batches for their commands, and with which fault.
 use Rattle.std.specs.Prelude.{ℕ, ◌+◌, nat_lt, length, if◌then◌else◌, List, [], ◌∷◌, Option, Some, None}
 use Rattle.std.specs.Option.{option_or}
 use Rattle.keys.specs.Bytes.{Bytes}
@@ -7,6 +7,7 @@ use Rattle.keys.specs.declared.command.Command.{Command}
 use Rattle.keys.specs.declared.command.Command.TheVariants.{Get, Put, Add, Del, Scan}
 use Rattle.keys.specs.declared.fault.Fault.{Fault}
 use Rattle.keys.specs.declared.fault.Fault.TheVariants.{KeyTooLong, ValueTooLong, BatchTooLong}
+pub use Rattle.crew.specs.Crew.{is_crew}
 
 -- what is wrong with a key of the command at this place
 abbrev pub key_fault : Settings → ℕ → Bytes → Option Fault

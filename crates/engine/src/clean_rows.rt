@@ -1,5 +1,6 @@
 //! The cleans of docs/EXAMPLES.md: what they answer, the bytes that they leave, the store that comes back from these, and the calls of the
 //! disk that they make.
+use crate::crews::{ALONE, crews};
 use crate::failing_disk_rows::failing_store;
 use crate::frame_rows::{EMPTY_LEAF, FREE_1, LEAF_0, LEAF_1, ROOT};
 use crate::log_rows::{
@@ -322,8 +323,11 @@ const ROWS: [Row; 10] = [
 
 #[test]
 fn the_cleans_come_out(rt: HostRuntime) -> Result<(), Fail> {
-    for row in &ROWS {
-        assert!(rt; comes_out(&rt, rt.alloc(), row)?, "{}", row.name);
+    for crew in &crews() {
+        for row in &ROWS {
+            let is_right = comes_out(&rt, *crew, rt.alloc(), row)?;
+            assert!(rt; is_right, "{crew:?}: {}", row.name);
+        }
     }
     Ok(())
 }
@@ -450,9 +454,11 @@ const BACK_ROWS: [BackRow; 6] = [
 
 #[test]
 fn a_cleaned_store_comes_back(rt: HostRuntime) {
-    for row in &BACK_ROWS {
-        let is_back = comes_back(&rt, rt.alloc(), row);
-        assert!(rt; matches!(is_back, Ok(true)), "{}", row.name);
+    for crew in &crews() {
+        for row in &BACK_ROWS {
+            let is_back = comes_back(&rt, *crew, rt.alloc(), row);
+            assert!(rt; matches!(is_back, Ok(true)), "{crew:?}: {}", row.name);
+        }
     }
 }
 
@@ -522,15 +528,15 @@ fn a_full_log_has_room_after_a_clean(rt: HostRuntime) -> Result<(), Fail> {
     let alloc = rt.alloc();
     let mut store = store_on_used_disk(alloc)?;
     fill(&rt, alloc, &mut store)?;
-    let answers = play(&rt, alloc, &mut store, &[LONG_PUT, "flush"])?;
+    let answers = play(&rt, ALONE, alloc, &mut store, &[LONG_PUT, "flush"])?;
     assert_eq!(rt; answers.as_str(), "R; 1: 10 Full");
     let before = look(alloc, &store)?;
-    assert_eq!(rt; store.clean(), Ok(1));
+    assert_eq!(rt; store.clean(&rt, ALONE), Ok(1));
     assert!(rt; is_disk(store.disk().bytes(), &CLEANED_SLOTS, FULL_LOG));
     assert_eq!(rt; look(alloc, &store)?.as_str(), before.as_str());
-    assert_eq!(rt; store.flush(), Ok(20));
+    assert_eq!(rt; store.flush(&rt, ALONE), Ok(20));
     assert!(rt; is_disk(store.disk().bytes(), &REFILLED_SLOTS, REFILLED_LOG));
-    let opened = store.reopen(&rt).map_err(|(fault, _disk)| fault);
+    let opened = store.reopen(&rt, ALONE).map_err(|(fault, _disk)| fault);
     assert!(rt; is_told(&rt, alloc, &opened?, REFILLED_STORE)?);
     Ok(())
 }
@@ -572,7 +578,7 @@ fn the_calls_of_a_clean_have_their_order(rt: HostRuntime) -> Result<(), Fail> {
     ];
     for (steps, calls) in &rows {
         let mut store = failing_store(rt.alloc(), 0)?;
-        play(&rt, rt.alloc(), &mut store, *steps)?;
+        play(&rt, ALONE, rt.alloc(), &mut store, *steps)?;
         assert!(rt;
             store.disk().list.ends_with(*calls),
             "{}",
@@ -587,9 +593,9 @@ fn the_calls_of_a_clean_have_their_order(rt: HostRuntime) -> Result<(), Fail> {
 fn where_there_is_nothing_to_clean_no_disk_is_called(rt: HostRuntime) -> Result<(), Fail> {
     let mut store = failing_store(rt.alloc(), 3)?;
     for _time in 0..2 {
-        assert_eq!(rt; store.clean(), Err(Fault::NothingToClean));
+        assert_eq!(rt; store.clean(&rt, ALONE), Err(Fault::NothingToClean));
     }
-    let answers = play(&rt, rt.alloc(), &mut store, &["a=1", "clean"])?;
+    let answers = play(&rt, ALONE, rt.alloc(), &mut store, &["a=1", "clean"])?;
     assert_eq!(rt; answers.as_str(), "N; 1: 11 NothingToClean");
     assert_eq!(rt; store.disk().calls, 2);
     Ok(())

@@ -1,5 +1,6 @@
 //! Flushes and cleans that are stopped at each write and sync, as a machine is that crashes: which store comes back, whatever the crash
 //! left where something had been written.
+use crate::crews::ALONE;
 use crate::fault_rows::{ROWS, Row};
 use crate::log_rows::{SHORTEST, play};
 use crate::recovery_rows::{FIRST_STORE, write_opened};
@@ -28,7 +29,7 @@ fn disk_after(
 ) -> Result<CrashDisk<Global>, Fault> {
     let disk = CrashDisk::new(alloc, SHORTEST)?;
     let mut store = Store::create(alloc, disk, S).map_err(|(fault, _disk)| fault)?;
-    play(rt, alloc, &mut store, steps)?;
+    play(rt, ALONE, alloc, &mut store, steps)?;
     Ok(store.close())
 }
 
@@ -43,8 +44,8 @@ fn play_to_stop(
 ) -> Result<CrashDisk<Global>, Fault> {
     let mut disk = disk;
     disk.stop_at(call);
-    let mut store = Store::recover(rt, alloc, disk).map_err(|(fault, _disk)| fault)?;
-    text.push_str(play(rt, alloc, &mut store, steps)?.as_str())?;
+    let mut store = Store::recover(rt, alloc, disk, ALONE).map_err(|(fault, _disk)| fault)?;
+    text.push_str(play(rt, ALONE, alloc, &mut store, steps)?.as_str())?;
     Ok(store.close())
 }
 
@@ -57,7 +58,12 @@ fn store_back(
 ) -> Result<String, Fault> {
     let mut text = String::new(alloc);
     let crashed = disk.crashed(fill)?;
-    write_opened(rt, alloc, &mut text, Store::recover(rt, alloc, crashed))?;
+    write_opened(
+        rt,
+        alloc,
+        &mut text,
+        Store::recover(rt, alloc, crashed, ALONE),
+    )?;
     Ok(text)
 }
 
@@ -124,14 +130,14 @@ fn answer_after_two_stops(
         rt,
         alloc,
         &mut text,
-        Store::recover(rt, alloc, disk.crashed(first)?),
+        Store::recover(rt, alloc, disk.crashed(first)?, ALONE),
     )?;
     let disk = play_to_stop(rt, alloc, &mut text, disk, &["b=2", "flush"], 1)?;
     let disk = write_opened(
         rt,
         alloc,
         &mut text,
-        Store::recover(rt, alloc, disk.crashed(second)?),
+        Store::recover(rt, alloc, disk.crashed(second)?, ALONE),
     )?;
     play_to_stop(rt, alloc, &mut text, disk, &["b=2", "flush"], 7)?;
     Ok(text)

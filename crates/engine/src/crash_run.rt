@@ -1,9 +1,11 @@
 //! A long run by a seed on a disk that stops: batches, flushes, cleans, openings and crashes. What comes back is what a map of std held at
 //! the last flush that was answered, or at the one that was stopped.
+use crate::crews::ALONE;
 use crate::store::Store;
 use crate::tests::{
     S, are_letters, draw, drawn_command, next_number, write_reply_of_map, write_row, write_rows,
 };
+use crew::NoGate;
 use flush_log::{CrashDisk, Fill};
 use keys::{Command, Fault, Settings};
 use scan::Rows;
@@ -119,15 +121,19 @@ fn do_batch(
 ) -> Result<(), Fault> {
     let mut letters = String::new(alloc);
     let batch = draw_few(alloc, &mut known.map, state, &mut letters)?;
-    if !are_letters(alloc, &letters, store.batch(rt, &batch))? {
+    if !are_letters(alloc, &letters, store.batch(rt, ALONE, &NoGate, &batch))? {
         count(&mut counts.wrong);
     }
     Ok(())
 }
 
 // Whether the disk goes on.
-fn do_clean(store: &mut Store<CrashDisk<Global>>, counts: &mut Counts) -> Result<bool, Fault> {
-    match store.clean() {
+fn do_clean(
+    rt: &(impl Threads + Sync),
+    store: &mut Store<CrashDisk<Global>>,
+    counts: &mut Counts,
+) -> Result<bool, Fault> {
+    match store.clean(rt, ALONE) {
         Ok(_head) => {
             count(&mut counts.cleans);
             Ok(true)
@@ -141,13 +147,14 @@ fn do_clean(store: &mut Store<CrashDisk<Global>>, counts: &mut Counts) -> Result
 
 // Flushes, and where the log is full cleans it. Returns whether the disk goes on.
 fn do_flush(
+    rt: &(impl Threads + Sync),
     alloc: Global,
     store: &mut Store<CrashDisk<Global>>,
     known: &mut Known,
     counts: &mut Counts,
 ) -> Result<bool, Fault> {
     let now = text_of_map(alloc, &known.map)?;
-    match store.flush() {
+    match store.flush(rt, ALONE) {
         Ok(_sequence) => {
             count(&mut counts.flushes);
             known.flushed = now;
@@ -157,7 +164,7 @@ fn do_flush(
             known.stopped = Some(now);
             Ok(false)
         }
-        Err(Fault::Full) => do_clean(store, counts),
+        Err(Fault::Full) => do_clean(rt, store, counts),
         Err(fault) => Err(fault),
     }
 }
@@ -172,8 +179,8 @@ fn do_step(
     counts: &mut Counts,
 ) -> Result<bool, Fault> {
     match next_number(state) % 6 {
-        0 => do_clean(store, counts),
-        1 | 2 => do_flush(alloc, store, known, counts),
+        0 => do_clean(rt, store, counts),
+        1 | 2 => do_flush(rt, alloc, store, known, counts),
         _ => {
             do_batch(rt, alloc, store, known, state, counts)?;
             Ok(true)
@@ -228,13 +235,13 @@ fn do_round(
 ) -> Result<CrashDisk<Global>, Fault> {
     let mut disk = disk;
     disk.stop_at((next_number(state) % 24).saturating_add(1));
-    let mut store = Store::recover(rt, alloc, disk).map_err(|(fault, _disk)| fault)?;
+    let mut store = Store::recover(rt, alloc, disk, ALONE).map_err(|(fault, _disk)| fault)?;
     look_at_opened(alloc, &store, known, counts)?;
     do_steps(rt, alloc, &mut store, known, state, counts)?;
     if next_number(state) % 5 > 0 {
         return Ok(crash(store.disk(), state, counts)?);
     }
-    match store.reopen(rt) {
+    match store.reopen(rt, ALONE) {
         Ok(store) => {
             count(&mut counts.openings);
             look_at_opened(alloc, &store, known, counts)?;

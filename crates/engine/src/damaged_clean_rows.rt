@@ -1,5 +1,6 @@
 //! Cleans of a log whose bytes are damaged: which fault is answered, and that the store goes on.
 use crate::clean_rows::LONG_AND_Z;
+use crate::crews::ALONE;
 use crate::failing_disk_rows::FailingDisk;
 use crate::log_rows::{SHORTEST, play};
 use crate::store::Store;
@@ -121,12 +122,12 @@ fn answer_of_damaged(
     };
     let made = Store::create(alloc, disk, S);
     let mut store = made.map_err(|(fault, _disk)| fault)?;
-    play(rt, alloc, &mut store, &LONG_AND_Z)?;
-    let mut text = play(rt, alloc, &mut store, &["clean"])?;
+    play(rt, ALONE, alloc, &mut store, &LONG_AND_Z)?;
+    let mut text = play(rt, ALONE, alloc, &mut store, &["clean"])?;
     text.push_str(", ")?;
-    text.push_str(play(rt, alloc, &mut store, &["clean"])?.as_str())?;
+    text.push_str(play(rt, ALONE, alloc, &mut store, &["clean"])?.as_str())?;
     text.push_str(", ")?;
-    text.push_str(play(rt, alloc, &mut store, &["flush", "clean"])?.as_str())?;
+    text.push_str(play(rt, ALONE, alloc, &mut store, &["flush", "clean"])?.as_str())?;
     Ok(text)
 }
 

@@ -25,9 +25,10 @@ use climb_plan::laws::{
     the_log_states_stay_true, the_plan_holds_the_map_after_the_commands,
     the_plan_of_a_proper_store_is_proper,
 };
+use crew::{Crew, Gate};
 use keys::{Command, Fault, Reply, Settings};
 use mapping::Tree;
-use page_runs::LeafDone;
+use page_runs::{LeafDone, LeafWork};
 use routing::{BatchWithEnds, PageRun, route};
 use scan::scan_ends;
 use std::alloc::Global;
@@ -37,6 +38,8 @@ use std::thread::Threads;
 /// more than 64 levels, the tree is as it was.
 pub(crate) fn execute(
     rt: &(impl Threads + Sync),
+    crew: Crew,
+    gate: &impl Gate,
     alloc: Global,
     settings: &Settings,
     tree: &mut Tree<Global>,
@@ -52,7 +55,12 @@ pub(crate) fn execute(
     ensures fault { IfErr result (IsLaterFault settings.now (tree_of tree.old) commands.now) }
 {
     let page_runs = routes_to_leaves(rt, alloc, tree, commands)?;
-    execute_routed(alloc, settings, tree, commands, page_runs)
+    let work = LeafWork {
+        alloc,
+        settings: *settings,
+        commands,
+    };
+    execute_routed(rt, crew, gate, &work, tree, page_runs)
 }
 
 // Which leaves the commands go to. A scan is led along the leaves from its lower bound only as far as it needs for its rows.
@@ -73,33 +81,34 @@ fn routes_to_leaves(
     route(rt, alloc, tree, &BatchWithEnds::new(commands, ends))
 }
 
-// The same of commands whose leaves are known.
+// The same of the commands of this work, whose leaves are known.
 fn execute_routed(
-    alloc: Global,
-    settings: &Settings,
+    rt: &(impl Threads + Sync),
+    crew: Crew,
+    gate: &impl Gate,
+    work: &LeafWork<'_>,
     tree: &mut Tree<Global>,
-    commands: &[Command<Global>],
     page_runs: Vec<PageRun>,
 ) -> Result<Vec<Reply<Global>>, Fault>
-    requires sound { IsSoundInMemory settings.now tree.old }
-    requires short { AreShort settings.now commands.now }
-    requires routed { AreRoutesFor (tree_of tree.old) commands.now page_runs.items }
-    ensures replies { IfOk result (λ replies. replies.items ≡ replies_to (contents (tree_of tree.old)) commands.now) }
-    ensures tree { OnOk result (tree_of tree.new ≡ planned_tree settings.now (tree_of tree.old) commands.now) }
-    ensures contents { OnOk result (contents (tree_of tree.new) ≡ map_after_all (contents (tree_of tree.old)) commands.now) }
-    ensures sound { IsSoundInMemory settings.now tree.new }
+    requires sound { IsSoundInMemory work.now.settings tree.old }
+    requires short { AreShort work.now.settings work.now.commands.now }
+    requires routed { AreRoutesFor (tree_of tree.old) work.now.commands.now page_runs.items }
+    ensures replies { IfOk result (λ replies. replies.items ≡ replies_to (contents (tree_of tree.old)) work.now.commands.now) }
+    ensures tree { OnOk result (tree_of tree.new ≡ planned_tree work.now.settings (tree_of tree.old) work.now.commands.now) }
+    ensures contents { OnOk result (contents (tree_of tree.new) ≡ map_after_all (contents (tree_of tree.old)) work.now.commands.now) }
+    ensures sound { IsSoundInMemory work.now.settings tree.new }
     ensures err { OnErr result (tree.new ≡ tree.old) }
-    ensures fault { IfErr result (IsLaterFault settings.now (tree_of tree.old) commands.now) }
+    ensures fault { IfErr result (IsLaterFault work.now.settings (tree_of tree.old) work.now.commands.now) }
 {
     // What the plan of a sound tree is.
     the_plan_holds_the_map_after_the_commands::<Global>();
     the_plan_of_a_proper_store_is_proper::<Global>();
     the_log_states_stay_true::<Global>();
-    let leaves = work_leaves(alloc, settings, tree, commands, page_runs)?;
-    match finish(alloc, settings, tree, leaves, commands) {
+    let leaves = work_leaves(rt, crew, gate, work, tree, page_runs)?;
+    match finish(rt, crew, gate, work, tree, leaves) {
         Ok(replies) => Ok(replies),
         Err((fault, leaves)) => {
-            undo_leaves(alloc, settings, tree, commands, leaves);
+            undo_leaves(work, tree, leaves);
             Err(fault)
         }
     }
@@ -108,29 +117,30 @@ fn execute_routed(
 // The replies of these leaves, which were taken and worked, and the climb from them. Where that is refused, the tree is as it was,
 // and the leaves come back, but for their answers.
 fn finish(
-    alloc: Global,
-    settings: &Settings,
+    rt: &(impl Threads + Sync),
+    crew: Crew,
+    gate: &impl Gate,
+    work: &LeafWork<'_>,
     tree: &mut Tree<Global>,
     mut leaves: Vec<LeafDone>,
-    commands: &[Command<Global>],
 ) -> Result<Vec<Reply<Global>>, (Fault, Vec<LeafDone>)>
-    requires fan { 1 < settings.now.fan }
-    requires answered { AreAnswers commands.now (answers (map (λ d. d.made) leaves.items)) }
-    requires ready { (t : definitions.Tree) × (cs : List (Command Global)) × IsReady settings.now t cs tree.old (map (λ d. shown Leaf d.made.worked) leaves.items) }
+    requires fan { 1 < work.now.settings.fan }
+    requires answered { AreAnswers work.now.commands.now (answers (map (λ d. d.made) leaves.items)) }
+    requires ready { (t : definitions.Tree) × (cs : List (Command Global)) × IsReady work.now.settings t cs tree.old (map (λ d. shown Leaf d.made.worked) leaves.items) }
     requires height { tree.old.height ≤ most_levels }
-    ensures replies { IfOk result (λ replies. (place : ℕ) → slice_get replies.items place ≡ reply_at commands.now (answers (map (λ d. d.made) leaves.items)) place) }
-    ensures planned { OnOk result ((t : definitions.Tree) (cs : List (Command Global)) → IsReady settings.now t cs tree.old (map (λ d. shown Leaf d.made.worked) leaves.items) →
-        AreAllHome tree.new × (tree_of tree.new ≡ planned_tree settings.now t cs)) }
+    ensures replies { IfOk result (λ replies. (place : ℕ) → slice_get replies.items place ≡ reply_at work.now.commands.now (answers (map (λ d. d.made) leaves.items)) place) }
+    ensures planned { OnOk result ((t : definitions.Tree) (cs : List (Command Global)) → IsReady work.now.settings t cs tree.old (map (λ d. shown Leaf d.made.worked) leaves.items) →
+        AreAllHome tree.new × (tree_of tree.new ≡ planned_tree work.now.settings t cs)) }
     ensures low { OnOk result (tree.new.height ≤ most_levels) }
     ensures back { IfErr result (λ e. map (λ d. d.held) e.1.items ≡ map (λ d. d.held) leaves.items) }
     ensures err { OnErr result (tree.new ≡ tree.old) }
     ensures fault { IfErr result (λ e. (t : definitions.Tree) (cs : List (Command Global)) →
-        IsReady settings.now t cs tree.old (map (λ d. shown Leaf d.made.worked) leaves.items) → IsLaterFault settings.now t cs e.0) }
+        IsReady work.now.settings t cs tree.old (map (λ d. shown Leaf d.made.worked) leaves.items) → IsLaterFault work.now.settings t cs e.0) }
 {
-    let Ok(replies) = take_replies(alloc, &mut leaves, commands) else {
+    let Ok(replies) = take_replies(work.alloc, &mut leaves, work.commands) else {
         return Err((Fault::NoMemory, leaves));
     };
-    match climb(alloc, settings, tree, leaves) {
+    match climb(rt, crew, gate, work.alloc, &work.settings, tree, leaves) {
         Ok(()) => Ok(replies),
         Err((refused, leaves)) => Err((fault_of(refused), leaves)),
     }

@@ -1,5 +1,6 @@
 //! A clean of which a call of the disk fails, reads too, and one to which memory is refused.
 use crate::clean_rows::{LONG_AND_Z, LONG_STORE};
+use crate::crews::ALONE;
 use crate::failing_disk_rows::failing_store;
 use crate::log_rows::{look, play};
 use crate::recovery_rows::{store_after, write_opened, write_store};
@@ -27,12 +28,12 @@ fn answer_of_failing_clean(
     fails_at: u64,
 ) -> Result<String, Fault> {
     let mut store = failing_store(alloc, fails_at)?;
-    play(rt, alloc, &mut store, &LONG_AND_Z)?;
-    let mut text = play(rt, alloc, &mut store, &["clean"])?;
+    play(rt, ALONE, alloc, &mut store, &LONG_AND_Z)?;
+    let mut text = play(rt, ALONE, alloc, &mut store, &["clean"])?;
     text.push_str(", ")?;
-    text.push_str(play(rt, alloc, &mut store, &["clean"])?.as_str())?;
+    text.push_str(play(rt, ALONE, alloc, &mut store, &["clean"])?.as_str())?;
     text.push_str(", ")?;
-    write_opened(rt, alloc, &mut text, store.reopen(rt))?;
+    write_opened(rt, alloc, &mut text, store.reopen(rt, ALONE))?;
     Ok(text)
 }
 
@@ -41,9 +42,9 @@ fn answer_of_failing_clean(
 fn a_store_has_failed_where_a_call_of_its_clean_fails(rt: HostRuntime) -> Result<(), Fail> {
     let alloc = rt.alloc();
     let mut store = failing_store(alloc, 0)?;
-    play(&rt, alloc, &mut store, &LONG_AND_Z)?;
+    play(&rt, ALONE, alloc, &mut store, &LONG_AND_Z)?;
     assert_eq!(rt; store.disk().calls, CALLS_BEFORE);
-    assert_eq!(rt; store.clean(), Ok(1));
+    assert_eq!(rt; store.clean(&rt, ALONE), Ok(1));
     let last = store.disk().calls;
     assert_eq!(rt; last, CALLS_BEFORE + 11);
     for fails_at in CALLS_BEFORE + 1..CALLS_BEFORE + 12 {
@@ -76,18 +77,18 @@ fn is_before_clean(
 // Whether the store is cleaned; where memory is refused, store and disk are as before, and then it is cleaned. Where the disk's record
 // finds no memory, either store is on it.
 fn is_cleaned_again(rt: &(impl Threads + Sync), alloc: Global) -> Result<bool, Fault> {
-    let mut store = store_after(rt, alloc, &LONG_AND_Z)?;
+    let mut store = store_after(rt, ALONE, alloc, &LONG_AND_Z)?;
     let pages = look(alloc, &store)?;
     let bytes = store.disk().bytes().to_vec(alloc)?;
-    let mut cleaned = store.clean();
+    let mut cleaned = store.clean(rt, ALONE);
     if cleaned == Err(Fault::NoMemory) {
         if !is_before_clean(alloc, &store, &pages, &bytes)? {
             return Ok(false);
         }
-        cleaned = store.clean();
+        cleaned = store.clean(rt, ALONE);
     }
     let is_same = look(alloc, &store)?.as_str() == pages.as_str();
-    let opened = store.reopen(rt).map_err(|(fault, _disk)| fault)?;
+    let opened = store.reopen(rt, ALONE).map_err(|(fault, _disk)| fault)?;
     let mut text = String::new(alloc);
     write_store(rt, alloc, &mut text, &opened)?;
     Ok(

@@ -2,6 +2,7 @@
 ghost use Rattle.std.specs.Prelude.{◌≡◌, false, length, ⊤};
 ghost use Rattle.flush_log.specs.Disk.{CountsFailure};
 
+use crate::crews::ALONE;
 use crate::log_rows::{
     FOUR_LONG_PUTS, PUT_AGAIN, SHORTEST, batch_of, from_place, play, play_at_once,
     store_on_used_disk,
@@ -9,6 +10,7 @@ use crate::log_rows::{
 use crate::step::Step;
 use crate::store::Store;
 use crate::tests::{FIVE_PUTS, S, SEVENTEEN_PUTS, write_rows};
+use crew::NoGate;
 use flush_log::{Disk, DiskFault};
 use keys::Fault;
 use std::alloc::{AllocError, Global};
@@ -148,7 +150,7 @@ fn the_calls_of_a_flush_have_their_order(rt: HostRuntime) -> Result<(), Fail> {
     ];
     for (steps, calls) in &rows {
         let mut store = failing_store(rt.alloc(), 0)?;
-        play(&rt, rt.alloc(), &mut store, *steps)?;
+        play(&rt, ALONE, rt.alloc(), &mut store, *steps)?;
         assert_eq!(rt; store.disk().list.as_str(), *calls);
     }
     Ok(())
@@ -158,13 +160,19 @@ fn the_calls_of_a_flush_have_their_order(rt: HostRuntime) -> Result<(), Fail> {
 #[test]
 fn an_empty_flush_calls_no_disk(rt: HostRuntime) -> Result<(), Fail> {
     let mut store = failing_store(rt.alloc(), 3)?;
-    let answers = play(&rt, rt.alloc(), &mut store, &["flush", "a -a", "flush"])?;
+    let answers = play(
+        &rt,
+        ALONE,
+        rt.alloc(),
+        &mut store,
+        &["flush", "a -a", "flush"],
+    )?;
     assert_eq!(rt; answers.as_str(), "flushed 1; MM; flushed 1; ");
     assert_eq!(rt; store.disk().calls, 2);
 
     let mut store = failing_store(rt.alloc(), 10)?;
     let words = [FIVE_PUTS, "flush", "flush", "+a=2 e", "flush"];
-    let answers = play(&rt, rt.alloc(), &mut store, &words)?;
+    let answers = play(&rt, ALONE, rt.alloc(), &mut store, &words)?;
     assert_eq!(rt;
         answers.as_str(),
         "NNNNN; flushed 2; flushed 2; E5; flushed 2; "
@@ -256,12 +264,12 @@ fn look_at_failed(
     store: &mut Store<FailingDisk>,
 ) -> Result<(), Fault> {
     for steps in REFUSED_STEPS {
-        let answers = play(rt, alloc, store, steps)?;
+        let answers = play(rt, ALONE, alloc, store, steps)?;
         assert!(rt; answers.as_str() == "0: 8 Failed");
     }
-    assert!(rt; matches!(store.batch(rt, &[]), Err(Fault::Failed)));
-    assert_eq!(rt; store.flush(), Err(Fault::Failed));
-    let answers = play(rt, alloc, store, &[])?;
+    assert!(rt; matches!(store.batch(rt, ALONE, &NoGate, &[]), Err(Fault::Failed)));
+    assert_eq!(rt; store.flush(rt, ALONE), Err(Fault::Failed));
+    let answers = play(rt, ALONE, alloc, store, &[])?;
     assert!(rt; answers.is_empty());
     let mut pairs = String::new(alloc);
     write_rows(&mut pairs, store.range(b"", None, 100)?)?;
@@ -279,9 +287,9 @@ fn look_where_a_call_fails(
 ) -> Result<(), Fault> {
     let fails_at = row.calls_before.saturating_add(failing);
     let mut store = failing_store(alloc, fails_at)?;
-    play(rt, alloc, &mut store, row.steps)?;
+    play(rt, ALONE, alloc, &mut store, row.steps)?;
     assert_eq!(rt; store.disk().calls, row.calls_before);
-    assert_eq!(rt; store.flush(), Err(Fault::Device));
+    assert_eq!(rt; store.flush(rt, ALONE), Err(Fault::Device));
     look_at_failed(rt, alloc, row, &mut store)?;
     let disk = store.close();
     assert_eq!(rt; (disk.calls, disk.failures), (fails_at, 1));
@@ -299,8 +307,8 @@ fn a_store_has_failed_where_a_call_of_its_flush_fails(rt: HostRuntime) -> Result
         }
         let all = row.calls_before.saturating_add(row.calls);
         let mut store = failing_store(rt.alloc(), all.saturating_add(1))?;
-        play(&rt, rt.alloc(), &mut store, row.steps)?;
-        assert_eq!(rt; store.flush(), Ok(u64::from(row.sequence)));
+        play(&rt, ALONE, rt.alloc(), &mut store, row.steps)?;
+        assert_eq!(rt; store.flush(&rt, ALONE), Ok(u64::from(row.sequence)));
         assert_eq!(rt; store.disk().calls, all);
     }
     Ok(())

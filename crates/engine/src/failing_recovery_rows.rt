@@ -1,4 +1,5 @@
 //! A store that is opened on a disk of which a call fails: that is told, the disk is handed back as it was, and the next opening succeeds.
+use crate::crews::ALONE;
 use crate::failing_disk_rows::{FailingDisk, failing_store};
 use crate::log_rows::{PUT_AGAIN, play};
 use crate::recovery_rows::{
@@ -63,7 +64,7 @@ fn answer_of_failing(
 ) -> Result<String, Fault> {
     let mut text = String::new(alloc);
     let disk = FailingDisk::new(alloc, bytes, fails_at)?;
-    let disk = write_opened(rt, alloc, &mut text, Store::recover(rt, alloc, disk))?;
+    let disk = write_opened(rt, alloc, &mut text, Store::recover(rt, alloc, disk, ALONE))?;
     write!(text, "; {} calls, {} failed", disk.calls, disk.failures())?;
     if disk.bytes.as_slice() != bytes {
         text.push_str(", and then otherwise")?;
@@ -100,14 +101,14 @@ fn answer_after_failed_flush(
     fails_at: u64,
 ) -> Result<String, Fault> {
     let mut store = failing_store(alloc, fails_at)?;
-    let mut text = play(rt, alloc, &mut store, &["a=1", "flush"])?;
+    let mut text = play(rt, ALONE, alloc, &mut store, &["a=1", "flush"])?;
     text.push_str(", ")?;
-    text.push_str(play(rt, alloc, &mut store, &[""])?.as_str())?;
+    text.push_str(play(rt, ALONE, alloc, &mut store, &[""])?.as_str())?;
     text.push_str(", ")?;
-    let mut store = store.reopen(rt).map_err(|(fault, _disk)| fault)?;
+    let mut store = store.reopen(rt, ALONE).map_err(|(fault, _disk)| fault)?;
     write_store(rt, alloc, &mut text, &store)?;
     text.push_str(", ")?;
-    text.push_str(play(rt, alloc, &mut store, &["a=1 b=2", "flush"])?.as_str())?;
+    text.push_str(play(rt, ALONE, alloc, &mut store, &["a=1 b=2", "flush"])?.as_str())?;
     Ok(text)
 }
 
@@ -139,11 +140,11 @@ fn answer_of_failing_reopen(
 ) -> Result<String, Fault> {
     let store = failing_store(alloc, fails_at)?;
     let mut text = String::new(alloc);
-    let disk = write_opened(rt, alloc, &mut text, store.reopen(rt))?;
+    let disk = write_opened(rt, alloc, &mut text, store.reopen(rt, ALONE))?;
     write!(text, "; {} calls, {} failed", disk.calls, disk.failures())?;
     if disk.failures() > 0 {
         text.push_str("; ")?;
-        write_opened(rt, alloc, &mut text, Store::recover(rt, alloc, disk))?;
+        write_opened(rt, alloc, &mut text, Store::recover(rt, alloc, disk, ALONE))?;
     }
     Ok(text)
 }

@@ -1,5 +1,6 @@
 //! Flushes and cleans of which a write or a sync fails, once or from there on: what is answered then, and which store the disk holds.
 use crate::clean_rows::LONG_STORE;
+use crate::crews::ALONE;
 use crate::failing_clean_rows::BEFORE_CLEAN;
 use crate::log_rows::{LONG_PUT, disk_of, play};
 use crate::recovery_rows::{FIRST_STORE, bytes_after, write_opened};
@@ -129,7 +130,7 @@ fn store_of(
     written: usize,
 ) -> Result<Store<FaultDisk<Global>>, Fault> {
     let disk = FaultDisk::new(disk_of(alloc, bytes)?, failing, written);
-    Store::recover(rt, alloc, disk).map_err(|(fault, _disk)| fault)
+    Store::recover(rt, alloc, disk, ALONE).map_err(|(fault, _disk)| fault)
 }
 
 // What is answered to the row's steps, and then to a batch, a flush and a clean; the pairs; what is opened again; and what is on the disk
@@ -141,17 +142,17 @@ fn answer_of_failing(
     store: Store<FaultDisk<Global>>,
 ) -> Result<String, Fault> {
     let mut store = store;
-    let mut text = play(rt, alloc, &mut store, row.steps)?;
+    let mut text = play(rt, ALONE, alloc, &mut store, row.steps)?;
     for word in ["a", "flush", "clean"] {
         text.push_str(", ")?;
-        text.push_str(play(rt, alloc, &mut store, &[word])?.as_str())?;
+        text.push_str(play(rt, ALONE, alloc, &mut store, &[word])?.as_str())?;
     }
     write_rows(&mut text, store.range(b"", None, 100)?)?;
     text.push(' ')?;
-    let disk = write_opened(rt, alloc, &mut text, store.reopen(rt))?;
+    let disk = write_opened(rt, alloc, &mut text, store.reopen(rt, ALONE))?;
     text.push_str(", ")?;
     let disk = disk.into_inner();
-    write_opened(rt, alloc, &mut text, Store::recover(rt, alloc, disk))?;
+    write_opened(rt, alloc, &mut text, Store::recover(rt, alloc, disk, ALONE))?;
     Ok(text)
 }
 
@@ -213,10 +214,10 @@ fn a_disk_has_one_of_two_stores_where_a_call_fails(rt: HostRuntime) -> Result<()
 fn calls_of(rt: &(impl Threads + Sync), alloc: Global, row: &Row) -> Result<(u64, bool), Fault> {
     let bytes = bytes_after(rt, alloc, row.on_disk)?;
     let mut store = store_of(rt, alloc, &bytes, Failing::Never, 0)?;
-    play(rt, alloc, &mut store, row.steps)?;
+    play(rt, ALONE, alloc, &mut store, row.steps)?;
     let calls = store.disk().calls();
     let mut text = String::new(alloc);
-    write_opened(rt, alloc, &mut text, store.reopen(rt))?;
+    write_opened(rt, alloc, &mut text, store.reopen(rt, ALONE))?;
     Ok((calls, text.as_str() == row.after))
 }
 

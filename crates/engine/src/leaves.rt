@@ -7,36 +7,33 @@ ghost use Rattle.replies.specs.ByPlace.{AreAnswers, reply_at};
 ghost use Rattle.climb_plan.specs.Installing.{all_taken, all_put, AreAway};
 ghost use Rattle.engine.specs.Leaves.{route_pids, AreLeavesHome, AreLeafRoutes, leaf_held, leaves_made, answers, without_answers};
 
-use crew::{Work, work_all};
-use keys::{Command, Piece, Reply, Settings};
+use crew::{Crew, Gate, Work, run_round};
+use keys::{Command, Piece, Reply};
 use mapping::Tree;
 use page_runs::{LeafDone, LeafJob, LeafWork};
 use replies::assemble;
 use routing::PageRun;
 use std::alloc::{AllocError, Global};
+use std::thread::Threads;
 
-/// Takes the leaves that a batch goes to out of the tree, and works each with its commands. Where memory is refused, the tree is
-/// as it was.
+/// Takes the leaves that a batch goes to out of the tree, and has the crew work each with its commands. Where memory is refused, the
+/// tree is as it was.
 pub(crate) fn work_leaves(
-    alloc: Global,
-    settings: &Settings,
+    rt: &(impl Threads + Sync),
+    crew: Crew,
+    gate: &impl Gate,
+    work: &LeafWork<'_>,
     tree: &mut Tree<Global>,
-    commands: &[Command<Global>],
     page_runs: Vec<PageRun>,
 ) -> Result<Vec<LeafDone>, AllocError>
-    requires routes { AreLeafRoutes tree.old.table commands.now page_runs.items }
-    ensures made { IfOk result (λ dones. map (λ d. d.made) dones.items ≡ leaves_made settings.now commands.now tree.old.table page_runs.items) }
+    requires routes { AreLeafRoutes tree.old.table work.now.commands.now page_runs.items }
+    ensures made { IfOk result (λ dones. map (λ d. d.made) dones.items ≡ leaves_made work.now.settings work.now.commands.now tree.old.table page_runs.items) }
     ensures held { IfOk result (λ dones. map (λ d. d.held) dones.items ≡ map (leaf_held tree.old.table) page_runs.items) }
     ensures taken { OnOk result (tree.new ≡ record tree.old { table = all_taken tree.old.table (route_pids page_runs.items) }) }
     ensures err { AreRisingPids (pids_in_use tree.old.table) → OnErr result (tree.new ≡ tree.old) }
 {
-    let work = LeafWork {
-        alloc,
-        settings: *settings,
-        commands,
-    };
-    let jobs = take_leaves(alloc, tree, page_runs)?;
-    match work_all(&work, jobs) {
+    let jobs = take_leaves(work.alloc, tree, page_runs)?;
+    match run_round(rt, crew, gate, work, jobs) {
         Ok(dones) => Ok(dones),
         Err(jobs) => {
             put_back(tree, jobs);
@@ -116,21 +113,10 @@ fn take_pieces_of_all(
 }
 
 /// Undoes what was made of the leaves, and puts them back into their places as they were. It takes no memory.
-pub(crate) fn undo_leaves(
-    alloc: Global,
-    settings: &Settings,
-    tree: &mut Tree<Global>,
-    commands: &[Command<Global>],
-    leaves: Vec<LeafDone>,
-)
+pub(crate) fn undo_leaves(work: &LeafWork<'_>, tree: &mut Tree<Global>, leaves: Vec<LeafDone>)
     requires { AreAway tree.old.table (map (λ d. d.held.route.pid) leaves.items) }
     ensures { tree.new ≡ record tree.old { table = all_put tree.old.table (map (λ d. (d.held.route.pid, d.held.page)) leaves.items) } }
 {
-    let work = LeafWork {
-        alloc,
-        settings: *settings,
-        commands,
-    };
     for leaf in leaves {
         put_leaf_back(tree, work.undo(leaf));
     }

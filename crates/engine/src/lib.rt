@@ -11,6 +11,10 @@ mod crash_rows;
 #[cfg(test)]
 mod crash_run;
 #[cfg(test)]
+mod crew_rows;
+#[cfg(test)]
+mod crews;
+#[cfg(test)]
 mod damaged_clean_rows;
 #[cfg(test)]
 mod disk_rows;
@@ -44,6 +48,7 @@ mod trees_by_hand;
 
 pub use crate::step::{Answer, Step};
 pub use crate::store::Store;
+pub use crew::{Crew, Gate, NoGate};
 pub use flush_log::{CrashDisk, Disk, DiskFault, Failing, FaultDisk, Fill, MemDisk};
 pub use scan::Rows;
 pub use verify::Report;

@@ -1,8 +1,10 @@
 //! The log as bytes: what flushes and the making of a store write (docs/EXAMPLES.md), and what is left where the log is full.
+use crate::crews::{ALONE, crews};
 use crate::frame_rows::{A_3, A_ABSENT, A_PUT, EMPTY_LEAF, FOUR_PUT, FREE_1, LEAF_0, LEAF_1, ROOT};
 use crate::step::{Answer, Step};
 use crate::store::Store;
 use crate::tests::{FIVE_PUTS, S, SEVENTEEN_PUTS, commands, write_replies, write_rows, write_tree};
+use crew::{Crew, NoGate};
 use flush_log::{Disk, MemDisk};
 use keys::{Command, Fault, Field, Settings};
 use std::alloc::{AllocError, Global};
@@ -504,6 +506,7 @@ fn write_answers(text: &mut String, answers: &[Answer]) -> Result<(), AllocError
 // Plays a step, a flush or a clean where the word says so, and else the batch, and appends what it answers. Returns why it is refused.
 fn write_step<D: Disk>(
     rt: &(impl Threads + Sync),
+    crew: Crew,
     store: &mut Store<D>,
     word: &str,
     batch: &[Command<Global>],
@@ -514,7 +517,7 @@ fn write_step<D: Disk>(
         "clean" => Step::Clean,
         _ => Step::Batch(batch),
     };
-    match store.play(rt, &[step]) {
+    match store.play(rt, crew, &NoGate, &[step]) {
         Ok(answers) => {
             write_answers(text, &answers)?;
             Ok(None)
@@ -527,6 +530,7 @@ fn write_step<D: Disk>(
 // fault. A step that finds no memory is begun once again.
 pub(crate) fn play<D: Disk>(
     rt: &(impl Threads + Sync),
+    crew: Crew,
     alloc: Global,
     store: &mut Store<D>,
     words: &[&str],
@@ -534,9 +538,9 @@ pub(crate) fn play<D: Disk>(
     let batches = batches_of(alloc, words)?;
     let mut text = String::new(alloc);
     for place in 0..words.len().min(batches.len()) {
-        let mut refused = write_step(rt, store, words[place], &batches[place], &mut text)?;
+        let mut refused = write_step(rt, crew, store, words[place], &batches[place], &mut text)?;
         if refused == Some(Fault::NoMemory) {
-            refused = write_step(rt, store, words[place], &batches[place], &mut text)?;
+            refused = write_step(rt, crew, store, words[place], &batches[place], &mut text)?;
         }
         if let Some(fault) = refused {
             write!(text, "{place}: {fault}")?;
@@ -554,7 +558,7 @@ pub(crate) fn play_at_once<D: Disk>(
     steps: &[Step<'_>],
 ) -> Result<String, AllocError> {
     let mut text = String::new(alloc);
-    match store.play(rt, steps) {
+    match store.play(rt, ALONE, &NoGate, steps) {
         Ok(answers) => write_answers(&mut text, &answers)?,
         Err(refused) => {
             write_answers(&mut text, &refused.1)?;
@@ -613,11 +617,12 @@ pub(crate) fn is_disk(bytes: &[u8], slots: &[SlotRow; 2], log: &[&[u8]]) -> bool
 // memory is refused, and then nothing can be told.
 pub(crate) fn comes_out(
     rt: &(impl Threads + Sync),
+    crew: Crew,
     alloc: Global,
     row: &Row,
 ) -> Result<bool, Fault> {
     let mut store = store_on_used_disk(alloc)?;
-    let answers = play(rt, alloc, &mut store, row.steps)?;
+    let answers = play(rt, crew, alloc, &mut store, row.steps)?;
     if store.disk().failures() > 0 {
         return Err(Fault::Device);
     }
@@ -628,17 +633,16 @@ pub(crate) fn comes_out(
 // test. Then at most one row can't be told.
 #[test]
 fn the_rows_come_out(rt: HostRuntime) {
-    let mut right = 0usize;
-    for row in &ROWS {
-        match comes_out(&rt, rt.alloc(), row) {
-            Ok(is_right) => {
-                assert!(rt; is_right, "{}", row.name);
+    for crew in &crews() {
+        let mut right = 0usize;
+        for row in &ROWS {
+            if let Ok(is_right) = comes_out(&rt, *crew, rt.alloc(), row) {
+                assert!(rt; is_right, "{crew:?}: {}", row.name);
                 right = right.saturating_add(1);
             }
-            Err(_) => {}
         }
+        assert!(rt; right >= 16, "{crew:?}: {right} right");
     }
-    assert!(rt; right >= 16, "{right} right");
 }
 
 // The bytes from this place on.
@@ -664,7 +668,7 @@ fn slots_are_spelled_as_told(rt: HostRuntime) -> Result<(), Fail> {
     ];
     for (steps, place, slot) in &rows {
         let mut store = store_on_used_disk(rt.alloc())?;
-        play(&rt, rt.alloc(), &mut store, *steps)?;
+        play(&rt, ALONE, rt.alloc(), &mut store, *steps)?;
         assert_eq!(rt; slot.len(), 64);
         assert!(rt; from_place(store.disk().bytes(), *place).starts_with(*slot));
     }
@@ -755,7 +759,7 @@ pub(crate) fn fill(
         let reply = if sequence == 1 { 'N' } else { 'R' };
         sequence = sequence.saturating_add(1);
         let told = format!(in alloc; "{reply}; flushed {sequence}; ")?;
-        let answers = play(rt, alloc, store, &[LONG_PUT, "flush"])?;
+        let answers = play(rt, ALONE, alloc, store, &[LONG_PUT, "flush"])?;
         assert_eq!(rt; answers.as_str(), told.as_str());
         let slot = SlotRow {
             sequence,
@@ -782,18 +786,18 @@ fn a_full_log_stays_as_it_is(rt: HostRuntime) -> Result<(), Fail> {
     let mut store = store_on_used_disk(alloc)?;
     fill(&rt, alloc, &mut store)?;
     assert!(rt; is_disk(store.disk().bytes(), &FULL_SLOTS, FULL_LOG));
-    let answers = play(&rt, alloc, &mut store, &[LONG_PUT])?;
+    let answers = play(&rt, ALONE, alloc, &mut store, &[LONG_PUT])?;
     assert_eq!(rt; answers.as_str(), "R; ");
     let before = look(alloc, &store)?;
     for _time in 0..3 {
-        assert_eq!(rt; store.flush(), Err(Fault::Full));
+        assert_eq!(rt; store.flush(&rt, ALONE), Err(Fault::Full));
         assert_eq!(rt; look(alloc, &store)?.as_str(), before.as_str());
         assert!(rt; is_disk(store.disk().bytes(), &FULL_SLOTS, FULL_LOG));
     }
-    let answers = play(&rt, alloc, &mut store, &["+b=2", "flush", "c=3"])?;
+    let answers = play(&rt, ALONE, alloc, &mut store, &["+b=2", "flush", "c=3"])?;
     assert_eq!(rt; answers.as_str(), "A; 1: 10 Full");
     assert!(rt; is_disk(store.disk().bytes(), &FULL_SLOTS, FULL_LOG));
-    let answers = play(&rt, alloc, &mut store, &["b c"])?;
+    let answers = play(&rt, ALONE, alloc, &mut store, &["b c"])?;
     assert_eq!(rt; answers.as_str(), "2M; ");
     Ok(())
 }

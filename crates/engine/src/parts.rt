@@ -24,6 +24,7 @@ fn faults_print_number_name_and_what_they_carry(rt: HostRuntime) -> Result<(), F
         (Fault::KeyTooLong(2), "2 KeyTooLong 2"),
         (Fault::ValueTooLong(65_534), "3 ValueTooLong 65534"),
         (Fault::BatchTooLong, "4 BatchTooLong"),
+        (Fault::BadCrew, "5 BadCrew"),
         (Fault::NoMemory, "6 NoMemory"),
         (Fault::Failed, "8 Failed"),
         (Fault::Device, "9 Device"),

@@ -1,10 +1,12 @@
 //! A store that comes back from its disk: it is the one of the last flush. A disk that is damaged is answered as the examples of
 //! docs/EXAMPLES.md tell it, and stays as it is.
+use crate::crews::{ALONE, crews};
 use crate::log_rows::{
     FOUR_LONG_PUTS, LONG_PUT, PUT_AGAIN, SHORTEST, disk_of, look, play, store_on_used_disk,
 };
 use crate::store::Store;
 use crate::tests::{FIVE_PUTS, S, SEVENTEEN_PUTS};
+use crew::Crew;
 use flush_log::{Disk, MemDisk};
 use keys::Fault;
 use std::alloc::Global;
@@ -580,11 +582,12 @@ pub(crate) fn is_told(
 // The store that these steps leave, where the disk did not fail.
 pub(crate) fn store_after(
     rt: &(impl Threads + Sync),
+    crew: Crew,
     alloc: Global,
     steps: &[&str],
 ) -> Result<Store<MemDisk<Global>>, Fault> {
     let mut store = store_on_used_disk(alloc)?;
-    play(rt, alloc, &mut store, steps)?;
+    play(rt, crew, alloc, &mut store, steps)?;
     if store.disk().failures() > 0 {
         return Err(Fault::Device);
     }
@@ -595,20 +598,21 @@ pub(crate) fn store_after(
 // flushed is gone; nothing is left to flush then; and the bytes of the disk stay.
 pub(crate) fn comes_back(
     rt: &(impl Threads + Sync),
+    crew: Crew,
     alloc: Global,
     row: &Row,
 ) -> Result<bool, Fault> {
-    let mut store = store_after(rt, alloc, row.steps)?;
+    let mut store = store_after(rt, crew, alloc, row.steps)?;
     let mut is_right = is_told(rt, alloc, &store, row.store)?;
     let bytes = store.disk().bytes().to_vec(alloc)?;
-    play(rt, alloc, &mut store, &["z=9 -a"])?;
-    let opened = Store::recover(rt, alloc, store.close());
+    play(rt, crew, alloc, &mut store, &["z=9 -a"])?;
+    let opened = Store::recover(rt, alloc, store.close(), crew);
     let mut store = opened.map_err(|(fault, _disk)| fault)?;
     is_right &= is_told(rt, alloc, &store, row.store)?;
-    play(rt, alloc, &mut store, &["z=9 -a"])?;
-    let mut store = store.reopen(rt).map_err(|(fault, _disk)| fault)?;
+    play(rt, crew, alloc, &mut store, &["z=9 -a"])?;
+    let mut store = store.reopen(rt, crew).map_err(|(fault, _disk)| fault)?;
     is_right &= is_told(rt, alloc, &store, row.store)?;
-    let flushed = play(rt, alloc, &mut store, &["", "flush"])?;
+    let flushed = play(rt, crew, alloc, &mut store, &["", "flush"])?;
     is_right &= flushed.as_str() == row.flushed;
     is_right &= is_told(rt, alloc, &store, row.store)?;
     Ok(is_right && store.disk().bytes() == bytes.as_slice())
@@ -616,9 +620,11 @@ pub(crate) fn comes_back(
 
 #[test]
 fn a_store_comes_back_as_it_was_flushed(rt: HostRuntime) {
-    for row in &ROWS {
-        let is_back = comes_back(&rt, rt.alloc(), row);
-        assert!(rt; matches!(is_back, Ok(true)), "{}", row.name);
+    for crew in &crews() {
+        for row in &ROWS {
+            let is_back = comes_back(&rt, *crew, rt.alloc(), row);
+            assert!(rt; matches!(is_back, Ok(true)), "{crew:?}: {}", row.name);
+        }
     }
 }
 
@@ -643,12 +649,17 @@ pub(crate) fn write_opened<D: Disk + Drop>(
 
 // What a disk of these bytes is answered with. It is recovered twice; if it had not the same bytes afterwards, or the answers
 // differed, that would be told behind.
-fn answer(rt: &(impl Threads + Sync), alloc: Global, bytes: &[u8]) -> Result<String, Fault> {
+fn answer(
+    rt: &(impl Threads + Sync),
+    crew: Crew,
+    alloc: Global,
+    bytes: &[u8],
+) -> Result<String, Fault> {
     let mut text = String::new(alloc);
     let mut again = String::new(alloc);
     let disk = disk_of(alloc, bytes)?;
-    let disk = write_opened(rt, alloc, &mut text, Store::recover(rt, alloc, disk))?;
-    let disk = write_opened(rt, alloc, &mut again, Store::recover(rt, alloc, disk))?;
+    let disk = write_opened(rt, alloc, &mut text, Store::recover(rt, alloc, disk, crew))?;
+    let disk = write_opened(rt, alloc, &mut again, Store::recover(rt, alloc, disk, crew))?;
     if disk.bytes() != bytes || again.as_str() != text.as_str() {
         text.push_str(", and then otherwise")?;
     }
@@ -661,7 +672,7 @@ pub(crate) fn bytes_after(
     alloc: Global,
     steps: &[&str],
 ) -> Result<Vec<u8>, Fault> {
-    let store = store_after(rt, alloc, steps)?;
+    let store = store_after(rt, ALONE, alloc, steps)?;
     Ok(store.disk().bytes().to_vec(alloc)?)
 }
 
@@ -691,17 +702,28 @@ fn spoil(bytes: &mut Vec<u8>, damage: &Damage) {
 }
 
 // What the disk of the row is answered with.
-fn answer_to(rt: &(impl Threads + Sync), alloc: Global, row: &DamagedRow) -> Result<String, Fault> {
+fn answer_to(
+    rt: &(impl Threads + Sync),
+    crew: Crew,
+    alloc: Global,
+    row: &DamagedRow,
+) -> Result<String, Fault> {
     let mut bytes = bytes_after(rt, alloc, row.steps)?;
     spoil(&mut bytes, &row.damage);
-    answer(rt, alloc, &bytes)
+    answer(rt, crew, alloc, &bytes)
 }
 
 #[test]
 fn a_damaged_disk_has_one_answer(rt: HostRuntime) -> Result<(), Fail> {
-    for row in &DAMAGED_ROWS {
-        let text = answer_to(&rt, rt.alloc(), row)?;
-        assert!(rt; text.as_str() == row.answer, "{}: {text}", row.name);
+    for crew in &crews() {
+        for row in &DAMAGED_ROWS {
+            let text = answer_to(&rt, *crew, rt.alloc(), row)?;
+            assert!(rt;
+                text.as_str() == row.answer,
+                "{crew:?}: {}: {text}",
+                row.name
+            );
+        }
     }
     Ok(())
 }
@@ -710,7 +732,7 @@ fn a_damaged_disk_has_one_answer(rt: HostRuntime) -> Result<(), Fail> {
 fn a_disk_that_is_cut_is_no_store(rt: HostRuntime) -> Result<(), Fail> {
     let bytes = bytes_after(&rt, rt.alloc(), &PUT_AGAIN)?;
     for len in 0..SHORTEST {
-        let cut = answer(&rt, rt.alloc(), &bytes[..len.min(bytes.len())])?;
+        let cut = answer(&rt, ALONE, rt.alloc(), &bytes[..len.min(bytes.len())])?;
         assert!(rt; cut.as_str() == "12 NotAStore", "{len}: {cut}");
     }
     Ok(())
@@ -748,7 +770,7 @@ fn a_disk_with_any_byte_changed_has_one_answer(rt: HostRuntime) -> Result<(), Fa
         let before = bytes[place];
         for value in [0, 1, 9, 255] {
             bytes[place] = value;
-            count(&mut counts, &answer(&rt, rt.alloc(), &bytes)?);
+            count(&mut counts, &answer(&rt, ALONE, rt.alloc(), &bytes)?);
         }
         bytes[place] = before;
     }
@@ -760,12 +782,12 @@ fn a_disk_with_any_byte_changed_has_one_answer(rt: HostRuntime) -> Result<(), Fa
 fn is_tried_again(rt: &(impl Threads + Sync), alloc: Global) -> Result<bool, Fault> {
     let bytes = bytes_after(rt, alloc, &PUT_AGAIN)?;
     let disk = disk_of(alloc, &bytes)?;
-    let opened = match Store::recover(rt, alloc, disk) {
+    let opened = match Store::recover(rt, alloc, disk, ALONE) {
         Err(refused) => {
             if refused.0 != Fault::NoMemory || refused.1.bytes() != bytes.as_slice() {
                 return Ok(false);
             }
-            Store::recover(rt, alloc, refused.1)
+            Store::recover(rt, alloc, refused.1, ALONE)
         }
         opened => opened,
     };

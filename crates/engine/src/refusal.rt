@@ -1,12 +1,24 @@
 //! The tests that a batch passes before any of it is executed.
-ghost use Rattle.std.specs.Prelude.{◌≡◌, Ok, Err, MatchOption};
-ghost use Rattle.engine.specs.Refusal.{key_fault, value_fault, bound_fault, fault_at, first_fault, refusal};
+ghost use Rattle.std.specs.Prelude.{◌≡◌, Ok, Err, IsTrue, IfOk, IfErr, MatchOption, false};
+ghost use Rattle.engine.specs.Refusal.{key_fault, value_fault, bound_fault, fault_at, first_fault, refusal, is_crew};
 
+use crew::Crew;
 use keys::{Command, Fault, Key, Settings, Value};
 use std::alloc::Global;
 
 // The most commands that a batch may have.
 const LONGEST_BATCH: usize = 65_535;
+
+// Refuses a crew out of range.
+pub(crate) fn admit_crew(crew: Crew) -> Result<(), Fault>
+    ensures ok { IfOk result (λ _. IsTrue (is_crew crew)) }
+    ensures err { IfErr result (λ fault. (fault ≡ Fault.BadCrew) × (is_crew crew ≡ false)) }
+{
+    match crew.check() {
+        Ok(()) => Ok(()),
+        Err(_) => Err(Fault::BadCrew),
+    }
+}
 
 // Refuses a batch that is too long, and else the first command that has a fault.
 pub(crate) fn admit(settings: &Settings, commands: &[Command<Global>]) -> Result<(), Fault>

@@ -12,7 +12,7 @@ ghost use Rattle.flush_log.specs.NewStore.{disk_of_new};
 ghost use Rattle.recovery.specs.StoreOfDisk.{first_store};
 ghost use Rattle.engine.specs.Batch.{IsLaterFault, refusal_by};
 ghost use Rattle.engine.specs.Late.{IsLate, create_refusal, after_create};
-ghost use Rattle.engine.specs.Refusal.{refusal};
+ghost use Rattle.engine.specs.Refusal.{refusal, is_crew};
 ghost use Rattle.engine.specs.State.{IsSound};
 ghost use Rattle.engine.specs.Steps.{HasWords, batching};
 ghost use Rattle.engine.specs.Steps.Step.{Batch};
@@ -25,7 +25,8 @@ mod reopen;
 
 use crate::execute::execute;
 use crate::laws::a_batch_stays_in_step;
-use crate::refusal::admit;
+use crate::refusal::{admit, admit_crew};
+use crew::{Crew, Gate};
 use flush_log::Disk;
 use flush_log::commit::write_through;
 use flush_log::new_store::{first_slot, new_bytes};
@@ -159,16 +160,21 @@ impl<D: Disk> Store<D> {
         &self.disk
     }
 
-    /// Executes the commands in the order of their places, and returns the reply to each at its place. A store that has failed
-    /// is `Fault::Failed`. A batch of more than 65,535 commands is `Fault::BatchTooLong`. Else the first command with a key that
-    /// is too long is `Fault::KeyTooLong`, and with a value that is too long `Fault::ValueTooLong`, with its place; a command's
-    /// key comes before its value. Else there is `Fault::NoMemory`, where memory was refused, and `Fault::Spent`, where the
-    /// tree would have more than 64 levels. After an `Err` the store is as it was, and the same batch can be called again.
+    /// Executes the commands in the order of their places, and returns the reply to each at its place. The crew works the pages, and
+    /// the gate is told of each piece of them; neither changes anything that can be seen.
+    ///
+    /// A store that has failed is `Fault::Failed`, and then a crew out of range `Fault::BadCrew`. A batch of more than 65,535 commands
+    /// is `Fault::BatchTooLong`. Else the first command with a key that is too long is `Fault::KeyTooLong`, and with a value that is
+    /// too long `Fault::ValueTooLong`, with its place; a command's key comes before its value. Else there is `Fault::NoMemory`, where
+    /// memory was refused, and `Fault::Spent`, where the tree would have more than 64 levels. After an `Err` the store is as it was,
+    /// and the same batch can be called again.
     ///
     /// The disk gets nothing of it before the next flush.
     pub fn batch(
         &mut self,
         rt: &(impl Threads + Sync),
+        crew: Crew,
+        gate: &impl Gate,
         commands: &[Command<Global>],
     ) -> Result<Vec<Reply<Global>>, Fault>
         // The replies are those of an ordered map; the pages, the root, the height and what the log has are the plan's.
@@ -179,7 +185,8 @@ impl<D: Disk> Store<D> {
 
         // Which fault, and that there is no other but for want of memory and for the height.
         ensures failed { self.old.has_failed ≡ true → result ≡ Err Fault.Failed }
-        ensures refused { self.old.has_failed ≡ false → MatchOption (refusal self.old.settings commands.now)
+        ensures bad_crew { self.old.has_failed ≡ false → is_crew crew ≡ false → result ≡ Err Fault.BadCrew }
+        ensures refused { self.old.has_failed ≡ false → IsTrue (is_crew crew) → MatchOption (refusal self.old.settings commands.now)
             (IfErr result (IsLaterFault self.old.settings self.old.store.tree commands.now)) (λ fault. result ≡ Err fault) }
         ensures unchanged { OnErr result (self.new ≡ self.old) }
         // One that is done is refused by nothing, and its root's page id has 64 bits.
@@ -194,8 +201,17 @@ impl<D: Disk> Store<D> {
         if self.has_failed {
             return Err(Fault::Failed);
         }
+        admit_crew(crew)?;
         admit(&self.settings, commands)?;
-        let replies = execute(rt, self.alloc, &self.settings, &mut self.tree, commands)?;
+        let replies = execute(
+            rt,
+            crew,
+            gate,
+            self.alloc,
+            &self.settings,
+            &mut self.tree,
+            commands,
+        )?;
         let _of_64_bits = self.tree.root();
         Ok(replies)
     }

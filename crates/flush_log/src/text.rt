@@ -13,15 +13,22 @@ ghost use Rattle.flush_log.specs.Images.{AreOfText};
 
 use crate::image::Image;
 use crate::image_work::{ImageDone, ImageJob, ImageWork};
-use crew::work_all;
+use crew::{Crew, NoGate, run_round};
 use index_page::Page;
 use keys::Pid;
 use mapping::{Logged, Tree, depth};
 use std::alloc::{AllocError, Global};
+use std::thread::Threads;
 
 /// The text of a flush: an image for each page id of which something is to be written, by rising number. With it, each page id
-/// in the text is known to be of 64 bits, so that its frames are such as a store may have.
-pub fn images(alloc: Global, tree: &Tree<Global>) -> Result<Vec<Image>, AllocError>
+/// in the text is known to be of 64 bits, so that its frames are such as a store may have. The crew makes the images; which crew it is
+/// changes nothing of what is answered.
+pub fn images(
+    rt: &(impl Threads + Sync),
+    crew: Crew,
+    alloc: Global,
+    tree: &Tree<Global>,
+) -> Result<Vec<Image>, AllocError>
     requires home { AreAllHome tree.now }
     requires proper { IsOfStore (tree_of tree.now) }
     ensures text { IfOk result (λ images. AreOfText images.items (flush_text (tree_of tree.now))) }
@@ -29,7 +36,7 @@ pub fn images(alloc: Global, tree: &Tree<Global>) -> Result<Vec<Image>, AllocErr
     ensures frames { IfOk result (λ _. (s : limits.Settings) → IsProper s (tree_of tree.now) → HasFrames s (tree_of tree.now)) }
 {
     let jobs = due_jobs(alloc, tree)?;
-    match work_all(&ImageWork::new(alloc), jobs) {
+    match run_round(rt, crew, &NoGate, &ImageWork::new(alloc), jobs) {
         Ok(dones) => images_of(alloc, dones),
         Err(_) => Err(AllocError),
     }

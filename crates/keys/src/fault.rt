@@ -22,6 +22,9 @@ pub enum Fault {
     /// The batch has more commands than a batch may have.
     #[error("4 BatchTooLong")]
     BatchTooLong,
+    /// The crew has no workers or more than 64, or its pieces no jobs or more than 65,535.
+    #[error("5 BadCrew")]
+    BadCrew,
     /// Memory was refused.
     #[error("6 NoMemory")]
     NoMemory,

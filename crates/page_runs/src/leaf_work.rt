@@ -90,20 +90,24 @@ impl LeafDone {
         mem::replace(&mut self.pieces, Vec::new(alloc))
     }
 
-    /// The leaf and its answers, for good: the job cannot be given back any more.
-    pub fn into_page_and_pieces(self) -> (Page<Global>, Vec<Piece<Global>>)
-        ensures page { result.0 ≡ Leaf self.made.worked.placed.page }
-        ensures pieces { result.1.items ≡ self.made.pieces }
+    /// The leaf and the rest, for good: the job cannot be given back any more.
+    pub fn into_page_and_rest(self) -> (Page<Global>, LeafRest)
+        ensures { result.0 ≡ Leaf self.made.worked.placed.page }
     {
         let LeafDone {
             page,
-            way_back: _way_back,
-            page_run: _page_run,
+            way_back,
+            page_run,
             pieces,
         } = self;
-        (page, pieces)
+        (page, LeafRest(way_back, page_run, pieces))
     }
 }
+
+/// What is left of a leaf's work once the leaf is taken out of it, for good: where the leaf was replaced, the one before it; the places of
+/// its commands, and its answers if they were not taken. It is there to be dropped, which takes long.
+#[derive(Drop)]
+pub struct LeafRest(WayBack<Value<Global>>, PageRun, Vec<Piece<Global>>);
 
 impl<'a> Work for LeafWork<'a> {
     ghost use Rattle.page_runs.specs.LeafWork.{LeafHeld, LeafMade, IsLeafHeld, leaf_made, leaf_held_of};

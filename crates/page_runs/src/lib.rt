@@ -13,5 +13,5 @@ mod replay;
 pub mod term_work;
 
 pub use crate::class::Class;
-pub use crate::leaf_work::{LeafDone, LeafJob, LeafWork};
+pub use crate::leaf_work::{LeafDone, LeafJob, LeafRest, LeafWork};
 pub use crate::term_work::{TermDone, TermJob, TermWork};

@@ -1,7 +1,7 @@
 -- What is read of the segments, one after the other.
-use Rattle.std.specs.Prelude.{◌≡◌, ℕ, suc, ◌+◌, ◌-◌, ◌*◌, ◌<◌, ◌≤◌, true, List, [], length, take, drop, None, Result, Ok, Err, OnOk}
+use Rattle.std.specs.Prelude.{◌≡◌, ℕ, suc, ◌+◌, ◌-◌, ◌*◌, ◌<◌, ◌≤◌, true, List, [], ◌∷◌, ◌++◌, map, length, take, drop, None, Result, Ok}
 use Rattle.std.proofs.Common.{refl, sym, ap, subst, ◌∙◌, inl, arith}
-use Rattle.std.proofs.lemmas.List.{take-take}
+use Rattle.std.proofs.lemmas.List.{map-append, take-take}
 use Rattle.keys.specs.Limits.{first_bad_field}
 use Rattle.keys.specs.declared.settings.Settings.{Settings}
 use Rattle.keys.specs.declared.fault.Fault.{Fault}
@@ -17,6 +17,9 @@ use Rattle.flush_log.proofs.PlaceLaws.{remainders_differ, place-within, places-b
 use Rattle.flush_log.proofs.ReadBackLaws.{earlier-same}
 use Rattle.flush_log.proofs.SlotLaws.{slot-is}
 use Rattle.recovery.specs.Recovered.{IsReadOf}
+use Rattle.recovery.specs.Scan.{HeldSegment, held_segment, scanned, scanned_behind}
+use Rattle.recovery.specs.declared.scan_segment.End.TheVariants.{Padding}
+use Rattle.recovery.specs.declared.scan_segment.Segment.{Segment}
 
 -- what a log holds, or its first fault
 abbrev pub Told : Type 0
@@ -56,19 +59,19 @@ module _ (s : Settings) (good : first_bad_field s ≡ None) (file buf : List ℕ
 -- ---- all of them
 
 -- bytes of which k segments from the head on were read, by what has taken what they hold; in front of the segments they are as these
-pub record AreReadUpto (Has : Told → Type 0) (v : View) (s : Settings) (t : Slot) (k : ℕ) (file now : List ℕ) : Type 0 where
+pub record AreReadUpto (Has : Told → Type 0) (v : View) (s : Settings) (head k : ℕ) (file now : List ℕ) : Type 0 where
   pub bytes : IsReadOf v now
   pub front : take segments_begin now ≡ take segments_begin file
-  pub found : Has (read_earlier s now t.head k)
+  pub found : Has (read_earlier s now head k)
 
-pub none-read : (Has : Told → Type 0) (v : View) (s : Settings) (t : Slot) (k : ℕ) (file : List ℕ) → k ≡ 0 → IsReadOf v file → Has (Ok []) → AreReadUpto Has v s t k file file
-none-read Has v s t k file zero bytes h = record {
+pub none-read : (Has : Told → Type 0) (v : View) (s : Settings) (head k : ℕ) (file : List ℕ) → k ≡ 0 → IsReadOf v file → Has (Ok []) → AreReadUpto Has v s head k file file
+none-read Has v s head k file zero bytes h = record {
   bytes = bytes;
   front = refl;
-  found = subst (λ (m : ℕ). Has (read_earlier s file t.head m)) (sym zero) h;
+  found = subst (λ (m : ℕ). Has (read_earlier s file head m)) (sym zero) h;
 }
 
-module _ (Has More : Told → Type 0) (s : Settings) (t : Slot) (file now buf : List ℕ) (old new : View) (n : ℕ) (good : first_bad_field s ≡ None) (size : disk_size s ≤ old.size) where
+module _ (s : Settings) (head : ℕ) (file now buf : List ℕ) (old new : View) (n : ℕ) (good : first_bad_field s ≡ None) (size : disk_size s ≤ old.size) where
   abbrev pub then_now : List ℕ
   then_now = overlay now (place_of_segment s n) buf
 
@@ -76,57 +79,85 @@ module _ (Has More : Told → Type 0) (s : Settings) (t : Slot) (file now buf : 
   has_room read = let long = read.whole in omega (arith, long, size)
 
   -- one segment more
-  pub read-next : (k l : ℕ) → n ≡ t.head + k → l ≡ suc k → k < s.segments → length buf ≡ s.seg_size → AreReadUpto Has old s t k file now
-      → IsReadOf new then_now → ((told : Told) → Has told → More (followed_by told (read_segment s is_padding n buf))) → AreReadUpto More new s t l file then_now
-  read-next k l at count few all h bytes takes =
+  pub read-next : (Has More : Told → Type 0) (k l : ℕ) → n ≡ head + k → l ≡ suc k → k < s.segments → length buf ≡ s.seg_size → AreReadUpto Has old s head k file now
+      → IsReadOf new then_now → ((told : Told) → Has told → More (followed_by told (read_segment s is_padding n buf))) → AreReadUpto More new s head l file then_now
+  read-next Has More k l at count few all h bytes takes =
       let whole = has_room h.bytes in
       let part : length buf ≤ s.seg_size = omega (arith, all) in
-      let earlier : Told = read_earlier s now t.head k in
-      let told : followed_by earlier (read_segment s is_padding n buf) ≡ read_earlier s then_now t.head (suc k) =
-      ap (λ (r : Told). followed_by r (read_segment s is_padding n buf)) (sym (part-earlier s good now buf n whole part t.head k at few))
-      ∙ ap (λ (bs : List ℕ). followed_by (read_earlier s then_now t.head k) (read_segment s is_padding n bs)) (sym (whole-read s good now buf n whole part all))
-      ∙ ap (λ (m : ℕ). followed_by (read_earlier s then_now t.head k) (read_segment s is_padding m (segment_bytes s then_now m))) at in
+      let earlier : Told = read_earlier s now head k in
+      let told : followed_by earlier (read_segment s is_padding n buf) ≡ read_earlier s then_now head (suc k) =
+      ap (λ (r : Told). followed_by r (read_segment s is_padding n buf)) (sym (part-earlier s good now buf n whole part head k at few))
+      ∙ ap (λ (bs : List ℕ). followed_by (read_earlier s then_now head k) (read_segment s is_padding n bs)) (sym (whole-read s good now buf n whole part all))
+      ∙ ap (λ (m : ℕ). followed_by (read_earlier s then_now head k) (read_segment s is_padding m (segment_bytes s then_now m))) at in
       record {
         bytes = bytes;
         front = part-front s good now buf n whole part ∙ h.front;
-        found = subst (λ (m : ℕ). More (read_earlier s then_now t.head m)) (sym count) (subst (λ (r : Told). More r) told (takes earlier h.found));
+        found = subst (λ (m : ℕ). More (read_earlier s then_now head m)) (sym count) (subst (λ (r : Told). More r) told (takes earlier h.found));
       }
 
-  -- what is in use of the last one
-  last_told : is_slot s t.sequence t ≡ true → n ≡ last_segment s t.tail → length buf ≡ bytes_in_use s t.tail → HasSegments s now
-      → (length buf ≤ s.seg_size) × (followed_by (read_earlier s now t.head (last_segment s t.tail - t.head)) (read_segment s is_at_tail n buf) ≡ log s then_now t)
-  last_told is_one last all whole =
-      let sized = (are_sized s good).least_size in
-      let is = slot-is s t.sequence t is_one in
-      let behind = is.behind in
-      let room = is.last in
-      let split = split-tail s t.head t.tail (omega (arith, sized)) (omega (arith, behind)) in
-      let from = split.from in
-      let high = split.high in
-      let k : ℕ = last_segment s t.tail - t.head in
-      let at : n ≡ t.head + k = omega (arith, last, from) in
-      let part : length buf ≤ s.seg_size = omega (arith, all, high) in
-      let bytes : take (bytes_in_use s t.tail) (segment_bytes s then_now n) ≡ buf = ap (λ (m : ℕ). take m (segment_bytes s then_now n)) (sym all) ∙ part-read s good now buf n whole part in (
-        part,
-        ap (λ (r : Told). followed_by r (read_segment s is_at_tail n buf)) (sym (part-earlier s good now buf n whole part t.head k at (omega (arith, room, last, from))))
-            ∙ ap (λ (bs : List ℕ). followed_by (read_earlier s then_now t.head k) (read_segment s is_at_tail n bs)) (sym bytes)
-            ∙ ap (λ (m : ℕ). followed_by (read_earlier s then_now t.head k) (read_segment s is_at_tail m (take (bytes_in_use s t.tail) (segment_bytes s then_now m)))) at,
-      )
+-- what is in use of the last one
+pub read-last : (s : Settings) (t : Slot) (file buf : List ℕ) (old : View) (n : ℕ) → first_bad_field s ≡ None → disk_size s ≤ old.size → is_slot s t.sequence t ≡ true → n ≡ last_segment s t.tail
+    → length buf ≡ bytes_in_use s t.tail → IsReadOf old file → (let now : List ℕ = overlay file (place_of_segment s n) buf in (take segments_begin now ≡ take segments_begin file)
+    × (followed_by (read_earlier s file t.head (last_segment s t.tail - t.head)) (read_segment s is_at_tail n buf) ≡ log s now t))
+read-last s t file buf old n good size is_one last all read =
+    let whole = has_room s t.head file file buf old old n good size read in
+    let sized = (are_sized s good).least_size in
+    let is = slot-is s t.sequence t is_one in
+    let behind = is.behind in
+    let room = is.last in
+    let split = split-tail s t.head t.tail (omega (arith, sized)) (omega (arith, behind)) in
+    let from = split.from in
+    let high = split.high in
+    let k : ℕ = last_segment s t.tail - t.head in
+    let at : n ≡ t.head + k = omega (arith, last, from) in
+    let part : length buf ≤ s.seg_size = omega (arith, all, high) in
+    let now : List ℕ = overlay file (place_of_segment s n) buf in
+    let bytes : take (bytes_in_use s t.tail) (segment_bytes s now n) ≡ buf = ap (λ (m : ℕ). take m (segment_bytes s now n)) (sym all) ∙ part-read s good file buf n whole part in (
+      part-front s good file buf n whole part,
+      ap (λ (r : Told). followed_by r (read_segment s is_at_tail n buf)) (sym (part-earlier s good file buf n whole part t.head k at (omega (arith, room, last, from))))
+          ∙ ap (λ (bs : List ℕ). followed_by (read_earlier s now t.head k) (read_segment s is_at_tail n bs)) (sym bytes)
+          ∙ ap (λ (m : ℕ). followed_by (read_earlier s now t.head k) (read_segment s is_at_tail m (take (bytes_in_use s t.tail) (segment_bytes s now m)))) at,
+    )
 
-  -- and that too, unless its reading failed
-  pub read-last : {X : Type 0} (r : Result X Fault) → is_slot s t.sequence t ≡ true → n ≡ last_segment s t.tail → length buf ≡ bytes_in_use s t.tail
-      → AreReadUpto Has old s t (last_segment s t.tail - t.head) file now → IsReadOf new now → OnOk r (IsReadOf new then_now)
-      → ((told : Told) → Has told → OnOk r (More (followed_by told (read_segment s is_at_tail n buf))))
-      → (after : List ℕ) × IsReadOf new after × (take segments_begin after ≡ take segments_begin file) × OnOk r (More (log s after t))
-  read-last (Ok x) is_one last all h stays bytes takes =
-      let whole = has_room h.bytes in
-      let (part, told) = last_told is_one last all whole in (
-        then_now,
-        bytes,
-        part-front s good now buf n whole part ∙ h.front,
-        subst (λ (r : Told). More r) told (takes (read_earlier s now t.head (last_segment s t.tail - t.head)) h.found),
-      )
-  read-last (Err fault) is_one last all h stays bytes takes = (now, stays, h.front, tt)
+-- ---- some at a time
+
+pub scanned-more : (s : Settings) (told : Told) (gs : List HeldSegment) (g : HeldSegment) → scanned_behind s told (gs ++ g ∷ []) ≡ followed_by (scanned_behind s told gs) (scanned s g)
+scanned-more s told [] g = refl
+scanned-more s told (h ∷ gs) g = scanned-more s (followed_by told (scanned s h)) gs g
+
+pub one-scanned : (s : Settings) (told : Told) (gs hs : List Segment) (g : Segment) → hs ≡ gs ++ g ∷ [] → gs ≡ [] → scanned_behind s told (map held_segment hs) ≡ followed_by told (scanned s (held_segment g))
+one-scanned s told gs hs g put none = ap (λ (xs : List Segment). scanned_behind s told (map held_segment xs)) (put ∙ ap (λ (xs : List Segment). xs ++ g ∷ []) none)
+
+-- these segments were read behind k others, and that makes so many
+abbrev pub AreReadBehind : View → Settings → (head k upto : ℕ) → List Segment → List ℕ → List ℕ → Type 0
+AreReadBehind v s head k upto gs file now = AreReadUpto (λ told. scanned_behind s (read_earlier s file head k) (map held_segment gs) ≡ told) v s head upto file now
+
+-- one more
+pub behind-next : (s : Settings) (head k upto more n : ℕ) (gs hs : List Segment) (g : Segment) (file now buf : List ℕ) (old new : View) → first_bad_field s ≡ None → disk_size s ≤ old.size
+    → held_segment g ≡ (record { number = n; end = Padding; bytes = buf }) → hs ≡ gs ++ g ∷ [] → n ≡ head + upto → more ≡ suc upto → upto < s.segments → length buf ≡ s.seg_size
+    → AreReadBehind old s head k upto gs file now → IsReadOf new (overlay now (place_of_segment s n) buf)
+    → AreReadBehind new s head k more hs file (overlay now (place_of_segment s n) buf)
+behind-next s head k upto more n gs hs g file now buf old new good size is put at count few all h bytes =
+    let told : Told = read_earlier s file head k in
+    read-next s head file now buf old new n good size (λ r. scanned_behind s told (map held_segment gs) ≡ r) (λ r. scanned_behind s told (map held_segment hs) ≡ r) upto more at count few all h bytes
+    (λ r e. ap (λ (xs : List HeldSegment). scanned_behind s told xs) (ap (λ (xs : List Segment). map held_segment xs) put ∙ map-append held_segment gs (g ∷ []))
+    ∙ scanned-more s told (map held_segment gs) (held_segment g) ∙ ap (λ (x : HeldSegment). followed_by (scanned_behind s told (map held_segment gs)) (scanned s x)) is
+    ∙ ap (λ (x : Told). followed_by x (read_segment s is_padding n buf)) e)
+
+-- all of them
+pub behind-all : (v : View) (s : Settings) (head k upto all : ℕ) (gs : List Segment) (file now : List ℕ) → upto ≡ all → AreReadBehind v s head k upto gs file now
+    → scanned_behind s (read_earlier s file head k) (map held_segment gs) ≡ read_earlier s now head all
+behind-all v s head k upto all gs file now same h = h.found ∙ ap (λ (m : ℕ). read_earlier s now head m) same
+
+-- and these were taken too
+pub round-more : (Has More : Told → Type 0) (old new : View) (s : Settings) (head k all : ℕ) (gs : List Segment) (file before now : List ℕ) → AreReadUpto Has old s head k file before
+    → IsReadOf new now → take segments_begin now ≡ take segments_begin before → scanned_behind s (read_earlier s before head k) (map held_segment gs) ≡ read_earlier s now head all
+    → ((told : Told) → Has told → More (scanned_behind s told (map held_segment gs))) → AreReadUpto More new s head all file now
+round-more Has More old new s head k all gs file before now upto bytes front told takes = record {
+  bytes = bytes;
+  front = front ∙ upto.front;
+  found = subst More told (takes (read_earlier s before head k) upto.found);
+}
 
 -- ---- numbers
 
@@ -150,3 +181,7 @@ is_last s t good is_one =
     let split = split-tail s t.head t.tail (omega (arith, size)) (omega (arith, behind)) in
     let at = split.is in
     record { from = split.from; free = is.last; begins = omega (arith, at); used = split.high }
+
+-- what is left of a buffer, where one segment more is read
+pub one-left : (rest left n first size all : ℕ) → first ≤ n → rest + size ≡ left → left + (n - first) * size ≡ all → rest + (n + 1 - first) * size ≡ all
+one-left rest left n first size all from is h = let one : n + 1 - first ≡ (n - first) + 1 = omega (arith, from) in rw one (omega (arith, is, h))

@@ -1,8 +1,9 @@
 -- What is found of a log, one segment more at a time.
-use Rattle.std.specs.Prelude.{◌≡◌, ℕ, true, false, List, [], ◌∷◌, ◌++◌, map, Option, Some, None, is_some, Result, Ok, Err, Vec}
+use Rattle.std.specs.Prelude.{◌≡◌, ℕ, true, List, [], ◌∷◌, ◌++◌, map, fold, Option, Some, None, is_some, Result, Ok, Err, Vec}
 use Rattle.std.specs.declared.alloc.Global.{Global}
 use Rattle.std.proofs.Common.{refl, sym, ap, ◌∙◌, subst, append_assoc, append-nil}
 use Rattle.std.proofs.lemmas.List.{map-append}
+use Rattle.std.proofs.lemmas.List.Folds.{fold_stays}
 use Rattle.keys.specs.declared.fault.Fault.{Fault}
 use Rattle.indexmap.specs.IndexMap.{IndexMap}
 use Rattle.frame_codec.specs.Frame.{Frame}
@@ -10,8 +11,9 @@ use Rattle.frame_codec.specs.Shown.{frame_of}
 use Rattle.frame_codec.specs.declared.frame.Frame as code
 use Rattle.flush_log.specs.Reading.{Found, all_in, followed_by}
 use Rattle.recovery.specs.Gathered.{AreGathered}
-use Rattle.recovery.specs.LogSoFar.{IsSoFar}
+use Rattle.recovery.specs.LogSoFar.{IsSoFar, told_of_scan}
 use Rattle.recovery.specs.StoreOfDisk.{frames_in}
+use Rattle.recovery.specs.declared.scan_segment.ScanDone.{ScanDone}
 
 -- ---- the frames of a segment, one more at a time
 
@@ -45,10 +47,6 @@ frames-more found n fs = map-append (λ (f : Found). f.frame) found (all_in n fs
 
 module _ {S : Type 0} (by_pid : IndexMap ℕ (Vec code.Frame Global) S) where
   -- without a fault the frames are gathered
-  pub found-of : (o : Option Fault) (told : Told) → is_some o ≡ false → IsSoFar by_pid o told → (found : List Found) × (told ≡ all found) × AreGathered by_pid (frames_in found)
-  found-of None told none h = h
-  found-of (Some fault) told none h = absurd (cc)
-
   pub found-none : (o : Option Fault) (told : Told) → o ≡ None → IsSoFar by_pid o told → (found : List Found) × (told ≡ all found) × AreGathered by_pid (frames_in found)
   found-none None told none h = h
   found-none (Some fault) told none h = absurd (cc)
@@ -58,20 +56,38 @@ module _ {S : Type 0} (by_pid : IndexMap ℕ (Vec code.Frame Global) S) where
   fault-some (Some g) told fault some h = let is : g ≡ fault = cc in h ∙ ap broken is
 
   -- behind a fault nothing counts
-  pub stays-broken : (o : Option Fault) (told more : Told) → is_some o ≡ true → IsSoFar by_pid o told → IsSoFar by_pid o (followed_by told more)
+  pub stays-broken : (o : Option Fault) (told : Told) (more : List Told) → is_some o ≡ true → IsSoFar by_pid o told → IsSoFar by_pid o (fold followed_by told more)
   stays-broken None told more some h = absurd (cc)
-  stays-broken (Some fault) told more some h = ap (λ (t : Told). followed_by t more) h
+  stays-broken (Some fault) told more some h = ap (λ (t : Told). fold followed_by t more) h ∙ fold_stays followed_by (broken fault) (λ next. refl) more
 
-  -- and one segment more, whose frames are gathered too
-  pub so_far-more : (o : Option Fault) (found : List Found) (told more : Told) (n : ℕ) (fs : List Frame) → is_some o ≡ false → told ≡ all found → more ≡ all (all_in n fs) → AreGathered by_pid (frames_in found ++ fs)
-      → IsSoFar by_pid o (followed_by told more)
-  so_far-more (Some fault) found told more n fs none is next gathered = absurd (cc)
-  so_far-more None found told more n fs none is next gathered = (
-    found ++ all_in n fs,
-    ap (λ (t : Told). followed_by t more) is ∙ ap (λ (t : Told). followed_by (all found) t) next,
-    subst (λ (gs : List Frame). AreGathered by_pid gs) (sym (frames-more found n fs)) gathered,
-  )
+-- ---- many scans
 
-  -- or which has the fault
-  pub so_far-broken : (found : List Found) (told more : Told) (fault : Fault) → told ≡ all found → more ≡ broken fault → IsSoFar by_pid (Some fault) (followed_by told more)
-  so_far-broken found told more fault is next = ap (λ (t : Told). followed_by t more) is ∙ ap (λ (t : Told). followed_by (all found) t) next
+-- what is told once these scans are gathered too
+abbrev pub told_behind : Told → List ScanDone → Told
+told_behind told dones = fold followed_by told (map told_of_scan dones)
+
+-- behind a fault nothing counts
+pub behind-broken : (fault : Fault) (dones : List ScanDone) → told_behind (broken fault) dones ≡ broken fault
+behind-broken fault dones = fold_stays followed_by (broken fault) (λ more. refl) (map told_of_scan dones)
+
+-- of all these scans, these are left, and the frames of the others were gathered
+abbrev pub AreGatheredUpto : {S : Type 0} → IndexMap ℕ (Vec code.Frame Global) S → Option Fault → IndexMap ℕ (Vec code.Frame Global) S → List ScanDone → List ScanDone → Type 0
+AreGatheredUpto old fault now left dones = (told : Told) → IsSoFar old fault told → (found : List Found) × AreGathered now (frames_in found) × (told_behind (all found) left ≡ told_behind told dones)
+
+module _ {S : Type 0} (old : IndexMap ℕ (Vec code.Frame Global) S) (fault : Option Fault) (dones : List ScanDone) where
+  -- a scan more, whose frames are gathered
+  pub upto-next : (now next : IndexMap ℕ (Vec code.Frame Global) S) (left rest : List ScanDone) (done : ScanDone) (fs : List Frame) → left ≡ done ∷ rest → told_of_scan done ≡ all (all_in done.segment.number fs)
+      → ((gs : List Frame) → AreGathered now gs → AreGathered next (gs ++ fs)) → AreGatheredUpto old fault now left dones → AreGatheredUpto old fault next rest dones
+  upto-next now next left rest done fs one told_is more upto told h =
+      let (found, gathered, same) = upto told h in (
+        found ++ all_in done.segment.number fs,
+        subst (λ (gs : List Frame). AreGathered next gs) (sym (frames-more found done.segment.number fs)) (more (frames_in found) gathered),
+        ap (λ (t : Told). told_behind (followed_by (all found) t) rest) (sym told_is) ∙ ap (λ (ds : List ScanDone). told_behind (all found) ds) (sym one) ∙ same,
+      )
+
+  -- or one that has the fault
+  pub upto-broken : (now : IndexMap ℕ (Vec code.Frame Global) S) (left rest : List ScanDone) (done : ScanDone) (is first : Fault) → left ≡ done ∷ rest → told_of_scan done ≡ broken is → first ≡ is
+      → AreGatheredUpto old fault now left dones → (told : Told) → IsSoFar old fault told → told_behind told dones ≡ broken first
+  upto-broken now left rest done is first one told_is same_fault upto told h =
+      let (found, gathered, same) = upto told h in
+      sym same ∙ ap (λ (ds : List ScanDone). told_behind (all found) ds) one ∙ ap (λ (t : Told). told_behind (followed_by (all found) t) rest) told_is ∙ behind-broken is rest ∙ sym (ap broken same_fault)

@@ -1,11 +1,11 @@
 -- What a scan of a segment gives.
-use Rattle.std.specs.Prelude.{ℕ, Bool, List, map, Vec, Result, Ok, Err}
+use Rattle.std.specs.Prelude.{ℕ, Bool, List, map, fold, Vec, Result, Ok, Err}
 use Rattle.keys.specs.Bytes.{Bytes}
 use Rattle.keys.specs.declared.settings.Settings.{Settings}
 use Rattle.keys.specs.declared.fault.Fault.{Fault}
 use Rattle.frame_codec.specs.Shown.{frame_of}
 use Rattle.frame_codec.specs.declared.frame.Frame as code
-use Rattle.flush_log.specs.Reading.{Found, all_in, is_at_tail, is_padding, read_segment}
+use Rattle.flush_log.specs.Reading.{Found, all_in, is_at_tail, is_padding, read_segment, followed_by}
 use Rattle.recovery.specs.declared.scan_segment.End.{End}
 use Rattle.recovery.specs.declared.scan_segment.End.TheVariants.{Tail, Padding}
 use Rattle.recovery.specs.declared.scan_segment.Segment.{Segment}
@@ -27,6 +27,10 @@ held_segment g = record { number = g.number; end = g.end; bytes = g.bytes.now }
 -- its frames, or its first fault
 abbrev pub scanned : Settings → HeldSegment → Result (List Found) Fault
 scanned s g = read_segment s (is_end_at g.end) g.number g.bytes
+
+-- what was found, and then what these segments hold, one behind the other; or the first fault
+abbrev pub scanned_behind : Settings → Result (List Found) Fault → List HeldSegment → Result (List Found) Fault
+scanned_behind s told segments = fold followed_by told (map (scanned s) segments)
 
 -- what a scan of segment n told: the frames that it gave, as they are found, or the fault
 abbrev pub told_by_scan : {A : Type 0} → ℕ → Result (Vec code.Frame A) Fault → Result (List Found) Fault

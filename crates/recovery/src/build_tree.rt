@@ -18,7 +18,7 @@ ghost use Rattle.recovery.specs.StoreOfDisk.{tree_by_log, wrong_in};
 use crate::built_page::BuiltPage;
 use crate::gather::Gathering;
 use crate::rebuild::{RebuildWork, Rebuilt};
-use crew::work_all;
+use crew::{Crew, NoGate, run_round};
 use flush_log::slot::Slot;
 use index_page::Page;
 use keys::{Fault, Finding, Settings};
@@ -66,7 +66,13 @@ fn table_of(alloc: Global, made: Vec<Rebuilt>) -> Result<Table<Page<Global>, Glo
 }
 
 // The tree of the pages that the gathered frames tell, with this root and height. What the log has of them isn't noted yet.
-fn tree_of_pages(alloc: Global, gathering: Gathering, slot: &Slot) -> Result<Tree<Global>, Fault>
+fn tree_of_pages(
+    rt: &(impl Threads + Sync),
+    crew: Crew,
+    alloc: Global,
+    gathering: Gathering,
+    slot: &Slot,
+) -> Result<Tree<Global>, Fault>
     ensures ok { (fs : List said.Frame) → AreGathered gathering.by_pid fs → IfOk result (λ tree. (broken_in fs ≡ None) ×
         (tree ≡ record { table = record { places = in_places (pages_of fs); logged = [] }; root = slot.now.root; height = slot.now.height })) }
     ensures err { (fs : List said.Frame) → AreGathered gathering.by_pid fs → IfErr result (λ fault. (fault ≡ NoMemory) ⊎
@@ -74,7 +80,7 @@ fn tree_of_pages(alloc: Global, gathering: Gathering, slot: &Slot) -> Result<Tre
     ensures home { IfOk result (λ tree. AreAllHome tree) }
 {
     let logs = gathering.into_logs()?;
-    let Ok(made) = work_all(&RebuildWork, logs) else {
+    let Ok(made) = run_round(rt, crew, &NoGate, &RebuildWork, logs) else {
         return Err(Fault::NoMemory);
     };
     let table = table_of(alloc, made)?;
@@ -85,9 +91,10 @@ fn tree_of_pages(alloc: Global, gathering: Gathering, slot: &Slot) -> Result<Tre
 /// settings, no page of it is away, and the log has each as it is.
 ///
 /// Else it is refused with `Fault::BadStructure` and the first finding: of a page whose frames fit no page, by the least page id, and
-/// then of the walk from the root. Besides there is `Fault::NoMemory`.
+/// then of the walk from the root. Besides there is `Fault::NoMemory`. The crew makes the pages of their frames.
 pub(crate) fn checked_tree(
     rt: &(impl Threads + Sync),
+    crew: Crew,
     alloc: Global,
     settings: &Settings,
     slot: &Slot,
@@ -99,7 +106,7 @@ pub(crate) fn checked_tree(
     ensures err { (fs : List said.Frame) → AreGathered gathering.by_pid fs → IfErr result (λ fault. (fault ≡ NoMemory) ⊎
         ((f : Finding) × (wrong_in settings.now slot.now fs ≡ Some f) × (fault ≡ BadStructure f))) }
 {
-    let mut tree = tree_of_pages(alloc, gathering, slot)?;
+    let mut tree = tree_of_pages(rt, crew, alloc, gathering, slot)?;
     verify(rt, alloc, &tree, settings)?;
     tree.flushed();
     Ok(tree)

@@ -1,21 +1,22 @@
 //! What a recovery keeps of a log while it is read: the frames by page, or the first fault.
-ghost use Rattle.std.specs.Prelude.{◌≡◌, ◌++◌, [], List, map, Result, Ok, Err, MatchResult, IfErr, OnOk};
+ghost use Rattle.std.specs.Prelude.{◌≡◌, ◌++◌, [], List, map, fold, None, Result, Ok, Err, MatchResult, IfErr, OnOk};
 ghost use Rattle.keys.specs.declared.fault.Fault as faults;
 ghost use Rattle.keys.specs.declared.fault.Fault.TheVariants.{NoMemory};
 ghost use Rattle.frame_codec.specs.Frame as said;
 ghost use Rattle.frame_codec.specs.Shown.{frame_of};
-ghost use Rattle.flush_log.specs.Reading.{Found};
+ghost use Rattle.flush_log.specs.Reading.{Found, followed_by};
 ghost use Rattle.recovery.specs.Gathered.{AreGathered};
-ghost use Rattle.recovery.specs.LogSoFar.{IsSoFar};
+ghost use Rattle.recovery.specs.LogSoFar.{IsSoFar, told_of_scan};
 ghost use Rattle.recovery.specs.StoreOfDisk.{frames_in};
 
 use crate::gather::Gathering;
 use crate::read_log::LogReader;
-use crate::scan_segment::{ScanWork, Segment};
-use crew::{Turn, Work};
+use crate::scan_segment::{ScanDone, ScanWork, Segment};
+use crew::{Crew, NoGate, run_round};
 use frame_codec::Frame;
 use keys::{Fault, Settings};
 use std::alloc::Global;
+use std::thread::Threads;
 
 /// What was found of a log so far.
 #[derive(Drop)]
@@ -66,26 +67,47 @@ impl LogSoFar {
             None => Ok(gathering),
         }
     }
+
+    // Takes what scans of segments gave, in their order, up to the first fault.
+    fn gather(&mut self, scans: Vec<ScanDone<'_>>) -> Result<(), Fault>
+        requires { self.old.fault ≡ None }
+        ensures ok { (told : Result (List Found) faults.Fault) → IsSoFar self.old.gathering.by_pid self.old.fault told →
+            OnOk result (IsSoFar self.new.gathering.by_pid self.new.fault (fold followed_by told (map told_of_scan scans.entry.items))) }
+        ensures err { IfErr result (λ fault. fault ≡ NoMemory) }
+    {
+        for done in scans {
+            match done.scan {
+                Ok(frames) => gather_all(&mut self.gathering, frames)?,
+                Err(fault) => {
+                    self.fault = Some(fault);
+                    return Ok(());
+                }
+            }
+        }
+        Ok(())
+    }
 }
 
 impl LogReader for LogSoFar {
     ghost has_read = { λ so_far told. IsSoFar so_far.gathering.by_pid so_far.fault told };
 
     // Behind a fault nothing counts, and no segment is scanned.
-    fn take(&mut self, settings: &Settings, segment: Segment<'_>) -> Result<(), Fault> {
+    fn take<R: Threads + Sync>(
+        &mut self,
+        rt: &R,
+        crew: Crew,
+        settings: &Settings,
+        segments: Vec<Segment<'_>>,
+    ) -> Result<(), Fault> {
         if self.fault.is_some() {
             return Ok(());
         }
-        let done = match ScanWork::new(self.alloc, settings).work(segment) {
-            Turn::Done(done) => done,
-            Turn::Back(_) => return Err(Fault::NoMemory),
-        };
-        match done.scan {
-            Ok(frames) => gather_all(&mut self.gathering, frames),
-            Err(fault) => {
-                self.fault = Some(fault);
-                Ok(())
-            }
+        let work = ScanWork::new(self.alloc, settings);
+        // A segment is a piece of its own: it is work enough for a draw, and by the crew's grain one worker might get them all.
+        let crew = Crew { grain: 1, ..crew };
+        match run_round(rt, crew, &NoGate, &work, segments) {
+            Ok(scans) => self.gather(scans),
+            Err(_segments) => Err(Fault::NoMemory),
         }
     }
 }

@@ -16,12 +16,14 @@ use crate::gather::Gathering;
 use crate::log_so_far::LogSoFar;
 use crate::read_bytes::read;
 use crate::read_log::read_log;
+use crew::Crew;
 use flush_log::Disk;
 use flush_log::segments::disk_size;
 use flush_log::settings_block::read_settings as read_block;
 use flush_log::slot::{SLOT_SIZE, Slot, newer, read_slot};
 use keys::{Fault, Settings};
 use std::alloc::Global;
+use std::thread::Threads;
 
 // How many bytes the settings block has.
 const BLOCK_SIZE: usize = 64;
@@ -99,8 +101,10 @@ pub(crate) fn read_store_slot<D: Disk>(disk: &mut D, settings: &Settings) -> Res
 ///
 /// The fault at the least position of the log counts, `Fault::BadSegment` or `Fault::BadFrame`. Besides there is `Fault::NoMemory`,
 /// and `Fault::Device` where a read failed: also behind a segment that has a fault, since all are read, and then no longer
-/// scanned. It takes the memory of one segment, and what `Gathering` keeps.
+/// scanned. It takes the memory of some segments and their frames, and what `Gathering` keeps.
 pub(crate) fn read_frames<D: Disk>(
+    rt: &(impl Threads + Sync),
+    crew: Crew,
     alloc: Global,
     disk: &mut D,
     settings: &Settings,
@@ -119,6 +123,6 @@ pub(crate) fn read_frames<D: Disk>(
     ensures uncounted { IfErr result (λ fault. fault ≢ Device → D.failed disk.new ≡ D.failed disk.old) }
 {
     let mut found = LogSoFar::new(alloc);
-    read_log(alloc, disk, settings, slot, &mut found)?;
+    read_log(rt, crew, alloc, disk, settings, slot, &mut found)?;
     found.into_gathering()
 }

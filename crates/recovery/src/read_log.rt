@@ -1,24 +1,31 @@
-//! The reading of a log: its segments, from the head to the tail, are handed to whatever takes them.
-ghost use Rattle.std.specs.Prelude.{◌≡◌, ◌≢◌, ◌-◌, ◌^◌, ◌<◌, ◌≤◌, [], IsTrue, true, List, length, take, None, Result, Ok, IfErr, OnOk};
+//! The reading of a log: its segments, from the head to the tail, are handed to whatever takes them, some at a time.
+ghost use denote.Param.Send.{IsSync};
+ghost use Rattle.std.specs.Prelude.{◌≡◌, ◌≢◌, ℕ, ◌+◌, ◌-◌, ◌*◌, ◌^◌, ◌<◌, ◌≤◌, [], IsTrue, true, List, map, length, take, None, Result, Ok, IfOk, IfErr, OnOk};
+ghost use Rattle.std.specs.List.{All};
 ghost use Rattle.keys.specs.Bytes.{Bytes};
 ghost use Rattle.keys.specs.Limits.{first_bad_field};
 ghost use Rattle.keys.specs.declared.fault.Fault as faults;
 ghost use Rattle.keys.specs.declared.fault.Fault.TheVariants.{NoMemory, Device};
 ghost use Rattle.flush_log.specs.Disk.{Kept, Same};
-ghost use Rattle.flush_log.specs.Overlay.{overlay};
-ghost use Rattle.flush_log.specs.Reading.{Found, followed_by, read_segment, read_earlier as earlier_segments, log};
-ghost use Rattle.flush_log.specs.Segments.{segments_begin, disk_size, place_of_segment, last_segment, bytes_in_use};
+ghost use Rattle.flush_log.specs.Reading.{Found, read_earlier as earlier_segments, log};
+ghost use Rattle.flush_log.specs.Segments.{segments_begin, disk_size, last_segment, bytes_in_use};
 ghost use Rattle.flush_log.specs.Slot.{is_slot};
 ghost use Rattle.recovery.specs.Recovered.{IsReadOf, IsLate};
-ghost use Rattle.recovery.specs.Scan.{held_segment, is_end_at, scanned};
+ghost use Rattle.recovery.specs.Scan.{held_segment, scanned_behind};
 
 use crate::read_bytes::read;
 use crate::scan_segment::{End, Segment};
+use crew::Crew;
 use flush_log::Disk;
 use flush_log::segments::{last_segment, place_of_segment};
 use flush_log::slot::Slot;
 use keys::{Fault, Settings};
 use std::alloc::Global;
+use std::thread::Threads;
+
+// How many bytes are read before a crew gets them: whole segments, of which the largest is a quarter of it. It isn't the crew's to
+// say, so that a reading takes the same memory and makes the same calls of the disk for every crew.
+const BYTES_AT_ONCE: u64 = 4_194_304;
 
 /// What takes the segments of a log, one after the other, in their order. A recovery keeps the frames; a clean keeps of them what
 /// it writes again.
@@ -26,12 +33,19 @@ pub trait LogReader {
     // It has taken segments that hold these frames, or that have this first fault.
     ghost has_read: { Self → Result (List Found) faults.Fault → Type 0 };
 
-    /// Takes the next segment. A fault of its bytes is no error here, but a part of what was read. The only error is
-    /// `Fault::NoMemory`; after it nothing is promised of what was taken.
-    fn take(&mut self, settings: &Settings, segment: Segment<'_>) -> Result<(), Fault>
-        requires { length (held_segment segment).bytes < 2 ^ 32 }
+    /// Takes the next segments, which the crew may work at once. A fault of their bytes is no error here, but a part of what was
+    /// read. The only error is `Fault::NoMemory`; after it nothing is promised of what was taken.
+    fn take<R: Threads + Sync>(
+        &mut self,
+        rt: &R,
+        crew: Crew,
+        settings: &Settings,
+        segments: Vec<Segment<'_>>,
+    ) -> Result<(), Fault>
+        requires sync { IsSync R.row }
+        requires short { All (λ g. length (held_segment g).bytes < 2 ^ 32) segments.items }
         ensures ok { (told : Result (List Found) faults.Fault) → has_read self.old told →
-            OnOk result (has_read self.new (followed_by told (scanned settings.now (held_segment segment.entry)))) }
+            OnOk result (has_read self.new (scanned_behind settings.now told (map held_segment segments.entry.items))) }
         ensures err { IfErr result (λ fault. fault ≡ NoMemory) };
 }
 
@@ -46,78 +60,145 @@ fn bytes_in_use(settings: &Settings, slot: &Slot) -> usize
     (slot.tail - last * u64::from(settings.seg_size)) as usize
 }
 
-// Reads the first bytes of a segment, as many as the buffer has, and hands them on.
-fn read_part<D: Disk, R: LogReader>(
+// How many segments are read before a crew gets them: as many as may be, and no more than stand in front of the last one, if any do.
+fn segments_at_once(settings: &Settings, slot: &Slot) -> usize
+    requires checked { first_bad_field settings.now ≡ None }
+    requires slot { is_slot settings.now slot.now.sequence slot.now ≡ true }
+    ensures some { 0 < result }
+    ensures bounded { result * settings.now.seg_size ≤ 4194304 }
+{
+    let earlier = last_segment(settings, slot.tail) - slot.head;
+    let most = BYTES_AT_ONCE / u64::from(settings.seg_size);
+    most.min(earlier.max(1)) as usize
+}
+
+// Reads so many segments from the first on, behind each of which is another. The buffer has room for just these.
+fn read_whole<'b, D: Disk>(
+    alloc: Global,
     disk: &mut D,
     settings: &Settings,
-    number: u64,
-    end: End,
-    buf: &mut [u8],
-    reader: &mut R,
-) -> Result<(), Fault>
+    first: u64,
+    count: usize,
+    buf: &'b mut [u8],
+) -> Result<Vec<Segment<'b>>, Fault>
     requires checked { first_bad_field settings.now ≡ None }
     requires within { disk_size settings.now ≤ (D.view disk.old).size }
-    requires part { length buf.old ≤ settings.now.seg_size }
+    requires numbers { first + count < 2 ^ 64 }
+    requires whole { length buf.old ≡ count * settings.now.seg_size }
+    ensures read { (file : Bytes) (head : ℕ) → IsReadOf (D.view disk.old) file → head ≤ first → first + count ≤ head + settings.now.segments →
+        (now : Bytes) × IsReadOf (D.view disk.new) now × (take segments_begin now ≡ take segments_begin file) × IfOk result (λ segments.
+        scanned_behind settings.now (earlier_segments settings.now file head (first - head)) (map held_segment segments.items)
+        ≡ earlier_segments settings.now now head (first + count - head)) }
+    ensures short { IfOk result (λ segments. All (λ g. length (held_segment g).bytes < 2 ^ 32) segments.items) }
+    ensures err { IfErr result (IsLate (D.failed disk.old) (D.failed disk.new)) }
     ensures kept { Kept (D.view disk.old) (D.view disk.new) }
     ensures same { IsTrue (D.view disk.old).is_honest → Same (D.view disk.old) (D.view disk.new) }
     ensures counted { OnOk result (D.failed disk.new ≡ D.failed disk.old) }
     ensures uncounted { IfErr result (λ fault. fault ≢ Device → D.failed disk.new ≡ D.failed disk.old) }
-    ensures err { IfErr result (IsLate (D.failed disk.old) (D.failed disk.new)) }
-    ensures stays { (file : Bytes) → IsReadOf (D.view disk.old) file → IsReadOf (D.view disk.new) file }
-    ensures bytes { (file : Bytes) → IsReadOf (D.view disk.old) file →
-        OnOk result (IsReadOf (D.view disk.new) (overlay file (place_of_segment settings.now number) buf.new)) }
-    ensures found { (told : Result (List Found) faults.Fault) → R.has_read reader.old told →
-        OnOk result (R.has_read reader.new (followed_by told (read_segment settings.now (is_end_at end) number buf.new))) }
 {
-    read(disk, place_of_segment(settings, number), buf)?;
-    let segment = Segment {
-        number,
-        end,
-        bytes: buf,
-    };
-    reader.take(settings, segment)
+    let mut segments = Vec::with_capacity(alloc, count)?;
+    let mut rest = buf;
+    for number in first..first + count as u64 {
+        let (bytes, behind) = rest.split_at_mut(settings.seg_size as usize);
+        read(disk, place_of_segment(settings, number), bytes)?;
+        segments.push_reserved(Segment {
+            number,
+            end: End::Padding,
+            bytes,
+        });
+        rest = behind;
+    }
+    Ok(segments)
 }
 
-// Reads all segments in front of the last one. The buffer has room for one.
-fn read_earlier<D: Disk, R: LogReader>(
+// Reads what is in use of the last segment. The buffer has room for a segment.
+fn read_last<'b, D: Disk>(
+    alloc: Global,
     disk: &mut D,
     settings: &Settings,
     slot: &Slot,
-    buf: &mut [u8],
+    buf: &'b mut [u8],
+) -> Result<Vec<Segment<'b>>, Fault>
+    requires checked { first_bad_field settings.now ≡ None }
+    requires within { disk_size settings.now ≤ (D.view disk.old).size }
+    requires slot { is_slot settings.now slot.now.sequence slot.now ≡ true }
+    requires room { settings.now.seg_size ≤ length buf.old }
+    ensures read { (file : Bytes) → IsReadOf (D.view disk.old) file →
+        (now : Bytes) × IsReadOf (D.view disk.new) now × (take segments_begin now ≡ take segments_begin file) × IfOk result (λ segments.
+        scanned_behind settings.now (earlier_segments settings.now file slot.now.head (last_segment settings.now slot.now.tail - slot.now.head))
+        (map held_segment segments.items) ≡ log settings.now now slot.now) }
+    ensures short { IfOk result (λ segments. All (λ g. length (held_segment g).bytes < 2 ^ 32) segments.items) }
+    ensures err { IfErr result (IsLate (D.failed disk.old) (D.failed disk.new)) }
+    ensures kept { Kept (D.view disk.old) (D.view disk.new) }
+    ensures same { IsTrue (D.view disk.old).is_honest → Same (D.view disk.old) (D.view disk.new) }
+    ensures counted { OnOk result (D.failed disk.new ≡ D.failed disk.old) }
+    ensures uncounted { IfErr result (λ fault. fault ≢ Device → D.failed disk.new ≡ D.failed disk.old) }
+{
+    let number = last_segment(settings, slot.tail);
+    let bytes = &mut buf[..bytes_in_use(settings, slot)];
+    let mut segments = Vec::with_capacity(alloc, 1)?;
+    read(disk, place_of_segment(settings, number), bytes)?;
+    segments.push_reserved(Segment {
+        number,
+        end: End::Tail,
+        bytes,
+    });
+    Ok(segments)
+}
+
+// Reads all segments in front of the last one, at a time as many as the buffer has room for.
+fn read_earlier<D: Disk, R: LogReader>(
+    rt: &(impl Threads + Sync),
+    crew: Crew,
+    disk: &mut D,
+    settings: &Settings,
+    slot: &Slot,
+    buffer: &mut Vec<u8>,
     reader: &mut R,
 ) -> Result<(), Fault>
     requires checked { first_bad_field settings.now ≡ None }
     requires within { disk_size settings.now ≤ (D.view disk.old).size }
     requires slot { is_slot settings.now slot.now.sequence slot.now ≡ true }
-    requires whole { length buf.old ≡ settings.now.seg_size }
+    requires room { settings.now.seg_size ≤ length buffer.old.items }
     ensures read { (file : Bytes) → IsReadOf (D.view disk.old) file → R.has_read reader.old (Ok []) →
         (now : Bytes) × IsReadOf (D.view disk.new) now × (take segments_begin now ≡ take segments_begin file)
         × OnOk result (R.has_read reader.new (earlier_segments settings.now now slot.now.head (last_segment settings.now slot.now.tail - slot.now.head))) }
+    ensures room { length buffer.new.items ≡ length buffer.old.items }
     ensures err { IfErr result (IsLate (D.failed disk.old) (D.failed disk.new)) }
     ensures kept { Kept (D.view disk.old) (D.view disk.new) }
     ensures same { IsTrue (D.view disk.old).is_honest → Same (D.view disk.old) (D.view disk.new) }
     ensures counted { OnOk result (D.failed disk.new ≡ D.failed disk.old) }
     ensures uncounted { IfErr result (λ fault. fault ≢ Device → D.failed disk.new ≡ D.failed disk.old) }
 {
+    let alloc = *buffer.allocator();
+    let size = settings.seg_size as usize;
+    let at_once = (buffer.len() / size) as u64;
     let last = last_segment(settings, slot.tail);
-    for number in slot.head..last {
-        read_part(disk, settings, number, End::Padding, buf, reader)?;
+    let mut first = slot.head;
+    while first < last {
+        let count = at_once.min(last - first) as usize;
+        let buf = &mut buffer[..count * size];
+        let segments = read_whole(alloc, disk, settings, first, count, buf)?;
+        reader.take(rt, crew, settings, segments)?;
+        first += count as u64;
     }
     Ok(())
 }
 
-// Reads the log as `read_log` does. The buffer has room for a segment.
+// Reads the log as `read_log` does. The buffer has room for a segment at least.
 fn read_segments<D: Disk, R: LogReader>(
+    rt: &(impl Threads + Sync),
+    crew: Crew,
     disk: &mut D,
     settings: &Settings,
     slot: &Slot,
-    buf: &mut [u8],
+    buffer: &mut Vec<u8>,
     reader: &mut R,
 ) -> Result<(), Fault>
     requires checked { first_bad_field settings.now ≡ None }
     requires within { disk_size settings.now ≤ (D.view disk.old).size }
     requires slot { is_slot settings.now slot.now.sequence slot.now ≡ true }
-    requires whole { length buf.old ≡ settings.now.seg_size }
+    requires room { settings.now.seg_size ≤ length buffer.old.items }
     ensures read { (file : Bytes) → IsReadOf (D.view disk.old) file → R.has_read reader.old (Ok []) →
         (now : Bytes) × IsReadOf (D.view disk.new) now × (take segments_begin now ≡ take segments_begin file)
         × OnOk result (R.has_read reader.new (log settings.now now slot.now)) }
@@ -127,19 +208,21 @@ fn read_segments<D: Disk, R: LogReader>(
     ensures counted { OnOk result (D.failed disk.new ≡ D.failed disk.old) }
     ensures uncounted { IfErr result (λ fault. fault ≢ Device → D.failed disk.new ≡ D.failed disk.old) }
 {
-    read_earlier(disk, settings, slot, buf, reader)?;
-    let last = last_segment(settings, slot.tail);
-    let used = bytes_in_use(settings, slot);
-    let part = &mut buf[..used];
-    read_part(disk, settings, last, End::Tail, part, reader)
+    let alloc = *buffer.allocator();
+    read_earlier(rt, crew, disk, settings, slot, buffer, reader)?;
+    let segments = read_last(alloc, disk, settings, slot, buffer)?;
+    reader.take(rt, crew, settings, segments)
 }
 
 /// Reads the log between the slot's head and tail, and hands all its segments to the reader, which then has read what the log
-/// holds, or its first fault: also the segments behind one that has a fault are read. It takes the memory of one segment.
+/// holds, or its first fault: also the segments behind one that has a fault are read. It takes memory for the bytes of some segments,
+/// at most 4 MiB whatever the crew.
 ///
 /// A read that fails is `Fault::Device`; besides there is `Fault::NoMemory`, of the reader too. After an error nothing is promised
 /// of the reader. No byte of the disk changes.
 pub fn read_log<D: Disk, R: LogReader>(
+    rt: &(impl Threads + Sync),
+    crew: Crew,
     alloc: Global,
     disk: &mut D,
     settings: &Settings,
@@ -159,7 +242,8 @@ pub fn read_log<D: Disk, R: LogReader>(
     ensures counted { OnOk result (D.failed disk.new ≡ D.failed disk.old) }
     ensures uncounted { IfErr result (λ fault. fault ≢ Device → D.failed disk.new ≡ D.failed disk.old) }
 {
+    let at_once = segments_at_once(settings, slot);
     let mut buffer = Vec::new(alloc);
-    buffer.resize(settings.seg_size as usize, 0)?;
-    read_segments(disk, settings, slot, &mut buffer, reader)
+    buffer.resize(at_once * settings.seg_size as usize, 0)?;
+    read_segments(rt, crew, disk, settings, slot, &mut buffer, reader)
 }

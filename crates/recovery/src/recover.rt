@@ -11,6 +11,7 @@ ghost use Rattle.recovery.specs.StoreOfDisk.{store_of_disk};
 use crate::build_tree::checked_tree;
 use crate::gather::Gathering;
 use crate::read_disk::{read_frames, read_settings, read_store_slot};
+use crew::Crew;
 use flush_log::Disk;
 use flush_log::slot::Slot;
 use keys::{Fault, Settings};
@@ -38,7 +39,12 @@ struct LogRead {
 }
 
 // Reads the settings, the slot and the log.
-fn read_parts<D: Disk>(alloc: Global, disk: &mut D) -> Result<LogRead, Fault>
+fn read_parts<D: Disk>(
+    rt: &(impl Threads + Sync),
+    crew: Crew,
+    alloc: Global,
+    disk: &mut D,
+) -> Result<LogRead, Fault>
     ensures read { (file : Bytes) × IsReadOf (D.view disk.old) file × MatchResult result (λ read. IsLogRead read file)
         (λ fault. (store_of_disk file ≡ Err fault) ⊎ IsLate (D.failed disk.old) (D.failed disk.new) fault) }
     ensures good { IfOk result (λ read. first_bad_field read.settings ≡ None) }
@@ -49,7 +55,7 @@ fn read_parts<D: Disk>(alloc: Global, disk: &mut D) -> Result<LogRead, Fault>
 {
     let settings = read_settings(disk)?;
     let slot = read_store_slot(disk, &settings)?;
-    let gathering = read_frames(alloc, disk, &settings, &slot)?;
+    let gathering = read_frames(rt, crew, alloc, disk, &settings, &slot)?;
     Ok(LogRead {
         settings,
         slot,
@@ -57,7 +63,8 @@ fn read_parts<D: Disk>(alloc: Global, disk: &mut D) -> Result<LogRead, Fault>
     })
 }
 
-/// Reads the store that the disk holds. It writes nothing.
+/// Reads the store that the disk holds. It writes nothing. The crew scans the segments and builds the pages; which crew it is changes
+/// nothing of what is answered.
 ///
 /// A disk that has no settings block, or is shorter than that tells, is `Fault::NotAStore`; one of which no slot is open, or an
 /// open one is not well formed, `Fault::NoSlot`; then, of the log, the fault at the least position counts, `Fault::BadSegment` or
@@ -65,6 +72,7 @@ fn read_parts<D: Disk>(alloc: Global, disk: &mut D) -> Result<LogRead, Fault>
 /// `Fault::NoMemory`, and `Fault::Device` where a read failed: also where it failed behind a place that has a fault of the log.
 pub fn recover<D: Disk>(
     rt: &(impl Threads + Sync),
+    crew: Crew,
     alloc: Global,
     disk: &mut D,
 ) -> Result<Recovered, Fault>
@@ -82,8 +90,8 @@ pub fn recover<D: Disk>(
         settings,
         slot,
         gathering,
-    } = read_parts(alloc, disk)?;
-    let tree = checked_tree(rt, alloc, &settings, &slot, gathering)?;
+    } = read_parts(rt, crew, alloc, disk)?;
+    let tree = checked_tree(rt, crew, alloc, &settings, &slot, gathering)?;
     Ok(Recovered {
         settings,
         slot,

@@ -1,4 +1,5 @@
 //! What the command line asks for.
+use crew::Crew;
 use keys::Settings;
 
 /// What the command line asks for.
@@ -6,6 +7,8 @@ use keys::Settings;
 pub struct Options {
     /// The settings of a store that is made.
     pub settings: Settings,
+    /// Who works the pages. What is answered is the same for every crew.
+    pub crew: Crew,
     /// The file in which the store is. Without one it is in memory, and ends with the program.
     pub disk: Option<String>,
     /// Whether that file is made anew, so that what it held is lost. Without a file it changes nothing.

@@ -1,6 +1,7 @@
 //! Command lines, by example.
 use super::options;
 use clap::error::ErrorKind;
+use crew::Crew;
 use std::alloc::{AllocError, Global};
 use std::test::Fail;
 
@@ -28,6 +29,15 @@ fn tells(alloc: Global, line: &str, numbers: [u32; 6]) -> Result<bool, AllocErro
             && s.seg_size == numbers[4]
             && s.segments == numbers[5],
     )
+}
+
+// Whether a line tells so many workers, and this grain.
+fn tells_crew(alloc: Global, line: &str, workers: u32, grain: u32) -> Result<bool, AllocError> {
+    let words = words_of(alloc, line)?;
+    let Ok(told) = options(alloc, &words) else {
+        return Ok(false);
+    };
+    Ok(told.crew == Crew { workers, grain })
 }
 
 // Whether words tell this file, if any, and whether it is made anew.
@@ -64,13 +74,16 @@ fn end_of(alloc: Global, line: &str) -> Result<i32, AllocError> {
     }
 }
 
-const REFUSED: [&str; 21] = [
+const REFUSED: [&str; 24] = [
     "--fan 8 --chain 2 --fan 8",
     "--flan 8",
     "8",
     "--fan x",
     "--fan 4294967296",
     "--fan -1",
+    "--workers x",
+    "--grain 4294967296",
+    "--grain 8 --workers 8 --grain 8",
     "--fan",
     "--fan --help",
     "-- --fan 8",
@@ -108,6 +121,15 @@ fn what_is_given_is_told(rt: HostRuntime) -> Result<(), Fail> {
             [0, 4, 64, 256, 65_536, u32::MAX]
         )?
     );
+    Ok(())
+}
+
+#[test]
+fn the_crew_that_is_given_is_told(rt: HostRuntime) -> Result<(), Fail> {
+    let alloc = rt.alloc();
+    assert!(rt; tells_crew(alloc, "--fan 8", 1, 64)?);
+    assert!(rt; tells_crew(alloc, "--workers 8 --grain 2", 8, 2)?);
+    assert!(rt; tells_crew(alloc, "--grain=0 --disk 8", 1, 0)?);
     Ok(())
 }
 

@@ -1,8 +1,9 @@
 //! Sessions on stores in files, and disks over files.
-use super::{ByBytes, CLEANED, CLEANED_OUT, Failing};
+use super::{ByBytes, CLEANED, CLEANED_OUT, Failing, check};
 use crate::file_disk::FileDisk;
 use crate::options::Options;
 use crate::session::run;
+use crew::Crew;
 use engine::Disk;
 use keys::Settings;
 use std::fs::{Metadata, OpenFile};
@@ -14,7 +15,7 @@ use std::thread::Threads;
 use std::{env, fs, io};
 
 // Asserts how these lines are run on the store of this file. It is made anew with pages of so many entries; or it is the one
-// that the file holds, with settings on the command line that would be refused.
+// that the file holds, with settings on the command line that would be refused. Two workers share the work.
 fn check_in_file<R: AllocGlobal + Abort + Threads + Sync + Files>(
     rt: &R,
     path: &str,
@@ -32,6 +33,10 @@ fn check_in_file<R: AllocGlobal + Abort + Threads + Sync + Files>(
             max_value: 16,
             seg_size: 256,
             segments: 4,
+        },
+        crew: Crew {
+            workers: 2,
+            grain: 1,
         },
         disk: Some(String::from_str(alloc, path)?),
         create: fan.is_some(),
@@ -96,6 +101,37 @@ fn a_store_in_a_file_is_cleaned(rt: HostRuntime) -> Result<(), Fail> {
         end,
     )?;
     fs::remove_dir_all(&rt, folder.as_str())?;
+    Ok(())
+}
+
+// Asserts that a crew is refused, before settings that are and before this disk, and behind a bad line.
+fn check_refused_crew<R: AllocGlobal + Abort + Threads + Sync + Files>(
+    rt: &R,
+    crew: &str,
+    disk: &str,
+) -> Result<(), Fail> {
+    let alloc = rt.alloc();
+    let mut words = Vec::new(alloc);
+    words.push(String::from_str(alloc, crew)?)?;
+    check(rt, &words, b"put a 1\n", 4, b"", b"fault 5 BadCrew\n");
+    words.push(String::from_str(alloc, "--fan=3")?)?;
+    words.push(String::from_str(alloc, disk)?)?;
+    words.push(String::from_str(alloc, "--create")?)?;
+    check(rt, &words, b"put a 1\n", 4, b"", b"fault 5 BadCrew\n");
+    check(rt, &words, b"frob\n", 3, b"", b"line 1: unknown command\n");
+    Ok(())
+}
+
+// Where a crew is out of range, the file isn't made.
+#[test]
+fn a_crew_is_refused(rt: HostRuntime) -> Result<(), Fail> {
+    let file = env::temp_dir(&rt)?.join(rt.alloc(), "bwsh_without_crew")?;
+    let disk = format!(in rt.alloc(); "--disk={}", file.as_str())?;
+    check_refused_crew(&rt, "--workers=0", disk.as_str())?;
+    check_refused_crew(&rt, "--workers=65", disk.as_str())?;
+    check_refused_crew(&rt, "--grain=0", disk.as_str())?;
+    check_refused_crew(&rt, "--grain=65536", disk.as_str())?;
+    assert!(rt; !fs::exists(&rt, file.as_str())?);
     Ok(())
 }
 

@@ -7,14 +7,18 @@ ghost use Rattle.recovery.specs.Recovered.{IsReadOf};
 ghost use Rattle.recovery.specs.StoreOfDisk.{store_of_disk};
 ghost use Rattle.cleaner.specs.AfterClean.{after_clean};
 ghost use Rattle.cleaner.specs.Cleaned.{WouldClean, IsCleanFault};
+ghost use Rattle.engine.specs.Refusal.{is_crew};
 ghost use Rattle.engine.specs.State.{IsSound};
 
+use crate::refusal::admit_crew;
 use crate::store::{Store, log_of};
 use cleaner::clean::clean;
 use cleaner::laws::a_clean_keeps_the_store;
+use crew::Crew;
 use flush_log::disk::Disk;
 use flush_log::slot::Slot;
 use keys::Fault;
+use std::thread::Threads;
 
 // Whether a call of the disk failed.
 fn is_of_disk(fault: &Fault) -> bool
@@ -29,21 +33,23 @@ impl<D: Disk> Store<D> {
     /// commit makes that the store's, with a log that begins one segment later. All that is done on the log alone: what was not
     /// flushed stays in memory, unflushed, and the disk stands for the same pages as before.
     ///
-    /// A store that has failed is `Fault::Failed`. A log in one segment is `Fault::NothingToClean`; the disk isn't called then. Else
-    /// the log is read: the fault at its least position is `Fault::BadSegment` or `Fault::BadFrame`; then the first page of which it says
-    /// what fits no page is `Fault::BadStructure`, of rule 1. Then there are `Fault::Spent`, where a position or the number would be
-    /// above 2^62, and `Fault::Full`, where what is to be written needs more segments than there are. Besides, where the log isn't in
-    /// one segment, there are `Fault::NoMemory`, and `Fault::Device` where a call of the disk failed. After `Device` the store
-    /// has failed, and the disk stands for the same pages still; after any other fault all is as it was.
-    pub fn clean(&mut self) -> Result<u64, Fault>
+    /// A store that has failed is `Fault::Failed`, and then a crew out of range `Fault::BadCrew`. A log in one segment is
+    /// `Fault::NothingToClean`; the disk isn't called then. Else the log is read: the fault at its least position is `Fault::BadSegment`
+    /// or `Fault::BadFrame`; then the first page of which it says what fits no page is `Fault::BadStructure`, of rule 1. Then there are
+    /// `Fault::Spent`, where a position or the number would be above 2^62, and `Fault::Full`, where what is to be written needs more
+    /// segments than there are. Besides, where the log isn't in one segment, there are `Fault::NoMemory`, and `Fault::Device` where a
+    /// call of the disk failed. After `Device` the store has failed, and the disk stands for the same pages still; after any other
+    /// fault all is as it was.
+    pub fn clean(&mut self, rt: &(impl Threads + Sync), crew: Crew) -> Result<u64, Fault>
         // Whatever the disk does, of bytes that were read: the store after it, or why it is refused.
-        ensures read { self.old.has_failed ≡ false → (file : Bytes) × IsReadOf (D.view self.old.disk) file × MatchResult result
+        ensures read { self.old.has_failed ≡ false → IsTrue (is_crew crew) → (file : Bytes) × IsReadOf (D.view self.old.disk) file × MatchResult result
             (λ head. (bytes : Bytes) × (after_clean self.old.settings self.old.store file ≡ Ok (self.new.store, bytes)) × (head ≡ self.new.store.head))
             (IsCleanFault self.old.settings self.old.store file (D.failed self.old.disk) (D.failed self.new.disk)) }
         ensures rest { (self.new.settings ≡ self.old.settings) × Kept (D.view self.old.disk) (D.view self.new.disk) }
 
         // What a fault leaves: the store, but that it has failed after `Device`; and the disk, but after `Device` in writing.
         ensures failed { self.old.has_failed ≡ true → (result ≡ Err Fault.Failed) × (self.new ≡ self.old) }
+        ensures bad_crew { self.old.has_failed ≡ false → is_crew crew ≡ false → (result ≡ Err Fault.BadCrew) × (self.new ≡ self.old) }
         ensures unchanged { IfErr result (λ fault. self.new.store ≡ self.old.store) }
         ensures fine { IfErr result (λ fault. fault ≢ Fault.Device →
             (self.new.has_failed ≡ self.old.has_failed) × (D.failed self.new.disk ≡ D.failed self.old.disk)) }
@@ -69,6 +75,7 @@ impl<D: Disk> Store<D> {
         if self.has_failed {
             return Err(Fault::Failed);
         }
+        admit_crew(crew)?;
         let slot = Slot {
             sequence: self.log.sequence,
             head: self.log.head,
@@ -76,7 +83,7 @@ impl<D: Disk> Store<D> {
             root: self.tree.root(),
             height: self.tree.height(),
         };
-        match clean(self.alloc, &mut self.disk, &self.settings, &slot) {
+        match clean(rt, crew, self.alloc, &mut self.disk, &self.settings, &slot) {
             Ok(committed) => {
                 self.log = log_of(&committed);
                 Ok(self.log.head)

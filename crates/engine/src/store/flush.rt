@@ -13,9 +13,12 @@ ghost use Rattle.flush_log.specs.Segments.{disk_size};
 ghost use Rattle.recovery.specs.InStep.{IsStore};
 ghost use Rattle.recovery.specs.StoreOfDisk.{store_of_disk};
 ghost use Rattle.engine.specs.Calls.{IsPlan, IsFlushFault};
+ghost use Rattle.engine.specs.Refusal.{is_crew};
 ghost use Rattle.engine.specs.State.{IsSound, store_in};
 
+use crate::refusal::admit_crew;
 use crate::store::{Log, Store};
+use crew::Crew;
 use flush_log::disk::{Disk, DiskFault};
 use flush_log::image::Image;
 use flush_log::layout::tail_of_flush;
@@ -29,6 +32,7 @@ use recovery::laws::{
 };
 use recovery::table_laws::a_table_marked_as_written_holds_the_flushed_tree;
 use std::alloc::Global;
+use std::thread::Threads;
 
 // What a flush writes: the images of its text, and the slot that commits them; and room for the bytes of a segment.
 #[derive(Drop)]
@@ -40,6 +44,8 @@ struct FlushPlan {
 
 // Plans the flush of a tree and its log, of which the log lacks something. It looks at no disk.
 fn plan(
+    rt: &(impl Threads + Sync),
+    crew: Crew,
     alloc: Global,
     settings: &Settings,
     tree: &Tree<Global>,
@@ -51,7 +57,7 @@ fn plan(
     ensures plan { IfOk result (λ plan. IsPlan settings.now (store_in tree.now log) plan.images.items plan.slot (length plan.buffer.items)) }
     ensures err { IfErr result (λ fault. (fault ≡ NoMemory) ⊎ ((file : Bytes) → after_flush settings.now (store_in tree.now log) file ≡ Err fault)) }
 {
-    let images = images(alloc, tree)?;
+    let images = images(rt, crew, alloc, tree)?;
     let mut buffer = Vec::new(alloc);
     buffer.resize(settings.seg_size as usize, 0)?;
     let sequence = log.sequence + 1;
@@ -110,21 +116,22 @@ impl<D: Disk> Store<D> {
     /// Writes what the log lacks, so that it has all that the store holds, and returns the sequence number now. Where there is
     /// nothing to write, that is all: no memory is taken, and the disk is not called.
     ///
-    /// A store that has failed is `Fault::Failed`. Else there are `Fault::NoMemory`; `Fault::Spent`, where a position or the number
-    /// would be above 2^62; `Fault::Full`, where no segment would stay free; and `Fault::Device`, where a call of the disk
-    /// failed. After `Device` the store has failed, and the disk holds the store of before or the one that it has; after
-    /// any other fault all is as it was.
-    pub fn flush(&mut self) -> Result<u64, Fault>
+    /// A store that has failed is `Fault::Failed`, and then a crew out of range `Fault::BadCrew`. Else there are `Fault::NoMemory`;
+    /// `Fault::Spent`, where a position or the number would be above 2^62; `Fault::Full`, where no segment would stay free; and
+    /// `Fault::Device`, where a call of the disk failed. After `Device` the store has failed, and the disk holds the store of before or
+    /// the one that it has; after any other fault all is as it was.
+    pub fn flush(&mut self, rt: &(impl Threads + Sync), crew: Crew) -> Result<u64, Fault>
         // Store and number, whatever the disk does.
         ensures store { IfOk result (λ n. (n ≡ self.new.store.sequence) × ((bytes : Bytes)
             × (after_flush self.old.settings self.old.store (D.view self.old.disk).seen ≡ Ok (self.new.store, bytes)))) }
-        ensures nothing { self.old.has_failed ≡ false → flush_text self.old.store.tree ≡ [] →
+        ensures nothing { self.old.has_failed ≡ false → IsTrue (is_crew crew) → flush_text self.old.store.tree ≡ [] →
             (result ≡ Ok self.old.store.sequence) × (self.new ≡ self.old) }
         ensures rest { (self.new.settings ≡ self.old.settings) × Kept (D.view self.old.disk) (D.view self.new.disk) }
 
         // Which fault, and what it leaves.
         ensures failed { self.old.has_failed ≡ true → result ≡ Err Fault.Failed }
-        ensures refused { self.old.has_failed ≡ false → IfErr result (IsFlushFault self.old.settings self.old.store (D.view self.old.disk).seen
+        ensures bad_crew { self.old.has_failed ≡ false → is_crew crew ≡ false → result ≡ Err Fault.BadCrew }
+        ensures refused { self.old.has_failed ≡ false → IsTrue (is_crew crew) → IfErr result (IsFlushFault self.old.settings self.old.store (D.view self.old.disk).seen
             (D.failed self.old.disk) (D.failed self.new.disk)) }
         ensures unchanged { IfErr result (λ fault. fault ≢ Fault.Device → self.new ≡ self.old) }
         ensures device { IfErr result (λ fault. fault ≡ Fault.Device → (self.new.store ≡ self.old.store) × (self.new.has_failed ≡ true)) }
@@ -150,10 +157,11 @@ impl<D: Disk> Store<D> {
         if self.has_failed {
             return Err(Fault::Failed);
         }
+        admit_crew(crew)?;
         if is_all_written(&self.tree) {
             return Ok(self.log.sequence);
         }
-        let mut plan = plan(self.alloc, &self.settings, &self.tree, self.log)?;
+        let mut plan = plan(rt, crew, self.alloc, &self.settings, &self.tree, self.log)?;
         if let Err(failed) = write(&mut self.disk, &self.settings, self.log.tail, &mut plan) {
             self.has_failed = true;
             return Err(failed.into());

@@ -6,12 +6,14 @@ ghost use Rattle.mapping.specs.Tree as definitions;
 ghost use Rattle.flush_log.specs.Disk.{IsSettled, Kept, LeavesOnly, Same};
 ghost use Rattle.recovery.specs.StoreOfDisk.{store_of_disk};
 ghost use Rattle.engine.specs.Plays.{IsPlayed, IsPlayedOn, IsPlayFault, IsStepDone, IsStepFault, IsLeftInStep, IsLeftBehind, UnlessDevice, step_of, answer_of, played, reached};
+ghost use Rattle.engine.specs.Refusal.{is_crew};
 ghost use Rattle.engine.specs.State.{IsSound};
 ghost use Rattle.engine.specs.Steps.{ArePlayed, HaveWords, StandsAfterSome, batching, after_step, plays};
 
 use crate::laws::steps_answer_as_a_map_and_are_read_back;
 use crate::step::{Answer, Step};
 use crate::store::Store;
+use crew::{Crew, Gate};
 use flush_log::disk::Disk;
 use keys::Fault;
 use std::alloc::Global;
@@ -19,7 +21,13 @@ use std::thread::Threads;
 
 impl<D: Disk> Store<D> {
     // Does a step.
-    fn step(&mut self, rt: &(impl Threads + Sync), step: Step<'_>) -> Result<Answer, Fault>
+    fn step(
+        &mut self,
+        rt: &(impl Threads + Sync),
+        crew: Crew,
+        gate: &impl Gate,
+        step: Step<'_>,
+    ) -> Result<Answer, Fault>
         // As it should, of bytes that a read gave, whatever the disk does.
         ensures ok { IfOk result (λ answer. (bytes : Bytes) × IsStepDone (D.view self.old.disk).is_honest
             self.old.settings self.old.store (D.view self.old.disk).seen (step_of step.entry) answer self.new.store bytes) }
@@ -27,7 +35,8 @@ impl<D: Disk> Store<D> {
 
         // Which fault, and what it leaves.
         ensures failed { self.old.has_failed ≡ true → result ≡ Err Fault.Failed }
-        ensures refused { self.old.has_failed ≡ false → IfErr result (λ fault. (file : Bytes)
+        ensures bad_crew { self.old.has_failed ≡ false → is_crew crew ≡ false → result ≡ Err Fault.BadCrew }
+        ensures refused { self.old.has_failed ≡ false → IsTrue (is_crew crew) → IfErr result (λ fault. (file : Bytes)
             × (IsTrue (D.view self.old.disk).is_honest → file ≡ (D.view self.old.disk).seen)
             × IsStepFault self.old.settings self.old.store file (D.failed self.old.disk) (D.failed self.new.disk) (step_of step.entry) fault) }
         ensures unchanged { IfErr result (λ fault. self.new.store ≡ self.old.store) }
@@ -49,19 +58,21 @@ impl<D: Disk> Store<D> {
         ensures sound { IsSound D.view self.old × IsSound D.view self.new }
     {
         match step {
-            Step::Batch(commands) => Ok(Answer::Replies(self.batch(rt, commands)?)),
-            Step::Flush => Ok(Answer::Flushed(self.flush()?)),
-            Step::Clean => Ok(Answer::Cleaned(self.clean()?)),
+            Step::Batch(commands) => Ok(Answer::Replies(self.batch(rt, crew, gate, commands)?)),
+            Step::Flush => Ok(Answer::Flushed(self.flush(rt, crew)?)),
+            Step::Clean => Ok(Answer::Cleaned(self.clean(rt, crew)?)),
         }
     }
 
     /// Does the steps one after the other, up to the first that is refused, and returns the answer to each at its place. Where
     /// one is refused, its place is told, with the answers to those before it and the fault, which are those that `batch`, `flush` and
     /// `clean` give; then the store is as those before it left it, but that it has failed after `Fault::Device`. Where there is
-    /// no memory for the list of answers, that is place 0 with `Fault::NoMemory`. No steps are always done.
+    /// no memory for the list of answers, that is place 0 with `Fault::NoMemory`. No steps are always done, whatever the crew.
     pub fn play(
         &mut self,
         rt: &(impl Threads + Sync),
+        crew: Crew,
+        gate: &impl Gate,
         steps: &[Step<'_>],
     ) -> Result<Vec<Answer>, (usize, Vec<Answer>, Fault)>
         // All are played, or those before one that is refused, whatever the disk does: each answers, and leaves the store, as it should, of
@@ -86,7 +97,9 @@ impl<D: Disk> Store<D> {
         // Which fault, and what it leaves.
         ensures failed { self.old.has_failed ≡ true → OnOk result (steps.now ≡ []) }
         ensures still_failed { self.old.has_failed ≡ true → IfErr result (λ e. (e.0 ≡ 0) × ((e.2 ≡ Fault.Failed) ⊎ (e.2 ≡ Fault.NoMemory))) }
-        ensures refused { self.old.has_failed ≡ false → IfErr result (λ e. (file : Bytes) × (IsTrue (D.view self.old.disk).is_honest → file
+        ensures bad_crew { self.old.has_failed ≡ false → is_crew crew ≡ false → OnOk result (steps.now ≡ [])
+            × IfErr result (λ e. (e.0 ≡ 0) × ((e.2 ≡ Fault.BadCrew) ⊎ (e.2 ≡ Fault.NoMemory))) }
+        ensures refused { self.old.has_failed ≡ false → IsTrue (is_crew crew) → IfErr result (λ e. (file : Bytes) × (IsTrue (D.view self.old.disk).is_honest → file
             ≡ (plays (batching self.old.settings) self.old.settings self.old.store (D.view self.old.disk).seen (played result steps.now)).bytes)
             × IsPlayFault self.old.settings self.new.store file (D.failed self.old.disk) (D.failed self.new.disk) steps.now e.0 e.2) }
         ensures device { IfErr result (λ e. e.2 ≡ Fault.Device → self.new.has_failed ≡ true) }
@@ -112,7 +125,7 @@ impl<D: Disk> Store<D> {
             Err(_) => return Err((0, Vec::new(self.alloc), Fault::NoMemory)),
         };
         for step in steps {
-            match self.step(rt, *step) {
+            match self.step(rt, crew, gate, *step) {
                 Ok(answer) => answers.push_reserved(answer),
                 Err(fault) => return Err((answers.len(), answers, fault)),
             }

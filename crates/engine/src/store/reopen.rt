@@ -1,12 +1,15 @@
 //! A store comes back: from the disk that holds it, or from its own.
-ghost use Rattle.std.specs.Prelude.{◌≡◌, false, IsTrue, IfOk, OnOk};
+ghost use Rattle.std.specs.Prelude.{◌≡◌, Err, false, IsTrue, IfOk, OnOk};
 ghost use Rattle.keys.specs.Bytes.{Bytes};
 ghost use Rattle.flush_log.specs.Disk.{CountsFailure, IsSettled, Kept, Leaves, Same};
 ghost use Rattle.recovery.specs.Recovered.{IsReadOf};
 ghost use Rattle.engine.specs.Opened.{IsOpened, disk_left};
+ghost use Rattle.engine.specs.Refusal.{is_crew};
 ghost use Rattle.engine.specs.State.{IsSound};
 
+use crate::refusal::admit_crew;
 use crate::store::{Store, log_of};
+use crew::Crew;
 use flush_log::disk::{Disk, DiskFault};
 use keys::Fault;
 use recovery::laws::what_is_read_is_a_store;
@@ -28,17 +31,20 @@ fn settle<D: Disk>(disk: &mut D) -> Result<(), DiskFault>
 impl<D: Disk> Store<D> {
     /// Opens the store that the disk holds: its pages, root, height and settings are those that were flushed last. It writes nothing.
     ///
-    /// A disk that holds no store is refused with exactly one fault, as `recovery::recover` says: `Fault::NotAStore`,
-    /// `Fault::NoSlot`, `Fault::BadSegment`, `Fault::BadFrame` or `Fault::BadStructure`. Besides there are `Fault::NoMemory`, and
-    /// `Fault::Device` where a read failed. After an `Err` the disk is handed back as it was.
+    /// A crew out of range is `Fault::BadCrew`. A disk that holds no store is refused with exactly one fault, as `recovery::recover`
+    /// says: `Fault::NotAStore`, `Fault::NoSlot`, `Fault::BadSegment`, `Fault::BadFrame` or `Fault::BadStructure`. Besides there are
+    /// `Fault::NoMemory`, and `Fault::Device` where a read failed. After an `Err` the disk is handed back as it was.
     pub fn recover(
         rt: &(impl Threads + Sync),
         alloc: Global,
         disk: D,
+        crew: Crew,
     ) -> Result<Store<D>, (Fault, D)>
+        // The crew comes before the disk is called.
+        ensures bad_crew { is_crew crew ≡ false → result ≡ Err (Fault.BadCrew, disk) }
         // Of bytes that were read, whatever the disk does; on an honest one these are what a read gives.
-        ensures read { (file : Bytes) × IsReadOf (D.view disk) file × IsOpened D.failed file (D.failed disk) result }
-        ensures honest { IsTrue (D.view disk).is_honest → IsOpened D.failed (D.view disk).seen (D.failed disk) result }
+        ensures read { IsTrue (is_crew crew) → (file : Bytes) × IsReadOf (D.view disk) file × IsOpened D.failed file (D.failed disk) result }
+        ensures honest { IsTrue (is_crew crew) → IsTrue (D.view disk).is_honest → IsOpened D.failed (D.view disk).seen (D.failed disk) result }
         ensures fine { IfOk result (λ opened. opened.has_failed ≡ false) }
 
         // No byte changed, and nothing of what a crash may leave.
@@ -49,8 +55,11 @@ impl<D: Disk> Store<D> {
     {
         // Only for the proof.
         what_is_read_is_a_store();
+        if let Err(fault) = admit_crew(crew) {
+            return Err((fault, disk));
+        }
         let mut disk = disk;
-        match recover(rt, alloc, &mut disk) {
+        match recover(rt, crew, alloc, &mut disk) {
             Ok(found) => {
                 let log = log_of(&found.slot);
                 Ok(Store {
@@ -69,11 +78,13 @@ impl<D: Disk> Store<D> {
     /// Gives up what the store has in memory, makes all that was written to its disk last, and opens the store that the disk
     /// holds: that of the last flush. So a store goes on that has failed (`Fault::Failed`).
     ///
-    /// `Fault::Device` where a call of the disk failed; else as `Store::recover`. After an `Err` the disk is handed back, with what a
-    /// read gives as it was.
-    pub fn reopen(self, rt: &(impl Threads + Sync)) -> Result<Store<D>, (Fault, D)>
-        ensures read { (file : Bytes) × IsReadOf (D.view self.disk) file × IsOpened D.failed file (D.failed self.disk) result }
-        ensures honest { IsTrue (D.view self.disk).is_honest → IsOpened D.failed (D.view self.disk).seen (D.failed self.disk) result }
+    /// A crew out of range is `Fault::BadCrew`, and where a call of the disk failed there is `Fault::Device`; else as `Store::recover`.
+    /// After an `Err` the disk is handed back, with what a read gives as it was.
+    pub fn reopen(self, rt: &(impl Threads + Sync), crew: Crew) -> Result<Store<D>, (Fault, D)>
+        // The crew comes before the disk is called.
+        ensures bad_crew { is_crew crew ≡ false → result ≡ Err (Fault.BadCrew, self.disk) }
+        ensures read { IsTrue (is_crew crew) → (file : Bytes) × IsReadOf (D.view self.disk) file × IsOpened D.failed file (D.failed self.disk) result }
+        ensures honest { IsTrue (is_crew crew) → IsTrue (D.view self.disk).is_honest → IsOpened D.failed (D.view self.disk).seen (D.failed self.disk) result }
         ensures fine { IfOk result (λ opened. opened.has_failed ≡ false) }
 
         // What a read gives stays; the disk is settled where it is Ok, and a crash meanwhile leaves what it might have left before.
@@ -86,8 +97,11 @@ impl<D: Disk> Store<D> {
     {
         let alloc = self.alloc;
         let mut disk = self.close();
+        if let Err(fault) = admit_crew(crew) {
+            return Err((fault, disk));
+        }
         match settle(&mut disk) {
-            Ok(()) => Store::recover(rt, alloc, disk),
+            Ok(()) => Store::recover(rt, alloc, disk, crew),
             Err(failed) => Err((failed.into(), disk)),
         }
     }

@@ -15,5 +15,7 @@ returns c =
     let four = rule_added _ _ _ _ _ c.in_ok-arg-4.ensures c.number-4.ensures.local three c.number-4.ensures.rule in
     let five = rule_added _ _ _ _ _ c.in_ok-arg-5.ensures c.number-5.ensures.local four c.number-5.ensures.rule in
     let six = rule_added _ _ _ _ _ c.in_ok-arg-6.ensures c.number-6.ensures.local five c.number-6.ensures.rule in
-    let seven = rule_added _ _ _ _ _ c.in_ok-arg-7.ensures c.path.ensures.local six c.path.ensures.rule in
-    IfOk-weaker c.arg-8.result _ _ (λ _ added. rule_added _ _ _ _ _ added c.flag.ensures.local seven c.flag.ensures.rule) c.arg-8.ensures
+    let seven = rule_added _ _ _ _ _ c.in_ok-arg-7.ensures c.number-7.ensures.local six c.number-7.ensures.rule in
+    let eight = rule_added _ _ _ _ _ c.in_ok-arg-8.ensures c.number-8.ensures.local seven c.number-8.ensures.rule in
+    let nine = rule_added _ _ _ _ _ c.in_ok-arg-9.ensures c.path.ensures.local eight c.path.ensures.rule in
+    IfOk-weaker c.arg-10.result _ _ (λ _ added. rule_added _ _ _ _ _ added c.flag.ensures.local nine c.flag.ensures.rule) c.arg-10.ensures

@@ -30,6 +30,6 @@ returns-in-Err-clause-runs g c order is =
     let after = c.play.new.self in
     let bytes = (g.D.Disk.view after.disk).seen in
     let out = g.O.Write.contents c.args.out.now in
-    let (file, shown, refused) = c.in-Err.ensures.refused c.requires.fine in
+    let (file, shown, refused) = c.in-Err.ensures.refused c.requires.fine c.requires.crew in
     RunsOrder-refused disk.is_honest store.settings store.store disk.seen order c.args.step is out _ after.store file bytes _ _ c.in-Err.refused.0 c.in-Err.refused.2 c.store_fault.result
     c.in-Err.ensures.err.0 c.store_fault.ensures c.in-Err.ensures.err.1 shown refused

@@ -27,7 +27,7 @@ pub returns-then-slot-last_segment-clause-unwritten : goal.returns-then-slot-las
 returns-then-slot-last_segment-clause-unwritten g c honest st same = inl (same_self (g.D.Disk.view c.args.disk.now))
 
 pub plan-requires-clause-more : goal.plan-requires-clause-more
-plan-requires-clause-more g c =
+plan-requires-clause-more g c κs within =
     let t = c.args.slot.now in
     heads-differ c.args.settings.now c.slot.inside.head t.head c.slot.inside.tail t.tail c.last_segment.result (ap (λ (u : Slot). u.head) c.slot.view_is) (ap (λ (u : Slot). u.tail) c.slot.view_is) c.last_segment.ensures c.if-slot-last_segment.false
 

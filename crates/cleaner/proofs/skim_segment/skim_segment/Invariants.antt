@@ -3,9 +3,9 @@ use Rattle.recovery.specs.Scan.{is_end_at}
 use Rattle.cleaner.proofs.SkimLaws.{IsUpto}
 use Rattle.cleaner.proofs.skim_segment.skim_segment.Given as goal
 
--- the frames in front of the bytes that are left were taken
+-- of the frames in front of the bytes that are left it was told what they are
 abbrev pub invariant-loop-bytes : goal.invariant-loop-bytes
-invariant-loop-bytes l = IsUpto l.settings (is_end_at l.end) (length l.bytes) l.number (drop 16 l.bytes) l.fn.pages l.pages l.rest
+invariant-loop-bytes l = IsUpto l.settings (is_end_at l.end) (length l.bytes) l.number (drop 16 l.bytes) l.frames.items l.rest
 
 abbrev pub decreases-loop-bytes : goal.decreases-loop-bytes
 decreases-loop-bytes l = length l.rest

@@ -2,4 +2,4 @@
 use Rattle.climb_plan.proofs.climb.+climb_parents.Given as goal
 
 abbrev pub decreases-climb_parents : goal.decreases-climb_parents
-decreases-climb_parents l = l.depth
+decreases-climb_parents g l = l.depth

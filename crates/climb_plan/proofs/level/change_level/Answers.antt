@@ -12,7 +12,7 @@ draw_all-requires-clause-some g c =
     (some_piece c.args.settings.now g.D.Revised.of c.is_of_a_kind.ensures (omega (arith, c.requires.fan)) c.args.tree.now (map g.D.Revised.seen c.args.dones.now) l.0 l.1 l.2 l.3 l.4 l.5 _ _ _ cut)
 
 pub tell_parents-requires-clause-rising : goal.tell_parents-requires-clause-rising
-tell_parents-requires-clause-rising g c =
+tell_parents-requires-clause-rising g c κs within =
     let l = c.requires.level in
     let cut = c.in_ok-parents.ensures.cut l.0 l.1 l.2 l.3 l.4 l.5 l.6 in
     let drawn = level_drawn c.args.settings.now g.D.Revised.of c.is_of_a_kind.ensures (omega (arith, c.requires.fan)) c.args.tree.now c.draw_all.new.tree (map g.D.Revised.seen c.args.dones.now) l.0 l.1 l.2 l.3 l.4 l.5 _ _ _ _ _ c.draw_all.new.all _ _ _ cut
@@ -20,7 +20,7 @@ tell_parents-requires-clause-rising g c =
     drawn.rising
 
 pub tell_parents-requires-clause-names : goal.tell_parents-requires-clause-names
-tell_parents-requires-clause-names g c =
+tell_parents-requires-clause-names g c κs within =
     let l = c.requires.level in
     let cut = c.in_ok-parents.ensures.cut l.0 l.1 l.2 l.3 l.4 l.5 l.6 in
     let drawn = level_drawn c.args.settings.now g.D.Revised.of c.is_of_a_kind.ensures (omega (arith, c.requires.fan)) c.args.tree.now c.draw_all.new.tree (map g.D.Revised.seen c.args.dones.now) l.0 l.1 l.2 l.3 l.4 l.5 _ _ _ _ _ c.draw_all.new.all _ _ _ cut
@@ -28,7 +28,7 @@ tell_parents-requires-clause-names g c =
     drawn.names
 
 pub tell_parents-requires-clause-home : goal.tell_parents-requires-clause-home
-tell_parents-requires-clause-home g c =
+tell_parents-requires-clause-home g c κs within =
     let l = c.requires.level in
     let cut = c.in_ok-parents.ensures.cut l.0 l.1 l.2 l.3 l.4 l.5 l.6 in
     let drawn = level_drawn c.args.settings.now g.D.Revised.of c.is_of_a_kind.ensures (omega (arith, c.requires.fan)) c.args.tree.now c.draw_all.new.tree (map g.D.Revised.seen c.args.dones.now) l.0 l.1 l.2 l.3 l.4 l.5 _ _ _ _ _ c.draw_all.new.all _ _ _ cut

@@ -10,7 +10,7 @@ rewrites-requires g c =
     (_, l.1, l.2, level_in_sight g.D.Revised.of c.is_of_a_kind.ensures c.args.tree.now (map g.D.Revised.seen c.args.dones.now) (all_seen c.deref.result.now) c.args.depth same l.0 l.1 l.2 l.3 l.4 l.5 l.6)
 
 pub cut_all-requires-clause-joined : goal.cut_all-requires-clause-joined
-cut_all-requires-clause-joined g c =
+cut_all-requires-clause-joined g c κs within =
     let l = c.requires.level in
     let same = ap all_seen c.deref.ensures.value ∙ c.in_ok-seen.ensures in
     let groups = ap (λ gs. map (λ h. all_seen h.items) gs) c.deref-3.ensures.value in

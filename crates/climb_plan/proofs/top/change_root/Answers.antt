@@ -5,13 +5,13 @@ use Rattle.climb_plan.proofs.LeveledTop.{some_seen, pages_are_one, can_cut, some
 use Rattle.climb_plan.proofs.top.change_root.Goals as goal
 
 pub cut_root-requires-clause-one : goal.cut_root-requires-clause-one
-cut_root-requires-clause-one g c =
+cut_root-requires-clause-one g c κs within =
     let l = c.requires.level in
     let some = some_seen g.D.Revised.seen c.args.dones.now c.requires.some in
     pages_are_one c.args.settings.now g.D.Revised.of c.is_of_a_kind.ensures (omega (arith, c.requires.fan)) c.args.tree.now (map g.D.Revised.seen c.args.dones.now) l.0 l.1 l.2 l.3 some g.D.Revised.seen c.args.dones.now refl
 
 pub cut_root-requires-clause-joined : goal.cut_root-requires-clause-joined
-cut_root-requires-clause-joined g c =
+cut_root-requires-clause-joined g c κs within =
     let l = c.requires.level in
     let some = some_seen g.D.Revised.seen c.args.dones.now c.requires.some in
     can_cut c.args.settings.now g.D.Revised.of c.is_of_a_kind.ensures (omega (arith, c.requires.fan)) c.args.tree.now (map g.D.Revised.seen c.args.dones.now) l.0 l.1 l.2 l.3 some

@@ -5,19 +5,19 @@ use Rattle.flush_log.proofs.TextImages.{can_be_written, each_can_be_written, ima
 use Rattle.flush_log.proofs.text.images.Goals as goal
 
 pub due_jobs-requires-clause-writable : goal.due_jobs-requires-clause-writable
-due_jobs-requires-clause-writable c = λ pid. can_be_written (tree_of c.args.tree.now) pid c.requires.proper
+due_jobs-requires-clause-writable g c = λ pid. can_be_written (tree_of c.args.tree.now) pid c.requires.proper
 
-pub work_all-requires-after_bounds : goal.work_all-requires-after_bounds
-work_all-requires-after_bounds c κs within = each_can_be_written c.in_ok-jobs.jobs.items c.in_ok-jobs.ensures.due
+pub run_round-requires-after_bounds : goal.run_round-requires-after_bounds
+run_round-requires-after_bounds g c κs within = each_can_be_written c.in_ok-jobs.jobs.items c.in_ok-jobs.ensures.due
 
 pub returns-in-Ok-clause-text : goal.returns-in-Ok-clause-text
-returns-in-Ok-clause-text c =
+returns-in-Ok-clause-text g c =
     images-text (λ v. v.items) c.images_of.result c.in-Ok.dones.items (map job_held c.in_ok-jobs.jobs.items) (tree_of c.args.tree.now) c.in-Ok.ensures.origin c.images_of.ensures.images c.in_ok-jobs.ensures.text
 
 pub returns-in-Ok-clause-some : goal.returns-in-Ok-clause-some
-returns-in-Ok-clause-some c =
+returns-in-Ok-clause-some g c =
     images-are_some (λ v. v.items) c.images_of.result c.in-Ok.dones.items (map job_held c.in_ok-jobs.jobs.items) (tree_of c.args.tree.now) c.in-Ok.ensures.origin c.images_of.ensures.images c.in_ok-jobs.ensures.due
 
 pub returns-in-Ok-clause-frames : goal.returns-in-Ok-clause-frames
-returns-in-Ok-clause-frames c =
+returns-in-Ok-clause-frames g c =
     images-frames c.images_of.result c.in-Ok.dones.items (map job_held c.in_ok-jobs.jobs.items) (tree_of c.args.tree.now) c.in-Ok.ensures.origin c.in_ok-jobs.ensures.text c.images_of.ensures.words

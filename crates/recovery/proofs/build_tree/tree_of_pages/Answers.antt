@@ -9,16 +9,16 @@ use Rattle.recovery.proofs.BuildLaws.{said-of, found_of_same, found_leaves, slot
 use Rattle.recovery.proofs.build_tree.tree_of_pages.Goals as goal
 
 pub table_of-requires : goal.table_of-requires
-table_of-requires c = subst (λ (hs : List HeldLog). AreRisingPids (log_pids hs)) (sym c.in-Ok.ensures.origin) c.in_ok-logs.ensures.rising
+table_of-requires g c = subst (λ (hs : List HeldLog). AreRisingPids (log_pids hs)) (sym c.in-Ok.ensures.origin) c.in_ok-logs.ensures.rising
 
 pub returns-in_err-table-clause-err : goal.returns-in_err-table-clause-err
-returns-in_err-table-clause-err c fs h =
+returns-in_err-table-clause-err g c fs h =
     let said = said-of fs c.in-Ok.made.items _ c.in-Ok.ensures.origin c.in-Ok.ensures.made (c.in_ok-logs.ensures.ok fs h) in
     let fault = c.in_err-table.field-0.0 in
     found_leaves c.from_residual-in_err-table.result (broken_in fs) fault c.from_residual-in_err-table.ensures.1 (found_of_same _ (broken_in fs) fault said.broken c.in_err-table.ensures.err)
 
 pub returns-clause-ok : goal.returns-clause-ok
-returns-clause-ok c fs h =
+returns-clause-ok g c fs h =
     let said = said-of fs c.in-Ok.made.items _ c.in-Ok.ensures.origin c.in-Ok.ensures.made (c.in_ok-logs.ensures.ok fs h) in
     let filled = c.in_ok-table.ensures.ok in (
       sym said.broken ∙ filled.0,
@@ -26,4 +26,4 @@ returns-clause-ok c fs h =
     )
 
 pub returns-clause-home : goal.returns-clause-home
-returns-clause-home c = home-table c.new.result c.in_ok-table.table _ (ap (λ (u : TreeInMemory). u.table) c.new.ensures) c.in_ok-table.ensures.ok.1
+returns-clause-home g c = home-table c.new.result c.in_ok-table.table _ (ap (λ (u : TreeInMemory). u.table) c.new.ensures) c.in_ok-table.ensures.ok.1

@@ -1,10 +1,17 @@
-use Rattle.std.proofs.Common.{refl, sym, ⊎_elim, ◌∙◌}
+use Rattle.std.proofs.Common.{inl, refl, sym, ⊎_elim, ◌∙◌}
 use Rattle.engine.specs.State.{store_in}
 use Rattle.engine.proofs.CleanDone.{slot-in, cleaned-now, cleaned-sound, refused-sound}
+use Rattle.engine.proofs.ReadLaws.{leaves_itself}
 use Rattle.engine.proofs.store.Store.clean.Goals as goal
 
 pub clean-requires-clause-slot : goal.clean-requires-clause-slot
-clean-requires-clause-slot g c = rw (c.root.ensures, c.height.ensures) c.self.invariant.sound.is.slot
+clean-requires-clause-slot g c = λ κs within. rw (c.root.ensures, c.height.ensures) c.self.invariant.sound.is.slot
+
+-- ---- refused for its crew
+
+pub returns-in_err-admit_crew-clause-crash : goal.returns-in_err-admit_crew-clause-crash
+returns-in_err-admit_crew-clause-crash g c fine settled =
+    leaves_itself (g.D.Disk.view c.args.self.now.disk) _ (g.met.D.Disk.lawful c.args.self.now.disk settled.honest) settled (inl refl)
 
 -- ---- done
 
@@ -25,7 +32,7 @@ invariant_of-self g c =
     }
 
 pub returns-in-Ok-clause-read : goal.returns-in-Ok-clause-read
-returns-in-Ok-clause-read g c = rw (← c.self.view_is) (λ fine.
+returns-in-Ok-clause-read g c = rw (← c.self.view_is) (λ fine able.
     let tree = c.self.inside.tree in
     let log = c.self.inside.log in
     let (file, read, told) = c.in-Ok.ensures.read in
@@ -61,7 +68,7 @@ invariant_of-self-in-Err g c =
     }
 
 pub returns-in-Err-clause-read : goal.returns-in-Err-clause-read
-returns-in-Err-clause-read g c = rw (← c.self.view_is) (λ fine.
+returns-in-Err-clause-read g c = rw (← c.self.view_is) (λ fine able.
     let tree = c.self.inside.tree in
     let log = c.self.inside.log in
     let (file, read, told) = c.in-Err.ensures.read in

@@ -10,6 +10,10 @@ use Rattle.engine.proofs.FlushDone.{on-bytes, nothing-flushed, flushed-now, neve
 use Rattle.engine.proofs.ReadLaws.{leaves_itself}
 use Rattle.engine.proofs.store.Store.flush.Goals as goal
 
+pub returns-in_err-admit_crew-clause-crash : goal.returns-in_err-admit_crew-clause-crash
+returns-in_err-admit_crew-clause-crash g c fine settled =
+    leaves_itself (g.D.Disk.view c.args.self.now.disk) _ (g.met.D.Disk.lawful c.args.self.now.disk settled.honest) settled (inl refl)
+
 pub returns-then-is_all_written-clause-store : goal.returns-then-is_all_written-clause-store
 returns-then-is_all_written-clause-store g c = rw (← c.self.view_is) (
     let s = c.self.inside.settings in
@@ -25,7 +29,7 @@ returns-then-is_all_written-clause-crash g c fine settled =
 pub returns-in_err-plan-clause-device : goal.returns-in_err-plan-clause-device
 returns-in_err-plan-clause-device g c =
     let st = store_in c.self.inside.tree c.self.inside.log in
-    let p = err_from_is_err_and c.from_residual.result c.from_residual.ensures.1 in
+    let p = err_from_is_err_and c.from_residual-in_err-plan.result c.from_residual-in_err-plan.ensures.1 in
     rw (p.1, p.2) (λ device. absurd (never-device c.self.inside.settings st _ c.in_err-plan.ensures.err device))
 
 pub returns-in_err-plan-clause-crash : goal.returns-in_err-plan-clause-crash
@@ -33,7 +37,7 @@ returns-in_err-plan-clause-crash g c fine settled =
     leaves_itself (g.D.Disk.view c.args.self.now.disk) _ (g.met.D.Disk.lawful c.args.self.now.disk settled.honest) settled (inl refl)
 
 pub returns-in-Err-clause-refused : goal.returns-in-Err-clause-refused
-returns-in-Err-clause-refused g c = rw (← c.self.view_is) (λ fine.
+returns-in-Err-clause-refused g c = rw (← c.self.view_is) (λ fine able.
     let s = c.self.inside.settings in
     let st = store_in c.self.inside.tree c.self.inside.log in
     let view = g.D.Disk.view in

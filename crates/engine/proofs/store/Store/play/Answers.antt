@@ -3,10 +3,11 @@ use Rattle.std.proofs.lemmas.List.{take_all}
 use Rattle.flush_log.specs.Disk.{LeavesOnly}
 use Rattle.recovery.specs.StoreOfDisk.{store_of_disk}
 use Rattle.engine.specs.Plays.{IsPlayed, IsPlayedOn, IsPlayFault, step_of}
+use Rattle.engine.specs.Refusal.{is_crew}
 use Rattle.engine.specs.State.{IsSound}
 use Rattle.engine.specs.Steps.{Step, StandsAfterSome, HaveWords, batching, plays}
-use Rattle.engine.proofs.PlayTurn.{no_turn, turn_as, stays, still_said, still_exact, goes_on, crash_on, left_behind_it, refused_behind, one_taken, one_behind, none_taken, device_or_not, reached_device, reached_other}
-use Rattle.engine.proofs.StepDone.{fine_where}
+use Rattle.engine.proofs.PlayTurn.{no_turn, turn_as, stays, still_said, still_exact, goes_on, crash_on, left_behind_it, refused_behind, one_taken, one_behind, none_taken, none_left, device_or_not, reached_device, reached_other}
+use Rattle.engine.proofs.StepDone.{fine_where, able_where}
 use Rattle.engine.proofs.store.Store.play.Goals as goal
 
 pub returns-in-Err-clause-headline : goal.returns-in-Err-clause-headline
@@ -16,7 +17,7 @@ returns-in-Err-clause-headline g c fine honest on_disk stands =
     c.steps_answer_as_a_map_and_are_read_back.ensures old.settings old.store on_disk (g.D.Disk.view old.disk).seen [] (record { is = sound.is; step = sound.step fine honest }) stands tt
 
 pub returns-in-Err-clause-refused : goal.returns-in-Err-clause-refused
-returns-in-Err-clause-refused g c fine = ((g.D.Disk.view c.args.self.now.disk).seen, λ _. refl, inl (refl, refl))
+returns-in-Err-clause-refused g c fine able = ((g.D.Disk.view c.args.self.now.disk).seen, λ _. refl, inl (refl, refl))
 
 pub returns-in-Err-clause-crash : goal.returns-in-Err-clause-crash
 returns-in-Err-clause-crash g c =
@@ -31,6 +32,7 @@ loop-step-init g c =
     record {
       len = c.in-Ok.ensures.len;
       room = c.in-Ok.ensures.exact;
+      able = λ _ _. refl;
       turn = turn_as g.D.Disk.view g.D.Disk.failed old old _ _ _ _ refl c.in-Ok.ensures.items (no_turn g.D.Disk.view g.D.Disk.failed g.met.D.Disk.lawful old sound);
     }
 
@@ -104,8 +106,14 @@ returns-in-Err-step-clause-still_failed g c bad =
     let failed = c.step.ensures.failed (at.invariant.turn.has_failed ∙ bad) in
     (c.len.ensures ∙ at.invariant.len ∙ first, inl (cc))
 
+pub returns-in-Err-step-clause-bad_crew : goal.returns-in-Err-step-clause-bad_crew
+returns-in-Err-step-clause-bad_crew g c fine bad =
+    let at = c.loop-step in
+    let refused = c.step.ensures.bad_crew (at.invariant.turn.has_failed ∙ fine) bad in
+    (tt, (c.len.ensures ∙ at.invariant.len ∙ at.invariant.able fine bad, inl (cc)))
+
 pub returns-in-Err-step-clause-refused : goal.returns-in-Err-step-clause-refused
-returns-in-Err-step-clause-refused g c fine =
+returns-in-Err-step-clause-refused g c fine able =
     let old = c.args.self.now in
     let view = g.D.Disk.view in
     let s = old.settings in
@@ -114,7 +122,7 @@ returns-in-Err-step-clause-refused g c fine =
     let at = c.loop-step in
     let n_is = c.len.ensures ∙ at.invariant.len in
     let (file, shown, why) = refused_behind view g.D.Disk.failed g.met.D.Disk.lawful old _ _ at.self at.invariant.turn now c.step-item.result _ _ c.in-Err-step.ensures.unchanged
-    (c.in-Err-step.ensures.refused (at.invariant.turn.has_failed ∙ fine)) in (
+    (c.in-Err-step.ensures.refused (at.invariant.turn.has_failed ∙ fine) able) in (
       file,
       λ honest. shown honest ∙ ap (λ n. (plays (batching s) s old.store (view old.disk).seen (map step_of (take n steps))).bytes) (sym n_is),
       subst (λ n. IsPlayFault s now.store file (g.D.Disk.failed old.disk) (g.D.Disk.failed now.disk) steps n c.in-Err-step.fault) (sym n_is)
@@ -165,6 +173,7 @@ loop-step-preserved g c =
     record {
       len = c.push_reserved.ensures.len ∙ ap (λ n. n + 1) at.invariant.len;
       room = c.push_reserved.ensures.capacity ∙ at.invariant.room;
+      able = λ _ bad. (let able = able_where (is_crew c.args.crew) c.step.result c.in-Ok-step.answer c.in-Ok-step.is (c.step.ensures.bad_crew fine) in absurd (cc));
       turn = turn_as view g.D.Disk.failed old c.step.new.self _ _ _ _ (one_taken steps at.step-index c.step-item.result c.loop-step-test.true c.step-item.is) c.push_reserved.ensures.items next;
     }
 
@@ -207,6 +216,11 @@ returns-clause-words g c honest =
     let at = c.loop-step in
     let all = take_all at.step-index c.args.steps.now (omega (arith, c.loop-step-test.false)) in
     subst (λ xs. HaveWords (batching old.settings) old.settings old.store (g.D.Disk.view old.disk).seen (map step_of xs)) all (at.invariant.turn.words honest)
+
+pub returns-clause-bad_crew : goal.returns-clause-bad_crew
+returns-clause-bad_crew g c fine bad =
+    let at = c.loop-step in
+    (none_left c.args.steps.now at.step-index (at.invariant.able fine bad) (omega (arith, c.loop-step-test.false)), tt)
 
 pub returns-clause-headline : goal.returns-clause-headline
 returns-clause-headline g c fine honest on_disk stands =

@@ -12,13 +12,13 @@ pub returns-in-Ok-clause-sound : goal.returns-in-Ok-clause-sound
 returns-in-Ok-clause-sound g c = (invariant_of-result g c).sound
 
 pub returns-in-Ok-clause-honest : goal.returns-in-Ok-clause-honest
-returns-in-Ok-clause-honest g c =
+returns-in-Ok-clause-honest g c able =
     let (file, read, told) = c.in-Ok.ensures.read in
     let r = c.in-Ok.found in
     opened-seen g.D.Disk.view r.settings r.tree r.slot c.log_of-log.result c.args.disk c.recover.new.disk file read told.0 c.in-Ok.ensures.kept c.in-Ok.ensures.same
     c.what_is_read_is_a_store.ensures c.log_of-log.ensures
 
-pub returns-in-Err-clause-honest : goal.returns-in-Err-clause-honest
-returns-in-Err-clause-honest g c =
-    let (file, read, told) = c.in-Err.ensures.read in
-    refused-seen (g.D.Disk.view c.args.disk) file c.in-Err.fault _ read told
+pub returns-in-Err-recover-clause-honest : goal.returns-in-Err-recover-clause-honest
+returns-in-Err-recover-clause-honest g c able =
+    let (file, read, told) = c.in-Err-recover.ensures.read in
+    refused-seen (g.D.Disk.view c.args.disk) file c.in-Err-recover.fault _ read told

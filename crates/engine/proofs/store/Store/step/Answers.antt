@@ -5,20 +5,21 @@ use Rattle.flush_log.specs.FlushText.{flush_text}
 use Rattle.flush_log.proofs.ViewLaws.{weaker}
 use Rattle.recovery.proofs.ReadBytes.{same_self}
 use Rattle.engine.specs.Plays.{IsLeftInStep, step_of}
+use Rattle.engine.specs.Refusal.{is_crew}
 use Rattle.engine.specs.Steps.Step.{Batch, Flush, Clean}
 use Rattle.engine.proofs.PlayTurn.{device_or_not}
 use Rattle.engine.proofs.ReadLaws.{leaves_itself}
-use Rattle.engine.proofs.StepDone.{fine_where, empty_or_not, words_of, batch_never, batch_refused, batch_done, flush_done, flush_refused, flush_left, clean_done, clean_refused, clean_left, clean_same}
+use Rattle.engine.proofs.StepDone.{fine_where, able_where, empty_or_not, words_of, batch_never, batch_refused, batch_done, flush_done, flush_refused, flush_left, clean_done, clean_refused, clean_left, clean_same}
 use Rattle.engine.proofs.store.Store.step.Goals as goal
 
 -- ---- a batch
 
 pub returns-in_err-batch-in-Batch-clause-refused : goal.returns-in_err-batch-in-Batch-clause-refused
-returns-in_err-batch-in-Batch-clause-refused g c fine =
+returns-in_err-batch-in-Batch-clause-refused g c fine able =
     let old = c.args.self.now in
     let file = (g.D.Disk.view old.disk).seen in
     let p = err_from_is_err_and c.from_residual.result c.from_residual.ensures.1 in
-    rw (p.1, p.2) (file, λ _. refl, batch_refused old.settings old.store c.in-Batch.commands.now c.batch.result _ c.in_err-batch-in-Batch.was file _ _ (step_of c.args.step) (ap step_of c.in-Batch.is) (c.batch.ensures.refused fine))
+    rw (p.1, p.2) (file, λ _. refl, batch_refused old.settings old.store c.in-Batch.commands.now c.batch.result _ c.in_err-batch-in-Batch.was file _ _ (step_of c.args.step) (ap step_of c.in-Batch.is) (c.batch.ensures.refused fine able))
 
 pub returns-in_err-batch-in-Batch-clause-same : goal.returns-in_err-batch-in-Batch-clause-same
 returns-in_err-batch-in-Batch-clause-same g c honest =
@@ -31,7 +32,7 @@ pub returns-in_err-batch-in-Batch-clause-device : goal.returns-in_err-batch-in-B
 returns-in_err-batch-in-Batch-clause-device g c =
     let old = c.args.self.now in
     let p = err_from_is_err_and c.from_residual.result c.from_residual.ensures.1 in
-    rw (p.1, p.2) (λ device. absurd (batch_never old.settings old.store c.in-Batch.commands.now c.batch.result _ c.in_err-batch-in-Batch.was old.has_failed c.batch.ensures.failed c.batch.ensures.refused device))
+    rw (p.1, p.2) (λ device. absurd (batch_never old.settings old.store c.in-Batch.commands.now c.batch.result _ c.in_err-batch-in-Batch.was old.has_failed (is_crew c.args.crew) c.batch.ensures.failed c.batch.ensures.bad_crew c.batch.ensures.refused device))
 
 pub returns-in_err-batch-in-Batch-clause-crash : goal.returns-in_err-batch-in-Batch-clause-crash
 returns-in_err-batch-in-Batch-clause-crash g c fine settled =
@@ -65,11 +66,11 @@ returns-in_ok-batch-in-Batch-clause-crash g c fine settled =
 -- ---- a flush
 
 pub returns-in_err-flush-in-Flush-clause-refused : goal.returns-in_err-flush-in-Flush-clause-refused
-returns-in_err-flush-in-Flush-clause-refused g c fine =
+returns-in_err-flush-in-Flush-clause-refused g c fine able =
     let old = c.args.self.now in
     let file = (g.D.Disk.view old.disk).seen in
     let p = err_from_is_err_and c.from_residual-in_err-flush-in-Flush.result c.from_residual-in_err-flush-in-Flush.ensures.1 in
-    rw (p.1, p.2) (file, λ _. refl, flush_refused old.settings old.store file (step_of c.args.step) (ap step_of c.in-Flush.is) _ _ _ (c.in_err-flush-in-Flush.ensures.refused fine))
+    rw (p.1, p.2) (file, λ _. refl, flush_refused old.settings old.store file (step_of c.args.step) (ap step_of c.in-Flush.is) _ _ _ (c.in_err-flush-in-Flush.ensures.refused fine able))
 
 pub returns-in_err-flush-in-Flush-clause-unchanged : goal.returns-in_err-flush-in-Flush-clause-unchanged
 returns-in_err-flush-in-Flush-clause-unchanged g c =
@@ -111,8 +112,9 @@ returns-in_ok-flush-in-Flush-clause-settled g c settled =
     let old = c.args.self.now in
     let view = g.D.Disk.view in
     let fine = fine_where old.has_failed c.flush.result _ c.in_ok-flush-in-Flush.was c.flush.ensures.failed in
+    let able = able_where (is_crew c.args.crew) c.flush.result _ c.in_ok-flush-in-Flush.was (c.flush.ensures.bad_crew fine) in
     ⊎_elim
-    (λ none. subst (λ d. IsSettled (view d)) (sym (ap (λ x. x.disk) (c.flush.ensures.nothing fine none).1)) settled)
+    (λ none. subst (λ d. IsSettled (view d)) (sym (ap (λ x. x.disk) (c.flush.ensures.nothing fine able none).1)) settled)
     (λ some. c.in_ok-flush-in-Flush.ensures.settled settled.honest some)
     (empty_or_not (flush_text old.store.tree))
 
@@ -125,10 +127,10 @@ returns-in_ok-flush-in-Flush-clause-crash g c fine settled =
 -- ---- a clean
 
 pub returns-in_err-clean-in-Clean-clause-refused : goal.returns-in_err-clean-in-Clean-clause-refused
-returns-in_err-clean-in-Clean-clause-refused g c fine =
+returns-in_err-clean-in-Clean-clause-refused g c fine able =
     let old = c.args.self.now in
     let p = err_from_is_err_and c.from_residual-in_err-clean-in-Clean.result c.from_residual-in_err-clean-in-Clean.ensures.1 in
-    let (file, read, why) = c.in_err-clean-in-Clean.ensures.read fine in
+    let (file, read, why) = c.in_err-clean-in-Clean.ensures.read fine able in
     rw (p.1, p.2) (file, read.honest, clean_refused old.settings old.store file (step_of c.args.step) (ap step_of c.in-Clean.is) _ _ _ why)
 
 pub returns-in_err-clean-in-Clean-clause-same : goal.returns-in_err-clean-in-Clean-clause-same
@@ -151,7 +153,8 @@ returns-in_ok-clean-in-Clean-clause-ok g c =
     let old = c.args.self.now in
     let same = ap step_of c.in-Clean.is in
     let fine = fine_where old.has_failed c.clean.result _ c.in_ok-clean-in-Clean.was (λ bad. (c.clean.ensures.failed bad).0) in
-    let (file, read, (bytes, done, head)) = c.in_ok-clean-in-Clean.ensures.read fine in (
+    let able = able_where (is_crew c.args.crew) c.clean.result _ c.in_ok-clean-in-Clean.was (λ bad. (c.clean.ensures.bad_crew fine bad).0) in
+    let (file, read, (bytes, done, head)) = c.in_ok-clean-in-Clean.ensures.read fine able in (
       bytes,
       record {
         file = file;
@@ -165,7 +168,8 @@ pub returns-in_ok-clean-in-Clean-clause-bytes : goal.returns-in_ok-clean-in-Clea
 returns-in_ok-clean-in-Clean-clause-bytes g c honest =
     let old = c.args.self.now in
     let fine = fine_where old.has_failed c.clean.result _ c.in_ok-clean-in-Clean.was (λ bad. (c.clean.ensures.failed bad).0) in
-    let (file, read, (bytes, done, head)) = c.in_ok-clean-in-Clean.ensures.read fine in
+    let able = able_where (is_crew c.args.crew) c.clean.result _ c.in_ok-clean-in-Clean.was (λ bad. (c.clean.ensures.bad_crew fine bad).0) in
+    let (file, read, (bytes, done, head)) = c.in_ok-clean-in-Clean.ensures.read fine able in
     clean_done old.settings old.store c.clean.new.self.store (g.D.Disk.view old.disk).seen (step_of c.args.step) _ _ (ap step_of c.in-Clean.is) head (c.in_ok-clean-in-Clean.ensures.bytes honest)
 
 pub returns-in_ok-clean-in-Clean-clause-settled : goal.returns-in_ok-clean-in-Clean-clause-settled

@@ -11,14 +11,14 @@ use Rattle.engine.proofs.FlushPlan.{planned_by, flush-refused}
 use Rattle.engine.proofs.store.flush.plan.Goals as goal
 
 pub tail_of_flush-requires-clause-fits : goal.tail_of_flush-requires-clause-fits
-tail_of_flush-requires-clause-fits c =
+tail_of_flush-requires-clause-fits g c =
     let s = c.args.settings.now in
     let st = store_in c.args.tree.now c.args.log in
     subst (λ (images : List (List (List ℕ))). FitSegments s (frames_in images)) (sym c.deref.ensures.value)
     (text-fits s c.requires.store.good c.in_ok-images.images.items (flush_text st.tree) c.in_ok-images.ensures.text (c.in_ok-images.ensures.frames s c.requires.store.proper))
 
 pub tail_of_flush-requires-clause-head : goal.tail_of_flush-requires-clause-head
-tail_of_flush-requires-clause-head c =
+tail_of_flush-requires-clause-head g c =
     let s = c.args.settings.now in
     let st = store_in c.args.tree.now c.args.log in
     let is = slot-is s st.sequence (slot_of st) c.requires.store.slot in
@@ -29,7 +29,7 @@ tail_of_flush-requires-clause-head c =
     Prim.omega (arith, head, tail)
 
 pub returns-in_err-tail-clause-err : goal.returns-in_err-tail-clause-err
-returns-in_err-tail-clause-err c =
+returns-in_err-tail-clause-err g c =
     let s = c.args.settings.now in
     let st = store_in c.args.tree.now c.args.log in
     let text = flush_text st.tree in
@@ -38,7 +38,7 @@ returns-in_err-tail-clause-err c =
     rw (p.1, p.2) (inr (flush-refused s st c.requires.some _ (sym c.in_err-tail.was ∙ c.tail_of_flush.ensures (flush_slot s st text) text of (Prim.omega arith) refl refl)))
 
 pub returns-clause-plan : goal.returns-clause-plan
-returns-clause-plan c =
+returns-clause-plan g c =
     let s = c.args.settings.now in
     let st = store_in c.args.tree.now c.args.log in
     let text = flush_text st.tree in

@@ -1,5 +1,5 @@
 use Rattle.cleaner.proofs.SkimLaws.{found-none, fault-some}
-use Rattle.cleaner.proofs.skim_segment.LogSoFar.into_pages.Goals as goal
+use Rattle.cleaner.proofs.log_so_far.LogSoFar.into_pages.Goals as goal
 
 pub returns-in-Some : goal.returns-in-Some
 returns-in-Some c told h = fault-some c.args.self.pages c.args.self.fault told c.in-Some.fault c.in-Some.is h
