@@ -1,4 +1,4 @@
-"""Draws what was measured as a page of SVG: speeds as bars, and the load batch by batch as lines."""
+"""Draws what was measured as a page of SVG: speeds as bars, the load batch by batch as lines, and speeds by workers."""
 
 from html import escape
 
@@ -73,4 +73,37 @@ def page(speeds, curves):
         parts += bars(speeds, 60, 300)
     parts += lines(curves, 430, 180)
     head = f'<svg xmlns="http://www.w3.org/2000/svg" width="{WIDTH}" height="{HEIGHT}" font-family="sans-serif">'
+    return "\n".join([head, '<rect width="100%" height="100%" fill="white"/>', *parts, "</svg>"]) + "\n"
+
+
+PHASES = ["#1b6ca8", "#d1712a", "#3a8f4d", "#8a4fa8", "#444444"]
+
+
+def panel(name, curves, left, width, top, height):
+    """How many times as fast as one worker each phase is, by workers. A worker more is at best a whole more, which is the grey line."""
+    most = max(x for curve in curves.values() for x, _ in curve)
+
+    def at(x, y):
+        return left + (x - 1) / (most - 1) * width, top + height - (y - 1) / (most - 1) * height
+
+    parts = [text(left, top - 12, name), line(*at(1, 1), *at(most, most))]
+    for mark in range(1, most + 1):
+        parts += [line(*at(1, mark), *at(most, mark), "#eeeeee"), text(left - 8, at(1, mark)[1] + 4, str(mark), "end", 11)]
+        parts.append(text(at(mark, 1)[0], top + height + 16, str(mark), "middle", 11))
+    for (phase, curve), colour in zip(curves.items(), PHASES):
+        places = " ".join("{:.1f},{:.1f}".format(*at(x, y)) for x, y in curve)
+        parts.append(f'<polyline fill="none" stroke="{colour}" stroke-width="2" points="{places}"/>')
+    return parts
+
+
+def panels(by_kind):
+    """A page with a panel for each kind side by side: how many times as fast as one worker, by workers."""
+    parts, width = [], 330
+    for at, (name, curves) in enumerate(by_kind.items()):
+        parts += panel(name, curves, 60 + at * (width + 90), width, 50, 300)
+    for at, (phase, colour) in enumerate(zip(next(iter(by_kind.values())), PHASES)):
+        y = 400 + at // 3 * 22
+        parts.append(f'<rect x="{60 + at % 3 * 250}" y="{y - 10}" width="12" height="12" fill="{colour}"/>')
+        parts.append(text(78 + at % 3 * 250, y, phase))
+    head = f'<svg xmlns="http://www.w3.org/2000/svg" width="{WIDTH}" height="440" font-family="sans-serif">'
     return "\n".join([head, '<rect width="100%" height="100%" fill="white"/>', *parts, "</svg>"]) + "\n"
