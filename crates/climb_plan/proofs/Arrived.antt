@@ -38,6 +38,7 @@ use Rattle.climb_plan.proofs.Kept.{all-kept, left, kept_and_left}
 use Rattle.climb_plan.proofs.Pids.{renewed-climb}
 use Rattle.climb_plan.proofs.Planned.{never_unused, planned_are_levels}
 use Rattle.climb_plan.proofs.Untouched.{levels_above, height_by, same_tree}
+use Rattle.climb_plan.proofs.LevelParts.{level_of}
 
 -- numbers among joined lists are among them the other way round, too
 among_turned : (n : ℕ) (ms ns : List ℕ) → is_among n (ms ++ ns) ≡ is_among n (ns ++ ms)
@@ -117,7 +118,7 @@ module _ {A : Type 0} (s : Settings) (t : Tree) (cs : List (Command A)) (fan : 1
       let none : is_among n (all_pids l.level l.above) ≡ false = ap (λ (ns : List ℕ). is_among n ns) (sym same_after) ∙ h in
       false_from_ne_true (is_among n (keys_of t.pages)) (λ e. let a : is_among n (all_pids l.level l.above) ≡ true = holds_among (λ m. is_among m (all_pids l.level l.above) ≡ true) n (keys_of t.pages) proper.held.no_other e in absurd (cc))
 
-  module _ (start after : TreeInMemory) (in_use : pids_in_use start.table ≡ keys_of t.pages) (climbing : HasClimbed Leaf start after leaves_after (levels_of t).above (climbed s t cs)) where
+  module _ (start after : TreeInMemory) (in_use : pids_in_use start.table ≡ keys_of t.pages) (climbing : HasClimbed Leaf start after (level_of leaves_after (levels_of t).above (keys_of t.pages) 0) (climbed s t cs)) where
     none_by : (b : Bool) (n : ℕ) → is_among n (all_pids (placed_of leaves_after) (levels_of t).above) ≡ b → is_among n whole_pids ≡ false → place_of after.table n ≡ None
     none_by true n e h = climbing.gone n e h
     none_by false n e h =

@@ -34,6 +34,7 @@ use Rattle.climb_plan.proofs.ChangingGroups.{alike_level, fresh-changing_changes
 use Rattle.climb_plan.proofs.Families.{parents_told}
 use Rattle.climb_plan.proofs.ToldRuns.{terms_told, length-runs, all_told, AreHomeBut, seen_after_runs}
 use Rattle.climb_plan.proofs.Told.{each_told}
+use Rattle.climb_plan.proofs.LevelParts.{level_of}
 
 -- ---- numbers that are distinct
 
@@ -119,7 +120,7 @@ module _ {V : Type 0} (s : Settings) (of : Page V → PageOfKind) (t : TreeInMem
   abbrev pub seen_here : List SeenPage
   seen_here = map (shown Index) (worked_parents s (parents_of changing_here) (map terms (changing_changes s used i changing_here)))
 
-  module _ (z : 0 < s.fan) (h : IsLevel of t xs ws (ps ∷ ups) used i) where
+  module _ (z : 0 < s.fan) (h : IsLevel of t xs (level_of ws (ps ∷ ups) used i)) where
     abbrev rooms : Mapping PageOfKind
     rooms = with_rooms t.table (fresh_pids (pids_in_use t.table) new_here)
 
@@ -243,7 +244,7 @@ module _ {V : Type 0} (s : Settings) (of : Page V → PageOfKind) (t : TreeInMem
     -- ---- the next level
 
     -- the parents after their runs are the next level
-    pub next_level : IsLevel Index tree_here seen_here parents_here ups used (i + length (all_fresh (family_changes s used i (families ps ws))))
+    pub next_level : IsLevel Index tree_here seen_here (level_of parents_here ups used (i + length (all_fresh (family_changes s used i (families ps ws)))))
     next_level =
         let up : IsParentOf (placed_of ws) ps = h.stacked.0 in
         let named : names (placed_of parents_here) ≡ names ps = names-worked_parents s ps runs_here in

@@ -16,6 +16,7 @@ use Rattle.split_plan.specs.WorkedLevel.{placed_of}
 use Rattle.climb_plan.specs.Changing.{SeenPage, shown, same, AreSeen, AreHome, Changing, rewritten, with_changing, changing, changing_groups}
 use Rattle.climb_plan.specs.Level.{group_counts, IsKind, IsLevel}
 use Rattle.climb_plan.specs.Rewriting.{seen_name, is_thin_seen, is_rewritten_seen, AreSeenIn, rewritten_groups, Rewriting, with_rewriting, rewriting, rewriting_counts, groups_of, IsLevelSeen}
+use Rattle.climb_plan.proofs.LevelParts.{level_of}
 
 -- ---- groups of what is made of elements are made of their groups
 
@@ -143,7 +144,7 @@ module _ {V : Type 0} (of : Page V → PageOfKind) where
         ap (λ (n : List ℕ × ℕ). n ∷ map seen_name (map (shown of) ws)) (seen_name-shown w) ∙ ap (λ (ns : Names). name w.placed ∷ ns) (names-shown ws)
 
     -- a level in the course of a climb is one as code sees it
-    pub level_seen : (t : TreeInMemory) (xs : List SeenPage) (ws : List (Worked V)) (ps : List (Placed ℕ)) (ups : List (List (Placed ℕ))) (used : List ℕ) (i : ℕ) → IsLevel of t xs ws (ps ∷ ups) used i → IsLevelSeen t (length ups) xs (map (shown of) ws) ps ups
+    pub level_seen : (t : TreeInMemory) (xs : List SeenPage) (ws : List (Worked V)) (ps : List (Placed ℕ)) (ups : List (List (Placed ℕ))) (used : List ℕ) (i : ℕ) → IsLevel of t xs (level_of ws (ps ∷ ups) used i) → IsLevelSeen t (length ups) xs (map (shown of) ws) ps ups
     level_seen t xs ws ps ups used i h = record {
       seen = seen_in t.table h.seen;
       linked = h.stacked.0.linked ∙ sym (names-shown ws);

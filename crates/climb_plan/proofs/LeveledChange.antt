@@ -14,6 +14,7 @@ use Rattle.split_plan.specs.Change.{changes}
 use Rattle.split_plan.specs.Terms.{terms}
 use Rattle.split_plan.specs.WorkedLevel.{worked_parents}
 use Rattle.climb_plan.specs.Changing.{SeenPage, shown, changing, parents_of, changing_groups, changing_changes}
+use Rattle.climb_plan.specs.Climb.{LevelPlan}
 use Rattle.climb_plan.specs.Installing.{all_taken, parent_held, AreAway, AreParentsHome}
 use Rattle.climb_plan.specs.Level.{IsKind, parent_pids, group_counts, IsLevel, IsCut, IsChanged}
 use Rattle.climb_plan.specs.Rewriting.{Remade, HaveSome, numbered, numbers, terms_by_parent, CanBeTold}
@@ -23,6 +24,7 @@ use Rattle.climb_plan.proofs.BridgeNext.{new_here, can_be_taken, told_here, take
 use Rattle.climb_plan.proofs.BridgePieces.{numbered-shown, numbers-shown, some-shown}
 use Rattle.climb_plan.proofs.BridgeTold.{freed_in, made_in, told-shown, can_be_told}
 use Rattle.climb_plan.proofs.LeveledDrawn.{drawn_away, drawn_back, AreGiven, numbers_given, all_given}
+use Rattle.climb_plan.proofs.LevelParts.{level_of}
 
 -- what is made of what something holds
 through : {A B C : Type 0} (f : B → C) (g : A → B) (xs : List A) (ys : List B) → map g xs ≡ ys → map (λ x. f (g x)) xs ≡ map f ys
@@ -41,7 +43,7 @@ abbrev pub numbers_drawn : TreeInMemory → List Remade → TreeInMemory
 numbers_drawn t rs = with_table t (with_rooms t.table (fresh_pids (pids_in_use t.table) (numbers rs)))
 
 module _ {V : Type 0} (s : Settings) (of : Page V → PageOfKind) (kind : IsKind of) (z : 0 < s.fan) (t : TreeInMemory) (xs : List SeenPage) (ws : List (Worked V)) (ps : List (Placed ℕ)) (ups : List (List (Placed ℕ))) (used : List ℕ) (i : ℕ)
-    (h : IsLevel of t xs ws (ps ∷ ups) used i) (counts : List (ℕ × ℕ)) (freed : List (List (List ℕ × ℕ))) (groups : List Remade) (cut : IsCut s of ws ps counts freed groups) where
+    (h : IsLevel of t xs (level_of ws (ps ∷ ups) used i)) (counts : List (ℕ × ℕ)) (freed : List (List (List ℕ × ℕ))) (groups : List Remade) (cut : IsCut s of (level_of ws ups used i) ps counts freed groups) where
   abbrev rewritten_here : List (List (Worked V))
   rewritten_here = changing_groups (changing ps ws)
 
@@ -92,7 +94,7 @@ module _ {V : Type 0} (s : Settings) (of : Page V → PageOfKind) (kind : IsKind
       -- what became of the level
       pub all_changed : (after : TreeInMemory) (parents : List IndexWorked) → map (λ d. d.made) parents ≡ map (λ e. index_made s (parent_held u.table e)) (terms_by_parent counts freed given)
           → map (λ d. d.held) parents ≡ map (parent_held u.table) (terms_by_parent counts freed given) → after ≡ with_table u (all_taken u.table (map (λ e. e.0) (terms_by_parent counts freed given)))
-          → IsChanged s of t after ws ps used i given parents
+          → IsChanged s of t after (level_of ws ups used i) ps given parents
       all_changed after parents made held taken =
           let pair : TermHeld → ℕ × PageOfKind = λ x. (x.pid, x.page) in
           let made_so : map (λ d. d.made) parents ≡ worked_parents s (parents_of (changing ps ws)) (map terms (changing_changes s used i (changing ps ws))) =
@@ -115,19 +117,19 @@ module _ {V : Type 0} (s : Settings) (of : Page V → PageOfKind) (kind : IsKind
 -- ---- a level whose numbers were drawn
 
 -- what holds of it then: its parents can be told and taken, and what comes of that is what the plan makes of the level
-pub record IsDrawn {V : Type 0} (s : Settings) (of : Page V → PageOfKind) (t u : TreeInMemory) (ws : List (Worked V)) (ps : List (Placed ℕ)) (used : List ℕ) (i : ℕ) (counts : List (ℕ × ℕ)) (freed : List (List (List ℕ × ℕ))) (given : List Remade) : Type 0 where
+pub record IsDrawn {V : Type 0} (s : Settings) (of : Page V → PageOfKind) (t u : TreeInMemory) (l : LevelPlan V) (ps : List (Placed ℕ)) (counts : List (ℕ × ℕ)) (freed : List (List (List ℕ × ℕ))) (given : List Remade) : Type 0 where
   pub rising : AreRisingPids (pids_in_use u.table)
   pub names : CanBeTold counts freed given
   pub home : AreParentsHome u.table (map (λ e. e.0) (terms_by_parent counts freed given))
   pub changed : (after : TreeInMemory) (parents : List IndexWorked) → map (λ d. d.made) parents ≡ map (λ e. index_made s (parent_held u.table e)) (terms_by_parent counts freed given)
       → map (λ d. d.held) parents ≡ map (parent_held u.table) (terms_by_parent counts freed given) → after ≡ with_table u (all_taken u.table (map (λ e. e.0) (terms_by_parent counts freed given)))
-      → IsChanged s of t after ws ps used i given parents
+      → IsChanged s of t after l ps given parents
 
 pub level_drawn : {V : Type 0} (s : Settings) (of : Page V → PageOfKind) (kind : IsKind of) (z : 0 < s.fan) (t u : TreeInMemory) (xs : List SeenPage) (ws : List (Worked V)) (ps : List (Placed ℕ)) (ups : List (List (Placed ℕ))) (used : List ℕ) (i : ℕ)
-    → IsLevel of t xs ws (ps ∷ ups) used i → (counts seen_counts : List (ℕ × ℕ)) (freed : List (List (List ℕ × ℕ))) (groups old new rest given : List Remade) (n : ℕ) → IsCut s of ws ps counts freed groups → seen_counts ≡ counts → old ≡ groups
-    → AreGiven t.table old new → length old ≡ n → given ≡ take n (new ++ rest) → u ≡ numbers_drawn t old → IsDrawn s of t u ws ps used i seen_counts freed given
+    → IsLevel of t xs (level_of ws (ps ∷ ups) used i) → (counts seen_counts : List (ℕ × ℕ)) (freed : List (List (List ℕ × ℕ))) (groups old new rest given : List Remade) (n : ℕ) → IsCut s of (level_of ws ups used i) ps counts freed groups → seen_counts ≡ counts → old ≡ groups
+    → AreGiven t.table old new → length old ≡ n → given ≡ take n (new ++ rest) → u ≡ numbers_drawn t old → IsDrawn s of t u (level_of ws ups used i) ps seen_counts freed given
 level_drawn s of kind z t u xs ws ps ups used i h counts seen_counts freed groups old new rest given n cut same_counts same_groups numbers_so len whole drawn =
-    let seen : IsCut s of ws ps seen_counts freed old = record { counts = same_counts ∙ cut.counts; names = cut.names; pieces = same_groups ∙ cut.pieces } in
+    let seen : IsCut s of (level_of ws ups used i) ps seen_counts freed old = record { counts = same_counts ∙ cut.counts; names = cut.names; pieces = same_groups ∙ cut.pieces } in
     let so : given ≡ numbered used i old = whole ∙ all_given t.table old new rest n numbers_so len ∙ numbers_so used i h.drawn in
     record {
       rising = still_rising s of kind z t xs ws ps ups used i h seen_counts freed old seen given so u drawn;
@@ -143,7 +145,7 @@ pub record CanGiveBack (t u : TreeInMemory) (given : List Remade) : Type 0 where
   pub away : AreAway u.table (flat_map (λ r. r.fresh) given)
   pub back : with_table u (freed_all u.table (flat_map (λ r. r.fresh) given)) ≡ t
 
-pub can_give_back : {V : Type 0} (of : Page V → PageOfKind) (t u v : TreeInMemory) (xs : List SeenPage) (ws : List (Worked V)) (ups : List (List (Placed ℕ))) (used : List ℕ) (i : ℕ) → IsLevel of t xs ws ups used i
+pub can_give_back : {V : Type 0} (of : Page V → PageOfKind) (t u v : TreeInMemory) (xs : List SeenPage) (ws : List (Worked V)) (ups : List (List (Placed ℕ))) (used : List ℕ) (i : ℕ) → IsLevel of t xs (level_of ws ups used i)
     → (old new rest given : List Remade) (n : ℕ) → AreGiven t.table old new → length old ≡ n → given ≡ take n (new ++ rest) → u ≡ numbers_drawn t old → v ≡ u → CanGiveBack t v given
 can_give_back of t u v xs ws ups used i h old new rest given n numbers_so len whole drawn same =
     let fresh : flat_map (λ r. r.fresh) given ≡ fresh_pids (pids_in_use t.table) (numbers old) =

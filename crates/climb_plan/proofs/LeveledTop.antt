@@ -34,6 +34,7 @@ use Rattle.climb_plan.proofs.Climbs.{tiled-top}
 use Rattle.climb_plan.proofs.ClimbingTop.{made_on_top, grown_above}
 use Rattle.climb_plan.proofs.LeveledChange.{with_table, numbers_drawn, CanGiveBack}
 use Rattle.climb_plan.proofs.LeveledDrawn.{AreGiven, all_given}
+use Rattle.climb_plan.proofs.LevelParts.{level_of}
 
 -- ---- all pages were seen
 
@@ -129,14 +130,14 @@ pub record IsTopDrawn {V : Type 0} (s : Settings) (of : Page V → PageOfKind) (
   pub changed : (after : TreeInMemory) (pid levels : ℕ)
       → ((used : List ℕ) (i : ℕ) (ps : List (Placed ℕ)) → ((m : ℕ) → unused (pids_in_use u.table) m ≡ unused used (i + m)) → names ps ≡ top_names u.root given
       → (pid ≡ top_pid ps (grown (length ps) s used i ps)) × (levels ≡ u.height + length (grown (length ps) s used i ps)) × AreGrown u after (grown (length ps) s used i ps))
-      → IsTopChanged s of t after ws used i given pid levels
+      → IsTopChanged s of t after (level_of ws [] used i) given pid levels
   pub next : ℕ
   pub like : List (Placed ℕ)
   pub numbered : (m : ℕ) → unused (pids_in_use u.table) m ≡ unused used (next + m)
   pub like_named : names like ≡ top_names u.root given
   pub too_high : 64 < u.height + length (grown (length like) s used next like) → 64 < t.height + length (climb s used i ws []).tower.above
 
-module _ {V : Type 0} (s : Settings) (of : Page V → PageOfKind) (kind : IsKind of) (z : 0 < s.fan) (t : TreeInMemory) (xs : List SeenPage) (ws : List (Worked V)) (used : List ℕ) (i : ℕ) (h : IsLevel of t xs ws [] used i) where
+module _ {V : Type 0} (s : Settings) (of : Page V → PageOfKind) (kind : IsKind of) (z : 0 < s.fan) (t : TreeInMemory) (xs : List SeenPage) (ws : List (Worked V)) (used : List ℕ) (i : ℕ) (h : IsLevel of t xs (level_of ws [] used i)) where
   -- the group, if it is one
   abbrev pub group_on_top : List (List (Worked V))
   group_on_top = filter is_rewritten (ws ∷ [])
@@ -262,5 +263,5 @@ given_back t v w given b e = e ∙ b.back
 
 -- the same groups under another name
 pub of_groups : {V : Type 0} (s : Settings) (of : Page V → PageOfKind) (t after : TreeInMemory) (ws : List (Worked V)) (used : List ℕ) (i : ℕ) (given groups : List Remade) (pid levels : ℕ) → given ≡ groups
-    → IsTopChanged s of t after ws used i given pid levels → IsTopChanged s of t after ws used i groups pid levels
-of_groups s of t after ws used i given groups pid levels e c = subst (λ (rs : List Remade). IsTopChanged s of t after ws used i rs pid levels) e c
+    → IsTopChanged s of t after (level_of ws [] used i) given pid levels → IsTopChanged s of t after (level_of ws [] used i) groups pid levels
+of_groups s of t after ws used i given groups pid levels e c = subst (λ (rs : List Remade). IsTopChanged s of t after (level_of ws [] used i) rs pid levels) e c

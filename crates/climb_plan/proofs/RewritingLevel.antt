@@ -26,6 +26,7 @@ use Rattle.climb_plan.specs.Rewriting.AreSeenIn.{worked, at_home}
 use Rattle.climb_plan.proofs.DescentWay.{pid_for}
 use Rattle.climb_plan.proofs.RewritingFamily.{Names}
 use Rattle.climb_plan.proofs.RewritingSeen.{all_lows}
+use Rattle.climb_plan.proofs.LevelParts.{family_of}
 
 -- ---- families in which nothing calls
 
@@ -268,7 +269,7 @@ module _ (t : TreeInMemory) (depth : ℕ) (all_xs all : List SeenPage) (ps : Lis
     seen_from : AreSeenIn t.table (found.own ++ found.after) (found.children ++ found.later)
     seen_from = seen_joined t.table found.after found.later found.seen_own found.seen_after
 
-    pub family : IsFamilyOf t.table xs found.parent found.before (found.own ++ found.after) found.children found.later
+    pub family : IsFamilyOf t.table xs (family_of found.parent found.before (found.own ++ found.after) found.children found.later)
     family = record {
       home = home;
       parted = record {

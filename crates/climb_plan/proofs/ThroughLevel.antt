@@ -34,7 +34,7 @@ use Rattle.climb_plan.proofs.ChangingGroups.{all_groups, groups-changing, fresh_
 use Rattle.climb_plan.proofs.ChangingOutdated.{worked_pids-placed, among-joined, all_groups-joined, outdated-level, outdate-joined, outdate-same}
 use Rattle.climb_plan.proofs.ChangingSeen.{seen_replaced}
 use Rattle.climb_plan.proofs.Climbing.{IsMadeReady, has_level_from}
-use Rattle.climb_plan.proofs.ClimbingLevel.{parents_here, climbed_above, level_untouched, fresh_untouched, level-climbed}
+use Rattle.climb_plan.proofs.ClimbingLevel.{plan_above, climbed_above, level_untouched, fresh_untouched, level-climbed}
 use Rattle.climb_plan.proofs.Families.{families-joined}
 use Rattle.climb_plan.proofs.InstalledLevel.{HasLevel, installed-level}
 use Rattle.climb_plan.proofs.InstalledPages.{AreFreshFor, distinct_apart, at_among}
@@ -43,6 +43,7 @@ use Rattle.climb_plan.proofs.InstallingLaws.{not_among, others-all_come_home, ho
 use Rattle.climb_plan.proofs.ThroughGroups.{fresh_numbers, groups_can_be_installed, groups_installed, groups_rising, groups_logged}
 use Rattle.climb_plan.proofs.ToldRuns.{all_told, terms_told}
 use Rattle.climb_plan.proofs.Installed.{IsInstalled, worked_pids, replaced_among}
+use Rattle.climb_plan.proofs.LevelParts.{level_of}
 
 -- ---- the pages of a level that were seen
 
@@ -120,7 +121,7 @@ module _ {V : Type 0} where
 
 -- ---- a level under parents
 
-module _ {V : Type 0} (s : Settings) (of : Page V → PageOfKind) (t : TreeInMemory) (xs : List SeenPage) (ws : List (Worked V)) (ps : List (Placed ℕ)) (ups : List (List (Placed ℕ))) (used : List ℕ) (i : ℕ) (h : IsLevel of t xs ws (ps ∷ ups) used i) where
+module _ {V : Type 0} (s : Settings) (of : Page V → PageOfKind) (t : TreeInMemory) (xs : List SeenPage) (ws : List (Worked V)) (ps : List (Placed ℕ)) (ups : List (List (Placed ℕ))) (used : List ℕ) (i : ℕ) (h : IsLevel of t xs (level_of ws (ps ∷ ups) used i)) where
   abbrev groups_here : List (List (Worked V))
   groups_here = changing_groups (changing ps ws)
 
@@ -203,7 +204,7 @@ module _ {V : Type 0} (s : Settings) (of : Page V → PageOfKind) (t : TreeInMem
 
   -- ---- once the levels above have climbed
 
-  module _ (above : TreeInMemory) (up : HasClimbed Index ready_here above (parents_here s used i ps ws ups) ups (climbed_above s used i ps ws ups)) where
+  module _ (above : TreeInMemory) (up : HasClimbed Index ready_here above (plan_above s used i ps ws ups) (climbed_above s used i ps ws ups)) where
     places_stay : AllByRecursion (λ k. place_of above.table k ≡ place_of t.table k) (worked_pids ws)
     places_stay =
         all_each (λ k. is_among k (worked_pids ws) ≡ true) (λ k. place_of above.table k ≡ place_of t.table k) (worked_pids ws)
@@ -300,6 +301,6 @@ module _ {V : Type 0} (s : Settings) (of : Page V → PageOfKind) (t : TreeInMem
     tree_after = record { table = table_after; root = above.root; height = above.height }
 
     -- and the level has climbed
-    pub level_through : HasClimbed of t tree_after ws (ps ∷ ups) (climb s used i ws (ps ∷ ups))
+    pub level_through : HasClimbed of t tree_after (level_of ws (ps ∷ ups) used i) (climb s used i ws (ps ∷ ups))
     level_through =
         level-climbed s used i ps ws ups joined_here h.stacked.1 h.old h.distinct of t ready_here above tree_after made_ready up (record { level = after_level; rising = after_rising; logged = after_logged }) refl refl

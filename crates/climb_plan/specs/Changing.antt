@@ -3,10 +3,13 @@ use Rattle.std.specs.Prelude.{◌≡◌, ℕ, ◌+◌, Bool, false, ◌||◌, Li
 use Rattle.std.specs.List.{filter, AllByRecursion}
 use Rattle.keys.specs.declared.settings.Settings.{Settings}
 use Rattle.index_page.specs.Page.{Page, PageOfKind}
+use Rattle.index_page.specs.Page.PageOfKind.{Leaf, Index}
 use Rattle.mapping.specs.Levels.{Placed, entries}
 use Rattle.mapping.specs.Table.{Mapping, place_of}
 use Rattle.page_runs.specs.declared.class.Class.{Class}
 use Rattle.page_runs.specs.declared.class.Class.TheVariants.{Same}
+use Rattle.page_runs.specs.LeafWork.{LeafWorked}
+use Rattle.page_runs.specs.TermWork.{IndexWorked}
 use Rattle.page_runs.specs.Worked.{Worked, is_thin_class, is_fat_class, is_thin}
 use Rattle.split_plan.specs.Groups.{groups}
 use Rattle.split_plan.specs.Change.{Change, is_rewritten, changes, fresh_of}
@@ -24,6 +27,14 @@ pub record SeenPage : Type 0 where
 -- a page after its run under its pid, of the kind that `of` makes
 abbrev pub shown : {V : Type 0} → (Page V → PageOfKind) → Worked V → SeenPage
 shown of w = record { pid = w.placed.pid; page = of w.placed.page; class = w.class; replaced = w.replaced }
+
+-- leaves after their runs, as their parents see them
+abbrev pub shown_leaves : List LeafWorked → List SeenPage
+shown_leaves ds = map (λ d. shown Leaf d.made.worked) ds
+
+-- index pages after theirs
+abbrev pub shown_parents : List IndexWorked → List SeenPage
+shown_parents ds = map (λ d. shown Index d.made) ds
 
 -- a page that got no run
 abbrev pub same : {V : Type 0} → Placed V → Worked V

@@ -43,6 +43,26 @@ climb s used i ws (parents ∷ ups) =
     let up : Climbed ℕ = climb s used (i + length (all_fresh css)) (worked_parents s parents (map terms css)) ups in
     record { tower = record { level = all_new css; above = up.tower.level ∷ up.tower.above }; outdated = all_outdated css ++ up.outdated }
 
+-- a level of pages after their runs, with the levels above it as they were; of the numbers that are not among the used ones so many
+-- were given out before
+pub record LevelPlan (V : Type 0) : Type 0 where
+  pub worked : List (Worked V)
+  pub above : List (List (Placed ℕ))
+  pub used : List ℕ
+  pub from : ℕ
+
+-- the same level with these parents right above it
+abbrev pub under : {V : Type 0} → List (Placed ℕ) → LevelPlan V → LevelPlan V
+under ps l = record { worked = l.worked; above = ps ∷ l.above; used = l.used; from = l.from }
+
+-- and with no level above it
+abbrev pub alone : {V : Type 0} → LevelPlan V → LevelPlan V
+alone l = record { worked = l.worked; above = []; used = l.used; from = l.from }
+
+-- what is made of the level and of those above it
+abbrev pub climb_of : {V : Type 0} → Settings → LevelPlan V → Climbed V
+climb_of s l = climb s l.used l.from l.worked l.above
+
 -- whether a level is one page with one child
 abbrev pub is_lone : List (Placed ℕ) → Bool
 is_lone [] = false

@@ -25,11 +25,11 @@ use std::thread::Threads;
 /// A group that is rewritten: its members, and the pages that are made of them.
 #[derive(Drop)]
 pub(crate) struct Rewritten {
-    // The members' page ids, as numbers: the first of them is that of the first piece.
-    members: Vec<u64>,
+    // The members' page ids: the first of them is that of the first piece.
+    members: Vec<Pid>,
     // The pages in the group's place.
     pieces: Vec<Page<Global>>,
-    // The numbers of all pieces but the first, once they are drawn.
+    // The numbers of all pieces but the first, once they are drawn, as the tree gives them.
     fresh: Vec<u64>,
 }
 
@@ -107,13 +107,13 @@ fn all_cut(
     Ok(all)
 }
 
-// The members' page ids, as numbers.
-fn pids_of(alloc: Global, group: &[Seen<'_>]) -> Result<Vec<u64>, AllocError>
+// The members' page ids.
+fn pids_of(alloc: Global, group: &[Seen<'_>]) -> Result<Vec<Pid>, AllocError>
     ensures { IfOk result (λ pids. pids.items ≡ map (λ x. x.pid) (all_seen group.now)) }
 {
     let mut pids = Vec::with_capacity(alloc, group.len())?;
     for member in group {
-        pids.push_reserved(member.pid.0);
+        pids.push_reserved(member.pid);
     }
     Ok(pids)
 }
@@ -214,13 +214,13 @@ pub(crate) fn free_all(tree: &mut Tree<Global>, pids: &[u64])
     }
 }
 
-/// The run of terms of each of these parents, with the parent's number.
+/// The run of terms of each of these parents, with the parent's page id.
 pub(crate) fn all_terms(
     alloc: Global,
-    parents: &[(u64, usize)],
+    parents: &[(Pid, usize)],
     freed: Vec<Vec<Name>>,
     all: &[Rewritten],
-) -> Result<Vec<(u64, Run<Pid, Global>)>, AllocError>
+) -> Result<Vec<(Pid, Run<Pid, Global>)>, AllocError>
     requires { CanBeTold parents.now (map (λ names. names.items) freed.items) all.now }
     ensures { IfOk result (λ runs. runs.items ≡ terms_by_parent parents.now (map (λ names. names.items) freed.items) all.now) }
 {
@@ -303,7 +303,7 @@ fn push_names(
 
 impl Rewritten {
     /// The members, the pages that are made of them, and the numbers of all of these but the first.
-    pub(crate) fn into_parts(self) -> (Vec<u64>, Vec<Page<Global>>, Vec<u64>)
+    pub(crate) fn into_parts(self) -> (Vec<Pid>, Vec<Page<Global>>, Vec<u64>)
         ensures { self ≡ record { members = result.0.items; pieces = result.1.items; fresh = result.2.items } }
     {
         let Rewritten {
@@ -323,7 +323,7 @@ impl Rewritten {
             ([first, others @ ..], Some(pid)) => {
                 names.push_reserved(Name {
                     low: Key::from_bytes(alloc, first.low())?,
-                    pid: Pid(*pid),
+                    pid: *pid,
                 });
                 others
             }

@@ -4,9 +4,7 @@ ghost use Rattle.std.specs.Prelude.{◌≡◌, map, Some, None, IsSome, IfOk, On
 ghost use Rattle.std.specs.List.{AllByRecursion};
 ghost use Rattle.std.specs.Vec.Iter.{into_iter_items};
 ghost use Rattle.mapping.specs.Proper.{Distinct, AreRisingPids};
-ghost use Rattle.index_page.specs.Page.PageOfKind.{Leaf};
 ghost use Rattle.page_runs.specs.TermWork.{index_made, term_held_of};
-ghost use Rattle.climb_plan.specs.Changing.{shown};
 ghost use Rattle.mapping.specs.Table.{page_of, place_of, with_place, log_outdated, pids_in_use};
 ghost use Rattle.climb_plan.specs.Installing.{all_taken, all_put, AreAway, AreParentsHome, parent_held, come_home, all_come_home, members_freed, put_under, group_installed, all_installed, CanInstall, CanInstallAll};
 
@@ -17,7 +15,7 @@ use delta_chain::Run;
 use index_page::Page;
 use keys::{Pid, Settings};
 use mapping::Tree;
-use page_runs::{LeafDone, LeafRest, TermDone, TermJob, TermWork};
+use page_runs::{LeafRest, TermDone, TermJob, TermWork};
 use std::alloc::{AllocError, Global};
 use std::thread::Threads;
 use std::vec::IntoIter;
@@ -30,7 +28,7 @@ pub(crate) fn work_parents(
     alloc: Global,
     settings: &Settings,
     tree: &mut Tree<Global>,
-    told: Vec<(u64, Run<Pid, Global>)>,
+    told: Vec<(Pid, Run<Pid, Global>)>,
 ) -> Result<Vec<TermDone>, AllocError>
     requires { AreParentsHome tree.old.table (map (λ t. t.0) told.items) }
     ensures made { IfOk result (λ dones. map (λ d. d.made) dones.items ≡ map (λ t. index_made settings.now (parent_held tree.old.table t)) told.items) }
@@ -56,7 +54,7 @@ pub(crate) fn work_parents(
 fn take_all(
     alloc: Global,
     tree: &mut Tree<Global>,
-    told: Vec<(u64, Run<Pid, Global>)>,
+    told: Vec<(Pid, Run<Pid, Global>)>,
 ) -> Result<Vec<TermJob>, AllocError>
     requires { AreParentsHome tree.old.table (map (λ t. t.0) told.items) }
     ensures held { IfOk result (λ jobs. map term_held_of jobs.items ≡ map (parent_held tree.old.table) told.items) }
@@ -66,8 +64,8 @@ fn take_all(
     let mut jobs = Vec::with_capacity(alloc, told.len())?;
     for (pid, terms) in told {
         jobs.push_reserved(TermJob {
-            page: tree.take(Pid(pid)),
-            pid: Pid(pid),
+            page: tree.take(pid),
+            pid,
             terms,
         });
     }
@@ -113,18 +111,51 @@ pub(crate) fn undo_parents(
     }
 }
 
-/// Puts the pages home after their runs. It takes no memory.
-pub(crate) fn put_home<D: Revised>(tree: &mut Tree<Global>, dones: Vec<D>)
+/// Puts the pages home after their runs. What is left of the leaves' work, those that were replaced among it, the crew drops, since
+/// that takes as long as to make new ones. It needs no memory: where there is none to keep that for the crew, it is dropped leaf by leaf.
+pub(crate) fn put_home<D: Revised>(
+    rt: &(impl Threads + Sync),
+    crew: Crew,
+    alloc: Global,
+    tree: &mut Tree<Global>,
+    dones: Vec<D>,
+)
     requires { AreAway tree.old.table (map (λ d. (D.seen d).pid) dones.items) }
-    ensures { tree.new ≡ record tree.old { table = all_come_home tree.old.table (map D.seen dones.items) } }
+    ensures { tree.new ≡
+        record tree.old { table = all_come_home tree.old.table (map D.seen dones.items) } }
 {
+    drop_all(rt, crew, rests_once_home(alloc, tree, dones))
+}
+
+// Puts the pages home, and returns what is left of their work, as far as there is room for it.
+fn rests_once_home<D: Revised>(
+    alloc: Global,
+    tree: &mut Tree<Global>,
+    dones: Vec<D>,
+) -> Vec<LeafRest>
+    requires { AreAway tree.old.table (map (λ d. (D.seen d).pid) dones.items) }
+    ensures { tree.new ≡
+        record tree.old { table = all_come_home tree.old.table (map D.seen dones.items) } }
+{
+    let mut rests = D::room_for_rests(alloc, dones.len());
     for done in dones {
-        come_home(tree, done);
+        let rest = come_home(tree, done);
+        keep_if_room(&mut rests, rest);
+    }
+    rests
+}
+
+// Puts the item behind the others, if there is one, and the list has room for it.
+fn keep_if_room<T: Drop>(items: &mut Vec<T>, item: Option<T>) {
+    if let Some(item) = item {
+        if items.len() < items.capacity() {
+            items.push_reserved(item);
+        }
     }
 }
 
-// Puts the page home after its run. Where it was replaced, the log doesn't know it.
-fn come_home<D: Revised>(tree: &mut Tree<Global>, done: D)
+// Puts the page home after its run, and returns what is left of its work. Where it was replaced, the log doesn't know it.
+fn come_home<D: Revised>(tree: &mut Tree<Global>, done: D) -> Option<LeafRest>
     requires { place_of tree.old.table (D.seen done).pid ≡ Some None }
     ensures { tree.new ≡ record tree.old { table = come_home tree.old.table (D.seen done) } }
 {
@@ -133,54 +164,7 @@ fn come_home<D: Revised>(tree: &mut Tree<Global>, done: D)
     if seen.replaced {
         tree.outdate(pid);
     }
-    tree.put(pid, done.into_page());
-}
-
-/// Puts the leaves home after their runs. What is left of their work, the leaves that were replaced among it, the crew drops, since that
-/// takes as long as to make new ones. It needs no memory: where there is none to keep that for the crew, it is dropped leaf by leaf.
-pub(crate) fn put_leaves_home(
-    rt: &(impl Threads + Sync),
-    crew: Crew,
-    alloc: Global,
-    tree: &mut Tree<Global>,
-    leaves: Vec<LeafDone>,
-)
-    requires { AreAway tree.old.table (map (λ d. (shown Leaf d.made.worked).pid) leaves.items) }
-    ensures { tree.new ≡ record tree.old { table = all_come_home tree.old.table (map (λ d. shown Leaf d.made.worked) leaves.items) } }
-{
-    drop_all(rt, crew, rests_of_leaves(alloc, tree, leaves))
-}
-
-// Puts the leaves home, and returns what is left of their work, as far as there is room for it.
-fn rests_of_leaves(alloc: Global, tree: &mut Tree<Global>, leaves: Vec<LeafDone>) -> Vec<LeafRest>
-    requires { AreAway tree.old.table (map (λ d. (shown Leaf d.made.worked).pid) leaves.items) }
-    ensures { tree.new ≡ record tree.old { table = all_come_home tree.old.table (map (λ d. shown Leaf d.made.worked) leaves.items) } }
-{
-    let mut rests = Vec::with_capacity(alloc, leaves.len()).unwrap_or(Vec::new(alloc));
-    for leaf in leaves {
-        let rest = leaf_comes_home(tree, leaf);
-        keep_if_room(&mut rests, rest);
-    }
-    rests
-}
-
-// Puts the item behind the others, where the list has room for it.
-fn keep_if_room<T: Drop>(items: &mut Vec<T>, item: T) {
-    if items.len() < items.capacity() {
-        items.push_reserved(item);
-    }
-}
-
-// Puts the leaf home after its run, and returns what is left of its work. Where it was replaced, the log doesn't know it.
-fn leaf_comes_home(tree: &mut Tree<Global>, leaf: LeafDone) -> LeafRest
-    requires { place_of tree.old.table (shown Leaf leaf.made.worked).pid ≡ Some None }
-    ensures { tree.new ≡ record tree.old { table = come_home tree.old.table (shown Leaf leaf.made.worked) } }
-{
-    let pid = leaf.pid();
-    if leaf.is_replaced() {
-        tree.outdate(pid);
-    }
-    let (page, rest) = leaf.into_page_and_rest();
+    let (page, rest) = done.into_parts();
     tree.put(pid, page);
     rest
 }
@@ -212,25 +196,24 @@ fn install(tree: &mut Tree<Global>, group: Rewritten)
 }
 
 // Puts the page into the place of another, which the log doesn't know then.
-fn replace(tree: &mut Tree<Global>, pid: u64, page: Page<Global>)
-    requires { IsSome (page_of tree.old.table pid) }
-    ensures { tree.new ≡ record tree.old { table = with_place (log_outdated tree.old.table pid) pid (Some page) } }
+fn replace(tree: &mut Tree<Global>, place: Pid, page: Page<Global>)
+    requires { IsSome (page_of tree.old.table place) }
+    ensures { tree.new ≡
+        record tree.old { table = with_place (log_outdated tree.old.table place) place (Some page) } }
 {
-    let place = Pid(pid);
     let _before = tree.take(place);
     tree.outdate(place);
     tree.put(place, page);
 }
 
 // Gives up the pages and their places.
-fn free_members(tree: &mut Tree<Global>, pids: &[u64])
+fn free_members(tree: &mut Tree<Global>, pids: &[Pid])
     requires { AllByRecursion (λ pid. IsSome (page_of tree.old.table pid)) pids.now × Distinct pids.now }
     ensures { tree.new ≡ record tree.old { table = members_freed tree.old.table pids.now } }
 {
     for pid in pids {
-        let pid = Pid(*pid);
-        let _gone = tree.take(pid);
-        tree.free(pid);
+        let _gone = tree.take(*pid);
+        tree.free(*pid);
     }
 }
 

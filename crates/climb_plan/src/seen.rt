@@ -8,7 +8,7 @@ ghost use Rattle.std.specs.Prelude.{◌||◌};
 
 use index_page::Page;
 use keys::Pid;
-use page_runs::{Class, LeafDone, TermDone};
+use page_runs::{Class, LeafDone, LeafRest, TermDone};
 use std::alloc::{AllocError, Global};
 
 /// A page of a level after its run, as its parent sees it.
@@ -69,9 +69,12 @@ pub(crate) trait Revised: Drop {
     fn is_of_a_kind()
         ensures { IsKind of };
 
-    /// The page, for good.
-    fn into_page(self) -> Page<Global>
-        ensures { result ≡ (seen self).page };
+    /// The page, for good, and what is left of a leaf's work.
+    fn into_parts(self) -> (Page<Global>, Option<LeafRest>)
+        ensures { result.0 ≡ (seen self).page };
+
+    /// Room for what is left of so many pages' work, as far as there is memory.
+    fn room_for_rests(alloc: Global, count: usize) -> Vec<LeafRest>;
 
     // It is seen as what its run made of it.
     ghost seen_as_worked: { (d : Self) → seen d ≡ shown of (worked d) };
@@ -102,9 +105,13 @@ impl Revised for LeafDone {
 
     fn is_of_a_kind() {}
 
-    fn into_page(self) -> Page<Global> {
-        let (page, _rest) = self.into_page_and_rest();
-        page
+    fn into_parts(self) -> (Page<Global>, Option<LeafRest>) {
+        let (page, rest) = self.into_page_and_rest();
+        (page, Some(rest))
+    }
+
+    fn room_for_rests(alloc: Global, count: usize) -> Vec<LeafRest> {
+        Vec::with_capacity(alloc, count).unwrap_or(Vec::new(alloc))
     }
 }
 
@@ -132,8 +139,12 @@ impl Revised for TermDone {
 
     fn is_of_a_kind() {}
 
-    fn into_page(self) -> Page<Global> {
-        TermDone::into_page(self)
+    fn into_parts(self) -> (Page<Global>, Option<LeafRest>) {
+        (self.into_page(), None)
+    }
+
+    fn room_for_rests(alloc: Global, _count: usize) -> Vec<LeafRest> {
+        Vec::new(alloc)
     }
 }
 

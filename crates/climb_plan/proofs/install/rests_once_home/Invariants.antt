@@ -2,7 +2,7 @@ use Rattle.std.proofs.Common.{◌≡◌, map}
 use Rattle.std.specs.Vec.Iter.{into_iter_items}
 use Rattle.climb_plan.specs.Installing.{AreAway}
 use Rattle.climb_plan.proofs.Installing.{tree_home}
-use Rattle.climb_plan.proofs.install.put_home.Given as goal
+use Rattle.climb_plan.proofs.install.rests_once_home.Given as goal
 
 -- the places of the pages that are left are away, and these home in the tree now are all home in the tree before
 abbrev pub invariant-loop-done : goal.invariant-loop-done
