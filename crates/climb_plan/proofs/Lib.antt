@@ -37,6 +37,7 @@ pub mod LeveledChange
 pub mod LeveledCut
 pub mod LeveledDrawn
 pub mod LeveledTop
+pub mod LevelParts
 mod Literals
 mod Logs
 mod MergedAndCutAgain
