@@ -31,9 +31,12 @@ pub(crate) fn work_parents(
     told: Vec<(Pid, Run<Pid, Global>)>,
 ) -> Result<Vec<TermDone>, AllocError>
     requires { AreParentsHome tree.old.table (map (λ t. t.0) told.items) }
-    ensures made { IfOk result (λ dones. map (λ d. d.made) dones.items ≡ map (λ t. index_made settings.now (parent_held tree.old.table t)) told.items) }
-    ensures held { IfOk result (λ dones. map (λ d. d.held) dones.items ≡ map (parent_held tree.old.table) told.items) }
-    ensures taken { OnOk result (tree.new ≡ record tree.old { table = all_taken tree.old.table (map (λ t. t.0) told.items) }) }
+    ensures made { IfOk result (λ dones. map (λ d. d.made) dones.items ≡
+        map (λ t. index_made settings.now (parent_held tree.old.table t)) told.items) }
+    ensures held { IfOk result (λ dones. map (λ d. d.held) dones.items ≡
+        map (parent_held tree.old.table) told.items) }
+    ensures taken { OnOk result (tree.new ≡
+        record tree.old { table = all_taken tree.old.table (map (λ t. t.0) told.items) }) }
     ensures err { AreRisingPids (pids_in_use tree.old.table) → OnErr result (tree.new ≡ tree.old) }
 {
     let work = TermWork {
@@ -57,8 +60,10 @@ fn take_all(
     told: Vec<(Pid, Run<Pid, Global>)>,
 ) -> Result<Vec<TermJob>, AllocError>
     requires { AreParentsHome tree.old.table (map (λ t. t.0) told.items) }
-    ensures held { IfOk result (λ jobs. map term_held_of jobs.items ≡ map (parent_held tree.old.table) told.items) }
-    ensures taken { OnOk result (tree.new ≡ record tree.old { table = all_taken tree.old.table (map (λ t. t.0) told.items) }) }
+    ensures held { IfOk result (λ jobs. map term_held_of jobs.items ≡
+        map (parent_held tree.old.table) told.items) }
+    ensures taken { OnOk result (tree.new ≡
+        record tree.old { table = all_taken tree.old.table (map (λ t. t.0) told.items) }) }
     ensures err { OnErr result (tree.new ≡ tree.old) }
 {
     let mut jobs = Vec::with_capacity(alloc, told.len())?;
@@ -75,7 +80,8 @@ fn take_all(
 // Puts the pages of the jobs back into their places.
 fn put_back(tree: &mut Tree<Global>, jobs: Vec<TermJob>)
     requires { AreAway tree.old.table (map (λ j. j.pid) jobs.items) }
-    ensures { tree.new ≡ record tree.old { table = all_put tree.old.table (map (λ j. (j.pid, j.page)) jobs.items) } }
+    ensures { tree.new ≡ record tree.old { table =
+        all_put tree.old.table (map (λ j. (j.pid, j.page)) jobs.items) } }
 {
     for job in jobs {
         let TermJob {
@@ -95,7 +101,8 @@ pub(crate) fn undo_parents(
     parents: Vec<TermDone>,
 )
     requires { AreAway tree.old.table (map (λ d. d.held.pid) parents.items) }
-    ensures { tree.new ≡ record tree.old { table = all_put tree.old.table (map (λ d. (d.held.pid, d.held.page)) parents.items) } }
+    ensures { tree.new ≡ record tree.old { table =
+        all_put tree.old.table (map (λ d. (d.held.pid, d.held.page)) parents.items) } }
 {
     let work = TermWork {
         alloc,
@@ -198,8 +205,8 @@ fn install(tree: &mut Tree<Global>, group: Rewritten)
 // Puts the page into the place of another, which the log doesn't know then.
 fn replace(tree: &mut Tree<Global>, place: Pid, page: Page<Global>)
     requires { IsSome (page_of tree.old.table place) }
-    ensures { tree.new ≡
-        record tree.old { table = with_place (log_outdated tree.old.table place) place (Some page) } }
+    ensures { tree.new ≡ record tree.old { table =
+        with_place (log_outdated tree.old.table place) place (Some page) } }
 {
     let _before = tree.take(place);
     tree.outdate(place);
@@ -208,7 +215,8 @@ fn replace(tree: &mut Tree<Global>, place: Pid, page: Page<Global>)
 
 // Gives up the pages and their places.
 fn free_members(tree: &mut Tree<Global>, pids: &[Pid])
-    requires { AllByRecursion (λ pid. IsSome (page_of tree.old.table pid)) pids.now × Distinct pids.now }
+    requires { AllByRecursion (λ pid. IsSome (page_of tree.old.table pid)) pids.now ×
+        Distinct pids.now }
     ensures { tree.new ≡ record tree.old { table = members_freed tree.old.table pids.now } }
 {
     for pid in pids {
@@ -220,7 +228,8 @@ fn free_members(tree: &mut Tree<Global>, pids: &[Pid])
 /// Puts each page into its place, from which it is away.
 pub(crate) fn put_pieces(tree: &mut Tree<Global>, pids: &[u64], pages: IntoIter<Page<Global>>)
     requires { AreAway tree.old.table pids.now }
-    ensures { tree.new ≡ record tree.old { table = put_under tree.old.table pids.now (into_iter_items pages) } }
+    ensures { tree.new ≡
+        record tree.old { table = put_under tree.old.table pids.now (into_iter_items pages) } }
 {
     let mut rest = pages;
     for pid in pids {

@@ -118,7 +118,8 @@ fn cut_level<D: Revised>(
 ) -> Result<CutLevel, AllocError>
     requires fan { 0 < settings.now.fan }
     requires level { SomeChildren D.of tree.now (map D.seen dones.now) depth }
-    ensures cut { IfOk result (λ cut. CutsFrom D.of settings.now tree.now (map D.seen dones.now) depth
+    ensures cut { IfOk result (λ cut. CutsFrom D.of settings.now tree.now
+        (map D.seen dones.now) depth
         cut.parents.items (all_names cut.freed.items) cut.groups.items) }
 {
     D::is_of_a_kind();

@@ -93,7 +93,8 @@ fn draw_names(
 // Draws so many new page ids, whose places are away.
 fn draw(tree: &mut Tree<Global>, count: usize) -> Result<Vec<u64>, AllocError>
     requires { AreRisingPids (pids_in_use tree.old.table) }
-    ensures pids { IfOk result (λ pids. pids.items ≡ fresh_pids (pids_in_use tree.old.table) count) }
+    ensures pids { IfOk result (λ pids. pids.items ≡
+        fresh_pids (pids_in_use tree.old.table) count) }
     ensures drawn { IfOk result (λ pids. AreDrawn tree.old tree.new pids.items) }
     ensures err { OnErr result (tree.new ≡ tree.old) }
 {

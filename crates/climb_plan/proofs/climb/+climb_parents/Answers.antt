@@ -33,20 +33,20 @@ pub change_level-requires-clause-level : goal.change_level-requires-clause-level
 change_level-requires-clause-level g t c κs within =
     children_for Index (λ d. shown Index d.made) c.args.tree.now c.args.dones.items c.deref.result.now c.args.depth c.deref.ensures.value c.if-depth-eq0.false c.requires.level
 
-pub climb_parents-requires : goal.climb_parents-requires
-climb_parents-requires g t c = λ κs within.
-    let k = here g t (goal.at.climb_parents-requires g t c).In-Ok in
+pub climb_parents-climbed-requires : goal.climb_parents-climbed-requires
+climb_parents-climbed-requires g t c = λ κs within.
+    let k = here g t (goal.at.climb_parents-climbed-requires g t c).In-Ok in
     let less : c.args.depth - 1 < c.args.depth = one_less c.args.depth c.if-depth-eq0.false in
     let measured = c.decreases in
     (omega arith, (within.0, (within.1, (search, (search, (c.requires.fan, (some_above k, low_above k c.requires.height)))))))
 
-pub finish_level-requires : goal.finish_level-requires
-finish_level-requires g t c =
-    let k = (goal.at.finish_level-requires g t c).In-Ok in
+pub finish_level-requires-after_bounds : goal.finish_level-requires-after_bounds
+finish_level-requires-after_bounds g t c κs within =
+    let k = (goal.at.finish_level-requires-after_bounds g t c).In-Ok in
     let told = c.climb_parents-climbed.ensures in
     let can : CanEnd Index c.args.settings.now (working g t k) c.climb_parents-climbed.new.tree (shown_parents c.args.dones.items) c.in-Ok.changed.groups.items c.climb_parents-climbed.result =
     record { worked = here g t k; ended = have_ended c.args.settings.now (working g t k) c.climb_parents-climbed.new.tree c.climb_parents-climbed.result told.climbed told.low told.back told.err told.high } in
-    (search, (working g t k, can))
+    (working g t k, can)
 
 pub returns-clause-climbed : goal.returns-clause-climbed
 returns-clause-climbed g t c =

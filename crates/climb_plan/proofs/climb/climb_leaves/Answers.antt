@@ -33,11 +33,11 @@ pub change_level-requires-clause-level : goal.change_level-requires-clause-level
 change_level-requires-clause-level g c κs within =
     children_for Leaf (λ d. shown Leaf d.made.worked) c.args.tree.now c.args.dones.items c.deref.result.now c.args.depth c.deref.ensures.value c.if-depth-eq0.false c.requires.level
 
-pub climb_parents-requires-clause-level : goal.climb_parents-requires-clause-level
-climb_parents-requires-clause-level g c κs within = some_above (here g (goal.at.climb_parents-requires-clause-level g c).In-Ok)
+pub climb_parents-climbed-requires-clause-level : goal.climb_parents-climbed-requires-clause-level
+climb_parents-climbed-requires-clause-level g c κs within = some_above (here g (goal.at.climb_parents-climbed-requires-clause-level g c).In-Ok)
 
-pub climb_parents-requires-clause-height : goal.climb_parents-requires-clause-height
-climb_parents-requires-clause-height g c κs within = low_above (here g (goal.at.climb_parents-requires-clause-height g c).In-Ok) c.requires.height
+pub climb_parents-climbed-requires-clause-height : goal.climb_parents-climbed-requires-clause-height
+climb_parents-climbed-requires-clause-height g c κs within = low_above (here g (goal.at.climb_parents-climbed-requires-clause-height g c).In-Ok) c.requires.height
 
 pub finish_level-requires : goal.finish_level-requires
 finish_level-requires g c =

@@ -41,12 +41,12 @@ free_drawn-requires g c =
     let w = c.requires.0 in
     let can = c.requires.1 in
     let down = refused_by c.args.settings.now w c.args.tree.now c.args.climbed _ c.in-Err.is can.ended in
-    refused_fresh can.worked down.same down.back c.undo_parents.ensures c.deref-in-Err.ensures.value
+    refused_fresh can.worked down.same down.back c.undo_parents.ensures c.deref.ensures.value
 
 pub returns-in-Err-clause-err : goal.returns-in-Err-clause-err
 returns-in-Err-clause-err g c = λ w can.
     let down = refused_by c.args.settings.now w c.args.tree.now c.args.climbed _ c.in-Err.is can.ended in
-    refused_back can.worked down.same down.back c.undo_parents.ensures c.deref-in-Err.ensures.value c.free_drawn.ensures (λ m n r o. c.drawn_pids_get_places_that_are_away.ensures.freed m n r o)
+    refused_back can.worked down.same down.back c.undo_parents.ensures c.deref.ensures.value c.free_drawn.ensures (λ m n r o. c.drawn_pids_get_places_that_are_away.ensures.freed m n r o)
 
 pub returns-in-Err-clause-high : goal.returns-in-Err-clause-high
 returns-in-Err-clause-high g c = λ w can too_high.
