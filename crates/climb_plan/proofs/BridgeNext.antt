@@ -23,7 +23,7 @@ use Rattle.split_plan.specs.Terms.{terms}
 use Rattle.split_plan.specs.WorkedLevel.{worked_parents, placed_of}
 use Rattle.split_plan.proofs.RunLaws.{names-worked_parents}
 use Rattle.split_plan.proofs.WorkedLaws.{tiled-worked_parents}
-use Rattle.climb_plan.specs.Changing.{SeenPage, shown, AreHome, Changing, changing, parents_of, changing_groups, changing_changes}
+use Rattle.climb_plan.specs.Changing.{SeenPage, page_seen, AreHome, Changing, changing_families, parents_of, changing_groups, changing_changes}
 use Rattle.climb_plan.specs.Climb.{families}
 use Rattle.climb_plan.specs.Installing.{parent_held, AreParentsHome}
 use Rattle.climb_plan.specs.Level.{parent_pids, IsLevel, next_tree}
@@ -99,7 +99,7 @@ module _ (before after : Mapping PageOfKind) where
 module _ {V : Type 0} (s : Settings) (of : Page V → PageOfKind) (t : TreeInMemory) (xs : List SeenPage) (ws : List (Worked V)) (ps : List (Placed ℕ)) (ups : List (List (Placed ℕ))) (used : List ℕ) (i : ℕ) where
   -- the parents of families that change
   abbrev pub changing_here : List (Changing V)
-  changing_here = changing ps ws
+  changing_here = changing_families ps ws
 
   -- how many new pages there are
   abbrev pub new_here : ℕ
@@ -118,7 +118,7 @@ module _ {V : Type 0} (s : Settings) (of : Page V → PageOfKind) (t : TreeInMem
 
   -- those that are seen
   abbrev pub seen_here : List SeenPage
-  seen_here = map (shown Index) (worked_parents s (parents_of changing_here) (map terms (changing_changes s used i changing_here)))
+  seen_here = map (page_seen Index) (worked_parents s (parents_of changing_here) (map terms (changing_changes s used i changing_here)))
 
   module _ (z : 0 < s.fan) (h : IsLevel of t xs (level_of ws (ps ∷ ups) used i)) where
     abbrev rooms : Mapping PageOfKind

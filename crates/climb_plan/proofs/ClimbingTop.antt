@@ -21,7 +21,7 @@ use Rattle.split_plan.proofs.ChangeLaws.{remade_begins}
 use Rattle.split_plan.proofs.PidLaws.{distinct_renewed}
 use Rattle.split_plan.proofs.Renewed.{Renewed}
 use Rattle.climb_plan.specs.Changing.{AreHome}
-use Rattle.climb_plan.specs.Climb.{climb, grown}
+use Rattle.climb_plan.specs.Climb.{climb, grown_levels}
 use Rattle.climb_plan.specs.HasClimbed.{HasClimbed}
 use Rattle.climb_plan.proofs.InstalledPages.{AreApart, turned, distinct_apart}
 use Rattle.climb_plan.proofs.Pids.{renewed-climb}
@@ -53,7 +53,7 @@ module _ {V : Type 0} (s : Settings) (used : List ℕ) (i : ℕ) (ws : List (Wor
   made_on_top = changes s used i (ws ∷ []) ∷ []
 
   abbrev pub grown_above : List (List (Placed ℕ))
-  grown_above = grown (length (all_new made_on_top)) s used (i + length (all_fresh made_on_top)) (all_new made_on_top)
+  grown_above = grown_levels (length (all_new made_on_top)) s used (i + length (all_fresh made_on_top)) (all_new made_on_top)
 
   module _ (one : Stacked (placed_of ws) []) (never : AllByRecursion (IsNeverUnused used) (all_pids (placed_of ws) [])) where
     one_page : length ws ≡ 1

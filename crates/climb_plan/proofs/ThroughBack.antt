@@ -19,7 +19,7 @@ use Rattle.page_runs.specs.Worked.{Worked}
 use Rattle.split_plan.proofs.PidLaws.{distinct_renewed}
 use Rattle.split_plan.specs.Change.{Change, changes, fresh_of}
 use Rattle.split_plan.specs.WorkedLevel.{placed_of}
-use Rattle.climb_plan.specs.Changing.{SeenPage, AreHome, Changing, changing, changing_groups, parents_of}
+use Rattle.climb_plan.specs.Changing.{SeenPage, AreHome, Changing, changing_families, changing_groups, parents_of}
 use Rattle.climb_plan.specs.Climb.{LevelPlan}
 use Rattle.climb_plan.specs.Installing.{AreAway, all_put, all_taken}
 use Rattle.climb_plan.specs.Level.{IsLevel, IsChanged, parent_pids, remade_of}
@@ -29,7 +29,7 @@ use Rattle.climb_plan.proofs.BridgeDrawn.{drawn_places}
 use Rattle.climb_plan.proofs.BridgeNext.{can_be_taken}
 use Rattle.climb_plan.proofs.BridgeTables.{AreDrawn, drawn_others}
 use Rattle.climb_plan.proofs.ChangedRooms.{shifted, given_back}
-use Rattle.climb_plan.proofs.InstallingLaws.{away-all_taken, put_back_is_before}
+use Rattle.climb_plan.proofs.InstallingLemmas.{away-all_taken, put_back_is_before}
 use Rattle.climb_plan.proofs.ThroughClimb.{children_here}
 use Rattle.climb_plan.proofs.ThroughGroups.{draw_all, fresh_numbers}
 use Rattle.climb_plan.proofs.ToldRuns.{all_told, terms_told}
@@ -58,10 +58,10 @@ home_pairs t (q ∷ qs) h = (h.0, home_pairs t qs h.1)
 module _ {V : Type 0} (s : Settings) (fan : 1 < s.fan) (of : Page V → PageOfKind) (t ready : TreeInMemory) (xs : List SeenPage) (ws : List (Worked V)) (ps : List (Placed ℕ)) (ups : List (List (Placed ℕ))) (used : List ℕ) (i : ℕ) (groups : List Remade) (parents : List IndexWorked)
     (h : IsLevel of t xs (level_of ws (ps ∷ ups) used i)) (c : IsChanged s of t ready (level_of ws ups used i) ps groups parents) where
   abbrev taken_here : List ℕ
-  taken_here = parent_pids (changing ps ws)
+  taken_here = parent_pids (changing_families ps ws)
 
   abbrev count_here : ℕ
-  count_here = length (fresh_of (changes s used i (changing_groups (changing ps ws))))
+  count_here = length (fresh_of (changes s used i (changing_groups (changing_families ps ws))))
 
   abbrev pub rooms_here : Mapping PageOfKind
   rooms_here = with_rooms t.table (fresh_pids (pids_in_use t.table) count_here)
@@ -72,7 +72,7 @@ module _ {V : Type 0} (s : Settings) (fan : 1 < s.fan) (of : Page V → PageOfKi
   taken_distinct : Distinct taken_here
   taken_distinct = let z : 0 < s.fan = omega arith in (can_be_taken s of t xs ws ps ups used i z h).1
 
-  parents_in_rooms : AreHome Index rooms_here (parents_of (changing ps ws))
+  parents_in_rooms : AreHome Index rooms_here (parents_of (changing_families ps ws))
   parents_in_rooms =
       let never : AllByRecursion (IsNeverUnused used) (pids ps) = (all_apart (IsNeverUnused used) (pids ps) (flat_map pids ups) (all_apart (IsNeverUnused used) (pids (placed_of ws)) (all_pids ps ups) h.old).1).0 in
       all_told (λ p. place_of rooms_here p.pid ≡ Some (Some (Index p.page))) (terms_told s used i ps ws) (each ps never h.home.0)
@@ -82,7 +82,7 @@ module _ {V : Type 0} (s : Settings) (fan : 1 < s.fan) (of : Page V → PageOfKi
       each (q ∷ qs) o k = (drawn_others t.table rooms_here count_here used i q.pid drawn_here h.drawn o.0 ∙ k.0, each qs o.1 k.1)
 
   held_keys : keys_of (held_pages parents) ≡ taken_here
-  held_keys = ap (λ (es : List (ℕ × PageOfKind)). keys_of es) c.held ∙ keys_parents (changing ps ws)
+  held_keys = ap (λ (es : List (ℕ × PageOfKind)). keys_of es) c.held ∙ keys_parents (changing_families ps ws)
 
   -- the parents are away
   pub parents_are_away : AreAway ready.table (map (λ d. d.held.pid) parents)
@@ -93,11 +93,11 @@ module _ {V : Type 0} (s : Settings) (fan : 1 < s.fan) (of : Page V → PageOfKi
   -- once they are back, the table has just the numbers that were drawn beside what it had
   pub parents_are_back : all_put ready.table (held_pages parents) ≡ rooms_here
   parents_are_back =
-      let es : List (ℕ × PageOfKind) = index_pages (parents_of (changing ps ws)) in
+      let es : List (ℕ × PageOfKind) = index_pages (parents_of (changing_families ps ws)) in
       ap (λ (u : TreeInMemory). all_put u.table (held_pages parents)) c.tree
       ∙ ap (λ (ds : List (ℕ × PageOfKind)). all_put (all_taken rooms_here taken_here) ds) c.held
-      ∙ ap (λ (ns : List ℕ). all_put (all_taken rooms_here ns) es) (sym (keys_parents (changing ps ws)))
-      ∙ put_back_is_before rooms_here es drawn_here.rising (subst (λ (ns : List ℕ). Distinct ns) (sym (keys_parents (changing ps ws))) taken_distinct) (home_pairs rooms_here (parents_of (changing ps ws)) parents_in_rooms)
+      ∙ ap (λ (ns : List ℕ). all_put (all_taken rooms_here ns) es) (sym (keys_parents (changing_families ps ws)))
+      ∙ put_back_is_before rooms_here es drawn_here.rising (subst (λ (ns : List ℕ). Distinct ns) (sym (keys_parents (changing_families ps ws))) taken_distinct) (home_pairs rooms_here (parents_of (changing_families ps ws)) parents_in_rooms)
 
   -- the numbers that were drawn
   fresh_each : (cs : List (Change V)) → flat_map (λ r. r.fresh) (map (remade_of of) cs) ≡ pids (fresh_of cs)
@@ -108,8 +108,8 @@ module _ {V : Type 0} (s : Settings) (fan : 1 < s.fan) (of : Page V → PageOfKi
   fresh_are_drawn =
       let e : i ≡ i + 0 = omega arith in
       ap (λ (rs : List Remade). flat_map (λ r. r.fresh) rs) c.groups
-      ∙ fresh_each (changes s used i (changing_groups (changing ps ws)))
-      ∙ fresh_numbers s used i (changing_groups (changing ps ws))
+      ∙ fresh_each (changes s used i (changing_groups (changing_families ps ws)))
+      ∙ fresh_numbers s used i (changing_groups (changing_families ps ws))
       ∙ sym (shifted used (pids_in_use t.table) i 0 i count_here e h.drawn)
 
   all_away : (ns : List ℕ) → AllByRecursion (λ n. is_among n (fresh_pids (pids_in_use t.table) count_here) ≡ true) ns → AllByRecursion (λ n. place_of rooms_here n ≡ Some None) ns
@@ -155,7 +155,7 @@ module _ {V : Type 0} {of : Page V → PageOfKind} {s : Settings} {w : Working} 
         → ((m : Mapping PageOfKind) (n : ℕ) → AreRisingPids (pids_in_use m) → IsOldWithoutPlace m → freed_all (with_rooms m (fresh_pids (pids_in_use m) n)) (fresh_pids (pids_in_use m) n) ≡ m) → after ≡ w.before
     refused_back {after = after} r law =
         let t : TreeInMemory = w.before in
-        let n : ℕ = length (fresh_of (changes s p.used p.from (changing_groups (changing l.1 p.worked)))) in
+        let n : ℕ = length (fresh_of (changes s p.used p.from (changing_groups (changing_families l.1 p.worked)))) in
         let ns : List ℕ = fresh_pids (pids_in_use t.table) n in
         let make : TreeInMemory → Mapping PageOfKind → TreeInMemory = λ u m. record u { table = m } in
         let roomy : back ≡ record t { table = with_rooms t.table ns } = put_back

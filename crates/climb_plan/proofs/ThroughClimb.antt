@@ -11,7 +11,7 @@ use Rattle.mapping.specs.TreeInMemory.{TreeInMemory}
 use Rattle.page_runs.specs.TermWork.{IndexWorked}
 use Rattle.page_runs.specs.Worked.{Worked}
 use Rattle.split_plan.specs.WorkedLevel.{placed_of}
-use Rattle.climb_plan.specs.Changing.{SeenPage, shown_parents, same, AreSeen, AreHome}
+use Rattle.climb_plan.specs.Changing.{SeenPage, parents_seen, same_page, AreSeen, AreHome}
 use Rattle.climb_plan.specs.Changing.AreSeen.{worked, at_home}
 use Rattle.climb_plan.specs.Climb.{LevelPlan, climb}
 use Rattle.climb_plan.specs.HasClimbed.{HasClimbed}
@@ -30,12 +30,12 @@ use Rattle.climb_plan.proofs.ThroughLevel.{seen_pids, ready_here, level_away, le
 -- ---- no page was touched
 
 module _ {V : Type 0} (of : Page V → PageOfKind) where
-  nothing_seen : (t : TreeInMemory) {xs : List SeenPage} {ws : List (Worked V)} → AreSeen of t.table xs ws → length xs ≡ 0 → (ws ≡ map same (placed_of ws)) × AreHome of t.table (placed_of ws)
+  nothing_seen : (t : TreeInMemory) {xs : List SeenPage} {ws : List (Worked V)} → AreSeen of t.table xs ws → length xs ≡ 0 → (ws ≡ map same_page (placed_of ws)) × AreHome of t.table (placed_of ws)
   nothing_seen t (AreSeen.none) e = (refl, tt)
   nothing_seen t (worked w p r) e = absurd (omega arith)
   nothing_seen t (at_home p q r) e =
       let rest = nothing_seen t r e in
-      (ap (λ (vs : List (Worked V)). same p ∷ vs) rest.0, (q, rest.1))
+      (ap (λ (vs : List (Worked V)). same_page p ∷ vs) rest.0, (q, rest.1))
 
   -- the levels are as they were
   pub nothing_climbs : (s : Settings) (t : TreeInMemory) (xs : List SeenPage) → length xs ≡ 0 → (ws : List (Worked V)) (ups : List (List (Placed ℕ))) (used : List ℕ) (i : ℕ) → IsLevel of t xs (level_of ws ups used i) → HasClimbed of t t (level_of ws ups used i) (climb s used i ws ups)
@@ -54,16 +54,6 @@ module _ {V : Type 0} (of : Page V → PageOfKind) where
   some_children t xs ys depth q d l =
       subst (λ (zs : List SeenPage). SomeChildren of t zs (depth - 1)) (sym q) (children_by t xs depth d l.0.worked l.0.above l.0.used l.0.from l.1 l.2)
 
-  -- the same level, so many levels below the root
-  pub level_at : (t : TreeInMemory) (xs : List SeenPage) (m n : ℕ) → m ≡ n → SomeLevel of t xs m → SomeLevel of t xs n
-  level_at t xs m n e l = (l.0, l.1, sym e ∙ l.2)
-
-  pub climbs_at : (s : Settings) (before after : TreeInMemory) (xs : List SeenPage) (m n : ℕ) → m ≡ n → ClimbsFrom of s before after xs n → ClimbsFrom of s before after xs m
-  climbs_at s before after xs m n e climbs l h f = climbs l h (sym e ∙ f)
-
-  pub high_at : (s : Settings) (t : TreeInMemory) (xs : List SeenPage) (m n : ℕ) → m ≡ n → IsTooHighFrom of s t xs n → IsTooHighFrom of s t xs m
-  high_at s t xs m n e high l h f = high l h (sym e ∙ f)
-
 -- ---- one level
 
 module _ {V : Type 0} {of : Page V → PageOfKind} {s : Settings} {w : Working} {xs : List SeenPage} {groups : List Remade} (k : IsWorkedOn of s w xs groups) where
@@ -75,17 +65,17 @@ module _ {V : Type 0} {of : Page V → PageOfKind} {s : Settings} {w : Working} 
     changed = k.works (level_of ws ups used i) ps h e
 
     -- the parents are the next level
-    next_above : IsLevel Index w.ready (shown_parents w.parents) (plan_above s used i ps ws ups)
+    next_above : IsLevel Index w.ready (parents_seen w.parents) (plan_above s used i ps ws ups)
     next_above =
         let z : 0 < s.fan = let f = k.fan in omega arith in
         let up : LevelPlan ℕ = plan_above s used i ps ws ups in
-        subst (λ (u : TreeInMemory). IsLevel Index u (shown_parents w.parents) up) (sym changed.tree) (subst (λ (ys : List SeenPage). IsLevel Index (ready_here s of w.before xs ws ps ups used i h) ys up) (sym changed.made) (next_level s of w.before xs ws ps ups used i z h))
+        subst (λ (u : TreeInMemory). IsLevel Index u (parents_seen w.parents) up) (sym changed.tree) (subst (λ (ys : List SeenPage). IsLevel Index (ready_here s of w.before xs ws ps ups used i h) ys up) (sym changed.made) (next_level s of w.before xs ws ps ups used i z h))
 
     same_height : w.ready.height ≡ w.before.height
     same_height = ap (λ (u : TreeInMemory). u.height) changed.tree
 
   -- as the climb above needs it
-  pub some_above : SomeLevel Index w.ready (shown_parents w.parents) (w.depth - 1)
+  pub some_above : SomeLevel Index w.ready (parents_seen w.parents) (w.depth - 1)
   some_above =
       let l = children_here in
       (plan_above s l.0.used l.0.from l.1 l.0.worked l.0.above, next_above l.0.worked l.1 l.0.above l.0.used l.0.from l.2 l.3, l.3)
@@ -96,7 +86,7 @@ module _ {V : Type 0} {of : Page V → PageOfKind} {s : Settings} {w : Working} 
       let e : w.ready.height ≡ w.before.height = same_height l.0.worked l.1 l.0.above l.0.used l.0.from l.2 l.3 in
       omega arith
 
-  module _ {above : TreeInMemory} (climbs : ClimbsFrom Index s w.ready above (shown_parents w.parents) (w.depth - 1)) where
+  module _ {above : TreeInMemory} (climbs : ClimbsFrom Index s w.ready above (parents_seen w.parents) (w.depth - 1)) where
     above_here : (ws : List (Worked V)) (ps : List (Placed ℕ)) (ups : List (List (Placed ℕ))) (used : List ℕ) (i : ℕ) (h : IsLevel of w.before xs (level_of ws (ps ∷ ups) used i)) → w.depth - 1 ≡ length ups → HasClimbed Index (ready_here s of w.before xs ws ps ups used i h) above (plan_above s used i ps ws ups) (climbed_above s used i ps ws ups)
     above_here ws ps ups used i h e =
         subst (λ (u : TreeInMemory). HasClimbed Index u above (plan_above s used i ps ws ups) (climbed_above s used i ps ws ups)) (changed ws ps ups used i h e).tree (climbs (plan_above s used i ps ws ups) (next_above ws ps ups used i h e) e)
@@ -135,7 +125,7 @@ module _ {V : Type 0} {of : Page V → PageOfKind} {s : Settings} {w : Working} 
         low_here low = subst (λ (n : ℕ). n ≤ 64) (sym (ap (λ (u : TreeInMemory). u.height) installed ∙ ap (λ (u : TreeInMemory). u.height) come)) low
 
   -- where the levels above would be too many, so would these
-  high_by : IsTooHighFrom Index s w.ready (shown_parents w.parents) (w.depth - 1) → (ws : List (Worked V)) (ups : List (List (Placed ℕ))) (used : List ℕ) (i : ℕ) → IsLevel of w.before xs (level_of ws ups used i) → w.depth ≡ length ups
+  high_by : IsTooHighFrom Index s w.ready (parents_seen w.parents) (w.depth - 1) → (ws : List (Worked V)) (ups : List (List (Placed ℕ))) (used : List ℕ) (i : ℕ) → IsLevel of w.before xs (level_of ws ups used i) → w.depth ≡ length ups
       → 64 + length ups < w.before.height + length (climb s used i ws ups).tower.above
   high_by f ws [] used i h e = absurd (k.deep e)
   high_by f ws (ps ∷ ups) used i h e =
@@ -146,7 +136,7 @@ module _ {V : Type 0} {of : Page V → PageOfKind} {s : Settings} {w : Working} 
       raised : (n a b m : ℕ) → 64 + n < a + m → a ≡ b → 64 + suc n < b + suc m
       raised n a b m l q = omega arith
 
-  pub high_here : IsTooHighFrom Index s w.ready (shown_parents w.parents) (w.depth - 1) → IsTooHighFrom of s w.before xs w.depth
+  pub high_here : IsTooHighFrom Index s w.ready (parents_seen w.parents) (w.depth - 1) → IsTooHighFrom of s w.before xs w.depth
   high_here f l h e = high_by f l.worked l.above l.used l.from h e
 
 -- a vector that is empty has no length
@@ -182,8 +172,8 @@ module _ {V D : Type 0} (of : Page V → PageOfKind) (f : D → SeenPage) where
 -- ---- what the climb of the parents told
 
 module _ {U A : Type 0} (s : Settings) (w : Working) (now : TreeInMemory) where
-  pub have_ended : (r : Result U (Refused × Vec IndexWorked A)) → OnOk r (ClimbsFrom Index s w.ready now (shown_parents w.parents) (w.depth - 1)) → OnOk r (now.height ≤ 64) → IfErr r (λ e. e.1.items ≡ w.parents) → OnErr r (now ≡ w.ready)
-      → IfErr r (λ e. e.0 ≡ TooHigh → IsTooHighFrom Index s w.ready (shown_parents w.parents) (w.depth - 1)) → HaveEnded s w now r
+  pub have_ended : (r : Result U (Refused × Vec IndexWorked A)) → OnOk r (ClimbsFrom Index s w.ready now (parents_seen w.parents) (w.depth - 1)) → OnOk r (now.height ≤ 64) → IfErr r (λ e. e.1.items ≡ w.parents) → OnErr r (now ≡ w.ready)
+      → IfErr r (λ e. e.0 ≡ TooHigh → IsTooHighFrom Index s w.ready (parents_seen w.parents) (w.depth - 1)) → HaveEnded s w now r
   have_ended (Ok done) climbs low back same high = record { climbs = climbs; low = low }
   have_ended (Err refused) climbs low back same high = record { same = same; back = back; high = high }
 

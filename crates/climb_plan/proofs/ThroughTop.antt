@@ -36,7 +36,7 @@ use Rattle.climb_plan.proofs.ClimbingTop.{made_on_top, grown_above, own_not_grow
 use Rattle.climb_plan.proofs.InstalledLevel.{HasLevel, installed-top}
 use Rattle.climb_plan.proofs.InstalledPages.{AreFreshFor, at_among}
 use Rattle.climb_plan.proofs.Installing.{distinct_first}
-use Rattle.climb_plan.proofs.InstallingLaws.{others-all_come_home, rising-all_come_home, logged-all_come_home}
+use Rattle.climb_plan.proofs.InstallingLemmas.{others-all_come_home, rising-all_come_home, logged-all_come_home}
 use Rattle.climb_plan.proofs.ThroughGroups.{fresh_numbers, groups_can_be_installed, groups_installed, groups_rising, groups_logged}
 use Rattle.climb_plan.proofs.ThroughLevel.{seen_pids, seen_distinct, seen_away, not_seen, home_back, pages_home, never_given, all_each}
 use Rattle.climb_plan.proofs.Installed.{IsInstalled, worked_pids, replaced_among}

@@ -20,11 +20,11 @@ pub record Climbed (V : Type 0) : Type 0 where
 
 -- the levels above pages that have no parent: their low keys and pids cut into index pages, until one page is left,
 -- where i fresh pids were given out before, and so many levels are enough
-abbrev pub grown : {V : Type 0} → ℕ → Settings → List ℕ → ℕ → List (Placed V) → List (List (Placed ℕ))
-grown zero s used i ps = []
-grown (suc enough) s used i ps =
+abbrev pub grown_levels : {V : Type 0} → ℕ → Settings → List ℕ → ℕ → List (Placed V) → List (List (Placed ℕ))
+grown_levels zero s used i ps = []
+grown_levels (suc enough) s used i ps =
     if nat_lt 1 (length ps)
-    then (let up : List (Placed ℕ) = fresh_pages used i (cut s.fan (names ps)) in up ∷ grown enough s used (i + length up) up)
+    then (let up : List (Placed ℕ) = fresh_pages used i (cut s.fan (names ps)) in up ∷ grown_levels enough s used (i + length up) up)
     else []
 
 -- the highest level: its page is a group by itself, and grows levels where it was cut
@@ -32,7 +32,7 @@ abbrev pub climbed_top : {V : Type 0} → Settings → List ℕ → ℕ → List
 climbed_top s used i ws =
     let css : List (List (Change _)) = changes s used i (ws ∷ []) ∷ [] in
     let top : List (Placed _) = all_new css in
-    record { tower = record { level = top; above = grown (length top) s used (i + length (all_fresh css)) top }; outdated = all_outdated css }
+    record { tower = record { level = top; above = grown_levels (length top) s used (i + length (all_fresh css)) top }; outdated = all_outdated css }
 
 -- a level of pages after their runs, and the levels above it as they were: each family is grouped and remade, its parent
 -- gets the terms, and so on upward
@@ -75,6 +75,6 @@ kept_under l [] = if is_lone l then [] else l ∷ []
 kept_under l (up ∷ ups) = l ∷ up ∷ ups
 
 -- the levels without those at the top whose one page has one child
-abbrev pub kept : List (List (Placed ℕ)) → List (List (Placed ℕ))
-kept [] = []
-kept (l ∷ ls) = kept_under l (kept ls)
+abbrev pub kept_levels : List (List (Placed ℕ)) → List (List (Placed ℕ))
+kept_levels [] = []
+kept_levels (l ∷ ls) = kept_under l (kept_levels ls)

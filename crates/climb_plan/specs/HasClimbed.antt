@@ -11,7 +11,7 @@ use Rattle.mapping.specs.Table.{pids_in_use, place_of}
 use Rattle.mapping.specs.TreeInMemory.{TreeInMemory}
 use Rattle.split_plan.specs.WorkedLevel.{placed_of}
 use Rattle.climb_plan.specs.Changing.{AreHome}
-use Rattle.climb_plan.specs.Climb.{Climbed, LevelPlan, kept}
+use Rattle.climb_plan.specs.Climb.{Climbed, LevelPlan, kept_levels}
 use Rattle.climb_plan.specs.Plan.{shrunk_pids}
 
 -- a level and the levels above it once a climb came through: its pages are at home, those that went have no place, and all
@@ -42,5 +42,5 @@ pub record HasShrunk {V : Type 0} (before after : TreeInMemory) (level : List (P
   pub others : (pid : ℕ) → is_among pid (shrunk_pids ls) ≡ false → place_of after.table pid ≡ place_of before.table pid
   pub rising : AreRisingPids (pids_in_use after.table)
   pub logged : after.table.logged ≡ outdate_all (shrunk_pids ls) before.table.logged
-  pub root : after.root ≡ top_pid level (kept ls)
-  pub height : after.height ≡ suc (length (kept ls))
+  pub root : after.root ≡ top_pid level (kept_levels ls)
+  pub height : after.height ≡ suc (length (kept_levels ls))

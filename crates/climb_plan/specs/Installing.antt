@@ -11,7 +11,7 @@ use Rattle.mapping.specs.Proper.{Distinct, AreRisingPids}
 use Rattle.mapping.specs.Table.{Mapping, pids_in_use, place_of, page_of, with_place, freed, freed_all, IsOldWithoutPlace, log_outdated}
 use Rattle.page_runs.specs.TermWork.{TermHeld}
 use Rattle.climb_plan.specs.Changing.{SeenPage}
-use Rattle.climb_plan.specs.Climb.{grown}
+use Rattle.climb_plan.specs.Climb.{grown_levels}
 use Rattle.mapping.specs.TreeInMemory.{TreeInMemory}
 use Rattle.climb_plan.specs.Rewriting.{Remade}
 
@@ -131,7 +131,7 @@ pub record AreGrown (before after : TreeInMemory) (ls : List (List (Placed ℕ))
 -- of pages of these names, and of the levels that grow above them where the table's next numbers are drawn for these, something holds
 abbrev pub OfGrown : Settings → Mapping PageOfKind → Names → (List (Placed ℕ) → List (List (Placed ℕ)) → Type 0) → Type 0
 OfGrown s t ns P =
-    (used : List ℕ) (from : ℕ) (ps : List (Placed ℕ)) → DrawsFrom t used from → names ps ≡ ns → P ps (grown (length ps) s used from ps)
+    (used : List ℕ) (from : ℕ) (ps : List (Placed ℕ)) → DrawsFrom t used from → names ps ≡ ns → P ps (grown_levels (length ps) s used from ps)
 
 -- the pid of the highest page and the number of levels, once these levels have grown above pages of which so many levels had the tree
 abbrev pub HasGrown : TreeInMemory → TreeInMemory → ℕ × ℕ → ℕ → List (Placed ℕ) → List (List (Placed ℕ)) → Type 0

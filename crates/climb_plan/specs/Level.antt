@@ -16,7 +16,7 @@ use Rattle.split_plan.specs.Change.{Change, is_rewritten, changes, fresh_of}
 use Rattle.split_plan.specs.Pieces.{joined_pages, pages_made, group_made, CanJoin}
 use Rattle.split_plan.specs.Terms.{terms}
 use Rattle.split_plan.specs.WorkedLevel.{worked_parents, placed_of}
-use Rattle.climb_plan.specs.Changing.{SeenPage, shown, shown_parents, AreSeen, AreHome, Changing, changing, parents_of, changing_groups, changing_changes}
+use Rattle.climb_plan.specs.Changing.{SeenPage, page_seen, parents_seen, AreSeen, AreHome, Changing, changing_families, parents_of, changing_groups, changing_changes}
 use Rattle.climb_plan.specs.Climb.{LevelPlan, climb_of}
 use Rattle.climb_plan.specs.Installing.{DrawsFrom, AreGrown, all_taken}
 use Rattle.climb_plan.specs.Rewriting.{Remade, cut_group, freed_names}
@@ -73,16 +73,16 @@ next_tree t n taken = record { table = drawn_and_taken t.table n taken; root = t
 
 -- the groups of a level under these parents that are rewritten, cut, with the parents and the names that are freed
 pub record IsCut {V : Type 0} (s : Settings) (of : Page V → PageOfKind) (l : LevelPlan V) (ps : List (Placed ℕ)) (parents : List (ℕ × ℕ)) (freed : List Names) (groups : List Remade) : Type 0 where
-  pub counts : parents ≡ group_counts (changing ps l.worked)
-  pub names : freed ≡ map freed_names (map (λ g. map (shown of) g) (changing_groups (changing ps l.worked)))
-  pub pieces : groups ≡ map (cut_group s) (map (λ g. map (shown of) g) (changing_groups (changing ps l.worked)))
+  pub counts : parents ≡ group_counts (changing_families ps l.worked)
+  pub names : freed ≡ map freed_names (map (λ g. map (page_seen of) g) (changing_groups (changing_families ps l.worked)))
+  pub pieces : groups ≡ map (cut_group s) (map (λ g. map (page_seen of) g) (changing_groups (changing_families ps l.worked)))
 
 -- what a level's groups and parents became, and the tree: numbers for new pieces were drawn, and the parents were taken
 pub record IsChanged {V : Type 0} (s : Settings) (of : Page V → PageOfKind) (before after : TreeInMemory) (l : LevelPlan V) (ps : List (Placed ℕ)) (remade : List Remade) (parents : List IndexWorked) : Type 0 where
-  pub groups : remade ≡ map (remade_of of) (changes s l.used l.from (changing_groups (changing ps l.worked)))
-  pub made : shown_parents parents ≡ map (shown Index) (worked_parents s (parents_of (changing ps l.worked)) (map terms (changing_changes s l.used l.from (changing ps l.worked))))
-  pub held : map {B = ℕ × PageOfKind} (λ d. (d.held.pid, d.held.page)) parents ≡ map {B = ℕ × PageOfKind} (λ p. (p.pid, Index p.page)) (parents_of (changing ps l.worked))
-  pub tree : after ≡ next_tree before (length (fresh_of (changes s l.used l.from (changing_groups (changing ps l.worked))))) (parent_pids (changing ps l.worked))
+  pub groups : remade ≡ map (remade_of of) (changes s l.used l.from (changing_groups (changing_families ps l.worked)))
+  pub made : parents_seen parents ≡ map (page_seen Index) (worked_parents s (parents_of (changing_families ps l.worked)) (map terms (changing_changes s l.used l.from (changing_families ps l.worked))))
+  pub held : map {B = ℕ × PageOfKind} (λ d. (d.held.pid, d.held.page)) parents ≡ map {B = ℕ × PageOfKind} (λ p. (p.pid, Index p.page)) (parents_of (changing_families ps l.worked))
+  pub tree : after ≡ next_tree before (length (fresh_of (changes s l.used l.from (changing_groups (changing_families ps l.worked))))) (parent_pids (changing_families ps l.worked))
 
 -- what the highest level becomes, which is a group by itself, with the levels that grow above it: the root's pid, the number of
 -- levels, and the tree in which numbers for new pieces were drawn, and these levels are at home

@@ -8,7 +8,7 @@ use Rattle.mapping.specs.Levels.{Placed}
 use Rattle.mapping.specs.Tree.{most_levels}
 use Rattle.mapping.specs.TreeInMemory.{TreeInMemory}
 use Rattle.page_runs.specs.TermWork.{IndexWorked}
-use Rattle.climb_plan.specs.Changing.{SeenPage, shown_parents}
+use Rattle.climb_plan.specs.Changing.{SeenPage, parents_seen}
 use Rattle.climb_plan.specs.Climb.{LevelPlan, under, alone, climb_of}
 use Rattle.climb_plan.specs.HasClimbed.{HasClimbed}
 use Rattle.climb_plan.specs.Level.{IsLevel, IsCut, IsChanged, IsTopChanged}
@@ -74,14 +74,14 @@ pub record IsWorkedOn {V : Type 0} (of : Page V → PageOfKind) (s : Settings) (
 
 -- its parents and the levels above them have climbed
 pub record HaveClimbed (s : Settings) (w : Working) (now : TreeInMemory) : Type 0 where
-  pub climbs : ClimbsFrom Index s w.ready now (shown_parents w.parents) (w.depth - 1)
+  pub climbs : ClimbsFrom Index s w.ready now (parents_seen w.parents) (w.depth - 1)
   pub low : now.height ≤ most_levels
 
 -- or they were refused
 pub record AreRefused (s : Settings) (w : Working) (now : TreeInMemory) (why : Refused) (given : List IndexWorked) : Type 0 where
   pub same : now ≡ w.ready
   pub back : given ≡ w.parents
-  pub high : why ≡ TooHigh → IsTooHighFrom Index s w.ready (shown_parents w.parents) (w.depth - 1)
+  pub high : why ≡ TooHigh → IsTooHighFrom Index s w.ready (parents_seen w.parents) (w.depth - 1)
 
 -- one of these, as the climb of the parents told
 abbrev pub HaveEnded : {U A : Type 0} → Settings → Working → TreeInMemory → Result U (Refused × Vec IndexWorked A) → Type 0

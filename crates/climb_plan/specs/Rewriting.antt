@@ -73,9 +73,9 @@ with_rewriting pid [] rs = rs
 with_rewriting pid (g ∷ gs) rs = record { parent = pid; groups = g ∷ gs } ∷ rs
 
 -- the parents of a level that have such groups, from left to right
-abbrev pub rewriting : List (Placed ℕ) → List SeenPage → List Rewriting
-rewriting [] all = []
-rewriting (p ∷ ps) all = with_rewriting p.pid (rewritten_groups (take (length (entries p)) all)) (rewriting ps (drop (length (entries p)) all))
+abbrev pub rewriting_families : List (Placed ℕ) → List SeenPage → List Rewriting
+rewriting_families [] all = []
+rewriting_families (p ∷ ps) all = with_rewriting p.pid (rewritten_groups (take (length (entries p)) all)) (rewriting_families ps (drop (length (entries p)) all))
 
 -- each such parent with how many of its groups are rewritten, and all these groups
 abbrev pub rewriting_counts : List Rewriting → List (ℕ × ℕ)
@@ -213,11 +213,11 @@ abbrev pub HaveSome : List Remade → Type 0
 HaveSome rs = AllByRecursion (λ r. 0 < length r.pieces) rs
 
 -- the numbers that are given to new pieces, from left to right, where i were given out before
-abbrev pub numbered : List ℕ → ℕ → List Remade → List Remade
-numbered used i [] = []
-numbered used i (r ∷ rs) =
+abbrev pub with_numbers : List ℕ → ℕ → List Remade → List Remade
+with_numbers used i [] = []
+with_numbers used i (r ∷ rs) =
     let n : ℕ = length r.pieces - 1 in
-    record { members = r.members; pieces = r.pieces; fresh = map (unused used) (range_with_len i n) } ∷ numbered used (i + n) rs
+    record { members = r.members; pieces = r.pieces; fresh = map (unused used) (range_with_len i n) } ∷ with_numbers used (i + n) rs
 
 -- how many they are
 abbrev pub numbers : List Remade → ℕ

@@ -5,7 +5,7 @@ ghost use Rattle.keys.specs.Order.{IsRising};
 ghost use Rattle.mapping.specs.Proper.{AreRisingPids};
 ghost use Rattle.mapping.specs.Table.{pids_in_use, with_rooms, fresh_pids, freed_all, IsOldWithoutPlace};
 ghost use Rattle.split_plan.specs.Pieces.{pages_lent};
-ghost use Rattle.climb_plan.specs.Rewriting.{seen_name, all_seen, groups_seen, all_names, cut_group, CanBeCut, joined_groups, freed_names, fresh_names, named_pages, HaveSome, numbered, numbers, terms_of, CanBeTold, terms_by_parent};
+ghost use Rattle.climb_plan.specs.Rewriting.{seen_name, all_seen, groups_seen, all_names, cut_group, CanBeCut, joined_groups, freed_names, fresh_names, named_pages, HaveSome, with_numbers, numbers, terms_of, CanBeTold, terms_by_parent};
 ghost use Rattle.climb_plan.specs.Installing.{AreAway, DrawsFrom};
 
 use crate::seen::Seen;
@@ -165,7 +165,7 @@ pub(crate) fn draw_all(tree: &mut Tree<Global>, all: &mut [Rewritten]) -> Result
     requires rising { AreRisingPids (pids_in_use tree.old.table) }
     requires logs { IsOldWithoutPlace tree.old.table }
     ensures numbers { OnOk result ((used : List ℕ) (from : ℕ) →
-        DrawsFrom tree.old.table used from → all.new ≡ numbered used from all.old) }
+        DrawsFrom tree.old.table used from → all.new ≡ with_numbers used from all.old) }
     ensures tree { OnOk result (tree.new ≡ record tree.old { table =
         with_rooms tree.old.table (fresh_pids (pids_in_use tree.old.table) (numbers all.old)) }) }
     ensures err { OnErr result (tree.new ≡ tree.old) }
@@ -186,7 +186,7 @@ fn draw_each(tree: &mut Tree<Global>, all: &mut [Rewritten]) -> usize
     requires rising { AreRisingPids (pids_in_use tree.old.table) }
     ensures within { result ≤ length all.old }
     ensures numbers { all.new ≡
-        numbered (pids_in_use tree.old.table) 0 (take result all.old) ++ drop result all.old }
+        with_numbers (pids_in_use tree.old.table) 0 (take result all.old) ++ drop result all.old }
     ensures tree { tree.new ≡ record tree.old { table = with_rooms tree.old.table
         (fresh_pids (pids_in_use tree.old.table) (numbers (take result all.old))) } }
 {
@@ -259,13 +259,13 @@ fn next_terms(
     ensures rest { OnOk result (all_names freed.new.items ≡
         drop (length own.now) (all_names freed.old.items)) }
 {
-    let gone = joined(alloc, freed, own.len())?;
+    let gone = next_names(alloc, freed, own.len())?;
     let come = new_names(alloc, own)?;
     terms(alloc, gone, come)
 }
 
 // The next so many lists of names, joined.
-fn joined(
+fn next_names(
     alloc: Global,
     lists: &mut VecDeque<Vec<Name>>,
     count: usize,

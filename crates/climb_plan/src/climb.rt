@@ -8,7 +8,7 @@ ghost use Rattle.keys.specs.declared.command.Command.{Command};
 ghost use Rattle.mapping.specs.Tree as definitions;
 ghost use Rattle.mapping.specs.Tree.{most_levels};
 ghost use Rattle.mapping.specs.TreeInMemory.{AreAllHome, tree_of};
-ghost use Rattle.climb_plan.specs.Changing.{shown_leaves, shown_parents};
+ghost use Rattle.climb_plan.specs.Changing.{leaves_seen, parents_seen};
 ghost use Rattle.climb_plan.specs.LevelSteps.{SomeLevel, ClimbsFrom, IsTooHighFrom, Working, CanEnd};
 ghost use Rattle.climb_plan.specs.Plan.{planned_tree};
 ghost use Rattle.climb_plan.specs.Ready.{IsReady};
@@ -17,7 +17,7 @@ use crate::change::{Rewritten, free_drawn};
 use crate::install::{install_all, put_home, undo_parents};
 use crate::level::{Changed, change_level};
 use crate::refused::Refused;
-use crate::seen::Revised;
+use crate::seen::WorkedPage;
 use crate::shrink::shrink;
 use crate::top::climb_root;
 use crew::{Crew, Gate};
@@ -45,16 +45,16 @@ pub fn climb(
 ) -> Result<(), (Refused, Vec<LeafDone>)>
     requires fan { 1 < settings.now.fan }
     requires ready { (t : definitions.Tree) × (cs : List (Command Global)) ×
-        IsReady settings.now t cs tree.old (shown_leaves leaves.items) }
+        IsReady settings.now t cs tree.old (leaves_seen leaves.items) }
     requires height { tree.old.height ≤ most_levels }
     ensures planned { OnOk result ((t : definitions.Tree) (cs : List (Command Global)) →
-        IsReady settings.now t cs tree.old (shown_leaves leaves.items) →
+        IsReady settings.now t cs tree.old (leaves_seen leaves.items) →
         AreAllHome tree.new × (tree_of tree.new ≡ planned_tree settings.now t cs)) }
     ensures low { OnOk result (tree.new.height ≤ most_levels) }
     ensures back { IfErr result (λ e. e.1.items ≡ leaves.items) }
     ensures err { OnErr result (tree.new ≡ tree.old) }
     ensures high { IfErr result (λ e. (t : definitions.Tree) (cs : List (Command Global)) →
-        IsReady settings.now t cs tree.old (shown_leaves leaves.items) → e.0 ≡ Refused.TooHigh →
+        IsReady settings.now t cs tree.old (leaves_seen leaves.items) → e.0 ≡ Refused.TooHigh →
         most_levels < (planned_tree settings.now t cs).height) }
 {
     let depth = tree.height() - 1;
@@ -76,15 +76,15 @@ fn climb_leaves(
     dones: Vec<LeafDone>,
 ) -> Result<(), (Refused, Vec<LeafDone>)>
     requires fan { 1 < settings.now.fan }
-    requires level { SomeLevel Leaf tree.old (shown_leaves dones.items) depth }
+    requires level { SomeLevel Leaf tree.old (leaves_seen dones.items) depth }
     requires height { tree.old.height ≤ most_levels }
     ensures climbed { OnOk result
-        (ClimbsFrom Leaf settings.now tree.old tree.new (shown_leaves dones.items) depth) }
+        (ClimbsFrom Leaf settings.now tree.old tree.new (leaves_seen dones.items) depth) }
     ensures low { OnOk result (tree.new.height ≤ most_levels) }
     ensures back { IfErr result (λ e. e.1.items ≡ dones.items) }
     ensures err { OnErr result (tree.new ≡ tree.old) }
     ensures high { IfErr result (λ e. e.0 ≡ Refused.TooHigh →
-        IsTooHighFrom Leaf settings.now tree.old (shown_leaves dones.items) depth) }
+        IsTooHighFrom Leaf settings.now tree.old (leaves_seen dones.items) depth) }
 {
     if dones.is_empty() {
         return Ok(());
@@ -114,15 +114,15 @@ fn climb_parents(
     dones: Vec<TermDone>,
 ) -> Result<(), (Refused, Vec<TermDone>)>
     requires fan { 1 < settings.now.fan }
-    requires level { SomeLevel Index tree.old (shown_parents dones.items) depth }
+    requires level { SomeLevel Index tree.old (parents_seen dones.items) depth }
     requires height { tree.old.height ≤ most_levels }
     ensures climbed { OnOk result
-        (ClimbsFrom Index settings.now tree.old tree.new (shown_parents dones.items) depth) }
+        (ClimbsFrom Index settings.now tree.old tree.new (parents_seen dones.items) depth) }
     ensures low { OnOk result (tree.new.height ≤ most_levels) }
     ensures back { IfErr result (λ e. e.1.items ≡ dones.items) }
     ensures err { OnErr result (tree.new ≡ tree.old) }
     ensures high { IfErr result (λ e. e.0 ≡ Refused.TooHigh →
-        IsTooHighFrom Index settings.now tree.old (shown_parents dones.items) depth) }
+        IsTooHighFrom Index settings.now tree.old (parents_seen dones.items) depth) }
 {
     if dones.is_empty() {
         return Ok(());
@@ -141,7 +141,7 @@ fn climb_parents(
 
 // Ends a level whose parents climbed, or were refused: its pages come home, and its groups are replaced; or what was done to its parents is
 // undone, and the numbers of its new pieces are given back, so that the tree is as it was before.
-fn finish_level<D: Revised>(
+fn finish_level<D: WorkedPage>(
     rt: &(impl Threads + Sync),
     crew: Crew,
     alloc: Global,
@@ -152,19 +152,19 @@ fn finish_level<D: Revised>(
     dones: Vec<D>,
 ) -> Result<(), (Refused, Vec<D>)>
     requires { (w : Working) ×
-        CanEnd D.of settings.now w tree.old (map D.seen dones.items) groups.items climbed }
+        CanEnd D.of settings.now w tree.old (map D.seen_page dones.items) groups.items climbed }
     ensures climbed { OnOk result ((w : Working) →
-        CanEnd D.of settings.now w tree.old (map D.seen dones.items) groups.items climbed →
-        ClimbsFrom D.of settings.now w.before tree.new (map D.seen dones.items) w.depth) }
+        CanEnd D.of settings.now w tree.old (map D.seen_page dones.items) groups.items climbed →
+        ClimbsFrom D.of settings.now w.before tree.new (map D.seen_page dones.items) w.depth) }
     ensures low { OnOk result (tree.new.height ≤ most_levels) }
     ensures back { IfErr result (λ e. e.1.items ≡ dones.items) }
     ensures err { OnErr result ((w : Working) →
-        CanEnd D.of settings.now w tree.old (map D.seen dones.items) groups.items climbed →
+        CanEnd D.of settings.now w tree.old (map D.seen_page dones.items) groups.items climbed →
         tree.new ≡ w.before) }
     ensures high { IfErr result (λ e. (w : Working) →
-        CanEnd D.of settings.now w tree.old (map D.seen dones.items) groups.items climbed →
+        CanEnd D.of settings.now w tree.old (map D.seen_page dones.items) groups.items climbed →
         e.0 ≡ Refused.TooHigh →
-        IsTooHighFrom D.of settings.now w.before (map D.seen dones.items) w.depth) }
+        IsTooHighFrom D.of settings.now w.before (map D.seen_page dones.items) w.depth) }
 {
     match climbed {
         Ok(()) => {

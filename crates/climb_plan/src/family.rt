@@ -8,7 +8,7 @@ ghost use Rattle.mapping.specs.Levels.{Placed};
 ghost use Rattle.mapping.specs.Table.{page_of};
 ghost use Rattle.page_runs.specs.declared.class.Class.TheVariants.{Same};
 ghost use Rattle.climb_plan.specs.Changing.{SeenPage};
-ghost use Rattle.climb_plan.specs.Rewriting.{seen_now, all_seen, groups_seen, AreSeenIn, AreParents, SomeLevelSeen, OfLevelSeen, IsQuiet, HasFirstCall, pids_for, AreParted, begins_at, IsNextChild, SomeFamily, OfFamily, rewriting, rewritten_groups, with_rewriting, rewriting_counts, groups_of, is_rewritten_seen};
+ghost use Rattle.climb_plan.specs.Rewriting.{seen_now, all_seen, groups_seen, AreSeenIn, AreParents, SomeLevelSeen, OfLevelSeen, IsQuiet, HasFirstCall, pids_for, AreParted, begins_at, IsNextChild, SomeFamily, OfFamily, rewriting_families, rewritten_groups, with_rewriting, rewriting_counts, groups_of, is_rewritten_seen};
 
 use crate::seen::Seen;
 use keys::{Pid, compare};
@@ -36,9 +36,9 @@ pub(crate) fn rewrites<'a>(
 ) -> Result<ToRewrite<'a>, AllocError>
     requires { SomeLevelSeen tree.now depth (all_seen seen.now) }
     ensures parents { IfOk result (λ r. OfLevelSeen tree.now depth (all_seen seen.now)
-        (λ all ps. r.parents.items ≡ rewriting_counts (rewriting ps all))) }
+        (λ all ps. r.parents.items ≡ rewriting_counts (rewriting_families ps all))) }
     ensures groups { IfOk result (λ r. OfLevelSeen tree.now depth (all_seen seen.now)
-        (λ all ps. groups_seen r.groups.items ≡ groups_of (rewriting ps all))) }
+        (λ all ps. groups_seen r.groups.items ≡ groups_of (rewriting_families ps all))) }
 {
     let mut rewrites = ToRewrite {
         parents: Vec::new(alloc),
@@ -167,9 +167,9 @@ fn next_child<'a>(
         (seen_now result ≡ x) × AreSeenIn tree.now.table (all_seen (drop next.new seen.now)) later }
 {
     if !has_low(seen, *next, low) {
-        return untouched(tree, pid);
+        return page_at_home(tree, pid);
     }
-    let child = seen[*next].copied();
+    let child = seen[*next].again();
     *next += 1;
     child
 }
@@ -199,7 +199,7 @@ fn count_below(seen: &[Seen<'_>], key: &[u8]) -> usize
 }
 
 // A page that got no run.
-fn untouched(tree: &Tree<Global>, pid: Pid) -> Seen<'_>
+fn page_at_home(tree: &Tree<Global>, pid: Pid) -> Seen<'_>
     requires { IsSome (page_of tree.now.table pid) }
     ensures page { page_of tree.now.table pid ≡ Some result.page.now }
     ensures rest { seen_now result ≡

@@ -9,7 +9,7 @@ ghost use Rattle.mapping.specs.Table.{page_of, place_of, with_place, log_outdate
 ghost use Rattle.climb_plan.specs.Installing.{all_taken, all_put, AreAway, AreParentsHome, parent_held, come_home, all_come_home, members_freed, put_under, group_installed, all_installed, CanInstall, CanInstallAll};
 
 use crate::change::Rewritten;
-use crate::seen::Revised;
+use crate::seen::WorkedPage;
 use crew::{Crew, Gate, Work, drop_all, run_round};
 use delta_chain::Run;
 use index_page::Page;
@@ -120,29 +120,29 @@ pub(crate) fn undo_parents(
 
 /// Puts the pages home after their runs. What is left of the leaves' work, those that were replaced among it, the crew drops, since
 /// that takes as long as to make new ones. It needs no memory: where there is none to keep that for the crew, it is dropped leaf by leaf.
-pub(crate) fn put_home<D: Revised>(
+pub(crate) fn put_home<D: WorkedPage>(
     rt: &(impl Threads + Sync),
     crew: Crew,
     alloc: Global,
     tree: &mut Tree<Global>,
     dones: Vec<D>,
 )
-    requires { AreAway tree.old.table (map (λ d. (D.seen d).pid) dones.items) }
+    requires { AreAway tree.old.table (map (λ d. (D.seen_page d).pid) dones.items) }
     ensures { tree.new ≡
-        record tree.old { table = all_come_home tree.old.table (map D.seen dones.items) } }
+        record tree.old { table = all_come_home tree.old.table (map D.seen_page dones.items) } }
 {
     drop_all(rt, crew, rests_once_home(alloc, tree, dones))
 }
 
 // Puts the pages home, and returns what is left of their work, as far as there is room for it.
-fn rests_once_home<D: Revised>(
+fn rests_once_home<D: WorkedPage>(
     alloc: Global,
     tree: &mut Tree<Global>,
     dones: Vec<D>,
 ) -> Vec<LeafRest>
-    requires { AreAway tree.old.table (map (λ d. (D.seen d).pid) dones.items) }
+    requires { AreAway tree.old.table (map (λ d. (D.seen_page d).pid) dones.items) }
     ensures { tree.new ≡
-        record tree.old { table = all_come_home tree.old.table (map D.seen dones.items) } }
+        record tree.old { table = all_come_home tree.old.table (map D.seen_page dones.items) } }
 {
     let mut rests = D::room_for_rests(alloc, dones.len());
     for done in dones {
@@ -162,11 +162,11 @@ fn keep_if_room<T: Drop>(items: &mut Vec<T>, item: Option<T>) {
 }
 
 // Puts the page home after its run, and returns what is left of its work. Where it was replaced, the log doesn't know it.
-fn come_home<D: Revised>(tree: &mut Tree<Global>, done: D) -> Option<LeafRest>
-    requires { place_of tree.old.table (D.seen done).pid ≡ Some None }
-    ensures { tree.new ≡ record tree.old { table = come_home tree.old.table (D.seen done) } }
+fn come_home<D: WorkedPage>(tree: &mut Tree<Global>, done: D) -> Option<LeafRest>
+    requires { place_of tree.old.table (D.seen_page done).pid ≡ Some None }
+    ensures { tree.new ≡ record tree.old { table = come_home tree.old.table (D.seen_page done) } }
 {
-    let seen = done.seen();
+    let seen = done.as_seen();
     let pid = seen.pid;
     if seen.replaced {
         tree.outdate(pid);

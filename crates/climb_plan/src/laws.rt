@@ -22,9 +22,9 @@ ghost use Rattle.split_plan.specs.WorkedLevel.{worked_parents};
 ghost use Rattle.split_plan.specs.Change.{Change, family_changes, all_fresh, IsOutdatedIn};
 ghost use Rattle.split_plan.specs.Terms.{terms};
 ghost use Rattle.climb_plan.specs.Limits.{AreShort};
-ghost use Rattle.climb_plan.specs.Climb.{families, climb, is_lone, kept};
+ghost use Rattle.climb_plan.specs.Climb.{families, climb, is_lone, kept_levels};
 ghost use Rattle.mapping.specs.Outdate.{outdate};
-ghost use Rattle.climb_plan.specs.Plan.{climbed, plan, outdated_pids, shrunk_pids};
+ghost use Rattle.climb_plan.specs.Plan.{batch_climb, plan, outdated_pids, shrunk_pids};
 
 use std::alloc::Allocator;
 
@@ -68,8 +68,8 @@ pub fn what_is_not_outdated_stands<A: Allocator>()
 pub fn outdated_pids_are_those_of_groups_and_of_the_old_root<A: Allocator, V>()
     ensures plan { (s : Settings) (t : Tree) (cs : List (Command A)) (pid : ℕ) →
         (is_among pid (outdated_pids s t cs) ≡ true) ↔
-        ((is_among pid (climbed s t cs).outdated ≡ true)
-        ⊎ (is_among pid (shrunk_pids (climbed s t cs).tower.above) ≡ true)) }
+        ((is_among pid (batch_climb s t cs).outdated ≡ true)
+        ⊎ (is_among pid (shrunk_pids (batch_climb s t cs).tower.above) ≡ true)) }
     ensures in_use { (s : Settings) (t : Tree) (cs : List (Command A)) (pid : ℕ) → IsProper s t →
         is_among pid (outdated_pids s t cs) ≡ true → is_among pid (keys_of t.pages) ≡ true }
     ensures top { (s : Settings) (used : List ℕ) (i : ℕ) (ws : List (Worked V)) (pid : ℕ) →
@@ -86,11 +86,11 @@ pub fn outdated_pids_are_those_of_groups_and_of_the_old_root<A: Allocator, V>()
 /// The root shrinks while it has one child: the levels that go are the highest, each of them is one page with one child,
 /// and the highest that stays is not one.
 pub fn the_root_shrinks_while_it_has_one_child()
-    ensures joined { (ls : List (List (Placed ℕ))) → kept ls ++ drop (length (kept ls)) ls ≡ ls }
+    ensures joined { (ls : List (List (Placed ℕ))) → kept_levels ls ++ drop (length (kept_levels ls)) ls ≡ ls }
     ensures lone { (ls : List (List (Placed ℕ))) →
-        AllByRecursion (λ l. is_lone l ≡ true) (drop (length (kept ls)) ls) }
+        AllByRecursion (λ l. is_lone l ≡ true) (drop (length (kept_levels ls)) ls) }
     ensures top { (ls lower : List (List (Placed ℕ))) (top : List (Placed ℕ)) →
-        kept ls ≡ lower ++ top ∷ [] → is_lone top ≡ false }
+        kept_levels ls ≡ lower ++ top ∷ [] → is_lone top ≡ false }
 {}
 
 /// Commands that come to nothing, a batch of gets among them, leave the store as it is: every page, the root, the height,

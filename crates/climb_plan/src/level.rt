@@ -10,7 +10,7 @@ ghost use Rattle.climb_plan.specs.Rewriting.{all_names, told_pids, terms_by_pare
 use crate::change::{Rewritten, all_freed, all_terms, cut_all, draw_all, free_drawn};
 use crate::family::rewrites;
 use crate::install::work_parents;
-use crate::seen::{Revised, see_all};
+use crate::seen::{WorkedPage, see_all};
 use crew::{Crew, Gate};
 use keys::{Pid, Settings};
 use mapping::Tree;
@@ -28,7 +28,7 @@ pub(crate) struct Changed {
 
 /// Cuts the groups of a level that are rewritten, draws the numbers of their new pieces, and works their parents, which are so many
 /// levels below the root. These of the level's pages were worked. Where memory is refused, the tree is as it was.
-pub(crate) fn change_level<D: Revised>(
+pub(crate) fn change_level<D: WorkedPage>(
     rt: &(impl Threads + Sync),
     crew: Crew,
     gate: &impl Gate,
@@ -39,9 +39,9 @@ pub(crate) fn change_level<D: Revised>(
     dones: &[D],
 ) -> Result<Changed, AllocError>
     requires fan { 1 < settings.now.fan }
-    requires level { SomeChildren D.of tree.old (map D.seen dones.now) depth }
+    requires level { SomeChildren D.of tree.old (map D.seen_page dones.now) depth }
     ensures changed { IfOk result (λ c. ChangesFrom D.of settings.now tree.old tree.new
-        (map D.seen dones.now) depth c.groups.items c.parents.items) }
+        (map D.seen_page dones.now) depth c.groups.items c.parents.items) }
     ensures err { OnErr result (tree.new ≡ tree.old) }
 {
     D::is_of_a_kind();
@@ -106,7 +106,7 @@ struct CutLevel {
 }
 
 // Cuts the groups of a level that are rewritten.
-fn cut_level<D: Revised>(
+fn cut_level<D: WorkedPage>(
     rt: &(impl Threads + Sync),
     crew: Crew,
     gate: &impl Gate,
@@ -117,9 +117,9 @@ fn cut_level<D: Revised>(
     dones: &[D],
 ) -> Result<CutLevel, AllocError>
     requires fan { 0 < settings.now.fan }
-    requires level { SomeChildren D.of tree.now (map D.seen dones.now) depth }
+    requires level { SomeChildren D.of tree.now (map D.seen_page dones.now) depth }
     ensures cut { IfOk result (λ cut. CutsFrom D.of settings.now tree.now
-        (map D.seen dones.now) depth
+        (map D.seen_page dones.now) depth
         cut.parents.items (all_names cut.freed.items) cut.groups.items) }
 {
     D::is_of_a_kind();

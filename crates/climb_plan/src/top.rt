@@ -14,7 +14,7 @@ use crate::change::{Rewritten, cut_all, draw_all, free_drawn};
 use crate::install::{install_all, put_home};
 use crate::refused::Refused;
 use crate::root::grow;
-use crate::seen::{Revised, Seen, see_all};
+use crate::seen::{WorkedPage, Seen, see_all};
 use crew::{Crew, Gate};
 use keys::{Key, Pid, Settings};
 use mapping::Tree;
@@ -25,7 +25,7 @@ use std::thread::Threads;
 
 /// Climbs from the root, which was worked and is the one page of this list: it is cut where it is fat, and levels grow above it. Where it
 /// is refused, the tree is as it was, and the page comes back as it was given.
-pub(crate) fn climb_root<D: Revised>(
+pub(crate) fn climb_root<D: WorkedPage>(
     rt: &(impl Threads + Sync),
     crew: Crew,
     gate: &impl Gate,
@@ -36,15 +36,15 @@ pub(crate) fn climb_root<D: Revised>(
 ) -> Result<(), (Refused, Vec<D>)>
     requires fan { 1 < settings.now.fan }
     requires some { 0 < length dones.items }
-    requires level { SomeLevel D.of tree.old (map D.seen dones.items) 0 }
+    requires level { SomeLevel D.of tree.old (map D.seen_page dones.items) 0 }
     requires height { tree.old.height ≤ most_levels }
     ensures climbed { OnOk result
-        (ClimbsFrom D.of settings.now tree.old tree.new (map D.seen dones.items) 0) }
+        (ClimbsFrom D.of settings.now tree.old tree.new (map D.seen_page dones.items) 0) }
     ensures low { OnOk result (tree.new.height ≤ most_levels) }
     ensures back { IfErr result (λ e. e.1.items ≡ dones.items) }
     ensures err { OnErr result (tree.new ≡ tree.old) }
     ensures high { IfErr result (λ e. e.0 ≡ Refused.TooHigh →
-        IsTooHighFrom D.of settings.now tree.old (map D.seen dones.items) 0) }
+        IsTooHighFrom D.of settings.now tree.old (map D.seen_page dones.items) 0) }
 {
     match change_root(rt, crew, gate, alloc, settings, tree, &dones) {
         Ok((groups, root, height)) => {
@@ -59,7 +59,7 @@ pub(crate) fn climb_root<D: Revised>(
 
 // Cuts the root where it is fat, draws the numbers of its new pieces, and grows levels above them: the group, if it is one, the new root and
 // the number of levels. Where it is refused, the tree is as it was.
-fn change_root<D: Revised>(
+fn change_root<D: WorkedPage>(
     rt: &(impl Threads + Sync),
     crew: Crew,
     gate: &impl Gate,
@@ -70,14 +70,14 @@ fn change_root<D: Revised>(
 ) -> Result<(Vec<Rewritten>, Pid, u32), Refused>
     requires fan { 1 < settings.now.fan }
     requires some { 0 < length dones.now }
-    requires level { SomeLevel D.of tree.old (map D.seen dones.now) 0 }
+    requires level { SomeLevel D.of tree.old (map D.seen_page dones.now) 0 }
     requires height { tree.old.height ≤ most_levels }
     ensures changed { IfOk result (λ r. TopChangesFrom D.of settings.now tree.old tree.new
-        (map D.seen dones.now) r.0.items r.1 r.2) }
+        (map D.seen_page dones.now) r.0.items r.1 r.2) }
     ensures low { IfOk result (λ r. r.2 ≤ most_levels) }
     ensures err { OnErr result (tree.new ≡ tree.old) }
     ensures high { IfErr result (λ e. e ≡ Refused.TooHigh →
-        IsTooHighFrom D.of settings.now tree.old (map D.seen dones.now) 0) }
+        IsTooHighFrom D.of settings.now tree.old (map D.seen_page dones.now) 0) }
 {
     D::is_of_a_kind();
     let mut groups = cut_root(rt, crew, gate, alloc, settings, dones)?;
@@ -92,7 +92,7 @@ fn change_root<D: Revised>(
 }
 
 // The root as a group by itself, cut, where it is fat.
-fn cut_root<D: Revised>(
+fn cut_root<D: WorkedPage>(
     rt: &(impl Threads + Sync),
     crew: Crew,
     gate: &impl Gate,
@@ -102,9 +102,9 @@ fn cut_root<D: Revised>(
 ) -> Result<Vec<Rewritten>, AllocError>
     requires fan { 0 < settings.now.fan }
     requires one { length dones.now ≡ 1 }
-    requires joined { CanBeCut (filter is_rewritten_seen (map D.seen dones.now ∷ [])) }
+    requires joined { CanBeCut (filter is_rewritten_seen (map D.seen_page dones.now ∷ [])) }
     ensures { IfOk result (λ groups. groups.items ≡
-        map (cut_group settings.now) (filter is_rewritten_seen (map D.seen dones.now ∷ []))) }
+        map (cut_group settings.now) (filter is_rewritten_seen (map D.seen_page dones.now ∷ []))) }
 {
     let seen = see_all(alloc, dones)?;
     let mut groups = Vec::new(alloc);

@@ -2,9 +2,9 @@
 use Rattle.std.proofs.Common.{◌≡◌, ℕ, ◌-◌, ◌<◌, length, arith}
 use Rattle.std.specs.Vec.{vec_len}
 use Rattle.index_page.specs.Page.PageOfKind.{Index}
-use Rattle.climb_plan.specs.Changing.{shown, shown_parents}
+use Rattle.climb_plan.specs.Changing.{page_seen, parents_seen}
 use Rattle.climb_plan.specs.LevelSteps.{Working, IsWorkedOn, CanEnd}
-use Rattle.climb_plan.proofs.ThroughClimb.{level_at, climbs_at, high_at, children_for, works_for, none_by, nothing_done, some_above, low_above, one_less, have_ended, ended_climbs, ended_back, ended_high}
+use Rattle.climb_plan.proofs.ThroughClimb.{children_for, works_for, none_by, nothing_done, some_above, low_above, one_less, have_ended, ended_climbs, ended_back, ended_high}
 use Rattle.climb_plan.proofs.climb.+climb_parents.Goals as goal
 use Rattle.climb_plan.proofs.climb.+climb_parents.Goals.{In-Ok}
 use Rattle.climb_plan.proofs.climb.+climb_parents.Given as given
@@ -14,12 +14,12 @@ abbrev working : (g : given.Over) (t : ℕ) (c : In-Ok g t) → Working
 working g t c = record { depth = c.args.depth; before = c.args.tree.now; ready = c.change_level.new.tree; parents = c.in-Ok.changed.parents.items }
 
 -- and what is known of it then
-here : (g : given.Over) (t : ℕ) (c : In-Ok g t) → IsWorkedOn Index c.args.settings.now (working g t c) (shown_parents c.args.dones.items) c.in-Ok.changed.groups.items
+here : (g : given.Over) (t : ℕ) (c : In-Ok g t) → IsWorkedOn Index c.args.settings.now (working g t c) (parents_seen c.args.dones.items) c.in-Ok.changed.groups.items
 here g t c = record {
   fan = c.requires.fan;
   deep = c.if-depth-eq0.false;
   level = c.requires.level;
-  works = works_for Index (λ d. shown Index d.made) c.args.dones.items c.deref.result.now (c.args.depth - 1) c.deref.ensures.value c.in-Ok.ensures.changed;
+  works = works_for Index (λ d. page_seen Index d.made) c.args.dones.items c.deref.result.now (c.args.depth - 1) c.deref.ensures.value c.in-Ok.ensures.changed;
 }
 
 pub returns-then-is_empty-clause-climbed : goal.returns-then-is_empty-clause-climbed
@@ -27,11 +27,11 @@ returns-then-is_empty-clause-climbed g t c =
     let zero : vec_len c.args.dones ≡ 0 = none_by c.is_empty.result (vec_len c.args.dones) c.is_empty.ensures c.if-is_empty.true in
     let ok = c.args.dones.ok in
     let empty : length c.args.dones.items ≡ 0 = omega arith in
-    nothing_done Index (λ d. shown Index d.made) c.args.settings.now c.args.tree.now c.args.dones.items c.args.depth empty
+    nothing_done Index (λ d. page_seen Index d.made) c.args.settings.now c.args.tree.now c.args.dones.items c.args.depth empty
 
 pub change_level-requires-clause-level : goal.change_level-requires-clause-level
 change_level-requires-clause-level g t c κs within =
-    children_for Index (λ d. shown Index d.made) c.args.tree.now c.args.dones.items c.deref.result.now c.args.depth c.deref.ensures.value c.if-depth-eq0.false c.requires.level
+    children_for Index (λ d. page_seen Index d.made) c.args.tree.now c.args.dones.items c.deref.result.now c.args.depth c.deref.ensures.value c.if-depth-eq0.false c.requires.level
 
 pub climb_parents-climbed-requires : goal.climb_parents-climbed-requires
 climb_parents-climbed-requires g t c = λ κs within.
@@ -44,7 +44,7 @@ pub finish_level-requires-after_bounds : goal.finish_level-requires-after_bounds
 finish_level-requires-after_bounds g t c κs within =
     let k = (goal.at.finish_level-requires-after_bounds g t c).In-Ok in
     let told = c.climb_parents-climbed.ensures in
-    let can : CanEnd Index c.args.settings.now (working g t k) c.climb_parents-climbed.new.tree (shown_parents c.args.dones.items) c.in-Ok.changed.groups.items c.climb_parents-climbed.result =
+    let can : CanEnd Index c.args.settings.now (working g t k) c.climb_parents-climbed.new.tree (parents_seen c.args.dones.items) c.in-Ok.changed.groups.items c.climb_parents-climbed.result =
     record { worked = here g t k; ended = have_ended c.args.settings.now (working g t k) c.climb_parents-climbed.new.tree c.climb_parents-climbed.result told.climbed told.low told.back told.err told.high } in
     (working g t k, can)
 
@@ -52,7 +52,7 @@ pub returns-clause-climbed : goal.returns-clause-climbed
 returns-clause-climbed g t c =
     let k = (goal.at.returns-clause-climbed g t c).In-Ok in
     let told = c.climb_parents-climbed.ensures in
-    let can : CanEnd Index c.args.settings.now (working g t k) c.climb_parents-climbed.new.tree (shown_parents c.args.dones.items) c.in-Ok.changed.groups.items c.climb_parents-climbed.result =
+    let can : CanEnd Index c.args.settings.now (working g t k) c.climb_parents-climbed.new.tree (parents_seen c.args.dones.items) c.in-Ok.changed.groups.items c.climb_parents-climbed.result =
     record { worked = here g t k; ended = have_ended c.args.settings.now (working g t k) c.climb_parents-climbed.new.tree c.climb_parents-climbed.result told.climbed told.low told.back told.err told.high } in
     ended_climbs can c.finish_level.new.tree c.finish_level.result c.finish_level.ensures.climbed
 
@@ -60,7 +60,7 @@ pub returns-clause-err : goal.returns-clause-err
 returns-clause-err g t c =
     let k = (goal.at.returns-clause-err g t c).In-Ok in
     let told = c.climb_parents-climbed.ensures in
-    let can : CanEnd Index c.args.settings.now (working g t k) c.climb_parents-climbed.new.tree (shown_parents c.args.dones.items) c.in-Ok.changed.groups.items c.climb_parents-climbed.result =
+    let can : CanEnd Index c.args.settings.now (working g t k) c.climb_parents-climbed.new.tree (parents_seen c.args.dones.items) c.in-Ok.changed.groups.items c.climb_parents-climbed.result =
     record { worked = here g t k; ended = have_ended c.args.settings.now (working g t k) c.climb_parents-climbed.new.tree c.climb_parents-climbed.result told.climbed told.low told.back told.err told.high } in
     ended_back can c.finish_level.new.tree c.finish_level.result c.finish_level.ensures.err
 
@@ -68,6 +68,6 @@ pub returns-clause-high : goal.returns-clause-high
 returns-clause-high g t c =
     let k = (goal.at.returns-clause-high g t c).In-Ok in
     let told = c.climb_parents-climbed.ensures in
-    let can : CanEnd Index c.args.settings.now (working g t k) c.climb_parents-climbed.new.tree (shown_parents c.args.dones.items) c.in-Ok.changed.groups.items c.climb_parents-climbed.result =
+    let can : CanEnd Index c.args.settings.now (working g t k) c.climb_parents-climbed.new.tree (parents_seen c.args.dones.items) c.in-Ok.changed.groups.items c.climb_parents-climbed.result =
     record { worked = here g t k; ended = have_ended c.args.settings.now (working g t k) c.climb_parents-climbed.new.tree c.climb_parents-climbed.result told.climbed told.low told.back told.err told.high } in
     ended_high can c.finish_level.new.tree c.finish_level.result c.finish_level.ensures.high

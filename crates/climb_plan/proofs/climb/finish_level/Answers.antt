@@ -8,7 +8,7 @@ put_home-requires g c =
     let w = c.requires.0 in
     let can = c.requires.1 in
     let up = climbed_by c.args.settings.now w c.args.tree.now c.args.climbed _ c.in-Ok.is can.ended in
-    (search, away_for g.D.Revised.seen c.args.tree.now c.args.dones.items (away_here can.worked up.climbs))
+    (search, away_for g.D.WorkedPage.seen_page c.args.tree.now c.args.dones.items (away_here can.worked up.climbs))
 
 pub install_all-requires : goal.install_all-requires
 install_all-requires g c =

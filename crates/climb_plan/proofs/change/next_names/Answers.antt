@@ -1,6 +1,6 @@
 use Rattle.std.proofs.Common.{map, ap}
 use Rattle.climb_plan.proofs.ChangedNames.{joined_more, behind_more}
-use Rattle.climb_plan.proofs.change.joined.Goals as goal
+use Rattle.climb_plan.proofs.change.next_names.Goals as goal
 
 pub loop-list-preserved : goal.loop-list-preserved
 loop-list-preserved c =

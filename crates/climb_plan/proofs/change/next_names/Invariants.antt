@@ -1,6 +1,6 @@
 use Rattle.std.proofs.Common.{◌≡◌, ◌-◌, ◌++◌, map, take, drop}
 use Rattle.keys.specs.Lists.{flat}
-use Rattle.climb_plan.proofs.change.joined.Given as goal
+use Rattle.climb_plan.proofs.change.next_names.Given as goal
 
 -- the names so far, and those of the lists that are still to come, are all of them; and what lies behind these stays
 abbrev pub invariant-loop-list : goal.invariant-loop-list
