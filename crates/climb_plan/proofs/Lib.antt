@@ -13,7 +13,6 @@ mod Standing
 mod Logs
 mod FreshOrder
 mod Untouched
-
 -- ---- levels: the families that change, and a level that has climbed
 pub mod LevelParts
 pub mod ChangingSeen
@@ -27,7 +26,6 @@ pub mod InstalledLevel
 pub mod Climbing
 pub mod ClimbingLevel
 pub mod ClimbingTop
-
 -- ---- the table: pages that are taken and put, numbers that are drawn and given back
 pub mod Installing
 pub mod InstallingLemmas
@@ -40,7 +38,6 @@ mod ChangedRooms
 mod Rooted
 mod OnlyChild
 mod Shrinking
-
 -- ---- the code: what it sees and makes is what the plan has
 mod RewritingSeen
 mod RewritingGroups
@@ -66,7 +63,6 @@ pub mod ThroughTop
 pub mod ThroughClimb
 pub mod ThroughBack
 mod Ready
-
 -- ---- the worked rows
 mod Literals
 mod LowRows

@@ -52,7 +52,8 @@ pub(crate) fn cut_all(
 ) -> Result<Vec<Rewritten>, AllocError>
     requires fan { 0 < settings.now.fan }
     requires joined { CanBeCut (groups_seen groups.now) }
-    ensures { IfOk result (λ all. all.items ≡ map (cut_group settings.now) (groups_seen groups.now)) }
+    ensures { IfOk result (λ all. all.items ≡
+        map (cut_group settings.now) (groups_seen groups.now)) }
 {
     let jobs = jobs_of(alloc, groups)?;
     let work = GroupWork::new(alloc, *settings);
@@ -166,8 +167,9 @@ pub(crate) fn draw_all(tree: &mut Tree<Global>, all: &mut [Rewritten]) -> Result
     requires logs { IsOldWithoutPlace tree.old.table }
     ensures numbers { OnOk result ((used : List ℕ) (from : ℕ) →
         DrawsFrom tree.old.table used from → all.new ≡ with_numbers used from all.old) }
-    ensures tree { OnOk result (tree.new ≡ record tree.old { table =
-        with_rooms tree.old.table (fresh_pids (pids_in_use tree.old.table) (numbers all.old)) }) }
+    ensures tree { OnOk result (tree.new ≡ record tree.old {
+      table = with_rooms tree.old.table (fresh_pids (pids_in_use tree.old.table) (numbers all.old));
+    }) }
     ensures err { OnErr result (tree.new ≡ tree.old) }
 {
     // What is drawn is away, and to free it gives the table back.
@@ -187,8 +189,10 @@ fn draw_each(tree: &mut Tree<Global>, all: &mut [Rewritten]) -> usize
     ensures within { result ≤ length all.old }
     ensures numbers { all.new ≡
         with_numbers (pids_in_use tree.old.table) 0 (take result all.old) ++ drop result all.old }
-    ensures tree { tree.new ≡ record tree.old { table = with_rooms tree.old.table
-        (fresh_pids (pids_in_use tree.old.table) (numbers (take result all.old))) } }
+    ensures tree { tree.new ≡ record tree.old {
+      table = with_rooms tree.old.table
+          (fresh_pids (pids_in_use tree.old.table) (numbers (take result all.old)));
+    } }
 {
     // The next that are drawn come behind those that were drawn before.
     drawn_pids_get_places_that_are_away::<Page<Global>>();
@@ -272,7 +276,8 @@ fn next_names(
 ) -> Result<Vec<Name>, AllocError>
     ensures names { IfOk result (λ names. names.items ≡
         flat (take count (all_names lists.old.items))) }
-    ensures rest { OnOk result (all_names lists.new.items ≡ drop count (all_names lists.old.items)) }
+    ensures rest { OnOk result (all_names lists.new.items ≡
+        drop count (all_names lists.old.items)) }
 {
     let mut names = Vec::new(alloc);
     for _list in 0..count {
@@ -360,10 +365,13 @@ impl Rewritten {
     // Draws the numbers of the new pieces. Where that is refused, nothing has changed.
     fn draw(&mut self, tree: &mut Tree<Global>) -> Result<(), AllocError>
         requires { 0 < length self.old.pieces }
-        ensures numbers { OnOk result (self.new ≡ record self.old { fresh =
-            fresh_pids (pids_in_use tree.old.table) (length self.old.pieces - 1) }) }
-        ensures tree { OnOk result (tree.new ≡ record tree.old { table = with_rooms tree.old.table
-            (fresh_pids (pids_in_use tree.old.table) (length self.old.pieces - 1)) }) }
+        ensures numbers { OnOk result (self.new ≡ record self.old {
+          fresh = fresh_pids (pids_in_use tree.old.table) (length self.old.pieces - 1);
+        }) }
+        ensures tree { OnOk result (tree.new ≡ record tree.old {
+          table = with_rooms tree.old.table
+              (fresh_pids (pids_in_use tree.old.table) (length self.old.pieces - 1));
+        }) }
         ensures kept { OnErr result (self.new ≡ self.old) }
         ensures tree_kept { OnErr result (tree.new ≡ tree.old) }
     {

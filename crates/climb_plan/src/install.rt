@@ -80,8 +80,9 @@ fn take_all(
 // Puts the pages of the jobs back into their places.
 fn put_back(tree: &mut Tree<Global>, jobs: Vec<TermJob>)
     requires { AreAway tree.old.table (map (λ j. j.pid) jobs.items) }
-    ensures { tree.new ≡ record tree.old { table =
-        all_put tree.old.table (map (λ j. (j.pid, j.page)) jobs.items) } }
+    ensures { tree.new ≡ record tree.old {
+      table = all_put tree.old.table (map (λ j. (j.pid, j.page)) jobs.items);
+    } }
 {
     for job in jobs {
         let TermJob {
@@ -101,8 +102,9 @@ pub(crate) fn undo_parents(
     parents: Vec<TermDone>,
 )
     requires { AreAway tree.old.table (map (λ d. d.held.pid) parents.items) }
-    ensures { tree.new ≡ record tree.old { table =
-        all_put tree.old.table (map (λ d. (d.held.pid, d.held.page)) parents.items) } }
+    ensures { tree.new ≡ record tree.old {
+      table = all_put tree.old.table (map (λ d. (d.held.pid, d.held.page)) parents.items);
+    } }
 {
     let work = TermWork {
         alloc,
@@ -205,8 +207,9 @@ fn install(tree: &mut Tree<Global>, group: Rewritten)
 // Puts the page into the place of another, which the log doesn't know then.
 fn replace(tree: &mut Tree<Global>, place: Pid, page: Page<Global>)
     requires { IsSome (page_of tree.old.table place) }
-    ensures { tree.new ≡ record tree.old { table =
-        with_place (log_outdated tree.old.table place) place (Some page) } }
+    ensures { tree.new ≡ record tree.old {
+      table = with_place (log_outdated tree.old.table place) place (Some page);
+    } }
 {
     let _before = tree.take(place);
     tree.outdate(place);

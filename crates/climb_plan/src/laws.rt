@@ -86,7 +86,8 @@ pub fn outdated_pids_are_those_of_groups_and_of_the_old_root<A: Allocator, V>()
 /// The root shrinks while it has one child: the levels that go are the highest, each of them is one page with one child,
 /// and the highest that stays is not one.
 pub fn the_root_shrinks_while_it_has_one_child()
-    ensures joined { (ls : List (List (Placed ℕ))) → kept_levels ls ++ drop (length (kept_levels ls)) ls ≡ ls }
+    ensures joined { (ls : List (List (Placed ℕ))) →
+        kept_levels ls ++ drop (length (kept_levels ls)) ls ≡ ls }
     ensures lone { (ls : List (List (Placed ℕ))) →
         AllByRecursion (λ l. is_lone l ≡ true) (drop (length (kept_levels ls)) ls) }
     ensures top { (ls lower : List (List (Placed ℕ))) (top : List (Placed ℕ)) →

@@ -86,8 +86,10 @@ fn tell_parents(
     ensures held { IfOk result (λ dones. map (λ d. d.held) dones.items ≡
         map (parent_held tree.old.table)
         (terms_by_parent parents.now (all_names freed.items) groups.now)) }
-    ensures taken { OnOk result (tree.new ≡ record tree.old { table = all_taken tree.old.table
-        (told_pids parents.now (all_names freed.items) groups.now) }) }
+    ensures taken { OnOk result (tree.new ≡ record tree.old {
+      table = all_taken tree.old.table
+          (told_pids parents.now (all_names freed.items) groups.now);
+    }) }
     ensures err { OnErr result (tree.new ≡ tree.old) }
 {
     let told = all_terms(alloc, parents, freed, groups)?;

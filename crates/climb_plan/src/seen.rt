@@ -149,7 +149,10 @@ impl WorkedPage for TermDone {
 }
 
 /// The pages, as their parents see them.
-pub(crate) fn see_all<D: WorkedPage>(alloc: Global, dones: &[D]) -> Result<Vec<Seen<'_>>, AllocError>
+pub(crate) fn see_all<D: WorkedPage>(
+    alloc: Global,
+    dones: &[D],
+) -> Result<Vec<Seen<'_>>, AllocError>
     ensures { IfOk result (λ all. all_seen all.items ≡ map D.seen_page dones.now) }
 {
     let mut all = Vec::with_capacity(alloc, dones.len())?;

@@ -32,8 +32,10 @@ fn lower_root(tree: &mut Tree<Global>, child: Pid)
     requires home { IsSome (page_of tree.old.table tree.old.root) }
     requires some { 1 < tree.old.height }
     ensures { tree.new ≡ record {
-        table = freed (with_place tree.old.table tree.old.root None) tree.old.root;
-        root = child; height = tree.old.height - 1 } }
+      table = freed (with_place tree.old.table tree.old.root None) tree.old.root;
+      root = child;
+      height = tree.old.height - 1;
+    } }
 {
     let root = tree.root();
     let _gone = tree.take(root);

@@ -14,7 +14,7 @@ use crate::change::{Rewritten, cut_all, draw_all, free_drawn};
 use crate::install::{install_all, put_home};
 use crate::refused::Refused;
 use crate::root::grow;
-use crate::seen::{WorkedPage, Seen, see_all};
+use crate::seen::{Seen, WorkedPage, see_all};
 use crew::{Crew, Gate};
 use keys::{Key, Pid, Settings};
 use mapping::Tree;

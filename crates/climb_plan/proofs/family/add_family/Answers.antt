@@ -16,11 +16,11 @@ returns-clause-parents c = λ f e k.
     let n : ℕ = c.len.result - c.len-before.result in
     let count : n ≡ length gs = omega (arith, c.len.ensures, c.len-before.ensures) in
     elim c.if-count-gt0.branch [
-      then-count-gt0+in_ok-push w ↦
-        let some = some_added f.parent.pid n gs count w.if-count-gt0.true in
-        let one : ℕ → List (ℕ × ℕ) = λ pid. (pid, n) ∷ [] in
-        rw w.rewrites-is (w.in_ok-push.ensures.items ∙ ap (λ (cs : List (ℕ × ℕ)). parents ++ cs) (ap one e ∙ sym some))
-    | else-count-gt0 w ↦
-        let none = none_added f.parent.pid n gs count (λ l. let h = w.if-count-gt0.false in omega arith) in
-        rw w.rewrites-is (sym (append-nil parents) ∙ ap (λ (cs : List (ℕ × ℕ)). parents ++ cs) (sym none))
+      | then-count-gt0+in_ok-push w ↦
+          let some = some_added f.parent.pid n gs count w.if-count-gt0.true in
+          let one : ℕ → List (ℕ × ℕ) = λ pid. (pid, n) ∷ [] in
+          rw w.rewrites-is (w.in_ok-push.ensures.items ∙ ap (λ (cs : List (ℕ × ℕ)). parents ++ cs) (ap one e ∙ sym some))
+      | else-count-gt0 w ↦
+          let none = none_added f.parent.pid n gs count (λ l. let h = w.if-count-gt0.false in omega arith) in
+          rw w.rewrites-is (sym (append-nil parents) ∙ ap (λ (cs : List (ℕ × ℕ)). parents ++ cs) (sym none))
     ]
