@@ -27,28 +27,29 @@ use Rattle.split_plan.specs.WorkedLevel.{worked_leaves, placed_of}
 use Rattle.split_plan.proofs.PidLaws.{distinct_renewed}
 use Rattle.split_plan.proofs.RunLaws.{names-worked_leaves}
 use Rattle.climb_plan.specs.Changing.{AreHome}
-use Rattle.climb_plan.specs.Climb.{Climbed, kept}
+use Rattle.climb_plan.specs.Climb.{Climbed, kept_levels}
 use Rattle.climb_plan.specs.HasClimbed.{HasClimbed, HasShrunk}
-use Rattle.climb_plan.specs.Plan.{climbed, planned_levels, planned_tree, shrunk_pids, outdated_pids}
+use Rattle.climb_plan.specs.Plan.{batch_climb, planned_levels, planned_tree, shrunk_pids, outdated_pids}
 use Rattle.climb_plan.proofs.ArrivedPages.{nothing_listed, each_listed, home_keys, holds-home}
 use Rattle.climb_plan.proofs.ChangingOutdated.{among-joined, outdate-joined, outdate-same}
 use Rattle.climb_plan.proofs.Climbing.{still_home, still_home_above}
 use Rattle.climb_plan.proofs.InstalledPages.{AreApart, distinct_apart, not_among_from}
-use Rattle.climb_plan.proofs.Kept.{all-kept, left, kept_and_left}
+use Rattle.climb_plan.proofs.Kept.{all-kept_levels, left, kept_and_left}
 use Rattle.climb_plan.proofs.Pids.{renewed-climb}
 use Rattle.climb_plan.proofs.Planned.{never_unused, planned_are_levels}
 use Rattle.climb_plan.proofs.Untouched.{levels_above, height_by, same_tree}
+use Rattle.climb_plan.proofs.LevelParts.{level_of}
 
 -- numbers among joined lists are among them the other way round, too
 among_turned : (n : ℕ) (ms ns : List ℕ) → is_among n (ms ++ ns) ≡ is_among n (ns ++ ms)
 among_turned n ms ns = among-joined n ms ns ∙ or_turned (is_among n ms) (is_among n ns) ∙ sym (among-joined n ns ms)
 
 -- the pids of all levels are those of the levels that are kept, and of the others
-kept_pids : {V : Type 0} (level : List (Placed V)) (ls : List (List (Placed ℕ))) → all_pids level ls ≡ all_pids level (kept ls) ++ shrunk_pids ls
+kept_pids : {V : Type 0} (level : List (Placed V)) (ls : List (List (Placed ℕ))) → all_pids level ls ≡ all_pids level (kept_levels ls) ++ shrunk_pids ls
 kept_pids level ls =
     ap (λ (x : List (List (Placed ℕ))). pids level ++ flat_map pids x) (sym (kept_and_left ls))
-    ∙ ap (λ (ns : List ℕ). pids level ++ ns) (flat_map-append pids (kept ls) (left ls))
-    ∙ sym (append_assoc (pids level) (flat_map pids (kept ls)) (flat_map pids (left ls)))
+    ∙ ap (λ (ns : List ℕ). pids level ++ ns) (flat_map-append pids (kept_levels ls) (left ls))
+    ∙ sym (append_assoc (pids level) (flat_map pids (kept_levels ls)) (flat_map pids (left ls)))
 
 -- ---- a page is at home
 
@@ -76,7 +77,7 @@ module _ {A : Type 0} (s : Settings) (t : Tree) (cs : List (Command A)) (fan : 1
   leaves_after = worked_leaves s (net_run (contents t) cs) (levels_of t).level
 
   abbrev whole : Climbed (List ℕ)
-  whole = climbed s t cs
+  whole = batch_climb s t cs
 
   abbrev whole_pids : List ℕ
   whole_pids = all_pids whole.tower.level whole.tower.above
@@ -117,7 +118,7 @@ module _ {A : Type 0} (s : Settings) (t : Tree) (cs : List (Command A)) (fan : 1
       let none : is_among n (all_pids l.level l.above) ≡ false = ap (λ (ns : List ℕ). is_among n ns) (sym same_after) ∙ h in
       false_from_ne_true (is_among n (keys_of t.pages)) (λ e. let a : is_among n (all_pids l.level l.above) ≡ true = holds_among (λ m. is_among m (all_pids l.level l.above) ≡ true) n (keys_of t.pages) proper.held.no_other e in absurd (cc))
 
-  module _ (start after : TreeInMemory) (in_use : pids_in_use start.table ≡ keys_of t.pages) (climbing : HasClimbed Leaf start after leaves_after (levels_of t).above (climbed s t cs)) where
+  module _ (start after : TreeInMemory) (in_use : pids_in_use start.table ≡ keys_of t.pages) (climbing : HasClimbed Leaf start after (level_of leaves_after (levels_of t).above (keys_of t.pages) 0) (batch_climb s t cs)) where
     none_by : (b : Bool) (n : ℕ) → is_among n (all_pids (placed_of leaves_after) (levels_of t).above) ≡ b → is_among n whole_pids ≡ false → place_of after.table n ≡ None
     none_by true n e h = climbing.gone n e h
     none_by false n e h =
@@ -135,7 +136,7 @@ module _ {A : Type 0} (s : Settings) (t : Tree) (cs : List (Command A)) (fan : 1
         let grows : after.height + length (levels_of t).above ≡ start.height + length whole.tower.above = climbing.height in
         omega arith
 
-    module _ (last : TreeInMemory) (shrinking : HasShrunk after last (climbed s t cs).tower.level (climbed s t cs).tower.above) where
+    module _ (last : TreeInMemory) (shrinking : HasShrunk after last (batch_climb s t cs).tower.level (batch_climb s t cs).tower.above) where
       kept_places : AllByRecursion (λ n. place_of last.table n ≡ place_of after.table n) planned_pids
       kept_places = all_weaker (λ n. is_among n planned_pids ≡ true) (λ n. place_of last.table n ≡ place_of after.table n) (λ n e. shrinking.others n (kept_apart n e)) planned_pids (all_among planned_pids)
 
@@ -146,7 +147,7 @@ module _ {A : Type 0} (s : Settings) (t : Tree) (cs : List (Command A)) (fan : 1
       leaves_home = still_home Leaf after.table last.table planned.level kept_parts.0 climbing.level
 
       above_home : AllByRecursion (AreHome Index last.table) planned.above
-      above_home = still_home_above after.table last.table planned.above kept_parts.1 (all-kept (AreHome Index after.table) whole.tower.above climbing.above)
+      above_home = still_home_above after.table last.table planned.above kept_parts.1 (all-kept_levels (AreHome Index after.table) whole.tower.above climbing.above)
 
       missing_by : (b : Bool) (n : ℕ) → is_among n (shrunk_pids whole.tower.above) ≡ b → is_among n planned_pids ≡ false → place_of last.table n ≡ None
       missing_by true n e h = shrinking.gone n e

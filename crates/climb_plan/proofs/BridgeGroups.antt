@@ -16,13 +16,13 @@ use Rattle.split_plan.specs.Groups.{groups}
 use Rattle.split_plan.proofs.GroupLaws.{groups-joined}
 use Rattle.split_plan.specs.Pieces.{joined_pages, CanJoin}
 use Rattle.split_plan.specs.WorkedLevel.{placed_of}
-use Rattle.climb_plan.specs.Changing.{SeenPage, shown, changing, changing_groups}
+use Rattle.climb_plan.specs.Changing.{SeenPage, page_seen, changing_families, changing_groups}
 use Rattle.climb_plan.specs.Climb.{families}
 use Rattle.climb_plan.specs.Level.{IsKind}
-use Rattle.climb_plan.specs.Rewriting.{rewriting, groups_of, CanBeCut}
-use Rattle.climb_plan.proofs.BridgePieces.{AreRewritten, pages_of_group, pages-shown, joined-bare_pages}
-use Rattle.climb_plan.proofs.BridgeSeen.{shown_groups, groups-shown}
-use Rattle.climb_plan.proofs.ChangingGroups.{all_groups, groups-changing}
+use Rattle.climb_plan.specs.Rewriting.{rewriting_families, groups_of, CanBeCut}
+use Rattle.climb_plan.proofs.BridgePieces.{AreRewritten, pages_of_group, pages-page_seen, joined-bare_pages}
+use Rattle.climb_plan.proofs.BridgeSeen.{shown_groups, groups-page_seen}
+use Rattle.climb_plan.proofs.ChangingGroups.{all_groups, groups-changing_families}
 use Rattle.climb_plan.proofs.Families.{families-joined}
 
 -- ---- groups that pass a test
@@ -73,16 +73,16 @@ module _ {V : Type 0} where
       flat_map-append (λ (g : List (Worked V)). g) (groups is_thin f) (all_groups fs) ∙ ap (λ (ws : List (Worked V)). ws ++ flat (all_groups fs)) (groups-joined is_thin f) ∙ ap (λ (ws : List (Worked V)). f ++ ws) (groups_joined_again fs)
 
   -- of a level of tiled pages, each group that is rewritten has entries that rise
-  pub changing_in_order : (ps : List (Placed ℕ)) (ws : List (Worked V)) (end : Option (List ℕ)) → Tiled (placed_of ws) end → joined ps ≡ names (placed_of ws) → AreInOrder (changing_groups (changing ps ws))
+  pub changing_in_order : (ps : List (Placed ℕ)) (ws : List (Worked V)) (end : Option (List ℕ)) → Tiled (placed_of ws) end → joined ps ≡ names (placed_of ws) → AreInOrder (changing_groups (changing_families ps ws))
   changing_in_order ps ws end h l =
       let gs : List (List (Worked V)) = all_groups (families ps ws) in
       let whole : flat gs ≡ ws = groups_joined_again (families ps ws) ∙ families-joined ps ws l in
       let tiled : Tiled (placed_of (flat gs)) end = subst (λ (vs : List (Worked V)). Tiled (placed_of vs) end) (sym whole) h in
-      subst (λ (hs : List (List (Worked V))). AreInOrder hs) (sym (groups-changing ps ws)) (rewritten_in_order gs end tiled)
+      subst (λ (hs : List (List (Worked V))). AreInOrder hs) (sym (groups-changing_families ps ws)) (rewritten_in_order gs end tiled)
 
   -- each of them is rewritten
-  pub changing_rewritten : (ps : List (Placed ℕ)) (ws : List (Worked V)) → AreRewritten (changing_groups (changing ps ws))
-  changing_rewritten ps ws = subst (λ (hs : List (List (Worked V))). AreRewritten hs) (sym (groups-changing ps ws)) (all_rewritten (all_groups (families ps ws)))
+  pub changing_rewritten : (ps : List (Placed ℕ)) (ws : List (Worked V)) → AreRewritten (changing_groups (changing_families ps ws))
+  changing_rewritten ps ws = subst (λ (hs : List (List (Worked V))). AreRewritten hs) (sym (groups-changing_families ps ws)) (all_rewritten (all_groups (families ps ws)))
 
   -- and so it is with the highest level, whose pages are one group
   pub top_in_order : (ws : List (Worked V)) (end : Option (List ℕ)) → Tiled (placed_of ws) end → AreInOrder (filter is_rewritten (ws ∷ []))
@@ -92,17 +92,17 @@ module _ {V : Type 0} where
 
 module _ {V : Type 0} (of : Page V → PageOfKind) where
   module _ (kind : IsKind of) where
-    cut_one : (g : List (Worked V)) → is_rewritten g ≡ true → IsInOrder g → CanJoin (map (λ x. x.page) (map (shown of) g))
+    cut_one : (g : List (Worked V)) → is_rewritten g ≡ true → IsInOrder g → CanJoin (map (λ x. x.page) (map (page_seen of) g))
     cut_one [] e h = absurd (cc)
     cut_one (w ∷ ws) e h =
         let rising : IsRising (joined_pages (pages_of_group (w ∷ ws))) = subst (λ (es : List (List ℕ × V)). IsRising es) (sym (joined-bare_pages (placed_of (w ∷ ws)))) h.rising in
-        subst (λ (ms : List PageOfKind). CanJoin ms) (sym (pages-shown of (w ∷ ws))) (kind.join w.placed.page (pages_of_group ws) rising)
+        subst (λ (ms : List PageOfKind). CanJoin ms) (sym (pages-page_seen of (w ∷ ws))) (kind.join w.placed.page (pages_of_group ws) rising)
 
     pub cut_each : (gs : List (List (Worked V))) → AreInOrder gs → CanBeCut (shown_groups of gs)
     cut_each [] h = tt
     cut_each (g ∷ gs) h = (cut_one g h.0.0 h.0.1, cut_each gs h.1)
 
     -- the groups that are rewritten can be cut
-    pub can_be_cut : (ps : List (Placed ℕ)) (ws : List (Worked V)) (end : Option (List ℕ)) → Tiled (placed_of ws) end → joined ps ≡ names (placed_of ws) → CanBeCut (groups_of (rewriting ps (map (shown of) ws)))
+    pub can_be_cut : (ps : List (Placed ℕ)) (ws : List (Worked V)) (end : Option (List ℕ)) → Tiled (placed_of ws) end → joined ps ≡ names (placed_of ws) → CanBeCut (groups_of (rewriting_families ps (map (page_seen of) ws)))
     can_be_cut ps ws end h l =
-        subst (λ (gs : List (List SeenPage)). CanBeCut gs) (sym (groups-shown of ps ws)) (cut_each (changing_groups (changing ps ws)) (changing_in_order ps ws end h l))
+        subst (λ (gs : List (List SeenPage)). CanBeCut gs) (sym (groups-page_seen of ps ws)) (cut_each (changing_groups (changing_families ps ws)) (changing_in_order ps ws end h l))

@@ -23,7 +23,7 @@ use Rattle.split_plan.specs.Terms.{terms}
 use Rattle.split_plan.specs.WorkedLevel.{worked_parents, placed_of}
 use Rattle.split_plan.proofs.RunLaws.{names-worked_parents}
 use Rattle.split_plan.proofs.WorkedLaws.{tiled-worked_parents}
-use Rattle.climb_plan.specs.Changing.{SeenPage, shown, AreHome, Changing, changing, parents_of, changing_groups, changing_changes}
+use Rattle.climb_plan.specs.Changing.{SeenPage, page_seen, AreHome, Changing, changing_families, parents_of, changing_groups, changing_changes}
 use Rattle.climb_plan.specs.Climb.{families}
 use Rattle.climb_plan.specs.Installing.{parent_held, AreParentsHome}
 use Rattle.climb_plan.specs.Level.{parent_pids, IsLevel, next_tree}
@@ -34,6 +34,7 @@ use Rattle.climb_plan.proofs.ChangingGroups.{alike_level, fresh-changing_changes
 use Rattle.climb_plan.proofs.Families.{parents_told}
 use Rattle.climb_plan.proofs.ToldRuns.{terms_told, length-runs, all_told, AreHomeBut, seen_after_runs}
 use Rattle.climb_plan.proofs.Told.{each_told}
+use Rattle.climb_plan.proofs.LevelParts.{level_of}
 
 -- ---- numbers that are distinct
 
@@ -98,7 +99,7 @@ module _ (before after : Mapping PageOfKind) where
 module _ {V : Type 0} (s : Settings) (of : Page V → PageOfKind) (t : TreeInMemory) (xs : List SeenPage) (ws : List (Worked V)) (ps : List (Placed ℕ)) (ups : List (List (Placed ℕ))) (used : List ℕ) (i : ℕ) where
   -- the parents of families that change
   abbrev pub changing_here : List (Changing V)
-  changing_here = changing ps ws
+  changing_here = changing_families ps ws
 
   -- how many new pages there are
   abbrev pub new_here : ℕ
@@ -117,9 +118,9 @@ module _ {V : Type 0} (s : Settings) (of : Page V → PageOfKind) (t : TreeInMem
 
   -- those that are seen
   abbrev pub seen_here : List SeenPage
-  seen_here = map (shown Index) (worked_parents s (parents_of changing_here) (map terms (changing_changes s used i changing_here)))
+  seen_here = map (page_seen Index) (worked_parents s (parents_of changing_here) (map terms (changing_changes s used i changing_here)))
 
-  module _ (z : 0 < s.fan) (h : IsLevel of t xs ws (ps ∷ ups) used i) where
+  module _ (z : 0 < s.fan) (h : IsLevel of t xs (level_of ws (ps ∷ ups) used i)) where
     abbrev rooms : Mapping PageOfKind
     rooms = with_rooms t.table (fresh_pids (pids_in_use t.table) new_here)
 
@@ -243,7 +244,7 @@ module _ {V : Type 0} (s : Settings) (of : Page V → PageOfKind) (t : TreeInMem
     -- ---- the next level
 
     -- the parents after their runs are the next level
-    pub next_level : IsLevel Index tree_here seen_here parents_here ups used (i + length (all_fresh (family_changes s used i (families ps ws))))
+    pub next_level : IsLevel Index tree_here seen_here (level_of parents_here ups used (i + length (all_fresh (family_changes s used i (families ps ws)))))
     next_level =
         let up : IsParentOf (placed_of ws) ps = h.stacked.0 in
         let named : names (placed_of parents_here) ≡ names ps = names-worked_parents s ps runs_here in

@@ -17,9 +17,9 @@ use Rattle.split_plan.specs.Cut.{cut}
 use Rattle.split_plan.proofs.CutLaws.{cut_some}
 use Rattle.split_plan.specs.Pieces.{pages_from, joined_pages, pages_made, group_made}
 use Rattle.split_plan.specs.WorkedLevel.{placed_of}
-use Rattle.climb_plan.specs.Changing.{shown}
+use Rattle.climb_plan.specs.Changing.{page_seen}
 use Rattle.climb_plan.specs.Level.{IsKind, remade_of}
-use Rattle.climb_plan.specs.Rewriting.{Remade, cut_group, HaveSome, numbered, numbers}
+use Rattle.climb_plan.specs.Rewriting.{Remade, cut_group, HaveSome, with_numbers, numbers}
 use Rattle.climb_plan.proofs.BridgeSeen.{shown_groups}
 
 -- ---- pages of pieces
@@ -71,13 +71,13 @@ module _ {V : Type 0} where
   pages_of_group g = bare_pages (placed_of g)
 
 module _ {V : Type 0} (of : Page V → PageOfKind) where
-  pub pages-shown : (g : List (Worked V)) → map (λ x. x.page) (map (shown of) g) ≡ map of (pages_of_group g)
-  pages-shown [] = refl
-  pages-shown (w ∷ ws) = ap (λ (ps : List PageOfKind). of w.placed.page ∷ ps) (pages-shown ws)
+  pub pages-page_seen : (g : List (Worked V)) → map (λ x. x.page) (map (page_seen of) g) ≡ map of (pages_of_group g)
+  pages-page_seen [] = refl
+  pages-page_seen (w ∷ ws) = ap (λ (ps : List PageOfKind). of w.placed.page ∷ ps) (pages-page_seen ws)
 
-  pids-shown : (g : List (Worked V)) → map (λ x. x.pid) (map (shown of) g) ≡ map (λ w. w.placed.pid) g
-  pids-shown [] = refl
-  pids-shown (w ∷ ws) = ap (λ (ns : List ℕ). w.placed.pid ∷ ns) (pids-shown ws)
+  pids-page_seen : (g : List (Worked V)) → map (λ x. x.pid) (map (page_seen of) g) ≡ map (λ w. w.placed.pid) g
+  pids-page_seen [] = refl
+  pids-page_seen (w ∷ ws) = ap (λ (ns : List ℕ). w.placed.pid ∷ ns) (pids-page_seen ws)
 
   -- the pages of a change, of their kind
   abbrev pub kept_pages : List (Placed V) → List PageOfKind
@@ -93,14 +93,14 @@ module _ {V : Type 0} (of : Page V → PageOfKind) where
   module _ (kind : IsKind of) (s : Settings) where
     -- the pieces of a group that is rewritten
     abbrev pub pieces_made : List (Worked V) → List PageOfKind
-    pieces_made g = group_made s (map (λ x. x.page) (map (shown of) g))
+    pieces_made g = group_made s (map (λ x. x.page) (map (page_seen of) g))
 
     pieces_by : (b : Bool) (used : List ℕ) (i : ℕ) (w : Worked V) (ws : List (Worked V)) → b ≡ true → pieces_made (w ∷ ws) ≡ kept_pages (remade_by b s used i w ws)
     pieces_by false used i w ws e = absurd (cc)
     pieces_by true used i w ws e =
         let g : List (Worked V) = w ∷ ws in
         let bs : List (List (List ℕ × V)) = cut s.fan (joined (placed_of g)) in
-        ap (λ (ps : List PageOfKind). group_made s (of w.placed.page ∷ ps)) (pages-shown ws)
+        ap (λ (ps : List PageOfKind). group_made s (of w.placed.page ∷ ps)) (pages-page_seen ws)
         ∙ kind.made s w.placed.page (pages_of_group ws)
         ∙ ap (λ (es : List (List ℕ × V)). map of (pages_from w.placed.page.low (cut s.fan es))) (joined-bare_pages (placed_of g))
         ∙ ap (λ (ps : List (Page V)). map of ps) (sym (pages-replacements used i w.placed bs))
@@ -123,29 +123,29 @@ module _ {V : Type 0} (of : Page V → PageOfKind) where
     fresh_here used i (w ∷ ws) e = fresh_by (is_rewritten (w ∷ ws)) used i w ws e
 
     -- groups, cut and with numbers for their new pieces, are the changes
-    pub numbered-shown : (used : List ℕ) (i : ℕ) (gs : List (List (Worked V))) → AreRewritten gs → numbered used i (map (cut_group s) (shown_groups of gs)) ≡ map (remade_of of) (changes s used i gs)
-    numbered-shown used i [] h = refl
-    numbered-shown used i (g ∷ gs) h =
+    pub with_numbers-page_seen : (used : List ℕ) (i : ℕ) (gs : List (List (Worked V))) → AreRewritten gs → with_numbers used i (map (cut_group s) (shown_groups of gs)) ≡ map (remade_of of) (changes s used i gs)
+    with_numbers-page_seen used i [] h = refl
+    with_numbers-page_seen used i (g ∷ gs) h =
         let n : ℕ = length (pieces_made g) - 1 in
         let new : List (Placed V) = remade s used i g in
         let count : n ≡ length (drop 1 new) = count_here used i g h.0 in
         let fresh : map (unused used) (range_with_len i n) ≡ pids (drop 1 new) = ap (λ (m : ℕ). map (unused used) (range_with_len i m)) count ∙ fresh_here used i g h.0 in
-        let members : map (λ x. x.pid) (map (shown of) g) ≡ map (λ w. w.placed.pid) g = pids-shown g in
-        let later : ℕ → List Remade = λ j. numbered used j (map (cut_group s) (shown_groups of gs)) in
+        let members : map (λ x. x.pid) (map (page_seen of) g) ≡ map (λ w. w.placed.pid) g = pids-page_seen g in
+        let later : ℕ → List Remade = λ j. with_numbers used j (map (cut_group s) (shown_groups of gs)) in
         ap (λ (ms : List ℕ). made_of ms (pieces_made g) (map (unused used) (range_with_len i n)) ∷ later (i + n)) members
         ∙ ap (λ (ps : List PageOfKind). made_of (map (λ w. w.placed.pid) g) ps (map (unused used) (range_with_len i n)) ∷ later (i + n)) (pieces_here used i g h.0)
         ∙ ap (λ (ns : List ℕ). made_of (map (λ w. w.placed.pid) g) (kept_pages new) ns ∷ later (i + n)) fresh
         ∙ ap (λ (m : ℕ). made_of (map (λ w. w.placed.pid) g) (kept_pages new) (pids (drop 1 new)) ∷ later (i + m)) count
-        ∙ ap (λ (rs : List Remade). made_of (map (λ w. w.placed.pid) g) (kept_pages new) (pids (drop 1 new)) ∷ rs) (numbered-shown used (i + length (drop 1 new)) gs h.1)
+        ∙ ap (λ (rs : List Remade). made_of (map (λ w. w.placed.pid) g) (kept_pages new) (pids (drop 1 new)) ∷ rs) (with_numbers-page_seen used (i + length (drop 1 new)) gs h.1)
 
     -- so many numbers are needed
-    pub numbers-shown : (used : List ℕ) (i : ℕ) (gs : List (List (Worked V))) → AreRewritten gs → numbers (map (cut_group s) (shown_groups of gs)) ≡ length (fresh_of (changes s used i gs))
-    numbers-shown used i [] h = refl
-    numbers-shown used i (g ∷ gs) h =
+    pub numbers-page_seen : (used : List ℕ) (i : ℕ) (gs : List (List (Worked V))) → AreRewritten gs → numbers (map (cut_group s) (shown_groups of gs)) ≡ length (fresh_of (changes s used i gs))
+    numbers-page_seen used i [] h = refl
+    numbers-page_seen used i (g ∷ gs) h =
         let here : List (Placed V) = drop 1 (remade s used i g) in
         let j : ℕ = i + length here in
         ap (λ (n : ℕ). n + numbers (map (cut_group s) (shown_groups of gs))) (count_here used i g h.0)
-        ∙ ap (λ (n : ℕ). length here + n) (numbers-shown used j gs h.1)
+        ∙ ap (λ (n : ℕ). length here + n) (numbers-page_seen used j gs h.1)
         ∙ sym (length-append here (fresh_of (changes s used j gs)))
 
     some_by : (b : Bool) (w : Worked V) (ws : List (Worked V)) → b ≡ true → 0 < length (remade_by b s [] 0 w ws)
@@ -162,9 +162,9 @@ module _ {V : Type 0} (of : Page V → PageOfKind) where
         subst (λ (n : ℕ). 0 < n) (sym count) (some_remade g e)
 
     -- each group has a piece
-    pub some-shown : (gs : List (List (Worked V))) → AreRewritten gs → HaveSome (map (cut_group s) (shown_groups of gs))
-    some-shown [] h = tt
-    some-shown (g ∷ gs) h = (some_piece g h.0, some-shown gs h.1)
+    pub some-page_seen : (gs : List (List (Worked V))) → AreRewritten gs → HaveSome (map (cut_group s) (shown_groups of gs))
+    some-page_seen [] h = tt
+    some-page_seen (g ∷ gs) h = (some_piece g h.0, some-page_seen gs h.1)
 
 -- ---- the kinds
 

@@ -20,10 +20,10 @@ use Rattle.split_plan.proofs.GroupLaws.{groups-joined}
 use Rattle.split_plan.specs.Terms.{freed_of, terms}
 use Rattle.split_plan.proofs.TermLaws.{names_apart, tiled_family_apart}
 use Rattle.split_plan.specs.WorkedLevel.{placed_of}
-use Rattle.climb_plan.specs.Changing.{SeenPage, shown, Changing, rewritten, with_changing, changing, changing_groups, changing_changes}
+use Rattle.climb_plan.specs.Changing.{SeenPage, page_seen, Changing, groups_to_rewrite, with_changing, changing_families, changing_groups, changing_changes}
 use Rattle.climb_plan.specs.Level.{IsKind, remade_of, parent_pids, group_counts}
 use Rattle.climb_plan.specs.Rewriting.{Remade, freed_names, named_pages, fresh_names, terms_of, CanBeTold, terms_by_parent}
-use Rattle.climb_plan.proofs.BridgeSeen.{shown_groups, names-shown}
+use Rattle.climb_plan.proofs.BridgeSeen.{shown_groups, names-page_seen}
 use Rattle.climb_plan.proofs.ChangingGroups.{flat-changing_changes, alike_rewritten}
 use Rattle.climb_plan.proofs.Told.{each_told}
 
@@ -84,7 +84,7 @@ module _ {V : Type 0} where
     pub freed : (i : ℕ) → IsRising (names (freed_of (changes s used i c.groups)))
     pub fresh : (i : ℕ) → IsRising (names (fresh_of (changes s used i c.groups)))
 
-  family_rises : (s : Settings) (used : List ℕ) (p : Placed ℕ) (f : List (Worked V)) (end : Option (List ℕ)) → 0 < s.fan → Tiled (placed_of f) end → (let c : Changing V = record { parent = p; groups = rewritten f } in HasRisingNames s used c)
+  family_rises : (s : Settings) (used : List ℕ) (p : Placed ℕ) (f : List (Worked V)) (end : Option (List ℕ)) → 0 < s.fan → Tiled (placed_of f) end → (let c : Changing V = record { parent = p; groups = groups_to_rewrite f } in HasRisingNames s used c)
   family_rises s used p f end z h =
       let gs : List (List (Worked V)) = groups is_thin f in
       let whole : Tiled (placed_of (flat gs)) end = subst (λ (ws : List (Worked V)). Tiled (placed_of ws) end) (sym (groups-joined is_thin f)) h in
@@ -98,7 +98,7 @@ module _ {V : Type 0} where
   rises_by [] s used p chs h k = k
   rises_by (g ∷ gs) s used p chs h k = (h, k)
 
-  pub changing_rises : (s : Settings) (used : List ℕ) (ps : List (Placed ℕ)) (ws : List (Worked V)) (end : Option (List ℕ)) → 0 < s.fan → Tiled (placed_of ws) end → joined ps ≡ names (placed_of ws) → AllByRecursion (HasRisingNames s used) (changing ps ws)
+  pub changing_rises : (s : Settings) (used : List ℕ) (ps : List (Placed ℕ)) (ws : List (Worked V)) (end : Option (List ℕ)) → 0 < s.fan → Tiled (placed_of ws) end → joined ps ≡ names (placed_of ws) → AllByRecursion (HasRisingNames s used) (changing_families ps ws)
   changing_rises s used [] ws end z h l = tt
   changing_rises s used (p ∷ ps) ws end z h l =
       let n : ℕ = length (entries p) in
@@ -106,7 +106,7 @@ module _ {V : Type 0} where
       let more : List (Worked V) = drop n ws in
       let r = names_apart (entries p) (joined ps) ws l in
       let a = tiled_family_apart n ws end h in
-      rises_by (rewritten f) s used p (changing ps more) (family_rises s used p f (next_low (placed_of more) end) z a.0) (changing_rises s used ps more end z a.1 r.1)
+      rises_by (groups_to_rewrite f) s used p (changing_families ps more) (family_rises s used p f (next_low (placed_of more) end) z a.0) (changing_rises s used ps more end z a.1 r.1)
 
 -- ---- the first so many
 
@@ -160,7 +160,7 @@ module _ {V : Type 0} (of : Page V → PageOfKind) where
 
   freed_in-append : (gs hs : List (List (Worked V))) → freed_in (gs ++ hs) ≡ freed_in gs ++ freed_in hs
   freed_in-append gs hs =
-      ap (λ (xs : List (List SeenPage)). map freed_names xs) (map-append (λ (g : List (Worked V)). map (shown of) g) gs hs) ∙ map-append freed_names (shown_groups of gs) (shown_groups of hs)
+      ap (λ (xs : List (List SeenPage)). map freed_names xs) (map-append (λ (g : List (Worked V)). map (page_seen of) g) gs hs) ∙ map-append freed_names (shown_groups of gs) (shown_groups of hs)
 
   length-freed_in : (gs : List (List (Worked V))) → length gs ≡ length (freed_in gs)
   length-freed_in [] = refl
@@ -170,9 +170,9 @@ module _ {V : Type 0} (of : Page V → PageOfKind) where
   length-made_in s used i gs = sym (length-changes s used i gs) ∙ sym (length-map (changes s used i gs) (remade_of of))
 
   module _ (kind : IsKind of) where
-    freed_here : (g : List (Worked V)) → freed_names (map (shown of) g) ≡ names (drop 1 (placed_of g))
+    freed_here : (g : List (Worked V)) → freed_names (map (page_seen of) g) ≡ names (drop 1 (placed_of g))
     freed_here [] = refl
-    freed_here (w ∷ ws) = names-shown of kind ws
+    freed_here (w ∷ ws) = names-page_seen of kind ws
 
     names_freed : (s : Settings) (used : List ℕ) (i : ℕ) (gs : List (List (Worked V))) → flat (freed_in gs) ≡ names (freed_of (changes s used i gs))
     names_freed s used i [] = refl
@@ -200,17 +200,17 @@ module _ {V : Type 0} (of : Page V → PageOfKind) where
         ∙ sym (names-append (drop 1 c.pages) (fresh_of cs))
 
     -- the terms of one parent
-    pub terms-shown : (s : Settings) (used : List ℕ) (i : ℕ) (gs : List (List (Worked V))) → terms_of (freed_in gs) (made_in (changes s used i gs)) ≡ terms (changes s used i gs)
-    terms-shown s used i gs =
+    pub terms-page_seen : (s : Settings) (used : List ℕ) (i : ℕ) (gs : List (List (Worked V))) → terms_of (freed_in gs) (made_in (changes s used i gs)) ≡ terms (changes s used i gs)
+    terms-page_seen s used i gs =
         let a = names_freed s used i gs in
         let b = names_fresh (changes s used i gs) in
         rw (a, b) refl
 
     -- what all parents are told
-    pub told-shown : (s : Settings) (used : List ℕ) (i : ℕ) (chs : List (Changing V))
+    pub told-page_seen : (s : Settings) (used : List ℕ) (i : ℕ) (chs : List (Changing V))
         → terms_by_parent (group_counts chs) (freed_in (changing_groups chs)) (made_in (changes s used i (changing_groups chs))) ≡ each_told (parent_pids chs) (map terms (changing_changes s used i chs))
-    told-shown s used i [] = refl
-    told-shown s used i (c ∷ chs) =
+    told-page_seen s used i [] = refl
+    told-page_seen s used i (c ∷ chs) =
         let gs : List (List (Worked V)) = c.groups in
         let cs : List (Change V) = changes s used i gs in
         let j : ℕ = i + length (fresh_of cs) in
@@ -222,8 +222,8 @@ module _ {V : Type 0} (of : Page V → PageOfKind) where
         ∙ ap (λ (rs : List Remade). terms_by_parent counts (freed_in (gs ++ more)) rs) (map-append (remade_of of) cs later)
         ∙ ap (λ (fs : List Names). terms_by_parent counts fs (made_in cs ++ made_in later)) (freed_in-append gs more)
         ∙ told_step c.parent.pid (length gs) (group_counts chs) (freed_in gs) (freed_in more) (made_in cs) (made_in later) (length-freed_in gs) (length-made_in s used i gs)
-        ∙ ap (λ (run : List (List ℕ × Option ℕ)). pair run ∷ terms_by_parent (group_counts chs) (freed_in more) (made_in later)) (terms-shown s used i gs)
-        ∙ ap (λ (rest : List (ℕ × List (List ℕ × Option ℕ))). pair (terms cs) ∷ rest) (told-shown s used j chs)
+        ∙ ap (λ (run : List (List ℕ × Option ℕ)). pair run ∷ terms_by_parent (group_counts chs) (freed_in more) (made_in later)) (terms-page_seen s used i gs)
+        ∙ ap (λ (rest : List (ℕ × List (List ℕ × Option ℕ))). pair (terms cs) ∷ rest) (told-page_seen s used j chs)
 
     told_each : (s : Settings) (used : List ℕ) (i : ℕ) (chs : List (Changing V)) → AllByRecursion (HasRisingNames s used) chs → CanBeTold (group_counts chs) (freed_in (changing_groups chs)) (made_in (changes s used i (changing_groups chs)))
     told_each s used i [] h = tt
@@ -243,5 +243,5 @@ module _ {V : Type 0} (of : Page V → PageOfKind) where
 
     -- the parents of a level can be told
     pub can_be_told : (s : Settings) (used : List ℕ) (i : ℕ) (ps : List (Placed ℕ)) (ws : List (Worked V)) (end : Option (List ℕ)) → 0 < s.fan → Tiled (placed_of ws) end → joined ps ≡ names (placed_of ws)
-        → CanBeTold (group_counts (changing ps ws)) (freed_in (changing_groups (changing ps ws))) (made_in (changes s used i (changing_groups (changing ps ws))))
-    can_be_told s used i ps ws end z h l = told_each s used i (changing ps ws) (changing_rises s used ps ws end z h l)
+        → CanBeTold (group_counts (changing_families ps ws)) (freed_in (changing_groups (changing_families ps ws))) (made_in (changes s used i (changing_groups (changing_families ps ws))))
+    can_be_told s used i ps ws end z h l = told_each s used i (changing_families ps ws) (changing_rises s used ps ws end z h l)

@@ -13,7 +13,7 @@ use Rattle.mapping.specs.Table.{Mapping, is_same_pid, pids_in_use, place_of, fre
 use Rattle.mapping.specs.TreeInMemory.{TreeInMemory}
 use Rattle.mapping.proofs.PidLaws.{all_among, unused-rises}
 use Rattle.mapping.proofs.TableLaws.{same_pid, differ}
-use Rattle.climb_plan.specs.Rewriting.{Remade, numbered, numbers}
+use Rattle.climb_plan.specs.Rewriting.{Remade, with_numbers, numbers}
 use Rattle.climb_plan.specs.Installing.{AreAway}
 
 -- ---- places that are freed
@@ -128,42 +128,42 @@ abbrev pub with_fresh : Remade → List ℕ → Remade
 with_fresh r pids = record { members = r.members; pieces = r.pieces; fresh = pids }
 
 -- the numbers of one more group come behind those of the others
-numbered-push : (used : List ℕ) (i j : ℕ) (rs : List Remade) (r : Remade) → j ≡ i + numbers rs → numbered used i (rs ++ r ∷ []) ≡ numbered used i rs ++ with_fresh r (map (unused used) (range_with_len j (length r.pieces - 1))) ∷ []
-numbered-push used i j [] r e =
+with_numbers-push : (used : List ℕ) (i j : ℕ) (rs : List Remade) (r : Remade) → j ≡ i + numbers rs → with_numbers used i (rs ++ r ∷ []) ≡ with_numbers used i rs ++ with_fresh r (map (unused used) (range_with_len j (length r.pieces - 1))) ∷ []
+with_numbers-push used i j [] r e =
     let x : i ≡ j = omega arith in
     ap (λ (m : ℕ). with_fresh r (map (unused used) (range_with_len m (length r.pieces - 1))) ∷ []) x
-numbered-push used i j (x ∷ xs) r e =
+with_numbers-push used i j (x ∷ xs) r e =
     let n : ℕ = length x.pieces - 1 in
-    ap (λ (rs : List Remade). with_fresh x (map (unused used) (range_with_len i n)) ∷ rs) (numbered-push used (i + n) j xs r (omega arith))
+    ap (λ (rs : List Remade). with_fresh x (map (unused used) (range_with_len i n)) ∷ rs) (with_numbers-push used (i + n) j xs r (omega arith))
 
 numbers-push : (rs : List Remade) (r : Remade) → numbers (rs ++ r ∷ []) ≡ numbers rs + (length r.pieces - 1)
 numbers-push [] r = omega arith
 numbers-push (x ∷ xs) r = let ih = numbers-push xs r in omega arith
 
-length-numbered : (used : List ℕ) (i : ℕ) (rs : List Remade) → length (numbered used i rs) ≡ length rs
-length-numbered used i [] = refl
-length-numbered used i (r ∷ rs) = ap (λ n. suc n) (length-numbered used (i + (length r.pieces - 1)) rs)
+length-with_numbers : (used : List ℕ) (i : ℕ) (rs : List Remade) → length (with_numbers used i rs) ≡ length rs
+length-with_numbers used i [] = refl
+length-with_numbers used i (r ∷ rs) = ap (λ n. suc n) (length-with_numbers used (i + (length r.pieces - 1)) rs)
 
 -- all these numbers, group by group
-fresh-numbered : (used : List ℕ) (i : ℕ) (rs : List Remade) → flat_map (λ r. r.fresh) (numbered used i rs) ≡ map (unused used) (range_with_len i (numbers rs))
-fresh-numbered used i [] = refl
-fresh-numbered used i (r ∷ rs) =
+fresh-with_numbers : (used : List ℕ) (i : ℕ) (rs : List Remade) → flat_map (λ r. r.fresh) (with_numbers used i rs) ≡ map (unused used) (range_with_len i (numbers rs))
+fresh-with_numbers used i [] = refl
+fresh-with_numbers used i (r ∷ rs) =
     let n : ℕ = length r.pieces - 1 in
-    ap (λ (ms : List ℕ). map (unused used) (range_with_len i n) ++ ms) (fresh-numbered used (i + n) rs) ∙ sym (range-append (unused used) i n (i + n) (numbers rs) refl)
+    ap (λ (ms : List ℕ). map (unused used) (range_with_len i n) ++ ms) (fresh-with_numbers used (i + n) rs) ∙ sym (range-append (unused used) i n (i + n) (numbers rs) refl)
 
 -- numbers that others would have behind theirs
-renumbered : (used later : List ℕ) (n i j : ℕ) (rs : List Remade) → j ≡ n + i → ((m : ℕ) → unused later m ≡ unused used (n + m)) → numbered later i rs ≡ numbered used j rs
+renumbered : (used later : List ℕ) (n i j : ℕ) (rs : List Remade) → j ≡ n + i → ((m : ℕ) → unused later m ≡ unused used (n + m)) → with_numbers later i rs ≡ with_numbers used j rs
 renumbered used later n i j [] e h = refl
 renumbered used later n i j (r ∷ rs) e h =
     let k : ℕ = length r.pieces - 1 in
-    ap (λ (pids : List ℕ). with_fresh r pids ∷ numbered later (i + k) rs) (shifted used later n i j k e h)
+    ap (λ (pids : List ℕ). with_fresh r pids ∷ with_numbers later (i + k) rs) (shifted used later n i j k e h)
     ∙ ap (λ (qs : List Remade). with_fresh r (map (unused used) (range_with_len j k)) ∷ qs) (renumbered used later n (i + k) (j + k) rs (omega arith) h)
 
 -- the groups before a place have their numbers
-module _ (used : List ℕ) (start all : List Remade) (at : ℕ) (r : Remade) (l : at < length start) (is : all ≡ numbered used 0 (take at start) ++ drop at start) (e : r ≡ get_or all at r) where
+module _ (used : List ℕ) (start all : List Remade) (at : ℕ) (r : Remade) (l : at < length start) (is : all ≡ with_numbers used 0 (take at start) ++ drop at start) (e : r ≡ get_or all at r) where
   -- those before it, with their numbers
   abbrev before : List Remade
-  before = numbered used 0 (take at start)
+  before = with_numbers used 0 (take at start)
 
   -- the group at the place, and those behind
   abbrev here : Remade
@@ -173,19 +173,19 @@ module _ (used : List ℕ) (start all : List Remade) (at : ℕ) (r : Remade) (l 
   split = is ∙ ap (λ (rs : List Remade). before ++ rs) (drop_more start at r l)
 
   count : length before ≡ at
-  count = length-numbered used 0 (take at start) ∙ length-take-le at start (omega arith)
+  count = length-with_numbers used 0 (take at start) ∙ length-take-le at start (omega arith)
 
   -- the one at the place is as it was
   untouched : r ≡ get_or start at r
   untouched = e ∙ ap (λ (rs : List Remade). get_or rs at r) split ∙ get_or_at before here (drop (at + 1) start) r at count
 
   -- it gets its numbers
-  pub one_numbered : (new : Remade) → new ≡ with_fresh r (map (unused used) (range_with_len (numbers (take at start)) (length r.pieces - 1))) → set all at new ≡ numbered used 0 (take (at + 1) start) ++ drop (at + 1) start
+  pub one_numbered : (new : Remade) → new ≡ with_fresh r (map (unused used) (range_with_len (numbers (take at start)) (length r.pieces - 1))) → set all at new ≡ with_numbers used 0 (take (at + 1) start) ++ drop (at + 1) start
   one_numbered new f =
       let n : ℕ = numbers (take at start) in
       let more : take at start ++ r ∷ [] ≡ take (at + 1) start = ap (λ (x : Remade). take at start ++ x ∷ []) untouched ∙ sym (take_more start at r l) in
-      let pushed : before ++ new ∷ [] ≡ numbered used 0 (take (at + 1) start) =
-      ap (λ (x : Remade). before ++ x ∷ []) f ∙ sym (numbered-push used 0 n (take at start) r (omega arith)) ∙ ap (numbered used 0) more in
+      let pushed : before ++ new ∷ [] ≡ with_numbers used 0 (take (at + 1) start) =
+      ap (λ (x : Remade). before ++ x ∷ []) f ∙ sym (with_numbers-push used 0 n (take at start) r (omega arith)) ∙ ap (with_numbers used 0) more in
       ap (λ (rs : List Remade). set rs at new) split
       ∙ set_at before here (drop (at + 1) start) new at count
       ∙ sym (append_assoc before (new ∷ []) (drop (at + 1) start))
@@ -209,20 +209,20 @@ distinct_range used i zero = tt
 distinct_range used i (suc n) = (apart_later used i (i + 1) n (omega arith), distinct_range used (i + 1) n)
 
 -- so many of the groups have their numbers
-module _ (used : List ℕ) (start all : List Remade) (n : ℕ) (l : n ≤ length start) (is : all ≡ numbered used 0 (take n start) ++ drop n start) where
-  taken : take n all ≡ numbered used 0 (take n start)
-  taken = ap (take n) is ∙ take_at (numbered used 0 (take n start)) (drop n start) n (length-numbered used 0 (take n start) ∙ length-take-le n start l)
+module _ (used : List ℕ) (start all : List Remade) (n : ℕ) (l : n ≤ length start) (is : all ≡ with_numbers used 0 (take n start) ++ drop n start) where
+  taken : take n all ≡ with_numbers used 0 (take n start)
+  taken = ap (take n) is ∙ take_at (with_numbers used 0 (take n start)) (drop n start) n (length-with_numbers used 0 (take n start) ∙ length-take-le n start l)
 
   pub drawn_numbers : flat_map (λ r. r.fresh) (take n all) ≡ fresh_pids used (numbers (take n start))
-  drawn_numbers = ap (λ (rs : List Remade). flat_map (λ r. r.fresh) rs) taken ∙ fresh-numbered used 0 (take n start)
+  drawn_numbers = ap (λ (rs : List Remade). flat_map (λ r. r.fresh) rs) taken ∙ fresh-with_numbers used 0 (take n start)
 
   -- all of them, and where they begin in other numbers
-  pub all_numbered : length start ≤ n → (others : List ℕ) (i : ℕ) → ((m : ℕ) → unused used m ≡ unused others (i + m)) → all ≡ numbered others i start
+  pub all_numbered : length start ≤ n → (others : List ℕ) (i : ℕ) → ((m : ℕ) → unused used m ≡ unused others (i + m)) → all ≡ with_numbers others i start
   all_numbered m others i h =
       is
-      ∙ ap (λ (rs : List Remade). numbered used 0 (take n start) ++ rs) (drop_all n start m)
-      ∙ append-nil (numbered used 0 (take n start))
-      ∙ ap (numbered used 0) (take_all n start m)
+      ∙ ap (λ (rs : List Remade). with_numbers used 0 (take n start) ++ rs) (drop_all n start m)
+      ∙ append-nil (with_numbers used 0 (take n start))
+      ∙ ap (with_numbers used 0) (take_all n start m)
       ∙ renumbered others used i 0 i start (omega arith) h
 
 -- the places of pids that were drawn are away

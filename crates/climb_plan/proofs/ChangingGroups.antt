@@ -13,7 +13,7 @@ use Rattle.split_plan.specs.Change.{Change, is_rewritten, remade, fresh, freed_b
 use Rattle.split_plan.specs.Terms.{freed_of, terms}
 use Rattle.split_plan.proofs.ChangeLaws.{remade_by}
 use Rattle.climb_plan.specs.Climb.{families}
-use Rattle.climb_plan.specs.Changing.{Changing, rewritten, with_changing, changing, changing_groups, changing_changes, all_freed}
+use Rattle.climb_plan.specs.Changing.{Changing, groups_to_rewrite, with_changing, changing_families, changing_groups, changing_changes, all_freed}
 
 -- ---- families in which nothing calls
 
@@ -118,13 +118,13 @@ module _ {V : Type 0} where
   joined-with_changing [] p chs = refl
   joined-with_changing (g ∷ gs) p chs = refl
 
-  pub groups-changing : (ps : List (Placed ℕ)) (ws : List (Worked V)) → changing_groups (changing ps ws) ≡ filter is_rewritten (all_groups (families ps ws))
-  groups-changing [] ws = refl
-  groups-changing (p ∷ ps) ws =
+  pub groups-changing_families : (ps : List (Placed ℕ)) (ws : List (Worked V)) → changing_groups (changing_families ps ws) ≡ filter is_rewritten (all_groups (families ps ws))
+  groups-changing_families [] ws = refl
+  groups-changing_families (p ∷ ps) ws =
       let f : List (Worked V) = take (length (entries p)) ws in
       let more : List (Worked V) = drop (length (entries p)) ws in
-      joined-with_changing (rewritten f) p (changing ps more)
-      ∙ ap (λ (gs : List (List (Worked V))). rewritten f ++ gs) (groups-changing ps more)
+      joined-with_changing (groups_to_rewrite f) p (changing_families ps more)
+      ∙ ap (λ (gs : List (List (Worked V))). groups_to_rewrite f ++ gs) (groups-changing_families ps more)
       ∙ sym (filter-joined is_rewritten (groups is_thin f) (all_groups (families ps more)))
 
   -- ---- what comes and what goes on a level
@@ -140,12 +140,12 @@ module _ {V : Type 0} where
     freed = flat_map-flat freed_by css ∙ a.freed ∙ sym (flat_map-flat freed_by dss);
   }
 
-  pub alike_level : (s : Settings) (used : List ℕ) (i : ℕ) (ps : List (Placed ℕ)) (ws : List (Worked V)) → AreAllAlike (family_changes s used i (families ps ws)) (changing_changes s used i (changing ps ws))
+  pub alike_level : (s : Settings) (used : List ℕ) (i : ℕ) (ps : List (Placed ℕ)) (ws : List (Worked V)) → AreAllAlike (family_changes s used i (families ps ws)) (changing_changes s used i (changing_families ps ws))
   alike_level s used i ps ws =
       let gs : List (List (Worked V)) = all_groups (families ps ws) in
       let css : List (List (Change V)) = family_changes s used i (families ps ws) in
-      let dss : List (List (Change V)) = changing_changes s used i (changing ps ws) in
-      let d : flat dss ≡ changes s used i (filter is_rewritten gs) = flat-changing_changes s used i (changing ps ws) ∙ ap (λ (hs : List (List (Worked V))). changes s used i hs) (groups-changing ps ws) in
+      let dss : List (List (Change V)) = changing_changes s used i (changing_families ps ws) in
+      let d : flat dss ≡ changes s used i (filter is_rewritten gs) = flat-changing_changes s used i (changing_families ps ws) ∙ ap (λ (hs : List (List (Worked V))). changes s used i hs) (groups-changing_families ps ws) in
       let a : AreAlike (flat css) (flat dss) =
       subst (λ (cs : List (Change V)). AreAlike cs (flat dss)) (sym (flat-family_changes s used i (families ps ws))) (subst (λ (ds : List (Change V)). AreAlike (changes s used i gs) ds) (sym d) (alike_rewritten s used i gs)) in
       alike_flat css dss a
@@ -155,5 +155,5 @@ module _ {V : Type 0} where
   fresh_on_top s used i ws = append-nil (fresh_of (changes s used i (ws ∷ []))) ∙ (alike_rewritten s used i (ws ∷ [])).fresh
 
   -- of a level under parents, as one list
-  pub fresh_on_level : (s : Settings) (used : List ℕ) (i : ℕ) (ps : List (Placed ℕ)) (ws : List (Worked V)) → all_fresh (family_changes s used i (families ps ws)) ≡ fresh_of (changes s used i (changing_groups (changing ps ws)))
-  fresh_on_level s used i ps ws = (alike_level s used i ps ws).fresh ∙ fresh-changing_changes s used i (changing ps ws)
+  pub fresh_on_level : (s : Settings) (used : List ℕ) (i : ℕ) (ps : List (Placed ℕ)) (ws : List (Worked V)) → all_fresh (family_changes s used i (families ps ws)) ≡ fresh_of (changes s used i (changing_groups (changing_families ps ws)))
+  fresh_on_level s used i ps ws = (alike_level s used i ps ws).fresh ∙ fresh-changing_changes s used i (changing_families ps ws)

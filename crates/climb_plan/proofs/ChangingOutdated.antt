@@ -18,8 +18,8 @@ use Rattle.split_plan.proofs.GroupLaws.{groups-joined}
 use Rattle.split_plan.specs.WorkedLevel.{placed_of}
 use Rattle.split_plan.specs.Change.{Change, is_rewritten, remade, fresh, changes, family_changes, outdated, all_outdated}
 use Rattle.climb_plan.specs.Climb.{families}
-use Rattle.climb_plan.specs.Changing.{changing, changing_groups}
-use Rattle.climb_plan.proofs.ChangingGroups.{flat_map-flat, filter-joined, all_groups, flat-family_changes, groups-changing}
+use Rattle.climb_plan.specs.Changing.{changing_families, changing_groups}
+use Rattle.climb_plan.proofs.ChangingGroups.{flat_map-flat, filter-joined, all_groups, flat-family_changes, groups-changing_families}
 use Rattle.climb_plan.proofs.Installed.{worked_pids, replaced_among}
 
 -- ---- numbers among others
@@ -110,7 +110,7 @@ module _ {V : Type 0} where
 
   -- of a level under parents: the pids of its pages that were replaced, and those of the groups that are rewritten
   pub outdated-level : (s : Settings) (used : List ℕ) (i : ℕ) (ps : List (Placed ℕ)) (ws : List (Worked V)) (n : ℕ) → flat (families ps ws) ≡ ws
-      → is_among n (all_outdated (family_changes s used i (families ps ws))) ≡ (is_among n (worked_pids (replaced_among ws)) || is_among n (worked_pids (flat (changing_groups (changing ps ws)))))
+      → is_among n (all_outdated (family_changes s used i (families ps ws))) ≡ (is_among n (worked_pids (replaced_among ws)) || is_among n (worked_pids (flat (changing_groups (changing_families ps ws)))))
   outdated-level s used i ps ws n e =
       let fs : List (List (Worked V)) = families ps ws in
       let gs : List (List (Worked V)) = all_groups fs in
@@ -121,7 +121,7 @@ module _ {V : Type 0} where
       ap (λ (ns : List ℕ). is_among n ns) one
       ∙ outdated-groups s used i gs n
       ∙ ap (λ (vs : List (Worked V)). all vs (filter is_rewritten gs)) members
-      ∙ ap (λ (hs : List (List (Worked V))). all ws hs) (sym (groups-changing ps ws))
+      ∙ ap (λ (hs : List (List (Worked V))). all ws hs) (sym (groups-changing_families ps ws))
 
   -- and of the highest level
   pub outdated-top : (s : Settings) (used : List ℕ) (i : ℕ) (ws : List (Worked V)) (n : ℕ)

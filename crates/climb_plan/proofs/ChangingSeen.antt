@@ -5,7 +5,7 @@ use Rattle.std.specs.List.{filter}
 use Rattle.index_page.specs.Page.{Page, PageOfKind}
 use Rattle.mapping.specs.Table.{Mapping}
 use Rattle.page_runs.specs.Worked.{Worked}
-use Rattle.climb_plan.specs.Changing.{SeenPage, shown, AreSeen}
+use Rattle.climb_plan.specs.Changing.{SeenPage, page_seen, AreSeen}
 use Rattle.climb_plan.specs.Changing.AreSeen.{worked, at_home}
 use Rattle.climb_plan.proofs.Installed.{worked_pids, replaced_among}
 
@@ -21,5 +21,5 @@ module _ {V : Type 0} where
   -- the pages that were replaced are among those that were seen
   pub seen_replaced : (of : Page V → PageOfKind) (t : Mapping PageOfKind) {xs : List SeenPage} {ws : List (Worked V)} → AreSeen of t xs ws → worked_pids (replaced_among ws) ≡ replaced_seen xs
   seen_replaced of t (AreSeen.none) = refl
-  seen_replaced of t (worked {xs = xs} {ws = ws} w e r) = replaced_by w.replaced (shown of w) w (filter (λ x. x.replaced) xs) (replaced_among ws) refl (seen_replaced of t r)
+  seen_replaced of t (worked {xs = xs} {ws = ws} w e r) = replaced_by w.replaced (page_seen of w) w (filter (λ x. x.replaced) xs) (replaced_among ws) refl (seen_replaced of t r)
   seen_replaced of t (at_home p e r) = seen_replaced of t r

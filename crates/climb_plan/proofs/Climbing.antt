@@ -18,7 +18,7 @@ use Rattle.mapping.proofs.PidLaws.{all_among, among_apart, among_either}
 use Rattle.page_runs.specs.Worked.{Worked}
 use Rattle.split_plan.specs.WorkedLevel.{placed_of}
 use Rattle.split_plan.specs.Change.{Change, fresh, new_of, fresh_of, all_new, all_fresh, all_outdated}
-use Rattle.climb_plan.specs.Changing.{AreHome, same}
+use Rattle.climb_plan.specs.Changing.{AreHome, same_page}
 use Rattle.climb_plan.specs.Climb.{Climbed, climb}
 use Rattle.climb_plan.specs.HasClimbed.{HasClimbed}
 use Rattle.climb_plan.proofs.ChangingOutdated.{worked_pids-placed}
@@ -26,19 +26,20 @@ use Rattle.climb_plan.proofs.InstalledLevel.{HasLevel}
 use Rattle.climb_plan.proofs.InstalledPages.{AreApart, not_among_from}
 use Rattle.climb_plan.proofs.Untouched.{as_they_were, climb_same, none_outdated}
 use Rattle.climb_plan.proofs.Installed.{worked_pids}
+use Rattle.climb_plan.proofs.LevelParts.{level_of}
 
 module _ {V : Type 0} where
   -- ---- nothing is touched
 
-  pub placed_same : (ps : List (Placed V)) → placed_of (map same ps) ≡ ps
+  pub placed_same : (ps : List (Placed V)) → placed_of (map same_page ps) ≡ ps
   placed_same [] = refl
   placed_same (p ∷ ps) = ap (λ (qs : List (Placed V)). p ∷ qs) (placed_same ps)
 
-  stays_there : (of : Page V → PageOfKind) (t : TreeInMemory) (ps : List (Placed V)) (ups : List (List (Placed ℕ)))
+  stays_there : (used : List ℕ) (i : ℕ) (of : Page V → PageOfKind) (t : TreeInMemory) (ps : List (Placed V)) (ups : List (List (Placed ℕ)))
       → AreHome of t.table ps → AllByRecursion (AreHome Index t.table) ups → AreRisingPids (pids_in_use t.table) → t.root ≡ top_pid ps ups
-      → HasClimbed of t t (map same ps) ups (as_they_were ps ups)
-  stays_there of t ps ups h k r e =
-      let olds : all_pids (placed_of (map same ps)) ups ≡ all_pids ps ups = ap (λ (qs : List (Placed V)). all_pids qs ups) (placed_same ps) in
+      → HasClimbed of t t (level_of (map same_page ps) ups used i) (as_they_were ps ups)
+  stays_there used i of t ps ups h k r e =
+      let olds : all_pids (placed_of (map same_page ps)) ups ≡ all_pids ps ups = ap (λ (qs : List (Placed V)). all_pids qs ups) (placed_same ps) in
       record {
         level = h;
         above = k;
@@ -53,9 +54,9 @@ module _ {V : Type 0} where
   -- levels none of whose pages got a run are as they were
   pub untouched-climbed : (s : Settings) (used : List ℕ) (i : ℕ) (of : Page V → PageOfKind) (t : TreeInMemory) (ps : List (Placed V)) (ups : List (List (Placed ℕ)))
       → Stacked ps ups → AreHome of t.table ps → AllByRecursion (AreHome Index t.table) ups → AreRisingPids (pids_in_use t.table) → t.root ≡ top_pid ps ups
-      → HasClimbed of t t (map same ps) ups (climb s used i (map same ps) ups)
+      → HasClimbed of t t (level_of (map same_page ps) ups used i) (climb s used i (map same_page ps) ups)
   untouched-climbed s used i of t ps ups o h k r e =
-      subst (λ (c : Climbed V). HasClimbed of t t (map same ps) ups c) (sym (climb_same s used i ps ups o)) (stays_there of t ps ups h k r e)
+      subst (λ (c : Climbed V). HasClimbed of t t (level_of (map same_page ps) ups used i) c) (sym (climb_same s used i ps ups o)) (stays_there used i of t ps ups h k r e)
 
 module _ {V : Type 0} where
   -- ---- the pids of fresh pages are among those of the new ones

@@ -23,13 +23,14 @@ use Rattle.split_plan.proofs.PidLaws.{distinct_renewed, recast, renewed-append, 
 use Rattle.split_plan.proofs.Renewed.{Renewed}
 use Rattle.split_plan.proofs.Renewed.Renewed.{done, keep}
 use Rattle.split_plan.proofs.RunLaws.{names-worked_parents}
-use Rattle.climb_plan.specs.Climb.{Climbed, climb, families}
+use Rattle.climb_plan.specs.Climb.{Climbed, LevelPlan, climb, families}
 use Rattle.climb_plan.specs.HasClimbed.{HasClimbed}
 use Rattle.climb_plan.proofs.ChangingOutdated.{worked_pids-placed, outdate-joined}
 use Rattle.climb_plan.proofs.InstalledPages.{AreApart, turned, distinct_apart}
 use Rattle.climb_plan.proofs.Pids.{renewed-climb}
 use Rattle.climb_plan.proofs.Climbing.{IsMadeReady, IsLevelInstalled, fresh_is_new, above_stay, gone_joined, others_joined}
 use Rattle.climb_plan.proofs.Installed.{worked_pids}
+use Rattle.climb_plan.proofs.LevelParts.{level_of}
 
 -- ---- distinct pids
 
@@ -59,6 +60,10 @@ module _ {V : Type 0} (s : Settings) (used : List ℕ) (i : ℕ) (ps : List (Pla
 
   abbrev pub climbed_above : Climbed ℕ
   climbed_above = climb s used (i + length (all_fresh made_here)) parents_here ups
+
+  -- and the plan of the parents' level
+  abbrev pub plan_above : LevelPlan ℕ
+  plan_above = level_of parents_here ups used (i + length (all_fresh made_here))
 
   abbrev upper : List (List (Placed ℕ))
   upper = climbed_above.tower.level ∷ climbed_above.tower.above
@@ -100,11 +105,11 @@ module _ {V : Type 0} (s : Settings) (used : List ℕ) (i : ℕ) (ps : List (Pla
         ap (λ (ns : List ℕ). is_among n ns) upper_pids ∙ (distinct_apart (pids (all_new made_here)) olds d).0 n e
 
     -- its pages have the places that they had, at home or away
-    pub level_untouched : (ready above : TreeInMemory) → HasClimbed Index ready above parents_here ups climbed_above → (n : ℕ) → is_among n (worked_pids ws) ≡ true → place_of above.table n ≡ place_of ready.table n
+    pub level_untouched : (ready above : TreeInMemory) → HasClimbed Index ready above plan_above climbed_above → (n : ℕ) → is_among n (worked_pids ws) ≡ true → place_of above.table n ≡ place_of ready.table n
     level_untouched ready above c n e = c.others n (own_apart n e) (turned (flat_map pids upper) (worked_pids ws) upper_apart n e)
 
     -- and so have its fresh pids
-    pub fresh_untouched : (ready above : TreeInMemory) → HasClimbed Index ready above parents_here ups climbed_above → (n : ℕ) → is_among n (pids (all_fresh made_here)) ≡ true → place_of above.table n ≡ place_of ready.table n
+    pub fresh_untouched : (ready above : TreeInMemory) → HasClimbed Index ready above plan_above climbed_above → (n : ℕ) → is_among n (pids (all_fresh made_here)) ≡ true → place_of above.table n ≡ place_of ready.table n
     fresh_untouched ready above c n e =
         let new : is_among n (pids (all_new made_here)) ≡ true = fresh_is_new n made_here e in
         c.others n (new_apart n new) (turned (flat_map pids upper) (pids (all_new made_here)) upper_new n new)
@@ -112,8 +117,8 @@ module _ {V : Type 0} (s : Settings) (used : List ℕ) (i : ℕ) (ps : List (Pla
     -- ---- it has climbed
 
     -- a level under parents has climbed once those above it have, and it is installed
-    pub level-climbed : (of : Page V → PageOfKind) (start ready above after : TreeInMemory) → IsMadeReady start ready ws (all_fresh made_here) (pids ps) → HasClimbed Index ready above parents_here ups climbed_above
-        → IsLevelInstalled of above after ws made_here → after.root ≡ above.root → after.height ≡ above.height → HasClimbed of start after ws (ps ∷ ups) (climb s used i ws (ps ∷ ups))
+    pub level-climbed : (of : Page V → PageOfKind) (start ready above after : TreeInMemory) → IsMadeReady start ready ws (all_fresh made_here) (pids ps) → HasClimbed Index ready above plan_above climbed_above
+        → IsLevelInstalled of above after ws made_here → after.root ≡ above.root → after.height ≡ above.height → HasClimbed of start after (level_of ws (ps ∷ ups) used i) (climb s used i ws (ps ∷ ups))
     level-climbed of start ready above after r c l e h =
         let olds : List ℕ = all_pids ps ups in
         let same : (n : ℕ) → is_among n (all_pids (placed_of parents_here) ups) ≡ is_among n olds = λ n. ap (λ (ns : List ℕ). is_among n (ns ++ flat_map pids ups)) parent_pids in

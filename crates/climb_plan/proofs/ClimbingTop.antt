@@ -21,12 +21,13 @@ use Rattle.split_plan.proofs.ChangeLaws.{remade_begins}
 use Rattle.split_plan.proofs.PidLaws.{distinct_renewed}
 use Rattle.split_plan.proofs.Renewed.{Renewed}
 use Rattle.climb_plan.specs.Changing.{AreHome}
-use Rattle.climb_plan.specs.Climb.{climb, grown}
+use Rattle.climb_plan.specs.Climb.{climb, grown_levels}
 use Rattle.climb_plan.specs.HasClimbed.{HasClimbed}
 use Rattle.climb_plan.proofs.InstalledPages.{AreApart, turned, distinct_apart}
 use Rattle.climb_plan.proofs.Pids.{renewed-climb}
 use Rattle.climb_plan.proofs.Climbing.{IsMadeReady, IsLevelInstalled, fresh_is_new, above_stay, gone_joined, others_joined}
 use Rattle.climb_plan.proofs.Installed.{worked_pids}
+use Rattle.climb_plan.proofs.LevelParts.{level_of}
 
 -- ---- the highest level
 
@@ -52,7 +53,7 @@ module _ {V : Type 0} (s : Settings) (used : List ℕ) (i : ℕ) (ws : List (Wor
   made_on_top = changes s used i (ws ∷ []) ∷ []
 
   abbrev pub grown_above : List (List (Placed ℕ))
-  grown_above = grown (length (all_new made_on_top)) s used (i + length (all_fresh made_on_top)) (all_new made_on_top)
+  grown_above = grown_levels (length (all_new made_on_top)) s used (i + length (all_fresh made_on_top)) (all_new made_on_top)
 
   module _ (one : Stacked (placed_of ws) []) (never : AllByRecursion (IsNeverUnused used) (all_pids (placed_of ws) [])) where
     one_page : length ws ≡ 1
@@ -84,7 +85,7 @@ module _ {V : Type 0} (s : Settings) (used : List ℕ) (i : ℕ) (ws : List (Wor
 
     -- the highest level has climbed once levels have grown above it, and it is installed
     pub top-climbed : (of : Page V → PageOfKind) (start ready after : TreeInMemory) → IsMadeReady start ready ws (all_fresh made_on_top) (flat_map pids grown_above) → AllByRecursion (AreHome Index ready.table) grown_above
-        → IsLevelInstalled of ready after ws made_on_top → after.root ≡ top_pid (all_new made_on_top) grown_above → after.height ≡ ready.height + length grown_above → HasClimbed of start after ws [] (climb s used i ws [])
+        → IsLevelInstalled of ready after ws made_on_top → after.root ≡ top_pid (all_new made_on_top) grown_above → after.height ≡ ready.height + length grown_above → HasClimbed of start after (level_of ws [] used i) (climb s used i ws [])
     top-climbed of start ready after r c l e h = record {
       level = l.level.home;
       above = above_stay of start.table ready.table after.table ws made_on_top [] grown_above l.level grown_apart grown_new c;

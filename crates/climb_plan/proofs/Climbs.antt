@@ -17,7 +17,7 @@ use Rattle.split_plan.proofs.WorkedLaws.{tiled-worked_parents}
 use Rattle.split_plan.specs.Change.{Change, fresh_pages, changes, family_changes, new_of, all_new, all_fresh}
 use Rattle.split_plan.proofs.ChangeLaws.{joined-fresh_pages, joined-changes, joined-family_changes, next_low-changes, next_low-family_changes, tiled-fresh_pages, tiled-changes, tiled-family_changes, length-fresh_pages, AllHeaded, headed-fresh_pages, headed-changes, headed-family_changes}
 use Rattle.split_plan.specs.Terms.{terms}
-use Rattle.climb_plan.specs.Climb.{families, grown, climb}
+use Rattle.climb_plan.specs.Climb.{families, grown_levels, climb}
 use Rattle.climb_plan.proofs.Families.{families-joined, parents_link, parents_told}
 use Rattle.split_plan.proofs.Full.{AllFull}
 
@@ -30,8 +30,8 @@ one_left (suc (suc n)) h e = absurd (omega (arith, ltb-false))
 
 module _ {V : Type 0} where
   grown_by : (b : Bool) (enough : ℕ) (s : Settings) (used : List ℕ) (i : ℕ) (ps : List (Placed V)) → nat_lt 1 (length ps) ≡ b → 1 < s.fan → 0 < length ps → length ps ≤ suc enough → Tiled ps None
-      → ((up : List (Placed ℕ)) (j : ℕ) → 0 < length up → length up ≤ enough → Tiled up None → Stacked up (grown enough s used j up))
-      → Stacked ps (cond b (let up : List (Placed ℕ) = fresh_pages used i (cut s.fan (names ps)) in up ∷ grown enough s used (i + length up) up) [])
+      → ((up : List (Placed ℕ)) (j : ℕ) → 0 < length up → length up ≤ enough → Tiled up None → Stacked up (grown_levels enough s used j up))
+      → Stacked ps (cond b (let up : List (Placed ℕ) = fresh_pages used i (cut s.fan (names ps)) in up ∷ grown_levels enough s used (i + length up) up) [])
   grown_by false enough s used i ps e f h l d ih = one_left (length ps) h e
   grown_by true enough s used i ps e f h l d ih =
       let ns : Names = names ps in
@@ -50,9 +50,9 @@ module _ {V : Type 0} where
         ih up (i + length up) one (omega arith) tiled,
       )
 
-stacked-grown : {V : Type 0} (enough : ℕ) (s : Settings) (used : List ℕ) (i : ℕ) (ps : List (Placed V)) → 1 < s.fan → 0 < length ps → length ps ≤ enough → Tiled ps None → Stacked ps (grown enough s used i ps)
-stacked-grown zero s used i ps f h l d = absurd (omega arith)
-stacked-grown (suc enough) s used i ps f h l d = grown_by (nat_lt 1 (length ps)) enough s used i ps refl f h l d (λ up j h l d. stacked-grown enough s used j up f h l d)
+stacked-grown_levels : {V : Type 0} (enough : ℕ) (s : Settings) (used : List ℕ) (i : ℕ) (ps : List (Placed V)) → 1 < s.fan → 0 < length ps → length ps ≤ enough → Tiled ps None → Stacked ps (grown_levels enough s used i ps)
+stacked-grown_levels zero s used i ps f h l d = absurd (omega arith)
+stacked-grown_levels (suc enough) s used i ps f h l d = grown_by (nat_lt 1 (length ps)) enough s used i ps refl f h l d (λ up j h l d. stacked-grown_levels enough s used j up f h l d)
 
 -- ---- the lowest level of a climb
 
@@ -106,7 +106,7 @@ stacked-climb {V} s used i ws olds [] f e o h =
     let tiled : Tiled top None = tiled-top s used i ws z h in
     let begins = one_page_begins olds o in
     let some : 0 < length top = some_page top begins.0 (next_low-climb s used i ws [] olds e o ∙ begins.1) in
-    (tiled, stacked-grown (length top) s used (i + length (all_fresh css)) top f some (omega arith) tiled)
+    (tiled, stacked-grown_levels (length top) s used (i + length (all_fresh css)) top f some (omega arith) tiled)
 stacked-climb {V} s used i ws olds (ps ∷ ups) f e o h =
     let z : 0 < s.fan = omega arith in
     let linked : joined ps ≡ names (placed_of ws) = o.0.linked ∙ sym e in

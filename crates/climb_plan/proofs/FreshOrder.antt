@@ -18,8 +18,8 @@ use Rattle.split_plan.specs.WorkedLevel.{worked_leaves}
 use Rattle.split_plan.proofs.RunLaws.{names-worked_leaves}
 use Rattle.split_plan.proofs.Renewed.{Renewed}
 use Rattle.split_plan.proofs.Renewed.Renewed.{done, keep, drop_one, draw}
-use Rattle.climb_plan.specs.Climb.{kept}
-use Rattle.climb_plan.specs.Plan.{climbed, planned_levels, planned_tree}
+use Rattle.climb_plan.specs.Climb.{kept_levels}
+use Rattle.climb_plan.specs.Plan.{batch_climb, planned_levels, planned_tree}
 use Rattle.climb_plan.proofs.Kept.{kept_is_first}
 use Rattle.climb_plan.proofs.Pids.{renewed-climb}
 use Rattle.climb_plan.proofs.Planned.{levels_of_planned}
@@ -59,17 +59,17 @@ module _ {A : Type 0} (s : Settings) (t : Tree) (cs : List (Command A)) (proper 
       let used : List ℕ = keys_of t.pages in
       let l : Levels = levels_of t in
       let run : List (List ℕ × _) = net_run (contents t) cs in
-      let level : List (Placed (List ℕ)) = (climbed s t cs).tower.level in
-      let ups : List (List (Placed ℕ)) = (climbed s t cs).tower.above in
+      let level : List (Placed (List ℕ)) = (batch_climb s t cs).tower.level in
+      let ups : List (List (Placed ℕ)) = (batch_climb s t cs).tower.above in
       let in_use : AllByRecursion (λ n. is_among n used ≡ true) (all_pids l.level l.above) = all_pids_hold (λ n. is_among n used ≡ true) t.pages (all_among used) l proper.held in
       let renewed = renewed-climb s used 0 (worked_leaves s run l.level) l.level l.above (names-worked_leaves s run l.level) proper.levels.stacked in
       let drawn = drawn_in_order renewed.1 proper.tree.rising in_use in
       let rest = kept_is_first ups in
-      let first : List ℕ = all_pids level (kept ups) in
+      let first : List ℕ = all_pids level (kept_levels ups) in
       let apart : all_pids level ups ≡ first ++ flat_map pids rest.0 =
       ap (λ (x : List (List (Placed ℕ))). pids level ++ flat_map pids x) (sym rest.1)
-      ∙ ap (λ (ns : List ℕ). pids level ++ ns) (flat_map-append pids (kept ups) rest.0)
-      ∙ sym (append_assoc (pids level) (flat_map pids (kept ups)) (flat_map pids rest.0)) in
+      ∙ ap (λ (ns : List ℕ). pids level ++ ns) (flat_map-append pids (kept_levels ups) rest.0)
+      ∙ sym (append_assoc (pids level) (flat_map pids (kept_levels ups)) (flat_map pids rest.0)) in
       let both : free used first ++ free used (flat_map pids rest.0) ≡ next_unused used 0 drawn.0 =
       sym (filter-append (λ n. not (is_among n used)) first (flat_map pids rest.0)) ∙ ap (λ (ns : List ℕ). free used ns) (sym apart) ∙ drawn.1 in
       (length (free used first), first_in_order used (free used first) (free used (flat_map pids rest.0)) 0 drawn.0 both)

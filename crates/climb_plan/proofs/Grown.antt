@@ -12,7 +12,7 @@ use Rattle.split_plan.specs.Terms.{terms}
 use Rattle.split_plan.specs.WorkedLevel.{worked_parents}
 use Rattle.split_plan.proofs.ChangeLaws.{joined-fresh_pages}
 use Rattle.split_plan.proofs.CutLaws.{cut-joined}
-use Rattle.climb_plan.specs.Climb.{Climbed, families, grown, climb, is_lone, kept_under, kept}
+use Rattle.climb_plan.specs.Climb.{Climbed, families, grown_levels, climb, is_lone, kept_under, kept_levels}
 use Rattle.climb_plan.proofs.Kept.{kept_is_first}
 use Rattle.climb_plan.proofs.Untouched.{not_lone_by}
 
@@ -32,9 +32,9 @@ kept_over l (up ∷ ups) e = refl
 
 -- each level that grows is cut from the names of two pages or more, so it is kept
 grown_by : {V : Type 0} (b : Bool) (enough : ℕ) (s : Settings) (used : List ℕ) (i : ℕ) (ps : List (Placed V)) → nat_lt 1 (length ps) ≡ b
-    → ((j : ℕ) (up : List (Placed ℕ)) → kept (grown enough s used j up) ≡ grown enough s used j up)
-    → kept (cond b (let up : List (Placed ℕ) = fresh_pages used i (cut s.fan (names ps)) in up ∷ grown enough s used (i + length up) up) [])
-    ≡ cond b (let up : List (Placed ℕ) = fresh_pages used i (cut s.fan (names ps)) in up ∷ grown enough s used (i + length up) up) []
+    → ((j : ℕ) (up : List (Placed ℕ)) → kept_levels (grown_levels enough s used j up) ≡ grown_levels enough s used j up)
+    → kept_levels (cond b (let up : List (Placed ℕ) = fresh_pages used i (cut s.fan (names ps)) in up ∷ grown_levels enough s used (i + length up) up) [])
+    ≡ cond b (let up : List (Placed ℕ) = fresh_pages used i (cut s.fan (names ps)) in up ∷ grown_levels enough s used (i + length up) up) []
 grown_by false enough s used i ps e ih = refl
 grown_by true enough s used i ps e ih =
     let ns : Names = names ps in
@@ -43,20 +43,20 @@ grown_by true enough s used i ps e ih =
     let all : joined up ≡ ns = joined-fresh_pages used i (cut s.fan ns) ∙ cut-joined s.fan ns in
     let count : length (joined up) ≡ length ps = ap (λ (xs : Names). length xs) all ∙ length-map ps name in
     ap (λ (ls : List (List (Placed ℕ))). kept_under up ls) (ih (i + length up) up)
-    ∙ kept_over up (grown enough s used (i + length up) up) (not_lone up (omega arith))
+    ∙ kept_over up (grown_levels enough s used (i + length up) up) (not_lone up (omega arith))
 
-all_grown : {V : Type 0} (enough : ℕ) (s : Settings) (used : List ℕ) (i : ℕ) (ps : List (Placed V)) → kept (grown enough s used i ps) ≡ grown enough s used i ps
+all_grown : {V : Type 0} (enough : ℕ) (s : Settings) (used : List ℕ) (i : ℕ) (ps : List (Placed V)) → kept_levels (grown_levels enough s used i ps) ≡ grown_levels enough s used i ps
 all_grown zero s used i ps = refl
 all_grown (suc enough) s used i ps = grown_by (nat_lt 1 (length ps)) enough s used i ps refl (λ j up. all_grown enough s used j up)
 
 -- ---- levels that were there
 
-kept_below : (l : List (Placed ℕ)) (ls : List (List (Placed ℕ))) → 0 < length ls → kept ls ≡ ls → kept (l ∷ ls) ≡ l ∷ ls
+kept_below : (l : List (Placed ℕ)) (ls : List (List (Placed ℕ))) → 0 < length ls → kept_levels ls ≡ ls → kept_levels (l ∷ ls) ≡ l ∷ ls
 kept_below l [] h e = absurd (omega arith)
 kept_below l (up ∷ ups) h e = ap (λ (ls : List (List (Placed ℕ))). kept_under l ls) e
 
 -- a climb that leaves more levels than there were keeps all of them
-pub grown_is_kept : {V : Type 0} (s : Settings) (used : List ℕ) (i : ℕ) (ws : List (Worked V)) (ups : List (List (Placed ℕ))) → length ups < length (climb s used i ws ups).tower.above → kept (climb s used i ws ups).tower.above ≡ (climb s used i ws ups).tower.above
+pub grown_is_kept : {V : Type 0} (s : Settings) (used : List ℕ) (i : ℕ) (ws : List (Worked V)) (ups : List (List (Placed ℕ))) → length ups < length (climb s used i ws ups).tower.above → kept_levels (climb s used i ws ups).tower.above ≡ (climb s used i ws ups).tower.above
 grown_is_kept {V} s used i ws [] h =
     let css : List (List (Change V)) = changes s used i (ws ∷ []) ∷ [] in
     all_grown (length (all_new css)) s used (i + length (all_fresh css)) (all_new css)
@@ -68,9 +68,9 @@ grown_is_kept {V} s used i ws (ps ∷ ups) h =
 -- ---- heights
 
 -- no more levels are kept than there are
-pub kept_are_no_more : (ls : List (List (Placed ℕ))) → length (kept ls) ≤ length ls
+pub kept_are_no_more : (ls : List (List (Placed ℕ))) → length (kept_levels ls) ≤ length ls
 kept_are_no_more ls =
     let r = kept_is_first ls in
-    let e : length (kept ls ++ r.0) ≡ length ls = ap (λ (x : List (List (Placed ℕ))). length x) r.1 in
-    let n : length (kept ls ++ r.0) ≡ length (kept ls) + length r.0 = length-append (kept ls) r.0 in
+    let e : length (kept_levels ls ++ r.0) ≡ length ls = ap (λ (x : List (List (Placed ℕ))). length x) r.1 in
+    let n : length (kept_levels ls ++ r.0) ≡ length (kept_levels ls) + length r.0 = length-append (kept_levels ls) r.0 in
     omega arith

@@ -27,8 +27,8 @@ use Rattle.split_plan.specs.Change.{Change, fresh_pages, replacements, is_rewrit
 use Rattle.split_plan.proofs.ChangeLaws.{remade_by, joined-fresh_pages}
 use Rattle.split_plan.proofs.PidLaws.{pids-placed_of}
 use Rattle.split_plan.specs.Terms.{terms}
-use Rattle.climb_plan.specs.Climb.{families, Climbed, grown, climb, is_lone, kept}
-use Rattle.climb_plan.specs.Plan.{climbed, shrunk_pids, outdated_pids}
+use Rattle.climb_plan.specs.Climb.{families, Climbed, grown_levels, climb, is_lone, kept_levels}
+use Rattle.climb_plan.specs.Plan.{batch_climb, shrunk_pids, outdated_pids}
 use Rattle.climb_plan.proofs.Families.{families-joined}
 use Rattle.climb_plan.proofs.Kept.{lone_is_over_one, left, kept_and_left, lone-left}
 
@@ -104,17 +104,17 @@ module _ (P : ℕ → Type 0) where
 
   -- a level that grows isn't lone
   grown_by : {V : Type 0} (b : Bool) (enough : ℕ) (s : Settings) (used : List ℕ) (i : ℕ) (ps : List (Placed V)) → nat_lt 1 (length ps) ≡ b
-      → ((j : ℕ) (up : List (Placed ℕ)) → AllByRecursion HoldsIfLone (grown enough s used j up))
-      → AllByRecursion HoldsIfLone (cond b (let up : List (Placed ℕ) = fresh_pages used i (cut s.fan (names ps)) in up ∷ grown enough s used (i + length up) up) [])
+      → ((j : ℕ) (up : List (Placed ℕ)) → AllByRecursion HoldsIfLone (grown_levels enough s used j up))
+      → AllByRecursion HoldsIfLone (cond b (let up : List (Placed ℕ) = fresh_pages used i (cut s.fan (names ps)) in up ∷ grown_levels enough s used (i + length up) up) [])
   grown_by false enough s used i ps e ih = tt
   grown_by true enough s used i ps e ih =
       let up : List (Placed ℕ) = fresh_pages used i (cut s.fan (names ps)) in
       let several : 1 < length ps = ltb-true 1 (length ps) e in
       (λ lone. absurd (let one : length ps ≡ 1 = lone_is_over_one up ps lone (joined-fresh_pages used i (cut s.fan (names ps)) ∙ cut-joined s.fan (names ps)) in omega arith), ih (i + length up) up)
 
-  hold-grown : {V : Type 0} (enough : ℕ) (s : Settings) (used : List ℕ) (i : ℕ) (ps : List (Placed V)) → AllByRecursion HoldsIfLone (grown enough s used i ps)
-  hold-grown zero s used i ps = tt
-  hold-grown (suc enough) s used i ps = grown_by (nat_lt 1 (length ps)) enough s used i ps refl (λ j up. hold-grown enough s used j up)
+  hold-grown_levels : {V : Type 0} (enough : ℕ) (s : Settings) (used : List ℕ) (i : ℕ) (ps : List (Placed V)) → AllByRecursion HoldsIfLone (grown_levels enough s used i ps)
+  hold-grown_levels zero s used i ps = tt
+  hold-grown_levels (suc enough) s used i ps = grown_by (nat_lt 1 (length ps)) enough s used i ps refl (λ j up. hold-grown_levels enough s used j up)
 
   -- ---- a climb
 
@@ -133,7 +133,7 @@ module _ (P : ℕ → Type 0) where
       record {
         outdated = all-append P (flat_map outdated (changes s used i (ws ∷ []))) [] r.0 tt;
         first = first-append (new_of (changes s used i (ws ∷ []))) [] r.1 tt;
-        above = hold-grown (length top) s used (i + length (all_fresh css)) top;
+        above = hold-grown_levels (length top) s used (i + length (all_fresh css)) top;
       }
   hold-climb {V} s used i ws olds (ps ∷ ups) e o a =
       let linked : joined ps ≡ names (placed_of ws) = o.0.linked ∙ sym e in
@@ -156,9 +156,9 @@ module _ (P : ℕ → Type 0) where
   lone_hold [] a h = tt
   lone_hold (l ∷ ls) a h = all-append P (pids l) (flat_map pids ls) (h.0 a.0) (lone_hold ls a.1 h.1)
 
-  hold-shrunk : (ls : List (List (Placed ℕ))) → AllByRecursion HoldsIfLone ls → AllByRecursion P (shrunk_pids ls)
-  hold-shrunk ls h =
-      let parts = all_apart HoldsIfLone (kept ls) (left ls) (subst (λ (x : List (List (Placed ℕ))). AllByRecursion HoldsIfLone x) (sym (kept_and_left ls)) h) in
+  hold-shrunk_levels : (ls : List (List (Placed ℕ))) → AllByRecursion HoldsIfLone ls → AllByRecursion P (shrunk_pids ls)
+  hold-shrunk_levels ls h =
+      let parts = all_apart HoldsIfLone (kept_levels ls) (left ls) (subst (λ (x : List (List (Placed ℕ))). AllByRecursion HoldsIfLone x) (sym (kept_and_left ls)) h) in
       lone_hold (left ls) (lone-left ls) parts.1
 
 -- each outdated pid of a plan was in use
@@ -170,5 +170,5 @@ outdated_in_use s t cs pid proper h =
     let run : List (List ℕ × _) = net_run (contents t) cs in
     let in_use : AllByRecursion P (all_pids l.level l.above) = all_pids_hold P t.pages (all_among used) l proper.held in
     let r = hold-climb P s used 0 (worked_leaves s run l.level) l.level l.above (names-worked_leaves s run l.level) proper.levels.stacked in_use in
-    let all : AllByRecursion P (outdated_pids s t cs) = all-append P (climbed s t cs).outdated (shrunk_pids (climbed s t cs).tower.above) r.outdated (hold-shrunk P (climbed s t cs).tower.above r.above) in
+    let all : AllByRecursion P (outdated_pids s t cs) = all-append P (batch_climb s t cs).outdated (shrunk_pids (batch_climb s t cs).tower.above) r.outdated (hold-shrunk_levels P (batch_climb s t cs).tower.above r.above) in
     holds_among P pid (outdated_pids s t cs) all h

@@ -13,8 +13,8 @@ use Rattle.page_runs.specs.Worked.{Worked}
 use Rattle.split_plan.specs.WorkedLevel.{placed_of}
 use Rattle.split_plan.specs.Change.{Change, is_rewritten, changes, family_changes, new_of, fresh_of, all_new}
 use Rattle.climb_plan.specs.Climb.{families}
-use Rattle.climb_plan.specs.Changing.{changing, changing_groups, AreHome}
-use Rattle.climb_plan.proofs.ChangingGroups.{flat_map-flat, all_groups, flat-family_changes, groups-changing}
+use Rattle.climb_plan.specs.Changing.{changing_families, changing_groups, AreHome}
+use Rattle.climb_plan.proofs.ChangingGroups.{flat_map-flat, all_groups, flat-family_changes, groups-changing_families}
 use Rattle.climb_plan.proofs.ChangingOutdated.{all_groups-joined}
 use Rattle.climb_plan.proofs.InstalledPages.{AreFreshFor, installed-groups, freed-groups, other-groups}
 use Rattle.climb_plan.proofs.Installed.{worked_pids, IsInstalled}
@@ -48,13 +48,13 @@ module _ {V : Type 0} where
 
   -- a level under parents
   pub installed-level : (s : Settings) (used : List ℕ) (i : ℕ) (of : Page V → PageOfKind) (before after : Mapping PageOfKind) (ps : List (Placed ℕ)) (ws : List (Worked V)) → flat (families ps ws) ≡ ws
-      → AreHome of before (placed_of ws) → Distinct (worked_pids ws) → AreFreshFor ws (fresh_of (changes s used i (changing_groups (changing ps ws)))) → IsInstalled of before after (changes s used i (changing_groups (changing ps ws)))
-      → HasLevel of before after ws (all_new (family_changes s used i (families ps ws))) (fresh_of (changes s used i (changing_groups (changing ps ws))))
+      → AreHome of before (placed_of ws) → Distinct (worked_pids ws) → AreFreshFor ws (fresh_of (changes s used i (changing_groups (changing_families ps ws)))) → IsInstalled of before after (changes s used i (changing_groups (changing_families ps ws)))
+      → HasLevel of before after ws (all_new (family_changes s used i (families ps ws))) (fresh_of (changes s used i (changing_groups (changing_families ps ws))))
   installed-level s used i of before after ps ws e =
       let fs : List (List (Worked V)) = families ps ws in
       let css : List (List (Change V)) = family_changes s used i fs in
       let new : all_new css ≡ new_of (changes s used i (all_groups fs)) = flat_map-flat (λ (c : Change V). c.pages) css ∙ ap (λ (cs : List (Change V)). new_of cs) (flat-family_changes s used i fs) in
-      has_level_by s used i of before after (all_groups fs) (changing_groups (changing ps ws)) ws (all_new css) (groups-changing ps ws) (all_groups-joined fs ∙ e) new
+      has_level_by s used i of before after (all_groups fs) (changing_groups (changing_families ps ws)) ws (all_new css) (groups-changing_families ps ws) (all_groups-joined fs ∙ e) new
 
   -- the highest level
   pub installed-top : (s : Settings) (used : List ℕ) (i : ℕ) (of : Page V → PageOfKind) (before after : Mapping PageOfKind) (ws : List (Worked V))

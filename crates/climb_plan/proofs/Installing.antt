@@ -1,11 +1,12 @@
 -- Steps of a climb's changes of the mapping table: what one of them leaves of the other places.
 use Rattle.std.specs.Prelude.{◌≡◌, ◌≢◌, ℕ, suc, ◌+◌, ◌-◌, ◌<◌, ◌++◌, map, take, drop, length, slice_get, slice_index_or, Bool, true, false, cond, if◌then◌else◌, List, [], ◌∷◌, Option, Some, None, IsSome}
-use Rattle.std.proofs.Common.{refl, sym, ap, ◌∙◌, subst, drop-cons, arith, Ordering, Less, Equal, Greater}
+use Rattle.std.proofs.Common.{refl, sym, ap, ◌∙◌, subst, get_or, drop-cons, arith, Ordering, Less, Equal, Greater}
 use Rattle.std.specs.List.{AllByRecursion}
 use Rattle.std.specs.Ordering.{nat_cmp, is_eq, match_ordering}
 use Rattle.std.specs.Map.{remove_entry}
 use Rattle.std.specs.BTreeMap.{insert_entry}
 use Rattle.std.proofs.lemmas.Cmp.{tied_itself}
+use Rattle.std.proofs.lemmas.List.{drop_more}
 use Rattle.keys.proofs.Basics.{equal_by}
 use Rattle.index_page.specs.Page.{PageOfKind}
 use Rattle.index_page.proofs.ListLaws.{all_apart}
@@ -173,6 +174,10 @@ first_of (m ∷ ms) k e = let same : m ≡ k = cc in ap (λ (x : ℕ). x ∷ ms)
 
 pub first_member : (ms all : List ℕ) (k : ℕ) → ms ≡ all → Some k ≡ slice_get ms 0 → all ≡ k ∷ drop 1 all
 first_member ms all k e h = first_of all k (h ∙ ap (λ (x : List ℕ). slice_get x 0) e)
+
+-- the same of the item that a loop is at
+pub front_item : (xs : List ℕ) (i x : ℕ) → i < length xs → x ≡ get_or xs i x → drop i xs ≡ x ∷ drop (i + 1) xs
+front_item xs i x h e = drop_more xs i x h ∙ ap (λ (y : ℕ). y ∷ drop (i + 1) xs) (sym e)
 
 -- what is away or at home, and isn't among members that are freed, stays so
 members_kept : (R : Option (Option PageOfKind) → Type 0) (t : Mapping PageOfKind) (ks qs : List ℕ) → Distinct (ks ++ qs) → AllByRecursion (λ q. R (place_of t q)) qs → AllByRecursion (λ q. R (place_of (members_freed t ks) q)) qs

@@ -15,7 +15,7 @@ use Rattle.page_runs.specs.Worked.{Worked}
 use Rattle.page_runs.specs.declared.term_work.TermJob.{TermJob}
 use Rattle.climb_plan.specs.Installing.{all_taken, all_put, AreAway, IsIndexAt, AreParentsHome, page_or_none, parent_held}
 use Rattle.climb_plan.proofs.Installing.{Told, tree_taken, tree_put}
-use Rattle.climb_plan.proofs.InstallingLaws.{away-all_taken, put_back_is_before}
+use Rattle.climb_plan.proofs.InstallingLemmas.{away-all_taken, put_back_is_before}
 
 -- a page, under its pid
 abbrev under_pid : TermHeld → ℕ × PageOfKind

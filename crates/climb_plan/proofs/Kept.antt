@@ -11,7 +11,7 @@ use Rattle.mapping.specs.Levels.{Placed, entries, joined, name, names, pids, all
 use Rattle.mapping.specs.Proper.{Stacked, IsBranchedTop, Distinct}
 use Rattle.mapping.proofs.TileLaws.{Names}
 use Rattle.split_plan.proofs.ChangeLaws.{AllHeaded}
-use Rattle.climb_plan.specs.Climb.{is_lone, kept_under, kept}
+use Rattle.climb_plan.specs.Climb.{is_lone, kept_under, kept_levels}
 
 -- ---- a level that isn't kept has one page below it
 
@@ -33,9 +33,9 @@ stacked-kept_under l [] level o = stacked_by (is_lone l) l level refl o.0.linked
 stacked-kept_under l (up ∷ ups) level o = o
 
 -- the levels that are kept are each the parents of the one below
-pub stacked-kept : {V : Type 0} (ls : List (List (Placed ℕ))) (level : List (Placed V)) → Stacked level ls → Stacked level (kept ls)
-stacked-kept [] level o = o
-stacked-kept (l ∷ ls) level o = stacked-kept_under l (kept ls) level (o.0, stacked-kept ls l o.1)
+pub stacked-kept_levels : {V : Type 0} (ls : List (List (Placed ℕ))) (level : List (Placed V)) → Stacked level ls → Stacked level (kept_levels ls)
+stacked-kept_levels [] level o = o
+stacked-kept_levels (l ∷ ls) level o = stacked-kept_under l (kept_levels ls) level (o.0, stacked-kept_levels ls l o.1)
 
 -- ---- the highest one that is kept has two children
 
@@ -59,9 +59,9 @@ branched-kept_under : (l : List (Placed ℕ)) (ls : List (List (Placed ℕ))) �
 branched-kept_under l [] h o t = branched_by (is_lone l) l refl o h
 branched-kept_under l (up ∷ ups) h o t = t
 
-pub branched-kept : {V : Type 0} (ls : List (List (Placed ℕ))) (level : List (Placed V)) → Stacked level ls → IsBranchedTop (kept ls)
-branched-kept [] level o = tt
-branched-kept (l ∷ ls) level o = branched-kept_under l (kept ls) o.0.headed (stacked-kept ls l o.1) (branched-kept ls l o.1)
+pub branched-kept_levels : {V : Type 0} (ls : List (List (Placed ℕ))) (level : List (Placed V)) → Stacked level ls → IsBranchedTop (kept_levels ls)
+branched-kept_levels [] level o = tt
+branched-kept_levels (l ∷ ls) level o = branched-kept_under l (kept_levels ls) o.0.headed (stacked-kept_levels ls l o.1) (branched-kept_levels ls l o.1)
 
 -- ---- they are the first of the levels
 
@@ -75,9 +75,9 @@ rest_under l [] rest all e =
     (k.0, k.1 ∙ ap (λ (x : List (List (Placed ℕ))). l ∷ x) e)
 rest_under l (up ∷ ups) rest all e = (rest, ap (λ (x : List (List (Placed ℕ))). l ∷ x) e)
 
-pub kept_is_first : (ls : List (List (Placed ℕ))) → (rest : List (List (Placed ℕ))) × (kept ls ++ rest ≡ ls)
+pub kept_is_first : (ls : List (List (Placed ℕ))) → (rest : List (List (Placed ℕ))) × (kept_levels ls ++ rest ≡ ls)
 kept_is_first [] = ([], refl)
-kept_is_first (l ∷ ls) = let r = kept_is_first ls in rest_under l (kept ls) r.0 ls r.1
+kept_is_first (l ∷ ls) = let r = kept_is_first ls in rest_under l (kept_levels ls) r.0 ls r.1
 
 pub drop_first : (xs ys all : List (List (Placed ℕ))) → xs ++ ys ≡ all → drop (length xs) all ≡ ys
 drop_first xs ys all e = ap (λ (z : List (List (Placed ℕ))). drop (length xs) z) (sym e) ∙ drop_length xs ys
@@ -88,32 +88,32 @@ drop_first xs ys all e = ap (λ (z : List (List (Placed ℕ))). drop (length xs)
 
 -- those that aren't kept
 abbrev pub left : List (List (Placed ℕ)) → List (List (Placed ℕ))
-left ls = drop (length (kept ls)) ls
+left ls = drop (length (kept_levels ls)) ls
 
 pub left_is_rest : (ls : List (List (Placed ℕ))) → left ls ≡ (kept_is_first ls).0
-left_is_rest ls = drop_first (kept ls) (kept_is_first ls).0 ls (kept_is_first ls).1
+left_is_rest ls = drop_first (kept_levels ls) (kept_is_first ls).0 ls (kept_is_first ls).1
 
-pub kept_and_left : (ls : List (List (Placed ℕ))) → kept ls ++ left ls ≡ ls
-kept_and_left ls = ap (λ (rest : List (List (Placed ℕ))). kept ls ++ rest) (left_is_rest ls) ∙ (kept_is_first ls).1
+pub kept_and_left : (ls : List (List (Placed ℕ))) → kept_levels ls ++ left ls ≡ ls
+kept_and_left ls = ap (λ (rest : List (List (Placed ℕ))). kept_levels ls ++ rest) (left_is_rest ls) ∙ (kept_is_first ls).1
 
-pub all-kept : (P : List (Placed ℕ) → Type 0) (ls : List (List (Placed ℕ))) → AllByRecursion P ls → AllByRecursion P (kept ls)
-all-kept P ls a =
+pub all-kept_levels : (P : List (Placed ℕ) → Type 0) (ls : List (List (Placed ℕ))) → AllByRecursion P ls → AllByRecursion P (kept_levels ls)
+all-kept_levels P ls a =
     let r = kept_is_first ls in
-    (all_apart P (kept ls) r.0 (subst (λ (x : List (List (Placed ℕ))). AllByRecursion P x) (sym r.1) a)).0
+    (all_apart P (kept_levels ls) r.0 (subst (λ (x : List (List (Placed ℕ))). AllByRecursion P x) (sym r.1) a)).0
 
 distinct_left : (ms ns : List ℕ) → Distinct (ms ++ ns) → Distinct ms
 distinct_left [] ns d = tt
 distinct_left (m ∷ ms) ns d = ((all_apart (λ k. k ≢ m) ms ns d.0).0, distinct_left ms ns d.1)
 
 -- so their pids are distinct where those of all levels are
-pub distinct-kept : {V : Type 0} (level : List (Placed V)) (ls : List (List (Placed ℕ))) → Distinct (all_pids level ls) → Distinct (all_pids level (kept ls))
-distinct-kept level ls d =
+pub distinct-kept_levels : {V : Type 0} (level : List (Placed V)) (ls : List (List (Placed ℕ))) → Distinct (all_pids level ls) → Distinct (all_pids level (kept_levels ls))
+distinct-kept_levels level ls d =
     let r = kept_is_first ls in
-    let e : all_pids level ls ≡ all_pids level (kept ls) ++ flat_map pids r.0 =
+    let e : all_pids level ls ≡ all_pids level (kept_levels ls) ++ flat_map pids r.0 =
     ap (λ (x : List (List (Placed ℕ))). pids level ++ flat_map pids x) (sym r.1)
-    ∙ ap (λ (ns : List ℕ). pids level ++ ns) (flat_map-append pids (kept ls) r.0)
-    ∙ sym (append_assoc (pids level) (flat_map pids (kept ls)) (flat_map pids r.0)) in
-    distinct_left (all_pids level (kept ls)) (flat_map pids r.0) (subst (λ (ns : List ℕ). Distinct ns) e d)
+    ∙ ap (λ (ns : List ℕ). pids level ++ ns) (flat_map-append pids (kept_levels ls) r.0)
+    ∙ sym (append_assoc (pids level) (flat_map pids (kept_levels ls)) (flat_map pids r.0)) in
+    distinct_left (all_pids level (kept_levels ls)) (flat_map pids r.0) (subst (λ (ns : List ℕ). Distinct ns) e d)
 
 -- ---- each that isn't kept is lone, and the highest that is kept isn't
 
@@ -130,7 +130,7 @@ lone_under l ls (up ∷ ups) h = h
 
 pub lone-left : (ls : List (List (Placed ℕ))) → AllLone (left ls)
 lone-left [] = tt
-lone-left (l ∷ ls) = lone_under l ls (kept ls) (lone-left ls)
+lone-left (l ∷ ls) = lone_under l ls (kept_levels ls) (lone-left ls)
 
 not_empty : (lower : List (List (Placed ℕ))) (top : List (Placed ℕ)) → [] ≡ lower ++ top ∷ [] → ⊥
 not_empty [] top e = absurd (cc)
@@ -146,6 +146,6 @@ top_under l top [] lower h ih = top_by (is_lone l) l top lower refl h
 top_under l top (up ∷ ups) [] h ih = absurd (cc)
 top_under l top (up ∷ ups) (x ∷ xs) h ih = let rest : up ∷ ups ≡ xs ++ top ∷ [] = cc in ih xs rest
 
-pub top_is_not_lone : (ls lower : List (List (Placed ℕ))) (top : List (Placed ℕ)) → kept ls ≡ lower ++ top ∷ [] → is_lone top ≡ false
+pub top_is_not_lone : (ls lower : List (List (Placed ℕ))) (top : List (Placed ℕ)) → kept_levels ls ≡ lower ++ top ∷ [] → is_lone top ≡ false
 top_is_not_lone [] lower top h = absurd (not_empty lower top h)
-top_is_not_lone (l ∷ ls) lower top h = top_under l top (kept ls) lower h (λ less e. top_is_not_lone ls less top e)
+top_is_not_lone (l ∷ ls) lower top h = top_under l top (kept_levels ls) lower h (λ less e. top_is_not_lone ls less top e)

@@ -13,16 +13,18 @@ use Rattle.page_runs.specs.Worked.{Worked}
 use Rattle.split_plan.specs.Change.{changes}
 use Rattle.split_plan.specs.Terms.{terms}
 use Rattle.split_plan.specs.WorkedLevel.{worked_parents}
-use Rattle.climb_plan.specs.Changing.{SeenPage, shown, changing, parents_of, changing_groups, changing_changes}
+use Rattle.climb_plan.specs.Changing.{SeenPage, page_seen, changing_families, parents_of, changing_groups, changing_changes}
+use Rattle.climb_plan.specs.Climb.{LevelPlan}
 use Rattle.climb_plan.specs.Installing.{all_taken, parent_held, AreAway, AreParentsHome}
 use Rattle.climb_plan.specs.Level.{IsKind, parent_pids, group_counts, IsLevel, IsCut, IsChanged}
-use Rattle.climb_plan.specs.Rewriting.{Remade, HaveSome, numbered, numbers, terms_by_parent, CanBeTold}
+use Rattle.climb_plan.specs.Rewriting.{Remade, HaveSome, with_numbers, numbers, terms_by_parent, CanBeTold}
 use Rattle.climb_plan.proofs.BridgeDrawn.{drawn_places}
 use Rattle.climb_plan.proofs.BridgeGroups.{changing_rewritten}
 use Rattle.climb_plan.proofs.BridgeNext.{new_here, can_be_taken, told_here, taken_here, made_here, held_here}
-use Rattle.climb_plan.proofs.BridgePieces.{numbered-shown, numbers-shown, some-shown}
-use Rattle.climb_plan.proofs.BridgeTold.{freed_in, made_in, told-shown, can_be_told}
+use Rattle.climb_plan.proofs.BridgePieces.{with_numbers-page_seen, numbers-page_seen, some-page_seen}
+use Rattle.climb_plan.proofs.BridgeTold.{freed_in, made_in, told-page_seen, can_be_told}
 use Rattle.climb_plan.proofs.LeveledDrawn.{drawn_away, drawn_back, AreGiven, numbers_given, all_given}
+use Rattle.climb_plan.proofs.LevelParts.{level_of}
 
 -- what is made of what something holds
 through : {A B C : Type 0} (f : B → C) (g : A → B) (xs : List A) (ys : List B) → map g xs ≡ ys → map (λ x. f (g x)) xs ≡ map f ys
@@ -41,36 +43,36 @@ abbrev pub numbers_drawn : TreeInMemory → List Remade → TreeInMemory
 numbers_drawn t rs = with_table t (with_rooms t.table (fresh_pids (pids_in_use t.table) (numbers rs)))
 
 module _ {V : Type 0} (s : Settings) (of : Page V → PageOfKind) (kind : IsKind of) (z : 0 < s.fan) (t : TreeInMemory) (xs : List SeenPage) (ws : List (Worked V)) (ps : List (Placed ℕ)) (ups : List (List (Placed ℕ))) (used : List ℕ) (i : ℕ)
-    (h : IsLevel of t xs ws (ps ∷ ups) used i) (counts : List (ℕ × ℕ)) (freed : List (List (List ℕ × ℕ))) (groups : List Remade) (cut : IsCut s of ws ps counts freed groups) where
+    (h : IsLevel of t xs (level_of ws (ps ∷ ups) used i)) (counts : List (ℕ × ℕ)) (freed : List (List (List ℕ × ℕ))) (groups : List Remade) (cut : IsCut s of (level_of ws ups used i) ps counts freed groups) where
   abbrev rewritten_here : List (List (Worked V))
-  rewritten_here = changing_groups (changing ps ws)
+  rewritten_here = changing_groups (changing_families ps ws)
 
   -- each group has a piece
   pub some_piece : HaveSome groups
-  some_piece = subst HaveSome (sym cut.pieces) (some-shown of kind s rewritten_here (changing_rewritten ps ws))
+  some_piece = subst HaveSome (sym cut.pieces) (some-page_seen of kind s rewritten_here (changing_rewritten ps ws))
 
   -- as many numbers are drawn as there are new pages
   count : numbers groups ≡ new_here s of t xs ws ps ups used i
-  count = ap numbers cut.pieces ∙ numbers-shown of kind s used i rewritten_here (changing_rewritten ps ws)
+  count = ap numbers cut.pieces ∙ numbers-page_seen of kind s used i rewritten_here (changing_rewritten ps ws)
 
-  module _ (given : List Remade) (numbered_so : given ≡ numbered used i groups) where
+  module _ (given : List Remade) (numbered_so : given ≡ with_numbers used i groups) where
     -- with their numbers the groups are what the plan makes of them
     pub remade_here : given ≡ made_in of (changes s used i rewritten_here)
-    remade_here = numbered_so ∙ ap (numbered used i) cut.pieces ∙ numbered-shown of kind s used i rewritten_here (changing_rewritten ps ws)
+    remade_here = numbered_so ∙ ap (with_numbers used i) cut.pieces ∙ with_numbers-page_seen of kind s used i rewritten_here (changing_rewritten ps ws)
 
     told_so : terms_by_parent counts freed given ≡ told_here s of t xs ws ps ups used i z h
     told_so =
         ap (λ (cs : List (ℕ × ℕ)). terms_by_parent cs freed given) cut.counts
-        ∙ ap (λ (fs : List (List (List ℕ × ℕ))). terms_by_parent (group_counts (changing ps ws)) fs given) cut.names
-        ∙ ap (λ (rs : List Remade). terms_by_parent (group_counts (changing ps ws)) (freed_in of rewritten_here) rs) remade_here
-        ∙ told-shown of kind s used i (changing ps ws)
+        ∙ ap (λ (fs : List (List (List ℕ × ℕ))). terms_by_parent (group_counts (changing_families ps ws)) fs given) cut.names
+        ∙ ap (λ (rs : List Remade). terms_by_parent (group_counts (changing_families ps ws)) (freed_in of rewritten_here) rs) remade_here
+        ∙ told-page_seen of kind s used i (changing_families ps ws)
 
     -- the parents can be told
     pub can_tell : CanBeTold counts freed given
     can_tell =
         subst (λ (cs : List (ℕ × ℕ)). CanBeTold cs freed given) (sym cut.counts)
-        (subst (λ (fs : List (List (List ℕ × ℕ))). CanBeTold (group_counts (changing ps ws)) fs given) (sym cut.names)
-        (subst (λ (rs : List Remade). CanBeTold (group_counts (changing ps ws)) (freed_in of rewritten_here) rs) (sym remade_here) (can_be_told of kind s used i ps ws None z h.tiled h.stacked.0.linked)))
+        (subst (λ (fs : List (List (List ℕ × ℕ))). CanBeTold (group_counts (changing_families ps ws)) fs given) (sym cut.names)
+        (subst (λ (rs : List Remade). CanBeTold (group_counts (changing_families ps ws)) (freed_in of rewritten_here) rs) (sym remade_here) (can_be_told of kind s used i ps ws None z h.tiled h.stacked.0.linked)))
 
     abbrev drawn_here : TreeInMemory
     drawn_here = with_table t (with_rooms t.table (fresh_pids (pids_in_use t.table) (new_here s of t xs ws ps ups used i)))
@@ -84,7 +86,7 @@ module _ {V : Type 0} (s : Settings) (of : Page V → PageOfKind) (kind : IsKind
       parents_home =
           subst (λ (es : List (ℕ × List (List ℕ × Option ℕ))). AreParentsHome u.table (map (λ e. e.0) es)) (sym told_so)
           (subst (λ (ns : List ℕ). AreParentsHome u.table ns) (sym (taken_here s of t xs ws ps ups used i z h))
-          (subst (λ (v : TreeInMemory). AreParentsHome v.table (parent_pids (changing ps ws))) (sym same_tree) (can_be_taken s of t xs ws ps ups used i z h)))
+          (subst (λ (v : TreeInMemory). AreParentsHome v.table (parent_pids (changing_families ps ws))) (sym same_tree) (can_be_taken s of t xs ws ps ups used i z h)))
 
       pub still_rising : AreRisingPids (pids_in_use u.table)
       still_rising = subst (λ (v : TreeInMemory). AreRisingPids (pids_in_use v.table)) (sym same_tree) (drawn_places (new_here s of t xs ws ps ups used i) t.table h.rising).rising
@@ -92,10 +94,10 @@ module _ {V : Type 0} (s : Settings) (of : Page V → PageOfKind) (kind : IsKind
       -- what became of the level
       pub all_changed : (after : TreeInMemory) (parents : List IndexWorked) → map (λ d. d.made) parents ≡ map (λ e. index_made s (parent_held u.table e)) (terms_by_parent counts freed given)
           → map (λ d. d.held) parents ≡ map (parent_held u.table) (terms_by_parent counts freed given) → after ≡ with_table u (all_taken u.table (map (λ e. e.0) (terms_by_parent counts freed given)))
-          → IsChanged s of t after ws ps used i given parents
+          → IsChanged s of t after (level_of ws ups used i) ps given parents
       all_changed after parents made held taken =
           let pair : TermHeld → ℕ × PageOfKind = λ x. (x.pid, x.page) in
-          let made_so : map (λ d. d.made) parents ≡ worked_parents s (parents_of (changing ps ws)) (map terms (changing_changes s used i (changing ps ws))) =
+          let made_so : map (λ d. d.made) parents ≡ worked_parents s (parents_of (changing_families ps ws)) (map terms (changing_changes s used i (changing_families ps ws))) =
           made ∙ ap (λ (es : List (ℕ × List (List ℕ × Option ℕ))). map (λ e. index_made s (parent_held u.table e)) es) told_so
           ∙ ap (λ (v : TreeInMemory). map (λ e. index_made s (parent_held v.table e)) (told_here s of t xs ws ps ups used i z h)) same_tree
           ∙ made_here s of t xs ws ps ups used i z h in
@@ -104,31 +106,31 @@ module _ {V : Type 0} (s : Settings) (of : Page V → PageOfKind) (kind : IsKind
           ∙ ap (λ (v : TreeInMemory). map (parent_held v.table) (told_here s of t xs ws ps ups used i z h)) same_tree in
           record {
             groups = remade_here;
-            made = through (shown Index) (λ d. d.made) parents _ made_so;
+            made = through (page_seen Index) (λ d. d.made) parents _ made_so;
             held = through pair (λ d. d.held) parents _ held_so ∙ held_here s of t xs ws ps ups used i z h;
             tree =
                 taken ∙ ap (λ (es : List (ℕ × List (List ℕ × Option ℕ))). with_table u (all_taken u.table (map (λ e. e.0) es))) told_so
                 ∙ ap (λ (ns : List ℕ). with_table u (all_taken u.table ns)) (taken_here s of t xs ws ps ups used i z h)
-                ∙ ap (λ (v : TreeInMemory). with_table v (all_taken v.table (parent_pids (changing ps ws)))) same_tree;
+                ∙ ap (λ (v : TreeInMemory). with_table v (all_taken v.table (parent_pids (changing_families ps ws)))) same_tree;
           }
 
 -- ---- a level whose numbers were drawn
 
 -- what holds of it then: its parents can be told and taken, and what comes of that is what the plan makes of the level
-pub record IsDrawn {V : Type 0} (s : Settings) (of : Page V → PageOfKind) (t u : TreeInMemory) (ws : List (Worked V)) (ps : List (Placed ℕ)) (used : List ℕ) (i : ℕ) (counts : List (ℕ × ℕ)) (freed : List (List (List ℕ × ℕ))) (given : List Remade) : Type 0 where
+pub record IsDrawn {V : Type 0} (s : Settings) (of : Page V → PageOfKind) (t u : TreeInMemory) (l : LevelPlan V) (ps : List (Placed ℕ)) (counts : List (ℕ × ℕ)) (freed : List (List (List ℕ × ℕ))) (given : List Remade) : Type 0 where
   pub rising : AreRisingPids (pids_in_use u.table)
   pub names : CanBeTold counts freed given
   pub home : AreParentsHome u.table (map (λ e. e.0) (terms_by_parent counts freed given))
   pub changed : (after : TreeInMemory) (parents : List IndexWorked) → map (λ d. d.made) parents ≡ map (λ e. index_made s (parent_held u.table e)) (terms_by_parent counts freed given)
       → map (λ d. d.held) parents ≡ map (parent_held u.table) (terms_by_parent counts freed given) → after ≡ with_table u (all_taken u.table (map (λ e. e.0) (terms_by_parent counts freed given)))
-      → IsChanged s of t after ws ps used i given parents
+      → IsChanged s of t after l ps given parents
 
 pub level_drawn : {V : Type 0} (s : Settings) (of : Page V → PageOfKind) (kind : IsKind of) (z : 0 < s.fan) (t u : TreeInMemory) (xs : List SeenPage) (ws : List (Worked V)) (ps : List (Placed ℕ)) (ups : List (List (Placed ℕ))) (used : List ℕ) (i : ℕ)
-    → IsLevel of t xs ws (ps ∷ ups) used i → (counts seen_counts : List (ℕ × ℕ)) (freed : List (List (List ℕ × ℕ))) (groups old new rest given : List Remade) (n : ℕ) → IsCut s of ws ps counts freed groups → seen_counts ≡ counts → old ≡ groups
-    → AreGiven t.table old new → length old ≡ n → given ≡ take n (new ++ rest) → u ≡ numbers_drawn t old → IsDrawn s of t u ws ps used i seen_counts freed given
+    → IsLevel of t xs (level_of ws (ps ∷ ups) used i) → (counts seen_counts : List (ℕ × ℕ)) (freed : List (List (List ℕ × ℕ))) (groups old new rest given : List Remade) (n : ℕ) → IsCut s of (level_of ws ups used i) ps counts freed groups → seen_counts ≡ counts → old ≡ groups
+    → AreGiven t.table old new → length old ≡ n → given ≡ take n (new ++ rest) → u ≡ numbers_drawn t old → IsDrawn s of t u (level_of ws ups used i) ps seen_counts freed given
 level_drawn s of kind z t u xs ws ps ups used i h counts seen_counts freed groups old new rest given n cut same_counts same_groups numbers_so len whole drawn =
-    let seen : IsCut s of ws ps seen_counts freed old = record { counts = same_counts ∙ cut.counts; names = cut.names; pieces = same_groups ∙ cut.pieces } in
-    let so : given ≡ numbered used i old = whole ∙ all_given t.table old new rest n numbers_so len ∙ numbers_so used i h.drawn in
+    let seen : IsCut s of (level_of ws ups used i) ps seen_counts freed old = record { counts = same_counts ∙ cut.counts; names = cut.names; pieces = same_groups ∙ cut.pieces } in
+    let so : given ≡ with_numbers used i old = whole ∙ all_given t.table old new rest n numbers_so len ∙ numbers_so used i h.drawn in
     record {
       rising = still_rising s of kind z t xs ws ps ups used i h seen_counts freed old seen given so u drawn;
       names = can_tell s of kind z t xs ws ps ups used i h seen_counts freed old seen given so;
@@ -143,7 +145,7 @@ pub record CanGiveBack (t u : TreeInMemory) (given : List Remade) : Type 0 where
   pub away : AreAway u.table (flat_map (λ r. r.fresh) given)
   pub back : with_table u (freed_all u.table (flat_map (λ r. r.fresh) given)) ≡ t
 
-pub can_give_back : {V : Type 0} (of : Page V → PageOfKind) (t u v : TreeInMemory) (xs : List SeenPage) (ws : List (Worked V)) (ups : List (List (Placed ℕ))) (used : List ℕ) (i : ℕ) → IsLevel of t xs ws ups used i
+pub can_give_back : {V : Type 0} (of : Page V → PageOfKind) (t u v : TreeInMemory) (xs : List SeenPage) (ws : List (Worked V)) (ups : List (List (Placed ℕ))) (used : List ℕ) (i : ℕ) → IsLevel of t xs (level_of ws ups used i)
     → (old new rest given : List Remade) (n : ℕ) → AreGiven t.table old new → length old ≡ n → given ≡ take n (new ++ rest) → u ≡ numbers_drawn t old → v ≡ u → CanGiveBack t v given
 can_give_back of t u v xs ws ups used i h old new rest given n numbers_so len whole drawn same =
     let fresh : flat_map (λ r. r.fresh) given ≡ fresh_pids (pids_in_use t.table) (numbers old) =

@@ -10,7 +10,7 @@ use Rattle.mapping.specs.Table.{Mapping, pids_in_use, place_of, with_rooms, fres
 use Rattle.mapping.proofs.DrawnPlaces.{drawn-away, away-place, freed-back}
 use Rattle.mapping.proofs.PidLaws.{unused-rises, all_among}
 use Rattle.climb_plan.specs.Installing.{AreAway}
-use Rattle.climb_plan.specs.Rewriting.{Remade, numbered, numbers}
+use Rattle.climb_plan.specs.Rewriting.{Remade, with_numbers, numbers}
 
 -- ---- numbers in order
 
@@ -25,7 +25,7 @@ range_joined a (suc m) n =
     ap (λ (b : ℕ). a ∷ (range_with_len (a + 1) m ++ range_with_len b n)) e ∙ ap (λ (ns : List ℕ). a ∷ ns) (range_joined (a + 1) m n) ∙ ap (λ (k : ℕ). range_with_len a k) f
 
 -- the numbers of all pieces are so many in a row
-pub all_numbers : (used : List ℕ) (i : ℕ) (rs : List Remade) → flat_map (λ r. r.fresh) (numbered used i rs) ≡ map (unused used) (range_with_len i (numbers rs))
+pub all_numbers : (used : List ℕ) (i : ℕ) (rs : List Remade) → flat_map (λ r. r.fresh) (with_numbers used i rs) ≡ map (unused used) (range_with_len i (numbers rs))
 all_numbers used i [] = refl
 all_numbers used i (r ∷ rs) =
     let n : ℕ = length r.pieces - 1 in
@@ -42,9 +42,9 @@ distinct_numbers used k zero = tt
 distinct_numbers used k (suc n) = (other_numbers used k (k + 1) n (omega arith), distinct_numbers used (k + 1) n)
 
 -- there are as many groups as before
-pub length-numbered : (used : List ℕ) (i : ℕ) (rs : List Remade) → length (numbered used i rs) ≡ length rs
-length-numbered used i [] = refl
-length-numbered used i (r ∷ rs) = ap suc (length-numbered used (i + (length r.pieces - 1)) rs)
+pub length-with_numbers : (used : List ℕ) (i : ℕ) (rs : List Remade) → length (with_numbers used i rs) ≡ length rs
+length-with_numbers used i [] = refl
+length-with_numbers used i (r ∷ rs) = ap suc (length-with_numbers used (i + (length r.pieces - 1)) rs)
 
 -- ---- places that are given back
 
@@ -72,9 +72,9 @@ module _ (t : Mapping PageOfKind) (rising : AreRisingPids (pids_in_use t)) (n : 
 
 -- numbers of groups that were given in order
 abbrev pub AreGiven : Mapping PageOfKind → List Remade → List Remade → Type 0
-AreGiven t old new = (used : List ℕ) (i : ℕ) → ((m : ℕ) → unused (pids_in_use t) m ≡ unused used (i + m)) → new ≡ numbered used i old
+AreGiven t old new = (used : List ℕ) (i : ℕ) → ((m : ℕ) → unused (pids_in_use t) m ≡ unused used (i + m)) → new ≡ with_numbers used i old
 
-given_here : (t : Mapping PageOfKind) (old new : List Remade) → AreGiven t old new → new ≡ numbered (pids_in_use t) 0 old
+given_here : (t : Mapping PageOfKind) (old new : List Remade) → AreGiven t old new → new ≡ with_numbers (pids_in_use t) 0 old
 given_here t old new given = given (pids_in_use t) 0 (λ m. let e : m ≡ 0 + m = omega arith in ap (unused (pids_in_use t)) e)
 
 pub numbers_given : (t : Mapping PageOfKind) (old new : List Remade) → AreGiven t old new → flat_map (λ r. r.fresh) new ≡ fresh_pids (pids_in_use t) (numbers old)
@@ -83,4 +83,4 @@ numbers_given t old new given = ap (λ (rs : List Remade). flat_map (λ r. r.fre
 -- the list that they stand in has nothing more
 pub all_given : (t : Mapping PageOfKind) (old new rest : List Remade) (n : ℕ) → AreGiven t old new → length old ≡ n → take n (new ++ rest) ≡ new
 all_given t old new rest n given e =
-    take_at new rest n (ap (λ (rs : List Remade). length rs) (given_here t old new given) ∙ length-numbered (pids_in_use t) 0 old ∙ e)
+    take_at new rest n (ap (λ (rs : List Remade). length rs) (given_here t old new given) ∙ length-with_numbers (pids_in_use t) 0 old ∙ e)

@@ -18,22 +18,23 @@ use Rattle.split_plan.specs.Cut.{cut}
 use Rattle.split_plan.specs.WorkedLevel.{placed_of}
 use Rattle.split_plan.specs.Change.{Change, placed_bare, fresh_pages, is_rewritten, remade, changes, fresh_of, all_new, all_fresh}
 use Rattle.split_plan.proofs.ChangeLaws.{remade_by, remade_begins}
-use Rattle.climb_plan.specs.Changing.{SeenPage, shown, AreSeen}
+use Rattle.climb_plan.specs.Changing.{SeenPage, page_seen, AreSeen}
 use Rattle.climb_plan.specs.Changing.AreSeen.{worked, at_home}
-use Rattle.climb_plan.specs.Climb.{climb, grown}
+use Rattle.climb_plan.specs.Climb.{climb, grown_levels}
 use Rattle.climb_plan.specs.Installing.{AreGrown}
 use Rattle.climb_plan.specs.Level.{IsKind, IsLevel, remade_of, next_tree, IsTopChanged}
-use Rattle.climb_plan.specs.Rewriting.{Remade, is_rewritten_seen, cut_group, CanBeCut, HaveSome, numbered, numbers, named_pages, top_names}
+use Rattle.climb_plan.specs.Rewriting.{Remade, is_rewritten_seen, cut_group, CanBeCut, HaveSome, with_numbers, numbers, named_pages, top_names}
 use Rattle.climb_plan.proofs.BridgeDrawn.{drawn_places}
 use Rattle.climb_plan.proofs.BridgeGroups.{all_rewritten, top_in_order, cut_each}
-use Rattle.climb_plan.proofs.BridgePieces.{numbered-shown, numbers-shown, some-shown}
-use Rattle.climb_plan.proofs.BridgeSeen.{shown_groups, filter-shown}
+use Rattle.climb_plan.proofs.BridgePieces.{with_numbers-page_seen, numbers-page_seen, some-page_seen}
+use Rattle.climb_plan.proofs.BridgeSeen.{shown_groups, filter-page_seen}
 use Rattle.climb_plan.proofs.BridgeTables.{logs_after}
 use Rattle.climb_plan.proofs.ChangingGroups.{fresh_on_top}
 use Rattle.climb_plan.proofs.Climbs.{tiled-top}
 use Rattle.climb_plan.proofs.ClimbingTop.{made_on_top, grown_above}
 use Rattle.climb_plan.proofs.LeveledChange.{with_table, numbers_drawn, CanGiveBack}
 use Rattle.climb_plan.proofs.LeveledDrawn.{AreGiven, all_given}
+use Rattle.climb_plan.proofs.LevelParts.{level_of}
 
 -- ---- all pages were seen
 
@@ -44,9 +45,9 @@ module _ {V : Type 0} (of : Page V → PageOfKind) (t : Mapping PageOfKind) wher
   fewer_seen (at_home p e r) = let ih = fewer_seen r in omega arith
 
   -- where as many were seen as there are, these are all
-  all_seen : {xs : List SeenPage} {ws : List (Worked V)} → AreSeen of t xs ws → length ws ≤ length xs → xs ≡ map (shown of) ws
+  all_seen : {xs : List SeenPage} {ws : List (Worked V)} → AreSeen of t xs ws → length ws ≤ length xs → xs ≡ map (page_seen of) ws
   all_seen (AreSeen.none) l = refl
-  all_seen (worked w e r) l = ap (λ (xs : List SeenPage). shown of w ∷ xs) (all_seen r (omega arith))
+  all_seen (worked w e r) l = ap (λ (xs : List SeenPage). page_seen of w ∷ xs) (all_seen r (omega arith))
   all_seen (at_home p e r) l = absurd (let ih = fewer_seen r in omega arith)
 
 pub some_seen : {D : Type 0} (f : D → SeenPage) (ds : List D) → 0 < length ds → 0 < length (map f ds)
@@ -56,10 +57,10 @@ some_seen f ds h = subst (λ (n : ℕ). 0 < n) (sym (length-map ds f)) h
 
 module _ {V W : Type 0} where
   -- above pages of the same names the same levels grow
-  grown-named : (n : ℕ) (s : Settings) (used : List ℕ) (i : ℕ) (ps : List (Placed V)) (qs : List (Placed W)) → names ps ≡ names qs → grown n s used i ps ≡ grown n s used i qs
-  grown-named zero s used i ps qs e = refl
-  grown-named (suc n) s used i ps qs e =
-      let above : Names → List (List (Placed ℕ)) = λ ns. (let up : List (Placed ℕ) = fresh_pages used i (cut s.fan ns) in up ∷ grown n s used (i + length up) up) in
+  grown_levels-named : (n : ℕ) (s : Settings) (used : List ℕ) (i : ℕ) (ps : List (Placed V)) (qs : List (Placed W)) → names ps ≡ names qs → grown_levels n s used i ps ≡ grown_levels n s used i qs
+  grown_levels-named zero s used i ps qs e = refl
+  grown_levels-named (suc n) s used i ps qs e =
+      let above : Names → List (List (Placed ℕ)) = λ ns. (let up : List (Placed ℕ) = fresh_pages used i (cut s.fan ns) in up ∷ grown_levels n s used (i + length up) up) in
       let count : length ps ≡ length qs = sym (length-map ps name) ∙ ap (λ (ns : Names). length ns) e ∙ length-map qs name in
       ap (λ (m : ℕ). cond (nat_lt 1 m) (above (names ps)) []) count ∙ ap (λ (ns : Names). cond (nat_lt 1 (length qs)) (above ns) []) e
 
@@ -128,15 +129,15 @@ pub record IsTopDrawn {V : Type 0} (s : Settings) (of : Page V → PageOfKind) (
   pub logs : IsOldWithoutPlace u.table
   pub changed : (after : TreeInMemory) (pid levels : ℕ)
       → ((used : List ℕ) (i : ℕ) (ps : List (Placed ℕ)) → ((m : ℕ) → unused (pids_in_use u.table) m ≡ unused used (i + m)) → names ps ≡ top_names u.root given
-      → (pid ≡ top_pid ps (grown (length ps) s used i ps)) × (levels ≡ u.height + length (grown (length ps) s used i ps)) × AreGrown u after (grown (length ps) s used i ps))
-      → IsTopChanged s of t after ws used i given pid levels
+      → (pid ≡ top_pid ps (grown_levels (length ps) s used i ps)) × (levels ≡ u.height + length (grown_levels (length ps) s used i ps)) × AreGrown u after (grown_levels (length ps) s used i ps))
+      → IsTopChanged s of t after (level_of ws [] used i) given pid levels
   pub next : ℕ
   pub like : List (Placed ℕ)
   pub numbered : (m : ℕ) → unused (pids_in_use u.table) m ≡ unused used (next + m)
   pub like_named : names like ≡ top_names u.root given
-  pub too_high : 64 < u.height + length (grown (length like) s used next like) → 64 < t.height + length (climb s used i ws []).tower.above
+  pub too_high : 64 < u.height + length (grown_levels (length like) s used next like) → 64 < t.height + length (climb s used i ws []).tower.above
 
-module _ {V : Type 0} (s : Settings) (of : Page V → PageOfKind) (kind : IsKind of) (z : 0 < s.fan) (t : TreeInMemory) (xs : List SeenPage) (ws : List (Worked V)) (used : List ℕ) (i : ℕ) (h : IsLevel of t xs ws [] used i) where
+module _ {V : Type 0} (s : Settings) (of : Page V → PageOfKind) (kind : IsKind of) (z : 0 < s.fan) (t : TreeInMemory) (xs : List SeenPage) (ws : List (Worked V)) (used : List ℕ) (i : ℕ) (h : IsLevel of t xs (level_of ws [] used i)) where
   -- the group, if it is one
   abbrev pub group_on_top : List (List (Worked V))
   group_on_top = filter is_rewritten (ws ∷ [])
@@ -145,18 +146,18 @@ module _ {V : Type 0} (s : Settings) (of : Page V → PageOfKind) (kind : IsKind
   one_page = sym (length-map ws (λ (w : Worked V). w.placed)) ∙ h.stacked
 
   module _ (some : 0 < length xs) where
-    all_here : xs ≡ map (shown of) ws
+    all_here : xs ≡ map (page_seen of) ws
     all_here = let one = one_page in all_seen of t.table h.seen (omega arith)
 
     -- one page was seen
     pub one_seen : length xs ≡ 1
-    one_seen = ap (λ (ys : List SeenPage). length ys) all_here ∙ length-map ws (shown of) ∙ one_page
+    one_seen = ap (λ (ys : List SeenPage). length ys) all_here ∙ length-map ws (page_seen of) ∙ one_page
 
     pub pages_are_one : {D : Type 0} (f : D → SeenPage) (ds : List D) → map f ds ≡ xs → length ds ≡ 1
     pages_are_one f ds e = sym (length-map ds f) ∙ ap (λ (ys : List SeenPage). length ys) e ∙ one_seen
 
     same_group : filter is_rewritten_seen (xs ∷ []) ≡ shown_groups of group_on_top
-    same_group = ap (λ (g : List SeenPage). filter is_rewritten_seen (g ∷ [])) all_here ∙ filter-shown of (ws ∷ [])
+    same_group = ap (λ (g : List SeenPage). filter is_rewritten_seen (g ∷ [])) all_here ∙ filter-page_seen of (ws ∷ [])
 
     -- it can be cut where it is a group
     pub can_cut : CanBeCut (filter is_rewritten_seen (xs ∷ []))
@@ -168,15 +169,15 @@ module _ {V : Type 0} (s : Settings) (of : Page V → PageOfKind) (kind : IsKind
 
       -- it has a piece then
       pub some_piece : HaveSome groups
-      some_piece = subst HaveSome (sym group_made) (some-shown of kind s group_on_top (all_rewritten (ws ∷ [])))
+      some_piece = subst HaveSome (sym group_made) (some-page_seen of kind s group_on_top (all_rewritten (ws ∷ [])))
 
       -- as many numbers are drawn as there are new pages
       count : numbers groups ≡ length (fresh_of (changes s used i group_on_top))
-      count = ap numbers group_made ∙ numbers-shown of kind s used i group_on_top (all_rewritten (ws ∷ []))
+      count = ap numbers group_made ∙ numbers-page_seen of kind s used i group_on_top (all_rewritten (ws ∷ []))
 
       -- with its numbers it is what the plan makes of it
-      remade_here : numbered used i groups ≡ map (remade_of of) (changes s used i group_on_top)
-      remade_here = ap (numbered used i) group_made ∙ numbered-shown of kind s used i group_on_top (all_rewritten (ws ∷ []))
+      remade_here : with_numbers used i groups ≡ map (remade_of of) (changes s used i group_on_top)
+      remade_here = ap (with_numbers used i) group_made ∙ with_numbers-page_seen of kind s used i group_on_top (all_rewritten (ws ∷ []))
 
   -- ---- the numbers were drawn
 
@@ -208,12 +209,12 @@ module _ {V : Type 0} (s : Settings) (of : Page V → PageOfKind) (kind : IsKind
         let x : i + (n + m) ≡ (i + length (all_fresh made_here)) + m = omega arith in
         (drawn_places n t.table h.rising).next m ∙ h.drawn (n + m) ∙ ap (unused used) x
 
-    grown_same : grown (length like_top) s used (i + length (all_fresh made_here)) like_top ≡ grown_above s used i ws
+    grown_same : grown_levels (length like_top) s used (i + length (all_fresh made_here)) like_top ≡ grown_above s used i ws
     grown_same =
         let j : ℕ = i + length (all_fresh made_here) in
         let top : List (Placed V) = all_new made_here in
         let count : length like_top ≡ length top = sym (length-map like_top name) ∙ ap (λ (ns : Names). length ns) like_named ∙ length-map top name in
-        ap (λ (n : ℕ). grown n s used j like_top) count ∙ grown-named (length top) s used j like_top top like_named
+        ap (λ (n : ℕ). grown_levels n s used j like_top) count ∙ grown_levels-named (length top) s used j like_top top like_named
 
     ready_logs : IsOldWithoutPlace ready_on_top.table
     ready_logs = logs_after t.table (with_rooms t.table (fresh_pids (pids_in_use t.table) count_here)) count_here [] (drawn_places count_here t.table h.rising) h.logs
@@ -262,5 +263,5 @@ given_back t v w given b e = e ∙ b.back
 
 -- the same groups under another name
 pub of_groups : {V : Type 0} (s : Settings) (of : Page V → PageOfKind) (t after : TreeInMemory) (ws : List (Worked V)) (used : List ℕ) (i : ℕ) (given groups : List Remade) (pid levels : ℕ) → given ≡ groups
-    → IsTopChanged s of t after ws used i given pid levels → IsTopChanged s of t after ws used i groups pid levels
-of_groups s of t after ws used i given groups pid levels e c = subst (λ (rs : List Remade). IsTopChanged s of t after ws used i rs pid levels) e c
+    → IsTopChanged s of t after (level_of ws [] used i) given pid levels → IsTopChanged s of t after (level_of ws [] used i) groups pid levels
+of_groups s of t after ws used i given groups pid levels e c = subst (λ (rs : List Remade). IsTopChanged s of t after (level_of ws [] used i) rs pid levels) e c

@@ -1,73 +1,69 @@
-mod AllThinLeaves
-pub mod Arrived
-pub mod ArrivedPages
-pub mod BridgeDrawn
-pub mod BridgeGroups
-pub mod BridgeNext
-pub mod BridgeParents
-pub mod BridgePieces
-pub mod BridgeSeen
-pub mod BridgeTables
-pub mod BridgeTold
-mod ChangedNames
-mod ChangedPieces
-mod ChangedRooms
+-- ---- the plan
+mod Families
+mod Leaves
+mod Climbs
+mod Pids
+mod Sizes
+mod Grown
+mod Kept
+mod Planned
+mod OutdatedPids
+mod InUse
+mod Standing
+mod Logs
+mod FreshOrder
+mod Untouched
+-- ---- levels: the families that change, and a level that has climbed
+pub mod LevelParts
+pub mod ChangingSeen
 pub mod ChangingGroups
 pub mod ChangingOutdated
-pub mod ChangingSeen
+mod Told
+pub mod ToldRuns
+mod Installed
+pub mod InstalledPages
+pub mod InstalledLevel
 pub mod Climbing
 pub mod ClimbingLevel
 pub mod ClimbingTop
-mod Climbs
-mod CutUnderTwoParents
-mod DescentWay
-mod Families
-mod FreshOrder
-mod Grown
-mod InUse
-pub mod InstalledLevel
-pub mod InstalledPages
+-- ---- the table: pages that are taken and put, numbers that are drawn and given back
 pub mod Installing
-pub mod InstallingLaws
+pub mod InstallingLemmas
 mod InstallingParents
-mod Kept
-mod LeadingThinLeaf
-mod Leaves
-pub mod LeveledChange
-pub mod LeveledCut
-pub mod LeveledDrawn
-pub mod LeveledTop
-mod Literals
-mod Logs
-mod MergedAndCutAgain
-mod OnlyChild
-mod OutdatedPids
-mod Pids
-mod Planned
-mod Ready
-mod RewritingFamily
-mod RewritingGroups
-mod RewritingLevel
-mod RewritingSeen
-mod RewritingWalk
+pub mod ArrivedPages
+pub mod Arrived
+pub mod BridgeTables
+pub mod BridgeDrawn
+mod ChangedRooms
 mod Rooted
-mod RowEight
-mod RowFive
-mod RowFour
-mod RowNine
-mod RowTen
-mod RowThirteen
-mod RowTwelve
+mod OnlyChild
 mod Shrinking
-mod Sizes
-mod Standing
-pub mod ThroughBack
-pub mod ThroughClimb
+-- ---- the code: what it sees and makes is what the plan has
+mod RewritingSeen
+mod RewritingGroups
+mod RewritingFamily
+mod RewritingLevel
+mod RewritingWalk
+mod DescentWay
+mod ChangedNames
+mod ChangedPieces
+pub mod BridgeSeen
+pub mod BridgeGroups
+pub mod BridgePieces
+pub mod BridgeTold
+pub mod BridgeParents
+pub mod BridgeNext
+pub mod LeveledDrawn
+pub mod LeveledCut
+pub mod LeveledChange
+pub mod LeveledTop
 pub mod ThroughGroups
 pub mod ThroughLevel
 pub mod ThroughTop
-pub mod ToldRuns
-pub mod ToldSome
-mod Untouched
-mod Installed
-mod Told
+pub mod ThroughClimb
+pub mod ThroughBack
+mod Ready
+-- ---- the worked rows
+mod Literals
+mod LowRows
+mod HighRows

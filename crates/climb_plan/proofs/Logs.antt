@@ -22,9 +22,9 @@ use Rattle.mapping.proofs.TableLaws.{same_pid, by_pid-holds, holds_where_found}
 use Rattle.page_runs.specs.NetRun.{net_run}
 use Rattle.split_plan.specs.WorkedLevel.{worked_leaves}
 use Rattle.split_plan.proofs.RunLaws.{names-worked_leaves}
-use Rattle.climb_plan.specs.Climb.{Climbed, kept}
+use Rattle.climb_plan.specs.Climb.{Climbed, kept_levels}
 use Rattle.mapping.specs.Outdate.{outdate, outdate_all}
-use Rattle.climb_plan.specs.Plan.{climbed, planned_levels, planned_tree, shrunk_pids, outdated_pids}
+use Rattle.climb_plan.specs.Plan.{batch_climb, planned_levels, planned_tree, shrunk_pids, outdated_pids}
 use Rattle.climb_plan.proofs.Kept.{kept_is_first, left_is_rest}
 use Rattle.climb_plan.proofs.Planned.{planned_are_levels}
 use Rattle.climb_plan.proofs.Standing.{Has, IsAsBefore, HasAsBefore, StandsIn, AllStandIn, as_before-worked_leaves, stand-climb}
@@ -168,7 +168,7 @@ module _ {A : Type 0} (s : Settings) (t : Tree) (cs : List (Command A)) where
   upto_was pid k h = (upto_is pid k h).1
 
   module _ (fan : 1 < s.fan) (proper : IsProper s t) where
-    levels_stand : AllByRecursion (StandsIn (climbed s t cs).outdated (climbed s t cs).tower.level) (levels_of t).level × AllStandIn (climbed s t cs).outdated (levels_of t).above (climbed s t cs).tower.above
+    levels_stand : AllByRecursion (StandsIn (batch_climb s t cs).outdated (batch_climb s t cs).tower.level) (levels_of t).level × AllStandIn (batch_climb s t cs).outdated (levels_of t).above (batch_climb s t cs).tower.above
     levels_stand =
         let l : Levels = levels_of t in
         let run : List (List ℕ × Option (List ℕ)) = net_run (Rattle.mapping.specs.Levels.contents t) cs in
@@ -184,7 +184,7 @@ module _ {A : Type 0} (s : Settings) (t : Tree) (cs : List (Command A)) where
     leaf_stands : (pid : ℕ) (p : PageOfKind) → is_among pid gone_pids ≡ false → page_at t.pages pid ≡ Some p → is_among pid (pids (levels_of t).level) ≡ true → StillStands pid p
     leaf_stands pid p g h m =
         let l : Levels = levels_of t in
-        let c : Climbed (List ℕ) = climbed s t cs in
+        let c : Climbed (List ℕ) = batch_climb s t cs in
         let gone : List ℕ = c.outdated in
         let news : List (Placed (List ℕ)) = c.tower.level in
         let was = pick (λ q. (page_at t.pages q.pid ≡ Some (Leaf q.page)) × StandsIn gone news q) l.level pid ((all_both (λ q. page_at t.pages q.pid ≡ Some (Leaf q.page)) (StandsIn gone news) l.level).1 (proper.held.leaves, levels_stand.0)) m in
@@ -197,16 +197,16 @@ module _ {A : Type 0} (s : Settings) (t : Tree) (cs : List (Command A)) where
 
     index_page_stands : (pid : ℕ) (p : PageOfKind) → is_among pid gone_pids ≡ false → page_at t.pages pid ≡ Some p → is_among pid (flat_map pids (levels_of t).above) ≡ true → StillStands pid p
     index_page_stands pid p g h m =
-        let c : Climbed (List ℕ) = climbed s t cs in
+        let c : Climbed (List ℕ) = batch_climb s t cs in
         let table : List (ℕ × PageOfKind) = (planned_tree s t cs).pages in
         let apart = among_apart pid c.outdated (shrunk_pids c.tower.above) g in
         let f = found_above t.pages c.outdated (levels_of t).above c.tower.above pid proper.held.above levels_stand.1 apart.0 m in
         let r = kept_is_first c.tower.above in
         let not_shrunk : is_among pid (flat_map pids r.0) ≡ false = subst (λ (x : List (List (Placed ℕ))). is_among pid (flat_map pids x) ≡ false) (left_is_rest c.tower.above) apart.1 in
-        let split = in_either (kept c.tower.above) r.0 f.after (subst (λ (x : List (List (Placed ℕ))). InLevels x f.after) (sym r.1) f.there) in
+        let split = in_either (kept_levels c.tower.above) r.0 f.after (subst (λ (x : List (List (Placed ℕ))). InLevels x f.after) (sym r.1) f.there) in
         let there : page_at table f.after.pid ≡ Some (Index f.after.page) =
         elim split [
-          | inl a ↦ in_all (λ q. page_at table q.pid ≡ Some (Index q.page)) (kept c.tower.above) f.after planned_holds.above a
+          | inl a ↦ in_all (λ q. page_at table q.pid ≡ Some (Index q.page)) (kept_levels c.tower.above) f.after planned_holds.above a
           | inr b ↦ absurd (not_in_by pid r.0 f.after (f.same.pid ∙ f.pid) not_shrunk b)
         ] in
         let at_pid : page_at table pid ≡ Some (Index f.after.page) = subst (λ (x : ℕ). page_at table x ≡ Some (Index f.after.page)) (f.same.pid ∙ f.pid) there in

@@ -15,7 +15,7 @@ use Rattle.split_plan.specs.Change.{Change, remade, family_changes, all_fresh, o
 use Rattle.split_plan.proofs.OutdatedLaws.{outdated_members, outdated_of_families}
 use Rattle.split_plan.specs.Terms.{terms}
 use Rattle.climb_plan.specs.Climb.{families, climb}
-use Rattle.climb_plan.specs.Plan.{climbed, shrunk_pids, outdated_pids}
+use Rattle.climb_plan.specs.Plan.{batch_climb, shrunk_pids, outdated_pids}
 
 -- ---- on each level those of its groups
 
@@ -47,10 +47,10 @@ module _ {V : Type 0} where
 -- ---- of the whole plan
 
 pub outdated_in_plan : {A : Type 0} (s : Settings) (t : Tree) (cs : List (Command A)) (pid : ℕ)
-    → (is_among pid (outdated_pids s t cs) ≡ true) ↔ ((is_among pid (climbed s t cs).outdated ≡ true) ⊎ (is_among pid (shrunk_pids (climbed s t cs).tower.above) ≡ true))
+    → (is_among pid (outdated_pids s t cs) ≡ true) ↔ ((is_among pid (batch_climb s t cs).outdated ≡ true) ⊎ (is_among pid (shrunk_pids (batch_climb s t cs).tower.above) ≡ true))
 outdated_in_plan s t cs pid =
-    let here : List ℕ = (climbed s t cs).outdated in
-    let root : List ℕ = shrunk_pids (climbed s t cs).tower.above in (
+    let here : List ℕ = (batch_climb s t cs).outdated in
+    let root : List ℕ = shrunk_pids (batch_climb s t cs).tower.above in (
       λ h. among_either pid here root h,
       λ h. elim h [ inl a ↦ among_left pid here root a | inr b ↦ among_right pid here root b ],
     )

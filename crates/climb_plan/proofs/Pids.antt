@@ -14,20 +14,20 @@ use Rattle.split_plan.proofs.PidLaws.{renewed-append, recast, renewed-fresh_page
 use Rattle.split_plan.proofs.Renewed.{Renewed}
 use Rattle.split_plan.proofs.Renewed.Renewed.{done}
 use Rattle.split_plan.specs.Terms.{terms}
-use Rattle.climb_plan.specs.Climb.{families, grown, climb}
+use Rattle.climb_plan.specs.Climb.{families, grown_levels, climb}
 use Rattle.climb_plan.proofs.Families.{families-joined}
 
-grown_by : {V : Type 0} (b : Bool) (enough : ℕ) (s : Settings) (used : List ℕ) (i : ℕ) (ps : List (Placed V)) → ((j : ℕ) (up : List (Placed ℕ)) → (k : ℕ) × Renewed used j k [] (flat_map pids (grown enough s used j up)))
-    → (k : ℕ) × Renewed used i k [] (flat_map pids (cond b (let up : List (Placed ℕ) = fresh_pages used i (cut s.fan (names ps)) in up ∷ grown enough s used (i + length up) up) []))
+grown_by : {V : Type 0} (b : Bool) (enough : ℕ) (s : Settings) (used : List ℕ) (i : ℕ) (ps : List (Placed V)) → ((j : ℕ) (up : List (Placed ℕ)) → (k : ℕ) × Renewed used j k [] (flat_map pids (grown_levels enough s used j up)))
+    → (k : ℕ) × Renewed used i k [] (flat_map pids (cond b (let up : List (Placed ℕ) = fresh_pages used i (cut s.fan (names ps)) in up ∷ grown_levels enough s used (i + length up) up) []))
 grown_by false enough s used i ps ih = (i, done)
 grown_by true enough s used i ps ih =
     let up : List (Placed ℕ) = fresh_pages used i (cut s.fan (names ps)) in
     let r = ih (i + length up) up in
     (r.0, renewed-append (renewed-fresh_pages used i (cut s.fan (names ps))) r.1)
 
-renewed-grown : {V : Type 0} (enough : ℕ) (s : Settings) (used : List ℕ) (i : ℕ) (ps : List (Placed V)) → (k : ℕ) × Renewed used i k [] (flat_map pids (grown enough s used i ps))
-renewed-grown zero s used i ps = (i, done)
-renewed-grown (suc enough) s used i ps = grown_by (nat_lt 1 (length ps)) enough s used i ps (λ j up. renewed-grown enough s used j up)
+renewed-grown_levels : {V : Type 0} (enough : ℕ) (s : Settings) (used : List ℕ) (i : ℕ) (ps : List (Placed V)) → (k : ℕ) × Renewed used i k [] (flat_map pids (grown_levels enough s used i ps))
+renewed-grown_levels zero s used i ps = (i, done)
+renewed-grown_levels (suc enough) s used i ps = grown_by (nat_lt 1 (length ps)) enough s used i ps (λ j up. renewed-grown_levels enough s used j up)
 
 -- a climb's pids are those of the levels before, some left out, and fresh ones
 pub renewed-climb : {V : Type 0} (s : Settings) (used : List ℕ) (i : ℕ) (ws : List (Worked V)) (olds : List (Placed V)) (ups : List (List (Placed ℕ))) → names (placed_of ws) ≡ names olds → Stacked olds ups
@@ -36,7 +36,7 @@ renewed-climb {V} s used i ws olds [] e o =
     let css : List (List (Change V)) = changes s used i (ws ∷ []) ∷ [] in
     let top : List (Placed V) = all_new css in
     let j : ℕ = i + length (all_fresh css) in
-    let g = renewed-grown (length top) s used j top in
+    let g = renewed-grown_levels (length top) s used j top in
     let before : pids (placed_of (ws ++ [])) ≡ pids olds = ap (λ (vs : List (Worked V)). pids (placed_of vs)) (append-nil ws) ∙ same_pids (placed_of ws) olds e in
     let count : i + length (fresh_of (changes s used i (ws ∷ []))) ≡ j = ap (λ (ps : List (Placed V)). i + length ps) (sym (append-nil (fresh_of (changes s used i (ws ∷ []))))) in
     let after : pids (new_of (changes s used i (ws ∷ []))) ≡ pids top = ap (λ (ps : List (Placed V)). pids ps) (sym (append-nil (new_of (changes s used i (ws ∷ []))))) in

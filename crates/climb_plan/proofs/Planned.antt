@@ -29,10 +29,10 @@ use Rattle.split_plan.proofs.RunLaws.{joined-worked_leaves, names-worked_leaves}
 use Rattle.split_plan.proofs.PidLaws.{distinct_renewed}
 use Rattle.climb_plan.specs.Limits.{AreShort}
 use Rattle.climb_plan.specs.Climb.{Climbed}
-use Rattle.climb_plan.specs.Plan.{climbed, planned_levels, planned_tree}
+use Rattle.climb_plan.specs.Plan.{batch_climb, planned_levels, planned_tree}
 use Rattle.climb_plan.proofs.Climbs.{joined-climb, next_low-climb, stacked-climb}
 use Rattle.climb_plan.proofs.Pids.{renewed-climb}
-use Rattle.climb_plan.proofs.Kept.{stacked-kept, branched-kept, distinct-kept, all-kept}
+use Rattle.climb_plan.proofs.Kept.{stacked-kept_levels, branched-kept_levels, distinct-kept_levels, all-kept_levels}
 use Rattle.climb_plan.proofs.Sizes.{IsSmall, HaveShortLows, small-climb, short_entries, short_first_key}
 use Rattle.climb_plan.proofs.Leaves.{tiled-leaves, small-leaves}
 
@@ -113,7 +113,7 @@ module _ {A : Type 0} (s : Settings) (t : Tree) (cs : List (Command A)) (fan : 1
   pub planned_are_levels : AreLevels (planned_levels s t cs)
   planned_are_levels =
       let l : Levels = levels_of t in
-      let c : Climbed (List ℕ) = climbed s t cs in
+      let c : Climbed (List ℕ) = batch_climb s t cs in
       let tiled : Tiled (placed_of leaves) None = tiled-leaves s cs l.level proper.levels.first proper.levels.tiled in
       let stacked = stacked-climb s (keys_of t.pages) 0 leaves l.level l.above fan keep_names proper.levels.stacked tiled in
       let renewed = renewed-climb s (keys_of t.pages) 0 leaves l.level l.above keep_names proper.levels.stacked in
@@ -121,9 +121,9 @@ module _ {A : Type 0} (s : Settings) (t : Tree) (cs : List (Command A)) (fan : 1
       record {
         first = next_low-climb s (keys_of t.pages) 0 leaves l.above l.level keep_names proper.levels.stacked ∙ proper.levels.first;
         tiled = stacked.0;
-        stacked = stacked-kept c.tower.above c.tower.level stacked.1;
-        top = branched-kept c.tower.above c.tower.level stacked.1;
-        distinct = distinct-kept c.tower.level c.tower.above distinct;
+        stacked = stacked-kept_levels c.tower.above c.tower.level stacked.1;
+        top = branched-kept_levels c.tower.above c.tower.level stacked.1;
+        distinct = distinct-kept_levels c.tower.level c.tower.above distinct;
       }
 
   -- the planned table has just these levels
@@ -155,14 +155,14 @@ module _ {A : Type 0} (s : Settings) (t : Tree) (cs : List (Command A)) (fan : 1
   planned_fit : AreShort s cs → AllFit s (planned_levels s t cs)
   planned_fit short =
       let l : Levels = levels_of t in
-      let c : Climbed (List ℕ) = climbed s t cs in
+      let c : Climbed (List ℕ) = batch_climb s t cs in
       let z : 0 < s.fan = omega arith in
       let small : AllByRecursion (IsSmall s (IsShortValue s)) l.level = small_pages s (IsShortValue s) l.level proper.fit.leaves (short_lows s (IsShortValue s) l.level l.above proper.levels.first proper.levels.stacked proper.fit.above) in
       let upper : AllByRecursion (AllByRecursion (IsSmall s IsAnyPid)) l.above = small_above s l.level l.above proper.fit.above proper.levels.stacked in
       let r = small-climb s (IsShortValue s) (keys_of t.pages) 0 leaves l.level l.above z keep_names proper.levels.stacked (small-leaves s cs l.level short small) upper in
       record {
         leaves = fits_of s (IsShortValue s) c.tower.level r.0;
-        above = all-kept (AllByRecursion (λ (p : Placed ℕ). Fits s IsAnyPid p.page)) c.tower.above (all_fits s c.tower.above r.1);
+        above = all-kept_levels (AllByRecursion (λ (p : Placed ℕ). Fits s IsAnyPid p.page)) c.tower.above (all_fits s c.tower.above r.1);
       }
 
   -- the plan of a proper tree is proper

@@ -20,18 +20,19 @@ use Rattle.mapping.proofs.TileLaws.{next_low-same}
 use Rattle.page_runs.specs.Worked.{Worked}
 use Rattle.split_plan.specs.WorkedLevel.{placed_of}
 use Rattle.climb_plan.specs.Changing.{SeenPage}
-use Rattle.climb_plan.specs.Climb.{Climbed, kept}
+use Rattle.climb_plan.specs.Climb.{Climbed, LevelPlan, kept_levels}
 use Rattle.climb_plan.specs.HasClimbed.{HasClimbed, CanShrink, HasShrunk}
 use Rattle.climb_plan.specs.Level.{IsLevel}
-use Rattle.climb_plan.specs.Plan.{climbed, planned_tree}
+use Rattle.climb_plan.specs.LevelSteps.{SomeLevel, ClimbsFrom, IsTooHighFrom}
+use Rattle.climb_plan.specs.Plan.{batch_climb, planned_tree}
 use Rattle.climb_plan.specs.Ready.{IsReady}
 use Rattle.climb_plan.proofs.Arrived.{leaves_after, keep_names, whole_distinct, distinct_after, never_after, climbed-height, arrived-home, arrived-tree}
 use Rattle.climb_plan.proofs.BridgeNext.{top_pid-same, stacked-same}
 use Rattle.climb_plan.proofs.Climbs.{stacked-climb}
 use Rattle.climb_plan.proofs.Grown.{grown_is_kept, kept_are_no_more}
 use Rattle.climb_plan.proofs.Leaves.{tiled-leaves}
-use Rattle.climb_plan.proofs.ThroughClimb.{SomeLevel, ClimbsFrom, IsTooHigh}
 use Rattle.climb_plan.proofs.Untouched.{levels_above, height_by}
+use Rattle.climb_plan.proofs.LevelParts.{level_of}
 
 -- ---- tables with the same pids
 
@@ -76,7 +77,10 @@ module _ {A : Type 0} (s : Settings) (fan : 1 < s.fan) (t : Tree) (cs : List (Co
   ready_logs = logs_by m.table t.pages m.table.logged r.in_use (subst (λ (ls : List (ℕ × Logged)). AllByRecursion (λ l. IsTrueOf (page_at t.pages l.0) l.1) ls) (sym r.logged) r.logs.each)
 
   -- they are a level, under the levels of the tree
-  pub ready_level : IsLevel Leaf m xs leaves (levels_of t).above (keys_of t.pages) 0
+  abbrev pub ready_plan : LevelPlan (List ℕ)
+  ready_plan = level_of leaves (levels_of t).above (keys_of t.pages) 0
+
+  pub ready_level : IsLevel Leaf m xs ready_plan
   ready_level = record {
     seen = r.leaves;
     tiled = tiled-leaves s cs (levels_of t).level r.proper.levels.first r.proper.levels.tiled;
@@ -105,15 +109,15 @@ module _ {A : Type 0} (s : Settings) (fan : 1 < s.fan) (t : Tree) (cs : List (Co
   -- ---- once they have climbed
 
   -- too many levels stay too many, since a tree that grew doesn't shrink
-  pub ready_high : m.height ≤ 64 → 64 + length (levels_of t).above < m.height + length (climbed s t cs).tower.above → 64 < (planned_tree s t cs).height
+  pub ready_high : m.height ≤ 64 → 64 + length (levels_of t).above < m.height + length (batch_climb s t cs).tower.above → 64 < (planned_tree s t cs).height
   ready_high low h =
       let e = levels_counted in
       let k = ap (λ (ls : List (List (Placed ℕ))). length ls) (grown_is_kept s (keys_of t.pages) 0 leaves (levels_of t).above (omega arith)) in
       omega arith
 
-  module _ (after : TreeInMemory) (climbing : HasClimbed Leaf m after leaves (levels_of t).above (climbed s t cs)) where
+  module _ (after : TreeInMemory) (climbing : HasClimbed Leaf m after ready_plan (batch_climb s t cs)) where
     -- the root can shrink
-    pub ready_to_shrink : CanShrink after (climbed s t cs).tower.level (climbed s t cs).tower.above
+    pub ready_to_shrink : CanShrink after (batch_climb s t cs).tower.level (batch_climb s t cs).tower.above
     ready_to_shrink = record {
       home = climbing.above;
       stacked = (stacked-climb s (keys_of t.pages) 0 leaves (levels_of t).level (levels_of t).above fan same_names r.proper.levels.stacked (tiled-leaves s cs (levels_of t).level r.proper.levels.first r.proper.levels.tiled)).1;
@@ -123,7 +127,7 @@ module _ {A : Type 0} (s : Settings) (fan : 1 < s.fan) (t : Tree) (cs : List (Co
       height = climbed-height s t cs fan r.proper m after r.in_use climbing r.height;
     }
 
-    module _ (last : TreeInMemory) (shrinking : HasShrunk after last (climbed s t cs).tower.level (climbed s t cs).tower.above) where
+    module _ (last : TreeInMemory) (shrinking : HasShrunk after last (batch_climb s t cs).tower.level (batch_climb s t cs).tower.above) where
       -- the tree is the planned one then
       pub ready_arrives : AreAllHome last × (tree_of last ≡ planned_tree s t cs)
       ready_arrives = (
@@ -134,9 +138,9 @@ module _ {A : Type 0} (s : Settings) (fan : 1 < s.fan) (t : Tree) (cs : List (Co
       -- and no higher than before the root shrank
       pub ready_low : after.height ≤ 64 → last.height ≤ 64
       ready_low low =
-          let before : after.height ≡ suc (length (climbed s t cs).tower.above) = ready_to_shrink.height in
-          let now : last.height ≡ suc (length (kept (climbed s t cs).tower.above)) = shrinking.height in
-          let less = kept_are_no_more (climbed s t cs).tower.above in
+          let before : after.height ≡ suc (length (batch_climb s t cs).tower.above) = ready_to_shrink.height in
+          let now : last.height ≡ suc (length (kept_levels (batch_climb s t cs).tower.above)) = shrinking.height in
+          let less = kept_are_no_more (batch_climb s t cs).tower.above in
           omega arith
 
 -- ---- as code has it
@@ -150,24 +154,23 @@ module _ (A : Type 0) (s : Settings) (fan : 1 < s.fan) (m : TreeInMemory) (xs : 
   depth_by t cs r = ap (λ (n : ℕ). n - 1) is ∙ ready_depth s fan t cs m xs r
 
   pub some_leaves : SomeReady → SomeLevel Leaf m xs (height - 1)
-  some_leaves k = (leaves_after s k.0 k.1 fan k.2.proper, (levels_of k.0).above, keys_of k.0.pages, 0, ready_level s fan k.0 k.1 m xs k.2, depth_by k.0 k.1 k.2)
+  some_leaves k = (ready_plan s fan k.0 k.1 m xs k.2, ready_level s fan k.0 k.1 m xs k.2, depth_by k.0 k.1 k.2)
 
-  pub too_high : (P : Type 0) → m.height ≤ 64 → IsTooHigh Leaf s m xs (height - 1) P → (t : Tree) (cs : List (Command A)) → IsReady s t cs m xs → P → 64 < (planned_tree s t cs).height
-  too_high P low f t cs r p =
-      ready_high s fan t cs m xs r low (f (leaves_after s t cs fan r.proper) (levels_of t).above (keys_of t.pages) 0 (ready_level s fan t cs m xs r) (depth_by t cs r) p)
+  pub too_high : (P : Type 0) → m.height ≤ 64 → (P → IsTooHighFrom Leaf s m xs (height - 1)) → (t : Tree) (cs : List (Command A)) → IsReady s t cs m xs → P → 64 < (planned_tree s t cs).height
+  too_high P low f t cs r p = ready_high s fan t cs m xs r low (f p (ready_plan s fan t cs m xs r) (ready_level s fan t cs m xs r) (depth_by t cs r))
 
   module _ (after : TreeInMemory) (climbs : ClimbsFrom Leaf s m after xs (height - 1)) where
-    has_climbed : (t : Tree) (cs : List (Command A)) (r : IsReady s t cs m xs) → HasClimbed Leaf m after (leaves_after s t cs fan r.proper) (levels_of t).above (climbed s t cs)
-    has_climbed t cs r = climbs (leaves_after s t cs fan r.proper) (levels_of t).above (keys_of t.pages) 0 (ready_level s fan t cs m xs r) (depth_by t cs r)
+    has_climbed : (t : Tree) (cs : List (Command A)) (r : IsReady s t cs m xs) → HasClimbed Leaf m after (ready_plan s fan t cs m xs r) (batch_climb s t cs)
+    has_climbed t cs r = climbs (ready_plan s fan t cs m xs r) (ready_level s fan t cs m xs r) (depth_by t cs r)
 
     pub some_to_shrink : SomeReady → (level : List (Placed (List ℕ))) × (ls : List (List (Placed ℕ))) × CanShrink after level ls
     some_to_shrink k =
-        let c : Climbed (List ℕ) = climbed s k.0 k.1 in
+        let c : Climbed (List ℕ) = batch_climb s k.0 k.1 in
         (c.tower.level, c.tower.above, ready_to_shrink s fan k.0 k.1 m xs k.2 after (has_climbed k.0 k.1 k.2))
 
     module _ (last : TreeInMemory) (shrinks : (level : List (Placed (List ℕ))) (ls : List (List (Placed ℕ))) → CanShrink after level ls → HasShrunk after last level ls) where
-      has_shrunk : (t : Tree) (cs : List (Command A)) (r : IsReady s t cs m xs) → HasShrunk after last (climbed s t cs).tower.level (climbed s t cs).tower.above
-      has_shrunk t cs r = shrinks (climbed s t cs).tower.level (climbed s t cs).tower.above (ready_to_shrink s fan t cs m xs r after (has_climbed t cs r))
+      has_shrunk : (t : Tree) (cs : List (Command A)) (r : IsReady s t cs m xs) → HasShrunk after last (batch_climb s t cs).tower.level (batch_climb s t cs).tower.above
+      has_shrunk t cs r = shrinks (batch_climb s t cs).tower.level (batch_climb s t cs).tower.above (ready_to_shrink s fan t cs m xs r after (has_climbed t cs r))
 
       pub all_arrive : (t : Tree) (cs : List (Command A)) → IsReady s t cs m xs → AreAllHome last × (tree_of last ≡ planned_tree s t cs)
       all_arrive t cs r = ready_arrives s fan t cs m xs r after (has_climbed t cs r) last (has_shrunk t cs r)

@@ -12,6 +12,7 @@ use Rattle.mapping.specs.Table.{Mapping, page_of}
 use Rattle.climb_plan.specs.Changing.{SeenPage}
 use Rattle.climb_plan.specs.Rewriting.{all_seen, seen_name, AreSeenIn, AreParted, IsNextChild, IsFamilyOf}
 use Rattle.climb_plan.specs.declared.seen.Seen.{Seen}
+use Rattle.climb_plan.proofs.LevelParts.{family_of}
 use Rattle.climb_plan.proofs.RewritingSeen.{rising_later}
 
 abbrev pub Names : Type 0
@@ -100,7 +101,7 @@ module _ (t : Mapping PageOfKind) (seen : List Seen) (es : Names) (children late
 
 -- ---- where the walk begins
 
-module _ (t : Mapping PageOfKind) (seen : List Seen) (parent : ℕ) (p : Placed ℕ) (before from children later : List SeenPage) (e : parent ≡ p.pid) (h : IsFamilyOf t (all_seen seen) p before from children later) where
+module _ (t : Mapping PageOfKind) (seen : List Seen) (parent : ℕ) (p : Placed ℕ) (before from children later : List SeenPage) (e : parent ≡ p.pid) (h : IsFamilyOf t (all_seen seen) (family_of p before from children later)) where
   pub same_parent : (page : PageOfKind) → Some page ≡ page_of t parent → page ≡ Index p.page
   same_parent page f = let home : page_of t parent ≡ Some (Index p.page) = ap (λ (n : ℕ). page_of t n) e ∙ h.home in cc
 

@@ -1,6 +1,6 @@
 -- Lemmas on the groups of children as they are seen, for the proofs of this crate.
-use Rattle.std.specs.Prelude.{◌≡◌, ℕ, zero, suc, ◌+◌, ◌<◌, ◌≤◌, Bool, true, false, List, [], ◌∷◌, ◌++◌, map, take, drop, length}
-use Rattle.std.proofs.Common.{refl, sym, ap, ◌∙◌, get_or, arith, append-nil, append_assoc}
+use Rattle.std.specs.Prelude.{◌≡◌, ℕ, zero, suc, ◌+◌, ◌<◌, ◌≤◌, Bool, true, false, List, [], ◌∷◌, ◌++◌, map, take, drop, length, Vec}
+use Rattle.std.proofs.Common.{refl, sym, ap, ◌∙◌, get_or, arith, append-nil, append_assoc, length-append}
 use Rattle.std.specs.List.{filter}
 use Rattle.std.proofs.lemmas.List.{length-map, map-append}
 use Rattle.std.proofs.lemmas.List.Elements.{filter-append}
@@ -10,7 +10,7 @@ use Rattle.page_runs.specs.Worked.{is_thin_class}
 use Rattle.split_plan.specs.Groups.{Gathered, with_child, gathered, with_leading, groups}
 use Rattle.split_plan.proofs.GroupLaws.{groups-joined}
 use Rattle.climb_plan.specs.Changing.{SeenPage}
-use Rattle.climb_plan.specs.Rewriting.{seen_now, all_seen, is_thin_seen, is_rewritten_seen}
+use Rattle.climb_plan.specs.Rewriting.{seen_now, all_seen, groups_seen, is_thin_seen, is_rewritten_seen, with_rewriting, rewriting_counts}
 use Rattle.climb_plan.specs.declared.seen.Seen.{Seen}
 
 -- ---- the sizes of groups, by classes
@@ -156,3 +156,19 @@ module _ (children : List Seen) (sizes : List ℕ) (all : List (List SeenPage)) 
       all_dropped : {X : Type 0} (xs : List X) → drop (length xs) xs ≡ []
       all_dropped [] = refl
       all_dropped (x ∷ xs) = all_dropped xs
+
+-- ---- what is added
+
+-- as many groups are added as there are
+pub count_added : {A : Type 0} (old new : List (Vec Seen A)) (gs : List (List SeenPage)) → groups_seen new ≡ groups_seen old ++ gs → length new ≡ length old + length gs
+count_added old new gs e =
+    sym (length-map new (λ g. all_seen g.items)) ∙ ap (λ (hs : List (List SeenPage)). length hs) e ∙ length-append (groups_seen old) gs ∙ ap (λ (n : ℕ). n + length gs) (length-map old (λ g. all_seen g.items))
+
+-- and their parent, where there are some
+pub some_added : (pid n : ℕ) (gs : List (List SeenPage)) → n ≡ length gs → 0 < n → rewriting_counts (with_rewriting pid gs []) ≡ (pid, n) ∷ []
+some_added pid n [] e l = absurd (omega arith)
+some_added pid n (g ∷ gs) e l = let one : ℕ → List (ℕ × ℕ) = λ m. (pid, m) ∷ [] in ap one (sym e)
+
+pub none_added : (pid n : ℕ) (gs : List (List SeenPage)) → n ≡ length gs → (0 < n → ⊥) → rewriting_counts (with_rewriting pid gs []) ≡ []
+none_added pid n [] e d = refl
+none_added pid n (g ∷ gs) e d = absurd (d (omega arith))

@@ -21,11 +21,12 @@ use Rattle.page_runs.specs.declared.class.Class.{Class}
 use Rattle.page_runs.specs.Worked.{is_fat_class}
 use Rattle.split_plan.specs.Groups.{Gathered, with_child, gathered, with_leading}
 use Rattle.climb_plan.specs.Changing.{SeenPage, calls}
-use Rattle.climb_plan.specs.Rewriting.{seen_name, lows, AreSeenIn, is_thin_seen, is_rewritten_seen, rewritten_groups, Rewriting, with_rewriting, rewriting, rewriting_counts, groups_of, IsLevelSeen, IsQuiet, HasFirstCall, pids_for, IsFamilyOf}
+use Rattle.climb_plan.specs.Rewriting.{seen_name, lows, AreSeenIn, is_thin_seen, is_rewritten_seen, rewritten_groups, Rewriting, with_rewriting, rewriting_families, rewriting_counts, groups_of, IsLevelSeen, IsQuiet, HasFirstCall, pids_for, IsFamilyOf}
 use Rattle.climb_plan.specs.Rewriting.AreSeenIn.{worked, at_home}
 use Rattle.climb_plan.proofs.DescentWay.{pid_for}
 use Rattle.climb_plan.proofs.RewritingFamily.{Names}
 use Rattle.climb_plan.proofs.RewritingSeen.{all_lows}
+use Rattle.climb_plan.proofs.LevelParts.{family_of}
 
 -- ---- families in which nothing calls
 
@@ -117,7 +118,7 @@ module _ (t : Mapping PageOfKind) where
     pub seen_own : AreSeenIn t own children
     pub seen_after : AreSeenIn t after later
     pub has : own ≡ quiet ++ x ∷ more
-    pub same : rewriting ps left ≡ with_rewriting parent.pid (rewritten_groups children) (rewriting behind later)
+    pub same : rewriting_families ps left ≡ with_rewriting parent.pid (rewritten_groups children) (rewriting_families behind later)
 
   called : (ps : List (Placed ℕ)) (left xs quiet : List SeenPage) (x : SeenPage) (more : List SeenPage) → joined ps ≡ map seen_name left → AreSeenIn t xs left → xs ≡ quiet ++ x ∷ more → AllByRecursion IsQuiet quiet → IsCalled ps left xs x
   called [] [] xs quiet x more l s e q = absurd (not_seen quiet more x s e)
@@ -179,12 +180,12 @@ module _ (t : Mapping PageOfKind) where
               seen_own = c.seen_own;
               seen_after = c.seen_after;
               has = c.has;
-              same = ap (λ (gs : List (List SeenPage)). with_rewriting p.pid gs (rewriting ps g)) still ∙ c.same;
+              same = ap (λ (gs : List (List SeenPage)). with_rewriting p.pid gs (rewriting_families ps g)) still ∙ c.same;
             })
       ]
 
   -- where none calls, no group is rewritten
-  none_called : (ps : List (Placed ℕ)) (left xs : List SeenPage) → joined ps ≡ map seen_name left → AreSeenIn t xs left → AllByRecursion IsQuiet xs → rewriting ps left ≡ []
+  none_called : (ps : List (Placed ℕ)) (left xs : List SeenPage) → joined ps ≡ map seen_name left → AreSeenIn t xs left → AllByRecursion IsQuiet xs → rewriting_families ps left ≡ []
   none_called [] left xs l s q = refl
   none_called (p ∷ ps) left xs l s q =
       let n : ℕ = length (entries p) in
@@ -194,7 +195,7 @@ module _ (t : Mapping PageOfKind) where
       let whole : f ++ g ≡ left = take-append-drop n left in
       let a = seen_apart f g (subst (λ (zs : List SeenPage). AreSeenIn t xs zs) (sym whole) s) in
       let quiets = all_apart IsQuiet a.0 a.1 (subst (λ (zs : List SeenPage). AllByRecursion IsQuiet zs) a.2 q) in
-      ap (λ (gs : List (List SeenPage)). with_rewriting p.pid gs (rewriting ps g)) (still_family f (all_quiet a.3 quiets.0)) ∙ none_called ps g a.1 names.1 a.4 quiets.1
+      ap (λ (gs : List (List SeenPage)). with_rewriting p.pid gs (rewriting_families ps g)) (still_family f (all_quiet a.3 quiets.0)) ∙ none_called ps g a.1 names.1 a.4 quiets.1
 
 -- ---- low keys
 
@@ -225,8 +226,8 @@ pub record IsLeft (t : Mapping PageOfKind) (xs all : List SeenPage) (ps : List (
   pub parts : ps ≡ done ++ rest
   pub linked : joined rest ≡ map seen_name left
   pub seen : AreSeenIn t xs left
-  pub all_parents : parents ++ rewriting_counts (rewriting rest left) ≡ rewriting_counts (rewriting ps all)
-  pub all_groups : made ++ groups_of (rewriting rest left) ≡ groups_of (rewriting ps all)
+  pub all_parents : parents ++ rewriting_counts (rewriting_families rest left) ≡ rewriting_counts (rewriting_families ps all)
+  pub all_groups : made ++ groups_of (rewriting_families rest left) ≡ groups_of (rewriting_families ps all)
 
 counted_with : (pid : ℕ) (gs : List (List SeenPage)) (rs : List Rewriting) → rewriting_counts (with_rewriting pid gs []) ++ rewriting_counts rs ≡ rewriting_counts (with_rewriting pid gs rs)
 counted_with pid [] rs = refl
@@ -240,9 +241,9 @@ module _ (t : TreeInMemory) (depth : ℕ) (all_xs all : List SeenPage) (ps : Lis
   pub at_first : IsLeft t.table all_xs all ps [] []
   at_first = record { done = []; rest = ps; left = all; parts = refl; linked = h.linked; seen = h.seen; all_parents = refl; all_groups = refl }
 
-  pub at_last : (xs : List SeenPage) (parents : List (ℕ × ℕ)) (made : List (List SeenPage)) → IsLeft t.table xs all ps parents made → AllByRecursion IsQuiet xs → (parents ≡ rewriting_counts (rewriting ps all)) × (made ≡ groups_of (rewriting ps all))
+  pub at_last : (xs : List SeenPage) (parents : List (ℕ × ℕ)) (made : List (List SeenPage)) → IsLeft t.table xs all ps parents made → AllByRecursion IsQuiet xs → (parents ≡ rewriting_counts (rewriting_families ps all)) × (made ≡ groups_of (rewriting_families ps all))
   at_last xs parents made s q =
-      let nothing : rewriting s.rest s.left ≡ [] = none_called t.table s.rest s.left xs s.linked s.seen q in
+      let nothing : rewriting_families s.rest s.left ≡ [] = none_called t.table s.rest s.left xs s.linked s.seen q in
       (sym (append-nil parents) ∙ ap (λ (rs : List Rewriting). parents ++ rewriting_counts rs) (sym nothing) ∙ s.all_parents, sym (append-nil made) ∙ ap (λ (rs : List Rewriting). made ++ groups_of rs) (sym nothing) ∙ s.all_groups)
 
   module _ (xs : List SeenPage) (parents : List (ℕ × ℕ)) (made : List (List SeenPage)) (low : List ℕ) (s : IsLeft t.table xs all ps parents made) (f : HasFirstCall xs low) where
@@ -268,7 +269,7 @@ module _ (t : TreeInMemory) (depth : ℕ) (all_xs all : List SeenPage) (ps : Lis
     seen_from : AreSeenIn t.table (found.own ++ found.after) (found.children ++ found.later)
     seen_from = seen_joined t.table found.after found.later found.seen_own found.seen_after
 
-    pub family : IsFamilyOf t.table xs found.parent found.before (found.own ++ found.after) found.children found.later
+    pub family : IsFamilyOf t.table xs (family_of found.parent found.before (found.own ++ found.after) found.children found.later)
     family = record {
       home = home;
       parted = record {
@@ -313,7 +314,7 @@ module _ (t : TreeInMemory) (depth : ℕ) (all_xs all : List SeenPage) (ps : Lis
     at_next ys more most seen m g =
         let pid : ℕ = found.parent.pid in
         let gs : List (List SeenPage) = rewritten_groups found.children in
-        let rs : List Rewriting = rewriting found.behind found.later in
+        let rs : List Rewriting = rewriting_families found.behind found.later in
         record {
           done = s.done ++ (found.front ++ found.parent ∷ []);
           rest = found.behind;

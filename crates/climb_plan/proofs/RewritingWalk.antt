@@ -4,8 +4,9 @@ use Rattle.std.proofs.Common.{sym, ap, ◌∙◌, subst, arith}
 use Rattle.mapping.specs.Levels.{Placed}
 use Rattle.mapping.specs.TreeInMemory.{TreeInMemory}
 use Rattle.climb_plan.specs.Changing.{SeenPage}
-use Rattle.climb_plan.specs.Rewriting.{all_seen, AreSeenIn, rewritten_groups, with_rewriting, rewriting_counts, IsLevelSeen, HasFirstCall, pids_for, IsFamilyOf}
+use Rattle.climb_plan.specs.Rewriting.{all_seen, AreSeenIn, rewritten_groups, with_rewriting, rewriting_counts, IsLevelSeen, HasFirstCall, pids_for, SomeFamily, OfFamily}
 use Rattle.climb_plan.specs.declared.seen.Seen.{Seen}
+use Rattle.climb_plan.proofs.LevelParts.{family_of}
 use Rattle.climb_plan.proofs.RewritingGroups.{drop_further}
 use Rattle.climb_plan.proofs.RewritingLevel as walk
 use Rattle.climb_plan.proofs.RewritingLevel.{IsLeft}
@@ -23,28 +24,24 @@ module _ (t : TreeInMemory) (depth : ℕ) (all_xs all : List SeenPage) (ps : Lis
     first = subst (λ (xs : List Seen). HasFirstCall (all_seen xs) low) (e ∙ sym a) f
 
     -- the family that is added
-    pub next_family : (p : Placed ℕ) × (before : List SeenPage) × (from : List SeenPage) × (children : List SeenPage) × (later : List SeenPage) × (pid ≡ p.pid) × IsFamilyOf t.table (all_seen again) p before from children later
+    pub next_family : SomeFamily t.table (all_seen again) pid
     next_family =
         let c = walk.found t depth all_xs all ps ups h (all_seen again) parents made low here first in
-        (c.parent, c.before, c.own ++ c.after, c.children, c.later, walk.is_parent t depth all_xs all ps ups h (all_seen again) parents made low here first pid r, walk.family t depth all_xs all ps ups h (all_seen again) parents made low here first)
-
-    -- what is known of it, once it is added
-    abbrev pub OfFamily : (Placed ℕ → List SeenPage → List SeenPage → Type 0) → Type 0
-    OfFamily P = (p : Placed ℕ) (before from children later : List SeenPage) → pid ≡ p.pid → IsFamilyOf t.table (all_seen again) p before from children later → P p children later
+        (family_of c.parent c.before (c.own ++ c.after) c.children c.later, walk.is_parent t depth all_xs all ps ups h (all_seen again) parents made low here first pid r, walk.family t depth all_xs all ps ups h (all_seen again) parents made low here first)
 
     -- it ends behind some page
-    pub some_behind : (behind : ℕ) → OfFamily (λ p children later. AreSeenIn t.table (all_seen (drop behind again)) later) → 0 < behind
+    pub some_behind : (behind : ℕ) → OfFamily t.table (all_seen again) pid (λ k. AreSeenIn t.table (all_seen (drop behind again)) k.later) → 0 < behind
     unfolding next_family
     some_behind zero k =
         let n = next_family in
-        absurd (walk.has_gone t depth all_xs all ps ups h (all_seen again) parents made low here first (k n.0 n.1 n.2 n.3 n.4 n.5 n.6))
+        absurd (walk.has_gone t depth all_xs all ps ups h (all_seen again) parents made low here first (k n.0 n.1 n.2))
     some_behind (suc n) k = omega arith
 
-    pub left_behind : (behind : ℕ) (more : List (ℕ × ℕ)) (most : List (List SeenPage)) → OfFamily (λ p children later. AreSeenIn t.table (all_seen (drop behind again)) later)
-        → OfFamily (λ p children later. more ≡ parents ++ rewriting_counts (with_rewriting p.pid (rewritten_groups children) [])) → OfFamily (λ p children later. most ≡ made ++ rewritten_groups children) → IsLeft t.table (all_seen (drop (done + behind) seen)) all ps more most
+    pub left_behind : (behind : ℕ) (more : List (ℕ × ℕ)) (most : List (List SeenPage)) → OfFamily t.table (all_seen again) pid (λ k. AreSeenIn t.table (all_seen (drop behind again)) k.later)
+        → OfFamily t.table (all_seen again) pid (λ k. more ≡ parents ++ rewriting_counts (with_rewriting k.parent.pid (rewritten_groups k.children) [])) → OfFamily t.table (all_seen again) pid (λ k. most ≡ made ++ rewritten_groups k.children) → IsLeft t.table (all_seen (drop (done + behind) seen)) all ps more most
     unfolding next_family
     left_behind behind more most k m g =
         let n = next_family in
         let there : drop behind again ≡ drop (done + behind) seen = ap (λ (xs : List Seen). drop behind xs) a ∙ drop_further seen done behind in
         subst (λ (xs : List Seen). IsLeft t.table (all_seen xs) all ps more most) there
-        (walk.at_next t depth all_xs all ps ups h (all_seen again) parents made low here first (all_seen (drop behind again)) more most (k n.0 n.1 n.2 n.3 n.4 n.5 n.6) (m n.0 n.1 n.2 n.3 n.4 n.5 n.6) (g n.0 n.1 n.2 n.3 n.4 n.5 n.6))
+        (walk.at_next t depth all_xs all ps ups h (all_seen again) parents made low here first (all_seen (drop behind again)) more most (k n.0 n.1 n.2) (m n.0 n.1 n.2) (g n.0 n.1 n.2))

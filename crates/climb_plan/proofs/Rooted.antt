@@ -26,12 +26,12 @@ use Rattle.split_plan.proofs.CutLaws.{fewer_pieces, length-cut, cut_full, cut-jo
 use Rattle.split_plan.proofs.PidLaws.{renewed-append, recast, renewed-fresh_pages, distinct_renewed}
 use Rattle.split_plan.proofs.Renewed.{Renewed}
 use Rattle.split_plan.proofs.Renewed.Renewed.{done as none_drawn, draw}
-use Rattle.climb_plan.specs.Climb.{grown}
+use Rattle.climb_plan.specs.Climb.{grown_levels}
 use Rattle.climb_plan.specs.Rewriting.{named_pages}
 use Rattle.climb_plan.specs.Installing.{AreAway, AreDrawn, AreGrown, put_under}
 use Rattle.climb_plan.proofs.InstalledPages.{at_among}
 use Rattle.climb_plan.proofs.Installing.{tree_under}
-use Rattle.climb_plan.proofs.InstallingLaws.{AreUnder, home-put_under, others-put_under, rising-put_under, logged-put_under, none_joined, none_each, none_behind, each_other}
+use Rattle.climb_plan.proofs.InstallingLemmas.{AreUnder, home-put_under, others-put_under, rising-put_under, logged-put_under, none_joined, none_each, none_behind, each_other}
 
 -- ---- places are given up
 
@@ -100,17 +100,17 @@ length_drawn tree n ks e = ap (λ (x : List ℕ). length x) e ∙ length-map-ran
 
 -- ---- enough levels
 
-grown_by : (b : Bool) (enough : ℕ) (s : Settings) (used : List ℕ) (i : ℕ) (ps : List (Placed ℕ)) → ((j : ℕ) (up : List (Placed ℕ)) → (k : ℕ) × Renewed used j k [] (flat_map pids (grown enough s used j up)))
-    → (k : ℕ) × Renewed used i k [] (flat_map pids (cond b (let up : List (Placed ℕ) = fresh_pages used i (cut s.fan (names ps)) in up ∷ grown enough s used (i + length up) up) []))
+grown_by : (b : Bool) (enough : ℕ) (s : Settings) (used : List ℕ) (i : ℕ) (ps : List (Placed ℕ)) → ((j : ℕ) (up : List (Placed ℕ)) → (k : ℕ) × Renewed used j k [] (flat_map pids (grown_levels enough s used j up)))
+    → (k : ℕ) × Renewed used i k [] (flat_map pids (cond b (let up : List (Placed ℕ) = fresh_pages used i (cut s.fan (names ps)) in up ∷ grown_levels enough s used (i + length up) up) []))
 grown_by false enough s used i ps ih = (i, none_drawn)
 grown_by true enough s used i ps ih =
     let up : List (Placed ℕ) = fresh_pages used i (cut s.fan (names ps)) in
     let r = ih (i + length up) up in
     (r.0, renewed-append (renewed-fresh_pages used i (cut s.fan (names ps))) r.1)
 
-renewed-grown : (enough : ℕ) (s : Settings) (used : List ℕ) (i : ℕ) (ps : List (Placed ℕ)) → (k : ℕ) × Renewed used i k [] (flat_map pids (grown enough s used i ps))
-renewed-grown zero s used i ps = (i, none_drawn)
-renewed-grown (suc enough) s used i ps = grown_by (nat_lt 1 (length ps)) enough s used i ps (λ j up. renewed-grown enough s used j up)
+renewed-grown_levels : (enough : ℕ) (s : Settings) (used : List ℕ) (i : ℕ) (ps : List (Placed ℕ)) → (k : ℕ) × Renewed used i k [] (flat_map pids (grown_levels enough s used i ps))
+renewed-grown_levels zero s used i ps = (i, none_drawn)
+renewed-grown_levels (suc enough) s used i ps = grown_by (nat_lt 1 (length ps)) enough s used i ps (λ j up. renewed-grown_levels enough s used j up)
 
 module _ (s : Settings) (used : List ℕ) (fan : 1 < s.fan) where
   abbrev upper_of : ℕ → List (Placed ℕ) → List (Placed ℕ)
@@ -125,12 +125,12 @@ module _ (s : Settings) (used : List ℕ) (fan : 1 < s.fan) where
       let all : length (upper_of i ps) ≡ piece_count s.fan (length (names ps)) = length-fresh_pages used i (cut s.fan (names ps)) ∙ length-cut s.fan (names ps) in
       omega arith
 
-  few : (b : Bool) (e i : ℕ) (ps : List (Placed ℕ)) → nat_lt 1 (length ps) ≡ b → length ps ≤ 0 → [] ≡ cond b (let up : List (Placed ℕ) = upper_of i ps in up ∷ grown e s used (i + length up) up) []
+  few : (b : Bool) (e i : ℕ) (ps : List (Placed ℕ)) → nat_lt 1 (length ps) ≡ b → length ps ≤ 0 → [] ≡ cond b (let up : List (Placed ℕ) = upper_of i ps in up ∷ grown_levels e s used (i + length up) up) []
   few true e i ps h l = absurd (let x = ltb-true 1 (length ps) h in omega arith)
   few false e i ps h l = refl
 
-  enough_by : (b : Bool) (d e i : ℕ) (ps : List (Placed ℕ)) → nat_lt 1 (length ps) ≡ b → length ps ≤ suc d → length ps ≤ suc e → ((j : ℕ) (up : List (Placed ℕ)) → length up ≤ d → length up ≤ e → grown d s used j up ≡ grown e s used j up)
-      → cond b (let up : List (Placed ℕ) = upper_of i ps in up ∷ grown d s used (i + length up) up) [] ≡ cond b (let up : List (Placed ℕ) = upper_of i ps in up ∷ grown e s used (i + length up) up) []
+  enough_by : (b : Bool) (d e i : ℕ) (ps : List (Placed ℕ)) → nat_lt 1 (length ps) ≡ b → length ps ≤ suc d → length ps ≤ suc e → ((j : ℕ) (up : List (Placed ℕ)) → length up ≤ d → length up ≤ e → grown_levels d s used j up ≡ grown_levels e s used j up)
+      → cond b (let up : List (Placed ℕ) = upper_of i ps in up ∷ grown_levels d s used (i + length up) up) [] ≡ cond b (let up : List (Placed ℕ) = upper_of i ps in up ∷ grown_levels e s used (i + length up) up) []
   enough_by true d e i ps h l m ih =
       let up : List (Placed ℕ) = upper_of i ps in
       let less : length up < length ps = fewer i ps (ltb-true 1 (length ps) h) in
@@ -138,14 +138,14 @@ module _ (s : Settings) (used : List ℕ) (fan : 1 < s.fan) where
   enough_by false d e i ps h l m ih = refl
 
   -- where so many are enough, more make no difference
-  enough_grown : (d e i : ℕ) (ps : List (Placed ℕ)) → length ps ≤ d → length ps ≤ e → grown d s used i ps ≡ grown e s used i ps
+  enough_grown : (d e i : ℕ) (ps : List (Placed ℕ)) → length ps ≤ d → length ps ≤ e → grown_levels d s used i ps ≡ grown_levels e s used i ps
   enough_grown zero zero i ps l m = refl
   enough_grown zero (suc e) i ps l m = few (nat_lt 1 (length ps)) e i ps refl l
   enough_grown (suc d) zero i ps l m = sym (few (nat_lt 1 (length ps)) d i ps refl m)
   enough_grown (suc d) (suc e) i ps l m = enough_by (nat_lt 1 (length ps)) d e i ps refl l m (λ j up x y. enough_grown d e j up x y)
 
   more_by : (b : Bool) (e i : ℕ) (ps : List (Placed ℕ)) → nat_lt 1 (length ps) ≡ b → 1 < length ps → length ps ≤ suc e
-      → cond b (let up : List (Placed ℕ) = upper_of i ps in up ∷ grown e s used (i + length up) up) [] ≡ upper_of i ps ∷ grown (length (upper_of i ps)) s used (i + length (upper_of i ps)) (upper_of i ps)
+      → cond b (let up : List (Placed ℕ) = upper_of i ps in up ∷ grown_levels e s used (i + length up) up) [] ≡ upper_of i ps ∷ grown_levels (length (upper_of i ps)) s used (i + length (upper_of i ps)) (upper_of i ps)
   more_by true e i ps h l m =
       let up : List (Placed ℕ) = upper_of i ps in
       let less : length up < length ps = fewer i ps l in
@@ -153,7 +153,7 @@ module _ (s : Settings) (used : List ℕ) (fan : 1 < s.fan) where
   more_by false e i ps h l m = absurd (let x = ltb-false 1 (length ps) h in omega arith)
 
   -- several pages grow a level, and those that grow above it
-  grown_more : (n i : ℕ) (ps : List (Placed ℕ)) → length ps ≤ n → 1 < length ps → grown n s used i ps ≡ upper_of i ps ∷ grown (length (upper_of i ps)) s used (i + length (upper_of i ps)) (upper_of i ps)
+  grown_more : (n i : ℕ) (ps : List (Placed ℕ)) → length ps ≤ n → 1 < length ps → grown_levels n s used i ps ≡ upper_of i ps ∷ grown_levels (length (upper_of i ps)) s used (i + length (upper_of i ps)) (upper_of i ps)
   grown_more zero i ps l h = absurd (omega arith)
   grown_more (suc e) i ps l h = more_by (nat_lt 1 (length ps)) e i ps refl h l
 
@@ -291,12 +291,12 @@ module _ (s : Settings) (ns : List Name) (pages : List PageOfKind) (fresh : List
       number_after m ∙ ap (λ (n : ℕ). unused in_use (n + m)) as_level ∙ ap (unused in_use) z
 
   -- the new pids are not among those that are drawn later
-  all_distinct : (e : ℕ) → Distinct (pids cut_level ++ flat_map pids (grown e s in_use (0 + length cut_level) cut_level))
-  all_distinct e = distinct_renewed (renewed-append (renewed-fresh_pages in_use 0 bases) (renewed-grown e s in_use (0 + length cut_level) cut_level).1) tt tt
+  all_distinct : (e : ℕ) → Distinct (pids cut_level ++ flat_map pids (grown_levels e s in_use (0 + length cut_level) cut_level))
+  all_distinct e = distinct_renewed (renewed-append (renewed-fresh_pages in_use 0 bases) (renewed-grown_levels e s in_use (0 + length cut_level) cut_level).1) tt tt
 
-  pub still_away : (e : ℕ) (over : TreeInMemory) → AreGrown drawn over (grown e s in_use (0 + length cut_level) cut_level) → AreAway over.table fresh
+  pub still_away : (e : ℕ) (over : TreeInMemory) → AreGrown drawn over (grown_levels e s in_use (0 + length cut_level) cut_level) → AreAway over.table fresh
   still_away e over g =
-      let ls : List (List (Placed ℕ)) = grown e s in_use (0 + length cut_level) cut_level in
+      let ls : List (List (Placed ℕ)) = grown_levels e s in_use (0 + length cut_level) cut_level in
       let apart : AllByRecursion (λ q. is_among q (flat_map pids ls) ≡ false) (pids cut_level) = none_each (pids cut_level) (flat_map pids ls) (all_distinct e) in
       let same : AllByRecursion (λ q. place_of over.table q ≡ place_of drawn.table q) fresh =
       subst (λ (ks : List ℕ). AllByRecursion (λ q. place_of over.table q ≡ place_of drawn.table q) ks) (sym fresh_are) (each_other (λ q. is_among q (flat_map pids ls) ≡ false) (λ q. place_of over.table q ≡ place_of drawn.table q) (pids cut_level) g.others apart) in
@@ -328,13 +328,13 @@ module _ (s : Settings) (ns : List Name) (pages : List PageOfKind) (fresh : List
         number_after m ∙ alike (length fresh + m) ∙ ap (unused used) z
 
     abbrev pub above : List (List (Placed ℕ))
-    above = grown (length up) s used (i + length up) up
+    above = grown_levels (length up) s used (i + length up) up
 
-    pub grown_is : grown (length ps) s used i ps ≡ up ∷ above
+    pub grown_is : grown_levels (length ps) s used i ps ≡ up ∷ above
     grown_is = grown_more s used is.fan (length ps) i ps (omega arith) several_pages
 
     up_distinct : Distinct (pids up ++ flat_map pids above)
-    up_distinct = distinct_renewed (renewed-append (renewed-fresh_pages used i (cut s.fan (names ps))) (renewed-grown (length up) s used (i + length up) up).1) tt tt
+    up_distinct = distinct_renewed (renewed-append (renewed-fresh_pages used i (cut s.fan (names ps))) (renewed-grown_levels (length up) s used (i + length up) up).1) tt tt
 
     fresh_up : fresh ≡ pids up
     fresh_up = fresh_are ∙ ap (λ (qs : List (Placed ℕ)). pids qs) up_is
@@ -360,7 +360,7 @@ module _ (s : Settings) (ns : List Name) (pages : List PageOfKind) (fresh : List
 
     -- what grew above the level and the level itself are what grew above the pages below
     pub grown_result : (height : ℕ) (top : ℕ × ℕ) (over now : TreeInMemory) (qs : List PageOfKind) (ks : List ℕ) → (top.0 ≡ top_pid up above) × (top.1 ≡ (height + 1) + length above) × AreGrown drawn over above → qs ≡ pages → ks ≡ fresh → now ≡ tree_under over ks qs
-        → (top.0 ≡ top_pid ps (grown (length ps) s used i ps)) × (top.1 ≡ height + length (grown (length ps) s used i ps)) × AreGrown tree now (grown (length ps) s used i ps)
+        → (top.0 ≡ top_pid ps (grown_levels (length ps) s used i ps)) × (top.1 ≡ height + length (grown_levels (length ps) s used i ps)) × AreGrown tree now (grown_levels (length ps) s used i ps)
     grown_result height top over now qs ks r e f n =
         let whole : List (List (Placed ℕ)) → Type 0 = λ ls. (top.0 ≡ top_pid ps ls) × (top.1 ≡ height + length ls) × AreGrown tree now ls in
         let is_now : now ≡ tree_under over fresh pages = n ∙ ap (λ (x : List ℕ). tree_under over x qs) f ∙ ap (λ (x : List PageOfKind). tree_under over fresh x) e in
@@ -368,7 +368,7 @@ module _ (s : Settings) (ns : List Name) (pages : List PageOfKind) (fresh : List
         let levels : top.1 ≡ height + length (up ∷ above) = (let h = r.1 in omega arith) in
         subst whole (sym grown_is) (r.0, levels, all)
 
-    pub too_high : (height : ℕ) → 64 < (height + 1) + length above → 64 < height + length (grown (length ps) s used i ps)
+    pub too_high : (height : ℕ) → 64 < (height + 1) + length above → 64 < height + length (grown_levels (length ps) s used i ps)
     too_high height h =
         let more : 64 < height + length (up ∷ above) = omega arith in
         subst (λ (ls : List (List (Placed ℕ))). 64 < height + length ls) (sym grown_is) more

@@ -20,7 +20,7 @@ use Rattle.mapping.specs.Table.{place_of, page_of, at_home}
 use Rattle.mapping.specs.TreeInMemory.{TreeInMemory}
 use Rattle.mapping.proofs.PidLaws.{among_either, among_right, among_apart, all_among}
 use Rattle.climb_plan.specs.Changing.{AreHome}
-use Rattle.climb_plan.specs.Climb.{is_lone, kept_under, kept}
+use Rattle.climb_plan.specs.Climb.{is_lone, kept_under, kept_levels}
 use Rattle.climb_plan.specs.HasClimbed.{CanShrink, HasShrunk}
 use Rattle.climb_plan.specs.Installing.{page_or_none, only_pid}
 use Rattle.climb_plan.specs.Plan.{shrunk_pids}
@@ -28,7 +28,7 @@ use Rattle.climb_plan.proofs.ChangingOutdated.{outdate-joined}
 use Rattle.climb_plan.proofs.Climbing.{still_home_above}
 use Rattle.climb_plan.proofs.InstalledPages.{AreApart, distinct_apart, at_among}
 use Rattle.climb_plan.proofs.Installing.{distinct_first, gone_from, gone_apart}
-use Rattle.climb_plan.proofs.InstallingLaws.{none_of, no_place, rising_gone}
+use Rattle.climb_plan.proofs.InstallingLemmas.{none_of, no_place, rising_gone}
 use Rattle.climb_plan.proofs.Kept.{left, kept_and_left, drop_first}
 use Rattle.climb_plan.proofs.Untouched.{none_outdated}
 
@@ -40,33 +40,33 @@ Lone p = p ∷ []
 
 -- ---- the levels below the highest, and what is kept of all
 
-kept-lone : (lower : Ups) (top : List (Placed ℕ)) → is_lone top ≡ true → kept (lower ++ top ∷ []) ≡ kept lower
-kept-lone [] top e = rw e refl
-kept-lone (l ∷ ls) top e = ap (λ (ks : Ups). kept_under l ks) (kept-lone ls top e)
+kept_levels-lone : (lower : Ups) (top : List (Placed ℕ)) → is_lone top ≡ true → kept_levels (lower ++ top ∷ []) ≡ kept_levels lower
+kept_levels-lone [] top e = rw e refl
+kept_levels-lone (l ∷ ls) top e = ap (λ (ks : Ups). kept_under l ks) (kept_levels-lone ls top e)
 
 under_some : (l top : List (Placed ℕ)) (ls : Ups) → kept_under l (ls ++ top ∷ []) ≡ l ∷ ls ++ top ∷ []
 under_some l top [] = refl
 under_some l top (x ∷ xs) = refl
 
-kept-all : (lower : Ups) (top : List (Placed ℕ)) → is_lone top ≡ false → kept (lower ++ top ∷ []) ≡ lower ++ top ∷ []
-kept-all [] top e = rw e refl
-kept-all (l ∷ ls) top e = ap (λ (ks : Ups). kept_under l ks) (kept-all ls top e) ∙ under_some l top ls
+kept_levels-all : (lower : Ups) (top : List (Placed ℕ)) → is_lone top ≡ false → kept_levels (lower ++ top ∷ []) ≡ lower ++ top ∷ []
+kept_levels-all [] top e = rw e refl
+kept_levels-all (l ∷ ls) top e = ap (λ (ks : Ups). kept_under l ks) (kept_levels-all ls top e) ∙ under_some l top ls
 
 -- the pids of the levels that go are those of the lower ones that go, and the root's
 left-lone : (lower : Ups) (top : List (Placed ℕ)) → is_lone top ≡ true → left (lower ++ top ∷ []) ≡ left lower ++ top ∷ []
 left-lone lower top e =
     let all : Ups = lower ++ top ∷ [] in
-    drop_first (kept all) (left lower ++ top ∷ []) all
-    (ap (λ (ks : Ups). ks ++ (left lower ++ top ∷ [])) (kept-lone lower top e)
-    ∙ sym (append_assoc (kept lower) (left lower) (top ∷ []))
+    drop_first (kept_levels all) (left lower ++ top ∷ []) all
+    (ap (λ (ks : Ups). ks ++ (left lower ++ top ∷ [])) (kept_levels-lone lower top e)
+    ∙ sym (append_assoc (kept_levels lower) (left lower) (top ∷ []))
     ∙ ap (λ (ks : Ups). ks ++ top ∷ []) (kept_and_left lower))
 
-shrunk-lone : (lower : Ups) (p : Placed ℕ) → is_lone (Lone p) ≡ true → shrunk_pids (lower ++ Lone p ∷ []) ≡ shrunk_pids lower ++ p.pid ∷ []
-shrunk-lone lower p e = ap (λ (ls : Ups). flat_map pids ls) (left-lone lower (Lone p) e) ∙ flat_map-append pids (left lower) (Lone p ∷ [])
+shrunk_levels-lone : (lower : Ups) (p : Placed ℕ) → is_lone (Lone p) ≡ true → shrunk_pids (lower ++ Lone p ∷ []) ≡ shrunk_pids lower ++ p.pid ∷ []
+shrunk_levels-lone lower p e = ap (λ (ls : Ups). flat_map pids ls) (left-lone lower (Lone p) e) ∙ flat_map-append pids (left lower) (Lone p ∷ [])
 
 -- where all are kept, none goes
-shrunk-none : (ls : Ups) → kept ls ≡ ls → shrunk_pids ls ≡ []
-shrunk-none ls e = ap (λ (ks : Ups). flat_map pids (drop (length ks) ls)) e ∙ ap (λ (x : Ups). flat_map pids x) (drop-length ls)
+shrunk_levels-none : (ls : Ups) → kept_levels ls ≡ ls → shrunk_pids ls ≡ []
+shrunk_levels-none ls e = ap (λ (ks : Ups). flat_map pids (drop (length ks) ls)) e ∙ ap (λ (x : Ups). flat_map pids x) (drop-length ls)
 
 -- ---- the highest level
 
@@ -131,9 +131,9 @@ pids_and_root level lower p =
 
 shrunk_among : {V : Type 0} (level : List (Placed V)) (lower : Ups) (n : ℕ) → is_among n (shrunk_pids lower) ≡ true → is_among n (all_pids level lower) ≡ true
 shrunk_among level lower n e =
-    let all : flat_map pids (kept lower) ++ shrunk_pids lower ≡ flat_map pids lower =
-    sym (flat_map-append pids (kept lower) (left lower)) ∙ ap (λ (ls : Ups). flat_map pids ls) (kept_and_left lower) in
-    among_right n (pids level) (flat_map pids lower) (subst (λ (ns : List ℕ). is_among n ns ≡ true) all (among_right n (flat_map pids (kept lower)) (shrunk_pids lower) e))
+    let all : flat_map pids (kept_levels lower) ++ shrunk_pids lower ≡ flat_map pids lower =
+    sym (flat_map-append pids (kept_levels lower) (left lower)) ∙ ap (λ (ls : Ups). flat_map pids ls) (kept_and_left lower) in
+    among_right n (pids level) (flat_map pids lower) (subst (λ (ns : List ℕ). is_among n ns ≡ true) all (among_right n (flat_map pids (kept_levels lower)) (shrunk_pids lower) e))
 
 -- ---- one level after the other
 
@@ -153,9 +153,9 @@ module _ {V : Type 0} (t : TreeInMemory) (level : List (Placed V)) where
   shrinks_first ls can = record { lower = ls; can = can; all = λ after s. s }
 
   -- where all levels are kept, the tree has shrunk
-  all_done : (ls : Ups) → CanShrink t level ls → kept ls ≡ ls → HasShrunk t t level ls
+  all_done : (ls : Ups) → CanShrink t level ls → kept_levels ls ≡ ls → HasShrunk t t level ls
   all_done ls can e =
-      let none : shrunk_pids ls ≡ [] = shrunk-none ls e in
+      let none : shrunk_pids ls ≡ [] = shrunk_levels-none ls e in
       record {
         gone = λ n h. absurd (let wrong : is_among n [] ≡ true = ap (λ (ns : List ℕ). is_among n ns) (sym none) ∙ h in cc);
         others = λ n h. refl;
@@ -190,7 +190,7 @@ module _ {V : Type 0} (t : TreeInMemory) (level : List (Placed V)) where
     -- a root with more children stays
     branched_is_done : None ≡ only_pid (child_entries (page_or_none (page_of t.table t.root))) → HasShrunk t t level (lower ++ Lone p ∷ [])
     branched_is_done h =
-        all_done (lower ++ Lone p ∷ []) can (kept-all lower (Lone p) (not_one (entries p.page) (h ∙ ap only_pid root_entries)))
+        all_done (lower ++ Lone p ∷ []) can (kept_levels-all lower (Lone p) (not_one (entries p.page) (h ∙ ap only_pid root_entries)))
 
     parts : AreApart (all_pids level lower) (p.pid ∷ []) × Distinct (p.pid ∷ [])
     parts = distinct_apart (all_pids level lower) (p.pid ∷ []) (subst (λ (ns : List ℕ). Distinct ns) (pids_and_root level lower p) can.distinct)
@@ -237,8 +237,8 @@ module _ {V : Type 0} (t : TreeInMemory) (level : List (Placed V)) where
 
         whole_done : HasShrunk t after level (lower ++ Lone p ∷ [])
         whole_done =
-            let gone : shrunk_pids (lower ++ Lone p ∷ []) ≡ shrunk_pids lower ++ p.pid ∷ [] = shrunk-lone lower p lone in
-            let same : kept (lower ++ Lone p ∷ []) ≡ kept lower = kept-lone lower (Lone p) lone in
+            let gone : shrunk_pids (lower ++ Lone p ∷ []) ≡ shrunk_pids lower ++ p.pid ∷ [] = shrunk_levels-lone lower p lone in
+            let same : kept_levels (lower ++ Lone p ∷ []) ≡ kept_levels lower = kept_levels-lone lower (Lone p) lone in
             record {
               gone = λ n e. all_gone n (ap (λ (ns : List ℕ). is_among n ns) (sym gone) ∙ e);
               others = λ n e. others_stay n (ap (λ (ns : List ℕ). is_among n ns) (sym gone) ∙ e);

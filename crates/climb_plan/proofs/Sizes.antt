@@ -26,7 +26,7 @@ use Rattle.split_plan.specs.WorkedLevel.{worked_parents, placed_of}
 use Rattle.split_plan.proofs.RunLaws.{all_said-after_run, names-worked_parents}
 use Rattle.split_plan.specs.Change.{Change, placed_bare, fresh_pages, replacements, remade, changes, family_changes, new_of, fresh_of, all_new, all_fresh}
 use Rattle.split_plan.specs.Terms.{freed_of, terms}
-use Rattle.climb_plan.specs.Climb.{families, grown, climb}
+use Rattle.climb_plan.specs.Climb.{families, grown_levels, climb}
 use Rattle.climb_plan.proofs.Families.{families-joined}
 
 -- a page within the settings, its low key too
@@ -200,8 +200,8 @@ module _ {V : Type 0} (s : Settings) (IsShort : V → Type 0) where
       (all-append (IsSmall s IsShort) (new_of cs) (all_new (family_changes s used (i + length (fresh_of cs)) fs)) c.new rest.0, (short-terms cs c, rest.1))
 
   grown_by : (b : Bool) (enough : ℕ) (used : List ℕ) (i : ℕ) (ps : List (Placed V)) → 0 < s.fan → HaveShortLows s IsShort ps
-      → ((j : ℕ) (up : List (Placed ℕ)) → AllByRecursion (IsSmall s IsAnyPid) up → AllByRecursion (AllByRecursion (IsSmall s IsAnyPid)) (grown enough s used j up))
-      → AllByRecursion (AllByRecursion (IsSmall s IsAnyPid)) (cond b (let up : List (Placed ℕ) = fresh_pages used i (cut s.fan (names ps)) in up ∷ grown enough s used (i + length up) up) [])
+      → ((j : ℕ) (up : List (Placed ℕ)) → AllByRecursion (IsSmall s IsAnyPid) up → AllByRecursion (AllByRecursion (IsSmall s IsAnyPid)) (grown_levels enough s used j up))
+      → AllByRecursion (AllByRecursion (IsSmall s IsAnyPid)) (cond b (let up : List (Placed ℕ) = fresh_pages used i (cut s.fan (names ps)) in up ∷ grown_levels enough s used (i + length up) up) [])
   grown_by false enough used i ps z h ih = tt
   grown_by true enough used i ps z h ih =
       let up : List (Placed ℕ) = fresh_pages used i (cut s.fan (names ps)) in
@@ -210,9 +210,9 @@ module _ {V : Type 0} (s : Settings) (IsShort : V → Type 0) where
       small-fresh_pages s IsAnyPid used i (cut s.fan (names ps)) (cut_at_most s.fan (names ps) z) (subst (λ (m : Names). AllByRecursion (λ e. IsShortChange s IsAnyPid (e.0, Some e.1)) m) (sym (cut-joined s.fan (names ps))) pairs) in
       (small, ih (i + length up) up small)
 
-small-grown : {V : Type 0} (s : Settings) (IsShort : V → Type 0) (enough : ℕ) (used : List ℕ) (i : ℕ) (ps : List (Placed V)) → 0 < s.fan → HaveShortLows s IsShort ps → AllByRecursion (AllByRecursion (IsSmall s IsAnyPid)) (grown enough s used i ps)
-small-grown s IsShort zero used i ps z h = tt
-small-grown s IsShort (suc enough) used i ps z h = grown_by s IsShort (nat_lt 1 (length ps)) enough used i ps z h (λ j up a. small-grown s IsAnyPid enough used j up z (lows_of s IsAnyPid up a))
+small-grown_levels : {V : Type 0} (s : Settings) (IsShort : V → Type 0) (enough : ℕ) (used : List ℕ) (i : ℕ) (ps : List (Placed V)) → 0 < s.fan → HaveShortLows s IsShort ps → AllByRecursion (AllByRecursion (IsSmall s IsAnyPid)) (grown_levels enough s used i ps)
+small-grown_levels s IsShort zero used i ps z h = tt
+small-grown_levels s IsShort (suc enough) used i ps z h = grown_by s IsShort (nat_lt 1 (length ps)) enough used i ps z h (λ j up a. small-grown_levels s IsAnyPid enough used j up z (lows_of s IsAnyPid up a))
 
 -- a climb over pages within the settings gives pages within the settings
 pub small-climb : {V : Type 0} (s : Settings) (IsShort : V → Type 0) (used : List ℕ) (i : ℕ) (ws : List (Worked V)) (olds : List (Placed V)) (ups : List (List (Placed ℕ))) → 0 < s.fan → names (placed_of ws) ≡ names olds → Stacked olds ups
@@ -223,7 +223,7 @@ small-climb {V} s IsShort used i ws olds [] z e o h k =
     let top : List (Placed V) = all_new css in
     let a : AllByRecursion (IsSmallUnlessFat s IsShort) (flat (ws ∷ [])) = subst (λ (vs : List (Worked V)). AllByRecursion (IsSmallUnlessFat s IsShort) vs) (sym (append-nil ws)) h in
     let new : AllByRecursion (IsSmall s IsShort) top = subst (λ (ps : List (Placed V)). AllByRecursion (IsSmall s IsShort) ps) (sym (append-nil (new_of (changes s used i (ws ∷ []))))) (small-changes s IsShort used i (ws ∷ []) z a).new in
-    (new, small-grown s IsShort (length top) used (i + length (all_fresh css)) top z (lows_of s IsShort top new))
+    (new, small-grown_levels s IsShort (length top) used (i + length (all_fresh css)) top z (lows_of s IsShort top new))
 small-climb {V} s IsShort used i ws olds (ps ∷ ups) z e o h k =
     let linked : joined ps ≡ names (placed_of ws) = o.0.linked ∙ sym e in
     let css : List (List (Change V)) = family_changes s used i (families ps ws) in

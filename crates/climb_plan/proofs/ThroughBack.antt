@@ -19,18 +19,21 @@ use Rattle.page_runs.specs.Worked.{Worked}
 use Rattle.split_plan.proofs.PidLaws.{distinct_renewed}
 use Rattle.split_plan.specs.Change.{Change, changes, fresh_of}
 use Rattle.split_plan.specs.WorkedLevel.{placed_of}
-use Rattle.climb_plan.specs.Changing.{SeenPage, AreHome, Changing, changing, changing_groups, parents_of}
+use Rattle.climb_plan.specs.Changing.{SeenPage, AreHome, Changing, changing_families, changing_groups, parents_of}
+use Rattle.climb_plan.specs.Climb.{LevelPlan}
 use Rattle.climb_plan.specs.Installing.{AreAway, all_put, all_taken}
 use Rattle.climb_plan.specs.Level.{IsLevel, IsChanged, parent_pids, remade_of}
+use Rattle.climb_plan.specs.LevelSteps.{SomeChildren, Working, IsWorkedOn}
 use Rattle.climb_plan.specs.Rewriting.{Remade}
 use Rattle.climb_plan.proofs.BridgeDrawn.{drawn_places}
 use Rattle.climb_plan.proofs.BridgeNext.{can_be_taken}
 use Rattle.climb_plan.proofs.BridgeTables.{AreDrawn, drawn_others}
 use Rattle.climb_plan.proofs.ChangedRooms.{shifted, given_back}
-use Rattle.climb_plan.proofs.InstallingLaws.{away-all_taken, put_back_is_before}
-use Rattle.climb_plan.proofs.ThroughClimb.{SomeChildren, IsWorkedOn, children_here}
+use Rattle.climb_plan.proofs.InstallingLemmas.{away-all_taken, put_back_is_before}
+use Rattle.climb_plan.proofs.ThroughClimb.{children_here}
 use Rattle.climb_plan.proofs.ThroughGroups.{draw_all, fresh_numbers}
 use Rattle.climb_plan.proofs.ToldRuns.{all_told, terms_told}
+use Rattle.climb_plan.proofs.LevelParts.{level_of}
 
 -- what is held of parents, and their pages as they were
 abbrev pub held_pages : List IndexWorked → List (ℕ × PageOfKind)
@@ -53,12 +56,12 @@ home_pairs t [] h = tt
 home_pairs t (q ∷ qs) h = (h.0, home_pairs t qs h.1)
 
 module _ {V : Type 0} (s : Settings) (fan : 1 < s.fan) (of : Page V → PageOfKind) (t ready : TreeInMemory) (xs : List SeenPage) (ws : List (Worked V)) (ps : List (Placed ℕ)) (ups : List (List (Placed ℕ))) (used : List ℕ) (i : ℕ) (groups : List Remade) (parents : List IndexWorked)
-    (h : IsLevel of t xs ws (ps ∷ ups) used i) (c : IsChanged s of t ready ws ps used i groups parents) where
+    (h : IsLevel of t xs (level_of ws (ps ∷ ups) used i)) (c : IsChanged s of t ready (level_of ws ups used i) ps groups parents) where
   abbrev taken_here : List ℕ
-  taken_here = parent_pids (changing ps ws)
+  taken_here = parent_pids (changing_families ps ws)
 
   abbrev count_here : ℕ
-  count_here = length (fresh_of (changes s used i (changing_groups (changing ps ws))))
+  count_here = length (fresh_of (changes s used i (changing_groups (changing_families ps ws))))
 
   abbrev pub rooms_here : Mapping PageOfKind
   rooms_here = with_rooms t.table (fresh_pids (pids_in_use t.table) count_here)
@@ -69,7 +72,7 @@ module _ {V : Type 0} (s : Settings) (fan : 1 < s.fan) (of : Page V → PageOfKi
   taken_distinct : Distinct taken_here
   taken_distinct = let z : 0 < s.fan = omega arith in (can_be_taken s of t xs ws ps ups used i z h).1
 
-  parents_in_rooms : AreHome Index rooms_here (parents_of (changing ps ws))
+  parents_in_rooms : AreHome Index rooms_here (parents_of (changing_families ps ws))
   parents_in_rooms =
       let never : AllByRecursion (IsNeverUnused used) (pids ps) = (all_apart (IsNeverUnused used) (pids ps) (flat_map pids ups) (all_apart (IsNeverUnused used) (pids (placed_of ws)) (all_pids ps ups) h.old).1).0 in
       all_told (λ p. place_of rooms_here p.pid ≡ Some (Some (Index p.page))) (terms_told s used i ps ws) (each ps never h.home.0)
@@ -79,7 +82,7 @@ module _ {V : Type 0} (s : Settings) (fan : 1 < s.fan) (of : Page V → PageOfKi
       each (q ∷ qs) o k = (drawn_others t.table rooms_here count_here used i q.pid drawn_here h.drawn o.0 ∙ k.0, each qs o.1 k.1)
 
   held_keys : keys_of (held_pages parents) ≡ taken_here
-  held_keys = ap (λ (es : List (ℕ × PageOfKind)). keys_of es) c.held ∙ keys_parents (changing ps ws)
+  held_keys = ap (λ (es : List (ℕ × PageOfKind)). keys_of es) c.held ∙ keys_parents (changing_families ps ws)
 
   -- the parents are away
   pub parents_are_away : AreAway ready.table (map (λ d. d.held.pid) parents)
@@ -90,11 +93,11 @@ module _ {V : Type 0} (s : Settings) (fan : 1 < s.fan) (of : Page V → PageOfKi
   -- once they are back, the table has just the numbers that were drawn beside what it had
   pub parents_are_back : all_put ready.table (held_pages parents) ≡ rooms_here
   parents_are_back =
-      let es : List (ℕ × PageOfKind) = index_pages (parents_of (changing ps ws)) in
+      let es : List (ℕ × PageOfKind) = index_pages (parents_of (changing_families ps ws)) in
       ap (λ (u : TreeInMemory). all_put u.table (held_pages parents)) c.tree
       ∙ ap (λ (ds : List (ℕ × PageOfKind)). all_put (all_taken rooms_here taken_here) ds) c.held
-      ∙ ap (λ (ns : List ℕ). all_put (all_taken rooms_here ns) es) (sym (keys_parents (changing ps ws)))
-      ∙ put_back_is_before rooms_here es drawn_here.rising (subst (λ (ns : List ℕ). Distinct ns) (sym (keys_parents (changing ps ws))) taken_distinct) (home_pairs rooms_here (parents_of (changing ps ws)) parents_in_rooms)
+      ∙ ap (λ (ns : List ℕ). all_put (all_taken rooms_here ns) es) (sym (keys_parents (changing_families ps ws)))
+      ∙ put_back_is_before rooms_here es drawn_here.rising (subst (λ (ns : List ℕ). Distinct ns) (sym (keys_parents (changing_families ps ws))) taken_distinct) (home_pairs rooms_here (parents_of (changing_families ps ws)) parents_in_rooms)
 
   -- the numbers that were drawn
   fresh_each : (cs : List (Change V)) → flat_map (λ r. r.fresh) (map (remade_of of) cs) ≡ pids (fresh_of cs)
@@ -105,8 +108,8 @@ module _ {V : Type 0} (s : Settings) (fan : 1 < s.fan) (of : Page V → PageOfKi
   fresh_are_drawn =
       let e : i ≡ i + 0 = omega arith in
       ap (λ (rs : List Remade). flat_map (λ r. r.fresh) rs) c.groups
-      ∙ fresh_each (changes s used i (changing_groups (changing ps ws)))
-      ∙ fresh_numbers s used i (changing_groups (changing ps ws))
+      ∙ fresh_each (changes s used i (changing_groups (changing_families ps ws)))
+      ∙ fresh_numbers s used i (changing_groups (changing_families ps ws))
       ∙ sym (shifted used (pids_in_use t.table) i 0 i count_here e h.drawn)
 
   all_away : (ns : List ℕ) → AllByRecursion (λ n. is_among n (fresh_pids (pids_in_use t.table) count_here) ≡ true) ns → AllByRecursion (λ n. place_of rooms_here n ≡ Some None) ns
@@ -123,36 +126,40 @@ module _ {V : Type 0} (s : Settings) (fan : 1 < s.fan) (of : Page V → PageOfKi
 
 -- ---- as code has it
 
-module _ {V : Type 0} {of : Page V → PageOfKind} {s : Settings} {t ready : TreeInMemory} {xs : List SeenPage} {depth : ℕ} {groups : List Remade} {parents : List IndexWorked} (k : IsWorkedOn of s t ready xs depth groups parents)
-    {now : TreeInMemory} {held : List IndexWorked} (stays : now ≡ ready) (same : held ≡ parents) where
-  abbrev l : SomeChildren of t xs (depth - 1)
+module _ {V : Type 0} {of : Page V → PageOfKind} {s : Settings} {w : Working} {xs : List SeenPage} {groups : List Remade} (k : IsWorkedOn of s w xs groups)
+    {now : TreeInMemory} {held : List IndexWorked} (stays : now ≡ w.ready) (same : held ≡ w.parents) where
+  abbrev l : SomeChildren of w.before xs (w.depth - 1)
   l = children_here k
 
-  abbrev changed : IsChanged s of t ready l.0 l.1 l.3 l.4 groups parents
-  changed = k.works l.0 l.1 l.2 l.3 l.4 l.5 l.6
+  abbrev p : LevelPlan V
+  p = l.0
+
+  abbrev changed : IsChanged s of w.before w.ready p l.1 groups w.parents
+  changed = k.works p l.1 l.2 l.3
 
   pub refused_away : AreAway now.table (map (λ d. d.held.pid) held)
   refused_away =
-      subst (λ (u : TreeInMemory). AreAway u.table (map (λ d. d.held.pid) held)) (sym stays) (subst (λ (ds : List IndexWorked). AreAway ready.table (map (λ d. d.held.pid) ds)) (sym same) (parents_are_away s k.fan of t ready xs l.0 l.1 l.2 l.3 l.4 groups parents l.5 changed))
+      subst (λ (u : TreeInMemory). AreAway u.table (map (λ d. d.held.pid) held)) (sym stays) (subst (λ (ds : List IndexWorked). AreAway w.ready.table (map (λ d. d.held.pid) ds)) (sym same) (parents_are_away s k.fan of w.before w.ready xs p.worked l.1 p.above p.used p.from groups w.parents l.2 changed))
 
   module _ {back : TreeInMemory} (put : back ≡ record now { table = all_put now.table (held_pages held) }) {all : List Remade} (handed : all ≡ groups) where
-    put_back : back ≡ record ready { table = all_put ready.table (held_pages parents) }
+    put_back : back ≡ record w.ready { table = all_put w.ready.table (held_pages w.parents) }
     put_back =
         let make : TreeInMemory → List IndexWorked → TreeInMemory = λ u ds. record u { table = all_put u.table (held_pages ds) } in
-        put ∙ ap (λ (u : TreeInMemory). make u held) stays ∙ ap (λ (ds : List IndexWorked). make ready ds) same
+        put ∙ ap (λ (u : TreeInMemory). make u held) stays ∙ ap (λ (ds : List IndexWorked). make w.ready ds) same
 
     pub refused_fresh : AreAway back.table (flat_map (λ r. r.fresh) all)
     refused_fresh =
-        subst (λ (rs : List Remade). AreAway back.table (flat_map (λ r. r.fresh) rs)) (sym handed) (fresh_are_away s k.fan of t ready xs l.0 l.1 l.2 l.3 l.4 groups parents l.5 changed back put_back)
+        subst (λ (rs : List Remade). AreAway back.table (flat_map (λ r. r.fresh) rs)) (sym handed) (fresh_are_away s k.fan of w.before w.ready xs p.worked l.1 p.above p.used p.from groups w.parents l.2 changed back put_back)
 
     pub refused_back : {after : TreeInMemory} → after ≡ record back { table = freed_all back.table (flat_map (λ r. r.fresh) all) }
-        → ((m : Mapping PageOfKind) (n : ℕ) → AreRisingPids (pids_in_use m) → IsOldWithoutPlace m → freed_all (with_rooms m (fresh_pids (pids_in_use m) n)) (fresh_pids (pids_in_use m) n) ≡ m) → after ≡ t
+        → ((m : Mapping PageOfKind) (n : ℕ) → AreRisingPids (pids_in_use m) → IsOldWithoutPlace m → freed_all (with_rooms m (fresh_pids (pids_in_use m) n)) (fresh_pids (pids_in_use m) n) ≡ m) → after ≡ w.before
     refused_back {after = after} r law =
-        let n : ℕ = length (fresh_of (changes s l.3 l.4 (changing_groups (changing l.1 l.0)))) in
+        let t : TreeInMemory = w.before in
+        let n : ℕ = length (fresh_of (changes s p.used p.from (changing_groups (changing_families l.1 p.worked)))) in
         let ns : List ℕ = fresh_pids (pids_in_use t.table) n in
         let make : TreeInMemory → Mapping PageOfKind → TreeInMemory = λ u m. record u { table = m } in
         let roomy : back ≡ record t { table = with_rooms t.table ns } = put_back
-        ∙ ap (λ (m : Mapping PageOfKind). make ready m) (parents_are_back s k.fan of t ready xs l.0 l.1 l.2 l.3 l.4 groups parents l.5 changed)
+        ∙ ap (λ (m : Mapping PageOfKind). make w.ready m) (parents_are_back s k.fan of t w.ready xs p.worked l.1 p.above p.used p.from groups w.parents l.2 changed)
         ∙ ap (λ (u : TreeInMemory). make u (with_rooms t.table ns)) changed.tree in
-        let drawn : flat_map (λ r. r.fresh) all ≡ ns = ap (λ (rs : List Remade). flat_map (λ r. r.fresh) rs) handed ∙ fresh_are_drawn s k.fan of t ready xs l.0 l.1 l.2 l.3 l.4 groups parents l.5 changed in
-        given_back t back after (flat_map (λ r. r.fresh) all) ns roomy r drawn (law t.table n l.5.rising l.5.logs)
+        let drawn : flat_map (λ r. r.fresh) all ≡ ns = ap (λ (rs : List Remade). flat_map (λ r. r.fresh) rs) handed ∙ fresh_are_drawn s k.fan of t w.ready xs p.worked l.1 p.above p.used p.from groups w.parents l.2 changed in
+        given_back t back after (flat_map (λ r. r.fresh) all) ns roomy r drawn (law t.table n l.2.rising l.2.logs)

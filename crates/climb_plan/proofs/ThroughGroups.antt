@@ -31,7 +31,7 @@ use Rattle.climb_plan.specs.Rewriting.{Remade}
 use Rattle.climb_plan.proofs.BridgePieces.{pids-replacements}
 use Rattle.climb_plan.proofs.ChangingOutdated.{worked_pids-append}
 use Rattle.climb_plan.proofs.InstalledPages.{not_among_from}
-use Rattle.climb_plan.proofs.InstallingLaws.{AreUnder, AreShaped, AreReady, AreInstalled, groups_pids, can_install_all, all_are_installed, others-all_installed, logged-all_installed, rising-all_installed}
+use Rattle.climb_plan.proofs.InstallingLemmas.{AreUnder, AreShaped, AreReady, AreInstalled, groups_pids, can_install_all, all_are_installed, others-all_installed, logged-all_installed, rising-all_installed}
 use Rattle.climb_plan.proofs.Installed.{IsInstalled, worked_pids}
 
 -- ---- fresh pids

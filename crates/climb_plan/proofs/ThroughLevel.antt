@@ -21,7 +21,7 @@ use Rattle.mapping.proofs.PidLaws.{all_among, among_left}
 use Rattle.page_runs.specs.Worked.{Worked}
 use Rattle.split_plan.specs.Change.{Change, is_rewritten, changes, family_changes, fresh_of, all_new, all_fresh, all_outdated}
 use Rattle.split_plan.specs.WorkedLevel.{placed_of}
-use Rattle.climb_plan.specs.Changing.{SeenPage, shown, AreSeen, AreHome, Changing, changing, changing_groups, parents_of}
+use Rattle.climb_plan.specs.Changing.{SeenPage, page_seen, AreSeen, AreHome, Changing, changing_families, changing_groups, parents_of}
 use Rattle.climb_plan.specs.Changing.AreSeen.{worked, at_home}
 use Rattle.climb_plan.specs.Climb.{climb, families}
 use Rattle.climb_plan.specs.HasClimbed.{HasClimbed}
@@ -30,19 +30,20 @@ use Rattle.climb_plan.specs.Level.{IsLevel, parent_pids, remade_of, next_tree}
 use Rattle.climb_plan.proofs.BridgeDrawn.{drawn_places}
 use Rattle.climb_plan.proofs.BridgeTables.{AreDrawn, taken_others, taken_logged, drawn_others}
 use Rattle.climb_plan.proofs.ChangedRooms.{shifted}
-use Rattle.climb_plan.proofs.ChangingGroups.{all_groups, groups-changing, fresh_on_level}
+use Rattle.climb_plan.proofs.ChangingGroups.{all_groups, groups-changing_families, fresh_on_level}
 use Rattle.climb_plan.proofs.ChangingOutdated.{worked_pids-placed, among-joined, all_groups-joined, outdated-level, outdate-joined, outdate-same}
 use Rattle.climb_plan.proofs.ChangingSeen.{seen_replaced}
 use Rattle.climb_plan.proofs.Climbing.{IsMadeReady, has_level_from}
-use Rattle.climb_plan.proofs.ClimbingLevel.{parents_here, climbed_above, level_untouched, fresh_untouched, level-climbed}
+use Rattle.climb_plan.proofs.ClimbingLevel.{plan_above, climbed_above, level_untouched, fresh_untouched, level-climbed}
 use Rattle.climb_plan.proofs.Families.{families-joined}
 use Rattle.climb_plan.proofs.InstalledLevel.{HasLevel, installed-level}
 use Rattle.climb_plan.proofs.InstalledPages.{AreFreshFor, distinct_apart, at_among}
 use Rattle.climb_plan.proofs.Installing.{home_apart, distinct_first}
-use Rattle.climb_plan.proofs.InstallingLaws.{not_among, others-all_come_home, home-all_come_home, rising-all_come_home, logged-all_come_home}
+use Rattle.climb_plan.proofs.InstallingLemmas.{not_among, others-all_come_home, home-all_come_home, rising-all_come_home, logged-all_come_home}
 use Rattle.climb_plan.proofs.ThroughGroups.{fresh_numbers, groups_can_be_installed, groups_installed, groups_rising, groups_logged}
 use Rattle.climb_plan.proofs.ToldRuns.{all_told, terms_told}
 use Rattle.climb_plan.proofs.Installed.{IsInstalled, worked_pids, replaced_among}
+use Rattle.climb_plan.proofs.LevelParts.{level_of}
 
 -- ---- the pages of a level that were seen
 
@@ -84,7 +85,7 @@ module _ {V : Type 0} (of : Page V → PageOfKind) (t : Mapping PageOfKind) wher
   pub home_back : (v : Mapping PageOfKind) {xs : List SeenPage} {ws : List (Worked V)} → AreSeen of t xs ws → AllByRecursion (λ k. place_of v k ≡ place_of t k) (worked_pids ws) → Distinct (worked_pids ws) → AreHome of (all_come_home v xs) (placed_of ws)
   home_back v (AreSeen.none) h d = tt
   home_back v (worked {xs = xs} {ws = ws} w e r) h d =
-      let x : SeenPage = shown of w in
+      let x : SeenPage = page_seen of w in
       let own = home-all_come_home v (x ∷ xs) (seen_all (λ k. k ≢ w.placed.pid) r d.0, seen_distinct r d.1) in
       (own.0, home_back (come_home v x) r (stay_put v x (worked_pids ws) d.0 h.1) d.1)
   home_back v (at_home {xs = xs} p e r) h d =
@@ -120,9 +121,9 @@ module _ {V : Type 0} where
 
 -- ---- a level under parents
 
-module _ {V : Type 0} (s : Settings) (of : Page V → PageOfKind) (t : TreeInMemory) (xs : List SeenPage) (ws : List (Worked V)) (ps : List (Placed ℕ)) (ups : List (List (Placed ℕ))) (used : List ℕ) (i : ℕ) (h : IsLevel of t xs ws (ps ∷ ups) used i) where
+module _ {V : Type 0} (s : Settings) (of : Page V → PageOfKind) (t : TreeInMemory) (xs : List SeenPage) (ws : List (Worked V)) (ps : List (Placed ℕ)) (ups : List (List (Placed ℕ))) (used : List ℕ) (i : ℕ) (h : IsLevel of t xs (level_of ws (ps ∷ ups) used i)) where
   abbrev groups_here : List (List (Worked V))
-  groups_here = changing_groups (changing ps ws)
+  groups_here = changing_groups (changing_families ps ws)
 
   abbrev changes_here : List (Change V)
   changes_here = changes s used i groups_here
@@ -131,7 +132,7 @@ module _ {V : Type 0} (s : Settings) (of : Page V → PageOfKind) (t : TreeInMem
   count_here = length (fresh_of changes_here)
 
   abbrev taken_here : List ℕ
-  taken_here = parent_pids (changing ps ws)
+  taken_here = parent_pids (changing_families ps ws)
 
   -- the tree from which the levels above climb
   abbrev pub ready_here : TreeInMemory
@@ -162,7 +163,7 @@ module _ {V : Type 0} (s : Settings) (of : Page V → PageOfKind) (t : TreeInMem
 
   taken_are_parents : AllByRecursion (λ k. is_among k (pids ps) ≡ true) taken_here
   taken_are_parents =
-      to_parents (λ k. is_among k (pids ps) ≡ true) (changing ps ws) (all_told (λ p. is_among p.pid (pids ps) ≡ true) (terms_told s used i ps ws) (by_pid (λ k. is_among k (pids ps) ≡ true) ps (all_among (pids ps))))
+      to_parents (λ k. is_among k (pids ps) ≡ true) (changing_families ps ws) (all_told (λ p. is_among p.pid (pids ps) ≡ true) (terms_told s used i ps ws) (by_pid (λ k. is_among k (pids ps) ≡ true) ps (all_among (pids ps))))
 
   not_taken : (n : ℕ) → is_among n (pids ps) ≡ false → is_among n taken_here ≡ false
   not_taken n e =
@@ -203,7 +204,7 @@ module _ {V : Type 0} (s : Settings) (of : Page V → PageOfKind) (t : TreeInMem
 
   -- ---- once the levels above have climbed
 
-  module _ (above : TreeInMemory) (up : HasClimbed Index ready_here above (parents_here s used i ps ws ups) ups (climbed_above s used i ps ws ups)) where
+  module _ (above : TreeInMemory) (up : HasClimbed Index ready_here above (plan_above s used i ps ws ups) (climbed_above s used i ps ws ups)) where
     places_stay : AllByRecursion (λ k. place_of above.table k ≡ place_of t.table k) (worked_pids ws)
     places_stay =
         all_each (λ k. is_among k (worked_pids ws) ≡ true) (λ k. place_of above.table k ≡ place_of t.table k) (worked_pids ws)
@@ -245,7 +246,7 @@ module _ {V : Type 0} (s : Settings) (of : Page V → PageOfKind) (t : TreeInMem
     every_group = all_groups (families ps ws)
 
     same_groups : groups_here ≡ filter is_rewritten every_group
-    same_groups = groups-changing ps ws
+    same_groups = groups-changing_families ps ws
 
     flat_groups : flat every_group ≡ ws
     flat_groups = all_groups-joined (families ps ws) ∙ joined_here
@@ -300,6 +301,6 @@ module _ {V : Type 0} (s : Settings) (of : Page V → PageOfKind) (t : TreeInMem
     tree_after = record { table = table_after; root = above.root; height = above.height }
 
     -- and the level has climbed
-    pub level_through : HasClimbed of t tree_after ws (ps ∷ ups) (climb s used i ws (ps ∷ ups))
+    pub level_through : HasClimbed of t tree_after (level_of ws (ps ∷ ups) used i) (climb s used i ws (ps ∷ ups))
     level_through =
         level-climbed s used i ps ws ups joined_here h.stacked.1 h.old h.distinct of t ready_here above tree_after made_ready up (record { level = after_level; rising = after_rising; logged = after_logged }) refl refl

@@ -1,5 +1,5 @@
 -- The highest level of a climb once levels have grown above it: its page can come home, its group can be replaced, and then it has climbed.
-use Rattle.std.specs.Prelude.{◌≡◌, ℕ, ◌+◌, true, false, List, [], ◌∷◌, ◌++◌, map, flat_map, length, Some, None, IsSome}
+use Rattle.std.specs.Prelude.{◌≡◌, ℕ, ◌+◌, ◌<◌, true, false, List, [], ◌∷◌, ◌++◌, map, flat_map, length, Some, None, IsSome}
 use Rattle.std.proofs.Common.{sym, ap, ◌∙◌, subst, arith, append-nil}
 use Rattle.std.specs.List.{filter, AllByRecursion, range_with_len}
 use Rattle.keys.specs.Lists.{flat}
@@ -19,10 +19,11 @@ use Rattle.page_runs.specs.Worked.{Worked}
 use Rattle.split_plan.specs.Change.{Change, is_rewritten, changes, fresh_of, all_new, all_fresh, all_outdated}
 use Rattle.split_plan.specs.WorkedLevel.{placed_of}
 use Rattle.climb_plan.specs.Changing.{SeenPage, AreHome}
-use Rattle.climb_plan.specs.Climb.{climb}
+use Rattle.climb_plan.specs.Climb.{LevelPlan, alone, climb, climb_of}
 use Rattle.climb_plan.specs.HasClimbed.{HasClimbed}
 use Rattle.climb_plan.specs.Installing.{AreAway, all_come_home, all_installed, CanInstallAll}
 use Rattle.climb_plan.specs.Level.{IsLevel, remade_of, IsTopChanged}
+use Rattle.climb_plan.specs.LevelSteps.{SomeLevel, TopChangesFrom, ClimbsFrom, IsTooHighFrom}
 use Rattle.climb_plan.specs.Rewriting.{Remade}
 use Rattle.climb_plan.proofs.BridgeDrawn.{drawn_places}
 use Rattle.climb_plan.proofs.BridgeTables.{AreDrawn, drawn_others}
@@ -35,13 +36,14 @@ use Rattle.climb_plan.proofs.ClimbingTop.{made_on_top, grown_above, own_not_grow
 use Rattle.climb_plan.proofs.InstalledLevel.{HasLevel, installed-top}
 use Rattle.climb_plan.proofs.InstalledPages.{AreFreshFor, at_among}
 use Rattle.climb_plan.proofs.Installing.{distinct_first}
-use Rattle.climb_plan.proofs.InstallingLaws.{others-all_come_home, rising-all_come_home, logged-all_come_home}
+use Rattle.climb_plan.proofs.InstallingLemmas.{others-all_come_home, rising-all_come_home, logged-all_come_home}
 use Rattle.climb_plan.proofs.ThroughGroups.{fresh_numbers, groups_can_be_installed, groups_installed, groups_rising, groups_logged}
 use Rattle.climb_plan.proofs.ThroughLevel.{seen_pids, seen_distinct, seen_away, not_seen, home_back, pages_home, never_given, all_each}
 use Rattle.climb_plan.proofs.Installed.{IsInstalled, worked_pids, replaced_among}
+use Rattle.climb_plan.proofs.LevelParts.{level_of}
 
-module _ {V : Type 0} (s : Settings) (of : Page V → PageOfKind) (t u : TreeInMemory) (xs : List SeenPage) (ws : List (Worked V)) (used : List ℕ) (i : ℕ) (h : IsLevel of t xs ws [] used i)
-    (given : List Remade) (pid levels : ℕ) (c : IsTopChanged s of t u ws used i given pid levels) where
+module _ {V : Type 0} (s : Settings) (of : Page V → PageOfKind) (t u : TreeInMemory) (xs : List SeenPage) (ws : List (Worked V)) (used : List ℕ) (i : ℕ) (h : IsLevel of t xs (level_of ws [] used i))
+    (given : List Remade) (pid levels : ℕ) (c : IsTopChanged s of t u (level_of ws [] used i) given pid levels) where
   -- the group, if it is one, and what the plan makes of the level
   abbrev group_here : List (List (Worked V))
   group_here = filter is_rewritten (ws ∷ [])
@@ -178,22 +180,50 @@ module _ {V : Type 0} (s : Settings) (of : Page V → PageOfKind) (t u : TreeInM
       has_level_from of top_home u.table table_after ws (all_new all_here) (all_fresh all_here) home_others
       (subst (λ (qs : List (Placed V)). HasLevel of top_home table_after ws (all_new all_here) qs) (sym same_fresh) (installed-top s used i of top_home table_after ws level_home level_distinct level_fresh installed))
 
-  through_here : HasClimbed of t tree_after ws [] (climb s used i ws [])
+  through_here : HasClimbed of t tree_after (level_of ws [] used i) (climb s used i ws [])
   through_here =
       let rising : AreRisingPids (pids_in_use table_after) = groups_rising s used of top_home i (ws ∷ []) home_rising group_never group_distinct in
       let grew : levels ≡ u.height + length above_here = c.height ∙ ap (λ (n : ℕ). n + length above_here) (sym c.grown.height) in
       top-climbed s used i ws h.stacked h.old of t u tree_after made_ready c.grown.new (record { level = after_level; rising = rising; logged = after_logged }) c.root grew
 
   -- as code has it
-  pub top_through : (home replaced after : TreeInMemory) → home ≡ record u { table = top_home } → replaced ≡ record home { table = all_installed home.table given } → after ≡ record replaced { root = pid; height = levels } → HasClimbed of t after ws [] (climb s used i ws [])
+  pub top_through : (home replaced after : TreeInMemory) → home ≡ record u { table = top_home } → replaced ≡ record home { table = all_installed home.table given } → after ≡ record replaced { root = pid; height = levels } → HasClimbed of t after (level_of ws [] used i) (climb s used i ws [])
   top_through home replaced after p q r =
       let whole : Mapping PageOfKind → TreeInMemory = λ v. record { table = v; root = pid; height = levels } in
       let is : after ≡ tree_after =
       r ∙ ap (λ (v : TreeInMemory). whole v.table) q ∙ ap (λ (v : TreeInMemory). whole (all_installed v.table given)) p ∙ ap (λ (rs : List Remade). whole (all_installed top_home rs)) c.groups in
-      subst (λ (v : TreeInMemory). HasClimbed of t v ws [] (climb s used i ws [])) (sym is) through_here
+      subst (λ (v : TreeInMemory). HasClimbed of t v (level_of ws [] used i) (climb s used i ws [])) (sym is) through_here
+
+-- ---- as code has it
+
+module _ {V : Type 0} (of : Page V → PageOfKind) (t : TreeInMemory) (xs : List SeenPage) where
+  alone_by : (ws : List (Worked V)) (ups : List (List (Placed ℕ))) (used : List ℕ) (i : ℕ) → IsLevel of t xs (level_of ws ups used i) → 0 ≡ length ups → IsLevel of t xs (level_of ws [] used i)
+  alone_by ws [] used i h e = h
+  alone_by ws (up ∷ ups) used i h e = absurd (omega arith)
+
+  -- a level that is no level below the root has none above it
+  pub top_level : (d : ℕ) → d ≡ 0 → SomeLevel of t xs d → (l : LevelPlan V) × IsLevel of t xs (alone l)
+  top_level d z l = (l.0, alone_by l.0.worked l.0.above l.0.used l.0.from l.1 (sym z ∙ l.2))
+
+  climbs_by : (s : Settings) (after : TreeInMemory) → ((l : LevelPlan V) → IsLevel of t xs (alone l) → HasClimbed of t after (alone l) (climb_of s (alone l)))
+      → (ws : List (Worked V)) (ups : List (List (Placed ℕ))) (used : List ℕ) (i : ℕ) → IsLevel of t xs (level_of ws ups used i) → 0 ≡ length ups → HasClimbed of t after (level_of ws ups used i) (climb s used i ws ups)
+  climbs_by s after f ws [] used i h e = f (level_of ws [] used i) h
+  climbs_by s after f ws (up ∷ ups) used i h e = absurd (omega arith)
+
+  -- where it has climbed, the levels from it on have
+  pub top_climbs : (s : Settings) (after : TreeInMemory) → ((l : LevelPlan V) → IsLevel of t xs (alone l) → HasClimbed of t after (alone l) (climb_of s (alone l))) → ClimbsFrom of s t after xs 0
+  top_climbs s after f l h e = climbs_by s after f l.worked l.above l.used l.from h e
+
+  high_by : (s : Settings) → ((l : LevelPlan V) → IsLevel of t xs (alone l) → 64 < t.height + length (climb_of s (alone l)).tower.above)
+      → (ws : List (Worked V)) (ups : List (List (Placed ℕ))) (used : List ℕ) (i : ℕ) → IsLevel of t xs (level_of ws ups used i) → 0 ≡ length ups → 64 + length ups < t.height + length (climb s used i ws ups).tower.above
+  high_by s f ws [] used i h e = let more : 64 < t.height + length (climb s used i ws []).tower.above = f (level_of ws [] used i) h in omega arith
+  high_by s f ws (up ∷ ups) used i h e = absurd (omega arith)
+
+  -- and where it would be too high, they would
+  pub top_high : (s : Settings) → ((l : LevelPlan V) → IsLevel of t xs (alone l) → 64 < t.height + length (climb_of s (alone l)).tower.above) → IsTooHighFrom of s t xs 0
+  top_high s f l h e = high_by s f l.worked l.above l.used l.from h e
 
 -- the same of the level as it was handed on
 pub changed_for : {V D : Type 0} (s : Settings) (of : Page V → PageOfKind) (t u : TreeInMemory) (given : List Remade) (pid levels : ℕ) (seen : D → SeenPage) (ds lent : List D) → lent ≡ ds
-    → ((ws : List (Worked V)) (used : List ℕ) (i : ℕ) → IsLevel of t (map seen lent) ws [] used i → IsTopChanged s of t u ws used i given pid levels)
-    → (ws : List (Worked V)) (used : List ℕ) (i : ℕ) → IsLevel of t (map seen ds) ws [] used i → IsTopChanged s of t u ws used i given pid levels
-changed_for s of t u given pid levels seen ds lent e changed ws used i h = changed ws used i (subst (λ (es : List _). IsLevel of t (map seen es) ws [] used i) (sym e) h)
+    → TopChangesFrom of s t u (map seen lent) given pid levels → TopChangesFrom of s t u (map seen ds) given pid levels
+changed_for s of t u given pid levels seen ds lent e changed = subst (λ (es : List _). TopChangesFrom of s t u (map seen es) given pid levels) e changed

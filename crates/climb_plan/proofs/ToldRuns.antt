@@ -16,7 +16,7 @@ use Rattle.split_plan.specs.WorkedLevel.{worked_parents}
 use Rattle.split_plan.specs.Change.{Change, changes, family_changes, fresh_of}
 use Rattle.split_plan.specs.Terms.{terms}
 use Rattle.climb_plan.specs.Climb.{families}
-use Rattle.climb_plan.specs.Changing.{AreSeen, shown, Changing, rewritten, with_changing, changing, parents_of, changing_changes}
+use Rattle.climb_plan.specs.Changing.{AreSeen, page_seen, Changing, groups_to_rewrite, with_changing, changing_families, parents_of, changing_changes}
 use Rattle.climb_plan.specs.Changing.AreSeen.{worked, at_home}
 use Rattle.climb_plan.proofs.Told.AreRunsOf.{told, untold}
 use Rattle.climb_plan.proofs.ChangingGroups.{AreAlike, alike_rewritten, alike_terms}
@@ -44,12 +44,12 @@ module _ {V : Type 0} where
 
   -- the terms of all families are empty but for those that change
   pub terms_told : (s : Settings) (used : List ℕ) (i : ℕ) (ps : List (Placed ℕ)) (ws : List (Worked V))
-      → AreRunsOf ps (map terms (family_changes s used i (families ps ws))) (parents_of (changing ps ws)) (map terms (changing_changes s used i (changing ps ws)))
+      → AreRunsOf ps (map terms (family_changes s used i (families ps ws))) (parents_of (changing_families ps ws)) (map terms (changing_changes s used i (changing_families ps ws)))
   terms_told s used i [] ws = AreRunsOf.none
   terms_told s used i (p ∷ ps) ws =
       let f : List (Worked V) = take (length (entries p)) ws in
       let more : List (Worked V) = drop (length (entries p)) ws in
-      told_step (rewritten f) s used i p ps (changes s used i (groups is_thin f)) (λ j. map terms (family_changes s used j (families ps more))) (changing ps more) (alike_rewritten s used i (groups is_thin f)) (λ j. terms_told s used j ps more)
+      told_step (groups_to_rewrite f) s used i p ps (changes s used i (groups is_thin f)) (λ j. map terms (family_changes s used j (families ps more))) (changing_families ps more) (alike_rewritten s used i (groups is_thin f)) (λ j. terms_told s used j ps more)
 
 -- ---- pages after their runs
 
@@ -89,7 +89,7 @@ module _ {V : Type 0} where
 
   -- where the pages that have a run are away, and the others at home, those are the pages to see
   pub seen_after_runs : {ps qs : List (Placed V)} {all rs : List (List (List ℕ × Option V))} (s : Settings) (of : Page V → PageOfKind) (t : Mapping PageOfKind) → AreRunsOf ps all qs rs → Distinct (pids ps) → AreHomeBut of t qs ps → AllByRecursion (λ q. place_of t q.pid ≡ Some None) qs
-      → AreSeen of t (map (shown of) (worked_parents s qs rs)) (worked_parents s ps all)
+      → AreSeen of t (map (page_seen of) (worked_parents s qs rs)) (worked_parents s ps all)
   seen_after_runs s of t (AreRunsOf.none) d h a = AreSeen.none
   seen_after_runs {ps} s of t (told {ps = more} {qs = qs} p run r) d h a =
       worked (runs.worked s p run) a.0 (seen_after_runs s of t r d.1 (without_first of t p qs more (others p.pid more d.0) h.1) a.1)

@@ -24,32 +24,32 @@ use Rattle.split_plan.specs.Groups.{Gathered, gathered, groups}
 use Rattle.split_plan.specs.WorkedLevel.{worked_leaves, worked_parents}
 use Rattle.split_plan.specs.Change.{Change, changes, family_changes, new_of, fresh_of, all_new, all_fresh, outdated, all_outdated}
 use Rattle.split_plan.specs.Terms.{freed_of, terms}
-use Rattle.climb_plan.specs.Changing.{same}
-use Rattle.climb_plan.specs.Climb.{families, Climbed, climb, is_lone, kept_under, kept}
+use Rattle.climb_plan.specs.Changing.{same_page}
+use Rattle.climb_plan.specs.Climb.{families, Climbed, climb, is_lone, kept_under, kept_levels}
 use Rattle.mapping.specs.Outdate.{outdate_all}
-use Rattle.climb_plan.specs.Plan.{climbed, planned_levels, planned_tree, shrunk, shrunk_pids, outdated_pids}
+use Rattle.climb_plan.specs.Plan.{batch_climb, planned_levels, planned_tree, shrunk_levels, shrunk_pids, outdated_pids}
 use Rattle.climb_plan.proofs.Families.{families_by_length}
 
 -- ---- pages without a run
 
 abbrev pub all_same : {V : Type 0} → List (Placed V) → List (Worked V)
-all_same ps = map same ps
+all_same ps = map same_page ps
 
 module _ {V : Type 0} where
   leaves_same : (s : Settings) (ps : List (Placed V)) → worked_leaves s [] ps ≡ all_same ps
   leaves_same s [] = refl
   leaves_same s (p ∷ []) = refl
-  leaves_same s (p ∷ q ∷ qs) = ap (λ (ws : List (Worked V)). same p ∷ ws) (leaves_same s (q ∷ qs))
+  leaves_same s (p ∷ q ∷ qs) = ap (λ (ws : List (Worked V)). same_page p ∷ ws) (leaves_same s (q ∷ qs))
 
   pub parents_same : (s : Settings) (ps : List (Placed V)) (runs : List (List (List ℕ × Option V))) → AllByRecursion (λ run. run ≡ []) runs → worked_parents s ps runs ≡ all_same ps
   parents_same s [] runs h = refl
-  parents_same s (p ∷ ps) [] h = ap (λ (ws : List (Worked V)). same p ∷ ws) (parents_same s ps [] tt)
-  parents_same s (p ∷ ps) (run ∷ runs) h = rw h.0 (ap (λ (ws : List (Worked V)). same p ∷ ws) (parents_same s ps runs h.1))
+  parents_same s (p ∷ ps) [] h = ap (λ (ws : List (Worked V)). same_page p ∷ ws) (parents_same s ps [] tt)
+  parents_same s (p ∷ ps) (run ∷ runs) h = rw h.0 (ap (λ (ws : List (Worked V)). same_page p ∷ ws) (parents_same s ps runs h.1))
 
   -- ---- each is a group by itself, and stays
 
   abbrev alone : List (Placed V) → List (List (Worked V))
-  alone ps = map (λ p. same p ∷ []) ps
+  alone ps = map (λ p. same_page p ∷ []) ps
 
   gathered_same : (ps : List (Placed V)) → (let g : Gathered (Worked V) = record { leading = []; groups = alone ps } in gathered is_thin (all_same ps) ≡ g)
   gathered_same [] = refl
@@ -101,8 +101,8 @@ module _ {V : Type 0} where
   families_same [] qs = refl
   families_same (p ∷ ps) qs =
       let n : ℕ = length (entries p) in
-      let a : take n (all_same qs) ≡ all_same (take n qs) = take-map same n qs in
-      let b : drop n (all_same qs) ≡ all_same (drop n qs) = drop-map same n qs in
+      let a : take n (all_same qs) ≡ all_same (take n qs) = take-map same_page n qs in
+      let b : drop n (all_same qs) ≡ all_same (drop n qs) = drop-map same_page n qs in
       ap (λ (ws : List (Worked V)). ws ∷ families ps (drop n (all_same qs))) a
       ∙ ap (λ (ws : List (Worked V)). all_same (take n qs) ∷ families ps ws) b
       ∙ ap (λ (fs : List (List (Worked V))). all_same (take n qs) ∷ fs) (families_same ps (drop n qs))
@@ -140,7 +140,7 @@ not_lone [] h = refl
 not_lone (p ∷ []) h = not_lone_by (nat_eq (length (entries p)) 1) (length (entries p)) refl h.0.some
 not_lone (p ∷ q ∷ ps) h = refl
 
-all_kept : (ls : List (List (Placed ℕ))) → IsBranchedTop ls → kept ls ≡ ls
+all_kept : (ls : List (List (Placed ℕ))) → IsBranchedTop ls → kept_levels ls ≡ ls
 all_kept [] h = refl
 all_kept (l ∷ []) h = rw (not_lone l h) refl
 all_kept (l ∷ up ∷ ups) h = ap (λ (ls : List (List (Placed ℕ))). kept_under l ls) (all_kept (up ∷ ups) h)
@@ -183,7 +183,7 @@ same_tree t u a b c d =
     ∙ ap (λ (l : List (ℕ × Logged)). made u.pages u.root u.height l) d
 
 module _ {A : Type 0} (s : Settings) (t : Tree) (cs : List (Command A)) (proper : IsProper s t) (nothing : net_run (contents t) cs ≡ []) where
-  climbed_same : climbed s t cs ≡ as_they_were (levels_of t).level (levels_of t).above
+  climbed_same : batch_climb s t cs ≡ as_they_were (levels_of t).level (levels_of t).above
   climbed_same =
       let l : Levels = levels_of t in
       ap (λ (run : List (List ℕ × Option (List ℕ))). climb s (keys_of t.pages) 0 (worked_leaves s run l.level) l.above) nothing
@@ -194,7 +194,7 @@ module _ {A : Type 0} (s : Settings) (t : Tree) (cs : List (Command A)) (proper 
   levels_same =
       let l : Levels = levels_of t in
       let made : List (List (Placed ℕ)) → Levels = λ ups. record { level = l.level; above = ups } in
-      ap (λ (c : Climbed (List ℕ)). shrunk c) climbed_same ∙ ap (λ (ups : List (List (Placed ℕ))). made ups) (all_kept l.above proper.levels.top)
+      ap (λ (c : Climbed (List ℕ)). shrunk_levels c) climbed_same ∙ ap (λ (ups : List (List (Placed ℕ))). made ups) (all_kept l.above proper.levels.top)
 
   -- no pid is outdated
   pub nothing_outdated : outdated_pids s t cs ≡ []

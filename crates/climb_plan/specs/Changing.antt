@@ -3,10 +3,13 @@ use Rattle.std.specs.Prelude.{◌≡◌, ℕ, ◌+◌, Bool, false, ◌||◌, Li
 use Rattle.std.specs.List.{filter, AllByRecursion}
 use Rattle.keys.specs.declared.settings.Settings.{Settings}
 use Rattle.index_page.specs.Page.{Page, PageOfKind}
+use Rattle.index_page.specs.Page.PageOfKind.{Leaf, Index}
 use Rattle.mapping.specs.Levels.{Placed, entries}
 use Rattle.mapping.specs.Table.{Mapping, place_of}
 use Rattle.page_runs.specs.declared.class.Class.{Class}
 use Rattle.page_runs.specs.declared.class.Class.TheVariants.{Same}
+use Rattle.page_runs.specs.LeafWork.{LeafWorked}
+use Rattle.page_runs.specs.TermWork.{IndexWorked}
 use Rattle.page_runs.specs.Worked.{Worked, is_thin_class, is_fat_class, is_thin}
 use Rattle.split_plan.specs.Groups.{groups}
 use Rattle.split_plan.specs.Change.{Change, is_rewritten, changes, fresh_of}
@@ -22,19 +25,27 @@ pub record SeenPage : Type 0 where
   pub replaced : Bool
 
 -- a page after its run under its pid, of the kind that `of` makes
-abbrev pub shown : {V : Type 0} → (Page V → PageOfKind) → Worked V → SeenPage
-shown of w = record { pid = w.placed.pid; page = of w.placed.page; class = w.class; replaced = w.replaced }
+abbrev pub page_seen : {V : Type 0} → (Page V → PageOfKind) → Worked V → SeenPage
+page_seen of w = record { pid = w.placed.pid; page = of w.placed.page; class = w.class; replaced = w.replaced }
+
+-- leaves after their runs, as their parents see them
+abbrev pub leaves_seen : List LeafWorked → List SeenPage
+leaves_seen ds = map (λ d. page_seen Leaf d.made.worked) ds
+
+-- index pages after theirs
+abbrev pub parents_seen : List IndexWorked → List SeenPage
+parents_seen ds = map (λ d. page_seen Index d.made) ds
 
 -- a page that got no run
-abbrev pub same : {V : Type 0} → Placed V → Worked V
-same p = record { placed = p; class = Same; replaced = false }
+abbrev pub same_page : {V : Type 0} → Placed V → Worked V
+same_page p = record { placed = p; class = Same; replaced = false }
 
 -- of the pages of a level after their runs, those that are away from the table, in order; each other got no run and is at
 -- home in it
 pub data AreSeen {V : Type 0} (of : Page V → PageOfKind) (t : Mapping PageOfKind) : List SeenPage → List (Worked V) → Type 0 where
   none : AreSeen of t [] []
-  worked : {xs : List SeenPage} {ws : List (Worked V)} → (w : Worked V) → place_of t w.placed.pid ≡ Some None → AreSeen of t xs ws → AreSeen of t (shown of w ∷ xs) (w ∷ ws)
-  at_home : {xs : List SeenPage} {ws : List (Worked V)} → (p : Placed V) → place_of t p.pid ≡ Some (Some (of p.page)) → AreSeen of t xs ws → AreSeen of t xs (same p ∷ ws)
+  worked : {xs : List SeenPage} {ws : List (Worked V)} → (w : Worked V) → place_of t w.placed.pid ≡ Some None → AreSeen of t xs ws → AreSeen of t (page_seen of w ∷ xs) (w ∷ ws)
+  at_home : {xs : List SeenPage} {ws : List (Worked V)} → (p : Placed V) → place_of t p.pid ≡ Some (Some (of p.page)) → AreSeen of t xs ws → AreSeen of t xs (same_page p ∷ ws)
 
 -- whether the class is thin or fat
 abbrev pub calls : Class → Bool
@@ -48,12 +59,12 @@ pub record Changing (V : Type 0) : Type 0 where
   pub groups : List (List (Worked V))
 
 -- of the groups of one parent's children those that are rewritten
-abbrev pub rewritten : {V : Type 0} → List (Worked V) → List (List (Worked V))
-rewritten f = filter is_rewritten (groups is_thin f)
+abbrev pub groups_to_rewrite : {V : Type 0} → List (Worked V) → List (List (Worked V))
+groups_to_rewrite f = filter is_rewritten (groups is_thin f)
 
 -- a parent with those of its family
 abbrev pub changing_family : {V : Type 0} → Placed ℕ → List (Worked V) → Changing V
-changing_family p f = record { parent = p; groups = rewritten f }
+changing_family p f = record { parent = p; groups = groups_to_rewrite f }
 
 -- with this parent in front, unless it has no such groups
 abbrev pub with_changing : {V : Type 0} → List (List (Worked V)) → Changing V → List (Changing V) → List (Changing V)
@@ -61,11 +72,11 @@ with_changing [] c cs = cs
 with_changing (g ∷ gs) c cs = c ∷ cs
 
 -- the parents of a level some of whose children are in a group that is rewritten, with these groups, from left to right
-abbrev pub changing : {V : Type 0} → List (Placed ℕ) → List (Worked V) → List (Changing V)
-changing [] ws = []
-changing (p ∷ ps) ws =
+abbrev pub changing_families : {V : Type 0} → List (Placed ℕ) → List (Worked V) → List (Changing V)
+changing_families [] ws = []
+changing_families (p ∷ ps) ws =
     let c : Changing _ = changing_family p (take (length (entries p)) ws) in
-    with_changing c.groups c (changing ps (drop (length (entries p)) ws))
+    with_changing c.groups c (changing_families ps (drop (length (entries p)) ws))
 
 -- these parents
 abbrev pub parents_of : {V : Type 0} → List (Changing V) → List (Placed ℕ)

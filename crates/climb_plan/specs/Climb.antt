@@ -20,11 +20,11 @@ pub record Climbed (V : Type 0) : Type 0 where
 
 -- the levels above pages that have no parent: their low keys and pids cut into index pages, until one page is left,
 -- where i fresh pids were given out before, and so many levels are enough
-abbrev pub grown : {V : Type 0} → ℕ → Settings → List ℕ → ℕ → List (Placed V) → List (List (Placed ℕ))
-grown zero s used i ps = []
-grown (suc enough) s used i ps =
+abbrev pub grown_levels : {V : Type 0} → ℕ → Settings → List ℕ → ℕ → List (Placed V) → List (List (Placed ℕ))
+grown_levels zero s used i ps = []
+grown_levels (suc enough) s used i ps =
     if nat_lt 1 (length ps)
-    then (let up : List (Placed ℕ) = fresh_pages used i (cut s.fan (names ps)) in up ∷ grown enough s used (i + length up) up)
+    then (let up : List (Placed ℕ) = fresh_pages used i (cut s.fan (names ps)) in up ∷ grown_levels enough s used (i + length up) up)
     else []
 
 -- the highest level: its page is a group by itself, and grows levels where it was cut
@@ -32,7 +32,7 @@ abbrev pub climbed_top : {V : Type 0} → Settings → List ℕ → ℕ → List
 climbed_top s used i ws =
     let css : List (List (Change _)) = changes s used i (ws ∷ []) ∷ [] in
     let top : List (Placed _) = all_new css in
-    record { tower = record { level = top; above = grown (length top) s used (i + length (all_fresh css)) top }; outdated = all_outdated css }
+    record { tower = record { level = top; above = grown_levels (length top) s used (i + length (all_fresh css)) top }; outdated = all_outdated css }
 
 -- a level of pages after their runs, and the levels above it as they were: each family is grouped and remade, its parent
 -- gets the terms, and so on upward
@@ -42,6 +42,26 @@ climb s used i ws (parents ∷ ups) =
     let css : List (List (Change _)) = family_changes s used i (families parents ws) in
     let up : Climbed ℕ = climb s used (i + length (all_fresh css)) (worked_parents s parents (map terms css)) ups in
     record { tower = record { level = all_new css; above = up.tower.level ∷ up.tower.above }; outdated = all_outdated css ++ up.outdated }
+
+-- a level of pages after their runs, with the levels above it as they were; of the numbers that are not among the used ones so many
+-- were given out before
+pub record LevelPlan (V : Type 0) : Type 0 where
+  pub worked : List (Worked V)
+  pub above : List (List (Placed ℕ))
+  pub used : List ℕ
+  pub from : ℕ
+
+-- the same level with these parents right above it
+abbrev pub under : {V : Type 0} → List (Placed ℕ) → LevelPlan V → LevelPlan V
+under ps l = record { worked = l.worked; above = ps ∷ l.above; used = l.used; from = l.from }
+
+-- and with no level above it
+abbrev pub alone : {V : Type 0} → LevelPlan V → LevelPlan V
+alone l = record { worked = l.worked; above = []; used = l.used; from = l.from }
+
+-- what is made of the level and of those above it
+abbrev pub climb_of : {V : Type 0} → Settings → LevelPlan V → Climbed V
+climb_of s l = climb s l.used l.from l.worked l.above
 
 -- whether a level is one page with one child
 abbrev pub is_lone : List (Placed ℕ) → Bool
@@ -55,6 +75,6 @@ kept_under l [] = if is_lone l then [] else l ∷ []
 kept_under l (up ∷ ups) = l ∷ up ∷ ups
 
 -- the levels without those at the top whose one page has one child
-abbrev pub kept : List (List (Placed ℕ)) → List (List (Placed ℕ))
-kept [] = []
-kept (l ∷ ls) = kept_under l (kept ls)
+abbrev pub kept_levels : List (List (Placed ℕ)) → List (List (Placed ℕ))
+kept_levels [] = []
+kept_levels (l ∷ ls) = kept_under l (kept_levels ls)

@@ -9,23 +9,22 @@ use Rattle.mapping.specs.Outdate.{outdate_all}
 use Rattle.mapping.specs.Proper.{Stacked, Distinct, AreRisingPids}
 use Rattle.mapping.specs.Table.{pids_in_use, place_of}
 use Rattle.mapping.specs.TreeInMemory.{TreeInMemory}
-use Rattle.page_runs.specs.Worked.{Worked}
 use Rattle.split_plan.specs.WorkedLevel.{placed_of}
 use Rattle.climb_plan.specs.Changing.{AreHome}
-use Rattle.climb_plan.specs.Climb.{Climbed, kept}
+use Rattle.climb_plan.specs.Climb.{Climbed, LevelPlan, kept_levels}
 use Rattle.climb_plan.specs.Plan.{shrunk_pids}
 
 -- a level and the levels above it once a climb came through: its pages are at home, those that went have no place, and all
 -- else stayed
-pub record HasClimbed {V : Type 0} (of : Page V → PageOfKind) (before after : TreeInMemory) (ws : List (Worked V)) (ups : List (List (Placed ℕ))) (c : Climbed V) : Type 0 where
+pub record HasClimbed {V : Type 0} (of : Page V → PageOfKind) (before after : TreeInMemory) (l : LevelPlan V) (c : Climbed V) : Type 0 where
   pub level : AreHome of after.table c.tower.level
   pub above : AllByRecursion (AreHome Index after.table) c.tower.above
-  pub gone : (pid : ℕ) → is_among pid (all_pids (placed_of ws) ups) ≡ true → is_among pid (all_pids c.tower.level c.tower.above) ≡ false → place_of after.table pid ≡ None
-  pub others : (pid : ℕ) → is_among pid (all_pids (placed_of ws) ups) ≡ false → is_among pid (all_pids c.tower.level c.tower.above) ≡ false → place_of after.table pid ≡ place_of before.table pid
+  pub gone : (pid : ℕ) → is_among pid (all_pids (placed_of l.worked) l.above) ≡ true → is_among pid (all_pids c.tower.level c.tower.above) ≡ false → place_of after.table pid ≡ None
+  pub others : (pid : ℕ) → is_among pid (all_pids (placed_of l.worked) l.above) ≡ false → is_among pid (all_pids c.tower.level c.tower.above) ≡ false → place_of after.table pid ≡ place_of before.table pid
   pub rising : AreRisingPids (pids_in_use after.table)
   pub logged : after.table.logged ≡ outdate_all c.outdated before.table.logged
   pub root : after.root ≡ top_pid c.tower.level c.tower.above
-  pub height : after.height + length ups ≡ before.height + length c.tower.above
+  pub height : after.height + length l.above ≡ before.height + length c.tower.above
 
 -- the levels of a tree in memory, above a level of leaves whose pages may be anywhere, before its root shrinks: they are one
 -- above the other, at home, and go up to the root
@@ -43,5 +42,5 @@ pub record HasShrunk {V : Type 0} (before after : TreeInMemory) (level : List (P
   pub others : (pid : ℕ) → is_among pid (shrunk_pids ls) ≡ false → place_of after.table pid ≡ place_of before.table pid
   pub rising : AreRisingPids (pids_in_use after.table)
   pub logged : after.table.logged ≡ outdate_all (shrunk_pids ls) before.table.logged
-  pub root : after.root ≡ top_pid level (kept ls)
-  pub height : after.height ≡ suc (length (kept ls))
+  pub root : after.root ≡ top_pid level (kept_levels ls)
+  pub height : after.height ≡ suc (length (kept_levels ls))

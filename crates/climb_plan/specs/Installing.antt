@@ -2,14 +2,16 @@
 use Rattle.std.specs.Prelude.{◌≡◌, ℕ, suc, ◌+◌, ◌<◌, ⊤, false, List, [], ◌∷◌, ◌++◌, flat_map, drop, length, Option, Some, None, IsSome, if◌then◌else◌}
 use Rattle.std.specs.List.{AllByRecursion}
 use Rattle.keys.specs.Bytes.{Changes, Names}
+use Rattle.keys.specs.declared.settings.Settings.{Settings}
 use Rattle.index_page.specs.Page.{PageOfKind}
 use Rattle.index_page.specs.Page.PageOfKind.{Leaf, Index}
 use Rattle.mapping.specs.FreshPids.{is_among, unused}
-use Rattle.mapping.specs.Levels.{Placed, pids}
+use Rattle.mapping.specs.Levels.{Placed, pids, names, top_pid}
 use Rattle.mapping.specs.Proper.{Distinct, AreRisingPids}
 use Rattle.mapping.specs.Table.{Mapping, pids_in_use, place_of, page_of, with_place, freed, freed_all, IsOldWithoutPlace, log_outdated}
 use Rattle.page_runs.specs.TermWork.{TermHeld}
 use Rattle.climb_plan.specs.Changing.{SeenPage}
+use Rattle.climb_plan.specs.Climb.{grown_levels}
 use Rattle.mapping.specs.TreeInMemory.{TreeInMemory}
 use Rattle.climb_plan.specs.Rewriting.{Remade}
 
@@ -101,6 +103,10 @@ CanInstallAll t (r ∷ rs) = CanInstall t r × CanInstallAll (group_installed t 
 
 -- ---- levels grow
 
+-- the next numbers that the table gives out are those that are not among the used ones, where so many of them were given out before
+abbrev pub DrawsFrom : Mapping PageOfKind → List ℕ → ℕ → Type 0
+DrawsFrom t used from = (m : ℕ) → unused (pids_in_use t) m ≡ unused used (from + m)
+
 -- pids were drawn: their places are away, and the next that are drawn come behind them; all else of the tree stayed, and to
 -- give up these places gives it back
 pub record AreDrawn (before after : TreeInMemory) (pids : List ℕ) : Type 0 where
@@ -121,6 +127,15 @@ pub record AreGrown (before after : TreeInMemory) (ls : List (List (Placed ℕ))
   pub logged : after.table.logged ≡ before.table.logged
   pub root : after.root ≡ before.root
   pub height : after.height ≡ before.height
+
+-- of pages of these names, and of the levels that grow above them where the table's next numbers are drawn for these, something holds
+abbrev pub OfGrown : Settings → Mapping PageOfKind → Names → (List (Placed ℕ) → List (List (Placed ℕ)) → Type 0) → Type 0
+OfGrown s t ns P =
+    (used : List ℕ) (from : ℕ) (ps : List (Placed ℕ)) → DrawsFrom t used from → names ps ≡ ns → P ps (grown_levels (length ps) s used from ps)
+
+-- the pid of the highest page and the number of levels, once these levels have grown above pages of which so many levels had the tree
+abbrev pub HasGrown : TreeInMemory → TreeInMemory → ℕ × ℕ → ℕ → List (Placed ℕ) → List (List (Placed ℕ)) → Type 0
+HasGrown before after top height ps ls = (top.0 ≡ top_pid ps ls) × (top.1 ≡ height + length ls) × AreGrown before after ls
 
 -- ---- the root shrinks
 

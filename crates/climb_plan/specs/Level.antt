@@ -7,19 +7,18 @@ use Rattle.keys.specs.declared.settings.Settings.{Settings}
 use Rattle.index_page.specs.Page.{Page, PageOfKind, low_of}
 use Rattle.index_page.specs.Page.PageOfKind.{Index}
 use Rattle.mapping.specs.Levels.{Placed, pids, all_pids, top_pid}
-use Rattle.mapping.specs.FreshPids.{unused, IsNeverUnused}
+use Rattle.mapping.specs.FreshPids.{IsNeverUnused}
 use Rattle.mapping.specs.Proper.{next_low, Tiled, Stacked, Distinct, AreRisingPids}
 use Rattle.mapping.specs.Table.{Mapping, pids_in_use, with_rooms, fresh_pids, IsOldWithoutPlace}
 use Rattle.mapping.specs.TreeInMemory.{TreeInMemory}
 use Rattle.page_runs.specs.TermWork.{IndexWorked}
-use Rattle.page_runs.specs.Worked.{Worked}
 use Rattle.split_plan.specs.Change.{Change, is_rewritten, changes, fresh_of}
 use Rattle.split_plan.specs.Pieces.{joined_pages, pages_made, group_made, CanJoin}
 use Rattle.split_plan.specs.Terms.{terms}
 use Rattle.split_plan.specs.WorkedLevel.{worked_parents, placed_of}
-use Rattle.climb_plan.specs.Changing.{SeenPage, shown, AreSeen, AreHome, Changing, changing, parents_of, changing_groups, changing_changes}
-use Rattle.climb_plan.specs.Climb.{climb}
-use Rattle.climb_plan.specs.Installing.{AreGrown, all_taken}
+use Rattle.climb_plan.specs.Changing.{SeenPage, page_seen, parents_seen, AreSeen, AreHome, Changing, changing_families, parents_of, changing_groups, changing_changes}
+use Rattle.climb_plan.specs.Climb.{LevelPlan, climb_of}
+use Rattle.climb_plan.specs.Installing.{DrawsFrom, AreGrown, all_taken}
 use Rattle.climb_plan.specs.Rewriting.{Remade, cut_group, freed_names}
 
 -- ---- kinds
@@ -47,19 +46,19 @@ group_counts chs = map (λ c. (c.parent.pid, length c.groups)) chs
 
 -- ---- levels
 
--- a level of pages after their runs, of which those that were seen are away, and the levels above it, in a tree in which i
--- numbers were given out before
-pub record IsLevel {V : Type 0} (of : Page V → PageOfKind) (t : TreeInMemory) (xs : List SeenPage) (ws : List (Worked V)) (ups : List (List (Placed ℕ))) (used : List ℕ) (i : ℕ) : Type 0 where
-  pub seen : AreSeen of t.table xs ws
-  pub tiled : Tiled (placed_of ws) None
-  pub first : next_low (placed_of ws) None ≡ Some []
-  pub stacked : Stacked (placed_of ws) ups
-  pub home : AllByRecursion (AreHome Index t.table) ups
-  pub root : t.root ≡ top_pid (placed_of ws) ups
-  pub distinct : Distinct (all_pids (placed_of ws) ups)
-  pub old : AllByRecursion (IsNeverUnused used) (all_pids (placed_of ws) ups)
+-- the plan is that of a level of the tree, up to its root: of the level's pages those that were seen are away, and the levels above it are at
+-- home
+pub record IsLevel {V : Type 0} (of : Page V → PageOfKind) (t : TreeInMemory) (xs : List SeenPage) (l : LevelPlan V) : Type 0 where
+  pub seen : AreSeen of t.table xs l.worked
+  pub tiled : Tiled (placed_of l.worked) None
+  pub first : next_low (placed_of l.worked) None ≡ Some []
+  pub stacked : Stacked (placed_of l.worked) l.above
+  pub home : AllByRecursion (AreHome Index t.table) l.above
+  pub root : t.root ≡ top_pid (placed_of l.worked) l.above
+  pub distinct : Distinct (all_pids (placed_of l.worked) l.above)
+  pub old : AllByRecursion (IsNeverUnused l.used) (all_pids (placed_of l.worked) l.above)
   pub rising : AreRisingPids (pids_in_use t.table)
-  pub drawn : (m : ℕ) → unused (pids_in_use t.table) m ≡ unused used (i + m)
+  pub drawn : DrawsFrom t.table l.used l.from
   pub logs : IsOldWithoutPlace t.table
 
 -- the table once so many numbers were drawn, and these pages taken
@@ -72,23 +71,23 @@ next_tree t n taken = record { table = drawn_and_taken t.table n taken; root = t
 
 -- ---- what becomes of a level
 
--- the groups of a level that are rewritten, cut, with the parents and the names that are freed
-pub record IsCut {V : Type 0} (s : Settings) (of : Page V → PageOfKind) (ws : List (Worked V)) (ps : List (Placed ℕ)) (parents : List (ℕ × ℕ)) (freed : List Names) (groups : List Remade) : Type 0 where
-  pub counts : parents ≡ group_counts (changing ps ws)
-  pub names : freed ≡ map freed_names (map (λ g. map (shown of) g) (changing_groups (changing ps ws)))
-  pub pieces : groups ≡ map (cut_group s) (map (λ g. map (shown of) g) (changing_groups (changing ps ws)))
+-- the groups of a level under these parents that are rewritten, cut, with the parents and the names that are freed
+pub record IsCut {V : Type 0} (s : Settings) (of : Page V → PageOfKind) (l : LevelPlan V) (ps : List (Placed ℕ)) (parents : List (ℕ × ℕ)) (freed : List Names) (groups : List Remade) : Type 0 where
+  pub counts : parents ≡ group_counts (changing_families ps l.worked)
+  pub names : freed ≡ map freed_names (map (λ g. map (page_seen of) g) (changing_groups (changing_families ps l.worked)))
+  pub pieces : groups ≡ map (cut_group s) (map (λ g. map (page_seen of) g) (changing_groups (changing_families ps l.worked)))
 
 -- what a level's groups and parents became, and the tree: numbers for new pieces were drawn, and the parents were taken
-pub record IsChanged {V : Type 0} (s : Settings) (of : Page V → PageOfKind) (before after : TreeInMemory) (ws : List (Worked V)) (ps : List (Placed ℕ)) (used : List ℕ) (i : ℕ) (remade : List Remade) (parents : List IndexWorked) : Type 0 where
-  pub groups : remade ≡ map (remade_of of) (changes s used i (changing_groups (changing ps ws)))
-  pub made : map (λ d. shown Index d.made) parents ≡ map (shown Index) (worked_parents s (parents_of (changing ps ws)) (map terms (changing_changes s used i (changing ps ws))))
-  pub held : map {B = ℕ × PageOfKind} (λ d. (d.held.pid, d.held.page)) parents ≡ map {B = ℕ × PageOfKind} (λ p. (p.pid, Index p.page)) (parents_of (changing ps ws))
-  pub tree : after ≡ next_tree before (length (fresh_of (changes s used i (changing_groups (changing ps ws))))) (parent_pids (changing ps ws))
+pub record IsChanged {V : Type 0} (s : Settings) (of : Page V → PageOfKind) (before after : TreeInMemory) (l : LevelPlan V) (ps : List (Placed ℕ)) (remade : List Remade) (parents : List IndexWorked) : Type 0 where
+  pub groups : remade ≡ map (remade_of of) (changes s l.used l.from (changing_groups (changing_families ps l.worked)))
+  pub made : parents_seen parents ≡ map (page_seen Index) (worked_parents s (parents_of (changing_families ps l.worked)) (map terms (changing_changes s l.used l.from (changing_families ps l.worked))))
+  pub held : map {B = ℕ × PageOfKind} (λ d. (d.held.pid, d.held.page)) parents ≡ map {B = ℕ × PageOfKind} (λ p. (p.pid, Index p.page)) (parents_of (changing_families ps l.worked))
+  pub tree : after ≡ next_tree before (length (fresh_of (changes s l.used l.from (changing_groups (changing_families ps l.worked))))) (parent_pids (changing_families ps l.worked))
 
 -- what the highest level becomes, which is a group by itself, with the levels that grow above it: the root's pid, the number of
 -- levels, and the tree in which numbers for new pieces were drawn, and these levels are at home
-pub record IsTopChanged {V : Type 0} (s : Settings) (of : Page V → PageOfKind) (before after : TreeInMemory) (ws : List (Worked V)) (used : List ℕ) (i : ℕ) (remade : List Remade) (pid levels : ℕ) : Type 0 where
-  pub groups : remade ≡ map (remade_of of) (changes s used i (filter is_rewritten (ws ∷ [])))
-  pub grown : AreGrown (next_tree before (length (fresh_of (changes s used i (filter is_rewritten (ws ∷ []))))) []) after (climb s used i ws []).tower.above
-  pub root : pid ≡ top_pid (climb s used i ws []).tower.level (climb s used i ws []).tower.above
-  pub height : levels ≡ before.height + length (climb s used i ws []).tower.above
+pub record IsTopChanged {V : Type 0} (s : Settings) (of : Page V → PageOfKind) (before after : TreeInMemory) (l : LevelPlan V) (remade : List Remade) (pid levels : ℕ) : Type 0 where
+  pub groups : remade ≡ map (remade_of of) (changes s l.used l.from (filter is_rewritten (l.worked ∷ [])))
+  pub grown : AreGrown (next_tree before (length (fresh_of (changes s l.used l.from (filter is_rewritten (l.worked ∷ []))))) []) after (climb_of s l).tower.above
+  pub root : pid ≡ top_pid (climb_of s l).tower.level (climb_of s l).tower.above
+  pub height : levels ≡ before.height + length (climb_of s l).tower.above

@@ -3,6 +3,7 @@ pub mod Climb
 pub mod HasClimbed
 pub mod Installing
 pub mod Level
+pub mod LevelSteps
 pub mod Limits
 pub mod Plan
 pub mod Ready

@@ -9,30 +9,30 @@ use Rattle.mapping.specs.Outdate.{outdate_all}
 use Rattle.mapping.specs.Levels.{Placed, Levels, levels_of, contents, all_pages, by_pid, top_pid, pids}
 use Rattle.page_runs.specs.NetRun.{net_run}
 use Rattle.split_plan.specs.WorkedLevel.{worked_leaves}
-use Rattle.climb_plan.specs.Climb.{Climbed, climb, kept}
+use Rattle.climb_plan.specs.Climb.{Climbed, climb, kept_levels}
 
 -- the levels after the commands: each leaf gets its part of the net run, and the levels above get their terms
-abbrev pub climbed : {A : Type 0} → Settings → Tree → List (Command A) → Climbed Bytes
-climbed s t cs =
+abbrev pub batch_climb : {A : Type 0} → Settings → Tree → List (Command A) → Climbed Bytes
+batch_climb s t cs =
     let l : Levels = levels_of t in
     climb s (keys_of t.pages) 0 (worked_leaves s (net_run (contents t) cs) l.level) l.above
 
 -- those that are left once the root has shrunk
-abbrev pub shrunk : Climbed Bytes → Levels
-shrunk c = record { level = c.tower.level; above = kept c.tower.above }
+abbrev pub shrunk_levels : Climbed Bytes → Levels
+shrunk_levels c = record { level = c.tower.level; above = kept_levels c.tower.above }
 
 abbrev pub planned_levels : {A : Type 0} → Settings → Tree → List (Command A) → Levels
-planned_levels s t cs = shrunk (climbed s t cs)
+planned_levels s t cs = shrunk_levels (batch_climb s t cs)
 
 -- the pids of the levels that went with the old root
 abbrev pub shrunk_pids : List (List (Placed ℕ)) → List ℕ
-shrunk_pids ls = flat_map pids (drop (length (kept ls)) ls)
+shrunk_pids ls = flat_map pids (drop (length (kept_levels ls)) ls)
 
 -- the pids whose page is no longer what the log may have of it: of pages that were replaced, rewritten or freed, and of
 -- those that went with the old root
 abbrev pub outdated_pids : {A : Type 0} → Settings → Tree → List (Command A) → List ℕ
 outdated_pids s t cs =
-    let c : Climbed Bytes = climbed s t cs in
+    let c : Climbed Bytes = batch_climb s t cs in
     c.outdated ++ shrunk_pids c.tower.above
 
 -- the tree after the commands

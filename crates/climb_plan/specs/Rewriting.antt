@@ -1,5 +1,5 @@
 -- Which groups of a level are rewritten, and what is made of them, in words of pages of either kind, as code has them.
-use Rattle.std.specs.Prelude.{◌≡◌, ℕ, ◌+◌, ◌-◌, ◌<◌, ◌≤◌, ⊤, Bool, false, true, List, [], ◌∷◌, ◌++◌, map, flat_map, take, drop, length, Some, None}
+use Rattle.std.specs.Prelude.{◌≡◌, ℕ, ◌+◌, ◌-◌, ◌<◌, ◌≤◌, ⊤, Bool, false, true, List, [], ◌∷◌, ◌++◌, map, flat_map, take, drop, length, Some, None, Vec}
 use Rattle.std.specs.List.{filter, AllByRecursion, range_with_len}
 use Rattle.keys.specs.Bytes.{Bytes, Changes, Names}
 use Rattle.keys.specs.Lists.{flat}
@@ -32,6 +32,10 @@ seen_now x = record { pid = x.pid; page = x.page.now; class = x.class; replaced 
 
 abbrev pub all_seen : List Seen → List SeenPage
 all_seen xs = map seen_now xs
+
+-- of groups of pages, too
+abbrev pub groups_seen : {A : Type 0} → List (Vec Seen A) → List (List SeenPage)
+groups_seen gs = map (λ g. all_seen g.items) gs
 
 -- what a parent's entry says of it
 abbrev pub seen_name : SeenPage → Bytes × ℕ
@@ -69,9 +73,9 @@ with_rewriting pid [] rs = rs
 with_rewriting pid (g ∷ gs) rs = record { parent = pid; groups = g ∷ gs } ∷ rs
 
 -- the parents of a level that have such groups, from left to right
-abbrev pub rewriting : List (Placed ℕ) → List SeenPage → List Rewriting
-rewriting [] all = []
-rewriting (p ∷ ps) all = with_rewriting p.pid (rewritten_groups (take (length (entries p)) all)) (rewriting ps (drop (length (entries p)) all))
+abbrev pub rewriting_families : List (Placed ℕ) → List SeenPage → List Rewriting
+rewriting_families [] all = []
+rewriting_families (p ∷ ps) all = with_rewriting p.pid (rewritten_groups (take (length (entries p)) all)) (rewriting_families ps (drop (length (entries p)) all))
 
 -- each such parent with how many of its groups are rewritten, and all these groups
 abbrev pub rewriting_counts : List Rewriting → List (ℕ × ℕ)
@@ -97,6 +101,16 @@ pub record IsLevelSeen (t : TreeInMemory) (depth : ℕ) (xs all : List SeenPage)
   pub seen : AreSeenIn t.table xs all
   pub linked : joined ps ≡ map seen_name all
   pub parents : AreParents t depth ps ups
+
+-- there is such a level
+abbrev pub SomeLevelSeen : TreeInMemory → ℕ → List SeenPage → Type 0
+SomeLevelSeen t depth xs =
+    (all : List SeenPage) × (ps : List (Placed ℕ)) × (ups : List (List (Placed ℕ))) × IsLevelSeen t depth xs all ps ups
+
+-- of its pages and their parents something holds
+abbrev pub OfLevelSeen : TreeInMemory → ℕ → List SeenPage → (List SeenPage → List (Placed ℕ) → Type 0) → Type 0
+OfLevelSeen t depth xs P =
+    (all : List SeenPage) (ps : List (Placed ℕ)) (ups : List (List (Placed ℕ))) → IsLevelSeen t depth xs all ps ups → P all ps
 
 -- ---- what is looked at on the way
 
@@ -140,13 +154,29 @@ pub record IsNextChild (t : Mapping PageOfKind) (xs : List SeenPage) (low : Byte
   pub same_pid : pid ≡ x.pid
   pub rising : IsRising (map seen_name (x ∷ later))
 
--- the children of a parent, with the pages of the level behind them: of the pages that got a run some are in front
-pub record IsFamilyOf (t : Mapping PageOfKind) (xs : List SeenPage) (p : Placed ℕ) (before from children later : List SeenPage) : Type 0 where
-  pub home : page_of t p.pid ≡ Some (Index p.page)
-  pub parted : AreParted p.page.low xs before from
-  pub seen : AreSeenIn t from (children ++ later)
-  pub linked : entries p ≡ map seen_name children
-  pub rising : IsRising (map seen_name (children ++ later))
+-- a parent with its children and the pages of the level behind them; of the pages that got a run those in front of them, and the others
+pub record FamilySeen : Type 0 where
+  pub parent : Placed ℕ
+  pub before : List SeenPage
+  pub from : List SeenPage
+  pub children : List SeenPage
+  pub later : List SeenPage
+
+-- it is one of this level
+pub record IsFamilyOf (t : Mapping PageOfKind) (xs : List SeenPage) (f : FamilySeen) : Type 0 where
+  pub home : page_of t f.parent.pid ≡ Some (Index f.parent.page)
+  pub parted : AreParted f.parent.page.low xs f.before f.from
+  pub seen : AreSeenIn t f.from (f.children ++ f.later)
+  pub linked : entries f.parent ≡ map seen_name f.children
+  pub rising : IsRising (map seen_name (f.children ++ f.later))
+
+-- there is one of this parent
+abbrev pub SomeFamily : Mapping PageOfKind → List SeenPage → ℕ → Type 0
+SomeFamily t xs pid = (f : FamilySeen) × (pid ≡ f.parent.pid) × IsFamilyOf t xs f
+
+-- of that of this parent something holds
+abbrev pub OfFamily : Mapping PageOfKind → List SeenPage → ℕ → (FamilySeen → Type 0) → Type 0
+OfFamily t xs pid P = (f : FamilySeen) → pid ≡ f.parent.pid → IsFamilyOf t xs f → P f
 
 -- ---- what is made of groups
 
@@ -170,6 +200,10 @@ joined_groups (g ∷ gs) (pages ∷ made) = record { members = map (λ x. x.pid)
 abbrev pub CanBeCut : List (List SeenPage) → Type 0
 CanBeCut gs = AllByRecursion (λ g. CanJoin (map (λ x. x.page) g)) gs
 
+-- lists of names, as code has them
+abbrev pub all_names : {A : Type 0} → List (Vec (Bytes × ℕ) A) → List Names
+all_names lists = map (λ names. names.items) lists
+
 -- the names of the members that are freed
 abbrev pub freed_names : List SeenPage → Names
 freed_names g = map seen_name (drop 1 g)
@@ -179,11 +213,11 @@ abbrev pub HaveSome : List Remade → Type 0
 HaveSome rs = AllByRecursion (λ r. 0 < length r.pieces) rs
 
 -- the numbers that are given to new pieces, from left to right, where i were given out before
-abbrev pub numbered : List ℕ → ℕ → List Remade → List Remade
-numbered used i [] = []
-numbered used i (r ∷ rs) =
+abbrev pub with_numbers : List ℕ → ℕ → List Remade → List Remade
+with_numbers used i [] = []
+with_numbers used i (r ∷ rs) =
     let n : ℕ = length r.pieces - 1 in
-    record { members = r.members; pieces = r.pieces; fresh = map (unused used) (range_with_len i n) } ∷ numbered used (i + n) rs
+    record { members = r.members; pieces = r.pieces; fresh = map (unused used) (range_with_len i n) } ∷ with_numbers used (i + n) rs
 
 -- how many they are
 abbrev pub numbers : List Remade → ℕ
@@ -217,6 +251,10 @@ terms_of fs rs = with_run (absent (flat fs)) (present (flat_map fresh_names rs))
 abbrev pub terms_by_parent : List (ℕ × ℕ) → List Names → List Remade → List (ℕ × Changes ℕ)
 terms_by_parent [] fs rs = []
 terms_by_parent (c ∷ cs) fs rs = (c.0, terms_of (take c.1 fs) (take c.1 rs)) ∷ terms_by_parent cs (drop c.1 fs) (drop c.1 rs)
+
+-- the parents that are told
+abbrev pub told_pids : List (ℕ × ℕ) → List Names → List Remade → List ℕ
+told_pids cs fs rs = map (λ t. t.0) (terms_by_parent cs fs rs)
 
 -- each parent has so many groups, and their names can be told, since they rise
 abbrev pub CanBeTold : List (ℕ × ℕ) → List Names → List Remade → Type 0

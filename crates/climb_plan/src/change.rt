@@ -2,12 +2,11 @@
 ghost use Rattle.std.specs.Prelude.{◌≡◌, ℕ, ◌+◌, ◌-◌, ◌<◌, ◌≤◌, ◌++◌, List, map, flat_map, take, drop, length, IfOk, OnOk, OnErr};
 ghost use Rattle.keys.specs.Lists.{flat};
 ghost use Rattle.keys.specs.Order.{IsRising};
-ghost use Rattle.mapping.specs.FreshPids.{unused};
 ghost use Rattle.mapping.specs.Proper.{AreRisingPids};
 ghost use Rattle.mapping.specs.Table.{pids_in_use, with_rooms, fresh_pids, freed_all, IsOldWithoutPlace};
 ghost use Rattle.split_plan.specs.Pieces.{pages_lent};
-ghost use Rattle.climb_plan.specs.Rewriting.{seen_name, all_seen, cut_group, CanBeCut, joined_groups, freed_names, fresh_names, named_pages, HaveSome, numbered, numbers, terms_of, CanBeTold, terms_by_parent};
-ghost use Rattle.climb_plan.specs.Installing.{AreAway};
+ghost use Rattle.climb_plan.specs.Rewriting.{seen_name, all_seen, groups_seen, all_names, cut_group, CanBeCut, joined_groups, freed_names, fresh_names, named_pages, HaveSome, with_numbers, numbers, terms_of, CanBeTold, terms_by_parent};
+ghost use Rattle.climb_plan.specs.Installing.{AreAway, DrawsFrom};
 
 use crate::seen::Seen;
 use crew::{Crew, Gate, run_round};
@@ -25,11 +24,11 @@ use std::thread::Threads;
 /// A group that is rewritten: its members, and the pages that are made of them.
 #[derive(Drop)]
 pub(crate) struct Rewritten {
-    // The members' page ids, as numbers: the first of them is that of the first piece.
-    members: Vec<u64>,
+    // The members' page ids: the first of them is that of the first piece.
+    members: Vec<Pid>,
     // The pages in the group's place.
     pieces: Vec<Page<Global>>,
-    // The numbers of all pieces but the first, once they are drawn.
+    // The numbers of all pieces but the first, once they are drawn, as the tree gives them.
     fresh: Vec<u64>,
 }
 
@@ -38,7 +37,8 @@ impl Model for Rewritten {
 
     ghost Value = { Remade };
 
-    ghost view = { λ r. record { members = r.members.items; pieces = r.pieces.items; fresh = r.fresh.items } };
+    ghost view = { λ r.
+        record { members = r.members.items; pieces = r.pieces.items; fresh = r.fresh.items } };
 }
 
 /// The groups, cut. Their pieces have no numbers yet.
@@ -51,8 +51,8 @@ pub(crate) fn cut_all(
     groups: &[Vec<Seen<'_>>],
 ) -> Result<Vec<Rewritten>, AllocError>
     requires fan { 0 < settings.now.fan }
-    requires joined { CanBeCut (map (λ g. all_seen g.items) groups.now) }
-    ensures { IfOk result (λ all. all.items ≡ map (cut_group settings.now) (map (λ g. all_seen g.items) groups.now)) }
+    requires joined { CanBeCut (groups_seen groups.now) }
+    ensures { IfOk result (λ all. all.items ≡ map (cut_group settings.now) (groups_seen groups.now)) }
 {
     let jobs = jobs_of(alloc, groups)?;
     let work = GroupWork::new(alloc, *settings);
@@ -64,7 +64,8 @@ pub(crate) fn cut_all(
 
 // The members of each group, as jobs.
 fn jobs_of<'a>(alloc: Global, groups: &[Vec<Seen<'a>>]) -> Result<Vec<GroupJob<'a>>, AllocError>
-    ensures { IfOk result (λ jobs. map (λ job. pages_lent job.members.items) jobs.items ≡ map (λ g. map (λ x. x.page) (all_seen g.items)) groups.now) }
+    ensures { IfOk result (λ jobs. map (λ job. pages_lent job.members.items) jobs.items ≡
+        map (λ g. map (λ x. x.page) (all_seen g.items)) groups.now) }
 {
     let mut jobs = Vec::with_capacity(alloc, groups.len())?;
     for group in groups {
@@ -75,7 +76,8 @@ fn jobs_of<'a>(alloc: Global, groups: &[Vec<Seen<'a>>]) -> Result<Vec<GroupJob<'
 
 // The members' pages, lent.
 fn job_of<'a>(alloc: Global, group: &[Seen<'a>]) -> Result<GroupJob<'a>, AllocError>
-    ensures { IfOk result (λ job. pages_lent job.members.items ≡ map (λ x. x.page) (all_seen group.now)) }
+    ensures { IfOk result (λ job. pages_lent job.members.items ≡
+        map (λ x. x.page) (all_seen group.now)) }
 {
     let mut members = Vec::with_capacity(alloc, group.len())?;
     for member in group {
@@ -90,7 +92,8 @@ fn all_cut(
     groups: &[Vec<Seen<'_>>],
     dones: Vec<GroupDone<'_>>,
 ) -> Result<Vec<Rewritten>, AllocError>
-    ensures { IfOk result (λ all. all.items ≡ joined_groups (map (λ g. all_seen g.items) groups.now) (map (λ d. d.made) dones.entry.items)) }
+    ensures { IfOk result (λ all. all.items ≡
+        joined_groups (groups_seen groups.now) (map (λ d. d.made) dones.entry.items)) }
 {
     let mut all = Vec::with_capacity(alloc, groups.len())?;
     let mut dones = VecDeque::from(dones);
@@ -107,13 +110,13 @@ fn all_cut(
     Ok(all)
 }
 
-// The members' page ids, as numbers.
-fn pids_of(alloc: Global, group: &[Seen<'_>]) -> Result<Vec<u64>, AllocError>
+// The members' page ids.
+fn pids_of(alloc: Global, group: &[Seen<'_>]) -> Result<Vec<Pid>, AllocError>
     ensures { IfOk result (λ pids. pids.items ≡ map (λ x. x.pid) (all_seen group.now)) }
 {
     let mut pids = Vec::with_capacity(alloc, group.len())?;
     for member in group {
-        pids.push_reserved(member.pid.0);
+        pids.push_reserved(member.pid);
     }
     Ok(pids)
 }
@@ -123,7 +126,7 @@ pub(crate) fn all_freed(
     alloc: Global,
     groups: &[Vec<Seen<'_>>],
 ) -> Result<Vec<Vec<Name>>, AllocError>
-    ensures { IfOk result (λ all. map (λ names. names.items) all.items ≡ map freed_names (map (λ g. all_seen g.items) groups.now)) }
+    ensures { IfOk result (λ all. all_names all.items ≡ map freed_names (groups_seen groups.now)) }
 {
     let mut all = Vec::with_capacity(alloc, groups.len())?;
     for group in groups {
@@ -161,8 +164,12 @@ pub(crate) fn draw_all(tree: &mut Tree<Global>, all: &mut [Rewritten]) -> Result
     requires some { HaveSome all.old }
     requires rising { AreRisingPids (pids_in_use tree.old.table) }
     requires logs { IsOldWithoutPlace tree.old.table }
-    ensures numbers { OnOk result ((used : List ℕ) (i : ℕ) → ((m : ℕ) → unused (pids_in_use tree.old.table) m ≡ unused used (i + m)) → all.new ≡ numbered used i all.old) }
-    ensures tree { OnOk result (tree.new ≡ record tree.old { table = with_rooms tree.old.table (fresh_pids (pids_in_use tree.old.table) (numbers all.old)) }) }
+    ensures numbers { OnOk result ((used : List ℕ) (from : ℕ) →
+        DrawsFrom tree.old.table used from → all.new ≡ with_numbers used from all.old) }
+    ensures tree { OnOk result (tree.new ≡ record tree.old {
+      table =
+          with_rooms tree.old.table (fresh_pids (pids_in_use tree.old.table) (numbers all.old));
+    }) }
     ensures err { OnErr result (tree.new ≡ tree.old) }
 {
     // What is drawn is away, and to free it gives the table back.
@@ -180,8 +187,12 @@ fn draw_each(tree: &mut Tree<Global>, all: &mut [Rewritten]) -> usize
     requires some { HaveSome all.old }
     requires rising { AreRisingPids (pids_in_use tree.old.table) }
     ensures within { result ≤ length all.old }
-    ensures numbers { all.new ≡ numbered (pids_in_use tree.old.table) 0 (take result all.old) ++ drop result all.old }
-    ensures tree { tree.new ≡ record tree.old { table = with_rooms tree.old.table (fresh_pids (pids_in_use tree.old.table) (numbers (take result all.old))) } }
+    ensures numbers { all.new ≡
+        with_numbers (pids_in_use tree.old.table) 0 (take result all.old) ++ drop result all.old }
+    ensures tree { tree.new ≡ record tree.old {
+      table = with_rooms tree.old.table
+          (fresh_pids (pids_in_use tree.old.table) (numbers (take result all.old)));
+    } }
 {
     // The next that are drawn come behind those that were drawn before.
     drawn_pids_get_places_that_are_away::<Page<Global>>();
@@ -197,7 +208,8 @@ fn draw_each(tree: &mut Tree<Global>, all: &mut [Rewritten]) -> usize
 /// Gives the numbers of these groups' new pieces back, whose places are away.
 pub(crate) fn free_drawn(tree: &mut Tree<Global>, all: &[Rewritten])
     requires { AreAway tree.old.table (flat_map (λ r. r.fresh) all.now) }
-    ensures { tree.new ≡ record tree.old { table = freed_all tree.old.table (flat_map (λ r. r.fresh) all.now) } }
+    ensures { tree.new ≡
+        record tree.old { table = freed_all tree.old.table (flat_map (λ r. r.fresh) all.now) } }
 {
     for group in all {
         free_all(tree, &group.fresh);
@@ -214,15 +226,16 @@ pub(crate) fn free_all(tree: &mut Tree<Global>, pids: &[u64])
     }
 }
 
-/// The run of terms of each of these parents, with the parent's number.
+/// The run of terms of each of these parents, with the parent's page id.
 pub(crate) fn all_terms(
     alloc: Global,
-    parents: &[(u64, usize)],
+    parents: &[(Pid, usize)],
     freed: Vec<Vec<Name>>,
     all: &[Rewritten],
-) -> Result<Vec<(u64, Run<Pid, Global>)>, AllocError>
-    requires { CanBeTold parents.now (map (λ names. names.items) freed.items) all.now }
-    ensures { IfOk result (λ runs. runs.items ≡ terms_by_parent parents.now (map (λ names. names.items) freed.items) all.now) }
+) -> Result<Vec<(Pid, Run<Pid, Global>)>, AllocError>
+    requires { CanBeTold parents.now (all_names freed.items) all.now }
+    ensures { IfOk result (λ runs. runs.items ≡
+        terms_by_parent parents.now (all_names freed.items) all.now) }
 {
     let mut runs = Vec::with_capacity(alloc, parents.len())?;
     let mut freed = VecDeque::from(freed);
@@ -243,24 +256,27 @@ fn next_terms(
     freed: &mut VecDeque<Vec<Name>>,
     own: &[Rewritten],
 ) -> Result<Run<Pid, Global>, AllocError>
-    requires freed { IsRising (flat (take (length own.now) (map (λ names. names.items) freed.old.items))) }
+    requires freed { IsRising (flat (take (length own.now) (all_names freed.old.items))) }
     requires fresh { IsRising (flat_map fresh_names own.now) }
-    ensures terms { IfOk result (λ run. run ≡ terms_of (take (length own.now) (map (λ names. names.items) freed.old.items)) own.now) }
-    ensures rest { OnOk result (map (λ names. names.items) freed.new.items ≡ drop (length own.now) (map (λ names. names.items) freed.old.items)) }
+    ensures terms { IfOk result (λ run. run ≡
+        terms_of (take (length own.now) (all_names freed.old.items)) own.now) }
+    ensures rest { OnOk result (all_names freed.new.items ≡
+        drop (length own.now) (all_names freed.old.items)) }
 {
-    let gone = joined(alloc, freed, own.len())?;
+    let gone = next_names(alloc, freed, own.len())?;
     let come = new_names(alloc, own)?;
     terms(alloc, gone, come)
 }
 
 // The next so many lists of names, joined.
-fn joined(
+fn next_names(
     alloc: Global,
     lists: &mut VecDeque<Vec<Name>>,
     count: usize,
 ) -> Result<Vec<Name>, AllocError>
-    ensures names { IfOk result (λ names. names.items ≡ flat (take count (map (λ list. list.items) lists.old.items))) }
-    ensures rest { OnOk result (map (λ list. list.items) lists.new.items ≡ drop count (map (λ list. list.items) lists.old.items)) }
+    ensures names { IfOk result (λ names. names.items ≡
+        flat (take count (all_names lists.old.items))) }
+    ensures rest { OnOk result (all_names lists.new.items ≡ drop count (all_names lists.old.items)) }
 {
     let mut names = Vec::new(alloc);
     for _list in 0..count {
@@ -303,8 +319,9 @@ fn push_names(
 
 impl Rewritten {
     /// The members, the pages that are made of them, and the numbers of all of these but the first.
-    pub(crate) fn into_parts(self) -> (Vec<u64>, Vec<Page<Global>>, Vec<u64>)
-        ensures { self ≡ record { members = result.0.items; pieces = result.1.items; fresh = result.2.items } }
+    pub(crate) fn into_parts(self) -> (Vec<Pid>, Vec<Page<Global>>, Vec<u64>)
+        ensures { self ≡
+            record { members = result.0.items; pieces = result.1.items; fresh = result.2.items } }
     {
         let Rewritten {
             members,
@@ -316,14 +333,15 @@ impl Rewritten {
 
     /// What a parent's entries say of the pieces, the first under the first member's page id.
     pub(crate) fn names(&self, alloc: Global) -> Result<Vec<Name>, AllocError>
-        ensures { IfOk result (λ names. names.items ≡ named_pages self.now.pieces (take 1 self.now.members ++ self.now.fresh)) }
+        ensures { IfOk result (λ names. names.items ≡
+            named_pages self.now.pieces (take 1 self.now.members ++ self.now.fresh)) }
     {
         let mut names = Vec::with_capacity(alloc, self.pieces.len())?;
         let others = match (self.pieces.as_slice(), self.members.first()) {
             ([first, others @ ..], Some(pid)) => {
                 names.push_reserved(Name {
                     low: Key::from_bytes(alloc, first.low())?,
-                    pid: Pid(*pid),
+                    pid: *pid,
                 });
                 others
             }
@@ -346,8 +364,14 @@ impl Rewritten {
     // Draws the numbers of the new pieces. Where that is refused, nothing has changed.
     fn draw(&mut self, tree: &mut Tree<Global>) -> Result<(), AllocError>
         requires { 0 < length self.old.pieces }
-        ensures numbers { OnOk result (self.new ≡ record self.old { fresh = fresh_pids (pids_in_use tree.old.table) (length self.old.pieces - 1) }) }
-        ensures tree { OnOk result (tree.new ≡ record tree.old { table = with_rooms tree.old.table (fresh_pids (pids_in_use tree.old.table) (length self.old.pieces - 1)) }) }
+        ensures numbers { OnOk result (self.new ≡ record self.old {
+          fresh =
+              fresh_pids (pids_in_use tree.old.table) (length self.old.pieces - 1);
+        }) }
+        ensures tree { OnOk result (tree.new ≡ record tree.old {
+          table = with_rooms tree.old.table
+              (fresh_pids (pids_in_use tree.old.table) (length self.old.pieces - 1));
+        }) }
         ensures kept { OnErr result (self.new ≡ self.old) }
         ensures tree_kept { OnErr result (tree.new ≡ tree.old) }
     {

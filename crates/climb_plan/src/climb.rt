@@ -2,27 +2,22 @@
 //! the root down, all that was made is put into the tree. What is on the way back stands on the stack: a level that is refused
 //! undoes what it did, and the level below it does the same. (The Bw-tree's splits and merges, made a level at a time as
 //! PALM makes them.)
-ghost use Rattle.std.specs.Prelude.{◌≡◌, ◌<◌, ◌≤◌, ◌+◌, ℕ, List, map, length, IfErr, OnOk, OnErr};
-ghost use Rattle.keys.specs.Bytes.{Bytes};
+ghost use Rattle.std.specs.Prelude.{◌≡◌, ◌<◌, ◌≤◌, List, map, IfErr, OnOk, OnErr};
 ghost use Rattle.index_page.specs.Page.PageOfKind.{Leaf, Index};
 ghost use Rattle.keys.specs.declared.command.Command.{Command};
-ghost use Rattle.mapping.specs.Levels.{Placed};
 ghost use Rattle.mapping.specs.Tree as definitions;
 ghost use Rattle.mapping.specs.Tree.{most_levels};
 ghost use Rattle.mapping.specs.TreeInMemory.{AreAllHome, tree_of};
-ghost use Rattle.page_runs.specs.Worked.{Worked};
-ghost use Rattle.climb_plan.specs.Changing.{shown};
-ghost use Rattle.climb_plan.specs.Climb.{climb};
-ghost use Rattle.climb_plan.specs.HasClimbed.{HasClimbed};
-ghost use Rattle.climb_plan.specs.Level.{IsLevel};
+ghost use Rattle.climb_plan.specs.Changing.{leaves_seen, parents_seen};
+ghost use Rattle.climb_plan.specs.LevelSteps.{SomeLevel, ClimbsFrom, IsTooHighFrom, Working, CanEnd};
 ghost use Rattle.climb_plan.specs.Plan.{planned_tree};
 ghost use Rattle.climb_plan.specs.Ready.{IsReady};
 
-use crate::change::free_drawn;
-use crate::install::{install_all, put_home, put_leaves_home, undo_parents};
+use crate::change::{Rewritten, free_drawn};
+use crate::install::{install_all, put_home, undo_parents};
 use crate::level::{Changed, change_level};
 use crate::refused::Refused;
-use crate::seen::Revised;
+use crate::seen::WorkedPage;
 use crate::shrink::shrink;
 use crate::top::climb_root;
 use crew::{Crew, Gate};
@@ -49,15 +44,17 @@ pub fn climb(
     leaves: Vec<LeafDone>,
 ) -> Result<(), (Refused, Vec<LeafDone>)>
     requires fan { 1 < settings.now.fan }
-    requires ready { (t : definitions.Tree) × (cs : List (Command Global)) × IsReady settings.now t cs tree.old (map (λ d. shown Leaf d.made.worked) leaves.items) }
+    requires ready { (t : definitions.Tree) × (cs : List (Command Global)) ×
+        IsReady settings.now t cs tree.old (leaves_seen leaves.items) }
     requires height { tree.old.height ≤ most_levels }
-    ensures planned { OnOk result ((t : definitions.Tree) (cs : List (Command Global)) → IsReady settings.now t cs tree.old (map (λ d. shown Leaf d.made.worked) leaves.items) →
+    ensures planned { OnOk result ((t : definitions.Tree) (cs : List (Command Global)) →
+        IsReady settings.now t cs tree.old (leaves_seen leaves.items) →
         AreAllHome tree.new × (tree_of tree.new ≡ planned_tree settings.now t cs)) }
     ensures low { OnOk result (tree.new.height ≤ most_levels) }
     ensures back { IfErr result (λ e. e.1.items ≡ leaves.items) }
     ensures err { OnErr result (tree.new ≡ tree.old) }
     ensures high { IfErr result (λ e. (t : definitions.Tree) (cs : List (Command Global)) →
-        IsReady settings.now t cs tree.old (map (λ d. shown Leaf d.made.worked) leaves.items) → e.0 ≡ Refused.TooHigh →
+        IsReady settings.now t cs tree.old (leaves_seen leaves.items) → e.0 ≡ Refused.TooHigh →
         most_levels < (planned_tree settings.now t cs).height) }
 {
     let depth = tree.height() - 1;
@@ -79,18 +76,15 @@ fn climb_leaves(
     dones: Vec<LeafDone>,
 ) -> Result<(), (Refused, Vec<LeafDone>)>
     requires fan { 1 < settings.now.fan }
-    requires level { (ws : List (Worked Bytes)) × (ups : List (List (Placed ℕ))) × (used : List ℕ) × (i : ℕ)
-        × IsLevel Leaf tree.old (map (λ d. shown Leaf d.made.worked) dones.items) ws ups used i × (depth ≡ length ups) }
+    requires level { SomeLevel Leaf tree.old (leaves_seen dones.items) depth }
     requires height { tree.old.height ≤ most_levels }
-    ensures climbed { OnOk result ((ws : List (Worked Bytes)) (ups : List (List (Placed ℕ))) (used : List ℕ) (i : ℕ) →
-        IsLevel Leaf tree.old (map (λ d. shown Leaf d.made.worked) dones.items) ws ups used i → depth ≡ length ups → HasClimbed Leaf tree.old tree.new ws ups (climb settings.now used i ws ups)) }
+    ensures climbed { OnOk result
+        (ClimbsFrom Leaf settings.now tree.old tree.new (leaves_seen dones.items) depth) }
     ensures low { OnOk result (tree.new.height ≤ most_levels) }
     ensures back { IfErr result (λ e. e.1.items ≡ dones.items) }
     ensures err { OnErr result (tree.new ≡ tree.old) }
-    ensures high { IfErr result (λ e. (ws : List (Worked Bytes)) (ups : List (List (Placed ℕ))) (used : List ℕ) (i : ℕ) →
-        IsLevel Leaf tree.old (map (λ d. shown Leaf d.made.worked) dones.items) ws ups used i → depth ≡ length ups → e.0 ≡ Refused.TooHigh →
-        most_levels + length ups
-        < tree.old.height + length (climb settings.now used i ws ups).tower.above) }
+    ensures high { IfErr result (λ e. e.0 ≡ Refused.TooHigh →
+        IsTooHighFrom Leaf settings.now tree.old (leaves_seen dones.items) depth) }
 {
     if dones.is_empty() {
         return Ok(());
@@ -103,20 +97,8 @@ fn climb_leaves(
         Err(_) => return Err((Refused::NoMemory, dones)),
     };
     let Changed { groups, parents } = changed;
-    match climb_parents(rt, crew, gate, alloc, settings, tree, depth - 1, parents) {
-        Ok(()) => {
-            put_leaves_home(rt, crew, alloc, tree, dones);
-            install_all(tree, groups);
-            Ok(())
-        }
-        Err((refused, parents)) => {
-            undo_parents(alloc, settings, tree, parents);
-            // To free what was drawn gives the table back.
-            drawn_pids_get_places_that_are_away::<Page<Global>>();
-            free_drawn(tree, &groups);
-            Err((refused, dones))
-        }
-    }
+    let climbed = climb_parents(rt, crew, gate, alloc, settings, tree, depth - 1, parents);
+    finish_level(rt, crew, alloc, settings, tree, climbed, groups, dones)
 }
 
 // Climbs from these index pages, which were worked, and which are so many levels below the root. Where it is refused, the tree is as
@@ -132,18 +114,15 @@ fn climb_parents(
     dones: Vec<TermDone>,
 ) -> Result<(), (Refused, Vec<TermDone>)>
     requires fan { 1 < settings.now.fan }
-    requires level { (ws : List (Worked ℕ)) × (ups : List (List (Placed ℕ))) × (used : List ℕ) × (i : ℕ)
-        × IsLevel Index tree.old (map (λ d. shown Index d.made) dones.items) ws ups used i × (depth ≡ length ups) }
+    requires level { SomeLevel Index tree.old (parents_seen dones.items) depth }
     requires height { tree.old.height ≤ most_levels }
-    ensures climbed { OnOk result ((ws : List (Worked ℕ)) (ups : List (List (Placed ℕ))) (used : List ℕ) (i : ℕ) →
-        IsLevel Index tree.old (map (λ d. shown Index d.made) dones.items) ws ups used i → depth ≡ length ups → HasClimbed Index tree.old tree.new ws ups (climb settings.now used i ws ups)) }
+    ensures climbed { OnOk result
+        (ClimbsFrom Index settings.now tree.old tree.new (parents_seen dones.items) depth) }
     ensures low { OnOk result (tree.new.height ≤ most_levels) }
     ensures back { IfErr result (λ e. e.1.items ≡ dones.items) }
     ensures err { OnErr result (tree.new ≡ tree.old) }
-    ensures high { IfErr result (λ e. (ws : List (Worked ℕ)) (ups : List (List (Placed ℕ))) (used : List ℕ) (i : ℕ) →
-        IsLevel Index tree.old (map (λ d. shown Index d.made) dones.items) ws ups used i → depth ≡ length ups → e.0 ≡ Refused.TooHigh →
-        most_levels + length ups
-        < tree.old.height + length (climb settings.now used i ws ups).tower.above) }
+    ensures high { IfErr result (λ e. e.0 ≡ Refused.TooHigh →
+        IsTooHighFrom Index settings.now tree.old (parents_seen dones.items) depth) }
 {
     if dones.is_empty() {
         return Ok(());
@@ -156,9 +135,40 @@ fn climb_parents(
         Err(_) => return Err((Refused::NoMemory, dones)),
     };
     let Changed { groups, parents } = changed;
-    match climb_parents(rt, crew, gate, alloc, settings, tree, depth - 1, parents) {
+    let climbed = climb_parents(rt, crew, gate, alloc, settings, tree, depth - 1, parents);
+    finish_level(rt, crew, alloc, settings, tree, climbed, groups, dones)
+}
+
+// Ends a level whose parents climbed, or were refused: its pages come home, and its groups are replaced; or what was done to its parents is
+// undone, and the numbers of its new pieces are given back, so that the tree is as it was before.
+fn finish_level<D: WorkedPage>(
+    rt: &(impl Threads + Sync),
+    crew: Crew,
+    alloc: Global,
+    settings: &Settings,
+    tree: &mut Tree<Global>,
+    climbed: Result<(), (Refused, Vec<TermDone>)>,
+    groups: Vec<Rewritten>,
+    dones: Vec<D>,
+) -> Result<(), (Refused, Vec<D>)>
+    requires { (w : Working) ×
+        CanEnd D.of settings.now w tree.old (map D.seen_page dones.items) groups.items climbed }
+    ensures climbed { OnOk result ((w : Working) →
+        CanEnd D.of settings.now w tree.old (map D.seen_page dones.items) groups.items climbed →
+        ClimbsFrom D.of settings.now w.before tree.new (map D.seen_page dones.items) w.depth) }
+    ensures low { OnOk result (tree.new.height ≤ most_levels) }
+    ensures back { IfErr result (λ e. e.1.items ≡ dones.items) }
+    ensures err { OnErr result ((w : Working) →
+        CanEnd D.of settings.now w tree.old (map D.seen_page dones.items) groups.items climbed →
+        tree.new ≡ w.before) }
+    ensures high { IfErr result (λ e. (w : Working) →
+        CanEnd D.of settings.now w tree.old (map D.seen_page dones.items) groups.items climbed →
+        e.0 ≡ Refused.TooHigh →
+        IsTooHighFrom D.of settings.now w.before (map D.seen_page dones.items) w.depth) }
+{
+    match climbed {
         Ok(()) => {
-            put_home(tree, dones);
+            put_home(rt, crew, alloc, tree, dones);
             install_all(tree, groups);
             Ok(())
         }

@@ -8,7 +8,7 @@ ghost use Rattle.mapping.specs.Levels.{Placed};
 ghost use Rattle.mapping.specs.Table.{page_of};
 ghost use Rattle.page_runs.specs.declared.class.Class.TheVariants.{Same};
 ghost use Rattle.climb_plan.specs.Changing.{SeenPage};
-ghost use Rattle.climb_plan.specs.Rewriting.{seen_now, all_seen, AreSeenIn, AreParents, IsLevelSeen, IsQuiet, HasFirstCall, pids_for, AreParted, begins_at, IsNextChild, IsFamilyOf, rewriting, rewritten_groups, with_rewriting, rewriting_counts, groups_of, is_rewritten_seen};
+ghost use Rattle.climb_plan.specs.Rewriting.{seen_now, all_seen, groups_seen, AreSeenIn, AreParents, SomeLevelSeen, OfLevelSeen, IsQuiet, HasFirstCall, pids_for, AreParted, begins_at, IsNextChild, SomeFamily, OfFamily, rewriting_families, rewritten_groups, with_rewriting, rewriting_counts, groups_of, is_rewritten_seen};
 
 use crate::seen::Seen;
 use keys::{Pid, compare};
@@ -20,8 +20,8 @@ use std::alloc::{AllocError, Global};
 /// The groups of a level that are rewritten, from left to right, and their parents.
 #[derive(Drop)]
 pub(crate) struct ToRewrite<'a> {
-    /// Each parent of such groups, as a number, with how many of the groups are of its children.
-    pub(crate) parents: Vec<(u64, usize)>,
+    /// Each parent of such groups, with how many of the groups are of its children.
+    pub(crate) parents: Vec<(Pid, usize)>,
     /// The members of each group.
     pub(crate) groups: Vec<Vec<Seen<'a>>>,
 }
@@ -34,11 +34,11 @@ pub(crate) fn rewrites<'a>(
     depth: u32,
     seen: &'a [Seen<'a>],
 ) -> Result<ToRewrite<'a>, AllocError>
-    requires { (all : List SeenPage) × (ps : List (Placed ℕ)) × (ups : List (List (Placed ℕ))) × IsLevelSeen tree.now depth (all_seen seen.now) all ps ups }
-    ensures parents { IfOk result (λ r. (all : List SeenPage) (ps : List (Placed ℕ)) (ups : List (List (Placed ℕ))) → IsLevelSeen tree.now depth (all_seen seen.now) all ps ups →
-        r.parents.items ≡ rewriting_counts (rewriting ps all)) }
-    ensures groups { IfOk result (λ r. (all : List SeenPage) (ps : List (Placed ℕ)) (ups : List (List (Placed ℕ))) → IsLevelSeen tree.now depth (all_seen seen.now) all ps ups →
-        map (λ g. all_seen g.items) r.groups.items ≡ groups_of (rewriting ps all)) }
+    requires { SomeLevelSeen tree.now depth (all_seen seen.now) }
+    ensures parents { IfOk result (λ r. OfLevelSeen tree.now depth (all_seen seen.now)
+        (λ all ps. r.parents.items ≡ rewriting_counts (rewriting_families ps all))) }
+    ensures groups { IfOk result (λ r. OfLevelSeen tree.now depth (all_seen seen.now)
+        (λ all ps. groups_seen r.groups.items ≡ groups_of (rewriting_families ps all))) }
 {
     let mut rewrites = ToRewrite {
         parents: Vec::new(alloc),
@@ -63,7 +63,8 @@ fn left_from<'s, 'a>(seen: &'s [Seen<'a>], done: usize) -> &'s [Seen<'a>]
 
 // The low key of the first page that is thin or fat.
 fn first_call<'a>(seen: &[Seen<'a>]) -> Option<&'a [u8]>
-    ensures { MatchOption result (AllByRecursion IsQuiet (all_seen seen.now)) (λ low. HasFirstCall (all_seen seen.now) low.now) }
+    ensures { MatchOption result (AllByRecursion IsQuiet (all_seen seen.now))
+        (λ low. HasFirstCall (all_seen seen.now) low.now) }
 {
     for page in seen {
         if page.calls() {
@@ -75,8 +76,10 @@ fn first_call<'a>(seen: &[Seen<'a>]) -> Option<&'a [u8]>
 
 // The page id of the index page, so many levels below the root, in whose range the key is.
 fn parent_of(tree: &Tree<Global>, depth: u32, key: &[u8]) -> Pid
-    requires { (ps : List (Placed ℕ)) × (ups : List (List (Placed ℕ))) × AreParents tree.now depth ps ups }
-    ensures { (ps : List (Placed ℕ)) (ups : List (List (Placed ℕ))) → AreParents tree.now depth ps ups → pids_for ps key.now ≡ result ∷ [] }
+    requires { (ps : List (Placed ℕ)) × (ups : List (List (Placed ℕ))) ×
+        AreParents tree.now depth ps ups }
+    ensures { (ps : List (Placed ℕ)) (ups : List (List (Placed ℕ))) →
+        AreParents tree.now depth ps ups → pids_for ps key.now ≡ result ∷ [] }
 {
     let mut pid = tree.root();
     for _level in 0..depth {
@@ -96,24 +99,23 @@ fn add_family<'a>(
     seen: &[Seen<'a>],
     rewrites: &mut ToRewrite<'a>,
 ) -> Result<usize, AllocError>
-    requires { (p : Placed ℕ) × (before : List SeenPage) × (from : List SeenPage) × (children : List SeenPage) × (later : List SeenPage) × (parent ≡ p.pid) ×
-        IsFamilyOf tree.now.table (all_seen seen.now) p before from children later }
+    requires { SomeFamily tree.now.table (all_seen seen.now) parent }
     ensures most { IfOk result (λ behind. behind ≤ length seen.now) }
-    ensures later { IfOk result (λ behind. (p : Placed ℕ) (before from children later : List SeenPage) → parent ≡ p.pid →
-        IsFamilyOf tree.now.table (all_seen seen.now) p before from children later → AreSeenIn tree.now.table (all_seen (drop behind seen.now)) later) }
-    ensures parents { OnOk result ((p : Placed ℕ) (before from children later : List SeenPage) → parent ≡ p.pid →
-        IsFamilyOf tree.now.table (all_seen seen.now) p before from children later →
-        rewrites.new.parents.items ≡ rewrites.old.parents.items ++ rewriting_counts (with_rewriting p.pid (rewritten_groups children) [])) }
-    ensures groups { OnOk result ((p : Placed ℕ) (before from children later : List SeenPage) → parent ≡ p.pid →
-        IsFamilyOf tree.now.table (all_seen seen.now) p before from children later →
-        map (λ g. all_seen g.items) rewrites.new.groups.items ≡ map (λ g. all_seen g.items) rewrites.old.groups.items ++ rewritten_groups children) }
+    ensures later { IfOk result (λ behind. OfFamily tree.now.table (all_seen seen.now) parent
+        (λ f. AreSeenIn tree.now.table (all_seen (drop behind seen.now)) f.later)) }
+    ensures parents { OnOk result (OfFamily tree.now.table (all_seen seen.now) parent
+        (λ f. rewrites.new.parents.items ≡ rewrites.old.parents.items ++
+        rewriting_counts (with_rewriting f.parent.pid (rewritten_groups f.children) []))) }
+    ensures groups { OnOk result (OfFamily tree.now.table (all_seen seen.now) parent
+        (λ f. groups_seen rewrites.new.groups.items ≡
+        groups_seen rewrites.old.groups.items ++ rewritten_groups f.children)) }
 {
     let (children, behind) = family(alloc, tree, parent, seen)?;
     let before = rewrites.groups.len();
     add_groups(alloc, &children, &mut rewrites.groups)?;
     let count = rewrites.groups.len() - before;
     if count > 0 {
-        rewrites.parents.push((parent.0, count))?;
+        rewrites.parents.push((parent, count))?;
     }
     Ok(behind)
 }
@@ -125,13 +127,12 @@ fn family<'a>(
     parent: Pid,
     seen: &[Seen<'a>],
 ) -> Result<(Vec<Seen<'a>>, usize), AllocError>
-    requires { (p : Placed ℕ) × (before : List SeenPage) × (from : List SeenPage) × (children : List SeenPage) × (later : List SeenPage) × (parent ≡ p.pid) ×
-        IsFamilyOf tree.now.table (all_seen seen.now) p before from children later }
+    requires { SomeFamily tree.now.table (all_seen seen.now) parent }
     ensures most { IfOk result (λ r. r.1 ≤ length seen.now) }
-    ensures children { IfOk result (λ r. (p : Placed ℕ) (before from children later : List SeenPage) → parent ≡ p.pid →
-        IsFamilyOf tree.now.table (all_seen seen.now) p before from children later → all_seen r.0.items ≡ children) }
-    ensures later { IfOk result (λ r. (p : Placed ℕ) (before from children later : List SeenPage) → parent ≡ p.pid →
-        IsFamilyOf tree.now.table (all_seen seen.now) p before from children later → AreSeenIn tree.now.table (all_seen (drop r.1 seen.now)) later) }
+    ensures children { IfOk result (λ r. OfFamily tree.now.table (all_seen seen.now) parent
+        (λ f. all_seen r.0.items ≡ f.children)) }
+    ensures later { IfOk result (λ r. OfFamily tree.now.table (all_seen seen.now) parent
+        (λ f. AreSeenIn tree.now.table (all_seen (drop r.1 seen.now)) f.later)) }
 {
     let Some(page) = tree.page(parent) else {
         unreachable!()
@@ -158,15 +159,17 @@ fn next_child<'a>(
     next: &mut usize,
 ) -> Seen<'a>
     requires within { next.old ≤ length seen.now }
-    requires child { (x : SeenPage) × (later : List SeenPage) × IsNextChild tree.now.table (all_seen (drop next.old seen.now)) low.now pid x later }
+    requires child { (x : SeenPage) × (later : List SeenPage) ×
+        IsNextChild tree.now.table (all_seen (drop next.old seen.now)) low.now pid x later }
     ensures within { next.new ≤ length seen.now }
-    ensures child { (x : SeenPage) (later : List SeenPage) → IsNextChild tree.now.table (all_seen (drop next.old seen.now)) low.now pid x later →
+    ensures child { (x : SeenPage) (later : List SeenPage) →
+        IsNextChild tree.now.table (all_seen (drop next.old seen.now)) low.now pid x later →
         (seen_now result ≡ x) × AreSeenIn tree.now.table (all_seen (drop next.new seen.now)) later }
 {
     if !has_low(seen, *next, low) {
-        return untouched(tree, pid);
+        return page_at_home(tree, pid);
     }
-    let child = seen[*next].copied();
+    let child = seen[*next].again();
     *next += 1;
     child
 }
@@ -183,8 +186,10 @@ fn has_low(seen: &[Seen<'_>], at: usize, low: &[u8]) -> bool
 
 // How many of the pages have a low key below this one. It is found by halves.
 fn count_below(seen: &[Seen<'_>], key: &[u8]) -> usize
-    requires { (before : List SeenPage) × (from : List SeenPage) × AreParted key.now (all_seen seen.now) before from }
-    ensures { (before from : List SeenPage) → AreParted key.now (all_seen seen.now) before from → result ≡ length before }
+    requires { (before : List SeenPage) × (from : List SeenPage) ×
+        AreParted key.now (all_seen seen.now) before from }
+    ensures { (before from : List SeenPage) → AreParted key.now (all_seen seen.now) before from →
+        result ≡ length before }
 {
     seen.partition_point(
         |page: &Seen<'_>| -> bool
@@ -194,10 +199,11 @@ fn count_below(seen: &[Seen<'_>], key: &[u8]) -> usize
 }
 
 // A page that got no run.
-fn untouched(tree: &Tree<Global>, pid: Pid) -> Seen<'_>
+fn page_at_home(tree: &Tree<Global>, pid: Pid) -> Seen<'_>
     requires { IsSome (page_of tree.now.table pid) }
     ensures page { page_of tree.now.table pid ≡ Some result.page.now }
-    ensures rest { seen_now result ≡ record { pid = pid; page = result.page.now; class = Same; replaced = false } }
+    ensures rest { seen_now result ≡
+        record { pid = pid; page = result.page.now; class = Same; replaced = false } }
 {
     match tree.page(pid) {
         Some(page) => Seen {
@@ -216,7 +222,8 @@ fn add_groups<'a>(
     children: &[Seen<'a>],
     rewritten: &mut Vec<Vec<Seen<'a>>>,
 ) -> Result<(), AllocError>
-    ensures { OnOk result (map (λ g. all_seen g.items) rewritten.new.items ≡ map (λ g. all_seen g.items) rewritten.old.items ++ rewritten_groups (all_seen children.now)) }
+    ensures { OnOk result (groups_seen rewritten.new.items ≡
+        groups_seen rewritten.old.items ++ rewritten_groups (all_seen children.now)) }
 {
     let classes = classes_of(alloc, children)?;
     let sizes = groups(alloc, &classes)?;
@@ -236,7 +243,8 @@ fn add_group<'a>(
     group: &[Seen<'a>],
     rewritten: &mut Vec<Vec<Seen<'a>>>,
 ) -> Result<(), AllocError>
-    ensures { OnOk result (map (λ g. all_seen g.items) rewritten.new.items ≡ map (λ g. all_seen g.items) rewritten.old.items ++ filter is_rewritten_seen (all_seen group.now ∷ [])) }
+    ensures { OnOk result (groups_seen rewritten.new.items ≡
+        groups_seen rewritten.old.items ++ filter is_rewritten_seen (all_seen group.now ∷ [])) }
 {
     if is_rewritten(group) {
         rewritten.push(group.to_vec(alloc)?)?;

@@ -4,20 +4,18 @@ ghost use Rattle.std.specs.Prelude.{◌≡◌, map, Some, None, IsSome, IfOk, On
 ghost use Rattle.std.specs.List.{AllByRecursion};
 ghost use Rattle.std.specs.Vec.Iter.{into_iter_items};
 ghost use Rattle.mapping.specs.Proper.{Distinct, AreRisingPids};
-ghost use Rattle.index_page.specs.Page.PageOfKind.{Leaf};
 ghost use Rattle.page_runs.specs.TermWork.{index_made, term_held_of};
-ghost use Rattle.climb_plan.specs.Changing.{shown};
 ghost use Rattle.mapping.specs.Table.{page_of, place_of, with_place, log_outdated, pids_in_use};
 ghost use Rattle.climb_plan.specs.Installing.{all_taken, all_put, AreAway, AreParentsHome, parent_held, come_home, all_come_home, members_freed, put_under, group_installed, all_installed, CanInstall, CanInstallAll};
 
 use crate::change::Rewritten;
-use crate::seen::Revised;
+use crate::seen::WorkedPage;
 use crew::{Crew, Gate, Work, drop_all, run_round};
 use delta_chain::Run;
 use index_page::Page;
 use keys::{Pid, Settings};
 use mapping::Tree;
-use page_runs::{LeafDone, LeafRest, TermDone, TermJob, TermWork};
+use page_runs::{LeafRest, TermDone, TermJob, TermWork};
 use std::alloc::{AllocError, Global};
 use std::thread::Threads;
 use std::vec::IntoIter;
@@ -30,12 +28,15 @@ pub(crate) fn work_parents(
     alloc: Global,
     settings: &Settings,
     tree: &mut Tree<Global>,
-    told: Vec<(u64, Run<Pid, Global>)>,
+    told: Vec<(Pid, Run<Pid, Global>)>,
 ) -> Result<Vec<TermDone>, AllocError>
     requires { AreParentsHome tree.old.table (map (λ t. t.0) told.items) }
-    ensures made { IfOk result (λ dones. map (λ d. d.made) dones.items ≡ map (λ t. index_made settings.now (parent_held tree.old.table t)) told.items) }
-    ensures held { IfOk result (λ dones. map (λ d. d.held) dones.items ≡ map (parent_held tree.old.table) told.items) }
-    ensures taken { OnOk result (tree.new ≡ record tree.old { table = all_taken tree.old.table (map (λ t. t.0) told.items) }) }
+    ensures made { IfOk result (λ dones. map (λ d. d.made) dones.items ≡
+        map (λ t. index_made settings.now (parent_held tree.old.table t)) told.items) }
+    ensures held { IfOk result (λ dones. map (λ d. d.held) dones.items ≡
+        map (parent_held tree.old.table) told.items) }
+    ensures taken { OnOk result (tree.new ≡
+        record tree.old { table = all_taken tree.old.table (map (λ t. t.0) told.items) }) }
     ensures err { AreRisingPids (pids_in_use tree.old.table) → OnErr result (tree.new ≡ tree.old) }
 {
     let work = TermWork {
@@ -56,18 +57,20 @@ pub(crate) fn work_parents(
 fn take_all(
     alloc: Global,
     tree: &mut Tree<Global>,
-    told: Vec<(u64, Run<Pid, Global>)>,
+    told: Vec<(Pid, Run<Pid, Global>)>,
 ) -> Result<Vec<TermJob>, AllocError>
     requires { AreParentsHome tree.old.table (map (λ t. t.0) told.items) }
-    ensures held { IfOk result (λ jobs. map term_held_of jobs.items ≡ map (parent_held tree.old.table) told.items) }
-    ensures taken { OnOk result (tree.new ≡ record tree.old { table = all_taken tree.old.table (map (λ t. t.0) told.items) }) }
+    ensures held { IfOk result (λ jobs. map term_held_of jobs.items ≡
+        map (parent_held tree.old.table) told.items) }
+    ensures taken { OnOk result (tree.new ≡
+        record tree.old { table = all_taken tree.old.table (map (λ t. t.0) told.items) }) }
     ensures err { OnErr result (tree.new ≡ tree.old) }
 {
     let mut jobs = Vec::with_capacity(alloc, told.len())?;
     for (pid, terms) in told {
         jobs.push_reserved(TermJob {
-            page: tree.take(Pid(pid)),
-            pid: Pid(pid),
+            page: tree.take(pid),
+            pid,
             terms,
         });
     }
@@ -77,7 +80,10 @@ fn take_all(
 // Puts the pages of the jobs back into their places.
 fn put_back(tree: &mut Tree<Global>, jobs: Vec<TermJob>)
     requires { AreAway tree.old.table (map (λ j. j.pid) jobs.items) }
-    ensures { tree.new ≡ record tree.old { table = all_put tree.old.table (map (λ j. (j.pid, j.page)) jobs.items) } }
+    ensures { tree.new ≡ record tree.old {
+      table =
+          all_put tree.old.table (map (λ j. (j.pid, j.page)) jobs.items);
+    } }
 {
     for job in jobs {
         let TermJob {
@@ -97,7 +103,10 @@ pub(crate) fn undo_parents(
     parents: Vec<TermDone>,
 )
     requires { AreAway tree.old.table (map (λ d. d.held.pid) parents.items) }
-    ensures { tree.new ≡ record tree.old { table = all_put tree.old.table (map (λ d. (d.held.pid, d.held.page)) parents.items) } }
+    ensures { tree.new ≡ record tree.old {
+      table =
+          all_put tree.old.table (map (λ d. (d.held.pid, d.held.page)) parents.items);
+    } }
 {
     let work = TermWork {
         alloc,
@@ -113,74 +122,60 @@ pub(crate) fn undo_parents(
     }
 }
 
-/// Puts the pages home after their runs. It takes no memory.
-pub(crate) fn put_home<D: Revised>(tree: &mut Tree<Global>, dones: Vec<D>)
-    requires { AreAway tree.old.table (map (λ d. (D.seen d).pid) dones.items) }
-    ensures { tree.new ≡ record tree.old { table = all_come_home tree.old.table (map D.seen dones.items) } }
-{
-    for done in dones {
-        come_home(tree, done);
-    }
-}
-
-// Puts the page home after its run. Where it was replaced, the log doesn't know it.
-fn come_home<D: Revised>(tree: &mut Tree<Global>, done: D)
-    requires { place_of tree.old.table (D.seen done).pid ≡ Some None }
-    ensures { tree.new ≡ record tree.old { table = come_home tree.old.table (D.seen done) } }
-{
-    let seen = done.seen();
-    let pid = seen.pid;
-    if seen.replaced {
-        tree.outdate(pid);
-    }
-    tree.put(pid, done.into_page());
-}
-
-/// Puts the leaves home after their runs. What is left of their work, the leaves that were replaced among it, the crew drops, since that
-/// takes as long as to make new ones. It needs no memory: where there is none to keep that for the crew, it is dropped leaf by leaf.
-pub(crate) fn put_leaves_home(
+/// Puts the pages home after their runs. What is left of the leaves' work, those that were replaced among it, the crew drops, since
+/// that takes as long as to make new ones. It needs no memory: where there is none to keep that for the crew, it is dropped leaf by leaf.
+pub(crate) fn put_home<D: WorkedPage>(
     rt: &(impl Threads + Sync),
     crew: Crew,
     alloc: Global,
     tree: &mut Tree<Global>,
-    leaves: Vec<LeafDone>,
+    dones: Vec<D>,
 )
-    requires { AreAway tree.old.table (map (λ d. (shown Leaf d.made.worked).pid) leaves.items) }
-    ensures { tree.new ≡ record tree.old { table = all_come_home tree.old.table (map (λ d. shown Leaf d.made.worked) leaves.items) } }
+    requires { AreAway tree.old.table (map (λ d. (D.seen_page d).pid) dones.items) }
+    ensures { tree.new ≡
+        record tree.old { table = all_come_home tree.old.table (map D.seen_page dones.items) } }
 {
-    drop_all(rt, crew, rests_of_leaves(alloc, tree, leaves))
+    drop_all(rt, crew, rests_once_home(alloc, tree, dones))
 }
 
-// Puts the leaves home, and returns what is left of their work, as far as there is room for it.
-fn rests_of_leaves(alloc: Global, tree: &mut Tree<Global>, leaves: Vec<LeafDone>) -> Vec<LeafRest>
-    requires { AreAway tree.old.table (map (λ d. (shown Leaf d.made.worked).pid) leaves.items) }
-    ensures { tree.new ≡ record tree.old { table = all_come_home tree.old.table (map (λ d. shown Leaf d.made.worked) leaves.items) } }
+// Puts the pages home, and returns what is left of their work, as far as there is room for it.
+fn rests_once_home<D: WorkedPage>(
+    alloc: Global,
+    tree: &mut Tree<Global>,
+    dones: Vec<D>,
+) -> Vec<LeafRest>
+    requires { AreAway tree.old.table (map (λ d. (D.seen_page d).pid) dones.items) }
+    ensures { tree.new ≡
+        record tree.old { table = all_come_home tree.old.table (map D.seen_page dones.items) } }
 {
-    let mut rests = Vec::with_capacity(alloc, leaves.len()).unwrap_or(Vec::new(alloc));
-    for leaf in leaves {
-        let rest = leaf_comes_home(tree, leaf);
+    let mut rests = D::room_for_rests(alloc, dones.len());
+    for done in dones {
+        let rest = come_home(tree, done);
         keep_if_room(&mut rests, rest);
     }
     rests
 }
 
-// Puts the item behind the others, where the list has room for it.
-fn keep_if_room<T: Drop>(items: &mut Vec<T>, item: T) {
-    if items.len() < items.capacity() {
-        items.push_reserved(item);
+// Puts the item behind the others, if there is one, and the list has room for it.
+fn keep_if_room<T: Drop>(items: &mut Vec<T>, item: Option<T>) {
+    if let Some(item) = item {
+        if items.len() < items.capacity() {
+            items.push_reserved(item);
+        }
     }
 }
 
-// Puts the leaf home after its run, and returns what is left of its work. Where it was replaced, the log doesn't know it.
-fn leaf_comes_home(tree: &mut Tree<Global>, leaf: LeafDone) -> LeafRest
-    requires { place_of tree.old.table (shown Leaf leaf.made.worked).pid ≡ Some None }
-    ensures { tree.new ≡ record tree.old { table = come_home tree.old.table (shown Leaf leaf.made.worked) } }
+// Puts the page home after its run, and returns what is left of its work. Where it was replaced, the log doesn't know it.
+fn come_home<D: WorkedPage>(tree: &mut Tree<Global>, done: D) -> Option<LeafRest>
+    requires { place_of tree.old.table (D.seen_page done).pid ≡ Some None }
+    ensures { tree.new ≡ record tree.old { table = come_home tree.old.table (D.seen_page done) } }
 {
-    let pid = leaf.pid();
-    if leaf.is_replaced() {
+    let seen = done.as_seen();
+    let pid = seen.pid;
+    if seen.replaced {
         tree.outdate(pid);
     }
-    let (page, rest) = leaf.into_page_and_rest();
+    let (page, rest) = done.into_parts();
     tree.put(pid, page);
     rest
 }
@@ -212,32 +207,35 @@ fn install(tree: &mut Tree<Global>, group: Rewritten)
 }
 
 // Puts the page into the place of another, which the log doesn't know then.
-fn replace(tree: &mut Tree<Global>, pid: u64, page: Page<Global>)
-    requires { IsSome (page_of tree.old.table pid) }
-    ensures { tree.new ≡ record tree.old { table = with_place (log_outdated tree.old.table pid) pid (Some page) } }
+fn replace(tree: &mut Tree<Global>, place: Pid, page: Page<Global>)
+    requires { IsSome (page_of tree.old.table place) }
+    ensures { tree.new ≡ record tree.old {
+      table =
+          with_place (log_outdated tree.old.table place) place (Some page);
+    } }
 {
-    let place = Pid(pid);
     let _before = tree.take(place);
     tree.outdate(place);
     tree.put(place, page);
 }
 
 // Gives up the pages and their places.
-fn free_members(tree: &mut Tree<Global>, pids: &[u64])
-    requires { AllByRecursion (λ pid. IsSome (page_of tree.old.table pid)) pids.now × Distinct pids.now }
+fn free_members(tree: &mut Tree<Global>, pids: &[Pid])
+    requires { AllByRecursion (λ pid. IsSome (page_of tree.old.table pid)) pids.now ×
+        Distinct pids.now }
     ensures { tree.new ≡ record tree.old { table = members_freed tree.old.table pids.now } }
 {
     for pid in pids {
-        let pid = Pid(*pid);
-        let _gone = tree.take(pid);
-        tree.free(pid);
+        let _gone = tree.take(*pid);
+        tree.free(*pid);
     }
 }
 
 /// Puts each page into its place, from which it is away.
 pub(crate) fn put_pieces(tree: &mut Tree<Global>, pids: &[u64], pages: IntoIter<Page<Global>>)
     requires { AreAway tree.old.table pids.now }
-    ensures { tree.new ≡ record tree.old { table = put_under tree.old.table pids.now (into_iter_items pages) } }
+    ensures { tree.new ≡
+        record tree.old { table = put_under tree.old.table pids.now (into_iter_items pages) } }
 {
     let mut rest = pages;
     for pid in pids {

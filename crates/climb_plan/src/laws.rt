@@ -22,28 +22,31 @@ ghost use Rattle.split_plan.specs.WorkedLevel.{worked_parents};
 ghost use Rattle.split_plan.specs.Change.{Change, family_changes, all_fresh, IsOutdatedIn};
 ghost use Rattle.split_plan.specs.Terms.{terms};
 ghost use Rattle.climb_plan.specs.Limits.{AreShort};
-ghost use Rattle.climb_plan.specs.Climb.{families, climb, is_lone, kept};
+ghost use Rattle.climb_plan.specs.Climb.{families, climb, is_lone, kept_levels};
 ghost use Rattle.mapping.specs.Outdate.{outdate};
-ghost use Rattle.climb_plan.specs.Plan.{climbed, plan, outdated_pids, shrunk_pids};
+ghost use Rattle.climb_plan.specs.Plan.{batch_climb, plan, outdated_pids, shrunk_pids};
 
 use std::alloc::Allocator;
 
 /// What the plan of a proper store holds is the map after the commands. It says nothing of replies: a plan has none. They
 /// come by the law of `page_runs` that commands on some keys may be worked apart from the others.
 pub fn the_plan_holds_the_map_after_the_commands<A: Allocator>()
-    ensures { (s : Settings) (st : Store) (cs : List (Command A)) → first_bad_field s ≡ None → IsProper s st.tree →
+    ensures { (s : Settings) (st : Store) (cs : List (Command A)) →
+        first_bad_field s ≡ None → IsProper s st.tree →
         contents (plan s st cs).tree ≡ map_after_all (contents st.tree) cs }
 {}
 
 /// The plan of a proper store is proper, where the commands' keys and values are within the settings.
 pub fn the_plan_of_a_proper_store_is_proper<A: Allocator>()
-    ensures { (s : Settings) (st : Store) (cs : List (Command A)) → first_bad_field s ≡ None → IsProper s st.tree → AreShort s cs →
+    ensures { (s : Settings) (st : Store) (cs : List (Command A)) →
+        first_bad_field s ≡ None → IsProper s st.tree → AreShort s cs →
         IsProper s (plan s st cs).tree }
 {}
 
 /// What was true of the log stays true: of each pid that it has the base and some runs of, there is a page with so many.
 pub fn the_log_states_stay_true<A: Allocator>()
-    ensures { (s : Settings) (st : Store) (cs : List (Command A)) → first_bad_field s ≡ None → IsProper s st.tree → AreLogsTrue st.tree →
+    ensures { (s : Settings) (st : Store) (cs : List (Command A)) →
+        first_bad_field s ≡ None → IsProper s st.tree → AreLogsTrue st.tree →
         AreLogsTrue (plan s st cs).tree }
 {}
 
@@ -51,8 +54,10 @@ pub fn the_log_states_stay_true<A: Allocator>()
 /// page whose pid isn't outdated stands as it did, with newer runs in front, whether the log knows it or not.
 pub fn what_is_not_outdated_stands<A: Allocator>()
     ensures logged { (s : Settings) (st : Store) (cs : List (Command A)) (pid : ℕ) →
-        logged_of (plan s st cs).tree pid ≡ (if is_among pid (outdated_pids s st.tree cs) then outdate (logged_of st.tree pid) else logged_of st.tree pid) }
-    ensures stands { (s : Settings) (st : Store) (cs : List (Command A)) (pid : ℕ) (p : PageOfKind) → first_bad_field s ≡ None → IsProper s st.tree →
+        logged_of (plan s st cs).tree pid ≡ (if is_among pid (outdated_pids s st.tree cs)
+        then outdate (logged_of st.tree pid) else logged_of st.tree pid) }
+    ensures stands { (s : Settings) (st : Store) (cs : List (Command A)) (pid : ℕ)
+        (p : PageOfKind) → first_bad_field s ≡ None → IsProper s st.tree →
         is_among pid (outdated_pids s st.tree cs) ≡ false → page_at st.tree.pages pid ≡ Some p →
         (q : PageOfKind) × (page_at (plan s st cs).tree.pages pid ≡ Some q) × IsPageOver p q }
 {}
@@ -61,39 +66,51 @@ pub fn what_is_not_outdated_stands<A: Allocator>()
 /// level the outdated ones of its one group, and on a level below those of the groups of its families, and what the climb
 /// goes on to outdate above. Each was in use, so a fresh pid keeps what the log has of it.
 pub fn outdated_pids_are_those_of_groups_and_of_the_old_root<A: Allocator, V>()
-    ensures plan { (s : Settings) (t : Tree) (cs : List (Command A)) (pid : ℕ) → (is_among pid (outdated_pids s t cs) ≡ true) ↔
-        ((is_among pid (climbed s t cs).outdated ≡ true) ⊎ (is_among pid (shrunk_pids (climbed s t cs).tower.above) ≡ true)) }
-    ensures in_use { (s : Settings) (t : Tree) (cs : List (Command A)) (pid : ℕ) → IsProper s t → is_among pid (outdated_pids s t cs) ≡ true →
-        is_among pid (keys_of t.pages) ≡ true }
-    ensures top { (s : Settings) (used : List ℕ) (i : ℕ) (ws : List (Worked V)) (pid : ℕ) → (is_among pid (climb s used i ws []).outdated ≡ true) ↔ IsOutdatedIn ws pid }
-    ensures below { (s : Settings) (used : List ℕ) (i : ℕ) (ws : List (Worked V)) (parents : List (Placed ℕ)) (ups : List (List (Placed ℕ))) (pid : ℕ) →
+    ensures plan { (s : Settings) (t : Tree) (cs : List (Command A)) (pid : ℕ) →
+        (is_among pid (outdated_pids s t cs) ≡ true) ↔
+        ((is_among pid (batch_climb s t cs).outdated ≡ true)
+        ⊎ (is_among pid (shrunk_pids (batch_climb s t cs).tower.above) ≡ true)) }
+    ensures in_use { (s : Settings) (t : Tree) (cs : List (Command A)) (pid : ℕ) → IsProper s t →
+        is_among pid (outdated_pids s t cs) ≡ true → is_among pid (keys_of t.pages) ≡ true }
+    ensures top { (s : Settings) (used : List ℕ) (i : ℕ) (ws : List (Worked V)) (pid : ℕ) →
+        (is_among pid (climb s used i ws []).outdated ≡ true) ↔ IsOutdatedIn ws pid }
+    ensures below { (s : Settings) (used : List ℕ) (i : ℕ) (ws : List (Worked V))
+        (parents : List (Placed ℕ)) (ups : List (List (Placed ℕ))) (pid : ℕ) →
         let css : List (List (Change V)) = family_changes s used i (families parents ws) in
         (is_among pid (climb s used i ws (parents ∷ ups)).outdated ≡ true) ↔
         (Any (λ f. Any (λ g. IsOutdatedIn g pid) (groups is_thin f)) (families parents ws)
-        ⊎ (is_among pid (climb s used (i + length (all_fresh css)) (worked_parents s parents (map terms css)) ups).outdated ≡ true)) }
+        ⊎ (is_among pid (climb s used (i + length (all_fresh css))
+        (worked_parents s parents (map terms css)) ups).outdated ≡ true)) }
 {}
 
 /// The root shrinks while it has one child: the levels that go are the highest, each of them is one page with one child,
 /// and the highest that stays is not one.
 pub fn the_root_shrinks_while_it_has_one_child()
-    ensures joined { (ls : List (List (Placed ℕ))) → kept ls ++ drop (length (kept ls)) ls ≡ ls }
-    ensures lone { (ls : List (List (Placed ℕ))) → AllByRecursion (λ l. is_lone l ≡ true) (drop (length (kept ls)) ls) }
-    ensures top { (ls lower : List (List (Placed ℕ))) (top : List (Placed ℕ)) → kept ls ≡ lower ++ top ∷ [] → is_lone top ≡ false }
+    ensures joined { (ls : List (List (Placed ℕ))) → kept_levels ls ++ drop (length (kept_levels ls)) ls ≡ ls }
+    ensures lone { (ls : List (List (Placed ℕ))) →
+        AllByRecursion (λ l. is_lone l ≡ true) (drop (length (kept_levels ls)) ls) }
+    ensures top { (ls lower : List (List (Placed ℕ))) (top : List (Placed ℕ)) →
+        kept_levels ls ≡ lower ++ top ∷ [] → is_lone top ≡ false }
 {}
 
 /// Commands that come to nothing, a batch of gets among them, leave the store as it is: every page, the root, the height,
 /// and what the log has; no pid is outdated.
 pub fn commands_that_come_to_nothing_change_nothing<A: Allocator>()
-    ensures store { (s : Settings) (st : Store) (cs : List (Command A)) → IsProper s st.tree → net_run (contents st.tree) cs ≡ [] → plan s st cs ≡ st }
-    ensures outdated { (s : Settings) (st : Store) (cs : List (Command A)) → IsProper s st.tree → net_run (contents st.tree) cs ≡ [] → outdated_pids s st.tree cs ≡ [] }
-    ensures gets { (s : Settings) (st : Store) (keys : List Bytes) → IsProper s st.tree → plan {A = A} s st (map (λ k. Get k) keys) ≡ st }
+    ensures store { (s : Settings) (st : Store) (cs : List (Command A)) → IsProper s st.tree →
+        net_run (contents st.tree) cs ≡ [] → plan s st cs ≡ st }
+    ensures outdated { (s : Settings) (st : Store) (cs : List (Command A)) → IsProper s st.tree →
+        net_run (contents st.tree) cs ≡ [] → outdated_pids s st.tree cs ≡ [] }
+    ensures gets { (s : Settings) (st : Store) (keys : List Bytes) → IsProper s st.tree →
+        plan {A = A} s st (map (λ k. Get k) keys) ≡ st }
 {}
 
 /// The pids of new pages are the numbers not in use, from the least on without a gap, in the order in which the pages
 /// stand: level by level from the leaves up, and on a level from left to right.
 pub fn new_pages_are_numbered_in_order<A: Allocator>()
-    ensures { (s : Settings) (st : Store) (cs : List (Command A)) → first_bad_field s ≡ None → IsProper s st.tree →
-        (n : ℕ) × (filter (λ pid. not (is_among pid (keys_of st.tree.pages))) (all_pids (levels_of (plan s st cs).tree).level (levels_of (plan s st cs).tree).above)
+    ensures { (s : Settings) (st : Store) (cs : List (Command A)) →
+        first_bad_field s ≡ None → IsProper s st.tree →
+        (n : ℕ) × (filter (λ pid. not (is_among pid (keys_of st.tree.pages)))
+        (all_pids (levels_of (plan s st cs).tree).level (levels_of (plan s st cs).tree).above)
         ≡ map (unused (keys_of st.tree.pages)) (range_with_len 0 n)) }
 {}
 
@@ -101,9 +118,12 @@ pub fn new_pages_are_numbered_in_order<A: Allocator>()
 /// from one of which it had none. A page of which the log still has the base and runs stands as it did, with newer runs
 /// in front.
 pub fn what_the_log_has_of_a_page_stays_true<A: Allocator>()
-    ensures none { (s : Settings) (st : Store) (cs : List (Command A)) (pid : ℕ) → (logged_of st.tree pid ≡ No) ↔ (logged_of (plan s st cs).tree pid ≡ No) }
-    ensures upto { (s : Settings) (st : Store) (cs : List (Command A)) (pid k : ℕ) → logged_of (plan s st cs).tree pid ≡ Upto k → logged_of st.tree pid ≡ Upto k }
-    ensures stands { (s : Settings) (st : Store) (cs : List (Command A)) (pid k : ℕ) (p : PageOfKind) → first_bad_field s ≡ None → IsProper s st.tree →
+    ensures none { (s : Settings) (st : Store) (cs : List (Command A)) (pid : ℕ) →
+        (logged_of st.tree pid ≡ No) ↔ (logged_of (plan s st cs).tree pid ≡ No) }
+    ensures upto { (s : Settings) (st : Store) (cs : List (Command A)) (pid k : ℕ) →
+        logged_of (plan s st cs).tree pid ≡ Upto k → logged_of st.tree pid ≡ Upto k }
+    ensures stands { (s : Settings) (st : Store) (cs : List (Command A)) (pid k : ℕ)
+        (p : PageOfKind) → first_bad_field s ≡ None → IsProper s st.tree →
         logged_of (plan s st cs).tree pid ≡ Upto k → page_at st.tree.pages pid ≡ Some p →
         (q : PageOfKind) × (page_at (plan s st cs).tree.pages pid ≡ Some q) × IsPageOver p q }
 {}

@@ -1,20 +1,18 @@
 //! One level of a climb: its groups are cut and get their numbers, and its parents are worked.
-ghost use Rattle.std.specs.Prelude.{◌≡◌, ◌<◌, ℕ, List, ◌∷◌, map, length, IfOk, OnOk, OnErr};
-ghost use Rattle.mapping.specs.Levels.{Placed};
+ghost use Rattle.std.specs.Prelude.{◌≡◌, ◌<◌, map, IfOk, OnOk, OnErr};
 ghost use Rattle.mapping.specs.Proper.{AreRisingPids};
 ghost use Rattle.mapping.specs.Table.{pids_in_use};
 ghost use Rattle.page_runs.specs.TermWork.{index_made};
-ghost use Rattle.page_runs.specs.Worked.{Worked};
 ghost use Rattle.climb_plan.specs.Installing.{all_taken, AreParentsHome, parent_held};
-ghost use Rattle.climb_plan.specs.Level.{IsLevel, IsCut, IsChanged};
-ghost use Rattle.climb_plan.specs.Rewriting.{terms_by_parent, CanBeTold};
+ghost use Rattle.climb_plan.specs.LevelSteps.{SomeChildren, CutsFrom, ChangesFrom};
+ghost use Rattle.climb_plan.specs.Rewriting.{all_names, told_pids, terms_by_parent, CanBeTold};
 
 use crate::change::{Rewritten, all_freed, all_terms, cut_all, draw_all, free_drawn};
 use crate::family::rewrites;
 use crate::install::work_parents;
-use crate::seen::{Revised, see_all};
+use crate::seen::{WorkedPage, see_all};
 use crew::{Crew, Gate};
-use keys::Settings;
+use keys::{Pid, Settings};
 use mapping::Tree;
 use page_runs::TermDone;
 use split_plan::Name;
@@ -30,7 +28,7 @@ pub(crate) struct Changed {
 
 /// Cuts the groups of a level that are rewritten, draws the numbers of their new pieces, and works their parents, which are so many
 /// levels below the root. These of the level's pages were worked. Where memory is refused, the tree is as it was.
-pub(crate) fn change_level<D: Revised>(
+pub(crate) fn change_level<D: WorkedPage>(
     rt: &(impl Threads + Sync),
     crew: Crew,
     gate: &impl Gate,
@@ -41,16 +39,18 @@ pub(crate) fn change_level<D: Revised>(
     dones: &[D],
 ) -> Result<Changed, AllocError>
     requires fan { 1 < settings.now.fan }
-    requires level { (ws : List (Worked D.Cells)) × (ps : List (Placed ℕ)) × (ups : List (List (Placed ℕ))) × (used : List ℕ) × (i : ℕ)
-        × IsLevel D.of tree.old (map D.seen dones.now) ws (ps ∷ ups) used i × (depth ≡ length ups) }
-    ensures changed { IfOk result (λ c. (ws : List (Worked D.Cells)) (ps : List (Placed ℕ)) (ups : List (List (Placed ℕ))) (used : List ℕ) (i : ℕ) →
-        IsLevel D.of tree.old (map D.seen dones.now) ws (ps ∷ ups) used i → depth ≡ length ups → IsChanged settings.now D.of tree.old tree.new ws ps used i c.groups.items c.parents.items) }
+    requires level { SomeChildren D.of tree.old (map D.seen_page dones.now) depth }
+    ensures changed { IfOk result (λ c. ChangesFrom D.of settings.now tree.old tree.new
+        (map D.seen_page dones.now) depth c.groups.items c.parents.items) }
     ensures err { OnErr result (tree.new ≡ tree.old) }
 {
     D::is_of_a_kind();
-    let (parents, freed, mut groups) = cut_level(
-        rt, crew, gate, alloc, settings, tree, depth, dones,
-    )?;
+    let cut = cut_level(rt, crew, gate, alloc, settings, tree, depth, dones)?;
+    let CutLevel {
+        parents,
+        freed,
+        mut groups,
+    } = cut;
     draw_all(tree, &mut groups)?;
     match tell_parents(
         rt, crew, gate, alloc, settings, tree, &parents, freed, &groups,
@@ -72,28 +72,43 @@ fn tell_parents(
     alloc: Global,
     settings: &Settings,
     tree: &mut Tree<Global>,
-    parents: &[(u64, usize)],
+    parents: &[(Pid, usize)],
     freed: Vec<Vec<Name>>,
     groups: &[Rewritten],
 ) -> Result<Vec<TermDone>, AllocError>
     requires rising { AreRisingPids (pids_in_use tree.old.table) }
-    requires names { CanBeTold parents.now (map (λ names. names.items) freed.items) groups.now }
-    requires home { AreParentsHome tree.old.table (map (λ t. t.0) (terms_by_parent parents.now (map (λ names. names.items) freed.items) groups.now)) }
+    requires names { CanBeTold parents.now (all_names freed.items) groups.now }
+    requires home { AreParentsHome tree.old.table
+        (told_pids parents.now (all_names freed.items) groups.now) }
     ensures made { IfOk result (λ dones. map (λ d. d.made) dones.items ≡
-        map (λ t. index_made settings.now (parent_held tree.old.table t)) (terms_by_parent parents.now (map (λ names. names.items) freed.items) groups.now)) }
+        map (λ t. index_made settings.now (parent_held tree.old.table t))
+        (terms_by_parent parents.now (all_names freed.items) groups.now)) }
     ensures held { IfOk result (λ dones. map (λ d. d.held) dones.items ≡
-        map (parent_held tree.old.table) (terms_by_parent parents.now (map (λ names. names.items) freed.items) groups.now)) }
-    ensures taken { OnOk result (tree.new ≡ record tree.old
-        { table = all_taken tree.old.table (map (λ t. t.0) (terms_by_parent parents.now (map (λ names. names.items) freed.items) groups.now)) }) }
+        map (parent_held tree.old.table)
+        (terms_by_parent parents.now (all_names freed.items) groups.now)) }
+    ensures taken { OnOk result (tree.new ≡ record tree.old {
+      table = all_taken tree.old.table
+          (told_pids parents.now (all_names freed.items) groups.now);
+    }) }
     ensures err { OnErr result (tree.new ≡ tree.old) }
 {
     let told = all_terms(alloc, parents, freed, groups)?;
     work_parents(rt, crew, gate, alloc, settings, tree, told)
 }
 
-// The parents of the groups that are rewritten, with how many each has; the names that are freed in each group; and the
-// groups, cut.
-fn cut_level<D: Revised>(
+// The groups of a level that are rewritten, cut.
+#[derive(Drop)]
+struct CutLevel {
+    // Their parents, with how many of the groups each has.
+    parents: Vec<(Pid, usize)>,
+    // The names that are freed in each group.
+    freed: Vec<Vec<Name>>,
+    // The groups.
+    groups: Vec<Rewritten>,
+}
+
+// Cuts the groups of a level that are rewritten.
+fn cut_level<D: WorkedPage>(
     rt: &(impl Threads + Sync),
     crew: Crew,
     gate: &impl Gate,
@@ -102,17 +117,21 @@ fn cut_level<D: Revised>(
     tree: &Tree<Global>,
     depth: u32,
     dones: &[D],
-) -> Result<(Vec<(u64, usize)>, Vec<Vec<Name>>, Vec<Rewritten>), AllocError>
+) -> Result<CutLevel, AllocError>
     requires fan { 0 < settings.now.fan }
-    requires level { (ws : List (Worked D.Cells)) × (ps : List (Placed ℕ)) × (ups : List (List (Placed ℕ))) × (used : List ℕ) × (i : ℕ)
-        × IsLevel D.of tree.now (map D.seen dones.now) ws (ps ∷ ups) used i × (depth ≡ length ups) }
-    ensures cut { IfOk result (λ r. (ws : List (Worked D.Cells)) (ps : List (Placed ℕ)) (ups : List (List (Placed ℕ))) (used : List ℕ) (i : ℕ) →
-        IsLevel D.of tree.now (map D.seen dones.now) ws (ps ∷ ups) used i → depth ≡ length ups → IsCut settings.now D.of ws ps r.0.items (map (λ names. names.items) r.1.items) r.2.items) }
+    requires level { SomeChildren D.of tree.now (map D.seen_page dones.now) depth }
+    ensures cut { IfOk result (λ cut. CutsFrom D.of settings.now tree.now
+        (map D.seen_page dones.now) depth
+        cut.parents.items (all_names cut.freed.items) cut.groups.items) }
 {
     D::is_of_a_kind();
     let seen = see_all(alloc, dones)?;
     let to_rewrite = rewrites(alloc, tree, depth, &seen)?;
     let freed = all_freed(alloc, &to_rewrite.groups)?;
     let groups = cut_all(rt, crew, gate, alloc, settings, &to_rewrite.groups)?;
-    Ok((to_rewrite.parents, freed, groups))
+    Ok(CutLevel {
+        parents: to_rewrite.parents,
+        freed,
+        groups,
+    })
 }

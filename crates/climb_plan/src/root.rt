@@ -1,14 +1,11 @@
 //! The root: levels grow above it where it was cut.
-ghost use Rattle.std.specs.Prelude.{◌≡◌, ◌+◌, ◌<◌, ◌≤◌, ℕ, List, Err, length, IfOk, OnErr};
+ghost use Rattle.std.specs.Prelude.{◌≡◌, ◌+◌, ◌<◌, ◌≤◌, Err, length, IfOk, OnErr};
 ghost use Rattle.keys.specs.Order.{IsRising};
-ghost use Rattle.mapping.specs.Levels.{Placed, names, top_pid};
-ghost use Rattle.mapping.specs.FreshPids.{unused};
 ghost use Rattle.mapping.specs.Proper.{AreRisingPids};
 ghost use Rattle.mapping.specs.Table.{pids_in_use, fresh_pids, IsOldWithoutPlace};
 ghost use Rattle.mapping.specs.Tree.{most_levels};
-ghost use Rattle.climb_plan.specs.Climb.{grown};
 ghost use Rattle.climb_plan.specs.Rewriting.{named_pages};
-ghost use Rattle.climb_plan.specs.Installing.{AreDrawn, AreGrown};
+ghost use Rattle.climb_plan.specs.Installing.{AreDrawn, OfGrown, HasGrown};
 ghost use Rattle.climb_plan.specs.declared.refused.Refused.TheVariants.{TooHigh};
 
 use crate::change::free_all;
@@ -41,13 +38,11 @@ pub(crate) fn grow(
     requires rising { AreRisingPids (pids_in_use tree.old.table) }
     requires logs { IsOldWithoutPlace tree.old.table }
     requires height { height ≤ most_levels }
-    ensures grown { (used : List ℕ) (i : ℕ) (ps : List (Placed ℕ)) → ((m : ℕ) → unused (pids_in_use tree.old.table) m ≡ unused used (i + m)) → names ps ≡ below.now →
-        IfOk result (λ top. (top.0 ≡ top_pid ps (grown (length ps) settings.now used i ps)) × (top.1 ≡ height + length (grown (length ps) settings.now used i ps))
-        × AreGrown tree.old tree.new (grown (length ps) settings.now used i ps)) }
+    ensures grown { OfGrown settings.now tree.old.table below.now
+        (λ ps ls. IfOk result (λ top. HasGrown tree.old tree.new top height ps ls)) }
     ensures low { IfOk result (λ top. top.1 ≤ most_levels) }
-    ensures high { (used : List ℕ) (i : ℕ) (ps : List (Placed ℕ)) → ((m : ℕ) → unused (pids_in_use tree.old.table) m ≡ unused used (i + m)) → names ps ≡ below.now →
-        result ≡ Err TooHigh →
-        most_levels < height + length (grown (length ps) settings.now used i ps) }
+    ensures high { OfGrown settings.now tree.old.table below.now
+        (λ ps ls. result ≡ Err TooHigh → most_levels < height + length ls) }
     ensures err { OnErr result (tree.new ≡ tree.old) }
 {
     if below.len() == 1 {
@@ -79,7 +74,8 @@ fn draw_names(
 ) -> Result<(Vec<u64>, Vec<Name>), AllocError>
     requires rising { AreRisingPids (pids_in_use tree.old.table) }
     requires logs { IsOldWithoutPlace tree.old.table }
-    ensures pids { IfOk result (λ drawn. drawn.0.items ≡ fresh_pids (pids_in_use tree.old.table) (length pages.now)) }
+    ensures pids { IfOk result (λ drawn. drawn.0.items ≡
+        fresh_pids (pids_in_use tree.old.table) (length pages.now)) }
     ensures names { IfOk result (λ drawn. drawn.1.items ≡ named_pages pages.now drawn.0.items) }
     ensures drawn { IfOk result (λ drawn. AreDrawn tree.old tree.new drawn.0.items) }
     ensures err { OnErr result (tree.new ≡ tree.old) }
@@ -97,7 +93,8 @@ fn draw_names(
 // Draws so many new page ids, whose places are away.
 fn draw(tree: &mut Tree<Global>, count: usize) -> Result<Vec<u64>, AllocError>
     requires { AreRisingPids (pids_in_use tree.old.table) }
-    ensures pids { IfOk result (λ pids. pids.items ≡ fresh_pids (pids_in_use tree.old.table) count) }
+    ensures pids { IfOk result (λ pids. pids.items ≡
+        fresh_pids (pids_in_use tree.old.table) count) }
     ensures drawn { IfOk result (λ pids. AreDrawn tree.old tree.new pids.items) }
     ensures err { OnErr result (tree.new ≡ tree.old) }
 {

@@ -14,8 +14,10 @@ use std::alloc::Global;
 
 /// While the root is an index page with one child, gives up its place, and the child is the root. It takes no memory.
 pub(crate) fn shrink(tree: &mut Tree<Global>)
-    requires { (level : List (Placed Bytes)) × (ls : List (List (Placed ℕ))) × CanShrink tree.old level ls }
-    ensures { (level : List (Placed Bytes)) (ls : List (List (Placed ℕ))) → CanShrink tree.old level ls → HasShrunk tree.old tree.new level ls }
+    requires { (level : List (Placed Bytes)) × (ls : List (List (Placed ℕ))) ×
+        CanShrink tree.old level ls }
+    ensures { (level : List (Placed Bytes)) (ls : List (List (Placed ℕ))) →
+        CanShrink tree.old level ls → HasShrunk tree.old tree.new level ls }
 {
     while tree.height() > 1 {
         let Some(child) = only_child(tree) else {
@@ -29,7 +31,11 @@ pub(crate) fn shrink(tree: &mut Tree<Global>)
 fn lower_root(tree: &mut Tree<Global>, child: Pid)
     requires home { IsSome (page_of tree.old.table tree.old.root) }
     requires some { 1 < tree.old.height }
-    ensures { tree.new ≡ record { table = freed (with_place tree.old.table tree.old.root None) tree.old.root; root = child; height = tree.old.height - 1 } }
+    ensures { tree.new ≡ record {
+      table = freed (with_place tree.old.table tree.old.root None) tree.old.root;
+      root = child;
+      height = tree.old.height - 1;
+    } }
 {
     let root = tree.root();
     let _gone = tree.take(root);
@@ -40,7 +46,8 @@ fn lower_root(tree: &mut Tree<Global>, child: Pid)
 // The page id of the root's child, where the root is an index page with just one.
 fn only_child(tree: &Tree<Global>) -> Option<Pid>
     requires { IsRising (child_entries (page_or_none (page_of tree.now.table tree.now.root))) }
-    ensures { result ≡ only_pid (child_entries (page_or_none (page_of tree.now.table tree.now.root))) }
+    ensures { result ≡
+        only_pid (child_entries (page_or_none (page_of tree.now.table tree.now.root))) }
 {
     let page = tree.page(tree.root())?;
     let mut children = page.children(b"", None);

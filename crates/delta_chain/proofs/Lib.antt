@@ -1,3 +1,4 @@
+mod Alone
 pub mod Counts
 pub mod LayerLaws
 pub mod Lending

@@ -24,7 +24,7 @@ use Rattle.page_runs.specs.declared.leaf_work.LeafJob.{LeafJob}
 use Rattle.replies.specs.ByPlace.{reply_at, AreAnswers}
 use Rattle.climb_plan.specs.Installing.{all_taken, all_put, AreAway, page_or_none}
 use Rattle.climb_plan.proofs.Installing.{KeepsOthers, all_kept, placed_apart, tree_taken, tree_put}
-use Rattle.climb_plan.proofs.InstallingLaws.{away-all_taken, put_back_is_before}
+use Rattle.climb_plan.proofs.InstallingLemmas.{away-all_taken, put_back_is_before}
 use Rattle.engine.specs.Leaves.{IsLeafAt, AreLeavesHome, AreLeafRoutes, route_pids, leaf_held, leaves_made, answers}
 
 -- ---- answers are taken, one leaf after the other

@@ -37,7 +37,7 @@ use Rattle.page_runs.proofs.EndedBatch.{AreNear, near_ends, EndsBefore, AllEndBe
 use Rattle.replies.specs.ByPlace.{joined_replies, joined_replies_at, reply_at, pieces_at, is_rows, AreAnswers}
 use Rattle.split_plan.specs.WorkedLevel.{worked_leaves}
 use Rattle.climb_plan.specs.Climb.{Climbed, climb}
-use Rattle.climb_plan.specs.Plan.{shrunk, shrunk_pids, planned_tree}
+use Rattle.climb_plan.specs.Plan.{shrunk_levels, shrunk_pids, planned_tree}
 use Rattle.climb_plan.specs.Installing.{page_or_none}
 use Rattle.engine.specs.Leaves.{leaf_held, leaves_made}
 use Rattle.engine.proofs.LeafRoutes.{HoldsPart}
@@ -96,7 +96,7 @@ abbrev tree_by : Settings → Tree → Changes → Tree
 tree_by s t run =
     let l = levels_of t in
     let c : Climbed (List ℕ) = climb s (keys_of t.pages) 0 (worked_leaves s run l.level) l.above in
-    let after = shrunk c in
+    let after = shrunk_levels c in
     record {
       pages = by_pid (all_pages after);
       root = top_pid after.level after.above;

@@ -12,7 +12,7 @@ use Rattle.mapping.specs.TreeInMemory.{TreeInMemory, AreAllHome, tree_of}
 use Rattle.page_runs.specs.LeafWork.{LeafHeld, LeafWorked}
 use Rattle.climb_plan.specs.declared.refused.Refused.{Refused}
 use Rattle.climb_plan.specs.declared.refused.Refused.TheVariants.{NoMemory, TooHigh}
-use Rattle.climb_plan.specs.Changing.{SeenPage, shown}
+use Rattle.climb_plan.specs.Changing.{SeenPage, page_seen}
 use Rattle.climb_plan.specs.Plan.{planned_tree}
 use Rattle.climb_plan.specs.Ready.{IsReady}
 use Rattle.engine.specs.Batch.{IsLaterFault, fault_by}
@@ -24,7 +24,7 @@ abbrev pub held_all : List LeafWorked → List LeafHeld
 held_all ds = map (λ d. d.held) ds
 
 abbrev pub seen_leaves : List LeafWorked → List SeenPage
-seen_leaves ds = map (λ d. shown Leaf d.made.worked) ds
+seen_leaves ds = map (λ d. page_seen Leaf d.made.worked) ds
 
 held_without : (ds : List LeafWorked) → held_all (map without_answers ds) ≡ held_all ds
 held_without [] = refl
@@ -32,7 +32,7 @@ held_without (d ∷ ds) = ap (λ (hs : List LeafHeld). d.held ∷ hs) (held_with
 
 seen_without : (ds : List LeafWorked) → seen_leaves (map without_answers ds) ≡ seen_leaves ds
 seen_without [] = refl
-seen_without (d ∷ ds) = ap (λ (xs : List SeenPage). shown Leaf d.made.worked ∷ xs) (seen_without ds)
+seen_without (d ∷ ds) = ap (λ (xs : List SeenPage). page_seen Leaf d.made.worked ∷ xs) (seen_without ds)
 
 -- leaves that are the same but for their answers held the same, and are seen as the same
 pub same_held : (ds es : List LeafWorked) → map without_answers ds ≡ map without_answers es → held_all ds ≡ held_all es

@@ -21,14 +21,14 @@ use Rattle.routing.specs.Routes.{Route, routes}
 use Rattle.page_runs.specs.LeafWork.{LeafMade}
 use Rattle.page_runs.specs.NetRun.{net_run}
 use Rattle.split_plan.specs.WorkedLevel.{worked_leaves}
-use Rattle.climb_plan.specs.Changing.{shown, AreSeen, AreHome}
+use Rattle.climb_plan.specs.Changing.{page_seen, AreSeen, AreHome}
 use Rattle.climb_plan.specs.Installing.{all_taken, all_put, AreAway, page_or_none}
 use Rattle.climb_plan.specs.Ready.{IsReady}
 use Rattle.climb_plan.proofs.ArrivedPages.{home_keys}
 use Rattle.climb_plan.proofs.BridgeTables.{taken_others, taken_logged, taken_pids}
 use Rattle.climb_plan.proofs.Climbing.{still_home_above}
 use Rattle.climb_plan.proofs.Installing.{distinct_first}
-use Rattle.climb_plan.proofs.InstallingLaws.{none_of, not_among, away-all_taken, put_back_is_before, none_behind}
+use Rattle.climb_plan.proofs.InstallingLemmas.{none_of, not_among, away-all_taken, put_back_is_before, none_behind}
 use Rattle.engine.specs.Leaves.{route_pids, leaves_made}
 use Rattle.engine.specs.SoundTree.{IsSoundInMemory}
 use Rattle.engine.proofs.OwnRuns.{all_left}
@@ -60,7 +60,7 @@ leaves_here m cs = under_routes m.table (routes_here m cs)
 
 -- what is seen of them, and that the others are at home
 seen_level : (s : Settings) (cs : List (Command Global)) (t : Mapping PageOfKind) (ps : List (Placed (List ℕ))) → next_low ps None ≡ Some [] → Tiled ps None → AreHome Leaf t ps → Distinct (pids ps)
-    → AreSeen Leaf (all_taken t (route_pids (routes ps cs))) (map (λ d. shown Leaf d.worked) (leaves_made s cs t (routes ps cs))) (worked_leaves s (net_run (joined ps) cs) ps)
+    → AreSeen Leaf (all_taken t (route_pids (routes ps cs))) (map (λ d. page_seen Leaf d.worked) (leaves_made s cs t (routes ps cs))) (worked_leaves s (net_run (joined ps) cs) ps)
 seen_level s cs t [] e tiled h d = absurd (cc)
 seen_level s cs t (p ∷ ps) e tiled h d =
     let least : p.page.low ≡ [] = cc in
@@ -151,7 +151,7 @@ module _ (s : Settings) (m : TreeInMemory) (cs : List (Command Global)) (sound :
       ∙ sym (home_keys m.table.places sound.home)
 
   -- the tree is ready to climb
-  pub ready_here : IsReady s (tree_of m) cs (taken_here m cs) (map (λ d. shown Leaf d.worked) (made_here s m cs))
+  pub ready_here : IsReady s (tree_of m) cs (taken_here m cs) (map (λ d. page_seen Leaf d.worked) (made_here s m cs))
   ready_here = record {
     proper = sound.sound.proper;
     logs = sound.sound.logs;

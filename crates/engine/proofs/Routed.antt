@@ -22,7 +22,7 @@ use Rattle.mapping.proofs.TileLaws.{rising-joined}
 use Rattle.page_runs.specs.LeafWork.{LeafHeld, LeafMade, LeafWorked}
 use Rattle.replies.specs.ByPlace.{reply_at, AreAnswers}
 use Rattle.routing.specs.Routes.{Route}
-use Rattle.climb_plan.specs.Changing.{SeenPage, shown}
+use Rattle.climb_plan.specs.Changing.{SeenPage, page_seen}
 use Rattle.climb_plan.specs.Installing.{AreAway, all_taken, all_put, page_or_none}
 use Rattle.climb_plan.specs.Plan.{planned_tree}
 use Rattle.climb_plan.specs.Ready.{IsReady}
@@ -38,9 +38,9 @@ abbrev pub made_all : List LeafWorked → List LeafMade
 made_all ds = map (λ d. d.made) ds
 
 -- what is seen of leaves is of what was made of them
-seen_by_made : (ds : List LeafWorked) → seen_leaves ds ≡ map (λ x. shown Leaf x.worked) (made_all ds)
+seen_by_made : (ds : List LeafWorked) → seen_leaves ds ≡ map (λ x. page_seen Leaf x.worked) (made_all ds)
 seen_by_made [] = refl
-seen_by_made (d ∷ ds) = ap (λ (xs : List SeenPage). shown Leaf d.made.worked ∷ xs) (seen_by_made ds)
+seen_by_made (d ∷ ds) = ap (λ (xs : List SeenPage). page_seen Leaf d.made.worked ∷ xs) (seen_by_made ds)
 
 pids_held : (ds : List LeafWorked) → map (λ d. d.held.route.pid) ds ≡ map (λ h. h.route.pid) (held_all ds)
 pids_held [] = refl
@@ -108,7 +108,7 @@ module _ (s : Settings) (m : TreeInMemory) (cs : List (Command Global)) (sound :
       is_ready : IsReady s (tree_of m) ended now (seen_leaves ds)
       is_ready =
           let there : now ≡ without_leaves m (routes_here m ended) = taken ∙ ap (λ (xs : List Route). without_leaves m xs) are_here in
-          let seen : seen_leaves ds ≡ map (λ x. shown Leaf x.worked) (leaves_made s ended m.table (routes_here m ended)) = seen_by_made ds ∙ ap (λ (ms : List LeafMade). map (λ x. shown Leaf x.worked) ms) made_here in
+          let seen : seen_leaves ds ≡ map (λ x. page_seen Leaf x.worked) (leaves_made s ended m.table (routes_here m ended)) = seen_by_made ds ∙ ap (λ (ms : List LeafMade). map (λ x. page_seen Leaf x.worked) ms) made_here in
           rw (there, seen) (ready_here s m ended sound)
 
       pub some_ready : (t : Tree) × (bs : List (Command Global)) × IsReady s t bs now (seen_leaves ds)

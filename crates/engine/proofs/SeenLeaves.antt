@@ -22,12 +22,12 @@ use Rattle.page_runs.specs.Replies.{commands_at}
 use Rattle.page_runs.specs.Worked.{Worked, worked}
 use Rattle.page_runs.proofs.NetLaws.{Pairs, Changes}
 use Rattle.split_plan.specs.WorkedLevel.{part_below, part_from, worked_leaves}
-use Rattle.climb_plan.specs.Changing.{SeenPage, shown, AreSeen, AreHome}
+use Rattle.climb_plan.specs.Changing.{SeenPage, page_seen, AreSeen, AreHome}
 use Rattle.climb_plan.specs.Changing.AreSeen.{none as none_seen, worked as worked_seen, at_home as home_seen}
 use Rattle.climb_plan.specs.Installing.{all_taken, page_or_none}
 use Rattle.climb_plan.proofs.BridgeTables.{taken_others, taken_away}
 use Rattle.climb_plan.proofs.Climbing.{still_home}
-use Rattle.climb_plan.proofs.InstallingLaws.{not_among}
+use Rattle.climb_plan.proofs.InstallingLemmas.{not_among}
 use Rattle.engine.specs.Leaves.{route_pids, leaf_held, leaves_made}
 use Rattle.engine.proofs.CommandsWithin.{commands_within}
 use Rattle.engine.proofs.OwnRuns.{IsLeft, last_part, first_part, later_part}
@@ -70,7 +70,7 @@ still_there u k ps d h =
 module _ (s : Settings) (cs : List (Command Global)) (t : Mapping PageOfKind) where
   -- what is seen of the leaves that were taken out of this table
   abbrev pub seen_of : List Route → List SeenPage
-  seen_of rs = map (λ d. shown Leaf d.worked) (leaves_made s cs t rs)
+  seen_of rs = map (λ d. page_seen Leaf d.worked) (leaves_made s cs t rs)
 
   made_is : (p : Placed (List ℕ)) (places : List ℕ) (run : Changes) → place_of t p.pid ≡ Some (Some (Leaf p.page)) → net_run (entries p) (commands_at cs places) ≡ run
       → (leaf_made s cs (leaf_held t (record { pid = p.pid; places = places }))).worked ≡ worked s p run
@@ -84,7 +84,7 @@ module _ (s : Settings) (cs : List (Command Global)) (t : Mapping PageOfKind) wh
   seen_by p [] run rs ws u h k e n a b =
       subst (λ (r : Changes). AreSeen Leaf (all_taken u (route_pids rs)) (seen_of rs) (worked s p r ∷ ws)) (sym e) (home_seen p (taken_others u (route_pids rs) p.pid n ∙ k) a)
   seen_by p (i ∷ is) run rs ws u h k e n a b =
-      subst (λ (w : Worked (List ℕ)). AreSeen Leaf (all_taken (with_place u p.pid None) (route_pids rs)) (shown Leaf w ∷ seen_of rs) (worked s p run ∷ ws)) (sym (made_is p (i ∷ is) run h (sym e)))
+      subst (λ (w : Worked (List ℕ)). AreSeen Leaf (all_taken (with_place u p.pid None) (route_pids rs)) (page_seen Leaf w ∷ seen_of rs) (worked s p run ∷ ws)) (sym (made_is p (i ∷ is) run h (sym e)))
       (worked_seen (worked s p run) (first_taken u p.pid (route_pids rs)) b)
 
   -- ---- all of them

@@ -10,7 +10,7 @@ ghost use Rattle.mapping.specs.Tree as definitions;
 ghost use Rattle.mapping.specs.Tree.{most_levels};
 ghost use Rattle.mapping.specs.TreeInMemory.{AreAllHome, tree_of};
 ghost use Rattle.replies.specs.ByPlace.{AreAnswers, reply_at};
-ghost use Rattle.climb_plan.specs.Changing.{shown};
+ghost use Rattle.climb_plan.specs.Changing.{page_seen};
 ghost use Rattle.climb_plan.specs.Limits.{AreShort};
 ghost use Rattle.climb_plan.specs.Plan.{planned_tree};
 ghost use Rattle.climb_plan.specs.Ready.{IsReady};
@@ -126,16 +126,16 @@ fn finish(
 ) -> Result<Vec<Reply<Global>>, (Fault, Vec<LeafDone>)>
     requires fan { 1 < work.now.settings.fan }
     requires answered { AreAnswers work.now.commands.now (answers (map (λ d. d.made) leaves.items)) }
-    requires ready { (t : definitions.Tree) × (cs : List (Command Global)) × IsReady work.now.settings t cs tree.old (map (λ d. shown Leaf d.made.worked) leaves.items) }
+    requires ready { (t : definitions.Tree) × (cs : List (Command Global)) × IsReady work.now.settings t cs tree.old (map (λ d. page_seen Leaf d.made.worked) leaves.items) }
     requires height { tree.old.height ≤ most_levels }
     ensures replies { IfOk result (λ replies. (place : ℕ) → slice_get replies.items place ≡ reply_at work.now.commands.now (answers (map (λ d. d.made) leaves.items)) place) }
-    ensures planned { OnOk result ((t : definitions.Tree) (cs : List (Command Global)) → IsReady work.now.settings t cs tree.old (map (λ d. shown Leaf d.made.worked) leaves.items) →
+    ensures planned { OnOk result ((t : definitions.Tree) (cs : List (Command Global)) → IsReady work.now.settings t cs tree.old (map (λ d. page_seen Leaf d.made.worked) leaves.items) →
         AreAllHome tree.new × (tree_of tree.new ≡ planned_tree work.now.settings t cs)) }
     ensures low { OnOk result (tree.new.height ≤ most_levels) }
     ensures back { IfErr result (λ e. map (λ d. d.held) e.1.items ≡ map (λ d. d.held) leaves.items) }
     ensures err { OnErr result (tree.new ≡ tree.old) }
     ensures fault { IfErr result (λ e. (t : definitions.Tree) (cs : List (Command Global)) →
-        IsReady work.now.settings t cs tree.old (map (λ d. shown Leaf d.made.worked) leaves.items) → IsLaterFault work.now.settings t cs e.0) }
+        IsReady work.now.settings t cs tree.old (map (λ d. page_seen Leaf d.made.worked) leaves.items) → IsLaterFault work.now.settings t cs e.0) }
 {
     let Ok(replies) = take_replies(work.alloc, &mut leaves, work.commands) else {
         return Err((Fault::NoMemory, leaves));

@@ -1,4 +1,5 @@
 pub mod ChildLaws
+mod CountLemmas
 pub mod WithinLaws
 pub mod ListLaws
 pub mod PageLaws

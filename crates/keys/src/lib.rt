@@ -14,6 +14,7 @@ pub mod pid;
 pub mod piece;
 pub mod row_list;
 pub mod settings;
+mod short_bytes;
 pub mod value;
 
 pub use crate::cell::Cell;

@@ -6,8 +6,8 @@ use Rattle.climb_plan.proofs.seen.see_all.Goals as goal
 pub loop-done-preserved : goal.loop-done-preserved
 loop-done-preserved g c = record {
   made =
-      copied_more seen_now g.D.Revised.seen c.loop-done.all.items c.push_reserved.new.self.items c.seen.result c.args.dones.now c.loop-done.done-index c.done-item.result c.loop-done-test.true
-      c.push_reserved.ensures.items c.seen.ensures c.done-item.is c.loop-done.invariant.made;
+      copied_more seen_now g.D.WorkedPage.seen_page c.loop-done.all.items c.push_reserved.new.self.items c.as_seen.result c.args.dones.now c.loop-done.done-index c.done-item.result c.loop-done-test.true
+      c.push_reserved.ensures.items c.as_seen.ensures c.done-item.is c.loop-done.invariant.made;
   count = omega (arith, c.push_reserved.ensures.len);
   room = rw c.push_reserved.ensures.capacity c.loop-done.invariant.room;
 }

@@ -1,0 +1,12 @@
+use Rattle.std.proofs.Common.{◌≡◌, map}
+use Rattle.std.specs.Vec.Iter.{into_iter_items}
+use Rattle.climb_plan.specs.Installing.{AreAway}
+use Rattle.climb_plan.proofs.Installing.{tree_home}
+use Rattle.climb_plan.proofs.install.rests_once_home.Given as goal
+
+-- the places of the pages that are left are away, and these home in the tree now are all home in the tree before
+abbrev pub invariant-loop-done : goal.invariant-loop-done
+invariant-loop-done g l = record {
+  away : AreAway l.tree.table (map (λ d. (g.D.WorkedPage.seen_page d).pid) (into_iter_items l.done-iterator));
+  home : tree_home l.tree (map g.D.WorkedPage.seen_page (into_iter_items l.done-iterator)) ≡ tree_home l.fn.tree (map g.D.WorkedPage.seen_page l.fn.dones.items);
+}
