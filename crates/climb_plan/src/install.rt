@@ -85,13 +85,23 @@ fn put_back(tree: &mut Tree<Global>, jobs: Vec<TermJob>)
     } }
 {
     for job in jobs {
-        let TermJob {
-            page,
-            pid,
-            terms: _terms,
-        } = job;
-        tree.put(pid, page);
+        put_job_back(tree, job);
     }
+}
+
+// Puts the page of the job back into its place.
+fn put_job_back(tree: &mut Tree<Global>, job: TermJob)
+    requires { place_of tree.old.table job.pid ≡ Some None }
+    ensures { tree.new ≡ record tree.old {
+      table = with_place tree.old.table job.pid (Some job.page);
+    } }
+{
+    let TermJob {
+        page,
+        pid,
+        terms: _terms,
+    } = job;
+    tree.put(pid, page);
 }
 
 /// Undoes what was made of the parents, and puts them back into their places as they were. It takes no memory.
@@ -111,12 +121,7 @@ pub(crate) fn undo_parents(
         settings: *settings,
     };
     for parent in parents {
-        let TermJob {
-            page,
-            pid,
-            terms: _terms,
-        } = work.undo(parent);
-        tree.put(pid, page);
+        put_job_back(tree, work.undo(parent));
     }
 }
 

@@ -17,8 +17,6 @@ mod marks;
 mod pieces;
 mod progress;
 mod rounds;
-#[cfg(test)]
-mod tests;
 
 pub use crate::dropping::drop_all;
 pub use crate::entry::{Gate, NoGate};

@@ -1,3 +1,5 @@
+pub mod Crossing
+mod Alone
 pub mod Counts
 pub mod LayerLaws
 pub mod Lending

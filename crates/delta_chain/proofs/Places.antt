@@ -30,6 +30,22 @@ module _ {T : Type 0} where
   front_at (e ∷ es) zero h = (e, refl)
   front_at (e ∷ es) (suc at) h = let l : at < length es = omega arith in front_at es at l
 
+  -- the key and the item at a place, by the entry there
+  pub key_of_entry : (es : List (List ℕ × T)) (at : ℕ) (e : List ℕ × T) (k : List ℕ) → slice_get es at ≡ Some e → k ≡ e.0 → slice_get (keys_of es) at ≡ Some k
+  key_of_entry [] at e k h q = absurd (cc)
+  key_of_entry (d ∷ es) zero e k h q = let s : d ≡ e = cc in ap (λ (x : List ℕ × T). Some x.0) s ∙ ap (λ (x : List ℕ). Some x) (sym q)
+  key_of_entry (d ∷ es) (suc at) e k h q = key_of_entry es at e k h q
+
+  pub item_of_entry : (es : List (List ℕ × T)) (at : ℕ) (e : List ℕ × T) → slice_get es at ≡ Some e → slice_get (values_of es) at ≡ Some e.1
+  item_of_entry [] at e h = absurd (cc)
+  item_of_entry (d ∷ es) zero e h = let s : d ≡ e = cc in ap (λ (x : List ℕ × T). Some x.1) s
+  item_of_entry (d ∷ es) (suc at) e h = item_of_entry es at e h
+
+  -- the only place of an entry that stands alone
+  pub alone_at : (e : List ℕ × T) (at : ℕ) → at < length (e ∷ []) → slice_get (e ∷ []) at ≡ Some e
+  alone_at e zero l = refl
+  alone_at e (suc at) l = absurd (omega arith)
+
   -- one more pair put behind others, from what stood behind a place
   pub push_pair : (out es all : List (List ℕ × T)) (at : ℕ) (k : List ℕ) (v : T) → slice_get (keys_of es) at ≡ Some k → slice_get (values_of es) at ≡ Some v → out ++ drop at es ≡ all → (out ++ (k, v) ∷ []) ++ drop (at + 1) es ≡ all
   push_pair out es all at k v h i t =

@@ -1,4 +1,5 @@
 pub mod Building
+pub mod Kept
 pub mod Layers
 pub mod Lent
 pub mod Linked

@@ -17,10 +17,6 @@ use std::mem;
 #[cycle(chain)]
 #[derive(Drop)]
 pub struct Chain<V, A: Allocator> {
-    // How many runs there are, up to the greatest `u64`.
-    depth: u64,
-    // The page has as many entries, or more.
-    fewest: usize,
     link: Link<V, A>,
 }
 
@@ -28,7 +24,19 @@ pub struct Chain<V, A: Allocator> {
 #[derive(Drop)]
 enum Link<V, A: Allocator> {
     Bottom(Base<V, A>),
-    Front(Run<V, A>, Box<Chain<V, A>, A>),
+    Front(Box<Layer<V, A>, A>),
+}
+
+// A run and what lies below it, in one block, so that a look-up fetches one block for each run.
+#[cycle(chain)]
+#[derive(Drop)]
+struct Layer<V, A: Allocator> {
+    // How many runs there are, with this one, up to the greatest `u64`.
+    depth: u64,
+    // The page has as many entries, or more.
+    fewest: usize,
+    run: Run<V, A>,
+    below: Chain<V, A>,
 }
 
 impl<V, A: Allocator> Model for Chain<V, A> {
@@ -41,7 +49,7 @@ impl<V, A: Allocator> Model for Chain<V, A> {
 
     ghost view = { λ c. layers_of c.link };
 
-    ghost invariant = { λ c. IsLinked c.depth c.fewest c.link };
+    ghost invariant = { λ c. IsLinked c.link };
 
     ghost size = { λ c. length c.runs };
 
@@ -55,9 +63,9 @@ impl<V, A: Allocator + Copy> Chain<V, A> {
     pub fn of_base(base: Base<V, A>) -> Self
         ensures { result ≡ record { runs = []; base = base } }
     {
+        // `len` is called only for the proof: it says that the keys rise.
+        let _rising = base.len();
         Chain {
-            depth: 0,
-            fewest: base.len(),
             link: Link::Bottom(base),
         }
     }
@@ -67,7 +75,10 @@ impl<V, A: Allocator + Copy> Chain<V, A> {
         ensures count { result ≡ min (depth_of self.now) u64.MAX }
         ensures rising { IsInOrder self.now }
     {
-        self.depth
+        match &self.link {
+            Link::Bottom(_) => 0,
+            Link::Front(layer) => layer.depth,
+        }
     }
 
     /// A number of entries that the page has at least, which is had without a look at any of them: what a base alone has, less as
@@ -75,15 +86,21 @@ impl<V, A: Allocator + Copy> Chain<V, A> {
     pub fn fewest_entries(&self) -> usize
         ensures { result ≤ length (entries_of self.now) }
     {
-        self.fewest
+        match &self.link {
+            Link::Bottom(base) => base.len(),
+            Link::Front(layer) => layer.fewest,
+        }
     }
 
-    /// Tells the chain that the page has as many entries, or more, where the caller knows. It holds until another run comes in front.
+    /// Tells the chain that the page has as many entries, or more, where the caller knows. It holds until another run comes in front; a
+    /// base alone knows how many it has.
     pub fn raise_fewest(&mut self, entries: usize)
         requires { entries ≤ length (entries_of self.old) }
         ensures { self.new ≡ self.old }
     {
-        self.fewest = self.fewest.max(entries);
+        if let Link::Front(layer) = &mut self.link {
+            layer.fewest = layer.fewest.max(entries);
+        }
     }
 
     /// The newest run and the chain behind it, or none where the base stands alone.
@@ -92,7 +109,7 @@ impl<V, A: Allocator + Copy> Chain<V, A> {
     {
         match &self.link {
             Link::Bottom(_) => None,
-            Link::Front(run, below) => Some((run, below)),
+            Link::Front(layer) => Some((&layer.run, &layer.below)),
         }
     }
 
@@ -102,7 +119,7 @@ impl<V, A: Allocator + Copy> Chain<V, A> {
     {
         match &self.link {
             Link::Bottom(base) => base,
-            Link::Front(_, below) => below.base(),
+            Link::Front(layer) => layer.below.base(),
         }
     }
 
@@ -127,9 +144,9 @@ impl<V, A: Allocator + Copy> Chain<V, A> {
     {
         match &self.link {
             Link::Bottom(_) => Ok(Pairs::of_list(Vec::new(alloc))),
-            Link::Front(run, below) => {
-                let older = below.changes(alloc)?;
-                overlaid(alloc, &older, run)
+            Link::Front(layer) => {
+                let older = layer.below.changes(alloc)?;
+                overlaid(alloc, &older, &layer.run)
             }
         }
     }
@@ -137,7 +154,7 @@ impl<V, A: Allocator + Copy> Chain<V, A> {
     fn alloc(&self) -> A {
         match &self.link {
             Link::Bottom(base) => base.alloc(),
-            Link::Front(run, _) => run.alloc(),
+            Link::Front(layer) => layer.run.alloc(),
         }
     }
 }
@@ -152,19 +169,29 @@ impl<V: Drop, A: Allocator + Copy> Chain<V, A> {
         let alloc = run.alloc();
         let depth = self.depth().saturating_add(1);
         // A change takes one entry away at most.
-        let fewest = self.fewest.saturating_sub(run.len());
+        let fewest = self.fewest_entries().saturating_sub(run.len());
         let whole = mem::replace(self, Chain::of_base(Base::empty(alloc)));
-        match Box::new(alloc, whole) {
-            Ok(below) => {
-                *self = Chain {
-                    depth,
-                    fewest,
-                    link: Link::Front(run, below),
+        let layer = Layer {
+            depth,
+            fewest,
+            run,
+            below: whole,
+        };
+        match Box::new(alloc, layer) {
+            Ok(layer) => {
+                let chain = Chain {
+                    link: Link::Front(layer),
                 };
+                *self = chain;
                 Ok(())
             }
             Err(refused) => {
-                *self = refused.value;
+                let Layer {
+                    run,
+                    below: whole,
+                    ..
+                } = refused.value;
+                *self = whole;
                 Err((AllocError, run))
             }
         }
@@ -180,8 +207,9 @@ impl<V: Drop, A: Allocator + Copy> Chain<V, A> {
                 *self = Chain::of_base(base);
                 None
             }
-            Link::Front(run, below) => {
-                *self = Box::into_inner(below);
+            Link::Front(layer) => {
+                let Layer { run, below, .. } = Box::into_inner(layer);
+                *self = below;
                 Some(run)
             }
         }

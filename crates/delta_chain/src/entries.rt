@@ -1,18 +1,30 @@
-ghost use Rattle.std.specs.Prelude.{◌≡◌, ◌<◌, ◌≤◌, ◌∷◌, ◌++◌, [], true, length, slice_get, Some, None, MatchResult, IfOk, OnOk, OnErr};
+ghost use Rattle.std.specs.Prelude.{◌≡◌, ◌<◌, ◌≤◌, ◌∷◌, ◌++◌, [], true, length, set, slice_get, vec_capacity, Some, None, MatchResult, IfOk, OnOk, OnErr};
 ghost use Rattle.std.specs.List.{insert};
 ghost use Rattle.std.specs.Map.{keys_of, values_of};
 ghost use Rattle.keys.specs.Order.{IsRising};
 ghost use Rattle.keys.specs.OrderedMap.{value_at, with_pair};
 ghost use Rattle.delta_chain.specs.Building.{goes_last};
+ghost use Rattle.delta_chain.specs.Kept.{entries_kept};
 
 use keys::{Key, KeyRef, KeyWithWord};
 use std::alloc::{AllocError, Allocator};
+use std::cmp::Ordering;
 use std::marker::Model;
+use std::mem;
 
-/// Items under keys that strictly rise. Each key is in memory of its own, which a search mostly needn't look at.
+/// Items under keys that strictly rise. One entry is kept in place, since most runs have one change, and more than one in a list.
+/// The bytes of a long key stand elsewhere, where a search mostly needn't look.
 #[derive(Drop)]
 pub(crate) struct Entries<T, A: Allocator> {
-    items: Vec<(KeyWithWord<A>, T), A>,
+    alloc: A,
+    kept: KeptEntries<T, A>,
+}
+
+#[derive(Drop)]
+enum KeptEntries<T, A: Allocator> {
+    One((KeyWithWord<A>, T)),
+    // Without capacity it takes no memory, and the first entry makes it a `One`.
+    Many(Vec<(KeyWithWord<A>, T), A>),
 }
 
 impl<T, A: Allocator> Model for Entries<T, A> {
@@ -21,9 +33,11 @@ impl<T, A: Allocator> Model for Entries<T, A> {
 
     ghost Value = { Pairs T };
 
-    ghost view = { λ e. e.items.items };
+    ghost use Rattle.delta_chain.specs.Kept.{entries_kept};
 
-    ghost invariant = { λ e. IsRising e.items.items };
+    ghost view = { λ e. entries_kept e.kept };
+
+    ghost invariant = { λ e. IsRising (entries_kept e.kept) };
 }
 
 impl<T, A: Allocator + Copy> Entries<T, A> {
@@ -32,48 +46,73 @@ impl<T, A: Allocator + Copy> Entries<T, A> {
         ensures { result ≡ [] }
     {
         Entries {
-            items: Vec::new(alloc),
+            alloc,
+            kept: KeptEntries::Many(Vec::new(alloc)),
         }
     }
 
-    // No entries, with room for this many.
+    // No entries, with room for this many. One is kept in place, so that there is room for it without memory.
     pub(crate) fn with_capacity(alloc: A, count: usize) -> Result<Self, AllocError>
         ensures { IfOk result (λ entries. entries ≡ []) }
     {
-        let items = Vec::with_capacity(alloc, count)?;
-        Ok(Entries { items })
+        if count <= 1 {
+            return Ok(Entries::empty(alloc));
+        }
+        let list = Vec::with_capacity(alloc, count)?;
+        Ok(Entries {
+            alloc,
+            kept: KeptEntries::Many(list),
+        })
     }
 
     pub(crate) fn alloc(&self) -> A {
-        *self.items.allocator()
+        self.alloc
     }
 
+    #[inline]
     pub(crate) fn len(&self) -> usize
         ensures count { result ≡ length self.now }
         ensures rising { IsRising self.now }
     {
-        self.items.len()
+        match &self.kept {
+            KeptEntries::One(_) => 1,
+            KeptEntries::Many(list) => list.len(),
+        }
     }
 
+    #[inline]
     pub(crate) fn key(&self, at: usize) -> &[u8]
         requires { at < length self.now }
         ensures { slice_get (keys_of self.now) at ≡ Some result.now }
     {
-        self.items[at].0.as_bytes()
+        self.entry(at).0.as_bytes()
     }
 
+    #[inline]
     pub(crate) fn key_ref(&self, at: usize) -> KeyRef<'_>
         requires { at < length self.now }
         ensures { slice_get (keys_of self.now) at ≡ Some result }
     {
-        self.items[at].0.key_ref()
+        self.entry(at).0.key_ref()
     }
 
+    #[inline]
     pub(crate) fn item(&self, at: usize) -> &T
         requires { at < length self.now }
         ensures { slice_get (values_of self.now) at ≡ Some result.now }
     {
-        &self.items[at].1
+        &self.entry(at).1
+    }
+
+    #[inline]
+    fn entry(&self, at: usize) -> &(KeyWithWord<A>, T)
+        requires { at < length self.now }
+        ensures { slice_get self.now at ≡ Some result.now }
+    {
+        match &self.kept {
+            KeptEntries::One(entry) => entry,
+            KeptEntries::Many(list) => &list[at],
+        }
     }
 
     // The place of the key, or else the place where it goes.
@@ -82,20 +121,32 @@ impl<T, A: Allocator + Copy> Entries<T, A> {
             (λ at. (at < length self.now) × (slice_get (keys_of self.now) at ≡ Some key.now) × (value_at key.now self.now ≡ slice_get (values_of self.now) at))
             (λ at. (at ≤ length self.now) × (value_at key.now self.now ≡ None) × ((item : T) → with_pair self.now key.now item ≡ insert self.now at (key.now, item))) }
     {
-        // Keys mostly come in their order, so the end is looked at first.
-        if self.takes(key) {
-            return Err(self.len());
-        }
         let key = KeyRef::new(key);
-        self.items
-            .binary_search_by(|entry| entry.0.key_ref().compare(&key))
+        match &self.kept {
+            KeptEntries::One(entry) => match entry.0.key_ref().compare(&key) {
+                Ordering::Less => Err(1),
+                Ordering::Equal => Ok(0),
+                Ordering::Greater => Err(0),
+            },
+            KeptEntries::Many(list) => {
+                // Keys mostly come in their order, so the end is looked at first.
+                if goes_last(list, &key) {
+                    return Err(list.len());
+                }
+                list.binary_search_by(|entry| entry.0.key_ref().compare(&key))
+            }
+        }
     }
 
     // Whether the key is above the last one, so that an entry under it may be put behind the others.
     pub(crate) fn takes(&self, key: &[u8]) -> bool
         ensures { result ≡ goes_last key.now self.now }
     {
-        goes_last(&self.items, key)
+        let key = KeyRef::new(key);
+        match &self.kept {
+            KeptEntries::One(entry) => entry.0.key_ref().compare(&key).is_lt(),
+            KeptEntries::Many(list) => goes_last(list, &key),
+        }
     }
 }
 
@@ -106,7 +157,10 @@ impl<T: Drop, A: Allocator + Copy> Entries<T, A> {
         ensures ok { OnOk result (self.new ≡ self.old ++ (key, item) ∷ []) }
         ensures err { OnErr result (self.new ≡ self.old) }
     {
-        self.items.push((KeyWithWord::new(key), item))?;
+        let alloc = self.alloc;
+        let at = self.len();
+        let key = KeyWithWord::new(key);
+        self.kept.insert(alloc, at, (key, item))?;
         Ok(())
     }
 
@@ -116,23 +170,88 @@ impl<T: Drop, A: Allocator + Copy> Entries<T, A> {
         ensures ok { OnOk result (self.new ≡ with_pair self.old key item) }
         ensures err { OnErr result (self.new ≡ self.old) }
     {
+        let alloc = self.alloc;
         let key = KeyWithWord::new(key);
         match self.search(key.as_bytes()) {
             Ok(at) => {
-                self.items[at] = (key, item);
+                self.kept.write(at, (key, item));
                 Ok(())
             }
-            Err(at) => Ok(self.items.insert(at, (key, item))?),
+            Err(at) => Ok(self.kept.insert(alloc, at, (key, item))?),
         }
     }
 }
 
+impl<T: Drop, A: Allocator + Copy> KeptEntries<T, A> {
+    // Writes the entry over the one at this place.
+    fn write(&mut self, at: usize, entry: (KeyWithWord<A>, T))
+        requires { at < length (entries_kept self.old) }
+        ensures { entries_kept self.new ≡ set (entries_kept self.old) at entry }
+    {
+        match self {
+            KeptEntries::One(held) => *held = entry,
+            KeptEntries::Many(list) => list[at] = entry,
+        }
+    }
+
+    // Puts the entry at this place, before those that stood from there on. Where memory is refused they stay as they are.
+    fn insert(&mut self, alloc: A, at: usize, entry: (KeyWithWord<A>, T)) -> Result<(), AllocError>
+        requires { at ≤ length (entries_kept self.old) }
+        ensures ok { OnOk result (entries_kept self.new ≡ insert (entries_kept self.old) at entry) }
+        ensures err { OnErr result (entries_kept self.new ≡ entries_kept self.old) }
+    {
+        match mem::replace(self, KeptEntries::Many(Vec::new(alloc))) {
+            KeptEntries::One(other) => match Vec::with_capacity(alloc, 2) {
+                Ok(list) => {
+                    *self = KeptEntries::Many(with_two(list, other, at, entry));
+                    Ok(())
+                }
+                Err(refused) => {
+                    *self = KeptEntries::One(other);
+                    Err(refused)
+                }
+            },
+            KeptEntries::Many(mut list) => {
+                if list.capacity() == 0 {
+                    *self = KeptEntries::One(entry);
+                    return Ok(());
+                }
+                let inserted = list.insert(at, entry);
+                *self = KeptEntries::Many(list);
+                Ok(inserted?)
+            }
+        }
+    }
+}
+
+// The list with an entry that stood alone, and with another at this place beside it. There is room for both.
+fn with_two<T, A: Allocator + Copy>(
+    mut list: Vec<(KeyWithWord<A>, T), A>,
+    alone: (KeyWithWord<A>, T),
+    at: usize,
+    entry: (KeyWithWord<A>, T),
+) -> Vec<(KeyWithWord<A>, T), A>
+    requires none { list.items ≡ [] }
+    requires room { 2 ≤ vec_capacity list }
+    requires place { at ≤ 1 }
+    ensures { result.items ≡ insert (alone ∷ []) at entry }
+{
+    if at == 0 {
+        list.push_reserved(entry);
+        list.push_reserved(alone);
+        return list;
+    }
+    list.push_reserved(alone);
+    list.push_reserved(entry);
+    list
+}
+
 // Whether the key is above the last one, if there is one.
-fn goes_last<T, A: Allocator + Copy>(items: &[(KeyWithWord<A>, T)], key: &[u8]) -> bool
+fn goes_last<T, A: Allocator + Copy>(items: &[(KeyWithWord<A>, T)], key: &KeyRef<'_>) -> bool
     ensures { result ≡ goes_last key.now items.now }
 {
     match items.last() {
         None => true,
-        Some(last) => last.0.key_ref().compare(&KeyRef::new(key)).is_lt(),
+        Some(last) => last.0.key_ref().compare(key).is_lt(),
     }
 }

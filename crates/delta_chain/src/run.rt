@@ -37,7 +37,7 @@ impl<V, A: Allocator + Copy> Run<V, A> {
         }
     }
 
-    /// A run without changes, with room for this many.
+    /// A run without changes, with room for this many. Room for one takes no memory.
     pub fn with_capacity(alloc: A, count: usize) -> Result<Self, AllocError>
         ensures { IfOk result (λ run. run ≡ []) }
     {

@@ -1,11 +1,11 @@
 -- Leaves that are taken out of the tree, worked, asked for their answers, and put back.
-use Rattle.std.specs.Prelude.{◌≡◌, ◌≢◌, ℕ, suc, ◌+◌, ◌<◌, ◌++◌, map, drop, length, slice_set, slice_index_or, List, [], ◌∷◌, Option, Some, None, Result, IfOk, Vec, slice_get}
+use Rattle.std.specs.Prelude.{◌≡◌, ◌≢◌, ℕ, suc, ◌+◌, ◌<◌, ◌≤◌, ◌++◌, map, drop, length, slice_set, slice_index_or, List, [], ◌∷◌, Option, Some, None, slice_get}
 use mathlib.Core.List.{map-map}
 use Rattle.std.proofs.Common.{refl, zero, arith, sym, ap, ◌∙◌, subst}
 use Rattle.std.specs.List.{All, AllByRecursion}
 use Rattle.std.specs.Map.{keys_of}
 use Rattle.std.specs.declared.alloc.Global.{Global}
-use Rattle.std.proofs.lemmas.List.{append_assoc, drop_more, drop-set-lt, map_push}
+use Rattle.std.proofs.lemmas.List.{append_assoc, drop_more, drop-set-lt, drop_all, map_push}
 use Rattle.std.proofs.lemmas.List.Elements.{All-from_recursion}
 use Rattle.keys.specs.Lists.{flat}
 use Rattle.keys.specs.declared.command.Command.{Command}
@@ -21,7 +21,8 @@ use Rattle.routing.specs.Routes.{Route}
 use Rattle.page_runs.specs.LeafWork.{LeafHeld, LeafMade, LeafWorked, IsLeafHeld, leaf_made, leaf_held_of}
 use Rattle.page_runs.specs.Replies.{ArePlacesOf}
 use Rattle.page_runs.specs.declared.leaf_work.LeafJob.{LeafJob}
-use Rattle.replies.specs.ByPlace.{reply_at, AreAnswers}
+use Rattle.replies.specs.ByPlace.{reply_at, IsPlaceOf, AreAnswers, blank_of, with_pieces}
+use Rattle.replies.proofs.Placing.{replies-with_pieces}
 use Rattle.climb_plan.specs.Installing.{all_taken, all_put, AreAway, page_or_none}
 use Rattle.climb_plan.proofs.Installing.{KeepsOthers, all_kept, placed_apart, tree_taken, tree_put}
 use Rattle.climb_plan.proofs.InstallingLemmas.{away-all_taken, put_back_is_before}
@@ -30,17 +31,13 @@ use Rattle.engine.specs.Leaves.{IsLeafAt, AreLeavesHome, AreLeafRoutes, route_pi
 -- ---- answers are taken, one leaf after the other
 
 module _ {X Y : Type 0} (f : X → Y) where
-  -- what was taken so far, and what the rest still has, are all
-  pub taken_more : (xs : List X) (i : ℕ) (x new : X) (done pushed all : List Y) (y : Y) → i < length xs → y ≡ f (slice_index_or xs i x) → pushed ≡ done ++ y ∷ [] → done ++ map f (drop i xs) ≡ all
-      → pushed ++ map f (drop (i + 1) (slice_set xs i new)) ≡ all
-  taken_more xs i x new done pushed all y l e p h =
+  -- what the rest still has is what is taken next, and what the rest has behind it
+  pub next_taken : (xs : List X) (i : ℕ) (x new : X) (y : Y) → i < length xs → y ≡ f (slice_index_or xs i x) → map f (drop i xs) ≡ y ∷ map f (drop (i + 1) (slice_set xs i new))
+  next_taken xs i x new y l e =
       let rest : drop (i + 1) (slice_set xs i new) ≡ drop (i + 1) xs = drop-set-lt (i + 1) xs i new (omega arith) in
-      ap (λ (ys : List Y). ys ++ map f (drop (i + 1) (slice_set xs i new))) p
-      ∙ ap (λ (zs : List X). (done ++ y ∷ []) ++ map f zs) rest
-      ∙ append_assoc done (y ∷ []) (map f (drop (i + 1) xs))
-      ∙ ap (λ (z : Y). done ++ z ∷ map f (drop (i + 1) xs)) e
-      ∙ ap (λ (zs : List X). done ++ map f zs) (sym (drop_more xs i x l))
-      ∙ h
+      ap (λ (zs : List X). map f zs) (drop_more xs i x l)
+      ∙ ap (λ (z : Y). z ∷ map f (drop (i + 1) xs)) (sym e)
+      ∙ ap (λ (zs : List X). y ∷ map f zs) (sym rest)
 
   -- what looks alike in the place of another leaves all that is seen
   pub alike_set : (xs : List X) (i : ℕ) (x new : X) → f new ≡ f (slice_index_or xs i x) → map f (slice_set xs i new) ≡ map f xs
@@ -48,17 +45,25 @@ module _ {X Y : Type 0} (f : X → Y) where
   alike_set (z ∷ zs) zero x new e = ap (λ (y : Y). y ∷ map f zs) e
   alike_set (z ∷ zs) (suc i) x new e = ap (λ (ys : List Y). f z ∷ ys) (alike_set zs i x new e)
 
--- the answers of all leaves, taken from each, are all answers
-pub all_answers : (ds : List LeafWorked) (xss : List (List (Piece Global))) → xss ≡ map (λ d. d.made.pieces) ds → answers (map (λ d. d.made) ds) ≡ flat xss
-all_answers ds xss e = ap flat (map-map (λ (m : LeafMade). m.pieces) (λ (d : LeafWorked). d.made) ds ∙ sym e)
+-- the answers of these leaves, leaf by leaf
+abbrev pub answers_by_leaf : List LeafWorked → List (List (Piece Global))
+answers_by_leaf ds = map (λ d. d.made.pieces) ds
 
-module _ (cs : List (Command Global)) (ds : List LeafWorked) (xss : List (List (Piece Global))) (taken : xss ≡ map (λ d. d.made.pieces) ds) where
-  pub each_answered : AreAnswers cs (answers (map (λ d. d.made) ds)) → AreAnswers cs (flat xss)
-  each_answered h = subst (λ (ps : List (Piece Global)). AreAnswers cs ps) (all_answers ds xss taken) h
+-- they are all answers
+all_answers : (ds : List LeafWorked) → answers (map (λ d. d.made) ds) ≡ flat (answers_by_leaf ds)
+all_answers ds = ap flat (map-map (λ (m : LeafMade). m.pieces) (λ (d : LeafWorked). d.made) ds)
 
-  pub answered : {Z E : Type 0} → (r : Result (Vec (Reply Global) Z) E) → IfOk r (λ v. (place : ℕ) → slice_get v.items place ≡ reply_at cs (flat xss) place)
-      → IfOk r (λ v. (place : ℕ) → slice_get v.items place ≡ reply_at cs (answers (map (λ d. d.made) ds)) place)
-  answered r h = subst (λ (ps : List (Piece Global)). IfOk r (λ v. (place : ℕ) → slice_get v.items place ≡ reply_at cs ps place)) (sym (all_answers ds xss taken)) h
+pub answers_within : (cs : List (Command Global)) (ds : List LeafWorked) → AreAnswers cs (answers (map (λ d. d.made) ds)) → All (IsPlaceOf cs) (flat (answers_by_leaf ds))
+answers_within cs ds h = subst (λ (ps : List (Piece Global)). All (IsPlaceOf cs) ps) (all_answers ds) h.within
+
+-- once no leaf is left, each reply stands at its place
+pub all_added : (cs : List (Command Global)) (ds now : List LeafWorked) (i : ℕ) (rs : List (Reply Global)) → length now ≤ i → with_pieces cs (flat (answers_by_leaf (drop i now))) rs ≡ with_pieces cs (flat (answers_by_leaf ds)) (map blank_of cs)
+    → AreAnswers cs (answers (map (λ d. d.made) ds)) → (place : ℕ) → slice_get rs place ≡ reply_at cs (answers (map (λ d. d.made) ds)) place
+all_added cs ds now i rs l h a place =
+    let none : drop i now ≡ [] = drop_all i now l in
+    let made : rs ≡ with_pieces cs (flat (answers_by_leaf ds)) (map blank_of cs) = rw none at h in
+    let all : with_pieces cs (flat (answers_by_leaf ds)) (map blank_of cs) ≡ with_pieces cs (answers (map (λ d. d.made) ds)) (map blank_of cs) = ap (λ (ps : List (Piece Global)). with_pieces cs ps (map blank_of cs)) (sym (all_answers ds)) in
+    ap (λ (xs : List (Reply Global)). slice_get xs place) (made ∙ all) ∙ replies-with_pieces cs (answers (map (λ d. d.made) ds)) a place
 
 -- ---- leaves are put back
 

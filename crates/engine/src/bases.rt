@@ -104,3 +104,21 @@ fn keys_of_each_length_and_an_empty_page_stay_as_they_are(rt: HostRuntime) -> Re
     assert!(rt; nothing_stays_nothing(rt.alloc())?);
     Ok(())
 }
+
+// A base of 64 keys.
+fn many_keys(alloc: Global) -> Result<Base<Pid, Global>, PushError> {
+    let mut builder = BaseBuilder::with_capacity(alloc, 64, 64)?;
+    for byte in 0..64 {
+        builder.push(&[byte], Pid(u64::from(byte)))?;
+    }
+    Ok(builder.finish())
+}
+
+// True also where the 64th allocation is refused, as by `rt try --test --fail-alloc 64`: it takes a handful, whatever the keys are.
+#[test]
+fn a_base_of_many_keys_takes_few_allocations(rt: HostRuntime) -> Result<(), Fail> {
+    let chain = Chain::of_base(many_keys(rt.alloc())?);
+    let base = consolidate(rt.alloc(), &chain)?;
+    assert_eq!(rt; base.len(), 64);
+    Ok(())
+}

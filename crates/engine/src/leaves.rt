@@ -1,5 +1,5 @@
 //! The leaves of a batch: taken out of the tree and worked, asked for their answers, and put back where the batch is refused.
-ghost use Rattle.std.specs.Prelude.{◌≡◌, ℕ, Some, None, map, slice_get, vec_items, IfOk, OnOk, OnErr};
+ghost use Rattle.std.specs.Prelude.{◌≡◌, ℕ, Some, None, map, slice_get, IfOk, OnOk, OnErr};
 ghost use Rattle.mapping.specs.Proper.{AreRisingPids};
 ghost use Rattle.mapping.specs.Table.{pids_in_use, place_of, with_place};
 ghost use Rattle.page_runs.specs.LeafWork.{leaf_held_of};
@@ -8,10 +8,10 @@ ghost use Rattle.climb_plan.specs.Installing.{all_taken, all_put, AreAway};
 ghost use Rattle.engine.specs.Leaves.{route_pids, AreLeavesHome, AreLeafRoutes, leaf_held, leaves_made, answers, without_answers};
 
 use crew::{Crew, Gate, Work, run_round};
-use keys::{Command, Piece, Reply};
+use keys::{Command, Reply};
 use mapping::Tree;
 use page_runs::{LeafDone, LeafJob, LeafWork};
-use replies::assemble;
+use replies::{add_answers, blank_replies};
 use routing::PageRun;
 use std::alloc::{AllocError, Global};
 use std::thread::Threads;
@@ -82,8 +82,8 @@ fn put_leaf_back(tree: &mut Tree<Global>, job: LeafJob)
     tree.put(page_run.pid(), page);
 }
 
-/// The replies to the commands, each at its command's place, by what the leaves answered. The answers are taken from the leaves;
-/// all else of these stays, so that they can still be undone.
+/// The replies to the commands, each at its command's place, by what the leaves answered. The answers are taken from the leaves, one
+/// leaf after the other; all else of these stays, so that they can still be undone.
 pub(crate) fn take_replies(
     alloc: Global,
     leaves: &mut [LeafDone],
@@ -93,23 +93,11 @@ pub(crate) fn take_replies(
     ensures replies { IfOk result (λ replies. (place : ℕ) → slice_get replies.items place ≡ reply_at commands.now (answers (map (λ d. d.made) leaves.old)) place) }
     ensures rest { map without_answers leaves.new ≡ map without_answers leaves.old }
 {
-    let pieces = take_pieces_of_all(alloc, leaves)?;
-    assemble(alloc, pieces, commands)
-}
-
-// The answers of each leaf, taken from it.
-fn take_pieces_of_all(
-    alloc: Global,
-    leaves: &mut [LeafDone],
-) -> Result<Vec<Vec<Piece<Global>>>, AllocError>
-    ensures pieces { IfOk result (λ pieces. map vec_items pieces.items ≡ map (λ d. d.made.pieces) leaves.old) }
-    ensures rest { map without_answers leaves.new ≡ map without_answers leaves.old }
-{
-    let mut pieces = Vec::with_capacity(alloc, leaves.len())?;
+    let mut replies = blank_replies(alloc, commands)?;
     for leaf in leaves.iter_mut() {
-        pieces.push_reserved(leaf.take_pieces());
+        add_answers(&mut replies, commands, leaf.take_pieces())?;
     }
-    Ok(pieces)
+    Ok(replies)
 }
 
 /// Undoes what was made of the leaves, and puts them back into their places as they were. It takes no memory.

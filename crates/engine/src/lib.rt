@@ -38,6 +38,8 @@ mod parts;
 #[cfg(test)]
 mod recovery_rows;
 mod refusal;
+#[cfg(test)]
+mod round_rows;
 pub mod step;
 pub mod step_laws;
 pub mod store;

@@ -2,7 +2,7 @@
 use delta_chain::{Base, Chain, PushError, Run};
 use keys::{Fault, Field, Finding, Key, Pid};
 use mapping::{Logged, Table};
-use std::alloc::Global;
+use std::alloc::{AllocError, Global};
 use std::process::Abort;
 use std::test::Fail;
 
@@ -68,6 +68,23 @@ fn entry_of_a_run(alloc: Global) -> Result<Option<(u8, u64)>, PushError> {
 #[test]
 fn a_page_gives_its_entries(rt: HostRuntime) -> Result<(), Fail> {
     assert!(rt; entry_of_a_run(rt.alloc())? == Some((b'b', 2)));
+    Ok(())
+}
+
+// Whether a run has what was set, without a change, with one, which takes no list, and with two, set in the wrong order.
+fn changes_stay(alloc: Global) -> Result<bool, AllocError> {
+    let mut run = Run::empty(alloc);
+    let none = run.len() == 0 && run.place(b"b").is_none();
+    run.set(Key::from_bytes(alloc, b"b")?, Some(Pid(2)))?;
+    let one = run.len() == 1 && run.place(b"b") == Some(0) && run.place(b"a").is_none();
+    run.set(Key::from_bytes(alloc, b"a")?, None)?;
+    let two = run.len() == 2 && run.place(b"a") == Some(0) && run.place(b"b") == Some(1);
+    Ok(none && one && two)
+}
+
+#[test]
+fn runs_of_none_one_and_two_changes_have_what_was_set(rt: HostRuntime) -> Result<(), Fail> {
+    assert!(rt; changes_stay(rt.alloc())?);
     Ok(())
 }
 

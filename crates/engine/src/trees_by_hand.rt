@@ -523,7 +523,7 @@ fn index(alloc: Global, row: &PageRow) -> Result<Page<Global>, AllocError> {
             push_child(&mut base, low, digit(pid))?;
         }
     }
-    Ok(Page::index(low, Chain::of_base(base.finish())))
+    Ok(Page::bare_index(low, base.finish()))
 }
 
 fn page_of(alloc: Global, row: &PageRow) -> Result<Page<Global>, AllocError> {
@@ -623,7 +623,7 @@ fn page_on_the_way(alloc: Global, low: &'static str, pid: u64) -> Result<Page<Gl
     let mut base = BaseBuilder::with_capacity(alloc, 1, 1)?;
     push_child(&mut base, low, pid - 2)?;
     let low = Key::from_bytes(alloc, low.as_bytes())?;
-    Ok(Page::index(low, Chain::of_base(base.finish())))
+    Ok(Page::bare_index(low, base.finish()))
 }
 
 // The pages of a tree of 64 levels: the root has two children, and each page below it one.
@@ -638,7 +638,7 @@ fn settle_high(alloc: Global, table: &mut Table<Page<Global>, Global>) -> Result
     settle(
         table,
         126,
-        Page::index(Key::empty(alloc), Chain::of_base(base.finish())),
+        Page::bare_index(Key::empty(alloc), base.finish()),
     )
 }
 

@@ -1,3 +1,4 @@
+mod Crossing
 pub mod AdmitLaws
 pub mod BlockReading
 mod ByteRowNine

@@ -1,4 +1,6 @@
+pub mod Crossing
 pub mod ChildLaws
+mod CountLemmas
 pub mod WithinLaws
 pub mod ListLaws
 pub mod PageLaws

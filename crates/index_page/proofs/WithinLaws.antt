@@ -1,5 +1,5 @@
 -- Lemmas on the child for a key with the end of its range, and on the children between bounds.
-use Rattle.std.specs.Prelude.{◌≡◌, ◌↔◌, ℕ, ◌<◌, Bool, true, false, cond, ◌&&◌, ◌||◌, List, [], ◌∷◌, map, length, Option, Some, None}
+use Rattle.std.specs.Prelude.{◌≡◌, ◌↔◌, ℕ, ◌+◌, ◌<◌, Bool, true, false, cond, ◌&&◌, ◌||◌, List, [], ◌∷◌, map, length, slice_get, Option, Some, None}
 use Rattle.std.specs.Option.{option_map, option_or}
 use Rattle.std.specs.List.{filter, AllByRecursion}
 use Rattle.std.specs.List.Sorted.{IsStrictlySortedBy}
@@ -9,6 +9,7 @@ use Rattle.keys.specs.Order.{order, IsRising}
 use Rattle.keys.proofs.MapLaws.{total, IsBelowAll, below_all}
 use Rattle.page_search.specs.Floor.{floor}
 use Rattle.page_search.specs.Above.{above}
+use Rattle.index_page.specs.ChildList.{IsCountUpTo}
 use Rattle.index_page.specs.Page.{first_key}
 use Rattle.index_page.specs.Range.{is_below, is_before, is_within}
 use Rattle.index_page.specs.Children.{Place, children, is_place_for, child_with_end, is_between, meets, children_within, entries_between, left_from}
@@ -119,6 +120,16 @@ module _ (k : List ℕ) where
   place_at es g o r h p q end b =
       place_of_child es r h end b
       ∙ ap {B = List (ℕ × Option (List ℕ))} (λ (x : ℕ × Option (List ℕ)). (x.0, option_or x.1 end) ∷ []) (sym (child_is_told es g o r h p q))
+
+  -- so the entry at a place tells it, where so many entries have keys that aren't above the key
+  pub child_is_told-at : (es : List (List ℕ × ℕ)) (n at : ℕ) (g : List ℕ × ℕ) (o : Option (List ℕ)) → IsRising es → (0 < length es) × (is_below k (first_key es) ≡ false)
+      → IsCountUpTo k es n → at + 1 ≡ n → slice_get es at ≡ Some g → o ≡ key_of (slice_get es n) → (g.1, o) ≡ With es
+  child_is_told-at es n at g o r h c l p q = child_is_told es g o r h (sym (c.last at l ∙ p)) (q ∙ ap (λ (e : Option (List ℕ × ℕ)). key_of e) (sym c.next))
+
+  pub place_at-told : (es : List (List ℕ × ℕ)) (n at : ℕ) (g : List ℕ × ℕ) (o : Option (List ℕ)) → IsRising es → (0 < length es) × (is_below k (first_key es) ≡ false)
+      → IsCountUpTo k es n → at + 1 ≡ n → slice_get es at ≡ Some g → o ≡ key_of (slice_get es n)
+      → (end : Option (List ℕ)) → is_before end k ≡ true → map {B = ℕ × Option (List ℕ)} (λ (at : Place). (at.pid, at.end)) (filter (is_place_for k) (children es end)) ≡ (g.1, option_or o end) ∷ []
+  place_at-told es n at g o r h c l p q = place_at es g o r h (sym (c.last at l ∙ p)) (q ∙ ap (λ (e : Option (List ℕ × ℕ)). key_of e) (sym c.next))
 
   -- so its pid is that of the one place
   pids_of : (xs : List Place) → map (λ (x : ℕ × Option (List ℕ)). x.0) (map {B = ℕ × Option (List ℕ)} (λ (at : Place). (at.pid, at.end)) xs) ≡ map (λ (at : Place). at.pid) xs

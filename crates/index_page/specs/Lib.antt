@@ -1,3 +1,4 @@
+pub mod ChildList
 pub mod Children
 pub mod NextChild
 pub mod Over

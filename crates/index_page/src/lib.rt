@@ -6,9 +6,12 @@
 //! bounds where they share a key.
 #![tactic(auto)]
 
+pub mod child_list;
+mod index_state;
 pub mod laws;
 pub mod page;
 pub mod within;
 
+pub use crate::child_list::ChildList;
 pub use crate::page::Page;
 pub use crate::within::Children;

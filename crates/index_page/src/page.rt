@@ -5,15 +5,17 @@ ghost use Rattle.keys.specs.Bytes.{Bytes};
 ghost use Rattle.keys.specs.Order.{IsRising};
 ghost use Rattle.page_search.specs.Floor.{floor};
 ghost use Rattle.page_search.specs.Above.{above};
-ghost use Rattle.index_page.specs.Page.{PageOfKind, low_of, IsLeaf, IsIndex};
+ghost use Rattle.index_page.specs.Page.{PageOfKind, bare, low_of, IsLeaf, IsIndex};
 ghost use Rattle.index_page.specs.Page.PageOfKind.{Leaf, Index};
 ghost use Rattle.index_page.specs.Range.{is_before};
+ghost use Rattle.index_page.specs.ChildList.{IsListOf};
 ghost use Rattle.index_page.specs.Children.{children, is_place_for, child_entries, HasChildFor, child_with_end, children_within, entries_between, left_from};
 
+use crate::child_list::{ChildList, child_at, count_up_to, low_key_at};
+use crate::index_state::IndexState;
 use crate::within::{Children, NextChild};
-use delta_chain::Chain;
+use delta_chain::{Base, Chain};
 use keys::{Key, Pid, Value, is_before};
-use page_search::{Probes, above, floor};
 use std::alloc::Allocator;
 use std::marker::Model;
 
@@ -28,7 +30,7 @@ pub struct Page<A: Allocator> {
 #[derive(Drop)]
 enum State<A: Allocator> {
     Values(Chain<Value<A>, A>),
-    Pids(Chain<Pid, A>),
+    Pids(IndexState<A>),
 }
 
 impl<A: Allocator> Model for Page<A> {
@@ -52,14 +54,23 @@ impl<A: Allocator + Copy> Page<A> {
         }
     }
 
-    /// The index page with this low key and the page ids of these children, each under the child's low key.
-    pub fn index(low: Key<A>, chain: Chain<Pid, A>) -> Self
+    /// The index page with this low key and the page ids of these children, each under the child's low key. Its children in one
+    /// list are `ChildList::of` the chain.
+    pub fn index(low: Key<A>, chain: Chain<Pid, A>, list: ChildList<A>) -> Self
+        requires { IsListOf chain list }
         ensures { result ≡ Index (record { low = low; layers = chain }) }
     {
         Page {
             low,
-            state: State::Pids(chain),
+            state: State::Pids(IndexState::new(chain, list)),
         }
+    }
+
+    /// The index page with this low key and this base of children, without runs.
+    pub fn bare_index(low: Key<A>, base: Base<Pid, A>) -> Self
+        ensures { result ≡ Index (bare low base) }
+    {
+        Page::index(low, Chain::of_base(base), ChildList::none())
     }
 
     /// The bytes of the low key.
@@ -85,7 +96,17 @@ impl<A: Allocator + Copy> Page<A> {
     {
         match &self.state {
             State::Values(_) => None,
-            State::Pids(chain) => Some(chain),
+            State::Pids(state) => Some(state.chain()),
+        }
+    }
+
+    /// The children in one list, in order, where this is an index page: of each the low key and the page id.
+    pub fn child_list(&self) -> Option<&Base<Pid, A>>
+        ensures { MatchOption result (IsLeaf self.now) (λ list. (list.now ≡ child_entries self.now) × IsIndex self.now) }
+    {
+        match &self.state {
+            State::Values(_) => None,
+            State::Pids(state) => Some(state.children()),
         }
     }
 
@@ -101,15 +122,19 @@ impl<A: Allocator + Copy> Page<A> {
         }
     }
 
-    /// The low key and the page ids of this index page. `as_index` is the test for the condition.
-    pub fn into_index(self) -> (Key<A>, Chain<Pid, A>)
+    /// The low key and the page ids of this index page, with its children in one list. `as_index` is the test for the condition.
+    pub fn into_index(self) -> (Key<A>, Chain<Pid, A>, ChildList<A>)
         requires { IsIndex self }
-        ensures { self ≡ Index (record { low = result.0; layers = result.1 }) }
+        ensures page { self ≡ Index (record { low = result.0; layers = result.1 }) }
+        ensures list { IsListOf result.1 result.2 }
     {
         let Page { low, state } = self;
         match state {
             State::Values(_) => unreachable!(),
-            State::Pids(chain) => (low, chain),
+            State::Pids(state) => {
+                let (chain, list) = state.into_parts();
+                (low, chain, list)
+            }
         }
     }
 
@@ -142,8 +167,12 @@ impl<A: Allocator + Copy> Page<A> {
         ensures place { (end : Option Bytes) → is_before end key.now ≡ true →
             map {B = ℕ × Option Bytes} (λ at. (at.pid, at.end)) (filter (is_place_for key.now) (children (child_entries self.now) end)) ≡ (result.0, option_or (option_copied result.1) end) ∷ [] }
     {
-        match self.last_child(key) {
-            Some(child) => (child.1, self.next_key(key)),
+        let Some(list) = self.child_list() else {
+            unreachable!()
+        };
+        let count = count_up_to(list, key);
+        match count.checked_sub(1) {
+            Some(at) => (child_at(list, at).1, low_key_at(list, count)),
             None => unreachable!(),
         }
     }
@@ -165,10 +194,11 @@ impl<A: Allocator + Copy> Page<A> {
         ensures child { option_map (λ e. (e.0.now, e.1)) result ≡ floor key.now (child_entries self.now) }
         ensures rising { IsRising (child_entries self.now) }
     {
-        let chain = self.as_index()?;
-        let _in_order = chain.depth();
-        let (low, pid) = floor(chain, key, &mut Probes::new())?;
-        Some((low, *pid))
+        let list = self.child_list()?;
+        match count_up_to(list, key).checked_sub(1) {
+            Some(at) => Some(child_at(list, at)),
+            None => None,
+        }
     }
 
     // The first child whose low key is above the key.
@@ -176,19 +206,12 @@ impl<A: Allocator + Copy> Page<A> {
         ensures child { option_map (λ e. (e.0.now, e.1)) result ≡ above key.now (child_entries self.now) }
         ensures rising { IsRising (child_entries self.now) }
     {
-        let chain = self.as_index()?;
-        let _in_order = chain.depth();
-        let (low, pid) = above(chain, key, &mut Probes::new())?;
-        Some((low, *pid))
-    }
-
-    // The low key of the first child whose low key is above the key.
-    fn next_key(&self, key: &[u8]) -> Option<&[u8]>
-        ensures { option_copied result ≡ option_map (λ e. e.0) (above key.now (child_entries self.now)) }
-    {
-        match self.next_child(key) {
-            Some(child) => Some(child.0),
-            None => None,
+        let list = self.child_list()?;
+        let count = count_up_to(list, key);
+        if count < list.len() {
+            Some(child_at(list, count))
+        } else {
+            None
         }
     }
 

@@ -2,6 +2,7 @@ pub mod Bytes
 pub mod Cells
 pub mod CommandKey
 pub mod Finding
+pub mod Kept
 pub mod Limits
 pub mod Lists
 pub mod Narrowed

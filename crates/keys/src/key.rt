@@ -7,15 +7,22 @@ ghost use Rattle.std.specs.Ordering.{eq_by_cmp, as_partial_cmp};
 ghost use Rattle.keys.specs.Order.{order};
 
 use crate::order::compare;
+use crate::short_bytes::ShortBytes;
 use std::alloc::{AllocError, Allocator};
 use std::cmp::Ordering;
 use std::marker::Model;
 
 /// A key: a byte string, which contracts see as the list of its bytes. Keys compare by their bytes, a proper
-/// beginning first, so that the empty key is the least.
+/// beginning first, so that the empty key is the least. Keys of up to 23 bytes take no memory of their own.
 #[derive(Drop)]
 pub struct Key<A: Allocator> {
-    bytes: Vec<u8, A>,
+    kept: KeptBytes<A>,
+}
+
+#[derive(Drop)]
+enum KeptBytes<A: Allocator> {
+    Short(ShortBytes),
+    Long(Vec<u8, A>),
 }
 
 impl<A: Allocator> Model for Key<A> {
@@ -23,29 +30,37 @@ impl<A: Allocator> Model for Key<A> {
 
     ghost Value = { Bytes };
 
-    ghost view = { λ k. k.bytes.items };
+    ghost use Rattle.keys.specs.Kept.{bytes_kept};
+
+    ghost view = { λ k. bytes_kept k.kept };
 }
 
 impl<A: Allocator + Copy> Key<A> {
     /// The empty key. It takes no memory.
-    pub fn empty(alloc: A) -> Self
+    #[inline]
+    pub fn empty(_alloc: A) -> Self
         ensures { result ≡ [] }
     {
         Key {
-            bytes: Vec::new(alloc),
+            kept: KeptBytes::Short(ShortBytes::empty()),
         }
     }
 
-    /// The key of these bytes.
+    /// The key of these bytes. Up to 23 of them take no memory.
     pub fn from_bytes(alloc: A, bytes: &[u8]) -> Result<Self, AllocError>
         ensures { IfOk result (λ key. key ≡ bytes.now) }
     {
-        Ok(Key {
-            bytes: bytes.to_vec(alloc)?,
-        })
+        match ShortBytes::from_bytes(bytes) {
+            Some(short) => Ok(Key {
+                kept: KeptBytes::Short(short),
+            }),
+            None => Ok(Key {
+                kept: KeptBytes::Long(bytes.to_vec(alloc)?),
+            }),
+        }
     }
 
-    /// An equal key, in memory of its own.
+    /// An equal key, in memory of its own where it is longer than 23 bytes.
     pub fn copy(&self, alloc: A) -> Result<Self, AllocError>
         ensures { IfOk result (λ key. key ≡ self.now) }
     {
@@ -55,17 +70,22 @@ impl<A: Allocator + Copy> Key<A> {
 
 impl<A: Allocator> Key<A> {
     /// The bytes of the key.
+    #[inline]
     pub fn as_bytes(&self) -> &[u8]
         ensures { result.now ≡ self.now }
     {
-        self.bytes.as_slice()
+        match &self.kept {
+            KeptBytes::Short(short) => short.as_bytes(),
+            KeptBytes::Long(long) => long.as_slice(),
+        }
     }
 
     /// How many bytes the key has.
+    #[inline]
     pub fn len(&self) -> usize
         ensures { result ≡ length self.now }
     {
-        self.bytes.len()
+        self.as_bytes().len()
     }
 }
 

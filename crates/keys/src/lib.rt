@@ -12,8 +12,10 @@ pub mod laws;
 pub mod order;
 pub mod pid;
 pub mod piece;
+pub mod pieces;
 pub mod row_list;
 pub mod settings;
+mod short_bytes;
 pub mod value;
 
 pub use crate::cell::Cell;
@@ -25,6 +27,7 @@ pub use crate::key_ref::{KeyRef, KeyWithWord};
 pub use crate::order::{compare, is_before};
 pub use crate::pid::Pid;
 pub use crate::piece::Piece;
+pub use crate::pieces::Pieces;
 pub use crate::row_list::RowList;
 pub use crate::settings::{Field, Settings};
 pub use crate::value::Value;

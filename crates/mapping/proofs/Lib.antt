@@ -1,3 +1,4 @@
+pub mod Crossing
 mod Around
 pub mod DrawnPlaces
 mod FindingRow

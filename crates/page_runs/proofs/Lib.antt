@@ -1,3 +1,4 @@
+pub mod Crossing
 pub mod AfterLaws
 pub mod ApartLaws
 mod Counts

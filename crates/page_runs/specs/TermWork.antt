@@ -1,7 +1,8 @@
 -- What an index page's job holds, and what is made of it.
-use Rattle.std.specs.Prelude.{ℕ}
-use Rattle.keys.specs.Bytes.{Changes}
+use Rattle.std.specs.Prelude.{ℕ, Option}
+use Rattle.keys.specs.Bytes.{Changes, Names}
 use Rattle.keys.specs.declared.settings.Settings.{Settings}
+use Rattle.index_page.specs.ChildList.{IsListOf}
 use Rattle.index_page.specs.Page.{PageOfKind, index_of}
 use Rattle.index_page.specs.Page.PageOfKind.{Leaf, Index}
 use Rattle.mapping.specs.Levels.{Placed}
@@ -46,7 +47,7 @@ index_worked page way_back pid =
       made = record { placed = record { pid = pid; page = now }; class = class_now way_back; replaced = is_replaced_now way_back };
     }
 
--- the page is an index page, and the way back is one from it
-abbrev pub IsWorkedIndex : PageOfKind → WayBack ℕ → Type 0
-IsWorkedIndex (Leaf p) way_back = ⊥
-IsWorkedIndex (Index p) way_back = CanUndo p.layers way_back
+-- the page is an index page, the way back is one from it, and the list that is kept is that of the page before
+abbrev pub IsWorkedIndex : PageOfKind → WayBack ℕ → Option Names → Type 0
+IsWorkedIndex (Leaf p) way_back list = ⊥
+IsWorkedIndex (Index p) way_back list = CanUndo p.layers way_back × IsListOf (page_before p.layers way_back) list

@@ -6,11 +6,10 @@ use crate::page_after::{WayBack, put_run};
 use crate::replay::replay;
 use crew::{Turn, Work};
 use index_page::Page;
-use keys::{Command, Pid, Piece, Settings, Value};
+use keys::{Command, Pid, Pieces, Settings, Value};
 use routing::PageRun;
 use std::alloc::Global;
 use std::marker::Model;
-use std::mem;
 
 /// The work on leaves in a batch: a leaf and its run of commands go in; the leaf afterwards, its class and its
 /// answers come out.
@@ -39,7 +38,7 @@ pub struct LeafDone {
     page: Page<Global>,
     way_back: WayBack<Value<Global>>,
     page_run: PageRun,
-    pieces: Vec<Piece<Global>>,
+    pieces: Pieces<Global>,
 }
 
 impl Model for LeafDone {
@@ -47,7 +46,7 @@ impl Model for LeafDone {
 
     ghost Value = { LeafWorked };
 
-    ghost view = { λ d. leaf_worked d.page d.way_back d.page_run d.pieces.items };
+    ghost view = { λ d. leaf_worked d.page d.way_back d.page_run d.pieces };
 
     ghost invariant = { λ d. IsWorkedLeaf d.page d.way_back };
 }
@@ -82,12 +81,11 @@ impl LeafDone {
     }
 
     /// The answers, for good: none are left here. It takes no memory, and the job can still be given back.
-    pub fn take_pieces(&mut self) -> Vec<Piece<Global>>
-        ensures pieces { result.items ≡ self.old.made.pieces }
+    pub fn take_pieces(&mut self) -> Pieces<Global>
+        ensures pieces { result ≡ self.old.made.pieces }
         ensures rest { self.new ≡ record { held = self.old.held; made = record { worked = self.old.made.worked; pieces = [] } } }
     {
-        let alloc = *self.pieces.allocator();
-        mem::replace(&mut self.pieces, Vec::new(alloc))
+        self.pieces.take()
     }
 
     /// The leaf and the rest, for good: the job cannot be given back any more.
@@ -107,7 +105,7 @@ impl LeafDone {
 /// What is left of a leaf's work once the leaf is taken out of it, for good: where the leaf was replaced, the one before it; the places of
 /// its commands, and its answers if they were not taken. It is there to be dropped, which takes long.
 #[derive(Drop)]
-pub struct LeafRest(WayBack<Value<Global>>, PageRun, Vec<Piece<Global>>);
+pub struct LeafRest(WayBack<Value<Global>>, PageRun, Pieces<Global>);
 
 impl<'a> Work for LeafWork<'a> {
     ghost use Rattle.page_runs.specs.LeafWork.{LeafHeld, LeafMade, IsLeafHeld, leaf_made, leaf_held_of};

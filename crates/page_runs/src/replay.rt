@@ -11,7 +11,7 @@ ghost use Rattle.page_runs.specs.Replies.{commands_at, pieces_of, ArePlacesOf};
 
 use crate::changes::{Changes, LeafChain, LeafRun};
 use crate::page_rows::rows_of;
-use keys::{Command, Key, Piece, Reply, Value};
+use keys::{Command, Key, Piece, Pieces, Reply, Value};
 use std::alloc::{AllocError, Global};
 
 /// The net run of the commands at these places on the page, what the page answers to each of them, and a number of
@@ -22,24 +22,24 @@ pub(crate) fn replay(
     commands: &[Command<Global>],
     page: &LeafChain,
     places: &[usize],
-) -> Result<(LeafRun, Vec<Piece<Global>>, usize), AllocError>
+) -> Result<(LeafRun, Pieces<Global>, usize), AllocError>
     requires { ArePlacesOf commands.now places.now }
     ensures run { IfOk result (λ r. r.0 ≡ net_run (entries_of page.now) (commands_at commands.now places.now)) }
-    ensures pieces { IfOk result (λ r. r.1.items ≡ pieces_of places.now (replies_to (entries_of page.now) (commands_at commands.now places.now))) }
+    ensures pieces { IfOk result (λ r. r.1 ≡ pieces_of places.now (replies_to (entries_of page.now) (commands_at commands.now places.now))) }
     ensures fewest { IfOk result (λ r. r.2 ≤ length (map_by_now page.now r.0)) }
 {
     // Only for the proof: `depth` says that the page is in order.
     let _in_order = page.depth();
     let mut changes = Changes::for_commands(alloc, commands, places);
-    let mut pieces = Vec::with_capacity(alloc, places.len())?;
+    let mut pieces = Pieces::with_capacity(alloc, places.len())?;
     let mut fewest = page.fewest_entries();
     for place in places {
         let reply = execute(alloc, page, &mut changes, &commands[*place])?;
         fewest = entries_after(fewest, &reply);
-        pieces.push_reserved(Piece {
+        pieces.push(Piece {
             place: *place,
             reply,
-        });
+        })?;
     }
     Ok((changes.into_run(alloc)?, pieces, fewest))
 }

@@ -5,7 +5,7 @@ use crate::class::Class;
 use crate::page_after::{WayBack, put_run};
 use crew::{Turn, Work};
 use delta_chain::Run;
-use index_page::Page;
+use index_page::{ChildList, Page};
 use keys::{Pid, Settings};
 use std::alloc::Global;
 use std::marker::Model;
@@ -36,6 +36,8 @@ pub struct TermJob {
 pub struct TermDone {
     page: Page<Global>,
     way_back: WayBack<Pid>,
+    // The children before the terms, in one list.
+    list_before: ChildList<Global>,
     pid: Pid,
 }
 
@@ -46,7 +48,7 @@ impl Model for TermDone {
 
     ghost view = { λ d. index_worked d.page d.way_back d.pid };
 
-    ghost invariant = { λ d. IsWorkedIndex d.page d.way_back };
+    ghost invariant = { λ d. IsWorkedIndex d.page d.way_back d.list_before };
 }
 
 impl TermDone {
@@ -82,11 +84,7 @@ impl TermDone {
     pub fn into_page(self) -> Page<Global>
         ensures { result ≡ Index self.made.placed.page }
     {
-        let TermDone {
-            page,
-            way_back: _way_back,
-            pid: _pid,
-        } = self;
+        let TermDone { page, .. } = self;
         page
     }
 }
@@ -117,18 +115,32 @@ impl Work for TermWork {
 
     fn work(&self, job: TermJob) -> Turn<TermJob, TermDone> {
         let TermJob { page, pid, terms } = job;
-        let (low, chain) = page.into_index();
-        match put_run(self.alloc, &self.settings, chain, terms) {
-            Ok((chain, way_back)) => Turn::Done(TermDone {
-                page: Page::index(low, chain),
+        let (low, chain, list_before) = page.into_index();
+        let (chain, way_back) = match put_run(self.alloc, &self.settings, chain, terms) {
+            Ok(after) => after,
+            Err((chain, terms)) => {
+                return Turn::Back(TermJob {
+                    page: Page::index(low, chain, list_before),
+                    pid,
+                    terms,
+                });
+            }
+        };
+        match ChildList::of(self.alloc, &chain) {
+            Ok(list) => Turn::Done(TermDone {
+                page: Page::index(low, chain, list),
                 way_back,
+                list_before,
                 pid,
             }),
-            Err((chain, terms)) => Turn::Back(TermJob {
-                page: Page::index(low, chain),
-                pid,
-                terms,
-            }),
+            Err(_refused) => {
+                let (chain, terms) = way_back.undo(chain);
+                Turn::Back(TermJob {
+                    page: Page::index(low, chain, list_before),
+                    pid,
+                    terms,
+                })
+            }
         }
     }
 
@@ -136,12 +148,13 @@ impl Work for TermWork {
         let TermDone {
             page,
             way_back,
+            list_before,
             pid,
         } = done;
-        let (low, chain) = page.into_index();
+        let (low, chain, _list_now) = page.into_index();
         let (chain, terms) = way_back.undo(chain);
         TermJob {
-            page: Page::index(low, chain),
+            page: Page::index(low, chain, list_before),
             pid,
             terms,
         }

@@ -134,7 +134,7 @@ module _ (k : List ℕ) (ks : List (List ℕ)) where
 -- ---- what entries have at a key
 
 module _ {V : Type 0} where
-  pair_at : (es : List (List ℕ × V)) (at : ℕ) (k : List ℕ) (v : V) → slice_get (keys_of es) at ≡ Some k → slice_get (values_of es) at ≡ Some v → slice_get es at ≡ Some (k, v)
+  pub pair_at : (es : List (List ℕ × V)) (at : ℕ) (k : List ℕ) (v : V) → slice_get (keys_of es) at ≡ Some k → slice_get (values_of es) at ≡ Some v → slice_get es at ≡ Some (k, v)
   pair_at [] at k v p q = absurd (cc)
   pair_at (e ∷ es) zero k v p q =
       let key : e.0 ≡ k = cc in

@@ -1,3 +1,4 @@
+mod Crossing
 pub mod BrokenLaws
 mod BuildLaws
 pub mod CrashLaws

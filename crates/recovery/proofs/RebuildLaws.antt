@@ -2,6 +2,9 @@
 use Rattle.std.proofs.Common.{◌≡◌, ◌≤◌, List, [], ◌∷◌, ◌++◌, map, reverse, length, fold, Option, None, refl, sym, ap, ◌∙◌, arith}
 use Rattle.std.proofs.lemmas.List.{map-append, reverse-append, reverse-reverse, append-nil}
 use Rattle.keys.specs.Bytes.{Changes}
+use Rattle.crew.specs.Turn.{IfDone, IfBack}
+use Rattle.crew.specs.declared.Turn.{Turn}
+use Rattle.crew.specs.declared.Turn.TheVariants.{Done, Back}
 use Rattle.frame_codec.specs.Frame.{Content}
 use Rattle.frame_codec.specs.declared.frame.Frame as code
 use Rattle.index_page.specs.Page.{PageOfKind}
@@ -82,6 +85,23 @@ broken-told p c cs all unfit is =
 pub page-told : (p : PageOfKind) (frames : List code.Frame) (all : List Content) → length frames ≡ 0 → whole_page p ++ reverse (contents_in frames) ≡ all → Present p ≡ told_page all
 page-told p [] all none is = sym (ap told_page (sym is ∙ append-nil (whole_page p)) ∙ told-whole p)
 page-told p (f ∷ fs) all none is = absurd (omega (arith, none))
+
+-- whose frames are then all that the log said
+pub whole-alone : (p : PageOfKind) (frames : List code.Frame) (all : List Content) → length frames ≡ 0 → whole_page p ++ reverse (contents_in frames) ≡ all → whole_page p ≡ all
+whole-alone p [] all none is = sym (append-nil (whole_page p)) ∙ is
+whole-alone p (f ∷ fs) all none is = absurd (omega (arith, none))
+
+-- ---- what became of a job
+
+module _ {J D X : Type 0} where
+  -- what was made, or came back, is what that is
+  pub done-same : (r : Turn J D) (f : D → X) (x y : X) → x ≡ y → IfDone r (λ d. f d ≡ x) → IfDone r (λ d. f d ≡ y)
+  done-same (Done d) f x y e h = h ∙ e
+  done-same (Back j) f x y e h = tt
+
+  pub back-same : (r : Turn J D) (f : J → X) (x y : X) → x ≡ y → IfBack r (λ j. f j ≡ x) → IfBack r (λ j. f j ≡ y)
+  back-same (Done d) f x y e h = tt
+  back-same (Back j) f x y e h = h ∙ e
 
 -- the frames of a page, taken apart onto an empty list that is turned round then
 pub whole-put-back : (room taken now : List code.Frame) (cs : List Content) → room ≡ [] → contents_in taken ≡ contents_in room ++ reverse cs → now ≡ reverse taken

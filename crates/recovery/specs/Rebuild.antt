@@ -1,12 +1,15 @@
 -- What is made of what the log says of a page.
 use Rattle.std.specs.Prelude.{◌≡◌, ℕ, List, [], ◌∷◌, ◌++◌, map}
 use Rattle.index_page.specs.Page.{PageOfKind}
+use Rattle.index_page.specs.Page.PageOfKind.{Leaf as LeafPage, Index as IndexPage}
 use Rattle.frame_codec.specs.Frame.{Content}
 use Rattle.frame_codec.specs.Shown.{frame_of}
 use Rattle.frame_codec.specs.declared.frame.Frame as code
 use Rattle.flush_log.specs.FlushText.{whole_page}
 use Rattle.recovery.specs.PageByLog.{InLog, continued}
 use Rattle.recovery.specs.PageByLog.InLog.{Missing, Present, Broken}
+use Rattle.recovery.specs.declared.page_parts.PageParts.{PageParts}
+use Rattle.recovery.specs.declared.page_parts.PageParts.TheVariants.{Leaf, Index}
 use Rattle.recovery.specs.declared.rebuild.PageLog.{PageLog}
 use Rattle.recovery.specs.declared.rebuild.Pushed as pushed
 use Rattle.recovery.specs.declared.rebuild.Pushed.TheVariants as became
@@ -43,8 +46,13 @@ told_by (made.Broken log) = Broken
 
 -- ---- on the way
 
+-- the page of these parts
+abbrev pub page_of_parts : PageParts → PageOfKind
+page_of_parts (Leaf low chain) = LeafPage (record { low = low; layers = chain })
+page_of_parts (Index low chain) = IndexPage (record { low = low; layers = chain })
+
 -- what became of a page, on which what a frame says was to be put: the page has it, or nothing changed
 abbrev pub IsPushed : PageOfKind → Content → pushed.Pushed → Type 0
-IsPushed p c (became.Newer now) = (continued (Present p) c ≡ Present now) × (whole_page now ≡ whole_page p ++ c ∷ [])
-IsPushed p c (became.Unfit same f) = (continued (Present p) c ≡ Broken) × (same ≡ p) × (content_of f ≡ c)
-IsPushed p c (became.NoMemory same f) = (same ≡ p) × (content_of f ≡ c)
+IsPushed p c (became.Newer now) = (continued (Present p) c ≡ Present (page_of_parts now)) × (whole_page (page_of_parts now) ≡ whole_page p ++ c ∷ [])
+IsPushed p c (became.Unfit same f) = (continued (Present p) c ≡ Broken) × (page_of_parts same ≡ p) × (content_of f ≡ c)
+IsPushed p c (became.NoMemory same f) = (page_of_parts same ≡ p) × (content_of f ≡ c)

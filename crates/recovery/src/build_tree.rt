@@ -80,7 +80,7 @@ fn tree_of_pages(
     ensures home { IfOk result (λ tree. AreAllHome tree) }
 {
     let logs = gathering.into_logs()?;
-    let Ok(made) = run_round(rt, crew, &NoGate, &RebuildWork, logs) else {
+    let Ok(made) = run_round(rt, crew, &NoGate, &RebuildWork { alloc }, logs) else {
         return Err(Fault::NoMemory);
     };
     let table = table_of(alloc, made)?;

@@ -13,6 +13,7 @@ pub mod built_page;
 pub mod gather;
 pub mod laws;
 mod log_so_far;
+mod page_parts;
 pub mod read_bytes;
 mod read_disk;
 pub mod read_log;

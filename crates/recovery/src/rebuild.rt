@@ -4,13 +4,15 @@ ghost use Rattle.crew.specs.Turn.{IfDone, IfBack};
 ghost use Rattle.frame_codec.specs.Frame.Content.{FullLeaf, DeltaLeaf, FullIndex, DeltaIndex};
 ghost use Rattle.flush_log.specs.FlushText.{whole_page};
 ghost use Rattle.recovery.specs.PageByLog.{base_in, told_page};
-ghost use Rattle.recovery.specs.Rebuild.{content_of, contents_in, held_log, held_done, told_by, IsPushed};
+ghost use Rattle.recovery.specs.PageByLog.InLog.{Present};
+ghost use Rattle.recovery.specs.BuiltPage.{HasRoomToUndo};
+ghost use Rattle.recovery.specs.Rebuild.{content_of, contents_in, held_log, held_done, told_by, page_of_parts, IsPushed};
 
 use crate::built_page::BuiltPage;
+use crate::page_parts::PageParts;
 use crew::{Turn, Work};
 use delta_chain::{Chain, Run};
 use frame_codec::Frame;
-use index_page::Page;
 use keys::{Key, Pid, Value};
 use std::alloc::Global;
 
@@ -38,59 +40,67 @@ pub enum Rebuilt {
 // What became of a page and of a frame that was to be put on it.
 #[derive(Drop)]
 enum Pushed {
-    Newer(Page<Global>),
-    Unfit(Page<Global>, Frame),
-    NoMemory(Page<Global>, Frame),
+    Newer(PageParts),
+    Unfit(PageParts, Frame),
+    NoMemory(PageParts, Frame),
 }
 
 // The page that a frame is by itself, or the frame where it is no base.
-fn begin(frame: Frame) -> Result<Page<Global>, Frame>
+fn begin(frame: Frame) -> Result<PageParts, Frame>
     ensures { MatchResult result
-        (λ page. (base_in (content_of frame) ≡ Some page) × (whole_page page ≡ content_of frame ∷ []))
+        (λ page. (base_in (content_of frame) ≡ Some (page_of_parts page)) × (whole_page (page_of_parts page) ≡ content_of frame ∷ []))
         (λ back. (base_in (content_of frame) ≡ None) × (content_of back ≡ content_of frame)) }
 {
     match frame {
-        Frame::FullLeaf { low, base, .. } => Ok(Page::leaf(low, Chain::of_base(base))),
-        Frame::FullIndex { low, base, .. } => Ok(Page::index(low, Chain::of_base(base))),
+        Frame::FullLeaf { low, base, .. } => Ok(PageParts::Leaf(low, Chain::of_base(base))),
+        Frame::FullIndex { low, base, .. } => Ok(PageParts::Index(low, Chain::of_base(base))),
         other => Err(other),
     }
 }
 
 // Puts a run on a leaf.
-fn push_on_leaf(page: Page<Global>, pid: Pid, run: Run<Value<Global>, Global>) -> Pushed
-    ensures { IsPushed page (DeltaLeaf run) result }
+fn push_on_leaf(page: PageParts, pid: Pid, run: Run<Value<Global>, Global>) -> Pushed
+    ensures { IsPushed (page_of_parts page) (DeltaLeaf run) result }
 {
-    if page.as_leaf().is_none() {
-        return Pushed::Unfit(page, Frame::DeltaLeaf { pid, run });
-    }
-    let (low, mut chain) = page.into_leaf();
-    match chain.prepend(run) {
-        Ok(()) => Pushed::Newer(Page::leaf(low, chain)),
-        Err((_refused, run)) => {
-            Pushed::NoMemory(Page::leaf(low, chain), Frame::DeltaLeaf { pid, run })
+    match page {
+        PageParts::Leaf(low, chain) => {
+            let mut chain = chain;
+            match chain.prepend(run) {
+                Ok(()) => Pushed::Newer(PageParts::Leaf(low, chain)),
+                Err((_refused, run)) => {
+                    Pushed::NoMemory(PageParts::Leaf(low, chain), Frame::DeltaLeaf { pid, run })
+                }
+            }
+        }
+        PageParts::Index(low, chain) => {
+            Pushed::Unfit(PageParts::Index(low, chain), Frame::DeltaLeaf { pid, run })
         }
     }
 }
 
 // Puts a run on an index page.
-fn push_on_index(page: Page<Global>, pid: Pid, run: Run<Pid, Global>) -> Pushed
-    ensures { IsPushed page (DeltaIndex run) result }
+fn push_on_index(page: PageParts, pid: Pid, run: Run<Pid, Global>) -> Pushed
+    ensures { IsPushed (page_of_parts page) (DeltaIndex run) result }
 {
-    if page.as_index().is_none() {
-        return Pushed::Unfit(page, Frame::DeltaIndex { pid, run });
-    }
-    let (low, mut chain) = page.into_index();
-    match chain.prepend(run) {
-        Ok(()) => Pushed::Newer(Page::index(low, chain)),
-        Err((_refused, run)) => {
-            Pushed::NoMemory(Page::index(low, chain), Frame::DeltaIndex { pid, run })
+    match page {
+        PageParts::Leaf(low, chain) => {
+            Pushed::Unfit(PageParts::Leaf(low, chain), Frame::DeltaIndex { pid, run })
+        }
+        PageParts::Index(low, chain) => {
+            let mut chain = chain;
+            match chain.prepend(run) {
+                Ok(()) => Pushed::Newer(PageParts::Index(low, chain)),
+                Err((_refused, run)) => {
+                    Pushed::NoMemory(PageParts::Index(low, chain), Frame::DeltaIndex { pid, run })
+                }
+            }
         }
     }
 }
 
 // Puts what the frame says on the page, as its newest run.
-fn push(page: Page<Global>, frame: Frame) -> Pushed
-    ensures { IsPushed page (content_of frame) result }
+fn push(page: PageParts, frame: Frame) -> Pushed
+    ensures { IsPushed (page_of_parts page) (content_of frame) result }
 {
     match frame {
         Frame::DeltaLeaf { pid, run } => push_on_leaf(page, pid, run),
@@ -136,26 +146,23 @@ fn push_index_frames(
 }
 
 // Takes a page apart: what its frames were, behind those that were not put on it yet, with the first on top.
-fn take_apart(pid: Pid, page: Page<Global>, frames: Vec<Frame>) -> Vec<Frame>
-    requires { length frames.items + length (whole_page page) ≤ vec_capacity frames }
-    ensures { contents_in result.items ≡ contents_in frames.items ++ reverse (whole_page page) }
+fn take_apart(pid: Pid, page: PageParts, frames: Vec<Frame>) -> Vec<Frame>
+    requires { length frames.items + length (whole_page (page_of_parts page)) ≤ vec_capacity frames }
+    ensures { contents_in result.items ≡ contents_in frames.items ++ reverse (whole_page (page_of_parts page)) }
 {
-    if page.as_leaf().is_some() {
-        let (low, chain) = page.into_leaf();
-        push_leaf_frames(pid, low, chain, frames)
-    } else {
-        let (low, chain) = page.into_index();
-        push_index_frames(pid, low, chain, frames)
+    match page {
+        PageParts::Leaf(low, chain) => push_leaf_frames(pid, low, chain, frames),
+        PageParts::Index(low, chain) => push_index_frames(pid, low, chain, frames),
     }
 }
 
 // The log of a page again: of what became of the frames that were put on it, of this one, and of those that are left, the first
 // on top.
-fn put_back(pid: Pid, page: Page<Global>, frame: Frame, mut frames: Vec<Frame>) -> PageLog
-    requires { length frames.items + length (whole_page page) < vec_capacity frames }
+fn put_back(pid: Pid, page: PageParts, frame: Frame, mut frames: Vec<Frame>) -> PageLog
+    requires { length frames.items + length (whole_page (page_of_parts page)) < vec_capacity frames }
     ensures { held_log result ≡ record {
       pid = pid;
-      contents = whole_page page ++ content_of frame ∷ reverse (contents_in frames.items);
+      contents = whole_page (page_of_parts page) ++ content_of frame ∷ reverse (contents_in frames.items);
     } }
 {
     frames.push_reserved(frame);
@@ -182,7 +189,7 @@ fn without_page(pid: Pid, first: Frame, mut frames: Vec<Frame>) -> Rebuilt
 
 /// What the frames of a page make: the page, none, or that they fit no page. A base is moved into its page, and so are the runs.
 /// `Back` comes only where memory was refused.
-pub fn rebuild(log: PageLog) -> Turn<PageLog, Rebuilt>
+pub fn rebuild(alloc: Global, log: PageLog) -> Turn<PageLog, Rebuilt>
     ensures made { IfDone result (λ done. told_by done ≡ told_page (held_log log).contents) }
     ensures origin { IfDone result (λ done. held_done done ≡ held_log log) }
     ensures back { IfBack result (λ again. held_log again ≡ held_log log) }
@@ -205,11 +212,30 @@ pub fn rebuild(log: PageLog) -> Turn<PageLog, Rebuilt>
             Pushed::NoMemory(page, frame) => return Turn::Back(put_back(pid, page, frame, frames)),
         };
     }
-    Turn::Done(Rebuilt::Page(BuiltPage {
-        pid,
-        page,
-        room: frames,
-    }))
+    finish(alloc, pid, page, frames)
+}
+
+// The page of these parts, on which all its frames were put, so that their room is left; or these frames again, where memory is refused.
+fn finish(alloc: Global, pid: Pid, page: PageParts, room: Vec<Frame>) -> Turn<PageLog, Rebuilt>
+    requires { HasRoomToUndo (page_of_parts page) room }
+    ensures made { IfDone result (λ done. told_by done ≡ Present (page_of_parts page)) }
+    ensures origin { IfDone result (λ done. held_done done ≡ record { pid = pid; contents = whole_page (page_of_parts page) }) }
+    ensures back { IfBack result (λ again. held_log again ≡ record { pid = pid; contents = whole_page (page_of_parts page) }) }
+{
+    match page.into_page(alloc) {
+        Ok(page) => Turn::Done(Rebuilt::Page(BuiltPage { pid, page, room })),
+        Err(page) => Turn::Back(log_of(pid, page, room)),
+    }
+}
+
+// What the log said of a page of these parts, of whose frames the room is left.
+fn log_of(pid: Pid, page: PageParts, room: Vec<Frame>) -> PageLog
+    requires { HasRoomToUndo (page_of_parts page) room }
+    ensures { held_log result ≡ record { pid = pid; contents = whole_page (page_of_parts page) } }
+{
+    let mut frames = take_apart(pid, page, room);
+    frames.reverse();
+    PageLog { pid, frames }
 }
 
 // What the log said of a page that was built.
@@ -217,14 +243,15 @@ fn taken_apart(built: BuiltPage) -> PageLog
     ensures { held_log result ≡ record { pid = built.0; contents = whole_page built.1 } }
 {
     let BuiltPage { pid, page, room } = built;
-    let mut frames = take_apart(pid, page, room);
-    frames.reverse();
-    PageLog { pid, frames }
+    log_of(pid, PageParts::of(page), room)
 }
 
 /// The work of building pages again: what the log says of a page goes in, and what that makes comes out.
 #[derive(Drop)]
-pub struct RebuildWork;
+pub struct RebuildWork {
+    /// Where the lists of index pages' children are allocated.
+    pub alloc: Global,
+}
 
 impl Work for RebuildWork {
     ghost use Rattle.std.specs.Prelude.{⊤};
@@ -250,7 +277,7 @@ impl Work for RebuildWork {
     ghost made = { λ _ h. told_page h.contents };
 
     fn work(&self, job: PageLog) -> Turn<PageLog, Rebuilt> {
-        rebuild(job)
+        rebuild(self.alloc, job)
     }
 
     fn undo(&self, done: Rebuilt) -> PageLog {

@@ -4,8 +4,8 @@ use Rattle.std.specs.List.{All}
 use Rattle.std.specs.Option.{option_map}
 use Rattle.std.proofs.lemmas.Bool.{eqb-true, eqb-false, eq-eqb, cond-true}
 use Rattle.std.proofs.lemmas.Grind.{common_steps}
-use Rattle.std.proofs.lemmas.List.{length-append, length-map, length-set, append-nil, take-append-drop, drop_more, drop_at}
-use Rattle.std.proofs.lemmas.List.Elements.{All-head, All-tail, All-rest, All-drop, All-nil, All-cons, All-filter, filter_passes, filter-append}
+use Rattle.std.proofs.lemmas.List.{length-append, length-map, length-set, append-nil, take-append-drop, take_at, drop_more, drop_at}
+use Rattle.std.proofs.lemmas.List.Elements.{All-head, All-tail, All-rest, All-take, All-drop, All-nil, All-cons, All-filter, filter_passes, filter-append}
 use Rattle.std.proofs.lemmas.Option.{gets, none-some, same_Some, slice_get_past, slice_get_cases, slice_get-get_or, slice_get-map, slice_get_read, get_or_from_slice_get}
 use Rattle.keys.specs.CommandKey.{is_scan}
 use Rattle.keys.specs.Lists.{flat}
@@ -54,7 +54,7 @@ module _ {A : Type 0} where
   length-with_pieces cs [] rs = refl
   length-with_pieces cs (p ∷ ps) rs = length-with_pieces cs ps _ ∙ length-set rs p.place _
 
-  with_pieces-append : (cs : List (Command A)) (ps qs : List (Piece A)) (rs : List (Reply A)) → with_pieces cs (ps ++ qs) rs ≡ with_pieces cs qs (with_pieces cs ps rs)
+  pub with_pieces-append : (cs : List (Command A)) (ps qs : List (Piece A)) (rs : List (Reply A)) → with_pieces cs (ps ++ qs) rs ≡ with_pieces cs qs (with_pieces cs ps rs)
   with_pieces-append cs [] qs rs = refl
   with_pieces-append cs (p ∷ ps) qs rs = with_pieces-append cs ps qs _
 
@@ -73,13 +73,30 @@ module _ {A : Type 0} where
       let put : new ≡ with_answer (limit_by (slice_get cs q.place)) (get_or rs q.place q.reply) q.reply = made ∙ ap (λ (n : ℕ). with_answer n (get_or rs q.place old) q.reply) (sym limit) ∙ ap (λ (at : Reply A). with_answer (limit_by (slice_get cs q.place)) at q.reply) (sym stood) in
       ap (λ (r : Reply A). with_pieces cs rest (set rs q.place r)) put ∙ subst (λ (ps : List (Piece A)). with_pieces cs ps rs ≡ end) e h
 
+  -- ---- the pieces of a page, in two parts
+
+  module _ (cs : List (Command A)) (ps front back : List (Piece A)) (parts : ps ≡ front ++ back) where
+    pub within-front : All (IsPlaceOf cs) ps → All (IsPlaceOf cs) front
+    within-front h =
+        let all : take (length front) ps ≡ front = ap (take (length front)) parts ∙ take_at front back (length front) refl in
+        subst (All (IsPlaceOf cs)) all (All-take (IsPlaceOf cs) (length front) ps h)
+
+    pub within-back : All (IsPlaceOf cs) ps → All (IsPlaceOf cs) back
+    within-back h =
+        let all : drop (length front) ps ≡ back = ap (drop (length front)) parts ∙ drop_at front back (length front) refl in
+        subst (All (IsPlaceOf cs)) all (All-drop (IsPlaceOf cs) (length front) ps h)
+
+    pub with_pieces-parts : (rs mid end : List (Reply A)) → mid ≡ with_pieces cs front rs → end ≡ with_pieces cs back mid → end ≡ with_pieces cs ps rs
+    with_pieces-parts rs mid end e h =
+        h ∙ ap (with_pieces cs back) e ∙ sym (with_pieces-append cs front back rs) ∙ ap (λ (qs : List (Piece A)). with_pieces cs qs rs) (sym parts)
+
   -- ---- one page more
 
+  pub within-page : (cs : List (Command A)) (page : List (Piece A)) (left rest : List (List (Piece A))) → left ≡ page ∷ rest → All (IsPlaceOf cs) (flat left) → All (IsPlaceOf cs) page
+  within-page cs page left rest e h = within-front cs (flat left) page (flat rest) (ap (λ (pages : List (List (Piece A))). flat pages) e) h
+
   pub within-pages : (cs : List (Command A)) (page : List (Piece A)) (left rest : List (List (Piece A))) → left ≡ page ∷ rest → All (IsPlaceOf cs) (flat left) → All (IsPlaceOf cs) (flat rest)
-  within-pages cs page left rest e h =
-      let parts : flat left ≡ page ++ flat rest = ap (λ (pages : List (List (Piece A))). flat pages) e in
-      let back : drop (length page) (flat left) ≡ flat rest = ap (drop (length page)) parts ∙ drop_at page (flat rest) (length page) refl in
-      subst (All (IsPlaceOf cs)) back (All-drop (IsPlaceOf cs) (length page) (flat left) h)
+  within-pages cs page left rest e h = within-back cs (flat left) page (flat rest) (ap (λ (pages : List (List (Piece A))). flat pages) e) h
 
   pub with_pieces-page : (cs : List (Command A)) (page : List (Piece A)) (left rest : List (List (Piece A))) (rs end : List (Reply A)) → left ≡ page ∷ rest → with_pieces cs (flat left) rs ≡ end → with_pieces cs (flat rest) (with_pieces cs page rs) ≡ end
   with_pieces-page cs page left rest rs end e h = sym (with_pieces-append cs page (flat rest) rs) ∙ subst (λ (pages : List (List (Piece A))). with_pieces cs (flat pages) rs ≡ end) e h
@@ -179,14 +196,18 @@ module _ {A : Type 0} where
   past : (cs : List (Command A)) (ps : List (Piece A)) (xs : List (Reply A)) (i : ℕ) → length xs ≡ length cs → length cs ≤ i → slice_get xs i ≡ reply_at cs ps i
   past cs ps xs i len h = slice_get_past xs i (omega arith) ∙ sym (ap (λ (o : Option (Command A)). joined_replies_at o (replies_of (pieces_at ps i))) (slice_get_past cs i h))
 
-  length-blanks : (cs : List (Command A)) → length (blanks_of cs) ≡ length cs
+  pub length-blanks : (cs : List (Command A)) → length (blanks_of cs) ≡ length cs
   length-blanks cs = length-map cs blank_of
+
+  -- and so long is the list that pieces make of the blanks
+  pub count-with_pieces : (cs : List (Command A)) (ps : List (Piece A)) → length (with_pieces cs ps (blanks_of cs)) ≡ length cs
+  count-with_pieces cs ps = length-with_pieces cs ps (blanks_of cs) ∙ length-blanks cs
 
   -- the list that the pieces make of the blanks has the reply of each place
   pub replies-with_pieces : (cs : List (Command A)) (ps : List (Piece A)) → AreAnswers cs ps → (i : ℕ) → slice_get (with_pieces cs ps (blanks_of cs)) i ≡ reply_at cs ps i
   replies-with_pieces cs ps answers i = elim ((slice_get_cases cs i).1) [
     | inl w ↦ with_pieces-get cs ps (blanks_of cs) i (let all = length-blanks cs in let h = w.1 in omega arith) ∙ at_place cs ps i w.0 answers w.1 w.2
-    | inr w ↦ past cs ps (with_pieces cs ps (blanks_of cs)) i (length-with_pieces cs ps (blanks_of cs) ∙ length-blanks cs) w.0
+    | inr w ↦ past cs ps (with_pieces cs ps (blanks_of cs)) i (count-with_pieces cs ps) w.0
   ]
 
   -- ---- the law

@@ -1,6 +1,6 @@
-//! What the replies of a batch are, in the words of its pieces. The law is the contract of a function with an empty
+//! What the replies of a batch are, in the words of its pieces. Each law is the contract of a function with an empty
 //! body.
-ghost use Rattle.std.specs.Prelude.{◌≡◌, ℕ, false, List, map, take, flat_map, length, slice_get, Option, Some};
+ghost use Rattle.std.specs.Prelude.{◌≡◌, ℕ, false, List, ◌++◌, map, take, flat_map, length, slice_get, Option, Some};
 ghost use Rattle.std.specs.List.{All};
 ghost use Rattle.keys.specs.Bytes.{Bytes};
 ghost use Rattle.keys.specs.Places.{is_scan_at};
@@ -9,9 +9,17 @@ ghost use Rattle.keys.specs.declared.command.Command.TheVariants.{Scan};
 ghost use Rattle.keys.specs.declared.command.Reply.{Reply};
 ghost use Rattle.keys.specs.declared.command.Reply.TheVariants.{Rows};
 ghost use Rattle.keys.specs.declared.piece.Piece.{Piece};
-ghost use Rattle.replies.specs.ByPlace.{AreAnswers, pieces_at, rows_of, reply_at};
+ghost use Rattle.replies.specs.ByPlace.{AreAnswers, pieces_at, rows_of, reply_at, blank_of, with_pieces};
 
 use std::alloc::Allocator;
+
+/// The blanks of a batch with all answers added are the replies: as many as commands, and at each place the reply there. Pieces
+/// that are added page by page are added one after the other.
+pub fn blanks_with_all_answers_are_the_replies<A: Allocator>()
+    ensures count { (cs : List (Command A)) (ps : List (Piece A)) → length (with_pieces cs ps (map blank_of cs)) ≡ length cs }
+    ensures replies { (cs : List (Command A)) (ps : List (Piece A)) → AreAnswers cs ps → (place : ℕ) → slice_get (with_pieces cs ps (map blank_of cs)) place ≡ reply_at cs ps place }
+    ensures pages { (cs : List (Command A)) (ps qs : List (Piece A)) (rs : List (Reply A)) → with_pieces cs (ps ++ qs) rs ≡ with_pieces cs qs (with_pieces cs ps rs) }
+{}
 
 /// The reply at the place of a command that is no scan is that of the place's piece. A scan's is the rows of its pieces, each piece
 /// behind the one before it, and of these the first up to the limit. A list of as many replies as commands in which all these stand

@@ -3,36 +3,79 @@
 
 pub mod laws;
 
-ghost use Rattle.std.specs.Prelude.{◌≡◌, ℕ, ◌<◌, map, take, length, slice_get, vec_items, IfOk, OnOk};
+ghost use Rattle.std.specs.Prelude.{◌≡◌, ◌<◌, map, take, length, IfOk, OnOk};
 ghost use Rattle.std.specs.List.{All};
-ghost use Rattle.keys.specs.Lists.{flat};
+ghost use Rattle.std.specs.Option.{option_to_list};
 ghost use Rattle.keys.specs.declared.command.Reply.TheVariants.{Rows};
-ghost use Rattle.replies.specs.ByPlace.{AreAnswers, IsPlaceOf, reply_at, blank_of, limit_of, with_rows, with_answer, with_pieces};
+ghost use Rattle.replies.specs.ByPlace.{IsPlaceOf, blank_of, limit_of, with_rows, with_answer, with_pieces};
 
-use keys::{Command, Piece, Reply, RowList};
+use keys::{Command, Piece, Pieces, Reply, RowList};
 use std::alloc::{AllocError, Global};
 
-/// The replies to the commands of a batch, each at its command's place. `pieces` has the answers of each page: just one to a
-/// command that is no scan, and to a scan its rows on each page, whose order is that of the pages. Replies and rows are moved,
-/// and no row is copied. `AllocError` comes only where memory was refused to the list of replies, or to one of rows.
-pub fn assemble(
+/// For each command of a batch a reply that answers are to be added to: no rows yet for a scan, and else one that will be written
+/// over. Once each page's answers were added (`add_answers`), these are the replies. `AllocError` comes only where memory was
+/// refused to the list.
+pub fn blank_replies(
     alloc: Global,
-    pieces: Vec<Vec<Piece<Global>>>,
     commands: &[Command<Global>],
 ) -> Result<Vec<Reply<Global>>, AllocError>
-    requires { AreAnswers commands.now (flat (map vec_items pieces.items)) }
-    ensures count { IfOk result (λ replies. length replies.items ≡ length commands.now) }
-    ensures replies { IfOk result (λ replies. (place : ℕ) → slice_get replies.items place ≡ reply_at commands.now (flat (map vec_items pieces.items)) place) }
+    ensures { IfOk result (λ replies. replies.items ≡ map blank_of commands.now) }
 {
-    let mut replies = blanks(alloc, commands)?;
-    for page in pieces {
-        add_page(&mut replies, commands, page)?;
+    let mut blanks = Vec::with_capacity(alloc, commands.len())?;
+    for command in commands {
+        blanks.push_reserved(blank(alloc, command));
     }
-    Ok(replies)
+    Ok(blanks)
 }
 
-// Adds each answer of a page to what stands at its place.
-fn add_page(
+// The reply that answers to this command are to be added to.
+fn blank(alloc: Global, command: &Command<Global>) -> Reply<Global>
+    ensures { result ≡ blank_of command.now }
+{
+    match command {
+        Command::Scan(_, _, _) => Reply::Rows(RowList::empty(alloc)),
+        _ => Reply::Missing,
+    }
+}
+
+/// Adds each answer of a page to what stands at its command's place. Of a scan the rows go behind those that stand there, up to its
+/// limit: so pages are added in their order. Replies and rows are moved, and no row is copied. `AllocError` comes only where memory
+/// was refused to a list of rows.
+pub fn add_answers(
+    replies: &mut [Reply<Global>],
+    commands: &[Command<Global>],
+    pieces: Pieces<Global>,
+) -> Result<(), AllocError>
+    requires count { length replies.old ≡ length commands.now }
+    requires within { All (IsPlaceOf commands.now) pieces }
+    ensures { OnOk result (replies.new ≡ with_pieces commands.now pieces replies.old) }
+{
+    let (first, rest) = pieces.into_parts();
+    add_first(replies, commands, first)?;
+    add_all(replies, commands, rest)
+}
+
+// Adds a page's first answer, if it has any, to what stands at its place.
+fn add_first(
+    replies: &mut [Reply<Global>],
+    commands: &[Command<Global>],
+    first: Option<Piece<Global>>,
+) -> Result<(), AllocError>
+    requires count { length replies.old ≡ length commands.now }
+    requires within { All (IsPlaceOf commands.now) (option_to_list first) }
+    ensures { OnOk result (replies.new ≡ with_pieces commands.now (option_to_list first) replies.old) }
+{
+    match first {
+        Some(piece) => {
+            let Piece { place, reply } = piece;
+            add(&mut replies[place], &commands[place], reply)
+        }
+        None => Ok(()),
+    }
+}
+
+// Adds each of these answers to what stands at its place.
+fn add_all(
     replies: &mut [Reply<Global>],
     commands: &[Command<Global>],
     pieces: Vec<Piece<Global>>,
@@ -84,25 +127,5 @@ fn limit_of(command: &Command<Global>) -> usize
     match command {
         Command::Scan(_, _, limit) => *limit as usize,
         _ => 0,
-    }
-}
-
-// For each command a reply that answers are to be added to: no rows yet for a scan, and else one that will be written over.
-fn blanks(alloc: Global, commands: &[Command<Global>]) -> Result<Vec<Reply<Global>>, AllocError>
-    ensures { IfOk result (λ replies. replies.items ≡ map blank_of commands.now) }
-{
-    let mut blanks = Vec::with_capacity(alloc, commands.len())?;
-    for command in commands {
-        blanks.push_reserved(blank(alloc, command));
-    }
-    Ok(blanks)
-}
-
-fn blank(alloc: Global, command: &Command<Global>) -> Reply<Global>
-    ensures { result ≡ blank_of command.now }
-{
-    match command {
-        Command::Scan(_, _, _) => Reply::Rows(RowList::empty(alloc)),
-        _ => Reply::Missing,
     }
 }

@@ -1,10 +1,10 @@
 -- The shares of a level's pages, each in the order of the batch, are the routes to them.
 use Rattle.std.specs.Prelude.{◌≡◌, ℕ, ◌+◌, ◌<◌, Bool, true, false, ◌&&◌, ◌||◌, cond, List, [], ◌∷◌, ◌++◌, map, length, take, slice_get, Option, Some, None}
-use Rattle.std.proofs.Common.{refl, sym, ap, subst, ◌∙◌, get_or}
+use Rattle.std.proofs.Common.{refl, sym, ap, subst, ◌∙◌, get_or, arith}
 use Rattle.std.specs.List.{AllByRecursion, filter}
-use Rattle.std.specs.List.Sorted.{IsPermutation}
+use Rattle.std.specs.List.Sorted.{IsPermutation, IsNonDecreasing}
 use Rattle.std.proofs.lemmas.List.{map-append, take_more}
-use Rattle.std.proofs.lemmas.List.Sorted.{IsPermutation-trans, IsPermutation-append_comm}
+use Rattle.std.proofs.lemmas.List.Sorted.{IsPermutation-refl, IsPermutation-trans, IsPermutation-append_comm}
 use Rattle.std.proofs.lemmas.List.Kept.{IsStrictlySortedBy-filter}
 use Rattle.keys.specs.CommandKey.{key_of}
 use Rattle.keys.specs.Places.{is_some_that}
@@ -44,6 +44,27 @@ same_parts l ks rs qs e f p =
 
 pub same_order : (s : Share) (o p : Route) → o ≡ p → IsInBatchOrder s p → IsInBatchOrder s o
 same_order s o p e h = subst (λ (x : Route). IsInBatchOrder s x) (sym e) h
+
+-- ---- a share of one place
+
+rises_alone : (n : ℕ) → IsNonDecreasing (n ∷ [])
+rises_alone n = λ i j d l w. let same : i ≡ j = omega arith in rw same (omega arith)
+
+one_alone : (ks : List Keyed) (rs : List ℕ) (d : Keyed) → length ks ≡ 1 → length rs ≡ 0 → rs ++ places_of ks ≡ (get_or ks 0 d).1 ∷ []
+one_alone [] rs d h k = absurd (omega arith)
+one_alone (x ∷ []) [] d h k = refl
+one_alone (x ∷ []) (r ∷ rs) d h k = absurd (omega arith)
+one_alone (x ∷ y ∷ ks) rs d h k = absurd (omega arith)
+
+-- a share of one place is in order as it is
+pub order_of_one : (l : Lent) (ks : List Keyed) (rs : List ℕ) (d : Keyed) (o : Route) → ks ≡ l.keyed → rs ≡ l.reaching → length ks ≡ 1 → length rs ≡ 0 → o.pid ≡ l.pid → o.places ≡ (get_or ks 0 d).1 ∷ [] → IsInBatchOrder (share_of_lent l) o
+order_of_one l ks rs d o e f h k p n =
+    let all : all_of (share_of_lent l) ≡ o.places = ap (λ (xs : List ℕ). xs ++ places_of l.keyed) (sym f) ∙ ap (λ (xs : List Keyed). rs ++ places_of xs) (sym e) ∙ one_alone ks rs d h k ∙ sym n in
+    record {
+      pid = p;
+      same = subst (λ (xs : List ℕ). IsPermutation (all_of (share_of_lent l)) xs) all (IsPermutation-refl (all_of (share_of_lent l)));
+      rising = subst (λ (xs : List ℕ). IsNonDecreasing xs) (sym n) (rises_alone (get_or ks 0 d).1);
+    }
 
 -- lists that have the same among them are both empty, or neither is
 same_some : (xs ys : List ℕ) → ((n : ℕ) → is_among n xs ≡ is_among n ys) → has_some xs ≡ has_some ys

@@ -1,4 +1,5 @@
 pub mod BatchKeys
+pub mod KeptPlaces
 pub mod Keyed
 pub mod Places
 pub mod Routes

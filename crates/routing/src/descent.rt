@@ -11,7 +11,7 @@ ghost use Rattle.mapping.specs.TreeInMemory.{AreAllHome, tree_of};
 ghost use Rattle.routing.specs.Keyed.{places_of, AreKeyed};
 ghost use Rattle.routing.specs.Routes.{routes};
 ghost use Rattle.routing.specs.SortedPlaces.{AreSortedPlaces};
-ghost use Rattle.routing.specs.Shares.{share_of_lent, lent_shares, all_of, root_shares, shares_below, next_key, CanHandDownKeyed, CanHandDownShare, is_met, AreNoScans, AreReadyShares, AreKeyedShares, share_below, HasEachPlaceOnce, AreInBatchOrder};
+ghost use Rattle.routing.specs.Shares.{share_of_lent, lent_shares, all_of, root_shares, shares_below, next_key, CanHandDownKeyed, CanHandDownShare, is_met, AreNoScans, AreReadyShares, AreKeyedShares, share_below, HasEachPlaceOnce, IsInBatchOrder, AreInBatchOrder};
 
 use crate::batch::BatchWithEnds;
 use crate::page_run::PageRun;
@@ -249,8 +249,23 @@ fn each_in_batch_order(alloc: Global, shares: &[Share<'_, '_>]) -> Result<Vec<Pa
 {
     let mut runs = Vec::with_capacity(alloc, shares.len())?;
     for share in shares {
-        let places = in_batch_order(alloc, share.keyed(), share.reaching())?;
-        runs.push(PageRun::new(share.pid(), places))?;
+        let run = page_run_of(alloc, share)?;
+        runs.push(run)?;
     }
     Ok(runs)
+}
+
+// The share with its places in the order of the batch. A single place is in order, and needs no list.
+fn page_run_of(alloc: Global, share: &Share<'_, '_>) -> Result<PageRun, AllocError>
+    requires { HasEachPlaceOnce (share_of_lent share.now) }
+    ensures { IfOk result (λ run. IsInBatchOrder (share_of_lent share.now) run) }
+{
+    let pid = share.pid();
+    let keyed = share.keyed();
+    let reaching = share.reaching();
+    if keyed.len() == 1 && reaching.is_empty() {
+        return Ok(PageRun::of_one(pid, keyed[0].1));
+    }
+    let places = in_batch_order(alloc, keyed, reaching)?;
+    Ok(PageRun::new(pid, places))
 }

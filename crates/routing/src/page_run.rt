@@ -1,26 +1,36 @@
-ghost use Rattle.std.specs.Prelude.{◌≡◌};
+ghost use Rattle.std.specs.Prelude.{◌≡◌, ◌∷◌, []};
 ghost use Rattle.std.specs.List.Sorted.{IsStrictlyIncreasing};
 
 use keys::Pid;
 use std::marker::Model;
+use std::slice;
 
 /// The commands of a batch that one page has to work: the page's id, and the places of these commands in the batch,
-/// counted from 0, in strictly rising order. Contracts see it as a `Route`.
+/// counted from 0, in strictly rising order. Contracts see it as a `Route`. A single place is kept without a list: in a batch
+/// of keys that lie far apart, most pages have just one.
 #[derive(Drop)]
 pub struct PageRun {
     pid: Pid,
-    places: Vec<usize>,
+    places: KeptPlaces,
+}
+
+#[derive(Drop)]
+enum KeptPlaces {
+    One(usize),
+    Many(Vec<usize>),
 }
 
 impl Model for PageRun {
-    ghost use Rattle.std.specs.List.Sorted.{IsStrictlyIncreasing};
     ghost use Rattle.routing.specs.Routes.{Route};
 
     ghost Value = { Route };
 
-    ghost view = { λ r. record { pid = r.pid; places = r.places.items } };
+    ghost use Rattle.std.specs.List.Sorted.{IsStrictlyIncreasing};
+    ghost use Rattle.routing.specs.KeptPlaces.{places_kept};
 
-    ghost invariant = { λ r. IsStrictlyIncreasing r.places.items };
+    ghost view = { λ r. record { pid = r.pid; places = places_kept r.places } };
+
+    ghost invariant = { λ r. IsStrictlyIncreasing (places_kept r.places) };
 }
 
 impl PageRun {
@@ -29,7 +39,20 @@ impl PageRun {
         requires { IsStrictlyIncreasing places.items }
         ensures { result ≡ record { pid = pid; places = places.items } }
     {
-        PageRun { pid, places }
+        PageRun {
+            pid,
+            places: KeptPlaces::Many(places),
+        }
+    }
+
+    /// The run of the page with this id, which has to work the command at this place alone. It takes no memory.
+    pub fn of_one(pid: Pid, place: usize) -> PageRun
+        ensures { result ≡ record { pid = pid; places = place ∷ [] } }
+    {
+        PageRun {
+            pid,
+            places: KeptPlaces::One(place),
+        }
     }
 
     /// The page's id.
@@ -44,6 +67,9 @@ impl PageRun {
         ensures value { result.now ≡ self.now.places }
         ensures rising { IsStrictlyIncreasing self.now.places }
     {
-        &self.places
+        match &self.places {
+            KeptPlaces::One(place) => slice::from_ref(place),
+            KeptPlaces::Many(places) => places.as_slice(),
+        }
     }
 }

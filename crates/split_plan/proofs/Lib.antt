@@ -1,3 +1,4 @@
+pub mod Crossing
 pub mod ChangeLaws
 pub mod CutLaws
 mod Exchange

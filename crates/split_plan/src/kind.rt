@@ -82,6 +82,6 @@ impl Kind for Pid {
     fn page(low: Key<Global>, base: Base<Self, Global>) -> Page<Global>
         ensures { result ≡ Index (bare low base) }
     {
-        Page::index(low, Chain::of_base(base))
+        Page::bare_index(low, base)
     }
 }

@@ -1,3 +1,4 @@
+mod Crossing
 mod ChainLaws
 mod LevelLaws
 mod MetLaws

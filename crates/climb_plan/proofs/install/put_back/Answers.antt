@@ -8,6 +8,6 @@ loop-job-preserved c =
     let job = c.in-Some.job in
     let left = c.in-Some.ensures.steps.0 in
     record {
-      away = away_next tree _ _ job.pid _ _ (ap (map (λ j. j.pid)) left) c.put.ensures (placed_apart tree.table job.pid (Some job.page)) c.loop-job.invariant.away;
-      put = put_step _ _ _ (job.pid, job.page) _ _ (ap (map (λ j. (j.pid, j.page))) left) c.put.ensures c.loop-job.invariant.put;
+      away = away_next tree _ _ job.pid _ _ (ap (map (λ j. j.pid)) left) c.put_job_back.ensures (placed_apart tree.table job.pid (Some job.page)) c.loop-job.invariant.away;
+      put = put_step _ _ _ (job.pid, job.page) _ _ (ap (map (λ j. (j.pid, j.page))) left) c.put_job_back.ensures c.loop-job.invariant.put;
     }

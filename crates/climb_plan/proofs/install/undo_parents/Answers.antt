@@ -7,7 +7,7 @@ loop-parent-preserved c =
     let tree = c.loop-parent.tree in
     let held = c.in-Some.parent.held in
     let left = c.in-Some.ensures.steps.0 in
-    let now = put_held tree _ held _ c.undo-page.ensures c.put.ensures in
+    let now = put_held tree _ held _ c.undo.ensures c.put_job_back.ensures in
     record {
       away = away_next tree _ _ held.pid _ _ (ap (map (λ d. d.held.pid)) left) now (placed_apart tree.table held.pid (Some held.page)) c.loop-parent.invariant.away;
       put = put_step _ _ _ (held.pid, held.page) _ _ (ap (map (λ d. (d.held.pid, d.held.page))) left) now c.loop-parent.invariant.put;

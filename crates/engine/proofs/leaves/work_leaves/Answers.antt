@@ -1,5 +1,8 @@
 use Rattle.std.proofs.Common.{map}
+use denote.Exit.{no}
+use denote.Param.Send.{param_send, arg_send}
 use Rattle.page_runs.specs.LeafWork.{leaf_held_of}
+use Rattle.page_runs.proofs.Crossing.{done_send}
 use Rattle.engine.proofs.BatchLeaves.{all_leaves, made_of, back_away, back_is_before}
 use Rattle.engine.proofs.leaves.work_leaves.Goals as goal
 
@@ -9,6 +12,9 @@ take_leaves-requires g c = (c.requires.routes.home, c.requires.routes.distinct)
 pub run_round-requires-after_bounds : goal.run_round-requires-after_bounds
 run_round-requires-after_bounds g c κs within =
     all_leaves c.args.tree.now.table c.args.work.now.commands.now c.in_ok-jobs.jobs.items c.args.page_runs.items c.in_ok-jobs.ensures.held c.requires.routes
+
+pub run_round-requires-send-W-Done : goal.run_round-requires-send-W-Done
+run_round-requires-send-W-Done g c κs within = param_send _ _ (arg_send _ no _ done_send)
 
 pub put_back-requires : goal.put_back-requires
 put_back-requires g c =

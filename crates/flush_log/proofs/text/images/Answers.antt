@@ -1,6 +1,10 @@
 use Rattle.std.proofs.Common.{map}
+use mir.Syntax.{erased}
+use denote.Exit.{no}
+use denote.Param.Send.{param_send, arg_send}
 use Rattle.mapping.specs.TreeInMemory.{tree_of}
 use Rattle.flush_log.specs.ImageWork.{job_held}
+use Rattle.flush_log.proofs.Crossing.{done_send}
 use Rattle.flush_log.proofs.TextImages.{can_be_written, each_can_be_written, images-text, images-are_some, images-frames}
 use Rattle.flush_log.proofs.text.images.Goals as goal
 
@@ -9,6 +13,9 @@ due_jobs-requires-clause-writable g c = λ pid. can_be_written (tree_of c.args.t
 
 pub run_round-requires-after_bounds : goal.run_round-requires-after_bounds
 run_round-requires-after_bounds g c κs within = each_can_be_written c.in_ok-jobs.jobs.items c.in_ok-jobs.ensures.due
+
+pub run_round-requires-send-W-Done : goal.run_round-requires-send-W-Done
+run_round-requires-send-W-Done g c κs within = param_send _ _ (arg_send _ no _ (done_send (record { mir = erased; lft = _ })))
 
 pub returns-in-Ok-clause-text : goal.returns-in-Ok-clause-text
 returns-in-Ok-clause-text g c =

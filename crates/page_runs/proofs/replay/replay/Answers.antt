@@ -1,4 +1,4 @@
-use Rattle.std.proofs.Common.{◌≡◌, ◌<◌, ℕ, List, ◌∷◌, ◌++◌, [], Some, length, take, get_or, slice_get, refl, ap, ◌∙◌, ◌+◌, arith, add-one}
+use Rattle.std.proofs.Common.{◌≡◌, ◌<◌, ℕ, List, ◌∷◌, ◌++◌, [], Some, length, take, get_or, slice_get, refl, arith, add-one}
 use Rattle.std.proofs.lemmas.Option.{slice_get_read, slice_get-get_or}
 use Rattle.std.specs.declared.alloc.Global.{Global}
 use Rattle.keys.specs.Order.{IsRising}
@@ -30,13 +30,11 @@ loop-place-preserved c =
     let so_far : List (Command Global) = commands_at batch (take i places) in
     let changes : after ≡ net_run held (so_far ++ command ∷ []) = changes_step held rising so_far command before after c.loop-place.invariant.changes c.in_ok-reply.ensures.changes in
     let map : with_run held after ≡ map_after (with_run held before) command = map_step held rising so_far command before after c.loop-place.invariant.changes changes in
-    let pieces = pieces_step batch places i place command (with_run held before) c.loop-place.pieces.items _ here there c.loop-place.invariant.pieces in
+    let pieces = pieces_step batch places i place command (with_run held before) c.loop-place.pieces _ here there c.loop-place.invariant.pieces in
     let fewest = fewest_after c.loop-place.fewest (with_run held before) command c.loop-place.invariant.fewest in
     record {
       changes = rw (add-one, commands_at-take batch places i place command here there) changes;
-      count = c.push_reserved.ensures.len ∙ ap (λ (n : ℕ). n + 1) c.loop-place.invariant.count;
-      room = c.push_reserved.ensures.capacity ∙ c.loop-place.invariant.room;
-      pieces = rw (add-one, c.push_reserved.ensures.items, c.in_ok-reply.ensures.reply, map) pieces;
+      pieces = rw (add-one, c.in_ok-push.ensures.ok, c.in_ok-reply.ensures.reply, map) pieces;
       fewest = rw (c.entries_after-fewest.ensures, c.in_ok-reply.ensures.reply, map) (omega (arith, fewest));
     }
 

@@ -1,4 +1,6 @@
 use Rattle.std.proofs.Common.{◌∙◌, List, sym, ap, subst}
+use denote.Exit.{no}
+use denote.Param.Send.{param_send, arg_send}
 use Rattle.mapping.specs.Proper.{AreRisingPids}
 use Rattle.mapping.specs.TreeInMemory.{TreeInMemory}
 use Rattle.flush_log.specs.Slot.{Slot}
@@ -6,10 +8,14 @@ use Rattle.recovery.specs.BuiltTree.{log_pids}
 use Rattle.recovery.specs.LogPages.{broken_in}
 use Rattle.recovery.specs.Rebuild.{HeldLog}
 use Rattle.recovery.proofs.BuildLaws.{said-of, found_of_same, found_leaves, slot_tree, home-table, built-table}
+use Rattle.recovery.proofs.Crossing.{rebuilt_send}
 use Rattle.recovery.proofs.build_tree.tree_of_pages.Goals as goal
 
 pub table_of-requires : goal.table_of-requires
 table_of-requires g c = subst (λ (hs : List HeldLog). AreRisingPids (log_pids hs)) (sym c.in-Ok.ensures.origin) c.in_ok-logs.ensures.rising
+
+pub run_round-requires-send-W-Done : goal.run_round-requires-send-W-Done
+run_round-requires-send-W-Done g c κs within = param_send _ _ (arg_send _ no _ rebuilt_send)
 
 pub returns-in_err-table-clause-err : goal.returns-in_err-table-clause-err
 returns-in_err-table-clause-err g c fs h =

@@ -2,8 +2,8 @@ use Rattle.std.proofs.Common.{◌≡◌, ◌∙◌, ◌≤◌, ◌++◌, ◌∷�
 use Rattle.frame_codec.specs.Frame.{Content}
 use Rattle.flush_log.specs.FlushText.{whole_page}
 use Rattle.recovery.specs.PageByLog.{told_page}
-use Rattle.recovery.specs.Rebuild.{HeldLog, contents_in, content_of}
-use Rattle.recovery.proofs.RebuildLaws.{popped, next_left, broken-told, page-told}
+use Rattle.recovery.specs.Rebuild.{HeldLog, contents_in, content_of, page_of_parts, held_done, held_log, told_by}
+use Rattle.recovery.proofs.RebuildLaws.{popped, next_left, broken-told, page-told, whole-alone, done-same, back-same}
 use Rattle.recovery.proofs.rebuild.rebuild.Goals as goal
 
 abbrev log : ℕ → List Content → HeldLog
@@ -27,7 +27,7 @@ loop-frame-init c =
     let fits : vec_len c.reverse.new.self ≤ vec_capacity c.reverse.new.self = search rules in
     let fewer = c.in-Some.ensures.cases in
     let kept = c.in-Some.ensures.capacity in
-    let one : length (whole_page c.in-Ok.page) ≡ 1 = ap (λ (cs : List Content). length cs) c.in-Ok.ensures.1 in
+    let one : length (whole_page (page_of_parts c.in-Ok.page)) ≡ 1 = ap (λ (cs : List Content). length cs) c.in-Ok.ensures.1 in
     record {
       said = ap (λ (cs : List Content). cs ++ reverse (contents_in left.items)) c.in-Ok.ensures.1 ∙ sym first;
       room = omega (arith, same, fits, fewer, kept, one);
@@ -35,7 +35,7 @@ loop-frame-init c =
 
 pub returns-in-Unfit-clause-made : goal.returns-in-Unfit-clause-made
 returns-in-Unfit-clause-made c =
-    let p = c.loop-frame.page in
+    let p = page_of_parts c.loop-frame.page in
     let left = c.pop-in-loop-frame.new.self.items in
     let next = next_left c.loop-frame.frames.items left c.in-Some-pop.frame c.in-Some-pop.ensures.items in
     broken-told p (content_of c.in-Some-pop.frame) (reverse (contents_in left)) (contents_in c.args.log.frames.items) c.in-Unfit.ensures.0
@@ -46,4 +46,21 @@ returns-clause-made c =
     let frames = c.loop-frame.frames in
     let same : length frames.items ≡ vec_len frames = search rules in
     let empty = c.in_default-pop.ensures.cases.0 in
-    page-told c.loop-frame.page frames.items (contents_in c.args.log.frames.items) (same ∙ empty) c.loop-frame.invariant.said
+    let told = page-told (page_of_parts c.loop-frame.page) frames.items (contents_in c.args.log.frames.items) (same ∙ empty) c.loop-frame.invariant.said in
+    done-same c.finish.result told_by _ _ told c.finish.ensures.made
+
+pub returns-clause-origin : goal.returns-clause-origin
+returns-clause-origin c =
+    let frames = c.loop-frame.frames in
+    let same : length frames.items ≡ vec_len frames = search rules in
+    let empty = c.in_default-pop.ensures.cases.0 in
+    let whole = whole-alone (page_of_parts c.loop-frame.page) frames.items (contents_in c.args.log.frames.items) (same ∙ empty) c.loop-frame.invariant.said in
+    done-same c.finish.result held_done _ _ (ap (λ (cs : List Content). log c.args.log.pid cs) whole) c.finish.ensures.origin
+
+pub returns-clause-back : goal.returns-clause-back
+returns-clause-back c =
+    let frames = c.loop-frame.frames in
+    let same : length frames.items ≡ vec_len frames = search rules in
+    let empty = c.in_default-pop.ensures.cases.0 in
+    let whole = whole-alone (page_of_parts c.loop-frame.page) frames.items (contents_in c.args.log.frames.items) (same ∙ empty) c.loop-frame.invariant.said in
+    back-same c.finish.result held_log _ _ (ap (λ (cs : List Content). log c.args.log.pid cs) whole) c.finish.ensures.back

@@ -2,10 +2,22 @@ use Rattle.std.proofs.Common.{◌≡◌, ◌∙◌, subst}
 use Rattle.std.specs.Prelude.{IfOk}
 use Rattle.std.specs.List.{AllZip}
 use Rattle.rayon.proofs.ToStd.{slice-AllZip}
+use denote.Exit.{no}
+use denote.Param.Send.{copied_send, copied_sync, arg_send, arg_sync, param_send}
 use Rattle.mapping.specs.TreeInMemory.{AreAllHome, tree_of}
 use Rattle.verify.specs.Seen.{seen_at}
+use Rattle.verify.proofs.Crossing.{closure-send, closure-sync, looks-send}
 use Rattle.verify.proofs.LevelLaws.{zip_ok, ok_of_match}
 use Rattle.verify.proofs.level.look_at_all.Goals as goal
+
+pub map-requires-send-F : goal.map-requires-send-F
+map-requires-send-F g c κs within = copied_send 3 _ (arg_send _ no _ (closure-send _ _ _ _ _))
+
+pub map-requires-sync-F : goal.map-requires-sync-F
+map-requires-sync-F g c κs within = copied_sync 3 _ (arg_sync _ no _ (closure-sync _ _ _ _ _))
+
+pub collect-requires-send-Self : goal.collect-requires-send-Self
+collect-requires-send-Self g c κs within = param_send 0 _ (arg_send _ no _ (looks-send _ _ _ _ _ _ _))
 
 pub returns : goal.returns
 returns g c =

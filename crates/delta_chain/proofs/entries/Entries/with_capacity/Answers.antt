@@ -3,4 +3,4 @@ use Rattle.delta_chain.proofs.entries.Entries.with_capacity.Goals as goal
 
 pub invariant_of-result : goal.invariant_of-result
 unfolding IsStrictlySortedBy
-invariant_of-result g c = rw c.in_ok-items.ensures.items tt
+invariant_of-result g c = rw c.in_ok-list.ensures.items tt

@@ -1,14 +1,20 @@
+use Rattle.std.proofs.Common.{◌≡◌, ◌+◌, arith}
 use Rattle.index_page.specs.Children.{child_entries}
-use Rattle.index_page.proofs.ChildLaws.{has_floor}
-use Rattle.index_page.proofs.WithinLaws.{child_is_told, place_at}
+use Rattle.index_page.proofs.WithinLaws.{child_is_told-at, place_at-told}
 use Rattle.index_page.proofs.page.Page.child_with_end.Goals as goal
 
 pub returns-clause-child : goal.returns-clause-child
-returns-clause-child g c = child_is_told c.args.key.now (child_entries c.args.self.now) _ _ c.last_child.ensures.rising c.requires c.in-Some.ensures.child c.next_key.ensures
+returns-clause-child g c =
+    let same = c.in-Some.ensures.0 in
+    let count = c.count_up_to-count.ensures in
+    let less = c.in-Some-checked_sub.ensures in
+    let last : c.in-Some-checked_sub.at + 1 ≡ c.count_up_to-count.result = omega (arith, less.0, less.1) in
+    rw (← same) (child_is_told-at c.args.key.now c.in-Some.list.now _ c.in-Some-checked_sub.at (c.child_at.result.0.now, c.child_at.result.1) _ count.rising (rw same c.requires) count.count last c.child_at.ensures c.low_key_at.ensures)
 
 pub returns-clause-place : goal.returns-clause-place
 returns-clause-place g c =
-    place_at c.args.key.now (child_entries c.args.self.now) _ _ c.last_child.ensures.rising c.requires c.in-Some.ensures.child c.next_key.ensures
-
-pub unreachable-requires : goal.unreachable-requires
-unreachable-requires g c = has_floor c.args.key.now (child_entries c.args.self.now) c.requires c.in-None.ensures.child
+    let same = c.in-Some.ensures.0 in
+    let count = c.count_up_to-count.ensures in
+    let less = c.in-Some-checked_sub.ensures in
+    let last : c.in-Some-checked_sub.at + 1 ≡ c.count_up_to-count.result = omega (arith, less.0, less.1) in
+    rw (← same) (place_at-told c.args.key.now c.in-Some.list.now _ c.in-Some-checked_sub.at (c.child_at.result.0.now, c.child_at.result.1) _ count.rising (rw same c.requires) count.count last c.child_at.ensures c.low_key_at.ensures)

@@ -1,4 +1,5 @@
-use crate::{Event, Mark, Round};
+//! The machine of events of a round: example 10.1, and a job that comes back.
+use crew::{Event, Mark, Round};
 use std::test::Fail;
 
 #[test]

@@ -1,7 +1,7 @@
 use Rattle.std.proofs.Common.{◌≡◌, length, map, take}
 use Rattle.std.specs.Prelude.{vec_len, vec_capacity}
 use Rattle.replies.specs.ByPlace.{blank_of}
-use Rattle.replies.proofs.blanks.Given as goal
+use Rattle.replies.proofs.blank_replies.Given as goal
 
 -- there is one for each command so far, and room for the rest
 abbrev pub invariant-loop-command : goal.invariant-loop-command

@@ -2,7 +2,7 @@ use Rattle.std.proofs.Common.{◌≡◌, length}
 use Rattle.std.specs.List.{All}
 use Rattle.std.specs.Vec.Iter.{into_iter_items}
 use Rattle.replies.specs.ByPlace.{IsPlaceOf, with_pieces}
-use Rattle.replies.proofs.add_page.Given as goal
+use Rattle.replies.proofs.add_all.Given as goal
 
 -- the pieces that are left make of the list what all make of the first one; their places are within it
 abbrev pub invariant-loop-place : goal.invariant-loop-place

@@ -1,7 +1,7 @@
 use Rattle.std.proofs.Common.{◌∙◌, arith}
 use Rattle.std.proofs.lemmas.List.{length-set}
 use Rattle.replies.proofs.Placing.{within-first, within-rest, with_pieces-rest}
-use Rattle.replies.proofs.add_page.Goals as goal
+use Rattle.replies.proofs.add_all.Goals as goal
 
 pub loop-place-preserved : goal.loop-place-preserved
 loop-place-preserved c =

@@ -1,0 +1,19 @@
+-- The children of an index page in one list, and where a key stands among them.
+use Rattle.std.specs.Prelude.{◌≡◌, ℕ, ◌+◌, ◌≤◌, [], length, slice_get, Option, Some, None}
+use Rattle.keys.specs.Bytes.{Bytes, Names}
+use Rattle.delta_chain.specs.Layers.{Layers, entries_of}
+use Rattle.page_search.specs.Above.{above}
+use Rattle.page_search.specs.Floor.{floor}
+
+-- the list is that of the page's entries; a page without runs needs none, since its base is that list
+abbrev pub IsListOf : Layers ℕ → Option Names → Type 0
+IsListOf p None = p.runs ≡ []
+IsListOf p (Some es) = es ≡ entries_of p
+
+-- so many entries, the first ones, have keys that aren't above k: the last of them is the last such entry, and behind them stands the first
+-- whose key is above
+pub record IsCountUpTo (k : Bytes) (es : Names) (n : ℕ) : Type 0 where
+  pub within : n ≤ length es
+  pub none : n ≡ 0 → floor k es ≡ None
+  pub last : (at : ℕ) → at + 1 ≡ n → floor k es ≡ slice_get es at
+  pub next : above k es ≡ slice_get es n

@@ -1,0 +1,102 @@
+//! The children of an index page in one list.
+ghost use Rattle.std.specs.Prelude.{◌≡◌, ◌<◌, None, Some, length, slice_get, IfOk};
+ghost use Rattle.std.specs.Option.{option_copied, option_map};
+ghost use Rattle.keys.specs.Order.{IsRising};
+ghost use Rattle.delta_chain.specs.Layers.{entries_of};
+ghost use Rattle.index_page.specs.ChildList.{IsListOf, IsCountUpTo};
+
+use delta_chain::{Base, Chain};
+use keys::Pid;
+use page_search::{Probes, place};
+use std::alloc::{AllocError, Allocator};
+use std::marker::Model;
+
+/// The present children of an index page in one list, which stands beside the page's runs, so that a child is found by one search
+/// by halves. A page without runs needs none, since its base is such a list. Contracts see it as that list, or none.
+#[derive(Drop)]
+pub struct ChildList<A: Allocator> {
+    listed: Option<Box<Base<Pid, A>, A>>,
+}
+
+impl<A: Allocator> Model for ChildList<A> {
+    ghost use Rattle.std.specs.Prelude.{Option};
+    ghost use Rattle.std.specs.Option.{option_map};
+    ghost use Rattle.keys.specs.Bytes.{Names};
+
+    ghost Value = { Option Names };
+
+    ghost view = { λ c. option_map (λ list. list.value) c.listed };
+}
+
+impl<A: Allocator + Copy> ChildList<A> {
+    /// No list, for a page without runs.
+    pub fn none() -> Self
+        ensures { result ≡ None }
+    {
+        ChildList { listed: None }
+    }
+
+    /// The list of a page of these runs and this base: none where there are no runs.
+    pub fn of(alloc: A, chain: &Chain<Pid, A>) -> Result<Self, AllocError>
+        ensures { IfOk result (λ list. IsListOf chain.now list) }
+    {
+        match chain.newest() {
+            None => Ok(ChildList::none()),
+            Some(_) => ChildList::of_runs(alloc, chain),
+        }
+    }
+
+    // The list of a page with runs.
+    fn of_runs(alloc: A, chain: &Chain<Pid, A>) -> Result<Self, AllocError>
+        ensures { IfOk result (λ list. IsListOf chain.now list) }
+    {
+        let pairs = chain.pairs(alloc)?;
+        let children = pairs.copied_base(alloc)?;
+        let listed = Box::new(alloc, children)?;
+        Ok(ChildList {
+            listed: Some(listed),
+        })
+    }
+
+    // The children, of which this is the list.
+    pub(crate) fn children<'a>(&'a self, chain: &'a Chain<Pid, A>) -> &'a Base<Pid, A>
+        requires { IsListOf chain.now self.now }
+        ensures { result.now ≡ entries_of chain.now }
+    {
+        match &self.listed {
+            Some(list) => list,
+            None => chain.base(),
+        }
+    }
+}
+
+/// How many of the children begin at the key or below it. It is found by halves.
+pub(crate) fn count_up_to<A: Allocator + Copy>(list: &Base<Pid, A>, key: &[u8]) -> usize
+    ensures count { IsCountUpTo key.now list.now result }
+    ensures rising { IsRising list.now }
+{
+    let _rising = list.len();
+    match place(list, key, &mut Probes::new()) {
+        Ok(at) => at + 1,
+        Err(at) => at,
+    }
+}
+
+/// The child at this place: its low key and its page id.
+pub(crate) fn child_at<A: Allocator + Copy>(list: &Base<Pid, A>, at: usize) -> (&[u8], Pid)
+    requires { at < length list.now }
+    ensures { slice_get list.now at ≡ Some (result.0.now, result.1) }
+{
+    (list.key(at), *list.cell(at))
+}
+
+/// The low key of the child at this place, if there is one.
+pub(crate) fn low_key_at<A: Allocator + Copy>(list: &Base<Pid, A>, at: usize) -> Option<&[u8]>
+    ensures { option_copied result ≡ option_map (λ e. e.0) (slice_get list.now at) }
+{
+    if at < list.len() {
+        Some(list.key(at))
+    } else {
+        None
+    }
+}
