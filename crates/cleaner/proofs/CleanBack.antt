@@ -9,7 +9,7 @@ use Rattle.keys.specs.declared.fault.Fault.{Fault}
 use Rattle.keys.specs.declared.fault.Fault.TheVariants.{NothingToClean}
 use Rattle.keys.specs.declared.settings.Settings.{Settings}
 use Rattle.keys.specs.Results.{and_then}
-use Rattle.index_page.proofs.ListLaws.{all_weaker}
+use Rattle.index_page.proofs.ListLemmas.{all_weaker}
 use Rattle.mapping.specs.Finding.{Finding, finding}
 use Rattle.mapping.specs.Tree.{Tree, Store}
 use Rattle.frame_codec.specs.Frame.{Frame, is_frame}
@@ -20,25 +20,25 @@ use Rattle.flush_log.specs.Layout.{tail_after, found_in_text, spans, is_full_for
 use Rattle.flush_log.specs.Reading.{Found, all_in, log}
 use Rattle.flush_log.specs.Segments.{last_segment}
 use Rattle.flush_log.specs.Slot.{Slot, greatest, slot_in, store_slot}
-use Rattle.flush_log.proofs.FitLaws.{are_sized}
-use Rattle.flush_log.proofs.HeadLaws.{HeadOff, head-off}
-use Rattle.flush_log.proofs.LayoutLaws.{split-tail}
-use Rattle.flush_log.proofs.NextSlotLaws.{next_good}
-use Rattle.flush_log.proofs.OutcomeLaws.{slot_good, text-fits, after-log, after-settings, after-slot}
-use Rattle.flush_log.proofs.ReadBackLaws.{text-back}
-use Rattle.flush_log.proofs.SettingsLaws.{store_settings-are}
-use Rattle.flush_log.proofs.SlotLaws.{IsSlot, slot-is, slot_stands, store_slot-read, slot-stands}
-use Rattle.flush_log.proofs.TailLaws.{room-for-clean}
+use Rattle.flush_log.proofs.FitLemmas.{are_sized}
+use Rattle.flush_log.proofs.HeadLemmas.{HeadOff, head-off}
+use Rattle.flush_log.proofs.LayoutLemmas.{split-tail}
+use Rattle.flush_log.proofs.NextSlotLemmas.{next_good}
+use Rattle.flush_log.proofs.OutcomeLemmas.{slot_good, text-fits, after-log, after-settings, after-slot}
+use Rattle.flush_log.proofs.ReadBackLemmas.{text-back}
+use Rattle.flush_log.proofs.SettingsLemmas.{store_settings-are}
+use Rattle.flush_log.proofs.SlotLemmas.{IsSlot, slot-is, slot_stands, store_slot-read, slot-stands}
+use Rattle.flush_log.proofs.TailLemmas.{room-for-clean}
 use Rattle.recovery.specs.InStep.{AreInStep, IsInStep, IsStore, IsStoreOf}
 use Rattle.recovery.specs.LogPages.{pages_of, broken_in}
 use Rattle.recovery.specs.StoreOfDisk.{unless_found, frames_in, tree_by_log, store_of_disk}
 use Rattle.recovery.proofs.FlushBack.{IsCommitted, left, commit-done, same_store}
-use Rattle.recovery.proofs.FlushLaws.{frames-text}
-use Rattle.recovery.proofs.StoreLaws.{Reads, StandsBy, store-stands, stands-for, ok-then}
+use Rattle.recovery.proofs.FlushLemmas.{frames-text}
+use Rattle.recovery.proofs.StoreLemmas.{Reads, StandsBy, store-stands, stands-for, ok-then}
 use Rattle.cleaner.specs.AfterClean.{slot_on_disk, clean_slot, after_carried, after_clean_of, after_clean}
 use Rattle.cleaner.specs.CleanText.{clean_text}
 use Rattle.recovery.proofs.FoundWithin.{log-within}
-use Rattle.cleaner.proofs.CleanLaws.{pages-cleaned, sound-cleaned, all-clean_text}
+use Rattle.cleaner.proofs.CleanLemmas.{pages-cleaned, sound-cleaned, all-clean_text}
 
 -- ---- segments of what is found
 

@@ -13,10 +13,10 @@ use Rattle.flush_log.specs.Reading.{Found, log}
 use Rattle.flush_log.specs.Slot.{Slot}
 use Rattle.recovery.specs.InStep.{IsInStep}
 use Rattle.recovery.specs.StoreOfDisk.{frames_in, tree_by_log, store_of_disk}
-use Rattle.recovery.proofs.CrashLaws.{commit-crash, commit-hidden}
+use Rattle.recovery.proofs.CrashLemmas.{commit-crash, commit-hidden}
 use Rattle.recovery.proofs.FlushBack.{left, same_store}
 use Rattle.recovery.proofs.FoundWithin.{log-within}
-use Rattle.recovery.proofs.StoreLaws.{StandsBy, store-stands}
+use Rattle.recovery.proofs.StoreLemmas.{StandsBy, store-stands}
 use Rattle.cleaner.specs.AfterClean.{after_clean, clean_calls_by, clean_calls}
 use Rattle.cleaner.specs.CleanText.{clean_text}
 use Rattle.cleaner.proofs.CleanBack.{IsCleanOf, same_found, clean-of, next_of, room_for}

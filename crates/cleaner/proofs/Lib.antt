@@ -1,10 +1,10 @@
-mod CarryLaws
-mod ChooseLaws
+mod CarryLemmas
+mod ChooseLemmas
 pub mod CleanBack
 pub mod CleanCrash
-mod CleanLaws
+mod CleanLemmas
 mod CleanRows
-mod DoneLaws
-mod KeptLaws
-mod PlanLaws
-mod SkimLaws
+mod DoneLemmas
+mod KeptLemmas
+mod PlanLemmas
+mod SkimLemmas

@@ -10,7 +10,7 @@ use Rattle.keys.specs.declared.settings.Settings.{Settings}
 use Rattle.keys.proofs.Basics.{or_turned}
 use Rattle.index_page.specs.Page.{Page, PageOfKind}
 use Rattle.index_page.specs.Page.PageOfKind.{Leaf, Index}
-use Rattle.index_page.proofs.ListLaws.{all-append, all_apart, all_weaker}
+use Rattle.index_page.proofs.ListLemmas.{all-append, all_apart, all_weaker}
 use Rattle.mapping.specs.FreshPids.{is_among, IsNeverUnused}
 use Rattle.mapping.specs.Levels.{Placed, Levels, names, pids, all_pids, levels_of, contents, all_pages, by_pid}
 use Rattle.mapping.specs.Outdate.{outdate_all}
@@ -18,14 +18,14 @@ use Rattle.mapping.specs.Proper.{AreRisingPids, Distinct, IsProper}
 use Rattle.mapping.specs.Table.{Mapping, pids_in_use, place_of}
 use Rattle.mapping.specs.Tree.{Logged, Tree}
 use Rattle.mapping.specs.TreeInMemory.{TreeInMemory, AreAllHome, home_pages, tree_of}
-use Rattle.mapping.proofs.LevelLaws.{same_pids}
-use Rattle.mapping.proofs.PidLaws.{all_among}
+use Rattle.mapping.proofs.LevelLemmas.{same_pids}
+use Rattle.mapping.proofs.PidLemmas.{all_among}
 use Rattle.mapping.proofs.TableOfLevels.{by_pid-unique, holds_among}
 use Rattle.page_runs.specs.NetRun.{net_run}
 use Rattle.page_runs.specs.Worked.{Worked}
 use Rattle.split_plan.specs.WorkedLevel.{worked_leaves, placed_of}
-use Rattle.split_plan.proofs.PidLaws.{distinct_renewed}
-use Rattle.split_plan.proofs.RunLaws.{names-worked_leaves}
+use Rattle.split_plan.proofs.PidLemmas.{distinct_renewed}
+use Rattle.split_plan.proofs.RunLemmas.{names-worked_leaves}
 use Rattle.climb_plan.specs.Changing.{AreHome}
 use Rattle.climb_plan.specs.Climb.{Climbed, kept_levels}
 use Rattle.climb_plan.specs.HasClimbed.{HasClimbed, HasShrunk}

@@ -8,7 +8,7 @@ use Rattle.std.proofs.lemmas.Bool.{or_parts, eqb-false}
 use Rattle.std.proofs.lemmas.Cmp.{tied_itself}
 use Rattle.index_page.specs.Page.{Page, PageOfKind}
 use Rattle.index_page.specs.Page.PageOfKind.{Leaf, Index}
-use Rattle.index_page.proofs.ListLaws.{all_keys, all_weaker}
+use Rattle.index_page.proofs.ListLemmas.{all_keys, all_weaker}
 use Rattle.mapping.specs.FreshPids.{is_among}
 use Rattle.mapping.specs.Levels.{Placed, Levels, all_pids}
 use Rattle.mapping.specs.Proper.{AreRisingPids, HasIndexPages, HoldsLevels}
@@ -17,7 +17,7 @@ use Rattle.mapping.specs.Tree.{listed_at, page_at}
 use Rattle.mapping.specs.TreeInMemory.{home_pages}
 use Rattle.mapping.proofs.HomePages.{page-home}
 use Rattle.mapping.proofs.SameTable.{rest_listed}
-use Rattle.mapping.proofs.TableLaws.{total, differ}
+use Rattle.mapping.proofs.TableLemmas.{total, differ}
 use Rattle.climb_plan.specs.Changing.{AreHome}
 
 -- ---- lists by rising pid

@@ -11,8 +11,8 @@ use Rattle.index_page.specs.Page.{PageOfKind}
 use Rattle.mapping.specs.FreshPids.{is_among, unused, with_number}
 use Rattle.mapping.specs.Proper.{AreRisingPids}
 use Rattle.mapping.specs.Table.{Mapping, is_same_pid, pids_in_use, place_of, with_place, room_by, with_rooms, fresh_pids}
-use Rattle.mapping.proofs.PidLaws.{unused-is_free, unused-drawn, rising-with_number}
-use Rattle.mapping.proofs.TableLaws.{same_pid, listed-insert_entry}
+use Rattle.mapping.proofs.PidLemmas.{unused-is_free, unused-drawn, rising-with_number}
+use Rattle.mapping.proofs.TableLemmas.{same_pid, listed-insert_entry}
 use Rattle.climb_plan.proofs.BridgeTables.{test_true, test_false, AreDrawn}
 
 -- ---- an entry under a pid that had none

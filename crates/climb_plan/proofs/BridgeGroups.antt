@@ -8,12 +8,12 @@ use Rattle.keys.specs.Order.{IsRising}
 use Rattle.index_page.specs.Page.{Page, PageOfKind}
 use Rattle.mapping.specs.Levels.{Placed, joined, names}
 use Rattle.mapping.specs.Proper.{next_low, Tiled}
-use Rattle.mapping.proofs.TileLaws.{rising-joined}
+use Rattle.mapping.proofs.TileLemmas.{rising-joined}
 use Rattle.page_runs.specs.Worked.{Worked, is_thin}
 use Rattle.split_plan.specs.Change.{is_rewritten}
-use Rattle.split_plan.proofs.ChangeLaws.{tiled_placed_apart}
+use Rattle.split_plan.proofs.ChangeLemmas.{tiled_placed_apart}
 use Rattle.split_plan.specs.Groups.{groups}
-use Rattle.split_plan.proofs.GroupLaws.{groups-joined}
+use Rattle.split_plan.proofs.GroupLemmas.{groups-joined}
 use Rattle.split_plan.specs.Pieces.{joined_pages, CanJoin}
 use Rattle.split_plan.specs.WorkedLevel.{placed_of}
 use Rattle.climb_plan.specs.Changing.{SeenPage, page_seen, changing_families, changing_groups}

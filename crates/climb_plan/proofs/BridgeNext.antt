@@ -7,22 +7,22 @@ use Rattle.std.proofs.lemmas.List.{length-map}
 use Rattle.keys.specs.declared.settings.Settings.{Settings}
 use Rattle.index_page.specs.Page.{Page, PageOfKind}
 use Rattle.index_page.specs.Page.PageOfKind.{Index}
-use Rattle.index_page.proofs.ListLaws.{all-append, all_apart}
+use Rattle.index_page.proofs.ListLemmas.{all-append, all_apart}
 use Rattle.mapping.specs.Levels.{Placed, name, names, pids, all_pids, first_pid, top_pid}
 use Rattle.mapping.specs.FreshPids.{is_among, unused, IsNeverUnused}
 use Rattle.mapping.specs.Proper.{IsParentOf, Stacked, Distinct, AreRisingPids}
 use Rattle.mapping.specs.Table.{Mapping, pids_in_use, place_of, with_rooms, fresh_pids}
 use Rattle.mapping.specs.TreeInMemory.{TreeInMemory}
-use Rattle.mapping.proofs.LevelLaws.{same_pids}
-use Rattle.mapping.proofs.PidLaws.{all_among}
-use Rattle.mapping.proofs.TileLaws.{Names, next_low-same, next_low-parents}
+use Rattle.mapping.proofs.LevelLemmas.{same_pids}
+use Rattle.mapping.proofs.PidLemmas.{all_among}
+use Rattle.mapping.proofs.TileLemmas.{Names, next_low-same, next_low-parents}
 use Rattle.page_runs.specs.TermWork.{index_made}
 use Rattle.page_runs.specs.Worked.{Worked}
 use Rattle.split_plan.specs.Change.{changes, family_changes, fresh_of, all_fresh}
 use Rattle.split_plan.specs.Terms.{terms}
 use Rattle.split_plan.specs.WorkedLevel.{worked_parents, placed_of}
-use Rattle.split_plan.proofs.RunLaws.{names-worked_parents}
-use Rattle.split_plan.proofs.WorkedLaws.{tiled-worked_parents}
+use Rattle.split_plan.proofs.RunLemmas.{names-worked_parents}
+use Rattle.split_plan.proofs.WorkedLemmas.{tiled-worked_parents}
 use Rattle.climb_plan.specs.Changing.{SeenPage, page_seen, AreHome, Changing, changing_families, parents_of, changing_groups, changing_changes}
 use Rattle.climb_plan.specs.Climb.{families}
 use Rattle.climb_plan.specs.Installing.{parent_held, AreParentsHome}

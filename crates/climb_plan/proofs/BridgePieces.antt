@@ -12,9 +12,9 @@ use Rattle.mapping.specs.Levels.{Placed, joined, pids}
 use Rattle.mapping.specs.FreshPids.{unused}
 use Rattle.page_runs.specs.Worked.{Worked}
 use Rattle.split_plan.specs.Change.{fresh_pages, replacements, is_rewritten, remade, changes, fresh_of}
-use Rattle.split_plan.proofs.ChangeLaws.{remade_by, length-fresh_pages}
+use Rattle.split_plan.proofs.ChangeLemmas.{remade_by, length-fresh_pages}
 use Rattle.split_plan.specs.Cut.{cut}
-use Rattle.split_plan.proofs.CutLaws.{cut_some}
+use Rattle.split_plan.proofs.CutLemmas.{cut_some}
 use Rattle.split_plan.specs.Pieces.{pages_from, joined_pages, pages_made, group_made}
 use Rattle.split_plan.specs.WorkedLevel.{placed_of}
 use Rattle.climb_plan.specs.Changing.{page_seen}

@@ -8,7 +8,7 @@ use Rattle.index_page.specs.Page.PageOfKind.{Index}
 use Rattle.mapping.specs.Levels.{Placed, entries, name, names}
 use Rattle.mapping.specs.Table.{Mapping, at_home, page_of}
 use Rattle.mapping.specs.TreeInMemory.{TreeInMemory}
-use Rattle.mapping.proofs.TileLaws.{Names, next_low-parents}
+use Rattle.mapping.proofs.TileLemmas.{Names, next_low-parents}
 use Rattle.page_runs.specs.Worked.{Worked, is_thin}
 use Rattle.split_plan.specs.Groups.{Gathered, with_child, gathered, with_leading, groups}
 use Rattle.split_plan.specs.Change.{is_rewritten}

@@ -13,8 +13,8 @@ use Rattle.mapping.specs.Proper.{AreRisingPids}
 use Rattle.mapping.specs.Table.{Mapping, pids_in_use, place_of, with_place, fresh_pids, IsOldWithoutPlace, is_same_pid}
 use Rattle.mapping.specs.Tree.{Logged}
 use Rattle.mapping.specs.Tree.Logged.{Old}
-use Rattle.mapping.proofs.PidLaws.{below_later}
-use Rattle.mapping.proofs.TableLaws.{total, differ, listed-insert_entry}
+use Rattle.mapping.proofs.PidLemmas.{below_later}
+use Rattle.mapping.proofs.TableLemmas.{total, differ, listed-insert_entry}
 use Rattle.climb_plan.specs.Installing.{all_taken}
 
 -- ---- an entry in the place of another

@@ -11,14 +11,14 @@ use Rattle.keys.specs.declared.settings.Settings.{Settings}
 use Rattle.index_page.specs.Page.{Page, PageOfKind}
 use Rattle.mapping.specs.Levels.{Placed, entries, joined, name, names, pids}
 use Rattle.mapping.specs.Proper.{next_low, Tiled}
-use Rattle.mapping.proofs.TileLaws.{Names, names-append, rising-names}
+use Rattle.mapping.proofs.TileLemmas.{Names, names-append, rising-names}
 use Rattle.page_runs.specs.Worked.{Worked, is_thin}
 use Rattle.split_plan.specs.Change.{Change, remade, changes, new_of, fresh_of}
-use Rattle.split_plan.proofs.ChangeLaws.{placed_of-append, tiled-groups}
+use Rattle.split_plan.proofs.ChangeLemmas.{placed_of-append, tiled-groups}
 use Rattle.split_plan.specs.Groups.{groups}
-use Rattle.split_plan.proofs.GroupLaws.{groups-joined}
+use Rattle.split_plan.proofs.GroupLemmas.{groups-joined}
 use Rattle.split_plan.specs.Terms.{freed_of, terms}
-use Rattle.split_plan.proofs.TermLaws.{names_apart, tiled_family_apart}
+use Rattle.split_plan.proofs.TermLemmas.{names_apart, tiled_family_apart}
 use Rattle.split_plan.specs.WorkedLevel.{placed_of}
 use Rattle.climb_plan.specs.Changing.{SeenPage, page_seen, Changing, groups_to_rewrite, with_changing, changing_families, changing_groups, changing_changes}
 use Rattle.climb_plan.specs.Level.{IsKind, remade_of, parent_pids, group_counts}

@@ -11,8 +11,8 @@ use Rattle.mapping.specs.FreshPids.{is_among, unused}
 use Rattle.mapping.specs.Proper.{Distinct}
 use Rattle.mapping.specs.Table.{Mapping, is_same_pid, pids_in_use, place_of, freed, with_rooms, fresh_pids, freed_all}
 use Rattle.mapping.specs.TreeInMemory.{TreeInMemory}
-use Rattle.mapping.proofs.PidLaws.{all_among, unused-rises}
-use Rattle.mapping.proofs.TableLaws.{same_pid, differ}
+use Rattle.mapping.proofs.PidLemmas.{all_among, unused-rises}
+use Rattle.mapping.proofs.TableLemmas.{same_pid, differ}
 use Rattle.climb_plan.specs.Rewriting.{Remade, with_numbers, numbers}
 use Rattle.climb_plan.specs.Installing.{AreAway}
 

@@ -11,7 +11,7 @@ use Rattle.split_plan.specs.Groups.{groups}
 use Rattle.split_plan.specs.WorkedLevel.{placed_of}
 use Rattle.split_plan.specs.Change.{Change, is_rewritten, remade, fresh, freed_by, changes, family_changes, fresh_of, all_fresh}
 use Rattle.split_plan.specs.Terms.{freed_of, terms}
-use Rattle.split_plan.proofs.ChangeLaws.{remade_by}
+use Rattle.split_plan.proofs.ChangeLemmas.{remade_by}
 use Rattle.climb_plan.specs.Climb.{families}
 use Rattle.climb_plan.specs.Changing.{Changing, groups_to_rewrite, with_changing, changing_families, changing_groups, changing_changes, all_freed}
 

@@ -6,15 +6,15 @@ use Rattle.std.proofs.lemmas.Bool.{or_parts, true_from_ne_false}
 use Rattle.keys.specs.declared.settings.Settings.{Settings}
 use Rattle.index_page.specs.Page.{Page, PageOfKind}
 use Rattle.index_page.specs.Page.PageOfKind.{Index}
-use Rattle.index_page.proofs.ListLaws.{all_apart, all_weaker}
+use Rattle.index_page.proofs.ListLemmas.{all_apart, all_weaker}
 use Rattle.mapping.specs.Levels.{Placed, pids, all_pids, top_pid}
 use Rattle.mapping.specs.FreshPids.{is_among}
 use Rattle.mapping.specs.Outdate.{outdate_all}
 use Rattle.mapping.specs.Proper.{AreRisingPids, Stacked}
 use Rattle.mapping.specs.Table.{Mapping, pids_in_use, place_of}
 use Rattle.mapping.specs.TreeInMemory.{TreeInMemory}
-use Rattle.mapping.proofs.LevelLaws.{pids-append}
-use Rattle.mapping.proofs.PidLaws.{all_among, among_apart, among_either}
+use Rattle.mapping.proofs.LevelLemmas.{pids-append}
+use Rattle.mapping.proofs.PidLemmas.{all_among, among_apart, among_either}
 use Rattle.page_runs.specs.Worked.{Worked}
 use Rattle.split_plan.specs.WorkedLevel.{placed_of}
 use Rattle.split_plan.specs.Change.{Change, fresh, new_of, fresh_of, all_new, all_fresh, all_outdated}

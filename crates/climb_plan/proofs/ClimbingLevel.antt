@@ -13,16 +13,16 @@ use Rattle.mapping.specs.Proper.{Distinct, Stacked}
 use Rattle.mapping.specs.Table.{place_of}
 use Rattle.mapping.specs.Tree.{Logged}
 use Rattle.mapping.specs.TreeInMemory.{TreeInMemory}
-use Rattle.mapping.proofs.LevelLaws.{same_pids}
-use Rattle.mapping.proofs.PidLaws.{among_apart}
+use Rattle.mapping.proofs.LevelLemmas.{same_pids}
+use Rattle.mapping.proofs.PidLemmas.{among_apart}
 use Rattle.page_runs.specs.Worked.{Worked}
 use Rattle.split_plan.specs.WorkedLevel.{placed_of, worked_parents}
 use Rattle.split_plan.specs.Change.{Change, family_changes, all_new, all_fresh, all_outdated}
 use Rattle.split_plan.specs.Terms.{terms}
-use Rattle.split_plan.proofs.PidLaws.{distinct_renewed, recast, renewed-append, renewed-family_changes}
+use Rattle.split_plan.proofs.PidLemmas.{distinct_renewed, recast, renewed-append, renewed-family_changes}
 use Rattle.split_plan.proofs.Renewed.{Renewed}
 use Rattle.split_plan.proofs.Renewed.Renewed.{done, keep}
-use Rattle.split_plan.proofs.RunLaws.{names-worked_parents}
+use Rattle.split_plan.proofs.RunLemmas.{names-worked_parents}
 use Rattle.climb_plan.specs.Climb.{Climbed, LevelPlan, climb, families}
 use Rattle.climb_plan.specs.HasClimbed.{HasClimbed}
 use Rattle.climb_plan.proofs.ChangingOutdated.{worked_pids-placed, outdate-joined}

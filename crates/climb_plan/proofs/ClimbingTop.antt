@@ -13,12 +13,12 @@ use Rattle.mapping.specs.Outdate.{outdate_all}
 use Rattle.mapping.specs.Proper.{Distinct, Stacked}
 use Rattle.mapping.specs.Tree.{Logged}
 use Rattle.mapping.specs.TreeInMemory.{TreeInMemory}
-use Rattle.mapping.proofs.PidLaws.{among_either_by}
+use Rattle.mapping.proofs.PidLemmas.{among_either_by}
 use Rattle.page_runs.specs.Worked.{Worked}
 use Rattle.split_plan.specs.WorkedLevel.{placed_of}
 use Rattle.split_plan.specs.Change.{Change, remade, changes, all_new, all_fresh, all_outdated}
-use Rattle.split_plan.proofs.ChangeLaws.{remade_begins}
-use Rattle.split_plan.proofs.PidLaws.{distinct_renewed}
+use Rattle.split_plan.proofs.ChangeLemmas.{remade_begins}
+use Rattle.split_plan.proofs.PidLemmas.{distinct_renewed}
 use Rattle.split_plan.proofs.Renewed.{Renewed}
 use Rattle.climb_plan.specs.Changing.{AreHome}
 use Rattle.climb_plan.specs.Climb.{climb, grown_levels}

@@ -7,15 +7,15 @@ use Rattle.keys.specs.declared.settings.Settings.{Settings}
 use Rattle.keys.specs.Lists.{flat}
 use Rattle.mapping.specs.Levels.{Placed, joined, name, names}
 use Rattle.mapping.specs.Proper.{next_low, Tiled, Stacked}
-use Rattle.mapping.proofs.TileLaws.{Names, next_low-same, some_page, rising-names}
+use Rattle.mapping.proofs.TileLemmas.{Names, next_low-same, some_page, rising-names}
 use Rattle.split_plan.specs.Cut.{cut, piece_count}
-use Rattle.split_plan.proofs.CutLaws.{cut-joined, cut_full, cut_some, length-cut, fewer_pieces}
+use Rattle.split_plan.proofs.CutLemmas.{cut-joined, cut_full, cut_some, length-cut, fewer_pieces}
 use Rattle.page_runs.specs.Worked.{Worked}
 use Rattle.split_plan.specs.WorkedLevel.{worked_parents, placed_of}
-use Rattle.split_plan.proofs.RunLaws.{names-worked_parents}
-use Rattle.split_plan.proofs.WorkedLaws.{tiled-worked_parents}
+use Rattle.split_plan.proofs.RunLemmas.{names-worked_parents}
+use Rattle.split_plan.proofs.WorkedLemmas.{tiled-worked_parents}
 use Rattle.split_plan.specs.Change.{Change, fresh_pages, changes, family_changes, new_of, all_new, all_fresh}
-use Rattle.split_plan.proofs.ChangeLaws.{joined-fresh_pages, joined-changes, joined-family_changes, next_low-changes, next_low-family_changes, tiled-fresh_pages, tiled-changes, tiled-family_changes, length-fresh_pages, AllHeaded, headed-fresh_pages, headed-changes, headed-family_changes}
+use Rattle.split_plan.proofs.ChangeLemmas.{joined-fresh_pages, joined-changes, joined-family_changes, next_low-changes, next_low-family_changes, tiled-fresh_pages, tiled-changes, tiled-family_changes, length-fresh_pages, AllHeaded, headed-fresh_pages, headed-changes, headed-family_changes}
 use Rattle.split_plan.specs.Terms.{terms}
 use Rattle.climb_plan.specs.Climb.{families, grown_levels, climb}
 use Rattle.climb_plan.proofs.Families.{families-joined, parents_link, parents_told}

@@ -10,15 +10,15 @@ use Rattle.index_page.specs.Page.PageOfKind.{Index}
 use Rattle.index_page.specs.Range.{is_below, is_before, is_within}
 use Rattle.index_page.specs.Rules.{IsHeaded}
 use Rattle.index_page.specs.Children.{Place, children, is_place_for, child_entries, HasChildFor}
-use Rattle.index_page.proofs.ListLaws.{all_apart}
-use Rattle.index_page.proofs.RangeLaws.{from_nothing}
-use Rattle.index_page.proofs.ChildLaws.{next_key, place_of, children-append, within, within_parts}
+use Rattle.index_page.proofs.ListLemmas.{all_apart}
+use Rattle.index_page.proofs.RangeLemmas.{from_nothing}
+use Rattle.index_page.proofs.ChildLemmas.{next_key, place_of, children-append, within, within_parts}
 use Rattle.mapping.specs.Levels.{Placed, entries, joined, name, names, top_pid}
 use Rattle.mapping.specs.Proper.{next_low, Tiled, Stacked}
 use Rattle.mapping.specs.Table.{Mapping, page_of}
 use Rattle.mapping.specs.TreeInMemory.{TreeInMemory}
 use Rattle.mapping.proofs.Joined.{next_joined}
-use Rattle.mapping.proofs.TileLaws.{Names, next_low-parents, joined-append, range-names, one_page, page_for}
+use Rattle.mapping.proofs.TileLemmas.{Names, next_low-parents, joined-append, range-names, one_page, page_for}
 use Rattle.climb_plan.specs.Rewriting.{pids_for, AreParents}
 
 -- so many levels above these pages, the pid is that of the page in whose range the key lies

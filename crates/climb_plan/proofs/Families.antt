@@ -7,16 +7,16 @@ use Rattle.delta_chain.specs.Layers.{with_run}
 use Rattle.keys.specs.Lists.{flat}
 use Rattle.mapping.specs.Levels.{Placed, entries, joined, name, names}
 use Rattle.mapping.specs.Proper.{next_low, Tiled}
-use Rattle.mapping.proofs.TileLaws.{Names, names-append, next_low-entries, next_low-parents}
+use Rattle.mapping.proofs.TileLemmas.{Names, names-append, next_low-entries, next_low-parents}
 use Rattle.split_plan.specs.Groups.{groups}
 use Rattle.page_runs.specs.Worked.{Worked, worked, is_thin}
 use Rattle.split_plan.specs.WorkedLevel.{worked_parents, placed_of}
-use Rattle.split_plan.proofs.RunLaws.{entries-worked}
-use Rattle.split_plan.proofs.WorkedLaws.{AreRunsFor}
+use Rattle.split_plan.proofs.RunLemmas.{entries-worked}
+use Rattle.split_plan.proofs.WorkedLemmas.{AreRunsFor}
 use Rattle.split_plan.specs.Change.{Change, changes, family_changes, new_of, fresh_of, all_new}
-use Rattle.split_plan.proofs.ChangeLaws.{next_low-groups, AllHeaded}
+use Rattle.split_plan.proofs.ChangeLemmas.{next_low-groups, AllHeaded}
 use Rattle.split_plan.specs.Terms.{terms}
-use Rattle.split_plan.proofs.TermLaws.{with_run-terms, terms_for_parent, names_apart, tiled_family_apart, headed_by_names}
+use Rattle.split_plan.proofs.TermLemmas.{with_run-terms, terms_for_parent, names_apart, tiled_family_apart, headed_by_names}
 use Rattle.climb_plan.specs.Climb.{families}
 
 module _ {X : Type 0} where

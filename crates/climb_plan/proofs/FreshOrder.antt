@@ -11,11 +11,11 @@ use Rattle.mapping.specs.Tree.{Tree}
 use Rattle.mapping.specs.Levels.{Placed, Levels, pids, all_pids, levels_of, contents}
 use Rattle.mapping.specs.FreshPids.{is_among, unused}
 use Rattle.mapping.specs.Proper.{AreRisingPids, IsProper}
-use Rattle.mapping.proofs.PidLaws.{all_among, unused-is_free}
-use Rattle.mapping.proofs.TableLaws.{all_pids_hold}
+use Rattle.mapping.proofs.PidLemmas.{all_among, unused-is_free}
+use Rattle.mapping.proofs.TableLemmas.{all_pids_hold}
 use Rattle.page_runs.specs.NetRun.{net_run}
 use Rattle.split_plan.specs.WorkedLevel.{worked_leaves}
-use Rattle.split_plan.proofs.RunLaws.{names-worked_leaves}
+use Rattle.split_plan.proofs.RunLemmas.{names-worked_leaves}
 use Rattle.split_plan.proofs.Renewed.{Renewed}
 use Rattle.split_plan.proofs.Renewed.Renewed.{done, keep, drop_one, draw}
 use Rattle.climb_plan.specs.Climb.{kept_levels}

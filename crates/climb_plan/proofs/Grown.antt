@@ -4,14 +4,14 @@ use Rattle.std.proofs.Common.{refl, ap, ◌∙◌, arith, append-nil, length-app
 use Rattle.std.proofs.lemmas.List.{length-map}
 use Rattle.keys.specs.declared.settings.Settings.{Settings}
 use Rattle.mapping.specs.Levels.{Placed, entries, joined, name, names}
-use Rattle.mapping.proofs.TileLaws.{Names}
+use Rattle.mapping.proofs.TileLemmas.{Names}
 use Rattle.page_runs.specs.Worked.{Worked}
 use Rattle.split_plan.specs.Change.{Change, fresh_pages, changes, family_changes, all_new, all_fresh}
 use Rattle.split_plan.specs.Cut.{cut}
 use Rattle.split_plan.specs.Terms.{terms}
 use Rattle.split_plan.specs.WorkedLevel.{worked_parents}
-use Rattle.split_plan.proofs.ChangeLaws.{joined-fresh_pages}
-use Rattle.split_plan.proofs.CutLaws.{cut-joined}
+use Rattle.split_plan.proofs.ChangeLemmas.{joined-fresh_pages}
+use Rattle.split_plan.proofs.CutLemmas.{cut-joined}
 use Rattle.climb_plan.specs.Climb.{Climbed, families, grown_levels, climb, is_lone, kept_under, kept_levels}
 use Rattle.climb_plan.proofs.Kept.{kept_is_first}
 use Rattle.climb_plan.proofs.Untouched.{not_lone_by}

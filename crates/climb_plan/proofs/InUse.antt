@@ -6,26 +6,26 @@ use Rattle.std.specs.Map.{keys_of}
 use Rattle.keys.specs.declared.settings.Settings.{Settings}
 use Rattle.keys.specs.declared.command.Command.{Command}
 use Rattle.keys.specs.Lists.{flat}
-use Rattle.index_page.proofs.ListLaws.{all-append, all_apart}
+use Rattle.index_page.proofs.ListLemmas.{all-append, all_apart}
 use Rattle.mapping.specs.Tree.{Tree}
 use Rattle.mapping.specs.Levels.{Placed, Levels, joined, names, pids, all_pids, levels_of, contents}
 use Rattle.mapping.specs.FreshPids.{is_among}
 use Rattle.mapping.specs.Proper.{Stacked, IsProper}
-use Rattle.mapping.proofs.LevelLaws.{same_pids}
-use Rattle.mapping.proofs.PidLaws.{all_among}
-use Rattle.mapping.proofs.TableLaws.{all_pids_hold}
+use Rattle.mapping.proofs.LevelLemmas.{same_pids}
+use Rattle.mapping.proofs.PidLemmas.{all_among}
+use Rattle.mapping.proofs.TableLemmas.{all_pids_hold}
 use Rattle.mapping.proofs.TableOfLevels.{holds_among}
 use Rattle.page_runs.specs.NetRun.{net_run}
 use Rattle.page_runs.specs.Worked.{Worked, is_thin}
 use Rattle.split_plan.specs.Cut.{cut}
-use Rattle.split_plan.proofs.CutLaws.{cut-joined}
+use Rattle.split_plan.proofs.CutLemmas.{cut-joined}
 use Rattle.split_plan.specs.Groups.{groups}
-use Rattle.split_plan.proofs.GroupLaws.{groups-joined}
+use Rattle.split_plan.proofs.GroupLemmas.{groups-joined}
 use Rattle.split_plan.specs.WorkedLevel.{worked_leaves, worked_parents, placed_of}
-use Rattle.split_plan.proofs.RunLaws.{names-worked_leaves, names-worked_parents}
+use Rattle.split_plan.proofs.RunLemmas.{names-worked_leaves, names-worked_parents}
 use Rattle.split_plan.specs.Change.{Change, fresh_pages, replacements, is_rewritten, remade, fresh, changes, family_changes, new_of, fresh_of, all_new, all_fresh, outdated, all_outdated}
-use Rattle.split_plan.proofs.ChangeLaws.{remade_by, joined-fresh_pages}
-use Rattle.split_plan.proofs.PidLaws.{pids-placed_of}
+use Rattle.split_plan.proofs.ChangeLemmas.{remade_by, joined-fresh_pages}
+use Rattle.split_plan.proofs.PidLemmas.{pids-placed_of}
 use Rattle.split_plan.specs.Terms.{terms}
 use Rattle.climb_plan.specs.Climb.{families, Climbed, grown_levels, climb, is_lone, kept_levels}
 use Rattle.climb_plan.specs.Plan.{batch_climb, shrunk_pids, outdated_pids}

@@ -7,18 +7,18 @@ use Rattle.std.proofs.lemmas.Bool.{or_parts, or_from, eqb-true, eq-eqb, false_fr
 use Rattle.keys.specs.Lists.{flat}
 use Rattle.keys.specs.declared.settings.Settings.{Settings}
 use Rattle.index_page.specs.Page.{Page, PageOfKind}
-use Rattle.index_page.proofs.ListLaws.{all-append, all_apart}
+use Rattle.index_page.proofs.ListLemmas.{all-append, all_apart}
 use Rattle.mapping.specs.Levels.{Placed, pids}
 use Rattle.mapping.specs.FreshPids.{is_among}
 use Rattle.mapping.specs.Table.{Mapping, place_of}
 use Rattle.mapping.specs.Proper.{Distinct}
-use Rattle.mapping.proofs.LevelLaws.{pids-append, values_of-names}
-use Rattle.mapping.proofs.PidLaws.{among_either, among_either_by, among_left, among_right, among_apart, later_among}
+use Rattle.mapping.proofs.LevelLemmas.{pids-append, values_of-names}
+use Rattle.mapping.proofs.PidLemmas.{among_either, among_either_by, among_left, among_right, among_apart, later_among}
 use Rattle.page_runs.specs.Worked.{Worked}
 use Rattle.split_plan.specs.WorkedLevel.{placed_of}
 use Rattle.split_plan.specs.Change.{Change, is_rewritten, remade, changes, new_of, fresh_of}
 use Rattle.split_plan.specs.Terms.{freed_of}
-use Rattle.split_plan.proofs.ChangeLaws.{placed_of-append, remade_begins}
+use Rattle.split_plan.proofs.ChangeLemmas.{placed_of-append, remade_begins}
 use Rattle.climb_plan.specs.Changing.{AreHome}
 use Rattle.climb_plan.proofs.ChangingGroups.{idle_group, AreAlike, alike_rewritten}
 use Rattle.climb_plan.proofs.ChangingOutdated.{worked_pids-placed, worked_pids-append, among-joined}

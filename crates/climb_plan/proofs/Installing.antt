@@ -9,13 +9,13 @@ use Rattle.std.proofs.lemmas.Cmp.{tied_itself}
 use Rattle.std.proofs.lemmas.List.{drop_more}
 use Rattle.keys.proofs.Basics.{equal_by}
 use Rattle.index_page.specs.Page.{PageOfKind}
-use Rattle.index_page.proofs.ListLaws.{all_apart}
+use Rattle.index_page.proofs.ListLemmas.{all_apart}
 use Rattle.mapping.specs.Tree.{listed_at}
 use Rattle.mapping.specs.Table.{Mapping, is_same_pid, place_of, page_of, at_home, with_place, log_outdated, freed}
 use Rattle.mapping.specs.Outdate.{outdate_all}
 use Rattle.mapping.specs.TreeInMemory.{TreeInMemory}
 use Rattle.mapping.specs.Proper.{Distinct}
-use Rattle.mapping.proofs.TableLaws.{total, same_pid, differ, listed-insert_entry}
+use Rattle.mapping.proofs.TableLemmas.{total, same_pid, differ, listed-insert_entry}
 use Rattle.page_runs.specs.TermWork.{TermHeld, term_held_of}
 use Rattle.page_runs.specs.declared.term_work.TermJob.{TermJob}
 use Rattle.climb_plan.specs.Changing.{SeenPage}

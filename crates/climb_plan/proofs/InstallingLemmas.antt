@@ -9,14 +9,14 @@ use Rattle.std.proofs.lemmas.Cmp.{ranked}
 use Rattle.std.proofs.lemmas.Bool.{or_parts, or_from, eqb-true, eqb-false, false_from_ne_true}
 use Rattle.keys.proofs.Basics.{equal_by}
 use Rattle.index_page.specs.Page.{PageOfKind}
-use Rattle.index_page.proofs.ListLaws.{all-append, all_apart}
+use Rattle.index_page.proofs.ListLemmas.{all-append, all_apart}
 use Rattle.mapping.specs.Tree.{Logged, listed_at}
 use Rattle.mapping.specs.Outdate.{outdate_all}
 use Rattle.mapping.specs.FreshPids.{is_among}
 use Rattle.mapping.specs.Proper.{Distinct, AreRisingPids}
 use Rattle.mapping.specs.Table.{Mapping, is_same_pid, pids_in_use, place_of, page_of, at_home, with_place, log_outdated, freed}
-use Rattle.mapping.proofs.PidLaws.{below_later}
-use Rattle.mapping.proofs.TableLaws.{differ, same_pid}
+use Rattle.mapping.proofs.PidLemmas.{below_later}
+use Rattle.mapping.proofs.TableLemmas.{differ, same_pid}
 use Rattle.mapping.proofs.SameTable.{same_table}
 use Rattle.climb_plan.specs.Changing.{SeenPage}
 use Rattle.climb_plan.specs.Rewriting.{Remade}

@@ -6,11 +6,11 @@ use Rattle.std.proofs.lemmas.Bool.{eqb-true, eqb-false}
 use Rattle.std.proofs.lemmas.List.{length-map}
 use Rattle.std.proofs.lemmas.Grind.{flat_map-append}
 use Rattle.index_page.specs.Rules.{IsHeaded}
-use Rattle.index_page.proofs.ListLaws.{all_apart}
+use Rattle.index_page.proofs.ListLemmas.{all_apart}
 use Rattle.mapping.specs.Levels.{Placed, entries, joined, name, names, pids, all_pids}
 use Rattle.mapping.specs.Proper.{Stacked, IsBranchedTop, Distinct}
-use Rattle.mapping.proofs.TileLaws.{Names}
-use Rattle.split_plan.proofs.ChangeLaws.{AllHeaded}
+use Rattle.mapping.proofs.TileLemmas.{Names}
+use Rattle.split_plan.proofs.ChangeLemmas.{AllHeaded}
 use Rattle.climb_plan.specs.Climb.{is_lone, kept_under, kept_levels}
 
 -- ---- a level that isn't kept has one page below it

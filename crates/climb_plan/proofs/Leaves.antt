@@ -11,15 +11,15 @@ use Rattle.keys.specs.declared.command.Command.{Command}
 use Rattle.keys.specs.declared.command.Command.TheVariants.{Get, Put, Add, Del, Scan}
 use Rattle.index_page.specs.Range.{AreFrom}
 use Rattle.index_page.specs.Rules.{OfCell, IsShortValue, IsShortChange}
-use Rattle.index_page.proofs.ListLaws.{all-append, all-filter}
-use Rattle.index_page.proofs.RangeLaws.{from_nothing}
-use Rattle.index_page.proofs.PageLaws.{all-with_pair, all-without}
+use Rattle.index_page.proofs.ListLemmas.{all-append, all-filter}
+use Rattle.index_page.proofs.RangeLemmas.{from_nothing}
+use Rattle.index_page.proofs.PageLemmas.{all-with_pair, all-without}
 use Rattle.mapping.specs.Levels.{Placed, entries, joined}
 use Rattle.mapping.specs.Proper.{next_low, Tiled}
 use Rattle.page_runs.specs.NetRun.{noted, noted_by, touched, net_run}
-use Rattle.page_runs.proofs.NetLaws.{rising-net_run}
+use Rattle.page_runs.proofs.NetLemmas.{rising-net_run}
 use Rattle.split_plan.specs.WorkedLevel.{part_below, part_from, worked_leaves, placed_of}
-use Rattle.split_plan.proofs.WorkedLaws.{tiled-worked_leaves}
+use Rattle.split_plan.proofs.WorkedLemmas.{tiled-worked_leaves}
 use Rattle.climb_plan.specs.Limits.{IsShortCommand, AreShort}
 use Rattle.climb_plan.proofs.Sizes.{IsSmall, IsSmallUnlessFat, AreShortPairs, AreShortChanges, small-worked, short_entries}
 

@@ -8,7 +8,7 @@ use Rattle.mapping.specs.FreshPids.{is_among, unused}
 use Rattle.mapping.specs.Proper.{Distinct, AreRisingPids}
 use Rattle.mapping.specs.Table.{Mapping, pids_in_use, place_of, with_rooms, fresh_pids, freed_all, IsOldWithoutPlace}
 use Rattle.mapping.proofs.DrawnPlaces.{drawn-away, away-place, freed-back}
-use Rattle.mapping.proofs.PidLaws.{unused-rises, all_among}
+use Rattle.mapping.proofs.PidLemmas.{unused-rises, all_among}
 use Rattle.climb_plan.specs.Installing.{AreAway}
 use Rattle.climb_plan.specs.Rewriting.{Remade, with_numbers, numbers}
 

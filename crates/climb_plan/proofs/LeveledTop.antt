@@ -11,13 +11,13 @@ use Rattle.mapping.specs.FreshPids.{unused}
 use Rattle.mapping.specs.Proper.{next_low, AreRisingPids}
 use Rattle.mapping.specs.Table.{Mapping, pids_in_use, with_rooms, fresh_pids, freed_all, IsOldWithoutPlace}
 use Rattle.mapping.specs.TreeInMemory.{TreeInMemory}
-use Rattle.mapping.proofs.LevelLaws.{same_pids}
-use Rattle.mapping.proofs.TileLaws.{Names, rising-names}
+use Rattle.mapping.proofs.LevelLemmas.{same_pids}
+use Rattle.mapping.proofs.TileLemmas.{Names, rising-names}
 use Rattle.page_runs.specs.Worked.{Worked, is_fat}
 use Rattle.split_plan.specs.Cut.{cut}
 use Rattle.split_plan.specs.WorkedLevel.{placed_of}
 use Rattle.split_plan.specs.Change.{Change, placed_bare, fresh_pages, is_rewritten, remade, changes, fresh_of, all_new, all_fresh}
-use Rattle.split_plan.proofs.ChangeLaws.{remade_by, remade_begins}
+use Rattle.split_plan.proofs.ChangeLemmas.{remade_by, remade_begins}
 use Rattle.climb_plan.specs.Changing.{SeenPage, page_seen, AreSeen}
 use Rattle.climb_plan.specs.Changing.AreSeen.{worked, at_home}
 use Rattle.climb_plan.specs.Climb.{climb, grown_levels}

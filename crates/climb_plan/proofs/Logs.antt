@@ -11,17 +11,17 @@ use Rattle.index_page.specs.Over.{IsPageOver}
 use Rattle.keys.proofs.Basics.{equal_by}
 use Rattle.index_page.specs.Page.{PageOfKind}
 use Rattle.index_page.specs.Page.PageOfKind.{Leaf, Index}
-use Rattle.index_page.proofs.RuleLaws.{all_both}
+use Rattle.index_page.proofs.RuleLemmas.{all_both}
 use Rattle.mapping.specs.Tree.{Logged, Tree, page_at, or_no, logged_of}
 use Rattle.mapping.specs.Tree.Logged.{No, Old, Upto}
 use Rattle.mapping.specs.Levels.{Placed, Levels, pids, all_pids, levels_of, by_pid, all_pages}
 use Rattle.mapping.specs.FreshPids.{is_among}
-use Rattle.mapping.proofs.PidLaws.{later_among, among_apart, among_either}
+use Rattle.mapping.proofs.PidLemmas.{later_among, among_apart, among_either}
 use Rattle.mapping.specs.Proper.{AreRisingPids, HasIndexPages, HoldsLevels, HasRuns, IsTrueOf, AreLogsTrue, IsProper}
-use Rattle.mapping.proofs.TableLaws.{same_pid, by_pid-holds, holds_where_found}
+use Rattle.mapping.proofs.TableLemmas.{same_pid, by_pid-holds, holds_where_found}
 use Rattle.page_runs.specs.NetRun.{net_run}
 use Rattle.split_plan.specs.WorkedLevel.{worked_leaves}
-use Rattle.split_plan.proofs.RunLaws.{names-worked_leaves}
+use Rattle.split_plan.proofs.RunLemmas.{names-worked_leaves}
 use Rattle.climb_plan.specs.Climb.{Climbed, kept_levels}
 use Rattle.mapping.specs.Outdate.{outdate, outdate_all}
 use Rattle.climb_plan.specs.Plan.{batch_climb, planned_levels, planned_tree, shrunk_pids, outdated_pids}

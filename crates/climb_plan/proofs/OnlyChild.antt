@@ -7,8 +7,8 @@ use Rattle.keys.specs.Order.{IsRising}
 use Rattle.index_page.specs.Page.{PageOfKind}
 use Rattle.index_page.specs.Range.{is_before}
 use Rattle.index_page.specs.Children.{Place, children, child_entries, meets, children_within}
-use Rattle.index_page.proofs.ChildLaws.{next_key, place_of, children-cons}
-use Rattle.index_page.proofs.RangeLaws.{less_is_below}
+use Rattle.index_page.proofs.ChildLemmas.{next_key, place_of, children-cons}
+use Rattle.index_page.proofs.RangeLemmas.{less_is_below}
 use Rattle.climb_plan.specs.Installing.{page_or_none, only_pid}
 
 -- ---- every child meets the empty key as the lower bound, and none as the upper one

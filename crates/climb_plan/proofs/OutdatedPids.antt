@@ -7,12 +7,12 @@ use Rattle.keys.specs.declared.command.Command.{Command}
 use Rattle.mapping.specs.Tree.{Tree}
 use Rattle.mapping.specs.Levels.{Placed}
 use Rattle.mapping.specs.FreshPids.{is_among}
-use Rattle.mapping.proofs.PidLaws.{among_either, among_left, among_right}
+use Rattle.mapping.proofs.PidLemmas.{among_either, among_left, among_right}
 use Rattle.page_runs.specs.Worked.{Worked, is_thin}
 use Rattle.split_plan.specs.Groups.{groups}
 use Rattle.split_plan.specs.WorkedLevel.{worked_parents}
 use Rattle.split_plan.specs.Change.{Change, remade, family_changes, all_fresh, outdated, IsOutdatedIn, all_outdated}
-use Rattle.split_plan.proofs.OutdatedLaws.{outdated_members, outdated_of_families}
+use Rattle.split_plan.proofs.OutdatedLemmas.{outdated_members, outdated_of_families}
 use Rattle.split_plan.specs.Terms.{terms}
 use Rattle.climb_plan.specs.Climb.{families, climb}
 use Rattle.climb_plan.specs.Plan.{batch_climb, shrunk_pids, outdated_pids}

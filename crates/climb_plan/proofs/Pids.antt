@@ -3,14 +3,14 @@ use Rattle.std.specs.Prelude.{◌≡◌, ℕ, zero, suc, ◌+◌, Bool, true, fa
 use Rattle.std.proofs.Common.{refl, sym, ap, ◌∙◌, append-nil}
 use Rattle.keys.specs.declared.settings.Settings.{Settings}
 use Rattle.mapping.specs.Levels.{Placed, joined, names, pids, all_pids}
-use Rattle.mapping.proofs.LevelLaws.{same_pids}
+use Rattle.mapping.proofs.LevelLemmas.{same_pids}
 use Rattle.mapping.specs.Proper.{Stacked}
 use Rattle.split_plan.specs.Cut.{cut}
 use Rattle.page_runs.specs.Worked.{Worked}
 use Rattle.split_plan.specs.WorkedLevel.{worked_parents, placed_of}
-use Rattle.split_plan.proofs.RunLaws.{names-worked_parents}
+use Rattle.split_plan.proofs.RunLemmas.{names-worked_parents}
 use Rattle.split_plan.specs.Change.{Change, fresh_pages, changes, family_changes, new_of, fresh_of, all_new, all_fresh}
-use Rattle.split_plan.proofs.PidLaws.{renewed-append, recast, renewed-fresh_pages, renewed-changes, renewed-family_changes}
+use Rattle.split_plan.proofs.PidLemmas.{renewed-append, recast, renewed-fresh_pages, renewed-changes, renewed-family_changes}
 use Rattle.split_plan.proofs.Renewed.{Renewed}
 use Rattle.split_plan.proofs.Renewed.Renewed.{done}
 use Rattle.split_plan.specs.Terms.{terms}

@@ -12,21 +12,21 @@ use Rattle.keys.specs.declared.settings.Field.TheVariants.{Fan}
 use Rattle.keys.specs.declared.command.Command.{Command}
 use Rattle.index_page.specs.Page.{first_key}
 use Rattle.index_page.specs.Rules.{IsHeaded, Fits, IsShortChange, IsShortValue, IsAnyPid}
-use Rattle.index_page.proofs.ListLaws.{all_weaker, all_keys, all_keys-append}
+use Rattle.index_page.proofs.ListLemmas.{all_weaker, all_keys, all_keys-append}
 use Rattle.mapping.specs.FreshPids.{IsNeverUnused}
 use Rattle.mapping.specs.Tree.{Tree}
 use Rattle.mapping.specs.Levels.{Placed, Levels, entries, joined, name, names, all_pids, levels_of, contents, all_pages, by_pid}
-use Rattle.mapping.proofs.LevelLaws.{levels_found}
-use Rattle.mapping.proofs.TileLaws.{Names, rising-joined, some_page}
-use Rattle.mapping.proofs.TableLaws.{rising-by_pid, by_pid-holds, all_pids_hold}
-use Rattle.mapping.proofs.PidLaws.{used_is_never_unused}
+use Rattle.mapping.proofs.LevelLemmas.{levels_found}
+use Rattle.mapping.proofs.TileLemmas.{Names, rising-joined, some_page}
+use Rattle.mapping.proofs.TableLemmas.{rising-by_pid, by_pid-holds, all_pids_hold}
+use Rattle.mapping.proofs.PidLemmas.{used_is_never_unused}
 use Rattle.mapping.specs.Proper.{next_low, Tiled, Stacked, Distinct, AreLevels, AllFit, IsProper, HoldsLevels}
 use Rattle.page_runs.specs.NetRun.{net_run}
-use Rattle.page_runs.proofs.NetLaws.{with_run-net_run}
+use Rattle.page_runs.proofs.NetLemmas.{with_run-net_run}
 use Rattle.page_runs.specs.Worked.{Worked}
 use Rattle.split_plan.specs.WorkedLevel.{worked_leaves, placed_of}
-use Rattle.split_plan.proofs.RunLaws.{joined-worked_leaves, names-worked_leaves}
-use Rattle.split_plan.proofs.PidLaws.{distinct_renewed}
+use Rattle.split_plan.proofs.RunLemmas.{joined-worked_leaves, names-worked_leaves}
+use Rattle.split_plan.proofs.PidLemmas.{distinct_renewed}
 use Rattle.climb_plan.specs.Limits.{AreShort}
 use Rattle.climb_plan.specs.Climb.{Climbed}
 use Rattle.climb_plan.specs.Plan.{batch_climb, planned_levels, planned_tree}

@@ -16,7 +16,7 @@ use Rattle.mapping.specs.Tree.{Logged, Tree, listed_at, page_at}
 use Rattle.mapping.specs.Tree.Logged.{No, Old, Upto}
 use Rattle.mapping.specs.TreeInMemory.{TreeInMemory, AreAllHome, tree_of}
 use Rattle.mapping.proofs.SameTree.{root_on_top}
-use Rattle.mapping.proofs.TileLaws.{next_low-same}
+use Rattle.mapping.proofs.TileLemmas.{next_low-same}
 use Rattle.page_runs.specs.Worked.{Worked}
 use Rattle.split_plan.specs.WorkedLevel.{placed_of}
 use Rattle.climb_plan.specs.Changing.{SeenPage}

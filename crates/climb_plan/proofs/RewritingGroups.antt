@@ -8,7 +8,7 @@ use Rattle.keys.specs.Lists.{flat}
 use Rattle.page_runs.specs.declared.class.Class.{Class}
 use Rattle.page_runs.specs.Worked.{is_thin_class}
 use Rattle.split_plan.specs.Groups.{Gathered, with_child, gathered, with_leading, groups}
-use Rattle.split_plan.proofs.GroupLaws.{groups-joined}
+use Rattle.split_plan.proofs.GroupLemmas.{groups-joined}
 use Rattle.climb_plan.specs.Changing.{SeenPage}
 use Rattle.climb_plan.specs.Rewriting.{seen_now, all_seen, groups_seen, is_thin_seen, is_rewritten_seen, with_rewriting, rewriting_counts}
 use Rattle.climb_plan.specs.declared.seen.Seen.{Seen}

@@ -9,14 +9,14 @@ use Rattle.keys.specs.Order.{IsRising}
 use Rattle.index_page.specs.Page.{PageOfKind, low_of}
 use Rattle.index_page.specs.Page.PageOfKind.{Index}
 use Rattle.index_page.specs.Range.{is_below, is_before, is_within, AreBelow, AreFrom, AreBefore}
-use Rattle.index_page.proofs.ListLaws.{all_apart}
-use Rattle.index_page.proofs.PageLaws.{all_keys_entries}
-use Rattle.index_page.proofs.ChildLaws.{within}
+use Rattle.index_page.proofs.ListLemmas.{all_apart}
+use Rattle.index_page.proofs.PageLemmas.{all_keys_entries}
+use Rattle.index_page.proofs.ChildLemmas.{within}
 use Rattle.mapping.specs.Levels.{Placed, entries, joined}
 use Rattle.mapping.specs.Proper.{next_low, IsTile, Tiled}
 use Rattle.mapping.specs.Table.{Mapping, page_of}
 use Rattle.mapping.specs.TreeInMemory.{TreeInMemory}
-use Rattle.mapping.proofs.TileLaws.{tiled_apart, from-joined, before-joined, rising-joined}
+use Rattle.mapping.proofs.TileLemmas.{tiled_apart, from-joined, before-joined, rising-joined}
 use Rattle.page_runs.specs.declared.class.Class.{Class}
 use Rattle.page_runs.specs.Worked.{is_fat_class}
 use Rattle.split_plan.specs.Groups.{Gathered, with_child, gathered, with_leading}

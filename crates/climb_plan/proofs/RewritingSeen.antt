@@ -6,7 +6,7 @@ use Rattle.std.specs.List.Sorted.{IsStrictlySortedBy}
 use Rattle.std.specs.Map.{keys_of}
 use Rattle.std.proofs.lemmas.List.{take_more, drop_more, map-append, take-append-drop}
 use Rattle.keys.specs.Order.{order, IsRising}
-use Rattle.keys.proofs.MapLaws.{order_itself, is_itself, passes_same, IsBelowAll}
+use Rattle.keys.proofs.MapLemmas.{order_itself, is_itself, passes_same, IsBelowAll}
 use Rattle.index_page.specs.Page.{PageOfKind, low_of}
 use Rattle.index_page.specs.Range.{is_below, AreBelow, AreFrom}
 use Rattle.index_page.specs.Rules.{is_same_key}

@@ -9,7 +9,7 @@ use Rattle.keys.specs.Order.{IsRising}
 use Rattle.keys.specs.declared.settings.Settings.{Settings}
 use Rattle.index_page.specs.Page.{PageOfKind, bare, first_key}
 use Rattle.index_page.specs.Page.PageOfKind.{Index}
-use Rattle.index_page.proofs.ListLaws.{all_apart}
+use Rattle.index_page.proofs.ListLemmas.{all_apart}
 use Rattle.mapping.specs.Levels.{Placed, name, names, pids, top_pid}
 use Rattle.mapping.specs.FreshPids.{is_among, unused}
 use Rattle.mapping.specs.Tree.{Logged}
@@ -17,13 +17,13 @@ use Rattle.mapping.specs.Tree.Logged.{Old}
 use Rattle.mapping.specs.Proper.{AreRisingPids, Distinct, Tiled}
 use Rattle.mapping.specs.Table.{Mapping, pids_in_use, place_of, freed_all, with_rooms, fresh_pids, IsOldWithoutPlace}
 use Rattle.mapping.specs.TreeInMemory.{TreeInMemory}
-use Rattle.mapping.proofs.PidLaws.{all_among}
-use Rattle.mapping.proofs.TileLaws.{rising-names}
+use Rattle.mapping.proofs.PidLemmas.{all_among}
+use Rattle.mapping.proofs.TileLemmas.{rising-names}
 use Rattle.split_plan.specs.Cut.{piece_count, cut}
 use Rattle.split_plan.specs.Change.{fresh_pages}
-use Rattle.split_plan.proofs.ChangeLaws.{length-fresh_pages, tiled-fresh_pages}
-use Rattle.split_plan.proofs.CutLaws.{fewer_pieces, length-cut, cut_full, cut-joined, cut_some}
-use Rattle.split_plan.proofs.PidLaws.{renewed-append, recast, renewed-fresh_pages, distinct_renewed}
+use Rattle.split_plan.proofs.ChangeLemmas.{length-fresh_pages, tiled-fresh_pages}
+use Rattle.split_plan.proofs.CutLemmas.{fewer_pieces, length-cut, cut_full, cut-joined, cut_some}
+use Rattle.split_plan.proofs.PidLemmas.{renewed-append, recast, renewed-fresh_pages, distinct_renewed}
 use Rattle.split_plan.proofs.Renewed.{Renewed}
 use Rattle.split_plan.proofs.Renewed.Renewed.{done as none_drawn, draw}
 use Rattle.climb_plan.specs.Climb.{grown_levels}

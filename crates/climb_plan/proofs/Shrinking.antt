@@ -10,15 +10,15 @@ use Rattle.keys.specs.Order.{IsRising}
 use Rattle.index_page.specs.Page.{PageOfKind, entries}
 use Rattle.index_page.specs.Page.PageOfKind.{Index}
 use Rattle.index_page.specs.Children.{child_entries}
-use Rattle.delta_chain.proofs.LayerLaws.{rising-entries_of}
-use Rattle.index_page.proofs.ListLaws.{all_apart, all_weaker}
+use Rattle.delta_chain.proofs.LayerLemmas.{rising-entries_of}
+use Rattle.index_page.proofs.ListLemmas.{all_apart, all_weaker}
 use Rattle.mapping.specs.FreshPids.{is_among}
 use Rattle.mapping.specs.Levels.{Placed, names, pids, first_pid, top_pid, all_pids}
 use Rattle.mapping.specs.Outdate.{outdate_all}
 use Rattle.mapping.specs.Proper.{Stacked, Distinct, Tiled}
 use Rattle.mapping.specs.Table.{place_of, page_of, at_home}
 use Rattle.mapping.specs.TreeInMemory.{TreeInMemory}
-use Rattle.mapping.proofs.PidLaws.{among_either, among_right, among_apart, all_among}
+use Rattle.mapping.proofs.PidLemmas.{among_either, among_right, among_apart, all_among}
 use Rattle.climb_plan.specs.Changing.{AreHome}
 use Rattle.climb_plan.specs.Climb.{is_lone, kept_under, kept_levels}
 use Rattle.climb_plan.specs.HasClimbed.{CanShrink, HasShrunk}

@@ -9,21 +9,21 @@ use Rattle.delta_chain.specs.Layers.{with_run, entries_of, depth_of}
 use Rattle.index_page.specs.Page.{Page, first_key, said}
 use Rattle.index_page.specs.Rules.{OfCell, IsShortChange, Fits, IsAnyPid}
 use Rattle.keys.specs.Lists.{flat}
-use Rattle.index_page.proofs.ListLaws.{all-append, all_apart}
-use Rattle.index_page.proofs.PageLaws.{all-as_changes, all_entries}
+use Rattle.index_page.proofs.ListLemmas.{all-append, all_apart}
+use Rattle.index_page.proofs.PageLemmas.{all-as_changes, all_entries}
 use Rattle.mapping.specs.Levels.{Placed, entries, joined, names}
 use Rattle.mapping.specs.Proper.{Stacked}
-use Rattle.mapping.proofs.TileLaws.{Names}
+use Rattle.mapping.proofs.TileLemmas.{Names}
 use Rattle.page_runs.specs.AfterRun.{must_replace, replaced, in_front, class_of_size}
 use Rattle.page_runs.specs.declared.class.Class.TheVariants.{Changed, Thin, Fat}
 use Rattle.split_plan.specs.Cut.{cut, AllAtMost}
-use Rattle.split_plan.proofs.CutLaws.{cut-joined, cut_at_most}
-use Rattle.split_plan.proofs.ExchangeLaws.{all_keys-with_present}
+use Rattle.split_plan.proofs.CutLemmas.{cut-joined, cut_at_most}
+use Rattle.split_plan.proofs.ExchangeLemmas.{all_keys-with_present}
 use Rattle.split_plan.specs.Groups.{groups}
-use Rattle.split_plan.proofs.GroupLaws.{groups-joined}
+use Rattle.split_plan.proofs.GroupLemmas.{groups-joined}
 use Rattle.page_runs.specs.Worked.{Worked, worked, is_thin, is_fat, is_fat_class}
 use Rattle.split_plan.specs.WorkedLevel.{worked_parents, placed_of}
-use Rattle.split_plan.proofs.RunLaws.{all_said-after_run, names-worked_parents}
+use Rattle.split_plan.proofs.RunLemmas.{all_said-after_run, names-worked_parents}
 use Rattle.split_plan.specs.Change.{Change, placed_bare, fresh_pages, replacements, remade, changes, family_changes, new_of, fresh_of, all_new, all_fresh}
 use Rattle.split_plan.specs.Terms.{freed_of, terms}
 use Rattle.climb_plan.specs.Climb.{families, grown_levels, climb}

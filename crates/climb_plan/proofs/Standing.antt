@@ -6,21 +6,21 @@ use Rattle.std.proofs.lemmas.Bool.{eqb-false, or_parts}
 use Rattle.keys.specs.declared.settings.Settings.{Settings}
 use Rattle.index_page.specs.Over.{IsOver}
 use Rattle.index_page.specs.Page.{Page}
-use Rattle.index_page.proofs.RuleLaws.{all_both}
+use Rattle.index_page.proofs.RuleLemmas.{all_both}
 use Rattle.keys.specs.Lists.{flat}
-use Rattle.index_page.proofs.ListLaws.{all-append, all_weaker}
+use Rattle.index_page.proofs.ListLemmas.{all-append, all_weaker}
 use Rattle.mapping.specs.Levels.{Placed, joined, name, names}
 use Rattle.mapping.specs.FreshPids.{is_among}
-use Rattle.mapping.proofs.PidLaws.{among_apart}
+use Rattle.mapping.proofs.PidLemmas.{among_apart}
 use Rattle.mapping.specs.Proper.{Stacked}
 use Rattle.page_runs.specs.AfterRun.{must_replace, replaced, in_front}
 use Rattle.split_plan.specs.Groups.{groups}
-use Rattle.split_plan.proofs.GroupLaws.{groups-joined}
+use Rattle.split_plan.proofs.GroupLemmas.{groups-joined}
 use Rattle.page_runs.specs.Worked.{Worked, worked, is_thin}
 use Rattle.split_plan.specs.WorkedLevel.{part_below, part_from, worked_leaves, worked_parents, placed_of}
-use Rattle.split_plan.proofs.RunLaws.{names-worked_parents}
+use Rattle.split_plan.proofs.RunLemmas.{names-worked_parents}
 use Rattle.split_plan.specs.Change.{Change, is_rewritten, remade, changes, family_changes, new_of, fresh_of, all_new, all_fresh, outdated, all_outdated}
-use Rattle.split_plan.proofs.ChangeLaws.{remade_by}
+use Rattle.split_plan.proofs.ChangeLemmas.{remade_by}
 use Rattle.split_plan.specs.Terms.{terms}
 use Rattle.climb_plan.specs.Climb.{families, Climbed, climb}
 use Rattle.climb_plan.proofs.Families.{families-joined}

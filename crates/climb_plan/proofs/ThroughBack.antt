@@ -6,17 +6,17 @@ use Rattle.std.specs.Map.{keys_of}
 use Rattle.keys.specs.declared.settings.Settings.{Settings}
 use Rattle.index_page.specs.Page.{Page, PageOfKind}
 use Rattle.index_page.specs.Page.PageOfKind.{Index}
-use Rattle.index_page.proofs.ListLaws.{all_apart}
+use Rattle.index_page.proofs.ListLemmas.{all_apart}
 use Rattle.mapping.specs.FreshPids.{is_among, IsNeverUnused}
 use Rattle.mapping.specs.Levels.{Placed, pids, all_pids}
 use Rattle.mapping.specs.Proper.{Distinct, AreRisingPids}
 use Rattle.mapping.specs.Table.{Mapping, pids_in_use, place_of, with_rooms, fresh_pids, freed_all, IsOldWithoutPlace}
 use Rattle.mapping.specs.TreeInMemory.{TreeInMemory}
-use Rattle.mapping.proofs.LevelLaws.{pids-append}
-use Rattle.mapping.proofs.PidLaws.{all_among}
+use Rattle.mapping.proofs.LevelLemmas.{pids-append}
+use Rattle.mapping.proofs.PidLemmas.{all_among}
 use Rattle.page_runs.specs.TermWork.{IndexWorked}
 use Rattle.page_runs.specs.Worked.{Worked}
-use Rattle.split_plan.proofs.PidLaws.{distinct_renewed}
+use Rattle.split_plan.proofs.PidLemmas.{distinct_renewed}
 use Rattle.split_plan.specs.Change.{Change, changes, fresh_of}
 use Rattle.split_plan.specs.WorkedLevel.{placed_of}
 use Rattle.climb_plan.specs.Changing.{SeenPage, AreHome, Changing, changing_families, changing_groups, parents_of}

@@ -7,21 +7,21 @@ use Rattle.std.proofs.lemmas.List.{length-map}
 use Rattle.keys.specs.Lists.{flat}
 use Rattle.keys.specs.declared.settings.Settings.{Settings}
 use Rattle.index_page.specs.Page.{Page, PageOfKind}
-use Rattle.index_page.proofs.ListLaws.{all-append, all_apart}
+use Rattle.index_page.proofs.ListLemmas.{all-append, all_apart}
 use Rattle.mapping.specs.Levels.{Placed, joined, pids}
 use Rattle.mapping.specs.FreshPids.{is_among, unused, IsNeverUnused}
 use Rattle.mapping.specs.Outdate.{outdate_all}
 use Rattle.mapping.specs.Proper.{Distinct, AreRisingPids}
 use Rattle.mapping.specs.Table.{Mapping, pids_in_use, place_of, page_of}
-use Rattle.mapping.proofs.LevelLaws.{pids-append, same_pids}
-use Rattle.mapping.proofs.PidLaws.{among_apart}
+use Rattle.mapping.proofs.LevelLemmas.{pids-append, same_pids}
+use Rattle.mapping.proofs.PidLemmas.{among_apart}
 use Rattle.page_runs.specs.Worked.{Worked, is_fat}
 use Rattle.split_plan.specs.Cut.{cut}
 use Rattle.split_plan.specs.WorkedLevel.{placed_of}
 use Rattle.split_plan.specs.Change.{is_rewritten, remade, changes, new_of, fresh_of}
 use Rattle.split_plan.specs.Terms.{freed_of}
-use Rattle.split_plan.proofs.ChangeLaws.{remade_by, remade_begins}
-use Rattle.split_plan.proofs.PidLaws.{distinct_renewed, recast, renewed-append}
+use Rattle.split_plan.proofs.ChangeLemmas.{remade_by, remade_begins}
+use Rattle.split_plan.proofs.PidLemmas.{distinct_renewed, recast, renewed-append}
 use Rattle.split_plan.proofs.Renewed.{Renewed}
 use Rattle.split_plan.proofs.Renewed.Renewed.{done, keep, drop_one, draw}
 use Rattle.climb_plan.specs.Changing.{AreHome}

@@ -17,7 +17,7 @@ use Rattle.mapping.specs.Levels.{Placed, Levels, entries, joined, name, index_at
 use Rattle.mapping.specs.Proper.{Stacked, IsBranchedTop, IsProper}
 use Rattle.mapping.proofs.SameTree.{root_on_top}
 use Rattle.mapping.proofs.TableOfLevels.{by_pid-unique}
-use Rattle.mapping.proofs.TileLaws.{Names}
+use Rattle.mapping.proofs.TileLemmas.{Names}
 use Rattle.page_runs.specs.NetRun.{touched, net_run}
 use Rattle.page_runs.specs.Worked.{Worked, is_thin}
 use Rattle.split_plan.specs.Groups.{Gathered, gathered, groups}

@@ -1,10 +1,10 @@
-pub mod RoundLaws
-mod HomeLaws
-mod PieceLaws
-mod DrawnLaws
+pub mod RoundLemmas
+mod HomeLemmas
+mod PieceLemmas
+mod DrawnLemmas
 pub mod Forgotten
 pub mod OnePlace
-pub mod SoundLaws
+pub mod SoundLemmas
 pub mod Steps
 pub mod MarkTable
 pub mod AllOnBoard

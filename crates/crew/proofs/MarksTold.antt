@@ -11,7 +11,7 @@ use Rattle.crew.specs.declared.progress.Progress.{Progress}
 use Rattle.crew.specs.Marks.{forgotten, mark_at, state_by}
 use Rattle.crew.specs.Round.{joined, begun, after_events, round}
 use Rattle.crew.proofs.Forgotten.{forgotten_marks}
-use Rattle.crew.proofs.SoundLaws.{none_past}
+use Rattle.crew.proofs.SoundLemmas.{none_past}
 
 -- where each job below their number has its mark in the table, the table has what is home of each
 pub all_told : {J : Type 0} (pieces : List (Vec J Global)) (workers : ℕ) (events : List Event) (i jobs : ℕ) (p : Progress) (marks : List (Option Mark))

@@ -4,7 +4,7 @@ use Rattle.std.proofs.Common.{refl, sym, ap, arith, Less, Equal, Greater}
 use Rattle.std.proofs.lemmas.List.Edits.{insert_end}
 use Rattle.std.specs.List.{insert}
 use Rattle.keys.specs.Order.{order}
-use Rattle.keys.proofs.MapLaws.{same_key, order_itself, flipped_less, flipped_greater}
+use Rattle.keys.proofs.MapLemmas.{same_key, order_itself, flipped_less, flipped_greater}
 use Rattle.delta_chain.proofs.Setting.{Answer}
 
 module _ {T : Type 0} where

@@ -1,7 +1,7 @@
 pub mod Crossing
 mod Alone
 pub mod Counts
-pub mod LayerLaws
+pub mod LayerLemmas
 pub mod Lending
 mod Lower
 pub mod Merges

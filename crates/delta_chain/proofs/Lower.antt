@@ -7,7 +7,7 @@ use Rattle.std.specs.Map.{keys_of}
 use Rattle.keys.specs.Order.{order, IsRising}
 use Rattle.keys.specs.OrderedMap.{value_at, with_pair}
 use Rattle.keys.specs.Range.{is_below, in_range}
-use Rattle.keys.proofs.MapLaws.{IsBelowAll, below_all, order_itself, flipped_less, flipped_greater}
+use Rattle.keys.proofs.MapLemmas.{IsBelowAll, below_all, order_itself, flipped_less, flipped_greater}
 use Rattle.delta_chain.proofs.Setting.{below_at}
 
 module _ {T : Type 0} where

@@ -4,7 +4,7 @@ use Rattle.std.specs.Map.{keys_of, values_of}
 use Rattle.std.proofs.lemmas.Map.Keys.{sorted_head, sorted_tail}
 use Rattle.keys.specs.Order.{order, IsRising}
 use Rattle.keys.specs.OrderedMap.{without}
-use Rattle.keys.proofs.MapLaws.{IsBelowAll, below_all, same_key, order_itself, flipped_less, flipped_greater}
+use Rattle.keys.proofs.MapLemmas.{IsBelowAll, below_all, same_key, order_itself, flipped_less, flipped_greater}
 use Rattle.delta_chain.specs.Layers.{with_change, with_run}
 use Rattle.delta_chain.specs.Merging.{pair_if, first_order}
 use Rattle.delta_chain.proofs.Places.{drop_pair, front_under, front_at}

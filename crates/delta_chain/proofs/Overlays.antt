@@ -6,10 +6,10 @@ use Rattle.std.specs.List.Sorted.{IsStrictlySortedBy}
 use Rattle.std.specs.Map.{keys_of, values_of}
 use Rattle.keys.specs.Order.{order, IsRising}
 use Rattle.keys.specs.OrderedMap.{value_at}
-use Rattle.keys.proofs.MapLaws.{same_map}
+use Rattle.keys.proofs.MapLemmas.{same_map}
 use Rattle.delta_chain.specs.Layers.{said_or, held_under, with_run, entries_under, AllRise}
 use Rattle.delta_chain.specs.Merging.{asserted, said_by}
-use Rattle.delta_chain.proofs.LayerLaws.{value_at-with_run, rising-with_run, rising-entries_under, value_at-entries_under}
+use Rattle.delta_chain.proofs.LayerLemmas.{value_at-with_run, rising-with_run, rising-entries_under, value_at-entries_under}
 
 module _ {V : Type 0} where
   pub keys_of-asserted : (run : List (List ℕ × Option V)) → keys_of (asserted run) ≡ keys_of run

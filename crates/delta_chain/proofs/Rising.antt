@@ -6,7 +6,7 @@ use Rattle.std.specs.List.Sorted.{IsStrictlySortedBy}
 use Rattle.std.specs.Map.{keys_of}
 use Rattle.keys.specs.Order.{order, IsRising}
 use Rattle.keys.proofs.Basics.{less_by}
-use Rattle.keys.proofs.MapLaws.{IsBelowAll, total}
+use Rattle.keys.proofs.MapLemmas.{IsBelowAll, total}
 use Rattle.delta_chain.specs.Building.{goes_last}
 use Rattle.delta_chain.proofs.Places.{front_under}
 

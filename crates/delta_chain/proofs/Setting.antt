@@ -8,7 +8,7 @@ use Rattle.std.specs.Ordering.{ordering_index}
 use Rattle.std.proofs.lemmas.Map.Keys.{sorted_head, sorted_tail}
 use Rattle.keys.specs.Order.{order, IsRising}
 use Rattle.keys.specs.OrderedMap.{value_at, with_pair}
-use Rattle.keys.proofs.MapLaws.{IsBelowAll, total, same_key, order_itself, flipped_less, flipped_greater}
+use Rattle.keys.proofs.MapLemmas.{IsBelowAll, total, same_key, order_itself, flipped_less, flipped_greater}
 use Rattle.delta_chain.specs.Building.{goes_last}
 use Rattle.delta_chain.proofs.Rising.{goes_last_first, goes_last_rest}
 

@@ -15,9 +15,9 @@ use Rattle.mapping.specs.Levels.{Placed, levels_of, contents, joined, pids}
 use Rattle.mapping.specs.Proper.{next_low, Tiled, Distinct, IsProper}
 use Rattle.mapping.specs.Table.{Mapping, page_of}
 use Rattle.mapping.specs.TreeInMemory.{TreeInMemory, AreAllHome, tree_of}
-use Rattle.mapping.proofs.TileLaws.{rising-joined}
+use Rattle.mapping.proofs.TileLemmas.{rising-joined}
 use Rattle.routing.specs.Routes.{Route, route_to, has_places, places_within, ranges, routes}
-use Rattle.routing.proofs.RouteLaws.{kept}
+use Rattle.routing.proofs.RouteLemmas.{kept}
 use Rattle.page_runs.specs.LeafWork.{leaf_made}
 use Rattle.page_runs.specs.Replies.{commands_at, pieces_of}
 use Rattle.replies.specs.ByPlace.{reply_at, AreAnswers}

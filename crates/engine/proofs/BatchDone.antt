@@ -13,7 +13,7 @@ use Rattle.mapping.specs.TreeInMemory.{TreeInMemory, AreAllHome, tree_of}
 use Rattle.climb_plan.specs.Plan.{plan, planned_tree}
 use Rattle.flush_log.specs.AfterFlush.{slot_of}
 use Rattle.flush_log.specs.Disk.{View}
-use Rattle.flush_log.proofs.SlotLaws.{slot-is}
+use Rattle.flush_log.proofs.SlotLemmas.{slot-is}
 use Rattle.recovery.specs.InStep.{IsInStep, IsStore, IsStoreOf}
 use Rattle.engine.specs.Batch.{refusal_by, height_fault}
 use Rattle.engine.specs.Refusal.{refusal}

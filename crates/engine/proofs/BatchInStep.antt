@@ -14,7 +14,7 @@ use Rattle.climb_plan.specs.Limits.{AreShort}
 use Rattle.climb_plan.specs.Plan.{planned_tree}
 use Rattle.recovery.specs.InStep.{KeepsLogged, IsStore}
 use Rattle.recovery.proofs.KeptStore.{batch-kept}
-use Rattle.recovery.proofs.StepLaws.{kept-in_step}
+use Rattle.recovery.proofs.StepLemmas.{kept-in_step}
 use Rattle.engine.specs.Batch.{height_fault, refusal_by}
 use Rattle.engine.specs.Refusal.{refusal}
 use Rattle.engine.specs.Steps.{KeepsStores, batching}

@@ -14,7 +14,7 @@ use Rattle.recovery.specs.InStep.{IsInStep, IsStore, IsStoreOf}
 use Rattle.cleaner.specs.AfterClean.{after_clean}
 use Rattle.engine.specs.State.{IsSound, store_in}
 use Rattle.engine.specs.declared.store.Log.{Log}
-use Rattle.engine.proofs.CreateLaws.{opened-is}
+use Rattle.engine.proofs.CreateLemmas.{opened-is}
 
 -- the slot of what is in memory
 pub slot-in : (tree : TreeInMemory) (log : Log) (root height : ℕ) → root ≡ tree.root → height ≡ tree.height

@@ -5,7 +5,7 @@ use Rattle.std.specs.List.{filter}
 use Rattle.keys.specs.declared.command.Command.{Command}
 use Rattle.page_runs.specs.Replies.{commands_at}
 use Rattle.routing.specs.Routes.{goes_to, places_from, places_within}
-use Rattle.routing.proofs.RouteLaws.{places_from-suc}
+use Rattle.routing.proofs.RouteLemmas.{places_from-suc}
 
 module _ {A : Type 0} where
   -- behind one more command, each of the others has the next place

@@ -18,7 +18,7 @@ use Rattle.keys.specs.declared.command.Command.TheVariants.{Get, Put, Add, Del, 
 use Rattle.keys.specs.declared.command.Reply.{Reply}
 use Rattle.keys.specs.declared.piece.Piece.{Piece}
 use Rattle.keys.specs.declared.settings.Settings.{Settings}
-use Rattle.keys.proofs.NarrowedLaws.{scan-with_end, get-with_ends, length-with_ends}
+use Rattle.keys.proofs.NarrowedLemmas.{scan-with_end, get-with_ends, length-with_ends}
 use Rattle.index_page.specs.Children.{Place}
 use Rattle.index_page.specs.Page.{PageOfKind, entries, leaf_of}
 use Rattle.mapping.specs.Levels.{Placed, joined, names, levels_of, contents, all_pages, by_pid, top_pid}
@@ -26,9 +26,9 @@ use Rattle.mapping.specs.Outdate.{outdate_all}
 use Rattle.mapping.specs.Proper.{Tiled}
 use Rattle.mapping.specs.Table.{Mapping, page_of}
 use Rattle.mapping.specs.Tree.{Tree}
-use Rattle.mapping.proofs.TileLaws.{rising-joined, rising-names}
+use Rattle.mapping.proofs.TileLemmas.{rising-joined, rising-names}
 use Rattle.routing.specs.Routes.{Route, route_to, has_places, places_within, ranges, routes}
-use Rattle.routing.proofs.RouteLaws.{kept, own_places}
+use Rattle.routing.proofs.RouteLemmas.{kept, own_places}
 use Rattle.page_runs.specs.LeafWork.{LeafMade, leaf_made, placed_leaf}
 use Rattle.page_runs.specs.NetRun.{net_run}
 use Rattle.page_runs.specs.Replies.{ArePlacesOf, commands_at, pieces_of}

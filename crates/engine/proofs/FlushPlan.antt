@@ -16,14 +16,14 @@ use Rattle.flush_log.specs.Layout.{spans, tail_after, is_full_for_flush}
 use Rattle.flush_log.specs.Segments.{last_segment, disk_size}
 use Rattle.flush_log.specs.Slot.{Slot, greatest, is_open}
 use Rattle.flush_log.specs.declared.disk.DiskFault.{DiskFault}
-use Rattle.flush_log.proofs.FitLaws.{are_sized}
-use Rattle.flush_log.proofs.HideLaws.{text-inside}
-use Rattle.flush_log.proofs.ReachLaws.{text-fits}
-use Rattle.flush_log.proofs.SlotLaws.{IsSlot, slot-is}
+use Rattle.flush_log.proofs.FitLemmas.{are_sized}
+use Rattle.flush_log.proofs.HideLemmas.{text-inside}
+use Rattle.flush_log.proofs.ReachLemmas.{text-fits}
+use Rattle.flush_log.proofs.SlotLemmas.{IsSlot, slot-is}
 use Rattle.recovery.specs.InStep.{IsStore}
 use Rattle.recovery.proofs.FlushBack.{IsCommitted, commit-done, text-some}
 use Rattle.engine.specs.Calls.{IsPlan}
-use Rattle.engine.proofs.ReadLaws.{left_behind}
+use Rattle.engine.proofs.ReadLemmas.{left_behind}
 
 -- ---- what its tail tells
 

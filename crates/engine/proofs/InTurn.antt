@@ -3,7 +3,7 @@ use Rattle.std.specs.Prelude.{◌≡◌, ℕ, List, [], ◌∷◌, ◌++◌}
 use Rattle.std.proofs.Common.{refl, sym, ap, ◌∙◌}
 use Rattle.keys.specs.Lists.{flat}
 use Rattle.keys.specs.Step.{replies_to, map_after_all}
-use Rattle.keys.proofs.RunLaws.{replies_to-append, map_after_all-append}
+use Rattle.keys.proofs.RunLemmas.{replies_to-append, map_after_all-append}
 use Rattle.keys.specs.declared.command.Command.{Command}
 use Rattle.keys.specs.declared.command.Reply.{Reply}
 use Rattle.std.specs.List.{AllByRecursion}

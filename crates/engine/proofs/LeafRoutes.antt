@@ -7,18 +7,18 @@ use Rattle.keys.specs.declared.command.Command.{Command}
 use Rattle.index_page.specs.Children.{Place, children}
 use Rattle.index_page.specs.Page.{Page, PageOfKind, entries}
 use Rattle.index_page.specs.Page.PageOfKind.{Leaf}
-use Rattle.index_page.proofs.ChildLaws.{place_of, children-cons, pids-children}
-use Rattle.index_page.proofs.ListLaws.{all_weaker}
+use Rattle.index_page.proofs.ChildLemmas.{place_of, children-cons, pids-children}
+use Rattle.index_page.proofs.ListLemmas.{all_weaker}
 use Rattle.mapping.specs.Levels.{Placed, joined, name, names, pids}
 use Rattle.mapping.specs.Proper.{next_low, Tiled, Distinct, HasLeaves}
 use Rattle.mapping.specs.Table.{Mapping, page_of}
 use Rattle.mapping.specs.Tree.{page_at}
 use Rattle.mapping.specs.TreeInMemory.{home_pages}
 use Rattle.mapping.proofs.HomePages.{page-home}
-use Rattle.mapping.proofs.LevelLaws.{values_of-names}
-use Rattle.mapping.proofs.TileLaws.{next_names}
+use Rattle.mapping.proofs.LevelLemmas.{values_of-names}
+use Rattle.mapping.proofs.TileLemmas.{next_names}
 use Rattle.routing.specs.Routes.{Route, route_to, goes_to, has_places, ranges}
-use Rattle.routing.proofs.RouteLaws.{below-places_from, kept}
+use Rattle.routing.proofs.RouteLemmas.{below-places_from, kept}
 use Rattle.page_runs.specs.Replies.{ArePlacesOf}
 use Rattle.scan.proofs.Parts.{part_of_level}
 use Rattle.engine.specs.Leaves.{IsLeafAt, route_pids}

@@ -6,18 +6,18 @@ use Rattle.keys.specs.Order.{IsRising}
 use Rattle.keys.specs.OrderedMap.{value_at}
 use Rattle.keys.specs.declared.command.Command.{Command}
 use Rattle.keys.specs.declared.command.Command.TheVariants.{Get, Put, Add, Del, Scan}
-use Rattle.keys.proofs.MapLaws.{total, same_map}
+use Rattle.keys.proofs.MapLemmas.{total, same_map}
 use Rattle.index_page.specs.Range.{is_below, is_before, is_within}
-use Rattle.index_page.proofs.PageLaws.{all_keys_entries}
-use Rattle.index_page.proofs.RangeLaws.{below_is_less, less_is_below, rising-filter, value_at-behind}
+use Rattle.index_page.proofs.PageLemmas.{all_keys_entries}
+use Rattle.index_page.proofs.RangeLemmas.{below_is_less, less_is_below, rising-filter, value_at-behind}
 use Rattle.mapping.specs.Levels.{Placed, entries, joined}
 use Rattle.mapping.specs.Proper.{next_low, Tiled}
-use Rattle.mapping.proofs.TileLaws.{rising-tile, value_at-joined}
+use Rattle.mapping.proofs.TileLemmas.{rising-tile, value_at-joined}
 use Rattle.routing.specs.Routes.{goes_to}
 use Rattle.page_runs.specs.NetRun.{net_run}
 use Rattle.page_runs.specs.Apart.{TakesAll, TakesNoOther, AgreeOn}
-use Rattle.page_runs.proofs.NetLaws.{Pairs, Changes, rising-net_run}
-use Rattle.page_runs.proofs.ApartLaws.{within_by_key, off_by_key, net_run-apart, net_run-no_other}
+use Rattle.page_runs.proofs.NetLemmas.{Pairs, Changes, rising-net_run}
+use Rattle.page_runs.proofs.ApartLemmas.{within_by_key, off_by_key, net_run-apart, net_run-no_other}
 use Rattle.scan.proofs.Parts.{value_at-passing}
 use Rattle.split_plan.specs.WorkedLevel.{part_below, part_from}
 

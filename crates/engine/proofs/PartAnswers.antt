@@ -19,14 +19,14 @@ use Rattle.keys.specs.declared.command.Command.TheVariants.{Get, Put, Add, Del, 
 use Rattle.keys.specs.declared.command.Reply.{Reply}
 use Rattle.keys.specs.declared.command.Reply.TheVariants.{Missing, New, Replaced, Added, Exists, Deleted, Rows}
 use Rattle.keys.specs.declared.piece.Piece.{Piece}
-use Rattle.keys.proofs.RunLaws.{rising-map_after}
+use Rattle.keys.proofs.RunLemmas.{rising-map_after}
 use Rattle.index_page.specs.Children.{Place, is_place_for}
-use Rattle.index_page.proofs.ListLaws.{all-append}
+use Rattle.index_page.proofs.ListLemmas.{all-append}
 use Rattle.mapping.specs.Levels.{Placed}
 use Rattle.mapping.specs.Proper.{next_low, Tiled}
-use Rattle.mapping.proofs.TileLaws.{one_page}
+use Rattle.mapping.proofs.TileLemmas.{one_page}
 use Rattle.routing.specs.Routes.{goes_to, places_from, places_within, ranges}
-use Rattle.routing.proofs.RouteLaws.{goes_by_key, within_all}
+use Rattle.routing.proofs.RouteLemmas.{goes_by_key, within_all}
 use Rattle.page_runs.specs.Replies.{commands_at, pieces_of}
 use Rattle.page_runs.proofs.PageParts.{map_after-part, reply_to-part, rows-parts}
 use Rattle.replies.specs.ByPlace.{pieces_at, rows_of, is_rows, lone, joined_replies, joined_replies_at, reply_at, IsPlaceOf, AreAnswers}

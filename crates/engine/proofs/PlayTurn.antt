@@ -8,15 +8,15 @@ use Rattle.keys.specs.declared.fault.Fault.TheVariants.{BadSettings, KeyTooLong,
 use Rattle.keys.specs.declared.settings.Settings.{Settings}
 use Rattle.mapping.specs.Tree.{Store}
 use Rattle.flush_log.specs.Disk.{View, Lawful, IsSettled, Kept, Same, LeavesOnly}
-use Rattle.flush_log.proofs.ViewLaws.{only_then, weaker, now_leaves}
+use Rattle.flush_log.proofs.ViewLemmas.{only_then, weaker, now_leaves}
 use Rattle.recovery.specs.StoreOfDisk.{store_of_disk}
 use Rattle.engine.specs.Plays.{IsPlayed, IsPlayedOn, IsStepDone, IsStepFault, IsLeftInStep, step_of, answer_of, tried}
 use Rattle.engine.specs.State.{State, IsSound}
 use Rattle.engine.specs.Steps.{Step, Answer, Played, Stepped, StandsAfterSome, HasWords, HaveWords, here_and_on, played_on, with_later, after_step, batching, plays, plays_further}
 use Rattle.engine.specs.declared.step.Step as code_step
 use Rattle.engine.specs.declared.step.Answer as code_answer
-use Rattle.engine.proofs.PlayLaws.{plays-append, words-append, stands-later, stands-last}
-use Rattle.engine.proofs.ReadLaws.{leaves_itself, left_still, settled_still}
+use Rattle.engine.proofs.PlayLemmas.{plays-append, words-append, stands-later, stands-last}
+use Rattle.engine.proofs.ReadLemmas.{leaves_itself, left_still, settled_still}
 
 -- ---- steps as they are called
 

@@ -8,7 +8,7 @@ use Rattle.keys.specs.declared.command.Command.{Command}
 use Rattle.keys.specs.declared.settings.Settings.{Settings}
 use Rattle.index_page.specs.Page.{Page, PageOfKind}
 use Rattle.index_page.specs.Page.PageOfKind.{Leaf, Index}
-use Rattle.index_page.proofs.ListLaws.{all_weaker}
+use Rattle.index_page.proofs.ListLemmas.{all_weaker}
 use Rattle.mapping.specs.Levels.{Placed, joined, pids, all_pids, levels_of}
 use Rattle.mapping.specs.FreshPids.{is_among}
 use Rattle.mapping.specs.Proper.{next_low, Tiled, Distinct, AreRisingPids, HasIndexPages}
@@ -16,7 +16,7 @@ use Rattle.mapping.specs.Table.{Mapping, pids_in_use, place_of, page_of, at_home
 use Rattle.mapping.specs.Tree.{page_at}
 use Rattle.mapping.specs.TreeInMemory.{TreeInMemory, home_pages, tree_of}
 use Rattle.mapping.proofs.HomePages.{page-home}
-use Rattle.mapping.proofs.TileLaws.{rising-joined}
+use Rattle.mapping.proofs.TileLemmas.{rising-joined}
 use Rattle.routing.specs.Routes.{Route, routes}
 use Rattle.page_runs.specs.LeafWork.{LeafMade}
 use Rattle.page_runs.specs.NetRun.{net_run}

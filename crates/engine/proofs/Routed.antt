@@ -10,7 +10,7 @@ use Rattle.keys.specs.declared.command.Reply.{Reply}
 use Rattle.keys.specs.declared.fault.Fault.{Fault}
 use Rattle.keys.specs.declared.fault.Fault.TheVariants.{NoMemory, Spent}
 use Rattle.keys.specs.declared.settings.Settings.{Settings}
-use Rattle.keys.proofs.NarrowedLaws.{replies-with_ends}
+use Rattle.keys.proofs.NarrowedLemmas.{replies-with_ends}
 use Rattle.index_page.specs.Page.{PageOfKind}
 use Rattle.index_page.specs.Page.PageOfKind.{Leaf}
 use Rattle.mapping.specs.Levels.{names, levels_of, contents}
@@ -18,7 +18,7 @@ use Rattle.mapping.specs.Proper.{AreRisingPids, AreLogsTrue, IsProper}
 use Rattle.mapping.specs.Table.{pids_in_use, page_of}
 use Rattle.mapping.specs.Tree.{Tree, Store}
 use Rattle.mapping.specs.TreeInMemory.{TreeInMemory, AreAllHome, tree_of}
-use Rattle.mapping.proofs.TileLaws.{rising-joined}
+use Rattle.mapping.proofs.TileLemmas.{rising-joined}
 use Rattle.page_runs.specs.LeafWork.{LeafHeld, LeafMade, LeafWorked}
 use Rattle.replies.specs.ByPlace.{reply_at, AreAnswers}
 use Rattle.routing.specs.Routes.{Route}

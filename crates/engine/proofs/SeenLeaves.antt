@@ -10,7 +10,7 @@ use Rattle.keys.specs.declared.command.Command.{Command}
 use Rattle.keys.specs.declared.settings.Settings.{Settings}
 use Rattle.index_page.specs.Page.{PageOfKind}
 use Rattle.index_page.specs.Page.PageOfKind.{Leaf}
-use Rattle.index_page.proofs.ListLaws.{all_weaker}
+use Rattle.index_page.proofs.ListLemmas.{all_weaker}
 use Rattle.mapping.specs.Levels.{Placed, entries, pids}
 use Rattle.mapping.specs.FreshPids.{is_among}
 use Rattle.mapping.specs.Proper.{Tiled, Distinct}
@@ -20,7 +20,7 @@ use Rattle.page_runs.specs.LeafWork.{leaf_made}
 use Rattle.page_runs.specs.NetRun.{net_run}
 use Rattle.page_runs.specs.Replies.{commands_at}
 use Rattle.page_runs.specs.Worked.{Worked, worked}
-use Rattle.page_runs.proofs.NetLaws.{Pairs, Changes}
+use Rattle.page_runs.proofs.NetLemmas.{Pairs, Changes}
 use Rattle.split_plan.specs.WorkedLevel.{part_below, part_from, worked_leaves}
 use Rattle.climb_plan.specs.Changing.{SeenPage, page_seen, AreSeen, AreHome}
 use Rattle.climb_plan.specs.Changing.AreSeen.{none as none_seen, worked as worked_seen, at_home as home_seen}

@@ -8,10 +8,10 @@ use Rattle.flush_log.specs.Layout.{Span, spans, with_spans}
 use Rattle.flush_log.specs.Disk.{View, Lawful, IsSettled, Leaves, LeavesOnly}
 use Rattle.flush_log.specs.Slot.{Slot, slot_place, slot_bytes, is_open}
 use Rattle.flush_log.specs.Commit.{seen_after, AreWithin, close_gate, IsClosing, committed, IsBehindGate, IsBesideSpans, IsBesideSlot, IsUncommitted}
-use Rattle.flush_log.proofs.OverlayLaws.{overlay-beside, overlay-at, overlay-is, agree_same, agree_then, agree_less}
-use Rattle.flush_log.proofs.CallLaws.{seen_after-writes, writes}
-use Rattle.flush_log.proofs.CommitLaws.{slot_low, spans-beside, spans-over, before_from, mid_agree, mid_shut}
-use Rattle.flush_log.proofs.ViewLaws.{then, leaves_only, only_then, weaker, now_leaves}
+use Rattle.flush_log.proofs.OverlayLemmas.{overlay-beside, overlay-at, overlay-is, agree_same, agree_then, agree_less}
+use Rattle.flush_log.proofs.CallLemmas.{seen_after-writes, writes}
+use Rattle.flush_log.proofs.CommitLemmas.{slot_low, spans-beside, spans-over, before_from, mid_agree, mid_shut}
+use Rattle.flush_log.proofs.ViewLemmas.{then, leaves_only, only_then, weaker, now_leaves}
 
 -- a slot with this number, where only its number counts
 abbrev numbered : ℕ → Slot

@@ -9,10 +9,10 @@ use Rattle.flush_log.specs.Images.{FitSegments}
 use Rattle.flush_log.specs.Layout.{Span, place_of_span, with_spans}
 use Rattle.flush_log.specs.Overlay.{overlay, AgreeAt}
 use Rattle.flush_log.specs.Slot.{greatest}
-use Rattle.flush_log.proofs.GatherLaws.{left-append, open-append, open-rises}
-use Rattle.flush_log.proofs.OverlayLaws.{agree_same, agree_then, agree_less}
-use Rattle.flush_log.proofs.ReachLaws.{fits-behind}
-use Rattle.flush_log.proofs.ViewLaws.{then}
+use Rattle.flush_log.proofs.GatherLemmas.{left-append, open-append, open-rises}
+use Rattle.flush_log.proofs.OverlayLemmas.{agree_same, agree_then, agree_less}
+use Rattle.flush_log.proofs.ReachLemmas.{fits-behind}
+use Rattle.flush_log.proofs.ViewLemmas.{then}
 
 -- a run by nothing
 pub stays : (v : View) (step : Bytes → Bytes → Type 0) → Lawful v → ((d : Bytes) → step d d) → Leaves v v step

@@ -1,45 +1,45 @@
 mod Crossing
-pub mod AdmitLaws
+pub mod AdmitLemmas
 pub mod BlockReading
 mod ByteRowNine
 mod ByteRowOne
 mod ByteRowThree
-pub mod CallLaws
-pub mod CalledLaws
-pub mod CommitLaws
+pub mod CallLemmas
+pub mod CalledLemmas
+pub mod CommitLemmas
 pub mod CommitRuns
-pub mod CrashLaws
-pub mod FitLaws
-pub mod GatherLaws
+pub mod CrashLemmas
+pub mod FitLemmas
+pub mod GatherLemmas
 pub mod GatherRuns
-pub mod HeadLaws
-pub mod HideLaws
-pub mod ImageLaws
-pub mod LayoutLaws
+pub mod HeadLemmas
+pub mod HideLemmas
+pub mod ImageLemmas
+pub mod LayoutLemmas
 pub mod Literals
-pub mod NewStoreLaws
-pub mod NextSlotLaws
-pub mod NumberLaws
-pub mod OutcomeLaws
-pub mod OverlayLaws
-pub mod PlaceLaws
+pub mod NewStoreLemmas
+pub mod NextSlotLemmas
+pub mod NumberLemmas
+pub mod OutcomeLemmas
+pub mod OverlayLemmas
+pub mod PlaceLemmas
 mod PlaceRows
 pub mod ProperPages
 pub mod PutTogether
-pub mod ReachLaws
-pub mod ReadBackLaws
+pub mod ReachLemmas
+pub mod ReadBackLemmas
 pub mod ReadNumbers
-pub mod RecordLaws
-pub mod SegmentLaws
-pub mod SettingsLaws
-pub mod SlotLaws
+pub mod RecordLemmas
+pub mod SegmentLemmas
+pub mod SettingsLemmas
+pub mod SlotLemmas
 pub mod SlotReading
 mod SlotRows
 pub mod SlotRuns
-pub mod StandingLaws
-pub mod StandsLaws
-pub mod TailLaws
+pub mod StandingLemmas
+pub mod StandsLemmas
+pub mod TailLemmas
 pub mod TextImages
 mod TextRows
-pub mod ViewLaws
-pub mod WrittenLaws
+pub mod ViewLemmas
+pub mod WrittenLemmas

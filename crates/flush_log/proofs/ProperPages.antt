@@ -9,15 +9,15 @@ use Rattle.delta_chain.specs.Layers.{IsInOrder}
 use Rattle.index_page.specs.Page.{Page, PageOfKind, entries, said}
 use Rattle.index_page.specs.Page.PageOfKind.{Leaf, Index}
 use Rattle.index_page.specs.Rules.{IsShortValue, IsAnyPid, IsShortChange, Fits}
-use Rattle.index_page.proofs.ListLaws.{all_keys-append}
-use Rattle.index_page.proofs.PageLaws.{all_keys_entries}
+use Rattle.index_page.proofs.ListLemmas.{all_keys-append}
+use Rattle.index_page.proofs.PageLemmas.{all_keys_entries}
 use Rattle.mapping.specs.FreshPids.{is_among}
 use Rattle.mapping.specs.Levels.{Placed, joined, names, pids, all_pids, levels_of}
 use Rattle.mapping.specs.Proper.{next_low, Tiled, Stacked, HasIndexPages, IsProper}
 use Rattle.mapping.specs.Tree.{Tree, page_at}
-use Rattle.mapping.proofs.PidLaws.{among_either, among_either_by}
-use Rattle.mapping.proofs.TableLaws.{holds_where_found}
-use Rattle.mapping.proofs.TileLaws.{next_low-parents}
+use Rattle.mapping.proofs.PidLemmas.{among_either, among_either_by}
+use Rattle.mapping.proofs.TableLemmas.{holds_where_found}
+use Rattle.mapping.proofs.TileLemmas.{next_low-parents}
 
 -- what a frame asks of a page
 pub record IsGood {V : Type 0} (s : Settings) (IsShort : V → Type 0) (p : Page V) : Type 0 where

@@ -10,7 +10,7 @@ use Rattle.frame_codec.specs.Frame.{is_pid}
 use Rattle.mapping.specs.Tree.{most_levels}
 use Rattle.flush_log.specs.Segments.{last_segment}
 use Rattle.flush_log.specs.Slot.{Slot, greatest, is_tail, slot_place, slot_bytes, slot_in, is_slot, is_open, read_slot}
-use Rattle.flush_log.proofs.SlotLaws.{Said, said, gate_is_first, opened, closed}
+use Rattle.flush_log.proofs.SlotLemmas.{Said, said, gate_is_first, opened, closed}
 
 -- ---- tests
 

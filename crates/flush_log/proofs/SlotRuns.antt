@@ -7,9 +7,9 @@ use Rattle.flush_log.specs.Disk.{View, Lawful, IsSettled, Torn, Leaves, LeavesOn
 use Rattle.flush_log.specs.Slot.{Slot, slot_place, slot_body, slot_bytes, is_open}
 use Rattle.flush_log.specs.Layout.{Span}
 use Rattle.flush_log.specs.Commit.{AreWithin, IsBehindGate}
-use Rattle.flush_log.proofs.OverlayLaws.{overlay-beside, overlay-at, overlay-is, agree_then, agree_less}
-use Rattle.flush_log.proofs.CommitLaws.{slot_low}
-use Rattle.flush_log.proofs.ViewLaws.{leaves_only, only_then}
+use Rattle.flush_log.proofs.OverlayLemmas.{overlay-beside, overlay-at, overlay-is, agree_then, agree_less}
+use Rattle.flush_log.proofs.CommitLemmas.{slot_low}
+use Rattle.flush_log.proofs.ViewLemmas.{leaves_only, only_then}
 
 module _ (t : Slot) (file : List ℕ) (long : 512 ≤ length file) where
   abbrev place : ℕ

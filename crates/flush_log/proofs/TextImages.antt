@@ -7,11 +7,11 @@ use Rattle.std.proofs.lemmas.Grind.{flat_map-append}
 use Rattle.keys.specs.Bytes.{Bytes}
 use Rattle.keys.specs.Limits.{first_bad_field}
 use Rattle.keys.specs.declared.settings.Settings.{Settings}
-use Rattle.keys.proofs.LimitLaws.{checked}
+use Rattle.keys.proofs.LimitLemmas.{checked}
 use Rattle.index_page.specs.Page.{PageOfKind}
 use Rattle.index_page.specs.Page.PageOfKind.{Leaf, Index}
 use Rattle.index_page.specs.Rules.{is_short_value, IsShortValue, is_any_pid, IsAnyPid}
-use Rattle.index_page.proofs.ListLaws.{all-append, all_weaker}
+use Rattle.index_page.proofs.ListLemmas.{all-append, all_weaker}
 use Rattle.mapping.specs.Flushed.{page_depth, depth_counted}
 use Rattle.mapping.specs.Proper.{IsProper}
 use Rattle.mapping.specs.Table.{is_old, with_numbers, pids_in_use_or_old}
@@ -21,13 +21,13 @@ use Rattle.mapping.specs.TreeInMemory.{TreeInMemory, AreAllHome, home_pages, tre
 use Rattle.frame_codec.specs.Frame.{Content, Frame, bytes_of, is_run, is_frame}
 use Rattle.frame_codec.specs.Frame.Content.{DeltaLeaf, DeltaIndex}
 use Rattle.frame_codec.specs.Sized.{has_sizes, IsSized, HasWords}
-use Rattle.frame_codec.proofs.WithinLaws.{decides-value, page_passes}
+use Rattle.frame_codec.proofs.WithinLemmas.{decides-value, page_passes}
 use Rattle.flush_log.specs.FlushText.{base_content, run_contents, lacking, frames_of, pid_text, pids_to_write, flush_text, HasFrames}
 use Rattle.flush_log.specs.ImageWork.{ImageHeld, job_held, held_of_pid, held_text, image_made, HasFewRuns, CanBeWritten, IsDue, IsOfStore}
 use Rattle.flush_log.specs.Images.{frames_in}
 use Rattle.flush_log.specs.declared.image_work.ImageJob.{ImageJob}
 use Rattle.flush_log.proofs.ProperPages.{IsGoodOfKind, page-is_good}
-use Rattle.flush_log.proofs.WrittenLaws.{length_contents}
+use Rattle.flush_log.proofs.WrittenLemmas.{length_contents}
 
 -- ---- the pids
 

@@ -6,16 +6,16 @@ mod ByteRowSeven
 mod ByteRowSix
 mod ByteRowTen
 mod ByteRowTwelve
-pub mod CodecLaws
-pub mod EachLaws
-pub mod FoundLaws
-pub mod FrameLaws
-pub mod LongerLaws
-pub mod ReadLaws
+pub mod CodecLemmas
+pub mod EachLemmas
+pub mod FoundLemmas
+pub mod FrameLemmas
+pub mod LongerLemmas
+pub mod ReadLemmas
 mod RefusedRows
 pub mod RowForms
-pub mod SizeLaws
-pub mod SizedLaws
-pub mod SkimLaws
-pub mod WithinLaws
-pub mod WriteLaws
+pub mod SizeLemmas
+pub mod SizedLemmas
+pub mod SkimLemmas
+pub mod WithinLemmas
+pub mod WriteLemmas

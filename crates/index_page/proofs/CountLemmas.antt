@@ -7,11 +7,11 @@ use Rattle.std.proofs.lemmas.List.{length-map}
 use Rattle.std.proofs.lemmas.Option.{slice_get-get_or, slice_get_within}
 use Rattle.keys.specs.Bytes.{Bytes, Names}
 use Rattle.keys.specs.Order.{order, AreRisingKeys}
-use Rattle.keys.proofs.MapLaws.{flipped_less, order_itself}
+use Rattle.keys.proofs.MapLemmas.{flipped_less, order_itself}
 use Rattle.page_search.specs.Above.{above}
 use Rattle.page_search.specs.Floor.{floor}
 use Rattle.page_search.specs.Places.{KeyGoesTo}
-use Rattle.page_search.proofs.PlaceLaws.{rising-by_place, rising-or_same}
+use Rattle.page_search.proofs.PlaceLemmas.{rising-by_place, rising-or_same}
 use Rattle.index_page.specs.ChildList.{IsCountUpTo}
 
 module _ (k : Bytes) where

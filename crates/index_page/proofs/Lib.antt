@@ -1,8 +1,8 @@
 pub mod Crossing
-pub mod ChildLaws
+pub mod ChildLemmas
 mod CountLemmas
-pub mod WithinLaws
-pub mod ListLaws
-pub mod PageLaws
-pub mod RangeLaws
-pub mod RuleLaws
+pub mod WithinLemmas
+pub mod ListLemmas
+pub mod PageLemmas
+pub mod RangeLemmas
+pub mod RuleLemmas

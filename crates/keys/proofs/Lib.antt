@@ -1,11 +1,11 @@
 pub mod Basics
-pub mod CellLaws
-pub mod LimitLaws
+pub mod CellLemmas
+pub mod LimitLemmas
 pub mod Literals
-pub mod MapLaws
-pub mod NarrowedLaws
-pub mod RangeLaws
+pub mod MapLemmas
+pub mod NarrowedLemmas
+pub mod RangeLemmas
 mod Rows
-pub mod RunLaws
+pub mod RunLemmas
 mod SettingsRows
-mod WordLaws
+mod WordLemmas

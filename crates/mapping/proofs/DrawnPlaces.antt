@@ -14,12 +14,12 @@ use Rattle.mapping.specs.Outdate.{outdate, outdate_all}
 use Rattle.mapping.specs.Proper.{AreRisingPids}
 use Rattle.mapping.specs.FreshPids.{is_among, unused, with_number}
 use Rattle.mapping.specs.Table.{Mapping, is_same_pid, pids_in_use, place_of, with_place, freed, room_by, with_room, with_rooms, fresh_pids, freed_all, IsOldWithoutPlace}
-use Rattle.mapping.proofs.PidLaws.{unused-is_free, unused-drawn, rising-with_number}
-use Rattle.mapping.proofs.TableLaws.{same_pid, listed-insert_entry}
+use Rattle.mapping.proofs.PidLemmas.{unused-is_free, unused-drawn, rising-with_number}
+use Rattle.mapping.proofs.TableLemmas.{same_pid, listed-insert_entry}
 use Rattle.mapping.proofs.TableSlots.{same_mapping}
 use Rattle.mapping.proofs.SameTable.{rest_listed, same_table}
 use Rattle.mapping.proofs.InUse.{among_place, is_eq_same}
-use Rattle.mapping.proofs.FreshLaws.{fresh_pids-more, with_rooms-push}
+use Rattle.mapping.proofs.FreshLemmas.{fresh_pids-more, with_rooms-push}
 
 -- ---- tests of a pid
 

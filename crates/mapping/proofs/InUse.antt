@@ -10,8 +10,8 @@ use Rattle.keys.proofs.Basics.{equal_by}
 use Rattle.mapping.specs.FreshPids.{is_among}
 use Rattle.mapping.specs.Table.{Mapping, is_same_pid, pids_in_use, place_of, with_place, freed, room_by, with_room}
 use Rattle.mapping.specs.Slots.{AreInUseBelow}
-use Rattle.mapping.proofs.PidLaws.{later_among}
-use Rattle.mapping.proofs.TableLaws.{total, same_pid}
+use Rattle.mapping.proofs.PidLemmas.{later_among}
+use Rattle.mapping.proofs.TableLemmas.{total, same_pid}
 
 or_step : (a b c : Bool) → (a || b) ≡ true → (b ≡ true → c ≡ true) → (a || c) ≡ true
 or_step true b c h f = refl

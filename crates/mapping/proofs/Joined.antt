@@ -5,19 +5,19 @@ use Rattle.std.specs.List.{AllByRecursion}
 use Rattle.std.specs.List.Sorted.{IsStrictlySortedBy}
 use Rattle.std.specs.Map.{keys_of}
 use Rattle.keys.specs.Order.{IsRising}
-use Rattle.delta_chain.proofs.LayerLaws.{rising-entries_of}
+use Rattle.delta_chain.proofs.LayerLemmas.{rising-entries_of}
 use Rattle.index_page.specs.Page as page
 use Rattle.index_page.specs.Page.{Page, PageOfKind, first_key, named}
 use Rattle.index_page.specs.Range.{is_below, AreBefore, IsBefore}
 use Rattle.index_page.specs.Rules.{IsHeaded}
-use Rattle.index_page.proofs.RangeLaws.{below_is_less}
-use Rattle.index_page.proofs.PageLaws.{all_keys_entries}
+use Rattle.index_page.proofs.RangeLemmas.{below_is_less}
+use Rattle.index_page.proofs.PageLemmas.{all_keys_entries}
 use Rattle.mapping.specs.Levels.{Placed, entries, joined, name, names}
 use Rattle.index_page.specs.Children.{Place, children}
-use Rattle.index_page.proofs.ChildLaws.{next_key, children-cons, children-append}
+use Rattle.index_page.proofs.ChildLemmas.{next_key, children-cons, children-append}
 use Rattle.mapping.specs.Finding.{children_at, children_of_page}
 use Rattle.mapping.specs.Proper.{next_low, Tiled, HasIndexPages}
-use Rattle.mapping.proofs.TileLaws.{next_names}
+use Rattle.mapping.proofs.TileLemmas.{next_names}
 
 -- if the keys that a page names are below an end, so are its entries' keys
 entries_before : {X : Type 0} → (end : Option (List ℕ)) (p : Page X) → AreBefore end (named p) → AreBefore end (keys_of (page.entries p))

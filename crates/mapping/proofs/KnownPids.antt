@@ -14,8 +14,8 @@ use Rattle.mapping.specs.LogState.{log_state}
 use Rattle.mapping.specs.Table.{Mapping, is_same_pid, pids_in_use, place_of, log_of, is_old, old_pids, with_numbers, pids_in_use_or_old}
 use Rattle.mapping.specs.Slots.{slot_pids, listed_place, listed_state, entry_if, table_of, is_known, known_pids}
 use Rattle.mapping.specs.declared.slots.TableSlot.{TableSlot}
-use Rattle.mapping.proofs.PidLaws.{among-with_number, all-with_number, rising-with_number}
-use Rattle.mapping.proofs.TableLaws.{same_pid}
+use Rattle.mapping.proofs.PidLemmas.{among-with_number, all-with_number, rising-with_number}
+use Rattle.mapping.proofs.TableLemmas.{same_pid}
 use Rattle.mapping.proofs.Around.{lookup_none}
 use Rattle.mapping.proofs.InUse.{among_place, is_eq_same}
 use Rattle.mapping.proofs.Listing.{keys-listing}

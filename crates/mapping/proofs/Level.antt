@@ -8,16 +8,16 @@ use Rattle.index_page.specs.Page.{Page, PageOfKind}
 use Rattle.index_page.specs.Page.PageOfKind.{Leaf, Index}
 use Rattle.index_page.specs.Range.{IsBefore}
 use Rattle.index_page.specs.Rules.{KeepsRange, Fits, IsHeaded, IsShortValue, IsAnyPid, is_short_value, is_any_pid}
-use Rattle.index_page.proofs.RuleLaws.{decides_not, decides-is_same_key, decides-keeps_range, decides-fits_of_leaf, decides-fits_of_index, decides-is_headed}
+use Rattle.index_page.proofs.RuleLemmas.{decides_not, decides-is_same_key, decides-keeps_range, decides-fits_of_leaf, decides-fits_of_index, decides-is_headed}
 use Rattle.mapping.specs.Levels.{Placed, as_leaf, as_index, names, pids}
 use Rattle.mapping.specs.FreshPids.{is_among}
 use Rattle.index_page.specs.Children.{Place, children}
 use Rattle.mapping.specs.Finding.{Finding, common_rules, child_rule, pid_rule, first_broken, broken_leaf, broken_index, or_else, found_at, on_level}
 use Rattle.mapping.specs.Proper.{next_low, Tiled, Distinct}
 use Rattle.mapping.proofs.MetPids.{not_among, distinct_ahead}
-use Rattle.index_page.proofs.ListLaws.{all_apart}
-use Rattle.mapping.proofs.TileLaws.{Names, next_names}
-use Rattle.index_page.proofs.ChildLaws.{next_key, place_of, children-cons}
+use Rattle.index_page.proofs.ListLemmas.{all_apart}
+use Rattle.mapping.proofs.TileLemmas.{Names, next_names}
+use Rattle.index_page.proofs.ChildLemmas.{next_key, place_of, children-cons}
 use Rattle.mapping.proofs.Joined.{AreSpaced}
 
 -- ---- one page

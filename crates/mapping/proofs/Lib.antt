@@ -4,25 +4,25 @@ pub mod DrawnPlaces
 mod FindingRow
 pub mod FirstTree
 mod FlushedSlots
-mod FreshLaws
+mod FreshLemmas
 pub mod HomePages
 pub mod InUse
 pub mod Joined
 pub mod KnownPids
 mod Level
-pub mod LevelLaws
+pub mod LevelLemmas
 mod Listing
 pub mod Literals
 mod MetPids
 mod Parts
-pub mod PidLaws
-mod RoomLaws
+pub mod PidLemmas
+mod RoomLemmas
 pub mod SameTable
 pub mod SameTree
 mod Search
-pub mod TableLaws
+pub mod TableLemmas
 pub mod TableOfLevels
 mod TableRows
 mod TableSlots
-pub mod TileLaws
+pub mod TileLemmas
 pub mod Walk

@@ -9,13 +9,13 @@ use Rattle.std.specs.BTreeMap.{insert_entry}
 use Rattle.std.proofs.lemmas.List.{map-append, map-set, set_split, set-get_or, length-map, take-map, drop-map, take-append-drop, get_or-map}
 use Rattle.std.proofs.lemmas.List.Concat.{flat_map-append}
 use Rattle.std.proofs.lemmas.Option.{slice_get_within, get_or_from_slice_get}
-use Rattle.index_page.proofs.ListLaws.{all-append}
+use Rattle.index_page.proofs.ListLemmas.{all-append}
 use Rattle.mapping.specs.Tree.{Logged}
 use Rattle.mapping.specs.Outdate.{outdate, outdate_all}
 use Rattle.mapping.specs.Proper.{AreRisingPids}
 use Rattle.mapping.specs.Table.{is_same_pid}
 use Rattle.mapping.specs.Slots.{entry_if, StandsAt, GoesTo}
-use Rattle.mapping.proofs.PidLaws.{below_later}
+use Rattle.mapping.proofs.PidLemmas.{below_later}
 use Rattle.mapping.proofs.Around.{around, IsAround, lookup-around, insert-around, remove-around, outdate-around}
 
 -- ---- rising pids in two parts

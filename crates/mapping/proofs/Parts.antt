@@ -8,14 +8,14 @@ use Rattle.keys.specs.declared.settings.Settings.{Settings}
 use Rattle.index_page.specs.Page.{Page, PageOfKind}
 use Rattle.index_page.specs.Page.PageOfKind.{Leaf, Index}
 use Rattle.index_page.specs.Rules.{Fits, IsHeaded, IsAnyPid}
-use Rattle.index_page.proofs.RuleLaws.{all_both}
+use Rattle.index_page.proofs.RuleLemmas.{all_both}
 use Rattle.mapping.specs.Tree.{Tree, page_at}
 use Rattle.mapping.specs.Levels.{Placed, Levels, joined, name, names, pids, all_pids, levels_of}
 use Rattle.mapping.specs.FreshPids.{is_among}
 use Rattle.mapping.specs.Proper.{next_low, IsParentOf, Stacked, IsBranchedTop, Distinct, HasIndexPages, IsTree, IsProper}
 use Rattle.mapping.proofs.MetPids.{distinct_last}
-use Rattle.mapping.proofs.TileLaws.{Names, next_names}
-use Rattle.index_page.proofs.ChildLaws.{next_key}
+use Rattle.mapping.proofs.TileLemmas.{Names, next_names}
+use Rattle.index_page.proofs.ChildLemmas.{next_key}
 use Rattle.mapping.proofs.Joined.{AreHeaded, next_joined}
 use Rattle.mapping.proofs.Level.{IsLevel, IsGoodLeaf, IsGoodIndex}
 

@@ -10,8 +10,8 @@ use Rattle.index_page.specs.Page.{PageOfKind}
 use Rattle.mapping.specs.Tree.{Logged, Tree, listed_at, page_at, or_no, logged_of}
 use Rattle.mapping.specs.Tree.Logged.{No, Old, Upto}
 use Rattle.mapping.specs.Proper.{AreRisingPids, IsTrueOf, AreLogsTrue}
-use Rattle.mapping.proofs.PidLaws.{below_later}
-use Rattle.mapping.proofs.TableLaws.{total, same_pid, differ}
+use Rattle.mapping.proofs.PidLemmas.{below_later}
+use Rattle.mapping.proofs.TableLemmas.{total, same_pid, differ}
 
 module _ {V : Type 0} where
   first_listed : (e : ℕ × V) (es : List (ℕ × V)) → listed_at (e ∷ es) e.0 ≡ Some e.1

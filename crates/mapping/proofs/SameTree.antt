@@ -13,10 +13,10 @@ use Rattle.mapping.specs.Tree.{Tree, page_at}
 use Rattle.mapping.specs.Levels.{Placed, Levels, entries, joined, pids, all_pids, as_leaf, as_index, index_at, levels_below, levels_of, top_pid}
 use Rattle.mapping.specs.FreshPids.{is_among}
 use Rattle.mapping.specs.Proper.{next_low, Distinct, Stacked, HasLeaves, HasIndexPages, HoldsLevels, IsProper}
-use Rattle.mapping.proofs.TileLaws.{Names}
-use Rattle.mapping.proofs.PidLaws.{among_either_by, among_either, among_left, among_right}
+use Rattle.mapping.proofs.TileLemmas.{Names}
+use Rattle.mapping.proofs.PidLemmas.{among_either_by, among_either, among_left, among_right}
 use Rattle.mapping.proofs.MetPids.{distinct_last}
-use Rattle.mapping.proofs.LevelLaws.{values_of-names}
+use Rattle.mapping.proofs.LevelLemmas.{values_of-names}
 use Rattle.mapping.proofs.TableOfLevels.{holds_among}
 use Rattle.mapping.proofs.InUse.{among-lookup}
 

@@ -7,10 +7,10 @@ use Rattle.std.specs.Ordering.{nat_cmp, ordering_index}
 use Rattle.std.proofs.lemmas.Cmp.{ranked}
 use Rattle.std.proofs.lemmas.Bool.Decides.{nat_tests}
 use Rattle.std.proofs.lemmas.List.{take-map, drop-map, take-append-drop, take-take, drop_more, drop-append-le, length-map, length-take-le, get_or-map}
-use Rattle.index_page.proofs.ListLaws.{all-append}
+use Rattle.index_page.proofs.ListLemmas.{all-append}
 use Rattle.mapping.specs.Proper.{AreRisingPids}
 use Rattle.mapping.specs.Slots.{StandsAt, GoesTo}
-use Rattle.mapping.proofs.PidLaws.{below_later}
+use Rattle.mapping.proofs.PidLemmas.{below_later}
 
 -- ---- by halves
 

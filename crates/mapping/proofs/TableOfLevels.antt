@@ -8,13 +8,13 @@ use Rattle.std.proofs.lemmas.Bool.{cases_lt, eqb-true}
 use Rattle.std.proofs.lemmas.Cmp.{tied_itself}
 use Rattle.keys.proofs.Basics.{equal_by}
 use Rattle.index_page.specs.Page.{PageOfKind}
-use Rattle.index_page.proofs.ListLaws.{all-append}
+use Rattle.index_page.proofs.ListLemmas.{all-append}
 use Rattle.mapping.specs.Tree.{page_at}
 use Rattle.mapping.specs.Levels.{Placed, Levels, pids, all_pids, all_pages, by_pid}
 use Rattle.mapping.specs.FreshPids.{is_among}
 use Rattle.mapping.specs.Proper.{AreRisingPids, Distinct, HasLeaves, HasIndexPages, HoldsLevels}
-use Rattle.mapping.proofs.PidLaws.{below_later, among_either_by}
-use Rattle.mapping.proofs.TableLaws.{total, same_pid, differ, rising-by_pid, by_pid-holds, holds_where_found}
+use Rattle.mapping.proofs.PidLemmas.{below_later, among_either_by}
+use Rattle.mapping.proofs.TableLemmas.{total, same_pid, differ, rising-by_pid, by_pid-holds, holds_where_found}
 
 -- ---- tables with the same pages
 

@@ -12,8 +12,8 @@ use Rattle.mapping.specs.FreshPids.{is_among}
 use Rattle.index_page.specs.Children.{Place, children}
 use Rattle.mapping.specs.Finding.{Finding, broken_leaf, broken_index, or_else, on_level, unmet, children_at, all_met, finding_below, finding}
 use Rattle.mapping.specs.Proper.{next_low, Distinct, IsTree, IsProper}
-use Rattle.mapping.proofs.TileLaws.{Names, next_names}
-use Rattle.index_page.proofs.ChildLaws.{next_key, pids-children}
+use Rattle.mapping.proofs.TileLemmas.{Names, next_names}
+use Rattle.index_page.proofs.ChildLemmas.{next_key, pids-children}
 use Rattle.mapping.proofs.Joined.{AreSpaced, AreHeaded, next_joined, spaced_joined, places_below}
 use Rattle.mapping.proofs.Level.{IsTestOf, IsGoodLeaf, IsGoodIndex, leaf_at_place, index_at_place, level_of_none, none_of_level, placed}
 use Rattle.mapping.proofs.Parts.{AreNamed, least_under, IsLevelUnder, HasLeaf, HasIndex, AreAbove, AreParts, headed_under, parts_of_proper, proper_of_parts}

@@ -14,7 +14,7 @@ use Rattle.delta_chain.specs.Layers.{Layers, with_run, entries_of}
 use Rattle.delta_chain.proofs.Counts.{most_without, most_with_pair}
 use Rattle.page_runs.specs.AfterRun.{after_run}
 use Rattle.page_runs.specs.Replay.{entries_after}
-use Rattle.page_runs.proofs.AfterLaws.{entries_of-after_run}
+use Rattle.page_runs.proofs.AfterLemmas.{entries_of-after_run}
 
 module _ {V : Type 0} where
   -- a pair that is put at a key which was absent is one more

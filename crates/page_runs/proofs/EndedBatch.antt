@@ -15,12 +15,12 @@ use Rattle.keys.specs.declared.command.Command.{Command}
 use Rattle.keys.specs.declared.command.Command.TheVariants.{Get, Put, Add, Del, Scan}
 use Rattle.keys.specs.declared.command.Reply.{Reply}
 use Rattle.keys.specs.declared.command.Reply.TheVariants.{Rows}
-use Rattle.keys.proofs.MapLaws.{total, same_key, flipped_greater, IsBelowAll}
-use Rattle.keys.proofs.NarrowedLaws.{before_through, map-with_end, map_all-with_ends, get-with_ends}
-use Rattle.keys.proofs.RunLaws.{rising-map_after}
+use Rattle.keys.proofs.MapLemmas.{total, same_key, flipped_greater, IsBelowAll}
+use Rattle.keys.proofs.NarrowedLemmas.{before_through, map-with_end, map_all-with_ends, get-with_ends}
+use Rattle.keys.proofs.RunLemmas.{rising-map_after}
 use Rattle.index_page.specs.Children.{Place, children, is_between}
-use Rattle.index_page.proofs.ChildLaws.{next_key, children-cons}
-use Rattle.index_page.proofs.RangeLaws.{below_is_less, less_is_below, not_below_lower, not_below_itself, low_through}
+use Rattle.index_page.proofs.ChildLemmas.{next_key, children-cons}
+use Rattle.index_page.proofs.RangeLemmas.{below_is_less, less_is_below, not_below_lower, not_below_itself, low_through}
 use Rattle.routing.specs.Routes.{goes_to, goes_at}
 use Rattle.page_runs.specs.NetRun.{noted_by, touched, net_run}
 use Rattle.page_runs.specs.Replies.{commands_at}

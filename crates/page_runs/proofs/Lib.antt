@@ -1,10 +1,10 @@
 pub mod Crossing
-pub mod AfterLaws
-pub mod ApartLaws
+pub mod AfterLemmas
+pub mod ApartLemmas
 mod Counts
 pub mod EndedBatch
 mod NamedRows
-pub mod NetLaws
+pub mod NetLemmas
 mod Overlays
 pub mod PageParts
 mod PageRows

@@ -11,10 +11,10 @@ use Rattle.std.proofs.lemmas.Map.Entries.{lookup-filter-keys}
 use Rattle.keys.specs.Order.{order, IsRising}
 use Rattle.keys.specs.OrderedMap.{value_at}
 use Rattle.keys.specs.Range.{is_below, is_before, is_within, in_range, rows}
-use Rattle.keys.proofs.MapLaws.{total, passes_same, same_map, value_at_rest}
+use Rattle.keys.proofs.MapLemmas.{total, passes_same, same_map, value_at_rest}
 use Rattle.delta_chain.specs.Layers.{said_or, with_run}
 use Rattle.delta_chain.specs.Merging.{asserted, pair_if}
-use Rattle.delta_chain.proofs.LayerLaws.{value_at-with_run, rising-with_run}
+use Rattle.delta_chain.proofs.LayerLemmas.{value_at-with_run, rising-with_run}
 use Rattle.delta_chain.proofs.Overlays.{said_over, rising-asserted}
 use Rattle.index_page.specs.Page.{as_changes}
 use Rattle.scan.specs.Leaf.{from}

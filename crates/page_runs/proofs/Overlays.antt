@@ -3,10 +3,10 @@ use Rattle.std.specs.Prelude.{◌≡◌, ◌<◌, ℕ, Bool, true, false, List, 
 use Rattle.std.proofs.Common.{refl, ap, ◌∙◌, arith}
 use Rattle.keys.specs.Order.{IsRising}
 use Rattle.keys.specs.OrderedMap.{value_at, with_pair, without}
-use Rattle.keys.proofs.MapLaws.{value_at-with_pair_here, value_at-without_here}
+use Rattle.keys.proofs.MapLemmas.{value_at-with_pair_here, value_at-without_here}
 use Rattle.keys.specs.declared.settings.Settings.{Settings}
 use Rattle.delta_chain.specs.Layers.{Layers, said_or, holds, with_run, entries_of, IsInOrder}
-use Rattle.delta_chain.proofs.LayerLaws.{value_at-with_run, value_at-entries_of, rising-entries_of}
+use Rattle.delta_chain.proofs.LayerLemmas.{value_at-with_run, value_at-entries_of, rising-entries_of}
 use Rattle.page_runs.specs.AfterRun.{must_replace, class_after, class_of_size}
 use Rattle.page_runs.specs.NetRun.{noted}
 

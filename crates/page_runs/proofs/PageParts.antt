@@ -14,15 +14,15 @@ use Rattle.keys.specs.Range.{is_below, is_before, is_within, in_range, rows}
 use Rattle.keys.specs.Step.{reply_to, map_after}
 use Rattle.keys.specs.declared.command.Command.{Command}
 use Rattle.keys.specs.declared.command.Command.TheVariants.{Get, Put, Add, Del, Scan}
-use Rattle.keys.proofs.MapLaws.{total, passes_same, same_map}
+use Rattle.keys.proofs.MapLemmas.{total, passes_same, same_map}
 use Rattle.delta_chain.specs.Layers.{with_change}
-use Rattle.delta_chain.proofs.LayerLaws.{value_at-with_change, rising-with_change}
+use Rattle.delta_chain.proofs.LayerLemmas.{value_at-with_change, rising-with_change}
 use Rattle.index_page.specs.Children.{Place, children, is_between}
 use Rattle.index_page.specs.Range.{IsBefore}
-use Rattle.index_page.proofs.RangeLaws.{below_is_less, less_is_below, less_through, low_through, not_below_lower}
+use Rattle.index_page.proofs.RangeLemmas.{below_is_less, less_is_below, less_through, low_through, not_below_lower}
 use Rattle.mapping.specs.Levels.{Placed, names}
 use Rattle.mapping.specs.Proper.{next_low, Tiled}
-use Rattle.mapping.proofs.TileLaws.{low_is_before}
+use Rattle.mapping.proofs.TileLemmas.{low_is_before}
 use Rattle.routing.specs.Routes.{goes_to, ranges}
 use Rattle.page_runs.proofs.NamedRows.{value_at-kept, kept-both, taken_none}
 use Rattle.page_runs.proofs.PageRows.{rising-in_range}

@@ -8,11 +8,11 @@ use Rattle.std.proofs.lemmas.Map.Keys.{sorted_tail}
 use Rattle.std.specs.Ordering.{is_le}
 use Rattle.keys.specs.Order.{order, IsRising}
 use Rattle.keys.specs.Range.{is_below, is_within, in_range}
-use Rattle.keys.proofs.MapLaws.{total, same_key, flipped_less, flipped_greater}
-use Rattle.keys.proofs.RangeLaws.{rising-filtered}
+use Rattle.keys.proofs.MapLemmas.{total, same_key, flipped_less, flipped_greater}
+use Rattle.keys.proofs.RangeLemmas.{rising-filtered}
 use Rattle.delta_chain.specs.Layers.{Layers, entries_of, IsInOrder}
 use Rattle.delta_chain.specs.Merging.{first_order, asserted}
-use Rattle.delta_chain.proofs.LayerLaws.{rising-with_run, rising-entries_of}
+use Rattle.delta_chain.proofs.LayerLemmas.{rising-with_run, rising-entries_of}
 use Rattle.scan.specs.Leaf.{from}
 use Rattle.delta_chain.proofs.Merges.{first_stays, first_goes, change_stays}
 use Rattle.delta_chain.proofs.Overlays.{rising-asserted}

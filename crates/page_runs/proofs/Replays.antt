@@ -5,10 +5,10 @@ use Rattle.std.proofs.lemmas.Option.{slice_get-get_or}
 use Rattle.std.specs.declared.alloc.Global.{Global}
 use Rattle.keys.specs.Order.{IsRising}
 use Rattle.keys.specs.Step.{reply_to, map_after, map_after_all, replies_to}
-use Rattle.keys.proofs.RunLaws.{map_after_all-append}
+use Rattle.keys.proofs.RunLemmas.{map_after_all-append}
 use Rattle.keys.specs.declared.command.Command.{Command}
 use Rattle.delta_chain.specs.Layers.{with_run}
-use Rattle.page_runs.proofs.NetLaws.{Pairs, Changes, with_run-net_run, net_run-push}
+use Rattle.page_runs.proofs.NetLemmas.{Pairs, Changes, with_run-net_run, net_run-push}
 use Rattle.page_runs.specs.NetRun.{noted_by, net_run}
 use Rattle.page_runs.specs.Replies.{commands_at, pieces_of, ArePlacesOf}
 use Rattle.keys.specs.declared.piece.Piece.{Piece}

@@ -1,7 +1,7 @@
-pub mod AboveLaws
+pub mod AboveLemmas
 mod CostLemmas
-pub mod DigitLaws
-pub mod FloorLaws
-pub mod NearestLaws
-pub mod PlaceLaws
+pub mod DigitLemmas
+pub mod FloorLemmas
+pub mod NearestLemmas
+pub mod PlaceLemmas
 mod WalkLemmas

@@ -12,10 +12,10 @@ use Rattle.std.proofs.lemmas.Map.Keys.{any_passes_from_place}
 use Rattle.std.proofs.lemmas.Map.Made.{is_some-lookup}
 use Rattle.keys.specs.Order.{order}
 use Rattle.keys.specs.OrderedMap.{value_at}
-use Rattle.keys.proofs.MapLaws.{is_itself, passes_same, flipped_less}
+use Rattle.keys.proofs.MapLemmas.{is_itself, passes_same, flipped_less}
 use Rattle.delta_chain.specs.Layers.{Layers, said_or, holds, entries_of, AllRise, IsInOrder}
 use Rattle.delta_chain.specs.Merging.{asserted, said_by}
-use Rattle.delta_chain.proofs.LayerLaws.{value_at-with_run}
+use Rattle.delta_chain.proofs.LayerLemmas.{value_at-with_run}
 use Rattle.delta_chain.proofs.Overlays.{rising-asserted, rising-said_by}
 use Rattle.page_search.specs.Above.{above}
 use Rattle.page_search.specs.Costs.{fewest_among, is_key_among, fewest_in, walk_most, walk_least, nearest_most, floor_most, above_most}
@@ -25,7 +25,7 @@ use Rattle.page_search.specs.Nearest.{is_on, nearness, past, named_under, named_
 use Rattle.page_search.specs.Places.{KeyGoesTo}
 use Rattle.page_search.specs.declared.side.Side.{Side}
 use Rattle.page_search.specs.declared.side.Side.TheVariants.{UpTo, Below, Above}
-use Rattle.page_search.proofs.NearestLaws.{nearness-same, nearness-flipped, nearness-past, not_past, past-on, itself_up_to, held-named}
+use Rattle.page_search.proofs.NearestLemmas.{nearness-same, nearness-flipped, nearness-past, not_past, past-on, itself_up_to, held-named}
 
 -- ---- whether a search meets the key
 

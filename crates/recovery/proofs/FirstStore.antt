@@ -9,11 +9,11 @@ use Rattle.mapping.proofs.FirstTree.{first_is_proper}
 use Rattle.mapping.proofs.Walk.{nothing_found}
 use Rattle.flush_log.specs.NewStore.{first_frame, first_slot, disk_of_new}
 use Rattle.flush_log.specs.Segments.{HasSegments}
-use Rattle.flush_log.proofs.NewStoreLaws.{new_settings, new_slot, new_log}
+use Rattle.flush_log.proofs.NewStoreLemmas.{new_settings, new_slot, new_log}
 use Rattle.recovery.specs.StoreOfDisk.{first_store, store_of_disk}
 use Rattle.recovery.specs.InStep.{IsStoreOf}
 use Rattle.recovery.proofs.ReadStore.{store-read}
-use Rattle.recovery.proofs.StoreLaws.{stands-for}
+use Rattle.recovery.proofs.StoreLemmas.{stands-for}
 
 new-read : (s : Settings) (disk : List ℕ) → first_bad_field s ≡ None → HasSegments s disk → store_of_disk (disk_of_new s disk) ≡ Ok (s, first_store)
 new-read s disk good room =

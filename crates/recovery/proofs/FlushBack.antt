@@ -15,16 +15,16 @@ use Rattle.flush_log.specs.Reading.{Found}
 use Rattle.flush_log.specs.Segments.{last_segment}
 use Rattle.flush_log.specs.Slot.{Slot, greatest, is_slot}
 use Rattle.keys.specs.Limits.{first_bad_field}
-use Rattle.flush_log.proofs.FitLaws.{are_sized}
-use Rattle.flush_log.proofs.LayoutLaws.{split-tail}
-use Rattle.flush_log.proofs.NextSlotLaws.{next_good}
-use Rattle.flush_log.proofs.OutcomeLaws.{text-fits, after-text, after-settings, after-slot}
-use Rattle.flush_log.proofs.SettingsLaws.{store_settings-are}
-use Rattle.flush_log.proofs.SlotLaws.{IsSlot, slot-is}
+use Rattle.flush_log.proofs.FitLemmas.{are_sized}
+use Rattle.flush_log.proofs.LayoutLemmas.{split-tail}
+use Rattle.flush_log.proofs.NextSlotLemmas.{next_good}
+use Rattle.flush_log.proofs.OutcomeLemmas.{text-fits, after-text, after-settings, after-slot}
+use Rattle.flush_log.proofs.SettingsLemmas.{store_settings-are}
+use Rattle.flush_log.proofs.SlotLemmas.{IsSlot, slot-is}
 use Rattle.recovery.specs.InStep.{AreInStep, IsStore, IsStoreOf}
 use Rattle.recovery.specs.StoreOfDisk.{store_of_disk}
-use Rattle.recovery.proofs.FlushLaws.{known-frames, flush-read}
-use Rattle.recovery.proofs.StoreLaws.{Reads, StandsBy, store-stands}
+use Rattle.recovery.proofs.FlushLemmas.{known-frames, flush-read}
+use Rattle.recovery.proofs.StoreLemmas.{Reads, StandsBy, store-stands}
 
 -- ---- a commit that is not refused
 

@@ -9,17 +9,17 @@ use Rattle.flush_log.specs.Overlay.{AgreeAt}
 use Rattle.flush_log.specs.Segments.{IsInLog}
 use Rattle.flush_log.specs.Slot.{slot_place, is_open, read_slot, newer, store_slot}
 use Rattle.flush_log.specs.AfterFlush.{store_after}
-use Rattle.flush_log.proofs.CommitLaws.{slot_low}
-use Rattle.flush_log.proofs.FitLaws.{are_sized}
-use Rattle.flush_log.proofs.HideLaws.{hidden}
-use Rattle.flush_log.proofs.OutcomeLaws.{settings_same, slot_same}
-use Rattle.flush_log.proofs.OverlayLaws.{agree_less}
-use Rattle.flush_log.proofs.SettingsLaws.{store_settings-are}
-use Rattle.flush_log.proofs.SlotLaws.{said, closed, store_slot-read, store_slot-alone}
+use Rattle.flush_log.proofs.CommitLemmas.{slot_low}
+use Rattle.flush_log.proofs.FitLemmas.{are_sized}
+use Rattle.flush_log.proofs.HideLemmas.{hidden}
+use Rattle.flush_log.proofs.OutcomeLemmas.{settings_same, slot_same}
+use Rattle.flush_log.proofs.OverlayLemmas.{agree_less}
+use Rattle.flush_log.proofs.SettingsLemmas.{store_settings-are}
+use Rattle.flush_log.proofs.SlotLemmas.{said, closed, store_slot-read, store_slot-alone}
 use Rattle.recovery.specs.LookedAt.{IsInSlot, IsLookedAt}
 use Rattle.recovery.specs.StoreOfDisk.{frames_in, tree_by_log, store_of_disk}
 use Rattle.recovery.proofs.NothingDue.{slot-read}
-use Rattle.recovery.proofs.StoreLaws.{StandsBy, store-stands, stands-for}
+use Rattle.recovery.proofs.StoreLemmas.{StandsBy, store-stands, stands-for}
 
 module _ (s : Settings) (file c : List ℕ) (on_disk : Store) (by : StandsBy s file on_disk) where
   abbrev read : Store

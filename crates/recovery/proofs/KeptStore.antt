@@ -10,14 +10,14 @@ use Rattle.flush_log.specs.Commit.{committed}
 use Rattle.flush_log.specs.FlushText.{flush_text, HasFrames, flushed}
 use Rattle.flush_log.specs.Layout.{spans, is_full_for_flush}
 use Rattle.flush_log.specs.Slot.{Slot}
-use Rattle.flush_log.proofs.SlotLaws.{IsSlot, slot-is, is-slot}
+use Rattle.flush_log.proofs.SlotLemmas.{IsSlot, slot-is, is-slot}
 use Rattle.recovery.specs.InStep.{KeepsLogged, IsStore, IsStoreOf}
 use Rattle.recovery.specs.StoreOfDisk.{store_of_disk}
 use Rattle.recovery.proofs.FlushBack.{IsCommitted, left, commit-done, next-good_of, flush-back}
-use Rattle.recovery.proofs.FlushLaws.{proper-flushed}
+use Rattle.recovery.proofs.FlushLemmas.{proper-flushed}
 use Rattle.recovery.proofs.NothingDue.{nothing-due, all-written, logs-in_log}
 use Rattle.recovery.proofs.ReadStore.{store-read}
-use Rattle.recovery.proofs.StepLaws.{kept-in_step}
+use Rattle.recovery.proofs.StepLemmas.{kept-in_step}
 
 -- ---- a flush
 

@@ -1,34 +1,34 @@
 mod Crossing
-pub mod BrokenLaws
-mod BuildLaws
-pub mod CrashLaws
+pub mod BrokenLemmas
+mod BuildLemmas
+pub mod CrashLemmas
 mod DamagedRows
 pub mod DiskForms
 mod DiskRows
 mod FirstStore
 pub mod FlushBack
-pub mod FlushLaws
+pub mod FlushLemmas
 mod FlushRows
 pub mod FoundWithin
-pub mod FrontLaws
-pub mod GatherLaws
+pub mod FrontLemmas
+pub mod GatherLemmas
 mod HiddenBytes
 pub mod KeptStore
 pub mod NothingDue
 mod PageRows
-pub mod PagesLaws
-pub mod PartLaws
+pub mod PagesLemmas
+pub mod PartLemmas
 mod ReadBlock
 pub mod ReadBytes
 mod ReadLog
 mod ReadSlots
 pub mod ReadStore
-mod RebuildLaws
-mod RecoverLaws
-pub mod ScanLaws
-mod SoFarLaws
-pub mod StepLaws
-pub mod StoreLaws
-pub mod TableLaws
-mod TellLaws
-pub mod TextLaws
+mod RebuildLemmas
+mod RecoverLemmas
+pub mod ScanLemmas
+mod SoFarLemmas
+pub mod StepLemmas
+pub mod StoreLemmas
+pub mod TableLemmas
+mod TellLemmas
+pub mod TextLemmas

@@ -17,22 +17,22 @@ use Rattle.mapping.specs.Tree.Logged.{No, Old, Upto}
 use Rattle.mapping.proofs.InUse.{is_eq_same}
 use Rattle.mapping.proofs.SameTable.{same_logged}
 use Rattle.mapping.proofs.SameTree.{same_tree}
-use Rattle.mapping.proofs.TableLaws.{same_pid, differ}
+use Rattle.mapping.proofs.TableLemmas.{same_pid, differ}
 use Rattle.mapping.proofs.Walk.{nothing_found}
 use Rattle.frame_codec.specs.Frame.{Content, Frame}
 use Rattle.flush_log.specs.AfterFlush.{store_after}
 use Rattle.flush_log.specs.FlushText.{run_contents, lacking, flush_text, logged_whole, tree_in_log, flushed}
 use Rattle.flush_log.specs.Slot.{Slot}
-use Rattle.flush_log.proofs.SlotLaws.{IsSlot, store_slot-read, slot-stands, slot-is}
+use Rattle.flush_log.proofs.SlotLemmas.{IsSlot, store_slot-read, slot-stands, slot-is}
 use Rattle.recovery.specs.InStep.{AreInStep, IsInStep}
 use Rattle.recovery.specs.LogPages.{contents_of, pages_of}
 use Rattle.recovery.specs.StoreOfDisk.{frames_in, tree_by_log, store_of_disk}
 use Rattle.recovery.proofs.FlushBack.{same_store}
-use Rattle.recovery.proofs.FlushLaws.{known-frames}
-use Rattle.recovery.proofs.PagesLaws.{rising-pages_of}
-use Rattle.recovery.proofs.StepLaws.{whole_of, logged-whole}
-use Rattle.recovery.proofs.StoreLaws.{StandsBy, store-stands}
-use Rattle.recovery.proofs.TextLaws.{IsKnown, text-of_pid, pages-after}
+use Rattle.recovery.proofs.FlushLemmas.{known-frames}
+use Rattle.recovery.proofs.PagesLemmas.{rising-pages_of}
+use Rattle.recovery.proofs.StepLemmas.{whole_of, logged-whole}
+use Rattle.recovery.proofs.StoreLemmas.{StandsBy, store-stands}
+use Rattle.recovery.proofs.TextLemmas.{IsKnown, text-of_pid, pages-after}
 
 -- ---- what the log has, where it lacks nothing
 

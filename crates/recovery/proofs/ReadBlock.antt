@@ -10,7 +10,7 @@ use Rattle.flush_log.specs.Overlay.{overlay}
 use Rattle.flush_log.specs.Segments.{disk_size}
 use Rattle.flush_log.specs.SettingsBlock.{read_settings, where_it_has_room, store_settings}
 use Rattle.flush_log.proofs.BlockReading.{no_block}
-use Rattle.flush_log.proofs.OverlayLaws.{overlay-part}
+use Rattle.flush_log.proofs.OverlayLemmas.{overlay-part}
 
 abbrev Told : Type 0
 Told = Result Settings Fault

@@ -10,12 +10,12 @@ use Rattle.flush_log.specs.Overlay.{overlay}
 use Rattle.flush_log.specs.Reading.{Found, is_padding, is_at_tail, read_segment, followed_by, read_earlier, log}
 use Rattle.flush_log.specs.Segments.{segments_begin, disk_size, place_of_segment, HasSegments, segment_bytes, last_segment, bytes_in_use}
 use Rattle.flush_log.specs.Slot.{Slot, is_slot}
-use Rattle.flush_log.proofs.FitLaws.{are_sized}
-use Rattle.flush_log.proofs.LayoutLaws.{split-tail}
-use Rattle.flush_log.proofs.OverlayLaws.{overlay-part}
-use Rattle.flush_log.proofs.PlaceLaws.{remainders_differ, place-within, places-beside, overlay-beside as part-beside}
-use Rattle.flush_log.proofs.ReadBackLaws.{earlier-same}
-use Rattle.flush_log.proofs.SlotLaws.{slot-is}
+use Rattle.flush_log.proofs.FitLemmas.{are_sized}
+use Rattle.flush_log.proofs.LayoutLemmas.{split-tail}
+use Rattle.flush_log.proofs.OverlayLemmas.{overlay-part}
+use Rattle.flush_log.proofs.PlaceLemmas.{remainders_differ, place-within, places-beside, overlay-beside as part-beside}
+use Rattle.flush_log.proofs.ReadBackLemmas.{earlier-same}
+use Rattle.flush_log.proofs.SlotLemmas.{slot-is}
 use Rattle.recovery.specs.Recovered.{IsReadOf}
 use Rattle.recovery.specs.Scan.{HeldSegment, held_segment, scanned, scanned_behind}
 use Rattle.recovery.specs.declared.scan_segment.End.TheVariants.{Padding}

@@ -7,9 +7,9 @@ use Rattle.keys.specs.declared.fault.Fault.{Fault}
 use Rattle.flush_log.specs.Overlay.{overlay, IsBeside}
 use Rattle.flush_log.specs.SettingsBlock.{store_settings}
 use Rattle.flush_log.specs.Slot.{Slot, is_slot, store_slot}
-use Rattle.flush_log.proofs.OutcomeLaws.{settings_same}
-use Rattle.flush_log.proofs.OverlayLaws.{overlay-beside, overlay-part}
-use Rattle.flush_log.proofs.SlotLaws.{slot-stands, store_slot-read}
+use Rattle.flush_log.proofs.OutcomeLemmas.{settings_same}
+use Rattle.flush_log.proofs.OverlayLemmas.{overlay-beside, overlay-part}
+use Rattle.flush_log.proofs.SlotLemmas.{slot-stands, store_slot-read}
 
 -- each of the two in the bytes of both
 pub first-of : (disk slots : List ℕ) → take 128 (drop 128 disk) ≡ slots → take 64 (drop 128 disk) ≡ take 64 slots

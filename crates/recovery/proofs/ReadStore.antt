@@ -7,15 +7,15 @@ use Rattle.mapping.specs.Tree.{Store}
 use Rattle.frame_codec.specs.Frame.{Frame}
 use Rattle.flush_log.specs.AfterFlush.{store_after}
 use Rattle.flush_log.specs.Slot.{Slot}
-use Rattle.flush_log.proofs.SettingsLaws.{store_settings-are}
-use Rattle.flush_log.proofs.SlotLaws.{store_slot-read, slot-stands}
+use Rattle.flush_log.proofs.SettingsLemmas.{store_settings-are}
+use Rattle.flush_log.proofs.SlotLemmas.{store_slot-read, slot-stands}
 use Rattle.recovery.specs.InStep.{IsStoreOf}
 use Rattle.recovery.specs.LogPages.{pages_of}
 use Rattle.recovery.specs.StoreOfDisk.{frames_in, tree_by_log, store_of_disk}
 use Rattle.recovery.proofs.NothingDue.{proper-read, logs-in_log}
-use Rattle.recovery.proofs.PagesLaws.{rising-pages_of}
-use Rattle.recovery.proofs.StepLaws.{itself-in_step}
-use Rattle.recovery.proofs.StoreLaws.{StandsBy, store-stands}
+use Rattle.recovery.proofs.PagesLemmas.{rising-pages_of}
+use Rattle.recovery.proofs.StepLemmas.{itself-in_step}
+use Rattle.recovery.proofs.StoreLemmas.{StandsBy, store-stands}
 
 pub store-read : (s : Settings) (on_disk : Store) (file : List ℕ) → store_of_disk file ≡ Ok (s, on_disk) → IsStoreOf s on_disk file
 store-read s on_disk file is =

@@ -11,16 +11,16 @@ use Rattle.keys.specs.Places.{is_some_that}
 use Rattle.keys.specs.declared.command.Command.{Command}
 use Rattle.index_page.specs.Range.{is_within}
 use Rattle.index_page.specs.Children.{Place}
-use Rattle.index_page.proofs.ListLaws.{all-filter}
+use Rattle.index_page.proofs.ListLemmas.{all-filter}
 use Rattle.mapping.specs.FreshPids.{is_among}
 use Rattle.routing.specs.BatchKeys.{key_or_empty}
 use Rattle.routing.specs.Keyed.{Keyed, places_of}
 use Rattle.routing.specs.Routes.{places_within, Route, route_to, has_some, has_places}
 use Rattle.routing.specs.SortedPlaces.{order_of_places, AreSortedPlaces, begins_in, reaches, reaches_at, AreSortedWithin, AreSortedReaching}
 use Rattle.routing.specs.Shares.{Share, all_of, has_any, Lent, share_of_lent, lent_shares, HasEachPlaceOnce, is_in_range, share_of, shares, IsInBatchOrder, AreInBatchOrder}
-use Rattle.routing.proofs.RouteLaws.{among-places, within_all}
-use Rattle.routing.proofs.SortLaws.{among_itself}
-use Rattle.routing.proofs.SliceLaws.{sorted_within_all, distinct, among-filter, among_both, both_in_order, in_batch_order}
+use Rattle.routing.proofs.RouteLemmas.{among-places, within_all}
+use Rattle.routing.proofs.SortLemmas.{among_itself}
+use Rattle.routing.proofs.SliceLemmas.{sorted_within_all, distinct, among-filter, among_both, both_in_order, in_batch_order}
 
 -- one more, behind the others
 pub order-push : (ss : List Share) (os : List Route) (s : Share) (o : Route) → AreInBatchOrder ss os → IsInBatchOrder s o → AreInBatchOrder (ss ++ s ∷ []) (os ++ o ∷ [])

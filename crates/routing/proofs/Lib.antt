@@ -1,10 +1,10 @@
-pub mod PlaceLaws
-mod BatchLaws
+pub mod PlaceLemmas
+mod BatchLemmas
 mod BatchOrder
-pub mod DescentLaws
-pub mod RouteLaws
+pub mod DescentLemmas
+pub mod RouteLemmas
 mod Rows
-pub mod ShareLaws
-pub mod SliceLaws
-pub mod SortLaws
-mod WalkLaws
+pub mod ShareLemmas
+pub mod SliceLemmas
+pub mod SortLemmas
+mod WalkLemmas

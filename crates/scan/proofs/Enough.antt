@@ -16,10 +16,10 @@ use Rattle.keys.specs.Range.{is_below, is_within, in_range}
 use Rattle.keys.specs.Step.{map_after, map_after_all}
 use Rattle.keys.specs.declared.command.Command.{Command}
 use Rattle.keys.specs.declared.command.Command.TheVariants.{Get, Put, Add, Del, Scan}
-use Rattle.keys.proofs.MapLaws.{total, passes_same}
-use Rattle.keys.proofs.RangeLaws.{none_in_range}
+use Rattle.keys.proofs.MapLemmas.{total, passes_same}
+use Rattle.keys.proofs.RangeLemmas.{none_in_range}
 use Rattle.delta_chain.specs.Layers.{Layers, with_change, with_run, entries_under, entries_of}
-use Rattle.index_page.proofs.RangeLaws.{less_is_below, below_is_less, less_through, not_below_lower}
+use Rattle.index_page.proofs.RangeLemmas.{less_is_below, below_is_less, less_through, not_below_lower}
 use Rattle.page_search.specs.Places.{count_below}
 use Rattle.scan.specs.Ends.{deleted_by, deleted, count_within, LacksAtMost, AreCertain, keyed_below, named_below_under, named_below}
 

@@ -1,12 +1,12 @@
-mod CutLaws
-mod EndLaws
+mod CutLemmas
+mod EndLemmas
 pub mod Enough
-mod LeafLaws
-mod MergeLaws
+mod LeafLemmas
+mod MergeLemmas
 mod MergeSteps
 pub mod Parts
-mod PassingLaws
-mod PathLaws
-mod RowLaws
-mod TreeLaws
-mod WalkLaws
+mod PassingLemmas
+mod PathLemmas
+mod RowLemmas
+mod TreeLemmas
+mod WalkLemmas

@@ -9,7 +9,7 @@ use Rattle.std.specs.Map.{keys_of, values_of}
 use Rattle.std.specs.Option.{option_map}
 use Rattle.keys.specs.Order.{order, IsRising}
 use Rattle.keys.proofs.Basics.{less_by}
-use Rattle.keys.proofs.MapLaws.{order_itself}
+use Rattle.keys.proofs.MapLemmas.{order_itself}
 use Rattle.delta_chain.specs.Layers.{Layers, with_run, entries_of, IsInOrder}
 use Rattle.delta_chain.specs.Merging.{pair_if, first_order, said_by}
 use Rattle.delta_chain.proofs.Merges.{rising_behind, first_stays}
@@ -17,8 +17,8 @@ use Rattle.delta_chain.proofs.Places.{front_under}
 use Rattle.page_search.specs.Places.{count_below}
 use Rattle.scan.specs.Leaf.{from, behind}
 use Rattle.scan.specs.Merge.{StartsFrom, ArePairsNext, changes_after, IsMerge, StartsAt}
-use Rattle.scan.proofs.MergeLaws.{drop-count_below, change_at, past_first, before_first, change_next, newest_first, older_first, said_behind, all_start}
-use Rattle.scan.proofs.PassingLaws.{said_by-rises, rising-behind_all, rising-from_all, rising-base_of, from-entries}
+use Rattle.scan.proofs.MergeLemmas.{drop-count_below, change_at, past_first, before_first, change_next, newest_first, older_first, said_behind, all_start}
+use Rattle.scan.proofs.PassingLemmas.{said_by-rises, rising-behind_all, rising-from_all, rising-base_of, from-entries}
 
 abbrev Changes : Type 0 → Type 0
 Changes V = List (List ℕ × Option V)

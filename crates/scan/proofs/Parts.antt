@@ -7,14 +7,14 @@ use Rattle.std.specs.Ordering.{is_eq}
 use Rattle.keys.specs.Order.{order}
 use Rattle.keys.specs.OrderedMap.{value_at}
 use Rattle.keys.specs.Range.{in_range}
-use Rattle.keys.proofs.MapLaws.{passes_same, same_map}
+use Rattle.keys.proofs.MapLemmas.{passes_same, same_map}
 use Rattle.index_page.specs.Range.{is_below, is_before, is_within, AreFrom, AreBefore}
-use Rattle.index_page.proofs.ChildLaws.{within}
-use Rattle.index_page.proofs.PageLaws.{all_keys_entries}
-use Rattle.index_page.proofs.RangeLaws.{rising-filter}
+use Rattle.index_page.proofs.ChildLemmas.{within}
+use Rattle.index_page.proofs.PageLemmas.{all_keys_entries}
+use Rattle.index_page.proofs.RangeLemmas.{rising-filter}
 use Rattle.mapping.specs.Levels.{Placed, entries, joined}
 use Rattle.mapping.specs.Proper.{next_low, Tiled}
-use Rattle.mapping.proofs.TileLaws.{tiled_apart, rising-tile, rising-joined, value_at-joined}
+use Rattle.mapping.proofs.TileLemmas.{tiled_apart, rising-tile, rising-joined, value_at-joined}
 
 pub all_before : (end : Option (List ℕ)) (ks : List (List ℕ)) → AreBefore end ks → AllByRecursion (λ j. is_before end j ≡ true) ks
 all_before None [] h = tt

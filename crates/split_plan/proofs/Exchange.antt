@@ -3,7 +3,7 @@
 -- are made is needed.
 use Rattle.std.specs.Prelude.{ℕ, List, ◌∷◌, flat_map, Option}
 use Rattle.delta_chain.specs.Layers.{with_run}
-use Rattle.mapping.proofs.TileLaws.{Names}
+use Rattle.mapping.proofs.TileLemmas.{Names}
 use Rattle.split_plan.specs.Terms.{absent, present}
 
 -- a group as its parent sees it: the name that stays, those that go, and those that come

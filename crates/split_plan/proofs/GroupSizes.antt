@@ -6,7 +6,7 @@ use Rattle.std.proofs.Math.Seq.{take-append_seam, drop-append_seam}
 use Rattle.keys.specs.Lists.{flat}
 use Rattle.page_runs.specs.Worked.{Worked, is_thin, is_thin_class}
 use Rattle.split_plan.specs.Groups.{Gathered, with_child, gathered, with_leading, groups, cut_by}
-use Rattle.split_plan.proofs.GroupLaws.{groups-joined}
+use Rattle.split_plan.proofs.GroupLemmas.{groups-joined}
 
 -- sizes of groups, the first of which has this many members more; these are one group where there is none
 abbrev pub more_in_first : ℕ → List ℕ → List ℕ

@@ -8,13 +8,13 @@ use Rattle.std.specs.Map.{keys_of}
 use Rattle.keys.specs.Lists.{flat}
 use Rattle.keys.specs.Order.{IsRising}
 use Rattle.keys.specs.declared.settings.Settings.{Settings}
-use Rattle.keys.proofs.MapLaws.{IsBelowAll}
+use Rattle.keys.proofs.MapLemmas.{IsBelowAll}
 use Rattle.delta_chain.specs.Lent.{pairs_lent}
 use Rattle.delta_chain.proofs.Lending.{length-pairs_lent}
 use Rattle.index_page.specs.Page.{Page, PageOfKind, bare, first_key}
 use Rattle.split_plan.specs.Cut.{piece_count, pieces, cut}
 use Rattle.split_plan.specs.Pieces.{pages_lent, joined_pages, low_at, pages_from, pages_made}
-use Rattle.split_plan.proofs.CutLaws.{cut-joined, cut_full, cut_nothing}
+use Rattle.split_plan.proofs.CutLemmas.{cut-joined, cut_full, cut_nothing}
 use Rattle.split_plan.proofs.Full.{AllFull}
 
 module _ {V : Type 0} where

@@ -1,16 +1,16 @@
 pub mod Crossing
-pub mod ChangeLaws
-pub mod CutLaws
+pub mod ChangeLemmas
+pub mod CutLemmas
 mod Exchange
-pub mod ExchangeLaws
-pub mod GroupLaws
+pub mod ExchangeLemmas
+pub mod GroupLemmas
 pub mod GroupSizes
 mod LentPieces
-pub mod OutdatedLaws
-pub mod PidLaws
+pub mod OutdatedLemmas
+pub mod PidLemmas
 pub mod Renewed
-pub mod RunLaws
-pub mod TermLaws
+pub mod RunLemmas
+pub mod TermLemmas
 mod TermMerge
-pub mod WorkedLaws
+pub mod WorkedLemmas
 pub mod Full

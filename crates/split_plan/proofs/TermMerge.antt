@@ -4,8 +4,8 @@ use Rattle.std.proofs.Common.{refl, sym, ap, ◌∙◌, Less, Equal, Greater}
 use Rattle.std.specs.List.Sorted.{IsStrictlySortedBy}
 use Rattle.std.specs.Map.{keys_of}
 use Rattle.keys.specs.Order.{order, IsRising}
-use Rattle.keys.proofs.MapLaws.{IsBelowAll, below_all, same_key, order_itself, flipped_less, flipped_greater}
-use Rattle.index_page.proofs.RangeLaws.{rising_rest}
+use Rattle.keys.proofs.MapLemmas.{IsBelowAll, below_all, same_key, order_itself, flipped_less, flipped_greater}
+use Rattle.index_page.proofs.RangeLemmas.{rising_rest}
 use Rattle.delta_chain.specs.Layers.{with_change, with_run}
 use Rattle.split_plan.specs.Terms.{absent, present, front_order}
 

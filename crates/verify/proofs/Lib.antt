@@ -1,6 +1,6 @@
 mod Crossing
-mod ChainLaws
-mod LevelLaws
-mod MetLaws
-mod PageLaws
-mod WalkLaws
+mod ChainLemmas
+mod LevelLemmas
+mod MetLemmas
+mod PageLemmas
+mod WalkLemmas

@@ -1,4 +1,4 @@
-use Rattle.bwsh.proofs.OrderLaws.{orders_of-batch_lines}
+use Rattle.bwsh.proofs.OrderLemmas.{orders_of-batch_lines}
 use Rattle.bwsh.proofs.laws.batches_are_read_back.Goals as goal
 
 pub returns : goal.returns

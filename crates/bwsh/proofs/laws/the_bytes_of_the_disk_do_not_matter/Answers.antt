@@ -1,4 +1,4 @@
-use Rattle.bwsh.proofs.BytesLaws.{lines-same, accepted-same, end-same}
+use Rattle.bwsh.proofs.BytesLemmas.{lines-same, accepted-same, end-same}
 use Rattle.bwsh.proofs.laws.the_bytes_of_the_disk_do_not_matter.Goals as goal
 
 pub returns : goal.returns

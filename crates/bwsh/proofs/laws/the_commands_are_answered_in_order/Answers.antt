@@ -1,4 +1,4 @@
-use Rattle.bwsh.proofs.PrintedLaws.{printed-orders, printed-said}
+use Rattle.bwsh.proofs.PrintedLemmas.{printed-orders, printed-said}
 use Rattle.bwsh.proofs.laws.the_commands_are_answered_in_order.Goals as goal
 
 pub returns : goal.returns

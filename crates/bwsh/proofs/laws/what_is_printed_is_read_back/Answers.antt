@@ -1,4 +1,4 @@
-use Rattle.bwsh.proofs.TokenLaws.{token_bytes-shown_token, shown_token-printable, words_of-shown_token}
+use Rattle.bwsh.proofs.TokensReadBack.{token_bytes-shown_token, shown_token-printable, words_of-shown_token}
 use Rattle.bwsh.proofs.laws.what_is_printed_is_read_back.Goals as goal
 
 pub returns : goal.returns

@@ -1,5 +1,5 @@
 use Rattle.bwsh.proofs.RunLemmas.{left_shown, AreLeft-left_shown}
-use Rattle.bwsh.proofs.BytesLaws.{lines-left, accepted-left, end-left}
+use Rattle.bwsh.proofs.BytesLemmas.{lines-left, accepted-left, end-left}
 use Rattle.bwsh.proofs.laws.what_was_left_decides_the_answers.Goals as goal
 
 pub returns : goal.returns

@@ -1,6 +1,6 @@
 use Rattle.std.proofs.Common.{◌≡◌, Some, refl, ap, sym, ◌∙◌}
 use Rattle.bwsh.proofs.TokenLemmas.{with_front_nothing, token_bytes-unescaped}
-use Rattle.bwsh.proofs.TokenLaws.{unescaped-plain}
+use Rattle.bwsh.proofs.TokensReadBack.{unescaped-plain}
 use Rattle.bwsh.proofs.token.unescape.Goals as goal
 
 pub returns-then-are_plain : goal.returns-then-are_plain

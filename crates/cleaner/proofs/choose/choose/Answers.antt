@@ -2,7 +2,7 @@ use Rattle.std.proofs.Common.{sym, ◌∙◌}
 use Rattle.recovery.proofs.ReadBytes.{handed_on}
 use Rattle.cleaner.specs.CleanText.{clean_text}
 use Rattle.cleaner.specs.Kept.{first_segment}
-use Rattle.cleaner.proofs.ChooseLaws.{chosen, images-text, unfit-found, some-text, head-first, head-empty, head-text, empty-text}
+use Rattle.cleaner.proofs.ChooseLemmas.{chosen, images-text, unfit-found, some-text, head-first, head-empty, head-text, empty-text}
 use Rattle.cleaner.proofs.choose.choose.Goals as goal
 
 pub returns-in_err-images-clause-chosen : goal.returns-in_err-images-clause-chosen

@@ -1,5 +1,5 @@
 use Rattle.std.proofs.Common.{ℕ, List, length, sym, ap, ◌∙◌}
-use Rattle.cleaner.proofs.ChooseLaws.{next-some}
+use Rattle.cleaner.proofs.ChooseLemmas.{next-some}
 use Rattle.cleaner.proofs.choose.images_in.Goals as goal
 
 pub loop-entry-preserved : goal.loop-entry-preserved

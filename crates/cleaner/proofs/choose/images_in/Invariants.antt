@@ -1,4 +1,4 @@
-use Rattle.cleaner.proofs.ChooseLaws.{AreChosen}
+use Rattle.cleaner.proofs.ChooseLemmas.{AreChosen}
 use Rattle.cleaner.proofs.choose.images_in.Given as goal
 
 -- the pages that are left, and the images of those in front

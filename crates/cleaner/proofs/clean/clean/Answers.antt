@@ -3,11 +3,11 @@ use Rattle.keys.specs.declared.fault.Fault.TheVariants.{Device}
 use Rattle.flush_log.specs.AfterFlush.{slot_of}
 use Rattle.flush_log.specs.Segments.{last_segment}
 use Rattle.flush_log.specs.Slot.{Slot}
-use Rattle.flush_log.proofs.ViewLaws.{counted_failed}
+use Rattle.flush_log.proofs.ViewLemmas.{counted_failed}
 use Rattle.recovery.proofs.ReadBytes.{first_read, same_self, handed_on}
 use Rattle.cleaner.specs.CleanText.{clean_text}
-use Rattle.cleaner.proofs.PlanLaws.{err_on, nothing-refused, heads-same, heads-differ, plan-of, more-of, good-of, failed_since, clean-planned, by_slot}
-use Rattle.cleaner.proofs.DoneLaws.{settled_still, leaves_the_same, plan-crashed, plan-would, plan-written}
+use Rattle.cleaner.proofs.PlanLemmas.{err_on, nothing-refused, heads-same, heads-differ, plan-of, more-of, good-of, failed_since, clean-planned, by_slot}
+use Rattle.cleaner.proofs.DoneLemmas.{settled_still, leaves_the_same, plan-crashed, plan-would, plan-written}
 use Rattle.cleaner.proofs.clean.clean.Goals as goal
 
 pub returns-then-slot-last_segment-clause-read : goal.returns-then-slot-last_segment-clause-read

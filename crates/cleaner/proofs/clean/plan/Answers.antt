@@ -3,11 +3,11 @@ use Rattle.keys.specs.declared.fault.Fault.TheVariants.{NoMemory, Device}
 use Rattle.flush_log.specs.Images.{AreOfText, FitSegments, frames_in}
 use Rattle.flush_log.specs.Layout.{tail_after}
 use Rattle.flush_log.specs.Slot.{Slot}
-use Rattle.flush_log.proofs.SlotLaws.{slot-is}
+use Rattle.flush_log.proofs.SlotLemmas.{slot-is}
 use Rattle.recovery.proofs.ReadBytes.{first_read, kept_then, handed_on}
 use Rattle.cleaner.specs.AfterClean.{slot_on_disk}
 use Rattle.cleaner.specs.CleanText.{clean_text}
-use Rattle.cleaner.proofs.PlanLaws.{same_on, read_before, err_on, since, slot-still, head-room, images-fit, planned, next-by, behind, tail-refused}
+use Rattle.cleaner.proofs.PlanLemmas.{same_on, read_before, err_on, since, slot-still, head-room, images-fit, planned, next-by, behind, tail-refused}
 use Rattle.cleaner.proofs.clean.plan.Goals as goal
 
 pub returns-in_err-on_disk-clause-read : goal.returns-in_err-on_disk-clause-read

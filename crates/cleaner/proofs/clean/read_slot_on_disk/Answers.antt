@@ -2,7 +2,7 @@ use Rattle.std.proofs.Common.{◌∙◌, arith, subst}
 use Rattle.flush_log.specs.Overlay.{overlay}
 use Rattle.flush_log.specs.Slot.{slot_place}
 use Rattle.recovery.specs.Recovered.{IsReadOf}
-use Rattle.cleaner.proofs.PlanLaws.{slot-read}
+use Rattle.cleaner.proofs.PlanLemmas.{slot-read}
 use Rattle.cleaner.proofs.clean.read_slot_on_disk.Goals as goal
 
 pub returns-clause-read : goal.returns-clause-read

@@ -4,7 +4,7 @@ use Rattle.flush_log.specs.Slot.{Slot}
 use Rattle.flush_log.specs.declared.image.Image.{Image}
 use Rattle.recovery.proofs.ReadBytes.{handed_on}
 use Rattle.cleaner.specs.Kept.{BeginsAt}
-use Rattle.cleaner.proofs.PlanLaws.{log-refused, log-begins, text-of_choice}
+use Rattle.cleaner.proofs.PlanLemmas.{log-refused, log-begins, text-of_choice}
 use Rattle.cleaner.proofs.clean.read_text.Goals as goal
 
 pub returns-in_err-read_log-clause-read : goal.returns-in_err-read_log-clause-read

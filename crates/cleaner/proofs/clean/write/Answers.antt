@@ -5,8 +5,8 @@ use Rattle.flush_log.specs.Layout.{spans, tail_after}
 use Rattle.flush_log.specs.Segments.{disk_size}
 use Rattle.flush_log.specs.Slot.{greatest}
 use Rattle.cleaner.specs.declared.clean.CleanPlan.{CleanPlan}
-use Rattle.cleaner.proofs.PlanLaws.{writing-fits, writing-room, writing-inside}
-use Rattle.cleaner.proofs.DoneLaws.{settled_still, gate-still, commit-left, commit-written}
+use Rattle.cleaner.proofs.PlanLemmas.{writing-fits, writing-room, writing-inside}
+use Rattle.cleaner.proofs.DoneLemmas.{settled_still, gate-still, commit-left, commit-written}
 use Rattle.cleaner.proofs.clean.write.Goals as goal
 
 pub write_flush-requires-clause-fits : goal.write_flush-requires-clause-fits

@@ -1,7 +1,7 @@
 use Rattle.std.proofs.Common.{◌++◌, arith}
 use Rattle.std.specs.Vec.Iter.{into_iter_items}
 use Rattle.std.proofs.lemmas.List.{nil_from_length}
-use Rattle.cleaner.proofs.SkimLaws.{behind-next, behind-none}
+use Rattle.cleaner.proofs.SkimLemmas.{behind-next, behind-none}
 use Rattle.cleaner.proofs.log_so_far.add_all.Goals as goal
 
 pub loop-frame-preserved : goal.loop-frame-preserved

@@ -3,7 +3,7 @@ use Rattle.std.specs.Vec.Iter.{into_iter_items}
 use Rattle.flush_log.specs.Reading.{Found}
 use Rattle.cleaner.specs.Kept.{AreLive}
 use Rattle.cleaner.specs.Skim.{held_frame, skim_of}
-use Rattle.cleaner.proofs.SkimLaws.{AreBehind}
+use Rattle.cleaner.proofs.SkimLemmas.{AreBehind}
 use Rattle.cleaner.proofs.log_so_far.add_all.Given as goal
 
 abbrev pub invariant-loop-frame : goal.invariant-loop-frame

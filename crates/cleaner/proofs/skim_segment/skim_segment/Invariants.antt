@@ -1,6 +1,6 @@
 use Rattle.std.proofs.Common.{length, drop}
 use Rattle.recovery.specs.Scan.{is_end_at}
-use Rattle.cleaner.proofs.SkimLaws.{IsUpto}
+use Rattle.cleaner.proofs.SkimLemmas.{IsUpto}
 use Rattle.cleaner.proofs.skim_segment.skim_segment.Given as goal
 
 -- of the frames in front of the bytes that are left it was told what they are

@@ -2,7 +2,7 @@ use Rattle.std.proofs.Common.{rules, ◌≡◌, ◌++◌, [], ◌∷◌, map, le
 use Rattle.std.specs.List.{flat_map}
 use Rattle.std.specs.Vec.Iter.{into_iter_items}
 use Rattle.crew.specs.Home.{placed}
-use Rattle.crew.proofs.DrawnLaws.{placed_append}
+use Rattle.crew.proofs.DrawnLemmas.{placed_append}
 use Rattle.crew.proofs.drawn.bring_home.Goals as goal
 
 pub loop-hand-preserved : goal.loop-hand-preserved

@@ -3,7 +3,7 @@ use Rattle.std.proofs.lemmas.List.{map-append}
 use Rattle.std.specs.List.{AllByRecursion}
 use Rattle.claim_board.specs.Passes.{pieces_of}
 use Rattle.crew.specs.Home.{IsWorkedOf}
-use Rattle.crew.proofs.DrawnLaws.{all_append, is_worked}
+use Rattle.crew.proofs.DrawnLemmas.{all_append, is_worked}
 use Rattle.crew.proofs.drawn.draw_and_work.Goals as goal
 
 pub loop-preserved : goal.loop-preserved

@@ -5,7 +5,7 @@ use Rattle.std.proofs.lemmas.List.{length-replicate}
 use Rattle.claim_board.specs.Passes.{pieces_of, drawn_by_all, Closes}
 use Rattle.crew.specs.Drawn.{held_in}
 use Rattle.crew.specs.Home.{placed, left_behind, home_origins, IsMadeHome}
-use Rattle.crew.proofs.DrawnLaws.{dealt, passes_of, left_length, length-placed, all_home, all_made}
+use Rattle.crew.proofs.DrawnLemmas.{dealt, passes_of, left_length, length-placed, all_home, all_made}
 use Rattle.crew.proofs.drawn.draw_round.Goals as goal
 
 pub draw_all-requires-clause-hands : goal.draw_all-requires-clause-hands

@@ -2,8 +2,8 @@ use Rattle.std.proofs.Common.{rules, ◌≡◌, ◌≤◌, map, length, vec_capa
 use Rattle.std.proofs.lemmas.List.{length-map}
 use Rattle.std.specs.List.{AllByRecursion, flat_map}
 use Rattle.crew.specs.Home.{home_origins}
-use Rattle.crew.proofs.DrawnLaws.{by_recursion, pieces_accepted, homes_held}
-use Rattle.crew.proofs.RoundLaws.{ok_is, err_is}
+use Rattle.crew.proofs.DrawnLemmas.{by_recursion, pieces_accepted, homes_held}
+use Rattle.crew.proofs.RoundLemmas.{ok_is, err_is}
 use Rattle.crew.proofs.drawn.work_drawn.Goals as goal
 
 pub draw_round-requires-clause-accepted : goal.draw_round-requires-clause-accepted

@@ -3,7 +3,7 @@ use Rattle.std.specs.Prelude.{Some, Err, IsOk}
 use Rattle.std.specs.List.{flat_map}
 use Rattle.std.specs.Vec.Iter.{into_iter_items}
 use Rattle.crew.specs.Home.{home_origins}
-use Rattle.crew.proofs.HomeLaws.{taken_back, fits}
+use Rattle.crew.proofs.HomeLemmas.{taken_back, fits}
 use Rattle.crew.proofs.home.gather.Goals as goal
 
 pub loop-home-preserved-in-Some-Err : goal.loop-home-preserved-in-Some-Err

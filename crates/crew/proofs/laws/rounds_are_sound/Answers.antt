@@ -1,4 +1,4 @@
-use Rattle.crew.proofs.SoundLaws.{round_is_sound}
+use Rattle.crew.proofs.SoundLemmas.{round_is_sound}
 use Rattle.crew.proofs.laws.rounds_are_sound.Goals as goal
 
 pub returns : goal.returns

@@ -1,6 +1,6 @@
 use Rattle.std.proofs.Common.{rules, ◌≡◌, ◌-◌, ◌*◌, ◌/◌, ◌<◌, ◌++◌, [], ◌∷◌, length, take, drop, reverse, ap, ◌∙◌, arith}
 use Rattle.crew.specs.Pieces.{jobs_of}
-use Rattle.crew.proofs.PieceLaws.{cut_off, one_less}
+use Rattle.crew.proofs.PieceLemmas.{cut_off, one_less}
 use Rattle.crew.proofs.pieces.cut.Goals as goal
 
 pub loop-jobs-preserved : goal.loop-jobs-preserved

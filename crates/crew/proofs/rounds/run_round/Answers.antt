@@ -2,7 +2,7 @@ use Rattle.std.specs.Prelude.{map}
 use Rattle.std.proofs.Common.{sym, subst}
 use Rattle.std.proofs.lemmas.List.{length-map}
 use Rattle.crew.specs.Round.{round, AreHome}
-use Rattle.crew.proofs.RoundLaws.{home_is_made, ok_is}
+use Rattle.crew.proofs.RoundLemmas.{home_is_made, ok_is}
 use Rattle.crew.proofs.rounds.run_round.Goals as goal
 
 pub returns-clause-round : goal.returns-clause-round

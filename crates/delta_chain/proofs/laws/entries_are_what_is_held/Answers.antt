@@ -1,4 +1,4 @@
-use Rattle.delta_chain.proofs.LayerLaws.{value_at-entries_of, rising-entries_of}
+use Rattle.delta_chain.proofs.LayerLemmas.{value_at-entries_of, rising-entries_of}
 use Rattle.delta_chain.proofs.laws.entries_are_what_is_held.Goals as goal
 
 pub returns : goal.returns

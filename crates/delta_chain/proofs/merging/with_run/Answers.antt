@@ -1,7 +1,7 @@
 use Rattle.std.proofs.Common.{◌<◌, ◌≤◌, length, arith, add-one, Less, Equal}
 use Rattle.delta_chain.specs.Layers.{with_run}
 use Rattle.delta_chain.specs.Lent.{pairs_lent}
-use Rattle.delta_chain.proofs.LayerLaws.{rising-with_run}
+use Rattle.delta_chain.proofs.LayerLemmas.{rising-with_run}
 use Rattle.delta_chain.proofs.Lending.{pairs_lent-push}
 use Rattle.delta_chain.proofs.Merges.{less_step, equal_step, greater_step, there_is_one, all_changes}
 use Rattle.delta_chain.proofs.merging.with_run.Goals as goal

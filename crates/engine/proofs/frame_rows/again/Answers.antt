@@ -1,5 +1,5 @@
 use Rattle.std.proofs.Common.{drop}
-use Rattle.keys.proofs.CellLaws.{read_where-gave}
+use Rattle.keys.proofs.CellLemmas.{read_where-gave}
 use Rattle.frame_codec.specs.Frame.{is_frame}
 use Rattle.frame_codec.specs.Reading.{read_any}
 use Rattle.frame_codec.specs.Shown.{frame_of}

@@ -1,4 +1,4 @@
-use Rattle.engine.proofs.PlayLaws.{stands-later, stands-last, step-kept, step-crash, play-crash}
+use Rattle.engine.proofs.PlayLemmas.{stands-later, stands-last, step-kept, step-crash, play-crash}
 use Rattle.engine.proofs.step_laws.a_crash_in_a_play_leaves_the_store_after_some_steps.Goals as goal
 
 pub returns : goal.returns

@@ -1,4 +1,4 @@
-use Rattle.engine.proofs.StepsLaws.{steps-played}
+use Rattle.engine.proofs.StepsLemmas.{steps-played}
 use Rattle.engine.proofs.step_laws.steps_are_played_one_by_one.Goals as goal
 
 pub returns : goal.returns

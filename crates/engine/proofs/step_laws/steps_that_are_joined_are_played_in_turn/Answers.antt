@@ -1,4 +1,4 @@
-use Rattle.engine.proofs.PlayLaws.{plays-append, words-append}
+use Rattle.engine.proofs.PlayLemmas.{plays-append, words-append}
 use Rattle.engine.proofs.step_laws.steps_that_are_joined_are_played_in_turn.Goals as goal
 
 pub returns : goal.returns

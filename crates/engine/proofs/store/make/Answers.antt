@@ -2,7 +2,7 @@ use Rattle.std.proofs.Common.{rules, List, ℕ, ◌≤◌, ap, ◌∙◌}
 use Rattle.keys.specs.Limits.{first_bad_field}
 use Rattle.keys.specs.declared.fault.Fault.TheVariants.{BadSettings}
 use Rattle.flush_log.specs.Overlay.{overlay}
-use Rattle.engine.proofs.CreateLaws.{not_refused, new-fits}
+use Rattle.engine.proofs.CreateLemmas.{not_refused, new-fits}
 use Rattle.engine.proofs.store.make.Goals as goal
 
 pub write_through-requires : goal.write_through-requires

@@ -4,7 +4,7 @@ use Rattle.flush_log.specs.Disk.{LeavesOnly}
 use Rattle.flush_log.specs.Layout.{spans, with_spans}
 use Rattle.flush_log.specs.Slot.{Slot, slot_place, slot_bytes, is_open}
 use Rattle.flush_log.specs.Commit.{seen_after, close_gate, IsUncommitted}
-use Rattle.flush_log.proofs.OutcomeLaws.{within_more}
+use Rattle.flush_log.proofs.OutcomeLemmas.{within_more}
 use Rattle.flush_log.proofs.SlotRuns.{slots_within, has_slots, all_within}
 use Rattle.flush_log.proofs.CommitRuns.{slot_committed, mid_closed, unfinished, commit_leaves}
 use Rattle.flush_log.proofs.commit.write_flush.Goals as goal

@@ -1,6 +1,6 @@
 use Rattle.std.proofs.Common.{IsTrue, sym, subst}
 use Rattle.flush_log.specs.Layout.{spans}
-use Rattle.flush_log.proofs.OutcomeLaws.{within_more}
+use Rattle.flush_log.proofs.OutcomeLemmas.{within_more}
 use Rattle.flush_log.proofs.SlotRuns.{slots_within, has_slots, all_within}
 use Rattle.flush_log.proofs.CommitRuns.{closing_leaves, spans_leave, prepare_leaves}
 use Rattle.flush_log.proofs.commit.write_hidden.Goals as goal

@@ -2,8 +2,8 @@ use Rattle.std.proofs.Common.{length, sym, ◌∙◌}
 use Rattle.flush_log.specs.Overlay.{AgreeAt}
 use Rattle.flush_log.specs.Commit.{IsBesideSpans}
 use Rattle.flush_log.specs.Layout.{spans}
-use Rattle.flush_log.proofs.OverlayLaws.{agree_same}
-use Rattle.flush_log.proofs.ViewLaws.{nothing_leaves}
+use Rattle.flush_log.proofs.OverlayLemmas.{agree_same}
+use Rattle.flush_log.proofs.ViewLemmas.{nothing_leaves}
 use Rattle.flush_log.proofs.CommitRuns.{no_spans, some_text}
 use Rattle.flush_log.proofs.commit.write_images.Goals as goal
 

@@ -1,4 +1,4 @@
-use Rattle.flush_log.proofs.OutcomeLaws.{before-settings, before-slot, before-log, text-crash}
+use Rattle.flush_log.proofs.OutcomeLemmas.{before-settings, before-slot, before-log, text-crash}
 use Rattle.flush_log.proofs.commit_laws.a_commit_is_hidden_until_its_gate_is_open.Goals as goal
 
 pub returns : goal.returns

@@ -1,4 +1,4 @@
-use Rattle.flush_log.proofs.CommitLaws.{left-before, left-during, seen-done, left-done}
+use Rattle.flush_log.proofs.CommitLemmas.{left-before, left-during, seen-done, left-done}
 use Rattle.flush_log.proofs.commit_laws.a_crash_leaves_what_was_before_or_all_of_a_commit.Goals as goal
 
 pub returns : goal.returns

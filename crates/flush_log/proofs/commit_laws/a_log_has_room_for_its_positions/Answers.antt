@@ -1,5 +1,5 @@
 use Rattle.std.proofs.Common.{arith}
-use Rattle.flush_log.proofs.NumberLaws.{room, place_small, head_test, head_small, head_end_small, position_small, tail_small}
+use Rattle.flush_log.proofs.NumberLemmas.{room, place_small, head_test, head_small, head_end_small, position_small, tail_small}
 use Rattle.flush_log.proofs.commit_laws.a_log_has_room_for_its_positions.Goals as goal
 
 pub returns : goal.returns

@@ -1,4 +1,4 @@
-use Rattle.flush_log.proofs.NewStoreLaws.{new_settings, new_slot, new_log}
+use Rattle.flush_log.proofs.NewStoreLemmas.{new_settings, new_slot, new_log}
 use Rattle.flush_log.proofs.commit_laws.a_new_store_is_one_empty_leaf.Goals as goal
 
 pub returns : goal.returns

@@ -1,5 +1,5 @@
-use Rattle.flush_log.proofs.NextSlotLaws.{next_good}
-use Rattle.flush_log.proofs.SlotLaws.{slot-is}
+use Rattle.flush_log.proofs.NextSlotLemmas.{next_good}
+use Rattle.flush_log.proofs.SlotLemmas.{slot-is}
 use Rattle.flush_log.proofs.commit_laws.the_slot_of_a_commit_is_well_formed.Goals as goal
 
 pub returns : goal.returns

@@ -1,6 +1,6 @@
 use Rattle.std.proofs.Common.{arith}
-use Rattle.flush_log.proofs.FitLaws.{are_sized}
-use Rattle.flush_log.proofs.OutcomeLaws.{after-length, after-settings, after-slot, after-log, after-text, text-fits}
+use Rattle.flush_log.proofs.FitLemmas.{are_sized}
+use Rattle.flush_log.proofs.OutcomeLemmas.{after-length, after-settings, after-slot, after-log, after-text, text-fits}
 use Rattle.flush_log.proofs.commit_laws.what_was_committed_is_read.Goals as goal
 
 pub returns : goal.returns

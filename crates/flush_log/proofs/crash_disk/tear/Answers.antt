@@ -1,7 +1,7 @@
 use Rattle.std.proofs.Common.{arith}
 use Rattle.std.proofs.lemmas.List.{length-map}
 use Rattle.flush_log.specs.Record.{call_of, calls_of}
-use Rattle.flush_log.proofs.CrashLaws.{front_call, tearing-starts, tearing-here, tearing-next, tearing-ends}
+use Rattle.flush_log.proofs.CrashLemmas.{front_call, tearing-starts, tearing-here, tearing-next, tearing-ends}
 use Rattle.flush_log.proofs.crash_disk.tear.Goals as goal
 
 pub loop-call-init : goal.loop-call-init

@@ -1,5 +1,5 @@
 use Rattle.flush_log.specs.Record.{calls_of}
-use Rattle.flush_log.proofs.CrashLaws.{IsTearing}
+use Rattle.flush_log.proofs.CrashLemmas.{IsTearing}
 use Rattle.flush_log.proofs.crash_disk.tear.Given as goal
 
 abbrev pub invariant-loop-call : goal.invariant-loop-call

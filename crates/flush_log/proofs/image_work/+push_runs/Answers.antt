@@ -1,6 +1,6 @@
 use Rattle.std.proofs.Common.{rules, ◌≡◌, ◌<◌, ◌≤◌, ◌∷◌, length, ap, arith}
 use Rattle.frame_codec.specs.Sized.{IsSized}
-use Rattle.flush_log.proofs.WrittenLaws.{all_older, on_ok-newest}
+use Rattle.flush_log.proofs.WrittenLemmas.{all_older, on_ok-newest}
 use Rattle.flush_log.proofs.image_work.+push_runs.Goals as goal
 
 pub push_runs-requires : goal.push_runs-requires

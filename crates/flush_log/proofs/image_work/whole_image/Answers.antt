@@ -1,5 +1,5 @@
 use Rattle.std.proofs.Common.{map, reverse, ap}
-use Rattle.flush_log.proofs.WrittenLaws.{written-first}
+use Rattle.flush_log.proofs.WrittenLemmas.{written-first}
 use Rattle.flush_log.proofs.image_work.whole_image.Goals as goal
 
 pub returns : goal.returns

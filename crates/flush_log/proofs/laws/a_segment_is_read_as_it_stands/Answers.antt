@@ -1,7 +1,7 @@
 use Rattle.std.proofs.Common.{refl}
 use Rattle.flush_log.specs.Reading.{is_at_tail, is_padding}
-use Rattle.flush_log.proofs.SegmentLaws.{padding-ends, tail-ends, zeros-pad}
-use Rattle.flush_log.proofs.StandingLaws.{earlier-stands, last-stands, frames-read, segment-headless, segment-broken}
+use Rattle.flush_log.proofs.SegmentLemmas.{padding-ends, tail-ends, zeros-pad}
+use Rattle.flush_log.proofs.StandingLemmas.{earlier-stands, last-stands, frames-read, segment-headless, segment-broken}
 use Rattle.flush_log.proofs.laws.a_segment_is_read_as_it_stands.Goals as goal
 
 pub returns : goal.returns

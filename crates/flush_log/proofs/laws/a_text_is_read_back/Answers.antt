@@ -1,4 +1,4 @@
-use Rattle.flush_log.proofs.ReadBackLaws.{text-back}
+use Rattle.flush_log.proofs.ReadBackLemmas.{text-back}
 use Rattle.flush_log.proofs.laws.a_text_is_read_back.Goals as goal
 
 pub returns : goal.returns

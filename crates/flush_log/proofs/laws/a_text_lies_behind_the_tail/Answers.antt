@@ -1,4 +1,4 @@
-use Rattle.flush_log.proofs.HideLaws.{text-beside, text-apart, text-inside}
+use Rattle.flush_log.proofs.HideLemmas.{text-beside, text-apart, text-inside}
 use Rattle.flush_log.proofs.laws.a_text_lies_behind_the_tail.Goals as goal
 
 pub returns : goal.returns

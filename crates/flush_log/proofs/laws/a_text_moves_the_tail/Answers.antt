@@ -1,4 +1,4 @@
-use Rattle.flush_log.proofs.TailLaws.{tail-rises, tail-bounded, tail-in-room, room-for-clean, room-for-flush, too-long, full-for-flush}
+use Rattle.flush_log.proofs.TailLemmas.{tail-rises, tail-bounded, tail-in-room, room-for-clean, room-for-flush, too-long, full-for-flush}
 use Rattle.flush_log.proofs.laws.a_text_moves_the_tail.Goals as goal
 
 pub returns : goal.returns

@@ -1,4 +1,4 @@
-use Rattle.flush_log.proofs.StandsLaws.{text-stands}
+use Rattle.flush_log.proofs.StandsLemmas.{text-stands}
 use Rattle.flush_log.proofs.laws.each_frame_stands_at_its_place.Goals as goal
 
 pub returns : goal.returns

@@ -1,6 +1,6 @@
 use Rattle.std.proofs.Common.{arith}
-use Rattle.flush_log.proofs.FitLaws.{are_sized}
-use Rattle.flush_log.proofs.StandingLaws.{first-fault}
+use Rattle.flush_log.proofs.FitLemmas.{are_sized}
+use Rattle.flush_log.proofs.StandingLemmas.{first-fault}
 use Rattle.flush_log.proofs.laws.the_first_fault_is_answered.Goals as goal
 
 pub returns : goal.returns

@@ -1,6 +1,6 @@
 use Rattle.std.proofs.Common.{arith}
-use Rattle.flush_log.proofs.FitLaws.{are_sized}
-use Rattle.flush_log.proofs.HeadLaws.{head-filtered, found-in, text-in}
+use Rattle.flush_log.proofs.FitLemmas.{are_sized}
+use Rattle.flush_log.proofs.HeadLemmas.{head-filtered, found-in, text-in}
 use Rattle.flush_log.proofs.laws.the_head_segment_is_taken_off.Goals as goal
 
 pub returns : goal.returns

@@ -1,6 +1,6 @@
 use Rattle.std.proofs.Common.{arith}
-use Rattle.flush_log.proofs.FitLaws.{are_sized}
-use Rattle.flush_log.proofs.HideLaws.{hidden, in-segments}
+use Rattle.flush_log.proofs.FitLemmas.{are_sized}
+use Rattle.flush_log.proofs.HideLemmas.{hidden, in-segments}
 use Rattle.flush_log.proofs.laws.what_is_behind_the_tail_is_hidden.Goals as goal
 
 pub returns : goal.returns

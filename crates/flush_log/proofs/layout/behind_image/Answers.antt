@@ -1,7 +1,7 @@
 use Rattle.std.proofs.Common.{◌<◌, ◌≤◌, ◌+◌, ◌∷◌, [], drop, subst, ap, arith}
 use Rattle.flush_log.specs.Images.{Reached}
 use Rattle.flush_log.specs.Slot.{greatest}
-use Rattle.flush_log.proofs.ReachLaws.{Walk, walk-on, walk-spent, front}
+use Rattle.flush_log.proofs.ReachLemmas.{Walk, walk-on, walk-spent, front}
 use Rattle.flush_log.proofs.layout.behind_image.Goals as goal
 
 pub returns-then-reached-gt-GREATEST : goal.returns-then-reached-gt-GREATEST

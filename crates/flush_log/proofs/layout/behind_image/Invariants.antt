@@ -1,5 +1,5 @@
 use Rattle.std.proofs.Common.{drop}
-use Rattle.flush_log.proofs.ReachLaws.{Walk}
+use Rattle.flush_log.proofs.ReachLemmas.{Walk}
 use Rattle.flush_log.proofs.layout.behind_image.Given as goal
 
 -- the frames before this place are walked over, and those from it on are the rest

@@ -1,6 +1,6 @@
 use Rattle.std.proofs.Common.{true, false, sym, ◌∙◌}
 use Rattle.flush_log.specs.Layout.{is_full_for_flush}
-use Rattle.flush_log.proofs.AdmitLaws.{admits_none, admits, full_told}
+use Rattle.flush_log.proofs.AdmitLemmas.{admits_none, admits, full_told}
 use Rattle.flush_log.proofs.layout.tail_of_flush.Goals as goal
 
 pub returns-in-None : goal.returns-in-None

@@ -3,7 +3,7 @@ use Rattle.std.proofs.lemmas.List.{at_drop_all}
 use Rattle.keys.specs.Bytes.{Bytes}
 use Rattle.flush_log.specs.Images.{Reached, frames_in, from_tail, behind_frames}
 use Rattle.flush_log.specs.Layout.{tail_after}
-use Rattle.flush_log.proofs.ReachLaws.{Walk, walk-on, walk-spent, walk-end, fits-before, told_none, told_some, text_tail, text_spent, text_ends, some_tail, front_item}
+use Rattle.flush_log.proofs.ReachLemmas.{Walk, walk-on, walk-spent, walk-end, fits-before, told_none, told_some, text_tail, text_spent, text_ends, some_tail, front_item}
 use Rattle.flush_log.proofs.layout.text_end.Goals as goal
 
 pub behind_image-requires-clause-fits : goal.behind_image-requires-clause-fits

@@ -1,6 +1,6 @@
 use Rattle.std.proofs.Common.{drop}
 use Rattle.flush_log.specs.Images.{frames_in, from_tail}
-use Rattle.flush_log.proofs.ReachLaws.{Walk}
+use Rattle.flush_log.proofs.ReachLemmas.{Walk}
 use Rattle.flush_log.proofs.layout.text_end.Given as goal
 
 -- the images before this one are walked over, and those from it on are the rest

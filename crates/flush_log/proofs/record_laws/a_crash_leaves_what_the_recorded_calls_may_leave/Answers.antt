@@ -1,5 +1,5 @@
 use Rattle.std.proofs.Common.{inr}
-use Rattle.flush_log.proofs.CalledLaws.{now_may, left_during, during_left}
+use Rattle.flush_log.proofs.CalledLemmas.{now_may, left_during, during_left}
 use Rattle.flush_log.proofs.record_laws.a_crash_leaves_what_the_recorded_calls_may_leave.Goals as goal
 
 pub returns : goal.returns

@@ -1,4 +1,4 @@
-use Rattle.flush_log.proofs.SettingsLaws.{store_settings-are, store_settings-of}
+use Rattle.flush_log.proofs.SettingsLemmas.{store_settings-are, store_settings-of}
 use Rattle.flush_log.proofs.slot_laws.a_disk_has_the_settings_of_its_block.Goals as goal
 
 pub returns : goal.returns

@@ -1,6 +1,6 @@
 use Rattle.std.proofs.Common.{arith}
-use Rattle.flush_log.proofs.FitLaws.{are_sized}
-use Rattle.flush_log.proofs.SlotLaws.{one_slot}
+use Rattle.flush_log.proofs.FitLemmas.{are_sized}
+use Rattle.flush_log.proofs.SlotLemmas.{one_slot}
 use Rattle.flush_log.proofs.slot_laws.a_slot_has_one_spelling.Goals as goal
 
 pub returns : goal.returns

@@ -1,6 +1,6 @@
 use Rattle.std.proofs.Common.{refl, arith}
-use Rattle.flush_log.proofs.FitLaws.{are_sized}
-use Rattle.flush_log.proofs.SlotLaws.{slot-back, slot-stands, closed, shut}
+use Rattle.flush_log.proofs.FitLemmas.{are_sized}
+use Rattle.flush_log.proofs.SlotLemmas.{slot-back, slot-stands, closed, shut}
 use Rattle.flush_log.proofs.slot_laws.a_slot_is_read_back.Goals as goal
 
 pub returns : goal.returns

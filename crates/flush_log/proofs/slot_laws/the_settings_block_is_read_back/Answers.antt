@@ -1,5 +1,5 @@
 use Rattle.std.proofs.Common.{refl}
-use Rattle.flush_log.proofs.SettingsLaws.{settings-back, settings-stand}
+use Rattle.flush_log.proofs.SettingsLemmas.{settings-back, settings-stand}
 use Rattle.flush_log.proofs.slot_laws.the_settings_block_is_read_back.Goals as goal
 
 pub returns : goal.returns

@@ -1,7 +1,7 @@
 use Rattle.std.proofs.Common.{◌≡◌, ℕ, ◌+◌, ◌/◌, ◌%◌, ◌++◌, length, slice_range, ap, subst, ◌∙◌, arith}
 use Rattle.keys.specs.Bytes.{Bytes}
 use Rattle.flush_log.specs.Layout.{opened}
-use Rattle.flush_log.proofs.GatherLaws.{begun_is}
+use Rattle.flush_log.proofs.GatherLemmas.{begun_is}
 use Rattle.flush_log.proofs.write.begin_part.Goals as goal
 
 pub returns-clause-same : goal.returns-clause-same

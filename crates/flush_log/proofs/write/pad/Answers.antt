@@ -1,6 +1,6 @@
 use Rattle.std.proofs.Common.{ℕ, ◌-◌, length, drop, replicate, sym, ap, ◌∙◌, arith}
 use Rattle.std.proofs.lemmas.List.{length-take-le, length-drop}
-use Rattle.flush_log.proofs.GatherLaws.{put_zeros}
+use Rattle.flush_log.proofs.GatherLemmas.{put_zeros}
 use Rattle.flush_log.proofs.write.pad.Goals as goal
 
 pub returns : goal.returns

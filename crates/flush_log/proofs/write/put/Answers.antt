@@ -1,6 +1,6 @@
 use Rattle.std.proofs.Common.{◌++◌, ◌-◌, ◌+◌, length, slice_range, ap, ◌∙◌, arith}
 use Rattle.keys.specs.Bytes.{Bytes}
-use Rattle.flush_log.proofs.GatherLaws.{put_behind}
+use Rattle.flush_log.proofs.GatherLemmas.{put_behind}
 use Rattle.flush_log.proofs.write.put.Goals as goal
 
 pub returns : goal.returns

@@ -4,7 +4,7 @@ use Rattle.flush_log.specs.Disk.{Leaves}
 use Rattle.flush_log.specs.Overlay.{AgreeAt}
 use Rattle.flush_log.specs.Commit.{IsBesideSpans}
 use Rattle.flush_log.specs.Layout.{Span, with_spans}
-use Rattle.flush_log.proofs.GatherLaws.{left-whole, open-whole}
+use Rattle.flush_log.proofs.GatherLemmas.{left-whole, open-whole}
 use Rattle.flush_log.proofs.write.put_frame.Goals as goal
 
 pub returns-in_err-write_part-clause-crash : goal.returns-in_err-write_part-clause-crash

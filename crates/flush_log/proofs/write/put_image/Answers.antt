@@ -1,6 +1,6 @@
 use Rattle.std.proofs.Common.{◌∷◌, [], ◌+◌, drop, subst, ◌∙◌, arith}
 use Rattle.flush_log.specs.Gathering.{span_of}
-use Rattle.flush_log.proofs.ReachLaws.{front}
+use Rattle.flush_log.proofs.ReachLemmas.{front}
 use Rattle.flush_log.proofs.GatherRuns.{Going, going-room, going-leaves, going-on}
 use Rattle.flush_log.proofs.write.put_image.Goals as goal
 

@@ -7,10 +7,10 @@ use Rattle.flush_log.specs.Gathering.{span_of}
 use Rattle.flush_log.specs.Images.{frames_in, FitSegments}
 use Rattle.flush_log.specs.Layout.{Span, opened, with_spans}
 use Rattle.flush_log.specs.Overlay.{AgreeAt}
-use Rattle.flush_log.proofs.FitLaws.{are_sized}
-use Rattle.flush_log.proofs.GatherLaws.{text-spans, open-upto}
+use Rattle.flush_log.proofs.FitLemmas.{are_sized}
+use Rattle.flush_log.proofs.GatherLemmas.{text-spans, open-upto}
 use Rattle.flush_log.proofs.GatherRuns.{Going, going-starts, going-room, going-leaves, going-on, leaves-all, on_ok, alive, ends-written, ends-leaves}
-use Rattle.flush_log.proofs.ReachLaws.{front_item, fits-before}
+use Rattle.flush_log.proofs.ReachLemmas.{front_item, fits-before}
 use Rattle.flush_log.proofs.write.write_text.Goals as goal
 
 pub loop-image-init : goal.loop-image-init

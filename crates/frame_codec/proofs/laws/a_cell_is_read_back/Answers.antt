@@ -1,5 +1,5 @@
 use Rattle.keys.specs.Cells.{value_cell, pid_cell}
-use Rattle.keys.proofs.CellLaws.{counted-back, counted-spelled, pid-back, pid-spelled, one_spelling}
+use Rattle.keys.proofs.CellLemmas.{counted-back, counted-spelled, pid-back, pid-spelled, one_spelling}
 use Rattle.frame_codec.proofs.laws.a_cell_is_read_back.Goals as goal
 
 pub returns : goal.returns

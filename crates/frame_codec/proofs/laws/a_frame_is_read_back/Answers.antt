@@ -1,4 +1,4 @@
-use Rattle.frame_codec.proofs.FrameLaws.{in_limits, frame-back}
+use Rattle.frame_codec.proofs.FrameLemmas.{in_limits, frame-back}
 use Rattle.frame_codec.proofs.laws.a_frame_is_read_back.Goals as goal
 
 pub returns : goal.returns

@@ -1,5 +1,5 @@
-use Rattle.frame_codec.proofs.EachLaws.{read-none, read-next, read-ends, read-done}
-use Rattle.frame_codec.proofs.SkimLaws.{whole-few, whole-rises}
+use Rattle.frame_codec.proofs.EachLemmas.{read-none, read-next, read-ends, read-done}
+use Rattle.frame_codec.proofs.SkimLemmas.{whole-few, whole-rises}
 use Rattle.frame_codec.proofs.read.read_base.Goals as goal
 
 pub loop-at-init : goal.loop-at-init

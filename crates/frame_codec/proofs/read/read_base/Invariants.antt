@@ -1,4 +1,4 @@
-use Rattle.frame_codec.proofs.EachLaws.{IsReadUpTo}
+use Rattle.frame_codec.proofs.EachLemmas.{IsReadUpTo}
 use Rattle.frame_codec.proofs.read.read_base.Given as goal
 
 -- the builder has the entries before this place

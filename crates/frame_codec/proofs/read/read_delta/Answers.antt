@@ -1,4 +1,4 @@
-use Rattle.frame_codec.proofs.EachLaws.{read-run}
+use Rattle.frame_codec.proofs.EachLemmas.{read-run}
 use Rattle.frame_codec.proofs.read.read_delta.Goals as goal
 
 pub returns : goal.returns

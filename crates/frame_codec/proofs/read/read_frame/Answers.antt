@@ -1,7 +1,7 @@
 use Rattle.std.proofs.Common.{arith}
 use Rattle.frame_codec.specs.Shown.{frame_of}
-use Rattle.frame_codec.proofs.FoundLaws.{IsReadOf, bytes-fit, content-found, length-wrong, frame-answered}
-use Rattle.frame_codec.proofs.SkimLaws.{body-within}
+use Rattle.frame_codec.proofs.FoundLemmas.{IsReadOf, bytes-fit, content-found, length-wrong, frame-answered}
+use Rattle.frame_codec.proofs.SkimLemmas.{body-within}
 use Rattle.frame_codec.proofs.read.read_frame.Goals as goal
 
 pub frame_size-requires-clause-behind : goal.frame_size-requires-clause-behind

@@ -2,7 +2,7 @@ use Rattle.std.proofs.Common.{rules, ◌≡◌, false}
 use Rattle.index_page.specs.Rules.{of_cell}
 use Rattle.frame_codec.specs.Codecs.{flagged}
 use Rattle.delta_chain.specs.Building.{goes_last}
-use Rattle.frame_codec.proofs.EachLaws.{read-none, read-next, read-ends, read-falls, read-done, read-many}
+use Rattle.frame_codec.proofs.EachLemmas.{read-none, read-next, read-ends, read-falls, read-done, read-many}
 use Rattle.frame_codec.proofs.read.read_run.Goals as goal
 
 pub returns-then-count-settings : goal.returns-then-count-settings

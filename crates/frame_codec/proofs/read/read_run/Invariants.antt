@@ -1,6 +1,6 @@
 use Rattle.index_page.specs.Rules.{of_cell}
 use Rattle.frame_codec.specs.Codecs.{flagged}
-use Rattle.frame_codec.proofs.EachLaws.{IsReadUpTo}
+use Rattle.frame_codec.proofs.EachLemmas.{IsReadUpTo}
 use Rattle.frame_codec.proofs.read.read_run.Given as goal
 
 -- the run has the changes before this place

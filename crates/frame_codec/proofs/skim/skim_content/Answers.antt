@@ -3,7 +3,7 @@ use Rattle.keys.specs.Bytes.{Bytes, Pairs, Changes, Names}
 use Rattle.keys.specs.Cells.{value_cell, pid_cell}
 use Rattle.frame_codec.specs.Frame.{full, delta, is_content}
 use Rattle.frame_codec.specs.Frame.Content.{FullLeaf, DeltaLeaf, FullIndex, DeltaIndex}
-use Rattle.frame_codec.proofs.SkimLaws.{made-passed}
+use Rattle.frame_codec.proofs.SkimLemmas.{made-passed}
 use Rattle.frame_codec.proofs.skim.skim_content.Goals as goal
 
 pub returns-in_ok-rest-in-1 : goal.returns-in_ok-rest-in-1

@@ -1,7 +1,7 @@
 use Rattle.std.proofs.Common.{sym, ◌∙◌}
 use Rattle.std.specs.Option.{option_copied}
-use Rattle.frame_codec.proofs.EachLaws.{read-ends, read-many}
-use Rattle.frame_codec.proofs.SkimLaws.{passed-none, passed-next, passed-falls, passed-done}
+use Rattle.frame_codec.proofs.EachLemmas.{read-ends, read-many}
+use Rattle.frame_codec.proofs.SkimLemmas.{passed-none, passed-next, passed-falls, passed-done}
 use Rattle.frame_codec.proofs.skim.skim_entries.Goals as goal
 
 pub returns-then-count-settings : goal.returns-then-count-settings

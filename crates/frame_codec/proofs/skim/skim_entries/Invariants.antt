@@ -1,5 +1,5 @@
 use Rattle.std.specs.Option.{option_copied}
-use Rattle.frame_codec.proofs.SkimLaws.{IsPassedUpTo}
+use Rattle.frame_codec.proofs.SkimLemmas.{IsPassedUpTo}
 use Rattle.frame_codec.proofs.skim.skim_entries.Given as goal
 
 -- the entries before this place were passed over, up to this key

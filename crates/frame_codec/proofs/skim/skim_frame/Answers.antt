@@ -1,8 +1,8 @@
 use Rattle.std.proofs.Common.{◌≡◌, arith, refl}
 use Rattle.frame_codec.specs.Frame.{Content}
 use Rattle.frame_codec.specs.Skimmed.{kind_of}
-use Rattle.frame_codec.proofs.FoundLaws.{IsReadOf, bytes-fit, length-wrong}
-use Rattle.frame_codec.proofs.SkimLaws.{body-within, with_content, skim-none, skim-found, skim-told, frame-taken}
+use Rattle.frame_codec.proofs.FoundLemmas.{IsReadOf, bytes-fit, length-wrong}
+use Rattle.frame_codec.proofs.SkimLemmas.{body-within, with_content, skim-none, skim-found, skim-told, frame-taken}
 use Rattle.frame_codec.proofs.skim.skim_frame.Goals as goal
 
 pub returns-in_err-kind-clause-found : goal.returns-in_err-kind-clause-found

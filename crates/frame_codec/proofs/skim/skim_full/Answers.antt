@@ -1,4 +1,4 @@
-use Rattle.frame_codec.proofs.SkimLaws.{full-none, full-passed}
+use Rattle.frame_codec.proofs.SkimLemmas.{full-none, full-passed}
 use Rattle.frame_codec.proofs.skim.skim_full.Goals as goal
 
 pub returns-in_err-_key_bytes : goal.returns-in_err-_key_bytes

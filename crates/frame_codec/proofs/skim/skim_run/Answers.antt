@@ -1,5 +1,5 @@
 use Rattle.std.proofs.Common.{◌∙◌}
-use Rattle.frame_codec.proofs.EachLaws.{read-run}
+use Rattle.frame_codec.proofs.EachLemmas.{read-run}
 use Rattle.frame_codec.proofs.skim.skim_run.Goals as goal
 
 pub returns-in_err-_key_bytes : goal.returns-in_err-_key_bytes

@@ -1,6 +1,6 @@
 use Rattle.keys.specs.Cells.{counted}
 use Rattle.frame_codec.specs.Frame.{is_key}
-use Rattle.frame_codec.proofs.EachLaws.{both-passed}
+use Rattle.frame_codec.proofs.EachLemmas.{both-passed}
 use Rattle.frame_codec.proofs.skim.skip_entry.Goals as goal
 
 pub returns : goal.returns

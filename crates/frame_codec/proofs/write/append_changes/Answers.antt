@@ -2,8 +2,8 @@ use Rattle.std.proofs.Common.{◌≤◌, length, refl, arith}
 use Rattle.std.specs.Option.{option_copied}
 use Rattle.index_page.specs.Rules.{of_cell}
 use Rattle.frame_codec.specs.Codecs.{flagged}
-use Rattle.keys.proofs.CellLaws.{length-counted}
-use Rattle.frame_codec.proofs.WriteLaws.{spellable-at, tested-next, tested-done, upto-none, upto-room, upto-next, upto-done}
+use Rattle.keys.proofs.CellLemmas.{length-counted}
+use Rattle.frame_codec.proofs.WriteLemmas.{spellable-at, tested-next, tested-done, upto-none, upto-room, upto-next, upto-done}
 use Rattle.frame_codec.proofs.write.append_changes.Goals as goal
 
 pub loop-at-init : goal.loop-at-init

@@ -2,7 +2,7 @@ use Rattle.std.proofs.Common.{◌≡◌, drop}
 use Rattle.std.specs.List.{list_all}
 use Rattle.index_page.specs.Rules.{of_cell}
 use Rattle.frame_codec.specs.Codecs.{flagged}
-use Rattle.frame_codec.proofs.WriteLaws.{IsUpTo}
+use Rattle.frame_codec.proofs.WriteLemmas.{IsUpTo}
 use Rattle.frame_codec.proofs.write.append_changes.Given as goal
 
 -- what stands before this place was appended, and each cell there is one of its type

@@ -1,6 +1,6 @@
 use Rattle.std.proofs.Common.{◌≤◌, length, refl, arith}
-use Rattle.keys.proofs.CellLaws.{length-counted}
-use Rattle.frame_codec.proofs.WriteLaws.{spellable-at, tested-next, tested-done, upto-none, upto-room, upto-next, upto-done}
+use Rattle.keys.proofs.CellLemmas.{length-counted}
+use Rattle.frame_codec.proofs.WriteLemmas.{spellable-at, tested-next, tested-done, upto-none, upto-room, upto-next, upto-done}
 use Rattle.frame_codec.proofs.write.append_entries.Goals as goal
 
 pub loop-at-init : goal.loop-at-init

@@ -1,6 +1,6 @@
 use Rattle.std.proofs.Common.{◌≡◌, drop}
 use Rattle.std.specs.List.{list_all}
-use Rattle.frame_codec.proofs.WriteLaws.{IsUpTo}
+use Rattle.frame_codec.proofs.WriteLemmas.{IsUpTo}
 use Rattle.frame_codec.proofs.write.append_entries.Given as goal
 
 -- what stands before this place was appended, and each cell there is one of its type

@@ -2,7 +2,7 @@ use Rattle.std.proofs.Common.{◌≡◌, length, flat_map, ap, arith}
 use Rattle.std.proofs.lemmas.List.{drop_all}
 use Rattle.keys.specs.Cells.{counted}
 use Rattle.frame_codec.specs.Codecs.{both}
-use Rattle.frame_codec.proofs.WriteLaws.{spelled_from, spellable-at, length-behind}
+use Rattle.frame_codec.proofs.WriteLemmas.{spelled_from, spellable-at, length-behind}
 use Rattle.frame_codec.proofs.write.base_len.Goals as goal
 
 pub spelled_len-requires : goal.spelled_len-requires

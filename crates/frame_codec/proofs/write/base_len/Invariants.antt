@@ -1,5 +1,5 @@
 use Rattle.std.proofs.Common.{◌≡◌, ◌+◌, length}
-use Rattle.frame_codec.proofs.WriteLaws.{spelled_from}
+use Rattle.frame_codec.proofs.WriteLemmas.{spelled_from}
 use Rattle.frame_codec.proofs.write.base_len.Given as goal
 
 -- what the entries from this place on take comes on top

@@ -4,7 +4,7 @@ use Rattle.std.specs.Option.{option_copied}
 use Rattle.frame_codec.specs.Codecs.{flagged}
 use Rattle.keys.specs.Cells.{counted}
 use Rattle.frame_codec.specs.Codecs.{both}
-use Rattle.frame_codec.proofs.WriteLaws.{spelled_from, spellable-at, length-behind}
+use Rattle.frame_codec.proofs.WriteLemmas.{spelled_from, spellable-at, length-behind}
 use Rattle.frame_codec.proofs.write.run_len.Goals as goal
 
 pub flagged_len-requires : goal.flagged_len-requires

@@ -1,6 +1,6 @@
 use Rattle.std.proofs.Common.{◌≡◌, ◌+◌, length}
 use Rattle.frame_codec.specs.Codecs.{flagged}
-use Rattle.frame_codec.proofs.WriteLaws.{spelled_from}
+use Rattle.frame_codec.proofs.WriteLemmas.{spelled_from}
 use Rattle.frame_codec.proofs.write.run_len.Given as goal
 
 -- what the changes from this place on take comes on top

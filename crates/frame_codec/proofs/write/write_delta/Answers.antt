@@ -1,5 +1,5 @@
 use Rattle.std.proofs.Common.{◌+◌, ap}
-use Rattle.frame_codec.proofs.WriteLaws.{delta-framed}
+use Rattle.frame_codec.proofs.WriteLemmas.{delta-framed}
 use Rattle.frame_codec.proofs.write.write_delta.Goals as goal
 
 pub returns-clause-ok : goal.returns-clause-ok

@@ -1,7 +1,7 @@
 use Rattle.std.proofs.Common.{arith}
 use Rattle.std.proofs.lemmas.Result.{on_ok_weaker}
 use Rattle.keys.specs.Cells.{pid_cell}
-use Rattle.frame_codec.proofs.SizedLaws.{index_run-short, delta-few, index_run-words}
+use Rattle.frame_codec.proofs.SizedLemmas.{index_run-short, delta-few, index_run-words}
 use Rattle.frame_codec.proofs.write.write_delta_index.Goals as goal
 
 pub write_delta-requires : goal.write_delta-requires

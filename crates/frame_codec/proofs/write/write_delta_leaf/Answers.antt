@@ -1,7 +1,7 @@
 use Rattle.std.proofs.Common.{arith}
 use Rattle.std.proofs.lemmas.Result.{on_ok_weaker}
 use Rattle.keys.specs.Cells.{value_cell}
-use Rattle.frame_codec.proofs.SizedLaws.{leaf_run-short, delta-few, leaf_run-words}
+use Rattle.frame_codec.proofs.SizedLemmas.{leaf_run-short, delta-few, leaf_run-words}
 use Rattle.frame_codec.proofs.write.write_delta_leaf.Goals as goal
 
 pub write_delta-requires : goal.write_delta-requires

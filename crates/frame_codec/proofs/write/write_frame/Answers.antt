@@ -1,5 +1,5 @@
 use Rattle.frame_codec.specs.Shown.{frame_of}
-use Rattle.frame_codec.proofs.SizedLaws.{sized-frame}
+use Rattle.frame_codec.proofs.SizedLemmas.{sized-frame}
 use Rattle.frame_codec.proofs.write.write_frame.Goals as goal
 
 pub write_full_index-requires : goal.write_full_index-requires

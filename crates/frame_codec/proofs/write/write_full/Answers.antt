@@ -1,5 +1,5 @@
 use Rattle.std.proofs.Common.{◌+◌, length, ap}
-use Rattle.frame_codec.proofs.WriteLaws.{full-framed}
+use Rattle.frame_codec.proofs.WriteLemmas.{full-framed}
 use Rattle.frame_codec.proofs.write.write_full.Goals as goal
 
 pub returns-clause-ok : goal.returns-clause-ok

@@ -1,7 +1,7 @@
 use Rattle.std.proofs.Common.{arith}
 use Rattle.std.proofs.lemmas.Result.{on_ok_weaker}
 use Rattle.keys.specs.Cells.{pid_cell}
-use Rattle.frame_codec.proofs.SizedLaws.{index-short, full-few, index-words}
+use Rattle.frame_codec.proofs.SizedLemmas.{index-short, full-few, index-words}
 use Rattle.frame_codec.proofs.write.write_full_index.Goals as goal
 
 pub write_full-requires : goal.write_full-requires

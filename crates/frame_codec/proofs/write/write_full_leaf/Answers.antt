@@ -1,7 +1,7 @@
 use Rattle.std.proofs.Common.{arith}
 use Rattle.std.proofs.lemmas.Result.{on_ok_weaker}
 use Rattle.keys.specs.Cells.{value_cell}
-use Rattle.frame_codec.proofs.SizedLaws.{leaf-short, full-few, leaf-words}
+use Rattle.frame_codec.proofs.SizedLemmas.{leaf-short, full-few, leaf-words}
 use Rattle.frame_codec.proofs.write.write_full_leaf.Goals as goal
 
 pub write_full-requires : goal.write_full-requires

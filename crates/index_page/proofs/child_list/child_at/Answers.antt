@@ -1,4 +1,4 @@
-use Rattle.page_search.proofs.PlaceLaws.{pair_at}
+use Rattle.page_search.proofs.PlaceLemmas.{pair_at}
 use Rattle.index_page.proofs.child_list.child_at.Goals as goal
 
 pub returns : goal.returns

@@ -1,4 +1,4 @@
-use Rattle.index_page.proofs.RuleLaws.{decides-keeps_range, decides-fits_of_leaf, decides-fits_of_index, decides-is_headed}
+use Rattle.index_page.proofs.RuleLemmas.{decides-keeps_range, decides-fits_of_leaf, decides-fits_of_index, decides-is_headed}
 use Rattle.index_page.proofs.laws.a_page_passes_a_test_where_the_fact_holds.Goals as goal
 
 pub returns : goal.returns

@@ -1,4 +1,4 @@
-use Rattle.index_page.proofs.ChildLaws.{pids-children, lows-children, one_child, no_child}
+use Rattle.index_page.proofs.ChildLemmas.{pids-children, lows-children, one_child, no_child}
 use Rattle.index_page.proofs.laws.children_tile_the_range_of_their_page.Goals as goal
 
 pub returns : goal.returns

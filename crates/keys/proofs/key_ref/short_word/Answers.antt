@@ -1,4 +1,4 @@
-use Rattle.keys.proofs.WordLaws.{are_bytes}
+use Rattle.keys.proofs.WordLemmas.{are_bytes}
 use Rattle.keys.proofs.key_ref.short_word.Goals as goal
 
 pub returns-clause-bytes : goal.returns-clause-bytes

@@ -1,4 +1,4 @@
-use Rattle.keys.proofs.MapLaws.{same_map}
+use Rattle.keys.proofs.MapLemmas.{same_map}
 use Rattle.keys.proofs.laws.a_map_is_what_it_has.Goals as goal
 
 pub returns : goal.returns

@@ -1,4 +1,4 @@
-use Rattle.keys.proofs.NarrowedLaws.{same_rows, replies-with_ends, map_all-with_ends}
+use Rattle.keys.proofs.NarrowedLemmas.{same_rows, replies-with_ends, map_all-with_ends}
 use Rattle.keys.proofs.laws.a_scan_with_enough_rows_may_end.Goals as goal
 
 pub returns : goal.returns

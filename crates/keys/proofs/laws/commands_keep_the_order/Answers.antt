@@ -1,4 +1,4 @@
-use Rattle.keys.proofs.RunLaws.{rising-map_after, rising-map_after_all}
+use Rattle.keys.proofs.RunLemmas.{rising-map_after, rising-map_after_all}
 use Rattle.keys.proofs.laws.commands_keep_the_order.Goals as goal
 
 pub returns : goal.returns

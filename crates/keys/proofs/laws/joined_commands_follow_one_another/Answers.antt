@@ -1,4 +1,4 @@
-use Rattle.keys.proofs.RunLaws.{replies_to-append, map_after_all-append}
+use Rattle.keys.proofs.RunLemmas.{replies_to-append, map_after_all-append}
 use Rattle.keys.proofs.laws.joined_commands_follow_one_another.Goals as goal
 
 pub returns : goal.returns

@@ -1,5 +1,5 @@
 use Rattle.std.proofs.Common.{refl}
-use Rattle.keys.proofs.RangeLaws.{rising-rows, held_rows, row_or_behind, at_most_rows, no_rows}
+use Rattle.keys.proofs.RangeLemmas.{rising-rows, held_rows, row_or_behind, at_most_rows, no_rows}
 use Rattle.keys.proofs.laws.rows_are_the_first_pairs_of_a_range.Goals as goal
 
 pub returns : goal.returns

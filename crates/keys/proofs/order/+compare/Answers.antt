@@ -1,5 +1,5 @@
 use Rattle.std.proofs.Common.{◌∙◌, sym}
-use Rattle.keys.proofs.WordLaws.{same_words, words_apart}
+use Rattle.keys.proofs.WordLemmas.{same_words, words_apart}
 use Rattle.keys.proofs.order.+compare.Goals as goal
 
 pub returns-in-Equal : goal.returns-in-Equal

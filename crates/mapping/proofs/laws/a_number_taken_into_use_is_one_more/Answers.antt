@@ -1,4 +1,4 @@
-use Rattle.mapping.proofs.PidLaws.{rising-with_number, among-with_number}
+use Rattle.mapping.proofs.PidLemmas.{rising-with_number, among-with_number}
 use Rattle.mapping.proofs.laws.a_number_taken_into_use_is_one_more.Goals as goal
 
 pub returns : goal.returns

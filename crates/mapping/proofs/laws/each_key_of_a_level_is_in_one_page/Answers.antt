@@ -1,4 +1,4 @@
-use Rattle.mapping.proofs.TileLaws.{range-names, one_page, no_page, page_for, value_at-joined}
+use Rattle.mapping.proofs.TileLemmas.{range-names, one_page, no_page, page_for, value_at-joined}
 use Rattle.mapping.proofs.laws.each_key_of_a_level_is_in_one_page.Goals as goal
 
 pub returns : goal.returns

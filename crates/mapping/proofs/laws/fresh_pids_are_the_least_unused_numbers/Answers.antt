@@ -1,4 +1,4 @@
-use Rattle.mapping.proofs.PidLaws.{unused-is_free, unused-rises, unused-leaves_none, unused-drawn}
+use Rattle.mapping.proofs.PidLemmas.{unused-is_free, unused-rises, unused-leaves_none, unused-drawn}
 use Rattle.mapping.proofs.laws.fresh_pids_are_the_least_unused_numbers.Goals as goal
 
 pub returns : goal.returns

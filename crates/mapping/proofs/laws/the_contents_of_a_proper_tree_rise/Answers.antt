@@ -1,6 +1,6 @@
 use Rattle.std.specs.Prelude.{None}
 use Rattle.mapping.specs.Levels.{levels_of}
-use Rattle.mapping.proofs.TileLaws.{rising-joined}
+use Rattle.mapping.proofs.TileLemmas.{rising-joined}
 use Rattle.mapping.proofs.laws.the_contents_of_a_proper_tree_rise.Goals as goal
 
 pub returns : goal.returns

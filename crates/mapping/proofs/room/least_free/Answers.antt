@@ -2,7 +2,7 @@ use Rattle.std.proofs.Common.{sym, ◌∙◌, arith, vec_len}
 use Rattle.mapping.specs.Table.{pids_in_use}
 use Rattle.mapping.specs.Slots.{table_of}
 use Rattle.mapping.proofs.InUse.{among-lookup}
-use Rattle.mapping.proofs.FreshLaws.{rising-in_use, none_drawn, one_passed, one_drawn, all_drawn}
+use Rattle.mapping.proofs.FreshLemmas.{rising-in_use, none_drawn, one_passed, one_drawn, all_drawn}
 use Rattle.mapping.proofs.room.least_free.Goals as goal
 use Rattle.mapping.proofs.room.least_free.Goals.{then-not-is_used+in_ok-push, else-not-is_used}
 

@@ -1,7 +1,7 @@
 use Rattle.std.proofs.Common.{vec_len}
 use Rattle.mapping.specs.Table.{pids_in_use}
 use Rattle.mapping.specs.Slots.{table_of}
-use Rattle.mapping.proofs.FreshLaws.{AreDrawn}
+use Rattle.mapping.proofs.FreshLemmas.{AreDrawn}
 use Rattle.mapping.proofs.room.least_free.Given as goal
 
 abbrev pub invariant-loop-pid : goal.invariant-loop-pid

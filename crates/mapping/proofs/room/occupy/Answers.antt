@@ -1,5 +1,5 @@
 use Rattle.std.proofs.Common.{refl, rules}
-use Rattle.mapping.proofs.RoomLaws.{room_vacant, room_kept, room_new}
+use Rattle.mapping.proofs.RoomLemmas.{room_vacant, room_kept, room_new}
 use Rattle.mapping.proofs.TableSlots.{stands_within, goes_within}
 use Rattle.mapping.proofs.room.occupy.Goals as goal
 

@@ -2,7 +2,7 @@ use Rattle.std.proofs.Common.{sym, ap, ◌∙◌, arith, get_or, take}
 use Rattle.std.proofs.lemmas.List.{take_more}
 use Rattle.mapping.specs.Table.{with_room, with_rooms}
 use Rattle.mapping.specs.Slots.{table_of}
-use Rattle.mapping.proofs.FreshLaws.{with_rooms-push}
+use Rattle.mapping.proofs.FreshLemmas.{with_rooms-push}
 use Rattle.mapping.proofs.room.occupy_all.Goals as goal
 
 pub loop-pid-preserved : goal.loop-pid-preserved

@@ -1,4 +1,4 @@
-use Rattle.page_runs.proofs.AfterLaws.{entries_of-after_run, in_order-after_run}
+use Rattle.page_runs.proofs.AfterLemmas.{entries_of-after_run, in_order-after_run}
 use Rattle.page_runs.proofs.laws.a_page_after_a_run_has_the_run_applied.Goals as goal
 
 pub returns : goal.returns

@@ -1,4 +1,4 @@
-use Rattle.page_runs.proofs.ApartLaws.{replies_to-apart, replies_to-own, map_after_all-apart, net_run-apart, net_run-no_other, within_by_key, off_by_key}
+use Rattle.page_runs.proofs.ApartLemmas.{replies_to-apart, replies_to-own, map_after_all-apart, net_run-apart, net_run-no_other, within_by_key, off_by_key}
 use Rattle.page_runs.specs.Apart.{is_on_one}
 use Rattle.page_runs.proofs.laws.commands_on_some_keys_are_worked_apart.Goals as goal
 

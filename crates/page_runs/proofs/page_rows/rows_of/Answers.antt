@@ -3,7 +3,7 @@ use Rattle.std.proofs.lemmas.Map.Keys.{sorted_tail}
 use Rattle.std.specs.Map.{keys_of}
 use Rattle.keys.specs.Order.{order}
 use Rattle.keys.specs.Range.{is_before}
-use Rattle.delta_chain.proofs.LayerLaws.{rising-entries_of}
+use Rattle.delta_chain.proofs.LayerLemmas.{rising-entries_of}
 use Rattle.delta_chain.specs.Layers.{entries_of}
 use Rattle.page_runs.proofs.NamedRows.{rows-start, row-added, row-absent, rows-full, rows-past, rows-none}
 use Rattle.page_runs.proofs.page_rows.rows_of.Goals.{in-None, in-Some+then-len-limit, then-len-limit-via-then-len-limit, then-len-limit-via-else-len-limit+then-not-is_before_end}

@@ -1,7 +1,7 @@
 use Rattle.std.proofs.Common.{List, ℕ, is_some}
 use Rattle.keys.specs.OrderedMap.{value_at}
 use Rattle.delta_chain.specs.Layers.{with_run, entries_of}
-use Rattle.delta_chain.proofs.LayerLaws.{rising-with_run, rising-entries_of}
+use Rattle.delta_chain.proofs.LayerLemmas.{rising-with_run, rising-entries_of}
 use Rattle.page_runs.proofs.Overlays.{put_noted, add_noted, del_noted}
 use Rattle.page_runs.proofs.replay.execute.Goals as goal
 

@@ -5,9 +5,9 @@ use Rattle.keys.specs.Order.{IsRising}
 use Rattle.keys.specs.Step.{map_after}
 use Rattle.keys.specs.declared.command.Command.{Command}
 use Rattle.delta_chain.specs.Layers.{entries_of, with_run}
-use Rattle.delta_chain.proofs.LayerLaws.{rising-entries_of}
+use Rattle.delta_chain.proofs.LayerLemmas.{rising-entries_of}
 use Rattle.page_runs.proofs.Counts.{fewest_after}
-use Rattle.page_runs.proofs.NetLaws.{Pairs, Changes}
+use Rattle.page_runs.proofs.NetLemmas.{Pairs, Changes}
 use Rattle.page_runs.specs.NetRun.{net_run}
 use Rattle.page_runs.specs.Replies.{commands_at}
 use Rattle.page_runs.proofs.Replays.{place_within, read_place_within, commands_at-take, changes_step, map_step, pieces_step}

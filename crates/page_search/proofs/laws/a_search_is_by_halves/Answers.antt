@@ -1,5 +1,5 @@
 use Rattle.std.proofs.Common.{◌+◌, ◌/◌, arith}
-use Rattle.page_search.proofs.DigitLaws.{binary_digits-twice, power-digits-of_half, below-power-digits-of_half}
+use Rattle.page_search.proofs.DigitLemmas.{binary_digits-twice, power-digits-of_half, below-power-digits-of_half}
 use Rattle.page_search.proofs.laws.a_search_is_by_halves.Goals as goal
 
 pub returns : goal.returns

@@ -1,4 +1,4 @@
-use Rattle.page_search.proofs.DigitLaws.{below-power-binary_digits, power-binary_digits-to_twice, binary_digits-zero}
+use Rattle.page_search.proofs.DigitLemmas.{below-power-binary_digits, power-binary_digits-to_twice, binary_digits-zero}
 use Rattle.page_search.proofs.laws.binary_digits_are_enough_and_none_is_spare.Goals as goal
 
 pub returns : goal.returns

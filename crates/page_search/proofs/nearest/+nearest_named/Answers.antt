@@ -1,6 +1,6 @@
 use Rattle.std.proofs.Common.{arith}
 use Rattle.std.specs.Option.{option_copied}
-use Rattle.page_search.proofs.NearestLaws.{base-none, base-at, run-none, run-alone, run-under, run-here}
+use Rattle.page_search.proofs.NearestLemmas.{base-none, base-at, run-none, run-alone, run-under, run-here}
 use Rattle.page_search.proofs.WalkLemmas.{least_of_base, least_with_run, most_of_base, most_with_run}
 use Rattle.page_search.proofs.nearest.+nearest_named.Goals.{in_default-under-via-in-Some-under+else-is_nearer, in_default-under-via-in_default-under}
 use Rattle.page_search.proofs.nearest.+nearest_named.Goals as goal

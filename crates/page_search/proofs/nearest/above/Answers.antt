@@ -1,8 +1,8 @@
 use Rattle.delta_chain.specs.Layers.{entries_of}
-use Rattle.delta_chain.proofs.LayerLaws.{rising-entries_of}
+use Rattle.delta_chain.proofs.LayerLemmas.{rising-entries_of}
 use Rattle.page_search.specs.declared.side.Side.TheVariants.{Above}
-use Rattle.page_search.proofs.AboveLaws.{above-nearest}
-use Rattle.page_search.proofs.NearestLaws.{nearest-entries}
+use Rattle.page_search.proofs.AboveLemmas.{above-nearest}
+use Rattle.page_search.proofs.NearestLemmas.{nearest-entries}
 use Rattle.page_search.proofs.WalkLemmas.{above_by}
 use Rattle.page_search.proofs.nearest.above.Goals as goal
 

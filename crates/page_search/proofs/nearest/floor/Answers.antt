@@ -1,8 +1,8 @@
 use Rattle.delta_chain.specs.Layers.{entries_of}
-use Rattle.delta_chain.proofs.LayerLaws.{rising-entries_of}
+use Rattle.delta_chain.proofs.LayerLemmas.{rising-entries_of}
 use Rattle.page_search.specs.declared.side.Side.TheVariants.{UpTo}
-use Rattle.page_search.proofs.FloorLaws.{floor-nearest}
-use Rattle.page_search.proofs.NearestLaws.{nearest-entries}
+use Rattle.page_search.proofs.FloorLemmas.{floor-nearest}
+use Rattle.page_search.proofs.NearestLemmas.{nearest-entries}
 use Rattle.page_search.proofs.WalkLemmas.{floor_by, most_at_key}
 use Rattle.page_search.proofs.nearest.floor.Goals as goal
 

@@ -1,5 +1,5 @@
 use Rattle.std.proofs.Common.{◌≡◌, None, Some, arith}
-use Rattle.page_search.proofs.NearestLaws.{none-held, nearest-held, nearest-past, fewer_named}
+use Rattle.page_search.proofs.NearestLemmas.{none-held, nearest-held, nearest-past, fewer_named}
 use Rattle.page_search.proofs.WalkLemmas.{most_past, most_end, nearest-once}
 use Rattle.page_search.proofs.nearest.nearest.Goals as goal
 

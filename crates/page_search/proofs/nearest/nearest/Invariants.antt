@@ -3,7 +3,7 @@ use Rattle.delta_chain.specs.Layers.{holds}
 use Rattle.delta_chain.specs.Merging.{said_by}
 use Rattle.page_search.specs.Costs.{walk_most, walk_least}
 use Rattle.page_search.specs.Nearest.{named_by, IsNearest, count_passed}
-use Rattle.page_search.proofs.NearestLaws.{count_named}
+use Rattle.page_search.proofs.NearestLemmas.{count_named}
 use Rattle.page_search.proofs.nearest.nearest.Given as goal
 
 -- The entry that is nearest to the bound on the side that is left is the one that is looked for. The way to it from the bound may

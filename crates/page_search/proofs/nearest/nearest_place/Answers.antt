@@ -1,5 +1,5 @@
 use Rattle.std.proofs.Common.{arith}
-use Rattle.page_search.proofs.NearestLaws.{first_above, none_above, last_place}
+use Rattle.page_search.proofs.NearestLemmas.{first_above, none_above, last_place}
 use Rattle.page_search.proofs.nearest.nearest_place.Goals as goal
 
 pub returns-in-Above-clause-place : goal.returns-in-Above-clause-place

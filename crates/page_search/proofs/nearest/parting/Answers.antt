@@ -1,4 +1,4 @@
-use Rattle.page_search.proofs.NearestLaws.{parts-goes_to, parts-there, parts-behind}
+use Rattle.page_search.proofs.NearestLemmas.{parts-goes_to, parts-there, parts-behind}
 use Rattle.page_search.proofs.WalkLemmas.{least_there, least_apart}
 use Rattle.page_search.proofs.nearest.parting.Goals as goal
 

@@ -1,6 +1,6 @@
 use Rattle.std.proofs.Common.{refl}
 use Rattle.page_search.specs.Costs.{most_among, fewest_among}
-use Rattle.page_search.proofs.PlaceLaws.{is_there-place, value_at-there, value_at-goes_to}
+use Rattle.page_search.proofs.PlaceLemmas.{is_there-place, value_at-there, value_at-goes_to}
 use Rattle.page_search.proofs.CostLemmas.{least_here, most_past, least_past}
 use Rattle.page_search.proofs.search.+find.Goals as goal
 

@@ -1,6 +1,6 @@
 use Rattle.std.proofs.Common.{true, false, refl, sym}
 use Rattle.page_search.proofs.CostLemmas.{least_by}
-use Rattle.page_search.proofs.PlaceLaws.{is_there-place, value_at-there, value_at-goes_to}
+use Rattle.page_search.proofs.PlaceLemmas.{is_there-place, value_at-there, value_at-goes_to}
 use Rattle.page_search.proofs.search.find_in_base.Goals as goal
 
 pub returns-in-Ok-clause-value : goal.returns-in-Ok-clause-value

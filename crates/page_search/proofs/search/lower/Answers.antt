@@ -1,6 +1,6 @@
 use Rattle.std.proofs.Common.{true, false, refl, sym}
 use Rattle.page_search.proofs.CostLemmas.{least_by}
-use Rattle.page_search.proofs.PlaceLaws.{count_below-there, count_below-goes_to, is_there-place, value_at-goes_to}
+use Rattle.page_search.proofs.PlaceLemmas.{count_below-there, count_below-goes_to, is_there-place, value_at-goes_to}
 use Rattle.page_search.proofs.search.lower.Goals as goal
 
 pub returns-in-Ok-clause-place : goal.returns-in-Ok-clause-place

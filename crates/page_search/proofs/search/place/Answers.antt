@@ -1,8 +1,8 @@
 use Rattle.std.proofs.Common.{◌≡◌, ℕ, ◌+◌, ◌-◌, ◌/◌, ◌<◌, ◌≤◌, Some, sym, ap, ◌∙◌, arith}
-use Rattle.keys.proofs.MapLaws.{same_key, flipped_greater}
+use Rattle.keys.proofs.MapLemmas.{same_key, flipped_greater}
 use Rattle.page_search.specs.Digits.{binary_digits}
-use Rattle.page_search.proofs.DigitLaws.{binary_digits-zero, binary_digits-half, binary_digits-twice}
-use Rattle.page_search.proofs.PlaceLaws.{below-through, above-onward}
+use Rattle.page_search.proofs.DigitLemmas.{binary_digits-zero, binary_digits-half, binary_digits-twice}
+use Rattle.page_search.proofs.PlaceLemmas.{below-through, above-onward}
 use Rattle.page_search.proofs.search.place.Goals as goal
 
 -- what is left behind the middle, and what is left before it, has a digit less

@@ -2,7 +2,7 @@ use Rattle.std.proofs.Common.{◌∙◌, sym}
 use Rattle.mapping.specs.Finding.{finding}
 use Rattle.mapping.specs.TreeInMemory.{tree_of}
 use Rattle.recovery.specs.StoreOfDisk.{wrong_in}
-use Rattle.recovery.proofs.BuildLaws.{built-wrong, marked-built, found_of_same, found_by_walk, found_leaves}
+use Rattle.recovery.proofs.BuildLemmas.{built-wrong, marked-built, found_of_same, found_by_walk, found_leaves}
 use Rattle.recovery.proofs.build_tree.checked_tree.Goals as goal
 
 pub verify-requires-after_bounds : goal.verify-requires-after_bounds

@@ -3,7 +3,7 @@ use Rattle.std.specs.List.{AllByRecursion}
 use Rattle.std.specs.Map.{keys_of}
 use Rattle.index_page.specs.Page.{PageOfKind}
 use Rattle.mapping.specs.Table.{Mapping, place_of, with_place}
-use Rattle.recovery.proofs.BuildLaws.{away-last, put-last, and_last}
+use Rattle.recovery.proofs.BuildLemmas.{away-last, put-last, and_last}
 use Rattle.recovery.proofs.build_tree.put_last.Goals as goal
 
 pub put-requires : goal.put-requires

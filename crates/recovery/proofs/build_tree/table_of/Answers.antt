@@ -1,5 +1,5 @@
 use Rattle.std.specs.Vec.Iter.{into_iter_items}
-use Rattle.recovery.proofs.BuildLaws.{next_is_last, missing_filled}
+use Rattle.recovery.proofs.BuildLemmas.{next_is_last, missing_filled}
 use Rattle.recovery.proofs.build_tree.table_of.Goals as goal
 
 pub put_last-requires : goal.put_last-requires

@@ -1,5 +1,5 @@
 use Rattle.std.specs.Vec.Iter.{into_iter_items}
-use Rattle.recovery.proofs.BuildLaws.{IsFilledBy}
+use Rattle.recovery.proofs.BuildLemmas.{IsFilledBy}
 use Rattle.recovery.proofs.build_tree.table_of.Given as goal
 
 -- what is left fills the table as all fill an empty one

@@ -7,7 +7,7 @@ use Rattle.flush_log.specs.Slot.{Slot}
 use Rattle.recovery.specs.BuiltTree.{log_pids}
 use Rattle.recovery.specs.LogPages.{broken_in}
 use Rattle.recovery.specs.Rebuild.{HeldLog}
-use Rattle.recovery.proofs.BuildLaws.{said-of, found_of_same, found_leaves, slot_tree, home-table, built-table}
+use Rattle.recovery.proofs.BuildLemmas.{said-of, found_of_same, found_leaves, slot_tree, home-table, built-table}
 use Rattle.recovery.proofs.Crossing.{rebuilt_send}
 use Rattle.recovery.proofs.build_tree.tree_of_pages.Goals as goal
 

@@ -1,4 +1,4 @@
-use Rattle.recovery.proofs.CrashLaws.{flush-hidden, flush-crash}
+use Rattle.recovery.proofs.CrashLemmas.{flush-hidden, flush-crash}
 use Rattle.recovery.proofs.laws.a_crash_in_a_flush_leaves_the_store_before_or_after.Goals as goal
 
 pub returns : goal.returns

@@ -4,7 +4,7 @@ use Rattle.std.proofs.lemmas.List.{nil_from_length}
 use Rattle.frame_codec.specs.Frame.{Frame}
 use Rattle.frame_codec.specs.Shown.{frame_of}
 use Rattle.recovery.specs.Gathered.{AreGathered}
-use Rattle.recovery.proofs.SoFarLaws.{one_passed, all_passed}
+use Rattle.recovery.proofs.SoFarLemmas.{one_passed, all_passed}
 use Rattle.recovery.proofs.log_so_far.gather_all.Goals as goal
 
 pub loop-frame-preserved : goal.loop-frame-preserved

@@ -3,7 +3,7 @@ use Rattle.std.specs.Vec.Iter.{into_iter_items}
 use Rattle.frame_codec.specs.Frame.{Frame}
 use Rattle.frame_codec.specs.Shown.{frame_of}
 use Rattle.recovery.specs.Gathered.{AreGathered}
-use Rattle.recovery.proofs.SoFarLaws.{ArePassed}
+use Rattle.recovery.proofs.SoFarLemmas.{ArePassed}
 use Rattle.recovery.proofs.log_so_far.gather_all.Given as goal
 
 abbrev pub invariant-loop-frame : goal.invariant-loop-frame

@@ -3,7 +3,7 @@ use Rattle.flush_log.specs.Reading.{Found, log}
 use Rattle.recovery.specs.Gathered.{AreGathered}
 use Rattle.recovery.specs.Recovered.{IsLate}
 use Rattle.recovery.specs.StoreOfDisk.{frames_in}
-use Rattle.recovery.proofs.FrontLaws.{front-settings, front-slot}
+use Rattle.recovery.proofs.FrontLemmas.{front-settings, front-slot}
 use Rattle.recovery.proofs.ReadBytes.{handed_on, or_late, uncounted_by}
 use Rattle.recovery.proofs.read_disk.read_frames.Goals as goal
 

@@ -1,5 +1,5 @@
 use Rattle.std.proofs.Common.{sym, ◌∙◌, arith}
-use Rattle.flush_log.proofs.SettingsLaws.{settings-stand}
+use Rattle.flush_log.proofs.SettingsLemmas.{settings-stand}
 use Rattle.recovery.proofs.ReadBlock.{block-none, block-short, block-room}
 use Rattle.recovery.proofs.read_disk.settings_in.Goals as goal
 

@@ -4,8 +4,8 @@ use Rattle.flush_log.specs.Overlay.{overlay}
 use Rattle.flush_log.specs.Reading.{read_earlier}
 use Rattle.flush_log.specs.Segments.{place_of_segment, last_segment}
 use Rattle.flush_log.specs.Slot.{Slot}
-use Rattle.flush_log.proofs.FitLaws.{are_sized}
-use Rattle.flush_log.proofs.PlaceLaws.{place-within}
+use Rattle.flush_log.proofs.FitLemmas.{are_sized}
+use Rattle.flush_log.proofs.PlaceLemmas.{place-within}
 use Rattle.recovery.specs.Recovered.{IsReadOf}
 use Rattle.recovery.proofs.ReadLog.{Told, one-scanned, read-last}
 use Rattle.recovery.proofs.read_log.read_last.Goals as goal

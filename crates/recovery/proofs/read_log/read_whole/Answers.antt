@@ -3,8 +3,8 @@ use Rattle.std.specs.List.{All}
 use Rattle.std.proofs.lemmas.List.Elements.{All-push}
 use Rattle.flush_log.specs.Overlay.{overlay}
 use Rattle.flush_log.specs.Segments.{disk_size, place_of_segment}
-use Rattle.flush_log.proofs.FitLaws.{are_sized}
-use Rattle.flush_log.proofs.PlaceLaws.{place-within}
+use Rattle.flush_log.proofs.FitLemmas.{are_sized}
+use Rattle.flush_log.proofs.PlaceLemmas.{place-within}
 use Rattle.recovery.specs.Recovered.{IsReadOf}
 use Rattle.recovery.specs.Scan.{held_segment}
 use Rattle.recovery.proofs.ReadBytes.{kept_then, same_then}

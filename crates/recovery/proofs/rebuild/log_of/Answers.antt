@@ -2,7 +2,7 @@ use Rattle.std.proofs.Common.{ℕ, List, ap}
 use Rattle.frame_codec.specs.Frame.{Content}
 use Rattle.flush_log.specs.FlushText.{whole_page}
 use Rattle.recovery.specs.Rebuild.{HeldLog, page_of_parts}
-use Rattle.recovery.proofs.RebuildLaws.{whole-put-back}
+use Rattle.recovery.proofs.RebuildLemmas.{whole-put-back}
 use Rattle.recovery.proofs.rebuild.log_of.Goals as goal
 
 abbrev log : ℕ → List Content → HeldLog

@@ -1,7 +1,7 @@
 use Rattle.std.proofs.Common.{◌≡◌, ◌+◌, ◌<◌, length}
 use Rattle.std.specs.Prelude.{vec_capacity}
 use Rattle.frame_codec.specs.Frame.Content.{FullIndex, DeltaIndex}
-use Rattle.recovery.proofs.RebuildLaws.{with_all}
+use Rattle.recovery.proofs.RebuildLemmas.{with_all}
 use Rattle.recovery.proofs.rebuild.push_index_frames.Given as goal
 
 -- what was appended and what is left to append is all; there is room for it

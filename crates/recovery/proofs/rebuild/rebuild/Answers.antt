@@ -3,7 +3,7 @@ use Rattle.frame_codec.specs.Frame.{Content}
 use Rattle.flush_log.specs.FlushText.{whole_page}
 use Rattle.recovery.specs.PageByLog.{told_page}
 use Rattle.recovery.specs.Rebuild.{HeldLog, contents_in, content_of, page_of_parts, held_done, held_log, told_by}
-use Rattle.recovery.proofs.RebuildLaws.{popped, next_left, broken-told, page-told, whole-alone, done-same, back-same}
+use Rattle.recovery.proofs.RebuildLemmas.{popped, next_left, broken-told, page-told, whole-alone, done-same, back-same}
 use Rattle.recovery.proofs.rebuild.rebuild.Goals as goal
 
 abbrev log : ℕ → List Content → HeldLog

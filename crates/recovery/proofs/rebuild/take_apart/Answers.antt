@@ -4,7 +4,7 @@ use Rattle.frame_codec.specs.Frame.Content.{FullLeaf, DeltaLeaf, FullIndex, Delt
 use Rattle.flush_log.specs.FlushText.{whole_page}
 use Rattle.recovery.specs.declared.page_parts.PageParts.{PageParts}
 use Rattle.recovery.specs.Rebuild.{contents_in, page_of_parts}
-use Rattle.recovery.proofs.RebuildLaws.{turned}
+use Rattle.recovery.proofs.RebuildLemmas.{turned}
 use Rattle.recovery.proofs.rebuild.take_apart.Goals as goal
 
 pub returns-in-Leaf : goal.returns-in-Leaf

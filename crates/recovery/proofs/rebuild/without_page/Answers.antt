@@ -2,7 +2,7 @@ use Rattle.std.proofs.Common.{◌≡◌, ◌≤◌, ◌∙◌, ℕ, List, length
 use Rattle.std.proofs.lemmas.List.{length-map, length-reverse}
 use Rattle.frame_codec.specs.Frame.{Content}
 use Rattle.recovery.specs.Rebuild.{HeldLog, contents_in, content_of}
-use Rattle.recovery.proofs.RebuildLaws.{one-put-back, none-broken}
+use Rattle.recovery.proofs.RebuildLemmas.{one-put-back, none-broken}
 use Rattle.recovery.proofs.rebuild.without_page.Goals as goal
 
 abbrev log : ℕ → List Content → HeldLog

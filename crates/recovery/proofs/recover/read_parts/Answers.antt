@@ -1,7 +1,7 @@
 use Rattle.std.proofs.Common.{⊎_elim, inl, inr, ◌∙◌}
 use Rattle.std.proofs.lemmas.Result.{err_from_is_err_and}
 use Rattle.recovery.proofs.ReadBytes.{IsUncounted, kept_then, err_on}
-use Rattle.recovery.proofs.RecoverLaws.{same_on, read_before, late_behind, no_slot, no_log}
+use Rattle.recovery.proofs.RecoverLemmas.{same_on, read_before, late_behind, no_slot, no_log}
 use Rattle.recovery.proofs.recover.read_parts.Goals as goal
 
 pub returns-in_err-slot-clause-same : goal.returns-in_err-slot-clause-same

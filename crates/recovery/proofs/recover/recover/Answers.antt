@@ -1,6 +1,6 @@
 use Rattle.std.proofs.lemmas.Result.{err_from_is_err_and}
 use Rattle.recovery.proofs.ReadBytes.{IsUncounted, err_on}
-use Rattle.recovery.proofs.RecoverLaws.{tree-recovered, tree-refused}
+use Rattle.recovery.proofs.RecoverLemmas.{tree-recovered, tree-refused}
 use Rattle.recovery.proofs.recover.recover.Goals as goal
 
 pub returns-in_err-tree-clause-read : goal.returns-in_err-tree-clause-read

@@ -1,5 +1,5 @@
 use Rattle.std.proofs.Common.{◌∙◌}
-use Rattle.recovery.proofs.ScanLaws.{padding-zeros}
+use Rattle.recovery.proofs.ScanLemmas.{padding-zeros}
 use Rattle.recovery.proofs.scan_segment.is_end.Goals as goal
 
 pub returns-in-Padding : goal.returns-in-Padding

@@ -3,7 +3,7 @@ use Rattle.std.specs.List.{starts_with}
 use Rattle.frame_codec.specs.Shown.{frame_of}
 use Rattle.flush_log.specs.Segments.{segment_header}
 use Rattle.recovery.specs.Scan.{is_end_at, held_segment}
-use Rattle.recovery.proofs.ScanLaws.{told-none, start, next, less-left, segment-read, segment-broken}
+use Rattle.recovery.proofs.ScanLemmas.{told-none, start, next, less-left, segment-read, segment-broken}
 use Rattle.recovery.proofs.scan_segment.scan_segment.Goals as goal
 
 pub loop-bytes-init : goal.loop-bytes-init

@@ -1,7 +1,7 @@
 use Rattle.std.proofs.Common.{map, length, drop}
 use Rattle.frame_codec.specs.Shown.{frame_of}
 use Rattle.recovery.specs.Scan.{is_end_at}
-use Rattle.recovery.proofs.ScanLaws.{AreRead}
+use Rattle.recovery.proofs.ScanLemmas.{AreRead}
 use Rattle.recovery.proofs.scan_segment.scan_segment.Given as goal
 
 abbrev pub invariant-loop-bytes : goal.invariant-loop-bytes

@@ -1,4 +1,4 @@
-use Rattle.routing.proofs.BatchLaws.{end_there}
+use Rattle.routing.proofs.BatchLemmas.{end_there}
 use Rattle.routing.proofs.batch.end_at.Goals as goal
 
 pub returns-in-Some : goal.returns-in-Some

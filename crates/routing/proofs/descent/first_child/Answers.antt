@@ -1,7 +1,7 @@
 use Rattle.std.proofs.Common.{◌≡◌, ℕ, List, [], ◌∷◌, map, length, Some, None, refl, sym, ap, subst, ◌∙◌}
 use Rattle.std.specs.List.{filter}
 use Rattle.index_page.specs.Children.{Place, HasChildFor, children, child_entries, child_with_end, is_place_for}
-use Rattle.routing.proofs.ShareLaws.{none_cut, child_for_first, parted_keyed, first_share_at, lone_share_at, from_begun}
+use Rattle.routing.proofs.ShareLemmas.{none_cut, child_for_first, parted_keyed, first_share_at, lone_share_at, from_begun}
 use Rattle.routing.proofs.descent.first_child.Goals as goal
 
 pub child_for-requires : goal.child_for-requires

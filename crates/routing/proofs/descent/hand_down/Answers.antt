@@ -1,6 +1,6 @@
 use Rattle.std.proofs.Common.{◌++◌, List, Result, Ok, Err, OnOk, sym, ap, ◌∙◌}
 use Rattle.routing.specs.Shares.{Share, lent_shares}
-use Rattle.routing.proofs.ShareLaws.{can_keyed, IsOfPoints, of_batch, of_share}
+use Rattle.routing.proofs.ShareLemmas.{can_keyed, IsOfPoints, of_batch, of_share}
 use Rattle.routing.proofs.descent.hand_down.Goals as goal
 use Rattle.routing.proofs.descent.hand_down.Goals.{else-scanned-via-then-scanned+else-is_met, else-scanned-via-else-scanned}
 

@@ -1,7 +1,7 @@
 use Rattle.std.proofs.Common.{◌+◌, refl, ap, ◌∙◌, arith}
 use Rattle.std.proofs.lemmas.List.{take_rest}
 use Rattle.routing.specs.Shares.{Lent}
-use Rattle.routing.proofs.ShareLaws.{rest_keyed, rest_points, hand_step, keys_step, all_handed}
+use Rattle.routing.proofs.ShareLemmas.{rest_keyed, rest_points, hand_step, keys_step, all_handed}
 use Rattle.routing.proofs.descent.hand_down_points.Goals as goal
 
 pub first_child-pid-requires-clause-ready : goal.first_child-pid-requires-clause-ready

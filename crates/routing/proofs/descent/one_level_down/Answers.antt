@@ -1,6 +1,6 @@
 use Rattle.std.proofs.Common.{◌<◌, length, arith}
 use Rattle.mapping.specs.TreeInMemory.{tree_of}
-use Rattle.routing.proofs.DescentLaws.{ready_share, ready_keys, not_missing, share_step}
+use Rattle.routing.proofs.DescentLemmas.{ready_share, ready_keys, not_missing, share_step}
 use Rattle.routing.proofs.descent.one_level_down.Goals as goal
 
 pub hand_down-requires-clause-share : goal.hand_down-requires-clause-share

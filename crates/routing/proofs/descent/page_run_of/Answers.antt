@@ -1,7 +1,7 @@
 use Rattle.std.proofs.Common.{◌∙◌, ap, sym, eqb-true}
 use Rattle.routing.specs.Routes.{Route}
 use Rattle.routing.proofs.BatchOrder.{order_of_one, same_order, same_parts}
-use Rattle.routing.proofs.SliceLaws.{rising_once_sorted}
+use Rattle.routing.proofs.SliceLemmas.{rising_once_sorted}
 use Rattle.routing.proofs.descent.page_run_of.Goals as goal
 
 pub returns-then-is_empty : goal.returns-then-is_empty

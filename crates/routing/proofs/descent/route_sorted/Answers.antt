@@ -5,8 +5,8 @@ use Rattle.mapping.specs.TreeInMemory.{tree_of}
 use Rattle.routing.specs.Keyed.{places_of}
 use Rattle.routing.specs.Shares.{Share, Lent, AreReadyShares, HasEachPlaceOnce, lent_shares, root_shares}
 use Rattle.routing.proofs.BatchOrder.{once-shares}
-use Rattle.routing.proofs.ShareLaws.{shares-root}
-use Rattle.routing.proofs.DescentLaws.{shares-next, level_ready, shares-last, below_pred, same_pred}
+use Rattle.routing.proofs.ShareLemmas.{shares-root}
+use Rattle.routing.proofs.DescentLemmas.{shares-next, level_ready, shares-last, below_pred, same_pred}
 use Rattle.routing.proofs.descent.route_sorted.Goals as goal
 
 pub loop-level-init : goal.loop-level-init

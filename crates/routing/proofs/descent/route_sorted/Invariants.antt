@@ -3,7 +3,7 @@ use Rattle.index_page.specs.Children.{children}
 use Rattle.mapping.specs.TreeInMemory.{tree_of}
 use Rattle.routing.specs.Keyed.{places_of}
 use Rattle.routing.specs.Shares.{lent_shares, shares, AreKeyedShares}
-use Rattle.routing.proofs.DescentLaws.{names_at}
+use Rattle.routing.proofs.DescentLemmas.{names_at}
 use Rattle.routing.proofs.descent.route_sorted.Given as goal
 
 -- the shares are those of the level so far below the root

@@ -1,4 +1,4 @@
-use Rattle.routing.proofs.RouteLaws.{routes-within, routes-some, routes-once}
+use Rattle.routing.proofs.RouteLemmas.{routes-within, routes-some, routes-once}
 use Rattle.routing.proofs.laws.each_command_goes_to_its_pages.Goals as goal
 
 pub returns : goal.returns

@@ -1,4 +1,4 @@
-use Rattle.routing.proofs.RouteLaws.{routes-in_order}
+use Rattle.routing.proofs.RouteLemmas.{routes-in_order}
 use Rattle.routing.proofs.laws.routes_are_in_the_order_of_the_pages.Goals as goal
 
 pub returns : goal.returns

@@ -1,7 +1,7 @@
 use Rattle.std.proofs.Common.{◌≡◌, ◌≤◌, length, arith, ap, ◌∙◌}
 use Rattle.std.proofs.lemmas.List.{drop_all}
 use Rattle.routing.specs.Keyed.{Keyed, has_key_below}
-use Rattle.routing.proofs.SliceLaws.{pass_upto, none_from}
+use Rattle.routing.proofs.SliceLemmas.{pass_upto, none_from}
 use Rattle.routing.proofs.sort.bounds_of_count.Goals as goal
 use Rattle.routing.proofs.sort.bounds_of_count.Goals.{then-loop-high-test+else-has_key_below, else-loop-high-test}
 

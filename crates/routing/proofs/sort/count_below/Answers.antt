@@ -3,7 +3,7 @@ use Rattle.std.specs.List.{AllByRecursion, slice_range}
 use Rattle.std.specs.List.Sorted.{IsPartitionedBy}
 use Rattle.std.proofs.lemmas.List.Sorted.{IsPartitionPoint-from_clause}
 use Rattle.routing.specs.Keyed.{has_key_below}
-use Rattle.routing.proofs.SliceLaws.{parted_part, cut_at}
+use Rattle.routing.proofs.SliceLemmas.{parted_part, cut_at}
 use Rattle.routing.proofs.sort.count_below.Goals as goal
 
 -- what stands before the count is below the key, and what stands behind isn't

@@ -1,5 +1,5 @@
 use Rattle.std.proofs.Common.{rules}
-use Rattle.routing.proofs.SliceLaws.{rises_when_sorted}
+use Rattle.routing.proofs.SliceLemmas.{rises_when_sorted}
 use Rattle.routing.proofs.sort.in_batch_order.Goals as goal
 
 pub returns-clause-rising : goal.returns-clause-rising

@@ -1,10 +1,10 @@
 use Rattle.std.proofs.Common.{◌≡◌, [], ◌∷◌, length, arith, sym, ap, ◌∙◌, add-one}
 use Rattle.std.proofs.lemmas.List.{map-append}
-use Rattle.index_page.proofs.ListLaws.{all-append}
+use Rattle.index_page.proofs.ListLemmas.{all-append}
 use Rattle.routing.specs.BatchKeys.{key_at}
 use Rattle.routing.specs.Keyed.{Keyed}
 use Rattle.routing.specs.Places.{places_below}
-use Rattle.routing.proofs.PlaceLaws.{places_below-suc}
+use Rattle.routing.proofs.PlaceLemmas.{places_below-suc}
 use Rattle.routing.proofs.sort.keyed_places.Goals as goal
 
 pub loop-place-preserved : goal.loop-place-preserved

@@ -2,7 +2,7 @@ use Rattle.std.proofs.Common.{◌≡◌, ◌++◌, length, take, drop, arith}
 use Rattle.std.specs.List.Sorted.{IsPermutation}
 use Rattle.std.proofs.lemmas.List.{take_at}
 use Rattle.routing.specs.Keyed.{Keyed}
-use Rattle.routing.proofs.SortLaws.{places_of_sorted, keyed_sorted}
+use Rattle.routing.proofs.SortLemmas.{places_of_sorted, keyed_sorted}
 use Rattle.routing.proofs.sort.sorted_places.Given as given
 use Rattle.routing.proofs.sort.sorted_places.Goals as goal
 

@@ -1,4 +1,4 @@
-use Rattle.scan.proofs.MergeLaws.{change_at}
+use Rattle.scan.proofs.MergeLemmas.{change_at}
 use Rattle.scan.proofs.ahead.head_at.Goals as goal
 
 pub returns-then-at-len : goal.returns-then-at-len

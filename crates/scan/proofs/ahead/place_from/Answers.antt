@@ -1,6 +1,6 @@
 use Rattle.std.proofs.Common.{◌≡◌, length, sym, rules}
-use Rattle.page_search.proofs.PlaceLaws.{count_below-there, count_below-goes_to}
-use Rattle.scan.proofs.MergeLaws.{none_below}
+use Rattle.page_search.proofs.PlaceLemmas.{count_below-there, count_below-goes_to}
+use Rattle.scan.proofs.MergeLemmas.{none_below}
 use Rattle.scan.proofs.ahead.place_from.Goals as goal
 
 pub returns-then-is_empty-clause-place : goal.returns-then-is_empty-clause-place

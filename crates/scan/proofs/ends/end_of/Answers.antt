@@ -1,5 +1,5 @@
 use Rattle.std.proofs.Common.{sym, ap, ◌∙◌, List, ℕ, Some}
-use Rattle.scan.proofs.EndLaws.{may_end}
+use Rattle.scan.proofs.EndLemmas.{may_end}
 use Rattle.scan.proofs.ends.end_of.Goals as goal
 
 pub returns-in-Some : goal.returns-in-Some

@@ -3,9 +3,9 @@ use Rattle.std.specs.Ordering.{is_lt}
 use Rattle.std.specs.Option.{option_copied}
 use Rattle.mapping.specs.Levels.{levels_of}
 use Rattle.mapping.specs.TreeInMemory.{tree_of}
-use Rattle.scan.proofs.RowLaws.{root_is_there}
+use Rattle.scan.proofs.RowLemmas.{root_is_there}
 use Rattle.scan.specs.Path.{leaf_with}
-use Rattle.scan.proofs.EndLaws.{passing_first, passing_on, certain_on, enough_on}
+use Rattle.scan.proofs.EndLemmas.{passing_first, passing_on, certain_on, enough_on}
 use Rattle.scan.proofs.ends.end_of_scan.Goals as goal
 
 pub new-leaves-requires-clause-known : goal.new-leaves-requires-clause-known

@@ -2,7 +2,7 @@ use Rattle.std.proofs.Common.{length}
 use Rattle.mapping.specs.Levels.{levels_of, contents}
 use Rattle.mapping.specs.TreeInMemory.{tree_of}
 use Rattle.scan.specs.Path.{leaf_with}
-use Rattle.scan.proofs.EndLaws.{IsPassing, AreCertainBefore}
+use Rattle.scan.proofs.EndLemmas.{IsPassing, AreCertainBefore}
 use Rattle.scan.proofs.ends.end_of_scan.Given as goal
 
 -- the walk is at a leaf of the level, before which so many pairs are certain

@@ -1,5 +1,5 @@
 use Rattle.std.proofs.Common.{ap, ◌∙◌, arith, length, length-append, List, ℕ, ◌+◌, ◌∷◌, [], Option, Bor}
-use Rattle.scan.proofs.EndLaws.{none_end, ends_on}
+use Rattle.scan.proofs.EndLemmas.{none_end, ends_on}
 use Rattle.scan.proofs.ends.scan_ends.Goals as goal
 
 pub returns-then-not-has_scan : goal.returns-then-not-has_scan

@@ -1,6 +1,6 @@
 use Rattle.std.proofs.Common.{ℕ, List, sym, ap, ◌∙◌}
 use Rattle.std.specs.Map.{values_of}
-use Rattle.scan.proofs.WalkLaws.{step_down, no_dead_end}
+use Rattle.scan.proofs.WalkLemmas.{step_down, no_dead_end}
 use Rattle.scan.proofs.leaves.descend.Goals as goal
 
 pub unreachable-requires-in_default-next : goal.unreachable-requires-in_default-next

@@ -1,5 +1,5 @@
 use Rattle.std.proofs.Common.{sym, ◌∙◌, arith}
-use Rattle.scan.proofs.WalkLaws.{step_along, step_up, room_again}
+use Rattle.scan.proofs.WalkLemmas.{step_along, step_up, room_again}
 use Rattle.scan.proofs.leaves.next_leaf.Goals as goal
 
 pub push_reserved-requires : goal.push_reserved-requires

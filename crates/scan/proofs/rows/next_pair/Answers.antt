@@ -1,4 +1,4 @@
-use Rattle.scan.proofs.RowLaws.{next_leaf_left}
+use Rattle.scan.proofs.RowLemmas.{next_leaf_left}
 use Rattle.scan.proofs.rows.next_pair.Goals as goal
 
 pub loop-pair-preserved : goal.loop-pair-preserved

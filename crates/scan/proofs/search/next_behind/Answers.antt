@@ -1,4 +1,4 @@
-use Rattle.scan.proofs.LeafLaws.{first-behind}
+use Rattle.scan.proofs.LeafLemmas.{first-behind}
 use Rattle.scan.proofs.search.next_behind.Goals as goal
 
 pub returns : goal.returns

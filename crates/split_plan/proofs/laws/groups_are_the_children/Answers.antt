@@ -1,4 +1,4 @@
-use Rattle.split_plan.proofs.GroupLaws.{groups-joined, one_in_each_group, later_groups_begin, all_thin_are_one_group}
+use Rattle.split_plan.proofs.GroupLemmas.{groups-joined, one_in_each_group, later_groups_begin, all_thin_are_one_group}
 use Rattle.split_plan.proofs.laws.groups_are_the_children.Goals as goal
 
 pub returns : goal.returns

@@ -1,4 +1,4 @@
-use Rattle.split_plan.proofs.RunLaws.{joined-worked_leaves}
+use Rattle.split_plan.proofs.RunLemmas.{joined-worked_leaves}
 use Rattle.split_plan.proofs.laws.leaves_share_a_run.Goals as goal
 
 pub returns : goal.returns

@@ -1,4 +1,4 @@
-use Rattle.split_plan.proofs.OutdatedLaws.{outdated_members, outdated_of_groups, outdated_of_families}
+use Rattle.split_plan.proofs.OutdatedLemmas.{outdated_members, outdated_of_groups, outdated_of_families}
 use Rattle.split_plan.proofs.laws.outdated_pages_were_replaced_or_rewritten.Goals as goal
 
 pub returns : goal.returns

@@ -1,4 +1,4 @@
-use Rattle.split_plan.proofs.TermLaws.{rising-terms, value_at-terms, with_run-terms}
+use Rattle.split_plan.proofs.TermLemmas.{rising-terms, value_at-terms, with_run-terms}
 use Rattle.split_plan.proofs.laws.terms_name_the_new_pages.Goals as goal
 
 pub returns : goal.returns

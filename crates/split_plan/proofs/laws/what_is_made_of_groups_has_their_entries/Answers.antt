@@ -1,4 +1,4 @@
-use Rattle.split_plan.proofs.ChangeLaws.{joined-groups, tiled-groups, next_low-groups}
+use Rattle.split_plan.proofs.ChangeLemmas.{joined-groups, tiled-groups, next_low-groups}
 use Rattle.split_plan.proofs.laws.what_is_made_of_groups_has_their_entries.Goals as goal
 
 pub returns : goal.returns

@@ -1,6 +1,6 @@
 use Rattle.std.proofs.Common.{refl}
 use Rattle.delta_chain.proofs.Rising.{goes_last-rising}
-use Rattle.split_plan.proofs.ExchangeLaws.{rising-with_present}
+use Rattle.split_plan.proofs.ExchangeLemmas.{rising-with_present}
 use Rattle.split_plan.proofs.parent_run.terms.Goals as goal
 
 pub loop-term-init : goal.loop-term-init

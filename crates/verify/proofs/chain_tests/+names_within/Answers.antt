@@ -3,7 +3,7 @@ use Rattle.std.specs.Option.{option_copied}
 use Rattle.std.specs.List.{list_all}
 use Rattle.std.specs.Map.{keys_of}
 use Rattle.index_page.specs.Range.{is_within}
-use Rattle.verify.proofs.ChainLaws.{keys-as_changes}
+use Rattle.verify.proofs.ChainLemmas.{keys-as_changes}
 use Rattle.verify.proofs.chain_tests.+names_within.Goals as goal
 
 pub returns-in-None : goal.returns-in-None

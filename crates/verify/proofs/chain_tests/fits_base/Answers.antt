@@ -1,6 +1,6 @@
 use Rattle.std.proofs.Common.{sym}
 use Rattle.index_page.specs.Rules.{is_short_change}
-use Rattle.verify.proofs.ChainLaws.{base_next, base_fails, both_fail}
+use Rattle.verify.proofs.ChainLemmas.{base_next, base_fails, both_fail}
 use Rattle.verify.proofs.chain_tests.fits_base.Goals as goal
 
 pub returns-then-not-is_short_entry : goal.returns-then-not-is_short_entry

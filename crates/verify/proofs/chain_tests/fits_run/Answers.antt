@@ -1,7 +1,7 @@
 use Rattle.std.proofs.Common.{sym}
 use Rattle.std.specs.Option.{option_copied}
 use Rattle.index_page.specs.Rules.{is_short_change}
-use Rattle.verify.proofs.ChainLaws.{pairs_next, pairs_fail, both_fail}
+use Rattle.verify.proofs.ChainLemmas.{pairs_next, pairs_fail, both_fail}
 use Rattle.verify.proofs.chain_tests.fits_run.Goals as goal
 
 pub returns-then-not-is_short_entry : goal.returns-then-not-is_short_entry

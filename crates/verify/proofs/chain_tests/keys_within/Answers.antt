@@ -1,7 +1,7 @@
 use Rattle.std.proofs.Common.{sym}
 use Rattle.std.specs.Option.{option_copied}
 use Rattle.index_page.specs.Range.{is_within}
-use Rattle.verify.proofs.ChainLaws.{all_next, all_fails}
+use Rattle.verify.proofs.ChainLemmas.{all_next, all_fails}
 use Rattle.verify.proofs.chain_tests.keys_within.Goals as goal
 
 pub returns-then-not-is_within : goal.returns-then-not-is_within

@@ -7,7 +7,7 @@ use denote.Param.Send.{copied_send, copied_sync, arg_send, arg_sync, param_send}
 use Rattle.mapping.specs.TreeInMemory.{AreAllHome, tree_of}
 use Rattle.verify.specs.Seen.{seen_at}
 use Rattle.verify.proofs.Crossing.{closure-send, closure-sync, looks-send}
-use Rattle.verify.proofs.LevelLaws.{zip_ok, ok_of_match}
+use Rattle.verify.proofs.LevelLemmas.{zip_ok, ok_of_match}
 use Rattle.verify.proofs.level.look_at_all.Goals as goal
 
 pub map-requires-send-F : goal.map-requires-send-F

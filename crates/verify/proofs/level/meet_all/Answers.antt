@@ -2,7 +2,7 @@ use Rattle.std.proofs.Common.{◌<◌, length, ap, sym, subst, arith}
 use Rattle.std.proofs.lemmas.List.{drop_more}
 use Rattle.std.specs.Prelude.{get_or}
 use Rattle.verify.specs.declared.look.Verdict.TheVariants.{Broken}
-use Rattle.verify.proofs.LevelLaws.{from_here, found_step, fault_step, pairs_step, met_step, count_step, err_of}
+use Rattle.verify.proofs.LevelLemmas.{from_here, found_step, fault_step, pairs_step, met_step, count_step, err_of}
 use Rattle.verify.specs.Report.{IsFaultOf}
 use Rattle.verify.specs.Seen.{first_found}
 use Rattle.verify.proofs.level.meet_all.Goals as goal

@@ -1,4 +1,4 @@
-use Rattle.verify.proofs.MetLaws.{among-insert}
+use Rattle.verify.proofs.MetLemmas.{among-insert}
 use Rattle.verify.proofs.level.meet_page.Goals as goal
 
 pub returns-then-branch-clause-met : goal.returns-then-branch-clause-met

@@ -4,7 +4,7 @@ use Rattle.mapping.specs.TreeInMemory.{tree_of}
 use Rattle.keys.specs.Finding.{Finding}
 use Rattle.verify.specs.Report.{IsFaultOf}
 use Rattle.verify.specs.Seen.{first_found, all_pairs}
-use Rattle.verify.proofs.LevelLaws.{found_seen, pairs_seen, ok_then}
+use Rattle.verify.proofs.LevelLemmas.{found_seen, pairs_seen, ok_then}
 use Rattle.verify.proofs.level.pass_level.Goals as goal
 
 pub returns-clause-ok : goal.returns-clause-ok

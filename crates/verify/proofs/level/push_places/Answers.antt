@@ -1,7 +1,7 @@
 use Rattle.std.proofs.Common.{◌≡◌, ◌+◌, drop, arith, sym, ap, ◌∙◌}
 use Rattle.std.specs.Option.{option_copied}
-use Rattle.index_page.proofs.ChildLaws.{next_key}
-use Rattle.verify.proofs.LevelLaws.{next_there, no_next, push_place}
+use Rattle.index_page.proofs.ChildLemmas.{next_key}
+use Rattle.verify.proofs.LevelLemmas.{next_there, no_next, push_place}
 use Rattle.verify.proofs.level.push_places.Goals as goal
 use Rattle.verify.proofs.level.push_places.Goals.{then-at-count, else-at-count}
 

@@ -1,7 +1,7 @@
 use Rattle.std.proofs.Common.{length, sym, ap, ◌∙◌, arith}
 use Rattle.std.specs.Ordering.{is_eq}
 use Rattle.std.specs.Option.{option_copied}
-use Rattle.verify.proofs.PageLaws.{range_alone, too_deep, not_too_deep, sizes_first, depth_first, none_broken}
+use Rattle.verify.proofs.PageLemmas.{range_alone, too_deep, not_too_deep, sizes_first, depth_first, none_broken}
 use Rattle.verify.proofs.page_rules.broken_rule.Goals as goal
 
 pub returns-then-not-fits_sizes : goal.returns-then-not-fits_sizes

@@ -1,6 +1,6 @@
 use Rattle.std.proofs.Common.{ap, ◌∙◌}
 use Rattle.mapping.specs.TreeInMemory.{tree_of}
-use Rattle.verify.proofs.MetLaws.{unmet_of, unmet-pids}
+use Rattle.verify.proofs.MetLemmas.{unmet_of, unmet-pids}
 use Rattle.verify.proofs.walk.first_unmet.Goals as goal
 
 pub loop-pid-init : goal.loop-pid-init

@@ -1,7 +1,7 @@
 use Rattle.std.proofs.Common.{◌≡◌}
 use Rattle.mapping.specs.Finding.{unmet}
 use Rattle.mapping.specs.TreeInMemory.{tree_of}
-use Rattle.verify.proofs.MetLaws.{unmet_of}
+use Rattle.verify.proofs.MetLemmas.{unmet_of}
 use Rattle.verify.proofs.walk.first_unmet.Given as goal
 
 -- the first of the pids to come that hasn't been met is the first of all

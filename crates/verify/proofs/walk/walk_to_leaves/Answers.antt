@@ -1,11 +1,11 @@
 use Rattle.std.proofs.Common.{◌<◌, ◌-◌, ap, sym, ◌∙◌, arith, subst}
 use Rattle.mapping.specs.Finding.{children_at, finding}
 use Rattle.verify.specs.Report.{IsFaultOf}
-use Rattle.verify.proofs.LevelLaws.{err_of}
+use Rattle.verify.proofs.LevelLemmas.{err_of}
 use Rattle.std.specs.Prelude.{flat_map}
 use Rattle.mapping.specs.TreeInMemory.{tree_of}
 use Rattle.verify.specs.Walked.{HasComeTo}
-use Rattle.verify.proofs.WalkLaws.{at_root, one_down, fault_above}
+use Rattle.verify.proofs.WalkLemmas.{at_root, one_down, fault_above}
 use Rattle.verify.proofs.walk.walk_to_leaves.Goals as goal
 
 pub loop-level-init : goal.loop-level-init

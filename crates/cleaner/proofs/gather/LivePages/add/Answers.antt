@@ -7,7 +7,7 @@ use Rattle.cleaner.specs.CleanText.{telling}
 use Rattle.cleaner.specs.Kept.{told_with, image_with, IsKept, AreKept, first_segment}
 use Rattle.cleaner.specs.Skim.{HeldFrame}
 use Rattle.cleaner.specs.declared.gather.Kept.{Kept}
-use Rattle.cleaner.proofs.KeptLaws.{kept-more, kept-none, kept-some, none-kept, pages-more, kept-before, first-more, found-more}
+use Rattle.cleaner.proofs.KeptLemmas.{kept-more, kept-none, kept-some, none-kept, pages-more, kept-before, first-more, found-more}
 use Rattle.cleaner.proofs.gather.LivePages.add.Goals as goal
 use Rattle.cleaner.proofs.gather.LivePages.add.Goals.{in-Some, in-None}
 

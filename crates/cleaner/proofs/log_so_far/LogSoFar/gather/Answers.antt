@@ -2,7 +2,7 @@ use Rattle.std.proofs.Common.{fold, refl, arith}
 use Rattle.std.specs.Vec.Iter.{into_iter_items}
 use Rattle.std.proofs.lemmas.List.{nil_from_length}
 use Rattle.flush_log.specs.Reading.{followed_by}
-use Rattle.cleaner.proofs.SkimLaws.{left-ok, left-err, left-none}
+use Rattle.cleaner.proofs.SkimLemmas.{left-ok, left-err, left-none}
 use Rattle.cleaner.proofs.log_so_far.LogSoFar.gather.Goals as goal
 
 pub loop-done-preserved : goal.loop-done-preserved

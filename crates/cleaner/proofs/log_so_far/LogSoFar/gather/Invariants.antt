@@ -3,7 +3,7 @@ use Rattle.std.specs.Vec.Iter.{into_iter_items}
 use Rattle.flush_log.specs.Reading.{followed_by}
 use Rattle.cleaner.specs.Kept.{IsSoFar}
 use Rattle.cleaner.specs.Skim.{skims_of, told_of_skim}
-use Rattle.cleaner.proofs.SkimLaws.{Told, AreLeft}
+use Rattle.cleaner.proofs.SkimLemmas.{Told, AreLeft}
 use Rattle.cleaner.proofs.log_so_far.LogSoFar.gather.Given as goal
 
 abbrev pub invariant-loop-done : goal.invariant-loop-done

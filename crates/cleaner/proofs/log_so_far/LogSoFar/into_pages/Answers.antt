@@ -1,4 +1,4 @@
-use Rattle.cleaner.proofs.SkimLaws.{found-none, fault-some}
+use Rattle.cleaner.proofs.SkimLemmas.{found-none, fault-some}
 use Rattle.cleaner.proofs.log_so_far.LogSoFar.into_pages.Goals as goal
 
 pub returns-in-Some : goal.returns-in-Some

@@ -1,6 +1,6 @@
 use Rattle.std.proofs.Common.{◌∙◌, map, sym}
 use Rattle.recovery.specs.Scan.{held_segment, scanned}
-use Rattle.cleaner.proofs.SkimLaws.{stays-broken, skims-made}
+use Rattle.cleaner.proofs.SkimLemmas.{stays-broken, skims-made}
 use Rattle.cleaner.proofs.log_so_far.LogSoFarLogReader.take.Goals as goal
 
 pub returns-then-is_some-clause-ok : goal.returns-then-is_some-clause-ok

@@ -1,7 +1,7 @@
 use Rattle.std.proofs.Common.{◌≡◌, sym}
 use Rattle.std.specs.List.{insert}
 use Rattle.keys.specs.OrderedMap.{with_pair}
-use Rattle.keys.proofs.MapLaws.{rising-with_pair}
+use Rattle.keys.proofs.MapLemmas.{rising-with_pair}
 use Rattle.delta_chain.specs.Kept.{entries_kept}
 use Rattle.delta_chain.proofs.Setting.{with_pair-found}
 use Rattle.delta_chain.proofs.entries.Entries.set.Goals as goal

@@ -1,5 +1,5 @@
 use Rattle.engine.specs.Late.{create_refusal}
-use Rattle.engine.proofs.CreateLaws.{not_refused, first-is, made-bytes, made-sound}
+use Rattle.engine.proofs.CreateLemmas.{not_refused, first-is, made-bytes, made-sound}
 use Rattle.engine.proofs.store.Store.create.Goals as goal
 
 pub invariant_of-result : goal.invariant_of-result

@@ -2,12 +2,12 @@ use Rattle.std.proofs.Common.{◌≢◌, [], inl, inr, refl, ap, subst, ◌∙�
 use Rattle.std.proofs.lemmas.Result.{err_from_is_err_and}
 use Rattle.mapping.specs.TreeInMemory.{TreeInMemory, tree_of}
 use Rattle.flush_log.specs.FlushText.{flush_text}
-use Rattle.flush_log.proofs.ViewLaws.{weaker, counted_failed}
+use Rattle.flush_log.proofs.ViewLemmas.{weaker, counted_failed}
 use Rattle.recovery.specs.InStep.{IsStoreOf}
 use Rattle.engine.specs.State.{IsSound, state_of, store_in}
 use Rattle.engine.specs.declared.store.flush.FlushPlan.{FlushPlan}
 use Rattle.engine.proofs.FlushDone.{on-bytes, nothing-flushed, flushed-now, never-device, flushed-sound, plan-crash, plan-would}
-use Rattle.engine.proofs.ReadLaws.{leaves_itself}
+use Rattle.engine.proofs.ReadLemmas.{leaves_itself}
 use Rattle.engine.proofs.store.Store.flush.Goals as goal
 
 pub returns-in_err-admit_crew-clause-crash : goal.returns-in_err-admit_crew-clause-crash

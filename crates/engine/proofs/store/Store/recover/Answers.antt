@@ -1,4 +1,4 @@
-use Rattle.engine.proofs.OpenedLaws.{opened-seen, opened-store, refused-seen}
+use Rattle.engine.proofs.OpenedLemmas.{opened-seen, opened-store, refused-seen}
 use Rattle.engine.proofs.store.Store.recover.Goals as goal
 
 pub invariant_of-result : goal.invariant_of-result

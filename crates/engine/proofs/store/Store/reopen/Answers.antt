@@ -1,5 +1,5 @@
 use Rattle.std.proofs.Common.{◌≡◌, ◌+◌, ◌-◌, ◌^◌, min, subst}
-use Rattle.engine.proofs.OpenedLaws.{failed-first}
+use Rattle.engine.proofs.OpenedLemmas.{failed-first}
 use Rattle.engine.proofs.store.Store.reopen.Goals as goal
 
 pub returns-in-Err-settle-clause-read : goal.returns-in-Err-settle-clause-read

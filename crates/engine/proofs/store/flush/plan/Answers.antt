@@ -3,9 +3,9 @@ use Rattle.std.proofs.lemmas.Result.{err_from_is_err_and}
 use Rattle.flush_log.specs.AfterFlush.{slot_of, flush_slot}
 use Rattle.flush_log.specs.FlushText.{flush_text}
 use Rattle.flush_log.specs.Images.{AreOfText, FitSegments, frames_in}
-use Rattle.flush_log.proofs.FitLaws.{are_sized}
-use Rattle.flush_log.proofs.ReachLaws.{text-fits}
-use Rattle.flush_log.proofs.SlotLaws.{slot-is, head_small}
+use Rattle.flush_log.proofs.FitLemmas.{are_sized}
+use Rattle.flush_log.proofs.ReachLemmas.{text-fits}
+use Rattle.flush_log.proofs.SlotLemmas.{slot-is, head_small}
 use Rattle.engine.specs.State.{store_in}
 use Rattle.engine.proofs.FlushPlan.{planned_by, flush-refused}
 use Rattle.engine.proofs.store.flush.plan.Goals as goal

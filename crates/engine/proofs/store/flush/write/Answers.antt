@@ -7,7 +7,7 @@ use Rattle.flush_log.specs.Segments.{disk_size}
 use Rattle.flush_log.specs.Slot.{greatest}
 use Rattle.engine.specs.declared.store.flush.FlushPlan.{FlushPlan}
 use Rattle.engine.proofs.FlushPlan.{some_frame, plan-fits, plan-room, plan-inside, plan-crashed, plan-written, gate-still}
-use Rattle.engine.proofs.ReadLaws.{settled_still}
+use Rattle.engine.proofs.ReadLemmas.{settled_still}
 use Rattle.engine.proofs.store.flush.write.Goals as goal
 
 pub write_flush-requires-clause-fits : goal.write_flush-requires-clause-fits

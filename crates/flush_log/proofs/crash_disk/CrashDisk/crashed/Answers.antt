@@ -2,7 +2,7 @@ use Rattle.std.proofs.Common.{◌≡◌, ℕ, length, replicate, refl, ap, ◌�
 use Rattle.flush_log.specs.Commit.{seen_after}
 use Rattle.flush_log.specs.Record.{LeftNow, calls_of}
 use Rattle.flush_log.specs.Crash.{left_with}
-use Rattle.flush_log.proofs.CrashLaws.{left-written, left-now, tear-fits, tear-left, seen_as, seen_has}
+use Rattle.flush_log.proofs.CrashLemmas.{left-written, left-now, tear-fits, tear-left, seen_as, seen_has}
 use Rattle.flush_log.proofs.crash_disk.CrashDisk.crashed.Goals as goal
 
 pub tear-requires : goal.tear-requires

@@ -1,6 +1,6 @@
 use Rattle.std.proofs.Common.{List, ℕ, length, replicate, refl, ap, subst}
 use Rattle.flush_log.specs.Record.{AreCalls, calls_of}
-use Rattle.flush_log.proofs.CrashLaws.{tear-fits, settled-tear}
+use Rattle.flush_log.proofs.CrashLemmas.{tear-fits, settled-tear}
 use Rattle.flush_log.proofs.crash_disk.CrashDiskDisk.sync.Goals as goal
 
 pub tear-requires : goal.tear-requires

@@ -1,6 +1,6 @@
 use Rattle.std.proofs.Common.{length}
 use Rattle.flush_log.specs.Record.{calls_of}
-use Rattle.flush_log.proofs.CrashLaws.{settled-either}
+use Rattle.flush_log.proofs.CrashLemmas.{settled-either}
 use Rattle.flush_log.proofs.crash_disk.CrashDiskDisk.write_at.Goals as goal
 
 pub invariant_of-self-in-Ok : goal.invariant_of-self-in-Ok

@@ -1,6 +1,6 @@
 use Rattle.flush_log.specs.Record.{view_of, calls_of}
 use Rattle.std.proofs.Common.{length, replicate}
-use Rattle.flush_log.proofs.ViewLaws.{leaves_part}
+use Rattle.flush_log.proofs.ViewLemmas.{leaves_part}
 use Rattle.flush_log.proofs.fault_disk.FaultDiskDisk.write_at.Goals as goal
 
 pub returns-then-is_to_fail-clause-crash : goal.returns-then-is_to_fail-clause-crash

@@ -1,5 +1,5 @@
 use Rattle.std.proofs.Common.{arith, rules, length}
-use Rattle.flush_log.proofs.ImageLaws.{place_of_frame, end_upto, start_within, frame_at_place, first_frame_cut}
+use Rattle.flush_log.proofs.ImageLemmas.{place_of_frame, end_upto, start_within, frame_at_place, first_frame_cut}
 use Rattle.flush_log.proofs.image.Image.frame.Goals as goal
 
 pub index-end-requires : goal.index-end-requires

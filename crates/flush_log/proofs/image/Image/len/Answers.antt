@@ -1,5 +1,5 @@
 use Rattle.std.proofs.Common.{rules}
-use Rattle.flush_log.proofs.ImageLaws.{length-cut}
+use Rattle.flush_log.proofs.ImageLemmas.{length-cut}
 use Rattle.flush_log.proofs.image.Image.len.Goals as goal
 
 pub returns : goal.returns

@@ -1,6 +1,6 @@
 use Rattle.std.proofs.Common.{◌≡◌, ◌++◌, ◌∷◌, [], length, refl}
 use Rattle.std.proofs.lemmas.Slice.{pushed}
-use Rattle.flush_log.proofs.ImageLaws.{frame-push}
+use Rattle.flush_log.proofs.ImageLemmas.{frame-push}
 use Rattle.flush_log.proofs.image.Image.push.Goals as goal
 
 pub invariant_of-self-2 : goal.invariant_of-self-2

@@ -1,6 +1,6 @@
 use Rattle.std.proofs.Common.{◌≡◌, ◌++◌, ◌∷◌, [], length}
 use Rattle.frame_codec.specs.Frame.{bytes_of}
-use Rattle.flush_log.proofs.ImageLaws.{frame-push}
+use Rattle.flush_log.proofs.ImageLemmas.{frame-push}
 use Rattle.flush_log.proofs.image.Image.push_full.Goals as goal
 
 pub invariant_of-self-2 : goal.invariant_of-self-2

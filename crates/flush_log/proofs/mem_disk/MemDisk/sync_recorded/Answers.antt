@@ -2,7 +2,7 @@ use Rattle.std.proofs.Common.{◌≡◌, [], ◌∷◌, ◌++◌, length, replic
 use Rattle.flush_log.specs.Commit.{seen_after}
 use Rattle.flush_log.specs.Commit.Call.{Sync}
 use Rattle.flush_log.specs.Record.{AreCalls, calls_of}
-use Rattle.flush_log.proofs.RecordLaws.{sync_in_range, sync_seen, sync_leaves, sync_settles, either_way}
+use Rattle.flush_log.proofs.RecordLemmas.{sync_in_range, sync_seen, sync_leaves, sync_settles, either_way}
 use Rattle.flush_log.proofs.mem_disk.MemDisk.sync_recorded.Goals as goal
 
 pub invariant_of-self : goal.invariant_of-self

@@ -2,8 +2,8 @@ use Rattle.std.proofs.Common.{◌≡◌, ◌+◌, length, refl, ap}
 use Rattle.flush_log.specs.Overlay.{IsBeside}
 use Rattle.flush_log.specs.Disk.{Torn}
 use Rattle.flush_log.specs.Record.{calls_of}
-use Rattle.flush_log.proofs.OverlayLaws.{agree_same}
-use Rattle.flush_log.proofs.RecordLaws.{in_bytes, written_length, write_in_range, write_recorded, write_seen, write_torn, write_leaves, none_leaves}
+use Rattle.flush_log.proofs.OverlayLemmas.{agree_same}
+use Rattle.flush_log.proofs.RecordLemmas.{in_bytes, written_length, write_in_range, write_recorded, write_seen, write_torn, write_leaves, none_leaves}
 use Rattle.flush_log.proofs.mem_disk.MemDisk.write_recorded.Goals as goal
 
 pub invariant_of-self : goal.invariant_of-self

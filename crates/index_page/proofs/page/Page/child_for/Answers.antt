@@ -1,6 +1,6 @@
 use Rattle.index_page.specs.Children.{child_entries}
-use Rattle.index_page.proofs.ChildLaws.{has_floor}
-use Rattle.index_page.proofs.WithinLaws.{child_of_floor}
+use Rattle.index_page.proofs.ChildLemmas.{has_floor}
+use Rattle.index_page.proofs.WithinLemmas.{child_of_floor}
 use Rattle.index_page.proofs.page.Page.child_for.Goals as goal
 
 pub returns : goal.returns

@@ -1,6 +1,6 @@
 use Rattle.std.proofs.Common.{◌≡◌, ◌+◌, arith}
 use Rattle.index_page.specs.Children.{child_entries}
-use Rattle.index_page.proofs.WithinLaws.{child_is_told-at, place_at-told}
+use Rattle.index_page.proofs.WithinLemmas.{child_is_told-at, place_at-told}
 use Rattle.index_page.proofs.page.Page.child_with_end.Goals as goal
 
 pub returns-clause-child : goal.returns-clause-child

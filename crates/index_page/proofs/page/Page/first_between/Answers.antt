@@ -1,6 +1,6 @@
 use Rattle.std.proofs.Common.{◌∙◌}
 use Rattle.index_page.specs.Children.{child_entries}
-use Rattle.index_page.proofs.WithinLaws.{within-start, within-none}
+use Rattle.index_page.proofs.WithinLemmas.{within-start, within-none}
 use Rattle.index_page.proofs.page.Page.first_between.Goals as goal
 
 pub returns-in-Some : goal.returns-in-Some

@@ -1,5 +1,5 @@
 use Rattle.index_page.specs.Children.{child_entries}
-use Rattle.index_page.proofs.ChildLaws.{has_child_by}
+use Rattle.index_page.proofs.ChildLemmas.{has_child_by}
 use Rattle.index_page.proofs.page.Page.has_child_for.Goals as goal
 
 pub returns : goal.returns

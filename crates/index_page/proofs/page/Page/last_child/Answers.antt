@@ -1,4 +1,4 @@
-use Rattle.index_page.proofs.ChildLaws.{leaf-rising}
+use Rattle.index_page.proofs.ChildLemmas.{leaf-rising}
 use Rattle.index_page.proofs.page.Page.last_child.Goals as goal
 
 pub returns-in_err-list-clause-rising : goal.returns-in_err-list-clause-rising

@@ -1,6 +1,6 @@
 use Rattle.std.proofs.Common.{sym, ◌∙◌}
 use Rattle.index_page.specs.Children.{child_entries}
-use Rattle.index_page.proofs.WithinLaws.{step-some, step-ends, step-none}
+use Rattle.index_page.proofs.WithinLemmas.{step-some, step-ends, step-none}
 use Rattle.index_page.proofs.page.Page.next_before.Goals as goal
 use Rattle.index_page.proofs.page.Page.next_before.Goals.{in_default-via-in-Some+else-is_before, in_default-via-in_default}
 

@@ -1,6 +1,6 @@
 use Rattle.std.proofs.Common.{◌≤◌, ◌∙◌, length, sym, arith}
 use Rattle.std.proofs.lemmas.Option.{slice_get_past}
-use Rattle.index_page.proofs.ChildLaws.{leaf-rising}
+use Rattle.index_page.proofs.ChildLemmas.{leaf-rising}
 use Rattle.index_page.proofs.page.Page.next_child.Goals as goal
 
 pub returns-in_err-list-clause-rising : goal.returns-in_err-list-clause-rising

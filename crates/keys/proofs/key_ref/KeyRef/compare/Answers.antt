@@ -1,5 +1,5 @@
 use Rattle.std.proofs.Common.{◌∙◌}
-use Rattle.keys.proofs.WordLaws.{told_by_words}
+use Rattle.keys.proofs.WordLemmas.{told_by_words}
 use Rattle.keys.proofs.key_ref.KeyRef.compare.Goals as goal
 
 pub returns-in_default : goal.returns-in_default

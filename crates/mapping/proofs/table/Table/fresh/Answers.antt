@@ -3,7 +3,7 @@ use Rattle.std.proofs.lemmas.List.FromFn.{length-map-range_with_len}
 use Rattle.mapping.specs.FreshPids.{unused}
 use Rattle.mapping.specs.Table.{pids_in_use}
 use Rattle.mapping.specs.Slots.{table_of}
-use Rattle.mapping.proofs.FreshLaws.{rising-in_use, slots_kept, slots_filled}
+use Rattle.mapping.proofs.FreshLemmas.{rising-in_use, slots_kept, slots_filled}
 use Rattle.mapping.proofs.table.Table.fresh.Goals as goal
 
 pub index-requires : goal.index-requires

@@ -1,7 +1,7 @@
 use Rattle.std.proofs.Common.{ap, ◌∙◌}
 use Rattle.mapping.specs.Slots.{known_pids}
 use Rattle.mapping.specs.Table.{pids_in_use_or_old}
-use Rattle.mapping.proofs.FreshLaws.{rising-in_use, rising-logged}
+use Rattle.mapping.proofs.FreshLemmas.{rising-in_use, rising-logged}
 use Rattle.mapping.proofs.KnownPids.{known-table}
 use Rattle.mapping.proofs.table.Table.pids.Goals as goal
 

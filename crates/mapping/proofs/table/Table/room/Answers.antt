@@ -1,4 +1,4 @@
-use Rattle.mapping.proofs.RoomLaws.{slots_by, table_kept}
+use Rattle.mapping.proofs.RoomLemmas.{slots_by, table_kept}
 use Rattle.mapping.proofs.table.Table.room.Goals as goal
 
 pub invariant_of-self : goal.invariant_of-self

@@ -4,7 +4,7 @@ use Rattle.frame_codec.specs.declared.frame.Frame as code
 use Rattle.frame_codec.specs.Shown.{frame_of}
 use Rattle.recovery.specs.Gathered.{kept_of, kept_with}
 use Rattle.recovery.specs.Rebuild.{content_of, contents_in}
-use Rattle.recovery.proofs.GatherLaws.{gathered-more}
+use Rattle.recovery.proofs.GatherLemmas.{gathered-more}
 use Rattle.recovery.proofs.gather.Gathering.add.Goals as goal
 use Rattle.recovery.proofs.gather.Gathering.add.Goals.{in-Some, in-None}
 

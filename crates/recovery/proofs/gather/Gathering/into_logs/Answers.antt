@@ -1,6 +1,6 @@
 use Rattle.std.proofs.Common.{◌∙◌, map, sym}
 use Rattle.recovery.specs.Rebuild.{held_log}
-use Rattle.recovery.proofs.GatherLaws.{logs-gathered, pids-rise}
+use Rattle.recovery.proofs.GatherLemmas.{logs-gathered, pids-rise}
 use Rattle.recovery.proofs.gather.Gathering.into_logs.Goals as goal
 
 pub returns-clause-ok : goal.returns-clause-ok

@@ -1,7 +1,7 @@
 use Rattle.std.proofs.Common.{map, ap}
 use Rattle.frame_codec.specs.Shown.{frame_of}
 use Rattle.recovery.specs.Scan.{told_by_scan}
-use Rattle.recovery.proofs.SoFarLaws.{upto-next, upto-broken}
+use Rattle.recovery.proofs.SoFarLemmas.{upto-next, upto-broken}
 use Rattle.recovery.proofs.log_so_far.LogSoFar.gather.Goals as goal
 
 pub loop-done-preserved : goal.loop-done-preserved

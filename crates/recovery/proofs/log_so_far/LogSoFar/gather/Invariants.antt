@@ -1,6 +1,6 @@
 use Rattle.std.proofs.Common.{◌≡◌, None}
 use Rattle.std.specs.Vec.Iter.{into_iter_items}
-use Rattle.recovery.proofs.SoFarLaws.{AreGatheredUpto}
+use Rattle.recovery.proofs.SoFarLemmas.{AreGatheredUpto}
 use Rattle.recovery.proofs.log_so_far.LogSoFar.gather.Given as goal
 
 -- no scan so far had a fault, and what they told was gathered

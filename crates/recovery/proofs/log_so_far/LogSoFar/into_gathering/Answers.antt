@@ -1,4 +1,4 @@
-use Rattle.recovery.proofs.SoFarLaws.{found-none, fault-some}
+use Rattle.recovery.proofs.SoFarLemmas.{found-none, fault-some}
 use Rattle.recovery.proofs.log_so_far.LogSoFar.into_gathering.Goals as goal
 
 pub returns-in-Some : goal.returns-in-Some

@@ -3,7 +3,7 @@ use Rattle.keys.specs.declared.settings.Settings.{Settings}
 use Rattle.flush_log.specs.Reading.{followed_by}
 use Rattle.recovery.specs.LogSoFar.{IsSoFar}
 use Rattle.recovery.specs.Scan.{held_segment, scanned}
-use Rattle.recovery.proofs.SoFarLaws.{Told, stays-broken}
+use Rattle.recovery.proofs.SoFarLemmas.{Told, stays-broken}
 use Rattle.recovery.proofs.log_so_far.LogSoFarLogReader.take.Goals as goal
 
 pub returns-then-is_some-clause-ok : goal.returns-then-is_some-clause-ok

@@ -1,5 +1,5 @@
 use Rattle.std.proofs.Common.{◌∙◌}
-use Rattle.routing.proofs.BatchLaws.{any_same}
+use Rattle.routing.proofs.BatchLemmas.{any_same}
 use Rattle.routing.proofs.batch.BatchWithEnds.has_scans.Goals as goal
 
 pub returns : goal.returns

@@ -1,7 +1,7 @@
 use Rattle.std.proofs.Common.{ap, sym, ◌∙◌}
 use Rattle.keys.specs.CommandKey.{is_scan}
 use Rattle.keys.specs.Places.{is_some_that}
-use Rattle.routing.proofs.BatchLaws.{past, scan_there}
+use Rattle.routing.proofs.BatchLemmas.{past, scan_there}
 use Rattle.routing.proofs.batch.BatchWithEnds.is_scan_at.Goals as goal
 
 pub returns-in-Some : goal.returns-in-Some

@@ -1,6 +1,6 @@
 use Rattle.std.proofs.Common.{ap, sym, ◌∙◌}
 use Rattle.routing.specs.BatchKeys.{key_or_empty}
-use Rattle.routing.proofs.BatchLaws.{past, key_there}
+use Rattle.routing.proofs.BatchLemmas.{past, key_there}
 use Rattle.routing.proofs.batch.BatchWithEnds.key_at.Goals as goal
 
 pub returns-in-Some : goal.returns-in-Some

@@ -1,4 +1,4 @@
-use Rattle.routing.proofs.BatchLaws.{length_same}
+use Rattle.routing.proofs.BatchLemmas.{length_same}
 use Rattle.routing.proofs.batch.BatchWithEnds.len.Goals as goal
 
 pub returns : goal.returns

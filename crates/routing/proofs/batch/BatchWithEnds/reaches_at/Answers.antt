@@ -3,7 +3,7 @@ use Rattle.std.specs.Option.{option_copied}
 use Rattle.keys.specs.Narrowed.{first_end}
 use Rattle.keys.specs.Places.{is_some_that}
 use Rattle.routing.specs.SortedPlaces.{reaches}
-use Rattle.routing.proofs.BatchLaws.{past, reaches_there}
+use Rattle.routing.proofs.BatchLemmas.{past, reaches_there}
 use Rattle.routing.proofs.batch.BatchWithEnds.reaches_at.Goals as goal
 
 pub returns-in-Some : goal.returns-in-Some

@@ -1,4 +1,4 @@
-use Rattle.routing.proofs.PlaceLaws.{rising-one}
+use Rattle.routing.proofs.PlaceLemmas.{rising-one}
 use Rattle.routing.proofs.page_run.PageRun.of_one.Goals as goal
 
 pub invariant_of-result : goal.invariant_of-result

@@ -1,5 +1,5 @@
 use Rattle.std.proofs.Common.{sym, ◌∙◌}
-use Rattle.scan.proofs.MergeLaws.{change_at}
+use Rattle.scan.proofs.MergeLemmas.{change_at}
 use Rattle.scan.proofs.base_pairs.BasePairsIterator.next.Goals as goal
 
 pub returns-then-at-len-clause-steps : goal.returns-then-at-len-clause-steps

@@ -1,5 +1,5 @@
 use Rattle.scan.proofs.MergeSteps.{merge_of_none}
-use Rattle.scan.proofs.PassingLaws.{rising-base_of}
+use Rattle.scan.proofs.PassingLemmas.{rising-base_of}
 use Rattle.scan.proofs.merge.Merge.new.Goals as goal
 
 pub invariant_of-merge : goal.invariant_of-merge

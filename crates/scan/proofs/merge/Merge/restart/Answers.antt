@@ -1,6 +1,6 @@
 use Rattle.std.specs.Option.{option_copied}
 use Rattle.scan.proofs.MergeSteps.{runs_rise, merge_starts, said_next, merge_again}
-use Rattle.scan.proofs.PassingLaws.{rising-base_of}
+use Rattle.scan.proofs.PassingLemmas.{rising-base_of}
 use Rattle.scan.proofs.merge.Merge.restart.Goals as goal
 
 pub next_change-self-inside-requires : goal.next_change-self-inside-requires

@@ -1,4 +1,4 @@
-use Rattle.scan.proofs.RowLaws.{root_is_there, rows_at_start}
+use Rattle.scan.proofs.RowLemmas.{root_is_there, rows_at_start}
 use Rattle.scan.proofs.rows.Rows.new.Goals as goal
 
 pub new-leaves-requires-clause-known : goal.new-leaves-requires-clause-known

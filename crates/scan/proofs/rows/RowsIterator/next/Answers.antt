@@ -1,5 +1,5 @@
 use Rattle.std.proofs.Common.{◌<◌, sym, ◌∙◌, arith}
-use Rattle.scan.proofs.RowLaws.{row_given}
+use Rattle.scan.proofs.RowLemmas.{row_given}
 use Rattle.scan.proofs.rows.RowsIterator.next.Goals as goal
 
 pub returns-in-Some-clause-steps : goal.returns-in-Some-clause-steps

@@ -1,4 +1,4 @@
-use Rattle.scan.proofs.LeafLaws.{start-some, start-none}
+use Rattle.scan.proofs.LeafLemmas.{start-some, start-none}
 use Rattle.scan.proofs.search.Search.new.Goals as goal
 
 pub returns-in-Some : goal.returns-in-Some

@@ -1,5 +1,5 @@
 use Rattle.std.proofs.Common.{◌∙◌}
-use Rattle.verify.proofs.MetLaws.{has_among}
+use Rattle.verify.proofs.MetLemmas.{has_among}
 use Rattle.verify.proofs.met.Met.has.Goals as goal
 
 pub returns : goal.returns

@@ -1,6 +1,6 @@
 use Rattle.std.proofs.Common.{ap, ◌∙◌}
 use Rattle.std.specs.Prelude.{not}
-use Rattle.verify.proofs.MetLaws.{has_among}
+use Rattle.verify.proofs.MetLemmas.{has_among}
 use Rattle.verify.proofs.met.Met.meet.Goals as goal
 
 pub returns-clause-first : goal.returns-clause-first

@@ -1,0 +1,92 @@
+-- What the making of a store comes to.
+use Rattle.std.specs.Prelude.{◌≡◌, ℕ, ◌+◌, ◌≤◌, nat_lt, IsTrue, Bool, true, false, if◌then◌else◌, List, length, replicate, Option, Some, None, Result, Ok, Err, MatchOption}
+use Rattle.std.specs.Option.{option_or}
+use Rattle.std.proofs.Common.{refl, sym, ap, ◌∙◌, subst, arith}
+use Rattle.std.proofs.lemmas.Bool.{ltb-false}
+use Rattle.std.proofs.Math.Nat.{mul-le-mul}
+use Rattle.std.proofs.lemmas.List.{length-replicate}
+use Rattle.keys.specs.Limits.{first_bad_field}
+use Rattle.keys.specs.declared.fault.Fault.{Fault}
+use Rattle.keys.specs.declared.fault.Fault.TheVariants.{DiskTooSmall}
+use Rattle.keys.specs.declared.settings.Field.{Field}
+use Rattle.keys.specs.declared.settings.Settings.{Settings}
+use Rattle.mapping.specs.Tree.{Store}
+use Rattle.mapping.specs.TreeInMemory.{TreeInMemory, new_in_memory, tree_of}
+use Rattle.flush_log.specs.AfterFlush.{store_after}
+use Rattle.flush_log.specs.Disk.{View, Lawful, Kept}
+use Rattle.flush_log.specs.NewStore.{first_slot, new_bytes, disk_of_new}
+use Rattle.flush_log.specs.Segments.{HasSegments, disk_size}
+use Rattle.flush_log.specs.Slot.{Slot}
+use Rattle.flush_log.proofs.FitLemmas.{are_sized}
+use Rattle.recovery.specs.InStep.{IsInStep, IsStoreOf}
+use Rattle.recovery.specs.StoreOfDisk.{first_store, store_of_disk}
+use Rattle.engine.specs.Late.{create_refusal, field_fault, after_create, made_unless}
+use Rattle.engine.specs.State.{IsSoundStore, store_in}
+use Rattle.engine.specs.declared.store.Log.{Log}
+
+-- what is made isn't refused
+pub not_refused : {X U : Type 0} (why : X → Fault) (o : Option X) (r : Result U Fault) (u : U) (P : Type 0) → MatchOption o P (λ x. r ≡ Err (why x)) → r ≡ Ok u → o ≡ None
+not_refused why None r u P h e = refl
+not_refused why (Some fault) r u P h e = absurd (cc)
+
+none_by : (o : Option Field) (b : Bool) → option_or (field_fault o) (if b then Some DiskTooSmall else None) ≡ None → (o ≡ None) × (b ≡ false)
+none_by None true e = absurd (cc)
+none_by None false e = (refl, refl)
+none_by (Some f) b e = absurd (cc)
+
+pub fits : (s : Settings) (size : ℕ) → create_refusal s size ≡ None → (first_bad_field s ≡ None) × (disk_size s ≤ size)
+fits s size e = let parts = none_by (first_bad_field s) (nat_lt size (disk_size s)) e in (parts.0, ltb-false size (disk_size s) parts.1)
+
+-- so a disk has room for the bytes of a new store
+pub new-fits : (s : Settings) (bytes : List ℕ) (len small size : ℕ) → first_bad_field s ≡ None → bytes ≡ new_bytes s → small ≤ len → len ≡ size → small ≡ disk_size s → 0 + length bytes ≤ size
+new-fits s bytes len small size good is room whole least =
+    let sized = are_sized s good in
+    let product = mul-le-mul sized.least_count sized.least_size in
+    let long : length bytes ≡ 545 = rw is refl in
+    omega (arith, product, long, room, whole, least)
+
+-- the store of a slot, as its log is kept
+pub opened-is : (tree : TreeInMemory) (slot : Slot) (log : Log) → (log.head ≡ slot.head) × (log.tail ≡ slot.tail) × (log.sequence ≡ slot.sequence) → store_in tree log ≡ store_after (tree_of tree) slot
+opened-is tree slot log (head, tail, sequence) =
+    ap (λ (n : ℕ). (let x : Store = record { tree = tree_of tree; head = n; tail = log.tail; sequence = log.sequence } in x)) head
+    ∙ ap (λ (n : ℕ). (let x : Store = record { tree = tree_of tree; head = slot.head; tail = n; sequence = log.sequence } in x)) tail
+    ∙ ap (λ (n : ℕ). (let x : Store = record { tree = tree_of tree; head = slot.head; tail = slot.tail; sequence = n } in x)) sequence
+
+-- a new tree under the log of the first slot is the first store
+pub first-is : (tree : TreeInMemory) (slot : Slot) (log : Log) → tree ≡ new_in_memory → slot ≡ first_slot → (log.head ≡ slot.head) × (log.tail ≡ slot.tail) × (log.sequence ≡ slot.sequence) → store_in tree log ≡ first_store
+first-is tree slot log new first same =
+    opened-is tree slot log same
+    ∙ ap (λ (t : Slot). store_after (tree_of tree) t) first
+    ∙ ap (λ (t : TreeInMemory). store_after (tree_of t) first_slot) new
+
+module _ {D : Type 0} (view : D → View) (s : Settings) (tree : TreeInMemory) (log : Log) (old new : D) (is : store_in tree log ≡ first_store) (free : create_refusal s (view old).size ≡ None)
+    (law : IsTrue (view old).is_honest → Lawful (view old)) (bytes : IsTrue (view old).is_honest → (view new).seen ≡ disk_of_new s (view old).seen) where
+  pub made-bytes : IsTrue (view old).is_honest → after_create s (view old).seen ≡ Ok (store_in tree log, (view new).seen)
+  made-bytes honest =
+      let none : create_refusal s (length (view old).seen) ≡ None = ap (λ (n : ℕ). create_refusal s n) (law honest).whole ∙ free in
+      ap (λ (o : Option Fault). made_unless o s (view old).seen) none
+      ∙ ap (λ (st : Store). answer st (disk_of_new s (view old).seen)) (sym is)
+      ∙ ap (λ (file : List ℕ). answer (store_in tree log) file) (sym (bytes honest))
+    where
+      answer : Store → List ℕ → Result (Store × List ℕ) Fault
+      answer st file = Ok (st, file)
+
+  pub made-sound : tree ≡ new_in_memory → Kept (view old) (view new)
+      → ((s : Settings) (disk : List ℕ) → first_bad_field s ≡ None → HasSegments s disk → (store_of_disk (disk_of_new s disk) ≡ Ok (s, first_store)) × IsStoreOf s first_store (disk_of_new s disk))
+      → IsSoundStore view s tree log new false
+  made-sound fresh kept stands =
+      let (good, room) = fits s (view old).size free in
+      let zeros : List ℕ = replicate (disk_size s) 0 in
+      let any = stands s zeros good (rw (length-replicate {A = ℕ} (disk_size s) 0) (Prim.omega arith)) in
+      record {
+        home = rw fresh (refl, tt);
+        sound = record {
+          is = rw is any.1.is;
+          room = subst (λ (n : ℕ). disk_size s ≤ n) (sym kept.size) room;
+          step = λ _ still. (
+              let honest = subst IsTrue kept.honest still in
+              let long : HasSegments s (view old).seen = subst (λ (n : ℕ). disk_size s ≤ n) (sym (law honest).whole) room in
+              let stood = stands s (view old).seen good long in
+              subst (λ (st : Store). IsInStep s st (view new).seen) (sym is) (subst (λ (file : List ℕ). IsInStep s first_store file) (sym (bytes honest)) stood.1.step));
+        };
+      }

@@ -1,0 +1,205 @@
+-- What a crash leaves of a disk for tests: it is one of what may be left, and the bytes as of the last sync tell it.
+use Rattle.std.proofs.Common.{◌≡◌, inr, ℕ, ◌+◌, ◌-◌, ◌<◌, ◌≤◌, List, [], ◌∷◌, ◌++◌, length, get_or, take, drop, replicate, refl, sym, ap, subst, ◌∙◌, arith, length-append, Result, Ok, Err, IfOk, OnOk, OnErr}
+use Rattle.std.proofs.lemmas.List.{length-map, length-replicate, take-append-drop, drop-append-le, drop_all, drop-map, take_rest, append-nil}
+use Rattle.index_page.proofs.ListLemmas.{all_apart}
+use Rattle.flush_log.specs.Overlay.{overlay, IsBeside, AgreeAt}
+use Rattle.flush_log.specs.Disk.{Torn}
+use Rattle.flush_log.specs.Commit.{Call, seen_after, MayLeave}
+use Rattle.flush_log.specs.Commit.Call.{Write, Sync}
+use Rattle.flush_log.specs.Record.{LeftNow, end_of_call, AreCalls, call_of, calls_of}
+use Rattle.flush_log.specs.Crash.{torn_by, left_with, all_torn, IsSettledAt}
+use Rattle.flush_log.specs.declared.crash_disk.Fill.{Fill}
+use Rattle.flush_log.specs.declared.crash_disk.Fill.TheVariants.{Before, Written, Byte}
+use Rattle.flush_log.specs.declared.mem_disk.RecordedCall.{RecordedCall}
+use Rattle.flush_log.proofs.ReachLemmas.{front_item}
+use Rattle.flush_log.proofs.OverlayLemmas.{length-overlay, overlay-beside, agree_same}
+use Rattle.flush_log.proofs.CallLemmas.{TornFrom}
+use Rattle.flush_log.proofs.RecordLemmas.{either_way}
+
+-- ---- one write
+
+-- it is torn as a write may be
+pub torn-beside : (fill : Fill) (at : ℕ) (bytes file : List ℕ) → at + length bytes ≤ length file → Torn at (length bytes) file (torn_by fill at bytes file)
+torn-beside Before at bytes file fits = agree_same (IsBeside at (length bytes)) file
+torn-beside Written at bytes file fits = overlay-beside file at bytes fits
+torn-beside (Byte b) at bytes file fits =
+    let long : length {A = ℕ} (replicate (length bytes) b) ≡ length bytes = length-replicate (length bytes) b in
+    subst (λ (n : ℕ). AgreeAt (IsBeside at n) file (overlay file at (replicate (length bytes) b))) long
+    (overlay-beside file at (replicate (length bytes) b) (omega (arith, long, fits)))
+
+-- ---- the calls
+
+-- what is left is one of what the calls may leave
+pub left-may : (fill : Fill) (calls : List Call) (seen left : List ℕ) (might : List ℕ → Type 0) → AreCalls (length seen) calls → length left ≡ length seen → might left
+    → MayLeave calls seen might (left_with fill calls seen left)
+left-may fill [] seen left might fit same here = here
+left-may fill (Write at bytes ∷ calls) seen left might fit same here =
+    let long = length-overlay seen at bytes fit.0 in
+    let torn = torn-beside fill at bytes left (omega (arith, same, fit.0)) in
+    left-may fill calls (overlay seen at bytes) (torn_by fill at bytes left) (TornFrom might at bytes) (subst (λ (n : ℕ). AreCalls n calls) (sym long) fit.1) (torn.long ∙ same ∙ sym long) (left, here, torn)
+left-may fill (Sync ∷ calls) seen left might fit same here = left-may fill calls seen seen (λ e. e ≡ seen) fit.1 refl refl
+
+-- where all was written, it is what a read gives
+pub left-written : (calls : List Call) (seen : List ℕ) → left_with Written calls seen seen ≡ seen_after calls seen
+left-written [] seen = refl
+left-written (Write at bytes ∷ calls) seen = left-written calls (overlay seen at bytes)
+left-written (Sync ∷ calls) seen = left-written calls seen
+
+left-append : (fill : Fill) (xs ys : List Call) (seen left : List ℕ) → left_with fill (xs ++ ys) seen left ≡ left_with fill ys (seen_after xs seen) (left_with fill xs seen left)
+left-append fill [] ys seen left = refl
+left-append fill (Write at bytes ∷ xs) ys seen left = left-append fill xs ys (overlay seen at bytes) (torn_by fill at bytes left)
+left-append fill (Sync ∷ xs) ys seen left = left-append fill xs ys seen seen
+
+pub torn-append : (fill : Fill) (xs ys : List Call) (file : List ℕ) → all_torn fill (xs ++ ys) file ≡ all_torn fill ys (all_torn fill xs file)
+torn-append fill [] ys file = refl
+torn-append fill (Write at bytes ∷ xs) ys file = torn-append fill xs ys (torn_by fill at bytes file)
+torn-append fill (Sync ∷ xs) ys file = torn-append fill xs ys file
+
+-- what is in range is so from a place on
+pub range-behind : (n at : ℕ) (calls : List Call) → AreCalls n calls → AreCalls n (drop at calls)
+range-behind n at calls fit =
+    (all_apart (λ call. end_of_call call ≤ n) (take at calls) (drop at calls) (subst (λ (xs : List Call). AreCalls n xs) (sym (take-append-drop at calls)) fit)).1
+
+-- ---- calls as they are kept in memory
+
+pub front_call : {A : Type 0} (cs : List (RecordedCall A)) (at : ℕ) (c : RecordedCall A) → at < length cs → c ≡ get_or cs at c → drop at (calls_of cs) ≡ call_of c ∷ drop (at + 1) (calls_of cs)
+front_call cs at c l is =
+    drop-map call_of at cs
+    ∙ ap (λ xs. calls_of xs) (front_item cs at c l is)
+    ∙ ap (λ (xs : List Call). call_of c ∷ xs) (sym (drop-map call_of (at + 1) cs))
+
+-- those behind a place of a record that was lent
+pub calls_behind : {A : Type 0} (cs held : List (RecordedCall A)) (since : ℕ) → held ≡ cs → calls_of (take (length held - since) (drop since held)) ≡ drop since (calls_of cs)
+calls_behind cs held since is = ap (λ xs. calls_of xs) (take_rest held since) ∙ sym (drop-map call_of since held) ∙ ap (λ xs. drop since (calls_of xs)) is
+
+-- a file in which the calls before this place are torn: those that are left lie within it, and make of it what all make of it as it was
+pub record IsTearing (fill : Fill) (calls : List Call) (start : List ℕ) (at : ℕ) (file : List ℕ) : Type 0 where
+  pub fits : AreCalls (length file) (drop at calls)
+  pub torn : all_torn fill (drop at calls) file ≡ all_torn fill calls start
+  pub long : length file ≡ length start
+
+pub tearing-starts : (fill : Fill) (calls : List Call) (file : List ℕ) → AreCalls (length file) calls → IsTearing fill calls file 0 file
+tearing-starts fill calls file fit = record { fits = fit; torn = refl; long = refl }
+
+module _ (fill : Fill) (calls : List Call) (start : List ℕ) (at : ℕ) (file : List ℕ) (tearing : IsTearing fill calls start at file) where
+  -- with the next of them
+  module _ (x : Call) (next : drop at calls ≡ x ∷ drop (at + 1) calls) where
+    pub tearing-here : end_of_call x ≤ length file
+    tearing-here = (subst (λ (xs : List Call). AreCalls (length file) xs) next tearing.fits).0
+
+    pub tearing-next : (now : List ℕ) → now ≡ all_torn fill (x ∷ []) file → length now ≡ length file → IsTearing fill calls start (at + 1) now
+    tearing-next now is long = record {
+      fits = subst (λ (n : ℕ). AreCalls n (drop (at + 1) calls)) (sym long) (subst (λ (xs : List Call). AreCalls (length file) xs) next tearing.fits).1;
+      torn =
+          ap (λ (f : List ℕ). all_torn fill (drop (at + 1) calls) f) is
+          ∙ sym (torn-append fill (x ∷ []) (drop (at + 1) calls) file)
+          ∙ ap (λ (xs : List Call). all_torn fill xs file) (sym next)
+          ∙ tearing.torn;
+      long = long ∙ tearing.long;
+    }
+
+  pub tearing-ends : length calls ≤ at → file ≡ all_torn fill calls start
+  tearing-ends all = sym (ap (λ (xs : List Call). all_torn fill xs file) (drop_all at calls all)) ∙ tearing.torn
+
+-- ---- the bytes as of the last sync
+
+-- all of a file was written anew
+pub over-all : (n : ℕ) (bytes : List ℕ) → length bytes ≡ n → overlay (replicate n 0) 0 bytes ≡ bytes
+over-all n bytes all =
+    let long : length {A = ℕ} (replicate n 0) ≡ n = length-replicate n 0 in
+    ap (λ (rest : List ℕ). bytes ++ rest) (drop_all (0 + length bytes) (replicate n 0) (omega (arith, long, all))) ∙ append-nil bytes
+
+pub settled-holding : (n since : ℕ) (bytes : List ℕ) (calls : List Call) → length bytes ≡ n → calls ≡ Write 0 bytes ∷ Sync ∷ [] → since ≡ length calls → IsSettledAt (replicate n 0) calls since bytes
+settled-holding n since bytes calls all is upto = record {
+  within = omega (arith, upto);
+  long = let long : length {A = ℕ} (replicate n 0) ≡ n = length-replicate n 0 in all ∙ sym long;
+  left = λ fill.
+      ap (λ (xs : List Call). left_with fill xs (replicate n 0) (replicate n 0)) is
+      ∙ over-all n bytes all
+      ∙ sym (ap (λ (xs : List Call). all_torn fill xs bytes) (drop_all since calls (omega (arith, upto))));
+}
+
+module _ {A : Type 0} (cs held : List (RecordedCall A)) (is : held ≡ cs) (n since : ℕ) (settled : List ℕ) where
+  -- the writes since the last sync lie within them
+  pub tear-fits : (bytes : List ℕ) → bytes ≡ settled → AreCalls n (calls_of cs) → length settled ≡ length {A = ℕ} (replicate n 0) → AreCalls (length bytes) (calls_of (take (length held - since) (drop since held)))
+  tear-fits bytes copied fit long =
+      let zeros : length {A = ℕ} (replicate n 0) ≡ n = length-replicate n 0 in
+      subst (λ (xs : List Call). AreCalls (length bytes) xs) (sym (calls_behind cs held since is))
+      (range-behind (length bytes) since (calls_of cs) (subst (λ (k : ℕ). AreCalls k (calls_of cs)) (sym (ap length copied ∙ long ∙ zeros)) fit))
+
+  -- with these writes torn they are what is left
+  pub tear-left : (fill : Fill) (bytes now : List ℕ) → bytes ≡ settled → IsSettledAt (replicate n 0) (calls_of cs) since settled
+      → now ≡ all_torn fill (calls_of (take (length held - since) (drop since held))) bytes → now ≡ left_with fill (calls_of cs) (replicate n 0) (replicate n 0)
+  tear-left fill bytes now copied at torn =
+      torn
+      ∙ ap (λ (xs : List Call). all_torn fill xs bytes) (calls_behind cs held since is)
+      ∙ ap (λ (f : List ℕ). all_torn fill (drop since (calls_of cs)) f) copied
+      ∙ sym (at.left fill)
+
+-- one call more
+module _ (file : List ℕ) (calls more : List Call) (since : ℕ) (settled : List ℕ) (was : IsSettledAt file calls since settled) where
+  behind : (x : Call) → more ≡ calls ++ x ∷ [] → drop since more ≡ drop since calls ++ x ∷ []
+  behind x is = ap (λ (xs : List Call). drop since xs) is ∙ drop-append-le since calls (x ∷ []) was.within
+
+  pub settled-write : (at : ℕ) (bytes : List ℕ) → more ≡ calls ++ Write at bytes ∷ [] → IsSettledAt file more since settled
+  settled-write at bytes is = record {
+    within = let long = ap length is ∙ length-append calls (Write at bytes ∷ []) in omega (arith, long, was.within);
+    long = was.long;
+    left = λ fill.
+        ap (λ (xs : List Call). left_with fill xs file file) is
+        ∙ left-append fill calls (Write at bytes ∷ []) file file
+        ∙ ap (λ (f : List ℕ). torn_by fill at bytes f) (was.left fill)
+        ∙ sym (torn-append fill (drop since calls) (Write at bytes ∷ []) settled)
+        ∙ ap (λ (xs : List Call). all_torn fill xs settled) (sym (behind (Write at bytes) is));
+  }
+
+  pub settled-sync : (upto : ℕ) (now : List ℕ) → more ≡ calls ++ Sync ∷ [] → upto ≡ length more → now ≡ all_torn Written (drop since more) settled → length now ≡ length settled → IsSettledAt file more upto now
+  settled-sync upto now is all torn long = record {
+    within = omega (arith, all);
+    long = long ∙ was.long;
+    left = λ fill.
+        ap (λ (xs : List Call). left_with fill xs file file) is
+        ∙ left-append fill calls (Sync ∷ []) file file
+        ∙ sym (left-written calls file)
+        ∙ was.left Written
+        ∙ sym (torn-append Written (drop since calls) (Sync ∷ []) settled)
+        ∙ ap (λ (xs : List Call). all_torn Written xs settled) (sym (behind Sync is))
+        ∙ sym torn
+        ∙ sym (ap (λ (xs : List Call). all_torn fill xs now) (drop_all upto more (omega (arith, all))));
+  }
+
+-- a sync of a disk of n zeros: m is the disk's length after it, and its record is lent twice
+pub settled-tear : {A : Type 0} (cs held counted : List (RecordedCall A)) (n m : ℕ) (calls : List Call) (since : ℕ) (settled now : List ℕ) → held ≡ cs → counted ≡ cs → m ≡ n
+    → calls_of cs ≡ calls ++ Sync ∷ [] → IsSettledAt (replicate n 0) calls since settled
+    → now ≡ all_torn Written (calls_of (take (length held - since) (drop since held))) settled → length now ≡ length settled → IsSettledAt (replicate m 0) (calls_of cs) (length counted) now
+settled-tear cs held counted n m calls since settled now is again same more was torn long =
+    subst (λ (k : ℕ). IsSettledAt (replicate k 0) (calls_of cs) (length counted) now) (sym same)
+    (settled-sync (replicate n 0) calls (calls_of cs) since settled was (length counted) now more
+    (ap (λ xs. length xs) again ∙ sym (length-map cs call_of)) (torn ∙ ap (λ (xs : List Call). all_torn Written xs settled) (calls_behind cs held since is)) long)
+
+-- a write of a disk of n zeros, made or refused; m is the disk's length after it
+pub settled-either : {T E : Type 0} (result : Result T E) (n m : ℕ) (calls more : List Call) (since : ℕ) (settled : List ℕ) (at : ℕ) (bytes : List ℕ) → m ≡ n
+    → OnOk result (more ≡ calls ++ Write at bytes ∷ []) → OnErr result (more ≡ calls) → IsSettledAt (replicate n 0) calls since settled → IsSettledAt (replicate m 0) more since settled
+settled-either result n m calls more since settled at bytes same done refused was =
+    subst (λ (k : ℕ). IsSettledAt (replicate k 0) more since settled) (sym same)
+    (either_way (more ≡ calls ++ Write at bytes ∷ []) (more ≡ calls) (IsSettledAt (replicate n 0) more since settled) result done refused
+    (λ is. settled-write (replicate n 0) calls more since settled was at bytes is)
+    (λ is. subst (λ (xs : List Call). IsSettledAt (replicate n 0) xs since settled) (sym is) was))
+
+-- what is left now, of a disk of n zeros
+pub left-now : (fill : Fill) (n : ℕ) (calls : List Call) (c : List ℕ) → AreCalls n calls → c ≡ left_with fill calls (replicate n 0) (replicate n 0)
+    → LeftNow (replicate n 0) calls c
+left-now fill n calls c fit is =
+    let long : length {A = ℕ} (replicate n 0) ≡ n = length-replicate n 0 in
+    inr (subst (λ (f : List ℕ). MayLeave calls (replicate n 0) (λ d. d ≡ replicate n 0) f) (sym is)
+    (left-may fill calls (replicate n 0) (replicate n 0) (λ d. d ≡ replicate n 0) (subst (λ (k : ℕ). AreCalls k calls) (sym long) fit) refl refl))
+
+-- ---- a disk that is made of it
+
+pub seen_as : {T E X : Type 0} (result : Result T E) (seen : T → X) (a b : X) → a ≡ b → IfOk result (λ t. seen t ≡ a) → IfOk result (λ t. seen t ≡ b)
+seen_as (Ok t) seen a b is h = h ∙ is
+seen_as (Err e) seen a b is h = h
+
+pub seen_has : {T E : Type 0} (result : Result T E) (seen : T → List ℕ) (a : List ℕ) (P : List ℕ → Type 0) → P a → IfOk result (λ t. seen t ≡ a) → IfOk result (λ t. P (seen t))
+seen_has (Ok t) seen a P has h = subst P (sym h) has
+seen_has (Err e) seen a P has h = h

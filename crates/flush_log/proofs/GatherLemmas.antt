@@ -1,0 +1,205 @@
+-- How bytes are gathered for a segment, and what the gathered spans are.
+use Rattle.std.proofs.Common.{◌≡◌, ℕ, zero, suc, ◌+◌, ◌-◌, ◌*◌, ◌/◌, ◌%◌, ◌<◌, ◌≤◌, Bool, true, false, nat_le, if◌then◌else◌, List, [], ◌∷◌, ◌++◌, length, length-append, map, drop, replicate, slice_range, refl, sym, ap, ◌∙◌, arith, le-leb, add-one}
+use Rattle.std.proofs.lemmas.Bool.{lt-leb}
+use Rattle.std.proofs.lemmas.List.{places, same_lists, length-take-le, length-drop, length-replicate}
+use Rattle.std.proofs.Math.Nat.{mul-le-mul_left}
+use Rattle.keys.specs.Bytes.{Bytes}
+use Rattle.frame_codec.specs.Frame.{Frame, bytes_of}
+use Rattle.keys.specs.declared.settings.Settings.{Settings}
+use Rattle.flush_log.specs.declared.write.Part.{Part}
+use Rattle.flush_log.specs.Gathering.{left_by, open_after, span_of, IsInside}
+use Rattle.flush_log.specs.Images.{FitSegments, Reached, from_tail, reached, behind_frames}
+use Rattle.flush_log.specs.Segments.{segment_header}
+use Rattle.flush_log.specs.Layout.{Span, end_of, longer, filled, begun, opened, placed_from, spans_from, spans, tail_after}
+use Rattle.flush_log.proofs.LayoutLemmas.{opened-segment, opened-end, goes_on_span, next_span}
+use Rattle.flush_log.proofs.ReachLemmas.{frames-are, start-is, text_tail}
+use borrow.Rule.Slice.PartMut.{put_mid}
+
+-- bytes that are put behind those that are gathered up to a place
+pub put_behind : (buffer new : Bytes) (from at size end : ℕ) → from ≤ at → at + size ≡ end → end ≤ length buffer → length new ≡ size
+    → slice_range (put_mid at size buffer new) from end ≡ slice_range buffer from at ++ new
+put_behind buffer new from at size end rising is within long = same_lists _ _ (grind (arith, places)) (λ k d h. grind (arith, places))
+
+-- and zeros
+pub put_zeros : (buffer new : Bytes) (from at end size : ℕ) → from ≤ at → at ≤ end → end ≤ length buffer → size ≡ end - at → new ≡ replicate size 0
+    → slice_range (put_mid at (end - at) buffer new) from end ≡ slice_range buffer from at ++ replicate (end - at) 0
+put_zeros buffer new from at end size rising upto within long zeros =
+    let same : new ≡ replicate (end - at) 0 = zeros ∙ ap (λ (n : ℕ). replicate n 0) long in
+    let count : length new ≡ end - at = ap (λ (bs : Bytes). length bs) same ∙ length-replicate {A = ℕ} (end - at) 0 in
+    put_behind buffer new from at (end - at) end rising (omega arith) within count
+    ∙ ap (λ (bs : Bytes). slice_range buffer from at ++ bs) same
+
+-- ---- what is gathered, and the spans that are left
+
+module _ (s : Settings) where
+  abbrev Fits : Span → Bytes → Bool
+  Fits r bytes = nat_le (end_of r + length bytes) s.seg_size
+
+  pub left-append : (r : Span) (us vs : List Bytes) → left_by s r (us ++ vs) ≡ left_by s r us ++ left_by s (open_after s r us) vs
+  left-append r [] vs = refl
+  left-append r (u ∷ us) vs = of (Fits r u) (left-append (longer r u) us vs) (left-append (begun (suc r.segment) u) us vs)
+    where
+      of : (b : Bool) → left_by s (longer r u) (us ++ vs) ≡ left_by s (longer r u) us ++ left_by s (open_after s (longer r u) us) vs
+          → left_by s (begun (suc r.segment) u) (us ++ vs) ≡ left_by s (begun (suc r.segment) u) us ++ left_by s (open_after s (begun (suc r.segment) u) us) vs
+          → (if b then left_by s (longer r u) (us ++ vs) else (filled s r ∷ left_by s (begun (suc r.segment) u) (us ++ vs)))
+          ≡ (if b then left_by s (longer r u) us else (filled s r ∷ left_by s (begun (suc r.segment) u) us)) ++ left_by s (if b then open_after s (longer r u) us else open_after s (begun (suc r.segment) u) us) vs
+      of true here there = here
+      of false here there = ap (λ (rs : List Span). filled s r ∷ rs) there
+
+  pub open-append : (r : Span) (us vs : List Bytes) → open_after s r (us ++ vs) ≡ open_after s (open_after s r us) vs
+  open-append r [] vs = refl
+  open-append r (u ∷ us) vs = of (Fits r u) (open-append (longer r u) us vs) (open-append (begun (suc r.segment) u) us vs)
+    where
+      of : (b : Bool) → open_after s (longer r u) (us ++ vs) ≡ open_after s (open_after s (longer r u) us) vs
+          → open_after s (begun (suc r.segment) u) (us ++ vs) ≡ open_after s (open_after s (begun (suc r.segment) u) us) vs
+          → (if b then open_after s (longer r u) (us ++ vs) else open_after s (begun (suc r.segment) u) (us ++ vs)) ≡ open_after s (if b then open_after s (longer r u) us else open_after s (begun (suc r.segment) u) us) vs
+      of true here there = here
+      of false here there = there
+
+  -- one frame that fits, or doesn't
+  pub left-here : (r : Span) (bytes : Bytes) → end_of r + length bytes ≤ s.seg_size → left_by s r (bytes ∷ []) ≡ []
+  left-here r bytes h = ap (λ (b : Bool). let none : List Span = [] in if b then none else (filled s r ∷ [])) (le-leb (end_of r + length bytes) s.seg_size h)
+
+  pub open-here : (r : Span) (bytes : Bytes) → end_of r + length bytes ≤ s.seg_size → open_after s r (bytes ∷ []) ≡ longer r bytes
+  open-here r bytes h = ap (λ (b : Bool). if b then longer r bytes else begun (suc r.segment) bytes) (le-leb (end_of r + length bytes) s.seg_size h)
+
+  pub left-there : (r : Span) (bytes : Bytes) → s.seg_size < end_of r + length bytes → left_by s r (bytes ∷ []) ≡ filled s r ∷ []
+  left-there r bytes h = ap (λ (b : Bool). let none : List Span = [] in if b then none else (filled s r ∷ [])) (lt-leb (end_of r + length bytes) s.seg_size h)
+
+  pub open-there : (r : Span) (bytes : Bytes) → s.seg_size < end_of r + length bytes → open_after s r (bytes ∷ []) ≡ begun (suc r.segment) bytes
+  open-there r bytes h = ap (λ (b : Bool). if b then longer r bytes else begun (suc r.segment) bytes) (lt-leb (end_of r + length bytes) s.seg_size h)
+
+  -- the segments rise
+  pub open-rises : (r : Span) (frames : List Bytes) → r.segment ≤ (open_after s r frames).segment
+  open-rises r [] = omega arith
+  open-rises r (bytes ∷ frames) = of (Fits r bytes) (open-rises (longer r bytes) frames) (open-rises (begun (suc r.segment) bytes) frames)
+    where
+      of : (b : Bool) → r.segment ≤ (open_after s (longer r bytes) frames).segment → suc r.segment ≤ (open_after s (begun (suc r.segment) bytes) frames).segment
+          → r.segment ≤ (if b then open_after s (longer r bytes) frames else open_after s (begun (suc r.segment) bytes) frames).segment
+      of true here there = here
+      of false here there = omega arith
+
+  -- ---- spans of a buffer
+
+  pub end_of_part : (p : Part) (buffer : Bytes) → IsInside s p → s.seg_size ≤ length buffer → end_of (span_of p buffer) ≡ p.end
+  end_of_part p buffer is room =
+      let rising = is.rising in
+      let within = is.within in
+      let behind = length-drop p.from buffer in
+      let long = length-take-le (p.end - p.from) (drop p.from buffer) (omega arith) in
+      omega (arith, long)
+
+  -- a segment that is left, in a buffer with zeros to its end
+  abbrev pub whole_of : Part → Part
+  whole_of p = record { segment = p.segment; from = p.from; end = s.seg_size }
+
+  abbrev with_bytes : Part → Bytes → Span
+  with_bytes p bytes = record { segment = p.segment; offset = p.from; bytes = bytes }
+
+  pub whole-filled : (p : Part) (buffer padded : Bytes) → IsInside s p → s.seg_size ≤ length buffer
+      → slice_range padded p.from s.seg_size ≡ slice_range buffer p.from p.end ++ replicate (s.seg_size - p.end) 0 → filled s (span_of p buffer) ≡ span_of (whole_of p) padded
+  whole-filled p buffer padded is room h =
+      ap (λ (n : ℕ). with_bytes p (slice_range buffer p.from p.end ++ replicate (s.seg_size - n) 0)) (end_of_part p buffer is room)
+      ∙ ap (with_bytes p) (sym h)
+
+  -- so it is what the frame leaves that doesn't fit in
+  pub left-whole : (p : Part) (buffer padded bytes : Bytes) → IsInside s p → s.seg_size ≤ length buffer → s.seg_size < p.end + length bytes
+      → slice_range padded p.from s.seg_size ≡ slice_range buffer p.from p.end ++ replicate (s.seg_size - p.end) 0 → left_by s (span_of p buffer) (bytes ∷ []) ≡ span_of (whole_of p) padded ∷ []
+  left-whole p buffer padded bytes is room over h =
+      let end = end_of_part p buffer is room in
+      left-there (span_of p buffer) bytes (omega (arith, end, over))
+      ∙ ap (λ (r : Span). r ∷ []) (whole-filled p buffer padded is room h)
+
+  -- and it begins the next one
+  pub open-whole : (p : Part) (buffer empty headed next header bytes : Bytes) → IsInside s p → s.seg_size ≤ length buffer → s.seg_size < p.end + length bytes
+      → header ≡ segment_header (p.segment + 1) → slice_range headed 0 16 ≡ slice_range empty 0 0 ++ header → slice_range next 0 (16 + length bytes) ≡ slice_range headed 0 16 ++ bytes
+      → span_of (record { segment = p.segment + 1; from = 0; end = 16 + length bytes }) next ≡ open_after s (span_of p buffer) (bytes ∷ [])
+  open-whole p buffer empty headed next header bytes is room over h first second =
+      let end = end_of_part p buffer is room in
+      let made : ℕ → Bytes → Span = λ n bs. record { segment = n; offset = 0; bytes = bs } in
+      let all : slice_range next 0 (16 + length bytes) ≡ segment_header (p.segment + 1) ++ bytes = second ∙ ap (λ (bs : Bytes). bs ++ bytes) (first ∙ h) in
+      ap (made (p.segment + 1)) all
+      ∙ ap (λ (n : ℕ). made n (segment_header n ++ bytes)) (add-one p.segment)
+      ∙ sym (open-there (span_of p buffer) bytes (omega (arith, end, over)))
+
+  -- ---- all that is gathered for a text
+
+  longer-end : (r : Span) (bytes : Bytes) → end_of (longer r bytes) ≡ end_of r + length bytes
+  longer-end r bytes = let long = length-append r.bytes bytes in omega (arith, long)
+
+  begun-end : (n : ℕ) (bytes : Bytes) → end_of (begun n bytes) ≡ 16 + length bytes
+  begun-end n bytes = omega arith
+
+  abbrev gathered : Span → List Bytes → List Span
+  gathered r frames = left_by s r frames ++ open_after s r frames ∷ []
+
+  pub gathered-spans : (r : Span) (fs : List Frame) → spans_from s r (placed_from s r.segment (end_of r) fs) ≡ gathered r (map (λ f. bytes_of f) fs)
+  gathered-spans r [] = refl
+  gathered-spans r (f ∷ fs) = of (Fits r (bytes_of f)) (gathered-spans (longer r (bytes_of f)) fs) (gathered-spans (begun (suc r.segment) (bytes_of f)) fs)
+    where
+      of : (b : Bool) → spans_from s (longer r (bytes_of f)) (placed_from s r.segment (end_of (longer r (bytes_of f))) fs) ≡ gathered (longer r (bytes_of f)) (map (λ g. bytes_of g) fs)
+          → spans_from s (begun (suc r.segment) (bytes_of f)) (placed_from s (suc r.segment) (end_of (begun (suc r.segment) (bytes_of f))) fs) ≡ gathered (begun (suc r.segment) (bytes_of f)) (map (λ g. bytes_of g) fs)
+          → spans_from s r (if b then (record { segment = r.segment; offset = end_of r; frame = f } ∷ placed_from s r.segment (end_of r + length (bytes_of f)) fs)
+          else (record { segment = suc r.segment; offset = 16; frame = f } ∷ placed_from s (suc r.segment) (16 + length (bytes_of f)) fs))
+          ≡ (if b then left_by s (longer r (bytes_of f)) (map (λ g. bytes_of g) fs) else (filled s r ∷ left_by s (begun (suc r.segment) (bytes_of f)) (map (λ g. bytes_of g) fs)))
+          ++ (if b then open_after s (longer r (bytes_of f)) (map (λ g. bytes_of g) fs) else open_after s (begun (suc r.segment) (bytes_of f)) (map (λ g. bytes_of g) fs)) ∷ []
+      of true here there =
+          goes_on_span s r (record { segment = r.segment; offset = end_of r; frame = f }) (placed_from s r.segment (end_of r + length (bytes_of f)) fs) refl
+          ∙ ap (λ (n : ℕ). spans_from s (longer r (bytes_of f)) (placed_from s r.segment n fs)) (sym (longer-end r (bytes_of f)))
+          ∙ here
+      of false here there =
+          next_span s r (record { segment = suc r.segment; offset = 16; frame = f }) (placed_from s (suc r.segment) (16 + length (bytes_of f)) fs) refl
+          ∙ ap (λ (m : ℕ). filled s r ∷ spans_from s (begun (suc r.segment) (bytes_of f)) (placed_from s (suc r.segment) m fs)) (sym (begun-end (suc r.segment) (bytes_of f)))
+          ∙ ap (λ (rs : List Span). filled s r ∷ rs) there
+
+  -- the spans of a text
+  pub text-spans : (tail : ℕ) (frames : List Bytes) (text : List Frame) → frames ≡ map (λ f. bytes_of f) text → 1 ≤ length text
+      → left_by s (opened (tail / s.seg_size) (tail % s.seg_size)) frames ++ open_after s (opened (tail / s.seg_size) (tail % s.seg_size)) frames ∷ [] ≡ spans s tail text
+  text-spans tail frames [] h some = absurd (omega arith)
+  text-spans tail frames (f ∷ fs) h some =
+      let n : ℕ = tail / s.seg_size in
+      let at : ℕ = tail % s.seg_size in
+      let r : Span = opened n at in
+      ap (gathered r) h
+      ∙ sym (gathered-spans r (f ∷ fs))
+      ∙ ap (λ (m : ℕ). spans_from s r (placed_from s m (end_of r) (f ∷ fs))) (opened-segment n at)
+      ∙ ap (λ (m : ℕ). spans_from s r (placed_from s n m (f ∷ fs))) (opened-end n at)
+
+  -- the segment of what is gathered is the one that the log's end reaches
+  pub open-reached : (q : Reached) (r : Span) (frames : List Bytes) → q.segment ≡ r.segment → q.offset ≡ end_of r → (open_after s r frames).segment ≡ (behind_frames s q frames).segment
+  open-reached q r [] same at = sym same
+  open-reached q r (bytes ∷ frames) same at =
+      of (Fits r bytes)
+      (open-reached (reached s q.segment (q.offset + length bytes)) (longer r bytes) frames same (ap (λ (n : ℕ). n + length bytes) at ∙ sym (longer-end r bytes)))
+      (open-reached (reached s (suc q.segment) (16 + length bytes)) (begun (suc r.segment) bytes) frames (ap suc same) (sym (begun-end (suc r.segment) bytes)))
+      ∙ ap (λ (n : ℕ). (behind_frames s (if nat_le (n + length bytes) s.seg_size then reached s q.segment (q.offset + length bytes) else reached s (suc q.segment) (16 + length bytes)) frames).segment) (sym at)
+    where
+      of : (b : Bool) → (open_after s (longer r bytes) frames).segment ≡ (behind_frames s (reached s q.segment (q.offset + length bytes)) frames).segment
+          → (open_after s (begun (suc r.segment) bytes) frames).segment ≡ (behind_frames s (reached s (suc q.segment) (16 + length bytes)) frames).segment
+          → (if b then open_after s (longer r bytes) frames else open_after s (begun (suc r.segment) bytes) frames).segment
+          ≡ (behind_frames s (if b then reached s q.segment (q.offset + length bytes) else reached s (suc q.segment) (16 + length bytes)) frames).segment
+      of true here there = here
+      of false here there = there
+
+  -- so it is no greater than the tail
+  pub open-upto : (tail : ℕ) (frames : List Bytes) (text : List Frame) → 16 ≤ s.seg_size → frames ≡ map (λ f. bytes_of f) text → FitSegments s frames
+      → (open_after s (opened (tail / s.seg_size) (tail % s.seg_size)) frames).segment ≤ tail_after s tail text
+  open-upto tail frames text room h fits =
+      let q : Reached = from_tail s tail in
+      let n : ℕ = tail / s.seg_size in
+      let at : ℕ = tail % s.seg_size in
+      let same = open-reached q (opened n at) frames (sym (opened-segment n at)) (sym (opened-end n at)) in
+      let is = frames-are s q frames (start-is s tail room) fits in
+      let above = is.above in
+      let one : (behind_frames s q frames).segment * 1 ≤ (behind_frames s q frames).segment * s.seg_size = mul-le-mul_left (behind_frames s q frames).segment (omega arith) in
+      let end = text_tail s tail frames text h in
+      omega (arith, same, above, one, end)
+
+-- what a text begins with, where its segment is begun
+pub begun_is : (n at : ℕ) (buffer empty header : Bytes) → at ≤ 0 → header ≡ segment_header n → slice_range buffer 0 16 ≡ slice_range empty 0 0 ++ header
+    → span_of (record { segment = n; from = 0; end = 16 }) buffer ≡ opened n at
+begun_is n zero buffer empty header none h is = ap (λ (bs : Bytes). begun_with n bs) (is ∙ h)
+  where
+    begun_with : ℕ → Bytes → Span
+    begun_with m bs = record { segment = m; offset = 0; bytes = bs }
+begun_is n (suc at) buffer empty header none h is = absurd (omega arith)

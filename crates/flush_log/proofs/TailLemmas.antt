@@ -1,0 +1,115 @@
+-- Tails: how far a text moves them, and what it means that a log is full.
+use Rattle.std.specs.Prelude.{◌≡◌, ℕ, zero, suc, ◌+◌, ◌-◌, ◌*◌, ◌%◌, ◌/◌, ◌≤◌, ◌<◌, Bool, true, false, List, [], ◌∷◌, length, None}
+use Rattle.std.specs.List.{AllByRecursion, sum_by}
+use Rattle.std.proofs.Common.{refl, arith, leb-true, le-leb}
+use Rattle.std.proofs.Math.Nat.{mul-le-mul_right}
+use Rattle.std.proofs.lemmas.Bool.{leb-false}
+use Rattle.std.proofs.lemmas.List.Sums.{sum_by-cons}
+use Rattle.std.proofs.lemmas.Nat.{div-add-mod', mod_below}
+use Rattle.keys.specs.Limits.{first_bad_field}
+use Rattle.keys.specs.declared.settings.Settings.{Settings}
+use Rattle.frame_codec.specs.Frame.{Frame, bytes_of, is_frame}
+use Rattle.flush_log.specs.Layout.{placed_from, placed, behind_header, tail_after, is_full_for_flush, is_full_for_clean}
+use Rattle.flush_log.specs.Segments.{position, last_segment}
+use Rattle.flush_log.proofs.FitLemmas.{are_sized}
+use Rattle.flush_log.proofs.LayoutLemmas.{end_point, by_places, AllFit, text-end, behind_header-within}
+use Rattle.flush_log.proofs.ReadBackLemmas.{all_fit}
+
+module _ (s : Settings) where
+  -- ---- how far a text moves a tail
+
+  end-above : (n offset : ℕ) (fs : List Frame) → offset ≤ s.seg_size → AllFit s fs
+      → position s n offset + sum_by (λ f. length (bytes_of f)) fs ≤ position s (end_point n offset (placed_from s n offset fs)).0 (end_point n offset (placed_from s n offset fs)).1
+  end-above =
+      by_places s (λ n offset fs ps. offset ≤ s.seg_size → AllFit s fs → position s n offset + sum_by (λ f. length (bytes_of f)) fs ≤ position s (end_point n offset ps).0 (end_point n offset ps).1)
+      (λ n offset room all. omega arith)
+      (λ n offset f fs ps fit later room all. let rest = later fit all.1 in let sum = sum_by-cons (λ f. length (bytes_of f)) f fs in omega (arith, rest, sum))
+      (λ n offset f fs ps later room all.
+      let one = all.0 in
+      let rest = later one all.1 in
+      let sum = sum_by-cons (λ f. length (bytes_of f)) f fs in
+      let next : suc n * s.seg_size ≡ n * s.seg_size + s.seg_size = omega arith in
+      omega (arith, rest, sum, next, room))
+
+  end-below : (n offset : ℕ) (fs : List Frame) → (end_point n offset (placed_from s n offset fs)).0 ≤ n + length fs
+  end-below =
+      by_places s (λ n offset fs ps. (end_point n offset ps).0 ≤ n + length fs) (λ n offset. omega arith) (λ n offset f fs ps fit later. omega arith) (λ n offset f fs ps later. omega arith)
+
+  start-above : (tail : ℕ) → tail ≤ position s (tail / s.seg_size) (behind_header (tail % s.seg_size))
+  start-above tail = let parts = div-add-mod' tail s.seg_size in at_least (tail / s.seg_size * s.seg_size) (tail % s.seg_size) tail parts
+    where
+      at_least : (start at tail : ℕ) → start + at ≡ tail → tail ≤ start + behind_header at
+      at_least start zero tail is = omega arith
+      at_least start (suc at) tail is = omega arith
+
+  -- a position is within the segment that is the last one for it
+  pub tail-below : (tail : ℕ) → 0 < s.seg_size → tail ≤ (last_segment s tail + 1) * s.seg_size
+  tail-below tail some =
+      let parts = div-add-mod' (tail - 1) s.seg_size in
+      let low = mod_below (tail - 1) s.seg_size some in
+      let sum : ((tail - 1) / s.seg_size + 1) * s.seg_size ≡ (tail - 1) / s.seg_size * s.seg_size + s.seg_size = omega arith in
+      omega arith
+
+  tail-parts : (tail : ℕ) → tail / s.seg_size * s.seg_size ≤ tail
+  tail-parts tail = let parts = div-add-mod' tail s.seg_size in omega arith
+
+  module _ (good : first_bad_field s ≡ None) where
+    -- a text's bytes lie between its tails
+    pub tail-rises : (tail : ℕ) (text : List Frame) → AllByRecursion (λ f. is_frame s f ≡ true) text → tail + sum_by (λ f. length (bytes_of f)) text ≤ tail_after s tail text
+    tail-rises tail [] within = omega arith
+    tail-rises tail (f ∷ fs) within =
+        let least = (are_sized s good).least_size in
+        let all = all_fit s good (f ∷ fs) within in
+        let below = mod_below tail s.seg_size (omega arith) in
+        let start = behind_header-within s.seg_size (tail % s.seg_size) below (omega arith) in
+        let above = end-above (tail / s.seg_size) (behind_header (tail % s.seg_size)) (f ∷ fs) start.1 all in
+        let first = start-above tail in
+        let (is, within_segment) = text-end s tail (f ∷ fs) (omega arith) (omega arith) all in
+        omega (arith, is, above, first)
+
+    -- each frame moves it into the next segment at most
+    pub tail-bounded : (tail : ℕ) (text : List Frame) → AllByRecursion (λ f. is_frame s f ≡ true) text → tail_after s tail text ≤ tail + (length text + 1) * s.seg_size
+    tail-bounded tail [] within = omega arith
+    tail-bounded tail (f ∷ fs) within =
+        let least = (are_sized s good).least_size in
+        let (is, within_segment) = text-end s tail (f ∷ fs) (omega arith) (omega arith) (all_fit s good (f ∷ fs) within) in
+        let end : ℕ × ℕ = end_point (tail / s.seg_size) (behind_header (tail % s.seg_size)) (placed s tail (f ∷ fs)) in
+        let below = end-below (tail / s.seg_size) (behind_header (tail % s.seg_size)) (f ∷ fs) in
+        let start = tail-parts tail in
+        let most : (end_point (tail / s.seg_size) (behind_header (tail % s.seg_size)) (placed s tail (f ∷ fs))).0 * s.seg_size ≤ (tail / s.seg_size + length (f ∷ fs)) * s.seg_size = mul-le-mul_right s.seg_size below in
+        let parts : (tail / s.seg_size + length (f ∷ fs)) * s.seg_size ≡ tail / s.seg_size * s.seg_size + length (f ∷ fs) * s.seg_size = omega arith in
+        omega (arith, is, within_segment, most, parts, start)
+
+    -- and not past the segments that there are, where it finds room
+    pub tail-in-room : (head tail : ℕ) → last_segment s tail < head + s.segments → tail ≤ (head + s.segments) * s.seg_size
+    tail-in-room head tail room =
+        let least = (are_sized s good).least_size in
+        let below = tail-below tail (omega arith) in
+        let most : (last_segment s tail + 1) * s.seg_size ≤ (head + s.segments) * s.seg_size = mul-le-mul_right s.seg_size (omega arith) in
+        omega arith
+
+-- ---- what is full
+
+pub room-for-clean : (s : Settings) (head tail : ℕ) → is_full_for_clean s head tail ≡ false → last_segment s tail < head + s.segments
+room-for-clean s head tail h = leb-false (head + s.segments) (last_segment s tail) h
+
+-- a flush leaves one segment more
+pub room-for-flush : (s : Settings) (head tail : ℕ) → is_full_for_flush s head tail ≡ false → last_segment s tail + 1 < head + s.segments
+room-for-flush s head tail h = let room = leb-false (head + s.segments - 1) (last_segment s tail) h in omega arith
+
+-- a text of as many bytes as all segments have finds no room
+pub too-long : (s : Settings) (head tail : ℕ) (text : List Frame) → first_bad_field s ≡ None → AllByRecursion (λ f. is_frame s f ≡ true) text → head * s.seg_size < tail
+    → s.segments * s.seg_size ≤ sum_by (λ f. length (bytes_of f)) text → is_full_for_clean s head (tail_after s tail text) ≡ true
+too-long s head tail text good within less long = of (is_full_for_clean s head (tail_after s tail text)) refl
+  where
+    of : (b : Bool) → is_full_for_clean s head (tail_after s tail text) ≡ b → b ≡ true
+    of true h = refl
+    of false h =
+        let rises = tail-rises s good tail text within in
+        let room = tail-in-room s good head (tail_after s tail text) (room-for-clean s head (tail_after s tail text) h) in
+        let parts : (head + s.segments) * s.seg_size ≡ head * s.seg_size + s.segments * s.seg_size = omega arith in
+        absurd (omega (arith, rises, room, parts, long, less))
+
+-- what is full for a clean is full for a flush
+pub full-for-flush : (s : Settings) (head tail : ℕ) → is_full_for_clean s head tail ≡ true → is_full_for_flush s head tail ≡ true
+full-for-flush s head tail h = let full = leb-true (head + s.segments) (last_segment s tail) h in le-leb (head + s.segments - 1) (last_segment s tail) (omega arith)

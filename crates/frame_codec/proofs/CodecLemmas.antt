@@ -1,0 +1,76 @@
+-- Codecs that are made of others read back what they spell, and what they read stands in the bytes, where the others do.
+use Rattle.std.proofs.Common.{◌≡◌, ℕ, zero, suc, ◌<◌, List, [], ◌∷◌, ◌++◌, length, flat_map, Option, Some, None, refl, sym, ap, ◌∙◌, append_assoc}
+use Rattle.std.specs.List.{AllByRecursion}
+use Rattle.keys.specs.Cells.{Codec, AreBytes, IsReadBack, ReadsSpellings, read_on, read_as, number}
+use Rattle.keys.proofs.CellLemmas.{gave, same_reading, nothing_read, read_as-gave, goes_on, number-back, number-spelled}
+use Rattle.frame_codec.specs.Codecs.{both, read_each, listed, spell_flag, flagged}
+
+-- ---- what is spelled is read back
+
+pub both-back : {X Y : Type 0} (c : Codec X) (d : Codec Y) (p : X × Y) → IsReadBack c p.0 → IsReadBack d p.1 → IsReadBack (both c d) p
+both-back c d p bc bd rest = rw (append_assoc (c.spell p.0) (d.spell p.1) rest, bc (d.spell p.1 ++ rest), bd rest) refl
+
+pub each-back : {X : Type 0} (c : Codec X) (xs : List X) → AllByRecursion (IsReadBack c) xs → (rest : List ℕ) → read_each c (length xs) (flat_map c.spell xs ++ rest) ≡ gave xs rest
+each-back c [] back rest = refl
+each-back c (x ∷ xs) back rest =
+    rw (append_assoc (c.spell x) (flat_map c.spell xs) rest, back.0 (flat_map c.spell xs ++ rest), each-back c xs back.1 rest) refl
+
+pub listed-back : {X : Type 0} (c : Codec X) (xs : List X) → length xs < 65536 → AllByRecursion (IsReadBack c) xs → IsReadBack (listed c) xs
+listed-back c xs few back rest =
+    ap (listed c).read (append_assoc ((number 2).spell (length xs)) (flat_map c.spell xs) rest)
+    ∙ ap (λ o. read_on o (read_each c)) (number-back 2 (length xs) few (flat_map c.spell xs ++ rest))
+    ∙ each-back c xs back rest
+
+pub flagged-back : {V : Type 0} (c : Codec V) (v : V) → IsReadBack c v → IsReadBack (flagged c) (Some v)
+flagged-back c v back rest = ap (read_as (λ w. Some w)) (back rest)
+
+pub absent-back : {V : Type 0} (c : Codec V) → IsReadBack (flagged c) None
+absent-back c rest = refl
+
+-- ---- what is read stands in the bytes
+
+pub both-spelled : {X Y : Type 0} (c : Codec X) (d : Codec Y) → ReadsSpellings c → ReadsSpellings d → ReadsSpellings (both c d)
+both-spelled {X = X} {Y = Y} c d sc sd bs p rest bytes h =
+    let next : X → List ℕ → Option ((X × Y) × List ℕ) = λ x behind. read_as (λ (y : Y). (x, y)) (d.read behind) in
+    let on = goes_on c sc bs next p rest bytes h in
+    let (y, read, is) = read_as-gave (λ (y : Y). (on.first, y)) (d.read on.behind) p rest on.went in
+    on.spelled
+    ∙ ap (λ (cs : List ℕ). c.spell on.first ++ cs) (sd on.behind y rest on.bytes read)
+    ∙ sym (append_assoc (c.spell on.first) (d.spell y) rest)
+    ∙ ap (λ (q : X × Y). (both c d).spell q ++ rest) is
+
+pub each-spelled : {X : Type 0} (c : Codec X) → ReadsSpellings c → (n : ℕ) (bs : List ℕ) (xs : List X) (rest : List ℕ) → AreBytes bs
+    → read_each c n bs ≡ Some (xs, rest) → (length xs ≡ n) × (bs ≡ flat_map c.spell xs ++ rest)
+each-spelled {X = X} c sc zero bs xs rest bytes h =
+    let (none, same) = same_reading [] xs bs rest h in
+    (ap (λ (ys : List X). length ys) (sym none), same ∙ ap (λ (ys : List X). flat_map c.spell ys ++ rest) none)
+each-spelled {X = X} c sc (suc n) bs xs rest bytes h =
+    let next : X → List ℕ → Option (List X × List ℕ) = λ x behind. read_as (λ ys. x ∷ ys) (read_each c n behind) in
+    let on = goes_on c sc bs next xs rest bytes h in
+    let (ys, read, is) = read_as-gave (λ ys. on.first ∷ ys) (read_each c n on.behind) xs rest on.went in
+    let (long, stands) = each-spelled c sc n on.behind ys rest on.bytes read in (
+      ap (λ (zs : List X). length zs) (sym is) ∙ ap suc long,
+      on.spelled
+          ∙ ap (λ (cs : List ℕ). c.spell on.first ++ cs) stands
+          ∙ sym (append_assoc (c.spell on.first) (flat_map c.spell ys) rest)
+          ∙ ap (λ (zs : List X). flat_map c.spell zs ++ rest) is,
+    )
+
+pub listed-spelled : {X : Type 0} (c : Codec X) → ReadsSpellings c → ReadsSpellings (listed c)
+listed-spelled c sc bs xs rest bytes h =
+    let on = goes_on (number 2) (number-spelled 2) bs (read_each c) xs rest bytes h in
+    let (long, stands) = each-spelled c sc on.first on.behind xs rest on.bytes on.went in
+    on.spelled
+    ∙ ap (λ (cs : List ℕ). (number 2).spell on.first ++ cs) stands
+    ∙ ap (λ (n : ℕ). (number 2).spell n ++ (flat_map c.spell xs ++ rest)) (sym long)
+    ∙ sym (append_assoc ((number 2).spell (length xs)) (flat_map c.spell xs) rest)
+
+pub flagged-spelled : {V : Type 0} (c : Codec V) → ReadsSpellings c → ReadsSpellings (flagged c)
+flagged-spelled c sc [] v rest bytes h = absurd (nothing_read _ h)
+flagged-spelled {V = V} c sc (zero ∷ bs) v rest bytes h =
+    let (none, same) = same_reading None v bs rest h in
+    ap (λ (cs : List ℕ). 0 ∷ cs) same ∙ ap (λ (w : Option V). spell_flag c w ++ rest) none
+flagged-spelled {V = V} c sc (suc zero ∷ bs) v rest bytes h =
+    let (w, read, is) = read_as-gave (λ (w : V). Some w) (c.read bs) v rest h in
+    ap (λ (cs : List ℕ). 1 ∷ cs) (sc bs w rest bytes.1 read) ∙ ap (λ (u : Option V). spell_flag c u ++ rest) is
+flagged-spelled c sc (suc (suc n) ∷ bs) v rest bytes h = absurd (nothing_read _ h)

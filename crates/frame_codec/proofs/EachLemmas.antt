@@ -1,0 +1,223 @@
+-- Entries read one behind the other: where reading has come to, and what comes of all.
+use Rattle.std.proofs.Common.{◌≡◌, ℕ, zero, suc, ◌+◌, ◌<◌, ◌≤◌, Bool, true, false, ◌&&◌, nat_le, nat_lt, if◌then◌else◌, List, [], ◌∷◌, ◌++◌, length, Option, Some, None, refl, sym, ap, ◌∙◌, arith, append_assoc, length-append, le-leb, leb-true}
+use Rattle.std.proofs.lemmas.List.{append-nil}
+use Rattle.std.proofs.lemmas.Bool.{and_parts, lt-ltb}
+use Rattle.std.specs.Cmp.Derive.{both_true}
+use Rattle.std.specs.List.{list_all}
+use Rattle.std.specs.Map.{keys_of}
+use Rattle.keys.specs.Cells.{Codec, read_on, read_as, read_where, read_number, counted}
+use Rattle.keys.specs.Order.{IsRising}
+use Rattle.keys.specs.declared.settings.Settings.{Settings}
+use Rattle.keys.proofs.CellLemmas.{gave, nothing_read, same_reading, read_as-gave, read_where-gave}
+use Rattle.delta_chain.specs.Building.{goes_last}
+use Rattle.delta_chain.proofs.Rising.{goes_last-rising}
+use Rattle.index_page.specs.Rules.{do_rise, of_cell}
+use Rattle.frame_codec.specs.Codecs.{both, read_each, flagged}
+use Rattle.frame_codec.specs.Frame.{delta, is_key, are_entries, is_run}
+use Rattle.frame_codec.proofs.WithinLemmas.{decides-rising}
+
+-- what comes of those that were read and of what is read of the rest, where all together pass the test
+abbrev pub joined_with : {X : Type 0} → (List X → Bool) → List X → Option (List X × List ℕ) → Option (List X × List ℕ)
+joined_with ok built o = read_where ok (read_as (λ xs. built ++ xs) o)
+
+module _ {X : Type 0} (ok : List X → Bool) where
+  joined-start : (o : Option (List X × List ℕ)) → joined_with ok [] o ≡ read_where ok o
+  joined-start None = refl
+  joined-start (Some p) = refl
+
+  joined-one : (built : List X) (x : X) (o : Option (List X × List ℕ)) → joined_with ok built (read_as (λ xs. x ∷ xs) o) ≡ joined_with ok (built ++ x ∷ []) o
+  joined-one built x None = refl
+  joined-one built x (Some p) = ap (λ (xs : List X). if ok xs then gave xs p.1 else None) (sym (append_assoc built (x ∷ []) p.0))
+
+  joined-bad : (built : List X) (x : X) (o : Option (List X × List ℕ)) → ((xs : List X) → ok (built ++ x ∷ xs) ≡ false) → joined_with ok built (read_as (λ xs. x ∷ xs) o) ≡ None
+  joined-bad built x None h = refl
+  joined-bad built x (Some p) h = rw (h p.0) refl
+
+  module _ (c : Codec X) (built : List X) (n : ℕ) (bs : List ℕ) where
+    next_of : Option (X × List ℕ) → Option (List X × List ℕ)
+    next_of o = joined_with ok built (read_on o (λ x rest. read_as (λ xs. x ∷ xs) (read_each c n rest)))
+
+    joined-next : (x : X) (behind : List ℕ) → c.read bs ≡ gave x behind → joined_with ok built (read_each c (suc n) bs) ≡ joined_with ok (built ++ x ∷ []) (read_each c n behind)
+    joined-next x behind h =
+        ap (λ (o : Option (X × List ℕ)). joined_with ok built (read_on o (λ y rest. read_as (λ ys. y ∷ ys) (read_each c n rest)))) h
+        ∙ joined-one built x (read_each c n behind)
+
+    joined-refused : (x : X) (behind : List ℕ) → c.read bs ≡ gave x behind → ((xs : List X) → ok (built ++ x ∷ xs) ≡ false) → joined_with ok built (read_each c (suc n) bs) ≡ None
+    joined-refused x behind h bad =
+        ap (λ (o : Option (X × List ℕ)). joined_with ok built (read_on o (λ y rest. read_as (λ ys. y ∷ ys) (read_each c n rest)))) h
+        ∙ joined-bad built x (read_each c n behind) bad
+
+    joined-unread : c.read bs ≡ None → joined_with ok built (read_each c (suc n) bs) ≡ None
+    joined-unread h = ap (λ (o : Option (X × List ℕ)). joined_with ok built (read_on o (λ y rest. read_as (λ ys. y ∷ ys) (read_each c n rest)))) h
+
+    -- where none is read, or one that cannot stand there, nothing comes of all
+    joined-ends : (test : X → Bool) → ((x : X) (xs : List X) → test x ≡ false → ok (built ++ x ∷ xs) ≡ false)
+        → read_where test (c.read bs) ≡ None → joined_with ok built (read_each c (suc n) bs) ≡ None
+    joined-ends test bad = of (c.read bs) refl
+      where
+        failed : (b : Bool) (x : X) (rest : List ℕ) → c.read bs ≡ gave x rest → test x ≡ b → (if b then gave x rest else None) ≡ None → joined_with ok built (read_each c (suc n) bs) ≡ None
+        failed true x rest is e k = absurd (nothing_read (x, rest) (sym k))
+        failed false x rest is e k = joined-refused x rest is (λ xs. bad x xs e)
+
+        of : (o : Option (X × List ℕ)) → c.read bs ≡ o → read_where test o ≡ None → joined_with ok built (read_each c (suc n) bs) ≡ None
+        of None is k = joined-unread is
+        of (Some p) is k = failed (test p.0) p.0 p.1 is refl k
+
+-- as many are read as were asked for
+more_long : {X : Type 0} (c : Codec X) (n : ℕ) → ((bs : List ℕ) (xs : List X) (rest : List ℕ) → read_each c n bs ≡ gave xs rest → length xs ≡ n)
+    → (o : Option (X × List ℕ)) (xs : List X) (rest : List ℕ) → read_on o (λ x behind. read_as (λ ys. x ∷ ys) (read_each c n behind)) ≡ gave xs rest → length xs ≡ suc n
+more_long c n fewer None xs rest h = absurd (nothing_read _ h)
+more_long c n fewer (Some p) xs rest h =
+    let (ys, read, is) = read_as-gave (λ ys. p.0 ∷ ys) (read_each c n p.1) xs rest h in
+    ap length (sym is) ∙ ap suc (fewer p.1 ys rest read)
+
+pub each-long : {X : Type 0} (c : Codec X) (n : ℕ) (bs : List ℕ) (xs : List X) (rest : List ℕ) → read_each c n bs ≡ gave xs rest → length xs ≡ n
+each-long c zero bs xs rest h = let e = (same_reading [] xs bs rest h).0 in ap length (sym e)
+each-long c (suc n) bs xs rest h = more_long c n (each-long c n) (c.read bs) xs rest h
+
+-- two things that were read, one behind the other
+pub both-passed : {X Y : Type 0} (a : X → Bool) (b : Y → Bool) (c : Codec X) (d : Codec Y) (bs : List ℕ) (x : X) (behind : List ℕ) (y : Y) (rest : List ℕ)
+    → read_where a (c.read bs) ≡ Some (x, behind) → read_where b (d.read behind) ≡ Some (y, rest) → read_where (λ (p : X × Y). a p.0 && b p.1) ((both c d).read bs) ≡ Some ((x, y), rest)
+both-passed {X = X} {Y = Y} a b c d bs x behind y rest h k =
+    let (first, passed) = read_where-gave a (c.read bs) x behind h in
+    let (second, passed_too) = read_where-gave b (d.read behind) y rest k in
+    let test : X × Y → Bool = λ p. a p.0 && b p.1 in
+    ap (λ (o : Option (X × List ℕ)). read_where test (read_on o (λ v more. read_as (λ (w : Y). (v, w)) (d.read more)))) first
+    ∙ ap (λ (o : Option (Y × List ℕ)). read_where test (read_as (λ (w : Y). (x, w)) o)) second
+    ∙ rw (passed, passed_too) refl
+
+-- ---- entries
+
+pub not_true : (b : Bool) → (b ≡ true → ⊥) → b ≡ false
+not_true true h = absurd (h refl)
+not_true false h = refl
+
+pub fails_last : (a b : Bool) → b ≡ false → (a && b) ≡ false
+fails_last true b h = h
+fails_last false b h = refl
+
+fails_first : (a b : Bool) → a ≡ false → (a && b) ≡ false
+fails_first true b h = absurd (cc)
+fails_first false b h = refl
+
+all-fails : {X : Type 0} (test : X → Bool) (built : List X) (x : X) (xs : List X) → test x ≡ false → list_all test (built ++ x ∷ xs) ≡ false
+all-fails test [] x xs h = fails_first (test x) (list_all test xs) h
+all-fails test (y ∷ ys) x xs h = fails_last (test y) (list_all test (ys ++ x ∷ xs)) (all-fails test ys x xs h)
+
+all-push : {X : Type 0} (test : X → Bool) (built : List X) (x : X) → list_all test built ≡ true → test x ≡ true → list_all test (built ++ x ∷ []) ≡ true
+all-push test [] x h t = both_true t refl
+all-push test (y ∷ ys) x h t = let (one, rest) = and_parts _ _ h in both_true one (all-push test ys x rest t)
+
+module _ {X : Type 0} (s : Settings) (short : X → Bool) (cell : Codec X) where
+  -- whether an entry is within the settings
+  abbrev pub is_entry : List ℕ × X → Bool
+  is_entry e = is_key s e.0 && short e.1
+
+  bad_entry : (built : List (List ℕ × X)) (e : List ℕ × X) (es : List (List ℕ × X)) → is_entry e ≡ false → are_entries s short (built ++ e ∷ es) ≡ false
+  bad_entry built e es h =
+      fails_last (nat_le (length (built ++ e ∷ es)) s.fan && do_rise (keys_of (built ++ e ∷ es))) (list_all is_entry (built ++ e ∷ es)) (all-fails is_entry built e es h)
+
+  bad_order : (built : List (List ℕ × X)) (k : List ℕ) (v : X) (es : List (List ℕ × X)) → goes_last k built ≡ false → are_entries s short (built ++ (k, v) ∷ es) ≡ false
+  bad_order built k v es h =
+      let all : List (List ℕ × X) = built ++ (k, v) ∷ es in
+      let falls : do_rise (keys_of all) ≡ false =
+      not_true (do_rise (keys_of all)) (λ rise. let last = goes_last-rising built k v es ((decides-rising all).0 rise) in absurd (let wrong = sym h ∙ last in cc)) in
+      fails_first (nat_le (length all) s.fan && do_rise (keys_of all)) (list_all is_entry all) (fails_last (nat_le (length all) s.fan) (do_rise (keys_of all)) falls)
+
+  -- what is read of all, where as many are read from these bytes
+  abbrev pub read_entries : ℕ → List ℕ → Option (List (List ℕ × X) × List ℕ)
+  read_entries count bs = read_where (are_entries s short) (read_each (both counted cell) count bs)
+
+  -- so many were read, and are within the settings; the rest stands in these bytes
+  pub record IsReadUpTo (count : ℕ) (start : List ℕ) (at : ℕ) (built : List (List ℕ × X)) (now : List ℕ) : Type 0 where
+    pub left : ℕ
+    pub all : at + left ≡ count
+    pub whole : read_entries count start ≡ joined_with (are_entries s short) built (read_each (both counted cell) left now)
+    pub tested : list_all is_entry built ≡ true
+    pub long : length built ≡ at
+
+  module _ (count : ℕ) (start : List ℕ) where
+    pub read-none : IsReadUpTo count start 0 [] start
+    read-none = record {
+      left = count;
+      all = omega arith;
+      whole = sym (joined-start (are_entries s short) (read_each (both counted cell) count start));
+      tested = refl;
+      long = refl;
+    }
+
+    module _ (at : ℕ) (built : List (List ℕ × X)) (now : List ℕ) (up : IsReadUpTo count start at built now) where
+      -- there is one more to read
+      one_left : at < count → (n : ℕ) × (up.left ≡ suc n)
+      one_left more = of up.left up.all
+        where
+          of : (left : ℕ) → at + left ≡ count → (n : ℕ) × (left ≡ suc n)
+          of zero e = absurd (omega arith)
+          of (suc n) e = (n, refl)
+
+      abbrev whole_of : ℕ → Option (List (List ℕ × X) × List ℕ)
+      whole_of n = joined_with (are_entries s short) built (read_each (both counted cell) n now)
+
+      pub read-next : (k : List ℕ) (v : X) (behind : List ℕ) → at < count → read_where is_entry ((both counted cell).read now) ≡ Some ((k, v), behind)
+          → IsReadUpTo count start (at + 1) (built ++ (k, v) ∷ []) behind
+      read-next k v behind more h =
+          let (n, is) = one_left more in
+          let (read, passed) = read_where-gave is_entry ((both counted cell).read now) (k, v) behind h in
+          let joined = length-append built ((k, v) ∷ []) in
+          let long = up.long in
+          let all = up.all in
+          record {
+            left = n;
+            all = omega arith;
+            whole = up.whole ∙ ap whole_of is ∙ joined-next (are_entries s short) (both counted cell) built n now (k, v) behind read;
+            tested = all-push is_entry built (k, v) up.tested passed;
+            long = omega arith;
+          }
+
+      pub read-ends : at < count → read_where is_entry ((both counted cell).read now) ≡ None → read_entries count start ≡ None
+      read-ends more h =
+          let (n, is) = one_left more in
+          up.whole ∙ ap whole_of is ∙ joined-ends (are_entries s short) (both counted cell) built n now is_entry (λ e es. bad_entry built e es) h
+
+      pub read-falls : (k : List ℕ) (v : X) (behind : List ℕ) → at < count → read_where is_entry ((both counted cell).read now) ≡ Some ((k, v), behind)
+          → goes_last k built ≡ false → read_entries count start ≡ None
+      read-falls k v behind more h falls =
+          let (n, is) = one_left more in
+          let (read, passed) = read_where-gave is_entry ((both counted cell).read now) (k, v) behind h in
+          up.whole ∙ ap whole_of is ∙ joined-refused (are_entries s short) (both counted cell) built n now (k, v) behind read (λ es. bad_order built k v es falls)
+
+      pub read-done : count ≤ at → count ≤ s.fan → IsRising built → read_entries count start ≡ Some (built, now)
+      read-done done few rising =
+          let long = up.long in
+          let all = up.all in
+          let none : up.left ≡ 0 = omega arith in
+          let at_most : length built ≤ s.fan = omega arith in
+          let passed : are_entries s short built ≡ true =
+          both_true (both_true (le-leb (length built) s.fan at_most) ((decides-rising built).1 rising)) up.tested in
+          up.whole ∙ ap whole_of none ∙ rw (append-nil built, passed) refl
+
+    pub read-many : s.fan < count → read_entries count start ≡ None
+    read-many many = of (read_each (both counted cell) count start) refl
+      where
+        of : (o : Option (List (List ℕ × X) × List ℕ)) → read_each (both counted cell) count start ≡ o → read_where (are_entries s short) o ≡ None
+        of None is = refl
+        of (Some p) is =
+            let long = each-long (both counted cell) count start p.0 p.1 is in
+            let over : nat_le (length p.0) s.fan ≡ false = not_true (nat_le (length p.0) s.fan) (λ h. let few = leb-true (length p.0) s.fan h in absurd (omega arith)) in
+            let failed : are_entries s short p.0 ≡ false =
+            fails_first (nat_le (length p.0) s.fan && do_rise (keys_of p.0)) (list_all is_entry p.0) (fails_first (nat_le (length p.0) s.fan) (do_rise (keys_of p.0)) over) in
+            rw failed refl
+
+-- a run, where its count was read and there are some
+pub read-run : {V : Type 0} (s : Settings) (short : V → Bool) (cell : Codec V) (bs : List ℕ) (count : ℕ) (rest : List ℕ) → read_number 2 bs ≡ gave count rest → (count ≡ 0 → ⊥)
+    → read_where (is_run s short) ((delta cell).read bs) ≡ read_entries s (of_cell short) (flagged cell) count rest
+read-run {V = V} s short cell bs count rest h some =
+    ap (λ (o : Option (ℕ × List ℕ)). read_where (is_run s short) (read_on o (read_each (both counted (flagged cell))))) h ∙ of (read_each (both counted (flagged cell)) count rest) refl
+  where
+    of : (o : Option (List (List ℕ × Option V) × List ℕ)) → read_each (both counted (flagged cell)) count rest ≡ o
+        → read_where (is_run s short) o ≡ read_where (are_entries s (of_cell short)) o
+    of None is = refl
+    of (Some p) is =
+        let long = each-long (both counted (flagged cell)) count rest p.0 p.1 is in
+        let passed : nat_lt 0 (length p.0) ≡ true = lt-ltb 0 (length p.0) (omega (arith, some)) in
+        rw passed refl

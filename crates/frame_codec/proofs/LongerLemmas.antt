@@ -1,0 +1,123 @@
+-- What is read of bytes is read of longer bytes too: a reader looks at no byte behind what it reads. And nothing is read where
+-- a byte 0 stands.
+use Rattle.std.proofs.Common.{◌≡◌, ℕ, zero, suc, ◌+◌, ◌*◌, ◌^◌, ◌≤◌, Bool, true, false, ◌==◌, nat_le, if◌then◌else◌, List, [], ◌∷◌, ◌++◌, length, take, drop, Option, Some, None, refl, ap, ◌∙◌, arith, length-append, le-leb, leb-true}
+use Rattle.std.proofs.lemmas.List.{take-append-le, drop-append-le}
+use Rattle.keys.specs.Cells.{Codec, read_on, read_as, read_where, read_number, number, read_bytes, counted, value_cell, pid_cell}
+use Rattle.keys.specs.declared.settings.Settings.{Settings}
+use Rattle.keys.proofs.CellLemmas.{gave, same_reading, nothing_read}
+use Rattle.frame_codec.specs.Codecs.{both, read_each, listed, flagged}
+use Rattle.frame_codec.specs.Frame.{full, delta, content_bytes, header, is_frame}
+use Rattle.frame_codec.specs.Frame.Content.{FullLeaf, DeltaLeaf, FullIndex, DeltaIndex, Free}
+use Rattle.frame_codec.specs.Reading.{read_content, read_behind, read_any, read_frame}
+
+-- a reader that reads the same where more bytes follow
+abbrev pub IsLocal : {X : Type 0} → (List ℕ → Option (X × List ℕ)) → Type 0
+IsLocal {X = X} read = (bs : List ℕ) (x : X) (rest more : List ℕ) → read bs ≡ gave x rest → read (bs ++ more) ≡ gave x (rest ++ more)
+
+-- ---- steps of a reader
+
+on-local : {X Y : Type 0} (read : List ℕ → Option (X × List ℕ)) (next : X → List ℕ → Option (Y × List ℕ)) → IsLocal read → ((x : X) → IsLocal (next x)) → IsLocal (λ bs. read_on (read bs) next)
+on-local {X = X} {Y = Y} read next local then_local bs y rest more = of (read bs) refl
+  where
+    of : (o : Option (X × List ℕ)) → read bs ≡ o → read_on o next ≡ gave y rest → read_on (read (bs ++ more)) next ≡ gave y (rest ++ more)
+    of None is h = absurd (nothing_read _ h)
+    of (Some p) is h =
+        ap (λ (o : Option (X × List ℕ)). read_on o next) (local bs p.0 p.1 more is) ∙ then_local p.0 p.1 y rest more h
+
+done-local : {X : Type 0} (x : X) → IsLocal (λ bs. gave x bs)
+done-local {X = X} x bs y rest more h = let e = same_reading x y bs rest h in ap (λ (z : X). gave z (bs ++ more)) e.0 ∙ ap (λ (u : List ℕ). gave y (u ++ more)) e.1
+
+none-local : {X : Type 0} → IsLocal {X = X} (λ bs. None)
+none-local bs y rest more h = absurd (nothing_read _ h)
+
+if-local : {X : Type 0} (b : Bool) (this other : List ℕ → Option (X × List ℕ)) → IsLocal this → IsLocal other → IsLocal (λ bs. if b then this bs else other bs)
+if-local true this other t o = t
+if-local false this other t o = o
+
+as-local : {X Y : Type 0} (f : X → Y) (read : List ℕ → Option (X × List ℕ)) → IsLocal read → IsLocal (λ bs. read_as f (read bs))
+as-local f read local = on-local read (λ x rest. gave (f x) rest) local (λ x. done-local (f x))
+
+where-local : {X : Type 0} (test : X → Bool) (read : List ℕ → Option (X × List ℕ)) → IsLocal read → IsLocal (λ bs. read_where test (read bs))
+where-local test read local =
+    on-local read (λ x rest. if test x then gave x rest else None) local (λ x. if-local (test x) (λ rest. gave x rest) (λ rest. None) (done-local x) none-local)
+
+-- ---- codecs
+
+number-local : (w : ℕ) → IsLocal (read_number w)
+number-local zero bs n rest more h = done-local 0 bs n rest more h
+number-local (suc w) [] n rest more h = absurd (nothing_read _ h)
+number-local (suc w) (b ∷ bs) n rest more h = as-local (λ n. b * 256 ^ w + n) (read_number w) (number-local w) bs n rest more h
+
+both-local : {X Y : Type 0} (c : Codec X) (d : Codec Y) → IsLocal c.read → IsLocal d.read → IsLocal (both c d).read
+both-local c d lc ld = on-local c.read (λ x rest. read_as (λ y. (x, y)) (d.read rest)) lc (λ x. as-local (λ y. (x, y)) d.read ld)
+
+each-local : {X : Type 0} (c : Codec X) → IsLocal c.read → (n : ℕ) → IsLocal (read_each c n)
+each-local c lc zero = done-local []
+each-local c lc (suc n) = on-local c.read (λ x rest. read_as (λ xs. x ∷ xs) (read_each c n rest)) lc (λ x. as-local (λ xs. x ∷ xs) (read_each c n) (each-local c lc n))
+
+listed-local : {X : Type 0} (c : Codec X) → IsLocal c.read → IsLocal (listed c).read
+listed-local c lc = on-local (number 2).read (read_each c) (number-local 2) (each-local c lc)
+
+bytes-local : (n : ℕ) → IsLocal (read_bytes n)
+bytes-local n bs xs rest more = of (nat_le n (length bs)) refl
+  where
+    of : (b : Bool) → nat_le n (length bs) ≡ b → (if b then gave (take n bs) (drop n bs) else None) ≡ gave xs rest → read_bytes n (bs ++ more) ≡ gave xs (rest ++ more)
+    of true fits h =
+        let few : n ≤ length bs = leb-true n (length bs) fits in
+        let long = length-append bs more in
+        let still : nat_le n (length (bs ++ more)) ≡ true = le-leb _ _ (omega arith) in
+        rw (still, take-append-le n bs more few, drop-append-le n bs more few) (done-local (take n bs) (drop n bs) xs rest more h)
+    of false fits h = absurd (nothing_read _ h)
+
+counted-local : IsLocal counted.read
+counted-local = on-local (number 2).read read_bytes (number-local 2) bytes-local
+
+flagged-local : {V : Type 0} (c : Codec V) → IsLocal c.read → IsLocal (flagged c).read
+flagged-local c lc [] v rest more h = absurd (nothing_read _ h)
+flagged-local c lc (zero ∷ bs) v rest more h = done-local None bs v rest more h
+flagged-local c lc (suc zero ∷ bs) v rest more h = as-local (λ v. Some v) c.read lc bs v rest more h
+flagged-local c lc (suc (suc n) ∷ bs) v rest more h = absurd (nothing_read _ h)
+
+-- ---- frames
+
+full-local : {V : Type 0} (cell : Codec V) → IsLocal cell.read → IsLocal (full cell).read
+full-local cell lc = both-local counted (listed (both counted cell)) counted-local (listed-local (both counted cell) (both-local counted cell counted-local lc))
+
+delta-local : {V : Type 0} (cell : Codec V) → IsLocal cell.read → IsLocal (delta cell).read
+delta-local cell lc = listed-local (both counted (flagged cell)) (both-local counted (flagged cell) counted-local (flagged-local cell lc))
+
+content-local : (kind : ℕ) → IsLocal (read_content kind)
+content-local kind =
+    if-local (kind == 1) _ _ (as-local (λ p. FullLeaf p.0 p.1) (full value_cell).read (full-local value_cell counted-local))
+    (if-local (kind == 2) _ _ (as-local (λ run. DeltaLeaf run) (delta value_cell).read (delta-local value_cell counted-local))
+    (if-local (kind == 3) _ _ (as-local (λ p. FullIndex p.0 p.1) (full pid_cell).read (full-local pid_cell (number-local 8)))
+    (if-local (kind == 4) _ _ (as-local (λ run. DeltaIndex run) (delta pid_cell).read (delta-local pid_cell (number-local 8)))
+    (if-local (kind == 5) _ _ (done-local Free) none-local))))
+
+header-local : IsLocal header.read
+header-local = both-local (both (number 1) (number 4)) pid_cell (both-local (number 1) (number 4) (number-local 1) (number-local 4)) (number-local 8)
+
+behind-local : (h : (ℕ × ℕ) × ℕ) → IsLocal (read_behind h)
+behind-local h =
+    as-local (λ c. record { pid = h.1; content = c }) (λ bs. read_where (λ c. h.0.1 == 8 + length (content_bytes c)) (read_content h.0.0 bs))
+    (where-local (λ c. h.0.1 == 8 + length (content_bytes c)) (read_content h.0.0) (content-local h.0.0))
+
+pub frame-longer : (s : Settings) → IsLocal (read_frame s)
+frame-longer s = where-local (is_frame s) read_any (on-local header.read read_behind header-local behind-local)
+
+-- ---- no frame begins with a byte 0
+
+pub nothing_at_all : (s : Settings) → read_frame s [] ≡ None
+nothing_at_all s = refl
+
+zero_and_length : (s : Settings) (n : ℕ) (o : Option (ℕ × List ℕ)) → read_where (is_frame s) (read_on (read_as (λ pid. ((0, n), pid)) o) read_behind) ≡ None
+zero_and_length s n None = refl
+zero_and_length s n (Some p) = refl
+
+zero_kind : (s : Settings) (o : Option (ℕ × List ℕ)) →
+    read_where (is_frame s) (read_on (read_on (read_as (λ n. (0, n)) o) (λ h rest. read_as (λ pid. (h, pid)) (read_number 8 rest))) read_behind) ≡ None
+zero_kind s None = refl
+zero_kind s (Some p) = zero_and_length s p.0 (read_number 8 p.1)
+
+pub nothing_at_zero : (s : Settings) (bs : List ℕ) → read_frame s (0 ∷ bs) ≡ None
+nothing_at_zero s bs = zero_kind s (read_number 4 bs)

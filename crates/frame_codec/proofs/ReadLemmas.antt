@@ -1,0 +1,86 @@
+-- What is read is a frame within the settings, and the bytes begin with its bytes.
+use Rattle.std.proofs.Common.{◌≡◌, ℕ, ◌+◌, Bool, true, false, ◌==◌, if◌then◌else◌, List, ◌++◌, length, Option, Some, None, refl, sym, ap, ◌∙◌, append_assoc}
+use Rattle.std.proofs.lemmas.Bool.{eqb-true}
+use Rattle.keys.specs.Cells.{Codec, AreBytes, ReadsSpellings, read_as, read_where, number, counted, value_cell, pid_cell}
+use Rattle.keys.specs.declared.settings.Settings.{Settings}
+use Rattle.keys.proofs.CellLemmas.{gave, same_reading, nothing_read, read_as-gave, read_where-gave, goes_on, number-spelled, counted-spelled, pid-spelled}
+use Rattle.frame_codec.specs.Codecs.{both, listed, flagged}
+use Rattle.frame_codec.specs.Frame.{Content, Frame, full, delta, kind_of, content_bytes, header, bytes_of, is_frame}
+use Rattle.frame_codec.specs.Frame.Content.{FullLeaf, DeltaLeaf, FullIndex, DeltaIndex, Free}
+use Rattle.frame_codec.specs.Reading.{BeginsWithFrame, read_content, read_behind, read_any, read_frame}
+use Rattle.keys.specs.Limits.{first_bad_field}
+use Rattle.frame_codec.proofs.FrameLemmas.{in_limits, frame-back}
+use Rattle.frame_codec.proofs.CodecLemmas.{both-spelled, listed-spelled, flagged-spelled}
+
+full-spelled : {V : Type 0} (cell : Codec V) → ReadsSpellings cell → ReadsSpellings (full cell)
+full-spelled cell sc =
+    both-spelled counted (listed (both counted cell)) counted-spelled (listed-spelled (both counted cell) (both-spelled counted cell counted-spelled sc))
+
+delta-spelled : {V : Type 0} (cell : Codec V) → ReadsSpellings cell → ReadsSpellings (delta cell)
+delta-spelled cell sc =
+    listed-spelled (both counted (flagged cell)) (both-spelled counted (flagged cell) counted-spelled (flagged-spelled cell sc))
+
+pub header-spelled : ReadsSpellings header
+header-spelled =
+    both-spelled (both (number 1) (number 4)) pid_cell (both-spelled (number 1) (number 4) (number-spelled 1) (number-spelled 4)) pid-spelled
+
+module _ (kind : ℕ) (bs : List ℕ) (bytes : AreBytes bs) (c : Content) (rest : List ℕ) where
+  -- the content is of this kind, and its bytes stand at the front
+  abbrev pub Stands : Type 0
+  Stands = (kind ≡ kind_of c) × (bs ≡ content_bytes c ++ rest)
+
+  -- the reader of one kind, or of the others
+  either : (b : Bool) (this others : Option (Content × List ℕ)) → (b ≡ true → this ≡ gave c rest → Stands) → (others ≡ gave c rest → Stands)
+      → (if b then this else others) ≡ gave c rest → Stands
+  either true this others f g h = f refl h
+  either false this others f g h = g h
+
+  of_kind : {X : Type 0} (n : ℕ) (codec : Codec X) (content : X → Content) → ReadsSpellings codec
+      → ((x : X) → kind_of (content x) ≡ n) → ((x : X) → content_bytes (content x) ≡ codec.spell x)
+      → (kind == n) ≡ true → read_as content (codec.read bs) ≡ gave c rest → Stands
+  of_kind n codec content sc is_n is_spelled same h =
+      let (x, read, is) = read_as-gave content (codec.read bs) c rest h in (
+        eqb-true kind n same ∙ sym (is_n x) ∙ ap kind_of is,
+        sc bs x rest bytes read ∙ ap (λ (cs : List ℕ). cs ++ rest) (sym (is_spelled x)) ∙ ap (λ (d : Content). content_bytes d ++ rest) is,
+      )
+
+  free : (kind == 5) ≡ true → gave Free bs ≡ gave c rest → Stands
+  free same h =
+      let (is, left) = same_reading Free c bs rest h in
+      (eqb-true kind 5 same ∙ ap kind_of is, left ∙ ap (λ (d : Content). content_bytes d ++ rest) is)
+
+  pub content-spelled : read_content kind bs ≡ gave c rest → Stands
+  content-spelled =
+      either (kind == 1) _ _ (of_kind 1 (full value_cell) (λ p. FullLeaf p.0 p.1) (full-spelled value_cell counted-spelled) (λ x. refl) (λ x. refl))
+      (either (kind == 2) _ _ (of_kind 2 (delta value_cell) (λ run. DeltaLeaf run) (delta-spelled value_cell counted-spelled) (λ x. refl) (λ x. refl))
+      (either (kind == 3) _ _ (of_kind 3 (full pid_cell) (λ p. FullIndex p.0 p.1) (full-spelled pid_cell pid-spelled) (λ x. refl) (λ x. refl))
+      (either (kind == 4) _ _ (of_kind 4 (delta pid_cell) (λ run. DeltaIndex run) (delta-spelled pid_cell pid-spelled) (λ x. refl) (λ x. refl))
+      (either (kind == 5) _ _ free (λ h. absurd (nothing_read _ h))))))
+
+any-spelled : (bs : List ℕ) (f : Frame) (rest : List ℕ) → AreBytes bs → read_any bs ≡ gave f rest → bs ≡ bytes_of f ++ rest
+any-spelled bs f rest bytes h =
+    let on = goes_on header header-spelled bs read_behind f rest bytes h in
+    let kind : ℕ = on.first.0.0 in
+    let len : ℕ = on.first.0.1 in
+    let pid : ℕ = on.first.1 in
+    let fits : Content → Bool = λ c. len == 8 + length (content_bytes c) in
+    let made : Content → Frame = λ c. record { pid = pid; content = c } in
+    let (c, read, is) = read_as-gave made (read_where fits (read_content kind on.behind)) f rest on.went in
+    let (content, fit) = read_where-gave fits (read_content kind on.behind) c rest read in
+    let (same_kind, stands) = content-spelled kind on.behind on.bytes c rest content in
+    let long : len ≡ 8 + length (content_bytes c) = eqb-true len (8 + length (content_bytes c)) fit in
+    on.spelled
+    ∙ ap (λ (cs : List ℕ). header.spell ((kind, len), pid) ++ cs) stands
+    ∙ ap (λ (k : ℕ). header.spell ((k, len), pid) ++ (content_bytes c ++ rest)) same_kind
+    ∙ ap (λ (n : ℕ). header.spell ((kind_of c, n), pid) ++ (content_bytes c ++ rest)) long
+    ∙ sym (append_assoc (header.spell ((kind_of c, 8 + length (content_bytes c)), pid)) (content_bytes c) rest)
+    ∙ ap (λ (g : Frame). bytes_of g ++ rest) is
+
+pub frame-stands : (s : Settings) (bs : List ℕ) (f : Frame) (rest : List ℕ) → AreBytes bs → read_frame s bs ≡ Some (f, rest) → BeginsWithFrame s bs f rest
+frame-stands s bs f rest bytes h =
+    let (read, within) = read_where-gave (is_frame s) (read_any bs) f rest h in
+    record { within = within; bytes = any-spelled bs f rest bytes read }
+
+-- where nothing is read, no frame stands
+pub none-stands : (s : Settings) (bs : List ℕ) (f : Frame) (rest : List ℕ) → first_bad_field s ≡ None → read_frame s bs ≡ None → BeginsWithFrame s bs f rest → ⊥
+none-stands s bs f rest good h stands = nothing_read _ (sym h ∙ ap (read_frame s) stands.bytes ∙ frame-back s (in_limits s good) f stands.within rest)

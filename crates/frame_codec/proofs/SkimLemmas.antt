@@ -1,0 +1,149 @@
+-- What is passed over and not kept: entries one behind the other, a base or a run of them, a content, and a frame.
+use Rattle.std.proofs.Common.{◌≡◌, ℕ, ◌+◌, ◌<◌, ◌-◌, ◌≤◌, Bool, true, false, ◌&&◌, if◌then◌else◌, List, [], ◌∷◌, ◌++◌, length, take, drop, Option, Some, None, refl, sym, ap, ◌∙◌, arith, length-append}
+use Rattle.std.proofs.Math.Seq.{take-append_seam}
+use Rattle.keys.specs.Cells.{Codec, AreBytes, read_on, read_as, read_where, read_number, counted}
+use Rattle.keys.specs.Order.{IsRising}
+use Rattle.keys.specs.declared.settings.Settings.{Settings}
+use Rattle.keys.proofs.CellLemmas.{gave, nothing_read, read_where-gave}
+use Rattle.delta_chain.specs.Building.{goes_last}
+use Rattle.delta_chain.proofs.Rising.{rising-push}
+use Rattle.frame_codec.specs.Codecs.{both, read_each}
+use Rattle.frame_codec.specs.Frame.{Content, Frame, full, header, bytes_of, is_pid, is_key, are_entries, is_full, is_content}
+use Rattle.frame_codec.specs.Reading.{read_content, read_frame}
+use Rattle.frame_codec.specs.Skimmed.{is_above}
+use Rattle.frame_codec.proofs.EachLemmas.{IsReadUpTo, read_entries, read-none, read-next, read-falls, read-done, read-many}
+use Rattle.frame_codec.proofs.FoundLemmas.{IsReadOf, IsContent, read_allowed, content-found, content-none, frame-answered}
+use Rattle.frame_codec.proofs.ReadLemmas.{header-spelled, frame-stands}
+use Rattle.frame_codec.proofs.WithinLemmas.{decides-rising}
+
+-- ---- entries
+
+not_false : (b : Bool) → (b ≡ false → ⊥) → b ≡ true
+not_false true h = refl
+not_false false h = absurd (h refl)
+
+-- behind an entry goes what is above its key
+last-pushed : {X : Type 0} (built : List (List ℕ × X)) (j : List ℕ) (v : X) (k : List ℕ) → goes_last k (built ++ (j, v) ∷ []) ≡ is_above (Some j) k
+last-pushed [] j v k = refl
+last-pushed (e ∷ []) j v k = refl
+last-pushed (e ∷ f ∷ es) j v k = last-pushed (f ∷ es) j v k
+
+module _ {X : Type 0} (s : Settings) (short : X → Bool) (cell : Codec X) (count : ℕ) (start : List ℕ) where
+  -- so many were passed over, up to this key; they are within the settings, and their keys rise
+  pub record IsPassedUpTo (at : ℕ) (last : Option (List ℕ)) (now : List ℕ) : Type 0 where
+    pub built : List (List ℕ × X)
+    pub upto : IsReadUpTo s short cell count start at built now
+    pub rising : IsRising built
+    pub above : (k : List ℕ) → goes_last k built ≡ is_above last k
+
+  pub passed-none : IsPassedUpTo 0 None start
+  passed-none = record { built = []; upto = read-none s short cell count start; rising = (decides-rising {X = X} []).0 refl; above = λ k. refl }
+
+  module _ (at : ℕ) (last : Option (List ℕ)) (now : List ℕ) (up : IsPassedUpTo at last now) where
+    pub passed-next : (k : List ℕ) (v : X) (behind : List ℕ) → at < count → read_where (λ (e : List ℕ × X). is_key s e.0 && short e.1) ((both counted cell).read now) ≡ Some ((k, v), behind)
+        → is_above last k ≡ true → IsPassedUpTo (at + 1) (Some k) behind
+    passed-next k v behind more h above = record {
+      built = up.built ++ (k, v) ∷ [];
+      upto = read-next s short cell count start at up.built now up.upto k v behind more h;
+      rising = rising-push up.built k v up.rising (up.above k ∙ above);
+      above = λ j. last-pushed up.built k v j;
+    }
+
+    pub passed-falls : (k : List ℕ) (v : X) (behind : List ℕ) → at < count → read_where (λ (e : List ℕ × X). is_key s e.0 && short e.1) ((both counted cell).read now) ≡ Some ((k, v), behind)
+        → is_above last k ≡ false → read_entries s short cell count start ≡ None
+    passed-falls k v behind more h falls =
+        read-falls s short cell count start at up.built now up.upto k v behind more h (up.above k ∙ falls)
+
+    pub passed-done : count ≤ at → count ≤ s.fan → (es : List (List ℕ × X)) × (read_entries s short cell count start ≡ Some (es, now))
+    passed-done done few = (up.built, read-done s short cell count start at up.built now up.upto done few up.rising)
+
+  module _ (es : List (List ℕ × X)) (end : List ℕ) (whole : read_entries s short cell count start ≡ Some (es, end)) where
+    -- where all are read, there are no more than fan of them
+    pub whole-few : count ≤ s.fan
+    whole-few =
+        let few : s.fan < count → ⊥ = λ many. nothing_read (es, end) (sym (read-many s short cell count start many) ∙ whole) in
+        omega (arith, few)
+
+    -- and each goes behind those that were read before it
+    pub whole-rises : (at : ℕ) (built : List (List ℕ × X)) (now : List ℕ) → IsReadUpTo s short cell count start at built now → (k : List ℕ) (v : X) (behind : List ℕ)
+        → at < count → read_where (λ (e : List ℕ × X). is_key s e.0 && short e.1) ((both counted cell).read now) ≡ Some ((k, v), behind) → goes_last k built ≡ true
+    whole-rises at built now up k v behind more h =
+        not_false (goes_last k built) (λ falls. nothing_read (es, end) (sym (read-falls s short cell count start at built now up k v behind more h falls) ∙ whole))
+
+-- ---- a base under its low key
+
+module _ {V : Type 0} (s : Settings) (short : V → Bool) (cell : Codec V) (bs low behind : List ℕ) (count : ℕ) (rest : List ℕ)
+    (key : read_where (is_key s) (counted.read bs) ≡ Some (low, behind)) (counts : read_number 2 behind ≡ Some (count, rest)) where
+  -- what is read of a low key and a base
+  abbrev pub read_full : Option ((List ℕ × List (List ℕ × V)) × List ℕ)
+  read_full = read_where (λ p. is_full s short p.0 p.1) ((full cell).read bs)
+
+  abbrev of_entries : Option (List (List ℕ × V) × List ℕ) → Option ((List ℕ × List (List ℕ × V)) × List ℕ)
+  of_entries o = read_where (λ p. is_full s short p.0 p.1) (read_as (λ es. (low, es)) o)
+
+  -- once the low key and the count are read
+  full-of_entries : read_full ≡ of_entries (read_each (both counted cell) count rest)
+  full-of_entries =
+      ap (λ (o : Option (List ℕ × List ℕ)). read_where (λ p. is_full s short p.0 p.1) (read_on o (λ x more. read_as (λ es. (x, es)) (read_on (read_number 2 more) (read_each (both counted cell))))))
+      (read_where-gave (is_key s) (counted.read bs) low behind key).0
+      ∙ ap (λ (o : Option (ℕ × List ℕ)). of_entries (read_on o (read_each (both counted cell)))) counts
+
+  key_passes : is_key s low ≡ true
+  key_passes = (read_where-gave (is_key s) (counted.read bs) low behind key).1
+
+  pub full-none : read_entries s short cell count rest ≡ None → read_full ≡ None
+  full-none h = full-of_entries ∙ of (read_each (both counted cell) count rest) h
+    where
+      of : (o : Option (List (List ℕ × V) × List ℕ)) → read_where (are_entries s short) o ≡ None → of_entries o ≡ None
+      of None k = refl
+      of (Some p) k = rw key_passes (by (are_entries s short p.0) k)
+        where
+          by : (b : Bool) → (if b then gave p.0 p.1 else None) ≡ None → (if b then gave {X = List ℕ × List (List ℕ × V)} (low, p.0) p.1 else None) ≡ None
+          by true e = absurd (nothing_read (p.0, p.1) (sym e))
+          by false e = refl
+
+  pub full-passed : (es : List (List ℕ × V)) (end : List ℕ) → read_entries s short cell count rest ≡ Some (es, end) → read_full ≡ Some ((low, es), end)
+  full-passed es end h =
+      let (read, passed) = read_where-gave (are_entries s short) (read_each (both counted cell) count rest) es end h in
+      full-of_entries ∙ ap of_entries read ∙ rw (key_passes, passed) refl
+
+-- ---- a content, and a frame
+
+-- what was read, and is within the settings as the content of which it is
+pub made-passed : {Y Z : Type 0} (make : Y → Z) (test : Z → Bool) (o : Option (Y × List ℕ)) (y : Y) (rest : List ℕ)
+    → read_where (λ y. test (make y)) o ≡ Some (y, rest) → read_where test (read_as make o) ≡ Some (make y, rest)
+made-passed {Y = Y} make test o y rest h =
+    let (read, passed) = read_where-gave (λ (y : Y). test (make y)) o y rest h in
+    ap (λ (o : Option (Y × List ℕ)). read_where test (read_as make o)) read ∙ rw passed refl
+
+-- the frame of this page with this content
+abbrev pub with_content : ℕ → Content → Frame
+with_content pid c = record { pid = pid; content = c }
+
+module _ (s : Settings) (bs : List ℕ) (number len pid : ℕ) (body : List ℕ) (bytes : AreBytes bs) (head : header.read bs ≡ Some (((number, len), pid), body)) where
+  -- there are no fewer bytes in all than behind the header
+  pub body-within : length body ≤ length bs
+  body-within =
+      let long = ap length (header-spelled bs ((number, len), pid) body bytes head) ∙ length-append (header.spell ((number, len), pid)) body in
+      omega arith
+
+  -- no content within the settings
+  pub skim-none : read_where (is_content s) (read_content number body) ≡ None → read_frame s bs ≡ None
+  skim-none h = content-none s bs number len pid body bytes head (ap (read_as (with_content pid)) h)
+
+  module _ (c : Content) (rest : List ℕ) (is : read_where (is_content s) (read_content number body) ≡ Some (c, rest)) where
+    allowed : read_allowed s bs number len pid body bytes head ≡ Some (with_content pid c, rest)
+    allowed = ap (read_as (with_content pid)) is
+
+    pub skim-found : IsContent s bs number len pid body bytes head (with_content pid c) rest
+    skim-found = content-found s bs number len pid body bytes head (with_content pid c) rest allowed
+
+    pub skim-told : (size : ℕ) → (len ≡ 8 + (length body - length rest)) × (size ≡ length bs - length rest) → is_pid pid ≡ true → IsReadOf s bs (with_content pid c) size
+    skim-told size exact word = rw exact.1 (frame-answered s bs number len pid body bytes head (with_content pid c) rest allowed exact.0 word).0
+
+-- the bytes of a frame that was read stand at the front
+pub frame-taken : (s : Settings) (bs : List ℕ) (f : Frame) (n : ℕ) → AreBytes bs → IsReadOf s bs f n → take n bs ≡ bytes_of f
+frame-taken s bs f n bytes read =
+    ap (take n) (frame-stands s bs f (drop n bs) bytes read.found).bytes
+    ∙ ap (λ (m : ℕ). take m (bytes_of f ++ drop n bs)) read.size
+    ∙ take-append_seam (bytes_of f) (drop n bs)

@@ -1,0 +1,26 @@
+-- Lemmas on a page after a run, for the proofs of this crate and of those above it.
+use Rattle.std.specs.Prelude.{◌≡◌, ℕ, Bool, true, false, List, [], ◌∷◌, Option, if◌then◌else◌}
+use Rattle.std.proofs.Common.{refl}
+use Rattle.keys.specs.Order.{IsRising}
+use Rattle.keys.specs.declared.settings.Settings.{Settings}
+use Rattle.delta_chain.specs.Layers.{Layers, with_run, entries_of, IsInOrder}
+use Rattle.delta_chain.proofs.LayerLemmas.{rising-with_run, rising-entries_of}
+use Rattle.page_runs.specs.AfterRun.{must_replace, replaced, in_front, after_run}
+
+module _ {V : Type 0} where
+  entries_by : (b : Bool) (p : Layers V) (run : List (List ℕ × Option V)) → entries_of (if b then replaced p run else in_front p run) ≡ with_run (entries_of p) run
+  entries_by true p run = refl
+  entries_by false p run = refl
+
+  -- a page's entries after a run are its entries with the run applied
+  pub entries_of-after_run : (s : Settings) (p : Layers V) (run : List (List ℕ × Option V)) → entries_of (after_run s p run) ≡ with_run (entries_of p) run
+  entries_of-after_run s p [] = refl
+  entries_of-after_run s p (c ∷ cs) = entries_by (must_replace s p (c ∷ cs)) p (c ∷ cs)
+
+  order_by : (b : Bool) (p : Layers V) (run : List (List ℕ × Option V)) → IsInOrder p → IsRising run → IsInOrder (if b then replaced p run else in_front p run)
+  order_by true p run a r = rising-with_run (entries_of p) run (rising-entries_of p a)
+  order_by false p run a r = (r, a)
+
+  pub in_order-after_run : (s : Settings) (p : Layers V) (run : List (List ℕ × Option V)) → IsInOrder p → IsRising run → IsInOrder (after_run s p run)
+  in_order-after_run s p [] a r = a
+  in_order-after_run s p (c ∷ cs) a r = order_by (must_replace s p (c ∷ cs)) p (c ∷ cs) a r

@@ -1,0 +1,152 @@
+-- What a flush writes of each pid, and what the log then says of it.
+use Rattle.std.specs.Prelude.{◌≡◌, ℕ, Bool, true, false, cond, ◌||◌, nat_eq, List, [], ◌∷◌, ◌++◌, flat_map, Option, Some, None, is_some}
+use Rattle.std.proofs.Common.{refl, sym, ap, ◌∙◌}
+use Rattle.std.specs.List.{filter}
+use Rattle.std.specs.Map.{keys_of}
+use Rattle.std.proofs.lemmas.Bool.{eqb-true, eq-eqb, or_parts}
+use Rattle.std.proofs.lemmas.List.{append-nil}
+use Rattle.index_page.specs.Page.{PageOfKind}
+use Rattle.mapping.specs.FreshPids.{is_among}
+use Rattle.mapping.specs.Proper.{AreRisingPids}
+use Rattle.mapping.specs.Table.{is_old}
+use Rattle.mapping.specs.Tree.{Logged, Tree, page_at, logged_of}
+use Rattle.mapping.specs.Tree.Logged.{No, Old, Upto}
+use Rattle.mapping.proofs.InUse.{among-lookup}
+use Rattle.mapping.proofs.KnownPids.{none_above, among-with_numbers, rising-with_numbers, among-old}
+use Rattle.mapping.proofs.SameTable.{same_table}
+use Rattle.frame_codec.specs.Frame.{Content, Frame}
+use Rattle.flush_log.specs.FlushText.{lacking, frames_of, pid_text, pids_to_write, flush_text}
+use Rattle.recovery.specs.InStep.{IsLogged}
+use Rattle.recovery.specs.LogPages.{contents_of, in_log, pages_of, broken_in}
+use Rattle.recovery.specs.PageByLog.{InLog, page_by_log, page_in, is_broken}
+use Rattle.recovery.specs.PageByLog.InLog.{Missing, Present, Broken}
+use Rattle.recovery.proofs.PagesLemmas.{contents-append, page_at-pages_of, rising-pages_of, none_broken, not_broken}
+use Rattle.recovery.proofs.TellLemmas.{page-whole, page-free, page-newer}
+
+-- ---- the text of each pid
+
+own_by : (b : Bool) (n pid : ℕ) (cs : List Content) → nat_eq n pid ≡ b → contents_of pid (frames_of n cs) ≡ cond b cs []
+own_by true n pid [] e = refl
+own_by false n pid [] e = refl
+own_by true n pid (c ∷ cs) e = rw e (ap (λ (x : List Content). c ∷ x) (own_by true n pid cs e))
+own_by false n pid (c ∷ cs) e = rw e (own_by false n pid cs e)
+
+pub turned : (b : Bool) (m n : ℕ) → nat_eq m n ≡ b → nat_eq n m ≡ b
+turned b m n e = turned_by b (nat_eq n m) e refl
+  where
+    turned_by : (b c : Bool) → nat_eq m n ≡ b → nat_eq n m ≡ c → c ≡ b
+    turned_by true true e h = refl
+    turned_by false false e h = refl
+    turned_by true false e h = let x = eq-eqb n m (sym (eqb-true m n e)) in absurd (cc)
+    turned_by false true e h = let x = eq-eqb m n (sym (eqb-true n m h)) in absurd (cc)
+
+-- frames that are made of each of some rising pids
+module _ (g : ℕ → List Frame) (due : ℕ → List Content) (own : (n pid : ℕ) → contents_of pid (g n) ≡ cond (nat_eq pid n) (due n) []) where
+  text_by : (b : Bool) (n pid : ℕ) (ns : List ℕ) → nat_eq pid n ≡ b → is_among n ns ≡ false → contents_of pid (flat_map g ns) ≡ cond (is_among pid ns) (due pid) []
+      → cond b (due n) [] ++ contents_of pid (flat_map g ns) ≡ cond (b || is_among pid ns) (due pid) []
+  text_by true n pid ns e later ih =
+      let same : n ≡ pid = sym (eqb-true pid n e) in
+      let none : is_among pid ns ≡ false = ap (λ (m : ℕ). is_among m ns) (sym same) ∙ later in
+      ap (λ (x : List Content). due n ++ x) (ih ∙ ap (λ (b : Bool). cond b (due pid) []) none) ∙ append-nil (due n) ∙ ap due same
+  text_by false n pid ns e later ih = ih
+
+  -- the contents of each pid are those made of it
+  pub made-under : (ns : List ℕ) (pid : ℕ) → AreRisingPids ns → contents_of pid (flat_map g ns) ≡ cond (is_among pid ns) (due pid) []
+  made-under [] pid r = refl
+  made-under (n ∷ ns) pid r =
+      contents-append pid (g n) (flat_map g ns)
+      ∙ ap (λ (cs : List Content). cs ++ contents_of pid (flat_map g ns)) (own n pid)
+      ∙ text_by (nat_eq pid n) n pid ns refl (none_above n ns r.0) (made-under ns pid r.1)
+
+module _ (t : Tree) where
+  abbrev due : ℕ → List Content
+  due pid = lacking (page_at t.pages pid) (logged_of t pid)
+
+  text-under : (ns : List ℕ) (pid : ℕ) → AreRisingPids ns → contents_of pid (flat_map (pid_text t) ns) ≡ cond (is_among pid ns) (due pid) []
+  text-under ns pid r = made-under (pid_text t) due (λ n q. own_by (nat_eq q n) n q (due n) (turned (nat_eq q n) q n refl)) ns pid r
+
+  none_by : {V : Type 0} (o : Option V) → is_some o ≡ false → o ≡ None
+  none_by None e = refl
+  none_by (Some v) e = absurd (cc)
+
+  nothing_due : (l : Logged) → is_old l ≡ false → lacking None l ≡ []
+  nothing_due No e = refl
+  nothing_due Old e = absurd (cc)
+  nothing_due (Upto k) e = refl
+
+  module _ (pages : AreRisingPids (keys_of t.pages)) (logs : AreRisingPids (keys_of t.logged)) where
+    else_due : (b : Bool) (pid : ℕ) → is_among pid (pids_to_write t) ≡ b → cond b (due pid) [] ≡ due pid
+    else_due true pid e = refl
+    else_due false pid e =
+        let olds : List ℕ = keys_of (filter (λ l. is_old l.1) t.logged) in
+        let apart = or_parts (is_among pid olds) (is_among pid (keys_of t.pages)) (sym (among-with_numbers pid olds (keys_of t.pages)) ∙ e) in
+        let old : is_old (logged_of t pid) ≡ false = sym (among-old pid t.logged logs) ∙ apart.0 in
+        sym (ap (λ (o : Option PageOfKind). lacking o (logged_of t pid)) (none_by (page_at t.pages pid) (among-lookup pid t.pages ∙ apart.1)) ∙ nothing_due (logged_of t pid) old)
+
+    -- of each pid a flush writes what the log lacks
+    pub text-of_pid : (pid : ℕ) → contents_of pid (flush_text t) ≡ due pid
+    text-of_pid pid =
+        text-under (pids_to_write t) pid (rising-with_numbers (keys_of (filter (λ l. is_old l.1) t.logged)) (keys_of t.pages) pages)
+        ∙ else_due (is_among pid (pids_to_write t)) pid refl
+
+-- ---- the log with the text behind it
+
+-- a page, or none, as a log says it
+abbrev pub as_told : Option PageOfKind → InLog
+as_told None = Missing
+as_told (Some p) = Present p
+
+told-back : (o : Option PageOfKind) → page_in (as_told o) ≡ o
+told-back None = refl
+told-back (Some p) = refl
+
+told-sound : (o : Option PageOfKind) → is_broken (as_told o) ≡ false
+told-sound None = refl
+told-sound (Some p) = refl
+
+missing : (told : InLog) → page_in told ≡ None → is_broken told ≡ false → told ≡ Missing
+missing Missing e f = refl
+missing (Present p) e f = absurd (cc)
+missing Broken e f = absurd (cc)
+
+newer_by : (cs : List Content) (k : ℕ) (told : InLog) (now : Option PageOfKind) → page_by_log cs ≡ told → IsLogged k (page_in told) now → page_by_log (cs ++ lacking now (Upto k)) ≡ as_told now
+newer_by cs k Missing now e h = absurd h
+newer_by cs k Broken now e h = absurd h
+newer_by cs k (Present x) None e h = absurd h
+newer_by cs k (Present x) (Some p) e h = page-newer cs k x p e h
+
+-- what contents say, with those behind them that a flush writes: just the page that there is
+after_by : (cs : List Content) (now : Option PageOfKind) (l : Logged) → is_broken (page_by_log cs) ≡ false → (l ≡ No → page_in (page_by_log cs) ≡ None) → ((k : ℕ) → l ≡ Upto k → IsLogged k (page_in (page_by_log cs)) now)
+    → page_by_log (cs ++ lacking now l) ≡ as_told now
+after_by cs (Some p) No sound none upto = page-whole cs p
+after_by cs (Some p) Old sound none upto = page-whole cs p
+after_by cs None No sound none upto = ap page_by_log (append-nil cs) ∙ missing (page_by_log cs) (none refl) sound
+after_by cs None Old sound none upto = page-free cs
+after_by cs now (Upto k) sound none upto = newer_by cs k (page_by_log cs) now refl (upto k refl)
+
+-- a tree whose log states are true of the pages that frames tell of
+pub record IsKnown (t : Tree) (fs : List Frame) : Type 0 where
+  pub pages : AreRisingPids (keys_of t.pages)
+  pub logs : AreRisingPids (keys_of t.logged)
+  pub sound : broken_in fs ≡ None
+  pub none : (pid : ℕ) → logged_of t pid ≡ No → page_at (pages_of fs) pid ≡ None
+  pub upto : (pid k : ℕ) → logged_of t pid ≡ Upto k → IsLogged k (page_at (pages_of fs) pid) (page_at t.pages pid)
+
+module _ (t : Tree) (fs : List Frame) (known : IsKnown t fs) where
+  -- what the log then says of each pid
+  pub told-after : (pid : ℕ) → in_log (fs ++ flush_text t) pid ≡ as_told (page_at t.pages pid)
+  told-after pid =
+      let here : page_at (pages_of fs) pid ≡ page_in (in_log fs pid) = page_at-pages_of fs pid in
+      ap page_by_log (contents-append pid fs (flush_text t) ∙ ap (λ (cs : List Content). contents_of pid fs ++ cs) (text-of_pid t known.pages known.logs pid))
+      ∙ after_by (contents_of pid fs) (page_at t.pages pid) (logged_of t pid) (none_broken fs pid known.sound)
+      (λ e. sym here ∙ known.none pid e)
+      (λ k e. rw (sym here) (known.upto pid k e))
+
+  -- so its pages are those of the tree
+  pub pages-after : pages_of (fs ++ flush_text t) ≡ t.pages
+  pages-after =
+      same_table (pages_of (fs ++ flush_text t)) t.pages (rising-pages_of (fs ++ flush_text t)) known.pages
+      (λ pid. page_at-pages_of (fs ++ flush_text t) pid ∙ ap page_in (told-after pid) ∙ told-back (page_at t.pages pid))
+
+  pub sound-after : broken_in (fs ++ flush_text t) ≡ None
+  sound-after = not_broken (fs ++ flush_text t) (λ pid. ap is_broken (told-after pid) ∙ told-sound (page_at t.pages pid))

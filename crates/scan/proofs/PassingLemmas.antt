@@ -1,0 +1,114 @@
+-- What passes a test on its key: a merge of what passes is what passes of the merge.
+use Rattle.std.specs.Prelude.{◌≡◌, ℕ, Bool, true, false, cond, not, List, [], ◌∷◌, map, Option, Some, None}
+use Rattle.std.proofs.Common.{refl, sym, ap, ◌∙◌}
+use Rattle.std.specs.Ordering.{is_eq}
+use Rattle.std.specs.List.{filter, AllByRecursion}
+use Rattle.std.specs.List.Sorted.{IsStrictlySortedBy}
+use Rattle.keys.specs.Order.{order, IsRising}
+use Rattle.keys.specs.OrderedMap.{value_at}
+use Rattle.keys.specs.Range.{is_below}
+use Rattle.keys.proofs.MapLemmas.{passes_same, same_map}
+use Rattle.keys.proofs.RangeLemmas.{rising-filtered}
+use Rattle.delta_chain.specs.Layers.{Layers, said_or, with_run, entries_of, AllRise, IsInOrder}
+use Rattle.delta_chain.specs.Merging.{asserted, said_by}
+use Rattle.delta_chain.proofs.LayerLemmas.{rising-with_run, value_at-with_run}
+use Rattle.delta_chain.proofs.Overlays.{rising-asserted, rising-said_by, entries-said_by}
+use Rattle.scan.specs.Leaf.{from, behind}
+
+-- the pairs whose keys pass
+abbrev passing : {X : Type 0} → (List ℕ → Bool) → List (List ℕ × X) → List (List ℕ × X)
+passing test es = filter (λ e. test e.0) es
+
+module _ {X : Type 0} (test : List ℕ → Bool) where
+  passing_by : (b t u : Bool) (k : List ℕ) (e : List ℕ × X) (es rest : List (List ℕ × X)) → is_eq (order k e.0) ≡ t → (t ≡ true → u ≡ b) → value_at k rest ≡ cond u (value_at k es) None → value_at k (cond b (e ∷ rest) rest) ≡ cond u (value_at k (e ∷ es)) None
+  passing_by true true true k e es rest h same ih = rw h refl
+  passing_by true true false k e es rest h same ih = absurd (let f = same refl in cc)
+  passing_by true false u k e es rest h same ih = rw h ih
+  passing_by false true true k e es rest h same ih = absurd (let f = same refl in cc)
+  passing_by false true false k e es rest h same ih = ih
+  passing_by false false u k e es rest h same ih = rw h ih
+
+  nothing_by : (b : Bool) → ◌≡◌ {A = Option X} None (cond b None None)
+  nothing_by true = refl
+  nothing_by false = refl
+
+  -- they have at a key that passes what all of them have, and nothing at another
+  value_at-passing : (es : List (List ℕ × X)) (k : List ℕ) → value_at k (passing test es) ≡ cond (test k) (value_at k es) None
+  value_at-passing [] k = nothing_by (test k)
+  value_at-passing (e ∷ es) k =
+      passing_by (test e.0) (is_eq (order k e.0)) (test k) k e es (passing test es) refl (λ h. ap test (passes_same k e.0 h)) (value_at-passing es k)
+
+module _ {V : Type 0} (test : List ℕ → Bool) where
+  said_passing : (b : Bool) (o : Option (Option V)) (p : Option V) → cond b (said_or o p) None ≡ said_or (cond b o None) (cond b p None)
+  said_passing true o p = refl
+  said_passing false o p = refl
+
+  -- pairs with a run applied
+  passing-with_run : (m : List (List ℕ × V)) (run : List (List ℕ × Option V)) → IsRising m → IsRising run → passing test (with_run m run) ≡ with_run (passing test m) (passing test run)
+  passing-with_run m run r s =
+      let m_rises = rising-filtered (λ e. test e.0) m r in
+      let run_rises = rising-filtered (λ e. test e.0) run s in
+      same_map (passing test (with_run m run)) (with_run (passing test m) (passing test run)) (rising-filtered (λ e. test e.0) (with_run m run) (rising-with_run m run r)) (rising-with_run (passing test m) (passing test run) m_rises)
+      (λ q.
+      value_at-passing test (with_run m run) q
+      ∙ ap (λ (o : Option V). cond (test q) o None) (value_at-with_run m run q r s)
+      ∙ said_passing (test q) (value_at q run) (value_at q m)
+      ∙ ap (λ (o : Option (Option V)). said_or o (cond (test q) (value_at q m) None)) (sym (value_at-passing test run q))
+      ∙ ap (λ (o : Option V). said_or (value_at q (passing test run)) o) (sym (value_at-passing test m q))
+      ∙ sym (value_at-with_run (passing test m) (passing test run) q m_rises run_rises))
+
+  asserted_by : (b : Bool) (c : List ℕ × Option V) (cs : List (List ℕ × Option V)) (rest : List (List ℕ × Option (Option V))) → rest ≡ asserted cs → cond b ((c.0, Some c.1) ∷ rest) rest ≡ asserted (cond b (c ∷ cs) cs)
+  asserted_by true c cs rest h = ap (λ (x : List (List ℕ × Option (Option V))). (c.0, Some c.1) ∷ x) h
+  asserted_by false c cs rest h = h
+
+  passing-asserted : (run : List (List ℕ × Option V)) → passing test (asserted run) ≡ asserted (passing test run)
+  passing-asserted [] = refl
+  passing-asserted (c ∷ cs) = asserted_by (test c.0) c (passing test cs) (passing test (asserted cs)) (passing-asserted cs)
+
+all_rise : {V : Type 0} (runs : List (List (List ℕ × Option V))) (base : List (List ℕ × V)) → AllByRecursion IsRising runs → IsRising base → AllRise runs base
+all_rise [] base a r = r
+all_rise (run ∷ runs) base a r = (a.0, all_rise runs base a.1 r)
+
+each_rises : {V : Type 0} (runs : List (List (List ℕ × Option V))) (base : List (List ℕ × V)) → AllRise runs base → AllByRecursion IsRising runs × IsRising base
+each_rises [] base a = (tt, a)
+each_rises (run ∷ runs) base a = let rest = each_rises runs base a.1 in ((a.0, rest.0), rest.1)
+
+module _ {V : Type 0} where
+  pub said_by-rises : (runs : List (List (List ℕ × Option V))) → AllByRecursion IsRising runs → IsRising (said_by runs)
+  unfolding IsStrictlySortedBy
+  said_by-rises runs a = rising-said_by runs [] (all_rise runs [] a tt)
+
+  -- what runs say together
+  passing-said_by : (test : List ℕ → Bool) (runs : List (List (List ℕ × Option V))) → AllByRecursion IsRising runs → passing test (said_by runs) ≡ said_by (map (passing test) runs)
+  passing-said_by test [] a = refl
+  passing-said_by test (run ∷ runs) a =
+      passing-with_run test (said_by runs) (asserted run) (said_by-rises runs a.1) (rising-asserted run a.0)
+      ∙ ap (λ (x : List (List ℕ × Option (Option V))). with_run (passing test (said_by runs)) x) (passing-asserted test run)
+      ∙ ap (λ (x : List (List ℕ × Option V)). with_run x (asserted (passing test run))) (passing-said_by test runs a.1)
+
+  pub rising-passing : (test : List ℕ → Bool) (runs : List (List (List ℕ × Option V))) → AllByRecursion IsRising runs → AllByRecursion IsRising (map (passing test) runs)
+  rising-passing test [] a = tt
+  rising-passing test (run ∷ runs) a = (rising-filtered (λ e. test e.0) run a.0, rising-passing test runs a.1)
+
+  -- ---- behind a key, and from a key on
+
+  pub behind-said_by : (k : List ℕ) (runs : List (List (List ℕ × Option V))) → AllByRecursion IsRising runs → behind k (said_by runs) ≡ said_by (map (behind k) runs)
+  behind-said_by k runs a = passing-said_by (λ j. is_below k j) runs a
+
+  pub rising-behind_all : (k : List ℕ) (runs : List (List (List ℕ × Option V))) → AllByRecursion IsRising runs → AllByRecursion IsRising (map (behind k) runs)
+  rising-behind_all k runs a = rising-passing (λ j. is_below k j) runs a
+
+  pub rising-from_all : (k : List ℕ) (p : Layers V) → IsInOrder p → AllByRecursion IsRising (map (from k) p.runs)
+  rising-from_all k p a = rising-passing (λ j. not (is_below j k)) p.runs (each_rises p.runs p.base a).0
+
+  pub rising-base_of : (p : Layers V) → IsInOrder p → IsRising p.base
+  rising-base_of p a = (each_rises p.runs p.base a).1
+
+  -- a page's entries from a key on, from its lists from that key on
+  pub from-entries : (k : List ℕ) (p : Layers V) → IsInOrder p → with_run (from k p.base) (said_by (map (from k) p.runs)) ≡ from k (entries_of p)
+  from-entries k p a =
+      let each = each_rises p.runs p.base a in
+      let test : List ℕ → Bool = λ j. not (is_below j k) in
+      ap (λ (x : List (List ℕ × Option V)). with_run (from k p.base) x) (sym (passing-said_by test p.runs each.0))
+      ∙ sym (passing-with_run test p.base (said_by p.runs) each.1 (said_by-rises p.runs each.0))
+      ∙ ap (λ (x : List (List ℕ × V)). from k x) (entries-said_by p.runs p.base a)

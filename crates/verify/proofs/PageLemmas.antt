@@ -1,0 +1,56 @@
+-- The rules on every page, in the order in which they are tested.
+use Rattle.std.specs.Prelude.{◌≡◌, ◌<◌, ◌≤◌, ℕ, Bool, true, false, ◌&&◌, nat_le, min, List, [], ◌∷◌, Option, Some, None}
+use Rattle.std.proofs.Common.{refl, ap, arith, le-leb, leb-true}
+use Rattle.std.specs.List.{list_all}
+use Rattle.delta_chain.specs.Layers.{IsInOrder}
+use Rattle.index_page.specs.Page.{Page, named}
+use Rattle.index_page.specs.Range.{is_below, is_within, AreFrom}
+use Rattle.index_page.specs.Rules.{all_rise, keeps_range}
+use Rattle.index_page.proofs.RuleLemmas.{decides-keeps_range}
+use Rattle.mapping.specs.Finding.{first_broken}
+
+-- no key is below the empty one
+none_below : (k : List ℕ) → is_below k [] ≡ false
+none_below [] = refl
+none_below (b ∷ bs) = refl
+
+all_from_empty : (ks : List (List ℕ)) → AreFrom [] ks
+all_from_empty [] = tt
+all_from_empty (k ∷ ks) = (none_below k, all_from_empty ks)
+
+first_of : (a b : Bool) → (a && b) ≡ true → a ≡ true
+first_of true b h = refl
+first_of false b h = absurd (cc)
+
+module _ {V : Type 0} where
+  rises : (p : Page V) → IsInOrder p.layers → all_rise p.layers.runs p.layers.base ≡ true
+  rises p h = first_of (all_rise p.layers.runs p.layers.base) (list_all (is_within [] None) (named p))
+      ((decides-keeps_range [] None p).1 (record { rising = h; from = all_from_empty (named p); before = tt }))
+
+  -- where the keys rise, only their range is left to be tested
+  pub range_alone : (low : List ℕ) (end : Option (List ℕ)) (p : Page V) → IsInOrder p.layers → keeps_range low end p ≡ list_all (is_within low end) (named p)
+  range_alone low end p h = ap (λ (b : Bool). b && list_all (is_within low end) (named p)) (rises p h)
+
+-- ---- the test of the depth, by a count that stops at a greatest number
+
+pub too_deep : (n most d c : ℕ) → d ≡ min n most → c < d → nat_le n c ≡ false
+too_deep n most d c h l = by (nat_le n c) refl
+  where
+    by : (b : Bool) → nat_le n c ≡ b → nat_le n c ≡ false
+    by true e = absurd (let x = leb-true n c e in omega arith)
+    by false e = e
+
+pub not_too_deep : (n most d c : ℕ) → d ≡ min n most → d ≤ c → c < most → nat_le n c ≡ true
+not_too_deep n most d c h l m = le-leb n c (let x : n ≤ c = omega arith in x)
+
+-- ---- which of them is the first
+
+module _ (a b c d : Bool) (h : a ≡ true) (i : b ≡ true) where
+  pub sizes_first : c ≡ false → Some 6 ≡ first_broken ((4, a) ∷ (5, b) ∷ (6, c) ∷ (7, d) ∷ [])
+  sizes_first j = rw (h, i, j) refl
+
+  pub depth_first : c ≡ true → d ≡ false → Some 7 ≡ first_broken ((4, a) ∷ (5, b) ∷ (6, c) ∷ (7, d) ∷ [])
+  depth_first j k = rw (h, i, j, k) refl
+
+  pub none_broken : c ≡ true → d ≡ true → None ≡ first_broken ((4, a) ∷ (5, b) ∷ (6, c) ∷ (7, d) ∷ [])
+  none_broken j k = rw (h, i, j, k) refl
