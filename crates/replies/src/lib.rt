@@ -40,7 +40,7 @@ fn blank(alloc: Global, command: &Command<Global>) -> Reply<Global>
 
 /// Adds each answer of a page to what stands at its command's place. Of a scan the rows go behind those that stand there, up to its
 /// limit: so pages are added in their order. Replies and rows are moved, and no row is copied. `AllocError` comes only where memory
-/// was refused to a list of rows.
+/// was refused to a list of rows; the replies then have some of the answers, and are good for nothing but to be dropped.
 pub fn add_answers(
     replies: &mut [Reply<Global>],
     commands: &[Command<Global>],
