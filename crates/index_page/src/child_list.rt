@@ -36,7 +36,8 @@ impl<A: Allocator + Copy> ChildList<A> {
         ChildList { listed: None }
     }
 
-    /// The list of a page of these runs and this base: none where there are no runs.
+    /// The list of a page of these runs and this base, which are only read: none where there are no runs. `AllocError` comes only where
+    /// memory was refused.
     pub fn of(alloc: A, chain: &Chain<Pid, A>) -> Result<Self, AllocError>
         ensures { IfOk result (λ list. IsListOf chain.now list) }
     {
