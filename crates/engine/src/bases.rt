@@ -114,11 +114,16 @@ fn many_keys(alloc: Global) -> Result<Base<Pid, Global>, PushError> {
     Ok(builder.finish())
 }
 
+// Whether a page that is such a base becomes one of as many entries.
+fn many_keys_stay(alloc: Global) -> Result<bool, PushError> {
+    let chain = Chain::of_base(many_keys(alloc)?);
+    let base = consolidate(alloc, &chain)?;
+    Ok(base.len() == 64)
+}
+
 // True also where the 64th allocation is refused, as by `rt try --test --fail-alloc 64`: it takes a handful, whatever the keys are.
 #[test]
 fn a_base_of_many_keys_takes_few_allocations(rt: HostRuntime) -> Result<(), Fail> {
-    let chain = Chain::of_base(many_keys(rt.alloc())?);
-    let base = consolidate(rt.alloc(), &chain)?;
-    assert_eq!(rt; base.len(), 64);
+    assert!(rt; many_keys_stay(rt.alloc())?);
     Ok(())
 }
