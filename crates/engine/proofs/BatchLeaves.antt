@@ -1,11 +1,11 @@
 -- Leaves that are taken out of the tree, worked, asked for their answers, and put back.
-use Rattle.std.specs.Prelude.{◌≡◌, ◌≢◌, ℕ, suc, ◌+◌, ◌<◌, ◌≤◌, ◌++◌, map, drop, length, slice_set, slice_index_or, List, [], ◌∷◌, Option, Some, None, slice_get}
+use Rattle.std.specs.Prelude.{◌≡◌, ◌≢◌, ℕ, Bool, suc, ◌+◌, ◌<◌, ◌≤◌, ◌++◌, map, drop, length, slice_set, slice_index_or, List, [], ◌∷◌, Option, Some, None, slice_get}
 use mathlib.Core.List.{map-map}
-use Rattle.std.proofs.Common.{refl, zero, arith, sym, ap, ◌∙◌, subst}
+use Rattle.std.proofs.Common.{refl, zero, sym, ap, ◌∙◌, subst}
 use Rattle.std.specs.List.{All, AllByRecursion}
 use Rattle.std.specs.Map.{keys_of}
 use Rattle.std.specs.declared.alloc.Global.{Global}
-use Rattle.std.proofs.lemmas.List.{append_assoc, drop_more, drop-set-lt, drop_all, map_push}
+use Rattle.std.proofs.lemmas.List.{append_assoc, drop_more, drop_all, map_push}
 use Rattle.std.proofs.lemmas.List.Elements.{All-from_recursion}
 use Rattle.keys.specs.Lists.{flat}
 use Rattle.keys.specs.declared.command.Command.{Command}
@@ -18,52 +18,38 @@ use Rattle.mapping.specs.Proper.{Distinct, AreRisingPids}
 use Rattle.mapping.specs.Table.{Mapping, pids_in_use, place_of, page_of, at_home, with_place}
 use Rattle.mapping.specs.TreeInMemory.{TreeInMemory}
 use Rattle.routing.specs.Routes.{Route}
-use Rattle.page_runs.specs.LeafWork.{LeafHeld, LeafMade, LeafWorked, IsLeafHeld, leaf_made, leaf_held_of}
+use Rattle.page_runs.specs.LeafWork.{LeafHeld, LeafMade, IsLeafHeld, leaf_made, leaf_held_of}
 use Rattle.page_runs.specs.Replies.{ArePlacesOf}
 use Rattle.page_runs.specs.declared.leaf_work.LeafJob.{LeafJob}
-use Rattle.replies.specs.ByPlace.{reply_at, IsPlaceOf, AreAnswers, blank_of, with_pieces}
+use Rattle.replies.specs.ByPlace.{reply_at, AreAnswers, blank_of, with_pieces}
 use Rattle.replies.proofs.Placing.{replies-with_pieces}
 use Rattle.climb_plan.specs.Installing.{all_taken, all_put, AreAway, page_or_none}
 use Rattle.climb_plan.proofs.Installing.{KeepsOthers, all_kept, placed_apart, tree_taken, tree_put}
 use Rattle.climb_plan.proofs.InstallingLemmas.{away-all_taken, put_back_is_before}
-use Rattle.engine.specs.Leaves.{IsLeafAt, AreLeavesHome, AreLeafRoutes, route_pids, leaf_held, leaves_made, answers}
+use Rattle.engine.specs.Leaves.{IsLeafAt, AreLeavesHome, AreLeafRoutes, route_pids, leaf_held, leaves_made, in_order}
 
 -- ---- answers are taken, one leaf after the other
 
 module _ {X Y : Type 0} (f : X → Y) where
-  -- what the rest still has is what is taken next, and what the rest has behind it
-  pub next_taken : (xs : List X) (i : ℕ) (x new : X) (y : Y) → i < length xs → y ≡ f (slice_index_or xs i x) → map f (drop i xs) ≡ y ∷ map f (drop (i + 1) (slice_set xs i new))
-  next_taken xs i x new y l e =
-      let rest : drop (i + 1) (slice_set xs i new) ≡ drop (i + 1) xs = drop-set-lt (i + 1) xs i new (omega arith) in
-      ap (λ (zs : List X). map f zs) (drop_more xs i x l)
-      ∙ ap (λ (z : Y). z ∷ map f (drop (i + 1) xs)) (sym e)
-      ∙ ap (λ (zs : List X). y ∷ map f zs) (sym rest)
-
   -- what looks alike in the place of another leaves all that is seen
   pub alike_set : (xs : List X) (i : ℕ) (x new : X) → f new ≡ f (slice_index_or xs i x) → map f (slice_set xs i new) ≡ map f xs
   alike_set [] i x new e = refl
   alike_set (z ∷ zs) zero x new e = ap (λ (y : Y). y ∷ map f zs) e
   alike_set (z ∷ zs) (suc i) x new e = ap (λ (ys : List Y). f z ∷ ys) (alike_set zs i x new e)
 
--- the answers of these leaves, leaf by leaf
-abbrev pub answers_by_leaf : List LeafWorked → List (List (Piece Global))
-answers_by_leaf ds = map (λ d. d.made.pieces) ds
-
--- they are all answers
-all_answers : (ds : List LeafWorked) → answers (map (λ d. d.made) ds) ≡ flat (answers_by_leaf ds)
-all_answers ds = ap flat (map-map (λ (m : LeafMade). m.pieces) (λ (d : LeafWorked). d.made) ds)
-
-pub answers_within : (cs : List (Command Global)) (ds : List LeafWorked) → AreAnswers cs (answers (map (λ d. d.made) ds)) → All (IsPlaceOf cs) (flat (answers_by_leaf ds))
-answers_within cs ds h = subst (λ (ps : List (Piece Global)). All (IsPlaceOf cs) ps) (all_answers ds) h.within
+-- what is taken next is what stands first of all that are left, in order
+pub next_in_order : (order : List Bool) (i : ℕ) (d : Bool) (xs ys xs' ys' : List (List (Piece Global))) (ps : List (Piece Global)) → i < length order
+    → ((later : List Bool) → in_order (slice_index_or order i d ∷ later) xs ys ≡ ps ∷ in_order later xs' ys')
+    → in_order (drop i order) xs ys ≡ ps ∷ in_order (drop (i + 1) order) xs' ys'
+next_in_order order i d xs ys xs' ys' ps l next = ap (λ (bs : List Bool). in_order bs xs ys) (drop_more order i d l) ∙ next (drop (i + 1) order)
 
 -- once no leaf is left, each reply stands at its place
-pub all_added : (cs : List (Command Global)) (ds now : List LeafWorked) (i : ℕ) (rs : List (Reply Global)) → length now ≤ i → with_pieces cs (flat (answers_by_leaf (drop i now))) rs ≡ with_pieces cs (flat (answers_by_leaf ds)) (map blank_of cs)
-    → AreAnswers cs (answers (map (λ d. d.made) ds)) → (place : ℕ) → slice_get rs place ≡ reply_at cs (answers (map (λ d. d.made) ds)) place
-all_added cs ds now i rs l h a place =
-    let none : drop i now ≡ [] = drop_all i now l in
-    let made : rs ≡ with_pieces cs (flat (answers_by_leaf ds)) (map blank_of cs) = rw none at h in
-    let all : with_pieces cs (flat (answers_by_leaf ds)) (map blank_of cs) ≡ with_pieces cs (answers (map (λ d. d.made) ds)) (map blank_of cs) = ap (λ (ps : List (Piece Global)). with_pieces cs ps (map blank_of cs)) (sym (all_answers ds)) in
-    ap (λ (xs : List (Reply Global)). slice_get xs place) (made ∙ all) ∙ replies-with_pieces cs (answers (map (λ d. d.made) ds)) a place
+pub all_added : (cs : List (Command Global)) (order : List Bool) (i : ℕ) (xs ys : List (List (Piece Global))) (all : List (Piece Global)) (rs : List (Reply Global)) → length order ≤ i → with_pieces cs (flat (in_order (drop i order) xs ys)) rs ≡ with_pieces cs all (map blank_of cs)
+    → AreAnswers cs all → (place : ℕ) → slice_get rs place ≡ reply_at cs all place
+all_added cs order i xs ys all rs l h a place =
+    let none : drop i order ≡ [] = drop_all i order l in
+    let made : rs ≡ with_pieces cs all (map blank_of cs) = rw none at h in
+    ap (λ (qs : List (Reply Global)). slice_get qs place) made ∙ replies-with_pieces cs all a place
 
 -- ---- leaves are put back
 

@@ -6,6 +6,7 @@ mod BatchLeaves
 mod CleanDone
 mod CommandsWithin
 mod CreateLemmas
+mod Crossing
 mod EndedRoutes
 mod Executed
 mod FlushDone
@@ -15,6 +16,7 @@ mod LeafRoutes
 mod OpenedLemmas
 mod OwnRuns
 mod PartAnswers
+mod PartedLemmas
 mod PlayLemmas
 mod PlayTurn
 mod Readied

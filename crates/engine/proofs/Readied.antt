@@ -1,8 +1,8 @@
 -- A tree whose touched leaves were taken out of it and worked is ready to climb; put back, they are the tree as it was.
-use Rattle.std.specs.Prelude.{◌≡◌, ◌≢◌, ℕ, true, false, List, [], ◌∷◌, map, flat_map, Option, Some, None, IsSome, is_some}
+use Rattle.std.specs.Prelude.{◌≡◌, ◌≢◌, ℕ, Bool, true, false, List, [], ◌∷◌, map, flat_map, Option, Some, None, IsSome, is_some}
 use Rattle.std.proofs.Common.{refl, sym, ap, ◌∙◌, subst}
 use Rattle.std.specs.declared.alloc.Global.{Global}
-use Rattle.std.specs.List.{AllByRecursion}
+use Rattle.std.specs.List.{AllByRecursion, filter}
 use Rattle.std.specs.Map.{keys_of}
 use Rattle.keys.specs.declared.command.Command.{Command}
 use Rattle.keys.specs.declared.settings.Settings.{Settings}
@@ -32,39 +32,40 @@ use Rattle.climb_plan.proofs.InstallingLemmas.{none_of, not_among, away-all_take
 use Rattle.engine.specs.Leaves.{route_pids, leaves_made}
 use Rattle.engine.specs.SoundTree.{IsSoundInMemory}
 use Rattle.engine.proofs.OwnRuns.{all_left}
-use Rattle.engine.proofs.SeenLeaves.{all_routed, distinct_routes, seen_from}
+use Rattle.engine.proofs.PartedLemmas.{all_passing, distinct_passing}
+use Rattle.engine.proofs.SeenLeaves.{ComeToNone, all_routed, distinct_routes, seen_from}
 
 -- ---- names of what the statements speak of
 
--- which of the tree's leaves the commands go to
-abbrev pub routes_here : TreeInMemory → List (Command Global) → List Route
-routes_here m cs = routes (levels_of (tree_of m)).level cs
+-- of the tree's leaves that the commands go to those that pass
+abbrev pub routes_here : TreeInMemory → List (Command Global) → (Route → Bool) → List Route
+routes_here m cs w = filter w (routes (levels_of (tree_of m)).level cs)
 
 -- what is made of these leaves
-abbrev pub made_here : Settings → TreeInMemory → List (Command Global) → List LeafMade
-made_here s m cs = leaves_made s cs m.table (routes_here m cs)
+abbrev pub made_here : Settings → TreeInMemory → List (Command Global) → (Route → Bool) → List LeafMade
+made_here s m cs w = leaves_made s cs m.table (routes_here m cs w)
 
 -- the tree without them
-abbrev pub taken_here : TreeInMemory → List (Command Global) → TreeInMemory
-taken_here m cs = record m { table = all_taken m.table (route_pids (routes_here m cs)) }
+abbrev pub taken_here : TreeInMemory → List (Command Global) → (Route → Bool) → TreeInMemory
+taken_here m cs w = record m { table = all_taken m.table (route_pids (routes_here m cs w)) }
 
 -- what a table has under the pids of these routes
 abbrev pub under_routes : Mapping PageOfKind → List Route → List (ℕ × PageOfKind)
 under_routes t rs = map (λ r. (r.pid, page_or_none (page_of t r.pid))) rs
 
 -- these leaves, as they were
-abbrev pub leaves_here : TreeInMemory → List (Command Global) → List (ℕ × PageOfKind)
-leaves_here m cs = under_routes m.table (routes_here m cs)
+abbrev pub leaves_here : TreeInMemory → List (Command Global) → (Route → Bool) → List (ℕ × PageOfKind)
+leaves_here m cs w = under_routes m.table (routes_here m cs w)
 
 -- ---- the leaves of a level that tiles all keys
 
 -- what is seen of them, and that the others are at home
-seen_level : (s : Settings) (cs : List (Command Global)) (t : Mapping PageOfKind) (ps : List (Placed (List ℕ))) → next_low ps None ≡ Some [] → Tiled ps None → AreHome Leaf t ps → Distinct (pids ps)
-    → AreSeen Leaf (all_taken t (route_pids (routes ps cs))) (map (λ d. page_seen Leaf d.worked) (leaves_made s cs t (routes ps cs))) (worked_leaves s (net_run (joined ps) cs) ps)
-seen_level s cs t [] e tiled h d = absurd (cc)
-seen_level s cs t (p ∷ ps) e tiled h d =
+seen_level : (s : Settings) (cs : List (Command Global)) (t : Mapping PageOfKind) (w : Route → Bool) → ComeToNone cs w → (ps : List (Placed (List ℕ))) → next_low ps None ≡ Some [] → Tiled ps None → AreHome Leaf t ps → Distinct (pids ps)
+    → AreSeen Leaf (all_taken t (route_pids (filter w (routes ps cs)))) (map (λ d. page_seen Leaf d.worked) (leaves_made s cs t (filter w (routes ps cs)))) (worked_leaves s (net_run (joined ps) cs) ps)
+seen_level s cs t w quiet [] e tiled h d = absurd (cc)
+seen_level s cs t w quiet (p ∷ ps) e tiled h d =
     let least : p.page.low ≡ [] = cc in
-    seen_from s cs t (joined (p ∷ ps)) (rising-joined (p ∷ ps) None tiled) p ps (net_run (joined (p ∷ ps)) cs) t tiled (all_left cs p ps least) h h d
+    seen_from s cs t w quiet (joined (p ∷ ps)) (rising-joined (p ∷ ps) None tiled) p ps (net_run (joined (p ∷ ps)) cs) t tiled (all_left cs p ps least) h h d
 
 -- ---- tables
 
@@ -85,13 +86,15 @@ apart_from : (n : ℕ) (ks : List ℕ) → is_among n ks ≡ false → AllByRecu
 apart_from n [] h = tt
 apart_from n (k ∷ ks) h = let r = none_of n k ks h in ((λ e. r.0 (sym e)), apart_from n ks r.1)
 
-module _ (t : Mapping PageOfKind) (cs : List (Command Global)) (ps : List (Placed (List ℕ))) where
+module _ (t : Mapping PageOfKind) (cs : List (Command Global)) (w : Route → Bool) (ps : List (Placed (List ℕ))) where
   abbrev taken : Mapping PageOfKind
-  taken = all_taken t (route_pids (routes ps cs))
+  taken = all_taken t (route_pids (filter w (routes ps cs)))
 
   -- pages of other pids stay
   others_stay : (n : ℕ) → is_among n (pids ps) ≡ false → place_of taken n ≡ place_of t n
-  others_stay n h = taken_others t (route_pids (routes ps cs)) n (not_among n (route_pids (routes ps cs)) (all_routed (λ k. k ≢ n) ps cs (apart_from n (pids ps) h)))
+  others_stay n h =
+      let apart = all_passing w (λ k. k ≢ n) (routes ps cs) (all_routed (λ k. k ≢ n) ps cs (apart_from n (pids ps) h)) in
+      taken_others t (route_pids (filter w (routes ps cs))) n (not_among n (route_pids (filter w (routes ps cs))) apart)
 
   above_stay : (ls : List (List (Placed ℕ))) → Distinct (all_pids ps ls) → AllByRecursion (AreHome Index t) ls → AllByRecursion (AreHome Index taken) ls
   above_stay ls d h =
@@ -128,45 +131,45 @@ back_under_routes t rs r d h =
 
 -- ---- the tree
 
-module _ (s : Settings) (m : TreeInMemory) (cs : List (Command Global)) (sound : IsSoundInMemory s m) where
+module _ (s : Settings) (m : TreeInMemory) (cs : List (Command Global)) (w : Route → Bool) (sound : IsSoundInMemory s m) where
   home_level : AreHome Leaf m.table (levels_of (tree_of m)).level
   home_level = listed_home m.table sound.home Leaf (levels_of (tree_of m)).level sound.sound.proper.held.leaves
 
   distinct_level : Distinct (pids (levels_of (tree_of m)).level)
   distinct_level = distinct_first (pids (levels_of (tree_of m)).level) (flat_map pids (levels_of (tree_of m)).above) sound.sound.proper.levels.distinct
 
-  distinct_here : Distinct (route_pids (routes_here m cs))
-  distinct_here = distinct_routes (levels_of (tree_of m)).level cs distinct_level
+  distinct_here : Distinct (route_pids (routes_here m cs w))
+  distinct_here = distinct_passing w (routes (levels_of (tree_of m)).level cs) (distinct_routes (levels_of (tree_of m)).level cs distinct_level)
 
-  there_here : AllByRecursion (IsThere m.table) (route_pids (routes_here m cs))
-  there_here = all_routed (IsThere m.table) (levels_of (tree_of m)).level cs (are_there m.table (levels_of (tree_of m)).level home_level)
+  there_here : AllByRecursion (IsThere m.table) (route_pids (routes_here m cs w))
+  there_here = all_passing w (IsThere m.table) (routes (levels_of (tree_of m)).level cs) (all_routed (IsThere m.table) (levels_of (tree_of m)).level cs (are_there m.table (levels_of (tree_of m)).level home_level))
 
   rising_here : AreRisingPids (pids_in_use m.table)
   rising_here = subst (λ (ns : List ℕ). AreRisingPids ns) (home_keys m.table.places sound.home) sound.sound.proper.tree.rising
 
-  in_use_here : pids_in_use (taken_here m cs).table ≡ keys_of (tree_of m).pages
+  in_use_here : pids_in_use (taken_here m cs w).table ≡ keys_of (tree_of m).pages
   in_use_here =
-      taken_pids m.table (route_pids (routes_here m cs)) rising_here
-      (all_weaker (IsThere m.table) (λ n. is_some (place_of m.table n) ≡ true) (λ n h. ap (λ (o : Option (Option PageOfKind)). is_some o) h) (route_pids (routes_here m cs)) there_here)
+      taken_pids m.table (route_pids (routes_here m cs w)) rising_here
+      (all_weaker (IsThere m.table) (λ n. is_some (place_of m.table n) ≡ true) (λ n h. ap (λ (o : Option (Option PageOfKind)). is_some o) h) (route_pids (routes_here m cs w)) there_here)
       ∙ sym (home_keys m.table.places sound.home)
 
-  -- the tree is ready to climb
-  pub ready_here : IsReady s (tree_of m) cs (taken_here m cs) (map (λ d. page_seen Leaf d.worked) (made_here s m cs))
-  ready_here = record {
+  -- the tree is ready to climb, where the commands of those that don't pass come to no run
+  pub ready_here : ComeToNone cs w → IsReady s (tree_of m) cs (taken_here m cs w) (map (λ d. page_seen Leaf d.worked) (made_here s m cs w))
+  ready_here quiet = record {
     proper = sound.sound.proper;
     logs = sound.sound.logs;
-    leaves = seen_level s cs m.table (levels_of (tree_of m)).level sound.sound.proper.levels.first sound.sound.proper.levels.tiled home_level distinct_level;
-    above = above_stay m.table cs (levels_of (tree_of m)).level (levels_of (tree_of m)).above sound.sound.proper.levels.distinct (listed_above m.table sound.home (levels_of (tree_of m)).above sound.sound.proper.held.above);
+    leaves = seen_level s cs m.table w quiet (levels_of (tree_of m)).level sound.sound.proper.levels.first sound.sound.proper.levels.tiled home_level distinct_level;
+    above = above_stay m.table cs w (levels_of (tree_of m)).level (levels_of (tree_of m)).above sound.sound.proper.levels.distinct (listed_above m.table sound.home (levels_of (tree_of m)).above sound.sound.proper.held.above);
     in_use = in_use_here;
-    logged = taken_logged m.table (route_pids (routes_here m cs));
+    logged = taken_logged m.table (route_pids (routes_here m cs w));
     root = refl;
     height = refl;
   }
 
   -- the places of the leaves are away
-  pub taken_away : AreAway (taken_here m cs).table (route_pids (routes_here m cs))
-  taken_away = (away-all_taken m.table (route_pids (routes_here m cs)) distinct_here, distinct_here)
+  pub taken_away : AreAway (taken_here m cs w).table (route_pids (routes_here m cs w))
+  taken_away = (away-all_taken m.table (route_pids (routes_here m cs w)) distinct_here, distinct_here)
 
   -- put back, they are the tree as it was
-  pub put_back_here : record (taken_here m cs) { table = all_put (taken_here m cs).table (leaves_here m cs) } ≡ m
-  put_back_here = ap (λ (t : Mapping PageOfKind). record m { table = t }) (back_under_routes m.table (routes_here m cs) rising_here distinct_here there_here)
+  pub put_back_here : record (taken_here m cs w) { table = all_put (taken_here m cs w).table (leaves_here m cs w) } ≡ m
+  put_back_here = ap (λ (t : Mapping PageOfKind). record m { table = t }) (back_under_routes m.table (routes_here m cs w) rising_here distinct_here there_here)

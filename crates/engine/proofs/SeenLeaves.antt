@@ -1,9 +1,9 @@
--- The leaves of a level once those that commands go to were taken and worked: what was made of these is seen, each other is at
+-- The leaves of a level once those that commands change were taken and worked: what was made of these is seen, each other is at
 -- home and the same.
-use Rattle.std.specs.Prelude.{◌≡◌, ◌≢◌, ℕ, ◌||◌, Bool, false, cond, List, [], ◌∷◌, map, Option, Some, None}
+use Rattle.std.specs.Prelude.{◌≡◌, ◌≢◌, ℕ, ◌||◌, Bool, true, false, cond, List, [], ◌∷◌, map, Option, Some, None}
 use Rattle.std.proofs.Common.{refl, sym, ap, ◌∙◌, subst}
 use Rattle.std.specs.declared.alloc.Global.{Global}
-use Rattle.std.specs.List.{AllByRecursion}
+use Rattle.std.specs.List.{AllByRecursion, filter}
 use Rattle.std.proofs.lemmas.Bool.{eq-eqb}
 use Rattle.keys.specs.Order.{IsRising}
 use Rattle.keys.specs.declared.command.Command.{Command}
@@ -30,6 +30,7 @@ use Rattle.climb_plan.proofs.Climbing.{still_home}
 use Rattle.climb_plan.proofs.InstallingLemmas.{not_among}
 use Rattle.engine.specs.Leaves.{route_pids, leaf_held, leaves_made}
 use Rattle.engine.proofs.CommandsWithin.{commands_within}
+use Rattle.engine.proofs.PartedLemmas.{all_passing}
 use Rattle.engine.proofs.OwnRuns.{IsLeft, last_part, first_part, later_part}
 
 -- ---- the pids of routes
@@ -67,6 +68,10 @@ still_there : (u : Mapping PageOfKind) (k : ℕ) (ps : List (Placed (List ℕ)))
 still_there u k ps d h =
     still_home Leaf u (with_place u k None) ps (all_weaker (λ n. n ≢ k) (λ n. place_of (with_place u k None) n ≡ place_of u n) (λ n e. taken_others u (k ∷ []) n (not_among n (k ∷ []) ((λ f. e (sym f)), tt))) (pids ps) d) h
 
+-- the commands of the routes that don't pass come to no run
+abbrev pub ComeToNone : List (Command Global) → (Route → Bool) → Type 0
+ComeToNone cs w = (r : Route) → w r ≡ false → (n : Pairs) → net_run n (commands_at cs r.places) ≡ []
+
 module _ (s : Settings) (cs : List (Command Global)) (t : Mapping PageOfKind) where
   -- what is seen of the leaves that were taken out of this table
   abbrev pub seen_of : List Route → List SeenPage
@@ -77,28 +82,45 @@ module _ (s : Settings) (cs : List (Command Global)) (t : Mapping PageOfKind) wh
   made_is p places run h e =
       ap (λ (o : Option (Option PageOfKind)). (leaf_made s cs (record { page = page_or_none (at_home o); route = record { pid = p.pid; places = places } })).worked) h ∙ ap (λ (r : Changes). worked s p r) e
 
-  seen_by : (p : Placed (List ℕ)) (places : List ℕ) (run : Changes) (rs : List Route) (ws : List (Worked (List ℕ))) (u : Mapping PageOfKind)
-      → place_of t p.pid ≡ Some (Some (Leaf p.page)) → place_of u p.pid ≡ Some (Some (Leaf p.page)) → run ≡ net_run (entries p) (commands_at cs places) → is_among p.pid (route_pids rs) ≡ false
-      → AreSeen Leaf (all_taken u (route_pids rs)) (seen_of rs) ws → AreSeen Leaf (all_taken (with_place u p.pid None) (route_pids rs)) (seen_of rs) ws
-      → (let r : Route = record { pid = p.pid; places = places } in AreSeen Leaf (all_taken u (route_pids (cond (has_places r) (r ∷ rs) rs))) (seen_of (cond (has_places r) (r ∷ rs) rs)) (worked s p run ∷ ws))
-  seen_by p [] run rs ws u h k e n a b =
-      subst (λ (r : Changes). AreSeen Leaf (all_taken u (route_pids rs)) (seen_of rs) (worked s p r ∷ ws)) (sym e) (home_seen p (taken_others u (route_pids rs) p.pid n ∙ k) a)
-  seen_by p (i ∷ is) run rs ws u h k e n a b =
-      subst (λ (w : Worked (List ℕ)). AreSeen Leaf (all_taken (with_place u p.pid None) (route_pids rs)) (page_seen Leaf w ∷ seen_of rs) (worked s p run ∷ ws)) (sym (made_is p (i ∷ is) run h (sym e)))
-      (worked_seen (worked s p run) (first_taken u p.pid (route_pids rs)) b)
+  -- where only those are taken that pass, and the commands of all others come to no run
+  module _ (w : Route → Bool) (quiet : ComeToNone cs w) where
+    -- of a leaf that gets no run, and stays
+    same_there : (p : Placed (List ℕ)) (run : Changes) (rs : List Route) (ws : List (Worked (List ℕ))) (u : Mapping PageOfKind)
+        → place_of u p.pid ≡ Some (Some (Leaf p.page)) → run ≡ [] → is_among p.pid (route_pids rs) ≡ false
+        → AreSeen Leaf (all_taken u (route_pids rs)) (seen_of rs) ws → AreSeen Leaf (all_taken u (route_pids rs)) (seen_of rs) (worked s p run ∷ ws)
+    same_there p run rs ws u k e n a =
+        subst (λ (r : Changes). AreSeen Leaf (all_taken u (route_pids rs)) (seen_of rs) (worked s p r ∷ ws)) (sym e) (home_seen p (taken_others u (route_pids rs) p.pid n ∙ k) a)
 
-  -- ---- all of them
+    seen_where : (p : Placed (List ℕ)) (places : List ℕ) (run : Changes) (rs : List Route) (ws : List (Worked (List ℕ))) (u : Mapping PageOfKind)
+        → place_of t p.pid ≡ Some (Some (Leaf p.page)) → place_of u p.pid ≡ Some (Some (Leaf p.page)) → run ≡ net_run (entries p) (commands_at cs places) → is_among p.pid (route_pids (filter w rs)) ≡ false
+        → AreSeen Leaf (all_taken u (route_pids (filter w rs))) (seen_of (filter w rs)) ws → AreSeen Leaf (all_taken (with_place u p.pid None) (route_pids (filter w rs))) (seen_of (filter w rs)) ws
+        → (let r : Route = record { pid = p.pid; places = places } in (b : Bool) → w r ≡ b → AreSeen Leaf (all_taken u (route_pids (filter w (r ∷ rs)))) (seen_of (filter w (r ∷ rs))) (worked s p run ∷ ws))
+    seen_where p places run rs ws u h k e n a b false is =
+        rw is (same_there p run (filter w rs) ws u k (e ∙ quiet (record { pid = p.pid; places = places }) is (entries p)) n a)
+    seen_where p places run rs ws u h k e n a b true is =
+        rw is (subst (λ (x : Worked (List ℕ)). AreSeen Leaf (all_taken (with_place u p.pid None) (route_pids (filter w rs))) (page_seen Leaf x ∷ seen_of (filter w rs)) (worked s p run ∷ ws)) (sym (made_is p places run h (sym e)))
+        (worked_seen (worked s p run) (first_taken u p.pid (route_pids (filter w rs))) b))
 
-  module _ (m : Pairs) (rising : IsRising m) where
-    -- from a page on, where the leaves are at home in the table before, and in the one that others were taken out of
-    pub seen_from : (p : Placed (List ℕ)) (ps : List (Placed (List ℕ))) (left : Changes) (u : Mapping PageOfKind) → Tiled (p ∷ ps) None → IsLeft m (net_run m cs) p ps left → AreHome Leaf t (p ∷ ps) → AreHome Leaf u (p ∷ ps) → Distinct (pids (p ∷ ps))
-        → AreSeen Leaf (all_taken u (route_pids (routes (p ∷ ps) cs))) (seen_of (routes (p ∷ ps) cs)) (worked_leaves s left (p ∷ ps))
-    seen_from p [] left u tiled l h k d =
-        seen_by p (places_within p.page.low None cs) left [] [] u h.0 k.0 (last_part m cs rising p left tiled l ∙ ap (λ (ds : List (Command Global)). net_run (entries p) ds) (sym (commands_within p.page.low None cs))) refl none_seen none_seen
-    seen_from p (q ∷ qs) left u tiled l h k d =
-        let rest : IsLeft m (net_run m cs) q qs (part_from q.page.low left) = later_part m (net_run m cs) p q qs left tiled l in
-        seen_by p (places_within p.page.low (Some q.page.low) cs) (part_below q.page.low left) (routes (q ∷ qs) cs) (worked_leaves s (part_from q.page.low left) (q ∷ qs)) u h.0 k.0
-        (first_part m cs rising p q qs left tiled l ∙ ap (λ (ds : List (Command Global)). net_run (entries p) ds) (sym (commands_within p.page.low (Some q.page.low) cs)))
-        (not_among p.pid (route_pids (routes (q ∷ qs) cs)) (all_routed (λ n. n ≢ p.pid) (q ∷ qs) cs d.0))
-        (seen_from q qs (part_from q.page.low left) u tiled.1 rest h.1 k.1 d.1)
-        (seen_from q qs (part_from q.page.low left) (with_place u p.pid None) tiled.1 rest h.1 (still_there u p.pid (q ∷ qs) d.0 k.1) d.1)
+    seen_by : (p : Placed (List ℕ)) (places : List ℕ) (run : Changes) (rs : List Route) (ws : List (Worked (List ℕ))) (u : Mapping PageOfKind)
+        → place_of t p.pid ≡ Some (Some (Leaf p.page)) → place_of u p.pid ≡ Some (Some (Leaf p.page)) → run ≡ net_run (entries p) (commands_at cs places) → is_among p.pid (route_pids (filter w rs)) ≡ false
+        → AreSeen Leaf (all_taken u (route_pids (filter w rs))) (seen_of (filter w rs)) ws → AreSeen Leaf (all_taken (with_place u p.pid None) (route_pids (filter w rs))) (seen_of (filter w rs)) ws
+        → (let r : Route = record { pid = p.pid; places = places } in AreSeen Leaf (all_taken u (route_pids (filter w (cond (has_places r) (r ∷ rs) rs)))) (seen_of (filter w (cond (has_places r) (r ∷ rs) rs))) (worked s p run ∷ ws))
+    seen_by p [] run rs ws u h k e n a b = same_there p run (filter w rs) ws u k e n a
+    seen_by p (i ∷ is) run rs ws u h k e n a b = seen_where p (i ∷ is) run rs ws u h k e n a b (w (record { pid = p.pid; places = i ∷ is })) refl
+
+    -- ---- all of them
+
+    module _ (m : Pairs) (rising : IsRising m) where
+      -- from a page on, where the leaves are at home in the table before, and in the one that others were taken out of
+      pub seen_from : (p : Placed (List ℕ)) (ps : List (Placed (List ℕ))) (left : Changes) (u : Mapping PageOfKind) → Tiled (p ∷ ps) None → IsLeft m (net_run m cs) p ps left → AreHome Leaf t (p ∷ ps) → AreHome Leaf u (p ∷ ps) → Distinct (pids (p ∷ ps))
+          → AreSeen Leaf (all_taken u (route_pids (filter w (routes (p ∷ ps) cs)))) (seen_of (filter w (routes (p ∷ ps) cs))) (worked_leaves s left (p ∷ ps))
+      seen_from p [] left u tiled l h k d =
+          seen_by p (places_within p.page.low None cs) left [] [] u h.0 k.0 (last_part m cs rising p left tiled l ∙ ap (λ (ds : List (Command Global)). net_run (entries p) ds) (sym (commands_within p.page.low None cs))) refl none_seen none_seen
+      seen_from p (q ∷ qs) left u tiled l h k d =
+          let rest : IsLeft m (net_run m cs) q qs (part_from q.page.low left) = later_part m (net_run m cs) p q qs left tiled l in
+          let apart = all_passing w (λ n. n ≢ p.pid) (routes (q ∷ qs) cs) (all_routed (λ n. n ≢ p.pid) (q ∷ qs) cs d.0) in
+          seen_by p (places_within p.page.low (Some q.page.low) cs) (part_below q.page.low left) (routes (q ∷ qs) cs) (worked_leaves s (part_from q.page.low left) (q ∷ qs)) u h.0 k.0
+          (first_part m cs rising p q qs left tiled l ∙ ap (λ (ds : List (Command Global)). net_run (entries p) ds) (sym (commands_within p.page.low (Some q.page.low) cs)))
+          (not_among p.pid (route_pids (filter w (routes (q ∷ qs) cs))) apart)
+          (seen_from q qs (part_from q.page.low left) u tiled.1 rest h.1 k.1 d.1)
+          (seen_from q qs (part_from q.page.low left) (with_place u p.pid None) tiled.1 rest h.1 (still_there u p.pid (q ∷ qs) d.0 k.1) d.1)

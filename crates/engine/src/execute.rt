@@ -15,10 +15,11 @@ ghost use Rattle.climb_plan.specs.Limits.{AreShort};
 ghost use Rattle.climb_plan.specs.Plan.{planned_tree};
 ghost use Rattle.climb_plan.specs.Ready.{IsReady};
 ghost use Rattle.engine.specs.Batch.{IsLaterFault, fault_by};
-ghost use Rattle.engine.specs.Leaves.{answers, AreRoutesFor};
+ghost use Rattle.engine.specs.Leaves.{answers_in, AreRoutesFor};
 ghost use Rattle.engine.specs.SoundTree.{IsSoundInMemory};
 
 use crate::leaves::{take_replies, undo_leaves, work_leaves};
+use crate::reads::{Parted, part, read_leaves};
 use climb_plan::Refused;
 use climb_plan::climb::climb;
 use climb_plan::laws::{
@@ -28,7 +29,7 @@ use climb_plan::laws::{
 use crew::{Crew, Gate};
 use keys::{Command, Fault, Reply, Settings};
 use mapping::Tree;
-use page_runs::{LeafDone, LeafWork};
+use page_runs::{LeafDone, LeafRead, LeafWork, ReadWork};
 use routing::{BatchWithEnds, PageRun, route};
 use scan::scan_ends;
 use std::alloc::Global;
@@ -104,8 +105,19 @@ fn execute_routed(
     the_plan_holds_the_map_after_the_commands::<Global>();
     the_plan_of_a_proper_store_is_proper::<Global>();
     the_log_states_stay_true::<Global>();
-    let leaves = work_leaves(rt, crew, gate, work, tree, page_runs)?;
-    match finish(rt, crew, gate, work, tree, leaves) {
+    let Parted {
+        reads,
+        writes,
+        order,
+    } = part(work.alloc, work.commands, page_runs)?;
+    let reading = ReadWork {
+        alloc: work.alloc,
+        commands: work.commands,
+        tree,
+    };
+    let reads = read_leaves(rt, crew, gate, &reading, reads)?;
+    let leaves = work_leaves(rt, crew, gate, work, tree, writes)?;
+    match finish(rt, crew, gate, work, tree, &order, reads, leaves) {
         Ok(replies) => Ok(replies),
         Err((fault, leaves)) => {
             undo_leaves(work, tree, leaves);
@@ -114,21 +126,23 @@ fn execute_routed(
     }
 }
 
-// The replies of these leaves, which were taken and worked, and the climb from them. Where that is refused, the tree is as it was,
-// and the leaves come back, but for their answers.
+// The replies of these leaves, which were read, or were taken and worked, in this order; and the climb from those that were worked. Where
+// that is refused, the tree is as it was, and these come back, but for their answers.
 fn finish(
     rt: &(impl Threads + Sync),
     crew: Crew,
     gate: &impl Gate,
     work: &LeafWork<'_>,
     tree: &mut Tree<Global>,
+    order: &[bool],
+    reads: Vec<LeafRead>,
     mut leaves: Vec<LeafDone>,
 ) -> Result<Vec<Reply<Global>>, (Fault, Vec<LeafDone>)>
     requires fan { 1 < work.now.settings.fan }
-    requires answered { AreAnswers work.now.commands.now (answers (map (λ d. d.made) leaves.items)) }
+    requires answered { AreAnswers work.now.commands.now (answers_in order.now reads.items leaves.items) }
     requires ready { (t : definitions.Tree) × (cs : List (Command Global)) × IsReady work.now.settings t cs tree.old (map (λ d. page_seen Leaf d.made.worked) leaves.items) }
     requires height { tree.old.height ≤ most_levels }
-    ensures replies { IfOk result (λ replies. (place : ℕ) → slice_get replies.items place ≡ reply_at work.now.commands.now (answers (map (λ d. d.made) leaves.items)) place) }
+    ensures replies { IfOk result (λ replies. (place : ℕ) → slice_get replies.items place ≡ reply_at work.now.commands.now (answers_in order.now reads.items leaves.items) place) }
     ensures planned { OnOk result ((t : definitions.Tree) (cs : List (Command Global)) → IsReady work.now.settings t cs tree.old (map (λ d. page_seen Leaf d.made.worked) leaves.items) →
         AreAllHome tree.new × (tree_of tree.new ≡ planned_tree work.now.settings t cs)) }
     ensures low { OnOk result (tree.new.height ≤ most_levels) }
@@ -137,7 +151,7 @@ fn finish(
     ensures fault { IfErr result (λ e. (t : definitions.Tree) (cs : List (Command Global)) →
         IsReady work.now.settings t cs tree.old (map (λ d. page_seen Leaf d.made.worked) leaves.items) → IsLaterFault work.now.settings t cs e.0) }
 {
-    let Ok(replies) = take_replies(work.alloc, &mut leaves, work.commands) else {
+    let Ok(replies) = take_replies(work.alloc, order, reads, &mut leaves, work.commands) else {
         return Err((Fault::NoMemory, leaves));
     };
     match climb(rt, crew, gate, work.alloc, &work.settings, tree, leaves) {

@@ -5,12 +5,13 @@ ghost use Rattle.mapping.specs.Table.{pids_in_use, place_of, with_place};
 ghost use Rattle.page_runs.specs.LeafWork.{leaf_held_of};
 ghost use Rattle.replies.specs.ByPlace.{AreAnswers, reply_at};
 ghost use Rattle.climb_plan.specs.Installing.{all_taken, all_put, AreAway};
-ghost use Rattle.engine.specs.Leaves.{route_pids, AreLeavesHome, AreLeafRoutes, leaf_held, leaves_made, answers, without_answers};
+ghost use Rattle.engine.specs.Leaves.{route_pids, AreLeavesHome, AreLeafRoutes, leaf_held, leaves_made, answers_in, without_answers};
 
+use crate::reads::next_answers;
 use crew::{Crew, Gate, Work, run_round};
 use keys::{Command, Reply};
 use mapping::Tree;
-use page_runs::{LeafDone, LeafJob, LeafWork};
+use page_runs::{LeafDone, LeafJob, LeafRead, LeafWork};
 use replies::{add_answers, blank_replies};
 use routing::PageRun;
 use std::alloc::{AllocError, Global};
@@ -82,20 +83,26 @@ fn put_leaf_back(tree: &mut Tree<Global>, job: LeafJob)
     tree.put(page_run.pid(), page);
 }
 
-/// The replies to the commands, each at its command's place, by what the leaves answered. The answers are taken from the leaves, one
-/// leaf after the other; all else of these stays, so that they can still be undone.
+/// The replies to the commands, each at its command's place, by what the leaves answered: those that were only read, and those that were
+/// worked, in this order. The answers are taken from the leaves, one leaf after the other; all else of those that were worked stays, so that
+/// they can still be undone.
 pub(crate) fn take_replies(
     alloc: Global,
+    order: &[bool],
+    reads: Vec<LeafRead>,
     leaves: &mut [LeafDone],
     commands: &[Command<Global>],
 ) -> Result<Vec<Reply<Global>>, AllocError>
-    requires { AreAnswers commands.now (answers (map (λ d. d.made) leaves.old)) }
-    ensures replies { IfOk result (λ replies. (place : ℕ) → slice_get replies.items place ≡ reply_at commands.now (answers (map (λ d. d.made) leaves.old)) place) }
+    requires { AreAnswers commands.now (answers_in order.now reads.items leaves.old) }
+    ensures replies { IfOk result (λ replies. (place : ℕ) → slice_get replies.items place ≡ reply_at commands.now (answers_in order.now reads.items leaves.old) place) }
     ensures rest { map without_answers leaves.new ≡ map without_answers leaves.old }
 {
     let mut replies = blank_replies(alloc, commands)?;
-    for leaf in leaves.iter_mut() {
-        add_answers(&mut replies, commands, leaf.take_pieces())?;
+    let mut reads = reads.into_iter();
+    let mut at = 0;
+    for is_read in order {
+        let pieces = next_answers(alloc, *is_read, &mut reads, leaves, &mut at);
+        add_answers(&mut replies, commands, pieces)?;
     }
     Ok(replies)
 }

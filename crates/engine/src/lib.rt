@@ -35,6 +35,7 @@ mod leaves;
 mod log_rows;
 #[cfg(test)]
 mod parts;
+mod reads;
 #[cfg(test)]
 mod recovery_rows;
 mod refusal;

@@ -8,6 +8,7 @@ pub mod NetLemmas
 mod Overlays
 pub mod PageParts
 mod PageRows
+pub mod ReadLemmas
 mod Replays
 mod Rows
 mod Touching

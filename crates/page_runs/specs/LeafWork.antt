@@ -36,14 +36,16 @@ pub record IsLeafHeld (batch : List (Command Global)) (h : LeafHeld) : Type 0 wh
 abbrev pub placed_leaf : LeafHeld → Placed Bytes
 placed_leaf h = record { pid = h.route.pid; page = leaf_of h.page }
 
+-- its replies to its commands, each with its place
+abbrev pub leaf_answers : List (Command Global) → LeafHeld → List (Piece Global)
+leaf_answers batch h = pieces_of h.route.places (replies_to (entries (leaf_of h.page)) (commands_at batch h.route.places))
+
 -- what is made of a leaf: what the net run of its commands on its own entries makes of it, and the replies to them
 abbrev pub leaf_made : Settings → List (Command Global) → LeafHeld → LeafMade
 leaf_made s batch h =
-    let m = entries (leaf_of h.page) in
-    let cs = commands_at batch h.route.places in
     record {
-      worked = worked s (placed_leaf h) (net_run m cs);
-      pieces = pieces_of h.route.places (replies_to m cs);
+      worked = worked s (placed_leaf h) (net_run (entries (leaf_of h.page)) (commands_at batch h.route.places));
+      pieces = leaf_answers batch h;
     }
 
 -- what a job holds

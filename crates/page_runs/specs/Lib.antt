@@ -6,6 +6,7 @@ pub mod NetRun
 pub mod Outcome
 pub mod PageRows
 pub mod Replay
+pub mod Reads
 pub mod Replies
 pub mod TermWork
 pub mod Worked

@@ -9,9 +9,11 @@ pub mod laws;
 pub mod leaf_work;
 mod page_after;
 mod page_rows;
+pub mod read_work;
 mod replay;
 pub mod term_work;
 
 pub use crate::class::Class;
 pub use crate::leaf_work::{LeafDone, LeafJob, LeafRest, LeafWork};
+pub use crate::read_work::{LeafRead, ReadWork, is_only_read};
 pub use crate::term_work::{TermDone, TermJob, TermWork};

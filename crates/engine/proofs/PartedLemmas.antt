@@ -1,0 +1,66 @@
+-- Leaves in two, those that are only read and the others: what holds of all holds of either, and their answers in order are those of all.
+use Rattle.std.specs.Prelude.{◌≡◌, ◌≢◌, ℕ, Bool, true, false, List, [], ◌∷◌, map}
+use Rattle.std.proofs.Common.{refl, ap, ◌∙◌}
+use Rattle.std.specs.List.{AllByRecursion, filter}
+use Rattle.std.specs.declared.alloc.Global.{Global}
+use Rattle.keys.specs.declared.command.Command.{Command}
+use Rattle.mapping.specs.Proper.{Distinct}
+use Rattle.page_runs.specs.Reads.{is_only_read}
+use Rattle.routing.specs.Routes.{Route}
+use Rattle.engine.specs.Leaves.{route_pids, read_routes, written_routes, order_of, in_order}
+
+-- ---- of some routes
+
+module _ (w : Route → Bool) where
+  passing_by : (P : ℕ → Type 0) (r : Route) (rs : List Route) (b : Bool) → w r ≡ b → P r.pid → AllByRecursion P (route_pids (filter w rs)) → AllByRecursion P (route_pids (filter w (r ∷ rs)))
+  passing_by P r rs true e p a = rw e (p, a)
+  passing_by P r rs false e p a = rw e a
+
+  -- what holds of all pids holds of those of the routes that pass
+  pub all_passing : (P : ℕ → Type 0) (rs : List Route) → AllByRecursion P (route_pids rs) → AllByRecursion P (route_pids (filter w rs))
+  all_passing P [] a = tt
+  all_passing P (r ∷ rs) a = passing_by P r rs (w r) refl a.0 (all_passing P rs a.1)
+
+  distinct_by : (r : Route) (rs : List Route) (b : Bool) → w r ≡ b → AllByRecursion (λ n. n ≢ r.pid) (route_pids (filter w rs)) → Distinct (route_pids (filter w rs)) → Distinct (route_pids (filter w (r ∷ rs)))
+  distinct_by r rs true e a d = rw e (a, d)
+  distinct_by r rs false e a d = rw e d
+
+  -- and routes to distinct pages stay so
+  pub distinct_passing : (rs : List Route) → Distinct (route_pids rs) → Distinct (route_pids (filter w rs))
+  distinct_passing [] d = tt
+  distinct_passing (r ∷ rs) d = distinct_by r rs (w r) refl (all_passing (λ n. n ≢ r.pid) rs d.0) (distinct_passing rs d.1)
+
+  each_by : (P : Route → Type 0) (r : Route) (rs : List Route) (b : Bool) → w r ≡ b → P r → AllByRecursion P (filter w rs) → AllByRecursion P (filter w (r ∷ rs))
+  each_by P r rs true e p a = rw e (p, a)
+  each_by P r rs false e p a = rw e a
+
+  -- what holds of all routes holds of those that pass
+  pub each_passing : (P : Route → Type 0) (rs : List Route) → AllByRecursion P rs → AllByRecursion P (filter w rs)
+  each_passing P [] a = tt
+  each_passing P (r ∷ rs) a = each_by P r rs (w r) refl a.0 (each_passing P rs a.1)
+
+  module _ {X : Type 0} (f g : Route → X) where
+    same_by : (r : Route) (rs : List Route) (b : Bool) → w r ≡ b → f r ≡ g r → map f (filter w rs) ≡ map g (filter w rs) → map f (filter w (r ∷ rs)) ≡ map g (filter w (r ∷ rs))
+    same_by r rs true h first rest = rw h (ap (λ (x : X). x ∷ map f (filter w rs)) first ∙ ap (λ (xs : List X). g r ∷ xs) rest)
+    same_by r rs false h first rest = rw h rest
+
+    -- two functions that make the same of all make the same of these
+    pub same_passing : (rs : List Route) → map f rs ≡ map g rs → map f (filter w rs) ≡ map g (filter w rs)
+    same_passing [] e = refl
+    same_passing (r ∷ rs) e =
+        let first : f r ≡ g r = cc in
+        let rest : map f rs ≡ map g rs = cc in
+        same_by r rs (w r) refl first (same_passing rs rest)
+
+-- ---- both in order
+
+module _ {X : Type 0} (cs : List (Command Global)) (f : Route → List X) where
+  next_by : (r : Route) (rs : List Route) (b : Bool) → is_only_read cs r ≡ b → in_order (order_of cs rs) (map f (read_routes cs rs)) (map f (written_routes cs rs)) ≡ map f rs
+      → in_order (order_of cs (r ∷ rs)) (map f (read_routes cs (r ∷ rs))) (map f (written_routes cs (r ∷ rs))) ≡ map f (r ∷ rs)
+  next_by r rs true e rest = rw e (ap (λ (xs : List (List X)). f r ∷ xs) rest)
+  next_by r rs false e rest = rw e (ap (λ (xs : List (List X)). f r ∷ xs) rest)
+
+  -- what is made of those that are read and of the others, in their order, is what is made of all
+  pub both_in_order : (rs : List Route) → in_order (order_of cs rs) (map f (read_routes cs rs)) (map f (written_routes cs rs)) ≡ map f rs
+  both_in_order [] = refl
+  both_in_order (r ∷ rs) = next_by r rs (is_only_read cs r) refl (both_in_order rs)

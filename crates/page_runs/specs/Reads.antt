@@ -1,0 +1,51 @@
+-- Commands that only look, and what a leaf answers to them.
+use Rattle.std.specs.Prelude.{Bool, true, false, ⊤, List, [], Option, Some, None}
+use Rattle.std.specs.List.{list_all}
+use Rattle.std.specs.declared.alloc.Global.{Global}
+use Rattle.keys.specs.declared.command.Command.{Command}
+use Rattle.keys.specs.declared.command.Command.TheVariants.{Get, Put, Add, Del, Scan}
+use Rattle.keys.specs.declared.piece.Piece.{Piece}
+use Rattle.index_page.specs.Page.{PageOfKind}
+use Rattle.index_page.specs.Page.PageOfKind.{Leaf, Index}
+use Rattle.mapping.specs.Table.{page_of}
+use Rattle.mapping.specs.TreeInMemory.{TreeInMemory}
+use Rattle.routing.specs.Routes.{Route}
+use Rattle.page_runs.specs.LeafWork.{leaf_answers}
+use Rattle.page_runs.specs.Replies.{commands_at, ArePlacesOf}
+
+-- whether the command leaves every map as it is
+abbrev pub is_look : {A : Type 0} → Command A → Bool
+is_look (Get k) = true
+is_look (Put k v) = false
+is_look (Add k v) = false
+is_look (Del k) = false
+is_look (Scan lo hi limit) = true
+
+-- whether a page's commands all do
+abbrev pub is_only_read : {A : Type 0} → List (Command A) → Route → Bool
+is_only_read batch r = list_all is_look (commands_at batch r.places)
+
+-- a leaf is at home there
+abbrev pub IsLeafAt : Option PageOfKind → Type 0
+IsLeafAt None = ⊥
+IsLeafAt (Some (Leaf p)) = ⊤
+IsLeafAt (Some (Index p)) = ⊥
+
+-- what may be read: a leaf that is at home, by commands that stand at places of the batch
+pub record IsRouteToRead (t : TreeInMemory) (batch : List (Command Global)) (r : Route) : Type 0 where
+  pub home : IsLeafAt (page_of t.table r.pid)
+  pub places : ArePlacesOf batch r.places
+
+-- what the page at home there answers
+abbrev pub answers_at : List (Command Global) → Option PageOfKind → Route → List (Piece Global)
+answers_at batch None r = []
+answers_at batch (Some p) r = leaf_answers batch (record { page = p; route = r })
+
+-- what the leaf of a route answers
+abbrev pub route_answers : TreeInMemory → List (Command Global) → Route → List (Piece Global)
+route_answers t batch r = answers_at batch (page_of t.table r.pid) r
+
+-- a leaf that was read: the places of its commands, and its answers
+pub record ReadLeaf : Type 0 where
+  pub route : Route
+  pub pieces : List (Piece Global)
