@@ -5,14 +5,18 @@ use keys::{Key, Pid, Value};
 use std::alloc::{AllocError, Global};
 use std::test::Fail;
 
-// A run in front: it takes a away and sets c to 3.
-fn put_run(alloc: Global, chain: &mut Chain<Value<Global>, Global>) -> Result<(), PushError> {
+// A run that takes a away and sets c to 3.
+fn run_of_two(alloc: Global) -> Result<Run<Value<Global>, Global>, PushError> {
     let mut run = Run::with_capacity(alloc, 2)?;
     run.push(Key::from_bytes(alloc, b"a")?, None)?;
-    run.push(
-        Key::from_bytes(alloc, b"c")?,
-        Some(Value::from_bytes(alloc, b"3")?),
-    )?;
+    let three = Value::from_bytes(alloc, b"3")?;
+    run.push(Key::from_bytes(alloc, b"c")?, Some(three))?;
+    Ok(run)
+}
+
+// Puts it in front.
+fn put_run(alloc: Global, chain: &mut Chain<Value<Global>, Global>) -> Result<(), PushError> {
+    let run = run_of_two(alloc)?;
     match chain.prepend(run) {
         Ok(()) => Ok(()),
         Err(_) => Err(PushError::NoMemory),

@@ -1,7 +1,7 @@
 //! The cleans of docs/EXAMPLES.md: what they answer, the bytes that they leave, the store that comes back from these, and the calls of the
 //! disk that they make.
 use crate::crews::{ALONE, crews};
-use crate::failing_disk_rows::failing_store;
+use crate::failing_disk_rows::{FailingDisk, failing_store};
 use crate::frame_rows::{EMPTY_LEAF, FREE_1, LEAF_0, LEAF_1, ROOT};
 use crate::log_rows::{
     FIRST_SLOT, FIVE_PUTS_SLOT, FOUR_LONG_PUTS, FREE_2, FULL_LOG, HEADER_1, HEADER_2, INDEX_5,
@@ -10,10 +10,11 @@ use crate::log_rows::{
     SIXTEEN_BYTES_LEAF, SIXTEEN_BYTES_PUT, SlotRow, batch_of, comes_out, fill, is_disk, look, play,
     play_at_once, store_on_used_disk,
 };
+use crate::outcomes::Outcomes;
 use crate::recovery_rows::{Row as BackRow, comes_back, is_told};
 use crate::step::Step;
 use crate::store::Store;
-use crate::tests::{FIVE_PUTS, SEVENTEEN_PUTS};
+use crate::tests::{FIVE_PUTS, SEVENTEEN_PUTS, opened};
 use flush_log::{Disk, MemDisk};
 use keys::Fault;
 use std::alloc::Global;
@@ -64,7 +65,7 @@ const LOG_16: &[&[u8]] = &[
     ROOT,
 ];
 
-const ROWS: [Row; 10] = [
+static ROWS: [Row; 10] = [
     Row {
         name: "a new store",
         steps: &["clean"],
@@ -322,14 +323,14 @@ const ROWS: [Row; 10] = [
 ];
 
 #[test]
-fn the_cleans_come_out(rt: HostRuntime) -> Result<(), Fail> {
+fn the_cleans_come_out(rt: HostRuntime) {
     for crew in &crews() {
+        let mut outcomes = Outcomes::none();
         for row in &ROWS {
-            let is_right = comes_out(&rt, *crew, rt.alloc(), row)?;
-            assert!(rt; is_right, "{crew:?}: {}", row.name);
+            outcomes.note(comes_out(&rt, *crew, rt.alloc(), row), row.name);
         }
+        outcomes.check(&rt, *crew, 10);
     }
-    Ok(())
 }
 
 pub(crate) const LONG_STORE: &str = "head 1, tail 464, number 7; root 2, height 2\n\
@@ -339,7 +340,7 @@ pub(crate) const LONG_STORE: &str = "head 1, tail 464, number 7; root 2, height 
     \x20a=0123456789abcdef b=2 c=3 d=4 e=5; 3 pages, height 2, 5 pairs";
 
 // What a disk holds that was cleaned: the pages are as they were, and so are the pairs.
-const BACK_ROWS: [BackRow; 6] = [
+static BACK_ROWS: [BackRow; 6] = [
     BackRow {
         name: "log 16",
         steps: &[
@@ -455,10 +456,11 @@ const BACK_ROWS: [BackRow; 6] = [
 #[test]
 fn a_cleaned_store_comes_back(rt: HostRuntime) {
     for crew in &crews() {
+        let mut outcomes = Outcomes::none();
         for row in &BACK_ROWS {
-            let is_back = comes_back(&rt, *crew, rt.alloc(), row);
-            assert!(rt; matches!(is_back, Ok(true)), "{crew:?}: {}", row.name);
+            outcomes.note(comes_back(&rt, *crew, rt.alloc(), row), row.name);
         }
+        outcomes.check(&rt, *crew, 6);
     }
 }
 
@@ -522,6 +524,21 @@ const REFILLED_STORE: &str = "head 1, tail 822, number 20; root 0, height 1\n\
     0 low= log=Upto0 leaf runs=0: a=0123456789abcdef\n\
     \x20a=0123456789abcdef; 1 pages, height 1, 1 pairs";
 
+// Whether the store cleans its full log, which leaves its pages as they are, and a flush then finds room.
+fn has_room_after_a_clean(
+    rt: &(impl Threads + Sync),
+    alloc: Global,
+    store: &mut Store<MemDisk<Global>>,
+) -> Result<bool, Fault> {
+    let before = look(alloc, store)?;
+    let head = store.clean(rt, ALONE)?;
+    let is_cleaned = is_disk(store.disk().bytes(), &CLEANED_SLOTS, FULL_LOG);
+    let is_as_before = look(alloc, store)?.as_str() == before.as_str();
+    let sequence = store.flush(rt, ALONE)?;
+    let is_refilled = is_disk(store.disk().bytes(), &REFILLED_SLOTS, REFILLED_LOG);
+    Ok(head == 1 && is_cleaned && is_as_before && sequence == 20 && is_refilled)
+}
+
 // Log 15: nothing of the first segment lives.
 #[test]
 fn a_full_log_has_room_after_a_clean(rt: HostRuntime) -> Result<(), Fail> {
@@ -530,14 +547,9 @@ fn a_full_log_has_room_after_a_clean(rt: HostRuntime) -> Result<(), Fail> {
     fill(&rt, alloc, &mut store)?;
     let answers = play(&rt, ALONE, alloc, &mut store, &[LONG_PUT, "flush"])?;
     assert_eq!(rt; answers.as_str(), "R; 1: 10 Full");
-    let before = look(alloc, &store)?;
-    assert_eq!(rt; store.clean(&rt, ALONE), Ok(1));
-    assert!(rt; is_disk(store.disk().bytes(), &CLEANED_SLOTS, FULL_LOG));
-    assert_eq!(rt; look(alloc, &store)?.as_str(), before.as_str());
-    assert_eq!(rt; store.flush(&rt, ALONE), Ok(20));
-    assert!(rt; is_disk(store.disk().bytes(), &REFILLED_SLOTS, REFILLED_LOG));
-    let opened = store.reopen(&rt, ALONE).map_err(|(fault, _disk)| fault);
-    assert!(rt; is_told(&rt, alloc, &opened?, REFILLED_STORE)?);
+    assert!(rt; has_room_after_a_clean(&rt, alloc, &mut store)?);
+    let store = opened(store.reopen(&rt, ALONE))?;
+    assert!(rt; is_told(&rt, alloc, &store, REFILLED_STORE)?);
     Ok(())
 }
 
@@ -588,13 +600,16 @@ fn the_calls_of_a_clean_have_their_order(rt: HostRuntime) -> Result<(), Fail> {
     Ok(())
 }
 
+// Whether a clean is refused since there is nothing to clean.
+fn is_refused(rt: &(impl Threads + Sync), store: &mut Store<FailingDisk>) -> bool {
+    store.clean(rt, ALONE) == Err(Fault::NothingToClean)
+}
+
 // Each call of the disk but those that make the store would fail.
 #[test]
 fn where_there_is_nothing_to_clean_no_disk_is_called(rt: HostRuntime) -> Result<(), Fail> {
     let mut store = failing_store(rt.alloc(), 3)?;
-    for _time in 0..2 {
-        assert_eq!(rt; store.clean(&rt, ALONE), Err(Fault::NothingToClean));
-    }
+    assert!(rt; is_refused(&rt, &mut store) && is_refused(&rt, &mut store));
     let answers = play(&rt, ALONE, rt.alloc(), &mut store, &["a=1", "clean"])?;
     assert_eq!(rt; answers.as_str(), "N; 1: 11 NothingToClean");
     assert_eq!(rt; store.disk().calls, 2);

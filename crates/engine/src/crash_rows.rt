@@ -5,7 +5,7 @@ use crate::fault_rows::{ROWS, Row};
 use crate::log_rows::{SHORTEST, play};
 use crate::recovery_rows::{FIRST_STORE, write_opened};
 use crate::store::Store;
-use crate::tests::S;
+use crate::tests::{S, opened};
 use flush_log::{CrashDisk, Fill};
 use keys::Fault;
 use std::alloc::Global;
@@ -28,7 +28,7 @@ fn disk_after(
     steps: &[&str],
 ) -> Result<CrashDisk<Global>, Fault> {
     let disk = CrashDisk::new(alloc, SHORTEST)?;
-    let mut store = Store::create(alloc, disk, S).map_err(|(fault, _disk)| fault)?;
+    let mut store = opened(Store::create(alloc, disk, S))?;
     play(rt, ALONE, alloc, &mut store, steps)?;
     Ok(store.close())
 }
@@ -44,7 +44,7 @@ fn play_to_stop(
 ) -> Result<CrashDisk<Global>, Fault> {
     let mut disk = disk;
     disk.stop_at(call);
-    let mut store = Store::recover(rt, alloc, disk, ALONE).map_err(|(fault, _disk)| fault)?;
+    let mut store = opened(Store::recover(rt, alloc, disk, ALONE))?;
     text.push_str(play(rt, ALONE, alloc, &mut store, steps)?.as_str())?;
     Ok(store.close())
 }

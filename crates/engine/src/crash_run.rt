@@ -3,7 +3,8 @@
 use crate::crews::ALONE;
 use crate::store::Store;
 use crate::tests::{
-    S, are_letters, draw, drawn_command, next_number, write_reply_of_map, write_row, write_rows,
+    S, are_letters, draw, drawn_command, next_number, opened, write_reply_of_map, write_row,
+    write_rows,
 };
 use crew::NoGate;
 use flush_log::{CrashDisk, Fill};
@@ -223,6 +224,42 @@ fn crash(
     disk.crashed(fill)
 }
 
+// The store that is opened on a disk that stops at one of its next calls, looked at, and after some steps.
+fn stepped(
+    rt: &(impl Threads + Sync),
+    alloc: Global,
+    disk: CrashDisk<Global>,
+    known: &mut Known,
+    state: &mut u64,
+    counts: &mut Counts,
+) -> Result<Store<CrashDisk<Global>>, Fault> {
+    let mut disk = disk;
+    disk.stop_at((next_number(state) % 24).saturating_add(1));
+    let mut store = opened(Store::recover(rt, alloc, disk, ALONE))?;
+    look_at_opened(alloc, &store, known, counts)?;
+    do_steps(rt, alloc, &mut store, known, state, counts)?;
+    Ok(store)
+}
+
+// The disk of a store that is opened again and looked at; or, where the disk has stopped, after a crash.
+fn opened_again(
+    rt: &(impl Threads + Sync),
+    alloc: Global,
+    store: Store<CrashDisk<Global>>,
+    known: &mut Known,
+    state: &mut u64,
+    counts: &mut Counts,
+) -> Result<CrashDisk<Global>, Fault> {
+    match store.reopen(rt, ALONE) {
+        Ok(store) => {
+            count(&mut counts.openings);
+            look_at_opened(alloc, &store, known, counts)?;
+            Ok(store.close())
+        }
+        Err(refused) => Ok(crash(&refused.1, state, counts)?),
+    }
+}
+
 // A round: the store is opened on a disk that stops at one of its next calls, and looked at; some steps; and then, of five times once it is
 // opened again, unless the disk has stopped, and else there is a crash.
 fn do_round(
@@ -233,22 +270,11 @@ fn do_round(
     state: &mut u64,
     counts: &mut Counts,
 ) -> Result<CrashDisk<Global>, Fault> {
-    let mut disk = disk;
-    disk.stop_at((next_number(state) % 24).saturating_add(1));
-    let mut store = Store::recover(rt, alloc, disk, ALONE).map_err(|(fault, _disk)| fault)?;
-    look_at_opened(alloc, &store, known, counts)?;
-    do_steps(rt, alloc, &mut store, known, state, counts)?;
+    let store = stepped(rt, alloc, disk, known, state, counts)?;
     if next_number(state) % 5 > 0 {
         return Ok(crash(store.disk(), state, counts)?);
     }
-    match store.reopen(rt, ALONE) {
-        Ok(store) => {
-            count(&mut counts.openings);
-            look_at_opened(alloc, &store, known, counts)?;
-            Ok(store.close())
-        }
-        Err(refused) => Ok(crash(&refused.1, state, counts)?),
-    }
+    opened_again(rt, alloc, store, known, state, counts)
 }
 
 fn run(rt: &(impl Threads + Sync), alloc: Global) -> Result<Counts, Fault> {
@@ -269,8 +295,7 @@ fn run(rt: &(impl Threads + Sync), alloc: Global) -> Result<Counts, Fault> {
     };
     let mut state = 20_261_124;
     let disk = CrashDisk::new(alloc, LENGTH)?;
-    let made = Store::create(alloc, disk, EIGHT_SEGMENTS);
-    let mut disk = made.map_err(|(fault, _disk)| fault)?.close();
+    let mut disk = opened(Store::create(alloc, disk, EIGHT_SEGMENTS))?.close();
     for _round in 0..350 {
         disk = do_round(rt, alloc, disk, &mut known, &mut state, &mut counts)?;
     }

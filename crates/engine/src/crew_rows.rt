@@ -3,12 +3,13 @@
 use crate::crews::ALONE;
 use crate::store::Store;
 use crate::tests::{
-    FIVE_PUTS, S, SEVENTEEN_PUTS, commands, draw, drawn_command, next_number, write_replies,
+    FIVE_PUTS, S, SEVENTEEN_PUTS, commands, draw, drawn_command, new_store, next_number, opened,
+    write_replies,
 };
 use crew::{Crew, Gate, NoGate};
 use flush_log::MemDisk;
 use keys::{Command, Fault, Settings};
-use std::alloc::Global;
+use std::alloc::{AllocError, Global};
 use std::process::Abort;
 use std::sync::atomic::{AtomicU64, Ordering};
 use std::test::Fail;
@@ -53,7 +54,7 @@ struct HeldRow {
     replies: &'static str,
 }
 
-const HELD_ROWS: [HeldRow; 3] = [
+static HELD_ROWS: [HeldRow; 3] = [
     HeldRow {
         name: "22",
         before: FIVE_PUTS,
@@ -83,46 +84,47 @@ const HELD_ROWS: [HeldRow; 3] = [
     },
 ];
 
-// What the batch of the row is answered, and `late` behind it where a piece was held in vain.
-fn held_answer(rt: &(impl Threads + Sync), alloc: Global, row: &HeldRow) -> Result<String, Fault> {
+// What the batch of the row is answered, with this gate.
+fn held_replies(
+    rt: &(impl Threads + Sync),
+    alloc: Global,
+    row: &HeldRow,
+    gate: &Holding,
+) -> Result<String, Fault> {
+    let crew = Crew {
+        workers: row.workers,
+        grain: 1,
+    };
+    let mut store = new_store(alloc, EIGHT_SEGMENTS)?;
+    store.batch(rt, ALONE, &NoGate, &commands(alloc, row.before)?)?;
+    let replies = store.batch(rt, crew, gate, &commands(alloc, row.batch)?)?;
+    let mut text = String::new(alloc);
+    write_replies(&mut text, &replies)?;
+    Ok(text)
+}
+
+// Whether the batch of the row is answered as told, and no piece was held in vain.
+fn is_answered(rt: &(impl Threads + Sync), alloc: Global, row: &HeldRow) -> Result<bool, Fault> {
     let gate = Holding {
         held: row.held,
         until: row.until,
         begun: AtomicU64::new(0),
         late: AtomicU64::new(0),
     };
-    let crew = Crew {
-        workers: row.workers,
-        grain: 1,
-    };
-    let mut store = Store::create(alloc, MemDisk::new(alloc, LENGTH)?, EIGHT_SEGMENTS).map_err(|(
-        fault,
-        _disk,
-    )| fault)?;
-    store.batch(rt, ALONE, &NoGate, &commands(alloc, row.before)?)?;
-    let mut text = String::new(alloc);
-    let replies = store.batch(rt, crew, &gate, &commands(alloc, row.batch)?)?;
-    write_replies(&mut text, &replies)?;
-    if gate.late.load(Ordering::SeqCst) > 0 {
-        text.push_str(" late")?;
-    }
-    Ok(text)
+    let replies = held_replies(rt, alloc, row, &gate)?;
+    Ok(replies.as_str() == row.replies && gate.late.load(Ordering::SeqCst) == 0)
 }
 
 // A body that works all pieces in the caller's thread, or hands them out beforehand, waits in vain here.
 #[test]
 fn pieces_are_drawn_by_workers_at_once(rt: HostRuntime) -> Result<(), Fail> {
     for row in &HELD_ROWS {
-        let text = held_answer(&rt, rt.alloc(), row)?;
-        assert!(rt; text.as_str() == row.replies, "{}: {text}", row.name);
+        assert!(rt; is_answered(&rt, rt.alloc(), row)?, "{}", row.name);
     }
     Ok(())
 }
 
 const EIGHT_SEGMENTS: Settings = Settings { segments: 8, ..S };
-
-// The length of the shortest disk under these settings: 512 bytes and the segments.
-const LENGTH: usize = 2_560;
 
 // Lets a thread give up its turn some times before it works a piece, by a seed.
 #[derive(Drop)]
@@ -147,6 +149,39 @@ fn drawn_batch(alloc: Global, state: &mut u64) -> Result<Vec<Command<Global>>, F
     Ok(batch)
 }
 
+// A drawn batch, and what it is answered, behind the others.
+fn answer_drawn(
+    rt: &(impl Threads + Sync),
+    alloc: Global,
+    crew: Crew,
+    gate: &Swaying,
+    store: &mut Store<MemDisk<Global>>,
+    state: &mut u64,
+    text: &mut String,
+) -> Result<(), Fault> {
+    let batch = drawn_batch(alloc, state)?;
+    let replies = store.batch(rt, crew, gate, &batch)?;
+    write_replies(text, &replies)?;
+    Ok(())
+}
+
+// A flush; and where the log is full, a clean, which is told.
+fn flush_or_clean(
+    rt: &(impl Threads + Sync),
+    crew: Crew,
+    store: &mut Store<MemDisk<Global>>,
+    text: &mut String,
+) -> Result<(), AllocError> {
+    if store.flush(rt, crew) != Err(Fault::Full) {
+        return Ok(());
+    }
+    let told = match store.clean(rt, crew) {
+        Ok(_head) => " cleaned ",
+        Err(_fault) => " full ",
+    };
+    text.push_str(told)
+}
+
 // What a run by the seed answers, and the bytes of the disk that it leaves: batches, flushes, cleans of a log that is full, and openings.
 fn run_by(
     rt: &(impl Threads + Sync),
@@ -157,25 +192,30 @@ fn run_by(
     let gate = Swaying { seed };
     let mut state = seed;
     let mut text = String::new(alloc);
-    let mut store = Store::create(alloc, MemDisk::new(alloc, LENGTH)?, EIGHT_SEGMENTS).map_err(|(
-        fault,
-        _disk,
-    )| fault)?;
+    let mut store = new_store(alloc, EIGHT_SEGMENTS)?;
     for round in 0..60u32 {
-        let batch = drawn_batch(alloc, &mut state)?;
-        write_replies(&mut text, &store.batch(rt, crew, &gate, &batch)?)?;
-        if round % 3 == 2 && store.flush(rt, crew) == Err(Fault::Full) {
-            text.push_str(if store.clean(rt, crew).is_ok() {
-                " cleaned "
-            } else {
-                " full "
-            })?;
+        answer_drawn(rt, alloc, crew, &gate, &mut store, &mut state, &mut text)?;
+        if round % 3 == 2 {
+            flush_or_clean(rt, crew, &mut store, &mut text)?;
         }
         if round % 20 == 19 {
-            store = store.reopen(rt, crew).map_err(|(fault, _disk)| fault)?;
+            store = opened(store.reopen(rt, crew))?;
         }
     }
     Ok((text, store.disk().bytes().to_vec(alloc)?))
+}
+
+// Whether the crew answers the same, and leaves the same bytes.
+fn is_same(
+    rt: &(impl Threads + Sync),
+    alloc: Global,
+    crew: Crew,
+    seed: u64,
+    answers: &str,
+    bytes: &[u8],
+) -> Result<bool, Fault> {
+    let found = run_by(rt, alloc, crew, seed)?;
+    Ok(found.0.as_str() == answers && found.1.as_slice() == bytes)
 }
 
 #[test]
@@ -185,31 +225,28 @@ fn every_crew_answers_and_writes_the_same(rt: HostRuntime) -> Result<(), Fail> {
         assert!(rt; answers.len() > 500, "{}", answers.len());
         for workers in [1, 2, 3, 7, 64] {
             for grain in [1, 2, 64] {
-                let found = run_by(&rt, rt.alloc(), Crew { workers, grain }, seed)?;
-                let is_same = found.0.as_str() == answers.as_str()
-                    && found.1.as_slice() == bytes.as_slice();
-                assert!(rt; is_same, "seed {seed}, {workers} workers, grain {grain}");
+                let crew = Crew { workers, grain };
+                let is_same = is_same(&rt, rt.alloc(), crew, seed, answers.as_str(), &bytes)?;
+                assert!(rt; is_same, "seed {seed}, {crew:?}");
             }
         }
     }
     Ok(())
 }
 
+// Whether the calls of the store refuse the crew, all but a play without steps.
+fn is_refused(rt: &(impl Threads + Sync), store: &mut Store<MemDisk<Global>>, crew: Crew) -> bool {
+    matches!(store.batch(rt, crew, &NoGate, &[]), Err(Fault::BadCrew))
+        && store.flush(rt, crew) == Err(Fault::BadCrew)
+        && store.clean(rt, crew) == Err(Fault::BadCrew)
+        && store.play(rt, crew, &NoGate, &[]).is_ok()
+}
+
 #[test]
 fn a_crew_out_of_range_is_refused(rt: HostRuntime) -> Result<(), Fail> {
-    let mut store = Store::create(
-        rt.alloc(),
-        MemDisk::new(rt.alloc(), LENGTH)?,
-        EIGHT_SEGMENTS,
-    )
-    .map_err(|(fault, _disk)| fault)?;
+    let mut store = new_store(rt.alloc(), EIGHT_SEGMENTS)?;
     for (workers, grain) in [(0, 1), (65, 1), (1, 0), (1, 65_536)] {
-        let crew = Crew { workers, grain };
-        let batch = store.batch(&rt, crew, &NoGate, &[]);
-        assert!(rt; matches!(batch, Err(Fault::BadCrew)));
-        assert!(rt; store.flush(&rt, crew) == Err(Fault::BadCrew));
-        assert!(rt; store.clean(&rt, crew) == Err(Fault::BadCrew));
-        assert!(rt; store.play(&rt, crew, &NoGate, &[]).is_ok());
+        assert!(rt; is_refused(&rt, &mut store, Crew { workers, grain }));
     }
     Ok(())
 }

@@ -2,9 +2,10 @@
 use crate::clean_rows::{LONG_AND_Z, LONG_STORE};
 use crate::crews::ALONE;
 use crate::failing_disk_rows::failing_store;
-use crate::log_rows::{look, play};
+use crate::log_rows::{look, play, play_on};
 use crate::recovery_rows::{store_after, write_opened, write_store};
 use crate::store::Store;
+use crate::tests::opened;
 use flush_log::{Disk, MemDisk};
 use keys::Fault;
 use std::alloc::Global;
@@ -29,33 +30,48 @@ fn answer_of_failing_clean(
 ) -> Result<String, Fault> {
     let mut store = failing_store(alloc, fails_at)?;
     play(rt, ALONE, alloc, &mut store, &LONG_AND_Z)?;
-    let mut text = play(rt, ALONE, alloc, &mut store, &["clean"])?;
-    text.push_str(", ")?;
-    text.push_str(play(rt, ALONE, alloc, &mut store, &["clean"])?.as_str())?;
+    let mut text = String::new(alloc);
+    for _time in 0..2 {
+        play_on(rt, alloc, &mut text, &mut store, &["clean"])?;
+    }
     text.push_str(", ")?;
     write_opened(rt, alloc, &mut text, store.reopen(rt, ALONE))?;
     Ok(text)
 }
 
+// Whether it answers that the call has failed, and this store comes back.
+fn comes_back(
+    rt: &(impl Threads + Sync),
+    alloc: Global,
+    fails_at: u64,
+    store: &str,
+) -> Result<bool, Fault> {
+    let text = answer_of_failing_clean(rt, alloc, fails_at)?;
+    let told = format!(in alloc; "0: 9 Device, 0: 8 Failed, {store}")?;
+    Ok(text.as_str() == told.as_str())
+}
+
+// How many calls come before the clean of log 16, and up to its end; and the head that it answers.
+fn calls_of_clean(rt: &(impl Threads + Sync), alloc: Global) -> Result<(u64, u64, u64), Fault> {
+    let mut store = failing_store(alloc, 0)?;
+    play(rt, ALONE, alloc, &mut store, &LONG_AND_Z)?;
+    let before = store.disk().calls;
+    let head = store.clean(rt, ALONE)?;
+    Ok((before, store.disk().calls, head))
+}
+
 // A slot, two segments and a gate are read; and then there are seven writes and syncs, of which the last but one opens the gate.
 #[test]
 fn a_store_has_failed_where_a_call_of_its_clean_fails(rt: HostRuntime) -> Result<(), Fail> {
-    let alloc = rt.alloc();
-    let mut store = failing_store(alloc, 0)?;
-    play(&rt, ALONE, alloc, &mut store, &LONG_AND_Z)?;
-    assert_eq!(rt; store.disk().calls, CALLS_BEFORE);
-    assert_eq!(rt; store.clean(&rt, ALONE), Ok(1));
-    let last = store.disk().calls;
-    assert_eq!(rt; last, CALLS_BEFORE + 11);
+    let last = CALLS_BEFORE + 11;
+    assert!(rt; calls_of_clean(&rt, rt.alloc())? == (CALLS_BEFORE, last, 1));
     for fails_at in CALLS_BEFORE + 1..CALLS_BEFORE + 12 {
-        let text = answer_of_failing_clean(&rt, alloc, fails_at)?;
         let store = if fails_at < last {
             BEFORE_CLEAN
         } else {
             LONG_STORE
         };
-        let told = format!(in alloc; "0: 9 Device, 0: 8 Failed, {store}")?;
-        assert!(rt; text.as_str() == told.as_str(), "{fails_at}: {text}");
+        assert!(rt; comes_back(&rt, rt.alloc(), fails_at, store)?, "{fails_at}");
     }
     Ok(())
 }
@@ -74,31 +90,49 @@ fn is_before_clean(
     )
 }
 
-// Whether the store is cleaned; where memory is refused, store and disk are as before, and then it is cleaned. Where the disk's record
-// finds no memory, either store is on it.
+// What a clean is answered with; and where memory is refused, a second one, if the first has left store and disk as they were.
+fn cleaned(
+    rt: &(impl Threads + Sync),
+    alloc: Global,
+    store: &mut Store<MemDisk<Global>>,
+    pages: &String,
+) -> Result<Result<u64, Fault>, Fault> {
+    let bytes = store.disk().bytes().to_vec(alloc)?;
+    let cleaned = store.clean(rt, ALONE);
+    if cleaned == Err(Fault::NoMemory) && is_before_clean(alloc, store, pages, &bytes)? {
+        return Ok(store.clean(rt, ALONE));
+    }
+    Ok(cleaned)
+}
+
+// The store as it is told once it is opened again.
+fn told_again(
+    rt: &(impl Threads + Sync),
+    alloc: Global,
+    store: Store<MemDisk<Global>>,
+) -> Result<String, Fault> {
+    let store = opened(store.reopen(rt, ALONE))?;
+    let mut text = String::new(alloc);
+    write_store(rt, alloc, &mut text, &store)?;
+    Ok(text)
+}
+
+// Whether this is the store behind a clean that was answered like this. Where the disk's record found no memory, it is either.
+fn is_behind_clean(cleaned: Result<u64, Fault>, told: &str) -> bool {
+    match cleaned {
+        Ok(head) => head == 1 && told == LONG_STORE,
+        Err(Fault::Device) => told == LONG_STORE || told == BEFORE_CLEAN,
+        Err(_) => false,
+    }
+}
+
+// Whether the store is cleaned; where memory is refused, store and disk are as before, and then it is cleaned.
 fn is_cleaned_again(rt: &(impl Threads + Sync), alloc: Global) -> Result<bool, Fault> {
     let mut store = store_after(rt, ALONE, alloc, &LONG_AND_Z)?;
     let pages = look(alloc, &store)?;
-    let bytes = store.disk().bytes().to_vec(alloc)?;
-    let mut cleaned = store.clean(rt, ALONE);
-    if cleaned == Err(Fault::NoMemory) {
-        if !is_before_clean(alloc, &store, &pages, &bytes)? {
-            return Ok(false);
-        }
-        cleaned = store.clean(rt, ALONE);
-    }
+    let cleaned = cleaned(rt, alloc, &mut store, &pages)?;
     let is_same = look(alloc, &store)?.as_str() == pages.as_str();
-    let opened = store.reopen(rt, ALONE).map_err(|(fault, _disk)| fault)?;
-    let mut text = String::new(alloc);
-    write_store(rt, alloc, &mut text, &opened)?;
-    Ok(
-        is_same
-            && match cleaned {
-                Ok(head) => head == 1 && text.as_str() == LONG_STORE,
-                Err(Fault::Device) => text.as_str() == LONG_STORE || text.as_str() == BEFORE_CLEAN,
-                Err(_) => false,
-            },
-    )
+    Ok(is_same && is_behind_clean(cleaned, told_again(rt, alloc, store)?.as_str()))
 }
 
 // To be run with each allocation refused in turn too, by `rt try --test --fail-alloc N` for each N, in a copy where this is the only

@@ -9,7 +9,7 @@ use crate::log_rows::{
 };
 use crate::step::Step;
 use crate::store::Store;
-use crate::tests::{FIVE_PUTS, S, SEVENTEEN_PUTS, write_rows};
+use crate::tests::{FIVE_PUTS, S, SEVENTEEN_PUTS, opened, write_rows};
 use crew::NoGate;
 use flush_log::{Disk, DiskFault};
 use keys::Fault;
@@ -108,11 +108,23 @@ impl Disk for FailingDisk {
 // A new store under the settings S on a disk whose call of this number fails.
 pub(crate) fn failing_store(alloc: Global, fails_at: u64) -> Result<Store<FailingDisk>, Fault> {
     let disk = FailingDisk::new(alloc, &[0; SHORTEST], fails_at)?;
-    Store::create(alloc, disk, S).map_err(|(fault, _disk)| fault)
+    opened(Store::create(alloc, disk, S))
 }
 
 // The gate that stands open is closed; the text goes out by a write for each segment; then the slot, and then its gate. A write of one
 // byte is told with it.
+// Whether the steps make these calls of the disk.
+fn are_calls(
+    rt: &(impl Threads + Sync),
+    alloc: Global,
+    steps: &[&str],
+    calls: &str,
+) -> Result<bool, Fault> {
+    let mut store = failing_store(alloc, 0)?;
+    play(rt, ALONE, alloc, &mut store, steps)?;
+    Ok(store.disk().list.as_str() == calls)
+}
+
 #[test]
 fn the_calls_of_a_flush_have_their_order(rt: HostRuntime) -> Result<(), Fail> {
     let rows: [(&[&str], &str); 4] = [
@@ -149,35 +161,34 @@ fn the_calls_of_a_flush_have_their_order(rt: HostRuntime) -> Result<(), Fail> {
         ),
     ];
     for (steps, calls) in &rows {
-        let mut store = failing_store(rt.alloc(), 0)?;
-        play(&rt, ALONE, rt.alloc(), &mut store, *steps)?;
-        assert_eq!(rt; store.disk().list.as_str(), *calls);
+        assert!(rt; are_calls(&rt, rt.alloc(), *steps, *calls)?, "{calls}");
     }
     Ok(())
 }
 
-// Each call of the disk but those that make the store would fail.
+// Whether a store whose call of this number fails answers the steps like this, with so many calls.
+fn is_answered(
+    rt: &(impl Threads + Sync),
+    alloc: Global,
+    fails_at: u64,
+    steps: &[&str],
+    told: &str,
+    calls: u64,
+) -> Result<bool, Fault> {
+    let mut store = failing_store(alloc, fails_at)?;
+    let answers = play(rt, ALONE, alloc, &mut store, steps)?;
+    Ok(answers.as_str() == told && store.disk().calls == calls)
+}
+
+// Each call of the disk would fail but those that make the store, and those of its first flush that has something to write.
 #[test]
 fn an_empty_flush_calls_no_disk(rt: HostRuntime) -> Result<(), Fail> {
-    let mut store = failing_store(rt.alloc(), 3)?;
-    let answers = play(
-        &rt,
-        ALONE,
-        rt.alloc(),
-        &mut store,
-        &["flush", "a -a", "flush"],
-    )?;
-    assert_eq!(rt; answers.as_str(), "flushed 1; MM; flushed 1; ");
-    assert_eq!(rt; store.disk().calls, 2);
-
-    let mut store = failing_store(rt.alloc(), 10)?;
-    let words = [FIVE_PUTS, "flush", "flush", "+a=2 e", "flush"];
-    let answers = play(&rt, ALONE, rt.alloc(), &mut store, &words)?;
-    assert_eq!(rt;
-        answers.as_str(),
-        "NNNNN; flushed 2; flushed 2; E5; flushed 2; "
-    );
-    assert_eq!(rt; store.disk().calls, 9);
+    let steps = ["flush", "a -a", "flush"];
+    let told = "flushed 1; MM; flushed 1; ";
+    assert!(rt; is_answered(&rt, rt.alloc(), 3, &steps, told, 2)?);
+    let steps = [FIVE_PUTS, "flush", "flush", "+a=2 e", "flush"];
+    let told = "NNNNN; flushed 2; flushed 2; E5; flushed 2; ";
+    assert!(rt; is_answered(&rt, rt.alloc(), 10, &steps, told, 9)?);
     Ok(())
 }
 
@@ -204,7 +215,7 @@ struct FailingRow {
     pairs: &'static str,
 }
 
-const FAILING_ROWS: [FailingRow; 3] = [
+static FAILING_ROWS: [FailingRow; 3] = [
     FailingRow {
         steps: &[FIVE_PUTS],
         calls_before: 2,
@@ -255,6 +266,40 @@ const REFUSED_STEPS: [&[&str]; 5] = [
     &["flush", "a"],
 ];
 
+// Whether the store refuses these steps as one that has failed.
+fn is_refused(
+    rt: &(impl Threads + Sync),
+    alloc: Global,
+    store: &mut Store<FailingDisk>,
+    steps: &[&str],
+) -> Result<bool, AllocError> {
+    Ok(play(rt, ALONE, alloc, store, steps)?.as_str() == "0: 8 Failed")
+}
+
+// Whether it refuses a batch and a flush, and does no steps.
+fn has_failed(
+    rt: &(impl Threads + Sync),
+    alloc: Global,
+    store: &mut Store<FailingDisk>,
+) -> Result<bool, AllocError> {
+    let is_batch_refused = matches!(store.batch(rt, ALONE, &NoGate, &[]), Err(Fault::Failed));
+    let is_flush_refused = store.flush(rt, ALONE) == Err(Fault::Failed);
+    Ok(is_batch_refused && is_flush_refused && play(rt, ALONE, alloc, store, &[])?.is_empty())
+}
+
+// Whether look-ups of ranges tell these pairs, and `verify` finds nothing.
+fn has_pairs(
+    rt: &(impl Threads + Sync),
+    alloc: Global,
+    store: &Store<FailingDisk>,
+    pairs: &str,
+) -> Result<bool, Fault> {
+    let mut text = String::new(alloc);
+    write_rows(&mut text, store.range(b"", None, 100)?)?;
+    store.verify(rt)?;
+    Ok(text.as_str() == pairs)
+}
+
 // Looks at a store after a call in its flush has failed: it answers nothing but look-ups of ranges and `verify`, and calls the
 // disk no more.
 fn look_at_failed(
@@ -264,18 +309,16 @@ fn look_at_failed(
     store: &mut Store<FailingDisk>,
 ) -> Result<(), Fault> {
     for steps in REFUSED_STEPS {
-        let answers = play(rt, ALONE, alloc, store, steps)?;
-        assert!(rt; answers.as_str() == "0: 8 Failed");
+        assert!(rt; is_refused(rt, alloc, store, steps)?);
     }
-    assert!(rt; matches!(store.batch(rt, ALONE, &NoGate, &[]), Err(Fault::Failed)));
-    assert_eq!(rt; store.flush(rt, ALONE), Err(Fault::Failed));
-    let answers = play(rt, ALONE, alloc, store, &[])?;
-    assert!(rt; answers.is_empty());
-    let mut pairs = String::new(alloc);
-    write_rows(&mut pairs, store.range(b"", None, 100)?)?;
-    assert!(rt; pairs.as_str() == row.pairs);
-    store.verify(rt)?;
+    assert!(rt; has_failed(rt, alloc, store)?);
+    assert!(rt; has_pairs(rt, alloc, store, row.pairs)?);
     Ok(())
+}
+
+// Whether the disk has failed once, in its call of this number, and holds a store of this number.
+fn is_left(disk: &FailingDisk, fails_at: u64, sequence: u8) -> bool {
+    disk.calls == fails_at && disk.failures == 1 && sequence_on(&disk.bytes) == sequence
 }
 
 // Before the gate is opened the disk holds the store of before, and from then on the one that was flushed.
@@ -289,14 +332,21 @@ fn look_where_a_call_fails(
     let mut store = failing_store(alloc, fails_at)?;
     play(rt, ALONE, alloc, &mut store, row.steps)?;
     assert_eq!(rt; store.disk().calls, row.calls_before);
-    assert_eq!(rt; store.flush(rt, ALONE), Err(Fault::Device));
+    assert!(rt; store.flush(rt, ALONE) == Err(Fault::Device));
     look_at_failed(rt, alloc, row, &mut store)?;
-    let disk = store.close();
-    assert_eq!(rt; (disk.calls, disk.failures), (fails_at, 1));
     let is_open = failing == row.calls;
-    let sequence = sequence_on(&disk.bytes);
-    assert_eq!(rt; sequence.saturating_add(u8::from(!is_open)), row.sequence);
+    let sequence = row.sequence.saturating_sub(u8::from(!is_open));
+    assert!(rt; is_left(&store.close(), fails_at, sequence));
     Ok(())
+}
+
+// Whether the row's flush is done, with all calls that it makes, where none of them fails.
+fn is_flushed(rt: &(impl Threads + Sync), alloc: Global, row: &FailingRow) -> Result<bool, Fault> {
+    let all = row.calls_before.saturating_add(row.calls);
+    let mut store = failing_store(alloc, all.saturating_add(1))?;
+    play(rt, ALONE, alloc, &mut store, row.steps)?;
+    let sequence = store.flush(rt, ALONE)?;
+    Ok(sequence == u64::from(row.sequence) && store.disk().calls == all)
 }
 
 #[test]
@@ -305,13 +355,20 @@ fn a_store_has_failed_where_a_call_of_its_flush_fails(rt: HostRuntime) -> Result
         for failing in 1..row.calls.saturating_add(1) {
             look_where_a_call_fails(&rt, rt.alloc(), row, failing)?;
         }
-        let all = row.calls_before.saturating_add(row.calls);
-        let mut store = failing_store(rt.alloc(), all.saturating_add(1))?;
-        play(&rt, ALONE, rt.alloc(), &mut store, row.steps)?;
-        assert_eq!(rt; store.flush(&rt, ALONE), Ok(u64::from(row.sequence)));
-        assert_eq!(rt; store.disk().calls, all);
+        assert!(rt; is_flushed(&rt, rt.alloc(), row)?);
     }
     Ok(())
+}
+
+// Whether the store answers these steps like this, in one call.
+fn plays<D: Disk>(
+    rt: &(impl Threads + Sync),
+    alloc: Global,
+    store: &mut Store<D>,
+    steps: &[Step<'_>],
+    told: &str,
+) -> Result<bool, AllocError> {
+    Ok(play_at_once(rt, alloc, store, steps)?.as_str() == told)
 }
 
 // The steps behind one that is refused are not begun. A store that has failed does no step; no steps are always done.
@@ -327,17 +384,13 @@ fn a_play_stops_where_a_step_is_refused(rt: HostRuntime) -> Result<(), Fail> {
         Step::Flush,
     ];
     let mut store = store_on_used_disk(alloc)?;
-    let told = play_at_once(&rt, alloc, &mut store, &steps)?;
-    assert_eq!(rt; told.as_str(), "N; flushed 2; 2: 2 KeyTooLong 1");
-    let told = play_at_once(&rt, alloc, &mut store, &[])?;
-    assert!(rt; told.is_empty());
+    let told = "N; flushed 2; 2: 2 KeyTooLong 1";
+    assert!(rt; plays(&rt, alloc, &mut store, &steps, told)?);
+    assert!(rt; plays(&rt, alloc, &mut store, &[], "")?);
     // The first call of its first flush fails.
     let mut store = failing_store(alloc, 3)?;
-    let told = play_at_once(&rt, alloc, &mut store, &steps)?;
-    assert_eq!(rt; told.as_str(), "N; 1: 9 Device");
-    let told = play_at_once(&rt, alloc, &mut store, &steps)?;
-    assert_eq!(rt; told.as_str(), "0: 8 Failed");
-    let told = play_at_once(&rt, alloc, &mut store, &[])?;
-    assert!(rt; told.is_empty());
+    assert!(rt; plays(&rt, alloc, &mut store, &steps, "N; 1: 9 Device")?);
+    assert!(rt; plays(&rt, alloc, &mut store, &steps, "0: 8 Failed")?);
+    assert!(rt; plays(&rt, alloc, &mut store, &[], "")?);
     Ok(())
 }

@@ -1,11 +1,12 @@
 //! A store that is opened on a disk of which a call fails: that is told, the disk is handed back as it was, and the next opening succeeds.
 use crate::crews::ALONE;
 use crate::failing_disk_rows::{FailingDisk, failing_store};
-use crate::log_rows::{PUT_AGAIN, play};
+use crate::log_rows::{PUT_AGAIN, play_on};
 use crate::recovery_rows::{
     FIRST_STORE, PUT_AGAIN_STORE, bytes_after, set, write_opened, write_store,
 };
 use crate::store::Store;
+use crate::tests::opened;
 use flush_log::Disk;
 use keys::Fault;
 use std::alloc::Global;
@@ -22,7 +23,7 @@ struct ReadRow {
 
 // The settings block, the slots by one read or by two, and each segment. A read is told that fails behind a fault of the log, and not
 // the fault; but a disk without settings or slots is read no further.
-const READ_ROWS: [ReadRow; 5] = [
+static READ_ROWS: [ReadRow; 5] = [
     ReadRow {
         changes: &[],
         least: 4,
@@ -72,6 +73,25 @@ fn answer_of_failing(
     Ok(text)
 }
 
+// Whether the read of this number fails, which is noted, or all is answered as told, after as many reads as were noted.
+fn is_answered(
+    rt: &(impl Threads + Sync),
+    alloc: Global,
+    bytes: &[u8],
+    fails_at: u64,
+    reads: &mut u64,
+    answer: &str,
+) -> Result<bool, Fault> {
+    let text = answer_of_failing(rt, alloc, bytes, fails_at)?;
+    let failed = format!(in alloc; "9 Device; {fails_at} calls, 1 failed")?;
+    if text.as_str() == failed.as_str() {
+        *reads = fails_at;
+        return Ok(true);
+    }
+    let told = format!(in alloc; "{answer}; {} calls, 0 failed", *reads)?;
+    Ok(text.as_str() == told.as_str())
+}
+
 #[test]
 fn a_read_that_fails_is_told(rt: HostRuntime) -> Result<(), Fail> {
     for row in &READ_ROWS {
@@ -79,36 +99,39 @@ fn a_read_that_fails_is_told(rt: HostRuntime) -> Result<(), Fail> {
         set(&mut bytes, row.changes);
         let mut reads = 0u64;
         for fails_at in 1..9u64 {
-            let text = answer_of_failing(&rt, rt.alloc(), &bytes, fails_at)?;
-            let mut told = format!(in rt.alloc(); "9 Device; {fails_at} calls, 1 failed")?;
-            if text.as_str() == told.as_str() {
-                reads = fails_at;
-            } else {
-                told = format!(in rt.alloc(); "{}; {reads} calls, 0 failed", row.answer)?;
-                assert!(rt; text.as_str() == told.as_str(), "{text}");
-            }
+            let is_right = is_answered(&rt, rt.alloc(), &bytes, fails_at, &mut reads, row.answer)?;
+            assert!(rt; is_right, "{fails_at}");
         }
         assert!(rt; row.least <= reads && reads <= row.most, "{reads}");
     }
     Ok(())
 }
 
-// What a store answers of which the call of this number fails, where it puts and flushes, then to a batch more; and then, opened again:
-// the store, and what is put and flushed.
+// A store of which the call of this number fails, where it puts and flushes, and to which then another batch comes; and what it answers.
+fn failed_store(
+    rt: &(impl Threads + Sync),
+    alloc: Global,
+    text: &mut String,
+    fails_at: u64,
+) -> Result<Store<FailingDisk>, Fault> {
+    let mut store = failing_store(alloc, fails_at)?;
+    play_on(rt, alloc, text, &mut store, &["a=1", "flush"])?;
+    play_on(rt, alloc, text, &mut store, &[""])?;
+    Ok(store)
+}
+
+// What such a store answers; and then, opened again: the store, and what is put and flushed.
 fn answer_after_failed_flush(
     rt: &(impl Threads + Sync),
     alloc: Global,
     fails_at: u64,
 ) -> Result<String, Fault> {
-    let mut store = failing_store(alloc, fails_at)?;
-    let mut text = play(rt, ALONE, alloc, &mut store, &["a=1", "flush"])?;
+    let mut text = String::new(alloc);
+    let failed = failed_store(rt, alloc, &mut text, fails_at)?;
+    let mut store = opened(failed.reopen(rt, ALONE))?;
     text.push_str(", ")?;
-    text.push_str(play(rt, ALONE, alloc, &mut store, &[""])?.as_str())?;
-    text.push_str(", ")?;
-    let mut store = store.reopen(rt, ALONE).map_err(|(fault, _disk)| fault)?;
     write_store(rt, alloc, &mut text, &store)?;
-    text.push_str(", ")?;
-    text.push_str(play(rt, ALONE, alloc, &mut store, &["a=1 b=2", "flush"])?.as_str())?;
+    play_on(rt, alloc, &mut text, &mut store, &["a=1 b=2", "flush"])?;
     Ok(text)
 }
 

@@ -5,7 +5,7 @@ use crate::failing_clean_rows::BEFORE_CLEAN;
 use crate::log_rows::{LONG_PUT, disk_of, play};
 use crate::recovery_rows::{FIRST_STORE, bytes_after, write_opened};
 use crate::store::Store;
-use crate::tests::{FIVE_PUTS, SEVENTEEN_PUTS, write_rows};
+use crate::tests::{FIVE_PUTS, SEVENTEEN_PUTS, opened, write_rows};
 use flush_log::{Failing, FaultDisk};
 use keys::Fault;
 use std::alloc::Global;
@@ -53,7 +53,7 @@ const FOURTEEN_STORE: &str = "head 0, tail 466, number 3; root 7, height 3\n\
     \x20a=1 b=1 c=1 g=1 h=1 i=1 j=1 k=1 l=1 m=1 n=1 o=1 p=1 q=1; \
     7 pages, height 3, 14 pairs";
 
-pub(crate) const ROWS: [Row; 5] = [
+pub(crate) static ROWS: [Row; 5] = [
     Row {
         name: "log 24",
         on_disk: &[],
@@ -130,7 +130,7 @@ fn store_of(
     written: usize,
 ) -> Result<Store<FaultDisk<Global>>, Fault> {
     let disk = FaultDisk::new(disk_of(alloc, bytes)?, failing, written);
-    Store::recover(rt, alloc, disk, ALONE).map_err(|(fault, _disk)| fault)
+    opened(Store::recover(rt, alloc, disk, ALONE))
 }
 
 // What is answered to the row's steps, and then to a batch, a flush and a clean; the pairs; what is opened again; and what is on the disk

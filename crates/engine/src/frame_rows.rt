@@ -71,21 +71,25 @@ fn index_text(alloc: Global, base: &Base<Pid, Global>) -> Result<Vec<u8>, AllocE
     Ok(text)
 }
 
+// A low key, a colon and these entries.
+fn with_low(alloc: Global, low: &[u8], entries: &[u8]) -> Result<Vec<u8>, AllocError> {
+    let mut text = low.to_vec(alloc)?;
+    text.push(b':')?;
+    text.extend_from_slice(entries)?;
+    Ok(text)
+}
+
 // What a frame says, as its low key, a colon and its entries; and its page id.
 fn said(alloc: Global, frame: &Frame) -> Result<(Vec<u8>, u64), AllocError> {
     match frame {
         Frame::FullLeaf { pid, low, base } => {
-            let mut text = low.as_bytes().to_vec(alloc)?;
-            text.extend_from_slice(b":")?;
-            text.extend_from_slice(leaf_text(alloc, base)?.as_slice())?;
-            Ok((text, pid.0))
+            let entries = leaf_text(alloc, base)?;
+            Ok((with_low(alloc, low.as_bytes(), &entries)?, pid.0))
         }
         Frame::DeltaLeaf { pid, run } => Ok((run_text(alloc, run)?, pid.0)),
         Frame::FullIndex { pid, low, base } => {
-            let mut text = low.as_bytes().to_vec(alloc)?;
-            text.extend_from_slice(b":")?;
-            text.extend_from_slice(index_text(alloc, base)?.as_slice())?;
-            Ok((text, pid.0))
+            let entries = index_text(alloc, base)?;
+            Ok((with_low(alloc, low.as_bytes(), &entries)?, pid.0))
         }
         Frame::DeltaIndex { pid, run } => {
             let count = if run.len() == 1 { b"one" } else { b"few" };
@@ -93,6 +97,20 @@ fn said(alloc: Global, frame: &Frame) -> Result<(Vec<u8>, u64), AllocError> {
         }
         Frame::Free { pid } => Ok((b"free".to_vec(alloc)?, pid.0)),
     }
+}
+
+// Whether the frame says this, under this page id.
+fn says(alloc: Global, frame: &Frame, told: &[u8], pid: u64) -> Result<bool, AllocError> {
+    let said = said(alloc, frame)?;
+    Ok(said.0.as_slice() == told && said.1 == pid)
+}
+
+// Whether the bytes are read as a frame that says this, and has all of them.
+fn is_read(alloc: Global, bytes: &[u8], told: &[u8], pid: u64) -> Result<bool, AllocError> {
+    let Some(found) = read_frame(alloc, bytes, &SETTINGS)? else {
+        return Ok(false);
+    };
+    Ok(found.1 == bytes.len() && says(alloc, &found.0, told, pid)?)
 }
 
 #[test]
@@ -109,15 +127,7 @@ fn the_frames_of_the_examples_are_read(rt: HostRuntime) -> Result<(), Fail> {
         (FOUR_PUT, b"a1b2c3d4", 0),
     ];
     for row in &rows {
-        match read_frame(rt.alloc(), row.0, &SETTINGS)? {
-            Some((frame, size)) => {
-                let (text, pid) = said(rt.alloc(), &frame)?;
-                assert_eq!(rt; text.as_slice(), row.1);
-                assert_eq!(rt; pid, row.2);
-                assert_eq!(rt; size, row.0.len());
-            }
-            None => assert!(rt; false),
-        }
+        assert!(rt; is_read(rt.alloc(), row.0, row.1, row.2)?);
     }
     Ok(())
 }
@@ -150,6 +160,10 @@ fn the_frames_of_the_examples_are_written_as_they_stand(rt: HostRuntime) -> Resu
     Ok(())
 }
 
+fn is_refused(alloc: Global, bytes: &[u8]) -> Result<bool, AllocError> {
+    Ok(read_frame(alloc, bytes, &SETTINGS)?.is_none())
+}
+
 #[test]
 fn bytes_that_are_no_frame_are_refused(rt: HostRuntime) -> Result<(), Fail> {
     let refused: [&[u8]; 11] = [
@@ -174,7 +188,7 @@ fn bytes_that_are_no_frame_are_refused(rt: HostRuntime) -> Result<(), Fail> {
         b"\x05\0\0\0\x08\0\0\0\0\0\0\0",
     ];
     for bytes in &refused {
-        assert!(rt; read_frame(rt.alloc(), bytes, &SETTINGS)?.is_none());
+        assert!(rt; is_refused(rt.alloc(), bytes)?);
     }
     Ok(())
 }

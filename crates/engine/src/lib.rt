@@ -34,6 +34,8 @@ mod leaves;
 #[cfg(test)]
 mod log_rows;
 #[cfg(test)]
+mod outcomes;
+#[cfg(test)]
 mod parts;
 mod reads;
 #[cfg(test)]

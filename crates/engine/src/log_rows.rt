@@ -1,9 +1,12 @@
 //! The log as bytes: what flushes and the making of a store write (docs/EXAMPLES.md), and what is left where the log is full.
 use crate::crews::{ALONE, crews};
 use crate::frame_rows::{A_3, A_ABSENT, A_PUT, EMPTY_LEAF, FOUR_PUT, FREE_1, LEAF_0, LEAF_1, ROOT};
+use crate::outcomes::Outcomes;
 use crate::step::{Answer, Step};
 use crate::store::Store;
-use crate::tests::{FIVE_PUTS, S, SEVENTEEN_PUTS, commands, write_replies, write_rows, write_tree};
+use crate::tests::{
+    FIVE_PUTS, S, SEVENTEEN_PUTS, commands, opened, write_replies, write_rows, write_tree,
+};
 use crew::{Crew, NoGate};
 use flush_log::{Disk, MemDisk};
 use keys::{Command, Fault, Field, Settings};
@@ -149,7 +152,7 @@ pub(crate) const LONG_A_LEAF: &[u8] =
 pub(crate) const LONG_A_AND_B_LEAF: &[u8] =
     b"\x01\0\0\0\x27\0\0\0\0\0\0\0\0\0\0\0\x02\0\x01a\0\x100123456789abcdef\0\x01b\0\x012";
 
-const ROWS: [Row; 17] = [
+static ROWS: [Row; 17] = [
     Row {
         name: "a new store",
         steps: &[],
@@ -470,7 +473,7 @@ fn used_disk(alloc: Global, len: usize) -> Result<MemDisk<Global>, Fault> {
 // A new store under the settings S on a disk that is longer than it needs.
 pub(crate) fn store_on_used_disk(alloc: Global) -> Result<Store<MemDisk<Global>>, Fault> {
     let disk = used_disk(alloc, SHORTEST + 100)?;
-    Store::create(alloc, disk, S).map_err(|(fault, _disk)| fault)
+    opened(Store::create(alloc, disk, S))
 }
 
 // The commands of a word that is a batch.
@@ -548,6 +551,21 @@ pub(crate) fn play<D: Disk>(
         }
     }
     Ok(text)
+}
+
+// Appends what the store answers to these steps, behind a comma where something stands before it.
+pub(crate) fn play_on<D: Disk>(
+    rt: &(impl Threads + Sync),
+    alloc: Global,
+    text: &mut String,
+    store: &mut Store<D>,
+    words: &[&str],
+) -> Result<(), AllocError> {
+    let answers = play(rt, ALONE, alloc, store, words)?;
+    if !text.is_empty() {
+        text.push_str(", ")?;
+    }
+    text.push_str(answers.as_str())
 }
 
 // What the store answers to these steps in one call; of one that is refused its place and the fault.
@@ -631,17 +649,16 @@ pub(crate) fn comes_out(
 
 // To be run with each allocation refused in turn too, by `rt try --test --fail-alloc N` for each N, in a copy where this is the only
 // test. Then at most one row can't be told.
+// To be run with each allocation refused in turn too, by `rt try --test --fail-alloc N` for each N, in a copy where this is the only
+// test. Then at most one row can't be told.
 #[test]
 fn the_rows_come_out(rt: HostRuntime) {
     for crew in &crews() {
-        let mut right = 0usize;
+        let mut outcomes = Outcomes::none();
         for row in &ROWS {
-            if let Ok(is_right) = comes_out(&rt, *crew, rt.alloc(), row) {
-                assert!(rt; is_right, "{crew:?}: {}", row.name);
-                right = right.saturating_add(1);
-            }
+            outcomes.note(comes_out(&rt, *crew, rt.alloc(), row), row.name);
         }
-        assert!(rt; right >= 16, "{crew:?}: {right} right");
+        outcomes.check(&rt, *crew, 16);
     }
 }
 
@@ -659,6 +676,19 @@ fn has_slot(bytes: &[u8], slot: &SlotRow) -> bool {
     from_place(bytes, place).starts_with(&bytes_of_slot(slot))
 }
 
+// Whether the disk has these bytes at this place once the steps are played.
+fn is_spelled(
+    rt: &(impl Threads + Sync),
+    alloc: Global,
+    steps: &[&str],
+    place: usize,
+    slot: &[u8],
+) -> Result<bool, Fault> {
+    let mut store = store_on_used_disk(alloc)?;
+    play(rt, ALONE, alloc, &mut store, steps)?;
+    Ok(from_place(store.disk().bytes(), place).starts_with(slot))
+}
+
 #[test]
 fn slots_are_spelled_as_told(rt: HostRuntime) -> Result<(), Fail> {
     let rows: [(&[&str], usize, &[u8]); 3] = [
@@ -667,10 +697,7 @@ fn slots_are_spelled_as_told(rt: HostRuntime) -> Result<(), Fail> {
         (&PUT_AGAIN, 128, PUT_AGAIN_SLOT_BYTES),
     ];
     for (steps, place, slot) in &rows {
-        let mut store = store_on_used_disk(rt.alloc())?;
-        play(&rt, ALONE, rt.alloc(), &mut store, *steps)?;
-        assert_eq!(rt; slot.len(), 64);
-        assert!(rt; from_place(store.disk().bytes(), *place).starts_with(*slot));
+        assert!(rt; slot.len() == 64 && is_spelled(&rt, rt.alloc(), *steps, *place, *slot)?);
     }
     Ok(())
 }
@@ -700,7 +727,7 @@ fn a_disk_that_is_refused_is_handed_back(rt: HostRuntime) -> Result<(), Fail> {
 #[test]
 fn a_disk_of_just_its_length_is_enough(rt: HostRuntime) -> Result<(), Fail> {
     let made = Store::create(rt.alloc(), used_disk(rt.alloc(), SHORTEST)?, S);
-    let disk = made.map_err(|(fault, _disk)| fault)?.close();
+    let disk = opened(made)?.close();
     assert_eq!(rt; disk.bytes().len(), SHORTEST);
     assert!(rt; is_disk(disk.bytes(), &[NO_SLOT, FIRST_SLOT], &[]));
     Ok(())
@@ -748,6 +775,25 @@ pub(crate) const FULL_LOG: &[&[u8]] = &[
     LONG_A_PUT,
 ];
 
+// Whether the value is put, and flushed with this number, which leaves this tail.
+fn is_put_and_flushed(
+    rt: &(impl Threads + Sync),
+    alloc: Global,
+    store: &mut Store<MemDisk<Global>>,
+    sequence: u64,
+    tail: u64,
+) -> Result<bool, AllocError> {
+    let reply = if sequence == 2 { 'N' } else { 'R' };
+    let told = format!(in alloc; "{reply}; flushed {sequence}; ")?;
+    let answers = play(rt, ALONE, alloc, store, &[LONG_PUT, "flush"])?;
+    let slot = SlotRow {
+        sequence,
+        tail,
+        ..FIRST_SLOT
+    };
+    Ok(answers.as_str() == told.as_str() && has_slot(store.disk().bytes(), &slot))
+}
+
 // Puts the value and flushes, seventeen times.
 pub(crate) fn fill(
     rt: &(impl Abort + Threads + Sync),
@@ -756,17 +802,11 @@ pub(crate) fn fill(
 ) -> Result<(), AllocError> {
     let mut sequence = 1u64;
     for tail in TAILS {
-        let reply = if sequence == 1 { 'N' } else { 'R' };
         sequence = sequence.saturating_add(1);
-        let told = format!(in alloc; "{reply}; flushed {sequence}; ")?;
-        let answers = play(rt, ALONE, alloc, store, &[LONG_PUT, "flush"])?;
-        assert_eq!(rt; answers.as_str(), told.as_str());
-        let slot = SlotRow {
-            sequence,
-            tail,
-            ..FIRST_SLOT
-        };
-        assert!(rt; has_slot(store.disk().bytes(), &slot), "{tail}");
+        assert!(rt;
+            is_put_and_flushed(rt, alloc, store, sequence, tail)?,
+            "{tail}"
+        );
     }
     Ok(())
 }
@@ -779,25 +819,50 @@ pub(crate) fn look<D: Disk>(alloc: Global, store: &Store<D>) -> Result<String, F
     Ok(text)
 }
 
+// Whether a flush is refused, and changes neither these pages nor the full disk.
+fn is_refused(
+    rt: &(impl Threads + Sync),
+    alloc: Global,
+    store: &mut Store<MemDisk<Global>>,
+    pages: &str,
+) -> Result<bool, Fault> {
+    let is_full = store.flush(rt, ALONE) == Err(Fault::Full);
+    let is_as_before = look(alloc, store)?.as_str() == pages;
+    Ok(is_full && is_as_before && is_disk(store.disk().bytes(), &FULL_SLOTS, FULL_LOG))
+}
+
+// Whether the steps are answered like this, and the disk stays full.
+fn is_answered(
+    rt: &(impl Threads + Sync),
+    alloc: Global,
+    store: &mut Store<MemDisk<Global>>,
+    steps: &[&str],
+    told: &str,
+) -> Result<bool, Fault> {
+    let answers = play(rt, ALONE, alloc, store, steps)?;
+    Ok(answers.as_str() == told && is_disk(store.disk().bytes(), &FULL_SLOTS, FULL_LOG))
+}
+
 // The flush would leave no segment free. It is refused as often as it is asked for, and batches are answered as before.
 #[test]
 fn a_full_log_stays_as_it_is(rt: HostRuntime) -> Result<(), Fail> {
     let alloc = rt.alloc();
     let mut store = store_on_used_disk(alloc)?;
     fill(&rt, alloc, &mut store)?;
-    assert!(rt; is_disk(store.disk().bytes(), &FULL_SLOTS, FULL_LOG));
-    let answers = play(&rt, ALONE, alloc, &mut store, &[LONG_PUT])?;
-    assert_eq!(rt; answers.as_str(), "R; ");
-    let before = look(alloc, &store)?;
+    assert!(rt; is_answered(&rt, alloc, &mut store, &[LONG_PUT], "R; ")?);
+    let pages = look(alloc, &store)?;
     for _time in 0..3 {
-        assert_eq!(rt; store.flush(&rt, ALONE), Err(Fault::Full));
-        assert_eq!(rt; look(alloc, &store)?.as_str(), before.as_str());
-        assert!(rt; is_disk(store.disk().bytes(), &FULL_SLOTS, FULL_LOG));
+        assert!(rt; is_refused(&rt, alloc, &mut store, pages.as_str())?);
     }
-    let answers = play(&rt, ALONE, alloc, &mut store, &["+b=2", "flush", "c=3"])?;
-    assert_eq!(rt; answers.as_str(), "A; 1: 10 Full");
-    assert!(rt; is_disk(store.disk().bytes(), &FULL_SLOTS, FULL_LOG));
-    let answers = play(&rt, ALONE, alloc, &mut store, &["b c"])?;
-    assert_eq!(rt; answers.as_str(), "2M; ");
+    let rows: [(&[&str], &str); 2] = [
+        (&["+b=2", "flush", "c=3"], "A; 1: 10 Full"),
+        (&["b c"], "2M; "),
+    ];
+    for (steps, told) in &rows {
+        assert!(rt;
+            is_answered(&rt, alloc, &mut store, *steps, *told)?,
+            "{told}"
+        );
+    }
     Ok(())
 }

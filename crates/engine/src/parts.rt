@@ -6,6 +6,11 @@ use std::alloc::{AllocError, Global};
 use std::process::Abort;
 use std::test::Fail;
 
+// Whether the fault prints as this text.
+fn prints(alloc: Global, fault: &Fault, text: &str) -> Result<bool, AllocError> {
+    Ok(fault.to_string(alloc)?.as_str() == text)
+}
+
 #[test]
 fn faults_print_number_name_and_what_they_carry(rt: HostRuntime) -> Result<(), Fail> {
     let shown = [
@@ -45,7 +50,7 @@ fn faults_print_number_name_and_what_they_carry(rt: HostRuntime) -> Result<(), F
         (Fault::DiskTooSmall, "18 DiskTooSmall"),
     ];
     for fault in &shown {
-        assert_eq!(rt; fault.0.to_string(rt.alloc())?.as_str(), fault.1);
+        assert!(rt; prints(rt.alloc(), &fault.0, fault.1)?, "{}", fault.1);
     }
     Ok(())
 }
@@ -71,15 +76,24 @@ fn a_page_gives_its_entries(rt: HostRuntime) -> Result<(), Fail> {
     Ok(())
 }
 
+// Whether the run has so many changes, of which a and b stand in these places.
+fn are_places(
+    run: &Run<Pid, Global>,
+    len: usize,
+    of_a: Option<usize>,
+    of_b: Option<usize>,
+) -> bool {
+    run.len() == len && run.place(b"a") == of_a && run.place(b"b") == of_b
+}
+
 // Whether a run has what was set, without a change, with one, which takes no list, and with two, set in the wrong order.
 fn changes_stay(alloc: Global) -> Result<bool, AllocError> {
     let mut run = Run::empty(alloc);
-    let none = run.len() == 0 && run.place(b"b").is_none();
+    let mut is_right = are_places(&run, 0, None, None);
     run.set(Key::from_bytes(alloc, b"b")?, Some(Pid(2)))?;
-    let one = run.len() == 1 && run.place(b"b") == Some(0) && run.place(b"a").is_none();
+    is_right &= are_places(&run, 1, None, Some(0));
     run.set(Key::from_bytes(alloc, b"a")?, None)?;
-    let two = run.len() == 2 && run.place(b"a") == Some(0) && run.place(b"b") == Some(1);
-    Ok(none && one && two)
+    Ok(is_right && are_places(&run, 2, Some(0), Some(1)))
 }
 
 #[test]
@@ -112,6 +126,14 @@ fn give_up(rt: &impl Abort, table: &mut Table<u64, Global>, pid: u64) -> u64 {
     page
 }
 
+fn has_page(table: &Table<u64, Global>, pid: u64, page: u64) -> bool {
+    table.get(pid).copied() == Some(page)
+}
+
+fn has_no_place(table: &Table<u64, Global>, pid: u64) -> bool {
+    !table.is_used(pid) && table.get(pid).is_none() && table.logged(pid) == Logged::No
+}
+
 #[test]
 fn near_and_far_pids_have_their_own_places(rt: HostRuntime) -> Result<(), Fail> {
     let mut table = Table::new(rt.alloc());
@@ -120,16 +142,19 @@ fn near_and_far_pids_have_their_own_places(rt: HostRuntime) -> Result<(), Fail> 
         settle(&rt, &mut table, pid, pid / 2)?;
     }
     for pid in pids {
-        assert_eq!(rt; table.get(pid).copied(), Some(pid / 2));
+        assert!(rt; has_page(&table, pid, pid / 2));
     }
     for pid in [1, 4, 6, (1 << 40) - 1, (1 << 40) + 1, u64::MAX - 1] {
-        assert!(rt; !table.is_used(pid));
-        assert_eq!(rt; table.get(pid), None);
-        assert_eq!(rt; table.logged(pid), Logged::No);
+        assert!(rt; has_no_place(&table, pid));
     }
     assert_eq!(rt; give_up(&rt, &mut table, 1 << 40), 1 << 39);
-    assert_eq!(rt; table.get(5).copied(), Some(2));
+    assert!(rt; has_page(&table, 5, 2));
     Ok(())
+}
+
+// Whether these are the pids that are drawn next, so many.
+fn are_drawn(table: &mut Table<u64, Global>, pids: &[u64]) -> Result<bool, AllocError> {
+    Ok(table.fresh(pids.len())?.as_slice() == pids)
 }
 
 #[test]
@@ -137,16 +162,15 @@ fn the_least_free_pids_are_drawn(rt: HostRuntime) -> Result<(), Fail> {
     let mut table = Table::new(rt.alloc());
     settle(&rt, &mut table, 3, 30)?;
     settle(&rt, &mut table, u64::MAX, 0)?;
-    let drawn = table.fresh(4)?;
-    assert_eq!(rt; drawn.as_slice(), [0, 1, 2, 4].as_slice());
-    for pid in &drawn {
-        assert!(rt; table.is_away(*pid));
-        table.put(*pid, 0);
+    assert!(rt; are_drawn(&mut table, &[0, 1, 2, 4])?);
+    for pid in [0, 1, 2, 4] {
+        assert!(rt; table.is_away(pid));
+        table.put(pid, 0);
     }
     give_up(&rt, &mut table, 3);
     give_up(&rt, &mut table, 1);
-    assert_eq!(rt; table.fresh(3)?.as_slice(), [1, 3, 5].as_slice());
-    assert_eq!(rt; table.fresh(0)?.len(), 0);
+    assert!(rt; are_drawn(&mut table, &[1, 3, 5])?);
+    assert!(rt; are_drawn(&mut table, &[])?);
     Ok(())
 }
 

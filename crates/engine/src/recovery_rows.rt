@@ -4,8 +4,9 @@ use crate::crews::{ALONE, crews};
 use crate::log_rows::{
     FOUR_LONG_PUTS, LONG_PUT, PUT_AGAIN, SHORTEST, disk_of, look, play, store_on_used_disk,
 };
+use crate::outcomes::Outcomes;
 use crate::store::Store;
-use crate::tests::{FIVE_PUTS, S, SEVENTEEN_PUTS};
+use crate::tests::{FIVE_PUTS, S, SEVENTEEN_PUTS, opened};
 use crew::Crew;
 use flush_log::{Disk, MemDisk};
 use keys::Fault;
@@ -37,7 +38,7 @@ pub(crate) const PUT_AGAIN_STORE: &str = "head 0, tail 310, number 4; root 2, he
     2 low= log=Upto0 index runs=0: =0 c=1\n\
     \x20a=1 b=2 c=3 d=4 e=5; 3 pages, height 2, 5 pairs";
 
-const ROWS: [Row; 10] = [
+static ROWS: [Row; 10] = [
     Row {
         name: "log 1",
         steps: &["", "flush"],
@@ -180,7 +181,7 @@ const PUT_FIVE: [&str; 2] = [FIVE_PUTS, "flush"];
 
 const PAGE_FREED: [&str; 6] = [SEVENTEEN_PUTS, "flush", "-d -e -f", "d=1", "-d", "flush"];
 
-const DAMAGED_ROWS: [DamagedRow; 56] = [
+static DAMAGED_ROWS: [DamagedRow; 56] = [
     DamagedRow {
         name: "log 20",
         steps: &PUT_AGAIN,
@@ -594,6 +595,54 @@ pub(crate) fn store_after(
     Ok(store)
 }
 
+// Puts a pair and deletes another, which isn't flushed, closes the store and recovers it from its disk. It is noted whether it is told
+// like this then.
+fn recovered(
+    rt: &(impl Threads + Sync),
+    crew: Crew,
+    alloc: Global,
+    store: Store<MemDisk<Global>>,
+    told: &str,
+    is_right: &mut bool,
+) -> Result<Store<MemDisk<Global>>, Fault> {
+    let mut store = store;
+    play(rt, crew, alloc, &mut store, &["z=9 -a"])?;
+    let store = opened(Store::recover(rt, alloc, store.close(), crew))?;
+    *is_right &= is_told(rt, alloc, &store, told)?;
+    Ok(store)
+}
+
+// The same, opened again in the place of that.
+fn opened_again(
+    rt: &(impl Threads + Sync),
+    crew: Crew,
+    alloc: Global,
+    store: Store<MemDisk<Global>>,
+    told: &str,
+    is_right: &mut bool,
+) -> Result<Store<MemDisk<Global>>, Fault> {
+    let mut store = store;
+    play(rt, crew, alloc, &mut store, &["z=9 -a"])?;
+    let store = opened(store.reopen(rt, crew))?;
+    *is_right &= is_told(rt, alloc, &store, told)?;
+    Ok(store)
+}
+
+// Whether an empty batch and a flush are answered as the row says, and leave its store and these bytes.
+fn has_nothing_to_flush(
+    rt: &(impl Threads + Sync),
+    crew: Crew,
+    alloc: Global,
+    store: Store<MemDisk<Global>>,
+    row: &Row,
+    bytes: &[u8],
+) -> Result<bool, Fault> {
+    let mut store = store;
+    let flushed = play(rt, crew, alloc, &mut store, &["", "flush"])?;
+    let is_told = is_told(rt, alloc, &store, row.store)?;
+    Ok(is_told && flushed.as_str() == row.flushed && store.disk().bytes() == bytes)
+}
+
 // Whether the row's store is told alike before it is closed, when it is recovered and when it is opened again. What is put and not
 // flushed is gone; nothing is left to flush then; and the bytes of the disk stay.
 pub(crate) fn comes_back(
@@ -602,29 +651,22 @@ pub(crate) fn comes_back(
     alloc: Global,
     row: &Row,
 ) -> Result<bool, Fault> {
-    let mut store = store_after(rt, crew, alloc, row.steps)?;
-    let mut is_right = is_told(rt, alloc, &store, row.store)?;
+    let store = store_after(rt, crew, alloc, row.steps)?;
     let bytes = store.disk().bytes().to_vec(alloc)?;
-    play(rt, crew, alloc, &mut store, &["z=9 -a"])?;
-    let opened = Store::recover(rt, alloc, store.close(), crew);
-    let mut store = opened.map_err(|(fault, _disk)| fault)?;
-    is_right &= is_told(rt, alloc, &store, row.store)?;
-    play(rt, crew, alloc, &mut store, &["z=9 -a"])?;
-    let mut store = store.reopen(rt, crew).map_err(|(fault, _disk)| fault)?;
-    is_right &= is_told(rt, alloc, &store, row.store)?;
-    let flushed = play(rt, crew, alloc, &mut store, &["", "flush"])?;
-    is_right &= flushed.as_str() == row.flushed;
-    is_right &= is_told(rt, alloc, &store, row.store)?;
-    Ok(is_right && store.disk().bytes() == bytes.as_slice())
+    let mut is_right = is_told(rt, alloc, &store, row.store)?;
+    let store = recovered(rt, crew, alloc, store, row.store, &mut is_right)?;
+    let store = opened_again(rt, crew, alloc, store, row.store, &mut is_right)?;
+    Ok(is_right && has_nothing_to_flush(rt, crew, alloc, store, row, &bytes)?)
 }
 
 #[test]
 fn a_store_comes_back_as_it_was_flushed(rt: HostRuntime) {
     for crew in &crews() {
+        let mut outcomes = Outcomes::none();
         for row in &ROWS {
-            let is_back = comes_back(&rt, *crew, rt.alloc(), row);
-            assert!(rt; matches!(is_back, Ok(true)), "{crew:?}: {}", row.name);
+            outcomes.note(comes_back(&rt, *crew, rt.alloc(), row), row.name);
         }
+        outcomes.check(&rt, *crew, 10);
     }
 }
 
@@ -701,31 +743,27 @@ fn spoil(bytes: &mut Vec<u8>, damage: &Damage) {
     }
 }
 
-// What the disk of the row is answered with.
-fn answer_to(
+// Whether the disk of the row is answered as told.
+fn is_answered(
     rt: &(impl Threads + Sync),
     crew: Crew,
     alloc: Global,
     row: &DamagedRow,
-) -> Result<String, Fault> {
+) -> Result<bool, Fault> {
     let mut bytes = bytes_after(rt, alloc, row.steps)?;
     spoil(&mut bytes, &row.damage);
-    answer(rt, crew, alloc, &bytes)
+    Ok(answer(rt, crew, alloc, &bytes)?.as_str() == row.answer)
 }
 
 #[test]
-fn a_damaged_disk_has_one_answer(rt: HostRuntime) -> Result<(), Fail> {
+fn a_damaged_disk_has_one_answer(rt: HostRuntime) {
     for crew in &crews() {
+        let mut outcomes = Outcomes::none();
         for row in &DAMAGED_ROWS {
-            let text = answer_to(&rt, *crew, rt.alloc(), row)?;
-            assert!(rt;
-                text.as_str() == row.answer,
-                "{crew:?}: {}: {text}",
-                row.name
-            );
+            outcomes.note(is_answered(&rt, *crew, rt.alloc(), row), row.name);
         }
+        outcomes.check(&rt, *crew, 56);
     }
-    Ok(())
 }
 
 #[test]

@@ -1,6 +1,19 @@
 //! The machine of events of a round: example 10.1, and a job that comes back.
 use crew::{Event, Mark, Round};
+use std::alloc::{AllocError, Global};
 use std::test::Fail;
+
+// Whether the pieces are home with these marks, once these events have happened to so many workers.
+fn are_home(
+    pieces: &[Vec<char>],
+    alloc: Global,
+    workers: usize,
+    events: &[Event],
+    marks: [Option<Mark>; 2],
+) -> Result<bool, AllocError> {
+    let round = Round::after(alloc, pieces, workers, events)?;
+    Ok(round.home(0) == marks[0] && round.home(1) == marks[1] && round.home(2).is_none())
+}
 
 #[test]
 fn events_that_cannot_happen_change_nothing(rt: HostRuntime) -> Result<(), Fail> {
@@ -18,15 +31,13 @@ fn events_that_cannot_happen_change_nothing(rt: HostRuntime) -> Result<(), Fail>
         Event::Home(0),
         Event::Home(1),
     ];
-    let early = Round::after(alloc, &pieces, 2, &events[..5])?;
-    assert_eq!(rt; early.home(0), None);
-    let half = Round::after(alloc, &pieces, 2, &events[..8])?;
-    assert_eq!(rt; half.home(0), Some(Mark::Made));
-    assert_eq!(rt; half.home(1), None);
-    let all = Round::after(alloc, &pieces, 2, &events)?;
-    assert_eq!(rt; all.home(0), Some(Mark::Made));
-    assert_eq!(rt; all.home(1), Some(Mark::Made));
-    assert_eq!(rt; all.home(2), None);
+    let made = Some(Mark::Made);
+    for (count, marks) in [(5, [None, None]), (8, [made, None]), (9, [made, made])] {
+        assert!(rt;
+            are_home(&pieces, alloc, 2, &events[..count], marks)?,
+            "{count}"
+        );
+    }
     Ok(())
 }
 
@@ -44,8 +55,7 @@ fn a_job_that_comes_back_is_home_as_it_was(rt: HostRuntime) -> Result<(), Fail> 
         Event::Home(1),
         Event::Home(0),
     ];
-    let round = Round::after(alloc, &pieces, 1, &events)?;
-    assert_eq!(rt; round.home(0), Some(Mark::Made));
-    assert_eq!(rt; round.home(1), Some(Mark::Back));
+    let marks = [Some(Mark::Made), Some(Mark::Back)];
+    assert!(rt; are_home(&pieces, alloc, 1, &events, marks)?);
     Ok(())
 }

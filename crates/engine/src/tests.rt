@@ -1,11 +1,12 @@
 //! What no clause of the store says: that the worked examples of docs/EXAMPLES.md come out as they are told there, with memory refused
 //! too, that the longest batch is answered, and that many batches answer as a map of std does.
 use crate::crews::{ALONE, crews};
+use crate::outcomes::Outcomes;
 use crate::store::Store;
 use crew::{Crew, NoGate};
 use delta_chain::{Chain, Pairs};
-use flush_log::MemDisk;
 use flush_log::segments::disk_size;
+use flush_log::{Disk, MemDisk};
 use index_page::Page;
 use keys::{Command, Fault, Key, Pid, Reply, Settings, Value};
 use mapping::{Logged, Tree};
@@ -55,7 +56,7 @@ pub(crate) const FIVE_PUTS: &str = "a=1 b=2 c=3 d=4 e=5";
 pub(crate) const SEVENTEEN_PUTS: &str =
     "a=1 b=1 c=1 d=1 e=1 f=1 g=1 h=1 i=1 j=1 k=1 l=1 m=1 n=1 o=1 p=1 q=1";
 
-const ROWS: [Row; 16] = [
+static ROWS: [Row; 16] = [
     Row {
         name: "row 4",
         settings: S,
@@ -248,7 +249,17 @@ pub(crate) fn new_store(
 ) -> Result<Store<MemDisk<Global>>, Fault> {
     settings.check()?;
     let disk = MemDisk::new(alloc, disk_size(&settings) as usize)?;
-    Store::create(alloc, disk, settings).map_err(|(fault, _disk)| fault)
+    opened(Store::create(alloc, disk, settings))
+}
+
+// The store that was made or opened. Where that was refused, its disk is dropped.
+pub(crate) fn opened<D: Disk + Drop>(
+    made: Result<Store<D>, (Fault, D)>,
+) -> Result<Store<D>, Fault> {
+    match made {
+        Ok(store) => Ok(store),
+        Err(refused) => Err(refused.0),
+    }
 }
 
 // More page ids than any of the rows uses.
@@ -487,34 +498,19 @@ fn comes_out(
     Ok(text.as_str() == row.outcome)
 }
 
-// How many rows come out, and the name of one that doesn't. Rows that could not be told, as memory was refused to the test itself,
-// are left out.
-fn rows_that_come_out(
-    rt: &(impl Threads + Sync),
-    crew: Crew,
-    alloc: Global,
-    rows: &[Row],
-) -> (usize, &'static str) {
-    let mut right = 0usize;
-    let mut wrong = "";
+// Which rows come out.
+fn outcomes_of(rt: &(impl Threads + Sync), crew: Crew, alloc: Global, rows: &[Row]) -> Outcomes {
+    let mut outcomes = Outcomes::none();
     for row in rows {
-        match comes_out(rt, crew, alloc, row) {
-            Ok(true) => right = right.saturating_add(1),
-            Ok(false) => wrong = row.name,
-            Err(_) => {}
-        }
+        outcomes.note(comes_out(rt, crew, alloc, row), row.name);
     }
-    (right, wrong)
+    outcomes
 }
 
 #[test]
 fn the_rows_come_out(rt: HostRuntime) {
     for crew in &crews() {
-        let (right, wrong) = rows_that_come_out(&rt, *crew, rt.alloc(), &ROWS);
-        assert!(rt;
-            wrong.is_empty() && right >= 14,
-            "{crew:?}: {right} right, {wrong} wrong"
-        );
+        outcomes_of(&rt, *crew, rt.alloc(), &ROWS).check(&rt, *crew, 14);
     }
 }
 
@@ -524,11 +520,7 @@ fn the_rows_come_out(rt: HostRuntime) {
 fn a_refused_batch_can_be_tried_again(rt: HostRuntime) {
     for workers in [1, 2] {
         let crew = Crew { workers, grain: 1 };
-        let (right, wrong) = rows_that_come_out(&rt, crew, rt.alloc(), &ROWS[..11]);
-        assert!(rt;
-            wrong.is_empty() && right >= 10,
-            "{crew:?}: {right} right, {wrong} wrong"
-        );
+        outcomes_of(&rt, crew, rt.alloc(), &ROWS[..11]).check(&rt, crew, 10);
     }
 }
 
@@ -826,18 +818,37 @@ fn greatest_batch(alloc: Global) -> Result<Vec<Command<Global>>, AllocError> {
     Ok(batch)
 }
 
-// How many bytes the store finds at the longest key, once another key was put seventeen times, a batch each.
-fn bytes_found(rt: &(impl Threads + Sync), alloc: Global) -> Result<usize, Fault> {
+// A store with these, and with another key that was put seventeen times, a batch each.
+fn greatest_store(
+    rt: &(impl Threads + Sync),
+    alloc: Global,
+) -> Result<Store<MemDisk<Global>>, Fault> {
     let mut store = new_store(alloc, GREATEST)?;
     store.batch(rt, ALONE, &NoGate, &greatest_batch(alloc)?)?;
+    let put = commands(alloc, "a=1")?;
     for _batch in 0..17 {
-        store.batch(rt, ALONE, &NoGate, &commands(alloc, "a=1")?)?;
+        store.batch(rt, ALONE, &NoGate, &put)?;
     }
-    let look_up = vec![in alloc; Command::Get(longest_key(alloc)?)]?;
-    match store.batch(rt, ALONE, &NoGate, &look_up)?.first() {
-        Some(Reply::Value(value)) => Ok(value.as_bytes().len()),
-        _ => Ok(0),
+    Ok(store)
+}
+
+fn look_up_longest(alloc: Global) -> Result<Vec<Command<Global>>, AllocError> {
+    Ok(vec![in alloc; Command::Get(longest_key(alloc)?)]?)
+}
+
+// How many bytes the first reply has, which is a value's.
+fn bytes_of_first(replies: &[Reply<Global>]) -> usize {
+    match replies.first() {
+        Some(Reply::Value(value)) => value.as_bytes().len(),
+        _ => 0,
     }
+}
+
+// How many bytes such a store finds at the longest key.
+fn bytes_found(rt: &(impl Threads + Sync), alloc: Global) -> Result<usize, Fault> {
+    let mut store = greatest_store(rt, alloc)?;
+    let replies = store.batch(rt, ALONE, &NoGate, &look_up_longest(alloc)?)?;
+    Ok(bytes_of_first(&replies))
 }
 
 #[test]

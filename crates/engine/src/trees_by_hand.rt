@@ -38,7 +38,7 @@ struct Row {
 
 const NO_RUNS: &[&str] = &[];
 
-const ROWS: [Row; 16] = [
+static ROWS: [Row; 16] = [
     // Row 6.1, and what is left of it without the key c in the first leaf, and without the last page.
     Row {
         pages: &[
