@@ -1,6 +1,7 @@
 pub mod Crossing
 mod Alone
 pub mod Counts
+pub mod Exchanging
 pub mod LayerLemmas
 pub mod Lending
 mod Lower

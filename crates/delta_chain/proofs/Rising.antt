@@ -1,14 +1,20 @@
 -- Lemmas on lists of entries that rise, for the proofs of this crate and of those above it.
 use Rattle.std.specs.Prelude.{◌≡◌, ℕ, zero, suc, ◌+◌, true, List, [], ◌∷◌, ◌++◌, length, drop, slice_get, Some}
-use Rattle.std.proofs.Common.{refl, ap, arith, Less, ◌-◌}
+use Rattle.std.proofs.Common.{refl, sym, ap, ◌∙◌, arith, append_assoc, add-one, Less, ◌-◌}
 use Rattle.std.specs.Ordering.{is_lt}
 use Rattle.std.specs.List.Sorted.{IsStrictlySortedBy}
 use Rattle.std.specs.Map.{keys_of}
-use Rattle.keys.specs.Order.{order, IsRising}
+use Rattle.keys.specs.Order.{order, AreRisingKeys, IsRising}
 use Rattle.keys.proofs.Basics.{less_by}
 use Rattle.keys.proofs.MapLemmas.{IsBelowAll, total}
 use Rattle.delta_chain.specs.Building.{goes_last}
 use Rattle.delta_chain.proofs.Places.{front_under}
+
+-- what stands behind a place is the key there, and then the rest
+key_behind : (ks : List (List ℕ)) (at : ℕ) (k : List ℕ) → slice_get ks at ≡ Some k → drop at ks ≡ k ∷ drop (suc at) ks
+key_behind [] at k h = absurd (cc)
+key_behind (j ∷ ks) zero k h = let s : j ≡ k = cc in ap (λ (i : List ℕ). i ∷ ks) s
+key_behind (j ∷ ks) (suc at) k h = key_behind ks at k h
 
 module _ {V : Type 0} where
   -- a key above the last one is above the first
@@ -65,3 +71,23 @@ module _ {V : Type 0} where
       let e = front_under es at k h in
       let s : built ++ (k, e.0) ∷ drop (suc at) es ≡ es = rw e.1 at t in
       goes_last-rising built k e.0 (drop (suc at) es) (rw s r)
+
+  -- the same of a list that has only the keys of the other so far
+  goes_last-rising_keys : (es : List (List ℕ × V)) (k : List ℕ) (rest : List (List ℕ)) → AreRisingKeys (keys_of es ++ k ∷ rest) → goes_last k es ≡ true
+  unfolding IsStrictlySortedBy
+  goes_last-rising_keys [] k rest r = refl
+  goes_last-rising_keys (e ∷ []) k rest r = rw (r.0).0 refl
+  goes_last-rising_keys (e ∷ f ∷ es) k rest r = goes_last-rising_keys (f ∷ es) k rest r.1
+
+  pub goes_last-next_key : (built : List (List ℕ × V)) (ks : List (List ℕ)) (at : ℕ) (k : List ℕ) → AreRisingKeys ks → slice_get ks at ≡ Some k → keys_of built ++ drop at ks ≡ ks → goes_last k built ≡ true
+  goes_last-next_key built ks at k r h t =
+      let s : keys_of built ++ k ∷ drop (suc at) ks ≡ ks = rw (key_behind ks at k h) at t in
+      goes_last-rising_keys built k (drop (suc at) ks) (rw s r)
+
+  keys_of-push : (es : List (List ℕ × V)) (k : List ℕ) (v : V) → keys_of (es ++ (k, v) ∷ []) ≡ keys_of es ++ k ∷ []
+  keys_of-push [] k v = refl
+  keys_of-push (e ∷ es) k v = ap (λ (ks : List (List ℕ)). e.0 ∷ ks) (keys_of-push es k v)
+
+  pub push_key : (built : List (List ℕ × V)) (ks : List (List ℕ)) (at : ℕ) (k : List ℕ) (v : V) → slice_get ks at ≡ Some k → keys_of built ++ drop at ks ≡ ks → keys_of (built ++ (k, v) ∷ []) ++ drop (at + 1) ks ≡ ks
+  push_key built ks at k v h t =
+      rw (keys_of-push built k v, add-one) (append_assoc (keys_of built) (k ∷ []) (drop (suc at) ks) ∙ ap (λ (x : List (List ℕ)). keys_of built ++ x) (sym (key_behind ks at k h)) ∙ t)

@@ -1,5 +1,5 @@
 -- Where a key stands among entries that rise, and what setting it there does.
-use Rattle.std.specs.Prelude.{◌≡◌, ℕ, zero, suc, ◌<◌, ◌≤◌, List, [], ◌∷◌, length, set, slice_get, slice_index_or, true, Some, None, Ok, Err, Result, MatchResult}
+use Rattle.std.specs.Prelude.{◌≡◌, ℕ, zero, suc, ◌+◌, ◌<◌, ◌≤◌, List, [], ◌∷◌, length, set, slice_get, slice_index_or, true, Some, None, Ok, Err, Result, MatchResult}
 use Rattle.std.proofs.Common.{refl, sym, ap, ◌∙◌, arith, Ordering, Less, Equal, Greater}
 use Rattle.std.specs.List.{insert}
 use Rattle.std.specs.List.Sorted.{IsNonDecreasingBy, IsBinarySearchResult, IsSearchInRange}
@@ -27,6 +27,17 @@ no_higher_by Greater Less i j k a b l = absurd (let below : order i k ≡ Less =
 no_higher_by Greater Equal i j k a b l = absurd (let s : j ≡ k = same_key j k b in let below : order i k ≡ Less = rw s at l in let wrong = sym a ∙ below in cc)
 no_higher_by Greater Greater i j k a b l = omega arith
 
+-- where a comparison is no higher than below, or no lower than above, it is that
+less_by_index : (o : Ordering) → ordering_index o ≤ ordering_index Less → o ≡ Less
+less_by_index Less h = refl
+less_by_index Equal h = absurd (omega (arith, h))
+less_by_index Greater h = absurd (omega (arith, h))
+
+greater_by_index : (o : Ordering) → ordering_index Greater ≤ ordering_index o → o ≡ Greater
+greater_by_index Less h = absurd (omega (arith, h))
+greater_by_index Equal h = absurd (omega (arith, h))
+greater_by_index Greater h = refl
+
 module _ {T : Type 0} where
   key_at : (es : List (List ℕ × T)) (at : ℕ) (d : List ℕ × T) → at < length es → slice_get (keys_of es) at ≡ Some (slice_index_or es at d).0
   key_at [] at d l = absurd (omega arith)
@@ -52,10 +63,10 @@ module _ {T : Type 0} where
   key_found (e ∷ es) (suc at) k l h = let m : at < length es = omega arith in key_found es at k m h
 
   -- it is above all before it
-  first_below : (e : List ℕ × T) (es : List (List ℕ × T)) (at : ℕ) (k : List ℕ) → IsRising (e ∷ es) → slice_get (keys_of es) at ≡ Some k → order k e.0 ≡ Greater
+  pub first_below : (e : List ℕ × T) (es : List (List ℕ × T)) (at : ℕ) (k : List ℕ) → IsRising (e ∷ es) → slice_get (keys_of es) at ≡ Some k → order k e.0 ≡ Greater
   first_below e es at k r h = flipped_less e.0 k (below_at e.0 (keys_of es) at k (sorted_head order e.0 (keys_of es) r) h)
 
-  value_at-found : (es : List (List ℕ × T)) (at : ℕ) (k : List ℕ) → IsRising es → slice_get (keys_of es) at ≡ Some k → value_at k es ≡ slice_get (values_of es) at
+  pub value_at-found : (es : List (List ℕ × T)) (at : ℕ) (k : List ℕ) → IsRising es → slice_get (keys_of es) at ≡ Some k → value_at k es ≡ slice_get (values_of es) at
   value_at-found [] at k r h = absurd (cc)
   value_at-found (e ∷ es) zero k r h = let s : e.0 ≡ k = cc in rw (← s, order_itself) refl
   value_at-found (e ∷ es) (suc at) k r h = rw (first_below e es at k r h) (value_at-found es at k (sorted_tail order e.0 (keys_of es) r) h)
@@ -67,18 +78,45 @@ module _ {T : Type 0} where
 
   -- ---- a key that is not there, with the place where it goes
 
-  abbrev BelowBefore : List (List ℕ × T) → ℕ → List ℕ → Type 0
+  abbrev pub BelowBefore : List (List ℕ × T) → ℕ → List ℕ → Type 0
   BelowBefore es at k = (m : ℕ) (d : List ℕ × T) → 0 ≤ m → m < at → order (slice_index_or es m d).0 k ≡ Less
 
-  abbrev AboveFrom : List (List ℕ × T) → ℕ → List ℕ → Type 0
+  abbrev pub AboveFrom : List (List ℕ × T) → ℕ → List ℕ → Type 0
   AboveFrom es at k = (m : ℕ) (d : List ℕ × T) → at ≤ m → m < length es → order (slice_index_or es m d).0 k ≡ Greater
 
-  value_at-missing : (es : List (List ℕ × T)) (at : ℕ) (k : List ℕ) → BelowBefore es at k → AboveFrom es at k → value_at k es ≡ None
+  pub value_at-missing : (es : List (List ℕ × T)) (at : ℕ) (k : List ℕ) → BelowBefore es at k → AboveFrom es at k → value_at k es ≡ None
   value_at-missing [] at k b a = refl
   value_at-missing (e ∷ es) zero k b a =
       rw (flipped_greater e.0 k (a 0 e (omega arith) (omega arith))) (value_at-missing es zero k (λ m d z l. absurd (omega arith)) (λ m d f l. a (suc m) d (omega arith) (omega arith)))
   value_at-missing (e ∷ es) (suc at) k b a =
       rw (flipped_less e.0 k (b 0 e (omega arith) (omega arith))) (value_at-missing es at k (λ m d z l. b (suc m) d (omega arith) (omega arith)) (λ m d f l. a (suc m) d (omega arith) (omega arith)))
+
+  -- ---- a step of a search by halves, by how the key at a place stands to the one looked for
+
+  key_there_or : (es : List (List ℕ × T)) (at : ℕ) (j : List ℕ) (d : List ℕ × T) → slice_get (keys_of es) at ≡ Some j → (at < length es) × ((slice_index_or es at d).0 ≡ j)
+  key_there_or [] at j d h = absurd (cc)
+  key_there_or (e ∷ es) zero j d h = (omega arith, cc)
+  key_there_or (e ∷ es) (suc at) j d h = let rest = key_there_or es at j d h in (omega (arith, rest.0), rest.1)
+
+  -- where it is below, all up to it are
+  pub below_through : (es : List (List ℕ × T)) (at : ℕ) (k j : List ℕ) → IsRising es → slice_get (keys_of es) at ≡ Some j → order j k ≡ Less → BelowBefore es (at + 1) k
+  below_through es at k j r h l m d z n =
+      let there = key_there_or es at j d h in
+      let here : order (slice_index_or es at d).0 k ≡ Less = rw there.1 l in
+      let up = comparisons_rise es k r m at d (omega arith) there.0 in
+      less_by_index (order (slice_index_or es m d).0 k) (rw here at up)
+
+  -- where it is above, all from it on are
+  pub above_onward : (es : List (List ℕ × T)) (at : ℕ) (k j : List ℕ) → IsRising es → slice_get (keys_of es) at ≡ Some j → order j k ≡ Greater → AboveFrom es at k
+  above_onward es at k j r h l m d f n =
+      let there = key_there_or es at j d h in
+      let here : order (slice_index_or es at d).0 k ≡ Greater = rw there.1 l in
+      let up = comparisons_rise es k r at m d f n in
+      greater_by_index (order (slice_index_or es m d).0 k) (rw here at up)
+
+  -- where it is the same, it is the one
+  pub key_there : (es : List (List ℕ × T)) (at : ℕ) (k j : List ℕ) → slice_get (keys_of es) at ≡ Some j → order j k ≡ Equal → slice_get (keys_of es) at ≡ Some k
+  key_there es at k j h l = h ∙ ap (λ (x : List ℕ). Some x) (same_key j k l)
 
   with_pair-missing : (es : List (List ℕ × T)) (at : ℕ) (k : List ℕ) (v : T) → at ≤ length es → BelowBefore es at k → AboveFrom es at k → with_pair es k v ≡ insert es at (k, v)
   with_pair-missing [] zero k v w b a = refl

@@ -1,4 +1,5 @@
 pub mod Building
+pub mod Exchange
 pub mod Kept
 pub mod Layers
 pub mod Lent

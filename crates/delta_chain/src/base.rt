@@ -1,11 +1,15 @@
-ghost use Rattle.std.specs.Prelude.{◌≡◌, ◌<◌, ◌∷◌, ◌++◌, [], true, length, slice_get, IfOk, OnOk, OnErr};
+ghost use Rattle.std.specs.Prelude.{◌≡◌, ◌<◌, ◌≤◌, ◌∷◌, ◌++◌, [], true, length, slice_get, Some, None, IfOk, IfSome, MatchOption, OnOk, OnErr};
 ghost use Rattle.std.specs.Map.{keys_of, values_of};
 ghost use Rattle.keys.specs.Order.{IsRising};
+ghost use Rattle.keys.specs.OrderedMap.{value_at};
 ghost use Rattle.delta_chain.specs.Building.{goes_last};
+ghost use Rattle.delta_chain.specs.Exchange.{exchanged_at};
 
 use keys::compare;
 use std::alloc::{AllocError, Allocator};
+use std::cmp::Ordering;
 use std::marker::Model;
+use std::mem;
 
 /// The base of a page: its keys, each with a cell (a value, or for an index page a page id), in strictly rising
 /// order of the keys. Contracts see it as the list of these pairs. It is read by place and made by a
@@ -85,6 +89,25 @@ impl<V, A: Allocator + Copy> Base<V, A> {
         &self.cells[at]
     }
 
+    // The place of the key, counted from 0, or none where it isn't there. It is looked for at this place first, which is a guess
+    // of the caller's, and then by halves.
+    pub(crate) fn place_near(&self, guess: usize, key: &[u8]) -> Option<usize>
+        ensures place { MatchOption result (value_at key.now self.now ≡ None) (λ at. slice_get (keys_of self.now) at ≡ Some key.now) }
+        ensures within { IfSome result (λ at. at < length self.now) }
+    {
+        let mut low = 0;
+        let mut high = self.len();
+        while low < high {
+            let middle = next_place(guess, low, high);
+            match compare(self.key(middle), key) {
+                Ordering::Less => low = middle + 1,
+                Ordering::Equal => return Some(middle),
+                Ordering::Greater => high = middle,
+            }
+        }
+        None
+    }
+
     // Whether the key is above the last one, so that an entry under it may be put behind the others.
     pub(crate) fn takes(&self, key: &[u8]) -> bool
         ensures { result ≡ goes_last key.now self.now }
@@ -94,6 +117,26 @@ impl<V, A: Allocator + Copy> Base<V, A> {
             return true;
         }
         compare(self.key(count - 1), key).is_lt()
+    }
+}
+
+impl<V, A: Allocator + Copy> Base<V, A> {
+    /// Puts another cell in the place of the one that stands there, counted from 0, and gives that one back.
+    pub fn exchange(&mut self, at: usize, cell: V) -> V
+        requires { at < length self.old }
+        ensures held { slice_get (values_of self.old) at ≡ Some result }
+        ensures new { self.new ≡ exchanged_at self.old at cell }
+    {
+        mem::replace(&mut self.cells[at], cell)
+    }
+
+    // Lets the cell and the one that stands there stand in each other's place.
+    pub(crate) fn swap_cell(&mut self, at: usize, cell: &mut V)
+        requires { at < length self.old }
+        ensures cell { slice_get (values_of self.old) at ≡ Some cell.new }
+        ensures base { self.new ≡ exchanged_at self.old at cell.old }
+    {
+        mem::swap(&mut self.cells[at], cell);
     }
 }
 
@@ -110,5 +153,18 @@ impl<V: Drop, A: Allocator + Copy> Base<V, A> {
         self.ends.push_reserved(self.bytes.len());
         self.cells.push_reserved(cell);
         Ok(())
+    }
+}
+
+// The place to look at next, from low up to high: the guess if it is one of them, and else the one in the middle.
+fn next_place(guess: usize, low: usize, high: usize) -> usize
+    requires { low < high }
+    ensures from { low ≤ result }
+    ensures upto { result < high }
+{
+    if low <= guess && guess < high {
+        guess
+    } else {
+        low + (high - low) / 2
     }
 }

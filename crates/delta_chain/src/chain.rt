@@ -1,13 +1,15 @@
 ghost use Rattle.std.specs.Prelude.{◌≡◌, ◌≤◌, ◌∷◌, [], length, min, OnOk, OnErr, IfOk, IfErr, MatchOption};
+ghost use Rattle.std.specs.Option.{unwrap_or};
 ghost use Rattle.keys.specs.Order.{IsRising};
-ghost use Rattle.delta_chain.specs.Layers.{Layers, entries_of, depth_of, IsInOrder};
+ghost use Rattle.delta_chain.specs.Exchange.{exchanged};
+ghost use Rattle.delta_chain.specs.Layers.{Layers, holds, entries_of, depth_of, IsInOrder};
 ghost use Rattle.delta_chain.specs.Merging.{said_by};
 
 use crate::base::Base;
 use crate::merging::{copied, lent_base, overlaid, with_run};
 use crate::pairs::Pairs;
 use crate::run::Run;
-use keys::{Cell, Key};
+use keys::{Cell, Key, KeyRef};
 use std::alloc::{AllocError, Allocator};
 use std::marker::Model;
 use std::mem;
@@ -212,6 +214,27 @@ impl<V: Drop, A: Allocator + Copy> Chain<V, A> {
                 *self = below;
                 Some(run)
             }
+        }
+    }
+
+    /// Lets a cell and the one that the page holds at the key stand in each other's place. That one stands in the newest run that names
+    /// the key, or in the base, where it is looked for at the place `guess` first; that is the place behind it afterwards. Where the page
+    /// holds none, both stay as they are.
+    pub fn swap_cell(&mut self, key: &KeyRef<'_>, cell: &mut V, guess: &mut usize)
+        ensures cell { cell.new ≡ unwrap_or (holds self.old key.now) cell.old }
+        ensures page { self.new ≡ exchanged self.old key.now cell.old }
+    {
+        match &mut self.link {
+            Link::Bottom(base) => {
+                if let Some(at) = base.place_near(*guess, key.as_bytes()) {
+                    *guess = at.saturating_add(1);
+                    base.swap_cell(at, cell);
+                }
+            }
+            Link::Front(layer) => match layer.run.place_of(key) {
+                Some(at) => layer.run.swap_cell(at, cell),
+                None => layer.below.swap_cell(key, cell, guess),
+            },
         }
     }
 

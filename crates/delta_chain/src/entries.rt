@@ -4,6 +4,7 @@ ghost use Rattle.std.specs.Map.{keys_of, values_of};
 ghost use Rattle.keys.specs.Order.{IsRising};
 ghost use Rattle.keys.specs.OrderedMap.{value_at, with_pair};
 ghost use Rattle.delta_chain.specs.Building.{goes_last};
+ghost use Rattle.delta_chain.specs.Exchange.{exchanged_at};
 ghost use Rattle.delta_chain.specs.Kept.{entries_kept};
 
 use keys::{Key, KeyRef, KeyWithWord};
@@ -116,24 +117,23 @@ impl<T, A: Allocator + Copy> Entries<T, A> {
     }
 
     // The place of the key, or else the place where it goes.
-    pub(crate) fn search(&self, key: &[u8]) -> Result<usize, usize>
+    pub(crate) fn search(&self, key: &KeyRef<'_>) -> Result<usize, usize>
         ensures { MatchResult result
             (λ at. (at < length self.now) × (slice_get (keys_of self.now) at ≡ Some key.now) × (value_at key.now self.now ≡ slice_get (values_of self.now) at))
             (λ at. (at ≤ length self.now) × (value_at key.now self.now ≡ None) × ((item : T) → with_pair self.now key.now item ≡ insert self.now at (key.now, item))) }
     {
-        let key = KeyRef::new(key);
         match &self.kept {
-            KeptEntries::One(entry) => match entry.0.key_ref().compare(&key) {
+            KeptEntries::One(entry) => match entry.0.key_ref().compare(key) {
                 Ordering::Less => Err(1),
                 Ordering::Equal => Ok(0),
                 Ordering::Greater => Err(0),
             },
             KeptEntries::Many(list) => {
                 // Keys mostly come in their order, so the end is looked at first.
-                if goes_last(list, &key) {
+                if goes_last(list, key) {
                     return Err(list.len());
                 }
-                list.binary_search_by(|entry| entry.0.key_ref().compare(&key))
+                list.binary_search_by(|entry| entry.0.key_ref().compare(key))
             }
         }
     }
@@ -146,6 +146,30 @@ impl<T, A: Allocator + Copy> Entries<T, A> {
         match &self.kept {
             KeptEntries::One(entry) => entry.0.key_ref().compare(&key).is_lt(),
             KeptEntries::Many(list) => goes_last(list, &key),
+        }
+    }
+}
+
+impl<T, A: Allocator + Copy> Entries<T, A> {
+    // Puts another item in the place of the one that stands there, and gives that one back.
+    pub(crate) fn exchange(&mut self, at: usize, item: T) -> T
+        requires { at < length self.old }
+        ensures held { slice_get (values_of self.old) at ≡ Some result }
+        ensures new { self.new ≡ exchanged_at self.old at item }
+    {
+        self.kept.exchange(at, item)
+    }
+}
+
+impl<T, A: Allocator + Copy> KeptEntries<T, A> {
+    fn exchange(&mut self, at: usize, item: T) -> T
+        requires { at < length (entries_kept self.old) }
+        ensures held { slice_get (values_of (entries_kept self.old)) at ≡ Some result }
+        ensures new { entries_kept self.new ≡ exchanged_at (entries_kept self.old) at item }
+    {
+        match self {
+            KeptEntries::One(entry) => mem::replace(&mut entry.1, item),
+            KeptEntries::Many(list) => mem::replace(&mut list[at].1, item),
         }
     }
 }
@@ -172,7 +196,7 @@ impl<T: Drop, A: Allocator + Copy> Entries<T, A> {
     {
         let alloc = self.alloc;
         let key = KeyWithWord::new(key);
-        match self.search(key.as_bytes()) {
+        match self.search(&key.key_ref()) {
             Ok(at) => {
                 self.kept.write(at, (key, item));
                 Ok(())

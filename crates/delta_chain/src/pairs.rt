@@ -60,6 +60,18 @@ impl<'a, V, A: Allocator + Copy> Pairs<'a, V, A> {
 }
 
 impl<'a, V: Cell<A> + Drop, A: Allocator + Copy> Pairs<'a, V, A> {
+    /// A base of the pairs' keys, copied, each with a blank cell.
+    pub fn blank_base(&self, alloc: A) -> Result<Base<V, A>, AllocError>
+        requires { IsRising self.now }
+        ensures { IfOk result (λ base. keys_of base ≡ keys_of self.now) }
+    {
+        let mut builder = BaseBuilder::with_capacity(alloc, self.len(), key_bytes(&self.lent))?;
+        for at in 0..self.len() {
+            builder.push_next(self.key(at), V::blank(alloc))?;
+        }
+        Ok(builder.finish())
+    }
+
     /// The base of the pairs, copied.
     pub fn copied_base(&self, alloc: A) -> Result<Base<V, A>, AllocError>
         requires { IsRising self.now }

@@ -1,16 +1,18 @@
-ghost use Rattle.std.specs.Prelude.{◌≡◌, ◌<◌, ◌∷◌, ◌++◌, [], true, false, length, drop, slice_get, None, IfOk, IfSome, MatchOption, OnOk, OnErr, IsErrOf, ◌↔◌};
+ghost use Rattle.std.specs.Prelude.{◌≡◌, ◌<◌, ◌∷◌, ◌++◌, [], true, false, length, drop, slice_get, Option, Some, None, IfOk, IfSome, MatchOption, OnOk, OnErr, IsErrOf, ◌↔◌};
 ghost use Rattle.std.specs.Map.{keys_of, values_of};
-ghost use Rattle.std.specs.Option.{option_copied};
+ghost use Rattle.std.specs.Option.{option_copied, unwrap_or};
 ghost use Rattle.keys.specs.Order.{IsRising};
 ghost use Rattle.keys.specs.OrderedMap.{value_at, with_pair};
 ghost use Rattle.keys.specs.Range.{in_range};
 ghost use Rattle.delta_chain.specs.Building.{goes_last};
+ghost use Rattle.delta_chain.specs.Exchange.{exchanged_at, in_place_of};
 
 use crate::builder::PushError;
 use crate::entries::Entries;
 use keys::{Key, KeyRef};
 use std::alloc::{AllocError, Allocator};
 use std::marker::Model;
+use std::mem;
 
 /// A run of changes to a page: keys in strictly rising order, each with the cell that it has from now on, or with
 /// none where it is absent from now on. Contracts see it as the list of these pairs.
@@ -96,6 +98,15 @@ impl<V, A: Allocator + Copy> Run<V, A> {
         ensures within { IfSome result (λ at. at < length self.now) }
         ensures change { IfSome result (λ at. value_at key.now self.now ≡ slice_get (values_of self.now) at) }
     {
+        self.place_of(&KeyRef::new(key))
+    }
+
+    // The same for a key that is looked for in many runs.
+    pub(crate) fn place_of(&self, key: &KeyRef<'_>) -> Option<usize>
+        ensures place { MatchOption result (value_at key.now self.now ≡ None) (λ at. slice_get (keys_of self.now) at ≡ Some key.now) }
+        ensures within { IfSome result (λ at. at < length self.now) }
+        ensures change { IfSome result (λ at. value_at key.now self.now ≡ slice_get (values_of self.now) at) }
+    {
         self.changes.search(key).ok()
     }
 
@@ -105,7 +116,7 @@ impl<V, A: Allocator + Copy> Run<V, A> {
         ensures { drop result self.now ≡ in_range key.now None self.now }
     {
         let _rising = self.changes.len();
-        match self.changes.search(key) {
+        match self.changes.search(&KeyRef::new(key)) {
             Ok(at) => at,
             Err(at) => at,
         }
@@ -113,6 +124,20 @@ impl<V, A: Allocator + Copy> Run<V, A> {
 }
 
 impl<V: Drop, A: Allocator + Copy> Run<V, A> {
+    // Lets the cell and the one that the key at this place has, if it has one, stand in each other's place.
+    pub(crate) fn swap_cell(&mut self, at: usize, cell: &mut V)
+        requires { at < length self.old }
+        ensures cell { (o : Option V) → slice_get (values_of self.old) at ≡ Some o →
+            cell.new ≡ unwrap_or o cell.old }
+        ensures run { (o : Option V) → slice_get (values_of self.old) at ≡ Some o →
+            self.new ≡ exchanged_at self.old at (in_place_of o cell.old) }
+    {
+        if let Some(held) = self.changes.exchange(at, None) {
+            let mine = mem::replace(cell, held);
+            let _none = self.changes.exchange(at, Some(mine));
+        }
+    }
+
     /// Adds a change behind the others. An `Err` drops the change and leaves the run as it was: `OutOfOrder`
     /// exactly where the key is not above the last one, and else `NoMemory`.
     pub fn push(&mut self, key: Key<A>, change: Option<V>) -> Result<(), PushError>

@@ -9,16 +9,27 @@ pub trait Cell<A: Allocator + Copy> {
     /// An equal cell, in memory of its own.
     fn copy(&self, alloc: A) -> Result<Self, AllocError>
         ensures { IfOk result (λ cell. cell ≡ self.now) };
+
+    /// A cell that takes no memory, to stand where another was taken out. What it says is of no account.
+    fn blank(alloc: A) -> Self;
 }
 
 impl<A: Allocator + Copy> Cell<A> for Value<A> {
     fn copy(&self, alloc: A) -> Result<Self, AllocError> {
         Value::copy(self, alloc)
     }
+
+    fn blank(alloc: A) -> Self {
+        Value::empty(alloc)
+    }
 }
 
 impl<A: Allocator + Copy> Cell<A> for Pid {
     fn copy(&self, _alloc: A) -> Result<Self, AllocError> {
         Ok(*self)
+    }
+
+    fn blank(_alloc: A) -> Self {
+        Pid(0)
     }
 }

@@ -1,4 +1,4 @@
-ghost use Rattle.std.specs.Prelude.{◌≡◌, length, IfOk};
+ghost use Rattle.std.specs.Prelude.{◌≡◌, [], length, IfOk};
 
 use std::alloc::{AllocError, Allocator};
 use std::marker::Model;
@@ -18,6 +18,15 @@ impl<A: Allocator> Model for Value<A> {
 }
 
 impl<A: Allocator + Copy> Value<A> {
+    /// The value of no bytes. It takes no memory.
+    pub fn empty(alloc: A) -> Self
+        ensures { result ≡ [] }
+    {
+        Value {
+            bytes: Vec::new(alloc),
+        }
+    }
+
     /// The value of these bytes.
     pub fn from_bytes(alloc: A, bytes: &[u8]) -> Result<Self, AllocError>
         ensures { IfOk result (λ value. value ≡ bytes.now) }
