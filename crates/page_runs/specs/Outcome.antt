@@ -1,5 +1,6 @@
 -- What the way back of a page keeps: what the page was before its run, and what became of it.
-use Rattle.std.specs.Prelude.{◌<◌, ⊤, Bool, true, false, List, [], ◌∷◌, drop, length}
+use Rattle.std.specs.Prelude.{◌≡◌, ◌<◌, ⊤, Bool, true, false, List, [], ◌∷◌, drop, length}
+use Rattle.consolidate.specs.PutBack.{put_back}
 use Rattle.keys.specs.Bytes.{Changes}
 use Rattle.delta_chain.specs.Layers.{Layers}
 use Rattle.page_runs.specs.declared.class.Class.{Class}
@@ -20,28 +21,28 @@ newest (run ∷ runs) = run
 abbrev pub page_before : {V : Type 0} → Layers V → WayBack V → Layers V
 page_before p (Same run) = p
 page_before p InFront = popped p
-page_before p (Replaced class before) = popped before
+page_before p (Replaced class husk) = popped (put_back husk p.base)
 
 -- the run
 abbrev pub run_before : {V : Type 0} → Layers V → WayBack V → Changes V
 run_before p (Same run) = run
 run_before p InFront = newest p.runs
-run_before p (Replaced class before) = newest before.runs
+run_before p (Replaced class husk) = newest (put_back husk p.base).runs
 
--- there is a run to be taken off, where one has to be
+-- there is a run to be taken off, where one has to be, and a replaced page is a base alone
 abbrev pub CanUndo : {V : Type 0} → Layers V → WayBack V → Type 0
 CanUndo p (Same run) = ⊤
 CanUndo p InFront = 0 < length p.runs
-CanUndo p (Replaced class before) = 0 < length before.runs
+CanUndo p (Replaced class husk) = (p.runs ≡ []) × (0 < length (put_back husk p.base).runs)
 
 -- the class of the page now
 abbrev pub class_now : {V : Type 0} → WayBack V → Class
 class_now (Same run) = SameClass
 class_now InFront = Changed
-class_now (Replaced class before) = class
+class_now (Replaced class husk) = class
 
 -- whether it was replaced
 abbrev pub is_replaced_now : {V : Type 0} → WayBack V → Bool
 is_replaced_now (Same run) = false
 is_replaced_now InFront = false
-is_replaced_now (Replaced class before) = true
+is_replaced_now (Replaced class husk) = true

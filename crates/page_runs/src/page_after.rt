@@ -1,12 +1,11 @@
 //! What becomes of a page by a run, and the way back: the same for pages of either kind.
-ghost use Rattle.std.specs.Prelude.{◌≡◌, ◌<◌, [], length, IfOk, IfErr};
+ghost use Rattle.std.specs.Prelude.{◌≡◌, ◌<◌, [], true, length, IfOk, IfErr};
 ghost use Rattle.delta_chain.specs.Layers.{entries_of};
 ghost use Rattle.page_runs.specs.AfterRun.{must_replace, in_front, after_run, class_after, class_of_size, is_replaced};
-ghost use Rattle.page_runs.specs.Outcome.{page_before, run_before, CanUndo, class_now, is_replaced_now};
-ghost use Rattle.page_runs.specs.declared.page_after.WayBack.TheVariants.{Replaced};
+ghost use Rattle.page_runs.specs.Outcome.{popped, newest, page_before, run_before, CanUndo, class_now, is_replaced_now};
 
 use crate::class::Class;
-use consolidate::consolidate;
+use consolidate::{put_back, take_base};
 use delta_chain::{Chain, Run};
 use keys::{Cell, Settings};
 use std::alloc::Global;
@@ -18,10 +17,10 @@ pub(crate) enum WayBack<V> {
     Same(Run<V, Global>),
     /// The run stands in front of the page.
     InFront,
-    /// The page is a new one. The page before is kept, with the run in front.
+    /// The page is a new one. Of the page before, with the run in front, all is kept but the cells that were moved into the new one.
     Replaced {
         class: Class,
-        before: Chain<V, Global>,
+        husk: Chain<V, Global>,
     },
 }
 
@@ -62,7 +61,7 @@ fn must_replace<V>(settings: &Settings, page: &Chain<V, Global>, run: &Run<V, Gl
     run.len() > settings.fan as usize || page.depth() >= u64::from(settings.chain)
 }
 
-// A base of the page's entries in the place of the page, whose newest run was put in front just now.
+// A base of the page's entries in the place of the page, whose newest run was put in front just now. Their cells are moved.
 fn replace<V: Cell<Global> + Drop>(
     alloc: Global,
     settings: &Settings,
@@ -70,15 +69,20 @@ fn replace<V: Cell<Global> + Drop>(
 ) -> Result<(Chain<V, Global>, WayBack<V>), (Chain<V, Global>, Run<V, Global>)>
     requires { 0 < length before.runs }
     ensures page { IfOk result (λ after. after.0 ≡ record { runs = []; base = entries_of before }) }
-    ensures way_back { IfOk result (λ after. after.1 ≡ Replaced (class_of_size settings.now (length (entries_of before))) before) }
+    ensures class { IfOk result (λ after. class_now after.1 ≡ class_of_size settings.now (length (entries_of before))) }
+    ensures replaced { IfOk result (λ after. is_replaced_now after.1 ≡ true) }
+    ensures can_undo { IfOk result (λ after. CanUndo after.0 after.1) }
+    ensures page_before { IfOk result (λ after. page_before after.0 after.1 ≡ popped before) }
+    ensures run_before { IfOk result (λ after. run_before after.0 after.1 ≡ newest before.runs) }
     ensures back { IfErr result (λ again. before ≡ in_front again.0 again.1) }
 {
-    match consolidate(alloc, &before) {
+    let mut husk = before;
+    match take_base(alloc, &mut husk) {
         Ok(base) => {
             let class = class_of(settings, base.len());
-            Ok((Chain::of_base(base), WayBack::Replaced { class, before }))
+            Ok((Chain::of_base(base), WayBack::Replaced { class, husk }))
         }
-        Err(_) => Err(popped(before)),
+        Err(_) => Err(popped(husk)),
     }
 }
 
@@ -107,9 +111,14 @@ fn popped<V: Drop>(page: Chain<V, Global>) -> (Chain<V, Global>, Run<V, Global>)
     }
 }
 
-impl<V: Drop> WayBack<V> {
-    /// The page and the run of which the given page was made. The run in front is taken off; no memory is taken.
-    pub(crate) fn undo(self, page: Chain<V, Global>) -> (Chain<V, Global>, Run<V, Global>)
+impl<V: Cell<Global> + Drop> WayBack<V> {
+    /// The page and the run of which the given page was made. Cells go back to where they were, and the run in front is taken off; no
+    /// memory is taken.
+    pub(crate) fn undo(
+        self,
+        alloc: Global,
+        page: Chain<V, Global>,
+    ) -> (Chain<V, Global>, Run<V, Global>)
         requires { CanUndo page self }
         ensures page { result.0 ≡ page_before page self }
         ensures run { result.1 ≡ run_before page self }
@@ -119,8 +128,12 @@ impl<V: Drop> WayBack<V> {
             WayBack::InFront => popped(page),
             WayBack::Replaced {
                 class: _class,
-                before,
-            } => popped(before),
+                husk,
+            } => {
+                let mut before = husk;
+                put_back(alloc, &mut before, page.into_base());
+                popped(before)
+            }
         }
     }
 }

@@ -3,7 +3,6 @@ use Rattle.std.specs.Prelude.{Result, Ok, Err}
 use Rattle.delta_chain.specs.Layers.{Layers, entries_of}
 use Rattle.page_runs.specs.AfterRun.{class_of_size, class_after}
 use Rattle.page_runs.specs.Outcome.{class_now}
-use Rattle.page_runs.specs.declared.page_after.WayBack.{WayBack}
 use Rattle.page_runs.proofs.Overlays.{class_of_replaced}
 use Rattle.page_runs.proofs.page_after.put_run.Goals as goal
 
@@ -18,4 +17,4 @@ returns-in-Ok-clause-class g c =
     let e = ap (λ (p : Layers _). class_of_size c.args.settings.now (length (entries_of p))) c.in-Ok.ensures.ok
     ∙ class_of_replaced c.args.settings.now c.args.page c.args.run some c.if-must_replace.ensures in
     from_ok c.replace.result _ (λ after. class_now after.1 ≡ class_after c.args.settings.now c.args.page c.args.run)
-    (λ after h. ap (λ (w : WayBack _). class_now w) h ∙ e) c.replace.ensures.way_back
+    (λ after h. h ∙ e) c.replace.ensures.class

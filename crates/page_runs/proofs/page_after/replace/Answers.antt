@@ -1,10 +1,11 @@
-use Rattle.std.proofs.Common.{◌∙◌, ap, length, ℕ}
+use Rattle.std.proofs.Common.{◌∙◌, ap, refl, length, ℕ}
 use Rattle.page_runs.specs.AfterRun.{class_of_size}
-use Rattle.page_runs.specs.declared.class.Class.{Class}
-use Rattle.page_runs.specs.declared.page_after.WayBack.TheVariants.{Replaced}
 use Rattle.page_runs.proofs.page_after.replace.Goals as goal
 
-pub returns-in-Ok-clause-way_back : goal.returns-in-Ok-clause-way_back
-returns-in-Ok-clause-way_back g c =
-    let size = c.len.ensures.count ∙ ap length c.in-Ok.ensures in
-    ap (λ (x : Class). Replaced x c.args.before) (c.class_of-class.ensures ∙ ap (λ (n : ℕ). class_of_size c.args.settings.now n) size)
+pub returns-in-Ok-clause-class : goal.returns-in-Ok-clause-class
+returns-in-Ok-clause-class g c =
+    let size = c.len.ensures.count ∙ ap length c.in-Ok.ensures.base in
+    c.class_of-class.ensures ∙ ap (λ (n : ℕ). class_of_size c.args.settings.now n) size
+
+pub returns-in-Ok-clause-can_undo : goal.returns-in-Ok-clause-can_undo
+returns-in-Ok-clause-can_undo g c = rw c.of_base.ensures (refl, rw c.in-Ok.ensures.back c.requires)
