@@ -1,5 +1,5 @@
-//! Bases as `consolidate` makes them, and the keys that they hold.
-use consolidate::consolidate;
+//! Bases as `consolidate` and `take_base` make them, and the keys that they hold.
+use consolidate::{consolidate, put_back, take_base};
 use delta_chain::{Base, BaseBuilder, Chain, PushError, Run};
 use keys::{Key, Pid, Value};
 use std::alloc::{AllocError, Global};
@@ -23,6 +23,19 @@ fn put_run(alloc: Global, chain: &mut Chain<Value<Global>, Global>) -> Result<()
     }
 }
 
+// Whether the base has just these entries.
+fn has(base: &Base<Value<Global>, Global>, entries: &[(&[u8], &[u8])]) -> bool {
+    if base.len() != entries.len() {
+        return false;
+    }
+    for (at, (key, value)) in entries.iter().enumerate() {
+        if base.key(at) != *key || base.cell(at).as_bytes() != *value {
+            return false;
+        }
+    }
+    true
+}
+
 // Whether the page becomes a base of just these entries.
 fn becomes(
     alloc: Global,
@@ -30,15 +43,20 @@ fn becomes(
     entries: &[(&[u8], &[u8])],
 ) -> Result<bool, AllocError> {
     let base = consolidate(alloc, chain)?;
-    if base.len() != entries.len() {
-        return Ok(false);
-    }
-    for (at, (key, value)) in entries.iter().enumerate() {
-        if base.key(at) != *key || base.cell(at).as_bytes() != *value {
-            return Ok(false);
-        }
-    }
-    Ok(true)
+    Ok(has(&base, entries))
+}
+
+// Whether the cells of a page of b=2, c=3 move into a base, so that the page has blank ones, and back to where they were.
+fn moves_and_comes_back(
+    alloc: Global,
+    chain: &mut Chain<Value<Global>, Global>,
+) -> Result<bool, AllocError> {
+    let base = take_base(alloc, chain)?;
+    let moved = has(&base, &[(b"b", b"2"), (b"c", b"3")]);
+    let left = becomes(alloc, chain, &[(b"b", b""), (b"c", b"")])?;
+    put_back(alloc, chain, base);
+    let back = becomes(alloc, chain, &[(b"b", b"2"), (b"c", b"3")])?;
+    Ok(moved && left && back)
 }
 
 // Whether the page is consolidated without runs, and then under one.
@@ -49,7 +67,8 @@ fn is_consolidated(
     let alone = becomes(alloc, chain, &[(b"a", b"1"), (b"b", b"2")])?;
     put_run(alloc, chain)?;
     let under_run = becomes(alloc, chain, &[(b"b", b"2"), (b"c", b"3")])?;
-    Ok(alone && under_run)
+    let moved = moves_and_comes_back(alloc, chain)?;
+    Ok(alone && under_run && moved)
 }
 
 // The page begins as the base a=1, b=2.

@@ -3,12 +3,13 @@
 use crate::crews::{ALONE, crews};
 use crate::failing_disk_rows::{FailingDisk, failing_store};
 use crate::frame_rows::{EMPTY_LEAF, FREE_1, LEAF_0, LEAF_1, ROOT};
+use crate::full_log_rows::{FULL_LOG, fill};
 use crate::log_rows::{
-    FIRST_SLOT, FIVE_PUTS_SLOT, FOUR_LONG_PUTS, FREE_2, FULL_LOG, HEADER_1, HEADER_2, INDEX_5,
-    INDEX_6, INDEX_7, LEAF_ABC, LEAF_DEF, LEAF_GHIJ, LEAF_KLM, LEAF_NOPQ, LONG_A_AND_B_LEAF,
-    LONG_A_LEAF, LONG_A_PUT, LONG_PUT, NINE_BYTES_PUT, NO_SLOT, Row, SEVENTEEN_PUTS_SLOT,
-    SIXTEEN_BYTES_LEAF, SIXTEEN_BYTES_PUT, SlotRow, batch_of, comes_out, fill, is_disk, look, play,
-    play_at_once, store_on_used_disk,
+    FIRST_SLOT, FIVE_PUTS_SLOT, FOUR_LONG_PUTS, FREE_2, HEADER_1, HEADER_2, INDEX_5, INDEX_6,
+    INDEX_7, LEAF_ABC, LEAF_DEF, LEAF_GHIJ, LEAF_KLM, LEAF_NOPQ, LONG_A_AND_B_LEAF, LONG_A_LEAF,
+    LONG_A_PUT, LONG_PUT, NINE_BYTES_PUT, NO_SLOT, Row, SEVENTEEN_PUTS_SLOT, SIXTEEN_BYTES_LEAF,
+    SIXTEEN_BYTES_PUT, SlotRow, batch_of, comes_out, is_disk, look, play, play_at_once,
+    store_on_used_disk,
 };
 use crate::outcomes::Outcomes;
 use crate::recovery_rows::{Row as BackRow, comes_back, is_told};

@@ -1,11 +1,9 @@
 //! A long run by a seed on a disk that stops: batches, flushes, cleans, openings and crashes. What comes back is what a map of std held at
 //! the last flush that was answered, or at the one that was stopped.
 use crate::crews::ALONE;
+use crate::drawn_batches::{are_letters, draw, drawn_command, next_number, write_reply_of_map};
 use crate::store::Store;
-use crate::tests::{
-    S, are_letters, draw, drawn_command, next_number, opened, write_reply_of_map, write_row,
-    write_rows,
-};
+use crate::tests::{S, opened, write_row, write_rows};
 use crew::NoGate;
 use flush_log::{CrashDisk, Fill};
 use keys::{Command, Fault, Settings};

@@ -1,11 +1,9 @@
 //! Batches that several work at once, as gates show that hold pieces; and long runs by a seed, whose answers and bytes are the same for
 //! every crew, in whatever order the pieces are drawn.
 use crate::crews::ALONE;
+use crate::drawn_batches::{draw, drawn_command, next_number};
 use crate::store::Store;
-use crate::tests::{
-    FIVE_PUTS, S, SEVENTEEN_PUTS, commands, draw, drawn_command, new_store, next_number, opened,
-    write_replies,
-};
+use crate::tests::{FIVE_PUTS, S, SEVENTEEN_PUTS, commands, new_store, opened, write_replies};
 use crew::{Crew, Gate, NoGate};
 use flush_log::MemDisk;
 use keys::{Command, Fault, Settings};

@@ -17,7 +17,11 @@ mod crews;
 #[cfg(test)]
 mod damaged_clean_rows;
 #[cfg(test)]
+mod damaged_rows;
+#[cfg(test)]
 mod disk_rows;
+#[cfg(test)]
+mod drawn_batches;
 mod execute;
 #[cfg(test)]
 mod failing_clean_rows;
@@ -29,6 +33,8 @@ mod failing_recovery_rows;
 mod fault_rows;
 #[cfg(test)]
 mod frame_rows;
+#[cfg(test)]
+mod full_log_rows;
 pub mod laws;
 mod leaves;
 #[cfg(test)]

@@ -1,4 +1,4 @@
-//! The log as bytes: what flushes and the making of a store write (docs/EXAMPLES.md), and what is left where the log is full.
+//! The log as bytes: what flushes and the making of a store write (docs/EXAMPLES.md).
 use crate::crews::{ALONE, crews};
 use crate::frame_rows::{A_3, A_ABSENT, A_PUT, EMPTY_LEAF, FOUR_PUT, FREE_1, LEAF_0, LEAF_1, ROOT};
 use crate::outcomes::Outcomes;
@@ -671,7 +671,7 @@ pub(crate) fn from_place(bytes: &[u8], place: usize) -> &[u8] {
     }
 }
 
-fn has_slot(bytes: &[u8], slot: &SlotRow) -> bool {
+pub(crate) fn has_slot(bytes: &[u8], slot: &SlotRow) -> bool {
     let place = if slot.sequence % 2 == 0 { 128 } else { 192 };
     from_place(bytes, place).starts_with(&bytes_of_slot(slot))
 }
@@ -733,136 +733,10 @@ fn a_disk_of_just_its_length_is_enough(rt: HostRuntime) -> Result<(), Fail> {
     Ok(())
 }
 
-// The tails after seventeen flushes of a value of sixteen bytes: of three the first two write a run each, and the third a base.
-const TAILS: [u64; 17] = [
-    70, 107, 145, 182, 219, 310, 347, 384, 422, 459, 496, 566, 603, 640, 678, 715, 752,
-];
-
-const FULL_SLOTS: [SlotRow; 2] = [
-    SlotRow {
-        sequence: 18,
-        tail: 752,
-        ..FIRST_SLOT
-    },
-    SlotRow {
-        sequence: 17,
-        tail: 715,
-        ..FIRST_SLOT
-    },
-];
-
-pub(crate) const FULL_LOG: &[&[u8]] = &[
-    LONG_A_PUT,
-    LONG_A_PUT,
-    LONG_A_LEAF,
-    LONG_A_PUT,
-    LONG_A_PUT,
-    &[0; 37],
-    HEADER_1,
-    LONG_A_LEAF,
-    LONG_A_PUT,
-    LONG_A_PUT,
-    LONG_A_LEAF,
-    LONG_A_PUT,
-    LONG_A_PUT,
-    &[0; 16],
-    HEADER_2,
-    LONG_A_LEAF,
-    LONG_A_PUT,
-    LONG_A_PUT,
-    LONG_A_LEAF,
-    LONG_A_PUT,
-    LONG_A_PUT,
-];
-
-// Whether the value is put, and flushed with this number, which leaves this tail.
-fn is_put_and_flushed(
-    rt: &(impl Threads + Sync),
-    alloc: Global,
-    store: &mut Store<MemDisk<Global>>,
-    sequence: u64,
-    tail: u64,
-) -> Result<bool, AllocError> {
-    let reply = if sequence == 2 { 'N' } else { 'R' };
-    let told = format!(in alloc; "{reply}; flushed {sequence}; ")?;
-    let answers = play(rt, ALONE, alloc, store, &[LONG_PUT, "flush"])?;
-    let slot = SlotRow {
-        sequence,
-        tail,
-        ..FIRST_SLOT
-    };
-    Ok(answers.as_str() == told.as_str() && has_slot(store.disk().bytes(), &slot))
-}
-
-// Puts the value and flushes, seventeen times.
-pub(crate) fn fill(
-    rt: &(impl Abort + Threads + Sync),
-    alloc: Global,
-    store: &mut Store<MemDisk<Global>>,
-) -> Result<(), AllocError> {
-    let mut sequence = 1u64;
-    for tail in TAILS {
-        sequence = sequence.saturating_add(1);
-        assert!(rt;
-            is_put_and_flushed(rt, alloc, store, sequence, tail)?,
-            "{tail}"
-        );
-    }
-    Ok(())
-}
-
 // The pages, with what the log has of each, and the pairs.
 pub(crate) fn look<D: Disk>(alloc: Global, store: &Store<D>) -> Result<String, Fault> {
     let mut text = String::new(alloc);
     write_tree(alloc, &mut text, store.tree())?;
     write_rows(&mut text, store.range(b"", None, 100)?)?;
     Ok(text)
-}
-
-// Whether a flush is refused, and changes neither these pages nor the full disk.
-fn is_refused(
-    rt: &(impl Threads + Sync),
-    alloc: Global,
-    store: &mut Store<MemDisk<Global>>,
-    pages: &str,
-) -> Result<bool, Fault> {
-    let is_full = store.flush(rt, ALONE) == Err(Fault::Full);
-    let is_as_before = look(alloc, store)?.as_str() == pages;
-    Ok(is_full && is_as_before && is_disk(store.disk().bytes(), &FULL_SLOTS, FULL_LOG))
-}
-
-// Whether the steps are answered like this, and the disk stays full.
-fn is_answered(
-    rt: &(impl Threads + Sync),
-    alloc: Global,
-    store: &mut Store<MemDisk<Global>>,
-    steps: &[&str],
-    told: &str,
-) -> Result<bool, Fault> {
-    let answers = play(rt, ALONE, alloc, store, steps)?;
-    Ok(answers.as_str() == told && is_disk(store.disk().bytes(), &FULL_SLOTS, FULL_LOG))
-}
-
-// The flush would leave no segment free. It is refused as often as it is asked for, and batches are answered as before.
-#[test]
-fn a_full_log_stays_as_it_is(rt: HostRuntime) -> Result<(), Fail> {
-    let alloc = rt.alloc();
-    let mut store = store_on_used_disk(alloc)?;
-    fill(&rt, alloc, &mut store)?;
-    assert!(rt; is_answered(&rt, alloc, &mut store, &[LONG_PUT], "R; ")?);
-    let pages = look(alloc, &store)?;
-    for _time in 0..3 {
-        assert!(rt; is_refused(&rt, alloc, &mut store, pages.as_str())?);
-    }
-    let rows: [(&[&str], &str); 2] = [
-        (&["+b=2", "flush", "c=3"], "A; 1: 10 Full"),
-        (&["b c"], "2M; "),
-    ];
-    for (steps, told) in &rows {
-        assert!(rt;
-            is_answered(&rt, alloc, &mut store, *steps, *told)?,
-            "{told}"
-        );
-    }
-    Ok(())
 }
