@@ -14,6 +14,30 @@ use crew::Crew;
 use keys::Settings;
 use std::alloc::{AllocError, Global};
 
+// What the help says of each option.
+const FAN: &str = "Entries in a page before it is cut, 4 to 64";
+
+const CHAIN: &str = "Runs on a page before they are folded in, 1 to 16";
+
+const MAX_KEY: &str = "Bytes of a key, 1 to 255";
+
+const MAX_VALUE: &str = "Bytes of a value, 0 to 1024";
+
+const SEG_SIZE: &str = "Bytes of a segment of the log, 256 to 1048576; \
+    it has to hold a full page of the greatest keys and values";
+
+const SEGMENTS: &str = "Segments of the log, 3 to 65536";
+
+const WORKERS: &str = "Threads that share the work, 1 to 64";
+
+const GRAIN: &str = "Pages that one of them takes at a time, 1 to 65535";
+
+const DISK: &str =
+    "File that holds the store; without it the store is in memory and ends with the program";
+
+const CREATE: &str =
+    "Makes the file anew, with the settings of this command line; what it held is lost";
+
 // What the help says behind the options.
 const AFTER_HELP: &str = "\
 A store in a file has the settings with which the file was made. Those of the command line are for a
@@ -88,50 +112,16 @@ fn command<'a>(alloc: Global) -> Result<Command<'a>, AllocError>
         .about("Runs the batch file on standard input on a store, and prints the replies")
         .after_help(AFTER_HELP)
         .no_binary_name(true)
-        .arg(number(
-            alloc,
-            "fan",
-            "16",
-            "Entries in a page before it is cut, 4 to 64",
-        ))?
-        .arg(number(
-            alloc,
-            "chain",
-            "4",
-            "Runs on a page before they are folded in, 1 to 16",
-        ))?
-        .arg(number(alloc, "max-key", "64", "Bytes of a key, 1 to 255"))?
-        .arg(number(alloc, "max-value", "256", "Bytes of a value, 0 to 1024"))?
-        .arg(number(
-            alloc,
-            "seg-size",
-            "65536",
-            "Bytes of a segment of the log, 256 to 1048576; \
-            it has to hold a full page of the greatest keys and values",
-        ))?
-        .arg(number(alloc, "segments", "64", "Segments of the log, 3 to 65536"))?
-        .arg(number(
-            alloc,
-            "workers",
-            "1",
-            "Threads that share the work, 1 to 64",
-        ))?
-        .arg(number(
-            alloc,
-            "grain",
-            "64",
-            "Pages that one of them takes at a time, 1 to 65535",
-        ))?
-        .arg(path(
-            alloc,
-            "disk",
-            "File that holds the store; without it the store is in memory and ends with the program",
-        ))?
-        .arg(flag(
-            alloc,
-            "create",
-            "Makes the file anew, with the settings of this command line; what it held is lost",
-        ))
+        .arg(number(alloc, "fan", "16", FAN))?
+        .arg(number(alloc, "chain", "4", CHAIN))?
+        .arg(number(alloc, "max-key", "64", MAX_KEY))?
+        .arg(number(alloc, "max-value", "256", MAX_VALUE))?
+        .arg(number(alloc, "seg-size", "65536", SEG_SIZE))?
+        .arg(number(alloc, "segments", "64", SEGMENTS))?
+        .arg(number(alloc, "workers", "1", WORKERS))?
+        .arg(number(alloc, "grain", "64", GRAIN))?
+        .arg(path(alloc, "disk", DISK))?
+        .arg(flag(alloc, "create", CREATE))
 }
 
 // What clap finds in the words.
