@@ -1,27 +1,22 @@
 -- Cells that are moved out of a page one by one, and back.
-use Rattle.std.specs.Prelude.{◌≡◌, ◌≢◌, ◌<◌, ◌≤◌, ◌-◌, ℕ, zero, suc, Bool, true, false, cond, List, [], ◌∷◌, ◌++◌, length, take, drop, slice_get, Option, Some, None}
+use Rattle.std.specs.Prelude.{◌≡◌, ◌≢◌, ◌<◌, ◌≤◌, ◌-◌, ℕ, zero, suc, List, [], ◌∷◌, ◌++◌, length, take, drop, slice_get, Option, Some, None}
 use Rattle.std.proofs.Common.{refl, sym, ap, ◌∙◌, arith, Less}
 use Rattle.std.proofs.lemmas.List.{take_all}
 use Rattle.std.specs.List.{AllByRecursion}
-use Rattle.std.specs.Ordering.{is_eq}
 use Rattle.std.proofs.lemmas.Map.Keys.{sorted_head, sorted_tail}
 use Rattle.std.specs.Map.{keys_of, values_of}
 use Rattle.keys.specs.Order.{order, AreRisingKeys, IsRising}
-use Rattle.keys.specs.OrderedMap.{value_at, with_pair}
-use Rattle.keys.proofs.MapLemmas.{IsBelowAll, order_itself, passes_same, same_map, rising-with_pair}
+use Rattle.keys.specs.OrderedMap.{value_at}
+use Rattle.keys.proofs.MapLemmas.{order_itself}
 use Rattle.consolidate.specs.PutBack.{put_back}
 use Rattle.delta_chain.specs.Exchange.{exchanged_at, exchanged}
 use Rattle.delta_chain.specs.Layers.{Layers, said_or, held_under, holds, entries_of, AllRise, IsInOrder}
-use Rattle.delta_chain.proofs.Exchanging.{exchanged-back, held-base, holds-exchanged_elsewhere, keys-exchanged_at}
-use Rattle.delta_chain.proofs.LayerLemmas.{rising-entries_of, value_at-entries_of, value_at-with_change}
+use Rattle.delta_chain.proofs.Exchanging.{with_pair-same, exchanged-back, held-base, holds-exchanged_elsewhere, keys-exchanged_at, item_there}
+use Rattle.delta_chain.proofs.LayerLemmas.{rising-entries_of, value_at-entries_of}
 use Rattle.delta_chain.proofs.Places.{drop_pair}
+use Rattle.delta_chain.proofs.Setting.{below_at}
 
 -- ---- keys that rise are apart
-
-below_at : (j : List ℕ) (ks : List (List ℕ)) (at : ℕ) (k : List ℕ) → IsBelowAll j ks → slice_get ks at ≡ Some k → order j k ≡ Less
-below_at j [] at k a h = absurd (cc)
-below_at j (i ∷ ks) zero k a h = let s : i ≡ k = cc in rw (← s) a.0
-below_at j (i ∷ ks) (suc at) k a h = below_at j ks at k a.1 h
 
 rising_less : (ks : List (List ℕ)) (at m : ℕ) (k q : List ℕ) → AreRisingKeys ks → at < m → slice_get ks at ≡ Some k → slice_get ks m ≡ Some q → order k q ≡ Less
 rising_less [] at m k q r l h g = absurd (cc)
@@ -33,17 +28,6 @@ rising_less (j ∷ ks) (suc at) (suc m) k q r l h g = rising_less ks at m k q (s
 rising_apart : (ks : List (List ℕ)) (at m : ℕ) (k q : List ℕ) → AreRisingKeys ks → at < m → slice_get ks at ≡ Some k → slice_get ks m ≡ Some q → q ≢ k
 rising_apart ks at m k q r l h g e = let less = rising_less ks at m k q r l h g in let same = order_itself k in absurd (let wrong : order k k ≡ Less = rw e at less in cc)
 
-module _ {T : Type 0} where
-  same_at_by : (b : Bool) (m : List (List ℕ × T)) (k q : List ℕ) (t : T) → is_eq (order q k) ≡ b → value_at k m ≡ Some t → cond b (Some t) (value_at q m) ≡ value_at q m
-  same_at_by true m k q t e h = rw (passes_same q k e) (sym h)
-  same_at_by false m k q t e h = refl
-
-  -- a key set to what it has
-  with_pair-same : (m : List (List ℕ × T)) (k : List ℕ) (t : T) → IsRising m → value_at k m ≡ Some t → with_pair m k t ≡ m
-  with_pair-same m k t r h =
-      same_map (with_pair m k t) m (rising-with_pair m k t r) r
-      (λ q. value_at-with_change m k q (Some t) r ∙ same_at_by (is_eq (order q k)) m k q t refl h)
-
 module _ {V : Type 0} where
   -- ---- entries that have the same keys, place by place
 
@@ -53,11 +37,6 @@ module _ {V : Type 0} where
   length-keys [] (e ∷ es) h = absurd (cc)
   length-keys (b ∷ bs) [] h = absurd (cc)
   length-keys (b ∷ bs) (e ∷ es) h = ap suc (length-keys bs es (cc))
-
-  value_there : (es : List (List ℕ × V)) (at : ℕ) (k : List ℕ) → slice_get (keys_of es) at ≡ Some k → (w : V) × (slice_get (values_of es) at ≡ Some w)
-  value_there [] at k h = absurd (cc)
-  value_there (e ∷ es) zero k h = (e.1, refl)
-  value_there (e ∷ es) (suc at) k h = value_there es at k h
 
   -- one more of the cells
   pub one_more : (bs es : List (List ℕ × V)) (at : ℕ) (k : List ℕ) (w : V) → keys_of bs ≡ keys_of es → slice_get (keys_of es) at ≡ Some k → slice_get (values_of es) at ≡ Some w → take at bs ≡ take at es → take (suc at) (exchanged_at bs at w) ≡ take (suc at) es
@@ -128,7 +107,7 @@ module _ {V : Type 0} where
 
   pub found : (was now : Layers V) (at : ℕ) (k : List ℕ) → IsInOrder was → HoldsFrom was now at → slice_get (keys_of (entries_of was)) at ≡ Some k → (w : V) × (slice_get (values_of (entries_of was)) at ≡ Some w) × (holds now k ≡ Some w)
   found was now at k a f h =
-      let w = value_there (entries_of was) at k h in
+      let w = item_there (entries_of was) at k h in
       let there = held-base (entries_of was) at k w.0 (rising-entries_of was a) h w.1 in
       (w.0, w.1, f at k (omega arith) h ∙ sym (value_at-entries_of was k a) ∙ sym there)
 

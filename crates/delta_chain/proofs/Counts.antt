@@ -41,3 +41,34 @@ module _ {V : Type 0} where
   -- so many fewer entries than there were are there, where a run of so many changes is applied
   pub still_fewest : (n fewest left : ℕ) (m : List (List ℕ × V)) (run : List (List ℕ × Option V)) → fewest ≤ length m → n ≡ length run → left ≡ fewest - n → left ≤ length (with_run m run)
   still_fewest n fewest left m run h e s = let most = most_with_run m run in omega (arith, most)
+
+  -- ---- how many more
+
+  without_less_by : (b : Bool) (e : List ℕ × V) (es rest : List (List ℕ × V)) → length rest ≤ length es → length (cond b es (e ∷ rest)) ≤ suc (length es)
+  without_less_by true e es rest h = omega arith
+  without_less_by false e es rest h = omega arith
+
+  least_without : (m : List (List ℕ × V)) (k : List ℕ) → length (without m k) ≤ length m
+  least_without [] k = omega arith
+  least_without (e ∷ es) k = without_less_by (is_eq (order k e.0)) e es (without es k) (least_without es k)
+
+  with_pair_less_by : (o : Ordering) (k : List ℕ) (v : V) (e : List ℕ × V) (es rest : List (List ℕ × V)) → length rest ≤ length es + 1 → length (match_ordering o ((k, v) ∷ e ∷ es) ((e.0, v) ∷ es) (e ∷ rest)) ≤ suc (length es) + 1
+  with_pair_less_by Less k v e es rest h = omega arith
+  with_pair_less_by Equal k v e es rest h = omega arith
+  with_pair_less_by Greater k v e es rest h = omega arith
+
+  least_with_pair : (m : List (List ℕ × V)) (k : List ℕ) (v : V) → length (with_pair m k v) ≤ length m + 1
+  least_with_pair [] k v = omega arith
+  least_with_pair (e ∷ es) k v = with_pair_less_by (order k e.0) k v e es (with_pair es k v) (least_with_pair es k v)
+
+  least_with_change : (m : List (List ℕ × V)) (k : List ℕ) (o : Option V) → length (with_change m k o) ≤ length m + 1
+  least_with_change m k None = let h = least_without m k in omega (arith, h)
+  least_with_change m k (Some v) = least_with_pair m k v
+
+  -- a run adds as many as it names at most
+  pub least_with_run : (m : List (List ℕ × V)) (run : List (List ℕ × Option V)) → length (with_run m run) ≤ length m + length run
+  least_with_run m [] = omega arith
+  least_with_run m (c ∷ cs) =
+      let one = least_with_change m c.0 c.1 in
+      let rest = least_with_run (with_change m c.0 c.1) cs in
+      omega (arith, one, rest)

@@ -1,5 +1,5 @@
 -- A page with another cell in the place of one that it holds, for the proofs of this crate and of those above it.
-use Rattle.std.specs.Prelude.{◌≡◌, ◌≢◌, ◌≤◌, ◌-◌, ◌^◌, min, ℕ, zero, suc, Bool, true, false, cond, List, [], ◌∷◌, length, set, slice_get, slice_range, Option, Some, None, is_some}
+use Rattle.std.specs.Prelude.{◌≡◌, ◌≢◌, ◌≤◌, ℕ, zero, suc, Bool, true, false, cond, List, [], ◌∷◌, length, set, slice_get, slice_range, Option, Some, None, is_some}
 use Rattle.std.proofs.Common.{refl, sym, ap, ◌∙◌, arith}
 use Rattle.std.specs.Option.{unwrap_or}
 use Rattle.std.specs.Ordering.{is_eq}
@@ -11,9 +11,8 @@ use Rattle.keys.specs.OrderedMap.{value_at, with_pair}
 use Rattle.keys.proofs.MapLemmas.{order_itself, is_apart, passes_same, same_map, value_at-with_pair_here, rising-with_pair}
 use Rattle.delta_chain.specs.Exchange.{exchanged_at, in_place_of, exchanged_under, exchanged}
 use Rattle.delta_chain.specs.Layers.{Layers, said_or, held_under, holds, entries_of, AllRise, IsInOrder}
-use Rattle.delta_chain.specs.Linked.{layers_of, depth_kept, fewest_kept, IsLinked}
 use Rattle.delta_chain.specs.Packed.{packed_from, IsPacked}
-use Rattle.delta_chain.specs.declared.chain.Link.{Link}
+use Rattle.delta_chain.specs.Counted.{IsCounted}
 use Rattle.delta_chain.proofs.Counts.{most_with_pair}
 use Rattle.delta_chain.proofs.LayerLemmas.{value_at-with_change, rising-entries_of, value_at-entries_of}
 use Rattle.delta_chain.proofs.Setting.{first_below, value_at-found}
@@ -58,7 +57,7 @@ module _ {T : Type 0} where
   exchanged_at-same (e ∷ es) (suc at) t h = ap (λ (m : List (List ℕ × T)). e ∷ m) (exchanged_at-same es at t h)
 
   -- where a key stands there is an item
-  item_there : (es : List (List ℕ × T)) (at : ℕ) (k : List ℕ) → slice_get (keys_of es) at ≡ Some k → (t : T) × (slice_get (values_of es) at ≡ Some t)
+  pub item_there : (es : List (List ℕ × T)) (at : ℕ) (k : List ℕ) → slice_get (keys_of es) at ≡ Some k → (t : T) × (slice_get (values_of es) at ≡ Some t)
   item_there [] at k h = absurd (cc)
   item_there (e ∷ es) zero k h = (e.1, refl)
   item_there (e ∷ es) (suc at) k h = item_there es at k h
@@ -83,6 +82,16 @@ module _ {T : Type 0} where
   -- the value at a key that is set, and at any other
   value_at-with_pair : (m : List (List ℕ × T)) (k q : List ℕ) (t : T) → IsRising m → value_at q (with_pair m k t) ≡ cond (is_eq (order q k)) (Some t) (value_at q m)
   value_at-with_pair m k q t r = value_at-with_change m k q (Some t) r
+
+  same_by : (b : Bool) (m : List (List ℕ × T)) (k q : List ℕ) (t : T) → is_eq (order q k) ≡ b → value_at k m ≡ Some t → cond b (Some t) (value_at q m) ≡ value_at q m
+  same_by true m k q t e h = rw (passes_same q k e) (sym h)
+  same_by false m k q t e h = refl
+
+  -- a key set to what it has
+  pub with_pair-same : (m : List (List ℕ × T)) (k : List ℕ) (t : T) → IsRising m → value_at k m ≡ Some t → with_pair m k t ≡ m
+  with_pair-same m k t r h =
+      same_map (with_pair m k t) m (rising-with_pair m k t r) r
+      (λ q. value_at-with_pair m k q t r ∙ same_by (is_eq (order q k)) m k q t refl h)
 
   back_by : (b : Bool) (m : List (List ℕ × T)) (k q : List ℕ) (t u : T) → is_eq (order q k) ≡ b → IsRising m → value_at k m ≡ Some t → cond b (Some t) (value_at q (with_pair m k u)) ≡ value_at q m
   back_by true m k q t u e r h = rw (passes_same q k e) (sym h)
@@ -258,24 +267,10 @@ module _ {V : Type 0} where
 
   -- ---- what a chain keeps
 
-  depth_run_by : (o : Option (Option V)) (k : List ℕ) (v : V) (run : List (List ℕ × Option V)) (p : Layers V) → value_at k run ≡ o → length (exchanged p k v).runs ≡ length p.runs → length (exchanged (Over run p) k v).runs ≡ suc (length p.runs)
-  depth_run_by None k v run p e ih = rw e (ap suc ih)
-  depth_run_by (Some None) k v run p e ih = rw e refl
-  depth_run_by (Some (Some w)) k v run p e ih = rw e refl
-
-  depth_under : (k : List ℕ) (v : V) (runs : List (List (List ℕ × Option V))) (base : List (List ℕ × V)) → length (exchanged_under k v runs base).runs ≡ length runs
-  depth_under k v [] base = refl
-  depth_under k v (run ∷ runs) base = depth_run_by (value_at k run) k v run (record { runs = runs; base = base }) refl (depth_under k v runs base)
-
-  pub depth-exchanged : (p : Layers V) (k : List ℕ) (v : V) → length (exchanged p k v).runs ≡ length p.runs
-  depth-exchanged p k v = depth_under k v p.runs p.base
-
-module _ {V A : Type 0} where
-  pub linked_exchanged : (old now : Link V A) (k : List ℕ) (v : V) → depth_kept now ≡ depth_kept old → fewest_kept now ≡ fewest_kept old → layers_of now ≡ exchanged (layers_of old) k v → IsLinked old → IsLinked now
-  linked_exchanged old now k v d f e h =
-      let most = most_exchanged (layers_of old) k v h.rising in
+  pub counted_exchanged : (p : Layers V) (k : List ℕ) (v : V) (fewest : ℕ) → IsCounted p fewest → IsCounted (exchanged p k v) fewest
+  counted_exchanged p k v fewest h =
+      let most = most_exchanged p k v h.rising in
       record {
-        count = d ∙ h.count ∙ ap (λ (n : ℕ). min n (2 ^ 64 - 1)) (sym (depth-exchanged (layers_of old) k v) ∙ ap (λ (p : Layers V). length p.runs) (sym e));
-        rising = rw e (rising-exchanged (layers_of old) k v h.rising);
-        entries = rw e (omega (arith, f, h.entries, most));
+        rising = rising-exchanged p k v h.rising;
+        entries = omega (arith, h.entries, most);
       }

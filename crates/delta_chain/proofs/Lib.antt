@@ -10,4 +10,5 @@ pub mod Overlays
 mod Packing
 pub mod Places
 pub mod Rising
-mod Setting
+mod RunList
+pub mod Setting

@@ -11,6 +11,10 @@ use Rattle.delta_chain.specs.Layers.{said_or, held_under, with_run, entries_unde
 use Rattle.delta_chain.specs.Merging.{asserted, said_by}
 use Rattle.delta_chain.proofs.LayerLemmas.{value_at-with_run, rising-with_run, rising-entries_under, value_at-entries_under}
 
+pub rising-none : (V : Type 0) → IsRising {V = V} []
+unfolding IsStrictlySortedBy
+rising-none V = tt
+
 module _ {V : Type 0} where
   pub keys_of-asserted : (run : List (List ℕ × Option V)) → keys_of (asserted run) ≡ keys_of run
   keys_of-asserted [] = refl
@@ -56,7 +60,7 @@ module _ {V : Type 0} where
       ∙ said_over run q (value_at q (said_by runs)) (value_at q base)
       ∙ ap (λ (t : Option V). said_or (value_at q run) t) (held-said_by runs base q a.1)
 
-  rising-base : (runs : List (List (List ℕ × Option V))) (base : List (List ℕ × V)) → AllRise runs base → IsRising base
+  pub rising-base : (runs : List (List (List ℕ × Option V))) (base : List (List ℕ × V)) → AllRise runs base → IsRising base
   rising-base [] base a = a
   rising-base (run ∷ runs) base a = rising-base runs base a.1
 

@@ -1,8 +1,10 @@
-ghost use Rattle.std.specs.Prelude.{◌≡◌, ◌≤◌, ◌∷◌, [], length, min, OnOk, OnErr, IfOk, IfErr, MatchOption};
+ghost use Rattle.std.specs.Prelude.{◌≡◌, ◌<◌, ◌≤◌, ◌∷◌, [], false, List, length, min, reverse, vec_len, vec_capacity, if◌then◌else◌, OnOk, OnErr, IfOk, IfErr, MatchOption};
 ghost use Rattle.std.specs.Option.{unwrap_or};
+ghost use Rattle.keys.specs.Bytes.{Bytes};
 ghost use Rattle.keys.specs.Order.{IsRising};
-ghost use Rattle.delta_chain.specs.Exchange.{exchanged};
-ghost use Rattle.delta_chain.specs.Layers.{Layers, holds, entries_of, depth_of, IsInOrder};
+ghost use Rattle.keys.specs.OrderedMap.{value_at};
+ghost use Rattle.delta_chain.specs.Exchange.{exchanged, exchanged_under};
+ghost use Rattle.delta_chain.specs.Layers.{Layers, holds, held_under, entries_of, depth_of, IsInOrder};
 ghost use Rattle.delta_chain.specs.Merging.{said_by};
 
 use crate::base::Base;
@@ -12,64 +14,86 @@ use crate::run::Run;
 use keys::{Cell, Key, KeyRef};
 use std::alloc::{AllocError, Allocator};
 use std::marker::Model;
-use std::mem;
 
-/// The state of a page: runs, newest first, in front of a base (the Bw-tree's delta chain). Contracts see it as
-/// its runs and its base.
-#[cycle(chain)]
+/// The state of a page: runs in front of a base (the Bw-tree's delta chain). Contracts see it as its runs, newest first, and its
+/// base.
 #[derive(Drop)]
 pub struct Chain<V, A: Allocator> {
-    link: Link<V, A>,
-}
-
-#[cycle(chain)]
-#[derive(Drop)]
-enum Link<V, A: Allocator> {
-    Bottom(Base<V, A>),
-    Front(Box<Layer<V, A>, A>),
-}
-
-// A run and what lies below it, in one block, so that a look-up fetches one block for each run.
-#[cycle(chain)]
-#[derive(Drop)]
-struct Layer<V, A: Allocator> {
-    // How many runs there are, with this one, up to the greatest `u64`.
-    depth: u64,
+    base: Base<V, A>,
+    // The oldest first, back to back, so that a look-up goes through one block, and a new one is put behind the others.
+    runs: Vec<Run<V, A>, A>,
     // The page has as many entries, or more.
     fewest: usize,
-    run: Run<V, A>,
-    below: Chain<V, A>,
 }
 
 impl<V, A: Allocator> Model for Chain<V, A> {
-    ghost use Rattle.std.specs.Prelude.{length};
+    ghost use Rattle.std.specs.Prelude.{reverse};
+    ghost use Rattle.delta_chain.specs.Layers.{Layers};
+    ghost use Rattle.delta_chain.specs.Counted.{IsCounted};
+
+    ghost Value = { Layers V };
+
+    ghost view = { λ c. record { runs = reverse c.runs.items; base = c.base } };
+
+    ghost invariant = { λ c. IsCounted (record { runs = reverse c.runs.items; base = c.base }) c.fewest };
+}
+
+/// A page's runs from one of them down, and its base, lent: what a search goes down through. Contracts see it as a page of these.
+#[derive(Drop)]
+pub struct ChainRef<'a, V, A: Allocator> {
+    // The oldest first.
+    runs: &'a [Run<V, A>],
+    base: &'a Base<V, A>,
+}
+
+impl<'a, V, A: Allocator> Model for ChainRef<'a, V, A> {
+    ghost use Rattle.std.specs.Prelude.{reverse};
     ghost use Rattle.delta_chain.specs.Layers.{Layers};
 
     ghost Value = { Layers V };
 
-    ghost use Rattle.delta_chain.specs.Linked.{layers_of, IsLinked};
-
-    ghost view = { λ c. layers_of c.link };
-
-    ghost invariant = { λ c. IsLinked c.link };
-
-    ghost size = { λ c. length c.runs };
-
-    ghost use Rattle.std.proofs.Common.{arith};
-
-    ghost size_decreases = { λ a h. Prim.grind (arith) };
+    ghost view = { λ c. record { runs = reverse c.runs.now; base = c.base.now } };
 }
+
+impl<'a, V, A: Allocator + Copy> ChainRef<'a, V, A> {
+    /// The newest run and what lies below it, or none where the base stands alone.
+    pub fn newest(&self) -> Option<(&'a Run<V, A>, ChainRef<'a, V, A>)>
+        ensures { MatchOption result (self.now.runs ≡ []) (λ p. self.now ≡ record { runs = p.0.now ∷ p.1.runs; base = p.1.base }) }
+    {
+        let (run, older) = self.runs.split_last()?;
+        let below = ChainRef {
+            runs: older,
+            base: self.base,
+        };
+        Some((run, below))
+    }
+
+    /// How many runs there are, up to the greatest `u64`.
+    pub fn depth(&self) -> u64
+        ensures { result ≡ min (depth_of self.now) u64.MAX }
+    {
+        self.runs.len() as u64
+    }
+
+    /// The base under the runs.
+    pub fn base(&self) -> &'a Base<V, A>
+        ensures { result.now ≡ self.now.base }
+    {
+        self.base
+    }
+}
+
+// For how many runs more a chain gets room where it has none left. A page is replaced before it has many.
+const MORE_RUNS: usize = 4;
 
 impl<V, A: Allocator + Copy> Chain<V, A> {
     /// A base without runs.
     pub fn of_base(base: Base<V, A>) -> Self
         ensures { result ≡ record { runs = []; base = base } }
     {
-        // `len` is called only for the proof: it says that the keys rise.
-        let _rising = base.len();
-        Chain {
-            link: Link::Bottom(base),
-        }
+        let fewest = base.len();
+        let runs = Vec::new(base.alloc());
+        Chain { base, runs, fewest }
     }
 
     /// How many runs there are, up to the greatest `u64`.
@@ -77,41 +101,33 @@ impl<V, A: Allocator + Copy> Chain<V, A> {
         ensures count { result ≡ min (depth_of self.now) u64.MAX }
         ensures rising { IsInOrder self.now }
     {
-        match &self.link {
-            Link::Bottom(_) => 0,
-            Link::Front(layer) => layer.depth,
-        }
+        let count = self.runs.len();
+        count as u64
     }
 
     /// A number of entries that the page has at least, which is had without a look at any of them: what a base alone has, less as
-    /// many as each run in front of it names, unless `raise_fewest` has told more.
+    /// many as each run names that is put in front or taken off, unless `raise_fewest` has told more.
     pub fn fewest_entries(&self) -> usize
         ensures { result ≤ length (entries_of self.now) }
     {
-        match &self.link {
-            Link::Bottom(base) => base.len(),
-            Link::Front(layer) => layer.fewest,
-        }
+        self.fewest
     }
 
-    /// Tells the chain that the page has as many entries, or more, where the caller knows. It holds until another run comes in front; a
-    /// base alone knows how many it has.
+    /// Tells the chain that the page has as many entries, or more, where the caller knows. A base alone knows how many it has.
     pub fn raise_fewest(&mut self, entries: usize)
         requires { entries ≤ length (entries_of self.old) }
         ensures { self.new ≡ self.old }
     {
-        if let Link::Front(layer) = &mut self.link {
-            layer.fewest = layer.fewest.max(entries);
-        }
+        self.fewest = self.fewest.max(entries);
     }
 
-    /// The newest run and the chain behind it, or none where the base stands alone.
-    pub fn newest(&self) -> Option<(&Run<V, A>, &Chain<V, A>)>
-        ensures { MatchOption result (self.now.runs ≡ []) (λ p. self.now ≡ record p.1.now { runs = p.0.now ∷ p.1.now.runs }) }
+    /// The runs and the base, to be gone down through from the newest run.
+    pub fn lent(&self) -> ChainRef<'_, V, A>
+        ensures { result ≡ self.now }
     {
-        match &self.link {
-            Link::Bottom(_) => None,
-            Link::Front(layer) => Some((&layer.run, &layer.below)),
+        ChainRef {
+            runs: &self.runs,
+            base: &self.base,
         }
     }
 
@@ -119,10 +135,7 @@ impl<V, A: Allocator + Copy> Chain<V, A> {
     pub fn base(&self) -> &Base<V, A>
         ensures { result.now ≡ self.now.base }
     {
-        match &self.link {
-            Link::Bottom(base) => base,
-            Link::Front(layer) => layer.below.base(),
-        }
+        &self.base
     }
 
     /// The page's entries, lent: its present keys with their cells, in key order.
@@ -130,13 +143,12 @@ impl<V, A: Allocator + Copy> Chain<V, A> {
         ensures entries { IfOk result (λ pairs. pairs ≡ entries_of self.now) }
         ensures rising { IfOk result (λ pairs. IsRising pairs) }
     {
-        if let Link::Bottom(base) = &self.link {
-            return lent_base(alloc, base);
+        let under = lent_base(alloc, &self.base)?;
+        if self.depth() == 0 {
+            return Ok(under);
         }
         // The runs are merged with one another first, so that the base, which is mostly longer, is gone through once.
-        let _in_order = self.depth();
         let changes = self.changes(alloc)?;
-        let under = lent_base(alloc, self.base())?;
         with_run(alloc, &under, &changes)
     }
 
@@ -144,20 +156,11 @@ impl<V, A: Allocator + Copy> Chain<V, A> {
     fn changes(&self, alloc: A) -> Result<Pairs<'_, Option<V>, A>, AllocError>
         ensures { IfOk result (λ changes. changes ≡ said_by self.now.runs) }
     {
-        match &self.link {
-            Link::Bottom(_) => Ok(Pairs::of_list(Vec::new(alloc))),
-            Link::Front(layer) => {
-                let older = layer.below.changes(alloc)?;
-                overlaid(alloc, &older, &layer.run)
-            }
+        let mut changes = Pairs::of_list(Vec::new(alloc));
+        for at in 0..self.runs.len() {
+            changes = overlaid(alloc, &changes, &self.runs[at])?;
         }
-    }
-
-    fn alloc(&self) -> A {
-        match &self.link {
-            Link::Bottom(base) => base.alloc(),
-            Link::Front(layer) => layer.run.alloc(),
-        }
+        Ok(changes)
     }
 }
 
@@ -168,53 +171,25 @@ impl<V: Drop, A: Allocator + Copy> Chain<V, A> {
         ensures err { OnErr result (self.new ≡ self.old) }
         ensures back { IfErr result (λ e. e.1 ≡ run) }
     {
-        let alloc = run.alloc();
-        let depth = self.depth().saturating_add(1);
-        // A change takes one entry away at most.
-        let fewest = self.fewest_entries().saturating_sub(run.len());
-        let whole = mem::replace(self, Chain::of_base(Base::empty(alloc)));
-        let layer = Layer {
-            depth,
-            fewest,
-            run,
-            below: whole,
-        };
-        match Box::new(alloc, layer) {
-            Ok(layer) => {
-                let chain = Chain {
-                    link: Link::Front(layer),
-                };
-                *self = chain;
-                Ok(())
-            }
-            Err(refused) => {
-                let Layer {
-                    run,
-                    below: whole,
-                    ..
-                } = refused.value;
-                *self = whole;
-                Err((AllocError, run))
-            }
+        if let Err(refused) = make_room(&mut self.runs) {
+            return Err((refused, run));
         }
+        // A change takes one entry away at most.
+        let taken = run.len();
+        self.fewest = self.fewest.saturating_sub(taken);
+        self.runs.push_reserved(run);
+        Ok(())
     }
 
     /// Takes the newest run off, if there is one. This undoes `prepend`, and takes no memory.
     pub fn pop(&mut self) -> Option<Run<V, A>>
         ensures { MatchOption result (self.old.runs ≡ [] × self.new ≡ self.old) (λ run. self.old ≡ record self.new { runs = run ∷ self.new.runs }) }
     {
-        let empty = Chain::of_base(Base::empty(self.alloc()));
-        match mem::replace(self, empty).link {
-            Link::Bottom(base) => {
-                *self = Chain::of_base(base);
-                None
-            }
-            Link::Front(layer) => {
-                let Layer { run, below, .. } = Box::into_inner(layer);
-                *self = below;
-                Some(run)
-            }
-        }
+        let run = self.runs.pop()?;
+        // A change had added one entry at most.
+        let added = run.len();
+        self.fewest = self.fewest.saturating_sub(added);
+        Some(run)
     }
 
     /// Lets a cell and the one that the page holds at the key stand in each other's place. That one stands in the newest run that names
@@ -224,17 +199,12 @@ impl<V: Drop, A: Allocator + Copy> Chain<V, A> {
         ensures cell { cell.new ≡ unwrap_or (holds self.old key.now) cell.old }
         ensures page { self.new ≡ exchanged self.old key.now cell.old }
     {
-        match &mut self.link {
-            Link::Bottom(base) => {
-                if let Some(at) = base.place_near(*guess, key.as_bytes()) {
-                    *guess = at.saturating_add(1);
-                    base.swap_cell(at, cell);
-                }
-            }
-            Link::Front(layer) => match layer.run.place_of(key) {
-                Some(at) => layer.run.swap_cell(at, cell),
-                None => layer.below.swap_cell(key, cell, guess),
-            },
+        if swap_in_runs(&mut self.runs, key, cell) {
+            return;
+        }
+        if let Some(at) = self.base.place_near(*guess, key.as_bytes()) {
+            *guess = at.saturating_add(1);
+            self.base.swap_cell(at, cell);
         }
     }
 
@@ -243,10 +213,7 @@ impl<V: Drop, A: Allocator + Copy> Chain<V, A> {
         requires { self.runs ≡ [] }
         ensures { result ≡ self.base }
     {
-        match self.link {
-            Link::Bottom(base) => base,
-            Link::Front(..) => unreachable!(),
-        }
+        self.base
     }
 }
 
@@ -258,5 +225,43 @@ impl<V: Cell<A> + Drop, A: Allocator + Copy> Chain<V, A> {
     {
         let pairs = self.pairs(alloc)?;
         copied(alloc, &pairs)
+    }
+}
+
+// Makes room for another run, if there is none.
+fn make_room<V, A: Allocator + Copy>(runs: &mut Vec<Run<V, A>, A>) -> Result<(), AllocError>
+    ensures kept { runs.new.items ≡ runs.old.items }
+    ensures room { OnOk result (vec_len runs.new < vec_capacity runs.new) }
+{
+    if runs.len() == runs.capacity() {
+        runs.reserve_exact(MORE_RUNS)?;
+    }
+    Ok(())
+}
+
+// Lets the cell and the one that the newest of these runs that names the key has, if it has one, stand in each other's place, and
+// says whether one names the key. The runs are given the oldest first.
+fn swap_in_runs<V: Drop, A: Allocator + Copy>(
+    runs: &mut [Run<V, A>],
+    key: &KeyRef<'_>,
+    cell: &mut V,
+) -> bool
+    ensures cell { (base : List (Bytes × V)) → unwrap_or (held_under key.now (reverse runs.old) base) cell.old ≡
+        (if result then cell.new else unwrap_or (value_at key.now base) cell.old) }
+    ensures kept { result ≡ false → cell.new ≡ cell.old }
+    ensures count { length runs.new ≡ length runs.old }
+    ensures page { (base : List (Bytes × V)) → exchanged_under key.now cell.old (reverse runs.old) base ≡
+        record { runs = reverse runs.new; base = if result then base else (exchanged_under key.now cell.old [] base).base } }
+{
+    let Some((newest, older)) = runs.split_last_mut() else {
+        return false;
+    };
+    let _rising = newest.len();
+    match newest.place_of(key) {
+        Some(at) => {
+            newest.swap_cell(at, cell);
+            true
+        }
+        None => swap_in_runs(older, key, cell),
     }
 }

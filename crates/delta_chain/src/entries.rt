@@ -66,10 +66,6 @@ impl<T, A: Allocator + Copy> Entries<T, A> {
         })
     }
 
-    pub(crate) fn alloc(&self) -> A {
-        self.alloc
-    }
-
     #[inline]
     pub(crate) fn len(&self) -> usize
         ensures count { result ≡ length self.now }

@@ -14,7 +14,7 @@ pub mod run;
 
 pub use crate::base::Base;
 pub use crate::builder::{BaseBuilder, PushError};
-pub use crate::chain::Chain;
+pub use crate::chain::{Chain, ChainRef};
 pub use crate::key_list::KeyList;
 pub use crate::pairs::{Pairs, copied_base};
 pub use crate::run::Run;

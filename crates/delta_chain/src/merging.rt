@@ -36,7 +36,8 @@ pub(crate) fn overlaid<'a, V, A: Allocator + Copy>(
     newer: &'a Run<V, A>,
 ) -> Result<Pairs<'a, Option<V>, A>, AllocError>
     requires { IsRising older.now }
-    ensures { IfOk result (λ changes. changes ≡ overlaid older.now newer.now) }
+    ensures changes { IfOk result (λ changes. changes ≡ overlaid older.now newer.now) }
+    ensures rising { IfOk result (λ changes. IsRising changes) }
 {
     let count = newer.len();
     let Some(room) = older.len().checked_add(count) else {

@@ -47,10 +47,6 @@ impl<V, A: Allocator + Copy> Run<V, A> {
         Ok(Run { changes })
     }
 
-    pub(crate) fn alloc(&self) -> A {
-        self.changes.alloc()
-    }
-
     /// How many keys the run names.
     pub fn len(&self) -> usize
         ensures count { result ≡ length self.now }

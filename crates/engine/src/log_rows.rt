@@ -649,8 +649,6 @@ pub(crate) fn comes_out(
 
 // To be run with each allocation refused in turn too, by `rt try --test --fail-alloc N` for each N, in a copy where this is the only
 // test. Then at most one row can't be told.
-// To be run with each allocation refused in turn too, by `rt try --test --fail-alloc N` for each N, in a copy where this is the only
-// test. Then at most one row can't be told.
 #[test]
 fn the_rows_come_out(rt: HostRuntime) {
     for crew in &crews() {

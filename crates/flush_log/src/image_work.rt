@@ -11,7 +11,7 @@ ghost use Rattle.flush_log.specs.ImageWork.{image_held, held_text, image_made, C
 use crate::image::Image;
 use crate::kind::Kind;
 use crew::{Turn, Work};
-use delta_chain::Chain;
+use delta_chain::{Chain, ChainRef};
 use index_page::Page;
 use keys::{Pid, Value};
 use mapping::Logged;
@@ -193,7 +193,7 @@ fn whole_image<V: Kind<Global>>(
     let depth = chain.depth() as usize;
     let mut image = Image::with_capacity(alloc, depth + 1)?;
     image.push_full(pid, low, chain.base())?;
-    push_runs(&mut image, pid, chain, 0)?;
+    push_runs(&mut image, pid, &chain.lent(), 0)?;
     Ok(image)
 }
 
@@ -210,7 +210,7 @@ fn newer_image<V: Kind<Global>>(
 {
     let newer = chain.depth().saturating_sub(kept) as usize;
     let mut image = Image::with_capacity(alloc, newer)?;
-    push_runs(&mut image, pid, chain, kept)?;
+    push_runs(&mut image, pid, &chain.lent(), kept)?;
     Ok(image)
 }
 
@@ -218,20 +218,20 @@ fn newer_image<V: Kind<Global>>(
 fn push_runs<V: Kind<A>, A: Allocator + Copy>(
     image: &mut Image,
     pid: Pid,
-    chain: &Chain<V, A>,
+    lists: &ChainRef<'_, V, A>,
     kept: u64,
 ) -> Result<(), AllocError>
-    requires few { depth_of chain.now < 2 ^ 31 }
-    requires sized { AllByRecursion IsSized (drop kept (map V.delta (reverse chain.now.runs))) }
-    ensures { OnOk result (AreWritten pid (drop kept (map V.delta (reverse chain.now.runs))) image.old image.new) }
+    requires few { depth_of lists.now < 2 ^ 31 }
+    requires sized { AllByRecursion IsSized (drop kept (map V.delta (reverse lists.now.runs))) }
+    ensures { OnOk result (AreWritten pid (drop kept (map V.delta (reverse lists.now.runs))) image.old image.new) }
 {
-    if chain.depth() <= kept {
+    if lists.depth() <= kept {
         return Ok(());
     }
-    match chain.newest() {
+    match lists.newest() {
         None => Ok(()),
         Some((run, below)) => {
-            push_runs(image, pid, below, kept)?;
+            push_runs(image, pid, &below, kept)?;
             image.push_delta(pid, run)
         }
     }

@@ -9,7 +9,6 @@ use Rattle.keys.proofs.key.Key.TheSendSync as key
 use Rattle.keys.proofs.pid.Pid.TheSendSync as pid
 use Rattle.keys.proofs.value.Value.TheSendSync as value
 use Rattle.delta_chain.proofs.Crossing.{Chain-send, Chain-sync}
-use Rattle.index_page.specs.contracts.child_list.ChildList as ChildList
 use Rattle.index_page.proofs.child_list.ChildList.TheSendSync as list
 use Rattle.index_page.specs.contracts.page.Page as Page
 

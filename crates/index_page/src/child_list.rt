@@ -41,10 +41,10 @@ impl<A: Allocator + Copy> ChildList<A> {
     pub fn of(alloc: A, chain: &Chain<Pid, A>) -> Result<Self, AllocError>
         ensures { IfOk result (λ list. IsListOf chain.now list) }
     {
-        match chain.newest() {
-            None => Ok(ChildList::none()),
-            Some(_) => ChildList::of_runs(alloc, chain),
+        if chain.depth() == 0 {
+            return Ok(ChildList::none());
         }
+        ChildList::of_runs(alloc, chain)
     }
 
     // The list of a page with runs.

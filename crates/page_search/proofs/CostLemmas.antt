@@ -22,10 +22,10 @@ module _ {V : Type 0} where
   cost_past : (cost : Bool → ℕ → ℕ) (k : List ℕ) (run : List (List ℕ × Option V)) (runs : List (List (List ℕ × Option V))) (base : List (List ℕ × V)) → value_at k run ≡ None → cost_under cost k (run ∷ runs) base ≡ cost false (length (keys_of run)) + cost_under cost k runs base
   cost_past cost k run runs base h = rw (h, length-keys_of) refl
 
-  -- no more than it
-  pub most_past : (cost : Bool → ℕ → ℕ) (k : List ℕ) (run : List (List ℕ × Option V)) (runs : List (List (List ℕ × Option V))) (base : List (List ℕ × V)) (before between after : ℕ) → value_at k run ≡ None → between ≤ before + cost false (length (keys_of run)) → after ≤ between + cost_under cost k runs base → after ≤ before + cost_under cost k (run ∷ runs) base
-  most_past cost k run runs base before between after h p q = omega (arith, cost_past cost k run runs base h)
+  -- what is left to be compared is within what was to be compared
+  pub most_left : (cost : Bool → ℕ → ℕ) (k : List ℕ) (run : List (List ℕ × Option V)) (runs : List (List (List ℕ × Option V))) (base : List (List ℕ × V)) (before between limit : ℕ) → value_at k run ≡ None → between ≤ before + cost false (length (keys_of run)) → before + cost_under cost k (run ∷ runs) base ≤ limit → between + cost_under cost k runs base ≤ limit
+  most_left cost k run runs base before between limit h p q = omega (arith, cost_past cost k run runs base h)
 
-  -- no less than it, up to where the count stops
-  pub least_past : (cost : Bool → ℕ → ℕ) (k : List ℕ) (run : List (List ℕ × Option V)) (runs : List (List (List ℕ × Option V))) (base : List (List ℕ × V)) (before between after stop : ℕ) → value_at k run ≡ None → min (before + cost false (length (keys_of run))) stop ≤ between → min (between + cost_under cost k runs base) stop ≤ after → min (before + cost_under cost k (run ∷ runs) base) stop ≤ after
-  least_past cost k run runs base before between after stop h p q = omega (arith, cost_past cost k run runs base h)
+  -- and comes to no less, up to where the count stops
+  pub least_left : (cost : Bool → ℕ → ℕ) (k : List ℕ) (run : List (List ℕ × Option V)) (runs : List (List (List ℕ × Option V))) (base : List (List ℕ × V)) (before between start stop : ℕ) → value_at k run ≡ None → min (before + cost false (length (keys_of run))) stop ≤ between → start ≤ min (before + cost_under cost k (run ∷ runs) base) stop → start ≤ min (between + cost_under cost k runs base) stop
+  least_left cost k run runs base before between start stop h p q = omega (arith, cost_past cost k run runs base h)

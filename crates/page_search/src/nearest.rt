@@ -14,7 +14,7 @@ ghost use Rattle.page_search.specs.declared.side.Side.TheVariants.{UpTo, Above};
 use crate::probes::Probes;
 use crate::search::place;
 use crate::side::Side;
-use delta_chain::{Chain, KeyList};
+use delta_chain::{Chain, ChainRef, KeyList};
 use keys::KeyRef;
 use std::alloc::Allocator;
 
@@ -38,7 +38,7 @@ pub fn floor<'a, V, A: Allocator + Copy>(
     ensures kept { probes.old ≤ probes.new }
 {
     let _in_order = chain.depth();
-    nearest(chain, key, Side::UpTo, probes)
+    nearest(&chain.lent(), key, Side::UpTo, probes)
 }
 
 /// The page's first entry whose key is above this one, if there is one: its key and its cell. As `floor` does, it takes one
@@ -57,31 +57,31 @@ pub fn above<'a, V, A: Allocator + Copy>(
     ensures kept { probes.old ≤ probes.new }
 {
     let _in_order = chain.depth();
-    nearest(chain, key, Side::Above, probes)
+    nearest(&chain.lent(), key, Side::Above, probes)
 }
 
 // The entry that is nearest to the key on this side of it: what the page says of the nearest key that it names, and where
 // that is absent, of the nearest one past it, and so on.
 fn nearest<'a, V, A: Allocator + Copy>(
-    chain: &'a Chain<V, A>,
+    lists: &ChainRef<'a, V, A>,
     key: &[u8],
     side: Side,
     probes: &mut Probes,
 ) -> Option<(&'a [u8], &'a V)>
-    requires { IsInOrder chain.now }
-    ensures value { IsNearest side key.now (holds chain.now) (option_map (λ e. (e.0.now, e.1.now)) result) }
+    requires { IsInOrder lists.now }
+    ensures value { IsNearest side key.now (holds lists.now) (option_map (λ e. (e.0.now, e.1.now)) result) }
     ensures cost { probes.new ≤ probes.old +
-        nearest_most side key.now (option_map (λ e. (e.0.now, e.1.now)) result) chain.now }
+        nearest_most side key.now (option_map (λ e. (e.0.now, e.1.now)) result) lists.now }
     ensures one_walk { (e : Bytes × V) →
-        IsNearest side key.now (named_by chain.now) (Some (e.0, Some e.1)) →
-        probes.new ≤ probes.old + walk_most chain.now }
-    ensures least { min (probes.old + walk_least key.now chain.now) u64.MAX ≤ probes.new }
+        IsNearest side key.now (named_by lists.now) (Some (e.0, Some e.1)) →
+        probes.new ≤ probes.old + walk_most lists.now }
+    ensures least { min (probes.old + walk_least key.now lists.now) u64.MAX ≤ probes.new }
     ensures kept { probes.old ≤ probes.new }
 {
     let mut bound = key;
     let mut side = side;
     loop {
-        let (found, said) = nearest_named(chain, bound, side, probes)?;
+        let (found, said) = nearest_named(lists, bound, side, probes)?;
         if let Some(cell) = said {
             return Some((found.as_bytes(), cell));
         }
@@ -93,22 +93,22 @@ fn nearest<'a, V, A: Allocator + Copy>(
 // The nearest key on this side that the runs or the base name, and what the newest list that names it says of it: a cell,
 // or that it is absent.
 fn nearest_named<'a, V, A: Allocator + Copy>(
-    chain: &'a Chain<V, A>,
+    lists: &ChainRef<'a, V, A>,
     key: &[u8],
     side: Side,
     probes: &mut Probes,
 ) -> Option<(KeyRef<'a>, Option<&'a V>)>
-    ensures value { IsNearest side key.now (λ i. named_under i chain.now.runs chain.now.base) (option_map (λ e. (e.0, option_copied e.1)) result) }
-    ensures cost { probes.new ≤ probes.old + walk_most chain.now }
-    ensures least { min (probes.old + walk_least key.now chain.now) u64.MAX ≤ probes.new }
+    ensures value { IsNearest side key.now (λ i. named_under i lists.now.runs lists.now.base) (option_map (λ e. (e.0, option_copied e.1)) result) }
+    ensures cost { probes.new ≤ probes.old + walk_most lists.now }
+    ensures least { min (probes.old + walk_least key.now lists.now) u64.MAX ≤ probes.new }
     ensures kept { probes.old ≤ probes.new }
 {
-    let Some((run, below)) = chain.newest() else {
-        let base = chain.base();
+    let Some((run, below)) = lists.newest() else {
+        let base = lists.base();
         let at = nearest_place(base, key, side, probes)?;
         return Some((KeyRef::new(base.key(at)), Some(base.cell(at))));
     };
-    let under = nearest_named(below, key, side, probes);
+    let under = nearest_named(&below, key, side, probes);
     let Some(at) = nearest_place(run, key, side, probes) else {
         return under;
     };

@@ -40,13 +40,14 @@ pub fn find<'a, V, A: Allocator + Copy>(
     ensures least { min (probes.old + find_least key.now chain.now) u64.MAX ≤ probes.new }
     ensures kept { probes.old ≤ probes.new }
 {
-    let Some((run, below)) = chain.newest() else {
-        return find_in_base(chain.base(), key, probes);
-    };
-    match place(run, key, probes) {
-        Ok(at) => run.change(at),
-        Err(_) => find(below, key, probes),
+    let mut rest = chain.lent();
+    while let Some((run, below)) = rest.newest() {
+        match place(run, key, probes) {
+            Ok(at) => return run.change(at),
+            Err(_) => rest = below,
+        }
     }
+    find_in_base(rest.base(), key, probes)
 }
 
 // The cell that the base has at the key, if the key is there.

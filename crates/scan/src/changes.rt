@@ -25,7 +25,7 @@ pub(crate) fn fill<'a>(runs: &mut Runs<'a>, chain: &'a Chain<Value<Global>, Glob
     // The capacity is looked up for what it says: there is room for 16 in any case.
     let _room = runs.capacity();
     runs.clear();
-    let mut rest = chain;
+    let mut rest = chain.lent();
     while let Some((run, below)) = rest.newest() {
         runs.push_reserved(Ahead::new(run, key));
         rest = below;

@@ -196,7 +196,7 @@ fn named_below(chain: &Chain<Value<Global>, Global>, key: &[u8]) -> usize
     ensures { result ≡ min (named_below key.now chain.now) usize.MAX }
 {
     let mut named = 0usize;
-    let mut rest = chain;
+    let mut rest = chain.lent();
     while let Some((run, below)) = rest.newest() {
         named = named.saturating_add(place_from(run, key));
         rest = below;

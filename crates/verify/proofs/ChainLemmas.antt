@@ -1,10 +1,15 @@
 -- What the tests of a page's keys and sizes come to, list by list.
-use Rattle.std.specs.Prelude.{◌≡◌, ℕ, zero, suc, ◌+◌, Bool, true, false, ◌&&◌, List, [], ◌∷◌, drop, slice_get, Option, Some}
+use Rattle.std.specs.Prelude.{◌≡◌, ℕ, zero, suc, ◌+◌, Bool, true, false, ◌&&◌, List, [], ◌∷◌, drop, length, nat_le, slice_get, Option, Some}
 use Rattle.std.proofs.Common.{refl, sym, ap, ◌∙◌, add-one}
 use Rattle.std.specs.List.{list_all}
 use Rattle.std.specs.Map.{keys_of, values_of}
+use Rattle.std.proofs.lemmas.List.Folds.{list_all-append}
+use Rattle.keys.specs.Bytes.{Pairs, Changes}
+use Rattle.keys.specs.declared.settings.Settings.{Settings}
 use Rattle.delta_chain.proofs.Places.{drop_pair}
-use Rattle.index_page.specs.Page.{as_changes}
+use Rattle.index_page.specs.Page.{as_changes, said_under}
+use Rattle.index_page.specs.Rules.{is_run_sized, is_short_change}
+use Rattle.verify.specs.Sizes.{sizes_under}
 
 -- ---- a test of a list, place by place
 
@@ -58,3 +63,19 @@ module _ {V : Type 0} where
 pub both_fail : (a b : Bool) → false ≡ b → false ≡ (a && b)
 both_fail true b h = h
 both_fail false b h = refl
+
+-- ---- the sizes of a page, by those of its newest run
+
+sizes_by : (base short runs names below : Bool) → (short && names) ≡ false → false ≡ (base && (short && runs) && (names && below))
+sizes_by true false runs names below h = refl
+sizes_by false false runs names below h = refl
+sizes_by true true true false below h = refl
+sizes_by true true false false below h = refl
+sizes_by false true runs false below h = refl
+sizes_by base true runs true below h = absurd (cc)
+
+module _ {V : Type 0} where
+  -- where those of a run don't fit, the page's don't
+  pub sizes-else : (s : Settings) (is_short : V → Bool) (run : Changes V) (runs : List (Changes V)) (base : Pairs V) → (is_run_sized s run && list_all (is_short_change s is_short) run) ≡ false → false ≡ sizes_under s is_short (run ∷ runs) base
+  sizes-else s is_short run runs base h =
+      rw list_all-append (sizes_by (nat_le (length base) s.fan) (is_run_sized s run) (list_all (is_run_sized s) runs) (list_all (is_short_change s is_short) run) (list_all (is_short_change s is_short) (said_under runs base)) h)

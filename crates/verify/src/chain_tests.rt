@@ -9,7 +9,7 @@ ghost use Rattle.index_page.specs.Range.{is_within};
 ghost use Rattle.index_page.specs.Rules.{is_short_value, is_any_pid, of_cell, is_run_sized, is_short_change};
 ghost use Rattle.verify.specs.Sizes.{sizes_under};
 
-use delta_chain::{Base, Chain, KeyList, Run};
+use delta_chain::{Base, ChainRef, KeyList, Run};
 use keys::{Pid, Settings, Value, compare, is_before};
 use std::alloc::Allocator;
 
@@ -62,28 +62,28 @@ fn keys_within<L: KeyList>(list: &L, low: &[u8], end: Option<&[u8]>) -> bool
 
 /// Whether each key that the runs and the base name lies in the range.
 pub(crate) fn names_within<V, A: Allocator + Copy>(
-    chain: &Chain<V, A>,
+    lists: &ChainRef<'_, V, A>,
     low: &[u8],
     end: Option<&[u8]>,
 ) -> bool
-    ensures { result ≡ list_all (is_within low.now (option_copied end.entry)) (keys_of (said_under chain.now.runs chain.now.base)) }
+    ensures { result ≡ list_all (is_within low.now (option_copied end.entry)) (keys_of (said_under lists.now.runs lists.now.base)) }
 {
-    match chain.newest() {
-        None => keys_within(chain.base(), low, end),
-        Some((run, below)) => keys_within(run, low, end) && names_within(below, low, end),
+    match lists.newest() {
+        None => keys_within(lists.base(), low, end),
+        Some((run, below)) => keys_within(run, low, end) && names_within(&below, low, end),
     }
 }
 
 /// Whether the base and each run are within the settings, in their numbers of entries and in the lengths of keys and cells.
 pub(crate) fn fits_sizes<V: CellSize, A: Allocator + Copy>(
-    chain: &Chain<V, A>,
+    lists: &ChainRef<'_, V, A>,
     settings: &Settings,
 ) -> bool
-    ensures { result ≡ sizes_under settings.now (V.is_short settings.now) chain.now.runs chain.now.base }
+    ensures { result ≡ sizes_under settings.now (V.is_short settings.now) lists.now.runs lists.now.base }
 {
-    match chain.newest() {
-        None => fits_base(chain.base(), settings),
-        Some((run, below)) => fits_run(run, settings) && fits_sizes(below, settings),
+    match lists.newest() {
+        None => fits_base(lists.base(), settings),
+        Some((run, below)) => fits_run(run, settings) && fits_sizes(&below, settings),
     }
 }
 

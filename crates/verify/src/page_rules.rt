@@ -22,10 +22,11 @@ pub(crate) fn broken_rule<V: CellSize>(
     if !compare(low, at.low).is_eq() {
         return Some(LOW_KEY);
     }
-    if !names_within(chain, at.low, at.end) {
+    let lists = chain.lent();
+    if !names_within(&lists, at.low, at.end) {
         return Some(RANGE);
     }
-    if !fits_sizes(chain, settings) {
+    if !fits_sizes(&lists, settings) {
         return Some(SIZES);
     }
     if depth > settings.chain as u64 {

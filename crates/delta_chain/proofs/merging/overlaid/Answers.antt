@@ -1,6 +1,7 @@
 use Rattle.std.proofs.Common.{◌<◌, ◌≤◌, length, arith, add-one, Some, Less, Equal}
 use Rattle.delta_chain.specs.Lent.{pairs_lent}
 use Rattle.delta_chain.specs.Merging.{asserted, overlaid}
+use Rattle.delta_chain.proofs.LayerLemmas.{rising-with_run}
 use Rattle.delta_chain.proofs.Lending.{pairs_lent-push}
 use Rattle.delta_chain.proofs.Merges.{less_step, equal_step, greater_step, there_is_one, all_changes}
 use Rattle.delta_chain.proofs.Overlays.{rising-asserted, key-asserted, change-asserted, length-asserted}
@@ -41,5 +42,5 @@ loop-at-preserved g c =
 pub returns : goal.returns
 returns g c =
     let n : length (asserted c.args.newer.now) ≤ c.loop-at.at = omega (arith, length-asserted c.args.newer.now, c.len-count.ensures.count, c.loop-at-test.false) in
-    rw (c.of_list.ensures, c.push_rest.ensures)
-    (all_changes c.args.older.now (asserted c.args.newer.now) c.loop-at.from c.loop-at.at (pairs_lent c.loop-at.lent.items) (overlaid c.args.older.now c.args.newer.now) n c.loop-at.invariant.made)
+    let all = all_changes c.args.older.now (asserted c.args.newer.now) c.loop-at.from c.loop-at.at (pairs_lent c.loop-at.lent.items) (overlaid c.args.older.now c.args.newer.now) n c.loop-at.invariant.made in
+    rw (c.of_list.ensures, c.push_rest.ensures) (record { changes = all; rising = rw all (rising-with_run c.args.older.now (asserted c.args.newer.now) c.requires) })

@@ -22,19 +22,19 @@ pub returns-in_default-nearest_place-clause-value :
     goal.returns-in_default-nearest_place-clause-value
 returns-in_default-nearest_place-clause-value g t c =
     let chain = c.in-Some.ensures in
-    rw chain (run-none c.args.side c.args.key.now c.in-Some.run'.now c.in-Some.below.now.runs c.in-Some.below.now.base _ c.in_default-nearest_place.ensures.place c.nearest_named-under.ensures.value)
+    rw chain (run-none c.args.side c.args.key.now c.in-Some.run'.now c.in-Some.below.runs c.in-Some.below.base _ c.in_default-nearest_place.ensures.place c.nearest_named-under.ensures.value)
 
 pub returns-in-Some-under-clause-value : goal.returns-in-Some-under-clause-value
 returns-in-Some-under-clause-value g t c =
     let chain = c.in-Some.ensures in
-    rw chain (run-under c.args.side c.args.key.now c.in-Some.run'.now c.in-Some.below.now.runs c.in-Some.below.now.base _ _ c.in-Some-nearest_place.ensures.place c.key_ref-here.ensures (c.in-Some-under.other.0, option_copied c.in-Some-under.other.1) c.in-Some-under.ensures.value c.if-is_nearer.ensures.nearer)
+    rw chain (run-under c.args.side c.args.key.now c.in-Some.run'.now c.in-Some.below.runs c.in-Some.below.base _ _ c.in-Some-nearest_place.ensures.place c.key_ref-here.ensures (c.in-Some-under.other.0, option_copied c.in-Some-under.other.1) c.in-Some-under.ensures.value c.if-is_nearer.ensures.nearer)
 
 pub returns-in_default-under-clause-value : goal.returns-in_default-under-clause-value
 returns-in_default-under-clause-value g t c =
     let chain = c.in-Some.ensures in
     rw chain (elim c.in_default-under.branch [
-      | in_default-under-via-in-Some-under+else-is_nearer w ↦ run-here c.args.side c.args.key.now c.in-Some.run'.now c.in-Some.below.now.runs c.in-Some.below.now.base _ _ c.in-Some-nearest_place.ensures.place c.key_ref-here.ensures _ c.nearest_place-2.ensures.rising c.change.ensures (w.in-Some-under.other.0, option_copied w.in-Some-under.other.1) w.in-Some-under.ensures.value w.if-is_nearer.ensures.nearer
-      | in_default-under-via-in_default-under w ↦ run-alone c.args.side c.args.key.now c.in-Some.run'.now c.in-Some.below.now.runs c.in-Some.below.now.base _ _ c.in-Some-nearest_place.ensures.place c.key_ref-here.ensures _ c.nearest_place-2.ensures.rising c.change.ensures w.in_default-under.ensures.value
+      | in_default-under-via-in-Some-under+else-is_nearer w ↦ run-here c.args.side c.args.key.now c.in-Some.run'.now c.in-Some.below.runs c.in-Some.below.base _ _ c.in-Some-nearest_place.ensures.place c.key_ref-here.ensures _ c.nearest_place-2.ensures.rising c.change.ensures (w.in-Some-under.other.0, option_copied w.in-Some-under.other.1) w.in-Some-under.ensures.value w.if-is_nearer.ensures.nearer
+      | in_default-under-via-in_default-under w ↦ run-alone c.args.side c.args.key.now c.in-Some.run'.now c.in-Some.below.runs c.in-Some.below.base _ _ c.in-Some-nearest_place.ensures.place c.key_ref-here.ensures _ c.nearest_place-2.ensures.rising c.change.ensures w.in_default-under.ensures.value
     ])
 
 -- ---- the base alone
@@ -74,12 +74,12 @@ returns-in_default-clause-kept g t c = c.in_ok-at.ensures.kept
 pub returns-in_default-nearest_place-clause-cost : goal.returns-in_default-nearest_place-clause-cost
 returns-in_default-nearest_place-clause-cost g t c =
     let chain = c.in-Some.ensures in
-    rw chain (most_with_run c.in-Some.run'.now c.in-Some.below.now.runs c.in-Some.below.now.base c.args.probes.now c.nearest_named-under.new.probes c.nearest_place-2.new.probes c.nearest_place-2.new.probes c.nearest_named-under.ensures.cost c.in_default-nearest_place.ensures.cost (omega arith))
+    rw chain (most_with_run c.in-Some.run'.now c.in-Some.below.runs c.in-Some.below.base c.args.probes.now c.nearest_named-under.new.probes c.nearest_place-2.new.probes c.nearest_place-2.new.probes c.nearest_named-under.ensures.cost c.in_default-nearest_place.ensures.cost (omega arith))
 
 pub returns-in_default-nearest_place-clause-least : goal.returns-in_default-nearest_place-clause-least
 returns-in_default-nearest_place-clause-least g t c =
     let chain = c.in-Some.ensures in
-    rw chain (least_with_run c.args.key.now c.in-Some.run'.now c.in-Some.below.now.runs c.in-Some.below.now.base c.args.probes.now c.nearest_named-under.new.probes c.nearest_place-2.new.probes _ c.nearest_named-under.ensures.least c.in_default-nearest_place.ensures.least)
+    rw chain (least_with_run c.args.key.now c.in-Some.run'.now c.in-Some.below.runs c.in-Some.below.base c.args.probes.now c.nearest_named-under.new.probes c.nearest_place-2.new.probes _ c.nearest_named-under.ensures.least c.in_default-nearest_place.ensures.least)
 
 pub returns-in_default-nearest_place-clause-kept : goal.returns-in_default-nearest_place-clause-kept
 returns-in_default-nearest_place-clause-kept g t c = omega (arith, c.nearest_named-under.ensures.kept, c.in_default-nearest_place.ensures.kept)
@@ -89,12 +89,12 @@ returns-in_default-nearest_place-clause-kept g t c = omega (arith, c.nearest_nam
 pub returns-in-Some-under-clause-cost : goal.returns-in-Some-under-clause-cost
 returns-in-Some-under-clause-cost g t c =
     let chain = c.in-Some.ensures in
-    rw chain (most_with_run c.in-Some.run'.now c.in-Some.below.now.runs c.in-Some.below.now.base c.args.probes.now c.nearest_named-under.new.probes c.nearest_place-2.new.probes c.is_nearer.new.probes c.nearest_named-under.ensures.cost c.in-Some-nearest_place.ensures.cost c.if-is_nearer.ensures.cost)
+    rw chain (most_with_run c.in-Some.run'.now c.in-Some.below.runs c.in-Some.below.base c.args.probes.now c.nearest_named-under.new.probes c.nearest_place-2.new.probes c.is_nearer.new.probes c.nearest_named-under.ensures.cost c.in-Some-nearest_place.ensures.cost c.if-is_nearer.ensures.cost)
 
 pub returns-in-Some-under-clause-least : goal.returns-in-Some-under-clause-least
 returns-in-Some-under-clause-least g t c =
     let chain = c.in-Some.ensures in
-    let searched = least_with_run c.args.key.now c.in-Some.run'.now c.in-Some.below.now.runs c.in-Some.below.now.base c.args.probes.now c.nearest_named-under.new.probes c.nearest_place-2.new.probes _ c.nearest_named-under.ensures.least c.in-Some-nearest_place.ensures.least in
+    let searched = least_with_run c.args.key.now c.in-Some.run'.now c.in-Some.below.runs c.in-Some.below.base c.args.probes.now c.nearest_named-under.new.probes c.nearest_place-2.new.probes _ c.nearest_named-under.ensures.least c.in-Some-nearest_place.ensures.least in
     rw chain (omega (arith, searched, c.if-is_nearer.ensures.kept))
 
 pub returns-in-Some-under-clause-kept : goal.returns-in-Some-under-clause-kept
@@ -103,7 +103,7 @@ returns-in-Some-under-clause-kept g t c = omega (arith, c.nearest_named-under.en
 pub returns-in_default-under-clause-cost : goal.returns-in_default-under-clause-cost
 returns-in_default-under-clause-cost g t c =
     let chain = c.in-Some.ensures in
-    rw chain (most_with_run c.in-Some.run'.now c.in-Some.below.now.runs c.in-Some.below.now.base c.args.probes.now c.nearest_named-under.new.probes c.nearest_place-2.new.probes c.in_default-under.probes c.nearest_named-under.ensures.cost c.in-Some-nearest_place.ensures.cost (elim c.in_default-under.branch [
+    rw chain (most_with_run c.in-Some.run'.now c.in-Some.below.runs c.in-Some.below.base c.args.probes.now c.nearest_named-under.new.probes c.nearest_place-2.new.probes c.in_default-under.probes c.nearest_named-under.ensures.cost c.in-Some-nearest_place.ensures.cost (elim c.in_default-under.branch [
       | in_default-under-via-in-Some-under+else-is_nearer w ↦ omega (arith, w.if-is_nearer.ensures.cost, w.probes-is)
       | in_default-under-via-in_default-under w ↦ omega (arith, w.probes-is)
     ]))
@@ -111,7 +111,7 @@ returns-in_default-under-clause-cost g t c =
 pub returns-in_default-under-clause-least : goal.returns-in_default-under-clause-least
 returns-in_default-under-clause-least g t c =
     let chain = c.in-Some.ensures in
-    let searched = least_with_run c.args.key.now c.in-Some.run'.now c.in-Some.below.now.runs c.in-Some.below.now.base c.args.probes.now c.nearest_named-under.new.probes c.nearest_place-2.new.probes _ c.nearest_named-under.ensures.least c.in-Some-nearest_place.ensures.least in
+    let searched = least_with_run c.args.key.now c.in-Some.run'.now c.in-Some.below.runs c.in-Some.below.base c.args.probes.now c.nearest_named-under.new.probes c.nearest_place-2.new.probes _ c.nearest_named-under.ensures.least c.in-Some-nearest_place.ensures.least in
     rw chain (elim c.in_default-under.branch [
       | in_default-under-via-in-Some-under+else-is_nearer w ↦ omega (arith, searched, w.if-is_nearer.ensures.kept, w.probes-is)
       | in_default-under-via-in_default-under w ↦ omega (arith, searched, w.probes-is)

@@ -9,13 +9,13 @@ use Rattle.page_search.proofs.nearest.floor.Goals as goal
 pub returns-clause-value : goal.returns-clause-value
 returns-clause-value g c =
     let rising = c.depth-in_order.ensures.rising in
-    floor-nearest c.args.key.now (entries_of c.args.chain.now) _ (rising-entries_of c.args.chain.now rising) (nearest-entries UpTo c.args.key.now c.args.chain.now _ rising c.nearest.ensures.value)
+    floor-nearest c.args.key.now (entries_of c.args.chain.now) _ (rising-entries_of c.args.chain.now rising) (nearest-entries UpTo c.args.key.now c.args.chain.now _ rising (rw c.lent.ensures at c.nearest.ensures.value))
 
 pub returns-clause-cost : goal.returns-clause-cost
 returns-clause-cost g c =
     let rising = c.depth-in_order.ensures.rising in
-    let value = floor-nearest c.args.key.now (entries_of c.args.chain.now) _ (rising-entries_of c.args.chain.now rising) (nearest-entries UpTo c.args.key.now c.args.chain.now _ rising c.nearest.ensures.value) in
-    floor_by c.args.key.now c.args.chain.now _ _ _ value c.nearest.ensures.cost
+    let value = floor-nearest c.args.key.now (entries_of c.args.chain.now) _ (rising-entries_of c.args.chain.now rising) (nearest-entries UpTo c.args.key.now c.args.chain.now _ rising (rw c.lent.ensures at c.nearest.ensures.value)) in
+    floor_by c.args.key.now c.args.chain.now _ _ _ value (rw c.lent.ensures at c.nearest.ensures.cost)
 
 pub returns-clause-at_key : goal.returns-clause-at_key
-returns-clause-at_key g c = most_at_key c.args.key.now c.args.chain.now _ _ c.nearest.ensures.one_walk
+returns-clause-at_key g c = most_at_key c.args.key.now c.args.chain.now _ _ (rw c.lent.ensures at c.nearest.ensures.one_walk)

@@ -10,14 +10,14 @@ use Rattle.page_search.proofs.nearest.nearest.Given as goal
 -- take what the whole way may, less what was compared, and where a key is held that is the nearest one named, no walk is behind.
 abbrev pub invariant-loop-found : goal.invariant-loop-found
 invariant-loop-found g l = record {
-  same : (x : Option (List ℕ × g.row.V.Denot)) → IsNearest l.side l.bound (holds l.chain) x → IsNearest l.fn.side l.key (holds l.chain) x;
-  cost : (x : Option (List ℕ × g.row.V.Denot)) → IsNearest l.side l.bound (holds l.chain) x →
-      l.probes + count_passed l.side l.bound x (said_by l.chain.runs) * walk_most l.chain ≤ l.fn.probes + count_passed l.fn.side l.key x (said_by l.chain.runs) * walk_most l.chain;
-  one_walk : (e : List ℕ × g.row.V.Denot) → IsNearest l.fn.side l.key (named_by l.chain) (Some (e.0, Some e.1)) →
-      IsNearest l.side l.bound (named_by l.chain) (Some (e.0, Some e.1)) × (l.probes ≤ l.fn.probes);
-  least : (after : ℕ) → min (l.probes + walk_least l.bound l.chain) 18446744073709551615 ≤ after → min (l.fn.probes + walk_least l.key l.chain) 18446744073709551615 ≤ after;
+  same : (x : Option (List ℕ × g.row.V.Denot)) → IsNearest l.side l.bound (holds l.lists) x → IsNearest l.fn.side l.key (holds l.lists) x;
+  cost : (x : Option (List ℕ × g.row.V.Denot)) → IsNearest l.side l.bound (holds l.lists) x →
+      l.probes + count_passed l.side l.bound x (said_by l.lists.runs) * walk_most l.lists ≤ l.fn.probes + count_passed l.fn.side l.key x (said_by l.lists.runs) * walk_most l.lists;
+  one_walk : (e : List ℕ × g.row.V.Denot) → IsNearest l.fn.side l.key (named_by l.lists) (Some (e.0, Some e.1)) →
+      IsNearest l.side l.bound (named_by l.lists) (Some (e.0, Some e.1)) × (l.probes ≤ l.fn.probes);
+  least : (after : ℕ) → min (l.probes + walk_least l.bound l.lists) 18446744073709551615 ≤ after → min (l.fn.probes + walk_least l.key l.lists) 18446744073709551615 ≤ after;
   kept : l.fn.probes ≤ l.probes;
 }
 
 abbrev pub decreases-loop-found : goal.decreases-loop-found
-decreases-loop-found g l = count_named l.side l.bound l.chain.runs l.chain.base
+decreases-loop-found g l = count_named l.side l.bound l.lists.runs l.lists.base

@@ -9,4 +9,4 @@ use Rattle.verify.proofs.chain_tests.+names_within.Goals as goal
 pub returns-in-None : goal.returns-in-None
 returns-in-None g t c =
     rw c.in-None.ensures (c.keys_within.ensures ∙ ap (λ b. list_all (is_within c.args.low.now (option_copied c.args.end)) (keys_of b)) c.base.ensures
-    ∙ sym (ap (list_all (is_within c.args.low.now (option_copied c.args.end))) (keys-as_changes c.args.chain.now.base)))
+    ∙ sym (ap (list_all (is_within c.args.low.now (option_copied c.args.end))) (keys-as_changes c.args.lists.now.base)))

@@ -1,11 +1,11 @@
-use Rattle.std.proofs.Common.{rules}
-use Rattle.delta_chain.proofs.Counts.{still_fewest}
+use Rattle.delta_chain.proofs.RunList.{counted-push, page-push}
 use Rattle.delta_chain.proofs.chain.Chain.prepend.Goals as goal
 
-pub invariant_of-chain : goal.invariant_of-chain
-invariant_of-chain g c =
-    record {
-      count = rw (c.in-Ok.ensures.ok, c.replace-whole.ensures.value) (search rules);
-      rising = rw (c.in-Ok.ensures.ok, c.replace-whole.ensures.value) (c.len.ensures.rising, c.depth.ensures.rising);
-      entries = rw (c.in-Ok.ensures.ok, c.replace-whole.ensures.value) (still_fewest c.len.result c.fewest_entries.result _ _ c.args.run c.fewest_entries.ensures c.len.ensures.count c.saturating_sub-fewest.ensures);
-    }
+pub invariant_of-self-2 : goal.invariant_of-self-2
+invariant_of-self-2 g c =
+    counted-push c.self.inside.runs.items c.push_reserved.new.self.items c.args.run c.self.inside.base c.len-taken.result c.self.inside.fewest c.saturating_sub-self-inside.result
+    (rw (← c.make_room.ensures.kept) c.push_reserved.ensures.items) c.len-taken.ensures.rising c.len-taken.ensures.count c.saturating_sub-self-inside.ensures c.self.invariant
+
+pub returns-clause-ok : goal.returns-clause-ok
+returns-clause-ok g c =
+    rw (← c.self.view_is) (page-push c.self.inside.runs.items c.push_reserved.new.self.items c.args.run c.self.inside.base (rw (← c.make_room.ensures.kept) c.push_reserved.ensures.items))

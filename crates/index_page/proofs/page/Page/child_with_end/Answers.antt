@@ -1,5 +1,4 @@
 use Rattle.std.proofs.Common.{◌≡◌, ◌+◌, arith}
-use Rattle.index_page.specs.Children.{child_entries}
 use Rattle.index_page.proofs.WithinLemmas.{child_is_told-at, place_at-told}
 use Rattle.index_page.proofs.page.Page.child_with_end.Goals as goal
 
