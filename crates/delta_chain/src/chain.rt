@@ -228,13 +228,19 @@ impl<V: Cell<A> + Drop, A: Allocator + Copy> Chain<V, A> {
     }
 }
 
-// Makes room for another run, if there is none.
-fn make_room<V, A: Allocator + Copy>(runs: &mut Vec<Run<V, A>, A>) -> Result<(), AllocError>
+// Makes room for another run, if there is none. The list is made anew and not grown where it is: for that the C library locks the heap of
+// the thread that made it, which other workers may be using.
+fn make_room<V: Drop, A: Allocator + Copy>(runs: &mut Vec<Run<V, A>, A>) -> Result<(), AllocError>
     ensures kept { runs.new.items ≡ runs.old.items }
     ensures room { OnOk result (vec_len runs.new < vec_capacity runs.new) }
 {
     if runs.len() == runs.capacity() {
-        runs.reserve_exact(MORE_RUNS)?;
+        let mut longer = Vec::with_capacity(
+            *runs.allocator(),
+            runs.len().saturating_add(MORE_RUNS),
+        )?;
+        longer.append(runs)?;
+        *runs = longer;
     }
     Ok(())
 }
