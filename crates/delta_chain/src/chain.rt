@@ -262,6 +262,7 @@ fn swap_in_runs<V: Drop, A: Allocator + Copy>(
     let Some((newest, older)) = runs.split_last_mut() else {
         return false;
     };
+    // Only for the proof: its keys rise.
     let _rising = newest.len();
     match newest.place_of(key) {
         Some(at) => {
