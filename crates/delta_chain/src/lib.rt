@@ -11,6 +11,7 @@ pub mod laws;
 mod merging;
 pub mod pairs;
 pub mod run;
+pub mod run_ref;
 
 pub use crate::base::Base;
 pub use crate::builder::{BaseBuilder, PushError};
@@ -18,3 +19,4 @@ pub use crate::chain::{Chain, ChainRef};
 pub use crate::key_list::KeyList;
 pub use crate::pairs::{Pairs, copied_base};
 pub use crate::run::Run;
+pub use crate::run_ref::RunRef;
