@@ -41,6 +41,15 @@ const U: Settings = Settings {
     segments: 4,
 };
 
+const V: Settings = Settings {
+    fan: 8,
+    chain: 16,
+    max_key: 16,
+    max_value: 16,
+    seg_size: 512,
+    segments: 4,
+};
+
 // An example: its batches, their answers and the tree afterwards. A command is a word: `k=v` puts, `+k=v` adds, `-k` deletes, `k` looks up, and
 // `[lo,hi,limit` scans, with `*` for no upper bound.
 struct Row {
@@ -55,7 +64,7 @@ pub(crate) const FIVE_PUTS: &str = "a=1 b=2 c=3 d=4 e=5";
 pub(crate) const SEVENTEEN_PUTS: &str =
     "a=1 b=1 c=1 d=1 e=1 f=1 g=1 h=1 i=1 j=1 k=1 l=1 m=1 n=1 o=1 p=1 q=1";
 
-static ROWS: [Row; 16] = [
+static ROWS: [Row; 17] = [
     Row {
         name: "row 4",
         settings: S,
@@ -120,6 +129,25 @@ static ROWS: [Row; 16] = [
             0 low= log=Old leaf runs=0: a=1 b=2\n\
             1 low=c log=No leaf runs=1: ca=9 d=4 e=5\n\
             2 low= log=No index runs=0: =0 c=1\n",
+    },
+    // More runs than are searched without the words of their keys: of keys with the same first eight bytes, of one that has no other, and of
+    // others; of one change, of two and of three.
+    Row {
+        name: "many runs",
+        settings: V,
+        batches: &[
+            "wordword=0 z=8",
+            "wordwordA=1",
+            "wordwordB=2",
+            "wordwordC=3",
+            "a=4 wordwordD=5 y=6",
+            "-wordwordA",
+            "wordwordB=7",
+            "wordword wordwordA wordwordB wordwordC wordwordD wordwordE wordwor a y z b",
+            "-z +wordwordA=9",
+        ],
+        outcome: "NN; N; N; N; NNN; D; R; 0M735MM468M; DA; root 0, height 1\n\
+            0 low= log=Upto0 leaf runs=8: a=4 wordword=0 wordwordA=9 wordwordB=7 wordwordC=3 wordwordD=5 y=6\n",
     },
     // Of one key, of none, up to the limit, up to the low key of a page and from the last key on; and over leaves that are empty.
     Row {
@@ -509,7 +537,7 @@ fn outcomes_of(rt: &(impl Threads + Sync), crew: Crew, alloc: Global, rows: &[Ro
 #[test]
 fn the_rows_come_out(rt: HostRuntime) {
     for crew in &crews() {
-        outcomes_of(&rt, *crew, rt.alloc(), &ROWS).check(&rt, *crew, 14);
+        outcomes_of(&rt, *crew, rt.alloc(), &ROWS).check(&rt, *crew, 15);
     }
 }
 
@@ -519,7 +547,7 @@ fn the_rows_come_out(rt: HostRuntime) {
 fn a_refused_batch_can_be_tried_again(rt: HostRuntime) {
     for workers in [1, 2] {
         let crew = Crew { workers, grain: 1 };
-        outcomes_of(&rt, crew, rt.alloc(), &ROWS[..11]).check(&rt, crew, 10);
+        outcomes_of(&rt, crew, rt.alloc(), &ROWS[..12]).check(&rt, crew, 11);
     }
 }
 
