@@ -1,11 +1,12 @@
 -- Lemmas on a page after a run, for the proofs of this crate and of those above it.
-use Rattle.std.specs.Prelude.{◌≡◌, ℕ, Bool, true, false, List, [], ◌∷◌, Option, if◌then◌else◌}
-use Rattle.std.proofs.Common.{refl}
+use Rattle.std.specs.Prelude.{◌≡◌, ◌<◌, ℕ, Bool, true, false, List, [], ◌∷◌, length, Option, if◌then◌else◌}
+use Rattle.std.proofs.Common.{refl, arith}
 use Rattle.keys.specs.Order.{IsRising}
 use Rattle.keys.specs.declared.settings.Settings.{Settings}
 use Rattle.delta_chain.specs.Layers.{Layers, with_run, entries_of, IsInOrder}
 use Rattle.delta_chain.proofs.LayerLemmas.{rising-with_run, rising-entries_of}
-use Rattle.page_runs.specs.AfterRun.{must_replace, replaced, in_front, after_run}
+use Rattle.page_runs.specs.AfterRun.{must_replace, replaced, in_front, after_run, class_after, is_replaced}
+use Rattle.page_runs.specs.declared.class.Class.TheVariants.{Changed}
 
 module _ {V : Type 0} where
   entries_by : (b : Bool) (p : Layers V) (run : List (List ℕ × Option V)) → entries_of (if b then replaced p run else in_front p run) ≡ with_run (entries_of p) run
@@ -24,3 +25,16 @@ module _ {V : Type 0} where
   pub in_order-after_run : (s : Settings) (p : Layers V) (run : List (List ℕ × Option V)) → IsInOrder p → IsRising run → IsInOrder (after_run s p run)
   in_order-after_run s p [] a r = a
   in_order-after_run s p (c ∷ cs) a r = order_by (must_replace s p (c ∷ cs)) p (c ∷ cs) a r
+
+  -- a run that doesn't have the page replaced stands in front
+  pub stands_in_front : (s : Settings) (p : Layers V) (run : List (List ℕ × Option V)) → 0 < length run → must_replace s p run ≡ false → after_run s p run ≡ in_front p run
+  stands_in_front s p [] l e = absurd (omega arith)
+  stands_in_front s p (c ∷ cs) l e = rw e refl
+
+  pub class_in_front : (s : Settings) (p : Layers V) (run : List (List ℕ × Option V)) → 0 < length run → must_replace s p run ≡ false → class_after s p run ≡ Changed
+  class_in_front s p [] l e = absurd (omega arith)
+  class_in_front s p (c ∷ cs) l e = rw e refl
+
+  pub stays_in_front : (s : Settings) (p : Layers V) (run : List (List ℕ × Option V)) → must_replace s p run ≡ false → is_replaced s p run ≡ false
+  stays_in_front s p [] e = refl
+  stays_in_front s p (c ∷ cs) e = e
