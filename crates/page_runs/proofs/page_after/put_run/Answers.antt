@@ -25,13 +25,13 @@ returns-in-Ok-clause-class g c =
 pub returns-in-Ok-2-clause-page : goal.returns-in-Ok-2-clause-page
 returns-in-Ok-2-clause-page g c =
     let some : 0 < length c.args.run = omega (arith, c.len.ensures.count) in
-    c.in-Ok-2.ensures.ok ∙ sym (stands_in_front c.args.settings.now c.args.page c.args.run some c.if-must_replace.ensures)
+    c.in-Ok-2.ensures.ok ∙ sym (stands_in_front c.args.settings.now c.args.page c.args.run some (sym c.if-must_replace.ensures))
 
 pub returns-in-Ok-2-clause-class : goal.returns-in-Ok-2-clause-class
 returns-in-Ok-2-clause-class g c =
     let some : 0 < length c.args.run = omega (arith, c.len.ensures.count) in
-    sym (class_in_front c.args.settings.now c.args.page c.args.run some c.if-must_replace.ensures)
+    sym (class_in_front c.args.settings.now c.args.page c.args.run some (sym c.if-must_replace.ensures))
 
 pub returns-in-Ok-2-clause-replaced : goal.returns-in-Ok-2-clause-replaced
 returns-in-Ok-2-clause-replaced g c =
-    sym (stays_in_front c.args.settings.now c.args.page c.args.run c.if-must_replace.ensures)
+    sym (stays_in_front c.args.settings.now c.args.page c.args.run (sym c.if-must_replace.ensures))
