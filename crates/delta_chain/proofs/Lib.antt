@@ -12,4 +12,3 @@ pub mod Places
 pub mod Rising
 mod RunList
 pub mod Setting
-mod WordsUnder

@@ -19,7 +19,7 @@ module _ {T : Type 0} where
   pub reverse-behind : (xs : List T) (x : T) → reverse (xs ++ x ∷ []) ≡ x ∷ reverse xs
   reverse-behind xs x = reverse-append xs (x ∷ [])
 
-  pub take-behind : (xs : List T) (at : ℕ) (x : T) → slice_get xs at ≡ Some x → take (suc at) xs ≡ take at xs ++ x ∷ []
+  take-behind : (xs : List T) (at : ℕ) (x : T) → slice_get xs at ≡ Some x → take (suc at) xs ≡ take at xs ++ x ∷ []
   take-behind [] at x h = absurd (cc)
   take-behind (y ∷ xs) zero x h = let s : y ≡ x = cc in ap (λ (z : T). z ∷ []) s
   take-behind (y ∷ xs) (suc at) x h = ap (λ (zs : List T). y ∷ zs) (take-behind xs at x h)

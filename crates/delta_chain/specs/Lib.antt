@@ -6,4 +6,3 @@ pub mod Layers
 pub mod Lent
 pub mod Merging
 pub mod Packed
-pub mod RunWords

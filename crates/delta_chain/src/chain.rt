@@ -1,20 +1,16 @@
-ghost use Rattle.std.specs.Prelude.{◌≡◌, ◌<◌, ◌≤◌, ◌∷◌, [], false, List, length, min, reverse, vec_len, vec_capacity, ◌+◌, ◌-◌, map, take, if◌then◌else◌, OnOk, OnErr, IfOk, IfErr, MatchOption};
-ghost use Rattle.std.specs.Map.{keys_of};
+ghost use Rattle.std.specs.Prelude.{◌≡◌, ◌<◌, ◌≤◌, ◌∷◌, [], false, List, length, min, reverse, vec_len, vec_capacity, if◌then◌else◌, OnOk, OnErr, IfOk, IfErr, MatchOption};
 ghost use Rattle.std.specs.Option.{unwrap_or};
 ghost use Rattle.keys.specs.Bytes.{Bytes};
 ghost use Rattle.keys.specs.Order.{IsRising};
 ghost use Rattle.keys.specs.OrderedMap.{value_at};
-ghost use Rattle.delta_chain.specs.Counted.{keys_from_newest};
 ghost use Rattle.delta_chain.specs.Exchange.{exchanged, exchanged_under};
 ghost use Rattle.delta_chain.specs.Layers.{Layers, holds, held_under, entries_of, depth_of, IsInOrder};
 ghost use Rattle.delta_chain.specs.Merging.{said_by};
-ghost use Rattle.delta_chain.specs.RunWords.{AreKeptWords, AreWordsUnder, HasRunBehind};
 
 use crate::base::Base;
 use crate::merging::{copied, lent_base, overlaid, with_run};
 use crate::pairs::Pairs;
 use crate::run::Run;
-use crate::run_ref::RunRef;
 use keys::{Cell, Key, KeyRef};
 use std::alloc::{AllocError, Allocator};
 use std::marker::Model;
@@ -26,9 +22,6 @@ pub struct Chain<V, A: Allocator> {
     base: Base<V, A>,
     // The oldest first, back to back, so that a look-up goes through one block, and a new one is put behind the others.
     runs: Vec<Run<V, A>, A>,
-    // The first words of the runs' keys, run by run in the same order, and behind those of each run how many they are: so a key that the
-    // runs don't name is looked for in this list alone. Or none, where there are few runs, or where there was no memory for them.
-    words: Vec<u64, A>,
     // The page has as many entries, or more.
     fewest: usize,
 }
@@ -36,13 +29,13 @@ pub struct Chain<V, A: Allocator> {
 impl<V, A: Allocator> Model for Chain<V, A> {
     ghost use Rattle.std.specs.Prelude.{reverse};
     ghost use Rattle.delta_chain.specs.Layers.{Layers};
-    ghost use Rattle.delta_chain.specs.Counted.{IsKept};
+    ghost use Rattle.delta_chain.specs.Counted.{IsCounted};
 
     ghost Value = { Layers V };
 
     ghost view = { λ c. record { runs = reverse c.runs.items; base = c.base } };
 
-    ghost invariant = { λ c. IsKept c.runs.items c.base c.fewest c.words.items };
+    ghost invariant = { λ c. IsCounted (record { runs = reverse c.runs.items; base = c.base }) c.fewest };
 }
 
 /// A page's runs from one of them down, and its base, lent: what a search goes down through. Contracts see it as a page of these.
@@ -50,21 +43,16 @@ impl<V, A: Allocator> Model for Chain<V, A> {
 pub struct ChainRef<'a, V, A: Allocator> {
     // The oldest first.
     runs: &'a [Run<V, A>],
-    // The words of their keys, or none.
-    words: &'a [u64],
     base: &'a Base<V, A>,
 }
 
 impl<'a, V, A: Allocator> Model for ChainRef<'a, V, A> {
     ghost use Rattle.std.specs.Prelude.{reverse};
     ghost use Rattle.delta_chain.specs.Layers.{Layers};
-    ghost use Rattle.delta_chain.specs.Counted.{IsLent};
 
     ghost Value = { Layers V };
 
     ghost view = { λ c. record { runs = reverse c.runs.now; base = c.base.now } };
-
-    ghost invariant = { λ c. IsLent c.runs.now c.base.now c.words.now };
 }
 
 impl<'a, V, A: Allocator + Copy> ChainRef<'a, V, A> {
@@ -72,30 +60,12 @@ impl<'a, V, A: Allocator + Copy> ChainRef<'a, V, A> {
     pub fn newest(&self) -> Option<(&'a Run<V, A>, ChainRef<'a, V, A>)>
         ensures { MatchOption result (self.now.runs ≡ []) (λ p. self.now ≡ record { runs = p.0.now ∷ p.1.runs; base = p.1.base }) }
     {
-        let (newest, below) = self.newest_ref()?;
-        Some((newest.run(), below))
-    }
-
-    /// The same, the run with what a search looks at first.
-    pub fn newest_ref(&self) -> Option<(RunRef<'a, V, A>, ChainRef<'a, V, A>)>
-        ensures { MatchOption result (self.now.runs ≡ []) (λ p. self.now ≡ record { runs = p.0 ∷ p.1.runs; base = p.1.base }) }
-    {
         let (run, older) = self.runs.split_last()?;
-        let Some((count, rest)) = self.words.split_last() else {
-            let below = ChainRef {
-                runs: older,
-                words: self.words,
-                base: self.base,
-            };
-            return Some((RunRef::new(run, self.words), below));
-        };
-        let (words_below, words) = rest.split_at(rest.len() - *count as usize);
         let below = ChainRef {
             runs: older,
-            words: words_below,
             base: self.base,
         };
-        Some((RunRef::new(run, words), below))
+        Some((run, below))
     }
 
     /// How many runs there are, up to the greatest `u64`.
@@ -116,12 +86,6 @@ impl<'a, V, A: Allocator + Copy> ChainRef<'a, V, A> {
 // For how many runs more a chain gets room where it has none left. A page is replaced before it has many.
 const MORE_RUNS: usize = 4;
 
-// Up to so many runs are searched themselves: their words would save little.
-const FEW_RUNS: usize = 4;
-
-// For how many numbers more the list of words gets room at least.
-const MORE_WORDS: usize = 16;
-
 impl<V, A: Allocator + Copy> Chain<V, A> {
     /// A base without runs.
     pub fn of_base(base: Base<V, A>) -> Self
@@ -129,13 +93,7 @@ impl<V, A: Allocator + Copy> Chain<V, A> {
     {
         let fewest = base.len();
         let runs = Vec::new(base.alloc());
-        let words = Vec::new(base.alloc());
-        Chain {
-            base,
-            runs,
-            words,
-            fewest,
-        }
+        Chain { base, runs, fewest }
     }
 
     /// How many runs there are, up to the greatest `u64`.
@@ -169,7 +127,6 @@ impl<V, A: Allocator + Copy> Chain<V, A> {
     {
         ChainRef {
             runs: &self.runs,
-            words: &self.words,
             base: &self.base,
         }
     }
@@ -214,14 +171,13 @@ impl<V: Drop, A: Allocator + Copy> Chain<V, A> {
         ensures err { OnErr result (self.new ≡ self.old) }
         ensures back { IfErr result (λ e. e.1 ≡ run) }
     {
-        if let Err(refused) = make_room(&mut self.runs, 1, MORE_RUNS) {
+        if let Err(refused) = make_room(&mut self.runs) {
             return Err((refused, run));
         }
         // A change takes one entry away at most.
         let taken = run.len();
         self.fewest = self.fewest.saturating_sub(taken);
         self.runs.push_reserved(run);
-        keep_words(&mut self.words, &self.runs);
         Ok(())
     }
 
@@ -232,8 +188,6 @@ impl<V: Drop, A: Allocator + Copy> Chain<V, A> {
         let run = self.runs.pop()?;
         // A change had added one entry at most.
         let added = run.len();
-        let left = self.words.len().saturating_sub(added).saturating_sub(1);
-        self.words.truncate(left);
         self.fewest = self.fewest.saturating_sub(added);
         Some(run)
     }
@@ -274,72 +228,20 @@ impl<V: Cell<A> + Drop, A: Allocator + Copy> Chain<V, A> {
     }
 }
 
-// Makes room for so many items more, if there isn't; for at least these many then. The list is made anew and not grown where it is: for
-// that the C library locks the heap of the thread that made it, which other workers may be using.
-fn make_room<T: Drop, A: Allocator + Copy>(
-    items: &mut Vec<T, A>,
-    more: usize,
-    least: usize,
-) -> Result<(), AllocError>
-    ensures kept { items.new.items ≡ items.old.items }
-    ensures room { OnOk result (vec_len items.new + more ≤ vec_capacity items.new) }
+// Makes room for another run, if there is none. The list is made anew and not grown where it is: for that the C library locks the heap of
+// the thread that made it, which other workers may be using.
+fn make_room<V: Drop, A: Allocator + Copy>(runs: &mut Vec<Run<V, A>, A>) -> Result<(), AllocError>
+    ensures kept { runs.new.items ≡ runs.old.items }
+    ensures room { OnOk result (vec_len runs.new < vec_capacity runs.new) }
 {
-    if items.capacity() - items.len() < more {
-        let Some(room) = items.len().checked_add(more.max(least)) else {
-            return Err(AllocError);
-        };
-        let mut longer = Vec::with_capacity(*items.allocator(), room)?;
-        longer.append(items)?;
-        *items = longer;
+    if runs.len() == runs.capacity() {
+        let mut longer = Vec::with_capacity(
+            *runs.allocator(),
+            runs.len().saturating_add(MORE_RUNS),
+        )?;
+        longer.append(runs)?;
+        *runs = longer;
     }
-    Ok(())
-}
-
-// Puts the words of the newest of these runs behind the others, or those of all runs, where none are kept and there are more than a
-// few. Where memory is refused none are kept any more.
-fn keep_words<V, A: Allocator + Copy>(words: &mut Vec<u64, A>, runs: &[Run<V, A>])
-    requires { AreKeptWords words.old.items (keys_from_newest (take (length runs.now - 1) runs.now)) }
-    ensures { AreKeptWords words.new.items (keys_from_newest runs.now) }
-{
-    let count = runs.len();
-    if words.len() > 0 {
-        push_words_from(words, runs, count.saturating_sub(1));
-    } else if count > FEW_RUNS {
-        push_words_from(words, runs, 0);
-    }
-}
-
-// Puts the words of the runs from this place on behind the others, which are those of the runs before it. Where memory is refused none
-// are kept any more.
-fn push_words_from<V, A: Allocator + Copy>(words: &mut Vec<u64, A>, runs: &[Run<V, A>], from: usize)
-    requires within { from ≤ length runs.now }
-    requires before { AreWordsUnder words.old.items (keys_from_newest (take from runs.now)) }
-    ensures { AreKeptWords words.new.items (keys_from_newest runs.now) }
-{
-    for at in from..runs.len() {
-        if let Err(_) = push_words(words, &runs[at]) {
-            words.clear();
-            return;
-        }
-    }
-}
-
-// Puts the words of the run's keys behind the others, and their number behind them.
-fn push_words<V, A: Allocator + Copy>(
-    words: &mut Vec<u64, A>,
-    run: &Run<V, A>,
-) -> Result<(), AllocError>
-    ensures { OnOk result (HasRunBehind words.old.items words.new.items (keys_of run.now)) }
-{
-    let count = run.len();
-    let Some(numbers) = count.checked_add(1) else {
-        return Err(AllocError);
-    };
-    make_room(words, numbers, MORE_WORDS)?;
-    for at in 0..count {
-        words.push_reserved(run.key_ref(at).word());
-    }
-    words.push_reserved(count as u64);
     Ok(())
 }
 
@@ -353,7 +255,6 @@ fn swap_in_runs<V: Drop, A: Allocator + Copy>(
     ensures cell { (base : List (Bytes × V)) → unwrap_or (held_under key.now (reverse runs.old) base) cell.old ≡
         (if result then cell.new else unwrap_or (value_at key.now base) cell.old) }
     ensures kept { result ≡ false → cell.new ≡ cell.old }
-    ensures keys { map keys_of runs.new ≡ map keys_of runs.old }
     ensures count { length runs.new ≡ length runs.old }
     ensures page { (base : List (Bytes × V)) → exchanged_under key.now cell.old (reverse runs.old) base ≡
         record { runs = reverse runs.new; base = if result then base else (exchanged_under key.now cell.old [] base).base } }

@@ -1,14 +1,12 @@
-ghost use Rattle.std.specs.Prelude.{◌≡◌, ◌<◌, List, length, slice_get, Some};
+ghost use Rattle.std.specs.Prelude.{◌≡◌, ◌<◌, List, length, slice_get};
 ghost use Rattle.std.specs.Map.{keys_of};
 ghost use Rattle.keys.specs.Bytes.{Bytes};
-ghost use Rattle.keys.specs.Order.{order, AreRisingKeys};
+ghost use Rattle.keys.specs.Order.{AreRisingKeys};
 
 use crate::base::Base;
 use crate::run::Run;
-use crate::run_ref::RunRef;
 use keys::KeyRef;
 use std::alloc::Allocator;
-use std::cmp::Ordering;
 
 /// A list of strictly rising keys that is read by place, so that search is written once for every such list.
 pub trait KeyList {
@@ -24,10 +22,10 @@ pub trait KeyList {
         requires { at < length (keys self.now) }
         ensures { slice_get (keys self.now) at ≡ Some result.now };
 
-    /// How the key at this place, counted from 0, stands to the other.
-    fn compare_at(&self, at: usize, key: &KeyRef<'_>) -> Ordering
+    /// The key at this place, counted from 0, with what tells it apart from others at a glance.
+    fn key_ref(&self, at: usize) -> KeyRef<'_>
         requires { at < length (keys self.now) }
-        ensures { (k : Bytes) → slice_get (keys self.now) at ≡ Some k → result ≡ order k key.now };
+        ensures { slice_get (keys self.now) at ≡ Some result };
 }
 
 impl<V, A: Allocator + Copy> KeyList for Base<V, A> {
@@ -41,8 +39,8 @@ impl<V, A: Allocator + Copy> KeyList for Base<V, A> {
         Base::key(self, at)
     }
 
-    fn compare_at(&self, at: usize, key: &KeyRef<'_>) -> Ordering {
-        KeyRef::new(Base::key(self, at)).compare(key)
+    fn key_ref(&self, at: usize) -> KeyRef<'_> {
+        KeyRef::new(Base::key(self, at))
     }
 }
 
@@ -57,23 +55,7 @@ impl<V, A: Allocator + Copy> KeyList for Run<V, A> {
         Run::key(self, at)
     }
 
-    fn compare_at(&self, at: usize, key: &KeyRef<'_>) -> Ordering {
-        Run::key_ref(self, at).compare(key)
-    }
-}
-
-impl<'a, V, A: Allocator + Copy> KeyList for RunRef<'a, V, A> {
-    ghost keys = { keys_of };
-
-    fn len(&self) -> usize {
-        RunRef::len(self)
-    }
-
-    fn key(&self, at: usize) -> &[u8] {
-        self.run().key(at)
-    }
-
-    fn compare_at(&self, at: usize, key: &KeyRef<'_>) -> Ordering {
-        RunRef::compare_at(self, at, key)
+    fn key_ref(&self, at: usize) -> KeyRef<'_> {
+        Run::key_ref(self, at)
     }
 }

@@ -11,7 +11,6 @@ pub mod laws;
 mod merging;
 pub mod pairs;
 pub mod run;
-pub mod run_ref;
 
 pub use crate::base::Base;
 pub use crate::builder::{BaseBuilder, PushError};
@@ -19,4 +18,3 @@ pub use crate::chain::{Chain, ChainRef};
 pub use crate::key_list::KeyList;
 pub use crate::pairs::{Pairs, copied_base};
 pub use crate::run::Run;
-pub use crate::run_ref::RunRef;

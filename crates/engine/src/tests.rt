@@ -130,8 +130,7 @@ static ROWS: [Row; 17] = [
             1 low=c log=No leaf runs=1: ca=9 d=4 e=5\n\
             2 low= log=No index runs=0: =0 c=1\n",
     },
-    // More runs than are searched without the words of their keys: of keys with the same first eight bytes, of one that has no other, and of
-    // others; of one change, of two and of three.
+    // Many runs: of keys with the same first eight bytes, of one that has no other, and of others; of one change, of two and of three.
     Row {
         name: "many runs",
         settings: V,

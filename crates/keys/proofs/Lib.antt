@@ -8,4 +8,4 @@ pub mod RangeLemmas
 mod Rows
 pub mod RunLemmas
 mod SettingsRows
-pub mod WordLemmas
+mod WordLemmas

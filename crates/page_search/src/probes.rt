@@ -1,8 +1,6 @@
-ghost use Rattle.std.specs.Prelude.{◌≡◌, ◌+◌, ◌≤◌, ◌<◌, length, min, slice_get, Some};
-ghost use Rattle.keys.specs.Bytes.{Bytes};
+ghost use Rattle.std.specs.Prelude.{◌≡◌, ◌+◌, ◌≤◌, min};
 ghost use Rattle.keys.specs.Order.{order};
 
-use delta_chain::KeyList;
 use keys::KeyRef;
 use std::cmp::Ordering;
 use std::marker::Model;
@@ -45,16 +43,5 @@ impl Probes {
     {
         self.compared = self.compared.saturating_add(1);
         one.compare(other)
-    }
-
-    /// How the key at this place of the list, counted from 0, stands to the other. It is one comparison more.
-    pub fn compare_at<L: KeyList>(&mut self, list: &L, at: usize, key: &KeyRef<'_>) -> Ordering
-        requires { at < length (L.keys list.now) }
-        ensures order { (k : Bytes) → slice_get (L.keys list.now) at ≡ Some k → result ≡ order k key.now }
-        ensures counted { self.new ≡ min (self.old + 1) u64.MAX }
-        ensures kept { self.old ≤ self.new }
-    {
-        self.compared = self.compared.saturating_add(1);
-        list.compare_at(at, key)
     }
 }

@@ -41,9 +41,9 @@ pub fn find<'a, V, A: Allocator + Copy>(
     ensures kept { probes.old ≤ probes.new }
 {
     let mut rest = chain.lent();
-    while let Some((list, below)) = rest.newest_ref() {
-        match place(&list, key, probes) {
-            Ok(at) => return list.run().change(at),
+    while let Some((run, below)) = rest.newest() {
+        match place(run, key, probes) {
+            Ok(at) => return run.change(at),
             Err(_) => rest = below,
         }
     }
@@ -81,7 +81,7 @@ pub fn place<L: KeyList>(list: &L, key: &[u8], probes: &mut Probes) -> Result<us
     let mut high = list.len();
     while low < high {
         let middle = low + (high - low) / 2;
-        match probes.compare_at(list, middle, &key) {
+        match probes.compare(&list.key_ref(middle), &key) {
             Ordering::Less => low = middle + 1,
             Ordering::Equal => return Ok(middle),
             Ordering::Greater => high = middle,

@@ -4,13 +4,13 @@ use Rattle.page_search.specs.Costs.{find_cost, find_least}
 use Rattle.page_search.proofs.search.find.Given as goal
 
 -- no run so far names the key: what is left holds what the page holds, and costs what is left
-abbrev pub invariant-loop-list : goal.invariant-loop-list
-invariant-loop-list g l = record {
+abbrev pub invariant-loop-run : goal.invariant-loop-run
+invariant-loop-run g l = record {
   value : holds l.rest l.key ≡ holds l.chain l.key;
   cost : l.probes + find_cost l.key l.rest ≤ l.fn.probes + find_cost l.key l.chain;
   least : min (l.fn.probes + find_least l.key l.chain) 18446744073709551615 ≤ min (l.probes + find_least l.key l.rest) 18446744073709551615;
   kept : l.fn.probes ≤ l.probes;
 }
 
-abbrev pub decreases-loop-list : goal.decreases-loop-list
-decreases-loop-list g l = length l.rest.runs
+abbrev pub decreases-loop-run : goal.decreases-loop-run
+decreases-loop-run g l = length l.rest.runs

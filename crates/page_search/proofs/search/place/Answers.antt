@@ -1,15 +1,9 @@
-use Rattle.std.specs.Prelude.{List, [], length, slice_get, slice_index_or}
 use Rattle.std.proofs.Common.{◌≡◌, ℕ, ◌+◌, ◌-◌, ◌/◌, ◌<◌, ◌≤◌, Some, sym, ap, ◌∙◌, arith}
-use Rattle.std.proofs.lemmas.Option.{slice_get-get_or}
 use Rattle.keys.proofs.MapLemmas.{same_key, flipped_greater}
 use Rattle.page_search.specs.Digits.{binary_digits}
 use Rattle.page_search.proofs.DigitLemmas.{binary_digits-zero, binary_digits-half, binary_digits-twice}
 use Rattle.page_search.proofs.PlaceLemmas.{below-through, above-onward}
 use Rattle.page_search.proofs.search.place.Goals as goal
-
--- a key stands at each place
-key_there : (ks : List (List ℕ)) (at : ℕ) → at < length ks → (k : List ℕ) × (slice_get ks at ≡ Some k)
-key_there ks at l = (slice_index_or ks at [], slice_get-get_or ks at [] l)
 
 -- what is left behind the middle, and what is left before it, has a digit less
 digits_behind : (low high : ℕ) → low < high → binary_digits (high - (low + (high - low) / 2 + 1)) + 1 ≤ binary_digits (high - low)
@@ -26,39 +20,33 @@ gaps_before : (low high : ℕ) → low < high → binary_digits ((high - low + 1
 gaps_before low high l = binary_digits-twice ((low + (high - low) / 2 - low + 1) / 2) ((high - low + 1) / 2) (omega arith)
 
 pub loop-low-preserved-in-Less : goal.loop-low-preserved-in-Less
-loop-low-preserved-in-Less g c =
-    let k = key_there (g.L.KeyList.keys c.args.list.now) (c.loop-low.low + (c.loop-low.high - c.loop-low.low) / 2) (omega (arith, c.loop-low-test.true, c.loop-low.invariant.within)) in
-    record {
-      ordered = omega arith;
-      within = c.loop-low.invariant.within;
-      below = below-through _ _ _ _ c.len-high.ensures.rising k.1 (sym (c.in-Less.ensures.order k.0 k.1));
-      above = c.loop-low.invariant.above;
-      cost = omega (arith, c.compare_at.ensures.counted, digits_behind c.loop-low.low c.loop-low.high c.loop-low-test.true);
-      least = omega (arith, c.compare_at.ensures.counted, gaps_behind c.loop-low.low c.loop-low.high c.loop-low-test.true);
-      kept = omega (arith, c.compare_at.ensures.kept);
-    }
+loop-low-preserved-in-Less g c = record {
+  ordered = omega arith;
+  within = c.loop-low.invariant.within;
+  below = below-through _ _ _ _ c.len-high.ensures.rising c.key_ref.ensures (sym c.in-Less.ensures.order);
+  above = c.loop-low.invariant.above;
+  cost = omega (arith, c.compare.ensures.counted, digits_behind c.loop-low.low c.loop-low.high c.loop-low-test.true);
+  least = omega (arith, c.compare.ensures.counted, gaps_behind c.loop-low.low c.loop-low.high c.loop-low-test.true);
+  kept = omega (arith, c.compare.ensures.kept);
+}
 
 pub returns-in-Equal-clause-place : goal.returns-in-Equal-clause-place
-returns-in-Equal-clause-place g c =
-    let k = key_there (g.L.KeyList.keys c.args.list.now) (c.loop-low.low + (c.loop-low.high - c.loop-low.low) / 2) (omega (arith, c.loop-low-test.true, c.loop-low.invariant.within)) in
-    k.1 ∙ ap Some (same_key _ _ (sym (c.in-Equal.ensures.order k.0 k.1)) ∙ c.new-key.ensures)
+returns-in-Equal-clause-place g c = c.key_ref.ensures ∙ ap Some (same_key _ _ (sym c.in-Equal.ensures.order) ∙ c.new-key.ensures)
 
 pub returns-in-Equal-clause-cost : goal.returns-in-Equal-clause-cost
 returns-in-Equal-clause-cost g c =
-    omega (arith, c.compare_at.ensures.counted, digits_before c.loop-low.low c.loop-low.high c.loop-low-test.true)
+    omega (arith, c.compare.ensures.counted, digits_before c.loop-low.low c.loop-low.high c.loop-low-test.true)
 
 pub loop-low-preserved : goal.loop-low-preserved
-loop-low-preserved g c =
-    let k = key_there (g.L.KeyList.keys c.args.list.now) (c.loop-low.low + (c.loop-low.high - c.loop-low.low) / 2) (omega (arith, c.loop-low-test.true, c.loop-low.invariant.within)) in
-    record {
-      ordered = omega arith;
-      within = omega arith;
-      below = c.loop-low.invariant.below;
-      above = above-onward _ _ _ _ c.len-high.ensures.rising k.1 (flipped_greater k.0 c.new-key.result (sym (c.in-Greater.ensures.order k.0 k.1)));
-      cost = omega (arith, c.compare_at.ensures.counted, digits_before c.loop-low.low c.loop-low.high c.loop-low-test.true);
-      least = omega (arith, c.compare_at.ensures.counted, gaps_before c.loop-low.low c.loop-low.high c.loop-low-test.true);
-      kept = omega (arith, c.compare_at.ensures.kept);
-    }
+loop-low-preserved g c = record {
+  ordered = omega arith;
+  within = omega arith;
+  below = c.loop-low.invariant.below;
+  above = above-onward _ _ _ _ c.len-high.ensures.rising c.key_ref.ensures (flipped_greater c.key_ref.result c.new-key.result (sym c.in-Greater.ensures.order));
+  cost = omega (arith, c.compare.ensures.counted, digits_before c.loop-low.low c.loop-low.high c.loop-low-test.true);
+  least = omega (arith, c.compare.ensures.counted, gaps_before c.loop-low.low c.loop-low.high c.loop-low-test.true);
+  kept = omega (arith, c.compare.ensures.kept);
+}
 
 pub returns-clause-least : goal.returns-clause-least
 returns-clause-least g c =

@@ -1,12 +1,7 @@
-use Rattle.std.proofs.Common.{arith}
 use Rattle.delta_chain.proofs.RunList.{counted-pop}
-use Rattle.delta_chain.proofs.WordsUnder.{left-pop}
 use Rattle.delta_chain.proofs.chain.Chain.pop.Goals as goal
 
 pub invariant_of-self-2 : goal.invariant_of-self-2
-invariant_of-self-2 g c = record {
-  counted = counted-pop c.self.inside.runs.items c.pop.new.self.items c.in_ok-run.run' c.self.inside.base c.len-added.result c.self.inside.fewest c.saturating_sub-self-inside.result
-      c.in_ok-run.ensures.items c.len-added.ensures.count c.saturating_sub-self-inside.ensures c.self.invariant.counted;
-  run_words = rw c.truncate.ensures.items (left-pop c.self.inside.runs.items c.pop.new.self.items c.in_ok-run.run' c.self.inside.words.items _ c.in_ok-run.ensures.items
-      (omega (arith, c.saturating_sub-left.ensures, c.saturating_sub.ensures, c.len.ensures, c.len-added.ensures.count, c.self.inside.words.ok.0)) c.self.invariant.run_words);
-}
+invariant_of-self-2 g c =
+    counted-pop c.self.inside.runs.items c.pop.new.self.items c.in_ok-run.run' c.self.inside.base c.len-added.result c.self.inside.fewest c.saturating_sub-self-inside.result
+    c.in_ok-run.ensures.items c.len-added.ensures.count c.saturating_sub-self-inside.ensures c.self.invariant

@@ -1,17 +1,10 @@
 use Rattle.delta_chain.proofs.RunList.{counted-push, page-push}
-use Rattle.delta_chain.proofs.WordsUnder.{kept-before}
 use Rattle.delta_chain.proofs.chain.Chain.prepend.Goals as goal
 
-pub keep_words-requires : goal.keep_words-requires
-keep_words-requires g c =
-    rw c.deref.ensures.value (kept-before c.self.inside.runs.items c.push_reserved.new.self.items c.args.run c.self.inside.words.items (rw (← c.make_room.ensures.kept) c.push_reserved.ensures.items) c.self.invariant.run_words)
-
 pub invariant_of-self-2 : goal.invariant_of-self-2
-invariant_of-self-2 g c = record {
-  counted = counted-push c.self.inside.runs.items c.push_reserved.new.self.items c.args.run c.self.inside.base c.len-taken.result c.self.inside.fewest c.saturating_sub-self-inside.result
-      (rw (← c.make_room.ensures.kept) c.push_reserved.ensures.items) c.len-taken.ensures.rising c.len-taken.ensures.count c.saturating_sub-self-inside.ensures c.self.invariant.counted;
-  run_words = rw (← c.deref.ensures.value) c.keep_words.ensures;
-}
+invariant_of-self-2 g c =
+    counted-push c.self.inside.runs.items c.push_reserved.new.self.items c.args.run c.self.inside.base c.len-taken.result c.self.inside.fewest c.saturating_sub-self-inside.result
+    (rw (← c.make_room.ensures.kept) c.push_reserved.ensures.items) c.len-taken.ensures.rising c.len-taken.ensures.count c.saturating_sub-self-inside.ensures c.self.invariant
 
 pub returns-clause-ok : goal.returns-clause-ok
 returns-clause-ok g c =
