@@ -1,10 +1,8 @@
 -- The way back from a base to the page whose cells were moved into it.
-use Rattle.std.specs.Prelude.{[], ◌∷◌}
 use Rattle.keys.specs.Bytes.{Pairs}
-use Rattle.delta_chain.specs.Exchange.{exchanged}
 use Rattle.delta_chain.specs.Layers.{Layers}
+use Rattle.delta_chain.specs.Trades.{page_back}
 
--- a page with each of these cells in the place of the one that it has at the key, the last first
+-- a page with the base's cells back in their places, list by list from the newest run down
 abbrev pub put_back : {V : Type 0} → Layers V → Pairs V → Layers V
-put_back p [] = p
-put_back p (e ∷ es) = exchanged (put_back p es) e.0 e.1
+put_back p base = (page_back p base).0

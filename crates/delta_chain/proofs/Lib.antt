@@ -12,3 +12,4 @@ pub mod Places
 pub mod Rising
 mod RunList
 pub mod Setting
+pub mod Trading

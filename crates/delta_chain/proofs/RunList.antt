@@ -1,25 +1,20 @@
 -- The list of a chain's runs, the oldest first, and the page that they make.
-use Rattle.std.specs.Prelude.{◌≡◌, ℕ, zero, suc, ◌+◌, ◌-◌, ◌≤◌, Bool, if◌then◌else◌, List, [], ◌∷◌, ◌++◌, length, take, reverse, slice_get, Option, Some, None}
+use Rattle.std.specs.Prelude.{◌≡◌, ℕ, zero, suc, ◌+◌, ◌-◌, ◌≤◌, List, [], ◌∷◌, ◌++◌, length, take, reverse, slice_get, Some}
 use Rattle.std.proofs.Common.{refl, sym, ap, ◌∙◌, arith}
-use Rattle.std.specs.Map.{keys_of, values_of}
-use Rattle.std.specs.Option.{unwrap_or}
 use Rattle.std.proofs.lemmas.List.{reverse-append, take_all, take_at}
 use Rattle.keys.specs.Bytes.{Changes}
 use Rattle.keys.specs.Order.{IsRising}
-use Rattle.keys.specs.OrderedMap.{value_at}
-use Rattle.delta_chain.specs.Exchange.{exchanged_at, in_place_of, exchanged, exchanged_under}
-use Rattle.delta_chain.specs.Layers.{Layers, held_under, entries_under}
+use Rattle.delta_chain.specs.Layers.{Layers, entries_under}
 use Rattle.delta_chain.specs.Merging.{said_by, overlaid}
 use Rattle.delta_chain.specs.Counted.{IsCounted}
 use Rattle.delta_chain.proofs.Counts.{least_with_run, still_fewest}
-use Rattle.delta_chain.proofs.Exchanging.{exchanged-run, held-run, counted_exchanged}
 
 module _ {T : Type 0} where
   -- what is put behind the others is the first from behind
   pub reverse-behind : (xs : List T) (x : T) → reverse (xs ++ x ∷ []) ≡ x ∷ reverse xs
   reverse-behind xs x = reverse-append xs (x ∷ [])
 
-  take-behind : (xs : List T) (at : ℕ) (x : T) → slice_get xs at ≡ Some x → take (suc at) xs ≡ take at xs ++ x ∷ []
+  pub take-behind : (xs : List T) (at : ℕ) (x : T) → slice_get xs at ≡ Some x → take (suc at) xs ≡ take at xs ++ x ∷ []
   take-behind [] at x h = absurd (cc)
   take-behind (y ∷ xs) zero x h = let s : y ≡ x = cc in ap (λ (z : T). z ∷ []) s
   take-behind (y ∷ xs) (suc at) x h = ap (λ (zs : List T). y ∷ zs) (take-behind xs at x h)
@@ -68,47 +63,3 @@ module _ {V : Type 0} where
 
   pub said-all : (runs : List (Changes V)) (at : ℕ) (changes : Changes V) → length runs ≤ at → changes ≡ said_by (reverse (take at runs)) → changes ≡ said_by (reverse runs)
   said-all runs at changes l h = h ∙ ap (λ (m : List (Changes V)). said_by (reverse m)) (take_all at runs l)
-
-  -- ---- a cell exchanged in the newest run that names the key
-
-  abbrev Base : List (List ℕ × V) → Layers V
-  Base base = record { runs = []; base = base }
-
-  -- in the newest one
-  pub cell-newest : (runs older : List (Changes V)) (run : Changes V) (at : ℕ) (k : List ℕ) (v now : V) → runs ≡ older ++ run ∷ [] → IsRising run → slice_get (keys_of run) at ≡ Some k
-      → ((o : Option V) → slice_get (values_of run) at ≡ Some o → now ≡ unwrap_or o v) → (base : List (List ℕ × V)) → unwrap_or (held_under k (reverse runs) base) v ≡ now
-  cell-newest runs older run at k v now i r h f base =
-      rw (i, reverse-behind older run) (sym (held-run run at k (held_under k (reverse older) base) v now r h f))
-
-  pub page-newest : (runs older : List (Changes V)) (run now : Changes V) (at : ℕ) (k : List ℕ) (v : V) → runs ≡ older ++ run ∷ [] → IsRising run → slice_get (keys_of run) at ≡ Some k
-      → ((o : Option V) → slice_get (values_of run) at ≡ Some o → now ≡ exchanged_at run at (in_place_of o v)) → (base : List (List ℕ × V)) → exchanged_under k v (reverse runs) base ≡ Page (older ++ now ∷ []) base
-  page-newest runs older run now at k v i r h f base =
-      rw (i, reverse-behind older run, reverse-behind older now) (sym (exchanged-run run now (Page older base) at k v r h f))
-
-  -- below one that doesn't name the key
-  pub cell-older : (runs older : List (Changes V)) (run : Changes V) (k : List ℕ) (v now : V) (b : Bool) → runs ≡ older ++ run ∷ [] → value_at k run ≡ None
-      → ((base : List (List ℕ × V)) → unwrap_or (held_under k (reverse older) base) v ≡ (if b then now else unwrap_or (value_at k base) v))
-      → (base : List (List ℕ × V)) → unwrap_or (held_under k (reverse runs) base) v ≡ (if b then now else unwrap_or (value_at k base) v)
-  cell-older runs older run k v now b i h f base = rw (i, reverse-behind older run, h) (f base)
-
-  pub page-older : (runs older after : List (Changes V)) (run : Changes V) (k : List ℕ) (v : V) (b : Bool) → runs ≡ older ++ run ∷ [] → value_at k run ≡ None
-      → ((base : List (List ℕ × V)) → exchanged_under k v (reverse older) base ≡ record { runs = reverse after; base = if b then base else (exchanged_under k v [] base).base })
-      → (base : List (List ℕ × V)) → exchanged_under k v (reverse runs) base ≡ record { runs = reverse (after ++ run ∷ []); base = if b then base else (exchanged_under k v [] base).base }
-  page-older runs older after run k v b i h f base =
-      rw (i, reverse-behind older run, reverse-behind after run, h)
-      (ap (λ (p : Layers V). record { runs = run ∷ p.runs; base = p.base }) (f base))
-
-  -- ---- in a chain, whose list of runs is what was left of it
-
-  pub page-run : (runs after items : List (Changes V)) (base : List (List ℕ × V)) (k : List ℕ) (v : V) → items ≡ after → exchanged_under k v (reverse runs) base ≡ Page after base → Page items base ≡ exchanged (Page runs base) k v
-  page-run runs after items base k v s h = rw s (sym h)
-
-  -- none of the runs names the key: in the base, or nowhere
-  pub page-base : (runs after items : List (Changes V)) (base now : List (List ℕ × V)) (k : List ℕ) (v : V) → items ≡ after → exchanged_under k v (reverse runs) base ≡ record { runs = reverse after; base = (exchanged_under k v [] base).base }
-      → Base now ≡ exchanged (Base base) k v → Page items now ≡ exchanged (Page runs base) k v
-  page-base runs after items base now k v s h e =
-      let is : now ≡ (exchanged_under k v [] base).base = ap (λ (p : Layers V). p.base) e in
-      rw (s, is) (sym h)
-
-  pub still_counted : (old now : Layers V) (k : List ℕ) (v : V) (fewest : ℕ) → now ≡ exchanged old k v → IsCounted old fewest → IsCounted now fewest
-  still_counted old now k v fewest e h = rw e (counted_exchanged old k v fewest h)

@@ -6,3 +6,4 @@ pub mod Layers
 pub mod Lent
 pub mod Merging
 pub mod Packed
+pub mod Trades

@@ -1,9 +1,11 @@
-ghost use Rattle.std.specs.Prelude.{◌≡◌, ◌<◌, ◌≤◌, ◌∷◌, ◌++◌, [], true, length, slice_get, Some, None, IfOk, IfSome, MatchOption, OnOk, OnErr};
+ghost use Rattle.std.specs.Prelude.{◌≡◌, ◌<◌, ◌≤◌, ◌∷◌, ◌++◌, [], true, length, set, slice_get, Some, None, IfOk, IfSome, MatchOption, OnOk, OnErr};
 ghost use Rattle.std.specs.Map.{keys_of, values_of};
 ghost use Rattle.keys.specs.Order.{IsRising};
 ghost use Rattle.keys.specs.OrderedMap.{value_at};
 ghost use Rattle.delta_chain.specs.Building.{goes_last};
 ghost use Rattle.delta_chain.specs.Exchange.{exchanged_at};
+ghost use Rattle.delta_chain.specs.Trades.{each_on, each_back, traded_entry};
+ghost use Rattle.keys.specs.Bytes.{Bytes};
 
 use keys::compare;
 use std::alloc::{AllocError, Allocator};
@@ -121,13 +123,41 @@ impl<V, A: Allocator + Copy> Base<V, A> {
 }
 
 impl<V, A: Allocator + Copy> Base<V, A> {
-    /// Puts another cell in the place of the one that stands there, counted from 0, and gives that one back.
-    pub fn exchange(&mut self, at: usize, cell: V) -> V
-        requires { at < length self.old }
-        ensures held { slice_get (values_of self.old) at ≡ Some result }
-        ensures new { self.new ≡ exchanged_at self.old at cell }
+    // Lets each cell and the one that the other base has at its key stand in each other's place, from the first on.
+    pub(crate) fn trade_cells(&mut self, other: &mut Base<V, A>)
+        ensures { (self.new, other.new) ≡ each_on traded_entry self.old other.old }
     {
-        mem::replace(&mut self.cells[at], cell)
+        let mut guess = 0;
+        for at in 0..self.len() {
+            self.trade_cell(at, other, &mut guess);
+        }
+    }
+
+    // The same from the last on: so it undoes what that did.
+    pub(crate) fn trade_cells_back(&mut self, other: &mut Base<V, A>)
+        ensures { (self.new, other.new) ≡ each_back traded_entry self.old other.old }
+    {
+        let mut guess = 0;
+        let mut left = self.len();
+        while left > 0 {
+            left -= 1;
+            self.trade_cell(left, other, &mut guess);
+        }
+    }
+
+    // Lets the cell at this place and the one that the other base has at its key, if it has one, stand in each other's place. It is looked
+    // for at the place `guess` first; that is the place behind it afterwards.
+    fn trade_cell(&mut self, at: usize, other: &mut Base<V, A>, guess: &mut usize)
+        requires { at < length self.old }
+        ensures { (e : Bytes × V) × (slice_get self.old at ≡ Some e) ×
+            (self.new ≡ set self.old at (traded_entry e other.old).0) × (other.new ≡ (traded_entry e other.old).1) }
+    {
+        // Only for the proof: its keys rise.
+        let _rising = other.len();
+        if let Some(place) = other.place_near(*guess, self.key(at)) {
+            *guess = place.saturating_add(1);
+            other.swap_cell(place, &mut self.cells[at]);
+        }
     }
 
     // Lets the cell and the one that stands there stand in each other's place.

@@ -1,9 +1,9 @@
 ghost use Rattle.std.specs.Prelude.{◌≡◌, ◌<◌, ◌≤◌, ◌∷◌, [], false, List, length, min, reverse, vec_len, vec_capacity, if◌then◌else◌, OnOk, OnErr, IfOk, IfErr, MatchOption};
-ghost use Rattle.std.specs.Option.{unwrap_or};
+ghost use Rattle.std.specs.Map.{keys_of};
 ghost use Rattle.keys.specs.Bytes.{Bytes};
 ghost use Rattle.keys.specs.Order.{IsRising};
 ghost use Rattle.keys.specs.OrderedMap.{value_at};
-ghost use Rattle.delta_chain.specs.Exchange.{exchanged, exchanged_under};
+ghost use Rattle.delta_chain.specs.Trades.{each_on, each_back, traded_run, run_back, page_back};
 ghost use Rattle.delta_chain.specs.Layers.{Layers, holds, held_under, entries_of, depth_of, IsInOrder};
 ghost use Rattle.delta_chain.specs.Merging.{said_by};
 
@@ -192,20 +192,27 @@ impl<V: Drop, A: Allocator + Copy> Chain<V, A> {
         Some(run)
     }
 
-    /// Lets a cell and the one that the page holds at the key stand in each other's place. That one stands in the newest run that names
-    /// the key, or in the base, where it is looked for at the place `guess` first; that is the place behind it afterwards. Where the page
-    /// holds none, both stay as they are.
-    pub fn swap_cell(&mut self, key: &KeyRef<'_>, cell: &mut V, guess: &mut usize)
-        ensures cell { cell.new ≡ unwrap_or (holds self.old key.now) cell.old }
-        ensures page { self.new ≡ exchanged self.old key.now cell.old }
+    /// Lets the page's cells and those that the base has at their keys stand in each other's place, list by list: those of the page's own
+    /// base first, and then each run's, from the oldest on. So a base of the keys of the page's entries comes to have the entries.
+    pub fn trade_cells(&mut self, base: &mut Base<V, A>)
+        ensures entries { keys_of base.old ≡ keys_of (entries_of self.old) → base.new ≡ entries_of self.old }
+        ensures back { (page_back self.new base.new).0 ≡ self.old }
     {
-        if swap_in_runs(&mut self.runs, key, cell) {
-            return;
-        }
-        if let Some(at) = self.base.place_near(*guess, key.as_bytes()) {
-            *guess = at.saturating_add(1);
-            self.base.swap_cell(at, cell);
-        }
+        // Only for the proof: its keys rise.
+        let _rising = base.len();
+        // What is left of the page has as many entries. That isn't told, since the page is dropped, or put back as it was.
+        self.fewest = 0;
+        self.base.trade_cells(base);
+        trade_runs(&mut self.runs, base);
+    }
+
+    /// Undoes `trade_cells`: list by list from the newest run down.
+    pub fn trade_cells_back(&mut self, base: &mut Base<V, A>)
+        ensures { self.new ≡ (page_back self.old base.old).0 }
+    {
+        self.fewest = 0;
+        trade_runs_back(&mut self.runs, base);
+        self.base.trade_cells_back(base);
     }
 
     /// The base of a chain without runs. This undoes `of_base`.
@@ -245,30 +252,24 @@ fn make_room<V: Drop, A: Allocator + Copy>(runs: &mut Vec<Run<V, A>, A>) -> Resu
     Ok(())
 }
 
-// Lets the cell and the one that the newest of these runs that names the key has, if it has one, stand in each other's place, and
-// says whether one names the key. The runs are given the oldest first.
-fn swap_in_runs<V: Drop, A: Allocator + Copy>(
-    runs: &mut [Run<V, A>],
-    key: &KeyRef<'_>,
-    cell: &mut V,
-) -> bool
-    ensures cell { (base : List (Bytes × V)) → unwrap_or (held_under key.now (reverse runs.old) base) cell.old ≡
-        (if result then cell.new else unwrap_or (value_at key.now base) cell.old) }
-    ensures kept { result ≡ false → cell.new ≡ cell.old }
+// Lets the cells of the runs and those that the base has at their keys stand in each other's place, run by run from the first on.
+fn trade_runs<V: Drop, A: Allocator + Copy>(runs: &mut [Run<V, A>], base: &mut Base<V, A>)
+    ensures made { (runs.new, base.new) ≡ each_on traded_run runs.old base.old }
     ensures count { length runs.new ≡ length runs.old }
-    ensures page { (base : List (Bytes × V)) → exchanged_under key.now cell.old (reverse runs.old) base ≡
-        record { runs = reverse runs.new; base = if result then base else (exchanged_under key.now cell.old [] base).base } }
 {
-    let Some((newest, older)) = runs.split_last_mut() else {
-        return false;
-    };
-    // Only for the proof: its keys rise.
-    let _rising = newest.len();
-    match newest.place_of(key) {
-        Some(at) => {
-            newest.swap_cell(at, cell);
-            true
-        }
-        None => swap_in_runs(older, key, cell),
+    for at in 0..runs.len() {
+        runs[at].trade_cells(base);
+    }
+}
+
+// The same from the last on: so it undoes what that did.
+fn trade_runs_back<V: Drop, A: Allocator + Copy>(runs: &mut [Run<V, A>], base: &mut Base<V, A>)
+    ensures made { (runs.new, base.new) ≡ each_back run_back runs.old base.old }
+    ensures count { length runs.new ≡ length runs.old }
+{
+    let mut left = runs.len();
+    while left > 0 {
+        left -= 1;
+        runs[left].trade_cells_back(base);
     }
 }

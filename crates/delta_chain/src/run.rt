@@ -1,18 +1,20 @@
-ghost use Rattle.std.specs.Prelude.{◌≡◌, ◌<◌, ◌∷◌, ◌++◌, [], true, false, length, drop, slice_get, Option, Some, None, IfOk, IfSome, MatchOption, OnOk, OnErr, IsErrOf, ◌↔◌};
+ghost use Rattle.std.specs.Prelude.{◌≡◌, ◌<◌, ◌∷◌, ◌++◌, [], true, false, length, drop, set, slice_get, Option, Some, None, IfOk, IfSome, MatchOption, OnOk, OnErr, IsErrOf, ◌↔◌};
 ghost use Rattle.std.specs.Map.{keys_of, values_of};
 ghost use Rattle.std.specs.Option.{option_copied, unwrap_or};
 ghost use Rattle.keys.specs.Order.{IsRising};
 ghost use Rattle.keys.specs.OrderedMap.{value_at, with_pair};
 ghost use Rattle.keys.specs.Range.{in_range};
 ghost use Rattle.delta_chain.specs.Building.{goes_last};
-ghost use Rattle.delta_chain.specs.Exchange.{exchanged_at, in_place_of};
+ghost use Rattle.delta_chain.specs.Exchange.{exchanged_at};
+ghost use Rattle.delta_chain.specs.Trades.{traded_change, traded_run, run_back};
+ghost use Rattle.keys.specs.Bytes.{Bytes};
 
+use crate::base::Base;
 use crate::builder::PushError;
 use crate::entries::Entries;
 use keys::{Key, KeyRef};
 use std::alloc::{AllocError, Allocator};
 use std::marker::Model;
-use std::mem;
 
 /// A run of changes to a page: keys in strictly rising order, each with the cell that it has from now on, or with
 /// none where it is absent from now on. Contracts see it as the list of these pairs.
@@ -120,17 +122,43 @@ impl<V, A: Allocator + Copy> Run<V, A> {
 }
 
 impl<V: Drop, A: Allocator + Copy> Run<V, A> {
-    // Lets the cell and the one that the key at this place has, if it has one, stand in each other's place.
-    pub(crate) fn swap_cell(&mut self, at: usize, cell: &mut V)
-        requires { at < length self.old }
-        ensures cell { (o : Option V) → slice_get (values_of self.old) at ≡ Some o →
-            cell.new ≡ unwrap_or o cell.old }
-        ensures run { (o : Option V) → slice_get (values_of self.old) at ≡ Some o →
-            self.new ≡ exchanged_at self.old at (in_place_of o cell.old) }
+    // Lets each cell and the one that the base has at its key stand in each other's place, from the first on.
+    pub(crate) fn trade_cells(&mut self, base: &mut Base<V, A>)
+        ensures { (self.new, base.new) ≡ traded_run self.old base.old }
     {
-        if let Some(held) = self.changes.exchange(at, None) {
-            let mine = mem::replace(cell, held);
-            let _none = self.changes.exchange(at, Some(mine));
+        let mut guess = 0;
+        for at in 0..self.len() {
+            self.trade_cell(at, base, &mut guess);
+        }
+    }
+
+    // The same from the last on: so it undoes what that did.
+    pub(crate) fn trade_cells_back(&mut self, base: &mut Base<V, A>)
+        ensures { (self.new, base.new) ≡ run_back self.old base.old }
+    {
+        let mut guess = 0;
+        let mut left = self.len();
+        while left > 0 {
+            left -= 1;
+            self.trade_cell(left, base, &mut guess);
+        }
+    }
+
+    // Lets the cell at this place, if there is one, and the one that the base has at its key, if it has one, stand in each other's place.
+    // It is looked for at the place `guess` first; that is the place behind it afterwards.
+    fn trade_cell(&mut self, at: usize, base: &mut Base<V, A>, guess: &mut usize)
+        requires { at < length self.old }
+        ensures { (c : Bytes × Option V) × (slice_get self.old at ≡ Some c) ×
+            (self.new ≡ set self.old at (traded_change c base.old).0) × (base.new ≡ (traded_change c base.old).1) }
+    {
+        // Only for the proof: its keys rise.
+        let _rising = base.len();
+        if let Some(place) = base.place_near(*guess, self.key(at)) {
+            *guess = place.saturating_add(1);
+            if let Some(mut held) = self.changes.exchange(at, None) {
+                base.swap_cell(place, &mut held);
+                let _none = self.changes.exchange(at, Some(held));
+            }
         }
     }
 

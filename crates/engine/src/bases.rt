@@ -54,7 +54,7 @@ fn moves_and_comes_back(
     let base = take_base(alloc, chain)?;
     let moved = has(&base, &[(b"b", b"2"), (b"c", b"3")]);
     let left = becomes(alloc, chain, &[(b"b", b""), (b"c", b"")])?;
-    put_back(alloc, chain, base);
+    put_back(chain, base);
     let back = becomes(alloc, chain, &[(b"b", b"2"), (b"c", b"3")])?;
     Ok(moved && left && back)
 }

@@ -164,7 +164,7 @@ impl<'a> Work for LeafWork<'a> {
             pieces: _,
         } = done;
         let (low, chain) = page.into_leaf();
-        let (chain, _run) = way_back.undo(self.alloc, chain);
+        let (chain, _run) = way_back.undo(chain);
         LeafJob {
             page: Page::leaf(low, chain),
             page_run,

@@ -61,8 +61,7 @@ fn must_replace<V>(settings: &Settings, page: &Chain<V, Global>, run: &Run<V, Gl
     run.len() > settings.fan as usize || page.depth() >= u64::from(settings.chain)
 }
 
-// A base of the page's entries in the place of the page, whose newest run was put in front just now. Their cells are moved, or copied
-// where the page has many runs.
+// A base of the page's entries in the place of the page, whose newest run was put in front just now. Their cells are moved.
 fn replace<V: Cell<Global> + Drop>(
     alloc: Global,
     settings: &Settings,
@@ -115,11 +114,7 @@ fn popped<V: Drop>(page: Chain<V, Global>) -> (Chain<V, Global>, Run<V, Global>)
 impl<V: Cell<Global> + Drop> WayBack<V> {
     /// The page and the run of which the given page was made. Cells go back to where they were, and the run in front is taken off; no
     /// memory is taken.
-    pub(crate) fn undo(
-        self,
-        alloc: Global,
-        page: Chain<V, Global>,
-    ) -> (Chain<V, Global>, Run<V, Global>)
+    pub(crate) fn undo(self, page: Chain<V, Global>) -> (Chain<V, Global>, Run<V, Global>)
         requires { CanUndo page self }
         ensures page { result.0 ≡ page_before page self }
         ensures run { result.1 ≡ run_before page self }
@@ -132,7 +127,7 @@ impl<V: Cell<Global> + Drop> WayBack<V> {
                 husk,
             } => {
                 let mut before = husk;
-                put_back(alloc, &mut before, page.into_base());
+                put_back(&mut before, page.into_base());
                 popped(before)
             }
         }

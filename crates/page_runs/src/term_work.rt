@@ -134,7 +134,7 @@ impl Work for TermWork {
                 pid,
             }),
             Err(_refused) => {
-                let (chain, terms) = way_back.undo(self.alloc, chain);
+                let (chain, terms) = way_back.undo(chain);
                 Turn::Back(TermJob {
                     page: Page::index(low, chain, list_before),
                     pid,
@@ -152,7 +152,7 @@ impl Work for TermWork {
             pid,
         } = done;
         let (low, chain, _list_now) = page.into_index();
-        let (chain, terms) = way_back.undo(self.alloc, chain);
+        let (chain, terms) = way_back.undo(chain);
         TermJob {
             page: Page::index(low, chain, list_before),
             pid,
