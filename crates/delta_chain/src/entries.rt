@@ -7,13 +7,14 @@ ghost use Rattle.delta_chain.specs.Building.{goes_last};
 ghost use Rattle.delta_chain.specs.Exchange.{exchanged_at};
 ghost use Rattle.delta_chain.specs.Kept.{entries_kept};
 
-use keys::{Key, KeyRef};
+use keys::{Key, KeyRef, KeyWithWord};
 use std::alloc::{AllocError, Allocator};
 use std::cmp::Ordering;
 use std::marker::Model;
 use std::mem;
 
 /// Items under keys that strictly rise. One entry is kept in place, since most runs have one change, and more than one in a list.
+/// The bytes of a long key stand elsewhere, where a search mostly needn't look.
 #[derive(Drop)]
 pub(crate) struct Entries<T, A: Allocator> {
     alloc: A,
@@ -22,9 +23,9 @@ pub(crate) struct Entries<T, A: Allocator> {
 
 #[derive(Drop)]
 enum KeptEntries<T, A: Allocator> {
-    One((Key<A>, T)),
+    One((KeyWithWord<A>, T)),
     // Without capacity it takes no memory, and the first entry makes it a `One`.
-    Many(Vec<(Key<A>, T), A>),
+    Many(Vec<(KeyWithWord<A>, T), A>),
 }
 
 impl<T, A: Allocator> Model for Entries<T, A> {
@@ -89,7 +90,7 @@ impl<T, A: Allocator + Copy> Entries<T, A> {
         requires { at < length self.now }
         ensures { slice_get (keys_of self.now) at ≡ Some result }
     {
-        KeyRef::new(self.entry(at).0.as_bytes())
+        self.entry(at).0.key_ref()
     }
 
     #[inline]
@@ -101,7 +102,7 @@ impl<T, A: Allocator + Copy> Entries<T, A> {
     }
 
     #[inline]
-    fn entry(&self, at: usize) -> &(Key<A>, T)
+    fn entry(&self, at: usize) -> &(KeyWithWord<A>, T)
         requires { at < length self.now }
         ensures { slice_get self.now at ≡ Some result.now }
     {
@@ -118,7 +119,7 @@ impl<T, A: Allocator + Copy> Entries<T, A> {
             (λ at. (at ≤ length self.now) × (value_at key.now self.now ≡ None) × ((item : T) → with_pair self.now key.now item ≡ insert self.now at (key.now, item))) }
     {
         match &self.kept {
-            KeptEntries::One(entry) => match KeyRef::new(entry.0.as_bytes()).compare(key) {
+            KeptEntries::One(entry) => match entry.0.key_ref().compare(key) {
                 Ordering::Less => Err(1),
                 Ordering::Equal => Ok(0),
                 Ordering::Greater => Err(0),
@@ -128,7 +129,7 @@ impl<T, A: Allocator + Copy> Entries<T, A> {
                 if goes_last(list, key) {
                     return Err(list.len());
                 }
-                list.binary_search_by(|entry| KeyRef::new(entry.0.as_bytes()).compare(key))
+                list.binary_search_by(|entry| entry.0.key_ref().compare(key))
             }
         }
     }
@@ -139,7 +140,7 @@ impl<T, A: Allocator + Copy> Entries<T, A> {
     {
         let key = KeyRef::new(key);
         match &self.kept {
-            KeptEntries::One(entry) => KeyRef::new(entry.0.as_bytes()).compare(&key).is_lt(),
+            KeptEntries::One(entry) => entry.0.key_ref().compare(&key).is_lt(),
             KeptEntries::Many(list) => goes_last(list, &key),
         }
     }
@@ -178,6 +179,7 @@ impl<T: Drop, A: Allocator + Copy> Entries<T, A> {
     {
         let alloc = self.alloc;
         let at = self.len();
+        let key = KeyWithWord::new(key);
         self.kept.insert(alloc, at, (key, item))?;
         Ok(())
     }
@@ -189,7 +191,8 @@ impl<T: Drop, A: Allocator + Copy> Entries<T, A> {
         ensures err { OnErr result (self.new ≡ self.old) }
     {
         let alloc = self.alloc;
-        match self.search(&KeyRef::new(key.as_bytes())) {
+        let key = KeyWithWord::new(key);
+        match self.search(&key.key_ref()) {
             Ok(at) => {
                 self.kept.write(at, (key, item));
                 Ok(())
@@ -201,7 +204,7 @@ impl<T: Drop, A: Allocator + Copy> Entries<T, A> {
 
 impl<T: Drop, A: Allocator + Copy> KeptEntries<T, A> {
     // Writes the entry over the one at this place.
-    fn write(&mut self, at: usize, entry: (Key<A>, T))
+    fn write(&mut self, at: usize, entry: (KeyWithWord<A>, T))
         requires { at < length (entries_kept self.old) }
         ensures { entries_kept self.new ≡ set (entries_kept self.old) at entry }
     {
@@ -212,7 +215,7 @@ impl<T: Drop, A: Allocator + Copy> KeptEntries<T, A> {
     }
 
     // Puts the entry at this place, before those that stood from there on. Where memory is refused they stay as they are.
-    fn insert(&mut self, alloc: A, at: usize, entry: (Key<A>, T)) -> Result<(), AllocError>
+    fn insert(&mut self, alloc: A, at: usize, entry: (KeyWithWord<A>, T)) -> Result<(), AllocError>
         requires { at ≤ length (entries_kept self.old) }
         ensures ok { OnOk result (entries_kept self.new ≡ insert (entries_kept self.old) at entry) }
         ensures err { OnErr result (entries_kept self.new ≡ entries_kept self.old) }
@@ -243,11 +246,11 @@ impl<T: Drop, A: Allocator + Copy> KeptEntries<T, A> {
 
 // The list with an entry that stood alone, and with another at this place beside it. There is room for both.
 fn with_two<T, A: Allocator + Copy>(
-    mut list: Vec<(Key<A>, T), A>,
-    alone: (Key<A>, T),
+    mut list: Vec<(KeyWithWord<A>, T), A>,
+    alone: (KeyWithWord<A>, T),
     at: usize,
-    entry: (Key<A>, T),
-) -> Vec<(Key<A>, T), A>
+    entry: (KeyWithWord<A>, T),
+) -> Vec<(KeyWithWord<A>, T), A>
     requires none { list.items ≡ [] }
     requires room { 2 ≤ vec_capacity list }
     requires place { at ≤ 1 }
@@ -264,11 +267,11 @@ fn with_two<T, A: Allocator + Copy>(
 }
 
 // Whether the key is above the last one, if there is one.
-fn goes_last<T, A: Allocator + Copy>(items: &[(Key<A>, T)], key: &KeyRef<'_>) -> bool
+fn goes_last<T, A: Allocator + Copy>(items: &[(KeyWithWord<A>, T)], key: &KeyRef<'_>) -> bool
     ensures { result ≡ goes_last key.now items.now }
 {
     match items.last() {
         None => true,
-        Some(last) => KeyRef::new(last.0.as_bytes()).compare(key).is_lt(),
+        Some(last) => last.0.key_ref().compare(key).is_lt(),
     }
 }

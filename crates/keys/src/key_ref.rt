@@ -8,7 +8,9 @@ ghost use Rattle.keys.specs.Cells.{AreBytes};
 ghost use Rattle.keys.specs.Order.{order};
 ghost use Rattle.keys.specs.Words.{first_word, IsWordOf};
 
+use crate::key::Key;
 use crate::order::compare;
+use std::alloc::Allocator;
 use std::cmp::Ordering;
 use std::marker::Model;
 
@@ -121,6 +123,56 @@ impl Ord for KeyRef<'_> {
     #[inline]
     fn cmp(&self, other: &Self) -> Ordering {
         self.compare(other)
+    }
+}
+
+/// A key with its first eight bytes as a number beside it, so that a list of keys is mostly searched without a look at the
+/// bytes of each (the poor man's normalized keys of B-trees). Contracts see it as the list of its bytes.
+#[derive(Drop)]
+pub struct KeyWithWord<A: Allocator> {
+    word: u64,
+    key: Key<A>,
+}
+
+impl<A: Allocator> Model for KeyWithWord<A> {
+    ghost use Rattle.keys.specs.Bytes.{Bytes};
+    ghost use Rattle.keys.specs.Words.{IsWordOf};
+
+    ghost Value = { Bytes };
+
+    ghost view = { λ k. k.key };
+
+    ghost invariant = { λ k. IsWordOf k.word k.key };
+}
+
+impl<A: Allocator> KeyWithWord<A> {
+    /// The key, with the number that its bytes begin with.
+    pub fn new(key: Key<A>) -> Self
+        ensures { result ≡ key }
+    {
+        KeyWithWord {
+            word: first_word(key.as_bytes()),
+            key,
+        }
+    }
+
+    /// The bytes of the key.
+    #[inline]
+    pub fn as_bytes(&self) -> &[u8]
+        ensures { result.now ≡ self.now }
+    {
+        self.key.as_bytes()
+    }
+
+    /// The key, lent.
+    #[inline]
+    pub fn key_ref(&self) -> KeyRef<'_>
+        ensures { result ≡ self.now }
+    {
+        KeyRef {
+            word: self.word,
+            bytes: self.key.as_bytes(),
+        }
     }
 }
 

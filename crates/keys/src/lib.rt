@@ -23,7 +23,7 @@ pub use crate::command::{Command, Reply};
 pub use crate::fault::Fault;
 pub use crate::finding::Finding;
 pub use crate::key::Key;
-pub use crate::key_ref::KeyRef;
+pub use crate::key_ref::{KeyRef, KeyWithWord};
 pub use crate::order::{compare, is_before};
 pub use crate::pid::Pid;
 pub use crate::piece::Piece;

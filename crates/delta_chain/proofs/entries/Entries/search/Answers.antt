@@ -8,15 +8,15 @@ use Rattle.delta_chain.proofs.entries.Entries.search.Goals as goal
 
 pub returns-in-Less : goal.returns-in-Less
 returns-in-Less g c =
-    rw (← c.self.view_is, c.in-One.is) (behind_alone c.in-One.entry c.new.result c.args.key.now c.args.key.now (c.new.ensures ∙ c.as_bytes.ensures) refl c.in-Less.ensures)
+    rw (← c.self.view_is, c.in-One.is) (behind_alone c.in-One.entry c.key_ref.result c.args.key.now c.args.key.now c.key_ref.ensures refl c.in-Less.ensures)
 
 pub returns-in-Equal : goal.returns-in-Equal
 returns-in-Equal g c =
-    rw (← c.self.view_is, c.in-One.is) (found_alone c.in-One.entry c.new.result c.args.key.now c.args.key.now (c.new.ensures ∙ c.as_bytes.ensures) refl c.in-Equal.ensures)
+    rw (← c.self.view_is, c.in-One.is) (found_alone c.in-One.entry c.key_ref.result c.args.key.now c.args.key.now c.key_ref.ensures refl c.in-Equal.ensures)
 
 pub returns-in-Greater : goal.returns-in-Greater
 returns-in-Greater g c =
-    rw (← c.self.view_is, c.in-One.is) (before_alone c.in-One.entry c.new.result c.args.key.now c.args.key.now (c.new.ensures ∙ c.as_bytes.ensures) refl c.in-Greater.ensures)
+    rw (← c.self.view_is, c.in-One.is) (before_alone c.in-One.entry c.key_ref.result c.args.key.now c.args.key.now c.key_ref.ensures refl c.in-Greater.ensures)
 
 pub returns-then-goes_last : goal.returns-then-goes_last
 returns-then-goes_last g c =

@@ -12,13 +12,13 @@ write-requires g c = rw c.self.view_is c.in-Ok.ensures.0
 
 pub invariant_of-self : goal.invariant_of-self
 invariant_of-self g c =
-    let written = with_pair-found (entries_kept c.self.inside.kept) c.in-Ok.at c.args.key c.args.item c.self.invariant (rw (c.self.view_is, ← c.as_bytes.ensures, ← c.new.ensures) c.in-Ok.ensures.1) in
-    rw (c.write.ensures, ← written) (rising-with_pair (entries_kept c.self.inside.kept) c.args.key c.args.item c.self.invariant)
+    let written = with_pair-found (entries_kept c.self.inside.kept) c.in-Ok.at c.new-key.result c.args.item c.self.invariant (rw (c.self.view_is, ← c.key_ref.ensures) c.in-Ok.ensures.1) in
+    rw (c.write.ensures, ← written) (rising-with_pair (entries_kept c.self.inside.kept) c.new-key.result c.args.item c.self.invariant)
 
 pub returns-in-Ok-clause-ok : goal.returns-in-Ok-clause-ok
 returns-in-Ok-clause-ok g c =
-    let written = with_pair-found (entries_kept c.self.inside.kept) c.in-Ok.at c.args.key c.args.item c.self.invariant (rw (c.self.view_is, ← c.as_bytes.ensures, ← c.new.ensures) c.in-Ok.ensures.1) in
-    rw (c.write.ensures, ← c.self.view_is) (sym written)
+    let written = with_pair-found (entries_kept c.self.inside.kept) c.in-Ok.at c.new-key.result c.args.item c.self.invariant (rw (c.self.view_is, ← c.key_ref.ensures) c.in-Ok.ensures.1) in
+    rw (c.write.ensures, ← c.self.view_is, ← c.new-key.ensures) (sym written)
 
 -- the key goes between others
 pub insert-requires : goal.insert-requires
@@ -26,9 +26,9 @@ insert-requires g c = rw c.self.view_is c.in-Err.ensures.0
 
 pub returns-in_ok-insert-in-Err-clause-ok : goal.returns-in_ok-insert-in-Err-clause-ok
 returns-in_ok-insert-in-Err-clause-ok g c =
-    rw (c.in_ok-insert-in-Err.ensures.ok, ← c.self.view_is) (sym (rw (c.self.view_is, ← c.as_bytes.ensures, ← c.new.ensures) (c.in-Err.ensures.2 c.args.item)))
+    rw (c.in_ok-insert-in-Err.ensures.ok, ← c.new-key.ensures, ← c.self.view_is) (sym (rw (c.self.view_is, ← c.key_ref.ensures) (c.in-Err.ensures.2 c.args.item)))
 
 pub invariant_of-self-in-Err : goal.invariant_of-self-in-Err
 invariant_of-self-in-Err g c =
-    let put : with_pair (entries_kept c.self.inside.kept) c.args.key c.args.item ≡ insert (entries_kept c.self.inside.kept) c.in-Err.at (c.args.key, c.args.item) = rw (c.self.view_is, ← c.as_bytes.ensures, ← c.new.ensures) (c.in-Err.ensures.2 c.args.item) in
-    rw (c.in_ok-insert-in-Err.ensures.ok, ← put) (rising-with_pair (entries_kept c.self.inside.kept) c.args.key c.args.item c.self.invariant)
+    let put : with_pair (entries_kept c.self.inside.kept) c.new-key.result c.args.item ≡ insert (entries_kept c.self.inside.kept) c.in-Err.at (c.new-key.result, c.args.item) = rw (c.self.view_is, ← c.key_ref.ensures) (c.in-Err.ensures.2 c.args.item) in
+    rw (c.in_ok-insert-in-Err.ensures.ok, ← put) (rising-with_pair (entries_kept c.self.inside.kept) c.new-key.result c.args.item c.self.invariant)

@@ -3,7 +3,7 @@ use Rattle.delta_chain.proofs.entries.Entries.takes.Goals as goal
 
 pub returns-in-One : goal.returns-in-One
 returns-in-One g c =
-    rw (← c.self.view_is, c.in-One.is, c.is_lt.ensures, c.compare.ensures, c.new.ensures, c.as_bytes.ensures, c.new-key.ensures) refl
+    rw (← c.self.view_is, c.in-One.is, c.is_lt.ensures, c.compare.ensures, c.key_ref.ensures, c.new-key.ensures) refl
 
 pub returns-in-Many : goal.returns-in-Many
 returns-in-Many g c =
