@@ -3,7 +3,7 @@ use Rattle.std.specs.Prelude.{◌≡◌, ◌≢◌, ◌⊎◌, ℕ, Bool, true, 
 use Rattle.std.proofs.Common.{refl, sym, subst, ◌∙◌, inl}
 use Rattle.std.proofs.lemmas.List.{length-replicate}
 use Rattle.keys.specs.declared.fault.Fault.{Fault}
-use Rattle.keys.specs.declared.fault.Fault.TheVariants.{Device}
+use Rattle.keys.specs.declared.fault.Fault.TheVariants.{NoMemory, Device}
 use Rattle.flush_log.specs.Disk.{View, Lawful, Kept, Same}
 use Rattle.recovery.specs.Recovered.{IsReadOf, IsLate}
 
@@ -89,3 +89,12 @@ uncounted_on r old mid new same h = subst (λ (n : ℕ). IfErr r (IsUncounted n 
 pub uncounted_by : {X : Type 0} (r : Result X Fault) (old new : ℕ) → new ≡ old → IfErr r (IsUncounted old new)
 uncounted_by (Ok x) old new same = tt
 uncounted_by (Err fault) old new same = λ other. same
+
+pub counted_by : {X : Type 0} (r : Result X Fault) (old new : ℕ) → new ≡ old → OnOk r (new ≡ old)
+counted_by (Ok x) old new same = same
+counted_by (Err fault) old new same = tt
+
+-- where memory alone can be refused, an error is late
+pub late_by_memory : {X : Type 0} (r : Result X Fault) (old new : ℕ) → IfErr r (λ fault. fault ≡ NoMemory) → IfErr r (IsLate old new)
+late_by_memory (Ok x) old new refused = tt
+late_by_memory (Err fault) old new refused = inl refused

@@ -1,5 +1,5 @@
 -- What is read of the segments, one after the other.
-use Rattle.std.specs.Prelude.{◌≡◌, ℕ, suc, ◌+◌, ◌-◌, ◌*◌, ◌<◌, ◌≤◌, true, List, [], ◌∷◌, ◌++◌, map, length, take, drop, None, Result, Ok}
+use Rattle.std.specs.Prelude.{◌≡◌, ℕ, suc, ◌+◌, ◌-◌, ◌*◌, ◌<◌, ◌≤◌, true, List, [], ◌∷◌, ◌++◌, map, length, take, drop, None, Result, Ok, OnOk}
 use Rattle.std.proofs.Common.{refl, sym, ap, subst, ◌∙◌, inl, arith}
 use Rattle.std.proofs.lemmas.List.{map-append, take-take}
 use Rattle.keys.specs.Limits.{first_bad_field}
@@ -158,6 +158,10 @@ round-more Has More old new s head k all gs file before now upto bytes front tol
   front = front ∙ upto.front;
   found = subst More told (takes (read_earlier s before head k) upto.found);
 }
+
+-- the last segment was taken, and so the whole log
+pub last-taken : {X : Type 0} (r : Result X Fault) (Has : Told → Type 0) (told whole : Told) → told ≡ whole → OnOk r (Has told) → OnOk r (Has whole)
+last-taken r Has told whole same h = subst (λ (t : Told). OnOk r (Has t)) same h
 
 -- ---- numbers
 
