@@ -7,7 +7,5 @@ mod close;
 mod draw;
 mod open;
 mod rule;
-#[cfg(test)]
-mod tests;
 
 pub use crate::draw::{Board, Pass};

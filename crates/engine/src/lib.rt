@@ -5,6 +5,8 @@
 #[cfg(test)]
 mod bases;
 #[cfg(test)]
+mod board_rows;
+#[cfg(test)]
 mod clean_rows;
 #[cfg(test)]
 mod crash_rows;

@@ -1,5 +1,5 @@
 use Rattle.claim_board.specs.Passes.{IsPassOf}
-use Rattle.claim_board.proofs.tests.draw_here.Given as goal
+use Rattle.engine.proofs.board_rows.draw_here.Given as goal
 
 abbrev pub invariant-loop : goal.invariant-loop
 invariant-loop l = IsPassOf l.board l.worker.pass

@@ -1,7 +1,7 @@
 use Rattle.std.proofs.Common.{◌∷◌, [], Some, sym, subst}
 use Rattle.std.proofs.lemmas.List.Elements.{All-pop, All-from_recursion}
 use Rattle.claim_board.specs.Passes.{IsPassOf, IsNewPassOf}
-use Rattle.claim_board.proofs.tests.three_threads_draw_each_piece_once.Goals as goal
+use Rattle.engine.proofs.board_rows.three_threads_draw_each_piece_once.Goals as goal
 
 pub draw_all-requires-after_bounds : goal.draw_all-requires-after_bounds
 draw_all-requires-after_bounds g c κs =

@@ -1,9 +1,10 @@
-// With `rt try --test --fail-alloc N` the board that is closed early looks at what comes back from a refused `open`.
+//! Boards of pieces, drawn from by threads and closed early. With `rt try --test --fail-alloc N` the one that is closed early looks at what
+//! comes back from a refused `open`.
 ghost use Rattle.std.specs.Prelude.{◌≡◌};
 ghost use Rattle.std.specs.List.{All};
 ghost use Rattle.claim_board.specs.Passes.{IsPassOf};
 
-use crate::{Board, Pass};
+use claim_board::{Board, Pass};
 use std::alloc::{AllocError, Global};
 use std::test::Fail;
 use std::thread;
