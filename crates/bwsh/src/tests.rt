@@ -74,16 +74,28 @@ const SEVENTEEN_DELETES: &[u8] =
     b"go\ndel a\ndel b\ndel c\ndel d\ndel e\ndel f\ndel g\ndel h\ndel i\n\
     del j\ndel k\ndel l\ndel m\ndel n\ndel o\ndel p\ndel q\nverify\n";
 
+// Appends the words of a line.
+fn push_words(alloc: Global, words: &mut Vec<String>, line: &str) -> Result<(), AllocError> {
+    for word in line.split_whitespace() {
+        let word = String::from_str(alloc, word)?;
+        words.push(word)?;
+    }
+    Ok(())
+}
+
+// The words of a line.
+pub(crate) fn words_of(alloc: Global, line: &str) -> Result<Vec<String>, AllocError> {
+    let mut words = Vec::new(alloc);
+    push_words(alloc, &mut words, line)?;
+    Ok(words)
+}
+
 // The words for a store with small pages and small segments.
 fn small_store(alloc: Global) -> Result<Vec<String>, AllocError> {
-    Ok(vec![in alloc;
-        String::from_str(alloc, "--fan=4")?,
-        String::from_str(alloc, "--chain=2")?,
-        String::from_str(alloc, "--max-key=16")?,
-        String::from_str(alloc, "--max-value=16")?,
-        String::from_str(alloc, "--seg-size=256")?,
-        String::from_str(alloc, "--segments=4")?,
-    ]?)
+    words_of(
+        alloc,
+        "--fan=4 --chain=2 --max-key=16 --max-value=16 --seg-size=256 --segments=4",
+    )
 }
 
 // Seventeen puts in small pages, and these lines behind them, which print this.
@@ -153,14 +165,8 @@ const CLEANED_OUT: &[u8] = b"new\nnew\nnew\nnew\nnew\nflushed 2\nreplaced\nflush
 fn a_clean_tells_the_first_segment(rt: HostRuntime) -> Result<(), Fail> {
     let told = b"fault 11 NothingToClean\n";
     check(&rt, &[], b"put a 1\nclean\nget a\n", 4, b"new\n", told);
-    check(
-        &rt,
-        &small_store(rt.alloc())?,
-        CLEANED,
-        4,
-        CLEANED_OUT,
-        told,
-    );
+    let words = small_store(rt.alloc())?;
+    check(&rt, &words, CLEANED, 4, CLEANED_OUT, told);
     let told = b"line 1: wrong number of words\n";
     check(&rt, &[], b"clean a\n", 3, b"", told);
     Ok(())
@@ -170,14 +176,9 @@ fn a_clean_tells_the_first_segment(rt: HostRuntime) -> Result<(), Fail> {
 #[test]
 fn a_crew_changes_no_answer(rt: HostRuntime) -> Result<(), Fail> {
     let alloc = rt.alloc();
-    for crew in [
-        ["--workers=4", "--grain=1"],
-        ["--workers=64", "--grain=65535"],
-    ] {
+    for crew in ["--workers=4 --grain=1", "--workers=64 --grain=65535"] {
         let mut words = small_store(alloc)?;
-        for word in crew {
-            words.push(String::from_str(alloc, word)?)?;
-        }
+        push_words(alloc, &mut words, crew)?;
         let told = b"fault 11 NothingToClean\n";
         check(&rt, &words, CLEANED, 4, CLEANED_OUT, told);
     }
@@ -492,8 +493,7 @@ fn a_tree_grows_and_shrinks(rt: HostRuntime) -> Result<(), Fail> {
     let rest = b"value v\ndeleted\n".as_slice().repeatn(rt.alloc(), 1_000)?;
     out.extend_from_slice(&rest)?;
     check(&rt, &words, &input, 0, &out, b"");
-    words.push(String::from_str(rt.alloc(), "--workers=4")?)?;
-    words.push(String::from_str(rt.alloc(), "--grain=1")?)?;
+    push_words(rt.alloc(), &mut words, "--workers=4 --grain=1")?;
     check(&rt, &words, &input, 0, &out, b"");
     Ok(())
 }
@@ -715,7 +715,8 @@ fn a_byte_at_a_time(rt: HostRuntime) {
 fn a_long_value_is_refused(rt: HostRuntime) -> Result<(), Fail> {
     let mut put = Vec::new(rt.alloc());
     put.extend_from_slice(b"put a ")?;
-    put.extend_from_slice(&b"v".as_slice().repeatn(rt.alloc(), 256)?)?;
+    let value = b"v".as_slice().repeatn(rt.alloc(), 256)?;
+    put.extend_from_slice(&value)?;
     check(&rt, &[], &put, 0, b"new\n", b"");
     put.push(b'v')?;
     check(&rt, &[], &put, 4, b"", b"fault 3 ValueTooLong 0\n");

@@ -7,10 +7,12 @@ use std::test::Fail;
 
 // A run that takes a away and sets c to 3.
 fn run_of_two(alloc: Global) -> Result<Run<Value<Global>, Global>, PushError> {
-    let mut run = Run::with_capacity(alloc, 2)?;
-    run.push(Key::from_bytes(alloc, b"a")?, None)?;
+    let a = Key::from_bytes(alloc, b"a")?;
+    let c = Key::from_bytes(alloc, b"c")?;
     let three = Value::from_bytes(alloc, b"3")?;
-    run.push(Key::from_bytes(alloc, b"c")?, Some(three))?;
+    let mut run = Run::with_capacity(alloc, 2)?;
+    run.push(a, None)?;
+    run.push(c, Some(three))?;
     Ok(run)
 }
 
@@ -74,8 +76,10 @@ fn is_consolidated(
 // The page begins as the base a=1, b=2.
 fn is_right(alloc: Global) -> Result<bool, PushError> {
     let mut builder = BaseBuilder::with_capacity(alloc, 2, 2)?;
-    builder.push(b"a", Value::from_bytes(alloc, b"1")?)?;
-    builder.push(b"b", Value::from_bytes(alloc, b"2")?)?;
+    let one = Value::from_bytes(alloc, b"1")?;
+    builder.push(b"a", one)?;
+    let two = Value::from_bytes(alloc, b"2")?;
+    builder.push(b"b", two)?;
     let mut chain = Chain::of_base(builder.finish());
     is_consolidated(alloc, &mut chain)
 }
@@ -139,7 +143,8 @@ fn many_keys(alloc: Global) -> Result<Base<Pid, Global>, PushError> {
 
 // Whether a page that is such a base becomes one of as many entries.
 fn many_keys_stay(alloc: Global) -> Result<bool, PushError> {
-    let chain = Chain::of_base(many_keys(alloc)?);
+    let many = many_keys(alloc)?;
+    let chain = Chain::of_base(many);
     let base = consolidate(alloc, &chain)?;
     Ok(base.len() == 64)
 }

@@ -534,7 +534,8 @@ fn has_room_after_a_clean(
     let before = look(alloc, store)?;
     let head = store.clean(rt, ALONE)?;
     let is_cleaned = is_disk(store.disk().bytes(), &CLEANED_SLOTS, FULL_LOG);
-    let is_as_before = look(alloc, store)?.as_str() == before.as_str();
+    let after = look(alloc, store)?;
+    let is_as_before = after.as_str() == before.as_str();
     let sequence = store.flush(rt, ALONE)?;
     let is_refilled = is_disk(store.disk().bytes(), &REFILLED_SLOTS, REFILLED_LOG);
     Ok(head == 1 && is_cleaned && is_as_before && sequence == 20 && is_refilled)

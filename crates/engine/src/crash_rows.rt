@@ -45,7 +45,8 @@ fn play_to_stop(
     let mut disk = disk;
     disk.stop_at(call);
     let mut store = opened(Store::recover(rt, alloc, disk, ALONE))?;
-    text.push_str(play(rt, ALONE, alloc, &mut store, steps)?.as_str())?;
+    let answer = play(rt, ALONE, alloc, &mut store, steps)?;
+    text.push_str(answer.as_str())?;
     Ok(store.close())
 }
 
@@ -126,19 +127,13 @@ fn answer_after_two_stops(
     let mut text = String::new(alloc);
     let disk = disk_after(rt, alloc, &[])?;
     let disk = play_to_stop(rt, alloc, &mut text, disk, &["a=1", "flush"], 3)?;
-    let disk = write_opened(
-        rt,
-        alloc,
-        &mut text,
-        Store::recover(rt, alloc, disk.crashed(first)?, ALONE),
-    )?;
+    let crashed = disk.crashed(first)?;
+    let recovered = Store::recover(rt, alloc, crashed, ALONE);
+    let disk = write_opened(rt, alloc, &mut text, recovered)?;
     let disk = play_to_stop(rt, alloc, &mut text, disk, &["b=2", "flush"], 1)?;
-    let disk = write_opened(
-        rt,
-        alloc,
-        &mut text,
-        Store::recover(rt, alloc, disk.crashed(second)?, ALONE),
-    )?;
+    let crashed = disk.crashed(second)?;
+    let recovered = Store::recover(rt, alloc, crashed, ALONE);
+    let disk = write_opened(rt, alloc, &mut text, recovered)?;
     play_to_stop(rt, alloc, &mut text, disk, &["b=2", "flush"], 7)?;
     Ok(text)
 }

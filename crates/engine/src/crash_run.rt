@@ -79,7 +79,8 @@ fn look_at_opened(
     counts: &mut Counts,
 ) -> Result<(), Fault> {
     let mut text = String::new(alloc);
-    write_rows(&mut text, store.range(b"", None, 100)?)?;
+    let rows = store.range(b"", None, 100)?;
+    write_rows(&mut text, rows)?;
     if text.as_str() != known.flushed.as_str() {
         if is_stopped(known, &text) {
             count(&mut counts.stopped);
@@ -87,7 +88,8 @@ fn look_at_opened(
             count(&mut counts.wrong);
         }
     }
-    take_rows(&mut known.map, store.range(b"", None, 100)?)?;
+    let rows = store.range(b"", None, 100)?;
+    take_rows(&mut known.map, rows)?;
     known.flushed = text;
     known.stopped = None;
     Ok(())
@@ -104,7 +106,8 @@ fn draw_few(
     for _place in 0..next_number(state) % 8 {
         let (kind, key, digit) = draw(state, 4);
         let drawn = (kind, key % KEYS, digit);
-        batch.push(drawn_command(alloc, drawn)?)?;
+        let command = drawn_command(alloc, drawn)?;
+        batch.push(command)?;
         write_reply_of_map(letters, map, drawn)?;
     }
     Ok(batch)
@@ -293,7 +296,8 @@ fn run(rt: &(impl Threads + Sync), alloc: Global) -> Result<Counts, Fault> {
     };
     let mut state = 20_261_124;
     let disk = CrashDisk::new(alloc, LENGTH)?;
-    let mut disk = opened(Store::create(alloc, disk, EIGHT_SEGMENTS))?.close();
+    let store = opened(Store::create(alloc, disk, EIGHT_SEGMENTS))?;
+    let mut disk = store.close();
     for _round in 0..350 {
         disk = do_round(rt, alloc, disk, &mut known, &mut state, &mut counts)?;
     }

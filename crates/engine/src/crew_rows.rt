@@ -94,8 +94,10 @@ fn held_replies(
         grain: 1,
     };
     let mut store = new_store(alloc, EIGHT_SEGMENTS)?;
-    store.batch(rt, ALONE, &NoGate, &commands(alloc, row.before)?)?;
-    let replies = store.batch(rt, crew, gate, &commands(alloc, row.batch)?)?;
+    let before = commands(alloc, row.before)?;
+    store.batch(rt, ALONE, &NoGate, &before)?;
+    let batch = commands(alloc, row.batch)?;
+    let replies = store.batch(rt, crew, gate, &batch)?;
     let mut text = String::new(alloc);
     write_replies(&mut text, &replies)?;
     Ok(text)
@@ -142,7 +144,8 @@ impl Gate for Swaying {
 fn drawn_batch(alloc: Global, state: &mut u64) -> Result<Vec<Command<Global>>, Fault> {
     let mut batch = Vec::new(alloc);
     for _place in 0..next_number(state) % 48 {
-        batch.push(drawn_command(alloc, draw(state, 5))?)?;
+        let command = drawn_command(alloc, draw(state, 5))?;
+        batch.push(command)?;
     }
     Ok(batch)
 }

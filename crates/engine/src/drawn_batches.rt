@@ -102,7 +102,8 @@ fn draw_batch(
     let mut batch = Vec::new(alloc);
     for _place in 0..50 {
         let draw = draw(state, puts);
-        batch.push(drawn_command(alloc, draw)?)?;
+        let command = drawn_command(alloc, draw)?;
+        batch.push(command)?;
         write_reply_of_map(letters, map, draw)?;
     }
     Ok(batch)
@@ -143,7 +144,8 @@ fn are_answered_alike(rt: &(impl Threads + Sync), alloc: Global) -> Result<bool,
     for round in 0..80u64 {
         let puts = if round % 10 < 5 { 6 } else { 2 };
         alike &= is_answered_alike(rt, alloc, &mut store, &mut map, &mut state, puts)?;
-        alike &= store.verify(rt)?.pairs == map.len() as u128;
+        let report = store.verify(rt)?;
+        alike &= report.pairs == map.len() as u128;
     }
     Ok(alike)
 }

@@ -131,8 +131,10 @@ fn is_cleaned_again(rt: &(impl Threads + Sync), alloc: Global) -> Result<bool, F
     let mut store = store_after(rt, ALONE, alloc, &LONG_AND_Z)?;
     let pages = look(alloc, &store)?;
     let cleaned = cleaned(rt, alloc, &mut store, &pages)?;
-    let is_same = look(alloc, &store)?.as_str() == pages.as_str();
-    Ok(is_same && is_behind_clean(cleaned, told_again(rt, alloc, store)?.as_str()))
+    let same_pages = look(alloc, &store)?;
+    let told = told_again(rt, alloc, store)?;
+    let is_same = same_pages.as_str() == pages.as_str();
+    Ok(is_same && is_behind_clean(cleaned, told.as_str()))
 }
 
 // To be run with each allocation refused in turn too, by `rt try --test --fail-alloc N` for each N, in a copy where this is the only

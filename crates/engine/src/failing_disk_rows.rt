@@ -284,7 +284,8 @@ fn has_failed(
 ) -> Result<bool, AllocError> {
     let is_batch_refused = matches!(store.batch(rt, ALONE, &NoGate, &[]), Err(Fault::Failed));
     let is_flush_refused = store.flush(rt, ALONE) == Err(Fault::Failed);
-    Ok(is_batch_refused && is_flush_refused && play(rt, ALONE, alloc, store, &[])?.is_empty())
+    let answer = play(rt, ALONE, alloc, store, &[])?;
+    Ok(is_batch_refused && is_flush_refused && answer.is_empty())
 }
 
 // Whether look-ups of ranges tell these pairs, and `verify` finds nothing.
@@ -295,7 +296,8 @@ fn has_pairs(
     pairs: &str,
 ) -> Result<bool, Fault> {
     let mut text = String::new(alloc);
-    write_rows(&mut text, store.range(b"", None, 100)?)?;
+    let rows = store.range(b"", None, 100)?;
+    write_rows(&mut text, rows)?;
     store.verify(rt)?;
     Ok(text.as_str() == pairs)
 }

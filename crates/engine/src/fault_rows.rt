@@ -129,7 +129,8 @@ fn store_of(
     failing: Failing,
     written: usize,
 ) -> Result<Store<FaultDisk<Global>>, Fault> {
-    let disk = FaultDisk::new(disk_of(alloc, bytes)?, failing, written);
+    let disk = disk_of(alloc, bytes)?;
+    let disk = FaultDisk::new(disk, failing, written);
     opened(Store::recover(rt, alloc, disk, ALONE))
 }
 
@@ -145,9 +146,11 @@ fn answer_of_failing(
     let mut text = play(rt, ALONE, alloc, &mut store, row.steps)?;
     for word in ["a", "flush", "clean"] {
         text.push_str(", ")?;
-        text.push_str(play(rt, ALONE, alloc, &mut store, &[word])?.as_str())?;
+        let answer = play(rt, ALONE, alloc, &mut store, &[word])?;
+        text.push_str(answer.as_str())?;
     }
-    write_rows(&mut text, store.range(b"", None, 100)?)?;
+    let rows = store.range(b"", None, 100)?;
+    write_rows(&mut text, rows)?;
     text.push(' ')?;
     let disk = write_opened(rt, alloc, &mut text, store.reopen(rt, ALONE))?;
     text.push_str(", ")?;

@@ -488,7 +488,8 @@ pub(crate) fn batch_of(alloc: Global, word: &str) -> Result<Vec<Command<Global>>
 fn batches_of(alloc: Global, words: &[&str]) -> Result<Vec<Vec<Command<Global>>>, AllocError> {
     let mut batches = Vec::new(alloc);
     for word in words {
-        batches.push(batch_of(alloc, *word)?)?;
+        let batch = batch_of(alloc, *word)?;
+        batches.push(batch)?;
     }
     Ok(batches)
 }
@@ -713,7 +714,8 @@ fn a_disk_that_is_refused_is_handed_back(rt: HostRuntime) -> Result<(), Fail> {
         (long, SHORTEST - 1, Fault::BadSettings(Field::SegSize)),
     ];
     for (settings, len, refusal) in &rows {
-        let made = Store::create(rt.alloc(), used_disk(rt.alloc(), *len)?, *settings);
+        let disk = used_disk(rt.alloc(), *len)?;
+        let made = Store::create(rt.alloc(), disk, *settings);
         let is_handed_back = made.is_err_and(|(fault, disk)| {
             fault == *refusal && disk.bytes().len() == *len && is_old(disk.bytes())
         });
@@ -724,8 +726,9 @@ fn a_disk_that_is_refused_is_handed_back(rt: HostRuntime) -> Result<(), Fail> {
 
 #[test]
 fn a_disk_of_just_its_length_is_enough(rt: HostRuntime) -> Result<(), Fail> {
-    let made = Store::create(rt.alloc(), used_disk(rt.alloc(), SHORTEST)?, S);
-    let disk = opened(made)?.close();
+    let disk = used_disk(rt.alloc(), SHORTEST)?;
+    let store = opened(Store::create(rt.alloc(), disk, S))?;
+    let disk = store.close();
     assert_eq!(rt; disk.bytes().len(), SHORTEST);
     assert!(rt; is_disk(disk.bytes(), &[NO_SLOT, FIRST_SLOT], &[]));
     Ok(())
@@ -735,6 +738,7 @@ fn a_disk_of_just_its_length_is_enough(rt: HostRuntime) -> Result<(), Fail> {
 pub(crate) fn look<D: Disk>(alloc: Global, store: &Store<D>) -> Result<String, Fault> {
     let mut text = String::new(alloc);
     write_tree(alloc, &mut text, store.tree())?;
-    write_rows(&mut text, store.range(b"", None, 100)?)?;
+    let rows = store.range(b"", None, 100)?;
+    write_rows(&mut text, rows)?;
     Ok(text)
 }

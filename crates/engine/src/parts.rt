@@ -57,8 +57,9 @@ fn faults_print_number_name_and_what_they_carry(rt: HostRuntime) -> Result<(), F
 
 // The first entry of a page whose run says b, as a key of one byte and a pid.
 fn entry_of_a_run(alloc: Global) -> Result<Option<(u8, u64)>, PushError> {
+    let b = Key::from_bytes(alloc, b"b")?;
     let mut run = Run::with_capacity(alloc, 1)?;
-    run.push(Key::from_bytes(alloc, b"b")?, Some(Pid(2)))?;
+    run.push(b, Some(Pid(2)))?;
     let mut chain = Chain::of_base(Base::empty(alloc));
     if chain.prepend(run).is_err() {
         return Err(PushError::NoMemory);
@@ -88,11 +89,13 @@ fn are_places(
 
 // Whether a run has what was set, without a change, with one, which takes no list, and with two, set in the wrong order.
 fn changes_stay(alloc: Global) -> Result<bool, AllocError> {
+    let a = Key::from_bytes(alloc, b"a")?;
+    let b = Key::from_bytes(alloc, b"b")?;
     let mut run = Run::empty(alloc);
     let mut is_right = are_places(&run, 0, None, None);
-    run.set(Key::from_bytes(alloc, b"b")?, Some(Pid(2)))?;
+    run.set(b, Some(Pid(2)))?;
     is_right &= are_places(&run, 1, None, Some(0));
-    run.set(Key::from_bytes(alloc, b"a")?, None)?;
+    run.set(a, None)?;
     Ok(is_right && are_places(&run, 2, Some(0), Some(1)))
 }
 
@@ -154,7 +157,8 @@ fn near_and_far_pids_have_their_own_places(rt: HostRuntime) -> Result<(), Fail> 
 
 // Whether these are the pids that are drawn next, so many.
 fn are_drawn(table: &mut Table<u64, Global>, pids: &[u64]) -> Result<bool, AllocError> {
-    Ok(table.fresh(pids.len())?.as_slice() == pids)
+    let drawn = table.fresh(pids.len())?;
+    Ok(drawn.as_slice() == pids)
 }
 
 #[test]

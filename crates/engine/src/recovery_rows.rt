@@ -168,7 +168,8 @@ pub(crate) fn write_store<D: Disk>(
     }
     let (head, tail, number) = store.head_tail_and_sequence();
     write!(text, "head {head}, tail {tail}, number {number}; ")?;
-    text.push_str(look(alloc, store)?.as_str())?;
+    let pages = look(alloc, store)?;
+    text.push_str(pages.as_str())?;
     let report = store.verify(rt)?;
     write!(
         text,
@@ -266,7 +267,8 @@ pub(crate) fn comes_back(
     let mut is_right = is_told(rt, alloc, &store, row.store)?;
     let store = recovered(rt, crew, alloc, store, row.store, &mut is_right)?;
     let store = opened_again(rt, crew, alloc, store, row.store, &mut is_right)?;
-    Ok(is_right && has_nothing_to_flush(rt, crew, alloc, store, row, &bytes)?)
+    let is_flushed = has_nothing_to_flush(rt, crew, alloc, store, row, &bytes)?;
+    Ok(is_right && is_flushed)
 }
 
 #[test]

@@ -18,7 +18,9 @@ fn are_home(
 #[test]
 fn events_that_cannot_happen_change_nothing(rt: HostRuntime) -> Result<(), Fail> {
     let alloc = rt.alloc();
-    let pieces = vec![in alloc; vec![in alloc; 'x']?, vec![in alloc; 'y']?]?;
+    let x = vec![in alloc; 'x']?;
+    let y = vec![in alloc; 'y']?;
+    let pieces = vec![in alloc; x, y]?;
     // It may not go home with a job to work, nor draw another; nor go home while a piece lies on the board.
     let events = [
         Event::Draw(0),

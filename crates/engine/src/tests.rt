@@ -299,12 +299,13 @@ fn key(alloc: Global, text: &str) -> Result<Key<Global>, AllocError> {
 fn scan_of(alloc: Global, bounds: &str) -> Result<Command<Global>, AllocError> {
     let (lo, rest) = bounds.split_once(',').unwrap_or((bounds, ""));
     let (hi, limit) = rest.split_once(',').unwrap_or((rest, ""));
+    let lo = key(alloc, lo)?;
     let hi = if hi == "*" {
         None
     } else {
         Some(key(alloc, hi)?)
     };
-    Ok(Command::Scan(key(alloc, lo)?, hi, limit.parse().unwrap_or(0)))
+    Ok(Command::Scan(lo, hi, limit.parse().unwrap_or(0)))
 }
 
 fn command(alloc: Global, word: &str) -> Result<Command<Global>, AllocError> {
@@ -312,10 +313,12 @@ fn command(alloc: Global, word: &str) -> Result<Command<Global>, AllocError> {
         return scan_of(alloc, bounds);
     }
     if let Some((name, value)) = word.split_once('=') {
+        let added = name.strip_prefix('+');
+        let key = key(alloc, added.unwrap_or(name))?;
         let value = Value::from_bytes(alloc, value.as_bytes())?;
-        return Ok(match name.strip_prefix('+') {
-            Some(name) => Command::Add(key(alloc, name)?, value),
-            None => Command::Put(key(alloc, name)?, value),
+        return Ok(match added {
+            Some(_name) => Command::Add(key, value),
+            None => Command::Put(key, value),
         });
     }
     match word.strip_prefix('-') {
@@ -327,7 +330,8 @@ fn command(alloc: Global, word: &str) -> Result<Command<Global>, AllocError> {
 pub(crate) fn commands(alloc: Global, batch: &str) -> Result<Vec<Command<Global>>, AllocError> {
     let mut commands = Vec::new(alloc);
     for word in batch.split(' ') {
-        commands.push(command(alloc, word)?)?;
+        let command = command(alloc, word)?;
+        commands.push(command)?;
     }
     Ok(commands)
 }
@@ -398,7 +402,8 @@ fn write_leaf(
     chain: &Chain<Value<Global>, Global>,
 ) -> Result<(), AllocError> {
     write!(text, " leaf runs={}:", chain.depth())?;
-    write_values(text, &chain.pairs(alloc)?)
+    let pairs = chain.pairs(alloc)?;
+    write_values(text, &pairs)
 }
 
 // The same of an index page.
@@ -408,7 +413,8 @@ fn write_index(
     chain: &Chain<Pid, Global>,
 ) -> Result<(), AllocError> {
     write!(text, " index runs={}:", chain.depth())?;
-    write_children(text, &chain.pairs(alloc)?)
+    let pairs = chain.pairs(alloc)?;
+    write_children(text, &pairs)
 }
 
 // A page's id, its low key, what the log has of it, and the rest.
@@ -565,10 +571,16 @@ fn write_ranges(rt: &(impl Threads + Sync), alloc: Global, text: &mut String) ->
         let batch = commands(alloc, batch)?;
         store.batch(rt, ALONE, &NoGate, &batch)?;
     }
-    write_rows(text, store.range(b"b", None, 3)?)?;
-    write_rows(text, store.range(b"b", Some(b"d"), 10)?)?;
-    write_rows(text, store.range(b"d", Some(b"b"), 10)?)?;
-    write_rows(text, store.range(b"a", None, 0)?)?;
+    let ranges: [(&[u8], Option<&[u8]>, u32); 4] = [
+        (b"b", None, 3),
+        (b"b", Some(b"d"), 10),
+        (b"d", Some(b"b"), 10),
+        (b"a", None, 0),
+    ];
+    for (lo, hi, limit) in ranges {
+        let rows = store.range(lo, hi, limit)?;
+        write_rows(text, rows)?;
+    }
     Ok(())
 }
 
@@ -587,7 +599,8 @@ fn many_puts(alloc: Global, count: u32) -> Result<Vec<Command<Global>>, AllocErr
     let mut commands = Vec::new(alloc);
     for number in 0..count {
         let key = Key::from_bytes(alloc, &number.to_be_bytes()[2..])?;
-        commands.push(Command::Put(key, Value::from_bytes(alloc, b"1")?))?;
+        let value = Value::from_bytes(alloc, b"1")?;
+        commands.push(Command::Put(key, value))?;
     }
     Ok(commands)
 }
@@ -635,11 +648,9 @@ fn count_replies(
     store: &mut Store<MemDisk<Global>>,
     count: u32,
 ) -> Result<usize, Fault> {
-    Ok(
-        store
-            .batch(rt, ALONE, &NoGate, &many_puts(alloc, count)?)?
-            .len(),
-    )
+    let batch = many_puts(alloc, count)?;
+    let replies = store.batch(rt, ALONE, &NoGate, &batch)?;
+    Ok(replies.len())
 }
 
 // Whether a flush is refused, as its pages find no room, and the disk stays as it was.
@@ -684,7 +695,8 @@ const GREATEST: Settings = Settings {
 };
 
 fn longest_key(alloc: Global) -> Result<Key<Global>, AllocError> {
-    Key::from_bytes(alloc, vec![in alloc; b'k'; 255]?.as_slice())
+    let bytes = vec![in alloc; b'k'; 255]?;
+    Key::from_bytes(alloc, &bytes)
 }
 
 // A hundred short keys, and behind them the longest value under the longest key.
@@ -692,10 +704,13 @@ fn greatest_batch(alloc: Global) -> Result<Vec<Command<Global>>, AllocError> {
     let mut batch = Vec::new(alloc);
     for byte in 0..100u8 {
         let key = Key::from_bytes(alloc, &[byte])?;
-        batch.push(Command::Put(key, Value::from_bytes(alloc, &[byte])?))?;
+        let value = Value::from_bytes(alloc, &[byte])?;
+        batch.push(Command::Put(key, value))?;
     }
-    let value = Value::from_bytes(alloc, vec![in alloc; b'v'; 1_024]?.as_slice())?;
-    batch.push(Command::Put(longest_key(alloc)?, value))?;
+    let key = longest_key(alloc)?;
+    let bytes = vec![in alloc; b'v'; 1_024]?;
+    let value = Value::from_bytes(alloc, &bytes)?;
+    batch.push(Command::Put(key, value))?;
     Ok(batch)
 }
 
@@ -705,7 +720,8 @@ fn greatest_store(
     alloc: Global,
 ) -> Result<Store<MemDisk<Global>>, Fault> {
     let mut store = new_store(alloc, GREATEST)?;
-    store.batch(rt, ALONE, &NoGate, &greatest_batch(alloc)?)?;
+    let batch = greatest_batch(alloc)?;
+    store.batch(rt, ALONE, &NoGate, &batch)?;
     let put = commands(alloc, "a=1")?;
     for _batch in 0..17 {
         store.batch(rt, ALONE, &NoGate, &put)?;
@@ -714,7 +730,8 @@ fn greatest_store(
 }
 
 fn look_up_longest(alloc: Global) -> Result<Vec<Command<Global>>, AllocError> {
-    Ok(vec![in alloc; Command::Get(longest_key(alloc)?)]?)
+    let key = longest_key(alloc)?;
+    Ok(vec![in alloc; Command::Get(key)]?)
 }
 
 // How many bytes the first reply has, which is a value's.
@@ -728,7 +745,8 @@ fn bytes_of_first(replies: &[Reply<Global>]) -> usize {
 // How many bytes such a store finds at the longest key.
 fn bytes_found(rt: &(impl Threads + Sync), alloc: Global) -> Result<usize, Fault> {
     let mut store = greatest_store(rt, alloc)?;
-    let replies = store.batch(rt, ALONE, &NoGate, &look_up_longest(alloc)?)?;
+    let batch = look_up_longest(alloc)?;
+    let replies = store.batch(rt, ALONE, &NoGate, &batch)?;
     Ok(bytes_of_first(&replies))
 }
 

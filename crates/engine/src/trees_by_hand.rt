@@ -442,14 +442,12 @@ fn push_change(
     run: &mut Run<Value<Global>, Global>,
     word: &str,
 ) -> Result<(), AllocError> {
-    let pushed = match word.strip_prefix('-') {
-        Some(key) => run.push(Key::from_bytes(alloc, key.as_bytes())?, None),
-        None => {
-            let value = Value::from_bytes(alloc, b"1")?;
-            run.push(Key::from_bytes(alloc, word.as_bytes())?, Some(value))
-        }
+    let (name, change) = match word.strip_prefix('-') {
+        Some(name) => (name, None),
+        None => (word, Some(Value::from_bytes(alloc, b"1")?)),
     };
-    match pushed {
+    let key = Key::from_bytes(alloc, name.as_bytes())?;
+    match run.push(key, change) {
         Ok(()) => Ok(()),
         Err(_) => Err(AllocError),
     }
@@ -470,7 +468,8 @@ fn prepend(
     chain: &mut Chain<Value<Global>, Global>,
     words: &str,
 ) -> Result<(), AllocError> {
-    match chain.prepend(run_of(alloc, words)?) {
+    let run = run_of(alloc, words)?;
+    match chain.prepend(run) {
         Ok(()) => Ok(()),
         Err(_) => Err(AllocError),
     }
@@ -552,7 +551,8 @@ fn settle_all(
     rows: &[PageRow],
 ) -> Result<(), AllocError> {
     for row in rows {
-        settle(table, row.pid, page_of(alloc, row)?)?;
+        let page = page_of(alloc, row)?;
+        settle(table, row.pid, page)?;
     }
     Ok(())
 }
@@ -630,7 +630,8 @@ fn page_on_the_way(alloc: Global, low: &'static str, pid: u64) -> Result<Page<Gl
 fn settle_high(alloc: Global, table: &mut Table<Page<Global>, Global>) -> Result<(), AllocError> {
     for pid in 0..126u64 {
         let low = if pid % 2 == 0 { "" } else { "b" };
-        settle(table, pid, page_on_the_way(alloc, low, pid)?)?;
+        let page = page_on_the_way(alloc, low, pid)?;
+        settle(table, pid, page)?;
     }
     let mut base = BaseBuilder::with_capacity(alloc, 2, 1)?;
     push_child(&mut base, "", 124)?;

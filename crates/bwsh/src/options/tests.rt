@@ -1,18 +1,10 @@
 //! Command lines, by example.
 use super::options;
+use crate::tests::words_of;
 use clap::error::ErrorKind;
 use crew::Crew;
 use std::alloc::{AllocError, Global};
 use std::test::Fail;
-
-// The words of a line.
-fn words_of(alloc: Global, line: &str) -> Result<Vec<String>, AllocError> {
-    let mut words = Vec::new(alloc);
-    for word in line.split_whitespace() {
-        words.push(String::from_str(alloc, word)?)?;
-    }
-    Ok(words)
-}
 
 // Whether a line tells these numbers: fan, chain, key, value, segment, segments.
 fn tells(alloc: Global, line: &str, numbers: [u32; 6]) -> Result<bool, AllocError> {

@@ -1,5 +1,5 @@
 //! Sessions on stores in files, and disks over files.
-use super::{ByBytes, CLEANED, CLEANED_OUT, Failing, check};
+use super::{ByBytes, CLEANED, CLEANED_OUT, Failing, check, push_words, words_of};
 use crate::file_disk::FileDisk;
 use crate::options::Options;
 use crate::session::run;
@@ -111,12 +111,11 @@ fn check_refused_crew<R: AllocGlobal + Abort + Threads + Sync + Files>(
     disk: &str,
 ) -> Result<(), Fail> {
     let alloc = rt.alloc();
-    let mut words = Vec::new(alloc);
-    words.push(String::from_str(alloc, crew)?)?;
+    let mut words = words_of(alloc, crew)?;
     check(rt, &words, b"put a 1\n", 4, b"", b"fault 5 BadCrew\n");
-    words.push(String::from_str(alloc, "--fan=3")?)?;
-    words.push(String::from_str(alloc, disk)?)?;
-    words.push(String::from_str(alloc, "--create")?)?;
+    push_words(alloc, &mut words, "--fan=3 --create")?;
+    let disk = String::from_str(alloc, disk)?;
+    words.push(disk)?;
     check(rt, &words, b"put a 1\n", 4, b"", b"fault 5 BadCrew\n");
     check(rt, &words, b"frob\n", 3, b"", b"line 1: unknown command\n");
     Ok(())
