@@ -9,6 +9,6 @@ returns g c =
     let reached = c.reach-count.ensures.within in
     let within : c.reach-count.result ≤ length runs = omega (arith, len, reached) in
     rw (← c.self.view_is, c.deref.ensures.value) (⊎_elim
-        (λ few. held-for c.self.inside.marks.newest c.args.key.now runs c.self.inside.base c.reach-count.result few.0 within few.1 c.self.invariant.marked)
-        (λ all. held-all c.args.key.now runs c.self.inside.base c.reach-count.result (omega (arith, all, len)))
-        c.reach-count.ensures.reached)
+    (λ few. held-for c.self.inside.marks.newest c.args.key.now runs c.self.inside.base c.reach-count.result few.0 within few.1 c.self.invariant.marked)
+    (λ all. held-all c.args.key.now runs c.self.inside.base c.reach-count.result (omega (arith, all, len)))
+    c.reach-count.ensures.reached)
