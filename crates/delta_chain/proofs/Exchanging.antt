@@ -14,6 +14,7 @@ use Rattle.delta_chain.specs.Layers.{Layers, said_or, held_under, holds, entries
 use Rattle.delta_chain.specs.Packed.{packed_from, IsPacked}
 use Rattle.delta_chain.specs.Counted.{IsCounted}
 use Rattle.delta_chain.proofs.Counts.{most_with_pair}
+use Rattle.delta_chain.proofs.MarkLemmas.{marked-exchanged}
 use Rattle.delta_chain.proofs.LayerLemmas.{value_at-with_change, rising-entries_of, value_at-entries_of}
 use Rattle.delta_chain.proofs.Setting.{first_below, value_at-found}
 
@@ -267,10 +268,11 @@ module _ {V : Type 0} where
 
   -- ---- what a chain keeps
 
-  pub counted_exchanged : (p : Layers V) (k : List ℕ) (v : V) (fewest : ℕ) → IsCounted p fewest → IsCounted (exchanged p k v) fewest
-  counted_exchanged p k v fewest h =
+  pub counted_exchanged : (p : Layers V) (k : List ℕ) (v : V) (fewest : ℕ) (newest : List ℕ) → IsCounted p fewest newest → IsCounted (exchanged p k v) fewest newest
+  counted_exchanged p k v fewest newest h =
       let most = most_exchanged p k v h.rising in
       record {
         rising = rising-exchanged p k v h.rising;
         entries = omega (arith, h.entries, most);
+        marked = marked-exchanged newest k v p.runs p.base h.marked;
       }

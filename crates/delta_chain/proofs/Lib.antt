@@ -5,6 +5,7 @@ pub mod Exchanging
 pub mod LayerLemmas
 pub mod Lending
 mod Lower
+mod MarkLemmas
 pub mod Merges
 pub mod Overlays
 mod Packing

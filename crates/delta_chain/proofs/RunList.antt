@@ -1,9 +1,9 @@
 -- The list of a chain's runs, the oldest first, and the page that they make.
-use Rattle.std.specs.Prelude.{◌≡◌, ℕ, zero, suc, ◌+◌, ◌-◌, ◌≤◌, Bool, if◌then◌else◌, List, [], ◌∷◌, ◌++◌, length, take, reverse, slice_get, Option, Some, None}
+use Rattle.std.specs.Prelude.{◌≡◌, ◌⊎◌, ℕ, zero, suc, ◌+◌, ◌-◌, ◌≤◌, Bool, if◌then◌else◌, List, [], ◌∷◌, ◌++◌, length, min, get_or, take, reverse, slice_get, Option, Some, None}
 use Rattle.std.proofs.Common.{refl, sym, ap, ◌∙◌, arith}
 use Rattle.std.specs.Map.{keys_of, values_of}
 use Rattle.std.specs.Option.{unwrap_or}
-use Rattle.std.proofs.lemmas.List.{reverse-append, take_all, take_at}
+use Rattle.std.proofs.lemmas.List.{reverse-append, length-reverse, take_all, take_at}
 use Rattle.keys.specs.Bytes.{Changes}
 use Rattle.keys.specs.Order.{IsRising}
 use Rattle.keys.specs.OrderedMap.{value_at}
@@ -11,7 +11,9 @@ use Rattle.delta_chain.specs.Exchange.{exchanged_at, in_place_of, exchanged, exc
 use Rattle.delta_chain.specs.Layers.{Layers, held_under, entries_under}
 use Rattle.delta_chain.specs.Merging.{said_by, overlaid}
 use Rattle.delta_chain.specs.Counted.{IsCounted}
+use Rattle.delta_chain.specs.Marked.{NamesMarked}
 use Rattle.delta_chain.proofs.Counts.{least_with_run, still_fewest}
+use Rattle.delta_chain.proofs.MarkLemmas.{still_marked}
 use Rattle.delta_chain.proofs.Exchanging.{exchanged-run, held-run, counted_exchanged}
 
 module _ {T : Type 0} where
@@ -38,25 +40,31 @@ module _ {V : Type 0} where
 
   -- ---- a run more, and one less
 
-  pub counted-push : (runs now : List (Changes V)) (run : Changes V) (base : List (List ℕ × V)) (n fewest left : ℕ) → now ≡ runs ++ run ∷ [] → IsRising run → n ≡ length run → left ≡ fewest - n → IsCounted (Page runs base) fewest → IsCounted (Page now base) left
-  counted-push runs now run base n fewest left i r e s h =
+  pub counted-push : (runs now : List (Changes V)) (run : Changes V) (base : List (List ℕ × V)) (n fewest left : ℕ) (newest noted : List ℕ) (number : ℕ) → now ≡ runs ++ run ∷ [] → IsRising run → n ≡ length run → left ≡ fewest - n
+      → number ≡ length runs + 1 → NamesMarked noted number run → ((m : ℕ) → (get_or noted m 0 ≡ get_or newest m 0) ⊎ (get_or noted m 0 ≡ min number 255)) → IsCounted (Page runs base) fewest newest → IsCounted (Page now base) left noted
+  counted-push runs now run base n fewest left newest noted number i r e s c a f h =
+      let long = length-reverse runs in
+      let count : suc (length (reverse runs)) ≡ number = omega (arith, long, c) in
       rw (i, reverse-behind runs run) (record {
         rising = (r, h.rising);
         entries = still_fewest n fewest left (entries_under (reverse runs) base) run h.entries e s;
+        marked = (rw count a, still_marked newest noted number (reverse runs) (omega (arith, count)) f h.marked);
       })
 
   pub page-push : (runs now : List (Changes V)) (run : Changes V) (base : List (List ℕ × V)) → now ≡ runs ++ run ∷ [] → Page now base ≡ record { runs = run ∷ reverse runs; base = base }
   page-push runs now run base i = rw (i, reverse-behind runs run) refl
 
-  pub counted-pop : (runs older : List (Changes V)) (run : Changes V) (base : List (List ℕ × V)) (n fewest left : ℕ) → runs ≡ older ++ run ∷ [] → n ≡ length run → left ≡ fewest - n → IsCounted (Page runs base) fewest → IsCounted (Page older base) left
-  counted-pop runs older run base n fewest left i e s h =
+  pub counted-pop : (runs older : List (Changes V)) (run : Changes V) (base : List (List ℕ × V)) (n fewest left : ℕ) (newest : List ℕ) → runs ≡ older ++ run ∷ [] → n ≡ length run → left ≡ fewest - n → IsCounted (Page runs base) fewest newest → IsCounted (Page older base) left newest
+  counted-pop runs older run base n fewest left newest i e s h =
       let is : reverse runs ≡ run ∷ reverse older = ap reverse i ∙ reverse-behind older run in
       let rising = rw is at h.rising in
       let entries = rw is at h.entries in
+      let marked = rw is at h.marked in
       let least = least_with_run (entries_under (reverse older) base) run in
       record {
         rising = rising.1;
         entries = omega (arith, entries, least);
+        marked = marked.1;
       }
 
   -- ---- what the first so many say together
@@ -110,5 +118,5 @@ module _ {V : Type 0} where
       let is : now ≡ (exchanged_under k v [] base).base = ap (λ (p : Layers V). p.base) e in
       rw (s, is) (sym h)
 
-  pub still_counted : (old now : Layers V) (k : List ℕ) (v : V) (fewest : ℕ) → now ≡ exchanged old k v → IsCounted old fewest → IsCounted now fewest
-  still_counted old now k v fewest e h = rw e (counted_exchanged old k v fewest h)
+  pub still_counted : (old now : Layers V) (k : List ℕ) (v : V) (fewest : ℕ) (newest : List ℕ) → now ≡ exchanged old k v → IsCounted old fewest newest → IsCounted now fewest newest
+  still_counted old now k v fewest newest e h = rw e (counted_exchanged old k v fewest newest h)

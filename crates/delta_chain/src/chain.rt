@@ -8,6 +8,7 @@ ghost use Rattle.delta_chain.specs.Layers.{Layers, holds, held_under, entries_of
 ghost use Rattle.delta_chain.specs.Merging.{said_by};
 
 use crate::base::Base;
+use crate::marks::Marks;
 use crate::merging::{copied, lent_base, overlaid, with_run};
 use crate::pairs::Pairs;
 use crate::run::Run;
@@ -24,6 +25,7 @@ pub struct Chain<V, A: Allocator> {
     runs: Vec<Run<V, A>, A>,
     // The page has as many entries, or more.
     fewest: usize,
+    marks: Marks,
 }
 
 impl<V, A: Allocator> Model for Chain<V, A> {
@@ -35,7 +37,7 @@ impl<V, A: Allocator> Model for Chain<V, A> {
 
     ghost view = { λ c. record { runs = reverse c.runs.items; base = c.base } };
 
-    ghost invariant = { λ c. IsCounted (record { runs = reverse c.runs.items; base = c.base }) c.fewest };
+    ghost invariant = { λ c. IsCounted (record { runs = reverse c.runs.items; base = c.base }) c.fewest c.marks.newest };
 }
 
 /// A page's runs from one of them down, and its base, lent: what a search goes down through. Contracts see it as a page of these.
@@ -93,7 +95,13 @@ impl<V, A: Allocator + Copy> Chain<V, A> {
     {
         let fewest = base.len();
         let runs = Vec::new(base.alloc());
-        Chain { base, runs, fewest }
+        let marks = Marks::none();
+        Chain {
+            base,
+            runs,
+            fewest,
+            marks,
+        }
     }
 
     /// How many runs there are, up to the greatest `u64`.
@@ -127,6 +135,18 @@ impl<V, A: Allocator + Copy> Chain<V, A> {
     {
         ChainRef {
             runs: &self.runs,
+            base: &self.base,
+        }
+    }
+
+    /// The runs and the base without the newest runs of which the page knows, with no look at them, that they don't name the key: it holds the
+    /// same at the key.
+    pub fn lent_for(&self, key: &[u8]) -> ChainRef<'_, V, A>
+        ensures { holds result key.now ≡ holds self.now key.now }
+    {
+        let count = self.marks.reach(key, self.runs.len());
+        ChainRef {
+            runs: &self.runs[..count],
             base: &self.base,
         }
     }
@@ -177,6 +197,8 @@ impl<V: Drop, A: Allocator + Copy> Chain<V, A> {
         // A change takes one entry away at most.
         let taken = run.len();
         self.fewest = self.fewest.saturating_sub(taken);
+        let number = self.runs.len() + 1;
+        self.marks.note(&run, number);
         self.runs.push_reserved(run);
         Ok(())
     }

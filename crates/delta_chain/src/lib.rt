@@ -8,6 +8,7 @@ pub mod chain;
 mod entries;
 pub mod key_list;
 pub mod laws;
+mod marks;
 mod merging;
 pub mod pairs;
 pub mod run;

@@ -13,4 +13,5 @@ pub mod Range
 pub mod Results
 pub mod Sizes
 pub mod Step
+pub mod Marks
 pub mod Words

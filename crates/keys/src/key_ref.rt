@@ -169,7 +169,7 @@ impl<A: Allocator> KeyWithWord<A> {
 
 // The first eight bytes as a number, the greatest first; zeros stand for those that aren't there.
 #[inline]
-fn first_word(bytes: &[u8]) -> u64
+pub(crate) fn first_word(bytes: &[u8]) -> u64
     ensures word { result ≡ first_word bytes.now }
     ensures bytes { AreBytes bytes.now }
 {

@@ -10,7 +10,7 @@ ghost use Rattle.page_runs.specs.Replay.{map_by_now};
 use crate::changes_from::ChangesFrom;
 use delta_chain::{Chain, Run};
 use keys::{Command, Key, Value};
-use page_search::{Probes, find};
+use page_search::{Probes, find_lent};
 use std::alloc::{AllocError, Global};
 use std::collections::BTreeMap;
 use std::marker::Model;
@@ -95,7 +95,8 @@ impl Changes {
                 }
             }
         }
-        find(page, key.as_bytes(), &mut Probes::new())
+        let bytes = key.as_bytes();
+        find_lent(page.lent_for(bytes), bytes, &mut Probes::new())
     }
 
     /// The changes of this key and of those above it.

@@ -4,6 +4,7 @@ use Rattle.std.proofs.Common.{refl, ap, ◌∙◌, arith, Ordering, Less, Equal,
 use Rattle.std.specs.Ordering.{is_lt, is_eq}
 use Rattle.std.specs.Map.{keys_of, values_of}
 use Rattle.std.proofs.lemmas.Bool.{cases_lt}
+use Rattle.std.proofs.lemmas.List.{length-map}
 use Rattle.std.proofs.lemmas.List.Sums.{sum_by-cons, count_by-le-length}
 use Rattle.std.proofs.lemmas.Option.{slice_get-map, slice_get-get_or, get_or_from_slice_get, slice_get_within}
 use Rattle.std.proofs.lemmas.Map.Keys.{any_passes_from_place, IsDistinct-from_sorted, Less-from_sorted, sorted_head, sorted_tail}
@@ -154,6 +155,13 @@ module _ {V : Type 0} where
 
   pub key_at : (es : List (List ℕ × V)) (at : ℕ) (e : List ℕ × V) → slice_get es at ≡ Some e → slice_get (keys_of es) at ≡ Some e.0
   key_at es at e p = rw (slice_get-map, p) refl
+
+  -- where a key stands there is an entry
+  pub within-place : (k : List ℕ) (es : List (List ℕ × V)) (at : ℕ) → slice_get (keys_of es) at ≡ Some k → at < length es
+  within-place k es at h =
+      let within = slice_get_within (keys_of es) at k h in
+      let long = length-map es (λ (e : List ℕ × V). e.0) in
+      omega (arith, within, long)
 
   -- where a key would go, the entries have nothing at it
   pub value_at-goes_to : (k : List ℕ) (es : List (List ℕ × V)) (at : ℕ) → IsRising es → KeyGoesTo k (keys_of es) at → value_at k es ≡ None

@@ -10,7 +10,7 @@ ghost use Rattle.page_search.specs.Digits.{binary_digits};
 ghost use Rattle.page_search.specs.Places.{count_below, KeyGoesTo};
 
 use crate::probes::Probes;
-use delta_chain::{Base, Chain, KeyList};
+use delta_chain::{Base, Chain, ChainRef, KeyList};
 use keys::KeyRef;
 use std::alloc::Allocator;
 use std::cmp::Ordering;
@@ -40,7 +40,21 @@ pub fn find<'a, V, A: Allocator + Copy>(
     ensures least { min (probes.old + find_least key.now chain.now) u64.MAX ≤ probes.new }
     ensures kept { probes.old ≤ probes.new }
 {
-    let mut rest = chain.lent();
+    find_lent(chain.lent(), key, probes)
+}
+
+/// The same of what is lent of a page, from one of its runs down.
+pub fn find_lent<'a, V, A: Allocator + Copy>(
+    chain: ChainRef<'a, V, A>,
+    key: &[u8],
+    probes: &mut Probes,
+) -> Option<&'a V>
+    ensures value { option_copied result ≡ holds chain.entry key.now }
+    ensures cost { probes.new ≤ probes.old + find_cost key.now chain.entry }
+    ensures least { min (probes.old + find_least key.now chain.entry) u64.MAX ≤ probes.new }
+    ensures kept { probes.old ≤ probes.new }
+{
+    let mut rest = chain;
     while let Some((run, below)) = rest.newest() {
         match place(run, key, probes) {
             Ok(at) => return run.change(at),

@@ -1,8 +1,11 @@
 use Rattle.std.proofs.Common.{refl, arith}
 use Rattle.page_search.specs.Costs.{most_among, fewest_among}
 use Rattle.page_search.proofs.CostLemmas.{least_here, most_left, least_left}
-use Rattle.page_search.proofs.PlaceLemmas.{is_there-place, value_at-there, value_at-goes_to}
-use Rattle.page_search.proofs.search.find.Goals as goal
+use Rattle.page_search.proofs.PlaceLemmas.{is_there-place, within-place, value_at-there, value_at-goes_to}
+use Rattle.page_search.proofs.search.find_lent.Goals as goal
+
+pub change-requires : goal.change-requires
+change-requires g c = within-place c.args.key.now c.in-Some.run'.now c.in-Ok.at c.in-Ok.ensures.place
 
 pub returns-in-Ok-clause-value : goal.returns-in-Ok-clause-value
 returns-in-Ok-clause-value g c =
@@ -29,6 +32,13 @@ loop-run-preserved g c =
       least = least_left fewest_among c.args.key.now c.in-Some.run'.now c.in-Some.below.runs c.in-Some.below.base c.loop-run.probes c.place.new.probes _ _ said c.in-Err.ensures.least least;
       kept = omega (arith, c.loop-run.invariant.kept, c.place.ensures.kept);
     }
+
+pub returns-clause-cost : goal.returns-clause-cost
+returns-clause-cost g c =
+    let runs = c.in_default.ensures in
+    let base = c.base.ensures in
+    let cost = rw (runs, ← base) at c.loop-run.invariant.cost in
+    omega (arith, cost, c.find_in_base.ensures.cost)
 
 pub returns-clause-least : goal.returns-clause-least
 returns-clause-least g c =
