@@ -14,7 +14,7 @@ use Rattle.delta_chain.specs.Layers.{Layers, said_or, held_under, holds, entries
 use Rattle.delta_chain.specs.Packed.{packed_from, IsPacked}
 use Rattle.delta_chain.specs.Counted.{IsCounted}
 use Rattle.delta_chain.proofs.Counts.{most_with_pair}
-use Rattle.delta_chain.proofs.MarkLemmas.{marked-exchanged}
+use Rattle.delta_chain.proofs.NewestRunLemmas.{known-exchanged}
 use Rattle.delta_chain.proofs.LayerLemmas.{value_at-with_change, rising-entries_of, value_at-entries_of}
 use Rattle.delta_chain.proofs.Setting.{first_below, value_at-found}
 
@@ -274,5 +274,5 @@ module _ {V : Type 0} where
       record {
         rising = rising-exchanged p k v h.rising;
         entries = omega (arith, h.entries, most);
-        marked = marked-exchanged newest k v p.runs p.base h.marked;
+        known = known-exchanged newest k v p.runs p.base h.known;
       }

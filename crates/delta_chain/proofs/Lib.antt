@@ -5,8 +5,8 @@ pub mod Exchanging
 pub mod LayerLemmas
 pub mod Lending
 mod Lower
-mod MarkLemmas
 pub mod Merges
+mod NewestRunLemmas
 pub mod Overlays
 mod Packing
 pub mod Places

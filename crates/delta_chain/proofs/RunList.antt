@@ -11,9 +11,9 @@ use Rattle.delta_chain.specs.Exchange.{exchanged_at, in_place_of, exchanged, exc
 use Rattle.delta_chain.specs.Layers.{Layers, held_under, entries_under}
 use Rattle.delta_chain.specs.Merging.{said_by, overlaid}
 use Rattle.delta_chain.specs.Counted.{IsCounted}
-use Rattle.delta_chain.specs.Marked.{NamesMarked}
+use Rattle.delta_chain.specs.NewestRuns.{NamesKnown}
 use Rattle.delta_chain.proofs.Counts.{least_with_run, still_fewest}
-use Rattle.delta_chain.proofs.MarkLemmas.{still_marked}
+use Rattle.delta_chain.proofs.NewestRunLemmas.{still_known}
 use Rattle.delta_chain.proofs.Exchanging.{exchanged-run, held-run, counted_exchanged}
 
 module _ {T : Type 0} where
@@ -41,14 +41,14 @@ module _ {V : Type 0} where
   -- ---- a run more, and one less
 
   pub counted-push : (runs now : List (Changes V)) (run : Changes V) (base : List (List ℕ × V)) (n fewest left : ℕ) (newest noted : List ℕ) (number : ℕ) → now ≡ runs ++ run ∷ [] → IsRising run → n ≡ length run → left ≡ fewest - n
-      → number ≡ length runs + 1 → NamesMarked noted number run → ((m : ℕ) → (get_or noted m 0 ≡ get_or newest m 0) ⊎ (get_or noted m 0 ≡ min number 255)) → IsCounted (Page runs base) fewest newest → IsCounted (Page now base) left noted
+      → number ≡ length runs + 1 → NamesKnown noted number run → ((m : ℕ) → (get_or noted m 0 ≡ get_or newest m 0) ⊎ (get_or noted m 0 ≡ min number 255)) → IsCounted (Page runs base) fewest newest → IsCounted (Page now base) left noted
   counted-push runs now run base n fewest left newest noted number i r e s c a f h =
       let long = length-reverse runs in
       let count : suc (length (reverse runs)) ≡ number = omega (arith, long, c) in
       rw (i, reverse-behind runs run) (record {
         rising = (r, h.rising);
         entries = still_fewest n fewest left (entries_under (reverse runs) base) run h.entries e s;
-        marked = (rw count a, still_marked newest noted number (reverse runs) (omega (arith, count)) f h.marked);
+        known = (rw count a, still_known newest noted number (reverse runs) (omega (arith, count)) f h.known);
       })
 
   pub page-push : (runs now : List (Changes V)) (run : Changes V) (base : List (List ℕ × V)) → now ≡ runs ++ run ∷ [] → Page now base ≡ record { runs = run ∷ reverse runs; base = base }
@@ -59,12 +59,12 @@ module _ {V : Type 0} where
       let is : reverse runs ≡ run ∷ reverse older = ap reverse i ∙ reverse-behind older run in
       let rising = rw is at h.rising in
       let entries = rw is at h.entries in
-      let marked = rw is at h.marked in
+      let known = rw is at h.known in
       let least = least_with_run (entries_under (reverse older) base) run in
       record {
         rising = rising.1;
         entries = omega (arith, entries, least);
-        marked = marked.1;
+        known = known.1;
       }
 
   -- ---- what the first so many say together

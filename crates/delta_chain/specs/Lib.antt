@@ -4,6 +4,6 @@ pub mod Exchange
 pub mod Kept
 pub mod Layers
 pub mod Lent
-pub mod Marked
 pub mod Merging
+pub mod NewestRuns
 pub mod Packed

@@ -8,8 +8,8 @@ ghost use Rattle.delta_chain.specs.Layers.{Layers, holds, held_under, entries_of
 ghost use Rattle.delta_chain.specs.Merging.{said_by};
 
 use crate::base::Base;
-use crate::marks::Marks;
 use crate::merging::{copied, lent_base, overlaid, with_run};
+use crate::newest_runs::NewestRuns;
 use crate::pairs::Pairs;
 use crate::run::Run;
 use keys::{Cell, Key, KeyRef};
@@ -25,7 +25,7 @@ pub struct Chain<V, A: Allocator> {
     runs: Vec<Run<V, A>, A>,
     // The page has as many entries, or more.
     fewest: usize,
-    marks: Marks,
+    newest_runs: NewestRuns,
 }
 
 impl<V, A: Allocator> Model for Chain<V, A> {
@@ -37,7 +37,7 @@ impl<V, A: Allocator> Model for Chain<V, A> {
 
     ghost view = { λ c. record { runs = reverse c.runs.items; base = c.base } };
 
-    ghost invariant = { λ c. IsCounted (record { runs = reverse c.runs.items; base = c.base }) c.fewest c.marks.newest };
+    ghost invariant = { λ c. IsCounted (record { runs = reverse c.runs.items; base = c.base }) c.fewest c.newest_runs.numbers };
 }
 
 /// A page's runs from one of them down, and its base, lent: what a search goes down through. Contracts see it as a page of these.
@@ -95,12 +95,12 @@ impl<V, A: Allocator + Copy> Chain<V, A> {
     {
         let fewest = base.len();
         let runs = Vec::new(base.alloc());
-        let marks = Marks::none();
+        let newest_runs = NewestRuns::none();
         Chain {
             base,
             runs,
             fewest,
-            marks,
+            newest_runs,
         }
     }
 
@@ -144,7 +144,7 @@ impl<V, A: Allocator + Copy> Chain<V, A> {
     pub fn lent_for(&self, key: &[u8]) -> ChainRef<'_, V, A>
         ensures { holds result key.now ≡ holds self.now key.now }
     {
-        let count = self.marks.reach(key, self.runs.len());
+        let count = self.newest_runs.reach(key, self.runs.len());
         ChainRef {
             runs: &self.runs[..count],
             base: &self.base,
@@ -198,7 +198,7 @@ impl<V: Drop, A: Allocator + Copy> Chain<V, A> {
         let taken = run.len();
         self.fewest = self.fewest.saturating_sub(taken);
         let number = self.runs.len() + 1;
-        self.marks.note(&run, number);
+        self.newest_runs.note(&run, number);
         self.runs.push_reserved(run);
         Ok(())
     }

@@ -8,8 +8,8 @@ pub mod chain;
 mod entries;
 pub mod key_list;
 pub mod laws;
-mod marks;
 mod merging;
+mod newest_runs;
 pub mod pairs;
 pub mod run;
 

@@ -2,6 +2,7 @@ pub mod Bytes
 pub mod Cells
 pub mod CommandKey
 pub mod Finding
+pub mod Fingerprint
 pub mod Kept
 pub mod Limits
 pub mod Lists
@@ -13,5 +14,4 @@ pub mod Range
 pub mod Results
 pub mod Sizes
 pub mod Step
-pub mod Marks
 pub mod Words

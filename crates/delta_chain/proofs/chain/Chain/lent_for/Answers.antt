@@ -1,5 +1,5 @@
 use Rattle.std.proofs.Common.{◌≡◌, ◌≤◌, length, ⊎_elim, sym, ◌∙◌, arith}
-use Rattle.delta_chain.proofs.MarkLemmas.{held-for, held-all}
+use Rattle.delta_chain.proofs.NewestRunLemmas.{held-for, held-all}
 use Rattle.delta_chain.proofs.chain.Chain.lent_for.Goals as goal
 
 pub returns : goal.returns
@@ -9,6 +9,6 @@ returns g c =
     let reached = c.reach-count.ensures.within in
     let within : c.reach-count.result ≤ length runs = omega (arith, len, reached) in
     rw (← c.self.view_is, c.deref.ensures.value) (⊎_elim
-    (λ few. held-for c.self.inside.marks.newest c.args.key.now runs c.self.inside.base c.reach-count.result few.0 within few.1 c.self.invariant.marked)
+    (λ few. held-for c.self.inside.newest_runs.numbers c.args.key.now runs c.self.inside.base c.reach-count.result few.0 within few.1 c.self.invariant.known)
     (λ all. held-all c.args.key.now runs c.self.inside.base c.reach-count.result (omega (arith, all, len)))
     c.reach-count.ensures.reached)

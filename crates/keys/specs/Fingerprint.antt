@@ -8,5 +8,5 @@ abbrev pub last_bytes : Bytes → Bytes
 last_bytes key = drop (length key - 8) key
 
 -- the top six of 64 bits of their number, multiplied by 2^64 by the golden ratio
-abbrev pub mark_of : Bytes → ℕ
-mark_of key = ((first_word (last_bytes key) * 11400714819323198485) % 2 ^ 64) / 2 ^ 58
+abbrev pub fingerprint_of : Bytes → ℕ
+fingerprint_of key = ((first_word (last_bytes key) * 11400714819323198485) % 2 ^ 64) / 2 ^ 58
