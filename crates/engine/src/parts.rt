@@ -105,6 +105,60 @@ fn runs_of_none_one_and_two_changes_have_what_was_set(rt: HostRuntime) -> Result
     Ok(())
 }
 
+// Two keys that end alike, and so have one fingerprint, and a key that has another.
+const ONE: &[u8] = b"xaaaaaaaa";
+
+const OTHER: &[u8] = b"yaaaaaaaa";
+
+const APART: &[u8] = b"z";
+
+// A page of so many runs, which name the two keys in turn, each with the number of its run, the oldest first.
+fn page_of_runs(alloc: Global, count: u64) -> Result<Chain<Pid, Global>, PushError> {
+    let mut chain = Chain::of_base(Base::empty(alloc));
+    for number in 0..count {
+        let bytes = if number % 2 == 0 { ONE } else { OTHER };
+        let key = Key::from_bytes(alloc, bytes)?;
+        let mut run = Run::with_capacity(alloc, 1)?;
+        run.push(key, Some(Pid(number)))?;
+        if chain.prepend(run).is_err() {
+            return Err(PushError::NoMemory);
+        }
+    }
+    Ok(chain)
+}
+
+// What the newest run that names the key says of it, of those that may name it; none where no run does.
+fn looked_up(chain: &Chain<Pid, Global>, key: &[u8]) -> Option<u64> {
+    let mut rest = chain.lent_for(key);
+    for _ in 0..chain.depth() {
+        let (run, below) = rest.newest()?;
+        if let Some(at) = run.place(key) {
+            return run.change(at).map(|pid| pid.0);
+        }
+        rest = below;
+    }
+    None
+}
+
+// Whether each of the two keys has the number of its newest run, and no run is looked at for the third. With 255 runs and more, a byte
+// has no number for the newest.
+fn are_looked_up(alloc: Global, count: u64) -> Result<bool, PushError> {
+    let chain = page_of_runs(alloc, count)?;
+    let one = (0..count).rev().find(|number| number % 2 == 0);
+    let other = (0..count).rev().find(|number| number % 2 == 1);
+    let is_apart = chain.lent_for(APART).newest().is_none();
+    Ok(looked_up(&chain, ONE) == one && looked_up(&chain, OTHER) == other && is_apart)
+}
+
+#[test]
+fn a_key_is_looked_for_in_the_runs_that_may_name_it(rt: HostRuntime) -> Result<(), Fail> {
+    for count in [0, 1, 2, 3, 253, 254, 255, 256, 257, 300] {
+        let are_found = are_looked_up(rt.alloc(), count)?;
+        assert!(rt; are_found, "{count} runs");
+    }
+    Ok(())
+}
+
 // Makes room for the pid and puts the page there, where the pid has no place.
 fn settle(
     rt: &impl Abort,
