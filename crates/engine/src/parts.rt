@@ -1,6 +1,6 @@
 //! What the crates below give and nothing above them asks for yet, once each, and the texts of faults.
 use delta_chain::{Base, Chain, PushError, Run};
-use keys::{Fault, Field, Finding, Key, Pid};
+use keys::{Fault, Field, Finding, Key, Pid, fingerprint_of};
 use mapping::{Logged, Table};
 use std::alloc::{AllocError, Global};
 use std::process::Abort;
@@ -105,10 +105,10 @@ fn runs_of_none_one_and_two_changes_have_what_was_set(rt: HostRuntime) -> Result
     Ok(())
 }
 
-// Two keys that end alike, and so have one fingerprint, and a key that has another.
-const ONE: &[u8] = b"xaaaaaaaa";
+// Two keys that have one fingerprint, and a key that has another.
+const ONE: &[u8] = b"aa";
 
-const OTHER: &[u8] = b"yaaaaaaaa";
+const OTHER: &[u8] = b"ag";
 
 const APART: &[u8] = b"z";
 
@@ -152,6 +152,8 @@ fn are_looked_up(alloc: Global, count: u64) -> Result<bool, PushError> {
 
 #[test]
 fn a_key_is_looked_for_in_the_runs_that_may_name_it(rt: HostRuntime) -> Result<(), Fail> {
+    assert_eq!(rt; fingerprint_of(ONE), fingerprint_of(OTHER));
+    assert!(rt; fingerprint_of(ONE) != fingerprint_of(APART));
     for count in [0, 1, 2, 3, 253, 254, 255, 256, 257, 300] {
         let are_found = are_looked_up(rt.alloc(), count)?;
         assert!(rt; are_found, "{count} runs");
