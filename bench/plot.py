@@ -5,7 +5,7 @@ from html import escape
 WIDTH, HEIGHT = 920, 640
 LEFT = 210  # where the bars and the lines begin
 RIGHT = WIDTH - 40
-COLOURS = {"BTreeMap": "#888888", "fan 32, chain 16": "#1b6ca8", "defaults": "#d1712a"}
+COLOURS = {"BTreeMap": "#888888", "fan 32, chain 16": "#1b6ca8", "fan 64, chain 16": "#3a8f4d", "defaults": "#d1712a"}
 
 
 def text(x, y, words, anchor="start", size=13):
@@ -26,7 +26,7 @@ def legend(y):
 
 
 def bars(speeds, top, height):
-    """For each phase the speeds of the program, under both settings, where the peer is 1."""
+    """For each phase the speeds of the program, under each of the settings, where the peer is 1."""
     most = max(1.0, *(speed for row in speeds.values() for speed in row))
     scale = (RIGHT - LEFT) / most
     parts = [text(LEFT, top - 8, "speed, where the BTreeMap is 1")]
@@ -39,7 +39,7 @@ def bars(speeds, top, height):
         y = top + row * step
         parts.append(text(LEFT - 10, y + step / 2 + 4, name, "end", 12))
         for at, (speed, colour) in enumerate(zip(values, colours)):
-            thick = step * 0.38
+            thick = step * 0.76 / len(values)
             at_y = y + step * 0.1 + at * thick
             parts.append(
                 f'<rect x="{LEFT}" y="{at_y:.1f}" width="{speed * scale:.1f}" height="{thick:.1f}" fill="{colour}"/>'

@@ -261,7 +261,8 @@ def build_peer(folder, name="peer"):
 def programs(peer, program):
     """What is run, by name."""
     all_programs = {PEER: peer} if peer else {}
-    all_programs["fan 32, chain 16"] = [program, "--fan", "32", "--chain", "16"]
+    for fan in 32, 64:
+        all_programs[f"fan {fan}, chain 16"] = [program, "--fan", str(fan), "--chain", "16"]
     all_programs["defaults"] = [program]
     return all_programs
 
