@@ -2,7 +2,7 @@ use crate::pid::Pid;
 use std::fmt;
 use std::marker::Model;
 
-/// A rule of the structure of a tree that doesn't hold, by its number (2 to 10), and the page that breaks it. It prints
+/// A rule of the structure of a tree that doesn't hold, by its number (1 to 10), and the page that breaks it. It prints
 /// as the rule and the page id, in decimal. Contracts see it as a `Finding` of the definitions.
 #[derive(Clone, Copy, Debug, PartialEq, Eq)]
 pub struct Finding {
