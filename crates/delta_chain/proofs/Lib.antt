@@ -2,6 +2,7 @@ pub mod Crossing
 mod Alone
 pub mod Counts
 pub mod Exchanging
+mod Halves
 pub mod LayerLemmas
 pub mod Lending
 mod Lower

@@ -8,7 +8,7 @@ ghost use Rattle.delta_chain.specs.Layers.{Layers, holds, held_under, entries_of
 ghost use Rattle.delta_chain.specs.Merging.{said_by};
 
 use crate::base::Base;
-use crate::merging::{copied, lent_base, overlaid, with_run};
+use crate::merging::{copied, lent_base, merged, with_run};
 use crate::newest_runs::NewestRuns;
 use crate::pairs::Pairs;
 use crate::run::Run;
@@ -85,8 +85,13 @@ impl<'a, V, A: Allocator + Copy> ChainRef<'a, V, A> {
     }
 }
 
-// For how many runs more a chain gets room where it has none left. A page is replaced before it has many.
+// For how many runs more a chain of at most `FEW_RUNS` gets room where it has none left. The settings allow a page no more than 16 runs, so
+// what is given without need stays small.
 const MORE_RUNS: usize = 4;
+
+// A chain with more runs than this was read from a disk that somebody forged. It gets room for as many again as it has: n of them put in
+// front one by one move fewer than 3n in all, where room for four more each time would have them move n * n / 8.
+const FEW_RUNS: usize = 16;
 
 impl<V, A: Allocator + Copy> Chain<V, A> {
     /// A base without runs.
@@ -176,11 +181,7 @@ impl<V, A: Allocator + Copy> Chain<V, A> {
     fn changes(&self, alloc: A) -> Result<Pairs<'_, Option<V>, A>, AllocError>
         ensures { IfOk result (λ changes. changes ≡ said_by self.now.runs) }
     {
-        let mut changes = Pairs::of_list(Vec::new(alloc));
-        for at in 0..self.runs.len() {
-            changes = overlaid(alloc, &changes, &self.runs[at])?;
-        }
-        Ok(changes)
+        merged(alloc, &self.runs)
     }
 }
 
@@ -256,11 +257,10 @@ fn make_room<V: Drop, A: Allocator + Copy>(runs: &mut Vec<Run<V, A>, A>) -> Resu
     ensures kept { runs.new.items ≡ runs.old.items }
     ensures room { OnOk result (vec_len runs.new < vec_capacity runs.new) }
 {
-    if runs.len() == runs.capacity() {
-        let mut longer = Vec::with_capacity(
-            *runs.allocator(),
-            runs.len().saturating_add(MORE_RUNS),
-        )?;
+    let count = runs.len();
+    if count == runs.capacity() {
+        let more = if count > FEW_RUNS { count } else { MORE_RUNS };
+        let mut longer = Vec::with_capacity(*runs.allocator(), count.saturating_add(more))?;
         longer.append(runs)?;
         *runs = longer;
     }

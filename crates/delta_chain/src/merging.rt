@@ -1,10 +1,10 @@
 //! The runs of a page merged with one another, and then applied to its base, each time by one walk over two lists.
-ghost use Rattle.std.specs.Prelude.{◌≡◌, ◌<◌, ◌≤◌, ◌+◌, ◌-◌, ◌++◌, length, drop, vec_len, vec_capacity, IfOk};
+ghost use Rattle.std.specs.Prelude.{◌≡◌, ◌<◌, ◌≤◌, ◌+◌, ◌-◌, ◌++◌, [], length, drop, reverse, vec_len, vec_capacity, IfOk};
 ghost use Rattle.std.specs.Option.{option_copied};
 ghost use Rattle.keys.specs.Order.{IsRising};
-ghost use Rattle.delta_chain.specs.Layers.{with_run};
+ghost use Rattle.delta_chain.specs.Layers.{AllRise, with_run};
 ghost use Rattle.delta_chain.specs.Lent.{pairs_lent};
-ghost use Rattle.delta_chain.specs.Merging.{pair_if, first_order, overlaid};
+ghost use Rattle.delta_chain.specs.Merging.{pair_if, first_order, overlaid, said_by};
 
 use crate::base::Base;
 use crate::pairs::Pairs;
@@ -29,15 +29,53 @@ pub(crate) fn lent_base<V, A: Allocator + Copy>(
     Ok(Pairs::of_list(lent))
 }
 
-/// Older changes with those of a newer run over them: each older one whose key the run doesn't name, and all of the run.
-pub(crate) fn overlaid<'a, V, A: Allocator + Copy>(
+// The changes of a run.
+fn lent_run<V, A: Allocator + Copy>(
+    alloc: A,
+    run: &Run<V, A>,
+) -> Result<Pairs<'_, Option<V>, A>, AllocError>
+    ensures changes { IfOk result (λ changes. changes ≡ run.now) }
+    ensures rising { IsRising run.now }
+{
+    let count = run.len();
+    let mut lent = Vec::with_capacity(alloc, count)?;
+    for at in 0..count {
+        lent.push_reserved((run.key(at), run.item(at)));
+    }
+    Ok(Pairs::of_list(lent))
+}
+
+/// What these runs say together, lent: the keys that they name, each with what the newest run that names it says. The runs are given the
+/// oldest first. Each half of them is merged by itself first: a page that was read from a disk may have as many runs as the disk has room
+/// for, and n of them cost n * log n. So the calls go no deeper than the logarithm of their number.
+pub(crate) fn merged<'a, V, A: Allocator + Copy>(
+    alloc: A,
+    runs: &'a [Run<V, A>],
+) -> Result<Pairs<'a, Option<V>, A>, AllocError>
+    ensures changes { IfOk result (λ changes. changes ≡ said_by (reverse runs.now)) }
+    ensures rising { IfOk result (λ changes. AllRise {V = V} (reverse runs.now) []) }
+{
+    let Some((newest, others)) = runs.split_last() else {
+        return Ok(Pairs::of_list(Vec::new(alloc)));
+    };
+    if others.is_empty() {
+        return lent_run(alloc, newest);
+    }
+    let (older, newer) = runs.split_at(runs.len() / 2);
+    let under = merged(alloc, older)?;
+    let over = merged(alloc, newer)?;
+    overlaid(alloc, &under, &over)
+}
+
+// Older changes with newer ones over them: each older one whose key the newer ones don't name, and all newer ones.
+fn overlaid<'a, V, A: Allocator + Copy>(
     alloc: A,
     older: &Pairs<'a, Option<V>, A>,
-    newer: &'a Run<V, A>,
+    newer: &Pairs<'a, Option<V>, A>,
 ) -> Result<Pairs<'a, Option<V>, A>, AllocError>
-    requires { IsRising older.now }
-    ensures changes { IfOk result (λ changes. changes ≡ overlaid older.now newer.now) }
-    ensures rising { IfOk result (λ changes. IsRising changes) }
+    requires older { IsRising older.now }
+    requires newer { IsRising newer.now }
+    ensures { IfOk result (λ changes. changes ≡ overlaid older.now newer.now) }
 {
     let count = newer.len();
     let Some(room) = older.len().checked_add(count) else {
@@ -55,7 +93,7 @@ pub(crate) fn overlaid<'a, V, A: Allocator + Copy>(
             }
             Ordering::Equal => from += 1,
             Ordering::Greater => {
-                lent.push_reserved((key, newer.item(at)));
+                lent.push_reserved((key, newer.cell(at)));
                 at += 1;
             }
         }

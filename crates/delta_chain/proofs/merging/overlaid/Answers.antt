@@ -1,7 +1,6 @@
 use Rattle.std.proofs.Common.{◌<◌, ◌≤◌, length, arith, add-one, Some, Less, Equal}
 use Rattle.delta_chain.specs.Lent.{pairs_lent}
 use Rattle.delta_chain.specs.Merging.{asserted, overlaid}
-use Rattle.delta_chain.proofs.LayerLemmas.{rising-with_run}
 use Rattle.delta_chain.proofs.Lending.{pairs_lent-push}
 use Rattle.delta_chain.proofs.Merges.{less_step, equal_step, greater_step, there_is_one, all_changes}
 use Rattle.delta_chain.proofs.Overlays.{rising-asserted, key-asserted, change-asserted, length-asserted}
@@ -15,7 +14,7 @@ loop-at-preserved-in-Less g c =
       turn = c.loop-at.invariant.turn;
       count = omega (arith, c.push_reserved.ensures.len);
       room = rw c.push_reserved.ensures.capacity c.loop-at.invariant.room;
-      made = simp add-one (rw (c.push_reserved.ensures.items, pairs_lent-push) (less_step c.args.older.now (asserted c.args.newer.now) c.loop-at.from c.loop-at.at c.key.result.now c.key-key.result.now c.cell.result.now (pairs_lent c.loop-at.lent.items) _ (rising-asserted c.args.newer.now c.len-count.ensures.rising) c.key.ensures c.cell.ensures (key-asserted c.args.newer.now c.loop-at.at c.key-key.result.now c.key-key.ensures) c.in-Less.ensures c.loop-at.invariant.made));
+      made = simp add-one (rw (c.push_reserved.ensures.items, pairs_lent-push) (less_step c.args.older.now (asserted c.args.newer.now) c.loop-at.from c.loop-at.at c.key.result.now c.key-key.result.now c.cell.result.now (pairs_lent c.loop-at.lent.items) _ (rising-asserted c.args.newer.now c.requires.newer) c.key.ensures c.cell.ensures (key-asserted c.args.newer.now c.loop-at.at c.key-key.result.now c.key-key.ensures) c.in-Less.ensures c.loop-at.invariant.made));
     }
 
 pub loop-at-preserved-in-Equal : goal.loop-at-preserved-in-Equal
@@ -26,21 +25,21 @@ loop-at-preserved-in-Equal g c =
       turn = c.loop-at.invariant.turn;
       count = omega arith;
       room = c.loop-at.invariant.room;
-      made = simp add-one (equal_step c.args.older.now (asserted c.args.newer.now) c.loop-at.from c.loop-at.at c.key-key.result.now (pairs_lent c.loop-at.lent.items) _ c.requires n (key-asserted c.args.newer.now c.loop-at.at c.key-key.result.now c.key-key.ensures) c.in-Equal.ensures c.loop-at.invariant.made);
+      made = simp add-one (equal_step c.args.older.now (asserted c.args.newer.now) c.loop-at.from c.loop-at.at c.key-key.result.now (pairs_lent c.loop-at.lent.items) _ c.requires.older n (key-asserted c.args.newer.now c.loop-at.at c.key-key.result.now c.key-key.ensures) c.in-Equal.ensures c.loop-at.invariant.made);
     }
 
 pub loop-at-preserved : goal.loop-at-preserved
 loop-at-preserved g c =
     record {
       place = c.loop-at.invariant.place;
-      turn = omega (arith, c.len-count.ensures.count);
+      turn = omega (arith, c.len-count.ensures);
       count = omega (arith, c.push_reserved-in-Greater.ensures.len);
       room = rw c.push_reserved-in-Greater.ensures.capacity c.loop-at.invariant.room;
-      made = simp add-one (rw (c.push_reserved-in-Greater.ensures.items, pairs_lent-push) (greater_step c.args.older.now (asserted c.args.newer.now) c.loop-at.from c.loop-at.at c.key-key.result.now (Some c.item.result.now) (pairs_lent c.loop-at.lent.items) _ c.requires (rising-asserted c.args.newer.now c.len-count.ensures.rising) (key-asserted c.args.newer.now c.loop-at.at c.key-key.result.now c.key-key.ensures) (change-asserted c.args.newer.now c.loop-at.at c.item.result.now c.item.ensures) c.in-Greater.ensures c.loop-at.invariant.made));
+      made = simp add-one (rw (c.push_reserved-in-Greater.ensures.items, pairs_lent-push) (greater_step c.args.older.now (asserted c.args.newer.now) c.loop-at.from c.loop-at.at c.key-key.result.now (Some c.cell-in-Greater.result.now) (pairs_lent c.loop-at.lent.items) _ c.requires.older (rising-asserted c.args.newer.now c.requires.newer) (key-asserted c.args.newer.now c.loop-at.at c.key-key.result.now c.key-key.ensures) (change-asserted c.args.newer.now c.loop-at.at c.cell-in-Greater.result.now c.cell-in-Greater.ensures) c.in-Greater.ensures c.loop-at.invariant.made));
     }
 
 pub returns : goal.returns
 returns g c =
-    let n : length (asserted c.args.newer.now) ≤ c.loop-at.at = omega (arith, length-asserted c.args.newer.now, c.len-count.ensures.count, c.loop-at-test.false) in
+    let n : length (asserted c.args.newer.now) ≤ c.loop-at.at = omega (arith, length-asserted c.args.newer.now, c.len-count.ensures, c.loop-at-test.false) in
     let all = all_changes c.args.older.now (asserted c.args.newer.now) c.loop-at.from c.loop-at.at (pairs_lent c.loop-at.lent.items) (overlaid c.args.older.now c.args.newer.now) n c.loop-at.invariant.made in
-    rw (c.of_list.ensures, c.push_rest.ensures) (record { changes = all; rising = rw all (rising-with_run c.args.older.now (asserted c.args.newer.now) c.requires) })
+    rw (c.of_list.ensures, c.push_rest.ensures) all
