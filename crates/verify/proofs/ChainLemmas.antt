@@ -1,15 +1,13 @@
 -- What the tests of a page's keys and sizes come to, list by list.
-use Rattle.std.specs.Prelude.{◌≡◌, ℕ, zero, suc, ◌+◌, Bool, true, false, ◌&&◌, List, [], ◌∷◌, drop, length, nat_le, slice_get, Option, Some}
+use Rattle.std.specs.Prelude.{◌≡◌, ⊤, ℕ, zero, suc, ◌+◌, Bool, true, false, ◌&&◌, List, [], ◌∷◌, drop, slice_get, Option, Some, None}
 use Rattle.std.proofs.Common.{refl, sym, ap, ◌∙◌, add-one}
+use Rattle.std.specs.Borrow.{Bor}
 use Rattle.std.specs.List.{list_all}
 use Rattle.std.specs.Map.{keys_of, values_of}
-use Rattle.std.proofs.lemmas.List.Folds.{list_all-append}
 use Rattle.keys.specs.Bytes.{Pairs, Changes}
-use Rattle.keys.specs.declared.settings.Settings.{Settings}
+use Rattle.delta_chain.specs.Layers.{Layers}
 use Rattle.delta_chain.proofs.Places.{drop_pair}
-use Rattle.index_page.specs.Page.{as_changes, said_under}
-use Rattle.index_page.specs.Rules.{is_run_sized, is_short_change}
-use Rattle.verify.specs.Sizes.{sizes_under}
+use Rattle.index_page.specs.Page.{as_changes}
 
 -- ---- a test of a list, place by place
 
@@ -44,6 +42,9 @@ module _ {V : Type 0} where
   keys-as_changes [] = refl
   keys-as_changes (e ∷ es) = ap (λ (x : List (List ℕ)). e.0 ∷ x) (keys-as_changes es)
 
+  pub base_alone : (p : List ℕ → Bool) (es : List (List ℕ × V)) (b all : Bool) → b ≡ list_all p (keys_of es) → list_all p (keys_of (as_changes es)) ≡ all → b ≡ all
+  base_alone p es b all h e = h ∙ ap (list_all p) (sym (keys-as_changes es)) ∙ e
+
   -- the test of the changes, as a test of the entries
   pub all-as_changes : (p : List ℕ × Option V → Bool) (es : List (List ℕ × V)) → list_all p (as_changes es) ≡ list_all (λ e. p (e.0, Some e.1)) es
   all-as_changes p [] = refl
@@ -64,18 +65,14 @@ pub both_fail : (a b : Bool) → false ≡ b → false ≡ (a && b)
 both_fail true b h = h
 both_fail false b h = refl
 
--- ---- the sizes of a page, by those of its newest run
-
-sizes_by : (base short runs names below : Bool) → (short && names) ≡ false → false ≡ (base && (short && runs) && (names && below))
-sizes_by true false runs names below h = refl
-sizes_by false false runs names below h = refl
-sizes_by true true true false below h = refl
-sizes_by true true false false below h = refl
-sizes_by false true runs false below h = refl
-sizes_by base true runs true below h = absurd (cc)
+-- ---- the runs that are left, where a walk down a page has come to the newest of them, or to the base
 
 module _ {V : Type 0} where
-  -- where those of a run don't fit, the page's don't
-  pub sizes-else : (s : Settings) (is_short : V → Bool) (run : Changes V) (runs : List (Changes V)) (base : Pairs V) → (is_run_sized s run && list_all (is_short_change s is_short) run) ≡ false → false ≡ sizes_under s is_short (run ∷ runs) base
-  sizes-else s is_short run runs base h =
-      rw list_all-append (sizes_by (nat_le (length base) s.fan) (is_run_sized s run) (list_all (is_run_sized s) runs) (list_all (is_short_change s is_short) run) (list_all (is_short_change s is_short) (said_under runs base)) h)
+  abbrev pub runs_left : Option (Bor (Changes V) × Layers V) → List (Changes V)
+  runs_left None = []
+  runs_left (Some q) = q.0.now ∷ q.1.runs
+
+  -- below these runs stands this base
+  abbrev pub StandOn : Pairs V → Option (Bor (Changes V) × Layers V) → Type 0
+  StandOn base None = ⊤
+  StandOn base (Some q) = q.1.base ≡ base

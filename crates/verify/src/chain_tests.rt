@@ -68,10 +68,14 @@ pub(crate) fn names_within<V, A: Allocator + Copy>(
 ) -> bool
     ensures { result ≡ list_all (is_within low.now (option_copied end.entry)) (keys_of (said_under lists.now.runs lists.now.base)) }
 {
-    match lists.newest() {
-        None => keys_within(lists.base(), low, end),
-        Some((run, below)) => keys_within(run, low, end) && names_within(&below, low, end),
+    let mut next = lists.newest();
+    while let Some((run, below)) = next {
+        if !keys_within(run, low, end) {
+            return false;
+        }
+        next = below.newest();
     }
+    keys_within(lists.base(), low, end)
 }
 
 /// Whether the base and each run are within the settings, in their numbers of entries and in the lengths of keys and cells.
@@ -81,10 +85,14 @@ pub(crate) fn fits_sizes<V: CellSize, A: Allocator + Copy>(
 ) -> bool
     ensures { result ≡ sizes_under settings.now (V.is_short settings.now) lists.now.runs lists.now.base }
 {
-    match lists.newest() {
-        None => fits_base(lists.base(), settings),
-        Some((run, below)) => fits_run(run, settings) && fits_sizes(&below, settings),
+    let mut next = lists.newest();
+    while let Some((run, below)) = next {
+        if !fits_run(run, settings) {
+            return false;
+        }
+        next = below.newest();
     }
+    fits_base(lists.base(), settings)
 }
 
 // The same of a base.
