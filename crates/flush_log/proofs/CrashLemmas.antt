@@ -186,6 +186,10 @@ settled-either result n m calls more since settled at bytes same done refused wa
     (λ is. settled-write (replicate n 0) calls more since settled was at bytes is)
     (λ is. subst (λ (xs : List Call). IsSettledAt (replicate n 0) xs since settled) (sym is) was))
 
+-- all that is kept of a disk, m of k bytes before and now, is still all of it
+pub whole-still : (before now k m : ℕ) → m ≡ k → before ≡ k → before ≤ now → now ≤ m → now ≡ m
+whole-still before now k m same was grew short = omega (arith, same, was, grew, short)
+
 -- what is left now, of a disk of n zeros
 pub left-now : (fill : Fill) (n : ℕ) (calls : List Call) (c : List ℕ) → AreCalls n calls → c ≡ left_with fill calls (replicate n 0) (replicate n 0)
     → LeftNow (replicate n 0) calls c

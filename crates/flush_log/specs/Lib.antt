@@ -2,6 +2,7 @@ pub mod AfterFlush
 pub mod Commit
 pub mod Crash
 pub mod Disk
+pub mod Faults
 pub mod FlushText
 pub mod Gathering
 pub mod ImageWork

@@ -1,5 +1,5 @@
 -- A disk of which a record is kept: the bytes that it had at first, and the calls that were made since, in their order.
-use Rattle.std.specs.Prelude.{◌≡◌, ◌⊎◌, ℕ, ◌+◌, ◌<◌, ◌≤◌, true, List, length, map, take}
+use Rattle.std.specs.Prelude.{◌≡◌, ◌⊎◌, ℕ, ◌+◌, ◌-◌, ◌<◌, ◌≤◌, true, List, ◌++◌, length, map, take, replicate}
 use Rattle.std.specs.List.{AllByRecursion}
 use Rattle.keys.specs.Bytes.{Bytes}
 use Rattle.flush_log.specs.Disk.{View}
@@ -43,3 +43,7 @@ call_of recorded.Sync = Sync
 
 abbrev pub calls_of : {A : Type 0} → List (RecordedCall A) → List Call
 calls_of calls = map call_of calls
+
+-- a file of n bytes, of which these are the first and all others are zeros
+abbrev pub with_zeros : ℕ → Bytes → Bytes
+with_zeros n first = first ++ replicate (n - length first) 0

@@ -1,13 +1,16 @@
 //! A disk for tests that stops as a machine does.
-ghost use Rattle.std.specs.Prelude.{◌≡◌, ◌+◌, ◌≤◌, ◌∷◌, [], length, replicate, None, refl, IfOk};
-ghost use Rattle.std.proofs.Common.{inl, ⊎_elim, sym, ap, ◌∙◌, arith};
+ghost use Rattle.std.specs.Prelude.{◌≡◌, ◌⊎◌, ℕ, ◌+◌, ◌-◌, ◌^◌, ◌≤◌, ◌++◌, ◌∷◌, min, IsTrue, [], length, take, drop, replicate, Some, None, Ok, refl, IfOk, OnOk, OnErr};
+ghost use Rattle.std.proofs.Common.{inl, ⊎_elim, sym, ap, ◌∙◌, arith, length-append};
 ghost use Rattle.std.proofs.Props.{props};
 ghost use Rattle.std.proofs.lemmas.List.{length-replicate};
-ghost use Rattle.flush_log.specs.Disk.{IsSettled, Kept, Same};
+ghost use Rattle.flush_log.specs.Overlay.{overlay};
+ghost use Rattle.flush_log.specs.Disk.{IsSettled, Torn, Kept, Same, Leaves, CountsFailure, HasFailed};
 ghost use Rattle.flush_log.specs.Record.{AreCalls, end_of_call, call_of, calls_of};
 ghost use Rattle.flush_log.specs.Crash.{torn_by, left_with, all_torn, IsSettledAt};
+ghost use Rattle.flush_log.specs.Faults.{moment_at, IsCutShort};
+ghost use Rattle.flush_log.specs.declared.crash_disk.Moment.TheVariants.{Running, Stopping, Stopped};
 
-use crate::disk::{Disk, DiskFault, count_failure};
+use crate::disk::{Disk, DiskFault, count_failure, counted};
 use crate::mem_disk::{MemDisk, RecordedCall, overwrite};
 use std::alloc::{AllocError, Allocator};
 
@@ -23,8 +26,8 @@ pub enum Fill {
 }
 
 /// A disk in memory that can stop as a machine does: from a given call on every write and sync fails. A write at which it stops is
-/// made, and a sync does nothing; what comes later does nothing either, while a read still answers. What a crash leaves can be had at
-/// any moment, in three ways. The disk is honest, so all that is promised of a store on an honest disk holds on it.
+/// made, and a sync does nothing; what comes later does nothing either, while a read still answers. Where memory is refused, a call
+/// fails before that, and does nothing. What a crash leaves can be had at any moment, in three ways. The disk is honest, so all that is promised of a store on an honest disk holds on it.
 ///
 /// It takes two calls to make a store, a write and a sync, and six to flush it first. Here the disk stops as the gate of the new
 /// slot is written, which is the fifth of the flush; a byte that is no gate is left there:
@@ -33,10 +36,10 @@ pub enum Fill {
 /// let mut disk = CrashDisk::new(alloc, 1_536)?;
 /// disk.stop_at(7);
 /// let mut store = Store::create(alloc, disk, settings).map_err(|(fault, _disk)| fault)?;
-/// store.batch(rt, &commands)?;
-/// assert!(rt; store.flush() == Err(Fault::Device));
+/// store.batch(rt, crew, &NoGate, &commands)?;
+/// assert!(rt; store.flush(rt, crew) == Err(Fault::Device));
 /// let left = store.disk().crashed(Fill::Byte(0xff))?;
-/// let opened = Store::recover(rt, alloc, left);
+/// let opened = Store::recover(rt, alloc, left, crew);
 /// ```
 ///
 /// To crash at each call in turn, run the program once without `stop_at`, and then as often as `calls` counted. With each write and
@@ -52,7 +55,8 @@ pub struct CrashDisk<A: Allocator + Copy> {
     stops_at: Option<u64>,
     calls: u64,
     failures: u64,
-    ghost left: { IsSettledAt (replicate (length disk.bytes.items) 0) (calls_of disk.calls.items) since settled.items } by { Prim.hlevel props },
+    ghost whole: { length disk.kept.items ≡ disk.len },
+    ghost left: { IsSettledAt (replicate disk.len 0) (calls_of disk.calls.items) since settled.items } by { Prim.hlevel props },
 }
 
 // Where a write or a sync lies, by the call at which the disk stops.
@@ -71,6 +75,7 @@ impl<A: Allocator + Copy> CrashDisk<A> {
         ensures settled { IfOk result (λ disk. IsSettled (⟦<CrashDisk<A> as Disk>⟧.view disk)) }
         ensures failures { IfOk result (λ disk. ⟦<CrashDisk<A> as Disk>⟧.failed disk ≡ 0) }
         ensures running { IfOk result (λ disk. disk.stops_at ≡ None) }
+        ensures calls { IfOk result (λ disk. disk.calls ≡ 0) }
     {
         let mut bytes = Vec::new(alloc);
         bytes.resize(len, 0)?;
@@ -84,6 +89,7 @@ impl<A: Allocator + Copy> CrashDisk<A> {
         ensures settled { IfOk result (λ disk. IsSettled (⟦<CrashDisk<A> as Disk>⟧.view disk)) }
         ensures failures { IfOk result (λ disk. ⟦<CrashDisk<A> as Disk>⟧.failed disk ≡ 0) }
         ensures running { IfOk result (λ disk. disk.stops_at ≡ None) }
+        ensures calls { IfOk result (λ disk. disk.calls ≡ 0) }
     {
         let settled = bytes.to_vec(alloc)?;
         let disk = MemDisk::holding(alloc, bytes)?;
@@ -104,6 +110,8 @@ impl<A: Allocator + Copy> CrashDisk<A> {
         ensures same { Same (⟦<CrashDisk<A> as Disk>⟧.view self.old) (⟦<CrashDisk<A> as Disk>⟧.view self.new) }
         ensures kept { Kept (⟦<CrashDisk<A> as Disk>⟧.view self.old) (⟦<CrashDisk<A> as Disk>⟧.view self.new) }
         ensures failures { ⟦<CrashDisk<A> as Disk>⟧.failed self.new ≡ ⟦<CrashDisk<A> as Disk>⟧.failed self.old }
+        ensures stops { self.new.stops_at ≡ Some (min (self.old.calls + call) (2 ^ 64 - 1)) }
+        ensures calls { self.new.calls ≡ self.old.calls }
     {
         self.stops_at = Some(self.calls.saturating_add(call));
     }
@@ -129,13 +137,14 @@ impl<A: Allocator + Copy> CrashDisk<A> {
         // Which of all that it may leave.
         ensures filled { IfOk result (λ disk. (⟦<CrashDisk<A> as Disk>⟧.view disk).seen
             ≡ left_with fill (calls_of self.now.disk.calls.items)
-            (replicate (length self.now.disk.bytes.items) 0) (replicate (length self.now.disk.bytes.items) 0)) }
+            (replicate self.now.disk.len 0) (replicate self.now.disk.len 0)) }
         ensures written { fill ≡ Fill.Written → IfOk result (λ disk. (⟦<CrashDisk<A> as Disk>⟧.view disk).seen
             ≡ (⟦<CrashDisk<A> as Disk>⟧.view self.now).seen) }
         ensures settled { IfOk result (λ disk. IsSettled (⟦<CrashDisk<A> as Disk>⟧.view disk)) }
         ensures size { IfOk result (λ disk. (⟦<CrashDisk<A> as Disk>⟧.view disk).size ≡ (⟦<CrashDisk<A> as Disk>⟧.view self.now).size) }
         ensures failures { IfOk result (λ disk. ⟦<CrashDisk<A> as Disk>⟧.failed disk ≡ 0) }
         ensures running { IfOk result (λ disk. disk.stops_at ≡ None) }
+        ensures calls { IfOk result (λ disk. disk.calls ≡ 0) }
     {
         let mut bytes = self.settled.to_vec(self.alloc)?;
         tear(&mut bytes, &self.disk.calls()[self.since..], fill);
@@ -144,7 +153,10 @@ impl<A: Allocator + Copy> CrashDisk<A> {
 }
 
 // Counts a write or a sync, and says where it lies.
-fn next_moment(stops_at: Option<u64>, calls: &mut u64) -> Moment {
+fn next_moment(stops_at: Option<u64>, calls: &mut u64) -> Moment
+    ensures counted { calls.new ≡ min (calls.old + 1) (2 ^ 64 - 1) }
+    ensures moment { result ≡ moment_at stops_at calls.new }
+{
     *calls = calls.saturating_add(1);
     match stops_at {
         Some(stop) if *calls == stop => Moment::Stopping,
@@ -195,7 +207,11 @@ impl<A: Allocator + Copy> Disk for CrashDisk<A> {
     ghost failed = { λ d. d.failures };
 
     ghost lawful = { λ d _. record {
-      whole = sym (ap length d.disk.recorded) ∙ sym (length-replicate (length d.disk.bytes.items) 0);
+      whole =
+          let both = length-append d.disk.kept.items (replicate (d.disk.len - length d.disk.kept.items) 0) in
+          let rest = length-replicate {A = ℕ} (d.disk.len - length d.disk.kept.items) 0 in
+          let all = length-replicate {A = ℕ} d.disk.len 0 in
+          sym (ap length d.disk.recorded) ∙ Prim.omega (arith, both, rest, all, d.disk.short);
       may_stay = inl refl;
       counts_now = λ t c _ now. inl now;
       only_now = λ c left. ⊎_elim (λ now. now) (λ earlier. absurd (Prim.omega (arith, earlier.1, earlier.2))) left;
@@ -209,24 +225,64 @@ impl<A: Allocator + Copy> Disk for CrashDisk<A> {
         self.failures
     }
 
-    fn read_at(&mut self, at: u64, buf: &mut [u8]) -> Result<(), DiskFault> {
-        let from = at as usize;
-        buf.copy_from_slice(&self.disk.bytes()[from..from + buf.len()]);
+    fn read_at(&mut self, at: u64, buf: &mut [u8]) -> Result<(), DiskFault>
+        requires { at + length buf.old ≤ (⟦<CrashDisk<A> as Disk>⟧.view self.old).size }
+        ensures answers { result ≡ Ok tt }
+        ensures bytes { buf.new ≡ take (length buf.old) (drop at (⟦<CrashDisk<A> as Disk>⟧.view self.old).seen) }
+        ensures same { self.new ≡ self.old }
+    {
+        self.disk.read(at, buf);
         Ok(())
     }
 
-    fn write_at(&mut self, at: u64, bytes: &[u8]) -> Result<(), DiskFault> {
-        let moment = next_moment(self.stops_at, &mut self.calls);
-        if moment == Moment::Stopped {
-            return Err(count_failure(&mut self.failures));
-        }
-        match self.disk.write_recorded(at, bytes) {
-            Ok(()) if moment == Moment::Running => Ok(()),
-            _ => Err(count_failure(&mut self.failures)),
+    fn write_at(&mut self, at: u64, bytes: &[u8]) -> Result<(), DiskFault>
+        requires { at + length bytes.now ≤ (⟦<CrashDisk<A> as Disk>⟧.view self.old).size }
+        ensures kept { Kept (⟦<CrashDisk<A> as Disk>⟧.view self.old) (⟦<CrashDisk<A> as Disk>⟧.view self.new) }
+        ensures failed { CountsFailure result (⟦<CrashDisk<A> as Disk>⟧.failed self.old) (⟦<CrashDisk<A> as Disk>⟧.failed self.new) }
+        ensures written { IsTrue (⟦<CrashDisk<A> as Disk>⟧.view self.old).is_honest →
+            OnOk result ((⟦<CrashDisk<A> as Disk>⟧.view self.new).seen ≡ overlay (⟦<CrashDisk<A> as Disk>⟧.view self.old).seen at bytes.now) }
+        ensures torn { IsTrue (⟦<CrashDisk<A> as Disk>⟧.view self.old).is_honest →
+            Torn at (length bytes.now) (⟦<CrashDisk<A> as Disk>⟧.view self.old).seen (⟦<CrashDisk<A> as Disk>⟧.view self.new).seen }
+        ensures crash { IsTrue (⟦<CrashDisk<A> as Disk>⟧.view self.old).is_honest →
+            Leaves (⟦<CrashDisk<A> as Disk>⟧.view self.old) (⟦<CrashDisk<A> as Disk>⟧.view self.new) (Torn at (length bytes.now)) }
+        // At which call it stops, and what that leaves.
+        ensures counted { self.new.calls ≡ min (self.old.calls + 1) (2 ^ 64 - 1) }
+        ensures stops { self.new.stops_at ≡ self.old.stops_at }
+        ensures running { OnOk result (moment_at self.old.stops_at self.new.calls ≡ Running) }
+        ensures cut { OnErr result (IsCutShort (moment_at self.old.stops_at self.new.calls ≡ Stopping)
+            (overlay (⟦<CrashDisk<A> as Disk>⟧.view self.old).seen at bytes.now)
+            ((moment_at self.old.stops_at self.new.calls ≡ Stopped)
+            ⊎ HasFailed (⟦<MemDisk<A> as Disk>⟧.failed self.old.disk) (⟦<MemDisk<A> as Disk>⟧.failed self.new.disk))
+            (⟦<CrashDisk<A> as Disk>⟧.view self.old) (⟦<CrashDisk<A> as Disk>⟧.view self.new)) }
+    {
+        match next_moment(self.stops_at, &mut self.calls) {
+            Moment::Running => counted(&mut self.failures, self.disk.write_recorded(at, bytes)),
+            Moment::Stopping => {
+                let _ = self.disk.write_recorded(at, bytes);
+                Err(count_failure(&mut self.failures))
+            }
+            Moment::Stopped => Err(count_failure(&mut self.failures)),
         }
     }
 
-    fn sync(&mut self) -> Result<(), DiskFault> {
+    fn sync(&mut self) -> Result<(), DiskFault>
+        ensures kept { Kept (⟦<CrashDisk<A> as Disk>⟧.view self.old) (⟦<CrashDisk<A> as Disk>⟧.view self.new) }
+        ensures failed { CountsFailure result (⟦<CrashDisk<A> as Disk>⟧.failed self.old) (⟦<CrashDisk<A> as Disk>⟧.failed self.new) }
+        ensures settled { IsTrue (⟦<CrashDisk<A> as Disk>⟧.view self.old).is_honest →
+            OnOk result (IsSettled (⟦<CrashDisk<A> as Disk>⟧.view self.new)) }
+        ensures seen { IsTrue (⟦<CrashDisk<A> as Disk>⟧.view self.old).is_honest →
+            (⟦<CrashDisk<A> as Disk>⟧.view self.new).seen ≡ (⟦<CrashDisk<A> as Disk>⟧.view self.old).seen }
+        ensures crash { IsTrue (⟦<CrashDisk<A> as Disk>⟧.view self.old).is_honest →
+            Leaves (⟦<CrashDisk<A> as Disk>⟧.view self.old) (⟦<CrashDisk<A> as Disk>⟧.view self.new) (λ before c. c ≡ before) }
+        // At which call it stops, and what that leaves.
+        ensures counted { self.new.calls ≡ min (self.old.calls + 1) (2 ^ 64 - 1) }
+        ensures stops { self.new.stops_at ≡ self.old.stops_at }
+        ensures running { OnOk result (moment_at self.old.stops_at self.new.calls ≡ Running) }
+        ensures none { OnErr result ((((moment_at self.old.stops_at self.new.calls ≡ Stopping)
+            ⊎ (moment_at self.old.stops_at self.new.calls ≡ Stopped))
+            ⊎ HasFailed (⟦<MemDisk<A> as Disk>⟧.failed self.old.disk) (⟦<MemDisk<A> as Disk>⟧.failed self.new.disk))
+            × Same (⟦<CrashDisk<A> as Disk>⟧.view self.old) (⟦<CrashDisk<A> as Disk>⟧.view self.new)) }
+    {
         if next_moment(self.stops_at, &mut self.calls) != Moment::Running {
             return Err(count_failure(&mut self.failures));
         }

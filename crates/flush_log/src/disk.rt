@@ -26,6 +26,17 @@ pub(crate) fn count_failure(failures: &mut u64) -> DiskFault
     DiskFault
 }
 
+// What is answered for this answer of the disk below: its failures are counted here.
+pub(crate) fn counted(failures: &mut u64, answer: Result<(), DiskFault>) -> Result<(), DiskFault>
+    ensures same { result ≡ answer }
+    ensures failed { CountsFailure result failures.old failures.new }
+{
+    match answer {
+        Ok(()) => Ok(()),
+        Err(_) => Err(count_failure(failures)),
+    }
+}
+
 /// A disk of a fixed length. Its calls want memory, time and luck, so each may fail.
 ///
 /// Whether a disk is honest is a fact of the value, which no call changes: what is said of bytes and of crashes holds of an

@@ -1,10 +1,12 @@
 //! A disk for tests of which calls fail.
-ghost use Rattle.std.specs.Prelude.{◌≡◌, length, refl};
-ghost use Rattle.std.proofs.Common.{inl, ⊎_elim, sym, ap, ◌∙◌, arith};
+ghost use Rattle.std.specs.Prelude.{◌≡◌, ◌⊎◌, ℕ, ◌+◌, ◌-◌, ◌^◌, ◌≤◌, ◌++◌, min, true, false, IsTrue, Ok, length, take, drop, replicate, refl, OnOk, OnErr};
+ghost use Rattle.std.proofs.Common.{inl, ⊎_elim, sym, ap, ◌∙◌, arith, length-append};
 ghost use Rattle.std.proofs.lemmas.List.{length-replicate};
-ghost use Rattle.flush_log.specs.Disk.{Kept, Same, CountsFailure};
+ghost use Rattle.flush_log.specs.Overlay.{overlay};
+ghost use Rattle.flush_log.specs.Disk.{IsSettled, Torn, Kept, Same, Leaves, CountsFailure, HasFailed};
+ghost use Rattle.flush_log.specs.Faults.{is_wanted, IsCutShort};
 
-use crate::disk::{Disk, DiskFault, count_failure};
+use crate::disk::{Disk, DiskFault, count_failure, counted};
 use crate::mem_disk::MemDisk;
 use std::alloc::Allocator;
 
@@ -13,25 +15,27 @@ use std::alloc::Allocator;
 pub enum Failing {
     /// No call fails.
     Never,
-    /// The call with this number fails, and those behind it succeed again.
+    /// The call with this number fails, and those after it succeed again.
     Once(u64),
-    /// The call with this number fails, and so does each behind it.
+    /// The call with this number fails, and so does each after it.
     From(u64),
 }
 
-/// A disk in memory of which calls fail as is wanted: for tests of what a store answers and leaves then. A write that fails has
-/// written so many of its first bytes, at the most; a sync that fails does nothing. The disk is honest, so all that is promised of
-/// a store on an honest disk holds on it.
+/// A disk in memory of which calls fail as is wanted: for tests of what a store answers and leaves then. A write that fails so has
+/// written its first bytes, as many as `new` was given; a sync that fails does nothing. Where memory is refused, a call fails that was
+/// not wanted to, and nothing is written. The disk is honest, so all that is promised of a store on an honest disk holds on it.
 ///
 /// It takes two calls to make a store, a write and a sync. Here the third one fails, which is the first of the flush:
 ///
 /// ```
 /// let disk = FaultDisk::new(MemDisk::new(alloc, 1_536)?, Failing::Once(3), 7);
 /// let mut store = Store::create(alloc, disk, settings).map_err(|(fault, _disk)| fault)?;
-/// store.batch(rt, &commands)?;
-/// assert!(rt; store.flush() == Err(Fault::Device));
+/// store.batch(rt, crew, &NoGate, &commands)?;
+/// assert!(rt; store.flush(rt, crew) == Err(Fault::Device));
 /// assert!(rt; store.disk().calls() == 3 && store.disk().failures() == 1);
-/// let opened = Store::recover(rt, alloc, store.close().into_inner());
+/// let mut left = store.close().into_inner();
+/// left.sync()?;
+/// let opened = Store::recover(rt, alloc, left, crew);
 /// ```
 ///
 /// To have each call fail in turn, run the program once with `Failing::Never`, and then as often as `calls` counted.
@@ -51,6 +55,9 @@ impl<A: Allocator + Copy> FaultDisk<A> {
         ensures same { Same (⟦<MemDisk<A> as Disk>⟧.view disk) (⟦<FaultDisk<A> as Disk>⟧.view result) }
         ensures kept { Kept (⟦<MemDisk<A> as Disk>⟧.view disk) (⟦<FaultDisk<A> as Disk>⟧.view result) }
         ensures failures { ⟦<FaultDisk<A> as Disk>⟧.failed result ≡ 0 }
+        ensures calls { result.calls ≡ 0 }
+        ensures wanted { result.failing ≡ failing }
+        ensures written { result.written ≡ written }
     {
         FaultDisk {
             disk,
@@ -79,23 +86,15 @@ impl<A: Allocator + Copy> FaultDisk<A> {
 }
 
 // Counts a write or a sync, and says whether it is one that fails.
-fn is_to_fail(failing: Failing, calls: &mut u64) -> bool {
+fn is_to_fail(failing: Failing, calls: &mut u64) -> bool
+    ensures counted { calls.new ≡ min (calls.old + 1) (2 ^ 64 - 1) }
+    ensures wanted { result ≡ is_wanted failing calls.new }
+{
     *calls = calls.saturating_add(1);
     match failing {
         Failing::Never => false,
         Failing::Once(call) => *calls == call,
         Failing::From(call) => call <= *calls,
-    }
-}
-
-// What is answered for this answer of the disk below: its failures are counted here.
-fn counted(failures: &mut u64, answer: Result<(), DiskFault>) -> Result<(), DiskFault>
-    ensures same { result ≡ answer }
-    ensures failed { CountsFailure result failures.old failures.new }
-{
-    match answer {
-        Ok(()) => Ok(()),
-        Err(_) => Err(count_failure(failures)),
     }
 }
 
@@ -105,7 +104,11 @@ impl<A: Allocator + Copy> Disk for FaultDisk<A> {
     ghost failed = { λ d. d.failures };
 
     ghost lawful = { λ d _. record {
-      whole = sym (ap length d.disk.recorded) ∙ sym (length-replicate (length d.disk.bytes.items) 0);
+      whole =
+          let both = length-append d.disk.kept.items (replicate (d.disk.len - length d.disk.kept.items) 0) in
+          let rest = length-replicate {A = ℕ} (d.disk.len - length d.disk.kept.items) 0 in
+          let all = length-replicate {A = ℕ} d.disk.len 0 in
+          sym (ap length d.disk.recorded) ∙ Prim.omega (arith, both, rest, all, d.disk.short);
       may_stay = inl refl;
       counts_now = λ t c _ now. inl now;
       only_now = λ c left. ⊎_elim (λ now. now) (λ earlier. absurd (Prim.omega (arith, earlier.1, earlier.2))) left;
@@ -119,23 +122,63 @@ impl<A: Allocator + Copy> Disk for FaultDisk<A> {
         self.failures
     }
 
-    fn read_at(&mut self, at: u64, buf: &mut [u8]) -> Result<(), DiskFault> {
-        counted(&mut self.failures, self.disk.read_at(at, buf))
+    fn read_at(&mut self, at: u64, buf: &mut [u8]) -> Result<(), DiskFault>
+        requires { at + length buf.old ≤ (⟦<FaultDisk<A> as Disk>⟧.view self.old).size }
+        ensures answers { result ≡ Ok tt }
+        ensures bytes { buf.new ≡ take (length buf.old) (drop at (⟦<FaultDisk<A> as Disk>⟧.view self.old).seen) }
+        ensures same { self.new ≡ self.old }
+    {
+        self.disk.read(at, buf);
+        Ok(())
     }
 
-    fn write_at(&mut self, at: u64, bytes: &[u8]) -> Result<(), DiskFault> {
+    fn write_at(&mut self, at: u64, bytes: &[u8]) -> Result<(), DiskFault>
+        requires { at + length bytes.now ≤ (⟦<FaultDisk<A> as Disk>⟧.view self.old).size }
+        ensures kept { Kept (⟦<FaultDisk<A> as Disk>⟧.view self.old) (⟦<FaultDisk<A> as Disk>⟧.view self.new) }
+        ensures failed { CountsFailure result (⟦<FaultDisk<A> as Disk>⟧.failed self.old) (⟦<FaultDisk<A> as Disk>⟧.failed self.new) }
+        ensures written { IsTrue (⟦<FaultDisk<A> as Disk>⟧.view self.old).is_honest →
+            OnOk result ((⟦<FaultDisk<A> as Disk>⟧.view self.new).seen ≡ overlay (⟦<FaultDisk<A> as Disk>⟧.view self.old).seen at bytes.now) }
+        ensures torn { IsTrue (⟦<FaultDisk<A> as Disk>⟧.view self.old).is_honest →
+            Torn at (length bytes.now) (⟦<FaultDisk<A> as Disk>⟧.view self.old).seen (⟦<FaultDisk<A> as Disk>⟧.view self.new).seen }
+        ensures crash { IsTrue (⟦<FaultDisk<A> as Disk>⟧.view self.old).is_honest →
+            Leaves (⟦<FaultDisk<A> as Disk>⟧.view self.old) (⟦<FaultDisk<A> as Disk>⟧.view self.new) (Torn at (length bytes.now)) }
+        // Which call fails, and what it leaves.
+        ensures counted { self.new.calls ≡ min (self.old.calls + 1) (2 ^ 64 - 1) }
+        ensures same { (self.new.failing ≡ self.old.failing) × (self.new.written ≡ self.old.written) }
+        ensures wanted { OnOk result (is_wanted self.old.failing self.new.calls ≡ false) }
+        ensures cut { OnErr result (IsCutShort (is_wanted self.old.failing self.new.calls ≡ true)
+            (overlay (⟦<FaultDisk<A> as Disk>⟧.view self.old).seen at (take self.old.written bytes.now))
+            (HasFailed (⟦<MemDisk<A> as Disk>⟧.failed self.old.disk) (⟦<MemDisk<A> as Disk>⟧.failed self.new.disk))
+            (⟦<FaultDisk<A> as Disk>⟧.view self.old) (⟦<FaultDisk<A> as Disk>⟧.view self.new)) }
+    {
         if is_to_fail(self.failing, &mut self.calls) {
             let written = self.written.min(bytes.len());
-            let _ = self.disk.write_at(at, &bytes[..written]);
+            let _ = self.disk.write_recorded(at, &bytes[..written]);
             return Err(count_failure(&mut self.failures));
         }
-        counted(&mut self.failures, self.disk.write_at(at, bytes))
+        counted(&mut self.failures, self.disk.write_recorded(at, bytes))
     }
 
-    fn sync(&mut self) -> Result<(), DiskFault> {
+    fn sync(&mut self) -> Result<(), DiskFault>
+        ensures kept { Kept (⟦<FaultDisk<A> as Disk>⟧.view self.old) (⟦<FaultDisk<A> as Disk>⟧.view self.new) }
+        ensures failed { CountsFailure result (⟦<FaultDisk<A> as Disk>⟧.failed self.old) (⟦<FaultDisk<A> as Disk>⟧.failed self.new) }
+        ensures settled { IsTrue (⟦<FaultDisk<A> as Disk>⟧.view self.old).is_honest →
+            OnOk result (IsSettled (⟦<FaultDisk<A> as Disk>⟧.view self.new)) }
+        ensures seen { IsTrue (⟦<FaultDisk<A> as Disk>⟧.view self.old).is_honest →
+            (⟦<FaultDisk<A> as Disk>⟧.view self.new).seen ≡ (⟦<FaultDisk<A> as Disk>⟧.view self.old).seen }
+        ensures crash { IsTrue (⟦<FaultDisk<A> as Disk>⟧.view self.old).is_honest →
+            Leaves (⟦<FaultDisk<A> as Disk>⟧.view self.old) (⟦<FaultDisk<A> as Disk>⟧.view self.new) (λ before c. c ≡ before) }
+        // Which call fails, and what it leaves.
+        ensures counted { self.new.calls ≡ min (self.old.calls + 1) (2 ^ 64 - 1) }
+        ensures same { (self.new.failing ≡ self.old.failing) × (self.new.written ≡ self.old.written) }
+        ensures wanted { OnOk result (is_wanted self.old.failing self.new.calls ≡ false) }
+        ensures none { OnErr result (((is_wanted self.old.failing self.new.calls ≡ true)
+            ⊎ HasFailed (⟦<MemDisk<A> as Disk>⟧.failed self.old.disk) (⟦<MemDisk<A> as Disk>⟧.failed self.new.disk))
+            × Same (⟦<FaultDisk<A> as Disk>⟧.view self.old) (⟦<FaultDisk<A> as Disk>⟧.view self.new)) }
+    {
         if is_to_fail(self.failing, &mut self.calls) {
             return Err(count_failure(&mut self.failures));
         }
-        counted(&mut self.failures, self.disk.sync())
+        counted(&mut self.failures, self.disk.sync_recorded())
     }
 }

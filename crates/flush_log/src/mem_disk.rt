@@ -1,13 +1,13 @@
 //! A disk in memory: for tests, and for stores that need not last.
-ghost use Rattle.std.specs.Prelude.{◌≡◌, ℕ, ◌+◌, ◌≤◌, ◌∷◌, ◌++◌, [], length, replicate, refl, IfOk, OnOk, OnErr};
-ghost use Rattle.std.proofs.Common.{inl, ⊎_elim, sym, ap, ◌∙◌, arith};
+ghost use Rattle.std.specs.Prelude.{◌≡◌, ℕ, ◌+◌, ◌-◌, ◌≤◌, ◌∷◌, ◌++◌, [], length, take, drop, replicate, refl, IsOk, IfOk, OnOk, OnErr};
+ghost use Rattle.std.proofs.Common.{inl, ⊎_elim, sym, ap, ◌∙◌, arith, length-append};
 ghost use Rattle.std.proofs.Props.{props};
 ghost use Rattle.std.proofs.lemmas.List.{length-replicate};
 ghost use Rattle.flush_log.specs.Overlay.{overlay};
-ghost use Rattle.flush_log.specs.Disk.{IsSettled, Torn, Kept, Leaves, CountsFailure};
+ghost use Rattle.flush_log.specs.Disk.{IsSettled, Torn, Kept, Same, Leaves, CountsFailure};
 ghost use Rattle.flush_log.specs.Commit.{seen_after};
 ghost use Rattle.flush_log.specs.Commit.Call.{Write, Sync};
-ghost use Rattle.flush_log.specs.Record.{view_of, AreCalls, call_of, calls_of};
+ghost use Rattle.flush_log.specs.Record.{view_of, AreCalls, call_of, calls_of, with_zeros};
 
 use crate::disk::{Disk, DiskFault, count_failure};
 use std::alloc::{AllocError, Allocator};
@@ -22,31 +22,34 @@ pub(crate) enum RecordedCall<A: Allocator> {
 /// A disk in memory. It is honest, and a call of it fails only where memory is refused.
 ///
 /// What a crash at any moment may have left depends on each write and sync, so a record of them is kept: the disk takes
-/// more memory with each call that changes it.
+/// more memory with each call that changes it. Its length by itself takes none: bytes are kept up to the furthest that was written.
 #[derive(Drop)]
 pub struct MemDisk<A: Allocator + Copy> {
     alloc: A,
-    bytes: Vec<u8, A>,
+    len: usize,
+    // The first bytes; all others are zeros.
+    kept: Vec<u8, A>,
     // In the order of the calls.
     calls: Vec<RecordedCall<A>, A>,
     failures: u64,
-    ghost in_range: { AreCalls (length bytes.items) (calls_of calls.items) } by { Prim.hlevel props },
-    ghost recorded: { bytes.items ≡ seen_after (calls_of calls.items) (replicate (length bytes.items) 0) },
+    ghost in_range: { AreCalls len (calls_of calls.items) } by { Prim.hlevel props },
+    ghost short: { length kept.items ≤ len },
+    ghost recorded: { with_zeros len kept.items ≡ seen_after (calls_of calls.items) (replicate len 0) },
 }
 
 impl<A: Allocator + Copy> MemDisk<A> {
-    /// A disk of zeros, settled. `Err` where memory was refused.
+    /// A disk of zeros, settled. It takes no memory, so none is refused: there is no `Err`.
     pub fn new(alloc: A, len: usize) -> Result<Self, AllocError>
+        ensures never { IsOk result }
         ensures size { IfOk result (λ disk. (⟦<MemDisk<A> as Disk>⟧.view disk).size ≡ len) }
         ensures seen { IfOk result (λ disk. (⟦<MemDisk<A> as Disk>⟧.view disk).seen ≡ replicate len 0) }
         ensures settled { IfOk result (λ disk. IsSettled (⟦<MemDisk<A> as Disk>⟧.view disk)) }
         ensures failures { IfOk result (λ disk. ⟦<MemDisk<A> as Disk>⟧.failed disk ≡ 0) }
     {
-        let mut bytes = Vec::new(alloc);
-        bytes.resize(len, 0)?;
         Ok(MemDisk {
             alloc,
-            bytes,
+            len,
+            kept: Vec::new(alloc),
             calls: Vec::new(alloc),
             failures: 0,
         })
@@ -54,7 +57,8 @@ impl<A: Allocator + Copy> MemDisk<A> {
 
     // A disk that these bytes were written to, and made to last.
     pub(crate) fn holding(alloc: A, bytes: Vec<u8, A>) -> Result<Self, AllocError>
-        ensures bytes { IfOk result (λ disk. disk.bytes.items ≡ bytes.items) }
+        ensures len { IfOk result (λ disk. disk.len ≡ length bytes.items) }
+        ensures kept { IfOk result (λ disk. disk.kept.items ≡ bytes.items) }
         ensures calls { IfOk result (λ disk. calls_of disk.calls.items ≡ Write 0 bytes.items ∷ Sync ∷ []) }
     {
         let mut calls = Vec::new(alloc);
@@ -62,17 +66,20 @@ impl<A: Allocator + Copy> MemDisk<A> {
         note(&mut calls, RecordedCall::Sync)?;
         Ok(MemDisk {
             alloc,
-            bytes,
+            len: bytes.len(),
+            kept: bytes,
             calls,
             failures: 0,
         })
     }
 
-    /// What a read gives, of the whole disk.
+    /// What a read gives, up to the furthest byte that was written; all bytes beyond are zeros.
     pub fn bytes(&self) -> &[u8]
-        ensures { result.now ≡ (⟦<MemDisk<A> as Disk>⟧.view self.now).seen }
+        ensures seen { with_zeros (⟦<MemDisk<A> as Disk>⟧.view self.now).size result.now ≡ (⟦<MemDisk<A> as Disk>⟧.view self.now).seen }
+        ensures short { length result.now ≤ (⟦<MemDisk<A> as Disk>⟧.view self.now).size }
+        ensures kept { result.now ≡ self.now.kept.items }
     {
-        &self.bytes
+        &self.kept
     }
 
     // The record.
@@ -82,22 +89,36 @@ impl<A: Allocator + Copy> MemDisk<A> {
         &self.calls
     }
 
+    // As `read_at`.
+    pub(crate) fn read(&self, at: u64, buf: &mut [u8])
+        requires { at + length buf.old ≤ (⟦<MemDisk<A> as Disk>⟧.view self.now).size }
+        ensures { buf.new ≡ take (length buf.old) (drop at (⟦<MemDisk<A> as Disk>⟧.view self.now).seen) }
+    {
+        read_kept(&self.kept, self.len, at as usize, buf);
+    }
+
     // As `write_at`, with what it puts into the record.
     pub(crate) fn write_recorded(&mut self, at: u64, bytes: &[u8]) -> Result<(), DiskFault>
         requires { at + length bytes.now ≤ (⟦<MemDisk<A> as Disk>⟧.view self.old).size }
         ensures done { OnOk result (calls_of self.new.calls.items ≡ calls_of self.old.calls.items ++ Write at bytes.now ∷ []) }
         ensures refused { OnErr result (calls_of self.new.calls.items ≡ calls_of self.old.calls.items) }
         ensures kept { Kept (⟦<MemDisk<A> as Disk>⟧.view self.old) (⟦<MemDisk<A> as Disk>⟧.view self.new) }
-        ensures long { length self.new.bytes.items ≡ length self.old.bytes.items }
+        ensures len { self.new.len ≡ self.old.len }
+        ensures grows { length self.old.kept.items ≤ length self.new.kept.items }
+        ensures none { OnErr result (Same (⟦<MemDisk<A> as Disk>⟧.view self.old) (⟦<MemDisk<A> as Disk>⟧.view self.new)) }
         ensures failed { CountsFailure result (⟦<MemDisk<A> as Disk>⟧.failed self.old) (⟦<MemDisk<A> as Disk>⟧.failed self.new) }
         ensures written { OnOk result ((⟦<MemDisk<A> as Disk>⟧.view self.new).seen
             ≡ overlay (⟦<MemDisk<A> as Disk>⟧.view self.old).seen at bytes.now) }
         ensures torn { Torn at (length bytes.now) (⟦<MemDisk<A> as Disk>⟧.view self.old).seen (⟦<MemDisk<A> as Disk>⟧.view self.new).seen }
         ensures crash { Leaves (⟦<MemDisk<A> as Disk>⟧.view self.old) (⟦<MemDisk<A> as Disk>⟧.view self.new) (Torn at (length bytes.now)) }
     {
+        let end = at as usize + bytes.len();
+        if lengthen(&mut self.kept, self.len, end).is_err() {
+            return Err(count_failure(&mut self.failures));
+        }
         match note_write(self.alloc, &mut self.calls, at, bytes) {
             Ok(()) => {
-                overwrite(&mut self.bytes, at as usize, bytes);
+                overwrite(&mut self.kept, at as usize, bytes);
                 Ok(())
             }
             Err(_) => Err(count_failure(&mut self.failures)),
@@ -108,7 +129,9 @@ impl<A: Allocator + Copy> MemDisk<A> {
     pub(crate) fn sync_recorded(&mut self) -> Result<(), DiskFault>
         ensures done { OnOk result (calls_of self.new.calls.items ≡ calls_of self.old.calls.items ++ Sync ∷ []) }
         ensures refused { OnErr result (calls_of self.new.calls.items ≡ calls_of self.old.calls.items) }
-        ensures bytes { self.new.bytes.items ≡ self.old.bytes.items }
+        ensures len { self.new.len ≡ self.old.len }
+        ensures kept { self.new.kept.items ≡ self.old.kept.items }
+        ensures none { OnErr result (Same (⟦<MemDisk<A> as Disk>⟧.view self.old) (⟦<MemDisk<A> as Disk>⟧.view self.new)) }
         ensures failed { CountsFailure result (⟦<MemDisk<A> as Disk>⟧.failed self.old) (⟦<MemDisk<A> as Disk>⟧.failed self.new) }
         ensures settled { OnOk result (IsSettled (⟦<MemDisk<A> as Disk>⟧.view self.new)) }
         ensures seen { (⟦<MemDisk<A> as Disk>⟧.view self.new).seen ≡ (⟦<MemDisk<A> as Disk>⟧.view self.old).seen }
@@ -119,6 +142,33 @@ impl<A: Allocator + Copy> MemDisk<A> {
             Err(_) => Err(count_failure(&mut self.failures)),
         }
     }
+}
+
+// Reads from a place on, in a file of this length of which the first bytes are kept and all others are zeros.
+fn read_kept(kept: &[u8], len: usize, at: usize, buf: &mut [u8])
+    requires short { length kept.now ≤ len }
+    requires within { at + length buf.old ≤ len }
+    ensures { buf.new ≡ take (length buf.old) (drop at (with_zeros len kept.now)) }
+{
+    let from = at.min(kept.len());
+    let here = buf.len().min(kept.len() - from);
+    buf.fill(0);
+    buf[..here].copy_from_slice(&kept[from..from + here]);
+}
+
+// Keeps the zeros up to this place too.
+fn lengthen<A: Allocator>(kept: &mut Vec<u8, A>, len: usize, end: usize) -> Result<(), AllocError>
+    requires short { length kept.old.items ≤ len }
+    requires within { end ≤ len }
+    ensures same { with_zeros len kept.new.items ≡ with_zeros len kept.old.items }
+    ensures short { length kept.new.items ≤ len }
+    ensures grows { length kept.old.items ≤ length kept.new.items }
+    ensures enough { OnOk result (end ≤ length kept.new.items) }
+{
+    if kept.len() < end {
+        kept.resize(end, 0)?;
+    }
+    Ok(())
 }
 
 // Puts these bytes into a file from a place on.
@@ -156,19 +206,23 @@ fn note_write<A: Allocator + Copy>(
 }
 
 impl<A: Allocator + Copy> Disk for MemDisk<A> {
-    ghost view = { λ d. view_of (replicate (length d.bytes.items) 0) (calls_of d.calls.items) };
+    ghost view = { λ d. view_of (replicate d.len 0) (calls_of d.calls.items) };
 
     ghost failed = { λ d. d.failures };
 
     ghost lawful = { λ d _. record {
-      whole = sym (ap length d.recorded) ∙ sym (length-replicate (length d.bytes.items) 0);
+      whole =
+          let both = length-append d.kept.items (replicate (d.len - length d.kept.items) 0) in
+          let rest = length-replicate {A = ℕ} (d.len - length d.kept.items) 0 in
+          let all = length-replicate {A = ℕ} d.len 0 in
+          sym (ap length d.recorded) ∙ Prim.omega (arith, both, rest, all, d.short);
       may_stay = inl refl;
       counts_now = λ t c _ now. inl now;
       only_now = λ c left. ⊎_elim (λ now. now) (λ earlier. absurd (Prim.omega (arith, earlier.1, earlier.2))) left;
     } };
 
     fn len(&self) -> u64 {
-        self.bytes.len() as u64
+        self.len as u64
     }
 
     fn failures(&self) -> u64 {
@@ -176,8 +230,7 @@ impl<A: Allocator + Copy> Disk for MemDisk<A> {
     }
 
     fn read_at(&mut self, at: u64, buf: &mut [u8]) -> Result<(), DiskFault> {
-        let from = at as usize;
-        buf.copy_from_slice(&self.bytes[from..from + buf.len()]);
+        self.read(at, buf);
         Ok(())
     }
 

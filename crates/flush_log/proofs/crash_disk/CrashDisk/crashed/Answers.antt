@@ -9,30 +9,30 @@ pub tear-requires : goal.tear-requires
 tear-requires g c =
     let old = c.args.self.now in
     let copied : c.in_ok-bytes.bytes.items ≡ old.settled.items = c.in_ok-bytes.ensures.items_if_clones_equal (λ x y h. h) ∙ c.deref.ensures.value in
-    tear-fits old.disk.calls.items c.calls.result.now c.calls.ensures (length old.disk.bytes.items) old.since old.settled.items c.in_ok-bytes.bytes.items copied old.disk.in_range old.left.long
+    tear-fits old.disk.calls.items c.calls.result.now c.calls.ensures old.disk.len old.since old.settled.items c.in_ok-bytes.bytes.items copied old.disk.in_range old.left.long
 
 pub returns-clause-filled : goal.returns-clause-filled
 returns-clause-filled g c =
     let old = c.args.self.now in
-    let n = length old.disk.bytes.items in
+    let n = old.disk.len in
     let copied : c.in_ok-bytes.bytes.items ≡ old.settled.items = c.in_ok-bytes.ensures.items_if_clones_equal (λ x y h. h) ∙ c.deref.ensures.value in
-    seen_as c.holding.result (λ disk. seen_after (calls_of disk.disk.calls.items) (replicate (length disk.disk.bytes.items) 0)) c.tear.new.file.items (left_with c.args.fill (calls_of old.disk.calls.items) (replicate n 0) (replicate n 0))
+    seen_as c.holding.result (λ disk. seen_after (calls_of disk.disk.calls.items) (replicate disk.disk.len 0)) c.tear.new.file.items (left_with c.args.fill (calls_of old.disk.calls.items) (replicate n 0) (replicate n 0))
     (tear-left old.disk.calls.items c.calls.result.now c.calls.ensures n old.since old.settled.items c.args.fill c.in_ok-bytes.bytes.items c.tear.new.file.items copied old.left c.tear.ensures.torn) c.holding.ensures.seen
 
 pub returns-clause-left : goal.returns-clause-left
 returns-clause-left g c =
     let old = c.args.self.now in
-    let n = length old.disk.bytes.items in
+    let n = old.disk.len in
     let left = left_with c.args.fill (calls_of old.disk.calls.items) (replicate n 0) (replicate n 0) in
-    seen_has c.holding.result (λ disk. seen_after (calls_of disk.disk.calls.items) (replicate (length disk.disk.bytes.items) 0)) left (LeftNow (replicate n 0) (calls_of old.disk.calls.items))
+    seen_has c.holding.result (λ disk. seen_after (calls_of disk.disk.calls.items) (replicate disk.disk.len 0)) left (LeftNow (replicate n 0) (calls_of old.disk.calls.items))
     (left-now c.args.fill n (calls_of old.disk.calls.items) left old.disk.in_range refl) (returns-clause-filled g c)
 
 pub returns-clause-written : goal.returns-clause-written
 returns-clause-written g c is =
     let old = c.args.self.now in
-    let zeros = replicate (length old.disk.bytes.items) 0 in
+    let zeros = replicate old.disk.len 0 in
     let calls = calls_of old.disk.calls.items in
-    seen_as c.holding.result (λ disk. seen_after (calls_of disk.disk.calls.items) (replicate (length disk.disk.bytes.items) 0)) (left_with c.args.fill calls zeros zeros) (seen_after calls zeros)
+    seen_as c.holding.result (λ disk. seen_after (calls_of disk.disk.calls.items) (replicate disk.disk.len 0)) (left_with c.args.fill calls zeros zeros) (seen_after calls zeros)
     (ap (λ fill. left_with fill calls zeros zeros) is ∙ left-written calls zeros) (returns-clause-filled g c)
 
 pub returns-clause-settled : goal.returns-clause-settled
@@ -42,7 +42,7 @@ pub returns-clause-size : goal.returns-clause-size
 returns-clause-size g c =
     let old = c.args.self.now in
     let copied : c.in_ok-bytes.bytes.items ≡ old.settled.items = c.in_ok-bytes.ensures.items_if_clones_equal (λ x y h. h) ∙ c.deref.ensures.value in
-    seen_as c.holding.result (λ disk. length {A = ℕ} (replicate (length disk.disk.bytes.items) 0)) (length c.tear.new.file.items) (length {A = ℕ} (replicate (length old.disk.bytes.items) 0))
+    seen_as c.holding.result (λ disk. length {A = ℕ} (replicate disk.disk.len 0)) (length c.tear.new.file.items) (length {A = ℕ} (replicate old.disk.len 0))
     (c.tear.ensures.long ∙ ap length copied ∙ old.left.long) c.holding.ensures.size
 
 pub returns-clause-failures : goal.returns-clause-failures
