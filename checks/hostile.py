@@ -74,6 +74,13 @@ def colliding_runs() -> bytes:
     return fitting_disk([ONE_PAIR, *[delta_leaf(pid, {b"": None}) for pid in islice(colliding_ids(), MANY) if pid != 0]])
 
 
+def many_segments() -> bytes:
+    """A log of as many segments as there may be, but for two, each with one frame, since no other fits beside it."""
+    settings = Settings(fan=4, max_key=30, max_value=10, seg_size=256, segments=65_536)
+    wide = full_leaf(0, b"", {bytes([key]) * 30: b"v" * 10 for key in range(4)})
+    return disk_of(settings, [*[wide] * 65_533, ONE_PAIR])
+
+
 def byte_short() -> bytes:
     return disk_of(Settings(), [ONE_PAIR])[:-1]
 
@@ -96,6 +103,7 @@ DISKS = [
     Disk(f"{MANY:,} free frames with colliding ids, four workers", colliding, ONE_ROW, ("--workers", "4"), is_cleaned=True),
     Disk(f"{MANY:,} free frames with rising ids", rising, ONE_ROW, is_cleaned=True),
     Disk(f"{MANY:,} runs without a base, with colliding ids", colliding_runs, ONE_ROW, is_cleaned=True),
+    Disk("a log of 65,534 segments", many_segments, ONE_ROW, is_cleaned=True),
     Disk("zeros", lambda: bytes(MEGABYTE), NO_STORE),
     Disk("bytes 0xff", lambda: b"\xff" * MEGABYTE, NO_STORE),
     Disk("an empty file", lambda: b"", NO_STORE),

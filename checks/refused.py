@@ -68,13 +68,22 @@ def tests_that_say_so(crate: str) -> list[str]:
     return names
 
 
+def missing(crate: str) -> Outcome:
+    return Outcome(left_out=f"the tests of {crate} are not built")
+
+
+def cases_of(crate: str, program: Path | None, library: Path) -> list[Case]:
+    """The cases of a crate's tests that say so."""
+    names = tests_that_say_so(crate)
+    if program is None:
+        return [Case(crate, missing, (crate,))] if names else []
+    lanes = range(1, LANES + 1)
+    return [Case(f"{crate} {name}, part {lane} of {LANES}", refuse, ([program, name], library, lane, LANES)) for name in names for lane in lanes]
+
+
 def cases(programs: Programs, library: Path) -> list[Case]:
-    return [
-        Case(f"{crate} {name}, part {lane} of {LANES}", refuse, ([program, name], library, lane, LANES))
-        for crate, program in programs.tests.items()
-        for name in tests_that_say_so(crate)
-        for lane in range(1, LANES + 1)
-    ]
+    crates = sorted(path.name for path in CRATES.iterdir() if path.is_dir())
+    return [case for crate in crates for case in cases_of(crate, programs.tests.get(crate), library)]
 
 
 def main() -> None:
