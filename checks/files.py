@@ -19,6 +19,7 @@ TIMES, GROUPS = 100, 4  # how often two sessions are started together
 CHANGES = 30  # flushes of a session
 KEYS = 10
 ROOMY = ["--segments", "1024"]
+SCAN = b"scan % * 4294967295\n"
 
 Pairs = dict[bytes, bytes]
 
@@ -43,25 +44,25 @@ def make(programs: Programs, path: Path, text: bytes, *words: str) -> None:
         raise ValueError(f"the file was not made: {made.told()}")
 
 
-@dataclass
+@dataclass(frozen=True)
 class Started:
-    """A session that runs beside others: its command, its batch file, and where its answers go."""
+    """A session that runs beside others, and the files of what it prints and says."""
 
-    command: list
-    text: bytes
-    folder: Path
-    child: subprocess.Popen | None = None
-
-    def start(self) -> None:
-        names = [Path(tempfile.mktemp(dir=self.folder)) for _ in range(3)]
-        names[0].write_bytes(self.text)
-        self.out, self.err = names[1:]
-        with open(names[0], "rb") as source, open(self.out, "wb") as out, open(self.err, "wb") as err:
-            self.child = subprocess.Popen(self.command, stdin=source, stdout=out, stderr=err, env={})
+    child: subprocess.Popen
+    out: Path
+    err: Path
 
     def end(self) -> Ran:
-        status = self.child.wait(PATIENCE)
-        return Ran(status, self.out.read_bytes(), self.err.read_bytes(), 0.0, 0)
+        return Ran(self.child.wait(PATIENCE), self.out.read_bytes(), self.err.read_bytes(), 0.0, 0)
+
+
+def start(command: list, text: bytes, folder: Path) -> Started:
+    """Starts a session on this batch file, with its files in a new folder."""
+    folder.mkdir()
+    source, out, err = (folder / name for name in ("source", "out", "err"))
+    source.write_bytes(text)
+    with open(source, "rb") as stdin, open(out, "wb") as stdout, open(err, "wb") as stderr:
+        return Started(subprocess.Popen(command, stdin=stdin, stdout=stdout, stderr=stderr, env={}), out, err)
 
 
 def after_writer(ran: Ran, puts: list[tuple[bytes, bytes]], pairs: Pairs) -> tuple[Pairs, str | None]:
@@ -87,17 +88,15 @@ def after_readers(readers: list[Ran], seen: list[Pairs]) -> str | None:
 
 def run_together(programs: Programs, path: Path, time: int, pairs: Pairs) -> tuple[Pairs, int, str | None]:
     """Starts two sessions that write and two that read. The pairs after it, how many were refused, and what is wrong."""
-    command = [programs.store, "--disk", path]
-    scan = b"scan % * 4294967295\n"
+    first, second = changes(0, time), changes(1, time)
+    texts = [batch_file(first), SCAN, batch_file(second), SCAN]
     with tempfile.TemporaryDirectory(dir=path.parent) as folder:
-        texts = [batch_file(changes(0, time)), scan, batch_file(changes(1, time)), scan]
-        sessions = [Started(command, text, Path(folder)) for text in texts]
-        for session in sessions if time % 2 else reversed(sessions):
-            session.start()
-        ends = [session.end() for session in sessions]
-    one, wrong = after_writer(ends[0], changes(0, time), pairs)
-    both, also_wrong = after_writer(ends[2], changes(1, time), one)
-    other, _ = after_writer(ends[2], changes(1, time), pairs)
+        places = range(4) if time % 2 else reversed(range(4))
+        started = {at: start([programs.store, "--disk", path], texts[at], Path(folder) / str(at)) for at in places}
+        ends = [started[at].end() for at in range(4)]
+    one, wrong = after_writer(ends[0], first, pairs)
+    other, also_wrong = after_writer(ends[2], second, pairs)
+    both, _ = after_writer(ends[2], second, one)
     wrong = wrong or also_wrong or after_readers([ends[1], ends[3]], [pairs, one, other, both])
     return both, sum(ran.is_fault(FAULT) for ran in ends), wrong
 
@@ -131,7 +130,7 @@ def holding(programs: Programs, path: Path, text: bytes) -> Iterator[subprocess.
             child.kill()
 
 
-MUCH = b"get %s\ngo\n" % (b"x" * 60) * 60_000  # more replies than a pipe holds
+MUCH = b"get x\ngo\n" * 60_000  # more replies than a pipe holds
 
 
 def run_beside(programs: Programs, text: bytes, is_shared: bool) -> Outcome:

@@ -1,6 +1,7 @@
 """Runs programs under limits, and says what they did; and the cases that look at it."""
 
 import os
+import signal
 import subprocess
 import tempfile
 import time
@@ -82,7 +83,7 @@ def watch(child: subprocess.Popen, name: str) -> tuple[float, int]:
             return usage.ru_utime + usage.ru_stime, memory
         memory = max(memory, most_memory(child.pid, name))
         if time.monotonic() > end:
-            child.kill()
+            os.kill(child.pid, signal.SIGKILL)
         time.sleep(LOOK)
 
 
