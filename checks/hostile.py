@@ -163,6 +163,24 @@ def look_at(programs: Programs, number: int) -> Outcome:
         return Outcome(wrong, measured=measured)
 
 
+# Frames, and their bytes as the examples of docs/FORMAT.md have them.
+EXAMPLES = [
+    (EMPTY, "01 0000000c 0000000000000000 0000 0000"),
+    (delta_leaf(0, {b"a": None}), "02 0000000e 0000000000000000 0001 0001 61 00"),
+    (delta_leaf(0, {b"a": b"1"}), "02 00000011 0000000000000000 0001 0001 61 01 0001 31"),
+    (full_leaf(0, b"", {b"a": b"1", b"b": b"2"}), "01 00000018 0000000000000000 0000 0002 0001 61 0001 31 0001 62 0001 32"),
+    (full_index(2, b"", {b"": 0, b"c": 1}), "03 00000021 0000000000000002 0000 0002 0000 0000000000000000 0001 63 0000000000000001"),
+    (delta_index(5, {b"d": None}), "04 0000000e 0000000000000005 0001 0001 64 00"),
+    (free(1), "05 00000008 0000000000000001"),
+]
+
+
+def spell() -> Outcome:
+    """Whether disks are written here as the document says."""
+    wrong = [example for made, example in EXAMPLES if made != bytes.fromhex(example)]
+    return Outcome(f"written otherwise: {wrong[0]}" if wrong else None)
+
+
 SMALL = Settings(fan=4, chain=3, max_key=16, max_value=16, seg_size=256, segments=16)
 
 
@@ -214,4 +232,4 @@ def look_at_damaged(programs: Programs, part: int) -> Outcome:
 def cases(programs: Programs) -> list[Case]:
     forged = [Case(disk.name, look_at, (programs, number)) for number, disk in enumerate(DISKS)]
     damaged = [Case(f"damaged disks, part {part + 1} of {PARTS}", look_at_damaged, (programs, part)) for part in range(PARTS)]
-    return forged + damaged
+    return [Case("the frames of docs/FORMAT.md", spell), *forged, *damaged]
