@@ -9,8 +9,7 @@ from collections.abc import Iterator
 from dataclasses import dataclass
 from pathlib import Path
 
-from checks.harness import PATIENCE, Case, Limits, Outcome, Programs, Ran, differs, run
-from checks.kills import memory_folder
+from checks.harness import PATIENCE, Case, Limits, Outcome, Programs, Ran, differs, new_folder, run
 from checks.rules import LOOK, look_of
 
 FAULT = "fault 9 Device"
@@ -104,7 +103,7 @@ def run_together(programs: Programs, path: Path, time: int, pairs: Pairs) -> tup
 def run_at_once(programs: Programs, group: int) -> Outcome:
     """Starts sessions together again and again on one file, and looks at it after each time."""
     pairs, refused = {b"first": b"1"}, 0
-    with tempfile.TemporaryDirectory(prefix="check-", dir=memory_folder()) as folder:
+    with new_folder() as folder:
         path = Path(folder) / "file"
         make(programs, path, b"put first 1\nflush\n", *ROOMY)
         for time in range(TIMES // GROUPS):
@@ -136,7 +135,7 @@ MUCH = b"get x\ngo\n" * 60_000  # more replies than a pipe holds
 def run_beside(programs: Programs, text: bytes, is_shared: bool) -> Outcome:
     """Starts sessions beside one that holds the file, or that shares it, and once more after that was killed."""
     sessions = {LOOK: is_shared, b"put b 2\nflush\n": False, b"clean\n": False}
-    with tempfile.TemporaryDirectory(prefix="check-", dir=memory_folder()) as folder:
+    with new_folder() as folder:
         path = Path(folder) / "file"
         make(programs, path, b"put a 1\nflush\n")
         with holding(programs, path, text + MUCH):
@@ -168,7 +167,7 @@ def read_only(programs: Programs) -> Outcome:
     start = as_nobody()
     if start is None:
         return Outcome(left_out="no program can be started as another user here")
-    with tempfile.TemporaryDirectory() as folder:
+    with new_folder() as folder:
         path, program = Path(folder) / "file", Path(folder) / "program"
         shutil.copy(programs.store, program)
         make(programs, path, b"put a 1\nflush\n")
@@ -191,7 +190,7 @@ BLOCKS = 256  # of 512 bytes: fewer than a store of the default length takes
 
 def create_in_vain(programs: Programs, length: int | None) -> Outcome:
     """A file that can't be made, since none may be so long, leaves what stood there, of whatever length; without one, at most an empty one."""
-    with tempfile.TemporaryDirectory() as folder:
+    with new_folder() as folder:
         path = Path(folder) / "file"
         before = b"" if length is None else b"\xa5" * length
         if length is not None:
@@ -205,7 +204,7 @@ def create_in_vain(programs: Programs, length: int | None) -> Outcome:
 @contextlib.contextmanager
 def small_device(size: int) -> Iterator[Path | None]:
     """A file system in memory with this many bytes; none where none may be mounted."""
-    with tempfile.TemporaryDirectory() as folder:
+    with new_folder() as folder:
         mount = ["mount", "-t", "tmpfs", "-o", f"size={size}", "tmpfs", folder]
         is_mounted = shutil.which("mount") and subprocess.run(mount, capture_output=True).returncode == 0
         try:

@@ -14,6 +14,7 @@ STACK = 64  # KB, which is enough for every input
 SLOW = 4  # how many times slower than a usual one a machine may be
 PATIENCE = 60  # seconds until a program is ended
 LOOK = 0.002  # seconds from one look at a program to the next
+MEMORY = Path("/dev/shm")
 
 
 @dataclass(frozen=True)
@@ -58,6 +59,11 @@ class Ran:
     def told(self) -> str:
         ending = f"signal {-self.status}" if self.status < 0 else f"status {self.status}"
         return f"{ending} after {self.seconds:.2f} s, printed {shortened(self.out)}, said {shortened(self.err)}"
+
+
+def new_folder() -> tempfile.TemporaryDirectory:
+    """A folder of its own, in memory where the machine has a place for that: there a sync takes no time, and a kill falls anywhere."""
+    return tempfile.TemporaryDirectory(prefix="check-", dir=MEMORY if MEMORY.is_dir() else None)
 
 
 def shortened(text: bytes) -> str:

@@ -1,7 +1,6 @@
 """Disks that someone has made to do harm, each looked at under a small stack: the answer must be the right one, and cost no more than their size."""
 
 import random
-import tempfile
 from collections.abc import Callable
 from dataclasses import dataclass
 from itertools import islice
@@ -9,7 +8,7 @@ from pathlib import Path
 
 from checks.files import holding
 from checks.forge import HEADER, Settings, delta_index, delta_leaf, disk_of, fitting_disk, free, full_index, full_leaf
-from checks.harness import MEGABYTE, SLOW, Case, Outcome, Programs, Ran, differs, most_memory, run
+from checks.harness import MEGABYTE, SLOW, Case, Outcome, Programs, Ran, differs, most_memory, new_folder, run
 from checks.ids import colliding_ids
 from checks.rules import LOOK, ending_of, look_of
 
@@ -148,7 +147,7 @@ def cleaned(command: list, path: Path, ending: tuple[int, bytes, bytes]) -> tupl
 
 def look_at(programs: Programs, number: int) -> Outcome:
     disk = DISKS[number]
-    with tempfile.TemporaryDirectory() as folder:
+    with new_folder() as folder:
         path, made = Path(folder) / "disk", disk.made()
         least = small_memory(programs, Path(folder))
         path.write_bytes(made)
@@ -216,7 +215,7 @@ def damage(chance: random.Random, disk: bytes) -> bytes:
 
 def look_at_damaged(programs: Programs, part: int) -> Outcome:
     chance, stores = random.Random(part), 0
-    with tempfile.TemporaryDirectory() as folder:
+    with new_folder() as folder:
         for number in range(DAMAGED // PARTS):
             disk = damage(chance, small_tree(chance))
             path = Path(folder) / f"disk{number}"

@@ -2,27 +2,20 @@
 
 import contextlib
 import io
-import tempfile
 from argparse import Namespace
 from pathlib import Path
 
 import kill
 
-from checks.harness import Case, Outcome, Programs
+from checks.harness import Case, Outcome, Programs, new_folder
 
-MEMORY = Path("/dev/shm")
 SEEDS, KILLS = 4, 10
 BATCHES, LIVES = 3_000, 4
 
 
-def memory_folder() -> Path | None:
-    """Where files are in memory; none where the machine has no such place, so that they are made on a disk."""
-    return MEMORY if MEMORY.is_dir() else None
-
-
 def kill_sessions(programs: Programs, seed: int) -> Outcome:
     options = Namespace(seed=seed, kills=KILLS, batches=BATCHES, lives=LIVES)
-    with tempfile.TemporaryDirectory(prefix="check-kill-", dir=memory_folder()) as folder, contextlib.redirect_stderr(io.StringIO()):
+    with new_folder() as folder, contextlib.redirect_stderr(io.StringIO()):
         try:
             wrongs, further = kill.kill_often([programs.store], options, Path(folder))
         except SystemExit as ended:

@@ -3,10 +3,9 @@
 import random
 import shutil
 import subprocess
-import tempfile
 from pathlib import Path
 
-from checks.harness import Case, Outcome, Programs, shortened
+from checks.harness import Case, Outcome, Programs, new_folder, shortened
 from checks.texts import drawn_batches
 
 VALGRIND = ["valgrind", "--quiet", "--leak-check=full", "--show-leak-kinds=all", "--errors-for-leak-kinds=all", "--error-exitcode=99"]
@@ -18,7 +17,7 @@ def leak(programs: Programs, workers: int) -> Outcome:
     if shutil.which("valgrind") is None:
         return Outcome(left_out="there is no valgrind on this machine")
     text, printed = drawn_batches(random.Random(workers), batches=8, most=120, keys=400)
-    with tempfile.TemporaryDirectory() as folder:
+    with new_folder() as folder:
         words = [*SETTINGS, "--workers", str(workers), "--create", "--disk", Path(folder) / "file"]
         ran = subprocess.run([*VALGRIND, programs.store, *words], input=text + b"flush\nverify\n", capture_output=True, timeout=PATIENCE)
     if ran.returncode or not ran.stdout.startswith(printed + b"flushed 2\nok "):

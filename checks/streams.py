@@ -1,11 +1,10 @@
 """Sessions whose standard streams are closed. A file that is opened then gets the descriptor of a stream, and with it what is meant for that."""
 
-import tempfile
 from collections.abc import Iterator
 from dataclasses import dataclass
 from pathlib import Path
 
-from checks.harness import Case, Limits, Outcome, Programs, Ran, differs, run
+from checks.harness import Case, Limits, Outcome, Programs, Ran, differs, new_folder, run
 from checks.rules import LOOK, look_of
 
 FAULT = b"fault 9 Device\n"
@@ -56,7 +55,7 @@ def ends_unseen(ran: Ran, session: Session, closed: str) -> str | None:
 def close(programs: Programs, number: int, closed: str) -> Outcome:
     """Runs a session with these streams closed, and the same with all of them open, on files that are the same before."""
     session = SESSIONS[number]
-    with tempfile.TemporaryDirectory() as folder:
+    with new_folder() as folder:
         path, other = Path(folder) / "file", Path(folder) / "other"
         before = old_file(programs, path)
         other.write_bytes(before)
@@ -74,7 +73,7 @@ def close(programs: Programs, number: int, closed: str) -> Outcome:
 
 def close_and_create(programs: Programs, closed: str) -> Outcome:
     """Runs a session that makes a file where there is none."""
-    with tempfile.TemporaryDirectory() as folder:
+    with new_folder() as folder:
         path = Path(folder) / "file"
         ran = run([programs.store, "--create", "--disk", path], b"put d 5\nflush\n", Limits(closed=closed))
         if path.exists() and (closed != "2>&-" or ran.status):
