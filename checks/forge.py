@@ -1,0 +1,124 @@
+"""The bytes of a disk, as docs/FORMAT.md has them."""
+
+import struct
+from collections.abc import Iterable
+from dataclasses import dataclass
+
+BEGIN = 512  # where the segments begin
+HEADER = 16  # bytes before a segment's first frame
+MOST = 2**62  # of positions and sequence numbers
+
+
+@dataclass(frozen=True)
+class Settings:
+    """The settings of a store; those that are not given are the program's own."""
+
+    fan: int = 16
+    chain: int = 4
+    max_key: int = 64
+    max_value: int = 256
+    seg_size: int = 65_536
+    segments: int = 64
+
+    def block(self) -> bytes:
+        numbers = (self.fan, self.chain, self.max_key, self.max_value, self.seg_size, self.segments)
+        return struct.pack(">8s4H2I40x", b"BWBATCH1", *numbers)
+
+    def disk_length(self) -> int:
+        return BEGIN + self.segments * self.seg_size
+
+    def place(self, segment: int) -> int:
+        """Where this segment stands on the disk."""
+        return BEGIN + segment % self.segments * self.seg_size
+
+
+@dataclass(frozen=True)
+class Slot:
+    """What a commit leaves: the number of commits, the log from its first segment to behind its last frame, and the tree's root and height."""
+
+    sequence: int
+    head: int
+    tail: int
+    root: int
+    height: int
+
+    def bytes(self, gate: int = 1) -> bytes:
+        return struct.pack(">B7x4QI20x", gate, self.sequence, self.head, self.tail, self.root, self.height)
+
+    def place(self) -> int:
+        return 128 + 64 * (self.sequence % 2)
+
+
+def counted(text: bytes) -> bytes:
+    return struct.pack(">H", len(text)) + text
+
+
+def frame(kind: int, pid: int, content: bytes = b"") -> bytes:
+    return struct.pack(">BIQ", kind, 8 + len(content), pid) + content
+
+
+def page_cell(pid: int) -> bytes:
+    return struct.pack(">Q", pid)
+
+
+def full(kind: int, pid: int, low: bytes, cells: list[tuple[bytes, bytes]]) -> bytes:
+    entries = b"".join(counted(key) + cell for key, cell in cells)
+    return frame(kind, pid, counted(low) + struct.pack(">H", len(cells)) + entries)
+
+
+def delta(kind: int, pid: int, cells: list[tuple[bytes, bytes | None]]) -> bytes:
+    changes = b"".join(counted(key) + (b"\0" if cell is None else b"\1" + cell) for key, cell in cells)
+    return frame(kind, pid, struct.pack(">H", len(cells)) + changes)
+
+
+def full_leaf(pid: int, low: bytes, pairs: dict[bytes, bytes]) -> bytes:
+    return full(1, pid, low, [(key, counted(pairs[key])) for key in sorted(pairs)])
+
+
+def delta_leaf(pid: int, changes: dict[bytes, bytes | None]) -> bytes:
+    return delta(2, pid, [(key, None if changes[key] is None else counted(changes[key])) for key in sorted(changes)])
+
+
+def full_index(pid: int, low: bytes, children: dict[bytes, int]) -> bytes:
+    return full(3, pid, low, [(key, page_cell(children[key])) for key in sorted(children)])
+
+
+def delta_index(pid: int, changes: dict[bytes, int | None]) -> bytes:
+    return delta(4, pid, [(key, None if changes[key] is None else page_cell(changes[key])) for key in sorted(changes)])
+
+
+def free(pid: int) -> bytes:
+    return frame(5, pid)
+
+
+def header(segment: int) -> bytes:
+    return struct.pack(">4s4xQ", b"BWSG", segment)
+
+
+def log_of(settings: Settings, frames: Iterable[bytes]) -> list[bytes]:
+    """The segments that these frames fill from the first on, each up to its last frame."""
+    segments = [bytearray(header(0))]
+    for each in frames:
+        if len(segments[-1]) + len(each) > settings.seg_size:
+            segments.append(bytearray(header(len(segments))))
+        segments[-1] += each
+    return [bytes(segment) for segment in segments]
+
+
+def disk_of(settings: Settings, frames: Iterable[bytes], root: int = 0, height: int = 1) -> bytes:
+    """A disk whose log has these frames from its first segment on, and was committed once."""
+    log = log_of(settings, frames)
+    tail = (len(log) - 1) * settings.seg_size + len(log[-1])
+    slot = Slot(1, 0, tail, root, height)
+    disk = bytearray(settings.disk_length())
+    disk[:64] = settings.block()
+    disk[slot.place() : slot.place() + 64] = slot.bytes()
+    for number, segment in enumerate(log):
+        disk[settings.place(number) : settings.place(number) + len(segment)] = segment
+    return bytes(disk)
+
+
+def fitting_disk(frames: list[bytes], root: int = 0, height: int = 1) -> bytes:
+    """A disk that is not much longer than its log: it has two segments free, one for a flush and one for a clean."""
+    used = len(log_of(Settings(), frames))
+    return disk_of(Settings(segments=used + 2), frames, root, height)

@@ -1,0 +1,136 @@
+"""Runs programs under limits, and says what they did; and the cases that look at it."""
+
+import os
+import signal
+import subprocess
+import tempfile
+import time
+from collections.abc import Callable
+from dataclasses import dataclass, field
+from pathlib import Path
+
+MEGABYTE = 1_000_000
+STACK = 64  # KB, which is enough for every input
+SLOW = 4  # how many times slower than a usual one a machine may be
+PATIENCE = 60  # seconds until a program is ended
+LOOK = 0.002  # seconds from one look at a program to the next
+MEMORY = Path("/dev/shm")
+
+
+@dataclass(frozen=True)
+class Programs:
+    """The programs that are looked at: the store's own, and those of the crates' tests."""
+
+    store: Path
+    tests: dict[str, Path] = field(default_factory=dict)
+
+
+@dataclass(frozen=True)
+class Limits:
+    """What a program is started with. A stream of `closed` is closed as a shell spells it, as '>&-'."""
+
+    stack: int | None = STACK  # KB
+    file_blocks: int | None = None  # of 512 bytes, the greatest length of a file that it may write
+    closed: str = ""
+
+    def shell(self) -> str:
+        """A shell's words that set the limits, and become the program."""
+        words = ["ulimit -c 0"]
+        if self.file_blocks is not None:
+            words += ["trap '' XFSZ", f"ulimit -f {self.file_blocks}"]
+        if self.stack is not None:
+            words.append(f"ulimit -s {self.stack}")
+        return "; ".join([*words, f'exec "$0" "$@" {self.closed}'])
+
+
+@dataclass(frozen=True)
+class Ran:
+    """How a program ended: its status, negative for a signal; what it printed; its processor seconds, and the most memory that it had."""
+
+    status: int
+    out: bytes
+    err: bytes
+    seconds: float
+    memory: int
+
+    def is_fault(self, fault: str) -> bool:
+        return self.status == 4 and self.err == f"{fault}\n".encode()
+
+    def told(self) -> str:
+        ending = f"signal {-self.status}" if self.status < 0 else f"status {self.status}"
+        return f"{ending} after {self.seconds:.2f} s, printed {shortened(self.out)}, said {shortened(self.err)}"
+
+
+def new_folder() -> tempfile.TemporaryDirectory:
+    """A folder of its own, in memory where the machine has a place for that: there a sync takes no time, and a kill falls anywhere."""
+    return tempfile.TemporaryDirectory(prefix="check-", dir=MEMORY if MEMORY.is_dir() else None)
+
+
+def shortened(text: bytes) -> str:
+    return repr(text) if len(text) < 200 else f"{text[:100]!r}.. of {len(text)} bytes"
+
+
+def most_memory(pid: int, name: str) -> int:
+    """The most memory that a process had, in bytes; 0 before it has become the program of this name, and after its end."""
+    try:
+        lines = dict(line.split(":\t", 1) for line in Path(f"/proc/{pid}/status").read_text().splitlines())
+    except (OSError, ValueError):
+        return 0
+    return int(lines["VmHWM"].split()[0]) * 1024 if lines.get("Name") == name[:15] and "VmHWM" in lines else 0
+
+
+def watch(child: subprocess.Popen, name: str) -> tuple[float, int]:
+    """Waits for the end of a program: its processor seconds, and the most memory that it had. (`ru_maxrss` would have that of its parent too.)"""
+    memory, end = 0, time.monotonic() + PATIENCE
+    while True:
+        pid, status, usage = os.wait4(child.pid, os.WNOHANG)
+        if pid:
+            child.returncode = os.waitstatus_to_exitcode(status)
+            return usage.ru_utime + usage.ru_stime, memory
+        memory = max(memory, most_memory(child.pid, name))
+        if time.monotonic() > end:
+            os.kill(child.pid, signal.SIGKILL)
+        time.sleep(LOOK)
+
+
+def run(command: list, text: bytes | Path = b"", limits: Limits = Limits()) -> Ran:
+    """Runs a program with nothing in its environment. The text, or the file of that path, is its standard input."""
+    with tempfile.TemporaryFile() as source, tempfile.TemporaryFile() as out, tempfile.TemporaryFile() as err:
+        source.write(text.read_bytes() if isinstance(text, Path) else text)
+        source.seek(0)
+        child = subprocess.Popen(["sh", "-c", limits.shell(), *command], stdin=source, stdout=out, stderr=err, env={})
+        seconds, memory = watch(child, Path(command[0]).name)
+        out.seek(0)
+        err.seek(0)
+        return Ran(child.returncode, out.read(), err.read(), seconds, memory)
+
+
+@dataclass(frozen=True)
+class Outcome:
+    """What is wrong, if anything is; what is left out, and why; and what was measured."""
+
+    wrong: str | None = None
+    left_out: str | None = None
+    measured: str = ""
+
+
+@dataclass(frozen=True)
+class Case:
+    """One case: what it is called, and what looks at it. It is handed to a process of its own, so it is made of plain functions."""
+
+    name: str
+    look: Callable[..., Outcome]
+    given: tuple = ()
+
+    def outcome(self) -> Outcome:
+        try:
+            return self.look(*self.given)
+        except Exception as error:  # a case that can't be looked at has failed, and the others go on
+            return Outcome(f"{type(error).__name__}: {error}")
+
+
+def differs(ran: Ran, status: int, out: bytes, err: bytes = b"") -> str | None:
+    """How a program ended otherwise than is due."""
+    if (ran.status, ran.out, ran.err) == (status, out, err):
+        return None
+    return f"{ran.told()}, where status {status}, {shortened(out)} and {shortened(err)} were due"

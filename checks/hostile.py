@@ -1,0 +1,234 @@
+"""Disks that someone has made to do harm, each looked at under a small stack: the answer must be the right one, and cost no more than their size."""
+
+import random
+from collections.abc import Callable
+from dataclasses import dataclass
+from itertools import islice
+from pathlib import Path
+
+from checks.files import holding
+from checks.forge import HEADER, Settings, delta_index, delta_leaf, disk_of, fitting_disk, free, full_index, full_leaf
+from checks.harness import MEGABYTE, SLOW, Case, Outcome, Programs, Ran, differs, most_memory, new_folder, run
+from checks.ids import colliding_ids
+from checks.rules import LOOK, ending_of, look_of
+
+DEEP = 200_000  # runs of a page
+MANY = 100_000  # free frames
+TIMES = 10  # the most memory that a disk may take, by its own length
+DAMAGED, PARTS = 400, 8
+
+EMPTY = full_leaf(0, b"", {})
+ONE_PAIR = full_leaf(0, b"", {b"a": b"1"})
+TOO_DEEP = b"fault 16 BadStructure 7 %d\n"  # rule 7: the depth is above chain
+NO_STORE = (4, b"", b"fault 12 NotAStore\n")
+
+
+@dataclass(frozen=True)
+class Disk:
+    """A disk, and how a session that looks at it must end, print and say. One that is a store is cleaned too."""
+
+    name: str
+    made: Callable[[], bytes]
+    ending: tuple[int, bytes, bytes]
+    words: tuple[str, ...] = ()
+    is_cleaned: bool = False
+
+
+def deep_leaf() -> bytes:
+    return fitting_disk([ONE_PAIR, *[delta_leaf(0, {b"a": None})] * DEEP])
+
+
+def deep_index() -> bytes:
+    leaves = [ONE_PAIR, full_leaf(1, b"c", {b"c": b"3"})]
+    root = full_index(2, b"", {b"": 0, b"c": 1})
+    return fitting_disk([*leaves, root, *[delta_index(2, {b"d": None})] * DEEP], root=2, height=2)
+
+
+def deep_leaves() -> bytes:
+    """Eight leaves, each with a part of the runs, which stand in turn."""
+    lows = {bytes([ord("a") + pid]) if pid else b"": pid for pid in range(8)}
+    bases = [full_leaf(pid, low, {}) for low, pid in lows.items()]
+    runs = [delta_leaf(pid, {low: None}) for low, pid in lows.items()]
+    return fitting_disk([*bases, full_index(8, b"", lows), *runs * (DEEP // 8)], root=8, height=2)
+
+
+def whole_again() -> bytes:
+    return fitting_disk([EMPTY, *[delta_leaf(0, {b"b": None})] * DEEP, ONE_PAIR])
+
+
+def free_frames(ids: list[int]) -> bytes:
+    return fitting_disk([ONE_PAIR, *[free(pid) for pid in ids if pid != 0]])
+
+
+def colliding() -> bytes:
+    return free_frames(list(islice(colliding_ids(), MANY)))
+
+
+def rising() -> bytes:
+    return free_frames(list(range(1, MANY + 1)))
+
+
+def colliding_runs() -> bytes:
+    """Runs without a base, as a clean leaves them, of as many pages."""
+    return fitting_disk([ONE_PAIR, *[delta_leaf(pid, {b"": None}) for pid in islice(colliding_ids(), MANY) if pid != 0]])
+
+
+def many_segments() -> bytes:
+    """A log of as many segments as there may be, but for two, each with one frame, since no other fits beside it."""
+    settings = Settings(fan=4, max_key=30, max_value=10, seg_size=256, segments=65_536)
+    wide = full_leaf(0, b"", {bytes([key]) * 30: b"v" * 10 for key in range(4)})
+    return disk_of(settings, [*[wide] * 65_533, ONE_PAIR])
+
+
+def byte_short() -> bytes:
+    return disk_of(Settings(), [ONE_PAIR])[:-1]
+
+
+def last_length() -> bytes:
+    """A frame whose length goes to the end of all numbers."""
+    return disk_of(Settings(), [ONE_PAIR, b"\2" + b"\xff" * 16])
+
+
+ONE_ROW = (0, look_of([(b"a", b"1")], 1, 1), b"")
+NO_FRAME = (4, b"", b"fault 15 BadFrame 0 %d\n" % (HEADER + len(ONE_PAIR)))
+
+DISKS = [
+    Disk(f"{DEEP:,} runs of a leaf", deep_leaf, (4, b"", TOO_DEEP % 0)),
+    Disk(f"{DEEP:,} runs of a leaf, four workers", deep_leaf, (4, b"", TOO_DEEP % 0), ("--workers", "4")),
+    Disk(f"{DEEP:,} runs of an index page", deep_index, (4, b"", TOO_DEEP % 2)),
+    Disk(f"{DEEP:,} runs of eight leaves", deep_leaves, (4, b"", TOO_DEEP % 0)),
+    Disk(f"a leaf that is whole again after {DEEP:,} runs", whole_again, ONE_ROW, is_cleaned=True),
+    Disk(f"{MANY:,} free frames with colliding ids", colliding, ONE_ROW, is_cleaned=True),
+    Disk(f"{MANY:,} free frames with colliding ids, four workers", colliding, ONE_ROW, ("--workers", "4"), is_cleaned=True),
+    Disk(f"{MANY:,} free frames with rising ids", rising, ONE_ROW, is_cleaned=True),
+    Disk(f"{MANY:,} runs without a base, with colliding ids", colliding_runs, ONE_ROW, is_cleaned=True),
+    Disk("a log of 65,534 segments", many_segments, ONE_ROW, is_cleaned=True),
+    Disk("zeros", lambda: bytes(MEGABYTE), NO_STORE),
+    Disk("bytes 0xff", lambda: b"\xff" * MEGABYTE, NO_STORE),
+    Disk("an empty file", lambda: b"", NO_STORE),
+    Disk("a file of 63 bytes", lambda: Settings().block()[:63], NO_STORE),
+    Disk("a file of a settings block", lambda: Settings().block(), NO_STORE),
+    Disk("a file that is a byte short", byte_short, NO_STORE),
+    Disk("a frame of four gibibytes", last_length, NO_FRAME),
+]
+
+
+def small_memory(programs: Programs, folder: Path) -> int:
+    """What a session on a small store has in use: it stands still, since nobody reads what it prints."""
+    path, value = folder / "small", b"v" * 250
+    path.write_bytes(disk_of(Settings(), [full_leaf(0, b"", {b"a": value})]))
+    with holding(programs, path, b"get a\n" * 400) as child:
+        return most_memory(child.pid, programs.store.name)
+
+
+def too_dear(ran: Ran, small: int, length: int) -> str | None:
+    """Whether a session took more time or memory than the length of its disk gives, beyond that of a small store."""
+    seconds = SLOW * max(1.0, length / MEGABYTE)
+    memory = small + TIMES * max(length, MEGABYTE)
+    if ran.seconds > seconds:
+        return f"{ran.seconds:.2f} s of the processor, where {seconds:.2f} are the most"
+    if ran.memory > memory:
+        return f"{ran.memory / MEGABYTE:.0f} MB, where {memory / MEGABYTE:.0f} are the most"
+    return None
+
+
+def looked_at(command: list, path: Path, disk: bytes, ending: tuple[int, bytes, bytes]) -> tuple[Ran, str | None]:
+    """How a session that looks at this disk ran, and what is wrong with it; it may not write."""
+    ran = run([*command, "--disk", path], LOOK)
+    wrong = differs(ran, *ending)
+    return ran, wrong or (None if path.read_bytes() == disk else "the session wrote to the file that it only read")
+
+
+def cleaned(command: list, path: Path, ending: tuple[int, bytes, bytes]) -> tuple[Ran, str | None]:
+    """How a clean of the disk's first segment ran, and what is wrong with it, or with what the next session sees."""
+    ran = run([*command, "--disk", path], b"clean\n")
+    return ran, differs(ran, 0, b"cleaned 1\n") or differs(run([*command, "--disk", path], LOOK), *ending)
+
+
+def look_at(programs: Programs, number: int) -> Outcome:
+    disk = DISKS[number]
+    with new_folder() as folder:
+        path, made = Path(folder) / "disk", disk.made()
+        least = small_memory(programs, Path(folder))
+        path.write_bytes(made)
+        command = [programs.store, *disk.words]
+        ran, wrong = looked_at(command, path, made, disk.ending)
+        measured = f"{len(made) / MEGABYTE:.1f} MB: {ran.seconds:.2f} s, {ran.memory / MEGABYTE:.1f} MB (a small store {least / MEGABYTE:.1f})"
+        wrong = wrong or too_dear(ran, least, len(made))
+        if wrong is None and disk.is_cleaned:
+            clean, wrong = cleaned(command, path, disk.ending)
+            measured += f"; cleaned in {clean.seconds:.2f} s, {clean.memory / MEGABYTE:.1f} MB"
+            wrong = wrong or too_dear(clean, least, len(made))
+        return Outcome(wrong, measured=measured)
+
+
+# Frames, and their bytes as the examples of docs/FORMAT.md have them.
+EXAMPLES = [
+    (EMPTY, "01 0000000c 0000000000000000 0000 0000"),
+    (delta_leaf(0, {b"a": None}), "02 0000000e 0000000000000000 0001 0001 61 00"),
+    (delta_leaf(0, {b"a": b"1"}), "02 00000011 0000000000000000 0001 0001 61 01 0001 31"),
+    (full_leaf(0, b"", {b"a": b"1", b"b": b"2"}), "01 00000018 0000000000000000 0000 0002 0001 61 0001 31 0001 62 0001 32"),
+    (full_index(2, b"", {b"": 0, b"c": 1}), "03 00000021 0000000000000002 0000 0002 0000 0000000000000000 0001 63 0000000000000001"),
+    (delta_index(5, {b"d": None}), "04 0000000e 0000000000000005 0001 0001 64 00"),
+    (free(1), "05 00000008 0000000000000001"),
+]
+
+
+def spell() -> Outcome:
+    """Whether disks are written here as the document says."""
+    wrong = [example for made, example in EXAMPLES if made != bytes.fromhex(example)]
+    return Outcome(f"written otherwise: {wrong[0]}" if wrong else None)
+
+
+SMALL = Settings(fan=4, chain=3, max_key=16, max_value=16, seg_size=256, segments=16)
+
+
+def small_leaf(chance: random.Random, pid: int, low: bytes) -> list[bytes]:
+    """The frames of a leaf whose keys begin as its low key, and runs on it."""
+    keys = [low + bytes([byte]) for byte in chance.sample(range(256), 6)]
+    pairs = {key: chance.randbytes(chance.randrange(4)) for key in keys[: chance.randrange(5)]}
+    runs = [{chance.choice(keys): chance.choice([None, b"", b"new"])} for _ in range(chance.randrange(4))]
+    return [full_leaf(pid, low, pairs), *[delta_leaf(pid, run) for run in runs]]
+
+
+def small_tree(chance: random.Random) -> bytes:
+    """A disk with a tree of three levels and what older pages have left. The runs of a page stay behind its base."""
+    lows = [b"", b"c", b"f", b"k", b"p", b"t"]
+    pages = [small_leaf(chance, pid, low) for pid, low in enumerate(lows)]
+    pages += [[full_index(6, b"", dict(zip(lows[:3], range(3))))], [full_index(7, b"k", dict(zip(lows[3:], range(3, 6))))]]
+    pages += [[full_index(8, b"", {b"": 6, b"k": 7})], [full_leaf(9, b"", {}), free(9)], [delta_leaf(10, {b"a": None})]]
+    chance.shuffle(pages)
+    return disk_of(SMALL, [each for page in pages for each in page], root=8, height=3)
+
+
+def damage(chance: random.Random, disk: bytes) -> bytes:
+    """A disk with some bytes changed, most of them in its log; or one that was cut off, or in which bytes moved."""
+    changed, end = bytearray(disk), len(disk.rstrip(b"\0"))
+    for _ in range(chance.choice([0, 1, 1, 1, 2, 3])):
+        at = chance.randrange(256) if chance.random() < 0.2 else chance.randrange(512, end)
+        changed[at] = chance.choice([0, 1, 2, 255, changed[at] ^ 1 << chance.randrange(8), chance.randrange(256)])
+    if chance.random() < 0.1:
+        start, length, to = chance.randrange(512, end), chance.randrange(1, 60), chance.randrange(512, end)
+        changed[to : to + length] = changed[start : start + length]
+    return bytes(changed[: chance.randrange(len(disk))] if chance.random() < 0.02 else changed)
+
+
+def look_at_damaged(programs: Programs, part: int) -> Outcome:
+    chance, stores = random.Random(part), 0
+    with new_folder() as folder:
+        for number in range(DAMAGED // PARTS):
+            disk = damage(chance, small_tree(chance))
+            path = Path(folder) / f"disk{number}"
+            path.write_bytes(disk)
+            ending = ending_of(disk)
+            stores += ending[0] == 0
+            _, wrong = looked_at([programs.store], path, disk, ending)
+            if wrong:
+                return Outcome(f"disk {number} of seed {part}: {wrong}")
+    return Outcome(measured=f"{DAMAGED // PARTS} disks, of which {stores} are stores")
+
+
+def cases(programs: Programs) -> list[Case]:
+    forged = [Case(disk.name, look_at, (programs, number)) for number, disk in enumerate(DISKS)]
+    damaged = [Case(f"damaged disks, part {part + 1} of {PARTS}", look_at_damaged, (programs, part)) for part in range(PARTS)]
+    return [Case("the frames of docs/FORMAT.md", spell), *forged, *damaged]

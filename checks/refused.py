@@ -1,0 +1,97 @@
+"""Runs tests again and again, each time with one more allocation refused: all those whose comment says so.
+
+    python3 -m checks.refused PROGRAM TEST    # at the top of the repository: one test of a built program of tests
+"""
+
+import itertools
+import re
+import shutil
+import subprocess
+import sys
+import tempfile
+import time
+from pathlib import Path
+
+from checks.harness import Case, Outcome, Programs
+
+HERE = Path(__file__).resolve().parent
+CRATES = HERE.parent / "crates"
+TOOLS = Path(shutil.which("rt") or "/opt/rattle/bin/rt").resolve().parent.parent / "toolchain"
+SAYS_SO = "each allocation refused in turn"
+SAID = b"<refused>"  # by the library, when it refuses
+COMMENTED_TEST = re.compile(r"((?:^//.*\n)+)#\[test\]\n(?:#.*\n)*fn (\w+)", re.MULTILINE)
+LANES = 4  # cases of one test, each with its part of the allocations
+PATIENCE = 60  # seconds that a run may take
+BUDGET = 90  # seconds that a part may take
+
+
+def build_library(folder: Path) -> Path:
+    """Builds the library that stands in front of the C library's, with the kit's compiler."""
+    made, library = folder / "refuse.o", folder / "refuse.so"
+    target = ["--target=x86_64-unknown-linux-gnu", f"--sysroot={TOOLS}", "--no-default-config"]
+    subprocess.run([TOOLS / "bin/clang", *target, "-O2", "-fPIC", "-c", HERE / "refuse.c", "-o", made], check=True)
+    subprocess.run([TOOLS / "bin/ld.lld", "-shared", "-o", library, made, TOOLS / "lib/libc.so.6"], check=True)
+    return library
+
+
+def refuse(command: list, library: Path, first: int, step: int, budget: float = BUDGET) -> Outcome:
+    """Runs a command with the allocation of each number refused, from the first on in steps, until there is none of that number."""
+    failed, end = [], time.monotonic() + budget
+    for number in itertools.count(first, step):
+        if time.monotonic() > end:
+            return Outcome(told(failed, number // step), f"the allocations from {number} on, for want of time")
+        environment = {"LD_PRELOAD": str(library), "REFUSE": str(number)}
+        ran = subprocess.run(command, env=environment, stdin=subprocess.DEVNULL, capture_output=True, timeout=PATIENCE)
+        if SAID not in ran.stderr:
+            break
+        if ran.returncode:
+            failed.append(f"{number} (status {ran.returncode}: {ran.stderr.replace(SAID, b'').strip().decode(errors='replace')[-200:]})")
+    runs = (number - first) // step
+    wrong = f"status {ran.returncode} with none refused" if ran.returncode else told(failed, runs)
+    return Outcome(wrong, measured=f"{runs} runs")
+
+
+def told(failed: list[str], runs: int) -> str | None:
+    """What is said of the runs that failed, if some did."""
+    return f"of {runs} runs {len(failed)} failed, the first with allocation {failed[0]} refused" if failed else None
+
+
+def tests_that_say_so(crate: str) -> list[str]:
+    """The names of the crate's tests whose comment asks for it."""
+    source = CRATES / crate / "src"
+    names = []
+    for path in sorted(source.rglob("*.rt")):
+        module = "::".join(path.relative_to(source).with_suffix("").parts)
+        for comment, name in COMMENTED_TEST.findall(path.read_text()):
+            if SAYS_SO in re.sub(r"\s*\n//\s*", " ", comment):
+                names.append(f"{module}::{name}")
+    return names
+
+
+def missing(crate: str) -> Outcome:
+    return Outcome(left_out=f"the tests of {crate} are not built")
+
+
+def cases_of(crate: str, program: Path | None, library: Path) -> list[Case]:
+    """The cases of a crate's tests that say so."""
+    names = tests_that_say_so(crate)
+    if program is None:
+        return [Case(crate, missing, (crate,))] if names else []
+    lanes = range(1, LANES + 1)
+    return [Case(f"{crate} {name}, part {lane} of {LANES}", refuse, ([program, name], library, lane, LANES)) for name in names for lane in lanes]
+
+
+def cases(programs: Programs, library: Path) -> list[Case]:
+    crates = sorted(path.name for path in CRATES.iterdir() if path.is_dir())
+    return [case for crate in crates for case in cases_of(crate, programs.tests.get(crate), library)]
+
+
+def main() -> None:
+    with tempfile.TemporaryDirectory() as folder:
+        outcome = refuse(sys.argv[1:], build_library(Path(folder)), 1, 1, budget=float("inf"))
+    print(outcome.wrong or f"{outcome.measured}, one allocation refused in each: none failed")
+    sys.exit(outcome.wrong is not None)
+
+
+if __name__ == "__main__":
+    main()

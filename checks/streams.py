@@ -1,0 +1,93 @@
+"""Sessions whose standard streams are closed. A file that is opened then gets the descriptor of a stream, and with it what is meant for that."""
+
+from collections.abc import Iterator
+from dataclasses import dataclass
+from pathlib import Path
+
+from checks.harness import Case, Limits, Outcome, Programs, Ran, differs, new_folder, run
+from checks.rules import LOOK, look_of
+
+FAULT = b"fault 9 Device\n"
+CLOSED = (">&-", "<&-", "2>&-", ">&- 2>&-", "<&- >&-", "<&- 2>&-", "<&- >&- 2>&-")
+OLD = b"put a 1\nflush\nput a 2\nput b 3\nflush\n"
+OLD_LOOK = look_of([(b"a", b"2"), (b"b", b"3")], 1, 1)
+
+
+@dataclass(frozen=True)
+class Session:
+    """A session on an old file, or on one that it makes: its words, its batch file, and how it ends where no stream is closed."""
+
+    name: str
+    words: tuple[str, ...]
+    text: bytes
+    ending: tuple[int, bytes, bytes]
+
+
+SESSIONS = [
+    Session("a session that flushes", (), b"put c 4\nflush\n", (0, b"new\nflushed 4\n", b"")),
+    Session("a session that only reads", (), LOOK, (0, OLD_LOOK, b"")),
+    Session("a session without a line", (), b"", (0, b"", b"")),
+    Session("a clean that is refused", (), b"clean\n", (4, b"", b"fault 11 NothingToClean\n")),
+    Session("a bad line", (), b"x\n", (3, b"", b"line 1: unknown command\n")),
+    Session("--create over the file", ("--create",), b"put d 5\nflush\n", (0, b"new\nflushed 2\n", b"")),
+]
+
+
+def old_file(programs: Programs, path: Path) -> bytes:
+    made = run([programs.store, "--disk", path, "--create"], OLD)
+    wrong = differs(made, 0, b"new\nflushed 2\nreplaced\nnew\nflushed 3\n")
+    if wrong:
+        raise ValueError(f"the file was not made: {wrong}")
+    return path.read_bytes()
+
+
+def ends_unseen(ran: Ran, session: Session, closed: str) -> str | None:
+    """What is wrong with how a session with closed streams ended. What goes to a closed stream isn't seen. A bad line that can be read comes
+    before a closed output. With standard error alone closed a session may go on or answer that a device failed."""
+    status, out, err = session.ending
+    if closed == "2>&-" and (ran.status, ran.out) == (4, b""):
+        return None
+    if closed != "2>&-" and (status != 3 or "<&-" in closed):
+        status, out, err = 4, b"", FAULT
+    return differs(ran, status, out, b"" if "2>&-" in closed else err)
+
+
+def close(programs: Programs, number: int, closed: str) -> Outcome:
+    """Runs a session with these streams closed, and the same with all of them open, on files that are the same before."""
+    session = SESSIONS[number]
+    with new_folder() as folder:
+        path, other = Path(folder) / "file", Path(folder) / "other"
+        before = old_file(programs, path)
+        other.write_bytes(before)
+        command = [programs.store, *session.words, "--disk"]
+        whole = run([*command, other], session.text)
+        ran = run([*command, path], session.text, Limits(closed=closed))
+        after = path.read_bytes()
+        wrong = differs(whole, *session.ending) or ends_unseen(ran, session, closed)
+        is_done = ran.status == session.ending[0] and closed == "2>&-"
+        if wrong is None and after != (other.read_bytes() if is_done else before):
+            at = next((at for at, pair in enumerate(zip(before, after)) if pair[0] != pair[1]), min(len(before), len(after)))
+            wrong = f"{ran.told()}, and the file has other bytes from {at} on: {after[at : at + 40]!r}"
+        return Outcome(wrong)
+
+
+def close_and_create(programs: Programs, closed: str) -> Outcome:
+    """Runs a session that makes a file where there is none."""
+    with new_folder() as folder:
+        path = Path(folder) / "file"
+        ran = run([programs.store, "--create", "--disk", path], b"put d 5\nflush\n", Limits(closed=closed))
+        if path.exists() and (closed != "2>&-" or ran.status):
+            return Outcome(f"{ran.told()}, and there is a file of {path.stat().st_size} bytes")
+        session = Session("", (), b"", (0, b"new\nflushed 2\n", b""))
+        return Outcome(ends_unseen(ran, session, closed))
+
+
+def all_cases(programs: Programs) -> Iterator[Case]:
+    for closed in CLOSED:
+        for number, session in enumerate(SESSIONS):
+            yield Case(f"{session.name}, {closed}", close, (programs, number, closed))
+        yield Case(f"--create where there is no file, {closed}", close_and_create, (programs, closed))
+
+
+def cases(programs: Programs) -> list[Case]:
+    return list(all_cases(programs))
