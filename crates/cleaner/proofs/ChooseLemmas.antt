@@ -1,15 +1,15 @@
 -- What is chosen of the pages that are kept.
 use Rattle.std.specs.Prelude.{◌≡◌, ◌≢◌, ◌⊎◌, ℕ, ◌≤◌, Bool, true, false, cond, ◌||◌, nat_eq, List, [], ◌∷◌, ◌++◌, length, map, flat_map, Option, Some, None, is_some, unwrap_or}
 use Rattle.std.proofs.Common.{refl, sym, ap, ◌∙◌, subst, inl, inr, arith, append_assoc, append-nil}
-use Rattle.std.specs.List.{AllByRecursion, IsDistinct}
-use Rattle.std.specs.List.Sorted.{IsSorted}
+use Rattle.std.specs.BTreeMap.{BTreeMap}
+use Rattle.std.specs.List.{AllByRecursion}
+use Rattle.std.specs.List.Sorted.{IsStrictlySortedBy}
 use Rattle.std.specs.Map.{keys_of, lookup}
 use Rattle.std.specs.Ordering.{nat_cmp}
 use Rattle.std.proofs.lemmas.Bool.{eqb-true, eq-eqb}
 use Rattle.std.proofs.lemmas.List.{map-append}
 use Rattle.keys.specs.declared.fault.Fault.{Fault}
 use Rattle.keys.specs.declared.fault.Fault.TheVariants.{NoMemory, BadStructure}
-use Rattle.indexmap.specs.IndexMap.{IndexMap, get}
 use Rattle.index_page.proofs.ListLemmas.{all-append, all-filter}
 use Rattle.mapping.specs.Finding.{Finding}
 use Rattle.mapping.specs.FreshPids.{is_among}
@@ -21,7 +21,7 @@ use Rattle.flush_log.specs.Reading.{Found}
 use Rattle.recovery.specs.LogPages.{in_log, pids_of, broken_under, broken_in}
 use Rattle.recovery.specs.PageByLog.{is_start, from_last, told_page, is_broken}
 use Rattle.recovery.specs.StoreOfDisk.{frames_in}
-use Rattle.recovery.proofs.GatherLemmas.{same_rising, keys-rise, among_found}
+use Rattle.recovery.proofs.GatherLemmas.{lookup-same, same_rising, keys-rise, among_found}
 use Rattle.recovery.proofs.PagesLemmas.{pids, among-pids_of}
 use Rattle.recovery.proofs.PartLemmas.{from_last-map, from_last-all}
 use Rattle.cleaner.specs.CleanText.{telling, carried, clean_text}
@@ -107,15 +107,14 @@ pub record IsChosenOf (head : ℕ) (found : List Found) (es : List (ℕ × Kept)
   pub text : frames_kept es ≡ map (λ (f : Frame). bytes_of f) (clean_text head found)
   pub unfit : first_unfit es ≡ broken_in (frames_in found)
 
-pub chosen : {S : Type 0} (head : ℕ) (old now : IndexMap ℕ Kept S) (found : List Found) → IsSorted nat_cmp (keys_of now.entries) → IsDistinct nat_eq (keys_of now.entries)
-    → ((n : ℕ) → get nat_eq old n ≡ get nat_eq now n) → AreKept head old found → IsChosenOf head found now.entries
-chosen head old now found sorted distinct same h =
-    let es = now.entries in
+pub chosen : (head : ℕ) (by_pid : BTreeMap ℕ Kept) (found : List Found) → IsStrictlySortedBy nat_cmp (keys_of by_pid.entries) → AreKept head by_pid found → IsChosenOf head found by_pid.entries
+chosen head by_pid found sorted h =
+    let es = by_pid.entries in
     let fs = frames_in found in
-    let rise : AreRisingPids (keys_of es) = keys-rise (keys_of es) sorted distinct in
-    let each : KeepEach head found es = λ n among. subst (λ (o : Option Kept). IsKeptOf head o (telling n found)) (same n) (h.each n) in
+    let rise : AreRisingPids (keys_of es) = keys-rise (keys_of es) sorted in
+    let each : KeepEach head found es = λ n among. subst (λ (o : Option Kept). IsKeptOf head o (telling n found)) (lookup-same n es) (h.each n) in
     let among : (n : ℕ) → is_among n (keys_of es) ≡ is_among n (pids_of fs) =
-    λ n. among_found n es ∙ ap (λ o. is_some o) (sym (same n)) ∙ h.pids n ∙ ap (λ (ns : List ℕ). is_among n ns) (pids-found found) ∙ sym (among-pids_of fs n) in
+    λ n. among_found n es ∙ ap (λ o. is_some o) (sym (lookup-same n es)) ∙ h.pids n ∙ ap (λ (ns : List ℕ). is_among n ns) (pids-found found) ∙ sym (among-pids_of fs n) in
     let all : keys_of es ≡ pids_of fs = same_rising (keys_of es) (pids_of fs) rise (rising-with_numbers (pids fs) [] tt) among in
     record {
       text = kept-text head found es rise each ∙ ap (λ (ns : List ℕ). map (λ (f : Frame). bytes_of f) (flat_map (λ pid. carried head (telling pid found)) ns)) all;

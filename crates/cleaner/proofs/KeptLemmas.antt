@@ -1,12 +1,13 @@
 -- What is kept of each page, one frame more at a time.
 use Rattle.std.specs.Prelude.{◌≡◌, ◌≢◌, ℕ, Bool, true, false, cond, ◌&&◌, ◌||◌, nat_eq, List, [], ◌∷◌, ◌++◌, map, Option, Some, None, is_some, unwrap_or}
 use Rattle.std.proofs.Common.{refl, sym, ap, ◌∙◌, subst}
+use Rattle.std.specs.BTreeMap.{BTreeMap, get}
 use Rattle.std.specs.List.{list_any}
+use Rattle.std.specs.Ordering.{nat_cmp, is_eq}
 use Rattle.std.proofs.lemmas.Bool.{eqb-true}
 use Rattle.std.proofs.lemmas.List.{map-append, append-nil}
 use Rattle.std.proofs.lemmas.List.Folds.{list_any-append}
 use Rattle.std.proofs.lemmas.List.Sums.{fold-append}
-use Rattle.indexmap.specs.IndexMap.{IndexMap, get}
 use Rattle.index_page.specs.Page.{bare}
 use Rattle.index_page.specs.Page.PageOfKind.{Leaf, Index}
 use Rattle.mapping.specs.FreshPids.{is_among}
@@ -18,10 +19,11 @@ use Rattle.recovery.specs.Gathered.{behind_some as contents_behind, kept_with}
 use Rattle.recovery.specs.PageByLog.{is_base, from_last, InLog, with_newer_run, begun_page, continued, told_page}
 use Rattle.recovery.specs.PageByLog.InLog.{Missing, Present, Broken}
 use Rattle.recovery.specs.StoreOfDisk.{frames_in}
-use Rattle.recovery.proofs.GatherLemmas.{among_more, same_turned}
+use Rattle.recovery.proofs.GatherLemmas.{same_at, among_more, same_turned}
 use Rattle.recovery.proofs.PartLemmas.{from_last-none, from_last-at, from_last-more, from_last-some}
+use Rattle.cleaner.specs.Carried.{with_run}
 use Rattle.cleaner.specs.CleanText.{telling, carried}
-use Rattle.cleaner.specs.Kept.{contents_in, IsTold, IsKept, with_leaf_run, with_index_run, told_with, with_run, with_base, image_with, IsKeptOf, AreKept, first_segment, first_found}
+use Rattle.cleaner.specs.Kept.{contents_in, IsTold, IsKept, with_leaf_run, with_index_run, told_with, with_base, image_with, IsKeptOf, AreKept, first_segment, first_found}
 use Rattle.cleaner.specs.declared.gather.Kept.{Kept}
 use Rattle.cleaner.specs.declared.gather.Told.{Told}
 use Rattle.cleaner.specs.declared.gather.Told.TheVariants as told
@@ -180,25 +182,25 @@ abbrev no_page : Option Kept
 no_page = None
 
 -- one frame more: what was kept of its pid comes out, and what is kept then goes in
-module _ {S : Type 0} (head : ℕ) (old mid now : IndexMap ℕ Kept S) (f : Found) (kept : Kept)
-    (out : (n : ℕ) → get nat_eq mid n ≡ cond (nat_eq f.frame.pid n) None (get nat_eq old n))
-    (into : (n : ℕ) → get nat_eq now n ≡ cond (nat_eq f.frame.pid n) (Some kept) (get nat_eq mid n)) where
-  in_by : (b : Bool) (n : ℕ) → nat_eq f.frame.pid n ≡ b → get nat_eq now n ≡ cond b (Some kept) (get nat_eq old n)
-  in_by true n e = into n ∙ ap (λ (b : Bool). cond b (Some kept) (get nat_eq mid n)) e
+module _ (head : ℕ) (old mid now : BTreeMap ℕ Kept) (f : Found) (kept : Kept)
+    (out : (n : ℕ) → get nat_cmp mid n ≡ cond (is_eq (nat_cmp f.frame.pid n)) None (get nat_cmp old n))
+    (into : (n : ℕ) → get nat_cmp now n ≡ cond (is_eq (nat_cmp f.frame.pid n)) (Some kept) (get nat_cmp mid n)) where
+  in_by : (b : Bool) (n : ℕ) → nat_eq f.frame.pid n ≡ b → get nat_cmp now n ≡ cond b (Some kept) (get nat_cmp old n)
+  in_by true n e = into n ∙ ap (λ (b : Bool). cond b (Some kept) (get nat_cmp mid n)) (same_at f.frame.pid n ∙ e)
   in_by false n e =
-      into n ∙ ap (λ (b : Bool). cond b (Some kept) (get nat_eq mid n)) e
-      ∙ (out n ∙ ap (λ (b : Bool). cond b no_page (get nat_eq old n)) e)
+      into n ∙ ap (λ (b : Bool). cond b (Some kept) (get nat_cmp mid n)) (same_at f.frame.pid n ∙ e)
+      ∙ (out n ∙ ap (λ (b : Bool). cond b no_page (get nat_cmp old n)) (same_at f.frame.pid n ∙ e))
 
   each_by : (b : Bool) (found : List Found) (n : ℕ) → nat_eq f.frame.pid n ≡ b → AreKept head old found → IsKept head kept (part_with (telling f.frame.pid found) f)
-      → IsKeptOf head (get nat_eq now n) (telling n (found ++ f ∷ []))
+      → IsKeptOf head (get nat_cmp now n) (telling n (found ++ f ∷ []))
   each_by true found n e h k =
       let own : telling n (found ++ f ∷ []) ≡ part_with (telling f.frame.pid found) f = telling-own n found f e ∙ ap (λ (m : ℕ). part_with (telling m found) f) (sym (eqb-true f.frame.pid n e)) in
       subst (λ (o : Option Kept). IsKeptOf head o (telling n (found ++ f ∷ []))) (sym (in_by true n e)) (subst (λ (fs : List Found). IsKept head kept fs) (sym own) k)
   each_by false found n e h k =
       subst (λ (o : Option Kept). IsKeptOf head o (telling n (found ++ f ∷ []))) (sym (in_by false n e))
-      (subst (λ (fs : List Found). IsKeptOf head (get nat_eq old n) fs) (sym (telling-other n found f e)) (h.each n))
+      (subst (λ (fs : List Found). IsKeptOf head (get nat_cmp old n) fs) (sym (telling-other n found f e)) (h.each n))
 
-  pids_by : (b : Bool) (found : List Found) (n : ℕ) → nat_eq f.frame.pid n ≡ b → AreKept head old found → is_some (get nat_eq now n) ≡ (is_among n (map (λ (g : Found). g.frame.pid) found) || b)
+  pids_by : (b : Bool) (found : List Found) (n : ℕ) → nat_eq f.frame.pid n ≡ b → AreKept head old found → is_some (get nat_cmp now n) ≡ (is_among n (map (λ (g : Found). g.frame.pid) found) || b)
   pids_by true found n e h = ap (λ o. is_some o) (in_by true n e) ∙ sym (or_true (is_among n (map (λ (g : Found). g.frame.pid) found)))
     where
       or_true : (b : Bool) → (b || true) ≡ true
@@ -229,15 +231,15 @@ found-append [] f = refl
 found-append (g ∷ gs) f = refl
 
 -- before the first frame any segment may be the head
-kept_any : {S : Type 0} (head other : ℕ) (by_pid : IndexMap ℕ Kept S) (found : List Found) → first_found found ≡ None → AreKept head by_pid found → AreKept other by_pid found
-kept_any head other by_pid [] e h = record { each = λ pid. any (get nat_eq by_pid pid) (h.each pid); pids = h.pids }
+kept_any : (head other : ℕ) (by_pid : BTreeMap ℕ Kept) (found : List Found) → first_found found ≡ None → AreKept head by_pid found → AreKept other by_pid found
+kept_any head other by_pid [] e h = record { each = λ pid. any (get nat_cmp by_pid pid) (h.each pid); pids = h.pids }
   where
     any : (o : Option Kept) → IsKeptOf head o [] → IsKeptOf other o []
     any None k = k
     any (Some k) is = record { told = is.told; image = is.image }
 kept_any head other by_pid (f ∷ fs) e h = absurd (cc)
 
-pub kept-before : {S : Type 0} (by_pid : IndexMap ℕ Kept S) (found : List Found) (f : Found) → AreKept (first_segment found) by_pid found → AreKept (first_segment (found ++ f ∷ [])) by_pid found
+pub kept-before : (by_pid : BTreeMap ℕ Kept) (found : List Found) (f : Found) → AreKept (first_segment found) by_pid found → AreKept (first_segment (found ++ f ∷ [])) by_pid found
 kept-before by_pid [] f h = kept_any 0 f.segment by_pid [] refl h
 kept-before by_pid (g ∷ gs) f h = h
 

@@ -13,45 +13,12 @@ use Rattle.frame_codec.specs.declared.skim.FrameKind.{FrameKind}
 use Rattle.frame_codec.specs.declared.skim.Skimmed.{Skimmed}
 use Rattle.flush_log.specs.Reading.{Found, all_in, followed_by}
 use Rattle.recovery.specs.Scan.{HeldSegment, scanned}
-use Rattle.recovery.proofs.ScanLemmas.{left-behind, AreRead, read-none, read-more}
+use Rattle.recovery.proofs.ScanLemmas.{left-behind, AreRead, read-none, read-more, IsFrame}
 use Rattle.cleaner.specs.Kept.{AreLive, IsSoFar}
 use Rattle.cleaner.specs.Skim.{HeldFrame, skim_of, skims_of, held_frame, told_by_skim, told_of_skim}
 use Rattle.cleaner.specs.declared.gather.LivePages.{LivePages}
 use Rattle.cleaner.specs.declared.skim_segment.SkimDone.{SkimDone}
 use Rattle.cleaner.specs.declared.skim_segment.SkimmedFrame.{SkimmedFrame}
-
--- ---- one frame
-
-module _ (s : Settings) (rest : Bytes) where
-  -- what code that skims a frame at the front of these bytes tells
-  pub record IsToldOf (told : Option Skimmed) : Type 0 where
-    pub found : MatchOption told (read_frame s rest ≡ None) (λ k. (f : Frame) × (read_frame s rest ≡ Some (f, drop k.size rest)) × IsSkimmed k f × (take k.size rest ≡ bytes_of f))
-    pub within : IfSome told (λ k. k.size ≤ length rest)
-
-  pub told-none : (told : Option Skimmed) → told ≡ None → IsToldOf told → read_frame s rest ≡ None
-  told-none None e h = h.found
-  told-none (Some k) e h = absurd (cc)
-
-  -- the frame of which this is told
-  pub record IsFrame (k : Skimmed) : Type 0 where
-    pub frame : Frame
-    pub read : read_frame s rest ≡ Some (frame, drop k.size rest)
-    pub skimmed : IsSkimmed k frame
-    pub bytes : take k.size rest ≡ bytes_of frame
-    pub within : k.size ≤ length rest
-    pub less : length (drop k.size rest) < length rest
-
-  told_by : (k : Skimmed) → IsToldOf (Some k) → IsFrame k
-  told_by k h =
-      let (f, read, skimmed, bytes) = h.found in
-      let fits = h.within in
-      let long = ap length (sym bytes) in
-      let part = length-take-le k.size rest fits in
-      let left = length-drop k.size rest in
-      record { frame = f; read = read; skimmed = skimmed; bytes = bytes; within = fits; less = omega (arith, long, part, left, fits) }
-
-  pub told-some : (told : Option Skimmed) (k : Skimmed) → told ≡ Some k → IsToldOf told → IsFrame k
-  told-some told k e h = told_by k (subst (λ (o : Option Skimmed). IsToldOf o) e h)
 
 -- ---- the frames of a segment
 
@@ -95,13 +62,6 @@ module _ (s : Settings) (is_end : Bytes → Bool) (long n : ℕ) (body : Bytes) 
             ∙ sym (map-append skim_of (all_in n h.frames) (one ∷ []))
             ∙ ap (λ (xs : List Found). map skim_of xs) (sym (map-append (λ (g : Frame). (let x : Found = record { segment = n; frame = g } in x)) h.frames (f.frame ∷ [])));
       }
-
--- there is less left then
-pub less-left : (s : Settings) (rest : Bytes) (told : Skimmed) (size : ℕ) → size ≡ told.size → IsFrame s rest told → length (take (length rest - size) (drop size rest)) < length rest
-less-left s rest told size same_size f =
-    let same = ap (λ (bs : Bytes). length bs) (ap (λ (m : ℕ). take (length rest - m) (drop m rest)) same_size ∙ left-behind told.size rest) in
-    let less = f.less in
-    omega (arith, same, less)
 
 -- ---- the segments
 

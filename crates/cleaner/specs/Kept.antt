@@ -1,9 +1,10 @@
 -- What is kept of each page while the log is read for a clean: what its frames tell, and those of them that are carried on.
 use Rattle.std.specs.Prelude.{◌≡◌, ◌⊎◌, ⊤, ℕ, Bool, true, false, nat_eq, if◌then◌else◌, List, [], ◌∷◌, ◌++◌, map, flat_map, Option, Some, None, is_some, Result, Ok, Err}
+use Rattle.std.specs.BTreeMap.{BTreeMap, get}
 use Rattle.std.specs.List.{AllByRecursion}
+use Rattle.std.specs.Ordering.{nat_cmp}
 use Rattle.keys.specs.Bytes.{Bytes}
 use Rattle.keys.specs.declared.fault.Fault.{Fault}
-use Rattle.indexmap.specs.IndexMap.{IndexMap, get}
 use Rattle.index_page.specs.Page.{Page}
 use Rattle.index_page.specs.Page.PageOfKind.{Leaf, Index}
 use Rattle.mapping.specs.Finding.{Finding}
@@ -15,6 +16,7 @@ use Rattle.frame_codec.specs.declared.skim.FrameKind.TheVariants as kinds
 use Rattle.flush_log.specs.Reading.{Found}
 use Rattle.recovery.specs.PageByLog.{told_page}
 use Rattle.recovery.specs.PageByLog.InLog.{Present, Broken}
+use Rattle.cleaner.specs.Carried.{with_run}
 use Rattle.cleaner.specs.CleanText.{telling, carried}
 use Rattle.cleaner.specs.declared.gather.Kept.{Kept}
 use Rattle.cleaner.specs.declared.gather.LivePages.{LivePages}
@@ -66,12 +68,7 @@ told_with t kinds.FullIndex = told.Index
 told_with t kinds.DeltaIndex = with_index_run t
 told_with t kinds.Free = told.Free
 
--- what is carried on of a page with a run behind it: where nothing is, the run isn't
-abbrev pub with_run : List Bytes → Bytes → List Bytes
-with_run [] frame = []
-with_run (f ∷ fs) frame = f ∷ (fs ++ frame ∷ [])
-
--- with a base: that alone, where it stands in the head segment
+-- what is carried on of a page with a base: that alone, where it stands in the head segment
 abbrev pub with_base : Bool → Bytes → List Bytes
 with_base in_head frame = if in_head then frame ∷ [] else []
 
@@ -92,9 +89,9 @@ IsKeptOf head (Some k) fs = IsKept head k fs
 
 -- Of what was found so far, under each pid what is kept of its page; and of each pid of which a frame was found it is known that there
 -- is one.
-pub record AreKept {S : Type 0} (head : ℕ) (by_pid : IndexMap ℕ Kept S) (found : List Found) : Type 0 where
-  pub each : (pid : ℕ) → IsKeptOf head (get nat_eq by_pid pid) (telling pid found)
-  pub pids : (pid : ℕ) → is_some (get nat_eq by_pid pid) ≡ is_among pid (map (λ f. f.frame.pid) found)
+pub record AreKept (head : ℕ) (by_pid : BTreeMap ℕ Kept) (found : List Found) : Type 0 where
+  pub each : (pid : ℕ) → IsKeptOf head (get nat_cmp by_pid pid) (telling pid found)
+  pub pids : (pid : ℕ) → is_some (get nat_cmp by_pid pid) ≡ is_among pid (map (λ f. f.frame.pid) found)
 
 -- the segment where the first of these stands
 abbrev pub first_segment : List Found → ℕ

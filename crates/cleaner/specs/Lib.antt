@@ -1,4 +1,5 @@
 pub mod AfterClean
+pub mod Carried
 pub mod Cleaned
 pub mod CleanText
 pub mod Kept

@@ -12,9 +12,9 @@ ghost use Rattle.cleaner.specs.Kept.{AreLive, BeginsAt, frames_kept, is_unfit, f
 
 use crate::gather::{Kept, LivePages, Told};
 use flush_log::image::Image;
-use indexmap::IndexMap;
 use keys::{Fault, Finding, Pid};
 use std::alloc::Global;
+use std::collections::BTreeMap;
 
 // The number of the rule that a page breaks whose frames don't fit one another.
 const UNFIT_FRAMES: u32 = 1;
@@ -34,7 +34,7 @@ fn is_unfit(told: Told) -> bool
 
 // The images of the pages, in the order in which the map has them, without those that have no frames. The first page whose frames
 // don't fit one another is answered as a fault.
-fn images_in(alloc: Global, by_pid: IndexMap<u64, Kept>) -> Result<Vec<Image>, Fault>
+fn images_in(alloc: Global, by_pid: BTreeMap<u64, Kept, Global>) -> Result<Vec<Image>, Fault>
     ensures chosen { MatchResult result
         (λ images. (first_unfit by_pid.entries ≡ None) × (frames_of_images images.items ≡ frames_kept by_pid.entries))
         (λ fault. (fault ≡ NoMemory) ⊎ ((f : Finding) × (first_unfit by_pid.entries ≡ Some f) × (fault ≡ BadStructure f))) }
@@ -49,6 +49,7 @@ fn images_in(alloc: Global, by_pid: IndexMap<u64, Kept>) -> Result<Vec<Image>, F
                 pid: Pid(pid),
             }));
         }
+        let image = image.into_image(alloc);
         if image.len() == 0 {
             continue;
         }
@@ -72,9 +73,10 @@ pub fn choose(pages: LivePages, head: u64) -> Result<Vec<Image>, Fault>
     let LivePages {
         alloc,
         first,
-        mut by_pid,
+        by_pid,
     } = pages;
-    by_pid.sort_unstable_keys()?;
+    // `len` is called only for the proof: it says that the page ids rise.
+    let _rising = by_pid.len();
     let images = images_in(alloc, by_pid)?;
     if first.unwrap_or(head) != head {
         // No frame stands in the head segment.

@@ -1,16 +1,17 @@
 //! What is kept of each page while a log is read for a clean: what its frames tell, and those of them that are to be carried on.
 //!
-//! No frame is kept but those of pages that live in the head segment, and of these the bytes as they stand.
+//! No frame is kept but those of pages that live in the head segment, and of these the bytes as they stand. Whoever wrote a disk chose
+//! its page ids: so they are looked up by their order and not by a hash, which ids could be chosen to share.
 ghost use Rattle.std.specs.Prelude.{◌≡◌, ◌++◌, ◌∷◌, [], List, IfOk, OnOk};
 ghost use Rattle.flush_log.specs.Reading.{Found};
-ghost use Rattle.cleaner.specs.Kept.{told_with, with_run, with_base, image_with, AreLive};
+ghost use Rattle.cleaner.specs.Kept.{told_with, with_base, image_with, AreLive};
 ghost use Rattle.cleaner.specs.Skim.{held_frame, skim_of};
 
+use crate::carried::Carried;
 use crate::skim_segment::SkimmedFrame;
-use flush_log::image::Image;
 use frame_codec::FrameKind;
-use indexmap::IndexMap;
 use std::alloc::{AllocError, Global};
+use std::collections::BTreeMap;
 
 /// What the frames of a page tell that came so far. What stands before a base or a free frame no longer counts.
 #[derive(Clone, Copy, Debug, PartialEq, Eq)]
@@ -33,7 +34,7 @@ pub struct Kept {
     /// What its frames tell.
     pub told: Told,
     /// Its frames from its last base on, where that stands in the head segment; else none.
-    pub image: Image,
+    pub image: Carried,
 }
 
 /// What is kept of each page, by page id. The segment where the first frame stands is taken for the log's head segment.
@@ -43,7 +44,7 @@ pub struct LivePages {
     /// The segment where the first frame stands, once one came.
     pub first: Option<u64>,
     /// What is kept, under the number of the page id.
-    pub by_pid: IndexMap<u64, Kept>,
+    pub by_pid: BTreeMap<u64, Kept, Global>,
 }
 
 // What is told with one more frame of this kind.
@@ -71,43 +72,33 @@ fn told_with(told: Told, kind: FrameKind) -> Told
     }
 }
 
-// The image that begins with a base: that alone, where it stands in the head segment.
-fn with_base(alloc: Global, in_head: bool, frame: &[u8]) -> Result<Image, AllocError>
+// The frames from a base on: that alone, where it stands in the head segment.
+fn with_base(alloc: Global, in_head: bool, frame: &[u8]) -> Result<Carried, AllocError>
     ensures { IfOk result (λ now. now ≡ with_base in_head frame.now) }
 {
-    let mut image = Image::new(alloc);
     if in_head {
-        image.push(frame)?;
+        Carried::one(alloc, frame)
+    } else {
+        Ok(Carried::none())
     }
-    Ok(image)
 }
 
-// The image with a run behind it. Of a page that doesn't live in the head segment no run is kept.
-fn with_run(mut image: Image, frame: &[u8]) -> Result<Image, AllocError>
-    ensures { IfOk result (λ now. now ≡ with_run image frame.now) }
-{
-    if image.len() != 0 {
-        image.push(frame)?;
-    }
-    Ok(image)
-}
-
-// What is carried on of a page with one more frame of this kind.
+// What is carried on of a page with one more frame of this kind. Of a page that doesn't live in the head segment no run is kept.
 fn image_with(
     alloc: Global,
-    image: Image,
+    image: Carried,
     kind: FrameKind,
     in_head: bool,
     frame: &[u8],
-) -> Result<Image, AllocError>
+) -> Result<Carried, AllocError>
     ensures { IfOk result (λ now. now ≡ image_with image kind in_head frame.now) }
 {
     match kind {
         FrameKind::FullLeaf => with_base(alloc, in_head, frame),
-        FrameKind::DeltaLeaf => with_run(image, frame),
+        FrameKind::DeltaLeaf => image.with_run(frame),
         FrameKind::FullIndex => with_base(alloc, in_head, frame),
-        FrameKind::DeltaIndex => with_run(image, frame),
-        FrameKind::Free => Ok(Image::new(alloc)),
+        FrameKind::DeltaIndex => image.with_run(frame),
+        FrameKind::Free => Ok(Carried::none()),
     }
 }
 
@@ -119,7 +110,7 @@ impl LivePages {
         LivePages {
             alloc,
             first: None,
-            by_pid: IndexMap::new(alloc),
+            by_pid: BTreeMap::new(alloc),
         }
     }
 
@@ -131,11 +122,11 @@ impl LivePages {
     {
         let SkimmedFrame { pid, kind, bytes } = frame;
         let first = self.first.unwrap_or(segment);
-        let before = match self.by_pid.swap_remove(&pid) {
+        let before = match self.by_pid.remove(&pid) {
             Some(kept) => kept,
             None => Kept {
                 told: Told::Nothing,
-                image: Image::new(self.alloc),
+                image: Carried::none(),
             },
         };
         let Kept { told, image } = before;

@@ -5,6 +5,7 @@
 //! Laws: a clean keeps the store that the disk stands for; a crash in it leaves the store before or after.
 #![tactic(auto)]
 
+pub mod carried;
 pub mod choose;
 pub mod clean;
 pub mod gather;

@@ -1,7 +1,7 @@
 -- How a table is filled by rising pid, and what is found of the tree that it then holds.
-use Rattle.std.specs.Prelude.{◌≡◌, ◌⊎◌, ℕ, suc, pred, ◌<◌, cond, List, [], ◌∷◌, ◌++◌, map, Option, Some, None, IsSome, Result, Ok, Err, IfErr, IsErrAnd}
+use Rattle.std.specs.Prelude.{◌≡◌, ◌⊎◌, ℕ, suc, pred, ◌<◌, Bool, true, false, not, cond, List, [], ◌∷◌, ◌++◌, map, Option, Some, None, IsSome, Result, Ok, Err, IfErr, IsErrAnd}
 use Rattle.std.proofs.Common.{refl, sym, ap, ◌∙◌, arith, subst, inl, inr, Equal, Greater}
-use Rattle.std.specs.List.{AllByRecursion}
+use Rattle.std.specs.List.{AllByRecursion, filter}
 use Rattle.std.specs.Map.{keys_of, lookup}
 use Rattle.std.specs.Ordering.{nat_cmp}
 use Rattle.std.specs.Cmp.{nat_cmp_is}
@@ -20,14 +20,16 @@ use Rattle.mapping.specs.Table.{Mapping, is_same_pid, place_of, with_place, room
 use Rattle.mapping.specs.Tree.{Tree}
 use Rattle.mapping.specs.TreeInMemory.{TreeInMemory, AreAllHome, home_pages, tree_of}
 use Rattle.mapping.proofs.Walk.{nothing_found}
-use Rattle.frame_codec.specs.Frame.{Frame}
+use Rattle.frame_codec.specs.Frame.{Content, Frame}
+use Rattle.frame_codec.specs.Frame.Content.{FullLeaf, DeltaLeaf, FullIndex, DeltaIndex, Free}
 use Rattle.flush_log.specs.FlushText.{tree_in_log}
 use Rattle.flush_log.specs.Slot.{Slot}
 use Rattle.verify.specs.Report.{IsFaultOf}
 use Rattle.recovery.specs.BuiltTree.{in_places, log_pids, said_by, pages_said, broken_said}
-use Rattle.recovery.specs.Gathered.{logs_of}
-use Rattle.recovery.specs.LogPages.{contents_of, in_log, pids_of, pages_under, pages_of, broken_under, broken_in}
-use Rattle.recovery.specs.PageByLog.{InLog, is_start, from_last, told_page, page_in, is_broken}
+use Rattle.recovery.specs.Gathered.{is_more, is_log, kept_log, logs_of}
+use Rattle.recovery.specs.LogPages.{in_log, pids_of, pages_under, pages_of, broken_under, broken_in}
+use Rattle.recovery.specs.PageByLog.{InLog, is_free, told_page, page_in, is_broken}
+use Rattle.recovery.specs.PageByLog.InLog.{Missing}
 use Rattle.recovery.specs.Rebuild.{HeldLog, held_done, told_by}
 use Rattle.recovery.specs.StoreOfDisk.{tree_by_log, wrong_in}
 use Rattle.recovery.specs.declared.rebuild.PageLog.{PageLog}
@@ -159,9 +161,50 @@ said-logs (r ∷ rs) (h ∷ hs) e f =
     let told = first_same (told_by r) (told_page h.contents) (map told_by rs) (map (λ (h : HeldLog). told_page h.contents) hs) f in
     ap (λ (x : ℕ × InLog). x ∷ map said_by rs) (said_by_parts r h held.0 told.0) ∙ ap (λ (xs : List (ℕ × InLog)). said_of h ∷ xs) (said-logs rs hs held.1 told.1)
 
+-- where there is no log, there is no page
+free_none : (c : Content) → not (is_free c) ≡ false → told_page (c ∷ []) ≡ Missing
+free_none (FullLeaf low base) e = absurd (cc)
+free_none (DeltaLeaf run) e = refl
+free_none (FullIndex low base) e = absurd (cc)
+free_none (DeltaIndex run) e = refl
+free_none Free e = refl
+
+no_page : (cs : List Content) → is_more cs ≡ false → told_page cs ≡ Missing
+no_page [] e = refl
+no_page (c ∷ []) e = free_none c e
+no_page (c ∷ d ∷ cs) e = absurd (cc)
+
+pages_by : (b : Bool) (h : HeldLog) (hs : List HeldLog) → is_log h ≡ b → pages_said (map said_of (filter is_log hs)) ≡ pages_said (map said_of hs)
+    → pages_said (map said_of (filter is_log (h ∷ hs))) ≡ pages_said (map said_of (h ∷ hs))
+pages_by true h hs e rest = rw e (ap (λ (ps : List (ℕ × PageOfKind)). entry_if h.pid (page_in (told_page h.contents)) ++ ps) rest)
+pages_by false h hs e rest =
+    let left : filter is_log (h ∷ hs) ≡ filter is_log hs = rw e refl in
+    ap (λ (ls : List HeldLog). pages_said (map said_of ls)) left ∙ rest
+    ∙ ap (λ (x : InLog). entry_if h.pid (page_in x) ++ pages_said (map said_of hs)) (sym (no_page h.contents e))
+
+-- so the logs say as much as all that is kept
+pages-filtered : (hs : List HeldLog) → pages_said (map said_of (filter is_log hs)) ≡ pages_said (map said_of hs)
+pages-filtered [] = refl
+pages-filtered (h ∷ hs) = pages_by (is_log h) h hs refl (pages-filtered hs)
+
+abbrev broken_at : ℕ → InLog → Option Finding → Option Finding
+broken_at n x o = cond (is_broken x) (Some (record { rule = 1; pid = n })) o
+
+broken_by : (b : Bool) (h : HeldLog) (hs : List HeldLog) → is_log h ≡ b → broken_said (map said_of (filter is_log hs)) ≡ broken_said (map said_of hs)
+    → broken_said (map said_of (filter is_log (h ∷ hs))) ≡ broken_said (map said_of (h ∷ hs))
+broken_by true h hs e rest = rw e (ap (λ (o : Option Finding). broken_at h.pid (told_page h.contents) o) rest)
+broken_by false h hs e rest =
+    let left : filter is_log (h ∷ hs) ≡ filter is_log hs = rw e refl in
+    ap (λ (ls : List HeldLog). broken_said (map said_of ls)) left ∙ rest
+    ∙ ap (λ (x : InLog). broken_at h.pid x (broken_said (map said_of hs))) (sym (no_page h.contents e))
+
+broken-filtered : (hs : List HeldLog) → broken_said (map said_of (filter is_log hs)) ≡ broken_said (map said_of hs)
+broken-filtered [] = refl
+broken-filtered (h ∷ hs) = broken_by (is_log h) h hs refl (broken-filtered hs)
+
 module _ (fs : List Frame) where
   abbrev logs_under : List ℕ → List HeldLog
-  logs_under ns = map (λ pid. record { pid = pid; contents = from_last is_start (contents_of pid fs) }) ns
+  logs_under ns = map (kept_log fs) ns
 
   pages-under : (ns : List ℕ) → pages_said (map said_of (logs_under ns)) ≡ pages_under fs ns
   pages-under [] = refl
@@ -180,8 +223,8 @@ module _ (fs : List Frame) where
   said-of rs hs e f g =
       let all : map said_by rs ≡ map said_of (logs_of fs) = said-logs rs hs e f ∙ ap (λ (x : List HeldLog). map said_of x) g in
       record {
-        pages = ap (λ (ss : List (ℕ × InLog)). pages_said ss) all ∙ pages-under (pids_of fs);
-        broken = ap (λ (ss : List (ℕ × InLog)). broken_said ss) all ∙ broken-under (pids_of fs);
+        pages = ap (λ (ss : List (ℕ × InLog)). pages_said ss) all ∙ pages-filtered (logs_under (pids_of fs)) ∙ pages-under (pids_of fs);
+        broken = ap (λ (ss : List (ℕ × InLog)). broken_said ss) all ∙ broken-filtered (logs_under (pids_of fs)) ∙ broken-under (pids_of fs);
       }
 
 -- ---- the tree

@@ -1,27 +1,47 @@
 -- How frames are gathered one by one.
-use Rattle.std.proofs.Common.{◌≡◌, ℕ, suc, ◌+◌, ◌<◌, nat_lt, get_or, arith, Bool, true, false, cond, ◌||◌, nat_eq, List, [], ◌∷◌, ◌++◌, map, Option, Some, None, is_some, Vec, Global, refl, sym, ap, subst, ◌∙◌}
-use Rattle.std.specs.List.{AllByRecursion, IsDistinct, list_any}
-use Rattle.std.specs.List.Sorted.{IsSorted, IsStrictlyIncreasing}
+use Rattle.std.proofs.Common.{◌≡◌, ℕ, suc, ◌+◌, ◌<◌, nat_lt, get_or, arith, Bool, true, false, cond, ◌||◌, nat_eq, List, [], ◌∷◌, ◌++◌, map, Option, Some, None, is_some, refl, sym, ap, subst, ◌∙◌, Less, Equal, Greater}
+use Rattle.std.specs.BTreeMap.{BTreeMap, get}
+use Rattle.std.specs.Cmp.{nat_cmp_is}
+use Rattle.std.specs.List.{AllByRecursion, filter, list_any}
+use Rattle.std.specs.List.Sorted.{IsStrictlySortedBy, IsStrictlyIncreasing}
 use Rattle.std.specs.Map.{keys_of, lookup}
-use Rattle.std.specs.Ordering.{nat_cmp}
-use Rattle.std.proofs.lemmas.List.Sorted.{IsNonDecreasingBy-from_sort}
-use Rattle.std.proofs.lemmas.Map.Keys.{IsStrictlyIncreasing-from_distinct}
+use Rattle.std.specs.Ordering.{nat_cmp, is_eq}
+use Rattle.std.proofs.lemmas.Map.Keys.{IsStrictlyIncreasing-from_sorted}
 use Rattle.std.proofs.lemmas.Bool.{eqb-true, eq-eqb, ne_eqb, ltb-true, ltb-false}
 use Rattle.std.proofs.lemmas.List.{map-append, append-nil}
 use Rattle.std.proofs.lemmas.List.Folds.{list_any-append}
-use Rattle.indexmap.specs.IndexMap.{IndexMap, get}
 use Rattle.mapping.specs.FreshPids.{is_among}
 use Rattle.mapping.specs.Proper.{AreRisingPids}
 use Rattle.mapping.proofs.KnownPids.{among-with_numbers, rising-with_numbers}
 use Rattle.frame_codec.specs.Frame.{Content, Frame}
-use Rattle.frame_codec.specs.declared.frame.Frame as code
 use Rattle.recovery.specs.BuiltTree.{log_pids}
-use Rattle.recovery.specs.Gathered.{AreGathered, behind_some, kept_with, kept_of, log_under, logs_of}
+use Rattle.recovery.specs.Gathered.{AreGathered, behind_some, kept_contents, kept_with, kept_of, log_under, is_log, kept_log}
 use Rattle.recovery.specs.LogPages.{contents_of, pids_of}
 use Rattle.recovery.specs.PageByLog.{is_start, from_last}
-use Rattle.recovery.specs.Rebuild.{HeldLog, contents_in}
+use Rattle.recovery.specs.Rebuild.{HeldLog}
+use Rattle.recovery.specs.declared.gather.Kept.{Kept}
 use Rattle.recovery.proofs.PagesLemmas.{contents-append}
 use Rattle.recovery.proofs.PartLemmas.{from_last-none, from_last-at, from_last-more, from_last-some}
+
+-- ---- numbers looked up by their order
+
+pub same_at : (m n : ℕ) → is_eq (nat_cmp m n) ≡ nat_eq m n
+same_at m n = of (nat_lt m n) (nat_lt n m) refl refl
+  where
+    of : (b c : Bool) → nat_lt m n ≡ b → nat_lt n m ≡ c → is_eq (nat_cmp m n) ≡ nat_eq m n
+    of true c e f = let less = ltb-true m n e in ap is_eq (sym (nat_cmp_is m n Less less)) ∙ sym (ne_eqb m n (λ same. omega (arith, same, less)))
+    of false true e f = let more = ltb-true n m f in ap is_eq (sym (nat_cmp_is m n Greater more)) ∙ sym (ne_eqb m n (λ same. omega (arith, same, more)))
+    of false false e f =
+        let not_less = ltb-false m n e in
+        let not_more = ltb-false n m f in
+        let same : m ≡ n = omega (arith, not_less, not_more) in
+        ap is_eq (sym (nat_cmp_is m n Equal same)) ∙ sym (eq-eqb m n same)
+
+pub lookup-same : {V : Type 0} (n : ℕ) (es : List (ℕ × V)) → lookup (λ k. is_eq (nat_cmp n k)) es ≡ lookup (nat_eq n) es
+lookup-same n [] = refl
+lookup-same {V} n ((k, v) ∷ es) =
+    let found : Option V = Some v in
+    ap (λ (b : Bool). cond b found (lookup (λ k. is_eq (nat_cmp n k)) es)) (same_at n k) ∙ ap (λ (o : Option V). cond (nat_eq n k) found o) (lookup-same n es)
 
 -- ---- the contents of one pid
 
@@ -70,39 +90,39 @@ same_turned false false m n e h = refl
 same_turned true false m n e h = let x = eq-eqb n m (sym (eqb-true m n e)) in absurd (cc)
 same_turned false true m n e h = let x = eq-eqb m n (sym (eqb-true n m h)) in absurd (cc)
 
-abbrev nothing : Option (Vec code.Frame Global)
+abbrev nothing : Option Kept
 nothing = None
 
 -- one frame more: what was kept of its pid comes out, and what is kept then goes in
-module _ {S : Type 0} (old mid now : IndexMap ℕ (Vec code.Frame Global) S) (f : Frame) (kept : Vec code.Frame Global)
-    (out : (n : ℕ) → get nat_eq mid n ≡ cond (nat_eq f.pid n) None (get nat_eq old n))
-    (into : (n : ℕ) → get nat_eq now n ≡ cond (nat_eq f.pid n) (Some kept) (get nat_eq mid n)) where
+module _ (old mid now : BTreeMap ℕ Kept) (f : Frame) (kept : Kept)
+    (out : (n : ℕ) → get nat_cmp mid n ≡ cond (is_eq (nat_cmp f.pid n)) None (get nat_cmp old n))
+    (into : (n : ℕ) → get nat_cmp now n ≡ cond (is_eq (nat_cmp f.pid n)) (Some kept) (get nat_cmp mid n)) where
   here : nat_eq f.pid f.pid ≡ true
   here = eq-eqb f.pid f.pid refl
 
-  in_by : (b : Bool) (n : ℕ) → nat_eq f.pid n ≡ b → get nat_eq now n ≡ cond b (Some kept) (get nat_eq old n)
-  in_by true n e = into n ∙ ap (λ (b : Bool). cond b (Some kept) (get nat_eq mid n)) e
+  in_by : (b : Bool) (n : ℕ) → nat_eq f.pid n ≡ b → get nat_cmp now n ≡ cond b (Some kept) (get nat_cmp old n)
+  in_by true n e = into n ∙ ap (λ (b : Bool). cond b (Some kept) (get nat_cmp mid n)) (same_at f.pid n ∙ e)
   in_by false n e =
-      into n ∙ ap (λ (b : Bool). cond b (Some kept) (get nat_eq mid n)) e
-      ∙ (out n ∙ ap (λ (b : Bool). cond b nothing (get nat_eq old n)) e)
+      into n ∙ ap (λ (b : Bool). cond b (Some kept) (get nat_cmp mid n)) (same_at f.pid n ∙ e)
+      ∙ (out n ∙ ap (λ (b : Bool). cond b nothing (get nat_cmp old n)) (same_at f.pid n ∙ e))
 
-  at_pid : (fs : List Frame) → AreGathered old fs → contents_in kept.items ≡ kept_with (kept_of (get nat_eq old f.pid)) f.content
-      → kept_of (get nat_eq now f.pid) ≡ from_last is_start (contents_of f.pid (fs ++ f ∷ []))
+  at_pid : (fs : List Frame) → AreGathered old fs → kept_contents kept ≡ kept_with (kept_of (get nat_cmp old f.pid)) f.content
+      → kept_of (get nat_cmp now f.pid) ≡ from_last is_start (contents_of f.pid (fs ++ f ∷ []))
   at_pid fs h with_one =
       ap (λ o. kept_of o) (in_by true f.pid here) ∙ with_one
       ∙ ap (λ (cs : List Content). kept_with cs f.content) (h.each f.pid)
       ∙ sym (kept-more (contents_of f.pid fs) f.content)
       ∙ ap (λ (cs : List Content). from_last is_start cs) (ap (λ (cs : List Content). contents_of f.pid fs ++ cs) (sym (one_of true f f.pid here)) ∙ sym (contents-append f.pid fs (f ∷ [])))
 
-  each_by : (b : Bool) (fs : List Frame) (n : ℕ) → nat_eq f.pid n ≡ b → AreGathered old fs → contents_in kept.items ≡ kept_with (kept_of (get nat_eq old f.pid)) f.content
-      → kept_of (get nat_eq now n) ≡ from_last is_start (contents_of n (fs ++ f ∷ []))
-  each_by true fs n e h with_one = subst (λ (m : ℕ). kept_of (get nat_eq now m) ≡ from_last is_start (contents_of m (fs ++ f ∷ []))) (eqb-true f.pid n e) (at_pid fs h with_one)
+  each_by : (b : Bool) (fs : List Frame) (n : ℕ) → nat_eq f.pid n ≡ b → AreGathered old fs → kept_contents kept ≡ kept_with (kept_of (get nat_cmp old f.pid)) f.content
+      → kept_of (get nat_cmp now n) ≡ from_last is_start (contents_of n (fs ++ f ∷ []))
+  each_by true fs n e h with_one = subst (λ (m : ℕ). kept_of (get nat_cmp now m) ≡ from_last is_start (contents_of m (fs ++ f ∷ []))) (eqb-true f.pid n e) (at_pid fs h with_one)
   each_by false fs n e h with_one =
       ap (λ o. kept_of o) (in_by false n e) ∙ h.each n
       ∙ ap (λ (cs : List Content). from_last is_start cs)
       (sym (append-nil (contents_of n fs)) ∙ ap (λ (cs : List Content). contents_of n fs ++ cs) (sym (one_of false f n e)) ∙ sym (contents-append n fs (f ∷ [])))
 
-  pids_by : (b : Bool) (fs : List Frame) (n : ℕ) → nat_eq f.pid n ≡ b → AreGathered old fs → is_some (get nat_eq now n) ≡ (is_among n (map (λ (g : Frame). g.pid) fs) || b)
+  pids_by : (b : Bool) (fs : List Frame) (n : ℕ) → nat_eq f.pid n ≡ b → AreGathered old fs → is_some (get nat_cmp now n) ≡ (is_among n (map (λ (g : Frame). g.pid) fs) || b)
   pids_by true fs n e h = ap (λ o. is_some o) (in_by true n e) ∙ sym (or_true (is_among n (map (λ (g : Frame). g.pid) fs)))
     where
       or_true : (b : Bool) → (b || true) ≡ true
@@ -110,7 +130,7 @@ module _ {S : Type 0} (old mid now : IndexMap ℕ (Vec code.Frame Global) S) (f 
       or_true false = refl
   pids_by false fs n e h = ap (λ o. is_some o) (in_by false n e) ∙ h.pids n ∙ sym (or_none (is_among n (map (λ (g : Frame). g.pid) fs)))
 
-  pub gathered-more : (fs : List Frame) → AreGathered old fs → contents_in kept.items ≡ kept_with (kept_of (get nat_eq old f.pid)) f.content → AreGathered now (fs ++ f ∷ [])
+  pub gathered-more : (fs : List Frame) → AreGathered old fs → kept_contents kept ≡ kept_with (kept_of (get nat_cmp old f.pid)) f.content → AreGathered now (fs ++ f ∷ [])
   gathered-more fs h with_one = record {
     each = λ n. each_by (nat_eq f.pid n) fs n refl h with_one;
     pids = λ n. pids_by (nat_eq f.pid n) fs n refl h
@@ -184,16 +204,16 @@ module _ (g : ℕ → List Content) where
   abbrev log_by : ℕ → HeldLog
   log_by pid = record { pid = pid; contents = g pid }
 
-  found_by : (b : Bool) (k : ℕ) (v : Vec code.Frame Global) (n : ℕ) (es : List (ℕ × Vec code.Frame Global)) → nat_eq n k ≡ b → lookup (nat_eq n) ((k, v) ∷ es) ≡ cond b (Some v) (lookup (nat_eq n) es)
+  found_by : (b : Bool) (k : ℕ) (v : Kept) (n : ℕ) (es : List (ℕ × Kept)) → nat_eq n k ≡ b → lookup (nat_eq n) ((k, v) ∷ es) ≡ cond b (Some v) (lookup (nat_eq n) es)
   found_by true k v n es e = rw e refl
   found_by false k v n es e = rw e refl
 
   -- what is kept under each pid that there is
-  logs-by : (es : List (ℕ × Vec code.Frame Global)) → AreRisingPids (keys_of es) → ((n : ℕ) → is_among n (keys_of es) ≡ true → kept_of (lookup (nat_eq n) es) ≡ g n)
+  logs-by : (es : List (ℕ × Kept)) → AreRisingPids (keys_of es) → ((n : ℕ) → is_among n (keys_of es) ≡ true → kept_of (lookup (nat_eq n) es) ≡ g n)
       → map log_under es ≡ map log_by (keys_of es)
   logs-by [] r h = refl
   logs-by ((k, v) ∷ es) r h =
-      let here : contents_in v.items ≡ g k = ap (λ o. kept_of o) (sym (found_by true k v k es (eq-eqb k k refl))) ∙ h k (there k (keys_of es)) in
+      let here : kept_contents v ≡ g k = ap (λ o. kept_of o) (sym (found_by true k v k es (eq-eqb k k refl))) ∙ h k (there k (keys_of es)) in
       let rest = logs-by es r.1 (λ n among. later n among (nat_eq n k) refl) in
       ap (λ (cs : List Content). record { pid = k; contents = cs } ∷ map log_under es) here ∙ ap (λ (ls : List HeldLog). log_by k ∷ ls) rest
     where
@@ -213,26 +233,49 @@ pub among_found : {V : Type 0} (n : ℕ) (es : List (ℕ × V)) → is_among n (
 among_found n [] = refl
 among_found n ((k, v) ∷ es) = among_by_found (nat_eq n k) n k v es refl (among_found n es)
 
-log_pids-under : (es : List (ℕ × Vec code.Frame Global)) → log_pids (map log_under es) ≡ keys_of es
+log_pids-under : (es : List (ℕ × Kept)) → log_pids (map log_under es) ≡ keys_of es
 log_pids-under [] = refl
 log_pids-under (e ∷ es) = ap (λ (ns : List ℕ). e.0 ∷ ns) (log_pids-under es)
 
--- once the pids are sorted, they rise
-pub keys-rise : (ns : List ℕ) → IsSorted nat_cmp ns → IsDistinct nat_eq ns → AreRisingPids ns
-keys-rise ns sorted distinct = rising ns (IsStrictlyIncreasing-from_distinct ns (IsNonDecreasingBy-from_sort (λ (n : ℕ). n) ns sorted) distinct)
+-- sorted pids rise
+pub keys-rise : (ns : List ℕ) → IsStrictlySortedBy nat_cmp ns → AreRisingPids ns
+keys-rise ns sorted = rising ns (IsStrictlyIncreasing-from_sorted ns sorted)
 
--- and so do those of the logs
-pub pids-rise : (es : List (ℕ × Vec code.Frame Global)) (hs : List HeldLog) → IsSorted nat_cmp (keys_of es) → IsDistinct nat_eq (keys_of es) → hs ≡ map log_under es → AreRisingPids (log_pids hs)
-pids-rise es hs sorted distinct e = subst (λ (ns : List ℕ). AreRisingPids ns) (sym (ap log_pids e ∙ log_pids-under es)) (keys-rise (keys_of es) sorted distinct)
+-- and so do those of the logs among what is kept
+above_by : (b : Bool) (n : ℕ) (h : HeldLog) (hs : List HeldLog) → is_log h ≡ b → n < h.pid → AllByRecursion (λ k. n < k) (log_pids (filter is_log hs)) → AllByRecursion (λ k. n < k) (log_pids (filter is_log (h ∷ hs)))
+above_by true n h hs e first rest = rw e (first, rest)
+above_by false n h hs e first rest = rw e rest
 
--- of frames that are gathered, once the pids are sorted
-pub logs-gathered : {S : Type 0} (old now : IndexMap ℕ (Vec code.Frame Global) S) (fs : List Frame) → IsSorted nat_cmp (keys_of now.entries) → IsDistinct nat_eq (keys_of now.entries)
-    → ((n : ℕ) → get nat_eq old n ≡ get nat_eq now n) → AreGathered old fs → map log_under now.entries ≡ logs_of fs
-logs-gathered old now fs sorted distinct same h =
-    let es = now.entries in
-    let rise = keys-rise (keys_of es) sorted distinct in
-    let each : (n : ℕ) → kept_of (lookup (nat_eq n) es) ≡ from_last is_start (contents_of n fs) = λ n. ap (λ o. kept_of o) (sym (same n)) ∙ h.each n in
+above-filtered : (n : ℕ) (hs : List HeldLog) → AllByRecursion (λ k. n < k) (log_pids hs) → AllByRecursion (λ k. n < k) (log_pids (filter is_log hs))
+above-filtered n [] a = tt
+above-filtered n (h ∷ hs) a = above_by (is_log h) n h hs refl a.0 (above-filtered n hs a.1)
+
+rise_by : (b : Bool) (h : HeldLog) (hs : List HeldLog) → is_log h ≡ b → AllByRecursion (λ k. h.pid < k) (log_pids (filter is_log hs)) → AreRisingPids (log_pids (filter is_log hs))
+    → AreRisingPids (log_pids (filter is_log (h ∷ hs)))
+rise_by true h hs e above rest = rw e (above, rest)
+rise_by false h hs e above rest = rw e rest
+
+rise-filtered : (hs : List HeldLog) → AreRisingPids (log_pids hs) → AreRisingPids (log_pids (filter is_log hs))
+rise-filtered [] r = tt
+rise-filtered (h ∷ hs) r = rise_by (is_log h) h hs refl (above-filtered h.pid hs r.0) (rise-filtered hs r.1)
+
+pub pids-rise : (es : List (ℕ × Kept)) (hs : List HeldLog) → IsStrictlySortedBy nat_cmp (keys_of es) → hs ≡ filter is_log (map log_under es) → AreRisingPids (log_pids hs)
+pids-rise es hs sorted e =
+    subst (λ (ls : List HeldLog). AreRisingPids (log_pids ls)) (sym e) (rise-filtered (map log_under es) (subst (λ (ns : List ℕ). AreRisingPids ns) (sym (log_pids-under es)) (keys-rise (keys_of es) sorted)))
+
+-- of frames that are gathered
+pub logs-gathered : (by_pid : BTreeMap ℕ Kept) (fs : List Frame) → IsStrictlySortedBy nat_cmp (keys_of by_pid.entries) → AreGathered by_pid fs → map log_under by_pid.entries ≡ map (kept_log fs) (pids_of fs)
+logs-gathered by_pid fs sorted h =
+    let es = by_pid.entries in
+    let rise = keys-rise (keys_of es) sorted in
+    let each : (n : ℕ) → kept_of (lookup (nat_eq n) es) ≡ from_last is_start (contents_of n fs) = λ n. ap (λ o. kept_of o) (sym (lookup-same n es)) ∙ h.each n in
     let pids : (n : ℕ) → is_among n (keys_of es) ≡ is_among n (pids_of fs) =
-    λ n. among_found n es ∙ ap (λ o. is_some o) (sym (same n)) ∙ h.pids n ∙ sym (among-with_numbers n (map (λ (f : Frame). f.pid) fs) [] ∙ or_none (is_among n (map (λ (f : Frame). f.pid) fs))) in
+    λ n. among_found n es ∙ ap (λ o. is_some o) (sym (lookup-same n es)) ∙ h.pids n ∙ sym (among-with_numbers n (map (λ (f : Frame). f.pid) fs) [] ∙ or_none (is_among n (map (λ (f : Frame). f.pid) fs))) in
     logs-by (λ n. from_last is_start (contents_of n fs)) es rise (λ n among. each n)
-    ∙ ap (λ (ns : List ℕ). map (λ (pid : ℕ). log_by (λ n. from_last is_start (contents_of n fs)) pid) ns) (same_rising (keys_of es) (pids_of fs) rise (rising-with_numbers (map (λ (f : Frame). f.pid) fs) [] tt) pids)
+    ∙ ap (λ (ns : List ℕ). map (kept_log fs) ns) (same_rising (keys_of es) (pids_of fs) rise (rising-with_numbers (map (λ (f : Frame). f.pid) fs) [] tt) pids)
+
+-- ---- one entry more
+
+-- of what is kept of pages, these logs and what is left are all
+abbrev pub AreListed : List HeldLog → List (ℕ × Kept) → List (ℕ × Kept) → Type 0
+AreListed logs left every = logs ++ filter is_log (map log_under left) ≡ filter is_log (map log_under every)

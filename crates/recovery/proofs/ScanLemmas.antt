@@ -1,19 +1,20 @@
 -- How a segment's frames are read one by one.
-use Rattle.std.proofs.Common.{◌≡◌, ℕ, zero, suc, ◌+◌, ◌-◌, ◌<◌, ◌≤◌, ◌==◌, ◌&&◌, nat_eq, Bool, true, false, List, [], ◌∷◌, ◌++◌, length, length-append, map, take, drop, Option, Some, None, Result, Ok, Err, MatchOption, IfSome, refl, sym, ap, subst, ◌∙◌, arith}
+use Rattle.std.proofs.Common.{◌≡◌, ℕ, zero, suc, ◌+◌, ◌-◌, ◌<◌, ◌≤◌, ◌==◌, ◌&&◌, nat_eq, Bool, true, false, List, [], ◌∷◌, ◌++◌, length, length-append, take, drop, Option, Some, None, Result, Ok, Err, MatchOption, IfSome, refl, sym, ap, subst, ◌∙◌, arith, append_assoc, append-nil}
 use Rattle.std.specs.List.{list_all, starts_with}
 use Rattle.std.proofs.lemmas.Bool.{ne_eqb}
-use Rattle.std.proofs.lemmas.List.{length-drop, map-append, take_all}
+use Rattle.std.proofs.lemmas.List.{length-drop, length-take-le, take_all}
 use Rattle.keys.specs.Bytes.{Bytes}
 use Rattle.keys.specs.declared.settings.Settings.{Settings}
 use Rattle.keys.specs.declared.fault.Fault.{Fault}
 use Rattle.keys.specs.declared.fault.Fault.TheVariants.{BadFrame}
 use Rattle.frame_codec.specs.Frame.{Frame, bytes_of}
 use Rattle.frame_codec.specs.Reading.{read_frame}
-use Rattle.frame_codec.specs.Shown.{frame_of}
-use Rattle.frame_codec.specs.declared.frame.Frame as code
+use Rattle.frame_codec.specs.Skimmed.{IsSkimmed}
+use Rattle.frame_codec.specs.declared.skim.Skimmed.{Skimmed}
 use Rattle.flush_log.specs.Reading.{Found, all_in, is_padding, with_first, read_frames, in_segment}
 use Rattle.flush_log.specs.Segments.{segment_header}
-use Rattle.recovery.specs.Scan.{HeldSegment, is_end_at, scanned}
+use Rattle.recovery.specs.Scan.{HeldSegment, is_end_at, scanned, frame_read, frame_at, frames_at}
+use Rattle.recovery.specs.declared.scan_segment.ScannedFrame.{ScannedFrame}
 
 pub padding-zeros : (bytes : Bytes) → list_all (λ b. b == 0) bytes ≡ is_padding bytes
 padding-zeros [] = refl
@@ -94,57 +95,72 @@ module _ (s : Settings) (is_end : Bytes → Bool) where
         room = omega (arith, h.room, less, fewer);
       }
 
-  frame-some : (f : Frame) → 1 ≤ length (bytes_of f)
-  frame-some f = omega arith
+-- ---- one frame
 
+module _ (s : Settings) (rest : Bytes) where
+  -- what code that skims a frame at the front of these bytes tells
+  pub record IsToldOf (told : Option Skimmed) : Type 0 where
+    pub found : MatchOption told (read_frame s rest ≡ None) (λ k. (f : Frame) × (read_frame s rest ≡ Some (f, drop k.size rest)) × IsSkimmed k f × (take k.size rest ≡ bytes_of f))
+    pub within : IfSome told (λ k. k.size ≤ length rest)
+
+  pub told-none : (told : Option Skimmed) → told ≡ None → IsToldOf told → read_frame s rest ≡ None
+  told-none None e h = h.found
+  told-none (Some k) e h = absurd (cc)
+
+  -- the frame of which this is told
+  pub record IsFrame (k : Skimmed) : Type 0 where
+    pub frame : Frame
+    pub read : read_frame s rest ≡ Some (frame, drop k.size rest)
+    pub skimmed : IsSkimmed k frame
+    pub bytes : take k.size rest ≡ bytes_of frame
+    pub within : k.size ≤ length rest
+    pub less : length (drop k.size rest) < length rest
+
+  told_by : (k : Skimmed) → IsToldOf (Some k) → IsFrame k
+  told_by k h =
+      let (f, read, skimmed, bytes) = h.found in
+      let fits = h.within in
+      let long = ap length (sym bytes) in
+      let part = length-take-le k.size rest fits in
+      let left = length-drop k.size rest in
+      record { frame = f; read = read; skimmed = skimmed; bytes = bytes; within = fits; less = omega (arith, long, part, left, fits) }
+
+  pub told-some : (told : Option Skimmed) (k : Skimmed) → told ≡ Some k → IsToldOf told → IsFrame k
+  told-some told k e h = told_by k (subst (λ (o : Option Skimmed). IsToldOf o) e h)
+
+-- there is less left then
+pub less-left : (s : Settings) (rest : Bytes) (told : Skimmed) (size : ℕ) → size ≡ told.size → IsFrame s rest told → length (take (length rest - size) (drop size rest)) < length rest
+less-left s rest told size same_size f =
+    let same = ap (λ (bs : Bytes). length bs) (ap (λ (m : ℕ). take (length rest - m) (drop m rest)) same_size ∙ left-behind told.size rest) in
+    let less = f.less in
+    omega (arith, same, less)
+
+-- ---- the frames of a segment, where they stand
+
+frames_at-append : (s : Settings) (ks ls : List ScannedFrame) → frames_at s (ks ++ ls) ≡ frames_at s ks ++ frames_at s ls
+frames_at-append s [] ls = refl
+frames_at-append s (k ∷ ks) ls = ap (λ (fs : List Frame). frame_at s k ++ fs) (frames_at-append s ks ls) ∙ sym (append_assoc (frame_at s k) (frames_at s ks) (frames_at s ls))
+
+module _ (s : Settings) (is_end : Bytes → Bool) (long : ℕ) where
   -- in the words of the code, where nothing was read
-  pub start : (long : ℕ) (bytes : Bytes) (items : List code.Frame) → items ≡ [] → length bytes ≤ long
-      → AreRead long (drop 16 bytes) (map frame_of items) (take (length bytes - 16) (drop 16 bytes))
-  start long bytes items none fits =
+  pub start : (bytes : Bytes) (items : List ScannedFrame) → items ≡ [] → length bytes ≤ long → AreRead s is_end long (drop 16 bytes) (frames_at s items) (take (length bytes - 16) (drop 16 bytes))
+  start bytes items none fits =
       let less = length-drop 16 bytes in
-      let first = read-none long (drop 16 bytes) (omega (arith, less, fits)) in
-      let left = subst (λ (rest : Bytes). AreRead long (drop 16 bytes) [] rest) (sym (left-behind 16 bytes)) first in
-      subst (λ (fs : List Frame). AreRead long (drop 16 bytes) fs (take (length bytes - 16) (drop 16 bytes))) (sym (ap (λ (is : List code.Frame). map frame_of is) none)) left
+      let first = read-none s is_end long (drop 16 bytes) (omega (arith, less, fits)) in
+      let left = subst (λ (rest : Bytes). AreRead s is_end long (drop 16 bytes) [] rest) (sym (left-behind 16 bytes)) first in
+      subst (λ (fs : List Frame). AreRead s is_end long (drop 16 bytes) fs (take (length bytes - 16) (drop 16 bytes))) (sym (ap (λ (ks : List ScannedFrame). frames_at s ks) none)) left
 
-  -- what code that reads a frame at the front of these bytes tells: the frame, and how many bytes it has
-  pub record IsToldOf (rest : Bytes) (told : Option (code.Frame × ℕ)) : Type 0 where
-    pub found : MatchOption told (read_frame s rest ≡ None) (λ p. read_frame s rest ≡ Some (frame_of p.0, drop p.1 rest))
-    pub size : IfSome told (λ p. p.1 ≡ length (bytes_of (frame_of p.0)))
-    pub within : IfSome told (λ p. p.1 ≤ length rest)
-
-  pub told-none : (rest : Bytes) (told : Option (code.Frame × ℕ)) → told ≡ None → IsToldOf rest told → read_frame s rest ≡ None
-  told-none rest None e h = h.found
-  told-none rest (Some p) e h = absurd (cc)
-
-  module _ (rest : Bytes) (p : code.Frame × ℕ) where
-    -- there is less left then
-    pub less-left : (told : Option (code.Frame × ℕ)) → told ≡ Some p → IsToldOf rest told → length (take (length rest - p.1) (drop p.1 rest)) < length rest
-    less-left told e h = of (subst (λ o. IsToldOf rest o) e h)
-      where
-        of : IsToldOf rest (Some p) → length (take (length rest - p.1) (drop p.1 rest)) < length rest
-        of h =
-            let one = frame-some (frame_of p.0) in
-            let less = length-drop p.1 rest in
-            let same = ap (λ (bs : Bytes). length bs) (left-behind p.1 rest) in
-            let is = h.size in
-            let fits = h.within in
-            omega (arith, less, one, is, fits, same)
-
-    -- and one more was read
-    pub next : (long : ℕ) (body : Bytes) (items now : List code.Frame) (told : Option (code.Frame × ℕ)) → AreRead long body (map frame_of items) rest → is_end rest ≡ false
-        → told ≡ Some p → IsToldOf rest told → now ≡ items ++ p.0 ∷ [] → AreRead long body (map frame_of now) (take (length rest - p.1) (drop p.1 rest))
-    next long body items now told h e some tells made = of (subst (λ o. IsToldOf rest o) some tells)
-      where
-        of : IsToldOf rest (Some p) → AreRead long body (map frame_of now) (take (length rest - p.1) (drop p.1 rest))
-        of t =
-            let less = length-drop p.1 rest in
-            let one = frame-some (frame_of p.0) in
-            let is = t.size in
-            let fits = t.within in
-            let more = read-more long body (map frame_of items) rest (drop p.1 rest) (frame_of p.0) h e t.found (omega (arith, less, one, is, fits)) in
-            let all : map frame_of items ++ frame_of p.0 ∷ [] ≡ map frame_of now = sym (ap (λ (is : List code.Frame). map frame_of is) made ∙ map-append frame_of items (p.0 ∷ [])) in
-            let left = subst (λ (behind : Bytes). AreRead long body (map frame_of items ++ frame_of p.0 ∷ []) behind) (sym (left-behind p.1 rest)) more in
-            subst (λ (fs : List Frame). AreRead long body fs (take (length rest - p.1) (drop p.1 rest))) all left
+  -- and one frame more
+  pub next : (body : Bytes) (items now : List ScannedFrame) (k : ScannedFrame) (told : Skimmed) (size : ℕ) (rest : Bytes) → now ≡ items ++ k ∷ [] → k.bytes.now ≡ rest → size ≡ told.size
+      → AreRead s is_end long body (frames_at s items) rest → is_end rest ≡ false → IsFrame s rest told → AreRead s is_end long body (frames_at s now) (take (length rest - size) (drop size rest))
+  next body items now k told size rest put bytes same_size h e f =
+      let here : frame_at s k ≡ f.frame ∷ [] = ap (λ (bs : Bytes). frame_read (read_frame s bs)) bytes ∙ ap frame_read f.read in
+      let all : frames_at s items ++ f.frame ∷ [] ≡ frames_at s now =
+      sym (ap (λ (ks : List ScannedFrame). frames_at s ks) put ∙ frames_at-append s items (k ∷ []) ∙ ap (λ (fs : List Frame). frames_at s items ++ fs) (append-nil (frame_at s k) ∙ here)) in
+      let more = read-more s is_end long body (frames_at s items) rest (drop told.size rest) f.frame h e f.read f.less in
+      let left = subst (λ (behind : Bytes). AreRead s is_end long body (frames_at s items ++ f.frame ∷ []) behind)
+      (sym (left-behind told.size rest) ∙ ap (λ (m : ℕ). take (length rest - m) (drop m rest)) (sym same_size)) more in
+      subst (λ (fs : List Frame). AreRead s is_end long body fs (take (length rest - size) (drop size rest))) all left
 
 -- of a segment
 module _ (s : Settings) (g : HeldSegment) (headed : starts_with nat_eq g.bytes (segment_header g.number) ≡ true) where

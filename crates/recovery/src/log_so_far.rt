@@ -3,17 +3,17 @@ ghost use Rattle.std.specs.Prelude.{◌≡◌, ◌++◌, [], List, map, fold, No
 ghost use Rattle.keys.specs.declared.fault.Fault as faults;
 ghost use Rattle.keys.specs.declared.fault.Fault.TheVariants.{NoMemory};
 ghost use Rattle.frame_codec.specs.Frame as said;
-ghost use Rattle.frame_codec.specs.Shown.{frame_of};
 ghost use Rattle.flush_log.specs.Reading.{Found, followed_by};
 ghost use Rattle.recovery.specs.Gathered.{AreGathered};
 ghost use Rattle.recovery.specs.LogSoFar.{IsSoFar, told_of_scan};
+ghost use Rattle.recovery.specs.Scan.{frame_at, frames_at};
 ghost use Rattle.recovery.specs.StoreOfDisk.{frames_in};
 
 use crate::gather::Gathering;
 use crate::read_log::LogReader;
-use crate::scan_segment::{ScanDone, ScanWork, Segment};
+use crate::scan_segment::{ScanDone, ScanWork, ScannedFrame, Segment};
 use crew::{Crew, NoGate, run_round};
-use frame_codec::Frame;
+use frame_codec::read_frame;
 use keys::{Fault, Settings};
 use std::alloc::Global;
 use std::thread::Threads;
@@ -28,14 +28,34 @@ pub(crate) struct LogSoFar {
     fault: Option<Fault>,
 }
 
-// Gathers frames, in their order.
-fn gather_all(gathering: &mut Gathering, frames: Vec<Frame>) -> Result<(), Fault>
+// Gathers the frame that stands there. It is made now, and dropped at once where it doesn't count.
+fn gather_one(
+    gathering: &mut Gathering,
+    settings: &Settings,
+    scanned: ScannedFrame<'_>,
+) -> Result<(), Fault>
     ensures ok { (fs : List said.Frame) → AreGathered gathering.old.by_pid fs →
-        OnOk result (AreGathered gathering.new.by_pid (fs ++ map frame_of frames.items)) }
+        OnOk result (AreGathered gathering.new.by_pid (fs ++ frame_at settings.now scanned.entry)) }
+    ensures err { IfErr result (λ fault. fault ≡ NoMemory) }
+{
+    let Some((frame, _size)) = read_frame(gathering.alloc, scanned.bytes, settings)? else {
+        return Ok(());
+    };
+    gathering.add(frame)
+}
+
+// Gathers the frames that stand there, in their order.
+fn gather_all(
+    gathering: &mut Gathering,
+    settings: &Settings,
+    frames: Vec<ScannedFrame<'_>>,
+) -> Result<(), Fault>
+    ensures ok { (fs : List said.Frame) → AreGathered gathering.old.by_pid fs →
+        OnOk result (AreGathered gathering.new.by_pid (fs ++ frames_at settings.now frames.entry.items)) }
     ensures err { IfErr result (λ fault. fault ≡ NoMemory) }
 {
     for frame in frames {
-        gathering.add(frame)?;
+        gather_one(gathering, settings, frame)?;
     }
     Ok(())
 }
@@ -76,8 +96,9 @@ impl LogSoFar {
         ensures err { IfErr result (λ fault. fault ≡ NoMemory) }
     {
         for done in scans {
+            let settings = done.settings;
             match done.scan {
-                Ok(frames) => gather_all(&mut self.gathering, frames)?,
+                Ok(frames) => gather_all(&mut self.gathering, &settings, frames)?,
                 Err(fault) => {
                     self.fault = Some(fault);
                     return Ok(());

@@ -1,14 +1,14 @@
-//! The scan of a segment: its bytes give its frames, or its first fault.
-ghost use Rattle.std.specs.Prelude.{◌≡◌, ◌⊎◌, ◌^◌, ◌<◌, ◌==◌, map, length, Ok, Err, IfOk, IfErr};
+//! The scan of a segment: its bytes give where its frames stand, or its first fault. Nothing is made of them yet, since a frame that is
+//! made can take many times its bytes, and most count no longer once the log is read.
+ghost use Rattle.std.specs.Prelude.{◌≡◌, ◌⊎◌, ◌^◌, ◌<◌, ◌==◌, length, Ok, Err, IfOk, IfErr};
 ghost use Rattle.std.specs.List.{list_all};
 ghost use Rattle.keys.specs.declared.fault.Fault.TheVariants.{NoMemory};
-ghost use Rattle.frame_codec.specs.Shown.{frame_of};
 ghost use Rattle.flush_log.specs.Reading.{all_in};
-ghost use Rattle.recovery.specs.Scan.{is_end_at, held_segment, scanned};
+ghost use Rattle.recovery.specs.Scan.{is_end_at, held_segment, scanned, frames_at};
 
 use crew::{Turn, Work};
 use flush_log::segments::segment_header;
-use frame_codec::{Frame, read_frame};
+use frame_codec::skim_frame;
 use keys::{Fault, Settings};
 use std::alloc::Global;
 use std::marker::PhantomData;
@@ -33,6 +33,13 @@ pub struct Segment<'a> {
     pub bytes: &'a [u8],
 }
 
+/// A frame of a segment, of which nothing is made yet.
+#[derive(Clone, Copy)]
+pub struct ScannedFrame<'a> {
+    /// The bytes from its first on, up to those where its segment ends.
+    pub bytes: &'a [u8],
+}
+
 fn are_zeros(bytes: &[u8]) -> bool
     ensures { result ≡ list_all (λ b. b == 0) bytes.now }
 {
@@ -49,19 +56,19 @@ pub fn is_end(end: End, rest: &[u8]) -> bool
     }
 }
 
-/// The frames of a segment: those behind its header, up to their end. The bytes may be any.
+/// Where the frames of a segment stand: those behind its header, up to their end. The bytes may be any.
 ///
 /// A header of another segment, or none, is `Fault::BadSegment`. Where there is neither a frame nor the end of the frames, that is
 /// `Fault::BadFrame` with the offset; the first such place counts, and what stands behind it is not looked at. Else there is
 /// `Fault::NoMemory`.
-pub fn scan_segment(
+pub fn scan_segment<'a>(
     alloc: Global,
     settings: &Settings,
-    segment: Segment<'_>,
-) -> Result<Vec<Frame>, Fault>
+    segment: Segment<'a>,
+) -> Result<Vec<ScannedFrame<'a>>, Fault>
     requires { length (held_segment segment).bytes < 2 ^ 32 }
     ensures ok { IfOk result (λ frames.
-        scanned settings.now (held_segment segment.entry) ≡ Ok (all_in segment.entry.number (map frame_of frames.items))) }
+        scanned settings.now (held_segment segment.entry) ≡ Ok (all_in segment.entry.number (frames_at settings.now frames.items))) }
     ensures err { IfErr result (λ fault. (fault ≡ NoMemory) ⊎ (scanned settings.now (held_segment segment.entry) ≡ Err fault)) }
 {
     let Segment { number, end, bytes } = segment;
@@ -72,16 +79,17 @@ pub fn scan_segment(
     let mut frames = Vec::new(alloc);
     let mut rest = &bytes[header.len()..];
     while !is_end(end, rest) {
-        let Some((frame, size)) = read_frame(alloc, rest, settings)? else {
+        let Some(skimmed) = skim_frame(rest, settings) else {
             return Err(Fault::BadFrame(number, (bytes.len() - rest.len()) as u32));
         };
-        frames.push(frame)?;
+        let size = skimmed.size;
+        frames.push(ScannedFrame { bytes: rest })?;
         rest = &rest[size..];
     }
     Ok(frames)
 }
 
-/// The work of scanning segments: a segment goes in, whose bytes are lent; its frames or its first fault come out.
+/// The work of scanning segments: a segment goes in, whose bytes are lent; where its frames stand or its first fault come out.
 #[derive(Drop)]
 pub struct ScanWork<'a> {
     alloc: Global,
@@ -93,8 +101,10 @@ pub struct ScanWork<'a> {
 #[derive(Drop)]
 pub struct ScanDone<'a> {
     segment: Segment<'a>,
-    /// Its frames, or its first fault.
-    pub scan: Result<Vec<Frame>, Fault>,
+    /// The settings under which its frames are read.
+    pub settings: Settings,
+    /// Where its frames stand, or its first fault.
+    pub scan: Result<Vec<ScannedFrame<'a>>, Fault>,
 }
 
 impl<'a> ScanWork<'a> {
@@ -130,7 +140,7 @@ impl<'a> Work for ScanWork<'a> {
 
     ghost origin = { λ d. held_segment d.segment };
 
-    ghost outcome = { λ d. told_by_scan d.segment.number d.scan };
+    ghost outcome = { λ d. told_by_scan d.settings d.segment.number d.scan };
 
     ghost made = { λ w h. scanned w.settings h };
 
@@ -138,11 +148,13 @@ impl<'a> Work for ScanWork<'a> {
         match scan_segment(self.alloc, &self.settings, job) {
             Ok(frames) => Turn::Done(ScanDone {
                 segment: job,
+                settings: self.settings,
                 scan: Ok(frames),
             }),
             Err(Fault::NoMemory) => Turn::Back(job),
             Err(fault) => Turn::Done(ScanDone {
                 segment: job,
+                settings: self.settings,
                 scan: Err(fault),
             }),
         }

@@ -3,8 +3,8 @@ use Rattle.std.specs.List.{starts_with}
 use Rattle.frame_codec.specs.declared.skim.Skimmed.{Skimmed}
 use Rattle.flush_log.specs.Segments.{segment_header}
 use Rattle.recovery.specs.Scan.{is_end_at, held_segment}
-use Rattle.recovery.proofs.ScanLemmas.{segment-read, segment-broken}
-use Rattle.cleaner.proofs.SkimLemmas.{told-none, told-some, upto-none, upto-more, less-left, skims-read}
+use Rattle.recovery.proofs.ScanLemmas.{told-none, told-some, less-left, segment-read, segment-broken}
+use Rattle.cleaner.proofs.SkimLemmas.{upto-none, upto-more, skims-read}
 use Rattle.cleaner.proofs.skim_segment.skim_segment.Goals as goal
 
 pub loop-bytes-init : goal.loop-bytes-init
