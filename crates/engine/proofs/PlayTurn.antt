@@ -279,6 +279,12 @@ module _ {D : Type 0} (view : D → View) (failures : D → ℕ) (lawful : (disk
           (λ c left. left_in s old.store first xs said cur.store (turn.exact was.honest) x (view cur.disk).seen c (turn.bytes was.honest) left)
           (step_leaves crash fine was))
 
+      -- its numbers too have 64 bits
+      pub words_on : IsTrue (view old.disk).is_honest → HasWords (batching cur.settings) cur.settings cur.store.tree x → HaveWords (batching s) s old.store first (xs ++ x ∷ [])
+      words_on honest here =
+          still_words s old.store first xs said cur.store (turn.exact honest) x (turn.words honest)
+          (subst (λ (z : Settings). HasWords {A = Global} (batching z) z cur.store.tree x) turn.settings here)
+
       pub left_behind_it : Kept (view cur.disk) (view next.disk) → CrashOfStep → old.has_failed ≡ false → IsSettled (view old.disk) → (c : List ℕ) → (view next.disk).may_leave c
           → (store_of_disk c ≡ store_of_disk (plays (batching s) s old.store first xs).bytes) ⊎ (store_of_disk c ≡ store_of_disk (plays (batching s) s old.store first (xs ++ x ∷ [])).bytes)
       left_behind_it kept crash fine was c left =

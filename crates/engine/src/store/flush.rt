@@ -146,8 +146,10 @@ impl<D: Disk> Store<D> {
             (λ c. (store_of_disk c ≡ store_of_disk (D.view self.old.disk).seen)
             ⊎ ((now : definitions.Store) × (after_flush self.old.settings self.old.store (D.view self.old.disk).seen ≡ Ok (now, c)))) }
 
-        // The frames are such as a store may have. The store was sound, and is so again.
+        // The frames are such as a store may have, also where a call of the disk failed: the bytes of the flush under way stand for a store.
+        // The store was sound, and is so again.
         ensures frames { OnOk result (HasFrames self.old.settings self.old.store.tree) }
+        ensures frames_under_way { IfErr result (λ fault. fault ≡ Fault.Device → HasFrames self.old.settings self.old.store.tree) }
         ensures sound { IsSound D.view self.old × IsSound D.view self.new }
     {
         // Only for the proof.

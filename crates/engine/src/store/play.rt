@@ -8,7 +8,7 @@ ghost use Rattle.recovery.specs.StoreOfDisk.{store_of_disk};
 ghost use Rattle.engine.specs.Plays.{IsPlayed, IsPlayedOn, IsPlayFault, IsStepDone, IsStepFault, IsLeftInStep, IsLeftBehind, UnlessDevice, step_of, answer_of, played, reached};
 ghost use Rattle.engine.specs.Refusal.{is_crew};
 ghost use Rattle.engine.specs.State.{IsSound};
-ghost use Rattle.engine.specs.Steps.{ArePlayed, HaveWords, StandsAfterSome, batching, after_step, plays};
+ghost use Rattle.engine.specs.Steps.{ArePlayed, HasWords, HaveWords, StandsAfterSome, batching, after_step, plays};
 
 use crate::laws::steps_answer_as_a_map_and_are_read_back;
 use crate::step::{Answer, Step};
@@ -35,6 +35,7 @@ impl<D: Disk> Store<D> {
 
         // Which fault, and what it leaves.
         ensures failed { self.old.has_failed ≡ true → result ≡ Err Fault.Failed }
+        ensures still { self.old.has_failed ≡ true → self.new ≡ self.old }
         ensures bad_crew { self.old.has_failed ≡ false → is_crew crew ≡ false → result ≡ Err Fault.BadCrew }
         ensures refused { self.old.has_failed ≡ false → IsTrue (is_crew crew) → IfErr result (λ fault. (file : Bytes)
             × (IsTrue (D.view self.old.disk).is_honest → file ≡ (D.view self.old.disk).seen)
@@ -44,7 +45,8 @@ impl<D: Disk> Store<D> {
             (self.new.has_failed ≡ self.old.has_failed) × (D.failed self.new.disk ≡ D.failed self.old.disk)) }
         ensures same { IsTrue (D.view self.old.disk).is_honest →
             IfErr result (λ fault. fault ≢ Fault.Device → Same (D.view self.old.disk) (D.view self.new.disk)) }
-        ensures device { IfErr result (λ fault. fault ≡ Fault.Device → self.new.has_failed ≡ true) }
+        ensures device { IfErr result (λ fault. fault ≡ Fault.Device → (self.new.has_failed ≡ true)
+            × HasWords (batching self.old.settings) self.old.settings self.old.store.tree (step_of step.entry)) }
         ensures counted { OnOk result ((self.new.has_failed ≡ self.old.has_failed) × (D.failed self.new.disk ≡ D.failed self.old.disk)) }
 
         // On an honest disk.
@@ -96,6 +98,7 @@ impl<D: Disk> Store<D> {
 
         // Which fault, and what it leaves.
         ensures failed { self.old.has_failed ≡ true → OnOk result (steps.now ≡ []) }
+        ensures still { self.old.has_failed ≡ true → self.new ≡ self.old }
         ensures still_failed { self.old.has_failed ≡ true → IfErr result (λ e. (e.0 ≡ 0) × ((e.2 ≡ Fault.Failed) ⊎ (e.2 ≡ Fault.NoMemory))) }
         ensures bad_crew { self.old.has_failed ≡ false → is_crew crew ≡ false → OnOk result (steps.now ≡ [])
             × IfErr result (λ e. (e.0 ≡ 0) × ((e.2 ≡ Fault.BadCrew) ⊎ (e.2 ≡ Fault.NoMemory))) }
@@ -113,9 +116,12 @@ impl<D: Disk> Store<D> {
         ensures behind { self.old.has_failed ≡ false → IsSettled (D.view self.old.disk) → IfErr result (λ e. e.2 ≡ Fault.Device →
             (c : Bytes) → (D.view self.new.disk).may_leave c → IsLeftBehind self.old.settings self.old.store (D.view self.old.disk).seen steps.now e.0 c) }
 
-        // The numbers on the way have 64 bits, on any disk as `IsPlayed` says. The store was sound, and is so again.
+        // The numbers on the way have 64 bits, on any disk as `IsPlayed` says, and those of a step in which a call of the disk failed too.
+        // The store was sound, and is so again.
         ensures words { IsTrue (D.view self.old.disk).is_honest →
             HaveWords (batching self.old.settings) self.old.settings self.old.store (D.view self.old.disk).seen (played result steps.now) }
+        ensures words_reached { IsTrue (D.view self.old.disk).is_honest →
+            HaveWords (batching self.old.settings) self.old.settings self.old.store (D.view self.old.disk).seen (reached result steps.now) }
         ensures sound { IsSound D.view self.old × IsSound D.view self.new }
     {
         // Only for the proof.

@@ -1,5 +1,5 @@
 //! A store comes back: from the disk that holds it, or from its own.
-ghost use Rattle.std.specs.Prelude.{◌≡◌, Err, false, IsTrue, IfOk, OnOk};
+ghost use Rattle.std.specs.Prelude.{◌≡◌, ◌≢◌, Err, false, IsTrue, IfOk, IfErr, OnOk};
 ghost use Rattle.keys.specs.Bytes.{Bytes};
 ghost use Rattle.flush_log.specs.Disk.{CountsFailure, IsSettled, Kept, Leaves, Same};
 ghost use Rattle.recovery.specs.Recovered.{IsReadOf};
@@ -31,6 +31,10 @@ fn settle<D: Disk>(disk: &mut D) -> Result<(), DiskFault>
 impl<D: Disk> Store<D> {
     /// Opens the store that the disk holds: its pages, root, height and settings are those that were flushed last. It writes nothing.
     ///
+    /// The disk has to be settled: synced since it was last written to, as by a flush, a clean or a `reopen` that answered Ok, or by the
+    /// caller's own `sync`. Of a disk that isn't, the store is read all the same, but a crash may take back what was read: all that is
+    /// promised of crashes is promised from a settled disk on.
+    ///
     /// A crew out of range is `Fault::BadCrew`. A disk that holds no store is refused with exactly one fault, as `recovery::recover`
     /// says: `Fault::NotAStore`, `Fault::NoSlot`, `Fault::BadSegment`, `Fault::BadFrame` or `Fault::BadStructure`. Besides there are
     /// `Fault::NoMemory`, and `Fault::Device` where a read failed. After an `Err` the disk is handed back as it was.
@@ -51,6 +55,7 @@ impl<D: Disk> Store<D> {
         ensures same { IsTrue (D.view disk).is_honest → Same (D.view disk) (D.view (disk_left result)) }
         ensures kept { Kept (D.view disk) (D.view (disk_left result)) }
         ensures counted { IfOk result (λ opened. D.failed opened.disk ≡ D.failed disk) }
+        ensures uncounted { IfErr result (λ e. e.0 ≢ Fault.Device → D.failed e.1 ≡ D.failed disk) }
         ensures sound { IfOk result (λ opened. IsSound D.view opened) }
     {
         // Only for the proof.
@@ -93,6 +98,7 @@ impl<D: Disk> Store<D> {
         ensures crash { IsTrue (D.view self.disk).is_honest → Leaves (D.view self.disk) (D.view (disk_left result)) (λ before c. c ≡ before) }
         ensures kept { Kept (D.view self.disk) (D.view (disk_left result)) }
         ensures counted { IfOk result (λ opened. D.failed opened.disk ≡ D.failed self.disk) }
+        ensures uncounted { IfErr result (λ e. e.0 ≢ Fault.Device → D.failed e.1 ≡ D.failed self.disk) }
         ensures sound { IfOk result (λ opened. IsSound D.view opened) }
     {
         let alloc = self.alloc;

@@ -32,6 +32,12 @@ returns-in_err-plan-clause-device g c =
     let p = err_from_is_err_and c.from_residual-in_err-plan.result c.from_residual-in_err-plan.ensures.1 in
     rw (p.1, p.2) (λ device. absurd (never-device c.self.inside.settings st _ c.in_err-plan.ensures.err device))
 
+pub returns-in_err-plan-clause-frames_under_way : goal.returns-in_err-plan-clause-frames_under_way
+returns-in_err-plan-clause-frames_under_way g c =
+    let st = store_in c.self.inside.tree c.self.inside.log in
+    let p = err_from_is_err_and c.from_residual-in_err-plan.result c.from_residual-in_err-plan.ensures.1 in
+    rw (p.1, p.2) (λ device. absurd (never-device c.self.inside.settings st _ c.in_err-plan.ensures.err device))
+
 pub returns-in_err-plan-clause-crash : goal.returns-in_err-plan-clause-crash
 returns-in_err-plan-clause-crash g c fine settled =
     leaves_itself (g.D.Disk.view c.args.self.now.disk) _ (g.met.D.Disk.lawful c.args.self.now.disk settled.honest) settled (inl refl)
@@ -45,6 +51,9 @@ returns-in-Err-clause-refused g c = rw (← c.self.view_is) (λ fine able.
     let some : flush_text st.tree ≢ [] = (λ e. (let yes = c.is_all_written.ensures.1 e in absurd (cc))) in
     let p = c.in_ok-plan.ensures.plan in
     inr (inr (c.into.ensures, counted_failed _ _ c.in-Err.ensures.failed, plan-would s st _ _ _ some p old.seen)))
+
+pub returns-in-Err-clause-frames_under_way : goal.returns-in-Err-clause-frames_under_way
+returns-in-Err-clause-frames_under_way g c = rw (← c.self.view_is) (λ device. c.in_ok-plan.ensures.plan.frames)
 
 pub returns-in-Err-clause-crash : goal.returns-in-Err-clause-crash
 returns-in-Err-clause-crash g c = rw (← c.self.view_is) (λ fine settled.

@@ -6,7 +6,7 @@ use Rattle.engine.specs.Plays.{IsPlayed, IsPlayedOn, IsPlayFault, step_of}
 use Rattle.engine.specs.Refusal.{is_crew}
 use Rattle.engine.specs.State.{IsSound}
 use Rattle.engine.specs.Steps.{Step, StandsAfterSome, HaveWords, batching, plays}
-use Rattle.engine.proofs.PlayTurn.{no_turn, turn_as, stays, still_said, still_exact, goes_on, crash_on, left_behind_it, refused_behind, one_taken, one_behind, none_taken, none_left, device_or_not, reached_device, reached_other}
+use Rattle.engine.proofs.PlayTurn.{no_turn, turn_as, stays, still_said, still_exact, goes_on, crash_on, words_on, left_behind_it, refused_behind, one_taken, one_behind, none_taken, none_left, device_or_not, reached_device, reached_other}
 use Rattle.engine.proofs.StepDone.{fine_where, able_where}
 use Rattle.engine.proofs.store.Store.play.Goals as goal
 
@@ -32,6 +32,7 @@ loop-step-init g c =
     record {
       len = c.in-Ok.ensures.len;
       room = c.in-Ok.ensures.exact;
+      still = λ _. refl;
       able = λ _ _. refl;
       turn = turn_as g.D.Disk.view g.D.Disk.failed old old _ _ _ _ refl c.in-Ok.ensures.items (no_turn g.D.Disk.view g.D.Disk.failed g.met.D.Disk.lawful old sound);
     }
@@ -88,6 +89,25 @@ returns-in-Err-step-clause-words g c honest =
     let at = c.loop-step in
     let n_is = c.len.ensures ∙ at.invariant.len in
     subst (λ n. HaveWords (batching old.settings) old.settings old.store file (map step_of (take n c.args.steps.now))) (sym n_is) (at.invariant.turn.words honest)
+
+pub returns-in-Err-step-clause-words_reached : goal.returns-in-Err-step-clause-words_reached
+returns-in-Err-step-clause-words_reached g c honest =
+    let old = c.args.self.now in
+    let view = g.D.Disk.view in
+    let steps = c.args.steps.now in
+    let at = c.loop-step in
+    let n_is = c.len.ensures ∙ at.invariant.len in
+    let Have : List (Step Global) → Type 0 = λ ys. HaveWords (batching old.settings) old.settings old.store (view old.disk).seen ys in
+    ⊎_elim
+    (λ device. subst Have (sym (reached_device steps c.in-Err-step.fault c.len.result at.step-index c.step-item.result device n_is c.loop-step-test.true c.step-item.is))
+    (words_on view g.D.Disk.failed g.met.D.Disk.lawful old _ _ at.self at.invariant.turn c.step.new.self (step_of c.step-item.result) honest (c.in-Err-step.ensures.device device).1))
+    (λ other. subst Have (sym (reached_other steps c.in-Err-step.fault c.len.result at.step-index (other.1 c.len.result) n_is)) (at.invariant.turn.words honest))
+    (device_or_not c.in-Err-step.fault)
+
+pub returns-in-Err-step-clause-still : goal.returns-in-Err-step-clause-still
+returns-in-Err-step-clause-still g c bad =
+    let at = c.loop-step in
+    c.step.ensures.still (at.invariant.turn.has_failed ∙ bad) ∙ at.invariant.still bad
 
 pub returns-in-Err-step-clause-headline : goal.returns-in-Err-step-clause-headline
 returns-in-Err-step-clause-headline g c fine honest on_disk stands =
@@ -173,6 +193,7 @@ loop-step-preserved g c =
     record {
       len = c.push_reserved.ensures.len ∙ ap (λ n. n + 1) at.invariant.len;
       room = c.push_reserved.ensures.capacity ∙ at.invariant.room;
+      still = λ bad. (let same = at.invariant.turn.has_failed in absurd (cc));
       able = λ _ bad. (let able = able_where (is_crew c.args.crew) c.step.result c.in-Ok-step.answer c.in-Ok-step.is (c.step.ensures.bad_crew fine) in absurd (cc));
       turn = turn_as view g.D.Disk.failed old c.step.new.self _ _ _ _ (one_taken steps at.step-index c.step-item.result c.loop-step-test.true c.step-item.is) c.push_reserved.ensures.items next;
     }
@@ -216,6 +237,9 @@ returns-clause-words g c honest =
     let at = c.loop-step in
     let all = take_all at.step-index c.args.steps.now (omega (arith, c.loop-step-test.false)) in
     subst (λ xs. HaveWords (batching old.settings) old.settings old.store (g.D.Disk.view old.disk).seen (map step_of xs)) all (at.invariant.turn.words honest)
+
+pub returns-clause-words_reached : goal.returns-clause-words_reached
+returns-clause-words_reached g c honest = returns-clause-words g c honest
 
 pub returns-clause-bad_crew : goal.returns-clause-bad_crew
 returns-clause-bad_crew g c fine bad =

@@ -85,6 +85,13 @@ returns-in_err-flush-in-Flush-clause-same g c honest =
     let p = err_from_is_err_and c.from_residual-in_err-flush-in-Flush.result c.from_residual-in_err-flush-in-Flush.ensures.1 in
     rw (p.1, p.2) (λ other. subst (λ x. Same (view old.disk) (view x.disk)) (sym (c.in_err-flush-in-Flush.ensures.unchanged other)) (same_self (view old.disk)))
 
+pub returns-in_err-flush-in-Flush-clause-device : goal.returns-in_err-flush-in-Flush-clause-device
+returns-in_err-flush-in-Flush-clause-device g c =
+    let old = c.args.self.now in
+    let p = err_from_is_err_and c.from_residual-in_err-flush-in-Flush.result c.from_residual-in_err-flush-in-Flush.ensures.1 in
+    let left = c.in_err-flush-in-Flush.ensures in
+    rw (p.1, p.2) (λ device. ((left.device device).1, words_of old.settings old.store.tree Flush (step_of c.args.step) (ap step_of c.in-Flush.is) (left.frames_under_way device)))
+
 pub returns-in_err-flush-in-Flush-clause-crash : goal.returns-in_err-flush-in-Flush-clause-crash
 returns-in_err-flush-in-Flush-clause-crash g c fine settled =
     let old = c.args.self.now in
@@ -141,6 +148,12 @@ returns-in_err-clean-in-Clean-clause-same g c honest =
     rw (p.1, p.2) (λ other. clean_same old.has_failed (view old.disk) (view c.clean.new.self.disk) _ _
     (λ bad. subst (λ x. Same (view old.disk) (view x.disk)) (sym (c.clean.ensures.failed bad).1) (same_self (view old.disk)))
     (λ fine. c.in_err-clean-in-Clean.ensures.unwritten fine honest) other)
+
+pub returns-in_err-clean-in-Clean-clause-device : goal.returns-in_err-clean-in-Clean-clause-device
+returns-in_err-clean-in-Clean-clause-device g c =
+    let old = c.args.self.now in
+    let p = err_from_is_err_and c.from_residual-in_err-clean-in-Clean.result c.from_residual-in_err-clean-in-Clean.ensures.1 in
+    rw (p.1, p.2) (λ device. (c.in_err-clean-in-Clean.ensures.device device, words_of old.settings old.store.tree Clean (step_of c.args.step) (ap step_of c.in-Clean.is) tt))
 
 pub returns-in_err-clean-in-Clean-clause-crash : goal.returns-in_err-clean-in-Clean-clause-crash
 returns-in_err-clean-in-Clean-clause-crash g c fine settled =
