@@ -13,8 +13,10 @@ from checks.ids import colliding_ids
 from checks.rules import LOOK, ending_of, look_of
 
 DEEP = 200_000  # runs of a page
+RUN = 80  # bytes that a run takes in its page
+ROOM = 262_144 * RUN  # what a page with so many runs takes by itself, since its room doubles from 16 on
 MANY = 100_000  # free frames
-TIMES = 10  # the most memory that a disk may take, by its own length
+TIMES = 10  # the most memory that a disk may take beyond what its pages take, by its own length
 DAMAGED, PARTS = 400, 8
 
 EMPTY = full_leaf(0, b"", {})
@@ -32,6 +34,7 @@ class Disk:
     ending: tuple[int, bytes, bytes]
     words: tuple[str, ...] = ()
     is_cleaned: bool = False
+    pages: int = 0  # bytes of memory that its pages take by themselves
 
 
 def deep_leaf() -> bytes:
@@ -93,10 +96,10 @@ ONE_ROW = (0, look_of([(b"a", b"1")], 1, 1), b"")
 NO_FRAME = (4, b"", b"fault 15 BadFrame 0 %d\n" % (HEADER + len(ONE_PAIR)))
 
 DISKS = [
-    Disk(f"{DEEP:,} runs of a leaf", deep_leaf, (4, b"", TOO_DEEP % 0)),
-    Disk(f"{DEEP:,} runs of a leaf, four workers", deep_leaf, (4, b"", TOO_DEEP % 0), ("--workers", "4")),
-    Disk(f"{DEEP:,} runs of an index page", deep_index, (4, b"", TOO_DEEP % 2)),
-    Disk(f"{DEEP:,} runs of eight leaves", deep_leaves, (4, b"", TOO_DEEP % 0)),
+    Disk(f"{DEEP:,} runs of a leaf", deep_leaf, (4, b"", TOO_DEEP % 0), pages=ROOM),
+    Disk(f"{DEEP:,} runs of a leaf, four workers", deep_leaf, (4, b"", TOO_DEEP % 0), ("--workers", "4"), pages=ROOM),
+    Disk(f"{DEEP:,} runs of an index page", deep_index, (4, b"", TOO_DEEP % 2), pages=ROOM),
+    Disk(f"{DEEP:,} runs of eight leaves", deep_leaves, (4, b"", TOO_DEEP % 0), pages=ROOM),
     Disk(f"a leaf that is whole again after {DEEP:,} runs", whole_again, ONE_ROW, is_cleaned=True),
     Disk(f"{MANY:,} free frames with colliding ids", colliding, ONE_ROW, is_cleaned=True),
     Disk(f"{MANY:,} free frames with colliding ids, four workers", colliding, ONE_ROW, ("--workers", "4"), is_cleaned=True),
@@ -121,10 +124,10 @@ def small_memory(programs: Programs, folder: Path) -> int:
         return most_memory(child.pid, programs.store.name)
 
 
-def too_dear(ran: Ran, small: int, length: int) -> str | None:
-    """Whether a session took more time or memory than the length of its disk gives, beyond that of a small store."""
+def too_dear(ran: Ran, least: int, length: int) -> str | None:
+    """Whether a session took more time or memory than the length of its disk gives, beyond the least memory that it takes."""
     seconds = SLOW * max(1.0, length / MEGABYTE)
-    memory = small + TIMES * max(length, MEGABYTE)
+    memory = least + TIMES * max(length, MEGABYTE)
     if ran.seconds > seconds:
         return f"{ran.seconds:.2f} s of the processor, where {seconds:.2f} are the most"
     if ran.memory > memory:
@@ -154,11 +157,11 @@ def look_at(programs: Programs, number: int) -> Outcome:
         command = [programs.store, *disk.words]
         ran, wrong = looked_at(command, path, made, disk.ending)
         measured = f"{len(made) / MEGABYTE:.1f} MB: {ran.seconds:.2f} s, {ran.memory / MEGABYTE:.1f} MB (a small store {least / MEGABYTE:.1f})"
-        wrong = wrong or too_dear(ran, least, len(made))
+        wrong = wrong or too_dear(ran, least + disk.pages, len(made))
         if wrong is None and disk.is_cleaned:
             clean, wrong = cleaned(command, path, disk.ending)
             measured += f"; cleaned in {clean.seconds:.2f} s, {clean.memory / MEGABYTE:.1f} MB"
-            wrong = wrong or too_dear(clean, least, len(made))
+            wrong = wrong or too_dear(clean, least + disk.pages, len(made))
         return Outcome(wrong, measured=measured)
 
 
