@@ -24,6 +24,7 @@ ghost use Rattle.bwsh.specs.Shown.{shown_reply, shown_flushed, shown_cleaned, sh
 use crate::batch_file::{Order, TextFault, parse};
 use crate::file_disk::FileDisk;
 use crate::line::Why;
+use crate::lock_file::LockFile;
 use crate::options::{Options, options};
 use crate::show::{show_cleaned, show_flushed, show_reply, show_report};
 use cleaner::laws::a_clean_keeps_the_store;
@@ -381,25 +382,31 @@ fn store_in_memory(alloc: Global, settings: Settings) -> Result<Store<MemDisk<Gl
     store_made(alloc, disk, settings)
 }
 
-// Opens the file to be read and written. If it is to be made where there is none, that is done.
-fn open_file<R: Files>(rt: &R, path: &str, create: bool) -> io::Result<R::File> {
-    OpenOptions::new()
-        .read(true)
-        .write(true)
-        .create(create)
-        .open(rt, path)
-}
-
-// The disk of the file, which is made anew with this length, all zeros.
+// The disk of the file, which is made anew with this length, all zeros. Where there is no file one is made first.
 fn new_disk<R: Files>(rt: &R, path: &str, len: u64) -> io::Result<FileDisk<R::File>>
+where
+    R::File: LockFile,
     ensures { IfOk result (λ disk. (⟦<FileDisk<R::File> as Disk>⟧.view disk).size ≡ len) }
 {
-    FileDisk::of_zeros(open_file(rt, path, true)?, len)
+    let file = OpenOptions::new()
+        .read(true)
+        .write(true)
+        .create(true)
+        .open(rt, path)?;
+    FileDisk::of_zeros(file, len)
 }
 
-// The disk of the file that there is.
-fn old_disk<R: Files>(rt: &R, path: &str) -> io::Result<FileDisk<R::File>> {
-    FileDisk::of_file(open_file(rt, path, false)?)
+// The disk of the file that there is. It is open for writing only where the session writes, and is held then.
+fn old_disk<R: Files>(rt: &R, path: &str, writes: bool) -> io::Result<FileDisk<R::File>>
+where
+    R::File: LockFile,
+{
+    let file = OpenOptions::new().read(true).write(writes).open(rt, path)?;
+    if writes {
+        FileDisk::of_file(file)
+    } else {
+        FileDisk::of_shared(file)
+    }
 }
 
 // A new store in the file, which is made anew. Where the settings are refused the file isn't touched.
@@ -408,6 +415,8 @@ fn new_store_in_file<R: AllocGlobal + Files>(
     path: &str,
     settings: Settings,
 ) -> Result<Store<FileDisk<R::File>>, Ending>
+where
+    R::File: LockFile,
     ensures opens { (file : Bytes) → Opens ⟦<FileDisk<R::File> as Disk>⟧.view (new_start settings file) result }
     ensures fine { IfOk result (λ store. store.has_failed ≡ false) }
 {
@@ -418,22 +427,44 @@ fn new_store_in_file<R: AllocGlobal + Files>(
     }
 }
 
-// The store that the file holds. Nothing is written.
+// The store that the disk holds, which is settled first: an earlier program may have ended between its write and its sync, and
+// all that this session does stands on what it reads. Nothing is written.
+fn store_found<R: AllocGlobal + Threads + Sync, D: Disk + Drop>(
+    rt: &R,
+    crew: Crew,
+    disk: D,
+) -> Result<Store<D>, Ending>
+    requires crew { IsTrue (is_crew crew) }
+    ensures opens { (file : Bytes) × (IsTrue (D.view disk).is_honest → file ≡ (D.view disk).seen) × Opens D.view (found_start file) result }
+    ensures settled { IfOk result (λ store. IsTrue (D.view store.disk).is_honest → IsSettled (D.view store.disk)) }
+    ensures fine { IfOk result (λ store. store.has_failed ≡ false) }
+{
+    let mut disk = disk;
+    if disk.sync().is_err() {
+        return Err(Ending::Device);
+    }
+    match Store::recover(rt, rt.alloc(), disk, crew) {
+        Ok(store) => Ok(store),
+        Err(refused) => Err(store_fault(refused.0)),
+    }
+}
+
+// The store that the file holds.
 fn store_in_file<R: AllocGlobal + Threads + Sync + Files>(
     rt: &R,
     crew: Crew,
     path: &str,
+    writes: bool,
 ) -> Result<Store<FileDisk<R::File>>, Ending>
+where
+    R::File: LockFile,
     requires crew { IsTrue (is_crew crew) }
     ensures opens { (file : Bytes) × Opens ⟦<FileDisk<R::File> as Disk>⟧.view (found_start file) result }
     ensures fine { IfOk result (λ store. store.has_failed ≡ false) }
 {
-    let Ok(disk) = old_disk(rt, path) else {
-        return Err(Ending::Device);
-    };
-    match Store::recover(rt, rt.alloc(), disk, crew) {
-        Ok(store) => Ok(store),
-        Err(refused) => Err(store_fault(refused.0)),
+    match old_disk(rt, path, writes) {
+        Ok(disk) => store_found(rt, crew, disk),
+        Err(_) => Err(Ending::Device),
     }
 }
 
@@ -455,6 +486,26 @@ fn run_opened<R: AllocGlobal + Threads + Sync, D: Disk + Drop, O: Write>(
     flush(done, out)
 }
 
+// Asks the output whether it is there, since a file that is opened while it is closed would get its descriptor, and with
+// that the answers. A call that was interrupted was begun.
+fn ask<O: Write>(out: &mut O) -> Result<(), Ending>
+    ensures bytes { Appends (O.contents out.old) (O.contents out.new) [] }
+    ensures device { IsOkUnless result Ending.Device }
+{
+    match out.write(&[]) {
+        Ok(_) => Ok(()),
+        Err(error) if error.kind() == ErrorKind::Interrupted => Ok(()),
+        Err(_) => Err(Ending::Device),
+    }
+}
+
+// Whether one of the orders writes to the disk of its store.
+fn is_writing(orders: &[Order]) -> bool {
+    orders
+        .iter()
+        .any(|order| matches!(order, Order::Flush | Order::Clean))
+}
+
 /// Reads the batch file that `input` holds, and has it run by the crew on the store that is told: a new one in memory, or in a
 /// file that is made anew; or the one that the file holds. The answers go to `out`, in lines, and are the same for every
 /// crew. Where all is done, or a line is bad or there is no store (nothing is run then), or the store refuses an order, all
@@ -468,9 +519,12 @@ pub fn run<R: AllocGlobal + Threads + Sync + Files, I: Read, O: Write>(
     input: &mut I,
     out: &mut O,
 ) -> Result<(), Ending>
+where
+    R::File: LockFile,
     ensures { Answers (told_of told.now) (I.remaining input.old) (O.contents out.old) (O.contents out.new) result }
 {
     let orders = read_orders(rt.alloc(), input)?;
+    ask(out)?;
     let crew = told.crew;
     crew.check()?;
     match &told.disk {
@@ -482,7 +536,10 @@ pub fn run<R: AllocGlobal + Threads + Sync + Files, I: Read, O: Write>(
             let opened = new_store_in_file(rt, path, told.settings);
             run_opened(rt, crew, opened, &orders, out)
         }
-        Some(path) => run_opened(rt, crew, store_in_file(rt, crew, path), &orders, out),
+        Some(path) => {
+            let opened = store_in_file(rt, crew, path, is_writing(&orders));
+            run_opened(rt, crew, opened, &orders, out)
+        }
     }
 }
 
@@ -515,6 +572,8 @@ fn obey<R: AllocGlobal + Threads + Sync + Files, I: Read, O: Write>(
     input: &mut I,
     out: &mut O,
 ) -> Result<(), Ending>
+where
+    R::File: LockFile,
     ensures { EndsBy (map string_bytes words.now) (I.remaining input.old) (O.contents out.old) (O.contents out.new) (input.new ≡ input.old) (out.new ≡ out.old) result }
 {
     match options(rt.alloc(), words) {
@@ -588,6 +647,8 @@ pub fn session<R: AllocGlobal + Threads + Sync + Files, I: Read, O: Write, E: Wr
     out: &mut O,
     err: &mut E,
 ) -> u8
+where
+    R::File: LockFile,
     ensures status { (result ≡ 0) ⊎ (result ≡ 2) ⊎ (result ≡ 3) ⊎ (result ≡ 4) }
 
     // Words that are refused make it 2, and nothing else does. Only for want of memory they make it 4.
