@@ -1,6 +1,6 @@
 //! A session: the batch file is read, and run by a crew on the store that the command line tells: a new one in memory, or one in a file.
 ghost use Rattle.std.specs.Prelude.{false, IsTrue, replicate, ◌≡◌, ◌≢◌, ◌↔◌, ◌⊎◌, ℕ, [], ◌∷◌, ◌++◌, map, None, Some, IfSome, Result, Ok, Err, IsOk, IfOk, OnOk, OnErr, IsOkUnless, MatchResult, take, length, ◌≤◌};
-ghost use Rattle.std.specs.List.{flat_map};
+ghost use Rattle.std.specs.List.{flat_map, list_any};
 ghost use Rattle.std.specs.String.{string_bytes};
 ghost use Rattle.std.specs.IoError.{error_kind};
 ghost use Rattle.std.specs.Io.KnownBytes.{Appends, Keeps};
@@ -11,12 +11,13 @@ ghost use Rattle.keys.specs.Bytes.{Bytes};
 ghost use Rattle.keys.specs.Limits.{first_bad_field};
 ghost use Rattle.keys.specs.declared.fault.Fault.TheVariants.{NoMemory};
 ghost use Rattle.keys.specs.declared.fault.Fault.TheVariants as faults;
+ghost use Rattle.flush_log.specs.Disk.{IsSettled};
 ghost use Rattle.flush_log.specs.Segments.{disk_size};
 ghost use Rattle.engine.specs.Plays.{step_of, answer_of};
 ghost use Rattle.bwsh.specs.declared.session.Ending.{Ending};
 ghost use Rattle.bwsh.specs.declared.session.Ending.TheVariants.{Device};
 ghost use Rattle.bwsh.specs.declared.session.Ending.TheVariants as endings;
-ghost use Rattle.bwsh.specs.BatchFile.{text_says, first_bad, orders_of};
+ghost use Rattle.bwsh.specs.BatchFile.{text_says, first_bad, orders_of, writes};
 ghost use Rattle.bwsh.specs.Options.{Told, AsksFor, AsksForHelp, AreRefused, told_of};
 ghost use Rattle.bwsh.specs.Session.{status_of, status_of_end, ending_text, unread_text, ending_by, printed_by, BeginsWith, IsBegun, IsTold, IsReadEnding, IsForWords, Prints, PrintsOneText, Reads, RunsOn, RunsOrder, RunsFrom, Start, IsStart, IsShown, Opens, IsHonestStore, Answers, EndsBy, EndsTold, step_in, new_start, found_start};
 ghost use Rattle.bwsh.specs.Shown.{shown_reply, shown_flushed, shown_cleaned, shown_report, shown_answer};
@@ -57,7 +58,8 @@ pub enum Ending {
     Bad { line: u64, why: Why },
     /// The store answered with a fault, or memory was refused.
     Fault(Fault),
-    /// The input or the file of the store could not be read, or the output or that file could not be written.
+    /// The input or the file of the store could not be read, or the output or that file could not be written, or another session
+    /// holds the file or shares it.
     Device,
 }
 
@@ -440,7 +442,7 @@ fn store_found<R: AllocGlobal + Threads + Sync, D: Disk + Drop>(
     ensures fine { IfOk result (λ store. store.has_failed ≡ false) }
 {
     let mut disk = disk;
-    if disk.sync().is_err() {
+    if let Err(_failed) = disk.sync() {
         return Err(Ending::Device);
     }
     match Store::recover(rt, rt.alloc(), disk, crew) {
@@ -500,19 +502,23 @@ fn ask<O: Write>(out: &mut O) -> Result<(), Ending>
 }
 
 // Whether one of the orders writes to the disk of its store.
-fn is_writing(orders: &[Order]) -> bool {
-    orders
-        .iter()
-        .any(|order| matches!(order, Order::Flush | Order::Clean))
+fn has_writing(orders: &[Order]) -> bool
+    ensures { result ≡ list_any writes orders.now }
+{
+    orders.iter().any(|order| order.writes())
 }
 
 /// Reads the batch file that `input` holds, and has it run by the crew on the store that is told: a new one in memory, or in a
 /// file that is made anew; or the one that the file holds. The answers go to `out`, in lines, and are the same for every
 /// crew. Where all is done, or a line is bad or there is no store (nothing is run then), or the store refuses an order, all
 /// answers stand there. Where memory is refused, some first lines of them do; where a device fails, some first bytes. A bad
-/// line goes before a crew out of range, and that before settings that are refused and before a fault of the file; and a
-/// fault of the output goes before one that was found earlier. A file of which no store is made, or that can't be opened,
-/// stays as it was.
+/// line goes before an output that is closed, that before a crew out of range, and that before settings that are refused and before
+/// a fault of the file; and a fault of the output goes before one that was found earlier.
+///
+/// Where an order is a flush or a clean, or the file is made anew, the session holds it alone, and else it shares it and only reads; a
+/// lock that is refused is a fault of the file. A file in which no store is found, or that can't be opened or locked, stays as
+/// it was. One that can't be made anew is left as `FileDisk::of_zeros` says; or, where only the writes of a new store failed, with its
+/// new length, and with zeros but for what was written of them.
 pub fn run<R: AllocGlobal + Threads + Sync + Files, I: Read, O: Write>(
     rt: &R,
     told: &Options,
@@ -537,7 +543,7 @@ where
             run_opened(rt, crew, opened, &orders, out)
         }
         Some(path) => {
-            let opened = store_in_file(rt, crew, path, is_writing(&orders));
+            let opened = store_in_file(rt, crew, path, has_writing(&orders));
             run_opened(rt, crew, opened, &orders, out)
         }
     }
@@ -639,7 +645,8 @@ pub fn unread_words<E: Write>(error: io::Error, err: &mut E) -> u8
 /// - 2: the words are refused. Nothing was read.
 /// - 3: a line of the batch file is bad. Nothing was run, and no file was opened.
 /// - 4: a fault. The answers to what was run before it stand in `out`, or some first of them where memory was refused
-///   or a device failed. Where that is a crew out of range, nothing was run, and no file was opened.
+///   or a device failed. Where that is an output that is closed or a crew out of range, nothing was run, and no file was opened.
+///   What is told of it is written when the file is closed.
 pub fn session<R: AllocGlobal + Threads + Sync + Files, I: Read, O: Write, E: Write>(
     rt: &R,
     words: &[String],

@@ -271,8 +271,8 @@ fn words_are_refused(rt: HostRuntime) -> Result<(), Fail> {
     Ok(())
 }
 
-// What the help has to say: each kind of line, what a segment has to hold, the ranges of a crew, and the exit statuses.
-const HELP: [&str; 20] = [
+// What the help has to say: each kind of line, what a segment has to hold, the ranges of a crew, who holds a file, and the exit statuses.
+const HELP: [&str; 21] = [
     "put K V",
     "add K V",
     "get K",
@@ -290,6 +290,7 @@ const HELP: [&str; 20] = [
     "the work, 1 to 64 ",
     "--grain <N>",
     "at a time, 1 to 65535 ",
+    "holds its file alone",
     "2  The words",
     "3  A line",
     "4  A fault",

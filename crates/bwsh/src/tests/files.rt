@@ -1,5 +1,5 @@
 //! Sessions on stores in files, and disks over files.
-use super::{ByBytes, CLEANED, CLEANED_OUT, Failing, OneWord, check, push_words, words_of};
+use super::{CLEANED, CLEANED_OUT, OneWord, check, push_words, words_of};
 use crate::batch_file::{Order, parse};
 use crate::file_disk::FileDisk;
 use crate::lock_file::LockFile;
@@ -11,7 +11,7 @@ use engine::{Disk, MemDisk, Step, Store};
 use keys::Settings;
 use std::alloc::Global;
 use std::fs::{File, Metadata, OpenFile};
-use std::io::{Cursor, ErrorKind, Read, Seek, SeekFrom, Write};
+use std::io::{ErrorKind, Read, Seek, SeekFrom, Write};
 use std::process::Abort;
 use std::rt::Files;
 use std::sync::atomic::{AtomicU64, Ordering};
@@ -197,74 +197,6 @@ fn a_file_holds_no_store(rt: HostRuntime) -> Result<(), Fail> {
     Ok(())
 }
 
-impl<S: Seek> Seek for Failing<S> {
-    fn seek(&mut self, to: SeekFrom) -> io::Result<u64> {
-        self.stream.seek(to)
-    }
-}
-
-impl<S: Seek> Seek for ByBytes<S> {
-    fn seek(&mut self, to: SeekFrom) -> io::Result<u64> {
-        self.stream.seek(to)
-    }
-}
-
-impl<S> OpenFile for Failing<S> {
-    fn metadata(&self) -> io::Result<Metadata> {
-        Ok(Metadata::of_file(0))
-    }
-
-    fn set_len(&self, _size: u64) -> io::Result<()> {
-        Ok(())
-    }
-
-    fn sync_all(&self) -> io::Result<()> {
-        Ok(())
-    }
-
-    fn sync_data(&self) -> io::Result<()> {
-        Ok(())
-    }
-}
-
-impl<S> LockFile for Failing<S> {
-    fn hold(&self) -> io::Result<()> {
-        Ok(())
-    }
-
-    fn share(&self) -> io::Result<()> {
-        Ok(())
-    }
-}
-
-// Asserts how many calls of a disk fail that is over an empty file, which takes and gives a byte at a time, and whose third
-// call fails so. Four bytes are written and read, and then some behind the file's end.
-fn check_disk<R: AllocGlobal + Abort>(rt: &R, kind: ErrorKind, failures: u32) -> Result<(), Fail> {
-    let file = Failing {
-        calls: 2,
-        faults: 1,
-        kind,
-        stream: ByBytes {
-            stream: Cursor::new(Vec::new(rt.alloc())),
-        },
-    };
-    let mut disk = FileDisk::of_zeros(file, 16)?;
-    let mut back = [0; 4];
-    let is_done = disk.write_at(3, b"abcd").is_ok() && disk.read_at(3, &mut back).is_ok();
-    assert_eq!(rt; disk.failures(), u64::from(failures));
-    assert!(rt; !is_done || back == *b"abcd");
-    assert!(rt; disk.read_at(9, &mut back).is_err());
-    assert_eq!(rt; disk.failures(), u64::from(failures) + 1);
-    Ok(())
-}
-
-// A call that was interrupted is made again, and one that was cut short goes on.
-#[test]
-fn a_disk_over_a_file(rt: HostRuntime) -> Result<(), Fail> {
-    check_disk(&rt, ErrorKind::Interrupted, 0)?;
-    check_disk(&rt, ErrorKind::Other, 1)
-}
-
 // Lines that flush or clean, by the number of their example, for a file that held so many bytes of 0xff and is made anew.
 struct ByteRow {
     name: &'static str,
@@ -376,24 +308,27 @@ enum Call {
     Share,
     Metadata,
     SetLen,
+    Read,
     Write,
     Sync,
 }
 
-// Of this kind of calls the first ones succeed, so many, and all later ones fail.
+// Of this kind of calls the first ones succeed, so many, and then those up to an end fail.
 #[derive(Drop)]
 pub(super) struct Faults {
     call: Call,
     good: u64,
+    end: u64,
     kind: ErrorKind,
     made: AtomicU64,
 }
 
 impl Faults {
-    fn of(call: Call, good: u64, kind: ErrorKind) -> Faults {
+    fn of(call: Call, good: u64, end: u64, kind: ErrorKind) -> Faults {
         Faults {
             call,
             good,
+            end,
             kind,
             made: AtomicU64::new(0),
         }
@@ -401,15 +336,19 @@ impl Faults {
 
     // Those of which none fails.
     pub(super) fn none() -> Faults {
-        Faults::of(Call::None, 0, ErrorKind::Other)
+        Faults::of(Call::None, 0, 0, ErrorKind::Other)
     }
 
     // Makes a call.
     fn call(&self, call: Call) -> io::Result<()> {
-        if call == self.call && self.made.fetch_add(1, Ordering::SeqCst) >= self.good {
-            return Err(io::Error::from(self.kind));
+        if call != self.call {
+            return Ok(());
         }
-        Ok(())
+        let made = self.made.fetch_add(1, Ordering::SeqCst);
+        if made < self.good || made >= self.end {
+            return Ok(());
+        }
+        Err(io::Error::from(self.kind))
     }
 
     // Makes the call that opens a file.
@@ -422,7 +361,7 @@ impl Faults {
     }
 }
 
-// A file whose calls fail so.
+// A file whose calls fail so, and which gives and takes a byte at a time.
 #[derive(Drop)]
 pub(super) struct Faulty<'a, F> {
     pub(super) file: F,
@@ -431,14 +370,16 @@ pub(super) struct Faulty<'a, F> {
 
 impl<F: Read> Read for Faulty<'_, F> {
     fn read(&mut self, buf: &mut [u8]) -> io::Result<usize> {
-        self.file.read(buf)
+        self.faults.call(Call::Read)?;
+        let end = buf.len().min(1);
+        self.file.read(&mut buf[..end])
     }
 }
 
 impl<F: Write> Write for Faulty<'_, F> {
     fn write(&mut self, buf: &[u8]) -> io::Result<usize> {
         self.faults.call(Call::Write)?;
-        self.file.write(buf)
+        self.file.write(&buf[..buf.len().min(1)])
     }
 
     fn flush(&mut self) -> io::Result<()> {
@@ -483,6 +424,48 @@ impl<F: LockFile> LockFile for Faulty<'_, F> {
         self.faults.call(Call::Share)?;
         self.file.share()
     }
+}
+
+// Asserts how many calls of a disk fail that is over a new file of 16 bytes, of whose calls of this kind the third fails so. Four bytes
+// are written and read, and then some behind the end of the file, which was cut.
+fn check_disk<R: AllocGlobal + Abort + Files>(
+    rt: &R,
+    path: &str,
+    call: Call,
+    kind: ErrorKind,
+    failures: u64,
+) -> Result<(), Fail>
+where
+    R::File: LockFile,
+{
+    let faults = Faults::of(call, 2, 3, kind);
+    let file = Faulty {
+        file: File::create_new(rt, path)?,
+        faults: &faults,
+    };
+    let mut disk = FileDisk::of_zeros(file, 16)?;
+    let mut back = [0; 4];
+    let is_done = disk.write_at(3, b"abcd").is_ok() && disk.read_at(3, &mut back).is_ok();
+    assert_eq!(rt; disk.failures(), failures);
+    assert!(rt; !is_done || back == *b"abcd");
+    File::options().write(true).open(rt, path)?.set_len(7)?;
+    assert!(rt; disk.read_at(9, &mut back).is_err());
+    assert_eq!(rt; disk.failures(), failures + 1);
+    fs::remove_file(rt, path)?;
+    Ok(())
+}
+
+// A call that was interrupted is made again, and one that was cut short goes on.
+#[test]
+fn a_disk_over_a_file(rt: HostRuntime) -> Result<(), Fail> {
+    let file = env::temp_dir(&rt)?.join(rt.alloc(), "bwsh_disk")?;
+    let path = file.as_str();
+    let _ = fs::remove_file(&rt, path);
+    for call in [Call::Write, Call::Read] {
+        check_disk(&rt, path, call, ErrorKind::Interrupted, 0)?;
+        check_disk(&rt, path, call, ErrorKind::Other, 1)?;
+    }
+    Ok(())
 }
 
 // Asserts what these lines answer on a file in which `a` stands, where such calls fail; and what is left of the file: so many first
@@ -538,7 +521,7 @@ fn making_anew_fails(rt: HostRuntime) -> Result<(), Fail> {
     let file = env::temp_dir(&rt)?.join(rt.alloc(), "bwsh_anew")?;
     let path = file.as_str();
     for (call, good, left) in &ANEW {
-        let faults = Faults::of(*call, *good, ErrorKind::Other);
+        let faults = Faults::of(*call, *good, u64::MAX, ErrorKind::Other);
         check_faults(
             &rt,
             path,
@@ -567,12 +550,13 @@ const DEVICE: &str = "fault 9 Device\n";
 
 // On a file that there is: which calls fail, how, on which lines, and what is answered. Sessions that only read don't write, hold or
 // open the file for it, and need no sync where there is none; all others need their first one too.
-static FOUND: [(Call, ErrorKind, (&str, &str)); 16] = [
+static FOUND: [(Call, ErrorKind, (&str, &str)); 17] = [
     (Call::OpenToWrite, ErrorKind::Other, (READS, ANSWERS)),
     (Call::Hold, ErrorKind::Other, (READS, ANSWERS)),
     (Call::SetLen, ErrorKind::Other, (READS, ANSWERS)),
     (Call::Write, ErrorKind::Other, (READS, ANSWERS)),
     (Call::Share, ErrorKind::Other, (READS, DEVICE)),
+    (Call::Read, ErrorKind::Other, (READS, DEVICE)),
     (Call::Metadata, ErrorKind::Other, (READS, DEVICE)),
     (Call::Sync, ErrorKind::Other, (READS, DEVICE)),
     (Call::Sync, ErrorKind::InvalidInput, (READS, ANSWERS)),
@@ -595,14 +579,14 @@ fn calls_of_a_file_fail(rt: HostRuntime) -> Result<(), Fail> {
     let file = env::temp_dir(&rt)?.join(rt.alloc(), "bwsh_failing_calls")?;
     let path = file.as_str();
     for (call, kind, lines) in &FOUND {
-        let faults = Faults::of(*call, 0, *kind);
+        let faults = Faults::of(*call, 0, u64::MAX, *kind);
         check_faults(&rt, path, &faults, None, lines, (1_536, 1_536))?;
     }
     fs::remove_file(&rt, path)?;
     Ok(())
 }
 
-// The calls that a session makes of its file to sync it, where none fails; and whether each of them that does fail ends it.
+// How many syncs a session makes of its file, each of which ends it where it fails.
 fn syncs<R: AllocGlobal + Threads + Sync + Files>(
     rt: &R,
     path: &str,
@@ -613,7 +597,7 @@ where
     R::File: LockFile,
 {
     for good in 0..20 {
-        let faults = Faults::of(Call::Sync, good, ErrorKind::Other);
+        let faults = Faults::of(Call::Sync, good, u64::MAX, ErrorKind::Other);
         let system = OneWord {
             rt,
             word: b"",
@@ -626,19 +610,19 @@ where
     Ok(20)
 }
 
-// A session that reads makes one sync, and one that makes a store two; a flush makes three, and none where there is nothing to write.
+// An old file is synced before it is read, and a new store once; a flush makes three, or none where there is nothing to write.
 #[test]
 fn syncs_are_counted(rt: HostRuntime) -> Result<(), Fail> {
     let file = env::temp_dir(&rt)?.join(rt.alloc(), "bwsh_syncs")?;
     let path = file.as_str();
     let made = syncs(&rt, path, Some(4), b"")?;
-    assert_eq!(rt; made, 2);
+    assert_eq!(rt; made, 1);
     let read = syncs(&rt, path, None, b"get a\n")?;
     assert_eq!(rt; read, 1);
     let unwritten = syncs(&rt, path, None, b"flush\n")?;
     assert_eq!(rt; unwritten, 1);
     let written = syncs(&rt, path, Some(4), b"put a 1\nflush\n")?;
-    assert_eq!(rt; written, 5);
+    assert_eq!(rt; written, 4);
     fs::remove_file(&rt, path)?;
     Ok(())
 }
