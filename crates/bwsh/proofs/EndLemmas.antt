@@ -163,13 +163,13 @@ module _ (told : Told) (known old : Option (List ℕ)) (text : List ℕ) (is_kno
 
 -- an output to which nothing was appended first
 module _ (old mid new : Option (List ℕ)) (asked : Appends old mid []) where
-  behind_nothing : (bs : List ℕ) → Appends mid new bs → Appends old new bs
-  behind_nothing bs a = Appends-trans old mid new [] bs asked a
+  after_nothing : (bs : List ℕ) → Appends mid new bs → Appends old new bs
+  after_nothing bs a = Appends-trans old mid new [] bs asked a
 
   Prints-asked : (lines : List (List ℕ)) (right end : Result (Unit {0}) Ending) → Prints mid new lines right end → Prints old new lines right end
-  Prints-asked lines right end (inl (e, a)) = inl (e, behind_nothing (flat lines) a)
-  Prints-asked lines right end (inr (inl (e, (front, begins, a)))) = inr (inl (e, (front, begins, behind_nothing (flat front) a)))
-  Prints-asked lines right end (inr (inr (e, (front, begins, a)))) = inr (inr (e, (front, begins, behind_nothing front a)))
+  Prints-asked lines right end (inl (e, a)) = inl (e, after_nothing (flat lines) a)
+  Prints-asked lines right end (inr (inl (e, (front, begins, a)))) = inr (inl (e, (front, begins, after_nothing (flat front) a)))
+  Prints-asked lines right end (inr (inr (e, (front, begins, a)))) = inr (inr (e, (front, begins, after_nothing front a)))
 
   pub Answers-asked : (told : Told) (known : Option (List ℕ)) (end : Result (Unit {0}) Ending) → Answers told known mid new end → Answers told known old new end
   unfolding Answers

@@ -646,7 +646,7 @@ pub fn unread_words<E: Write>(error: io::Error, err: &mut E) -> u8
 /// - 3: a line of the batch file is bad. Nothing was run, and no file was opened.
 /// - 4: a fault. The answers to what was run before it stand in `out`, or some first of them where memory was refused
 ///   or a device failed. Where that is an output that is closed or a crew out of range, nothing was run, and no file was opened.
-///   What is told of it is written when the file is closed.
+///   Its line is written when the file is closed.
 pub fn session<R: AllocGlobal + Threads + Sync + Files, I: Read, O: Write, E: Write>(
     rt: &R,
     words: &[String],

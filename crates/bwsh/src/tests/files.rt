@@ -34,7 +34,7 @@ const CREW: Crew = Crew {
     grain: 1,
 };
 
-// What these lines print on the store of this file, and then how they end. It is made anew with pages of so many entries; or it is
+// What these lines print on the store of this file, and then how they end. It is made anew with pages of this many entries; or it is
 // the one that the file holds, with settings on the command line that would be refused.
 fn answered<R: AllocGlobal + Threads + Sync + Files>(
     rt: &R,
@@ -197,7 +197,7 @@ fn a_file_holds_no_store(rt: HostRuntime) -> Result<(), Fail> {
     Ok(())
 }
 
-// Lines that flush or clean, by the number of their example, for a file that held so many bytes of 0xff and is made anew.
+// Lines that flush or clean, by the number of their example, for a file that held this many bytes of 0xff and is made anew.
 struct ByteRow {
     name: &'static str,
     held: usize,
@@ -254,7 +254,7 @@ fn is_played<R: Threads + Sync>(rt: &R, store: &mut Store<MemDisk<Global>>, orde
     store.play(rt, CREW, &NoGate, &[step]).is_ok()
 }
 
-// The bytes of a disk in memory behind the orders of these lines, up to the first that is refused.
+// The bytes of a disk in memory after the orders of these lines, up to the first that is refused.
 fn bytes_in_memory<R: AllocGlobal + Threads + Sync>(rt: &R, input: &[u8]) -> Result<Vec<u8>, Fail> {
     let alloc = rt.alloc();
     let orders = parse(alloc, input)?;
@@ -313,7 +313,7 @@ enum Call {
     Sync,
 }
 
-// Of this kind of calls the first ones succeed, so many, and then those up to an end fail.
+// Of this kind of calls those from a number up to another fail, counted from 0.
 #[derive(Drop)]
 pub(super) struct Faults {
     call: Call,
@@ -427,7 +427,7 @@ impl<F: LockFile> LockFile for Faulty<'_, F> {
 }
 
 // Asserts how many calls of a disk fail that is over a new file of 16 bytes, of whose calls of this kind the third fails so. Four bytes
-// are written and read, and then some behind the end of the file, which was cut.
+// are written and read, and then some after the end of the file, which was cut.
 fn check_disk<R: AllocGlobal + Abort + Files>(
     rt: &R,
     path: &str,
@@ -468,7 +468,7 @@ fn a_disk_over_a_file(rt: HostRuntime) -> Result<(), Fail> {
     Ok(())
 }
 
-// Asserts what these lines answer on a file in which `a` stands, where such calls fail; and what is left of the file: so many first
+// Asserts what these lines answer on a file in which `a` stands, where such calls fail; and what is left of the file: this many first
 // bytes as they were, and zeros up to this length.
 fn check_faults<R: AllocGlobal + Abort + Threads + Sync + Files>(
     rt: &R,
@@ -515,7 +515,7 @@ static ANEW: [(Call, u64, (usize, usize)); 7] = [
     (Call::Write, 0, (0, 1_536)),
 ];
 
-// A file in which zeros stand behind a store holds that store.
+// A file in which zeros follow a store holds that store.
 #[test]
 fn making_anew_fails(rt: HostRuntime) -> Result<(), Fail> {
     let file = env::temp_dir(&rt)?.join(rt.alloc(), "bwsh_anew")?;
@@ -690,9 +690,9 @@ where
     }
 }
 
-// So what is told of a fault can't get into the file, which has the descriptor of a standard error that was closed.
+// So the line of a fault can't get into the file, which has the descriptor of a standard error that was closed.
 #[test]
-fn a_file_is_closed_before_a_fault_is_told(rt: HostRuntime) -> Result<(), Fail> {
+fn a_file_is_closed_before_a_fault_is_written(rt: HostRuntime) -> Result<(), Fail> {
     let file = env::temp_dir(&rt)?.join(rt.alloc(), "bwsh_closed")?;
     let path = file.as_str();
     check_in_file(&rt, path, Some(4), b"", b"", "")?;
