@@ -468,6 +468,16 @@ fn a_disk_over_a_file(rt: HostRuntime) -> Result<(), Fail> {
     Ok(())
 }
 
+const READS: &str = "get a\nput b 2\nverify\n";
+
+const ANSWERS: &str = "value 1\nnew\nok 1 1 2\n";
+
+const WRITES: &str = "flush\n";
+
+const CLEANS: &str = "clean\n";
+
+const DEVICE: &str = "fault 9 Device\n";
+
 // Asserts what these lines answer on a file in which `a` stands, where such calls fail; and what is left of the file: this many first
 // bytes as they were, and zeros up to this length.
 fn check_faults<R: AllocGlobal + Abort + Threads + Sync + Files>(
@@ -522,14 +532,7 @@ fn making_anew_fails(rt: HostRuntime) -> Result<(), Fail> {
     let path = file.as_str();
     for (call, good, left) in &ANEW {
         let faults = Faults::of(*call, *good, u64::MAX, ErrorKind::Other);
-        check_faults(
-            &rt,
-            path,
-            &faults,
-            Some(4),
-            &("", "fault 9 Device\n"),
-            *left,
-        )?;
+        check_faults(&rt, path, &faults, Some(4), &("", DEVICE), *left)?;
         if left.0 > 0 {
             check_in_file(&rt, path, None, b"get a\n", b"value 1\n", "")?;
         }
@@ -537,16 +540,6 @@ fn making_anew_fails(rt: HostRuntime) -> Result<(), Fail> {
     fs::remove_file(&rt, path)?;
     Ok(())
 }
-
-const READS: &str = "get a\nput b 2\nverify\n";
-
-const ANSWERS: &str = "value 1\nnew\nok 1 1 2\n";
-
-const WRITES: &str = "flush\n";
-
-const CLEANS: &str = "clean\n";
-
-const DEVICE: &str = "fault 9 Device\n";
 
 // On a file that there is: which calls fail, how, on which lines, and what is answered. Sessions that only read don't write, hold or
 // open the file for it, and need no sync where there is none; all others need their first one too.
