@@ -6,7 +6,7 @@ use Rattle.std.specs.Bool.{MatchBool}
 use Rattle.std.specs.Option.{option_map}
 use Rattle.std.specs.String.{string_bytes}
 use Rattle.std.specs.Io.KnownBytes.{Appends, Keeps}
-use Rattle.std.proofs.KnownBytes.{Appends-nil}
+use Rattle.std.proofs.KnownBytes.{Appends-nil, Appends-trans}
 use Rattle.crew.specs.Crew.{is_crew}
 use Rattle.crew.specs.declared.limits.Crew.{Crew}
 use Rattle.keys.specs.Lists.{flat}
@@ -160,6 +160,21 @@ module _ (told : Told) (known old : Option (List ℕ)) (text : List ℕ) (is_kno
   Answers-run new end ran items no_bad e_ran e_items start is IsHonest honest p =
       let (shown, are, run) = subst (λ (os : List Order). RunsFrom IsHonest start os old new end) (e_ran ∙ e_items) p in
       (text, is_known, start, is, shown, λ memory. are (honest memory), rw no_bad run)
+
+-- an output to which nothing was appended first
+module _ (old mid new : Option (List ℕ)) (asked : Appends old mid []) where
+  after_nothing : (bs : List ℕ) → Appends mid new bs → Appends old new bs
+  after_nothing bs a = Appends-trans old mid new [] bs asked a
+
+  Prints-asked : (lines : List (List ℕ)) (right end : Result (Unit {0}) Ending) → Prints mid new lines right end → Prints old new lines right end
+  Prints-asked lines right end (inl (e, a)) = inl (e, after_nothing (flat lines) a)
+  Prints-asked lines right end (inr (inl (e, (front, begins, a)))) = inr (inl (e, (front, begins, after_nothing (flat front) a)))
+  Prints-asked lines right end (inr (inr (e, (front, begins, a)))) = inr (inr (e, (front, begins, after_nothing front a)))
+
+  pub Answers-asked : (told : Told) (known : Option (List ℕ)) (end : Result (Unit {0}) Ending) → Answers told known mid new end → Answers told known old new end
+  unfolding Answers
+  Answers-asked told known end (text, is_known, start, is, shown, is_shown, p) =
+      (text, is_known, start, is, shown, is_shown, Prints-asked (session_lines start shown text) (session_end start shown text) end p)
 
 -- another crew that is in range where this one is
 pub Answers-crew : (told : Told) (crew : Crew) → is_crew crew ≡ is_crew told.crew → (known old new : Option (List ℕ)) (end : Result (Unit {0}) Ending)

@@ -1,5 +1,5 @@
 -- Batch files: what the lines of a file say, all of them together.
-use Rattle.std.specs.Prelude.{◌≡◌, ⊤, ℕ, ◌+◌, List, [], ◌∷◌, ◌++◌, map, Option, Some, None}
+use Rattle.std.specs.Prelude.{◌≡◌, ⊤, ℕ, ◌+◌, Bool, true, false, List, [], ◌∷◌, ◌++◌, map, Option, Some, None}
 use Rattle.std.specs.declared.alloc.Global.{Global}
 use Rattle.keys.specs.declared.command.Command.{Command}
 use Rattle.bstr.specs.Text.{lines_of, without_terminator}
@@ -47,6 +47,13 @@ orders_of pending (_ ∷ rest) = orders_of pending rest
 abbrev pub IsRightFault : List Says → TextFault → Type 0
 IsRightFault says (faults.Bad n why) = first_bad 1 says ≡ Some (n, why)
 IsRightFault says faults.Memory = Unit {0}
+
+-- the order writes to the disk of its store
+abbrev pub writes : Order → Bool
+writes (Batch commands) = false
+writes Flush = true
+writes Clean = true
+writes Verify = false
 
 -- the order is a batch
 abbrev pub IsBatch : Order → Type 0

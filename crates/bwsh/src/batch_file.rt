@@ -1,7 +1,7 @@
 //! Batch files.
 ghost use Rattle.std.specs.Prelude.{◌≡◌, ◌∷◌, ◌++◌, [], Some, None, IfOk, IfErr, OnOk};
 ghost use Rattle.bwsh.specs.declared.batch_file.TextFault.TheVariants.{Memory};
-ghost use Rattle.bwsh.specs.BatchFile.{text_says, first_bad, last_order, orders_of, IsRightFault};
+ghost use Rattle.bwsh.specs.BatchFile.{text_says, first_bad, last_order, orders_of, writes, IsRightFault};
 
 use crate::line::{LineReader, Says, Why};
 use bstr::ByteSlice;
@@ -46,6 +46,15 @@ pub enum Order {
     Clean,
     /// To verify the store, and tell of its pages, its height and its pairs.
     Verify,
+}
+
+impl Order {
+    /// Whether it writes to the disk of its store.
+    pub fn writes(&self) -> bool
+        ensures { result ≡ writes self.now }
+    {
+        matches!(self, Order::Flush | Order::Clean)
+    }
 }
 
 /// Why a text is not read.

@@ -3,13 +3,15 @@ ghost use Rattle.std.specs.Prelude.{◌≡◌, IfOk};
 ghost use Rattle.flush_log.specs.Disk.{CountsFailure};
 ghost use Rattle.bwsh.specs.FileDisk.{of_length};
 
+use crate::lock_file::LockFile;
 use flush_log::{Disk, DiskFault};
 use std::fs::OpenFile;
 use std::io;
-use std::io::{Read, Seek, SeekFrom, Write};
+use std::io::{ErrorKind, Read, Seek, SeekFrom, Write};
 
-/// A disk over a file that is open for reading and writing. It is as long as the file was when it was opened, and counts the
-/// calls that failed. No clause of the library says what a file holds, so its contract doesn't call it honest.
+/// A disk over an open file, which it holds for itself, or shares with others that only read. It is as long as the file was when
+/// the disk was made, and counts the calls that failed. No clause of the library says what a file holds, so its contract doesn't
+/// call it honest.
 ///
 /// A read or a write that was cut short goes on where it ended, and one that was interrupted is made again. A read that meets the
 /// end of the file is a failure. A sync is `sync_data` (`fdatasync`), which answers once the device has the bytes, and the
@@ -18,31 +20,54 @@ use std::io::{Read, Seek, SeekFrom, Write};
 pub struct FileDisk<F> {
     file: F,
     len: u64,
+    is_shared: bool,
     failures: u64,
 }
 
-impl<F: Read + Write + Seek + OpenFile + Drop> FileDisk<F> {
-    /// The disk of the file, with the length that this has.
+impl<F: Read + Write + Seek + OpenFile + LockFile + Drop> FileDisk<F> {
+    /// The disk of a file that is open for reading and writing, with the length that this has. Where another holds or shares the
+    /// file, it fails.
     pub fn of_file(file: F) -> io::Result<FileDisk<F>> {
+        file.hold()?;
+        FileDisk::of_locked(file, false)
+    }
+
+    /// The disk of a file that is open for reading, with the length that this has. Where another holds the file, it fails.
+    pub fn of_shared(file: F) -> io::Result<FileDisk<F>> {
+        file.share()?;
+        FileDisk::of_locked(file, true)
+    }
+
+    // The disk of a file that is locked: only then its length is one that stays.
+    fn of_locked(file: F, is_shared: bool) -> io::Result<FileDisk<F>> {
         let len = file.metadata()?.len();
         Ok(FileDisk {
             file,
             len,
+            is_shared,
             failures: 0,
         })
     }
 
-    /// Gives the file this length, with zeros in the place of what it held, and returns its disk. A file that cannot be so long
-    /// stays as it was: so its length is set first as it is, and then from nothing.
+    /// Gives a file that is open for reading and writing this length, with zeros in the place of what it held, and returns its
+    /// disk. Where another holds or shares the file, it fails.
+    ///
+    /// Three lengths are set, one after the other, and where one is refused, no more is done. First one that is greater than
+    /// the file's own and no less than the new one: so where the system lets no file be so long, this file stays as it was. Then
+    /// none; where that fails, zeros stand after all that the file held, which is a disk of the same store. Then the new one; where
+    /// that fails, the file has no bytes.
     pub fn of_zeros(file: F, len: u64) -> io::Result<FileDisk<F>>
         ensures { IfOk result (λ disk. (⟦<FileDisk<F> as Disk>⟧.view disk).size ≡ len) }
     {
-        file.set_len(len)?;
+        file.hold()?;
+        let old = file.metadata()?.len();
+        file.set_len(old.saturating_add(1).max(len))?;
         file.set_len(0)?;
         file.set_len(len)?;
         Ok(FileDisk {
             file,
             len,
+            is_shared: false,
             failures: 0,
         })
     }
@@ -74,7 +99,15 @@ fn write_from<F: Write + Seek>(file: &mut F, at: u64, bytes: &[u8]) -> io::Resul
     file.write_all(bytes)
 }
 
-impl<F: Read + Write + Seek + OpenFile + Drop> Disk for FileDisk<F> {
+// Whether a sync failed for the one reason that the file's system has none, or can't be written: then nothing waits to be synced.
+fn has_no_sync(error: &io::Error) -> bool {
+    matches!(
+        error.kind(),
+        ErrorKind::InvalidInput | ErrorKind::ReadOnlyFilesystem
+    )
+}
+
+impl<F: Read + Write + Seek + OpenFile + LockFile + Drop> Disk for FileDisk<F> {
     ghost view = { λ d. of_length d.len };
 
     ghost failed = { λ d. d.failures };
@@ -100,7 +133,9 @@ impl<F: Read + Write + Seek + OpenFile + Drop> Disk for FileDisk<F> {
     }
 
     fn sync(&mut self) -> Result<(), DiskFault> {
-        let done = self.file.sync_data();
-        self.count(done)
+        match self.file.sync_data() {
+            Err(error) if self.is_shared && has_no_sync(&error) => Ok(()),
+            done => self.count(done),
+        }
     }
 }

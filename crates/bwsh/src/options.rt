@@ -43,6 +43,8 @@ const AFTER_HELP: &str = "\
 A store in a file has the settings with which the file was made. Those of the command line are for a
 store in memory, and for a file that is made anew; otherwise they are ignored. Workers and grain are
 no settings of a store: they are for this session alone, which answers the same with any of them.
+A session with a flush or a clean, or --create, holds its file alone; any other shares it, and only
+reads it. Where another session is in the way it is a fault at once, and nothing is changed.
 
 Lines of the batch file:
   put K V           Stores the value V under the key K
@@ -66,7 +68,7 @@ Exit status:
   2  The words of the command line are refused; nothing was read
   3  A line of the batch file is bad; nothing was run
   4  A fault: settings, workers, a grain or a batch that are refused, a full log or one with nothing
-     to clean, no memory, or a device\
+     to clean, no memory, or a device: a stream or a file that is closed, held, full or missing\
 ";
 
 // An option that takes a number.

@@ -5,6 +5,7 @@ ghost use Rattle.std.specs.IoError.{error_kind};
 ghost use Rattle.keys.specs.Bytes.{Bytes};
 ghost use Rattle.bwsh.specs.Session.{unread_text, IsBegun, EndsTold};
 
+use crate::lock_file::LockFile;
 use crate::session::{session, unread_words};
 use std::io::{ErrorKind, Read, Write};
 use std::rt::{Env, Files};
@@ -36,6 +37,8 @@ pub fn run_words<R: AllocGlobal + Threads + Sync + Files, I: Read, O: Write, E: 
     out: &mut O,
     err: &mut E,
 ) -> u8
+where
+    R::File: LockFile,
     ensures read { IfOk words (λ all. EndsTold (map string_bytes (drop 1 all.items))
         (I.remaining input.old) (O.contents out.old) (O.contents out.new)
         (E.contents err.old) (E.contents err.new)
@@ -60,6 +63,8 @@ pub fn run_program<R: Env + AllocGlobal + Threads + Sync + Files, I: Read, O: Wr
     out: &mut O,
     err: &mut E,
 ) -> u8
+where
+    R::File: LockFile,
     ensures ends { ((words : List Bytes) × EndsTold words
         (I.remaining input.old) (O.contents out.old) (O.contents out.new)
         (E.contents err.old) (E.contents err.new)

@@ -1,6 +1,6 @@
 //! A session: the batch file is read, and run by a crew on the store that the command line tells: a new one in memory, or one in a file.
 ghost use Rattle.std.specs.Prelude.{false, IsTrue, replicate, ◌≡◌, ◌≢◌, ◌↔◌, ◌⊎◌, ℕ, [], ◌∷◌, ◌++◌, map, None, Some, IfSome, Result, Ok, Err, IsOk, IfOk, OnOk, OnErr, IsOkUnless, MatchResult, take, length, ◌≤◌};
-ghost use Rattle.std.specs.List.{flat_map};
+ghost use Rattle.std.specs.List.{flat_map, list_any};
 ghost use Rattle.std.specs.String.{string_bytes};
 ghost use Rattle.std.specs.IoError.{error_kind};
 ghost use Rattle.std.specs.Io.KnownBytes.{Appends, Keeps};
@@ -11,12 +11,13 @@ ghost use Rattle.keys.specs.Bytes.{Bytes};
 ghost use Rattle.keys.specs.Limits.{first_bad_field};
 ghost use Rattle.keys.specs.declared.fault.Fault.TheVariants.{NoMemory};
 ghost use Rattle.keys.specs.declared.fault.Fault.TheVariants as faults;
+ghost use Rattle.flush_log.specs.Disk.{IsSettled};
 ghost use Rattle.flush_log.specs.Segments.{disk_size};
 ghost use Rattle.engine.specs.Plays.{step_of, answer_of};
 ghost use Rattle.bwsh.specs.declared.session.Ending.{Ending};
 ghost use Rattle.bwsh.specs.declared.session.Ending.TheVariants.{Device};
 ghost use Rattle.bwsh.specs.declared.session.Ending.TheVariants as endings;
-ghost use Rattle.bwsh.specs.BatchFile.{text_says, first_bad, orders_of};
+ghost use Rattle.bwsh.specs.BatchFile.{text_says, first_bad, orders_of, writes};
 ghost use Rattle.bwsh.specs.Options.{Told, AsksFor, AsksForHelp, AreRefused, told_of};
 ghost use Rattle.bwsh.specs.Session.{status_of, status_of_end, ending_text, unread_text, ending_by, printed_by, BeginsWith, IsBegun, IsTold, IsReadEnding, IsForWords, Prints, PrintsOneText, Reads, RunsOn, RunsOrder, RunsFrom, Start, IsStart, IsShown, Opens, IsHonestStore, Answers, EndsBy, EndsTold, step_in, new_start, found_start};
 ghost use Rattle.bwsh.specs.Shown.{shown_reply, shown_flushed, shown_cleaned, shown_report, shown_answer};
@@ -24,6 +25,7 @@ ghost use Rattle.bwsh.specs.Shown.{shown_reply, shown_flushed, shown_cleaned, sh
 use crate::batch_file::{Order, TextFault, parse};
 use crate::file_disk::FileDisk;
 use crate::line::Why;
+use crate::lock_file::LockFile;
 use crate::options::{Options, options};
 use crate::show::{show_cleaned, show_flushed, show_reply, show_report};
 use cleaner::laws::a_clean_keeps_the_store;
@@ -56,7 +58,8 @@ pub enum Ending {
     Bad { line: u64, why: Why },
     /// The store answered with a fault, or memory was refused.
     Fault(Fault),
-    /// The input or the file of the store could not be read, or the output or that file could not be written.
+    /// The input or the file of the store could not be read, or the output or that file could not be written, or another session
+    /// holds the file or shares it.
     Device,
 }
 
@@ -381,25 +384,31 @@ fn store_in_memory(alloc: Global, settings: Settings) -> Result<Store<MemDisk<Gl
     store_made(alloc, disk, settings)
 }
 
-// Opens the file to be read and written. If it is to be made where there is none, that is done.
-fn open_file<R: Files>(rt: &R, path: &str, create: bool) -> io::Result<R::File> {
-    OpenOptions::new()
-        .read(true)
-        .write(true)
-        .create(create)
-        .open(rt, path)
-}
-
-// The disk of the file, which is made anew with this length, all zeros.
+// The disk of the file, which is made anew with this length, all zeros. Where there is no file one is made first.
 fn new_disk<R: Files>(rt: &R, path: &str, len: u64) -> io::Result<FileDisk<R::File>>
+where
+    R::File: LockFile,
     ensures { IfOk result (λ disk. (⟦<FileDisk<R::File> as Disk>⟧.view disk).size ≡ len) }
 {
-    FileDisk::of_zeros(open_file(rt, path, true)?, len)
+    let file = OpenOptions::new()
+        .read(true)
+        .write(true)
+        .create(true)
+        .open(rt, path)?;
+    FileDisk::of_zeros(file, len)
 }
 
-// The disk of the file that there is.
-fn old_disk<R: Files>(rt: &R, path: &str) -> io::Result<FileDisk<R::File>> {
-    FileDisk::of_file(open_file(rt, path, false)?)
+// The disk of the file that there is. It is open for writing only where the session writes, and is held then.
+fn old_disk<R: Files>(rt: &R, path: &str, writes: bool) -> io::Result<FileDisk<R::File>>
+where
+    R::File: LockFile,
+{
+    let file = OpenOptions::new().read(true).write(writes).open(rt, path)?;
+    if writes {
+        FileDisk::of_file(file)
+    } else {
+        FileDisk::of_shared(file)
+    }
 }
 
 // A new store in the file, which is made anew. Where the settings are refused the file isn't touched.
@@ -408,6 +417,8 @@ fn new_store_in_file<R: AllocGlobal + Files>(
     path: &str,
     settings: Settings,
 ) -> Result<Store<FileDisk<R::File>>, Ending>
+where
+    R::File: LockFile,
     ensures opens { (file : Bytes) → Opens ⟦<FileDisk<R::File> as Disk>⟧.view (new_start settings file) result }
     ensures fine { IfOk result (λ store. store.has_failed ≡ false) }
 {
@@ -418,22 +429,44 @@ fn new_store_in_file<R: AllocGlobal + Files>(
     }
 }
 
-// The store that the file holds. Nothing is written.
+// The store that the disk holds, which is settled first: an earlier program may have ended between its write and its sync, and
+// all that this session does stands on what it reads. Nothing is written.
+fn store_found<R: AllocGlobal + Threads + Sync, D: Disk + Drop>(
+    rt: &R,
+    crew: Crew,
+    disk: D,
+) -> Result<Store<D>, Ending>
+    requires crew { IsTrue (is_crew crew) }
+    ensures opens { (file : Bytes) × (IsTrue (D.view disk).is_honest → file ≡ (D.view disk).seen) × Opens D.view (found_start file) result }
+    ensures settled { IfOk result (λ store. IsTrue (D.view store.disk).is_honest → IsSettled (D.view store.disk)) }
+    ensures fine { IfOk result (λ store. store.has_failed ≡ false) }
+{
+    let mut disk = disk;
+    if let Err(_failed) = disk.sync() {
+        return Err(Ending::Device);
+    }
+    match Store::recover(rt, rt.alloc(), disk, crew) {
+        Ok(store) => Ok(store),
+        Err(refused) => Err(store_fault(refused.0)),
+    }
+}
+
+// The store that the file holds.
 fn store_in_file<R: AllocGlobal + Threads + Sync + Files>(
     rt: &R,
     crew: Crew,
     path: &str,
+    writes: bool,
 ) -> Result<Store<FileDisk<R::File>>, Ending>
+where
+    R::File: LockFile,
     requires crew { IsTrue (is_crew crew) }
     ensures opens { (file : Bytes) × Opens ⟦<FileDisk<R::File> as Disk>⟧.view (found_start file) result }
     ensures fine { IfOk result (λ store. store.has_failed ≡ false) }
 {
-    let Ok(disk) = old_disk(rt, path) else {
-        return Err(Ending::Device);
-    };
-    match Store::recover(rt, rt.alloc(), disk, crew) {
-        Ok(store) => Ok(store),
-        Err(refused) => Err(store_fault(refused.0)),
+    match old_disk(rt, path, writes) {
+        Ok(disk) => store_found(rt, crew, disk),
+        Err(_) => Err(Ending::Device),
     }
 }
 
@@ -455,22 +488,49 @@ fn run_opened<R: AllocGlobal + Threads + Sync, D: Disk + Drop, O: Write>(
     flush(done, out)
 }
 
+// Asks the output whether it is there, since a file that is opened while it is closed would get its descriptor, and with
+// that the answers. A call that was interrupted was begun.
+fn ask<O: Write>(out: &mut O) -> Result<(), Ending>
+    ensures bytes { Appends (O.contents out.old) (O.contents out.new) [] }
+    ensures device { IsOkUnless result Ending.Device }
+{
+    match out.write(&[]) {
+        Ok(_) => Ok(()),
+        Err(error) if error.kind() == ErrorKind::Interrupted => Ok(()),
+        Err(_) => Err(Ending::Device),
+    }
+}
+
+// Whether one of the orders writes to the disk of its store.
+fn has_writing(orders: &[Order]) -> bool
+    ensures { result ≡ list_any writes orders.now }
+{
+    orders.iter().any(|order| order.writes())
+}
+
 /// Reads the batch file that `input` holds, and has it run by the crew on the store that is told: a new one in memory, or in a
 /// file that is made anew; or the one that the file holds. The answers go to `out`, in lines, and are the same for every
 /// crew. Where all is done, or a line is bad or there is no store (nothing is run then), or the store refuses an order, all
 /// answers stand there. Where memory is refused, some first lines of them do; where a device fails, some first bytes. A bad
-/// line goes before a crew out of range, and that before settings that are refused and before a fault of the file; and a
-/// fault of the output goes before one that was found earlier. A file of which no store is made, or that can't be opened,
-/// stays as it was.
+/// line goes before an output that is closed, that before a crew out of range, and that before settings that are refused and before
+/// a fault of the file; and a fault of the output goes before one that was found earlier.
+///
+/// Where an order is a flush or a clean, or the file is made anew, the session holds it alone, and else it shares it and only reads; a
+/// lock that is refused is a fault of the file. A file in which no store is found, or that can't be opened or locked, stays as
+/// it was. One that can't be made anew is left as `FileDisk::of_zeros` says; or, where only the writes of a new store failed, with its
+/// new length, and with zeros but for what was written of them.
 pub fn run<R: AllocGlobal + Threads + Sync + Files, I: Read, O: Write>(
     rt: &R,
     told: &Options,
     input: &mut I,
     out: &mut O,
 ) -> Result<(), Ending>
+where
+    R::File: LockFile,
     ensures { Answers (told_of told.now) (I.remaining input.old) (O.contents out.old) (O.contents out.new) result }
 {
     let orders = read_orders(rt.alloc(), input)?;
+    ask(out)?;
     let crew = told.crew;
     crew.check()?;
     match &told.disk {
@@ -482,7 +542,10 @@ pub fn run<R: AllocGlobal + Threads + Sync + Files, I: Read, O: Write>(
             let opened = new_store_in_file(rt, path, told.settings);
             run_opened(rt, crew, opened, &orders, out)
         }
-        Some(path) => run_opened(rt, crew, store_in_file(rt, crew, path), &orders, out),
+        Some(path) => {
+            let opened = store_in_file(rt, crew, path, has_writing(&orders));
+            run_opened(rt, crew, opened, &orders, out)
+        }
     }
 }
 
@@ -515,6 +578,8 @@ fn obey<R: AllocGlobal + Threads + Sync + Files, I: Read, O: Write>(
     input: &mut I,
     out: &mut O,
 ) -> Result<(), Ending>
+where
+    R::File: LockFile,
     ensures { EndsBy (map string_bytes words.now) (I.remaining input.old) (O.contents out.old) (O.contents out.new) (input.new ≡ input.old) (out.new ≡ out.old) result }
 {
     match options(rt.alloc(), words) {
@@ -580,7 +645,8 @@ pub fn unread_words<E: Write>(error: io::Error, err: &mut E) -> u8
 /// - 2: the words are refused. Nothing was read.
 /// - 3: a line of the batch file is bad. Nothing was run, and no file was opened.
 /// - 4: a fault. The answers to what was run before it stand in `out`, or some first of them where memory was refused
-///   or a device failed. Where that is a crew out of range, nothing was run, and no file was opened.
+///   or a device failed. Where that is an output that is closed or a crew out of range, nothing was run, and no file was opened.
+///   Its line is written when the file is closed.
 pub fn session<R: AllocGlobal + Threads + Sync + Files, I: Read, O: Write, E: Write>(
     rt: &R,
     words: &[String],
@@ -588,6 +654,8 @@ pub fn session<R: AllocGlobal + Threads + Sync + Files, I: Read, O: Write, E: Wr
     out: &mut O,
     err: &mut E,
 ) -> u8
+where
+    R::File: LockFile,
     ensures status { (result ≡ 0) ⊎ (result ≡ 2) ⊎ (result ≡ 3) ⊎ (result ≡ 4) }
 
     // Words that are refused make it 2, and nothing else does. Only for want of memory they make it 4.

@@ -3,8 +3,10 @@ mod files;
 
 use crate::batch_file::{TextFault, parse};
 use crate::line::Why;
+use crate::lock_file::LockFile;
 use crate::program::run_program;
 use crate::session::{session, unread_words};
+use crate::tests::files::{Faults, Faulty};
 use bstr::ByteSlice;
 use std::alloc::{AllocError, Allocator, Global};
 use std::env::FillError;
@@ -22,7 +24,10 @@ fn run_plain<R: AllocGlobal + Threads + Sync + Files, I: Read, O: Write, E: Writ
     input: &mut I,
     out: &mut O,
     err: &mut E,
-) -> u8 {
+) -> u8
+where
+    R::File: LockFile,
+{
     session(rt, &[], input, out, err)
 }
 
@@ -34,7 +39,10 @@ fn check<R: AllocGlobal + Abort + Threads + Sync + Files>(
     status: u8,
     out: &[u8],
     err: &[u8],
-) {
+)
+where
+    R::File: LockFile,
+{
     let mut input = input;
     let mut written = Vec::new(rt.alloc());
     let mut told = Vec::new(rt.alloc());
@@ -103,7 +111,10 @@ fn check_behind_puts<R: AllocGlobal + Abort + Threads + Sync + Files>(
     rt: &R,
     lines: &[u8],
     printed: &[u8],
-) -> Result<(), Fail> {
+) -> Result<(), Fail>
+where
+    R::File: LockFile,
+{
     let alloc = rt.alloc();
     let words = small_store(alloc)?;
     let mut input = SEVENTEEN_PUTS.to_vec(alloc)?;
@@ -260,8 +271,8 @@ fn words_are_refused(rt: HostRuntime) -> Result<(), Fail> {
     Ok(())
 }
 
-// What the help has to say: each kind of line, what a segment has to hold, the ranges of a crew, and the exit statuses.
-const HELP: [&str; 20] = [
+// What the help has to say: each kind of line, what a segment has to hold, the ranges of a crew, who holds a file, and the exit statuses.
+const HELP: [&str; 21] = [
     "put K V",
     "add K V",
     "get K",
@@ -279,6 +290,7 @@ const HELP: [&str; 20] = [
     "the work, 1 to 64 ",
     "--grain <N>",
     "at a time, 1 to 65535 ",
+    "holds its file alone",
     "2  The words",
     "3  A line",
     "4  A fault",
@@ -300,11 +312,12 @@ fn help_is_printed(rt: HostRuntime) -> Result<(), Fail> {
     Ok(())
 }
 
-// A runtime whose command line has one word behind the program's name, which is `--help`.
+// A runtime whose command line has one word behind the program's name, which is `--help`, and whose files fail so.
 #[derive(Drop)]
 struct OneWord<'a, R> {
     rt: R,
     word: &'a [u8],
+    faults: &'a Faults,
 }
 
 impl<R: Threads> Threads for OneWord<'_, R> {}
@@ -340,14 +353,18 @@ impl<R> Env for OneWord<'_, R> {
     }
 }
 
-// It has no files.
-impl<R> Files for OneWord<'_, R> {
-    type File = Failing<ByBytes<Cursor<Vec<u8>>>>;
+// Files alone can be opened.
+impl<'a, R: Files> Files for OneWord<'a, R> {
+    type File = Faulty<'a, R::File>;
 
     type Dir = Cursor<Vec<u8>>;
 
-    fn open_file(&self, _how: &OpenOptions, _path: &str) -> io::Result<Self::File> {
-        Err(io::Error::from(ErrorKind::Unsupported))
+    fn open_file(&self, how: &OpenOptions, path: &str) -> io::Result<Faulty<'a, R::File>> {
+        self.faults.open(how.asks_write())?;
+        Ok(Faulty {
+            file: self.rt.open_file(how, path)?,
+            faults: self.faults,
+        })
     }
 
     fn open_dir(&self, _path: &str) -> io::Result<Self::Dir> {
@@ -388,17 +405,25 @@ impl<R> Files for OneWord<'_, R> {
 }
 
 // Asserts how the program ends with this word on its command line.
-fn check_program<R: AllocGlobal + Abort + Threads + Sync>(
+fn check_program<R: AllocGlobal + Abort + Threads + Sync + Files>(
     rt: &R,
     word: &[u8],
     status: u8,
     out: &[u8],
     err: &[u8],
-) {
+)
+where
+    R::File: LockFile,
+{
     let mut input = b"put a 1\ngo\nput ab 1\n".as_slice();
     let mut written = Vec::new(rt.alloc());
     let mut told = Vec::new(rt.alloc());
-    let got = run_program(&OneWord { rt, word }, &mut input, &mut written, &mut told);
+    let system = OneWord {
+        rt,
+        word,
+        faults: &Faults::none(),
+    };
+    let got = run_program(&system, &mut input, &mut written, &mut told);
     assert_eq!(rt; told.as_slice(), err);
     assert_eq!(rt; written.as_slice(), out);
     assert_eq!(rt; got, status);
@@ -555,7 +580,10 @@ fn check_device<R: AllocGlobal + Abort + Threads + Sync + Files>(
     reads: usize,
     writes: usize,
     out: &[u8],
-) {
+)
+where
+    R::File: LockFile,
+{
     let mut input = Failing {
         calls: reads,
         faults: usize::MAX,
@@ -582,7 +610,10 @@ fn check_one_fault<R: AllocGlobal + Abort + Threads + Sync + Files>(
     calls: usize,
     status: u8,
     out: &[u8],
-) {
+)
+where
+    R::File: LockFile,
+{
     let mut input = b"put a 1\ngo\nget a\n".as_slice();
     let mut written = Failing {
         calls,
@@ -600,8 +631,10 @@ fn check_one_fault<R: AllocGlobal + Abort + Threads + Sync + Files>(
 #[test]
 fn the_output_fails_once(rt: HostRuntime) {
     check_one_fault(&rt, ErrorKind::Other, 0, 4, b"");
-    check_one_fault(&rt, ErrorKind::Other, 1, 4, b"new\n");
-    check_one_fault(&rt, ErrorKind::Interrupted, 1, 0, b"new\nvalue 1\n");
+    check_one_fault(&rt, ErrorKind::Other, 1, 4, b"");
+    check_one_fault(&rt, ErrorKind::Other, 2, 4, b"new\n");
+    check_one_fault(&rt, ErrorKind::Interrupted, 0, 0, b"new\nvalue 1\n");
+    check_one_fault(&rt, ErrorKind::Interrupted, 2, 0, b"new\nvalue 1\n");
 }
 
 // Asserts what is told of a bad line where the first so many writes to standard error fail so.
@@ -610,7 +643,10 @@ fn check_told<R: AllocGlobal + Abort + Threads + Sync + Files>(
     kind: ErrorKind,
     faults: usize,
     err: &[u8],
-) {
+)
+where
+    R::File: LockFile,
+{
     let mut input = b"frob\n".as_slice();
     let mut written = Vec::new(rt.alloc());
     let mut told = Failing {
@@ -641,14 +677,17 @@ fn the_input_fails(rt: HostRuntime) {
 #[test]
 fn the_output_fails(rt: HostRuntime) {
     let input = b"put a 1\ngo\nget a\n";
+    // The first call asks whether it is there, also where nothing is to be written.
+    check_device(&rt, b"", 9, 0, b"");
     check_device(&rt, input, 9, 0, b"");
-    check_device(&rt, input, 9, 1, b"new\n");
+    check_device(&rt, input, 9, 1, b"");
+    check_device(&rt, input, 9, 2, b"new\n");
     // The flush at the end.
-    check_device(&rt, input, 9, 2, b"new\nvalue 1\n");
+    check_device(&rt, input, 9, 3, b"new\nvalue 1\n");
     // The fault of the output goes before one that was found earlier.
     let input = b"put a 1\ngo\n\
         get 01234567890123456789012345678901234567890123456789012345678901234\n";
-    check_device(&rt, input, 9, 1, b"new\n");
+    check_device(&rt, input, 9, 2, b"new\n");
 }
 
 // A small session in memory of its own. Run with each allocation refused in turn, it answers as it should or

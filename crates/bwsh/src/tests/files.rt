@@ -1,21 +1,69 @@
 //! Sessions on stores in files, and disks over files.
-use super::{ByBytes, CLEANED, CLEANED_OUT, Failing, check, push_words, words_of};
+use super::{CLEANED, CLEANED_OUT, OneWord, check, push_words, words_of};
+use crate::batch_file::{Order, parse};
 use crate::file_disk::FileDisk;
+use crate::lock_file::LockFile;
 use crate::options::Options;
-use crate::session::run;
-use crew::Crew;
-use engine::Disk;
+use crate::session::{run, session};
+use bstr::ByteSlice;
+use crew::{Crew, NoGate};
+use engine::{Disk, MemDisk, Step, Store};
 use keys::Settings;
-use std::fs::{Metadata, OpenFile};
-use std::io::{Cursor, ErrorKind, Seek, SeekFrom};
+use std::alloc::Global;
+use std::fs::{File, Metadata, OpenFile};
+use std::io::{ErrorKind, Read, Seek, SeekFrom, Write};
 use std::process::Abort;
 use std::rt::Files;
+use std::sync::atomic::{AtomicU64, Ordering};
 use std::test::Fail;
 use std::thread::Threads;
 use std::{env, fs, io};
 
-// Asserts how these lines are run on the store of this file. It is made anew with pages of so many entries; or it is the one
-// that the file holds, with settings on the command line that would be refused. Two workers share the work.
+const SETTINGS: Settings = Settings {
+    fan: 4,
+    chain: 2,
+    max_key: 16,
+    max_value: 16,
+    seg_size: 256,
+    segments: 4,
+};
+
+// Two workers share the work.
+const CREW: Crew = Crew {
+    workers: 2,
+    grain: 1,
+};
+
+// What these lines print on the store of this file, and then how they end. It is made anew with pages of this many entries; or it is
+// the one that the file holds, with settings on the command line that would be refused.
+fn answered<R: AllocGlobal + Threads + Sync + Files>(
+    rt: &R,
+    path: &str,
+    fan: Option<u32>,
+    input: &[u8],
+) -> Result<Vec<u8>, Fail>
+where
+    R::File: LockFile,
+{
+    let alloc = rt.alloc();
+    let told = Options {
+        settings: Settings {
+            fan: fan.unwrap_or(65),
+            ..SETTINGS
+        },
+        crew: CREW,
+        disk: Some(String::from_str(alloc, path)?),
+        create: fan.is_some(),
+    };
+    let mut input = input;
+    let mut written = Vec::new(alloc);
+    if let Err(ending) = run(rt, &told, &mut input, &mut written) {
+        write!(written, "{ending}")?;
+    }
+    Ok(written)
+}
+
+// Asserts what these lines print so, and how they end.
 fn check_in_file<R: AllocGlobal + Abort + Threads + Sync + Files>(
     rt: &R,
     path: &str,
@@ -23,32 +71,14 @@ fn check_in_file<R: AllocGlobal + Abort + Threads + Sync + Files>(
     input: &[u8],
     out: &[u8],
     end: &str,
-) -> Result<(), Fail> {
-    let alloc = rt.alloc();
-    let told = Options {
-        settings: Settings {
-            fan: fan.unwrap_or(65),
-            chain: 2,
-            max_key: 16,
-            max_value: 16,
-            seg_size: 256,
-            segments: 4,
-        },
-        crew: Crew {
-            workers: 2,
-            grain: 1,
-        },
-        disk: Some(String::from_str(alloc, path)?),
-        create: fan.is_some(),
-    };
-    let mut input = input;
-    let mut written = Vec::new(alloc);
-    let text = match run(rt, &told, &mut input, &mut written) {
-        Ok(()) => String::new(alloc),
-        Err(ending) => format!(in alloc; "{ending}")?,
-    };
-    assert_eq!(rt; text.as_str(), end);
-    assert_eq!(rt; written.as_slice(), out);
+) -> Result<(), Fail>
+where
+    R::File: LockFile,
+{
+    let mut right = out.to_vec(rt.alloc())?;
+    right.extend_from_slice(end.as_bytes())?;
+    let got = answered(rt, path, fan, input)?;
+    assert_eq!(rt; got.as_slice(), right.as_slice());
     Ok(())
 }
 
@@ -109,7 +139,10 @@ fn check_refused_crew<R: AllocGlobal + Abort + Threads + Sync + Files>(
     rt: &R,
     crew: &str,
     disk: &str,
-) -> Result<(), Fail> {
+) -> Result<(), Fail>
+where
+    R::File: LockFile,
+{
     let alloc = rt.alloc();
     let mut words = words_of(alloc, crew)?;
     check(rt, &words, b"put a 1\n", 4, b"", b"fault 5 BadCrew\n");
@@ -164,60 +197,509 @@ fn a_file_holds_no_store(rt: HostRuntime) -> Result<(), Fail> {
     Ok(())
 }
 
-impl<S: Seek> Seek for Failing<S> {
-    fn seek(&mut self, to: SeekFrom) -> io::Result<u64> {
-        self.stream.seek(to)
-    }
+// Lines that flush or clean, by the number of their example, for a file that held this many bytes of 0xff and is made anew.
+struct ByteRow {
+    name: &'static str,
+    held: usize,
+    input: &'static [u8],
 }
 
-impl<S: Seek> Seek for ByBytes<S> {
-    fn seek(&mut self, to: SeekFrom) -> io::Result<u64> {
-        self.stream.seek(to)
-    }
+static BYTE_ROWS: [ByteRow; 6] = [
+    ByteRow {
+        name: "1",
+        held: 8,
+        input: b"go\nflush\n",
+    },
+    ByteRow {
+        name: "4, 9, 10",
+        held: 1_536,
+        input: b"put a 1\nput b 2\nput c 3\nput d 4\nput e 5\nflush\n\
+            del a\ndel b\ndel c\ndel d\ndel e\ngo\nput a 1\ngo\ndel a\nflush\n\
+            put a 1\nput b 2\nput c 3\nput d 4\nput e 5\nflush\n",
+    },
+    ByteRow {
+        name: "5, 13",
+        held: 1_535,
+        input: b"put a 1\nput b 1\nput c 1\nput d 1\nput e 1\nput f 1\nput g 1\nput h 1\nput i 1\n\
+            put j 1\nput k 1\nput l 1\nput m 1\nput n 1\nput o 1\nput p 1\nput q 1\nflush\n\
+            del d\ndel e\ndel f\ngo\nput d 1\ngo\ndel d\nflush\n",
+    },
+    ByteRow {
+        name: "12",
+        held: 1_537,
+        input: b"put a 1\nput b 2\nput c 3\nput d 4\nput e 5\ngo\nput a 9\nflush\n",
+    },
+    ByteRow {
+        name: "14",
+        held: 4_000,
+        input: b"put a 123456789\nput b 123456789\nput c 123456789\nflush\n\
+            put d123456789abcdef 0123456789abcdef\nput e123456789abcdef 0123456789abcdef\n\
+            put f123456789abcdef 0123456789abcdef\nput g123456789abcdef 0123456789abcdef\nflush\nclean\n",
+    },
+    ByteRow {
+        name: "16",
+        held: 0,
+        input: CLEANED,
+    },
+];
+
+// Plays an order on a store in memory, and says whether it was answered.
+fn is_played<R: Threads + Sync>(rt: &R, store: &mut Store<MemDisk<Global>>, order: &Order) -> bool {
+    let step = match order {
+        Order::Batch(batch) => Step::Batch(batch.commands()),
+        Order::Flush => Step::Flush,
+        Order::Clean => Step::Clean,
+        Order::Verify => return true,
+    };
+    store.play(rt, CREW, &NoGate, &[step]).is_ok()
 }
 
-impl<S> OpenFile for Failing<S> {
-    fn metadata(&self) -> io::Result<Metadata> {
+// The bytes of a disk in memory after the orders of these lines, up to the first that is refused.
+fn bytes_in_memory<R: AllocGlobal + Threads + Sync>(rt: &R, input: &[u8]) -> Result<Vec<u8>, Fail> {
+    let alloc = rt.alloc();
+    let orders = parse(alloc, input)?;
+    let disk = MemDisk::new(alloc, 1_536)?;
+    let mut store = Store::create(alloc, disk, SETTINGS).map_err(|refused| refused.0)?;
+    for order in &orders {
+        if !is_played(rt, &mut store, order) {
+            break;
+        }
+    }
+    Ok(store.disk().bytes().to_vec(alloc)?)
+}
+
+// Asserts that a file has the bytes of a disk in memory after the same lines.
+fn check_bytes<R: AllocGlobal + Abort + Threads + Sync + Files>(
+    rt: &R,
+    path: &str,
+    row: &'static ByteRow,
+) -> Result<(), Fail>
+where
+    R::File: LockFile,
+{
+    let held = b"\xff".as_slice().repeatn(rt.alloc(), row.held)?;
+    fs::write(rt, path, &held)?;
+    let _answers = answered(rt, path, Some(4), row.input)?;
+    let right = bytes_in_memory(rt, row.input)?;
+    assert!(rt;
+        fs::read(rt, path)?.as_slice() == right.as_slice(),
+        "{}",
+        row.name
+    );
+    Ok(())
+}
+
+#[test]
+fn a_file_has_the_bytes_of_a_disk_in_memory(rt: HostRuntime) -> Result<(), Fail> {
+    let file = env::temp_dir(&rt)?.join(rt.alloc(), "bwsh_bytes")?;
+    for row in &BYTE_ROWS {
+        check_bytes(&rt, file.as_str(), row)?;
+    }
+    fs::remove_file(&rt, file.as_str())?;
+    Ok(())
+}
+
+// A call of a file, or of what has the files.
+#[derive(Clone, Copy, PartialEq, Eq)]
+enum Call {
+    None,
+    OpenToWrite,
+    Hold,
+    Share,
+    Metadata,
+    SetLen,
+    Read,
+    Write,
+    Sync,
+}
+
+// Of this kind of calls those from a number up to another fail, counted from 0.
+#[derive(Drop)]
+pub(super) struct Faults {
+    call: Call,
+    good: u64,
+    end: u64,
+    kind: ErrorKind,
+    made: AtomicU64,
+}
+
+impl Faults {
+    fn of(call: Call, good: u64, end: u64, kind: ErrorKind) -> Faults {
+        Faults {
+            call,
+            good,
+            end,
+            kind,
+            made: AtomicU64::new(0),
+        }
+    }
+
+    // Those of which none fails.
+    pub(super) fn none() -> Faults {
+        Faults::of(Call::None, 0, 0, ErrorKind::Other)
+    }
+
+    // Makes a call.
+    fn call(&self, call: Call) -> io::Result<()> {
+        if call != self.call {
+            return Ok(());
+        }
+        let made = self.made.fetch_add(1, Ordering::SeqCst);
+        if made < self.good || made >= self.end {
+            return Ok(());
+        }
         Err(io::Error::from(self.kind))
     }
 
-    fn set_len(&self, _size: u64) -> io::Result<()> {
-        Ok(())
+    // Makes the call that opens a file.
+    pub(super) fn open(&self, writes: bool) -> io::Result<()> {
+        if writes {
+            self.call(Call::OpenToWrite)
+        } else {
+            Ok(())
+        }
+    }
+}
+
+// A file whose calls fail so, and which gives and takes a byte at a time.
+#[derive(Drop)]
+pub(super) struct Faulty<'a, F> {
+    pub(super) file: F,
+    pub(super) faults: &'a Faults,
+}
+
+impl<F: Read> Read for Faulty<'_, F> {
+    fn read(&mut self, buf: &mut [u8]) -> io::Result<usize> {
+        self.faults.call(Call::Read)?;
+        let end = buf.len().min(1);
+        self.file.read(&mut buf[..end])
+    }
+}
+
+impl<F: Write> Write for Faulty<'_, F> {
+    fn write(&mut self, buf: &[u8]) -> io::Result<usize> {
+        self.faults.call(Call::Write)?;
+        self.file.write(&buf[..buf.len().min(1)])
     }
 
-    fn sync_all(&self) -> io::Result<()> {
-        Ok(())
-    }
-
-    fn sync_data(&self) -> io::Result<()> {
+    fn flush(&mut self) -> io::Result<()> {
         Ok(())
     }
 }
 
-// Asserts how many calls of a disk fail that is over an empty file, which takes and gives a byte at a time, and whose third
-// call fails so. Four bytes are written and read, and then some behind the file's end.
-fn check_disk<R: AllocGlobal + Abort>(rt: &R, kind: ErrorKind, failures: u32) -> Result<(), Fail> {
-    let file = Failing {
-        calls: 2,
-        faults: 1,
-        kind,
-        stream: ByBytes {
-            stream: Cursor::new(Vec::new(rt.alloc())),
-        },
+impl<F: Seek> Seek for Faulty<'_, F> {
+    fn seek(&mut self, to: SeekFrom) -> io::Result<u64> {
+        self.file.seek(to)
+    }
+}
+
+impl<F: OpenFile> OpenFile for Faulty<'_, F> {
+    fn metadata(&self) -> io::Result<Metadata> {
+        self.faults.call(Call::Metadata)?;
+        self.file.metadata()
+    }
+
+    fn set_len(&self, size: u64) -> io::Result<()> {
+        self.faults.call(Call::SetLen)?;
+        self.file.set_len(size)
+    }
+
+    fn sync_all(&self) -> io::Result<()> {
+        Err(io::Error::from(ErrorKind::Unsupported))
+    }
+
+    fn sync_data(&self) -> io::Result<()> {
+        self.faults.call(Call::Sync)?;
+        self.file.sync_data()
+    }
+}
+
+impl<F: LockFile> LockFile for Faulty<'_, F> {
+    fn hold(&self) -> io::Result<()> {
+        self.faults.call(Call::Hold)?;
+        self.file.hold()
+    }
+
+    fn share(&self) -> io::Result<()> {
+        self.faults.call(Call::Share)?;
+        self.file.share()
+    }
+}
+
+// Asserts how many calls of a disk fail that is over a new file of 16 bytes, of whose calls of this kind the third fails so. Four bytes
+// are written and read, and then some after the end of the file, which was cut.
+fn check_disk<R: AllocGlobal + Abort + Files>(
+    rt: &R,
+    path: &str,
+    call: Call,
+    kind: ErrorKind,
+    failures: u64,
+) -> Result<(), Fail>
+where
+    R::File: LockFile,
+{
+    let faults = Faults::of(call, 2, 3, kind);
+    let file = Faulty {
+        file: File::create_new(rt, path)?,
+        faults: &faults,
     };
     let mut disk = FileDisk::of_zeros(file, 16)?;
     let mut back = [0; 4];
     let is_done = disk.write_at(3, b"abcd").is_ok() && disk.read_at(3, &mut back).is_ok();
-    assert_eq!(rt; disk.failures(), u64::from(failures));
+    assert_eq!(rt; disk.failures(), failures);
     assert!(rt; !is_done || back == *b"abcd");
+    File::options().write(true).open(rt, path)?.set_len(7)?;
     assert!(rt; disk.read_at(9, &mut back).is_err());
-    assert_eq!(rt; disk.failures(), u64::from(failures) + 1);
+    assert_eq!(rt; disk.failures(), failures + 1);
+    fs::remove_file(rt, path)?;
     Ok(())
 }
 
 // A call that was interrupted is made again, and one that was cut short goes on.
 #[test]
 fn a_disk_over_a_file(rt: HostRuntime) -> Result<(), Fail> {
-    check_disk(&rt, ErrorKind::Interrupted, 0)?;
-    check_disk(&rt, ErrorKind::Other, 1)
+    let file = env::temp_dir(&rt)?.join(rt.alloc(), "bwsh_disk")?;
+    let path = file.as_str();
+    let _ = fs::remove_file(&rt, path);
+    for call in [Call::Write, Call::Read] {
+        check_disk(&rt, path, call, ErrorKind::Interrupted, 0)?;
+        check_disk(&rt, path, call, ErrorKind::Other, 1)?;
+    }
+    Ok(())
+}
+
+const READS: &str = "get a\nput b 2\nverify\n";
+
+const ANSWERS: &str = "value 1\nnew\nok 1 1 2\n";
+
+const WRITES: &str = "flush\n";
+
+const CLEANS: &str = "clean\n";
+
+const DEVICE: &str = "fault 9 Device\n";
+
+// Asserts what these lines answer on a file in which `a` stands, where such calls fail; and what is left of the file: this many first
+// bytes as they were, and zeros up to this length.
+fn check_faults<R: AllocGlobal + Abort + Threads + Sync + Files>(
+    rt: &R,
+    path: &str,
+    faults: &Faults,
+    fan: Option<u32>,
+    lines: &(&str, &str),
+    left: (usize, usize),
+) -> Result<(), Fail>
+where
+    R::File: LockFile,
+{
+    check_in_file(
+        rt,
+        path,
+        Some(4),
+        b"put a 1\nflush\n",
+        b"new\nflushed 2\n",
+        "",
+    )?;
+    let old = fs::read(rt, path)?;
+    let system = OneWord {
+        rt,
+        word: b"",
+        faults,
+    };
+    let got = answered(&system, path, fan, lines.0.as_bytes())?;
+    assert_eq!(rt; got.as_slice(), lines.1.as_bytes());
+    let now = fs::read(rt, path)?;
+    assert_eq!(rt; now.len(), left.1);
+    assert!(rt; now.starts_with(&old[..left.0]));
+    assert!(rt; now[left.0..].iter().all(|byte| *byte == 0));
+    Ok(())
+}
+
+// Where a file is made anew: which calls fail, after how many, and what is left.
+static ANEW: [(Call, u64, (usize, usize)); 7] = [
+    (Call::OpenToWrite, 0, (1_536, 1_536)),
+    (Call::Hold, 0, (1_536, 1_536)),
+    (Call::Metadata, 0, (1_536, 1_536)),
+    (Call::SetLen, 0, (1_536, 1_536)),
+    (Call::SetLen, 1, (1_536, 1_537)),
+    (Call::SetLen, 2, (0, 0)),
+    (Call::Write, 0, (0, 1_536)),
+];
+
+// A file in which zeros follow a store holds that store.
+#[test]
+fn making_anew_fails(rt: HostRuntime) -> Result<(), Fail> {
+    let file = env::temp_dir(&rt)?.join(rt.alloc(), "bwsh_anew")?;
+    let path = file.as_str();
+    for (call, good, left) in &ANEW {
+        let faults = Faults::of(*call, *good, u64::MAX, ErrorKind::Other);
+        check_faults(&rt, path, &faults, Some(4), &("", DEVICE), *left)?;
+        if left.0 > 0 {
+            check_in_file(&rt, path, None, b"get a\n", b"value 1\n", "")?;
+        }
+    }
+    fs::remove_file(&rt, path)?;
+    Ok(())
+}
+
+// On a file that there is: which calls fail, how, on which lines, and what is answered. Sessions that only read don't write, hold or
+// open the file for it, and need no sync where there is none; all others need their first one too.
+static FOUND: [(Call, ErrorKind, (&str, &str)); 17] = [
+    (Call::OpenToWrite, ErrorKind::Other, (READS, ANSWERS)),
+    (Call::Hold, ErrorKind::Other, (READS, ANSWERS)),
+    (Call::SetLen, ErrorKind::Other, (READS, ANSWERS)),
+    (Call::Write, ErrorKind::Other, (READS, ANSWERS)),
+    (Call::Share, ErrorKind::Other, (READS, DEVICE)),
+    (Call::Read, ErrorKind::Other, (READS, DEVICE)),
+    (Call::Metadata, ErrorKind::Other, (READS, DEVICE)),
+    (Call::Sync, ErrorKind::Other, (READS, DEVICE)),
+    (Call::Sync, ErrorKind::InvalidInput, (READS, ANSWERS)),
+    (Call::Sync, ErrorKind::ReadOnlyFilesystem, (READS, ANSWERS)),
+    (Call::OpenToWrite, ErrorKind::Other, (WRITES, DEVICE)),
+    (Call::OpenToWrite, ErrorKind::Other, (CLEANS, DEVICE)),
+    (Call::Hold, ErrorKind::Other, (WRITES, DEVICE)),
+    (Call::Metadata, ErrorKind::Other, (WRITES, DEVICE)),
+    (Call::Sync, ErrorKind::Other, (WRITES, DEVICE)),
+    (Call::Sync, ErrorKind::InvalidInput, (CLEANS, DEVICE)),
+    (
+        Call::Write,
+        ErrorKind::Other,
+        ("put b 2\nflush\n", "new\nfault 9 Device\n"),
+    ),
+];
+
+#[test]
+fn calls_of_a_file_fail(rt: HostRuntime) -> Result<(), Fail> {
+    let file = env::temp_dir(&rt)?.join(rt.alloc(), "bwsh_failing_calls")?;
+    let path = file.as_str();
+    for (call, kind, lines) in &FOUND {
+        let faults = Faults::of(*call, 0, u64::MAX, *kind);
+        check_faults(&rt, path, &faults, None, lines, (1_536, 1_536))?;
+    }
+    fs::remove_file(&rt, path)?;
+    Ok(())
+}
+
+// How many syncs a session makes of its file, each of which ends it where it fails.
+fn syncs<R: AllocGlobal + Threads + Sync + Files>(
+    rt: &R,
+    path: &str,
+    fan: Option<u32>,
+    input: &[u8],
+) -> Result<u64, Fail>
+where
+    R::File: LockFile,
+{
+    for good in 0..20 {
+        let faults = Faults::of(Call::Sync, good, u64::MAX, ErrorKind::Other);
+        let system = OneWord {
+            rt,
+            word: b"",
+            faults: &faults,
+        };
+        if !answered(&system, path, fan, input)?.ends_with(DEVICE.as_bytes()) {
+            return Ok(good);
+        }
+    }
+    Ok(20)
+}
+
+// An old file is synced before it is read, and a new store once; a flush makes three, or none where there is nothing to write.
+#[test]
+fn syncs_are_counted(rt: HostRuntime) -> Result<(), Fail> {
+    let file = env::temp_dir(&rt)?.join(rt.alloc(), "bwsh_syncs")?;
+    let path = file.as_str();
+    let made = syncs(&rt, path, Some(4), b"")?;
+    assert_eq!(rt; made, 1);
+    let read = syncs(&rt, path, None, b"get a\n")?;
+    assert_eq!(rt; read, 1);
+    let unwritten = syncs(&rt, path, None, b"flush\n")?;
+    assert_eq!(rt; unwritten, 1);
+    let written = syncs(&rt, path, Some(4), b"put a 1\nflush\n")?;
+    assert_eq!(rt; written, 4);
+    fs::remove_file(&rt, path)?;
+    Ok(())
+}
+
+// Asserts how sessions end that read a file, write to it and make it anew, while another has opened and locked it so.
+fn check_locked<R: AllocGlobal + Abort + Threads + Sync + Files>(
+    rt: &R,
+    path: &str,
+    is_held: bool,
+) -> Result<(), Fail>
+where
+    R::File: LockFile,
+{
+    let old = fs::read(rt, path)?;
+    let other = File::open(rt, path)?;
+    let locked = if is_held { other.hold() } else { other.share() };
+    assert!(rt; locked.is_ok());
+    let read = if is_held { DEVICE } else { "missing\n" };
+    check_in_file(rt, path, None, b"get a\n", b"", read)?;
+    check_in_file(rt, path, None, b"put a 1\nflush\n", b"", DEVICE)?;
+    check_in_file(rt, path, None, b"clean\n", b"", DEVICE)?;
+    check_in_file(rt, path, Some(4), b"", b"", DEVICE)?;
+    assert_eq!(rt; fs::read(rt, path)?, old);
+    Ok(())
+}
+
+#[test]
+fn a_file_is_held_or_shared(rt: HostRuntime) -> Result<(), Fail> {
+    let file = env::temp_dir(&rt)?.join(rt.alloc(), "bwsh_locked")?;
+    let path = file.as_str();
+    check_in_file(&rt, path, Some(4), b"", b"", "")?;
+    check_locked(&rt, path, true)?;
+    check_locked(&rt, path, false)?;
+    check_in_file(
+        &rt,
+        path,
+        None,
+        b"put a 1\nflush\n",
+        b"new\nflushed 2\n",
+        "",
+    )?;
+    fs::remove_file(&rt, path)?;
+    Ok(())
+}
+
+// A standard error that notes whether this file is closed while it is written to.
+#[derive(Drop)]
+struct Noting<'a, R> {
+    rt: &'a R,
+    path: &'a str,
+    is_closed: bool,
+}
+
+impl<R: Files> Write for Noting<'_, R>
+where
+    R::File: LockFile,
+{
+    fn write(&mut self, buf: &[u8]) -> io::Result<usize> {
+        self.is_closed = File::open(self.rt, self.path)?.hold().is_ok();
+        Ok(buf.len())
+    }
+
+    fn flush(&mut self) -> io::Result<()> {
+        Ok(())
+    }
+}
+
+// So the line of a fault can't get into the file, which has the descriptor of a standard error that was closed.
+#[test]
+fn a_file_is_closed_before_a_fault_is_written(rt: HostRuntime) -> Result<(), Fail> {
+    let file = env::temp_dir(&rt)?.join(rt.alloc(), "bwsh_closed")?;
+    let path = file.as_str();
+    check_in_file(&rt, path, Some(4), b"", b"", "")?;
+    let mut words = words_of(rt.alloc(), "--disk")?;
+    words.push(String::from_str(rt.alloc(), path)?)?;
+    let mut out = Vec::new(rt.alloc());
+    let mut err = Noting {
+        rt: &rt,
+        path,
+        is_closed: false,
+    };
+    let status = session(&rt, &words, &mut b"clean\n".as_slice(), &mut out, &mut err);
+    assert_eq!(rt; status, 4);
+    assert!(rt; err.is_closed);
+    fs::remove_file(&rt, path)?;
+    Ok(())
 }
