@@ -471,6 +471,15 @@ fn bad_lines(rt: HostRuntime) {
     check_bad(&rt, text, 6, Why::UnknownCommand);
 }
 
+// It answers nothing, so it shows in the orders alone.
+#[test]
+fn an_empty_batch_is_an_order(rt: HostRuntime) {
+    match parse(rt.alloc(), b"go\n\ngo\n") {
+        Ok(orders) => assert_eq!(rt; orders.len(), 2),
+        Err(_fault) => assert!(rt; false),
+    }
+}
+
 #[test]
 fn bad_scans(rt: HostRuntime) {
     check_bad(&rt, b"scan a *\n", 1, Why::WordCount);
@@ -690,8 +699,9 @@ fn the_output_fails(rt: HostRuntime) {
     check_device(&rt, input, 9, 2, b"new\n");
 }
 
-// A small session in memory of its own. Run with each allocation refused in turn, it answers as it should or
-// tells that memory was refused, with answers that are the first of the right ones.
+// A small session in memory of its own. Run with each allocation refused in turn, it answers as it should, or says that
+// memory was refused, or that its disk failed, which found none for its record. The answers are the first of the right ones, each a
+// whole line.
 #[test]
 fn memory_is_refused(rt: HostRuntime) {
     let mut input: &[u8] = b"put %41 1\nget A\nscan % * 9\nverify\ndel A\nget A\n";
@@ -706,9 +716,12 @@ fn memory_is_refused(rt: HostRuntime) {
         assert!(rt; err.starts_with(b"\0"));
     } else {
         assert_eq!(rt; status, 4);
-        assert!(rt; err.starts_with(b"fault 6 NoMemory\n\0"));
-        let answered = out.iter().take_while(|byte| **byte != 0).count();
-        assert!(rt; right.starts_with(&out[..answered]));
+        let is_refused = err.starts_with(b"fault 6 NoMemory\n\0");
+        assert!(rt; is_refused || err.starts_with(b"fault 9 Device\n\0"));
+        let count = out.iter().take_while(|byte| **byte != 0).count();
+        let answers = &out[..count];
+        assert!(rt; right.starts_with(answers));
+        assert!(rt; answers.is_empty() || answers.ends_with(b"\n"));
     }
 }
 
