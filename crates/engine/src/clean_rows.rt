@@ -15,7 +15,7 @@ use crate::outcomes::Outcomes;
 use crate::recovery_rows::{Row as BackRow, comes_back, is_told};
 use crate::step::Step;
 use crate::store::Store;
-use crate::tests::{FIVE_PUTS, SEVENTEEN_PUTS, opened};
+use crate::tests::{FIVE_PUTS, SEVENTEEN_PUTS, Tries, opened};
 use flush_log::{Disk, MemDisk};
 use keys::Fault;
 use std::alloc::Global;
@@ -328,7 +328,10 @@ fn the_cleans_come_out(rt: HostRuntime) {
     for crew in &crews() {
         let mut outcomes = Outcomes::none();
         for row in &ROWS {
-            outcomes.note(comes_out(&rt, *crew, rt.alloc(), row), row.name);
+            outcomes.note(
+                comes_out(&rt, *crew, rt.alloc(), row, Tries::Once),
+                row.name,
+            );
         }
         outcomes.check(&rt, *crew, 10);
     }

@@ -6,7 +6,7 @@ use crate::log_rows::{SHORTEST, play};
 use crate::recovery_rows::{FIRST_STORE, write_opened};
 use crate::store::Store;
 use crate::tests::{S, opened};
-use flush_log::{CrashDisk, Fill};
+use flush_log::{CrashDisk, Disk, Fill};
 use keys::Fault;
 use std::alloc::Global;
 use std::process::Abort;
@@ -149,5 +149,63 @@ fn a_closed_gate_stays_closed_through_two_stops(rt: HostRuntime) -> Result<(), F
             assert!(rt; text.as_str() == told.as_str(), "{text}");
         }
     }
+    Ok(())
+}
+
+pub(crate) const AB_STORE: &str = "head 0, tail 77, number 3; root 0, height 1\n\
+    0 low= log=Upto2 leaf runs=2: a=1 b=2\n\
+    \x20a=1 b=2; 1 pages, height 1, 2 pairs";
+
+// Makes all last that was written, on a disk that had stopped.
+fn settle(disk: &mut CrashDisk<Global>) -> Result<(), Fault> {
+    disk.stop_at(2);
+    disk.sync()?;
+    Ok(())
+}
+
+// The store that comes back after a crash where a flush was stopped in its last sync, the store was opened without a crash, on a disk that
+// was settled first or was not, and its flush was stopped at the call of this number.
+fn store_after_two_stops(
+    rt: &(impl Threads + Sync),
+    alloc: Global,
+    is_settled: bool,
+    call: u64,
+    fill: Fill,
+) -> Result<String, Fault> {
+    let mut text = String::new(alloc);
+    let disk = disk_after(rt, alloc, &["a=1", "flush"])?;
+    let mut disk = play_to_stop(rt, alloc, &mut text, disk, &["b=2", "flush"], 7)?;
+    if is_settled {
+        settle(&mut disk)?;
+    }
+    let disk = play_to_stop(rt, alloc, &mut text, disk, &["c=3", "flush"], call)?;
+    store_back(rt, alloc, &disk, fill)
+}
+
+// Whether the store of the first flush is there on a settled disk; and else whether nothing is, which is noted.
+fn look_after_two_stops(
+    rt: &(impl Threads + Sync),
+    alloc: Global,
+    call: u64,
+    fill: Fill,
+    is_lost: &mut bool,
+) -> Result<bool, Fault> {
+    let settled = store_after_two_stops(rt, alloc, true, call, fill)?;
+    let unsettled = store_after_two_stops(rt, alloc, false, call, fill)?;
+    *is_lost |= unsettled.as_str() == "13 NoSlot";
+    Ok(settled.as_str() == AB_STORE)
+}
+
+// What is promised of crashes begins with a settled disk: who opens one that an earlier process left syncs it first, or may lose all.
+#[test]
+fn a_store_on_a_settled_disk_outlives_two_stops(rt: HostRuntime) -> Result<(), Fail> {
+    let mut is_lost = false;
+    for call in 1..4u64 {
+        for fill in FILLS {
+            let is_there = look_after_two_stops(&rt, rt.alloc(), call, fill, &mut is_lost)?;
+            assert!(rt; is_there, "{call}");
+        }
+    }
+    assert!(rt; is_lost);
     Ok(())
 }

@@ -1,84 +1,118 @@
-//! Batches that several work at once, as gates show that hold pieces; and long runs by a seed, whose answers and bytes are the same for
+//! Batches that several work at once, as a gate shows that holds pieces; and long runs by a seed, whose answers and bytes are the same for
 //! every crew, in whatever order the pieces are drawn.
 use crate::crews::ALONE;
 use crate::drawn_batches::{draw, drawn_command, next_number};
+use crate::held_pieces::{Hold, Holding};
 use crate::store::Store;
 use crate::tests::{FIVE_PUTS, S, SEVENTEEN_PUTS, commands, new_store, opened, write_replies};
 use crew::{Crew, Gate, NoGate};
 use flush_log::MemDisk;
 use keys::{Command, Fault, Settings};
 use std::alloc::{AllocError, Global};
-use std::process::Abort;
-use std::sync::atomic::{AtomicU64, Ordering};
 use std::test::Fail;
 use std::thread;
 use std::thread::Threads;
 
-// Holds the pieces with a number below `held` until so many pieces have been begun. A thread that has waited for too long goes on, and
-// that is noted.
-#[derive(Drop)]
-struct Holding {
-    held: u64,
-    until: u64,
-    begun: AtomicU64,
-    late: AtomicU64,
-}
-
-impl Gate for Holding {
-    fn enter(&self, piece: u64) {
-        self.begun.fetch_add(1, Ordering::SeqCst);
-        if piece >= self.held {
-            return;
-        }
-        for _ in 0..1_000_000 {
-            if self.begun.load(Ordering::SeqCst) >= self.until {
-                return;
-            }
-            thread::yield_now();
-        }
-        self.late.fetch_add(1, Ordering::SeqCst);
-    }
-}
-
-// A batch on a new store that had one batch before it, worked by so many with a grain of 1: how many of its first pieces are held, and
-// until how many were begun; and the replies.
+// A batch on a new store that had one batch before it, worked by this crew; what its gate does and sees; and the replies.
 struct HeldRow {
     name: &'static str,
     before: &'static str,
     batch: &'static str,
-    workers: u32,
-    held: u64,
-    until: u64,
+    crew: Crew,
+    hold: Hold,
     replies: &'static str,
 }
 
-static HELD_ROWS: [HeldRow; 3] = [
+const TWO: Crew = Crew {
+    workers: 2,
+    grain: 1,
+};
+
+const THREE: Crew = Crew {
+    workers: 3,
+    grain: 1,
+};
+
+// Each of three pieces until all three are entered.
+const ALL_THREE: Hold = Hold {
+    held: 3,
+    until: 3,
+    rounds: 1,
+    entered: [1, 1, 1, 0, 0],
+};
+
+static HELD_ROWS: [HeldRow; 6] = [
     HeldRow {
         name: "22",
         before: FIVE_PUTS,
         batch: "a=9 e=9",
-        workers: 2,
-        held: 1,
-        until: 2,
+        crew: TWO,
+        hold: Hold {
+            held: 1,
+            until: 2,
+            rounds: 1,
+            entered: [1, 1, 0, 0, 0],
+        },
         replies: "RR",
     },
     HeldRow {
         name: "9.1",
         before: SEVENTEEN_PUTS,
-        batch: "a=2 d=2 g=2",
-        workers: 3,
-        held: 3,
-        until: 3,
-        replies: "RRR",
+        batch: "a=2 +d=2 -g",
+        crew: THREE,
+        hold: ALL_THREE,
+        replies: "RED",
+    },
+    HeldRow {
+        name: "9.1, of leaves that are only read",
+        before: SEVENTEEN_PUTS,
+        batch: "d z [k,*,2",
+        crew: THREE,
+        hold: ALL_THREE,
+        replies: "1M[ k=1 l=1]",
     },
     HeldRow {
         name: "10.2",
         before: SEVENTEEN_PUTS,
         batch: "a=2 d=2 g=2 k=2 n=2",
-        workers: 2,
-        held: 1,
-        until: 5,
+        crew: TWO,
+        hold: Hold {
+            held: 1,
+            until: 5,
+            rounds: 1,
+            entered: [1, 1, 1, 1, 1],
+        },
         replies: "RRRRR",
+    },
+    HeldRow {
+        name: "10.2, with a grain of two",
+        before: SEVENTEEN_PUTS,
+        batch: "a=2 d=2 g=2 k=2 n=2",
+        crew: Crew {
+            workers: 2,
+            grain: 2,
+        },
+        hold: Hold {
+            held: 1,
+            until: 3,
+            rounds: 1,
+            entered: [1, 1, 1, 0, 0],
+        },
+        replies: "RRRRR",
+    },
+    // Two leaves below different parents are cut: so in a round of the leaves, in one of the groups, and in one of the parents.
+    HeldRow {
+        name: "the rounds of a climb",
+        before: SEVENTEEN_PUTS,
+        batch: "aa=1 ab=1 ac=1 ad=1 ae=1 ga=1 gb=1 gc=1 gd=1 ge=1",
+        crew: TWO,
+        hold: Hold {
+            held: 1,
+            until: 2,
+            rounds: 3,
+            entered: [3, 3, 0, 0, 0],
+        },
+        replies: "NNNNNNNNNN",
     },
 ];
 
@@ -89,33 +123,25 @@ fn held_replies(
     row: &HeldRow,
     gate: &Holding,
 ) -> Result<String, Fault> {
-    let crew = Crew {
-        workers: row.workers,
-        grain: 1,
-    };
     let mut store = new_store(alloc, EIGHT_SEGMENTS)?;
     let before = commands(alloc, row.before)?;
     store.batch(rt, ALONE, &NoGate, &before)?;
     let batch = commands(alloc, row.batch)?;
-    let replies = store.batch(rt, crew, gate, &batch)?;
+    let replies = store.batch(rt, row.crew, gate, &batch)?;
     let mut text = String::new(alloc);
     write_replies(&mut text, &replies)?;
     Ok(text)
 }
 
-// Whether the batch of the row is answered as told, and no piece was held in vain.
+// Whether the batch of the row is answered as told, and its pieces were entered as told.
 fn is_answered(rt: &(impl Threads + Sync), alloc: Global, row: &HeldRow) -> Result<bool, Fault> {
-    let gate = Holding {
-        held: row.held,
-        until: row.until,
-        begun: AtomicU64::new(0),
-        late: AtomicU64::new(0),
-    };
+    let gate = Holding::new(row.hold, row.crew.grain);
     let replies = held_replies(rt, alloc, row, &gate)?;
-    Ok(replies.as_str() == row.replies && gate.late.load(Ordering::SeqCst) == 0)
+    Ok(replies.as_str() == row.replies && gate.is_right())
 }
 
-// A body that works all pieces in the caller's thread, or hands them out beforehand, waits in vain here.
+// A body that works all pieces in the caller's thread, hands them out beforehand, or enters none, one twice or another one is seen here; and
+// a store that hands one of its rounds no gate, or a crew of one.
 #[test]
 fn pieces_are_drawn_by_workers_at_once(rt: HostRuntime) -> Result<(), Fail> {
     for row in &HELD_ROWS {

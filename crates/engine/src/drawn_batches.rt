@@ -1,7 +1,8 @@
 //! Batches that are drawn by a seed, and answer as a map of std does.
 use crate::crews::ALONE;
 use crate::store::Store;
-use crate::tests::{S, answer, new_store, write_answer, write_row};
+use crate::tests::{S, new_store, write_answer, write_row};
+use crew::NoGate;
 use flush_log::MemDisk;
 use keys::{Command, Fault, Key, Reply, Value};
 use std::alloc::{AllocError, Global};
@@ -120,7 +121,7 @@ fn is_answered_alike(
 ) -> Result<bool, AllocError> {
     let mut letters = String::new(alloc);
     let batch = draw_batch(alloc, map, state, puts, &mut letters)?;
-    are_letters(alloc, &letters, answer(rt, ALONE, store, &batch))
+    are_letters(alloc, &letters, store.batch(rt, ALONE, &NoGate, &batch))
 }
 
 // Whether these are the letters of the replies.

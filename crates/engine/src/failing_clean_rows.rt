@@ -106,7 +106,7 @@ fn cleaned(
 }
 
 // The store as it is told once it is opened again.
-fn told_again(
+pub(crate) fn told_again(
     rt: &(impl Threads + Sync),
     alloc: Global,
     store: Store<MemDisk<Global>>,

@@ -2,11 +2,15 @@
 ghost use Rattle.std.specs.Prelude.{◌≡◌, false, length, ⊤};
 ghost use Rattle.flush_log.specs.Disk.{CountsFailure};
 
+use crate::crash_rows::AB_STORE;
 use crate::crews::ALONE;
+use crate::failing_clean_rows::told_again;
+use crate::fault_rows::A_STORE;
 use crate::log_rows::{
     FOUR_LONG_PUTS, PUT_AGAIN, SHORTEST, batch_of, from_place, play, play_at_once,
     store_on_used_disk,
 };
+use crate::recovery_rows::store_after;
 use crate::step::Step;
 use crate::store::Store;
 use crate::tests::{FIVE_PUTS, S, SEVENTEEN_PUTS, opened, write_rows};
@@ -18,13 +22,15 @@ use std::process::Abort;
 use std::test::Fail;
 use std::thread::Threads;
 
-// A disk that keeps a list of its calls, of which the one with this number, counted from 1, fails and does nothing.
+// A disk that keeps a list of its calls, of which the one with this number, counted from 1, fails and does nothing. Once it has had so many
+// as `damaged_after` says, its reads give zeros, and count no more.
 #[derive(Drop)]
 pub(crate) struct FailingDisk {
     pub(crate) bytes: Vec<u8>,
     pub(crate) list: String,
     pub(crate) calls: u64,
     fails_at: u64,
+    damaged_after: u64,
     failures: u64,
 }
 
@@ -39,8 +45,16 @@ impl FailingDisk {
             list: String::new(alloc),
             calls: 0,
             fails_at,
+            damaged_after: u64::MAX,
             failures: 0,
         })
+    }
+
+    // The disk that is damaged after so many calls.
+    pub(crate) fn damaged_after(self, calls: u64) -> FailingDisk {
+        let mut disk = self;
+        disk.damaged_after = calls;
+        disk
     }
 
     // Counts a call, and fails where it is the one that fails.
@@ -80,6 +94,10 @@ impl Disk for FailingDisk {
     }
 
     fn read_at(&mut self, at: u64, buf: &mut [u8]) -> Result<(), DiskFault> {
+        if self.damaged_after <= self.calls {
+            buf.fill(0);
+            return Ok(());
+        }
         self.count()?;
         let _ = write!(self.list, "read {at} {}; ", buf.len());
         let from = at as usize;
@@ -395,4 +413,35 @@ fn a_play_stops_where_a_step_is_refused(rt: HostRuntime) -> Result<(), Fail> {
     assert!(rt; plays(&rt, alloc, &mut store, &steps, "0: 8 Failed")?);
     assert!(rt; plays(&rt, alloc, &mut store, &[], "")?);
     Ok(())
+}
+
+// Whether this is left by a flush of b, behind one of a, that was answered like this: after want of memory each byte is as it was, and
+// where the disk's record found no memory there is the one store or the other.
+fn is_behind_flush(flushed: Result<u64, Fault>, is_same: bool, told: &str) -> bool {
+    match flushed {
+        Ok(sequence) => sequence == 3 && told == AB_STORE,
+        Err(Fault::NoMemory) => is_same && told == A_STORE,
+        Err(Fault::Device) => told == A_STORE || told == AB_STORE,
+        Err(_) => false,
+    }
+}
+
+// Whether such a flush leaves what it should.
+fn leaves_a_store(rt: &(impl Threads + Sync), alloc: Global) -> Result<bool, Fault> {
+    let mut store = store_after(rt, ALONE, alloc, &["a=1", "flush", "b=2"])?;
+    let bytes = store.disk().bytes().to_vec(alloc)?;
+    let flushed = store.flush(rt, ALONE);
+    let is_same = store.disk().bytes() == bytes.as_slice();
+    let told = told_again(rt, alloc, store)?;
+    Ok(is_behind_flush(flushed, is_same, told.as_str()))
+}
+
+// To be run with each allocation refused in turn too, by `rt try --test --fail-alloc N` for each N. Where one is refused to what stands
+// round the flush, one of the two can't be told.
+#[test]
+fn a_flush_without_memory_leaves_one_of_two_stores(rt: HostRuntime) {
+    let first = leaves_a_store(&rt, rt.alloc());
+    let second = leaves_a_store(&rt, rt.alloc());
+    assert!(rt; first != Ok(false) && second != Ok(false));
+    assert!(rt; first == Ok(true) || second == Ok(true));
 }

@@ -1,12 +1,12 @@
 //! A store that is opened on a disk of which a call fails: that is told, the disk is handed back as it was, and the next opening succeeds.
 use crate::crews::ALONE;
 use crate::failing_disk_rows::{FailingDisk, failing_store};
-use crate::log_rows::{PUT_AGAIN, play_on};
+use crate::log_rows::{PUT_AGAIN, SHORTEST, play_on};
 use crate::recovery_rows::{
     FIRST_STORE, PUT_AGAIN_STORE, bytes_after, set, write_opened, write_store,
 };
 use crate::store::Store;
-use crate::tests::opened;
+use crate::tests::{S, opened};
 use flush_log::Disk;
 use keys::Fault;
 use std::alloc::Global;
@@ -170,6 +170,30 @@ fn answer_of_failing_reopen(
         write_opened(rt, alloc, &mut text, Store::recover(rt, alloc, disk, ALONE))?;
     }
     Ok(text)
+}
+
+// What a new store answers that is opened again on a disk that was damaged meanwhile, where its call of this number fails, of those but
+// reads.
+fn answer_of_damaged_reopen(
+    rt: &(impl Threads + Sync),
+    alloc: Global,
+    fails_at: u64,
+) -> Result<String, Fault> {
+    let disk = FailingDisk::new(alloc, &[0; SHORTEST], fails_at)?.damaged_after(2);
+    let store = opened(Store::create(alloc, disk, S))?;
+    let mut text = String::new(alloc);
+    write_opened(rt, alloc, &mut text, store.reopen(rt, ALONE))?;
+    Ok(text)
+}
+
+// The sync comes before the disk is read, so that its failure is told, and not what is read.
+#[test]
+fn an_opening_again_syncs_before_it_reads(rt: HostRuntime) -> Result<(), Fail> {
+    for (fails_at, told) in [(3, "9 Device"), (4, "12 NotAStore")] {
+        let text = answer_of_damaged_reopen(&rt, rt.alloc(), fails_at)?;
+        assert!(rt; text.as_str() == told, "{text}");
+    }
+    Ok(())
 }
 
 // A sync, and the reads.

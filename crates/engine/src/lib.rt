@@ -37,6 +37,8 @@ mod fault_rows;
 mod frame_rows;
 #[cfg(test)]
 mod full_log_rows;
+#[cfg(test)]
+mod held_pieces;
 pub mod laws;
 mod leaves;
 #[cfg(test)]

@@ -3,10 +3,11 @@ use crew::Crew;
 use keys::Fault;
 use std::process::Abort;
 
-// How many rows came out, and the name of one that didn't.
+// How many rows came out, how many could not be told, and the name of one that didn't come out.
 #[derive(Drop)]
 pub(crate) struct Outcomes {
     right: usize,
+    untold: usize,
     wrong: &'static str,
 }
 
@@ -14,25 +15,44 @@ impl Outcomes {
     pub(crate) fn none() -> Outcomes {
         Outcomes {
             right: 0,
+            untold: 0,
             wrong: "",
         }
     }
 
-    // Notes whether the row with this name came out. A row that could not be told, as memory was refused to the test itself, is left out.
+    // Notes whether the row with this name came out, or that it was answered with a fault where it isn't told, or that memory was refused to
+    // the test itself.
     pub(crate) fn note(&mut self, came_out: Result<bool, Fault>, name: &'static str) {
         match came_out {
             Ok(true) => self.right = self.right.saturating_add(1),
             Ok(false) => self.wrong = name,
-            Err(_) => {}
+            Err(_) => self.untold = self.untold.saturating_add(1),
         }
     }
 
-    // Asserts that no row came out otherwise than it is told, and that at least so many came out.
-    pub(crate) fn check(&self, rt: &impl Abort, crew: Crew, least: usize) {
-        let Outcomes { right, wrong } = self;
+    // Asserts that all rows came out, as many as this.
+    pub(crate) fn check(&self, rt: &impl Abort, crew: Crew, all: usize) {
+        let Outcomes {
+            right,
+            untold,
+            wrong,
+        } = self;
         assert!(rt;
-            wrong.is_empty() && *right >= least,
-            "{crew:?}: {right} right, {wrong} wrong"
+            wrong.is_empty() && *untold == 0 && *right == all,
+            "{crew:?}: {right} right, {untold} untold, {wrong} wrong"
+        );
+    }
+
+    // The same where an allocation may be refused, in a test that is run with each one refused in turn: then one row may be untold.
+    pub(crate) fn check_refused(&self, rt: &impl Abort, crew: Crew, all: usize) {
+        let Outcomes {
+            right,
+            untold,
+            wrong,
+        } = self;
+        assert!(rt;
+            wrong.is_empty() && *untold <= 1 && right.saturating_add(*untold) == all,
+            "{crew:?}: {right} right, {untold} untold, {wrong} wrong"
         );
     }
 }

@@ -591,20 +591,23 @@ fn comes_out(rt: &(impl Threads + Sync), alloc: Global, row: &Row) -> Result<boo
     is_told(rt, alloc, &tree, row.told)
 }
 
-// To be run with each allocation refused in turn too, by `rt try --test --fail-alloc N`: then one row can't be told.
+// The same, from the beginning, where the first time it could not be told.
+fn comes_out_in_two(rt: &(impl Threads + Sync), alloc: Global, row: &Row) -> Result<bool, Fault> {
+    match comes_out(rt, alloc, row) {
+        Err(_) => comes_out(rt, alloc, row),
+        told => told,
+    }
+}
+
+// To be run with each allocation refused in turn too, by `rt try --test --fail-alloc N`: then one row can't be told the first time.
 #[test]
 fn the_rows_come_out(rt: HostRuntime) {
-    let mut right = 0usize;
     let mut at = 0usize;
     for row in &ROWS {
-        match comes_out(&rt, rt.alloc(), row) {
-            Ok(true) => right = right.saturating_add(1),
-            Ok(false) => assert!(rt; false, "row {at}"),
-            Err(_) => {}
-        }
+        let came_out = comes_out_in_two(&rt, rt.alloc(), row);
+        assert!(rt; came_out == Ok(true), "row {at}");
         at = at.saturating_add(1);
     }
-    assert!(rt; right >= 15, "{right} right");
 }
 
 // A page on one of the two ways down from the root of a high tree: a leaf with one key, or an index page with one child, whose page
