@@ -125,10 +125,20 @@ fn nothing_stays_nothing(alloc: Global) -> Result<bool, AllocError> {
     Ok(base.len() == 0)
 }
 
+// Whether a page of one entry becomes a base of that entry.
+fn one_stays_one(alloc: Global) -> Result<bool, PushError> {
+    let mut builder = BaseBuilder::with_capacity(alloc, 1, 1)?;
+    builder.push(b"a", Pid(1))?;
+    let chain = Chain::of_base(builder.finish());
+    let base = consolidate(alloc, &chain)?;
+    Ok(base.len() == 1 && *base.cell(0) == Pid(1))
+}
+
 #[test]
 fn keys_of_each_length_and_an_empty_page_stay_as_they_are(rt: HostRuntime) -> Result<(), Fail> {
     assert!(rt; long_keys_stay(rt.alloc())?);
     assert!(rt; nothing_stays_nothing(rt.alloc())?);
+    assert!(rt; one_stays_one(rt.alloc())?);
     Ok(())
 }
 

@@ -51,7 +51,7 @@ fn play_to_stop(
 }
 
 // The store that comes back after a crash.
-fn store_back(
+pub(crate) fn store_back(
     rt: &(impl Threads + Sync),
     alloc: Global,
     disk: &CrashDisk<Global>,

@@ -21,6 +21,8 @@ mod damaged_clean_rows;
 #[cfg(test)]
 mod damaged_rows;
 #[cfg(test)]
+mod disk_examples;
+#[cfg(test)]
 mod disk_rows;
 #[cfg(test)]
 mod drawn_batches;
