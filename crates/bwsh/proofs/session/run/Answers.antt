@@ -53,6 +53,6 @@ returns g c =
     let (text, known, read) = c.in_ok-orders.ensures in
     let told = c.args.told.now in
     let (file, opens) = c.store_in_file-opened.ensures.opens in
-    Answers-asked _ _ _ c.ask.ensures.bytes (told_of told) _ _ (Answers-run (told_of told) _ _ text known _ _ c.deref-in-Some-2-3.result.now _ read.0 c.deref-in-Some-2-3.ensures.value read.1 (found_start file)
+    Answers-asked _ _ _ c.ask.ensures.bytes (told_of told) _ _ (Answers-run (told_of told) _ _ text known _ _ c.deref-in-Some-2-4.result.now _ read.0 c.deref-in-Some-2-4.ensures.value read.1 (found_start file)
     (IsStart-found told (in_range (is_crew told.crew) c.in_ok-check.ensures) c.in-Some-2.path c.in-Some-2.is c.if-told.false file) _
     (λ memory. absurd (in_file told c.in-Some-2.path c.in-Some-2.is memory)) (c.run_opened-in-Some-2.ensures (found_start file) opens))
