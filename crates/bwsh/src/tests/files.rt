@@ -265,7 +265,10 @@ fn bytes_in_memory<R: AllocGlobal + Threads + Sync>(rt: &R, input: &[u8]) -> Res
             break;
         }
     }
-    Ok(store.disk().bytes().to_vec(alloc)?)
+    // A disk in memory keeps no zeros beyond what was written.
+    let mut bytes = store.disk().bytes().to_vec(alloc)?;
+    bytes.resize(1_536, 0)?;
+    Ok(bytes)
 }
 
 // Asserts that a file has the bytes of a disk in memory after the same lines.
