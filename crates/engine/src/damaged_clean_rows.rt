@@ -1,6 +1,7 @@
 //! Cleans of a log whose bytes are damaged: which fault is answered, and that the store goes on.
 use crate::clean_rows::LONG_AND_Z;
 use crate::crews::ALONE;
+use crate::failing_clean_rows::CALLS_BEFORE;
 use crate::failing_disk_rows::FailingDisk;
 use crate::log_rows::{SHORTEST, play, play_on};
 use crate::store::Store;
@@ -108,13 +109,15 @@ static ROWS: [Row; 8] = [
     },
 ];
 
-// A new store on a disk that shows these bytes for others once the flushes of log 16 are done.
+// A new store on a disk that shows these bytes for others once the flushes of log 16 are done, and of which the call of this number
+// fails; of number 0 none does.
 fn damaged_store(
     alloc: Global,
     changes: &'static [(usize, u8)],
+    fails_at: u64,
 ) -> Result<Store<DamagedDisk>, Fault> {
     let disk = DamagedDisk {
-        disk: FailingDisk::new(alloc, &[0; SHORTEST], 0)?,
+        disk: FailingDisk::new(alloc, &[0; SHORTEST], fails_at)?,
         changes,
         syncs: 0,
         damaged_after: 16,
@@ -128,7 +131,7 @@ fn answer_of_damaged(
     alloc: Global,
     changes: &'static [(usize, u8)],
 ) -> Result<String, Fault> {
-    let mut store = damaged_store(alloc, changes)?;
+    let mut store = damaged_store(alloc, changes, 0)?;
     play(rt, ALONE, alloc, &mut store, &LONG_AND_Z)?;
     let mut text = String::new(alloc);
     for _time in 0..2 {
@@ -148,5 +151,29 @@ fn a_damaged_log_is_not_cleaned(rt: HostRuntime) -> Result<(), Fail> {
         )?;
         assert!(rt; text.as_str() == told.as_str(), "{text}");
     }
+    Ok(())
+}
+
+// What log 16's clean answers where its first segment is damaged, and the call of this number fails.
+fn answer_of_failing(
+    rt: &(impl Threads + Sync),
+    alloc: Global,
+    fails_at: u64,
+) -> Result<String, Fault> {
+    let mut store = damaged_store(alloc, ROWS[0].changes, fails_at)?;
+    play(rt, ALONE, alloc, &mut store, &LONG_AND_Z)?;
+    let mut text = String::new(alloc);
+    play_on(rt, alloc, &mut text, &mut store, &["clean"])?;
+    Ok(text)
+}
+
+// A clean reads a slot, two segments and a gate. A read that fails behind a damaged segment goes before the damage, and the gate isn't
+// read where nothing is to be written.
+#[test]
+fn a_read_that_fails_goes_before_damage(rt: HostRuntime) -> Result<(), Fail> {
+    let text = answer_of_failing(&rt, rt.alloc(), CALLS_BEFORE + 3)?;
+    assert!(rt; text.as_str() == "0: 9 Device", "{text}");
+    let text = answer_of_failing(&rt, rt.alloc(), CALLS_BEFORE + 4)?;
+    assert!(rt; text.as_str() == "0: 14 BadSegment 0", "{text}");
     Ok(())
 }

@@ -20,7 +20,7 @@ pub(crate) const BEFORE_CLEAN: &str = "head 0, tail 309, number 6; root 2, heigh
     \x20a=0123456789abcdef b=2 c=3 d=4 e=5; 3 pages, height 2, 5 pairs";
 
 // How many calls come before the clean of log 16: two make the store, and the flushes make 7, 8, 8, 8 and 9.
-const CALLS_BEFORE: u64 = 42;
+pub(crate) const CALLS_BEFORE: u64 = 42;
 
 // What log 16's clean answers where the call of this number fails, and another clean; and then the store, opened again.
 fn answer_of_failing_clean(
