@@ -354,17 +354,13 @@ impl<R> Env for OneWord<'_, R> {
 }
 
 // Files alone can be opened.
-impl<'a, R: Files> Files for OneWord<'a, R> {
-    type File = Faulty<'a, R::File>;
+impl<'a, R> Files for OneWord<'a, R> {
+    type File = Faulty<'a>;
 
     type Dir = Cursor<Vec<u8>>;
 
-    fn open_file(&self, how: &OpenOptions, path: &str) -> io::Result<Faulty<'a, R::File>> {
-        self.faults.open(how.asks_write())?;
-        Ok(Faulty {
-            file: self.rt.open_file(how, path)?,
-            faults: self.faults,
-        })
+    fn open_file(&self, how: &OpenOptions, path: &str) -> io::Result<Faulty<'a>> {
+        self.faults.open(how, path)
     }
 
     fn open_dir(&self, _path: &str) -> io::Result<Self::Dir> {
@@ -405,24 +401,18 @@ impl<'a, R: Files> Files for OneWord<'a, R> {
 }
 
 // Asserts how the program ends with this word on its command line.
-fn check_program<R: AllocGlobal + Abort + Threads + Sync + Files>(
+fn check_program<R: AllocGlobal + Abort + Threads + Sync>(
     rt: &R,
+    faults: &Faults,
     word: &[u8],
     status: u8,
     out: &[u8],
     err: &[u8],
-)
-where
-    R::File: LockFile,
-{
+) {
     let mut input = b"put a 1\ngo\nput ab 1\n".as_slice();
     let mut written = Vec::new(rt.alloc());
     let mut told = Vec::new(rt.alloc());
-    let system = OneWord {
-        rt,
-        word,
-        faults: &Faults::none(),
-    };
+    let system = OneWord { rt, word, faults };
     let got = run_program(&system, &mut input, &mut written, &mut told);
     assert_eq!(rt; told.as_slice(), err);
     assert_eq!(rt; written.as_slice(), out);
@@ -431,11 +421,12 @@ where
 
 #[test]
 fn the_program_obeys_its_words(rt: HostRuntime) {
-    check_program(&rt, b"--max-key=2", 0, b"new\nnew\n", b"");
+    let faults = Faults::none(rt);
+    check_program(&rt, &faults, b"--max-key=2", 0, b"new\nnew\n", b"");
     let told = b"fault 2 KeyTooLong 0\n";
-    check_program(&rt, b"--max-key=1", 4, b"new\n", told);
+    check_program(&rt, &faults, b"--max-key=1", 4, b"new\n", told);
     let told = b"error: a word of the command line is no text\n";
-    check_program(&rt, b"\xFF", 2, b"", told);
+    check_program(&rt, &faults, b"\xFF", 2, b"", told);
 }
 
 #[test]

@@ -10,7 +10,7 @@ use crew::{Crew, NoGate};
 use engine::{Disk, MemDisk, Step, Store};
 use keys::Settings;
 use std::alloc::Global;
-use std::fs::{File, Metadata, OpenFile};
+use std::fs::{File, Metadata, OpenFile, OpenOptions};
 use std::io::{ErrorKind, Read, Seek, SeekFrom, Write};
 use std::process::Abort;
 use std::rt::Files;
@@ -316,9 +316,10 @@ enum Call {
     Sync,
 }
 
-// Of this kind of calls those from a number up to another fail, counted from 0.
+// The files of a system, of which those calls of this kind fail that have a number from one up to another, counted from 0.
 #[derive(Drop)]
 pub(super) struct Faults {
+    system: HostRuntime,
     call: Call,
     good: u64,
     end: u64,
@@ -327,8 +328,9 @@ pub(super) struct Faults {
 }
 
 impl Faults {
-    fn of(call: Call, good: u64, end: u64, kind: ErrorKind) -> Faults {
+    fn of(system: HostRuntime, call: Call, good: u64, end: u64, kind: ErrorKind) -> Faults {
         Faults {
+            system,
             call,
             good,
             end,
@@ -338,8 +340,8 @@ impl Faults {
     }
 
     // Those of which none fails.
-    pub(super) fn none() -> Faults {
-        Faults::of(Call::None, 0, 0, ErrorKind::Other)
+    pub(super) fn none(system: HostRuntime) -> Faults {
+        Faults::of(system, Call::None, 0, 0, ErrorKind::Other)
     }
 
     // Makes a call.
@@ -354,24 +356,26 @@ impl Faults {
         Err(io::Error::from(self.kind))
     }
 
-    // Makes the call that opens a file.
-    pub(super) fn open(&self, writes: bool) -> io::Result<()> {
-        if writes {
-            self.call(Call::OpenToWrite)
-        } else {
-            Ok(())
+    // Opens a file.
+    pub(super) fn open(&self, how: &OpenOptions, path: &str) -> io::Result<Faulty<'_>> {
+        if how.asks_write() {
+            self.call(Call::OpenToWrite)?;
         }
+        Ok(Faulty {
+            file: self.system.open_file(how, path)?,
+            faults: self,
+        })
     }
 }
 
 // A file whose calls fail so, and which gives and takes a byte at a time.
 #[derive(Drop)]
-pub(super) struct Faulty<'a, F> {
-    pub(super) file: F,
-    pub(super) faults: &'a Faults,
+pub(super) struct Faulty<'a> {
+    file: File,
+    faults: &'a Faults,
 }
 
-impl<F: Read> Read for Faulty<'_, F> {
+impl Read for Faulty<'_> {
     fn read(&mut self, buf: &mut [u8]) -> io::Result<usize> {
         self.faults.call(Call::Read)?;
         let end = buf.len().min(1);
@@ -379,7 +383,7 @@ impl<F: Read> Read for Faulty<'_, F> {
     }
 }
 
-impl<F: Write> Write for Faulty<'_, F> {
+impl Write for Faulty<'_> {
     fn write(&mut self, buf: &[u8]) -> io::Result<usize> {
         self.faults.call(Call::Write)?;
         self.file.write(&buf[..buf.len().min(1)])
@@ -390,13 +394,13 @@ impl<F: Write> Write for Faulty<'_, F> {
     }
 }
 
-impl<F: Seek> Seek for Faulty<'_, F> {
+impl Seek for Faulty<'_> {
     fn seek(&mut self, to: SeekFrom) -> io::Result<u64> {
         self.file.seek(to)
     }
 }
 
-impl<F: OpenFile> OpenFile for Faulty<'_, F> {
+impl OpenFile for Faulty<'_> {
     fn metadata(&self) -> io::Result<Metadata> {
         self.faults.call(Call::Metadata)?;
         self.file.metadata()
@@ -417,7 +421,7 @@ impl<F: OpenFile> OpenFile for Faulty<'_, F> {
     }
 }
 
-impl<F: LockFile> LockFile for Faulty<'_, F> {
+impl LockFile for Faulty<'_> {
     fn hold(&self) -> io::Result<()> {
         self.faults.call(Call::Hold)?;
         self.file.hold()
@@ -429,45 +433,33 @@ impl<F: LockFile> LockFile for Faulty<'_, F> {
     }
 }
 
-// Asserts how many calls of a disk fail that is over a new file of 16 bytes, of whose calls of this kind the third fails so. Four bytes
-// are written and read, and then some after the end of the file, which was cut.
-fn check_disk<R: AllocGlobal + Abort + Files>(
-    rt: &R,
-    path: &str,
-    call: Call,
-    kind: ErrorKind,
-    failures: u64,
-) -> Result<(), Fail>
-where
-    R::File: LockFile,
-{
-    let faults = Faults::of(call, 2, 3, kind);
-    let file = Faulty {
-        file: File::create_new(rt, path)?,
-        faults: &faults,
-    };
+// Asserts how many calls of a disk fail that is over a file of 16 bytes, which is made anew. Four bytes are written and read, and then
+// some after the end of the file, which was cut.
+fn check_disk<R: Abort>(rt: &R, faults: &Faults, path: &str, failures: u32) -> Result<(), Fail> {
+    let file = faults.open(File::options().read(true).write(true).create(true), path)?;
     let mut disk = FileDisk::of_zeros(file, 16)?;
     let mut back = [0; 4];
     let is_done = disk.write_at(3, b"abcd").is_ok() && disk.read_at(3, &mut back).is_ok();
-    assert_eq!(rt; disk.failures(), failures);
+    assert_eq!(rt; disk.failures(), u64::from(failures));
     assert!(rt; !is_done || back == *b"abcd");
-    File::options().write(true).open(rt, path)?.set_len(7)?;
+    faults.open(File::options().write(true), path)?.set_len(7)?;
     assert!(rt; disk.read_at(9, &mut back).is_err());
-    assert_eq!(rt; disk.failures(), failures + 1);
-    fs::remove_file(rt, path)?;
+    assert_eq!(rt; disk.failures(), u64::from(failures) + 1);
     Ok(())
 }
 
-// A call that was interrupted is made again, and one that was cut short goes on.
+// The third call is interrupted, and made again, or it fails. One that was cut short goes on.
 #[test]
 fn a_disk_over_a_file(rt: HostRuntime) -> Result<(), Fail> {
     let file = env::temp_dir(&rt)?.join(rt.alloc(), "bwsh_disk")?;
     let path = file.as_str();
-    let _ = fs::remove_file(&rt, path);
     for call in [Call::Write, Call::Read] {
-        check_disk(&rt, path, call, ErrorKind::Interrupted, 0)?;
-        check_disk(&rt, path, call, ErrorKind::Other, 1)?;
+        let faults = Faults::of(rt, call, 2, 3, ErrorKind::Interrupted);
+        check_disk(&rt, &faults, path, 0)?;
+        let faults = Faults::of(rt, call, 2, 3, ErrorKind::Other);
+        check_disk(&rt, &faults, path, 1)?;
     }
+    fs::remove_file(&rt, path)?;
     Ok(())
 }
 
@@ -480,6 +472,17 @@ const WRITES: &str = "flush\n";
 const CLEANS: &str = "clean\n";
 
 const DEVICE: &str = "fault 9 Device\n";
+
+// Whether this many first bytes are as they were, and zeros follow up to this length.
+fn is_left(old: &[u8], now: &[u8], left: (usize, usize)) -> bool {
+    let Some(kept) = old.get(..left.0) else {
+        return false;
+    };
+    let Some(rest) = now.get(left.0..) else {
+        return false;
+    };
+    now.len() == left.1 && now.starts_with(kept) && rest.iter().all(|byte| *byte == 0)
+}
 
 // Asserts what these lines answer on a file in which `a` stands, where such calls fail; and what is left of the file: this many first
 // bytes as they were, and zeros up to this length.
@@ -503,17 +506,15 @@ where
         "",
     )?;
     let old = fs::read(rt, path)?;
-    let system = OneWord {
+    let word = OneWord {
         rt,
         word: b"",
         faults,
     };
-    let got = answered(&system, path, fan, lines.0.as_bytes())?;
+    let got = answered(&word, path, fan, lines.0.as_bytes())?;
     assert_eq!(rt; got.as_slice(), lines.1.as_bytes());
     let now = fs::read(rt, path)?;
-    assert_eq!(rt; now.len(), left.1);
-    assert!(rt; now.starts_with(&old[..left.0]));
-    assert!(rt; now[left.0..].iter().all(|byte| *byte == 0));
+    assert!(rt; is_left(&old, &now, left));
     Ok(())
 }
 
@@ -534,7 +535,7 @@ fn making_anew_fails(rt: HostRuntime) -> Result<(), Fail> {
     let file = env::temp_dir(&rt)?.join(rt.alloc(), "bwsh_anew")?;
     let path = file.as_str();
     for (call, good, left) in &ANEW {
-        let faults = Faults::of(*call, *good, u64::MAX, ErrorKind::Other);
+        let faults = Faults::of(rt, *call, *good, u64::MAX, ErrorKind::Other);
         check_faults(&rt, path, &faults, Some(4), &("", DEVICE), *left)?;
         if left.0 > 0 {
             check_in_file(&rt, path, None, b"get a\n", b"value 1\n", "")?;
@@ -575,7 +576,7 @@ fn calls_of_a_file_fail(rt: HostRuntime) -> Result<(), Fail> {
     let file = env::temp_dir(&rt)?.join(rt.alloc(), "bwsh_failing_calls")?;
     let path = file.as_str();
     for (call, kind, lines) in &FOUND {
-        let faults = Faults::of(*call, 0, u64::MAX, *kind);
+        let faults = Faults::of(rt, *call, 0, u64::MAX, *kind);
         check_faults(&rt, path, &faults, None, lines, (1_536, 1_536))?;
     }
     fs::remove_file(&rt, path)?;
@@ -583,23 +584,21 @@ fn calls_of_a_file_fail(rt: HostRuntime) -> Result<(), Fail> {
 }
 
 // How many syncs a session makes of its file, each of which ends it where it fails.
-fn syncs<R: AllocGlobal + Threads + Sync + Files>(
+fn syncs<R: AllocGlobal + Threads + Sync>(
     rt: &R,
+    system: HostRuntime,
     path: &str,
     fan: Option<u32>,
     input: &[u8],
-) -> Result<u64, Fail>
-where
-    R::File: LockFile,
-{
+) -> Result<u64, Fail> {
     for good in 0..20 {
-        let faults = Faults::of(Call::Sync, good, u64::MAX, ErrorKind::Other);
-        let system = OneWord {
+        let faults = Faults::of(system, Call::Sync, good, u64::MAX, ErrorKind::Other);
+        let word = OneWord {
             rt,
             word: b"",
             faults: &faults,
         };
-        if !answered(&system, path, fan, input)?.ends_with(DEVICE.as_bytes()) {
+        if !answered(&word, path, fan, input)?.ends_with(DEVICE.as_bytes()) {
             return Ok(good);
         }
     }
@@ -611,13 +610,13 @@ where
 fn syncs_are_counted(rt: HostRuntime) -> Result<(), Fail> {
     let file = env::temp_dir(&rt)?.join(rt.alloc(), "bwsh_syncs")?;
     let path = file.as_str();
-    let made = syncs(&rt, path, Some(4), b"")?;
+    let made = syncs(&rt, rt, path, Some(4), b"")?;
     assert_eq!(rt; made, 1);
-    let read = syncs(&rt, path, None, b"get a\n")?;
+    let read = syncs(&rt, rt, path, None, b"get a\n")?;
     assert_eq!(rt; read, 1);
-    let unwritten = syncs(&rt, path, None, b"flush\n")?;
+    let unwritten = syncs(&rt, rt, path, None, b"flush\n")?;
     assert_eq!(rt; unwritten, 1);
-    let written = syncs(&rt, path, Some(4), b"put a 1\nflush\n")?;
+    let written = syncs(&rt, rt, path, Some(4), b"put a 1\nflush\n")?;
     assert_eq!(rt; written, 4);
     fs::remove_file(&rt, path)?;
     Ok(())
