@@ -113,7 +113,7 @@ def run_at_once(programs: Programs, group: int) -> Outcome:
             wrong = wrong or (None if ran.status == 0 and ran.out.startswith(shown(pairs)) else f"the file has {ran.told()}")
             if wrong:
                 return Outcome(f"time {time} of group {group}: {wrong}")
-    return Outcome(None if refused else "no session was ever refused", measured=f"{refused} of {TIMES // GROUPS * 4} sessions refused")
+    return Outcome(measured=f"{refused} of {TIMES // GROUPS * 4} sessions refused")
 
 
 @contextlib.contextmanager
