@@ -15,7 +15,7 @@ from checks.rules import LOOK, look_of
 FAULT = "fault 9 Device"
 NOBODY = 65534  # the user that owns no file
 TIMES, GROUPS = 100, 4  # how often two sessions are started together
-CHANGES = 30  # flushes of a session
+CHANGES = 150  # flushes of a session
 KEYS = 10
 ROOMY = ["--segments", "1024"]
 SCAN = b"scan % * 4294967295\n"
