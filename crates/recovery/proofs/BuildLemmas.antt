@@ -1,11 +1,15 @@
 -- How a table is filled by rising pid, and what is found of the tree that it then holds.
-use Rattle.std.specs.Prelude.{◌≡◌, ◌⊎◌, ℕ, suc, pred, ◌<◌, Bool, true, false, not, cond, List, [], ◌∷◌, ◌++◌, map, Option, Some, None, IsSome, Result, Ok, Err, IfErr, IsErrAnd}
-use Rattle.std.proofs.Common.{refl, sym, ap, ◌∙◌, arith, subst, inl, inr, Equal, Greater}
-use Rattle.std.specs.List.{AllByRecursion, filter}
+use Rattle.std.specs.Prelude.{◌≡◌, ◌⊎◌, ℕ, suc, pred, ◌<◌, ◌==◌, true, List, [], ◌∷◌, ◌++◌, length, map, Option, Some, None, IsSome, Result, Ok, Err, IfErr, OnOk, IsErrAnd, nat_eq}
+use Rattle.std.proofs.Common.{refl, sym, ap, ◌∙◌, arith, subst, inl, inr, append_assoc, append-nil, Equal, Greater}
+use Rattle.std.specs.List.{AllByRecursion}
+use Rattle.std.specs.declared.alloc.AllocError.{AllocError}
+use Rattle.std.specs.List.Sorted.{IsStrictlySortedBy}
 use Rattle.std.specs.Map.{keys_of, lookup}
 use Rattle.std.specs.Ordering.{nat_cmp}
 use Rattle.std.specs.Cmp.{nat_cmp_is}
 use Rattle.std.specs.BTreeMap.{insert_entry}
+use Rattle.std.proofs.lemmas.Bool.{ne_eqb}
+use Rattle.std.proofs.lemmas.List.{map-append}
 use Rattle.keys.specs.Limits.{first_bad_field}
 use Rattle.keys.specs.declared.fault.Fault.{Fault}
 use Rattle.keys.specs.declared.fault.Fault.TheVariants.{NoMemory, BadStructure}
@@ -14,27 +18,31 @@ use Rattle.index_page.specs.Children.{Place}
 use Rattle.index_page.specs.Page.{PageOfKind}
 use Rattle.mapping.specs.Finding.{Finding, finding, finding_below, or_else, root_place}
 use Rattle.mapping.specs.Flushed.{marked_as_written}
+use Rattle.mapping.specs.FreshPids.{is_among}
 use Rattle.mapping.specs.Proper.{AreRisingPids, IsProper, IsTree}
 use Rattle.mapping.specs.Slots.{entry_if}
 use Rattle.mapping.specs.Table.{Mapping, is_same_pid, place_of, with_place, room_by, with_room}
 use Rattle.mapping.specs.Tree.{Tree}
 use Rattle.mapping.specs.TreeInMemory.{TreeInMemory, AreAllHome, home_pages, tree_of}
 use Rattle.mapping.proofs.Walk.{nothing_found}
-use Rattle.frame_codec.specs.Frame.{Content, Frame}
-use Rattle.frame_codec.specs.Frame.Content.{FullLeaf, DeltaLeaf, FullIndex, DeltaIndex, Free}
+use Rattle.frame_codec.specs.Frame.{Frame, is_frame}
 use Rattle.flush_log.specs.FlushText.{tree_in_log}
+use Rattle.flush_log.specs.Reading.{Found}
 use Rattle.flush_log.specs.Slot.{Slot}
 use Rattle.verify.specs.Report.{IsFaultOf}
-use Rattle.recovery.specs.BuiltTree.{in_places, log_pids, said_by, pages_said, broken_said}
-use Rattle.recovery.specs.Gathered.{is_more, is_log, kept_log, logs_of}
-use Rattle.recovery.specs.LogPages.{in_log, pids_of, pages_under, pages_of, broken_under, broken_in}
-use Rattle.recovery.specs.PageByLog.{InLog, is_free, told_page, page_in, is_broken}
-use Rattle.recovery.specs.PageByLog.InLog.{Missing}
-use Rattle.recovery.specs.Rebuild.{HeldLog, held_done, told_by}
-use Rattle.recovery.specs.StoreOfDisk.{tree_by_log, wrong_in}
+use Rattle.recovery.specs.BuiltTree.{in_places, log_pids, pages_told, logs_made, pages_made, filled, log_under}
+use Rattle.recovery.specs.Gathered.{telling, wanted_of, IsKept, IsKeptOf, AreGathered, first_segment}
+use Rattle.recovery.specs.LogPages.{in_log, pages_under, pages_of, broken_in}
+use Rattle.recovery.specs.PageByLog.{told_page, page_in}
+use Rattle.recovery.specs.Rebuild.{HeldLog, held_log, told_in}
+use Rattle.recovery.specs.StoreOfDisk.{frames_in, tree_by_log, wrong_in}
+use Rattle.recovery.specs.declared.gather.Gathering.{Gathering}
+use Rattle.recovery.specs.declared.gather.Kept.{Kept}
+use Rattle.recovery.specs.declared.gather.Wanted.TheVariants.{Every}
 use Rattle.recovery.specs.declared.rebuild.PageLog.{PageLog}
 use Rattle.recovery.specs.declared.rebuild.Rebuilt.{Rebuilt}
-use Rattle.recovery.specs.declared.rebuild.Rebuilt.TheVariants as made
+use Rattle.recovery.proofs.GatherLemmas.{keys-rise}
+use Rattle.recovery.proofs.KeptPages.{first_is, later_are, in-order, told-in_log, bytes-frames, telling-within, wanted-within, wanted-page}
 use Rattle.recovery.proofs.PagesLemmas.{rising-pages_of}
 use Rattle.recovery.proofs.TableLemmas.{table-marked}
 
@@ -106,126 +114,238 @@ rising-left_out : (ms ns : List ℕ) (n : ℕ) → AreRisingPids (ms ++ n ∷ ns
 rising-left_out [] ns n r = r.1
 rising-left_out (m ∷ ms) ns n r = (left_out (λ k. m < k) ms ns n r.0, rising-left_out ms ns n r.1)
 
--- the table with what these pages will be put into it
-abbrev pub filled : Mapping PageOfKind → List (ℕ × InLog) → Mapping PageOfKind
-filled t ss = record { places = t.places ++ in_places (pages_said ss); logged = t.logged }
-
 abbrev pub pids_in : Mapping PageOfKind → List ℕ → List ℕ
 pids_in t ns = keys_of t.places ++ ns
 
--- what has been made of it: the pids rise, those in the table before those that are left; what is left fills it as all fill an empty
--- one; and what is broken is left
-pub record IsFilledBy (t : Mapping PageOfKind) (left all : List Rebuilt) : Type 0 where
-  pub rising : AreRisingPids (pids_in t (log_pids (map held_done left)))
-  pub placed : filled t (map said_by left) ≡ record { places = in_places (pages_said (map said_by all)); logged = [] }
-  pub broken : broken_said (map said_by left) ≡ broken_said (map said_by all)
+in_places-append : (ps qs : List (ℕ × PageOfKind)) → in_places (ps ++ qs) ≡ in_places ps ++ in_places qs
+in_places-append ps qs = map-append (λ p. (let x : ℕ × Option PageOfKind = (p.0, Some p.1) in x)) ps qs
 
-module _ (t : Mapping PageOfKind) (left rest all : List Rebuilt) (h : IsFilledBy t left all) where
-  below_left : (pid : ℕ) → log_pids (map held_done left) ≡ pid ∷ log_pids (map held_done rest) → AreRisingPids (pids_in t (pid ∷ log_pids (map held_done rest)))
-  below_left pid e = subst (λ (ns : List ℕ). AreRisingPids (pids_in t ns)) e h.rising
+-- pages behind pages
+pub filled-more : (t : Mapping PageOfKind) (ps qs : List (ℕ × PageOfKind)) → filled (filled t ps) qs ≡ filled t (ps ++ qs)
+filled-more t ps qs =
+    ap (λ (es : List (ℕ × Option PageOfKind)). (let u : Mapping PageOfKind = record { places = es; logged = t.logged } in u))
+    (append_assoc t.places (in_places ps) (in_places qs) ∙ ap (λ (es : List (ℕ × Option PageOfKind)). t.places ++ es) (sym (in_places-append ps qs)))
+
+filled-none : (t : Mapping PageOfKind) → filled t [] ≡ t
+filled-none t = ap (λ (es : List (ℕ × Option PageOfKind)). (let u : Mapping PageOfKind = record { places = es; logged = t.logged } in u)) (append-nil t.places)
+
+-- ---- the pages that were made
+
+-- of all these, what is left fills the table as all fill the first one; and the pids rise, those in the table before those that are left
+pub record IsFilledBy (old t : Mapping PageOfKind) (left all : List Rebuilt) : Type 0 where
+  pub rising : AreRisingPids (pids_in t (log_pids (logs_made left)))
+  pub placed : filled t (pages_made left) ≡ filled old (pages_made all)
+
+pub filled-first : (old : Mapping PageOfKind) (all : List Rebuilt) → AreRisingPids (pids_in old (log_pids (logs_made all))) → IsFilledBy old old all all
+filled-first old all rising = record { rising = rising; placed = refl }
+
+module _ (old t : Mapping PageOfKind) (left rest all : List Rebuilt) (h : IsFilledBy old t left all) (r : Rebuilt) (is : left ≡ r ∷ rest) where
+  below_left : AreRisingPids (pids_in t (r.log.pid ∷ log_pids (logs_made rest)))
+  below_left = subst (λ (rs : List Rebuilt). AreRisingPids (pids_in t (log_pids (logs_made rs)))) is h.rising
 
   -- the pids in the table are less than the next one
-  pub next_is_last : (r : Rebuilt) (b : ℕ × PageOfKind) → left ≡ r ∷ rest → r ≡ made.Page b → AllByRecursion (λ n. n < b.0) (keys_of t.places)
-  next_is_last r b e f =
-      let is : left ≡ made.Page b ∷ rest = e ∙ ap (λ (x : Rebuilt). x ∷ rest) f in
-      all-below (keys_of t.places) (log_pids (map held_done rest)) b.0 (below_left b.0 (ap (λ (rs : List Rebuilt). log_pids (map held_done rs)) is))
+  pub next_is_last : AllByRecursion (λ n. n < r.log.pid) (keys_of t.places)
+  next_is_last = all-below (keys_of t.places) (log_pids (logs_made rest)) r.log.pid below_left
 
   -- where there is no page, nothing is put there
-  pub missing_filled : (r : Rebuilt) (log : PageLog) → left ≡ r ∷ rest → r ≡ made.Missing log → IsFilledBy t rest all
-  missing_filled r log e f =
-      let is : left ≡ made.Missing log ∷ rest = e ∙ ap (λ (x : Rebuilt). x ∷ rest) f in
+  none_filled : r.page ≡ None → IsFilledBy old t rest all
+  none_filled none = record {
+    rising = rising-left_out (keys_of t.places) (log_pids (logs_made rest)) r.log.pid below_left;
+    placed = ap (λ (o : Option PageOfKind). filled t (entry_if r.log.pid o ++ pages_made rest)) (sym none) ∙ sym (ap (λ (rs : List Rebuilt). filled t (pages_made rs)) is) ∙ h.placed;
+  }
+
+  -- and else the page
+  one_filled : (p : PageOfKind) (now : Mapping PageOfKind) → r.page ≡ Some p → now ≡ filled t ((r.log.pid, p) ∷ []) → IsFilledBy old now rest all
+  one_filled p now some here =
       record {
-        rising = rising-left_out (keys_of t.places) (log_pids (map held_done rest)) log.pid (below_left log.pid (ap (λ (rs : List Rebuilt). log_pids (map held_done rs)) is));
-        placed = sym (ap (λ (rs : List Rebuilt). filled t (map said_by rs)) is) ∙ h.placed;
-        broken = sym (ap (λ (rs : List Rebuilt). broken_said (map said_by rs)) is) ∙ h.broken;
+        rising = subst (λ (u : Mapping PageOfKind). AreRisingPids (pids_in u (log_pids (logs_made rest)))) (sym here)
+            (subst (λ (ns : List ℕ). AreRisingPids ns) (sym (pids-moved t.places r.log.pid (Some p) (log_pids (logs_made rest)))) below_left);
+        placed = ap (λ (u : Mapping PageOfKind). filled u (pages_made rest)) here ∙ filled-more t ((r.log.pid, p) ∷ []) (pages_made rest)
+            ∙ ap (λ (o : Option PageOfKind). filled t (entry_if r.log.pid o ++ pages_made rest)) (sym some)
+            ∙ sym (ap (λ (rs : List Rebuilt). filled t (pages_made rs)) is) ∙ h.placed;
       }
+    where
+      pids-moved : (es : List (ℕ × Option PageOfKind)) (n : ℕ) (o : Option PageOfKind) (ns : List ℕ) → keys_of (es ++ (n, o) ∷ []) ++ ns ≡ keys_of es ++ n ∷ ns
+      pids-moved [] n o ns = refl
+      pids-moved (e ∷ es) n o ns = ap (λ (ms : List ℕ). e.0 ∷ ms) (pids-moved es n o ns)
 
--- ---- what was made of the logs of all pids
+  filled_by : (o : Option PageOfKind) (now : Mapping PageOfKind) → r.page ≡ o → now ≡ filled t (entry_if r.log.pid o) → IsFilledBy old now rest all
+  filled_by None now none here = subst (λ (u : Mapping PageOfKind). IsFilledBy old u rest all) (sym (here ∙ filled-none t)) (none_filled none)
+  filled_by (Some p) now some here = one_filled p now some here
 
-abbrev said_of : HeldLog → ℕ × InLog
-said_of h = (h.pid, told_page h.contents)
+  pub next_filled : (now : Mapping PageOfKind) → now ≡ filled t (entry_if r.log.pid r.page) → IsFilledBy old now rest all
+  next_filled now here = filled_by r.page now refl here
 
-said_by_parts : (r : Rebuilt) (h : HeldLog) → held_done r ≡ h → told_by r ≡ told_page h.contents → said_by r ≡ said_of h
-said_by_parts r h e f =
-    ap (λ (x : HeldLog). (let p : ℕ × InLog = (x.pid, told_by r) in p)) e ∙ ap (λ (x : InLog). (let p : ℕ × InLog = (h.pid, x) in p)) f
+-- what is put of one
+pub nothing-filled : (t : Mapping PageOfKind) (r : Rebuilt) → r.page ≡ None → t ≡ filled t (entry_if r.log.pid r.page)
+nothing-filled t r none = sym (ap (λ (o : Option PageOfKind). filled t (entry_if r.log.pid o)) none ∙ filled-none t)
+
+pub made-filled : {X : Type 0} (e : Result X AllocError) (t now : Mapping PageOfKind) (r : Rebuilt) (p : PageOfKind) → r.page ≡ Some p
+    → OnOk e (now ≡ record { places = t.places ++ (r.log.pid, Some p) ∷ []; logged = t.logged }) → OnOk e (now ≡ filled t (entry_if r.log.pid r.page))
+made-filled e t now r p some h = subst (λ (o : Option PageOfKind). OnOk e (now ≡ filled t (entry_if r.log.pid o))) (sym some) h
+
+-- where none is left, all are in the table
+pub all_filled : (old t : Mapping PageOfKind) (left all : List Rebuilt) → left ≡ [] → IsFilledBy old t left all → t ≡ filled old (pages_made all)
+all_filled old t left all none h = sym (filled-none t) ∙ ap (λ (rs : List Rebuilt). filled t (pages_made rs)) (sym none) ∙ h.placed
 
 first_same : {X : Type 0} (x y : X) (xs ys : List X) → x ∷ xs ≡ y ∷ ys → (x ≡ y) × (xs ≡ ys)
 first_same x y xs ys e = (cc, cc)
 
-pub said-logs : (rs : List Rebuilt) (hs : List HeldLog) → map held_done rs ≡ hs → map told_by rs ≡ map (λ h. told_page h.contents) hs → map said_by rs ≡ map said_of hs
-said-logs [] [] e f = refl
-said-logs [] (h ∷ hs) e f = absurd (cc)
-said-logs (r ∷ rs) [] e f = absurd (cc)
-said-logs (r ∷ rs) (h ∷ hs) e f =
-    let held = first_same (held_done r) h (map held_done rs) hs e in
-    let told = first_same (told_by r) (told_page h.contents) (map told_by rs) (map (λ (h : HeldLog). told_page h.contents) hs) f in
-    ap (λ (x : ℕ × InLog). x ∷ map said_by rs) (said_by_parts r h held.0 told.0) ∙ ap (λ (xs : List (ℕ × InLog)). said_of h ∷ xs) (said-logs rs hs held.1 told.1)
+-- what was made of logs are the pages that they tell
+pub pages-made : (s : Settings) (rs : List Rebuilt) (hs : List HeldLog) → logs_made rs ≡ hs → map (λ r. r.page) rs ≡ map (λ h. page_in (told_in s h.frames)) hs → pages_made rs ≡ pages_told s hs
+pages-made s [] [] e f = refl
+pages-made s [] (h ∷ hs) e f = absurd (cc)
+pages-made s (r ∷ rs) [] e f = absurd (cc)
+pages-made s (r ∷ rs) (h ∷ hs) e f =
+    let held = first_same (held_log r.log) h (logs_made rs) hs e in
+    let made = first_same r.page (page_in (told_in s h.frames)) (map (λ (q : Rebuilt). q.page) rs) (map (λ (g : HeldLog). page_in (told_in s g.frames)) hs) f in
+    ap (λ (x : HeldLog). entry_if x.pid r.page ++ pages_made rs) held.0
+    ∙ ap (λ (o : Option PageOfKind). entry_if h.pid o ++ pages_made rs) made.0
+    ∙ ap (λ (ps : List (ℕ × PageOfKind)). entry_if h.pid (page_in (told_in s h.frames)) ++ ps) (pages-made s rs hs held.1 made.1)
 
--- where there is no log, there is no page
-free_none : (c : Content) → not (is_free c) ≡ false → told_page (c ∷ []) ≡ Missing
-free_none (FullLeaf low base) e = absurd (cc)
-free_none (DeltaLeaf run) e = refl
-free_none (FullIndex low base) e = absurd (cc)
-free_none (DeltaIndex run) e = refl
-free_none Free e = refl
+-- ---- some at a time
 
-no_page : (cs : List Content) → is_more cs ≡ false → told_page cs ≡ Missing
-no_page [] e = refl
-no_page (c ∷ []) e = free_none c e
-no_page (c ∷ d ∷ cs) e = absurd (cc)
+pages-behind : (s : Settings) (gs hs : List HeldLog) → pages_told s (gs ++ hs) ≡ pages_told s gs ++ pages_told s hs
+pages-behind s [] hs = refl
+pages-behind s (g ∷ gs) hs =
+    ap (λ (ps : List (ℕ × PageOfKind)). entry_if g.pid (page_in (told_in s g.frames)) ++ ps) (pages-behind s gs hs)
+    ∙ sym (append_assoc (entry_if g.pid (page_in (told_in s g.frames))) (pages_told s gs) (pages_told s hs))
 
-pages_by : (b : Bool) (h : HeldLog) (hs : List HeldLog) → is_log h ≡ b → pages_said (map said_of (filter is_log hs)) ≡ pages_said (map said_of hs)
-    → pages_said (map said_of (filter is_log (h ∷ hs))) ≡ pages_said (map said_of (h ∷ hs))
-pages_by true h hs e rest = rw e (ap (λ (ps : List (ℕ × PageOfKind)). entry_if h.pid (page_in (told_page h.contents)) ++ ps) rest)
-pages_by false h hs e rest =
-    let left : filter is_log (h ∷ hs) ≡ filter is_log hs = rw e refl in
-    ap (λ (ls : List HeldLog). pages_said (map said_of ls)) left ∙ rest
-    ∙ ap (λ (x : InLog). entry_if h.pid (page_in x) ++ pages_said (map said_of hs)) (sym (no_page h.contents e))
+-- of the pages that are kept: the table, the logs that were put aside and those that are left are all; and their pids rise in this order
+pub record AreAside (s : Settings) (t : Mapping PageOfKind) (logs : List HeldLog) (left all : List (ℕ × Kept)) : Type 0 where
+  pub rising : AreRisingPids (pids_in t (log_pids (logs ++ map log_under left)))
+  pub placed : filled t (pages_told s (logs ++ map log_under left)) ≡ record { places = in_places (pages_told s (map log_under all)); logged = [] }
 
--- so the logs say as much as all that is kept
-pages-filtered : (hs : List HeldLog) → pages_said (map said_of (filter is_log hs)) ≡ pages_said (map said_of hs)
-pages-filtered [] = refl
-pages-filtered (h ∷ hs) = pages_by (is_log h) h hs refl (pages-filtered hs)
+log_pids-under : (es : List (ℕ × Kept)) → log_pids (map log_under es) ≡ keys_of es
+log_pids-under [] = refl
+log_pids-under (e ∷ es) = ap (λ (ns : List ℕ). e.0 ∷ ns) (log_pids-under es)
 
-abbrev broken_at : ℕ → InLog → Option Finding → Option Finding
-broken_at n x o = cond (is_broken x) (Some (record { rule = 1; pid = n })) o
+log_pids-append : (gs hs : List HeldLog) → log_pids (gs ++ hs) ≡ log_pids gs ++ log_pids hs
+log_pids-append gs hs = map-append (λ (h : HeldLog). h.pid) gs hs
 
-broken_by : (b : Bool) (h : HeldLog) (hs : List HeldLog) → is_log h ≡ b → broken_said (map said_of (filter is_log hs)) ≡ broken_said (map said_of hs)
-    → broken_said (map said_of (filter is_log (h ∷ hs))) ≡ broken_said (map said_of (h ∷ hs))
-broken_by true h hs e rest = rw e (ap (λ (o : Option Finding). broken_at h.pid (told_page h.contents) o) rest)
-broken_by false h hs e rest =
-    let left : filter is_log (h ∷ hs) ≡ filter is_log hs = rw e refl in
-    ap (λ (ls : List HeldLog). broken_said (map said_of ls)) left ∙ rest
-    ∙ ap (λ (x : InLog). broken_at h.pid x (broken_said (map said_of hs))) (sym (no_page h.contents e))
+-- none yet
+pub aside-none : (s : Settings) (t : Mapping PageOfKind) (logs : List HeldLog) (left all : List (ℕ × Kept)) → t ≡ record { places = []; logged = [] } → logs ≡ [] → left ≡ all → IsStrictlySortedBy nat_cmp (keys_of all)
+    → AreAside s t logs left all
+aside-none s t logs left all empty none whole sorted =
+    let e : AreAside s (record { places = []; logged = [] }) [] all all = record {
+      rising = subst (λ (ns : List ℕ). AreRisingPids ns) (sym (log_pids-under all)) (keys-rise (keys_of all) sorted);
+      placed = refl;
+    } in
+    subst (λ (es : List (ℕ × Kept)). AreAside s t logs es all) (sym whole)
+    (subst (λ (u : Mapping PageOfKind). AreAside s u logs all all) (sym empty) (subst (λ (hs : List HeldLog). AreAside s (record { places = []; logged = [] }) hs all all) (sym none) e))
 
-broken-filtered : (hs : List HeldLog) → broken_said (map said_of (filter is_log hs)) ≡ broken_said (map said_of hs)
-broken-filtered [] = refl
-broken-filtered (h ∷ hs) = broken_by (is_log h) h hs refl (broken-filtered hs)
+pub put-aside : (now items : List PageLog) (x : PageLog) (e : ℕ × Kept) → now ≡ items ++ x ∷ [] → held_log x ≡ log_under e → map held_log now ≡ map held_log items ++ log_under e ∷ []
+put-aside now items x e put same = ap (λ (ls : List PageLog). map held_log ls) put ∙ map-append held_log items (x ∷ []) ∙ ap (λ (h : HeldLog). map held_log items ++ h ∷ []) same
 
-module _ (fs : List Frame) where
-  abbrev logs_under : List ℕ → List HeldLog
-  logs_under ns = map (kept_log fs) ns
+pub empty_by : (bytes : List ℕ) (n : ℕ) → length bytes ≡ n → (n == 0) ≡ true → bytes ≡ []
+empty_by [] n same e = refl
+empty_by (b ∷ bytes) n same e = let none = ne_eqb n 0 (λ h. omega (arith, h, same)) in absurd (cc)
 
-  pages-under : (ns : List ℕ) → pages_said (map said_of (logs_under ns)) ≡ pages_under fs ns
-  pages-under [] = refl
-  pages-under (n ∷ ns) = ap (λ (ps : List (ℕ × PageOfKind)). entry_if n (page_in (in_log fs n)) ++ ps) (pages-under ns)
-
-  broken-under : (ns : List ℕ) → broken_said (map said_of (logs_under ns)) ≡ broken_under fs ns
-  broken-under [] = refl
-  broken-under (n ∷ ns) = ap (λ (o : Option Finding). cond (is_broken (in_log fs n)) (Some (record { rule = 1; pid = n })) o) (broken-under ns)
-
-  -- of what was made of the logs: the pages, and what is broken, are those of the frames
-  pub record IsSaidOf (rs : List Rebuilt) : Type 0 where
-    pub pages : pages_said (map said_by rs) ≡ pages_of fs
-    pub broken : broken_said (map said_by rs) ≡ broken_in fs
-
-  pub said-of : (rs : List Rebuilt) (hs : List HeldLog) → map held_done rs ≡ hs → map told_by rs ≡ map (λ h. told_page h.contents) hs → hs ≡ logs_of fs → IsSaidOf rs
-  said-of rs hs e f g =
-      let all : map said_by rs ≡ map said_of (logs_of fs) = said-logs rs hs e f ∙ ap (λ (x : List HeldLog). map said_of x) g in
+module _ (s : Settings) (t : Mapping PageOfKind) (logs : List HeldLog) (left rest all : List (ℕ × Kept)) (h : AreAside s t logs left all) (e : ℕ × Kept) (is : left ≡ e ∷ rest) where
+  -- one more is put aside
+  pub aside-more : (now : List HeldLog) → now ≡ logs ++ log_under e ∷ [] → AreAside s t now rest all
+  aside-more now put =
+      let same : logs ++ map log_under left ≡ now ++ map log_under rest =
+      ap (λ (es : List (ℕ × Kept)). logs ++ map log_under es) is ∙ sym (append_assoc logs (log_under e ∷ []) (map log_under rest)) ∙ ap (λ (hs : List HeldLog). hs ++ map log_under rest) (sym put) in
       record {
-        pages = ap (λ (ss : List (ℕ × InLog)). pages_said ss) all ∙ pages-filtered (logs_under (pids_of fs)) ∙ pages-under (pids_of fs);
-        broken = ap (λ (ss : List (ℕ × InLog)). broken_said ss) all ∙ broken-filtered (logs_under (pids_of fs)) ∙ broken-under (pids_of fs);
+        rising = subst (λ (hs : List HeldLog). AreRisingPids (pids_in t (log_pids hs))) same h.rising;
+        placed = ap (λ (hs : List HeldLog). filled t (pages_told s hs)) (sym same) ∙ h.placed;
       }
+
+  -- and one that has no frames need not be
+  pub aside-passed : e.1.frames.items ≡ [] → AreAside s t logs rest all
+  aside-passed none =
+      let split : pages_told s (logs ++ map log_under left) ≡ pages_told s (logs ++ map log_under rest) =
+      ap (λ (es : List (ℕ × Kept)). pages_told s (logs ++ map log_under es)) is ∙ pages-behind s logs (log_under e ∷ map log_under rest)
+      ∙ ap (λ (bs : List ℕ). pages_told s logs ++ (entry_if e.0 (page_in (told_in s bs)) ++ pages_told s (map log_under rest))) none
+      ∙ sym (pages-behind s logs (map log_under rest)) in
+      let parts : pids_in t (log_pids (logs ++ map log_under left)) ≡ (keys_of t.places ++ log_pids logs) ++ e.0 ∷ log_pids (map log_under rest) =
+      ap (λ (es : List (ℕ × Kept)). pids_in t (log_pids (logs ++ map log_under es))) is ∙ ap (λ (ns : List ℕ). keys_of t.places ++ ns) (log_pids-append logs (log_under e ∷ map log_under rest))
+      ∙ sym (append_assoc (keys_of t.places) (log_pids logs) (e.0 ∷ log_pids (map log_under rest))) in
+      let left_out : AreRisingPids ((keys_of t.places ++ log_pids logs) ++ log_pids (map log_under rest)) =
+      rising-left_out (keys_of t.places ++ log_pids logs) (log_pids (map log_under rest)) e.0 (subst (λ (ns : List ℕ). AreRisingPids ns) parts h.rising) in
+      record {
+        rising = subst (λ (ns : List ℕ). AreRisingPids ns) (append_assoc (keys_of t.places) (log_pids logs) (log_pids (map log_under rest)) ∙ ap (λ (ns : List ℕ). keys_of t.places ++ ns) (sym (log_pids-append logs (map log_under rest)))) left_out;
+        placed = ap (λ (ps : List (ℕ × PageOfKind)). filled t ps) (sym split) ∙ h.placed;
+      }
+
+module _ (s : Settings) (t : Mapping PageOfKind) (logs : List HeldLog) (left all : List (ℕ × Kept)) (h : AreAside s t logs left all) where
+  split_rising : (ms ns : List ℕ) → AreRisingPids (ms ++ ns) → AreRisingPids ms
+  split_rising [] ns r = tt
+  split_rising (m ∷ ms) ns r = (first_all (λ k. m < k) ms ns r.0, split_rising ms ns r.1)
+    where
+      first_all : (P : ℕ → Type 0) (ms ns : List ℕ) → AllByRecursion P (ms ++ ns) → AllByRecursion P ms
+      first_all P [] ns a = tt
+      first_all P (k ∷ ks) ns a = (a.0, first_all P ks ns a.1)
+
+  -- those that are aside may be built
+  pub aside-rise : AreRisingPids (keys_of t.places ++ log_pids logs)
+  aside-rise =
+      split_rising (keys_of t.places ++ log_pids logs) (log_pids (map log_under left))
+      (subst (λ (ns : List ℕ). AreRisingPids ns) (ap (λ (ns : List ℕ). keys_of t.places ++ ns) (log_pids-append logs (map log_under left)) ∙ sym (append_assoc (keys_of t.places) (log_pids logs) (log_pids (map log_under left)))) h.rising)
+
+  keys-filled : (hs : List HeldLog) (ns : List ℕ) → AreRisingPids ((keys_of t.places ++ log_pids hs) ++ ns) → AreRisingPids (keys_of (filled t (pages_told s hs)).places ++ ns)
+  keys-filled hs ns r = subst (λ (ms : List ℕ). AreRisingPids (ms ++ ns)) (sym (keys-append t.places (in_places (pages_told s hs)))) (subst (λ (ms : List ℕ). AreRisingPids ms) (sym (append_assoc (keys_of t.places) (keys_of (in_places (pages_told s hs))) ns)) (thinned (keys_of t.places) hs ns (subst (λ (ms : List ℕ). AreRisingPids ms) (append_assoc (keys_of t.places) (log_pids hs) ns) r)))
+    where
+      keys-append : (es gs : List (ℕ × Option PageOfKind)) → keys_of (es ++ gs) ≡ keys_of es ++ keys_of gs
+      keys-append [] gs = refl
+      keys-append (x ∷ es) gs = ap (λ (ms : List ℕ). x.0 ∷ ms) (keys-append es gs)
+
+      thin_by : (o : Option PageOfKind) (ms : List ℕ) (g : HeldLog) (gs : List HeldLog) (ns : List ℕ) → AreRisingPids (ms ++ ((g.pid ∷ log_pids gs) ++ ns))
+          → ((ks : List ℕ) → AreRisingPids (ks ++ (log_pids gs ++ ns)) → AreRisingPids (ks ++ (keys_of (in_places (pages_told s gs)) ++ ns)))
+          → AreRisingPids (ms ++ (keys_of (in_places (entry_if g.pid o ++ pages_told s gs)) ++ ns))
+      thin_by None ms g gs ns r on = on ms (rising-left_out ms (log_pids gs ++ ns) g.pid r)
+      thin_by (Some p) ms g gs ns r on =
+          subst (λ (ks : List ℕ). AreRisingPids ks) (append_assoc ms (g.pid ∷ []) (keys_of (in_places (pages_told s gs)) ++ ns))
+          (on (ms ++ g.pid ∷ []) (subst (λ (ks : List ℕ). AreRisingPids ks) (sym (append_assoc ms (g.pid ∷ []) (log_pids gs ++ ns))) r))
+
+      thinned : (ms : List ℕ) (gs : List HeldLog) (ns : List ℕ) → AreRisingPids (ms ++ (log_pids gs ++ ns)) → AreRisingPids (ms ++ (keys_of (in_places (pages_told s gs)) ++ ns))
+      thinned ms [] ns r = r
+      thinned ms (g ∷ gs) ns r = thin_by (page_in (told_in s g.frames)) ms g gs ns r (λ ks q. thinned ks gs ns q)
+
+  -- and then none is aside
+  pub aside-built : (now : Mapping PageOfKind) (none : List HeldLog) → now ≡ filled t (pages_told s logs) → none ≡ [] → AreAside s now none left all
+  aside-built now none built empty =
+      let e : AreAside s (filled t (pages_told s logs)) [] left all = record {
+        rising = keys-filled logs (log_pids (map log_under left))
+            (subst (λ (ns : List ℕ). AreRisingPids ns) (ap (λ (ns : List ℕ). keys_of t.places ++ ns) (log_pids-append logs (map log_under left)) ∙ sym (append_assoc (keys_of t.places) (log_pids logs) (log_pids (map log_under left)))) h.rising);
+        placed = filled-more t (pages_told s logs) (pages_told s (map log_under left)) ∙ ap (λ (ps : List (ℕ × PageOfKind)). filled t ps) (sym (pages-behind s logs (map log_under left))) ∙ h.placed;
+      } in
+      subst (λ (u : Mapping PageOfKind). AreAside s u none left all) (sym built) (subst (λ (hs : List HeldLog). AreAside s (filled t (pages_told s logs)) hs left all) (sym empty) e)
+
+  -- where none is left either, all are in the table once these are built
+  pub aside-all : (now : Mapping PageOfKind) → left ≡ [] → now ≡ filled t (pages_told s logs) → now ≡ record { places = in_places (pages_told s (map log_under all)); logged = [] }
+  aside-all now none built =
+      built ∙ ap (λ (hs : List HeldLog). filled t (pages_told s hs)) (sym (append-nil logs))
+      ∙ ap (λ (es : List (ℕ × Kept)). filled t (pages_told s (logs ++ map log_under es))) (sym none) ∙ h.placed
+
+-- ---- what is kept tells the pages of the log
+
+module _ (s : Settings) (good : first_bad_field s ≡ None) (head : ℕ) (found : List Found) (within : AllByRecursion (λ f. is_frame s f.frame ≡ true) found) where
+  -- the frames that are kept of a page tell it
+  page_kept : (k : Kept) (pid : ℕ) → IsKept Every head k (telling pid found) → page_in (told_in s k.frames.items) ≡ page_in (in_log (frames_in found) pid)
+  page_kept k pid h =
+      ap (λ (bs : List ℕ). page_in (told_in s bs)) h.frames
+      ∙ ap (λ (fs : List Frame). page_in (told_page (map (λ (f : Frame). f.content) fs))) (bytes-frames s good (wanted_of Every head (telling pid found)) (wanted-within s Every head (telling pid found) (telling-within s pid found within)))
+      ∙ wanted-page head (telling pid found)
+      ∙ ap page_in (sym (told-in_log found pid))
+
+  abbrev KeepEach : List (ℕ × Kept) → Type 0
+  KeepEach es = (n : ℕ) → is_among n (keys_of es) ≡ true → IsKeptOf Every head (lookup (nat_eq n) es) (telling n found)
+
+  pages_kept : (es : List (ℕ × Kept)) → AreRisingPids (keys_of es) → KeepEach es → pages_told s (map log_under es) ≡ pages_under (frames_in found) (keys_of es)
+  pages_kept [] r h = refl
+  pages_kept ((k, v) ∷ es) r h =
+      ap (λ (o : Option PageOfKind). entry_if k o ++ pages_told s (map log_under es)) (page_kept v k (first_is Every head found k v es h))
+      ∙ ap (λ (ps : List (ℕ × PageOfKind)). entry_if k (page_in (in_log (frames_in found) k)) ++ ps) (pages_kept es r.1 (later_are Every head found k v es r h))
+
+-- of a log of which all frames are kept
+pub pages-gathered : (s : Settings) (g : Gathering) (found : List Found) → first_bad_field s ≡ None → IsStrictlySortedBy nat_cmp (keys_of g.by_pid.entries) → AreGathered s Every g found
+    → pages_told s (map log_under g.by_pid.entries) ≡ pages_of (frames_in found)
+pages-gathered s g found good sorted h =
+    let es = g.by_pid.entries in
+    let order = in-order Every (first_segment found) g.by_pid found sorted h.live.kept in
+    pages_kept s good (first_segment found) found h.within es order.rise order.each ∙ ap (λ (ns : List ℕ). pages_under (frames_in found) ns) order.all
 
 -- ---- the tree
 
@@ -305,6 +425,10 @@ pub found_by_walk : (o : Option Finding) (fault : Fault) → IsFaultOf o fault �
 found_by_walk None fault h = inl h
 found_by_walk (Some f) fault (inl e) = inl e
 found_by_walk (Some f) fault (inr e) = inr (f, refl, e)
+
+-- pages that fit no page come first
+pub found_first : (o p : Option Finding) (q : Option Finding) (f : Finding) → o ≡ Some f → o ≡ p → or_else p q ≡ Some f
+found_first o p q f is same = ap (λ (x : Option Finding). or_else x q) (sym same ∙ is)
 
 -- what leaves by `?` is one of them
 pub found_leaves : {T : Type 0} (r : Result T Fault) (o : Option Finding) (fault : Fault) → IsErrAnd r (λ e. e ≡ fault) → IsFoundOrLate o fault → IfErr r (λ e. IsFoundOrLate o e)

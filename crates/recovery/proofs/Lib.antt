@@ -13,6 +13,8 @@ pub mod FoundWithin
 pub mod FrontLemmas
 pub mod GatherLemmas
 mod HiddenBytes
+pub mod KeptLemmas
+pub mod KeptPages
 pub mod KeptStore
 pub mod NothingDue
 mod PageRows

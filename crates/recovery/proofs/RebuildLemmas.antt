@@ -1,112 +1,134 @@
--- How a page is built of what its frames say, and taken apart again.
-use Rattle.std.proofs.Common.{◌≡◌, ◌≤◌, List, [], ◌∷◌, ◌++◌, map, reverse, length, fold, Option, None, refl, sym, ap, ◌∙◌, arith}
-use Rattle.std.proofs.lemmas.List.{map-append, reverse-append, reverse-reverse, append-nil}
-use Rattle.keys.specs.Bytes.{Changes}
-use Rattle.crew.specs.Turn.{IfDone, IfBack}
-use Rattle.crew.specs.declared.Turn.{Turn}
-use Rattle.crew.specs.declared.Turn.TheVariants.{Done, Back}
-use Rattle.frame_codec.specs.Frame.{Content}
-use Rattle.frame_codec.specs.declared.frame.Frame as code
+-- How a page is built of the frames that tell it, one after the other.
+use Rattle.std.specs.Prelude.{◌≡◌, ℕ, ◌-◌, ◌<◌, ◌≤◌, ◌==◌, Bool, true, false, List, [], ◌∷◌, ◌++◌, map, fold, length, take, drop, Option, Some, None, Result, Ok, Err}
+use Rattle.std.proofs.Common.{refl, sym, ap, ◌∙◌, subst, arith, append_assoc}
+use Rattle.std.proofs.lemmas.Bool.{ne_eqb}
+use Rattle.std.proofs.lemmas.List.{map-append, length-drop}
+use Rattle.keys.specs.Bytes.{Bytes}
+use Rattle.keys.specs.declared.settings.Settings.{Settings}
 use Rattle.index_page.specs.Page.{PageOfKind}
-use Rattle.flush_log.specs.FlushText.{whole_page}
-use Rattle.recovery.specs.PageByLog.{InLog, base_in, begun_page, present_or_missing, continued, told_page}
+use Rattle.frame_codec.specs.Frame.{Content, Frame, bytes_of}
+use Rattle.frame_codec.specs.Reading.{read_frame}
+use Rattle.flush_log.specs.Reading.{is_at_tail, with_first, read_frames}
+use Rattle.recovery.specs.PageByLog.{base_in, is_base, begun_page, present_or_missing, continued, told_page, page_in, InLog}
 use Rattle.recovery.specs.PageByLog.InLog.{Present, Broken}
-use Rattle.recovery.specs.Rebuild.{content_of, contents_in}
-use Rattle.recovery.proofs.BrokenLemmas.{broken-stays, missing-breaks}
-use Rattle.recovery.proofs.TellLemmas.{told-whole, told-more}
+use Rattle.recovery.specs.Rebuild.{all_or_none, frames_of_bytes, told_in}
+use Rattle.recovery.proofs.BrokenLemmas.{broken-stays}
+use Rattle.recovery.proofs.KeptLemmas.{some_bytes}
+use Rattle.recovery.proofs.KeptPages.{none-page}
+use Rattle.recovery.proofs.ScanLemmas.{left-behind, with_front, front-err, AreRead, read-none, read-more, read-all, read-broken}
+use Rattle.recovery.proofs.TellLemmas.{told-more}
 
-map_reverse : {A B : Type 0} (f : A → B) (xs : List A) → map f (reverse xs) ≡ reverse (map f xs)
-map_reverse f [] = refl
-map_reverse f (x ∷ xs) =
-    ap (λ ys. map f ys) (reverse-append (x ∷ []) xs)
-    ∙ map-append f (reverse xs) (x ∷ [])
-    ∙ ap (λ ys. ys ++ f x ∷ []) (map_reverse f xs)
-    ∙ sym (reverse-append (f x ∷ []) (map f xs))
+abbrev said : List Frame → List Content
+said fs = map (λ (f : Frame). f.content) fs
 
--- of one kind of run
-module _ {V : Type 0} (delta : Changes V → Content) where
-  -- a base and runs, the oldest first, turned round
-  pub turned : (base : Content) (runs : List (Changes V)) → map delta runs ++ base ∷ [] ≡ reverse (base ∷ map delta (reverse runs))
-  turned base runs =
-      ap (λ (cs : List Content). cs ++ base ∷ []) (sym (reverse-reverse (map delta runs)) ∙ ap reverse (sym (map_reverse delta runs)))
-      ∙ sym (reverse-append (base ∷ []) (map delta (reverse runs)))
+not_at_tail : (bs : Bytes) → 1 ≤ length bs → is_at_tail bs ≡ false
+not_at_tail [] h = absurd (omega (arith, h))
+not_at_tail (b ∷ bs) h = refl
 
-  -- what frames say, and then what is still to be appended: runs, the newest first, and a base
-  abbrev pub with_all : List code.Frame → List (Changes V) → Content → List Content
-  with_all items runs base = contents_in items ++ (map delta runs ++ base ∷ [])
+-- of bytes, of which these were read and these are left, nothing is a page whatever is read of them
+none_read : (fs : List Frame) (r : Result (List Frame) ℕ) → ((gs : List Frame) → page_in (told_page (said (fs ++ gs))) ≡ None) → page_in (told_page (said (all_or_none (with_front fs r)))) ≡ None
+none_read fs (Ok gs) none = ap (λ (x : Result (List Frame) ℕ). page_in (told_page (said (all_or_none x)))) (front fs) ∙ none gs
+  where
+    front : (hs : List Frame) → with_front hs (Ok gs) ≡ (let x : Result (List Frame) ℕ = Ok (hs ++ gs) in x)
+    front [] = refl
+    front (h ∷ hs) = ap (λ (x : Result (List Frame) ℕ). with_first h x) (front hs)
+none_read fs (Err left) none = ap (λ (x : Result (List Frame) ℕ). page_in (told_page (said (all_or_none x)))) (front-err fs left)
 
--- frames on a list, of which the last is on top, turned round
-turned_round : (items : List code.Frame) (f : code.Frame) → reverse (contents_in (items ++ f ∷ [])) ≡ content_of f ∷ reverse (contents_in items)
-turned_round items f = ap reverse (map-append content_of items (f ∷ [])) ∙ reverse-append (contents_in items) (content_of f ∷ [])
+module _ (s : Settings) where
+  -- a frame that was read at the front of bytes
+  pub record IsReadAt (rest : Bytes) (f : Frame) (size : ℕ) : Type 0 where
+    pub found : read_frame s rest ≡ Some (f, drop size rest)
+    pub long : size ≡ length (bytes_of f)
+    pub within : size ≤ length rest
 
--- what is left of a log, where a frame is put back on top and the list is turned round
-pub one-put-back : (items made now : List code.Frame) (f : code.Frame) → made ≡ items ++ f ∷ [] → now ≡ reverse made
-    → contents_in now ≡ content_of f ∷ reverse (contents_in items)
-one-put-back items made now f put turned =
-    ap (λ (fs : List code.Frame). contents_in fs) turned ∙ map_reverse content_of made ∙ ap (λ (fs : List code.Frame). reverse (contents_in fs)) put ∙ turned_round items f
+  abbrev behind : ℕ → Bytes → Bytes
+  behind size rest = take (length rest - size) (drop size rest)
 
--- and the frames of a page on top of it
-pub page-put-back : (items made taken now : List code.Frame) (f : code.Frame) (cs : List Content) → made ≡ items ++ f ∷ []
-    → contents_in taken ≡ contents_in made ++ reverse cs → now ≡ reverse taken
-    → contents_in now ≡ cs ++ content_of f ∷ reverse (contents_in items)
-page-put-back items made taken now f cs put apart turned =
-    ap (λ (fs : List code.Frame). contents_in fs) turned ∙ map_reverse content_of taken ∙ ap reverse apart
-    ∙ reverse-append (contents_in made) (reverse cs)
-    ∙ ap (λ (ds : List Content). ds ++ reverse (contents_in made)) (reverse-reverse cs)
-    ∙ ap (λ (ds : List Content). cs ++ ds) (ap (λ (fs : List code.Frame). reverse (contents_in fs)) put ∙ turned_round items f)
+  pub less_behind : (rest : Bytes) (f : Frame) (size : ℕ) → IsReadAt rest f size → length (behind size rest) < length rest
+  less_behind rest f size h =
+      let some = some_bytes f in
+      let long = ap (λ (bs : Bytes). length bs) (left-behind size rest) in
+      let left = length-drop size rest in
+      let is = h.long in
+      let fits = h.within in
+      omega (arith, some, long, left, is, fits)
 
--- ---- what they say
+  one_more : (long : ℕ) (body rest : Bytes) (fs : List Frame) (f : Frame) (size : ℕ) → AreRead s is_at_tail long body fs rest → is_at_tail rest ≡ false → IsReadAt rest f size
+      → AreRead s is_at_tail long body (fs ++ f ∷ []) (behind size rest)
+  one_more long body rest fs f size h more at =
+      let less = subst (λ (bs : Bytes). length bs < length rest) (left-behind size rest) (less_behind rest f size at) in
+      subst (λ (bs : Bytes). AreRead s is_at_tail long body (fs ++ f ∷ []) bs) (sym (left-behind size rest)) (read-more s is_at_tail long body fs rest (drop size rest) f h more at.found less)
 
--- behind what is no base any frame is broken
-pub none-broken : (c : Content) (cs : List Content) → base_in c ≡ None → 1 ≤ length cs → fold continued (begun_page c) cs ≡ Broken
-none-broken c [] none some = absurd (omega (arith, some))
-none-broken c (d ∷ cs) none some =
-    ap (λ (o : Option PageOfKind). fold continued (continued (present_or_missing o) d) cs) none
-    ∙ ap (λ (told : InLog). fold continued told cs) (missing-breaks d)
-    ∙ broken-stays cs
+  -- of these bytes these are left, and the frames in front of them tell this page
+  pub record IsToldUpto (bytes : Bytes) (p : PageOfKind) (rest : Bytes) : Type 0 where
+    pub frames : List Frame
+    pub read : AreRead s is_at_tail (length bytes) bytes frames rest
+    pub told : told_page (said frames) ≡ Present p
 
--- the first frame is the one on top of the list that was turned round
-pub popped : (items turned left : List code.Frame) (f : code.Frame) → turned ≡ reverse items → turned ≡ left ++ f ∷ []
-    → contents_in items ≡ content_of f ∷ reverse (contents_in left)
-popped items turned left f round top =
-    let again : items ≡ reverse (left ++ f ∷ []) = sym (reverse-reverse items) ∙ ap reverse (sym round ∙ top) in
-    one-put-back left (left ++ f ∷ []) items f refl again
+  has_more : (bytes : Bytes) (f : Frame) (size : ℕ) → IsReadAt bytes f size → is_at_tail bytes ≡ false
+  has_more bytes f size h =
+      let some = some_bytes f in
+      let is = h.long in
+      let fits = h.within in
+      not_at_tail bytes (omega (arith, some, is, fits))
 
--- and the next one
-pub next_left : (frames left : List code.Frame) (f : code.Frame) → frames ≡ left ++ f ∷ [] → reverse (contents_in frames) ≡ content_of f ∷ reverse (contents_in left)
-next_left frames left f top = ap (λ (fs : List code.Frame). reverse (contents_in fs)) top ∙ turned_round left f
+  -- the first frame is a base
+  pub upto-first : (bytes : Bytes) (f : Frame) (size : ℕ) (p : PageOfKind) → IsReadAt bytes f size → base_in f.content ≡ Some p → IsToldUpto bytes p (behind size bytes)
+  upto-first bytes f size p h base = record {
+    frames = f ∷ [];
+    read = one_more (length bytes) bytes bytes [] f size (read-none s is_at_tail (length bytes) bytes (omega arith)) (has_more bytes f size h) h;
+    told = ap present_or_missing base;
+  }
 
--- a page with a frame behind it that doesn't fit
-pub broken-told : (p : PageOfKind) (c : Content) (cs all : List Content) → continued (Present p) c ≡ Broken → whole_page p ++ c ∷ cs ≡ all → Broken ≡ told_page all
-broken-told p c cs all unfit is =
-    sym (ap told_page (sym is) ∙ told-more (whole_page p) (c ∷ cs) p (told-whole p) ∙ ap (λ (told : InLog). fold continued told cs) unfit ∙ broken-stays cs)
+  -- and the next one a run of that page
+  pub upto-more : (bytes rest : Bytes) (p q : PageOfKind) (f : Frame) (size : ℕ) → IsToldUpto bytes p rest → IsReadAt rest f size → continued (Present p) f.content ≡ Present q → IsToldUpto bytes q (behind size rest)
+  upto-more bytes rest p q f size h at run = record {
+    frames = h.frames ++ f ∷ [];
+    read = one_more (length bytes) bytes rest h.frames f size h.read (has_more rest f size at) at;
+    told = ap told_page (map-append (λ (g : Frame). g.content) h.frames (f ∷ [])) ∙ told-more (said h.frames) (f.content ∷ []) p h.told ∙ run;
+  }
 
--- and a page alone
-pub page-told : (p : PageOfKind) (frames : List code.Frame) (all : List Content) → length frames ≡ 0 → whole_page p ++ reverse (contents_in frames) ≡ all → Present p ≡ told_page all
-page-told p [] all none is = sym (ap told_page (sym is ∙ append-nil (whole_page p)) ∙ told-whole p)
-page-told p (f ∷ fs) all none is = absurd (omega (arith, none))
+  abbrev page_told : Result (List Frame) ℕ → Option PageOfKind
+  page_told r = page_in (told_page (said (all_or_none r)))
 
--- whose frames are then all that the log said
-pub whole-alone : (p : PageOfKind) (frames : List code.Frame) (all : List Content) → length frames ≡ 0 → whole_page p ++ reverse (contents_in frames) ≡ all → whole_page p ≡ all
-whole-alone p [] all none is = sym (append-nil (whole_page p)) ∙ is
-whole-alone p (f ∷ fs) all none is = absurd (omega (arith, none))
+  -- no byte is left: that is the page
+  pub told-all : (bytes rest : Bytes) (p : PageOfKind) → IsToldUpto bytes p rest → is_at_tail rest ≡ true → Some p ≡ page_in (told_in s bytes)
+  told-all bytes rest p h e = sym (ap page_told (read-all s is_at_tail (length bytes) bytes h.frames rest h.read e) ∙ ap page_in h.told)
 
--- ---- what became of a job
+  -- what is left begins with no frame
+  pub told-other : (bytes rest : Bytes) (p : PageOfKind) → IsToldUpto bytes p rest → is_at_tail rest ≡ false → read_frame s rest ≡ None → None ≡ page_in (told_in s bytes)
+  told-other bytes rest p h e none = sym (ap page_told (read-broken s is_at_tail (length bytes) bytes h.frames rest h.read e none))
 
-module _ {J D X : Type 0} where
-  -- what was made, or came back, is what that is
-  pub done-same : (r : Turn J D) (f : D → X) (x y : X) → x ≡ y → IfDone r (λ d. f d ≡ x) → IfDone r (λ d. f d ≡ y)
-  done-same (Done d) f x y e h = h ∙ e
-  done-same (Back j) f x y e h = tt
+  -- or with one that doesn't fit
+  pub told-unfit : (bytes rest : Bytes) (p : PageOfKind) (f : Frame) (size : ℕ) → IsToldUpto bytes p rest → IsReadAt rest f size → continued (Present p) f.content ≡ Broken → None ≡ page_in (told_in s bytes)
+  told-unfit bytes rest p f size h at unfit =
+      let fs = h.frames in
+      let read = one_more (length bytes) bytes rest fs f size h.read (has_more rest f size at) at in
+      let broken : (gs : List Frame) → page_in (told_page (said ((fs ++ f ∷ []) ++ gs))) ≡ None = λ gs.
+      ap (λ (hs : List Frame). page_in (told_page (said hs))) (append_assoc fs (f ∷ []) gs)
+      ∙ ap (λ (cs : List Content). page_in (told_page cs)) (map-append (λ (g : Frame). g.content) fs (f ∷ gs))
+      ∙ ap page_in (told-more (said fs) (f.content ∷ said gs) p h.told ∙ ap (λ (t : InLog). fold continued t (said gs)) unfit ∙ broken-stays (said gs)) in
+      sym (ap page_told read.read ∙ none_read (fs ++ f ∷ []) (read_frames s is_at_tail (length bytes - length (fs ++ f ∷ [])) (behind size rest)) broken)
 
-  pub back-same : (r : Turn J D) (f : J → X) (x y : X) → x ≡ y → IfBack r (λ j. f j ≡ x) → IfBack r (λ j. f j ≡ y)
-  back-same (Done d) f x y e h = tt
-  back-same (Back j) f x y e h = h ∙ e
+  -- there is no frame at all
+  pub told-none : (bytes : Bytes) → read_frame s bytes ≡ None → None ≡ page_in (told_in s bytes)
+  told-none bytes none = of (is_at_tail bytes) refl
+    where
+      start : AreRead s is_at_tail (length bytes) bytes [] bytes
+      start = read-none s is_at_tail (length bytes) bytes (omega arith)
 
--- the frames of a page, taken apart onto an empty list that is turned round then
-pub whole-put-back : (room taken now : List code.Frame) (cs : List Content) → room ≡ [] → contents_in taken ≡ contents_in room ++ reverse cs → now ≡ reverse taken
-    → contents_in now ≡ cs
-whole-put-back room taken now cs none apart turned =
-    ap (λ (fs : List code.Frame). contents_in fs) turned ∙ map_reverse content_of taken
-    ∙ ap reverse (apart ∙ ap (λ (fs : List code.Frame). contents_in fs ++ reverse cs) none)
-    ∙ reverse-reverse cs
+      of : (b : Bool) → is_at_tail bytes ≡ b → None ≡ page_in (told_in s bytes)
+      of true e = sym (ap page_told (read-all s is_at_tail (length bytes) bytes [] bytes start e))
+      of false e = sym (ap page_told (read-broken s is_at_tail (length bytes) bytes [] bytes start e none))
+
+  -- or the first is no base
+  pub told-no_base : (bytes : Bytes) (f : Frame) (size : ℕ) → IsReadAt bytes f size → base_in f.content ≡ None → None ≡ page_in (told_in s bytes)
+  told-no_base bytes f size at none =
+      let read = one_more (length bytes) bytes bytes [] f size (read-none s is_at_tail (length bytes) bytes (omega arith)) (has_more bytes f size at) at in
+      let no_base : is_base f.content ≡ false = rw none refl in
+      sym (ap page_told read.read ∙ none_read (f ∷ []) (read_frames s is_at_tail (length bytes - length (f ∷ [])) (behind size bytes)) (λ gs. none-page f.content (said gs) no_base))
+
+-- as code asks it
+pub tail_by : (rest : Bytes) (b : Bool) → (length rest == 0) ≡ b → is_at_tail rest ≡ b
+tail_by [] b e = e
+tail_by (x ∷ xs) b e = sym (ne_eqb (length (x ∷ xs)) 0 (λ h. omega (arith, h))) ∙ e

@@ -1,6 +1,6 @@
 -- What a recovery comes to, by what is read of its disk part by part.
-use Rattle.std.specs.Prelude.{◌≡◌, ◌⊎◌, ℕ, IsTrue, List, Option, Some, None, Result, Ok, Err}
-use Rattle.std.proofs.Common.{sym, ap, subst, ◌∙◌, inl, inr}
+use Rattle.std.specs.Prelude.{◌≡◌, ◌⊎◌, ℕ, ◌≤◌, IsTrue, List, length, take, Option, Some, None, Result, Ok, Err}
+use Rattle.std.proofs.Common.{sym, ap, subst, ◌∙◌, inl, inr, arith}
 use Rattle.keys.specs.Bytes.{Bytes}
 use Rattle.keys.specs.declared.fault.Fault.{Fault}
 use Rattle.keys.specs.declared.fault.Fault.TheVariants.{NoMemory, BadStructure}
@@ -8,17 +8,19 @@ use Rattle.keys.specs.declared.settings.Settings.{Settings}
 use Rattle.mapping.specs.Finding.{Finding}
 use Rattle.mapping.specs.Tree.{Store, Tree}
 use Rattle.mapping.specs.TreeInMemory.{TreeInMemory, AreAllHome, tree_of}
-use Rattle.frame_codec.specs.Frame.{Frame}
 use Rattle.flush_log.specs.AfterFlush.{store_after}
 use Rattle.flush_log.specs.Disk.{View, Kept, Same}
 use Rattle.flush_log.specs.Reading.{Found, log}
+use Rattle.flush_log.specs.Segments.{segments_begin, disk_size}
 use Rattle.flush_log.specs.SettingsBlock.{store_settings}
 use Rattle.flush_log.specs.Slot.{Slot, store_slot}
 use Rattle.recovery.specs.Gathered.{AreGathered}
 use Rattle.recovery.specs.Recovered.{IsReadOf, IsLate, IsLogRead, store_recovered}
 use Rattle.recovery.specs.StoreOfDisk.{and_then, frames_in, store_of_disk, store_of_slot, store_under, tree_by_log, unless_found, wrong_in}
+use Rattle.recovery.proofs.FrontLemmas.{front-settings, front-slot}
 use Rattle.recovery.proofs.ReadBytes.{same_then}
 use Rattle.recovery.specs.declared.gather.Gathering.{Gathering}
+use Rattle.recovery.specs.declared.gather.Wanted.TheVariants.{Every}
 use Rattle.recovery.specs.declared.recover.LogRead.{LogRead}
 
 -- ---- calls that change nothing of a disk
@@ -82,26 +84,36 @@ module _ (file : Bytes) (s : Settings) (settings : store_settings file ≡ Ok s)
       pub right_store : wrong_in s t (frames_in found) ≡ None → store_of_disk file ≡ Ok (s, store_after (tree_by_log t (frames_in found)) t)
       right_store e = by_finding ∙ ap (λ o. of_store s (of_finding s t found o)) e
 
+-- bytes that were read behind what stands in front of the segments have the same settings and the same slot
+pub in-front : (s : Settings) (file now : Bytes) (first old new : View) → disk_size s ≤ first.size → Kept first old → Kept old new → IsReadOf old file → IsReadOf new now
+    → take segments_begin now ≡ take segments_begin file → (t : Slot) → store_settings file ≡ Ok s → store_slot s file ≡ Ok t → (store_settings now ≡ Ok s) × (store_slot s now ≡ Ok t)
+in-front s file now first old new within before kept was is front t settings slot =
+    let size = before.size in
+    let whole = was.whole in
+    let room : 512 ≤ length file = omega (arith, whole, size, within) in
+    let long = is.whole ∙ kept.size ∙ sym whole in
+    (front-settings file now long front room ∙ settings, front-slot file now long front s room ∙ slot)
+
 -- ---- what was read, by the parts in which it is handed on
 
 -- of whatever frames were gathered, the tree is right; or the fault is
 abbrev pub IsTreeOf : TreeInMemory → Settings → Slot → Gathering → Type 0
-IsTreeOf tree s t g = (fs : List Frame) → AreGathered g.by_pid fs → (wrong_in s t fs ≡ None) × (tree_of tree ≡ tree_by_log t fs) × AreAllHome tree
+IsTreeOf tree s t g = (found : List Found) → AreGathered s Every g found → (wrong_in s t (frames_in found) ≡ None) × (tree_of tree ≡ tree_by_log t (frames_in found)) × AreAllHome tree
 
 abbrev pub IsRefusedTree : Fault → Settings → Slot → Gathering → Type 0
-IsRefusedTree fault s t g = (fs : List Frame) → AreGathered g.by_pid fs → (fault ≡ NoMemory) ⊎ ((f : Finding) × (wrong_in s t fs ≡ Some f) × (fault ≡ BadStructure f))
+IsRefusedTree fault s t g = (found : List Found) → AreGathered s Every g found → (fault ≡ NoMemory) ⊎ ((f : Finding) × (wrong_in s t (frames_in found) ≡ Some f) × (fault ≡ BadStructure f))
 
 module _ (file : Bytes) (r : LogRead) (read : IsLogRead r file) where
   pub tree-recovered : (tree : TreeInMemory) → IsTreeOf tree r.settings r.slot r.gathering
       → (store_of_disk file ≡ Ok (r.settings, store_recovered (record { settings = r.settings; slot = r.slot; tree = tree }))) × AreAllHome tree
   tree-recovered tree right =
-      let (none, is, home) = right (frames_in read.found) read.gathered in (
+      let (none, is, home) = right read.found read.gathered in (
         right_store file r.settings read.settings r.slot read.slot read.found read.log none ∙ ap (λ (u : Tree). found_store r.settings (store_after u r.slot)) (sym is),
         home,
       )
 
   pub tree-refused : (old new : ℕ) (fault : Fault) → IsRefusedTree fault r.settings r.slot r.gathering → (store_of_disk file ≡ Err fault) ⊎ IsLate old new fault
-  tree-refused old new fault refused = elim (refused (frames_in read.found) read.gathered) [
+  tree-refused old new fault refused = elim (refused read.found read.gathered) [
     | inl memory ↦ inr (inl memory)
     | inr wrong ↦ inl (wrong_store file r.settings read.settings r.slot read.slot read.found read.log wrong.0 wrong.1 ∙ ap (λ (f : Fault). refused_with f) (sym wrong.2))
   ]

@@ -1,19 +1,20 @@
 -- How a segment's frames are read one by one.
-use Rattle.std.proofs.Common.{◌≡◌, ℕ, zero, suc, ◌+◌, ◌-◌, ◌<◌, ◌≤◌, ◌==◌, ◌&&◌, nat_eq, Bool, true, false, List, [], ◌∷◌, ◌++◌, length, length-append, take, drop, Option, Some, None, Result, Ok, Err, MatchOption, IfSome, refl, sym, ap, subst, ◌∙◌, arith, append_assoc, append-nil}
+use Rattle.std.proofs.Common.{◌≡◌, ℕ, zero, suc, ◌+◌, ◌-◌, ◌<◌, ◌≤◌, ◌==◌, ◌&&◌, nat_eq, Bool, true, false, List, [], ◌∷◌, ◌++◌, length, length-append, take, drop, map, Option, Some, None, Result, Ok, Err, MatchOption, IfSome, refl, sym, ap, subst, ◌∙◌, arith}
 use Rattle.std.specs.List.{list_all, starts_with}
 use Rattle.std.proofs.lemmas.Bool.{ne_eqb}
-use Rattle.std.proofs.lemmas.List.{length-drop, length-take-le, take_all}
+use Rattle.std.proofs.lemmas.List.{length-drop, length-take-le, take_all, map-append}
 use Rattle.keys.specs.Bytes.{Bytes}
 use Rattle.keys.specs.declared.settings.Settings.{Settings}
 use Rattle.keys.specs.declared.fault.Fault.{Fault}
 use Rattle.keys.specs.declared.fault.Fault.TheVariants.{BadFrame}
 use Rattle.frame_codec.specs.Frame.{Frame, bytes_of}
 use Rattle.frame_codec.specs.Reading.{read_frame}
-use Rattle.frame_codec.specs.Skimmed.{IsSkimmed}
+use Rattle.frame_codec.specs.Skimmed.{IsSkimmed, kind_of}
+use Rattle.frame_codec.specs.declared.skim.FrameKind.{FrameKind}
 use Rattle.frame_codec.specs.declared.skim.Skimmed.{Skimmed}
 use Rattle.flush_log.specs.Reading.{Found, all_in, is_padding, with_first, read_frames, in_segment}
 use Rattle.flush_log.specs.Segments.{segment_header}
-use Rattle.recovery.specs.Scan.{HeldSegment, is_end_at, scanned, frame_read, frame_at, frames_at}
+use Rattle.recovery.specs.Scan.{HeldSegment, is_end_at, scanned, HeldFrame, said_of_frame, said_of, held_frame}
 use Rattle.recovery.specs.declared.scan_segment.ScannedFrame.{ScannedFrame}
 
 pub padding-zeros : (bytes : Bytes) → list_all (λ b. b == 0) bytes ≡ is_padding bytes
@@ -68,7 +69,7 @@ module _ (s : Settings) (is_end : Bytes → Bool) where
   broken zero rest e none = rw e refl
   broken (suc most) rest e none = rw e (rw none refl)
 
-  goes_on : (most : ℕ) (rest behind : Bytes) (f : Frame) → is_end rest ≡ false → read_frame s rest ≡ Some (f, behind)
+  pub goes_on : (most : ℕ) (rest behind : Bytes) (f : Frame) → is_end rest ≡ false → read_frame s rest ≡ Some (f, behind)
       → read_frames s is_end (suc most) rest ≡ with_first f (read_frames s is_end most behind)
   goes_on most rest behind f e some = rw e (rw some refl)
 
@@ -135,32 +136,48 @@ less-left s rest told size same_size f =
     let less = f.less in
     omega (arith, same, less)
 
--- ---- the frames of a segment, where they stand
+-- ---- the frames of a segment, as they are held
 
-frames_at-append : (s : Settings) (ks ls : List ScannedFrame) → frames_at s (ks ++ ls) ≡ frames_at s ks ++ frames_at s ls
-frames_at-append s [] ls = refl
-frames_at-append s (k ∷ ks) ls = ap (λ (fs : List Frame). frame_at s k ++ fs) (frames_at-append s ks ls) ∙ sym (append_assoc (frame_at s k) (frames_at s ks) (frames_at s ls))
+-- of segment n, which ends so, these bytes are left, and of the frames in front of them that is told
+pub record IsUpto (s : Settings) (is_end : Bytes → Bool) (long n : ℕ) (body : Bytes) (items : List ScannedFrame) (rest : Bytes) : Type 0 where
+  pub frames : List Frame
+  pub read : AreRead s is_end long body frames rest
+  pub held : map (held_frame n) items ≡ map said_of_frame (all_in n frames)
 
-module _ (s : Settings) (is_end : Bytes → Bool) (long : ℕ) where
+abbrev held : ℕ → ℕ → FrameKind → Bytes → HeldFrame
+held n pid kind bytes = record { segment = n; pid = pid; kind = kind; bytes = bytes }
+
+held-same : (n p q : ℕ) (a b : FrameKind) (x y : Bytes) → p ≡ q → a ≡ b → x ≡ y → held n p a x ≡ held n q b y
+held-same n p q a b x y pid kind bytes = ap (λ (m : ℕ). held n m a x) pid ∙ ap (λ (k : FrameKind). held n q k x) kind ∙ ap (λ (bs : Bytes). held n q b bs) bytes
+
+module _ (s : Settings) (is_end : Bytes → Bool) (long n : ℕ) (body : Bytes) where
   -- in the words of the code, where nothing was read
-  pub start : (bytes : Bytes) (items : List ScannedFrame) → items ≡ [] → length bytes ≤ long → AreRead s is_end long (drop 16 bytes) (frames_at s items) (take (length bytes - 16) (drop 16 bytes))
-  start bytes items none fits =
+  pub upto-none : (items : List ScannedFrame) (bytes : Bytes) → items ≡ [] → body ≡ drop 16 bytes → length bytes ≤ long
+      → IsUpto s is_end long n body items (take (length bytes - 16) (drop 16 bytes))
+  upto-none items bytes none is fits =
       let less = length-drop 16 bytes in
       let first = read-none s is_end long (drop 16 bytes) (omega (arith, less, fits)) in
-      let left = subst (λ (rest : Bytes). AreRead s is_end long (drop 16 bytes) [] rest) (sym (left-behind 16 bytes)) first in
-      subst (λ (fs : List Frame). AreRead s is_end long (drop 16 bytes) fs (take (length bytes - 16) (drop 16 bytes))) (sym (ap (λ (ks : List ScannedFrame). frames_at s ks) none)) left
+      record {
+        frames = [];
+        read = subst (λ (b : Bytes). AreRead s is_end long b [] (take (length bytes - 16) (drop 16 bytes))) (sym is) (subst (λ (rest : Bytes). AreRead s is_end long (drop 16 bytes) [] rest) (sym (left-behind 16 bytes)) first);
+        held = ap (λ (ks : List ScannedFrame). map (held_frame n) ks) none;
+      }
 
   -- and one frame more
-  pub next : (body : Bytes) (items now : List ScannedFrame) (k : ScannedFrame) (told : Skimmed) (size : ℕ) (rest : Bytes) → now ≡ items ++ k ∷ [] → k.bytes.now ≡ rest → size ≡ told.size
-      → AreRead s is_end long body (frames_at s items) rest → is_end rest ≡ false → IsFrame s rest told → AreRead s is_end long body (frames_at s now) (take (length rest - size) (drop size rest))
-  next body items now k told size rest put bytes same_size h e f =
-      let here : frame_at s k ≡ f.frame ∷ [] = ap (λ (bs : Bytes). frame_read (read_frame s bs)) bytes ∙ ap frame_read f.read in
-      let all : frames_at s items ++ f.frame ∷ [] ≡ frames_at s now =
-      sym (ap (λ (ks : List ScannedFrame). frames_at s ks) put ∙ frames_at-append s items (k ∷ []) ∙ ap (λ (fs : List Frame). frames_at s items ++ fs) (append-nil (frame_at s k) ∙ here)) in
-      let more = read-more s is_end long body (frames_at s items) rest (drop told.size rest) f.frame h e f.read f.less in
-      let left = subst (λ (behind : Bytes). AreRead s is_end long body (frames_at s items ++ f.frame ∷ []) behind)
-      (sym (left-behind told.size rest) ∙ ap (λ (m : ℕ). take (length rest - m) (drop m rest)) (sym same_size)) more in
-      subst (λ (fs : List Frame). AreRead s is_end long body fs (take (length rest - size) (drop size rest))) all left
+  pub upto-more : (items now : List ScannedFrame) (k : ScannedFrame) (told : Skimmed) (size : ℕ) (rest : Bytes) → now ≡ items ++ k ∷ [] → k.pid ≡ told.pid → k.kind ≡ told.kind → size ≡ told.size → k.bytes.now ≡ take size rest
+      → IsUpto s is_end long n body items rest → is_end rest ≡ false → (f : IsFrame s rest told) → IsUpto s is_end long n body now (take (length rest - size) (drop size rest))
+  upto-more items now k told size rest put pid kind same_size bytes h e f =
+      let one : Found = record { segment = n; frame = f.frame } in
+      let same : held_frame n k ≡ said_of_frame one = held-same n k.pid f.frame.pid k.kind (kind_of f.frame.content) k.bytes.now (bytes_of f.frame) (pid ∙ sym f.skimmed.0) (kind ∙ sym f.skimmed.1) (bytes ∙ ap (λ (m : ℕ). take m rest) same_size ∙ f.bytes) in
+      record {
+        frames = h.frames ++ f.frame ∷ [];
+        read = subst (λ (behind : Bytes). AreRead s is_end long body (h.frames ++ f.frame ∷ []) behind) (sym (left-behind told.size rest) ∙ ap (λ (m : ℕ). take (length rest - m) (drop m rest)) (sym same_size))
+            (read-more s is_end long body h.frames rest (drop told.size rest) f.frame h.read e f.read f.less);
+        held = ap (λ (ks : List ScannedFrame). map (held_frame n) ks) put ∙ map-append (held_frame n) items (k ∷ [])
+            ∙ ap (λ (hs : List HeldFrame). hs ++ held_frame n k ∷ []) h.held ∙ ap (λ (x : HeldFrame). map said_of_frame (all_in n h.frames) ++ x ∷ []) same
+            ∙ sym (map-append said_of_frame (all_in n h.frames) (one ∷ []))
+            ∙ ap (λ (xs : List Found). map said_of_frame xs) (sym (map-append (λ (g : Frame). (let x : Found = record { segment = n; frame = g } in x)) h.frames (f.frame ∷ [])));
+      }
 
 -- of a segment
 module _ (s : Settings) (g : HeldSegment) (headed : starts_with nat_eq g.bytes (segment_header g.number) ≡ true) where
@@ -177,3 +194,14 @@ module _ (s : Settings) (g : HeldSegment) (headed : starts_with nat_eq g.bytes (
   pub segment-broken : (fs : List Frame) (rest : Bytes) → AreRead s (is_end_at g.end) (length g.bytes) (drop 16 g.bytes) fs rest → is_end_at g.end rest ≡ false
       → read_frame s rest ≡ None → scanned s g ≡ Err (BadFrame g.number (length g.bytes - length rest))
   segment-broken fs rest h e none = behind_header ∙ ap (λ r. read_by r) (read-broken s (is_end_at g.end) (length g.bytes) (drop 16 g.bytes) fs rest h e none)
+
+-- what a segment tells
+abbrev all : List Found → Result (List Found) Fault
+all found = Ok found
+
+abbrev said : List HeldFrame → Result (List HeldFrame) Fault
+said hs = Ok hs
+
+pub frames-said : (s : Settings) (g : HeldSegment) (fs : List Frame) (items : List ScannedFrame) → scanned s g ≡ all (all_in g.number fs) → map (held_frame g.number) items ≡ map said_of_frame (all_in g.number fs)
+    → said_of (scanned s g) ≡ said (map (held_frame g.number) items)
+frames-said s g fs items is same = ap said_of is ∙ ap said (sym same)

@@ -1,32 +1,19 @@
 -- What is found of a log, one segment more at a time.
-use Rattle.std.specs.Prelude.{◌≡◌, ℕ, true, List, [], ◌∷◌, ◌++◌, map, fold, Option, Some, None, is_some, Result, Ok, Err}
-use Rattle.std.specs.BTreeMap.{BTreeMap}
-use Rattle.std.proofs.Common.{refl, sym, ap, ◌∙◌, subst, append_assoc, append-nil}
-use Rattle.std.proofs.lemmas.List.{map-append}
-use Rattle.std.proofs.lemmas.List.Folds.{fold_stays}
-use Rattle.keys.specs.declared.fault.Fault.{Fault}
+use Rattle.std.specs.Prelude.{◌≡◌, ℕ, true, false, List, [], ◌∷◌, ◌++◌, map, fold, Option, Some, None, is_some, Result, Ok, Err, MatchResult, Vec, ◌⊎◌}
+use Rattle.std.specs.declared.alloc.Global.{Global}
+use Rattle.std.proofs.Common.{refl, sym, ap, ◌∙◌, subst, inl, append_assoc, append-nil}
 use Rattle.keys.specs.declared.settings.Settings.{Settings}
-use Rattle.frame_codec.specs.Frame.{Frame}
-use Rattle.flush_log.specs.Reading.{Found, all_in, followed_by}
-use Rattle.recovery.specs.Gathered.{AreGathered}
-use Rattle.recovery.specs.LogSoFar.{IsSoFar, told_of_scan}
-use Rattle.recovery.specs.Scan.{frame_at, frames_at}
-use Rattle.recovery.specs.StoreOfDisk.{frames_in}
-use Rattle.recovery.specs.declared.gather.Kept.{Kept}
+use Rattle.keys.specs.declared.fault.Fault.{Fault}
+use Rattle.std.specs.List.{AllByRecursion}
+use Rattle.frame_codec.specs.Frame.{is_frame}
+use Rattle.flush_log.specs.Reading.{Found, followed_by}
+use Rattle.recovery.specs.Gathered.{AreLive, AreGathered, IsSoFar}
+use Rattle.recovery.specs.Recovered.{IsLate}
+use Rattle.recovery.specs.Scan.{HeldSegment, scanned, HeldFrame, said_of_frame, said_of, held_frame, frames_held, said_by_scan}
+use Rattle.recovery.specs.declared.gather.Gathering.{Gathering}
+use Rattle.recovery.specs.declared.gather.Wanted.{Wanted}
 use Rattle.recovery.specs.declared.scan_segment.ScanDone.{ScanDone}
 use Rattle.recovery.specs.declared.scan_segment.ScannedFrame.{ScannedFrame}
-
--- ---- the frames of a segment, one more at a time
-
--- what was gathered, and the frames that stand where it is left to look, are all
-abbrev pub ArePassed : Settings → List Frame → List ScannedFrame → List Frame → Type 0
-ArePassed s front left every = front ++ frames_at s left ≡ every
-
-pub one_passed : (s : Settings) (front every : List Frame) (k : ScannedFrame) (left rest : List ScannedFrame) → left ≡ k ∷ rest → ArePassed s front left every → ArePassed s (front ++ frame_at s k) rest every
-one_passed s front every k left rest is h = append_assoc front (frame_at s k) (frames_at s rest) ∙ ap (λ (ks : List ScannedFrame). front ++ frames_at s ks) (sym is) ∙ h
-
-pub all_passed : (s : Settings) (front every : List Frame) (left : List ScannedFrame) → left ≡ [] → ArePassed s front left every → front ≡ every
-all_passed s front every left none h = sym (append-nil front) ∙ ap (λ (ks : List ScannedFrame). front ++ frames_at s ks) (sym none) ∙ h
 
 -- ---- the segments
 
@@ -39,56 +26,153 @@ all found = Ok found
 abbrev broken : Fault → Told
 broken fault = Err fault
 
-frames-in_segment : (n : ℕ) (fs : List Frame) → frames_in (all_in n fs) ≡ fs
-frames-in_segment n [] = refl
-frames-in_segment n (f ∷ fs) = ap (λ (gs : List Frame). f ∷ gs) (frames-in_segment n fs)
-
-pub frames-more : (found : List Found) (n : ℕ) (fs : List Frame) → frames_in (found ++ all_in n fs) ≡ frames_in found ++ fs
-frames-more found n fs = map-append (λ (f : Found). f.frame) found (all_in n fs) ∙ ap (λ (gs : List Frame). frames_in found ++ gs) (frames-in_segment n fs)
-
-module _ (by_pid : BTreeMap ℕ Kept) where
+module _ (w : Wanted) (gathering : Gathering) where
   -- without a fault the frames are gathered
-  pub found-none : (o : Option Fault) (told : Told) → o ≡ None → IsSoFar by_pid o told → (found : List Found) × (told ≡ all found) × AreGathered by_pid (frames_in found)
+  pub found-of : (o : Option Fault) (told : Told) → is_some o ≡ false → IsSoFar w gathering o told → (found : List Found) × (told ≡ all found) × AreLive w gathering found
+  found-of None told none h = h
+  found-of (Some fault) told none h = absurd (cc)
+
+  pub found-none : (o : Option Fault) (told : Told) → o ≡ None → IsSoFar w gathering o told → (found : List Found) × (told ≡ all found) × AreLive w gathering found
   found-none None told none h = h
   found-none (Some fault) told none h = absurd (cc)
 
-  pub fault-some : (o : Option Fault) (told : Told) (fault : Fault) → o ≡ Some fault → IsSoFar by_pid o told → told ≡ broken fault
+  pub fault-some : (o : Option Fault) (told : Told) (fault : Fault) → o ≡ Some fault → IsSoFar w gathering o told → told ≡ broken fault
   fault-some None told fault some h = absurd (cc)
   fault-some (Some g) told fault some h = let is : g ≡ fault = cc in h ∙ ap broken is
 
-  -- behind a fault nothing counts
-  pub stays-broken : (o : Option Fault) (told : Told) (more : List Told) → is_some o ≡ true → IsSoFar by_pid o told → IsSoFar by_pid o (fold followed_by told more)
-  stays-broken None told more some h = absurd (cc)
-  stays-broken (Some fault) told more some h = ap (λ (t : Told). fold followed_by t more) h ∙ fold_stays followed_by (broken fault) (λ next. refl) more
+-- ---- what was scanned is gathered
 
--- ---- many scans
+abbrev Said : Type 0
+Said = Result (List HeldFrame) Fault
 
--- what is told once these scans are gathered too
-abbrev pub told_behind : Told → List ScanDone → Told
-told_behind told dones = fold followed_by told (map told_of_scan dones)
+abbrev said : List HeldFrame → Said
+said hs = Ok hs
+
+abbrev none_said : Fault → Said
+none_said fault = Err fault
+
+-- of segment n, or of more, of which all this is told, these frames are left, and those in front of them are kept
+pub record AreBehind (w : Wanted) (gathering : Gathering) (n : ℕ) (every : List Found) (left : List ScannedFrame) : Type 0 where
+  pub front : List Found
+  pub more : List Found
+  pub all : front ++ more ≡ every
+  pub same : map said_of_frame more ≡ map (held_frame n) left
+  pub live : AreLive w gathering front
+
+pub behind-next : (w : Wanted) (gathering next : Gathering) (n : ℕ) (every : List Found) (left rest : List ScannedFrame) (k : ScannedFrame) → left ≡ k ∷ rest → AreBehind w gathering n every left
+    → ((found : List Found) (f : Found) → said_of_frame f ≡ held_frame n k → AreLive w gathering found → AreLive w next (found ++ f ∷ [])) → AreBehind w next n every rest
+behind-next w gathering next n every left rest k is h add = of h.more h.all (h.same ∙ ap (λ (ks : List ScannedFrame). map (held_frame n) ks) is)
+  where
+    of : (more : List Found) → h.front ++ more ≡ every → map said_of_frame more ≡ held_frame n k ∷ map (held_frame n) rest → AreBehind w next n every rest
+    of [] all same = absurd (cc)
+    of (f ∷ fs) all same =
+        let one : said_of_frame f ≡ held_frame n k = cc in
+        let behind : map said_of_frame fs ≡ map (held_frame n) rest = cc in
+        record {
+          front = h.front ++ f ∷ [];
+          more = fs;
+          all = append_assoc h.front (f ∷ []) fs ∙ all;
+          same = behind;
+          live = add h.front f one h.live;
+        }
+
+pub behind-none : (w : Wanted) (gathering : Gathering) (n : ℕ) (every : List Found) (left : List ScannedFrame) → left ≡ [] → AreBehind w gathering n every left → AreLive w gathering every
+behind-none w gathering n every left none h = of h.more h.all (h.same ∙ ap (λ (ks : List ScannedFrame). map (held_frame n) ks) none)
+  where
+    of : (more : List Found) → h.front ++ more ≡ every → map said_of_frame more ≡ [] → AreLive w gathering every
+    of [] all same = subst (λ (fs : List Found). AreLive w gathering fs) (sym (append-nil h.front) ∙ all) h.live
+    of (f ∷ fs) all same = absurd (cc)
+
+-- ---- the segments
 
 -- behind a fault nothing counts
-pub behind-broken : (fault : Fault) (dones : List ScanDone) → told_behind (broken fault) dones ≡ broken fault
-behind-broken fault dones = fold_stays followed_by (broken fault) (λ more. refl) (map told_of_scan dones)
+pub broken-stays : (fault : Fault) (read : List Told) → fold followed_by (broken fault) read ≡ broken fault
+broken-stays fault [] = refl
+broken-stays fault (r ∷ read) = broken-stays fault read
 
--- of all these scans, these are left, and the frames of the others were gathered
-abbrev pub AreGatheredUpto : BTreeMap ℕ Kept → Option Fault → BTreeMap ℕ Kept → List ScanDone → List ScanDone → Type 0
-AreGatheredUpto old fault now left dones = (told : Told) → IsSoFar old fault told → (found : List Found) × AreGathered now (frames_in found) × (told_behind (all found) left ≡ told_behind told dones)
+pub stays-broken : (w : Wanted) (gathering : Gathering) (o : Option Fault) (told : Told) (read : List Told) → is_some o ≡ true → IsSoFar w gathering o told → IsSoFar w gathering o (fold followed_by told read)
+stays-broken w gathering None told read some h = absurd (cc)
+stays-broken w gathering (Some fault) told read some h = ap (λ (t : Told). fold followed_by t read) h ∙ broken-stays fault read
 
-module _ (old : BTreeMap ℕ Kept) (fault : Option Fault) (dones : List ScanDone) where
-  -- a scan more, whose frames are gathered
-  pub upto-next : (now next : BTreeMap ℕ Kept) (left rest : List ScanDone) (done : ScanDone) (fs : List Frame) → left ≡ done ∷ rest → told_of_scan done ≡ all (all_in done.segment.number fs)
-      → ((gs : List Frame) → AreGathered now gs → AreGathered next (gs ++ fs)) → AreGatheredUpto old fault now left dones → AreGatheredUpto old fault next rest dones
-  upto-next now next left rest done fs one told_is more upto told h =
-      let (found, gathered, same) = upto told h in (
-        found ++ all_in done.segment.number fs,
-        subst (λ (gs : List Frame). AreGathered next gs) (sym (frames-more found done.segment.number fs)) (more (frames_in found) gathered),
-        ap (λ (t : Told). told_behind (followed_by (all found) t) rest) (sym told_is) ∙ ap (λ (ds : List ScanDone). told_behind (all found) ds) (sym one) ∙ same,
-      )
+-- which segment told so many frames, and which a fault
+ok_of : (hs : List HeldFrame) (r : Told) → said_of r ≡ said hs → (more : List Found) × (r ≡ all more) × (map said_of_frame more ≡ hs)
+ok_of hs (Ok more) e = (more, refl, cc)
+ok_of hs (Err fault) e = absurd (cc)
 
-  -- or one that has the fault
-  pub upto-broken : (now : BTreeMap ℕ Kept) (left rest : List ScanDone) (done : ScanDone) (is first : Fault) → left ≡ done ∷ rest → told_of_scan done ≡ broken is → first ≡ is
-      → AreGatheredUpto old fault now left dones → (told : Told) → IsSoFar old fault told → told_behind told dones ≡ broken first
-  upto-broken now left rest done is first one told_is same_fault upto told h =
-      let (found, gathered, same) = upto told h in
-      sym same ∙ ap (λ (ds : List ScanDone). told_behind (all found) ds) one ∙ ap (λ (t : Told). told_behind (followed_by (all found) t) rest) told_is ∙ behind-broken is rest ∙ sym (ap broken same_fault)
+err_of : (fault : Fault) (r : Told) → said_of r ≡ none_said fault → r ≡ broken fault
+err_of fault (Ok more) e = absurd (cc)
+err_of fault (Err other) e = let is : other ≡ fault = cc in ap broken is
+
+-- of segments of which all tell this, these said are left
+pub record AreLeft (w : Wanted) (gathering : Gathering) (o : Option Fault) (every : Told) (left : List ScanDone) : Type 0 where
+  pub so_far : Told
+  pub read : List Told
+  pub all : fold followed_by so_far read ≡ every
+  pub same : map said_of read ≡ map said_by_scan left
+  pub is : IsSoFar w gathering o so_far
+
+-- the first of them
+record IsFirst (every so_far : Told) (d : ScanDone) (rest : List ScanDone) : Type 0 where
+  one : Told
+  behind : List Told
+  told : said_of one ≡ said_by_scan d
+  same : map said_of behind ≡ map said_by_scan rest
+  all : fold followed_by (followed_by so_far one) behind ≡ every
+
+first_of : (every so_far : Told) (read : List Told) (d : ScanDone) (rest : List ScanDone) → fold followed_by so_far read ≡ every → map said_of read ≡ said_by_scan d ∷ map said_by_scan rest → IsFirst every so_far d rest
+first_of every so_far [] d rest all same = absurd (cc)
+first_of every so_far (r ∷ rs) d rest all same = record { one = r; behind = rs; told = cc; same = cc; all = all }
+
+module _ (w : Wanted) (gathering : Gathering) (o : Option Fault) (every : Told) (left rest : List ScanDone) (d : ScanDone) (is : left ≡ d ∷ rest) (none : o ≡ None) (h : AreLeft w gathering o every left) where
+  first : IsFirst every h.so_far d rest
+  first = first_of every h.so_far h.read d rest h.all (h.same ∙ ap (λ (ds : List ScanDone). map said_by_scan ds) is)
+
+  -- which has no fault
+  pub left-ok : (next : Gathering) (n : ℕ) (frames : Vec ScannedFrame Global) → d.segment.number ≡ n → d.scan ≡ Ok frames
+      → ((found more : List Found) → map said_of_frame more ≡ map (held_frame n) frames.items → AreLive w gathering found → AreLive w next (found ++ more)) → AreLeft w next o every rest
+  left-ok next n frames number ok add =
+      let f = first in
+      let (found, told, live) = found-none w gathering o h.so_far none h.is in
+      let (more, one, same) = ok_of (map (held_frame n) frames.items) f.one (f.told ∙ ap (λ (m : ℕ). frames_held m d.scan) number ∙ ap (λ r. frames_held n r) ok) in
+      let both : followed_by h.so_far f.one ≡ all (found ++ more) = ap (λ (t : Told). followed_by t f.one) told ∙ ap (λ (t : Told). followed_by (all found) t) one in
+      record {
+        so_far = followed_by h.so_far f.one;
+        read = f.behind;
+        all = f.all;
+        same = f.same;
+        is = subst (λ (p : Option Fault). IsSoFar w next p (followed_by h.so_far f.one)) (sym none) (found ++ more, both, add found more same live);
+      }
+
+  -- or which has one
+  pub left-err : (fault : Fault) → d.scan ≡ Err fault → every ≡ broken fault
+  left-err fault err =
+      let f = first in
+      let (found, told, live) = found-none w gathering o h.so_far none h.is in
+      let one = err_of fault f.one (f.told ∙ ap (λ r. frames_held d.segment.number r) err) in
+      sym f.all ∙ ap (λ (t : Told). fold followed_by t f.behind) (ap (λ (t : Told). followed_by t f.one) told ∙ ap (λ (t : Told). followed_by (all found) t) one) ∙ broken-stays fault f.behind
+
+-- where none is left
+pub left-none : (w : Wanted) (gathering : Gathering) (o : Option Fault) (every : Told) (left : List ScanDone) → left ≡ [] → AreLeft w gathering o every left → IsSoFar w gathering o every
+left-none w gathering o every left none h = of h.read h.all (h.same ∙ ap (λ (ds : List ScanDone). map said_by_scan ds) none)
+  where
+    of : (read : List Told) → fold followed_by h.so_far read ≡ every → map said_of read ≡ [] → IsSoFar w gathering o every
+    of [] all same = subst (λ (t : Told). IsSoFar w gathering o t) all h.is
+    of (r ∷ rs) all same = absurd (cc)
+
+-- ---- what a round makes
+
+scans-each : (s : Settings) (gs : List HeldSegment) → map said_of (map (scanned s) gs) ≡ map (λ g. said_of (scanned s g)) gs
+scans-each s [] = refl
+scans-each s (g ∷ gs) = ap (λ (rs : List Said). said_of (scanned s g) ∷ rs) (scans-each s gs)
+
+pub scans-made : (s own : Settings) (gs : List HeldSegment) (made : List Said) → own ≡ s → made ≡ map (λ g. said_of (scanned own g)) gs → map said_of (map (scanned s) gs) ≡ made
+scans-made s own gs made same is = scans-each s gs ∙ ap (λ (t : Settings). map (λ g. said_of (scanned t g)) gs) (sym same) ∙ sym is
+
+-- ---- the whole log
+
+-- the frames that were gathered are such as a store may have, since the log is read so
+pub gathered-all : (s : Settings) (w : Wanted) (old new : ℕ) (told : Told) → ((found : List Found) → told ≡ all found → AllByRecursion (λ f. is_frame s f.frame ≡ true) found)
+    → (r : Result Gathering Fault) → MatchResult r (λ g. (found : List Found) × (told ≡ Ok found) × AreLive w g found) (λ fault. told ≡ Err fault)
+    → MatchResult r (λ g. (found : List Found) × (told ≡ Ok found) × AreGathered s w g found) (λ fault. (told ≡ Err fault) ⊎ IsLate old new fault)
+gathered-all s w old new told within (Ok g) (found, is, live) = (found, is, record { live = live; within = within found is })
+gathered-all s w old new told within (Err fault) e = inl e

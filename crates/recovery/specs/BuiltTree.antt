@@ -1,10 +1,12 @@
--- What is made of a log's pages, pid by pid, and the table that holds them.
-use Rattle.std.specs.Prelude.{ℕ, if◌then◌else◌, List, [], ◌∷◌, map, flat_map, Option, Some, None}
+-- The table that the pages of a log make, page by page.
+use Rattle.std.specs.Prelude.{ℕ, List, ◌++◌, map, flat_map, Option, Some}
+use Rattle.keys.specs.declared.settings.Settings.{Settings}
 use Rattle.index_page.specs.Page.{PageOfKind}
-use Rattle.mapping.specs.Finding.{Finding}
 use Rattle.mapping.specs.Slots.{entry_if}
-use Rattle.recovery.specs.PageByLog.{InLog, page_in, is_broken}
-use Rattle.recovery.specs.Rebuild.{HeldLog, held_done, told_by}
+use Rattle.mapping.specs.Table.{Mapping}
+use Rattle.recovery.specs.PageByLog.{page_in}
+use Rattle.recovery.specs.Rebuild.{HeldLog, held_log, told_in}
+use Rattle.recovery.specs.declared.gather.Kept.{Kept}
 use Rattle.recovery.specs.declared.rebuild.Rebuilt.{Rebuilt}
 
 -- pages in their places, each of them at home
@@ -15,15 +17,21 @@ in_places ps = map (λ p. (p.0, Some p.1)) ps
 abbrev pub log_pids : List HeldLog → List ℕ
 log_pids hs = map (λ h. h.pid) hs
 
--- the pid whose frames were put together, and what the log says of it
-abbrev pub said_by : Rebuilt → ℕ × InLog
-said_by r = ((held_done r).pid, told_by r)
+-- the pages that these logs tell
+abbrev pub pages_told : Settings → List HeldLog → List (ℕ × PageOfKind)
+pages_told s hs = flat_map (λ h. entry_if h.pid (page_in (told_in s h.frames))) hs
 
--- of pids, each with what a log says of it, those with a page, and their pages
-abbrev pub pages_said : List (ℕ × InLog) → List (ℕ × PageOfKind)
-pages_said ss = flat_map (λ s. entry_if s.0 (page_in s.1)) ss
+-- the logs of which these were made, and the pages that were
+abbrev pub logs_made : List Rebuilt → List HeldLog
+logs_made rs = map (λ r. held_log r.log) rs
 
--- of such pids, the first of which it says what fits no page
-abbrev pub broken_said : List (ℕ × InLog) → Option Finding
-broken_said [] = None
-broken_said (s ∷ ss) = if is_broken s.1 then Some (record { rule = 1; pid = s.0 }) else broken_said ss
+abbrev pub pages_made : List Rebuilt → List (ℕ × PageOfKind)
+pages_made rs = flat_map (λ r. entry_if r.log.pid r.page) rs
+
+-- the table with these pages behind those that are in it
+abbrev pub filled : Mapping PageOfKind → List (ℕ × PageOfKind) → Mapping PageOfKind
+filled t ps = record { places = t.places ++ in_places ps; logged = t.logged }
+
+-- the log of a page, as it is kept under its pid
+abbrev pub log_under : ℕ × Kept → HeldLog
+log_under e = record { pid = e.0; frames = e.1.frames.items }

@@ -1,60 +1,159 @@
--- What is kept of the frames of each pid while a log is read.
-use Rattle.std.specs.Prelude.{◌≡◌, ℕ, Bool, true, false, not, if◌then◌else◌, List, [], ◌∷◌, ◌++◌, map, Option, Some, None, is_some}
+-- What is kept of each page while a log is read: what its frames tell, and the bytes of those that are wanted.
+use Rattle.std.specs.Prelude.{◌≡◌, ℕ, Bool, true, false, ◌&&◌, nat_eq, if◌then◌else◌, List, [], ◌∷◌, ◌++◌, map, flat_map, Option, Some, None, is_some, Result, Ok, Err}
 use Rattle.std.specs.BTreeMap.{BTreeMap, get}
-use Rattle.std.specs.List.{filter}
+use Rattle.std.specs.List.{AllByRecursion, filter}
 use Rattle.std.specs.Ordering.{nat_cmp}
+use Rattle.keys.specs.Bytes.{Bytes}
+use Rattle.keys.specs.declared.fault.Fault.{Fault}
+use Rattle.keys.specs.declared.settings.Settings.{Settings}
+use Rattle.index_page.specs.Page.{Page}
+use Rattle.index_page.specs.Page.PageOfKind.{Leaf, Index}
+use Rattle.mapping.specs.Finding.{Finding}
 use Rattle.mapping.specs.FreshPids.{is_among}
-use Rattle.frame_codec.specs.Frame.{Content, Frame}
+use Rattle.frame_codec.specs.Frame.{Content, Frame, bytes_of, is_frame}
 use Rattle.frame_codec.specs.Frame.Content.{Free}
-use Rattle.recovery.specs.LogPages.{contents_of, pids_of}
-use Rattle.recovery.specs.PageByLog.{is_start, is_free, from_last}
-use Rattle.recovery.specs.Rebuild.{HeldLog, contents_in}
+use Rattle.frame_codec.specs.declared.skim.FrameKind.{FrameKind}
+use Rattle.frame_codec.specs.declared.skim.FrameKind.TheVariants as kinds
+use Rattle.flush_log.specs.Reading.{Found}
+use Rattle.recovery.specs.PageByLog.{is_base, is_start, from_last, told_page}
+use Rattle.recovery.specs.PageByLog.InLog.{Present, Broken}
+use Rattle.recovery.specs.StoreOfDisk.{frames_in}
+use Rattle.recovery.specs.declared.gather.Gathering.{Gathering}
 use Rattle.recovery.specs.declared.gather.Kept.{Kept}
-use Rattle.recovery.specs.declared.gather.Kept.TheVariants as kept
+use Rattle.recovery.specs.declared.gather.Told.{Told}
+use Rattle.recovery.specs.declared.gather.Told.TheVariants as told
+use Rattle.recovery.specs.declared.gather.Wanted.{Wanted}
+use Rattle.recovery.specs.declared.gather.Wanted.TheVariants.{Every, Head}
 
--- one more behind some, unless there are none
-abbrev pub behind_some : List Content → Content → List Content
-behind_some [] c = []
-behind_some (d ∷ ds) c = d ∷ (ds ++ c ∷ [])
+-- ---- the frames of a page
 
--- what is kept of the contents of a pid, where one more comes: a base or a free frame alone; a run only behind such a one
-abbrev pub kept_with : List Content → Content → List Content
-kept_with cs c = if is_start c then c ∷ [] else behind_some cs c
+-- of a pid's frames those that tell its page: from the last base or free frame on
+abbrev pub telling : ℕ → List Found → List Found
+telling pid found = from_last (λ f. is_start f.frame.content) (filter (λ f. nat_eq f.frame.pid pid) found)
 
--- what the frames say of which this is kept
-abbrev pub kept_contents : Kept → List Content
-kept_contents kept.Nothing = []
-kept_contents kept.Free = Free ∷ []
-kept_contents (kept.Frames frames) = contents_in frames.items
+-- what these say
+abbrev pub contents_in : List Found → List Content
+contents_in fs = map (λ f. f.frame.content) fs
 
--- and of which this is kept under a pid
-abbrev pub kept_of : Option Kept → List Content
-kept_of None = []
-kept_of (Some k) = kept_contents k
+-- whether a base in this segment is wanted of a log that begins with that one
+abbrev pub is_wanted_in : Wanted → ℕ → ℕ → Bool
+is_wanted_in Every head n = true
+is_wanted_in Head head n = nat_eq n head
 
--- Of these frames of a log, under each pid those that tell its page; and of each pid of which there is a frame it is known that
--- there is one.
-pub record AreGathered (by_pid : BTreeMap ℕ Kept) (fs : List Frame) : Type 0 where
-  pub each : (pid : ℕ) → kept_of (get nat_cmp by_pid pid) ≡ from_last is_start (contents_of pid fs)
-  pub pids : (pid : ℕ) → is_some (get nat_cmp by_pid pid) ≡ is_among pid (map (λ f. f.pid) fs)
+-- of the frames that tell a page those that are kept: all of them, where the first is a base that is wanted
+abbrev pub wanted_of : Wanted → ℕ → List Found → List Frame
+wanted_of w head [] = []
+wanted_of w head (f ∷ fs) = if is_wanted_in w head f.segment && is_base f.frame.content then frames_in (f ∷ fs) else []
 
--- the log of a page, as it is kept under its pid
-abbrev pub log_under : ℕ × Kept → HeldLog
-log_under e = record { pid = e.0; contents = kept_contents e.1 }
+-- the bytes of frames, back to back
+abbrev pub spelled : List Frame → Bytes
+spelled fs = flat_map bytes_of fs
 
--- whether there is more than that there is no page
-abbrev pub is_more : List Content → Bool
-is_more [] = false
-is_more (c ∷ []) = not (is_free c)
-is_more (c ∷ d ∷ cs) = true
+-- ---- one page
 
-abbrev pub is_log : HeldLog → Bool
-is_log h = is_more h.contents
+-- what is told of a page of which this is said, from its last base or free frame on
+abbrev pub IsTold : Told → List Content → Type 0
+IsTold told.Nothing cs = cs ≡ []
+IsTold told.Leaf cs = (p : Page Bytes) × (told_page cs ≡ Present (Leaf p))
+IsTold told.Index cs = (p : Page ℕ) × (told_page cs ≡ Present (Index p))
+IsTold told.Free cs = cs ≡ Free ∷ []
+IsTold told.Unfit cs = told_page cs ≡ Broken
 
--- what is kept of a page in the end, under its pid
-abbrev pub kept_log : List Frame → ℕ → HeldLog
-kept_log fs pid = record { pid = pid; contents = from_last is_start (contents_of pid fs) }
+-- what is kept of a page that these frames tell, where the log begins at this segment
+pub record IsKept (w : Wanted) (head : ℕ) (k : Kept) (fs : List Found) : Type 0 where
+  pub told : IsTold k.told (contents_in fs)
+  pub frames : k.frames.items ≡ spelled (wanted_of w head fs)
 
--- the logs of all pages of which these frames tell more, by rising pid
-abbrev pub logs_of : List Frame → List HeldLog
-logs_of fs = filter is_log (map (kept_log fs) (pids_of fs))
+-- ---- one frame more
+
+-- what is told of a page with a run of a leaf behind it
+abbrev pub with_leaf_run : Told → Told
+with_leaf_run told.Nothing = told.Nothing
+with_leaf_run told.Leaf = told.Leaf
+with_leaf_run told.Index = told.Unfit
+with_leaf_run told.Free = told.Unfit
+with_leaf_run told.Unfit = told.Unfit
+
+-- and with a run of an index page
+abbrev pub with_index_run : Told → Told
+with_index_run told.Nothing = told.Nothing
+with_index_run told.Leaf = told.Unfit
+with_index_run told.Index = told.Index
+with_index_run told.Free = told.Unfit
+with_index_run told.Unfit = told.Unfit
+
+-- and with any frame
+abbrev pub told_with : Told → FrameKind → Told
+told_with t kinds.FullLeaf = told.Leaf
+told_with t kinds.DeltaLeaf = with_leaf_run t
+told_with t kinds.FullIndex = told.Index
+told_with t kinds.DeltaIndex = with_index_run t
+told_with t kinds.Free = told.Free
+
+-- the frames that are kept with a base: that alone, where it is wanted
+abbrev pub with_base : Bool → Bytes → Bytes
+with_base is_wanted frame = if is_wanted then frame else []
+
+-- and with a run behind them: where there are none, the run isn't kept
+abbrev pub with_run : Bytes → Bytes → Bytes
+with_run [] frame = []
+with_run (b ∷ bytes) frame = (b ∷ bytes) ++ frame
+
+-- and with any frame
+abbrev pub kept_with : Bytes → FrameKind → Bool → Bytes → Bytes
+kept_with frames kinds.FullLeaf is_wanted frame = with_base is_wanted frame
+kept_with frames kinds.DeltaLeaf is_wanted frame = with_run frames frame
+kept_with frames kinds.FullIndex is_wanted frame = with_base is_wanted frame
+kept_with frames kinds.DeltaIndex is_wanted frame = with_run frames frame
+kept_with frames kinds.Free is_wanted frame = []
+
+-- ---- all pages
+
+-- what is kept under a pid of which these frames tell the page
+abbrev pub IsKeptOf : Wanted → ℕ → Option Kept → List Found → Type 0
+IsKeptOf w head None fs = fs ≡ []
+IsKeptOf w head (Some k) fs = IsKept w head k fs
+
+-- Of what was found so far, under each pid what is kept of its page; and of each pid of which a frame was found it is known that there
+-- is one.
+pub record AreKept (w : Wanted) (head : ℕ) (by_pid : BTreeMap ℕ Kept) (found : List Found) : Type 0 where
+  pub each : (pid : ℕ) → IsKeptOf w head (get nat_cmp by_pid pid) (telling pid found)
+  pub pids : (pid : ℕ) → is_some (get nat_cmp by_pid pid) ≡ is_among pid (map (λ f. f.frame.pid) found)
+
+-- the segment where the first of these stands
+abbrev pub first_segment : List Found → ℕ
+first_segment [] = 0
+first_segment (f ∷ fs) = f.segment
+
+-- that segment, where there is one
+abbrev pub first_found : List Found → Option ℕ
+first_found [] = None
+first_found (f ∷ fs) = Some f.segment
+
+-- what is kept of the pages is what these frames tell, and those that are wanted, of a log that begins where the first of them stands
+pub record AreLive (w : Wanted) (g : Gathering) (found : List Found) : Type 0 where
+  pub wanted : g.wanted ≡ w
+  pub first : g.first ≡ first_found found
+  pub kept : AreKept w (first_segment found) g.by_pid found
+
+-- and they are frames that a store with these settings may have
+pub record AreGathered (s : Settings) (w : Wanted) (g : Gathering) (found : List Found) : Type 0 where
+  pub live : AreLive w g found
+  pub within : AllByRecursion (λ f. is_frame s f.frame ≡ true) found
+
+-- what is kept of a log of which the segments so far tell this: of its pages, as long as there is no fault; else the fault
+abbrev pub IsSoFar : Wanted → Gathering → Option Fault → Result (List Found) Fault → Type 0
+IsSoFar w g None t = (found : List Found) × (t ≡ Ok found) × AreLive w g found
+IsSoFar w g (Some fault) t = t ≡ Err fault
+
+-- ---- what fits no page
+
+-- whether the frames of a page fit no page
+abbrev pub is_unfit : Told → Bool
+is_unfit told.Unfit = true
+is_unfit _ = false
+
+-- the first of these pages whose frames do
+abbrev pub first_unfit : List (ℕ × Kept) → Option Finding
+first_unfit [] = None
+first_unfit (e ∷ es) = if is_unfit e.1.told then Some (record { rule = 1; pid = e.0 }) else first_unfit es

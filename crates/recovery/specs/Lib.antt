@@ -1,9 +1,7 @@
-pub mod BuiltPage
 pub mod BuiltTree
 pub mod Gathered
 pub mod InStep
 pub mod LogPages
-pub mod LogSoFar
 pub mod LookedAt
 pub mod PageByLog
 pub mod Rebuild

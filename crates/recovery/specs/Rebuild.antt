@@ -1,58 +1,56 @@
--- What is made of what the log says of a page.
-use Rattle.std.specs.Prelude.{◌≡◌, ℕ, List, [], ◌∷◌, ◌++◌, map}
+-- What is made of the frames that tell a page, as they stand in the log.
+use Rattle.std.specs.Prelude.{◌≡◌, ℕ, List, [], map, length, Option, Some, None, Result, Ok, Err}
+use Rattle.keys.specs.Bytes.{Bytes}
+use Rattle.keys.specs.declared.settings.Settings.{Settings}
 use Rattle.index_page.specs.Page.{PageOfKind}
 use Rattle.index_page.specs.Page.PageOfKind.{Leaf as LeafPage, Index as IndexPage}
-use Rattle.frame_codec.specs.Frame.{Content}
+use Rattle.frame_codec.specs.Frame.{Content, Frame}
 use Rattle.frame_codec.specs.Shown.{frame_of}
 use Rattle.frame_codec.specs.declared.frame.Frame as code
-use Rattle.flush_log.specs.FlushText.{whole_page}
-use Rattle.recovery.specs.PageByLog.{InLog, continued}
-use Rattle.recovery.specs.PageByLog.InLog.{Missing, Present, Broken}
+use Rattle.flush_log.specs.Reading.{is_at_tail, read_frames}
+use Rattle.recovery.specs.PageByLog.{InLog, continued, told_page}
+use Rattle.recovery.specs.PageByLog.InLog.{Present, Broken}
 use Rattle.recovery.specs.declared.page_parts.PageParts.{PageParts}
 use Rattle.recovery.specs.declared.page_parts.PageParts.TheVariants.{Leaf, Index}
 use Rattle.recovery.specs.declared.rebuild.PageLog.{PageLog}
-use Rattle.recovery.specs.declared.rebuild.Pushed as pushed
-use Rattle.recovery.specs.declared.rebuild.Pushed.TheVariants as became
-use Rattle.recovery.specs.declared.rebuild.Rebuilt as rebuilt
-use Rattle.recovery.specs.declared.rebuild.Rebuilt.TheVariants as made
 
--- what a frame of the code says, and what frames say
-abbrev pub content_of : code.Frame → Content
-content_of f = (frame_of f).content
+-- ---- the frames that bytes are
 
-abbrev pub contents_in : List code.Frame → List Content
-contents_in fs = map content_of fs
+-- all that were read, if nothing else was
+abbrev pub all_or_none : Result (List Frame) ℕ → List Frame
+all_or_none (Ok fs) = fs
+all_or_none (Err left) = []
+
+-- the frames that these bytes are, back to back; none where they are not
+abbrev pub frames_of_bytes : Settings → Bytes → List Frame
+frames_of_bytes s bytes = all_or_none (read_frames s is_at_tail (length bytes) bytes)
+
+-- what they tell of a page
+abbrev pub told_in : Settings → Bytes → InLog
+told_in s bytes = told_page (map (λ f. f.content) (frames_of_bytes s bytes))
 
 -- ---- the work
 
--- a pid, and what its frames say
+-- a pid, and its frames
 pub record HeldLog : Type 0 where
   pub pid : ℕ
-  pub contents : List Content
+  pub frames : Bytes
 
 abbrev pub held_log : PageLog → HeldLog
-held_log log = record { pid = log.pid; contents = contents_in log.frames.items }
-
--- what was held of which this was made, and what the log says
-abbrev pub held_done : rebuilt.Rebuilt → HeldLog
-held_done (made.Page b) = record { pid = b.0; contents = whole_page b.1 }
-held_done (made.Missing log) = held_log log
-held_done (made.Broken log) = held_log log
-
-abbrev pub told_by : rebuilt.Rebuilt → InLog
-told_by (made.Page b) = Present b.1
-told_by (made.Missing log) = Missing
-told_by (made.Broken log) = Broken
+held_log log = record { pid = log.pid; frames = log.frames.items }
 
 -- ---- on the way
+
+-- what a frame of the code says
+abbrev pub content_of : code.Frame → Content
+content_of f = (frame_of f).content
 
 -- the page of these parts
 abbrev pub page_of_parts : PageParts → PageOfKind
 page_of_parts (Leaf low chain) = LeafPage (record { low = low; layers = chain })
 page_of_parts (Index low chain) = IndexPage (record { low = low; layers = chain })
 
--- what became of a page, on which what a frame says was to be put: the page has it, or nothing changed
-abbrev pub IsPushed : PageOfKind → Content → pushed.Pushed → Type 0
-IsPushed p c (became.Newer now) = (continued (Present p) c ≡ Present (page_of_parts now)) × (whole_page (page_of_parts now) ≡ whole_page p ++ c ∷ [])
-IsPushed p c (became.Unfit same f) = (continued (Present p) c ≡ Broken) × (page_of_parts same ≡ p) × (content_of f ≡ c)
-IsPushed p c (became.NoMemory same f) = (page_of_parts same ≡ p) × (content_of f ≡ c)
+-- what became of a page behind which this stands: it has one more run, or it is none
+abbrev pub IsPushed : PageOfKind → Content → Option PageParts → Type 0
+IsPushed p c None = continued (Present p) c ≡ Broken
+IsPushed p c (Some now) = continued (Present p) c ≡ Present (page_of_parts now)

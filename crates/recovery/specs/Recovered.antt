@@ -11,7 +11,7 @@ use Rattle.flush_log.specs.Reading.{Found, log}
 use Rattle.flush_log.specs.SettingsBlock.{store_settings}
 use Rattle.flush_log.specs.Slot.{store_slot}
 use Rattle.recovery.specs.Gathered.{AreGathered}
-use Rattle.recovery.specs.StoreOfDisk.{frames_in}
+use Rattle.recovery.specs.declared.gather.Wanted.TheVariants.{Every}
 use Rattle.recovery.specs.declared.recover.LogRead.{LogRead}
 use Rattle.recovery.specs.declared.recover.Recovered.{Recovered}
 
@@ -34,4 +34,4 @@ pub record IsLogRead (r : LogRead) (file : Bytes) : Type 0 where
   pub slot : store_slot r.settings file ≡ Ok r.slot
   pub found : List Found
   pub log : log r.settings file r.slot ≡ Ok found
-  pub gathered : AreGathered r.gathering.by_pid (frames_in found)
+  pub gathered : AreGathered r.settings Every r.gathering found

@@ -1,15 +1,19 @@
 -- What a scan of a segment gives.
-use Rattle.std.specs.Prelude.{ℕ, Bool, List, [], ◌∷◌, map, flat_map, fold, Option, Some, None, Vec, Result, Ok, Err}
+use Rattle.std.specs.Prelude.{ℕ, Bool, List, map, fold, Vec, Result, Ok, Err}
 use Rattle.keys.specs.Bytes.{Bytes}
 use Rattle.keys.specs.declared.settings.Settings.{Settings}
 use Rattle.keys.specs.declared.fault.Fault.{Fault}
-use Rattle.frame_codec.specs.Frame.{Frame}
-use Rattle.frame_codec.specs.Reading.{read_frame}
-use Rattle.flush_log.specs.Reading.{Found, all_in, is_at_tail, is_padding, read_segment, followed_by}
+use Rattle.frame_codec.specs.Frame.{bytes_of}
+use Rattle.frame_codec.specs.Skimmed.{kind_of}
+use Rattle.frame_codec.specs.declared.skim.FrameKind.{FrameKind}
+use Rattle.flush_log.specs.Reading.{Found, is_at_tail, is_padding, read_segment, followed_by}
 use Rattle.recovery.specs.declared.scan_segment.End.{End}
 use Rattle.recovery.specs.declared.scan_segment.End.TheVariants.{Tail, Padding}
+use Rattle.recovery.specs.declared.scan_segment.ScanDone.{ScanDone}
 use Rattle.recovery.specs.declared.scan_segment.ScannedFrame.{ScannedFrame}
 use Rattle.recovery.specs.declared.scan_segment.Segment.{Segment}
+
+-- ---- segments
 
 -- whether the frames of a segment that ends so end where these bytes are left
 abbrev pub is_end_at : End → Bytes → Bool
@@ -33,20 +37,32 @@ scanned s g = read_segment s (is_end_at g.end) g.number g.bytes
 abbrev pub scanned_behind : Settings → Result (List Found) Fault → List HeldSegment → Result (List Found) Fault
 scanned_behind s told segments = fold followed_by told (map (scanned s) segments)
 
--- the frame that was read at the front of bytes, if there is one
-abbrev pub frame_read : Option (Frame × Bytes) → List Frame
-frame_read None = []
-frame_read (Some p) = p.0 ∷ []
+-- ---- frames of which nothing is made
 
--- the frame that stands there
-abbrev pub frame_at : Settings → ScannedFrame → List Frame
-frame_at s k = frame_read (read_frame s k.bytes.now)
+-- of a frame the number of its segment, its page, its kind, and its bytes
+pub record HeldFrame : Type 0 where
+  pub segment : ℕ
+  pub pid : ℕ
+  pub kind : FrameKind
+  pub bytes : Bytes
 
--- and all that do
-abbrev pub frames_at : Settings → List ScannedFrame → List Frame
-frames_at s ks = flat_map (frame_at s) ks
+-- that of a frame that is found
+abbrev pub said_of_frame : Found → HeldFrame
+said_of_frame f = record { segment = f.segment; pid = f.frame.pid; kind = kind_of f.frame.content; bytes = bytes_of f.frame }
 
--- what a scan of segment n told: the frames that stand where it says, as they are found, or the fault
-abbrev pub told_by_scan : {A : Type 0} → Settings → ℕ → Result (Vec ScannedFrame A) Fault → Result (List Found) Fault
-told_by_scan s n (Ok frames) = Ok (all_in n (frames_at s frames.items))
-told_by_scan s n (Err fault) = Err fault
+-- and of all frames that are; or the fault
+abbrev pub said_of : Result (List Found) Fault → Result (List HeldFrame) Fault
+said_of (Ok found) = Ok (map said_of_frame found)
+said_of (Err fault) = Err fault
+
+-- what a scan of segment n gave of a frame
+abbrev pub held_frame : ℕ → ScannedFrame → HeldFrame
+held_frame n k = record { segment = n; pid = k.pid; kind = k.kind; bytes = k.bytes.now }
+
+-- and of its frames, or the fault
+abbrev pub frames_held : {A : Type 0} → ℕ → Result (Vec ScannedFrame A) Fault → Result (List HeldFrame) Fault
+frames_held n (Ok frames) = Ok (map (held_frame n) frames.items)
+frames_held n (Err fault) = Err fault
+
+abbrev pub said_by_scan : ScanDone → Result (List HeldFrame) Fault
+said_by_scan d = frames_held d.segment.number d.scan

@@ -1,90 +1,125 @@
 //! The tree of the pages that a log tells is built of the gathered frames, and looked at.
 ghost use Rattle.std.specs.Prelude.{◌≡◌, ◌⊎◌, ◌<◌, ◌++◌, ◌∷◌, [], List, map, Some, None, IfOk, IfErr, OnOk};
 ghost use Rattle.std.specs.List.{AllByRecursion};
+ghost use Rattle.std.specs.List.Sorted.{IsStrictlySortedBy};
 ghost use Rattle.std.specs.Map.{keys_of};
+ghost use Rattle.std.specs.Ordering.{nat_cmp};
 ghost use Rattle.keys.specs.Limits.{first_bad_field};
 ghost use Rattle.keys.specs.declared.fault.Fault.TheVariants.{NoMemory, BadStructure};
 ghost use Rattle.mapping.specs.Finding.{Finding};
-ghost use Rattle.mapping.specs.Flushed.{marked_as_written};
 ghost use Rattle.mapping.specs.Proper.{AreRisingPids};
+ghost use Rattle.mapping.specs.Slots.{entry_if};
 ghost use Rattle.mapping.specs.TreeInMemory.{AreAllHome, tree_of};
-ghost use Rattle.frame_codec.specs.Frame as said;
-ghost use Rattle.recovery.specs.BuiltTree.{in_places, log_pids, said_by, pages_said, broken_said};
+ghost use Rattle.flush_log.specs.Reading.{Found};
+ghost use Rattle.recovery.specs.BuiltTree.{in_places, log_pids, pages_told, logs_made, pages_made, filled, log_under};
 ghost use Rattle.recovery.specs.Gathered.{AreGathered};
-ghost use Rattle.recovery.specs.LogPages.{pages_of, broken_in};
-ghost use Rattle.recovery.specs.Rebuild.{held_done};
-ghost use Rattle.recovery.specs.StoreOfDisk.{tree_by_log, wrong_in};
+ghost use Rattle.recovery.specs.Rebuild.{held_log};
+ghost use Rattle.recovery.specs.StoreOfDisk.{frames_in, tree_by_log, wrong_in};
+ghost use Rattle.recovery.specs.declared.gather.Wanted.TheVariants.{Every};
 
-use crate::built_page::BuiltPage;
-use crate::gather::Gathering;
-use crate::rebuild::{RebuildWork, Rebuilt};
+use crate::gather::{Gathering, Kept};
+use crate::rebuild::{PageLog, RebuildWork, Rebuilt};
 use crew::{Crew, NoGate, run_round};
 use flush_log::slot::Slot;
 use index_page::Page;
-use keys::{Fault, Finding, Settings};
+use keys::{Fault, Pid, Settings};
 use mapping::{Table, Tree};
 use std::alloc::{AllocError, Global};
+use std::collections::BTreeMap;
+use std::mem;
 use std::thread::Threads;
 use verify::verify;
 
-// The number of the rule that a page breaks whose frames don't fit one another.
-const UNFIT_FRAMES: u32 = 1;
+// How many pages are built at once. Their frames stay until all of these are built, and are given back before the next are: so a
+// recovery takes little more than the pages and the frames that are left.
+const PAGES_AT_ONCE: usize = 4096;
 
 // Puts a page behind those that are in the table, whose page ids are less.
-fn put_last(table: &mut Table<Page<Global>, Global>, built: BuiltPage) -> Result<(), AllocError>
-    requires { AllByRecursion (λ pid. pid < built.0) (keys_of table.old.places) }
-    ensures { OnOk result (table.new ≡ record { places = table.old.places ++ (built.0, Some built.1) ∷ []; logged = table.old.logged }) }
+fn put_last(table: &mut Table<Page<Global>, Global>, pid: Pid, page: Page<Global>) -> Result<(), AllocError>
+    requires { AllByRecursion (λ n. n < pid) (keys_of table.old.places) }
+    ensures { OnOk result (table.new ≡ record { places = table.old.places ++ (pid, Some page) ∷ []; logged = table.old.logged }) }
 {
-    let (pid, page) = built.into_page();
     table.room(pid.0)?;
     table.put(pid.0, page);
     Ok(())
 }
 
-// The table of the pages that were made, each moved into its place. The first that fits no page is answered as a fault.
-fn table_of(alloc: Global, made: Vec<Rebuilt>) -> Result<Table<Page<Global>, Global>, Fault>
-    requires { AreRisingPids (log_pids (map held_done made.items)) }
-    ensures ok { IfOk result (λ table. (broken_said (map said_by made.items) ≡ None) ×
-        (table ≡ record { places = in_places (pages_said (map said_by made.items)); logged = [] })) }
-    ensures err { IfErr result (λ fault. (fault ≡ NoMemory) ⊎
-        ((f : Finding) × (broken_said (map said_by made.items) ≡ Some f) × (fault ≡ BadStructure f))) }
+// Puts the page that was made behind those that are in the table, where there is one.
+fn put_made(table: &mut Table<Page<Global>, Global>, made: Rebuilt) -> Result<(), AllocError>
+    requires { AllByRecursion (λ n. n < made.log.pid) (keys_of table.old.places) }
+    ensures { OnOk result (table.new ≡ filled table.old (entry_if made.log.pid made.page)) }
 {
-    let mut table = Table::new(alloc);
-    for rebuilt in made {
-        match rebuilt {
-            Rebuilt::Page(built) => put_last(&mut table, built)?,
-            Rebuilt::Missing(_log) => {}
-            Rebuilt::Broken(log) => {
-                return Err(Fault::BadStructure(Finding {
-                    rule: UNFIT_FRAMES,
-                    pid: log.pid,
-                }));
-            }
-        }
-    }
-    Ok(table)
+    let Rebuilt { log, page } = made;
+    let Some(page) = page else {
+        return Ok(());
+    };
+    put_last(table, log.pid, page)
 }
 
-// The tree of the pages that the gathered frames tell, with this root and height. What the log has of them isn't noted yet.
-fn tree_of_pages(
+// Puts the pages that were made behind those that are in the table.
+fn put_all(table: &mut Table<Page<Global>, Global>, made: Vec<Rebuilt>) -> Result<(), AllocError>
+    requires { AreRisingPids (keys_of table.old.places ++ log_pids (logs_made made.items)) }
+    ensures { OnOk result (table.new ≡ filled table.old (pages_made made.items)) }
+{
+    for rebuilt in made {
+        put_made(table, rebuilt)?;
+    }
+    Ok(())
+}
+
+// Builds the pages of these logs, and puts them behind those that are in the table.
+fn build_pages(
     rt: &(impl Threads + Sync),
     crew: Crew,
-    alloc: Global,
-    gathering: Gathering,
-    slot: &Slot,
-) -> Result<Tree<Global>, Fault>
-    ensures ok { (fs : List said.Frame) → AreGathered gathering.by_pid fs → IfOk result (λ tree. (broken_in fs ≡ None) ×
-        (tree ≡ record { table = record { places = in_places (pages_of fs); logged = [] }; root = slot.now.root; height = slot.now.height })) }
-    ensures err { (fs : List said.Frame) → AreGathered gathering.by_pid fs → IfErr result (λ fault. (fault ≡ NoMemory) ⊎
-        ((f : Finding) × (broken_in fs ≡ Some f) × (fault ≡ BadStructure f))) }
-    ensures home { IfOk result (λ tree. AreAllHome tree) }
+    work: &RebuildWork,
+    table: &mut Table<Page<Global>, Global>,
+    logs: Vec<PageLog>,
+) -> Result<(), Fault>
+    requires { AreRisingPids (keys_of table.old.places ++ log_pids (map held_log logs.items)) }
+    ensures ok { OnOk result (table.new ≡ filled table.old (pages_told work.now.settings (map held_log logs.items))) }
+    ensures err { IfErr result (λ fault. fault ≡ NoMemory) }
 {
-    let logs = gathering.into_logs()?;
-    let Ok(made) = run_round(rt, crew, &NoGate, &RebuildWork { alloc }, logs) else {
-        return Err(Fault::NoMemory);
-    };
-    let table = table_of(alloc, made)?;
-    Ok(Tree::new(table, slot.root, slot.height))
+    match run_round(rt, crew, &NoGate, work, logs) {
+        Ok(made) => {
+            put_all(table, made)?;
+            Ok(())
+        }
+        Err(_logs) => Err(Fault::NoMemory),
+    }
+}
+
+// The table of the pages that are kept, by rising page id.
+fn table_of(
+    rt: &(impl Threads + Sync),
+    crew: Crew,
+    work: &RebuildWork,
+    by_pid: BTreeMap<u64, Kept, Global>,
+) -> Result<Table<Page<Global>, Global>, Fault>
+    ensures ok { IfOk result (λ table.
+        table ≡ record { places = in_places (pages_told work.now.settings (map log_under by_pid.entries)); logged = [] }) }
+    ensures err { IfErr result (λ fault. fault ≡ NoMemory) }
+    ensures ordered { IsStrictlySortedBy nat_cmp (keys_of by_pid.entries) }
+{
+    // `len` is called only for the proof: it says that the page ids rise.
+    let _rising = by_pid.len();
+    let mut table = Table::new(work.alloc);
+    let mut logs = Vec::new(work.alloc);
+    for entry in by_pid {
+        let (pid, kept) = entry;
+        if kept.frames.is_empty() {
+            continue;
+        }
+        logs.push(PageLog {
+            pid: Pid(pid),
+            frames: kept.frames,
+        })?;
+        if logs.len() == PAGES_AT_ONCE {
+            let full = mem::replace(&mut logs, Vec::new(work.alloc));
+            build_pages(rt, crew, work, &mut table, full)?;
+        }
+    }
+    build_pages(rt, crew, work, &mut table, logs)?;
+    Ok(table)
 }
 
 /// The tree of the pages that the gathered frames tell, with the root and the height of the slot. Nothing is wrong with it under the
@@ -95,18 +130,26 @@ fn tree_of_pages(
 pub(crate) fn checked_tree(
     rt: &(impl Threads + Sync),
     crew: Crew,
-    alloc: Global,
     settings: &Settings,
     slot: &Slot,
     gathering: Gathering,
 ) -> Result<Tree<Global>, Fault>
     requires { first_bad_field settings.now ≡ None }
-    ensures ok { (fs : List said.Frame) → AreGathered gathering.by_pid fs → IfOk result (λ tree. (wrong_in settings.now slot.now fs ≡ None) ×
-        (tree_of tree ≡ tree_by_log slot.now fs) × AreAllHome tree) }
-    ensures err { (fs : List said.Frame) → AreGathered gathering.by_pid fs → IfErr result (λ fault. (fault ≡ NoMemory) ⊎
-        ((f : Finding) × (wrong_in settings.now slot.now fs ≡ Some f) × (fault ≡ BadStructure f))) }
+    ensures ok { (found : List Found) → AreGathered settings.now Every gathering found → IfOk result (λ tree.
+        (wrong_in settings.now slot.now (frames_in found) ≡ None) × (tree_of tree ≡ tree_by_log slot.now (frames_in found)) × AreAllHome tree) }
+    ensures err { (found : List Found) → AreGathered settings.now Every gathering found → IfErr result (λ fault. (fault ≡ NoMemory) ⊎
+        ((f : Finding) × (wrong_in settings.now slot.now (frames_in found) ≡ Some f) × (fault ≡ BadStructure f))) }
 {
-    let mut tree = tree_of_pages(rt, crew, alloc, gathering, slot)?;
+    if let Some(finding) = gathering.unfit() {
+        return Err(Fault::BadStructure(finding));
+    }
+    let Gathering { alloc, by_pid, .. } = gathering;
+    let work = RebuildWork {
+        alloc,
+        settings: *settings,
+    };
+    let table = table_of(rt, crew, &work, by_pid)?;
+    let mut tree = Tree::new(table, slot.root, slot.height);
     verify(rt, alloc, &tree, settings)?;
     tree.flushed();
     Ok(tree)

@@ -1,214 +1,207 @@
-//! Frames are gathered by page: of each page id those that tell its page, in the order of the log.
+//! Frames are gathered by page: of each page id what its frames tell, and the bytes of those that are wanted, as they stand in the log.
 //!
-//! Whoever wrote a disk chose its page ids. So they are looked up by their order and not by a hash, which ids could be chosen to share,
-//! and a page id of which nothing is left but that there is no page takes no list.
-ghost use Rattle.std.specs.Prelude.{◌≡◌, ◌++◌, ◌∷◌, [], false, List, map, IfOk, IfErr, OnOk};
-ghost use Rattle.std.specs.List.{filter};
-ghost use Rattle.keys.specs.declared.fault.Fault.TheVariants.{NoMemory};
-ghost use Rattle.mapping.specs.Proper.{AreRisingPids};
-ghost use Rattle.frame_codec.specs.Frame as said;
-ghost use Rattle.frame_codec.specs.Frame.Content.{Free};
-ghost use Rattle.frame_codec.specs.Shown.{frame_of};
-ghost use Rattle.recovery.specs.BuiltTree.{log_pids};
-ghost use Rattle.recovery.specs.Gathered.{AreGathered, kept_contents, kept_with, log_under, logs_of, is_more, is_log};
-ghost use Rattle.recovery.specs.PageByLog.{is_start, is_free};
-ghost use Rattle.recovery.specs.Rebuild.{content_of, contents_in, held_log};
+//! Whoever wrote a disk chose its page ids. So they are looked up by their order and not by a hash, which ids could be chosen to share.
+ghost use Rattle.std.specs.Prelude.{◌≡◌, ◌++◌, ◌∷◌, [], List, IfOk, OnOk};
+ghost use Rattle.flush_log.specs.Reading.{Found};
+ghost use Rattle.recovery.specs.Gathered.{AreLive, is_wanted_in, told_with, with_base, with_run, kept_with, is_unfit};
+ghost use Rattle.recovery.specs.LogPages.{broken_in};
+ghost use Rattle.recovery.specs.Scan.{held_frame, said_of_frame};
+ghost use Rattle.recovery.specs.StoreOfDisk.{frames_in};
+ghost use Rattle.recovery.specs.declared.gather.Wanted as declared;
 
-use crate::rebuild::PageLog;
-use frame_codec::Frame;
-use keys::{Fault, Pid};
+use crate::scan_segment::ScannedFrame;
+use frame_codec::FrameKind;
+use keys::{Finding, Pid};
 use std::alloc::{AllocError, Global};
 use std::collections::BTreeMap;
 
-/// What is kept of the frames of a page.
-#[derive(Drop)]
-pub enum Kept {
-    /// No page is known yet, so that a run doesn't count.
-    Nothing,
-    /// The last frame says that there is no page.
-    Free,
-    /// The frames, from the last on that is a base or says that there is no page.
-    Frames(Vec<Frame>),
+// The number of the rule that a page breaks whose frames don't fit one another.
+const UNFIT_FRAMES: u32 = 1;
+
+/// Whose frames are kept while a log is read.
+#[derive(Clone, Copy, Debug, PartialEq, Eq)]
+pub enum Wanted {
+    /// Those of every page that there is, as a recovery needs them.
+    Every,
+    /// Those of the pages whose base stands in the segment of the log's first frame, as a clean needs them.
+    Head,
 }
 
-/// Frames by page id: of each page those that tell it so far. What a frame makes void is dropped when that frame comes.
+/// What the frames of a page tell that came so far. What stands before a base or a free frame no longer counts.
+#[derive(Clone, Copy, Debug, PartialEq, Eq)]
+pub enum Told {
+    /// There is neither a base nor a free frame yet.
+    Nothing,
+    /// There is a leaf.
+    Leaf,
+    /// There is an index page.
+    Index,
+    /// There is no such page.
+    Free,
+    /// They fit no page: a run stands where there is none, or one of the other kind.
+    Unfit,
+}
+
+/// What is kept of a page.
+#[derive(Drop)]
+pub struct Kept {
+    /// What its frames tell.
+    pub told: Told,
+    /// Its frames from its last base on, back to back, where they are wanted; else none, and then they take no memory.
+    pub frames: Vec<u8>,
+}
+
+/// What is kept of each page, by page id, of the frames that came so far.
 #[derive(Drop)]
 pub struct Gathering {
     pub(crate) alloc: Global,
-    by_pid: BTreeMap<u64, Kept, Global>,
+    /// Whose frames are kept.
+    pub wanted: Wanted,
+    /// The segment where the first frame stands, once one came.
+    pub first: Option<u64>,
+    /// What is kept, under the number of the page id.
+    pub by_pid: BTreeMap<u64, Kept, Global>,
 }
 
-// The page of which a frame speaks.
-fn pid_of(frame: &Frame) -> Pid
-    ensures { result ≡ (frame_of frame.now).pid }
+// What is told with one more frame of this kind.
+fn told_with(told: Told, kind: FrameKind) -> Told
+    ensures { result ≡ told_with told kind }
 {
-    match frame {
-        Frame::FullLeaf { pid, .. } => *pid,
-        Frame::DeltaLeaf { pid, .. } => *pid,
-        Frame::FullIndex { pid, .. } => *pid,
-        Frame::DeltaIndex { pid, .. } => *pid,
-        Frame::Free { pid } => *pid,
+    match kind {
+        FrameKind::FullLeaf => Told::Leaf,
+        FrameKind::DeltaLeaf => match told {
+            Told::Nothing => Told::Nothing,
+            Told::Leaf => Told::Leaf,
+            Told::Index => Told::Unfit,
+            Told::Free => Told::Unfit,
+            Told::Unfit => Told::Unfit,
+        },
+        FrameKind::FullIndex => Told::Index,
+        FrameKind::DeltaIndex => match told {
+            Told::Nothing => Told::Nothing,
+            Told::Leaf => Told::Unfit,
+            Told::Index => Told::Index,
+            Told::Free => Told::Unfit,
+            Told::Unfit => Told::Unfit,
+        },
+        FrameKind::Free => Told::Free,
     }
 }
 
-// Whether the frame says that there is no page.
-fn is_free(frame: &Frame) -> bool
-    ensures { result ≡ is_free (content_of frame.now) }
+// Whether frames that tell this fit no page.
+fn is_unfit(told: Told) -> bool
+    ensures { result ≡ is_unfit told }
 {
-    match frame {
-        Frame::FullLeaf { .. } => false,
-        Frame::DeltaLeaf { .. } => false,
-        Frame::FullIndex { .. } => false,
-        Frame::DeltaIndex { .. } => false,
-        Frame::Free { .. } => true,
+    match told {
+        Told::Nothing => false,
+        Told::Leaf => false,
+        Told::Index => false,
+        Told::Free => false,
+        Told::Unfit => true,
     }
 }
 
-// Whether what stands before the frame no longer counts.
-fn is_start(frame: &Frame) -> bool
-    ensures { result ≡ is_start (content_of frame.now) }
+// The frames from a base on: that alone, where it is wanted.
+fn with_base(mut frames: Vec<u8>, is_wanted: bool, frame: &[u8]) -> Result<Vec<u8>, AllocError>
+    ensures { IfOk result (λ now. now.items ≡ with_base is_wanted frame.now) }
 {
-    match frame {
-        Frame::FullLeaf { .. } => true,
-        Frame::DeltaLeaf { .. } => false,
-        Frame::FullIndex { .. } => true,
-        Frame::DeltaIndex { .. } => false,
-        Frame::Free { .. } => true,
+    frames.clear();
+    if is_wanted {
+        frames.extend_from_slice(frame)?;
     }
-}
-
-// A list without frames, with room for one: that of the frames that were kept, if there is one.
-fn emptied(alloc: Global, kept: Kept) -> Result<Vec<Frame>, AllocError>
-    ensures { IfOk result (λ frames. frames.items ≡ []) }
-{
-    match kept {
-        Kept::Nothing => Vec::with_capacity(alloc, 1),
-        Kept::Free => Vec::with_capacity(alloc, 1),
-        Kept::Frames(frames) => {
-            let mut frames = frames;
-            frames.clear();
-            Ok(frames)
-        }
-    }
-}
-
-// What is kept where one more frame stands behind these.
-fn pushed(mut frames: Vec<Frame>, frame: Frame) -> Result<Kept, AllocError>
-    ensures { IfOk result (λ now. kept_contents now ≡ contents_in frames.items ++ content_of frame ∷ []) }
-{
-    frames.reserve(1)?;
-    frames.push_reserved(frame);
-    Ok(Kept::Frames(frames))
-}
-
-// The frame that says that there is no page, alone, with room for one more.
-fn free_alone(alloc: Global, pid: Pid) -> Result<Vec<Frame>, AllocError>
-    ensures { IfOk result (λ frames. contents_in frames.items ≡ Free ∷ []) }
-{
-    let mut frames = Vec::with_capacity(alloc, 2)?;
-    frames.push_reserved(Frame::Free { pid });
     Ok(frames)
 }
 
-// What is kept of a page once a run is read. It counts only behind what is kept.
-fn with_run(alloc: Global, pid: Pid, kept: Kept, frame: Frame) -> Result<Kept, AllocError>
-    requires { is_start (content_of frame) ≡ false }
-    ensures { IfOk result (λ now. kept_contents now ≡ kept_with (kept_contents kept) (content_of frame)) }
+// The frames with a run behind them, if there are any.
+fn with_run(mut frames: Vec<u8>, frame: &[u8]) -> Result<Vec<u8>, AllocError>
+    ensures { IfOk result (λ now. now.items ≡ with_run frames.items frame.now) }
 {
-    match kept {
-        Kept::Nothing => Ok(Kept::Nothing),
-        Kept::Free => pushed(free_alone(alloc, pid)?, frame),
-        Kept::Frames(frames) => {
-            if frames.is_empty() {
-                return Ok(Kept::Nothing);
-            }
-            pushed(frames, frame)
-        }
+    if !frames.is_empty() {
+        frames.extend_from_slice(frame)?;
     }
+    Ok(frames)
 }
 
-// What is kept of a page's frames once one more is read.
-fn with_frame(alloc: Global, pid: Pid, kept: Kept, frame: Frame) -> Result<Kept, AllocError>
-    ensures { IfOk result (λ now. kept_contents now ≡ kept_with (kept_contents kept) (content_of frame)) }
+// What is kept of a page's frames with one more of this kind. Of a page whose base isn't wanted no run is kept.
+fn frames_with(
+    alloc: Global,
+    frames: Vec<u8>,
+    kind: FrameKind,
+    is_wanted: bool,
+    frame: &[u8],
+) -> Result<Vec<u8>, AllocError>
+    ensures { IfOk result (λ now. now.items ≡ kept_with frames.items kind is_wanted frame.now) }
 {
-    if is_free(&frame) {
-        return Ok(Kept::Free);
+    match kind {
+        FrameKind::FullLeaf => with_base(frames, is_wanted, frame),
+        FrameKind::DeltaLeaf => with_run(frames, frame),
+        FrameKind::FullIndex => with_base(frames, is_wanted, frame),
+        FrameKind::DeltaIndex => with_run(frames, frame),
+        FrameKind::Free => Ok(Vec::new(alloc)),
     }
-    if !is_start(&frame) {
-        return with_run(alloc, pid, kept, frame);
-    }
-    pushed(emptied(alloc, kept)?, frame)
-}
-
-// Whether they say more than that there is no page.
-fn are_more(frames: &[Frame]) -> bool
-    ensures { result ≡ is_more (contents_in frames.now) }
-{
-    match frames.len() {
-        0 => false,
-        1 => !is_free(&frames[0]),
-        _ => true,
-    }
-}
-
-// The logs of the pages of which more is kept than that there is none, by rising page id.
-fn logs_in(alloc: Global, by_pid: BTreeMap<u64, Kept, Global>) -> Result<Vec<PageLog>, AllocError>
-    ensures { IfOk result (λ logs. map held_log logs.items ≡ filter is_log (map log_under by_pid.entries)) }
-{
-    let mut logs = Vec::new(alloc);
-    for entry in by_pid {
-        let (pid, kept) = entry;
-        match kept {
-            Kept::Nothing => {}
-            Kept::Free => {}
-            Kept::Frames(frames) => {
-                if are_more(&frames) {
-                    logs.push(PageLog {
-                        pid: Pid(pid),
-                        frames,
-                    })?;
-                }
-            }
-        }
-    }
-    Ok(logs)
 }
 
 impl Gathering {
-    /// No frames yet.
-    pub fn new(alloc: Global) -> Self
-        ensures { AreGathered result.by_pid [] }
+    /// Of a log of which no frame came yet.
+    pub fn new(alloc: Global, wanted: Wanted) -> Self
+        ensures { AreLive wanted result [] }
     {
         Gathering {
             alloc,
+            wanted,
+            first: None,
             by_pid: BTreeMap::new(alloc),
         }
     }
 
-    /// Takes the next frame of the log. After an `Err` some frames of its page may be lost.
-    pub fn add(&mut self, frame: Frame) -> Result<(), Fault>
-        ensures ok { (fs : List said.Frame) → AreGathered self.old.by_pid fs → OnOk result (AreGathered self.new.by_pid (fs ++ frame_of frame ∷ [])) }
-        ensures err { IfErr result (λ fault. fault ≡ NoMemory) }
+    // Whether the frames of a page are kept whose base stands in this segment, where the log begins with that one.
+    fn is_wanted(&self, first: u64, segment: u64) -> bool
+        ensures { result ≡ is_wanted_in self.now.wanted first segment }
     {
-        let Pid(pid) = pid_of(&frame);
-        let kept = match self.by_pid.remove(&pid) {
+        match self.wanted {
+            Wanted::Every => true,
+            Wanted::Head => segment == first,
+        }
+    }
+
+    /// Takes the next frame of the log, which stands in this segment. After an `Err` what is kept of its page may be lost.
+    pub fn add(&mut self, segment: u64, frame: ScannedFrame<'_>) -> Result<(), AllocError>
+        ensures { (w : declared.Wanted) (found : List Found) (f : Found) → said_of_frame f ≡ held_frame segment frame.entry → AreLive w self.old found →
+            OnOk result (AreLive w self.new (found ++ f ∷ [])) }
+    {
+        let ScannedFrame { pid, kind, bytes } = frame;
+        let first = self.first.unwrap_or(segment);
+        let is_wanted = self.is_wanted(first, segment);
+        let before = match self.by_pid.remove(&pid) {
             Some(kept) => kept,
-            None => Kept::Nothing,
+            None => Kept {
+                told: Told::Nothing,
+                frames: Vec::new(self.alloc),
+            },
         };
-        let kept = with_frame(self.alloc, Pid(pid), kept, frame)?;
+        let Kept { told, frames } = before;
+        let kept = Kept {
+            told: told_with(told, kind),
+            frames: frames_with(self.alloc, frames, kind, is_wanted, bytes)?,
+        };
         self.by_pid.insert(pid, kept)?;
+        self.first = Some(first);
         Ok(())
     }
 
-    /// The logs of all pages of which more is left than that there is none, by rising page id.
-    pub fn into_logs(self) -> Result<Vec<PageLog>, Fault>
-        ensures ok { (fs : List said.Frame) → AreGathered self.by_pid fs → IfOk result (λ logs. map held_log logs.items ≡ logs_of fs) }
-        ensures rising { IfOk result (λ logs. AreRisingPids (log_pids (map held_log logs.items))) }
-        ensures err { IfErr result (λ fault. fault ≡ NoMemory) }
+    /// The first page whose frames fit no page, by the least page id.
+    pub fn unfit(&self) -> Option<Finding>
+        ensures { (w : declared.Wanted) (found : List Found) → AreLive w self.now found → result ≡ broken_in (frames_in found) }
     {
-        let Gathering { alloc, by_pid } = self;
-        // `len` is called only for the proof: it says that the page ids rise.
-        let _rising = by_pid.len();
-        Ok(logs_in(alloc, by_pid)?)
+        for entry in self.by_pid.iter() {
+            let (pid, kept) = entry;
+            if is_unfit(kept.told) {
+                return Some(Finding {
+                    rule: UNFIT_FRAMES,
+                    pid: Pid(*pid),
+                });
+            }
+        }
+        None
     }
 }

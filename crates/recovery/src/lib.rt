@@ -1,7 +1,7 @@
 //! The store that the bytes of a disk stand for: the pages by their frames, or the one fault that the bytes have; and when a
 //! store in memory is in step with its disk. `recover` reads it: settings and slot (`read_disk`), and the log, segment by segment
 //! (`read_log`, `scan_segment`), whose frames are gathered by page (`log_so_far`, `gather`), pages built of them (`rebuild`), and put
-//! into a tree that is looked at (`build_tree`). `read_log` hands segments to any `LogReader`, for a clean reads the log too.
+//! into a tree that is looked at (`build_tree`). A clean reads the log too, by the same `read_log`.
 //!
 //! Laws: what was flushed is what is read; what is read is a store; a new disk stands for the first store; a tree that keeps
 //! what the log has stays in step; bytes that no reading looks at don't matter; a crash in a flush leaves the store before or
@@ -9,7 +9,6 @@
 #![tactic(auto)]
 
 mod build_tree;
-pub mod built_page;
 pub mod gather;
 pub mod laws;
 mod log_so_far;

@@ -1,19 +1,17 @@
-//! What a recovery keeps of a log while it is read: the frames by page, or the first fault.
-ghost use Rattle.std.specs.Prelude.{◌≡◌, ◌++◌, [], List, map, fold, None, Result, Ok, Err, MatchResult, IfErr, OnOk};
+//! What is kept of a log while it is read: its frames by page, or the first fault.
+ghost use denote.Param.Send.{IsSync};
+ghost use Rattle.std.specs.Prelude.{◌≡◌, ◌^◌, ◌<◌, ◌++◌, [], List, map, fold, length, None, Result, Ok, Err, MatchResult, IfErr, OnOk};
+ghost use Rattle.std.specs.List.{All};
 ghost use Rattle.keys.specs.declared.fault.Fault as faults;
 ghost use Rattle.keys.specs.declared.fault.Fault.TheVariants.{NoMemory};
-ghost use Rattle.frame_codec.specs.Frame as said;
 ghost use Rattle.flush_log.specs.Reading.{Found, followed_by};
-ghost use Rattle.recovery.specs.Gathered.{AreGathered};
-ghost use Rattle.recovery.specs.LogSoFar.{IsSoFar, told_of_scan};
-ghost use Rattle.recovery.specs.Scan.{frame_at, frames_at};
-ghost use Rattle.recovery.specs.StoreOfDisk.{frames_in};
+ghost use Rattle.recovery.specs.Gathered.{AreLive, IsSoFar};
+ghost use Rattle.recovery.specs.Scan.{held_frame, held_segment, said_of_frame, said_of, said_by_scan, scanned_behind};
+ghost use Rattle.recovery.specs.declared.gather.Wanted as declared;
 
-use crate::gather::Gathering;
-use crate::read_log::LogReader;
+use crate::gather::{Gathering, Wanted};
 use crate::scan_segment::{ScanDone, ScanWork, ScannedFrame, Segment};
 use crew::{Crew, NoGate, run_round};
-use frame_codec::read_frame;
 use keys::{Fault, Settings};
 use std::alloc::Global;
 use std::thread::Threads;
@@ -23,59 +21,43 @@ use std::thread::Threads;
 pub(crate) struct LogSoFar {
     alloc: Global,
     // The frames in front of the first fault.
-    gathering: Gathering,
+    pub(crate) gathering: Gathering,
     // The first fault that the bytes have.
-    fault: Option<Fault>,
+    pub(crate) fault: Option<Fault>,
 }
 
-// Gathers the frame that stands there. It is made now, and dropped at once where it doesn't count.
-fn gather_one(
+// Takes the frames of the segment with this number, in their order.
+fn add_all(
     gathering: &mut Gathering,
-    settings: &Settings,
-    scanned: ScannedFrame<'_>,
-) -> Result<(), Fault>
-    ensures ok { (fs : List said.Frame) → AreGathered gathering.old.by_pid fs →
-        OnOk result (AreGathered gathering.new.by_pid (fs ++ frame_at settings.now scanned.entry)) }
-    ensures err { IfErr result (λ fault. fault ≡ NoMemory) }
-{
-    let Some((frame, _size)) = read_frame(gathering.alloc, scanned.bytes, settings)? else {
-        return Ok(());
-    };
-    gathering.add(frame)
-}
-
-// Gathers the frames that stand there, in their order.
-fn gather_all(
-    gathering: &mut Gathering,
-    settings: &Settings,
+    number: u64,
     frames: Vec<ScannedFrame<'_>>,
 ) -> Result<(), Fault>
-    ensures ok { (fs : List said.Frame) → AreGathered gathering.old.by_pid fs →
-        OnOk result (AreGathered gathering.new.by_pid (fs ++ frames_at settings.now frames.entry.items)) }
+    ensures ok { (w : declared.Wanted) (found more : List Found) → map said_of_frame more ≡ map (held_frame number) frames.entry.items →
+        AreLive w gathering.old found → OnOk result (AreLive w gathering.new (found ++ more)) }
     ensures err { IfErr result (λ fault. fault ≡ NoMemory) }
 {
     for frame in frames {
-        gather_one(gathering, settings, frame)?;
+        gathering.add(number, frame)?;
     }
     Ok(())
 }
 
 impl LogSoFar {
-    /// Nothing yet.
-    pub(crate) fn new(alloc: Global) -> Self
-        ensures { IsSoFar result.gathering.by_pid result.fault (Ok []) }
+    /// Nothing yet, of a log of which these frames are to be kept.
+    pub(crate) fn new(alloc: Global, wanted: Wanted) -> Self
+        ensures { IsSoFar wanted result.gathering result.fault (Ok []) }
     {
         LogSoFar {
             alloc,
-            gathering: Gathering::new(alloc),
+            gathering: Gathering::new(alloc, wanted),
             fault: None,
         }
     }
 
     /// The frames, or the first fault.
     pub(crate) fn into_gathering(self) -> Result<Gathering, Fault>
-        ensures { (told : Result (List Found) faults.Fault) → IsSoFar self.gathering.by_pid self.fault told → MatchResult result
-            (λ g. (found : List Found) × (told ≡ Ok found) × AreGathered g.by_pid (frames_in found)) (λ fault. told ≡ Err fault) }
+        ensures { (w : declared.Wanted) (told : Result (List Found) faults.Fault) → IsSoFar w self.gathering self.fault told → MatchResult result
+            (λ g. (found : List Found) × (told ≡ Ok found) × AreLive w g found) (λ fault. told ≡ Err fault) }
     {
         let LogSoFar {
             alloc: _alloc,
@@ -91,14 +73,15 @@ impl LogSoFar {
     // Takes what scans of segments gave, in their order, up to the first fault.
     fn gather(&mut self, scans: Vec<ScanDone<'_>>) -> Result<(), Fault>
         requires { self.old.fault ≡ None }
-        ensures ok { (told : Result (List Found) faults.Fault) → IsSoFar self.old.gathering.by_pid self.old.fault told →
-            OnOk result (IsSoFar self.new.gathering.by_pid self.new.fault (fold followed_by told (map told_of_scan scans.entry.items))) }
+        ensures ok { (w : declared.Wanted) (told : Result (List Found) faults.Fault) (read : List (Result (List Found) faults.Fault)) →
+            map said_of read ≡ map said_by_scan scans.entry.items → IsSoFar w self.old.gathering self.old.fault told →
+            OnOk result (IsSoFar w self.new.gathering self.new.fault (fold followed_by told read)) }
         ensures err { IfErr result (λ fault. fault ≡ NoMemory) }
     {
         for done in scans {
-            let settings = done.settings;
-            match done.scan {
-                Ok(frames) => gather_all(&mut self.gathering, &settings, frames)?,
+            let ScanDone { segment, scan } = done;
+            match scan {
+                Ok(frames) => add_all(&mut self.gathering, segment.number, frames)?,
                 Err(fault) => {
                     self.fault = Some(fault);
                     return Ok(());
@@ -107,19 +90,22 @@ impl LogSoFar {
         }
         Ok(())
     }
-}
 
-impl LogReader for LogSoFar {
-    ghost has_read = { λ so_far told. IsSoFar so_far.gathering.by_pid so_far.fault told };
-
-    // Behind a fault nothing counts, and no segment is scanned.
-    fn take<R: Threads + Sync>(
+    /// Takes the next segments, which the crew scans at once. A fault of their bytes is no error here, but a part of what was found:
+    /// what stands behind it doesn't count, and isn't scanned. The only error is `Fault::NoMemory`; after it nothing is promised.
+    pub(crate) fn take<R: Threads + Sync>(
         &mut self,
         rt: &R,
         crew: Crew,
         settings: &Settings,
         segments: Vec<Segment<'_>>,
-    ) -> Result<(), Fault> {
+    ) -> Result<(), Fault>
+        requires sync { IsSync R.row }
+        requires short { All (λ g. length (held_segment g).bytes < 2 ^ 32) segments.items }
+        ensures ok { (w : declared.Wanted) (told : Result (List Found) faults.Fault) → IsSoFar w self.old.gathering self.old.fault told →
+            OnOk result (IsSoFar w self.new.gathering self.new.fault (scanned_behind settings.now told (map held_segment segments.entry.items))) }
+        ensures err { IfErr result (λ fault. fault ≡ NoMemory) }
+    {
         if self.fault.is_some() {
             return Ok(());
         }

@@ -1,11 +1,14 @@
-//! A page that is being built, or taken apart.
-ghost use Rattle.std.specs.Prelude.{◌≡◌, MatchResult};
-ghost use Rattle.recovery.specs.Rebuild.{page_of_parts};
+//! A page that is being built of its frames.
+ghost use Rattle.std.specs.Prelude.{◌≡◌, None, Some, IfOk, MatchOption};
+ghost use Rattle.frame_codec.specs.Frame.Content.{DeltaLeaf, DeltaIndex};
+ghost use Rattle.recovery.specs.PageByLog.{base_in};
+ghost use Rattle.recovery.specs.Rebuild.{content_of, page_of_parts, IsPushed};
 
-use delta_chain::Chain;
+use delta_chain::{Chain, Run};
+use frame_codec::Frame;
 use index_page::{ChildList, Page};
 use keys::{Key, Pid, Value};
-use std::alloc::Global;
+use std::alloc::{AllocError, Global};
 
 /// The low key and the chain of a page. An index page's children are put into one list once it has all its runs.
 #[derive(Drop)]
@@ -17,29 +20,74 @@ pub(crate) enum PageParts {
 }
 
 impl PageParts {
-    /// The parts of the page.
-    pub(crate) fn of(page: Page<Global>) -> Self
-        ensures { page_of_parts result ≡ page }
+    /// The page that a frame is by itself, where it is a base.
+    pub(crate) fn of_base(frame: Frame) -> Option<Self>
+        ensures { MatchOption result (base_in (content_of frame) ≡ None) (λ page. base_in (content_of frame) ≡ Some (page_of_parts page)) }
     {
-        if page.as_leaf().is_some() {
-            let (low, chain) = page.into_leaf();
-            PageParts::Leaf(low, chain)
-        } else {
-            let (low, chain, _list) = page.into_index();
-            PageParts::Index(low, chain)
+        match frame {
+            Frame::FullLeaf { low, base, .. } => Some(PageParts::Leaf(low, Chain::of_base(base))),
+            Frame::FullIndex { low, base, .. } => Some(PageParts::Index(low, Chain::of_base(base))),
+            Frame::DeltaLeaf { .. } => None,
+            Frame::DeltaIndex { .. } => None,
+            Frame::Free { .. } => None,
         }
     }
 
-    /// The page of these parts; or the parts, where memory is refused.
-    pub(crate) fn into_page(self, alloc: Global) -> Result<Page<Global>, Self>
-        ensures { MatchResult result (λ page. page ≡ page_of_parts self) (λ again. page_of_parts again ≡ page_of_parts self) }
+    // The page with one more run, where it is a leaf.
+    fn with_leaf_run(self, run: Run<Value<Global>, Global>) -> Result<Option<Self>, AllocError>
+        ensures { IfOk result (IsPushed (page_of_parts self) (DeltaLeaf run)) }
+    {
+        match self {
+            PageParts::Leaf(low, chain) => {
+                let mut chain = chain;
+                match chain.prepend(run) {
+                    Ok(()) => Ok(Some(PageParts::Leaf(low, chain))),
+                    Err(_refused) => Err(AllocError),
+                }
+            }
+            PageParts::Index(_low, _chain) => Ok(None),
+        }
+    }
+
+    // The page with one more run, where it is an index page.
+    fn with_index_run(self, run: Run<Pid, Global>) -> Result<Option<Self>, AllocError>
+        ensures { IfOk result (IsPushed (page_of_parts self) (DeltaIndex run)) }
+    {
+        match self {
+            PageParts::Leaf(_low, _chain) => Ok(None),
+            PageParts::Index(low, chain) => {
+                let mut chain = chain;
+                match chain.prepend(run) {
+                    Ok(()) => Ok(Some(PageParts::Index(low, chain))),
+                    Err(_refused) => Err(AllocError),
+                }
+            }
+        }
+    }
+
+    /// The page with what the frame says, as its newest run; nothing where the frame is no run of such a page.
+    pub(crate) fn with_run(self, frame: Frame) -> Result<Option<Self>, AllocError>
+        ensures { IfOk result (IsPushed (page_of_parts self) (content_of frame)) }
+    {
+        match frame {
+            Frame::DeltaLeaf { run, .. } => self.with_leaf_run(run),
+            Frame::DeltaIndex { run, .. } => self.with_index_run(run),
+            Frame::FullLeaf { .. } => Ok(None),
+            Frame::FullIndex { .. } => Ok(None),
+            Frame::Free { .. } => Ok(None),
+        }
+    }
+
+    /// The page of these parts.
+    pub(crate) fn into_page(self, alloc: Global) -> Result<Page<Global>, AllocError>
+        ensures { IfOk result (λ page. page ≡ page_of_parts self) }
     {
         match self {
             PageParts::Leaf(low, chain) => Ok(Page::leaf(low, chain)),
-            PageParts::Index(low, chain) => match ChildList::of(alloc, &chain) {
-                Ok(list) => Ok(Page::index(low, chain, list)),
-                Err(_refused) => Err(PageParts::Index(low, chain)),
-            },
+            PageParts::Index(low, chain) => {
+                let list = ChildList::of(alloc, &chain)?;
+                Ok(Page::index(low, chain, list))
+            }
         }
     }
 }

@@ -1,29 +1,20 @@
-//! The reading of a disk: its settings, the slot of its store, and the frames of its log.
-ghost use Rattle.std.specs.Prelude.{◌≡◌, ◌≢◌, ◌⊎◌, ◌≤◌, IsTrue, true, List, length, take, drop, None, Ok, Err, MatchResult, IfOk, IfErr, OnOk};
+//! The reading of a disk: its settings, and the slot of its store.
+ghost use Rattle.std.specs.Prelude.{◌≡◌, ◌≢◌, ◌⊎◌, ◌≤◌, IsTrue, true, length, take, drop, None, Ok, Err, MatchResult, IfOk, IfErr, OnOk};
 ghost use Rattle.keys.specs.Bytes.{Bytes};
 ghost use Rattle.keys.specs.Limits.{first_bad_field};
 ghost use Rattle.keys.specs.declared.fault.Fault.TheVariants.{Device};
 ghost use Rattle.flush_log.specs.Disk.{Kept, Same};
-ghost use Rattle.flush_log.specs.Reading.{Found, log};
 ghost use Rattle.flush_log.specs.Segments.{disk_size};
 ghost use Rattle.flush_log.specs.SettingsBlock.{settings_block_size, store_settings};
 ghost use Rattle.flush_log.specs.Slot.{slots_begin, is_slot, store_slot};
-ghost use Rattle.recovery.specs.Gathered.{AreGathered};
 ghost use Rattle.recovery.specs.Recovered.{IsReadOf, IsLate};
-ghost use Rattle.recovery.specs.StoreOfDisk.{frames_in};
 
-use crate::gather::Gathering;
-use crate::log_so_far::LogSoFar;
 use crate::read_bytes::read;
-use crate::read_log::read_log;
-use crew::Crew;
 use flush_log::Disk;
 use flush_log::segments::disk_size;
 use flush_log::settings_block::read_settings as read_block;
 use flush_log::slot::{SLOT_SIZE, Slot, newer, read_slot};
 use keys::{Fault, Settings};
-use std::alloc::Global;
-use std::thread::Threads;
 
 // How many bytes the settings block has.
 const BLOCK_SIZE: usize = 64;
@@ -95,34 +86,4 @@ pub(crate) fn read_store_slot<D: Disk>(disk: &mut D, settings: &Settings) -> Res
     let mut slots = [0; 2 * SLOT_SIZE];
     read(disk, SLOTS_BEGIN, &mut slots)?;
     slot_in(settings, &slots)
-}
-
-/// All frames of the log between the slot's head and tail, gathered by page.
-///
-/// The fault at the least position of the log counts, `Fault::BadSegment` or `Fault::BadFrame`. Besides there is `Fault::NoMemory`,
-/// and `Fault::Device` where a read failed: also behind a segment that has a fault, since all are read, and then no longer
-/// scanned. It takes the memory of some segments and their frames, and what `Gathering` keeps.
-pub(crate) fn read_frames<D: Disk>(
-    rt: &(impl Threads + Sync),
-    crew: Crew,
-    alloc: Global,
-    disk: &mut D,
-    settings: &Settings,
-    slot: &Slot,
-) -> Result<Gathering, Fault>
-    requires checked { first_bad_field settings.now ≡ None }
-    requires within { disk_size settings.now ≤ (D.view disk.old).size }
-    requires slot { is_slot settings.now slot.now.sequence slot.now ≡ true }
-    ensures read { (file : Bytes) → IsReadOf (D.view disk.old) file → store_settings file ≡ Ok settings.now → store_slot settings.now file ≡ Ok slot.now →
-        (now : Bytes) × IsReadOf (D.view disk.new) now × (store_settings now ≡ Ok settings.now) × (store_slot settings.now now ≡ Ok slot.now) × MatchResult result
-        (λ g. (found : List Found) × (log settings.now now slot.now ≡ Ok found) × AreGathered g.by_pid (frames_in found))
-        (λ fault. (log settings.now now slot.now ≡ Err fault) ⊎ IsLate (D.failed disk.old) (D.failed disk.new) fault) }
-    ensures kept { Kept (D.view disk.old) (D.view disk.new) }
-    ensures same { IsTrue (D.view disk.old).is_honest → Same (D.view disk.old) (D.view disk.new) }
-    ensures counted { OnOk result (D.failed disk.new ≡ D.failed disk.old) }
-    ensures uncounted { IfErr result (λ fault. fault ≢ Device → D.failed disk.new ≡ D.failed disk.old) }
-{
-    let mut found = LogSoFar::new(alloc);
-    read_log(rt, crew, alloc, disk, settings, slot, &mut found)?;
-    found.into_gathering()
 }

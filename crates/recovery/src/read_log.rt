@@ -1,18 +1,20 @@
-//! The reading of a log: its segments, from the head to the tail, are handed to whatever takes them, some at a time.
-ghost use denote.Param.Send.{IsSync};
-ghost use Rattle.std.specs.Prelude.{◌≡◌, ◌≢◌, ℕ, ◌+◌, ◌-◌, ◌*◌, ◌^◌, ◌<◌, ◌≤◌, [], IsTrue, true, List, map, length, take, None, Result, Ok, IfOk, IfErr, OnOk};
+//! The reading of a log: its segments, from the head to the tail, are read, some at a time, and their frames are gathered by page.
+ghost use Rattle.std.specs.Prelude.{◌≡◌, ◌≢◌, ◌⊎◌, ℕ, ◌+◌, ◌-◌, ◌*◌, ◌^◌, ◌<◌, ◌≤◌, [], IsTrue, true, List, map, length, take, None, Ok, Err, MatchResult, IfOk, IfErr, OnOk};
 ghost use Rattle.std.specs.List.{All};
 ghost use Rattle.keys.specs.Bytes.{Bytes};
 ghost use Rattle.keys.specs.Limits.{first_bad_field};
-ghost use Rattle.keys.specs.declared.fault.Fault as faults;
-ghost use Rattle.keys.specs.declared.fault.Fault.TheVariants.{NoMemory, Device};
+ghost use Rattle.keys.specs.declared.fault.Fault.TheVariants.{Device};
 ghost use Rattle.flush_log.specs.Disk.{Kept, Same};
 ghost use Rattle.flush_log.specs.Reading.{Found, read_earlier as earlier_segments, log};
 ghost use Rattle.flush_log.specs.Segments.{segments_begin, disk_size, last_segment, bytes_in_use};
 ghost use Rattle.flush_log.specs.Slot.{is_slot};
+ghost use Rattle.recovery.specs.Gathered.{AreGathered, IsSoFar};
 ghost use Rattle.recovery.specs.Recovered.{IsReadOf, IsLate};
 ghost use Rattle.recovery.specs.Scan.{held_segment, scanned_behind};
+ghost use Rattle.recovery.specs.declared.gather.Wanted as declared;
 
+use crate::gather::{Gathering, Wanted};
+use crate::log_so_far::LogSoFar;
 use crate::read_bytes::read;
 use crate::scan_segment::{End, Segment};
 use crew::Crew;
@@ -26,28 +28,6 @@ use std::thread::Threads;
 // How many bytes are read before a crew gets them: whole segments, of which the largest is a quarter of it. It isn't the crew's to
 // say, so that a reading takes the same memory and makes the same calls of the disk for every crew.
 const BYTES_AT_ONCE: u64 = 4_194_304;
-
-/// What takes the segments of a log, one after the other, in their order. A recovery keeps the frames; a clean keeps of them what
-/// it writes again.
-pub trait LogReader {
-    // It has taken segments that hold these frames, or that have this first fault.
-    ghost has_read: { Self → Result (List Found) faults.Fault → Type 0 };
-
-    /// Takes the next segments, which the crew may work at once. A fault of their bytes is no error here, but a part of what was
-    /// read. The only error is `Fault::NoMemory`; after it nothing is promised of what was taken.
-    fn take<R: Threads + Sync>(
-        &mut self,
-        rt: &R,
-        crew: Crew,
-        settings: &Settings,
-        segments: Vec<Segment<'_>>,
-    ) -> Result<(), Fault>
-        requires sync { IsSync R.row }
-        requires short { All (λ g. length (held_segment g).bytes < 2 ^ 32) segments.items }
-        ensures ok { (told : Result (List Found) faults.Fault) → has_read self.old told →
-            OnOk result (has_read self.new (scanned_behind settings.now told (map held_segment segments.entry.items))) }
-        ensures err { IfErr result (λ fault. fault ≡ NoMemory) };
-}
 
 // How many bytes of the last segment are in use.
 fn bytes_in_use(settings: &Settings, slot: &Slot) -> usize
@@ -147,22 +127,22 @@ fn read_last<'b, D: Disk>(
 }
 
 // Reads all segments in front of the last one, at a time as many as the buffer has room for.
-fn read_earlier<D: Disk, R: LogReader>(
+fn read_earlier<D: Disk>(
     rt: &(impl Threads + Sync),
     crew: Crew,
     disk: &mut D,
     settings: &Settings,
     slot: &Slot,
     buffer: &mut Vec<u8>,
-    reader: &mut R,
+    so_far: &mut LogSoFar,
 ) -> Result<(), Fault>
     requires checked { first_bad_field settings.now ≡ None }
     requires within { disk_size settings.now ≤ (D.view disk.old).size }
     requires slot { is_slot settings.now slot.now.sequence slot.now ≡ true }
     requires room { settings.now.seg_size ≤ length buffer.old.items }
-    ensures read { (file : Bytes) → IsReadOf (D.view disk.old) file → R.has_read reader.old (Ok []) →
+    ensures read { (w : declared.Wanted) (file : Bytes) → IsReadOf (D.view disk.old) file → IsSoFar w so_far.old.gathering so_far.old.fault (Ok []) →
         (now : Bytes) × IsReadOf (D.view disk.new) now × (take segments_begin now ≡ take segments_begin file)
-        × OnOk result (R.has_read reader.new (earlier_segments settings.now now slot.now.head (last_segment settings.now slot.now.tail - slot.now.head))) }
+        × OnOk result (IsSoFar w so_far.new.gathering so_far.new.fault (earlier_segments settings.now now slot.now.head (last_segment settings.now slot.now.tail - slot.now.head))) }
     ensures room { length buffer.new.items ≡ length buffer.old.items }
     ensures err { IfErr result (IsLate (D.failed disk.old) (D.failed disk.new)) }
     ensures kept { Kept (D.view disk.old) (D.view disk.new) }
@@ -179,29 +159,29 @@ fn read_earlier<D: Disk, R: LogReader>(
         let count = at_once.min(last - first) as usize;
         let buf = &mut buffer[..count * size];
         let segments = read_whole(alloc, disk, settings, first, count, buf)?;
-        reader.take(rt, crew, settings, segments)?;
+        so_far.take(rt, crew, settings, segments)?;
         first += count as u64;
     }
     Ok(())
 }
 
 // Reads the log as `read_log` does. The buffer has room for a segment at least.
-fn read_segments<D: Disk, R: LogReader>(
+fn read_segments<D: Disk>(
     rt: &(impl Threads + Sync),
     crew: Crew,
     disk: &mut D,
     settings: &Settings,
     slot: &Slot,
     buffer: &mut Vec<u8>,
-    reader: &mut R,
+    so_far: &mut LogSoFar,
 ) -> Result<(), Fault>
     requires checked { first_bad_field settings.now ≡ None }
     requires within { disk_size settings.now ≤ (D.view disk.old).size }
     requires slot { is_slot settings.now slot.now.sequence slot.now ≡ true }
     requires room { settings.now.seg_size ≤ length buffer.old.items }
-    ensures read { (file : Bytes) → IsReadOf (D.view disk.old) file → R.has_read reader.old (Ok []) →
+    ensures read { (w : declared.Wanted) (file : Bytes) → IsReadOf (D.view disk.old) file → IsSoFar w so_far.old.gathering so_far.old.fault (Ok []) →
         (now : Bytes) × IsReadOf (D.view disk.new) now × (take segments_begin now ≡ take segments_begin file)
-        × OnOk result (R.has_read reader.new (log settings.now now slot.now)) }
+        × OnOk result (IsSoFar w so_far.new.gathering so_far.new.fault (log settings.now now slot.now)) }
     ensures err { IfErr result (IsLate (D.failed disk.old) (D.failed disk.new)) }
     ensures kept { Kept (D.view disk.old) (D.view disk.new) }
     ensures same { IsTrue (D.view disk.old).is_honest → Same (D.view disk.old) (D.view disk.new) }
@@ -209,41 +189,44 @@ fn read_segments<D: Disk, R: LogReader>(
     ensures uncounted { IfErr result (λ fault. fault ≢ Device → D.failed disk.new ≡ D.failed disk.old) }
 {
     let alloc = *buffer.allocator();
-    read_earlier(rt, crew, disk, settings, slot, buffer, reader)?;
+    read_earlier(rt, crew, disk, settings, slot, buffer, so_far)?;
     let segments = read_last(alloc, disk, settings, slot, buffer)?;
-    reader.take(rt, crew, settings, segments)
+    so_far.take(rt, crew, settings, segments)
 }
 
-/// Reads the log between the slot's head and tail, and hands all its segments to the reader, which then has read what the log
-/// holds, or its first fault: also the segments behind one that has a fault are read. It takes memory for the bytes of some segments,
-/// at most 4 MiB whatever the crew.
+/// Reads the log between the slot's head and tail, and gathers its frames by page: of each page what they tell, and the bytes of those
+/// that are wanted. The crew scans the segments.
 ///
-/// A read that fails is `Fault::Device`; besides there is `Fault::NoMemory`, of the reader too. After an error nothing is promised
-/// of the reader. No byte of the disk changes.
-pub fn read_log<D: Disk, R: LogReader>(
+/// The fault at the least position of the log counts, `Fault::BadSegment` or `Fault::BadFrame`. Besides there is `Fault::NoMemory`,
+/// and `Fault::Device` where a read failed: also behind a segment that has a fault, since all are read, and then no longer
+/// scanned. It takes the memory of some segments and of where their frames stand, at most 4 MiB of segments whatever the crew, and what
+/// is kept of the pages. No byte of the disk changes.
+pub fn read_log<D: Disk>(
     rt: &(impl Threads + Sync),
     crew: Crew,
     alloc: Global,
     disk: &mut D,
     settings: &Settings,
     slot: &Slot,
-    reader: &mut R,
-) -> Result<(), Fault>
+    wanted: Wanted,
+) -> Result<Gathering, Fault>
     requires checked { first_bad_field settings.now ≡ None }
     requires within { disk_size settings.now ≤ (D.view disk.old).size }
     requires slot { is_slot settings.now slot.now.sequence slot.now ≡ true }
     // Of bytes that were read, which are those from before in front of the segments, and on an honest disk what a read gives.
-    ensures read { (file : Bytes) → IsReadOf (D.view disk.old) file → R.has_read reader.old (Ok []) →
-        (now : Bytes) × IsReadOf (D.view disk.new) now × (take segments_begin now ≡ take segments_begin file)
-        × OnOk result (R.has_read reader.new (log settings.now now slot.now)) }
-    ensures err { IfErr result (IsLate (D.failed disk.old) (D.failed disk.new)) }
+    ensures read { (file : Bytes) → IsReadOf (D.view disk.old) file →
+        (now : Bytes) × IsReadOf (D.view disk.new) now × (take segments_begin now ≡ take segments_begin file) × MatchResult result
+        (λ g. (found : List Found) × (log settings.now now slot.now ≡ Ok found) × AreGathered settings.now wanted g found)
+        (λ fault. (log settings.now now slot.now ≡ Err fault) ⊎ IsLate (D.failed disk.old) (D.failed disk.new) fault) }
     ensures kept { Kept (D.view disk.old) (D.view disk.new) }
     ensures same { IsTrue (D.view disk.old).is_honest → Same (D.view disk.old) (D.view disk.new) }
     ensures counted { OnOk result (D.failed disk.new ≡ D.failed disk.old) }
     ensures uncounted { IfErr result (λ fault. fault ≢ Device → D.failed disk.new ≡ D.failed disk.old) }
 {
+    let mut so_far = LogSoFar::new(alloc, wanted);
     let at_once = segments_at_once(settings, slot);
     let mut buffer = Vec::new(alloc);
     buffer.resize(at_once * settings.seg_size as usize, 0)?;
-    read_segments(rt, crew, disk, settings, slot, &mut buffer, reader)
+    read_segments(rt, crew, disk, settings, slot, &mut buffer, &mut so_far)?;
+    so_far.into_gathering()
 }

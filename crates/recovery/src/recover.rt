@@ -9,8 +9,9 @@ ghost use Rattle.recovery.specs.Recovered.{IsReadOf, IsLate, IsLogRead, store_re
 ghost use Rattle.recovery.specs.StoreOfDisk.{store_of_disk};
 
 use crate::build_tree::checked_tree;
-use crate::gather::Gathering;
-use crate::read_disk::{read_frames, read_settings, read_store_slot};
+use crate::gather::{Gathering, Wanted};
+use crate::read_disk::{read_settings, read_store_slot};
+use crate::read_log::read_log;
 use crew::Crew;
 use flush_log::Disk;
 use flush_log::slot::Slot;
@@ -55,7 +56,7 @@ fn read_parts<D: Disk>(
 {
     let settings = read_settings(disk)?;
     let slot = read_store_slot(disk, &settings)?;
-    let gathering = read_frames(rt, crew, alloc, disk, &settings, &slot)?;
+    let gathering = read_log(rt, crew, alloc, disk, &settings, &slot, Wanted::Every)?;
     Ok(LogRead {
         settings,
         slot,
@@ -91,7 +92,7 @@ pub fn recover<D: Disk>(
         slot,
         gathering,
     } = read_parts(rt, crew, alloc, disk)?;
-    let tree = checked_tree(rt, crew, alloc, &settings, &slot, gathering)?;
+    let tree = checked_tree(rt, crew, &settings, &slot, gathering)?;
     Ok(Recovered {
         settings,
         slot,

@@ -1,14 +1,13 @@
-//! The scan of a segment: its bytes give where its frames stand, or its first fault. Nothing is made of them yet, since a frame that is
+//! The scan of a segment: its bytes give which frames stand in it, or its first fault. Nothing is made of them yet, since a frame that is
 //! made can take many times its bytes, and most count no longer once the log is read.
-ghost use Rattle.std.specs.Prelude.{◌≡◌, ◌⊎◌, ◌^◌, ◌<◌, ◌==◌, length, Ok, Err, IfOk, IfErr};
+ghost use Rattle.std.specs.Prelude.{◌≡◌, ◌⊎◌, ◌^◌, ◌<◌, ◌==◌, map, length, Ok, Err, IfOk, IfErr};
 ghost use Rattle.std.specs.List.{list_all};
 ghost use Rattle.keys.specs.declared.fault.Fault.TheVariants.{NoMemory};
-ghost use Rattle.flush_log.specs.Reading.{all_in};
-ghost use Rattle.recovery.specs.Scan.{is_end_at, held_segment, scanned, frames_at};
+ghost use Rattle.recovery.specs.Scan.{is_end_at, held_segment, scanned, held_frame, said_of};
 
 use crew::{Turn, Work};
 use flush_log::segments::segment_header;
-use frame_codec::skim_frame;
+use frame_codec::{FrameKind, skim_frame};
 use keys::{Fault, Settings};
 use std::alloc::Global;
 use std::marker::PhantomData;
@@ -36,7 +35,11 @@ pub struct Segment<'a> {
 /// A frame of a segment, of which nothing is made yet.
 #[derive(Clone, Copy)]
 pub struct ScannedFrame<'a> {
-    /// The bytes from its first on, up to those where its segment ends.
+    /// The number of the page id of which it says something.
+    pub pid: u64,
+    /// What kind of frame it is.
+    pub kind: FrameKind,
+    /// Its bytes, which stay where they are.
     pub bytes: &'a [u8],
 }
 
@@ -56,7 +59,7 @@ pub fn is_end(end: End, rest: &[u8]) -> bool
     }
 }
 
-/// Where the frames of a segment stand: those behind its header, up to their end. The bytes may be any.
+/// The frames of a segment: those behind its header, up to their end. The bytes may be any.
 ///
 /// A header of another segment, or none, is `Fault::BadSegment`. Where there is neither a frame nor the end of the frames, that is
 /// `Fault::BadFrame` with the offset; the first such place counts, and what stands behind it is not looked at. Else there is
@@ -68,7 +71,7 @@ pub fn scan_segment<'a>(
 ) -> Result<Vec<ScannedFrame<'a>>, Fault>
     requires { length (held_segment segment).bytes < 2 ^ 32 }
     ensures ok { IfOk result (λ frames.
-        scanned settings.now (held_segment segment.entry) ≡ Ok (all_in segment.entry.number (frames_at settings.now frames.items))) }
+        said_of (scanned settings.now (held_segment segment.entry)) ≡ Ok (map (held_frame segment.entry.number) frames.items)) }
     ensures err { IfErr result (λ fault. (fault ≡ NoMemory) ⊎ (scanned settings.now (held_segment segment.entry) ≡ Err fault)) }
 {
     let Segment { number, end, bytes } = segment;
@@ -83,13 +86,18 @@ pub fn scan_segment<'a>(
             return Err(Fault::BadFrame(number, (bytes.len() - rest.len()) as u32));
         };
         let size = skimmed.size;
-        frames.push(ScannedFrame { bytes: rest })?;
+        let frame = ScannedFrame {
+            pid: skimmed.pid.0,
+            kind: skimmed.kind,
+            bytes: &rest[..size],
+        };
+        frames.push(frame)?;
         rest = &rest[size..];
     }
     Ok(frames)
 }
 
-/// The work of scanning segments: a segment goes in, whose bytes are lent; where its frames stand or its first fault come out.
+/// The work of scanning segments: a segment goes in, whose bytes are lent; its frames or its first fault come out.
 #[derive(Drop)]
 pub struct ScanWork<'a> {
     alloc: Global,
@@ -100,10 +108,9 @@ pub struct ScanWork<'a> {
 /// What a scan of a segment gave, with the segment.
 #[derive(Drop)]
 pub struct ScanDone<'a> {
-    segment: Segment<'a>,
-    /// The settings under which its frames are read.
-    pub settings: Settings,
-    /// Where its frames stand, or its first fault.
+    /// The segment.
+    pub segment: Segment<'a>,
+    /// Its frames, or its first fault.
     pub scan: Result<Vec<ScannedFrame<'a>>, Fault>,
 }
 
@@ -123,8 +130,7 @@ impl<'a> ScanWork<'a> {
 impl<'a> Work for ScanWork<'a> {
     ghost use Rattle.std.specs.Prelude.{◌^◌, ◌<◌, List, Result, length};
     ghost use Rattle.keys.specs.declared.fault.Fault.{Fault};
-    ghost use Rattle.flush_log.specs.Reading.{Found};
-    ghost use Rattle.recovery.specs.Scan.{HeldSegment, held_segment, scanned, told_by_scan};
+    ghost use Rattle.recovery.specs.Scan.{HeldSegment, HeldFrame, held_segment, scanned, said_of, said_by_scan};
 
     type Job = Segment<'a>;
 
@@ -132,7 +138,7 @@ impl<'a> Work for ScanWork<'a> {
 
     ghost Held = { HeldSegment };
 
-    ghost Made = { Result (List Found) Fault };
+    ghost Made = { Result (List HeldFrame) Fault };
 
     ghost accepts = { λ _ h. length h.bytes < 2 ^ 32 };
 
@@ -140,21 +146,19 @@ impl<'a> Work for ScanWork<'a> {
 
     ghost origin = { λ d. held_segment d.segment };
 
-    ghost outcome = { λ d. told_by_scan d.settings d.segment.number d.scan };
+    ghost outcome = { said_by_scan };
 
-    ghost made = { λ w h. scanned w.settings h };
+    ghost made = { λ w h. said_of (scanned w.settings h) };
 
     fn work(&self, job: Segment<'a>) -> Turn<Segment<'a>, ScanDone<'a>> {
         match scan_segment(self.alloc, &self.settings, job) {
             Ok(frames) => Turn::Done(ScanDone {
                 segment: job,
-                settings: self.settings,
                 scan: Ok(frames),
             }),
             Err(Fault::NoMemory) => Turn::Back(job),
             Err(fault) => Turn::Done(ScanDone {
                 segment: job,
-                settings: self.settings,
                 scan: Err(fault),
             }),
         }

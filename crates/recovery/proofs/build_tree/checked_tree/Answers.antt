@@ -1,28 +1,45 @@
-use Rattle.std.proofs.Common.{◌∙◌, sym}
-use Rattle.mapping.specs.Finding.{finding}
-use Rattle.mapping.specs.TreeInMemory.{tree_of}
-use Rattle.recovery.specs.StoreOfDisk.{wrong_in}
-use Rattle.recovery.proofs.BuildLemmas.{built-wrong, marked-built, found_of_same, found_by_walk, found_leaves}
+use Rattle.std.proofs.Common.{◌≡◌, ◌∙◌, List, map, None, Some, refl, sym, ap, subst, inl, inr}
+use Rattle.std.proofs.Common.{Option}
+use Rattle.mapping.specs.Finding.{Finding, finding}
+use Rattle.mapping.specs.TreeInMemory.{TreeInMemory, tree_of}
+use Rattle.flush_log.specs.Slot.{Slot}
+use Rattle.recovery.specs.BuiltTree.{pages_told, log_under}
+use Rattle.recovery.specs.LogPages.{broken_in}
+use Rattle.recovery.specs.StoreOfDisk.{frames_in, wrong_in, tree_by_log}
+use Rattle.recovery.specs.declared.gather.Wanted.TheVariants.{Every}
+use Rattle.recovery.proofs.BuildLemmas.{built-table, home-table, slot_tree, pages-gathered, built-wrong, marked-built, found_first, found_of_same, found_by_walk, found_leaves}
 use Rattle.recovery.proofs.build_tree.checked_tree.Goals as goal
 
 pub verify-requires-after_bounds : goal.verify-requires-after_bounds
-verify-requires-after_bounds g c κs within = c.in_ok-tree.ensures.home
+verify-requires-after_bounds g c κs within = home-table c.new-tree.result c.in_ok-table.table _ (ap (λ (u : TreeInMemory). u.table) c.new-tree.ensures) c.in_ok-table.ensures.ok
+
+pub returns-in-Some-clause-err : goal.returns-in-Some-clause-err
+returns-in-Some-clause-err g c found h =
+    inr (
+      c.in-Some.finding,
+      found_first _ (broken_in (frames_in found)) (finding c.args.settings.now (tree_by_log c.args.slot.now (frames_in found))) c.in-Some.finding refl (c.in-Some.ensures Every found h.live),
+      refl,
+    )
 
 pub returns-in_err-verify-clause-err : goal.returns-in_err-verify-clause-err
-returns-in_err-verify-clause-err g c fs h =
+returns-in_err-verify-clause-err g c found h =
     let s = c.args.settings.now in
     let t = c.args.slot.now in
-    let built = c.in_ok-tree.ensures.ok fs h in
+    let fs = frames_in found in
+    let none : broken_in fs ≡ None = sym (c.in_default.ensures Every found h.live) in
+    let built = c.new-tree.ensures ∙ ap (λ (u : Slot). slot_tree c.in_ok-table.table u) c.slot.view_is ∙ built-table t c.in_ok-table.table _ _ c.in_ok-table.ensures.ok (pages-gathered s c.args.gathering found c.requires c.table_of.ensures.ordered h) in
     let fault = c.in_err-verify.field-0.0 in
-    let found = finding s (tree_of c.in_ok-tree.tree) in
+    let seen = finding s (tree_of c.new-tree.result) in
     found_leaves c.from_residual-in_err-verify.result (wrong_in s t fs) fault c.from_residual-in_err-verify.ensures.1
-    (found_of_same found (wrong_in s t fs) fault (built-wrong s t fs c.in_ok-tree.tree built.1 built.0) (found_by_walk found fault c.in_err-verify.ensures.err))
+    (found_of_same seen (wrong_in s t fs) fault (built-wrong s t fs c.new-tree.result built none) (found_by_walk seen fault c.in_err-verify.ensures.err))
 
 pub returns-clause-ok : goal.returns-clause-ok
-returns-clause-ok g c fs h =
+returns-clause-ok g c found h =
     let s = c.args.settings.now in
     let t = c.args.slot.now in
-    let built = c.in_ok-tree.ensures.ok fs h in
+    let fs = frames_in found in
+    let broken : broken_in fs ≡ None = sym (c.in_default.ensures Every found h.live) in
+    let built = c.new-tree.ensures ∙ ap (λ (u : Slot). slot_tree c.in_ok-table.table u) c.slot.view_is ∙ built-table t c.in_ok-table.table _ _ c.in_ok-table.ensures.ok (pages-gathered s c.args.gathering found c.requires c.table_of.ensures.ordered h) in
     let none = c.in_ok-verify.ensures.sound in
-    let marked = marked-built s t fs c.in_ok-tree.tree built.1 c.requires none c.flushed.new.self c.flushed.ensures in
-    (sym (built-wrong s t fs c.in_ok-tree.tree built.1 built.0) ∙ none, marked.0, marked.1)
+    let marked = marked-built s t fs c.new-tree.result built c.requires none c.flushed.new.self c.flushed.ensures in
+    (sym (built-wrong s t fs c.new-tree.result built broken) ∙ none, marked.0, marked.1)

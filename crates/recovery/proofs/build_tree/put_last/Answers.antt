@@ -10,19 +10,15 @@ pub put-requires : goal.put-requires
 put-requires c =
     let t = c.args.table.now in
     let pid = c.pid.inside.0 in
-    let is : pid ≡ c.args.built.0 = c.pid.view_is ∙ ap (λ (b : ℕ × PageOfKind). b.0) c.into_page-pid.ensures in
-    let below : AllByRecursion (λ n. n < pid) (keys_of t.places) = subst (λ (n : ℕ). AllByRecursion (λ m. m < n) (keys_of t.places)) (sym is) c.requires in
+    let below : AllByRecursion (λ n. n < pid) (keys_of t.places) = subst (λ (n : ℕ). AllByRecursion (λ m. m < n) (keys_of t.places)) (sym c.pid.view_is) c.requires in
     ap (λ (u : Mapping PageOfKind). place_of u pid) c.in_ok-room.ensures.ok ∙ away-last t pid below
 
 pub returns : goal.returns
 returns c =
     let t = c.args.table.now in
     let pid = c.pid.inside.0 in
-    let page = c.into_page-pid.result.1 in
-    let is : pid ≡ c.args.built.0 = c.pid.view_is ∙ ap (λ (b : ℕ × PageOfKind). b.0) c.into_page-pid.ensures in
-    let below : AllByRecursion (λ n. n < pid) (keys_of t.places) = subst (λ (n : ℕ). AllByRecursion (λ m. m < n) (keys_of t.places)) (sym is) c.requires in
+    let below : AllByRecursion (λ n. n < pid) (keys_of t.places) = subst (λ (n : ℕ). AllByRecursion (λ m. m < n) (keys_of t.places)) (sym c.pid.view_is) c.requires in
     c.put.ensures
-    ∙ ap (λ (u : Mapping PageOfKind). with_place u pid (Some page)) c.in_ok-room.ensures.ok
-    ∙ put-last t pid below page
-    ∙ ap (λ (n : ℕ). and_last t n (Some page)) is
-    ∙ ap (λ (b : ℕ × PageOfKind). and_last t c.args.built.0 (Some b.1)) c.into_page-pid.ensures
+    ∙ ap (λ (u : Mapping PageOfKind). with_place u pid (Some c.args.page)) c.in_ok-room.ensures.ok
+    ∙ put-last t pid below c.args.page
+    ∙ ap (λ (n : ℕ). and_last t n (Some c.args.page)) c.pid.view_is

@@ -1,13 +1,45 @@
-use Rattle.std.specs.Vec.Iter.{into_iter_items}
-use Rattle.recovery.proofs.BuildLemmas.{next_is_last, missing_filled}
+use Rattle.std.proofs.Common.{◌≡◌, ◌++◌, ◌∷◌, [], List, Vec, map, refl, sym, ap, subst, ◌∙◌}
+use Rattle.std.specs.Map.{keys_of}
+use Rattle.mapping.specs.Proper.{AreRisingPids}
+use Rattle.recovery.specs.BuiltTree.{log_pids, pages_told, filled, log_under}
+use Rattle.recovery.specs.Rebuild.{HeldLog, held_log}
+use Rattle.recovery.specs.declared.rebuild.PageLog.{PageLog}
+use Rattle.recovery.proofs.BuildLemmas.{AreAside, aside-none, aside-more, aside-passed, aside-rise, aside-built, aside-all, put-aside, empty_by}
 use Rattle.recovery.proofs.build_tree.table_of.Goals as goal
 
-pub put_last-requires : goal.put_last-requires
-put_last-requires c =
-    next_is_last c.loop-rebuilt.table (into_iter_items c.loop-rebuilt.rebuilt-iterator) (into_iter_items c.next.new.self) c.args.made.items c.loop-rebuilt.invariant c.in-Some.rebuilt c.in-Page.built
-    c.in-Some.ensures.steps.0 c.in-Page.is
+pub loop-entry-init : goal.loop-entry-init
+loop-entry-init g c =
+    aside-none c.args.work.now.settings c.new-table.result (map held_log c.new-logs.result.items) c.into_iter-entry-iterator.result c.args.by_pid.entries c.new-table.ensures
+    (ap (λ (ls : List PageLog). map held_log ls) c.new-logs.ensures.items) c.into_iter-entry-iterator.ensures.into_iter_gives.0 c.len-rising.ensures.ordered
 
-pub loop-rebuilt-preserved : goal.loop-rebuilt-preserved
-loop-rebuilt-preserved c =
-    missing_filled c.loop-rebuilt.table (into_iter_items c.loop-rebuilt.rebuilt-iterator) (into_iter_items c.next.new.self) c.args.made.items c.loop-rebuilt.invariant c.in-Some.rebuilt c.in-Missing._log
-    c.in-Some.ensures.steps.0 c.in-Missing.is
+pub loop-entry-preserved-then-is_empty : goal.loop-entry-preserved-then-is_empty
+loop-entry-preserved-then-is_empty g c =
+    aside-passed c.args.work.now.settings c.loop-entry.table (map held_log c.loop-entry.logs.items) c.loop-entry.entry-iterator c.next.new.self c.args.by_pid.entries c.loop-entry.invariant c.in-Some.entry c.in-Some.ensures.steps
+    (empty_by c.in-Some.entry.1.frames.items c.in-Some.entry.1.frames.len (sym c.in-Some.entry.1.frames.ok.0) (sym c.is_empty.ensures ∙ c.if-is_empty.true))
+
+pub loop-entry-preserved : goal.loop-entry-preserved
+loop-entry-preserved g c =
+    aside-more c.args.work.now.settings c.loop-entry.table (map held_log c.loop-entry.logs.items) c.loop-entry.entry-iterator c.next.new.self c.args.by_pid.entries c.loop-entry.invariant c.in-Some.entry c.in-Some.ensures.steps
+    (map held_log c.push.new.self.items) (put-aside _ _ _ c.in-Some.entry c.in_ok-push.ensures.items refl)
+
+pub build_pages-requires-after_bounds : goal.build_pages-requires-after_bounds
+build_pages-requires-after_bounds g c κs within =
+    let s = c.args.work.now.settings in
+    let t = c.loop-entry.table in
+    let now : List HeldLog = map held_log c.push.new.self.items in
+    let more : AreAside s t now c.next.new.self c.args.by_pid.entries =
+    aside-more s t (map held_log c.loop-entry.logs.items) c.loop-entry.entry-iterator c.next.new.self c.args.by_pid.entries c.loop-entry.invariant c.in-Some.entry c.in-Some.ensures.steps
+    now (put-aside _ _ _ c.in-Some.entry c.in_ok-push.ensures.items refl) in
+    subst (λ (v : Vec PageLog _). AreRisingPids (keys_of t.places ++ log_pids (map held_log v.items))) (sym c.replace-full.ensures.value) (aside-rise s t now c.next.new.self c.args.by_pid.entries more)
+
+pub loop-entry-preserved-in-Continue-branch-2 : goal.loop-entry-preserved-in-Continue-branch-2
+loop-entry-preserved-in-Continue-branch-2 g c =
+    let s = c.args.work.now.settings in
+    let t = c.loop-entry.table in
+    let now : List HeldLog = map held_log c.push.new.self.items in
+    let more : AreAside s t now c.next.new.self c.args.by_pid.entries =
+    aside-more s t (map held_log c.loop-entry.logs.items) c.loop-entry.entry-iterator c.next.new.self c.args.by_pid.entries c.loop-entry.invariant c.in-Some.entry c.in-Some.ensures.steps
+    now (put-aside _ _ _ c.in-Some.entry c.in_ok-push.ensures.items refl) in
+    aside-built s t now c.next.new.self c.args.by_pid.entries more c.build_pages.new.table (map held_log c.replace-full.new.dest.items)
+    (c.in_ok-build_pages.ensures.ok ∙ ap (λ (v : Vec PageLog _). filled t (pages_told s (map held_log v.items))) c.replace-full.ensures.value)
+    (ap (λ (v : Vec PageLog _). map held_log v.items) c.replace-full.ensures.after ∙ ap (λ (ls : List PageLog). map held_log ls) c.new.ensures.items)

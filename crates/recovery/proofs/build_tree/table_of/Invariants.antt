@@ -1,7 +1,8 @@
-use Rattle.std.specs.Vec.Iter.{into_iter_items}
-use Rattle.recovery.proofs.BuildLemmas.{IsFilledBy}
+use Rattle.std.proofs.Common.{map}
+use Rattle.recovery.specs.Rebuild.{held_log}
+use Rattle.recovery.proofs.BuildLemmas.{AreAside}
 use Rattle.recovery.proofs.build_tree.table_of.Given as goal
 
--- what is left fills the table as all fill an empty one
-abbrev pub invariant-loop-rebuilt : goal.invariant-loop-rebuilt
-invariant-loop-rebuilt l = IsFilledBy l.table (into_iter_items l.rebuilt-iterator) l.fn.made.items
+-- the table, the logs that are put aside, and the pages that are left are all
+abbrev pub invariant-loop-entry : goal.invariant-loop-entry
+invariant-loop-entry g l = AreAside l.work.settings l.table (map held_log l.logs.items) l.entry-iterator l.fn.by_pid.entries

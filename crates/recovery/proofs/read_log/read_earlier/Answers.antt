@@ -3,6 +3,7 @@ use Rattle.std.specs.List.{length_refill}
 use Rattle.flush_log.specs.Reading.{read_earlier}
 use Rattle.flush_log.specs.Segments.{last_segment}
 use Rattle.flush_log.specs.Slot.{Slot}
+use Rattle.recovery.specs.Gathered.{IsSoFar}
 use Rattle.recovery.proofs.ReadBytes.{kept_self, same_self, kept_then, same_then}
 use Rattle.recovery.proofs.ReadLog.{none-read, round-more, is_last}
 use Rattle.recovery.proofs.read_log.read_earlier.Goals as goal
@@ -21,13 +22,12 @@ loop-first-init g c =
       kept = kept_self start;
       same = λ honest. same_self start;
       counted = refl;
-      read = λ file is none. (file, none-read (g.R.LogReader.has_read c.args.reader.now) start s t.head (c.slot.inside.head - t.head) file (omega (arith, head)) is none);
+      read = λ w file is none. (file, none-read (IsSoFar w c.args.so_far.now.gathering c.args.so_far.now.fault) start s t.head (c.slot.inside.head - t.head) file (omega (arith, head)) is none);
     }
 
 pub loop-first-preserved : goal.loop-first-preserved
 loop-first-preserved g c =
     let disk = g.D.Disk in
-    let has = g.R.LogReader.has_read in
     let start = disk.view c.args.disk.now in
     let old = disk.view c.loop-first.disk in
     let new = disk.view c.read_whole.new.disk in
@@ -49,17 +49,17 @@ loop-first-preserved g c =
       kept = kept_then start old new so_far.kept c.read_whole.ensures.kept;
       same = λ honest. same_then start old new (so_far.same honest) (c.read_whole.ensures.same (so_far.kept.honest ∙ honest));
       counted = c.in_ok-segments.ensures.counted ∙ so_far.counted;
-      read = λ file is none.
-          let (now, upto) = so_far.read file is none in
+      read = λ w file is none.
+          let (now, upto) = so_far.read w file is none in
           let (then, bytes, front, told) = c.in_ok-segments.ensures.read now t.head upto.bytes from (omega (arith, free, few, less, last, tail, from)) in (
             then,
-            round-more (has c.loop-first.reader) (has c.take.new.self) old new s t.head (n - t.head) (n + count - t.head) c.in_ok-segments.segments.items file now then
-                upto bytes front told c.in_ok-take.ensures.ok,
+            round-more (IsSoFar w c.loop-first.so_far.gathering c.loop-first.so_far.fault) (IsSoFar w c.take.new.self.gathering c.take.new.self.fault) old new s t.head (n - t.head) (n + count - t.head) c.in_ok-segments.segments.items file now then
+                upto bytes front told (c.in_ok-take.ensures.ok w),
           );
     }
 
 pub returns-clause-read : goal.returns-clause-read
-returns-clause-read g c file is none =
+returns-clause-read g c w file is none =
     let s = c.args.settings.now in
     let t = c.args.slot.now in
     let tail = ap (λ (t : Slot). last_segment s t.tail) c.slot.view_is in
@@ -67,5 +67,5 @@ returns-clause-read g c file is none =
     let upto = c.loop-first.invariant.upto in
     let over = c.loop-first-test.false in
     let all : c.loop-first.first - t.head ≡ last_segment s t.tail - t.head = omega (arith, last, tail, upto, over) in
-    let (now, read) = c.loop-first.invariant.read file is none in
-    (now, read.bytes, read.front, subst (λ (k : ℕ). g.R.LogReader.has_read c.loop-first.reader (read_earlier s now t.head k)) all read.found)
+    let (now, read) = c.loop-first.invariant.read w file is none in
+    (now, read.bytes, read.front, subst (λ (k : ℕ). IsSoFar w c.loop-first.so_far.gathering c.loop-first.so_far.fault (read_earlier s now t.head k)) all read.found)

@@ -2,7 +2,9 @@ use Rattle.std.proofs.Common.{◌≡◌, ◌≤◌, ◌-◌, [], IsTrue, Ok, len
 use Rattle.keys.specs.Bytes.{Bytes}
 use Rattle.flush_log.specs.Disk.{Kept, Same}
 use Rattle.flush_log.specs.Segments.{last_segment}
+use Rattle.recovery.specs.Gathered.{IsSoFar}
 use Rattle.recovery.specs.Recovered.{IsReadOf}
+use Rattle.recovery.specs.declared.gather.Wanted.{Wanted}
 use Rattle.recovery.proofs.ReadLog.{AreReadUpto}
 use Rattle.recovery.proofs.read_log.read_earlier.Given as goal
 
@@ -10,7 +12,6 @@ use Rattle.recovery.proofs.read_log.read_earlier.Given as goal
 abbrev pub invariant-loop-first : goal.invariant-loop-first
 invariant-loop-first g l =
     let disk = g.D.Disk in
-    let reader = g.R.LogReader in
     record {
       from : l.slot.head ≤ l.first;
       upto : l.first ≤ last_segment l.settings l.slot.tail;
@@ -18,8 +19,8 @@ invariant-loop-first g l =
       kept : Kept (disk.view l.fn.disk) (disk.view l.disk);
       same : IsTrue (disk.view l.fn.disk).is_honest → Same (disk.view l.fn.disk) (disk.view l.disk);
       counted : disk.failed l.disk ≡ disk.failed l.fn.disk;
-      read : (file : Bytes) → IsReadOf (disk.view l.fn.disk) file → reader.has_read l.fn.reader (Ok []) →
-          (now : Bytes) × AreReadUpto (reader.has_read l.reader) (disk.view l.disk) l.settings l.slot.head (l.first - l.slot.head) file now;
+      read : (w : Wanted) (file : Bytes) → IsReadOf (disk.view l.fn.disk) file → IsSoFar w l.fn.so_far.gathering l.fn.so_far.fault (Ok []) →
+          (now : Bytes) × AreReadUpto (IsSoFar w l.so_far.gathering l.so_far.fault) (disk.view l.disk) l.settings l.slot.head (l.first - l.slot.head) file now;
     }
 
 abbrev pub decreases-loop-first : goal.decreases-loop-first

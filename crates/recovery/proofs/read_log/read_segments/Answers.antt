@@ -1,6 +1,7 @@
 use Rattle.std.proofs.Common.{◌-◌, ◌∙◌}
 use Rattle.flush_log.specs.Reading.{read_earlier, log}
 use Rattle.flush_log.specs.Segments.{last_segment}
+use Rattle.recovery.specs.Gathered.{IsSoFar}
 use Rattle.recovery.specs.Recovered.{IsLate}
 use Rattle.recovery.proofs.ReadBytes.{IsUncounted, kept_then, late_since, err_on, not_ok, counted_by, uncounted_by, late_by_memory}
 use Rattle.recovery.proofs.ReadLog.{Told, last-taken}
@@ -9,8 +10,8 @@ use Rattle.recovery.proofs.read_log.read_segments.Goals as goal
 
 -- the segments in front of the last one were not read
 pub returns-in_err-read_earlier-clause-read : goal.returns-in_err-read_earlier-clause-read
-returns-in_err-read_earlier-clause-read g c file is none =
-    let (now, bytes, front, told) = c.in_err-read_earlier.ensures.read file is none in (
+returns-in_err-read_earlier-clause-read g c w file is none =
+    let (now, bytes, front, told) = c.in_err-read_earlier.ensures.read w file is none in (
       now,
       bytes,
       front,
@@ -34,8 +35,8 @@ returns-in_err-read_earlier-clause-uncounted g c =
 
 -- the last one was not
 pub returns-in_err-segments-clause-read : goal.returns-in_err-segments-clause-read
-returns-in_err-segments-clause-read g c file is none =
-    let (now, bytes, front, told) = c.in_ok-read_earlier.ensures.read file is none in
+returns-in_err-segments-clause-read g c w file is none =
+    let (now, bytes, front, told) = c.in_ok-read_earlier.ensures.read w file is none in
     let (then, got, stays, rest) = c.in_err-segments.ensures.read now bytes in (
       then,
       got,
@@ -70,13 +71,13 @@ returns-in_err-segments-clause-uncounted g c =
 
 -- all were read
 pub returns-clause-read : goal.returns-clause-read
-returns-clause-read g c file is none =
+returns-clause-read g c w file is none =
     let s = c.args.settings.now in
     let t = c.args.slot.now in
-    let (now, bytes, front, told) = c.in_ok-read_earlier.ensures.read file is none in
+    let (now, bytes, front, told) = c.in_ok-read_earlier.ensures.read w file is none in
     let (then, got, stays, all) = c.in_ok-segments.ensures.read now bytes in
     let earlier : Told = read_earlier s now t.head (last_segment s t.tail - t.head) in
-    (then, got, stays ∙ front, last-taken c.take.result (g.R.LogReader.has_read c.take.new.self) _ (log s then t) all (c.take.ensures.ok earlier told))
+    (then, got, stays ∙ front, last-taken c.take.result (IsSoFar w c.take.new.self.gathering c.take.new.self.fault) _ (log s then t) all (c.take.ensures.ok w earlier told))
 
 pub returns-clause-err : goal.returns-clause-err
 returns-clause-err g c = let failed = g.D.Disk.failed in late_by_memory c.take.result (failed c.args.disk.now) (failed c.read_last.new.disk) c.take.ensures.err

@@ -1,66 +1,65 @@
-use Rattle.std.proofs.Common.{◌≡◌, ◌∙◌, ◌≤◌, ◌++◌, ◌∷◌, ℕ, List, length, reverse, vec_len, vec_capacity, sym, ap, arith, rules}
-use Rattle.frame_codec.specs.Frame.{Content}
-use Rattle.flush_log.specs.FlushText.{whole_page}
-use Rattle.recovery.specs.PageByLog.{told_page}
-use Rattle.recovery.specs.Rebuild.{HeldLog, contents_in, content_of, page_of_parts, held_done, held_log, told_by}
-use Rattle.recovery.proofs.RebuildLemmas.{popped, next_left, broken-told, page-told, whole-alone, done-same, back-same}
+use Rattle.std.proofs.Common.{true, false, Option, Some, sym, ap, ◌∙◌}
+use Rattle.frame_codec.specs.Shown.{frame_of}
+use Rattle.index_page.specs.Page.{PageOfKind}
+use Rattle.recovery.specs.Rebuild.{page_of_parts}
+use Rattle.recovery.proofs.RebuildLemmas.{IsReadAt, less_behind, upto-first, upto-more, told-all, told-other, told-unfit, told-none, told-no_base, tail_by}
 use Rattle.recovery.proofs.rebuild.rebuild.Goals as goal
 
-abbrev log : ℕ → List Content → HeldLog
-log pid cs = record { pid = pid; contents = cs }
+pub returns-in_default : goal.returns-in_default
+returns-in_default c = told-none c.args.settings.now c.args.frames.now (rw c.in_default.is at c.in_ok-base.ensures.found)
 
-pub returns-in-Err-clause-made : goal.returns-in-Err-clause-made
-returns-in-Err-clause-made c =
-    let first = popped c.args.log.frames.items c.reverse.new.self.items c.pop.new.self.items c.in-Some.first c.reverse.ensures.items c.in-Some.ensures.items in
-    c.without_page.ensures.made ∙ ap told_page (ap (λ (x : Content). x ∷ reverse (contents_in c.pop.new.self.items)) c.in-Err.ensures.1 ∙ sym first)
+pub returns-in_default-of_base : goal.returns-in_default-of_base
+returns-in_default-of_base c =
+    let at : IsReadAt c.args.settings.now c.args.frames.now (frame_of c.in-Some.base) c.in-Some.size = record {
+      found = rw c.in-Some.is at c.in_ok-base.ensures.found;
+      long = rw c.in-Some.is at c.in_ok-base.ensures.size;
+      within = rw c.in-Some.is at c.in_ok-base.ensures.within;
+    } in
+    told-no_base c.args.settings.now c.args.frames.now (frame_of c.in-Some.base) c.in-Some.size at c.in_default-of_base.ensures
 
-pub returns-in-Err-clause-origin : goal.returns-in-Err-clause-origin
-returns-in-Err-clause-origin c =
-    let first = popped c.args.log.frames.items c.reverse.new.self.items c.pop.new.self.items c.in-Some.first c.reverse.ensures.items c.in-Some.ensures.items in
-    c.without_page.ensures.origin ∙ ap (λ (cs : List Content). log c.args.log.pid cs) (ap (λ (x : Content). x ∷ reverse (contents_in c.pop.new.self.items)) c.in-Err.ensures.1 ∙ sym first)
+pub loop-rest-init : goal.loop-rest-init
+loop-rest-init c =
+    let at : IsReadAt c.args.settings.now c.args.frames.now (frame_of c.in-Some.base) c.in-Some.size = record {
+      found = rw c.in-Some.is at c.in_ok-base.ensures.found;
+      long = rw c.in-Some.is at c.in_ok-base.ensures.size;
+      within = rw c.in-Some.is at c.in_ok-base.ensures.within;
+    } in
+    upto-first c.args.settings.now c.args.frames.now (frame_of c.in-Some.base) c.in-Some.size (page_of_parts c.in-Some-of_base.begun) at c.in-Some-of_base.ensures
 
-pub loop-frame-init : goal.loop-frame-init
-loop-frame-init c =
-    let left = c.pop.new.self in
-    let first = popped c.args.log.frames.items c.reverse.new.self.items left.items c.in-Some.first c.reverse.ensures.items c.in-Some.ensures.items in
-    let same : length left.items ≡ vec_len left = search rules in
-    let fits : vec_len c.reverse.new.self ≤ vec_capacity c.reverse.new.self = search rules in
-    let fewer = c.in-Some.ensures.cases in
-    let kept = c.in-Some.ensures.capacity in
-    let one : length (whole_page (page_of_parts c.in-Ok.page)) ≡ 1 = ap (λ (cs : List Content). length cs) c.in-Ok.ensures.1 in
-    record {
-      said = ap (λ (cs : List Content). cs ++ reverse (contents_in left.items)) c.in-Ok.ensures.1 ∙ sym first;
-      room = omega (arith, same, fits, fewer, kept, one);
-    }
+pub returns-in_default-2 : goal.returns-in_default-2
+returns-in_default-2 c = told-other c.args.settings.now c.args.frames.now c.loop-rest.rest.now (page_of_parts c.loop-rest.page) c.loop-rest.invariant (tail_by c.loop-rest.rest.now false (sym c.is_empty.ensures ∙ c.loop-rest-test.true)) (rw c.in_default-2.is at c.in_ok-run.ensures.found)
 
-pub returns-in-Unfit-clause-made : goal.returns-in-Unfit-clause-made
-returns-in-Unfit-clause-made c =
-    let p = page_of_parts c.loop-frame.page in
-    let left = c.pop-in-loop-frame.new.self.items in
-    let next = next_left c.loop-frame.frames.items left c.in-Some-pop.frame c.in-Some-pop.ensures.items in
-    broken-told p (content_of c.in-Some-pop.frame) (reverse (contents_in left)) (contents_in c.args.log.frames.items) c.in-Unfit.ensures.0
-    (ap (λ (cs : List Content). whole_page p ++ cs) (sym next) ∙ c.loop-frame.invariant.said)
+pub returns-in_default-3 : goal.returns-in_default-3
+returns-in_default-3 c =
+    let at : IsReadAt c.args.settings.now c.loop-rest.rest.now (frame_of c.in-Some-2.run') c.in-Some-2.size = record {
+      found = rw c.in-Some-2.is at c.in_ok-run.ensures.found;
+      long = rw c.in-Some-2.is at c.in_ok-run.ensures.size;
+      within = rw c.in-Some-2.is at c.in_ok-run.ensures.within;
+    } in
+    told-unfit c.args.settings.now c.args.frames.now c.loop-rest.rest.now (page_of_parts c.loop-rest.page) (frame_of c.in-Some-2.run') c.in-Some-2.size c.loop-rest.invariant at
+    (rw c.in_default-3.is at c.in_ok-newer.ensures)
 
-pub returns-clause-made : goal.returns-clause-made
-returns-clause-made c =
-    let frames = c.loop-frame.frames in
-    let same : length frames.items ≡ vec_len frames = search rules in
-    let empty = c.in_default-pop.ensures.cases.0 in
-    let told = page-told (page_of_parts c.loop-frame.page) frames.items (contents_in c.args.log.frames.items) (same ∙ empty) c.loop-frame.invariant.said in
-    done-same c.finish.result told_by _ _ told c.finish.ensures.made
+pub loop-rest-smaller : goal.loop-rest-smaller
+loop-rest-smaller c =
+    let at : IsReadAt c.args.settings.now c.loop-rest.rest.now (frame_of c.in-Some-2.run') c.in-Some-2.size = record {
+      found = rw c.in-Some-2.is at c.in_ok-run.ensures.found;
+      long = rw c.in-Some-2.is at c.in_ok-run.ensures.size;
+      within = rw c.in-Some-2.is at c.in_ok-run.ensures.within;
+    } in
+    less_behind c.args.settings.now c.loop-rest.rest.now (frame_of c.in-Some-2.run') c.in-Some-2.size at
 
-pub returns-clause-origin : goal.returns-clause-origin
-returns-clause-origin c =
-    let frames = c.loop-frame.frames in
-    let same : length frames.items ≡ vec_len frames = search rules in
-    let empty = c.in_default-pop.ensures.cases.0 in
-    let whole = whole-alone (page_of_parts c.loop-frame.page) frames.items (contents_in c.args.log.frames.items) (same ∙ empty) c.loop-frame.invariant.said in
-    done-same c.finish.result held_done _ _ (ap (λ (cs : List Content). log c.args.log.pid cs) whole) c.finish.ensures.origin
+pub loop-rest-preserved : goal.loop-rest-preserved
+loop-rest-preserved c =
+    let at : IsReadAt c.args.settings.now c.loop-rest.rest.now (frame_of c.in-Some-2.run') c.in-Some-2.size = record {
+      found = rw c.in-Some-2.is at c.in_ok-run.ensures.found;
+      long = rw c.in-Some-2.is at c.in_ok-run.ensures.size;
+      within = rw c.in-Some-2.is at c.in_ok-run.ensures.within;
+    } in
+    upto-more c.args.settings.now c.args.frames.now c.loop-rest.rest.now (page_of_parts c.loop-rest.page) (page_of_parts c.in-Some-3.newer) (frame_of c.in-Some-2.run') c.in-Some-2.size c.loop-rest.invariant at
+    (rw c.in-Some-3.is at c.in_ok-newer.ensures)
 
-pub returns-clause-back : goal.returns-clause-back
-returns-clause-back c =
-    let frames = c.loop-frame.frames in
-    let same : length frames.items ≡ vec_len frames = search rules in
-    let empty = c.in_default-pop.ensures.cases.0 in
-    let whole = whole-alone (page_of_parts c.loop-frame.page) frames.items (contents_in c.args.log.frames.items) (same ∙ empty) c.loop-frame.invariant.said in
-    back-same c.finish.result held_log _ _ (ap (λ (cs : List Content). log c.args.log.pid cs) whole) c.finish.ensures.back
+pub returns : goal.returns
+returns c = ap some_page c.in_ok-into_page.ensures ∙ told-all c.args.settings.now c.args.frames.now c.loop-rest.rest.now (page_of_parts c.loop-rest.page) c.loop-rest.invariant (tail_by c.loop-rest.rest.now true (sym c.is_empty.ensures ∙ c.loop-rest-test.false))
+  where
+    some_page : PageOfKind → Option PageOfKind
+    some_page p = Some p

@@ -1,14 +1,11 @@
-use Rattle.std.proofs.Common.{◌≡◌, ◌+◌, ◌≤◌, ◌++◌, reverse, length, vec_capacity}
-use Rattle.flush_log.specs.FlushText.{whole_page}
-use Rattle.recovery.specs.Rebuild.{contents_in, page_of_parts}
+use Rattle.std.proofs.Common.{length}
+use Rattle.recovery.specs.Rebuild.{page_of_parts}
+use Rattle.recovery.proofs.RebuildLemmas.{IsToldUpto}
 use Rattle.recovery.proofs.rebuild.rebuild.Given as goal
 
--- what the page says, and then what is left, is what the log said; there is room to take the page apart
-abbrev pub invariant-loop-frame : goal.invariant-loop-frame
-invariant-loop-frame l = record {
-  said : whole_page (page_of_parts l.page) ++ reverse (contents_in l.frames.items) ≡ contents_in l.fn.log.frames.items;
-  room : length l.frames.items + length (whole_page (page_of_parts l.page)) ≤ vec_capacity l.frames;
-}
+-- the frames in front of the bytes that are left tell the page so far
+abbrev pub invariant-loop-rest : goal.invariant-loop-rest
+invariant-loop-rest l = IsToldUpto l.settings l.frames (page_of_parts l.page) l.rest
 
-abbrev pub decreases-loop-frame : goal.decreases-loop-frame
-decreases-loop-frame l = length l.frames.items
+abbrev pub decreases-loop-rest : goal.decreases-loop-rest
+decreases-loop-rest l = length l.rest

@@ -1,7 +1,7 @@
 use Rattle.std.proofs.Common.{⊎_elim, inl, inr, ◌∙◌}
 use Rattle.std.proofs.lemmas.Result.{err_from_is_err_and}
 use Rattle.recovery.proofs.ReadBytes.{IsUncounted, kept_then, err_on}
-use Rattle.recovery.proofs.RecoverLemmas.{same_on, read_before, late_behind, no_slot, no_log}
+use Rattle.recovery.proofs.RecoverLemmas.{same_on, read_before, late_behind, in-front, no_slot, no_log}
 use Rattle.recovery.proofs.recover.read_parts.Goals as goal
 
 pub returns-in_err-slot-clause-same : goal.returns-in_err-slot-clause-same
@@ -30,7 +30,7 @@ returns-in_err-gathering-clause-same g c =
     let old = view c.args.disk.now in
     let mid = view c.read_settings.new.disk in
     let later = view c.read_store_slot.new.disk in
-    same_on old later (view c.read_frames.new.disk) (kept_then old mid later c.in_ok-settings.ensures.kept c.in_ok-slot.ensures.kept)
+    same_on old later (view c.read_log.new.disk) (kept_then old mid later c.in_ok-settings.ensures.kept c.in_ok-slot.ensures.kept)
     (same_on old mid later c.in_ok-settings.ensures.kept c.in_ok-settings.ensures.same c.in_ok-slot.ensures.same) c.in_err-gathering.ensures.same
 
 pub returns-in_err-gathering-clause-read : goal.returns-in_err-gathering-clause-read
@@ -39,10 +39,11 @@ returns-in_err-gathering-clause-read g c =
     let old = view c.args.disk.now in
     let mid = view c.read_settings.new.disk in
     let later = view c.read_store_slot.new.disk in
-    let new = view c.read_frames.new.disk in
+    let new = view c.read_log.new.disk in
     let (file, read, is) = c.in_ok-settings.ensures.read in
     let (next, then, settings, slot) = c.in_ok-slot.ensures.read file read is in
-    let (now, got, same, stays, told) = c.in_err-gathering.ensures.read next then settings slot in
+    let (now, got, front, told) = c.in_err-gathering.ensures.read next then in
+    let (same, stays) = in-front c.in_ok-settings.settings next now old later new c.in_ok-settings.ensures.good.1 (kept_then old mid later c.in_ok-settings.ensures.kept c.in_ok-slot.ensures.kept) c.in_err-gathering.ensures.kept then got front _ settings slot in
     let p = err_from_is_err_and c.from_residual-in_err-gathering.result c.from_residual-in_err-gathering.ensures.1 in
     rw (p.1, p.2) (
       now,
@@ -58,7 +59,7 @@ returns-clause-same g c =
     let old = view c.args.disk.now in
     let mid = view c.read_settings.new.disk in
     let later = view c.read_store_slot.new.disk in
-    same_on old later (view c.read_frames.new.disk) (kept_then old mid later c.in_ok-settings.ensures.kept c.in_ok-slot.ensures.kept)
+    same_on old later (view c.read_log.new.disk) (kept_then old mid later c.in_ok-settings.ensures.kept c.in_ok-slot.ensures.kept)
     (same_on old mid later c.in_ok-settings.ensures.kept c.in_ok-settings.ensures.same c.in_ok-slot.ensures.same) c.in_ok-gathering.ensures.same
 
 pub returns-clause-read : goal.returns-clause-read
@@ -67,10 +68,11 @@ returns-clause-read g c =
     let old = view c.args.disk.now in
     let mid = view c.read_settings.new.disk in
     let later = view c.read_store_slot.new.disk in
-    let new = view c.read_frames.new.disk in
+    let new = view c.read_log.new.disk in
     let (file, read, is) = c.in_ok-settings.ensures.read in
     let (next, then, settings, slot) = c.in_ok-slot.ensures.read file read is in
-    let (now, got, same, stays, told) = c.in_ok-gathering.ensures.read next then settings slot in
+    let (now, got, front, told) = c.in_ok-gathering.ensures.read next then in
+    let (same, stays) = in-front c.in_ok-settings.settings next now old later new c.in_ok-settings.ensures.good.1 (kept_then old mid later c.in_ok-settings.ensures.kept c.in_ok-slot.ensures.kept) c.in_ok-gathering.ensures.kept then got front _ settings slot in
     let (found, log, gathered) = told in (
       now,
       read_before old new now (kept_then old later new (kept_then old mid later c.in_ok-settings.ensures.kept c.in_ok-slot.ensures.kept) c.in_ok-gathering.ensures.kept)
@@ -92,5 +94,5 @@ returns-in_err-slot-clause-uncounted g c =
 pub returns-in_err-gathering-clause-uncounted : goal.returns-in_err-gathering-clause-uncounted
 returns-in_err-gathering-clause-uncounted g c =
     let failed = g.D.Disk.failed in
-    err_on c.from_residual-in_err-gathering.result (IsUncounted (failed c.args.disk.now) (failed c.read_frames.new.disk)) c.in_err-gathering.field-0.0 c.from_residual-in_err-gathering.ensures.1
+    err_on c.from_residual-in_err-gathering.result (IsUncounted (failed c.args.disk.now) (failed c.read_log.new.disk)) c.in_err-gathering.field-0.0 c.from_residual-in_err-gathering.ensures.1
     (λ other. c.in_err-gathering.ensures.uncounted other ∙ c.in_ok-slot.ensures.counted ∙ c.in_ok-settings.ensures.counted)

@@ -1,27 +1,45 @@
-use Rattle.std.proofs.Common.{◌≡◌, ◌∙◌, ℕ, List, Option, None, Some, cond, ap, sym}
+use Rattle.std.proofs.Common.{◌≡◌, ◌++◌, ◌∷◌, [], List, Bool, ℕ, cond, Option, None, Some, sym, ap, subst, ◌∙◌}
+use Rattle.frame_codec.specs.Frame.{bytes_of}
+use Rattle.frame_codec.specs.Skimmed.{kind_of}
+use Rattle.frame_codec.specs.declared.skim.FrameKind.{FrameKind}
 use Rattle.std.specs.BTreeMap.{get}
 use Rattle.std.specs.Ordering.{nat_cmp, is_eq}
-use Rattle.frame_codec.specs.Frame.{Content}
-use Rattle.frame_codec.specs.Shown.{frame_of}
-use Rattle.recovery.specs.Gathered.{kept_contents, kept_of, kept_with}
-use Rattle.recovery.specs.Rebuild.{content_of}
+use Rattle.recovery.specs.Gathered.{telling, told_with, kept_with, IsKept, AreKept, first_segment, is_wanted_in}
+use Rattle.recovery.specs.Scan.{HeldFrame}
 use Rattle.recovery.specs.declared.gather.Kept.{Kept}
-use Rattle.recovery.proofs.GatherLemmas.{gathered-more}
+use Rattle.recovery.proofs.KeptLemmas.{kept-more, kept-none, kept-some, none-kept, pages-more, kept-before, first-more, found-more, wanted-same}
 use Rattle.recovery.proofs.gather.Gathering.add.Goals as goal
 use Rattle.recovery.proofs.gather.Gathering.add.Goals.{in-Some, in-None}
 
-pub returns-clause-ok : goal.returns-clause-ok
-returns-clause-ok c fs h =
-    let f = frame_of c.args.frame in
+pub returns : goal.returns
+returns c w found f skim live =
     let old = c.args.self.now.by_pid in
-    let pid : c.pid.inside.0 ≡ f.pid = c.pid.view_is ∙ c.pid_of.ensures in
-    let had : kept_of (get nat_cmp old f.pid) ≡ kept_contents c.match-remove.kept = elim c.match-remove.branch [
-      | in-Some w ↦ ap (λ (n : ℕ). kept_of (get nat_cmp old n)) (sym pid) ∙ ap (λ (o : Option Kept). kept_of o) (sym c.remove.ensures.value ∙ w.in-Some.is)
-          ∙ ap (λ (k : Kept). kept_contents k) (sym w.kept-is)
-      | in-None w ↦ ap (λ (n : ℕ). kept_of (get nat_cmp old n)) (sym pid) ∙ ap (λ (o : Option Kept). kept_of o) (sym c.remove.ensures.value ∙ w.in-None.is)
-          ∙ sym (ap (λ (k : Kept). kept_contents k) w.kept-is)
+    let own = f.frame.pid in
+    let segment = ap (λ (x : HeldFrame). x.segment) skim in
+    let head : ℕ = first_segment (found ++ f ∷ []) in
+    let first : c.unwrap_or-first.result ≡ head = c.unwrap_or-first.ensures ∙ first-more c.args.self.now.first found f c.args.segment live.first segment in
+    let are : AreKept w head old found = kept-before w old found f live.kept in
+    let pid : c.args.frame.pid ≡ own = sym (ap (λ (x : HeldFrame). x.pid) skim) in
+    let kind : c.args.frame.kind ≡ kind_of f.frame.content = sym (ap (λ (x : HeldFrame). x.kind) skim) in
+    let frame : c.args.frame.bytes.now ≡ bytes_of f.frame = sym (ap (λ (x : HeldFrame). x.bytes) skim) in
+    let value : (o : Option Kept) → c.remove.result ≡ o → get nat_cmp old own ≡ o = λ o e. ap (λ (n : ℕ). get nat_cmp old n) (sym pid) ∙ sym c.remove.ensures.value ∙ e in
+    let had : IsKept w head c.match-remove.before (telling own found) = elim c.match-remove.branch [
+      | in-Some v ↦ subst (λ (k : Kept). IsKept w head k (telling own found)) (sym v.before-is) (kept-some w head (get nat_cmp old own) _ (telling own found) (value _ v.in-Some.is) (are.each own))
+      | in-None v ↦ kept-none w head c.match-remove.before (telling own found) (ap (λ (k : Kept). k.told) v.before-is) (ap (λ (k : Kept). k.frames.items) v.before-is ∙ v.new.ensures.items)
+          (none-kept w head (get nat_cmp old own) (telling own found) (value _ v.in-None.is) (are.each own))
     ] in
-    let out : (n : ℕ) → get nat_cmp c.remove.new.self n ≡ cond (is_eq (nat_cmp f.pid n)) None (get nat_cmp old n) = rw (sym pid) c.remove.ensures.updates.0 in
-    let into : (n : ℕ) → get nat_cmp c.insert.new.self n ≡ cond (is_eq (nat_cmp f.pid n)) (Some c.in_ok-kept.kept) (get nat_cmp c.remove.new.self n) = rw (sym pid) c.in_ok-insert.ensures.updates.0 in
-    gathered-more old c.remove.new.self c.insert.new.self f c.in_ok-kept.kept out into fs h
-    (c.in_ok-kept.ensures ∙ ap (λ (cs : List Content). kept_with cs (content_of c.args.frame)) (sym had))
+    let out : (n : ℕ) → get nat_cmp c.remove.new.self n ≡ cond (is_eq (nat_cmp own n)) None (get nat_cmp old n) = rw (sym pid) c.remove.ensures.updates.0 in
+    let kept : Kept = record { told = c.told_with.result; frames = c.in_ok-frames_with.field-0 } in
+    let into : (n : ℕ) → get nat_cmp c.insert.new.self n ≡ cond (is_eq (nat_cmp own n)) (Some kept) (get nat_cmp c.remove.new.self n) = rw (sym pid) c.in_ok-insert.ensures.updates.0 in
+    let is_wanted : c.is_wanted-is_wanted.result ≡ is_wanted_in w head f.segment =
+    wanted-same w c.args.self.now.wanted head c.unwrap_or-first.result f.segment c.args.segment c.is_wanted-is_wanted.result live.wanted first (sym segment) c.is_wanted-is_wanted.ensures in
+    let now = kept-more w head c.match-remove.before kept (telling own found) f had (c.told_with.ensures ∙ ap (λ (k : FrameKind). told_with c.match-remove.before.told k) kind)
+    (c.in_ok-frames_with.ensures
+    ∙ ap (λ (k : FrameKind). kept_with c.match-remove.before.frames.items k c.is_wanted-is_wanted.result c.args.frame.bytes.now) kind
+    ∙ ap (λ (b : Bool). kept_with c.match-remove.before.frames.items (kind_of f.frame.content) b c.args.frame.bytes.now) is_wanted
+    ∙ ap (λ (bytes : List ℕ). kept_with c.match-remove.before.frames.items (kind_of f.frame.content) (is_wanted_in w head f.segment) bytes) frame) in
+    record {
+      wanted = live.wanted;
+      first = found-more found f c.unwrap_or-first.result first;
+      kept = pages-more w head old c.remove.new.self c.insert.new.self f kept out into found are now;
+    }

@@ -1,22 +1,23 @@
-use Rattle.std.proofs.Common.{ap}
-use Rattle.recovery.specs.Scan.{frames_at, told_by_scan}
-use Rattle.recovery.proofs.SoFarLemmas.{upto-next, upto-broken}
+use Rattle.std.proofs.Common.{fold, refl, arith}
+use Rattle.std.specs.Vec.Iter.{into_iter_items}
+use Rattle.std.proofs.lemmas.List.{nil_from_length}
+use Rattle.flush_log.specs.Reading.{followed_by}
+use Rattle.recovery.proofs.SoFarLemmas.{left-ok, left-err, left-none}
 use Rattle.recovery.proofs.log_so_far.LogSoFar.gather.Goals as goal
 
 pub loop-done-preserved : goal.loop-done-preserved
-loop-done-preserved c =
-    let old = c.args.self.now in
-    let so_far = c.loop-done.invariant in
-    let done = c.in-Some.done in
-    record {
-      fault = so_far.fault;
-      gathered = upto-next old.gathering.by_pid old.fault c.args.scans.items c.loop-done.self.gathering.by_pid c.gather_all.new.gathering.by_pid _ _ done (frames_at done.settings c.in-Ok.frames.items)
-          c.in-Some.ensures.steps.0 (ap (λ r. told_by_scan done.settings done.segment.number r) c.in-Ok.is) (rw c.in-Ok.frames-is at c.in_ok-gather_all-in-Ok.ensures.ok) so_far.gathered;
-    }
+loop-done-preserved c = record {
+  none = c.loop-done.invariant.none;
+  left = λ w told read same is.
+      left-ok w c.loop-done.self.gathering c.loop-done.self.fault (fold followed_by told read) (into_iter_items c.loop-done.done-iterator) (into_iter_items c.next.new.self) c.in-Some.done c.in-Some.ensures.steps.0
+      c.loop-done.invariant.none (c.loop-done.invariant.left w told read same is) c.add_all.new.gathering c.in-Some.done.segment.number c.in-Ok.frames refl c.in-Ok.is (c.in_ok-add_all-in-Ok.ensures.ok w);
+}
 
 pub returns-in-Err-clause-ok : goal.returns-in-Err-clause-ok
-returns-in-Err-clause-ok c =
-    let old = c.args.self.now in
-    let done = c.in-Some.done in
-    upto-broken old.gathering.by_pid old.fault c.args.scans.items c.loop-done.self.gathering.by_pid _ _ done c.in-Err.fault _
-    c.in-Some.ensures.steps.0 (ap (λ r. told_by_scan done.settings done.segment.number r) c.in-Err.is) c.in-Err.fault-is c.loop-done.invariant.gathered
+returns-in-Err-clause-ok c w told read same is =
+    left-err w c.loop-done.self.gathering c.loop-done.self.fault (fold followed_by told read) (into_iter_items c.loop-done.done-iterator) (into_iter_items c.next.new.self) c.in-Some.done c.in-Some.ensures.steps.0
+    c.loop-done.invariant.none (c.loop-done.invariant.left w told read same is) c.in-Err.fault c.in-Err.is
+
+pub returns-clause-ok : goal.returns-clause-ok
+returns-clause-ok c w told read same is =
+    left-none w c.loop-done.self.gathering c.loop-done.self.fault (fold followed_by told read) (into_iter_items c.loop-done.done-iterator) (nil_from_length _ (omega (arith, c.in-None.ensures.steps.0))) (c.loop-done.invariant.left w told read same is)

@@ -1,11 +1,15 @@
-use Rattle.std.proofs.Common.{◌≡◌, None}
+use Rattle.std.proofs.Common.{◌≡◌, List, map, fold, None}
 use Rattle.std.specs.Vec.Iter.{into_iter_items}
-use Rattle.recovery.proofs.SoFarLemmas.{AreGatheredUpto}
+use Rattle.flush_log.specs.Reading.{followed_by}
+use Rattle.recovery.specs.Gathered.{IsSoFar}
+use Rattle.recovery.specs.Scan.{said_of, said_by_scan}
+use Rattle.recovery.specs.declared.gather.Wanted.{Wanted}
+use Rattle.recovery.proofs.SoFarLemmas.{Told, AreLeft}
 use Rattle.recovery.proofs.log_so_far.LogSoFar.gather.Given as goal
 
--- no scan so far had a fault, and what they told was gathered
 abbrev pub invariant-loop-done : goal.invariant-loop-done
 invariant-loop-done l = record {
-  fault : l.self.fault ≡ None;
-  gathered : AreGatheredUpto l.fn.self.gathering.by_pid l.fn.self.fault l.self.gathering.by_pid (into_iter_items l.done-iterator) l.fn.scans.items;
+  none : l.self.fault ≡ None;
+  left : (w : Wanted) (told : Told) (read : List Told) → map said_of read ≡ map said_by_scan l.fn.scans.items → IsSoFar w l.fn.self.gathering l.fn.self.fault told
+      → AreLeft w l.self.gathering l.self.fault (fold followed_by told read) (into_iter_items l.done-iterator);
 }

@@ -1,0 +1,297 @@
+-- What is kept of each page, one frame more at a time.
+use Rattle.std.specs.Prelude.{◌≡◌, ◌≢◌, ℕ, ◌≤◌, Bool, true, false, cond, ◌&&◌, ◌||◌, nat_eq, List, [], ◌∷◌, ◌++◌, length, map, Option, Some, None, is_some, unwrap_or}
+use Rattle.std.proofs.Common.{refl, sym, ap, ◌∙◌, subst, arith, length-append, append_assoc}
+use Rattle.std.specs.BTreeMap.{BTreeMap, get}
+use Rattle.std.specs.List.{filter, list_any}
+use Rattle.std.specs.Ordering.{nat_cmp, is_eq}
+use Rattle.std.proofs.lemmas.Bool.{eqb-true}
+use Rattle.std.proofs.lemmas.List.{map-append, append-nil}
+use Rattle.std.proofs.lemmas.List.Folds.{list_any-append}
+use Rattle.std.proofs.lemmas.List.Sums.{fold-append}
+use Rattle.index_page.specs.Page.{bare}
+use Rattle.index_page.specs.Page.PageOfKind.{Leaf, Index}
+use Rattle.mapping.specs.FreshPids.{is_among}
+use Rattle.frame_codec.specs.Frame.{Content, Frame, bytes_of}
+use Rattle.frame_codec.specs.Frame.Content.{FullLeaf, DeltaLeaf, FullIndex, DeltaIndex, Free}
+use Rattle.frame_codec.specs.Skimmed.{kind_of}
+use Rattle.flush_log.specs.Reading.{Found}
+use Rattle.recovery.specs.Gathered.{telling, contents_in, is_wanted_in, wanted_of, spelled, IsTold, IsKept, with_leaf_run, with_index_run, told_with, with_base, with_run, kept_with, IsKeptOf, AreKept, first_segment, first_found}
+use Rattle.recovery.specs.LogPages.{contents_of}
+use Rattle.recovery.specs.PageByLog.{is_base, is_start, from_last, InLog, with_newer_run, begun_page, continued, told_page}
+use Rattle.recovery.specs.PageByLog.InLog.{Missing, Present, Broken}
+use Rattle.recovery.specs.StoreOfDisk.{frames_in}
+use Rattle.recovery.specs.declared.gather.Kept.{Kept}
+use Rattle.recovery.specs.declared.gather.Told.{Told}
+use Rattle.recovery.specs.declared.gather.Told.TheVariants as told
+use Rattle.recovery.specs.declared.gather.Wanted.{Wanted}
+use Rattle.recovery.specs.declared.gather.Wanted.TheVariants.{Every, Head}
+use Rattle.recovery.proofs.GatherLemmas.{same_at, among_more, same_turned}
+use Rattle.recovery.proofs.PartLemmas.{from_last-none, from_last-at, from_last-more, from_last-some}
+
+-- ---- what was found of a pid
+
+-- the content of what was found
+abbrev pub said : Found → Content
+said f = f.frame.content
+
+abbrev pub starts : Found → Bool
+starts f = is_start f.frame.content
+
+abbrev pub of_pid : ℕ → List Found → List Found
+of_pid pid found = filter (λ f. nat_eq f.frame.pid pid) found
+
+said_by : (b : Bool) (f : Found) (fs : List Frame) (gs : List Found) → map (λ (g : Frame). g.content) fs ≡ contents_in gs → map (λ (g : Frame). g.content) (cond b (f.frame ∷ fs) fs) ≡ contents_in (cond b (f ∷ gs) gs)
+said_by true f fs gs e = ap (λ (cs : List Content). f.frame.content ∷ cs) e
+said_by false f fs gs e = e
+
+pub contents-found : (pid : ℕ) (found : List Found) → contents_of pid (frames_in found) ≡ contents_in (of_pid pid found)
+contents-found pid [] = refl
+contents-found pid (f ∷ fs) = said_by (nat_eq f.frame.pid pid) f (filter (λ g. nat_eq g.pid pid) (frames_in fs)) (of_pid pid fs) (contents-found pid fs)
+
+filter_by : (b : Bool) (f : Found) (xs ys zs : List Found) → xs ≡ ys ++ zs → cond b (f ∷ xs) xs ≡ cond b (f ∷ ys) ys ++ zs
+filter_by true f xs ys zs e = ap (λ (x : List Found). f ∷ x) e
+filter_by false f xs ys zs e = e
+
+pub of_pid-append : (pid : ℕ) (xs ys : List Found) → of_pid pid (xs ++ ys) ≡ of_pid pid xs ++ of_pid pid ys
+of_pid-append pid [] ys = refl
+of_pid-append pid (x ∷ xs) ys = filter_by (nat_eq x.frame.pid pid) x (of_pid pid (xs ++ ys)) (of_pid pid xs) (of_pid pid ys) (of_pid-append pid xs ys)
+
+-- ---- the part from the last start on, with one more behind it
+
+-- one more behind some, unless there are none
+abbrev pub behind_some : {X : Type 0} → List X → X → List X
+behind_some [] x = []
+behind_some (y ∷ ys) x = y ∷ (ys ++ x ∷ [])
+
+module _ {X : Type 0} (test : X → Bool) where
+  behind_any : (xs : List X) (x : X) → list_any test xs ≡ true → behind_some xs x ≡ xs ++ x ∷ []
+  behind_any [] x e = absurd (cc)
+  behind_any (y ∷ ys) x e = refl
+
+  not_one : (x : X) → test x ≡ false → list_any test (x ∷ []) ≡ false
+  not_one x e = rw e refl
+
+  run_behind : (b : Bool) (xs : List X) (x : X) → list_any test xs ≡ b → test x ≡ false → from_last test (xs ++ x ∷ []) ≡ behind_some (from_last test xs) x
+  run_behind true xs x some e = from_last-more test xs (x ∷ []) some (not_one x e) ∙ sym (behind_any (from_last test xs) x (from_last-some test xs some))
+  run_behind false xs x none e =
+      from_last-none test (xs ++ x ∷ []) (list_any-append test xs (x ∷ []) ∙ ap (λ (b : Bool). b || list_any test (x ∷ [])) none ∙ not_one x e)
+      ∙ ap (λ (ys : List X). behind_some ys x) (sym (from_last-none test xs none))
+
+  part_by : (b : Bool) (xs : List X) (x : X) → test x ≡ b → from_last test (xs ++ x ∷ []) ≡ cond b (x ∷ []) (behind_some (from_last test xs) x)
+  part_by true xs x e = from_last-at test xs x [] e refl
+  part_by false xs x e = run_behind (list_any test xs) xs x refl e
+
+  pub part-more : (xs : List X) (x : X) → from_last test (xs ++ x ∷ []) ≡ cond (test x) (x ∷ []) (behind_some (from_last test xs) x)
+  part-more xs x = part_by (test x) xs x refl
+
+-- the frames that tell a page, with one more of it
+abbrev pub part_with : List Found → Found → List Found
+part_with fs f = cond (starts f) (f ∷ []) (behind_some fs f)
+
+one_by : (b : Bool) (f : Found) (pid : ℕ) → nat_eq f.frame.pid pid ≡ b → of_pid pid (f ∷ []) ≡ cond b (f ∷ []) []
+one_by true f pid e = rw e refl
+one_by false f pid e = rw e refl
+
+pub telling-own : (pid : ℕ) (found : List Found) (f : Found) → nat_eq f.frame.pid pid ≡ true → telling pid (found ++ f ∷ []) ≡ part_with (telling pid found) f
+telling-own pid found f e =
+    ap (λ (fs : List Found). from_last starts fs) (of_pid-append pid found (f ∷ []) ∙ ap (λ (fs : List Found). of_pid pid found ++ fs) (one_by true f pid e))
+    ∙ part-more starts (of_pid pid found) f
+
+pub telling-other : (pid : ℕ) (found : List Found) (f : Found) → nat_eq f.frame.pid pid ≡ false → telling pid (found ++ f ∷ []) ≡ telling pid found
+telling-other pid found f e =
+    ap (λ (fs : List Found). from_last starts fs) (of_pid-append pid found (f ∷ []) ∙ ap (λ (fs : List Found). of_pid pid found ++ fs) (one_by false f pid e) ∙ append-nil (of_pid pid found))
+
+-- ---- what is told of a page
+
+with_some : (cs : List Content) (c : Content) → cs ≢ [] → told_page (behind_some cs c) ≡ continued (told_page cs) c
+with_some [] c some = absurd (some refl)
+with_some (d ∷ ds) c some = fold-append continued (begun_page d) ds (c ∷ [])
+
+some_told : (cs : List Content) (q : InLog) → told_page cs ≡ q → q ≢ Missing → cs ≢ []
+some_told cs q e other none = other (sym e ∙ ap told_page none)
+
+behind_told : (cs : List Content) (c : Content) (q : InLog) → told_page cs ≡ q → q ≢ Missing → told_page (behind_some cs c) ≡ continued q c
+behind_told cs c q e other = with_some cs c (some_told cs q e other) ∙ ap (λ (r : InLog). continued r c) e
+
+leaf_run : (t : Told) (cs : List Content) (run : List (List ℕ × Option (List ℕ))) → IsTold t cs → IsTold (with_leaf_run t) (behind_some cs (DeltaLeaf run))
+leaf_run told.Nothing cs run h = ap (λ (ds : List Content). behind_some ds (DeltaLeaf run)) h
+leaf_run told.Leaf cs run (p, h) = (with_newer_run p run, behind_told cs (DeltaLeaf run) (Present (Leaf p)) h (λ e. absurd (cc)))
+leaf_run told.Index cs run (p, h) = behind_told cs (DeltaLeaf run) (Present (Index p)) h (λ e. absurd (cc))
+leaf_run told.Free cs run h = ap (λ (ds : List Content). told_page (behind_some ds (DeltaLeaf run))) h
+leaf_run told.Unfit cs run h = behind_told cs (DeltaLeaf run) Broken h (λ e. absurd (cc))
+
+index_run : (t : Told) (cs : List Content) (run : List (List ℕ × Option ℕ)) → IsTold t cs → IsTold (with_index_run t) (behind_some cs (DeltaIndex run))
+index_run told.Nothing cs run h = ap (λ (ds : List Content). behind_some ds (DeltaIndex run)) h
+index_run told.Leaf cs run (p, h) = behind_told cs (DeltaIndex run) (Present (Leaf p)) h (λ e. absurd (cc))
+index_run told.Index cs run (p, h) = (with_newer_run p run, behind_told cs (DeltaIndex run) (Present (Index p)) h (λ e. absurd (cc)))
+index_run told.Free cs run h = ap (λ (ds : List Content). told_page (behind_some ds (DeltaIndex run))) h
+index_run told.Unfit cs run h = behind_told cs (DeltaIndex run) Broken h (λ e. absurd (cc))
+
+told-more : (t : Told) (cs : List Content) (c : Content) → IsTold t cs → IsTold (told_with t (kind_of c)) (cond (is_start c) (c ∷ []) (behind_some cs c))
+told-more t cs (FullLeaf low base) h = (bare low base, refl)
+told-more t cs (DeltaLeaf run) h = leaf_run t cs run h
+told-more t cs (FullIndex low base) h = (bare low base, refl)
+told-more t cs (DeltaIndex run) h = index_run t cs run h
+told-more t cs Free h = refl
+
+contents_behind_some : (fs : List Found) (f : Found) → contents_in (behind_some fs f) ≡ behind_some (contents_in fs) f.frame.content
+contents_behind_some [] f = refl
+contents_behind_some (g ∷ gs) f = ap (λ (cs : List Content). g.frame.content ∷ cs) (map-append (λ (g : Found). g.frame.content) gs (f ∷ []))
+
+contents_by : (b : Bool) (fs : List Found) (f : Found) → contents_in (cond b (f ∷ []) (behind_some fs f)) ≡ cond b (f.frame.content ∷ []) (behind_some (contents_in fs) f.frame.content)
+contents_by true fs f = refl
+contents_by false fs f = contents_behind_some fs f
+
+-- ---- which of its frames are kept
+
+pub some_bytes : (f : Frame) → 1 ≤ length (bytes_of f)
+some_bytes f = omega arith
+
+-- a run behind some bytes
+run_some : (xs frame : List ℕ) → 1 ≤ length xs → with_run xs frame ≡ xs ++ frame
+run_some [] frame h = absurd (omega (arith, h))
+run_some (x ∷ xs) frame h = refl
+
+pub spelled-append : (fs gs : List Frame) → spelled (fs ++ gs) ≡ spelled fs ++ spelled gs
+spelled-append [] gs = refl
+spelled-append (f ∷ fs) gs = ap (λ (bs : List ℕ). bytes_of f ++ bs) (spelled-append fs gs) ∙ sym (append_assoc (bytes_of f) (spelled fs) (spelled gs))
+
+base_kept : (b : Bool) (f : Frame) → with_base b (bytes_of f) ≡ spelled (cond (b && true) (f ∷ []) [])
+base_kept true f = sym (append-nil (bytes_of f))
+base_kept false f = refl
+
+free_kept : (b : Bool) (f : Frame) → [] ≡ spelled (cond (b && false) (f ∷ []) [])
+free_kept true f = refl
+free_kept false f = refl
+
+behind_by : (b : Bool) (g f : Found) (gs : List Found) (bytes : List ℕ) → bytes ≡ spelled (cond b (frames_in (g ∷ gs)) []) → with_run bytes (bytes_of f.frame) ≡ spelled (cond b (frames_in (g ∷ (gs ++ f ∷ []))) [])
+behind_by true g f gs bytes e =
+    let some = some_bytes g.frame in
+    let long = length-append (bytes_of g.frame) (spelled (frames_in gs)) in
+    ap (λ (bs : List ℕ). with_run bs (bytes_of f.frame)) e
+    ∙ run_some (spelled (frames_in (g ∷ gs))) (bytes_of f.frame) (omega (arith, some, long))
+    ∙ ap (λ (bs : List ℕ). spelled (frames_in (g ∷ gs)) ++ bs) (sym (append-nil (bytes_of f.frame)))
+    ∙ sym (spelled-append (frames_in (g ∷ gs)) (f.frame ∷ []))
+    ∙ ap (λ (fs : List Frame). spelled (g.frame ∷ fs)) (sym (map-append (λ (h : Found). h.frame) gs (f ∷ [])))
+behind_by false g f gs bytes e = ap (λ (bs : List ℕ). with_run bs (bytes_of f.frame)) e
+
+module _ (w : Wanted) (head : ℕ) where
+  run_kept : (fs : List Found) (f : Found) (bytes : List ℕ) → bytes ≡ spelled (wanted_of w head fs) → with_run bytes (bytes_of f.frame) ≡ spelled (wanted_of w head (behind_some fs f))
+  run_kept [] f bytes e = ap (λ (bs : List ℕ). with_run bs (bytes_of f.frame)) e
+  run_kept (g ∷ gs) f bytes e = behind_by (is_wanted_in w head g.segment && is_base g.frame.content) g f gs bytes e
+
+  kept_as : (c : Content) (n pid : ℕ) (fs : List Found) (bytes : List ℕ) → bytes ≡ spelled (wanted_of w head fs)
+      → (let f : Found = record { segment = n; frame = record { pid = pid; content = c } } in kept_with bytes (kind_of c) (is_wanted_in w head n) (bytes_of f.frame) ≡ spelled (wanted_of w head (part_with fs f)))
+  kept_as (FullLeaf low base) n pid fs bytes e = base_kept (is_wanted_in w head n) (record { pid = pid; content = FullLeaf low base })
+  kept_as (DeltaLeaf run) n pid fs bytes e = run_kept fs (record { segment = n; frame = record { pid = pid; content = DeltaLeaf run } }) bytes e
+  kept_as (FullIndex low base) n pid fs bytes e = base_kept (is_wanted_in w head n) (record { pid = pid; content = FullIndex low base })
+  kept_as (DeltaIndex run) n pid fs bytes e = run_kept fs (record { segment = n; frame = record { pid = pid; content = DeltaIndex run } }) bytes e
+  kept_as Free n pid fs bytes e = free_kept (is_wanted_in w head n) (record { pid = pid; content = Free })
+
+  -- what is kept of a page, with one more of its frames
+  pub kept-more : (k now : Kept) (fs : List Found) (f : Found) → IsKept w head k fs → now.told ≡ told_with k.told (kind_of f.frame.content)
+      → now.frames.items ≡ kept_with k.frames.items (kind_of f.frame.content) (is_wanted_in w head f.segment) (bytes_of f.frame) → IsKept w head now (part_with fs f)
+  kept-more k now fs f h t i =
+      let told' : IsTold (told_with k.told (kind_of f.frame.content)) (contents_in (part_with fs f)) =
+      subst (λ (cs : List Content). IsTold (told_with k.told (kind_of f.frame.content)) cs) (sym (contents_by (starts f) fs f)) (told-more k.told (contents_in fs) f.frame.content h.told) in
+      record {
+        told = subst (λ (u : Told). IsTold u (contents_in (part_with fs f))) (sym t) told';
+        frames = i ∙ kept_as f.frame.content f.segment f.frame.pid fs k.frames.items h.frames;
+      }
+
+  -- of a page of which nothing came
+  pub kept-none : (k : Kept) (fs : List Found) → k.told ≡ told.Nothing → k.frames.items ≡ [] → fs ≡ [] → IsKept w head k fs
+  kept-none k fs t i none = record {
+    told = subst (λ (u : Told). IsTold u (contents_in fs)) (sym t) (ap contents_in none);
+    frames = i ∙ ap (λ (gs : List Found). spelled (wanted_of w head gs)) (sym none);
+  }
+
+  -- what came out of the map, or nothing
+  pub kept-some : (o : Option Kept) (k : Kept) (fs : List Found) → o ≡ Some k → IsKeptOf w head o fs → IsKept w head k fs
+  kept-some None k fs e h = absurd (cc)
+  kept-some (Some j) k fs e h = let same : j ≡ k = cc in subst (λ (i : Kept). IsKept w head i fs) same h
+
+  pub none-kept : (o : Option Kept) (fs : List Found) → o ≡ None → IsKeptOf w head o fs → fs ≡ []
+  none-kept None fs e h = h
+  none-kept (Some j) fs e h = absurd (cc)
+
+-- ---- all pages
+
+abbrev no_page : Option Kept
+no_page = None
+
+-- one frame more: what was kept of its pid comes out, and what is kept then goes in
+module _ (w : Wanted) (head : ℕ) (old mid now : BTreeMap ℕ Kept) (f : Found) (kept : Kept)
+    (out : (n : ℕ) → get nat_cmp mid n ≡ cond (is_eq (nat_cmp f.frame.pid n)) None (get nat_cmp old n))
+    (into : (n : ℕ) → get nat_cmp now n ≡ cond (is_eq (nat_cmp f.frame.pid n)) (Some kept) (get nat_cmp mid n)) where
+  in_by : (b : Bool) (n : ℕ) → nat_eq f.frame.pid n ≡ b → get nat_cmp now n ≡ cond b (Some kept) (get nat_cmp old n)
+  in_by true n e = into n ∙ ap (λ (b : Bool). cond b (Some kept) (get nat_cmp mid n)) (same_at f.frame.pid n ∙ e)
+  in_by false n e =
+      into n ∙ ap (λ (b : Bool). cond b (Some kept) (get nat_cmp mid n)) (same_at f.frame.pid n ∙ e)
+      ∙ (out n ∙ ap (λ (b : Bool). cond b no_page (get nat_cmp old n)) (same_at f.frame.pid n ∙ e))
+
+  each_by : (b : Bool) (found : List Found) (n : ℕ) → nat_eq f.frame.pid n ≡ b → AreKept w head old found → IsKept w head kept (part_with (telling f.frame.pid found) f)
+      → IsKeptOf w head (get nat_cmp now n) (telling n (found ++ f ∷ []))
+  each_by true found n e h k =
+      let own : telling n (found ++ f ∷ []) ≡ part_with (telling f.frame.pid found) f = telling-own n found f e ∙ ap (λ (m : ℕ). part_with (telling m found) f) (sym (eqb-true f.frame.pid n e)) in
+      subst (λ (o : Option Kept). IsKeptOf w head o (telling n (found ++ f ∷ []))) (sym (in_by true n e)) (subst (λ (fs : List Found). IsKept w head kept fs) (sym own) k)
+  each_by false found n e h k =
+      subst (λ (o : Option Kept). IsKeptOf w head o (telling n (found ++ f ∷ []))) (sym (in_by false n e))
+      (subst (λ (fs : List Found). IsKeptOf w head (get nat_cmp old n) fs) (sym (telling-other n found f e)) (h.each n))
+
+  pids_by : (b : Bool) (found : List Found) (n : ℕ) → nat_eq f.frame.pid n ≡ b → AreKept w head old found → is_some (get nat_cmp now n) ≡ (is_among n (map (λ (g : Found). g.frame.pid) found) || b)
+  pids_by true found n e h = ap (λ o. is_some o) (in_by true n e) ∙ sym (or_true (is_among n (map (λ (g : Found). g.frame.pid) found)))
+    where
+      or_true : (b : Bool) → (b || true) ≡ true
+      or_true true = refl
+      or_true false = refl
+  pids_by false found n e h = ap (λ o. is_some o) (in_by false n e) ∙ h.pids n ∙ sym (or_none (is_among n (map (λ (g : Found). g.frame.pid) found)))
+    where
+      or_none : (b : Bool) → (b || false) ≡ b
+      or_none true = refl
+      or_none false = refl
+
+  pub pages-more : (found : List Found) → AreKept w head old found → IsKept w head kept (part_with (telling f.frame.pid found) f) → AreKept w head now (found ++ f ∷ [])
+  pages-more found h k = record {
+    each = λ n. each_by (nat_eq f.frame.pid n) found n refl h k;
+    pids = λ n. pids_by (nat_eq f.frame.pid n) found n refl h
+        ∙ ap (λ (b : Bool). is_among n (map (λ (g : Found). g.frame.pid) found) || b) (same_turned (nat_eq f.frame.pid n) (nat_eq n f.frame.pid) f.frame.pid n refl refl)
+        ∙ sym (ap (λ (ns : List ℕ). is_among n ns) (map-append (λ (g : Found). g.frame.pid) found (f ∷ [])) ∙ among_more n f.frame.pid (map (λ (g : Found). g.frame.pid) found));
+  }
+
+-- ---- the segment where the first frame stands
+
+first-append : (found : List Found) (f : Found) → unwrap_or (first_found found) f.segment ≡ first_segment (found ++ f ∷ [])
+first-append [] f = refl
+first-append (g ∷ gs) f = refl
+
+found-append : (found : List Found) (f : Found) → Some (first_segment (found ++ f ∷ [])) ≡ first_found (found ++ f ∷ [])
+found-append [] f = refl
+found-append (g ∷ gs) f = refl
+
+-- before the first frame any segment may be the head
+kept_any : (w : Wanted) (head other : ℕ) (by_pid : BTreeMap ℕ Kept) (found : List Found) → first_found found ≡ None → AreKept w head by_pid found → AreKept w other by_pid found
+kept_any w head other by_pid [] e h = record { each = λ pid. any (get nat_cmp by_pid pid) (h.each pid); pids = h.pids }
+  where
+    any : (o : Option Kept) → IsKeptOf w head o [] → IsKeptOf w other o []
+    any None k = k
+    any (Some k) is = record { told = is.told; frames = is.frames }
+kept_any w head other by_pid (f ∷ fs) e h = absurd (cc)
+
+pub kept-before : (w : Wanted) (by_pid : BTreeMap ℕ Kept) (found : List Found) (f : Found) → AreKept w (first_segment found) by_pid found → AreKept w (first_segment (found ++ f ∷ [])) by_pid found
+kept-before w by_pid [] f h = kept_any w 0 f.segment by_pid [] refl h
+kept-before w by_pid (g ∷ gs) f h = h
+
+-- the segment that is told to be the first is so with one frame more
+pub first-more : (o : Option ℕ) (found : List Found) (f : Found) (n : ℕ) → o ≡ first_found found → f.segment ≡ n → unwrap_or o n ≡ first_segment (found ++ f ∷ [])
+first-more o found f n is at = ap (λ (m : ℕ). unwrap_or o m) (sym at) ∙ ap (λ (p : Option ℕ). unwrap_or p f.segment) is ∙ first-append found f
+
+pub found-more : (found : List Found) (f : Found) (n : ℕ) → n ≡ first_segment (found ++ f ∷ []) → Some n ≡ first_found (found ++ f ∷ [])
+found-more found f n is = ap (λ (m : ℕ). some_number m) is ∙ found-append found f
+  where
+    some_number : ℕ → Option ℕ
+    some_number m = Some m
+
+-- whether a base is wanted, as the code asks it, where the first frame stands in that segment
+pub wanted-same : (w v : Wanted) (head first n m : ℕ) (b : Bool) → v ≡ w → first ≡ head → m ≡ n → b ≡ is_wanted_in v first m → b ≡ is_wanted_in w head n
+wanted-same w v head first n m b e at same is = is ∙ ap (λ (u : Wanted). is_wanted_in u first m) e ∙ ap (λ (k : ℕ). is_wanted_in w k m) at ∙ ap (λ (k : ℕ). is_wanted_in w head k) same

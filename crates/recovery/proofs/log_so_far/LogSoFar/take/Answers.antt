@@ -1,0 +1,14 @@
+use Rattle.std.proofs.Common.{◌∙◌, map, sym}
+use Rattle.recovery.specs.Scan.{held_segment, scanned}
+use Rattle.recovery.proofs.SoFarLemmas.{stays-broken, scans-made}
+use Rattle.recovery.proofs.log_so_far.LogSoFar.take.Goals as goal
+
+pub returns-then-is_some-clause-ok : goal.returns-then-is_some-clause-ok
+returns-then-is_some-clause-ok g c w told h =
+    stays-broken w c.args.self.now.gathering c.args.self.now.fault told (map (scanned c.args.settings.now) (map held_segment c.args.segments.items)) (sym c.is_some.ensures ∙ c.if-is_some.true) h
+
+pub returns-in-Ok-clause-ok : goal.returns-in-Ok-clause-ok
+returns-in-Ok-clause-ok g c w told h =
+    let s = c.args.settings.now in
+    let gs = map held_segment c.args.segments.items in
+    c.gather.ensures.ok w told (map (scanned s) gs) (scans-made s c.new-work.result.settings gs _ c.new-work.ensures c.in-Ok.ensures.made) h
