@@ -1,5 +1,6 @@
 pub mod AfterFlush
 pub mod Commit
+pub mod CommitPlan
 pub mod Crash
 pub mod Disk
 pub mod Faults

@@ -56,8 +56,8 @@ fn bytes_in_use(settings: &Settings, slot: &Slot) -> usize
     ensures same { result ≡ bytes_in_use settings.now slot.now.tail }
     ensures within { result ≤ settings.now.seg_size }
 {
-    let last = last_segment(settings, slot.tail);
-    (slot.tail - last * u64::from(settings.seg_size)) as usize
+    let last = last_segment(settings, slot.ends.tail);
+    (slot.ends.tail - last * u64::from(settings.seg_size)) as usize
 }
 
 // How many segments are read before a crew gets them: as many as may be, and no more than stand in front of the last one, if any do.
@@ -67,7 +67,7 @@ fn segments_at_once(settings: &Settings, slot: &Slot) -> usize
     ensures some { 0 < result }
     ensures bounded { result * settings.now.seg_size ≤ 4194304 }
 {
-    let earlier = last_segment(settings, slot.tail) - slot.head;
+    let earlier = last_segment(settings, slot.ends.tail) - slot.ends.head;
     let most = BYTES_AT_ONCE / u64::from(settings.seg_size);
     most.min(earlier.max(1)) as usize
 }
@@ -134,7 +134,7 @@ fn read_last<'b, D: Disk>(
     ensures counted { OnOk result (D.failed disk.new ≡ D.failed disk.old) }
     ensures uncounted { IfErr result (λ fault. fault ≢ Device → D.failed disk.new ≡ D.failed disk.old) }
 {
-    let number = last_segment(settings, slot.tail);
+    let number = last_segment(settings, slot.ends.tail);
     let bytes = &mut buf[..bytes_in_use(settings, slot)];
     let mut segments = Vec::with_capacity(alloc, 1)?;
     read(disk, place_of_segment(settings, number), bytes)?;
@@ -173,8 +173,8 @@ fn read_earlier<D: Disk, R: LogReader>(
     let alloc = *buffer.allocator();
     let size = settings.seg_size as usize;
     let at_once = (buffer.len() / size) as u64;
-    let last = last_segment(settings, slot.tail);
-    let mut first = slot.head;
+    let last = last_segment(settings, slot.ends.tail);
+    let mut first = slot.ends.head;
     while first < last {
         let count = at_once.min(last - first) as usize;
         let buf = &mut buffer[..count * size];

@@ -11,7 +11,7 @@ ghost use Rattle.engine.specs.Refusal.{is_crew};
 ghost use Rattle.engine.specs.State.{IsSound};
 
 use crate::refusal::admit_crew;
-use crate::store::{Store, log_of};
+use crate::store::Store;
 use cleaner::clean::clean;
 use cleaner::laws::a_clean_keeps_the_store;
 use crew::Crew;
@@ -77,15 +77,13 @@ impl<D: Disk> Store<D> {
         }
         admit_crew(crew)?;
         let slot = Slot {
-            sequence: self.log.sequence,
-            head: self.log.head,
-            tail: self.log.tail,
+            ends: self.log,
             root: self.tree.root(),
             height: self.tree.height(),
         };
         match clean(rt, crew, self.alloc, &mut self.disk, &self.settings, &slot) {
             Ok(committed) => {
-                self.log = log_of(&committed);
+                self.log = committed.ends;
                 Ok(self.log.head)
             }
             Err(fault) => {

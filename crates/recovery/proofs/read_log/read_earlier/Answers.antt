@@ -21,7 +21,7 @@ loop-first-init g c =
       kept = kept_self start;
       same = λ honest. same_self start;
       counted = refl;
-      read = λ file is none. (file, none-read (g.R.LogReader.has_read c.args.reader.now) start s t.head (c.slot.inside.head - t.head) file (omega (arith, head)) is none);
+      read = λ file is none. (file, none-read (g.R.LogReader.has_read c.args.reader.now) start s t.head (c.slot.inside.ends.head - t.head) file (omega (arith, head)) is none);
     }
 
 pub loop-first-preserved : goal.loop-first-preserved

@@ -1,7 +1,8 @@
 use Rattle.std.proofs.Common.{inl, refl, sym, ⊎_elim, ◌∙◌}
+use Rattle.flush_log.proofs.SameLemmas.{leaves_itself}
 use Rattle.engine.specs.State.{store_in}
-use Rattle.engine.proofs.CleanDone.{slot-in, cleaned-now, cleaned-sound, refused-sound}
-use Rattle.engine.proofs.ReadLemmas.{leaves_itself}
+use Rattle.engine.proofs.CleanDone.{cleaned-now, cleaned-sound, refused-sound}
+use Rattle.engine.proofs.CreateLemmas.{slot-in}
 use Rattle.engine.proofs.store.Store.clean.Goals as goal
 
 pub clean-requires-clause-slot : goal.clean-requires-clause-slot
