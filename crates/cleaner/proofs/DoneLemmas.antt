@@ -32,16 +32,21 @@ module _ (s : Settings) (st : Store) (m : CommitPlan) (more : st.head ≢ last_s
   pub plan-would : (file : List ℕ) → IsClean s (slot_of st) file m → WouldClean s st file
   plan-would file p = (store_after st.tree m.slot, after file p, own_done s file st m more p)
 
-  -- the bytes that are written
-  pub plan-written : (file seen : List ℕ) → (p : IsClean s (slot_of st) file m) → seen ≡ after file p → after_clean s st file ≡ Ok (store_after st.tree m.slot, seen)
-  plan-written file seen p wrote = own_done s file st m more p ∙ ap (λ (bytes : List ℕ). left bytes) (sym wrote)
-    where
-      left : List ℕ → Result (Store × List ℕ) Fault
-      left bytes = Ok (store_after st.tree m.slot, bytes)
+  abbrev left : List ℕ → Result (Store × List ℕ) Fault
+  left bytes = Ok (store_after st.tree m.slot, bytes)
+
+  -- the bytes that are written, of a disk on which nothing was written before
+  done-as : (file seen : List ℕ) → (p : IsClean s (slot_of st) file m) → seen ≡ after file p → after_clean s st file ≡ Ok (store_after st.tree m.slot, seen)
+  done-as file seen p wrote = own_done s file st m more p ∙ ap left (sym wrote)
+
+  pub plan-written : (old mid : View) (seen : List ℕ) → (p : IsClean s (slot_of st) old.seen m) → Same old mid → seen ≡ file_with s (base_in (slot_of st) old.seen) (clean_text st.head p.0) mid.seen
+      → after_clean s st old.seen ≡ Ok (store_after st.tree m.slot, seen)
+  plan-written old mid seen p same wrote =
+      done-as old.seen seen p (wrote ∙ ap (λ (f : List ℕ). file_with s (base_in (slot_of st) old.seen) (clean_text st.head p.0) f) same.seen)
 
   pub plan-leaves : (file c : List ℕ) → IsInStep s st file → (p : IsClean s (slot_of st) file m) → LeftOf s (base_in (slot_of st) file) (clean_text st.head p.0) file c → CleanLeaves file c
   plan-leaves file c step p (inl hid) = inl (clean-hidden s st (store_after st.tree m.slot) p.0 file (after file p) c step (own_done s file st m more p) p.1.read hid)
-  plan-leaves file c step p (inr whole) = inr (store_after st.tree m.slot, plan-written file c p whole)
+  plan-leaves file c step p (inr whole) = inr (store_after st.tree m.slot, done-as file c p whole)
 
   pub plan-crashed : (old mid new : View) → IsInStep s st old.seen → (p : IsClean s (slot_of st) old.seen m) → Same old mid
       → LeavesOnly mid new (LeftOf s (base_in (slot_of st) old.seen) (clean_text st.head p.0) mid.seen) → LeavesOnly old new (CleanLeaves old.seen)

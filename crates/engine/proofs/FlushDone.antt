@@ -10,13 +10,14 @@ use Rattle.frame_codec.specs.Frame.{Frame}
 use Rattle.flush_log.specs.AfterFlush.{slot_of, flush_slot, is_spent, store_after, after_text, after_flush}
 use Rattle.flush_log.specs.Commit.{committed, IsUncommitted}
 use Rattle.flush_log.specs.CommitPlan.{CommitPlan, next_tail, IsPlanned, file_with, LeftOf}
-use Rattle.flush_log.specs.Disk.{View, Kept}
+use Rattle.flush_log.specs.Disk.{View, Kept, LeavesOnly}
 use Rattle.flush_log.specs.FlushText.{flush_text, HasFrames, flushed}
 use Rattle.flush_log.specs.Layout.{spans, is_full_for_flush}
 use Rattle.flush_log.specs.Segments.{disk_size}
 use Rattle.flush_log.specs.Slot.{Slot}
 use Rattle.flush_log.specs.declared.slot.LogEnds.{LogEnds}
 use Rattle.flush_log.proofs.AdmitLemmas.{commit-refused, commit-admitted}
+use Rattle.flush_log.proofs.ViewLemmas.{weaker}
 use Rattle.recovery.specs.InStep.{IsInStep, IsStore, IsStoreOf}
 use Rattle.recovery.specs.StoreOfDisk.{store_of_disk}
 use Rattle.recovery.proofs.FlushBack.{left, text-some}
@@ -38,6 +39,15 @@ some_frame (f ∷ fs) some = omega arith
 
 -- ---- a flush that has something to write
 
+-- the store before, or all that the flush leaves
+abbrev BeforeOrAfter : Settings → Store → List ℕ → List ℕ → Type 0
+BeforeOrAfter s st file c = (store_of_disk c ≡ store_of_disk file) ⊎ ((now : Store) × (after_flush s st file ≡ Ok (now, c)))
+
+-- until it is committed it isn't seen
+abbrev HidesFlush : Type 0
+HidesFlush = (s : Settings) (st now : Store) (file bytes c : List ℕ) → IsStoreOf s st file → HasFrames s st.tree → flush_text st.tree ≢ [] → after_flush s st file ≡ Ok (now, bytes)
+    → IsUncommitted s (suc st.sequence) (spans s st.tail (flush_text st.tree)) file c → store_of_disk c ≡ store_of_disk file
+
 module _ (s : Settings) (st : Store) (some : flush_text st.tree ≢ []) where
   abbrev slot : Slot
   slot = flush_slot s st (flush_text st.tree)
@@ -58,13 +68,14 @@ module _ (s : Settings) (st : Store) (some : flush_text st.tree ≢ []) where
     pub flush-would : (file : List ℕ) → WouldFlush s st file
     flush-would file = (some, now, file_with s (slot_of st) (flush_text st.tree) file, flush-done file)
 
-    -- what a crash leaves
-    pub flush-left : (file c : List ℕ) → IsStoreOf s st file
-        → ((now : Store) (bytes : List ℕ) → after_flush s st file ≡ left now bytes → IsUncommitted s (suc st.sequence) (spans s st.tail (flush_text st.tree)) file c → store_of_disk c ≡ store_of_disk file)
-        → LeftOf s (slot_of st) (flush_text st.tree) file c
-        → (store_of_disk c ≡ store_of_disk file) ⊎ ((now : Store) × (after_flush s st file ≡ Ok (now, c)))
-    flush-left file c is hidden (inl hid) = inl (hidden _ _ (flush-done file) hid)
+    flush-left : (file c : List ℕ) → IsStoreOf s st file → HidesFlush → LeftOf s (slot_of st) (flush_text st.tree) file c → BeforeOrAfter s st file c
+    flush-left file c is hidden (inl hid) = inl (hidden s st now file (file_with s (slot_of st) (flush_text st.tree) file) c is p.spelled.within some (flush-done file) hid)
     flush-left file c is hidden (inr whole) = inr (now, flush-done file ∙ ap (left now) (sym whole))
+
+    -- what a crash leaves
+    pub flush-crashed : (old new : View) → IsStoreOf s st old.seen → HidesFlush → LeavesOnly old new (LeftOf s (slot_of st) (flush_text st.tree) old.seen) → LeavesOnly old new (BeforeOrAfter s st old.seen)
+    flush-crashed old new is hidden run =
+        weaker old new (LeftOf s (slot_of st) (flush_text st.tree) old.seen) (BeforeOrAfter s st old.seen) (λ c h. flush-left old.seen c is hidden h) run
 
     -- in memory, where the log is kept as the commit's slot says
     pub flushed-now : (tree : TreeInMemory) (log : LogEnds) (root height : ℕ) → tree_of tree ≡ flushed st.tree → slot_with log root height ≡ m.slot → (file : List ℕ)

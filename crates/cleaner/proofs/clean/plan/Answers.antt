@@ -1,5 +1,6 @@
-use Rattle.std.proofs.Common.{◌≢◌, ◌∙◌, ℕ, inr, arith}
+use Rattle.std.proofs.Common.{◌≡◌, ◌≢◌, ◌∙◌, inr, ap}
 use Rattle.keys.specs.declared.fault.Fault.TheVariants.{Device}
+use Rattle.flush_log.specs.Slot.{Slot}
 use Rattle.flush_log.proofs.SlotLemmas.{slot-is}
 use Rattle.recovery.proofs.ReadBytes.{first_read, kept_then, handed_on}
 use Rattle.cleaner.specs.CleanText.{clean_text}
@@ -42,3 +43,44 @@ returns-in_err-images-clause-uncounted g c =
     let failed = g.D.Disk.failed in
     err_on c.from_residual-in_err-images.result (λ fault. fault ≢ Device → failed c.read_text.new.disk ≡ failed c.args.disk.now) c.in_err-images.field-0.0 c.from_residual-in_err-images.ensures.1
     (λ other. c.in_err-images.ensures.uncounted other ∙ c.in_ok-on_disk.ensures.counted)
+
+pub cleaned_slot-behind-requires : goal.cleaned_slot-behind-requires
+cleaned_slot-behind-requires g c = head-room c.args.settings.now c.args.slot.now c.requires.checked c.requires.slot
+
+pub plan-requires-clause-numbers : goal.plan-requires-clause-numbers
+plan-requires-clause-numbers g c =
+    let is = slot-is c.args.settings.now c.args.slot.now.sequence c.args.slot.now c.requires.slot in
+    rw c.cleaned_slot-behind.ensures (is.sequence.1, is.tail)
+
+pub plan-requires-clause-log : goal.plan-requires-clause-log
+plan-requires-clause-log g c = rw c.cleaned_slot-behind.ensures (log-left c.args.settings.now c.args.slot.now c.requires.checked c.requires.slot c.requires.more)
+
+pub plan-requires-clause-text : goal.plan-requires-clause-text
+plan-requires-clause-text g c =
+    let (file, is) = first_read (g.D.Disk.view c.args.disk.now) (g.met.D.Disk.lawful c.args.disk.now) in
+    let (next, then, slot) = c.in_ok-on_disk.ensures.read file is in
+    let (now, bytes, front, text) = c.in_ok-images.ensures.read next then in
+    (clean_text c.args.slot.now.head text.0, text.2)
+
+pub returns-clause-same : goal.returns-clause-same
+returns-clause-same g c =
+    let view = g.D.Disk.view in
+    same_on (view c.args.disk.now) (view c.read_slot_on_disk.new.disk) (view c.read_text.new.disk) c.in_ok-on_disk.ensures.kept c.in_ok-on_disk.ensures.same c.in_ok-images.ensures.same
+
+pub returns-clause-read : goal.returns-clause-read
+returns-clause-read g c =
+    let view = g.D.Disk.view in
+    let failed = g.D.Disk.failed in
+    let old = view c.args.disk.now in
+    let mid = view c.read_slot_on_disk.new.disk in
+    let new = view c.read_text.new.disk in
+    let s = c.args.settings.now in
+    let t = c.args.slot.now in
+    let (file, is) = first_read old (g.met.D.Disk.lawful c.args.disk.now) in
+    let (next, then, slot) = c.in_ok-on_disk.ensures.read file is in
+    let (now, bytes, front, text) = c.in_ok-images.ensures.read next then in
+    let behind = base_still t _ _ _ next now (ap (λ (u : Slot). u.sequence) c.slot.view_is) slot front c.cleaned_slot-behind.ensures in (
+      now,
+      read_before old new now (kept_then old mid new c.in_ok-on_disk.ensures.kept c.in_ok-images.ensures.kept) (returns-clause-same g c) bytes,
+      plan-told s t _ now text.0 (failed c.args.disk.now) (failed c.read_text.new.disk) c.plan.result c.requires.more text.1 behind (c.plan.ensures (clean_text t.head text.0) text.2),
+    )

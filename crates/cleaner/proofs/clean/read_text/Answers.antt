@@ -36,6 +36,6 @@ returns-clause-read g c file is =
       now,
       bytes,
       front,
-      text-of_choice (λ (images : Vec Image Global). images.items) s t now c.requires.more (failed c.args.disk.now) (failed c.read_log.new.disk) c.slot.inside.head found c.choose.result head read
+      text-of_choice (λ (images : Vec Image Global). images.items) s t now c.requires.more (failed c.args.disk.now) (failed c.read_log.new.disk) c.slot.inside.ends.head found c.choose.result head read
           (c.choose.ensures.chosen found live begins) (c.choose.ensures.some found live begins),
     )

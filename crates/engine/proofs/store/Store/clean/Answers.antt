@@ -28,8 +28,8 @@ invariant_of-self g c =
     record {
       home = c.self.invariant.home;
       sound = cleaned-sound g.D.Disk.view s st c.self.inside.disk c.clean.new.disk c.self.inside.has_failed c.self.invariant.sound c.if-self.false c.clean.ensures.kept
-          (store_in tree c.log_of-self-inside.result) file bytes law.kept law.step (cleaned-now _ tree c.in-Ok.committed c.log_of-self-inside.result bytes c.log_of-self-inside.ensures done)
-          (λ honest. cleaned-now _ tree c.in-Ok.committed c.log_of-self-inside.result _ c.log_of-self-inside.ensures (c.in-Ok.ensures.written honest st is));
+          (store_in tree c.committed.inside.ends) file bytes law.kept law.step (cleaned-now _ tree c.in-Ok.committed c.committed.inside.ends _ _ bytes c.committed.view_is done)
+          (λ honest. cleaned-now _ tree c.in-Ok.committed c.committed.inside.ends _ _ _ c.committed.view_is (c.in-Ok.ensures.written honest st is));
     }
 
 pub returns-in-Ok-clause-read : goal.returns-in-Ok-clause-read
@@ -38,13 +38,13 @@ returns-in-Ok-clause-read g c = rw (← c.self.view_is) (λ fine able.
     let log = c.self.inside.log in
     let (file, read, told) = c.in-Ok.ensures.read in
     let (bytes, done) = told (store_in tree log) (slot-in tree log _ _ c.root.ensures c.height.ensures) in
-    (file, read, (bytes, cleaned-now _ tree c.in-Ok.committed c.log_of-self-inside.result bytes c.log_of-self-inside.ensures done, refl)))
+    (file, read, (bytes, cleaned-now _ tree c.in-Ok.committed c.committed.inside.ends _ _ bytes c.committed.view_is done, refl)))
 
 pub returns-in-Ok-clause-bytes : goal.returns-in-Ok-clause-bytes
 returns-in-Ok-clause-bytes g c = rw (← c.self.view_is) (λ honest.
     let tree = c.self.inside.tree in
     let log = c.self.inside.log in
-    cleaned-now _ tree c.in-Ok.committed c.log_of-self-inside.result _ c.log_of-self-inside.ensures (c.in-Ok.ensures.written honest (store_in tree log) (slot-in tree log _ _ c.root.ensures c.height.ensures)))
+    cleaned-now _ tree c.in-Ok.committed c.committed.inside.ends _ _ _ c.committed.view_is (c.in-Ok.ensures.written honest (store_in tree log) (slot-in tree log _ _ c.root.ensures c.height.ensures)))
 
 pub returns-in-Ok-clause-crash : goal.returns-in-Ok-clause-crash
 returns-in-Ok-clause-crash g c = rw (← c.self.view_is) (λ fine settled.

@@ -4,10 +4,10 @@ use Rattle.mapping.specs.TreeInMemory.{TreeInMemory, tree_of}
 use Rattle.flush_log.specs.AfterFlush.{slot_of}
 use Rattle.flush_log.specs.FlushText.{flush_text}
 use Rattle.flush_log.proofs.SameLemmas.{leaves_itself}
-use Rattle.flush_log.proofs.ViewLemmas.{weaker, counted_failed}
+use Rattle.flush_log.proofs.ViewLemmas.{counted_failed}
 use Rattle.recovery.specs.InStep.{IsStoreOf}
 use Rattle.engine.specs.State.{IsSound, state_of, store_in}
-use Rattle.engine.proofs.FlushDone.{on-bytes, nothing-flushed, flushed-now, never-device, flushed-sound, flush-left, flush-would}
+use Rattle.engine.proofs.FlushDone.{on-bytes, nothing-flushed, flushed-now, never-device, flushed-sound, flush-crashed, flush-would}
 use Rattle.engine.proofs.store.Store.flush.Goals as goal
 
 pub returns-in_err-admit_crew-clause-crash : goal.returns-in_err-admit_crew-clause-crash
@@ -68,9 +68,7 @@ returns-in-Err-clause-crash g c = rw (← c.self.view_is) (λ fine settled.
     let some : flush_text st.tree ≢ [] = (λ e. (let yes = c.is_all_written.ensures.1 e in absurd (cc))) in
     let p = c.in_ok-commit.ensures.plan in
     let is : IsStoreOf s st old.seen = record { is = c.self.invariant.sound.is; step = c.self.invariant.sound.step c.if-self.false settled.honest } in
-    weaker old (view c.write.new.disk) _ _
-    (λ d left. flush-left s st some _ p old.seen d is
-    (λ now bytes h hid. c.a_crash_in_a_flush_leaves_the_store_before_or_after.ensures.hidden s st now old.seen bytes d is p.spelled.within some h hid) left)
+    flush-crashed s st some _ p old (view c.write.new.disk) is c.a_crash_in_a_flush_leaves_the_store_before_or_after.ensures.hidden
     (c.write.ensures.crash (slot_of st) (flush_text st.tree) p settled))
 
 pub returns-clause-crash : goal.returns-clause-crash
@@ -82,9 +80,7 @@ returns-clause-crash g c = rw (← c.self.view_is) (λ fine settled.
     let some : flush_text st.tree ≢ [] = (λ e. (let yes = c.is_all_written.ensures.1 e in absurd (cc))) in
     let p = c.in_ok-commit.ensures.plan in
     let is : IsStoreOf s st old.seen = record { is = c.self.invariant.sound.is; step = c.self.invariant.sound.step c.if-self.false settled.honest } in
-    weaker old (view c.write.new.disk) _ _
-    (λ d left. flush-left s st some _ p old.seen d is
-    (λ now bytes h hid. c.a_crash_in_a_flush_leaves_the_store_before_or_after.ensures.hidden s st now old.seen bytes d is p.spelled.within some h hid) left)
+    flush-crashed s st some _ p old (view c.write.new.disk) is c.a_crash_in_a_flush_leaves_the_store_before_or_after.ensures.hidden
     (c.write.ensures.crash (slot_of st) (flush_text st.tree) p settled))
 
 pub returns-clause-store : goal.returns-clause-store
