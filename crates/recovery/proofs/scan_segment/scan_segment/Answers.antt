@@ -1,4 +1,4 @@
-use Rattle.std.proofs.Common.{◌≡◌, ◌∙◌, nat_eq, true, length, drop, inr, refl, sym, arith}
+use Rattle.std.proofs.Common.{◌≡◌, ◌∙◌, nat_eq, true, length, drop, inr, refl, sym, ap, arith}
 use Rattle.std.specs.List.{starts_with}
 use Rattle.flush_log.specs.Segments.{segment_header}
 use Rattle.recovery.specs.Scan.{is_end_at, held_segment, frames_at}
