@@ -6,7 +6,7 @@ use Rattle.keys.specs.declared.fault.Fault.TheVariants.{Device}
 use Rattle.keys.specs.declared.settings.Settings.{Settings}
 use Rattle.mapping.specs.Tree.{Store}
 use Rattle.mapping.specs.TreeInMemory.{TreeInMemory, tree_of}
-use Rattle.flush_log.specs.AfterFlush.{slot_of, store_after}
+use Rattle.flush_log.specs.AfterFlush.{store_after}
 use Rattle.flush_log.specs.Disk.{View, Kept, Same}
 use Rattle.flush_log.specs.Segments.{disk_size}
 use Rattle.flush_log.specs.Slot.{Slot}

@@ -9,9 +9,10 @@ use Rattle.mapping.specs.TreeInMemory.{TreeInMemory, tree_of}
 use Rattle.frame_codec.specs.Frame.{Frame}
 use Rattle.flush_log.specs.AfterFlush.{slot_of, flush_slot, is_spent, store_after, after_text, after_flush}
 use Rattle.flush_log.specs.Commit.{committed, IsUncommitted}
-use Rattle.flush_log.specs.CommitPlan.{CommitPlan, next_tail, IsPlanned, file_with, LeftOf}
+use Rattle.flush_log.specs.CommitPlan.{AreImages, CommitPlan, next_tail, IsPlanned, file_with, LeftOf}
 use Rattle.flush_log.specs.Disk.{View, Kept, LeavesOnly}
 use Rattle.flush_log.specs.FlushText.{flush_text, HasFrames, flushed}
+use Rattle.flush_log.specs.Images.{AreOfText}
 use Rattle.flush_log.specs.Layout.{spans, is_full_for_flush}
 use Rattle.flush_log.specs.Segments.{disk_size}
 use Rattle.flush_log.specs.Slot.{Slot}
@@ -33,9 +34,13 @@ pub nothing-framed : (s : Settings) (t : Tree) → flush_text t ≡ [] → HasFr
 nothing-framed s t none = rw none tt
 
 -- a text that is not empty has a frame
-pub some_frame : (text : List Frame) → text ≢ [] → 1 ≤ length text
+some_frame : (text : List Frame) → text ≢ [] → 1 ≤ length text
 some_frame [] some = absurd (some refl)
 some_frame (f ∷ fs) some = omega arith
+
+-- images of the text of a flush that has something to write
+pub text-spelled : (s : Settings) (st : Store) (images : List (List (List ℕ))) → flush_text st.tree ≢ [] → AreOfText images (flush_text st.tree) → HasFrames s st.tree → AreImages s (flush_text st.tree) images
+text-spelled s st images some of frames = record { of = of; some = inr (some_frame (flush_text st.tree) some); within = frames }
 
 -- ---- a flush that has something to write
 

@@ -114,12 +114,13 @@ impl<D: Disk> Store<D> {
         the_first_tree_is_proper_and_empty();
         a_new_disk_stands_for_the_first_store();
         let mut disk = disk;
+        let first = first_slot();
         match make(alloc, &mut disk, &settings) {
             Ok(tree) => Ok(Store {
                 settings,
                 alloc,
                 tree,
-                log: first_slot().ends,
+                log: first.ends,
                 disk,
                 has_failed: false,
             }),

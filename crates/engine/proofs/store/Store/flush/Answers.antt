@@ -91,7 +91,7 @@ returns-clause-store g c = rw (← c.self.view_is) (
     let old = view c.self.inside.disk in
     let some : flush_text st.tree ≢ [] = (λ e. (let yes = c.is_all_written.ensures.1 e in absurd (cc))) in
     let tree_is = ap (λ (t : TreeInMemory). tree_of t) c.flushed.ensures ∙ c.a_table_marked_as_written_holds_the_flushed_tree.ensures s c.self.inside.tree c.self.invariant.sound.is.good c.self.invariant.sound.is.proper in
-    let done = flushed-now s st some _ c.in_ok-commit.ensures.plan c.flushed.new.self _ _ _ tree_is (c.slot.view_is ∙ c.slot-2.ensures) old.seen in
+    let done = flushed-now s st some _ c.in_ok-commit.ensures.plan c.flushed.new.self _ _ _ tree_is (c.slot.view_is ∙ c.slot-slot.ensures) old.seen in
     (refl, (_, done)))
 
 pub returns-clause-bytes : goal.returns-clause-bytes
@@ -103,7 +103,7 @@ returns-clause-bytes g c = rw (← c.self.view_is) (λ honest.
     let some : flush_text st.tree ≢ [] = (λ e. (let yes = c.is_all_written.ensures.1 e in absurd (cc))) in
     let p = c.in_ok-commit.ensures.plan in
     let tree_is = ap (λ (t : TreeInMemory). tree_of t) c.flushed.ensures ∙ c.a_table_marked_as_written_holds_the_flushed_tree.ensures s c.self.inside.tree c.self.invariant.sound.is.good c.self.invariant.sound.is.proper in
-    let done = flushed-now s st some _ p c.flushed.new.self _ _ _ tree_is (c.slot.view_is ∙ c.slot-2.ensures) old.seen in
+    let done = flushed-now s st some _ p c.flushed.new.self _ _ _ tree_is (c.slot.view_is ∙ c.slot-slot.ensures) old.seen in
     on-bytes _ _ _ _ done (c.in_default.ensures.written (slot_of st) (flush_text st.tree) p honest))
 
 pub invariant_of-self-2 : goal.invariant_of-self-2
@@ -115,7 +115,7 @@ invariant_of-self-2 g c =
     let some : flush_text st.tree ≢ [] = (λ e. (let yes = c.is_all_written.ensures.1 e in absurd (cc))) in
     let p = c.in_ok-commit.ensures.plan in
     let tree_is = ap (λ (t : TreeInMemory). tree_of t) c.flushed.ensures ∙ c.a_table_marked_as_written_holds_the_flushed_tree.ensures s c.self.inside.tree c.self.invariant.sound.is.good c.self.invariant.sound.is.proper in
-    let done = flushed-now s st some _ p c.flushed.new.self _ _ _ tree_is (c.slot.view_is ∙ c.slot-2.ensures) old.seen in
+    let done = flushed-now s st some _ p c.flushed.new.self _ _ _ tree_is (c.slot.view_is ∙ c.slot-slot.ensures) old.seen in
     record {
       home = rw c.flushed.ensures c.self.invariant.home;
       sound = rw c.if-self.false (flushed-sound view s st _ c.self.inside.disk c.write.new.disk _ (subst (λ b. IsSound view (state_of s c.self.inside.tree c.self.inside.log c.self.inside.disk b)) c.if-self.false c.self.invariant.sound) p.spelled.within

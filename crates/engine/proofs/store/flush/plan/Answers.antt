@@ -1,10 +1,10 @@
-use Rattle.std.proofs.Common.{inr, arith}
+use Rattle.std.proofs.Common.{arith}
 use Rattle.flush_log.specs.AfterFlush.{slot_of}
 use Rattle.flush_log.specs.FlushText.{flush_text}
 use Rattle.flush_log.proofs.SlotLemmas.{slot-is}
 use Rattle.engine.specs.State.{store_in}
 use Rattle.engine.proofs.CreateLemmas.{slot-in}
-use Rattle.engine.proofs.FlushDone.{some_frame, flush-told}
+use Rattle.engine.proofs.FlushDone.{text-spelled, flush-told}
 use Rattle.engine.proofs.store.flush.plan.Goals as goal
 
 pub plan-requires-clause-numbers : goal.plan-requires-clause-numbers
@@ -22,25 +22,19 @@ plan-requires-clause-log g c =
 pub plan-requires-clause-text : goal.plan-requires-clause-text
 plan-requires-clause-text g c =
     let s = c.args.settings.now in
-    let st = store_in c.args.tree.now c.args.log in (
-      flush_text st.tree,
-      record {
-        of = c.in_ok-images.ensures.text;
-        some = inr (some_frame (flush_text st.tree) c.requires.some);
-        within = c.in_ok-images.ensures.frames s c.requires.store.proper;
-      },
-    )
+    let st = store_in c.args.tree.now c.args.log in
+    (flush_text st.tree, text-spelled s st _ c.requires.some c.in_ok-images.ensures.text (c.in_ok-images.ensures.frames s c.requires.store.proper))
 
 pub returns-clause-plan : goal.returns-clause-plan
 returns-clause-plan g c =
     let s = c.args.settings.now in
     let st = store_in c.args.tree.now c.args.log in
     (flush-told s st _ c.plan.result c.requires.some (slot-in c.args.tree.now c.args.log _ _ c.root.ensures c.height.ensures)
-    (c.plan.ensures (flush_text st.tree) (plan-requires-clause-text g c).1)).0
+    (c.plan.ensures (flush_text st.tree) (text-spelled s st _ c.requires.some c.in_ok-images.ensures.text (c.in_ok-images.ensures.frames s c.requires.store.proper)))).0
 
 pub returns-clause-err : goal.returns-clause-err
 returns-clause-err g c =
     let s = c.args.settings.now in
     let st = store_in c.args.tree.now c.args.log in
     (flush-told s st _ c.plan.result c.requires.some (slot-in c.args.tree.now c.args.log _ _ c.root.ensures c.height.ensures)
-    (c.plan.ensures (flush_text st.tree) (plan-requires-clause-text g c).1)).1
+    (c.plan.ensures (flush_text st.tree) (text-spelled s st _ c.requires.some c.in_ok-images.ensures.text (c.in_ok-images.ensures.frames s c.requires.store.proper)))).1
