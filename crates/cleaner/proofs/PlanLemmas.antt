@@ -18,19 +18,21 @@ use Rattle.flush_log.specs.AfterFlush.{slot_of, store_after}
 use Rattle.flush_log.specs.Commit.{committed}
 use Rattle.flush_log.specs.CommitPlan.{CommitPlan, IsPlanned, next_tail, file_with}
 use Rattle.flush_log.specs.Disk.{View, Kept, Same, HasFailed}
+use Rattle.flush_log.specs.Ends.{ends_of, AreEnds}
 use Rattle.flush_log.specs.Images.{AreOfText, admitted}
 use Rattle.flush_log.specs.Layout.{spans, is_full_for_clean}
 use Rattle.flush_log.specs.Overlay.{overlay}
-use Rattle.flush_log.specs.Reading.{Found, all_in, log}
+use Rattle.flush_log.specs.Reading.{Found, all_in, log_between, log}
 use Rattle.flush_log.specs.Segments.{segments_begin, last_segment}
-use Rattle.flush_log.specs.Slot.{Slot, greatest, slot_place, slot_in, is_slot}
+use Rattle.flush_log.specs.Slot.{Slot, greatest, slot_place, slot_in}
+use Rattle.flush_log.specs.declared.slot.LogEnds.{LogEnds}
 use Rattle.flush_log.proofs.AdmitLemmas.{commit-refused, commit-admitted}
 use Rattle.flush_log.proofs.CommitLemmas.{slot_low}
 use Rattle.flush_log.proofs.FitLemmas.{are_sized}
 use Rattle.flush_log.proofs.HeadLemmas.{HeadOff, head-off}
 use Rattle.flush_log.proofs.LayoutLemmas.{split-tail}
 use Rattle.flush_log.proofs.OverlayLemmas.{overlay-part}
-use Rattle.flush_log.proofs.SlotLemmas.{IsSlot, slot-is, head_small}
+use Rattle.flush_log.proofs.PlannedLemmas.{head-low}
 use Rattle.flush_log.proofs.TailLemmas.{clean-is-flush}
 use Rattle.recovery.specs.LogPages.{broken_in}
 use Rattle.recovery.specs.Recovered.{IsReadOf, IsLate}
@@ -63,8 +65,8 @@ pub err_on : {X : Type 0} (r : Result X Fault) (Q : Fault → Type 0) (fault : F
 err_on (Ok x) Q fault is h = absurd is
 err_on (Err f) Q fault is h = subst Q (sym is) h
 
-pub since : (s : Settings) (t : Slot) (file : List ℕ) (old mid new : ℕ) (fault : Fault) → mid ≡ old → IsRefused s t file fault ⊎ IsLate mid new fault → IsRefused s t file fault ⊎ IsLate old new fault
-since s t file old mid new fault same h = subst (λ (n : ℕ). IsRefused s t file fault ⊎ IsLate n new fault) same h
+pub since : (s : Settings) (e : LogEnds) (file : List ℕ) (old mid new : ℕ) (fault : Fault) → mid ≡ old → IsRefused s e file fault ⊎ IsLate mid new fault → IsRefused s e file fault ⊎ IsLate old new fault
+since s e file old mid new fault same h = subst (λ (n : ℕ). IsRefused s e file fault ⊎ IsLate n new fault) same h
 
 -- ---- the slot on the disk
 
@@ -107,77 +109,73 @@ module _ (s : Settings) (file : List ℕ) where
   pub nothing-refused : (st : Store) → st.head ≡ last_segment s st.tail → after_clean s st file ≡ Err NothingToClean
   nothing-refused st one = ap (λ (b : Bool). (let none : Result (Store × List ℕ) Fault = Err NothingToClean in if b then none else and_then (log s file (slot_of st)) (after_clean_of s st file))) (eq-eqb st.head (last_segment s st.tail) one)
 
-  module _ (t : Slot) (more : t.head ≢ last_segment s t.tail) where
-    more_of : (st : Store) → slot_of st ≡ t → st.head ≢ last_segment s st.tail
-    more_of st is = subst (λ (u : Slot). u.head ≢ last_segment s u.tail) (sym is) more
+  module _ (e : LogEnds) (more : e.head ≢ last_segment s e.tail) where
+    more_of : (st : Store) → ends_of st ≡ e → st.head ≢ last_segment s st.tail
+    more_of st is = subst (λ (u : LogEnds). u.head ≢ last_segment s u.tail) (sym is) more
 
-    read_of : (st : Store) (r : Result (List Found) Fault) → slot_of st ≡ t → log s file t ≡ r → log s file (slot_of st) ≡ r
-    read_of st r is e = ap (λ (u : Slot). log s file u) is ∙ e
+    read_of : (st : Store) (r : Result (List Found) Fault) → ends_of st ≡ e → log_between s file e.head e.tail ≡ r → log s file (slot_of st) ≡ r
+    read_of st r is read = ap (λ (u : LogEnds). log_between s file u.head u.tail) is ∙ read
 
-    pub log-refused : (fault : Fault) → log s file t ≡ Err fault → IsRefused s t file fault
-    log-refused fault e st is = of_log st (Err fault) (more_of st is) (read_of st (Err fault) is e)
+    pub log-refused : (fault : Fault) → log_between s file e.head e.tail ≡ Err fault → IsRefused s e file fault
+    log-refused fault read st is = of_log st (Err fault) (more_of st is) (read_of st (Err fault) is read)
 
-    pub pages-refused : (found : List Found) (fault : Fault) (f : Finding) → log s file t ≡ Ok found → broken_in (frames_in found) ≡ Some f → fault ≡ BadStructure f → IsRefused s t file fault
+    pub pages-refused : (found : List Found) (fault : Fault) (f : Finding) → log_between s file e.head e.tail ≡ Ok found → broken_in (frames_in found) ≡ Some f → fault ≡ BadStructure f → IsRefused s e file fault
     pages-refused found fault f read broken fits st is =
         of_log st (Ok found) (more_of st is) (read_of st (Ok found) is read) ∙ of_pages st found (Some f) broken ∙ ap (λ (g : Fault). (let r : Result (Store × List ℕ) Fault = Err g in r)) (sym fits)
 
 -- ---- what is planned
 
-module _ (s : Settings) (t : Slot) (good : first_bad_field s ≡ None) (is : is_slot s t.sequence t ≡ true) where
-  slot_is : IsSlot s t.sequence t
-  slot_is = slot-is s t.sequence t is
+module _ (s : Settings) (e : LogEnds) (good : first_bad_field s ≡ None) (are : AreEnds s e) where
+  pub head-room : e.head ≤ greatest
+  head-room = (let far = are.after in let low = head-low s e.head e.tail good (omega (arith, far)) in let tail = are.tail in omega (arith, low, tail))
 
-  pub head-room : t.head ≤ greatest
-  head-room = (let size = (are_sized s good).least_size in let small = head_small s t.sequence t (omega (arith, size)) slot_is in let tail = slot_is.tail in omega (arith, small, tail))
-
-  more_in_use : t.head ≢ last_segment s t.tail → t.head < last_segment s t.tail
+  more_in_use : e.head ≢ last_segment s e.tail → e.head < last_segment s e.tail
   more_in_use more =
       let size = (are_sized s good).least_size in
-      let far = slot_is.behind in
-      let from = (split-tail s t.head t.tail (omega (arith, size)) (omega (arith, far))).from in
-      elim (cases_lt t.head (last_segment s t.tail)) [ inl k ↦ k | inr k ↦ absurd (more (omega (arith, from, k))) ]
+      let far = are.after in
+      let from = (split-tail s e.head e.tail (omega (arith, size)) (omega (arith, far))).from in
+      elim (cases_lt e.head (last_segment s e.tail)) [ inl k ↦ k | inr k ↦ absurd (more (omega (arith, from, k))) ]
 
   -- the first frame stands in the head segment, or none does
-  pub log-begins : (file : List ℕ) (found : List Found) → t.head ≢ last_segment s t.tail → log s file t ≡ Ok found → BeginsAt t.head found
+  pub log-begins : (file : List ℕ) (found : List Found) → e.head ≢ last_segment s e.tail → log_between s file e.head e.tail ≡ Ok found → BeginsAt e.head found
   log-begins file found more read =
-      let off : HeadOff s file t.head t.tail found (more_in_use more) read = head-off s file t.head t.tail found (more_in_use more) read in
-      subst (λ (fs : List Found). BeginsAt t.head fs) (sym off.all)
-      (of off.here off.rest (all_weaker (λ f. (suc t.head ≤ f.segment) × (f.segment ≤ last_segment s t.tail)) (λ f. nat_eq f.segment t.head ≡ false) (λ f h. ne_eqb f.segment t.head (λ e. let l = h.0 in omega (arith, l, e))) off.rest off.later))
+      let off : HeadOff s file e.head e.tail found (more_in_use more) read = head-off s file e.head e.tail found (more_in_use more) read in
+      subst (λ (fs : List Found). BeginsAt e.head fs) (sym off.all)
+      (of off.here off.rest (all_weaker (λ f. (suc e.head ≤ f.segment) × (f.segment ≤ last_segment s e.tail)) (λ f. nat_eq f.segment e.head ≡ false) (λ f h. ne_eqb f.segment e.head (λ same. let l = h.0 in omega (arith, l, same))) off.rest off.later))
     where
-      of : (here : List Frame) (rest : List Found) → AllByRecursion (λ f. nat_eq f.segment t.head ≡ false) rest → BeginsAt t.head (all_in t.head here ++ rest)
+      of : (here : List Frame) (rest : List Found) → AllByRecursion (λ f. nat_eq f.segment e.head ≡ false) rest → BeginsAt e.head (all_in e.head here ++ rest)
       of (f ∷ fs) rest later = inl refl
       of [] [] later = tt
       of [] (f ∷ fs) later = inr later
 
   -- the log without its first segment doesn't end in front of what is left
-  pub log-left : t.head ≢ last_segment s t.tail → suc t.head * s.seg_size < t.tail
+  pub log-left : e.head ≢ last_segment s e.tail → suc e.head * s.seg_size < e.tail
   log-left more =
       let size = (are_sized s good).least_size in
-      let far = slot_is.behind in
+      let far = are.after in
       let less = more_in_use more in
-      let split = split-tail s t.head t.tail (omega (arith, size)) (omega (arith, far)) in
+      let split = split-tail s e.head e.tail (omega (arith, size)) (omega (arith, far)) in
       let is = split.is in
       let low = split.low in
-      let whole : suc t.head * s.seg_size ≤ last_segment s t.tail * s.seg_size = mul-le-mul_right s.seg_size (omega (arith, less)) in
+      let whole : suc e.head * s.seg_size ≤ last_segment s e.tail * s.seg_size = mul-le-mul_right s.seg_size (omega (arith, less)) in
       omega (arith, whole, is, low)
 
 -- what its text is written behind, of these bytes
-abbrev pub base_in : Slot → List ℕ → Slot
-base_in t file = cleaned_slot t (slot_on_disk t.sequence file)
+abbrev pub base_in : LogEnds → List ℕ → Slot
+base_in e file = cleaned_slot e (slot_on_disk e.sequence file)
 
 -- once it was read, and the front of the disk stays
-pub base_still : (t : Slot) (on_disk u : Slot) (n : ℕ) (file now : List ℕ) → n ≡ t.sequence → on_disk ≡ slot_on_disk n file → take segments_begin now ≡ take segments_begin file → u ≡ cleaned_slot t on_disk → u ≡ base_in t now
-base_still t on_disk u n file now number read front is =
-    is ∙ ap (λ (d : Slot). cleaned_slot t d) (read ∙ ap (λ (k : ℕ). slot_on_disk k file) number ∙ sym (slot-still t.sequence file now front))
+pub base_still : (e : LogEnds) (on_disk u : Slot) (file now : List ℕ) → on_disk ≡ slot_on_disk e.sequence file → take segments_begin now ≡ take segments_begin file → u ≡ cleaned_slot e on_disk → u ≡ base_in e now
+base_still e on_disk u file now read front is = is ∙ ap (λ (d : Slot). cleaned_slot e d) (read ∙ sym (slot-still e.sequence file now front))
 
 -- ---- a clean that is refused for its tail, or done
 
 module _ (s : Settings) (file : List ℕ) (st : Store) where
-  -- of a slot
-  abbrev RefusedBy : Fault → Slot → Type 0
+  -- of a log with these ends
+  abbrev RefusedBy : Fault → LogEnds → Type 0
   RefusedBy fault u = u.head ≢ last_segment s u.tail → (found : List Found) → IsRead s u file found → next_tail s (base_in u file) (clean_text u.head found) ≡ Err fault → after_clean s st file ≡ Err fault
 
-  own_refused : (fault : Fault) → RefusedBy fault (slot_of st)
+  own_refused : (fault : Fault) → RefusedBy fault (ends_of st)
   own_refused fault more found r h =
       let text : List Frame = clean_text st.head found in
       let u : Slot = clean_slot s st file text in
@@ -185,14 +183,14 @@ module _ (s : Settings) (file : List ℕ) (st : Store) where
       ∙ commit-refused u (is_full_for_clean s st.head u.tail) (store_after st.tree u) (committed s file (spans s st.tail text) u) fault
       (ap (λ (b : Bool). admitted u b) (clean-is-flush s st.head u.tail) ∙ h)
 
-  pub tail-refused : (fault : Fault) (t : Slot) → slot_of st ≡ t → RefusedBy fault t
-  tail-refused fault t is = subst (RefusedBy fault) is (own_refused fault)
+  pub tail-refused : (fault : Fault) (e : LogEnds) → ends_of st ≡ e → RefusedBy fault e
+  tail-refused fault e is = subst (RefusedBy fault) is (own_refused fault)
 
   -- what a plan leaves of the store, and of these bytes
-  abbrev DoneBy : CommitPlan → Slot → Type 0
+  abbrev DoneBy : CommitPlan → LogEnds → Type 0
   DoneBy m u = u.head ≢ last_segment s u.tail → (p : IsClean s u file m) → after_clean s st file ≡ left (store_after st.tree m.slot) (file_with s (base_in u file) (clean_text u.head p.0) file)
 
-  pub own_done : (m : CommitPlan) → DoneBy m (slot_of st)
+  pub own_done : (m : CommitPlan) → DoneBy m (ends_of st)
   own_done m more (found, r, p) =
       let text : List Frame = clean_text st.head found in
       let u : Slot = clean_slot s st file text in
@@ -200,17 +198,17 @@ module _ (s : Settings) (file : List ℕ) (st : Store) where
       ∙ commit-admitted u (is_full_for_clean s st.head u.tail) (store_after st.tree u) (committed s file (spans s st.tail text) u) p.unspent (clean-is-flush s st.head u.tail ∙ p.free)
       ∙ ap (λ (v : Slot). left (store_after st.tree v) (committed s file (spans s st.tail text) u)) (sym p.slot)
 
-  pub clean-planned : (m : CommitPlan) (t : Slot) → slot_of st ≡ t → DoneBy m t
-  clean-planned m t is = subst (DoneBy m) is (own_done m)
+  pub clean-planned : (m : CommitPlan) (e : LogEnds) → ends_of st ≡ e → DoneBy m e
+  clean-planned m e is = subst (DoneBy m) is (own_done m)
 
 -- what is told of the plan of a commit behind this slot, which is that of the clean
-pub plan-told : (s : Settings) (t u : Slot) (file : List ℕ) (found : List Found) (old new : ℕ) (r : Result CommitPlan Fault) → t.head ≢ last_segment s t.tail → IsRead s t file found → u ≡ base_in t file
-    → MatchResult r (λ m. IsPlanned s u (clean_text t.head found) m) (λ fault. (fault ≡ NoMemory) ⊎ (next_tail s u (clean_text t.head found) ≡ Err fault))
-    → MatchResult r (λ m. IsClean s t file m) (λ fault. IsRefused s t file fault ⊎ IsLate old new fault)
-plan-told s t u file found old new (Ok m) more read is p = (found, read, subst (λ (v : Slot). IsPlanned s v (clean_text t.head found) m) is p)
-plan-told s t u file found old new (Err fault) more read is (inl memory) = inr (inl memory)
-plan-told s t u file found old new (Err fault) more read is (inr full) =
-    inl (λ st same. tail-refused s file st fault t same more found read (subst (λ (v : Slot). next_tail s v (clean_text t.head found) ≡ Err fault) is full))
+pub plan-told : (s : Settings) (e : LogEnds) (u : Slot) (file : List ℕ) (found : List Found) (old new : ℕ) (r : Result CommitPlan Fault) → e.head ≢ last_segment s e.tail → IsRead s e file found → u ≡ base_in e file
+    → MatchResult r (λ m. IsPlanned s u (clean_text e.head found) m) (λ fault. (fault ≡ NoMemory) ⊎ (next_tail s u (clean_text e.head found) ≡ Err fault))
+    → MatchResult r (λ m. IsClean s e file m) (λ fault. IsRefused s e file fault ⊎ IsLate old new fault)
+plan-told s e u file found old new (Ok m) more read is p = (found, read, subst (λ (v : Slot). IsPlanned s v (clean_text e.head found) m) is p)
+plan-told s e u file found old new (Err fault) more read is (inl memory) = inr (inl memory)
+plan-told s e u file found old new (Err fault) more read is (inr full) =
+    inl (λ st same. tail-refused s file st fault e same more found read (subst (λ (v : Slot). next_tail s v (clean_text e.head found) ≡ Err fault) is full))
 
 -- ---- what was chosen of what was read
 
@@ -222,34 +220,23 @@ IsChoice items head found r = MatchResult r (λ x. (broken_in (frames_in found) 
 abbrev pub HasSome : {X : Type 0} → (X → List (List (List ℕ))) → ℕ → List Found → Result X Fault → Type 0
 HasSome items head found r = IfOk r (λ x. (items x ≡ []) ⊎ (1 ≤ length (clean_text head found)))
 
-module _ {X : Type 0} (items : X → List (List (List ℕ))) (s : Settings) (t : Slot) (file : List ℕ) (more : t.head ≢ last_segment s t.tail) (old new : ℕ) where
+module _ {X : Type 0} (items : X → List (List (List ℕ))) (s : Settings) (e : LogEnds) (file : List ℕ) (more : e.head ≢ last_segment s e.tail) (old new : ℕ) where
   -- of the text
   abbrev IsTextOf : Result X Fault → Type 0
-  IsTextOf r = MatchResult r (λ x. IsText s t file (items x)) (λ fault. IsRefused s t file fault ⊎ IsLate old new fault)
+  IsTextOf r = MatchResult r (λ x. IsText s e file (items x)) (λ fault. IsRefused s e file fault ⊎ IsLate old new fault)
 
-  of_choice : (found : List Found) → log s file t ≡ Ok found → (r : Result X Fault) → IsChoice items t.head found r → HasSome items t.head found r → IsTextOf r
-  of_choice found read (Ok x) h some =
-      (found, record { read = read; sound = h.0 }, record { of = h.1; some = some; within = all-clean_text (λ f. is_frame s f ≡ true) t.head found (log-within s file t.head t.tail found read) })
-  of_choice found read (Err fault) (inl memory) some = inr (inl memory)
-  of_choice found read (Err fault) (inr (f, broken, fits)) some = inl (pages-refused s file t more found fault f read broken fits)
+  pub text-of_choice : (found : List Found) → log_between s file e.head e.tail ≡ Ok found → (r : Result X Fault) → IsChoice items e.head found r → HasSome items e.head found r → IsTextOf r
+  text-of_choice found read (Ok x) h some =
+      (found, record { read = read; sound = h.0 }, record { of = h.1; some = some; within = all-clean_text (λ f. is_frame s f ≡ true) e.head found (log-within s file e.head e.tail found read) })
+  text-of_choice found read (Err fault) (inl memory) some = inr (inl memory)
+  text-of_choice found read (Err fault) (inr (f, broken, fits)) some = inl (pages-refused s file e more found fault f read broken fits)
 
-  pub text-of_choice : (head : ℕ) (found : List Found) (r : Result X Fault) → head ≡ t.head → log s file t ≡ Ok found → IsChoice items head found r → HasSome items head found r → IsTextOf r
-  text-of_choice head found r same read h some =
-      of_choice found read r (subst (λ (n : ℕ). IsChoice items n found r) same h) (subst (λ (n : ℕ). HasSome items n found r) same some)
+-- a plan of a log is one of a store with that log, and of the bytes that the disk shows
+pub plan-of : (s : Settings) (e : LogEnds) (file seen : List ℕ) (m : CommitPlan) (st : Store) → ends_of st ≡ e → file ≡ seen → IsClean s e file m → IsClean s (ends_of st) seen m
+plan-of s e file seen m st same shown p = subst (λ (u : LogEnds). IsClean s u seen m) (sym same) (subst (λ (f : List ℕ). IsClean s e f m) shown p)
 
--- the head of a slot is not its last segment, in the words of the code
-pub heads-differ : (s : Settings) (h i tail u n : ℕ) → h ≡ i → tail ≡ u → n ≡ last_segment s tail → h ≢ n → i ≢ last_segment s u
-heads-differ s h i tail u n head same is other e = other (head ∙ e ∙ sym (is ∙ ap (λ (m : ℕ). last_segment s m) same))
-
-pub heads-same : (s : Settings) (h i tail u n : ℕ) → h ≡ i → tail ≡ u → n ≡ last_segment s tail → h ≡ n → i ≡ last_segment s u
-heads-same s h i tail u n head same is one = sym head ∙ one ∙ is ∙ ap (λ (m : ℕ). last_segment s m) same
-
--- a plan of a slot is one of a store with that slot, and of the bytes that the disk shows
-pub plan-of : (s : Settings) (t : Slot) (file seen : List ℕ) (m : CommitPlan) (st : Store) → slot_of st ≡ t → file ≡ seen → IsClean s t file m → IsClean s (slot_of st) seen m
-plan-of s t file seen m st same shown p = subst (λ (u : Slot). IsClean s u seen m) (sym same) (subst (λ (f : List ℕ). IsClean s t f m) shown p)
-
-pub more-of : (s : Settings) (t : Slot) (st : Store) → slot_of st ≡ t → t.head ≢ last_segment s t.tail → st.head ≢ last_segment s st.tail
-more-of s t st same more = subst (λ (u : Slot). u.head ≢ last_segment s u.tail) (sym same) more
+pub more-of : (s : Settings) (e : LogEnds) (st : Store) → ends_of st ≡ e → e.head ≢ last_segment s e.tail → st.head ≢ last_segment s st.tail
+more-of s e st same more = subst (λ (u : LogEnds). u.head ≢ last_segment s u.tail) (sym same) more
 
 -- a call failed, where none had before
 pub failed_since : (old mid new : ℕ) → mid ≡ old → HasFailed mid new → HasFailed old new

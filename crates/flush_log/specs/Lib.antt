@@ -3,6 +3,7 @@ pub mod Commit
 pub mod CommitPlan
 pub mod Crash
 pub mod Disk
+pub mod Ends
 pub mod Faults
 pub mod FlushText
 pub mod Gathering

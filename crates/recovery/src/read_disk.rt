@@ -18,6 +18,7 @@ use crate::read_bytes::read;
 use crate::read_log::read_log;
 use crew::Crew;
 use flush_log::Disk;
+use flush_log::commit::SLOTS_BEGIN;
 use flush_log::segments::disk_size;
 use flush_log::settings_block::read_settings as read_block;
 use flush_log::slot::{SLOT_SIZE, Slot, newer, read_slot};
@@ -27,9 +28,6 @@ use std::thread::Threads;
 
 // How many bytes the settings block has.
 const BLOCK_SIZE: usize = 64;
-
-// Where the slots begin on a disk.
-const SLOTS_BEGIN: u64 = 128;
 
 // The settings that the block of a disk of this length tells, where the disk has room for the segments.
 fn settings_in(block: &[u8], len: u64) -> Result<Settings, Fault>
@@ -123,6 +121,6 @@ pub(crate) fn read_frames<D: Disk>(
     ensures uncounted { IfErr result (λ fault. fault ≢ Device → D.failed disk.new ≡ D.failed disk.old) }
 {
     let mut found = LogSoFar::new(alloc);
-    read_log(rt, crew, alloc, disk, settings, slot, &mut found)?;
+    read_log(rt, crew, alloc, disk, settings, &slot.ends, &mut found)?;
     found.into_gathering()
 }

@@ -1,15 +1,15 @@
 //! The reading of a log: its segments, from the head to the tail, are handed to whatever takes them, some at a time.
 ghost use denote.Param.Send.{IsSync};
-ghost use Rattle.std.specs.Prelude.{◌≡◌, ◌≢◌, ℕ, ◌+◌, ◌-◌, ◌*◌, ◌^◌, ◌<◌, ◌≤◌, [], IsTrue, true, List, map, length, take, None, Result, Ok, IfOk, IfErr, OnOk};
+ghost use Rattle.std.specs.Prelude.{◌≡◌, ◌≢◌, ℕ, ◌+◌, ◌-◌, ◌*◌, ◌^◌, ◌<◌, ◌≤◌, [], IsTrue, List, map, length, take, None, Result, Ok, IfOk, IfErr, OnOk};
 ghost use Rattle.std.specs.List.{All};
 ghost use Rattle.keys.specs.Bytes.{Bytes};
 ghost use Rattle.keys.specs.Limits.{first_bad_field};
 ghost use Rattle.keys.specs.declared.fault.Fault as faults;
 ghost use Rattle.keys.specs.declared.fault.Fault.TheVariants.{NoMemory, Device};
 ghost use Rattle.flush_log.specs.Disk.{Kept, Same};
-ghost use Rattle.flush_log.specs.Reading.{Found, read_earlier as earlier_segments, log};
+ghost use Rattle.flush_log.specs.Ends.{AreEnds};
+ghost use Rattle.flush_log.specs.Reading.{Found, read_earlier as earlier_segments, log_between};
 ghost use Rattle.flush_log.specs.Segments.{segments_begin, disk_size, last_segment, bytes_in_use};
-ghost use Rattle.flush_log.specs.Slot.{is_slot};
 ghost use Rattle.recovery.specs.Recovered.{IsReadOf, IsLate};
 ghost use Rattle.recovery.specs.Scan.{held_segment, scanned_behind};
 
@@ -18,7 +18,7 @@ use crate::scan_segment::{End, Segment};
 use crew::Crew;
 use flush_log::Disk;
 use flush_log::segments::{last_segment, place_of_segment};
-use flush_log::slot::Slot;
+use flush_log::slot::LogEnds;
 use keys::{Fault, Settings};
 use std::alloc::Global;
 use std::thread::Threads;
@@ -50,24 +50,24 @@ pub trait LogReader {
 }
 
 // How many bytes of the last segment are in use.
-fn bytes_in_use(settings: &Settings, slot: &Slot) -> usize
+fn bytes_in_use(settings: &Settings, ends: &LogEnds) -> usize
     requires checked { first_bad_field settings.now ≡ None }
-    requires slot { is_slot settings.now slot.now.sequence slot.now ≡ true }
-    ensures same { result ≡ bytes_in_use settings.now slot.now.tail }
+    requires ends { AreEnds settings.now ends.now }
+    ensures same { result ≡ bytes_in_use settings.now ends.now.tail }
     ensures within { result ≤ settings.now.seg_size }
 {
-    let last = last_segment(settings, slot.ends.tail);
-    (slot.ends.tail - last * u64::from(settings.seg_size)) as usize
+    let last = last_segment(settings, ends.tail);
+    (ends.tail - last * u64::from(settings.seg_size)) as usize
 }
 
 // How many segments are read before a crew gets them: as many as may be, and no more than stand in front of the last one, if any do.
-fn segments_at_once(settings: &Settings, slot: &Slot) -> usize
+fn segments_at_once(settings: &Settings, ends: &LogEnds) -> usize
     requires checked { first_bad_field settings.now ≡ None }
-    requires slot { is_slot settings.now slot.now.sequence slot.now ≡ true }
+    requires ends { AreEnds settings.now ends.now }
     ensures some { 0 < result }
     ensures bounded { result * settings.now.seg_size ≤ 4194304 }
 {
-    let earlier = last_segment(settings, slot.ends.tail) - slot.ends.head;
+    let earlier = last_segment(settings, ends.tail) - ends.head;
     let most = BYTES_AT_ONCE / u64::from(settings.seg_size);
     most.min(earlier.max(1)) as usize
 }
@@ -116,17 +116,17 @@ fn read_last<'b, D: Disk>(
     alloc: Global,
     disk: &mut D,
     settings: &Settings,
-    slot: &Slot,
+    ends: &LogEnds,
     buf: &'b mut [u8],
 ) -> Result<Vec<Segment<'b>>, Fault>
     requires checked { first_bad_field settings.now ≡ None }
     requires within { disk_size settings.now ≤ (D.view disk.old).size }
-    requires slot { is_slot settings.now slot.now.sequence slot.now ≡ true }
+    requires ends { AreEnds settings.now ends.now }
     requires room { settings.now.seg_size ≤ length buf.old }
     ensures read { (file : Bytes) → IsReadOf (D.view disk.old) file →
         (now : Bytes) × IsReadOf (D.view disk.new) now × (take segments_begin now ≡ take segments_begin file) × IfOk result (λ segments.
-        scanned_behind settings.now (earlier_segments settings.now file slot.now.head (last_segment settings.now slot.now.tail - slot.now.head))
-        (map held_segment segments.items) ≡ log settings.now now slot.now) }
+        scanned_behind settings.now (earlier_segments settings.now file ends.now.head (last_segment settings.now ends.now.tail - ends.now.head))
+        (map held_segment segments.items) ≡ log_between settings.now now ends.now.head ends.now.tail) }
     ensures short { IfOk result (λ segments. All (λ g. length (held_segment g).bytes < 2 ^ 32) segments.items) }
     ensures err { IfErr result (IsLate (D.failed disk.old) (D.failed disk.new)) }
     ensures kept { Kept (D.view disk.old) (D.view disk.new) }
@@ -134,8 +134,8 @@ fn read_last<'b, D: Disk>(
     ensures counted { OnOk result (D.failed disk.new ≡ D.failed disk.old) }
     ensures uncounted { IfErr result (λ fault. fault ≢ Device → D.failed disk.new ≡ D.failed disk.old) }
 {
-    let number = last_segment(settings, slot.ends.tail);
-    let bytes = &mut buf[..bytes_in_use(settings, slot)];
+    let number = last_segment(settings, ends.tail);
+    let bytes = &mut buf[..bytes_in_use(settings, ends)];
     let mut segments = Vec::with_capacity(alloc, 1)?;
     read(disk, place_of_segment(settings, number), bytes)?;
     segments.push_reserved(Segment {
@@ -152,17 +152,17 @@ fn read_earlier<D: Disk, R: LogReader>(
     crew: Crew,
     disk: &mut D,
     settings: &Settings,
-    slot: &Slot,
+    ends: &LogEnds,
     buffer: &mut Vec<u8>,
     reader: &mut R,
 ) -> Result<(), Fault>
     requires checked { first_bad_field settings.now ≡ None }
     requires within { disk_size settings.now ≤ (D.view disk.old).size }
-    requires slot { is_slot settings.now slot.now.sequence slot.now ≡ true }
+    requires ends { AreEnds settings.now ends.now }
     requires room { settings.now.seg_size ≤ length buffer.old.items }
     ensures read { (file : Bytes) → IsReadOf (D.view disk.old) file → R.has_read reader.old (Ok []) →
         (now : Bytes) × IsReadOf (D.view disk.new) now × (take segments_begin now ≡ take segments_begin file)
-        × OnOk result (R.has_read reader.new (earlier_segments settings.now now slot.now.head (last_segment settings.now slot.now.tail - slot.now.head))) }
+        × OnOk result (R.has_read reader.new (earlier_segments settings.now now ends.now.head (last_segment settings.now ends.now.tail - ends.now.head))) }
     ensures room { length buffer.new.items ≡ length buffer.old.items }
     ensures err { IfErr result (IsLate (D.failed disk.old) (D.failed disk.new)) }
     ensures kept { Kept (D.view disk.old) (D.view disk.new) }
@@ -173,8 +173,8 @@ fn read_earlier<D: Disk, R: LogReader>(
     let alloc = *buffer.allocator();
     let size = settings.seg_size as usize;
     let at_once = (buffer.len() / size) as u64;
-    let last = last_segment(settings, slot.ends.tail);
-    let mut first = slot.ends.head;
+    let last = last_segment(settings, ends.tail);
+    let mut first = ends.head;
     while first < last {
         let count = at_once.min(last - first) as usize;
         let buf = &mut buffer[..count * size];
@@ -191,17 +191,17 @@ fn read_segments<D: Disk, R: LogReader>(
     crew: Crew,
     disk: &mut D,
     settings: &Settings,
-    slot: &Slot,
+    ends: &LogEnds,
     buffer: &mut Vec<u8>,
     reader: &mut R,
 ) -> Result<(), Fault>
     requires checked { first_bad_field settings.now ≡ None }
     requires within { disk_size settings.now ≤ (D.view disk.old).size }
-    requires slot { is_slot settings.now slot.now.sequence slot.now ≡ true }
+    requires ends { AreEnds settings.now ends.now }
     requires room { settings.now.seg_size ≤ length buffer.old.items }
     ensures read { (file : Bytes) → IsReadOf (D.view disk.old) file → R.has_read reader.old (Ok []) →
         (now : Bytes) × IsReadOf (D.view disk.new) now × (take segments_begin now ≡ take segments_begin file)
-        × OnOk result (R.has_read reader.new (log settings.now now slot.now)) }
+        × OnOk result (R.has_read reader.new (log_between settings.now now ends.now.head ends.now.tail)) }
     ensures err { IfErr result (IsLate (D.failed disk.old) (D.failed disk.new)) }
     ensures kept { Kept (D.view disk.old) (D.view disk.new) }
     ensures same { IsTrue (D.view disk.old).is_honest → Same (D.view disk.old) (D.view disk.new) }
@@ -209,12 +209,12 @@ fn read_segments<D: Disk, R: LogReader>(
     ensures uncounted { IfErr result (λ fault. fault ≢ Device → D.failed disk.new ≡ D.failed disk.old) }
 {
     let alloc = *buffer.allocator();
-    read_earlier(rt, crew, disk, settings, slot, buffer, reader)?;
-    let segments = read_last(alloc, disk, settings, slot, buffer)?;
+    read_earlier(rt, crew, disk, settings, ends, buffer, reader)?;
+    let segments = read_last(alloc, disk, settings, ends, buffer)?;
     reader.take(rt, crew, settings, segments)
 }
 
-/// Reads the log between the slot's head and tail, and hands all its segments to the reader, which then has read what the log
+/// Reads the log between its ends, and hands all its segments to the reader, which then has read what the log
 /// holds, or its first fault: also the segments behind one that has a fault are read. It takes memory for the bytes of some segments,
 /// at most 4 MiB whatever the crew.
 ///
@@ -226,24 +226,24 @@ pub fn read_log<D: Disk, R: LogReader>(
     alloc: Global,
     disk: &mut D,
     settings: &Settings,
-    slot: &Slot,
+    ends: &LogEnds,
     reader: &mut R,
 ) -> Result<(), Fault>
     requires checked { first_bad_field settings.now ≡ None }
     requires within { disk_size settings.now ≤ (D.view disk.old).size }
-    requires slot { is_slot settings.now slot.now.sequence slot.now ≡ true }
+    requires ends { AreEnds settings.now ends.now }
     // Of bytes that were read, which are those from before in front of the segments, and on an honest disk what a read gives.
     ensures read { (file : Bytes) → IsReadOf (D.view disk.old) file → R.has_read reader.old (Ok []) →
         (now : Bytes) × IsReadOf (D.view disk.new) now × (take segments_begin now ≡ take segments_begin file)
-        × OnOk result (R.has_read reader.new (log settings.now now slot.now)) }
+        × OnOk result (R.has_read reader.new (log_between settings.now now ends.now.head ends.now.tail)) }
     ensures err { IfErr result (IsLate (D.failed disk.old) (D.failed disk.new)) }
     ensures kept { Kept (D.view disk.old) (D.view disk.new) }
     ensures same { IsTrue (D.view disk.old).is_honest → Same (D.view disk.old) (D.view disk.new) }
     ensures counted { OnOk result (D.failed disk.new ≡ D.failed disk.old) }
     ensures uncounted { IfErr result (λ fault. fault ≢ Device → D.failed disk.new ≡ D.failed disk.old) }
 {
-    let at_once = segments_at_once(settings, slot);
+    let at_once = segments_at_once(settings, ends);
     let mut buffer = Vec::new(alloc);
     buffer.resize(at_once * settings.seg_size as usize, 0)?;
-    read_segments(rt, crew, disk, settings, slot, &mut buffer, reader)
+    read_segments(rt, crew, disk, settings, ends, &mut buffer, reader)
 }

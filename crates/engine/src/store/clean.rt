@@ -16,7 +16,6 @@ use cleaner::clean::clean;
 use cleaner::laws::a_clean_keeps_the_store;
 use crew::Crew;
 use flush_log::disk::Disk;
-use flush_log::slot::Slot;
 use keys::Fault;
 use std::thread::Threads;
 
@@ -76,12 +75,7 @@ impl<D: Disk> Store<D> {
             return Err(Fault::Failed);
         }
         admit_crew(crew)?;
-        let slot = Slot {
-            ends: self.log,
-            root: self.tree.root(),
-            height: self.tree.height(),
-        };
-        match clean(rt, crew, self.alloc, &mut self.disk, &self.settings, &slot) {
+        match clean(rt, crew, self.alloc, &mut self.disk, &self.settings, &self.log) {
             Ok(committed) => {
                 self.log = committed.ends;
                 Ok(self.log.head)

@@ -1,7 +1,5 @@
-use Rattle.std.proofs.Common.{◌≡◌, ◌≢◌, ◌∙◌, inr, ap}
+use Rattle.std.proofs.Common.{◌≡◌, ◌≢◌, ◌∙◌, inr}
 use Rattle.keys.specs.declared.fault.Fault.TheVariants.{Device}
-use Rattle.flush_log.specs.Slot.{Slot}
-use Rattle.flush_log.proofs.SlotLemmas.{slot-is}
 use Rattle.recovery.proofs.ReadBytes.{first_read, kept_then, handed_on}
 use Rattle.cleaner.specs.CleanText.{clean_text}
 use Rattle.cleaner.proofs.PlanLemmas.{same_on, read_before, err_on, since, head-room, log-left, base_still, plan-told}
@@ -35,7 +33,7 @@ returns-in_err-images-clause-read g c =
       now,
       read_before old new now (kept_then old mid new c.in_ok-on_disk.ensures.kept c.in_err-images.ensures.kept) (returns-in_err-images-clause-same g c) bytes,
       handed_on c.from_residual-in_err-images.result _ _ c.in_err-images.field-0.0 c.from_residual-in_err-images.ensures.1
-          (since c.args.settings.now c.args.slot.now now (failed c.args.disk.now) (failed c.read_slot_on_disk.new.disk) (failed c.read_text.new.disk) c.in_err-images.field-0.0 c.in_ok-on_disk.ensures.counted told),
+          (since c.args.settings.now c.args.ends.now now (failed c.args.disk.now) (failed c.read_slot_on_disk.new.disk) (failed c.read_text.new.disk) c.in_err-images.field-0.0 c.in_ok-on_disk.ensures.counted told),
     )
 
 pub returns-in_err-images-clause-uncounted : goal.returns-in_err-images-clause-uncounted
@@ -45,22 +43,21 @@ returns-in_err-images-clause-uncounted g c =
     (λ other. c.in_err-images.ensures.uncounted other ∙ c.in_ok-on_disk.ensures.counted)
 
 pub cleaned_slot-behind-requires : goal.cleaned_slot-behind-requires
-cleaned_slot-behind-requires g c = head-room c.args.settings.now c.args.slot.now c.requires.checked c.requires.slot
+cleaned_slot-behind-requires g c = head-room c.args.settings.now c.args.ends.now c.requires.checked c.requires.ends
 
 pub plan-requires-clause-numbers : goal.plan-requires-clause-numbers
 plan-requires-clause-numbers g c =
-    let is = slot-is c.args.settings.now c.args.slot.now.sequence c.args.slot.now c.requires.slot in
-    rw c.cleaned_slot-behind.ensures (is.sequence.1, is.tail)
+    rw c.cleaned_slot-behind.ensures (c.requires.ends.number, c.requires.ends.tail)
 
 pub plan-requires-clause-log : goal.plan-requires-clause-log
-plan-requires-clause-log g c = rw c.cleaned_slot-behind.ensures (log-left c.args.settings.now c.args.slot.now c.requires.checked c.requires.slot c.requires.more)
+plan-requires-clause-log g c = rw c.cleaned_slot-behind.ensures (log-left c.args.settings.now c.args.ends.now c.requires.checked c.requires.ends c.requires.more)
 
 pub plan-requires-clause-text : goal.plan-requires-clause-text
 plan-requires-clause-text g c =
     let (file, is) = first_read (g.D.Disk.view c.args.disk.now) (g.met.D.Disk.lawful c.args.disk.now) in
     let (next, then, slot) = c.in_ok-on_disk.ensures.read file is in
     let (now, bytes, front, text) = c.in_ok-images.ensures.read next then in
-    (clean_text c.args.slot.now.head text.0, text.2)
+    (clean_text c.args.ends.now.head text.0, text.2)
 
 pub returns-clause-same : goal.returns-clause-same
 returns-clause-same g c =
@@ -75,11 +72,11 @@ returns-clause-read g c =
     let mid = view c.read_slot_on_disk.new.disk in
     let new = view c.read_text.new.disk in
     let s = c.args.settings.now in
-    let t = c.args.slot.now in
+    let t = c.args.ends.now in
     let (file, is) = first_read old (g.met.D.Disk.lawful c.args.disk.now) in
     let (next, then, slot) = c.in_ok-on_disk.ensures.read file is in
     let (now, bytes, front, text) = c.in_ok-images.ensures.read next then in
-    let behind = base_still t _ _ _ next now (ap (λ (u : Slot). u.sequence) c.slot.view_is) slot front c.cleaned_slot-behind.ensures in (
+    let behind = base_still t _ _ next now slot front c.cleaned_slot-behind.ensures in (
       now,
       read_before old new now (kept_then old mid new c.in_ok-on_disk.ensures.kept c.in_ok-images.ensures.kept) (returns-clause-same g c) bytes,
       plan-told s t _ now text.0 (failed c.args.disk.now) (failed c.read_text.new.disk) c.plan.result c.requires.more text.1 behind (c.plan.ensures (clean_text t.head text.0) text.2),

@@ -1,6 +1,6 @@
 use Rattle.std.proofs.Common.{refl, inl}
 use Rattle.keys.specs.declared.fault.Fault.TheVariants.{NoMemory}
-use Rattle.flush_log.specs.Reading.{log}
+use Rattle.flush_log.specs.Reading.{log_between}
 use Rattle.recovery.specs.Recovered.{IsLate}
 use Rattle.recovery.proofs.ReadBytes.{err_on, not_ok, uncounted_by}
 use Rattle.recovery.proofs.read_log.read_log.Goals as goal
@@ -10,7 +10,7 @@ returns-in_err-resize-clause-read g c file is none = (
   file,
   is,
   refl,
-  not_ok c.from_residual.result (g.R.LogReader.has_read c.args.reader.now (log c.args.settings.now file c.args.slot.now)) NoMemory c.from_residual.ensures.1,
+  not_ok c.from_residual.result (g.R.LogReader.has_read c.args.reader.now (log_between c.args.settings.now file c.args.ends.now.head c.args.ends.now.tail)) NoMemory c.from_residual.ensures.1,
 )
 
 pub returns-in_err-resize-clause-err : goal.returns-in_err-resize-clause-err
