@@ -7,24 +7,17 @@ use Rattle.std.proofs.lemmas.List.Folds.{list_any-append}
 use Rattle.frame_codec.specs.Frame.{Content, Frame}
 use Rattle.frame_codec.specs.Frame.Content.{FullLeaf, DeltaLeaf, FullIndex, DeltaIndex, Free}
 use Rattle.flush_log.specs.Reading.{Found}
+use Rattle.recovery.specs.Gathered.{contents_in}
 use Rattle.recovery.specs.PageByLog.{is_base, is_start, from_last, continued, told_page, page_by_log, is_broken}
 use Rattle.recovery.specs.PageByLog.InLog.{Missing, Broken}
 use Rattle.recovery.specs.StoreOfDisk.{frames_in}
 use Rattle.recovery.proofs.BrokenLemmas.{broken-stays, missing-breaks}
+use Rattle.recovery.proofs.KeptLemmas.{said, starts}
+use Rattle.recovery.proofs.KeptPages.{contents_of_frames}
 use Rattle.recovery.proofs.PartLemmas.{IsPart, from_last-none, from_last-behind, from_last-more, from_last-at, from_last-map, from_last-is, from_last-all, from_last-some, none-append, any-map}
 use Rattle.cleaner.specs.CleanText.{carried}
 
 -- ---- one pid
-
--- the content of what was found
-abbrev pub said : Found → Content
-said f = f.frame.content
-
-abbrev pub starts : Found → Bool
-starts f = is_start f.frame.content
-
-abbrev pub said_all : List Found → List Content
-said_all fs = map (λ (f : Found). f.frame.content) fs
 
 -- behind a free frame there is nothing, unless it is finding 1
 free_alone : (cs : List Content) → is_broken (told_page (Free ∷ cs)) ≡ false → cs ≡ []
@@ -54,16 +47,12 @@ carried_all head f fs e h = rw e (rw h refl)
 carried_free : (head : ℕ) (f : Found) (fs : List Found) → nat_eq f.segment head ≡ true → is_base f.frame.content ≡ false → carried head (f ∷ fs) ≡ []
 carried_free head f fs e h = rw e (rw h refl)
 
-pub contents_in : (fs : List Found) → map (λ (f : Frame). f.content) (frames_in fs) ≡ said_all fs
-contents_in [] = refl
-contents_in (f ∷ fs) = ap (λ (cs : List Content). f.frame.content ∷ cs) (contents_in fs)
-
 missing : (cs : List Content) → list_any is_start cs ≡ false → page_by_log cs ≡ Missing
 missing cs e = ap told_page (from_last-none is_start cs e)
 
 -- of a pid: what stands in the head segment, and what stands behind it
 module _ (head : ℕ) (hs ts : List Found) (within : AllByRecursion (λ f. nat_eq f.segment head ≡ true) hs) (behind : AllByRecursion (λ f. nat_eq f.segment head ≡ false) ts)
-    (sound : is_broken (page_by_log (said_all (hs ++ ts))) ≡ false) where
+    (sound : is_broken (page_by_log (contents_in (hs ++ ts))) ≡ false) where
   abbrev part : List Found
   part = from_last starts (hs ++ ts)
 
@@ -72,47 +61,47 @@ module _ (head : ℕ) (hs ts : List Found) (within : AllByRecursion (λ f. nat_e
 
   -- what the log says of it, before and after
   abbrev Same : Type 0
-  Same = page_by_log (said_all ts ++ carried_contents part) ≡ page_by_log (said_all (hs ++ ts))
+  Same = page_by_log (contents_in ts ++ carried_contents part) ≡ page_by_log (contents_in (hs ++ ts))
 
-  before_is : page_by_log (said_all (hs ++ ts)) ≡ told_page (said_all part)
+  before_is : page_by_log (contents_in (hs ++ ts)) ≡ told_page (contents_in part)
   before_is = ap told_page (from_last-map said is_start (hs ++ ts))
 
   starts_behind : list_any starts ts ≡ true → Same
   starts_behind e =
       let later : part ≡ from_last starts ts = from_last-behind starts hs ts e in
       let none : carried head part ≡ [] = ap (carried head) later ∙ carried_none head (from_last starts ts) (from_last-all starts (λ f. nat_eq f.segment head ≡ false) ts behind) in
-      ap (λ (fs : List Frame). page_by_log (said_all ts ++ map (λ (f : Frame). f.content) fs)) none
-      ∙ ap page_by_log (append-nil (said_all ts))
-      ∙ ap told_page (from_last-map said is_start ts ∙ ap said_all (sym later))
+      ap (λ (fs : List Frame). page_by_log (contents_in ts ++ map (λ (f : Frame). f.content) fs)) none
+      ∙ ap page_by_log (append-nil (contents_in ts))
+      ∙ ap told_page (from_last-map said is_start ts ∙ ap contents_in (sym later))
       ∙ sym before_is
 
   no_start : list_any starts ts ≡ false → list_any starts hs ≡ false → Same
   no_start e f =
       let none : part ≡ [] = from_last-none starts (hs ++ ts) (list_any-append starts hs ts ∙ or_from (list_any starts hs) (list_any starts ts) f e) in
-      ap (λ (fs : List Found). page_by_log (said_all ts ++ carried_contents fs)) none
-      ∙ ap page_by_log (append-nil (said_all ts))
-      ∙ missing (said_all ts) (any-map said is_start ts ∙ e)
-      ∙ ap (λ (fs : List Found). told_page (said_all fs)) (sym none)
+      ap (λ (fs : List Found). page_by_log (contents_in ts ++ carried_contents fs)) none
+      ∙ ap page_by_log (append-nil (contents_in ts))
+      ∙ missing (contents_in ts) (any-map said is_start ts ∙ e)
+      ∙ ap (λ (fs : List Found). told_page (contents_in fs)) (sym none)
       ∙ sym before_is
 
   -- the part begins in the head segment
   of_part : (y : Found) (ys : List Found) → part ≡ y ∷ ys → is_start y.frame.content ≡ true → list_any starts ys ≡ false → nat_eq y.segment head ≡ true → list_any starts ts ≡ false
       → (b : Bool) → is_base y.frame.content ≡ b → Same
   of_part y ys e s n h none true base =
-      ap (λ (fs : List Found). page_by_log (said_all ts ++ carried_contents fs)) e
-      ∙ ap (λ (fs : List Frame). page_by_log (said_all ts ++ map (λ (f : Frame). f.content) fs)) (carried_all head y ys h base)
-      ∙ ap (λ (cs : List Content). page_by_log (said_all ts ++ cs)) (contents_in (y ∷ ys))
-      ∙ ap told_page (from_last-at is_start (said_all ts) (said y) (said_all ys) s (any-map said is_start ys ∙ n))
-      ∙ ap (λ (fs : List Found). told_page (said_all fs)) (sym e)
+      ap (λ (fs : List Found). page_by_log (contents_in ts ++ carried_contents fs)) e
+      ∙ ap (λ (fs : List Frame). page_by_log (contents_in ts ++ map (λ (f : Frame). f.content) fs)) (carried_all head y ys h base)
+      ∙ ap (λ (cs : List Content). page_by_log (contents_in ts ++ cs)) (contents_of_frames (y ∷ ys))
+      ∙ ap told_page (from_last-at is_start (contents_in ts) (said y) (contents_in ys) s (any-map said is_start ys ∙ n))
+      ∙ ap (λ (fs : List Found). told_page (contents_in fs)) (sym e)
       ∙ sym before_is
   of_part y ys e s n h none false base =
       let free : said y ≡ Free = free_or_base (said y) s base in
-      let is : page_by_log (said_all (hs ++ ts)) ≡ told_page (Free ∷ said_all ys) = before_is ∙ ap (λ (fs : List Found). told_page (said_all fs)) e ∙ ap (λ (c : Content). told_page (c ∷ said_all ys)) free in
-      let alone : said_all ys ≡ [] = free_alone (said_all ys) (ap is_broken (sym is) ∙ sound) in
-      ap (λ (fs : List Found). page_by_log (said_all ts ++ carried_contents fs)) e
-      ∙ ap (λ (fs : List Frame). page_by_log (said_all ts ++ map (λ (f : Frame). f.content) fs)) (carried_free head y ys h base)
-      ∙ ap page_by_log (append-nil (said_all ts))
-      ∙ missing (said_all ts) (any-map said is_start ts ∙ none)
+      let is : page_by_log (contents_in (hs ++ ts)) ≡ told_page (Free ∷ contents_in ys) = before_is ∙ ap (λ (fs : List Found). told_page (contents_in fs)) e ∙ ap (λ (c : Content). told_page (c ∷ contents_in ys)) free in
+      let alone : contents_in ys ≡ [] = free_alone (contents_in ys) (ap is_broken (sym is) ∙ sound) in
+      ap (λ (fs : List Found). page_by_log (contents_in ts ++ carried_contents fs)) e
+      ∙ ap (λ (fs : List Frame). page_by_log (contents_in ts ++ map (λ (f : Frame). f.content) fs)) (carried_free head y ys h base)
+      ∙ ap page_by_log (append-nil (contents_in ts))
+      ∙ missing (contents_in ts) (any-map said is_start ts ∙ none)
       ∙ ap (λ (cs : List Content). told_page (Free ∷ cs)) (sym alone)
       ∙ sym is
 

@@ -1,7 +1,7 @@
 -- The pages of a log are the same once the head segment is taken off and what lives in it stands at the end.
 use Rattle.std.specs.Prelude.{◌≡◌, ℕ, Bool, true, false, cond, ◌&&◌, nat_eq, List, [], ◌∷◌, ◌++◌, map, flat_map, None}
 use Rattle.std.proofs.Common.{refl, sym, ap, ◌∙◌}
-use Rattle.std.specs.List.{AllByRecursion, filter}
+use Rattle.std.specs.List.{AllByRecursion}
 use Rattle.std.proofs.lemmas.Bool.{eqb-true}
 use Rattle.index_page.proofs.ListLemmas.{all-append, all-filter}
 use Rattle.mapping.specs.FreshPids.{is_among}
@@ -10,34 +10,17 @@ use Rattle.mapping.proofs.SameTable.{same_table}
 use Rattle.frame_codec.specs.Frame.{Content, Frame}
 use Rattle.flush_log.specs.Reading.{Found}
 use Rattle.recovery.specs.LogPages.{contents_of, in_log, pids_of, pages_of, broken_in}
+use Rattle.recovery.specs.Gathered.{telling, contents_in}
 use Rattle.recovery.specs.PageByLog.{is_base, from_last, page_by_log, page_in, is_broken}
 use Rattle.recovery.specs.StoreOfDisk.{frames_in}
+use Rattle.recovery.proofs.KeptLemmas.{starts, of_pid, of_pid-append, contents-found}
 use Rattle.recovery.proofs.PagesLemmas.{pids, contents-append, among-pids_of, none_of, page_at-pages_of, rising-pages_of, none_broken, not_broken}
 use Rattle.recovery.proofs.PartLemmas.{from_last-all}
 use Rattle.recovery.proofs.TextLemmas.{turned, made-under}
-use Rattle.cleaner.specs.CleanText.{telling, carried, clean_text}
-use Rattle.cleaner.proofs.CarryLemmas.{starts, said_all, same-told}
+use Rattle.cleaner.specs.CleanText.{carried, clean_text}
+use Rattle.cleaner.proofs.CarryLemmas.{same-told}
 
 -- ---- what was found of a pid
-
-abbrev pub of_pid : ℕ → List Found → List Found
-of_pid pid found = filter (λ f. nat_eq f.frame.pid pid) found
-
-contents_by : (b : Bool) (f : Found) (fs : List Frame) (gs : List Found) → map (λ (g : Frame). g.content) fs ≡ said_all gs → map (λ (g : Frame). g.content) (cond b (f.frame ∷ fs) fs) ≡ said_all (cond b (f ∷ gs) gs)
-contents_by true f fs gs e = ap (λ (cs : List Content). f.frame.content ∷ cs) e
-contents_by false f fs gs e = e
-
-pub contents-found : (pid : ℕ) (found : List Found) → contents_of pid (frames_in found) ≡ said_all (of_pid pid found)
-contents-found pid [] = refl
-contents-found pid (f ∷ fs) = contents_by (nat_eq f.frame.pid pid) f (filter (λ g. nat_eq g.pid pid) (frames_in fs)) (of_pid pid fs) (contents-found pid fs)
-
-filter_by : (b : Bool) (f : Found) (xs ys zs : List Found) → xs ≡ ys ++ zs → cond b (f ∷ xs) xs ≡ cond b (f ∷ ys) ys ++ zs
-filter_by true f xs ys zs e = ap (λ (x : List Found). f ∷ x) e
-filter_by false f xs ys zs e = e
-
-pub of_pid-append : (pid : ℕ) (xs ys : List Found) → of_pid pid (xs ++ ys) ≡ of_pid pid xs ++ of_pid pid ys
-of_pid-append pid [] ys = refl
-of_pid-append pid (x ∷ xs) ys = filter_by (nat_eq x.frame.pid pid) x (of_pid pid (xs ++ ys)) (of_pid pid xs) (of_pid pid ys) (of_pid-append pid xs ys)
 
 own_by : (b : Bool) (pid : ℕ) (f : Found) (fs : List Found) → nat_eq f.frame.pid pid ≡ b → AllByRecursion (λ g. nat_eq g.frame.pid pid ≡ true) fs → AllByRecursion (λ g. nat_eq g.frame.pid pid ≡ true) (cond b (f ∷ fs) fs)
 own_by true pid f fs e a = (e, a)
@@ -90,7 +73,7 @@ module _ (head : ℕ) (found : List Found) where
   own_carried n pid =
       of_each n pid (carried_of n) (all-carried (λ f. nat_eq f.pid n ≡ true) head (telling n found) (frames_own n (telling n found) (from_last-all starts (λ f. nat_eq f.frame.pid n ≡ true) (of_pid n found) (own n found))))
 
-  nil_from : (xs : List Found) → said_all xs ≡ [] → xs ≡ []
+  nil_from : (xs : List Found) → contents_in xs ≡ [] → xs ≡ []
   nil_from [] e = refl
   nil_from (x ∷ xs) e = absurd (cc)
 
@@ -118,11 +101,11 @@ module _ (head : ℕ) (hs ts : List Found) (within : AllByRecursion (λ f. nat_e
       let hs' : List Found = of_pid pid hs in
       let ts' : List Found = of_pid pid ts in
       let all : of_pid pid (hs ++ ts) ≡ hs' ++ ts' = of_pid-append pid hs ts in
-      let whole : contents_of pid (frames_in (hs ++ ts)) ≡ said_all (hs' ++ ts') = contents-found pid (hs ++ ts) ∙ ap said_all all in
+      let whole : contents_of pid (frames_in (hs ++ ts)) ≡ contents_in (hs' ++ ts') = contents-found pid (hs ++ ts) ∙ ap contents_in all in
       ap page_by_log (contents-append pid (frames_in ts) (clean_text head (hs ++ ts)))
       ∙ ap (λ (cs : List Content). page_by_log (cs ++ contents_of pid (clean_text head (hs ++ ts)))) (contents-found pid ts)
-      ∙ ap (λ (cs : List Content). page_by_log (said_all ts' ++ cs)) (text-of_pid head (hs ++ ts) pid)
-      ∙ ap (λ (fs : List Found). page_by_log (said_all ts' ++ map (λ (f : Frame). f.content) (carried head (from_last starts fs)))) all
+      ∙ ap (λ (cs : List Content). page_by_log (contents_in ts' ++ cs)) (text-of_pid head (hs ++ ts) pid)
+      ∙ ap (λ (fs : List Found). page_by_log (contents_in ts' ++ map (λ (f : Frame). f.content) (carried head (from_last starts fs)))) all
       ∙ same-told head hs' ts'
       (all-filter (λ f. nat_eq f.segment head ≡ true) (λ f. nat_eq f.frame.pid pid) hs within)
       (all-filter (λ f. nat_eq f.segment head ≡ false) (λ f. nat_eq f.frame.pid pid) ts behind)

@@ -5,6 +5,4 @@ pub mod CleanCrash
 mod CleanLemmas
 mod CleanRows
 mod DoneLemmas
-mod KeptLemmas
 mod PlanLemmas
-mod SkimLemmas

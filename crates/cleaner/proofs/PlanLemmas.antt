@@ -1,45 +1,48 @@
 -- What is known of a clean that is planned, or refused.
-use Rattle.std.specs.Prelude.{◌≡◌, ◌≢◌, ◌⊎◌, ℕ, suc, ◌+◌, ◌<◌, ◌≤◌, Bool, true, false, nat_eq, nat_lt, if◌then◌else◌, IsTrue, List, [], ◌∷◌, ◌++◌, length, take, drop, None, Option, Some, Result, Ok, Err, MatchResult, IfOk, IfErr, IsErrAnd}
+use Rattle.std.specs.Prelude.{◌≡◌, ◌≢◌, ◌⊎◌, ℕ, suc, ◌+◌, ◌*◌, ◌<◌, ◌≤◌, Bool, true, false, nat_eq, if◌then◌else◌, IsTrue, List, [], ◌∷◌, ◌++◌, length, take, drop, None, Option, Some, Result, Ok, Err, MatchResult, IfOk, IfErr, IsErrAnd}
 use Rattle.std.proofs.Common.{refl, sym, ap, ◌∙◌, arith, subst, inl, inr}
 use Rattle.std.specs.List.{AllByRecursion}
-use Rattle.std.proofs.lemmas.Bool.{cases_lt, ne_eqb, or_parts, ltb-false, eq-eqb}
+use Rattle.std.proofs.Math.Nat.{mul-le-mul_right}
+use Rattle.std.proofs.lemmas.Bool.{cases_lt, ne_eqb, eq-eqb}
 use Rattle.std.proofs.lemmas.List.{drop-take, take-take}
 use Rattle.keys.specs.Limits.{first_bad_field}
 use Rattle.keys.specs.declared.fault.Fault.{Fault}
-use Rattle.keys.specs.declared.fault.Fault.TheVariants.{NoMemory, BadStructure, NothingToClean, Spent, Full}
+use Rattle.keys.specs.declared.fault.Fault.TheVariants.{NoMemory, BadStructure, NothingToClean}
 use Rattle.keys.specs.declared.settings.Settings.{Settings}
 use Rattle.keys.specs.Results.{and_then}
 use Rattle.index_page.proofs.ListLemmas.{all_weaker}
 use Rattle.mapping.specs.Finding.{Finding}
 use Rattle.mapping.specs.Tree.{Store}
 use Rattle.frame_codec.specs.Frame.{Frame, is_frame}
-use Rattle.flush_log.specs.AfterFlush.{slot_of, is_spent, store_after}
-use Rattle.flush_log.specs.Commit.{AreWithin, committed}
+use Rattle.flush_log.specs.AfterFlush.{slot_of, store_after}
+use Rattle.flush_log.specs.Commit.{committed}
+use Rattle.flush_log.specs.CommitPlan.{CommitPlan, IsPlanned, next_tail, file_with}
 use Rattle.flush_log.specs.Disk.{View, Kept, Same, HasFailed}
-use Rattle.flush_log.specs.Images.{AreOfText, FitSegments, admitted, frames_in as frames_of_images}
-use Rattle.flush_log.specs.Layout.{tail_after, spans, is_full_for_clean}
+use Rattle.flush_log.specs.Ends.{ends_of, AreEnds}
+use Rattle.flush_log.specs.Images.{AreOfText, admitted}
+use Rattle.flush_log.specs.Layout.{spans, is_full_for_clean}
 use Rattle.flush_log.specs.Overlay.{overlay}
-use Rattle.flush_log.specs.Reading.{Found, all_in, log}
-use Rattle.flush_log.specs.Segments.{segments_begin, last_segment, disk_size}
-use Rattle.flush_log.specs.Slot.{Slot, greatest, slot_place, slot_in, is_slot}
+use Rattle.flush_log.specs.Reading.{Found, all_in, log_between, log}
+use Rattle.flush_log.specs.Segments.{segments_begin, last_segment}
+use Rattle.flush_log.specs.Slot.{Slot, greatest, slot_place, slot_in}
+use Rattle.flush_log.specs.declared.slot.LogEnds.{LogEnds}
+use Rattle.flush_log.proofs.AdmitLemmas.{commit-refused, commit-admitted}
 use Rattle.flush_log.proofs.CommitLemmas.{slot_low}
 use Rattle.flush_log.proofs.FitLemmas.{are_sized}
 use Rattle.flush_log.proofs.HeadLemmas.{HeadOff, head-off}
-use Rattle.flush_log.proofs.HideLemmas.{text-inside}
 use Rattle.flush_log.proofs.LayoutLemmas.{split-tail}
 use Rattle.flush_log.proofs.OverlayLemmas.{overlay-part}
-use Rattle.flush_log.proofs.ReachLemmas.{text-fits}
-use Rattle.flush_log.proofs.SlotLemmas.{IsSlot, slot-is, head_small}
-use Rattle.flush_log.proofs.TailLemmas.{room-for-clean}
+use Rattle.flush_log.proofs.PlannedLemmas.{head-low}
+use Rattle.flush_log.proofs.TailLemmas.{clean-is-flush}
 use Rattle.recovery.specs.LogPages.{broken_in}
 use Rattle.recovery.specs.Recovered.{IsReadOf, IsLate}
 use Rattle.recovery.specs.StoreOfDisk.{unless_found, frames_in}
 use Rattle.recovery.proofs.FoundWithin.{log-within}
 use Rattle.recovery.proofs.ReadBytes.{same_then}
 use Rattle.cleaner.specs.AfterClean.{slot_on_disk, clean_slot, after_carried, after_clean_of, after_clean}
-use Rattle.cleaner.specs.Cleaned.{IsRefused, IsText, IsWriting, next_slot, IsPlan}
+use Rattle.cleaner.specs.Cleaned.{IsRefused, IsRead, IsText, cleaned_slot, IsClean}
 use Rattle.cleaner.specs.CleanText.{clean_text}
-use Rattle.cleaner.specs.Kept.{BeginsAt}
+use Rattle.cleaner.specs.Chosen.{BeginsAt}
 use Rattle.cleaner.proofs.CleanLemmas.{all-clean_text}
 
 abbrev left : Store → List ℕ → Result (Store × List ℕ) Fault
@@ -62,8 +65,8 @@ pub err_on : {X : Type 0} (r : Result X Fault) (Q : Fault → Type 0) (fault : F
 err_on (Ok x) Q fault is h = absurd is
 err_on (Err f) Q fault is h = subst Q (sym is) h
 
-pub since : (s : Settings) (t : Slot) (file : List ℕ) (old mid new : ℕ) (fault : Fault) → mid ≡ old → IsRefused s t file fault ⊎ IsLate mid new fault → IsRefused s t file fault ⊎ IsLate old new fault
-since s t file old mid new fault same h = subst (λ (n : ℕ). IsRefused s t file fault ⊎ IsLate n new fault) same h
+pub since : (s : Settings) (e : LogEnds) (file : List ℕ) (old mid new : ℕ) (fault : Fault) → mid ≡ old → IsRefused s e file fault ⊎ IsLate mid new fault → IsRefused s e file fault ⊎ IsLate old new fault
+since s e file old mid new fault same h = subst (λ (n : ℕ). IsRefused s e file fault ⊎ IsLate n new fault) same h
 
 -- ---- the slot on the disk
 
@@ -106,171 +109,106 @@ module _ (s : Settings) (file : List ℕ) where
   pub nothing-refused : (st : Store) → st.head ≡ last_segment s st.tail → after_clean s st file ≡ Err NothingToClean
   nothing-refused st one = ap (λ (b : Bool). (let none : Result (Store × List ℕ) Fault = Err NothingToClean in if b then none else and_then (log s file (slot_of st)) (after_clean_of s st file))) (eq-eqb st.head (last_segment s st.tail) one)
 
-  module _ (t : Slot) (more : t.head ≢ last_segment s t.tail) where
-    more_of : (st : Store) → slot_of st ≡ t → st.head ≢ last_segment s st.tail
-    more_of st is = subst (λ (u : Slot). u.head ≢ last_segment s u.tail) (sym is) more
+  module _ (e : LogEnds) (more : e.head ≢ last_segment s e.tail) where
+    more_of : (st : Store) → ends_of st ≡ e → st.head ≢ last_segment s st.tail
+    more_of st is = subst (λ (u : LogEnds). u.head ≢ last_segment s u.tail) (sym is) more
 
-    read_of : (st : Store) (r : Result (List Found) Fault) → slot_of st ≡ t → log s file t ≡ r → log s file (slot_of st) ≡ r
-    read_of st r is e = ap (λ (u : Slot). log s file u) is ∙ e
+    read_of : (st : Store) (r : Result (List Found) Fault) → ends_of st ≡ e → log_between s file e.head e.tail ≡ r → log s file (slot_of st) ≡ r
+    read_of st r is read = ap (λ (u : LogEnds). log_between s file u.head u.tail) is ∙ read
 
-    pub log-refused : (fault : Fault) → log s file t ≡ Err fault → IsRefused s t file fault
-    log-refused fault e st is = of_log st (Err fault) (more_of st is) (read_of st (Err fault) is e)
+    pub log-refused : (fault : Fault) → log_between s file e.head e.tail ≡ Err fault → IsRefused s e file fault
+    log-refused fault read st is = of_log st (Err fault) (more_of st is) (read_of st (Err fault) is read)
 
-    pub pages-refused : (found : List Found) (fault : Fault) (f : Finding) → log s file t ≡ Ok found → broken_in (frames_in found) ≡ Some f → fault ≡ BadStructure f → IsRefused s t file fault
+    pub pages-refused : (found : List Found) (fault : Fault) (f : Finding) → log_between s file e.head e.tail ≡ Ok found → broken_in (frames_in found) ≡ Some f → fault ≡ BadStructure f → IsRefused s e file fault
     pages-refused found fault f read broken fits st is =
         of_log st (Ok found) (more_of st is) (read_of st (Ok found) is read) ∙ of_pages st found (Some f) broken ∙ ap (λ (g : Fault). (let r : Result (Store × List ℕ) Fault = Err g in r)) (sym fits)
 
--- ---- what the tail of a commit tells
-
-abbrev pub tail_told : ℕ → Result ℕ Fault
-tail_told n = Ok n
-
-abbrev pub no_tail : Fault → Result ℕ Fault
-no_tail fault = Err fault
-
--- what the tail of a commit that is done tells
-pub record IsAdmitted (t : Slot) (is_full : Bool) (n : ℕ) : Type 0 where
-  pub unspent : is_spent t ≡ false
-  pub room : is_full ≡ false
-  pub tail : n ≡ t.tail
-
-told_by : (a b : Bool) (t : Slot) (tail : ℕ) → is_spent t ≡ a → tail_told tail ≡ (if a then Err Spent else (if b then Err Full else Ok t.tail)) → IsAdmitted t b tail
-told_by true b t tail e h = absurd (cc)
-told_by false true t tail e h = absurd (cc)
-told_by false false t tail e h = record { unspent = e; room = refl; tail = cc }
-
-pub tail-told : (t : Slot) (is_full : Bool) (tail : ℕ) → tail_told tail ≡ admitted t is_full → IsAdmitted t is_full tail
-tail-told t is_full tail h = told_by (is_spent t) is_full t tail refl h
-
-refused_by : (a b : Bool) (tail : ℕ) (fault : Fault) (st : Store) (bytes : List ℕ) → no_tail fault ≡ (if a then Err Spent else (if b then Err Full else Ok tail)) → (if a then Err Spent else (if b then Err Full else left st bytes)) ≡ Err fault
-refused_by true b tail fault st bytes h = cc
-refused_by false true tail fault st bytes h = cc
-refused_by false false tail fault st bytes h = absurd (cc)
-
-done_by : (a b : Bool) (st : Store) (bytes : List ℕ) → a ≡ false → b ≡ false → (if a then Err Spent else (if b then Err Full else left st bytes)) ≡ left st bytes
-done_by true b st bytes e f = absurd (cc)
-done_by false true st bytes e f = absurd (cc)
-done_by false false st bytes e f = refl
-
--- the slot by which the tail of a clean is told: but for its head and its tree it is the clean's
-abbrev pub behind : Settings → Slot → List Frame → Slot
-behind s t text = record { sequence = suc t.sequence; head = t.head; tail = tail_after s t.tail text; root = t.root; height = t.height }
-
-module _ (s : Settings) (file : List ℕ) (images : List (List (List ℕ))) (fault : Fault) (st : Store) where
-  -- where a clean is refused so, that is why
-  abbrev RefusedBy : Slot → Type 0
-  RefusedBy u = u.head ≢ last_segment s u.tail → (x : IsText s u file images) → no_tail fault ≡ admitted (behind s u (clean_text u.head x.found)) (is_full_for_clean s u.head (tail_after s u.tail (clean_text u.head x.found)))
-      → after_clean s st file ≡ Err fault
-
-  own_refused : RefusedBy (slot_of st)
-  own_refused more x h =
-      let text : List Frame = clean_text st.head x.found in
-      let u : Slot = clean_slot s st file text in
-      carried-on s file st x.found more x.read x.sound
-      ∙ refused_by (is_spent u) (is_full_for_clean s st.head u.tail) u.tail fault (store_after st.tree u) (committed s file (spans s st.tail text) u) h
-
-  pub tail-refused : (t : Slot) → slot_of st ≡ t → RefusedBy t
-  tail-refused t is = subst RefusedBy is own_refused
-
 -- ---- what is planned
 
-module _ (s : Settings) (t : Slot) (good : first_bad_field s ≡ None) (is : is_slot s t.sequence t ≡ true) where
-  slot_is : IsSlot s t.sequence t
-  slot_is = slot-is s t.sequence t is
+module _ (s : Settings) (e : LogEnds) (good : first_bad_field s ≡ None) (are : AreEnds s e) where
+  pub head-room : e.head ≤ greatest
+  head-room = (let far = are.after in let low = head-low s e.head e.tail good (omega (arith, far)) in let tail = are.tail in omega (arith, low, tail))
 
-  pub head-room : t.head ≤ greatest
-  head-room = (let size = (are_sized s good).least_size in let small = head_small s t.sequence t (omega (arith, size)) slot_is in let tail = slot_is.tail in omega (arith, small, tail))
-
-  more_in_use : t.head ≢ last_segment s t.tail → t.head < last_segment s t.tail
+  more_in_use : e.head ≢ last_segment s e.tail → e.head < last_segment s e.tail
   more_in_use more =
       let size = (are_sized s good).least_size in
-      let far = slot_is.behind in
-      let from = (split-tail s t.head t.tail (omega (arith, size)) (omega (arith, far))).from in
-      elim (cases_lt t.head (last_segment s t.tail)) [ inl k ↦ k | inr k ↦ absurd (more (omega (arith, from, k))) ]
+      let far = are.after in
+      let from = (split-tail s e.head e.tail (omega (arith, size)) (omega (arith, far))).from in
+      elim (cases_lt e.head (last_segment s e.tail)) [ inl k ↦ k | inr k ↦ absurd (more (omega (arith, from, k))) ]
 
   -- the first frame stands in the head segment, or none does
-  pub log-begins : (file : List ℕ) (found : List Found) → t.head ≢ last_segment s t.tail → log s file t ≡ Ok found → BeginsAt t.head found
+  pub log-begins : (file : List ℕ) (found : List Found) → e.head ≢ last_segment s e.tail → log_between s file e.head e.tail ≡ Ok found → BeginsAt e.head found
   log-begins file found more read =
-      let off : HeadOff s file t.head t.tail found (more_in_use more) read = head-off s file t.head t.tail found (more_in_use more) read in
-      subst (λ (fs : List Found). BeginsAt t.head fs) (sym off.all)
-      (of off.here off.rest (all_weaker (λ f. (suc t.head ≤ f.segment) × (f.segment ≤ last_segment s t.tail)) (λ f. nat_eq f.segment t.head ≡ false) (λ f h. ne_eqb f.segment t.head (λ e. let l = h.0 in omega (arith, l, e))) off.rest off.later))
+      let off : HeadOff s file e.head e.tail found (more_in_use more) read = head-off s file e.head e.tail found (more_in_use more) read in
+      subst (λ (fs : List Found). BeginsAt e.head fs) (sym off.all)
+      (of off.here off.rest (all_weaker (λ f. (suc e.head ≤ f.segment) × (f.segment ≤ last_segment s e.tail)) (λ f. nat_eq f.segment e.head ≡ false) (λ f h. ne_eqb f.segment e.head (λ same. let l = h.0 in omega (arith, l, same))) off.rest off.later))
     where
-      of : (here : List Frame) (rest : List Found) → AllByRecursion (λ f. nat_eq f.segment t.head ≡ false) rest → BeginsAt t.head (all_in t.head here ++ rest)
+      of : (here : List Frame) (rest : List Found) → AllByRecursion (λ f. nat_eq f.segment e.head ≡ false) rest → BeginsAt e.head (all_in e.head here ++ rest)
       of (f ∷ fs) rest later = inl refl
       of [] [] later = tt
       of [] (f ∷ fs) later = inr later
 
-  module _ (file : List ℕ) (images : List (List (List ℕ))) (x : IsText s t file images) where
-    abbrev text : List Frame
-    text = clean_text t.head x.found
+  -- the log without its first segment doesn't end in front of what is left
+  pub log-left : e.head ≢ last_segment s e.tail → suc e.head * s.seg_size < e.tail
+  log-left more =
+      let size = (are_sized s good).least_size in
+      let far = are.after in
+      let less = more_in_use more in
+      let split = split-tail s e.head e.tail (omega (arith, size)) (omega (arith, far)) in
+      let is = split.is in
+      let low = split.low in
+      let whole : suc e.head * s.seg_size ≤ last_segment s e.tail * s.seg_size = mul-le-mul_right s.seg_size (omega (arith, less)) in
+      omega (arith, whole, is, low)
 
-    pub text-within : AllByRecursion (λ f. is_frame s f ≡ true) text
-    text-within = all-clean_text (λ f. is_frame s f ≡ true) t.head x.found (log-within s file t.head t.tail x.found x.read)
+-- what its text is written behind, of these bytes
+abbrev pub base_in : LogEnds → List ℕ → Slot
+base_in e file = cleaned_slot e (slot_on_disk e.sequence file)
 
-    pub images-fit : FitSegments s (frames_of_images images)
-    images-fit = text-fits s good images text x.text text-within
+-- once it was read, and the front of the disk stays
+pub base_still : (e : LogEnds) (on_disk u : Slot) (file now : List ℕ) → on_disk ≡ slot_on_disk e.sequence file → take segments_begin now ≡ take segments_begin file → u ≡ cleaned_slot e on_disk → u ≡ base_in e now
+base_still e on_disk u file now read front is = is ∙ ap (λ (d : Slot). cleaned_slot e d) (read ∙ sym (slot-still e.sequence file now front))
 
-    pub planned : (now on_disk : Slot) (size tail : ℕ) → tail_told tail ≡ admitted (behind s t text) (is_full_for_clean s t.head (tail_after s t.tail text)) → on_disk ≡ slot_on_disk t.sequence file
-        → now ≡ record { sequence = t.sequence + 1; head = t.head + 1; tail = tail; root = on_disk.root; height = on_disk.height } → s.seg_size ≤ size → IsPlan s t file images now size
-    planned now on_disk size tail told slot made room =
-        let full : Bool = is_full_for_clean s t.head (tail_after s t.tail text) in
-        let admits = tail-told (behind s t text) full tail told in
-        let same : now ≡ next_slot s t (slot_on_disk t.sequence file) text = made
-        ∙ ap (λ (n : ℕ). (let u : Slot = record { sequence = n; head = t.head + 1; tail = tail; root = on_disk.root; height = on_disk.height } in u)) (omega arith)
-        ∙ ap (λ (n : ℕ). (let u : Slot = record { sequence = suc t.sequence; head = n; tail = tail; root = on_disk.root; height = on_disk.height } in u)) (omega arith)
-        ∙ ap (λ (n : ℕ). (let u : Slot = record { sequence = suc t.sequence; head = suc t.head; tail = n; root = on_disk.root; height = on_disk.height } in u)) admits.tail
-        ∙ ap (λ (d : Slot). next_slot s t d text) slot in
-        record {
-          found = x.found;
-          read = x.read;
-          sound = x.sound;
-          writing = record {
-            of = x.text;
-            some = x.some;
-            within = text-within;
-            sequence = ap (λ (u : Slot). u.sequence) same;
-            tail = ap (λ (u : Slot). u.tail) same;
-            unspent = ap is_spent same ∙ admits.unspent;
-            free = ap (λ (u : Slot). is_full_for_clean s t.head u.tail) same ∙ admits.room;
-            room = room;
-          };
-          slot = same;
-        }
+-- ---- a clean that is refused for its tail, or done
 
--- ---- what a plan is good for
+module _ (s : Settings) (file : List ℕ) (st : Store) where
+  -- of a log with these ends
+  abbrev RefusedBy : Fault → LogEnds → Type 0
+  RefusedBy fault u = u.head ≢ last_segment s u.tail → (found : List Found) → IsRead s u file found → next_tail s (base_in u file) (clean_text u.head found) ≡ Err fault → after_clean s st file ≡ Err fault
 
-module _ (s : Settings) (t : Slot) (text : List Frame) (images : List (List (List ℕ))) (now : Slot) (size : ℕ) (good : first_bad_field s ≡ None) (is : is_slot s t.sequence t ≡ true) (w : IsWriting s t text images now size) where
-  pub writing-fits : FitSegments s (frames_of_images images)
-  writing-fits = text-fits s good images text w.of w.within
-
-  pub writing-room : tail_after s t.tail text ≤ greatest
-  writing-room = (let low = ltb-false greatest now.tail (or_parts (nat_lt greatest now.sequence) (nat_lt greatest now.tail) w.unspent).1 in let tail = w.tail in omega (arith, low, tail))
-
-  pub writing-inside : AreWithin s (disk_size s) (spans s t.tail text)
-  writing-inside =
-      let far = (slot-is s t.sequence t is).behind in
-      let free : last_segment s (tail_after s t.tail text) < t.head + s.segments = subst (λ (n : ℕ). last_segment s n < t.head + s.segments) w.tail (room-for-clean s t.head now.tail w.free) in
-      text-inside s good t.head t.tail text (omega (arith, far)) w.within free
-
--- ---- a clean that is done
-
-module _ (s : Settings) (file : List ℕ) (images : List (List (List ℕ))) (now : Slot) (size : ℕ) (st : Store) where
-  -- what a plan leaves of the store, and of these bytes
-  abbrev DoneBy : Slot → Type 0
-  DoneBy u = u.head ≢ last_segment s u.tail → (p : IsPlan s u file images now size) → after_clean s st file ≡ left (store_after st.tree now) (committed s file (spans s u.tail (clean_text u.head p.found)) now)
-
-  pub own_done : DoneBy (slot_of st)
-  own_done more p =
-      let text : List Frame = clean_text st.head p.found in
+  own_refused : (fault : Fault) → RefusedBy fault (ends_of st)
+  own_refused fault more found r h =
+      let text : List Frame = clean_text st.head found in
       let u : Slot = clean_slot s st file text in
-      let same : now ≡ u = p.slot in
-      carried-on s file st p.found more p.read p.sound
-      ∙ done_by (is_spent u) (is_full_for_clean s st.head u.tail) (store_after st.tree u) (committed s file (spans s st.tail text) u)
-      (ap is_spent (sym same) ∙ p.writing.unspent) (ap (λ (v : Slot). is_full_for_clean s st.head v.tail) (sym same) ∙ p.writing.free)
-      ∙ ap (λ (v : Slot). left (store_after st.tree v) (committed s file (spans s st.tail text) v)) (sym same)
+      carried-on s file st found more r.read r.sound
+      ∙ commit-refused u (is_full_for_clean s st.head u.tail) (store_after st.tree u) (committed s file (spans s st.tail text) u) fault
+      (ap (λ (b : Bool). admitted u b) (clean-is-flush s st.head u.tail) ∙ h)
 
-  pub clean-planned : (t : Slot) → slot_of st ≡ t → DoneBy t
-  clean-planned t is = subst DoneBy is own_done
+  pub tail-refused : (fault : Fault) (e : LogEnds) → ends_of st ≡ e → RefusedBy fault e
+  tail-refused fault e is = subst (RefusedBy fault) is (own_refused fault)
+
+  -- what a plan leaves of the store, and of these bytes
+  abbrev DoneBy : CommitPlan → LogEnds → Type 0
+  DoneBy m u = u.head ≢ last_segment s u.tail → (p : IsClean s u file m) → after_clean s st file ≡ left (store_after st.tree m.slot) (file_with s (base_in u file) (clean_text u.head p.0) file)
+
+  pub own_done : (m : CommitPlan) → DoneBy m (ends_of st)
+  own_done m more (found, r, p) =
+      let text : List Frame = clean_text st.head found in
+      let u : Slot = clean_slot s st file text in
+      carried-on s file st found more r.read r.sound
+      ∙ commit-admitted u (is_full_for_clean s st.head u.tail) (store_after st.tree u) (committed s file (spans s st.tail text) u) p.unspent (clean-is-flush s st.head u.tail ∙ p.free)
+      ∙ ap (λ (v : Slot). left (store_after st.tree v) (committed s file (spans s st.tail text) u)) (sym p.slot)
+
+  pub clean-planned : (m : CommitPlan) (e : LogEnds) → ends_of st ≡ e → DoneBy m e
+  clean-planned m e is = subst (DoneBy m) is (own_done m)
+
+-- what is told of the plan of a commit behind this slot, which is that of the clean
+pub plan-told : (s : Settings) (e : LogEnds) (u : Slot) (file : List ℕ) (found : List Found) (old new : ℕ) (r : Result CommitPlan Fault) → e.head ≢ last_segment s e.tail → IsRead s e file found → u ≡ base_in e file
+    → MatchResult r (λ m. IsPlanned s u (clean_text e.head found) m) (λ fault. (fault ≡ NoMemory) ⊎ (next_tail s u (clean_text e.head found) ≡ Err fault))
+    → MatchResult r (λ m. IsClean s e file m) (λ fault. IsRefused s e file fault ⊎ IsLate old new fault)
+plan-told s e u file found old new (Ok m) more read is p = (found, read, subst (λ (v : Slot). IsPlanned s v (clean_text e.head found) m) is p)
+plan-told s e u file found old new (Err fault) more read is (inl memory) = inr (inl memory)
+plan-told s e u file found old new (Err fault) more read is (inr full) =
+    inl (λ st same. tail-refused s file st fault e same more found read (subst (λ (v : Slot). next_tail s v (clean_text e.head found) ≡ Err fault) is full))
 
 -- ---- what was chosen of what was read
 
@@ -282,45 +220,23 @@ IsChoice items head found r = MatchResult r (λ x. (broken_in (frames_in found) 
 abbrev pub HasSome : {X : Type 0} → (X → List (List (List ℕ))) → ℕ → List Found → Result X Fault → Type 0
 HasSome items head found r = IfOk r (λ x. (items x ≡ []) ⊎ (1 ≤ length (clean_text head found)))
 
-module _ {X : Type 0} (items : X → List (List (List ℕ))) (s : Settings) (t : Slot) (file : List ℕ) (more : t.head ≢ last_segment s t.tail) (old new : ℕ) where
+module _ {X : Type 0} (items : X → List (List (List ℕ))) (s : Settings) (e : LogEnds) (file : List ℕ) (more : e.head ≢ last_segment s e.tail) (old new : ℕ) where
   -- of the text
   abbrev IsTextOf : Result X Fault → Type 0
-  IsTextOf r = MatchResult r (λ x. IsText s t file (items x)) (λ fault. IsRefused s t file fault ⊎ IsLate old new fault)
+  IsTextOf r = MatchResult r (λ x. IsText s e file (items x)) (λ fault. IsRefused s e file fault ⊎ IsLate old new fault)
 
-  of_choice : (found : List Found) → log s file t ≡ Ok found → (r : Result X Fault) → IsChoice items t.head found r → HasSome items t.head found r → IsTextOf r
-  of_choice found read (Ok x) h some = record { found = found; read = read; sound = h.0; text = h.1; some = some }
-  of_choice found read (Err fault) (inl memory) some = inr (inl memory)
-  of_choice found read (Err fault) (inr (f, broken, fits)) some = inl (pages-refused s file t more found fault f read broken fits)
+  pub text-of_choice : (found : List Found) → log_between s file e.head e.tail ≡ Ok found → (r : Result X Fault) → IsChoice items e.head found r → HasSome items e.head found r → IsTextOf r
+  text-of_choice found read (Ok x) h some =
+      (found, record { read = read; sound = h.0 }, record { of = h.1; some = some; within = all-clean_text (λ f. is_frame s f ≡ true) e.head found (log-within s file e.head e.tail found read) })
+  text-of_choice found read (Err fault) (inl memory) some = inr (inl memory)
+  text-of_choice found read (Err fault) (inr (f, broken, fits)) some = inl (pages-refused s file e more found fault f read broken fits)
 
-  pub text-of_choice : (head : ℕ) (found : List Found) (r : Result X Fault) → head ≡ t.head → log s file t ≡ Ok found → IsChoice items head found r → HasSome items head found r → IsTextOf r
-  text-of_choice head found r same read h some =
-      of_choice found read r (subst (λ (n : ℕ). IsChoice items n found r) same h) (subst (λ (n : ℕ). HasSome items n found r) same some)
+-- a plan of a log is one of a store with that log, and of the bytes that the disk shows
+pub plan-of : (s : Settings) (e : LogEnds) (file seen : List ℕ) (m : CommitPlan) (st : Store) → ends_of st ≡ e → file ≡ seen → IsClean s e file m → IsClean s (ends_of st) seen m
+plan-of s e file seen m st same shown p = subst (λ (u : LogEnds). IsClean s u seen m) (sym same) (subst (λ (f : List ℕ). IsClean s e f m) shown p)
 
--- the slot of a plan, by the numbers that it is made of
-pub next-by : (a b h i tail r q k l : ℕ) → a ≡ b → h ≡ i → r ≡ q → k ≡ l
-    → (let u : Slot = record { sequence = a + 1; head = h + 1; tail = tail; root = r; height = k } in u ≡ record { sequence = b + 1; head = i + 1; tail = tail; root = q; height = l })
-next-by a b h i tail r q k l number head root height =
-    ap (λ (n : ℕ). (let u : Slot = record { sequence = n + 1; head = h + 1; tail = tail; root = r; height = k } in u)) number
-    ∙ ap (λ (n : ℕ). (let u : Slot = record { sequence = b + 1; head = n + 1; tail = tail; root = r; height = k } in u)) head
-    ∙ ap (λ (n : ℕ). (let u : Slot = record { sequence = b + 1; head = i + 1; tail = tail; root = n; height = k } in u)) root
-    ∙ ap (λ (n : ℕ). (let u : Slot = record { sequence = b + 1; head = i + 1; tail = tail; root = q; height = n } in u)) height
-
--- the head of a slot is not its last segment, in the words of the code
-pub heads-differ : (s : Settings) (h i tail u n : ℕ) → h ≡ i → tail ≡ u → n ≡ last_segment s tail → h ≢ n → i ≢ last_segment s u
-heads-differ s h i tail u n head same is other e = other (head ∙ e ∙ sym (is ∙ ap (λ (m : ℕ). last_segment s m) same))
-
-pub heads-same : (s : Settings) (h i tail u n : ℕ) → h ≡ i → tail ≡ u → n ≡ last_segment s tail → h ≡ n → i ≡ last_segment s u
-heads-same s h i tail u n head same is one = sym head ∙ one ∙ is ∙ ap (λ (m : ℕ). last_segment s m) same
-
--- a plan of a slot is one of a store with that slot, and of the bytes that the disk shows
-pub plan-of : (s : Settings) (t : Slot) (file seen : List ℕ) (images : List (List (List ℕ))) (now : Slot) (size : ℕ) (st : Store) → slot_of st ≡ t → file ≡ seen → IsPlan s t file images now size → IsPlan s (slot_of st) seen images now size
-plan-of s t file seen images now size st same shown p = subst (λ (u : Slot). IsPlan s u seen images now size) (sym same) (subst (λ (f : List ℕ). IsPlan s t f images now size) shown p)
-
-pub more-of : (s : Settings) (t : Slot) (st : Store) → slot_of st ≡ t → t.head ≢ last_segment s t.tail → st.head ≢ last_segment s st.tail
-more-of s t st same more = subst (λ (u : Slot). u.head ≢ last_segment s u.tail) (sym same) more
-
-pub good-of : (s : Settings) (t : Slot) (st : Store) → slot_of st ≡ t → is_slot s t.sequence t ≡ true → is_slot s st.sequence (slot_of st) ≡ true
-good-of s t st same is = subst (λ (u : Slot). is_slot s u.sequence u ≡ true) (sym same) is
+pub more-of : (s : Settings) (e : LogEnds) (st : Store) → ends_of st ≡ e → e.head ≢ last_segment s e.tail → st.head ≢ last_segment s st.tail
+more-of s e st same more = subst (λ (u : LogEnds). u.head ≢ last_segment s u.tail) (sym same) more
 
 -- a call failed, where none had before
 pub failed_since : (old mid new : ℕ) → mid ≡ old → HasFailed mid new → HasFailed old new

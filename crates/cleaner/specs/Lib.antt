@@ -1,6 +1,4 @@
 pub mod AfterClean
-pub mod Carried
+pub mod Chosen
 pub mod Cleaned
 pub mod CleanText
-pub mod Kept
-pub mod Skim

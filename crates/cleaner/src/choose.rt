@@ -1,55 +1,61 @@
 //! The text of a clean is chosen: the frames of the pages that live in the head segment.
 ghost use Rattle.std.specs.Prelude.{◌≡◌, ◌≢◌, ◌⊎◌, ◌≤◌, [], List, length, None, Some, IfOk, MatchResult};
 ghost use Rattle.std.specs.List.{AllByRecursion};
+ghost use Rattle.std.specs.List.Sorted.{IsStrictlySortedBy};
+ghost use Rattle.std.specs.Map.{keys_of};
+ghost use Rattle.std.specs.Ordering.{nat_cmp};
+ghost use Rattle.keys.specs.Limits.{first_bad_field};
 ghost use Rattle.keys.specs.declared.fault.Fault.TheVariants.{NoMemory, BadStructure};
 ghost use Rattle.mapping.specs.Finding.{Finding};
 ghost use Rattle.flush_log.specs.Images.{frames_in as frames_of_images, AreOfText};
 ghost use Rattle.flush_log.specs.Reading.{Found};
+ghost use Rattle.recovery.specs.Gathered.{AreGathered};
 ghost use Rattle.recovery.specs.LogPages.{broken_in};
 ghost use Rattle.recovery.specs.StoreOfDisk.{frames_in};
+ghost use Rattle.recovery.specs.declared.gather.Wanted.TheVariants.{Head};
+ghost use Rattle.cleaner.specs.Chosen.{BeginsAt, image_in, frames_kept};
 ghost use Rattle.cleaner.specs.CleanText.{clean_text};
-ghost use Rattle.cleaner.specs.Kept.{AreLive, BeginsAt, frames_kept, is_unfit, first_unfit};
 
-use crate::gather::{Kept, LivePages, Told};
 use flush_log::image::Image;
-use keys::{Fault, Finding, Pid};
-use std::alloc::Global;
+use frame_codec::skim_frame;
+use keys::{Fault, Settings};
+use recovery::gather::{Gathering, Kept};
+use std::alloc::{AllocError, Global};
 use std::collections::BTreeMap;
 
-// The number of the rule that a page breaks whose frames don't fit one another.
-const UNFIT_FRAMES: u32 = 1;
-
-// Whether the frames of a page fit no page.
-fn is_unfit(told: Told) -> bool
-    ensures { result ≡ is_unfit told }
+// The frames that these bytes are, back to back, as an image. Where other bytes stand among them it has none.
+fn image_of(alloc: Global, settings: &Settings, frames: &[u8]) -> Result<Image, AllocError>
+    ensures { IfOk result (λ image. image ≡ image_in settings.now frames.now) }
 {
-    match told {
-        Told::Nothing => false,
-        Told::Leaf => false,
-        Told::Index => false,
-        Told::Free => false,
-        Told::Unfit => true,
+    let mut image = Image::new(alloc);
+    let mut rest = frames;
+    while !rest.is_empty() {
+        let Some(skimmed) = skim_frame(rest, settings) else {
+            return Ok(Image::new(alloc));
+        };
+        let size = skimmed.size;
+        image.push(&rest[..size])?;
+        rest = &rest[size..];
     }
+    Ok(image)
 }
 
-// The images of the pages, in the order in which the map has them, without those that have no frames. The first page whose frames
-// don't fit one another is answered as a fault.
-fn images_in(alloc: Global, by_pid: BTreeMap<u64, Kept, Global>) -> Result<Vec<Image>, Fault>
-    ensures chosen { MatchResult result
-        (λ images. (first_unfit by_pid.entries ≡ None) × (frames_of_images images.items ≡ frames_kept by_pid.entries))
-        (λ fault. (fault ≡ NoMemory) ⊎ ((f : Finding) × (first_unfit by_pid.entries ≡ Some f) × (fault ≡ BadStructure f))) }
+// The images of the pages, in the order in which the map has them, without those of which no frames are kept.
+fn images_in(
+    alloc: Global,
+    settings: &Settings,
+    by_pid: BTreeMap<u64, Kept, Global>,
+) -> Result<Vec<Image>, AllocError>
+    ensures frames { IfOk result (λ images. frames_of_images images.items ≡ frames_kept settings.now by_pid.entries) }
     ensures some { IfOk result (λ images. AllByRecursion (λ image. image ≢ []) images.items) }
+    ensures ordered { IsStrictlySortedBy nat_cmp (keys_of by_pid.entries) }
 {
+    // `len` is called only for the proof: it says that the page ids rise.
+    let _rising = by_pid.len();
     let mut images = Vec::new(alloc);
     for entry in by_pid {
-        let (pid, Kept { told, image }) = entry;
-        if is_unfit(told) {
-            return Err(Fault::BadStructure(Finding {
-                rule: UNFIT_FRAMES,
-                pid: Pid(pid),
-            }));
-        }
-        let image = image.into_image(alloc);
+        let (_pid, kept) = entry;
+        let image = image_of(alloc, settings, &kept.frames)?;
         if image.len() == 0 {
             continue;
         }
@@ -63,24 +69,26 @@ fn images_in(alloc: Global, by_pid: BTreeMap<u64, Kept, Global>) -> Result<Vec<I
 ///
 /// Where the frames of a page fit no page that is `Fault::BadStructure`, rule 1, with the least such page id. Besides there is
 /// `Fault::NoMemory`.
-pub fn choose(pages: LivePages, head: u64) -> Result<Vec<Image>, Fault>
-    ensures chosen { (found : List Found) → AreLive pages found → BeginsAt head found → MatchResult result
+pub fn choose(settings: &Settings, pages: Gathering, head: u64) -> Result<Vec<Image>, Fault>
+    requires { first_bad_field settings.now ≡ None }
+    ensures chosen { (found : List Found) → AreGathered settings.now Head pages found → BeginsAt head found → MatchResult result
         (λ images. (broken_in (frames_in found) ≡ None) × AreOfText images.items (clean_text head found))
         (λ fault. (fault ≡ NoMemory) ⊎ ((f : Finding) × (broken_in (frames_in found) ≡ Some f) × (fault ≡ BadStructure f))) }
-    ensures some { (found : List Found) → AreLive pages found → BeginsAt head found → IfOk result (λ images.
+    ensures some { (found : List Found) → AreGathered settings.now Head pages found → BeginsAt head found → IfOk result (λ images.
         (images.items ≡ []) ⊎ (1 ≤ length (clean_text head found))) }
 {
-    let LivePages {
+    if let Some(finding) = pages.unfit() {
+        return Err(Fault::BadStructure(finding));
+    }
+    let Gathering {
         alloc,
         first,
         by_pid,
+        ..
     } = pages;
-    // `len` is called only for the proof: it says that the page ids rise.
-    let _rising = by_pid.len();
-    let images = images_in(alloc, by_pid)?;
     if first.unwrap_or(head) != head {
         // No frame stands in the head segment.
         return Ok(Vec::new(alloc));
     }
-    Ok(images)
+    Ok(images_in(alloc, settings, by_pid)?)
 }

@@ -1,44 +1,32 @@
 //! The clean: what lives in the log's first segment is carried to its end, and a crash leaves the store of before or of after.
-ghost use Rattle.std.specs.Prelude.{◌≡◌, ◌≢◌, ◌⊎◌, ◌≤◌, suc, List, length, take, None, Ok, IsTrue, true, IfOk, IfErr, OnOk, MatchResult};
+ghost use Rattle.std.specs.Prelude.{◌≡◌, ◌≢◌, ◌⊎◌, ◌≤◌, take, None, Ok, IsTrue, IfOk, IfErr, OnOk, MatchResult};
 ghost use Rattle.keys.specs.Bytes.{Bytes};
 ghost use Rattle.keys.specs.Limits.{first_bad_field};
 ghost use Rattle.mapping.specs.Tree.{Store};
-ghost use Rattle.frame_codec.specs.Frame.{Frame};
-ghost use Rattle.flush_log.specs.AfterFlush.{slot_of, store_after};
-ghost use Rattle.flush_log.specs.Commit.{committed, IsUncommitted};
-ghost use Rattle.flush_log.specs.Disk.{IsSettled, Kept, Same, LeavesOnly, CountsFailure};
-ghost use Rattle.flush_log.specs.Layout.{spans};
+ghost use Rattle.flush_log.specs.AfterFlush.{store_after};
+ghost use Rattle.flush_log.specs.Disk.{IsSettled, Kept, Same, LeavesOnly};
+ghost use Rattle.flush_log.specs.Ends.{ends_of, AreEnds};
 ghost use Rattle.flush_log.specs.Segments.{segments_begin, disk_size, last_segment};
-ghost use Rattle.flush_log.specs.Slot as slots;
-ghost use Rattle.flush_log.specs.Slot.{is_slot};
+ghost use Rattle.flush_log.specs.Slot.{greatest};
 ghost use Rattle.recovery.specs.InStep.{IsInStep};
 ghost use Rattle.recovery.specs.Recovered.{IsReadOf, IsLate};
 ghost use Rattle.recovery.specs.StoreOfDisk.{store_of_disk};
 ghost use Rattle.cleaner.specs.AfterClean.{slot_on_disk, after_clean};
-ghost use Rattle.cleaner.specs.Cleaned.{WouldClean, IsCleanFault, IsRefused, IsText, IsWriting, IsPlan};
+ghost use Rattle.cleaner.specs.Cleaned.{WouldClean, IsCleanFault, IsRefused, IsText, cleaned_slot, IsClean};
 
 use crate::choose::choose;
-use crate::log_so_far::LogSoFar;
 use crew::Crew;
 use flush_log::commit::slot_place;
 use flush_log::image::Image;
-use flush_log::layout::tail_of_clean;
 use flush_log::segments::last_segment;
-use flush_log::slot::{SLOT_SIZE, Slot, slot_in};
-use flush_log::{Disk, DiskFault, is_gate_open, write_flush};
+use flush_log::slot::{LogEnds, SLOT_SIZE, Slot, slot_in};
+use flush_log::{Commit, Disk};
 use keys::{Fault, Settings};
+use recovery::gather::Wanted;
 use recovery::read_bytes::read;
 use recovery::read_log::read_log;
 use std::alloc::Global;
 use std::thread::Threads;
-
-// What a clean writes: the images of its text, and the slot that commits them; and room for the bytes of a segment.
-#[derive(Drop)]
-struct CleanPlan {
-    images: Vec<Image>,
-    slot: Slot,
-    buffer: Vec<u8>,
-}
 
 // What the slot for this sequence number says, as it stands on the disk.
 fn read_slot_on_disk<D: Disk>(disk: &mut D, sequence: u64) -> Result<Slot, Fault>
@@ -56,31 +44,47 @@ fn read_slot_on_disk<D: Disk>(disk: &mut D, sequence: u64) -> Result<Slot, Fault
     Ok(slot_in(&bytes))
 }
 
-// The images of the text of a clean, of what is read of the log with this slot.
+// The images of the text of a clean, of what is read of the log with these ends.
 fn read_text<D: Disk>(
     rt: &(impl Threads + Sync),
     crew: Crew,
     alloc: Global,
     disk: &mut D,
     settings: &Settings,
-    slot: &Slot,
+    ends: &LogEnds,
 ) -> Result<Vec<Image>, Fault>
     requires checked { first_bad_field settings.now ≡ None }
     requires within { disk_size settings.now ≤ (D.view disk.old).size }
-    requires slot { is_slot settings.now slot.now.sequence slot.now ≡ true }
-    requires more { slot.now.head ≢ last_segment settings.now slot.now.tail }
+    requires ends { AreEnds settings.now ends.now }
+    requires more { ends.now.head ≢ last_segment settings.now ends.now.tail }
     ensures read { (file : Bytes) → IsReadOf (D.view disk.old) file →
         (now : Bytes) × IsReadOf (D.view disk.new) now × (take segments_begin now ≡ take segments_begin file) × MatchResult result
-        (λ images. IsText settings.now slot.now now images.items)
-        (λ fault. IsRefused settings.now slot.now now fault ⊎ IsLate (D.failed disk.old) (D.failed disk.new) fault) }
+        (λ images. IsText settings.now ends.now now images.items)
+        (λ fault. IsRefused settings.now ends.now now fault ⊎ IsLate (D.failed disk.old) (D.failed disk.new) fault) }
     ensures kept { Kept (D.view disk.old) (D.view disk.new) }
     ensures same { IsTrue (D.view disk.old).is_honest → Same (D.view disk.old) (D.view disk.new) }
     ensures counted { OnOk result (D.failed disk.new ≡ D.failed disk.old) }
     ensures uncounted { IfErr result (λ fault. fault ≢ Fault.Device → D.failed disk.new ≡ D.failed disk.old) }
 {
-    let mut log = LogSoFar::new(alloc);
-    read_log(rt, crew, alloc, disk, settings, slot, &mut log)?;
-    choose(log.into_pages()?, slot.head)
+    let pages = read_log(rt, crew, alloc, disk, settings, ends, Wanted::Head)?;
+    choose(settings, pages, ends.head)
+}
+
+// What the text of a clean is written behind: the log without its first segment, with the root and the height that a slot on the
+// disk has.
+fn cleaned_slot(ends: &LogEnds, on_disk: &Slot) -> Slot
+    requires { ends.now.head ≤ greatest }
+    ensures { result ≡ cleaned_slot ends.now on_disk.now }
+{
+    Slot {
+        ends: LogEnds {
+            sequence: ends.sequence,
+            head: ends.head + 1,
+            tail: ends.tail,
+        },
+        root: on_disk.root,
+        height: on_disk.height,
+    }
 }
 
 // Plans the clean of a log of which more than one segment is in use. It reads the disk, and writes nothing.
@@ -90,79 +94,29 @@ fn plan<D: Disk>(
     alloc: Global,
     disk: &mut D,
     settings: &Settings,
-    slot: &Slot,
-) -> Result<CleanPlan, Fault>
+    ends: &LogEnds,
+) -> Result<Commit, Fault>
     requires checked { first_bad_field settings.now ≡ None }
     requires within { disk_size settings.now ≤ (D.view disk.old).size }
-    requires slot { is_slot settings.now slot.now.sequence slot.now ≡ true }
-    requires more { slot.now.head ≢ last_segment settings.now slot.now.tail }
+    requires ends { AreEnds settings.now ends.now }
+    requires more { ends.now.head ≢ last_segment settings.now ends.now.tail }
     ensures read { (file : Bytes) × IsReadOf (D.view disk.old) file × MatchResult result
-        (λ plan. IsPlan settings.now slot.now file plan.images.items plan.slot (length plan.buffer.items))
-        (λ fault. IsRefused settings.now slot.now file fault ⊎ IsLate (D.failed disk.old) (D.failed disk.new) fault) }
+        (IsClean settings.now ends.now file)
+        (λ fault. IsRefused settings.now ends.now file fault ⊎ IsLate (D.failed disk.old) (D.failed disk.new) fault) }
     ensures kept { Kept (D.view disk.old) (D.view disk.new) }
     ensures same { IsTrue (D.view disk.old).is_honest → Same (D.view disk.old) (D.view disk.new) }
     ensures counted { OnOk result (D.failed disk.new ≡ D.failed disk.old) }
     ensures uncounted { IfErr result (λ fault. fault ≢ Fault.Device → D.failed disk.new ≡ D.failed disk.old) }
 {
-    let on_disk = read_slot_on_disk(disk, slot.sequence)?;
-    let images = read_text(rt, crew, alloc, disk, settings, slot)?;
-    let mut buffer = Vec::new(alloc);
-    buffer.resize(settings.seg_size as usize, 0)?;
-    let sequence = slot.sequence + 1;
-    let tail = tail_of_clean(settings, sequence, slot.head, slot.tail, &images)?;
-    let next = Slot {
-        sequence,
-        head: slot.head + 1,
-        tail,
-        root: on_disk.root,
-        height: on_disk.height,
-    };
-    Ok(CleanPlan {
-        images,
-        slot: next,
-        buffer,
-    })
-}
-
-// Does what was planned for a log with this tail.
-fn write<D: Disk>(
-    disk: &mut D,
-    settings: &Settings,
-    tail: u64,
-    plan: &mut CleanPlan,
-) -> Result<(), DiskFault>
-    requires checked { first_bad_field settings.now ≡ None }
-    requires within { disk_size settings.now ≤ (D.view disk.old).size }
-    requires plan { (t : slots.Slot) × (text : List Frame) × (t.tail ≡ tail) × (is_slot settings.now t.sequence t ≡ true)
-        × IsWriting settings.now t text plan.old.images.items plan.old.slot (length plan.old.buffer.items) }
-    ensures kept { Kept (D.view disk.old) (D.view disk.new) }
-    ensures failed { CountsFailure result (D.failed disk.old) (D.failed disk.new) }
-    ensures slot { plan.new.slot ≡ plan.old.slot }
-    ensures written { (t : slots.Slot) (text : List Frame) → t.tail ≡ tail → is_slot settings.now t.sequence t ≡ true →
-        IsWriting settings.now t text plan.old.images.items plan.old.slot (length plan.old.buffer.items) → IsTrue (D.view disk.old).is_honest →
-        OnOk result ((D.view disk.new).seen ≡ committed settings.now (D.view disk.old).seen (spans settings.now t.tail text) plan.old.slot) }
-    ensures settled { IsTrue (D.view disk.old).is_honest → OnOk result (IsSettled (D.view disk.new)) }
-    ensures crash { (t : slots.Slot) (text : List Frame) → t.tail ≡ tail → is_slot settings.now t.sequence t ≡ true →
-        IsWriting settings.now t text plan.old.images.items plan.old.slot (length plan.old.buffer.items) → IsSettled (D.view disk.old) →
-        LeavesOnly (D.view disk.old) (D.view disk.new)
-        (λ c. IsUncommitted settings.now (suc t.sequence) (spans settings.now t.tail text) (D.view disk.old).seen c
-        ⊎ (c ≡ committed settings.now (D.view disk.old).seen (spans settings.now t.tail text) plan.old.slot)) }
-{
-    let is_open = is_gate_open(disk, plan.slot.sequence)?;
-    write_flush(
-        disk,
-        settings,
-        tail,
-        &plan.images,
-        &plan.slot,
-        is_open,
-        &mut plan.buffer,
-    )
+    let on_disk = read_slot_on_disk(disk, ends.sequence)?;
+    let images = read_text(rt, crew, alloc, disk, settings, ends)?;
+    let behind = cleaned_slot(ends, &on_disk);
+    Commit::plan(alloc, settings, &behind, images)
 }
 
 /// Cleans a log: the pages that live in its first segment are written again at its end, as they stand in the log, and then that
 /// segment is free. Returns the slot of the commit: the head is one further, and the root and the height are those that the present
-/// slot has on the disk. `slot` is the store's: where its log begins and ends, and how often it was committed.
+/// slot has on the disk. `ends` are those of the store's log.
 ///
 /// It works on the log alone, so what a tree in memory has that the log lacks stays so. The crew shares the work of skimming the log; which
 /// crew it is changes nothing of what is answered or written.
@@ -179,33 +133,34 @@ pub fn clean<D: Disk>(
     alloc: Global,
     disk: &mut D,
     settings: &Settings,
-    slot: &Slot,
+    ends: &LogEnds,
 ) -> Result<Slot, Fault>
     requires checked { first_bad_field settings.now ≡ None }
     requires within { disk_size settings.now ≤ (D.view disk.old).size }
-    requires slot { is_slot settings.now slot.now.sequence slot.now ≡ true }
+    requires ends { AreEnds settings.now ends.now }
     // Of bytes that were read, which on an honest disk are what a read gives.
-    ensures read { (file : Bytes) × IsReadOf (D.view disk.old) file × ((st : Store) → slot_of st ≡ slot.now → MatchResult result
+    ensures read { (file : Bytes) × IsReadOf (D.view disk.old) file × ((st : Store) → ends_of st ≡ ends.now → MatchResult result
         (λ now. (bytes : Bytes) × (after_clean settings.now st file ≡ Ok (store_after st.tree now, bytes)))
         (IsCleanFault settings.now st file (D.failed disk.old) (D.failed disk.new))) }
-    ensures written { IsTrue (D.view disk.old).is_honest → (st : Store) → slot_of st ≡ slot.now →
+    ensures written { IsTrue (D.view disk.old).is_honest → (st : Store) → ends_of st ≡ ends.now →
         IfOk result (λ now. after_clean settings.now st (D.view disk.old).seen ≡ Ok (store_after st.tree now, (D.view disk.new).seen)) }
     ensures settled { IsTrue (D.view disk.old).is_honest → OnOk result (IsSettled (D.view disk.new)) }
     // On a settled disk that stands for a store with which this one is in step, a crash leaves that store, or all that the clean leaves.
-    ensures crash { IsSettled (D.view disk.old) → (st : Store) → slot_of st ≡ slot.now → IsInStep settings.now st (D.view disk.old).seen →
+    ensures crash { IsSettled (D.view disk.old) → (st : Store) → ends_of st ≡ ends.now → IsInStep settings.now st (D.view disk.old).seen →
         LeavesOnly (D.view disk.old) (D.view disk.new) (λ c. (store_of_disk c ≡ store_of_disk (D.view disk.old).seen)
         ⊎ ((now : Store) × (after_clean settings.now st (D.view disk.old).seen ≡ Ok (now, c)))) }
     // After an Err nothing was written, but where a call of the disk failed in writing what would have been done.
-    ensures unwritten { IsTrue (D.view disk.old).is_honest → (st : Store) → slot_of st ≡ slot.now → IfErr result (λ fault.
+    ensures unwritten { IsTrue (D.view disk.old).is_honest → (st : Store) → ends_of st ≡ ends.now → IfErr result (λ fault.
         Same (D.view disk.old) (D.view disk.new) ⊎ ((fault ≡ Fault.Device) × WouldClean settings.now st (D.view disk.old).seen)) }
     ensures kept { Kept (D.view disk.old) (D.view disk.new) }
     ensures counted { OnOk result (D.failed disk.new ≡ D.failed disk.old) }
     ensures uncounted { IfErr result (λ fault. fault ≢ Fault.Device → D.failed disk.new ≡ D.failed disk.old) }
 {
-    if slot.head == last_segment(settings, slot.tail) {
+    if ends.head == last_segment(settings, ends.tail) {
         return Err(Fault::NothingToClean);
     }
-    let mut plan = plan(rt, crew, alloc, disk, settings, slot)?;
-    write(disk, settings, slot.tail, &mut plan)?;
-    Ok(plan.slot)
+    let commit = plan(rt, crew, alloc, disk, settings, ends)?;
+    let next = commit.slot();
+    commit.write(disk, settings)?;
+    Ok(next)
 }

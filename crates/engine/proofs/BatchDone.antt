@@ -13,16 +13,16 @@ use Rattle.mapping.specs.TreeInMemory.{TreeInMemory, AreAllHome, tree_of}
 use Rattle.climb_plan.specs.Plan.{plan, planned_tree}
 use Rattle.flush_log.specs.AfterFlush.{slot_of}
 use Rattle.flush_log.specs.Disk.{View}
+use Rattle.flush_log.specs.declared.slot.LogEnds.{LogEnds}
 use Rattle.flush_log.proofs.SlotLemmas.{slot-is}
 use Rattle.recovery.specs.InStep.{IsInStep, IsStore, IsStoreOf}
 use Rattle.engine.specs.Batch.{refusal_by, height_fault}
 use Rattle.engine.specs.Refusal.{refusal}
 use Rattle.engine.specs.SoundTree.{IsSoundInMemory}
 use Rattle.engine.specs.State.{IsSound, IsSoundStore, State, store_in}
-use Rattle.engine.specs.declared.store.Log.{Log}
 
 -- a store's tree is sound
-pub tree-sound : (s : Settings) (t : TreeInMemory) (log : Log) → AreAllHome t → IsStore s (store_in t log) → IsSoundInMemory s t
+pub tree-sound : (s : Settings) (t : TreeInMemory) (log : LogEnds) → AreAllHome t → IsStore s (store_in t log) → IsSoundInMemory s t
 tree-sound s t log home is = record {
   home = home;
   sound = record { settings = is.good; proper = is.proper; logs = is.logs; height = (slot-is s log.sequence (slot_of (store_in t log)) is.slot).height.1 };
@@ -33,7 +33,7 @@ pub height_of : {D : Type 0} {view : D → View} {x : State D} → IsSound view 
 height_of {x = x} sound = (slot-is x.settings x.store.sequence (slot_of x.store) sound.is.slot).height.1
 
 -- its store after a batch is the plan's
-pub planned-is : (s : Settings) (t now : TreeInMemory) (log : Log) (cs : List (Command Global)) → tree_of now ≡ planned_tree s (tree_of t) cs → store_in now log ≡ plan s (store_in t log) cs
+pub planned-is : (s : Settings) (t now : TreeInMemory) (log : LogEnds) (cs : List (Command Global)) → tree_of now ≡ planned_tree s (tree_of t) cs → store_in now log ≡ plan s (store_in t log) cs
 planned-is s t now log cs e = ap (λ (x : Tree). with_tree (store_in t log) x) e
 
 -- a batch that is done is refused by nothing
@@ -45,7 +45,7 @@ unrefused s t now cs none le e =
     ap (λ (o : Option Fault). option_or o (height_fault (planned_tree s (tree_of t) cs).height)) none
     ∙ low (planned_tree s (tree_of t) cs).height (subst (λ (x : Tree). x.height ≤ most_levels) e le)
 
-module _ {D : Type 0} (view : D → View) (s : Settings) (t now : TreeInMemory) (log : Log) (disk : D) (cs : List (Command Global)) where
+module _ {D : Type 0} (view : D → View) (s : Settings) (t now : TreeInMemory) (log : LogEnds) (disk : D) (cs : List (Command Global)) where
   pub batched-sound : IsSoundStore view s t log disk false → AreAllHome now → tree_of now ≡ planned_tree s (tree_of t) cs → refusal_by s (tree_of t) cs ≡ None → now.root < 2 ^ 64
       → ((s : Settings) (st : Store) (cs : List (Command Global)) → IsStore s st → refusal_by s st.tree cs ≡ None → (planned_tree s st.tree cs).root < 2 ^ 64 → IsStore s (plan s st cs))
       → ((s : Settings) (st : Store) (file : List ℕ) (cs : List (Command Global)) → IsStoreOf s st file → refusal_by s st.tree cs ≡ None → (planned_tree s st.tree cs).root < 2 ^ 64 → IsStoreOf s (plan s st cs) file)

@@ -6,28 +6,21 @@ use Rattle.keys.specs.declared.fault.Fault.TheVariants.{Device}
 use Rattle.keys.specs.declared.settings.Settings.{Settings}
 use Rattle.mapping.specs.Tree.{Store}
 use Rattle.mapping.specs.TreeInMemory.{TreeInMemory, tree_of}
-use Rattle.flush_log.specs.AfterFlush.{slot_of, store_after}
+use Rattle.flush_log.specs.AfterFlush.{store_after}
 use Rattle.flush_log.specs.Disk.{View, Kept, Same}
 use Rattle.flush_log.specs.Segments.{disk_size}
 use Rattle.flush_log.specs.Slot.{Slot}
+use Rattle.flush_log.specs.declared.slot.LogEnds.{LogEnds}
 use Rattle.recovery.specs.InStep.{IsInStep, IsStore, IsStoreOf}
 use Rattle.cleaner.specs.AfterClean.{after_clean}
 use Rattle.engine.specs.State.{IsSound, store_in}
-use Rattle.engine.specs.declared.store.Log.{Log}
-use Rattle.engine.proofs.CreateLemmas.{opened-is}
-
--- the slot of what is in memory
-pub slot-in : (tree : TreeInMemory) (log : Log) (root height : ℕ) → root ≡ tree.root → height ≡ tree.height
-    → slot_of (store_in tree log) ≡ record { sequence = log.sequence; head = log.head; tail = log.tail; root = root; height = height }
-slot-in tree log root height r h =
-    ap (λ (n : ℕ). (let t : Slot = record { sequence = log.sequence; head = log.head; tail = log.tail; root = n; height = tree.height } in t)) (sym r)
-    ∙ ap (λ (n : ℕ). (let t : Slot = record { sequence = log.sequence; head = log.head; tail = log.tail; root = root; height = n } in t)) (sym h)
+use Rattle.engine.proofs.CreateLemmas.{slot_with, opened-is}
 
 -- a clean that was done of these bytes leaves the store of the new slot
-pub cleaned-now : (r : Result (Store × List ℕ) Fault) (tree : TreeInMemory) (slot : Slot) (log : Log) (bytes : List ℕ) → (log.head ≡ slot.head) × (log.tail ≡ slot.tail) × (log.sequence ≡ slot.sequence)
+pub cleaned-now : (r : Result (Store × List ℕ) Fault) (tree : TreeInMemory) (slot : Slot) (log : LogEnds) (root height : ℕ) (bytes : List ℕ) → slot_with log root height ≡ slot
     → r ≡ Ok (store_after (tree_of tree) slot, bytes) → r ≡ Ok (store_in tree log, bytes)
-cleaned-now r tree slot log bytes parts done =
-    done ∙ ap (λ (st : Store). (let q : Result (Store × List ℕ) Fault = Ok (st, bytes) in q)) (sym (opened-is tree slot log parts))
+cleaned-now r tree slot log root height bytes same done =
+    done ∙ ap (λ (st : Store). (let q : Result (Store × List ℕ) Fault = Ok (st, bytes) in q)) (sym (opened-is tree slot log root height same))
 
 module _ {D : Type 0} (view : D → View) (s : Settings) (st : Store) (old new : D) (failed : Bool)
     (was : IsSound view (record { settings = s; store = st; disk = old; has_failed = failed })) (fine : failed ≡ false) (keeps : Kept (view old) (view new)) where

@@ -12,17 +12,17 @@ use Rattle.keys.specs.declared.settings.Field.{Field}
 use Rattle.keys.specs.declared.settings.Settings.{Settings}
 use Rattle.mapping.specs.Tree.{Store}
 use Rattle.mapping.specs.TreeInMemory.{TreeInMemory, new_in_memory, tree_of}
-use Rattle.flush_log.specs.AfterFlush.{store_after}
+use Rattle.flush_log.specs.AfterFlush.{slot_of, store_after}
 use Rattle.flush_log.specs.Disk.{View, Lawful, Kept}
 use Rattle.flush_log.specs.NewStore.{first_slot, new_bytes, disk_of_new}
 use Rattle.flush_log.specs.Segments.{HasSegments, disk_size}
 use Rattle.flush_log.specs.Slot.{Slot}
+use Rattle.flush_log.specs.declared.slot.LogEnds.{LogEnds}
 use Rattle.flush_log.proofs.FitLemmas.{are_sized}
 use Rattle.recovery.specs.InStep.{IsInStep, IsStoreOf}
 use Rattle.recovery.specs.StoreOfDisk.{first_store, store_of_disk}
 use Rattle.engine.specs.Late.{create_refusal, field_fault, after_create, made_unless}
 use Rattle.engine.specs.State.{IsSoundStore, store_in}
-use Rattle.engine.specs.declared.store.Log.{Log}
 
 -- what is made isn't refused
 pub not_refused : {X U : Type 0} (why : X → Fault) (o : Option X) (r : Result U Fault) (u : U) (P : Type 0) → MatchOption o P (λ x. r ≡ Err (why x)) → r ≡ Ok u → o ≡ None
@@ -45,21 +45,27 @@ new-fits s bytes len small size good is room whole least =
     let long : length bytes ≡ 545 = rw is refl in
     omega (arith, product, long, room, whole, least)
 
+-- the slot that says where a log begins and ends
+abbrev pub slot_with : LogEnds → ℕ → ℕ → Slot
+slot_with log root height = record { sequence = log.sequence; head = log.head; tail = log.tail; root = root; height = height }
+
+-- the slot of what is in memory
+pub slot-in : (tree : TreeInMemory) (log : LogEnds) (root height : ℕ) → root ≡ tree.root → height ≡ tree.height → slot_of (store_in tree log) ≡ slot_with log root height
+slot-in tree log root height r h =
+    ap (λ (n : ℕ). slot_with log n tree.height) (sym r) ∙ ap (λ (n : ℕ). slot_with log root n) (sym h)
+
 -- the store of a slot, as its log is kept
-pub opened-is : (tree : TreeInMemory) (slot : Slot) (log : Log) → (log.head ≡ slot.head) × (log.tail ≡ slot.tail) × (log.sequence ≡ slot.sequence) → store_in tree log ≡ store_after (tree_of tree) slot
-opened-is tree slot log (head, tail, sequence) =
-    ap (λ (n : ℕ). (let x : Store = record { tree = tree_of tree; head = n; tail = log.tail; sequence = log.sequence } in x)) head
-    ∙ ap (λ (n : ℕ). (let x : Store = record { tree = tree_of tree; head = slot.head; tail = n; sequence = log.sequence } in x)) tail
-    ∙ ap (λ (n : ℕ). (let x : Store = record { tree = tree_of tree; head = slot.head; tail = slot.tail; sequence = n } in x)) sequence
+pub opened-is : (tree : TreeInMemory) (slot : Slot) (log : LogEnds) (root height : ℕ) → slot_with log root height ≡ slot → store_in tree log ≡ store_after (tree_of tree) slot
+opened-is tree slot log root height same = ap (λ (t : Slot). store_after (tree_of tree) t) same
 
 -- a new tree under the log of the first slot is the first store
-pub first-is : (tree : TreeInMemory) (slot : Slot) (log : Log) → tree ≡ new_in_memory → slot ≡ first_slot → (log.head ≡ slot.head) × (log.tail ≡ slot.tail) × (log.sequence ≡ slot.sequence) → store_in tree log ≡ first_store
-first-is tree slot log new first same =
-    opened-is tree slot log same
+pub first-is : (tree : TreeInMemory) (slot : Slot) (log : LogEnds) (root height : ℕ) → tree ≡ new_in_memory → slot ≡ first_slot → slot_with log root height ≡ slot → store_in tree log ≡ first_store
+first-is tree slot log root height new first same =
+    opened-is tree slot log root height same
     ∙ ap (λ (t : Slot). store_after (tree_of tree) t) first
     ∙ ap (λ (t : TreeInMemory). store_after (tree_of t) first_slot) new
 
-module _ {D : Type 0} (view : D → View) (s : Settings) (tree : TreeInMemory) (log : Log) (old new : D) (is : store_in tree log ≡ first_store) (free : create_refusal s (view old).size ≡ None)
+module _ {D : Type 0} (view : D → View) (s : Settings) (tree : TreeInMemory) (log : LogEnds) (old new : D) (is : store_in tree log ≡ first_store) (free : create_refusal s (view old).size ≡ None)
     (law : IsTrue (view old).is_honest → Lawful (view old)) (bytes : IsTrue (view old).is_honest → (view new).seen ≡ disk_of_new s (view old).seen) where
   pub made-bytes : IsTrue (view old).is_honest → after_create s (view old).seen ≡ Ok (store_in tree log, (view new).seen)
   made-bytes honest =

@@ -1,25 +1,30 @@
--- What a flush that was planned leaves.
-use Rattle.std.specs.Prelude.{◌≡◌, ◌≢◌, ◌⊎◌, ◌≤◌, ℕ, suc, IsTrue, Bool, true, false, if◌then◌else◌, List, [], ◌∷◌, Result, Ok, Err}
-use Rattle.std.proofs.Common.{refl, sym, ap, ◌∙◌, subst, inl, inr}
+-- Why a flush is refused, and what one that was planned leaves.
+use Rattle.std.specs.Prelude.{◌≡◌, ◌≢◌, ◌⊎◌, ◌≤◌, ℕ, suc, IsTrue, Bool, true, false, if◌then◌else◌, List, [], ◌∷◌, length, Result, Ok, Err, MatchResult, IfOk, IfErr}
+use Rattle.std.proofs.Common.{refl, sym, ap, ◌∙◌, subst, inl, inr, arith}
 use Rattle.keys.specs.declared.fault.Fault.{Fault}
 use Rattle.keys.specs.declared.fault.Fault.TheVariants.{NoMemory, Device, Spent, Full}
 use Rattle.keys.specs.declared.settings.Settings.{Settings}
 use Rattle.mapping.specs.Tree.{Tree, Store}
+use Rattle.mapping.specs.TreeInMemory.{TreeInMemory, tree_of}
 use Rattle.frame_codec.specs.Frame.{Frame}
-use Rattle.flush_log.specs.AfterFlush.{flush_slot, is_spent, store_after, after_text, after_flush}
-use Rattle.flush_log.specs.Commit.{IsUncommitted, committed}
-use Rattle.flush_log.specs.Disk.{View, Kept}
+use Rattle.flush_log.specs.AfterFlush.{slot_of, flush_slot, is_spent, store_after, after_text, after_flush}
+use Rattle.flush_log.specs.Commit.{committed, IsUncommitted}
+use Rattle.flush_log.specs.CommitPlan.{AreImages, CommitPlan, next_tail, IsPlanned, file_with, LeftOf}
+use Rattle.flush_log.specs.Disk.{View, Kept, LeavesOnly}
 use Rattle.flush_log.specs.FlushText.{flush_text, HasFrames, flushed}
+use Rattle.flush_log.specs.Images.{AreOfText}
 use Rattle.flush_log.specs.Layout.{spans, is_full_for_flush}
 use Rattle.flush_log.specs.Segments.{disk_size}
 use Rattle.flush_log.specs.Slot.{Slot}
+use Rattle.flush_log.specs.declared.slot.LogEnds.{LogEnds}
+use Rattle.flush_log.proofs.AdmitLemmas.{commit-refused, commit-admitted}
+use Rattle.flush_log.proofs.ViewLemmas.{weaker}
 use Rattle.recovery.specs.InStep.{IsInStep, IsStore, IsStoreOf}
 use Rattle.recovery.specs.StoreOfDisk.{store_of_disk}
-use Rattle.engine.specs.Calls.{IsPlan, WouldFlush}
-use Rattle.engine.specs.State.{IsSound}
-
-abbrev pub left : Store → List ℕ → Result (Store × List ℕ) Fault
-left now bytes = Ok (now, bytes)
+use Rattle.recovery.proofs.FlushBack.{left, text-some}
+use Rattle.engine.specs.Calls.{IsFlush, WouldFlush}
+use Rattle.engine.specs.State.{IsSound, store_in}
+use Rattle.engine.proofs.CreateLemmas.{slot_with, opened-is}
 
 -- an empty text leaves all
 pub nothing-flushed : (s : Settings) (st : Store) (file : List ℕ) → flush_text st.tree ≡ [] → after_flush s st file ≡ left st file
@@ -28,41 +33,70 @@ nothing-flushed s st file none = ap (after_text s st file) none
 pub nothing-framed : (s : Settings) (t : Tree) → flush_text t ≡ [] → HasFrames s t
 nothing-framed s t none = rw none tt
 
--- ---- what a plan leaves
+-- a text that is not empty has a frame
+some_frame : (text : List Frame) → text ≢ [] → 1 ≤ length text
+some_frame [] some = absurd (some refl)
+some_frame (f ∷ fs) some = omega arith
 
-module _ (s : Settings) (st : Store) (images : List (List (List ℕ))) (t : Slot) (room : ℕ) (p : IsPlan s st images t room) (tree : Tree) (is_tree : tree ≡ flushed st.tree) where
+-- images of the text of a flush that has something to write
+pub text-spelled : (s : Settings) (st : Store) (images : List (List (List ℕ))) → flush_text st.tree ≢ [] → AreOfText images (flush_text st.tree) → HasFrames s st.tree → AreImages s (flush_text st.tree) images
+text-spelled s st images some of frames = record { of = of; some = inr (some_frame (flush_text st.tree) some); within = frames }
+
+-- ---- a flush that has something to write
+
+-- the store before, or all that the flush leaves
+abbrev BeforeOrAfter : Settings → Store → List ℕ → List ℕ → Type 0
+BeforeOrAfter s st file c = (store_of_disk c ≡ store_of_disk file) ⊎ ((now : Store) × (after_flush s st file ≡ Ok (now, c)))
+
+-- until it is committed it isn't seen
+abbrev HidesFlush : Type 0
+HidesFlush = (s : Settings) (st now : Store) (file bytes c : List ℕ) → IsStoreOf s st file → HasFrames s st.tree → flush_text st.tree ≢ [] → after_flush s st file ≡ Ok (now, bytes)
+    → IsUncommitted s (suc st.sequence) (spans s st.tail (flush_text st.tree)) file c → store_of_disk c ≡ store_of_disk file
+
+module _ (s : Settings) (st : Store) (some : flush_text st.tree ≢ []) where
+  abbrev slot : Slot
+  slot = flush_slot s st (flush_text st.tree)
+
+  abbrev is_full : Bool
+  is_full = is_full_for_flush s slot.head slot.tail
+
   abbrev now : Store
-  now = record { tree = tree; head = st.head; tail = t.tail; sequence = t.sequence }
+  now = store_after (flushed st.tree) slot
 
-  now-is : store_after (flushed st.tree) t ≡ now
-  now-is =
-      ap (λ (h : ℕ). (let x : Store = record { tree = flushed st.tree; head = h; tail = t.tail; sequence = t.sequence } in x)) (ap (λ (u : Slot). u.head) p.slot)
-      ∙ ap (λ (r : Tree). (let x : Store = record { tree = r; head = st.head; tail = t.tail; sequence = t.sequence } in x)) (sym is_tree)
+  pub flush-refused : (fault : Fault) → next_tail s (slot_of st) (flush_text st.tree) ≡ Err fault → (file : List ℕ) → after_flush s st file ≡ Err fault
+  flush-refused fault h file = text-some s st file (flush_text st.tree) some ∙ commit-refused slot is_full now (committed s file (spans s st.tail (flush_text st.tree)) slot) fault h
 
-  pub plan-done : (file : List ℕ) → after_flush s st file ≡ left now (committed s file (spans s st.tail (flush_text st.tree)) t)
-  plan-done file = p.done file ∙ ap (λ (x : Store). left x (committed s file (spans s st.tail (flush_text st.tree)) t)) now-is
+  module _ (m : CommitPlan) (p : IsFlush s st m) where
+    flush-done : (file : List ℕ) → after_flush s st file ≡ left now (file_with s (slot_of st) (flush_text st.tree) file)
+    flush-done file = text-some s st file (flush_text st.tree) some ∙ commit-admitted slot is_full now (committed s file (spans s st.tail (flush_text st.tree)) slot) p.unspent p.free
 
--- where its store isn't looked at
-module _ (s : Settings) (st : Store) (images : List (List (List ℕ))) (t : Slot) (room : ℕ) (some : flush_text st.tree ≢ []) (p : IsPlan s st images t room) where
-  pub plan-would : (file : List ℕ) → WouldFlush s st file
-  plan-would file = (some, store_after (flushed st.tree) t, committed s file (spans s st.tail (flush_text st.tree)) t, p.done file)
+    pub flush-would : (file : List ℕ) → WouldFlush s st file
+    flush-would file = (some, now, file_with s (slot_of st) (flush_text st.tree) file, flush-done file)
 
-  -- what a crash leaves
-  pub plan-crash : (file c : List ℕ) → IsStoreOf s st file
-      → ((now : Store) (bytes : List ℕ) → after_flush s st file ≡ left now bytes → IsUncommitted s (suc st.sequence) (spans s st.tail (flush_text st.tree)) file c → store_of_disk c ≡ store_of_disk file)
-      → IsUncommitted s (suc st.sequence) (spans s st.tail (flush_text st.tree)) file c ⊎ (c ≡ committed s file (spans s st.tail (flush_text st.tree)) t)
-      → (store_of_disk c ≡ store_of_disk file) ⊎ ((now : Store) × (after_flush s st file ≡ Ok (now, c)))
-  plan-crash file c is hidden (inl hid) = inl (hidden _ _ (p.done file) hid)
-  plan-crash file c is hidden (inr whole) = inr (store_after (flushed st.tree) t, p.done file ∙ ap (left (store_after (flushed st.tree) t)) (sym whole))
+    flush-left : (file c : List ℕ) → IsStoreOf s st file → HidesFlush → LeftOf s (slot_of st) (flush_text st.tree) file c → BeforeOrAfter s st file c
+    flush-left file c is hidden (inl hid) = inl (hidden s st now file (file_with s (slot_of st) (flush_text st.tree) file) c is p.spelled.within some (flush-done file) hid)
+    flush-left file c is hidden (inr whole) = inr (now, flush-done file ∙ ap (left now) (sym whole))
 
--- ---- in memory
+    -- what a crash leaves
+    pub flush-crashed : (old new : View) → IsStoreOf s st old.seen → HidesFlush → LeavesOnly old new (LeftOf s (slot_of st) (flush_text st.tree) old.seen) → LeavesOnly old new (BeforeOrAfter s st old.seen)
+    flush-crashed old new is hidden run =
+        weaker old new (LeftOf s (slot_of st) (flush_text st.tree) old.seen) (BeforeOrAfter s st old.seen) (λ c h. flush-left old.seen c is hidden h) run
 
--- a plan's slot, as it was kept
-pub flushed-now : (s : Settings) (st : Store) (images : List (List (List ℕ))) (t u : Slot) (room : ℕ) (tree : Tree) → IsPlan s st images t room → u ≡ t → tree ≡ flushed st.tree
-    → (file : List ℕ) → after_flush s st file ≡ left (record { tree = tree; head = st.head; tail = u.tail; sequence = u.sequence }) (committed s file (spans s st.tail (flush_text st.tree)) t)
-flushed-now s st images t u room tree p same is_tree file =
-    plan-done s st images t room p tree is_tree file
-    ∙ ap (λ (v : Slot). left (record { tree = tree; head = st.head; tail = v.tail; sequence = v.sequence }) (committed s file (spans s st.tail (flush_text st.tree)) t)) (sym same)
+    -- in memory, where the log is kept as the commit's slot says
+    pub flushed-now : (tree : TreeInMemory) (log : LogEnds) (root height : ℕ) → tree_of tree ≡ flushed st.tree → slot_with log root height ≡ m.slot → (file : List ℕ)
+        → after_flush s st file ≡ left (store_in tree log) (file_with s (slot_of st) (flush_text st.tree) file)
+    flushed-now tree log root height is_tree kept file =
+        flush-done file
+        ∙ ap (λ (x : Store). left x (file_with s (slot_of st) (flush_text st.tree) file))
+        (ap (λ (t : Tree). store_after t slot) (sym is_tree) ∙ sym (opened-is tree slot log root height (kept ∙ p.slot)))
+
+-- what is told of the plan of a commit behind this slot, which is the store's
+pub flush-told : (s : Settings) (st : Store) (u : Slot) (r : Result CommitPlan Fault) → flush_text st.tree ≢ [] → slot_of st ≡ u
+    → MatchResult r (λ m. IsPlanned s u (flush_text st.tree) m) (λ fault. (fault ≡ NoMemory) ⊎ (next_tail s u (flush_text st.tree) ≡ Err fault))
+    → IfOk r (λ m. IsFlush s st m) × IfErr r (λ fault. (fault ≡ NoMemory) ⊎ ((file : List ℕ) → after_flush s st file ≡ Err fault))
+flush-told s st u (Ok m) some is p = (subst (λ (v : Slot). IsPlanned s v (flush_text st.tree) m) (sym is) p, tt)
+flush-told s st u (Err fault) some is (inl memory) = (tt, inl memory)
+flush-told s st u (Err fault) some is (inr full) = (tt, inr (λ file. flush-refused s st some fault (subst (λ (v : Slot). next_tail s v (flush_text st.tree) ≡ Err fault) (sym is) full) file))
 
 -- a flush is refused by its right with two faults alone
 not_device_by : (a b : Bool) (now : Store) (file : List ℕ) (fault : Fault) → (if a then Err Spent else (if b then Err Full else left now file)) ≡ Err fault → fault ≢ Device

@@ -10,7 +10,6 @@ mod Crossing
 mod EndedRoutes
 mod Executed
 mod FlushDone
-mod FlushPlan
 mod InTurn
 mod LeafRoutes
 mod OpenedLemmas
@@ -20,7 +19,6 @@ mod PartedLemmas
 mod PlayLemmas
 mod PlayTurn
 mod Readied
-mod ReadLemmas
 mod Routed
 mod SeenLeaves
 mod StepDone

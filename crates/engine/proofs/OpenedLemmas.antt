@@ -11,6 +11,7 @@ use Rattle.flush_log.specs.AfterFlush.{store_after}
 use Rattle.flush_log.specs.Disk.{View, Lawful, Kept, Leaves, Same}
 use Rattle.flush_log.specs.Segments.{disk_size}
 use Rattle.flush_log.specs.Slot.{Slot}
+use Rattle.flush_log.specs.declared.slot.LogEnds.{LogEnds}
 use Rattle.flush_log.proofs.SettingsLemmas.{store_settings-are}
 use Rattle.flush_log.proofs.ViewLemmas.{counted_failed}
 use Rattle.recovery.specs.InStep.{IsInStep, IsStoreOf}
@@ -20,8 +21,7 @@ use Rattle.recovery.proofs.ReadBytes.{first_read}
 use Rattle.recovery.proofs.StoreLemmas.{StandsBy, store-stands}
 use Rattle.engine.specs.Opened.{IsOpened}
 use Rattle.engine.specs.State.{IsSound, IsSoundStore, State, store_in}
-use Rattle.engine.specs.declared.store.Log.{Log}
-use Rattle.engine.proofs.CreateLemmas.{opened-is}
+use Rattle.engine.proofs.CreateLemmas.{slot_with, opened-is}
 
 module _ {D : Type 0} (view : D → View) (s : Settings) (st : Store) (old new : D) (file : Bytes)
     (read : IsReadOf (view old) file) (is : store_of_disk file ≡ Ok (s, st))
@@ -44,20 +44,20 @@ abbrev read_as : Settings → Store → Result (Settings × Store) Fault
 read_as s st = Ok (s, st)
 
 -- in memory
-module _ {D : Type 0} (view : D → View) (s : Settings) (tree : TreeInMemory) (slot : Slot) (log : Log) (old new : D) (file : Bytes)
+module _ {D : Type 0} (view : D → View) (s : Settings) (tree : TreeInMemory) (slot : Slot) (log : LogEnds) (root height : ℕ) (old new : D) (file : Bytes)
     (read : IsReadOf (view old) file) (is : store_of_disk file ≡ Ok (s, store_after (tree_of tree) slot))
     (kept : Kept (view old) (view new)) (same : IsTrue (view old).is_honest → Same (view old) (view new))
     (law : (s : Settings) (st : Store) (file : Bytes) → store_of_disk file ≡ Ok (s, st) → IsStoreOf s st file)
-    (parts : (log.head ≡ slot.head) × (log.tail ≡ slot.tail) × (log.sequence ≡ slot.sequence)) where
+    (kept_as : slot_with log root height ≡ slot) where
   pub opened-store : AreAllHome tree → IsSoundStore view s tree log new false
   opened-store home = record {
     home = home;
-    sound = subst (λ (st : Store). IsSound view (record { settings = s; store = st; disk = new; has_failed = false })) (sym (opened-is tree slot log parts))
+    sound = subst (λ (st : Store). IsSound view (record { settings = s; store = st; disk = new; has_failed = false })) (sym (opened-is tree slot log root height kept_as))
         (opened-sound view s (store_after (tree_of tree) slot) old new file read is kept same law);
   }
 
   pub opened-read : store_of_disk file ≡ Ok (s, store_in tree log)
-  opened-read = is ∙ ap (λ (st : Store). read_as s st) (sym (opened-is tree slot log parts))
+  opened-read = is ∙ ap (λ (st : Store). read_as s st) (sym (opened-is tree slot log root height kept_as))
 
   pub opened-seen : IsTrue (view old).is_honest → store_of_disk (view old).seen ≡ Ok (s, store_in tree log)
   opened-seen honest = subst (λ (f : Bytes). store_of_disk f ≡ read_as s (store_in tree log)) (read.honest honest) opened-read

@@ -8,6 +8,7 @@ use Rattle.keys.specs.declared.fault.Fault.TheVariants.{BadSettings, KeyTooLong,
 use Rattle.keys.specs.declared.settings.Settings.{Settings}
 use Rattle.mapping.specs.Tree.{Store}
 use Rattle.flush_log.specs.Disk.{View, Lawful, IsSettled, Kept, Same, LeavesOnly}
+use Rattle.flush_log.proofs.SameLemmas.{settled_still, left_still, leaves_itself}
 use Rattle.flush_log.proofs.ViewLemmas.{only_then, weaker, now_leaves}
 use Rattle.recovery.specs.StoreOfDisk.{store_of_disk}
 use Rattle.engine.specs.Plays.{IsPlayed, IsPlayedOn, IsStepDone, IsStepFault, IsLeftInStep, step_of, answer_of, tried}
@@ -16,7 +17,6 @@ use Rattle.engine.specs.Steps.{Step, Answer, Played, Stepped, StandsAfterSome, H
 use Rattle.engine.specs.declared.step.Step as code_step
 use Rattle.engine.specs.declared.step.Answer as code_answer
 use Rattle.engine.proofs.PlayLemmas.{plays-append, words-append, stands-later, stands-last}
-use Rattle.engine.proofs.ReadLemmas.{leaves_itself, left_still, settled_still}
 
 -- ---- steps as they are called
 

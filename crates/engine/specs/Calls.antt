@@ -1,26 +1,18 @@
 -- What the calls of a store on a disk answer, where a store and its bytes don't decide it alone.
-use Rattle.std.specs.Prelude.{◌≡◌, ◌≢◌, ◌⊎◌, ℕ, ◌≤◌, [], Ok, Err, List}
+use Rattle.std.specs.Prelude.{◌≡◌, ◌≢◌, ◌⊎◌, ℕ, [], Ok, Err}
 use Rattle.keys.specs.Bytes.{Bytes}
 use Rattle.keys.specs.declared.fault.Fault.{Fault}
 use Rattle.keys.specs.declared.fault.Fault.TheVariants.{NoMemory, Device}
 use Rattle.keys.specs.declared.settings.Settings.{Settings}
 use Rattle.mapping.specs.Tree.{Store}
-use Rattle.flush_log.specs.AfterFlush.{flush_slot, store_after, after_flush}
-use Rattle.flush_log.specs.Commit.{committed}
+use Rattle.flush_log.specs.AfterFlush.{slot_of, after_flush}
+use Rattle.flush_log.specs.CommitPlan.{CommitPlan, IsPlanned}
 use Rattle.flush_log.specs.Disk.{HasFailed}
-use Rattle.flush_log.specs.FlushText.{flush_text, HasFrames, flushed}
-use Rattle.flush_log.specs.Images.{AreOfText}
-use Rattle.flush_log.specs.Layout.{spans}
-use Rattle.flush_log.specs.Slot.{Slot}
+use Rattle.flush_log.specs.FlushText.{flush_text}
 
--- What a flush of this store writes, which nothing refuses: its frames, as images, and the slot that commits them; and there is
--- room for the bytes of a segment.
-pub record IsPlan (s : Settings) (st : Store) (images : List (List Bytes)) (t : Slot) (size : ℕ) : Type 0 where
-  pub text : AreOfText images (flush_text st.tree)
-  pub frames : HasFrames s st.tree
-  pub slot : t ≡ flush_slot s st (flush_text st.tree)
-  pub done : (file : Bytes) → after_flush s st file ≡ Ok (store_after (flushed st.tree) t, committed s file (spans s st.tail (flush_text st.tree)) t)
-  pub room : s.seg_size ≤ size
+-- the commit of a flush of this store, which nothing refuses
+abbrev pub IsFlush : Settings → Store → CommitPlan → Type 0
+IsFlush s st m = IsPlanned s (slot_of st) (flush_text st.tree) m
 
 -- a flush of this store would be done, and has something to write
 abbrev pub WouldFlush : Settings → Store → Bytes → Type 0

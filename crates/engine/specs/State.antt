@@ -5,8 +5,8 @@ use Rattle.mapping.specs.Tree.{Store}
 use Rattle.mapping.specs.TreeInMemory.{TreeInMemory, AreAllHome, tree_of}
 use Rattle.flush_log.specs.Disk.{View}
 use Rattle.flush_log.specs.Segments.{disk_size}
+use Rattle.flush_log.specs.declared.slot.LogEnds.{LogEnds}
 use Rattle.recovery.specs.InStep.{IsStore, IsInStep}
-use Rattle.engine.specs.declared.store.Log.{Log}
 
 -- the settings, what the definitions call a store, the disk, and whether a call of the disk has failed for a store that wrote
 pub record State (D : Type 0) : Type 0 where
@@ -23,14 +23,14 @@ pub record IsSound {D : Type 0} (view : D → View) (x : State D) : Type 0 where
   pub step : x.has_failed ≡ false → IsTrue (view x.disk).is_honest → IsInStep x.settings x.store (view x.disk).seen
 
 -- the store of a tree in memory and its log
-abbrev pub store_in : TreeInMemory → Log → Store
+abbrev pub store_in : TreeInMemory → LogEnds → Store
 store_in t log = record { tree = tree_of t; head = log.head; tail = log.tail; sequence = log.sequence }
 
 -- and with all else that a store has in memory
-abbrev pub state_of : {D : Type 0} → Settings → TreeInMemory → Log → D → Bool → State D
+abbrev pub state_of : {D : Type 0} → Settings → TreeInMemory → LogEnds → D → Bool → State D
 state_of s t log disk has_failed = record { settings = s; store = store_in t log; disk = disk; has_failed = has_failed }
 
 -- and sound, where all pages are at home
-pub record IsSoundStore {D : Type 0} (view : D → View) (s : Settings) (t : TreeInMemory) (log : Log) (disk : D) (has_failed : Bool) : Type 0 where
+pub record IsSoundStore {D : Type 0} (view : D → View) (s : Settings) (t : TreeInMemory) (log : LogEnds) (disk : D) (has_failed : Bool) : Type 0 where
   pub home : AreAllHome t
   pub sound : IsSound view (state_of s t log disk has_failed)

@@ -31,7 +31,7 @@ use flush_log::Disk;
 use flush_log::commit::write_through;
 use flush_log::new_store::{first_slot, new_bytes};
 use flush_log::segments::disk_size;
-use flush_log::slot::Slot;
+use flush_log::slot::LogEnds;
 use keys::{Command, Fault, Reply, Settings};
 use mapping::laws::{
     nothing_is_found_exactly_in_a_proper_tree, the_first_tree_is_proper_and_empty,
@@ -44,14 +44,6 @@ use std::marker::Model;
 use std::thread::Threads;
 use verify::Report;
 
-// Where the log begins and ends, and the number of its last commit.
-#[derive(Clone, Copy)]
-struct Log {
-    head: u64,
-    tail: u64,
-    sequence: u64,
-}
-
 /// A store of keys and values: a tree of pages under a mapping table, whose log is on a disk. Contracts see it as a `State`; what is
 /// true of every store is its invariant, whatever the disk does.
 ///
@@ -61,7 +53,7 @@ pub struct Store<D: Disk> {
     settings: Settings,
     alloc: Global,
     tree: Tree<Global>,
-    log: Log,
+    log: LogEnds,
     disk: D,
     has_failed: bool,
 }
@@ -74,17 +66,6 @@ impl<D: Disk> Model for Store<D> {
     ghost view = { λ s. state_of s.settings s.tree s.log s.disk s.has_failed };
 
     ghost invariant = { λ s. IsSoundStore D.view s.settings s.tree s.log s.disk s.has_failed };
-}
-
-// Where the log of a slot begins and ends, and the number of its commit.
-fn log_of(slot: &Slot) -> Log
-    ensures { (result.head ≡ slot.now.head) × (result.tail ≡ slot.now.tail) × (result.sequence ≡ slot.now.sequence) }
-{
-    Log {
-        head: slot.head,
-        tail: slot.tail,
-        sequence: slot.sequence,
-    }
 }
 
 // Makes the disk one of a new store, and gives the tree. Nothing is written before all else has answered.
@@ -133,12 +114,13 @@ impl<D: Disk> Store<D> {
         the_first_tree_is_proper_and_empty();
         a_new_disk_stands_for_the_first_store();
         let mut disk = disk;
+        let first = first_slot();
         match make(alloc, &mut disk, &settings) {
             Ok(tree) => Ok(Store {
                 settings,
                 alloc,
                 tree,
-                log: log_of(&first_slot()),
+                log: first.ends,
                 disk,
                 has_failed: false,
             }),

@@ -1,12 +1,12 @@
--- Why a commit is refused, told by its tail.
-use Rattle.std.proofs.Common.{◌≡◌, ℕ, ◌+◌, ◌-◌, Bool, true, false, nat_le, if◌then◌else◌, Option, Some, None, Result, Ok, Err, refl, sym, ap, ◌∙◌, arith}
+-- Why a commit is refused, by its tail.
+use Rattle.std.proofs.Common.{◌≡◌, ℕ, Bool, true, false, if◌then◌else◌, List, Option, Some, None, Result, Ok, Err, refl, sym, ap, ◌∙◌}
 use Rattle.keys.specs.declared.settings.Settings.{Settings}
 use Rattle.keys.specs.declared.fault.Fault.{Fault}
 use Rattle.keys.specs.declared.fault.Fault.TheVariants.{Full, Spent}
-use Rattle.flush_log.specs.AfterFlush.{is_spent}
+use Rattle.mapping.specs.Tree.{Store}
+use Rattle.flush_log.specs.AfterFlush.{is_spent, after_commit}
 use Rattle.flush_log.specs.Images.{admitted}
-use Rattle.flush_log.specs.Layout.{is_full_for_clean}
-use Rattle.flush_log.specs.Segments.{last_segment}
+use Rattle.flush_log.specs.Layout.{is_full_for_flush}
 use Rattle.flush_log.specs.Slot.{Slot}
 
 abbrev pub Answer : Type 0
@@ -36,9 +36,43 @@ admits t tail is_full full = of (is_spent t)
         let same : tail ≡ t.tail = cc in
         ap (λ (n : ℕ). by_room n full) same ∙ ap (by_room t.tail) (told same)
 
--- how many segments are to stay free
-pub full_told : (s : Settings) (t : Slot) (head tail free : ℕ) → t.head ≡ head → tail ≡ t.tail → nat_le (head + s.segments - free) (last_segment s tail) ≡ nat_le (t.head + s.segments - free) (last_segment s t.tail)
-full_told s t head tail free h is = ap (λ (n : ℕ). nat_le (n + s.segments - free) (last_segment s tail)) (sym h) ∙ ap (λ (n : ℕ). nat_le (t.head + s.segments - free) (last_segment s n)) is
+-- whether it is full, by its head and its tail
+pub full_told : (s : Settings) (t : Slot) (head tail : ℕ) → t.head ≡ head → tail ≡ t.tail → is_full_for_flush s head tail ≡ is_full_for_flush s t.head t.tail
+full_told s t head tail h is = ap (λ (n : ℕ). is_full_for_flush s n tail) (sym h) ∙ ap (λ (n : ℕ). is_full_for_flush s t.head n) is
 
-pub none_free : (s : Settings) (t : Slot) → nat_le (t.head + s.segments - 0) (last_segment s t.tail) ≡ is_full_for_clean s t.head t.tail
-none_free s t = let same : t.head + s.segments - 0 ≡ t.head + s.segments = omega arith in ap (λ (n : ℕ). nat_le n (last_segment s t.tail)) same
+-- ---- what is left, by the answer
+
+-- of a commit that is admitted with this tail
+pub record IsAdmitted (t : Slot) (is_full : Bool) (n : ℕ) : Type 0 where
+  pub unspent : is_spent t ≡ false
+  pub room : is_full ≡ false
+  pub tail : n ≡ t.tail
+
+pub admitted-told : (t : Slot) (is_full : Bool) (tail : ℕ) → (let told : Answer = Ok tail in told ≡ admitted t is_full) → IsAdmitted t is_full tail
+admitted-told t is_full tail h = of (is_spent t) is_full refl h
+  where
+    of : (a b : Bool) → is_spent t ≡ a → (let told : Answer = Ok tail in told ≡ (if a then Err Spent else by_room t.tail b)) → IsAdmitted t b tail
+    of true b e k = absurd (cc)
+    of false true e k = absurd (cc)
+    of false false e k = record { unspent = e; room = refl; tail = cc }
+
+abbrev Left : Type 0
+Left = Result (Store × List ℕ) Fault
+
+module _ (t : Slot) (is_full : Bool) (st : Store) (file : List ℕ) where
+  pub commit-refused : (fault : Fault) → admitted t is_full ≡ Err fault → after_commit t is_full st file ≡ Err fault
+  commit-refused fault h = of (is_spent t) is_full h
+    where
+      of : (a b : Bool) → (let spent : Answer = Err Spent in if a then spent else by_room t.tail b) ≡ Err fault
+          → (let done : Left = Ok (st, file) in if a then Err Spent else (if b then Err Full else done)) ≡ Err fault
+      of true b k = cc
+      of false true k = cc
+      of false false k = absurd (cc)
+
+  pub commit-admitted : is_spent t ≡ false → is_full ≡ false → after_commit t is_full st file ≡ Ok (st, file)
+  commit-admitted unspent room = of (is_spent t) is_full unspent room
+    where
+      of : (a b : Bool) → a ≡ false → b ≡ false → (let done : Left = Ok (st, file) in (if a then Err Spent else (if b then Err Full else done)) ≡ done)
+      of true b e k = absurd (cc)
+      of false true e k = absurd (cc)
+      of false false e k = refl

@@ -25,12 +25,14 @@ pub mod OutcomeLemmas
 pub mod OverlayLemmas
 pub mod PlaceLemmas
 mod PlaceRows
+pub mod PlannedLemmas
 pub mod ProperPages
 pub mod PutTogether
 pub mod ReachLemmas
 pub mod ReadBackLemmas
 pub mod ReadNumbers
 pub mod RecordLemmas
+pub mod SameLemmas
 pub mod SegmentLemmas
 pub mod SettingsLemmas
 pub mod SlotLemmas

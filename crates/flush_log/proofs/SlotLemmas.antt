@@ -14,6 +14,7 @@ use Rattle.keys.proofs.CellLemmas.{number-back}
 use Rattle.frame_codec.specs.Frame.{is_pid}
 use Rattle.flush_log.specs.Segments.{last_segment}
 use Rattle.flush_log.specs.SettingsBlock.{number_or_0}
+use Rattle.flush_log.specs.Ends.{ends_in, AreEnds}
 use Rattle.flush_log.specs.Slot.{Slot, greatest, slot_place, slot_bytes, slot_in, is_tail, is_slot, is_open, read_open, read_slot, newer, store_slot}
 use Rattle.keys.proofs.LimitLemmas.{within}
 
@@ -324,3 +325,9 @@ one_refused s n disk h = ⊎_elim
     of : (a : Said) → read_slot s 0 disk ≡ a → newer a (Err NoSlot) ≡ Err NoSlot
     of (Err f) is = ap (λ (g : Fault). let r : Result Slot Fault = Err g in r) (slot-fault s 0 disk f is)
     of (Ok x) is = refl
+
+-- the ends of a slot that is well formed
+pub ends-are : (s : Settings) (t : Slot) → is_slot s t.sequence t ≡ true → AreEnds s (ends_in t)
+ends-are s t h =
+    let is = slot-is s t.sequence t h in
+    record { number = is.sequence.1; after = is.behind; tail = is.tail; last = is.last }

@@ -1,7 +1,7 @@
 -- Tails: how far a text moves them, and what it means that a log is full.
-use Rattle.std.specs.Prelude.{◌≡◌, ℕ, zero, suc, ◌+◌, ◌-◌, ◌*◌, ◌%◌, ◌/◌, ◌≤◌, ◌<◌, Bool, true, false, List, [], ◌∷◌, length, None}
+use Rattle.std.specs.Prelude.{◌≡◌, ℕ, zero, suc, ◌+◌, ◌-◌, ◌*◌, ◌%◌, ◌/◌, ◌≤◌, ◌<◌, Bool, true, false, nat_le, List, [], ◌∷◌, length, None}
 use Rattle.std.specs.List.{AllByRecursion, sum_by}
-use Rattle.std.proofs.Common.{refl, arith, leb-true, le-leb}
+use Rattle.std.proofs.Common.{refl, ap, arith, leb-true, le-leb}
 use Rattle.std.proofs.Math.Nat.{mul-le-mul_right}
 use Rattle.std.proofs.lemmas.Bool.{leb-false}
 use Rattle.std.proofs.lemmas.List.Sums.{sum_by-cons}
@@ -113,3 +113,7 @@ too-long s head tail text good within less long = of (is_full_for_clean s head (
 -- what is full for a clean is full for a flush
 pub full-for-flush : (s : Settings) (head tail : ℕ) → is_full_for_clean s head tail ≡ true → is_full_for_flush s head tail ≡ true
 full-for-flush s head tail h = let full = leb-true (head + s.segments) (last_segment s tail) h in le-leb (head + s.segments - 1) (last_segment s tail) (omega arith)
+
+-- what is full for a clean is full for a flush of the log that begins one segment later
+pub clean-is-flush : (s : Settings) (head tail : ℕ) → is_full_for_clean s head tail ≡ is_full_for_flush s (suc head) tail
+clean-is-flush s head tail = let same : head + s.segments ≡ suc head + s.segments - 1 = omega arith in ap (λ (n : ℕ). nat_le n (last_segment s tail)) same

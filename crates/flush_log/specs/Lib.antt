@@ -1,7 +1,9 @@
 pub mod AfterFlush
 pub mod Commit
+pub mod CommitPlan
 pub mod Crash
 pub mod Disk
+pub mod Ends
 pub mod Faults
 pub mod FlushText
 pub mod Gathering

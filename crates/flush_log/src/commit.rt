@@ -17,8 +17,8 @@ use crate::slot::{SLOT_SIZE, Slot, slot_bytes};
 use crate::write::write_text;
 use keys::Settings;
 
-// Where the slots begin on a disk.
-const SLOTS_BEGIN: u64 = 128;
+/// Where the slots begin on a disk.
+pub const SLOTS_BEGIN: u64 = 128;
 
 /// Where the slot for a sequence number stands on a disk.
 pub fn slot_place(sequence: u64) -> u64
@@ -84,7 +84,7 @@ pub fn write_slot<D: Disk>(disk: &mut D, slot: &Slot) -> Result<(), DiskFault>
         LeavesOnly (D.view disk.old) (D.view disk.new) (λ c. IsBehindGate slot.now.sequence (D.view disk.old).seen c
         ⊎ (c ≡ overlay (D.view disk.old).seen (slot_place slot.now.sequence) (slot_bytes slot.now))) }
 {
-    let gate = slot_place(slot.sequence);
+    let gate = slot_place(slot.ends.sequence);
     let bytes = slot_bytes(slot);
     write_through(disk, gate + 1, &bytes[1..])?;
     write_through(disk, gate, &bytes[..1])
@@ -185,6 +185,14 @@ pub fn write_flush<D: Disk>(
         (λ c. IsUncommitted settings.now slot.now.sequence (spans settings.now tail text) (D.view disk.old).seen c
         ⊎ (c ≡ committed settings.now (D.view disk.old).seen (spans settings.now tail text) slot.now)) }
 {
-    write_hidden(disk, settings, tail, images, slot.sequence, is_open, buffer)?;
+    write_hidden(
+        disk,
+        settings,
+        tail,
+        images,
+        slot.ends.sequence,
+        is_open,
+        buffer,
+    )?;
     write_slot(disk, slot)
 }

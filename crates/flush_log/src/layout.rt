@@ -1,12 +1,11 @@
 //! How far the frames of a text bring the tail of a log, and when they are too many.
-ghost use Rattle.std.specs.Prelude.{◌≡◌, ◌+◌, ◌-◌, ◌≤◌, List, None, Some, nat_lt, nat_le, if◌then◌else◌};
+ghost use Rattle.std.specs.Prelude.{◌≡◌, ◌+◌, ◌≤◌, List, None, Some, nat_lt, if◌then◌else◌};
 ghost use Rattle.keys.specs.Limits.{first_bad_field};
 ghost use Rattle.keys.specs.Sizes.{segment_header_size};
 ghost use Rattle.frame_codec.specs.Frame.{Frame};
 ghost use Rattle.flush_log.specs.Images.{frames_in, AreOfText, FitSegments, from_tail, behind_frame, behind_frames, IsReached, unless_spent, admitted};
 ghost use Rattle.flush_log.specs.AfterFlush.{is_spent};
-ghost use Rattle.flush_log.specs.Segments.{last_segment};
-ghost use Rattle.flush_log.specs.Layout.{tail_after, is_full_for_flush, is_full_for_clean};
+ghost use Rattle.flush_log.specs.Layout.{tail_after, is_full_for_flush};
 ghost use Rattle.flush_log.specs.Slot.{Slot, greatest};
 
 use crate::image::Image;
@@ -118,10 +117,10 @@ fn unspent_tail(settings: &Settings, sequence: u64, tail: u64, images: &[Image])
     text_end(settings, tail, images)
 }
 
-/// The tail of a flush that writes these images behind `tail`, in the commit with this sequence number, of a log that begins at
-/// segment `head`. Refuses it with `Fault::Spent` where the number or the tail is above the greatest, and else with
-/// `Fault::Full` where no segment would stay free.
-pub fn tail_of_flush(
+/// The tail of a commit that writes these images behind `tail` and has this sequence number, and with which the log begins at
+/// segment `head`. Refuses it with `Fault::Spent` where the number or the tail is above the greatest, and else with `Fault::Full`
+/// where no segment would be free in that log. So a clean, which makes the first segment free, may write into all that were.
+pub fn tail_of_commit(
     settings: &Settings,
     sequence: u64,
     head: u64,
@@ -138,42 +137,16 @@ pub fn tail_of_flush(
 {
     match unspent_tail(settings, sequence, tail, images) {
         None => Err(Fault::Spent),
-        Some(after) if is_full(settings, head, after, 1) => Err(Fault::Full),
+        Some(after) if is_full(settings, head, after) => Err(Fault::Full),
         Some(after) => Ok(after),
     }
 }
 
-/// The tail of a clean that writes these images behind `tail`, in the commit with this sequence number, of a log that began at
-/// segment `head` until then. Refuses it with `Fault::Spent` where the number or the tail is above the greatest, and else with
-/// `Fault::Full` where it would need more segments than there are.
-pub fn tail_of_clean(
-    settings: &Settings,
-    sequence: u64,
-    head: u64,
-    tail: u64,
-    images: &[Image],
-) -> Result<u64, Fault>
-    requires checked { first_bad_field settings.now ≡ None }
-    requires fits { FitSegments settings.now (frames_in images.now) }
-    requires head { head ≤ greatest }
-    requires room { tail ≤ greatest }
-    ensures { (t : Slot) (text : List Frame) → AreOfText images.now text →
-        t.sequence ≡ sequence → t.head ≡ head → t.tail ≡ tail_after settings.now tail text →
-        result ≡ admitted t (is_full_for_clean settings.now t.head t.tail) }
-{
-    match unspent_tail(settings, sequence, tail, images) {
-        None => Err(Fault::Spent),
-        Some(after) if is_full(settings, head, after, 0) => Err(Fault::Full),
-        Some(after) => Ok(after),
-    }
-}
-
-// Whether a log from segment `head` up to this position would leave fewer than so many segments free.
-fn is_full(settings: &Settings, head: u64, tail: u64, free: u64) -> bool
+// Whether no segment would be free in a log from segment `head` up to this position.
+fn is_full(settings: &Settings, head: u64, tail: u64) -> bool
     requires checked { first_bad_field settings.now ≡ None }
     requires head { head ≤ greatest }
-    requires free { free ≤ 1 }
-    ensures { result ≡ nat_le (head + settings.now.segments - free) (last_segment settings.now tail) }
+    ensures { result ≡ is_full_for_flush settings.now head tail }
 {
-    head + u64::from(settings.segments) - free <= last_segment(settings, tail)
+    head + u64::from(settings.segments) - 1 <= last_segment(settings, tail)
 }

@@ -7,6 +7,7 @@
 
 pub mod commit;
 pub mod commit_laws;
+pub mod commit_plan;
 pub mod crash_disk;
 pub mod disk;
 pub mod fault_disk;
@@ -26,6 +27,7 @@ pub mod text;
 pub mod write;
 
 pub use crate::commit::{is_gate_open, write_flush};
+pub use crate::commit_plan::Commit;
 pub use crate::crash_disk::{CrashDisk, Fill};
 pub use crate::disk::{Disk, DiskFault};
 pub use crate::fault_disk::{Failing, FaultDisk};

@@ -6,7 +6,7 @@ ghost use Rattle.flush_log.specs.NewStore.{first_frame, first_slot, new_bytes};
 
 use crate::segments::segment_header;
 use crate::settings_block::settings_block;
-use crate::slot::{Slot, slot_bytes};
+use crate::slot::{LogEnds, Slot, slot_bytes};
 use keys::{Pid, Settings};
 
 /// The slot of a new store: its log is one empty leaf, with the page id 0.
@@ -14,9 +14,11 @@ pub fn first_slot() -> Slot
     ensures { result ≡ first_slot }
 {
     Slot {
-        sequence: 1,
-        head: 0,
-        tail: 33,
+        ends: LogEnds {
+            sequence: 1,
+            head: 0,
+            tail: 33,
+        },
         root: Pid(0),
         height: 1,
     }

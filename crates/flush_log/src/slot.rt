@@ -18,15 +18,22 @@ pub const GREATEST: u64 = 1 << 62;
 /// How many bytes a slot has.
 pub const SLOT_SIZE: usize = 64;
 
-/// What a slot says of the store. Contracts see it as the definitions' slot.
+/// Where a log begins and ends, and how often it was committed.
 #[derive(Clone, Copy, Debug, PartialEq, Eq)]
-pub struct Slot {
+pub struct LogEnds {
     /// How often the store was committed, counted from 1.
     pub sequence: u64,
     /// The number of the log's first segment.
     pub head: u64,
     /// The position where the log ends, in bytes.
     pub tail: u64,
+}
+
+/// What a slot says of the store. Contracts see it as the definitions' slot.
+#[derive(Clone, Copy, Debug, PartialEq, Eq)]
+pub struct Slot {
+    /// The log.
+    pub ends: LogEnds,
     /// The root page.
     pub root: Pid,
     /// How many levels the tree has.
@@ -38,9 +45,9 @@ impl Model for Slot {
 
     ghost Value = { SlotSaid };
 
-    ghost view = { λ t. record { sequence = t.sequence; head = t.head; tail = t.tail; root = t.root; height = t.height } };
+    ghost view = { λ t. record { sequence = t.ends.sequence; head = t.ends.head; tail = t.ends.tail; root = t.root; height = t.height } };
 
-    ghost inverse = { λ t. record { sequence = t.sequence; head = t.head; tail = t.tail; root = t.root; height = t.height } };
+    ghost inverse = { λ t. record { ends = record { sequence = t.sequence; head = t.head; tail = t.tail }; root = t.root; height = t.height } };
 }
 
 /// The bytes of the open slot that says this.
@@ -49,9 +56,9 @@ pub fn slot_bytes(slot: &Slot) -> [u8; SLOT_SIZE]
 {
     let mut bytes = [0; SLOT_SIZE];
     bytes[0] = 1;
-    BigEndian::write_u64(&mut bytes[8..16], slot.sequence);
-    BigEndian::write_u64(&mut bytes[16..24], slot.head);
-    BigEndian::write_u64(&mut bytes[24..32], slot.tail);
+    BigEndian::write_u64(&mut bytes[8..16], slot.ends.sequence);
+    BigEndian::write_u64(&mut bytes[16..24], slot.ends.head);
+    BigEndian::write_u64(&mut bytes[24..32], slot.ends.tail);
     BigEndian::write_u64(&mut bytes[32..40], slot.root.0);
     BigEndian::write_u32(&mut bytes[40..44], slot.height);
     bytes
@@ -65,9 +72,11 @@ pub fn slot_in(bytes: &[u8]) -> Slot
     ensures root { result.root < 2 ^ 64 }
 {
     Slot {
-        sequence: BigEndian::read_u64(&bytes[8..16]),
-        head: BigEndian::read_u64(&bytes[16..24]),
-        tail: BigEndian::read_u64(&bytes[24..32]),
+        ends: LogEnds {
+            sequence: BigEndian::read_u64(&bytes[8..16]),
+            head: BigEndian::read_u64(&bytes[16..24]),
+            tail: BigEndian::read_u64(&bytes[24..32]),
+        },
         root: Pid(BigEndian::read_u64(&bytes[32..40])),
         height: BigEndian::read_u32(&bytes[40..44]),
     }
@@ -133,8 +142,8 @@ fn is_slot(settings: &Settings, n: u64, slot: &Slot) -> bool
     requires root { slot.now.root < 2 ^ 64 }
     ensures { result ≡ is_slot settings.now n slot.now }
 {
-    is_sequence(n, slot.sequence)
-        && is_log(settings, slot.head, slot.tail)
+    is_sequence(n, slot.ends.sequence)
+        && is_log(settings, slot.ends.head, slot.ends.tail)
         && is_height(slot.height)
 }
 
@@ -166,7 +175,7 @@ pub fn newer(
     ensures { result ≡ newer first second }
 {
     match (first?, second?) {
-        (Some(one), Some(other)) if one.sequence < other.sequence => Ok(other),
+        (Some(one), Some(other)) if one.ends.sequence < other.ends.sequence => Ok(other),
         (Some(one), _) => Ok(one),
         (None, Some(other)) => Ok(other),
         (None, None) => Err(Fault::NoSlot),

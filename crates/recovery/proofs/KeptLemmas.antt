@@ -24,7 +24,6 @@ use Rattle.recovery.specs.declared.gather.Kept.{Kept}
 use Rattle.recovery.specs.declared.gather.Told.{Told}
 use Rattle.recovery.specs.declared.gather.Told.TheVariants as told
 use Rattle.recovery.specs.declared.gather.Wanted.{Wanted}
-use Rattle.recovery.specs.declared.gather.Wanted.TheVariants.{Every, Head}
 use Rattle.recovery.proofs.GatherLemmas.{same_at, among_more, same_turned}
 use Rattle.recovery.proofs.PartLemmas.{from_last-none, from_last-at, from_last-more, from_last-some}
 

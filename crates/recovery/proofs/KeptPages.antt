@@ -1,5 +1,5 @@
 -- What is kept of the pages of a log, in the order of their pids, and what the frames that are kept tell.
-use Rattle.std.specs.Prelude.{◌≡◌, ℕ, zero, suc, ◌≤◌, Bool, true, false, cond, ◌&&◌, ◌||◌, nat_eq, List, [], ◌∷◌, ◌++◌, length, map, fold, Option, Some, None, is_some, Result, Ok, Err}
+use Rattle.std.specs.Prelude.{◌≡◌, ℕ, zero, suc, ◌≤◌, Bool, true, false, cond, ◌||◌, nat_eq, List, [], ◌∷◌, length, map, fold, Option, Some, None, is_some, Result, Ok}
 use Rattle.std.proofs.Common.{refl, sym, ap, ◌∙◌, subst, arith, length-append}
 use Rattle.std.specs.BTreeMap.{BTreeMap}
 use Rattle.std.specs.List.{AllByRecursion}
@@ -20,7 +20,7 @@ use Rattle.frame_codec.proofs.FrameLemmas.{in_limits, frame-back}
 use Rattle.flush_log.specs.Reading.{Found, is_at_tail, with_first, read_frames}
 use Rattle.recovery.specs.Gathered.{telling, contents_in, wanted_of, spelled, IsTold, IsKept, IsKeptOf, AreKept, AreLive, first_segment, is_unfit, first_unfit}
 use Rattle.recovery.specs.LogPages.{in_log, pids_of, broken_under, broken_in}
-use Rattle.recovery.specs.PageByLog.{is_base, is_start, from_last, continued, begun_page, told_page, page_in, is_broken}
+use Rattle.recovery.specs.PageByLog.{is_base, is_start, from_last, continued, told_page, page_in, is_broken}
 use Rattle.recovery.specs.PageByLog.InLog.{Missing}
 use Rattle.recovery.specs.Rebuild.{all_or_none, frames_of_bytes}
 use Rattle.recovery.specs.StoreOfDisk.{frames_in}
@@ -168,7 +168,7 @@ module _ (s : Settings) where
 
 -- ---- the frames of every page
 
-contents_of_frames : (fs : List Found) → map (λ (f : Frame). f.content) (frames_in fs) ≡ contents_in fs
+pub contents_of_frames : (fs : List Found) → map (λ (f : Frame). f.content) (frames_in fs) ≡ contents_in fs
 contents_of_frames [] = refl
 contents_of_frames (f ∷ fs) = ap (λ (cs : List Content). f.frame.content ∷ cs) (contents_of_frames fs)
 

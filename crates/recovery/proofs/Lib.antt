@@ -25,7 +25,7 @@ pub mod ReadBytes
 mod ReadLog
 mod ReadSlots
 pub mod ReadStore
-mod RebuildLemmas
+pub mod RebuildLemmas
 mod RecoverLemmas
 pub mod ScanLemmas
 mod SoFarLemmas

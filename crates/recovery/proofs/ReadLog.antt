@@ -1,21 +1,21 @@
 -- What is read of the segments, one after the other.
-use Rattle.std.specs.Prelude.{◌≡◌, ℕ, suc, ◌+◌, ◌-◌, ◌*◌, ◌<◌, ◌≤◌, true, List, [], ◌∷◌, ◌++◌, map, length, take, drop, None, Result, Ok, OnOk}
+use Rattle.std.specs.Prelude.{◌≡◌, ℕ, suc, ◌+◌, ◌-◌, ◌*◌, ◌<◌, ◌≤◌, List, [], ◌∷◌, ◌++◌, map, length, take, drop, None, Result, Ok, OnOk}
 use Rattle.std.proofs.Common.{refl, sym, ap, subst, ◌∙◌, inl, arith}
 use Rattle.std.proofs.lemmas.List.{map-append, take-take}
 use Rattle.keys.specs.Limits.{first_bad_field}
 use Rattle.keys.specs.declared.settings.Settings.{Settings}
 use Rattle.keys.specs.declared.fault.Fault.{Fault}
 use Rattle.flush_log.specs.Disk.{View}
+use Rattle.flush_log.specs.Ends.{AreEnds}
 use Rattle.flush_log.specs.Overlay.{overlay}
-use Rattle.flush_log.specs.Reading.{Found, is_padding, is_at_tail, read_segment, followed_by, read_earlier, log}
+use Rattle.flush_log.specs.Reading.{Found, is_padding, is_at_tail, read_segment, followed_by, read_earlier, log_between}
 use Rattle.flush_log.specs.Segments.{segments_begin, disk_size, place_of_segment, HasSegments, segment_bytes, last_segment, bytes_in_use}
-use Rattle.flush_log.specs.Slot.{Slot, is_slot}
+use Rattle.flush_log.specs.declared.slot.LogEnds.{LogEnds}
 use Rattle.flush_log.proofs.FitLemmas.{are_sized}
 use Rattle.flush_log.proofs.LayoutLemmas.{split-tail}
 use Rattle.flush_log.proofs.OverlayLemmas.{overlay-part}
 use Rattle.flush_log.proofs.PlaceLemmas.{remainders_differ, place-within, places-beside, overlay-beside as part-beside}
 use Rattle.flush_log.proofs.ReadBackLemmas.{earlier-same}
-use Rattle.flush_log.proofs.SlotLemmas.{slot-is}
 use Rattle.recovery.specs.Recovered.{IsReadOf}
 use Rattle.recovery.specs.Scan.{HeldSegment, held_segment, scanned, scanned_behind}
 use Rattle.recovery.specs.declared.scan_segment.End.TheVariants.{Padding}
@@ -96,27 +96,26 @@ module _ (s : Settings) (head : ℕ) (file now buf : List ℕ) (old new : View) 
       }
 
 -- what is in use of the last one
-pub read-last : (s : Settings) (t : Slot) (file buf : List ℕ) (old : View) (n : ℕ) → first_bad_field s ≡ None → disk_size s ≤ old.size → is_slot s t.sequence t ≡ true → n ≡ last_segment s t.tail
-    → length buf ≡ bytes_in_use s t.tail → IsReadOf old file → (let now : List ℕ = overlay file (place_of_segment s n) buf in (take segments_begin now ≡ take segments_begin file)
-    × (followed_by (read_earlier s file t.head (last_segment s t.tail - t.head)) (read_segment s is_at_tail n buf) ≡ log s now t))
-read-last s t file buf old n good size is_one last all read =
-    let whole = has_room s t.head file file buf old old n good size read in
+pub read-last : (s : Settings) (e : LogEnds) (file buf : List ℕ) (old : View) (n : ℕ) → first_bad_field s ≡ None → disk_size s ≤ old.size → AreEnds s e → n ≡ last_segment s e.tail
+    → length buf ≡ bytes_in_use s e.tail → IsReadOf old file → (let now : List ℕ = overlay file (place_of_segment s n) buf in (take segments_begin now ≡ take segments_begin file)
+    × (followed_by (read_earlier s file e.head (last_segment s e.tail - e.head)) (read_segment s is_at_tail n buf) ≡ log_between s now e.head e.tail))
+read-last s e file buf old n good size is last all read =
+    let whole = has_room s e.head file file buf old old n good size read in
     let sized = (are_sized s good).least_size in
-    let is = slot-is s t.sequence t is_one in
-    let behind = is.behind in
+    let behind = is.after in
     let room = is.last in
-    let split = split-tail s t.head t.tail (omega (arith, sized)) (omega (arith, behind)) in
+    let split = split-tail s e.head e.tail (omega (arith, sized)) (omega (arith, behind)) in
     let from = split.from in
     let high = split.high in
-    let k : ℕ = last_segment s t.tail - t.head in
-    let at : n ≡ t.head + k = omega (arith, last, from) in
+    let k : ℕ = last_segment s e.tail - e.head in
+    let at : n ≡ e.head + k = omega (arith, last, from) in
     let part : length buf ≤ s.seg_size = omega (arith, all, high) in
     let now : List ℕ = overlay file (place_of_segment s n) buf in
-    let bytes : take (bytes_in_use s t.tail) (segment_bytes s now n) ≡ buf = ap (λ (m : ℕ). take m (segment_bytes s now n)) (sym all) ∙ part-read s good file buf n whole part in (
+    let bytes : take (bytes_in_use s e.tail) (segment_bytes s now n) ≡ buf = ap (λ (m : ℕ). take m (segment_bytes s now n)) (sym all) ∙ part-read s good file buf n whole part in (
       part-front s good file buf n whole part,
-      ap (λ (r : Told). followed_by r (read_segment s is_at_tail n buf)) (sym (part-earlier s good file buf n whole part t.head k at (omega (arith, room, last, from))))
-          ∙ ap (λ (bs : List ℕ). followed_by (read_earlier s now t.head k) (read_segment s is_at_tail n bs)) (sym bytes)
-          ∙ ap (λ (m : ℕ). followed_by (read_earlier s now t.head k) (read_segment s is_at_tail m (take (bytes_in_use s t.tail) (segment_bytes s now m)))) at,
+      ap (λ (r : Told). followed_by r (read_segment s is_at_tail n buf)) (sym (part-earlier s good file buf n whole part e.head k at (omega (arith, room, last, from))))
+          ∙ ap (λ (bs : List ℕ). followed_by (read_earlier s now e.head k) (read_segment s is_at_tail n bs)) (sym bytes)
+          ∙ ap (λ (m : ℕ). followed_by (read_earlier s now e.head k) (read_segment s is_at_tail m (take (bytes_in_use s e.tail) (segment_bytes s now m)))) at,
     )
 
 -- ---- some at a time
@@ -166,23 +165,21 @@ last-taken r Has told whole same h = subst (λ (t : Told). OnOk r (Has t)) same 
 -- ---- numbers
 
 -- how many bytes of the last segment are in use, as the code has it
-pub in_use : (s : Settings) (t : Slot) (tail last size : ℕ) → tail ≡ t.tail → last ≡ last_segment s tail → size ≡ s.seg_size → tail - last * size ≡ bytes_in_use s t.tail
-in_use s t tail last size is at all =
-    ap (λ (n : ℕ). tail - last * n) all ∙ ap (λ (n : ℕ). tail - n * s.seg_size) at ∙ ap (λ (n : ℕ). bytes_in_use s n) is
+pub in_use : (s : Settings) (tail last size : ℕ) → last ≡ last_segment s tail → size ≡ s.seg_size → tail - last * size ≡ bytes_in_use s tail
+in_use s tail last size at all = ap (λ (n : ℕ). tail - last * n) all ∙ ap (λ (n : ℕ). tail - n * s.seg_size) at
 
 -- the last segment in use is one of those from the head on, and begins in front of the tail
-pub record IsLast (s : Settings) (t : Slot) : Type 0 where
-  pub from : t.head ≤ last_segment s t.tail
-  pub free : last_segment s t.tail < t.head + s.segments
-  pub begins : last_segment s t.tail * s.seg_size ≤ t.tail
-  pub used : bytes_in_use s t.tail ≤ s.seg_size
+pub record IsLast (s : Settings) (e : LogEnds) : Type 0 where
+  pub from : e.head ≤ last_segment s e.tail
+  pub free : last_segment s e.tail < e.head + s.segments
+  pub begins : last_segment s e.tail * s.seg_size ≤ e.tail
+  pub used : bytes_in_use s e.tail ≤ s.seg_size
 
-pub is_last : (s : Settings) (t : Slot) → first_bad_field s ≡ None → is_slot s t.sequence t ≡ true → IsLast s t
-is_last s t good is_one =
+pub is_last : (s : Settings) (e : LogEnds) → first_bad_field s ≡ None → AreEnds s e → IsLast s e
+is_last s e good is =
     let size = (are_sized s good).least_size in
-    let is = slot-is s t.sequence t is_one in
-    let behind = is.behind in
-    let split = split-tail s t.head t.tail (omega (arith, size)) (omega (arith, behind)) in
+    let behind = is.after in
+    let split = split-tail s e.head e.tail (omega (arith, size)) (omega (arith, behind)) in
     let at = split.is in
     record { from = split.from; free = is.last; begins = omega (arith, at); used = split.high }
 

@@ -9,9 +9,9 @@ use Rattle.index_page.specs.Page.{PageOfKind}
 use Rattle.frame_codec.specs.Frame.{Content, Frame, bytes_of}
 use Rattle.frame_codec.specs.Reading.{read_frame}
 use Rattle.flush_log.specs.Reading.{is_at_tail, with_first, read_frames}
-use Rattle.recovery.specs.PageByLog.{base_in, is_base, begun_page, present_or_missing, continued, told_page, page_in, InLog}
+use Rattle.recovery.specs.PageByLog.{base_in, is_base, present_or_missing, continued, told_page, page_in, InLog}
 use Rattle.recovery.specs.PageByLog.InLog.{Present, Broken}
-use Rattle.recovery.specs.Rebuild.{all_or_none, frames_of_bytes, told_in}
+use Rattle.recovery.specs.Rebuild.{all_or_none, told_in}
 use Rattle.recovery.proofs.BrokenLemmas.{broken-stays}
 use Rattle.recovery.proofs.KeptLemmas.{some_bytes}
 use Rattle.recovery.proofs.KeptPages.{none-page}

@@ -54,7 +54,8 @@ pub struct Kept {
 /// What is kept of each page, by page id, of the frames that came so far.
 #[derive(Drop)]
 pub struct Gathering {
-    pub(crate) alloc: Global,
+    /// Where all of it is allocated.
+    pub alloc: Global,
     /// Whose frames are kept.
     pub wanted: Wanted,
     /// The segment where the first frame stands, once one came.

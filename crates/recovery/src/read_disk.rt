@@ -11,6 +11,7 @@ ghost use Rattle.recovery.specs.Recovered.{IsReadOf, IsLate};
 
 use crate::read_bytes::read;
 use flush_log::Disk;
+use flush_log::commit::SLOTS_BEGIN;
 use flush_log::segments::disk_size;
 use flush_log::settings_block::read_settings as read_block;
 use flush_log::slot::{SLOT_SIZE, Slot, newer, read_slot};
@@ -18,9 +19,6 @@ use keys::{Fault, Settings};
 
 // How many bytes the settings block has.
 const BLOCK_SIZE: usize = 64;
-
-// Where the slots begin on a disk.
-const SLOTS_BEGIN: u64 = 128;
 
 // The settings that the block of a disk of this length tells, where the disk has room for the segments.
 fn settings_in(block: &[u8], len: u64) -> Result<Settings, Fault>

@@ -1,13 +1,13 @@
 //! The reading of a log: its segments, from the head to the tail, are read, some at a time, and their frames are gathered by page.
-ghost use Rattle.std.specs.Prelude.{◌≡◌, ◌≢◌, ◌⊎◌, ℕ, ◌+◌, ◌-◌, ◌*◌, ◌^◌, ◌<◌, ◌≤◌, [], IsTrue, true, List, map, length, take, None, Ok, Err, MatchResult, IfOk, IfErr, OnOk};
+ghost use Rattle.std.specs.Prelude.{◌≡◌, ◌≢◌, ◌⊎◌, ℕ, ◌+◌, ◌-◌, ◌*◌, ◌^◌, ◌<◌, ◌≤◌, [], IsTrue, List, map, length, take, None, Ok, Err, MatchResult, IfOk, IfErr, OnOk};
 ghost use Rattle.std.specs.List.{All};
 ghost use Rattle.keys.specs.Bytes.{Bytes};
 ghost use Rattle.keys.specs.Limits.{first_bad_field};
 ghost use Rattle.keys.specs.declared.fault.Fault.TheVariants.{Device};
 ghost use Rattle.flush_log.specs.Disk.{Kept, Same};
-ghost use Rattle.flush_log.specs.Reading.{Found, read_earlier as earlier_segments, log};
+ghost use Rattle.flush_log.specs.Ends.{AreEnds};
+ghost use Rattle.flush_log.specs.Reading.{Found, read_earlier as earlier_segments, log_between};
 ghost use Rattle.flush_log.specs.Segments.{segments_begin, disk_size, last_segment, bytes_in_use};
-ghost use Rattle.flush_log.specs.Slot.{is_slot};
 ghost use Rattle.recovery.specs.Gathered.{AreGathered, IsSoFar};
 ghost use Rattle.recovery.specs.Recovered.{IsReadOf, IsLate};
 ghost use Rattle.recovery.specs.Scan.{held_segment, scanned_behind};
@@ -20,7 +20,7 @@ use crate::scan_segment::{End, Segment};
 use crew::Crew;
 use flush_log::Disk;
 use flush_log::segments::{last_segment, place_of_segment};
-use flush_log::slot::Slot;
+use flush_log::slot::LogEnds;
 use keys::{Fault, Settings};
 use std::alloc::Global;
 use std::thread::Threads;
@@ -30,24 +30,24 @@ use std::thread::Threads;
 const BYTES_AT_ONCE: u64 = 4_194_304;
 
 // How many bytes of the last segment are in use.
-fn bytes_in_use(settings: &Settings, slot: &Slot) -> usize
+fn bytes_in_use(settings: &Settings, ends: &LogEnds) -> usize
     requires checked { first_bad_field settings.now ≡ None }
-    requires slot { is_slot settings.now slot.now.sequence slot.now ≡ true }
-    ensures same { result ≡ bytes_in_use settings.now slot.now.tail }
+    requires ends { AreEnds settings.now ends.now }
+    ensures same { result ≡ bytes_in_use settings.now ends.now.tail }
     ensures within { result ≤ settings.now.seg_size }
 {
-    let last = last_segment(settings, slot.tail);
-    (slot.tail - last * u64::from(settings.seg_size)) as usize
+    let last = last_segment(settings, ends.tail);
+    (ends.tail - last * u64::from(settings.seg_size)) as usize
 }
 
 // How many segments are read before a crew gets them: as many as may be, and no more than stand in front of the last one, if any do.
-fn segments_at_once(settings: &Settings, slot: &Slot) -> usize
+fn segments_at_once(settings: &Settings, ends: &LogEnds) -> usize
     requires checked { first_bad_field settings.now ≡ None }
-    requires slot { is_slot settings.now slot.now.sequence slot.now ≡ true }
+    requires ends { AreEnds settings.now ends.now }
     ensures some { 0 < result }
     ensures bounded { result * settings.now.seg_size ≤ 4194304 }
 {
-    let earlier = last_segment(settings, slot.tail) - slot.head;
+    let earlier = last_segment(settings, ends.tail) - ends.head;
     let most = BYTES_AT_ONCE / u64::from(settings.seg_size);
     most.min(earlier.max(1)) as usize
 }
@@ -96,17 +96,17 @@ fn read_last<'b, D: Disk>(
     alloc: Global,
     disk: &mut D,
     settings: &Settings,
-    slot: &Slot,
+    ends: &LogEnds,
     buf: &'b mut [u8],
 ) -> Result<Vec<Segment<'b>>, Fault>
     requires checked { first_bad_field settings.now ≡ None }
     requires within { disk_size settings.now ≤ (D.view disk.old).size }
-    requires slot { is_slot settings.now slot.now.sequence slot.now ≡ true }
+    requires ends { AreEnds settings.now ends.now }
     requires room { settings.now.seg_size ≤ length buf.old }
     ensures read { (file : Bytes) → IsReadOf (D.view disk.old) file →
         (now : Bytes) × IsReadOf (D.view disk.new) now × (take segments_begin now ≡ take segments_begin file) × IfOk result (λ segments.
-        scanned_behind settings.now (earlier_segments settings.now file slot.now.head (last_segment settings.now slot.now.tail - slot.now.head))
-        (map held_segment segments.items) ≡ log settings.now now slot.now) }
+        scanned_behind settings.now (earlier_segments settings.now file ends.now.head (last_segment settings.now ends.now.tail - ends.now.head))
+        (map held_segment segments.items) ≡ log_between settings.now now ends.now.head ends.now.tail) }
     ensures short { IfOk result (λ segments. All (λ g. length (held_segment g).bytes < 2 ^ 32) segments.items) }
     ensures err { IfErr result (IsLate (D.failed disk.old) (D.failed disk.new)) }
     ensures kept { Kept (D.view disk.old) (D.view disk.new) }
@@ -114,8 +114,8 @@ fn read_last<'b, D: Disk>(
     ensures counted { OnOk result (D.failed disk.new ≡ D.failed disk.old) }
     ensures uncounted { IfErr result (λ fault. fault ≢ Device → D.failed disk.new ≡ D.failed disk.old) }
 {
-    let number = last_segment(settings, slot.tail);
-    let bytes = &mut buf[..bytes_in_use(settings, slot)];
+    let number = last_segment(settings, ends.tail);
+    let bytes = &mut buf[..bytes_in_use(settings, ends)];
     let mut segments = Vec::with_capacity(alloc, 1)?;
     read(disk, place_of_segment(settings, number), bytes)?;
     segments.push_reserved(Segment {
@@ -132,17 +132,17 @@ fn read_earlier<D: Disk>(
     crew: Crew,
     disk: &mut D,
     settings: &Settings,
-    slot: &Slot,
+    ends: &LogEnds,
     buffer: &mut Vec<u8>,
     so_far: &mut LogSoFar,
 ) -> Result<(), Fault>
     requires checked { first_bad_field settings.now ≡ None }
     requires within { disk_size settings.now ≤ (D.view disk.old).size }
-    requires slot { is_slot settings.now slot.now.sequence slot.now ≡ true }
+    requires ends { AreEnds settings.now ends.now }
     requires room { settings.now.seg_size ≤ length buffer.old.items }
     ensures read { (w : declared.Wanted) (file : Bytes) → IsReadOf (D.view disk.old) file → IsSoFar w so_far.old.gathering so_far.old.fault (Ok []) →
         (now : Bytes) × IsReadOf (D.view disk.new) now × (take segments_begin now ≡ take segments_begin file)
-        × OnOk result (IsSoFar w so_far.new.gathering so_far.new.fault (earlier_segments settings.now now slot.now.head (last_segment settings.now slot.now.tail - slot.now.head))) }
+        × OnOk result (IsSoFar w so_far.new.gathering so_far.new.fault (earlier_segments settings.now now ends.now.head (last_segment settings.now ends.now.tail - ends.now.head))) }
     ensures room { length buffer.new.items ≡ length buffer.old.items }
     ensures err { IfErr result (IsLate (D.failed disk.old) (D.failed disk.new)) }
     ensures kept { Kept (D.view disk.old) (D.view disk.new) }
@@ -153,8 +153,8 @@ fn read_earlier<D: Disk>(
     let alloc = *buffer.allocator();
     let size = settings.seg_size as usize;
     let at_once = (buffer.len() / size) as u64;
-    let last = last_segment(settings, slot.tail);
-    let mut first = slot.head;
+    let last = last_segment(settings, ends.tail);
+    let mut first = ends.head;
     while first < last {
         let count = at_once.min(last - first) as usize;
         let buf = &mut buffer[..count * size];
@@ -171,17 +171,17 @@ fn read_segments<D: Disk>(
     crew: Crew,
     disk: &mut D,
     settings: &Settings,
-    slot: &Slot,
+    ends: &LogEnds,
     buffer: &mut Vec<u8>,
     so_far: &mut LogSoFar,
 ) -> Result<(), Fault>
     requires checked { first_bad_field settings.now ≡ None }
     requires within { disk_size settings.now ≤ (D.view disk.old).size }
-    requires slot { is_slot settings.now slot.now.sequence slot.now ≡ true }
+    requires ends { AreEnds settings.now ends.now }
     requires room { settings.now.seg_size ≤ length buffer.old.items }
     ensures read { (w : declared.Wanted) (file : Bytes) → IsReadOf (D.view disk.old) file → IsSoFar w so_far.old.gathering so_far.old.fault (Ok []) →
         (now : Bytes) × IsReadOf (D.view disk.new) now × (take segments_begin now ≡ take segments_begin file)
-        × OnOk result (IsSoFar w so_far.new.gathering so_far.new.fault (log settings.now now slot.now)) }
+        × OnOk result (IsSoFar w so_far.new.gathering so_far.new.fault (log_between settings.now now ends.now.head ends.now.tail)) }
     ensures err { IfErr result (IsLate (D.failed disk.old) (D.failed disk.new)) }
     ensures kept { Kept (D.view disk.old) (D.view disk.new) }
     ensures same { IsTrue (D.view disk.old).is_honest → Same (D.view disk.old) (D.view disk.new) }
@@ -189,12 +189,12 @@ fn read_segments<D: Disk>(
     ensures uncounted { IfErr result (λ fault. fault ≢ Device → D.failed disk.new ≡ D.failed disk.old) }
 {
     let alloc = *buffer.allocator();
-    read_earlier(rt, crew, disk, settings, slot, buffer, so_far)?;
-    let segments = read_last(alloc, disk, settings, slot, buffer)?;
+    read_earlier(rt, crew, disk, settings, ends, buffer, so_far)?;
+    let segments = read_last(alloc, disk, settings, ends, buffer)?;
     so_far.take(rt, crew, settings, segments)
 }
 
-/// Reads the log between the slot's head and tail, and gathers its frames by page: of each page what they tell, and the bytes of those
+/// Reads the log between its ends, and gathers its frames by page: of each page what they tell, and the bytes of those
 /// that are wanted. The crew scans the segments.
 ///
 /// The fault at the least position of the log counts, `Fault::BadSegment` or `Fault::BadFrame`. Besides there is `Fault::NoMemory`,
@@ -207,26 +207,26 @@ pub fn read_log<D: Disk>(
     alloc: Global,
     disk: &mut D,
     settings: &Settings,
-    slot: &Slot,
+    ends: &LogEnds,
     wanted: Wanted,
 ) -> Result<Gathering, Fault>
     requires checked { first_bad_field settings.now ≡ None }
     requires within { disk_size settings.now ≤ (D.view disk.old).size }
-    requires slot { is_slot settings.now slot.now.sequence slot.now ≡ true }
+    requires ends { AreEnds settings.now ends.now }
     // Of bytes that were read, which are those from before in front of the segments, and on an honest disk what a read gives.
     ensures read { (file : Bytes) → IsReadOf (D.view disk.old) file →
         (now : Bytes) × IsReadOf (D.view disk.new) now × (take segments_begin now ≡ take segments_begin file) × MatchResult result
-        (λ g. (found : List Found) × (log settings.now now slot.now ≡ Ok found) × AreGathered settings.now wanted g found)
-        (λ fault. (log settings.now now slot.now ≡ Err fault) ⊎ IsLate (D.failed disk.old) (D.failed disk.new) fault) }
+        (λ g. (found : List Found) × (log_between settings.now now ends.now.head ends.now.tail ≡ Ok found) × AreGathered settings.now wanted g found)
+        (λ fault. (log_between settings.now now ends.now.head ends.now.tail ≡ Err fault) ⊎ IsLate (D.failed disk.old) (D.failed disk.new) fault) }
     ensures kept { Kept (D.view disk.old) (D.view disk.new) }
     ensures same { IsTrue (D.view disk.old).is_honest → Same (D.view disk.old) (D.view disk.new) }
     ensures counted { OnOk result (D.failed disk.new ≡ D.failed disk.old) }
     ensures uncounted { IfErr result (λ fault. fault ≢ Device → D.failed disk.new ≡ D.failed disk.old) }
 {
     let mut so_far = LogSoFar::new(alloc, wanted);
-    let at_once = segments_at_once(settings, slot);
+    let at_once = segments_at_once(settings, ends);
     let mut buffer = Vec::new(alloc);
     buffer.resize(at_once * settings.seg_size as usize, 0)?;
-    read_segments(rt, crew, disk, settings, slot, &mut buffer, &mut so_far)?;
+    read_segments(rt, crew, disk, settings, ends, &mut buffer, &mut so_far)?;
     so_far.into_gathering()
 }

@@ -56,7 +56,7 @@ fn read_parts<D: Disk>(
 {
     let settings = read_settings(disk)?;
     let slot = read_store_slot(disk, &settings)?;
-    let gathering = read_log(rt, crew, alloc, disk, &settings, &slot, Wanted::Every)?;
+    let gathering = read_log(rt, crew, alloc, disk, &settings, &slot.ends, Wanted::Every)?;
     Ok(LogRead {
         settings,
         slot,

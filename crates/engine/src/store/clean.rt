@@ -11,12 +11,11 @@ ghost use Rattle.engine.specs.Refusal.{is_crew};
 ghost use Rattle.engine.specs.State.{IsSound};
 
 use crate::refusal::admit_crew;
-use crate::store::{Store, log_of};
+use crate::store::Store;
 use cleaner::clean::clean;
 use cleaner::laws::a_clean_keeps_the_store;
 use crew::Crew;
 use flush_log::disk::Disk;
-use flush_log::slot::Slot;
 use keys::Fault;
 use std::thread::Threads;
 
@@ -76,16 +75,9 @@ impl<D: Disk> Store<D> {
             return Err(Fault::Failed);
         }
         admit_crew(crew)?;
-        let slot = Slot {
-            sequence: self.log.sequence,
-            head: self.log.head,
-            tail: self.log.tail,
-            root: self.tree.root(),
-            height: self.tree.height(),
-        };
-        match clean(rt, crew, self.alloc, &mut self.disk, &self.settings, &slot) {
+        match clean(rt, crew, self.alloc, &mut self.disk, &self.settings, &self.log) {
             Ok(committed) => {
-                self.log = log_of(&committed);
+                self.log = committed.ends;
                 Ok(self.log.head)
             }
             Err(fault) => {

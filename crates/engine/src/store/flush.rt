@@ -1,30 +1,24 @@
 //! The flush: what the log lacks is written, and a crash leaves the store of before or of after.
-ghost use Rattle.std.specs.Prelude.{◌≡◌, ◌≢◌, ◌⊎◌, ◌≤◌, suc, length, [], Ok, Err, IsTrue, IfOk, IfErr, OnOk, true, false};
+ghost use Rattle.std.specs.Prelude.{◌≡◌, ◌≢◌, ◌⊎◌, [], Ok, Err, IsTrue, IfOk, IfErr, OnOk, true, false};
 ghost use Rattle.keys.specs.Bytes.{Bytes};
 ghost use Rattle.keys.specs.declared.fault.Fault.TheVariants.{NoMemory};
 ghost use Rattle.mapping.specs.Tree as definitions;
 ghost use Rattle.mapping.specs.TreeInMemory.{AreAllHome, tree_of};
 ghost use Rattle.flush_log.specs.AfterFlush.{after_flush};
-ghost use Rattle.flush_log.specs.Commit.{committed, IsUncommitted};
-ghost use Rattle.flush_log.specs.Disk.{IsSettled, Kept, LeavesOnly, CountsFailure};
+ghost use Rattle.flush_log.specs.Disk.{IsSettled, Kept, LeavesOnly};
 ghost use Rattle.flush_log.specs.FlushText.{flush_text, HasFrames};
-ghost use Rattle.flush_log.specs.Layout.{spans};
-ghost use Rattle.flush_log.specs.Segments.{disk_size};
 ghost use Rattle.recovery.specs.InStep.{IsStore};
 ghost use Rattle.recovery.specs.StoreOfDisk.{store_of_disk};
-ghost use Rattle.engine.specs.Calls.{IsPlan, IsFlushFault};
+ghost use Rattle.engine.specs.Calls.{IsFlush, IsFlushFault};
 ghost use Rattle.engine.specs.Refusal.{is_crew};
 ghost use Rattle.engine.specs.State.{IsSound, store_in};
 
 use crate::refusal::admit_crew;
-use crate::store::{Log, Store};
+use crate::store::Store;
 use crew::Crew;
-use flush_log::disk::{Disk, DiskFault};
-use flush_log::image::Image;
-use flush_log::layout::tail_of_flush;
-use flush_log::slot::Slot;
+use flush_log::slot::{LogEnds, Slot};
 use flush_log::text::{images, is_all_written};
-use flush_log::{is_gate_open, write_flush};
+use flush_log::{Commit, Disk};
 use keys::{Fault, Settings};
 use mapping::Tree;
 use recovery::laws::{
@@ -34,14 +28,6 @@ use recovery::table_laws::a_table_marked_as_written_holds_the_flushed_tree;
 use std::alloc::Global;
 use std::thread::Threads;
 
-// What a flush writes: the images of its text, and the slot that commits them; and room for the bytes of a segment.
-#[derive(Drop)]
-struct FlushPlan {
-    images: Vec<Image>,
-    slot: Slot,
-    buffer: Vec<u8>,
-}
-
 // Plans the flush of a tree and its log, of which the log lacks something. It looks at no disk.
 fn plan(
     rt: &(impl Threads + Sync),
@@ -49,67 +35,21 @@ fn plan(
     alloc: Global,
     settings: &Settings,
     tree: &Tree<Global>,
-    log: Log,
-) -> Result<FlushPlan, Fault>
+    log: LogEnds,
+) -> Result<Commit, Fault>
     requires home { AreAllHome tree.now }
     requires store { IsStore settings.now (store_in tree.now log) }
     requires some { flush_text (tree_of tree.now) ≢ [] }
-    ensures plan { IfOk result (λ plan. IsPlan settings.now (store_in tree.now log) plan.images.items plan.slot (length plan.buffer.items)) }
+    ensures plan { IfOk result (IsFlush settings.now (store_in tree.now log)) }
     ensures err { IfErr result (λ fault. (fault ≡ NoMemory) ⊎ ((file : Bytes) → after_flush settings.now (store_in tree.now log) file ≡ Err fault)) }
 {
     let images = images(rt, crew, alloc, tree)?;
-    let mut buffer = Vec::new(alloc);
-    buffer.resize(settings.seg_size as usize, 0)?;
-    let sequence = log.sequence + 1;
-    let tail = tail_of_flush(settings, sequence, log.head, log.tail, &images)?;
     let slot = Slot {
-        sequence,
-        head: log.head,
-        tail,
+        ends: log,
         root: tree.root(),
         height: tree.height(),
     };
-    Ok(FlushPlan {
-        images,
-        slot,
-        buffer,
-    })
-}
-
-// Does what was planned for a store with this tail.
-fn write<D: Disk>(
-    disk: &mut D,
-    settings: &Settings,
-    tail: u64,
-    plan: &mut FlushPlan,
-) -> Result<(), DiskFault>
-    requires plan { (st : definitions.Store) × (st.tail ≡ tail) × IsStore settings.now st × (flush_text st.tree ≢ [])
-        × IsPlan settings.now st plan.old.images.items plan.old.slot (length plan.old.buffer.items) }
-    requires within { disk_size settings.now ≤ (D.view disk.old).size }
-    ensures kept { Kept (D.view disk.old) (D.view disk.new) }
-    ensures failed { CountsFailure result (D.failed disk.old) (D.failed disk.new) }
-    ensures slot { plan.new.slot ≡ plan.old.slot }
-    ensures written { (st : definitions.Store) → st.tail ≡ tail → IsStore settings.now st → flush_text st.tree ≢ [] →
-        IsPlan settings.now st plan.old.images.items plan.old.slot (length plan.old.buffer.items) → IsTrue (D.view disk.old).is_honest →
-        OnOk result ((D.view disk.new).seen
-        ≡ committed settings.now (D.view disk.old).seen (spans settings.now st.tail (flush_text st.tree)) plan.old.slot) }
-    ensures settled { IsTrue (D.view disk.old).is_honest → OnOk result (IsSettled (D.view disk.new)) }
-    ensures crash { (st : definitions.Store) → st.tail ≡ tail → IsStore settings.now st → flush_text st.tree ≢ [] →
-        IsPlan settings.now st plan.old.images.items plan.old.slot (length plan.old.buffer.items) → IsSettled (D.view disk.old) →
-        LeavesOnly (D.view disk.old) (D.view disk.new)
-        (λ c. IsUncommitted settings.now (suc st.sequence) (spans settings.now st.tail (flush_text st.tree)) (D.view disk.old).seen c
-        ⊎ (c ≡ committed settings.now (D.view disk.old).seen (spans settings.now st.tail (flush_text st.tree)) plan.old.slot)) }
-{
-    let is_open = is_gate_open(disk, plan.slot.sequence)?;
-    write_flush(
-        disk,
-        settings,
-        tail,
-        &plan.images,
-        &plan.slot,
-        is_open,
-        &mut plan.buffer,
-    )
+    Commit::plan(alloc, settings, &slot, images)
 }
 
 impl<D: Disk> Store<D> {
@@ -163,14 +103,14 @@ impl<D: Disk> Store<D> {
         if is_all_written(&self.tree) {
             return Ok(self.log.sequence);
         }
-        let mut plan = plan(rt, crew, self.alloc, &self.settings, &self.tree, self.log)?;
-        if let Err(failed) = write(&mut self.disk, &self.settings, self.log.tail, &mut plan) {
+        let commit = plan(rt, crew, self.alloc, &self.settings, &self.tree, self.log)?;
+        let slot = commit.slot();
+        if let Err(failed) = commit.write(&mut self.disk, &self.settings) {
             self.has_failed = true;
             return Err(failed.into());
         }
         self.tree.flushed();
-        self.log.tail = plan.slot.tail;
-        self.log.sequence = plan.slot.sequence;
+        self.log = slot.ends;
         Ok(self.log.sequence)
     }
 }

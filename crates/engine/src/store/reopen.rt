@@ -8,7 +8,7 @@ ghost use Rattle.engine.specs.Refusal.{is_crew};
 ghost use Rattle.engine.specs.State.{IsSound};
 
 use crate::refusal::admit_crew;
-use crate::store::{Store, log_of};
+use crate::store::Store;
 use crew::Crew;
 use flush_log::disk::{Disk, DiskFault};
 use keys::Fault;
@@ -66,12 +66,12 @@ impl<D: Disk> Store<D> {
         let mut disk = disk;
         match recover(rt, crew, alloc, &mut disk) {
             Ok(found) => {
-                let log = log_of(&found.slot);
+                let slot = found.slot;
                 Ok(Store {
                     settings: found.settings,
                     alloc,
                     tree: found.tree,
-                    log,
+                    log: slot.ends,
                     disk,
                     has_failed: false,
                 })

@@ -1,9 +1,7 @@
-use Rattle.std.proofs.Common.{◌≡◌, ◌∙◌, List, map, None, Some, refl, sym, ap, subst, inl, inr}
-use Rattle.std.proofs.Common.{Option}
-use Rattle.mapping.specs.Finding.{Finding, finding}
+use Rattle.std.proofs.Common.{◌≡◌, ◌∙◌, None, refl, sym, ap, inr}
+use Rattle.mapping.specs.Finding.{finding}
 use Rattle.mapping.specs.TreeInMemory.{TreeInMemory, tree_of}
 use Rattle.flush_log.specs.Slot.{Slot}
-use Rattle.recovery.specs.BuiltTree.{pages_told, log_under}
 use Rattle.recovery.specs.LogPages.{broken_in}
 use Rattle.recovery.specs.StoreOfDisk.{frames_in, wrong_in, tree_by_log}
 use Rattle.recovery.specs.declared.gather.Wanted.TheVariants.{Every}

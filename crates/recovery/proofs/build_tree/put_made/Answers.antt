@@ -1,7 +1,3 @@
-use Rattle.std.proofs.Common.{ap, sym, ◌∙◌}
-use Rattle.index_page.specs.Page.{PageOfKind}
-use Rattle.mapping.specs.Slots.{entry_if}
-use Rattle.recovery.specs.BuiltTree.{filled}
 use Rattle.recovery.proofs.BuildLemmas.{nothing-filled, made-filled}
 use Rattle.recovery.proofs.build_tree.put_made.Goals as goal
 

@@ -1,10 +1,10 @@
-use Rattle.std.proofs.Common.{◌≡◌, ◌++◌, ◌∷◌, [], List, Vec, map, refl, sym, ap, subst, ◌∙◌}
+use Rattle.std.proofs.Common.{◌++◌, List, Vec, map, refl, sym, ap, subst, ◌∙◌}
 use Rattle.std.specs.Map.{keys_of}
 use Rattle.mapping.specs.Proper.{AreRisingPids}
-use Rattle.recovery.specs.BuiltTree.{log_pids, pages_told, filled, log_under}
+use Rattle.recovery.specs.BuiltTree.{log_pids, pages_told, filled}
 use Rattle.recovery.specs.Rebuild.{HeldLog, held_log}
 use Rattle.recovery.specs.declared.rebuild.PageLog.{PageLog}
-use Rattle.recovery.proofs.BuildLemmas.{AreAside, aside-none, aside-more, aside-passed, aside-rise, aside-built, aside-all, put-aside, empty_by}
+use Rattle.recovery.proofs.BuildLemmas.{AreAside, aside-none, aside-more, aside-passed, aside-rise, aside-built, put-aside, empty_by}
 use Rattle.recovery.proofs.build_tree.table_of.Goals as goal
 
 pub loop-entry-init : goal.loop-entry-init

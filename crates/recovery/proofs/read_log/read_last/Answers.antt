@@ -1,9 +1,8 @@
-use Rattle.std.proofs.Common.{◌≤◌, ℕ, ◌-◌, length, ap, subst, ◌∙◌, arith}
+use Rattle.std.proofs.Common.{◌≤◌, ℕ, ◌-◌, length, subst, ◌∙◌, arith}
 use Rattle.std.proofs.lemmas.List.{length-take-le}
 use Rattle.flush_log.specs.Overlay.{overlay}
 use Rattle.flush_log.specs.Reading.{read_earlier}
 use Rattle.flush_log.specs.Segments.{place_of_segment, last_segment}
-use Rattle.flush_log.specs.Slot.{Slot}
 use Rattle.flush_log.proofs.FitLemmas.{are_sized}
 use Rattle.flush_log.proofs.PlaceLemmas.{place-within}
 use Rattle.recovery.specs.Recovered.{IsReadOf}
@@ -24,16 +23,15 @@ read-requires g c =
 pub returns-clause-read : goal.returns-clause-read
 returns-clause-read g c file is =
     let s = c.args.settings.now in
-    let t = c.args.slot.now in
+    let t = c.args.ends.now in
     let n = c.last_segment-number.result in
     let buf = c.read.new.buf in
     let now = overlay file (place_of_segment s n) buf in
     let told : Told = read_earlier s file t.head (last_segment s t.tail - t.head) in
-    let tail = ap (λ (u : Slot). last_segment s u.tail) c.slot.view_is in
     let used = c.bytes_in_use.ensures.within in
     let enough = c.requires.room in
     let fits : c.bytes_in_use.result ≤ length c.args.buf.now = omega (arith, used, enough) in
-    let (front, whole) = read-last s t file buf (g.D.Disk.view c.args.disk.now) n c.requires.checked c.requires.within c.requires.slot (c.last_segment-number.ensures ∙ tail)
+    let (front, whole) = read-last s t file buf (g.D.Disk.view c.args.disk.now) n c.requires.checked c.requires.within c.requires.ends c.last_segment-number.ensures
     (c.read.auto.buf ∙ length-take-le c.bytes_in_use.result c.args.buf.now fits ∙ c.bytes_in_use.ensures.same) is in (
       now,
       subst (λ (p : ℕ). IsReadOf (g.D.Disk.view c.read.new.disk) (overlay file p buf)) c.place_of_segment.ensures (c.in_ok-read.ensures.bytes file is),

@@ -1,8 +1,15 @@
-use Rattle.std.proofs.Common.{⊎_elim, inl, inr, ◌∙◌}
+use Rattle.std.proofs.Common.{⊎_elim, inl, inr, sym, ap, subst, ◌∙◌}
 use Rattle.std.proofs.lemmas.Result.{err_from_is_err_and}
+use Rattle.flush_log.specs.Ends.{ends_in, AreEnds}
+use Rattle.flush_log.specs.Reading.{log}
+use Rattle.flush_log.specs.Slot.{Slot}
+use Rattle.flush_log.proofs.SlotLemmas.{ends-are}
 use Rattle.recovery.proofs.ReadBytes.{IsUncounted, kept_then, err_on}
 use Rattle.recovery.proofs.RecoverLemmas.{same_on, read_before, late_behind, in-front, no_slot, no_log}
 use Rattle.recovery.proofs.recover.read_parts.Goals as goal
+
+pub read_log-requires-clause-ends : goal.read_log-requires-clause-ends
+read_log-requires-clause-ends g c = λ κs within. subst (λ (t : Slot). AreEnds c.in_ok-settings.settings (ends_in t)) (sym c.slot.view_is) (ends-are c.in_ok-settings.settings c.in_ok-slot.slot c.in_ok-slot.ensures.slot)
 
 pub returns-in_err-slot-clause-same : goal.returns-in_err-slot-clause-same
 returns-in_err-slot-clause-same g c =
@@ -49,7 +56,7 @@ returns-in_err-gathering-clause-read g c =
       now,
       read_before old new now (kept_then old later new (kept_then old mid later c.in_ok-settings.ensures.kept c.in_ok-slot.ensures.kept) c.in_err-gathering.ensures.kept)
           (returns-in_err-gathering-clause-same g c) got,
-      ⊎_elim (λ wrong. inl (no_log now _ same _ stays _ wrong))
+      ⊎_elim (λ wrong. inl (no_log now _ same _ stays _ (ap (λ (t : Slot). log c.in_ok-settings.settings now t) (sym c.slot.view_is) ∙ wrong)))
           (λ late. inr (late_behind _ _ _ _ c.in_ok-settings.ensures.counted (late_behind _ _ _ _ c.in_ok-slot.ensures.counted late))) told,
     )
 
@@ -73,11 +80,11 @@ returns-clause-read g c =
     let (next, then, settings, slot) = c.in_ok-slot.ensures.read file read is in
     let (now, got, front, told) = c.in_ok-gathering.ensures.read next then in
     let (same, stays) = in-front c.in_ok-settings.settings next now old later new c.in_ok-settings.ensures.good.1 (kept_then old mid later c.in_ok-settings.ensures.kept c.in_ok-slot.ensures.kept) c.in_ok-gathering.ensures.kept then got front _ settings slot in
-    let (found, log, gathered) = told in (
+    let (found, is_log, gathered) = told in (
       now,
       read_before old new now (kept_then old later new (kept_then old mid later c.in_ok-settings.ensures.kept c.in_ok-slot.ensures.kept) c.in_ok-gathering.ensures.kept)
           (returns-clause-same g c) got,
-      record { settings = same; slot = stays; found = found; log = log; gathered = gathered },
+      record { settings = same; slot = stays; found = found; log = ap (λ (t : Slot). log c.in_ok-settings.settings now t) (sym c.slot.view_is) ∙ is_log; gathered = gathered },
     )
 
 pub returns-in_err-settings-clause-uncounted : goal.returns-in_err-settings-clause-uncounted

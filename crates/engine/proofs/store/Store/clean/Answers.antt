@@ -1,11 +1,13 @@
 use Rattle.std.proofs.Common.{inl, refl, sym, ⊎_elim, ◌∙◌}
+use Rattle.flush_log.specs.AfterFlush.{slot_of}
+use Rattle.flush_log.proofs.SameLemmas.{leaves_itself}
+use Rattle.flush_log.proofs.SlotLemmas.{ends-are}
 use Rattle.engine.specs.State.{store_in}
-use Rattle.engine.proofs.CleanDone.{slot-in, cleaned-now, cleaned-sound, refused-sound}
-use Rattle.engine.proofs.ReadLemmas.{leaves_itself}
+use Rattle.engine.proofs.CleanDone.{cleaned-now, cleaned-sound, refused-sound}
 use Rattle.engine.proofs.store.Store.clean.Goals as goal
 
-pub clean-requires-clause-slot : goal.clean-requires-clause-slot
-clean-requires-clause-slot g c = λ κs within. rw (c.root.ensures, c.height.ensures) c.self.invariant.sound.is.slot
+pub clean-requires-clause-ends : goal.clean-requires-clause-ends
+clean-requires-clause-ends g c = λ κs within. ends-are c.self.inside.settings (slot_of (store_in c.self.inside.tree c.self.inside.log)) c.self.invariant.sound.is.slot
 
 -- ---- refused for its crew
 
@@ -20,15 +22,14 @@ invariant_of-self g c =
     let s = c.self.inside.settings in
     let tree = c.self.inside.tree in
     let st = store_in tree c.self.inside.log in
-    let is = slot-in tree c.self.inside.log _ _ c.root.ensures c.height.ensures in
     let (file, read, told) = c.in-Ok.ensures.read in
-    let (bytes, done) = told st is in
+    let (bytes, done) = told st refl in
     let law = c.a_clean_keeps_the_store.ensures in
     record {
       home = c.self.invariant.home;
       sound = cleaned-sound g.D.Disk.view s st c.self.inside.disk c.clean.new.disk c.self.inside.has_failed c.self.invariant.sound c.if-self.false c.clean.ensures.kept
-          (store_in tree c.log_of-self-inside.result) file bytes law.kept law.step (cleaned-now _ tree c.in-Ok.committed c.log_of-self-inside.result bytes c.log_of-self-inside.ensures done)
-          (λ honest. cleaned-now _ tree c.in-Ok.committed c.log_of-self-inside.result _ c.log_of-self-inside.ensures (c.in-Ok.ensures.written honest st is));
+          (store_in tree c.committed.inside.ends) file bytes law.kept law.step (cleaned-now _ tree c.in-Ok.committed c.committed.inside.ends _ _ bytes c.committed.view_is done)
+          (λ honest. cleaned-now _ tree c.in-Ok.committed c.committed.inside.ends _ _ _ c.committed.view_is (c.in-Ok.ensures.written honest st refl));
     }
 
 pub returns-in-Ok-clause-read : goal.returns-in-Ok-clause-read
@@ -36,20 +37,20 @@ returns-in-Ok-clause-read g c = rw (← c.self.view_is) (λ fine able.
     let tree = c.self.inside.tree in
     let log = c.self.inside.log in
     let (file, read, told) = c.in-Ok.ensures.read in
-    let (bytes, done) = told (store_in tree log) (slot-in tree log _ _ c.root.ensures c.height.ensures) in
-    (file, read, (bytes, cleaned-now _ tree c.in-Ok.committed c.log_of-self-inside.result bytes c.log_of-self-inside.ensures done, refl)))
+    let (bytes, done) = told (store_in tree log) refl in
+    (file, read, (bytes, cleaned-now _ tree c.in-Ok.committed c.committed.inside.ends _ _ bytes c.committed.view_is done, refl)))
 
 pub returns-in-Ok-clause-bytes : goal.returns-in-Ok-clause-bytes
 returns-in-Ok-clause-bytes g c = rw (← c.self.view_is) (λ honest.
     let tree = c.self.inside.tree in
     let log = c.self.inside.log in
-    cleaned-now _ tree c.in-Ok.committed c.log_of-self-inside.result _ c.log_of-self-inside.ensures (c.in-Ok.ensures.written honest (store_in tree log) (slot-in tree log _ _ c.root.ensures c.height.ensures)))
+    cleaned-now _ tree c.in-Ok.committed c.committed.inside.ends _ _ _ c.committed.view_is (c.in-Ok.ensures.written honest (store_in tree log) refl))
 
 pub returns-in-Ok-clause-crash : goal.returns-in-Ok-clause-crash
 returns-in-Ok-clause-crash g c = rw (← c.self.view_is) (λ fine settled.
     let tree = c.self.inside.tree in
     let log = c.self.inside.log in
-    c.clean.ensures.crash settled (store_in tree log) (slot-in tree log _ _ c.root.ensures c.height.ensures) (c.self.invariant.sound.step fine settled.honest))
+    c.clean.ensures.crash settled (store_in tree log) refl (c.self.invariant.sound.step fine settled.honest))
 
 pub returns-in-Ok-clause-sound : goal.returns-in-Ok-clause-sound
 returns-in-Ok-clause-sound g c = (rw (← c.self.view_is) c.self.invariant.sound, (invariant_of-self g c).sound)
@@ -64,7 +65,7 @@ invariant_of-self-in-Err g c =
     record {
       home = c.self.invariant.home;
       sound = refused-sound g.D.Disk.view s st c.self.inside.disk c.clean.new.disk c.self.inside.has_failed c.self.invariant.sound c.if-self.false c.clean.ensures.kept
-          c.is_of_disk-self-inside.result _ _ c.is_of_disk-self-inside.ensures (λ honest. c.in-Err.ensures.unwritten honest st (slot-in tree c.self.inside.log _ _ c.root.ensures c.height.ensures));
+          c.is_of_disk-self-inside.result _ _ c.is_of_disk-self-inside.ensures (λ honest. c.in-Err.ensures.unwritten honest st refl);
     }
 
 pub returns-in-Err-clause-read : goal.returns-in-Err-clause-read
@@ -72,7 +73,7 @@ returns-in-Err-clause-read g c = rw (← c.self.view_is) (λ fine able.
     let tree = c.self.inside.tree in
     let log = c.self.inside.log in
     let (file, read, told) = c.in-Err.ensures.read in
-    (file, read, told (store_in tree log) (slot-in tree log _ _ c.root.ensures c.height.ensures)))
+    (file, read, told (store_in tree log) refl))
 
 pub returns-in-Err-clause-fine : goal.returns-in-Err-clause-fine
 returns-in-Err-clause-fine g c = rw (← c.self.view_is) (λ other.
@@ -85,13 +86,13 @@ pub returns-in-Err-clause-unwritten : goal.returns-in-Err-clause-unwritten
 returns-in-Err-clause-unwritten g c = rw (← c.self.view_is) (λ fine honest.
     let tree = c.self.inside.tree in
     let log = c.self.inside.log in
-    c.in-Err.ensures.unwritten honest (store_in tree log) (slot-in tree log _ _ c.root.ensures c.height.ensures))
+    c.in-Err.ensures.unwritten honest (store_in tree log) refl)
 
 pub returns-in-Err-clause-crash : goal.returns-in-Err-clause-crash
 returns-in-Err-clause-crash g c = rw (← c.self.view_is) (λ fine settled.
     let tree = c.self.inside.tree in
     let log = c.self.inside.log in
-    c.clean.ensures.crash settled (store_in tree log) (slot-in tree log _ _ c.root.ensures c.height.ensures) (c.self.invariant.sound.step fine settled.honest))
+    c.clean.ensures.crash settled (store_in tree log) refl (c.self.invariant.sound.step fine settled.honest))
 
 pub returns-in-Err-clause-sound : goal.returns-in-Err-clause-sound
 returns-in-Err-clause-sound g c = (rw (← c.self.view_is) c.self.invariant.sound, (invariant_of-self-in-Err g c).sound)

@@ -2,13 +2,13 @@ use Rattle.std.proofs.Common.{inl, refl, ap, sym, subst, ⊎_elim}
 use Rattle.std.proofs.lemmas.Result.{err_from_is_err_and}
 use Rattle.flush_log.specs.Disk.{IsSettled, LeavesOnly, Same}
 use Rattle.flush_log.specs.FlushText.{flush_text}
+use Rattle.flush_log.proofs.SameLemmas.{leaves_itself}
 use Rattle.flush_log.proofs.ViewLemmas.{weaker}
 use Rattle.recovery.proofs.ReadBytes.{same_self}
 use Rattle.engine.specs.Plays.{IsLeftInStep, step_of}
 use Rattle.engine.specs.Refusal.{is_crew}
 use Rattle.engine.specs.Steps.Step.{Batch, Flush, Clean}
 use Rattle.engine.proofs.PlayTurn.{device_or_not}
-use Rattle.engine.proofs.ReadLemmas.{leaves_itself}
 use Rattle.engine.proofs.StepDone.{fine_where, able_where, empty_or_not, words_of, batch_never, batch_refused, batch_done, flush_done, flush_refused, flush_left, clean_done, clean_refused, clean_left, clean_same}
 use Rattle.engine.proofs.store.Store.step.Goals as goal
 

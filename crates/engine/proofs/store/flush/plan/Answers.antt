@@ -1,48 +1,40 @@
-use Rattle.std.proofs.Common.{rules, List, ℕ, inr, sym, subst, ◌∙◌, refl, arith}
-use Rattle.std.proofs.lemmas.Result.{err_from_is_err_and}
-use Rattle.flush_log.specs.AfterFlush.{slot_of, flush_slot}
+use Rattle.std.proofs.Common.{arith}
+use Rattle.flush_log.specs.AfterFlush.{slot_of}
 use Rattle.flush_log.specs.FlushText.{flush_text}
-use Rattle.flush_log.specs.Images.{AreOfText, FitSegments, frames_in}
-use Rattle.flush_log.proofs.FitLemmas.{are_sized}
-use Rattle.flush_log.proofs.ReachLemmas.{text-fits}
-use Rattle.flush_log.proofs.SlotLemmas.{slot-is, head_small}
+use Rattle.flush_log.proofs.SlotLemmas.{slot-is}
 use Rattle.engine.specs.State.{store_in}
-use Rattle.engine.proofs.FlushPlan.{planned_by, flush-refused}
+use Rattle.engine.proofs.CreateLemmas.{slot-in}
+use Rattle.engine.proofs.FlushDone.{text-spelled, flush-told}
 use Rattle.engine.proofs.store.flush.plan.Goals as goal
 
-pub tail_of_flush-requires-clause-fits : goal.tail_of_flush-requires-clause-fits
-tail_of_flush-requires-clause-fits g c =
-    let s = c.args.settings.now in
+pub plan-requires-clause-numbers : goal.plan-requires-clause-numbers
+plan-requires-clause-numbers g c =
     let st = store_in c.args.tree.now c.args.log in
-    subst (λ (images : List (List (List ℕ))). FitSegments s (frames_in images)) (sym c.deref.ensures.value)
-    (text-fits s c.requires.store.good c.in_ok-images.images.items (flush_text st.tree) c.in_ok-images.ensures.text (c.in_ok-images.ensures.frames s c.requires.store.proper))
+    let is = slot-is c.args.settings.now st.sequence (slot_of st) c.requires.store.slot in
+    (is.sequence.1, is.tail)
 
-pub tail_of_flush-requires-clause-head : goal.tail_of_flush-requires-clause-head
-tail_of_flush-requires-clause-head g c =
-    let s = c.args.settings.now in
+pub plan-requires-clause-log : goal.plan-requires-clause-log
+plan-requires-clause-log g c =
     let st = store_in c.args.tree.now c.args.log in
-    let is = slot-is s st.sequence (slot_of st) c.requires.store.slot in
-    let sized = are_sized s c.requires.store.good in
-    let size = sized.least_size in
-    let tail = is.tail in
-    let head = head_small s st.sequence (slot_of st) (Prim.omega (arith, size)) is in
-    Prim.omega (arith, head, tail)
+    let behind = (slot-is c.args.settings.now st.sequence (slot_of st) c.requires.store.slot).behind in
+    Prim.omega (arith, behind)
 
-pub returns-in_err-tail-clause-err : goal.returns-in_err-tail-clause-err
-returns-in_err-tail-clause-err g c =
+pub plan-requires-clause-text : goal.plan-requires-clause-text
+plan-requires-clause-text g c =
     let s = c.args.settings.now in
     let st = store_in c.args.tree.now c.args.log in
-    let text = flush_text st.tree in
-    let of = subst (λ (images : List (List (List ℕ))). AreOfText images text) (sym c.deref.ensures.value) c.in_ok-images.ensures.text in
-    let p = err_from_is_err_and c.from_residual-in_err-tail.result c.from_residual-in_err-tail.ensures.1 in
-    rw (p.1, p.2) (inr (flush-refused s st c.requires.some _ (sym c.in_err-tail.was ∙ c.tail_of_flush.ensures (flush_slot s st text) text of (Prim.omega arith) refl refl)))
+    (flush_text st.tree, text-spelled s st _ c.requires.some c.in_ok-images.ensures.text (c.in_ok-images.ensures.frames s c.requires.store.proper))
 
 pub returns-clause-plan : goal.returns-clause-plan
 returns-clause-plan g c =
     let s = c.args.settings.now in
     let st = store_in c.args.tree.now c.args.log in
-    let text = flush_text st.tree in
-    let of = subst (λ (images : List (List (List ℕ))). AreOfText images text) (sym c.deref.ensures.value) c.in_ok-images.ensures.text in
-    planned_by s st c.in_ok-images.images.items _ _ c.in_ok-tail.tail c.requires.some c.in_ok-images.ensures.text (c.in_ok-images.ensures.frames s c.requires.store.proper)
-    (sym c.in_ok-tail.was ∙ c.tail_of_flush.ensures (flush_slot s st text) text of (Prim.omega arith) refl refl)
-    (rw (c.root.ensures, c.height.ensures) refl) (search rules)
+    (flush-told s st _ c.plan.result c.requires.some (slot-in c.args.tree.now c.args.log _ _ c.root.ensures c.height.ensures)
+    (c.plan.ensures (flush_text st.tree) (text-spelled s st _ c.requires.some c.in_ok-images.ensures.text (c.in_ok-images.ensures.frames s c.requires.store.proper)))).0
+
+pub returns-clause-err : goal.returns-clause-err
+returns-clause-err g c =
+    let s = c.args.settings.now in
+    let st = store_in c.args.tree.now c.args.log in
+    (flush-told s st _ c.plan.result c.requires.some (slot-in c.args.tree.now c.args.log _ _ c.root.ensures c.height.ensures)
+    (c.plan.ensures (flush_text st.tree) (text-spelled s st _ c.requires.some c.in_ok-images.ensures.text (c.in_ok-images.ensures.frames s c.requires.store.proper)))).1

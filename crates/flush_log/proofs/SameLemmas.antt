@@ -1,4 +1,4 @@
--- A call that changes nothing of a disk, and what comes after it.
+-- Calls that change nothing of a disk, and what comes after them.
 use Rattle.std.proofs.Common.{inl, inr, ⊎_elim, ℕ, ◌≤◌, List, IsTrue, sym, subst, ◌∙◌, arith}
 use Rattle.flush_log.specs.Disk.{View, Lawful, IsSettled, Kept, Same, LeavesOnly}
 
@@ -15,7 +15,7 @@ left_behind a b c P same run = record {
   before = λ t x le left. ⊎_elim (λ was. inl ((same.left_since t x).0 was)) (λ now. inr now) (run.before t x (subst (λ (m : ℕ). t ≤ m) (sym same.moment) le) left);
 }
 
--- and what comes before it
+-- and what comes before them
 pub left_still : (a b c : View) (P : List ℕ → Type 0) → LeavesOnly a b P → Same b c → LeavesOnly a c P
 left_still a b c P run same = record {
   later = subst (λ (m : ℕ). a.moment ≤ m) (sym same.moment) run.later;
@@ -23,18 +23,18 @@ left_still a b c P run same = record {
   before = λ t x le left. run.before t x le ((same.left_since t x).0 left);
 }
 
--- of a settled disk a crash leaves what is read
+-- of a settled disk a crash leaves what is read, where no call was made
 pub leaves_itself : (v : View) (P : List ℕ → Type 0) → Lawful v → IsSettled v → P v.seen → LeavesOnly v v P
 leaves_itself v P law settled p = record {
-  later = Prim.omega arith;
+  later = omega arith;
   each = λ c left. subst P (sym (settled.only c (law.only_now c left))) p;
   before = λ t c le left. inl left;
 }
 
--- and so behind a call that changes nothing
+-- and behind calls that change nothing
 pub leaves_the_same : (old new : View) (P : List ℕ → Type 0) → Lawful old → Same old new → IsSettled old → P old.seen → LeavesOnly old new P
 leaves_the_same old new P law same settled p = record {
-  later = subst (λ (m : ℕ). old.moment ≤ m) (sym same.moment) (Prim.omega arith);
+  later = subst (λ (m : ℕ). old.moment ≤ m) (sym same.moment) (omega arith);
   each = λ c left. subst P (sym (settled.only c (law.only_now c ((same.left_since old.moment c).0 left)))) p;
   before = λ t c le left. inl ((same.left_since t c).0 left);
 }

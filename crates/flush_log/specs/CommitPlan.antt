@@ -1,0 +1,54 @@
+-- A commit that is planned: which text it writes, behind which log, and that nothing refuses it.
+use Rattle.std.specs.Prelude.{◌≡◌, ◌⊎◌, ℕ, suc, ◌≤◌, true, false, List, [], length, Result}
+use Rattle.std.specs.List.{AllByRecursion}
+use Rattle.keys.specs.Bytes.{Bytes}
+use Rattle.keys.specs.declared.fault.Fault.{Fault}
+use Rattle.keys.specs.declared.settings.Settings.{Settings}
+use Rattle.frame_codec.specs.Frame.{Frame, is_frame}
+use Rattle.flush_log.specs.AfterFlush.{is_spent}
+use Rattle.flush_log.specs.Commit.{AreWithin, committed, IsUncommitted}
+use Rattle.flush_log.specs.Images.{AreOfText, admitted}
+use Rattle.flush_log.specs.Layout.{tail_after, spans, is_full_for_flush}
+use Rattle.flush_log.specs.Segments.{disk_size}
+use Rattle.flush_log.specs.Slot.{Slot}
+
+-- these images are the frames of this text, each one that a store may have; there are none, or there is a frame
+pub record AreImages (s : Settings) (text : List Frame) (images : List (List Bytes)) : Type 0 where
+  pub of : AreOfText images text
+  pub some : (images ≡ []) ⊎ (1 ≤ length text)
+  pub within : AllByRecursion (λ f. is_frame s f ≡ true) text
+
+-- the slot after a commit that writes this text behind the log of slot t: the number is the next one, the tail that behind the text
+abbrev pub next_slot : Settings → Slot → List Frame → Slot
+next_slot s t text = record { sequence = suc t.sequence; head = t.head; tail = tail_after s t.tail text; root = t.root; height = t.height }
+
+-- its tail, or why it is refused: its numbers are spent, or no segment would be free
+abbrev pub next_tail : Settings → Slot → List Frame → Result ℕ Fault
+next_tail s t text = admitted (next_slot s t text) (is_full_for_flush s t.head (tail_after s t.tail text))
+
+-- a commit as it is planned: the images of its text, the tail behind which they are written, the slot that commits them, and for
+-- how many bytes there is room
+pub record CommitPlan : Type 0 where
+  pub images : List (List Bytes)
+  pub tail : ℕ
+  pub slot : Slot
+  pub room : ℕ
+
+-- It is the commit of this text behind the log of slot t, and nothing refuses it: the text lies within the disk, and there is room
+-- for the bytes of a segment.
+pub record IsPlanned (s : Settings) (t : Slot) (text : List Frame) (p : CommitPlan) : Type 0 where
+  pub spelled : AreImages s text p.images
+  pub behind : p.tail ≡ t.tail
+  pub slot : p.slot ≡ next_slot s t text
+  pub unspent : is_spent (next_slot s t text) ≡ false
+  pub free : is_full_for_flush s t.head (tail_after s t.tail text) ≡ false
+  pub within : AreWithin s (disk_size s) (spans s t.tail text)
+  pub room : s.seg_size ≤ p.room
+
+-- the bytes of a disk after it
+abbrev pub file_with : Settings → Slot → List Frame → Bytes → Bytes
+file_with s t text file = committed s file (spans s t.tail text) (next_slot s t text)
+
+-- what a crash may leave of it: bytes in which it isn't committed, or those after it
+abbrev pub LeftOf : Settings → Slot → List Frame → Bytes → Bytes → Type 0
+LeftOf s t text file c = IsUncommitted s (suc t.sequence) (spans s t.tail text) file c ⊎ (c ≡ file_with s t text file)

@@ -1,0 +1,112 @@
+//! A commit as one value: planned, and then written.
+ghost use Rattle.std.specs.Prelude.{◌≡◌, ◌⊎◌, ◌*◌, ◌<◌, ◌≤◌, List, None, Err, IsTrue, OnOk, MatchResult};
+ghost use Rattle.keys.specs.Limits.{first_bad_field};
+ghost use Rattle.keys.specs.declared.fault.Fault.TheVariants.{NoMemory};
+ghost use Rattle.frame_codec.specs.Frame.{Frame};
+ghost use Rattle.flush_log.specs.CommitPlan.{AreImages, next_tail, IsPlanned, file_with, LeftOf};
+ghost use Rattle.flush_log.specs.Disk.{IsSettled, Kept, LeavesOnly, CountsFailure};
+ghost use Rattle.flush_log.specs.Segments.{disk_size};
+ghost use Rattle.flush_log.specs.Slot as slots;
+ghost use Rattle.flush_log.specs.Slot.{greatest};
+
+use crate::commit::{is_gate_open, write_flush};
+use crate::disk::{Disk, DiskFault};
+use crate::image::Image;
+use crate::layout::tail_of_commit;
+use crate::slot::{LogEnds, Slot};
+use keys::{Fault, Settings};
+use std::alloc::Global;
+use std::marker::Model;
+
+/// A commit that is planned: the images of a text, the tail behind which they are written, the slot that commits them, and room for
+/// the bytes of a segment. A flush makes one, and a clean.
+#[derive(Drop)]
+pub struct Commit {
+    images: Vec<Image>,
+    tail: u64,
+    slot: Slot,
+    buffer: Vec<u8>,
+}
+
+impl Model for Commit {
+    ghost use Rattle.std.specs.Prelude.{length};
+    ghost use Rattle.flush_log.specs.CommitPlan.{CommitPlan};
+
+    ghost Value = { CommitPlan };
+
+    ghost view = { λ m. record { images = m.images.items; tail = m.tail; slot = m.slot; room = length m.buffer.items } };
+}
+
+impl Commit {
+    /// Plans the commit of a text behind a log. `slot` says where that log begins and ends, how often it was committed, and the root and
+    /// the height that the commit is to name; of a clean it is the log without its first segment. No disk is called.
+    ///
+    /// Refused with `Fault::NoMemory`; then with `Fault::Spent`, where a position or the number would be above 2^62; then with
+    /// `Fault::Full`, where no segment would be free.
+    pub fn plan(
+        alloc: Global,
+        settings: &Settings,
+        slot: &Slot,
+        images: Vec<Image>,
+    ) -> Result<Commit, Fault>
+        requires checked { first_bad_field settings.now ≡ None }
+        requires numbers { (slot.now.sequence ≤ greatest) × (slot.now.tail ≤ greatest) }
+        requires log { slot.now.head * settings.now.seg_size < slot.now.tail }
+        requires text { (text : List Frame) × AreImages settings.now text images.items }
+        ensures { (text : List Frame) → AreImages settings.now text images.items → MatchResult result
+            (λ commit. IsPlanned settings.now slot.now text commit)
+            (λ fault. (fault ≡ NoMemory) ⊎ (next_tail settings.now slot.now text ≡ Err fault)) }
+    {
+        let mut buffer = Vec::new(alloc);
+        buffer.resize(settings.seg_size as usize, 0)?;
+        let log = slot.ends;
+        let sequence = log.sequence + 1;
+        let tail = tail_of_commit(settings, sequence, log.head, log.tail, &images)?;
+        let ends = LogEnds {
+            sequence,
+            head: log.head,
+            tail,
+        };
+        Ok(Commit {
+            images,
+            tail: log.tail,
+            slot: Slot {
+                ends,
+                root: slot.root,
+                height: slot.height,
+            },
+            buffer,
+        })
+    }
+
+    /// The slot that it makes the store's.
+    pub fn slot(&self) -> Slot
+        ensures { result ≡ self.now.slot }
+    {
+        self.slot
+    }
+
+    /// Does what was planned, on a disk of a store with these settings: the gate of the slot is read, and the rest is `write_flush`.
+    pub fn write<D: Disk>(self, disk: &mut D, settings: &Settings) -> Result<(), DiskFault>
+        requires checked { first_bad_field settings.now ≡ None }
+        requires within { disk_size settings.now ≤ (D.view disk.old).size }
+        requires planned { (t : slots.Slot) × (text : List Frame) × IsPlanned settings.now t text self }
+        ensures kept { Kept (D.view disk.old) (D.view disk.new) }
+        ensures failed { CountsFailure result (D.failed disk.old) (D.failed disk.new) }
+        ensures written { (t : slots.Slot) (text : List Frame) → IsPlanned settings.now t text self → IsTrue (D.view disk.old).is_honest →
+            OnOk result ((D.view disk.new).seen ≡ file_with settings.now t text (D.view disk.old).seen) }
+        ensures settled { IsTrue (D.view disk.old).is_honest → OnOk result (IsSettled (D.view disk.new)) }
+        ensures crash { (t : slots.Slot) (text : List Frame) → IsPlanned settings.now t text self → IsSettled (D.view disk.old) →
+            LeavesOnly (D.view disk.old) (D.view disk.new) (LeftOf settings.now t text (D.view disk.old).seen) }
+    {
+        let Commit {
+            images,
+            tail,
+            slot,
+            buffer,
+        } = self;
+        let mut buffer = buffer;
+        let is_open = is_gate_open(disk, slot.ends.sequence)?;
+        write_flush(disk, settings, tail, &images, &slot, is_open, &mut buffer)
+    }
+}
