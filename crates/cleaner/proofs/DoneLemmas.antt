@@ -11,7 +11,7 @@ use Rattle.flush_log.specs.Disk.{View, Same, LeavesOnly}
 use Rattle.flush_log.specs.Ends.{ends_of}
 use Rattle.flush_log.specs.Segments.{last_segment}
 use Rattle.flush_log.specs.Slot.{Slot}
-use Rattle.flush_log.proofs.SameLemmas.{left_behind}
+use Rattle.flush_log.proofs.SameLemmas.{left_after}
 use Rattle.flush_log.proofs.ViewLemmas.{weaker}
 use Rattle.recovery.specs.InStep.{IsInStep}
 use Rattle.recovery.specs.StoreOfDisk.{store_of_disk}
@@ -55,4 +55,4 @@ module _ (s : Settings) (st : Store) (m : CommitPlan) (more : st.head ≢ last_s
       let base : Slot = base_in (ends_of st) old.seen in
       let text : List Frame = clean_text st.head p.0 in
       weaker old new (LeftOf s base text old.seen) (CleanLeaves old.seen) (λ c h. plan-leaves old.seen c step p h)
-      (left_behind old mid new (LeftOf s base text old.seen) same (subst (λ (f : List ℕ). LeavesOnly mid new (LeftOf s base text f)) same.seen run))
+      (left_after old mid new (LeftOf s base text old.seen) same (subst (λ (f : List ℕ). LeavesOnly mid new (LeftOf s base text f)) same.seen run))

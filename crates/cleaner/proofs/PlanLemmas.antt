@@ -1,5 +1,5 @@
 -- What is known of a clean that is planned, or refused.
-use Rattle.std.specs.Prelude.{◌≡◌, ◌≢◌, ◌⊎◌, ℕ, suc, ◌+◌, ◌*◌, ◌<◌, ◌≤◌, Bool, true, false, nat_eq, if◌then◌else◌, IsTrue, List, [], ◌∷◌, ◌++◌, length, take, drop, None, Option, Some, Result, Ok, Err, MatchResult, IfOk, IfErr, IsErrAnd}
+use Rattle.std.specs.Prelude.{◌≡◌, ◌≢◌, ◌⊎◌, ℕ, suc, ◌+◌, ◌*◌, ◌<◌, ◌≤◌, Bool, true, false, nat_eq, if◌then◌else◌, List, [], ◌∷◌, ◌++◌, length, take, drop, None, Option, Some, Result, Ok, Err, MatchResult, IfOk}
 use Rattle.std.proofs.Common.{refl, sym, ap, ◌∙◌, arith, subst, inl, inr}
 use Rattle.std.specs.List.{AllByRecursion}
 use Rattle.std.proofs.Math.Nat.{mul-le-mul_right}
@@ -17,7 +17,7 @@ use Rattle.frame_codec.specs.Frame.{Frame, is_frame}
 use Rattle.flush_log.specs.AfterFlush.{slot_of, store_after}
 use Rattle.flush_log.specs.Commit.{committed}
 use Rattle.flush_log.specs.CommitPlan.{CommitPlan, IsPlanned, next_tail, file_with}
-use Rattle.flush_log.specs.Disk.{View, Kept, Same, HasFailed}
+use Rattle.flush_log.specs.Disk.{HasFailed}
 use Rattle.flush_log.specs.Ends.{ends_of, AreEnds}
 use Rattle.flush_log.specs.Images.{AreOfText, admitted}
 use Rattle.flush_log.specs.Layout.{spans, is_full_for_clean}
@@ -35,10 +35,9 @@ use Rattle.flush_log.proofs.OverlayLemmas.{overlay-part}
 use Rattle.flush_log.proofs.PlannedLemmas.{head-low}
 use Rattle.flush_log.proofs.TailLemmas.{clean-is-flush}
 use Rattle.recovery.specs.LogPages.{broken_in}
-use Rattle.recovery.specs.Recovered.{IsReadOf, IsLate}
+use Rattle.recovery.specs.Recovered.{IsLate}
 use Rattle.recovery.specs.StoreOfDisk.{unless_found, frames_in}
 use Rattle.recovery.proofs.FoundWithin.{log-within}
-use Rattle.recovery.proofs.ReadBytes.{same_then}
 use Rattle.cleaner.specs.AfterClean.{slot_on_disk, clean_slot, after_carried, after_clean_of, after_clean}
 use Rattle.cleaner.specs.Cleaned.{IsRefused, IsRead, IsText, cleaned_slot, IsClean}
 use Rattle.cleaner.specs.CleanText.{clean_text}
@@ -48,23 +47,7 @@ use Rattle.cleaner.proofs.CleanLemmas.{all-clean_text}
 abbrev left : Store → List ℕ → Result (Store × List ℕ) Fault
 left now bytes = Ok (now, bytes)
 
--- ---- calls that change nothing of a disk
-
-pub same_on : (a b c : View) → Kept a b → (IsTrue a.is_honest → Same a b) → (IsTrue b.is_honest → Same b c) → IsTrue a.is_honest → Same a c
-same_on a b c kept first second honest = same_then a b c (first honest) (second (subst IsTrue (sym kept.honest) honest))
-
--- what was read later was read of the disk as it was before
-pub read_before : (a b : View) (file : List ℕ) → Kept a b → (IsTrue a.is_honest → Same a b) → IsReadOf b file → IsReadOf a file
-read_before a b file kept same read = record {
-  whole = read.whole ∙ kept.size;
-  honest = λ honest. read.honest (subst IsTrue (sym kept.honest) honest) ∙ (same honest).seen;
-}
-
--- a fault that was handed on, where nothing else is promised
-pub err_on : {X : Type 0} (r : Result X Fault) (Q : Fault → Type 0) (fault : Fault) → IsErrAnd r (λ f. f ≡ fault) → Q fault → IfErr r Q
-err_on (Ok x) Q fault is h = absurd is
-err_on (Err f) Q fault is h = subst Q (sym is) h
-
+-- a fault was late also where no read had failed before
 pub since : (s : Settings) (e : LogEnds) (file : List ℕ) (old mid new : ℕ) (fault : Fault) → mid ≡ old → IsRefused s e file fault ⊎ IsLate mid new fault → IsRefused s e file fault ⊎ IsLate old new fault
 since s e file old mid new fault same h = subst (λ (n : ℕ). IsRefused s e file fault ⊎ IsLate n new fault) same h
 
@@ -160,7 +143,7 @@ module _ (s : Settings) (e : LogEnds) (good : first_bad_field s ≡ None) (are :
       let whole : suc e.head * s.seg_size ≤ last_segment s e.tail * s.seg_size = mul-le-mul_right s.seg_size (omega (arith, less)) in
       omega (arith, whole, is, low)
 
--- what its text is written behind, of these bytes
+-- what its text is added to, by these bytes
 abbrev pub base_in : LogEnds → List ℕ → Slot
 base_in e file = cleaned_slot e (slot_on_disk e.sequence file)
 
@@ -201,13 +184,13 @@ module _ (s : Settings) (file : List ℕ) (st : Store) where
   pub clean-planned : (m : CommitPlan) (e : LogEnds) → ends_of st ≡ e → DoneBy m e
   clean-planned m e is = subst (DoneBy m) is (own_done m)
 
--- what is told of the plan of a commit behind this slot, which is that of the clean
-pub plan-told : (s : Settings) (e : LogEnds) (u : Slot) (file : List ℕ) (found : List Found) (old new : ℕ) (r : Result CommitPlan Fault) → e.head ≢ last_segment s e.tail → IsRead s e file found → u ≡ base_in e file
+-- the plan of the commit that adds the text to this slot's log is that of the clean
+pub as-clean : (s : Settings) (e : LogEnds) (u : Slot) (file : List ℕ) (found : List Found) (old new : ℕ) (r : Result CommitPlan Fault) → e.head ≢ last_segment s e.tail → IsRead s e file found → u ≡ base_in e file
     → MatchResult r (λ m. IsPlanned s u (clean_text e.head found) m) (λ fault. (fault ≡ NoMemory) ⊎ (next_tail s u (clean_text e.head found) ≡ Err fault))
     → MatchResult r (λ m. IsClean s e file m) (λ fault. IsRefused s e file fault ⊎ IsLate old new fault)
-plan-told s e u file found old new (Ok m) more read is p = (found, read, subst (λ (v : Slot). IsPlanned s v (clean_text e.head found) m) is p)
-plan-told s e u file found old new (Err fault) more read is (inl memory) = inr (inl memory)
-plan-told s e u file found old new (Err fault) more read is (inr full) =
+as-clean s e u file found old new (Ok m) more read is p = (found, read, subst (λ (v : Slot). IsPlanned s v (clean_text e.head found) m) is p)
+as-clean s e u file found old new (Err fault) more read is (inl memory) = inr (inl memory)
+as-clean s e u file found old new (Err fault) more read is (inr full) =
     inl (λ st same. tail-refused s file st fault e same more found read (subst (λ (v : Slot). next_tail s v (clean_text e.head found) ≡ Err fault) is full))
 
 -- ---- what was chosen of what was read

@@ -41,7 +41,7 @@ pub record IsRead (s : Settings) (e : LogEnds) (file : Bytes) (found : List Foun
 abbrev pub IsText : Settings → LogEnds → Bytes → List (List Bytes) → Type 0
 IsText s e file images = (found : List Found) × IsRead s e file found × AreImages s (clean_text e.head found) images
 
--- what a text is to be written behind: the log without its first segment, with the root and the height of a slot on the disk
+-- what a clean adds its text to: the log without its first segment, with the root and the height of a slot on the disk
 abbrev pub cleaned_slot : LogEnds → Slot → Slot
 cleaned_slot e on_disk = record { sequence = e.sequence; head = suc e.head; tail = e.tail; root = on_disk.root; height = on_disk.height }
 

@@ -70,8 +70,7 @@ fn read_text<D: Disk>(
     choose(settings, pages, ends.head)
 }
 
-// What the text of a clean is written behind: the log without its first segment, with the root and the height that a slot on the
-// disk has.
+// What a clean adds its text to: the log without its first segment, with the root and the height that a slot on the disk has.
 fn cleaned_slot(ends: &LogEnds, on_disk: &Slot) -> Slot
     requires { ends.now.head ≤ greatest }
     ensures { result ≡ cleaned_slot ends.now on_disk.now }
@@ -110,8 +109,8 @@ fn plan<D: Disk>(
 {
     let on_disk = read_slot_on_disk(disk, ends.sequence)?;
     let images = read_text(rt, crew, alloc, disk, settings, ends)?;
-    let behind = cleaned_slot(ends, &on_disk);
-    Commit::plan(alloc, settings, &behind, images)
+    let base = cleaned_slot(ends, &on_disk);
+    Commit::plan(alloc, settings, &base, images)
 }
 
 /// Cleans a log: the pages that live in its first segment are written again at its end, as they stand in the log, and then that

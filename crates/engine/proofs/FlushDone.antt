@@ -90,13 +90,13 @@ module _ (s : Settings) (st : Store) (some : flush_text st.tree ≢ []) where
         ∙ ap (λ (x : Store). left x (file_with s (slot_of st) (flush_text st.tree) file))
         (ap (λ (t : Tree). store_after t slot) (sym is_tree) ∙ sym (opened-is tree slot log root height (kept ∙ p.slot)))
 
--- what is told of the plan of a commit behind this slot, which is the store's
-pub flush-told : (s : Settings) (st : Store) (u : Slot) (r : Result CommitPlan Fault) → flush_text st.tree ≢ [] → slot_of st ≡ u
+-- the plan of the commit that adds the text to this slot's log is that of the flush, where the slot is the store's
+pub as-flush : (s : Settings) (st : Store) (u : Slot) (r : Result CommitPlan Fault) → flush_text st.tree ≢ [] → slot_of st ≡ u
     → MatchResult r (λ m. IsPlanned s u (flush_text st.tree) m) (λ fault. (fault ≡ NoMemory) ⊎ (next_tail s u (flush_text st.tree) ≡ Err fault))
     → IfOk r (λ m. IsFlush s st m) × IfErr r (λ fault. (fault ≡ NoMemory) ⊎ ((file : List ℕ) → after_flush s st file ≡ Err fault))
-flush-told s st u (Ok m) some is p = (subst (λ (v : Slot). IsPlanned s v (flush_text st.tree) m) (sym is) p, tt)
-flush-told s st u (Err fault) some is (inl memory) = (tt, inl memory)
-flush-told s st u (Err fault) some is (inr full) = (tt, inr (λ file. flush-refused s st some fault (subst (λ (v : Slot). next_tail s v (flush_text st.tree) ≡ Err fault) (sym is) full) file))
+as-flush s st u (Ok m) some is p = (subst (λ (v : Slot). IsPlanned s v (flush_text st.tree) m) (sym is) p, tt)
+as-flush s st u (Err fault) some is (inl memory) = (tt, inl memory)
+as-flush s st u (Err fault) some is (inr full) = (tt, inr (λ file. flush-refused s st some fault (subst (λ (v : Slot). next_tail s v (flush_text st.tree) ≡ Err fault) (sym is) full) file))
 
 -- a flush is refused by its right with two faults alone
 not_device_by : (a b : Bool) (now : Store) (file : List ℕ) (fault : Fault) → (if a then Err Spent else (if b then Err Full else left now file)) ≡ Err fault → fault ≢ Device

@@ -31,14 +31,14 @@ pub admits : (t : Slot) (tail : ℕ) (is_full full : Bool) → Some tail ≡ uns
 admits t tail is_full full = of (is_spent t)
   where
     of : (b : Bool) → Some tail ≡ unspent t b → (tail ≡ t.tail → full ≡ is_full) → by_room tail full ≡ (let spent : Answer = Err Spent in if b then spent else by_room t.tail is_full)
-    of true h told = absurd (cc)
-    of false h told =
+    of true h room = absurd (cc)
+    of false h room =
         let same : tail ≡ t.tail = cc in
-        ap (λ (n : ℕ). by_room n full) same ∙ ap (by_room t.tail) (told same)
+        ap (λ (n : ℕ). by_room n full) same ∙ ap (by_room t.tail) (room same)
 
 -- whether it is full, by its head and its tail
-pub full_told : (s : Settings) (t : Slot) (head tail : ℕ) → t.head ≡ head → tail ≡ t.tail → is_full_for_flush s head tail ≡ is_full_for_flush s t.head t.tail
-full_told s t head tail h is = ap (λ (n : ℕ). is_full_for_flush s n tail) (sym h) ∙ ap (λ (n : ℕ). is_full_for_flush s t.head n) is
+pub full_at : (s : Settings) (t : Slot) (head tail : ℕ) → t.head ≡ head → tail ≡ t.tail → is_full_for_flush s head tail ≡ is_full_for_flush s t.head t.tail
+full_at s t head tail h is = ap (λ (n : ℕ). is_full_for_flush s n tail) (sym h) ∙ ap (λ (n : ℕ). is_full_for_flush s t.head n) is
 
 -- ---- what is left, by the answer
 
@@ -48,10 +48,10 @@ pub record IsAdmitted (t : Slot) (is_full : Bool) (n : ℕ) : Type 0 where
   pub room : is_full ≡ false
   pub tail : n ≡ t.tail
 
-pub admitted-told : (t : Slot) (is_full : Bool) (tail : ℕ) → (let told : Answer = Ok tail in told ≡ admitted t is_full) → IsAdmitted t is_full tail
-admitted-told t is_full tail h = of (is_spent t) is_full refl h
+pub admitted-is : (t : Slot) (is_full : Bool) (tail : ℕ) → (let answer : Answer = Ok tail in answer ≡ admitted t is_full) → IsAdmitted t is_full tail
+admitted-is t is_full tail h = of (is_spent t) is_full refl h
   where
-    of : (a b : Bool) → is_spent t ≡ a → (let told : Answer = Ok tail in told ≡ (if a then Err Spent else by_room t.tail b)) → IsAdmitted t b tail
+    of : (a b : Bool) → is_spent t ≡ a → (let answer : Answer = Ok tail in answer ≡ (if a then Err Spent else by_room t.tail b)) → IsAdmitted t b tail
     of true b e k = absurd (cc)
     of false true e k = absurd (cc)
     of false false e k = record { unspent = e; room = refl; tail = cc }

@@ -8,8 +8,8 @@ settled_still old new kept same settled = record {
   only = λ c left. settled.only c ((same.may_leave c).0 left) ∙ sym same.seen;
 }
 
-pub left_behind : (a b c : View) (P : List ℕ → Type 0) → Same a b → LeavesOnly b c P → LeavesOnly a c P
-left_behind a b c P same run = record {
+pub left_after : (a b c : View) (P : List ℕ → Type 0) → Same a b → LeavesOnly b c P → LeavesOnly a c P
+left_after a b c P same run = record {
   later = subst (λ (m : ℕ). m ≤ c.moment) same.moment run.later;
   each = λ x left. run.each x (subst (λ (m : ℕ). c.left_since m x) (sym same.moment) left);
   before = λ t x le left. ⊎_elim (λ was. inl ((same.left_since t x).0 was)) (λ now. inr now) (run.before t x (subst (λ (m : ℕ). t ≤ m) (sym same.moment) le) left);
@@ -31,7 +31,7 @@ leaves_itself v P law settled p = record {
   before = λ t c le left. inl left;
 }
 
--- and behind calls that change nothing
+-- and after calls that change nothing
 pub leaves_the_same : (old new : View) (P : List ℕ → Type 0) → Lawful old → Same old new → IsSettled old → P old.seen → LeavesOnly old new P
 leaves_the_same old new P law same settled p = record {
   later = subst (λ (m : ℕ). old.moment ≤ m) (sym same.moment) (omega arith);

@@ -1,4 +1,4 @@
--- A commit that is planned: which text it writes, behind which log, and that nothing refuses it.
+-- A commit that is planned: which text it adds to which log, and that nothing refuses it.
 use Rattle.std.specs.Prelude.{◌≡◌, ◌⊎◌, ℕ, suc, ◌≤◌, true, false, List, [], length, Result}
 use Rattle.std.specs.List.{AllByRecursion}
 use Rattle.keys.specs.Bytes.{Bytes}
@@ -18,7 +18,7 @@ pub record AreImages (s : Settings) (text : List Frame) (images : List (List Byt
   pub some : (images ≡ []) ⊎ (1 ≤ length text)
   pub within : AllByRecursion (λ f. is_frame s f ≡ true) text
 
--- the slot after a commit that writes this text behind the log of slot t: the number is the next one, the tail that behind the text
+-- the slot of the commit that adds this text to the log of slot t: the next number, and the tail after the text
 abbrev pub next_slot : Settings → Slot → List Frame → Slot
 next_slot s t text = record { sequence = suc t.sequence; head = t.head; tail = tail_after s t.tail text; root = t.root; height = t.height }
 
@@ -26,19 +26,19 @@ next_slot s t text = record { sequence = suc t.sequence; head = t.head; tail = t
 abbrev pub next_tail : Settings → Slot → List Frame → Result ℕ Fault
 next_tail s t text = admitted (next_slot s t text) (is_full_for_flush s t.head (tail_after s t.tail text))
 
--- a commit as it is planned: the images of its text, the tail behind which they are written, the slot that commits them, and for
--- how many bytes there is room
+-- a commit as it is planned: the images of its text, the tail from which on they are written, the slot that commits them, and the
+-- size of the buffer
 pub record CommitPlan : Type 0 where
   pub images : List (List Bytes)
   pub tail : ℕ
   pub slot : Slot
   pub room : ℕ
 
--- It is the commit of this text behind the log of slot t, and nothing refuses it: the text lies within the disk, and there is room
--- for the bytes of a segment.
+-- It is the commit that adds this text to the log of slot t, and nothing refuses it: the text lies within the disk, and the buffer
+-- has room for a segment.
 pub record IsPlanned (s : Settings) (t : Slot) (text : List Frame) (p : CommitPlan) : Type 0 where
   pub spelled : AreImages s text p.images
-  pub behind : p.tail ≡ t.tail
+  pub from : p.tail ≡ t.tail
   pub slot : p.slot ≡ next_slot s t text
   pub unspent : is_spent (next_slot s t text) ≡ false
   pub free : is_full_for_flush s t.head (tail_after s t.tail text) ≡ false

@@ -18,8 +18,8 @@ use keys::{Fault, Settings};
 use std::alloc::Global;
 use std::marker::Model;
 
-/// A commit that is planned: the images of a text, the tail behind which they are written, the slot that commits them, and room for
-/// the bytes of a segment. A flush makes one, and a clean.
+/// A commit that is planned: the images of a text, the tail from which on they are written, the slot that commits them, and a buffer
+/// for the bytes of a segment. A flush makes one, and so does a clean.
 #[derive(Drop)]
 pub struct Commit {
     images: Vec<Image>,
@@ -38,11 +38,12 @@ impl Model for Commit {
 }
 
 impl Commit {
-    /// Plans the commit of a text behind a log. `slot` says where that log begins and ends, how often it was committed, and the root and
-    /// the height that the commit is to name; of a clean it is the log without its first segment. No disk is called.
+    /// Plans the commit that adds a text to a log. `slot` says where that log begins and ends and how often it was committed, and the
+    /// root and the height that the commit names. A clean gives the log without its first segment, which the commit makes free. No disk
+    /// is called.
     ///
-    /// Refused with `Fault::NoMemory`; then with `Fault::Spent`, where a position or the number would be above 2^62; then with
-    /// `Fault::Full`, where no segment would be free.
+    /// First there is `Fault::NoMemory`; then `Fault::Spent`, where a position or the number would be above 2^62; then `Fault::Full`,
+    /// where no segment would be free.
     pub fn plan(
         alloc: Global,
         settings: &Settings,
@@ -86,7 +87,7 @@ impl Commit {
         self.slot
     }
 
-    /// Does what was planned, on a disk of a store with these settings: the gate of the slot is read, and the rest is `write_flush`.
+    /// Writes what was planned to the disk of a store with these settings: reads the gate of the slot, and calls `write_flush`.
     pub fn write<D: Disk>(self, disk: &mut D, settings: &Settings) -> Result<(), DiskFault>
         requires checked { first_bad_field settings.now ≡ None }
         requires within { disk_size settings.now ≤ (D.view disk.old).size }

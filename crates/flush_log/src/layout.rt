@@ -117,10 +117,10 @@ fn unspent_tail(settings: &Settings, sequence: u64, tail: u64, images: &[Image])
     text_end(settings, tail, images)
 }
 
-/// The tail of a commit that writes these images behind `tail` and has this sequence number, and with which the log begins at
-/// segment `head`. Refuses it with `Fault::Spent` where the number or the tail is above the greatest, and else with `Fault::Full`
-/// where no segment would be free in that log. So a clean, which makes the first segment free, may write into all that were.
-pub fn tail_of_commit(
+/// The tail of a commit that writes these images from `tail` on, has this sequence number, and makes the log begin at segment `head`.
+/// `Fault::Spent` where the number or the tail is above the greatest, and else `Fault::Full` where that log would leave no segment
+/// free. A clean makes the first segment free, so it may write into all that were free before.
+pub(crate) fn tail_of_commit(
     settings: &Settings,
     sequence: u64,
     head: u64,

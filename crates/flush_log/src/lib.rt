@@ -15,7 +15,7 @@ pub mod image;
 pub mod image_work;
 mod kind;
 pub mod laws;
-pub mod layout;
+mod layout;
 pub mod mem_disk;
 pub mod new_store;
 pub mod record_laws;

@@ -49,6 +49,17 @@ pub as_told : {X : Type 0} (told : Result X Fault) (Late : Fault → Type 0) (r 
 as_told told Late (Ok x) e = sym e
 as_told told Late (Err fault) e = inl (sym e)
 
+-- the same on an honest disk, which stays honest
+pub same_on : (a b c : View) → Kept a b → (IsTrue a.is_honest → Same a b) → (IsTrue b.is_honest → Same b c) → IsTrue a.is_honest → Same a c
+same_on a b c kept first second honest = same_then a b c (first honest) (second (subst IsTrue (sym kept.honest) honest))
+
+-- what was read later was read of the disk as it was before
+pub read_before : (a b : View) (file : List ℕ) → Kept a b → (IsTrue a.is_honest → Same a b) → IsReadOf b file → IsReadOf a file
+read_before a b file kept same read = record {
+  whole = read.whole ∙ kept.size;
+  honest = λ honest. read.honest (subst IsTrue (sym kept.honest) honest) ∙ (same honest).seen;
+}
+
 -- a fault that was handed on
 pub handed_on : {X : Type 0} (r : Result X Fault) (P : X → Type 0) (Q : Fault → Type 0) (fault : Fault) → IsErrAnd r (λ f. f ≡ fault) → Q fault → MatchResult r P Q
 handed_on (Ok x) P Q fault is h = absurd is

@@ -1,6 +1,6 @@
 -- What a recovery comes to, by what is read of its disk part by part.
-use Rattle.std.specs.Prelude.{◌≡◌, ◌⊎◌, ℕ, ◌≤◌, IsTrue, List, length, take, Option, Some, None, Result, Ok, Err}
-use Rattle.std.proofs.Common.{sym, ap, subst, ◌∙◌, inl, inr, arith}
+use Rattle.std.specs.Prelude.{◌≡◌, ◌⊎◌, ℕ, ◌≤◌, List, length, take, Option, Some, None, Result, Ok, Err}
+use Rattle.std.proofs.Common.{sym, ap, ◌∙◌, inl, inr, arith}
 use Rattle.keys.specs.Bytes.{Bytes}
 use Rattle.keys.specs.declared.fault.Fault.{Fault}
 use Rattle.keys.specs.declared.fault.Fault.TheVariants.{NoMemory, BadStructure}
@@ -9,7 +9,7 @@ use Rattle.mapping.specs.Finding.{Finding}
 use Rattle.mapping.specs.Tree.{Store, Tree}
 use Rattle.mapping.specs.TreeInMemory.{TreeInMemory, AreAllHome, tree_of}
 use Rattle.flush_log.specs.AfterFlush.{store_after}
-use Rattle.flush_log.specs.Disk.{View, Kept, Same}
+use Rattle.flush_log.specs.Disk.{View, Kept}
 use Rattle.flush_log.specs.Reading.{Found, log}
 use Rattle.flush_log.specs.Segments.{segments_begin, disk_size}
 use Rattle.flush_log.specs.SettingsBlock.{store_settings}
@@ -18,27 +18,9 @@ use Rattle.recovery.specs.Gathered.{AreGathered}
 use Rattle.recovery.specs.Recovered.{IsReadOf, IsLate, IsLogRead, store_recovered}
 use Rattle.recovery.specs.StoreOfDisk.{and_then, frames_in, store_of_disk, store_of_slot, store_under, tree_by_log, unless_found, wrong_in}
 use Rattle.recovery.proofs.FrontLemmas.{front-settings, front-slot}
-use Rattle.recovery.proofs.ReadBytes.{same_then}
 use Rattle.recovery.specs.declared.gather.Gathering.{Gathering}
 use Rattle.recovery.specs.declared.gather.Wanted.TheVariants.{Every}
 use Rattle.recovery.specs.declared.recover.LogRead.{LogRead}
-
--- ---- calls that change nothing of a disk
-
--- the same on an honest disk, which stays honest
-pub same_on : (a b c : View) → Kept a b → (IsTrue a.is_honest → Same a b) → (IsTrue b.is_honest → Same b c) → IsTrue a.is_honest → Same a c
-same_on a b c kept first second honest = same_then a b c (first honest) (second (subst IsTrue (sym kept.honest) honest))
-
--- what was read later was read of the disk as it was before
-pub read_before : (a b : View) (file : Bytes) → Kept a b → (IsTrue a.is_honest → Same a b) → IsReadOf b file → IsReadOf a file
-read_before a b file kept same read = record {
-  whole = read.whole ∙ kept.size;
-  honest = λ honest. read.honest (subst IsTrue (sym kept.honest) honest) ∙ (same honest).seen;
-}
-
--- a late fault behind calls that did not fail
-pub late_behind : (old mid new : ℕ) (fault : Fault) → mid ≡ old → IsLate mid new fault → IsLate old new fault
-late_behind old mid new fault same late = subst (λ (n : ℕ). IsLate n new fault) same late
 
 -- ---- what the bytes of a disk stand for
 

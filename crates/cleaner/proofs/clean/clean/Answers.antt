@@ -5,9 +5,9 @@ use Rattle.flush_log.specs.Segments.{last_segment}
 use Rattle.flush_log.specs.declared.slot.LogEnds.{LogEnds}
 use Rattle.flush_log.proofs.SameLemmas.{settled_still, leaves_the_same}
 use Rattle.flush_log.proofs.ViewLemmas.{counted_failed}
-use Rattle.recovery.proofs.ReadBytes.{first_read, same_self, handed_on}
+use Rattle.recovery.proofs.ReadBytes.{first_read, same_self, handed_on, err_on}
 use Rattle.cleaner.specs.CleanText.{clean_text}
-use Rattle.cleaner.proofs.PlanLemmas.{err_on, nothing-refused, base_in, plan-of, more-of, failed_since, clean-planned, by_slot}
+use Rattle.cleaner.proofs.PlanLemmas.{nothing-refused, base_in, plan-of, more-of, failed_since, clean-planned, by_slot}
 use Rattle.cleaner.proofs.DoneLemmas.{plan-crashed, plan-would, plan-written}
 use Rattle.cleaner.proofs.clean.clean.Goals as goal
 

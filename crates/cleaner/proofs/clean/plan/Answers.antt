@@ -1,8 +1,8 @@
 use Rattle.std.proofs.Common.{◌≡◌, ◌≢◌, ◌∙◌, inr}
 use Rattle.keys.specs.declared.fault.Fault.TheVariants.{Device}
-use Rattle.recovery.proofs.ReadBytes.{first_read, kept_then, handed_on}
+use Rattle.recovery.proofs.ReadBytes.{first_read, kept_then, same_on, read_before, handed_on, err_on}
 use Rattle.cleaner.specs.CleanText.{clean_text}
-use Rattle.cleaner.proofs.PlanLemmas.{same_on, read_before, err_on, since, head-room, log-left, base_still, plan-told}
+use Rattle.cleaner.proofs.PlanLemmas.{since, head-room, log-left, base_still, as-clean}
 use Rattle.cleaner.proofs.clean.plan.Goals as goal
 
 pub returns-in_err-on_disk-clause-read : goal.returns-in_err-on_disk-clause-read
@@ -42,15 +42,15 @@ returns-in_err-images-clause-uncounted g c =
     err_on c.from_residual-in_err-images.result (λ fault. fault ≢ Device → failed c.read_text.new.disk ≡ failed c.args.disk.now) c.in_err-images.field-0.0 c.from_residual-in_err-images.ensures.1
     (λ other. c.in_err-images.ensures.uncounted other ∙ c.in_ok-on_disk.ensures.counted)
 
-pub cleaned_slot-behind-requires : goal.cleaned_slot-behind-requires
-cleaned_slot-behind-requires g c = head-room c.args.settings.now c.args.ends.now c.requires.checked c.requires.ends
+pub cleaned_slot-base-requires : goal.cleaned_slot-base-requires
+cleaned_slot-base-requires g c = head-room c.args.settings.now c.args.ends.now c.requires.checked c.requires.ends
 
 pub plan-requires-clause-numbers : goal.plan-requires-clause-numbers
 plan-requires-clause-numbers g c =
-    rw c.cleaned_slot-behind.ensures (c.requires.ends.number, c.requires.ends.tail)
+    rw c.cleaned_slot-base.ensures (c.requires.ends.number, c.requires.ends.tail)
 
 pub plan-requires-clause-log : goal.plan-requires-clause-log
-plan-requires-clause-log g c = rw c.cleaned_slot-behind.ensures (log-left c.args.settings.now c.args.ends.now c.requires.checked c.requires.ends c.requires.more)
+plan-requires-clause-log g c = rw c.cleaned_slot-base.ensures (log-left c.args.settings.now c.args.ends.now c.requires.checked c.requires.ends c.requires.more)
 
 pub plan-requires-clause-text : goal.plan-requires-clause-text
 plan-requires-clause-text g c =
@@ -76,8 +76,8 @@ returns-clause-read g c =
     let (file, is) = first_read old (g.met.D.Disk.lawful c.args.disk.now) in
     let (next, then, slot) = c.in_ok-on_disk.ensures.read file is in
     let (now, bytes, front, text) = c.in_ok-images.ensures.read next then in
-    let behind = base_still t _ _ next now slot front c.cleaned_slot-behind.ensures in (
+    let base = base_still t _ _ next now slot front c.cleaned_slot-base.ensures in (
       now,
       read_before old new now (kept_then old mid new c.in_ok-on_disk.ensures.kept c.in_ok-images.ensures.kept) (returns-clause-same g c) bytes,
-      plan-told s t _ now text.0 (failed c.args.disk.now) (failed c.read_text.new.disk) c.plan.result c.requires.more text.1 behind (c.plan.ensures (clean_text t.head text.0) text.2),
+      as-clean s t _ now text.0 (failed c.args.disk.now) (failed c.read_text.new.disk) c.plan.result c.requires.more text.1 base (c.plan.ensures (clean_text t.head text.0) text.2),
     )

@@ -3,9 +3,8 @@ use Rattle.flush_log.specs.Reading.{read_earlier, log_between}
 use Rattle.flush_log.specs.Segments.{last_segment}
 use Rattle.recovery.specs.Gathered.{IsSoFar}
 use Rattle.recovery.specs.Recovered.{IsLate}
-use Rattle.recovery.proofs.ReadBytes.{IsUncounted, kept_then, late_since, err_on, not_ok, counted_by, uncounted_by, late_by_memory}
+use Rattle.recovery.proofs.ReadBytes.{IsUncounted, kept_then, same_on, late_since, err_on, not_ok, counted_by, uncounted_by, late_by_memory}
 use Rattle.recovery.proofs.ReadLog.{Told, last-taken}
-use Rattle.recovery.proofs.RecoverLemmas.{same_on}
 use Rattle.recovery.proofs.read_log.read_segments.Goals as goal
 
 -- the segments in front of the last one were not read

@@ -4,8 +4,8 @@ use Rattle.flush_log.specs.Ends.{ends_in, AreEnds}
 use Rattle.flush_log.specs.Reading.{log}
 use Rattle.flush_log.specs.Slot.{Slot}
 use Rattle.flush_log.proofs.SlotLemmas.{ends-are}
-use Rattle.recovery.proofs.ReadBytes.{IsUncounted, kept_then, err_on}
-use Rattle.recovery.proofs.RecoverLemmas.{same_on, read_before, late_behind, in-front, no_slot, no_log}
+use Rattle.recovery.proofs.ReadBytes.{IsUncounted, kept_then, err_on, same_on, read_before, late_since}
+use Rattle.recovery.proofs.RecoverLemmas.{in-front, no_slot, no_log}
 use Rattle.recovery.proofs.recover.read_parts.Goals as goal
 
 pub read_log-requires-clause-ends : goal.read_log-requires-clause-ends
@@ -28,7 +28,7 @@ returns-in_err-slot-clause-read g c =
     rw (p.1, p.2) (
       now,
       read_before old new now (kept_then old mid new c.in_ok-settings.ensures.kept c.in_err-slot.ensures.kept) (returns-in_err-slot-clause-same g c) got,
-      ⊎_elim (λ wrong. inl (no_slot now _ settings _ wrong)) (λ late. inr (late_behind _ _ _ _ c.in_ok-settings.ensures.counted late)) told,
+      ⊎_elim (λ wrong. inl (no_slot now _ settings _ wrong)) (λ late. inr (late_since _ _ _ _ c.in_ok-settings.ensures.counted late)) told,
     )
 
 pub returns-in_err-gathering-clause-same : goal.returns-in_err-gathering-clause-same
@@ -57,7 +57,7 @@ returns-in_err-gathering-clause-read g c =
       read_before old new now (kept_then old later new (kept_then old mid later c.in_ok-settings.ensures.kept c.in_ok-slot.ensures.kept) c.in_err-gathering.ensures.kept)
           (returns-in_err-gathering-clause-same g c) got,
       ⊎_elim (λ wrong. inl (no_log now _ same _ stays _ (ap (λ (t : Slot). log c.in_ok-settings.settings now t) (sym c.slot.view_is) ∙ wrong)))
-          (λ late. inr (late_behind _ _ _ _ c.in_ok-settings.ensures.counted (late_behind _ _ _ _ c.in_ok-slot.ensures.counted late))) told,
+          (λ late. inr (late_since _ _ _ _ c.in_ok-settings.ensures.counted (late_since _ _ _ _ c.in_ok-slot.ensures.counted late))) told,
     )
 
 pub returns-clause-same : goal.returns-clause-same

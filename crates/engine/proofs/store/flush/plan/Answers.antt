@@ -4,7 +4,7 @@ use Rattle.flush_log.specs.FlushText.{flush_text}
 use Rattle.flush_log.proofs.SlotLemmas.{slot-is}
 use Rattle.engine.specs.State.{store_in}
 use Rattle.engine.proofs.CreateLemmas.{slot-in}
-use Rattle.engine.proofs.FlushDone.{text-spelled, flush-told}
+use Rattle.engine.proofs.FlushDone.{text-spelled, as-flush}
 use Rattle.engine.proofs.store.flush.plan.Goals as goal
 
 pub plan-requires-clause-numbers : goal.plan-requires-clause-numbers
@@ -29,12 +29,12 @@ pub returns-clause-plan : goal.returns-clause-plan
 returns-clause-plan g c =
     let s = c.args.settings.now in
     let st = store_in c.args.tree.now c.args.log in
-    (flush-told s st _ c.plan.result c.requires.some (slot-in c.args.tree.now c.args.log _ _ c.root.ensures c.height.ensures)
+    (as-flush s st _ c.plan.result c.requires.some (slot-in c.args.tree.now c.args.log _ _ c.root.ensures c.height.ensures)
     (c.plan.ensures (flush_text st.tree) (text-spelled s st _ c.requires.some c.in_ok-images.ensures.text (c.in_ok-images.ensures.frames s c.requires.store.proper)))).0
 
 pub returns-clause-err : goal.returns-clause-err
 returns-clause-err g c =
     let s = c.args.settings.now in
     let st = store_in c.args.tree.now c.args.log in
-    (flush-told s st _ c.plan.result c.requires.some (slot-in c.args.tree.now c.args.log _ _ c.root.ensures c.height.ensures)
+    (as-flush s st _ c.plan.result c.requires.some (slot-in c.args.tree.now c.args.log _ _ c.root.ensures c.height.ensures)
     (c.plan.ensures (flush_text st.tree) (text-spelled s st _ c.requires.some c.in_ok-images.ensures.text (c.in_ok-images.ensures.frames s c.requires.store.proper)))).1

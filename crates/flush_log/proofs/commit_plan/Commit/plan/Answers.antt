@@ -22,9 +22,9 @@ returns-in_err-tail c text are =
     let number = ap (λ (u : Slot). u.sequence) c.slot.view_is in
     let head = ap (λ (u : Slot). u.head) c.slot.view_is in
     let tail = ap (λ (u : Slot). u.tail) c.slot.view_is in
-    let told = c.tail_of_commit.ensures (next_slot s t text) text of (omega (arith, number)) (sym head) (ap (λ (n : ℕ). tail_after s n text) (sym tail)) in
+    let is = c.tail_of_commit.ensures (next_slot s t text) text of (omega (arith, number)) (sym head) (ap (λ (n : ℕ). tail_after s n text) (sym tail)) in
     let p = err_from_is_err_and c.from_residual-in_err-tail.result c.from_residual-in_err-tail.ensures.1 in
-    rw (p.1, p.2) (inr (sym told ∙ c.in_err-tail.was))
+    rw (p.1, p.2) (inr (sym is ∙ c.in_err-tail.was))
 
 pub returns : goal.returns
 returns c text are =
@@ -34,5 +34,5 @@ returns c text are =
     let number = ap (λ (u : Slot). u.sequence) c.slot.view_is in
     let head = ap (λ (u : Slot). u.head) c.slot.view_is in
     let tail = ap (λ (u : Slot). u.tail) c.slot.view_is in
-    let told = c.tail_of_commit.ensures (next_slot s t text) text of (omega (arith, number)) (sym head) (ap (λ (n : ℕ). tail_after s n text) (sym tail)) in
-    planned-by s t text c.requires.checked c.requires.log _ _ c.in_ok-tail.tail _ c.slot.view_is are (sym c.in_ok-tail.was ∙ told) (search rules)
+    let is = c.tail_of_commit.ensures (next_slot s t text) text of (omega (arith, number)) (sym head) (ap (λ (n : ℕ). tail_after s n text) (sym tail)) in
+    planned-by s t text c.requires.checked c.requires.log _ _ c.in_ok-tail.tail _ c.slot.view_is are (sym c.in_ok-tail.was ∙ is) (search rules)

@@ -21,13 +21,13 @@ returns-clause-written g c t text is honest =
     let view = g.D.Disk.view in
     let s = c.args.settings.now in
     let same = sym (c.deref.ensures.value ∙ ap (λ (m : CommitPlan). m.images) c.self.view_is) in
-    let behind = ap (λ (m : CommitPlan). m.tail) c.self.view_is ∙ is.behind in
+    let from = ap (λ (m : CommitPlan). m.tail) c.self.view_is ∙ is.from in
     let slot = ap (λ (m : CommitPlan). m.slot) c.self.view_is ∙ is.slot in
     let of = subst (λ (images : List (List (List ℕ))). AreOfText images text) same is.spelled.of in
     let some = subst (λ (images : List (List (List ℕ))). (images ≡ []) ⊎ (1 ≤ length text)) same is.spelled.some in
-    let inside = subst (λ (n : ℕ). AreWithin s (disk_size s) (spans s n text)) (sym behind) is.within in
+    let inside = subst (λ (n : ℕ). AreWithin s (disk_size s) (spans s n text)) (sym from) is.within in
     let still = subst IsTrue (sym c.is_gate_open.ensures.kept.honest) honest in
-    planned-written s t _ _ text slot behind (view c.args.disk.now) (view c.is_gate_open.new.disk) (view c.write_flush.new.disk) (c.is_gate_open.ensures.same honest) c.write_flush.result
+    planned-written s t _ _ text slot from (view c.args.disk.now) (view c.is_gate_open.new.disk) (view c.write_flush.new.disk) (c.is_gate_open.ensures.same honest) c.write_flush.result
     (c.write_flush.ensures.written text of some inside still)
 
 pub returns-clause-crash : goal.returns-clause-crash
@@ -37,13 +37,13 @@ returns-clause-crash g c t text is settled =
     let old = view c.args.disk.now in
     let mid = view c.is_gate_open.new.disk in
     let same = sym (c.deref.ensures.value ∙ ap (λ (m : CommitPlan). m.images) c.self.view_is) in
-    let behind = ap (λ (m : CommitPlan). m.tail) c.self.view_is ∙ is.behind in
+    let from = ap (λ (m : CommitPlan). m.tail) c.self.view_is ∙ is.from in
     let slot = ap (λ (m : CommitPlan). m.slot) c.self.view_is ∙ is.slot in
     let of = subst (λ (images : List (List (List ℕ))). AreOfText images text) same is.spelled.of in
     let some = subst (λ (images : List (List (List ℕ))). (images ≡ []) ⊎ (1 ≤ length text)) same is.spelled.some in
-    let inside = subst (λ (n : ℕ). AreWithin s (disk_size s) (spans s n text)) (sym behind) is.within in
+    let inside = subst (λ (n : ℕ). AreWithin s (disk_size s) (spans s n text)) (sym from) is.within in
     let read = c.is_gate_open.ensures.same settled.honest in
     let gate = gate-still c.in_ok-is_open.is_open _ old mid read (c.in_ok-is_open.ensures.gate settled.honest) in
     let number = ap (λ (u : Slot). u.sequence) c.slot.view_is in
-    planned-left s t _ _ text slot behind old mid (view c.write_flush.new.disk) read
+    planned-left s t _ _ text slot from old mid (view c.write_flush.new.disk) read
     (c.write_flush.ensures.crash text of some inside (settled_still old mid c.is_gate_open.ensures.kept read settled) (subst (λ (n : ℕ). c.in_ok-is_open.is_open ≡ is_open n mid.seen) number gate))
