@@ -35,7 +35,11 @@ use verify::verify;
 const PAGES_AT_ONCE: usize = 4096;
 
 // Puts a page behind those that are in the table, whose page ids are less.
-fn put_last(table: &mut Table<Page<Global>, Global>, pid: Pid, page: Page<Global>) -> Result<(), AllocError>
+fn put_last(
+    table: &mut Table<Page<Global>, Global>,
+    pid: Pid,
+    page: Page<Global>,
+) -> Result<(), AllocError>
     requires { AllByRecursion (λ n. n < pid) (keys_of table.old.places) }
     ensures { OnOk result (table.new ≡ record { places = table.old.places ++ (pid, Some page) ∷ []; logged = table.old.logged }) }
 {
