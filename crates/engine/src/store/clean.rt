@@ -75,7 +75,14 @@ impl<D: Disk> Store<D> {
             return Err(Fault::Failed);
         }
         admit_crew(crew)?;
-        match clean(rt, crew, self.alloc, &mut self.disk, &self.settings, &self.log) {
+        match clean(
+            rt,
+            crew,
+            self.alloc,
+            &mut self.disk,
+            &self.settings,
+            &self.log,
+        ) {
             Ok(committed) => {
                 self.log = committed.ends;
                 Ok(self.log.head)
