@@ -16,6 +16,8 @@ DEEP = 200_000  # runs of a page
 RUN = 80  # bytes that a run takes in its page
 ROOM = 262_144 * RUN  # what a page with so many runs takes by itself, since its room doubles from 16 on
 MANY = 100_000  # free frames
+LEAVES = 61_680  # empty leaves, a mebibyte of their frames
+SLOT, SLOTS = 256, 65_536  # bytes that a page takes in its table, and how many of them have room in that of so many leaves, which doubles
 TIMES = 10  # the most memory that a disk may take beyond what its pages take, by its own length
 DAMAGED, PARTS = 400, 8
 
@@ -71,6 +73,11 @@ def rising() -> bytes:
     return free_frames(list(range(1, MANY + 1)))
 
 
+def empty_leaves() -> bytes:
+    """Leaves without a pair that no tree reaches."""
+    return fitting_disk([ONE_PAIR, *[full_leaf(pid, b"", {}) for pid in range(1, LEAVES + 1)]])
+
+
 def colliding_runs() -> bytes:
     """Runs without a base, as a clean leaves them, of as many pages."""
     return fitting_disk([ONE_PAIR, *[delta_leaf(pid, {b"": None}) for pid in islice(colliding_ids(), MANY) if pid != 0]])
@@ -105,6 +112,8 @@ DISKS = [
     Disk(f"{MANY:,} free frames with colliding ids, four workers", colliding, ONE_ROW, ("--workers", "4"), is_cleaned=True),
     Disk(f"{MANY:,} free frames with rising ids", rising, ONE_ROW, is_cleaned=True),
     Disk(f"{MANY:,} runs without a base, with colliding ids", colliding_runs, ONE_ROW, is_cleaned=True),
+    Disk(f"{LEAVES:,} empty leaves that no tree reaches", empty_leaves, (4, b"", b"fault 16 BadStructure 10 1\n"), pages=SLOT * SLOTS),
+    Disk(f"{LEAVES:,} empty leaves, four workers", empty_leaves, (4, b"", b"fault 16 BadStructure 10 1\n"), ("--workers", "4"), pages=SLOT * SLOTS),
     Disk("a log of 65,534 segments", many_segments, ONE_ROW, is_cleaned=True),
     Disk("zeros", lambda: bytes(MEGABYTE), NO_STORE),
     Disk("bytes 0xff", lambda: b"\xff" * MEGABYTE, NO_STORE),

@@ -164,11 +164,12 @@ fn settle(disk: &mut CrashDisk<Global>) -> Result<(), Fault> {
 }
 
 // The store that comes back after a crash where a flush was stopped in its last sync, the store was opened without a crash, on a disk that
-// was settled first or was not, and its flush was stopped at the call of this number.
+// was settled first or was not, and these steps were stopped at the call of this number.
 fn store_after_two_stops(
     rt: &(impl Threads + Sync),
     alloc: Global,
     is_settled: bool,
+    steps: &[&str],
     call: u64,
     fill: Fill,
 ) -> Result<String, Fault> {
@@ -178,7 +179,7 @@ fn store_after_two_stops(
     if is_settled {
         settle(&mut disk)?;
     }
-    let disk = play_to_stop(rt, alloc, &mut text, disk, &["c=3", "flush"], call)?;
+    let disk = play_to_stop(rt, alloc, &mut text, disk, steps, call)?;
     store_back(rt, alloc, &disk, fill)
 }
 
@@ -190,9 +191,24 @@ fn look_after_two_stops(
     fill: Fill,
     is_lost: &mut bool,
 ) -> Result<bool, Fault> {
-    let settled = store_after_two_stops(rt, alloc, true, call, fill)?;
-    let unsettled = store_after_two_stops(rt, alloc, false, call, fill)?;
+    let steps = &["c=3", "flush"];
+    let settled = store_after_two_stops(rt, alloc, true, steps, call, fill)?;
+    let unsettled = store_after_two_stops(rt, alloc, false, steps, call, fill)?;
     *is_lost |= unsettled.as_str() == "13 NoSlot";
+    Ok(settled.as_str() == AB_STORE)
+}
+
+// Whether the store of the first flush is there on a settled disk once the second has nothing to write; and else whether it isn't, which is
+// noted.
+fn look_after_flush_of_nothing(
+    rt: &(impl Threads + Sync),
+    alloc: Global,
+    fill: Fill,
+    is_lost: &mut bool,
+) -> Result<bool, Fault> {
+    let settled = store_after_two_stops(rt, alloc, true, &["flush"], 1, fill)?;
+    let unsettled = store_after_two_stops(rt, alloc, false, &["flush"], 1, fill)?;
+    *is_lost |= unsettled.as_str() != AB_STORE;
     Ok(settled.as_str() == AB_STORE)
 }
 
@@ -205,6 +221,18 @@ fn a_store_on_a_settled_disk_outlives_two_stops(rt: HostRuntime) -> Result<(), F
             let is_there = look_after_two_stops(&rt, rt.alloc(), call, fill, &mut is_lost)?;
             assert!(rt; is_there, "{call}");
         }
+    }
+    assert!(rt; is_lost);
+    Ok(())
+}
+
+// A flush that has nothing to write makes no call, so it makes nothing last that an earlier process left.
+#[test]
+fn a_flush_of_nothing_keeps_what_was_settled_first(rt: HostRuntime) -> Result<(), Fail> {
+    let mut is_lost = false;
+    for fill in FILLS {
+        let is_there = look_after_flush_of_nothing(&rt, rt.alloc(), fill, &mut is_lost)?;
+        assert!(rt; is_there);
     }
     assert!(rt; is_lost);
     Ok(())

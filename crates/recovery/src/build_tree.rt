@@ -32,7 +32,7 @@ use verify::verify;
 
 // How many pages are built at once. Their frames stay until all of these are built, and are given back before the next are: so a
 // recovery takes little more than the pages and the frames that are left.
-const PAGES_AT_ONCE: usize = 4096;
+const PAGES_AT_ONCE: usize = 512;
 
 // Puts a page behind those that are in the table, whose page ids are less.
 fn put_last(
