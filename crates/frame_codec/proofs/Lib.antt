@@ -1,3 +1,4 @@
+pub mod BaseLemmas
 mod ByteRowEight
 mod ByteRowEleven
 mod ByteRowFive
@@ -14,6 +15,8 @@ pub mod LongerLemmas
 pub mod ReadLemmas
 mod RefusedRows
 pub mod RowForms
+pub mod ShareLemmas
+mod SharedRows
 pub mod SizeLemmas
 pub mod SizedLemmas
 pub mod SkimLemmas

@@ -10,7 +10,9 @@ pub loop-at-init : goal.loop-at-init
 loop-at-init g c = (upto-none (flagged g.V.Spelled.codec) c.args.run.now c.args.out.now, refl)
 
 pub append_counted-requires-clause-small : goal.append_counted-requires-clause-small
-append_counted-requires-clause-small g c = (spellable-at (flagged g.V.Spelled.codec) c.args.run.now c.loop-at.at c.key.result.now (option_copied c.change-change.result) c.requires.small c.key.ensures c.change-change.ensures).0
+append_counted-requires-clause-small g c =
+    let short = (spellable-at (flagged g.V.Spelled.codec) c.args.run.now c.loop-at.at c.key.result.now (option_copied c.change-change.result) c.requires.small c.key.ensures c.change-change.ensures).0 in
+    omega arith
 
 pub append_counted-requires-clause-room : goal.append_counted-requires-clause-room
 append_counted-requires-clause-room g c =

@@ -3,7 +3,7 @@ use Rattle.std.proofs.lemmas.List.{drop_all}
 use Rattle.keys.specs.Cells.{counted}
 use Rattle.frame_codec.specs.Codecs.{both}
 use Rattle.frame_codec.proofs.WriteLemmas.{spelled_from, spellable-at, length-behind}
-use Rattle.frame_codec.proofs.write.base_len.Goals as goal
+use Rattle.frame_codec.proofs.write.whole_len.Goals as goal
 
 pub spelled_len-requires : goal.spelled_len-requires
 spelled_len-requires g c = (spellable-at g.V.Spelled.codec c.args.base.now c.loop-at.at c.key.result.now c.cell.result.now c.requires.small c.key.ensures c.cell.ensures).1

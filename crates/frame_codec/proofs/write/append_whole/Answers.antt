@@ -1,13 +1,14 @@
 use Rattle.std.proofs.Common.{◌≤◌, length, refl, arith}
 use Rattle.keys.proofs.CellLemmas.{length-counted}
 use Rattle.frame_codec.proofs.WriteLemmas.{spellable-at, tested-next, tested-done, upto-none, upto-room, upto-next, upto-done}
-use Rattle.frame_codec.proofs.write.append_entries.Goals as goal
+use Rattle.frame_codec.proofs.write.append_whole.Goals as goal
 
 pub loop-at-init : goal.loop-at-init
 loop-at-init g c = (upto-none g.V.Spelled.codec c.args.base.now c.args.out.now, refl)
 
 pub append_counted-requires-clause-small : goal.append_counted-requires-clause-small
-append_counted-requires-clause-small g c = (spellable-at g.V.Spelled.codec c.args.base.now c.loop-at.at c.key.result.now c.cell-cell.result.now c.requires.small c.key.ensures c.cell-cell.ensures).0
+append_counted-requires-clause-small g c =
+    let short = (spellable-at g.V.Spelled.codec c.args.base.now c.loop-at.at c.key.result.now c.cell-cell.result.now c.requires.small c.key.ensures c.cell-cell.ensures).0 in omega arith
 
 pub append_counted-requires-clause-room : goal.append_counted-requires-clause-room
 append_counted-requires-clause-room g c =

@@ -1,6 +1,6 @@
 use Rattle.std.proofs.Common.{◌≡◌, ◌+◌, length}
 use Rattle.frame_codec.proofs.WriteLemmas.{spelled_from}
-use Rattle.frame_codec.proofs.write.base_len.Given as goal
+use Rattle.frame_codec.proofs.write.whole_len.Given as goal
 
 -- what the entries from this place on take comes on top
 abbrev pub invariant-loop-at : goal.invariant-loop-at
