@@ -1,7 +1,7 @@
 -- Keys that share beginnings: how far two go together, and what is spelled of a key by the one before it.
-use Rattle.std.proofs.Common.{◌≡◌, ℕ, zero, suc, ◌⊎◌, inl, inr, ◌+◌, ◌*◌, ◌^◌, ◌-◌, ◌<◌, ◌≤◌, Bool, true, false, cond, nat_eq, ◌==◌, if◌then◌else◌, List, [], ◌∷◌, ◌++◌, length, take, drop, Option, Some, None, refl, sym, ap, ◌∙◌, arith, append_assoc, length-append, eq-eqb}
+use Rattle.std.proofs.Common.{◌≡◌, ℕ, zero, suc, ◌⊎◌, inl, inr, ◌+◌, ◌*◌, ◌^◌, ◌-◌, ◌<◌, ◌≤◌, Bool, true, false, cond, nat_eq, ◌==◌, if◌then◌else◌, List, [], ◌∷◌, ◌++◌, length, take, drop, Option, Some, None, MatchOption, refl, sym, ap, ◌∙◌, arith, append_assoc, length-append, eq-eqb, leb-true}
 use Rattle.std.proofs.lemmas.Bool.{eqb-true}
-use Rattle.std.proofs.lemmas.List.{take-append-drop, length-take-le, length-drop, drop_at}
+use Rattle.std.proofs.lemmas.List.{take-append-drop, length-take-le, length-drop, drop_at, take_all}
 use Rattle.std.proofs.lemmas.List.Sums.{common_prefix_len-le}
 use Rattle.std.specs.declared.cmp.Ordering.{Ordering}
 use Rattle.std.specs.declared.cmp.Ordering.TheVariants.{Equal}
@@ -9,8 +9,11 @@ use Rattle.std.specs.Cmp.{nat_cmp_is}
 use Rattle.std.specs.Ordering.{ordering_then, nat_cmp}
 use Rattle.keys.specs.Cells.{Codec, AreBytes, IsReadBack, ReadsSpellings, read_on, read_as, read_where, number, read_bytes}
 use Rattle.keys.specs.Order.{order}
+use Rattle.keys.specs.declared.settings.Settings.{Settings}
 use Rattle.keys.proofs.CellLemmas.{gave, same_reading, nothing_read, read_as-gave, read_where-gave, goes_on, number-back, number-spelled, read_number-gave, read_bytes-of, read_bytes-gave}
 use Rattle.frame_codec.specs.Codecs.{both, short, common, rejoined, sharing}
+use Rattle.frame_codec.specs.Frame.{is_key}
+use Rattle.frame_codec.proofs.EachLemmas.{not_true}
 use Rattle.frame_codec.proofs.CodecLemmas.{both-back, both-spelled}
 
 one_more : (n : ℕ) → 1 + n ≡ suc n
@@ -54,6 +57,26 @@ order-cut (suc n) (a ∷ xs) rest h = same_byte a (order xs (take n xs ++ rest))
 -- no more is shared than there is
 pub common-beyond : (n : ℕ) (j k : List ℕ) → length j < n → common j k ≡ n → ⊥
 common-beyond n j k h e = let most = (common-le j k).0 in absurd (omega arith)
+
+-- two keys of which one begins with so many bytes of the other part there just where the rests have no first byte in common
+pub parts-there : (n : ℕ) (j rest : List ℕ) → n ≤ length j → common (drop n j) rest ≡ 0 → common j (rejoined j (n, rest)) ≡ n
+parts-there n j rest h e = let goes = common-cut n j rest h in omega arith
+
+pub parts-elsewhere : (n : ℕ) (j rest : List ℕ) → n ≤ length j → (common (drop n j) rest ≡ 0 → ⊥) → common j (rejoined j (n, rest)) ≡ n → ⊥
+parts-elsewhere n j rest h more e = let goes = common-cut n j rest h in more (omega arith)
+
+-- all that stands behind so many bytes
+pub all_behind : (n : ℕ) (j : List ℕ) → take (length j - n) (drop n j) ≡ drop n j
+all_behind n j = let left = length-drop n j in take_all (length j - n) (drop n j) (omega arith)
+
+-- how a key stands to one that begins with so many bytes of it, told by what is behind these
+pub parted-by : (o : Option Ordering) (n : ℕ) (j left rest : List ℕ) → n ≤ length j → left ≡ drop n j
+    → MatchOption o (common left rest ≡ 0 → ⊥) (λ r. (common left rest ≡ 0) × (r ≡ order left rest))
+    → MatchOption o (common j (rejoined j (n, rest)) ≡ n → ⊥) (λ r. (common j (rejoined j (n, rest)) ≡ n) × (r ≡ order j (rejoined j (n, rest))))
+parted-by None n j left rest h e told = parts-elsewhere n j rest h (rw e at told)
+parted-by (Some r) n j left rest h e told =
+    let (apart, is) = (rw e at told) in
+    (parts-there n j rest h apart, is ∙ sym (order-cut n j rest h))
 
 -- ---- what is spelled of a key
 
@@ -103,6 +126,35 @@ sharing-spelled before bs k rest bytes h =
     both-spelled (number 1) short (number-spelled 1) short-spelled bs p rest bytes first
     ∙ ap (λ (cs : List ℕ). pair.spell (p.0, cs) ++ rest) (sym ends)
     ∙ ap (λ (n : ℕ). pair.spell (n, drop n k) ++ rest) (sym shares)
+
+-- what is read of a key, once its parts are read
+pub sharing-read : (before bs : List ℕ) (n : ℕ) (behind rest end : List ℕ) → (number 1).read bs ≡ gave n behind → short.read behind ≡ gave rest end
+    → common before (rejoined before (n, rest)) ≡ n → (sharing before).read bs ≡ gave (rejoined before (n, rest)) end
+sharing-read before bs n behind rest end first second exact =
+    let pair : ℕ → List ℕ → ℕ × List ℕ = λ m cs. (m, cs) in
+    ap (λ (o : Option (ℕ × List ℕ)). read_as (rejoined before) (read_where (is_exact before) (read_on o (λ m more. read_as (pair m) (short.read more))))) first
+    ∙ ap (λ (o : Option (List ℕ × List ℕ)). read_as (rejoined before) (read_where (is_exact before) (read_as (pair n) o))) second
+    ∙ rw (eq-eqb (common before (rejoined before (n, rest))) n exact) refl
+
+-- how long the key is then
+pub rejoined-long : (before : List ℕ) (n : ℕ) (rest : List ℕ) → n ≤ length before → length (rejoined before (n, rest)) ≡ n + length rest
+rejoined-long before n rest h =
+    let joined = length-append (take n before) rest in
+    let first = length-take-le n before h in
+    omega arith
+
+-- and no more is taken of the key before than there is
+pub shared-within : (before : List ℕ) (n : ℕ) (rest : List ℕ) → common before (rejoined before (n, rest)) ≡ n → n ≤ length before
+shared-within before n rest e = let most = (common-le before (rejoined before (n, rest))).0 in omega arith
+
+-- a key that is too long is none
+pub sharing-refused : (s : Settings) (before bs : List ℕ) (n : ℕ) (behind rest end : List ℕ) → (number 1).read bs ≡ gave n behind → short.read behind ≡ gave rest end
+    → common before (rejoined before (n, rest)) ≡ n → s.max_key < n + length rest → read_where (is_key s) ((sharing before).read bs) ≡ None
+sharing-refused s before bs n behind rest end first second exact long =
+    let k : List ℕ = rejoined before (n, rest) in
+    let all = rejoined-long before n rest (shared-within before n rest exact) in
+    let over : is_key s k ≡ false = not_true (is_key s k) (λ h. let few = leb-true (length k) s.max_key h in absurd (omega arith)) in
+    ap (read_where (is_key s)) (sharing-read before bs n behind rest end first second exact) ∙ rw over refl
 
 -- in how many bytes
 pub sharing-size : (before k : List ℕ) → length ((sharing before).spell k) ≡ 2 + length (drop (common before k) k)

@@ -14,6 +14,7 @@ use Rattle.frame_codec.specs.declared.format.Spelling.TheVariants.{Shared}
 use Rattle.frame_codec.specs.Frame.{Content, Frame, read_base, full, header, bytes_of, is_pid, is_key, are_entries, is_full, is_allowed}
 use Rattle.frame_codec.specs.Reading.{read_content, read_frame}
 use Rattle.frame_codec.specs.Skimmed.{is_above}
+use Rattle.frame_codec.proofs.BaseLemmas.{base-taken}
 use Rattle.frame_codec.proofs.EachLemmas.{IsReadUpTo, next_entry, last_key, last_key-push, read_entries, read-none, read-next, read-ends, read-falls, read-done, read-many}
 use Rattle.frame_codec.proofs.FoundLemmas.{IsReadOf, IsContent, read_allowed, content-found, content-none, frame-answered}
 use Rattle.frame_codec.proofs.ReadLemmas.{header-spelled, frame-stands}
@@ -129,6 +130,11 @@ module _ {X : Type 0} (s : Settings) (short : X → Bool) (cell : Codec X) (low 
 
     pub shared-done : count ≤ at → count ≤ s.fan → (es : List (List ℕ × X)) × (read_entries s short Shared cell low count start ≡ Some (es, now))
     shared-done done few = (up.built, read-done s short Shared cell low count start at up.built now up.upto done few up.rising)
+
+-- of the low key only the first bytes matter
+pub shared-taken : {X : Type 0} (s : Settings) (short : X → Bool) (cell : Codec X) (low : List ℕ) (count : ℕ) (start : List ℕ) → AreBytes start
+    → read_entries s short Shared cell (take 510 low) count start ≡ read_entries s short Shared cell low count start
+shared-taken s short cell low count start bytes = ap (read_where (are_entries s short)) (base-taken cell 510 low count start (omega arith) bytes)
 
 -- ---- a base under its low key
 

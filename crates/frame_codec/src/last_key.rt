@@ -33,19 +33,14 @@ impl Model for LastKey {
     ghost invariant = { λ k. k.len ≤ 510 };
 }
 
-// How the key stands to the one that begins with so many bytes of it and goes on with the rest, if they part just there. No
-// other byte needs a look.
-fn parted(key: &[u8], shared: usize, rest: &[u8]) -> Option<Ordering>
-    ensures { let next = rejoined key.now (shared, rest.now) in
-        MatchOption result (common key.now next ≢ shared) (λ o. (common key.now next ≡ shared) × (o ≡ order key.now next)) }
+// How the one stands to the other, if they have no first byte in common.
+fn apart(one: &[u8], other: &[u8]) -> Option<Ordering>
+    ensures { MatchOption result (common one.now other.now ≢ 0) (λ o. (common one.now other.now ≡ 0) × (o ≡ order one.now other.now)) }
 {
-    if shared > key.len() {
-        return None;
-    }
-    match (key[shared..].first(), rest.first()) {
-        (Some(byte), Some(other)) => match byte.cmp(other) {
+    match (one.split_first(), other.split_first()) {
+        (Some((byte, _)), Some((other_byte, _))) => match byte.cmp(other_byte) {
             Ordering::Equal => None,
-            apart => Some(apart),
+            differs => Some(differs),
         },
         (Some(_), None) => Some(Ordering::Greater),
         (None, Some(_)) => Some(Ordering::Less),
@@ -53,15 +48,35 @@ fn parted(key: &[u8], shared: usize, rest: &[u8]) -> Option<Ordering>
     }
 }
 
+// How the key stands to the one that begins with so many bytes of it and goes on with the rest, if they part just there. Only
+// the bytes at that place need a look.
+fn parted(key: &[u8], shared: usize, rest: &[u8]) -> Option<Ordering>
+    ensures { let next = rejoined key.now (shared, rest.now) in
+        MatchOption result (common key.now next ≢ shared) (λ o. (common key.now next ≡ shared) × (o ≡ order key.now next)) }
+{
+    if shared > key.len() {
+        return None;
+    }
+    apart(&key[shared..], rest)
+}
+
 impl LastKey {
+    // The key of these bytes.
+    fn of_bytes(bytes: &[u8]) -> Self
+        requires { length bytes.now ≤ 510 }
+        ensures { result ≡ bytes.now }
+    {
+        let len = bytes.len();
+        let mut places = [0; ROOM];
+        places[..len].copy_from_slice(bytes);
+        LastKey { len, places }
+    }
+
     /// The first bytes of the low key, by which the first key is read as it is by all of it.
     pub(crate) fn of_low(low: &[u8]) -> Self
         ensures { result ≡ take 510 low.now }
     {
-        let len = low.len().min(ROOM);
-        let mut places = [0; ROOM];
-        places[..len].copy_from_slice(&low[..len]);
-        LastKey { len, places }
+        LastKey::of_bytes(&low[..ROOM.min(low.len())])
     }
 
     /// The bytes of the key.

@@ -174,7 +174,8 @@ pub(crate) fn append_counted(out: &mut Vec<u8>, bytes: &[u8])
 
 // How many bytes the two begin with in common.
 fn common_len(one: &[u8], other: &[u8]) -> usize
-    ensures { result ≡ common one.now other.now }
+    ensures same { result ≡ common one.now other.now }
+    ensures within { result ≤ length other.now }
 {
     let most = one.len().min(other.len());
     for at in 0..most {

@@ -87,7 +87,7 @@ fn read_whole<'a, V: FrameCell>(
 }
 
 // As `read_entry`, of an entry whose key is spelled by the last one and then is the last.
-fn read_next<'a, V: FrameCell>(
+fn read_next_entry<'a, V: FrameCell>(
     alloc: Global,
     last: &mut LastKey,
     bytes: &'a [u8],
@@ -123,7 +123,7 @@ fn read_shared<'a, V: FrameCell>(
     let mut last = LastKey::of_low(low);
     let mut rest = bytes;
     for _at in 0..count {
-        let Some((cell, behind)) = read_next(alloc, &mut last, rest, settings)? else {
+        let Some((cell, behind)) = read_next_entry(alloc, &mut last, rest, settings)? else {
             return Ok(None);
         };
         builder.push_next(last.as_bytes(), cell)?;

@@ -48,7 +48,8 @@ fn shared_len<V: FrameCell>(low: &[u8], base: &Base<V, Global>) -> usize
     let mut before = low;
     for at in 0..base.len() {
         let key = base.key(at);
-        len += sharing_len(before, key) + base.cell(at).spelled_len();
+        let cell = base.cell(at);
+        len += sharing_len(before, key) + cell.spelled_len();
         before = key;
     }
     len
