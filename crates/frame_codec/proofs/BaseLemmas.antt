@@ -107,5 +107,5 @@ module _ {V : Type 0} (cell : Codec V) where
   base-taken n low zero bs most bytes = refl
   base-taken n low (suc count) bs most bytes =
       ap (λ (o : Option (List ℕ × List ℕ)). read_on (read_on o (λ k rest. read_as (λ (v : V). (k, v)) (cell.read rest)))
-          (λ (e : List ℕ × V) rest. read_as (λ es. e ∷ es) (read_base Shared cell e.0 count rest)))
+      (λ (e : List ℕ × V) rest. read_as (λ es. e ∷ es) (read_base Shared cell e.0 count rest)))
       (sharing-taken n low bs most bytes)

@@ -119,8 +119,7 @@ pub leaf_within : (g : Format) (spelling : Spelling) (pid : ℕ) (p : Page (List
 leaf_within g spelling pid p known at low rising fits =
     let s = g.settings in
     let numbered = (decides-pid pid).1 at in
-    let (base, runs) = page_passes s (is_short_value s) (IsShortValue s) (decides-value s) p low rising fits in
-    (
+    let (base, runs) = page_passes s (is_short_value s) (IsShortValue s) (decides-value s) p low rising fits in (
       both_true numbered (both_true known base),
       all_weaker (λ run. is_run s (is_short_value s) run ≡ true) (λ run. is_frame g (record { pid = pid; content = DeltaLeaf run }) ≡ true) (λ run h. both_true numbered (both_true refl h)) p.layers.runs runs,
     )
@@ -132,8 +131,7 @@ pub index_within : (g : Format) (spelling : Spelling) (pid : ℕ) (p : Page ℕ)
 index_within g spelling pid p known at low rising fits =
     let s = g.settings in
     let numbered = (decides-pid pid).1 at in
-    let (base, runs) = page_passes s is_pid (λ q. q < 2 ^ 64) decides-pid p low rising fits in
-    (
+    let (base, runs) = page_passes s is_pid (λ q. q < 2 ^ 64) decides-pid p low rising fits in (
       both_true numbered (both_true known base),
       all_weaker (λ run. is_run s is_pid run ≡ true) (λ run. is_frame g (record { pid = pid; content = DeltaIndex run }) ≡ true) (λ run h. both_true numbered (both_true refl h)) p.layers.runs runs,
     )

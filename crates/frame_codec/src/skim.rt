@@ -105,7 +105,7 @@ fn skip_shared<'a, C: Spelled>(
 ) -> Option<(bool, &'a [u8])>
     ensures { let read = read_where (λ e. is_key settings.now e.0 && C.is_short settings.now e.1) ((both (sharing last.old) C.codec).read bytes.now) in
         MatchOption result (read ≡ None)
-            (λ p. (cell : C) × (read ≡ Some ((last.new, cell), p.1.now)) × (p.0 ≡ is_lt (order last.old last.new))) }
+        (λ p. (cell : C) × (read ≡ Some ((last.new, cell), p.1.now)) × (p.0 ≡ is_lt (order last.old last.new))) }
 {
     let (rises, rest) = last.read_next(bytes, settings)?;
     let rest = C::skip(rest, settings)?;
@@ -201,11 +201,7 @@ fn skim_run<'a, V: FrameCell>(bytes: &'a [u8], settings: &Settings) -> Option<&'
 }
 
 // The kind that this number names, with the bytes behind the content of that kind at the front, if a log may have it.
-fn skim_content<'a>(
-    number: u8,
-    bytes: &'a [u8],
-    format: &Format,
-) -> Option<(FrameKind, &'a [u8])>
+fn skim_content<'a>(number: u8, bytes: &'a [u8], format: &Format) -> Option<(FrameKind, &'a [u8])>
     ensures { let read = read_where (is_allowed format.now) (read_content number bytes.now) in
         MatchOption result (read ≡ None) (λ p. (content : said.Content) × (read ≡ Some (content, p.1.now)) × (kind_of content ≡ p.0)) }
 {

@@ -177,7 +177,12 @@ fn write_full<V: FrameCell>(
     ensures err { OnErr result (out.new.items ≡ out.old.items) }
     ensures words { OnOk result ((is_pid pid ≡ true) × (list_all (λ e. V.is_word e.1) base.now ≡ true)) }
 {
-    begin_frame(kind, pid, 4 + low.len() + base_len(spelling, low, base), out)?;
+    begin_frame(
+        kind,
+        pid,
+        4 + low.len() + base_len(spelling, low, base),
+        out,
+    )?;
     append_counted(out, low);
     append_length(out, base.len());
     append_entries(spelling, low, base, out);

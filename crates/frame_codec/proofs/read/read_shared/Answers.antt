@@ -13,7 +13,7 @@ returns-in_default-2 g c =
     let (upto, last) = c.loop-at.invariant in
     sym (shared-taken c.args.settings.now (g.V.Spelled.is_short c.args.settings.now) g.V.Spelled.codec c.args.low.now c.args.count c.args.bytes.now (bytes-fit c.args.bytes.now c.type_inv.bytes))
     ∙ read-ends c.args.settings.now (g.V.Spelled.is_short c.args.settings.now) Shared g.V.Spelled.codec (take 510 c.args.low.now) c.args.count c.args.bytes.now
-        c.loop-at._at c.loop-at.builder c.loop-at.rest.now upto c.loop-at-test.true (rw last (rw c.in_default-2.is at c.in_ok-cell.ensures))
+    c.loop-at._at c.loop-at.builder c.loop-at.rest.now upto c.loop-at-test.true (rw last (rw c.in_default-2.is at c.in_ok-cell.ensures))
 
 pub push_next-requires : goal.push_next-requires
 push_next-requires g c =
@@ -40,4 +40,4 @@ returns g c =
     let few = whole-few c.args.settings.now (g.V.Spelled.is_short c.args.settings.now) Shared g.V.Spelled.codec (take 510 c.args.low.now) c.args.count c.args.bytes.now es c.in-Some._end.now ((shared-taken c.args.settings.now (g.V.Spelled.is_short c.args.settings.now) g.V.Spelled.codec c.args.low.now c.args.count c.args.bytes.now (bytes-fit c.args.bytes.now c.type_inv.bytes)) ∙ whole) in
     rw c.finish-base.ensures (sym (shared-taken c.args.settings.now (g.V.Spelled.is_short c.args.settings.now) g.V.Spelled.codec c.args.low.now c.args.count c.args.bytes.now (bytes-fit c.args.bytes.now c.type_inv.bytes))
     ∙ read-done c.args.settings.now (g.V.Spelled.is_short c.args.settings.now) Shared g.V.Spelled.codec (take 510 c.args.low.now) c.args.count c.args.bytes.now
-        c.loop-at._at c.loop-at.builder c.loop-at.rest.now upto c.loop-at-test.false few (rw c.finish-base.ensures at c.len-in_order.ensures.rising))
+    c.loop-at._at c.loop-at.builder c.loop-at.rest.now upto c.loop-at-test.false few (rw c.finish-base.ensures at c.len-in_order.ensures.rising))

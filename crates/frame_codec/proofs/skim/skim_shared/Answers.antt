@@ -16,9 +16,9 @@ loop-at-init g c = rw c.of_low-last.ensures (shared-none c.args.settings.now (g.
 pub returns-in_err-rises : goal.returns-in_err-rises
 returns-in_err-rises g c =
     rw c.from_residual.ensures (
-      sym (shared-taken c.args.settings.now (g.C.Spelled.is_short c.args.settings.now) g.C.Spelled.codec c.args.low.now c.args.count c.args.bytes.now (bytes-fit c.args.bytes.now c.type_inv.bytes))
-      ∙ shared-ends c.args.settings.now (g.C.Spelled.is_short c.args.settings.now) g.C.Spelled.codec (take 510 c.args.low.now) c.args.count c.args.bytes.now
-          c.loop-at.at c.loop-at.last c.loop-at.rest.now c.loop-at.invariant c.loop-at-test.true c.in_err-rises.ensures
+    sym (shared-taken c.args.settings.now (g.C.Spelled.is_short c.args.settings.now) g.C.Spelled.codec c.args.low.now c.args.count c.args.bytes.now (bytes-fit c.args.bytes.now c.type_inv.bytes))
+    ∙ shared-ends c.args.settings.now (g.C.Spelled.is_short c.args.settings.now) g.C.Spelled.codec (take 510 c.args.low.now) c.args.count c.args.bytes.now
+    c.loop-at.at c.loop-at.last c.loop-at.rest.now c.loop-at.invariant c.loop-at-test.true c.in_err-rises.ensures
     )
 
 pub returns-then-not-rises : goal.returns-then-not-rises
@@ -26,8 +26,8 @@ returns-then-not-rises g c =
     let (cell, read, rises) = c.in_ok-rises.ensures in
     sym (shared-taken c.args.settings.now (g.C.Spelled.is_short c.args.settings.now) g.C.Spelled.codec c.args.low.now c.args.count c.args.bytes.now (bytes-fit c.args.bytes.now c.type_inv.bytes))
     ∙ shared-falls c.args.settings.now (g.C.Spelled.is_short c.args.settings.now) g.C.Spelled.codec (take 510 c.args.low.now) c.args.count c.args.bytes.now
-        c.loop-at.at c.loop-at.last c.loop-at.rest.now c.loop-at.invariant c.skip_shared.new.last cell c.in_ok-rises.behind.now c.loop-at-test.true read
-        c.in_ok-rises.rises rises c.if-at-gt0.true c.if-not-rises.true
+    c.loop-at.at c.loop-at.last c.loop-at.rest.now c.loop-at.invariant c.skip_shared.new.last cell c.in_ok-rises.behind.now c.loop-at-test.true read
+    c.in_ok-rises.rises rises c.if-at-gt0.true c.if-not-rises.true
 
 pub loop-at-preserved : goal.loop-at-preserved
 loop-at-preserved g c =
