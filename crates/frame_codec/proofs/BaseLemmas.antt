@@ -1,12 +1,12 @@
 -- A base is read back from its spelling, and what is read as a base stands there, whichever way its keys are spelled.
-use Rattle.std.proofs.Common.{◌≡◌, ℕ, zero, suc, ◌+◌, ◌<◌, ◌≤◌, List, [], ◌∷◌, ◌++◌, length, take, drop, flat_map, Option, Some, None, refl, sym, ap, ◌∙◌, arith, append_assoc, length-append}
+use Rattle.std.proofs.Common.{◌≡◌, ℕ, zero, suc, ◌<◌, ◌≤◌, List, [], ◌∷◌, ◌++◌, length, take, Option, Some, refl, sym, ap, ◌∙◌, arith, append_assoc, length-append}
 use Rattle.std.specs.List.{AllByRecursion}
 use Rattle.std.proofs.lemmas.List.{length-drop}
 use Rattle.keys.specs.Cells.{Codec, AreBytes, IsReadBack, ReadsSpellings, read_on, read_as, number, counted}
 use Rattle.keys.proofs.CellLemmas.{gave, same_reading, read_as-gave, goes_on, number-back, number-spelled, counted-back, counted-spelled, length-counted}
 use Rattle.frame_codec.specs.declared.format.Spelling.{Spelling}
 use Rattle.frame_codec.specs.declared.format.Spelling.TheVariants.{Whole, Shared}
-use Rattle.frame_codec.specs.Codecs.{both, read_each, common, sharing, spell_in_turn, read_in_turn}
+use Rattle.frame_codec.specs.Codecs.{both, common, sharing, spell_in_turn, read_in_turn}
 use Rattle.frame_codec.specs.Frame.{spell_base, read_base, based, full}
 use Rattle.frame_codec.proofs.CodecLemmas.{both-back, both-spelled, both_by-spelled, each-back, each-spelled}
 use Rattle.frame_codec.proofs.ShareLemmas.{sharing-back, sharing-spelled, sharing-size, sharing-taken}

@@ -64,10 +64,14 @@ module _ {X : Type 0} (ok : List X → Bool) where
 
 -- ---- the entries of a base, or of a run
 
+-- a key, by the one before it
+abbrev pub keyed : Spelling → List ℕ → Codec (List ℕ)
+keyed Whole before = counted
+keyed Shared before = sharing before
+
 -- an entry, by the key before it
 abbrev pub next_entry : {X : Type 0} → Spelling → Codec X → List ℕ → Codec (List ℕ × X)
-next_entry Whole cell before = both counted cell
-next_entry Shared cell before = both (sharing before) cell
+next_entry spelling cell before = both (keyed spelling before) cell
 
 module _ {X : Type 0} (spelling : Spelling) (cell : Codec X) where
   base-none : (before : List ℕ) (bs : List ℕ) → read_base spelling cell before 0 bs ≡ gave [] bs

@@ -7,7 +7,7 @@ use Rattle.frame_codec.specs.declared.format.Format.{Format}
 use Rattle.frame_codec.specs.declared.format.Spelling.{Spelling}
 use Rattle.frame_codec.specs.declared.format.Spelling.TheVariants.{Whole, Shared}
 use Rattle.keys.proofs.CellLemmas.{gave, same_reading, nothing_read}
-use Rattle.frame_codec.specs.Codecs.{both, both_by, read_each, listed, flagged, short, common, rejoined, sharing, read_in_turn}
+use Rattle.frame_codec.specs.Codecs.{both, both_by, read_each, listed, flagged, counted_short, shared_and_rest, common, rejoined, sharing, read_in_turn}
 use Rattle.frame_codec.specs.Frame.{read_base, based, full, delta, content_bytes, header, is_frame}
 use Rattle.frame_codec.specs.Frame.Content.{FullLeaf, DeltaLeaf, FullIndex, DeltaIndex, Free}
 use Rattle.frame_codec.specs.Reading.{read_content, read_behind, read_any, read_frame}
@@ -85,13 +85,13 @@ flagged-local c lc (suc (suc n) ∷ bs) v rest more h = absurd (nothing_read _ h
 
 -- ---- keys that share beginnings
 
-short-local : IsLocal short.read
-short-local = on-local (number 1).read read_bytes (number-local 1) bytes-local
+counted_short-local : IsLocal counted_short.read
+counted_short-local = on-local (number 1).read read_bytes (number-local 1) bytes-local
 
 sharing-local : (before : List ℕ) → IsLocal (sharing before).read
 sharing-local before =
-    as-local (rejoined before) (λ bs. read_where (λ p. common before (rejoined before p) == p.0) ((both (number 1) short).read bs))
-    (where-local (λ p. common before (rejoined before p) == p.0) (both (number 1) short).read (both-local (number 1) short (number-local 1) short-local))
+    as-local (rejoined before) (λ bs. read_where (λ p. common before (rejoined before p) == p.0) (shared_and_rest.read bs))
+    (where-local (λ p. common before (rejoined before p) == p.0) shared_and_rest.read (both-local (number 1) counted_short (number-local 1) counted_short-local))
 
 turn-local : {V : Type 0} (entry : List ℕ → Codec (List ℕ × V)) → ((before : List ℕ) → IsLocal (entry before).read) → (n : ℕ) (before : List ℕ) → IsLocal (read_in_turn entry before n)
 turn-local entry le zero before = done-local []

@@ -5,7 +5,7 @@ use Rattle.keys.specs.Cells.{Codec, AreBytes, ReadsSpellings, read_as, read_wher
 use Rattle.frame_codec.specs.declared.format.Format.{Format}
 use Rattle.frame_codec.specs.declared.format.Spelling.TheVariants.{Whole, Shared}
 use Rattle.keys.proofs.CellLemmas.{gave, same_reading, nothing_read, read_as-gave, read_where-gave, goes_on, number-spelled, counted-spelled, pid-spelled}
-use Rattle.frame_codec.specs.Codecs.{both, listed, flagged}
+use Rattle.frame_codec.specs.Codecs.{both, flagged}
 use Rattle.frame_codec.specs.Frame.{Content, Frame, full, delta, kind_of, content_bytes, header, bytes_of, is_frame}
 use Rattle.frame_codec.specs.Frame.Content.{FullLeaf, DeltaLeaf, FullIndex, DeltaIndex, Free}
 use Rattle.frame_codec.specs.Reading.{BeginsWithFrame, read_content, read_behind, read_any, read_frame}

@@ -10,8 +10,8 @@ use Rattle.std.specs.Ordering.{ordering_then, nat_cmp}
 use Rattle.keys.specs.Cells.{Codec, AreBytes, IsReadBack, ReadsSpellings, read_on, read_as, read_where, number, read_bytes}
 use Rattle.keys.specs.Order.{order}
 use Rattle.keys.specs.declared.settings.Settings.{Settings}
-use Rattle.keys.proofs.CellLemmas.{gave, same_reading, nothing_read, read_as-gave, read_where-gave, goes_on, number-back, number-spelled, read_number-gave, read_bytes-of, read_bytes-gave}
-use Rattle.frame_codec.specs.Codecs.{both, short, common, rejoined, sharing}
+use Rattle.keys.proofs.CellLemmas.{gave, nothing_read, read_as-gave, read_where-gave, goes_on, number-back, number-spelled, read_bytes-of, read_bytes-gave}
+use Rattle.frame_codec.specs.Codecs.{counted_short, shared_and_rest, common, rejoined, sharing}
 use Rattle.frame_codec.specs.Frame.{is_key}
 use Rattle.frame_codec.proofs.EachLemmas.{not_true}
 use Rattle.frame_codec.proofs.CodecLemmas.{both-back, both-spelled}
@@ -80,13 +80,13 @@ parted-by (Some r) n j left rest h e told =
 
 -- ---- what is spelled of a key
 
-short-back : (bs : List ℕ) → length bs < 256 → IsReadBack short bs
+short-back : (bs : List ℕ) → length bs < 256 → IsReadBack counted_short bs
 short-back bs few rest =
-    ap short.read (append_assoc ((number 1).spell (length bs)) bs rest)
+    ap counted_short.read (append_assoc ((number 1).spell (length bs)) bs rest)
     ∙ ap (λ o. read_on o read_bytes) (number-back 1 (length bs) few (bs ++ rest))
     ∙ read_bytes-of bs rest
 
-short-spelled : ReadsSpellings short
+short-spelled : ReadsSpellings counted_short
 short-spelled bs xs rest bytes h =
     let on = goes_on (number 1) (number-spelled 1) bs read_bytes xs rest bytes h in
     let (long, is) = read_bytes-gave on.first on.behind xs rest on.went in
@@ -105,7 +105,7 @@ sharing-back before k few rest =
     let p : ℕ × List ℕ = (n, drop n k) in
     let within = (common-le before k).1 in
     let left = length-drop n k in
-    let back = both-back (number 1) short p (number-back 1 n (omega arith)) (short-back (drop n k) (omega arith)) rest in
+    let back = both-back (number 1) counted_short p (number-back 1 n (omega arith)) (short-back (drop n k) (omega arith)) rest in
     let same = rejoined-same before k in
     let exact : is_exact before p ≡ true = eq-eqb (common before (rejoined before p)) n (ap (common before) same) in
     ap (λ (o : Option ((ℕ × List ℕ) × List ℕ)). read_as (rejoined before) (read_where (is_exact before) o)) back
@@ -117,22 +117,22 @@ rest_of n j rest h = drop_at (take n j) rest n (length-take-le n j h)
 
 pub sharing-spelled : (before : List ℕ) → ReadsSpellings (sharing before)
 sharing-spelled before bs k rest bytes h =
-    let pair : Codec (ℕ × List ℕ) = both (number 1) short in
+    let pair : Codec (ℕ × List ℕ) = shared_and_rest in
     let (p, read, is) = read_as-gave (rejoined before) (read_where (is_exact before) (pair.read bs)) k rest h in
     let (first, exact) = read_where-gave (is_exact before) (pair.read bs) p rest read in
     let shares : common before k ≡ p.0 = ap (common before) (sym is) ∙ eqb-true (common before (rejoined before p)) p.0 exact in
     let within = (common-le before k).0 in
     let ends : drop p.0 k ≡ p.1 = ap (drop p.0) (sym is) ∙ rest_of p.0 before p.1 (omega arith) in
-    both-spelled (number 1) short (number-spelled 1) short-spelled bs p rest bytes first
+    both-spelled (number 1) counted_short (number-spelled 1) short-spelled bs p rest bytes first
     ∙ ap (λ (cs : List ℕ). pair.spell (p.0, cs) ++ rest) (sym ends)
     ∙ ap (λ (n : ℕ). pair.spell (n, drop n k) ++ rest) (sym shares)
 
 -- what is read of a key, once its parts are read
-pub sharing-read : (before bs : List ℕ) (n : ℕ) (behind rest end : List ℕ) → (number 1).read bs ≡ gave n behind → short.read behind ≡ gave rest end
+pub sharing-read : (before bs : List ℕ) (n : ℕ) (behind rest end : List ℕ) → (number 1).read bs ≡ gave n behind → counted_short.read behind ≡ gave rest end
     → common before (rejoined before (n, rest)) ≡ n → (sharing before).read bs ≡ gave (rejoined before (n, rest)) end
 sharing-read before bs n behind rest end first second exact =
     let pair : ℕ → List ℕ → ℕ × List ℕ = λ m cs. (m, cs) in
-    ap (λ (o : Option (ℕ × List ℕ)). read_as (rejoined before) (read_where (is_exact before) (read_on o (λ m more. read_as (pair m) (short.read more))))) first
+    ap (λ (o : Option (ℕ × List ℕ)). read_as (rejoined before) (read_where (is_exact before) (read_on o (λ m more. read_as (pair m) (counted_short.read more))))) first
     ∙ ap (λ (o : Option (List ℕ × List ℕ)). read_as (rejoined before) (read_where (is_exact before) (read_as (pair n) o))) second
     ∙ rw (eq-eqb (common before (rejoined before (n, rest))) n exact) refl
 
@@ -148,7 +148,7 @@ pub shared-within : (before : List ℕ) (n : ℕ) (rest : List ℕ) → common b
 shared-within before n rest e = let most = (common-le before (rejoined before (n, rest))).0 in omega arith
 
 -- a key that is too long is none
-pub sharing-refused : (s : Settings) (before bs : List ℕ) (n : ℕ) (behind rest end : List ℕ) → (number 1).read bs ≡ gave n behind → short.read behind ≡ gave rest end
+pub sharing-refused : (s : Settings) (before bs : List ℕ) (n : ℕ) (behind rest end : List ℕ) → (number 1).read bs ≡ gave n behind → counted_short.read behind ≡ gave rest end
     → common before (rejoined before (n, rest)) ≡ n → s.max_key < n + length rest → read_where (is_key s) ((sharing before).read bs) ≡ None
 sharing-refused s before bs n behind rest end first second exact long =
     let k : List ℕ = rejoined before (n, rest) in
@@ -205,20 +205,20 @@ exact-taken n j p h =
         same_test (common (take n j) (rejoined j p)) (common j (rejoined j p)) p.0 (λ k. absurd (omega arith)) (λ k. absurd (omega arith))
 
 -- the first byte is a byte
-first_byte : (bs : List ℕ) (p : ℕ × List ℕ) (rest : List ℕ) → AreBytes bs → (both (number 1) short).read bs ≡ gave p rest → p.0 < 256
+first_byte : (bs : List ℕ) (p : ℕ × List ℕ) (rest : List ℕ) → AreBytes bs → shared_and_rest.read bs ≡ gave p rest → p.0 < 256
 first_byte [] p rest bytes h = absurd (nothing_read _ h)
 first_byte (b ∷ bs) p rest bytes h =
     let n : ℕ = b * 256 ^ 0 + 0 in
     let pair : List ℕ → ℕ × List ℕ = λ cs. (n, cs) in
-    let (cs, read, is) = read_as-gave pair (short.read bs) p rest h in
+    let (cs, read, is) = read_as-gave pair (counted_short.read bs) p rest h in
     let small = bytes.0 in
     let same : n ≡ p.0 = ap (λ (q : ℕ × List ℕ). q.0) is in
     omega arith
 
 pub sharing-taken : (n : ℕ) (j : List ℕ) (bs : List ℕ) → 256 ≤ n → AreBytes bs → (sharing (take n j)).read bs ≡ (sharing j).read bs
-sharing-taken n j bs most bytes = of ((both (number 1) short).read bs) refl
+sharing-taken n j bs most bytes = of (shared_and_rest.read bs) refl
   where
-    of : (o : Option ((ℕ × List ℕ) × List ℕ)) → (both (number 1) short).read bs ≡ o
+    of : (o : Option ((ℕ × List ℕ) × List ℕ)) → shared_and_rest.read bs ≡ o
         → read_as (rejoined (take n j)) (read_where (is_exact (take n j)) o) ≡ read_as (rejoined j) (read_where (is_exact j) o)
     of None is = refl
     of (Some p) is =

@@ -9,7 +9,7 @@ use Rattle.keys.specs.declared.settings.Settings.{Settings}
 use Rattle.keys.proofs.CellLemmas.{length-counted}
 use Rattle.index_page.specs.Rules.{is_short_value, is_any_pid, of_cell}
 use Rattle.frame_codec.specs.Appended.{AreSpellable}
-use Rattle.frame_codec.specs.Codecs.{both, listed, spell_flag, flagged}
+use Rattle.frame_codec.specs.Codecs.{both, spell_flag, flagged}
 use Rattle.frame_codec.specs.declared.format.Format.{Format}
 use Rattle.frame_codec.specs.declared.format.Spelling.{Spelling}
 use Rattle.frame_codec.specs.Frame.{Content, Frame, based, full, delta, is_pid, is_key, are_entries, is_full, is_run, is_content, is_readable, is_allowed, is_frame}

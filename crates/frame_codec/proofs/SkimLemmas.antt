@@ -37,30 +37,43 @@ module _ {X : Type 0} (s : Settings) (short : X → Bool) (spelling : Spelling) 
   abbrev pub next_within : List ℕ → List ℕ → Option ((List ℕ × X) × List ℕ)
   next_within before now = read_where (λ (e : List ℕ × X). is_key s e.0 && short e.1) ((next_entry spelling cell before).read now)
 
-  -- so many were passed over, up to this key; they are within the settings, and their keys rise
-  pub record IsPassedUpTo (at : ℕ) (last : Option (List ℕ)) (now : List ℕ) : Type 0 where
+  -- so many were passed over, up to this key; they are within the settings, their keys rise, and the next is spelled by that key
+  pub record IsPassedUpTo (at : ℕ) (last : Option (List ℕ)) (key : List ℕ) (now : List ℕ) : Type 0 where
     pub built : List (List ℕ × X)
     pub upto : IsReadUpTo s short spelling cell low count start at built now
     pub rising : IsRising built
     pub above : (k : List ℕ) → goes_last k built ≡ is_above last k
+    pub before : last_key low built ≡ key
 
-  pub passed-none : IsPassedUpTo 0 None start
-  passed-none = record { built = []; upto = read-none s short spelling cell low count start; rising = (decides-rising {X = X} []).0 refl; above = λ k. refl }
+  pub passed-none : IsPassedUpTo 0 None low start
+  passed-none = record {
+    built = [];
+    upto = read-none s short spelling cell low count start;
+    rising = (decides-rising {X = X} []).0 refl;
+    above = λ k. refl;
+    before = refl;
+  }
 
-  module _ (at : ℕ) (last : Option (List ℕ)) (now : List ℕ) (up : IsPassedUpTo at last now) where
-    pub passed-next : (k : List ℕ) (v : X) (behind : List ℕ) → at < count → next_within (last_key low up.built) now ≡ Some ((k, v), behind)
-        → is_above last k ≡ true → IsPassedUpTo (at + 1) (Some k) behind
-    passed-next k v behind more h above = record {
-      built = up.built ++ (k, v) ∷ [];
-      upto = read-next s short spelling cell low count start at up.built now up.upto k v behind more h;
-      rising = rising-push up.built k v up.rising (up.above k ∙ above);
-      above = λ j. last-pushed up.built k v j;
-    }
+  module _ (at : ℕ) (last : Option (List ℕ)) (key : List ℕ) (now : List ℕ) (up : IsPassedUpTo at last key now) where
+    here : (o : Option ((List ℕ × X) × List ℕ)) → next_within key now ≡ o → next_within (last_key low up.built) now ≡ o
+    here o h = rw up.before h
 
-    pub passed-falls : (k : List ℕ) (v : X) (behind : List ℕ) → at < count → next_within (last_key low up.built) now ≡ Some ((k, v), behind)
-        → is_above last k ≡ false → read_entries s short spelling cell low count start ≡ None
-    passed-falls k v behind more h falls =
-        read-falls s short spelling cell low count start at up.built now up.upto k v behind more h (up.above k ∙ falls)
+    pub passed-ends : at < count → next_within key now ≡ None → read_entries s short spelling cell low count start ≡ None
+    passed-ends more h = read-ends s short spelling cell low count start at up.built now up.upto more (here None h)
+
+    module _ (k : List ℕ) (v : X) (behind : List ℕ) (more : at < count) (read : next_within key now ≡ Some ((k, v), behind)) where
+      pub passed-next : (next : Option (List ℕ)) → next ≡ Some k → is_above last k ≡ true → IsPassedUpTo (at + 1) next k behind
+      passed-next next same above = record {
+        built = up.built ++ (k, v) ∷ [];
+        upto = read-next s short spelling cell low count start at up.built now up.upto k v behind more (here (Some ((k, v), behind)) read);
+        rising = rising-push up.built k v up.rising (up.above k ∙ above);
+        above = λ j. last-pushed up.built k v j ∙ ap (λ (l : Option (List ℕ)). is_above l j) (sym same);
+        before = last_key-push low up.built k v;
+      }
+
+      pub passed-falls : is_above last k ≡ false → read_entries s short spelling cell low count start ≡ None
+      passed-falls falls =
+          read-falls s short spelling cell low count start at up.built now up.upto k v behind more (here (Some ((k, v), behind)) read) (up.above k ∙ falls)
 
     pub passed-done : count ≤ at → count ≤ s.fan → (es : List (List ℕ × X)) × (read_entries s short spelling cell low count start ≡ Some (es, now))
     passed-done done few = (up.built, read-done s short spelling cell low count start at up.built now up.upto done few up.rising)
@@ -85,51 +98,24 @@ abbrev pub last_of : ℕ → List ℕ → Option (List ℕ)
 last_of zero key = None
 last_of (suc at) key = Some key
 
-module _ {X : Type 0} (s : Settings) (short : X → Bool) (cell : Codec X) (low : List ℕ) (count : ℕ) (start : List ℕ) where
-  -- so many were passed over, and the next is spelled by this key
-  pub record IsSharedUpTo (at : ℕ) (key : List ℕ) (now : List ℕ) : Type 0 where
-    pub built : List (List ℕ × X)
-    pub upto : IsReadUpTo s short Shared cell low count start at built now
-    pub rising : IsRising built
-    pub above : (k : List ℕ) → goes_last k built ≡ is_above (last_of at key) k
-    pub last : last_key low built ≡ key
+pub last_of-next : (at : ℕ) (key : List ℕ) → last_of (at + 1) key ≡ Some key
+last_of-next at key = rw add-one refl
 
-  pub shared-none : IsSharedUpTo 0 low start
-  shared-none = record { built = []; upto = read-none s short Shared cell low count start; rising = (decides-rising {X = X} []).0 refl; above = λ k. refl; last = refl }
+-- a key is above the one before it, where there is one, if it stands so to the key by which it is spelled
+module _ (at : ℕ) (key k : List ℕ) (rises : Bool) (is : rises ≡ is_lt (order key k)) where
+  pub last_of-above : (0 < at → rises ≡ true) → is_above (last_of at key) k ≡ true
+  last_of-above = of at
+    where
+      of : (at : ℕ) → (0 < at → rises ≡ true) → is_above (last_of at key) k ≡ true
+      of zero h = refl
+      of (suc n) h = sym is ∙ h (omega arith)
 
-  module _ (at : ℕ) (key : List ℕ) (now : List ℕ) (up : IsSharedUpTo at key now) where
-    here : (o : Option ((List ℕ × X) × List ℕ)) → next_within s short Shared cell low count start key now ≡ o
-        → next_within s short Shared cell low count start (last_key low up.built) now ≡ o
-    here o h = rw up.last h
-
-    pub shared-ends : at < count → next_within s short Shared cell low count start key now ≡ None → read_entries s short Shared cell low count start ≡ None
-    shared-ends more h = read-ends s short Shared cell low count start at up.built now up.upto more (here None h)
-
-    module _ (k : List ℕ) (v : X) (behind : List ℕ) (more : at < count) (read : next_within s short Shared cell low count start key now ≡ Some ((k, v), behind))
-        (rises : Bool) (is : rises ≡ is_lt (order key k)) where
-      pub shared-falls : 0 < at → rises ≡ false → read_entries s short Shared cell low count start ≡ None
-      shared-falls some falls =
-          read-falls s short Shared cell low count start at up.built now up.upto k v behind more (here (Some ((k, v), behind)) read) (up.above k ∙ below at some)
-        where
-          below : (at : ℕ) → 0 < at → is_above (last_of at key) k ≡ false
-          below zero h = absurd (omega arith)
-          below (suc n) h = sym is ∙ falls
-
-      goes : (at : ℕ) → (0 < at → rises ≡ true) → is_above (last_of at key) k ≡ true
-      goes zero h = refl
-      goes (suc n) h = sym is ∙ h (omega arith)
-
-      pub shared-next : (0 < at → rises ≡ true) → IsSharedUpTo (at + 1) k behind
-      shared-next h = record {
-        built = up.built ++ (k, v) ∷ [];
-        upto = read-next s short Shared cell low count start at up.built now up.upto k v behind more (here (Some ((k, v), behind)) read);
-        rising = rising-push up.built k v up.rising (up.above k ∙ goes at h);
-        above = λ j. rw add-one (last-pushed up.built k v j);
-        last = last_key-push low up.built k v;
-      }
-
-    pub shared-done : count ≤ at → count ≤ s.fan → (es : List (List ℕ × X)) × (read_entries s short Shared cell low count start ≡ Some (es, now))
-    shared-done done few = (up.built, read-done s short Shared cell low count start at up.built now up.upto done few up.rising)
+  pub last_of-falls : 0 < at → rises ≡ false → is_above (last_of at key) k ≡ false
+  last_of-falls = of at
+    where
+      of : (at : ℕ) → 0 < at → rises ≡ false → is_above (last_of at key) k ≡ false
+      of zero some falls = absurd (omega arith)
+      of (suc n) some falls = sym is ∙ falls
 
 -- of the low key only the first bytes matter
 pub shared-taken : {X : Type 0} (s : Settings) (short : X → Bool) (cell : Codec X) (low : List ℕ) (count : ℕ) (start : List ℕ) → AreBytes start

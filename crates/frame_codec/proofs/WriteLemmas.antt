@@ -10,10 +10,11 @@ use Rattle.keys.proofs.CellLemmas.{length-counted}
 use Rattle.delta_chain.proofs.Places.{drop_pair}
 use Rattle.frame_codec.specs.Appended.{HasRoomFor, IsAppended, IsCount, IsShortCount, AreSpellable}
 use Rattle.frame_codec.specs.declared.format.Spelling.{Spelling}
-use Rattle.frame_codec.specs.declared.format.Spelling.TheVariants.{Shared}
+use Rattle.frame_codec.specs.declared.format.Spelling.TheVariants.{Whole, Shared}
 use Rattle.frame_codec.specs.Codecs.{both, flagged, common, sharing}
 use Rattle.frame_codec.specs.Frame.{spell_base, based, full, delta, header}
 use Rattle.frame_codec.specs.Sized.{framed}
+use Rattle.frame_codec.proofs.EachLemmas.{keyed}
 use Rattle.frame_codec.proofs.ShareLemmas.{common-le}
 
 -- ---- bytes behind bytes
@@ -88,92 +89,59 @@ module _ {X : Type 0} where
       → list_all test (drop at es) ≡ list_all test es → list_all test es ≡ true
   tested-done test es at l h = sym h ∙ ap (list_all test) (drop_all at es l)
 
-module _ {X : Type 0} (cell : Codec X) (es : List (List ℕ × X)) where
-  -- the spellings of the entries from a place on
-  abbrev pub spelled_from : ℕ → List ℕ
-  spelled_from at = flat_map (both counted cell).spell (drop at es)
+base-behind : {X : Type 0} (spelling : Spelling) (cell : Codec X) (before k : List ℕ) (v : X) (es : List (List ℕ × X))
+    → spell_base spelling cell before ((k, v) ∷ es) ≡ ((keyed spelling before).spell k ++ cell.spell v) ++ spell_base spelling cell k es
+base-behind Whole cell before k v es = refl
+base-behind Shared cell before k v es = refl
 
-  spelled-behind : (at : ℕ) (k : List ℕ) (v : X) → slice_get (keys_of es) at ≡ Some k → slice_get (values_of es) at ≡ Some v
-      → spelled_from at ≡ (counted.spell k ++ cell.spell v) ++ spelled_from (at + 1)
-  spelled-behind at k v i j = rw add-one (ap (flat_map (both counted cell).spell) (drop_pair es at k v i j))
+base-at_end : {X : Type 0} (spelling : Spelling) (cell : Codec X) (before : List ℕ) → spell_base spelling cell before [] ≡ []
+base-at_end Whole cell before = refl
+base-at_end Shared cell before = refl
 
-  pub length-behind : (at : ℕ) (k : List ℕ) (v : X) → slice_get (keys_of es) at ≡ Some k → slice_get (values_of es) at ≡ Some v
-      → length (spelled_from at) ≡ 2 + length k + length (cell.spell v) + length (spelled_from (at + 1))
-  length-behind at k v i j =
-      let all : length (spelled_from at) ≡ length ((counted.spell k ++ cell.spell v) ++ spelled_from (at + 1)) = ap length (spelled-behind at k v i j) in
-      let outer = length-append (counted.spell k ++ cell.spell v) (spelled_from (at + 1)) in
-      let inner = length-append (counted.spell k) (cell.spell v) in
-      let key = length-counted k in
+module _ {X : Type 0} (spelling : Spelling) (cell : Codec X) (low : List ℕ) (es : List (List ℕ × X)) where
+  -- the spellings of the entries from a place on, the first by the key before it
+  abbrev pub spelled_from : List ℕ → ℕ → List ℕ
+  spelled_from before at = spell_base spelling cell before (drop at es)
+
+  spelled-behind : (before : List ℕ) (at : ℕ) (k : List ℕ) (v : X) → slice_get (keys_of es) at ≡ Some k → slice_get (values_of es) at ≡ Some v
+      → spelled_from before at ≡ ((keyed spelling before).spell k ++ cell.spell v) ++ spelled_from k (at + 1)
+  spelled-behind before at k v i j = rw add-one (ap (spell_base spelling cell before) (drop_pair es at k v i j) ∙ base-behind spelling cell before k v (drop (suc at) es))
+
+  pub length-behind : (before : List ℕ) (at : ℕ) (k : List ℕ) (v : X) → slice_get (keys_of es) at ≡ Some k → slice_get (values_of es) at ≡ Some v
+      → length (spelled_from before at) ≡ length ((keyed spelling before).spell k) + length (cell.spell v) + length (spelled_from k (at + 1))
+  length-behind before at k v i j =
+      let all : length (spelled_from before at) ≡ length (((keyed spelling before).spell k ++ cell.spell v) ++ spelled_from k (at + 1)) = ap length (spelled-behind before at k v i j) in
+      let outer = length-append ((keyed spelling before).spell k ++ cell.spell v) (spelled_from k (at + 1)) in
+      let inner = length-append ((keyed spelling before).spell k) (cell.spell v) in
       omega arith
 
-  -- the entries before this place were appended to what stood there before the first of them
-  abbrev pub IsUpTo : {Z : Type 0} → ℕ → Vec ℕ Z → Vec ℕ Z → Type 0
-  IsUpTo at old now = IsPartOf (spelled_from 0) (spelled_from at) old now
+  pub spelled-at_end : (before : List ℕ) (at : ℕ) → length es ≤ at → spelled_from before at ≡ []
+  spelled-at_end before at l = ap (spell_base spelling cell before) (drop_all at es l) ∙ base-at_end spelling cell before
+
+  -- the entries before this place were appended to what stood there before the first of them, and the next is spelled by this key
+  abbrev pub IsUpTo : {Z : Type 0} → List ℕ → ℕ → Vec ℕ Z → Vec ℕ Z → Type 0
+  IsUpTo before at old now = IsPartOf (spelled_from low 0) (spelled_from before at) old now
 
   module _ {Z : Type 0} where
-    pub upto-none : (out : Vec ℕ Z) → IsUpTo 0 out out
-    upto-none out = part-none (spelled_from 0) out
+    pub upto-none : (out : Vec ℕ Z) → IsUpTo low 0 out out
+    upto-none out = part-none (spelled_from low 0) out
 
-    pub upto-room : (at : ℕ) (old now : Vec ℕ Z) (k : List ℕ) (v : X) → HasRoomFor old (length (spelled_from 0)) → IsUpTo at old now
-        → slice_get (keys_of es) at ≡ Some k → slice_get (values_of es) at ≡ Some v → HasRoomFor now (2 + length k + length (cell.spell v))
-    upto-room at old now k v room up i j =
-        let left = part-room (spelled_from 0) (spelled_from at) old now room up in
-        let behind = length-behind at k v i j in
-        omega arith
+    module _ (before : List ℕ) (at : ℕ) (old now : Vec ℕ Z) (up : IsUpTo before at old now) where
+      pub upto-room : (k : List ℕ) (v : X) → HasRoomFor old (length (spelled_from low 0))
+          → slice_get (keys_of es) at ≡ Some k → slice_get (values_of es) at ≡ Some v → HasRoomFor now (length ((keyed spelling before).spell k) + length (cell.spell v))
+      upto-room k v room i j =
+          let left = part-room (spelled_from low 0) (spelled_from before at) old now room up in
+          let behind = length-behind before at k v i j in
+          omega arith
 
-    pub upto-next : (at : ℕ) (old now mid new : Vec ℕ Z) (k : List ℕ) (v : X) → IsUpTo at old now
-        → slice_get (keys_of es) at ≡ Some k → slice_get (values_of es) at ≡ Some v
-        → IsAppended now mid (counted.spell k) → IsAppended mid new (cell.spell v) → IsUpTo (at + 1) old new
-    upto-next at old now mid new k v up i j key value =
-        part-next (spelled_from 0) (spelled_from at) (counted.spell k ++ cell.spell v) (spelled_from (at + 1)) old now new (spelled-behind at k v i j) up
-        (appended-on now mid new (counted.spell k) (cell.spell v) key value)
+      pub upto-next : (mid new : Vec ℕ Z) (k : List ℕ) (v : X) → slice_get (keys_of es) at ≡ Some k → slice_get (values_of es) at ≡ Some v
+          → IsAppended now mid ((keyed spelling before).spell k) → IsAppended mid new (cell.spell v) → IsUpTo k (at + 1) old new
+      upto-next mid new k v i j key value =
+          part-next (spelled_from low 0) (spelled_from before at) ((keyed spelling before).spell k ++ cell.spell v) (spelled_from k (at + 1)) old now new (spelled-behind before at k v i j) up
+          (appended-on now mid new ((keyed spelling before).spell k) (cell.spell v) key value)
 
-    pub upto-done : (at : ℕ) (old now : Vec ℕ Z) → length es ≤ at → IsUpTo at old now → IsAppended old now (flat_map (both counted cell).spell es)
-    upto-done at old now l up = part-done (spelled_from 0) (spelled_from at) old now (ap (flat_map (both counted cell).spell) (drop_all at es l)) up
-
--- ---- the same, where keys share beginnings
-
-module _ {X : Type 0} (cell : Codec X) (low : List ℕ) (es : List (List ℕ × X)) where
-  -- the spellings of the entries from a place on, the first by this key
-  abbrev pub shared_from : List ℕ → ℕ → List ℕ
-  shared_from before at = spell_base Shared cell before (drop at es)
-
-  shared-behind : (before : List ℕ) (at : ℕ) (k : List ℕ) (v : X) → slice_get (keys_of es) at ≡ Some k → slice_get (values_of es) at ≡ Some v
-      → shared_from before at ≡ ((sharing before).spell k ++ cell.spell v) ++ shared_from k (at + 1)
-  shared-behind before at k v i j = rw add-one (ap (spell_base Shared cell before) (drop_pair es at k v i j))
-
-  pub shared-length : (before : List ℕ) (at : ℕ) (k : List ℕ) (v : X) → slice_get (keys_of es) at ≡ Some k → slice_get (values_of es) at ≡ Some v
-      → length (shared_from before at) ≡ length ((sharing before).spell k) + length (cell.spell v) + length (shared_from k (at + 1))
-  shared-length before at k v i j =
-      let all : length (shared_from before at) ≡ length (((sharing before).spell k ++ cell.spell v) ++ shared_from k (at + 1)) = ap length (shared-behind before at k v i j) in
-      let outer = length-append ((sharing before).spell k ++ cell.spell v) (shared_from k (at + 1)) in
-      let inner = length-append ((sharing before).spell k) (cell.spell v) in
-      omega arith
-
-  pub shared-at_end : (before : List ℕ) (at : ℕ) → length es ≤ at → shared_from before at ≡ []
-  shared-at_end before at l = ap (spell_base Shared cell before) (drop_all at es l)
-
-  -- the entries before this place were appended to what stood there before the first of them, and this is the last one's key
-  abbrev pub IsSharedTo : {Z : Type 0} → List ℕ → ℕ → Vec ℕ Z → Vec ℕ Z → Type 0
-  IsSharedTo before at old now = IsPartOf (shared_from low 0) (shared_from before at) old now
-
-  module _ {Z : Type 0} where
-    pub shared-room : (before : List ℕ) (at : ℕ) (old now : Vec ℕ Z) (k : List ℕ) (v : X) → HasRoomFor old (length (shared_from low 0)) → IsSharedTo before at old now
-        → slice_get (keys_of es) at ≡ Some k → slice_get (values_of es) at ≡ Some v → HasRoomFor now (length ((sharing before).spell k) + length (cell.spell v))
-    shared-room before at old now k v room up i j =
-        let left = part-room (shared_from low 0) (shared_from before at) old now room up in
-        let behind = shared-length before at k v i j in
-        omega arith
-
-    pub shared-next : (before : List ℕ) (at : ℕ) (old now mid new : Vec ℕ Z) (k : List ℕ) (v : X) → IsSharedTo before at old now
-        → slice_get (keys_of es) at ≡ Some k → slice_get (values_of es) at ≡ Some v
-        → IsAppended now mid ((sharing before).spell k) → IsAppended mid new (cell.spell v) → IsSharedTo k (at + 1) old new
-    shared-next before at old now mid new k v up i j key value =
-        part-next (shared_from low 0) (shared_from before at) ((sharing before).spell k ++ cell.spell v) (shared_from k (at + 1)) old now new (shared-behind before at k v i j) up
-        (appended-on now mid new ((sharing before).spell k) (cell.spell v) key value)
-
-    pub shared-done : (before : List ℕ) (at : ℕ) (old now : Vec ℕ Z) → length es ≤ at → IsSharedTo before at old now → IsAppended old now (spell_base Shared cell low es)
-    shared-done before at old now l up = part-done (shared_from low 0) (shared_from before at) old now (shared-at_end before at l) up
+      pub upto-done : length es ≤ at → IsAppended old now (spell_base spelling cell low es)
+      upto-done l = part-done (spelled_from low 0) (spelled_from before at) old now (spelled-at_end before at l) up
 
 -- one byte is its own spelling
 byte_spelled : (n : ℕ) → n < 256 → (number 1).spell n ≡ n ∷ []

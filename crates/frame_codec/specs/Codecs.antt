@@ -49,22 +49,26 @@ flagged c = record { spell = spell_flag c; read = read_flag c }
 -- ---- keys that share beginnings
 
 -- bytes: how many there are, in one byte, and then they themselves
-abbrev pub short : Codec Bytes
-short = record { spell = λ bs. (number 1).spell (length bs) ++ bs; read = λ bs. read_on ((number 1).read bs) read_bytes }
+abbrev pub counted_short : Codec Bytes
+counted_short = record { spell = λ bs. (number 1).spell (length bs) ++ bs; read = λ bs. read_on ((number 1).read bs) read_bytes }
 
 -- how long the longest common beginning of two keys is
 abbrev pub common : Bytes → Bytes → ℕ
 common = common_prefix_len nat_eq
 
--- the key that begins with so many bytes of the one before, and goes on with these
+-- how many bytes a key shares with the one before, in one byte, and the rest of it
+abbrev pub shared_and_rest : Codec (ℕ × Bytes)
+shared_and_rest = both (number 1) counted_short
+
+-- the key that begins with so many bytes of the one before, and goes on with the rest
 abbrev pub rejoined : Bytes → ℕ × Bytes → Bytes
 rejoined before p = take p.0 before ++ p.1
 
--- a key by the one before: how many bytes the two begin with in common, in one byte, and the rest of the key. There is no other number
+-- a key by the one before: it shares all that the two have in common at their beginnings, and no other number is read
 abbrev pub sharing : Bytes → Codec Bytes
 sharing before = record {
-  spell = λ k. (both (number 1) short).spell (common before k, drop (common before k) k);
-  read = λ bs. read_as (rejoined before) (read_where (λ p. common before (rejoined before p) == p.0) ((both (number 1) short).read bs));
+  spell = λ k. shared_and_rest.spell (common before k, drop (common before k) k);
+  read = λ bs. read_as (rejoined before) (read_where (λ p. common before (rejoined before p) == p.0) (shared_and_rest.read bs));
 }
 
 -- entries, each spelled by the key before it, and the first by the one given

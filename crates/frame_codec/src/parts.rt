@@ -4,7 +4,7 @@ ghost use Rattle.std.specs.Prelude.{◌≡◌, ◌≢◌, ◌+◌, ◌-◌, ◌�
 ghost use Rattle.keys.specs.Cells.{read_number, read_where, number, counted, pid_cell};
 ghost use Rattle.keys.specs.Sizes.{pid_size};
 ghost use Rattle.frame_codec.specs.Appended.{HasRoomFor, IsAppended, IsCount, IsShortCount};
-ghost use Rattle.frame_codec.specs.Codecs.{short, common, sharing};
+ghost use Rattle.frame_codec.specs.Codecs.{counted_short, common, sharing};
 ghost use Rattle.frame_codec.specs.Frame.{header, is_pid, is_key};
 
 use byteorder::{BigEndian, ByteOrder};
@@ -63,7 +63,7 @@ pub(crate) fn read_counted(bytes: &[u8]) -> Option<(&[u8], &[u8])>
 
 /// The bytes at the front whose number stands before them in one byte, with the bytes behind them.
 pub(crate) fn read_short(bytes: &[u8]) -> Option<(&[u8], &[u8])>
-    ensures bytes { MatchOption result (short.read bytes.now ≡ None) (λ p. short.read bytes.now ≡ Some (p.0.now, p.1.now)) }
+    ensures bytes { MatchOption result (counted_short.read bytes.now ≡ None) (λ p. counted_short.read bytes.now ≡ Some (p.0.now, p.1.now)) }
     ensures small { IfSome result (λ p. IsShortCount (length p.0.now)) }
 {
     let (len, rest) = read_byte(bytes)?;

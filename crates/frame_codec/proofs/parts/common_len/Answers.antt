@@ -1,4 +1,4 @@
-use Rattle.std.proofs.Common.{◌≡◌, drop, length, arith}
+use Rattle.std.proofs.Common.{drop, arith}
 use Rattle.std.proofs.lemmas.List.{length-drop}
 use Rattle.frame_codec.proofs.ShareLemmas.{common-le}
 use Rattle.frame_codec.proofs.parts.common_len.Goals as goal
