@@ -28,6 +28,7 @@ abbrev pub size_of : Content → ℕ
 size_of (FullLeaf spelling low base) =
     full_header_size + length low + sum_by (λ e. pair_header_size + length e.0 + length e.1) (spelled spelling low base)
 size_of (DeltaLeaf run) = delta_header_size + sum_by (λ e. change_header_size + length e.0 + where_present (λ v. length_size + length v) e.1) run
-size_of (FullIndex spelling low base) = full_header_size + length low + sum_by (λ e. child_header_size + length e.0) (spelled spelling low base)
+size_of (FullIndex spelling low base) =
+    full_header_size + length low + sum_by (λ e. child_header_size + length e.0) (spelled spelling low base)
 size_of (DeltaIndex run) = delta_header_size + sum_by (λ e. change_header_size + length e.0 + where_present (λ p. pid_size) e.1) run
 size_of Free = frame_header_size

@@ -61,8 +61,10 @@ pub fn a_frame_has_its_size()
 
 /// A base takes no more bytes where its keys share beginnings than where they are whole.
 pub fn shared_keys_take_no_more()
-    ensures leaf { (spelling : Spelling) (low : Bytes) (base : Pairs Bytes) → size_of (FullLeaf spelling low base) ≤ size_of (FullLeaf Whole low base) }
-    ensures index_page { (spelling : Spelling) (low : Bytes) (base : Names) → size_of (FullIndex spelling low base) ≤ size_of (FullIndex Whole low base) }
+    ensures leaf { (spelling : Spelling) (low : Bytes) (base : Pairs Bytes) →
+        size_of (FullLeaf spelling low base) ≤ size_of (FullLeaf Whole low base) }
+    ensures index_page { (spelling : Spelling) (low : Bytes) (base : Names) →
+        size_of (FullIndex spelling low base) ≤ size_of (FullIndex Whole low base) }
 {}
 
 /// The base of a page that is in order and within the settings is so as a frame, with its keys spelled in each way that the

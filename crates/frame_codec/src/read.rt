@@ -93,7 +93,8 @@ fn read_next_entry<'a, V: FrameCell>(
     bytes: &'a [u8],
     settings: &Settings,
 ) -> Result<Option<(V, &'a [u8])>, AllocError>
-    ensures { let read = read_where (λ e. is_key settings.now e.0 && V.is_short settings.now e.1) ((both (sharing last.old) V.codec).read bytes.now) in
+    ensures { let test = λ (e : Bytes × V). is_key settings.now e.0 && V.is_short settings.now e.1 in
+        let read = read_where test ((both (sharing last.old) V.codec).read bytes.now) in
         IfOk result (λ found. MatchOption found (read ≡ None) (λ p. read ≡ Some ((last.new, p.0), p.1.now))) }
 {
     let Some((_rises, rest)) = last.read_next(bytes, settings) else {
@@ -113,7 +114,8 @@ fn read_shared<'a, V: FrameCell>(
     bytes: &'a [u8],
     settings: &Settings,
 ) -> Result<Option<(Base<V, Global>, &'a [u8])>, AllocError>
-    ensures { let read = read_where (are_entries settings.now (V.is_short settings.now)) (read_base Shared V.codec low.now count bytes.now) in
+    ensures { let all = read_base Shared V.codec low.now count bytes.now in
+        let read = read_where (are_entries settings.now (V.is_short settings.now)) all in
         IfOk result (λ found. MatchOption found (read ≡ None) (λ p. read ≡ Some (p.0, p.1.now))) }
 {
     let Some((key_bytes, _end)) = skim_shared::<V>(low, count, bytes, settings) else {
@@ -143,7 +145,8 @@ fn read_base<'a, V: FrameCell>(
     bytes: &'a [u8],
     settings: &Settings,
 ) -> Result<Option<(Base<V, Global>, &'a [u8])>, AllocError>
-    ensures { let read = read_where (are_entries settings.now (V.is_short settings.now)) (read_base spelling V.codec low.now count bytes.now) in
+    ensures { let all = read_base spelling V.codec low.now count bytes.now in
+        let read = read_where (are_entries settings.now (V.is_short settings.now)) all in
         IfOk result (λ found. MatchOption found (read ≡ None) (λ p. read ≡ Some (p.0, p.1.now))) }
 {
     match spelling {
@@ -188,7 +191,8 @@ fn read_full<'a, V: FrameCell>(
     bytes: &'a [u8],
     settings: &Settings,
 ) -> Result<Option<(Key<Global>, Base<V, Global>, &'a [u8])>, AllocError>
-    ensures { let read = read_where (λ p. is_full settings.now (V.is_short settings.now) p.0 p.1) ((full spelling V.codec).read bytes.now) in
+    ensures { let all = (full spelling V.codec).read bytes.now in
+        let read = read_where (λ p. is_full settings.now (V.is_short settings.now) p.0 p.1) all in
         IfOk result (λ found. MatchOption found (read ≡ None) (λ p. read ≡ Some ((p.0, p.1), p.2.now))) }
 {
     let Some((low, rest)) = read_key(bytes, settings) else {
@@ -210,7 +214,8 @@ fn read_known<'a, V: FrameCell>(
     bytes: &'a [u8],
     format: &Format,
 ) -> Result<Option<(Key<Global>, Base<V, Global>, &'a [u8])>, AllocError>
-    ensures { let test = λ (p : Bytes × Pairs V). is_known format.now.version spelling && is_full format.now.settings (V.is_short format.now.settings) p.0 p.1 in
+    ensures { let s = format.now.settings in
+        let test = λ (p : Bytes × Pairs V). is_known format.now.version spelling && is_full s (V.is_short s) p.0 p.1 in
         let read = read_where test ((full spelling V.codec).read bytes.now) in
         IfOk result (λ found. MatchOption found (read ≡ None) (λ p. read ≡ Some ((p.0, p.1), p.2.now))) }
 {
@@ -294,7 +299,8 @@ fn read_content<'a>(
     bytes: &'a [u8],
     format: &Format,
 ) -> Result<Option<(Frame, &'a [u8])>, AllocError>
-    ensures { let read = read_as (λ content. record { pid = pid; content = content }) (read_where (is_allowed format.now) (read_content kind bytes.now)) in
+    ensures { let content = read_where (is_allowed format.now) (read_content kind bytes.now) in
+        let read = read_as (λ content. record { pid = pid; content = content }) content in
         IfOk result (λ found. MatchOption found (read ≡ None) (λ p. read ≡ Some (frame_of p.0, p.1.now))) }
 {
     match kind {

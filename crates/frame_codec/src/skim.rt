@@ -103,7 +103,8 @@ fn skip_shared<'a, C: Spelled>(
     bytes: &'a [u8],
     settings: &Settings,
 ) -> Option<(bool, &'a [u8])>
-    ensures { let read = read_where (λ e. is_key settings.now e.0 && C.is_short settings.now e.1) ((both (sharing last.old) C.codec).read bytes.now) in
+    ensures { let test = λ (e : Bytes × C). is_key settings.now e.0 && C.is_short settings.now e.1 in
+        let read = read_where test ((both (sharing last.old) C.codec).read bytes.now) in
         MatchOption result (read ≡ None)
         (λ p. (cell : C) × (read ≡ Some ((last.new, cell), p.1.now)) × (p.0 ≡ is_lt (order last.old last.new))) }
 {
@@ -119,7 +120,8 @@ pub(crate) fn skim_shared<'a, C: Spelled>(
     bytes: &'a [u8],
     settings: &Settings,
 ) -> Option<(usize, &'a [u8])>
-    ensures { let read = read_where (are_entries settings.now (C.is_short settings.now)) (read_base Shared C.codec low.now count bytes.now) in
+    ensures { let all = read_base Shared C.codec low.now count bytes.now in
+        let read = read_where (are_entries settings.now (C.is_short settings.now)) all in
         MatchOption result (read ≡ None) (λ p. (es : Pairs C) × (read ≡ Some (es, p.1.now))) }
 {
     if count > settings.fan as usize {
@@ -147,7 +149,8 @@ fn skim_base<'a, V: FrameCell>(
     bytes: &'a [u8],
     settings: &Settings,
 ) -> Option<(usize, &'a [u8])>
-    ensures { let read = read_where (are_entries settings.now (V.is_short settings.now)) (read_base spelling V.codec low.now count bytes.now) in
+    ensures { let all = read_base spelling V.codec low.now count bytes.now in
+        let read = read_where (are_entries settings.now (V.is_short settings.now)) all in
         MatchOption result (read ≡ None) (λ p. (es : Pairs V) × (read ≡ Some (es, p.1.now))) }
 {
     match spelling {
@@ -162,7 +165,8 @@ fn skim_full<'a, V: FrameCell>(
     bytes: &'a [u8],
     settings: &Settings,
 ) -> Option<&'a [u8]>
-    ensures { let read = read_where (λ p. is_full settings.now (V.is_short settings.now) p.0 p.1) ((full spelling V.codec).read bytes.now) in
+    ensures { let all = (full spelling V.codec).read bytes.now in
+        let read = read_where (λ p. is_full settings.now (V.is_short settings.now) p.0 p.1) all in
         MatchOption result (read ≡ None) (λ rest. (p : Bytes × Pairs V) × (read ≡ Some (p, rest.now))) }
 {
     let (low, rest) = read_key(bytes, settings)?;
@@ -177,7 +181,8 @@ fn skim_known<'a, V: FrameCell>(
     bytes: &'a [u8],
     format: &Format,
 ) -> Option<&'a [u8]>
-    ensures { let test = λ (p : Bytes × Pairs V). is_known format.now.version spelling && is_full format.now.settings (V.is_short format.now.settings) p.0 p.1 in
+    ensures { let s = format.now.settings in
+        let test = λ (p : Bytes × Pairs V). is_known format.now.version spelling && is_full s (V.is_short s) p.0 p.1 in
         let read = read_where test ((full spelling V.codec).read bytes.now) in
         MatchOption result (read ≡ None) (λ rest. (p : Bytes × Pairs V) × (read ≡ Some (p, rest.now))) }
 {

@@ -220,7 +220,8 @@ pub fn write_full_leaf(
     out: &mut Vec<u8>,
 ) -> Result<(), AllocError>
     requires { IsSized (FullLeaf spelling low.now base.now) }
-    ensures ok { OnOk result (out.new.items ≡ out.old.items ++ bytes_of (record { pid = pid; content = FullLeaf spelling low.now base.now })) }
+    ensures ok { OnOk result (out.new.items ≡
+        out.old.items ++ bytes_of (record { pid = pid; content = FullLeaf spelling low.now base.now })) }
     ensures words { OnOk result (HasWords (record { pid = pid; content = FullLeaf spelling low.now base.now })) }
     ensures err { OnErr result (out.new.items ≡ out.old.items) }
 {
@@ -250,7 +251,8 @@ pub fn write_full_index(
     out: &mut Vec<u8>,
 ) -> Result<(), AllocError>
     requires { IsSized (FullIndex spelling low.now base.now) }
-    ensures ok { OnOk result (out.new.items ≡ out.old.items ++ bytes_of (record { pid = pid; content = FullIndex spelling low.now base.now })) }
+    ensures ok { OnOk result (out.new.items ≡
+        out.old.items ++ bytes_of (record { pid = pid; content = FullIndex spelling low.now base.now })) }
     ensures words { OnOk result (HasWords (record { pid = pid; content = FullIndex spelling low.now base.now })) }
     ensures err { OnErr result (out.new.items ≡ out.old.items) }
 {
