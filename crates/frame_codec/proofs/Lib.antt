@@ -20,5 +20,6 @@ mod SharedRows
 pub mod SizeLemmas
 pub mod SizedLemmas
 pub mod SkimLemmas
+pub mod VersionLemmas
 pub mod WithinLemmas
 pub mod WriteLemmas

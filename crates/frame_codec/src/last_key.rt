@@ -105,14 +105,15 @@ impl LastKey {
     }
 
     /// Becomes the key at the front, if that is no longer than settings allow: whether it is above the one before it, and the
-    /// bytes behind it.
+    /// bytes behind it. Where there is no such key, it stays.
     pub(crate) fn read_next<'a>(
         &mut self,
         bytes: &'a [u8],
         settings: &Settings,
     ) -> Option<(bool, &'a [u8])>
         ensures { let read = read_where (is_key settings.now) ((sharing self.old).read bytes.now) in
-            MatchOption result (read ≡ None) (λ p. (read ≡ Some (self.new, p.1.now)) × (p.0 ≡ is_lt (order self.old self.new))) }
+            MatchOption result ((read ≡ None) × (self.new ≡ self.old))
+            (λ p. (read ≡ Some (self.new, p.1.now)) × (p.0 ≡ is_lt (order self.old self.new))) }
     {
         let (shared, bytes) = read_byte(bytes)?;
         let (rest, behind) = read_short(bytes)?;

@@ -7,9 +7,11 @@ ghost use Rattle.keys.specs.Limits.{first_bad_field};
 ghost use Rattle.delta_chain.specs.Layers.{IsInOrder};
 ghost use Rattle.index_page.specs.Page.{Page};
 ghost use Rattle.index_page.specs.Rules.{IsShortValue, Fits};
+ghost use Rattle.keys.specs.declared.settings.Settings.{Settings};
 ghost use Rattle.frame_codec.specs.declared.format.Format.{Format};
 ghost use Rattle.frame_codec.specs.declared.format.Spelling.{Spelling};
 ghost use Rattle.frame_codec.specs.declared.format.Spelling.TheVariants.{Whole};
+ghost use Rattle.frame_codec.specs.declared.format.Version.TheVariants.{One, Two};
 ghost use Rattle.frame_codec.specs.Frame.{Frame, bytes_of, is_known, is_frame};
 ghost use Rattle.frame_codec.specs.Frame.Content.{FullLeaf, DeltaLeaf, FullIndex, DeltaIndex};
 ghost use Rattle.frame_codec.specs.Reading.{BeginsWithFrame, read_frame};
@@ -52,6 +54,15 @@ pub fn what_is_read_is_what_stands_there()
         read_frame g bytes ≡ Some (f, rest) → BeginsWithFrame g bytes f rest }
     ensures none { (g : Format) (bytes : Bytes) (f : Frame) (rest : Bytes) → first_bad_field g.settings ≡ None →
         read_frame g bytes ≡ None → BeginsWithFrame g bytes f rest → ⊥ }
+{}
+
+/// A frame of a log of version 1 is one of version 2, and is read alike.
+pub fn version_two_knows_what_version_one_knows()
+    ensures frame { (s : Settings) (f : Frame) → is_frame (record { settings = s; version = One }) f ≡ true →
+        is_frame (record { settings = s; version = Two }) f ≡ true }
+    ensures read { (s : Settings) (bytes : Bytes) (f : Frame) (rest : Bytes) →
+        read_frame (record { settings = s; version = One }) bytes ≡ Some (f, rest) →
+        read_frame (record { settings = s; version = Two }) bytes ≡ Some (f, rest) }
 {}
 
 /// A frame has as many bytes as its fields tell.

@@ -86,7 +86,8 @@ fn read_whole<'a, V: FrameCell>(
     Ok(Some((base, rest)))
 }
 
-// As `read_entry`, of an entry whose key is spelled by the last one and then is the last.
+// As `read_entry`, of an entry whose key is spelled by the last one and then is the last. Where there is no such entry, the last
+// key may be any.
 fn read_next_entry<'a, V: FrameCell>(
     alloc: Global,
     last: &mut LastKey,

@@ -97,7 +97,7 @@ pub(crate) fn skim_entries<'a, C: Spelled>(
 }
 
 // As `skip_entry`, of an entry whose key is spelled by the last one and then is the last: whether it is above that, with the
-// bytes behind it.
+// bytes behind it. Where there is no such entry, the last key may be any.
 fn skip_shared<'a, C: Spelled>(
     last: &mut LastKey,
     bytes: &'a [u8],
