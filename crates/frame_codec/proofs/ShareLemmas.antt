@@ -1,15 +1,14 @@
 -- Keys that share beginnings: how far two go together, and what is spelled of a key by the one before it.
 use Rattle.std.proofs.Common.{◌≡◌, ℕ, zero, suc, ◌⊎◌, inl, inr, ◌+◌, ◌*◌, ◌^◌, ◌-◌, ◌<◌, ◌≤◌, Bool, true, false, cond, nat_eq, ◌==◌, if◌then◌else◌, List, [], ◌∷◌, ◌++◌, length, take, drop, Option, Some, None, MatchOption, refl, sym, ap, ◌∙◌, arith, append_assoc, length-append, eq-eqb, leb-true}
 use Rattle.std.proofs.lemmas.Bool.{eqb-true}
-use Rattle.std.proofs.lemmas.List.{take-append-drop, length-take-le, length-drop, drop_at, drop-drop, take_all}
+use Rattle.std.proofs.lemmas.List.{take-append-drop, length-take-le, length-drop, drop_at, take_all}
 use Rattle.std.proofs.lemmas.List.Sums.{common_prefix_len-le}
 use Rattle.std.specs.declared.cmp.Ordering.{Ordering}
-use Rattle.std.specs.declared.cmp.Ordering.TheVariants.{Less, Equal, Greater}
+use Rattle.std.specs.declared.cmp.Ordering.TheVariants.{Equal}
 use Rattle.std.specs.Cmp.{nat_cmp_is}
-use Rattle.std.specs.Ordering.{ordering_then, nat_cmp, is_ne}
+use Rattle.std.specs.Ordering.{ordering_then, nat_cmp}
 use Rattle.keys.specs.Cells.{Codec, AreBytes, IsReadBack, ReadsSpellings, read_on, read_as, read_where, number, read_bytes}
 use Rattle.keys.specs.Order.{order}
-use Rattle.keys.proofs.MapLemmas.{same_key}
 use Rattle.keys.specs.declared.settings.Settings.{Settings}
 use Rattle.keys.proofs.CellLemmas.{gave, nothing_read, read_as-gave, read_where-gave, goes_on, number-back, number-spelled, read_bytes-of, read_bytes-gave}
 use Rattle.frame_codec.specs.Codecs.{counted_short, shared_and_rest, common, rejoined, sharing}
@@ -46,27 +45,6 @@ common-cut (suc n) [] rest h = absurd (omega arith)
 common-cut (suc n) (a ∷ xs) rest h =
     let more = common-cut n xs rest (omega arith) in
     ap (λ (t : Bool). cond t (1 + common xs (take n xs ++ rest)) 0) (eq-eqb a a refl) ∙ ap (λ (m : ℕ). 1 + m) more ∙ omega arith
-
--- where the two begin with the same bytes, what they share goes on behind these
-pub common-behind : (n : ℕ) (j k : List ℕ) → n ≤ length j → n ≤ length k → take n j ≡ take n k → common j k ≡ n + common (drop n j) (drop n k)
-common-behind n j k g h e =
-    ap (common j) (sym (take-append-drop n k) ∙ ap (λ (cs : List ℕ). cs ++ drop n k) (sym e)) ∙ common-cut n j (drop n k) g
-
-pub equal_if : (o : Ordering) → is_ne o ≡ false → o ≡ Equal
-equal_if Less h = absurd (cc)
-equal_if Equal h = refl
-equal_if Greater h = absurd (cc)
-
--- the same of what stands behind so many bytes that the two have in common
-pub common-further : (at n : ℕ) (j k : List ℕ) → at + n ≤ length j → at + n ≤ length k → common j k ≡ at + common (drop at j) (drop at k)
-    → order (take n (drop at j)) (take n (drop at k)) ≡ Equal → common j k ≡ (at + n) + common (drop (at + n) j) (drop (at + n) k)
-common-further at n j k g h e same =
-    let left = length-drop at j in
-    let other = length-drop at k in
-    let more = common-behind n (drop at j) (drop at k) (omega arith) (omega arith) (same_key (take n (drop at j)) (take n (drop at k)) same) in
-    let all : common (drop at j) (drop at k) ≡ n + common (drop (at + n) j) (drop (at + n) k) =
-    more ∙ ap (λ (i : List ℕ). n + common i (drop n (drop at k))) (drop-drop n at j) ∙ ap (λ (i : List ℕ). n + common (drop (at + n) j) i) (drop-drop n at k) in
-    omega arith
 
 same_byte : (a : ℕ) (o : Ordering) → ordering_then (nat_cmp a a) o ≡ o
 same_byte a o = ap (λ (r : Ordering). ordering_then r o) (sym (nat_cmp_is a a Equal refl))

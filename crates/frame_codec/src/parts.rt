@@ -1,6 +1,6 @@
 //! The parts that frames are made of: numbers, and keys and values as they are spelled. Each is read by the definition's
 //! reader of it, and is appended to bytes that have room.
-ghost use Rattle.std.specs.Prelude.{◌≡◌, ◌≢◌, ◌+◌, ◌-◌, ◌≤◌, ◌∷◌, [], true, length, drop, None, Some, MatchOption, IfSome};
+ghost use Rattle.std.specs.Prelude.{◌≡◌, ◌≢◌, ◌+◌, ◌-◌, ◌≤◌, ◌∷◌, [], true, length, None, Some, MatchOption, IfSome};
 ghost use Rattle.keys.specs.Cells.{read_number, read_where, number, counted, pid_cell};
 ghost use Rattle.keys.specs.Sizes.{pid_size};
 ghost use Rattle.frame_codec.specs.Appended.{HasRoomFor, IsAppended, IsCount, IsShortCount};
@@ -8,7 +8,7 @@ ghost use Rattle.frame_codec.specs.Codecs.{counted_short, common, sharing};
 ghost use Rattle.frame_codec.specs.Frame.{header, is_pid, is_key};
 
 use byteorder::{BigEndian, ByteOrder};
-use keys::{Pid, Settings, compare};
+use keys::{Pid, Settings};
 
 /// The byte at the front, with the bytes behind it.
 pub(crate) fn read_byte(bytes: &[u8]) -> Option<(u8, &[u8])>
@@ -172,24 +172,8 @@ pub(crate) fn append_counted(out: &mut Vec<u8>, bytes: &[u8])
     append(out, bytes);
 }
 
-// As many words of eight bytes as the two begin with in common, in bytes.
-fn common_words(one: &[u8], other: &[u8]) -> usize
-    ensures same { common one.now other.now ≡ result + common (drop result one.now) (drop result other.now) }
-    ensures one { result ≤ length one.now }
-    ensures other { result ≤ length other.now }
-{
-    let words = one.len().min(other.len()) / 8;
-    for word in 0..words {
-        let at = 8 * word;
-        if compare(&one[at..at + 8], &other[at..at + 8]).is_ne() {
-            return at;
-        }
-    }
-    8 * words
-}
-
-// How many bytes the two begin with in common, byte by byte.
-fn common_bytes(one: &[u8], other: &[u8]) -> usize
+// How many bytes the two begin with in common.
+fn common_len(one: &[u8], other: &[u8]) -> usize
     ensures same { result ≡ common one.now other.now }
     ensures within { result ≤ length other.now }
 {
@@ -200,15 +184,6 @@ fn common_bytes(one: &[u8], other: &[u8]) -> usize
         }
     }
     most
-}
-
-// How many bytes the two begin with in common. Eight are compared at a time.
-fn common_len(one: &[u8], other: &[u8]) -> usize
-    ensures same { result ≡ common one.now other.now }
-    ensures within { result ≤ length other.now }
-{
-    let at = common_words(one, other);
-    at + common_bytes(&one[at..], &other[at..])
 }
 
 /// How many bytes the spelling of the key by the one before it takes.

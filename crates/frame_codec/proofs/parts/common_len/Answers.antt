@@ -1,7 +1,7 @@
 use Rattle.std.proofs.Common.{drop, arith}
 use Rattle.std.proofs.lemmas.List.{length-drop}
 use Rattle.frame_codec.proofs.ShareLemmas.{common-le}
-use Rattle.frame_codec.proofs.parts.common_bytes.Goals as goal
+use Rattle.frame_codec.proofs.parts.common_len.Goals as goal
 
 pub returns-clause-same : goal.returns-clause-same
 returns-clause-same c =
