@@ -6,4 +6,4 @@ use Rattle.frame_codec.proofs.RowForms.{IsSpelled}
 
 a_absent : IsSpelled (record { pid = 0; content = DeltaLeaf ((codes "a", None) ∷ []) })
     "02 0000000e 0000000000000000 0001 0001 61 00"
-a_absent = (refl, refl)
+a_absent = (refl, refl, refl)

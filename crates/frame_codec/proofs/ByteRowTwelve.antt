@@ -11,4 +11,4 @@ four_put : IsSpelled
           DeltaLeaf ((codes "a", Some (codes "1")) ∷ (codes "b", Some (codes "2")) ∷ (codes "c", Some (codes "3")) ∷ (codes "d", Some (codes "4")) ∷ []);
     })
     "02 00000026 0000000000000000 0004 0001 61 01 0001 31 0001 62 01 0001 32 0001 63 01 0001 33 0001 64 01 0001 34"
-four_put = (refl, refl)
+four_put = (refl, refl, refl)

@@ -3,12 +3,15 @@ use Rattle.std.proofs.Common.{◌≡◌, ℕ, zero, suc, ◌<◌, List, [], ◌�
 use Rattle.std.specs.List.{AllByRecursion}
 use Rattle.keys.specs.Cells.{Codec, AreBytes, IsReadBack, ReadsSpellings, read_on, read_as, number}
 use Rattle.keys.proofs.CellLemmas.{gave, same_reading, nothing_read, read_as-gave, goes_on, number-back, number-spelled}
-use Rattle.frame_codec.specs.Codecs.{both, read_each, listed, spell_flag, flagged}
+use Rattle.frame_codec.specs.Codecs.{both, both_by, read_each, listed, spell_flag, flagged}
 
 -- ---- what is spelled is read back
 
+pub both_by-back : {X Y : Type 0} (c : Codec X) (d : X → Codec Y) (p : X × Y) → IsReadBack c p.0 → IsReadBack (d p.0) p.1 → IsReadBack (both_by c d) p
+both_by-back c d p bc bd rest = rw (append_assoc (c.spell p.0) ((d p.0).spell p.1) rest, bc ((d p.0).spell p.1 ++ rest), bd rest) refl
+
 pub both-back : {X Y : Type 0} (c : Codec X) (d : Codec Y) (p : X × Y) → IsReadBack c p.0 → IsReadBack d p.1 → IsReadBack (both c d) p
-both-back c d p bc bd rest = rw (append_assoc (c.spell p.0) (d.spell p.1) rest, bc (d.spell p.1 ++ rest), bd rest) refl
+both-back c d p bc bd rest = both_by-back c (λ x. d) p bc bd rest
 
 pub each-back : {X : Type 0} (c : Codec X) (xs : List X) → AllByRecursion (IsReadBack c) xs → (rest : List ℕ) → read_each c (length xs) (flat_map c.spell xs ++ rest) ≡ gave xs rest
 each-back c [] back rest = refl
@@ -29,15 +32,18 @@ absent-back c rest = refl
 
 -- ---- what is read stands in the bytes
 
-pub both-spelled : {X Y : Type 0} (c : Codec X) (d : Codec Y) → ReadsSpellings c → ReadsSpellings d → ReadsSpellings (both c d)
-both-spelled {X = X} {Y = Y} c d sc sd bs p rest bytes h =
-    let next : X → List ℕ → Option ((X × Y) × List ℕ) = λ x behind. read_as (λ (y : Y). (x, y)) (d.read behind) in
+pub both_by-spelled : {X Y : Type 0} (c : Codec X) (d : X → Codec Y) → ReadsSpellings c → ((x : X) → ReadsSpellings (d x)) → ReadsSpellings (both_by c d)
+both_by-spelled {X = X} {Y = Y} c d sc sd bs p rest bytes h =
+    let next : X → List ℕ → Option ((X × Y) × List ℕ) = λ x behind. read_as (λ (y : Y). (x, y)) ((d x).read behind) in
     let on = goes_on c sc bs next p rest bytes h in
-    let (y, read, is) = read_as-gave (λ (y : Y). (on.first, y)) (d.read on.behind) p rest on.went in
+    let (y, read, is) = read_as-gave (λ (y : Y). (on.first, y)) ((d on.first).read on.behind) p rest on.went in
     on.spelled
-    ∙ ap (λ (cs : List ℕ). c.spell on.first ++ cs) (sd on.behind y rest on.bytes read)
-    ∙ sym (append_assoc (c.spell on.first) (d.spell y) rest)
-    ∙ ap (λ (q : X × Y). (both c d).spell q ++ rest) is
+    ∙ ap (λ (cs : List ℕ). c.spell on.first ++ cs) (sd on.first on.behind y rest on.bytes read)
+    ∙ sym (append_assoc (c.spell on.first) ((d on.first).spell y) rest)
+    ∙ ap (λ (q : X × Y). (both_by c d).spell q ++ rest) is
+
+pub both-spelled : {X Y : Type 0} (c : Codec X) (d : Codec Y) → ReadsSpellings c → ReadsSpellings d → ReadsSpellings (both c d)
+both-spelled c d sc sd = both_by-spelled c (λ x. d) sc (λ x. sd)
 
 pub each-spelled : {X : Type 0} (c : Codec X) → ReadsSpellings c → (n : ℕ) (bs : List ℕ) (xs : List X) (rest : List ℕ) → AreBytes bs
     → read_each c n bs ≡ Some (xs, rest) → (length xs ≡ n) × (bs ≡ flat_map c.spell xs ++ rest)

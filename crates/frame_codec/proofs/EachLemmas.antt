@@ -12,8 +12,10 @@ use Rattle.keys.proofs.CellLemmas.{gave, nothing_read, same_reading, read_as-gav
 use Rattle.delta_chain.specs.Building.{goes_last}
 use Rattle.delta_chain.proofs.Rising.{goes_last-rising}
 use Rattle.index_page.specs.Rules.{do_rise, of_cell}
-use Rattle.frame_codec.specs.Codecs.{both, read_each, flagged}
-use Rattle.frame_codec.specs.Frame.{delta, is_key, are_entries, is_run}
+use Rattle.frame_codec.specs.declared.format.Spelling.{Spelling}
+use Rattle.frame_codec.specs.declared.format.Spelling.TheVariants.{Whole, Shared}
+use Rattle.frame_codec.specs.Codecs.{both, read_each, flagged, sharing}
+use Rattle.frame_codec.specs.Frame.{read_base, delta, is_key, are_entries, is_run}
 use Rattle.frame_codec.proofs.WithinLemmas.{decides-rising}
 
 -- what comes of those that were read and of what is read of the rest, where all together pass the test
@@ -33,47 +35,73 @@ module _ {X : Type 0} (ok : List X → Bool) where
   joined-bad built x None h = refl
   joined-bad built x (Some p) h = rw (h p.0) refl
 
-  module _ (c : Codec X) (built : List X) (n : ℕ) (bs : List ℕ) where
-    next_of : Option (X × List ℕ) → Option (List X × List ℕ)
-    next_of o = joined_with ok built (read_on o (λ x rest. read_as (λ xs. x ∷ xs) (read_each c n rest)))
+  -- where the next one, and those behind it, are read of these bytes
+  module _ (built : List X) (here : Option (X × List ℕ)) (more : X → List ℕ → Option (List X × List ℕ)) where
+    abbrev all_of : Option (X × List ℕ) → Option (List X × List ℕ)
+    all_of o = read_on o (λ x rest. read_as (λ xs. x ∷ xs) (more x rest))
 
-    joined-next : (x : X) (behind : List ℕ) → c.read bs ≡ gave x behind → joined_with ok built (read_each c (suc n) bs) ≡ joined_with ok (built ++ x ∷ []) (read_each c n behind)
-    joined-next x behind h =
-        ap (λ (o : Option (X × List ℕ)). joined_with ok built (read_on o (λ y rest. read_as (λ ys. y ∷ ys) (read_each c n rest)))) h
-        ∙ joined-one built x (read_each c n behind)
+    joined-next : (x : X) (behind : List ℕ) → here ≡ gave x behind → joined_with ok built (all_of here) ≡ joined_with ok (built ++ x ∷ []) (more x behind)
+    joined-next x behind h = ap (λ (o : Option (X × List ℕ)). joined_with ok built (all_of o)) h ∙ joined-one built x (more x behind)
 
-    joined-refused : (x : X) (behind : List ℕ) → c.read bs ≡ gave x behind → ((xs : List X) → ok (built ++ x ∷ xs) ≡ false) → joined_with ok built (read_each c (suc n) bs) ≡ None
-    joined-refused x behind h bad =
-        ap (λ (o : Option (X × List ℕ)). joined_with ok built (read_on o (λ y rest. read_as (λ ys. y ∷ ys) (read_each c n rest)))) h
-        ∙ joined-bad built x (read_each c n behind) bad
+    joined-refused : (x : X) (behind : List ℕ) → here ≡ gave x behind → ((xs : List X) → ok (built ++ x ∷ xs) ≡ false) → joined_with ok built (all_of here) ≡ None
+    joined-refused x behind h bad = ap (λ (o : Option (X × List ℕ)). joined_with ok built (all_of o)) h ∙ joined-bad built x (more x behind) bad
 
-    joined-unread : c.read bs ≡ None → joined_with ok built (read_each c (suc n) bs) ≡ None
-    joined-unread h = ap (λ (o : Option (X × List ℕ)). joined_with ok built (read_on o (λ y rest. read_as (λ ys. y ∷ ys) (read_each c n rest)))) h
+    joined-unread : here ≡ None → joined_with ok built (all_of here) ≡ None
+    joined-unread h = ap (λ (o : Option (X × List ℕ)). joined_with ok built (all_of o)) h
 
     -- where none is read, or one that cannot stand there, nothing comes of all
     joined-ends : (test : X → Bool) → ((x : X) (xs : List X) → test x ≡ false → ok (built ++ x ∷ xs) ≡ false)
-        → read_where test (c.read bs) ≡ None → joined_with ok built (read_each c (suc n) bs) ≡ None
-    joined-ends test bad = of (c.read bs) refl
+        → read_where test here ≡ None → joined_with ok built (all_of here) ≡ None
+    joined-ends test bad = of here refl
       where
-        failed : (b : Bool) (x : X) (rest : List ℕ) → c.read bs ≡ gave x rest → test x ≡ b → (if b then gave x rest else None) ≡ None → joined_with ok built (read_each c (suc n) bs) ≡ None
+        failed : (b : Bool) (x : X) (rest : List ℕ) → here ≡ gave x rest → test x ≡ b → (if b then gave x rest else None) ≡ None → joined_with ok built (all_of here) ≡ None
         failed true x rest is e k = absurd (nothing_read (x, rest) (sym k))
         failed false x rest is e k = joined-refused x rest is (λ xs. bad x xs e)
 
-        of : (o : Option (X × List ℕ)) → c.read bs ≡ o → read_where test o ≡ None → joined_with ok built (read_each c (suc n) bs) ≡ None
+        of : (o : Option (X × List ℕ)) → here ≡ o → read_where test o ≡ None → joined_with ok built (all_of here) ≡ None
         of None is k = joined-unread is
         of (Some p) is k = failed (test p.0) p.0 p.1 is refl k
 
--- as many are read as were asked for
-more_long : {X : Type 0} (c : Codec X) (n : ℕ) → ((bs : List ℕ) (xs : List X) (rest : List ℕ) → read_each c n bs ≡ gave xs rest → length xs ≡ n)
-    → (o : Option (X × List ℕ)) (xs : List X) (rest : List ℕ) → read_on o (λ x behind. read_as (λ ys. x ∷ ys) (read_each c n behind)) ≡ gave xs rest → length xs ≡ suc n
-more_long c n fewer None xs rest h = absurd (nothing_read _ h)
-more_long c n fewer (Some p) xs rest h =
-    let (ys, read, is) = read_as-gave (λ ys. p.0 ∷ ys) (read_each c n p.1) xs rest h in
-    ap length (sym is) ∙ ap suc (fewer p.1 ys rest read)
+-- ---- the entries of a base, or of a run
 
-pub each-long : {X : Type 0} (c : Codec X) (n : ℕ) (bs : List ℕ) (xs : List X) (rest : List ℕ) → read_each c n bs ≡ gave xs rest → length xs ≡ n
-each-long c zero bs xs rest h = let e = (same_reading [] xs bs rest h).0 in ap length (sym e)
-each-long c (suc n) bs xs rest h = more_long c n (each-long c n) (c.read bs) xs rest h
+-- a key, by the one before it
+abbrev pub keyed : Spelling → List ℕ → Codec (List ℕ)
+keyed Whole before = counted
+keyed Shared before = sharing before
+
+-- an entry, by the key before it
+abbrev pub next_entry : {X : Type 0} → Spelling → Codec X → List ℕ → Codec (List ℕ × X)
+next_entry spelling cell before = both (keyed spelling before) cell
+
+module _ {X : Type 0} (spelling : Spelling) (cell : Codec X) where
+  base-none : (before : List ℕ) (bs : List ℕ) → read_base spelling cell before 0 bs ≡ gave [] bs
+  base-none before bs = of spelling
+    where
+      of : (spelling : Spelling) → read_base spelling cell before 0 bs ≡ gave [] bs
+      of Whole = refl
+      of Shared = refl
+
+  base-more : (before : List ℕ) (n : ℕ) (bs : List ℕ) → read_base spelling cell before (suc n) bs
+      ≡ read_on ((next_entry spelling cell before).read bs) (λ e rest. read_as (λ es. e ∷ es) (read_base spelling cell e.0 n rest))
+  base-more before n bs = of spelling
+    where
+      of : (spelling : Spelling) → read_base spelling cell before (suc n) bs
+          ≡ read_on ((next_entry spelling cell before).read bs) (λ e rest. read_as (λ es. e ∷ es) (read_base spelling cell e.0 n rest))
+      of Whole = refl
+      of Shared = refl
+
+  -- as many are read as were asked for
+  more_long : (n : ℕ) → ((before : List ℕ) (bs : List ℕ) (es : List (List ℕ × X)) (rest : List ℕ) → read_base spelling cell before n bs ≡ gave es rest → length es ≡ n)
+      → (o : Option ((List ℕ × X) × List ℕ)) (es : List (List ℕ × X)) (rest : List ℕ)
+      → read_on o (λ e behind. read_as (λ ds. e ∷ ds) (read_base spelling cell e.0 n behind)) ≡ gave es rest → length es ≡ suc n
+  more_long n fewer None es rest h = absurd (nothing_read _ h)
+  more_long n fewer (Some p) es rest h =
+      let (ds, read, is) = read_as-gave (λ ds. p.0 ∷ ds) (read_base spelling cell p.0.0 n p.1) es rest h in
+      ap length (sym is) ∙ ap suc (fewer p.0.0 p.1 ds rest read)
+
+  pub base-long : (n : ℕ) (before : List ℕ) (bs : List ℕ) (es : List (List ℕ × X)) (rest : List ℕ) → read_base spelling cell before n bs ≡ gave es rest → length es ≡ n
+  base-long zero before bs es rest h = let e = (same_reading [] es bs rest (sym (base-none before bs) ∙ h)).0 in ap length (sym e)
+  base-long (suc n) before bs es rest h = more_long n (base-long n) ((next_entry spelling cell before).read bs) es rest (sym (base-more before n bs) ∙ h)
 
 -- two things that were read, one behind the other
 pub both-passed : {X Y : Type 0} (a : X → Bool) (b : Y → Bool) (c : Codec X) (d : Codec Y) (bs : List ℕ) (x : X) (behind : List ℕ) (y : Y) (rest : List ℕ)
@@ -108,7 +136,16 @@ all-push : {X : Type 0} (test : X → Bool) (built : List X) (x : X) → list_al
 all-push test [] x h t = both_true t refl
 all-push test (y ∷ ys) x h t = let (one, rest) = and_parts _ _ h in both_true one (all-push test ys x rest t)
 
-module _ {X : Type 0} (s : Settings) (short : X → Bool) (cell : Codec X) where
+-- the key of the last entry, or this where there is none
+abbrev pub last_key : {X : Type 0} → List ℕ → List (List ℕ × X) → List ℕ
+last_key low [] = low
+last_key low (e ∷ es) = last_key e.0 es
+
+pub last_key-push : {X : Type 0} (low : List ℕ) (es : List (List ℕ × X)) (k : List ℕ) (v : X) → last_key low (es ++ (k, v) ∷ []) ≡ k
+last_key-push low [] k v = refl
+last_key-push low (e ∷ es) k v = last_key-push e.0 es k v
+
+module _ {X : Type 0} (s : Settings) (short : X → Bool) (spelling : Spelling) (cell : Codec X) where
   -- whether an entry is within the settings
   abbrev pub is_entry : List ℕ × X → Bool
   is_entry e = is_key s e.0 && short e.1
@@ -124,29 +161,33 @@ module _ {X : Type 0} (s : Settings) (short : X → Bool) (cell : Codec X) where
       not_true (do_rise (keys_of all)) (λ rise. let last = goes_last-rising built k v es ((decides-rising all).0 rise) in absurd (let wrong = sym h ∙ last in cc)) in
       fails_first (nat_le (length all) s.fan && do_rise (keys_of all)) (list_all is_entry all) (fails_last (nat_le (length all) s.fan) (do_rise (keys_of all)) falls)
 
-  -- what is read of all, where as many are read from these bytes
-  abbrev pub read_entries : ℕ → List ℕ → Option (List (List ℕ × X) × List ℕ)
-  read_entries count bs = read_where (are_entries s short) (read_each (both counted cell) count bs)
+  module _ (low : List ℕ) (count : ℕ) (start : List ℕ) where
+    -- what is read of all, where as many are read from these bytes
+    abbrev pub read_entries : Option (List (List ℕ × X) × List ℕ)
+    read_entries = read_where (are_entries s short) (read_base spelling cell low count start)
 
-  -- so many were read, and are within the settings; the rest stands in these bytes
-  pub record IsReadUpTo (count : ℕ) (start : List ℕ) (at : ℕ) (built : List (List ℕ × X)) (now : List ℕ) : Type 0 where
-    pub left : ℕ
-    pub all : at + left ≡ count
-    pub whole : read_entries count start ≡ joined_with (are_entries s short) built (read_each (both counted cell) left now)
-    pub tested : list_all is_entry built ≡ true
-    pub long : length built ≡ at
+    -- so many were read, and are within the settings; the rest stands in these bytes
+    pub record IsReadUpTo (at : ℕ) (built : List (List ℕ × X)) (now : List ℕ) : Type 0 where
+      pub left : ℕ
+      pub all : at + left ≡ count
+      pub whole : read_entries ≡ joined_with (are_entries s short) built (read_base spelling cell (last_key low built) left now)
+      pub tested : list_all is_entry built ≡ true
+      pub long : length built ≡ at
 
-  module _ (count : ℕ) (start : List ℕ) where
-    pub read-none : IsReadUpTo count start 0 [] start
+    pub read-none : IsReadUpTo 0 [] start
     read-none = record {
       left = count;
       all = omega arith;
-      whole = sym (joined-start (are_entries s short) (read_each (both counted cell) count start));
+      whole = sym (joined-start (are_entries s short) (read_base spelling cell low count start));
       tested = refl;
       long = refl;
     }
 
-    module _ (at : ℕ) (built : List (List ℕ × X)) (now : List ℕ) (up : IsReadUpTo count start at built now) where
+    module _ (at : ℕ) (built : List (List ℕ × X)) (now : List ℕ) (up : IsReadUpTo at built now) where
+      -- the key before the next one
+      abbrev before : List ℕ
+      before = last_key low built
+
       -- there is one more to read
       one_left : at < count → (n : ℕ) × (up.left ≡ suc n)
       one_left more = of up.left up.all
@@ -156,37 +197,51 @@ module _ {X : Type 0} (s : Settings) (short : X → Bool) (cell : Codec X) where
           of (suc n) e = (n, refl)
 
       abbrev whole_of : ℕ → Option (List (List ℕ × X) × List ℕ)
-      whole_of n = joined_with (are_entries s short) built (read_each (both counted cell) n now)
+      whole_of n = joined_with (are_entries s short) built (read_base spelling cell before n now)
 
-      pub read-next : (k : List ℕ) (v : X) (behind : List ℕ) → at < count → read_where is_entry ((both counted cell).read now) ≡ Some ((k, v), behind)
-          → IsReadUpTo count start (at + 1) (built ++ (k, v) ∷ []) behind
+      -- what is read where the next one is
+      abbrev next_read : Option ((List ℕ × X) × List ℕ)
+      next_read = (next_entry spelling cell before).read now
+
+      -- and behind an entry
+      abbrev read_behind : ℕ → List ℕ × X → List ℕ → Option (List (List ℕ × X) × List ℕ)
+      read_behind n e rest = read_base spelling cell e.0 n rest
+
+      next_is : (n : ℕ) → up.left ≡ suc n → read_entries ≡ joined_with (are_entries s short) built (all_of (are_entries s short) built next_read (read_behind n) next_read)
+      next_is n is = up.whole ∙ ap whole_of is ∙ ap (joined_with (are_entries s short) built) (base-more spelling cell before n now)
+
+      pub read-next : (k : List ℕ) (v : X) (behind : List ℕ) → at < count → read_where is_entry next_read ≡ Some ((k, v), behind)
+          → IsReadUpTo (at + 1) (built ++ (k, v) ∷ []) behind
       read-next k v behind more h =
           let (n, is) = one_left more in
-          let (read, passed) = read_where-gave is_entry ((both counted cell).read now) (k, v) behind h in
+          let (read, passed) = read_where-gave is_entry next_read (k, v) behind h in
           let joined = length-append built ((k, v) ∷ []) in
           let long = up.long in
           let all = up.all in
           record {
             left = n;
             all = omega arith;
-            whole = up.whole ∙ ap whole_of is ∙ joined-next (are_entries s short) (both counted cell) built n now (k, v) behind read;
+            whole =
+                next_is n is
+                ∙ joined-next (are_entries s short) built next_read (read_behind n) (k, v) behind read
+                ∙ ap (λ (j : List ℕ). joined_with (are_entries s short) (built ++ (k, v) ∷ []) (read_base spelling cell j n behind)) (sym (last_key-push low built k v));
             tested = all-push is_entry built (k, v) up.tested passed;
             long = omega arith;
           }
 
-      pub read-ends : at < count → read_where is_entry ((both counted cell).read now) ≡ None → read_entries count start ≡ None
+      pub read-ends : at < count → read_where is_entry next_read ≡ None → read_entries ≡ None
       read-ends more h =
           let (n, is) = one_left more in
-          up.whole ∙ ap whole_of is ∙ joined-ends (are_entries s short) (both counted cell) built n now is_entry (λ e es. bad_entry built e es) h
+          next_is n is ∙ joined-ends (are_entries s short) built next_read (read_behind n) is_entry (λ e es. bad_entry built e es) h
 
-      pub read-falls : (k : List ℕ) (v : X) (behind : List ℕ) → at < count → read_where is_entry ((both counted cell).read now) ≡ Some ((k, v), behind)
-          → goes_last k built ≡ false → read_entries count start ≡ None
+      pub read-falls : (k : List ℕ) (v : X) (behind : List ℕ) → at < count → read_where is_entry next_read ≡ Some ((k, v), behind)
+          → goes_last k built ≡ false → read_entries ≡ None
       read-falls k v behind more h falls =
           let (n, is) = one_left more in
-          let (read, passed) = read_where-gave is_entry ((both counted cell).read now) (k, v) behind h in
-          up.whole ∙ ap whole_of is ∙ joined-refused (are_entries s short) (both counted cell) built n now (k, v) behind read (λ es. bad_order built k v es falls)
+          let (read, passed) = read_where-gave is_entry next_read (k, v) behind h in
+          next_is n is ∙ joined-refused (are_entries s short) built next_read (read_behind n) (k, v) behind read (λ es. bad_order built k v es falls)
 
-      pub read-done : count ≤ at → count ≤ s.fan → IsRising built → read_entries count start ≡ Some (built, now)
+      pub read-done : count ≤ at → count ≤ s.fan → IsRising built → read_entries ≡ Some (built, now)
       read-done done few rising =
           let long = up.long in
           let all = up.all in
@@ -194,15 +249,15 @@ module _ {X : Type 0} (s : Settings) (short : X → Bool) (cell : Codec X) where
           let at_most : length built ≤ s.fan = omega arith in
           let passed : are_entries s short built ≡ true =
           both_true (both_true (le-leb (length built) s.fan at_most) ((decides-rising built).1 rising)) up.tested in
-          up.whole ∙ ap whole_of none ∙ rw (append-nil built, passed) refl
+          up.whole ∙ ap whole_of none ∙ rw (base-none spelling cell before now, append-nil built, passed) refl
 
-    pub read-many : s.fan < count → read_entries count start ≡ None
-    read-many many = of (read_each (both counted cell) count start) refl
+    pub read-many : s.fan < count → read_entries ≡ None
+    read-many many = of (read_base spelling cell low count start) refl
       where
-        of : (o : Option (List (List ℕ × X) × List ℕ)) → read_each (both counted cell) count start ≡ o → read_where (are_entries s short) o ≡ None
+        of : (o : Option (List (List ℕ × X) × List ℕ)) → read_base spelling cell low count start ≡ o → read_where (are_entries s short) o ≡ None
         of None is = refl
         of (Some p) is =
-            let long = each-long (both counted cell) count start p.0 p.1 is in
+            let long = base-long spelling cell count low start p.0 p.1 is in
             let over : nat_le (length p.0) s.fan ≡ false = not_true (nat_le (length p.0) s.fan) (λ h. let few = leb-true (length p.0) s.fan h in absurd (omega arith)) in
             let failed : are_entries s short p.0 ≡ false =
             fails_first (nat_le (length p.0) s.fan && do_rise (keys_of p.0)) (list_all is_entry p.0) (fails_first (nat_le (length p.0) s.fan) (do_rise (keys_of p.0)) over) in
@@ -210,7 +265,7 @@ module _ {X : Type 0} (s : Settings) (short : X → Bool) (cell : Codec X) where
 
 -- a run, where its count was read and there are some
 pub read-run : {V : Type 0} (s : Settings) (short : V → Bool) (cell : Codec V) (bs : List ℕ) (count : ℕ) (rest : List ℕ) → read_number 2 bs ≡ gave count rest → (count ≡ 0 → ⊥)
-    → read_where (is_run s short) ((delta cell).read bs) ≡ read_entries s (of_cell short) (flagged cell) count rest
+    → read_where (is_run s short) ((delta cell).read bs) ≡ read_entries s (of_cell short) Whole (flagged cell) [] count rest
 read-run {V = V} s short cell bs count rest h some =
     ap (λ (o : Option (ℕ × List ℕ)). read_where (is_run s short) (read_on o (read_each (both counted (flagged cell))))) h ∙ of (read_each (both counted (flagged cell)) count rest) refl
   where
@@ -218,6 +273,6 @@ read-run {V = V} s short cell bs count rest h some =
         → read_where (is_run s short) o ≡ read_where (are_entries s (of_cell short)) o
     of None is = refl
     of (Some p) is =
-        let long = each-long (both counted (flagged cell)) count rest p.0 p.1 is in
+        let long = base-long Whole (flagged cell) count [] rest p.0 p.1 is in
         let passed : nat_lt 0 (length p.0) ≡ true = lt-ltb 0 (length p.0) (omega (arith, some)) in
         rw passed refl

@@ -8,11 +8,15 @@ use Rattle.keys.specs.declared.settings.Settings.{Settings}
 use Rattle.keys.proofs.LimitLemmas.{checked}
 use Rattle.keys.proofs.CellLemmas.{gave, same_reading, number-back, counted-back, length-counted, pid-back}
 use Rattle.index_page.specs.Rules.{is_short_value, of_cell}
+use Rattle.frame_codec.specs.declared.format.Format.{Format}
+use Rattle.frame_codec.specs.declared.format.Spelling.{Spelling}
+use Rattle.frame_codec.specs.declared.format.Spelling.TheVariants.{Whole, Shared}
 use Rattle.frame_codec.specs.Codecs.{both, listed, spell_flag, flagged}
-use Rattle.frame_codec.specs.Frame.{Content, Frame, full, delta, kind_of, content_bytes, header, bytes_of, is_pid, is_key, are_entries, is_full, is_run, is_content, is_frame}
+use Rattle.frame_codec.specs.Frame.{Content, Frame, based, full, delta, kind_of, content_bytes, header, bytes_of, is_pid, is_key, are_entries, is_full, is_run, is_content, is_readable, is_allowed, is_frame}
 use Rattle.frame_codec.specs.Frame.Content.{FullLeaf, DeltaLeaf, FullIndex, DeltaIndex, Free}
 use Rattle.frame_codec.specs.Reading.{read_content, read_behind, read_any, read_frame}
-use Rattle.frame_codec.proofs.CodecLemmas.{both-back, listed-back, flagged-back, absent-back}
+use Rattle.frame_codec.proofs.BaseLemmas.{base-back, base-shorter}
+use Rattle.frame_codec.proofs.CodecLemmas.{both-back, both_by-back, listed-back, flagged-back, absent-back}
 
 -- ---- settings that pass their check
 
@@ -114,18 +118,27 @@ module _ (s : Settings) (limits : AreInLimits s) where
         omega arith
 
   module _ {V : Type 0} (test : V → Bool) (cell : Codec V) (serves : Serves 1026 test cell) where
-    full-back : (low : List ℕ) (base : List (List ℕ × V)) → is_full s test low base ≡ true → IsReadBack (full cell) (low, base)
-    full-back low base h =
-        let (key, entries) = and_parts (is_key s low) (are_entries s test base) h in
-        both-back counted (listed (both counted cell)) (low, base) (low-back low key) (entries-back 1026 (omega arith) test cell serves base entries)
+    base_entry : (e : List ℕ × V) → (is_key s e.0 && test e.1) ≡ true → (length e.0 < 256) × IsReadBack cell e.1
+    base_entry e h =
+        let (key, value) = and_parts (is_key s e.0) (test e.1) h in
+        let short = short_key e.0 key in
+        (omega arith, serves.back e.1 value)
 
-    full-short : (low : List ℕ) (base : List (List ℕ × V)) → is_full s test low base ≡ true → length ((full cell).spell (low, base)) ≤ 91000
-    full-short low base h =
+    full-back : (spelling : Spelling) (low : List ℕ) (base : List (List ℕ × V)) → is_full s test low base ≡ true → IsReadBack (full spelling cell) (low, base)
+    full-back spelling low base h =
+        let (key, entries) = and_parts (is_key s low) (are_entries s test base) h in
+        let few = few_entries 1026 (omega arith) test cell serves base entries in
+        let each = each_is 1026 (omega arith) test cell serves (λ e. (length e.0 < 256) × IsReadBack cell e.1) base_entry base entries in
+        both_by-back counted (based spelling cell) (low, base) (low-back low key) (base-back cell spelling low base (omega arith) each)
+
+    full-short : (spelling : Spelling) (low : List ℕ) (base : List (List ℕ × V)) → is_full s test low base ≡ true → length ((full spelling cell).spell (low, base)) ≤ 91000
+    full-short spelling low base h =
         let (key, entries) = and_parts (is_key s low) (are_entries s test base) h in
         let short = short_key low key in
         let long = length-counted low in
         let rest = entries-short 1026 (omega arith) test cell serves base entries in
-        let joined = length-append (counted.spell low) ((listed (both counted cell)).spell base) in
+        let most = base-shorter cell spelling low base in
+        let joined = length-append (counted.spell low) ((based spelling cell low).spell base) in
         omega arith
 
     run-back : (run : List (List ℕ × Option V)) → is_run s test run ≡ true → IsReadBack (delta cell) run
@@ -135,49 +148,55 @@ module _ (s : Settings) (limits : AreInLimits s) where
     run-short run h = entries-short 1027 (omega arith) (of_cell test) (flagged cell) (flag-serves test cell serves) run (and_parts _ _ h).1
 
   content-back : (c : Content) → is_content s c ≡ true → (rest : List ℕ) → read_content (kind_of c) (content_bytes c ++ rest) ≡ gave c rest
-  content-back (FullLeaf low base) h rest = ap (read_as (λ p. FullLeaf p.0 p.1)) (full-back (is_short_value s) value_cell value-serves low base h rest)
+  content-back (FullLeaf Whole low base) h rest = ap (read_as (λ p. FullLeaf Whole p.0 p.1)) (full-back (is_short_value s) value_cell value-serves Whole low base h rest)
+  content-back (FullLeaf Shared low base) h rest = ap (read_as (λ p. FullLeaf Shared p.0 p.1)) (full-back (is_short_value s) value_cell value-serves Shared low base h rest)
   content-back (DeltaLeaf run) h rest = ap (read_as (λ r. DeltaLeaf r)) (run-back (is_short_value s) value_cell value-serves run h rest)
-  content-back (FullIndex low base) h rest = ap (read_as (λ p. FullIndex p.0 p.1)) (full-back is_pid pid_cell pid-serves low base h rest)
+  content-back (FullIndex Whole low base) h rest = ap (read_as (λ p. FullIndex Whole p.0 p.1)) (full-back is_pid pid_cell pid-serves Whole low base h rest)
+  content-back (FullIndex Shared low base) h rest = ap (read_as (λ p. FullIndex Shared p.0 p.1)) (full-back is_pid pid_cell pid-serves Shared low base h rest)
   content-back (DeltaIndex run) h rest = ap (read_as (λ r. DeltaIndex r)) (run-back is_pid pid_cell pid-serves run h rest)
   content-back Free h rest = refl
 
   pub content-short : (c : Content) → is_content s c ≡ true → length (content_bytes c) ≤ 91000
-  content-short (FullLeaf low base) h = full-short (is_short_value s) value_cell value-serves low base h
+  content-short (FullLeaf spelling low base) h = full-short (is_short_value s) value_cell value-serves spelling low base h
   content-short (DeltaLeaf run) h = let short = run-short (is_short_value s) value_cell value-serves run h in omega arith
-  content-short (FullIndex low base) h = full-short is_pid pid_cell pid-serves low base h
+  content-short (FullIndex spelling low base) h = full-short is_pid pid_cell pid-serves spelling low base h
   content-short (DeltaIndex run) h = let short = run-short is_pid pid_cell pid-serves run h in omega arith
   content-short Free h = omega arith
 
-  -- ---- frames
+-- ---- frames
 
-  small_kind : (c : Content) → kind_of c < 256
-  small_kind (FullLeaf low base) = omega arith
-  small_kind (DeltaLeaf run) = omega arith
-  small_kind (FullIndex low base) = omega arith
-  small_kind (DeltaIndex run) = omega arith
-  small_kind Free = omega arith
+small_kind : (c : Content) → kind_of c < 256
+small_kind (FullLeaf Whole low base) = omega arith
+small_kind (FullLeaf Shared low base) = omega arith
+small_kind (DeltaLeaf run) = omega arith
+small_kind (FullIndex Whole low base) = omega arith
+small_kind (FullIndex Shared low base) = omega arith
+small_kind (DeltaIndex run) = omega arith
+small_kind Free = omega arith
 
-  header-back : (kind len pid : ℕ) → kind < 256 → len < 4294967296 → pid < 2 ^ 64 → IsReadBack header ((kind, len), pid)
-  header-back kind len pid k l p =
-      both-back (both (number 1) (number 4)) pid_cell ((kind, len), pid) (both-back (number 1) (number 4) (kind, len) (number-back 1 kind k) (number-back 4 len l)) (pid-back pid p)
+header-back : (kind len pid : ℕ) → kind < 256 → len < 4294967296 → pid < 2 ^ 64 → IsReadBack header ((kind, len), pid)
+header-back kind len pid k l p =
+    both-back (both (number 1) (number 4)) pid_cell ((kind, len), pid) (both-back (number 1) (number 4) (kind, len) (number-back 1 kind k) (number-back 4 len l)) (pid-back pid p)
 
-  pub any-back : (f : Frame) → is_frame s f ≡ true → (rest : List ℕ) → read_any (bytes_of f ++ rest) ≡ gave f rest
+module _ (g : Format) (limits : AreInLimits g.settings) where
+  pub any-back : (f : Frame) → is_frame g f ≡ true → (rest : List ℕ) → read_any (bytes_of f ++ rest) ≡ gave f rest
   any-back f h rest =
-      let (pid, content) = and_parts (is_pid f.pid) (is_content s f.content) h in
+      let (pid, allowed) = and_parts (is_pid f.pid) (is_allowed g f.content) h in
+      let (readable, content) = and_parts (is_readable g.version f.content) (is_content g.settings f.content) allowed in
       let c = f.content in
       let n = 8 + length (content_bytes c) in
-      let short = content-short c content in
+      let short = content-short g.settings limits c content in
       ap read_any (append_assoc (header.spell ((kind_of c, n), f.pid)) (content_bytes c) rest)
       ∙ ap (λ o. read_on o read_behind) (header-back (kind_of c) n f.pid (small_kind c) (omega arith) (pid-is f.pid pid) (content_bytes c ++ rest))
-      ∙ ap (λ o. read_as (λ d. record { pid = f.pid; content = d }) (read_where (λ d. n == 8 + length (content_bytes d)) o)) (content-back c content rest)
+      ∙ ap (λ o. read_as (λ d. record { pid = f.pid; content = d }) (read_where (λ d. n == 8 + length (content_bytes d)) o)) (content-back g.settings limits c content rest)
       ∙ rw (eq-eqb n n refl) refl
 
-  pub frame-back : (f : Frame) → is_frame s f ≡ true → (rest : List ℕ) → read_frame s (bytes_of f ++ rest) ≡ gave f rest
+  pub frame-back : (f : Frame) → is_frame g f ≡ true → (rest : List ℕ) → read_frame g (bytes_of f ++ rest) ≡ gave f rest
   frame-back f h rest = rw (any-back f h rest) (rw h refl)
 
 -- no frame's bytes begin another's
-pub same_frame : (s : Settings) (f g : Frame) (u v : List ℕ) → first_bad_field s ≡ None → is_frame s f ≡ true → is_frame s g ≡ true
-    → bytes_of f ++ u ≡ bytes_of g ++ v → (f ≡ g) × (u ≡ v)
-same_frame s f g u v good hf hg e =
-    let limits = in_limits s good in
-    same_reading f g u v (sym (frame-back s limits f hf u) ∙ ap (read_frame s) e ∙ frame-back s limits g hg v)
+pub same_frame : (g : Format) (e f : Frame) (u v : List ℕ) → first_bad_field g.settings ≡ None → is_frame g e ≡ true → is_frame g f ≡ true
+    → bytes_of e ++ u ≡ bytes_of f ++ v → (e ≡ f) × (u ≡ v)
+same_frame g e f u v good he hf same =
+    let limits = in_limits g.settings good in
+    same_reading e f u v (sym (frame-back g limits e he u) ∙ ap (read_frame g) same ∙ frame-back g limits f hf v)

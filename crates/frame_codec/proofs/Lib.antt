@@ -1,3 +1,4 @@
+pub mod BaseLemmas
 mod ByteRowEight
 mod ByteRowEleven
 mod ByteRowFive
@@ -14,8 +15,11 @@ pub mod LongerLemmas
 pub mod ReadLemmas
 mod RefusedRows
 pub mod RowForms
+pub mod ShareLemmas
+mod SharedRows
 pub mod SizeLemmas
 pub mod SizedLemmas
 pub mod SkimLemmas
+pub mod VersionLemmas
 pub mod WithinLemmas
 pub mod WriteLemmas

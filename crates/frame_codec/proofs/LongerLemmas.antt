@@ -3,10 +3,12 @@
 use Rattle.std.proofs.Common.{◌≡◌, ℕ, zero, suc, ◌+◌, ◌*◌, ◌^◌, ◌≤◌, Bool, true, false, ◌==◌, nat_le, if◌then◌else◌, List, [], ◌∷◌, ◌++◌, length, take, drop, Option, Some, None, refl, ap, ◌∙◌, arith, length-append, le-leb, leb-true}
 use Rattle.std.proofs.lemmas.List.{take-append-le, drop-append-le}
 use Rattle.keys.specs.Cells.{Codec, read_on, read_as, read_where, read_number, number, read_bytes, counted, value_cell, pid_cell}
-use Rattle.keys.specs.declared.settings.Settings.{Settings}
+use Rattle.frame_codec.specs.declared.format.Format.{Format}
+use Rattle.frame_codec.specs.declared.format.Spelling.{Spelling}
+use Rattle.frame_codec.specs.declared.format.Spelling.TheVariants.{Whole, Shared}
 use Rattle.keys.proofs.CellLemmas.{gave, same_reading, nothing_read}
-use Rattle.frame_codec.specs.Codecs.{both, read_each, listed, flagged}
-use Rattle.frame_codec.specs.Frame.{full, delta, content_bytes, header, is_frame}
+use Rattle.frame_codec.specs.Codecs.{both, both_by, read_each, listed, flagged, counted_short, shared_and_rest, common, rejoined, sharing, read_in_turn}
+use Rattle.frame_codec.specs.Frame.{read_base, based, full, delta, content_bytes, header, is_frame}
 use Rattle.frame_codec.specs.Frame.Content.{FullLeaf, DeltaLeaf, FullIndex, DeltaIndex, Free}
 use Rattle.frame_codec.specs.Reading.{read_content, read_behind, read_any, read_frame}
 
@@ -48,8 +50,11 @@ number-local zero bs n rest more h = done-local 0 bs n rest more h
 number-local (suc w) [] n rest more h = absurd (nothing_read _ h)
 number-local (suc w) (b ∷ bs) n rest more h = as-local (λ n. b * 256 ^ w + n) (read_number w) (number-local w) bs n rest more h
 
+both_by-local : {X Y : Type 0} (c : Codec X) (d : X → Codec Y) → IsLocal c.read → ((x : X) → IsLocal (d x).read) → IsLocal (both_by c d).read
+both_by-local c d lc ld = on-local c.read (λ x rest. read_as (λ y. (x, y)) ((d x).read rest)) lc (λ x. as-local (λ y. (x, y)) (d x).read (ld x))
+
 both-local : {X Y : Type 0} (c : Codec X) (d : Codec Y) → IsLocal c.read → IsLocal d.read → IsLocal (both c d).read
-both-local c d lc ld = on-local c.read (λ x rest. read_as (λ y. (x, y)) (d.read rest)) lc (λ x. as-local (λ y. (x, y)) d.read ld)
+both-local c d lc ld = both_by-local c (λ x. d) lc (λ x. ld)
 
 each-local : {X : Type 0} (c : Codec X) → IsLocal c.read → (n : ℕ) → IsLocal (read_each c n)
 each-local c lc zero = done-local []
@@ -78,21 +83,44 @@ flagged-local c lc (zero ∷ bs) v rest more h = done-local None bs v rest more 
 flagged-local c lc (suc zero ∷ bs) v rest more h = as-local (λ v. Some v) c.read lc bs v rest more h
 flagged-local c lc (suc (suc n) ∷ bs) v rest more h = absurd (nothing_read _ h)
 
+-- ---- keys that share beginnings
+
+counted_short-local : IsLocal counted_short.read
+counted_short-local = on-local (number 1).read read_bytes (number-local 1) bytes-local
+
+sharing-local : (before : List ℕ) → IsLocal (sharing before).read
+sharing-local before =
+    as-local (rejoined before) (λ bs. read_where (λ p. common before (rejoined before p) == p.0) (shared_and_rest.read bs))
+    (where-local (λ p. common before (rejoined before p) == p.0) shared_and_rest.read (both-local (number 1) counted_short (number-local 1) counted_short-local))
+
+turn-local : {V : Type 0} (entry : List ℕ → Codec (List ℕ × V)) → ((before : List ℕ) → IsLocal (entry before).read) → (n : ℕ) (before : List ℕ) → IsLocal (read_in_turn entry before n)
+turn-local entry le zero before = done-local []
+turn-local entry le (suc n) before =
+    on-local (entry before).read (λ e rest. read_as (λ es. e ∷ es) (read_in_turn entry e.0 n rest)) (le before)
+    (λ e. as-local (λ es. e ∷ es) (read_in_turn entry e.0 n) (turn-local entry le n e.0))
+
 -- ---- frames
 
-full-local : {V : Type 0} (cell : Codec V) → IsLocal cell.read → IsLocal (full cell).read
-full-local cell lc = both-local counted (listed (both counted cell)) counted-local (listed-local (both counted cell) (both-local counted cell counted-local lc))
+base-local : {V : Type 0} (spelling : Spelling) (cell : Codec V) (low : List ℕ) → IsLocal cell.read → (n : ℕ) → IsLocal (read_base spelling cell low n)
+base-local Whole cell low lc = each-local (both counted cell) (both-local counted cell counted-local lc)
+base-local Shared cell low lc = λ n. turn-local (λ before. both (sharing before) cell) (λ before. both-local (sharing before) cell (sharing-local before) lc) n low
+
+full-local : {V : Type 0} (spelling : Spelling) (cell : Codec V) → IsLocal cell.read → IsLocal (full spelling cell).read
+full-local spelling cell lc =
+    both_by-local counted (based spelling cell) counted-local (λ low. on-local (number 2).read (read_base spelling cell low) (number-local 2) (base-local spelling cell low lc))
 
 delta-local : {V : Type 0} (cell : Codec V) → IsLocal cell.read → IsLocal (delta cell).read
 delta-local cell lc = listed-local (both counted (flagged cell)) (both-local counted (flagged cell) counted-local (flagged-local cell lc))
 
 content-local : (kind : ℕ) → IsLocal (read_content kind)
 content-local kind =
-    if-local (kind == 1) _ _ (as-local (λ p. FullLeaf p.0 p.1) (full value_cell).read (full-local value_cell counted-local))
+    if-local (kind == 1) _ _ (as-local (λ p. FullLeaf Whole p.0 p.1) (full Whole value_cell).read (full-local Whole value_cell counted-local))
     (if-local (kind == 2) _ _ (as-local (λ run. DeltaLeaf run) (delta value_cell).read (delta-local value_cell counted-local))
-    (if-local (kind == 3) _ _ (as-local (λ p. FullIndex p.0 p.1) (full pid_cell).read (full-local pid_cell (number-local 8)))
+    (if-local (kind == 3) _ _ (as-local (λ p. FullIndex Whole p.0 p.1) (full Whole pid_cell).read (full-local Whole pid_cell (number-local 8)))
     (if-local (kind == 4) _ _ (as-local (λ run. DeltaIndex run) (delta pid_cell).read (delta-local pid_cell (number-local 8)))
-    (if-local (kind == 5) _ _ (done-local Free) none-local))))
+    (if-local (kind == 5) _ _ (done-local Free)
+    (if-local (kind == 6) _ _ (as-local (λ p. FullLeaf Shared p.0 p.1) (full Shared value_cell).read (full-local Shared value_cell counted-local))
+    (if-local (kind == 7) _ _ (as-local (λ p. FullIndex Shared p.0 p.1) (full Shared pid_cell).read (full-local Shared pid_cell (number-local 8))) none-local))))))
 
 header-local : IsLocal header.read
 header-local = both-local (both (number 1) (number 4)) pid_cell (both-local (number 1) (number 4) (number-local 1) (number-local 4)) (number-local 8)
@@ -102,22 +130,22 @@ behind-local h =
     as-local (λ c. record { pid = h.1; content = c }) (λ bs. read_where (λ c. h.0.1 == 8 + length (content_bytes c)) (read_content h.0.0 bs))
     (where-local (λ c. h.0.1 == 8 + length (content_bytes c)) (read_content h.0.0) (content-local h.0.0))
 
-pub frame-longer : (s : Settings) → IsLocal (read_frame s)
-frame-longer s = where-local (is_frame s) read_any (on-local header.read read_behind header-local behind-local)
+pub frame-longer : (g : Format) → IsLocal (read_frame g)
+frame-longer g = where-local (is_frame g) read_any (on-local header.read read_behind header-local behind-local)
 
 -- ---- no frame begins with a byte 0
 
-pub nothing_at_all : (s : Settings) → read_frame s [] ≡ None
-nothing_at_all s = refl
+pub nothing_at_all : (g : Format) → read_frame g [] ≡ None
+nothing_at_all g = refl
 
-zero_and_length : (s : Settings) (n : ℕ) (o : Option (ℕ × List ℕ)) → read_where (is_frame s) (read_on (read_as (λ pid. ((0, n), pid)) o) read_behind) ≡ None
-zero_and_length s n None = refl
-zero_and_length s n (Some p) = refl
+zero_and_length : (g : Format) (n : ℕ) (o : Option (ℕ × List ℕ)) → read_where (is_frame g) (read_on (read_as (λ pid. ((0, n), pid)) o) read_behind) ≡ None
+zero_and_length g n None = refl
+zero_and_length g n (Some p) = refl
 
-zero_kind : (s : Settings) (o : Option (ℕ × List ℕ)) →
-    read_where (is_frame s) (read_on (read_on (read_as (λ n. (0, n)) o) (λ h rest. read_as (λ pid. (h, pid)) (read_number 8 rest))) read_behind) ≡ None
-zero_kind s None = refl
-zero_kind s (Some p) = zero_and_length s p.0 (read_number 8 p.1)
+zero_kind : (g : Format) (o : Option (ℕ × List ℕ)) →
+    read_where (is_frame g) (read_on (read_on (read_as (λ n. (0, n)) o) (λ h rest. read_as (λ pid. (h, pid)) (read_number 8 rest))) read_behind) ≡ None
+zero_kind g None = refl
+zero_kind g (Some p) = zero_and_length g p.0 (read_number 8 p.1)
 
-pub nothing_at_zero : (s : Settings) (bs : List ℕ) → read_frame s (0 ∷ bs) ≡ None
-nothing_at_zero s bs = zero_kind s (read_number 4 bs)
+pub nothing_at_zero : (g : Format) (bs : List ℕ) → read_frame g (0 ∷ bs) ≡ None
+nothing_at_zero g bs = zero_kind g (read_number 4 bs)

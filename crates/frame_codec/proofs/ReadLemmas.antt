@@ -2,19 +2,17 @@
 use Rattle.std.proofs.Common.{◌≡◌, ℕ, ◌+◌, Bool, true, false, ◌==◌, if◌then◌else◌, List, ◌++◌, length, Option, Some, None, refl, sym, ap, ◌∙◌, append_assoc}
 use Rattle.std.proofs.lemmas.Bool.{eqb-true}
 use Rattle.keys.specs.Cells.{Codec, AreBytes, ReadsSpellings, read_as, read_where, number, counted, value_cell, pid_cell}
-use Rattle.keys.specs.declared.settings.Settings.{Settings}
+use Rattle.frame_codec.specs.declared.format.Format.{Format}
+use Rattle.frame_codec.specs.declared.format.Spelling.TheVariants.{Whole, Shared}
 use Rattle.keys.proofs.CellLemmas.{gave, same_reading, nothing_read, read_as-gave, read_where-gave, goes_on, number-spelled, counted-spelled, pid-spelled}
-use Rattle.frame_codec.specs.Codecs.{both, listed, flagged}
+use Rattle.frame_codec.specs.Codecs.{both, flagged}
 use Rattle.frame_codec.specs.Frame.{Content, Frame, full, delta, kind_of, content_bytes, header, bytes_of, is_frame}
 use Rattle.frame_codec.specs.Frame.Content.{FullLeaf, DeltaLeaf, FullIndex, DeltaIndex, Free}
 use Rattle.frame_codec.specs.Reading.{BeginsWithFrame, read_content, read_behind, read_any, read_frame}
 use Rattle.keys.specs.Limits.{first_bad_field}
 use Rattle.frame_codec.proofs.FrameLemmas.{in_limits, frame-back}
+use Rattle.frame_codec.proofs.BaseLemmas.{full-spelled}
 use Rattle.frame_codec.proofs.CodecLemmas.{both-spelled, listed-spelled, flagged-spelled}
-
-full-spelled : {V : Type 0} (cell : Codec V) → ReadsSpellings cell → ReadsSpellings (full cell)
-full-spelled cell sc =
-    both-spelled counted (listed (both counted cell)) counted-spelled (listed-spelled (both counted cell) (both-spelled counted cell counted-spelled sc))
 
 delta-spelled : {V : Type 0} (cell : Codec V) → ReadsSpellings cell → ReadsSpellings (delta cell)
 delta-spelled cell sc =
@@ -51,11 +49,14 @@ module _ (kind : ℕ) (bs : List ℕ) (bytes : AreBytes bs) (c : Content) (rest 
 
   pub content-spelled : read_content kind bs ≡ gave c rest → Stands
   content-spelled =
-      either (kind == 1) _ _ (of_kind 1 (full value_cell) (λ p. FullLeaf p.0 p.1) (full-spelled value_cell counted-spelled) (λ x. refl) (λ x. refl))
+      either (kind == 1) _ _ (of_kind 1 (full Whole value_cell) (λ p. FullLeaf Whole p.0 p.1) (full-spelled value_cell Whole counted-spelled) (λ x. refl) (λ x. refl))
       (either (kind == 2) _ _ (of_kind 2 (delta value_cell) (λ run. DeltaLeaf run) (delta-spelled value_cell counted-spelled) (λ x. refl) (λ x. refl))
-      (either (kind == 3) _ _ (of_kind 3 (full pid_cell) (λ p. FullIndex p.0 p.1) (full-spelled pid_cell pid-spelled) (λ x. refl) (λ x. refl))
+      (either (kind == 3) _ _ (of_kind 3 (full Whole pid_cell) (λ p. FullIndex Whole p.0 p.1) (full-spelled pid_cell Whole pid-spelled) (λ x. refl) (λ x. refl))
       (either (kind == 4) _ _ (of_kind 4 (delta pid_cell) (λ run. DeltaIndex run) (delta-spelled pid_cell pid-spelled) (λ x. refl) (λ x. refl))
-      (either (kind == 5) _ _ free (λ h. absurd (nothing_read _ h))))))
+      (either (kind == 5) _ _ free
+      (either (kind == 6) _ _ (of_kind 6 (full Shared value_cell) (λ p. FullLeaf Shared p.0 p.1) (full-spelled value_cell Shared counted-spelled) (λ x. refl) (λ x. refl))
+      (either (kind == 7) _ _ (of_kind 7 (full Shared pid_cell) (λ p. FullIndex Shared p.0 p.1) (full-spelled pid_cell Shared pid-spelled) (λ x. refl) (λ x. refl))
+      (λ h. absurd (nothing_read _ h))))))))
 
 any-spelled : (bs : List ℕ) (f : Frame) (rest : List ℕ) → AreBytes bs → read_any bs ≡ gave f rest → bs ≡ bytes_of f ++ rest
 any-spelled bs f rest bytes h =
@@ -76,11 +77,11 @@ any-spelled bs f rest bytes h =
     ∙ sym (append_assoc (header.spell ((kind_of c, 8 + length (content_bytes c)), pid)) (content_bytes c) rest)
     ∙ ap (λ (g : Frame). bytes_of g ++ rest) is
 
-pub frame-stands : (s : Settings) (bs : List ℕ) (f : Frame) (rest : List ℕ) → AreBytes bs → read_frame s bs ≡ Some (f, rest) → BeginsWithFrame s bs f rest
-frame-stands s bs f rest bytes h =
-    let (read, within) = read_where-gave (is_frame s) (read_any bs) f rest h in
+pub frame-stands : (g : Format) (bs : List ℕ) (f : Frame) (rest : List ℕ) → AreBytes bs → read_frame g bs ≡ Some (f, rest) → BeginsWithFrame g bs f rest
+frame-stands g bs f rest bytes h =
+    let (read, within) = read_where-gave (is_frame g) (read_any bs) f rest h in
     record { within = within; bytes = any-spelled bs f rest bytes read }
 
 -- where nothing is read, no frame stands
-pub none-stands : (s : Settings) (bs : List ℕ) (f : Frame) (rest : List ℕ) → first_bad_field s ≡ None → read_frame s bs ≡ None → BeginsWithFrame s bs f rest → ⊥
-none-stands s bs f rest good h stands = nothing_read _ (sym h ∙ ap (read_frame s) stands.bytes ∙ frame-back s (in_limits s good) f stands.within rest)
+pub none-stands : (g : Format) (bs : List ℕ) (f : Frame) (rest : List ℕ) → first_bad_field g.settings ≡ None → read_frame g bs ≡ None → BeginsWithFrame g bs f rest → ⊥
+none-stands g bs f rest good h stands = nothing_read _ (sym h ∙ ap (read_frame g) stands.bytes ∙ frame-back g (in_limits g.settings good) f stands.within rest)

@@ -4,6 +4,8 @@ use Prim.Native.String.{String}
 use Rattle.std.specs.List.{filter}
 use Rattle.std.specs.Char.{digit_value}
 use Rattle.keys.proofs.Literals.{S}
+use Rattle.frame_codec.specs.declared.format.Format.{Format}
+use Rattle.frame_codec.specs.declared.format.Version.TheVariants.{One, Two}
 use Rattle.frame_codec.specs.Frame.{Frame, bytes_of}
 use Rattle.frame_codec.specs.Reading.{read_frame}
 
@@ -17,10 +19,27 @@ by_two (c ∷ d ∷ ds) = (16 * digit_value c + digit_value d) ∷ by_two ds
 abbrev pub hex : String → List ℕ
 hex text = by_two (filter (λ c. not (c == 32)) (codes text))
 
--- the frame's bytes are these, and it is read from them, also with more behind them
-abbrev pub IsSpelled : Frame → String → Type 0
-IsSpelled f text = (bytes_of f ≡ hex text) × (read_frame S (hex text ++ 7 ∷ 8 ∷ []) ≡ Some (f, 7 ∷ 8 ∷ []))
+-- the two formats that a store with these settings may have
+abbrev pub one : Format
+one = record { settings = S; version = One }
 
--- the bytes begin with no frame
+abbrev pub two : Format
+two = record { settings = S; version = Two }
+
+-- the frame's bytes are these, and it is read from them in each version, also with more behind them
+abbrev pub IsSpelled : Frame → String → Type 0
+IsSpelled f text =
+    (bytes_of f ≡ hex text)
+    × (read_frame one (hex text ++ 7 ∷ 8 ∷ []) ≡ Some (f, 7 ∷ 8 ∷ []))
+    × (read_frame two (hex text ++ 7 ∷ 8 ∷ []) ≡ Some (f, 7 ∷ 8 ∷ []))
+
+-- the frame's bytes are these, and it is read from them in version 2, and not in version 1
+abbrev pub IsShared : Frame → String → Type 0
+IsShared f text =
+    (bytes_of f ≡ hex text)
+    × (read_frame one (hex text ++ 7 ∷ 8 ∷ []) ≡ None)
+    × (read_frame two (hex text ++ 7 ∷ 8 ∷ []) ≡ Some (f, 7 ∷ 8 ∷ []))
+
+-- the bytes begin with no frame, in neither version
 abbrev pub IsRefused : String → Type 0
-IsRefused text = read_frame S (hex text) ≡ None
+IsRefused text = (read_frame one (hex text) ≡ None) × (read_frame two (hex text) ≡ None)

@@ -9,10 +9,13 @@ use Rattle.keys.specs.declared.settings.Settings.{Settings}
 use Rattle.keys.proofs.CellLemmas.{length-counted}
 use Rattle.index_page.specs.Rules.{is_short_value, is_any_pid, of_cell}
 use Rattle.frame_codec.specs.Appended.{AreSpellable}
-use Rattle.frame_codec.specs.Codecs.{both, listed, spell_flag, flagged}
-use Rattle.frame_codec.specs.Frame.{Content, Frame, full, delta, is_pid, is_key, are_entries, is_full, is_run, is_content, is_frame}
+use Rattle.frame_codec.specs.Codecs.{both, spell_flag, flagged}
+use Rattle.frame_codec.specs.declared.format.Format.{Format}
+use Rattle.frame_codec.specs.declared.format.Spelling.{Spelling}
+use Rattle.frame_codec.specs.Frame.{Content, Frame, based, full, delta, is_pid, is_key, are_entries, is_full, is_run, is_content, is_readable, is_allowed, is_frame}
 use Rattle.frame_codec.specs.Frame.Content.{FullLeaf, DeltaLeaf, FullIndex, DeltaIndex, Free}
 use Rattle.frame_codec.specs.Sized.{has_sizes, IsSized, HasWords}
+use Rattle.frame_codec.proofs.BaseLemmas.{base-shorter}
 use Rattle.frame_codec.proofs.FrameLemmas.{AreInLimits, in_limits}
 
 -- ---- lengths
@@ -73,22 +76,23 @@ pub pid_short : IsShortest 1026 pid_cell is_any_pid
 pid_short p h = omega arith
 
 -- the same of a content of each kind
-pub leaf-short : (low : List ℕ) (base : List (List ℕ × List ℕ)) → IsSized (FullLeaf low base) → (length low ≤ 255) × AreShort value_cell base
-leaf-short low base (s, good, h) = let limits = in_limits s good in full-short s limits value_cell (is_short_value s) (value_short s limits) low base h
+pub leaf-short : (spelling : Spelling) (low : List ℕ) (base : List (List ℕ × List ℕ)) → IsSized (FullLeaf spelling low base) → (length low ≤ 255) × AreShort value_cell base
+leaf-short spelling low base (s, good, h) = let limits = in_limits s good in full-short s limits value_cell (is_short_value s) (value_short s limits) low base h
 
 pub leaf_run-short : (run : List (List ℕ × Option (List ℕ))) → IsSized (DeltaLeaf run) → AreShort (flagged value_cell) run
 leaf_run-short run (s, good, h) = let limits = in_limits s good in run-short s limits value_cell (is_short_value s) (value_short s limits) run h
 
-pub index-short : (low : List ℕ) (base : List (List ℕ × ℕ)) → IsSized (FullIndex low base) → (length low ≤ 255) × AreShort pid_cell base
-index-short low base (s, good, h) = full-short s (in_limits s good) pid_cell is_any_pid pid_short low base h
+pub index-short : (spelling : Spelling) (low : List ℕ) (base : List (List ℕ × ℕ)) → IsSized (FullIndex spelling low base) → (length low ≤ 255) × AreShort pid_cell base
+index-short spelling low base (s, good, h) = full-short s (in_limits s good) pid_cell is_any_pid pid_short low base h
 
 pub index_run-short : (run : List (List ℕ × Option ℕ)) → IsSized (DeltaIndex run) → AreShort (flagged pid_cell) run
 index_run-short run (s, good, h) = run-short s (in_limits s good) pid_cell is_any_pid pid_short run h
 
-pub full-few : {V : Type 0} (cell : Codec V) (low : List ℕ) (base : List (List ℕ × V)) → length low ≤ 255 → AreShort cell base → length ((full cell).spell (low, base)) < 2 ^ 31
-full-few cell low base key entries =
+pub full-few : {V : Type 0} (spelling : Spelling) (cell : Codec V) (low : List ℕ) (base : List (List ℕ × V)) → length low ≤ 255 → AreShort cell base → length ((full spelling cell).spell (low, base)) < 2 ^ 31
+full-few spelling cell low base key entries =
     let long = length-counted low in
-    let joined = length-append (counted.spell low) ((listed (both counted cell)).spell base) in
+    let joined = length-append (counted.spell low) ((based spelling cell low).spell base) in
+    let most = base-shorter cell spelling low base in
     let few = entries.few in
     omega arith
 
@@ -114,21 +118,22 @@ word_entries s X has word short by es h w =
 any_cell : (o : Option ℕ) → of_cell is_any_pid o ≡ true → of_cell is_pid o ≡ true → of_cell is_pid o ≡ true
 any_cell o h w = w
 
-pub leaf-words : (pid : ℕ) (low : List ℕ) (base : List (List ℕ × List ℕ)) → is_pid pid ≡ true → HasWords (record { pid = pid; content = FullLeaf low base })
-leaf-words pid low base p s h = both_true p h
+pub leaf-words : (pid : ℕ) (spelling : Spelling) (low : List ℕ) (base : List (List ℕ × List ℕ)) → is_pid pid ≡ true → HasWords (record { pid = pid; content = FullLeaf spelling low base })
+leaf-words pid spelling low base p g r h = both_true p (both_true r h)
 
 pub leaf_run-words : (pid : ℕ) (run : List (List ℕ × Option (List ℕ))) → is_pid pid ≡ true → HasWords (record { pid = pid; content = DeltaLeaf run })
-leaf_run-words pid run p s h = both_true p h
+leaf_run-words pid run p g r h = both_true p (both_true r h)
 
-pub index-words : (pid : ℕ) (low : List ℕ) (base : List (List ℕ × ℕ)) → is_pid pid ≡ true → list_all (λ e. is_pid e.1) base ≡ true → HasWords (record { pid = pid; content = FullIndex low base })
-index-words pid low base p w s h =
+pub index-words : (pid : ℕ) (spelling : Spelling) (low : List ℕ) (base : List (List ℕ × ℕ)) → is_pid pid ≡ true → list_all (λ e. is_pid e.1) base ≡ true → HasWords (record { pid = pid; content = FullIndex spelling low base })
+index-words pid spelling low base p w g r h =
+    let s = g.settings in
     let (key, entries) = and_parts (is_key s low) (are_entries s is_any_pid base) h in
-    both_true p (both_true key (word_entries s ℕ is_any_pid is_pid is_pid (λ v k l. l) base entries w))
+    both_true p (both_true r (both_true key (word_entries s ℕ is_any_pid is_pid is_pid (λ v k l. l) base entries w)))
 
 pub index_run-words : (pid : ℕ) (run : List (List ℕ × Option ℕ)) → is_pid pid ≡ true → list_all (λ e. of_cell is_pid e.1) run ≡ true → HasWords (record { pid = pid; content = DeltaIndex run })
-index_run-words pid run p w s h =
+index_run-words pid run p w g r h =
     let (some, entries) = and_parts _ _ h in
-    both_true p (both_true some (word_entries s (Option ℕ) (of_cell is_any_pid) (of_cell is_pid) (of_cell is_pid) any_cell run entries w))
+    both_true p (both_true r (both_true some (word_entries g.settings (Option ℕ) (of_cell is_any_pid) (of_cell is_pid) (of_cell is_pid) any_cell run entries w)))
 
 -- ---- what a frame tells of its sizes
 
@@ -147,9 +152,9 @@ any_changes s ((k, Some p) ∷ es) h =
     both_true (both_true (and_parts (is_key s k) (is_pid p) one).0 refl) (any_changes s es rest)
 
 sizes-content : (s : Settings) (c : Content) → is_content s c ≡ true → has_sizes s c ≡ true
-sizes-content s (FullLeaf low base) h = h
+sizes-content s (FullLeaf spelling low base) h = h
 sizes-content s (DeltaLeaf run) h = h
-sizes-content s (FullIndex low base) h =
+sizes-content s (FullIndex spelling low base) h =
     let (key, entries) = and_parts (is_key s low) (are_entries s is_pid base) h in
     let (sized, each) = and_parts _ _ entries in
     both_true key (both_true sized (any_pids s base each))
@@ -159,5 +164,7 @@ sizes-content s (DeltaIndex run) h =
     both_true some (both_true sized (any_changes s run each))
 sizes-content s Free h = refl
 
-pub sized-frame : (f : Frame) → ((s : Settings) × (first_bad_field s ≡ None) × (is_frame s f ≡ true)) → IsSized f.content
-sized-frame f (s, good, h) = (s, good, sizes-content s f.content (and_parts (is_pid f.pid) (is_content s f.content) h).1)
+pub sized-frame : (f : Frame) → ((g : Format) × (first_bad_field g.settings ≡ None) × (is_frame g f ≡ true)) → IsSized f.content
+sized-frame f (g, good, h) =
+    let allowed = (and_parts (is_pid f.pid) (is_allowed g f.content) h).1 in
+    (g.settings, good, sizes-content g.settings f.content (and_parts (is_readable g.version f.content) (is_content g.settings f.content) allowed).1)

@@ -1,17 +1,21 @@
 -- What is passed over and not kept: entries one behind the other, a base or a run of them, a content, and a frame.
-use Rattle.std.proofs.Common.{◌≡◌, ℕ, ◌+◌, ◌<◌, ◌-◌, ◌≤◌, Bool, true, false, ◌&&◌, if◌then◌else◌, List, [], ◌∷◌, ◌++◌, length, take, drop, Option, Some, None, refl, sym, ap, ◌∙◌, arith, length-append}
+use Rattle.std.proofs.Common.{◌≡◌, ℕ, zero, suc, ◌+◌, ◌<◌, ◌-◌, ◌≤◌, Bool, true, false, ◌&&◌, if◌then◌else◌, List, [], ◌∷◌, ◌++◌, length, take, drop, Option, Some, None, refl, sym, ap, ◌∙◌, arith, add-one, length-append}
 use Rattle.std.proofs.Math.Seq.{take-append_seam}
 use Rattle.keys.specs.Cells.{Codec, AreBytes, read_on, read_as, read_where, read_number, counted}
-use Rattle.keys.specs.Order.{IsRising}
+use Rattle.std.specs.Ordering.{is_lt}
+use Rattle.keys.specs.Order.{order, IsRising}
 use Rattle.keys.specs.declared.settings.Settings.{Settings}
 use Rattle.keys.proofs.CellLemmas.{gave, nothing_read, read_where-gave}
 use Rattle.delta_chain.specs.Building.{goes_last}
 use Rattle.delta_chain.proofs.Rising.{rising-push}
-use Rattle.frame_codec.specs.Codecs.{both, read_each}
-use Rattle.frame_codec.specs.Frame.{Content, Frame, full, header, bytes_of, is_pid, is_key, are_entries, is_full, is_content}
+use Rattle.frame_codec.specs.declared.format.Format.{Format}
+use Rattle.frame_codec.specs.declared.format.Spelling.{Spelling}
+use Rattle.frame_codec.specs.declared.format.Spelling.TheVariants.{Shared}
+use Rattle.frame_codec.specs.Frame.{Content, Frame, read_base, full, header, bytes_of, is_pid, is_key, are_entries, is_full, is_allowed}
 use Rattle.frame_codec.specs.Reading.{read_content, read_frame}
 use Rattle.frame_codec.specs.Skimmed.{is_above}
-use Rattle.frame_codec.proofs.EachLemmas.{IsReadUpTo, read_entries, read-none, read-next, read-falls, read-done, read-many}
+use Rattle.frame_codec.proofs.BaseLemmas.{base-taken}
+use Rattle.frame_codec.proofs.EachLemmas.{IsReadUpTo, next_entry, last_key, last_key-push, read_entries, read-none, read-next, read-ends, read-falls, read-done, read-many}
 use Rattle.frame_codec.proofs.FoundLemmas.{IsReadOf, IsContent, read_allowed, content-found, content-none, frame-answered}
 use Rattle.frame_codec.proofs.ReadLemmas.{header-spelled, frame-stands}
 use Rattle.frame_codec.proofs.WithinLemmas.{decides-rising}
@@ -28,71 +32,119 @@ last-pushed [] j v k = refl
 last-pushed (e ∷ []) j v k = refl
 last-pushed (e ∷ f ∷ es) j v k = last-pushed (f ∷ es) j v k
 
-module _ {X : Type 0} (s : Settings) (short : X → Bool) (cell : Codec X) (count : ℕ) (start : List ℕ) where
-  -- so many were passed over, up to this key; they are within the settings, and their keys rise
-  pub record IsPassedUpTo (at : ℕ) (last : Option (List ℕ)) (now : List ℕ) : Type 0 where
+module _ {X : Type 0} (s : Settings) (short : X → Bool) (spelling : Spelling) (cell : Codec X) (low : List ℕ) (count : ℕ) (start : List ℕ) where
+  -- the next entry, where it is within the settings
+  abbrev pub next_within : List ℕ → List ℕ → Option ((List ℕ × X) × List ℕ)
+  next_within before now = read_where (λ (e : List ℕ × X). is_key s e.0 && short e.1) ((next_entry spelling cell before).read now)
+
+  -- so many were passed over, up to this key; they are within the settings, their keys rise, and the next is spelled by that key
+  pub record IsPassedUpTo (at : ℕ) (last : Option (List ℕ)) (key : List ℕ) (now : List ℕ) : Type 0 where
     pub built : List (List ℕ × X)
-    pub upto : IsReadUpTo s short cell count start at built now
+    pub upto : IsReadUpTo s short spelling cell low count start at built now
     pub rising : IsRising built
     pub above : (k : List ℕ) → goes_last k built ≡ is_above last k
+    pub before : last_key low built ≡ key
 
-  pub passed-none : IsPassedUpTo 0 None start
-  passed-none = record { built = []; upto = read-none s short cell count start; rising = (decides-rising {X = X} []).0 refl; above = λ k. refl }
+  pub passed-none : IsPassedUpTo 0 None low start
+  passed-none = record {
+    built = [];
+    upto = read-none s short spelling cell low count start;
+    rising = (decides-rising {X = X} []).0 refl;
+    above = λ k. refl;
+    before = refl;
+  }
 
-  module _ (at : ℕ) (last : Option (List ℕ)) (now : List ℕ) (up : IsPassedUpTo at last now) where
-    pub passed-next : (k : List ℕ) (v : X) (behind : List ℕ) → at < count → read_where (λ (e : List ℕ × X). is_key s e.0 && short e.1) ((both counted cell).read now) ≡ Some ((k, v), behind)
-        → is_above last k ≡ true → IsPassedUpTo (at + 1) (Some k) behind
-    passed-next k v behind more h above = record {
-      built = up.built ++ (k, v) ∷ [];
-      upto = read-next s short cell count start at up.built now up.upto k v behind more h;
-      rising = rising-push up.built k v up.rising (up.above k ∙ above);
-      above = λ j. last-pushed up.built k v j;
-    }
+  module _ (at : ℕ) (last : Option (List ℕ)) (key : List ℕ) (now : List ℕ) (up : IsPassedUpTo at last key now) where
+    here : (o : Option ((List ℕ × X) × List ℕ)) → next_within key now ≡ o → next_within (last_key low up.built) now ≡ o
+    here o h = rw up.before h
 
-    pub passed-falls : (k : List ℕ) (v : X) (behind : List ℕ) → at < count → read_where (λ (e : List ℕ × X). is_key s e.0 && short e.1) ((both counted cell).read now) ≡ Some ((k, v), behind)
-        → is_above last k ≡ false → read_entries s short cell count start ≡ None
-    passed-falls k v behind more h falls =
-        read-falls s short cell count start at up.built now up.upto k v behind more h (up.above k ∙ falls)
+    pub passed-ends : at < count → next_within key now ≡ None → read_entries s short spelling cell low count start ≡ None
+    passed-ends more h = read-ends s short spelling cell low count start at up.built now up.upto more (here None h)
 
-    pub passed-done : count ≤ at → count ≤ s.fan → (es : List (List ℕ × X)) × (read_entries s short cell count start ≡ Some (es, now))
-    passed-done done few = (up.built, read-done s short cell count start at up.built now up.upto done few up.rising)
+    module _ (k : List ℕ) (v : X) (behind : List ℕ) (more : at < count) (read : next_within key now ≡ Some ((k, v), behind)) where
+      pub passed-next : (next : Option (List ℕ)) → next ≡ Some k → is_above last k ≡ true → IsPassedUpTo (at + 1) next k behind
+      passed-next next same above = record {
+        built = up.built ++ (k, v) ∷ [];
+        upto = read-next s short spelling cell low count start at up.built now up.upto k v behind more (here (Some ((k, v), behind)) read);
+        rising = rising-push up.built k v up.rising (up.above k ∙ above);
+        above = λ j. last-pushed up.built k v j ∙ ap (λ (l : Option (List ℕ)). is_above l j) (sym same);
+        before = last_key-push low up.built k v;
+      }
 
-  module _ (es : List (List ℕ × X)) (end : List ℕ) (whole : read_entries s short cell count start ≡ Some (es, end)) where
+      pub passed-falls : is_above last k ≡ false → read_entries s short spelling cell low count start ≡ None
+      passed-falls falls =
+          read-falls s short spelling cell low count start at up.built now up.upto k v behind more (here (Some ((k, v), behind)) read) (up.above k ∙ falls)
+
+    pub passed-done : count ≤ at → count ≤ s.fan → (es : List (List ℕ × X)) × (read_entries s short spelling cell low count start ≡ Some (es, now))
+    passed-done done few = (up.built, read-done s short spelling cell low count start at up.built now up.upto done few up.rising)
+
+  module _ (es : List (List ℕ × X)) (end : List ℕ) (whole : read_entries s short spelling cell low count start ≡ Some (es, end)) where
     -- where all are read, there are no more than fan of them
     pub whole-few : count ≤ s.fan
     whole-few =
-        let few : s.fan < count → ⊥ = λ many. nothing_read (es, end) (sym (read-many s short cell count start many) ∙ whole) in
+        let few : s.fan < count → ⊥ = λ many. nothing_read (es, end) (sym (read-many s short spelling cell low count start many) ∙ whole) in
         omega (arith, few)
 
     -- and each goes behind those that were read before it
-    pub whole-rises : (at : ℕ) (built : List (List ℕ × X)) (now : List ℕ) → IsReadUpTo s short cell count start at built now → (k : List ℕ) (v : X) (behind : List ℕ)
-        → at < count → read_where (λ (e : List ℕ × X). is_key s e.0 && short e.1) ((both counted cell).read now) ≡ Some ((k, v), behind) → goes_last k built ≡ true
+    pub whole-rises : (at : ℕ) (built : List (List ℕ × X)) (now : List ℕ) → IsReadUpTo s short spelling cell low count start at built now → (k : List ℕ) (v : X) (behind : List ℕ)
+        → at < count → next_within (last_key low built) now ≡ Some ((k, v), behind) → goes_last k built ≡ true
     whole-rises at built now up k v behind more h =
-        not_false (goes_last k built) (λ falls. nothing_read (es, end) (sym (read-falls s short cell count start at built now up k v behind more h falls) ∙ whole))
+        not_false (goes_last k built) (λ falls. nothing_read (es, end) (sym (read-falls s short spelling cell low count start at built now up k v behind more h falls) ∙ whole))
+
+-- ---- entries whose keys share beginnings
+
+-- the key before the entry at this place, if there is one
+abbrev pub last_of : ℕ → List ℕ → Option (List ℕ)
+last_of zero key = None
+last_of (suc at) key = Some key
+
+pub last_of-next : (at : ℕ) (key : List ℕ) → last_of (at + 1) key ≡ Some key
+last_of-next at key = rw add-one refl
+
+-- a key is above the one before it, where there is one, if it stands so to the key by which it is spelled
+module _ (at : ℕ) (key k : List ℕ) (rises : Bool) (is : rises ≡ is_lt (order key k)) where
+  pub last_of-above : (0 < at → rises ≡ true) → is_above (last_of at key) k ≡ true
+  last_of-above = of at
+    where
+      of : (at : ℕ) → (0 < at → rises ≡ true) → is_above (last_of at key) k ≡ true
+      of zero h = refl
+      of (suc n) h = sym is ∙ h (omega arith)
+
+  pub last_of-falls : 0 < at → rises ≡ false → is_above (last_of at key) k ≡ false
+  last_of-falls = of at
+    where
+      of : (at : ℕ) → 0 < at → rises ≡ false → is_above (last_of at key) k ≡ false
+      of zero some falls = absurd (omega arith)
+      of (suc n) some falls = sym is ∙ falls
+
+-- of the low key only the first bytes matter
+pub shared-taken : {X : Type 0} (s : Settings) (short : X → Bool) (cell : Codec X) (low : List ℕ) (count : ℕ) (start : List ℕ) → AreBytes start
+    → read_entries s short Shared cell (take 510 low) count start ≡ read_entries s short Shared cell low count start
+shared-taken s short cell low count start bytes = ap (read_where (are_entries s short)) (base-taken cell 510 low count start (omega arith) bytes)
 
 -- ---- a base under its low key
 
-module _ {V : Type 0} (s : Settings) (short : V → Bool) (cell : Codec V) (bs low behind : List ℕ) (count : ℕ) (rest : List ℕ)
+module _ {V : Type 0} (s : Settings) (short : V → Bool) (spelling : Spelling) (cell : Codec V) (bs low behind : List ℕ) (count : ℕ) (rest : List ℕ)
     (key : read_where (is_key s) (counted.read bs) ≡ Some (low, behind)) (counts : read_number 2 behind ≡ Some (count, rest)) where
   -- what is read of a low key and a base
   abbrev pub read_full : Option ((List ℕ × List (List ℕ × V)) × List ℕ)
-  read_full = read_where (λ p. is_full s short p.0 p.1) ((full cell).read bs)
+  read_full = read_where (λ p. is_full s short p.0 p.1) ((full spelling cell).read bs)
 
   abbrev of_entries : Option (List (List ℕ × V) × List ℕ) → Option ((List ℕ × List (List ℕ × V)) × List ℕ)
   of_entries o = read_where (λ p. is_full s short p.0 p.1) (read_as (λ es. (low, es)) o)
 
   -- once the low key and the count are read
-  full-of_entries : read_full ≡ of_entries (read_each (both counted cell) count rest)
+  full-of_entries : read_full ≡ of_entries (read_base spelling cell low count rest)
   full-of_entries =
-      ap (λ (o : Option (List ℕ × List ℕ)). read_where (λ p. is_full s short p.0 p.1) (read_on o (λ x more. read_as (λ es. (x, es)) (read_on (read_number 2 more) (read_each (both counted cell))))))
+      ap (λ (o : Option (List ℕ × List ℕ)). read_where (λ p. is_full s short p.0 p.1) (read_on o (λ x more. read_as (λ es. (x, es)) (read_on (read_number 2 more) (read_base spelling cell x)))))
       (read_where-gave (is_key s) (counted.read bs) low behind key).0
-      ∙ ap (λ (o : Option (ℕ × List ℕ)). of_entries (read_on o (read_each (both counted cell)))) counts
+      ∙ ap (λ (o : Option (ℕ × List ℕ)). of_entries (read_on o (read_base spelling cell low))) counts
 
   key_passes : is_key s low ≡ true
   key_passes = (read_where-gave (is_key s) (counted.read bs) low behind key).1
 
-  pub full-none : read_entries s short cell count rest ≡ None → read_full ≡ None
-  full-none h = full-of_entries ∙ of (read_each (both counted cell) count rest) h
+  pub full-none : read_entries s short spelling cell low count rest ≡ None → read_full ≡ None
+  full-none h = full-of_entries ∙ of (read_base spelling cell low count rest) h
     where
       of : (o : Option (List (List ℕ × V) × List ℕ)) → read_where (are_entries s short) o ≡ None → of_entries o ≡ None
       of None k = refl
@@ -102,9 +154,9 @@ module _ {V : Type 0} (s : Settings) (short : V → Bool) (cell : Codec V) (bs l
           by true e = absurd (nothing_read (p.0, p.1) (sym e))
           by false e = refl
 
-  pub full-passed : (es : List (List ℕ × V)) (end : List ℕ) → read_entries s short cell count rest ≡ Some (es, end) → read_full ≡ Some ((low, es), end)
+  pub full-passed : (es : List (List ℕ × V)) (end : List ℕ) → read_entries s short spelling cell low count rest ≡ Some (es, end) → read_full ≡ Some ((low, es), end)
   full-passed es end h =
-      let (read, passed) = read_where-gave (are_entries s short) (read_each (both counted cell) count rest) es end h in
+      let (read, passed) = read_where-gave (are_entries s short) (read_base spelling cell low count rest) es end h in
       full-of_entries ∙ ap of_entries read ∙ rw (key_passes, passed) refl
 
 -- ---- a content, and a frame
@@ -120,7 +172,7 @@ made-passed {Y = Y} make test o y rest h =
 abbrev pub with_content : ℕ → Content → Frame
 with_content pid c = record { pid = pid; content = c }
 
-module _ (s : Settings) (bs : List ℕ) (number len pid : ℕ) (body : List ℕ) (bytes : AreBytes bs) (head : header.read bs ≡ Some (((number, len), pid), body)) where
+module _ (g : Format) (bs : List ℕ) (number len pid : ℕ) (body : List ℕ) (bytes : AreBytes bs) (head : header.read bs ≡ Some (((number, len), pid), body)) where
   -- there are no fewer bytes in all than behind the header
   pub body-within : length body ≤ length bs
   body-within =
@@ -128,22 +180,22 @@ module _ (s : Settings) (bs : List ℕ) (number len pid : ℕ) (body : List ℕ)
       omega arith
 
   -- no content within the settings
-  pub skim-none : read_where (is_content s) (read_content number body) ≡ None → read_frame s bs ≡ None
-  skim-none h = content-none s bs number len pid body bytes head (ap (read_as (with_content pid)) h)
+  pub skim-none : read_where (is_allowed g) (read_content number body) ≡ None → read_frame g bs ≡ None
+  skim-none h = content-none g bs number len pid body bytes head (ap (read_as (with_content pid)) h)
 
-  module _ (c : Content) (rest : List ℕ) (is : read_where (is_content s) (read_content number body) ≡ Some (c, rest)) where
-    allowed : read_allowed s bs number len pid body bytes head ≡ Some (with_content pid c, rest)
+  module _ (c : Content) (rest : List ℕ) (is : read_where (is_allowed g) (read_content number body) ≡ Some (c, rest)) where
+    allowed : read_allowed g bs number len pid body bytes head ≡ Some (with_content pid c, rest)
     allowed = ap (read_as (with_content pid)) is
 
-    pub skim-found : IsContent s bs number len pid body bytes head (with_content pid c) rest
-    skim-found = content-found s bs number len pid body bytes head (with_content pid c) rest allowed
+    pub skim-found : IsContent g bs number len pid body bytes head (with_content pid c) rest
+    skim-found = content-found g bs number len pid body bytes head (with_content pid c) rest allowed
 
-    pub skim-told : (size : ℕ) → (len ≡ 8 + (length body - length rest)) × (size ≡ length bs - length rest) → is_pid pid ≡ true → IsReadOf s bs (with_content pid c) size
-    skim-told size exact word = rw exact.1 (frame-answered s bs number len pid body bytes head (with_content pid c) rest allowed exact.0 word).0
+    pub skim-told : (size : ℕ) → (len ≡ 8 + (length body - length rest)) × (size ≡ length bs - length rest) → is_pid pid ≡ true → IsReadOf g bs (with_content pid c) size
+    skim-told size exact word = rw exact.1 (frame-answered g bs number len pid body bytes head (with_content pid c) rest allowed exact.0 word).0
 
 -- the bytes of a frame that was read stand at the front
-pub frame-taken : (s : Settings) (bs : List ℕ) (f : Frame) (n : ℕ) → AreBytes bs → IsReadOf s bs f n → take n bs ≡ bytes_of f
-frame-taken s bs f n bytes read =
-    ap (take n) (frame-stands s bs f (drop n bs) bytes read.found).bytes
+pub frame-taken : (g : Format) (bs : List ℕ) (f : Frame) (n : ℕ) → AreBytes bs → IsReadOf g bs f n → take n bs ≡ bytes_of f
+frame-taken g bs f n bytes read =
+    ap (take n) (frame-stands g bs f (drop n bs) bytes read.found).bytes
     ∙ ap (λ (m : ℕ). take m (bytes_of f ++ drop n bs)) read.size
     ∙ take-append_seam (bytes_of f) (drop n bs)

@@ -1,16 +1,21 @@
 -- Entries that are spelled one behind the other, by place.
-use Rattle.std.proofs.Common.{◌≡◌, ℕ, zero, suc, ◌+◌, ◌≤◌, Bool, true, ◌&&◌, List, [], ◌∷◌, ◌++◌, length, drop, flat_map, slice_get, Option, Some, Vec, refl, sym, ap, subst, ◌∙◌, arith, add-one, append_assoc, length-append}
-use Rattle.std.proofs.lemmas.List.{append-nil, drop_all}
+use Rattle.std.proofs.Common.{◌≡◌, ℕ, zero, suc, ◌+◌, ◌-◌, ◌<◌, ◌≤◌, Bool, true, ◌&&◌, List, [], ◌∷◌, ◌++◌, length, drop, flat_map, slice_get, Option, Some, Vec, refl, sym, ap, subst, ◌∙◌, arith, add-one, append_assoc, length-append}
+use Rattle.std.proofs.lemmas.List.{append-nil, drop_all, length-drop}
+use Rattle.std.proofs.Math.Nat.{mod-eq_of_lt}
 use Rattle.std.specs.List.{list_all}
 use Rattle.std.specs.Map.{keys_of, values_of}
 use Rattle.keys.specs.Cells.{Codec, number, counted}
 use Rattle.keys.specs.Sizes.{pid_size}
 use Rattle.keys.proofs.CellLemmas.{length-counted}
 use Rattle.delta_chain.proofs.Places.{drop_pair}
-use Rattle.frame_codec.specs.Appended.{HasRoomFor, IsAppended, IsCount, AreSpellable}
-use Rattle.frame_codec.specs.Codecs.{both, listed, flagged}
-use Rattle.frame_codec.specs.Frame.{full, delta, header}
+use Rattle.frame_codec.specs.Appended.{HasRoomFor, IsAppended, IsCount, IsShortCount, AreSpellable}
+use Rattle.frame_codec.specs.declared.format.Spelling.{Spelling}
+use Rattle.frame_codec.specs.declared.format.Spelling.TheVariants.{Whole, Shared}
+use Rattle.frame_codec.specs.Codecs.{both, flagged, common, sharing}
+use Rattle.frame_codec.specs.Frame.{spell_base, based, full, delta, header}
 use Rattle.frame_codec.specs.Sized.{framed}
+use Rattle.frame_codec.proofs.EachLemmas.{keyed}
+use Rattle.frame_codec.proofs.ShareLemmas.{common-le}
 
 -- ---- bytes behind bytes
 
@@ -31,11 +36,41 @@ module _ {Z : Type 0} where
         room = omega arith;
       }
 
+-- what is left of the whole is to come; what was before it was appended to what stood there
+pub record IsPartOf {Z : Type 0} (whole left : List ℕ) (old now : Vec ℕ Z) : Type 0 where
+  pub done : List ℕ
+  pub appended : IsAppended old now done
+  pub all : done ++ left ≡ whole
+
+module _ {Z : Type 0} (whole : List ℕ) where
+  pub part-none : (out : Vec ℕ Z) → IsPartOf whole whole out out
+  part-none out = record { done = []; appended = appended-none out; all = refl }
+
+  pub part-room : (left : List ℕ) (old now : Vec ℕ Z) → HasRoomFor old (length whole) → IsPartOf whole left old now → HasRoomFor now (length left)
+  part-room left old now room part =
+      let all : length (part.done ++ left) ≡ length whole = ap length part.all in
+      let joined = length-append part.done left in
+      let len = part.appended.len in
+      let more = part.appended.room in
+      omega arith
+
+  pub part-next : (left this rest : List ℕ) (old now new : Vec ℕ Z) → left ≡ this ++ rest → IsPartOf whole left old now → IsAppended now new this → IsPartOf whole rest old new
+  part-next left this rest old now new parts part more = record {
+    done = part.done ++ this;
+    appended = appended-on old now new part.done this part.appended more;
+    all = append_assoc part.done this rest ∙ ap (λ (zs : List ℕ). part.done ++ zs) (sym parts) ∙ part.all;
+  }
+
+  pub part-done : (left : List ℕ) (old now : Vec ℕ Z) → left ≡ [] → IsPartOf whole left old now → IsAppended old now whole
+  part-done left old now none part =
+      let same : part.done ≡ whole = sym (append-nil part.done) ∙ ap (λ (zs : List ℕ). part.done ++ zs) (sym none) ∙ part.all in
+      rw same at part.appended
+
 -- ---- what stands at a place
 
 module _ {X : Type 0} where
   pub spellable-at : (cell : Codec X) (es : List (List ℕ × X)) (at : ℕ) (k : List ℕ) (v : X) → AreSpellable cell es
-      → slice_get (keys_of es) at ≡ Some k → slice_get (values_of es) at ≡ Some v → IsCount (length k) × IsCount (length (cell.spell v))
+      → slice_get (keys_of es) at ≡ Some k → slice_get (values_of es) at ≡ Some v → IsShortCount (length k) × IsCount (length (cell.spell v))
   spellable-at cell [] at k v h i j = absurd (cc)
   spellable-at cell (e ∷ es) zero k v h i j =
       let s : e.0 ≡ k = cc in
@@ -54,63 +89,83 @@ module _ {X : Type 0} where
       → list_all test (drop at es) ≡ list_all test es → list_all test es ≡ true
   tested-done test es at l h = sym h ∙ ap (list_all test) (drop_all at es l)
 
-module _ {X : Type 0} (cell : Codec X) (es : List (List ℕ × X)) where
-  -- the spellings of the entries from a place on
-  abbrev pub spelled_from : ℕ → List ℕ
-  spelled_from at = flat_map (both counted cell).spell (drop at es)
+base-behind : {X : Type 0} (spelling : Spelling) (cell : Codec X) (before k : List ℕ) (v : X) (es : List (List ℕ × X))
+    → spell_base spelling cell before ((k, v) ∷ es) ≡ ((keyed spelling before).spell k ++ cell.spell v) ++ spell_base spelling cell k es
+base-behind Whole cell before k v es = refl
+base-behind Shared cell before k v es = refl
 
-  spelled-behind : (at : ℕ) (k : List ℕ) (v : X) → slice_get (keys_of es) at ≡ Some k → slice_get (values_of es) at ≡ Some v
-      → spelled_from at ≡ (counted.spell k ++ cell.spell v) ++ spelled_from (at + 1)
-  spelled-behind at k v i j = rw add-one (ap (flat_map (both counted cell).spell) (drop_pair es at k v i j))
+base-at_end : {X : Type 0} (spelling : Spelling) (cell : Codec X) (before : List ℕ) → spell_base spelling cell before [] ≡ []
+base-at_end Whole cell before = refl
+base-at_end Shared cell before = refl
 
-  pub length-behind : (at : ℕ) (k : List ℕ) (v : X) → slice_get (keys_of es) at ≡ Some k → slice_get (values_of es) at ≡ Some v
-      → length (spelled_from at) ≡ 2 + length k + length (cell.spell v) + length (spelled_from (at + 1))
-  length-behind at k v i j =
-      let all : length (spelled_from at) ≡ length ((counted.spell k ++ cell.spell v) ++ spelled_from (at + 1)) = ap length (spelled-behind at k v i j) in
-      let outer = length-append (counted.spell k ++ cell.spell v) (spelled_from (at + 1)) in
-      let inner = length-append (counted.spell k) (cell.spell v) in
-      let key = length-counted k in
+module _ {X : Type 0} (spelling : Spelling) (cell : Codec X) (low : List ℕ) (es : List (List ℕ × X)) where
+  -- the spellings of the entries from a place on, the first by the key before it
+  abbrev pub spelled_from : List ℕ → ℕ → List ℕ
+  spelled_from before at = spell_base spelling cell before (drop at es)
+
+  spelled-behind : (before : List ℕ) (at : ℕ) (k : List ℕ) (v : X) → slice_get (keys_of es) at ≡ Some k → slice_get (values_of es) at ≡ Some v
+      → spelled_from before at ≡ ((keyed spelling before).spell k ++ cell.spell v) ++ spelled_from k (at + 1)
+  spelled-behind before at k v i j = rw add-one (ap (spell_base spelling cell before) (drop_pair es at k v i j) ∙ base-behind spelling cell before k v (drop (suc at) es))
+
+  pub length-behind : (before : List ℕ) (at : ℕ) (k : List ℕ) (v : X) → slice_get (keys_of es) at ≡ Some k → slice_get (values_of es) at ≡ Some v
+      → length (spelled_from before at) ≡ length ((keyed spelling before).spell k) + length (cell.spell v) + length (spelled_from k (at + 1))
+  length-behind before at k v i j =
+      let all : length (spelled_from before at) ≡ length (((keyed spelling before).spell k ++ cell.spell v) ++ spelled_from k (at + 1)) = ap length (spelled-behind before at k v i j) in
+      let outer = length-append ((keyed spelling before).spell k ++ cell.spell v) (spelled_from k (at + 1)) in
+      let inner = length-append ((keyed spelling before).spell k) (cell.spell v) in
       omega arith
 
-  -- the entries before this place were appended to what stood there before the first of them
-  pub record IsUpTo {Z : Type 0} (at : ℕ) (old : Vec ℕ Z) (now : Vec ℕ Z) : Type 0 where
-    pub done : List ℕ
-    pub appended : IsAppended old now done
-    pub all : done ++ spelled_from at ≡ spelled_from 0
+  pub spelled-at_end : (before : List ℕ) (at : ℕ) → length es ≤ at → spelled_from before at ≡ []
+  spelled-at_end before at l = ap (spell_base spelling cell before) (drop_all at es l) ∙ base-at_end spelling cell before
+
+  -- the entries before this place were appended to what stood there before the first of them, and the next is spelled by this key
+  abbrev pub IsUpTo : {Z : Type 0} → List ℕ → ℕ → Vec ℕ Z → Vec ℕ Z → Type 0
+  IsUpTo before at old now = IsPartOf (spelled_from low 0) (spelled_from before at) old now
 
   module _ {Z : Type 0} where
-    pub upto-none : (out : Vec ℕ Z) → IsUpTo 0 out out
-    upto-none out = record { done = []; appended = appended-none out; all = refl }
+    pub upto-none : (out : Vec ℕ Z) → IsUpTo low 0 out out
+    upto-none out = part-none (spelled_from low 0) out
 
-    pub upto-room : (at : ℕ) (old now : Vec ℕ Z) (k : List ℕ) (v : X) → HasRoomFor old (length (spelled_from 0)) → IsUpTo at old now
-        → slice_get (keys_of es) at ≡ Some k → slice_get (values_of es) at ≡ Some v → HasRoomFor now (2 + length k + length (cell.spell v))
-    upto-room at old now k v room up i j =
-        let all : length (up.done ++ spelled_from at) ≡ length (spelled_from 0) = ap length up.all in
-        let joined = length-append up.done (spelled_from at) in
-        let behind = length-behind at k v i j in
-        let len = up.appended.len in
-        let more = up.appended.room in
-        omega arith
+    module _ (before : List ℕ) (at : ℕ) (old now : Vec ℕ Z) (up : IsUpTo before at old now) where
+      pub upto-room : (k : List ℕ) (v : X) → HasRoomFor old (length (spelled_from low 0))
+          → slice_get (keys_of es) at ≡ Some k → slice_get (values_of es) at ≡ Some v → HasRoomFor now (length ((keyed spelling before).spell k) + length (cell.spell v))
+      upto-room k v room i j =
+          let left = part-room (spelled_from low 0) (spelled_from before at) old now room up in
+          let behind = length-behind before at k v i j in
+          omega arith
 
-    pub upto-next : (at : ℕ) (old now mid new : Vec ℕ Z) (k : List ℕ) (v : X) → IsUpTo at old now
-        → slice_get (keys_of es) at ≡ Some k → slice_get (values_of es) at ≡ Some v
-        → IsAppended now mid (counted.spell k) → IsAppended mid new (cell.spell v) → IsUpTo (at + 1) old new
-    upto-next at old now mid new k v up i j key value =
-        let both_of : IsAppended now new (counted.spell k ++ cell.spell v) = appended-on now mid new (counted.spell k) (cell.spell v) key value in
-        record {
-          done = up.done ++ (counted.spell k ++ cell.spell v);
-          appended = appended-on old now new up.done (counted.spell k ++ cell.spell v) up.appended both_of;
-          all =
-              append_assoc up.done (counted.spell k ++ cell.spell v) (spelled_from (at + 1))
-              ∙ ap (λ (zs : List ℕ). up.done ++ zs) (sym (spelled-behind at k v i j))
-              ∙ up.all;
-        }
+      pub upto-next : (mid new : Vec ℕ Z) (k : List ℕ) (v : X) → slice_get (keys_of es) at ≡ Some k → slice_get (values_of es) at ≡ Some v
+          → IsAppended now mid ((keyed spelling before).spell k) → IsAppended mid new (cell.spell v) → IsUpTo k (at + 1) old new
+      upto-next mid new k v i j key value =
+          part-next (spelled_from low 0) (spelled_from before at) ((keyed spelling before).spell k ++ cell.spell v) (spelled_from k (at + 1)) old now new (spelled-behind before at k v i j) up
+          (appended-on now mid new ((keyed spelling before).spell k) (cell.spell v) key value)
 
-    pub upto-done : (at : ℕ) (old now : Vec ℕ Z) → length es ≤ at → IsUpTo at old now → IsAppended old now (flat_map (both counted cell).spell es)
-    upto-done at old now l up =
-        let none : spelled_from at ≡ [] = ap (flat_map (both counted cell).spell) (drop_all at es l) in
-        let same : up.done ≡ spelled_from 0 = sym (append-nil up.done) ∙ ap (λ (zs : List ℕ). up.done ++ zs) (sym none) ∙ up.all in
-        rw same at up.appended
+      pub upto-done : length es ≤ at → IsAppended old now (spell_base spelling cell low es)
+      upto-done l = part-done (spelled_from low 0) (spelled_from before at) old now (spelled-at_end before at l) up
+
+-- one byte is its own spelling
+byte_spelled : (n : ℕ) → n < 256 → (number 1).spell n ≡ n ∷ []
+byte_spelled n h = ap (λ (m : ℕ). m ∷ []) (mod-eq_of_lt h)
+
+-- what is shared, how long the rest is, and the rest
+pub sharing-appended : {Z : Type 0} (before k : List ℕ) (old one two new : Vec ℕ Z) (shared count : ℕ) (rest : List ℕ) → length k < 256
+    → shared ≡ common before k → rest ≡ drop shared k → count ≡ length rest
+    → IsAppended old one (shared ∷ []) → IsAppended one two (count ∷ []) → IsAppended two new rest → IsAppended old new ((sharing before).spell k)
+sharing-appended before k old one two new shared count rest few e r c first second third =
+    let within = (common-le before k).1 in
+    let left : length (drop (common before k) k) ≡ length k - common before k = length-drop (common before k) k in
+    let ends : rest ≡ drop (common before k) k = r ∙ ap (λ (n : ℕ). drop n k) e in
+    let long : count ≡ length (drop (common before k) k) = c ∙ ap length ends in
+    let of_shared : shared ∷ [] ≡ (number 1).spell (common before k) = ap (λ (n : ℕ). n ∷ []) e ∙ sym (byte_spelled (common before k) (omega arith)) in
+    let of_count : count ∷ [] ≡ (number 1).spell (length (drop (common before k) k)) = ap (λ (n : ℕ). n ∷ []) long ∙ sym (byte_spelled (length (drop (common before k) k)) (omega arith)) in
+    let all = appended-on old one new (shared ∷ []) ((count ∷ []) ++ rest) first (appended-on one two new (count ∷ []) rest second third) in
+    let n : ℕ = common before k in
+    let left_of : List ℕ = drop n k in
+    let same : shared ∷ count ∷ rest ≡ (sharing before).spell k =
+    ap (λ (cs : List ℕ). cs ++ (count ∷ rest)) of_shared
+    ∙ ap (λ (cs : List ℕ). (number 1).spell n ++ (cs ++ rest)) of_count
+    ∙ ap (λ (cs : List ℕ). (number 1).spell n ++ ((number 1).spell (length left_of) ++ cs)) ends in
+    subst (λ (cs : List ℕ). IsAppended old new cs) same all
 
 -- ---- frames
 
@@ -125,16 +180,16 @@ module _ {Z : Type 0} {V : Type 0} (cell : Codec V) (kind pid n m : ℕ) (old mi
   counts : {X : Type 0} (a : Vec ℕ Z) (es : List X) → m ≡ length es → IsAppended a b ((number 2).spell m) → IsAppended a b ((number 2).spell (length es))
   counts a es e h = subst (λ k. IsAppended a b ((number 2).spell k)) e h
 
-  pub full-framed : (a : Vec ℕ Z) (low : List ℕ) (base : List (List ℕ × V)) → n ≡ 4 + length low + length (flat_map (both counted cell).spell base) → m ≡ length base
+  pub full-framed : (spelling : Spelling) (a : Vec ℕ Z) (low : List ℕ) (base : List (List ℕ × V)) → n ≡ 4 + length low + length (spell_base spelling cell low base) → m ≡ length base
       → IsAppended old mid (header.spell ((kind, pid_size + n), pid)) → IsAppended mid a (counted.spell low) → IsAppended a b ((number 2).spell m)
-      → IsAppended b new (flat_map (both counted cell).spell base) → new.items ≡ old.items ++ framed kind pid ((full cell).spell (low, base))
-  full-framed a low base e f head key count entries =
-      let all : IsAppended a new ((listed (both counted cell)).spell base) =
-      appended-on a b new ((number 2).spell (length base)) (flat_map (both counted cell).spell base) (counts a base f count) entries in
-      let behind : IsAppended mid new ((full cell).spell (low, base)) = appended-on mid a new (counted.spell low) ((listed (both counted cell)).spell base) key all in
-      let joined = length-append (counted.spell low) ((listed (both counted cell)).spell base) in
+      → IsAppended b new (spell_base spelling cell low base) → new.items ≡ old.items ++ framed kind pid ((full spelling cell).spell (low, base))
+  full-framed spelling a low base e f head key count entries =
+      let all : IsAppended a new ((based spelling cell low).spell base) =
+      appended-on a b new ((number 2).spell (length base)) (spell_base spelling cell low base) (counts a base f count) entries in
+      let behind : IsAppended mid new ((full spelling cell).spell (low, base)) = appended-on mid a new (counted.spell low) ((based spelling cell low).spell base) key all in
+      let joined = length-append (counted.spell low) ((based spelling cell low).spell base) in
       let long = length-counted low in
-      framed-whole old mid new kind pid n ((full cell).spell (low, base)) (omega arith) head behind
+      framed-whole old mid new kind pid n ((full spelling cell).spell (low, base)) (omega arith) head behind
 
   pub delta-framed : (run : List (List ℕ × Option V)) → n ≡ 2 + length (flat_map (both counted (flagged cell)).spell run) → m ≡ length run
       → IsAppended old mid (header.spell ((kind, pid_size + n), pid)) → IsAppended mid b ((number 2).spell m)

@@ -18,6 +18,10 @@ pub record IsAppended {Z : Type 0} (old : Vec ℕ Z) (new : Vec ℕ Z) (bytes : 
 abbrev pub IsCount : ℕ → Type 0
 IsCount n = n < 65536
 
+-- a length that one byte can tell
+abbrev pub IsShortCount : ℕ → Type 0
+IsShortCount n = n < 256
+
 -- of each entry the key, and the spelling of what it has, are short enough for their lengths to be told
 abbrev pub AreSpellable : {X : Type 0} → Codec X → Pairs X → Type 0
-AreSpellable cell es = AllByRecursion (λ e. IsCount (length e.0) × IsCount (length (cell.spell e.1))) es
+AreSpellable cell es = AllByRecursion (λ e. IsShortCount (length e.0) × IsCount (length (cell.spell e.1))) es

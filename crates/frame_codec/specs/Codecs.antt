@@ -1,13 +1,21 @@
 -- Codecs that are made of others.
-use Rattle.std.specs.Prelude.{ℕ, zero, suc, List, [], ◌∷◌, ◌++◌, length, flat_map, Option, Some, None}
-use Rattle.keys.specs.Bytes.{Bytes}
-use Rattle.keys.specs.Cells.{Codec, read_on, read_as, number}
+use Rattle.std.specs.Prelude.{ℕ, zero, suc, nat_eq, ◌==◌, List, [], ◌∷◌, ◌++◌, length, take, drop, flat_map, Option, Some, None}
+use Rattle.std.specs.List.{common_prefix_len}
+use Rattle.keys.specs.Bytes.{Bytes, Pairs}
+use Rattle.keys.specs.Cells.{Codec, read_on, read_as, read_where, number, read_bytes}
 
 -- two things, one behind the other
 abbrev pub both : {X Y : Type 0} → Codec X → Codec Y → Codec (X × Y)
 both c d = record {
   spell = λ p. c.spell p.0 ++ d.spell p.1;
   read = λ bs. read_on (c.read bs) (λ x rest. read_as (λ y. (x, y)) (d.read rest));
+}
+
+-- two things, the second spelled by the first
+abbrev pub both_by : {X Y : Type 0} → Codec X → (X → Codec Y) → Codec (X × Y)
+both_by c d = record {
+  spell = λ p. c.spell p.0 ++ (d p.0).spell p.1;
+  read = λ bs. read_on (c.read bs) (λ x rest. read_as (λ y. (x, y)) ((d x).read rest));
 }
 
 -- n things, each behind the one before it
@@ -37,3 +45,38 @@ read_flag c (suc (suc n) ∷ bs) = None
 -- a cell that may be absent
 abbrev pub flagged : {V : Type 0} → Codec V → Codec (Option V)
 flagged c = record { spell = spell_flag c; read = read_flag c }
+
+-- ---- keys that share beginnings
+
+-- bytes: how many there are, in one byte, and then they themselves
+abbrev pub counted_short : Codec Bytes
+counted_short = record { spell = λ bs. (number 1).spell (length bs) ++ bs; read = λ bs. read_on ((number 1).read bs) read_bytes }
+
+-- how long the longest common beginning of two keys is
+abbrev pub common : Bytes → Bytes → ℕ
+common = common_prefix_len nat_eq
+
+-- how many bytes a key shares with the one before, in one byte, and the rest of it
+abbrev pub shared_and_rest : Codec (ℕ × Bytes)
+shared_and_rest = both (number 1) counted_short
+
+-- the key that begins with so many bytes of the one before, and goes on with the rest
+abbrev pub rejoined : Bytes → ℕ × Bytes → Bytes
+rejoined before p = take p.0 before ++ p.1
+
+-- a key by the one before: it shares all that the two have in common at their beginnings, and no other number is read
+abbrev pub sharing : Bytes → Codec Bytes
+sharing before = record {
+  spell = λ k. shared_and_rest.spell (common before k, drop (common before k) k);
+  read = λ bs. read_as (rejoined before) (read_where (λ p. common before (rejoined before p) == p.0) (shared_and_rest.read bs));
+}
+
+-- entries, each spelled by the key before it, and the first by the one given
+abbrev pub spell_in_turn : {V : Type 0} → (Bytes → Codec (Bytes × V)) → Bytes → Pairs V → Bytes
+spell_in_turn entry before [] = []
+spell_in_turn entry before (e ∷ es) = (entry before).spell e ++ spell_in_turn entry e.0 es
+
+-- n such entries as they are read
+abbrev pub read_in_turn : {V : Type 0} → (Bytes → Codec (Bytes × V)) → Bytes → ℕ → Bytes → Option (Pairs V × Bytes)
+read_in_turn entry before zero bs = Some ([], bs)
+read_in_turn entry before (suc n) bs = read_on ((entry before).read bs) (λ e rest. read_as (λ es. e ∷ es) (read_in_turn entry e.0 n rest))

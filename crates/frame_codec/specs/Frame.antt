@@ -1,21 +1,25 @@
--- A frame of the log: what it says of a page, its bytes, and which frames a store with given settings may have.
--- A further kind is a further case of each definition on `Content` and a further line of `read_content`. Where a log has a
--- version, `is_frame` and `read_frame` are to take it, and `is_frame` to ask for a kind that the version knows.
-use Rattle.std.specs.Prelude.{ℕ, ◌+◌, ◌^◌, Bool, true, ◌&&◌, nat_le, nat_lt, [], ◌++◌, length}
+-- A frame of the log: what it says of a page, its bytes, and which frames a log with given settings and of a given version may have.
+-- A further kind is a further case of each definition on `Content` and a further line of `read_content`.
+use Rattle.std.specs.Prelude.{ℕ, ◌+◌, ◌^◌, Bool, true, false, ◌&&◌, nat_le, nat_lt, [], ◌++◌, length, flat_map, Option}
 use Rattle.std.specs.List.{list_all}
 use Rattle.std.specs.Map.{keys_of}
 use Rattle.keys.specs.Bytes.{Bytes, Pairs, Changes, Names}
-use Rattle.keys.specs.Cells.{Codec, number, counted, value_cell, pid_cell}
+use Rattle.keys.specs.Cells.{Codec, read_on, number, counted, value_cell, pid_cell}
 use Rattle.keys.specs.Sizes.{pid_size}
 use Rattle.keys.specs.declared.settings.Settings.{Settings}
 use Rattle.index_page.specs.Rules.{do_rise, is_short_value, of_cell}
-use Rattle.frame_codec.specs.Codecs.{both, listed, flagged}
+use Rattle.frame_codec.specs.declared.format.Format.{Format}
+use Rattle.frame_codec.specs.declared.format.Spelling.{Spelling}
+use Rattle.frame_codec.specs.declared.format.Spelling.TheVariants.{Whole, Shared}
+use Rattle.frame_codec.specs.declared.format.Version.{Version}
+use Rattle.frame_codec.specs.declared.format.Version.TheVariants.{One, Two}
+use Rattle.frame_codec.specs.Codecs.{both, both_by, read_each, listed, flagged, sharing, spell_in_turn, read_in_turn}
 
--- the page is a base under a low key; or it got a run; or there is no such page
+-- the page is a base under a low key, with its keys spelled so; or it got a run; or there is no such page
 pub data Content : Type 0 where
-  FullLeaf : Bytes → Pairs Bytes → Content
+  FullLeaf : Spelling → Bytes → Pairs Bytes → Content
   DeltaLeaf : Changes Bytes → Content
-  FullIndex : Bytes → Names → Content
+  FullIndex : Spelling → Bytes → Names → Content
   DeltaIndex : Changes ℕ → Content
   Free : Content
 
@@ -26,27 +30,53 @@ pub record Frame : Type 0 where
 
 -- ---- bytes
 
--- a low key and a base, of keys with their cells
-abbrev pub full : {V : Type 0} → Codec V → Codec (Bytes × Pairs V)
-full cell = both counted (listed (both counted cell))
+-- the entries of a base under its low key: each its key, and its cell
+abbrev pub spell_base : {V : Type 0} → Spelling → Codec V → Bytes → Pairs V → Bytes
+spell_base Whole cell low es = flat_map (both counted cell).spell es
+spell_base Shared cell low es = spell_in_turn (λ before. both (sharing before) cell) low es
+
+-- so many of them as they are read
+abbrev pub read_base : {V : Type 0} → Spelling → Codec V → Bytes → ℕ → Bytes → Option (Pairs V × Bytes)
+read_base Whole cell low = read_each (both counted cell)
+read_base Shared cell low = read_in_turn (λ before. both (sharing before) cell) low
+
+-- a base: how many entries it has, and then these
+abbrev pub based : {V : Type 0} → Spelling → Codec V → Bytes → Codec (Pairs V)
+based spelling cell low = record {
+  spell = λ es. (number 2).spell (length es) ++ spell_base spelling cell low es;
+  read = λ bs. read_on ((number 2).read bs) (read_base spelling cell low);
+}
+
+-- a low key and a base under it
+abbrev pub full : {V : Type 0} → Spelling → Codec V → Codec (Bytes × Pairs V)
+full spelling cell = both_by counted (based spelling cell)
 
 -- a run, of keys with their cells or none
 abbrev pub delta : {V : Type 0} → Codec V → Codec (Changes V)
 delta cell = listed (both counted (flagged cell))
 
+-- the number that names the kind of a base's frame: of a leaf, and of an index page
+abbrev pub leaf_kind : Spelling → ℕ
+leaf_kind Whole = 1
+leaf_kind Shared = 6
+
+abbrev pub index_kind : Spelling → ℕ
+index_kind Whole = 3
+index_kind Shared = 7
+
 -- the number that names the kind
 abbrev pub kind_of : Content → ℕ
-kind_of (FullLeaf low base) = 1
+kind_of (FullLeaf spelling low base) = leaf_kind spelling
 kind_of (DeltaLeaf run) = 2
-kind_of (FullIndex low base) = 3
+kind_of (FullIndex spelling low base) = index_kind spelling
 kind_of (DeltaIndex run) = 4
 kind_of Free = 5
 
 -- the bytes behind the pid
 abbrev pub content_bytes : Content → Bytes
-content_bytes (FullLeaf low base) = (full value_cell).spell (low, base)
+content_bytes (FullLeaf spelling low base) = (full spelling value_cell).spell (low, base)
 content_bytes (DeltaLeaf run) = (delta value_cell).spell run
-content_bytes (FullIndex low base) = (full pid_cell).spell (low, base)
+content_bytes (FullIndex spelling low base) = (full spelling pid_cell).spell (low, base)
 content_bytes (DeltaIndex run) = (delta pid_cell).spell run
 content_bytes Free = []
 
@@ -82,12 +112,34 @@ is_run s is_short run = nat_lt 0 (length run) && are_entries s (of_cell is_short
 
 -- what is asked of a content, by its kind
 abbrev pub is_content : Settings → Content → Bool
-is_content s (FullLeaf low base) = is_full s (is_short_value s) low base
+is_content s (FullLeaf spelling low base) = is_full s (is_short_value s) low base
 is_content s (DeltaLeaf run) = is_run s (is_short_value s) run
-is_content s (FullIndex low base) = is_full s is_pid low base
+is_content s (FullIndex spelling low base) = is_full s is_pid low base
 is_content s (DeltaIndex run) = is_run s is_pid run
 is_content s Free = true
 
--- the frame is one that a store with these settings may have
-abbrev pub is_frame : Settings → Frame → Bool
-is_frame s f = is_pid f.pid && is_content s f.content
+-- ---- within a version
+
+-- a log of this version may have keys that are spelled so
+abbrev pub is_known : Version → Spelling → Bool
+is_known One Whole = true
+is_known One Shared = false
+is_known Two spelling = true
+
+-- and so the keys of the content are
+abbrev pub is_readable : Version → Content → Bool
+is_readable version (FullLeaf spelling low base) = is_known version spelling
+is_readable version (DeltaLeaf run) = true
+is_readable version (FullIndex spelling low base) = is_known version spelling
+is_readable version (DeltaIndex run) = true
+is_readable version Free = true
+
+-- ---- within a format
+
+-- the content is one that a log of this format may have
+abbrev pub is_allowed : Format → Content → Bool
+is_allowed format c = is_readable format.version c && is_content format.settings c
+
+-- and so is the frame
+abbrev pub is_frame : Format → Frame → Bool
+is_frame format f = is_pid f.pid && is_allowed format f.content

@@ -3,23 +3,26 @@ use Rattle.std.specs.Prelude.{◌≡◌, ℕ, ◌+◌, true, ◌==◌, if◌then
 use Rattle.keys.specs.Bytes.{Bytes}
 use Rattle.keys.specs.Cells.{read_on, read_as, read_where, value_cell, pid_cell}
 use Rattle.keys.specs.Sizes.{pid_size}
-use Rattle.keys.specs.declared.settings.Settings.{Settings}
+use Rattle.frame_codec.specs.declared.format.Format.{Format}
+use Rattle.frame_codec.specs.declared.format.Spelling.TheVariants.{Whole, Shared}
 use Rattle.frame_codec.specs.Frame.{Content, Frame, full, delta, content_bytes, header, bytes_of, is_frame}
 use Rattle.frame_codec.specs.Frame.Content.{FullLeaf, DeltaLeaf, FullIndex, DeltaIndex, Free}
 
--- the bytes begin with this frame, which is within the settings, and the rest stands behind it
-pub record BeginsWithFrame (s : Settings) (bs : Bytes) (f : Frame) (rest : Bytes) : Type 0 where
-  pub within : is_frame s f ≡ true
+-- the bytes begin with this frame, which a log of this format may have, and the rest stands behind it
+pub record BeginsWithFrame (format : Format) (bs : Bytes) (f : Frame) (rest : Bytes) : Type 0 where
+  pub within : is_frame format f ≡ true
   pub bytes : bs ≡ bytes_of f ++ rest
 
 -- the content of a frame of this kind
 abbrev pub read_content : ℕ → Bytes → Option (Content × Bytes)
 read_content kind bs =
-    if kind == 1 then read_as (λ p. FullLeaf p.0 p.1) ((full value_cell).read bs) else
+    if kind == 1 then read_as (λ p. FullLeaf Whole p.0 p.1) ((full Whole value_cell).read bs) else
     (if kind == 2 then read_as (λ run. DeltaLeaf run) ((delta value_cell).read bs) else
-    (if kind == 3 then read_as (λ p. FullIndex p.0 p.1) ((full pid_cell).read bs) else
+    (if kind == 3 then read_as (λ p. FullIndex Whole p.0 p.1) ((full Whole pid_cell).read bs) else
     (if kind == 4 then read_as (λ run. DeltaIndex run) ((delta pid_cell).read bs) else
-    (if kind == 5 then Some (Free, bs) else None))))
+    (if kind == 5 then Some (Free, bs) else
+    (if kind == 6 then read_as (λ p. FullLeaf Shared p.0 p.1) ((full Shared value_cell).read bs) else
+    (if kind == 7 then read_as (λ p. FullIndex Shared p.0 p.1) ((full Shared pid_cell).read bs) else None))))))
 
 -- the frame whose header this is, where its content has just the length that the header tells
 abbrev pub read_behind : (ℕ × ℕ) × ℕ → Bytes → Option (Frame × Bytes)
@@ -27,10 +30,10 @@ read_behind h bs =
     read_as (λ c. record { pid = h.1; content = c })
     (read_where (λ c. h.0.1 == pid_size + length (content_bytes c)) (read_content h.0.0 bs))
 
--- the frame that the bytes begin with, whatever the settings
+-- the frame that the bytes begin with, whatever the format
 abbrev pub read_any : Bytes → Option (Frame × Bytes)
 read_any bs = read_on (header.read bs) read_behind
 
--- the frame within the settings that the bytes begin with, and the bytes behind it
-abbrev pub read_frame : Settings → Bytes → Option (Frame × Bytes)
-read_frame s bs = read_where (is_frame s) (read_any bs)
+-- the frame of this format that the bytes begin with, and the bytes behind it
+abbrev pub read_frame : Format → Bytes → Option (Frame × Bytes)
+read_frame format bs = read_where (is_frame format) (read_any bs)

@@ -5,14 +5,15 @@ use Rattle.keys.specs.Limits.{first_bad_field}
 use Rattle.keys.specs.Sizes.{pid_size}
 use Rattle.keys.specs.declared.settings.Settings.{Settings}
 use Rattle.index_page.specs.Rules.{is_short_value, is_any_pid}
-use Rattle.frame_codec.specs.Frame.{Content, Frame, header, is_full, is_run, is_frame}
+use Rattle.frame_codec.specs.declared.format.Format.{Format}
+use Rattle.frame_codec.specs.Frame.{Content, Frame, header, is_full, is_run, is_readable, is_frame}
 use Rattle.frame_codec.specs.Frame.Content.{FullLeaf, DeltaLeaf, FullIndex, DeltaIndex, Free}
 
 -- what is asked of a content, but for its page ids
 abbrev pub has_sizes : Settings → Content → Bool
-has_sizes s (FullLeaf low base) = is_full s (is_short_value s) low base
+has_sizes s (FullLeaf spelling low base) = is_full s (is_short_value s) low base
 has_sizes s (DeltaLeaf run) = is_run s (is_short_value s) run
-has_sizes s (FullIndex low base) = is_full s is_any_pid low base
+has_sizes s (FullIndex spelling low base) = is_full s is_any_pid low base
 has_sizes s (DeltaIndex run) = is_run s is_any_pid run
 has_sizes s Free = true
 
@@ -20,9 +21,9 @@ has_sizes s Free = true
 abbrev pub IsSized : Content → Type 0
 IsSized c = (s : Settings) × (first_bad_field s ≡ None) × (has_sizes s c ≡ true)
 
--- the page ids are of 64 bits: it is a frame of each store that may have it by its sizes
+-- the page ids are of 64 bits: it is a frame of each log that may have its spelling, and whose store may have it by its sizes
 abbrev pub HasWords : Frame → Type 0
-HasWords f = (s : Settings) → has_sizes s f.content ≡ true → is_frame s f ≡ true
+HasWords f = (g : Format) → is_readable g.version f.content ≡ true → has_sizes g.settings f.content ≡ true → is_frame g f ≡ true
 
 -- a frame of this kind and pid, with these bytes behind the pid
 abbrev pub framed : ℕ → ℕ → Bytes → Bytes

@@ -1,4 +1,5 @@
 //! A frame of the log as a value, as a reader of segments keeps it.
+use crate::format::Spelling;
 use delta_chain::{Base, Run};
 use keys::{Key, Pid, Value};
 use std::alloc::Global;
@@ -7,9 +8,10 @@ use std::alloc::Global;
 /// definitions that it stands for.
 #[derive(Drop)]
 pub enum Frame {
-    /// The page is a leaf, with this base under this low key.
+    /// The page is a leaf, with this base under this low key; so are its keys spelled.
     FullLeaf {
         pid: Pid,
+        spelling: Spelling,
         low: Key<Global>,
         base: Base<Value<Global>, Global>,
     },
@@ -18,9 +20,10 @@ pub enum Frame {
         pid: Pid,
         run: Run<Value<Global>, Global>,
     },
-    /// The page is an index page, with this base under this low key.
+    /// The page is an index page, with this base under this low key; so are its keys spelled.
     FullIndex {
         pid: Pid,
+        spelling: Spelling,
         low: Key<Global>,
         base: Base<Pid, Global>,
     },

@@ -1,4 +1,8 @@
 //! The numbers by which frames tell their kinds.
+ghost use Rattle.std.specs.Prelude.{◌≡◌};
+ghost use Rattle.frame_codec.specs.Frame.{leaf_kind, index_kind};
+
+use crate::format::Spelling;
 
 pub(crate) const FULL_LEAF: u8 = 1;
 
@@ -9,3 +13,27 @@ pub(crate) const FULL_INDEX: u8 = 3;
 pub(crate) const DELTA_INDEX: u8 = 4;
 
 pub(crate) const FREE: u8 = 5;
+
+pub(crate) const SHARED_LEAF: u8 = 6;
+
+pub(crate) const SHARED_INDEX: u8 = 7;
+
+/// The kind of a leaf's base whose keys are spelled so.
+pub(crate) fn leaf_kind(spelling: Spelling) -> u8
+    ensures { result ≡ leaf_kind spelling }
+{
+    match spelling {
+        Spelling::Whole => FULL_LEAF,
+        Spelling::Shared => SHARED_LEAF,
+    }
+}
+
+/// The kind of an index page's base whose keys are spelled so.
+pub(crate) fn index_kind(spelling: Spelling) -> u8
+    ensures { result ≡ index_kind spelling }
+{
+    match spelling {
+        Spelling::Whole => FULL_INDEX,
+        Spelling::Shared => SHARED_INDEX,
+    }
+}

@@ -1,14 +1,18 @@
 //! What the definitions of `specs/` mean. Each law is the contract of a function with an empty body.
 ghost use Rattle.std.specs.Prelude.{◌≡◌, ℕ, ◌+◌, ◌<◌, ◌≤◌, ◌^◌, true, ◌++◌, length, Some, None};
 ghost use Rattle.std.specs.List.{AllByRecursion};
-ghost use Rattle.keys.specs.Bytes.{Bytes};
+ghost use Rattle.keys.specs.Bytes.{Bytes, Pairs, Names};
 ghost use Rattle.keys.specs.Cells.{AreBytes, IsReadBack, ReadsSpellings, value_cell, pid_cell};
 ghost use Rattle.keys.specs.Limits.{first_bad_field};
-ghost use Rattle.keys.specs.declared.settings.Settings.{Settings};
 ghost use Rattle.delta_chain.specs.Layers.{IsInOrder};
 ghost use Rattle.index_page.specs.Page.{Page};
 ghost use Rattle.index_page.specs.Rules.{IsShortValue, Fits};
-ghost use Rattle.frame_codec.specs.Frame.{Frame, bytes_of, is_frame};
+ghost use Rattle.keys.specs.declared.settings.Settings.{Settings};
+ghost use Rattle.frame_codec.specs.declared.format.Format.{Format};
+ghost use Rattle.frame_codec.specs.declared.format.Spelling.{Spelling};
+ghost use Rattle.frame_codec.specs.declared.format.Spelling.TheVariants.{Whole};
+ghost use Rattle.frame_codec.specs.declared.format.Version.TheVariants.{One, Two};
+ghost use Rattle.frame_codec.specs.Frame.{Frame, bytes_of, is_known, is_frame};
 ghost use Rattle.frame_codec.specs.Frame.Content.{FullLeaf, DeltaLeaf, FullIndex, DeltaIndex};
 ghost use Rattle.frame_codec.specs.Reading.{BeginsWithFrame, read_frame};
 ghost use Rattle.frame_codec.specs.Sizes.{size_of};
@@ -28,28 +32,37 @@ pub fn a_cell_is_read_back()
 
 /// A frame is read back from its bytes, whatever stands behind them.
 pub fn a_frame_is_read_back()
-    ensures { (s : Settings) (f : Frame) (rest : Bytes) → first_bad_field s ≡ None → is_frame s f ≡ true →
-        read_frame s (bytes_of f ++ rest) ≡ Some (f, rest) }
+    ensures { (g : Format) (f : Frame) (rest : Bytes) → first_bad_field g.settings ≡ None → is_frame g f ≡ true →
+        read_frame g (bytes_of f ++ rest) ≡ Some (f, rest) }
 {}
 
 /// A frame that is read of bytes is read of them too where more bytes follow.
 pub fn what_is_read_needs_no_byte_behind_it()
-    ensures { (s : Settings) (bytes : Bytes) (f : Frame) (rest more : Bytes) → read_frame s bytes ≡ Some (f, rest) →
-        read_frame s (bytes ++ more) ≡ Some (f, rest ++ more) }
+    ensures { (g : Format) (bytes : Bytes) (f : Frame) (rest more : Bytes) → read_frame g bytes ≡ Some (f, rest) →
+        read_frame g (bytes ++ more) ≡ Some (f, rest ++ more) }
 {}
 
 /// Two frames whose bytes begin alike are the same frame: no spelling begins another.
 pub fn a_frame_has_one_spelling()
-    ensures { (s : Settings) (f g : Frame) (behind other : Bytes) → first_bad_field s ≡ None →
-        is_frame s f ≡ true → is_frame s g ≡ true → bytes_of f ++ behind ≡ bytes_of g ++ other → (f ≡ g) × (behind ≡ other) }
+    ensures { (g : Format) (e f : Frame) (behind other : Bytes) → first_bad_field g.settings ≡ None →
+        is_frame g e ≡ true → is_frame g f ≡ true → bytes_of e ++ behind ≡ bytes_of f ++ other → (e ≡ f) × (behind ≡ other) }
 {}
 
 /// The reader finds a frame just where bytes begin with one, and it finds that frame.
 pub fn what_is_read_is_what_stands_there()
-    ensures found { (s : Settings) (bytes : Bytes) (f : Frame) (rest : Bytes) → AreBytes bytes →
-        read_frame s bytes ≡ Some (f, rest) → BeginsWithFrame s bytes f rest }
-    ensures none { (s : Settings) (bytes : Bytes) (f : Frame) (rest : Bytes) → first_bad_field s ≡ None →
-        read_frame s bytes ≡ None → BeginsWithFrame s bytes f rest → ⊥ }
+    ensures found { (g : Format) (bytes : Bytes) (f : Frame) (rest : Bytes) → AreBytes bytes →
+        read_frame g bytes ≡ Some (f, rest) → BeginsWithFrame g bytes f rest }
+    ensures none { (g : Format) (bytes : Bytes) (f : Frame) (rest : Bytes) → first_bad_field g.settings ≡ None →
+        read_frame g bytes ≡ None → BeginsWithFrame g bytes f rest → ⊥ }
+{}
+
+/// A frame of a log of version 1 is one of version 2, and is read alike.
+pub fn version_two_knows_what_version_one_knows()
+    ensures frame { (s : Settings) (f : Frame) → is_frame (record { settings = s; version = One }) f ≡ true →
+        is_frame (record { settings = s; version = Two }) f ≡ true }
+    ensures read { (s : Settings) (bytes : Bytes) (f : Frame) (rest : Bytes) →
+        read_frame (record { settings = s; version = One }) bytes ≡ Some (f, rest) →
+        read_frame (record { settings = s; version = Two }) bytes ≡ Some (f, rest) }
 {}
 
 /// A frame has as many bytes as its fields tell.
@@ -57,14 +70,23 @@ pub fn a_frame_has_its_size()
     ensures { (f : Frame) → length (bytes_of f) ≡ size_of f.content }
 {}
 
-/// The base of a page that is in order and within the settings is so as a frame, and so is each of its runs.
+/// A base takes no more bytes where its keys share beginnings than where they are whole.
+pub fn shared_keys_take_no_more()
+    ensures leaf { (spelling : Spelling) (low : Bytes) (base : Pairs Bytes) →
+        size_of (FullLeaf spelling low base) ≤ size_of (FullLeaf Whole low base) }
+    ensures index_page { (spelling : Spelling) (low : Bytes) (base : Names) →
+        size_of (FullIndex spelling low base) ≤ size_of (FullIndex Whole low base) }
+{}
+
+/// The base of a page that is in order and within the settings is so as a frame, with its keys spelled in each way that the
+/// version knows, and so is each of its runs.
 pub fn a_page_has_frames_within_settings()
-    ensures leaf { (s : Settings) (pid : ℕ) (p : Page Bytes) → pid < 2 ^ 64 → length p.low ≤ s.max_key → IsInOrder p.layers →
-        Fits s (IsShortValue s) p →
-        (is_frame s (record { pid = pid; content = FullLeaf p.low p.layers.base }) ≡ true) ×
-        AllByRecursion (λ run. is_frame s (record { pid = pid; content = DeltaLeaf run }) ≡ true) p.layers.runs }
-    ensures index_page { (s : Settings) (pid : ℕ) (p : Page ℕ) → pid < 2 ^ 64 → length p.low ≤ s.max_key → IsInOrder p.layers →
-        Fits s (λ child. child < 2 ^ 64) p →
-        (is_frame s (record { pid = pid; content = FullIndex p.low p.layers.base }) ≡ true) ×
-        AllByRecursion (λ run. is_frame s (record { pid = pid; content = DeltaIndex run }) ≡ true) p.layers.runs }
+    ensures leaf { (g : Format) (spelling : Spelling) (pid : ℕ) (p : Page Bytes) → is_known g.version spelling ≡ true → pid < 2 ^ 64 →
+        length p.low ≤ g.settings.max_key → IsInOrder p.layers → Fits g.settings (IsShortValue g.settings) p →
+        (is_frame g (record { pid = pid; content = FullLeaf spelling p.low p.layers.base }) ≡ true) ×
+        AllByRecursion (λ run. is_frame g (record { pid = pid; content = DeltaLeaf run }) ≡ true) p.layers.runs }
+    ensures index_page { (g : Format) (spelling : Spelling) (pid : ℕ) (p : Page ℕ) → is_known g.version spelling ≡ true → pid < 2 ^ 64 →
+        length p.low ≤ g.settings.max_key → IsInOrder p.layers → Fits g.settings (λ child. child < 2 ^ 64) p →
+        (is_frame g (record { pid = pid; content = FullIndex spelling p.low p.layers.base }) ≡ true) ×
+        AllByRecursion (λ run. is_frame g (record { pid = pid; content = DeltaIndex run }) ≡ true) p.layers.runs }
 {}

@@ -1,19 +1,22 @@
-//! What a frame of the log is: what each kind says of a page, its bytes, and which frames a store with given settings may
-//! have. Frames are read from bytes, whatever these are, and are written from a page's own base and runs.
+//! What a frame of the log is: what each kind says of a page, its bytes, and which frames a log with given settings and of a
+//! given version may have. Frames are read from bytes, whatever these are, and are written from a page's own base and runs.
 //!
 //! Laws: a frame is read back from its bytes; no frame's bytes begin another's; what is read is what stands there; how many
 //! bytes a frame has; the base and the runs of a page are frames. The same of cells.
 #![tactic(auto)]
 
 mod cell;
+pub mod format;
 pub mod frame;
 mod kinds;
+mod last_key;
 pub mod laws;
 mod parts;
 pub mod read;
 pub mod skim;
 pub mod write;
 
+pub use crate::format::{Format, Spelling, Version};
 pub use crate::frame::Frame;
 pub use crate::read::read_frame;
 pub use crate::skim::{FrameKind, Skimmed, skim_frame};

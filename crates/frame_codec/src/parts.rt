@@ -3,7 +3,8 @@
 ghost use Rattle.std.specs.Prelude.{◌≡◌, ◌≢◌, ◌+◌, ◌-◌, ◌≤◌, ◌∷◌, [], true, length, None, Some, MatchOption, IfSome};
 ghost use Rattle.keys.specs.Cells.{read_number, read_where, number, counted, pid_cell};
 ghost use Rattle.keys.specs.Sizes.{pid_size};
-ghost use Rattle.frame_codec.specs.Appended.{HasRoomFor, IsAppended, IsCount};
+ghost use Rattle.frame_codec.specs.Appended.{HasRoomFor, IsAppended, IsCount, IsShortCount};
+ghost use Rattle.frame_codec.specs.Codecs.{counted_short, common, sharing};
 ghost use Rattle.frame_codec.specs.Frame.{header, is_pid, is_key};
 
 use byteorder::{BigEndian, ByteOrder};
@@ -54,6 +55,19 @@ pub(crate) fn read_counted(bytes: &[u8]) -> Option<(&[u8], &[u8])>
     ensures { MatchOption result (counted.read bytes.now ≡ None) (λ p. counted.read bytes.now ≡ Some (p.0.now, p.1.now)) }
 {
     let (len, rest) = read_length(bytes)?;
+    if rest.len() < len {
+        return None;
+    }
+    Some(rest.split_at(len))
+}
+
+/// The bytes at the front whose number stands before them in one byte, with the bytes behind them.
+pub(crate) fn read_short(bytes: &[u8]) -> Option<(&[u8], &[u8])>
+    ensures bytes { MatchOption result (counted_short.read bytes.now ≡ None) (λ p. counted_short.read bytes.now ≡ Some (p.0.now, p.1.now)) }
+    ensures small { IfSome result (λ p. IsShortCount (length p.0.now)) }
+{
+    let (len, rest) = read_byte(bytes)?;
+    let len = len as usize;
     if rest.len() < len {
         return None;
     }
@@ -156,4 +170,39 @@ pub(crate) fn append_counted(out: &mut Vec<u8>, bytes: &[u8])
 {
     append_length(out, bytes.len());
     append(out, bytes);
+}
+
+// How many bytes the two begin with in common.
+fn common_len(one: &[u8], other: &[u8]) -> usize
+    ensures same { result ≡ common one.now other.now }
+    ensures within { result ≤ length other.now }
+{
+    let most = one.len().min(other.len());
+    for at in 0..most {
+        if one[at] != other[at] {
+            return at;
+        }
+    }
+    most
+}
+
+/// How many bytes the spelling of the key by the one before it takes.
+pub(crate) fn sharing_len(before: &[u8], key: &[u8]) -> usize
+    requires { IsShortCount (length key.now) }
+    ensures { result ≡ length ((sharing before.now).spell key.now) }
+{
+    2 + (key.len() - common_len(before, key))
+}
+
+/// Appends the key as it is spelled by the one before it. There is room for it.
+pub(crate) fn append_sharing(out: &mut Vec<u8>, before: &[u8], key: &[u8])
+    requires small { IsShortCount (length key.now) }
+    requires room { HasRoomFor out.old (length ((sharing before.now).spell key.now)) }
+    ensures { IsAppended out.old out.new ((sharing before.now).spell key.now) }
+{
+    let shared = common_len(before, key);
+    let rest = &key[shared..];
+    append_byte(out, shared as u8);
+    append_byte(out, rest.len() as u8);
+    append(out, rest);
 }

@@ -1,17 +1,24 @@
 //! Frames read from bytes, whatever these are. Nothing is held but what a frame keeps, and no more entries than `fan`.
 ghost use Rattle.std.specs.Prelude.{◌≡◌, ◌≤◌, ◌&&◌, length, drop, None, Some, IfOk, IfSome, MatchOption};
-ghost use Rattle.keys.specs.Cells.{read_as, read_where, counted};
-ghost use Rattle.frame_codec.specs.Codecs.{both, read_each, listed, flagged};
-ghost use Rattle.frame_codec.specs.Frame.{full, delta, bytes_of, is_key, are_entries, is_full, is_run, is_content};
+ghost use Rattle.keys.specs.Bytes.{Bytes, Pairs};
+ghost use Rattle.keys.specs.Cells.{read_as, read_where, counted, value_cell, pid_cell};
+ghost use Rattle.frame_codec.specs.declared.format.Spelling.TheVariants.{Shared};
+ghost use Rattle.frame_codec.specs.Codecs.{both, read_each, flagged, sharing};
+ghost use Rattle.frame_codec.specs.Frame.{read_base, full, delta, bytes_of, is_key, are_entries, is_full, is_run, is_known, is_allowed};
+ghost use Rattle.frame_codec.specs.Frame.Content.{FullLeaf, FullIndex};
 ghost use Rattle.frame_codec.specs.Reading.{read_content, read_frame};
 ghost use Rattle.frame_codec.specs.Shown.{frame_of};
 ghost use Rattle.index_page.specs.Rules.{of_cell};
 
 use crate::cell::{FrameCell, read_flagged};
+use crate::format::{Format, Spelling};
 use crate::frame::Frame;
-use crate::kinds::{DELTA_INDEX, DELTA_LEAF, FREE, FULL_INDEX, FULL_LEAF};
+use crate::kinds::{
+    DELTA_INDEX, DELTA_LEAF, FREE, FULL_INDEX, FULL_LEAF, SHARED_INDEX, SHARED_LEAF,
+};
+use crate::last_key::LastKey;
 use crate::parts::{frame_size, read_header, read_key, read_length};
-use crate::skim::skim_entries;
+use crate::skim::{skim_entries, skim_shared};
 use delta_chain::{Base, BaseBuilder, PushError, Run};
 use keys::{Key, Pid, Settings};
 use std::alloc::{AllocError, Global};
@@ -53,7 +60,7 @@ fn read_change<'a, V: FrameCell>(
 }
 
 // As many entries as this, in a base of its own, with the bytes behind them.
-fn read_base<'a, V: FrameCell>(
+fn read_whole<'a, V: FrameCell>(
     alloc: Global,
     count: usize,
     bytes: &'a [u8],
@@ -77,6 +84,76 @@ fn read_base<'a, V: FrameCell>(
     let base = builder.finish();
     let _in_order = base.len();
     Ok(Some((base, rest)))
+}
+
+// As `read_entry`, of an entry whose key is spelled by the last one and then is the last. Where there is no such entry, the last
+// key may be any.
+fn read_next_entry<'a, V: FrameCell>(
+    alloc: Global,
+    last: &mut LastKey,
+    bytes: &'a [u8],
+    settings: &Settings,
+) -> Result<Option<(V, &'a [u8])>, AllocError>
+    ensures { let test = λ (e : Bytes × V). is_key settings.now e.0 && V.is_short settings.now e.1 in
+        let read = read_where test ((both (sharing last.old) V.codec).read bytes.now) in
+        IfOk result (λ found. MatchOption found (read ≡ None) (λ p. read ≡ Some ((last.new, p.0), p.1.now))) }
+{
+    let Some((_rises, rest)) = last.read_next(bytes, settings) else {
+        return Ok(None);
+    };
+    let Some((cell, rest)) = V::read(alloc, rest, settings)? else {
+        return Ok(None);
+    };
+    Ok(Some((cell, rest)))
+}
+
+// As `read_whole`, of entries under this low key whose keys share beginnings.
+fn read_shared<'a, V: FrameCell>(
+    alloc: Global,
+    low: &[u8],
+    count: usize,
+    bytes: &'a [u8],
+    settings: &Settings,
+) -> Result<Option<(Base<V, Global>, &'a [u8])>, AllocError>
+    ensures { let all = read_base Shared V.codec low.now count bytes.now in
+        let read = read_where (are_entries settings.now (V.is_short settings.now)) all in
+        IfOk result (λ found. MatchOption found (read ≡ None) (λ p. read ≡ Some (p.0, p.1.now))) }
+{
+    let Some((key_bytes, _end)) = skim_shared::<V>(low, count, bytes, settings) else {
+        return Ok(None);
+    };
+    let mut builder = BaseBuilder::with_capacity(alloc, count, key_bytes)?;
+    let mut last = LastKey::of_low(low);
+    let mut rest = bytes;
+    for _at in 0..count {
+        let Some((cell, behind)) = read_next_entry(alloc, &mut last, rest, settings)? else {
+            return Ok(None);
+        };
+        builder.push_next(last.as_bytes(), cell)?;
+        rest = behind;
+    }
+    let base = builder.finish();
+    let _in_order = base.len();
+    Ok(Some((base, rest)))
+}
+
+// As many entries as this under this low key, with their keys spelled so, in a base of its own, with the bytes behind them.
+fn read_base<'a, V: FrameCell>(
+    alloc: Global,
+    spelling: Spelling,
+    low: &[u8],
+    count: usize,
+    bytes: &'a [u8],
+    settings: &Settings,
+) -> Result<Option<(Base<V, Global>, &'a [u8])>, AllocError>
+    ensures { let all = read_base spelling V.codec low.now count bytes.now in
+        let read = read_where (are_entries settings.now (V.is_short settings.now)) all in
+        IfOk result (λ found. MatchOption found (read ≡ None) (λ p. read ≡ Some (p.0, p.1.now))) }
+{
+    match spelling {
+        Spelling::Whole => read_whole(alloc, count, bytes, settings),
+        Spelling::Shared => read_shared(alloc, low, count, bytes, settings),
+    }
 }
 
 // As many changes as this, in a run of its own, with the bytes behind them.
@@ -111,10 +188,12 @@ fn read_run<'a, V: FrameCell>(
 // The low key and the base at the front, if a frame may have them, with the bytes behind them.
 fn read_full<'a, V: FrameCell>(
     alloc: Global,
+    spelling: Spelling,
     bytes: &'a [u8],
     settings: &Settings,
 ) -> Result<Option<(Key<Global>, Base<V, Global>, &'a [u8])>, AllocError>
-    ensures { let read = read_where (λ p. is_full settings.now (V.is_short settings.now) p.0 p.1) ((full V.codec).read bytes.now) in
+    ensures { let all = (full spelling V.codec).read bytes.now in
+        let read = read_where (λ p. is_full settings.now (V.is_short settings.now) p.0 p.1) all in
         IfOk result (λ found. MatchOption found (read ≡ None) (λ p. read ≡ Some ((p.0, p.1), p.2.now))) }
 {
     let Some((low, rest)) = read_key(bytes, settings) else {
@@ -123,10 +202,28 @@ fn read_full<'a, V: FrameCell>(
     let Some((count, rest)) = read_length(rest) else {
         return Ok(None);
     };
-    let Some((base, rest)) = read_base(alloc, count, rest, settings)? else {
+    let Some((base, rest)) = read_base(alloc, spelling, low, count, rest, settings)? else {
         return Ok(None);
     };
     Ok(Some((Key::from_bytes(alloc, low)?, base, rest)))
+}
+
+// The same, if the version knows keys that are spelled so.
+fn read_known<'a, V: FrameCell>(
+    alloc: Global,
+    spelling: Spelling,
+    bytes: &'a [u8],
+    format: &Format,
+) -> Result<Option<(Key<Global>, Base<V, Global>, &'a [u8])>, AllocError>
+    ensures { let s = format.now.settings in
+        let test = λ (p : Bytes × Pairs V). is_known format.now.version spelling && is_full s (V.is_short s) p.0 p.1 in
+        let read = read_where test ((full spelling V.codec).read bytes.now) in
+        IfOk result (λ found. MatchOption found (read ≡ None) (λ p. read ≡ Some ((p.0, p.1), p.2.now))) }
+{
+    if !format.version.knows(spelling) {
+        return Ok(None);
+    }
+    read_full(alloc, spelling, bytes, &format.settings)
 }
 
 // The run at the front, if a frame may have it, with the bytes behind it.
@@ -147,55 +244,96 @@ fn read_delta<'a, V: FrameCell>(
     read_run(alloc, count, rest, settings)
 }
 
-// The frame of this kind and page id whose content is at the front, if a store may have it, with the bytes behind it.
+// The frame of a leaf's base whose keys are spelled so.
+fn read_leaf<'a>(
+    alloc: Global,
+    spelling: Spelling,
+    pid: Pid,
+    bytes: &'a [u8],
+    format: &Format,
+) -> Result<Option<(Frame, &'a [u8])>, AllocError>
+    ensures { let content = read_as (λ p. FullLeaf spelling p.0 p.1) ((full spelling value_cell).read bytes.now) in
+        let read = read_as (λ content. record { pid = pid; content = content }) (read_where (is_allowed format.now) content) in
+        IfOk result (λ found. MatchOption found (read ≡ None) (λ p. read ≡ Some (frame_of p.0, p.1.now))) }
+{
+    let Some((low, base, rest)) = read_known(alloc, spelling, bytes, format)? else {
+        return Ok(None);
+    };
+    let frame = Frame::FullLeaf {
+        pid,
+        spelling,
+        low,
+        base,
+    };
+    Ok(Some((frame, rest)))
+}
+
+// The frame of an index page's base whose keys are spelled so.
+fn read_index<'a>(
+    alloc: Global,
+    spelling: Spelling,
+    pid: Pid,
+    bytes: &'a [u8],
+    format: &Format,
+) -> Result<Option<(Frame, &'a [u8])>, AllocError>
+    ensures { let content = read_as (λ p. FullIndex spelling p.0 p.1) ((full spelling pid_cell).read bytes.now) in
+        let read = read_as (λ content. record { pid = pid; content = content }) (read_where (is_allowed format.now) content) in
+        IfOk result (λ found. MatchOption found (read ≡ None) (λ p. read ≡ Some (frame_of p.0, p.1.now))) }
+{
+    let Some((low, base, rest)) = read_known(alloc, spelling, bytes, format)? else {
+        return Ok(None);
+    };
+    let frame = Frame::FullIndex {
+        pid,
+        spelling,
+        low,
+        base,
+    };
+    Ok(Some((frame, rest)))
+}
+
+// The frame of this kind and page id whose content is at the front, if a log may have it, with the bytes behind it.
 fn read_content<'a>(
     alloc: Global,
     kind: u8,
     pid: Pid,
     bytes: &'a [u8],
-    settings: &Settings,
+    format: &Format,
 ) -> Result<Option<(Frame, &'a [u8])>, AllocError>
-    ensures { let read = read_as (λ content. record { pid = pid; content = content }) (read_where (is_content settings.now) (read_content kind bytes.now)) in
+    ensures { let content = read_where (is_allowed format.now) (read_content kind bytes.now) in
+        let read = read_as (λ content. record { pid = pid; content = content }) content in
         IfOk result (λ found. MatchOption found (read ≡ None) (λ p. read ≡ Some (frame_of p.0, p.1.now))) }
 {
     match kind {
-        FULL_LEAF => {
-            let Some((low, base, rest)) = read_full(alloc, bytes, settings)? else {
-                return Ok(None);
-            };
-            Ok(Some((Frame::FullLeaf { pid, low, base }, rest)))
-        }
+        FULL_LEAF => read_leaf(alloc, Spelling::Whole, pid, bytes, format),
         DELTA_LEAF => {
-            let Some((run, rest)) = read_delta(alloc, bytes, settings)? else {
+            let Some((run, rest)) = read_delta(alloc, bytes, &format.settings)? else {
                 return Ok(None);
             };
             Ok(Some((Frame::DeltaLeaf { pid, run }, rest)))
         }
-        FULL_INDEX => {
-            let Some((low, base, rest)) = read_full(alloc, bytes, settings)? else {
-                return Ok(None);
-            };
-            Ok(Some((Frame::FullIndex { pid, low, base }, rest)))
-        }
+        FULL_INDEX => read_index(alloc, Spelling::Whole, pid, bytes, format),
         DELTA_INDEX => {
-            let Some((run, rest)) = read_delta(alloc, bytes, settings)? else {
+            let Some((run, rest)) = read_delta(alloc, bytes, &format.settings)? else {
                 return Ok(None);
             };
             Ok(Some((Frame::DeltaIndex { pid, run }, rest)))
         }
         FREE => Ok(Some((Frame::Free { pid }, bytes))),
+        SHARED_LEAF => read_leaf(alloc, Spelling::Shared, pid, bytes, format),
+        SHARED_INDEX => read_index(alloc, Spelling::Shared, pid, bytes, format),
         _ => Ok(None),
     }
 }
 
-/// The frame at the front of these bytes, if a store with these settings may have it, and how many bytes it takes. They may
-/// be any bytes. Want of memory is the one error, and what was read by then is dropped.
+/// The frame at the front of these bytes, if a log of this format may have it, and how many bytes it takes. They may be any
+/// bytes. Want of memory is the one error, and what was read by then is dropped.
 pub fn read_frame(
     alloc: Global,
     bytes: &[u8],
-    settings: &Settings,
+    format: &Format,
 ) -> Result<Option<(Frame, usize)>, AllocError>
-    ensures found { let read = read_frame settings.now bytes.now in
+    ensures found { let read = read_frame format.now bytes.now in
         IfOk result (λ found. MatchOption found (read ≡ None) (λ p. read ≡ Some (frame_of p.0, drop p.1 bytes.now))) }
     ensures size { IfOk result (λ found. IfSome found (λ p. p.1 ≡ length (bytes_of (frame_of p.0)))) }
     ensures within { IfOk result (λ found. IfSome found (λ p. p.1 ≤ length bytes.now)) }
@@ -203,7 +341,7 @@ pub fn read_frame(
     let Some((kind, len, pid, content)) = read_header(bytes) else {
         return Ok(None);
     };
-    let Some((frame, rest)) = read_content(alloc, kind, Pid(pid), content, settings)? else {
+    let Some((frame, rest)) = read_content(alloc, kind, Pid(pid), content, format)? else {
         return Ok(None);
     };
     let Some(size) = frame_size(bytes, len, content, rest) else {

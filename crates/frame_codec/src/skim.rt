@@ -2,15 +2,22 @@
 ghost use Rattle.std.specs.Prelude.{◌≡◌, ◌≤◌, ◌&&◌, length, take, drop, None, Some, IfSome, MatchOption};
 ghost use Rattle.std.specs.Option.{option_copied};
 ghost use Rattle.keys.specs.Bytes.{Bytes, Pairs, Changes};
+ghost use Rattle.std.specs.Ordering.{is_lt};
 ghost use Rattle.keys.specs.Cells.{read_where, counted};
-ghost use Rattle.frame_codec.specs.Codecs.{both, read_each};
+ghost use Rattle.keys.specs.Order.{order};
+ghost use Rattle.frame_codec.specs.declared.format.Spelling.TheVariants.{Shared};
+ghost use Rattle.frame_codec.specs.Codecs.{both, read_each, sharing};
 ghost use Rattle.frame_codec.specs.Frame as said;
-ghost use Rattle.frame_codec.specs.Frame.{full, delta, bytes_of, is_key, are_entries, is_full, is_run, is_content};
+ghost use Rattle.frame_codec.specs.Frame.{read_base, full, delta, bytes_of, is_key, are_entries, is_full, is_run, is_known, is_allowed};
 ghost use Rattle.frame_codec.specs.Reading.{read_content, read_frame};
 ghost use Rattle.frame_codec.specs.Skimmed.{kind_of, IsSkimmed, is_above};
 
 use crate::cell::{FrameCell, Spelled};
-use crate::kinds::{DELTA_INDEX, DELTA_LEAF, FREE, FULL_INDEX, FULL_LEAF};
+use crate::format::{Format, Spelling};
+use crate::kinds::{
+    DELTA_INDEX, DELTA_LEAF, FREE, FULL_INDEX, FULL_LEAF, SHARED_INDEX, SHARED_LEAF,
+};
+use crate::last_key::LastKey;
 use crate::parts::{frame_size, read_header, read_key, read_length};
 use keys::{Pid, Settings, Value, compare};
 use std::alloc::Global;
@@ -89,15 +96,100 @@ pub(crate) fn skim_entries<'a, C: Spelled>(
     Some((sum, rest))
 }
 
+// As `skip_entry`, of an entry whose key is spelled by the last one and then is the last: whether it is above that, with the
+// bytes behind it. Where there is no such entry, the last key may be any.
+fn skip_shared<'a, C: Spelled>(
+    last: &mut LastKey,
+    bytes: &'a [u8],
+    settings: &Settings,
+) -> Option<(bool, &'a [u8])>
+    ensures { let test = λ (e : Bytes × C). is_key settings.now e.0 && C.is_short settings.now e.1 in
+        let read = read_where test ((both (sharing last.old) C.codec).read bytes.now) in
+        MatchOption result (read ≡ None)
+        (λ p. (cell : C) × (read ≡ Some ((last.new, cell), p.1.now)) × (p.0 ≡ is_lt (order last.old last.new))) }
+{
+    let (rises, rest) = last.read_next(bytes, settings)?;
+    let rest = C::skip(rest, settings)?;
+    Some((rises, rest))
+}
+
+/// As `skim_entries`, of entries under this low key whose keys share beginnings. No more bytes are copied than are read.
+pub(crate) fn skim_shared<'a, C: Spelled>(
+    low: &[u8],
+    count: usize,
+    bytes: &'a [u8],
+    settings: &Settings,
+) -> Option<(usize, &'a [u8])>
+    ensures { let all = read_base Shared C.codec low.now count bytes.now in
+        let read = read_where (are_entries settings.now (C.is_short settings.now)) all in
+        MatchOption result (read ≡ None) (λ p. (es : Pairs C) × (read ≡ Some (es, p.1.now))) }
+{
+    if count > settings.fan as usize {
+        return None;
+    }
+    let mut sum: usize = 0;
+    let mut last = LastKey::of_low(low);
+    let mut rest = bytes;
+    for at in 0..count {
+        let (rises, behind) = skip_shared::<C>(&mut last, rest, settings)?;
+        if at > 0 && !rises {
+            return None;
+        }
+        sum = sum.saturating_add(last.len());
+        rest = behind;
+    }
+    Some((sum, rest))
+}
+
+// As `skim_entries`, of the entries of a base whose keys are spelled so.
+fn skim_base<'a, V: FrameCell>(
+    spelling: Spelling,
+    low: &[u8],
+    count: usize,
+    bytes: &'a [u8],
+    settings: &Settings,
+) -> Option<(usize, &'a [u8])>
+    ensures { let all = read_base spelling V.codec low.now count bytes.now in
+        let read = read_where (are_entries settings.now (V.is_short settings.now)) all in
+        MatchOption result (read ≡ None) (λ p. (es : Pairs V) × (read ≡ Some (es, p.1.now))) }
+{
+    match spelling {
+        Spelling::Whole => skim_entries::<V>(count, bytes, settings),
+        Spelling::Shared => skim_shared::<V>(low, count, bytes, settings),
+    }
+}
+
 // The bytes behind the low key and the base at the front, if a frame may have them.
-fn skim_full<'a, V: FrameCell>(bytes: &'a [u8], settings: &Settings) -> Option<&'a [u8]>
-    ensures { let read = read_where (λ p. is_full settings.now (V.is_short settings.now) p.0 p.1) ((full V.codec).read bytes.now) in
+fn skim_full<'a, V: FrameCell>(
+    spelling: Spelling,
+    bytes: &'a [u8],
+    settings: &Settings,
+) -> Option<&'a [u8]>
+    ensures { let all = (full spelling V.codec).read bytes.now in
+        let read = read_where (λ p. is_full settings.now (V.is_short settings.now) p.0 p.1) all in
         MatchOption result (read ≡ None) (λ rest. (p : Bytes × Pairs V) × (read ≡ Some (p, rest.now))) }
 {
-    let (_low, rest) = read_key(bytes, settings)?;
+    let (low, rest) = read_key(bytes, settings)?;
     let (count, rest) = read_length(rest)?;
-    let (_key_bytes, rest) = skim_entries::<V>(count, rest, settings)?;
+    let (_key_bytes, rest) = skim_base::<V>(spelling, low, count, rest, settings)?;
     Some(rest)
+}
+
+// The same, if the version knows keys that are spelled so.
+fn skim_known<'a, V: FrameCell>(
+    spelling: Spelling,
+    bytes: &'a [u8],
+    format: &Format,
+) -> Option<&'a [u8]>
+    ensures { let s = format.now.settings in
+        let test = λ (p : Bytes × Pairs V). is_known format.now.version spelling && is_full s (V.is_short s) p.0 p.1 in
+        let read = read_where test ((full spelling V.codec).read bytes.now) in
+        MatchOption result (read ≡ None) (λ rest. (p : Bytes × Pairs V) × (read ≡ Some (p, rest.now))) }
+{
+    if !format.version.knows(spelling) {
+        return None;
+    }
+    skim_full::<V>(spelling, bytes, &format.settings)
 }
 
 // The bytes behind the run at the front, if a frame may have it.
@@ -113,46 +205,50 @@ fn skim_run<'a, V: FrameCell>(bytes: &'a [u8], settings: &Settings) -> Option<&'
     Some(rest)
 }
 
-// The kind that this number names, with the bytes behind the content of that kind at the front, if a store may have it.
-fn skim_content<'a>(
-    number: u8,
-    bytes: &'a [u8],
-    settings: &Settings,
-) -> Option<(FrameKind, &'a [u8])>
-    ensures { let read = read_where (is_content settings.now) (read_content number bytes.now) in
+// The kind that this number names, with the bytes behind the content of that kind at the front, if a log may have it.
+fn skim_content<'a>(number: u8, bytes: &'a [u8], format: &Format) -> Option<(FrameKind, &'a [u8])>
+    ensures { let read = read_where (is_allowed format.now) (read_content number bytes.now) in
         MatchOption result (read ≡ None) (λ p. (content : said.Content) × (read ≡ Some (content, p.1.now)) × (kind_of content ≡ p.0)) }
 {
     match number {
         FULL_LEAF => {
-            let rest = skim_full::<Value<Global>>(bytes, settings)?;
+            let rest = skim_known::<Value<Global>>(Spelling::Whole, bytes, format)?;
             Some((FrameKind::FullLeaf, rest))
         }
         DELTA_LEAF => {
-            let rest = skim_run::<Value<Global>>(bytes, settings)?;
+            let rest = skim_run::<Value<Global>>(bytes, &format.settings)?;
             Some((FrameKind::DeltaLeaf, rest))
         }
         FULL_INDEX => {
-            let rest = skim_full::<Pid>(bytes, settings)?;
+            let rest = skim_known::<Pid>(Spelling::Whole, bytes, format)?;
             Some((FrameKind::FullIndex, rest))
         }
         DELTA_INDEX => {
-            let rest = skim_run::<Pid>(bytes, settings)?;
+            let rest = skim_run::<Pid>(bytes, &format.settings)?;
             Some((FrameKind::DeltaIndex, rest))
         }
         FREE => Some((FrameKind::Free, bytes)),
+        SHARED_LEAF => {
+            let rest = skim_known::<Value<Global>>(Spelling::Shared, bytes, format)?;
+            Some((FrameKind::FullLeaf, rest))
+        }
+        SHARED_INDEX => {
+            let rest = skim_known::<Pid>(Spelling::Shared, bytes, format)?;
+            Some((FrameKind::FullIndex, rest))
+        }
         _ => None,
     }
 }
 
 /// As `read_frame`, but of the frame at the front it is only told which it is, and no memory is taken. It is there for
-/// exactly the same bytes and settings.
-pub fn skim_frame(bytes: &[u8], settings: &Settings) -> Option<Skimmed>
-    ensures found { let read = read_frame settings.now bytes.now in MatchOption result (read ≡ None)
+/// exactly the same bytes and formats.
+pub fn skim_frame(bytes: &[u8], format: &Format) -> Option<Skimmed>
+    ensures found { let read = read_frame format.now bytes.now in MatchOption result (read ≡ None)
         (λ k. (f : said.Frame) × (read ≡ Some (f, drop k.size bytes.now)) × IsSkimmed k f × (take k.size bytes.now ≡ bytes_of f)) }
     ensures within { IfSome result (λ k. k.size ≤ length bytes.now) }
 {
     let (number, len, pid, content) = read_header(bytes)?;
-    let (kind, rest) = skim_content(number, content, settings)?;
+    let (kind, rest) = skim_content(number, content, format)?;
     let size = frame_size(bytes, len, content, rest)?;
     Some(Skimmed {
         pid: Pid(pid),

@@ -5,24 +5,28 @@ ghost use Rattle.index_page.specs.Rules.{of_cell};
 ghost use Rattle.keys.specs.Cells.{counted};
 ghost use Rattle.keys.specs.Limits.{first_bad_field};
 ghost use Rattle.keys.specs.Sizes.{pid_size};
-ghost use Rattle.keys.specs.declared.settings.Settings.{Settings};
+ghost use Rattle.frame_codec.specs.declared.format.Format.{Format};
+ghost use Rattle.frame_codec.specs.declared.format.Spelling.TheVariants.{Shared};
 ghost use Rattle.frame_codec.specs.Appended.{HasRoomFor, IsAppended, IsCount, AreSpellable};
-ghost use Rattle.frame_codec.specs.Codecs.{both, listed, flagged};
-ghost use Rattle.frame_codec.specs.Frame.{full, delta, header, bytes_of, is_pid, is_frame};
+ghost use Rattle.frame_codec.specs.Codecs.{both, flagged};
+ghost use Rattle.frame_codec.specs.Frame.{spell_base, full, delta, header, bytes_of, is_pid, is_frame};
 ghost use Rattle.frame_codec.specs.Frame.Content.{FullLeaf, DeltaLeaf, FullIndex, DeltaIndex, Free};
 ghost use Rattle.frame_codec.specs.Shown.{frame_of};
 ghost use Rattle.frame_codec.specs.Sized.{IsSized, HasWords, framed};
 
 use crate::cell::{FrameCell, append_flagged, flagged_len};
+use crate::format::Spelling;
 use crate::frame::Frame;
-use crate::kinds::{DELTA_INDEX, DELTA_LEAF, FREE, FULL_INDEX, FULL_LEAF};
-use crate::parts::{append_byte, append_counted, append_length, append_pid, append_u32};
+use crate::kinds::{DELTA_INDEX, DELTA_LEAF, FREE, index_kind, leaf_kind};
+use crate::parts::{
+    append_byte, append_counted, append_length, append_pid, append_sharing, append_u32, sharing_len,
+};
 use delta_chain::{Base, Run};
 use keys::{Pid, Value};
 use std::alloc::{AllocError, Global};
 
-// How many bytes the entries of a base take.
-fn base_len<V: FrameCell>(base: &Base<V, Global>) -> usize
+// How many bytes the entries of a base take, where their keys are whole.
+fn whole_len<V: FrameCell>(base: &Base<V, Global>) -> usize
     requires small { AreSpellable V.codec base.now }
     requires few { length (flat_map (both counted V.codec).spell base.now) < 2 ^ 31 }
     ensures { result ≡ length (flat_map (both counted V.codec).spell base.now) }
@@ -32,6 +36,35 @@ fn base_len<V: FrameCell>(base: &Base<V, Global>) -> usize
         len += 2 + base.key(at).len() + base.cell(at).spelled_len();
     }
     len
+}
+
+// The same, where their keys share beginnings.
+fn shared_len<V: FrameCell>(low: &[u8], base: &Base<V, Global>) -> usize
+    requires small { AreSpellable V.codec base.now }
+    requires few { length (spell_base Shared V.codec low.now base.now) < 2 ^ 31 }
+    ensures { result ≡ length (spell_base Shared V.codec low.now base.now) }
+{
+    let mut len: usize = 0;
+    let mut before = low;
+    for at in 0..base.len() {
+        let key = base.key(at);
+        let cell = base.cell(at);
+        len += sharing_len(before, key) + cell.spelled_len();
+        before = key;
+    }
+    len
+}
+
+// How many bytes the entries of a base take, with their keys spelled so.
+fn base_len<V: FrameCell>(spelling: Spelling, low: &[u8], base: &Base<V, Global>) -> usize
+    requires small { AreSpellable V.codec base.now }
+    requires few { length (spell_base spelling V.codec low.now base.now) < 2 ^ 31 }
+    ensures { result ≡ length (spell_base spelling V.codec low.now base.now) }
+{
+    match spelling {
+        Spelling::Whole => whole_len(base),
+        Spelling::Shared => shared_len(low, base),
+    }
 }
 
 // How many bytes the changes of a run take.
@@ -47,8 +80,8 @@ fn run_len<V: FrameCell>(run: &Run<V, Global>) -> usize
     len
 }
 
-// Appends the entries of a base, one behind the other. There is room for them.
-fn append_entries<V: FrameCell>(base: &Base<V, Global>, out: &mut Vec<u8>)
+// Appends the entries of a base, one behind the other, with whole keys. There is room for them.
+fn append_whole<V: FrameCell>(base: &Base<V, Global>, out: &mut Vec<u8>)
     requires small { AreSpellable V.codec base.now }
     requires room { HasRoomFor out.old (length (flat_map (both counted V.codec).spell base.now)) }
     ensures bytes { IsAppended out.old out.new (flat_map (both counted V.codec).spell base.now) }
@@ -58,6 +91,41 @@ fn append_entries<V: FrameCell>(base: &Base<V, Global>, out: &mut Vec<u8>)
         let cell = base.cell(at);
         append_counted(out, base.key(at));
         cell.append(out);
+    }
+}
+
+// The same, with keys that share beginnings.
+fn append_shared<V: FrameCell>(low: &[u8], base: &Base<V, Global>, out: &mut Vec<u8>)
+    requires small { AreSpellable V.codec base.now }
+    requires room { HasRoomFor out.old (length (spell_base Shared V.codec low.now base.now)) }
+    ensures bytes { IsAppended out.old out.new (spell_base Shared V.codec low.now base.now) }
+    ensures words { list_all (λ e. V.is_word e.1) base.now ≡ true }
+{
+    let mut before = low;
+    for at in 0..base.len() {
+        let key = base.key(at);
+        let cell = base.cell(at);
+        append_sharing(out, before, key);
+        cell.append(out);
+        before = key;
+    }
+}
+
+// Appends the entries of a base, one behind the other, with their keys spelled so. There is room for them.
+fn append_entries<V: FrameCell>(
+    spelling: Spelling,
+    low: &[u8],
+    base: &Base<V, Global>,
+    out: &mut Vec<u8>,
+)
+    requires small { AreSpellable V.codec base.now }
+    requires room { HasRoomFor out.old (length (spell_base spelling V.codec low.now base.now)) }
+    ensures bytes { IsAppended out.old out.new (spell_base spelling V.codec low.now base.now) }
+    ensures words { list_all (λ e. V.is_word e.1) base.now ≡ true }
+{
+    match spelling {
+        Spelling::Whole => append_whole(base, out),
+        Spelling::Shared => append_shared(low, base, out),
     }
 }
 
@@ -92,10 +160,11 @@ fn begin_frame(kind: u8, pid: Pid, len: usize, out: &mut Vec<u8>) -> Result<(), 
     Ok(())
 }
 
-// Appends the frame of this kind with a low key and a base.
+// Appends the frame of this kind with a low key and a base, whose keys are spelled so.
 fn write_full<V: FrameCell>(
     kind: u8,
     pid: Pid,
+    spelling: Spelling,
     low: &[u8],
     base: &Base<V, Global>,
     out: &mut Vec<u8>,
@@ -103,15 +172,20 @@ fn write_full<V: FrameCell>(
     requires low { IsCount (length low.now) }
     requires count { IsCount (length base.now) }
     requires small { AreSpellable V.codec base.now }
-    requires few { length ((full V.codec).spell (low.now, base.now)) < 2 ^ 31 }
-    ensures ok { OnOk result (out.new.items ≡ out.old.items ++ framed kind pid ((full V.codec).spell (low.now, base.now))) }
+    requires few { length ((full spelling V.codec).spell (low.now, base.now)) < 2 ^ 31 }
+    ensures ok { OnOk result (out.new.items ≡ out.old.items ++ framed kind pid ((full spelling V.codec).spell (low.now, base.now))) }
     ensures err { OnErr result (out.new.items ≡ out.old.items) }
     ensures words { OnOk result ((is_pid pid ≡ true) × (list_all (λ e. V.is_word e.1) base.now ≡ true)) }
 {
-    begin_frame(kind, pid, 4 + low.len() + base_len(base), out)?;
+    begin_frame(
+        kind,
+        pid,
+        4 + low.len() + base_len(spelling, low, base),
+        out,
+    )?;
     append_counted(out, low);
     append_length(out, base.len());
-    append_entries(base, out);
+    append_entries(spelling, low, base, out);
     Ok(())
 }
 
@@ -135,20 +209,23 @@ fn write_delta<V: FrameCell>(
     Ok(())
 }
 
-/// Appends the frame that says that the page is this base under this low key, from its kind to its last byte. On Ok each
-/// page id in it is known to be of 64 bits. Where memory is refused nothing is appended. So do the other writers.
+/// Appends the frame that says that the page is this base under this low key, with its keys spelled so, from its kind to its
+/// last byte. On Ok each page id in it is known to be of 64 bits. Where memory is refused nothing is appended. So do the
+/// other writers.
 pub fn write_full_leaf(
     pid: Pid,
+    spelling: Spelling,
     low: &[u8],
     base: &Base<Value<Global>, Global>,
     out: &mut Vec<u8>,
 ) -> Result<(), AllocError>
-    requires { IsSized (FullLeaf low.now base.now) }
-    ensures ok { OnOk result (out.new.items ≡ out.old.items ++ bytes_of (record { pid = pid; content = FullLeaf low.now base.now })) }
-    ensures words { OnOk result (HasWords (record { pid = pid; content = FullLeaf low.now base.now })) }
+    requires { IsSized (FullLeaf spelling low.now base.now) }
+    ensures ok { OnOk result (out.new.items ≡
+        out.old.items ++ bytes_of (record { pid = pid; content = FullLeaf spelling low.now base.now })) }
+    ensures words { OnOk result (HasWords (record { pid = pid; content = FullLeaf spelling low.now base.now })) }
     ensures err { OnErr result (out.new.items ≡ out.old.items) }
 {
-    write_full(FULL_LEAF, pid, low, base, out)
+    write_full(leaf_kind(spelling), pid, spelling, low, base, out)
 }
 
 /// Appends the frame that says that the page, a leaf, got this run.
@@ -168,16 +245,18 @@ pub fn write_delta_leaf(
 /// Appends the frame that says that the page, an index page, is this base under this low key.
 pub fn write_full_index(
     pid: Pid,
+    spelling: Spelling,
     low: &[u8],
     base: &Base<Pid, Global>,
     out: &mut Vec<u8>,
 ) -> Result<(), AllocError>
-    requires { IsSized (FullIndex low.now base.now) }
-    ensures ok { OnOk result (out.new.items ≡ out.old.items ++ bytes_of (record { pid = pid; content = FullIndex low.now base.now })) }
-    ensures words { OnOk result (HasWords (record { pid = pid; content = FullIndex low.now base.now })) }
+    requires { IsSized (FullIndex spelling low.now base.now) }
+    ensures ok { OnOk result (out.new.items ≡
+        out.old.items ++ bytes_of (record { pid = pid; content = FullIndex spelling low.now base.now })) }
+    ensures words { OnOk result (HasWords (record { pid = pid; content = FullIndex spelling low.now base.now })) }
     ensures err { OnErr result (out.new.items ≡ out.old.items) }
 {
-    write_full(FULL_INDEX, pid, low, base, out)
+    write_full(index_kind(spelling), pid, spelling, low, base, out)
 }
 
 /// Appends the frame that says that the page, an index page, got this run.
@@ -205,14 +284,24 @@ pub fn write_free(pid: Pid, out: &mut Vec<u8>) -> Result<(), AllocError>
 
 /// Appends the frame.
 pub fn write_frame(frame: &Frame, out: &mut Vec<u8>) -> Result<(), AllocError>
-    requires { (s : Settings) × (first_bad_field s ≡ None) × (is_frame s (frame_of frame.now) ≡ true) }
+    requires { (g : Format) × (first_bad_field g.settings ≡ None) × (is_frame g (frame_of frame.now) ≡ true) }
     ensures ok { OnOk result (out.new.items ≡ out.old.items ++ bytes_of (frame_of frame.now)) }
     ensures err { OnErr result (out.new.items ≡ out.old.items) }
 {
     match frame {
-        Frame::FullLeaf { pid, low, base } => write_full_leaf(*pid, low.as_bytes(), base, out),
+        Frame::FullLeaf {
+            pid,
+            spelling,
+            low,
+            base,
+        } => write_full_leaf(*pid, *spelling, low.as_bytes(), base, out),
         Frame::DeltaLeaf { pid, run } => write_delta_leaf(*pid, run, out),
-        Frame::FullIndex { pid, low, base } => write_full_index(*pid, low.as_bytes(), base, out),
+        Frame::FullIndex {
+            pid,
+            spelling,
+            low,
+            base,
+        } => write_full_index(*pid, *spelling, low.as_bytes(), base, out),
         Frame::DeltaIndex { pid, run } => write_delta_index(*pid, run, out),
         Frame::Free { pid } => write_free(*pid, out),
     }

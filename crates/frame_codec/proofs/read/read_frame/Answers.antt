@@ -6,7 +6,7 @@ use Rattle.frame_codec.proofs.read.read_frame.Goals as goal
 
 pub frame_size-requires-clause-behind : goal.frame_size-requires-clause-behind
 frame_size-requires-clause-behind c =
-    let found = content-found c.args.settings.now c.args.bytes.now c.in-Some.kind c.in-Some.len c.in-Some.pid c.in-Some.content.now
+    let found = content-found c.args.format.now c.args.bytes.now c.in-Some.kind c.in-Some.len c.in-Some.pid c.in-Some.content.now
     (bytes-fit c.args.bytes.now c.type_inv.bytes) c.in-Some.ensures.header
     (frame_of c.in-Some-2.frame) c.in-Some-2.rest.now (rw c.in-Some-2.is at c.in_ok-frame.ensures) in
     let long = found.long in
@@ -14,20 +14,20 @@ frame_size-requires-clause-behind c =
 
 pub frame_size-requires-clause-within : goal.frame_size-requires-clause-within
 frame_size-requires-clause-within c =
-    body-within c.args.settings.now c.args.bytes.now c.in-Some.kind c.in-Some.len c.in-Some.pid c.in-Some.content.now
+    body-within c.args.format.now c.args.bytes.now c.in-Some.kind c.in-Some.len c.in-Some.pid c.in-Some.content.now
     (bytes-fit c.args.bytes.now c.type_inv.bytes) c.in-Some.ensures.header
 
 pub returns-in_default-frame_size-clause-found : goal.returns-in_default-frame_size-clause-found
 returns-in_default-frame_size-clause-found c =
     let bytes = bytes-fit c.args.bytes.now c.type_inv.bytes in
-    let found = content-found c.args.settings.now c.args.bytes.now c.in-Some.kind c.in-Some.len c.in-Some.pid c.in-Some.content.now
+    let found = content-found c.args.format.now c.args.bytes.now c.in-Some.kind c.in-Some.len c.in-Some.pid c.in-Some.content.now
     bytes c.in-Some.ensures.header (frame_of c.in-Some-2.frame) c.in-Some-2.rest.now (rw c.in-Some-2.is at c.in_ok-frame.ensures) in
-    length-wrong c.args.settings.now c.args.bytes.now c.in-Some.kind c.in-Some.len c.in-Some.pid c.in-Some.content.now
+    length-wrong c.args.format.now c.args.bytes.now c.in-Some.kind c.in-Some.len c.in-Some.pid c.in-Some.content.now
     bytes c.in-Some.ensures.header (frame_of c.in-Some-2.frame) c.in-Some-2.rest.now found (rw c.in_default-frame_size.is at c.frame_size.ensures)
 
-read : (c : goal.In-Some-frame_size) → IsReadOf c.args.settings.now c.args.bytes.now (frame_of c.in-Some-2.frame) c.in-Some-frame_size.size
+read : (c : goal.In-Some-frame_size) → IsReadOf c.args.format.now c.args.bytes.now (frame_of c.in-Some-2.frame) c.in-Some-frame_size.size
 read c =
-    rw c.in-Some-frame_size.ensures.1 (frame-answered c.args.settings.now c.args.bytes.now c.in-Some.kind c.in-Some.len c.in-Some.pid c.in-Some.content.now
+    rw c.in-Some-frame_size.ensures.1 (frame-answered c.args.format.now c.args.bytes.now c.in-Some.kind c.in-Some.len c.in-Some.pid c.in-Some.content.now
     (bytes-fit c.args.bytes.now c.type_inv.bytes) c.in-Some.ensures.header
     (frame_of c.in-Some-2.frame) c.in-Some-2.rest.now (rw c.in-Some-2.is at c.in_ok-frame.ensures) c.in-Some-frame_size.ensures.0 c.in-Some.ensures.word).0
 

@@ -1,12 +1,13 @@
-use Rattle.std.proofs.Common.{◌≡◌, drop}
+use Rattle.std.proofs.Common.{◌≡◌, [], drop}
 use Rattle.std.specs.List.{list_all}
 use Rattle.index_page.specs.Rules.{of_cell}
 use Rattle.frame_codec.specs.Codecs.{flagged}
+use Rattle.frame_codec.specs.declared.format.Spelling.TheVariants.{Whole}
 use Rattle.frame_codec.proofs.WriteLemmas.{IsUpTo}
 use Rattle.frame_codec.proofs.write.append_changes.Given as goal
 
 -- what stands before this place was appended, and each cell there is one of its type
 abbrev pub invariant-loop-at : goal.invariant-loop-at
 invariant-loop-at g l =
-    IsUpTo (flagged g.V.Spelled.codec) l.run l.at l.initial.out l.out
+    IsUpTo Whole (flagged g.V.Spelled.codec) [] l.run [] l.at l.initial.out l.out
     × (list_all (λ e. of_cell g.V.FrameCell.is_word e.1) (drop l.at l.run) ≡ list_all (λ e. of_cell g.V.FrameCell.is_word e.1) l.run)

@@ -1,10 +1,8 @@
-use Rattle.std.proofs.Common.{◌≡◌, length, flat_map, ap, arith}
-use Rattle.std.proofs.lemmas.List.{drop_all}
+use Rattle.std.proofs.Common.{[], length, ap, arith}
 use Rattle.std.specs.Option.{option_copied}
 use Rattle.frame_codec.specs.Codecs.{flagged}
-use Rattle.keys.specs.Cells.{counted}
-use Rattle.frame_codec.specs.Codecs.{both}
-use Rattle.frame_codec.proofs.WriteLemmas.{spelled_from, spellable-at, length-behind}
+use Rattle.frame_codec.specs.declared.format.Spelling.TheVariants.{Whole}
+use Rattle.frame_codec.proofs.WriteLemmas.{spellable-at, length-behind, spelled-at_end}
 use Rattle.frame_codec.proofs.write.run_len.Goals as goal
 
 pub flagged_len-requires : goal.flagged_len-requires
@@ -19,20 +17,19 @@ overflow_add-len-in-loop-at g c =
 
 pub overflow_add-len-in-loop-at-2 : goal.overflow_add-len-in-loop-at-2
 overflow_add-len-in-loop-at-2 g c =
-    let behind = length-behind (flagged g.V.Spelled.codec) c.args.run.now c.loop-at.at c.key.result.now (option_copied c.change.result) c.key.ensures c.change.ensures in
+    let behind = length-behind Whole (flagged g.V.Spelled.codec) [] c.args.run.now [] c.loop-at.at c.key.result.now (option_copied c.change.result) c.key.ensures c.change.ensures in
     let invariant = c.loop-at.invariant in
     let few = c.requires.few in
     omega (arith, c.flagged_len.ensures)
 
 pub loop-at-preserved : goal.loop-at-preserved
 loop-at-preserved g c =
-    let behind = length-behind (flagged g.V.Spelled.codec) c.args.run.now c.loop-at.at c.key.result.now (option_copied c.change.result) c.key.ensures c.change.ensures in
+    let behind = length-behind Whole (flagged g.V.Spelled.codec) [] c.args.run.now [] c.loop-at.at c.key.result.now (option_copied c.change.result) c.key.ensures c.change.ensures in
     let invariant = c.loop-at.invariant in
     omega (arith, c.flagged_len.ensures)
 
 pub returns : goal.returns
 returns g c =
-    let none : length (spelled_from (flagged g.V.Spelled.codec) c.args.run.now c.loop-at.at) ≡ 0 =
-    ap (λ es. length (flat_map (both counted (flagged g.V.Spelled.codec)).spell es)) (drop_all c.loop-at.at c.args.run.now (omega (arith, c.loop-at-test.false, c.len-at-end.ensures.count))) in
+    let none = ap length (spelled-at_end Whole (flagged g.V.Spelled.codec) [] c.args.run.now [] c.loop-at.at (omega (arith, c.loop-at-test.false, c.len-at-end.ensures.count))) in
     let invariant = c.loop-at.invariant in
     omega arith

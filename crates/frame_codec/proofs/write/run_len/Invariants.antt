@@ -1,8 +1,10 @@
-use Rattle.std.proofs.Common.{◌≡◌, ◌+◌, length}
+use Rattle.std.proofs.Common.{◌≡◌, ◌+◌, [], length}
 use Rattle.frame_codec.specs.Codecs.{flagged}
+use Rattle.frame_codec.specs.declared.format.Spelling.TheVariants.{Whole}
 use Rattle.frame_codec.proofs.WriteLemmas.{spelled_from}
 use Rattle.frame_codec.proofs.write.run_len.Given as goal
 
 -- what the changes from this place on take comes on top
 abbrev pub invariant-loop-at : goal.invariant-loop-at
-invariant-loop-at g l = l.len + length (spelled_from (flagged g.V.Spelled.codec) l.run l.at) ≡ length (spelled_from (flagged g.V.Spelled.codec) l.run 0)
+invariant-loop-at g l =
+    l.len + length (spelled_from Whole (flagged g.V.Spelled.codec) [] l.run [] l.at) ≡ length (spelled_from Whole (flagged g.V.Spelled.codec) [] l.run [] 0)

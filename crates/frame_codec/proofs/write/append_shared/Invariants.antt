@@ -1,10 +1,11 @@
 use Rattle.std.proofs.Common.{◌≡◌, drop}
 use Rattle.std.specs.List.{list_all}
+use Rattle.frame_codec.specs.declared.format.Spelling.TheVariants.{Shared}
 use Rattle.frame_codec.proofs.WriteLemmas.{IsUpTo}
-use Rattle.frame_codec.proofs.write.append_entries.Given as goal
+use Rattle.frame_codec.proofs.write.append_shared.Given as goal
 
 -- what stands before this place was appended, and each cell there is one of its type
 abbrev pub invariant-loop-at : goal.invariant-loop-at
 invariant-loop-at g l =
-    IsUpTo g.V.Spelled.codec l.base l.at l.initial.out l.out
+    IsUpTo Shared g.V.Spelled.codec l.low l.base l.before l.at l.initial.out l.out
     × (list_all (λ e. g.V.FrameCell.is_word e.1) (drop l.at l.base) ≡ list_all (λ e. g.V.FrameCell.is_word e.1) l.base)

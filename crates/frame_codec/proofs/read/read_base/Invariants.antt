@@ -1,6 +1,0 @@
-use Rattle.frame_codec.proofs.EachLemmas.{IsReadUpTo}
-use Rattle.frame_codec.proofs.read.read_base.Given as goal
-
--- the builder has the entries before this place
-abbrev pub invariant-loop-at : goal.invariant-loop-at
-invariant-loop-at g l = IsReadUpTo l.settings (g.V.Spelled.is_short l.settings) g.V.Spelled.codec l.count l.initial.rest l._at l.builder l.rest

@@ -1,7 +1,0 @@
-use Rattle.std.proofs.Common.{◌≡◌, ◌+◌, length}
-use Rattle.frame_codec.proofs.WriteLemmas.{spelled_from}
-use Rattle.frame_codec.proofs.write.base_len.Given as goal
-
--- what the entries from this place on take comes on top
-abbrev pub invariant-loop-at : goal.invariant-loop-at
-invariant-loop-at g l = l.len + length (spelled_from g.V.Spelled.codec l.base l.at) ≡ length (spelled_from g.V.Spelled.codec l.base 0)

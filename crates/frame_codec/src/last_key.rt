@@ -1,0 +1,128 @@
+//! The key before the next one, where keys are spelled by what they share with it.
+ghost use Rattle.std.specs.Prelude.{◌≡◌, ◌≢◌, ◌+◌, ◌≤◌, length, take, None, Some, MatchOption};
+ghost use Rattle.std.specs.Ordering.{is_lt};
+ghost use Rattle.keys.specs.Cells.{read_where};
+ghost use Rattle.keys.specs.Order.{order};
+ghost use Rattle.frame_codec.specs.Codecs.{common, rejoined, sharing};
+ghost use Rattle.frame_codec.specs.Frame.{is_key};
+
+use crate::parts::{read_byte, read_short};
+use keys::Settings;
+use std::cmp::Ordering;
+use std::marker::Model;
+
+// As many bytes of the key before as one byte can tell, and as many behind them.
+const ROOM: usize = 510;
+
+/// A key, kept in place, of up to 510 bytes. Contracts see it as the list of these.
+#[derive(Drop)]
+pub(crate) struct LastKey {
+    // How many of the places are in use, from the first on.
+    len: usize,
+    places: [u8; ROOM],
+}
+
+impl Model for LastKey {
+    ghost use Rattle.std.specs.Prelude.{◌≤◌, take};
+    ghost use Rattle.keys.specs.Bytes.{Bytes};
+
+    ghost Value = { Bytes };
+
+    ghost view = { λ k. take k.len k.places };
+
+    ghost invariant = { λ k. k.len ≤ 510 };
+}
+
+// How the one stands to the other, if they have no first byte in common.
+fn apart(one: &[u8], other: &[u8]) -> Option<Ordering>
+    ensures { MatchOption result (common one.now other.now ≢ 0) (λ o. (common one.now other.now ≡ 0) × (o ≡ order one.now other.now)) }
+{
+    match (one.split_first(), other.split_first()) {
+        (Some((byte, _)), Some((other_byte, _))) => match byte.cmp(other_byte) {
+            Ordering::Equal => None,
+            differs => Some(differs),
+        },
+        (Some(_), None) => Some(Ordering::Greater),
+        (None, Some(_)) => Some(Ordering::Less),
+        (None, None) => Some(Ordering::Equal),
+    }
+}
+
+// How the key stands to the one that begins with so many bytes of it and goes on with the rest, if they part just there. Only
+// the bytes at that place need a look.
+fn parted(key: &[u8], shared: usize, rest: &[u8]) -> Option<Ordering>
+    ensures { let next = rejoined key.now (shared, rest.now) in
+        MatchOption result (common key.now next ≢ shared) (λ o. (common key.now next ≡ shared) × (o ≡ order key.now next)) }
+{
+    if shared > key.len() {
+        return None;
+    }
+    apart(&key[shared..], rest)
+}
+
+impl LastKey {
+    // The key of these bytes.
+    fn of_bytes(bytes: &[u8]) -> Self
+        requires { length bytes.now ≤ 510 }
+        ensures { result ≡ bytes.now }
+    {
+        let len = bytes.len();
+        let mut places = [0; ROOM];
+        places[..len].copy_from_slice(bytes);
+        LastKey { len, places }
+    }
+
+    /// The first bytes of the low key, by which the first key is read as it is by all of it.
+    pub(crate) fn of_low(low: &[u8]) -> Self
+        ensures { result ≡ take 510 low.now }
+    {
+        LastKey::of_bytes(&low[..ROOM.min(low.len())])
+    }
+
+    /// The bytes of the key.
+    pub(crate) fn as_bytes(&self) -> &[u8]
+        ensures { result.now ≡ self.now }
+    {
+        &self.places[..self.len]
+    }
+
+    /// How many there are.
+    pub(crate) fn len(&self) -> usize
+        ensures { result ≡ length self.now }
+    {
+        self.len
+    }
+
+    // The rest now stands behind so many bytes of the key.
+    fn go_on(&mut self, shared: usize, rest: &[u8])
+        requires shared { shared ≤ length self.old }
+        requires room { shared + length rest.now ≤ 510 }
+        ensures { self.new ≡ rejoined self.old (shared, rest.now) }
+    {
+        let len = shared + rest.len();
+        self.places[shared..len].copy_from_slice(rest);
+        self.len = len;
+    }
+
+    /// Becomes the key at the front, if that is no longer than settings allow: whether it is above the one before it, and the
+    /// bytes behind it. Where there is no such key, it stays.
+    pub(crate) fn read_next<'a>(
+        &mut self,
+        bytes: &'a [u8],
+        settings: &Settings,
+    ) -> Option<(bool, &'a [u8])>
+        ensures { let read = read_where (is_key settings.now) ((sharing self.old).read bytes.now) in
+            MatchOption result ((read ≡ None) × (self.new ≡ self.old))
+            (λ p. (read ≡ Some (self.new, p.1.now)) × (p.0 ≡ is_lt (order self.old self.new))) }
+    {
+        let (shared, bytes) = read_byte(bytes)?;
+        let (rest, behind) = read_short(bytes)?;
+        let shared = shared as usize;
+        let stands = parted(self.as_bytes(), shared, rest)?;
+        if shared + rest.len() > settings.max_key as usize {
+            return None;
+        }
+        self.go_on(shared, rest);
+        Some((stands.is_lt(), behind))
+    }
+}
