@@ -5,7 +5,7 @@ use Rattle.std.specs.List.{filter}
 use Rattle.std.specs.Char.{digit_value}
 use Rattle.keys.proofs.Literals.{S}
 use Rattle.frame_codec.specs.declared.format.Format.{Format}
-use Rattle.frame_codec.specs.declared.format.Version.TheVariants.{One, Two}
+use Rattle.keys.specs.declared.version.Version.TheVariants.{One, Two}
 use Rattle.frame_codec.specs.Frame.{Frame, bytes_of}
 use Rattle.frame_codec.specs.Reading.{read_frame}
 

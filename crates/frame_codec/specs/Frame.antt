@@ -11,8 +11,8 @@ use Rattle.index_page.specs.Rules.{do_rise, is_short_value, of_cell}
 use Rattle.frame_codec.specs.declared.format.Format.{Format}
 use Rattle.frame_codec.specs.declared.format.Spelling.{Spelling}
 use Rattle.frame_codec.specs.declared.format.Spelling.TheVariants.{Whole, Shared}
-use Rattle.frame_codec.specs.declared.format.Version.{Version}
-use Rattle.frame_codec.specs.declared.format.Version.TheVariants.{One, Two}
+use Rattle.keys.specs.declared.version.Version.{Version}
+use Rattle.keys.specs.declared.version.Version.TheVariants.{One, Two}
 use Rattle.frame_codec.specs.Codecs.{both, both_by, read_each, listed, flagged, sharing, spell_in_turn, read_in_turn}
 
 -- the page is a base under a low key, with its keys spelled so; or it got a run; or there is no such page

@@ -2,7 +2,7 @@
 ghost use Rattle.std.specs.Prelude.{◌≡◌};
 ghost use Rattle.frame_codec.specs.Frame.{is_known};
 
-use keys::Settings;
+use keys::{Settings, Version};
 
 /// How a frame spells the keys of a base.
 #[derive(Clone, Copy, Debug, PartialEq, Eq)]
@@ -13,27 +13,6 @@ pub enum Spelling {
     Shared,
 }
 
-/// Which kinds of frames a log may have.
-#[derive(Clone, Copy, Debug, PartialEq, Eq)]
-pub enum Version {
-    /// The keys of each base are whole.
-    One,
-    /// The keys of a base are whole, or share beginnings.
-    Two,
-}
-
-impl Version {
-    /// Whether a log of this version may have a base whose keys are spelled so.
-    pub fn knows(self, spelling: Spelling) -> bool
-        ensures { result ≡ is_known self spelling }
-    {
-        match (self, spelling) {
-            (Version::One, Spelling::Shared) => false,
-            _ => true,
-        }
-    }
-}
-
 /// By what a log's frames are read.
 #[derive(Clone, Copy, Debug, PartialEq, Eq)]
 pub struct Format {
@@ -41,4 +20,16 @@ pub struct Format {
     pub settings: Settings,
     /// The version of the log.
     pub version: Version,
+}
+
+impl Format {
+    /// Whether a log of this format may have a base whose keys are spelled so.
+    pub fn knows(&self, spelling: Spelling) -> bool
+        ensures { result ≡ is_known self.now.version spelling }
+    {
+        match (self.version, spelling) {
+            (Version::One, Spelling::Shared) => false,
+            _ => true,
+        }
+    }
 }

@@ -11,7 +11,7 @@ ghost use Rattle.keys.specs.declared.settings.Settings.{Settings};
 ghost use Rattle.frame_codec.specs.declared.format.Format.{Format};
 ghost use Rattle.frame_codec.specs.declared.format.Spelling.{Spelling};
 ghost use Rattle.frame_codec.specs.declared.format.Spelling.TheVariants.{Whole};
-ghost use Rattle.frame_codec.specs.declared.format.Version.TheVariants.{One, Two};
+ghost use Rattle.keys.specs.declared.version.Version.TheVariants.{One, Two};
 ghost use Rattle.frame_codec.specs.Frame.{Frame, bytes_of, is_known, is_frame};
 ghost use Rattle.frame_codec.specs.Frame.Content.{FullLeaf, DeltaLeaf, FullIndex, DeltaIndex};
 ghost use Rattle.frame_codec.specs.Reading.{BeginsWithFrame, read_frame};

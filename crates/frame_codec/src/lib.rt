@@ -16,7 +16,7 @@ pub mod read;
 pub mod skim;
 pub mod write;
 
-pub use crate::format::{Format, Spelling, Version};
+pub use crate::format::{Format, Spelling};
 pub use crate::frame::Frame;
 pub use crate::read::read_frame;
 pub use crate::skim::{FrameKind, Skimmed, skim_frame};

@@ -220,7 +220,7 @@ fn read_known<'a, V: FrameCell>(
         let read = read_where test ((full spelling V.codec).read bytes.now) in
         IfOk result (λ found. MatchOption found (read ≡ None) (λ p. read ≡ Some ((p.0, p.1), p.2.now))) }
 {
-    if !format.version.knows(spelling) {
+    if !format.knows(spelling) {
         return Ok(None);
     }
     read_full(alloc, spelling, bytes, &format.settings)

@@ -186,7 +186,7 @@ fn skim_known<'a, V: FrameCell>(
         let read = read_where test ((full spelling V.codec).read bytes.now) in
         MatchOption result (read ≡ None) (λ rest. (p : Bytes × Pairs V) × (read ≡ Some (p, rest.now))) }
 {
-    if !format.version.knows(spelling) {
+    if !format.knows(spelling) {
         return None;
     }
     skim_full::<V>(spelling, bytes, &format.settings)

@@ -61,6 +61,9 @@ pub enum Fault {
     /// The disk is too short for the segments that the settings ask for.
     #[error("18 DiskTooSmall")]
     DiskTooSmall,
+    /// The log has the second version already.
+    #[error("19 AlreadyUpgraded")]
+    AlreadyUpgraded,
 }
 
 impl From<AllocError> for Fault {

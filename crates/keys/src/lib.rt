@@ -1,5 +1,5 @@
-//! What every layer of the engine speaks of: keys, values and page ids, settings, commands and their
-//! replies, and the faults. `specs/` has the order of keys, the ordered map, and what a command does to it.
+//! What every layer of the engine speaks of: keys, values and page ids, settings, the version of a log, commands and
+//! their replies, and the faults. `specs/` has the order of keys, the ordered map, and what a command does to it.
 #![tactic(auto)]
 
 pub mod cell;
@@ -18,6 +18,7 @@ pub mod row_list;
 pub mod settings;
 mod short_bytes;
 pub mod value;
+pub mod version;
 
 pub use crate::cell::Cell;
 pub use crate::command::{Command, Reply};
@@ -33,3 +34,4 @@ pub use crate::pieces::Pieces;
 pub use crate::row_list::RowList;
 pub use crate::settings::{Field, Settings};
 pub use crate::value::Value;
+pub use crate::version::Version;

@@ -2,6 +2,7 @@
 use Rattle.std.specs.Prelude.{ℕ, List, [], ◌∷◌, Option, Some, None}
 use Rattle.std.specs.Ordering.{nat_cmp, is_eq}
 use Rattle.std.specs.Map.{lookup}
+use Rattle.keys.specs.declared.version.Version.{Version}
 use Rattle.index_page.specs.Page.{PageOfKind, bare}
 use Rattle.index_page.specs.Page.PageOfKind.{Leaf}
 
@@ -22,16 +23,18 @@ pub record Tree : Type 0 where
 abbrev pub most_levels : ℕ
 most_levels = 64
 
--- a tree; the first segment of its log; the position behind the log's last frame; the number of the last flush or clean
+-- a tree; the first segment of its log; the position behind the log's last frame; the number of the last flush or clean; and
+-- the version of the log
 pub record Store : Type 0 where
   pub tree : Tree
   pub head : ℕ
   pub tail : ℕ
   pub sequence : ℕ
+  pub version : Version
 
 -- the store with another tree: a batch doesn't touch the log
 abbrev pub with_tree : Store → Tree → Store
-with_tree st tree = record { tree = tree; head = st.head; tail = st.tail; sequence = st.sequence }
+with_tree st tree = record { tree = tree; head = st.head; tail = st.tail; sequence = st.sequence; version = st.version }
 
 -- the tree of a new store: one empty leaf, which the log has
 abbrev pub first_tree : Tree
