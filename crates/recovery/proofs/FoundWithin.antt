@@ -5,8 +5,8 @@ use Rattle.std.specs.List.{AllByRecursion, starts_with}
 use Rattle.keys.specs.Cells.{read_where}
 use Rattle.keys.specs.declared.fault.Fault.{Fault}
 use Rattle.keys.specs.declared.fault.Fault.TheVariants.{BadSegment}
-use Rattle.keys.specs.declared.settings.Settings.{Settings}
 use Rattle.index_page.proofs.ListLemmas.{all-append}
+use Rattle.frame_codec.specs.declared.format.Format.{Format}
 use Rattle.frame_codec.specs.Frame.{Frame, is_frame}
 use Rattle.frame_codec.specs.Reading.{read_any, read_frame}
 use Rattle.flush_log.specs.Reading.{Found, all_in, is_at_tail, is_padding, with_first, read_then, read_frames, in_segment, read_segment, followed_by, read_earlier, log_between}
@@ -14,7 +14,7 @@ use Rattle.flush_log.specs.Segments.{segment_header, segment_bytes, last_segment
 use Rattle.flush_log.proofs.ReadBackLemmas.{ok, followed_by-ok}
 use Rattle.flush_log.proofs.SegmentLemmas.{in_segment-ok}
 
-module _ (s : Settings) where
+module _ (s : Format) where
   -- frames within the settings
   abbrev Good : List Frame → Type 0
   Good fs = AllByRecursion (λ f. is_frame s f ≡ true) fs

@@ -8,12 +8,12 @@ use Rattle.std.specs.Map.{keys_of, lookup}
 use Rattle.std.specs.Ordering.{nat_cmp}
 use Rattle.std.proofs.lemmas.Bool.{eqb-true, eq-eqb}
 use Rattle.keys.specs.Limits.{first_bad_field}
-use Rattle.keys.specs.declared.settings.Settings.{Settings}
 use Rattle.index_page.proofs.ListLemmas.{all-filter}
 use Rattle.mapping.specs.Finding.{Finding}
 use Rattle.mapping.specs.FreshPids.{is_among}
 use Rattle.mapping.specs.Proper.{AreRisingPids}
 use Rattle.mapping.proofs.KnownPids.{rising-with_numbers}
+use Rattle.frame_codec.specs.declared.format.Format.{Format}
 use Rattle.frame_codec.specs.Frame.{Content, Frame, bytes_of, is_frame}
 use Rattle.frame_codec.specs.Frame.Content.{FullLeaf, DeltaLeaf, FullIndex, DeltaIndex, Free}
 use Rattle.frame_codec.proofs.FrameLemmas.{in_limits, frame-back}
@@ -132,7 +132,7 @@ unfit-later left rest every e is same fits = sym (ap first_unfit is ∙ next-unf
 abbrev all_read : List Frame → Result (List Frame) ℕ
 all_read fs = Ok fs
 
-module _ (s : Settings) (good : first_bad_field s ≡ None) where
+module _ (s : Format) (good : first_bad_field s.settings ≡ None) where
   frames_back : (fs : List Frame) → AllByRecursion (λ f. is_frame s f ≡ true) fs → (most : ℕ) → length (spelled fs) ≤ most → read_frames s is_at_tail most (spelled fs) ≡ all_read fs
   frames_back [] a zero h = refl
   frames_back [] a (suc most) h = refl
@@ -150,7 +150,7 @@ module _ (s : Settings) (good : first_bad_field s ≡ None) where
   pub bytes-frames : (fs : List Frame) → AllByRecursion (λ f. is_frame s f ≡ true) fs → frames_of_bytes s (spelled fs) ≡ fs
   bytes-frames fs a = ap all_or_none (frames_back fs a (length (spelled fs)) (omega arith))
 
-module _ (s : Settings) where
+module _ (s : Format) where
   pub telling-within : (pid : ℕ) (found : List Found) → AllByRecursion (λ f. is_frame s f.frame ≡ true) found → AllByRecursion (λ f. is_frame s f.frame ≡ true) (telling pid found)
   telling-within pid found a = from_last-all starts (λ f. is_frame s f.frame ≡ true) (of_pid pid found) (all-filter (λ f. is_frame s f.frame ≡ true) (λ f. nat_eq f.frame.pid pid) found a)
 

@@ -4,8 +4,8 @@ use Rattle.std.proofs.Common.{refl, sym, ap, ◌∙◌, subst, arith, append_ass
 use Rattle.std.proofs.lemmas.Bool.{ne_eqb}
 use Rattle.std.proofs.lemmas.List.{map-append, length-drop}
 use Rattle.keys.specs.Bytes.{Bytes}
-use Rattle.keys.specs.declared.settings.Settings.{Settings}
 use Rattle.index_page.specs.Page.{PageOfKind}
+use Rattle.frame_codec.specs.declared.format.Format.{Format}
 use Rattle.frame_codec.specs.Frame.{Content, Frame, bytes_of}
 use Rattle.frame_codec.specs.Reading.{read_frame}
 use Rattle.flush_log.specs.Reading.{is_at_tail, with_first, read_frames}
@@ -34,7 +34,7 @@ none_read fs (Ok gs) none = ap (λ (x : Result (List Frame) ℕ). page_in (told_
     front (h ∷ hs) = ap (λ (x : Result (List Frame) ℕ). with_first h x) (front hs)
 none_read fs (Err left) none = ap (λ (x : Result (List Frame) ℕ). page_in (told_page (said (all_or_none x)))) (front-err fs left)
 
-module _ (s : Settings) where
+module _ (s : Format) where
   -- a frame that was read at the front of bytes
   pub record IsReadAt (rest : Bytes) (f : Frame) (size : ℕ) : Type 0 where
     pub found : read_frame s rest ≡ Some (f, drop size rest)

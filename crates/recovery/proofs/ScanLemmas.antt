@@ -4,9 +4,9 @@ use Rattle.std.specs.List.{list_all, starts_with}
 use Rattle.std.proofs.lemmas.Bool.{ne_eqb}
 use Rattle.std.proofs.lemmas.List.{length-drop, length-take-le, take_all, map-append}
 use Rattle.keys.specs.Bytes.{Bytes}
-use Rattle.keys.specs.declared.settings.Settings.{Settings}
 use Rattle.keys.specs.declared.fault.Fault.{Fault}
 use Rattle.keys.specs.declared.fault.Fault.TheVariants.{BadFrame}
+use Rattle.frame_codec.specs.declared.format.Format.{Format}
 use Rattle.frame_codec.specs.Frame.{Frame, bytes_of}
 use Rattle.frame_codec.specs.Reading.{read_frame}
 use Rattle.frame_codec.specs.Skimmed.{IsSkimmed, kind_of}
@@ -50,7 +50,7 @@ front-err [] left = refl
 front-err (f ∷ fs) left = ap (λ t. with_first f t) (front-err fs left)
 
 -- of a segment whose frames end so
-module _ (s : Settings) (is_end : Bytes → Bool) where
+module _ (s : Format) (is_end : Bytes → Bool) where
   -- what is read of bytes, of which these frames were read and these bytes are left, of at most so many frames
   pub record AreRead (long : ℕ) (body : Bytes) (fs : List Frame) (rest : Bytes) : Type 0 where
     pub read : read_frames s is_end long body ≡ with_front fs (read_frames s is_end (long - length fs) rest)
@@ -98,7 +98,7 @@ module _ (s : Settings) (is_end : Bytes → Bool) where
 
 -- ---- one frame
 
-module _ (s : Settings) (rest : Bytes) where
+module _ (s : Format) (rest : Bytes) where
   -- what code that skims a frame at the front of these bytes tells
   pub record IsToldOf (told : Option Skimmed) : Type 0 where
     pub found : MatchOption told (read_frame s rest ≡ None) (λ k. (f : Frame) × (read_frame s rest ≡ Some (f, drop k.size rest)) × IsSkimmed k f × (take k.size rest ≡ bytes_of f))
@@ -130,7 +130,7 @@ module _ (s : Settings) (rest : Bytes) where
   told-some told k e h = told_by k (subst (λ (o : Option Skimmed). IsToldOf o) e h)
 
 -- there is less left then
-pub less-left : (s : Settings) (rest : Bytes) (told : Skimmed) (size : ℕ) → size ≡ told.size → IsFrame s rest told → length (take (length rest - size) (drop size rest)) < length rest
+pub less-left : (s : Format) (rest : Bytes) (told : Skimmed) (size : ℕ) → size ≡ told.size → IsFrame s rest told → length (take (length rest - size) (drop size rest)) < length rest
 less-left s rest told size same_size f =
     let same = ap (λ (bs : Bytes). length bs) (ap (λ (m : ℕ). take (length rest - m) (drop m rest)) same_size ∙ left-behind told.size rest) in
     let less = f.less in
@@ -139,7 +139,7 @@ less-left s rest told size same_size f =
 -- ---- the frames of a segment, as they are held
 
 -- of segment n, which ends so, these bytes are left, and of the frames in front of them that is told
-pub record IsUpto (s : Settings) (is_end : Bytes → Bool) (long n : ℕ) (body : Bytes) (items : List ScannedFrame) (rest : Bytes) : Type 0 where
+pub record IsUpto (s : Format) (is_end : Bytes → Bool) (long n : ℕ) (body : Bytes) (items : List ScannedFrame) (rest : Bytes) : Type 0 where
   pub frames : List Frame
   pub read : AreRead s is_end long body frames rest
   pub held : map (held_frame n) items ≡ map said_of_frame (all_in n frames)
@@ -150,7 +150,7 @@ held n pid kind bytes = record { segment = n; pid = pid; kind = kind; bytes = by
 held-same : (n p q : ℕ) (a b : FrameKind) (x y : Bytes) → p ≡ q → a ≡ b → x ≡ y → held n p a x ≡ held n q b y
 held-same n p q a b x y pid kind bytes = ap (λ (m : ℕ). held n m a x) pid ∙ ap (λ (k : FrameKind). held n q k x) kind ∙ ap (λ (bs : Bytes). held n q b bs) bytes
 
-module _ (s : Settings) (is_end : Bytes → Bool) (long n : ℕ) (body : Bytes) where
+module _ (s : Format) (is_end : Bytes → Bool) (long n : ℕ) (body : Bytes) where
   -- in the words of the code, where nothing was read
   pub upto-none : (items : List ScannedFrame) (bytes : Bytes) → items ≡ [] → body ≡ drop 16 bytes → length bytes ≤ long
       → IsUpto s is_end long n body items (take (length bytes - 16) (drop 16 bytes))
@@ -180,7 +180,7 @@ module _ (s : Settings) (is_end : Bytes → Bool) (long n : ℕ) (body : Bytes) 
       }
 
 -- of a segment
-module _ (s : Settings) (g : HeldSegment) (headed : starts_with nat_eq g.bytes (segment_header g.number) ≡ true) where
+module _ (s : Format) (g : HeldSegment) (headed : starts_with nat_eq g.bytes (segment_header g.number) ≡ true) where
   abbrev read_by : Result (List Frame) ℕ → Result (List Found) Fault
   read_by r = in_segment g.number (length g.bytes) r
 
@@ -202,6 +202,6 @@ all found = Ok found
 abbrev said : List HeldFrame → Result (List HeldFrame) Fault
 said hs = Ok hs
 
-pub frames-said : (s : Settings) (g : HeldSegment) (fs : List Frame) (items : List ScannedFrame) → scanned s g ≡ all (all_in g.number fs) → map (held_frame g.number) items ≡ map said_of_frame (all_in g.number fs)
+pub frames-said : (s : Format) (g : HeldSegment) (fs : List Frame) (items : List ScannedFrame) → scanned s g ≡ all (all_in g.number fs) → map (held_frame g.number) items ≡ map said_of_frame (all_in g.number fs)
     → said_of (scanned s g) ≡ said (map (held_frame g.number) items)
 frames-said s g fs items is same = ap said_of is ∙ ap said (sym same)

@@ -2,9 +2,9 @@
 use Rattle.std.specs.Prelude.{◌≡◌, ℕ, true, false, List, [], ◌∷◌, ◌++◌, map, fold, Option, Some, None, is_some, Result, Ok, Err, MatchResult, Vec, ◌⊎◌}
 use Rattle.std.specs.declared.alloc.Global.{Global}
 use Rattle.std.proofs.Common.{refl, sym, ap, ◌∙◌, subst, inl, append_assoc, append-nil}
-use Rattle.keys.specs.declared.settings.Settings.{Settings}
 use Rattle.keys.specs.declared.fault.Fault.{Fault}
 use Rattle.std.specs.List.{AllByRecursion}
+use Rattle.frame_codec.specs.declared.format.Format.{Format}
 use Rattle.frame_codec.specs.Frame.{is_frame}
 use Rattle.flush_log.specs.Reading.{Found, followed_by}
 use Rattle.recovery.specs.Gathered.{AreLive, AreGathered, IsSoFar}
@@ -161,17 +161,17 @@ left-none w gathering o every left none h = of h.read h.all (h.same ∙ ap (λ (
 
 -- ---- what a round makes
 
-scans-each : (s : Settings) (gs : List HeldSegment) → map said_of (map (scanned s) gs) ≡ map (λ g. said_of (scanned s g)) gs
+scans-each : (s : Format) (gs : List HeldSegment) → map said_of (map (scanned s) gs) ≡ map (λ g. said_of (scanned s g)) gs
 scans-each s [] = refl
 scans-each s (g ∷ gs) = ap (λ (rs : List Said). said_of (scanned s g) ∷ rs) (scans-each s gs)
 
-pub scans-made : (s own : Settings) (gs : List HeldSegment) (made : List Said) → own ≡ s → made ≡ map (λ g. said_of (scanned own g)) gs → map said_of (map (scanned s) gs) ≡ made
-scans-made s own gs made same is = scans-each s gs ∙ ap (λ (t : Settings). map (λ g. said_of (scanned t g)) gs) (sym same) ∙ sym is
+pub scans-made : (s own : Format) (gs : List HeldSegment) (made : List Said) → own ≡ s → made ≡ map (λ g. said_of (scanned own g)) gs → map said_of (map (scanned s) gs) ≡ made
+scans-made s own gs made same is = scans-each s gs ∙ ap (λ (t : Format). map (λ g. said_of (scanned t g)) gs) (sym same) ∙ sym is
 
 -- ---- the whole log
 
 -- the frames that were gathered are such as a store may have, since the log is read so
-pub gathered-all : (s : Settings) (w : Wanted) (old new : ℕ) (told : Told) → ((found : List Found) → told ≡ all found → AllByRecursion (λ f. is_frame s f.frame ≡ true) found)
+pub gathered-all : (s : Format) (w : Wanted) (old new : ℕ) (told : Told) → ((found : List Found) → told ≡ all found → AllByRecursion (λ f. is_frame s f.frame ≡ true) found)
     → (r : Result Gathering Fault) → MatchResult r (λ g. (found : List Found) × (told ≡ Ok found) × AreLive w g found) (λ fault. told ≡ Err fault)
     → MatchResult r (λ g. (found : List Found) × (told ≡ Ok found) × AreGathered s w g found) (λ fault. (told ≡ Err fault) ⊎ IsLate old new fault)
 gathered-all s w old new told within (Ok g) (found, is, live) = (found, is, record { live = live; within = within found is })

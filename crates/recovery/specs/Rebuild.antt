@@ -1,9 +1,9 @@
 -- What is made of the frames that tell a page, as they stand in the log.
 use Rattle.std.specs.Prelude.{◌≡◌, ℕ, List, [], map, length, Option, Some, None, Result, Ok, Err}
 use Rattle.keys.specs.Bytes.{Bytes}
-use Rattle.keys.specs.declared.settings.Settings.{Settings}
 use Rattle.index_page.specs.Page.{PageOfKind}
 use Rattle.index_page.specs.Page.PageOfKind.{Leaf as LeafPage, Index as IndexPage}
+use Rattle.frame_codec.specs.declared.format.Format.{Format}
 use Rattle.frame_codec.specs.Frame.{Content, Frame}
 use Rattle.frame_codec.specs.Shown.{frame_of}
 use Rattle.frame_codec.specs.declared.frame.Frame as code
@@ -22,11 +22,11 @@ all_or_none (Ok fs) = fs
 all_or_none (Err left) = []
 
 -- the frames that these bytes are, back to back; none where they are not
-abbrev pub frames_of_bytes : Settings → Bytes → List Frame
+abbrev pub frames_of_bytes : Format → Bytes → List Frame
 frames_of_bytes s bytes = all_or_none (read_frames s is_at_tail (length bytes) bytes)
 
 -- what they tell of a page
-abbrev pub told_in : Settings → Bytes → InLog
+abbrev pub told_in : Format → Bytes → InLog
 told_in s bytes = told_page (map (λ f. f.content) (frames_of_bytes s bytes))
 
 -- ---- the work

@@ -1,8 +1,8 @@
 -- What a scan of a segment gives.
 use Rattle.std.specs.Prelude.{ℕ, Bool, List, map, fold, Vec, Result, Ok, Err}
 use Rattle.keys.specs.Bytes.{Bytes}
-use Rattle.keys.specs.declared.settings.Settings.{Settings}
 use Rattle.keys.specs.declared.fault.Fault.{Fault}
+use Rattle.frame_codec.specs.declared.format.Format.{Format}
 use Rattle.frame_codec.specs.Frame.{bytes_of}
 use Rattle.frame_codec.specs.Skimmed.{kind_of}
 use Rattle.frame_codec.specs.declared.skim.FrameKind.{FrameKind}
@@ -30,11 +30,11 @@ abbrev pub held_segment : Segment → HeldSegment
 held_segment g = record { number = g.number; end = g.end; bytes = g.bytes.now }
 
 -- its frames, or its first fault
-abbrev pub scanned : Settings → HeldSegment → Result (List Found) Fault
+abbrev pub scanned : Format → HeldSegment → Result (List Found) Fault
 scanned s g = read_segment s (is_end_at g.end) g.number g.bytes
 
 -- what was found, and then what these segments hold, one behind the other; or the first fault
-abbrev pub scanned_behind : Settings → Result (List Found) Fault → List HeldSegment → Result (List Found) Fault
+abbrev pub scanned_behind : Format → Result (List Found) Fault → List HeldSegment → Result (List Found) Fault
 scanned_behind s told segments = fold followed_by told (map (scanned s) segments)
 
 -- ---- frames of which nothing is made

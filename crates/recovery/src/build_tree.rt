@@ -22,7 +22,8 @@ use crate::rebuild::{PageLog, RebuildWork, Rebuilt};
 use crew::{Crew, NoGate, run_round};
 use flush_log::slot::Slot;
 use index_page::Page;
-use keys::{Fault, Pid, Settings};
+use frame_codec::Format;
+use keys::{Fault, Pid};
 use mapping::{Table, Tree};
 use std::alloc::{AllocError, Global};
 use std::collections::BTreeMap;
@@ -80,7 +81,7 @@ fn build_pages(
     logs: Vec<PageLog>,
 ) -> Result<(), Fault>
     requires { AreRisingPids (keys_of table.old.places ++ log_pids (map held_log logs.items)) }
-    ensures ok { OnOk result (table.new ≡ filled table.old (pages_told work.now.settings (map held_log logs.items))) }
+    ensures ok { OnOk result (table.new ≡ filled table.old (pages_told work.now.format (map held_log logs.items))) }
     ensures err { IfErr result (λ fault. fault ≡ NoMemory) }
 {
     match run_round(rt, crew, &NoGate, work, logs) {
@@ -100,7 +101,7 @@ fn table_of(
     by_pid: BTreeMap<u64, Kept, Global>,
 ) -> Result<Table<Page<Global>, Global>, Fault>
     ensures ok { IfOk result (λ table.
-        table ≡ record { places = in_places (pages_told work.now.settings (map log_under by_pid.entries)); logged = [] }) }
+        table ≡ record { places = in_places (pages_told work.now.format (map log_under by_pid.entries)); logged = [] }) }
     ensures err { IfErr result (λ fault. fault ≡ NoMemory) }
     ensures ordered { IsStrictlySortedBy nat_cmp (keys_of by_pid.entries) }
 {
@@ -134,15 +135,15 @@ fn table_of(
 pub(crate) fn checked_tree(
     rt: &(impl Threads + Sync),
     crew: Crew,
-    settings: &Settings,
+    format: &Format,
     slot: &Slot,
     gathering: Gathering,
 ) -> Result<Tree<Global>, Fault>
-    requires { first_bad_field settings.now ≡ None }
-    ensures ok { (found : List Found) → AreGathered settings.now Every gathering found → IfOk result (λ tree.
-        (wrong_in settings.now slot.now (frames_in found) ≡ None) × (tree_of tree ≡ tree_by_log slot.now (frames_in found)) × AreAllHome tree) }
-    ensures err { (found : List Found) → AreGathered settings.now Every gathering found → IfErr result (λ fault. (fault ≡ NoMemory) ⊎
-        ((f : Finding) × (wrong_in settings.now slot.now (frames_in found) ≡ Some f) × (fault ≡ BadStructure f))) }
+    requires { first_bad_field format.now.settings ≡ None }
+    ensures ok { (found : List Found) → AreGathered format.now Every gathering found → IfOk result (λ tree.
+        (wrong_in format.now.settings slot.now (frames_in found) ≡ None) × (tree_of tree ≡ tree_by_log slot.now (frames_in found)) × AreAllHome tree) }
+    ensures err { (found : List Found) → AreGathered format.now Every gathering found → IfErr result (λ fault. (fault ≡ NoMemory) ⊎
+        ((f : Finding) × (wrong_in format.now.settings slot.now (frames_in found) ≡ Some f) × (fault ≡ BadStructure f))) }
 {
     if let Some(finding) = gathering.unfit() {
         return Err(Fault::BadStructure(finding));
@@ -150,11 +151,11 @@ pub(crate) fn checked_tree(
     let Gathering { alloc, by_pid, .. } = gathering;
     let work = RebuildWork {
         alloc,
-        settings: *settings,
+        format: *format,
     };
     let table = table_of(rt, crew, &work, by_pid)?;
     let mut tree = Tree::new(table, slot.root, slot.height);
-    verify(rt, alloc, &tree, settings)?;
+    verify(rt, alloc, &tree, &format.settings)?;
     tree.flushed();
     Ok(tree)
 }

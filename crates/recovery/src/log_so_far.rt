@@ -12,7 +12,8 @@ ghost use Rattle.recovery.specs.declared.gather.Wanted as declared;
 use crate::gather::{Gathering, Wanted};
 use crate::scan_segment::{ScanDone, ScanWork, ScannedFrame, Segment};
 use crew::{Crew, NoGate, run_round};
-use keys::{Fault, Settings};
+use frame_codec::Format;
+use keys::Fault;
 use std::alloc::Global;
 use std::thread::Threads;
 
@@ -97,19 +98,19 @@ impl LogSoFar {
         &mut self,
         rt: &R,
         crew: Crew,
-        settings: &Settings,
+        format: &Format,
         segments: Vec<Segment<'_>>,
     ) -> Result<(), Fault>
         requires sync { IsSync R.row }
         requires short { All (λ g. length (held_segment g).bytes < 2 ^ 32) segments.items }
         ensures ok { (w : declared.Wanted) (told : Result (List Found) faults.Fault) → IsSoFar w self.old.gathering self.old.fault told →
-            OnOk result (IsSoFar w self.new.gathering self.new.fault (scanned_behind settings.now told (map held_segment segments.entry.items))) }
+            OnOk result (IsSoFar w self.new.gathering self.new.fault (scanned_behind format.now told (map held_segment segments.entry.items))) }
         ensures err { IfErr result (λ fault. fault ≡ NoMemory) }
     {
         if self.fault.is_some() {
             return Ok(());
         }
-        let work = ScanWork::new(self.alloc, settings);
+        let work = ScanWork::new(self.alloc, format);
         // A segment is a piece of its own: it is work enough for a draw, and by the crew's grain one worker might get them all.
         let crew = Crew { grain: 1, ..crew };
         match run_round(rt, crew, &NoGate, &work, segments) {

@@ -5,9 +5,9 @@ ghost use Rattle.recovery.specs.Rebuild.{told_in};
 
 use crate::page_parts::PageParts;
 use crew::{Turn, Work};
-use frame_codec::read_frame;
+use frame_codec::{Format, read_frame};
 use index_page::Page;
-use keys::{Pid, Settings};
+use keys::Pid;
 use std::alloc::{AllocError, Global};
 
 /// The frames that tell a page.
@@ -32,12 +32,12 @@ pub struct Rebuilt {
 /// other bytes stand among them, there is none.
 pub fn rebuild(
     alloc: Global,
-    settings: &Settings,
+    format: &Format,
     frames: &[u8],
 ) -> Result<Option<Page<Global>>, AllocError>
-    ensures { IfOk result (λ page. page ≡ page_in (told_in settings.now frames.now)) }
+    ensures { IfOk result (λ page. page ≡ page_in (told_in format.now frames.now)) }
 {
-    let Some((base, size)) = read_frame(alloc, frames, settings)? else {
+    let Some((base, size)) = read_frame(alloc, frames, format)? else {
         return Ok(None);
     };
     let Some(begun) = PageParts::of_base(base) else {
@@ -46,7 +46,7 @@ pub fn rebuild(
     let mut page = begun;
     let mut rest = &frames[size..];
     while !rest.is_empty() {
-        let Some((run, size)) = read_frame(alloc, rest, settings)? else {
+        let Some((run, size)) = read_frame(alloc, rest, format)? else {
             return Ok(None);
         };
         let Some(newer) = page.with_run(run)? else {
@@ -63,8 +63,8 @@ pub fn rebuild(
 pub struct RebuildWork {
     /// Where the pages are allocated.
     pub alloc: Global,
-    /// The settings under which the frames are read.
-    pub settings: Settings,
+    /// The format of the log, by which the frames are read.
+    pub format: Format,
 }
 
 impl Work for RebuildWork {
@@ -89,10 +89,10 @@ impl Work for RebuildWork {
 
     ghost outcome = { λ d. d.page };
 
-    ghost made = { λ w h. page_in (told_in w.settings h.frames) };
+    ghost made = { λ w h. page_in (told_in w.format h.frames) };
 
     fn work(&self, job: PageLog) -> Turn<PageLog, Rebuilt> {
-        match rebuild(self.alloc, &self.settings, &job.frames) {
+        match rebuild(self.alloc, &self.format, &job.frames) {
             Ok(page) => Turn::Done(Rebuilt { log: job, page }),
             Err(_refused) => Turn::Back(job),
         }

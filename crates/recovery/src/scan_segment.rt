@@ -7,8 +7,8 @@ ghost use Rattle.recovery.specs.Scan.{is_end_at, held_segment, scanned, held_fra
 
 use crew::{Turn, Work};
 use flush_log::segments::segment_header;
-use frame_codec::{FrameKind, skim_frame};
-use keys::{Fault, Settings};
+use frame_codec::{Format, FrameKind, skim_frame};
+use keys::Fault;
 use std::alloc::Global;
 use std::marker::PhantomData;
 
@@ -66,13 +66,13 @@ pub fn is_end(end: End, rest: &[u8]) -> bool
 /// `Fault::NoMemory`.
 pub fn scan_segment<'a>(
     alloc: Global,
-    settings: &Settings,
+    format: &Format,
     segment: Segment<'a>,
 ) -> Result<Vec<ScannedFrame<'a>>, Fault>
     requires { length (held_segment segment).bytes < 2 ^ 32 }
     ensures ok { IfOk result (λ frames.
-        said_of (scanned settings.now (held_segment segment.entry)) ≡ Ok (map (held_frame segment.entry.number) frames.items)) }
-    ensures err { IfErr result (λ fault. (fault ≡ NoMemory) ⊎ (scanned settings.now (held_segment segment.entry) ≡ Err fault)) }
+        said_of (scanned format.now (held_segment segment.entry)) ≡ Ok (map (held_frame segment.entry.number) frames.items)) }
+    ensures err { IfErr result (λ fault. (fault ≡ NoMemory) ⊎ (scanned format.now (held_segment segment.entry) ≡ Err fault)) }
 {
     let Segment { number, end, bytes } = segment;
     let header = segment_header(number);
@@ -82,7 +82,7 @@ pub fn scan_segment<'a>(
     let mut frames = Vec::new(alloc);
     let mut rest = &bytes[header.len()..];
     while !is_end(end, rest) {
-        let Some(skimmed) = skim_frame(rest, settings) else {
+        let Some(skimmed) = skim_frame(rest, format) else {
             return Err(Fault::BadFrame(number, (bytes.len() - rest.len()) as u32));
         };
         let size = skimmed.size;
@@ -101,7 +101,7 @@ pub fn scan_segment<'a>(
 #[derive(Drop)]
 pub struct ScanWork<'a> {
     alloc: Global,
-    settings: Settings,
+    format: Format,
     lent: PhantomData<&'a [u8]>,
 }
 
@@ -115,13 +115,13 @@ pub struct ScanDone<'a> {
 }
 
 impl<'a> ScanWork<'a> {
-    /// The work with this allocator, on segments under these settings.
-    pub fn new(alloc: Global, settings: &Settings) -> Self
-        ensures { result.settings ≡ settings.now }
+    /// The work with this allocator, on segments of a log of this format.
+    pub fn new(alloc: Global, format: &Format) -> Self
+        ensures { result.format ≡ format.now }
     {
         ScanWork {
             alloc,
-            settings: *settings,
+            format: *format,
             lent: PhantomData,
         }
     }
@@ -148,10 +148,10 @@ impl<'a> Work for ScanWork<'a> {
 
     ghost outcome = { said_by_scan };
 
-    ghost made = { λ w h. said_of (scanned w.settings h) };
+    ghost made = { λ w h. said_of (scanned w.format h) };
 
     fn work(&self, job: Segment<'a>) -> Turn<Segment<'a>, ScanDone<'a>> {
-        match scan_segment(self.alloc, &self.settings, job) {
+        match scan_segment(self.alloc, &self.format, job) {
             Ok(frames) => Turn::Done(ScanDone {
                 segment: job,
                 scan: Ok(frames),
