@@ -127,9 +127,9 @@ index_run told.Free cs run h = ap (λ (ds : List Content). told_page (behind_som
 index_run told.Unfit cs run h = behind_told cs (DeltaIndex run) Broken h (λ e. absurd (cc))
 
 told-more : (t : Told) (cs : List Content) (c : Content) → IsTold t cs → IsTold (told_with t (kind_of c)) (cond (is_start c) (c ∷ []) (behind_some cs c))
-told-more t cs (FullLeaf low base) h = (bare low base, refl)
+told-more t cs (FullLeaf spelling low base) h = (bare low base, refl)
 told-more t cs (DeltaLeaf run) h = leaf_run t cs run h
-told-more t cs (FullIndex low base) h = (bare low base, refl)
+told-more t cs (FullIndex spelling low base) h = (bare low base, refl)
 told-more t cs (DeltaIndex run) h = index_run t cs run h
 told-more t cs Free h = refl
 
@@ -181,9 +181,9 @@ module _ (w : Wanted) (head : ℕ) where
 
   kept_as : (c : Content) (n pid : ℕ) (fs : List Found) (bytes : List ℕ) → bytes ≡ spelled (wanted_of w head fs)
       → (let f : Found = record { segment = n; frame = record { pid = pid; content = c } } in kept_with bytes (kind_of c) (is_wanted_in w head n) (bytes_of f.frame) ≡ spelled (wanted_of w head (part_with fs f)))
-  kept_as (FullLeaf low base) n pid fs bytes e = base_kept (is_wanted_in w head n) (record { pid = pid; content = FullLeaf low base })
+  kept_as (FullLeaf spelling low base) n pid fs bytes e = base_kept (is_wanted_in w head n) (record { pid = pid; content = FullLeaf spelling low base })
   kept_as (DeltaLeaf run) n pid fs bytes e = run_kept fs (record { segment = n; frame = record { pid = pid; content = DeltaLeaf run } }) bytes e
-  kept_as (FullIndex low base) n pid fs bytes e = base_kept (is_wanted_in w head n) (record { pid = pid; content = FullIndex low base })
+  kept_as (FullIndex spelling low base) n pid fs bytes e = base_kept (is_wanted_in w head n) (record { pid = pid; content = FullIndex spelling low base })
   kept_as (DeltaIndex run) n pid fs bytes e = run_kept fs (record { segment = n; frame = record { pid = pid; content = DeltaIndex run } }) bytes e
   kept_as Free n pid fs bytes e = free_kept (is_wanted_in w head n) (record { pid = pid; content = Free })
 

@@ -178,9 +178,9 @@ missing_none (c ∷ cs) = ap page_in (ap (λ t. fold continued t cs) (missing-br
 
 -- behind what is no base there is no page
 pub none-page : (c : Content) (cs : List Content) → is_base c ≡ false → page_in (told_page (c ∷ cs)) ≡ None
-none-page (FullLeaf low base) cs e = absurd (cc)
+none-page (FullLeaf spelling low base) cs e = absurd (cc)
 none-page (DeltaLeaf run) cs e = missing_none cs
-none-page (FullIndex low base) cs e = absurd (cc)
+none-page (FullIndex spelling low base) cs e = absurd (cc)
 none-page (DeltaIndex run) cs e = missing_none cs
 none-page Free cs e = missing_none cs
 

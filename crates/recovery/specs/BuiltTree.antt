@@ -1,9 +1,9 @@
 -- The table that the pages of a log make, page by page.
 use Rattle.std.specs.Prelude.{ℕ, List, ◌++◌, map, flat_map, Option, Some}
-use Rattle.keys.specs.declared.settings.Settings.{Settings}
 use Rattle.index_page.specs.Page.{PageOfKind}
 use Rattle.mapping.specs.Slots.{entry_if}
 use Rattle.mapping.specs.Table.{Mapping}
+use Rattle.frame_codec.specs.declared.format.Format.{Format}
 use Rattle.recovery.specs.PageByLog.{page_in}
 use Rattle.recovery.specs.Rebuild.{HeldLog, held_log, told_in}
 use Rattle.recovery.specs.declared.gather.Kept.{Kept}
@@ -18,7 +18,7 @@ abbrev pub log_pids : List HeldLog → List ℕ
 log_pids hs = map (λ h. h.pid) hs
 
 -- the pages that these logs tell
-abbrev pub pages_told : Settings → List HeldLog → List (ℕ × PageOfKind)
+abbrev pub pages_told : Format → List HeldLog → List (ℕ × PageOfKind)
 pages_told s hs = flat_map (λ h. entry_if h.pid (page_in (told_in s h.frames))) hs
 
 -- the logs of which these were made, and the pages that were

@@ -5,11 +5,11 @@ use Rattle.std.specs.List.{AllByRecursion, filter}
 use Rattle.std.specs.Ordering.{nat_cmp}
 use Rattle.keys.specs.Bytes.{Bytes}
 use Rattle.keys.specs.declared.fault.Fault.{Fault}
-use Rattle.keys.specs.declared.settings.Settings.{Settings}
 use Rattle.index_page.specs.Page.{Page}
 use Rattle.index_page.specs.Page.PageOfKind.{Leaf, Index}
 use Rattle.mapping.specs.Finding.{Finding}
 use Rattle.mapping.specs.FreshPids.{is_among}
+use Rattle.frame_codec.specs.declared.format.Format.{Format}
 use Rattle.frame_codec.specs.Frame.{Content, Frame, bytes_of, is_frame}
 use Rattle.frame_codec.specs.Frame.Content.{Free}
 use Rattle.frame_codec.specs.declared.skim.FrameKind.{FrameKind}
@@ -137,7 +137,7 @@ pub record AreLive (w : Wanted) (g : Gathering) (found : List Found) : Type 0 wh
   pub kept : AreKept w (first_segment found) g.by_pid found
 
 -- and they are frames that a store with these settings may have
-pub record AreGathered (s : Settings) (w : Wanted) (g : Gathering) (found : List Found) : Type 0 where
+pub record AreGathered (s : Format) (w : Wanted) (g : Gathering) (found : List Found) : Type 0 where
   pub live : AreLive w g found
   pub within : AllByRecursion (λ f. is_frame s f.frame ≡ true) found
 

@@ -9,9 +9,9 @@ use Rattle.frame_codec.specs.Frame.Content.{FullLeaf, DeltaLeaf, FullIndex, Delt
 
 -- the page that a base is by itself. A further kind of base is one more case.
 abbrev pub base_in : Content → Option PageOfKind
-base_in (FullLeaf low base) = Some (Leaf (bare low base))
+base_in (FullLeaf spelling low base) = Some (Leaf (bare low base))
 base_in (DeltaLeaf run) = None
-base_in (FullIndex low base) = Some (Index (bare low base))
+base_in (FullIndex spelling low base) = Some (Index (bare low base))
 base_in (DeltaIndex run) = None
 base_in Free = None
 

@@ -15,6 +15,7 @@ use crate::read_log::read_log;
 use crew::Crew;
 use flush_log::Disk;
 use flush_log::slot::Slot;
+use frame_codec::Format;
 use keys::{Fault, Settings};
 use mapping::Tree;
 use std::alloc::Global;
@@ -34,7 +35,7 @@ pub struct Recovered {
 // What was read of a disk.
 #[derive(Drop)]
 struct LogRead {
-    settings: Settings,
+    format: Format,
     slot: Slot,
     gathering: Gathering,
 }
@@ -48,7 +49,7 @@ fn read_parts<D: Disk>(
 ) -> Result<LogRead, Fault>
     ensures read { (file : Bytes) × IsReadOf (D.view disk.old) file × MatchResult result (λ read. IsLogRead read file)
         (λ fault. (store_of_disk file ≡ Err fault) ⊎ IsLate (D.failed disk.old) (D.failed disk.new) fault) }
-    ensures good { IfOk result (λ read. first_bad_field read.settings ≡ None) }
+    ensures good { IfOk result (λ read. first_bad_field read.format.settings ≡ None) }
     ensures same { IsTrue (D.view disk.old).is_honest → Same (D.view disk.old) (D.view disk.new) }
     ensures kept { Kept (D.view disk.old) (D.view disk.new) }
     ensures counted { OnOk result (D.failed disk.new ≡ D.failed disk.old) }
@@ -56,9 +57,13 @@ fn read_parts<D: Disk>(
 {
     let settings = read_settings(disk)?;
     let slot = read_store_slot(disk, &settings)?;
-    let gathering = read_log(rt, crew, alloc, disk, &settings, &slot.ends, Wanted::Every)?;
-    Ok(LogRead {
+    let format = Format {
         settings,
+        version: slot.version,
+    };
+    let gathering = read_log(rt, crew, alloc, disk, &format, &slot.ends, Wanted::Every)?;
+    Ok(LogRead {
+        format,
         slot,
         gathering,
     })
@@ -88,13 +93,13 @@ pub fn recover<D: Disk>(
     ensures uncounted { IfErr result (λ fault. fault ≢ Device → D.failed disk.new ≡ D.failed disk.old) }
 {
     let LogRead {
-        settings,
+        format,
         slot,
         gathering,
     } = read_parts(rt, crew, alloc, disk)?;
-    let tree = checked_tree(rt, crew, &settings, &slot, gathering)?;
+    let tree = checked_tree(rt, crew, &format, &slot, gathering)?;
     Ok(Recovered {
-        settings,
+        settings: format.settings,
         slot,
         tree,
     })
