@@ -10,7 +10,8 @@ use Rattle.keys.specs.Sizes.{length_size, pid_size, segment_header_size, full_he
 use Rattle.keys.specs.declared.settings.Settings.{Settings}
 use Rattle.keys.proofs.LimitLemmas.{checked}
 use Rattle.index_page.specs.Rules.{is_short_value, of_cell}
-use Rattle.frame_codec.specs.Frame.{Content, Frame, bytes_of, is_pid, is_key, are_entries, is_content, is_frame}
+use Rattle.frame_codec.specs.declared.format.Format.{Format}
+use Rattle.frame_codec.specs.Frame.{Content, Frame, bytes_of, is_pid, is_key, are_entries, is_content, is_readable, is_allowed, is_frame}
 use Rattle.frame_codec.specs.Frame.Content.{FullLeaf, DeltaLeaf, FullIndex, DeltaIndex, Free}
 use Rattle.frame_codec.specs.Sizes.{where_present, size_of}
 use Rattle.frame_codec.proofs.SizeLemmas.{frame-size}
@@ -85,9 +86,11 @@ module _ (s : Settings) where
       omega arith
   content_bound Free h = omega arith
 
-  pub frame_fits : (f : Frame) → first_bad_field s ≡ None → is_frame s f ≡ true → segment_header_size + length (bytes_of f) ≤ s.seg_size
-  frame_fits f good within =
-      let sized = (are_sized s good).longest in
-      let size = frame-size f in
-      let bound = content_bound f.content (and_parts (is_pid f.pid) (is_content s f.content) within).1 in
-      omega arith
+pub frame_fits : (g : Format) (f : Frame) → first_bad_field g.settings ≡ None → is_frame g f ≡ true → segment_header_size + length (bytes_of f) ≤ g.settings.seg_size
+frame_fits g f good within =
+    let s : Settings = g.settings in
+    let sized = (are_sized s good).longest in
+    let size = frame-size f in
+    let (known, sized_content) = and_parts (is_readable g.version f.content) (is_content s f.content) (and_parts (is_pid f.pid) (is_allowed g f.content) within).1 in
+    let bound = content_bound s f.content sized_content in
+    omega arith
