@@ -38,9 +38,9 @@ slot_of_upgrade = record { sequence = 3; head = 0; tail = 238; root = 2; height 
 slot : flush_slot S (of_version_two (flushed_store One)) (upgrade_text (flushed_store One).tree) ≡ slot_of_upgrade
 slot = refl
 
--- slot 1 has been closed in the meantime
-calls : upgrade_calls S (flushed_store One) (overlay flushed_file 192 (hex "00"))
-    ≡ Write 648 (hex "06 00000018 0000000000000000 0000 0002 00 01 61 0001 31 00 01 62 0001 32"
+-- slot 1, which is open since the store was made, is closed first
+calls : upgrade_calls S (flushed_store One) flushed_file
+    ≡ Write 192 (0 ∷ []) ∷ Write 648 (hex "06 00000018 0000000000000000 0000 0002 00 01 61 0001 31 00 01 62 0001 32"
     ++ (hex "06 0000001e 0000000000000001 0001 63 0003 01 00 0001 33 00 01 64 0001 34 00 01 65 0001 35"
     ++ hex "07 00000021 0000000000000002 0000 0002 00 00 0000000000000000 00 01 63 0000000000000001"))
     ∷ Sync ∷ Write 193 (slot_body slot_of_upgrade) ∷ Sync ∷ Write 192 (1 ∷ []) ∷ Sync ∷ []
