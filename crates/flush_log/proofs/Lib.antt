@@ -45,6 +45,7 @@ pub mod StandsLemmas
 pub mod TailLemmas
 pub mod TextImages
 mod TextRows
+pub mod UpgradeLemmas
 mod UpgradeRows
 pub mod ViewLemmas
 pub mod WrittenLemmas

@@ -86,6 +86,13 @@ flush_text version t = text_of (Flush version) t
 abbrev pub upgrade_text : Tree → List Frame
 upgrade_text t = text_of Upgrade t
 
+-- what the log has of each pid, as if it had another page of each of which it has one; and the tree with that
+abbrev pub all_outdated : List (ℕ × Logged) → List (ℕ × Logged)
+all_outdated ls = map (λ l. (l.0, outdate l.1)) ls
+
+abbrev pub outdated : Tree → Tree
+outdated t = record { pages = t.pages; root = t.root; height = t.height; logged = all_outdated t.logged }
+
 -- by what the frames of a text are read
 abbrev pub format_with : Settings → Text → Format
 format_with s text = record { settings = s; version = version_with text }

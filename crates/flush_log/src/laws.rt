@@ -9,9 +9,12 @@ ghost use Rattle.keys.specs.declared.settings.Settings.{Settings};
 ghost use Rattle.keys.specs.declared.fault.Fault.{Fault};
 ghost use Rattle.keys.specs.declared.fault.Fault.TheVariants.{BadSegment, BadFrame};
 ghost use Rattle.keys.specs.declared.version.Version.TheVariants.{One, Two};
+ghost use Rattle.mapping.specs.Proper.{AreLogsTrue};
+ghost use Rattle.mapping.specs.Tree.{Tree};
 ghost use Rattle.frame_codec.specs.declared.format.Format.{Format};
 ghost use Rattle.frame_codec.specs.Frame.{Frame, bytes_of, is_frame};
 ghost use Rattle.flush_log.specs.Commit.{AreWithin, IsBesideSpans};
+ghost use Rattle.flush_log.specs.FlushText.{flush_text, upgrade_text, outdated, flushed};
 ghost use Rattle.flush_log.specs.Layout.{placed, tail_after, found_in_text, is_full_for_flush, is_full_for_clean, spans, with_spans};
 ghost use Rattle.flush_log.specs.Overlay.{AgreeAt};
 ghost use Rattle.flush_log.specs.Reading.{Found, all_in, is_at_tail, is_padding, read_segment, log_between};
@@ -121,4 +124,11 @@ pub fn a_log_of_version_one_is_read_as_one_of_version_two()
     ensures { (s : Settings) (file : Bytes) (head tail : ℕ) (found : List Found) →
         log_between (record { settings = s; version = One }) file head tail ≡ Ok found →
         log_between (record { settings = s; version = Two }) file head tail ≡ Ok found }
+{}
+
+/// The text of an upgrade is that of a flush of version 2, as if the log had another page of each page id of which it has one, and it
+/// leaves the same tree.
+pub fn an_upgrade_is_a_flush_of_outdated_pages()
+    ensures text { (t : Tree) → AreLogsTrue t → upgrade_text t ≡ flush_text Two (outdated t) }
+    ensures left { (t : Tree) → flushed (outdated t) ≡ flushed t }
 {}

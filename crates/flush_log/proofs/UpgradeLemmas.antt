@@ -1,0 +1,72 @@
+-- The text of an upgrade is that of a flush of version 2, as if the log had another page of each pid of which it has one.
+use Rattle.std.specs.Prelude.{◌≡◌, ℕ, Bool, true, false, ◌||◌, nat_eq, if◌then◌else◌, List, [], ◌∷◌, ◌++◌, map, flat_map, Option, Some, None}
+use Rattle.std.specs.List.{AllByRecursion, filter}
+use Rattle.std.specs.Map.{keys_of}
+use Rattle.std.specs.Ordering.{nat_cmp, is_eq}
+use Rattle.std.proofs.Common.{refl, sym, ap, ap₂, ◌∙◌}
+use Rattle.keys.specs.declared.version.Version.TheVariants.{Two}
+use Rattle.index_page.specs.Page.{PageOfKind}
+use Rattle.mapping.specs.FreshPids.{is_among, with_number}
+use Rattle.mapping.specs.Outdate.{outdate}
+use Rattle.mapping.specs.Proper.{IsTrueOf, AreLogsTrue}
+use Rattle.mapping.specs.Table.{is_old, with_numbers}
+use Rattle.mapping.specs.Tree.{Logged, Tree, page_at, listed_at, or_no, logged_of}
+use Rattle.mapping.specs.Tree.Logged.{No, Old, Upto}
+use Rattle.mapping.proofs.PidLemmas.{all_among, among-with_number, or_true_right}
+use Rattle.mapping.proofs.TableLemmas.{holds_where_found}
+use Rattle.frame_codec.specs.declared.format.Spelling.TheVariants.{Shared}
+use Rattle.frame_codec.specs.Frame.{Content, Frame}
+use Rattle.flush_log.specs.FlushText.{lacking, frames_of, pid_text, pids_to_write, flush_text, upgrade_text, all_outdated, outdated}
+use Rattle.flush_log.specs.declared.text.Text.TheVariants.{Flush, Upgrade}
+
+-- ---- what the log has of a pid
+
+listed-outdated : (ls : List (ℕ × Logged)) (pid : ℕ) → or_no (listed_at (all_outdated ls) pid) ≡ outdate (or_no (listed_at ls pid))
+listed-outdated [] pid = refl
+listed-outdated (l ∷ ls) pid = of (is_eq (nat_cmp pid l.0))
+  where
+    of : (b : Bool) → or_no (if b then Some (outdate l.1) else listed_at (all_outdated ls) pid) ≡ outdate (or_no (if b then Some l.1 else listed_at ls pid))
+    of true = refl
+    of false = listed-outdated ls pid
+
+-- ---- the pids that are written
+
+-- a number that is among these stays so
+stays_among : (m : ℕ) (ks ns : List ℕ) → is_among m ns ≡ true → is_among m (with_numbers ks ns) ≡ true
+stays_among m [] ns h = h
+stays_among m (k ∷ ks) ns h = of (is_among k (with_numbers ks ns))
+  where
+    of : (b : Bool) → is_among m (if b then with_numbers ks ns else with_number k (with_numbers ks ns)) ≡ true
+    of true = stays_among m ks ns h
+    of false = among-with_number m k (with_numbers ks ns) ∙ ap (λ (b : Bool). nat_eq m k || b) (stays_among m ks ns h) ∙ or_true_right (nat_eq m k)
+
+module _ (ps : List (ℕ × PageOfKind)) where
+  -- a pid of which the log has a page's base is in use
+  in_use : (n k : ℕ) (o : Option PageOfKind) → page_at ps n ≡ o → IsTrueOf o (Upto k) → is_among n (keys_of ps) ≡ true
+  in_use n k None e is = absurd (is)
+  in_use n k (Some p) e is = holds_where_found (λ m. is_among m (keys_of ps) ≡ true) ps n p (all_among (keys_of ps)) e
+
+  abbrev olds : List (ℕ × Logged) → List ℕ
+  olds ls = keys_of (filter (λ l. is_old l.1) ls)
+
+  abbrev with_one : ℕ → List ℕ → Bool → List ℕ
+  with_one n ns b = if b then ns else with_number n ns
+
+  same-pids : (ls : List (ℕ × Logged)) → AllByRecursion (λ l. IsTrueOf (page_at ps l.0) l.1) ls → with_numbers (olds (all_outdated ls)) (keys_of ps) ≡ with_numbers (olds ls) (keys_of ps)
+  same-pids [] a = refl
+  same-pids ((n, No) ∷ ls) a = absurd (a.0)
+  same-pids ((n, Old) ∷ ls) a = ap (λ (ns : List ℕ). with_one n ns (is_among n ns)) (same-pids ls a.1)
+  same-pids ((n, Upto k) ∷ ls) a =
+      let others : List ℕ = with_numbers (olds (all_outdated ls)) (keys_of ps) in
+      ap (with_one n others) (stays_among n (olds (all_outdated ls)) (keys_of ps) (in_use n k (page_at ps n) refl a.0)) ∙ same-pids ls a.1
+
+-- ---- the text
+
+module _ (t : Tree) where
+  same-text : (pids : List ℕ) → flat_map (pid_text Upgrade t) pids ≡ flat_map (pid_text (Flush Two) (outdated t)) pids
+  same-text [] = refl
+  same-text (pid ∷ pids) =
+      ap₂ (λ (l : Logged) (fs : List Frame). frames_of pid (lacking Shared (page_at t.pages pid) l) ++ fs) (sym (listed-outdated t.logged pid)) (same-text pids)
+
+  pub upgrade-flush : AreLogsTrue t → upgrade_text t ≡ flush_text Two (outdated t)
+  upgrade-flush true_logs = same-text (pids_to_write t) ∙ ap (λ (ns : List ℕ). flat_map (pid_text (Flush Two) (outdated t)) ns) (sym (same-pids t.pages t.logged true_logs.each))
