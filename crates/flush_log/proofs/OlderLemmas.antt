@@ -39,12 +39,13 @@ module _ (s : Settings) where
 
     frames-known : (most : ℕ) (bs : List ℕ) (fs : List Frame) → read_frames older is_end most bs ≡ AllOk fs → read_frames newer is_end most bs ≡ AllOk fs
     frames-known zero bs fs h = h
-    frames-known (suc most) bs fs = of (is_end bs)
+    frames-known (suc most) bs fs = of (λ rest gs read. frames-known most rest gs read) (is_end bs)
       where
-        of : (b : Bool) → (if b then Ok [] else read_then (length bs) (read_frame older bs) (λ behind. read_frames older is_end most behind)) ≡ AllOk fs
+        of : ((rest : List ℕ) (gs : List Frame) → read_frames older is_end most rest ≡ AllOk gs → read_frames newer is_end most rest ≡ AllOk gs)
+            → (b : Bool) → (if b then Ok [] else read_then (length bs) (read_frame older bs) (λ behind. read_frames older is_end most behind)) ≡ AllOk fs
             → (if b then Ok [] else read_then (length bs) (read_frame newer bs) (λ behind. read_frames newer is_end most behind)) ≡ AllOk fs
-        of true h = h
-        of false h = then-known most bs fs (read_frame older bs) refl (λ rest gs read. frames-known most rest gs read) h
+        of further true h = h
+        of further false h = then-known most bs fs (read_frame older bs) refl further h
 
     segment-known : (n : ℕ) (bytes : List ℕ) (found : List Found) → read_segment older is_end n bytes ≡ ok found → read_segment newer is_end n bytes ≡ ok found
     segment-known n bytes found = of (starts_with nat_eq bytes (segment_header n))

@@ -23,22 +23,22 @@ use Rattle.flush_log.specs.declared.text.Text.TheVariants.{Flush, Upgrade}
 
 listed-outdated : (ls : List (ℕ × Logged)) (pid : ℕ) → or_no (listed_at (all_outdated ls) pid) ≡ outdate (or_no (listed_at ls pid))
 listed-outdated [] pid = refl
-listed-outdated (l ∷ ls) pid = of (is_eq (nat_cmp pid l.0))
+listed-outdated (l ∷ ls) pid = of (listed-outdated ls pid) (is_eq (nat_cmp pid l.0))
   where
-    of : (b : Bool) → or_no (if b then Some (outdate l.1) else listed_at (all_outdated ls) pid) ≡ outdate (or_no (if b then Some l.1 else listed_at ls pid))
-    of true = refl
-    of false = listed-outdated ls pid
+    of : or_no (listed_at (all_outdated ls) pid) ≡ outdate (or_no (listed_at ls pid)) → (b : Bool) → or_no (if b then Some (outdate l.1) else listed_at (all_outdated ls) pid) ≡ outdate (or_no (if b then Some l.1 else listed_at ls pid))
+    of rest true = refl
+    of rest false = rest
 
 -- ---- the pids that are written
 
 -- a number that is among these stays so
 stays_among : (m : ℕ) (ks ns : List ℕ) → is_among m ns ≡ true → is_among m (with_numbers ks ns) ≡ true
 stays_among m [] ns h = h
-stays_among m (k ∷ ks) ns h = of (is_among k (with_numbers ks ns))
+stays_among m (k ∷ ks) ns h = of (stays_among m ks ns h) (is_among k (with_numbers ks ns))
   where
-    of : (b : Bool) → is_among m (if b then with_numbers ks ns else with_number k (with_numbers ks ns)) ≡ true
-    of true = stays_among m ks ns h
-    of false = among-with_number m k (with_numbers ks ns) ∙ ap (λ (b : Bool). nat_eq m k || b) (stays_among m ks ns h) ∙ or_true_right (nat_eq m k)
+    of : is_among m (with_numbers ks ns) ≡ true → (b : Bool) → is_among m (if b then with_numbers ks ns else with_number k (with_numbers ks ns)) ≡ true
+    of rest true = rest
+    of rest false = among-with_number m k (with_numbers ks ns) ∙ ap (λ (b : Bool). nat_eq m k || b) rest ∙ or_true_right (nat_eq m k)
 
 module _ (ps : List (ℕ × PageOfKind)) where
   -- a pid of which the log has a page's base is in use
