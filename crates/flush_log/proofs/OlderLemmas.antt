@@ -39,7 +39,7 @@ module _ (s : Settings) where
 
     frames-known : (most : ℕ) (bs : List ℕ) (fs : List Frame) → read_frames older is_end most bs ≡ AllOk fs → read_frames newer is_end most bs ≡ AllOk fs
     frames-known zero bs fs h = h
-    frames-known (suc most) bs fs = of (λ rest gs read. frames-known most rest gs read) (is_end bs)
+    frames-known (suc most) bs fs h = of (λ rest gs read. frames-known most rest gs read) (is_end bs) h
       where
         of : ((rest : List ℕ) (gs : List Frame) → read_frames older is_end most rest ≡ AllOk gs → read_frames newer is_end most rest ≡ AllOk gs)
             → (b : Bool) → (if b then Ok [] else read_then (length bs) (read_frame older bs) (λ behind. read_frames older is_end most behind)) ≡ AllOk fs

@@ -235,9 +235,9 @@ not_all_written text t pid left from all e h some none =
 -- and one of which it says that nothing is
 pub written-skip : (text : Text) (t : Tree) (pid : ℕ) (left from : List ℕ) (all : List Frame) (page : Option PageOfKind) (l : Logged) (b : Bool) → from ≡ pid ∷ left → flat_map (pid_text text t) from ≡ all
     → page ≡ page_at t.pages pid → l ≡ taken text (logged_of t pid) → ((spelling : Spelling) → IsWritten spelling page l b) → b ≡ true → flat_map (pid_text text t) left ≡ all
-written-skip text t pid left from all page l b e h p q is yes =
+written-skip text t pid left from all page l b e h p q is holds =
     let spelling : Spelling = spelling_of (version_with text) in
-    let none : lacking spelling (page_at t.pages pid) (taken text (logged_of t pid)) ≡ [] = ap₂ (lacking spelling) (sym p) (sym q) ∙ (is spelling).0 yes in
+    let none : lacking spelling (page_at t.pages pid) (taken text (logged_of t pid)) ≡ [] = ap₂ (lacking spelling) (sym p) (sym q) ∙ (is spelling).0 holds in
     text-skip text t [] pid left all (ap (λ (ns : List ℕ). flat_map (pid_text text t) ns) (sym e) ∙ h) none
 
 pub few_runs : (text : Text) (t : Tree) (pid : ℕ) (h : ImageHeld) → h ≡ held_of_pid text t pid → CanBeWritten (held_of_pid text t pid) → HasFewRuns h.page

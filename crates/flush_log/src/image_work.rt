@@ -190,8 +190,10 @@ fn chain_image<V: Kind<Global>>(
     logged: Logged,
 ) -> Result<Image, AllocError>
     requires few { depth_of chain.now < 2 ^ 31 }
-    requires sized { AllByRecursion IsSized (lacking_by (log_state logged) (V.full spelling low.now chain.now.base) (map V.delta (reverse chain.now.runs))) }
-    ensures { IfOk result (λ image. AreWritten pid (lacking_by (log_state logged) (V.full spelling low.now chain.now.base) (map V.delta (reverse chain.now.runs))) [] image) }
+    requires sized { AllByRecursion IsSized
+        (lacking_by (log_state logged) (V.full spelling low.now chain.now.base) (map V.delta (reverse chain.now.runs))) }
+    ensures { IfOk result (λ image. AreWritten pid
+        (lacking_by (log_state logged) (V.full spelling low.now chain.now.base) (map V.delta (reverse chain.now.runs))) [] image) }
 {
     match logged {
         Logged::Upto(kept) => newer_image(alloc, pid, chain, kept),
@@ -210,7 +212,8 @@ fn whole_image<V: Kind<Global>>(
     requires few { depth_of chain.now < 2 ^ 31 }
     requires base { IsSized (V.full spelling low.now chain.now.base) }
     requires runs { AllByRecursion IsSized (map V.delta (reverse chain.now.runs)) }
-    ensures { IfOk result (λ image. AreWritten pid (V.full spelling low.now chain.now.base ∷ map V.delta (reverse chain.now.runs)) [] image) }
+    ensures { IfOk result (λ image.
+        AreWritten pid (V.full spelling low.now chain.now.base ∷ map V.delta (reverse chain.now.runs)) [] image) }
 {
     let depth = chain.depth() as usize;
     let mut image = Image::with_capacity(alloc, depth + 1)?;

@@ -28,7 +28,8 @@ pub(crate) trait Kind<A: Allocator>: Drop {
         out: &mut Vec<u8>,
     ) -> Result<(), AllocError>
         requires { IsSized (full spelling low.now base.now) }
-        ensures ok { OnOk result (out.new.items ≡ out.old.items ++ bytes_of (record { pid = pid; content = full spelling low.now base.now })) }
+        ensures ok { OnOk result (out.new.items
+            ≡ out.old.items ++ bytes_of (record { pid = pid; content = full spelling low.now base.now })) }
         ensures words { OnOk result (HasWords (record { pid = pid; content = full spelling low.now base.now })) }
         ensures err { OnErr result (out.new.items ≡ out.old.items) };
 
@@ -58,7 +59,8 @@ impl Kind<Global> for Value<Global> {
         out: &mut Vec<u8>,
     ) -> Result<(), AllocError>
         requires { IsSized (FullLeaf spelling low.now base.now) }
-        ensures ok { OnOk result (out.new.items ≡ out.old.items ++ bytes_of (record { pid = pid; content = FullLeaf spelling low.now base.now })) }
+        ensures ok { OnOk result (out.new.items
+            ≡ out.old.items ++ bytes_of (record { pid = pid; content = FullLeaf spelling low.now base.now })) }
         ensures words { OnOk result (HasWords (record { pid = pid; content = FullLeaf spelling low.now base.now })) }
         ensures err { OnErr result (out.new.items ≡ out.old.items) }
     {
@@ -93,7 +95,8 @@ impl Kind<Global> for Pid {
         out: &mut Vec<u8>,
     ) -> Result<(), AllocError>
         requires { IsSized (FullIndex spelling low.now base.now) }
-        ensures ok { OnOk result (out.new.items ≡ out.old.items ++ bytes_of (record { pid = pid; content = FullIndex spelling low.now base.now })) }
+        ensures ok { OnOk result (out.new.items
+            ≡ out.old.items ++ bytes_of (record { pid = pid; content = FullIndex spelling low.now base.now })) }
         ensures words { OnOk result (HasWords (record { pid = pid; content = FullIndex spelling low.now base.now })) }
         ensures err { OnErr result (out.new.items ≡ out.old.items) }
     {

@@ -47,9 +47,21 @@ impl Model for Slot {
 
     ghost Value = { SlotSaid };
 
-    ghost view = { λ t. record { sequence = t.ends.sequence; head = t.ends.head; tail = t.ends.tail; root = t.root; height = t.height; version = t.version } };
+    ghost view = { λ t. record {
+      sequence = t.ends.sequence;
+      head = t.ends.head;
+      tail = t.ends.tail;
+      root = t.root;
+      height = t.height;
+      version = t.version;
+    } };
 
-    ghost inverse = { λ t. record { ends = record { sequence = t.sequence; head = t.head; tail = t.tail }; root = t.root; height = t.height; version = t.version } };
+    ghost inverse = { λ t. record {
+      ends = record { sequence = t.sequence; head = t.head; tail = t.tail };
+      root = t.root;
+      height = t.height;
+      version = t.version;
+    } };
 }
 
 // The number by which a slot tells the version.

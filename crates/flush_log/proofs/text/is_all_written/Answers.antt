@@ -36,5 +36,5 @@ loop-pid-preserved c = λ version.
 pub returns : goal.returns
 returns c = λ version.
     let t = tree_of c.args.tree.now in
-    let none = sym (c.loop-pid.invariant version) ∙ ap (λ (ns : List ℕ). flat_map (pid_text (Flush version) t) ns) c.in-None.ensures.steps in
+    let none = sym (c.loop-pid.invariant version) ∙ ap (λ (ns : List ℕ). flat_map (pid_text (Flush version) t) ns) c.in-None.ensures.steps.0 in
     (λ h. none, λ e. refl)
