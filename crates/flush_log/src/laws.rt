@@ -1,5 +1,5 @@
 //! What the definitions of `specs/` mean. Each law is the contract of a function with an empty body.
-ghost use Rattle.std.specs.Prelude.{◌≡◌, ℕ, suc, ◌+◌, ◌*◌, ◌<◌, ◌≤◌, Bool, true, false, not, nat_eq, List, [], ◌++◌, length, take, drop, None, Ok, Err};
+ghost use Rattle.std.specs.Prelude.{◌≡◌, ◌≢◌, ℕ, suc, ◌+◌, ◌*◌, ◌<◌, ◌≤◌, Bool, true, false, not, nat_eq, List, [], ◌++◌, length, take, drop, None, Ok, Err};
 ghost use Rattle.std.specs.List.{AllByRecursion, filter, starts_with, sum_by};
 ghost use Rattle.keys.specs.Bytes.{Bytes};
 ghost use Rattle.keys.specs.Cells.{AreBytes};
@@ -9,7 +9,7 @@ ghost use Rattle.keys.specs.declared.settings.Settings.{Settings};
 ghost use Rattle.keys.specs.declared.fault.Fault.{Fault};
 ghost use Rattle.keys.specs.declared.fault.Fault.TheVariants.{BadSegment, BadFrame};
 ghost use Rattle.keys.specs.declared.version.Version.TheVariants.{One, Two};
-ghost use Rattle.mapping.specs.Proper.{AreLogsTrue};
+ghost use Rattle.mapping.specs.Proper.{AreLogsTrue, IsProper};
 ghost use Rattle.mapping.specs.Tree.{Tree};
 ghost use Rattle.frame_codec.specs.declared.format.Format.{Format};
 ghost use Rattle.frame_codec.specs.Frame.{Frame, bytes_of, is_frame};
@@ -142,8 +142,9 @@ pub fn a_log_of_version_one_is_read_as_one_of_version_two()
 {}
 
 /// The text of an upgrade is that of a flush of version 2, as if the log had another page of each page id of which it has one, and it
-/// leaves the same tree.
+/// leaves the same tree. There is always something to write.
 pub fn an_upgrade_is_a_flush_of_outdated_pages()
     ensures text { (t : Tree) → AreLogsTrue t → upgrade_text t ≡ flush_text Two (outdated t) }
     ensures left { (t : Tree) → flushed (outdated t) ≡ flushed t }
+    ensures some { (s : Settings) (t : Tree) → IsProper s t → upgrade_text t ≢ [] }
 {}
