@@ -1,16 +1,15 @@
 -- What a log of version 1 holds it holds as one of version 2 too.
-use Rattle.std.specs.Prelude.{◌≡◌, ℕ, zero, suc, ◌+◌, ◌-◌, Bool, true, false, nat_eq, if◌then◌else◌, List, [], ◌∷◌, length, take, drop, Option, Some, None, Result, Ok, Err}
+use Rattle.std.specs.Prelude.{◌≡◌, ℕ, zero, suc, ◌+◌, ◌-◌, Bool, true, false, nat_eq, if◌then◌else◌, List, [], length, take, drop, Option, Some, None, Result, Ok, Err}
 use Rattle.std.specs.List.{starts_with}
 use Rattle.std.proofs.Common.{sym, ap, ap₂, ◌∙◌, refl}
 use Rattle.keys.specs.declared.settings.Settings.{Settings}
 use Rattle.keys.specs.declared.version.Version.TheVariants.{One, Two}
-use Rattle.keys.specs.declared.fault.Fault.{Fault}
 use Rattle.keys.specs.declared.fault.Fault.TheVariants.{BadSegment}
 use Rattle.frame_codec.specs.declared.format.Format.{Format}
 use Rattle.frame_codec.specs.Frame.{Frame}
 use Rattle.frame_codec.specs.Reading.{read_frame}
 use Rattle.frame_codec.proofs.VersionLemmas.{in_version, read-known}
-use Rattle.flush_log.specs.Reading.{Found, is_at_tail, is_padding, with_first, read_then, read_frames, in_segment, read_segment, followed_by, read_earlier, read_log, log_between}
+use Rattle.flush_log.specs.Reading.{Found, is_at_tail, is_padding, with_first, read_then, read_frames, in_segment, read_segment, followed_by, read_earlier, log_between}
 use Rattle.flush_log.specs.Segments.{segment_header, segment_bytes, last_segment, bytes_in_use}
 use Rattle.flush_log.proofs.ReadBackLemmas.{ok, followed_by-ok}
 use Rattle.flush_log.proofs.SegmentLemmas.{with_first-ok, in_segment-ok}

@@ -22,7 +22,6 @@ use Rattle.mapping.specs.Tree.Logged.{No, Old, Upto}
 use Rattle.mapping.specs.TreeInMemory.{TreeInMemory, AreAllHome, home_pages, tree_of}
 use Rattle.frame_codec.specs.declared.format.Format.{Format}
 use Rattle.frame_codec.specs.declared.format.Spelling.{Spelling}
-use Rattle.frame_codec.specs.declared.format.Spelling.TheVariants.{Whole, Shared}
 use Rattle.frame_codec.specs.Frame.{Content, Frame, bytes_of, is_run, is_known, is_readable, is_frame}
 use Rattle.frame_codec.specs.Frame.Content.{DeltaLeaf, DeltaIndex}
 use Rattle.frame_codec.specs.Sized.{has_sizes, IsSized, HasWords}

@@ -1,5 +1,5 @@
 -- The text of an upgrade is that of a flush of version 2, as if the log had another page of each pid of which it has one.
-use Rattle.std.specs.Prelude.{◌≡◌, ◌≢◌, ℕ, Bool, true, false, ◌||◌, nat_eq, if◌then◌else◌, List, [], ◌∷◌, ◌++◌, map, flat_map, Option, Some, None}
+use Rattle.std.specs.Prelude.{◌≡◌, ◌≢◌, ℕ, Bool, true, false, ◌||◌, nat_eq, if◌then◌else◌, List, [], ◌∷◌, ◌++◌, flat_map, Option, Some, None}
 use Rattle.std.specs.List.{AllByRecursion, filter}
 use Rattle.std.specs.Map.{keys_of}
 use Rattle.std.specs.Ordering.{nat_cmp, is_eq}
@@ -20,7 +20,7 @@ use Rattle.mapping.specs.Tree.Logged.{No, Old, Upto}
 use Rattle.mapping.proofs.PidLemmas.{all_among, among_either_by, among-with_number, or_true_right}
 use Rattle.mapping.proofs.TableLemmas.{holds_where_found}
 use Rattle.frame_codec.specs.declared.format.Spelling.TheVariants.{Shared}
-use Rattle.frame_codec.specs.Frame.{Content, Frame}
+use Rattle.frame_codec.specs.Frame.{Frame}
 use Rattle.flush_log.specs.FlushText.{lacking, frames_of, pid_text, pids_to_write, flush_text, upgrade_text, all_outdated, outdated}
 use Rattle.flush_log.specs.declared.text.Text.TheVariants.{Flush, Upgrade}
 
