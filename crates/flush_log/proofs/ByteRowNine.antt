@@ -2,10 +2,12 @@
 use Rattle.std.specs.Prelude.{◌≡◌, ℕ, List, [], ◌∷◌, ◌++◌, map, replicate, take, drop, codes, Some, Ok, Err}
 use Rattle.std.proofs.Common.{refl}
 use Rattle.keys.specs.declared.fault.Fault.TheVariants.{BadFrame}
+use Rattle.keys.specs.declared.version.Version.TheVariants.{One}
 use Rattle.keys.proofs.Literals.{S}
 use Rattle.frame_codec.specs.Frame.{Frame}
 use Rattle.frame_codec.specs.Frame.Content.{DeltaLeaf}
 use Rattle.frame_codec.proofs.RowForms.{hex}
+use Rattle.frame_codec.proofs.VersionLemmas.{in_version}
 use Rattle.flush_log.specs.Overlay.{overlay}
 use Rattle.flush_log.specs.Layout.{spans, with_spans, found_in_text}
 use Rattle.flush_log.specs.Reading.{log_between}
@@ -30,20 +32,20 @@ long = frame 0 (DeltaLeaf (map (λ k. (k ∷ codes "123456789abcdef", Some (code
 abbrev file : List ℕ
 file = with_spans S (with_spans S (replicate 1024 7) (spans S 0 long)) (spans S 179 text_of_row_4)
 
-found : log_between S file 0 310 ≡ Ok (found_in_text S 0 long ++ found_in_text S 179 text_of_row_4)
+found : log_between (in_version S One) file 0 310 ≡ Ok (found_in_text S 0 long ++ found_in_text S 179 text_of_row_4)
 found = refl
 
 in_segments : found_in_text S 179 text_of_row_4 ≡ map (λ f. record { segment = 0; frame = f }) (take 2 text_of_row_4) ++ map (λ f. record { segment = 1; frame = f }) (drop 2 text_of_row_4)
 in_segments = refl
 
 -- a byte of the padding isn't 0: the fault stands where the padding begins
-padding_with_a_7 : log_between S (overlay file 767 (7 ∷ [])) 0 310 ≡ Err (BadFrame 0 244)
+padding_with_a_7 : log_between (in_version S One) (overlay file 767 (7 ∷ [])) 0 310 ≡ Err (BadFrame 0 244)
 padding_with_a_7 = refl
 
 -- zeros are no end in the last segment
-zeros_before_the_tail : log_between S (overlay file 822 (0 ∷ 0 ∷ [])) 0 312 ≡ Err (BadFrame 1 54)
+zeros_before_the_tail : log_between (in_version S One) (overlay file 822 (0 ∷ 0 ∷ [])) 0 312 ≡ Err (BadFrame 1 54)
 zeros_before_the_tail = refl
 
 -- of two faults the first one is answered
-first_of_two : log_between S (overlay (overlay file 783 (2 ∷ [])) 528 (9 ∷ [])) 0 310 ≡ Err (BadFrame 0 16)
+first_of_two : log_between (in_version S One) (overlay (overlay file 783 (2 ∷ [])) 528 (9 ∷ [])) 0 310 ≡ Err (BadFrame 0 16)
 first_of_two = refl

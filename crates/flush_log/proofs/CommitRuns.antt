@@ -1,6 +1,7 @@
 -- The two halves of a commit on any disk, and what they leave.
 use Rattle.std.proofs.Common.{◌≡◌, ◌⊎◌, inl, inr, ⊎_elim, ℕ, suc, ◌+◌, ◌≤◌, Bool, true, false, ◌==◌, List, [], ◌∷◌, length, map, refl, sym, ap, subst, ◌∙◌, arith, eqb-true}
 use Rattle.keys.specs.declared.settings.Settings.{Settings}
+use Rattle.keys.specs.declared.version.Version.TheVariants.{One}
 use Rattle.frame_codec.specs.Frame.{Frame, bytes_of}
 use Rattle.flush_log.specs.Overlay.{overlay, IsBeside, AgreeAt}
 use Rattle.flush_log.specs.Images.{AreOfText}
@@ -15,7 +16,7 @@ use Rattle.flush_log.proofs.ViewLemmas.{then, leaves_only, only_then, weaker, no
 
 -- a slot with this number, where only its number counts
 abbrev numbered : ℕ → Slot
-numbered n = record { sequence = n; head = 0; tail = 0; root = 0; height = 0 }
+numbered n = record { sequence = n; head = 0; tail = 0; root = 0; height = 0; version = One }
 
 -- the same bytes written over files that agree beside them
 overlay_over : (a b : List ℕ) (at : ℕ) (bytes : List ℕ) → at + length bytes ≤ length a → AgreeAt (IsBeside at (length bytes)) a b → overlay b at bytes ≡ overlay a at bytes

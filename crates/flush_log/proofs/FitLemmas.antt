@@ -10,10 +10,12 @@ use Rattle.keys.specs.Sizes.{length_size, pid_size, segment_header_size, full_he
 use Rattle.keys.specs.declared.settings.Settings.{Settings}
 use Rattle.keys.proofs.LimitLemmas.{checked}
 use Rattle.index_page.specs.Rules.{is_short_value, of_cell}
-use Rattle.frame_codec.specs.Frame.{Content, Frame, bytes_of, is_pid, is_key, are_entries, is_content, is_frame}
+use Rattle.frame_codec.specs.declared.format.Format.{Format}
+use Rattle.frame_codec.specs.declared.format.Spelling.TheVariants.{Whole}
+use Rattle.frame_codec.specs.Frame.{Content, Frame, bytes_of, is_pid, is_key, are_entries, is_content, is_readable, is_allowed, is_frame}
 use Rattle.frame_codec.specs.Frame.Content.{FullLeaf, DeltaLeaf, FullIndex, DeltaIndex, Free}
 use Rattle.frame_codec.specs.Sizes.{where_present, size_of}
-use Rattle.frame_codec.proofs.SizeLemmas.{frame-size}
+use Rattle.frame_codec.proofs.SizeLemmas.{frame-size, leaf-shorter, index-shorter}
 
 -- ---- settings
 
@@ -64,30 +66,36 @@ module _ (s : Settings) where
   flagged_pid (Some p) = le-max_right (length_size + s.max_value) pid_size
 
   content_bound : (c : Content) → is_content s c ≡ true → size_of c ≤ full_header_size + s.max_key + s.fan * longest_change s
-  content_bound (FullLeaf low base) h =
+  content_bound (FullLeaf spelling low base) h =
       let (key, entries) = and_parts _ _ h in
       let low_short = leb-true (length low) s.max_key key in
       let sum = entries_bound s (is_short_value s) (λ e. pair_header_size + length e.0 + length e.1) (longest_change s) (λ e k v. let short = short_value e.1 v in omega arith) base entries in
-      omega arith
+      let whole : size_of (FullLeaf Whole low base) ≤ full_header_size + s.max_key + s.fan * longest_change s = omega arith in
+      let shorter = leaf-shorter spelling low base in
+      omega (arith, whole, shorter)
   content_bound (DeltaLeaf run) h =
       let (some, changes) = and_parts (nat_lt 0 (length run)) (are_entries s (of_cell (is_short_value s)) run) h in
       let sum = entries_bound s (of_cell (is_short_value s)) (λ e. change_header_size + length e.0 + where_present (λ v. length_size + length v) e.1) (longest_change s) (λ e k v. let short = flagged_value e.1 v in omega arith) run changes in
       omega arith
-  content_bound (FullIndex low base) h =
+  content_bound (FullIndex spelling low base) h =
       let (key, entries) = and_parts _ _ h in
       let low_short = leb-true (length low) s.max_key key in
       let most = le-max_right (length_size + s.max_value) pid_size in
       let sum = entries_bound s is_pid (λ e. child_header_size + length e.0) (longest_change s) (λ e k v. omega arith) base entries in
-      omega arith
+      let whole : size_of (FullIndex Whole low base) ≤ full_header_size + s.max_key + s.fan * longest_change s = omega arith in
+      let shorter = index-shorter spelling low base in
+      omega (arith, whole, shorter)
   content_bound (DeltaIndex run) h =
       let (some, changes) = and_parts (nat_lt 0 (length run)) (are_entries s (of_cell is_pid) run) h in
       let sum = entries_bound s (of_cell is_pid) (λ e. change_header_size + length e.0 + where_present (λ p. pid_size) e.1) (longest_change s) (λ e k v. let short = flagged_pid e.1 in omega arith) run changes in
       omega arith
   content_bound Free h = omega arith
 
-  pub frame_fits : (f : Frame) → first_bad_field s ≡ None → is_frame s f ≡ true → segment_header_size + length (bytes_of f) ≤ s.seg_size
-  frame_fits f good within =
-      let sized = (are_sized s good).longest in
-      let size = frame-size f in
-      let bound = content_bound f.content (and_parts (is_pid f.pid) (is_content s f.content) within).1 in
-      omega arith
+pub frame_fits : (g : Format) (f : Frame) → first_bad_field g.settings ≡ None → is_frame g f ≡ true → segment_header_size + length (bytes_of f) ≤ g.settings.seg_size
+frame_fits g f good within =
+    let s : Settings = g.settings in
+    let sized = (are_sized s good).longest in
+    let size = frame-size f in
+    let (known, sized_content) = and_parts (is_readable g.version f.content) (is_content s f.content) (and_parts (is_pid f.pid) (is_allowed g f.content) within).1 in
+    let bound = content_bound s f.content sized_content in
+    omega arith

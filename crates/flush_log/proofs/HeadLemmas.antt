@@ -7,6 +7,7 @@ use Rattle.std.proofs.lemmas.List.Elements.{filter-append}
 use Rattle.keys.specs.declared.settings.Settings.{Settings}
 use Rattle.keys.specs.declared.fault.Fault.{Fault}
 use Rattle.keys.specs.declared.fault.Fault.TheVariants.{BadSegment}
+use Rattle.frame_codec.specs.declared.format.Format.{Format}
 use Rattle.frame_codec.specs.Frame.{Frame}
 use Rattle.flush_log.specs.Reading.{Found, all_in, is_at_tail, is_padding, in_segment, read_frames, read_segment, followed_by, read_earlier, read_log, log_between}
 use Rattle.flush_log.specs.Segments.{segment_header, segment_bytes, last_segment, bytes_in_use}
@@ -51,51 +52,51 @@ all-in n [] = tt
 all-in n (f ∷ fs) = ((omega arith, omega arith), all-in n fs)
 
 -- what is found in segment n stands there
-segment-ok : (s : Settings) (is_end : List ℕ → Bool) (n : ℕ) (bytes : List ℕ) (found : List Found) → read_segment s is_end n bytes ≡ ok found → (fs : List Frame) × (found ≡ all_in n fs)
-segment-ok s is_end n bytes found = of (starts_with nat_eq bytes (segment_header n))
+segment-ok : (g : Format) (is_end : List ℕ → Bool) (n : ℕ) (bytes : List ℕ) (found : List Found) → read_segment g is_end n bytes ≡ ok found → (fs : List Frame) × (found ≡ all_in n fs)
+segment-ok g is_end n bytes found = of (starts_with nat_eq bytes (segment_header n))
   where
-    of : (b : Bool) → (if b then in_segment n (length bytes) (read_frames s is_end (length bytes) (drop 16 bytes)) else Err (BadSegment n)) ≡ ok found → (fs : List Frame) × (found ≡ all_in n fs)
-    of true h = let (fs, read, all) = in_segment-ok n (length bytes) (read_frames s is_end (length bytes) (drop 16 bytes)) found h in (fs, all)
+    of : (b : Bool) → (if b then in_segment n (length bytes) (read_frames g is_end (length bytes) (drop 16 bytes)) else Err (BadSegment n)) ≡ ok found → (fs : List Frame) × (found ≡ all_in n fs)
+    of true h = let (fs, read, all) = in_segment-ok n (length bytes) (read_frames g is_end (length bytes) (drop 16 bytes)) found h in (fs, all)
     of false h = absurd (cc)
 
-module _ (s : Settings) (file : List ℕ) where
-  earlier-first : (head k : ℕ) → read_earlier s file head (suc k) ≡ followed_by (read_segment s is_padding head (segment_bytes s file head)) (read_earlier s file (suc head) k)
+module _ (g : Format) (file : List ℕ) where
+  earlier-first : (head k : ℕ) → read_earlier g file head (suc k) ≡ followed_by (read_segment g is_padding head (segment_bytes g.settings file head)) (read_earlier g file (suc head) k)
   earlier-first head zero =
       let same : head + 0 ≡ head = omega arith in
-      none-followed (read_segment s is_padding (head + 0) (segment_bytes s file (head + 0)))
-      ∙ ap (λ (n : ℕ). read_segment s is_padding n (segment_bytes s file n)) same
-      ∙ sym (followed-none (read_segment s is_padding head (segment_bytes s file head)))
+      none-followed (read_segment g is_padding (head + 0) (segment_bytes g.settings file (head + 0)))
+      ∙ ap (λ (n : ℕ). read_segment g is_padding n (segment_bytes g.settings file n)) same
+      ∙ sym (followed-none (read_segment g is_padding head (segment_bytes g.settings file head)))
   earlier-first head (suc k) =
       let same : head + suc k ≡ suc head + k = omega arith in
-      let first : Result (List Found) Fault = read_segment s is_padding head (segment_bytes s file head) in
-      ap (λ (x : Result (List Found) Fault). followed_by x (read_segment s is_padding (head + suc k) (segment_bytes s file (head + suc k)))) (earlier-first head k)
-      ∙ followed_by-assoc first (read_earlier s file (suc head) k) (read_segment s is_padding (head + suc k) (segment_bytes s file (head + suc k)))
-      ∙ ap (λ (n : ℕ). followed_by first (followed_by (read_earlier s file (suc head) k) (read_segment s is_padding n (segment_bytes s file n)))) same
+      let first : Result (List Found) Fault = read_segment g is_padding head (segment_bytes g.settings file head) in
+      ap (λ (x : Result (List Found) Fault). followed_by x (read_segment g is_padding (head + suc k) (segment_bytes g.settings file (head + suc k)))) (earlier-first head k)
+      ∙ followed_by-assoc first (read_earlier g file (suc head) k) (read_segment g is_padding (head + suc k) (segment_bytes g.settings file (head + suc k)))
+      ∙ ap (λ (n : ℕ). followed_by first (followed_by (read_earlier g file (suc head) k) (read_segment g is_padding n (segment_bytes g.settings file n)))) same
 
-  log-first : (head k used : ℕ) → read_log s file head (suc k) used ≡ followed_by (read_segment s is_padding head (segment_bytes s file head)) (read_log s file (suc head) k used)
+  log-first : (head k used : ℕ) → read_log g file head (suc k) used ≡ followed_by (read_segment g is_padding head (segment_bytes g.settings file head)) (read_log g file (suc head) k used)
   log-first head k used =
       let same : head + suc k ≡ suc head + k = omega arith in
-      let first : Result (List Found) Fault = read_segment s is_padding head (segment_bytes s file head) in
-      ap (λ (x : Result (List Found) Fault). followed_by x (read_segment s is_at_tail (head + suc k) (take used (segment_bytes s file (head + suc k))))) (earlier-first head k)
-      ∙ followed_by-assoc first (read_earlier s file (suc head) k) (read_segment s is_at_tail (head + suc k) (take used (segment_bytes s file (head + suc k))))
-      ∙ ap (λ (n : ℕ). followed_by first (followed_by (read_earlier s file (suc head) k) (read_segment s is_at_tail n (take used (segment_bytes s file n))))) same
+      let first : Result (List Found) Fault = read_segment g is_padding head (segment_bytes g.settings file head) in
+      ap (λ (x : Result (List Found) Fault). followed_by x (read_segment g is_at_tail (head + suc k) (take used (segment_bytes g.settings file (head + suc k))))) (earlier-first head k)
+      ∙ followed_by-assoc first (read_earlier g file (suc head) k) (read_segment g is_at_tail (head + suc k) (take used (segment_bytes g.settings file (head + suc k))))
+      ∙ ap (λ (n : ℕ). followed_by first (followed_by (read_earlier g file (suc head) k) (read_segment g is_at_tail n (take used (segment_bytes g.settings file n))))) same
 
-  segment-in : (is_end : List ℕ → Bool) (n : ℕ) (bytes : List ℕ) (found : List Found) → read_segment s is_end n bytes ≡ ok found → AreIn n n found
-  segment-in is_end n bytes found h = let (fs, all) = segment-ok s is_end n bytes found h in subst (λ (xs : List Found). AreIn n n xs) (sym all) (all-in n fs)
+  segment-in : (is_end : List ℕ → Bool) (n : ℕ) (bytes : List ℕ) (found : List Found) → read_segment g is_end n bytes ≡ ok found → AreIn n n found
+  segment-in is_end n bytes found h = let (fs, all) = segment-ok g is_end n bytes found h in subst (λ (xs : List Found). AreIn n n xs) (sym all) (all-in n fs)
 
-  earlier-in : (head k : ℕ) (found : List Found) → read_earlier s file head k ≡ ok found → AreIn head (head + k) found
+  earlier-in : (head k : ℕ) (found : List Found) → read_earlier g file head k ≡ ok found → AreIn head (head + k) found
   earlier-in head zero found h = let none : [] ≡ found = cc in subst (λ (xs : List Found). AreIn head (head + 0) xs) none tt
   earlier-in head (suc k) found h =
-      let (before, more, old, read, all) = followed_by-ok (read_earlier s file head k) (read_segment s is_padding (head + k) (segment_bytes s file (head + k))) found h in
+      let (before, more, old, read, all) = followed_by-ok (read_earlier g file head k) (read_segment g is_padding (head + k) (segment_bytes g.settings file (head + k))) found h in
       subst (λ (xs : List Found). AreIn head (head + suc k) xs) (sym all) (are-joined head (head + suc k) before more
       (are-wider head (head + k) head (head + suc k) before (omega arith) (omega arith) (earlier-in head k before old))
-      (are-wider (head + k) (head + k) head (head + suc k) more (omega arith) (omega arith) (segment-in is_padding (head + k) (segment_bytes s file (head + k)) more read)))
+      (are-wider (head + k) (head + k) head (head + suc k) more (omega arith) (omega arith) (segment-in is_padding (head + k) (segment_bytes g.settings file (head + k)) more read)))
 
-  log-in : (head k used : ℕ) (found : List Found) → read_log s file head k used ≡ ok found → AreIn head (head + k) found
+  log-in : (head k used : ℕ) (found : List Found) → read_log g file head k used ≡ ok found → AreIn head (head + k) found
   log-in head k used found h =
-      let (before, more, old, read, all) = followed_by-ok (read_earlier s file head k) (read_segment s is_at_tail (head + k) (take used (segment_bytes s file (head + k)))) found h in
+      let (before, more, old, read, all) = followed_by-ok (read_earlier g file head k) (read_segment g is_at_tail (head + k) (take used (segment_bytes g.settings file (head + k)))) found h in
       subst (λ (xs : List Found). AreIn head (head + k) xs) (sym all) (are-joined head (head + k) before more (earlier-in head k before old)
-      (are-wider (head + k) (head + k) head (head + k) more (omega arith) (omega arith) (segment-in is_at_tail (head + k) (take used (segment_bytes s file (head + k))) more read)))
+      (are-wider (head + k) (head + k) head (head + k) more (omega arith) (omega arith) (segment-in is_at_tail (head + k) (take used (segment_bytes g.settings file (head + k))) more read)))
 
 -- ---- the head segment taken off
 
@@ -107,55 +108,56 @@ filter-all : (n high : ℕ) (found : List Found) → AllByRecursion (λ f. (suc 
 filter-all n high [] above = refl
 filter-all n high (f ∷ found) above = rw (ne_eqb f.segment n (λ e. let one = above.0 in omega (arith, one, e))) (ap (λ (xs : List Found). f ∷ xs) (filter-all n high found above.1))
 
-module _ (s : Settings) (file : List ℕ) (head tail : ℕ) (found : List Found) (more : head < last_segment s tail) (read : log_between s file head tail ≡ ok found) where
+module _ (g : Format) (file : List ℕ) (head tail : ℕ) (found : List Found) (more : head < last_segment g.settings tail) (read : log_between g file head tail ≡ ok found) where
   -- what was found in the head segment, and the rest, which is what is found from the next one on
   pub record HeadOff : Type 0 where
     pub here : List Frame
     pub rest : List Found
     pub all : found ≡ all_in head here ++ rest
-    pub later : AllByRecursion (λ f. (suc head ≤ f.segment) × (f.segment ≤ last_segment s tail)) rest
-    pub read_on : log_between s file (suc head) tail ≡ ok rest
+    pub later : AllByRecursion (λ f. (suc head ≤ f.segment) × (f.segment ≤ last_segment g.settings tail)) rest
+    pub read_on : log_between g file (suc head) tail ≡ ok rest
 
   -- the same of segments that are counted
-  off_by : (count k used : ℕ) → count ≡ suc k → read_log s file head count used ≡ ok found
-      → (in_head rest : List Found) × (read_segment s is_padding head (segment_bytes s file head) ≡ ok in_head) × (read_log s file (suc head) k used ≡ ok rest) × (found ≡ in_head ++ rest)
+  off_by : (count k used : ℕ) → count ≡ suc k → read_log g file head count used ≡ ok found
+      → (in_head rest : List Found) × (read_segment g is_padding head (segment_bytes g.settings file head) ≡ ok in_head) × (read_log g file (suc head) k used ≡ ok rest) × (found ≡ in_head ++ rest)
   off_by count k used is reads =
-      followed_by-ok (read_segment s is_padding head (segment_bytes s file head)) (read_log s file (suc head) k used) found
-      (sym (log-first s file head k used) ∙ subst (λ (n : ℕ). read_log s file head n used ≡ ok found) is reads)
+      followed_by-ok (read_segment g is_padding head (segment_bytes g.settings file head)) (read_log g file (suc head) k used) found
+      (sym (log-first g file head k used) ∙ subst (λ (n : ℕ). read_log g file head n used ≡ ok found) is reads)
 
-  made_of : (in_head rest : List Found) → read_segment s is_padding head (segment_bytes s file head) ≡ ok in_head → log_between s file (suc head) tail ≡ ok rest → found ≡ in_head ++ rest → HeadOff
+  made_of : (in_head rest : List Found) → read_segment g is_padding head (segment_bytes g.settings file head) ≡ ok in_head → log_between g file (suc head) tail ≡ ok rest → found ≡ in_head ++ rest → HeadOff
   made_of in_head rest first behind all =
-      let (here, are) = segment-ok s is_padding head (segment_bytes s file head) in_head first in
+      let (here, are) = segment-ok g is_padding head (segment_bytes g.settings file head) in_head first in
       record {
         here = here;
         rest = rest;
         all = all ∙ ap (λ (xs : List Found). xs ++ rest) are;
-        later = are-wider (suc head) (suc head + (last_segment s tail - suc head)) (suc head) (last_segment s tail) rest (omega arith) (omega (arith, more))
-            (log-in s file (suc head) (last_segment s tail - suc head) (bytes_in_use s tail) rest behind);
+        later = are-wider (suc head) (suc head + (last_segment g.settings tail - suc head)) (suc head) (last_segment g.settings tail) rest (omega arith) (omega (arith, more))
+            (log-in g file (suc head) (last_segment g.settings tail - suc head) (bytes_in_use g.settings tail) rest behind);
         read_on = behind;
       }
 
   pub head-off : HeadOff
-  head-off = let parts = off_by (last_segment s tail - head) (last_segment s tail - suc head) (bytes_in_use s tail) (omega (arith, more)) read in made_of parts.0 parts.1 parts.2 parts.3 parts.4
+  head-off = let parts = off_by (last_segment g.settings tail - head) (last_segment g.settings tail - suc head) (bytes_in_use g.settings tail) (omega (arith, more)) read in made_of parts.0 parts.1 parts.2 parts.3 parts.4
 
-  pub head-filtered : log_between s file (suc head) tail ≡ ok (filter (λ f. not (nat_eq f.segment head)) found)
+  pub head-filtered : log_between g file (suc head) tail ≡ ok (filter (λ f. not (nat_eq f.segment head)) found)
   head-filtered =
       let off = head-off in
       off.read_on
       ∙ ap ok (sym (ap (λ (xs : List Found). filter (λ f. not (nat_eq f.segment head)) xs) off.all
       ∙ filter-append (λ f. not (nat_eq f.segment head)) (all_in head off.here) off.rest
       ∙ ap (λ (xs : List Found). xs ++ filter (λ f. not (nat_eq f.segment head)) off.rest) (filter-none head off.here)
-      ∙ filter-all head (last_segment s tail) off.rest off.later))
+      ∙ filter-all head (last_segment g.settings tail) off.rest off.later))
+
+module _ (g : Format) where
+  -- all that is found stands in a segment from the head to the last
+  pub found-in : (file : List ℕ) (head tail : ℕ) (found : List Found) → 0 < g.settings.seg_size → head * g.settings.seg_size < tail → log_between g file head tail ≡ ok found
+      → AllByRecursion (λ f. (head ≤ f.segment) × (f.segment ≤ last_segment g.settings tail)) found
+  found-in file head tail found some h read =
+      let split = split-tail g.settings head tail some h in
+      let from = split.from in
+      are-wider head (head + (last_segment g.settings tail - head)) head (last_segment g.settings tail) found (omega arith) (omega (arith, from)) (log-in g file head (last_segment g.settings tail - head) (bytes_in_use g.settings tail) found read)
 
 module _ (s : Settings) where
-  -- all that is found stands in a segment from the head to the last
-  pub found-in : (file : List ℕ) (head tail : ℕ) (found : List Found) → 0 < s.seg_size → head * s.seg_size < tail → log_between s file head tail ≡ ok found
-      → AllByRecursion (λ f. (head ≤ f.segment) × (f.segment ≤ last_segment s tail)) found
-  found-in file head tail found some h read =
-      let split = split-tail s head tail some h in
-      let from = split.from in
-      are-wider head (head + (last_segment s tail - head)) head (last_segment s tail) found (omega arith) (omega (arith, from)) (log-in s file head (last_segment s tail - head) (bytes_in_use s tail) found read)
-
   placed-from : (n offset : ℕ) (fs : List Frame) → AllByRecursion (λ f. n ≤ f.segment) (map found_at (placed_from s n offset fs))
   placed-from =
       by_places s (λ n offset fs ps. AllByRecursion (λ f. n ≤ f.segment) (map found_at ps))

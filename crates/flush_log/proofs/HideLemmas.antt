@@ -7,6 +7,7 @@ use Rattle.std.proofs.lemmas.Bool.{cases_lt}
 use Rattle.std.proofs.lemmas.List.{take-take}
 use Rattle.keys.specs.Limits.{first_bad_field}
 use Rattle.keys.specs.declared.settings.Settings.{Settings}
+use Rattle.frame_codec.specs.declared.format.Format.{Format}
 use Rattle.frame_codec.specs.Frame.{Frame, bytes_of, is_frame}
 use Rattle.index_page.proofs.ListLemmas.{all_weaker}
 use Rattle.flush_log.specs.Commit.{AreWithin, IsBesideSpans}
@@ -34,54 +35,55 @@ module _ (s : Settings) where
       let low = h.in_segment in
       (omega (arith, is), omega (arith, is, low, p))
 
+module _ (g : Format) where
   -- files that agree at the places of the log have the same one
-  pub hidden : (file other : List ℕ) (head tail : ℕ) → 0 < s.seg_size → 0 < s.segments → HasSegments s file → head * s.seg_size < tail → AgreeAt (IsInLog s head tail) file other → log_between s other head tail ≡ log_between s file head tail
+  pub hidden : (file other : List ℕ) (head tail : ℕ) → 0 < g.settings.seg_size → 0 < g.settings.segments → HasSegments g.settings file → head * g.settings.seg_size < tail → AgreeAt (IsInLog g.settings head tail) file other → log_between g other head tail ≡ log_between g file head tail
   hidden file other head tail size count whole h same =
-      let split = split-tail s head tail size h in
-      let q : ℕ = last_segment s tail in
-      let used : ℕ = bytes_in_use s tail in
+      let split = split-tail g.settings head tail size h in
+      let q : ℕ = last_segment g.settings tail in
+      let used : ℕ = bytes_in_use g.settings tail in
       let from = split.from in
       let is = split.is in
       let low = split.low in
       let high = split.high in
-      let k : ℕ = last_segment s tail - head in
-      let at : last_segment s tail ≡ head + (last_segment s tail - head) = omega (arith, from) in
-      log-same s file other head k used
-      (λ m less. let room = place-within s (head + m) count in
-      let below = next_above (head + m) (last_segment s tail) (omega (arith, less, from)) in
-      part_same (IsInLog s head tail) file other (place_of_segment s (head + m)) s.seg_size (omega (arith, room, whole)) (λ i a b. record {
+      let k : ℕ = last_segment g.settings tail - head in
+      let at : last_segment g.settings tail ≡ head + (last_segment g.settings tail - head) = omega (arith, from) in
+      log-same g file other head k used
+      (λ m less. let room = place-within g.settings (head + m) count in
+      let below = next_above g.settings (head + m) (last_segment g.settings tail) (omega (arith, less, from)) in
+      part_same (IsInLog g.settings head tail) file other (place_of_segment g.settings (head + m)) g.settings.seg_size (omega (arith, room, whole)) (λ i a b. record {
         segment = head + m;
-        offset = i - place_of_segment s (head + m);
+        offset = i - place_of_segment g.settings (head + m);
         from_head = omega arith;
         in_segment = omega (arith, a, b);
         before_tail = omega (arith, a, b, below, is, low);
         stands = omega (arith, a);
       }) same)
-      (let room = place-within s (head + k) count in
-      let same_start : (head + (last_segment s tail - head)) * s.seg_size ≡ last_segment s tail * s.seg_size = ap (λ (m : ℕ). m * s.seg_size) (sym at) in
-      take-take used s.seg_size (drop (place_of_segment s (head + k)) other) high
-      ∙ part_same (IsInLog s head tail) file other (place_of_segment s (head + k)) used (omega (arith, room, whole, high)) (λ i a b. record {
+      (let room = place-within g.settings (head + k) count in
+      let same_start : (head + (last_segment g.settings tail - head)) * g.settings.seg_size ≡ last_segment g.settings tail * g.settings.seg_size = ap (λ (m : ℕ). m * g.settings.seg_size) (sym at) in
+      take-take used g.settings.seg_size (drop (place_of_segment g.settings (head + k)) other) high
+      ∙ part_same (IsInLog g.settings head tail) file other (place_of_segment g.settings (head + k)) used (omega (arith, room, whole, high)) (λ i a b. record {
         segment = head + k;
-        offset = i - place_of_segment s (head + k);
+        offset = i - place_of_segment g.settings (head + k);
         from_head = omega arith;
         in_segment = omega (arith, a, b, high);
         before_tail = omega (arith, a, b, is, same_start);
         stands = omega (arith, a);
       }) same
-      ∙ sym (take-take used s.seg_size (drop (place_of_segment s (head + k)) file) high))
+      ∙ sym (take-take used g.settings.seg_size (drop (place_of_segment g.settings (head + k)) file) high))
 
 -- ---- where a text is written
 
-module _ (s : Settings) where
+module _ (g : Format) where
   -- a span of the segment q from the byte `used` on, or of a later segment that is free
   record IsBehind (head q used : ℕ) (r : Span) : Type 0 where
     later : q ≤ r.segment
     beyond : r.segment ≡ q → used ≤ r.offset
-    free : r.segment < head + s.segments
-    fits : end_of r ≤ s.seg_size
+    free : r.segment < head + g.settings.segments
+    fits : end_of r ≤ g.settings.seg_size
 
   -- no place of the log is in it
-  beside : (head tail q used : ℕ) (r : Span) → tail ≡ position s q used → used ≤ s.seg_size → IsBehind head q used r → (place : ℕ) → IsInLog s head tail place → IsBeside (place_of_span s r) (length r.bytes) place
+  beside : (head tail q used : ℕ) (r : Span) → tail ≡ position g.settings q used → used ≤ g.settings.seg_size → IsBehind head q used r → (place : ℕ) → IsInLog g.settings head tail place → IsBeside (place_of_span g.settings r) (length r.bytes) place
   beside head tail q used r is high h place in_log =
       let m : ℕ = in_log.segment in
       let later = h.later in
@@ -93,28 +95,28 @@ module _ (s : Settings) where
       let stands = in_log.stands in
       elim (cases_lt in_log.segment r.segment) [
         | inl less ↦
-            (let apart = places-beside s in_log.segment r.segment (remainders_differ in_log.segment r.segment s.segments less (omega (arith, free, from))) in
+            (let apart = places-beside g.settings in_log.segment r.segment (remainders_differ in_log.segment r.segment g.settings.segments less (omega (arith, free, from))) in
             grind (arith, apart, fits, low, stands))
         | inr above ↦
             elim (cases_lt q in_log.segment) [
-              | inl past ↦ (let p = next_above s q in_log.segment past in absurd (omega (arith, p, before, is, high)))
+              | inl past ↦ (let p = next_above g.settings q in_log.segment past in absurd (omega (arith, p, before, is, high)))
               | inr most ↦
                   (let same : r.segment ≡ q = omega (arith, above, most, later) in
                   let here : in_log.segment ≡ r.segment = omega (arith, above, most, later) in
-                  let start : place_of_segment s in_log.segment ≡ place_of_segment s r.segment = ap (λ (n : ℕ). place_of_segment s n) here in
-                  let first : in_log.segment * s.seg_size ≡ q * s.seg_size = ap (λ (n : ℕ). n * s.seg_size) (here ∙ same) in
+                  let start : place_of_segment g.settings in_log.segment ≡ place_of_segment g.settings r.segment = ap (λ (n : ℕ). place_of_segment g.settings n) here in
+                  let first : in_log.segment * g.settings.seg_size ≡ q * g.settings.seg_size = ap (λ (n : ℕ). n * g.settings.seg_size) (here ∙ same) in
                   let beyond = h.beyond same in
                   inl (omega (arith, stands, start, first, before, is, beyond)))
             ]
       ]
 
   abbrev AreBehind : ℕ → ℕ → ℕ → ℕ → ℕ → List Frame → List PlacedFrame → Type 0
-  AreBehind head q used n offset fs ps = (n ≤ (end_point n offset ps).0) × ((r : Span) → r.segment ≡ n → end_of r ≡ offset → q ≤ n → (n ≡ q → used ≤ r.offset) → offset ≤ s.seg_size → AllFit s fs →
-      (end_point n offset ps).0 < head + s.segments → AllByRecursion (IsBehind head q used) (spans_from s r ps))
+  AreBehind head q used n offset fs ps = (n ≤ (end_point n offset ps).0) × ((r : Span) → r.segment ≡ n → end_of r ≡ offset → q ≤ n → (n ≡ q → used ≤ r.offset) → offset ≤ g.settings.seg_size → AllFit g.settings fs →
+      (end_point n offset ps).0 < head + g.settings.segments → AllByRecursion (IsBehind head q used) (spans_from g.settings r ps))
 
-  all-behind : (head q used n offset : ℕ) (fs : List Frame) → AreBehind head q used n offset fs (placed_from s n offset fs)
+  all-behind : (head q used n offset : ℕ) (fs : List Frame) → AreBehind head q used n offset fs (placed_from g.settings n offset fs)
   all-behind head q used =
-      by_places s (AreBehind head q used)
+      by_places g.settings (AreBehind head q used)
       (λ n offset. (
         omega arith,
         λ r number end later beyond room all free.
@@ -124,61 +126,61 @@ module _ (s : Settings) where
         further.0,
         λ r number end later beyond room all free.
             let long = length-append r.bytes (bytes_of f) in
-            rw (goes_on_span s r (record { segment = n; offset = offset; frame = f }) ps number)
+            rw (goes_on_span g.settings r (record { segment = n; offset = offset; frame = f }) ps number)
             (further.1 (longer r (bytes_of f)) number (omega (arith, long, end)) later beyond fit all.1 free),
       ))
       (λ n offset f fs ps further. (
         let rise = further.0 in omega arith,
         λ r number end later beyond room all free.
             let rise = further.0 in
-            let full = filled-end s r (omega (arith, end, room)) in
-            rw (next_span s r (record { segment = suc n; offset = 16; frame = f }) ps (ap suc (sym number))) (
+            let full = filled-end g.settings r (omega (arith, end, room)) in
+            rw (next_span g.settings r (record { segment = suc n; offset = 16; frame = f }) ps (ap suc (sym number))) (
               record { later = omega (arith, number, later); beyond = λ e. beyond (omega (arith, e, number)); free = omega (arith, number, rise, free); fits = omega (arith, full) },
               further.1 (begun (suc n) (bytes_of f)) refl (omega arith) (omega (arith, later)) (λ e. absurd (omega (arith, e, later))) (let one = all.0 in omega (arith, one)) all.1 free,
             ),
       ))
 
-  starts-behind : (head q used n at : ℕ) (fs : List Frame) → Start s q used n at → 1 ≤ used → 16 ≤ s.seg_size → AllFit s fs
-      → (end_point n (behind_header at) (placed_from s n (behind_header at) fs)).0 < head + s.segments
-      → AllByRecursion (IsBehind head q used) (spans_from s (opened n at) (placed_from s n (behind_header at) fs))
+  starts-behind : (head q used n at : ℕ) (fs : List Frame) → Start g.settings q used n at → 1 ≤ used → 16 ≤ g.settings.seg_size → AllFit g.settings fs
+      → (end_point n (behind_header at) (placed_from g.settings n (behind_header at) fs)).0 < head + g.settings.segments
+      → AllByRecursion (IsBehind head q used) (spans_from g.settings (opened n at) (placed_from g.settings n (behind_header at) fs))
   starts-behind head q used n at fs (Inside room) low high all free =
-      let start = behind_header-within s.seg_size used room high in
+      let start = behind_header-within g.settings.seg_size used room high in
       let offset : (opened q used).offset ≡ used = ap (λ (r : Span). r.offset) (opened-inside q used low) in
       (all-behind head q used q (behind_header used) fs).1 (opened q used) (opened-segment q used) (opened-end q used) (omega arith) (λ e. omega (arith, offset)) start.1 all free
   starts-behind head q used n at fs (Behind full) low high all free =
       (all-behind head q used (suc q) 16 fs).1 (opened (suc q) 0) refl (opened-end (suc q) 0) (omega arith) (λ e. absurd (omega arith)) high all free
 
-  module _ (good : first_bad_field s ≡ None) where
-    text-behind : (head tail : ℕ) (text : List Frame) → head * s.seg_size < tail → AllByRecursion (λ f. is_frame s f ≡ true) text → last_segment s (tail_after s tail text) < head + s.segments
-        → AllByRecursion (IsBehind head (last_segment s tail) (bytes_in_use s tail)) (spans s tail text)
+  module _ (good : first_bad_field g.settings ≡ None) where
+    text-behind : (head tail : ℕ) (text : List Frame) → head * g.settings.seg_size < tail → AllByRecursion (λ f. is_frame g f ≡ true) text → last_segment g.settings (tail_after g.settings tail text) < head + g.settings.segments
+        → AllByRecursion (IsBehind head (last_segment g.settings tail) (bytes_in_use g.settings tail)) (spans g.settings tail text)
     text-behind head tail [] h within free = tt
     text-behind head tail (f ∷ fs) h within free =
-        let least = (are_sized s good).least_size in
-        let split = split-tail s head tail (omega arith) h in
-        let all = all_fit s good (f ∷ fs) within in
-        let (last, used) = text-last s tail (f ∷ fs) (omega arith) (omega arith) all in
-        starts-behind head (last_segment s tail) (bytes_in_use s tail) (tail / s.seg_size) (tail % s.seg_size) (f ∷ fs)
-        (starts s (last_segment s tail) (bytes_in_use s tail) tail split.is split.high (omega arith)) split.low (omega arith) all (omega (arith, last, free))
+        let least = (are_sized g.settings good).least_size in
+        let split = split-tail g.settings head tail (omega arith) h in
+        let all = all_fit g good (f ∷ fs) within in
+        let (last, used) = text-last g.settings tail (f ∷ fs) (omega arith) (omega arith) all in
+        starts-behind head (last_segment g.settings tail) (bytes_in_use g.settings tail) (tail / g.settings.seg_size) (tail % g.settings.seg_size) (f ∷ fs)
+        (starts g.settings (last_segment g.settings tail) (bytes_in_use g.settings tail) tail split.is split.high (omega arith)) split.low (omega arith) all (omega (arith, last, free))
 
     -- no place of the log is in a span of a text that finds room
-    pub text-beside : (head tail : ℕ) (text : List Frame) → head * s.seg_size < tail → AllByRecursion (λ f. is_frame s f ≡ true) text → last_segment s (tail_after s tail text) < head + s.segments
-        → (place : ℕ) → IsInLog s head tail place → IsBesideSpans s (spans s tail text) place
+    pub text-beside : (head tail : ℕ) (text : List Frame) → head * g.settings.seg_size < tail → AllByRecursion (λ f. is_frame g f ≡ true) text → last_segment g.settings (tail_after g.settings tail text) < head + g.settings.segments
+        → (place : ℕ) → IsInLog g.settings head tail place → IsBesideSpans g.settings (spans g.settings tail text) place
     text-beside head tail text h within free place in_log =
-        let least = (are_sized s good).least_size in
-        let split = split-tail s head tail (omega arith) h in
-        all_weaker (IsBehind head (last_segment s tail) (bytes_in_use s tail)) (λ r. IsBeside (place_of_span s r) (length r.bytes) place)
-        (λ r behind. beside head tail (last_segment s tail) (bytes_in_use s tail) r split.is split.high behind place in_log) (spans s tail text) (text-behind head tail text h within free)
+        let least = (are_sized g.settings good).least_size in
+        let split = split-tail g.settings head tail (omega arith) h in
+        all_weaker (IsBehind head (last_segment g.settings tail) (bytes_in_use g.settings tail)) (λ r. IsBeside (place_of_span g.settings r) (length r.bytes) place)
+        (λ r behind. beside head tail (last_segment g.settings tail) (bytes_in_use g.settings tail) r split.is split.high behind place in_log) (spans g.settings tail text) (text-behind head tail text h within free)
 
     -- nor one before the segments; and all lie within them
-    pub text-apart : (head tail : ℕ) (text : List Frame) → head * s.seg_size < tail → AllByRecursion (λ f. is_frame s f ≡ true) text → last_segment s (tail_after s tail text) < head + s.segments
-        → (place : ℕ) → place < 512 → IsBesideSpans s (spans s tail text) place
+    pub text-apart : (head tail : ℕ) (text : List Frame) → head * g.settings.seg_size < tail → AllByRecursion (λ f. is_frame g f ≡ true) text → last_segment g.settings (tail_after g.settings tail text) < head + g.settings.segments
+        → (place : ℕ) → place < 512 → IsBesideSpans g.settings (spans g.settings tail text) place
     text-apart head tail text h within free place low =
-        all_weaker (IsBehind head (last_segment s tail) (bytes_in_use s tail)) (λ r. IsBeside (place_of_span s r) (length r.bytes) place)
-        (λ r behind. inl (omega (arith, low))) (spans s tail text) (text-behind head tail text h within free)
+        all_weaker (IsBehind head (last_segment g.settings tail) (bytes_in_use g.settings tail)) (λ r. IsBeside (place_of_span g.settings r) (length r.bytes) place)
+        (λ r behind. inl (omega (arith, low))) (spans g.settings tail text) (text-behind head tail text h within free)
 
-    pub text-inside : (head tail : ℕ) (text : List Frame) → head * s.seg_size < tail → AllByRecursion (λ f. is_frame s f ≡ true) text → last_segment s (tail_after s tail text) < head + s.segments
-        → AreWithin s (512 + s.segments * s.seg_size) (spans s tail text)
+    pub text-inside : (head tail : ℕ) (text : List Frame) → head * g.settings.seg_size < tail → AllByRecursion (λ f. is_frame g f ≡ true) text → last_segment g.settings (tail_after g.settings tail text) < head + g.settings.segments
+        → AreWithin g.settings (512 + g.settings.segments * g.settings.seg_size) (spans g.settings tail text)
     text-inside head tail text h within free =
-        let least = (are_sized s good).least_count in
-        all_weaker (IsBehind head (last_segment s tail) (bytes_in_use s tail)) (λ r. place_of_span s r + length r.bytes ≤ 512 + s.segments * s.seg_size)
-        (λ r behind. let fits = behind.fits in let room = place-within s r.segment (omega arith) in omega (arith, fits, room)) (spans s tail text) (text-behind head tail text h within free)
+        let least = (are_sized g.settings good).least_count in
+        all_weaker (IsBehind head (last_segment g.settings tail) (bytes_in_use g.settings tail)) (λ r. place_of_span g.settings r + length r.bytes ≤ 512 + g.settings.segments * g.settings.seg_size)
+        (λ r behind. let fits = behind.fits in let room = place-within g.settings r.segment (omega arith) in omega (arith, fits, room)) (spans g.settings tail text) (text-behind head tail text h within free)

@@ -21,6 +21,7 @@ pub mod Literals
 pub mod NewStoreLemmas
 pub mod NextSlotLemmas
 pub mod NumberLemmas
+pub mod OlderLemmas
 pub mod OutcomeLemmas
 pub mod OverlayLemmas
 pub mod PlaceLemmas
@@ -44,5 +45,7 @@ pub mod StandsLemmas
 pub mod TailLemmas
 pub mod TextImages
 mod TextRows
+pub mod UpgradeLemmas
+mod UpgradeRows
 pub mod ViewLemmas
 pub mod WrittenLemmas

@@ -4,6 +4,7 @@ use Prim.Native.String.{String}
 use Rattle.index_page.specs.Page.{PageOfKind}
 use Rattle.index_page.specs.Page.PageOfKind.{Leaf, Index}
 use Rattle.mapping.specs.Tree.{Logged, Tree}
+use Rattle.frame_codec.specs.declared.format.Spelling.TheVariants.{Whole, Shared}
 use Rattle.frame_codec.specs.Frame.{Content, Frame}
 use Rattle.frame_codec.specs.Frame.Content.{FullLeaf, DeltaLeaf, FullIndex}
 
@@ -48,7 +49,11 @@ pages_of_row_4 = leaf 0 "" [] base_0 ∷ leaf 1 "c" [] base_1 ∷ index 2 "" [] 
 
 -- its text, once page 0 was replaced and the others are new
 abbrev pub text_of_row_4 : List Frame
-text_of_row_4 = frame 0 (FullLeaf [] base_0) ∷ frame 1 (FullLeaf (codes "c") base_1) ∷ frame 2 (FullIndex [] base_2) ∷ []
+text_of_row_4 = frame 0 (FullLeaf Whole [] base_0) ∷ frame 1 (FullLeaf Whole (codes "c") base_1) ∷ frame 2 (FullIndex Whole [] base_2) ∷ []
+
+-- the same with keys that share beginnings
+abbrev pub shared_text_of_row_4 : List Frame
+shared_text_of_row_4 = frame 0 (FullLeaf Shared [] base_0) ∷ frame 1 (FullLeaf Shared (codes "c") base_1) ∷ frame 2 (FullIndex Shared [] base_2) ∷ []
 
 -- ---- row 5: keys by their letters, each with the value 1
 
@@ -64,7 +69,7 @@ abbrev pub run : List Frame
 run = frame 0 (DeltaLeaf (set "a" sixteen ∷ [])) ∷ []
 
 abbrev pub base : List Frame
-base = frame 0 (FullLeaf [] (pair "a" sixteen ∷ [])) ∷ []
+base = frame 0 (FullLeaf Whole [] (pair "a" sixteen ∷ [])) ∷ []
 
 abbrev pub three : List (List Frame)
 three = run ∷ run ∷ base ∷ []

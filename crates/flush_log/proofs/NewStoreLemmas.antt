@@ -5,11 +5,12 @@ use Rattle.std.proofs.lemmas.Bool.{and_from}
 use Rattle.std.proofs.lemmas.List.{take-take}
 use Rattle.keys.specs.Limits.{first_bad_field}
 use Rattle.keys.specs.declared.settings.Settings.{Settings}
+use Rattle.frame_codec.specs.declared.format.Format.{Format}
 use Rattle.frame_codec.specs.Frame.{bytes_of, is_frame}
 use Rattle.flush_log.specs.Segments.{segment_header, place_of_segment, segment_bytes, last_segment, bytes_in_use}
 use Rattle.flush_log.specs.Reading.{is_at_tail, read_segment, followed_by, read_earlier, read_log, log_between}
 use Rattle.flush_log.specs.SettingsBlock.{store_settings}
-use Rattle.flush_log.specs.Slot.{is_slot, read_slot, newer, store_slot}
+use Rattle.flush_log.specs.Slot.{format_of, is_slot, read_slot, newer, store_slot}
 use Rattle.flush_log.specs.NewStore.{first_frame, first_tail, first_slot, new_bytes, disk_of_new}
 use Rattle.flush_log.proofs.FitLemmas.{are_sized}
 use Rattle.flush_log.proofs.LayoutLemmas.{last-is}
@@ -73,11 +74,15 @@ module _ (s : Settings) (disk : List ℕ) (good : first_bad_field s ≡ None) (r
 
   -- ---- the log
 
-  first_within : is_frame s first_frame ≡ true
-  first_within = and_from _ _ refl (and_from _ _ (le-leb 0 s.max_key (omega arith)) (and_from _ _ (and_from _ _ (le-leb 0 s.fan (omega arith)) refl) refl))
+  -- by what it is read
+  abbrev g : Format
+  g = format_of s first_slot
 
-  first_read : read_segment s is_at_tail 0 (segment_header 0 ++ bytes_of first_frame) ≡ Ok (record { segment = 0; frame = first_frame } ∷ [])
-  first_read = holds-read s is_at_tail tail-ends 0 (segment_header 0 ++ bytes_of first_frame) [] (first_frame ∷ []) (frame-holds s good 0 (segment_header 0) [] first_frame first_within (header-holds s 0)) refl
+  first_within : is_frame g first_frame ≡ true
+  first_within = and_from _ _ refl (and_from _ _ refl (and_from _ _ (le-leb 0 s.max_key (omega arith)) (and_from _ _ (and_from _ _ (le-leb 0 s.fan (omega arith)) refl) refl)))
+
+  first_read : read_segment g is_at_tail 0 (segment_header 0 ++ bytes_of first_frame) ≡ Ok (record { segment = 0; frame = first_frame } ∷ [])
+  first_read = holds-read g is_at_tail tail-ends 0 (segment_header 0 ++ bytes_of first_frame) [] (first_frame ∷ []) (frame-holds g good 0 (segment_header 0) [] first_frame first_within (header-holds g 0)) refl
 
   first_bytes : take first_tail (segment_bytes s new 0) ≡ segment_header 0 ++ bytes_of first_frame
   first_bytes =
@@ -86,10 +91,10 @@ module _ (s : Settings) (disk : List ℕ) (good : first_bad_field s ≡ None) (r
       let place : place_of_segment s 0 ≡ 512 = omega (arith, first) in
       take-take first_tail s.seg_size (drop (place_of_segment s 0) new) (omega arith) ∙ ap (λ (p : ℕ). take first_tail (drop p new)) place
 
-  pub new_log : log_between s new 0 first_tail ≡ Ok (record { segment = 0; frame = first_frame } ∷ [])
+  pub new_log : log_between g new 0 first_tail ≡ Ok (record { segment = 0; frame = first_frame } ∷ [])
   new_log =
       let all : first_tail - 0 * s.seg_size ≡ first_tail = omega arith in
       let used : bytes_in_use s first_tail ≡ first_tail = ap (λ (q : ℕ). first_tail - q * s.seg_size) first_last ∙ all in
-      ap₂ (λ (q : ℕ) (u : ℕ). read_log s new 0 (q - 0) u) first_last used
-      ∙ ap (λ (bs : List ℕ). followed_by (read_earlier s new 0 0) (read_segment s is_at_tail 0 bs)) first_bytes
-      ∙ ap (followed_by (read_earlier s new 0 0)) first_read
+      ap₂ (λ (q : ℕ) (u : ℕ). read_log g new 0 (q - 0) u) first_last used
+      ∙ ap (λ (bs : List ℕ). followed_by (read_earlier g new 0 0) (read_segment g is_at_tail 0 bs)) first_bytes
+      ∙ ap (followed_by (read_earlier g new 0 0)) first_read

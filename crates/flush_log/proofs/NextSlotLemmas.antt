@@ -5,6 +5,7 @@ use Rattle.std.proofs.Math.Nat.{mul-le-mul_right, le-div_iff_mul-le, div-mul-le_
 use Rattle.std.specs.List.{AllByRecursion}
 use Rattle.keys.specs.Limits.{first_bad_field}
 use Rattle.keys.specs.declared.settings.Settings.{Settings}
+use Rattle.frame_codec.specs.declared.format.Format.{Format}
 use Rattle.frame_codec.specs.Frame.{Frame, is_frame}
 use Rattle.flush_log.specs.Segments.{position, last_segment, bytes_in_use}
 use Rattle.flush_log.specs.Layout.{placed_from, placed, behind_header, tail_after}
@@ -59,24 +60,25 @@ module _ (s : Settings) where
     ends : EndsIn new (last_segment s new) (bytes_in_use s new)
     rises : last_segment s tail ≤ last_segment s new
 
-  new_end : first_bad_field s ≡ None → (n : ℕ) (t : Slot) → IsSlot s n t → (text : List Frame) → AllByRecursion (λ f. is_frame s f ≡ true) text → NewEnd t.tail (tail_after s t.tail text)
-  new_end good n t slot [] within = let sized = are_sized s good in record { ends = slot_ends n t sized.least_size slot; rises = omega arith }
+module _ (g : Format) where
+  new_end : first_bad_field g.settings ≡ None → (n : ℕ) (t : Slot) → IsSlot g.settings n t → (text : List Frame) → AllByRecursion (λ f. is_frame g f ≡ true) text → NewEnd g.settings t.tail (tail_after g.settings t.tail text)
+  new_end good n t slot [] within = let sized = are_sized g.settings good in record { ends = slot_ends g.settings n t sized.least_size slot; rises = omega arith }
   new_end good n t slot (f ∷ fs) within =
-      let sized = are_sized s good in
+      let sized = are_sized g.settings good in
       let least = sized.least_size in
       let behind = slot.behind in
-      let all = all_fit s good (f ∷ fs) within in
-      let at : ℕ = behind_header (t.tail % s.seg_size) in
-      let e : ℕ × ℕ = end_point (t.tail / s.seg_size) at (placed s t.tail (f ∷ fs)) in
-      let (is, ends) = text-end s t.tail (f ∷ fs) (omega arith) (omega arith) all in
-      let (last, used) = text-last s t.tail (f ∷ fs) (omega arith) (omega arith) all in
-      let high = ends_high (t.tail / s.seg_size) at (f ∷ fs) (header_low (t.tail % s.seg_size) slot.ends) (inr (omega arith)) in
-      let rise = segments-rise s (t.tail / s.seg_size) at (f ∷ fs) in
-      let floor = div-mul-le_self (t.tail - 1) s.seg_size in
-      let less : (t.tail - 1) / s.seg_size ≤ t.tail / s.seg_size = (le-div_iff_mul-le {k = s.seg_size} {x = (t.tail - 1) / s.seg_size} {y = t.tail} (omega arith)).1 (omega arith) in
+      let all = all_fit g good (f ∷ fs) within in
+      let at : ℕ = behind_header (t.tail % g.settings.seg_size) in
+      let e : ℕ × ℕ = end_point (t.tail / g.settings.seg_size) at (placed g.settings t.tail (f ∷ fs)) in
+      let (is, ends) = text-end g.settings t.tail (f ∷ fs) (omega arith) (omega arith) all in
+      let (last, used) = text-last g.settings t.tail (f ∷ fs) (omega arith) (omega arith) all in
+      let high = ends_high g.settings (t.tail / g.settings.seg_size) at (f ∷ fs) (header_low g.settings (t.tail % g.settings.seg_size) slot.ends) (inr (omega arith)) in
+      let rise = segments-rise g.settings (t.tail / g.settings.seg_size) at (f ∷ fs) in
+      let floor = div-mul-le_self (t.tail - 1) g.settings.seg_size in
+      let less : (t.tail - 1) / g.settings.seg_size ≤ t.tail / g.settings.seg_size = (le-div_iff_mul-le {k = g.settings.seg_size} {x = (t.tail - 1) / g.settings.seg_size} {y = t.tail} (omega arith)).1 (omega arith) in
       record {
         ends = record {
-          is = is ∙ ap₂ (position s) (sym last) (sym used);
+          is = is ∙ ap₂ (position g.settings) (sym last) (sym used);
           low = omega (arith, used, high);
           high = omega (arith, used, ends.1);
         };
@@ -84,24 +86,24 @@ module _ (s : Settings) where
       }
 
 -- where its number and its tail are not spent, and its segments are free
-pub next_good : (s : Settings) (n : ℕ) (t u : Slot) (text : List Frame) → first_bad_field s ≡ None → IsSlot s n t → AllByRecursion (λ f. is_frame s f ≡ true) text →
-    u.sequence ≡ suc t.sequence → u.sequence ≤ greatest → u.tail ≡ tail_after s t.tail text → u.tail ≤ greatest → t.head ≤ u.head → u.head ≤ last_segment s t.tail →
-    last_segment s u.tail < u.head + s.segments → u.root < 2 ^ 64 → 1 ≤ u.height → u.height ≤ 64 → is_slot s u.sequence u ≡ true
-next_good s n t u text good slot within next few tail small from to free root low high =
-    let sized = are_sized s good in
+pub next_good : (g : Format) (n : ℕ) (t u : Slot) (text : List Frame) → first_bad_field g.settings ≡ None → IsSlot g.settings n t → AllByRecursion (λ f. is_frame g f ≡ true) text →
+    u.sequence ≡ suc t.sequence → u.sequence ≤ greatest → u.tail ≡ tail_after g.settings t.tail text → u.tail ≤ greatest → t.head ≤ u.head → u.head ≤ last_segment g.settings t.tail →
+    last_segment g.settings u.tail < u.head + g.settings.segments → u.root < 2 ^ 64 → 1 ≤ u.height → u.height ≤ 64 → is_slot g.settings u.sequence u ≡ true
+next_good g n t u text good slot within next few tail small from to free root low high =
+    let sized = are_sized g.settings good in
     let least = sized.least_size in
-    let new : NewEnd s t.tail u.tail = subst (λ (x : ℕ). NewEnd s t.tail x) (sym tail) (new_end s good n t slot text within) in
+    let new : NewEnd g.settings t.tail u.tail = subst (λ (x : ℕ). NewEnd g.settings t.tail x) (sym tail) (new_end g good n t slot text within) in
     let ends = new.ends in
     let is = ends.is in
     let above = ends.low in
     let rises = new.rises in
-    let before : u.head * s.seg_size ≤ last_segment s u.tail * s.seg_size = mul-le-mul_right s.seg_size (omega arith) in
-    is-slot s u.sequence u (record {
+    let before : u.head * g.settings.seg_size ≤ last_segment g.settings u.tail * g.settings.seg_size = mul-le-mul_right g.settings.seg_size (omega arith) in
+    is-slot g.settings u.sequence u (record {
       sequence = (omega arith, few);
       own = refl;
       behind = omega (arith, is, above, before);
       tail = small;
-      ends = tail_good s u.tail (last_segment s u.tail) (bytes_in_use s u.tail) (omega arith) ends;
+      ends = tail_good g.settings u.tail (last_segment g.settings u.tail) (bytes_in_use g.settings u.tail) (omega arith) ends;
       last = free;
       root = root;
       height = (low, high);

@@ -4,6 +4,7 @@ use Rattle.std.specs.List.{AllByRecursion}
 use Rattle.std.proofs.Math.Nat.{le-div_iff_mul-le, mul-le-mul, mul-le-mul_left, mul-le-mul_right}
 use Rattle.keys.specs.Limits.{first_bad_field}
 use Rattle.keys.specs.declared.settings.Settings.{Settings}
+use Rattle.frame_codec.specs.declared.format.Format.{Format}
 use Rattle.frame_codec.specs.Frame.{Frame, is_frame}
 use Rattle.flush_log.specs.Segments.{place_of_segment, position}
 use Rattle.flush_log.specs.Layout.{tail_after}
@@ -44,12 +45,12 @@ module _ (s : Settings) (head tail : ℕ) (good : first_bad_field s ≡ None) (b
       omega arith
 
 -- a text of so many frames moves the tail by 2^62 at the most
-pub tail_small : (s : Settings) (tail : ℕ) (text : List Frame) → first_bad_field s ≡ None → tail ≤ greatest → AllByRecursion (λ f. is_frame s f ≡ true) text → length text ≤ 2 ^ 41 → tail_after s tail text < 2 ^ 63
-tail_small s tail text good small within few =
-    let most = (are_sized s good).most_size in
-    let bound = tail-bounded s good tail text within in
+pub tail_small : (g : Format) (tail : ℕ) (text : List Frame) → first_bad_field g.settings ≡ None → tail ≤ greatest → AllByRecursion (λ f. is_frame g f ≡ true) text → length text ≤ 2 ^ 41 → tail_after g.settings tail text < 2 ^ 63
+tail_small g tail text good small within few =
+    let most = (are_sized g.settings good).most_size in
+    let bound = tail-bounded g good tail text within in
     let count : length text + 1 ≤ 2 ^ 41 + 1 = omega arith in
-    let all : (length text + 1) * s.seg_size ≤ (2 ^ 41 + 1) * 1048576 = mul-le-mul count most in
+    let all : (length text + 1) * g.settings.seg_size ≤ (2 ^ 41 + 1) * 1048576 = mul-le-mul count most in
     omega arith
 
 -- whether a tail lies behind a head, of any two machine numbers

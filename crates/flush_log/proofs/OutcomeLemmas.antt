@@ -5,13 +5,14 @@ use Rattle.keys.specs.declared.settings.Settings.{Settings}
 use Rattle.keys.specs.declared.fault.Fault.{Fault}
 use Rattle.keys.specs.declared.fault.Fault.TheVariants.{NotAStore}
 use Rattle.flush_log.specs.Overlay.{IsBeside, AgreeAt}
+use Rattle.frame_codec.specs.declared.format.Format.{Format}
 use Rattle.frame_codec.specs.Frame.{Frame}
 use Rattle.index_page.proofs.ListLemmas.{all_weaker}
 use Rattle.flush_log.specs.Segments.{place_of_segment, HasSegments, IsInLog, segment_bytes, last_segment, bytes_in_use}
 use Rattle.flush_log.specs.Reading.{Found, log, log_between}
 use Rattle.flush_log.specs.Layout.{Span, tail_after, found_in_text, spans, place_of_span, with_spans}
 use Rattle.flush_log.specs.SettingsBlock.{read_settings, where_it_has_room, store_settings}
-use Rattle.flush_log.specs.Slot.{Slot, slot_place, slot_bytes, is_slot, is_open, read_open, read_slot, newer, store_slot}
+use Rattle.flush_log.specs.Slot.{Slot, slot_place, slot_bytes, format_of, is_slot, is_open, read_open, read_slot, newer, store_slot}
 use Rattle.flush_log.specs.Commit.{LeftDuring, AreWithin, commit_calls, committed, HasRoom, IsBesideSpans, IsBesideSlot, IsUncommitted}
 use Rattle.flush_log.proofs.OverlayLemmas.{overlay-beside, overlay-part, agree_then, agree_less, part_same}
 use Rattle.flush_log.proofs.SlotLemmas.{IsSlot, Said, said, bytes_of_slot, closed, slot-back, slot-stands, slot-is, store_slot-read, store_slot-alone, store_slot-next}
@@ -115,66 +116,66 @@ module _ (s : Settings) (file : List ℕ) (spans : List Span) (u : Slot) (long :
       agree_less (IsBeside (slot_place u.sequence) 64) (λ i. 512 ≤ i) (with_spans s file spans) after (λ i high. inr (omega arith)) written_beside
 
 -- the log stands there alone
-pub log-behind : (s : Settings) (file other : List ℕ) → 0 < s.segments → HasSegments s file → AgreeAt (λ i. 512 ≤ i) file other → (head tail : ℕ) → log_between s other head tail ≡ log_between s file head tail
-log-behind s file other some whole same head tail =
-    log-same s file other head (last_segment s tail - head) (bytes_in_use s tail) (λ m h. bytes (head + m))
-    (ap (λ (bs : List ℕ). take (bytes_in_use s tail) bs) (bytes (head + (last_segment s tail - head))))
+pub log-behind : (g : Format) (file other : List ℕ) → 0 < g.settings.segments → HasSegments g.settings file → AgreeAt (λ i. 512 ≤ i) file other → (head tail : ℕ) → log_between g other head tail ≡ log_between g file head tail
+log-behind g file other some whole same head tail =
+    log-same g file other head (last_segment g.settings tail - head) (bytes_in_use g.settings tail) (λ m h. bytes (head + m))
+    (ap (λ (bs : List ℕ). take (bytes_in_use g.settings tail) bs) (bytes (head + (last_segment g.settings tail - head))))
   where
-    bytes : (n : ℕ) → segment_bytes s other n ≡ segment_bytes s file n
+    bytes : (n : ℕ) → segment_bytes g.settings other n ≡ segment_bytes g.settings file n
     bytes n =
-        let room = place-within s n some in
-        part_same (λ i. 512 ≤ i) file other (place_of_segment s n) s.seg_size (omega arith) (λ i low high. omega arith) same
+        let room = place-within g.settings n some in
+        part_same (λ i. 512 ≤ i) file other (place_of_segment g.settings n) g.settings.seg_size (omega arith) (λ i low high. omega arith) same
 
-pub after-log : (s : Settings) (file : List ℕ) (spans : List Span) (u : Slot) → HasSegments s file → AreWithin s (length file) spans → 0 < s.segments → (head tail : ℕ)
-    → log_between s (committed s file spans u) head tail ≡ log_between s (with_spans s file spans) head tail
-after-log s file spans u whole fit some head tail =
-    let long = (spans-beside s spans file fit).long in
-    log-behind s (with_spans s file spans) (committed s file spans u) some (omega (arith, whole, long)) (after-behind s file spans u (omega (arith, whole)) fit) head tail
+pub after-log : (g : Format) (file : List ℕ) (spans : List Span) (u : Slot) → HasSegments g.settings file → AreWithin g.settings (length file) spans → 0 < g.settings.segments → (head tail : ℕ)
+    → log_between g (committed g.settings file spans u) head tail ≡ log_between g (with_spans g.settings file spans) head tail
+after-log g file spans u whole fit some head tail =
+    let long = (spans-beside g.settings spans file fit).long in
+    log-behind g (with_spans g.settings file spans) (committed g.settings file spans u) some (omega (arith, whole, long)) (after-behind g.settings file spans u (omega (arith, whole)) fit) head tail
 
 -- ---- the commit of a text
 
 pub within_more : (s : Settings) (m n : ℕ) (rs : List Span) → m ≤ n → AreWithin s m rs → AreWithin s n rs
 within_more s m n rs more fit = all_weaker (λ r. place_of_span s r + length r.bytes ≤ m) (λ r. place_of_span s r + length r.bytes ≤ n) (λ r h. omega arith) rs fit
 
-module _ (s : Settings) (file : List ℕ) (t : Slot) (text : List Frame) (h : HasRoom s file t text) where
+module _ (g : Format) (file : List ℕ) (t : Slot) (text : List Frame) (h : HasRoom g file t text) where
   -- what the slot says, it may say
-  pub slot_good : IsSlot s t.sequence t
-  slot_good = slot-is s t.sequence t (slot-stands s t.sequence t file (store_slot-read s file t h.slot)).good
+  pub slot_good : IsSlot g.settings t.sequence t
+  slot_good = slot-is g.settings t.sequence t (slot-stands g.settings t.sequence t file (store_slot-read g.settings file t h.slot)).good
 
-  pub text-fits : AreWithin s (length file) (spans s t.tail text)
+  pub text-fits : AreWithin g.settings (length file) (spans g.settings t.tail text)
   text-fits =
       let behind = slot_good.behind in
-      within_more s (512 + s.segments * s.seg_size) (length file) (spans s t.tail text) h.whole (text-inside s h.good t.head t.tail text (omega arith) h.within h.free)
+      within_more g.settings (512 + g.settings.segments * g.settings.seg_size) (length file) (spans g.settings t.tail text) h.whole (text-inside g h.good t.head t.tail text (omega arith) h.within h.free)
 
   -- the log is as it was
-  pub before-log : (c : List ℕ) → IsUncommitted s (suc t.sequence) (spans s t.tail text) file c → log s c t ≡ log s file t
+  pub before-log : (c : List ℕ) → IsUncommitted g.settings (suc t.sequence) (spans g.settings t.tail text) file c → log g.settings c t ≡ log g.settings file t
   before-log c before =
       let behind = slot_good.behind in
-      let sized = are_sized s h.good in
+      let sized = are_sized g.settings h.good in
       let size = sized.least_size in
       let count = sized.least_count in
       let low = slot_low (suc t.sequence) in
-      hidden s file c t.head t.tail (omega arith) (omega arith) h.whole (omega arith)
-      (agree_less (IsBesideSlot s (suc t.sequence) (spans s t.tail text)) (IsInLog s t.head t.tail) file c
-      (λ i in_log. (inr (let high = (in-segments s t.head t.tail i (omega arith) in_log).0 in omega arith), text-beside s h.good t.head t.tail text (omega arith) h.within h.free i in_log))
-      (all_but s (suc t.sequence) (spans s t.tail text) file c (let all = h.whole in omega arith) before))
+      hidden (format_of g.settings t) file c t.head t.tail (omega arith) (omega arith) h.whole (omega arith)
+      (agree_less (IsBesideSlot g.settings (suc t.sequence) (spans g.settings t.tail text)) (IsInLog g.settings t.head t.tail) file c
+      (λ i in_log. (inr (let high = (in-segments g.settings t.head t.tail i (omega arith) in_log).0 in omega arith), text-beside g h.good t.head t.tail text (omega arith) h.within h.free i in_log))
+      (all_but g.settings (suc t.sequence) (spans g.settings t.tail text) file c (let all = h.whole in omega arith) before))
 
   -- the text is read behind what was there
-  pub after-text : (u : Slot) (found : List Found) → log s file t ≡ Ok found → log_between s (committed s file (spans s t.tail text) u) t.head (tail_after s t.tail text) ≡ Ok (found ++ found_in_text s t.tail text)
+  pub after-text : (u : Slot) (found : List Found) → log_between g file t.head t.tail ≡ Ok found → log_between g (committed g.settings file (spans g.settings t.tail text) u) t.head (tail_after g.settings t.tail text) ≡ Ok (found ++ found_in_text g.settings t.tail text)
   after-text u found read =
       let behind = slot_good.behind in
-      let count = (are_sized s h.good).least_count in
-      after-log s file (spans s t.tail text) u h.whole text-fits (omega arith) t.head (tail_after s t.tail text)
-      ∙ text-back s h.good file t.head t.tail found text h.whole h.within (omega arith) read h.free
+      let count = (are_sized g.settings h.good).least_count in
+      after-log g file (spans g.settings t.tail text) u h.whole text-fits (omega arith) t.head (tail_after g.settings t.tail text)
+      ∙ text-back g h.good file t.head t.tail found text h.whole h.within (omega arith) read h.free
 
   -- a crash at any moment of its commit leaves the store's settings, slot and log, or all that was committed
-  pub text-crash : (u : Slot) → u.sequence ≡ suc t.sequence → (c : List ℕ) → LeftDuring (commit_calls s file (spans s t.tail text) u) file c →
-      ((store_settings c ≡ store_settings file) × (store_slot s c ≡ Ok t) × (log s c t ≡ log s file t)) ⊎ (c ≡ committed s file (spans s t.tail text) u)
+  pub text-crash : (u : Slot) → u.sequence ≡ suc t.sequence → (c : List ℕ) → LeftDuring (commit_calls g.settings file (spans g.settings t.tail text) u) file c →
+      ((store_settings c ≡ store_settings file) × (store_slot g.settings c ≡ Ok t) × (log g.settings c t ≡ log g.settings file t)) ⊎ (c ≡ committed g.settings file (spans g.settings t.tail text) u)
   text-crash u next c left =
       let long : 512 ≤ length file = let all = h.whole in omega arith in
       ⊎_elim
       (λ before.
-      let hid : IsUncommitted s (suc t.sequence) (spans s t.tail text) file c = subst (λ (n : ℕ). IsUncommitted s n (spans s t.tail text) file c) next before in
-      inl (before-settings s (suc t.sequence) (spans s t.tail text) file c long hid, before-slot s t (spans s t.tail text) file c long h.slot hid, before-log c hid))
+      let hid : IsUncommitted g.settings (suc t.sequence) (spans g.settings t.tail text) file c = subst (λ (n : ℕ). IsUncommitted g.settings n (spans g.settings t.tail text) file c) next before in
+      inl (before-settings g.settings (suc t.sequence) (spans g.settings t.tail text) file c long hid, before-slot g.settings t (spans g.settings t.tail text) file c long h.slot hid, before-log c hid))
       (λ whole. inr whole)
-      (left-during s file (spans s t.tail text) u long text-fits c left)
+      (left-during g.settings file (spans g.settings t.tail text) u long text-fits c left)

@@ -3,11 +3,12 @@ use Rattle.std.specs.Prelude.{◌≡◌, ℕ, true, false, List, [], ◌∷◌, 
 use Prim.Native.String.{String}
 use Rattle.std.proofs.Common.{refl}
 use Rattle.keys.proofs.Literals.{S}
+use Rattle.frame_codec.specs.declared.format.Spelling.TheVariants.{Whole}
 use Rattle.frame_codec.specs.Frame.{Frame, bytes_of}
 use Rattle.frame_codec.specs.Frame.Content.{FullLeaf, DeltaLeaf, FullIndex, DeltaIndex, Free}
 use Rattle.flush_log.specs.Layout.{placed, tail_after, spans, is_full_for_flush, is_full_for_clean}
 use Rattle.flush_log.specs.Segments.{segment_header, position}
-use Rattle.flush_log.proofs.Literals.{pair, set, gone, frame, base_0, base_1, base_2, text_of_row_4, ones, sixteen, run, base, three}
+use Rattle.flush_log.proofs.Literals.{pair, set, gone, frame, base_0, base_1, base_2, text_of_row_4, shared_text_of_row_4, ones, sixteen, run, base, three}
 
 -- the positions of the frames of a text, and the tail behind it
 abbrev laid : ℕ → List Frame → List ℕ × ℕ
@@ -31,13 +32,17 @@ row_4 = refl
 row_10 : laid 179 text_of_row_4 ≡ (179 ∷ 208 ∷ 272 ∷ [], 310)
 row_10 = refl
 
+-- an upgrade behind row 4: frames of 29, 35 and 38 bytes
+row_4_upgraded : laid 136 shared_text_of_row_4 ≡ (136 ∷ 165 ∷ 200 ∷ [], 238)
+row_4_upgraded = refl
+
 -- five leaves, then three index pages
 abbrev text_5 : List Frame
-text_5 = frame 0 (FullLeaf [] (ones "abc")) ∷ frame 1 (FullLeaf (codes "d") (ones "def")) ∷ frame 2 (FullLeaf (codes "g") (ones "ghij"))
-    ∷ frame 3 (FullLeaf (codes "k") (ones "klm")) ∷ frame 4 (FullLeaf (codes "n") (ones "nopq"))
-    ∷ frame 5 (FullIndex [] (([], 0) ∷ (codes "d", 1) ∷ []))
-    ∷ frame 6 (FullIndex (codes "g") ((codes "g", 2) ∷ (codes "k", 3) ∷ (codes "n", 4) ∷ []))
-    ∷ frame 7 (FullIndex [] (([], 5) ∷ (codes "g", 6) ∷ [])) ∷ []
+text_5 = frame 0 (FullLeaf Whole [] (ones "abc")) ∷ frame 1 (FullLeaf Whole (codes "d") (ones "def")) ∷ frame 2 (FullLeaf Whole (codes "g") (ones "ghij"))
+    ∷ frame 3 (FullLeaf Whole (codes "k") (ones "klm")) ∷ frame 4 (FullLeaf Whole (codes "n") (ones "nopq"))
+    ∷ frame 5 (FullIndex Whole [] (([], 0) ∷ (codes "d", 1) ∷ []))
+    ∷ frame 6 (FullIndex Whole (codes "g") ((codes "g", 2) ∷ (codes "k", 3) ∷ (codes "n", 4) ∷ []))
+    ∷ frame 7 (FullIndex Whole [] (([], 5) ∷ (codes "g", 6) ∷ [])) ∷ []
 
 row_5 : laid 33 text_5 ≡ (33 ∷ 68 ∷ 104 ∷ 146 ∷ 182 ∷ 272 ∷ 310 ∷ 361 ∷ [], 399)
 row_5 = refl
@@ -45,16 +50,16 @@ row_5 = refl
 row_6 : laid 33 (frame 0 (DeltaLeaf (set "a" "1" ∷ set "b" "2" ∷ set "c" "3" ∷ set "d" "4" ∷ [])) ∷ []) ≡ (33 ∷ [], 76)
 row_6 = refl
 
-row_7 : laid 33 (frame 0 (FullLeaf [] (pair "a" "3" ∷ [])) ∷ []) ≡ (33 ∷ [], 56)
+row_7 : laid 33 (frame 0 (FullLeaf Whole [] (pair "a" "3" ∷ [])) ∷ []) ≡ (33 ∷ [], 56)
 row_7 = refl
 
-row_9 : laid 136 (frame 0 (FullLeaf [] []) ∷ frame 1 Free ∷ frame 2 Free ∷ []) ≡ (136 ∷ 153 ∷ 166 ∷ [], 179)
+row_9 : laid 136 (frame 0 (FullLeaf Whole [] []) ∷ frame 1 Free ∷ frame 2 Free ∷ []) ≡ (136 ∷ 153 ∷ 166 ∷ [], 179)
 row_9 = refl
 
-row_12 : tail_after S 33 (frame 0 (FullLeaf [] base_0) ∷ frame 0 (DeltaLeaf (set "a" "9" ∷ [])) ∷ frame 1 (FullLeaf (codes "c") base_1) ∷ frame 2 (FullIndex [] base_2) ∷ []) ≡ 158
+row_12 : tail_after S 33 (frame 0 (FullLeaf Whole [] base_0) ∷ frame 0 (DeltaLeaf (set "a" "9" ∷ [])) ∷ frame 1 (FullLeaf Whole (codes "c") base_1) ∷ frame 2 (FullIndex Whole [] base_2) ∷ []) ≡ 158
 row_12 = refl
 
-row_13 : laid 399 (frame 0 (FullLeaf [] (ones "abc")) ∷ frame 1 Free ∷ frame 5 (DeltaIndex (gone "d" ∷ [])) ∷ []) ≡ (399 ∷ 434 ∷ 447 ∷ [], 466)
+row_13 : laid 399 (frame 0 (FullLeaf Whole [] (ones "abc")) ∷ frame 1 Free ∷ frame 5 (DeltaIndex (gone "d" ∷ [])) ∷ []) ≡ (399 ∷ 434 ∷ 447 ∷ [], 466)
 row_13 = refl
 
 -- values of nine bytes, and then keys and values of sixteen: the second frame ends where its segment does
@@ -107,9 +112,9 @@ row_15_flushed : is_full_for_flush S 1 822 ≡ false
 row_15_flushed = refl
 
 -- the flushes of row 16, and what its clean appends
-row_16 : tails 136 (run ∷ run ∷ (frame 0 (FullLeaf [] (pair "a" sixteen ∷ pair "b" "2" ∷ [])) ∷ []) ∷ run ∷ []) ≡ 173 ∷ 210 ∷ 254 ∷ 309 ∷ []
+row_16 : tails 136 (run ∷ run ∷ (frame 0 (FullLeaf Whole [] (pair "a" sixteen ∷ pair "b" "2" ∷ [])) ∷ []) ∷ run ∷ []) ≡ 173 ∷ 210 ∷ 254 ∷ 309 ∷ []
 row_16 = refl
 
-row_16_clean : laid 309 (frame 0 (FullLeaf [] (pair "a" sixteen ∷ pair "b" "2" ∷ [])) ∷ frame 0 (DeltaLeaf (set "a" sixteen ∷ [])) ∷ frame 1 (FullLeaf (codes "c") base_1) ∷ frame 2 (FullIndex [] base_2) ∷ [])
+row_16_clean : laid 309 (frame 0 (FullLeaf Whole [] (pair "a" sixteen ∷ pair "b" "2" ∷ [])) ∷ frame 0 (DeltaLeaf (set "a" sixteen ∷ [])) ∷ frame 1 (FullLeaf Whole (codes "c") base_1) ∷ frame 2 (FullIndex Whole [] base_2) ∷ [])
     ≡ (309 ∷ 353 ∷ 390 ∷ 426 ∷ [], 464)
 row_16_clean = refl

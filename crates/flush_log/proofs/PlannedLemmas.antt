@@ -10,7 +10,7 @@ use Rattle.flush_log.specs.CommitPlan.{AreImages, next_slot, next_tail, CommitPl
 use Rattle.flush_log.specs.Disk.{View, Same, LeavesOnly}
 use Rattle.flush_log.specs.Images.{FitSegments, frames_in}
 use Rattle.flush_log.specs.Layout.{tail_after, spans, is_full_for_flush}
-use Rattle.flush_log.specs.Slot.{Slot, is_open}
+use Rattle.flush_log.specs.Slot.{Slot, format_of, is_open}
 use Rattle.flush_log.specs.declared.disk.DiskFault.{DiskFault}
 use Rattle.flush_log.proofs.AdmitLemmas.{Answer, IsAdmitted, admitted-is}
 use Rattle.flush_log.proofs.FitLemmas.{are_sized}
@@ -29,8 +29,8 @@ head-low s head tail good log =
 -- ---- the plan
 
 module _ (s : Settings) (t : Slot) (text : List Frame) (good : first_bad_field s ≡ None) (log : t.head * s.seg_size < t.tail) where
-  planned_of : (images : List (List (List ℕ))) (tail room : ℕ) → AreImages s text images → (let answer : Answer = Ok tail in answer ≡ next_tail s t text) → s.seg_size ≤ room
-      → IsPlanned s t text (record { images = images; tail = t.tail; slot = record { sequence = t.sequence + 1; head = t.head; tail = tail; root = t.root; height = t.height }; room = room })
+  planned_of : (images : List (List (List ℕ))) (tail room : ℕ) → AreImages (format_of s t) text images → (let answer : Answer = Ok tail in answer ≡ next_tail s t text) → s.seg_size ≤ room
+      → IsPlanned s t text (record { images = images; tail = t.tail; slot = record { sequence = t.sequence + 1; head = t.head; tail = tail; root = t.root; height = t.height; version = t.version }; room = room })
   planned_of images tail room are admits fits =
       let next : Slot = next_slot s t text in
       let full : Bool = is_full_for_flush s t.head (tail_after s t.tail text) in
@@ -39,26 +39,26 @@ module _ (s : Settings) (t : Slot) (text : List Frame) (good : first_bad_field s
       record {
         spelled = are;
         from = refl;
-        slot = ap (λ (n : ℕ). (let u : Slot = record { sequence = n; head = t.head; tail = tail; root = t.root; height = t.height } in u)) (omega arith)
-            ∙ ap (λ (n : ℕ). (let u : Slot = record { sequence = suc t.sequence; head = t.head; tail = n; root = t.root; height = t.height } in u)) is.tail;
+        slot = ap (λ (n : ℕ). (let u : Slot = record { sequence = n; head = t.head; tail = tail; root = t.root; height = t.height; version = t.version } in u)) (omega arith)
+            ∙ ap (λ (n : ℕ). (let u : Slot = record { sequence = suc t.sequence; head = t.head; tail = n; root = t.root; height = t.height; version = t.version } in u)) is.tail;
         unspent = is.unspent;
         free = is.room;
-        within = text-inside s good t.head t.tail text log are.within (omega (arith, free));
+        within = text-inside (format_of s t) good t.head t.tail text log are.within (omega (arith, free));
         room = fits;
       }
 
   -- by the slot as the code has it
-  pub planned-by : (u : Slot) (images : List (List (List ℕ))) (tail room : ℕ) → u ≡ t → AreImages s text images → (let answer : Answer = Ok tail in answer ≡ next_tail s t text) → s.seg_size ≤ room
-      → IsPlanned s t text (record { images = images; tail = u.tail; slot = record { sequence = u.sequence + 1; head = u.head; tail = tail; root = u.root; height = u.height }; room = room })
+  pub planned-by : (u : Slot) (images : List (List (List ℕ))) (tail room : ℕ) → u ≡ t → AreImages (format_of s t) text images → (let answer : Answer = Ok tail in answer ≡ next_tail s t text) → s.seg_size ≤ room
+      → IsPlanned s t text (record { images = images; tail = u.tail; slot = record { sequence = u.sequence + 1; head = u.head; tail = tail; root = u.root; height = u.height; version = u.version }; room = room })
   planned-by u images tail room same are admits fits =
-      subst (λ (v : Slot). IsPlanned s t text (record { images = images; tail = v.tail; slot = record { sequence = v.sequence + 1; head = v.head; tail = tail; root = v.root; height = v.height }; room = room })) (sym same)
+      subst (λ (v : Slot). IsPlanned s t text (record { images = images; tail = v.tail; slot = record { sequence = v.sequence + 1; head = v.head; tail = tail; root = v.root; height = v.height; version = v.version }; room = room })) (sym same)
       (planned_of images tail room are admits fits)
 
 -- ---- what a plan is good for
 
 module _ (s : Settings) (t : Slot) (text : List Frame) (p : CommitPlan) (is : IsPlanned s t text p) where
   pub planned-fits : first_bad_field s ≡ None → FitSegments s (frames_in p.images)
-  planned-fits good = text-fits s good p.images text is.spelled.of is.spelled.within
+  planned-fits good = text-fits (format_of s t) good p.images text is.spelled.of is.spelled.within
 
 -- ---- after a reading of the gate
 

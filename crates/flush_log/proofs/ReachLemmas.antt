@@ -5,6 +5,7 @@ use Rattle.std.specs.List.{AllByRecursion}
 use Rattle.keys.specs.Bytes.{Bytes}
 use Rattle.keys.specs.Limits.{first_bad_field}
 use Rattle.keys.specs.declared.settings.Settings.{Settings}
+use Rattle.frame_codec.specs.declared.format.Format.{Format}
 use Rattle.frame_codec.specs.Frame.{Frame, bytes_of, is_frame}
 use Rattle.flush_log.specs.Images.{frames_in, AreOfText, FitSegments, Reached, from_tail, reached, behind_frame, behind_frames, IsReached, unless_spent}
 use Rattle.flush_log.specs.Layout.{behind_header, placed_from, tail_behind, tail_after}
@@ -170,12 +171,12 @@ module _ (s : Settings) where
       sym (ap (tail_told r.tail) (le-ltb greatest r.tail low)) ∙ ap (λ (n : ℕ). tail_told n (nat_lt greatest n)) tail
 
 -- the frames of a text that a store may have fit
-pub text-fits : (s : Settings) → first_bad_field s ≡ None → (images : List (List Bytes)) (text : List Frame) → AreOfText images text → AllByRecursion (λ f. is_frame s f ≡ true) text → FitSegments s (frames_in images)
-text-fits s good images text of within = subst (FitSegments s) (sym of) (each text within)
+pub text-fits : (g : Format) → first_bad_field g.settings ≡ None → (images : List (List Bytes)) (text : List Frame) → AreOfText images text → AllByRecursion (λ f. is_frame g f ≡ true) text → FitSegments g.settings (frames_in images)
+text-fits g good images text of within = subst (FitSegments g.settings) (sym of) (each text within)
   where
-    each : (fs : List Frame) → AllByRecursion (λ f. is_frame s f ≡ true) fs → FitSegments s (map (λ f. bytes_of f) fs)
+    each : (fs : List Frame) → AllByRecursion (λ f. is_frame g f ≡ true) fs → FitSegments g.settings (map (λ f. bytes_of f) fs)
     each [] h = tt
-    each (f ∷ fs) h = (frame_fits s f good h.0, each fs h.1)
+    each (f ∷ fs) h = (frame_fits g f good h.0, each fs h.1)
 
 -- ---- places of a list
 

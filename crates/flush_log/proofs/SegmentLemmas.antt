@@ -5,9 +5,9 @@ use Rattle.std.proofs.Common.{refl, sym, ap, ◌∙◌, arith, append_assoc, app
 use Rattle.std.proofs.lemmas.Bool.Decides.{Decides-eqb}
 use Rattle.std.proofs.lemmas.Slice.Eq.{starts_is}
 use Rattle.keys.specs.Limits.{first_bad_field}
-use Rattle.keys.specs.declared.settings.Settings.{Settings}
 use Rattle.keys.specs.declared.fault.Fault.TheVariants.{BadSegment}
 use Rattle.keys.proofs.CellLemmas.{gave, nothing_read}
+use Rattle.frame_codec.specs.declared.format.Format.{Format}
 use Rattle.frame_codec.specs.Frame.{Frame, bytes_of, is_frame}
 use Rattle.frame_codec.specs.Reading.{read_frame}
 use Rattle.frame_codec.proofs.FrameLemmas.{in_limits, frame-back}
@@ -40,21 +40,21 @@ header-there n behind = (starts_is Decides-eqb (segment_header n ++ behind) (seg
 pub header-behind : (n : ℕ) (bytes : List ℕ) → starts_with nat_eq bytes (segment_header n) ≡ true → bytes ≡ segment_header n ++ drop 16 bytes
 header-behind n bytes h = (starts_is Decides-eqb bytes (segment_header n) (starts_with nat_eq bytes (segment_header n)) refl).0 h
 
-module _ (s : Settings) where
-  not_end : (is_end : List ℕ → Bool) → IsEnd is_end → (bs : List ℕ) (f : Frame) (rest : List ℕ) → read_frame s bs ≡ gave f rest → is_end bs ≡ false
-  not_end is_end marks [] f rest h = absurd (nothing_read _ (sym (nothing_at_all s) ∙ h))
-  not_end is_end marks (zero ∷ bs) f rest h = absurd (nothing_read _ (sym (nothing_at_zero s bs) ∙ h))
+module _ (g : Format) where
+  not_end : (is_end : List ℕ → Bool) → IsEnd is_end → (bs : List ℕ) (f : Frame) (rest : List ℕ) → read_frame g bs ≡ gave f rest → is_end bs ≡ false
+  not_end is_end marks [] f rest h = absurd (nothing_read _ (sym (nothing_at_all g) ∙ h))
+  not_end is_end marks (zero ∷ bs) f rest h = absurd (nothing_read _ (sym (nothing_at_zero g bs) ∙ h))
   not_end is_end marks (suc b ∷ bs) f rest h = marks b bs
 
   -- bytes that are these frames, up to an end
   abbrev pub Reads : (List ℕ → Bool) → List ℕ → List Frame → Type 0
-  Reads is_end bs fs = (most : ℕ) → length fs ≤ most → read_frames s is_end most bs ≡ Ok fs
+  Reads is_end bs fs = (most : ℕ) → length fs ≤ most → read_frames g is_end most bs ≡ Ok fs
 
   pub reads-end : (is_end : List ℕ → Bool) (bs : List ℕ) → is_end bs ≡ true → Reads is_end bs []
   reads-end is_end bs h zero few = rw h refl
   reads-end is_end bs h (suc most) few = rw h refl
 
-  pub reads-more : (is_end : List ℕ → Bool) → IsEnd is_end → (bs : List ℕ) (f : Frame) (rest : List ℕ) (fs : List Frame) → read_frame s bs ≡ gave f rest → Reads is_end rest fs → Reads is_end bs (f ∷ fs)
+  pub reads-more : (is_end : List ℕ → Bool) → IsEnd is_end → (bs : List ℕ) (f : Frame) (rest : List ℕ) (fs : List Frame) → read_frame g bs ≡ gave f rest → Reads is_end rest fs → Reads is_end bs (f ∷ fs)
   reads-more is_end marks bs f rest fs h reads zero few = absurd (omega arith)
   reads-more is_end marks bs f rest fs h reads (suc most) few =
       rw (not_end is_end marks bs f rest h, h) (ap (λ (r : Result (List Frame) ℕ). with_first f r) (reads most (omega arith)))
@@ -78,30 +78,30 @@ module _ (s : Settings) where
   none-goes_on : (most : ℕ) (fs : List Frame) → (let r : Result (List Frame) ℕ = Ok [] in r ≡ Ok fs) → Continues most [] fs
   none-goes_on most fs h = subst (λ (xs : List Frame). Continues most [] xs) (nothing-ok fs h) (omega arith, λ is_end marks more gs reads. reads)
 
-  one-goes_on : (most : ℕ) (bs : List ℕ) (fs : List Frame) (o : Option (Frame × List ℕ)) → read_frame s bs ≡ o
-      → read_then (length bs) o (λ behind. read_frames s is_at_tail most behind) ≡ Ok fs
-      → ((rest : List ℕ) (gs : List Frame) → read_frames s is_at_tail most rest ≡ Ok gs → Continues most rest gs) → Continues (suc most) bs fs
+  one-goes_on : (most : ℕ) (bs : List ℕ) (fs : List Frame) (o : Option (Frame × List ℕ)) → read_frame g bs ≡ o
+      → read_then (length bs) o (λ behind. read_frames g is_at_tail most behind) ≡ Ok fs
+      → ((rest : List ℕ) (gs : List Frame) → read_frames g is_at_tail most rest ≡ Ok gs → Continues most rest gs) → Continues (suc most) bs fs
   one-goes_on most bs fs None is h further = absurd (cc)
   one-goes_on most bs fs (Some p) is h further =
-      let (later, read, all) = with_first-ok p.0 (read_frames s is_at_tail most p.1) fs h in
+      let (later, read, all) = with_first-ok p.0 (read_frames g is_at_tail most p.1) fs h in
       let (few, on) = further p.1 later read in
       subst (λ (xs : List Frame). Continues (suc most) bs xs) (sym all) (
         omega arith,
         λ is_end marks more gs reads.
-            reads-more is_end marks (bs ++ more) p.0 (p.1 ++ more) (later ++ gs) (frame-longer s bs p.0 p.1 more is) (on is_end marks more gs reads),
+            reads-more is_end marks (bs ++ more) p.0 (p.1 ++ more) (later ++ gs) (frame-longer g bs p.0 p.1 more is) (on is_end marks more gs reads),
       )
 
   -- bytes that were read up to the tail go on
-  tail-goes_on : (most : ℕ) (bs : List ℕ) (fs : List Frame) → read_frames s is_at_tail most bs ≡ Ok fs → Continues most bs fs
+  tail-goes_on : (most : ℕ) (bs : List ℕ) (fs : List Frame) → read_frames g is_at_tail most bs ≡ Ok fs → Continues most bs fs
   tail-goes_on zero [] fs h = none-goes_on zero fs h
   tail-goes_on (suc most) [] fs h = none-goes_on (suc most) fs h
   tail-goes_on zero (b ∷ bs) fs h = absurd (cc)
-  tail-goes_on (suc most) (b ∷ bs) fs h = one-goes_on most (b ∷ bs) fs (read_frame s (b ∷ bs)) refl h (λ rest gs read. tail-goes_on most rest gs read)
+  tail-goes_on (suc most) (b ∷ bs) fs h = one-goes_on most (b ∷ bs) fs (read_frame g (b ∷ bs)) refl h (λ rest gs read. tail-goes_on most rest gs read)
 
   -- so do bytes with a frame more
-  frame-goes_on : first_bad_field s ≡ None → (bs : List ℕ) (fs : List Frame) (f : Frame) → is_frame s f ≡ true → GoesOn bs fs → GoesOn (bs ++ bytes_of f) (fs ++ f ∷ [])
+  frame-goes_on : first_bad_field g.settings ≡ None → (bs : List ℕ) (fs : List Frame) (f : Frame) → is_frame g f ≡ true → GoesOn bs fs → GoesOn (bs ++ bytes_of f) (fs ++ f ∷ [])
   frame-goes_on good bs fs f within on is_end marks more gs reads =
-      let read : read_frame s (bytes_of f ++ more) ≡ gave f more = frame-back s (in_limits s good) f within more in
+      let read : read_frame g (bytes_of f ++ more) ≡ gave f more = frame-back g (in_limits g.settings good) f within more in
       let here : Reads is_end (bs ++ (bytes_of f ++ more)) (fs ++ f ∷ gs) = on is_end marks (bytes_of f ++ more) (f ∷ gs) (reads-more is_end marks (bytes_of f ++ more) f more gs read reads) in
       rw (append_assoc bs (bytes_of f) more, append_assoc fs (f ∷ []) gs) here
 
@@ -114,18 +114,18 @@ module _ (s : Settings) where
     pub few : length fs ≤ length bytes
     pub on : GoesOn behind fs
 
-  headed-read : (is_end : List ℕ → Bool) (n : ℕ) (behind : List ℕ) → read_segment s is_end n (segment_header n ++ behind)
-      ≡ in_segment n (length (segment_header n ++ behind)) (read_frames s is_end (length (segment_header n ++ behind)) behind)
+  headed-read : (is_end : List ℕ → Bool) (n : ℕ) (behind : List ℕ) → read_segment g is_end n (segment_header n ++ behind)
+      ≡ in_segment n (length (segment_header n ++ behind)) (read_frames g is_end (length (segment_header n ++ behind)) behind)
   headed-read is_end n behind =
       let bytes : List ℕ = segment_header n ++ behind in
-      ap (λ (b : Bool). if b then in_segment n (length bytes) (read_frames s is_end (length bytes) behind) else Err (BadSegment n)) (header-there n behind)
+      ap (λ (b : Bool). if b then in_segment n (length bytes) (read_frames g is_end (length bytes) behind) else Err (BadSegment n)) (header-there n behind)
 
   -- a header alone
   pub header-holds : (n : ℕ) → Holds n (segment_header n) []
   header-holds n = record { behind = []; headed = sym (append-nil (segment_header n)); few = omega arith; on = λ is_end marks more gs reads. reads }
 
   -- a frame more
-  pub frame-holds : first_bad_field s ≡ None → (n : ℕ) (bytes : List ℕ) (fs : List Frame) (f : Frame) → is_frame s f ≡ true → Holds n bytes fs → Holds n (bytes ++ bytes_of f) (fs ++ f ∷ [])
+  pub frame-holds : first_bad_field g.settings ≡ None → (n : ℕ) (bytes : List ℕ) (fs : List Frame) (f : Frame) → is_frame g f ≡ true → Holds n bytes fs → Holds n (bytes ++ bytes_of f) (fs ++ f ∷ [])
   frame-holds good n bytes fs f within h = record {
     behind = h.behind ++ bytes_of f;
     headed = ap (λ (bs : List ℕ). bs ++ bytes_of f) h.headed ∙ append_assoc (segment_header n) h.behind (bytes_of f);
@@ -134,26 +134,26 @@ module _ (s : Settings) where
   }
 
   -- with an end behind them
-  pub holds-read : (is_end : List ℕ → Bool) → IsEnd is_end → (n : ℕ) (bytes rest : List ℕ) (fs : List Frame) → Holds n bytes fs → is_end rest ≡ true → read_segment s is_end n (bytes ++ rest) ≡ Ok (all_in n fs)
+  pub holds-read : (is_end : List ℕ → Bool) → IsEnd is_end → (n : ℕ) (bytes rest : List ℕ) (fs : List Frame) → Holds n bytes fs → is_end rest ≡ true → read_segment g is_end n (bytes ++ rest) ≡ Ok (all_in n fs)
   holds-read is_end marks n bytes rest fs h end =
       let all : Reads is_end (h.behind ++ rest) fs = rw (sym (append-nil fs)) (h.on is_end marks rest [] (reads-end is_end rest end)) in
       let whole : List ℕ = segment_header n ++ (h.behind ++ rest) in
       let same : bytes ++ rest ≡ segment_header n ++ (h.behind ++ rest) = ap (λ (bs : List ℕ). bs ++ rest) h.headed ∙ append_assoc (segment_header n) h.behind rest in
       let room : length fs ≤ length (segment_header n ++ (h.behind ++ rest)) =
       (let joined = length-append bytes rest in let few = h.few in let long : length (bytes ++ rest) ≡ length (segment_header n ++ (h.behind ++ rest)) = ap (λ (bs : List ℕ). length bs) same in omega (arith, joined, few, long)) in
-      ap (λ (bs : List ℕ). read_segment s is_end n bs) same
+      ap (λ (bs : List ℕ). read_segment g is_end n bs) same
       ∙ headed-read is_end n (h.behind ++ rest)
       ∙ ap (λ (r : Result (List Frame) ℕ). in_segment n (length whole) r) (all (length whole) room)
 
   -- what was read up to the tail
-  pub read-holds : (n : ℕ) (bytes : List ℕ) (found : List Found) → read_segment s is_at_tail n bytes ≡ Ok found → (fs : List Frame) × Holds n bytes fs × (found ≡ all_in n fs)
+  pub read-holds : (n : ℕ) (bytes : List ℕ) (found : List Found) → read_segment g is_at_tail n bytes ≡ Ok found → (fs : List Frame) × Holds n bytes fs × (found ≡ all_in n fs)
   read-holds n bytes found = of (starts_with nat_eq bytes (segment_header n)) refl
     where
       of : (b : Bool) → starts_with nat_eq bytes (segment_header n) ≡ b
-          → (if b then in_segment n (length bytes) (read_frames s is_at_tail (length bytes) (drop 16 bytes)) else Err (BadSegment n)) ≡ Ok found
+          → (if b then in_segment n (length bytes) (read_frames g is_at_tail (length bytes) (drop 16 bytes)) else Err (BadSegment n)) ≡ Ok found
           → (fs : List Frame) × Holds n bytes fs × (found ≡ all_in n fs)
       of true starts h =
-          let (fs, read, all) = in_segment-ok n (length bytes) (read_frames s is_at_tail (length bytes) (drop 16 bytes)) found h in
+          let (fs, read, all) = in_segment-ok n (length bytes) (read_frames g is_at_tail (length bytes) (drop 16 bytes)) found h in
           let on = tail-goes_on (length bytes) (drop 16 bytes) fs read in
           (fs, record { behind = drop 16 bytes; headed = header-behind n bytes starts; few = on.0; on = on.1 }, all)
       of false starts h = absurd (cc)

@@ -10,12 +10,14 @@ use Rattle.keys.specs.Limits.{is_in_limits}
 use Rattle.keys.specs.declared.settings.Settings.{Settings}
 use Rattle.keys.specs.declared.fault.Fault.{Fault}
 use Rattle.keys.specs.declared.fault.Fault.TheVariants.{NoSlot}
+use Rattle.keys.specs.declared.version.Version.{Version}
+use Rattle.keys.specs.declared.version.Version.TheVariants.{One, Two}
 use Rattle.keys.proofs.CellLemmas.{number-back}
 use Rattle.frame_codec.specs.Frame.{is_pid}
 use Rattle.flush_log.specs.Segments.{last_segment}
 use Rattle.flush_log.specs.SettingsBlock.{number_or_0}
 use Rattle.flush_log.specs.Ends.{ends_in, AreEnds}
-use Rattle.flush_log.specs.Slot.{Slot, greatest, slot_place, slot_bytes, slot_in, is_tail, is_slot, is_open, read_open, read_slot, newer, store_slot}
+use Rattle.flush_log.specs.Slot.{Slot, greatest, slot_place, version_number, version_in, slot_bytes, slot_in, is_tail, is_slot, is_open, read_open, read_slot, newer, store_slot}
 use Rattle.keys.proofs.LimitLemmas.{within}
 
 -- ---- what is asked of a slot, as facts
@@ -74,19 +76,33 @@ head_small s n t some f =
 
 -- ---- a slot is read back
 
-same_slot : (t u : Slot) → t.sequence ≡ u.sequence → t.head ≡ u.head → t.tail ≡ u.tail → t.root ≡ u.root → t.height ≡ u.height → t ≡ u
-same_slot t u a b c d e =
-    let made : ℕ → ℕ → ℕ → ℕ → ℕ → Slot = λ sequence head tail root height. record { sequence = sequence; head = head; tail = tail; root = root; height = height } in
-    ap (λ x. made x t.head t.tail t.root t.height) a
-    ∙ ap (λ x. made u.sequence x t.tail t.root t.height) b
-    ∙ ap (λ x. made u.sequence u.head x t.root t.height) c
-    ∙ ap (λ x. made u.sequence u.head u.tail x t.height) d
-    ∙ ap (λ x. made u.sequence u.head u.tail u.root x) e
+same_slot : (t u : Slot) → t.sequence ≡ u.sequence → t.head ≡ u.head → t.tail ≡ u.tail → t.root ≡ u.root → t.height ≡ u.height → t.version ≡ u.version → t ≡ u
+same_slot t u a b c d e f =
+    let made : ℕ → ℕ → ℕ → ℕ → ℕ → Version → Slot = λ sequence head tail root height version.
+    record { sequence = sequence; head = head; tail = tail; root = root; height = height; version = version } in
+    ap (λ x. made x t.head t.tail t.root t.height t.version) a
+    ∙ ap (λ x. made u.sequence x t.tail t.root t.height t.version) b
+    ∙ ap (λ x. made u.sequence u.head x t.root t.height t.version) c
+    ∙ ap (λ x. made u.sequence u.head u.tail x t.height t.version) d
+    ∙ ap (λ x. made u.sequence u.head u.tail u.root x t.version) e
+    ∙ ap (λ x. made u.sequence u.head u.tail u.root u.height x) f
+
+-- a version is read back from its number, which has four bytes
+version-back : (v : Version) → version_in (version_number v) ≡ v
+version-back One = refl
+version-back Two = refl
+
+version_small : (v : Version) → version_number v < 2 ^ 32
+version_small One = omega arith
+version_small Two = omega arith
 
 module _ (s : Settings) (n : ℕ) (t : Slot) (some : 0 < s.seg_size) where
   -- what stands behind each number of the slot
+  abbrev behind_version : List ℕ
+  behind_version = replicate 16 0
+
   abbrev behind_height : List ℕ
-  behind_height = replicate 20 0
+  behind_height = (number 4).spell (version_number t.version) ++ behind_version
 
   abbrev behind_root : List ℕ
   behind_root = (number 4).spell t.height ++ behind_height
@@ -112,6 +128,7 @@ module _ (s : Settings) (n : ℕ) (t : Slot) (some : 0 < s.seg_size) where
       (ap number_or_0 (number-back 8 t.tail (omega arith) behind_tail))
       (ap number_or_0 (number-back 8 t.root f.root behind_root))
       (ap number_or_0 (number-back 4 t.height (omega (arith, low.1)) behind_height))
+      (ap (λ x. version_in (number_or_0 x)) (number-back 4 (version_number t.version) (version_small t.version) behind_version) ∙ version-back t.version)
 
   pub open-back : is_slot s n t ≡ true → read_open s n (slot_bytes t) ≡ Ok (Some t)
   open-back h =

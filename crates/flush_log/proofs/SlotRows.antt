@@ -2,6 +2,7 @@
 use Rattle.std.specs.Prelude.{◌≡◌, ℕ, Bool, true, false, List, ◌++◌, take, drop, replicate, Ok, Err}
 use Rattle.std.proofs.Common.{refl}
 use Rattle.keys.specs.declared.fault.Fault.TheVariants.{NoSlot}
+use Rattle.keys.specs.declared.version.Version.TheVariants.{One, Two}
 use Rattle.keys.proofs.Literals.{S}
 use Rattle.frame_codec.proofs.RowForms.{hex}
 use Rattle.flush_log.specs.Overlay.{overlay}
@@ -17,20 +18,28 @@ slot_0_of_new : take 64 (drop 128 (new_bytes S)) ≡ replicate 64 0
 slot_0_of_new = refl
 
 abbrev slot_of_row_7 : Slot
-slot_of_row_7 = record { sequence = 2; head = 0; tail = 136; root = 2; height = 2 }
+slot_of_row_7 = record { sequence = 2; head = 0; tail = 136; root = 2; height = 2; version = One }
 
 row_7 : slot_bytes slot_of_row_7 ≡ hex "0100000000000000 0000000000000002 0000000000000000 0000000000000088 0000000000000002 00000002" ++ replicate 20 0
 row_7 = refl
 
 abbrev slot_of_row_8 : Slot
-slot_of_row_8 = record { sequence = 3; head = 0; tail = 179; root = 0; height = 1 }
+slot_of_row_8 = record { sequence = 3; head = 0; tail = 179; root = 0; height = 1; version = One }
 
 row_8 : slot_bytes slot_of_row_8 ≡ hex "0100000000000000 0000000000000003 0000000000000000 00000000000000B3 0000000000000000 00000001" ++ replicate 20 0
 row_8 = refl
 
-row_9 : slot_bytes (record { sequence = 4; head = 0; tail = 310; root = 2; height = 2 })
+row_9 : slot_bytes (record { sequence = 4; head = 0; tail = 310; root = 2; height = 2; version = One })
     ≡ hex "0100000000000000 0000000000000004 0000000000000000 0000000000000136 0000000000000002 00000002" ++ replicate 20 0
 row_9 = refl
+
+-- an upgrade of the store of row 7
+abbrev slot_of_upgrade : Slot
+slot_of_upgrade = record { sequence = 3; head = 0; tail = 238; root = 2; height = 2; version = Two }
+
+row_upgrade : slot_bytes slot_of_upgrade
+    ≡ hex "0100000000000000 0000000000000003 0000000000000000 00000000000000EE 0000000000000002 00000002 00000002" ++ replicate 16 0
+row_upgrade = refl
 
 -- ---- the store's slot
 
@@ -47,9 +56,31 @@ of_row_7 = refl
 of_row_8 : store_slot S (with_slot slot_of_row_8 (with_slot slot_of_row_7 (new_bytes S))) ≡ Ok slot_of_row_8
 of_row_8 = refl
 
+-- the disk's first bytes after the upgrade; with another byte as the last one of the version, 3 or 0; and with the gate at 0
+abbrev upgraded : List ℕ
+upgraded = with_slot slot_of_upgrade (with_slot slot_of_row_7 (new_bytes S))
+
+of_upgrade : store_slot S upgraded ≡ Ok slot_of_upgrade
+of_upgrade = refl
+
+version_of_3 : store_slot S (overlay upgraded 239 (hex "03")) ≡ Err NoSlot
+version_of_3 = refl
+
+version_of_1 : store_slot S (overlay upgraded 239 (hex "01")) ≡ Err NoSlot
+version_of_1 = refl
+
+version_of_0 : store_slot S (overlay upgraded 239 (hex "00")) ≡ Ok (record slot_of_upgrade { version = One })
+version_of_0 = refl
+
+first_byte_of_version : store_slot S (overlay upgraded 236 (hex "01")) ≡ Err NoSlot
+first_byte_of_version = refl
+
+not_upgraded : store_slot S (overlay upgraded 192 (hex "00")) ≡ Ok slot_of_row_7
+not_upgraded = refl
+
 -- row 21: the tail 51 may be; with both gates at 0 there is no slot
 tail_of_51 : store_slot S (overlay (with_slot (record slot_of_row_7 { tail = 52; root = 0; height = 1 }) (new_bytes S)) 159 (hex "33"))
-    ≡ Ok (record { sequence = 2; head = 0; tail = 51; root = 0; height = 1 })
+    ≡ Ok (record { sequence = 2; head = 0; tail = 51; root = 0; height = 1; version = One })
 tail_of_51 = refl
 
 both_closed : store_slot S (overlay (overlay (with_slot slot_of_row_7 (new_bytes S)) 128 (hex "00")) 192 (hex "00")) ≡ Err NoSlot
@@ -69,7 +100,7 @@ closed = refl
 
 -- slot 0 may say this, with this head and tail
 abbrev may_end : ℕ → ℕ → Bool
-may_end head tail = is_slot S 0 (record { sequence = 2; head = head; tail = tail; root = 0; height = 1 })
+may_end head tail = is_slot S 0 (record { sequence = 2; head = head; tail = tail; root = 0; height = 1; version = One })
 
 at_header : may_end 0 16 ≡ false
 at_header = refl
@@ -106,7 +137,7 @@ head_too_great : may_end 72057594037927936 33 ≡ false
 head_too_great = refl
 
 abbrev may_say : ℕ → ℕ → Bool
-may_say sequence height = is_slot S 0 (record { sequence = sequence; head = 0; tail = 33; root = 0; height = height })
+may_say sequence height = is_slot S 0 (record { sequence = sequence; head = 0; tail = 33; root = 0; height = height; version = One })
 
 sequences : (may_say 0 1 ≡ false) × (may_say 1 1 ≡ false) × (may_say 4611686018427387904 1 ≡ true) × (may_say 4611686018427387906 1 ≡ false)
 sequences = (refl, refl, refl, refl)

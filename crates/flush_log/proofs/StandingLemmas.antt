@@ -4,10 +4,10 @@ use Rattle.std.specs.List.{AllByRecursion, starts_with}
 use Rattle.std.proofs.Common.{refl, sym, ap, ◌∙◌, arith, append_assoc, append-nil, length-append, subst, inl, inr}
 use Rattle.keys.specs.Cells.{AreBytes}
 use Rattle.keys.specs.Limits.{first_bad_field}
-use Rattle.keys.specs.declared.settings.Settings.{Settings}
 use Rattle.keys.specs.declared.fault.Fault.{Fault}
 use Rattle.keys.specs.declared.fault.Fault.TheVariants.{BadSegment, BadFrame}
 use Rattle.keys.proofs.CellLemmas.{bytes_behind}
+use Rattle.frame_codec.specs.declared.format.Format.{Format}
 use Rattle.frame_codec.specs.Frame.{Frame, bytes_of, is_frame}
 use Rattle.frame_codec.specs.Reading.{read_frame}
 use Rattle.frame_codec.proofs.ReadLemmas.{frame-stands}
@@ -28,22 +28,22 @@ tail-empty : (bs : List ℕ) → is_at_tail bs ≡ true → bs ≡ []
 tail-empty [] h = refl
 tail-empty (b ∷ bs) h = absurd (cc)
 
-module _ (s : Settings) where
+module _ (g : Format) where
   -- frames and an end behind them; or frames and neither a frame nor an end
   record AreSpelled (is_end : List ℕ → Bool) (bs : List ℕ) (fs : List Frame) : Type 0 where
     behind : List ℕ
-    within : AllByRecursion (λ f. is_frame s f ≡ true) fs
+    within : AllByRecursion (λ f. is_frame g f ≡ true) fs
     spelled : bs ≡ flat_map bytes_of fs ++ behind
     end : is_end behind ≡ true
 
   record AreBroken (is_end : List ℕ → Bool) (bs : List ℕ) (left : ℕ) : Type 0 where
     before : List Frame
     behind : List ℕ
-    within : AllByRecursion (λ f. is_frame s f ≡ true) before
+    within : AllByRecursion (λ f. is_frame g f ≡ true) before
     spelled : bs ≡ flat_map bytes_of before ++ behind
     long : left ≡ length behind
     no_end : is_end behind ≡ false
-    no_frame : read_frame s behind ≡ None
+    no_frame : read_frame g behind ≡ None
 
   abbrev Stand : (List ℕ → Bool) → List ℕ → Result (List Frame) ℕ → Type 0
   Stand is_end bs (Ok fs) = AreSpelled is_end bs fs
@@ -53,9 +53,9 @@ module _ (s : Settings) where
     stand-end : (bs : List ℕ) → is_end bs ≡ true → AreSpelled is_end bs []
     stand-end bs h = record { behind = bs; within = tt; spelled = refl; end = h }
 
-    stand-more : (bs : List ℕ) (f : Frame) (rest : List ℕ) (r : Result (List Frame) ℕ) → AreBytes bs → read_frame s bs ≡ Some (f, rest) → Stand is_end rest r → Stand is_end bs (with_first f r)
+    stand-more : (bs : List ℕ) (f : Frame) (rest : List ℕ) (r : Result (List Frame) ℕ) → AreBytes bs → read_frame g bs ≡ Some (f, rest) → Stand is_end rest r → Stand is_end bs (with_first f r)
     stand-more bs f rest (Ok fs) bytes read later =
-        let stands = frame-stands s bs f rest bytes read in
+        let stands = frame-stands g bs f rest bytes read in
         record {
           behind = later.behind;
           within = (stands.within, later.within);
@@ -63,7 +63,7 @@ module _ (s : Settings) where
           end = later.end;
         }
     stand-more bs f rest (Err left) bytes read later =
-        let stands = frame-stands s bs f rest bytes read in
+        let stands = frame-stands g bs f rest bytes read in
         record {
           before = f ∷ later.before;
           behind = later.behind;
@@ -74,24 +74,24 @@ module _ (s : Settings) where
           no_frame = later.no_frame;
         }
 
-    stand-read : (most : ℕ) (bs : List ℕ) (o : Option (Frame × List ℕ)) → read_frame s bs ≡ o → is_end bs ≡ false → AreBytes bs → length bs ≤ suc most
-        → ((rest : List ℕ) → AreBytes rest → length rest ≤ most → Stand is_end rest (read_frames s is_end most rest))
-        → Stand is_end bs (read_then (length bs) o (λ behind. read_frames s is_end most behind))
+    stand-read : (most : ℕ) (bs : List ℕ) (o : Option (Frame × List ℕ)) → read_frame g bs ≡ o → is_end bs ≡ false → AreBytes bs → length bs ≤ suc most
+        → ((rest : List ℕ) → AreBytes rest → length rest ≤ most → Stand is_end rest (read_frames g is_end most rest))
+        → Stand is_end bs (read_then (length bs) o (λ behind. read_frames g is_end most behind))
     stand-read most bs None read end bytes long further =
         record { before = []; behind = bs; within = tt; spelled = refl; long = refl; no_end = end; no_frame = read }
     stand-read most bs (Some p) read end bytes long further =
-        let stands = frame-stands s bs p.0 p.1 bytes read in
+        let stands = frame-stands g bs p.0 p.1 bytes read in
         let joined = length-append (bytes_of p.0) p.1 in
         let same : length bs ≡ length (bytes_of p.0 ++ p.1) = ap (λ (cs : List ℕ). length cs) stands.bytes in
-        stand-more bs p.0 p.1 (read_frames s is_end most p.1) bytes read (further p.1 (bytes_behind (bytes_of p.0) p.1 (rw stands.bytes at bytes)) (omega arith))
+        stand-more bs p.0 p.1 (read_frames g is_end most p.1) bytes read (further p.1 (bytes_behind (bytes_of p.0) p.1 (rw stands.bytes at bytes)) (omega arith))
 
     stand-step : (most : ℕ) (bs : List ℕ) (e : Bool) → is_end bs ≡ e → AreBytes bs → length bs ≤ suc most
-        → ((rest : List ℕ) → AreBytes rest → length rest ≤ most → Stand is_end rest (read_frames s is_end most rest))
-        → Stand is_end bs (if e then Ok [] else read_then (length bs) (read_frame s bs) (λ behind. read_frames s is_end most behind))
+        → ((rest : List ℕ) → AreBytes rest → length rest ≤ most → Stand is_end rest (read_frames g is_end most rest))
+        → Stand is_end bs (if e then Ok [] else read_then (length bs) (read_frame g bs) (λ behind. read_frames g is_end most behind))
     stand-step most bs true h bytes long further = stand-end bs h
-    stand-step most bs false h bytes long further = stand-read most bs (read_frame s bs) refl h bytes long further
+    stand-step most bs false h bytes long further = stand-read most bs (read_frame g bs) refl h bytes long further
 
-    frames-stand : (most : ℕ) (bs : List ℕ) → AreBytes bs → length bs ≤ most → Stand is_end bs (read_frames s is_end most bs)
+    frames-stand : (most : ℕ) (bs : List ℕ) → AreBytes bs → length bs ≤ most → Stand is_end bs (read_frames g is_end most bs)
     frames-stand zero [] bytes long = rw none (stand-end [] none)
     frames-stand zero (b ∷ bs) bytes long = absurd (omega arith)
     frames-stand (suc most) bs bytes long = stand-step most bs (is_end bs) refl bytes long (λ rest are few. frames-stand most rest are few)
@@ -111,7 +111,7 @@ module _ (s : Settings) where
     found-of n bytes found (Err left) stand headed h = absurd (cc)
 
     broken-of : (n : ℕ) (bytes : List ℕ) (m offset : ℕ) (r : Result (List Frame) ℕ) → Stand is_end (drop 16 bytes) r → bytes ≡ segment_header n ++ drop 16 bytes
-        → in_segment n (length bytes) r ≡ Err (BadFrame m offset) → (m ≡ n) × IsBrokenAt s is_end n offset bytes
+        → in_segment n (length bytes) r ≡ Err (BadFrame m offset) → (m ≡ n) × IsBrokenAt g is_end n offset bytes
     broken-of n bytes m offset (Ok fs) stand headed h = absurd (cc)
     broken-of n bytes m offset (Err left) stand headed h =
         let whole : bytes ≡ segment_header n ++ (flat_map bytes_of stand.before ++ stand.behind) = headed ∙ ap (λ (cs : List ℕ). segment_header n ++ cs) stand.spelled in
@@ -131,44 +131,44 @@ module _ (s : Settings) where
           },
         )
 
-    after_header : (n : ℕ) (bytes : List ℕ) → AreBytes bytes → starts_with nat_eq bytes (segment_header n) ≡ true → Stand is_end (drop 16 bytes) (read_frames s is_end (length bytes) (drop 16 bytes))
+    after_header : (n : ℕ) (bytes : List ℕ) → AreBytes bytes → starts_with nat_eq bytes (segment_header n) ≡ true → Stand is_end (drop 16 bytes) (read_frames g is_end (length bytes) (drop 16 bytes))
     after_header n bytes are starts =
         let headed = header-behind n bytes starts in
         let long : length bytes ≡ length (segment_header n ++ drop 16 bytes) = ap (λ (cs : List ℕ). length cs) headed in
         frames-stand (length bytes) (drop 16 bytes) (bytes_behind (segment_header n) (drop 16 bytes) (rw headed at are)) (omega arith)
 
-    segment-found : (n : ℕ) (bytes : List ℕ) (found : List Found) → AreBytes bytes → read_segment s is_end n bytes ≡ Ok found → IsFound n bytes found
+    segment-found : (n : ℕ) (bytes : List ℕ) (found : List Found) → AreBytes bytes → read_segment g is_end n bytes ≡ Ok found → IsFound n bytes found
     segment-found n bytes found are = of (starts_with nat_eq bytes (segment_header n)) refl
       where
-        of : (b : Bool) → starts_with nat_eq bytes (segment_header n) ≡ b → (if b then in_segment n (length bytes) (read_frames s is_end (length bytes) (drop 16 bytes)) else Err (BadSegment n)) ≡ Ok found
+        of : (b : Bool) → starts_with nat_eq bytes (segment_header n) ≡ b → (if b then in_segment n (length bytes) (read_frames g is_end (length bytes) (drop 16 bytes)) else Err (BadSegment n)) ≡ Ok found
             → IsFound n bytes found
-        of true starts h = found-of n bytes found (read_frames s is_end (length bytes) (drop 16 bytes)) (after_header n bytes are starts) (header-behind n bytes starts) h
+        of true starts h = found-of n bytes found (read_frames g is_end (length bytes) (drop 16 bytes)) (after_header n bytes are starts) (header-behind n bytes starts) h
         of false starts h = absurd (cc)
 
     -- and what is no frame stands where the fault tells
-    pub segment-broken : (n : ℕ) (bytes : List ℕ) (m offset : ℕ) → AreBytes bytes → read_segment s is_end n bytes ≡ Err (BadFrame m offset) → (m ≡ n) × IsBrokenAt s is_end n offset bytes
+    pub segment-broken : (n : ℕ) (bytes : List ℕ) (m offset : ℕ) → AreBytes bytes → read_segment g is_end n bytes ≡ Err (BadFrame m offset) → (m ≡ n) × IsBrokenAt g is_end n offset bytes
     segment-broken n bytes m offset are = of (starts_with nat_eq bytes (segment_header n)) refl
       where
-        of : (b : Bool) → starts_with nat_eq bytes (segment_header n) ≡ b → (if b then in_segment n (length bytes) (read_frames s is_end (length bytes) (drop 16 bytes)) else Err (BadSegment n)) ≡ Err (BadFrame m offset)
-            → (m ≡ n) × IsBrokenAt s is_end n offset bytes
-        of true starts h = broken-of n bytes m offset (read_frames s is_end (length bytes) (drop 16 bytes)) (after_header n bytes are starts) (header-behind n bytes starts) h
+        of : (b : Bool) → starts_with nat_eq bytes (segment_header n) ≡ b → (if b then in_segment n (length bytes) (read_frames g is_end (length bytes) (drop 16 bytes)) else Err (BadSegment n)) ≡ Err (BadFrame m offset)
+            → (m ≡ n) × IsBrokenAt g is_end n offset bytes
+        of true starts h = broken-of n bytes m offset (read_frames g is_end (length bytes) (drop 16 bytes)) (after_header n bytes are starts) (header-behind n bytes starts) h
         of false starts h = absurd (cc)
 
   no_header : (n long m : ℕ) (r : Result (List Frame) ℕ) → in_segment n long r ≡ Err (BadSegment m) → ⊥
   no_header n long m (Ok fs) h = cc
   no_header n long m (Err left) h = cc
 
-  pub segment-headless : (is_end : List ℕ → Bool) (n : ℕ) (bytes : List ℕ) (m : ℕ) → read_segment s is_end n bytes ≡ Err (BadSegment m) → (m ≡ n) × (starts_with nat_eq bytes (segment_header n) ≡ false)
+  pub segment-headless : (is_end : List ℕ → Bool) (n : ℕ) (bytes : List ℕ) (m : ℕ) → read_segment g is_end n bytes ≡ Err (BadSegment m) → (m ≡ n) × (starts_with nat_eq bytes (segment_header n) ≡ false)
   segment-headless is_end n bytes m = of (starts_with nat_eq bytes (segment_header n)) refl
     where
-      of : (b : Bool) → starts_with nat_eq bytes (segment_header n) ≡ b → (if b then in_segment n (length bytes) (read_frames s is_end (length bytes) (drop 16 bytes)) else Err (BadSegment n)) ≡ Err (BadSegment m)
+      of : (b : Bool) → starts_with nat_eq bytes (segment_header n) ≡ b → (if b then in_segment n (length bytes) (read_frames g is_end (length bytes) (drop 16 bytes)) else Err (BadSegment n)) ≡ Err (BadSegment m)
           → (m ≡ n) × (starts_with nat_eq bytes (segment_header n) ≡ false)
-      of true starts h = absurd (no_header n (length bytes) m (read_frames s is_end (length bytes) (drop 16 bytes)) h)
+      of true starts h = absurd (no_header n (length bytes) m (read_frames g is_end (length bytes) (drop 16 bytes)) h)
       of false starts h = (cc, starts)
 
   -- up to the padding, and up to the tail
-  pub earlier-stands : (n : ℕ) (bytes : List ℕ) (found : List Found) → AreBytes bytes → read_segment s is_padding n bytes ≡ Ok found
-      → (fs : List Frame) × (zeros : ℕ) × AreFrames s n fs zeros bytes × (found ≡ all_in n fs)
+  pub earlier-stands : (n : ℕ) (bytes : List ℕ) (found : List Found) → AreBytes bytes → read_segment g is_padding n bytes ≡ Ok found
+      → (fs : List Frame) × (zeros : ℕ) × AreFrames g n fs zeros bytes × (found ≡ all_in n fs)
   earlier-stands n bytes found are h =
       let f = segment-found is_padding refl n bytes found are h in
       let stand = f.stand in
@@ -179,8 +179,8 @@ module _ (s : Settings) where
         f.all,
       )
 
-  pub last-stands : (n : ℕ) (bytes : List ℕ) (found : List Found) → AreBytes bytes → read_segment s is_at_tail n bytes ≡ Ok found
-      → (fs : List Frame) × AreFrames s n fs 0 bytes × (found ≡ all_in n fs)
+  pub last-stands : (n : ℕ) (bytes : List ℕ) (found : List Found) → AreBytes bytes → read_segment g is_at_tail n bytes ≡ Ok found
+      → (fs : List Frame) × AreFrames g n fs 0 bytes × (found ≡ all_in n fs)
   last-stands n bytes found are h =
       let f = segment-found is_at_tail refl n bytes found are h in
       let stand = f.stand in
@@ -192,18 +192,18 @@ module _ (s : Settings) where
 
   -- ---- and what stands so is read
 
-  module _ (good : first_bad_field s ≡ None) (n : ℕ) where
-    frames-hold : (bytes : List ℕ) (here fs : List Frame) → AllByRecursion (λ f. is_frame s f ≡ true) fs → Holds s n bytes here → Holds s n (bytes ++ flat_map bytes_of fs) (here ++ fs)
+  module _ (good : first_bad_field g.settings ≡ None) (n : ℕ) where
+    frames-hold : (bytes : List ℕ) (here fs : List Frame) → AllByRecursion (λ f. is_frame g f ≡ true) fs → Holds g n bytes here → Holds g n (bytes ++ flat_map bytes_of fs) (here ++ fs)
     frames-hold bytes here [] within h = rw (append-nil bytes, append-nil here) h
     frames-hold bytes here (f ∷ fs) within h =
         rw (sym (append_assoc bytes (bytes_of f) (flat_map bytes_of fs)), sym (append_assoc here (f ∷ []) fs))
-        (frames-hold (bytes ++ bytes_of f) (here ++ f ∷ []) fs within.1 (frame-holds s good n bytes here f within.0 h))
+        (frames-hold (bytes ++ bytes_of f) (here ++ f ∷ []) fs within.1 (frame-holds g good n bytes here f within.0 h))
 
     pub frames-read : (is_end : List ℕ → Bool) → ((b : ℕ) (bs : List ℕ) → is_end (suc b ∷ bs) ≡ false) → (fs : List Frame) (zeros : ℕ) (bytes : List ℕ) → is_end (replicate zeros 0) ≡ true
-        → AreFrames s n fs zeros bytes → read_segment s is_end n bytes ≡ Ok (all_in n fs)
+        → AreFrames g n fs zeros bytes → read_segment g is_end n bytes ≡ Ok (all_in n fs)
     frames-read is_end marks fs zeros bytes end h =
-        ap (λ (bs : List ℕ). read_segment s is_end n bs) (h.spelled ∙ sym (append_assoc (segment_header n) (flat_map bytes_of fs) (replicate zeros 0)))
-        ∙ holds-read s is_end marks n (segment_header n ++ flat_map bytes_of fs) (replicate zeros 0) fs (frames-hold (segment_header n) [] fs h.within (header-holds s n)) end
+        ap (λ (bs : List ℕ). read_segment g is_end n bs) (h.spelled ∙ sym (append_assoc (segment_header n) (flat_map bytes_of fs) (replicate zeros 0)))
+        ∙ holds-read g is_end marks n (segment_header n ++ flat_map bytes_of fs) (replicate zeros 0) fs (frames-hold (segment_header n) [] fs h.within (header-holds g n)) end
 
 -- ---- the first fault
 
@@ -212,29 +212,29 @@ followed-err (Ok before) (Ok more) fault h = absurd (cc)
 followed-err (Ok before) (Err e) fault h = inr (before, refl, cc)
 followed-err (Err e) y fault h = inl h
 
-module _ (s : Settings) (file : List ℕ) where
+module _ (g : Format) (file : List ℕ) where
   -- in one of k segments from the head on
   abbrev EarlierFault : ℕ → ℕ → Fault → Type 0
-  EarlierFault head k fault = (j : ℕ) × (before : List Found) × (j < k) × (read_earlier s file head j ≡ ok before) × (read_segment s is_padding (head + j) (segment_bytes s file (head + j)) ≡ Err fault)
+  EarlierFault head k fault = (j : ℕ) × (before : List Found) × (j < k) × (read_earlier g file head j ≡ ok before) × (read_segment g is_padding (head + j) (segment_bytes g.settings file (head + j)) ≡ Err fault)
 
-  earlier-fault : (head k : ℕ) (fault : Fault) → read_earlier s file head k ≡ Err fault → EarlierFault head k fault
+  earlier-fault : (head k : ℕ) (fault : Fault) → read_earlier g file head k ≡ Err fault → EarlierFault head k fault
   earlier-fault head zero fault h = absurd (cc)
   earlier-fault head (suc k) fault h =
-      elim (followed-err (read_earlier s file head k) (read_segment s is_padding (head + k) (segment_bytes s file (head + k))) fault h) [
+      elim (followed-err (read_earlier g file head k) (read_segment g is_padding (head + k) (segment_bytes g.settings file (head + k))) fault h) [
         | inl first ↦ (let (j, before, less, old, here) = earlier-fault head k fault first in (j, before, omega (arith, less), old, here))
         | inr p ↦ (k, p.0, omega arith, p.1, p.2)
       ]
 
-  pub first-fault : (head tail : ℕ) (fault : Fault) → 0 < s.seg_size → head * s.seg_size < tail → log_between s file head tail ≡ Err fault → (n : ℕ) × IsFirstFault s file head tail n fault
+  pub first-fault : (head tail : ℕ) (fault : Fault) → 0 < g.settings.seg_size → head * g.settings.seg_size < tail → log_between g file head tail ≡ Err fault → (n : ℕ) × IsFirstFault g file head tail n fault
   first-fault head tail fault some less h =
-      let split = split-tail s head tail some less in
+      let split = split-tail g.settings head tail some less in
       let from = split.from in
-      let k : ℕ = last_segment s tail - head in
-      elim (followed-err (read_earlier s file head k) (read_segment s is_at_tail (head + k) (take (bytes_in_use s tail) (segment_bytes s file (head + k)))) fault h) [
+      let k : ℕ = last_segment g.settings tail - head in
+      elim (followed-err (read_earlier g file head k) (read_segment g is_at_tail (head + k) (take (bytes_in_use g.settings tail) (segment_bytes g.settings file (head + k)))) fault h) [
         | inl first ↦ (let (j, before, low, old, here) = earlier-fault head k fault first in
             let same : j ≡ head + j - head = omega arith in
-            (head + j, record { before = before; from_head = omega arith; earlier = subst (λ (m : ℕ). read_earlier s file head m ≡ ok before) same old; here = inl (omega (arith, low, from), here) }))
+            (head + j, record { before = before; from_head = omega arith; earlier = subst (λ (m : ℕ). read_earlier g file head m ≡ ok before) same old; here = inl (omega (arith, low, from), here) }))
         | inr p ↦
-            (let same : last_segment s tail - head ≡ head + (last_segment s tail - head) - head = omega arith in
-            (head + k, record { before = p.0; from_head = omega arith; earlier = subst (λ (m : ℕ). read_earlier s file head m ≡ ok p.0) same p.1; here = inr (omega (arith, from), p.2) }))
+            (let same : last_segment g.settings tail - head ≡ head + (last_segment g.settings tail - head) - head = omega arith in
+            (head + k, record { before = p.0; from_head = omega arith; earlier = subst (λ (m : ℕ). read_earlier g file head m ≡ ok p.0) same p.1; here = inr (omega (arith, from), p.2) }))
       ]

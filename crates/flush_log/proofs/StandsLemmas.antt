@@ -8,6 +8,7 @@ use Rattle.std.proofs.lemmas.Nat.{mod_below}
 use Rattle.keys.specs.Limits.{first_bad_field}
 use Rattle.keys.specs.declared.settings.Settings.{Settings}
 use Rattle.index_page.proofs.ListLemmas.{all_weaker}
+use Rattle.frame_codec.specs.declared.format.Format.{Format}
 use Rattle.frame_codec.specs.Frame.{Frame, bytes_of, is_frame}
 use Rattle.flush_log.specs.Overlay.{overlay}
 use Rattle.flush_log.specs.Segments.{segment_header, HasSegments, segment_bytes, last_segment, bytes_in_use}
@@ -134,26 +135,26 @@ module _ (s : Settings) where
             (stand-over head n file r (spans_from s (begun (suc n) (bytes_of f)) ps) ps f number (omega (arith, end, room)) whole some from (omega (arith, rise, free)) h),
       ))
 
-  -- each frame of a text that finds room stands at its place
-  pub text-stands : first_bad_field s ≡ None → (file : List ℕ) (head tail : ℕ) (text : List Frame) → HasSegments s file → AllByRecursion (λ f. is_frame s f ≡ true) text → head * s.seg_size < tail
-      → last_segment s (tail_after s tail text) < head + s.segments
-      → AllByRecursion (λ p. take (length (bytes_of p.frame)) (drop p.offset (segment_bytes s (with_spans s file (spans s tail text)) p.segment)) ≡ bytes_of p.frame) (placed s tail text)
-  text-stands good file head tail [] whole within h free = tt
-  text-stands good file head tail (f ∷ fs) whole within h free =
-      let n : ℕ = tail / s.seg_size in
-      let at : ℕ = tail % s.seg_size in
-      let sized = are_sized s good in
-      let least = sized.least_size in
-      let count = sized.least_count in
-      let split = split-tail s head tail (omega arith) h in
-      let all = all_fit s good (f ∷ fs) within in
-      let (last, used) = text-last s tail (f ∷ fs) (omega arith) (omega arith) all in
-      let below = mod_below tail s.seg_size (omega arith) in
-      let start = behind_header-within s.seg_size at below (omega arith) in
-      ((all-stand n (behind_header at) (f ∷ fs)).1 head file (opened n at) (opened-segment n at) (opened-end n at) start.1 all whole (omega (arith, count))
-      (from_head head (last_segment s tail) (bytes_in_use s tail) n at split.from (starts s (last_segment s tail) (bytes_in_use s tail) tail split.is split.high (omega arith)))
-      (omega (arith, last, free))).frames
-    where
-      from_head : (head q used n at : ℕ) → head ≤ q → Start s q used n at → head ≤ n
-      from_head head q used n at l (Inside room) = l
-      from_head head q used n at l (Behind full) = omega arith
+-- each frame of a text that finds room stands at its place
+pub text-stands : (g : Format) → first_bad_field g.settings ≡ None → (file : List ℕ) (head tail : ℕ) (text : List Frame) → HasSegments g.settings file → AllByRecursion (λ f. is_frame g f ≡ true) text → head * g.settings.seg_size < tail
+    → last_segment g.settings (tail_after g.settings tail text) < head + g.settings.segments
+    → AllByRecursion (λ p. take (length (bytes_of p.frame)) (drop p.offset (segment_bytes g.settings (with_spans g.settings file (spans g.settings tail text)) p.segment)) ≡ bytes_of p.frame) (placed g.settings tail text)
+text-stands g good file head tail [] whole within h free = tt
+text-stands g good file head tail (f ∷ fs) whole within h free =
+    let n : ℕ = tail / g.settings.seg_size in
+    let at : ℕ = tail % g.settings.seg_size in
+    let sized = are_sized g.settings good in
+    let least = sized.least_size in
+    let count = sized.least_count in
+    let split = split-tail g.settings head tail (omega arith) h in
+    let all = all_fit g good (f ∷ fs) within in
+    let (last, used) = text-last g.settings tail (f ∷ fs) (omega arith) (omega arith) all in
+    let below = mod_below tail g.settings.seg_size (omega arith) in
+    let start = behind_header-within g.settings.seg_size at below (omega arith) in
+    ((all-stand g.settings n (behind_header at) (f ∷ fs)).1 head file (opened n at) (opened-segment n at) (opened-end n at) start.1 all whole (omega (arith, count))
+    (from_head head (last_segment g.settings tail) (bytes_in_use g.settings tail) n at split.from (starts g.settings (last_segment g.settings tail) (bytes_in_use g.settings tail) tail split.is split.high (omega arith)))
+    (omega (arith, last, free))).frames
+  where
+    from_head : (head q used n at : ℕ) → head ≤ q → Start g.settings q used n at → head ≤ n
+    from_head head q used n at l (Inside room) = l
+    from_head head q used n at l (Behind full) = omega arith

@@ -8,6 +8,7 @@ use Rattle.std.proofs.lemmas.List.Sums.{sum_by-cons}
 use Rattle.std.proofs.lemmas.Nat.{div-add-mod', mod_below}
 use Rattle.keys.specs.Limits.{first_bad_field}
 use Rattle.keys.specs.declared.settings.Settings.{Settings}
+use Rattle.frame_codec.specs.declared.format.Format.{Format}
 use Rattle.frame_codec.specs.Frame.{Frame, bytes_of, is_frame}
 use Rattle.flush_log.specs.Layout.{placed_from, placed, behind_header, tail_after, is_full_for_flush, is_full_for_clean}
 use Rattle.flush_log.specs.Segments.{position, last_segment}
@@ -53,40 +54,41 @@ module _ (s : Settings) where
   tail-parts : (tail : ℕ) → tail / s.seg_size * s.seg_size ≤ tail
   tail-parts tail = let parts = div-add-mod' tail s.seg_size in omega arith
 
-  module _ (good : first_bad_field s ≡ None) where
-    -- a text's bytes lie between its tails
-    pub tail-rises : (tail : ℕ) (text : List Frame) → AllByRecursion (λ f. is_frame s f ≡ true) text → tail + sum_by (λ f. length (bytes_of f)) text ≤ tail_after s tail text
-    tail-rises tail [] within = omega arith
-    tail-rises tail (f ∷ fs) within =
-        let least = (are_sized s good).least_size in
-        let all = all_fit s good (f ∷ fs) within in
-        let below = mod_below tail s.seg_size (omega arith) in
-        let start = behind_header-within s.seg_size (tail % s.seg_size) below (omega arith) in
-        let above = end-above (tail / s.seg_size) (behind_header (tail % s.seg_size)) (f ∷ fs) start.1 all in
-        let first = start-above tail in
-        let (is, within_segment) = text-end s tail (f ∷ fs) (omega arith) (omega arith) all in
-        omega (arith, is, above, first)
+module _ (g : Format) (good : first_bad_field g.settings ≡ None) where
+  -- a text's bytes lie between its tails
+  pub tail-rises : (tail : ℕ) (text : List Frame) → AllByRecursion (λ f. is_frame g f ≡ true) text → tail + sum_by (λ f. length (bytes_of f)) text ≤ tail_after g.settings tail text
+  tail-rises tail [] within = omega arith
+  tail-rises tail (f ∷ fs) within =
+      let least = (are_sized g.settings good).least_size in
+      let all = all_fit g good (f ∷ fs) within in
+      let below = mod_below tail g.settings.seg_size (omega arith) in
+      let start = behind_header-within g.settings.seg_size (tail % g.settings.seg_size) below (omega arith) in
+      let above = end-above g.settings (tail / g.settings.seg_size) (behind_header (tail % g.settings.seg_size)) (f ∷ fs) start.1 all in
+      let first = start-above g.settings tail in
+      let (is, within_segment) = text-end g.settings tail (f ∷ fs) (omega arith) (omega arith) all in
+      omega (arith, is, above, first)
 
-    -- each frame moves it into the next segment at most
-    pub tail-bounded : (tail : ℕ) (text : List Frame) → AllByRecursion (λ f. is_frame s f ≡ true) text → tail_after s tail text ≤ tail + (length text + 1) * s.seg_size
-    tail-bounded tail [] within = omega arith
-    tail-bounded tail (f ∷ fs) within =
-        let least = (are_sized s good).least_size in
-        let (is, within_segment) = text-end s tail (f ∷ fs) (omega arith) (omega arith) (all_fit s good (f ∷ fs) within) in
-        let end : ℕ × ℕ = end_point (tail / s.seg_size) (behind_header (tail % s.seg_size)) (placed s tail (f ∷ fs)) in
-        let below = end-below (tail / s.seg_size) (behind_header (tail % s.seg_size)) (f ∷ fs) in
-        let start = tail-parts tail in
-        let most : (end_point (tail / s.seg_size) (behind_header (tail % s.seg_size)) (placed s tail (f ∷ fs))).0 * s.seg_size ≤ (tail / s.seg_size + length (f ∷ fs)) * s.seg_size = mul-le-mul_right s.seg_size below in
-        let parts : (tail / s.seg_size + length (f ∷ fs)) * s.seg_size ≡ tail / s.seg_size * s.seg_size + length (f ∷ fs) * s.seg_size = omega arith in
-        omega (arith, is, within_segment, most, parts, start)
+  -- each frame moves it into the next segment at most
+  pub tail-bounded : (tail : ℕ) (text : List Frame) → AllByRecursion (λ f. is_frame g f ≡ true) text → tail_after g.settings tail text ≤ tail + (length text + 1) * g.settings.seg_size
+  tail-bounded tail [] within = omega arith
+  tail-bounded tail (f ∷ fs) within =
+      let least = (are_sized g.settings good).least_size in
+      let (is, within_segment) = text-end g.settings tail (f ∷ fs) (omega arith) (omega arith) (all_fit g good (f ∷ fs) within) in
+      let end : ℕ × ℕ = end_point (tail / g.settings.seg_size) (behind_header (tail % g.settings.seg_size)) (placed g.settings tail (f ∷ fs)) in
+      let below = end-below g.settings (tail / g.settings.seg_size) (behind_header (tail % g.settings.seg_size)) (f ∷ fs) in
+      let start = tail-parts g.settings tail in
+      let most : (end_point (tail / g.settings.seg_size) (behind_header (tail % g.settings.seg_size)) (placed g.settings tail (f ∷ fs))).0 * g.settings.seg_size ≤ (tail / g.settings.seg_size + length (f ∷ fs)) * g.settings.seg_size = mul-le-mul_right g.settings.seg_size below in
+      let parts : (tail / g.settings.seg_size + length (f ∷ fs)) * g.settings.seg_size ≡ tail / g.settings.seg_size * g.settings.seg_size + length (f ∷ fs) * g.settings.seg_size = omega arith in
+      omega (arith, is, within_segment, most, parts, start)
 
-    -- and not past the segments that there are, where it finds room
-    pub tail-in-room : (head tail : ℕ) → last_segment s tail < head + s.segments → tail ≤ (head + s.segments) * s.seg_size
-    tail-in-room head tail room =
-        let least = (are_sized s good).least_size in
-        let below = tail-below tail (omega arith) in
-        let most : (last_segment s tail + 1) * s.seg_size ≤ (head + s.segments) * s.seg_size = mul-le-mul_right s.seg_size (omega arith) in
-        omega arith
+module _ (s : Settings) (good : first_bad_field s ≡ None) where
+  -- and not past the segments that there are, where it finds room
+  pub tail-in-room : (head tail : ℕ) → last_segment s tail < head + s.segments → tail ≤ (head + s.segments) * s.seg_size
+  tail-in-room head tail room =
+      let least = (are_sized s good).least_size in
+      let below = tail-below s tail (omega arith) in
+      let most : (last_segment s tail + 1) * s.seg_size ≤ (head + s.segments) * s.seg_size = mul-le-mul_right s.seg_size (omega arith) in
+      omega arith
 
 -- ---- what is full
 
@@ -98,16 +100,16 @@ pub room-for-flush : (s : Settings) (head tail : ℕ) → is_full_for_flush s he
 room-for-flush s head tail h = let room = leb-false (head + s.segments - 1) (last_segment s tail) h in omega arith
 
 -- a text of as many bytes as all segments have finds no room
-pub too-long : (s : Settings) (head tail : ℕ) (text : List Frame) → first_bad_field s ≡ None → AllByRecursion (λ f. is_frame s f ≡ true) text → head * s.seg_size < tail
-    → s.segments * s.seg_size ≤ sum_by (λ f. length (bytes_of f)) text → is_full_for_clean s head (tail_after s tail text) ≡ true
-too-long s head tail text good within less long = of (is_full_for_clean s head (tail_after s tail text)) refl
+pub too-long : (g : Format) (head tail : ℕ) (text : List Frame) → first_bad_field g.settings ≡ None → AllByRecursion (λ f. is_frame g f ≡ true) text → head * g.settings.seg_size < tail
+    → g.settings.segments * g.settings.seg_size ≤ sum_by (λ f. length (bytes_of f)) text → is_full_for_clean g.settings head (tail_after g.settings tail text) ≡ true
+too-long g head tail text good within less long = of (is_full_for_clean g.settings head (tail_after g.settings tail text)) refl
   where
-    of : (b : Bool) → is_full_for_clean s head (tail_after s tail text) ≡ b → b ≡ true
+    of : (b : Bool) → is_full_for_clean g.settings head (tail_after g.settings tail text) ≡ b → b ≡ true
     of true h = refl
     of false h =
-        let rises = tail-rises s good tail text within in
-        let room = tail-in-room s good head (tail_after s tail text) (room-for-clean s head (tail_after s tail text) h) in
-        let parts : (head + s.segments) * s.seg_size ≡ head * s.seg_size + s.segments * s.seg_size = omega arith in
+        let rises = tail-rises g good tail text within in
+        let room = tail-in-room g.settings good head (tail_after g.settings tail text) (room-for-clean g.settings head (tail_after g.settings tail text) h) in
+        let parts : (head + g.settings.segments) * g.settings.seg_size ≡ head * g.settings.seg_size + g.settings.segments * g.settings.seg_size = omega arith in
         absurd (omega (arith, rises, room, parts, long, less))
 
 -- what is full for a clean is full for a flush

@@ -1,23 +1,25 @@
--- A flush: why it is refused, and what it leaves of the store and of its disk.
+-- A flush and an upgrade: why they are refused, and what they leave of the store and of its disk.
 use Rattle.std.specs.Prelude.{suc, Bool, ◌||◌, nat_lt, if◌then◌else◌, List, [], ◌∷◌, Result, Ok, Err}
 use Rattle.keys.specs.Bytes.{Bytes}
 use Rattle.keys.specs.declared.settings.Settings.{Settings}
 use Rattle.keys.specs.declared.fault.Fault.{Fault}
-use Rattle.keys.specs.declared.fault.Fault.TheVariants.{Spent, Full}
+use Rattle.keys.specs.declared.fault.Fault.TheVariants.{Spent, Full, AlreadyUpgraded}
+use Rattle.keys.specs.declared.version.Version.{Version}
+use Rattle.keys.specs.declared.version.Version.TheVariants.{One, Two}
 use Rattle.mapping.specs.Tree.{Tree, Store}
 use Rattle.frame_codec.specs.Frame.{Frame}
 use Rattle.flush_log.specs.Commit.{Call, commit_calls, committed}
-use Rattle.flush_log.specs.FlushText.{flush_text, flushed}
+use Rattle.flush_log.specs.FlushText.{flush_text, upgrade_text, flushed}
 use Rattle.flush_log.specs.Layout.{Span, tail_after, spans, is_full_for_flush}
 use Rattle.flush_log.specs.Slot.{Slot, greatest}
 
 -- what a slot says of a store
 abbrev pub slot_of : Store → Slot
-slot_of st = record { sequence = st.sequence; head = st.head; tail = st.tail; root = st.tree.root; height = st.tree.height }
+slot_of st = record { sequence = st.sequence; head = st.head; tail = st.tail; root = st.tree.root; height = st.tree.height; version = st.version }
 
 -- the slot for this text of a store
 abbrev pub flush_slot : Settings → Store → List Frame → Slot
-flush_slot s st text = record { sequence = suc st.sequence; head = st.head; tail = tail_after s st.tail text; root = st.tree.root; height = st.tree.height }
+flush_slot s st text = record { sequence = suc st.sequence; head = st.head; tail = tail_after s st.tail text; root = st.tree.root; height = st.tree.height; version = st.version }
 
 -- a commit: its slot, and what is written of its text
 pub record Commit : Type 0 where
@@ -42,7 +44,7 @@ is_spent t = nat_lt greatest t.sequence || nat_lt greatest t.tail
 
 -- the store of a slot, with this tree
 abbrev pub store_after : Tree → Slot → Store
-store_after tree t = record { tree = tree; head = t.head; tail = t.tail; sequence = t.sequence }
+store_after tree t = record { tree = tree; head = t.head; tail = t.tail; sequence = t.sequence; version = t.version }
 
 -- why a commit is refused: its numbers are spent, or the log is full. Else the store and the bytes after it.
 abbrev pub after_commit : Slot → Bool → Store → Bytes → Result (Store × Bytes) Fault
@@ -57,7 +59,20 @@ after_text s st file (f ∷ fs) =
 
 -- what a flush leaves of a store and of the bytes of its disk, or why it is refused
 abbrev pub after_flush : Settings → Store → Bytes → Result (Store × Bytes) Fault
-after_flush s st file = after_text s st file (flush_text st.tree)
+after_flush s st file = after_text s st file (flush_text st.version st.tree)
+
+-- the store with a log of version 2
+abbrev pub of_version_two : Store → Store
+of_version_two st = record { tree = st.tree; head = st.head; tail = st.tail; sequence = st.sequence; version = Two }
+
+-- the answer, where the log isn't of version 2 already
+abbrev pub unless_upgraded : {X : Type 0} → Version → Result X Fault → Result X Fault
+unless_upgraded One answer = answer
+unless_upgraded Two answer = Err AlreadyUpgraded
+
+-- what an upgrade leaves, or why it is refused
+abbrev pub after_upgrade : Settings → Store → Bytes → Result (Store × Bytes) Fault
+after_upgrade s st file = unless_upgraded st.version (after_text s (of_version_two st) file (upgrade_text st.tree))
 
 -- ---- the calls of the disk
 
@@ -68,4 +83,8 @@ text_calls s st file (f ∷ fs) = calls_for s file (flush_commit s st (f ∷ fs)
 
 -- the calls of a flush
 abbrev pub flush_calls : Settings → Store → Bytes → List Call
-flush_calls s st file = text_calls s st file (flush_text st.tree)
+flush_calls s st file = text_calls s st file (flush_text st.version st.tree)
+
+-- the calls of an upgrade
+abbrev pub upgrade_calls : Settings → Store → Bytes → List Call
+upgrade_calls s st file = text_calls s (of_version_two st) file (upgrade_text st.tree)

@@ -4,6 +4,7 @@ use Rattle.std.specs.List.{AllByRecursion}
 use Rattle.keys.specs.Bytes.{Bytes}
 use Rattle.keys.specs.Limits.{first_bad_field}
 use Rattle.keys.specs.declared.settings.Settings.{Settings}
+use Rattle.frame_codec.specs.declared.format.Format.{Format}
 use Rattle.frame_codec.specs.Frame.{Frame, is_frame}
 use Rattle.flush_log.specs.Overlay.{overlay, IsBeside, AgreeAt}
 use Rattle.flush_log.specs.Segments.{HasSegments, last_segment}
@@ -71,13 +72,13 @@ commit_calls s file spans t = prepare s file spans t ++ open_gate t
 abbrev pub committed : Settings → Bytes → List Span → Slot → Bytes
 committed s file spans t = overlay (with_spans s file spans) (slot_place t.sequence) (slot_bytes t)
 
--- a text of frames finds room behind the tail of a disk's slot, on a disk that has room for all segments
-pub record HasRoom (s : Settings) (file : Bytes) (t : Slot) (text : List Frame) : Type 0 where
-  pub good : first_bad_field s ≡ None
-  pub whole : HasSegments s file
-  pub slot : store_slot s file ≡ Ok t
-  pub within : AllByRecursion (λ f. is_frame s f ≡ true) text
-  pub free : last_segment s (tail_after s t.tail text) < t.head + s.segments
+-- a text of frames of this format finds room behind the tail of a disk's slot, on a disk that has room for all segments
+pub record HasRoom (g : Format) (file : Bytes) (t : Slot) (text : List Frame) : Type 0 where
+  pub good : first_bad_field g.settings ≡ None
+  pub whole : HasSegments g.settings file
+  pub slot : store_slot g.settings file ≡ Ok t
+  pub within : AllByRecursion (λ f. is_frame g f ≡ true) text
+  pub free : last_segment g.settings (tail_after g.settings t.tail text) < t.head + g.settings.segments
 
 -- ---- what may be left of it
 

@@ -4,23 +4,25 @@ use Rattle.std.specs.List.{AllByRecursion}
 use Rattle.keys.specs.Bytes.{Bytes}
 use Rattle.keys.specs.declared.fault.Fault.{Fault}
 use Rattle.keys.specs.declared.settings.Settings.{Settings}
+use Rattle.frame_codec.specs.declared.format.Format.{Format}
 use Rattle.frame_codec.specs.Frame.{Frame, is_frame}
 use Rattle.flush_log.specs.AfterFlush.{is_spent}
 use Rattle.flush_log.specs.Commit.{AreWithin, committed, IsUncommitted}
 use Rattle.flush_log.specs.Images.{AreOfText, admitted}
 use Rattle.flush_log.specs.Layout.{tail_after, spans, is_full_for_flush}
 use Rattle.flush_log.specs.Segments.{disk_size}
-use Rattle.flush_log.specs.Slot.{Slot}
+use Rattle.flush_log.specs.Slot.{Slot, format_of}
 
--- these images are the frames of this text, each one that a store may have; there are none, or there is a frame
-pub record AreImages (s : Settings) (text : List Frame) (images : List (List Bytes)) : Type 0 where
+-- these images are the frames of this text, each one that a log of this format may have; there are none, or there is a frame
+pub record AreImages (g : Format) (text : List Frame) (images : List (List Bytes)) : Type 0 where
   pub of : AreOfText images text
   pub some : (images ≡ []) ⊎ (1 ≤ length text)
-  pub within : AllByRecursion (λ f. is_frame s f ≡ true) text
+  pub within : AllByRecursion (λ f. is_frame g f ≡ true) text
 
--- the slot of the commit that adds this text to the log of slot t: the next number, and the tail after the text
+-- the slot of the commit that adds this text to the log of slot t: the next number, and the tail after the text.
+-- For an upgrade that slot has the second version already.
 abbrev pub next_slot : Settings → Slot → List Frame → Slot
-next_slot s t text = record { sequence = suc t.sequence; head = t.head; tail = tail_after s t.tail text; root = t.root; height = t.height }
+next_slot s t text = record { sequence = suc t.sequence; head = t.head; tail = tail_after s t.tail text; root = t.root; height = t.height; version = t.version }
 
 -- its tail, or why it is refused: its numbers are spent, or no segment would be free
 abbrev pub next_tail : Settings → Slot → List Frame → Result ℕ Fault
@@ -37,7 +39,7 @@ pub record CommitPlan : Type 0 where
 -- It is the commit that adds this text to the log of slot t, and nothing refuses it: the text lies within the disk, and the buffer
 -- has room for a segment.
 pub record IsPlanned (s : Settings) (t : Slot) (text : List Frame) (p : CommitPlan) : Type 0 where
-  pub spelled : AreImages s text p.images
+  pub spelled : AreImages (format_of s t) text p.images
   pub from : p.tail ≡ t.tail
   pub slot : p.slot ≡ next_slot s t text
   pub unspent : is_spent (next_slot s t text) ≡ false

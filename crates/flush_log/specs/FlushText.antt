@@ -1,21 +1,36 @@
--- What a flush writes: the frames that the log still lacks, in the order of their pids.
+-- What a flush writes: the frames that the log still lacks, in the order of their pids. And what an upgrade writes: all pages.
 use Rattle.std.specs.Prelude.{◌≡◌, ℕ, true, List, [], ◌∷◌, map, flat_map, reverse, drop, Option, Some, None}
 use Rattle.std.specs.List.{AllByRecursion, filter}
 use Rattle.std.specs.Map.{keys_of}
 use Rattle.keys.specs.declared.settings.Settings.{Settings}
+use Rattle.keys.specs.declared.version.Version.{Version}
+use Rattle.keys.specs.declared.version.Version.TheVariants.{One, Two}
 use Rattle.index_page.specs.Page.{PageOfKind}
 use Rattle.index_page.specs.Page.PageOfKind.{Leaf, Index}
 use Rattle.mapping.specs.Tree.{Logged, Tree, page_at, logged_of}
 use Rattle.mapping.specs.Tree.Logged.{No, Old, Upto}
 use Rattle.mapping.specs.Table.{is_old, with_numbers}
 use Rattle.mapping.specs.Flushed.{page_depth}
+use Rattle.mapping.specs.Outdate.{outdate}
+use Rattle.frame_codec.specs.declared.format.Format.{Format}
+use Rattle.frame_codec.specs.declared.format.Spelling.{Spelling}
+use Rattle.frame_codec.specs.declared.format.Spelling.TheVariants.{Whole, Shared}
 use Rattle.frame_codec.specs.Frame.{Content, Frame, is_frame}
 use Rattle.frame_codec.specs.Frame.Content.{FullLeaf, DeltaLeaf, FullIndex, DeltaIndex, Free}
+use Rattle.flush_log.specs.declared.text.Text.{Text}
+use Rattle.flush_log.specs.declared.text.Text.TheVariants.{Flush, Upgrade}
 
--- a page's base, with its low key. A version of the log with kinds of its own for bases takes them here.
-abbrev pub base_content : PageOfKind → Content
-base_content (Leaf p) = FullLeaf p.low p.layers.base
-base_content (Index p) = FullIndex p.low p.layers.base
+-- ---- contents
+
+-- how a store of this version spells the keys of the bases that it writes
+abbrev pub spelling_of : Version → Spelling
+spelling_of One = Whole
+spelling_of Two = Shared
+
+-- a page's base, with its low key
+abbrev pub base_content : Spelling → PageOfKind → Content
+base_content spelling (Leaf p) = FullLeaf spelling p.low p.layers.base
+base_content spelling (Index p) = FullIndex spelling p.low p.layers.base
 
 -- a page's runs, the oldest first
 abbrev pub run_contents : PageOfKind → List Content
@@ -23,37 +38,70 @@ run_contents (Leaf p) = map (λ run. DeltaLeaf run) (reverse p.layers.runs)
 run_contents (Index p) = map (λ run. DeltaIndex run) (reverse p.layers.runs)
 
 -- the whole page: its base, and then its runs
-abbrev pub whole_page : PageOfKind → List Content
-whole_page p = base_content p ∷ run_contents p
+abbrev pub whole_page : Spelling → PageOfKind → List Content
+whole_page spelling p = base_content spelling p ∷ run_contents p
 
 -- what is to be written of a pid, by its page and by what the log has: the whole page, where the log has another one or none;
 -- the newer runs, where it has the base and the oldest k; that there is no page, where the log has one
-abbrev pub lacking : Option PageOfKind → Logged → List Content
-lacking (Some p) No = whole_page p
-lacking (Some p) Old = whole_page p
-lacking (Some p) (Upto k) = drop k (run_contents p)
-lacking None Old = Free ∷ []
-lacking None _ = []
+abbrev pub lacking : Spelling → Option PageOfKind → Logged → List Content
+lacking spelling (Some p) No = whole_page spelling p
+lacking spelling (Some p) Old = whole_page spelling p
+lacking spelling (Some p) (Upto k) = drop k (run_contents p)
+lacking spelling None Old = Free ∷ []
+lacking spelling None _ = []
 
 -- contents as frames of one pid
 abbrev pub frames_of : ℕ → List Content → List Frame
 frames_of pid cs = map (λ c. record { pid = pid; content = c }) cs
 
+-- ---- texts
+
+-- the version of the log that has this text: an upgrade brings the second one
+abbrev pub version_with : Text → Version
+version_with (Flush version) = version
+version_with Upgrade = Two
+
+-- what the log has of a pid, as the text takes it: an upgrade takes each page that the log has as another one
+abbrev pub taken : Text → Logged → Logged
+taken (Flush version) l = l
+taken Upgrade l = outdate l
+
 -- what is to be written of a pid of a tree
-abbrev pub pid_text : Tree → ℕ → List Frame
-pid_text t pid = frames_of pid (lacking (page_at t.pages pid) (logged_of t pid))
+abbrev pub pid_text : Text → Tree → ℕ → List Frame
+pid_text text t pid = frames_of pid (lacking (spelling_of (version_with text)) (page_at t.pages pid) (taken text (logged_of t pid)))
 
 -- by rising number the pids that are in use, or of which the log has `Old`
 abbrev pub pids_to_write : Tree → List ℕ
 pids_to_write t = with_numbers (keys_of (filter (λ l. is_old l.1) t.logged)) (keys_of t.pages)
 
--- the text of a flush
-abbrev pub flush_text : Tree → List Frame
-flush_text t = flat_map (pid_text t) (pids_to_write t)
+-- the frames of a text
+abbrev pub text_of : Text → Tree → List Frame
+text_of text t = flat_map (pid_text text t) (pids_to_write t)
 
--- each frame of that text is one that a store with these settings may have: so it is where page ids are numbers of 64 bits
-abbrev pub HasFrames : Settings → Tree → Type 0
-HasFrames s t = AllByRecursion (λ f. is_frame s f ≡ true) (flush_text t)
+-- the text of a flush of a store of this version
+abbrev pub flush_text : Version → Tree → List Frame
+flush_text version t = text_of (Flush version) t
+
+-- the text of an upgrade: that of a flush of version 2, as if every page in use were `Old`
+abbrev pub upgrade_text : Tree → List Frame
+upgrade_text t = text_of Upgrade t
+
+-- what the log has of each pid, as if it had another page of each of which it has one; and the tree with that
+abbrev pub all_outdated : List (ℕ × Logged) → List (ℕ × Logged)
+all_outdated ls = map (λ l. (l.0, outdate l.1)) ls
+
+abbrev pub outdated : Tree → Tree
+outdated t = record { pages = t.pages; root = t.root; height = t.height; logged = all_outdated t.logged }
+
+-- by what the frames of a text are read
+abbrev pub format_with : Settings → Text → Format
+format_with s text = record { settings = s; version = version_with text }
+
+-- each frame of a text is one that the log of a store with these settings may have: so it is where page ids are numbers of 64 bits
+abbrev pub HasFrames : Settings → Text → Tree → Type 0
+HasFrames s text t = AllByRecursion (λ f. is_frame (format_with s text) f ≡ true) (text_of text t)
+
+-- ---- the tree once a text is written
 
 -- each page with all its runs
 abbrev pub logged_whole : List (ℕ × PageOfKind) → List (ℕ × Logged)

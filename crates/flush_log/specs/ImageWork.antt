@@ -13,31 +13,35 @@ use Rattle.mapping.specs.Proper.{IsProper}
 use Rattle.mapping.specs.Tree.{Logged, Tree, page_at, logged_of}
 use Rattle.mapping.specs.Tree.Logged.{No, Old, Upto}
 use Rattle.mapping.specs.declared.logged.Logged as of_code
+use Rattle.frame_codec.specs.declared.format.Spelling.{Spelling}
 use Rattle.frame_codec.specs.Frame.{Content, Frame, bytes_of}
 use Rattle.frame_codec.specs.Sized.{IsSized, HasWords}
-use Rattle.flush_log.specs.FlushText.{lacking, frames_of}
+use Rattle.flush_log.specs.FlushText.{spelling_of, lacking, frames_of, version_with, taken}
 use Rattle.flush_log.specs.declared.image_work.ImageJob.{ImageJob}
+use Rattle.flush_log.specs.declared.text.Text.{Text}
 
--- a pid, its page if it has one, and what the log has of it
+-- a pid, how the keys of its base are to be spelled, its page if it has one, and what the log has of it
 pub record ImageHeld : Type 0 where
   pub pid : ℕ
+  pub spelling : Spelling
   pub page : Option PageOfKind
   pub logged : Logged
 
 -- what a job holds: from its parts, and as a job
-abbrev pub image_held : ℕ → Option (Bor PageOfKind) → of_code.Logged → ImageHeld
-image_held pid page logged = record { pid = pid; page = option_copied page; logged = log_state logged }
+abbrev pub image_held : ℕ → Spelling → Option (Bor PageOfKind) → of_code.Logged → ImageHeld
+image_held pid spelling page logged = record { pid = pid; spelling = spelling; page = option_copied page; logged = log_state logged }
 
 abbrev pub job_held : ImageJob → ImageHeld
-job_held j = image_held j.pid j.page j.logged
+job_held j = image_held j.pid j.spelling j.page j.logged
 
--- what is to be held of a pid of a tree
-abbrev pub held_of_pid : Tree → ℕ → ImageHeld
-held_of_pid t pid = record { pid = pid; page = page_at t.pages pid; logged = logged_of t pid }
+-- what is to be held of a pid of a tree, for a text
+abbrev pub held_of_pid : Text → Tree → ℕ → ImageHeld
+held_of_pid text t pid =
+    record { pid = pid; spelling = spelling_of (version_with text); page = page_at t.pages pid; logged = taken text (logged_of t pid) }
 
 -- the frames that are to be written of it
 abbrev pub held_text : ImageHeld → List Frame
-held_text h = frames_of h.pid (lacking h.page h.logged)
+held_text h = frames_of h.pid (lacking h.spelling h.page h.logged)
 
 -- the bytes of these
 abbrev pub image_made : ImageHeld → List Bytes
@@ -50,7 +54,7 @@ HasFewRuns (Some p) = page_depth p < 2 ^ 31
 
 -- what may be worked: what is to be written is such as a store may have, by its sizes, and the runs are few
 pub record CanBeWritten (h : ImageHeld) : Type 0 where
-  pub sized : AllByRecursion IsSized (lacking h.page h.logged)
+  pub sized : AllByRecursion IsSized (lacking h.spelling h.page h.logged)
   pub few : HasFewRuns h.page
 
 -- such a job of which something is to be written
@@ -70,7 +74,7 @@ pub record AreWritten (pid : ℕ) (cs : List Content) (old new : List Bytes) : T
 
 -- this is the image of what a job holds
 abbrev pub IsImageOf : ImageHeld → List Bytes → Type 0
-IsImageOf h image = AreWritten h.pid (lacking h.page h.logged) [] image
+IsImageOf h image = AreWritten h.pid (lacking h.spelling h.page h.logged) [] image
 
 -- the tree of a store: it is proper under settings that pass their check
 abbrev pub IsOfStore : Tree → Type 0

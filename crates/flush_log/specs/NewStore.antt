@@ -2,6 +2,8 @@
 use Rattle.std.specs.Prelude.{ℕ, ◌+◌, ◌-◌, [], ◌++◌, replicate}
 use Rattle.keys.specs.Bytes.{Bytes}
 use Rattle.keys.specs.declared.settings.Settings.{Settings}
+use Rattle.keys.specs.declared.version.Version.TheVariants.{One}
+use Rattle.frame_codec.specs.declared.format.Spelling.TheVariants.{Whole}
 use Rattle.frame_codec.specs.Frame.{Frame, bytes_of}
 use Rattle.frame_codec.specs.Frame.Content.{FullLeaf}
 use Rattle.flush_log.specs.Overlay.{overlay}
@@ -9,9 +11,9 @@ use Rattle.flush_log.specs.Segments.{segment_header, segments_begin}
 use Rattle.flush_log.specs.SettingsBlock.{settings_block_size, settings_block}
 use Rattle.flush_log.specs.Slot.{Slot, slot_size, slot_place, slot_bytes}
 
--- its log is one frame: an empty leaf with the pid 0
+-- its log is one frame, and of version 1: an empty leaf with the pid 0
 abbrev pub first_frame : Frame
-first_frame = record { pid = 0; content = FullLeaf [] [] }
+first_frame = record { pid = 0; content = FullLeaf Whole [] [] }
 
 -- where the log ends: behind the header of segment 0 and that frame (16 + 17)
 abbrev pub first_tail : ℕ
@@ -19,7 +21,7 @@ first_tail = 33
 
 -- that leaf is the root
 abbrev pub first_slot : Slot
-first_slot = record { sequence = 1; head = 0; tail = first_tail; root = 0; height = 1 }
+first_slot = record { sequence = 1; head = 0; tail = first_tail; root = 0; height = 1; version = One }
 
 -- the bytes up to that tail: the settings block, slot 1, zeros in the rest before the segments, and segment 0
 abbrev pub new_bytes : Settings → Bytes

@@ -6,10 +6,11 @@ use Rattle.keys.specs.Sizes.{segment_header_size}
 use Rattle.keys.specs.declared.settings.Settings.{Settings}
 use Rattle.keys.specs.declared.fault.Fault.{Fault}
 use Rattle.keys.specs.declared.fault.Fault.TheVariants.{BadSegment, BadFrame}
+use Rattle.frame_codec.specs.declared.format.Format.{Format}
 use Rattle.frame_codec.specs.Frame.{Frame}
 use Rattle.frame_codec.specs.Reading.{read_frame}
 use Rattle.flush_log.specs.Segments.{segment_header, segment_bytes, last_segment, bytes_in_use}
-use Rattle.flush_log.specs.Slot.{Slot}
+use Rattle.flush_log.specs.Slot.{Slot, format_of}
 
 -- a frame, and the number of the segment in which it stands
 pub record Found : Type 0 where
@@ -40,10 +41,10 @@ read_then left None next = Err left
 read_then left (Some read) next = with_first read.0 (next read.1)
 
 -- the frames, at most so many, that bytes are up to their end; or how many bytes are left where there is neither a frame nor the end
-abbrev pub read_frames : Settings → (Bytes → Bool) → ℕ → Bytes → Result (List Frame) ℕ
-read_frames s is_end zero bytes = if is_end bytes then Ok [] else Err (length bytes)
-read_frames s is_end (suc most) bytes =
-    if is_end bytes then Ok [] else read_then (length bytes) (read_frame s bytes) (λ behind. read_frames s is_end most behind)
+abbrev pub read_frames : Format → (Bytes → Bool) → ℕ → Bytes → Result (List Frame) ℕ
+read_frames g is_end zero bytes = if is_end bytes then Ok [] else Err (length bytes)
+read_frames g is_end (suc most) bytes =
+    if is_end bytes then Ok [] else read_then (length bytes) (read_frame g bytes) (λ behind. read_frames g is_end most behind)
 
 -- frames as they are found in segment n
 abbrev pub all_in : ℕ → List Frame → List Found
@@ -55,10 +56,10 @@ in_segment n long (Ok fs) = Ok (all_in n fs)
 in_segment n long (Err left) = Err (BadFrame n (long - left))
 
 -- what these bytes of segment n hold: the frames behind its header, up to their end
-abbrev pub read_segment : Settings → (Bytes → Bool) → ℕ → Bytes → Result (List Found) Fault
-read_segment s is_end n bytes =
+abbrev pub read_segment : Format → (Bytes → Bool) → ℕ → Bytes → Result (List Found) Fault
+read_segment g is_end n bytes =
     if starts_with nat_eq bytes (segment_header n)
-    then in_segment n (length bytes) (read_frames s is_end (length bytes) (drop segment_header_size bytes))
+    then in_segment n (length bytes) (read_frames g is_end (length bytes) (drop segment_header_size bytes))
     else Err (BadSegment n)
 
 -- ---- the log
@@ -70,18 +71,18 @@ followed_by (Ok found) (Err fault) = Err fault
 followed_by (Err fault) next = Err fault
 
 -- what k segments hold from the head on, behind each of which is another
-abbrev pub read_earlier : Settings → Bytes → ℕ → ℕ → Result (List Found) Fault
-read_earlier s file head zero = Ok []
-read_earlier s file head (suc k) = followed_by (read_earlier s file head k) (read_segment s is_padding (head + k) (segment_bytes s file (head + k)))
+abbrev pub read_earlier : Format → Bytes → ℕ → ℕ → Result (List Found) Fault
+read_earlier g file head zero = Ok []
+read_earlier g file head (suc k) = followed_by (read_earlier g file head k) (read_segment g is_padding (head + k) (segment_bytes g.settings file (head + k)))
 
 -- what those hold, and the first `used` bytes of the next one
-abbrev pub read_log : Settings → Bytes → ℕ → ℕ → ℕ → Result (List Found) Fault
-read_log s file head k used = followed_by (read_earlier s file head k) (read_segment s is_at_tail (head + k) (take used (segment_bytes s file (head + k))))
+abbrev pub read_log : Format → Bytes → ℕ → ℕ → ℕ → Result (List Found) Fault
+read_log g file head k used = followed_by (read_earlier g file head k) (read_segment g is_at_tail (head + k) (take used (segment_bytes g.settings file (head + k))))
 
 -- the frames between head and tail, in the order in which they stand; or the fault at the least position
-abbrev pub log_between : Settings → Bytes → ℕ → ℕ → Result (List Found) Fault
-log_between s file head tail = read_log s file head (last_segment s tail - head) (bytes_in_use s tail)
+abbrev pub log_between : Format → Bytes → ℕ → ℕ → Result (List Found) Fault
+log_between g file head tail = read_log g file head (last_segment g.settings tail - head) (bytes_in_use g.settings tail)
 
 -- the frames between the head and the tail of a slot
 abbrev pub log : Settings → Bytes → Slot → Result (List Found) Fault
-log s file t = log_between s file t.head t.tail
+log s file t = log_between (format_of s t) file t.head t.tail

@@ -1,6 +1,5 @@
--- The two slots: where the log begins and ends, and the root. The open one with the greater sequence number is the store's.
--- Where a slot tells its version, that is a further number of `Slot`, `slot_body` and `slot_in`, and `is_slot` is to ask for
--- one that is known.
+-- The two slots: where the log begins and ends, the root, and the version of the log. The open one with the greater sequence number
+-- is the store's.
 use Rattle.std.specs.Prelude.{ℕ, ◌+◌, ◌*◌, ◌%◌, ◌^◌, Bool, ◌&&◌, ◌||◌, ◌==◌, nat_le, nat_lt, if◌then◌else◌, ◌∷◌, ◌++◌, take, drop, replicate, slice_index, Option, Some, None, Result, Ok, Err}
 use Rattle.std.specs.Str.{bytes_eq}
 use Rattle.keys.specs.Bytes.{Bytes}
@@ -10,21 +9,38 @@ use Rattle.keys.specs.Sizes.{segment_header_size}
 use Rattle.keys.specs.declared.settings.Settings.{Settings}
 use Rattle.keys.specs.declared.fault.Fault.{Fault}
 use Rattle.keys.specs.declared.fault.Fault.TheVariants.{NoSlot}
+use Rattle.keys.specs.declared.version.Version.{Version}
+use Rattle.keys.specs.declared.version.Version.TheVariants.{One, Two}
 use Rattle.mapping.specs.Tree.{most_levels}
+use Rattle.frame_codec.specs.declared.format.Format.{Format}
 use Rattle.frame_codec.specs.Frame.{is_pid}
 use Rattle.flush_log.specs.Segments.{last_segment}
 use Rattle.flush_log.specs.SettingsBlock.{number_at}
 
 -- what a slot says of the store: how often it was committed, the first segment of the log, the position where the log ends,
--- the root and how many levels there are
+-- the root, how many levels there are, and the version of the log
 pub record Slot : Type 0 where
   pub sequence : ℕ
   pub head : ℕ
   pub tail : ℕ
   pub root : ℕ
   pub height : ℕ
+  pub version : Version
+
+-- by what the frames of a log with this slot are read
+abbrev pub format_of : Settings → Slot → Format
+format_of s t = record { settings = s; version = t.version }
 
 -- ---- bytes
+
+-- the number by which a slot tells the version
+abbrev pub version_number : Version → ℕ
+version_number One = 0
+version_number Two = 2
+
+-- the version whose number this is. Any other number is read as the first one's, and so isn't spelled by what is read.
+abbrev pub version_in : ℕ → Version
+version_in n = if n == 2 then Two else One
 
 -- the greatest position and the greatest sequence number
 abbrev pub greatest : ℕ
@@ -47,8 +63,8 @@ abbrev pub slot_body : Slot → Bytes
 slot_body t =
     replicate 7 0
     ++ (number 8).spell t.sequence ++ (number 8).spell t.head ++ (number 8).spell t.tail ++ (number 8).spell t.root
-    ++ (number 4).spell t.height
-    ++ replicate 20 0
+    ++ (number 4).spell t.height ++ (number 4).spell (version_number t.version)
+    ++ replicate 16 0
 
 -- the bytes of an open slot
 abbrev pub slot_bytes : Slot → Bytes
@@ -62,6 +78,7 @@ slot_in bytes = record {
   tail = number_at 8 24 bytes;
   root = number_at 8 32 bytes;
   height = number_at 4 40 bytes;
+  version = version_in (number_at 4 44 bytes);
 }
 
 -- ---- a slot that a store with these settings may have

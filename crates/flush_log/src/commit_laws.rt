@@ -6,6 +6,7 @@ ghost use Rattle.keys.specs.Limits.{first_bad_field};
 ghost use Rattle.keys.specs.Sizes.{segment_header_size};
 ghost use Rattle.keys.specs.declared.settings.Settings.{Settings};
 ghost use Rattle.mapping.specs.Tree.{most_levels};
+ghost use Rattle.frame_codec.specs.declared.format.Format.{Format};
 ghost use Rattle.frame_codec.specs.Frame.{Frame, is_frame};
 ghost use Rattle.flush_log.specs.Segments.{segments_begin, disk_size, HasSegments, position, last_segment, place_of_segment};
 ghost use Rattle.flush_log.specs.Reading.{Found, log, log_between};
@@ -42,9 +43,10 @@ pub fn a_commit_is_hidden_until_its_gate_is_open()
     ensures slot { (s : Settings) (t : Slot) (rs : List Span) (file c : Bytes) →
         segments_begin ≤ length file → store_slot s file ≡ Ok t →
         IsUncommitted s (suc t.sequence) rs file c → store_slot s c ≡ Ok t }
-    ensures log { (s : Settings) (file : Bytes) (t : Slot) (text : List Frame) (c : Bytes) → HasRoom s file t text →
+    ensures log { (g : Format) (file : Bytes) (t : Slot) (text : List Frame) (c : Bytes) → let s = g.settings in HasRoom g file t text →
         IsUncommitted s (suc t.sequence) (spans s t.tail text) file c → log s c t ≡ log s file t }
-    ensures crash { (s : Settings) (file : Bytes) (t : Slot) (text : List Frame) (u : Slot) (c : Bytes) → HasRoom s file t text →
+    ensures crash { (g : Format) (file : Bytes) (t : Slot) (text : List Frame) (u : Slot) (c : Bytes) →
+        let s = g.settings in HasRoom g file t text →
         u.sequence ≡ suc t.sequence → LeftDuring (commit_calls s file (spans s t.tail text) u) file c →
         ((store_settings c ≡ store_settings file) × (store_slot s c ≡ Ok t) × (log s c t ≡ log s file t)) ⊎
         (c ≡ committed s file (spans s t.tail text) u) }
@@ -62,20 +64,23 @@ pub fn what_was_committed_is_read()
         first_bad_field s ≡ None → segments_begin ≤ length file →
         AreWithin s (length file) rs → store_slot s file ≡ Ok t → u.sequence ≡ suc t.sequence → is_slot s u.sequence u ≡ true →
         store_slot s (committed s file rs u) ≡ Ok u }
-    ensures log { (s : Settings) (file : Bytes) (rs : List Span) (u : Slot) (head tail : ℕ) → first_bad_field s ≡ None →
-        HasSegments s file → AreWithin s (length file) rs → log_between s (committed s file rs u) head tail ≡ log_between s (with_spans s file rs) head tail }
-    ensures text { (s : Settings) (file : Bytes) (t : Slot) (text : List Frame) (u : Slot) (found : List Found) → HasRoom s file t text →
-        log s file t ≡ Ok found →
-        log_between s (committed s file (spans s t.tail text) u) t.head (tail_after s t.tail text) ≡ Ok (found ++ found_in_text s t.tail text) }
-    ensures within { (s : Settings) (file : Bytes) (t : Slot) (text : List Frame) → HasRoom s file t text →
+    ensures log { (g : Format) (file : Bytes) (rs : List Span) (u : Slot) (head tail : ℕ) → let s = g.settings in first_bad_field s ≡ None →
+        HasSegments s file → AreWithin s (length file) rs →
+        log_between g (committed s file rs u) head tail ≡ log_between g (with_spans s file rs) head tail }
+    ensures text { (g : Format) (file : Bytes) (t : Slot) (text : List Frame) (u : Slot) (found : List Found) →
+        let s = g.settings in HasRoom g file t text →
+        log_between g file t.head t.tail ≡ Ok found →
+        log_between g (committed s file (spans s t.tail text) u) t.head (tail_after s t.tail text) ≡ Ok (found ++ found_in_text s t.tail text) }
+    ensures within { (g : Format) (file : Bytes) (t : Slot) (text : List Frame) → let s = g.settings in HasRoom g file t text →
         AreWithin s (length file) (spans s t.tail text) }
 {}
 
 /// The slot of a commit is well formed, where its number and its tail are not above the greatest, the text finds room, and the head
 /// stays or moves to no later segment than the last one.
 pub fn the_slot_of_a_commit_is_well_formed()
-    ensures { (s : Settings) (n : ℕ) (t u : Slot) (text : List Frame) → first_bad_field s ≡ None → is_slot s n t ≡ true →
-        AllByRecursion (λ f. is_frame s f ≡ true) text → u.sequence ≡ suc t.sequence → u.sequence ≤ greatest →
+    ensures { (g : Format) (n : ℕ) (t u : Slot) (text : List Frame) →
+        let s = g.settings in first_bad_field s ≡ None → is_slot s n t ≡ true →
+        AllByRecursion (λ f. is_frame g f ≡ true) text → u.sequence ≡ suc t.sequence → u.sequence ≤ greatest →
         u.tail ≡ tail_after s t.tail text → u.tail ≤ greatest → t.head ≤ u.head → u.head ≤ last_segment s t.tail →
         last_segment s u.tail < u.head + s.segments → u.root < 2 ^ 64 →
         1 ≤ u.height → u.height ≤ most_levels → is_slot s u.sequence u ≡ true }
@@ -103,9 +108,10 @@ pub fn a_log_has_room_for_its_positions()
     ensures position { (s : Settings) (head tail n offset : ℕ) → first_bad_field s ≡ None →
         head * s.seg_size + segment_header_size < tail →
         tail ≤ greatest → n < head + s.segments → offset ≤ s.seg_size → position s n offset < 2 ^ 63 }
-    ensures tail { (s : Settings) (tail : ℕ) (text : List Frame) → first_bad_field s ≡ None → tail ≤ greatest →
-        AllByRecursion (λ f. is_frame s f ≡ true) text → length text ≤ 2 ^ 41 → tail_after s tail text < 2 ^ 63 }
+    ensures tail { (g : Format) (tail : ℕ) (text : List Frame) → let s = g.settings in first_bad_field s ≡ None → tail ≤ greatest →
+        AllByRecursion (λ f. is_frame g f ≡ true) text → length text ≤ 2 ^ 41 → tail_after s tail text < 2 ^ 63 }
     ensures sequence { (n : ℕ) → n ≤ greatest → suc n < 2 ^ 63 }
-    ensures place { (s : Settings) (n offset : ℕ) → first_bad_field s ≡ None → offset ≤ s.seg_size → place_of_segment s n + offset < 2 ^ 37 }
+    ensures place { (s : Settings) (n offset : ℕ) → first_bad_field s ≡ None → offset ≤ s.seg_size →
+        place_of_segment s n + offset < 2 ^ 37 }
     ensures size { (s : Settings) → first_bad_field s ≡ None → disk_size s < 2 ^ 37 }
 {}

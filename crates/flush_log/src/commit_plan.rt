@@ -7,7 +7,7 @@ ghost use Rattle.flush_log.specs.CommitPlan.{AreImages, next_tail, IsPlanned, fi
 ghost use Rattle.flush_log.specs.Disk.{IsSettled, Kept, LeavesOnly, CountsFailure};
 ghost use Rattle.flush_log.specs.Segments.{disk_size};
 ghost use Rattle.flush_log.specs.Slot as slots;
-ghost use Rattle.flush_log.specs.Slot.{greatest};
+ghost use Rattle.flush_log.specs.Slot.{greatest, format_of};
 
 use crate::commit::{is_gate_open, write_flush};
 use crate::disk::{Disk, DiskFault};
@@ -19,7 +19,7 @@ use std::alloc::Global;
 use std::marker::Model;
 
 /// A commit that is planned: the images of a text, the tail from which on they are written, the slot that commits them, and a buffer
-/// for the bytes of a segment. A flush makes one, and so does a clean.
+/// for the bytes of a segment. A flush makes one, and so do an upgrade and a clean.
 #[derive(Drop)]
 pub struct Commit {
     images: Vec<Image>,
@@ -39,8 +39,8 @@ impl Model for Commit {
 
 impl Commit {
     /// Plans the commit that adds a text to a log. `slot` says where that log begins and ends and how often it was committed, and the
-    /// root and the height that the commit names. A clean gives the log without its first segment, which the commit makes free. No disk
-    /// is called.
+    /// root, the height and the version that the commit names. A clean gives the log without its first segment, which the commit makes
+    /// free, and an upgrade gives it the second version. No disk is called.
     ///
     /// First there is `Fault::NoMemory`; then `Fault::Spent`, where a position or the number would be above 2^62; then `Fault::Full`,
     /// where no segment would be free.
@@ -53,8 +53,8 @@ impl Commit {
         requires checked { first_bad_field settings.now ≡ None }
         requires numbers { (slot.now.sequence ≤ greatest) × (slot.now.tail ≤ greatest) }
         requires log { slot.now.head * settings.now.seg_size < slot.now.tail }
-        requires text { (text : List Frame) × AreImages settings.now text images.items }
-        ensures { (text : List Frame) → AreImages settings.now text images.items → MatchResult result
+        requires text { (text : List Frame) × AreImages (format_of settings.now slot.now) text images.items }
+        ensures { (text : List Frame) → AreImages (format_of settings.now slot.now) text images.items → MatchResult result
             (λ commit. IsPlanned settings.now slot.now text commit)
             (λ fault. (fault ≡ NoMemory) ⊎ (next_tail settings.now slot.now text ≡ Err fault)) }
     {
@@ -75,6 +75,7 @@ impl Commit {
                 ends,
                 root: slot.root,
                 height: slot.height,
+                version: slot.version,
             },
             buffer,
         })

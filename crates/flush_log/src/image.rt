@@ -6,7 +6,7 @@ ghost use Rattle.frame_codec.specs.Sized.{IsSized, HasWords};
 
 use crate::kind::Kind;
 use delta_chain::{Base, Run};
-use frame_codec::write_free;
+use frame_codec::{Spelling, write_free};
 use keys::Pid;
 use std::alloc::{AllocError, Allocator, Global};
 use std::marker::Model;
@@ -69,15 +69,16 @@ impl Image {
     pub(crate) fn push_full<V: Kind<A>, A: Allocator>(
         &mut self,
         pid: Pid,
+        spelling: Spelling,
         low: &[u8],
         base: &Base<V, A>,
     ) -> Result<(), AllocError>
-        requires { IsSized (V.full low.now base.now) }
-        ensures ok { OnOk result (self.new ≡ self.old ++ bytes_of (record { pid = pid; content = V.full low.now base.now }) ∷ []) }
-        ensures words { OnOk result (HasWords (record { pid = pid; content = V.full low.now base.now })) }
+        requires { IsSized (V.full spelling low.now base.now) }
+        ensures ok { OnOk result (self.new ≡ self.old ++ bytes_of (record { pid = pid; content = V.full spelling low.now base.now }) ∷ []) }
+        ensures words { OnOk result (HasWords (record { pid = pid; content = V.full spelling low.now base.now })) }
     {
         self.ends.reserve(1)?;
-        V::write_full(pid, low, base, &mut self.bytes)?;
+        V::write_full(pid, spelling, low, base, &mut self.bytes)?;
         self.ends.push_reserved(self.bytes.len());
         Ok(())
     }

@@ -4,6 +4,7 @@ ghost use Rattle.std.specs.List.{AllByRecursion};
 ghost use Rattle.delta_chain.specs.Layers.{depth_of};
 ghost use Rattle.mapping.specs.Flushed.{page_depth};
 ghost use Rattle.mapping.specs.LogState.{log_state};
+ghost use Rattle.frame_codec.specs.declared.format.Spelling as spellings;
 ghost use Rattle.frame_codec.specs.Sized.{IsSized, HasWords};
 ghost use Rattle.flush_log.specs.FlushText.{lacking};
 ghost use Rattle.flush_log.specs.ImageWork.{image_held, held_text, image_made, CanBeWritten, lacking_by, AreWritten, IsImageOf};
@@ -12,6 +13,7 @@ use crate::image::Image;
 use crate::kind::Kind;
 use crew::{Turn, Work};
 use delta_chain::{Chain, ChainRef};
+use frame_codec::Spelling;
 use index_page::Page;
 use keys::{Pid, Value};
 use mapping::Logged;
@@ -27,10 +29,11 @@ pub struct ImageWork<'a> {
     lent: PhantomData<&'a Page<Global>>,
 }
 
-/// A page id, its page if it has one, and what the log has of it.
+/// A page id, how the keys of its base are to be spelled, its page if it has one, and what the log has of it.
 #[derive(Drop)]
 pub struct ImageJob<'a> {
     pub pid: Pid,
+    pub spelling: Spelling,
     pub page: Option<&'a Page<Global>>,
     pub logged: Logged,
 }
@@ -97,13 +100,28 @@ impl<'a> Work for ImageWork<'a> {
     ghost made = { λ _ h. image_made h };
 
     fn work(&self, job: ImageJob<'a>) -> Turn<ImageJob<'a>, ImageDone<'a>> {
-        let ImageJob { pid, page, logged } = job;
-        match image_of(self.alloc, pid, page, logged) {
+        let ImageJob {
+            pid,
+            spelling,
+            page,
+            logged,
+        } = job;
+        match image_of(self.alloc, pid, spelling, page, logged) {
             Ok(image) => Turn::Done(ImageDone {
-                job: ImageJob { pid, page, logged },
+                job: ImageJob {
+                    pid,
+                    spelling,
+                    page,
+                    logged,
+                },
                 image,
             }),
-            Err(_) => Turn::Back(ImageJob { pid, page, logged }),
+            Err(_) => Turn::Back(ImageJob {
+                pid,
+                spelling,
+                page,
+                logged,
+            }),
         }
     }
 
@@ -116,21 +134,22 @@ impl<'a> Work for ImageWork<'a> {
 fn image_of(
     alloc: Global,
     pid: Pid,
+    spelling: Spelling,
     page: Option<&Page<Global>>,
     logged: Logged,
 ) -> Result<Image, AllocError>
-    requires { CanBeWritten (image_held pid page logged) }
-    ensures { IfOk result (λ image. IsImageOf (image_held pid page.entry logged) image) }
+    requires { CanBeWritten (image_held pid spelling page logged) }
+    ensures { IfOk result (λ image. IsImageOf (image_held pid spelling page.entry logged) image) }
 {
     match page {
         None => free_image(alloc, pid, logged),
-        Some(page) => page_image(alloc, pid, page, logged),
+        Some(page) => page_image(alloc, pid, spelling, page, logged),
     }
 }
 
 // The image of a page id without a page.
 fn free_image(alloc: Global, pid: Pid, logged: Logged) -> Result<Image, AllocError>
-    ensures { IfOk result (λ image. AreWritten pid (lacking None (log_state logged)) [] image) }
+    ensures { (spelling : spellings.Spelling) → IfOk result (λ image. AreWritten pid (lacking spelling None (log_state logged)) [] image) }
 {
     if logged != Logged::Old {
         return Image::with_capacity(alloc, 0);
@@ -144,18 +163,19 @@ fn free_image(alloc: Global, pid: Pid, logged: Logged) -> Result<Image, AllocErr
 fn page_image(
     alloc: Global,
     pid: Pid,
+    spelling: Spelling,
     page: &Page<Global>,
     logged: Logged,
 ) -> Result<Image, AllocError>
     requires few { page_depth page.now < 2 ^ 31 }
-    requires sized { AllByRecursion IsSized (lacking (Some page.now) (log_state logged)) }
-    ensures { IfOk result (λ image. AreWritten pid (lacking (Some page.now) (log_state logged)) [] image) }
+    requires sized { AllByRecursion IsSized (lacking spelling (Some page.now) (log_state logged)) }
+    ensures { IfOk result (λ image. AreWritten pid (lacking spelling (Some page.now) (log_state logged)) [] image) }
 {
     if let Some(chain) = page.as_leaf() {
-        return chain_image::<Value<Global>>(alloc, pid, page.low(), chain, logged);
+        return chain_image::<Value<Global>>(alloc, pid, spelling, page.low(), chain, logged);
     }
     match page.as_index() {
-        Some(chain) => chain_image::<Pid>(alloc, pid, page.low(), chain, logged),
+        Some(chain) => chain_image::<Pid>(alloc, pid, spelling, page.low(), chain, logged),
         None => unreachable!(),
     }
 }
@@ -164,17 +184,20 @@ fn page_image(
 fn chain_image<V: Kind<Global>>(
     alloc: Global,
     pid: Pid,
+    spelling: Spelling,
     low: &[u8],
     chain: &Chain<V, Global>,
     logged: Logged,
 ) -> Result<Image, AllocError>
     requires few { depth_of chain.now < 2 ^ 31 }
-    requires sized { AllByRecursion IsSized (lacking_by (log_state logged) (V.full low.now chain.now.base) (map V.delta (reverse chain.now.runs))) }
-    ensures { IfOk result (λ image. AreWritten pid (lacking_by (log_state logged) (V.full low.now chain.now.base) (map V.delta (reverse chain.now.runs))) [] image) }
+    requires sized { AllByRecursion IsSized
+        (lacking_by (log_state logged) (V.full spelling low.now chain.now.base) (map V.delta (reverse chain.now.runs))) }
+    ensures { IfOk result (λ image. AreWritten pid
+        (lacking_by (log_state logged) (V.full spelling low.now chain.now.base) (map V.delta (reverse chain.now.runs))) [] image) }
 {
     match logged {
         Logged::Upto(kept) => newer_image(alloc, pid, chain, kept),
-        _ => whole_image(alloc, pid, low, chain),
+        _ => whole_image(alloc, pid, spelling, low, chain),
     }
 }
 
@@ -182,17 +205,19 @@ fn chain_image<V: Kind<Global>>(
 fn whole_image<V: Kind<Global>>(
     alloc: Global,
     pid: Pid,
+    spelling: Spelling,
     low: &[u8],
     chain: &Chain<V, Global>,
 ) -> Result<Image, AllocError>
     requires few { depth_of chain.now < 2 ^ 31 }
-    requires base { IsSized (V.full low.now chain.now.base) }
+    requires base { IsSized (V.full spelling low.now chain.now.base) }
     requires runs { AllByRecursion IsSized (map V.delta (reverse chain.now.runs)) }
-    ensures { IfOk result (λ image. AreWritten pid (V.full low.now chain.now.base ∷ map V.delta (reverse chain.now.runs)) [] image) }
+    ensures { IfOk result (λ image.
+        AreWritten pid (V.full spelling low.now chain.now.base ∷ map V.delta (reverse chain.now.runs)) [] image) }
 {
     let depth = chain.depth() as usize;
     let mut image = Image::with_capacity(alloc, depth + 1)?;
-    image.push_full(pid, low, chain.base())?;
+    image.push_full(pid, spelling, low, chain.base())?;
     push_runs(&mut image, pid, &chain.lent(), 0)?;
     Ok(image)
 }

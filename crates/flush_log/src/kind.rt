@@ -1,6 +1,8 @@
 //! The two kinds of page, by what their entries have: by which functions their frames are written.
 use delta_chain::{Base, Run};
-use frame_codec::{write_delta_index, write_delta_leaf, write_full_index, write_full_leaf};
+use frame_codec::{
+    Spelling, write_delta_index, write_delta_leaf, write_full_index, write_full_leaf,
+};
 use keys::{Pid, Value};
 use std::alloc::{AllocError, Allocator, Global};
 
@@ -8,24 +10,27 @@ use std::alloc::{AllocError, Allocator, Global};
 pub(crate) trait Kind<A: Allocator>: Drop {
     ghost use Rattle.std.specs.Prelude.{◌≡◌, ◌++◌, OnOk, OnErr};
     ghost use Rattle.keys.specs.Bytes.{Bytes, Pairs, Changes};
+    ghost use Rattle.frame_codec.specs.declared.format.Spelling as spellings;
     ghost use Rattle.frame_codec.specs.Frame.{Content, bytes_of};
     ghost use Rattle.frame_codec.specs.Sized.{IsSized, HasWords};
 
-    // What a frame says of such a page: a base under a low key, and a run.
-    ghost full: { Bytes → Pairs Self → Content };
+    // What a frame says of such a page: a base under a low key, with its keys spelled in one way or the other, and a run.
+    ghost full: { spellings.Spelling → Bytes → Pairs Self → Content };
 
     ghost delta: { Changes Self → Content };
 
     /// Appends the frame of a base under its low key. Where memory is refused nothing is appended.
     fn write_full(
         pid: Pid,
+        spelling: Spelling,
         low: &[u8],
         base: &Base<Self, A>,
         out: &mut Vec<u8>,
     ) -> Result<(), AllocError>
-        requires { IsSized (full low.now base.now) }
-        ensures ok { OnOk result (out.new.items ≡ out.old.items ++ bytes_of (record { pid = pid; content = full low.now base.now })) }
-        ensures words { OnOk result (HasWords (record { pid = pid; content = full low.now base.now })) }
+        requires { IsSized (full spelling low.now base.now) }
+        ensures ok { OnOk result (out.new.items
+            ≡ out.old.items ++ bytes_of (record { pid = pid; content = full spelling low.now base.now })) }
+        ensures words { OnOk result (HasWords (record { pid = pid; content = full spelling low.now base.now })) }
         ensures err { OnErr result (out.new.items ≡ out.old.items) };
 
     /// Appends the frame of a run. Where memory is refused nothing is appended.
@@ -48,16 +53,18 @@ impl Kind<Global> for Value<Global> {
 
     fn write_full(
         pid: Pid,
+        spelling: Spelling,
         low: &[u8],
         base: &Base<Self, Global>,
         out: &mut Vec<u8>,
     ) -> Result<(), AllocError>
-        requires { IsSized (FullLeaf low.now base.now) }
-        ensures ok { OnOk result (out.new.items ≡ out.old.items ++ bytes_of (record { pid = pid; content = FullLeaf low.now base.now })) }
-        ensures words { OnOk result (HasWords (record { pid = pid; content = FullLeaf low.now base.now })) }
+        requires { IsSized (FullLeaf spelling low.now base.now) }
+        ensures ok { OnOk result (out.new.items
+            ≡ out.old.items ++ bytes_of (record { pid = pid; content = FullLeaf spelling low.now base.now })) }
+        ensures words { OnOk result (HasWords (record { pid = pid; content = FullLeaf spelling low.now base.now })) }
         ensures err { OnErr result (out.new.items ≡ out.old.items) }
     {
-        write_full_leaf(pid, low, base, out)
+        write_full_leaf(pid, spelling, low, base, out)
     }
 
     fn write_delta(pid: Pid, run: &Run<Self, Global>, out: &mut Vec<u8>) -> Result<(), AllocError>
@@ -82,16 +89,18 @@ impl Kind<Global> for Pid {
 
     fn write_full(
         pid: Pid,
+        spelling: Spelling,
         low: &[u8],
         base: &Base<Self, Global>,
         out: &mut Vec<u8>,
     ) -> Result<(), AllocError>
-        requires { IsSized (FullIndex low.now base.now) }
-        ensures ok { OnOk result (out.new.items ≡ out.old.items ++ bytes_of (record { pid = pid; content = FullIndex low.now base.now })) }
-        ensures words { OnOk result (HasWords (record { pid = pid; content = FullIndex low.now base.now })) }
+        requires { IsSized (FullIndex spelling low.now base.now) }
+        ensures ok { OnOk result (out.new.items
+            ≡ out.old.items ++ bytes_of (record { pid = pid; content = FullIndex spelling low.now base.now })) }
+        ensures words { OnOk result (HasWords (record { pid = pid; content = FullIndex spelling low.now base.now })) }
         ensures err { OnErr result (out.new.items ≡ out.old.items) }
     {
-        write_full_index(pid, low, base, out)
+        write_full_index(pid, spelling, low, base, out)
     }
 
     fn write_delta(pid: Pid, run: &Run<Self, Global>, out: &mut Vec<u8>) -> Result<(), AllocError>

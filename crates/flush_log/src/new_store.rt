@@ -7,7 +7,7 @@ ghost use Rattle.flush_log.specs.NewStore.{first_frame, first_slot, new_bytes};
 use crate::segments::segment_header;
 use crate::settings_block::settings_block;
 use crate::slot::{LogEnds, Slot, slot_bytes};
-use keys::{Pid, Settings};
+use keys::{Pid, Settings, Version};
 
 /// The slot of a new store: its log is one empty leaf, with the page id 0.
 pub fn first_slot() -> Slot
@@ -21,6 +21,7 @@ pub fn first_slot() -> Slot
         },
         root: Pid(0),
         height: 1,
+        version: Version::One,
     }
 }
 

@@ -5,11 +5,11 @@ ghost use Rattle.keys.specs.Limits.{is_in_limits, first_bad_field};
 ghost use Rattle.keys.specs.Sizes.{segment_header_size};
 ghost use Rattle.mapping.specs.Tree.{most_levels};
 ghost use Rattle.flush_log.specs.Segments.{last_segment};
-ghost use Rattle.flush_log.specs.Slot.{greatest, slot_size, slot_place, slot_bytes, slot_in, is_tail, is_slot, read_slot, newer};
+ghost use Rattle.flush_log.specs.Slot.{greatest, slot_size, slot_place, version_number, version_in, slot_bytes, slot_in, is_tail, is_slot, read_slot, newer};
 
 use crate::segments::{SEGMENT_HEADER_SIZE, last_segment};
 use byteorder::{BigEndian, ByteOrder};
-use keys::{Fault, Pid, Settings};
+use keys::{Fault, Pid, Settings, Version};
 use std::marker::Model;
 
 /// The greatest position of a log, and the greatest sequence number.
@@ -38,6 +38,8 @@ pub struct Slot {
     pub root: Pid,
     /// How many levels the tree has.
     pub height: u32,
+    /// The version of the log.
+    pub version: Version,
 }
 
 impl Model for Slot {
@@ -45,9 +47,42 @@ impl Model for Slot {
 
     ghost Value = { SlotSaid };
 
-    ghost view = { λ t. record { sequence = t.ends.sequence; head = t.ends.head; tail = t.ends.tail; root = t.root; height = t.height } };
+    ghost view = { λ t. record {
+      sequence = t.ends.sequence;
+      head = t.ends.head;
+      tail = t.ends.tail;
+      root = t.root;
+      height = t.height;
+      version = t.version;
+    } };
 
-    ghost inverse = { λ t. record { ends = record { sequence = t.sequence; head = t.head; tail = t.tail }; root = t.root; height = t.height } };
+    ghost inverse = { λ t. record {
+      ends = record { sequence = t.sequence; head = t.head; tail = t.tail };
+      root = t.root;
+      height = t.height;
+      version = t.version;
+    } };
+}
+
+// The number by which a slot tells the version.
+fn version_number(version: Version) -> u32
+    ensures { result ≡ version_number version }
+{
+    match version {
+        Version::One => 0,
+        Version::Two => 2,
+    }
+}
+
+// The version whose number this is. Any other number is read as the first one's, and isn't spelled by what is read.
+fn version_in(number: u32) -> Version
+    ensures { result ≡ version_in number }
+{
+    if number == 2 {
+        Version::Two
+    } else {
+        Version::One
+    }
 }
 
 /// The bytes of the open slot that says this.
@@ -61,6 +96,7 @@ pub fn slot_bytes(slot: &Slot) -> [u8; SLOT_SIZE]
     BigEndian::write_u64(&mut bytes[24..32], slot.ends.tail);
     BigEndian::write_u64(&mut bytes[32..40], slot.root.0);
     BigEndian::write_u32(&mut bytes[40..44], slot.height);
+    BigEndian::write_u32(&mut bytes[44..48], version_number(slot.version));
     bytes
 }
 
@@ -79,6 +115,7 @@ pub fn slot_in(bytes: &[u8]) -> Slot
         },
         root: Pid(BigEndian::read_u64(&bytes[32..40])),
         height: BigEndian::read_u32(&bytes[40..44]),
+        version: version_in(BigEndian::read_u32(&bytes[44..48])),
     }
 }
 

@@ -1,41 +1,84 @@
-//! The text of a flush, as images.
+//! The text of a flush or of an upgrade, as images.
 ghost use Rattle.std.specs.Prelude.{◌≡◌, ◌≢◌, ◌↔◌, ℕ, [], map, flat_map, IfOk, IsTrue};
 ghost use Rattle.std.specs.List.{AllByRecursion};
 ghost use Rattle.std.specs.Option.{option_copied};
 ghost use Rattle.keys.specs.declared.settings.Settings as limits;
+ghost use Rattle.keys.specs.declared.version.Version as versions;
 ghost use Rattle.mapping.specs.LogState.{log_state};
 ghost use Rattle.mapping.specs.Proper.{IsProper};
 ghost use Rattle.mapping.specs.TreeInMemory.{AreAllHome, tree_of};
+ghost use Rattle.frame_codec.specs.declared.format.Spelling as spellings;
 ghost use Rattle.frame_codec.specs.Sized.{HasWords};
-ghost use Rattle.flush_log.specs.FlushText.{lacking, flush_text, HasFrames};
+ghost use Rattle.flush_log.specs.FlushText.{spelling_of, lacking, version_with, taken, text_of, flush_text, HasFrames};
 ghost use Rattle.flush_log.specs.ImageWork.{job_held, held_of_pid, held_text, image_made, HasFewRuns, CanBeWritten, IsDue, IsOfStore};
 ghost use Rattle.flush_log.specs.Images.{AreOfText};
 
 use crate::image::Image;
 use crate::image_work::{ImageDone, ImageJob, ImageWork};
 use crew::{Crew, NoGate, run_round};
+use frame_codec::Spelling;
 use index_page::Page;
-use keys::Pid;
+use keys::{Pid, Version};
 use mapping::{Logged, Tree, depth};
 use std::alloc::{AllocError, Global};
 use std::thread::Threads;
 
-/// The text of a flush: an image for each page id of which something is to be written, by rising number. With it, each page id
-/// in the text is known to be of 64 bits, so that its frames are such as a store may have. The crew makes the images; which crew it is
-/// changes nothing of what is answered.
+/// Which pages a text writes, and how.
+#[derive(Clone, Copy, Debug, PartialEq, Eq)]
+pub enum Text {
+    /// What the log of a store of this version lacks.
+    Flush(Version),
+    /// All pages, for a log of the second version.
+    Upgrade,
+}
+
+// The version of the log that has this text: an upgrade brings the second one.
+fn version_with(text: Text) -> Version
+    ensures { result ≡ version_with text }
+{
+    match text {
+        Text::Flush(version) => version,
+        Text::Upgrade => Version::Two,
+    }
+}
+
+// How a store of this version spells the keys of the bases that it writes.
+fn spelling_of(version: Version) -> Spelling
+    ensures { result ≡ spelling_of version }
+{
+    match version {
+        Version::One => Spelling::Whole,
+        Version::Two => Spelling::Shared,
+    }
+}
+
+// What the log has of a page id, as the text takes it.
+fn taken(text: Text, logged: Logged) -> Logged
+    ensures { log_state result ≡ taken text (log_state logged) }
+{
+    match (text, logged) {
+        (Text::Upgrade, Logged::Upto(_)) => Logged::Old,
+        _ => logged,
+    }
+}
+
+/// The text of a flush or of an upgrade: an image for each page id of which something is to be written, by rising number. With it, each
+/// page id in the text is known to be of 64 bits, so that its frames are such as a store may have. The crew makes the images; which crew
+/// it is changes nothing of what is answered.
 pub fn images(
     rt: &(impl Threads + Sync),
     crew: Crew,
     alloc: Global,
     tree: &Tree<Global>,
+    text: Text,
 ) -> Result<Vec<Image>, AllocError>
     requires home { AreAllHome tree.now }
     requires proper { IsOfStore (tree_of tree.now) }
-    ensures text { IfOk result (λ images. AreOfText images.items (flush_text (tree_of tree.now))) }
+    ensures text { IfOk result (λ images. AreOfText images.items (text_of text (tree_of tree.now))) }
     ensures some { IfOk result (λ images. AllByRecursion (λ image. image ≢ []) images.items) }
-    ensures frames { IfOk result (λ _. (s : limits.Settings) → IsProper s (tree_of tree.now) → HasFrames s (tree_of tree.now)) }
+    ensures frames { IfOk result (λ _. (s : limits.Settings) → IsProper s (tree_of tree.now) → HasFrames s text (tree_of tree.now)) }
 {
-    let jobs = due_jobs(alloc, tree)?;
+    let jobs = due_jobs(alloc, tree, text)?;
     match run_round(rt, crew, &NoGate, &ImageWork::new(alloc), jobs) {
         Ok(dones) => images_of(alloc, dones),
         Err(_) => Err(AllocError),
@@ -47,10 +90,10 @@ pub fn images(
 pub fn is_all_written(tree: &Tree<Global>) -> bool
     requires home { AreAllHome tree.now }
     requires proper { IsOfStore (tree_of tree.now) }
-    ensures { IsTrue result ↔ (flush_text (tree_of tree.now) ≡ []) }
+    ensures { (version : versions.Version) → IsTrue result ↔ (flush_text version (tree_of tree.now) ≡ []) }
 {
     for pid in tree.known_pids() {
-        let job = job_of(tree, pid);
+        let job = job_of(tree, pid, Text::Flush(Version::One));
         if !is_written(job.page, job.logged) {
             return false;
         }
@@ -59,15 +102,19 @@ pub fn is_all_written(tree: &Tree<Global>) -> bool
 }
 
 // The jobs of all page ids of which something is to be written.
-fn due_jobs<'a>(alloc: Global, tree: &'a Tree<Global>) -> Result<Vec<ImageJob<'a>>, AllocError>
+fn due_jobs<'a>(
+    alloc: Global,
+    tree: &'a Tree<Global>,
+    text: Text,
+) -> Result<Vec<ImageJob<'a>>, AllocError>
     requires home { AreAllHome tree.now }
-    requires writable { (pid : ℕ) → CanBeWritten (held_of_pid (tree_of tree.now) pid) }
-    ensures text { IfOk result (λ jobs. flat_map held_text (map job_held jobs.items) ≡ flush_text (tree_of tree.now)) }
+    requires writable { (pid : ℕ) → CanBeWritten (held_of_pid text (tree_of tree.now) pid) }
+    ensures text { IfOk result (λ jobs. flat_map held_text (map job_held jobs.items) ≡ text_of text (tree_of tree.now)) }
     ensures due { IfOk result (λ jobs. AllByRecursion IsDue (map job_held jobs.items)) }
 {
     let mut jobs = Vec::new(alloc);
     for pid in tree.known_pids() {
-        let job = job_of(tree, pid);
+        let job = job_of(tree, pid, text);
         if !is_written(job.page, job.logged) {
             jobs.reserve(1)?;
             jobs.push_reserved(job);
@@ -88,23 +135,24 @@ fn images_of<'a>(alloc: Global, dones: Vec<ImageDone<'a>>) -> Result<Vec<Image>,
     Ok(images)
 }
 
-// The page id with its page and what the log has of it.
-fn job_of<'a>(tree: &'a Tree<Global>, pid: u64) -> ImageJob<'a>
+// The page id with its page and what the log has of it, for a text.
+fn job_of<'a>(tree: &'a Tree<Global>, pid: u64, text: Text) -> ImageJob<'a>
     requires { AreAllHome tree.now }
-    ensures { job_held result ≡ held_of_pid (tree_of tree.now) pid }
+    ensures { job_held result ≡ held_of_pid text (tree_of tree.now) pid }
 {
     let pid = Pid(pid);
     ImageJob {
         pid,
+        spelling: spelling_of(version_with(text)),
         page: tree.page(pid),
-        logged: tree.logged(pid),
+        logged: taken(text, tree.logged(pid)),
     }
 }
 
 // Whether the log has all of the page, or, where there is none, nothing that it must lose.
 fn is_written(page: Option<&Page<Global>>, logged: Logged) -> bool
     requires { HasFewRuns (option_copied page) }
-    ensures { IsTrue result ↔ (lacking (option_copied page.entry) (log_state logged) ≡ []) }
+    ensures { (spelling : spellings.Spelling) → IsTrue result ↔ (lacking spelling (option_copied page.entry) (log_state logged) ≡ []) }
 {
     match page {
         None => logged != Logged::Old,

@@ -5,6 +5,6 @@ pub returns : goal.returns
 returns c = record {
   settings = before-settings;
   slot = before-slot;
-  log = λ s file t text c room before. before-log s file t text room c before;
-  crash = λ s file t text u c room next left. text-crash s file t text room u next c left;
+  log = λ g file t text c room before. before-log g file t text room c before;
+  crash = λ g file t text u c room next left. text-crash g file t text room u next c left;
 }

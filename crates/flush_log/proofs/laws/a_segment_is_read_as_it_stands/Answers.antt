@@ -8,8 +8,8 @@ pub returns : goal.returns
 returns c = record {
   earlier = earlier-stands;
   last = last-stands;
-  earlier_back = λ s n zeros bytes fs good. frames-read s good n is_padding padding-ends fs zeros bytes (zeros-pad zeros);
-  last_back = λ s n bytes fs good. frames-read s good n is_at_tail tail-ends fs 0 bytes refl;
-  bad_segment = λ s is_end n m bytes. segment-headless s is_end n bytes m;
-  bad_frame = λ s is_end n m offset bytes are none. segment-broken s is_end none n bytes m offset are;
+  earlier_back = λ g n zeros bytes fs good. frames-read g good n is_padding padding-ends fs zeros bytes (zeros-pad zeros);
+  last_back = λ g n bytes fs good. frames-read g good n is_at_tail tail-ends fs 0 bytes refl;
+  bad_segment = λ g is_end n m bytes. segment-headless g is_end n bytes m;
+  bad_frame = λ g is_end n m offset bytes are none. segment-broken g is_end none n bytes m offset are;
 }

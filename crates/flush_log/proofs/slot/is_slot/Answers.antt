@@ -7,7 +7,7 @@ use Rattle.flush_log.proofs.slot.is_slot.Goals.{then-is_sequence, else-is_sequen
 pub returns-then-is_log : goal.returns-then-is_log
 returns-then-is_log c = elim c.if-is_sequence.branch [
   | then-is_sequence w ↦
-      (let t : Slot = record { sequence = c.slot.inside.ends.sequence; head = c.slot.inside.ends.head; tail = c.slot.inside.ends.tail; root = c.slot.inside.root; height = c.slot.inside.height } in
+      (let t : Slot = record { sequence = c.slot.inside.ends.sequence; head = c.slot.inside.ends.head; tail = c.slot.inside.ends.tail; root = c.slot.inside.root; height = c.slot.inside.height; version = c.slot.inside.version } in
       let small = subst (λ (u : Slot). u.root < 2 ^ 64) (sym c.slot.view_is) c.requires.root in
       c.is_height.ensures
       ∙ height_decides c.args.settings.now c.args.n t

@@ -10,4 +10,5 @@ returns-clause-said c =
     let tail = number_at-is 8 24 bytes (omega arith) in
     let root = number_at-is 8 32 bytes (omega arith) in
     let height = number_at-is 4 40 bytes (omega arith) in
+    let version = number_at-is 4 44 bytes (omega arith) in
     cc

@@ -1,7 +1,7 @@
 use Rattle.std.proofs.Common.{◌≡◌, map}
 use Rattle.std.specs.List.{AllByRecursion}
 use Rattle.mapping.specs.TreeInMemory.{tree_of}
-use Rattle.flush_log.specs.FlushText.{flush_text}
+use Rattle.flush_log.specs.FlushText.{text_of}
 use Rattle.flush_log.specs.ImageWork.{job_held, IsDue}
 use Rattle.flush_log.proofs.TextImages.{text_with}
 use Rattle.flush_log.proofs.text.due_jobs.Given as goal
@@ -9,6 +9,6 @@ use Rattle.flush_log.proofs.text.due_jobs.Given as goal
 -- the text of the jobs so far, and that of the pids that are left, is the whole text
 abbrev pub invariant-loop-pid : goal.invariant-loop-pid
 invariant-loop-pid l = record {
-  text : text_with (tree_of l.tree) (map job_held l.jobs.items) l.pid-iterator ≡ flush_text (tree_of l.tree);
+  text : text_with l.text (tree_of l.tree) (map job_held l.jobs.items) l.pid-iterator ≡ text_of l.text (tree_of l.tree);
   due : AllByRecursion IsDue (map job_held l.jobs.items);
 }

@@ -9,7 +9,7 @@ use Rattle.flush_log.proofs.TextImages.{can_be_written, each_can_be_written, ima
 use Rattle.flush_log.proofs.text.images.Goals as goal
 
 pub due_jobs-requires-clause-writable : goal.due_jobs-requires-clause-writable
-due_jobs-requires-clause-writable g c = λ pid. can_be_written (tree_of c.args.tree.now) pid c.requires.proper
+due_jobs-requires-clause-writable g c = λ pid. can_be_written c.args.text (tree_of c.args.tree.now) pid c.requires.proper
 
 pub run_round-requires-after_bounds : goal.run_round-requires-after_bounds
 run_round-requires-after_bounds g c κs within = each_can_be_written c.in_ok-jobs.jobs.items c.in_ok-jobs.ensures.due
@@ -19,12 +19,12 @@ run_round-requires-send-W-Done g c κs within = param_send _ _ (arg_send _ no _ 
 
 pub returns-in-Ok-clause-text : goal.returns-in-Ok-clause-text
 returns-in-Ok-clause-text g c =
-    images-text (λ v. v.items) c.images_of.result c.in-Ok.dones.items (map job_held c.in_ok-jobs.jobs.items) (tree_of c.args.tree.now) c.in-Ok.ensures.origin c.images_of.ensures.images c.in_ok-jobs.ensures.text
+    images-text (λ v. v.items) c.images_of.result c.in-Ok.dones.items (map job_held c.in_ok-jobs.jobs.items) c.args.text (tree_of c.args.tree.now) c.in-Ok.ensures.origin c.images_of.ensures.images c.in_ok-jobs.ensures.text
 
 pub returns-in-Ok-clause-some : goal.returns-in-Ok-clause-some
 returns-in-Ok-clause-some g c =
-    images-are_some (λ v. v.items) c.images_of.result c.in-Ok.dones.items (map job_held c.in_ok-jobs.jobs.items) (tree_of c.args.tree.now) c.in-Ok.ensures.origin c.images_of.ensures.images c.in_ok-jobs.ensures.due
+    images-are_some (λ v. v.items) c.images_of.result c.in-Ok.dones.items (map job_held c.in_ok-jobs.jobs.items) c.args.text (tree_of c.args.tree.now) c.in-Ok.ensures.origin c.images_of.ensures.images c.in_ok-jobs.ensures.due
 
 pub returns-in-Ok-clause-frames : goal.returns-in-Ok-clause-frames
 returns-in-Ok-clause-frames g c =
-    images-frames c.images_of.result c.in-Ok.dones.items (map job_held c.in_ok-jobs.jobs.items) (tree_of c.args.tree.now) c.in-Ok.ensures.origin c.in_ok-jobs.ensures.text c.images_of.ensures.words
+    images-frames c.images_of.result c.in-Ok.dones.items (map job_held c.in_ok-jobs.jobs.items) c.args.text (tree_of c.args.tree.now) c.in-Ok.ensures.origin c.in_ok-jobs.ensures.text c.images_of.ensures.words

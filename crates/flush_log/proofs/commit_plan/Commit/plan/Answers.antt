@@ -3,7 +3,7 @@ use Rattle.std.proofs.lemmas.Result.{err_from_is_err_and}
 use Rattle.flush_log.specs.CommitPlan.{next_slot}
 use Rattle.flush_log.specs.Images.{AreOfText, FitSegments, frames_in}
 use Rattle.flush_log.specs.Layout.{tail_after}
-use Rattle.flush_log.specs.Slot.{Slot}
+use Rattle.flush_log.specs.Slot.{Slot, format_of}
 use Rattle.flush_log.proofs.PlannedLemmas.{planned-by}
 use Rattle.flush_log.proofs.ReachLemmas.{text-fits}
 use Rattle.flush_log.proofs.commit_plan.Commit.plan.Goals as goal
@@ -12,7 +12,7 @@ pub tail_of_commit-requires-clause-fits : goal.tail_of_commit-requires-clause-fi
 tail_of_commit-requires-clause-fits c =
     let s = c.args.settings.now in
     let (text, are) = c.requires.text in
-    subst (λ (images : List (List (List ℕ))). FitSegments s (frames_in images)) (sym c.deref.ensures.value) (text-fits s c.requires.checked c.args.images.items text are.of are.within)
+    subst (λ (images : List (List (List ℕ))). FitSegments s (frames_in images)) (sym c.deref.ensures.value) (text-fits (format_of s c.args.slot.now) c.requires.checked c.args.images.items text are.of are.within)
 
 pub returns-in_err-tail : goal.returns-in_err-tail
 returns-in_err-tail c text are =
