@@ -35,6 +35,30 @@ const NO_LONG_PUTS: &str =
 
 const HEADER_3: &[u8] = b"BWSG\0\0\0\0\0\0\0\0\0\0\0\x03";
 
+const SHARED_ABC: &[u8] =
+    b"\x06\0\0\0\x1e\0\0\0\0\0\0\0\0\0\0\0\x03\0\x01a\0\x011\0\x01b\0\x011\0\x01c\0\x011";
+
+const SHARED_DEF: &[u8] = b"\x06\0\0\0\x1e\0\0\0\0\0\0\0\x01\0\x01d\0\x03\
+    \x01\0\0\x011\0\x01e\0\x011\0\x01f\0\x011";
+
+const SHARED_GHIJ: &[u8] = b"\x06\0\0\0\x24\0\0\0\0\0\0\0\x02\0\x01g\0\x04\
+    \x01\0\0\x011\0\x01h\0\x011\0\x01i\0\x011\0\x01j\0\x011";
+
+const SHARED_KLM: &[u8] = b"\x06\0\0\0\x1e\0\0\0\0\0\0\0\x03\0\x01k\0\x03\
+    \x01\0\0\x011\0\x01l\0\x011\0\x01m\0\x011";
+
+const SHARED_NOPQ: &[u8] = b"\x06\0\0\0\x24\0\0\0\0\0\0\0\x04\0\x01n\0\x04\
+    \x01\0\0\x011\0\x01o\0\x011\0\x01p\0\x011\0\x01q\0\x011";
+
+const SHARED_5: &[u8] = b"\x07\0\0\0\x21\0\0\0\0\0\0\0\x05\0\0\0\x02\
+    \0\0\0\0\0\0\0\0\0\0\0\x01d\0\0\0\0\0\0\0\x01";
+
+const SHARED_6: &[u8] = b"\x07\0\0\0\x2d\0\0\0\0\0\0\0\x06\0\x01g\0\x03\
+    \x01\0\0\0\0\0\0\0\0\x02\0\x01k\0\0\0\0\0\0\0\x03\0\x01n\0\0\0\0\0\0\0\x04";
+
+const SHARED_7: &[u8] = b"\x07\0\0\0\x21\0\0\0\0\0\0\0\x07\0\0\0\x02\
+    \0\0\0\0\0\0\0\0\0\x05\0\x01g\0\0\0\0\0\0\0\x06";
+
 const Z_PUT: &[u8] = b"\x02\0\0\0\x11\0\0\0\0\0\0\0\x01\0\x01\0\x01z\x01\0\x019";
 
 const BEFORE_16: SlotRow = SlotRow {
@@ -66,7 +90,7 @@ const LOG_16: &[&[u8]] = &[
     ROOT,
 ];
 
-static ROWS: [Row; 10] = [
+static ROWS: [Row; 11] = [
     Row {
         name: "a new store",
         steps: &["clean"],
@@ -196,6 +220,7 @@ static ROWS: [Row; 10] = [
                 tail: 554,
                 root: 0,
                 height: 1,
+                version: 0,
             },
             AFTER_16,
         ],
@@ -237,6 +262,55 @@ static ROWS: [Row; 10] = [
         log: &[
             LEAF_ABC, LEAF_DEF, LEAF_GHIJ, LEAF_KLM, LEAF_NOPQ, &[0; 32], HEADER_1, INDEX_5,
             INDEX_6, INDEX_7, LEAF_ABC, LEAF_DEF, LEAF_GHIJ, HEADER_2, LEAF_KLM, LEAF_NOPQ,
+        ],
+    },
+    // Frames of version 2 are carried as they stand, and the slot keeps the version; no base of version 1 is left.
+    Row {
+        name: "log 5, upgraded",
+        steps: &[SEVENTEEN_PUTS, "flush", "upgrade", "clean", "clean"],
+        answers: "NNNNNNNNNNNNNNNNN; flushed 2; upgraded 3; cleaned 1; cleaned 2; ",
+        slots: [
+            SlotRow {
+                sequence: 4,
+                head: 1,
+                tail: 730,
+                version: 2,
+                ..SEVENTEEN_PUTS_SLOT
+            },
+            SlotRow {
+                sequence: 5,
+                head: 2,
+                tail: 860,
+                version: 2,
+                ..SEVENTEEN_PUTS_SLOT
+            },
+        ],
+        log: &[
+            LEAF_ABC,
+            LEAF_DEF,
+            LEAF_GHIJ,
+            LEAF_KLM,
+            LEAF_NOPQ,
+            &[0; 32],
+            HEADER_1,
+            INDEX_5,
+            INDEX_6,
+            INDEX_7,
+            SHARED_ABC,
+            SHARED_DEF,
+            SHARED_GHIJ,
+            &[0; 2],
+            HEADER_2,
+            SHARED_KLM,
+            SHARED_NOPQ,
+            SHARED_5,
+            SHARED_6,
+            SHARED_7,
+            SHARED_ABC,
+            &[0; 3],
+            HEADER_3,
+            SHARED_DEF,
+            SHARED_GHIJ,
         ],
     },
     // A base and two runs of one page, that would need two segments more.
@@ -333,7 +407,7 @@ fn the_cleans_come_out(rt: HostRuntime) {
                 row.name,
             );
         }
-        outcomes.check(&rt, *crew, 10);
+        outcomes.check(&rt, *crew, 11);
     }
 }
 
@@ -344,7 +418,7 @@ pub(crate) const LONG_STORE: &str = "head 1, tail 464, number 7; root 2, height 
     \x20a=0123456789abcdef b=2 c=3 d=4 e=5; 3 pages, height 2, 5 pairs";
 
 // What a disk holds that was cleaned: the pages are as they were, and so are the pairs.
-static BACK_ROWS: [BackRow; 6] = [
+static BACK_ROWS: [BackRow; 8] = [
     BackRow {
         name: "log 16",
         steps: &[
@@ -373,6 +447,36 @@ static BACK_ROWS: [BackRow; 6] = [
             1 low=c log=Upto0 leaf runs=0: c=3 d=4 e=5\n\
             2 low= log=Upto0 index runs=0: =0 c=1\n\
             \x20a=1 b=2 c=3 d=4 e=5; 3 pages, height 2, 5 pairs",
+    },
+    // A base of version 2 and a run behind it.
+    BackRow {
+        name: "log 16, upgraded",
+        steps: &[
+            FIVE_PUTS, "flush", LONG_PUT, "flush", LONG_PUT, "flush", LONG_PUT, "flush", LONG_PUT,
+            "flush", "upgrade", "clean",
+        ],
+        flushed: "; flushed 8; ",
+        store: "head 1, tail 463, number 8, version 2; root 2, height 2\n\
+            0 low= log=Upto1 leaf runs=1: a=0123456789abcdef b=2\n\
+            1 low=c log=Upto0 leaf runs=0: c=3 d=4 e=5\n\
+            2 low= log=Upto0 index runs=0: =0 c=1\n\
+            \x20a=0123456789abcdef b=2 c=3 d=4 e=5; 3 pages, height 2, 5 pairs",
+    },
+    BackRow {
+        name: "log 5, upgraded and cleaned twice",
+        steps: &[SEVENTEEN_PUTS, "flush", "upgrade", "clean", "clean"],
+        flushed: "; flushed 5; ",
+        store: "head 2, tail 860, number 5, version 2; root 7, height 3\n\
+            0 low= log=Upto0 leaf runs=0: a=1 b=1 c=1\n\
+            1 low=d log=Upto0 leaf runs=0: d=1 e=1 f=1\n\
+            2 low=g log=Upto0 leaf runs=0: g=1 h=1 i=1 j=1\n\
+            3 low=k log=Upto0 leaf runs=0: k=1 l=1 m=1\n\
+            4 low=n log=Upto0 leaf runs=0: n=1 o=1 p=1 q=1\n\
+            5 low= log=Upto0 index runs=0: =0 d=1\n\
+            6 low=g log=Upto0 index runs=0: g=2 k=3 n=4\n\
+            7 low= log=Upto0 index runs=0: =5 g=6\n\
+            \x20a=1 b=1 c=1 d=1 e=1 f=1 g=1 h=1 i=1 j=1 k=1 l=1 m=1 n=1 o=1 p=1 q=1; \
+            8 pages, height 3, 17 pairs",
     },
     BackRow {
         name: "log 5, cleaned twice",
@@ -464,7 +568,7 @@ fn a_cleaned_store_comes_back(rt: HostRuntime) {
         for row in &BACK_ROWS {
             outcomes.note(comes_back(&rt, *crew, rt.alloc(), row), row.name);
         }
-        outcomes.check(&rt, *crew, 6);
+        outcomes.check(&rt, *crew, 8);
     }
 }
 

@@ -1,4 +1,4 @@
-//! Flushes and cleans that are stopped at each write and sync, as a machine is that crashes: which store comes back, whatever the crash
+//! Flushes, cleans and an upgrade that are stopped at each write and sync, as a machine is that crashes: which store comes back, whatever the crash
 //! left where something had been written.
 use crate::crews::ALONE;
 use crate::fault_rows::{ROWS, Row};

@@ -1,4 +1,4 @@
-//! A long run by a seed on a disk that stops: batches, flushes, cleans, openings and crashes. What comes back is what a map of std held at
+//! Long runs by a seed on a disk that stops: batches, flushes, cleans, upgrades, openings and crashes. What comes back is what a map of std held at
 //! the last flush that was answered, or at the one that was stopped.
 use crate::crews::ALONE;
 use crate::drawn_batches::{are_letters, draw, drawn_command, next_number, write_reply_of_map};
@@ -21,7 +21,7 @@ const LENGTH: usize = 2_560;
 // How many keys there are, each of one byte.
 const KEYS: u8 = 24;
 
-// What a store is to hold: the pairs in memory; those of its last flush as text; and those of a flush that was stopped.
+// What a store is to hold: the pairs in memory; those of its last flush or upgrade as text; and those of one that was stopped.
 #[derive(Drop)]
 struct Known {
     map: BTreeMap<u8, u8, Global>,
@@ -36,6 +36,7 @@ struct Counts {
     crashes: u32,
     flushes: u32,
     cleans: u32,
+    upgrades: u32,
     openings: u32,
     stopped: u32,
 }
@@ -147,18 +148,18 @@ fn do_clean(
     }
 }
 
-// Flushes, and where the log is full cleans it. Returns whether the disk goes on.
-fn do_flush(
+// Notes what a flush or an upgrade answered, by which these pairs were to be written; where the log is full cleans it. Returns whether the
+// disk goes on.
+fn note_written(
     rt: &(impl Threads + Sync),
-    alloc: Global,
     store: &mut Store<CrashDisk<Global>>,
     known: &mut Known,
     counts: &mut Counts,
+    now: String,
+    written: Result<u64, Fault>,
 ) -> Result<bool, Fault> {
-    let now = text_of_map(alloc, &known.map)?;
-    match store.flush(rt, ALONE) {
+    match written {
         Ok(_sequence) => {
-            count(&mut counts.flushes);
             known.flushed = now;
             Ok(true)
         }
@@ -167,11 +168,44 @@ fn do_flush(
             Ok(false)
         }
         Err(Fault::Full) => do_clean(rt, store, counts),
+        Err(Fault::AlreadyUpgraded) => Ok(true),
         Err(fault) => Err(fault),
     }
 }
 
-// Does a step: of six, three are batches, two flushes and one a clean. Returns whether the disk goes on.
+// Flushes. Returns whether the disk goes on.
+fn do_flush(
+    rt: &(impl Threads + Sync),
+    alloc: Global,
+    store: &mut Store<CrashDisk<Global>>,
+    known: &mut Known,
+    counts: &mut Counts,
+) -> Result<bool, Fault> {
+    let now = text_of_map(alloc, &known.map)?;
+    let written = store.flush(rt, ALONE);
+    if written.is_ok() {
+        count(&mut counts.flushes);
+    }
+    note_written(rt, store, known, counts, now, written)
+}
+
+// Upgrades. Returns whether the disk goes on.
+fn do_upgrade(
+    rt: &(impl Threads + Sync),
+    alloc: Global,
+    store: &mut Store<CrashDisk<Global>>,
+    known: &mut Known,
+    counts: &mut Counts,
+) -> Result<bool, Fault> {
+    let now = text_of_map(alloc, &known.map)?;
+    let written = store.upgrade(rt, ALONE);
+    if written.is_ok() {
+        count(&mut counts.upgrades);
+    }
+    note_written(rt, store, known, counts, now, written)
+}
+
+// Does a step: of twenty-four, twelve are batches, seven flushes, four cleans and one an upgrade. Returns whether the disk goes on.
 fn do_step(
     rt: &(impl Threads + Sync),
     alloc: Global,
@@ -180,9 +214,10 @@ fn do_step(
     state: &mut u64,
     counts: &mut Counts,
 ) -> Result<bool, Fault> {
-    match next_number(state) % 6 {
-        0 => do_clean(rt, store, counts),
-        1 | 2 => do_flush(rt, alloc, store, known, counts),
+    match next_number(state) % 24 {
+        0..=3 => do_clean(rt, store, counts),
+        4 => do_upgrade(rt, alloc, store, known, counts),
+        5..=11 => do_flush(rt, alloc, store, known, counts),
         _ => {
             do_batch(rt, alloc, store, known, state, counts)?;
             Ok(true)
@@ -278,7 +313,13 @@ fn do_round(
     opened_again(rt, alloc, store, known, state, counts)
 }
 
-fn run(rt: &(impl Threads + Sync), alloc: Global) -> Result<Counts, Fault> {
+// A run of 35 rounds on a new store, with what happened counted.
+fn run(
+    rt: &(impl Threads + Sync),
+    alloc: Global,
+    state: &mut u64,
+    counts: &mut Counts,
+) -> Result<(), Fault> {
     let map = BTreeMap::new(alloc);
     let flushed = text_of_map(alloc, &map)?;
     let mut known = Known {
@@ -286,29 +327,33 @@ fn run(rt: &(impl Threads + Sync), alloc: Global) -> Result<Counts, Fault> {
         flushed,
         stopped: None,
     };
+    let disk = CrashDisk::new(alloc, LENGTH)?;
+    let store = opened(Store::create(alloc, disk, EIGHT_SEGMENTS))?;
+    let mut disk = store.close();
+    for _round in 0..35 {
+        disk = do_round(rt, alloc, disk, &mut known, state, counts)?;
+    }
+    Ok(())
+}
+
+#[test]
+fn what_comes_back_is_what_was_flushed(rt: HostRuntime) -> Result<(), Fail> {
     let mut counts = Counts {
         wrong: 0,
         crashes: 0,
         flushes: 0,
         cleans: 0,
+        upgrades: 0,
         openings: 0,
         stopped: 0,
     };
     let mut state = 20_261_124;
-    let disk = CrashDisk::new(alloc, LENGTH)?;
-    let store = opened(Store::create(alloc, disk, EIGHT_SEGMENTS))?;
-    let mut disk = store.close();
-    for _round in 0..350 {
-        disk = do_round(rt, alloc, disk, &mut known, &mut state, &mut counts)?;
+    for _run in 0..12 {
+        run(&rt, rt.alloc(), &mut state, &mut counts)?;
     }
-    Ok(counts)
-}
-
-#[test]
-fn what_comes_back_is_what_was_flushed(rt: HostRuntime) -> Result<(), Fail> {
-    let counts = run(&rt, rt.alloc())?;
     assert_eq!(rt; counts.wrong, 0);
     assert!(rt; counts.crashes >= 300 && counts.openings >= 20);
     assert!(rt; counts.flushes >= 100 && counts.cleans >= 50 && counts.stopped >= 5);
+    assert!(rt; counts.upgrades >= 8);
     Ok(())
 }

@@ -209,7 +209,23 @@ fn flush_or_clean(
     text.push_str(told)
 }
 
-// What a run by the seed answers, and the bytes of the disk that it leaves: batches, flushes, cleans of a log that is full, and openings.
+// An upgrade, where there was none yet and the log has room for it.
+fn upgrade_once(
+    rt: &(impl Threads + Sync),
+    crew: Crew,
+    store: &mut Store<MemDisk<Global>>,
+    text: &mut String,
+) -> Result<(), AllocError> {
+    let told = match store.upgrade(rt, crew) {
+        Ok(_sequence) => " upgraded ",
+        Err(Fault::AlreadyUpgraded) => "",
+        Err(_fault) => " full ",
+    };
+    text.push_str(told)
+}
+
+// What a run by the seed answers, and the bytes of the disk that it leaves: batches, flushes, cleans of a log that is full, openings, and in
+// its second half an upgrade.
 fn run_by(
     rt: &(impl Threads + Sync),
     alloc: Global,
@@ -224,6 +240,9 @@ fn run_by(
         answer_drawn(rt, alloc, crew, &gate, &mut store, &mut state, &mut text)?;
         if round % 3 == 2 {
             flush_or_clean(rt, crew, &mut store, &mut text)?;
+        }
+        if round % 3 == 1 && round > 30 {
+            upgrade_once(rt, crew, &mut store, &mut text)?;
         }
         if round % 20 == 19 {
             store = opened(store.reopen(rt, crew))?;
@@ -245,11 +264,16 @@ fn is_same(
     Ok(found.0.as_str() == answers && found.1.as_slice() == bytes)
 }
 
+// Whether both slots say that the log is of version 2.
+fn is_upgraded(bytes: &[u8]) -> bool {
+    bytes.get(175) == Some(&2) && bytes.get(239) == Some(&2)
+}
+
 #[test]
 fn every_crew_answers_and_writes_the_same(rt: HostRuntime) -> Result<(), Fail> {
     for seed in 1..4u64 {
         let (answers, bytes) = run_by(&rt, rt.alloc(), ALONE, seed)?;
-        assert!(rt; answers.len() > 500, "{}", answers.len());
+        assert!(rt; answers.len() > 500 && is_upgraded(&bytes), "{}", answers.len());
         for workers in [1, 2, 3, 7, 64] {
             for grain in [1, 2, 64] {
                 let crew = Crew { workers, grain };
@@ -266,6 +290,7 @@ fn is_refused(rt: &(impl Threads + Sync), store: &mut Store<MemDisk<Global>>, cr
     matches!(store.batch(rt, crew, &NoGate, &[]), Err(Fault::BadCrew))
         && store.flush(rt, crew) == Err(Fault::BadCrew)
         && store.clean(rt, crew) == Err(Fault::BadCrew)
+        && store.upgrade(rt, crew) == Err(Fault::BadCrew)
         && store.play(rt, crew, &NoGate, &[]).is_ok()
 }
 
@@ -275,5 +300,12 @@ fn a_crew_out_of_range_is_refused(rt: HostRuntime) -> Result<(), Fail> {
     for (workers, grain) in [(0, 1), (65, 1), (1, 0), (1, 65_536)] {
         assert!(rt; is_refused(&rt, &mut store, Crew { workers, grain }));
     }
+    // The crew is looked at before the version.
+    store.upgrade(&rt, ALONE)?;
+    let none = Crew {
+        workers: 0,
+        grain: 1,
+    };
+    assert!(rt; is_refused(&rt, &mut store, none));
     Ok(())
 }

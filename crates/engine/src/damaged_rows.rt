@@ -2,7 +2,9 @@
 use crate::crews::{ALONE, crews};
 use crate::log_rows::{PUT_AGAIN, SHORTEST, disk_of};
 use crate::outcomes::Outcomes;
-use crate::recovery_rows::{FIRST_STORE, FIVE_PUTS_STORE, bytes_after, set, write_opened};
+use crate::recovery_rows::{
+    FIRST_STORE, FIVE_PUTS_STORE, UPGRADED_STORE, bytes_after, set, write_opened,
+};
 use crate::store::Store;
 use crate::tests::{FIVE_PUTS, SEVENTEEN_PUTS};
 use crew::Crew;
@@ -36,7 +38,9 @@ const PUT_FIVE: [&str; 2] = [FIVE_PUTS, "flush"];
 
 const PAGE_FREED: [&str; 6] = [SEVENTEEN_PUTS, "flush", "-d -e -f", "d=1", "-d", "flush"];
 
-static DAMAGED_ROWS: [DamagedRow; 56] = [
+const UPGRADED: [&str; 3] = [FIVE_PUTS, "flush", "upgrade"];
+
+static DAMAGED_ROWS: [DamagedRow; 70] = [
     DamagedRow {
         name: "log 20",
         steps: &PUT_AGAIN,
@@ -126,6 +130,100 @@ static DAMAGED_ROWS: [DamagedRow; 56] = [
         steps: &ONE_RUN,
         damage: Damage::Set(&[(549, 0x0f)]),
         answer: "15 BadFrame 0 33",
+    },
+    DamagedRow {
+        name: "log 15.2",
+        steps: &UPGRADED,
+        damage: Damage::Set(&[(702, b'c')]),
+        answer: "15 BadFrame 0 165",
+    },
+    DamagedRow {
+        name: "log 15.2, version 3",
+        steps: &UPGRADED,
+        damage: Damage::Set(&[(239, 3)]),
+        answer: "13 NoSlot",
+    },
+    DamagedRow {
+        name: "log 15.2, version 1",
+        steps: &UPGRADED,
+        damage: Damage::Set(&[(239, 0)]),
+        answer: "15 BadFrame 0 136",
+    },
+    DamagedRow {
+        name: "log 15.2, a gate",
+        steps: &UPGRADED,
+        damage: Damage::Set(&[(192, 0)]),
+        answer: FIVE_PUTS_STORE,
+    },
+    DamagedRow {
+        name: "a version of four bytes",
+        steps: &UPGRADED,
+        damage: Damage::Set(&[(236, 1)]),
+        answer: "13 NoSlot",
+    },
+    DamagedRow {
+        name: "version 2 and more",
+        steps: &UPGRADED,
+        damage: Damage::Set(&[(240, 1)]),
+        answer: "13 NoSlot",
+    },
+    // Of the older slot.
+    DamagedRow {
+        name: "version 2 in both slots",
+        steps: &UPGRADED,
+        damage: Damage::Set(&[(175, 2)]),
+        answer: UPGRADED_STORE,
+    },
+    DamagedRow {
+        name: "version 3 in the older slot",
+        steps: &UPGRADED,
+        damage: Damage::Set(&[(175, 3)]),
+        answer: "13 NoSlot",
+    },
+    // A log without a frame of version 2.
+    DamagedRow {
+        name: "version 2 without an upgrade",
+        steps: &PUT_FIVE,
+        damage: Damage::Set(&[(175, 2)]),
+        answer: "head 0, tail 136, number 2, version 2; root 2, height 2\n\
+            0 low= log=Upto0 leaf runs=0: a=1 b=2\n\
+            1 low=c log=Upto0 leaf runs=0: c=3 d=4 e=5\n\
+            2 low= log=Upto0 index runs=0: =0 c=1\n\
+            \x20a=1 b=2 c=3 d=4 e=5; 3 pages, height 2, 5 pairs",
+    },
+    DamagedRow {
+        name: "a first key that shares more than the low key",
+        steps: &UPGRADED,
+        damage: Damage::Set(&[(695, 2)]),
+        answer: "15 BadFrame 0 165",
+    },
+    DamagedRow {
+        name: "a key that shares more than the key before it",
+        steps: &UPGRADED,
+        damage: Damage::Set(&[(700, 2)]),
+        answer: "15 BadFrame 0 165",
+    },
+    DamagedRow {
+        name: "a key that begins like the key before it",
+        steps: &UPGRADED,
+        damage: Damage::Set(&[(700, 1)]),
+        answer: "head 0, tail 238, number 3, version 2; root 2, height 2\n\
+            0 low= log=Upto0 leaf runs=0: a=1 b=2\n\
+            1 low=c log=Upto0 leaf runs=0: c=3 cd=4 e=5\n\
+            2 low= log=Upto0 index runs=0: =0 c=1\n\
+            \x20a=1 b=2 c=3 cd=4 e=5; 3 pages, height 2, 5 pairs",
+    },
+    DamagedRow {
+        name: "a low key that the first key shares",
+        steps: &UPGRADED,
+        damage: Damage::Set(&[(692, b'b')]),
+        answer: "16 BadStructure 4 1",
+    },
+    DamagedRow {
+        name: "a key before its page's low key",
+        steps: &UPGRADED,
+        damage: Damage::Set(&[(695, 0)]),
+        answer: "16 BadStructure 5 1",
     },
     DamagedRow {
         name: "a wrong name",
@@ -455,7 +553,7 @@ fn a_damaged_disk_has_one_answer(rt: HostRuntime) {
         for row in &DAMAGED_ROWS {
             outcomes.note(is_answered(&rt, *crew, rt.alloc(), row), row.name);
         }
-        outcomes.check(&rt, *crew, 56);
+        outcomes.check(&rt, *crew, 70);
     }
 }
 
@@ -510,20 +608,40 @@ fn count(counts: &mut [u32; 7], answer: &str) {
     }
 }
 
-// How many answers begin like which, as a program that was written after the rules alone has them.
-#[test]
-fn a_disk_with_any_byte_changed_has_one_answer(rt: HostRuntime) -> Result<(), Fail> {
-    let mut bytes = bytes_after(&rt, rt.alloc(), &PUT_AGAIN)?;
+// How the disk that these steps leave is answered where any one of its bytes up to an end is changed: how many answers begin like which.
+fn counts_of_changed(
+    rt: &(impl Threads + Sync),
+    alloc: Global,
+    steps: &[&str],
+    end: usize,
+) -> Result<[u32; 7], Fault> {
+    let mut bytes = bytes_after(rt, alloc, steps)?;
     let mut counts = [0; 7];
-    for place in 0..822usize.min(bytes.len()) {
+    for place in 0..end.min(bytes.len()) {
         let before = bytes[place];
         for value in [0, 1, 9, 255] {
             bytes[place] = value;
-            let answer = answer_of_crews(&rt, rt.alloc(), &bytes)?;
+            let answer = answer_of_crews(rt, alloc, &bytes)?;
             count(&mut counts, &answer);
         }
         bytes[place] = before;
     }
+    Ok(counts)
+}
+
+// As a program that was written after the rules alone has them (checks/rules.py).
+#[test]
+fn a_disk_with_any_byte_changed_has_one_answer(rt: HostRuntime) -> Result<(), Fail> {
+    let counts = counts_of_changed(&rt, rt.alloc(), &PUT_AGAIN, 822)?;
     assert_eq!(rt; counts, [196, 283, 104, 476, 275, 1_948, 6]);
+    Ok(())
+}
+
+#[test]
+fn a_disk_of_version_two_with_any_byte_changed_has_one_answer(
+    rt: HostRuntime,
+) -> Result<(), Fail> {
+    let counts = counts_of_changed(&rt, rt.alloc(), &UPGRADED, 750)?;
+    assert_eq!(rt; counts, [196, 285, 52, 373, 248, 1_838, 8]);
     Ok(())
 }

@@ -145,7 +145,7 @@ fn are_calls(
 
 #[test]
 fn the_calls_of_a_flush_have_their_order(rt: HostRuntime) -> Result<(), Fail> {
-    let rows: [(&[&str], &str); 4] = [
+    let rows: [(&[&str], &str); 5] = [
         (
             &[FIVE_PUTS, "flush"],
             "write 0 545; sync; \
@@ -155,6 +155,13 @@ fn the_calls_of_a_flush_have_their_order(rt: HostRuntime) -> Result<(), Fail> {
             &[SEVENTEEN_PUTS, "flush"],
             "write 0 545; sync; \
              read 128 1; write 545 223; write 768 143; sync; write 129 63; sync; gate 128 1; sync; ",
+        ),
+        // An upgrade makes the calls of a flush.
+        (
+            &[FIVE_PUTS, "flush", "upgrade"],
+            "write 0 545; sync; \
+             read 128 1; write 545 103; sync; write 129 63; sync; gate 128 1; sync; \
+             read 192 1; gate 192 0; write 648 102; sync; write 193 63; sync; gate 192 1; sync; ",
         ),
         (
             &PUT_AGAIN,
@@ -294,7 +301,7 @@ fn is_refused(
     Ok(play(rt, ALONE, alloc, store, steps)?.as_str() == "0: 8 Failed")
 }
 
-// Whether it refuses a batch and a flush, and does no steps.
+// Whether it refuses a batch, a flush and an upgrade, and does no steps.
 fn has_failed(
     rt: &(impl Threads + Sync),
     alloc: Global,
@@ -302,8 +309,9 @@ fn has_failed(
 ) -> Result<bool, AllocError> {
     let is_batch_refused = matches!(store.batch(rt, ALONE, &NoGate, &[]), Err(Fault::Failed));
     let is_flush_refused = store.flush(rt, ALONE) == Err(Fault::Failed);
+    let is_upgrade_refused = store.upgrade(rt, ALONE) == Err(Fault::Failed);
     let answer = play(rt, ALONE, alloc, store, &[])?;
-    Ok(is_batch_refused && is_flush_refused && answer.is_empty())
+    Ok(is_batch_refused && is_flush_refused && is_upgrade_refused && answer.is_empty())
 }
 
 // Whether look-ups of ranges tell these pairs, and `verify` finds nothing.
@@ -415,33 +423,54 @@ fn a_play_stops_where_a_step_is_refused(rt: HostRuntime) -> Result<(), Fail> {
     Ok(())
 }
 
-// Whether this is left by a flush of b, behind one of a, that was answered like this: after want of memory each byte is as it was, and
-// where the disk's record found no memory there is the one store or the other.
-fn is_behind_flush(flushed: Result<u64, Fault>, is_same: bool, told: &str) -> bool {
-    match flushed {
-        Ok(sequence) => sequence == 3 && told == AB_STORE,
-        Err(Fault::NoMemory) => is_same && told == A_STORE,
-        Err(Fault::Device) => told == A_STORE || told == AB_STORE,
+// Whether this is left by a flush or an upgrade of b, after a flush of a, that was answered like this, and leaves this store where it is done:
+// after want of memory each byte is as it was, and where the disk's record found no memory there is the one store or the other.
+fn is_after_write(written: Result<u64, Fault>, is_same: bool, left: &str, after: &str) -> bool {
+    match written {
+        Ok(sequence) => sequence == 3 && left == after,
+        Err(Fault::NoMemory) => is_same && left == A_STORE,
+        Err(Fault::Device) => left == A_STORE || left == after,
         Err(_) => false,
     }
 }
 
-// Whether such a flush leaves what it should.
-fn leaves_a_store(rt: &(impl Threads + Sync), alloc: Global) -> Result<bool, Fault> {
+const UPGRADED_AB_STORE: &str = "head 0, tail 116, number 3, version 2; root 0, height 1\n\
+    0 low= log=Upto2 leaf runs=2: a=1 b=2\n\
+    \x20a=1 b=2; 1 pages, height 1, 2 pairs";
+
+// Whether such a flush or upgrade leaves what it should.
+fn leaves_a_store(
+    rt: &(impl Threads + Sync),
+    alloc: Global,
+    is_upgrade: bool,
+) -> Result<bool, Fault> {
     let mut store = store_after(rt, ALONE, alloc, &["a=1", "flush", "b=2"])?;
     let bytes = store.disk().bytes().to_vec(alloc)?;
-    let flushed = store.flush(rt, ALONE);
+    let (written, after) = if is_upgrade {
+        (store.upgrade(rt, ALONE), UPGRADED_AB_STORE)
+    } else {
+        (store.flush(rt, ALONE), AB_STORE)
+    };
     let is_same = store.disk().bytes() == bytes.as_slice();
-    let told = told_again(rt, alloc, store)?;
-    Ok(is_behind_flush(flushed, is_same, told.as_str()))
+    let left = told_again(rt, alloc, store)?;
+    Ok(is_after_write(written, is_same, left.as_str(), after))
 }
 
 // To be run with each allocation refused in turn too, by `rt try --test --fail-alloc N` for each N. Where one is refused to what stands
 // round the flush, one of the two can't be told.
 #[test]
 fn a_flush_without_memory_leaves_one_of_two_stores(rt: HostRuntime) {
-    let first = leaves_a_store(&rt, rt.alloc());
-    let second = leaves_a_store(&rt, rt.alloc());
+    let first = leaves_a_store(&rt, rt.alloc(), false);
+    let second = leaves_a_store(&rt, rt.alloc(), false);
+    assert!(rt; first != Ok(false) && second != Ok(false));
+    assert!(rt; first == Ok(true) || second == Ok(true));
+}
+
+// The same of an upgrade, with each allocation refused in turn.
+#[test]
+fn an_upgrade_without_memory_leaves_one_of_two_stores(rt: HostRuntime) {
+    let first = leaves_a_store(&rt, rt.alloc(), true);
+    let second = leaves_a_store(&rt, rt.alloc(), true);
     assert!(rt; first != Ok(false) && second != Ok(false));
     assert!(rt; first == Ok(true) || second == Ok(true));
 }

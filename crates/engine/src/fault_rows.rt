@@ -1,9 +1,11 @@
-//! Flushes and cleans of which a write or a sync fails, once or from there on: what is answered then, and which store the disk holds.
+//! Flushes, cleans and an upgrade of which a write or a sync fails, once or from there on: what is answered then, and which store the disk holds.
 use crate::clean_rows::LONG_STORE;
 use crate::crews::ALONE;
 use crate::failing_clean_rows::BEFORE_CLEAN;
 use crate::log_rows::{LONG_PUT, disk_of, play};
-use crate::recovery_rows::{FIRST_STORE, bytes_after, write_opened};
+use crate::recovery_rows::{
+    FIRST_STORE, FIVE_PUTS_STORE, UPGRADED_STORE, bytes_after, write_opened,
+};
 use crate::store::Store;
 use crate::tests::{FIVE_PUTS, SEVENTEEN_PUTS, opened, write_rows};
 use flush_log::{Failing, FaultDisk};
@@ -53,7 +55,7 @@ const FOURTEEN_STORE: &str = "head 0, tail 466, number 3; root 7, height 3\n\
     \x20a=1 b=1 c=1 g=1 h=1 i=1 j=1 k=1 l=1 m=1 n=1 o=1 p=1 q=1; \
     7 pages, height 3, 14 pairs";
 
-pub(crate) static ROWS: [Row; 5] = [
+pub(crate) static ROWS: [Row; 6] = [
     Row {
         name: "log 24",
         on_disk: &[],
@@ -85,6 +87,17 @@ pub(crate) static ROWS: [Row; 5] = [
         pairs: " a=1 b=1 c=1 g=1 h=1 i=1 j=1 k=1 l=1 m=1 n=1 o=1 p=1 q=1;",
         before: SEVENTEEN_STORE,
         after: FOURTEEN_STORE,
+    },
+    // All pages are written again.
+    Row {
+        name: "log 15.1",
+        on_disk: &[FIVE_PUTS, "flush"],
+        steps: &["upgrade"],
+        answers: "0: 9 Device",
+        calls: 7,
+        pairs: " a=1 b=2 c=3 d=4 e=5;",
+        before: FIVE_PUTS_STORE,
+        after: UPGRADED_STORE,
     },
     // There is no range.
     Row {
@@ -134,7 +147,7 @@ fn store_of(
     opened(Store::recover(rt, alloc, disk, ALONE))
 }
 
-// What is answered to the row's steps, and then to a batch, a flush and a clean; the pairs; what is opened again; and what is on the disk
+// What is answered to the row's steps, and then to a batch, a flush, a clean and an upgrade; the pairs; what is opened again; and what is on the disk
 // once no call fails.
 fn answer_of_failing(
     rt: &(impl Threads + Sync),
@@ -144,7 +157,7 @@ fn answer_of_failing(
 ) -> Result<String, Fault> {
     let mut store = store;
     let mut text = play(rt, ALONE, alloc, &mut store, row.steps)?;
-    for word in ["a", "flush", "clean"] {
+    for word in ["a", "flush", "clean", "upgrade"] {
         text.push_str(", ")?;
         let answer = play(rt, ALONE, alloc, &mut store, &[word])?;
         text.push_str(answer.as_str())?;
@@ -179,7 +192,7 @@ fn look_where_a_call_fails(
         let store = store_of(rt, alloc, bytes, failing, written)?;
         let text = answer_of_failing(rt, alloc, row, store)?;
         let wanted = format!(in alloc;
-            "{}, 0: 8 Failed, 0: 8 Failed, 0: 8 Failed{} {opened}, {told}",
+            "{}, 0: 8 Failed, 0: 8 Failed, 0: 8 Failed, 0: 8 Failed{} {opened}, {told}",
             row.answers, row.pairs
         )?;
         assert!(rt;

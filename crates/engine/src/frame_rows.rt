@@ -4,8 +4,8 @@ ghost use Rattle.std.specs.Prelude.{◌≡◌, None};
 ghost use Rattle.keys.specs.Limits.{first_bad_field};
 
 use delta_chain::{Base, Run};
-use frame_codec::{Frame, read_frame, write_frame};
-use keys::{Pid, Settings, Value};
+use frame_codec::{Format, Frame, read_frame, write_frame};
+use keys::{Pid, Settings, Value, Version};
 use std::alloc::{AllocError, Global};
 use std::test::Fail;
 
@@ -16,6 +16,16 @@ const SETTINGS: Settings = Settings {
     max_value: 16,
     seg_size: 256,
     segments: 4,
+};
+
+const VERSION_ONE: Format = Format {
+    settings: SETTINGS,
+    version: Version::One,
+};
+
+const VERSION_TWO: Format = Format {
+    settings: SETTINGS,
+    version: Version::Two,
 };
 
 pub(crate) const EMPTY_LEAF: &[u8] = b"\x01\0\0\0\x0c\0\0\0\0\0\0\0\0\0\0\0\0";
@@ -32,6 +42,25 @@ pub(crate) const LEAF_1: &[u8] =
 
 pub(crate) const ROOT: &[u8] =
     b"\x03\0\0\0\x21\0\0\0\0\0\0\0\x02\0\0\0\x02\0\0\0\0\0\0\0\0\0\0\0\x01c\0\0\0\0\0\0\0\x01";
+
+// The same bases as frames of version 2, whose keys are spelled by what they don't share with the key before them.
+pub(crate) const SHARED_EMPTY_LEAF: &[u8] = b"\x06\0\0\0\x0c\0\0\0\0\0\0\0\0\0\0\0\0";
+
+pub(crate) const SHARED_LEAF_0: &[u8] =
+    b"\x06\0\0\0\x18\0\0\0\0\0\0\0\0\0\0\0\x02\0\x01a\0\x011\0\x01b\0\x012";
+
+pub(crate) const SHARED_LEAF_1: &[u8] = b"\x06\0\0\0\x1e\0\0\0\0\0\0\0\x01\0\x01c\0\x03\
+    \x01\0\0\x013\0\x01d\0\x014\0\x01e\0\x015";
+
+pub(crate) const SHARED_ROOT: &[u8] = b"\x07\0\0\0\x21\0\0\0\0\0\0\0\x02\0\0\0\x02\
+    \0\0\0\0\0\0\0\0\0\0\0\x01c\0\0\0\0\0\0\0\x01";
+
+// The keys abcd, abce and abf above abc, and the children ab, abc and ac.
+const SHARED_NAMES: &[u8] = b"\x06\0\0\0\x21\0\0\0\0\0\0\0\x01\0\x03abc\0\x03\
+    \x03\x01d\0\x011\x03\x01e\0\x012\x02\x01f\0\x013";
+
+const SHARED_CHILDREN: &[u8] = b"\x07\0\0\0\x2e\0\0\0\0\0\0\0\x02\0\x02ab\0\x03\
+    \x02\0\0\0\0\0\0\0\0\0\x02\x01c\0\0\0\0\0\0\0\x01\x01\x01c\0\0\0\0\0\0\0\x01";
 
 pub(crate) const FREE_1: &[u8] = b"\x05\0\0\0\x08\0\0\0\0\0\0\0\x01";
 
@@ -82,12 +111,12 @@ fn with_low(alloc: Global, low: &[u8], entries: &[u8]) -> Result<Vec<u8>, AllocE
 // What a frame says, as its low key, a colon and its entries; and its page id.
 fn said(alloc: Global, frame: &Frame) -> Result<(Vec<u8>, u64), AllocError> {
     match frame {
-        Frame::FullLeaf { pid, low, base } => {
+        Frame::FullLeaf { pid, low, base, .. } => {
             let entries = leaf_text(alloc, base)?;
             Ok((with_low(alloc, low.as_bytes(), &entries)?, pid.0))
         }
         Frame::DeltaLeaf { pid, run } => Ok((run_text(alloc, run)?, pid.0)),
-        Frame::FullIndex { pid, low, base } => {
+        Frame::FullIndex { pid, low, base, .. } => {
             let entries = index_text(alloc, base)?;
             Ok((with_low(alloc, low.as_bytes(), &entries)?, pid.0))
         }
@@ -105,14 +134,21 @@ fn says(alloc: Global, frame: &Frame, told: &[u8], pid: u64) -> Result<bool, All
     Ok(said.0.as_slice() == told && said.1 == pid)
 }
 
-// Whether the bytes are read as a frame that says this, and has all of them.
-fn is_read(alloc: Global, bytes: &[u8], told: &[u8], pid: u64) -> Result<bool, AllocError> {
-    let Some(found) = read_frame(alloc, bytes, &SETTINGS)? else {
+// Whether the bytes are read, in a log of this format, as a frame that says this, and has all of them.
+fn is_read(
+    alloc: Global,
+    format: &Format,
+    bytes: &[u8],
+    told: &[u8],
+    pid: u64,
+) -> Result<bool, AllocError> {
+    let Some(found) = read_frame(alloc, bytes, format)? else {
         return Ok(false);
     };
     Ok(found.1 == bytes.len() && says(alloc, &found.0, told, pid)?)
 }
 
+// A log of version 2 has the frames of version 1 too.
 #[test]
 fn the_frames_of_the_examples_are_read(rt: HostRuntime) -> Result<(), Fail> {
     let rows: [(&[u8], &[u8], u64); 9] = [
@@ -127,16 +163,29 @@ fn the_frames_of_the_examples_are_read(rt: HostRuntime) -> Result<(), Fail> {
         (FOUR_PUT, b"a1b2c3d4", 0),
     ];
     for row in &rows {
-        assert!(rt; is_read(rt.alloc(), row.0, row.1, row.2)?);
+        assert!(rt; is_read(rt.alloc(), &VERSION_ONE, row.0, row.1, row.2)?);
+        assert!(rt; is_read(rt.alloc(), &VERSION_TWO, row.0, row.1, row.2)?);
+    }
+    let shared: [(&[u8], &[u8], u64); 6] = [
+        (SHARED_EMPTY_LEAF, b":", 0),
+        (SHARED_LEAF_0, b":a1b2", 0),
+        (SHARED_LEAF_1, b"c:c3d4e5", 1),
+        (SHARED_ROOT, b":0c1", 2),
+        (SHARED_NAMES, b"abc:abcd1abce2abf3", 1),
+        (SHARED_CHILDREN, b"ab:ab0abc1ac1", 2),
+    ];
+    for row in &shared {
+        assert!(rt; is_read(rt.alloc(), &VERSION_TWO, row.0, row.1, row.2)?);
+        assert!(rt; read_frame(rt.alloc(), row.0, &VERSION_ONE)?.is_none());
     }
     Ok(())
 }
 
 // The frame at the front of these bytes, written again.
-fn again(alloc: Global, bytes: &[u8], settings: &Settings) -> Result<Option<Vec<u8>>, AllocError>
-    requires { first_bad_field settings.now ≡ None }
+fn again(alloc: Global, bytes: &[u8], format: &Format) -> Result<Option<Vec<u8>>, AllocError>
+    requires { first_bad_field format.now.settings ≡ None }
 {
-    match read_frame(alloc, bytes, settings)? {
+    match read_frame(alloc, bytes, format)? {
         Some((frame, _)) => {
             let mut out = Vec::new(alloc);
             write_frame(&frame, &mut out)?;
@@ -148,11 +197,25 @@ fn again(alloc: Global, bytes: &[u8], settings: &Settings) -> Result<Option<Vec<
 
 #[test]
 fn the_frames_of_the_examples_are_written_as_they_stand(rt: HostRuntime) -> Result<(), Fail> {
-    let rows: [&[u8]; 9] = [
-        EMPTY_LEAF, A_ABSENT, A_PUT, LEAF_0, LEAF_1, ROOT, FREE_1, A_3, FOUR_PUT,
+    let rows: [&[u8]; 15] = [
+        EMPTY_LEAF,
+        A_ABSENT,
+        A_PUT,
+        LEAF_0,
+        LEAF_1,
+        ROOT,
+        FREE_1,
+        A_3,
+        FOUR_PUT,
+        SHARED_EMPTY_LEAF,
+        SHARED_LEAF_0,
+        SHARED_LEAF_1,
+        SHARED_ROOT,
+        SHARED_NAMES,
+        SHARED_CHILDREN,
     ];
     for row in &rows {
-        match again(rt.alloc(), row, &SETTINGS)? {
+        match again(rt.alloc(), row, &VERSION_TWO)? {
             Some(out) => assert_eq!(rt; out.as_slice(), *row),
             None => assert!(rt; false),
         }
@@ -160,13 +223,15 @@ fn the_frames_of_the_examples_are_written_as_they_stand(rt: HostRuntime) -> Resu
     Ok(())
 }
 
+// Whether the bytes are a frame in no log.
 fn is_refused(alloc: Global, bytes: &[u8]) -> Result<bool, AllocError> {
-    Ok(read_frame(alloc, bytes, &SETTINGS)?.is_none())
+    let is_refused = read_frame(alloc, bytes, &VERSION_ONE)?.is_none();
+    Ok(is_refused && read_frame(alloc, bytes, &VERSION_TWO)?.is_none())
 }
 
 #[test]
 fn bytes_that_are_no_frame_are_refused(rt: HostRuntime) -> Result<(), Fail> {
-    let refused: [&[u8]; 11] = [
+    let refused: [&[u8]; 19] = [
         // b before a; a twice.
         b"\x01\0\0\0\x18\0\0\0\0\0\0\0\0\0\0\0\x02\0\x01b\0\x012\0\x01a\0\x011",
         b"\x01\0\0\0\x18\0\0\0\0\0\0\0\0\0\0\0\x02\0\x01a\0\x012\0\x01a\0\x011",
@@ -181,9 +246,20 @@ fn bytes_that_are_no_frame_are_refused(rt: HostRuntime) -> Result<(), Fail> {
         b"\x02\0\0\0\x1e\0\0\0\0\0\0\0\0\0\x05\0\x01a\0\0\x01b\0\0\x01c\0\0\x01d\0\0\x01e\0",
         // A key of 17 bytes.
         b"\x02\0\0\0\x1e\0\0\0\0\0\0\0\0\0\x01\0\x11abcdefghijklmnopq\0",
-        // The kinds 0 and 6.
+        // The kinds 0 and 8, and a kind 6 without a low key.
         b"\0\0\0\0\x08\0\0\0\0\0\0\0\x01",
+        b"\x08\0\0\0\x08\0\0\0\0\0\0\0\x01",
         b"\x06\0\0\0\x08\0\0\0\0\0\0\0\x01",
+        // A first key that shares two bytes with a low key of one, and one that shares none though it begins like it.
+        b"\x06\0\0\0\x12\0\0\0\0\0\0\0\x01\0\x01c\0\x01\x02\0\0\x013",
+        b"\x06\0\0\0\x13\0\0\0\0\0\0\0\x01\0\x01c\0\x01\0\x01c\0\x013",
+        // A second key that shares two bytes with one of one; one that shares less than it could; and one that is the first one again.
+        b"\x06\0\0\0\x18\0\0\0\0\0\0\0\x01\0\x01c\0\x02\x01\0\0\x013\x02\x01d\0\x014",
+        b"\x06\0\0\0\x19\0\0\0\0\0\0\0\x01\0\x01c\0\x02\x01\0\0\x013\0\x02cd\0\x014",
+        b"\x06\0\0\0\x17\0\0\0\0\0\0\0\x01\0\x01c\0\x02\x01\0\0\x013\x01\0\0\x014",
+        // A second key that is before the first one, and one of 17 bytes, of which it shares 16.
+        b"\x06\0\0\0\x18\0\0\0\0\0\0\0\x01\0\x01c\0\x02\x01\0\0\x013\0\x01b\0\x014",
+        b"\x06\0\0\0\x27\0\0\0\0\0\0\0\x01\0\x10abcdefghijklmnop\0\x02\x10\0\0\x013\x10\x01q\0\x014",
         // A frame that is cut off.
         b"\x05\0\0\0\x08\0\0\0\0\0\0\0",
     ];

@@ -1,6 +1,9 @@
 //! The log as bytes: what flushes and the making of a store write (docs/EXAMPLES.md).
 use crate::crews::{ALONE, crews};
-use crate::frame_rows::{A_3, A_ABSENT, A_PUT, EMPTY_LEAF, FOUR_PUT, FREE_1, LEAF_0, LEAF_1, ROOT};
+use crate::frame_rows::{
+    A_3, A_ABSENT, A_PUT, EMPTY_LEAF, FOUR_PUT, FREE_1, LEAF_0, LEAF_1, ROOT,
+    SHARED_EMPTY_LEAF, SHARED_LEAF_0, SHARED_LEAF_1, SHARED_ROOT,
+};
 use crate::outcomes::Outcomes;
 use crate::step::{Answer, Step};
 use crate::store::Store;
@@ -29,6 +32,7 @@ pub(crate) struct SlotRow {
     pub(crate) tail: u64,
     pub(crate) root: u64,
     pub(crate) height: u32,
+    pub(crate) version: u32,
 }
 
 pub(crate) const NO_SLOT: SlotRow = SlotRow {
@@ -37,6 +41,7 @@ pub(crate) const NO_SLOT: SlotRow = SlotRow {
     tail: 0,
     root: 0,
     height: 0,
+    version: 0,
 };
 
 pub(crate) const FIRST_SLOT: SlotRow = SlotRow {
@@ -45,6 +50,7 @@ pub(crate) const FIRST_SLOT: SlotRow = SlotRow {
     tail: 33,
     root: 0,
     height: 1,
+    version: 0,
 };
 
 pub(crate) const FIVE_PUTS_SLOT: SlotRow = SlotRow {
@@ -53,6 +59,7 @@ pub(crate) const FIVE_PUTS_SLOT: SlotRow = SlotRow {
     tail: 136,
     root: 2,
     height: 2,
+    version: 0,
 };
 
 pub(crate) const SEVENTEEN_PUTS_SLOT: SlotRow = SlotRow {
@@ -61,10 +68,11 @@ pub(crate) const SEVENTEEN_PUTS_SLOT: SlotRow = SlotRow {
     tail: 399,
     root: 7,
     height: 3,
+    version: 0,
 };
 
 // An example: its steps, what they answer, and then the two slots and what the log has behind the frame of the first leaf, up to its tail.
-// A step is a word: `flush` is a flush, `clean` a clean, and each other one a batch, the empty one without commands.
+// A step is a word: `flush` is a flush, `clean` a clean, `upgrade` an upgrade, and each other one a batch, the empty one without commands.
 pub(crate) struct Row {
     pub(crate) name: &'static str,
     pub(crate) steps: &'static [&'static str],
@@ -152,7 +160,7 @@ pub(crate) const LONG_A_LEAF: &[u8] =
 pub(crate) const LONG_A_AND_B_LEAF: &[u8] =
     b"\x01\0\0\0\x27\0\0\0\0\0\0\0\0\0\0\0\x02\0\x01a\0\x100123456789abcdef\0\x01b\0\x012";
 
-static ROWS: [Row; 17] = [
+static ROWS: [Row; 20] = [
     Row {
         name: "a new store",
         steps: &[],
@@ -427,6 +435,63 @@ static ROWS: [Row; 17] = [
             LONG_A_PUT,
         ],
     },
+    // The second upgrade changes nothing.
+    Row {
+        name: "log 15.1",
+        steps: &[FIVE_PUTS, "flush", "upgrade", "upgrade"],
+        answers: "NNNNN; flushed 2; upgraded 3; 3: 19 AlreadyUpgraded",
+        slots: [FIVE_PUTS_SLOT, UPGRADED_SLOT],
+        log: &[
+            LEAF_0,
+            LEAF_1,
+            ROOT,
+            SHARED_LEAF_0,
+            SHARED_LEAF_1,
+            SHARED_ROOT,
+        ],
+    },
+    // What wasn't flushed is written by the upgrade, and by flushes after it a leaf that is new and a run.
+    Row {
+        name: "log 15.1, in memory",
+        steps: &["a=1", "upgrade", FIVE_PUTS, "flush", "a=9", "flush"],
+        answers: "N; upgraded 2; RNNNN; flushed 3; R; flushed 4; ",
+        slots: [
+            SlotRow {
+                sequence: 4,
+                tail: 196,
+                ..UPGRADED_SLOT
+            },
+            SlotRow {
+                sequence: 3,
+                tail: 174,
+                ..UPGRADED_SLOT
+            },
+        ],
+        log: &[
+            SHARED_EMPTY_LEAF,
+            A_PUT,
+            SHARED_LEAF_0,
+            SHARED_LEAF_1,
+            SHARED_ROOT,
+            A_PUT_9,
+        ],
+    },
+    // The log has all that the store holds, and all of it is written again.
+    Row {
+        name: "an upgrade of a new store",
+        steps: &["upgrade", "flush"],
+        answers: "upgraded 2; flushed 2; ",
+        slots: [
+            SlotRow {
+                sequence: 2,
+                tail: 50,
+                version: 2,
+                ..FIRST_SLOT
+            },
+            FIRST_SLOT,
+        ],
+        log: &[SHARED_EMPTY_LEAF],
+    },
     // The steps behind one that is refused are not begun.
     Row {
         name: "a refused step",
@@ -443,6 +508,14 @@ static ROWS: [Row; 17] = [
         log: &[A_PUT],
     },
 ];
+
+// The slot after log 15.1.
+pub(crate) const UPGRADED_SLOT: SlotRow = SlotRow {
+    sequence: 3,
+    tail: 238,
+    version: 2,
+    ..FIVE_PUTS_SLOT
+};
 
 pub(crate) const PUT_AGAIN: [&str; 8] = [
     FIVE_PUTS,
@@ -501,13 +574,15 @@ fn write_answers(text: &mut String, answers: &[Answer]) -> Result<(), AllocError
             Answer::Replies(replies) => write_replies(text, replies)?,
             Answer::Flushed(sequence) => write!(text, "flushed {sequence}")?,
             Answer::Cleaned(head) => write!(text, "cleaned {head}")?,
+            Answer::Upgraded(sequence) => write!(text, "upgraded {sequence}")?,
         }
         text.push_str("; ")?;
     }
     Ok(())
 }
 
-// Plays a step, a flush or a clean where the word says so, and else the batch, and appends what it answers. Returns why it is refused.
+// Plays a step, a flush, a clean or an upgrade where the word says so, and else the batch, and appends what it answers. Returns why it is
+// refused.
 fn write_step<D: Disk>(
     rt: &(impl Threads + Sync),
     crew: Crew,
@@ -519,6 +594,7 @@ fn write_step<D: Disk>(
     let step = match word {
         "flush" => Step::Flush,
         "clean" => Step::Clean,
+        "upgrade" => Step::Upgrade,
         _ => Step::Batch(batch),
     };
     match store.play(rt, crew, &NoGate, &[step]) {
@@ -626,6 +702,7 @@ fn bytes_of_slot(slot: &SlotRow) -> [u8; 64] {
     bytes[24..32].copy_from_slice(&slot.tail.to_be_bytes());
     bytes[32..40].copy_from_slice(&slot.root.to_be_bytes());
     bytes[40..44].copy_from_slice(&slot.height.to_be_bytes());
+    bytes[44..48].copy_from_slice(&slot.version.to_be_bytes());
     bytes
 }
 
@@ -691,7 +768,7 @@ fn outcomes_of(rt: &(impl Threads + Sync), crew: Crew, alloc: Global, tries: Tri
 #[test]
 fn the_rows_come_out(rt: HostRuntime) {
     for crew in &crews() {
-        outcomes_of(&rt, *crew, rt.alloc(), Tries::Once).check(&rt, *crew, 17);
+        outcomes_of(&rt, *crew, rt.alloc(), Tries::Once).check(&rt, *crew, 20);
     }
 }
 
@@ -699,7 +776,7 @@ fn the_rows_come_out(rt: HostRuntime) {
 // too (`bench/README.md`). Then at most one row can't be told.
 #[test]
 fn a_refused_step_can_be_tried_again(rt: HostRuntime) {
-    outcomes_of(&rt, ALONE, rt.alloc(), Tries::Twice).check_refused(&rt, ALONE, 17);
+    outcomes_of(&rt, ALONE, rt.alloc(), Tries::Twice).check_refused(&rt, ALONE, 20);
 }
 
 // The bytes from this place on.

@@ -8,7 +8,7 @@ use crate::store::Store;
 use crate::tests::{FIVE_PUTS, S, SEVENTEEN_PUTS, opened};
 use crew::Crew;
 use flush_log::{Disk, MemDisk};
-use keys::Fault;
+use keys::{Fault, Version};
 use std::alloc::Global;
 use std::test::Fail;
 use std::thread::Threads;
@@ -37,7 +37,13 @@ pub(crate) const PUT_AGAIN_STORE: &str = "head 0, tail 310, number 4; root 2, he
     2 low= log=Upto0 index runs=0: =0 c=1\n\
     \x20a=1 b=2 c=3 d=4 e=5; 3 pages, height 2, 5 pairs";
 
-static ROWS: [Row; 10] = [
+pub(crate) const UPGRADED_STORE: &str = "head 0, tail 238, number 3, version 2; root 2, height 2\n\
+    0 low= log=Upto0 leaf runs=0: a=1 b=2\n\
+    1 low=c log=Upto0 leaf runs=0: c=3 d=4 e=5\n\
+    2 low= log=Upto0 index runs=0: =0 c=1\n\
+    \x20a=1 b=2 c=3 d=4 e=5; 3 pages, height 2, 5 pairs";
+
+static ROWS: [Row; 12] = [
     Row {
         name: "log 1",
         steps: &["", "flush"],
@@ -140,6 +146,23 @@ static ROWS: [Row; 10] = [
             sixteen_bytes_k3=sixteen_bytes_v3 sixteen_bytes_k4=sixteen_bytes_v4; \
             1 pages, height 1, 7 pairs",
     },
+    Row {
+        name: "log 15.1",
+        steps: &[FIVE_PUTS, "flush", "upgrade"],
+        flushed: "; flushed 3; ",
+        store: UPGRADED_STORE,
+    },
+    // Frames of both versions tell pages.
+    Row {
+        name: "log 15.1, and a flush more",
+        steps: &[FIVE_PUTS, "flush", "upgrade", "a=9", "flush"],
+        flushed: "; flushed 4; ",
+        store: "head 0, tail 294, number 4, version 2; root 2, height 2\n\
+            0 low= log=Upto1 leaf runs=1: a=9 b=2\n\
+            1 low=c log=Upto0 leaf runs=0: c=3 d=4 e=5\n\
+            2 low= log=Upto0 index runs=0: =0 c=1\n\
+            \x20a=9 b=2 c=3 d=4 e=5; 3 pages, height 2, 5 pairs",
+    },
     // Up to its clean: of page 0 the log has a base and three runs that no longer count.
     Row {
         name: "log 16",
@@ -167,7 +190,11 @@ pub(crate) fn write_store<D: Disk>(
         text.push_str("other settings; ")?;
     }
     let (head, tail, number) = store.head_tail_and_sequence();
-    write!(text, "head {head}, tail {tail}, number {number}; ")?;
+    write!(text, "head {head}, tail {tail}, number {number}")?;
+    if store.version() == Version::Two {
+        text.push_str(", version 2")?;
+    }
+    text.push_str("; ")?;
     let pages = look(alloc, store)?;
     text.push_str(pages.as_str())?;
     let report = store.verify(rt)?;
@@ -278,7 +305,7 @@ fn a_store_comes_back_as_it_was_flushed(rt: HostRuntime) {
         for row in &ROWS {
             outcomes.note(comes_back(&rt, *crew, rt.alloc(), row), row.name);
         }
-        outcomes.check(&rt, *crew, 10);
+        outcomes.check(&rt, *crew, 12);
     }
 }
 

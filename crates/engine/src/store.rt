@@ -244,4 +244,9 @@ impl<D: Disk> Store<D> {
     pub(crate) fn head_tail_and_sequence(&self) -> (u64, u64, u64) {
         (self.log.head, self.log.tail, self.log.sequence)
     }
+
+    // The version of the log.
+    pub(crate) fn version(&self) -> Version {
+        self.version
+    }
 }
