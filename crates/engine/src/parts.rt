@@ -48,6 +48,7 @@ fn faults_print_number_name_and_what_they_carry(rt: HostRuntime) -> Result<(), F
         ),
         (Fault::Spent, "17 Spent"),
         (Fault::DiskTooSmall, "18 DiskTooSmall"),
+        (Fault::AlreadyUpgraded, "19 AlreadyUpgraded"),
     ];
     for fault in &shown {
         assert!(rt; prints(rt.alloc(), &fault.0, fault.1)?, "{}", fault.1);
