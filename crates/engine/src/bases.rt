@@ -1,6 +1,7 @@
 //! Bases as `consolidate` and `take_base` make them, and the keys that they hold.
 use consolidate::{consolidate, put_back, take_base};
 use delta_chain::{Base, BaseBuilder, Chain, PushError, Run};
+use index_page::Page;
 use keys::{Key, Pid, Value};
 use std::alloc::{AllocError, Global};
 use std::test::Fail;
@@ -139,6 +140,24 @@ fn keys_of_each_length_and_an_empty_page_stay_as_they_are(rt: HostRuntime) -> Re
     assert!(rt; long_keys_stay(rt.alloc())?);
     assert!(rt; nothing_stays_nothing(rt.alloc())?);
     assert!(rt; one_stays_one(rt.alloc())?);
+    Ok(())
+}
+
+// Whether an index page of three children has one of them between these bounds, of which the second child's low key is the end.
+fn children_end(alloc: Global) -> Result<bool, PushError> {
+    let mut builder = BaseBuilder::with_capacity(alloc, 3, 2)?;
+    builder.push(b"", Pid(0))?;
+    builder.push(b"c", Pid(1))?;
+    builder.push(b"e", Pid(2))?;
+    let page = Page::bare_index(Key::empty(alloc), builder.finish());
+    let mut children = page.children(b"a", Some(b"c"));
+    let first = children.next();
+    Ok(first == Some((b"", Pid(0))) && children.next().is_none())
+}
+
+#[test]
+fn children_end_where_the_bounds_do(rt: HostRuntime) -> Result<(), Fail> {
+    assert!(rt; children_end(rt.alloc())?);
     Ok(())
 }
 

@@ -241,12 +241,20 @@ fn pids_are(table: &Table<u64, Global>, pids: [u64; 2]) -> bool {
     all.next() == Some(pids[0]) && all.next() == Some(pids[1]) && all.next().is_none()
 }
 
+// Whether the page of this pid alone is at home.
+fn is_alone_at_home(table: &Table<u64, Global>, pid: u64) -> bool {
+    let mut home = table.home_pids();
+    home.next() == Some(pid) && home.next().is_none()
+}
+
 #[test]
 fn a_table_lists_its_pids(rt: HostRuntime) -> Result<(), Fail> {
     let mut table = Table::new(rt.alloc());
     settle(&rt, &mut table, 9, 1)?;
     settle(&rt, &mut table, 5, 2)?;
     assert!(rt; pids_are(&table, [5, 9]));
+    assert_eq!(rt; table.take(9), 1);
+    assert!(rt; is_alone_at_home(&table, 5));
     Ok(())
 }
 
