@@ -64,7 +64,7 @@ pub(crate) const FIVE_PUTS: &str = "a=1 b=2 c=3 d=4 e=5";
 pub(crate) const SEVENTEEN_PUTS: &str =
     "a=1 b=1 c=1 d=1 e=1 f=1 g=1 h=1 i=1 j=1 k=1 l=1 m=1 n=1 o=1 p=1 q=1";
 
-static ROWS: [Row; 17] = [
+static ROWS: [Row; 19] = [
     Row {
         name: "row 4",
         settings: S,
@@ -200,6 +200,38 @@ static ROWS: [Row; 17] = [
             5 low= log=No index runs=1: =0\n\
             6 low=g log=No index runs=0: g=2 k=3 n=4\n\
             7 low= log=No index runs=0: =5 g=6\n",
+    },
+    // A thin leaf between two that stay joins the one on its left.
+    Row {
+        name: "a thin leaf between two",
+        settings: S,
+        batches: &[SEVENTEEN_PUTS, "-k -l -m", "k=1", "-k"],
+        outcome: "NNNNNNNNNNNNNNNNN; DDD; N; D; root 7, height 3\n\
+            0 low= log=Old leaf runs=0: a=1 b=1 c=1\n\
+            1 low=d log=No leaf runs=0: d=1 e=1 f=1\n\
+            2 low=g log=No leaf runs=0: g=1 h=1 i=1 j=1\n\
+            4 low=n log=No leaf runs=0: n=1 o=1 p=1 q=1\n\
+            5 low= log=No index runs=0: =0 d=1\n\
+            6 low=g log=No index runs=1: g=2 n=4\n\
+            7 low= log=No index runs=0: =5 g=6\n",
+    },
+    // Of six leaves five are thin and join the first. Their entries make two, of which the second begins where a freed leaf began.
+    Row {
+        name: "five thin leaves",
+        settings: T,
+        batches: &[
+            "a1=1 a2=1 a3=1 a4=1 a5=1 a6=1 a7=1 b1=1 b2=1 b3=1 b4=1 b5=1 b6=1 b7=1 c1=1 c2=1 \
+            c3=1 c4=1 c5=1 c6=1 c7=1 d1=1 d2=1 d3=1 d4=1 d5=1 d6=1 d7=1 e1=1 e2=1 e3=1 e4=1 \
+            e5=1 e6=1 e7=1 f1=1 f2=1 f3=1 f4=1 f5=1 f6=1 f7=1",
+            "-a5 -a6 -a7 -b2 -b3 -b4 -b5 -b6 -b7 -c2 -c3 -c4 -c5 -c6 -c7 -d2 -d3 -d4 -d5 -d6 \
+            -d7 -e2 -e3 -e4 -e5 -e6 -e7 -f2 -f3 -f4 -f5 -f6 -f7",
+            "b1=2 c1=2 d1=2 e1=2 f1=2",
+        ],
+        outcome: "NNNNNNNNNNNNNNNNNNNNNNNNNNNNNNNNNNNNNNNNNN; DDDDDDDDDDDDDDDDDDDDDDDDDDDDDDDDD; RRRRR; \
+            root 6, height 2\n\
+            0 low= log=Old leaf runs=0: a1=1 a2=1 a3=1 a4=1\n\
+            6 low= log=No index runs=1: =0 b1=7\n\
+            7 low=b1 log=No leaf runs=0: b1=2 c1=2 d1=2 e1=2 f1=2\n",
     },
     // Empty keys and keys that begin alike, on three levels: each goes to its leaf.
     Row {
@@ -558,7 +590,7 @@ fn outcomes_of(
 #[test]
 fn the_rows_come_out(rt: HostRuntime) {
     for crew in &crews() {
-        outcomes_of(&rt, *crew, rt.alloc(), &ROWS, Tries::Once).check(&rt, *crew, 17);
+        outcomes_of(&rt, *crew, rt.alloc(), &ROWS, Tries::Once).check(&rt, *crew, 19);
     }
 }
 
