@@ -29,7 +29,7 @@ use Rattle.recovery.specs.InStep.{IsInStep, IsStore, IsStoreOf}
 use Rattle.recovery.specs.StoreOfDisk.{store_of_disk}
 use Rattle.recovery.proofs.FlushBack.{left, text-some}
 use Rattle.engine.specs.Calls.{after_writing, IsOwnText, IsToWrite, WouldWrite, with_version, IsWriting}
-use Rattle.engine.specs.State.{IsSound, store_in}
+use Rattle.engine.specs.State.{State, IsSound, store_in}
 use Rattle.engine.proofs.CreateLemmas.{slot_with, opened-is}
 
 -- an empty text leaves all
@@ -78,10 +78,24 @@ writes-as (texts.Flush version) s st file own due = ap (λ (v : Version). after_
 writes-as texts.Upgrade s st file own due = ap (λ (v : Version). unless_upgraded v (after_text s (of_version_two st) file (upgrade_text st.tree))) due
 
 -- it has something to write
-pub writes-some : (text : Text) (s : Settings) (st : Store) → IsOwnText text st → IsToWrite text st → IsProper s st.tree
+writes-some : (text : Text) (s : Settings) (st : Store) → IsOwnText text st → IsToWrite text st → IsProper s st.tree
     → ((s : Settings) (t : Tree) → IsProper s t → upgrade_text t ≢ []) → text_of text st.tree ≢ []
 writes-some (texts.Flush version) s st own due proper upgrades = subst (λ (v : Version). flush_text v st.tree ≢ []) (sym own) due
 writes-some texts.Upgrade s st own due proper upgrades = upgrades s st.tree proper
+
+-- this text of this store is to be written
+pub record IsDue (text : Text) (st : Store) : Type 0 where
+  pub own : IsOwnText text st
+  pub due : IsToWrite text st
+  pub some : text_of text st.tree ≢ []
+
+-- of the store in memory
+pub due-of : {D : Type 0} (text : Text) (s : Settings) (x y : State D) → x ≡ y → IsOwnText text y.store → IsToWrite text y.store → IsStore s x.store
+    → ((s : Settings) (t : Tree) → IsProper s t → upgrade_text t ≢ []) → IsDue text x.store
+due-of {D = D} text s x y same own due is upgrades =
+    let here : IsOwnText text x.store = subst (λ (z : State D). IsOwnText text z.store) (sym same) own in
+    let there : IsToWrite text x.store = subst (λ (z : State D). IsToWrite text z.store) (sym same) due in
+    record { own = here; due = there; some = writes-some text s x.store here there is.proper upgrades }
 
 -- Until it is committed it isn't seen.
 abbrev Hides : Text → Settings → Store → Store → List ℕ → List ℕ → List ℕ → Type 0
@@ -128,7 +142,7 @@ reads flushes upgrades texts.Upgrade s st now file bytes is own frames = upgrade
 abbrev BeforeOrAfter : Text → Settings → Store → List ℕ → List ℕ → Type 0
 BeforeOrAfter text s st file c = (store_of_disk c ≡ store_of_disk file) ⊎ ((now : Store) × (after_writing text s st file ≡ Ok (now, c)))
 
-module _ (text : Text) (s : Settings) (st : Store) (own : IsOwnText text st) (due : IsToWrite text st) (some : text_of text st.tree ≢ []) where
+module _ (text : Text) (s : Settings) (st : Store) (is : IsDue text st) where
   abbrev frames : List Frame
   frames = text_of text st.tree
 
@@ -145,26 +159,26 @@ module _ (text : Text) (s : Settings) (st : Store) (own : IsOwnText text st) (du
   now = store_after (flushed st.tree) slot
 
   as_text : (file : List ℕ) → after_writing text s st file ≡ after_text s with_its file frames
-  as_text file = writes-as text s st file own due
+  as_text file = writes-as text s st file is.own is.due
 
   pub writing-refused : (fault : Fault) → next_tail s (slot_of with_its) frames ≡ Err fault → (file : List ℕ) → after_writing text s st file ≡ Err fault
-  writing-refused fault h file = as_text file ∙ text-some s with_its file frames some ∙ commit-refused slot is_full now (committed s file (spans s st.tail frames) slot) fault h
+  writing-refused fault h file = as_text file ∙ text-some s with_its file frames is.some ∙ commit-refused slot is_full now (committed s file (spans s st.tail frames) slot) fault h
 
   module _ (m : CommitPlan) (p : IsWriting text s st m) where
     writing-done : (file : List ℕ) → after_writing text s st file ≡ left now (file_with s (slot_of with_its) frames file)
-    writing-done file = as_text file ∙ text-some s with_its file frames some ∙ commit-admitted slot is_full now (committed s file (spans s st.tail frames) slot) p.unspent p.free
+    writing-done file = as_text file ∙ text-some s with_its file frames is.some ∙ commit-admitted slot is_full now (committed s file (spans s st.tail frames) slot) p.unspent p.free
 
     pub writing-would : (file : List ℕ) → WouldWrite text s st file
-    writing-would file = (due, now, file_with s (slot_of with_its) frames file, writing-done file)
+    writing-would file = (is.due, now, file_with s (slot_of with_its) frames file, writing-done file)
 
     writing-left : (file c : List ℕ) → IsStoreOf s st file → HidesWriting text → LeftOf s (slot_of with_its) frames file c → BeforeOrAfter text s st file c
-    writing-left file c is hidden (inl hid) = inl (hidden s st now file (file_with s (slot_of with_its) frames file) c is own p.spelled.within some (writing-done file) hid)
-    writing-left file c is hidden (inr whole) = inr (now, writing-done file ∙ ap (left now) (sym whole))
+    writing-left file c store hidden (inl hid) = inl (hidden s st now file (file_with s (slot_of with_its) frames file) c store is.own p.spelled.within is.some (writing-done file) hid)
+    writing-left file c store hidden (inr whole) = inr (now, writing-done file ∙ ap (left now) (sym whole))
 
     -- what a crash leaves
     pub writing-crashed : (old new : View) → IsStoreOf s st old.seen → HidesWriting text → LeavesOnly old new (LeftOf s (slot_of with_its) frames old.seen) → LeavesOnly old new (BeforeOrAfter text s st old.seen)
-    writing-crashed old new is hidden run =
-        weaker old new (LeftOf s (slot_of with_its) frames old.seen) (BeforeOrAfter text s st old.seen) (λ c h. writing-left old.seen c is hidden h) run
+    writing-crashed old new store hidden run =
+        weaker old new (LeftOf s (slot_of with_its) frames old.seen) (BeforeOrAfter text s st old.seen) (λ c h. writing-left old.seen c store hidden h) run
 
     -- in memory, where the log is kept as the commit's slot says
     pub written-now : (tree : TreeInMemory) (log : LogEnds) (root height : ℕ) (version : Version) → tree_of tree ≡ flushed st.tree → slot_with log root height version ≡ m.slot → (file : List ℕ)

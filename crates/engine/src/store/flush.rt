@@ -84,6 +84,7 @@ impl<D: Disk> Store<D> {
         requires due { IsToWrite text self.old.store }
         ensures store { IfOk result (λ n. (n ≡ self.new.store.sequence) × ((bytes : Bytes)
             × (after_writing text self.old.settings self.old.store (D.view self.old.disk).seen ≡ Ok (self.new.store, bytes)))) }
+        ensures version { OnOk result (self.new.store.version ≡ version_with text) }
         ensures rest { (self.new.settings ≡ self.old.settings) × Kept (D.view self.old.disk) (D.view self.new.disk) }
 
         // Which fault, and what it leaves.
