@@ -295,6 +295,8 @@ module _ (honest : Bool) (settings : Settings) (st : Store) (seen : List ℕ) (o
   late_by file old new (called.Batch cs) fault other same (inr late) = inl late.0
   late_by file old new called.Flush fault other same (inr (inl memory)) = inl memory.0
   late_by file old new called.Flush fault other same (inr (inr device)) = absurd (other device.0)
+  late_by file old new called.Upgrade fault other same (inr (inl memory)) = inl memory.0
+  late_by file old new called.Upgrade fault other same (inr (inr device)) = absurd (other device.0)
   late_by file old new called.Clean fault other same (inr (several, inl memory)) = inl memory
   late_by file old new called.Clean fault other same (inr (several, inr device)) = absurd (other device.0)
 
