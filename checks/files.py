@@ -134,7 +134,7 @@ MUCH = b"get x\ngo\n" * 60_000  # more replies than a pipe holds
 
 def run_beside(programs: Programs, text: bytes, is_shared: bool) -> Outcome:
     """Starts sessions beside one that holds the file, or that shares it, and once more after that was killed."""
-    sessions = {LOOK: is_shared, b"put b 2\nflush\n": False, b"clean\n": False}
+    sessions = {LOOK: is_shared, b"put b 2\nflush\n": False, b"clean\n": False, b"upgrade\n": False}
     with new_folder() as folder:
         path = Path(folder) / "file"
         make(programs, path, b"put a 1\nflush\n")

@@ -2,7 +2,8 @@
 
 import struct
 from collections.abc import Iterable
-from dataclasses import dataclass
+from os.path import commonprefix
+from dataclasses import dataclass, replace
 
 BEGIN = 512  # where the segments begin
 HEADER = 16  # bytes before a segment's first frame
@@ -34,16 +35,18 @@ class Settings:
 
 @dataclass(frozen=True)
 class Slot:
-    """What a commit leaves: the number of commits, the log from its first segment to behind its last frame, and the tree's root and height."""
+    """What a commit leaves: the number of commits, the log from its first segment to behind its last frame, the tree's root and height, and the
+    version of the log, 0 for the first one and 2 for the second."""
 
     sequence: int
     head: int
     tail: int
     root: int
     height: int
+    version: int = 0
 
     def bytes(self, gate: int = 1) -> bytes:
-        return struct.pack(">B7x4QI20x", gate, self.sequence, self.head, self.tail, self.root, self.height)
+        return struct.pack(">B7x4Q2I16x", gate, self.sequence, self.head, self.tail, self.root, self.height, self.version)
 
     def place(self) -> int:
         return 128 + 64 * (self.sequence % 2)
@@ -66,6 +69,18 @@ def full(kind: int, pid: int, low: bytes, cells: list[tuple[bytes, bytes]]) -> b
     return frame(kind, pid, counted(low) + struct.pack(">H", len(cells)) + entries)
 
 
+def shared_key(key: bytes, before: bytes) -> bytes:
+    """A key by the one before it: how many bytes they share at their beginnings, and the rest."""
+    shared = len(commonprefix([key, before]))
+    return struct.pack(">BB", shared, len(key) - shared) + key[shared:]
+
+
+def shared(kind: int, pid: int, low: bytes, cells: list[tuple[bytes, bytes]]) -> bytes:
+    before = [low, *[key for key, _ in cells]]
+    entries = b"".join(shared_key(key, last) + cell for (key, cell), last in zip(cells, before))
+    return frame(kind, pid, counted(low) + struct.pack(">H", len(cells)) + entries)
+
+
 def delta(kind: int, pid: int, cells: list[tuple[bytes, bytes | None]]) -> bytes:
     changes = b"".join(counted(key) + (b"\0" if cell is None else b"\1" + cell) for key, cell in cells)
     return frame(kind, pid, struct.pack(">H", len(cells)) + changes)
@@ -81,6 +96,14 @@ def delta_leaf(pid: int, changes: dict[bytes, bytes | None]) -> bytes:
 
 def full_index(pid: int, low: bytes, children: dict[bytes, int]) -> bytes:
     return full(3, pid, low, [(key, page_cell(children[key])) for key in sorted(children)])
+
+
+def shared_leaf(pid: int, low: bytes, pairs: dict[bytes, bytes]) -> bytes:
+    return shared(6, pid, low, [(key, counted(pairs[key])) for key in sorted(pairs)])
+
+
+def shared_index(pid: int, low: bytes, children: dict[bytes, int]) -> bytes:
+    return shared(7, pid, low, [(key, page_cell(children[key])) for key in sorted(children)])
 
 
 def delta_index(pid: int, changes: dict[bytes, int | None]) -> bytes:
@@ -105,11 +128,11 @@ def log_of(settings: Settings, frames: Iterable[bytes]) -> list[bytes]:
     return [bytes(segment) for segment in segments]
 
 
-def disk_of(settings: Settings, frames: Iterable[bytes], root: int = 0, height: int = 1) -> bytes:
+def disk_of(settings: Settings, frames: Iterable[bytes], root: int = 0, height: int = 1, version: int = 0) -> bytes:
     """A disk whose log has these frames from its first segment on, and was committed once."""
     log = log_of(settings, frames)
     tail = (len(log) - 1) * settings.seg_size + len(log[-1])
-    slot = Slot(1, 0, tail, root, height)
+    slot = Slot(1, 0, tail, root, height, version)
     disk = bytearray(settings.disk_length())
     disk[:64] = settings.block()
     disk[slot.place() : slot.place() + 64] = slot.bytes()
@@ -118,7 +141,23 @@ def disk_of(settings: Settings, frames: Iterable[bytes], root: int = 0, height: 
     return bytes(disk)
 
 
-def fitting_disk(frames: list[bytes], root: int = 0, height: int = 1) -> bytes:
+def fitting_disk(frames: list[bytes], root: int = 0, height: int = 1, version: int = 0, settings: Settings = Settings()) -> bytes:
     """A disk that is not much longer than its log: it has two segments free, one for a flush and one for a clean."""
-    used = len(log_of(Settings(), frames))
-    return disk_of(Settings(segments=used + 2), frames, root, height)
+    used = len(log_of(settings, frames))
+    return disk_of(replace(settings, segments=used + 2), frames, root, height, version)
+
+
+def appended(settings: Settings, disk: bytes, slot: Slot, frames: Iterable[bytes], version: int) -> bytes:
+    """The disk once these frames are committed behind the log that the slot tells, with its tree as it is. At least one segment stays free."""
+    now, at = bytearray(disk), slot.tail
+    for each in frames:
+        segment, offset = at // settings.seg_size, at % settings.seg_size
+        if offset and offset + len(each) > settings.seg_size:
+            now[settings.place(segment) + offset : settings.place(segment) + settings.seg_size] = bytes(settings.seg_size - offset)
+            segment, offset = segment + 1, 0
+        written = each if offset else header(segment) + each
+        now[settings.place(segment) + offset : settings.place(segment) + offset + len(written)] = written
+        at = segment * settings.seg_size + offset + len(written)
+    after = replace(slot, sequence=slot.sequence + 1, tail=at, version=version)
+    now[after.place() : after.place() + 64] = after.bytes()
+    return bytes(now)

@@ -2,15 +2,15 @@
 
 import random
 from collections.abc import Callable
-from dataclasses import dataclass
+from dataclasses import dataclass, replace
 from itertools import islice
 from pathlib import Path
 
 from checks.files import holding
-from checks.forge import HEADER, Settings, delta_index, delta_leaf, disk_of, fitting_disk, free, full_index, full_leaf
+from checks.forge import HEADER, Settings, counted, delta_index, delta_leaf, disk_of, fitting_disk, frame, free, full_index, full_leaf, shared_index, shared_leaf
 from checks.harness import MEGABYTE, SLOW, Case, Outcome, Programs, Ran, differs, most_memory, new_folder, run
 from checks.ids import colliding_ids
-from checks.rules import LOOK, ending_of, look_of
+from checks.rules import LOOK, ending_of, look_of, settings_of, slot_of
 
 DEEP = 200_000  # runs of a page
 RUN = 80  # bytes that a run takes in its page
@@ -20,22 +20,27 @@ LEAVES = 61_680  # empty leaves, a mebibyte of their frames
 SLOT, SLOTS = 256, 65_536  # bytes that a page takes in its table, and how many of them have room in that of so many leaves, which doubles
 TIMES = 10  # the most memory that a disk may take beyond what its pages take, by its own length
 DAMAGED, PARTS = 400, 8
+WIDE = Settings(fan=64, max_key=255)  # where keys that share beginnings are longest beside the bytes that spell them
+KEYS, LONGEST = 64, 255  # such keys of a base, and their bytes
+SLOWER, LEAST = 2, 0.05  # how many times slower a log of such bases may be read than one of whole keys, and seconds that are let pass at all
 
 EMPTY = full_leaf(0, b"", {})
 ONE_PAIR = full_leaf(0, b"", {b"a": b"1"})
+SHARED_PAIR = shared_leaf(0, b"", {b"a": b"1"})
+LONG_KEYS = 60 * MEGABYTE  # what a megabyte of bases takes whose keys are longest, since each is kept whole
 TOO_DEEP = b"fault 16 BadStructure 7 %d\n"  # rule 7: the depth is above chain
 NO_STORE = (4, b"", b"fault 12 NotAStore\n")
 
 
 @dataclass(frozen=True)
 class Disk:
-    """A disk, and how a session that looks at it must end, print and say. One that is a store is cleaned too."""
+    """A disk, and how a session that looks at it must end, print and say. One that is a store is cleaned too, and upgraded."""
 
     name: str
     made: Callable[[], bytes]
     ending: tuple[int, bytes, bytes]
     words: tuple[str, ...] = ()
-    is_cleaned: bool = False
+    is_store: bool = False
     pages: int = 0  # bytes of memory that its pages take by themselves
 
 
@@ -90,6 +95,29 @@ def many_segments() -> bytes:
     return disk_of(settings, [*[wide] * 65_533, ONE_PAIR])
 
 
+def key_of(number: int, length: int) -> bytes:
+    """A key of this length, whose last byte alone tells it from others."""
+    return b"k" * (length - 1) + bytes([number])
+
+
+def many_bases(leaf: Callable[..., bytes], length: int) -> list[bytes]:
+    """A megabyte of leaves that no tree reaches, with as many keys as may be, of this length and without values."""
+    pairs = {key_of(number, length): b"" for number in range(KEYS)}
+    count = MEGABYTE // len(leaf(0, b"", pairs))
+    return [leaf(pid, b"", pairs) for pid in range(1, count + 1)]
+
+
+def long_keys() -> bytes:
+    """Leaves that take fifty times their frames, since each key shares all but its last byte with the one before."""
+    return fitting_disk([ONE_PAIR, *many_bases(shared_leaf, LONGEST)], version=2, settings=WIDE)
+
+
+def long_keys_again() -> bytes:
+    """As many bases of one page, of which the last one alone lives."""
+    again = many_bases(shared_leaf, LONGEST)
+    return fitting_disk([again[0]] * len(again) + [shared_leaf(1, b"", {b"a": b"1"})], root=1, version=2, settings=WIDE)
+
+
 def byte_short() -> bytes:
     return disk_of(Settings(), [ONE_PAIR])[:-1]
 
@@ -107,14 +135,17 @@ DISKS = [
     Disk(f"{DEEP:,} runs of a leaf, four workers", deep_leaf, (4, b"", TOO_DEEP % 0), ("--workers", "4"), pages=ROOM),
     Disk(f"{DEEP:,} runs of an index page", deep_index, (4, b"", TOO_DEEP % 2), pages=ROOM),
     Disk(f"{DEEP:,} runs of eight leaves", deep_leaves, (4, b"", TOO_DEEP % 0), pages=ROOM),
-    Disk(f"a leaf that is whole again after {DEEP:,} runs", whole_again, ONE_ROW, is_cleaned=True),
-    Disk(f"{MANY:,} free frames with colliding ids", colliding, ONE_ROW, is_cleaned=True),
-    Disk(f"{MANY:,} free frames with colliding ids, four workers", colliding, ONE_ROW, ("--workers", "4"), is_cleaned=True),
-    Disk(f"{MANY:,} free frames with rising ids", rising, ONE_ROW, is_cleaned=True),
-    Disk(f"{MANY:,} runs without a base, with colliding ids", colliding_runs, ONE_ROW, is_cleaned=True),
+    Disk(f"a leaf that is whole again after {DEEP:,} runs", whole_again, ONE_ROW, is_store=True),
+    Disk(f"{MANY:,} free frames with colliding ids", colliding, ONE_ROW, is_store=True),
+    Disk(f"{MANY:,} free frames with colliding ids, four workers", colliding, ONE_ROW, ("--workers", "4"), is_store=True),
+    Disk(f"{MANY:,} free frames with rising ids", rising, ONE_ROW, is_store=True),
+    Disk(f"{MANY:,} runs without a base, with colliding ids", colliding_runs, ONE_ROW, is_store=True),
     Disk(f"{LEAVES:,} empty leaves that no tree reaches", empty_leaves, (4, b"", b"fault 16 BadStructure 10 1\n"), pages=SLOT * SLOTS),
     Disk(f"{LEAVES:,} empty leaves, four workers", empty_leaves, (4, b"", b"fault 16 BadStructure 10 1\n"), ("--workers", "4"), pages=SLOT * SLOTS),
-    Disk("a log of 65,534 segments", many_segments, ONE_ROW, is_cleaned=True),
+    Disk("a log of 65,534 segments", many_segments, ONE_ROW, is_store=True),
+    Disk("leaves of long keys that share beginnings", long_keys, (4, b"", b"fault 16 BadStructure 10 1\n"), pages=LONG_KEYS),
+    Disk("leaves of long keys, four workers", long_keys, (4, b"", b"fault 16 BadStructure 10 1\n"), ("--workers", "4"), pages=LONG_KEYS),
+    Disk("a leaf of long keys that is whole again and again", long_keys_again, ONE_ROW, is_store=True),
     Disk("zeros", lambda: bytes(MEGABYTE), NO_STORE),
     Disk("bytes 0xff", lambda: b"\xff" * MEGABYTE, NO_STORE),
     Disk("an empty file", lambda: b"", NO_STORE),
@@ -151,10 +182,16 @@ def looked_at(command: list, path: Path, disk: bytes, ending: tuple[int, bytes, 
     return ran, wrong or (None if path.read_bytes() == disk else "the session wrote to the file that it only read")
 
 
-def cleaned(command: list, path: Path, ending: tuple[int, bytes, bytes]) -> tuple[Ran, str | None]:
-    """How a clean of the disk's first segment ran, and what is wrong with it, or with what the next session sees."""
-    ran = run([*command, "--disk", path], b"clean\n")
-    return ran, differs(ran, 0, b"cleaned 1\n") or differs(run([*command, "--disk", path], LOOK), *ending)
+def written(command: list, path: Path, line: bytes, printed: bytes, ending: tuple[int, bytes, bytes]) -> tuple[Ran, str | None]:
+    """How a session ran that writes to the disk by this line, and what is wrong with it, or with what the next session sees."""
+    ran = run([*command, "--disk", path], line)
+    return ran, differs(ran, 0, printed) or differs(run([*command, "--disk", path], LOOK), *ending)
+
+
+def rewritten(made: bytes) -> list[tuple[str, bytes, bytes]]:
+    """What is done to a disk that is a store: what it is called, its line, and what is printed. It was committed once, and cleaned then."""
+    upgrade = ("upgraded", b"upgrade\n", b"upgraded 3\n")
+    return [("cleaned", b"clean\n", b"cleaned 1\n"), *([] if slot_of(made, settings_of(made)).version else [upgrade])]
 
 
 def look_at(programs: Programs, number: int) -> Outcome:
@@ -167,11 +204,58 @@ def look_at(programs: Programs, number: int) -> Outcome:
         ran, wrong = looked_at(command, path, made, disk.ending)
         measured = f"{len(made) / MEGABYTE:.1f} MB: {ran.seconds:.2f} s, {ran.memory / MEGABYTE:.1f} MB (a small store {least / MEGABYTE:.1f})"
         wrong = wrong or too_dear(ran, least + disk.pages, len(made))
-        if wrong is None and disk.is_cleaned:
-            clean, wrong = cleaned(command, path, disk.ending)
-            measured += f"; cleaned in {clean.seconds:.2f} s, {clean.memory / MEGABYTE:.1f} MB"
-            wrong = wrong or too_dear(clean, least + disk.pages, len(made))
+        for name, line, printed in rewritten(made) if disk.is_store else []:
+            if wrong is None:
+                ran, wrong = written(command, path, line, printed, disk.ending)
+                measured += f"; {name} in {ran.seconds:.2f} s, {ran.memory / MEGABYTE:.1f} MB"
+                wrong = wrong or too_dear(ran, least + disk.pages, len(made))
         return Outcome(wrong, measured=measured)
+
+
+def compare_times(programs: Programs) -> Outcome:
+    """Whether a megabyte of bases whose keys share beginnings is read as fast as one of whole keys, each of which is a byte."""
+    with new_folder() as folder:
+        seconds = []
+        for leaf, length in ((full_leaf, 1), (shared_leaf, 1), (shared_leaf, LONGEST)):
+            path = Path(folder) / "disk"
+            path.write_bytes(fitting_disk([ONE_PAIR, *many_bases(leaf, length)], version=2, settings=WIDE))
+            seconds.append(min(run([programs.store, "--disk", path], LOOK).seconds for _ in range(5)))
+        measured = f"{seconds[0]:.3f} s with whole keys of a byte, {seconds[1]:.3f} and {seconds[2]:.3f} s with shared ones of 1 and {LONGEST}"
+        return Outcome(measured if max(seconds) > SLOWER * seconds[0] + LEAST else None, measured=measured)
+
+
+# Bytes of a base of version 2 that are no frame where keys have 16 bytes at most: what is wrong, the low key, the count, and the entries of a leaf.
+NO_BASES = [
+    ("a first key that shares more than its low key", b"ab", 1, "03 01 63 0000"),
+    ("a first key that shares fewer bytes than it could", b"ab", 1, "01 02 62 63 0000"),
+    ("a key that shares more than the one before", b"", 2, "00 02 6162 0000 03 01 63 0000"),
+    ("a key that shares fewer bytes than it could", b"", 2, "00 02 6162 0000 01 02 6263 0000"),
+    ("a key twice", b"", 2, "00 02 6162 0000 02 00 0000"),
+    ("a key that falls", b"", 2, "00 02 6162 0000 01 01 61 0000"),
+    ("a key that begins the one before", b"", 2, "00 02 6162 0000 01 00 0000"),
+    ("a key of 17 bytes", b"a" * 16, 1, "10 01 61 0000"),
+    ("a rest of 255 bytes", b"", 1, "00 ff" + "61" * 255 + "0000"),
+    ("a rest that is cut off", b"", 1, "00 05 61"),
+    ("five entries", b"", 5, "00 01 61 0000 00 01 62 0000 00 01 63 0000 00 01 64 0000 00 01 65 0000"),
+    ("a value of 17 bytes", b"", 1, "00 01 61 0011" + "00" * 17),
+]
+
+
+def refuse_frames(programs: Programs) -> Outcome:
+    """Whether frames of version 2 that are none are refused at their places, whatever stands behind them; and frames of its kinds in a log of version 1."""
+    refused = [(what, frame(6, 0, counted(low) + count.to_bytes(2, "big") + bytes.fromhex(entries)), 2) for what, low, count, entries in NO_BASES]
+    refused += [("a shared leaf in a log of version 1", SHARED_PAIR, 0), ("a shared index page there", shared_index(0, b"", {b"": 1}), 0)]
+    refused += [("a frame of kind 8", frame(8, 0), 2), ("a shared leaf that is read as an index page", b"\7" + SHARED_PAIR[1:], 2)]
+    with new_folder() as folder:
+        path, at = Path(folder) / "disk", HEADER + len(ONE_PAIR)
+        for what, bad, version in refused:
+            for behind in ([], [ONE_PAIR], [bad], [b"\0" * 9], [b"\xff" * 20]):
+                disk = disk_of(replace(SMALL, seg_size=1024), [ONE_PAIR, bad + b"".join(behind)], version=version)
+                path.write_bytes(disk)
+                _, wrong = looked_at([programs.store], path, disk, (4, b"", b"fault 15 BadFrame 0 %d\n" % at))
+                if wrong or ending_of(disk)[2] != b"fault 15 BadFrame 0 %d\n" % at:
+                    return Outcome(f"{what}: {wrong or 'the rules read it'}")
+    return Outcome(measured=f"{len(refused)} frames")
 
 
 # Frames, and their bytes as the examples of docs/FORMAT.md have them.
@@ -183,6 +267,10 @@ EXAMPLES = [
     (full_index(2, b"", {b"": 0, b"c": 1}), "03 00000021 0000000000000002 0000 0002 0000 0000000000000000 0001 63 0000000000000001"),
     (delta_index(5, {b"d": None}), "04 0000000e 0000000000000005 0001 0001 64 00"),
     (free(1), "05 00000008 0000000000000001"),
+    (shared_leaf(0, b"", {b"a": b"1", b"b": b"2"}), "06 00000018 0000000000000000 0000 0002 00 01 61 0001 31 00 01 62 0001 32"),
+    (shared_leaf(1, b"c", {b"c": b"3", b"d": b"4", b"e": b"5"}), "06 0000001e 0000000000000001 0001 63 0003 01 00 0001 33 00 01 64 0001 34 00 01 65 0001 35"),
+    (shared_index(2, b"", {b"": 0, b"c": 1}), "07 00000021 0000000000000002 0000 0002 00 00 0000000000000000 00 01 63 0000000000000001"),
+    (shared_leaf(0, b"ab", {b"abc": b"", b"abcd": b"", b"abd": b""}), "06 0000001d 0000000000000000 0002 6162 0003 02 01 63 0000 03 01 64 0000 02 01 64 0000"),
 ]
 
 
@@ -195,22 +283,26 @@ def spell() -> Outcome:
 SMALL = Settings(fan=4, chain=3, max_key=16, max_value=16, seg_size=256, segments=16)
 
 
-def small_leaf(chance: random.Random, pid: int, low: bytes) -> list[bytes]:
-    """The frames of a leaf whose keys begin as its low key, and runs on it."""
-    keys = [low + bytes([byte]) for byte in chance.sample(range(256), 6)]
+def small_leaf(chance: random.Random, pid: int, low: bytes, end: bytes, leaf: Callable[..., bytes]) -> list[bytes]:
+    """The frames of a leaf whose keys begin as its low key, and runs on it. A few keys are beyond its end."""
+    drawn = [low + bytes([byte]) * chance.choice([1, 1, 2]) for byte in chance.sample(range(256), 6)]
+    keys = [low, *[key for key in drawn if key < end or chance.random() < 0.01]]
     pairs = {key: chance.randbytes(chance.randrange(4)) for key in keys[: chance.randrange(5)]}
     runs = [{chance.choice(keys): chance.choice([None, b"", b"new"])} for _ in range(chance.randrange(4))]
-    return [full_leaf(pid, low, pairs), *[delta_leaf(pid, run) for run in runs]]
+    return [leaf(pid, low, pairs), *[delta_leaf(pid, run) for run in runs]]
 
 
-def small_tree(chance: random.Random) -> bytes:
-    """A disk with a tree of three levels and what older pages have left. The runs of a page stay behind its base."""
-    lows = [b"", b"c", b"f", b"k", b"p", b"t"]
-    pages = [small_leaf(chance, pid, low) for pid, low in enumerate(lows)]
-    pages += [[full_index(6, b"", dict(zip(lows[:3], range(3))))], [full_index(7, b"k", dict(zip(lows[3:], range(3, 6))))]]
-    pages += [[full_index(8, b"", {b"": 6, b"k": 7})], [full_leaf(9, b"", {}), free(9)], [delta_leaf(10, {b"a": None})]]
+def small_tree(chance: random.Random, version: int) -> bytes:
+    """A disk with a tree of three levels and what older pages have left. The runs of a page stay behind its base. In a log of version 2 some
+    bases have whole keys, as an older one left them."""
+    leaves, indexes = ([full_leaf, shared_leaf], [full_index, shared_index]) if version else ([full_leaf], [full_index])
+    lows = [b"", b"c", b"cf", b"k", b"kk", b"t"]
+    ends = [*lows[1:], b"\xff" * 9]
+    pages = [small_leaf(chance, pid, low, end, chance.choice(leaves)) for pid, (low, end) in enumerate(zip(lows, ends))]
+    pages += [[chance.choice(indexes)(6, b"", dict(zip(lows[:3], range(3))))], [chance.choice(indexes)(7, b"k", dict(zip(lows[3:], range(3, 6))))]]
+    pages += [[chance.choice(indexes)(8, b"", {b"": 6, b"k": 7})], [chance.choice(leaves)(9, b"", {}), free(9)], [delta_leaf(10, {b"a": None})]]
     chance.shuffle(pages)
-    return disk_of(SMALL, [each for page in pages for each in page], root=8, height=3)
+    return disk_of(SMALL, [each for page in pages for each in page], root=8, height=3, version=version)
 
 
 def damage(chance: random.Random, disk: bytes) -> bytes:
@@ -229,7 +321,7 @@ def look_at_damaged(programs: Programs, part: int) -> Outcome:
     chance, stores = random.Random(part), 0
     with new_folder() as folder:
         for number in range(DAMAGED // PARTS):
-            disk = damage(chance, small_tree(chance))
+            disk = damage(chance, small_tree(chance, chance.choice([0, 2])))
             path = Path(folder) / f"disk{number}"
             path.write_bytes(disk)
             ending = ending_of(disk)
@@ -240,7 +332,34 @@ def look_at_damaged(programs: Programs, part: int) -> Outcome:
     return Outcome(measured=f"{DAMAGED // PARTS} disks, of which {stores} are stores")
 
 
+def small_store() -> bytes:
+    """A disk of version 2 with bases of all kinds and runs."""
+    frames = [shared_leaf(0, b"", {b"a": b"1", b"aa": b"2"}), delta_leaf(0, {b"aaa": b"3", b"a": None}), shared_leaf(1, b"ab", {b"ab": b"", b"abc": b"5"})]
+    frames += [full_leaf(2, b"abd", {b"abd": b"6"}), shared_index(3, b"", {b"": 0, b"ab": 1}), delta_index(3, {b"abd": 2}), free(4)]
+    return disk_of(SMALL, frames, root=3, height=2, version=2)
+
+
+def change_each_byte(programs: Programs, part: int) -> Outcome:
+    """Looks at a disk of version 2 with one byte changed, for each byte that is looked at, and several changes."""
+    disk, stores, count = small_store(), 0, 0
+    places = [*range(64), *range(128, 256), *range(512, len(disk.rstrip(b"\0")) + 2)]
+    with new_folder() as folder:
+        path = Path(folder) / "disk"
+        for at in places[part::PARTS]:
+            for byte in {0, 1, 2, 3, 255, disk[at] ^ 1, disk[at] + 1 & 255} - {disk[at]}:
+                changed = disk[:at] + bytes([byte]) + disk[at + 1 :]
+                path.write_bytes(changed)
+                ending = ending_of(changed)
+                stores, count = stores + (ending[0] == 0), count + 1
+                _, wrong = looked_at([programs.store], path, changed, ending)
+                if wrong:
+                    return Outcome(f"byte {at} as {byte}: {wrong}")
+    return Outcome(measured=f"{count} disks, of which {stores} are stores")
+
+
 def cases(programs: Programs) -> list[Case]:
     forged = [Case(disk.name, look_at, (programs, number)) for number, disk in enumerate(DISKS)]
     damaged = [Case(f"damaged disks, part {part + 1} of {PARTS}", look_at_damaged, (programs, part)) for part in range(PARTS)]
-    return [Case("the frames of docs/FORMAT.md", spell), *forged, *damaged]
+    changed = [Case(f"each byte of a disk of version 2 changed, part {part + 1} of {PARTS}", change_each_byte, (programs, part)) for part in range(PARTS)]
+    frames = [Case("the frames of docs/FORMAT.md", spell), Case("frames of version 2 that are none", refuse_frames, (programs,))]
+    return [*frames, *forged, *damaged, *changed, Case("whole keys and shared ones, a megabyte of each", compare_times, (programs,))]

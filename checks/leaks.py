@@ -1,4 +1,4 @@
-"""A session under valgrind, which leaks nothing: it cuts and merges leaves, so pages are dropped by one worker and by several."""
+"""A session under valgrind, which leaks nothing: it cuts and merges leaves, so pages are dropped by one worker and by several, and upgrades its log."""
 
 import random
 import shutil
@@ -19,8 +19,8 @@ def leak(programs: Programs, workers: int) -> Outcome:
     text, printed = drawn_batches(random.Random(workers), batches=8, most=120, keys=400)
     with new_folder() as folder:
         words = [*SETTINGS, "--workers", str(workers), "--create", "--disk", Path(folder) / "file"]
-        ran = subprocess.run([*VALGRIND, programs.store, *words], input=text + b"flush\nverify\n", capture_output=True, timeout=PATIENCE)
-    if ran.returncode or not ran.stdout.startswith(printed + b"flushed 2\nok "):
+        ran = subprocess.run([*VALGRIND, programs.store, *words], input=text + b"flush\nupgrade\nverify\n", capture_output=True, timeout=PATIENCE)
+    if ran.returncode or not ran.stdout.startswith(printed + b"flushed 2\nupgraded 3\nok "):
         return Outcome(f"status {ran.returncode}, printed {shortened(ran.stdout)}, said {ran.stderr.decode(errors='replace')[:2000]}")
     return Outcome()
 

@@ -2,13 +2,17 @@
 
 import struct
 from dataclasses import dataclass
+from os.path import commonprefix
 
 from checks.forge import HEADER, MOST, Settings, Slot, header
 
-LEAVES = (1, 2)
-FULL = (1, 3)
+LEAVES = (1, 2, 6)
+FULL = (1, 3, 6, 7)
+SHARED = (6, 7)
+RUNS = {1: 2, 6: 2, 3: 4, 7: 4, 5: None}  # of which kind the frames of runs are that may stand behind a frame of a kind
 DELTAS = (2, 4)
 FREE = 5
+KINDS = {0: range(1, 6), 2: range(1, 8)}  # that a log knows, by the number of its version
 LIMITS = ((4, 64), (1, 16), (1, 255), (0, 1024), (256, 1_048_576), (3, 65_536))
 
 
@@ -45,12 +49,12 @@ class Page:
 
 @dataclass
 class Store:
-    """A store: its pairs in the order of their keys, and what a report says of its pages and its levels."""
+    """A store: its pairs in the order of their keys, what a report says of its pages and its levels, and its slot."""
 
     pairs: list[tuple[bytes, bytes]]
     pages: int
     height: int
-    sequence: int
+    slot: Slot
 
 
 class NoFrame(Exception):
@@ -98,7 +102,7 @@ def slot_at(disk: bytes, number: int, settings: Settings) -> Slot | None:
     text = disk[128 + 64 * number : 192 + 64 * number]
     if text[0] != 1:
         return None
-    slot = Slot(*struct.unpack_from(">4QI", text, 8))
+    slot = Slot(*struct.unpack_from(">4Q2I", text, 8))
     offset = slot.tail % settings.seg_size
     tests = [
         slot.bytes() == text,
@@ -107,6 +111,7 @@ def slot_at(disk: bytes, number: int, settings: Settings) -> Slot | None:
         offset == 0 or offset > HEADER,
         (slot.tail - 1) // settings.seg_size < slot.head + settings.segments,
         1 <= slot.height <= 64,
+        slot.version in KINDS,
     ]
     if not all(tests):
         raise Refused("fault 13 NoSlot")
@@ -124,13 +129,24 @@ def cell_in(reader: Reader, kind: int, settings: Settings) -> bytes | int:
     return reader.counted(settings.max_value) if kind in LEAVES else reader.number(8)
 
 
-def cells_in(reader: Reader, kind: int, settings: Settings) -> list[tuple[bytes, bytes | int | None]]:
+def key_in(reader: Reader, kind: int, before: bytes, settings: Settings) -> bytes:
+    """A key: its bytes; or, where keys share beginnings, how many it has in common with the one before, no fewer and no more, and its rest."""
+    if kind not in SHARED:
+        return reader.counted(settings.max_key)
+    shared, length = reader.number(1), reader.number(1)
+    key = before[:shared] + reader.take(length)
+    if len(commonprefix([key, before])) != shared or len(key) > settings.max_key:
+        raise NoFrame
+    return key
+
+
+def cells_in(reader: Reader, kind: int, low: bytes, settings: Settings) -> list[tuple[bytes, bytes | int | None]]:
     count = reader.number(2)
     if count > settings.fan or count == 0 and kind in DELTAS:
         raise NoFrame
-    cells = []
+    cells: list[tuple[bytes, bytes | int | None]] = []
     for _ in range(count):
-        key = reader.counted(settings.max_key)
+        key = key_in(reader, kind, cells[-1][0] if cells else low, settings)
         flag = reader.number(1) if kind in DELTAS else 1
         if flag > 1 or cells and key <= cells[-1][0]:
             raise NoFrame
@@ -138,22 +154,22 @@ def cells_in(reader: Reader, kind: int, settings: Settings) -> list[tuple[bytes,
     return cells
 
 
-def frame_at(text: bytes, at: int, end: int, settings: Settings) -> tuple[Frame, int]:
+def frame_at(text: bytes, at: int, end: int, version: int, settings: Settings) -> tuple[Frame, int]:
     """The frame at a place of a segment, and where the next begins."""
     reader = Reader(text, at, end)
     kind, length = reader.number(1), reader.number(4)
     reader = Reader(text, reader.at, reader.at + length)
-    if not 1 <= kind <= FREE or reader.end > end:
+    if kind not in KINDS[version] or reader.end > end:
         raise NoFrame
     pid = reader.number(8)
     low = reader.counted(settings.max_key) if kind in FULL else b""
-    cells = cells_in(reader, kind, settings) if kind != FREE else []
+    cells = cells_in(reader, kind, low, settings) if kind != FREE else []
     if reader.at != reader.end:
         raise NoFrame
     return Frame(kind, pid, low, cells), reader.end
 
 
-def frames_of(text: bytes, number: int, end: int, is_last: bool, settings: Settings) -> list[Frame]:
+def frames_of(text: bytes, number: int, end: int, is_last: bool, version: int, settings: Settings) -> list[Frame]:
     """The frames of a segment, up to its end or the log's."""
     if text[:HEADER] != header(number):
         raise Refused(f"fault 14 BadSegment {number}")
@@ -162,7 +178,7 @@ def frames_of(text: bytes, number: int, end: int, is_last: bool, settings: Setti
         if text[at] == 0 and not is_last and not any(text[at:]):
             break
         try:
-            found, at = frame_at(text, at, end, settings)
+            found, at = frame_at(text, at, end, version, settings)
         except NoFrame:
             raise Refused(f"fault 15 BadFrame {number} {at}") from None
         frames.append(found)
@@ -174,7 +190,7 @@ def log_of(disk: bytes, slot: Slot, settings: Settings) -> list[Frame]:
     for number in range(slot.head, last + 1):
         place = settings.place(number)
         end = slot.tail - last * settings.seg_size if number == last else settings.seg_size
-        frames += frames_of(disk[place : place + settings.seg_size], number, end, number == last, settings)
+        frames += frames_of(disk[place : place + settings.seg_size], number, end, number == last, slot.version, settings)
     return frames
 
 
@@ -184,7 +200,7 @@ def page_by_log(frames: list[Frame], pid: int) -> Page | None:
     if not starts:
         return None
     first, *runs = frames[starts[-1] :]
-    if any(run.kind != first.kind + 1 for run in runs):
+    if any(run.kind != RUNS[first.kind] for run in runs):
         raise Refused(f"fault 16 BadStructure 1 {pid}")
     return None if first.kind == FREE else Page(first, runs)
 
@@ -254,7 +270,7 @@ def store_of_disk(disk: bytes) -> Store:
     pages = pages_of(log_of(disk, slot, settings))
     leaves = leaves_of(pages, slot, settings)
     pairs = [pair for leaf in leaves for pair in leaf.entries()]
-    return Store(pairs, len(pages), slot.height, slot.sequence)
+    return Store(pairs, len(pages), slot.height, slot)
 
 
 def token(text: bytes) -> bytes:

@@ -28,6 +28,7 @@ SESSIONS = [
     Session("a session that only reads", (), LOOK, (0, OLD_LOOK, b"")),
     Session("a session without a line", (), b"", (0, b"", b"")),
     Session("a clean that is refused", (), b"clean\n", (4, b"", b"fault 11 NothingToClean\n")),
+    Session("a session that upgrades", (), b"put c 4\nupgrade\n", (0, b"new\nupgraded 4\n", b"")),
     Session("a bad line", (), b"x\n", (3, b"", b"line 1: unknown command\n")),
     Session("--create over the file", ("--create",), b"put d 5\nflush\n", (0, b"new\nflushed 2\n", b"")),
 ]

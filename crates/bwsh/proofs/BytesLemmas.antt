@@ -7,18 +7,20 @@ use Rattle.std.specs.declared.alloc.Global.{Global}
 use Rattle.std.proofs.lemmas.List.Elements.{recursion_from_All}
 use Rattle.keys.specs.declared.fault.Fault.{Fault}
 use Rattle.keys.specs.declared.settings.Settings.{Settings}
+use Rattle.keys.specs.declared.version.Version.{Version}
+use Rattle.keys.specs.declared.version.Version.TheVariants.{One, Two}
 use Rattle.mapping.specs.Tree.{Store}
-use Rattle.flush_log.specs.AfterFlush.{after_text, flush_commit, file_after, store_after, is_spent}
-use Rattle.flush_log.specs.FlushText.{flush_text, flushed}
+use Rattle.flush_log.specs.AfterFlush.{after_text, of_version_two, unless_upgraded, flush_commit, file_after, store_after, is_spent}
+use Rattle.flush_log.specs.FlushText.{flush_text, upgrade_text, flushed}
 use Rattle.flush_log.specs.Layout.{is_full_for_flush}
 use Rattle.engine.specs.Steps.{Step, Answer, Stepped, unless_refused, after_step, batching}
 use Rattle.bwsh.specs.declared.batch_file.Order.{Order}
-use Rattle.bwsh.specs.declared.batch_file.Order.TheVariants.{Batch, Flush, Clean, Verify}
+use Rattle.bwsh.specs.declared.batch_file.Order.TheVariants.{Batch, Flush, Clean, Upgrade, Verify}
 use Rattle.bwsh.specs.declared.session.Ending.TheVariants as endings
 use Rattle.bwsh.specs.BatchFile.{IsNoClean}
 use Rattle.bwsh.specs.Session.{Stored, Reads, later, AreLeft, step_in, left_by, refused_by, behind_step, refusal_of_step, behind, refusal_of, map_behind, own_lines, answer_lines, accepted, first_refusal, orders_end, stopped_by}
-use Rattle.bwsh.specs.Shown.{shown_flushed, shown_cleaned}
-use Rattle.bwsh.proofs.RunLemmas.{flush_answer, committed_unless}
+use Rattle.bwsh.specs.Shown.{shown_flushed, shown_cleaned, shown_upgraded}
+use Rattle.bwsh.proofs.RunLemmas.{of_flush, of_upgrade, answering, committed_unless}
 
 -- ---- a step
 
@@ -31,10 +33,24 @@ batch-same : (o : Option Fault) (a : Answer Global) (st : Store) (f g : List ℕ
 batch-same None a st f g = refl
 batch-same (Some fault) a st f g = refl
 
-commit-same : (spent full : Bool) (now : Store) (f g : List ℕ) → without_bytes (flush_answer (committed_unless spent full now f)) ≡ without_bytes (flush_answer (committed_unless spent full now g))
-commit-same true full now f g = refl
-commit-same false true now f g = refl
-commit-same false false now f g = refl
+commit-same : (say : Store → Answer Global) (spent full : Bool) (now : Store) (f g : List ℕ)
+    → without_bytes (answering say (committed_unless spent full now f)) ≡ without_bytes (answering say (committed_unless spent full now g))
+commit-same say true full now f g = refl
+commit-same say false true now f g = refl
+commit-same say false false now f g = refl
+
+text-same : (say : Store → Answer Global) (settings : Settings) (st : Store) (f g : List ℕ) (text : _)
+    → without_bytes (answering say (after_text settings st f text)) ≡ without_bytes (answering say (after_text settings st g text))
+text-same say settings st f g [] = refl
+text-same say settings st f g (x ∷ xs) =
+    let m = flush_commit settings st (x ∷ xs) in
+    commit-same say (is_spent m.slot) (is_full_for_flush settings m.slot.head m.slot.tail) (store_after (flushed st.tree) m.slot) (file_after settings f m) (file_after settings g m)
+
+upgrade-same : (version : Version) (settings : Settings) (st : Store) (f g : List ℕ) (text : _)
+    → without_bytes (answering of_upgrade (unless_upgraded version (after_text settings st f text)))
+    ≡ without_bytes (answering of_upgrade (unless_upgraded version (after_text settings st g text)))
+upgrade-same One settings st f g text = text-same of_upgrade settings st f g text
+upgrade-same Two settings st f g text = refl
 
 -- two outcomes of a step that differ in the bytes at most
 left-same : (st : Store) (f g : List ℕ) (r q : Stepped Global) → without_bytes r ≡ without_bytes q → ((left_by (st, f) r).0 ≡ (left_by (st, g) q).0) × (refused_by r ≡ refused_by q)
@@ -46,12 +62,6 @@ left-same st f g (Ok p) (Err b) e = absurd (cc)
 left-same st f g (Err a) (Ok q) e = absurd (cc)
 
 module _ (settings : Settings) (st : Store) (f g : List ℕ) where
-  text-same : (text : _) → without_bytes (flush_answer (after_text settings st f text)) ≡ without_bytes (flush_answer (after_text settings st g text))
-  text-same [] = refl
-  text-same (x ∷ xs) =
-      let m = flush_commit settings st (x ∷ xs) in
-      commit-same (is_spent m.slot) (is_full_for_flush settings m.slot.head m.slot.tail) (store_after (flushed st.tree) m.slot) (file_after settings f m) (file_after settings g m)
-
   -- what the step of an order leaves with these bytes
   abbrev stepped : List ℕ → Step Global → Stepped Global
   stepped file y = after_step (batching settings) settings st file y
@@ -62,7 +72,10 @@ module _ (settings : Settings) (st : Store) (f g : List ℕ) where
       subst (λ (z : Step Global). without_bytes (stepped f z) ≡ without_bytes (stepped g z)) same (batch-same _ _ _ f g)
   order-same Flush only y is =
       let same : (let z : Step Global = Step.Flush in z ≡ y) = cc in
-      subst (λ (z : Step Global). without_bytes (stepped f z) ≡ without_bytes (stepped g z)) same (text-same (flush_text st.tree))
+      subst (λ (z : Step Global). without_bytes (stepped f z) ≡ without_bytes (stepped g z)) same (text-same of_flush settings st f g (flush_text st.version st.tree))
+  order-same Upgrade only y is =
+      let same : (let z : Step Global = Step.Upgrade in z ≡ y) = cc in
+      subst (λ (z : Step Global). without_bytes (stepped f z) ≡ without_bytes (stepped g z)) same (upgrade-same st.version settings (of_version_two st) f g (upgrade_text st.tree))
   order-same Clean only y is = absurd only
   order-same Verify only y is = absurd (cc)
 
@@ -81,6 +94,7 @@ module _ (settings : Settings) (st : Store) (f g : List ℕ) where
   own-same m (Batch cs) same = refl
   own-same m Flush same = ap (λ (s : Store). shown_flushed s.sequence ∷ []) same
   own-same m Clean same = ap (λ (s : Store). shown_cleaned s.head ∷ []) same
+  own-same m Upgrade same = ap (λ (s : Store). shown_upgraded s.sequence ∷ []) same
   own-same m Verify same = refl
 
 -- ---- orders

@@ -10,7 +10,7 @@ use Rattle.bwsh.specs.declared.line.Says.{Says}
 use Rattle.bwsh.specs.declared.line.Says.TheVariants.{Nothing, Go, Bad}
 use Rattle.bwsh.specs.declared.line.Says.TheVariants as says
 use Rattle.bwsh.specs.declared.line.Why.TheVariants.{UnknownCommand, WordCount, BadToken, BadNumber}
-use Rattle.bwsh.specs.declared.batch_file.Order.TheVariants.{Batch, Flush, Verify}
+use Rattle.bwsh.specs.declared.batch_file.Order.TheVariants.{Batch, Flush, Upgrade, Verify}
 use Rattle.bwsh.specs.Token.{token_bytes, shown_token}
 use Rattle.bwsh.specs.Words.{words_of}
 use Rattle.bwsh.specs.Line.{line_says}
@@ -104,6 +104,12 @@ verify_alone = refl
 flush_alone : line_says (codes "flush") ≡ says.Flush
 flush_alone = refl
 
+upgrade_alone : line_says (codes "upgrade") ≡ says.Upgrade
+upgrade_alone = refl
+
+upgrade_with_a_word : line_says (codes "upgrade x") ≡ Bad WordCount
+upgrade_with_a_word = refl
+
 verify_with_a_word : line_says (codes "verify 1") ≡ Bad WordCount
 verify_with_a_word = refl
 
@@ -124,6 +130,10 @@ the_second_is_bad = refl
 -- a flush and a verify run the pending batch only where it has commands
 flushes : orders_of [] (map line_says (codes "flush" ∷ codes "get a" ∷ codes "flush" ∷ codes "verify" ∷ [])) ≡ Flush ∷ Batch (Get (97 ∷ []) ∷ []) ∷ Flush ∷ Verify ∷ []
 flushes = refl
+
+-- so does an upgrade
+upgrades : orders_of [] (map line_says (codes "upgrade" ∷ codes "get a" ∷ codes "upgrade" ∷ [])) ≡ Upgrade ∷ Batch (Get (97 ∷ []) ∷ []) ∷ Upgrade ∷ []
+upgrades = refl
 
 verifies : orders_of [] (map line_says (codes "verify" ∷ codes "get a" ∷ codes "verify" ∷ codes "go" ∷ [])) ≡ Verify ∷ Batch (Get (97 ∷ []) ∷ []) ∷ Verify ∷ Batch [] ∷ []
 verifies = refl

@@ -7,7 +7,7 @@ use Rattle.bwsh.specs.declared.line.Says.{Says}
 use Rattle.bwsh.specs.declared.line.Says.TheVariants.{Nothing, Go, Bad}
 use Rattle.bwsh.specs.declared.line.Says.TheVariants as says
 use Rattle.bwsh.specs.declared.batch_file.Order.{Order}
-use Rattle.bwsh.specs.declared.batch_file.Order.TheVariants.{Batch, Flush, Clean, Verify}
+use Rattle.bwsh.specs.declared.batch_file.Order.TheVariants.{Batch, Flush, Clean, Upgrade, Verify}
 use Rattle.bwsh.specs.BatchFile.{last_order, orders_of, commands_of, commands_said, batch_lines, IsBatch, IsForBatches}
 
 commands-last_order : (pending : List (Command Global)) → flat_map commands_of (last_order pending) ≡ pending ++ []
@@ -28,6 +28,8 @@ commands-orders_of pending (says.Flush ∷ rest) =
     commands-last_first pending (Flush ∷ orders_of [] rest) ∙ ap (λ (cs : List (Command Global)). pending ++ cs) (commands-orders_of [] rest)
 commands-orders_of pending (says.Clean ∷ rest) =
     commands-last_first pending (Clean ∷ orders_of [] rest) ∙ ap (λ (cs : List (Command Global)). pending ++ cs) (commands-orders_of [] rest)
+commands-orders_of pending (says.Upgrade ∷ rest) =
+    commands-last_first pending (Upgrade ∷ orders_of [] rest) ∙ ap (λ (cs : List (Command Global)). pending ++ cs) (commands-orders_of [] rest)
 commands-orders_of pending (says.Verify ∷ rest) =
     commands-last_first pending (Verify ∷ orders_of [] rest) ∙ ap (λ (cs : List (Command Global)). pending ++ cs) (commands-orders_of [] rest)
 commands-orders_of pending (Nothing ∷ rest) = commands-orders_of pending rest
@@ -46,7 +48,7 @@ orders_of-batch_lines (commands ∷ batches) =
     one_batch [] commands (flat_map batch_lines batches)
     ∙ ap (λ (orders : List Order). Batch commands ∷ orders) (orders_of-batch_lines batches)
 
--- where no line says `flush`, `clean` or `verify`, all orders are batches
+-- where no line says `flush`, `clean`, `upgrade` or `verify`, all orders are batches
 batches-last_order : (pending : List (Command Global)) → AllByRecursion IsBatch (last_order pending)
 batches-last_order [] = tt
 batches-last_order (command ∷ commands) = (tt, tt)
@@ -57,6 +59,7 @@ batches-orders_of pending (Says.Command command ∷ rest) only = batches-orders_
 batches-orders_of pending (Go ∷ rest) only = (tt, batches-orders_of [] rest only.1)
 batches-orders_of pending (says.Flush ∷ rest) only = absurd only.0
 batches-orders_of pending (says.Clean ∷ rest) only = absurd only.0
+batches-orders_of pending (says.Upgrade ∷ rest) only = absurd only.0
 batches-orders_of pending (says.Verify ∷ rest) only = absurd only.0
 batches-orders_of pending (Nothing ∷ rest) only = batches-orders_of pending rest only.1
 batches-orders_of pending (Bad why ∷ rest) only = batches-orders_of pending rest only.1

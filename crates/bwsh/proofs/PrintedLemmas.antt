@@ -12,11 +12,11 @@ use Rattle.keys.specs.declared.settings.Settings.{Settings}
 use Rattle.mapping.specs.Tree.{Store}
 use Rattle.verify.specs.Report.{report}
 use Rattle.bwsh.specs.declared.batch_file.Order.{Order}
-use Rattle.bwsh.specs.declared.batch_file.Order.TheVariants.{Batch, Flush, Clean, Verify}
+use Rattle.bwsh.specs.declared.batch_file.Order.TheVariants.{Batch, Flush, Clean, Upgrade, Verify}
 use Rattle.bwsh.specs.declared.line.Says.{Says}
 use Rattle.bwsh.specs.BatchFile.{orders_of, commands_of, commands_said, IsBatch, IsForBatches}
 use Rattle.bwsh.specs.Session.{Reads, later, answer_lines, printed, behind}
-use Rattle.bwsh.specs.Shown.{shown_reply, shown_flushed, shown_cleaned, shown_report}
+use Rattle.bwsh.specs.Shown.{shown_reply, shown_flushed, shown_cleaned, shown_upgraded, shown_report}
 use Rattle.bwsh.proofs.OrderLemmas.{commands-orders_of, batches-orders_of}
 use Rattle.bwsh.proofs.Prints.{flat-append, flat-map}
 
@@ -38,6 +38,11 @@ pub printed-clean : (settings : Settings) (st : Store) (shown : Reads) (m : List
     ≡ shown_cleaned (behind settings st (shown 0) Clean).0.head ++ printed settings (behind settings st (shown 0) Clean).0 (later shown) m rest
 printed-clean settings st shown m rest = refl
 
+pub printed-upgrade : (settings : Settings) (st : Store) (shown : Reads) (m : List (List ℕ × List ℕ)) (rest : List Order)
+    → printed settings st shown m (Upgrade ∷ rest)
+    ≡ shown_upgraded (behind settings st (shown 0) Upgrade).0.sequence ++ printed settings (behind settings st (shown 0) Upgrade).0 (later shown) m rest
+printed-upgrade settings st shown m rest = refl
+
 pub printed-verify : (settings : Settings) (st : Store) (shown : Reads) (m : List (List ℕ × List ℕ)) (rest : List Order)
     → printed settings st shown m (Verify ∷ rest) ≡ shown_report (report st.tree) ++ printed settings st (later shown) m rest
 unfolding behind
@@ -49,6 +54,7 @@ printed-commands : (settings : Settings) (st : Store) (shown : Reads) (m : List 
 printed-commands settings st shown m [] only = refl
 printed-commands settings st shown m (Flush ∷ rest) only = absurd only.0
 printed-commands settings st shown m (Clean ∷ rest) only = absurd only.0
+printed-commands settings st shown m (Upgrade ∷ rest) only = absurd only.0
 printed-commands settings st shown m (Verify ∷ rest) only = absurd only.0
 printed-commands settings st shown m (Batch commands ∷ rest) only =
     let further = flat_map commands_of rest in

@@ -10,12 +10,14 @@ use Rattle.keys.specs.declared.fault.Fault.{Fault}
 use Rattle.keys.specs.declared.fault.Fault.TheVariants.{NoMemory, Device, Spent, Full}
 use Rattle.keys.specs.declared.command.Command.{Command}
 use Rattle.keys.specs.declared.settings.Settings.{Settings}
+use Rattle.keys.specs.declared.version.Version.{Version}
+use Rattle.keys.specs.declared.version.Version.TheVariants.{One, Two}
 use Rattle.mapping.specs.Levels.{contents}
 use Rattle.keys.specs.Lists.{flat}
 use Rattle.mapping.specs.Tree.{Store}
 use Rattle.climb_plan.specs.Plan.{plan}
-use Rattle.flush_log.specs.AfterFlush.{after_flush, after_text, flush_commit, file_after, store_after, is_spent}
-use Rattle.flush_log.specs.FlushText.{flush_text, flushed}
+use Rattle.flush_log.specs.AfterFlush.{after_flush, after_upgrade, after_text, of_version_two, unless_upgraded, flush_commit, file_after, store_after, is_spent}
+use Rattle.flush_log.specs.FlushText.{flush_text, upgrade_text, flushed}
 use Rattle.flush_log.specs.Layout.{is_full_for_flush}
 use Rattle.recovery.specs.StoreOfDisk.{and_then}
 use Rattle.cleaner.specs.AfterClean.{after_clean}
@@ -27,11 +29,11 @@ use Rattle.engine.specs.declared.step.Answer as code_answer
 use Rattle.verify.specs.Report.{report}
 use Rattle.verify.specs.declared.report.Report.{Report}
 use Rattle.bwsh.specs.declared.batch_file.Order.{Order}
-use Rattle.bwsh.specs.declared.batch_file.Order.TheVariants.{Batch, Flush, Clean, Verify}
+use Rattle.bwsh.specs.declared.batch_file.Order.TheVariants.{Batch, Flush, Clean, Upgrade, Verify}
 use Rattle.bwsh.specs.declared.session.Ending.{Ending}
 use Rattle.bwsh.specs.declared.session.Ending.TheVariants as endings
 use Rattle.bwsh.specs.Session.{Stored, Reads, AreLeft, step_in, left_by, refused_by, behind_step, refusal_of_step, refusal_of, behind, map_behind, own_lines, answer_lines, accepted, orders_end, Prints, Runs, RunsOn, RunsOrder, LeavesStored}
-use Rattle.bwsh.specs.Shown.{shown_flushed, shown_cleaned, shown_report, shown_answer}
+use Rattle.bwsh.specs.Shown.{shown_flushed, shown_cleaned, shown_upgraded, shown_report, shown_answer}
 use Rattle.bwsh.proofs.Prints.{Prints-all, Prints-behind, Prints-early}
 use Rattle.bwsh.proofs.StoreLemmas.{IsEndingOf}
 
@@ -168,37 +170,40 @@ answered_batch None a st file p e =
     sym (ap (λ (q : Answer Global × (Store × List ℕ)). q.0) same)
 answered_batch (Some fault) a st file p e = absurd (cc)
 
-answered_flush : (r : Result (Store × List ℕ) Fault) (p : Answer Global × (Store × List ℕ)) → (let u : Stepped Global = and_then r (λ q. Ok (Answer.Flushed q.0.sequence, q)) in u ≡ Ok p) → p.0 ≡ Answer.Flushed p.1.0.sequence
-answered_flush (Ok q) p e =
-    let same : (let u : Answer Global × (Store × List ℕ) = (Answer.Flushed q.0.sequence, q) in u ≡ p) = cc in
-    sym (ap (λ (u : Answer Global × (Store × List ℕ)). u.0) same) ∙ ap (λ (u : Answer Global × (Store × List ℕ)). Answer.Flushed u.1.0.sequence) same
-answered_flush (Err fault) p e = absurd (cc)
+-- the answer to a flush, to a clean and to an upgrade that leaves this store
+abbrev pub of_flush : Store → Answer Global
+of_flush st = Answer.Flushed st.sequence
 
-answered_clean : (r : Result (Store × List ℕ) Fault) (p : Answer Global × (Store × List ℕ)) → (let u : Stepped Global = and_then r (λ q. Ok (Answer.Cleaned q.0.head, q)) in u ≡ Ok p)
-    → (p.0 ≡ Answer.Cleaned p.1.0.head) × (r ≡ Ok p.1)
-answered_clean (Ok q) p e =
-    let same : (let u : Answer Global × (Store × List ℕ) = (Answer.Cleaned q.0.head, q) in u ≡ p) = cc in (
-      sym (ap (λ (u : Answer Global × (Store × List ℕ)). u.0) same) ∙ ap (λ (u : Answer Global × (Store × List ℕ)). Answer.Cleaned u.1.0.head) same,
+abbrev pub of_clean : Store → Answer Global
+of_clean st = Answer.Cleaned st.head
+
+abbrev pub of_upgrade : Store → Answer Global
+of_upgrade st = Answer.Upgraded st.sequence
+
+-- a step that leaves this, and answers so
+abbrev pub answering : (Store → Answer Global) → Result (Store × List ℕ) Fault → Stepped Global
+answering say r = and_then r (λ q. Ok (say q.0, q))
+
+answered_by : (say : Store → Answer Global) (r : Result (Store × List ℕ) Fault) (p : Answer Global × (Store × List ℕ)) → answering say r ≡ Ok p → (p.0 ≡ say p.1.0) × (r ≡ Ok p.1)
+answered_by say (Ok q) p e =
+    let same : (let u : Answer Global × (Store × List ℕ) = (say q.0, q) in u ≡ p) = cc in (
+      sym (ap (λ (u : Answer Global × (Store × List ℕ)). u.0) same) ∙ ap (λ (u : Answer Global × (Store × List ℕ)). say u.1.0) same,
       ap (λ (u : Answer Global × (Store × List ℕ)). (let r : Result (Store × List ℕ) Fault = Ok u.1 in r)) same,
     )
-answered_clean (Err fault) p e = absurd (cc)
+answered_by say (Err fault) p e = absurd (cc)
 
 -- ---- what a step leaves
 
--- the answer to a flush that leaves this
-abbrev pub flush_answer : Result (Store × List ℕ) Fault → Stepped Global
-flush_answer r = and_then r (λ q. Ok (Answer.Flushed q.0.sequence, q))
-
--- what a flush leaves that is refused for the first reason, for the second, or not
+-- what a commit leaves that is refused for the first reason, for the second, or not
 abbrev pub committed_unless : Bool → Bool → Store → List ℕ → Result (Store × List ℕ) Fault
 committed_unless spent full now bytes = if spent then Err Spent else (if full then Err Full else Ok (now, bytes))
 
-commit-leaves : (spent full : Bool) (now : Store) (f : List ℕ) (p : Answer Global × (Store × List ℕ)) → flush_answer (committed_unless spent full now f) ≡ Ok p → p.1.0 ≡ now
+commit-leaves : (spent full : Bool) (now : Store) (f : List ℕ) (p : Store × List ℕ) → committed_unless spent full now f ≡ Ok p → p.0 ≡ now
 commit-leaves true full now f p e = absurd (cc)
 commit-leaves false true now f p e = absurd (cc)
 commit-leaves false false now f p e =
-    let same : (let q : Answer Global × (Store × List ℕ) = (Answer.Flushed now.sequence, (now, f)) in q ≡ p) = cc in
-    sym (ap (λ (q : Answer Global × (Store × List ℕ)). q.1.0) same)
+    let same : (let q : Store × List ℕ = (now, f) in q ≡ p) = cc in
+    sym (ap (λ (q : Store × List ℕ). q.0) same)
 
 batch-leaves : (o : Option Fault) (a : Answer Global) (now : Store) (f : List ℕ) (p : Answer Global × (Store × List ℕ)) → unless_refused o a now f ≡ Ok p → p.1.0 ≡ now
 batch-leaves None a now f p e =
@@ -207,13 +212,23 @@ batch-leaves None a now f p e =
 batch-leaves (Some fault) a now f p e = absurd (cc)
 
 module _ (settings : Settings) (st : Store) where
-  text-leaves : (f : List ℕ) (text : _) (p : Answer Global × (Store × List ℕ)) → flush_answer (after_text settings st f text) ≡ Ok p → contents p.1.0.tree ≡ contents st.tree
+  text-leaves : (f : List ℕ) (text : _) (p : Store × List ℕ) → after_text settings st f text ≡ Ok p → contents p.0.tree ≡ contents st.tree
   text-leaves f [] p e =
-      let same : (let q : Answer Global × (Store × List ℕ) = (Answer.Flushed st.sequence, (st, f)) in q ≡ p) = cc in
-      sym (ap (λ (q : Answer Global × (Store × List ℕ)). contents q.1.0.tree) same)
+      let same : (let q : Store × List ℕ = (st, f) in q ≡ p) = cc in
+      sym (ap (λ (q : Store × List ℕ). contents q.0.tree) same)
   text-leaves f (x ∷ xs) p e =
       let m = flush_commit settings st (x ∷ xs) in
       ap (λ (s : Store). contents s.tree) (commit-leaves (is_spent m.slot) (is_full_for_flush settings m.slot.head m.slot.tail) (store_after (flushed st.tree) m.slot) (file_after settings f m) p e)
+
+-- an upgrade that isn't refused finds a log of version 1
+upgrade-goes : (version : Version) (r : Result (Store × List ℕ) Fault) (p : Store × List ℕ) → unless_upgraded version r ≡ Ok p → r ≡ Ok p
+upgrade-goes One r p e = e
+upgrade-goes Two r p e = absurd (cc)
+
+upgrade-leaves : (settings : Settings) (st : Store) (f : List ℕ) (p : Store × List ℕ) → after_upgrade settings st f ≡ Ok p → contents p.0.tree ≡ contents st.tree
+upgrade-leaves settings st f p e =
+    let two : Store = of_version_two st in
+    text-leaves settings two f (upgrade_text st.tree) p (upgrade-goes st.version (after_text settings two f (upgrade_text st.tree)) p e)
 
 -- ---- what a step does
 
@@ -231,11 +246,15 @@ module _ (settings : Settings) (st : Store) where
   lines_of file Flush y p is done left =
       let same : (let z : Step Global = Step.Flush in z ≡ y) = cc in
       ap (λ (q : Stored). shown_flushed q.0.sequence ∷ []) left
-      ∙ sym (ap shown_answer (answered_flush (after_flush settings st file) p (subst (λ (z : Step Global). steps_to file z p) (sym same) done)))
+      ∙ sym (ap shown_answer (answered_by of_flush (after_flush settings st file) p (subst (λ (z : Step Global). steps_to file z p) (sym same) done)).0)
   lines_of file Clean y p is done left =
       let same : (let z : Step Global = Step.Clean in z ≡ y) = cc in
       ap (λ (q : Stored). shown_cleaned q.0.head ∷ []) left
-      ∙ sym (ap shown_answer (answered_clean (after_clean settings st file) p (subst (λ (z : Step Global). steps_to file z p) (sym same) done)).0)
+      ∙ sym (ap shown_answer (answered_by of_clean (after_clean settings st file) p (subst (λ (z : Step Global). steps_to file z p) (sym same) done)).0)
+  lines_of file Upgrade y p is done left =
+      let same : (let z : Step Global = Step.Upgrade in z ≡ y) = cc in
+      ap (λ (q : Stored). shown_upgraded q.0.sequence ∷ []) left
+      ∙ sym (ap shown_answer (answered_by of_upgrade (after_upgrade settings st file) p (subst (λ (z : Step Global). steps_to file z p) (sym same) done)).0)
   lines_of file Verify y p is done left = absurd (cc)
 
   -- a batch that is planned holds the map after its commands
@@ -254,10 +273,14 @@ module _ (settings : Settings) (st : Store) where
       ap (λ (s : Store). contents s.tree) (batch-leaves _ _ (plan settings st cs) file p (subst (λ (z : Step Global). steps_to file z p) (sym same) done)) ∙ hold cs
   map_of hold keep file Flush y p is done =
       let same : (let z : Step Global = Step.Flush in z ≡ y) = cc in
-      text-leaves settings st file (flush_text st.tree) p (subst (λ (z : Step Global). steps_to file z p) (sym same) done)
+      text-leaves settings st file (flush_text st.version st.tree) p.1
+      (answered_by of_flush (after_flush settings st file) p (subst (λ (z : Step Global). steps_to file z p) (sym same) done)).1
   map_of hold keep file Clean y p is done =
       let same : (let z : Step Global = Step.Clean in z ≡ y) = cc in
-      ap contents (keep p.1.0 file p.1.1 (answered_clean (after_clean settings st file) p (subst (λ (z : Step Global). steps_to file z p) (sym same) done)).1)
+      ap contents (keep p.1.0 file p.1.1 (answered_by of_clean (after_clean settings st file) p (subst (λ (z : Step Global). steps_to file z p) (sym same) done)).1)
+  map_of hold keep file Upgrade y p is done =
+      let same : (let z : Step Global = Step.Upgrade in z ≡ y) = cc in
+      upgrade-leaves settings st file p.1 (answered_by of_upgrade (after_upgrade settings st file) p (subst (λ (z : Step Global). steps_to file z p) (sym same) done)).1
   map_of hold keep file Verify y p is done = absurd (cc)
 
 -- a step is played on a store whose disk had the bytes `seen`, for an order
@@ -272,6 +295,8 @@ module _ (honest : Bool) (settings : Settings) (st : Store) (seen : List ℕ) (o
   late_by file old new (called.Batch cs) fault other same (inr late) = inl late.0
   late_by file old new called.Flush fault other same (inr (inl memory)) = inl memory.0
   late_by file old new called.Flush fault other same (inr (inr device)) = absurd (other device.0)
+  late_by file old new called.Upgrade fault other same (inr (inl memory)) = inl memory.0
+  late_by file old new called.Upgrade fault other same (inr (inr device)) = absurd (other device.0)
   late_by file old new called.Clean fault other same (inr (several, inl memory)) = inl memory
   late_by file old new called.Clean fault other same (inr (several, inr device)) = absurd (other device.0)
 

@@ -9,7 +9,7 @@ use Rattle.bwsh.specs.declared.line.Says.TheVariants.{Go, Bad}
 use Rattle.bwsh.specs.declared.line.Says.TheVariants as says
 use Rattle.bwsh.specs.declared.line.Why.{Why}
 use Rattle.bwsh.specs.declared.batch_file.Order.{Order}
-use Rattle.bwsh.specs.declared.batch_file.Order.TheVariants.{Batch, Flush, Clean, Verify}
+use Rattle.bwsh.specs.declared.batch_file.Order.TheVariants.{Batch, Flush, Clean, Upgrade, Verify}
 use Rattle.bwsh.specs.declared.batch_file.TextFault.{TextFault}
 use Rattle.bwsh.specs.declared.batch_file.TextFault.TheVariants as faults
 use Rattle.bwsh.specs.Line.{line_says}
@@ -40,6 +40,7 @@ orders_of pending (Says.Command command ∷ rest) = orders_of (pending ++ comman
 orders_of pending (Go ∷ rest) = Batch pending ∷ orders_of [] rest
 orders_of pending (says.Flush ∷ rest) = last_order pending ++ Flush ∷ orders_of [] rest
 orders_of pending (says.Clean ∷ rest) = last_order pending ++ Clean ∷ orders_of [] rest
+orders_of pending (says.Upgrade ∷ rest) = last_order pending ++ Upgrade ∷ orders_of [] rest
 orders_of pending (says.Verify ∷ rest) = last_order pending ++ Verify ∷ orders_of [] rest
 orders_of pending (_ ∷ rest) = orders_of pending rest
 
@@ -53,6 +54,7 @@ abbrev pub writes : Order → Bool
 writes (Batch commands) = false
 writes Flush = true
 writes Clean = true
+writes Upgrade = true
 writes Verify = false
 
 -- the order is a batch
@@ -60,6 +62,7 @@ abbrev pub IsBatch : Order → Type 0
 IsBatch (Batch commands) = ⊤
 IsBatch Flush = ⊥
 IsBatch Clean = ⊥
+IsBatch Upgrade = ⊥
 IsBatch Verify = ⊥
 
 -- the order is no clean
@@ -71,6 +74,7 @@ IsNoClean _ = ⊤
 abbrev pub IsForBatches : Says → Type 0
 IsForBatches says.Flush = ⊥
 IsForBatches says.Clean = ⊥
+IsForBatches says.Upgrade = ⊥
 IsForBatches says.Verify = ⊥
 IsForBatches _ = ⊤
 
@@ -79,6 +83,7 @@ abbrev pub commands_of : Order → List (Command Global)
 commands_of (Batch commands) = commands
 commands_of Flush = []
 commands_of Clean = []
+commands_of Upgrade = []
 commands_of Verify = []
 
 -- the commands that lines say

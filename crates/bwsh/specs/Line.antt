@@ -8,7 +8,7 @@ use Rattle.keys.specs.Bytes.{Bytes}
 use Rattle.keys.specs.declared.command.Command.{Command}
 use Rattle.keys.specs.declared.command.Command.TheVariants.{Get, Put, Add, Del, Scan}
 use Rattle.bwsh.specs.declared.line.Says.{Says}
-use Rattle.bwsh.specs.declared.line.Says.TheVariants.{Nothing, Go, Flush, Clean, Verify, Bad}
+use Rattle.bwsh.specs.declared.line.Says.TheVariants.{Nothing, Go, Flush, Clean, Upgrade, Verify, Bad}
 use Rattle.bwsh.specs.declared.line.Why.{Why}
 use Rattle.bwsh.specs.declared.line.Why.TheVariants.{UnknownCommand, WordCount, BadToken, BadNumber}
 use Rattle.bwsh.specs.Number.{number_in}
@@ -64,8 +64,9 @@ order_says word behind =
     if bytes_eq word (codes "go") then alone Go behind else (
     if bytes_eq word (codes "flush") then alone Flush behind else (
     if bytes_eq word (codes "clean") then alone Clean behind else (
+    if bytes_eq word (codes "upgrade") then alone Upgrade behind else (
     if bytes_eq word (codes "verify") then alone Verify behind else
-    Bad UnknownCommand)))
+    Bad UnknownCommand))))
 
 -- what is said by this word and those behind it
 abbrev pub command_says : Bytes → List Bytes → Says

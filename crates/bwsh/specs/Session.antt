@@ -25,7 +25,7 @@ use Rattle.engine.specs.State.{State}
 use Rattle.engine.specs.Steps.{Step, Stepped, batching, after_step}
 use Rattle.bwsh.specs.declared.line.Why.{Why}
 use Rattle.bwsh.specs.declared.batch_file.Order.{Order}
-use Rattle.bwsh.specs.declared.batch_file.Order.TheVariants.{Batch, Flush, Clean, Verify}
+use Rattle.bwsh.specs.declared.batch_file.Order.TheVariants.{Batch, Flush, Clean, Upgrade, Verify}
 use Rattle.bwsh.specs.declared.batch_file.TextFault.{TextFault}
 use Rattle.bwsh.specs.declared.batch_file.TextFault.TheVariants as faults
 use Rattle.bwsh.specs.declared.session.Ending.{Ending}
@@ -34,7 +34,7 @@ use Rattle.bwsh.specs.declared.session.Ending.TheVariants as endings
 use Rattle.bwsh.specs.BatchFile.{text_says, first_bad, orders_of}
 use Rattle.bwsh.specs.Line.{why_text}
 use Rattle.bwsh.specs.Options.{Text, Told, AsksFor, AsksForHelp, AreRefused}
-use Rattle.bwsh.specs.Shown.{shown_reply, shown_flushed, shown_cleaned, shown_report}
+use Rattle.bwsh.specs.Shown.{shown_reply, shown_flushed, shown_cleaned, shown_upgraded, shown_report}
 
 -- the exit status of a session that ends before all is done
 abbrev pub status_of : Ending → ℕ
@@ -123,6 +123,7 @@ abbrev pub step_in : Order → Option (Step Global)
 step_in (Batch commands) = Some (Step.Batch commands)
 step_in Flush = Some Step.Flush
 step_in Clean = Some Step.Clean
+step_in Upgrade = Some Step.Upgrade
 step_in Verify = None
 
 -- what a step leaves of what is stored, and why it is refused, if it is
@@ -156,15 +157,17 @@ abbrev pub map_behind : Pairs Bytes → Order → Pairs Bytes
 map_behind m (Batch commands) = map_after_all m commands
 map_behind m Flush = m
 map_behind m Clean = m
+map_behind m Upgrade = m
 map_behind m Verify = m
 
 -- the lines that an order answers, with their line feeds, where the store holds this map before it, and its disk shows these bytes:
--- to a batch the replies of the map, the lines of each as one text; to a flush the sequence number that it leaves; to a clean the
--- head segment; to a verify the report on the tree
+-- to a batch the replies of the map, the lines of each as one text; to a flush and to an upgrade the sequence number that it leaves;
+-- to a clean the head segment; to a verify the report on the tree
 abbrev pub own_lines : Settings → Store → Bytes → Pairs Bytes → Order → List Bytes
 own_lines settings st file m (Batch commands) = map shown_reply (replies_to m commands)
 own_lines settings st file m Flush = shown_flushed (behind settings st file Flush).0.sequence ∷ []
 own_lines settings st file m Clean = shown_cleaned (behind settings st file Clean).0.head ∷ []
+own_lines settings st file m Upgrade = shown_upgraded (behind settings st file Upgrade).0.sequence ∷ []
 own_lines settings st file m Verify = shown_report (report st.tree) ∷ []
 
 -- the lines that orders answer one after the other, of a store whose disk shows these bytes before each; each leaves its store and its

@@ -5,7 +5,7 @@ use Rattle.keys.specs.Bytes.{Bytes}
 use Rattle.keys.specs.declared.command.Reply.{Reply}
 use Rattle.keys.specs.declared.command.Reply.TheVariants.{Value, Missing, New, Replaced, Added, Exists, Deleted, Rows}
 use Rattle.engine.specs.Steps.{Answer}
-use Rattle.engine.specs.Steps.Answer.{Replies, Flushed, Cleaned}
+use Rattle.engine.specs.Steps.Answer.{Replies, Flushed, Cleaned, Upgraded}
 use Rattle.verify.specs.declared.report.Report.{Report}
 use Rattle.bwsh.specs.Token.{shown_token}
 
@@ -45,8 +45,13 @@ shown_flushed sequence = codes "flushed " ++ decimal sequence ++ 10 ∷ []
 abbrev pub shown_cleaned : ℕ → Bytes
 shown_cleaned head = codes "cleaned " ++ decimal head ++ 10 ∷ []
 
+-- the line of an upgrade: the sequence number, with the line feed
+abbrev pub shown_upgraded : ℕ → Bytes
+shown_upgraded sequence = codes "upgraded " ++ decimal sequence ++ 10 ∷ []
+
 -- the lines of an answer; those of a reply are one text
 abbrev pub shown_answer : {A : Type 0} → Answer A → List Bytes
 shown_answer (Replies replies) = map shown_reply replies
 shown_answer (Flushed sequence) = shown_flushed sequence ∷ []
 shown_answer (Cleaned head) = shown_cleaned head ∷ []
+shown_answer (Upgraded sequence) = shown_upgraded sequence ∷ []

@@ -44,6 +44,8 @@ pub enum Order {
     Flush,
     /// To free the first segment of the log, and tell which is the first now.
     Clean,
+    /// To bring the log to its second version, and tell the sequence number.
+    Upgrade,
     /// To verify the store, and tell of its pages, its height and its pairs.
     Verify,
 }
@@ -53,7 +55,7 @@ impl Order {
     pub fn writes(&self) -> bool
         ensures { result ≡ writes self.now }
     {
-        matches!(self, Order::Flush | Order::Clean)
+        matches!(self, Order::Flush | Order::Clean | Order::Upgrade)
     }
 }
 
@@ -130,6 +132,7 @@ pub fn parse(alloc: Global, text: &[u8]) -> Result<Vec<Order>, TextFault>
             }
             Says::Flush => push_behind(alloc, &mut pending, Order::Flush, &mut orders)?,
             Says::Clean => push_behind(alloc, &mut pending, Order::Clean, &mut orders)?,
+            Says::Upgrade => push_behind(alloc, &mut pending, Order::Upgrade, &mut orders)?,
             Says::Verify => push_behind(alloc, &mut pending, Order::Verify, &mut orders)?,
             Says::Bad(why) => return Err(TextFault::Bad { line, why }),
         }

@@ -50,6 +50,8 @@ pub enum Says {
     Flush,
     /// The pending batch is to run, if it has commands, and then the log is to be cleaned.
     Clean,
+    /// The pending batch is to run, if it has commands, and then the log is to be brought to its second version.
+    Upgrade,
     /// The pending batch is to run, if it has commands, and then the store is to be verified.
     Verify,
     /// It is no line of a batch file.
@@ -208,6 +210,9 @@ fn order(word: &[u8], words: &[u8]) -> Says
     }
     if word == b"clean".as_slice() {
         return alone(Says::Clean, words);
+    }
+    if word == b"upgrade".as_slice() {
+        return alone(Says::Upgrade, words);
     }
     if word == b"verify".as_slice() {
         return alone(Says::Verify, words);

@@ -43,8 +43,9 @@ const AFTER_HELP: &str = "\
 A store in a file has the settings with which the file was made. Those of the command line are for a
 store in memory, and for a file that is made anew; otherwise they are ignored. Workers and grain are
 no settings of a store: they are for this session alone, which answers the same with any of them.
-A session with a flush or a clean, or --create, holds its file alone; any other shares it, and only
-reads it. Where another session is in the way it is a fault at once, and nothing is changed.
+A session with a flush, a clean or an upgrade, or --create, holds its file alone; any other shares
+it, and only reads it. Where another session is in the way it is a fault at once, and nothing is
+changed.
 
 Lines of the batch file:
   put K V           Stores the value V under the key K
@@ -56,9 +57,11 @@ Lines of the batch file:
   go                Runs the commands since the last batch, as one batch
   flush             Runs these too, if there are any, and then writes what the log lacks
   clean             Runs these too, if there are any, and then frees the first segment of the log
+  upgrade           Runs these too, if there are any, and then brings the log to version 2, in which
+                    keys share their beginnings; it is done once, and there is no way back
   verify            Runs these too, if there are any, and then checks the whole tree
   # ...             A comment
-Commands behind the last go, flush, clean or verify are run at the end.
+Commands behind the last go, flush, clean, upgrade or verify are run at the end.
 
 Keys and values are words of printed ASCII. In them %XX is the byte of two hexadecimal digits, as
 %20 for a space, and % alone is the word of no bytes.
@@ -67,8 +70,9 @@ Exit status:
   0  All is done, or help was asked for
   2  The words of the command line are refused; nothing was read
   3  A line of the batch file is bad; nothing was run
-  4  A fault: settings, workers, a grain or a batch that are refused, a full log or one with nothing
-     to clean, no memory, or a device: a stream or a file that is closed, held, full or missing\
+  4  A fault: settings, workers, a grain or a batch that are refused, a full log, one with nothing to
+     clean or one of version 2 that is to be upgraded, no memory, or a device: a stream or a file
+     that is closed, held, full or missing\
 ";
 
 // An option that takes a number.

@@ -20,14 +20,14 @@ ghost use Rattle.bwsh.specs.declared.session.Ending.TheVariants as endings;
 ghost use Rattle.bwsh.specs.BatchFile.{text_says, first_bad, orders_of, writes};
 ghost use Rattle.bwsh.specs.Options.{Told, AsksFor, AsksForHelp, AreRefused, told_of};
 ghost use Rattle.bwsh.specs.Session.{status_of, status_of_end, ending_text, unread_text, ending_by, printed_by, BeginsWith, IsBegun, IsTold, IsReadEnding, IsForWords, Prints, PrintsOneText, Reads, RunsOn, RunsOrder, RunsFrom, Start, IsStart, IsShown, Opens, IsHonestStore, Answers, EndsBy, EndsTold, step_in, new_start, found_start};
-ghost use Rattle.bwsh.specs.Shown.{shown_reply, shown_flushed, shown_cleaned, shown_report, shown_answer};
+ghost use Rattle.bwsh.specs.Shown.{shown_reply, shown_flushed, shown_cleaned, shown_upgraded, shown_report, shown_answer};
 
 use crate::batch_file::{Order, TextFault, parse};
 use crate::file_disk::FileDisk;
 use crate::line::Why;
 use crate::lock_file::LockFile;
 use crate::options::{Options, options};
-use crate::show::{show_cleaned, show_flushed, show_reply, show_report};
+use crate::show::{show_cleaned, show_flushed, show_reply, show_report, show_upgraded};
 use cleaner::laws::a_clean_keeps_the_store;
 use climb_plan::laws::the_plan_holds_the_map_after_the_commands;
 use crew::{BadCrew, Crew, NoGate};
@@ -222,6 +222,15 @@ fn write_cleaned<O: Write>(head: u64, lines: &mut Vec<u8>, out: &mut O) -> Resul
     write_bytes(lines, out)
 }
 
+// Writes the line of an upgrade that left this sequence number, in the memory of `lines`.
+fn write_upgraded<O: Write>(sequence: u64, lines: &mut Vec<u8>, out: &mut O) -> Result<(), Ending>
+    ensures { Prints (O.contents out.old) (O.contents out.new) (shown_upgraded sequence ∷ []) (Ok tt) result }
+{
+    lines.clear();
+    show_upgraded(sequence, lines)?;
+    write_bytes(lines, out)
+}
+
 // Writes the line of the report, in the memory of `lines`.
 fn write_report<O: Write>(report: &Report, lines: &mut Vec<u8>, out: &mut O) -> Result<(), Ending>
     ensures { Prints (O.contents out.old) (O.contents out.new) (shown_report report.now ∷ []) (Ok tt) result }
@@ -239,6 +248,7 @@ fn write_answer<O: Write>(answer: &Answer, lines: &mut Vec<u8>, out: &mut O) -> 
         Answer::Replies(replies) => write_replies(replies, lines, out),
         Answer::Flushed(sequence) => write_flushed(*sequence, lines, out),
         Answer::Cleaned(head) => write_cleaned(*head, lines, out),
+        Answer::Upgraded(sequence) => write_upgraded(*sequence, lines, out),
     }
 }
 
@@ -316,6 +326,7 @@ fn run_order<R: Threads + Sync, D: Disk, O: Write>(
         }
         Order::Flush => run_step(rt, crew, store, Step::Flush, lines, out),
         Order::Clean => run_step(rt, crew, store, Step::Clean, lines, out),
+        Order::Upgrade => run_step(rt, crew, store, Step::Upgrade, lines, out),
         Order::Verify => {
             let report = store.verify(rt)?;
             write_report(&report, lines, out)
@@ -515,8 +526,8 @@ fn has_writing(orders: &[Order]) -> bool
 /// line goes before an output that is closed, that before a crew out of range, and that before settings that are refused and before
 /// a fault of the file; and a fault of the output goes before one that was found earlier.
 ///
-/// Where an order is a flush or a clean, or the file is made anew, the session holds it alone, and else it shares it and only reads; a
-/// lock that is refused is a fault of the file. A file in which no store is found, or that can't be opened or locked, stays as
+/// Where an order is a flush, a clean or an upgrade, or the file is made anew, the session holds it alone, and else it shares it and only
+/// reads; a lock that is refused is a fault of the file. A file in which no store is found, or that can't be opened or locked, stays as
 /// it was. One that can't be made anew is left as `FileDisk::of_zeros` says; or, where only the writes of a new store failed, with its
 /// new length, and with zeros but for what was written of them.
 pub fn run<R: AllocGlobal + Threads + Sync + Files, I: Read, O: Write>(

@@ -2,7 +2,7 @@
 ghost use Rattle.std.specs.Prelude.{◌≡◌, ◌∷◌, ◌++◌, [], codes, length, take, OnOk, OnErr};
 ghost use Rattle.std.specs.Fmt.{decimal};
 ghost use Rattle.std.specs.List.{flat_map};
-ghost use Rattle.bwsh.specs.Shown.{reply_text, row_lines, shown_reply, shown_flushed, shown_cleaned, shown_report, shown_row};
+ghost use Rattle.bwsh.specs.Shown.{reply_text, row_lines, shown_reply, shown_flushed, shown_cleaned, shown_upgraded, shown_report, shown_row};
 
 use crate::token::push_token;
 use keys::{Key, Reply, Value};
@@ -103,6 +103,15 @@ pub fn show_cleaned(head: u64, out: &mut Vec<u8>) -> Result<(), AllocError>
     ensures err { OnErr result (out.new.items ≡ out.old.items) }
 {
     let line = format!(in *out.allocator(); "cleaned {head}\n")?;
+    out.extend_from_slice(line.as_bytes())
+}
+
+/// Appends the line of an upgrade that left this sequence number, with its line feed. After an `Err` `out` is as it was before.
+pub fn show_upgraded(sequence: u64, out: &mut Vec<u8>) -> Result<(), AllocError>
+    ensures ok { OnOk result (out.new.items ≡ out.old.items ++ shown_upgraded sequence) }
+    ensures err { OnErr result (out.new.items ≡ out.old.items) }
+{
+    let line = format!(in *out.allocator(); "upgraded {sequence}\n")?;
     out.extend_from_slice(line.as_bytes())
 }
 

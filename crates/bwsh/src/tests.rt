@@ -142,6 +142,19 @@ fn a_flush_tells_its_number(rt: HostRuntime) {
     );
 }
 
+// An upgrade runs the pending commands first, and writes the tree also where the log has all. A second one ends the session.
+#[test]
+fn an_upgrade_tells_its_number(rt: HostRuntime) {
+    let input = b"put a 1\nflush\nupgrade\nget a\nadd b 2\nflush\nflush\nscan % * 9\nverify";
+    let out = b"new\nflushed 2\nupgraded 3\nvalue 1\nadded\nflushed 4\nflushed 4\nrows 2\na 1\nb 2\nok 1 1 2\n";
+    check(&rt, &[], input, 0, out, b"");
+    let told = b"fault 19 AlreadyUpgraded\n";
+    let input = b"upgrade\nput a 1\nupgrade\nget a\n";
+    check(&rt, &[], input, 4, b"upgraded 2\nnew\n", told);
+    let told = b"line 1: wrong number of words\n";
+    check(&rt, &[], b"upgrade x\n", 3, b"", told);
+}
+
 // Example log 15: the eighteenth flush would leave no segment free. What was answered before it stands.
 #[test]
 fn a_full_log_ends_the_session(rt: HostRuntime) -> Result<(), Fail> {
@@ -272,7 +285,7 @@ fn words_are_refused(rt: HostRuntime) -> Result<(), Fail> {
 }
 
 // What the help has to say: each kind of line, what a segment has to hold, the ranges of a crew, who holds a file, and the exit statuses.
-const HELP: [&str; 21] = [
+const HELP: [&str; 22] = [
     "put K V",
     "add K V",
     "get K",
@@ -281,6 +294,7 @@ const HELP: [&str; 21] = [
     "go",
     "flush",
     "clean",
+    "upgrade",
     "verify",
     "#",
     "%20",
@@ -695,8 +709,8 @@ fn the_output_fails(rt: HostRuntime) {
 // whole line.
 #[test]
 fn memory_is_refused(rt: HostRuntime) {
-    let mut input: &[u8] = b"put %41 1\nget A\nscan % * 9\nverify\ndel A\nget A\n";
-    let right = b"new\nvalue 1\nrows 1\nA 1\nok 1 1 1\ndeleted\nmissing\n";
+    let mut input: &[u8] = b"put %41 1\nget A\nscan % * 9\nverify\ndel A\nget A\nupgrade\n";
+    let right = b"new\nvalue 1\nrows 1\nA 1\nok 1 1 1\ndeleted\nmissing\nupgraded 2\n";
     let mut out = Cursor::new([0u8; 64]);
     let mut err = Cursor::new([0u8; 64]);
     let status = run_plain(&rt, &mut input, &mut out, &mut err);

@@ -134,6 +134,25 @@ fn a_store_in_a_file_is_cleaned(rt: HostRuntime) -> Result<(), Fail> {
     Ok(())
 }
 
+// What was upgraded is found again, as a store that can't be upgraded again, and is flushed and cleaned as any other.
+#[test]
+fn a_store_in_a_file_is_upgraded(rt: HostRuntime) -> Result<(), Fail> {
+    let file = env::temp_dir(&rt)?.join(rt.alloc(), "bwsh_upgraded_store")?;
+    let path = file.as_str();
+    let input = b"put a 1\nput b 2\nput c 3\nput d 4\nput e 5\nflush\nput a 9\nupgrade\n";
+    let out = b"new\nnew\nnew\nnew\nnew\nflushed 2\nreplaced\nupgraded 3\n";
+    check_in_file(&rt, path, Some(4), input, out, "")?;
+    let input = b"scan % * 9\nput a 1\nflush\nverify\nupgrade\nget a\n";
+    let out = b"rows 5\na 9\nb 2\nc 3\nd 4\ne 5\nreplaced\nflushed 4\nok 3 2 5\n";
+    check_in_file(&rt, path, None, input, out, "fault 19 AlreadyUpgraded\n")?;
+    let end = "fault 11 NothingToClean\n";
+    let out = b"cleaned 1\nvalue 1\n";
+    check_in_file(&rt, path, None, b"clean\nget a\nclean\n", out, end)?;
+    check_in_file(&rt, path, None, b"get e\nverify\n", b"value 5\nok 3 2 5\n", "")?;
+    fs::remove_file(&rt, path)?;
+    Ok(())
+}
+
 // Asserts that a crew is refused, before settings that are and before this disk, and behind a bad line.
 fn check_refused_crew<R: AllocGlobal + Abort + Threads + Sync + Files>(
     rt: &R,
@@ -197,14 +216,14 @@ fn a_file_holds_no_store(rt: HostRuntime) -> Result<(), Fail> {
     Ok(())
 }
 
-// Lines that flush or clean, by the number of their example, for a file that held this many bytes of 0xff and is made anew.
+// Lines that flush, clean or upgrade, by the number of their example, for a file that held this many bytes of 0xff and is made anew.
 struct ByteRow {
     name: &'static str,
     held: usize,
     input: &'static [u8],
 }
 
-static BYTE_ROWS: [ByteRow; 6] = [
+static BYTE_ROWS: [ByteRow; 7] = [
     ByteRow {
         name: "1",
         held: 8,
@@ -241,6 +260,11 @@ static BYTE_ROWS: [ByteRow; 6] = [
         held: 0,
         input: CLEANED,
     },
+    ByteRow {
+        name: "4, upgraded",
+        held: 1_536,
+        input: b"put a 1\nput b 2\nput c 3\nput d 4\nput e 5\nflush\nupgrade\nput a 9\nflush\n",
+    },
 ];
 
 // Plays an order on a store in memory, and says whether it was answered.
@@ -249,6 +273,7 @@ fn is_played<R: Threads + Sync>(rt: &R, store: &mut Store<MemDisk<Global>>, orde
         Order::Batch(batch) => Step::Batch(batch.commands()),
         Order::Flush => Step::Flush,
         Order::Clean => Step::Clean,
+        Order::Upgrade => Step::Upgrade,
         Order::Verify => return true,
     };
     store.play(rt, CREW, &NoGate, &[step]).is_ok()
@@ -471,6 +496,8 @@ const WRITES: &str = "flush\n";
 
 const CLEANS: &str = "clean\n";
 
+const UPGRADES: &str = "upgrade\n";
+
 const DEVICE: &str = "fault 9 Device\n";
 
 // Whether this many first bytes are as they were, and zeros follow up to this length.
@@ -547,7 +574,7 @@ fn making_anew_fails(rt: HostRuntime) -> Result<(), Fail> {
 
 // On a file that there is: which calls fail, how, on which lines, and what is answered. Sessions that only read don't write, hold or
 // open the file for it, and need no sync where there is none; all others need their first one too.
-static FOUND: [(Call, ErrorKind, (&str, &str)); 17] = [
+static FOUND: [(Call, ErrorKind, (&str, &str)); 19] = [
     (Call::OpenToWrite, ErrorKind::Other, (READS, ANSWERS)),
     (Call::Hold, ErrorKind::Other, (READS, ANSWERS)),
     (Call::SetLen, ErrorKind::Other, (READS, ANSWERS)),
@@ -564,6 +591,8 @@ static FOUND: [(Call, ErrorKind, (&str, &str)); 17] = [
     (Call::Metadata, ErrorKind::Other, (WRITES, DEVICE)),
     (Call::Sync, ErrorKind::Other, (WRITES, DEVICE)),
     (Call::Sync, ErrorKind::InvalidInput, (CLEANS, DEVICE)),
+    (Call::Hold, ErrorKind::Other, (UPGRADES, DEVICE)),
+    (Call::Write, ErrorKind::Other, (UPGRADES, DEVICE)),
     (
         Call::Write,
         ErrorKind::Other,
@@ -605,7 +634,8 @@ fn syncs<R: AllocGlobal + Threads + Sync>(
     Ok(20)
 }
 
-// An old file is synced before it is read, and a new store once; a flush makes three, or none where there is nothing to write.
+// An old file is synced before it is read, and a new store once; a flush makes three, or none where there is nothing to write; and an
+// upgrade three, or none where the log has version 2 already.
 #[test]
 fn syncs_are_counted(rt: HostRuntime) -> Result<(), Fail> {
     let file = env::temp_dir(&rt)?.join(rt.alloc(), "bwsh_syncs")?;
@@ -618,6 +648,10 @@ fn syncs_are_counted(rt: HostRuntime) -> Result<(), Fail> {
     assert_eq!(rt; unwritten, 1);
     let written = syncs(&rt, rt, path, Some(4), b"put a 1\nflush\n")?;
     assert_eq!(rt; written, 4);
+    let upgraded = syncs(&rt, rt, path, Some(4), b"upgrade\n")?;
+    assert_eq!(rt; upgraded, 4);
+    let refused = syncs(&rt, rt, path, None, b"upgrade\n")?;
+    assert_eq!(rt; refused, 1);
     fs::remove_file(&rt, path)?;
     Ok(())
 }
@@ -639,6 +673,7 @@ where
     check_in_file(rt, path, None, b"get a\n", b"", read)?;
     check_in_file(rt, path, None, b"put a 1\nflush\n", b"", DEVICE)?;
     check_in_file(rt, path, None, b"clean\n", b"", DEVICE)?;
+    check_in_file(rt, path, None, b"upgrade\n", b"", DEVICE)?;
     check_in_file(rt, path, Some(4), b"", b"", DEVICE)?;
     assert_eq!(rt; fs::read(rt, path)?, old);
     Ok(())

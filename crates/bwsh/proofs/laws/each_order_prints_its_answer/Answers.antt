@@ -1,5 +1,5 @@
 use Rattle.std.proofs.Common.{refl}
-use Rattle.bwsh.proofs.PrintedLemmas.{printed-batch, printed-flush, printed-clean, printed-verify}
+use Rattle.bwsh.proofs.PrintedLemmas.{printed-batch, printed-flush, printed-clean, printed-upgrade, printed-verify}
 use Rattle.bwsh.proofs.laws.each_order_prints_its_answer.Goals as goal
 
 pub returns : goal.returns
@@ -8,5 +8,6 @@ returns c = record {
   batch = printed-batch;
   flush = printed-flush;
   clean = printed-clean;
+  upgrade = printed-upgrade;
   verify = printed-verify;
 }
