@@ -152,6 +152,9 @@ fn pieces_are_drawn_by_workers_at_once(rt: HostRuntime) -> Result<(), Fail> {
 
 const EIGHT_SEGMENTS: Settings = Settings { segments: 8, ..S };
 
+// Has room for an upgrade of what the runs hold.
+const LONG_LOG: Settings = Settings { segments: 32, ..S };
+
 // Lets a thread give up its turn some times before it works a piece, by a seed.
 #[derive(Drop)]
 struct Swaying {
@@ -192,40 +195,31 @@ fn answer_drawn(
     Ok(())
 }
 
-// A flush; and where the log is full, a clean, which is told.
-fn flush_or_clean(
+// A flush, or an upgrade; and where the log is full, a clean, which is noted.
+fn write_or_clean(
     rt: &(impl Threads + Sync),
     crew: Crew,
     store: &mut Store<MemDisk<Global>>,
+    is_upgrade: bool,
     text: &mut String,
 ) -> Result<(), AllocError> {
-    if store.flush(rt, crew) != Err(Fault::Full) {
+    let written = if is_upgrade {
+        store.upgrade(rt, crew)
+    } else {
+        store.flush(rt, crew)
+    };
+    if written != Err(Fault::Full) {
         return Ok(());
     }
-    let told = match store.clean(rt, crew) {
+    let cleaned = match store.clean(rt, crew) {
         Ok(_head) => " cleaned ",
         Err(_fault) => " full ",
     };
-    text.push_str(told)
+    text.push_str(cleaned)
 }
 
-// An upgrade, where there was none yet and the log has room for it.
-fn upgrade_once(
-    rt: &(impl Threads + Sync),
-    crew: Crew,
-    store: &mut Store<MemDisk<Global>>,
-    text: &mut String,
-) -> Result<(), AllocError> {
-    let told = match store.upgrade(rt, crew) {
-        Ok(_sequence) => " upgraded ",
-        Err(Fault::AlreadyUpgraded) => "",
-        Err(_fault) => " full ",
-    };
-    text.push_str(told)
-}
-
-// What a run by the seed answers, and the bytes of the disk that it leaves: batches, flushes, cleans of a log that is full, openings, and in
-// its second half an upgrade.
+// What a run by the seed answers, and the bytes of the disk that it leaves: batches, flushes, cleans of a log that is full, openings, and an
+// upgrade.
 fn run_by(
     rt: &(impl Threads + Sync),
     alloc: Global,
@@ -235,14 +229,13 @@ fn run_by(
     let gate = Swaying { seed };
     let mut state = seed;
     let mut text = String::new(alloc);
-    let mut store = new_store(alloc, EIGHT_SEGMENTS)?;
+    let mut store = new_store(alloc, LONG_LOG)?;
     for round in 0..60u32 {
         answer_drawn(rt, alloc, crew, &gate, &mut store, &mut state, &mut text)?;
-        if round % 3 == 2 {
-            flush_or_clean(rt, crew, &mut store, &mut text)?;
-        }
-        if round % 3 == 1 && round > 30 {
-            upgrade_once(rt, crew, &mut store, &mut text)?;
+        // The log has room for all pages then.
+        let is_upgrade = round == 10;
+        if is_upgrade || round % 3 == 2 {
+            write_or_clean(rt, crew, &mut store, is_upgrade, &mut text)?;
         }
         if round % 20 == 19 {
             store = opened(store.reopen(rt, crew))?;
@@ -264,16 +257,16 @@ fn is_same(
     Ok(found.0.as_str() == answers && found.1.as_slice() == bytes)
 }
 
-// Whether both slots say that the log is of version 2.
-fn is_upgraded(bytes: &[u8]) -> bool {
-    bytes.get(175) == Some(&2) && bytes.get(239) == Some(&2)
+// Whether both slots say that the log is of version 2, and the first one that it was cleaned.
+fn is_upgraded_and_cleaned(bytes: &[u8]) -> bool {
+    bytes.get(175) == Some(&2) && bytes.get(239) == Some(&2) && bytes.get(151) > Some(&0)
 }
 
 #[test]
 fn every_crew_answers_and_writes_the_same(rt: HostRuntime) -> Result<(), Fail> {
     for seed in 1..4u64 {
         let (answers, bytes) = run_by(&rt, rt.alloc(), ALONE, seed)?;
-        assert!(rt; answers.len() > 500 && is_upgraded(&bytes), "{}", answers.len());
+        assert!(rt; answers.len() > 500 && is_upgraded_and_cleaned(&bytes), "{}", answers.len());
         for workers in [1, 2, 3, 7, 64] {
             for grain in [1, 2, 64] {
                 let crew = Crew { workers, grain };
