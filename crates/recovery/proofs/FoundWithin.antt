@@ -84,12 +84,12 @@ module _ (s : Format) where
   earlier-within : (file : List ℕ) (head k : ℕ) (found : List Found) → read_earlier s file head k ≡ ok found → GoodFound found
   earlier-within file head zero found e = let same : [] ≡ found = cc in subst (λ (xs : List Found). GoodFound xs) same tt
   earlier-within file head (suc k) found e =
-      both (read_earlier s file head k) (read_segment s is_padding (head + k) (segment_bytes s file (head + k))) found e
-      (λ xs h. earlier-within file head k xs h) (λ ys h. segment-within is_padding (head + k) (segment_bytes s file (head + k)) ys h)
+      both (read_earlier s file head k) (read_segment s is_padding (head + k) (segment_bytes s.settings file (head + k))) found e
+      (λ xs h. earlier-within file head k xs h) (λ ys h. segment-within is_padding (head + k) (segment_bytes s.settings file (head + k)) ys h)
 
   pub log-within : (file : List ℕ) (head tail : ℕ) (found : List Found) → log_between s file head tail ≡ ok found → GoodFound found
   log-within file head tail found e =
-      let k : ℕ = last_segment s tail - head in
-      let used : ℕ = bytes_in_use s tail in
-      both (read_earlier s file head k) (read_segment s is_at_tail (head + k) (take used (segment_bytes s file (head + k)))) found e
-      (λ xs h. earlier-within file head k xs h) (λ ys h. segment-within is_at_tail (head + k) (take used (segment_bytes s file (head + k))) ys h)
+      let k : ℕ = last_segment s.settings tail - head in
+      let used : ℕ = bytes_in_use s.settings tail in
+      both (read_earlier s file head k) (read_segment s is_at_tail (head + k) (take used (segment_bytes s.settings file (head + k)))) found e
+      (λ xs h. earlier-within file head k xs h) (λ ys h. segment-within is_at_tail (head + k) (take used (segment_bytes s.settings file (head + k))) ys h)
