@@ -117,7 +117,7 @@ module _ {A : Type 0} (b : Batching A) (s : Settings) where
         subst (λ (x : Store × List ℕ). IsStoreOf s x.0 x.1) same (keeps st file cs is allowed words).1
     step-kept st file Flush q is words e = (flush-read_back s st file is words q.1.0 q.1.1 (went (after_flush s st file) (λ p. Flushed p.0.sequence) q e)).1
     step-kept st file Clean q is words e = clean-in_step s st q.1.0 file q.1.1 is (went (after_clean s st file) (λ p. Cleaned p.0.head) q e)
-    step-kept st file Upgrade q is words e = (upgrade-read_back s st file is words q.1.0 q.1.1 (went (after_upgrade s st file) (λ p. Upgraded p.0.sequence) q e)).1
+    step-kept st file Upgrade q is words e = (upgrade-read_back s st q.1.0 file q.1.1 (went (after_upgrade s st file) (λ p. Upgraded p.0.sequence) q e) is words).1
 
     -- a crash in it leaves what was before, or all of it
     pub step-crash : (st : Store) (file c : List ℕ) (x : Step A) (q : Answer A × (Store × List ℕ)) → IsStoreOf s st file → HasWords b s st x → after_step b s st file x ≡ Ok q → LeftDuring (step_calls s st file x) file c

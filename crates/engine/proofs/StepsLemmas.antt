@@ -11,7 +11,7 @@ use Rattle.keys.specs.Results.{and_then}
 use Rattle.keys.proofs.RunLemmas.{replies_to-append, map_after_all-append}
 use Rattle.mapping.specs.Levels.{contents}
 use Rattle.mapping.specs.Tree.{Tree, Store, with_tree}
-use Rattle.flush_log.specs.AfterFlush.{after_flush, after_upgrade}
+use Rattle.flush_log.specs.AfterFlush.{slot_of, after_flush, after_upgrade}
 use Rattle.flush_log.specs.FlushText.{flushed}
 use Rattle.recovery.specs.InStep.{IsInStep, AreInStep, IsStoreOf}
 use Rattle.recovery.specs.StoreOfDisk.{store_of_disk}
@@ -43,7 +43,7 @@ with_ends s st on_disk file read (other, is, step) =
     let pair : (let p : Settings × Store = (s, other) in p ≡ (s, on_disk)) = cc in
     let same : other ≡ on_disk = ap (λ (p : Settings × Store). p.1) pair in
     let here : AreInStep st on_disk = subst (λ (x : Store). AreInStep st x) same step in
-    (here, read ∙ ap (stored s) (sym (same_store on_disk st.head st.tail st.sequence st.version (sym here.head) (sym here.tail) (sym here.sequence) (sym here.version))))
+    (here, read ∙ ap (stored s) (ap (λ (x : Store). with_tree x on_disk.tree) (same_store st on_disk on_disk.tree (slot_of on_disk) here refl)))
 
 module _ {A : Type 0} (b : Batching A) (s : Settings) (keeps : KeepsStores s b) where
   -- where nothing more is played
@@ -99,7 +99,7 @@ module _ {A : Type 0} (b : Batching A) (s : Settings) (keeps : KeepsStores s b) 
         WordsOn st xs Upgrade u → ArePlayed b s st.tree on_disk.tree (Upgrade ∷ xs) p)
     upgrade_on (Err fault) e words = stopped st on_disk file (Upgrade ∷ xs) (Some fault) read is
     upgrade_on (Ok q) e words =
-        let shown = further q.0 q.1 (upgrade-read_back s st file is words.0 q.0 q.1 e) (upgraded-tree s st q.0 file q.1 is.is e) words.1 in
+        let shown = further q.0 q.1 (upgrade-read_back s st q.0 file q.1 e is words.0) (upgraded-tree s st q.0 file q.1 e is.is) words.1 in
         record { replies = shown.replies; holds = shown.holds; disk = shown.disk; store = shown.store }
 
     clean_on : (r : Result (Store × List ℕ) Fault) → after_clean s st file ≡ r
