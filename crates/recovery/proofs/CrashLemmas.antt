@@ -54,7 +54,7 @@ none_left (suc k) file c h = h
 
 module _ (s : Settings) (text : Text) (file c : List ℕ) (tree : Tree) (on_disk : Store) (by : StandsBy s file on_disk) (within : HasFrames s text tree) where
   abbrev before : Store
-  before = started s text tree by.slot within
+  before = started text tree by.slot
 
   by_text : (frames : List Frame) → text_of text tree ≡ frames → (now : Store) (bytes : List ℕ) → after_text s before file (text_of text tree) ≡ left now bytes → LeftDuring (text_calls s before file frames) file c
       → (store_of_disk c ≡ store_of_disk file) ⊎ (c ≡ bytes)

@@ -106,16 +106,17 @@ read-upgraded Two s file head tail found h = h
 
 -- ---- what is read afterwards
 
+-- the store with this tree and what this slot says, as the text takes it
+abbrev pub started : Text → Tree → Slot → Store
+started text tree slot = store_after tree (slot_with (version_with text) slot)
+
 module _ (s : Settings) (text : Text) (tree : Tree) (slot : Slot) (within : HasFrames s text tree) where
   abbrev frames : List Frame
   frames = text_of text tree
 
-  -- the store with this tree, as the text takes it, and the slot of its commit
-  abbrev pub started : Store
-  started = store_after tree (slot_with (version_with text) slot)
-
+  -- the slot of its commit
   abbrev next : Slot
-  next = flush_slot s started frames
+  next = flush_slot s (started text tree slot) frames
 
   -- where its numbers aren't spent and a segment stays free, it is well formed
   pub next-good : first_bad_field s ≡ None → IsSlot s slot.sequence slot → tree.root < 2 ^ 64 → 1 ≤ tree.height → tree.height ≤ 64
@@ -167,7 +168,7 @@ kept-with s version st is = record { good = is.good; proper = is.proper; logs = 
 
 module _ (s : Settings) (text : Text) (file : List ℕ) (tree : Tree) (on_disk : Store) (by : StandsBy s file on_disk) (is : IsStore s (store_after tree by.slot)) (within : HasFrames s text tree) where
   abbrev before : Store
-  before = started s text tree by.slot within
+  before = started text tree by.slot
 
   abbrev written_store : Store
   written_store = store_after (flushed tree) (flush_slot s before (text_of text tree))

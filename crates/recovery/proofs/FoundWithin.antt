@@ -1,4 +1,4 @@
--- The frames that a reading of the log finds are within the settings.
+-- The frames that a reading of the log finds are such as a log of its format may have.
 use Rattle.std.specs.Prelude.{◌≡◌, ℕ, zero, suc, ◌+◌, ◌-◌, Bool, true, false, nat_eq, if◌then◌else◌, List, [], ◌∷◌, length, take, drop, Option, Some, None, Result, Ok, Err}
 use Rattle.std.proofs.Common.{refl, sym, ap, ◌∙◌, subst}
 use Rattle.std.specs.List.{AllByRecursion, starts_with}
@@ -15,7 +15,7 @@ use Rattle.flush_log.proofs.ReadBackLemmas.{ok, followed_by-ok}
 use Rattle.flush_log.proofs.SegmentLemmas.{in_segment-ok}
 
 module _ (s : Format) where
-  -- frames within the settings
+  -- frames of the format
   abbrev Good : List Frame → Type 0
   Good fs = AllByRecursion (λ f. is_frame s f ≡ true) fs
 

@@ -18,8 +18,8 @@ abbrev pub IsLogged : ℕ → Option PageOfKind → Option PageOfKind → Type 0
 IsLogged k (Some logged) (Some now) = (page_depth logged ≡ k) × IsPageOver logged now
 IsLogged k _ _ = ⊥
 
--- Of a store, and of the one that its disk stands for: the log ends at the same places and has the same version; the store knows of which pids the log
--- has a page; and of each whose base and k oldest runs it takes for written, the log has just these.
+-- Of a store, and of the one that its disk stands for: the log ends at the same places, and has the same version; the store knows
+-- of which pids the log has a page; and of each whose base and k oldest runs it takes for written, the log has just these.
 pub record AreInStep (st on_disk : Store) : Type 0 where
   pub head : st.head ≡ on_disk.head
   pub tail : st.tail ≡ on_disk.tail

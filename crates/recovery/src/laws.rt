@@ -42,8 +42,9 @@ pub fn a_crash_in_a_flush_leaves_the_store_before_or_after()
         (store_of_disk c ≡ store_of_disk file) ⊎ (c ≡ bytes) }
 {}
 
-/// What was upgraded is what is read, as what was flushed is: the disk after an upgrade stands for the very store after it, of which the
-/// log is of the second version. What it had of the first one is read by that version as well.
+/// What was upgraded is what is read: the disk after an upgrade stands for the very store after it, which is one as every store is, and
+/// whose log has the second version. Its tree is the one that a flush would leave. Whatever the disk does, the store stays one as every
+/// store is.
 pub fn what_was_upgraded_is_what_is_read()
     ensures read { (s : Settings) (st now : Store) (file bytes : Bytes) → IsStoreOf s st file → HasFrames s Upgrade st.tree →
         after_upgrade s st file ≡ Ok (now, bytes) → (store_of_disk bytes ≡ Ok (s, now)) × IsStoreOf s now bytes }
