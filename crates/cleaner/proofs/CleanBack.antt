@@ -243,19 +243,12 @@ module _ (s : Settings) (file : List ℕ) (tree : Tree) (on_disk : Store) (by : 
       ended : Tree → Slot → Result (Settings × Store) Fault
       ended t u = Ok (s, store_after t u)
 
--- a store in step is its tree with the numbers of the slot
-pub same-store : (s : Settings) (file : List ℕ) (st on_disk : Store) (by : StandsBy s file on_disk) → AreInStep st on_disk → store_after st.tree by.slot ≡ st
-same-store s file st on_disk by are =
-    let store = by.store in
-    same_store st by.slot.head by.slot.tail by.slot.sequence by.slot.version (are.head ∙ ap (λ (x : Store). x.head) store) (are.tail ∙ ap (λ (x : Store). x.tail) store)
-    (are.sequence ∙ ap (λ (x : Store). x.sequence) store) (are.version ∙ ap (λ (x : Store). x.version) store)
-
 -- a clean keeps the store of the disk, and the store in memory in step with it
 pub clean-back : (s : Settings) (st on_disk : Store) (file : List ℕ) → store_of_disk file ≡ Ok (s, on_disk) → AreInStep st on_disk → (now : Store) (bytes : List ℕ) → after_clean s st file ≡ left now bytes
     → StandsStill s on_disk.tree now bytes
 clean-back s st on_disk file is are now bytes h =
     let by : StandsBy s file on_disk = store-stands s file on_disk is in
-    let same : store_after st.tree by.slot ≡ st = same-store s file st on_disk by are in
+    let same : store_after st.tree by.slot ≡ st = same_store st on_disk (tree_by_log by.slot (frames_in by.found)) by.slot are by.store in
     clean_back s file st.tree on_disk by (subst (λ (x : Store). AreInStep x on_disk) (sym same) are) now bytes (ap (λ (x : Store). after_clean s x file) same ∙ h)
 
 -- what a clean leaves of the store in memory

@@ -175,9 +175,9 @@ base_in g e file = cleaned_slot g.version e (slot_on_disk e.sequence file)
 pub base_still : (g : Format) (e : LogEnds) (on_disk u : Slot) (file now : List ℕ) → on_disk ≡ slot_on_disk e.sequence file → take segments_begin now ≡ take segments_begin file → u ≡ cleaned_slot g.version e on_disk → u ≡ base_in g e now
 base_still g e on_disk u file now read front is = is ∙ ap (λ (d : Slot). cleaned_slot g.version e d) (read ∙ sym (slot-still e.sequence file now front))
 
--- images of a log's frames are those of a log with the slot that a clean makes of its ends
-pub images-by : (g : Format) (e : LogEnds) (on_disk u : Slot) (text : List Frame) (images : List (List (List ℕ))) → u ≡ cleaned_slot g.version e on_disk → AreImages g text images → AreImages (format_of g.settings u) text images
-images-by g e on_disk u text images is are = subst (λ (v : Slot). AreImages (format_of g.settings v) text images) (sym is) are
+-- images for a log of this format are so by a slot with its version
+pub images-by : (g : Format) (u : Slot) (text : List Frame) (images : List (List (List ℕ))) → u.version ≡ g.version → AreImages g text images → AreImages (format_of g.settings u) text images
+images-by g u text images same are = subst (λ (v : Version). AreImages (record { settings = g.settings; version = v }) text images) (sym same) are
 
 -- ---- a clean that is refused for its tail, or done
 

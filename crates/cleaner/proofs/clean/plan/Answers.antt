@@ -1,6 +1,7 @@
-use Rattle.std.proofs.Common.{◌≡◌, ◌≢◌, ◌∙◌, List, inr}
+use Rattle.std.proofs.Common.{◌≡◌, ◌≢◌, ◌∙◌, List, ap, inr}
 use Rattle.keys.specs.declared.fault.Fault.TheVariants.{Device}
 use Rattle.frame_codec.specs.Frame.{Frame}
+use Rattle.flush_log.specs.Slot.{Slot}
 use Rattle.recovery.proofs.ReadBytes.{first_read, kept_then, same_on, read_before, handed_on, err_on}
 use Rattle.cleaner.specs.CleanText.{clean_text}
 use Rattle.cleaner.proofs.PlanLemmas.{since, head-room, log-left, base_still, images-by, as-clean}
@@ -59,7 +60,7 @@ plan-requires-clause-text g c =
     let (next, then, slot) = c.in_ok-on_disk.ensures.read file is in
     let (now, bytes, front, text) = c.in_ok-images.ensures.read next then in
     let words : List Frame = clean_text c.args.ends.now.head text.0 in
-    (words, images-by c.args.format.now c.args.ends.now _ _ words _ c.cleaned_slot-base.ensures text.2)
+    (words, images-by c.args.format.now c.cleaned_slot-base.result words _ (ap (λ (t : Slot). t.version) c.cleaned_slot-base.ensures) text.2)
 
 pub returns-clause-same : goal.returns-clause-same
 returns-clause-same g c =
@@ -81,5 +82,5 @@ returns-clause-read g c =
     let base = base_still f t _ _ next now slot front c.cleaned_slot-base.ensures in (
       now,
       read_before old new now (kept_then old mid new c.in_ok-on_disk.ensures.kept c.in_ok-images.ensures.kept) (returns-clause-same g c) bytes,
-      as-clean f t _ now text.0 (failed c.args.disk.now) (failed c.read_text.new.disk) c.plan.result c.requires.more text.1 base (c.plan.ensures (clean_text t.head text.0) (images-by f t _ _ (clean_text t.head text.0) _ c.cleaned_slot-base.ensures text.2)),
+      as-clean f t _ now text.0 (failed c.args.disk.now) (failed c.read_text.new.disk) c.plan.result c.requires.more text.1 base (c.plan.ensures (clean_text t.head text.0) (images-by f c.cleaned_slot-base.result (clean_text t.head text.0) _ (ap (λ (u : Slot). u.version) c.cleaned_slot-base.ensures) text.2)),
     )
