@@ -8,11 +8,11 @@ use Rattle.std.specs.Ordering.{nat_cmp}
 use Rattle.std.proofs.lemmas.List.{map-append}
 use Rattle.keys.specs.Bytes.{Bytes}
 use Rattle.keys.specs.Limits.{first_bad_field}
-use Rattle.keys.specs.declared.settings.Settings.{Settings}
 use Rattle.index_page.proofs.ListLemmas.{all-append, all-filter}
 use Rattle.mapping.specs.Proper.{AreRisingPids}
 use Rattle.frame_codec.specs.Frame.{Frame, bytes_of, is_frame}
 use Rattle.frame_codec.specs.Reading.{read_frame}
+use Rattle.frame_codec.specs.declared.format.Format.{Format}
 use Rattle.frame_codec.specs.declared.skim.Skimmed.{Skimmed}
 use Rattle.flush_log.specs.Images.{frames_in as frames_of_images, AreOfText}
 use Rattle.flush_log.specs.Reading.{Found, is_at_tail}
@@ -41,56 +41,56 @@ wanted_carried : (head : ℕ) (fs : List Found) → wanted_of Head head fs ≡ c
 wanted_carried head [] = refl
 wanted_carried head (f ∷ fs) = refl
 
-module _ (s : Settings) (good : first_bad_field s ≡ None) (head : ℕ) (found : List Found) (within : AllByRecursion (λ f. is_frame s f.frame ≡ true) found) where
+module _ (g : Format) (good : first_bad_field g.settings ≡ None) (head : ℕ) (found : List Found) (within : AllByRecursion (λ f. is_frame g f.frame ≡ true) found) where
   abbrev carried_of : ℕ → List Frame
   carried_of pid = carried head (telling pid found)
 
-  page_text : (k : Kept) (pid : ℕ) → IsKept Head head k (telling pid found) → image_in s k.frames.items ≡ spelled (carried_of pid)
+  page_text : (k : Kept) (pid : ℕ) → IsKept Head head k (telling pid found) → image_in g k.frames.items ≡ spelled (carried_of pid)
   page_text k pid h =
-      ap (λ (bs : List ℕ). image_in s bs) h.frames
-      ∙ ap spelled (bytes-frames s good (wanted_of Head head (telling pid found)) (wanted-within s Head head (telling pid found) (telling-within s pid found within)) ∙ wanted_carried head (telling pid found))
+      ap (λ (bs : List ℕ). image_in g bs) h.frames
+      ∙ ap spelled (bytes-frames g good (wanted_of Head head (telling pid found)) (wanted-within g Head head (telling pid found) (telling-within g pid found within)) ∙ wanted_carried head (telling pid found))
 
-  kept_text : (es : List (ℕ × Kept)) → AreRisingPids (keys_of es) → KeepEach Head head found es → frames_kept s es ≡ spelled (flat_map carried_of (keys_of es))
+  kept_text : (es : List (ℕ × Kept)) → AreRisingPids (keys_of es) → KeepEach Head head found es → frames_kept g es ≡ spelled (flat_map carried_of (keys_of es))
   kept_text [] r h = refl
   kept_text ((k, v) ∷ es) r h =
-      ap (λ (i : List (List ℕ)). i ++ frames_kept s es) (page_text v k (first_is Head head found k v es h))
+      ap (λ (i : List (List ℕ)). i ++ frames_kept g es) (page_text v k (first_is Head head found k v es h))
       ∙ ap (λ (i : List (List ℕ)). spelled (carried_of k) ++ i) (kept_text es r.1 (later_are Head head found k v es r h))
       ∙ sym (map-append (λ (f : Frame). bytes_of f) (carried_of k) (flat_map carried_of (keys_of es)))
 
-pub kept-text : (s : Settings) (g : Gathering) (found : List Found) → first_bad_field s ≡ None → IsStrictlySortedBy nat_cmp (keys_of g.by_pid.entries) → AreGathered s Head g found
-    → frames_kept s g.by_pid.entries ≡ spelled (clean_text (first_segment found) found)
-kept-text s g found good sorted h =
+pub kept-text : (g : Format) (pages : Gathering) (found : List Found) → first_bad_field g.settings ≡ None → IsStrictlySortedBy nat_cmp (keys_of pages.by_pid.entries) → AreGathered g Head pages found
+    → frames_kept g pages.by_pid.entries ≡ spelled (clean_text (first_segment found) found)
+kept-text g pages found good sorted h =
     let head = first_segment found in
-    let order = in-order Head head g.by_pid found sorted h.live.kept in
-    kept_text s good head found h.within g.by_pid.entries order.rise order.each ∙ ap (λ (ns : List ℕ). spelled (flat_map (λ pid. carried head (telling pid found)) ns)) order.all
+    let order = in-order Head head pages.by_pid found sorted h.live.kept in
+    kept_text g good head found h.within pages.by_pid.entries order.rise order.each ∙ ap (λ (ns : List ℕ). spelled (flat_map (λ pid. carried head (telling pid found)) ns)) order.all
 
 -- ---- one frame after the other
 
 -- of these bytes these are left, and of the frames in front of them this is the image
-pub record IsImageUpto (s : Settings) (bytes : Bytes) (image : List Bytes) (rest : Bytes) : Type 0 where
+pub record IsImageUpto (g : Format) (bytes : Bytes) (image : List Bytes) (rest : Bytes) : Type 0 where
   pub frames : List Frame
-  pub read : AreRead s is_at_tail (length bytes) bytes frames rest
+  pub read : AreRead g is_at_tail (length bytes) bytes frames rest
   pub of : image ≡ spelled frames
 
-module _ (s : Settings) (bytes : Bytes) where
-  pub image-none : (image : List Bytes) → image ≡ [] → IsImageUpto s bytes image bytes
-  image-none image none = record { frames = []; read = read-none s is_at_tail (length bytes) bytes (omega arith); of = none }
+module _ (g : Format) (bytes : Bytes) where
+  pub image-none : (image : List Bytes) → image ≡ [] → IsImageUpto g bytes image bytes
+  image-none image none = record { frames = []; read = read-none g is_at_tail (length bytes) bytes (omega arith); of = none }
 
-  pub image-more : (image now : List Bytes) (rest : Bytes) (k : Skimmed) (size : ℕ) → IsImageUpto s bytes image rest → is_at_tail rest ≡ false → IsFrame s rest k → size ≡ k.size → now ≡ image ++ take size rest ∷ []
-      → IsImageUpto s bytes now (take (length rest - size) (drop size rest))
+  pub image-more : (image now : List Bytes) (rest : Bytes) (k : Skimmed) (size : ℕ) → IsImageUpto g bytes image rest → is_at_tail rest ≡ false → IsFrame g rest k → size ≡ k.size → now ≡ image ++ take size rest ∷ []
+      → IsImageUpto g bytes now (take (length rest - size) (drop size rest))
   image-more image now rest k size h more f same put = record {
     frames = h.frames ++ f.frame ∷ [];
-    read = subst (λ (behind : Bytes). AreRead s is_at_tail (length bytes) bytes (h.frames ++ f.frame ∷ []) behind) (sym (left-behind k.size rest) ∙ ap (λ (m : ℕ). take (length rest - m) (drop m rest)) (sym same))
-        (read-more s is_at_tail (length bytes) bytes h.frames rest (drop k.size rest) f.frame h.read more f.read f.less);
+    read = subst (λ (behind : Bytes). AreRead g is_at_tail (length bytes) bytes (h.frames ++ f.frame ∷ []) behind) (sym (left-behind k.size rest) ∙ ap (λ (m : ℕ). take (length rest - m) (drop m rest)) (sym same))
+        (read-more g is_at_tail (length bytes) bytes h.frames rest (drop k.size rest) f.frame h.read more f.read f.less);
     of = put ∙ ap (λ (i : List Bytes). i ++ take size rest ∷ []) h.of ∙ ap (λ (b : Bytes). spelled h.frames ++ b ∷ []) (ap (λ (m : ℕ). take m rest) same ∙ f.bytes)
         ∙ sym (map-append (λ (g : Frame). bytes_of g) h.frames (f.frame ∷ []));
   }
 
-  pub image-all : (image : List Bytes) (rest : Bytes) → IsImageUpto s bytes image rest → is_at_tail rest ≡ true → image ≡ image_in s bytes
-  image-all image rest h e = h.of ∙ sym (ap (λ r. spelled (all_or_none r)) (read-all s is_at_tail (length bytes) bytes h.frames rest h.read e))
+  pub image-all : (image : List Bytes) (rest : Bytes) → IsImageUpto g bytes image rest → is_at_tail rest ≡ true → image ≡ image_in g bytes
+  image-all image rest h e = h.of ∙ sym (ap (λ r. spelled (all_or_none r)) (read-all g is_at_tail (length bytes) bytes h.frames rest h.read e))
 
-  pub image-other : (image none : List Bytes) (rest : Bytes) → IsImageUpto s bytes image rest → is_at_tail rest ≡ false → read_frame s rest ≡ None → none ≡ [] → none ≡ image_in s bytes
-  image-other image none rest h e other empty = empty ∙ sym (ap (λ r. spelled (all_or_none r)) (read-broken s is_at_tail (length bytes) bytes h.frames rest h.read e other))
+  pub image-other : (image none : List Bytes) (rest : Bytes) → IsImageUpto g bytes image rest → is_at_tail rest ≡ false → read_frame g rest ≡ None → none ≡ [] → none ≡ image_in g bytes
+  image-other image none rest h e other empty = empty ∙ sym (ap (λ r. spelled (all_or_none r)) (read-broken g is_at_tail (length bytes) bytes h.frames rest h.read e other))
 
 -- ---- one page after the other
 
@@ -99,38 +99,38 @@ frames-append [] ys = refl
 frames-append (x ∷ xs) ys = ap (λ (fs : List (List ℕ)). x ++ fs) (frames-append xs ys) ∙ sym (append_assoc x (frames_of_images xs) (frames_of_images ys))
 
 -- of all pages these are left, and the frames of those in front are these images
-pub record AreChosen (s : Settings) (images : List (List (List ℕ))) (left every : List (ℕ × Kept)) : Type 0 where
-  pub frames : frames_of_images images ++ frames_kept s left ≡ frames_kept s every
+pub record AreChosen (g : Format) (images : List (List (List ℕ))) (left every : List (ℕ × Kept)) : Type 0 where
+  pub frames : frames_of_images images ++ frames_kept g left ≡ frames_kept g every
   pub some : AllByRecursion (λ i. i ≢ []) images
 
-pub chosen-none : (s : Settings) (images : List (List (List ℕ))) (left every : List (ℕ × Kept)) → images ≡ [] → left ≡ every → AreChosen s images left every
-chosen-none s images left every none whole =
-    let e : AreChosen s [] every every = record { frames = refl; some = tt } in
-    subst (λ (es : List (ℕ × Kept)). AreChosen s images es every) (sym whole) (subst (λ (is : List (List (List ℕ))). AreChosen s is every every) (sym none) e)
+pub chosen-none : (g : Format) (images : List (List (List ℕ))) (left every : List (ℕ × Kept)) → images ≡ [] → left ≡ every → AreChosen g images left every
+chosen-none g images left every none whole =
+    let e : AreChosen g [] every every = record { frames = refl; some = tt } in
+    subst (λ (es : List (ℕ × Kept)). AreChosen g images es every) (sym whole) (subst (λ (is : List (List (List ℕ))). AreChosen g is every every) (sym none) e)
 
-module _ (s : Settings) (images : List (List (List ℕ))) (left every : List (ℕ × Kept)) (h : AreChosen s images left every) where
+module _ (g : Format) (images : List (List (List ℕ))) (left every : List (ℕ × Kept)) (h : AreChosen g images left every) where
   -- the next page has no frames
-  pub next-none : (e : ℕ × Kept) (rest : List (ℕ × Kept)) (image : List (List ℕ)) → left ≡ e ∷ rest → image ≡ image_in s e.1.frames.items → image ≡ [] → AreChosen s images rest every
+  pub next-none : (e : ℕ × Kept) (rest : List (ℕ × Kept)) (image : List (List ℕ)) → left ≡ e ∷ rest → image ≡ image_in g e.1.frames.items → image ≡ [] → AreChosen g images rest every
   next-none e rest image is made none = record {
-    frames = ap (λ (i : List (List ℕ)). frames_of_images images ++ (i ++ frames_kept s rest)) (sym none ∙ made) ∙ ap (λ (es : List (ℕ × Kept)). frames_of_images images ++ frames_kept s es) (sym is) ∙ h.frames;
+    frames = ap (λ (i : List (List ℕ)). frames_of_images images ++ (i ++ frames_kept g rest)) (sym none ∙ made) ∙ ap (λ (es : List (ℕ × Kept)). frames_of_images images ++ frames_kept g es) (sym is) ∙ h.frames;
     some = h.some;
   }
 
   -- it has some
-  pub next-some : (now : List (List (List ℕ))) (e : ℕ × Kept) (rest : List (ℕ × Kept)) (image : List (List ℕ)) → left ≡ e ∷ rest → image ≡ image_in s e.1.frames.items → image ≢ [] → now ≡ images ++ image ∷ []
-      → AreChosen s now rest every
+  pub next-some : (now : List (List (List ℕ))) (e : ℕ × Kept) (rest : List (ℕ × Kept)) (image : List (List ℕ)) → left ≡ e ∷ rest → image ≡ image_in g e.1.frames.items → image ≢ [] → now ≡ images ++ image ∷ []
+      → AreChosen g now rest every
   next-some now e rest image is made some put = record {
-    frames = ap (λ (is : List (List (List ℕ))). frames_of_images is ++ frames_kept s rest) put
-        ∙ ap (λ (fs : List (List ℕ)). fs ++ frames_kept s rest) (frames-append images (image ∷ []) ∙ ap (λ (i : List (List ℕ)). frames_of_images images ++ i) (append-nil image))
-        ∙ append_assoc (frames_of_images images) image (frames_kept s rest)
-        ∙ ap (λ (i : List (List ℕ)). frames_of_images images ++ (i ++ frames_kept s rest)) made
-        ∙ ap (λ (es : List (ℕ × Kept)). frames_of_images images ++ frames_kept s es) (sym is) ∙ h.frames;
+    frames = ap (λ (is : List (List (List ℕ))). frames_of_images is ++ frames_kept g rest) put
+        ∙ ap (λ (fs : List (List ℕ)). fs ++ frames_kept g rest) (frames-append images (image ∷ []) ∙ ap (λ (i : List (List ℕ)). frames_of_images images ++ i) (append-nil image))
+        ∙ append_assoc (frames_of_images images) image (frames_kept g rest)
+        ∙ ap (λ (i : List (List ℕ)). frames_of_images images ++ (i ++ frames_kept g rest)) made
+        ∙ ap (λ (es : List (ℕ × Kept)). frames_of_images images ++ frames_kept g es) (sym is) ∙ h.frames;
     some = subst (λ (is : List (List (List ℕ))). AllByRecursion (λ i. i ≢ []) is) (sym put) (all-append (λ i. i ≢ []) images (image ∷ []) h.some (some, tt));
   }
 
   -- all are chosen
-  pub all-chosen : left ≡ [] → frames_of_images images ≡ frames_kept s every
-  all-chosen none = sym (append-nil (frames_of_images images)) ∙ ap (λ (es : List (ℕ × Kept)). frames_of_images images ++ frames_kept s es) (sym none) ∙ h.frames
+  pub all-chosen : left ≡ [] → frames_of_images images ≡ frames_kept g every
+  all-chosen none = sym (append-nil (frames_of_images images)) ∙ ap (λ (es : List (ℕ × Kept)). frames_of_images images ++ frames_kept g es) (sym none) ∙ h.frames
 
 -- images none of which is empty: there are none, or their text has a frame
 pub some-text : (images : List (List (List ℕ))) (text : List Frame) → AreOfText images text → AllByRecursion (λ i. i ≢ []) images → (images ≡ []) ⊎ (1 ≤ length text)

@@ -11,15 +11,16 @@ use Rattle.keys.specs.declared.settings.Settings.{Settings}
 use Rattle.keys.specs.Results.{and_then}
 use Rattle.index_page.proofs.ListLemmas.{all_weaker}
 use Rattle.mapping.specs.Finding.{Finding, finding}
-use Rattle.mapping.specs.Tree.{Tree, Store}
+use Rattle.mapping.specs.Tree.{Tree, Store, with_tree}
 use Rattle.frame_codec.specs.Frame.{Frame, is_frame}
+use Rattle.frame_codec.specs.declared.format.Format.{Format}
 use Rattle.flush_log.specs.AfterFlush.{slot_of, store_after}
 use Rattle.flush_log.specs.Commit.{HasRoom, committed}
 use Rattle.flush_log.specs.FlushText.{tree_in_log}
 use Rattle.flush_log.specs.Layout.{tail_after, found_in_text, spans, is_full_for_clean}
 use Rattle.flush_log.specs.Reading.{Found, all_in, log}
 use Rattle.flush_log.specs.Segments.{last_segment}
-use Rattle.flush_log.specs.Slot.{Slot, greatest, slot_in, store_slot}
+use Rattle.flush_log.specs.Slot.{Slot, format_of, greatest, slot_in, store_slot}
 use Rattle.flush_log.proofs.FitLemmas.{are_sized}
 use Rattle.flush_log.proofs.HeadLemmas.{HeadOff, head-off}
 use Rattle.flush_log.proofs.LayoutLemmas.{split-tail}
@@ -48,25 +49,28 @@ in_head n (f ∷ fs) = (eq-eqb n n refl, in_head n fs)
 
 -- ---- what is read afterwards
 
-module _ (s : Settings) (file : List ℕ) (slot : Slot) (found : List Found) (reads : Reads s file slot found) (more : slot.head < last_segment s slot.tail) (within : AllByRecursion (λ f. is_frame s f.frame ≡ true) found) (sound : broken_in (frames_in found) ≡ None)
+module _ (s : Settings) (file : List ℕ) (slot : Slot) (found : List Found) (reads : Reads s file slot found) (more : slot.head < last_segment s slot.tail) (within : AllByRecursion (λ f. is_frame (format_of s slot) f.frame ≡ true) found) (sound : broken_in (frames_in found) ≡ None)
     (proper : finding s (tree_by_log slot (frames_in found)) ≡ None) where
+  abbrev g : Format
+  g = format_of s slot
+
   abbrev text : List Frame
   text = clean_text slot.head found
 
   -- the slot of a clean of this log
   abbrev next : Slot
-  next = record { sequence = suc slot.sequence; head = suc slot.head; tail = tail_after s slot.tail text; root = slot.root; height = slot.height }
+  next = record { sequence = suc slot.sequence; head = suc slot.head; tail = tail_after s slot.tail text; root = slot.root; height = slot.height; version = slot.version }
 
   abbrev file' : List ℕ
   file' = committed s file (spans s slot.tail text) next
 
-  abbrev off : HeadOff s file slot.head slot.tail found more reads.log
-  off = head-off s file slot.head slot.tail found more reads.log
+  abbrev off : HeadOff g file slot.head slot.tail found more reads.log
+  off = head-off g file slot.head slot.tail found more reads.log
 
-  pub room_for : is_full_for_clean s slot.head next.tail ≡ false → HasRoom s file slot text
+  pub room_for : is_full_for_clean s slot.head next.tail ≡ false → HasRoom g file slot text
   room_for free =
       let (block, good, whole) = store_settings-are file s reads.settings in
-      record { good = good; whole = whole; slot = reads.slot; within = all-clean_text (λ f. is_frame s f ≡ true) slot.head found within; free = room-for-clean s slot.head next.tail free }
+      record { good = good; whole = whole; slot = reads.slot; within = all-clean_text (λ f. is_frame g f ≡ true) slot.head found within; free = room-for-clean s slot.head next.tail free }
 
   clean-reads : next.sequence ≤ greatest → next.tail ≤ greatest → is_full_for_clean s slot.head next.tail ≡ false → Reads s file' next (off.rest ++ found_in_text s slot.tail text)
   clean-reads number small free =
@@ -77,8 +81,8 @@ module _ (s : Settings) (file : List ℕ) (slot : Slot) (found : List Found) (re
       let count = sized.least_count in
       let whole = room.whole in
       let last = room.free in
-      let fits = text-fits s file slot text room in
-      let was : IsSlot s slot.sequence slot = slot_good s file slot text room in
+      let fits = text-fits g file slot text room in
+      let was : IsSlot s slot.sequence slot = slot_good g file slot text room in
       let behind = was.behind in
       let split = split-tail s slot.head slot.tail (omega arith) (omega arith) in
       let is = split.is in
@@ -87,9 +91,9 @@ module _ (s : Settings) (file : List ℕ) (slot : Slot) (found : List Found) (re
       record {
         settings = after-settings s file (spans s slot.tail text) next (omega (arith, whole)) fits ∙ reads.settings;
         slot = after-slot s file (spans s slot.tail text) next (omega (arith, whole)) fits slot (omega (arith, size)) reads.slot refl
-            (next_good s slot.sequence slot next text good was room.within refl number refl small (omega arith) (omega arith) (omega (arith, last)) was.root was.height.0 was.height.1);
-        log = after-log s file (spans s slot.tail text) next whole fits (omega (arith, count)) (suc slot.head) next.tail
-            ∙ text-back s good file (suc slot.head) slot.tail off.rest text whole room.within (omega (arith, is, low, above)) off.read_on (omega (arith, last));
+            (next_good g slot.sequence slot next text good was room.within refl number refl small (omega arith) (omega arith) (omega (arith, last)) was.root was.height.0 was.height.1);
+        log = after-log g file (spans s slot.tail text) next whole fits (omega (arith, count)) (suc slot.head) next.tail
+            ∙ text-back g good file (suc slot.head) slot.tail off.rest text whole room.within (omega (arith, is, low, above)) off.read_on (omega (arith, last));
       }
 
   -- the frames afterwards have the pages that there were
@@ -163,18 +167,18 @@ clean-done s st file now bytes e =
 
 -- what is left of a store and of its disk, where the disk stands for this tree
 abbrev pub StandsStill : Settings → Tree → Store → List ℕ → Type 0
-StandsStill s tree now bytes = (store_of_disk bytes ≡ Ok (s, record { tree = tree; head = now.head; tail = now.tail; sequence = now.sequence })) × IsInStep s now bytes
+StandsStill s tree now bytes = (store_of_disk bytes ≡ Ok (s, with_tree now tree)) × IsInStep s now bytes
 
 -- the slot of a clean, of the slot before
 abbrev pub next_of : Slot → Settings → List Frame → Slot
-next_of slot s text = record { sequence = suc slot.sequence; head = suc slot.head; tail = tail_after s slot.tail text; root = slot.root; height = slot.height }
+next_of slot s text = record { sequence = suc slot.sequence; head = suc slot.head; tail = tail_after s slot.tail text; root = slot.root; height = slot.height; version = slot.version }
 
 module _ (s : Settings) (file : List ℕ) (tree : Tree) (on_disk : Store) (by : StandsBy s file on_disk) where
   abbrev slot_head_differs : Type 0
   slot_head_differs = by.slot.head ≢ last_segment s by.slot.tail
 
   same_step : (u : Slot) → AreInStep (store_after tree by.slot) on_disk → AreInStep (store_after tree u) (store_after on_disk.tree u)
-  same_step u step = record { head = refl; tail = refl; sequence = refl; none = step.none; upto = step.upto }
+  same_step u step = record { head = refl; tail = refl; sequence = refl; version = refl; none = step.none; upto = step.upto }
 
   pub same_found : (found : List Found) → log s file by.slot ≡ Ok found → by.found ≡ found
   same_found found read =
@@ -210,7 +214,7 @@ module _ (s : Settings) (file : List ℕ) (tree : Tree) (on_disk : Store) (by : 
       let text : List Frame = clean_text slot.head c.found in
       let (block, good, whole) = store_settings-are file s by.reads.settings in
       let is_next : clean_slot s (store_after tree by.slot) file text ≡ next_of slot s text =
-      ap (λ (u : Slot). (let t : Slot = record { sequence = suc slot.sequence; head = suc slot.head; tail = tail_after s slot.tail text; root = u.root; height = u.height } in t)) (slot-same s file slot good by.reads.slot) in
+      ap (λ (u : Slot). (let t : Slot = record { sequence = suc slot.sequence; head = suc slot.head; tail = tail_after s slot.tail text; root = u.root; height = u.height; version = slot.version } in t)) (slot-same s file slot good by.reads.slot) in
       record {
         found = c.found;
         same = same_found c.found c.read;
@@ -229,7 +233,7 @@ module _ (s : Settings) (file : List ℕ) (tree : Tree) (on_disk : Store) (by : 
       let done = c.done in
       let next : Slot = next_of slot s (clean_text slot.head found) in
       let proper = subst (λ (fs : List Found). finding s (tree_by_log slot (frames_in fs)) ≡ None) c.same by.proper in
-      let read = clean-read s file slot found c.reads c.more (log-within s file slot.head slot.tail found c.reads.log) c.sound proper done.number done.tail done.room in
+      let read = clean-read s file slot found c.reads c.more (log-within (format_of s slot) file slot.head slot.tail found c.reads.log) c.sound proper done.number done.tail done.room in
       let kept : tree_by_log slot (frames_in found) ≡ on_disk.tree = ap (λ (fs : List Found). tree_by_log slot (frames_in fs)) (sym c.same) ∙ ap (λ (x : Store). x.tree) (sym by.store) in
       let file' : List ℕ = committed s file (spans s slot.tail (clean_text slot.head found)) next in
       let stands : store_of_disk file' ≡ Ok (s, store_after on_disk.tree next) = read ∙ ap (λ (t : Tree). ended t next) kept in
@@ -244,17 +248,14 @@ pub clean-back : (s : Settings) (st on_disk : Store) (file : List ℕ) → store
     → StandsStill s on_disk.tree now bytes
 clean-back s st on_disk file is are now bytes h =
     let by : StandsBy s file on_disk = store-stands s file on_disk is in
-    let slot : Slot = by.slot in
-    let store = by.store in
-    let same : store_after st.tree slot ≡ st =
-    same_store st slot.head slot.tail slot.sequence (are.head ∙ ap (λ (x : Store). x.head) store) (are.tail ∙ ap (λ (x : Store). x.tail) store) (are.sequence ∙ ap (λ (x : Store). x.sequence) store) in
+    let same : store_after st.tree by.slot ≡ st = same_store st on_disk (tree_by_log by.slot (frames_in by.found)) by.slot are by.store in
     clean_back s file st.tree on_disk by (subst (λ (x : Store). AreInStep x on_disk) (sym same) are) now bytes (ap (λ (x : Store). after_clean s x file) same ∙ h)
 
 -- what a clean leaves of the store in memory
-pub cleaned-store : (s : Settings) (st now : Store) (file bytes : List ℕ) → after_clean s st file ≡ left now bytes → (now.tree ≡ st.tree) × (now.head ≡ suc st.head) × (now.sequence ≡ suc st.sequence)
+pub cleaned-store : (s : Settings) (st now : Store) (file bytes : List ℕ) → after_clean s st file ≡ left now bytes → (now.tree ≡ st.tree) × (now.head ≡ suc st.head) × (now.sequence ≡ suc st.sequence) × (now.version ≡ st.version)
 cleaned-store s st now file bytes h =
     let store = (clean-done s st file now bytes h).done.store in
-    (ap (λ (x : Store). x.tree) store, ap (λ (x : Store). x.head) store, ap (λ (x : Store). x.sequence) store)
+    (ap (λ (x : Store). x.tree) store, ap (λ (x : Store). x.head) store, ap (λ (x : Store). x.sequence) store, ap (λ (x : Store). x.version) store)
 
 -- it stays one as every store is, whatever its disk does
 pub clean-kept : (s : Settings) (st now : Store) (file bytes : List ℕ) → IsStore s st → after_clean s st file ≡ left now bytes → IsStore s now
@@ -263,18 +264,19 @@ clean-kept s st now file bytes is h =
     let done = c.done in
     let text : List Frame = clean_text st.head c.found in
     let t : Slot = clean_slot s st file text in
+    let g : Format = format_of s (slot_of st) in
     let was : IsSlot s st.sequence (slot_of st) = slot-is s st.sequence (slot_of st) is.slot in
     let size = (are_sized s is.good).least_size in
     let behind = was.behind in
     let from = (split-tail s st.head st.tail (omega arith) (omega arith)).from in
     let more : st.head < last_segment s st.tail = elim (cases_lt st.head (last_segment s st.tail)) [ inl k ↦ k | inr k ↦ absurd (c.more (omega (arith, from))) ] in
     let free = room-for-clean s st.head t.tail done.room in
-    let within = all-clean_text (λ f. is_frame s f ≡ true) st.head c.found (log-within s file st.head st.tail c.found c.read) in
+    let within = all-clean_text (λ f. is_frame g f ≡ true) st.head c.found (log-within g file st.head st.tail c.found c.read) in
     subst (λ (x : Store). IsStore s x) (sym done.store) (record {
       good = is.good;
       proper = is.proper;
       logs = is.logs;
-      slot = next_good s st.sequence (slot_of st) (slot_of (store_after st.tree t)) text is.good was within refl done.number refl done.tail (omega arith) (omega (arith, more)) (omega (arith, free)) was.root was.height.0 was.height.1;
+      slot = next_good g st.sequence (slot_of st) (slot_of (store_after st.tree t)) text is.good was within refl done.number refl done.tail (omega arith) (omega (arith, more)) (omega (arith, free)) was.root was.height.0 was.height.1;
     })
 
 -- and in step

@@ -10,7 +10,7 @@ use Rattle.flush_log.specs.AfterFlush.{slot_of, store_after}
 use Rattle.flush_log.specs.Commit.{LeftDuring, commit_calls, IsUncommitted}
 use Rattle.flush_log.specs.Layout.{spans}
 use Rattle.flush_log.specs.Reading.{Found, log}
-use Rattle.flush_log.specs.Slot.{Slot}
+use Rattle.flush_log.specs.Slot.{Slot, format_of}
 use Rattle.recovery.specs.InStep.{IsInStep}
 use Rattle.recovery.specs.StoreOfDisk.{frames_in, tree_by_log, store_of_disk}
 use Rattle.recovery.proofs.CrashLemmas.{commit-crash, commit-hidden}
@@ -30,10 +30,10 @@ module _ (s : Settings) (file c : List ℕ) (tree : Tree) (on_disk : Store) (by 
       let done = of.done in
       let text : List Frame = clean_text slot.head of.found in
       let proper = subst (λ (fs : List Found). finding s (tree_by_log slot (frames_in fs)) ≡ None) of.same by.proper in
-      let room = room_for s file slot of.found of.reads of.more (log-within s file slot.head slot.tail of.found of.reads.log) of.sound proper done.room in
+      let room = room_for s file slot of.found of.reads of.more (log-within (format_of s slot) file slot.head slot.tail of.found of.reads.log) of.sound proper done.room in
       let calls : LeftDuring (commit_calls s file (spans s slot.tail text) (next_of slot s text)) file c =
       subst (λ (t : Slot). LeftDuring (commit_calls s file (spans s slot.tail text) t) file c) of.is_next (subst (λ (r : Result (List Found) Fault). LeftDuring (clean_calls_by s (store_after tree by.slot) file r) file c) of.reads.log during) in
-      elim (commit-crash s file c on_disk by text (next_of slot s text) room refl calls) [
+      elim (commit-crash (format_of s slot) file c on_disk by text (next_of slot s text) room refl calls) [
         | inl kept ↦ inl kept
         | inr whole ↦ inr (whole ∙ sym done.disk)
       ]
@@ -45,9 +45,9 @@ module _ (s : Settings) (file c : List ℕ) (tree : Tree) (on_disk : Store) (by 
       let of : IsCleanOf s file tree on_disk by now bytes = clean-of s file tree on_disk by now bytes h in
       let done = of.done in
       let proper = subst (λ (fs : List Found). finding s (tree_by_log slot (frames_in fs)) ≡ None) of.same by.proper in
-      let room = room_for s file slot of.found of.reads of.more (log-within s file slot.head slot.tail of.found of.reads.log) of.sound proper done.room in
+      let room = room_for s file slot of.found of.reads of.more (log-within (format_of s slot) file slot.head slot.tail of.found of.reads.log) of.sound proper done.room in
       let same : found ≡ of.found = sym (same_found s file tree on_disk by found read) ∙ of.same in
-      commit-hidden s file c on_disk by (clean_text slot.head of.found) room
+      commit-hidden (format_of s slot) file c on_disk by (clean_text slot.head of.found) room
       (subst (λ (fs : List Found). IsUncommitted s (suc slot.sequence) (spans s slot.tail (clean_text slot.head fs)) file c) same hid)
 
 -- until a clean is done the disk stands for the store from before
@@ -55,10 +55,7 @@ pub clean-hidden : (s : Settings) (st now : Store) (found : List Found) (file by
     → IsUncommitted s (suc st.sequence) (spans s st.tail (clean_text st.head found)) file c → store_of_disk c ≡ store_of_disk file
 clean-hidden s st now found file bytes c (on_disk, is, are) h read hid =
     let by : StandsBy s file on_disk = store-stands s file on_disk is in
-    let slot : Slot = by.slot in
-    let store = by.store in
-    let same : store_after st.tree slot ≡ st =
-    same_store st slot.head slot.tail slot.sequence (are.head ∙ ap (λ (x : Store). x.head) store) (are.tail ∙ ap (λ (x : Store). x.tail) store) (are.sequence ∙ ap (λ (x : Store). x.sequence) store) in
+    let same : store_after st.tree by.slot ≡ st = same_store st on_disk (tree_by_log by.slot (frames_in by.found)) by.slot are by.store in
     by_hidden s file c st.tree on_disk by now bytes found
     (ap (λ (x : Store). after_clean s x file) same ∙ h)
     (ap (λ (x : Store). log s file (slot_of x)) same ∙ read)
@@ -69,10 +66,7 @@ pub clean-crash : (s : Settings) (st now : Store) (file bytes c : List ℕ) → 
     → (store_of_disk c ≡ store_of_disk file) ⊎ (c ≡ bytes)
 clean-crash s st now file bytes c (on_disk, is, are) h during =
     let by : StandsBy s file on_disk = store-stands s file on_disk is in
-    let slot : Slot = by.slot in
-    let store = by.store in
-    let same : store_after st.tree slot ≡ st =
-    same_store st slot.head slot.tail slot.sequence (are.head ∙ ap (λ (x : Store). x.head) store) (are.tail ∙ ap (λ (x : Store). x.tail) store) (are.sequence ∙ ap (λ (x : Store). x.sequence) store) in
+    let same : store_after st.tree by.slot ≡ st = same_store st on_disk (tree_by_log by.slot (frames_in by.found)) by.slot are by.store in
     by_slot s file c st.tree on_disk by now bytes
     (ap (λ (x : Store). after_clean s x file) same ∙ h)
     (subst (λ (x : Store). LeftDuring (clean_calls s x file) file c) (sym same) during)

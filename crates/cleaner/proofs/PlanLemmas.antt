@@ -9,14 +9,16 @@ use Rattle.keys.specs.Limits.{first_bad_field}
 use Rattle.keys.specs.declared.fault.Fault.{Fault}
 use Rattle.keys.specs.declared.fault.Fault.TheVariants.{NoMemory, BadStructure, NothingToClean}
 use Rattle.keys.specs.declared.settings.Settings.{Settings}
+use Rattle.keys.specs.declared.version.Version.{Version}
 use Rattle.keys.specs.Results.{and_then}
 use Rattle.index_page.proofs.ListLemmas.{all_weaker}
 use Rattle.mapping.specs.Finding.{Finding}
 use Rattle.mapping.specs.Tree.{Store}
 use Rattle.frame_codec.specs.Frame.{Frame, is_frame}
+use Rattle.frame_codec.specs.declared.format.Format.{Format}
 use Rattle.flush_log.specs.AfterFlush.{slot_of, store_after}
 use Rattle.flush_log.specs.Commit.{committed}
-use Rattle.flush_log.specs.CommitPlan.{CommitPlan, IsPlanned, next_tail, file_with}
+use Rattle.flush_log.specs.CommitPlan.{AreImages, CommitPlan, IsPlanned, next_tail, file_with}
 use Rattle.flush_log.specs.Disk.{HasFailed}
 use Rattle.flush_log.specs.Ends.{ends_of, AreEnds}
 use Rattle.flush_log.specs.Images.{AreOfText, admitted}
@@ -24,7 +26,7 @@ use Rattle.flush_log.specs.Layout.{spans, is_full_for_clean}
 use Rattle.flush_log.specs.Overlay.{overlay}
 use Rattle.flush_log.specs.Reading.{Found, all_in, log_between, log}
 use Rattle.flush_log.specs.Segments.{segments_begin, last_segment}
-use Rattle.flush_log.specs.Slot.{Slot, greatest, slot_place, slot_in}
+use Rattle.flush_log.specs.Slot.{Slot, format_of, greatest, slot_place, slot_in}
 use Rattle.flush_log.specs.declared.slot.LogEnds.{LogEnds}
 use Rattle.flush_log.proofs.AdmitLemmas.{commit-refused, commit-admitted}
 use Rattle.flush_log.proofs.CommitLemmas.{slot_low}
@@ -48,8 +50,31 @@ abbrev left : Store → List ℕ → Result (Store × List ℕ) Fault
 left now bytes = Ok (now, bytes)
 
 -- a fault was late also where no read had failed before
-pub since : (s : Settings) (e : LogEnds) (file : List ℕ) (old mid new : ℕ) (fault : Fault) → mid ≡ old → IsRefused s e file fault ⊎ IsLate mid new fault → IsRefused s e file fault ⊎ IsLate old new fault
-since s e file old mid new fault same h = subst (λ (n : ℕ). IsRefused s e file fault ⊎ IsLate n new fault) same h
+pub since : (g : Format) (e : LogEnds) (file : List ℕ) (old mid new : ℕ) (fault : Fault) → mid ≡ old → IsRefused g e file fault ⊎ IsLate mid new fault → IsRefused g e file fault ⊎ IsLate old new fault
+since g e file old mid new fault same h = subst (λ (n : ℕ). IsRefused g e file fault ⊎ IsLate n new fault) same h
+
+-- ---- the log of a store
+
+-- by what the log of a store is read
+abbrev pub format_for : Settings → Store → Format
+format_for s st = format_of s (slot_of st)
+
+-- a log of this format with these ends is that of each store with this version and these ends
+module _ (g : Format) (e : LogEnds) (st : Store) (ends : ends_of st ≡ e) (version : st.version ≡ g.version) where
+  same_log : (let log : Format × LogEnds = (format_for g.settings st, ends_of st) in log ≡ (g, e))
+  same_log =
+      ap (λ (u : LogEnds). (let log : Format × LogEnds = (format_for g.settings st, u) in log)) ends
+      ∙ ap (λ (v : Version). (let log : Format × LogEnds = (record { settings = g.settings; version = v }, e) in log)) version
+
+  -- what holds of the one holds of the other
+  of-store : (P : Format → LogEnds → Type 0) → P (format_for g.settings st) (ends_of st) → P g e
+  of-store P h = subst (λ (log : Format × LogEnds). P log.0 log.1) same_log h
+
+  pub to-store : (P : Format → LogEnds → Type 0) → P g e → P (format_for g.settings st) (ends_of st)
+  to-store P h = subst (λ (log : Format × LogEnds). P log.0 log.1) (sym same_log) h
+
+  pub more-of : e.head ≢ last_segment g.settings e.tail → st.head ≢ last_segment g.settings st.tail
+  more-of more = to-store (λ f u. u.head ≢ last_segment f.settings u.tail) more
 
 -- ---- the slot on the disk
 
@@ -92,39 +117,38 @@ module _ (s : Settings) (file : List ℕ) where
   pub nothing-refused : (st : Store) → st.head ≡ last_segment s st.tail → after_clean s st file ≡ Err NothingToClean
   nothing-refused st one = ap (λ (b : Bool). (let none : Result (Store × List ℕ) Fault = Err NothingToClean in if b then none else and_then (log s file (slot_of st)) (after_clean_of s st file))) (eq-eqb st.head (last_segment s st.tail) one)
 
-  module _ (e : LogEnds) (more : e.head ≢ last_segment s e.tail) where
-    more_of : (st : Store) → ends_of st ≡ e → st.head ≢ last_segment s st.tail
-    more_of st is = subst (λ (u : LogEnds). u.head ≢ last_segment s u.tail) (sym is) more
+module _ (g : Format) (file : List ℕ) (e : LogEnds) (more : e.head ≢ last_segment g.settings e.tail) where
+  -- what is read of the log of a store
+  read_of : (st : Store) (r : Result (List Found) Fault) → ends_of st ≡ e → st.version ≡ g.version → log_between g file e.head e.tail ≡ r → log g.settings file (slot_of st) ≡ r
+  read_of st r is version read = to-store g e st is version (λ f u. log_between f file u.head u.tail ≡ r) read
 
-    read_of : (st : Store) (r : Result (List Found) Fault) → ends_of st ≡ e → log_between s file e.head e.tail ≡ r → log s file (slot_of st) ≡ r
-    read_of st r is read = ap (λ (u : LogEnds). log_between s file u.head u.tail) is ∙ read
+  pub log-refused : (fault : Fault) → log_between g file e.head e.tail ≡ Err fault → IsRefused g e file fault
+  log-refused fault read st is version = of_log g.settings file st (Err fault) (more-of g e st is version more) (read_of st (Err fault) is version read)
 
-    pub log-refused : (fault : Fault) → log_between s file e.head e.tail ≡ Err fault → IsRefused s e file fault
-    log-refused fault read st is = of_log st (Err fault) (more_of st is) (read_of st (Err fault) is read)
-
-    pub pages-refused : (found : List Found) (fault : Fault) (f : Finding) → log_between s file e.head e.tail ≡ Ok found → broken_in (frames_in found) ≡ Some f → fault ≡ BadStructure f → IsRefused s e file fault
-    pages-refused found fault f read broken fits st is =
-        of_log st (Ok found) (more_of st is) (read_of st (Ok found) is read) ∙ of_pages st found (Some f) broken ∙ ap (λ (g : Fault). (let r : Result (Store × List ℕ) Fault = Err g in r)) (sym fits)
+  pub pages-refused : (found : List Found) (fault : Fault) (f : Finding) → log_between g file e.head e.tail ≡ Ok found → broken_in (frames_in found) ≡ Some f → fault ≡ BadStructure f → IsRefused g e file fault
+  pages-refused found fault f read broken fits st is version =
+      of_log g.settings file st (Ok found) (more-of g e st is version more) (read_of st (Ok found) is version read) ∙ of_pages g.settings file st found (Some f) broken
+      ∙ ap (λ (p : Fault). (let r : Result (Store × List ℕ) Fault = Err p in r)) (sym fits)
 
 -- ---- what is planned
 
-module _ (s : Settings) (e : LogEnds) (good : first_bad_field s ≡ None) (are : AreEnds s e) where
+module _ (g : Format) (e : LogEnds) (good : first_bad_field g.settings ≡ None) (are : AreEnds g.settings e) where
   pub head-room : e.head ≤ greatest
-  head-room = (let far = are.after in let low = head-low s e.head e.tail good (omega (arith, far)) in let tail = are.tail in omega (arith, low, tail))
+  head-room = (let far = are.after in let low = head-low g.settings e.head e.tail good (omega (arith, far)) in let tail = are.tail in omega (arith, low, tail))
 
-  more_in_use : e.head ≢ last_segment s e.tail → e.head < last_segment s e.tail
+  more_in_use : e.head ≢ last_segment g.settings e.tail → e.head < last_segment g.settings e.tail
   more_in_use more =
-      let size = (are_sized s good).least_size in
+      let size = (are_sized g.settings good).least_size in
       let far = are.after in
-      let from = (split-tail s e.head e.tail (omega (arith, size)) (omega (arith, far))).from in
-      elim (cases_lt e.head (last_segment s e.tail)) [ inl k ↦ k | inr k ↦ absurd (more (omega (arith, from, k))) ]
+      let from = (split-tail g.settings e.head e.tail (omega (arith, size)) (omega (arith, far))).from in
+      elim (cases_lt e.head (last_segment g.settings e.tail)) [ inl k ↦ k | inr k ↦ absurd (more (omega (arith, from, k))) ]
 
   -- the first frame stands in the head segment, or none does
-  pub log-begins : (file : List ℕ) (found : List Found) → e.head ≢ last_segment s e.tail → log_between s file e.head e.tail ≡ Ok found → BeginsAt e.head found
+  pub log-begins : (file : List ℕ) (found : List Found) → e.head ≢ last_segment g.settings e.tail → log_between g file e.head e.tail ≡ Ok found → BeginsAt e.head found
   log-begins file found more read =
-      let off : HeadOff s file e.head e.tail found (more_in_use more) read = head-off s file e.head e.tail found (more_in_use more) read in
+      let off : HeadOff g file e.head e.tail found (more_in_use more) read = head-off g file e.head e.tail found (more_in_use more) read in
       subst (λ (fs : List Found). BeginsAt e.head fs) (sym off.all)
-      (of off.here off.rest (all_weaker (λ f. (suc e.head ≤ f.segment) × (f.segment ≤ last_segment s e.tail)) (λ f. nat_eq f.segment e.head ≡ false) (λ f h. ne_eqb f.segment e.head (λ same. let l = h.0 in omega (arith, l, same))) off.rest off.later))
+      (of off.here off.rest (all_weaker (λ f. (suc e.head ≤ f.segment) × (f.segment ≤ last_segment g.settings e.tail)) (λ f. nat_eq f.segment e.head ≡ false) (λ f h. ne_eqb f.segment e.head (λ same. let l = h.0 in omega (arith, l, same))) off.rest off.later))
     where
       of : (here : List Frame) (rest : List Found) → AllByRecursion (λ f. nat_eq f.segment e.head ≡ false) rest → BeginsAt e.head (all_in e.head here ++ rest)
       of (f ∷ fs) rest later = inl refl
@@ -132,33 +156,37 @@ module _ (s : Settings) (e : LogEnds) (good : first_bad_field s ≡ None) (are :
       of [] (f ∷ fs) later = inr later
 
   -- the log without its first segment doesn't end in front of what is left
-  pub log-left : e.head ≢ last_segment s e.tail → suc e.head * s.seg_size < e.tail
+  pub log-left : e.head ≢ last_segment g.settings e.tail → suc e.head * g.settings.seg_size < e.tail
   log-left more =
-      let size = (are_sized s good).least_size in
+      let size = (are_sized g.settings good).least_size in
       let far = are.after in
       let less = more_in_use more in
-      let split = split-tail s e.head e.tail (omega (arith, size)) (omega (arith, far)) in
+      let split = split-tail g.settings e.head e.tail (omega (arith, size)) (omega (arith, far)) in
       let is = split.is in
       let low = split.low in
-      let whole : suc e.head * s.seg_size ≤ last_segment s e.tail * s.seg_size = mul-le-mul_right s.seg_size (omega (arith, less)) in
+      let whole : suc e.head * g.settings.seg_size ≤ last_segment g.settings e.tail * g.settings.seg_size = mul-le-mul_right g.settings.seg_size (omega (arith, less)) in
       omega (arith, whole, is, low)
 
 -- what its text is added to, by these bytes
-abbrev pub base_in : LogEnds → List ℕ → Slot
-base_in e file = cleaned_slot e (slot_on_disk e.sequence file)
+abbrev pub base_in : Format → LogEnds → List ℕ → Slot
+base_in g e file = cleaned_slot g.version e (slot_on_disk e.sequence file)
 
 -- once it was read, and the front of the disk stays
-pub base_still : (e : LogEnds) (on_disk u : Slot) (file now : List ℕ) → on_disk ≡ slot_on_disk e.sequence file → take segments_begin now ≡ take segments_begin file → u ≡ cleaned_slot e on_disk → u ≡ base_in e now
-base_still e on_disk u file now read front is = is ∙ ap (λ (d : Slot). cleaned_slot e d) (read ∙ sym (slot-still e.sequence file now front))
+pub base_still : (g : Format) (e : LogEnds) (on_disk u : Slot) (file now : List ℕ) → on_disk ≡ slot_on_disk e.sequence file → take segments_begin now ≡ take segments_begin file → u ≡ cleaned_slot g.version e on_disk → u ≡ base_in g e now
+base_still g e on_disk u file now read front is = is ∙ ap (λ (d : Slot). cleaned_slot g.version e d) (read ∙ sym (slot-still e.sequence file now front))
+
+-- images for a log of this format are so by a slot with its version
+pub images-by : (g : Format) (u : Slot) (text : List Frame) (images : List (List (List ℕ))) → u.version ≡ g.version → AreImages g text images → AreImages (format_of g.settings u) text images
+images-by g u text images same are = subst (λ (v : Version). AreImages (record { settings = g.settings; version = v }) text images) (sym same) are
 
 -- ---- a clean that is refused for its tail, or done
 
 module _ (s : Settings) (file : List ℕ) (st : Store) where
-  -- of a log with these ends
-  abbrev RefusedBy : Fault → LogEnds → Type 0
-  RefusedBy fault u = u.head ≢ last_segment s u.tail → (found : List Found) → IsRead s u file found → next_tail s (base_in u file) (clean_text u.head found) ≡ Err fault → after_clean s st file ≡ Err fault
+  -- of a log of this format with these ends
+  abbrev RefusedBy : Fault → Format → LogEnds → Type 0
+  RefusedBy fault f u = u.head ≢ last_segment f.settings u.tail → (found : List Found) → IsRead f u file found → next_tail f.settings (base_in f u file) (clean_text u.head found) ≡ Err fault → after_clean f.settings st file ≡ Err fault
 
-  own_refused : (fault : Fault) → RefusedBy fault (ends_of st)
+  pub own_refused : (fault : Fault) → RefusedBy fault (format_for s st) (ends_of st)
   own_refused fault more found r h =
       let text : List Frame = clean_text st.head found in
       let u : Slot = clean_slot s st file text in
@@ -166,14 +194,11 @@ module _ (s : Settings) (file : List ℕ) (st : Store) where
       ∙ commit-refused u (is_full_for_clean s st.head u.tail) (store_after st.tree u) (committed s file (spans s st.tail text) u) fault
       (ap (λ (b : Bool). admitted u b) (clean-is-flush s st.head u.tail) ∙ h)
 
-  pub tail-refused : (fault : Fault) (e : LogEnds) → ends_of st ≡ e → RefusedBy fault e
-  tail-refused fault e is = subst (RefusedBy fault) is (own_refused fault)
-
   -- what a plan leaves of the store, and of these bytes
-  abbrev DoneBy : CommitPlan → LogEnds → Type 0
-  DoneBy m u = u.head ≢ last_segment s u.tail → (p : IsClean s u file m) → after_clean s st file ≡ left (store_after st.tree m.slot) (file_with s (base_in u file) (clean_text u.head p.0) file)
+  abbrev DoneBy : CommitPlan → Format → LogEnds → Type 0
+  DoneBy m f u = u.head ≢ last_segment f.settings u.tail → (p : IsClean f u file m) → after_clean f.settings st file ≡ left (store_after st.tree m.slot) (file_with f.settings (base_in f u file) (clean_text u.head p.0) file)
 
-  pub own_done : (m : CommitPlan) → DoneBy m (ends_of st)
+  pub own_done : (m : CommitPlan) → DoneBy m (format_for s st) (ends_of st)
   own_done m more (found, r, p) =
       let text : List Frame = clean_text st.head found in
       let u : Slot = clean_slot s st file text in
@@ -181,17 +206,21 @@ module _ (s : Settings) (file : List ℕ) (st : Store) where
       ∙ commit-admitted u (is_full_for_clean s st.head u.tail) (store_after st.tree u) (committed s file (spans s st.tail text) u) p.unspent (clean-is-flush s st.head u.tail ∙ p.free)
       ∙ ap (λ (v : Slot). left (store_after st.tree v) (committed s file (spans s st.tail text) u)) (sym p.slot)
 
-  pub clean-planned : (m : CommitPlan) (e : LogEnds) → ends_of st ≡ e → DoneBy m e
-  clean-planned m e is = subst (DoneBy m) is (own_done m)
+module _ (g : Format) (e : LogEnds) (file : List ℕ) (st : Store) (ends : ends_of st ≡ e) (version : st.version ≡ g.version) where
+  pub tail-refused : (fault : Fault) → RefusedBy g.settings file st fault g e
+  tail-refused fault = of-store g e st ends version (RefusedBy g.settings file st fault) (own_refused g.settings file st fault)
+
+  pub clean-planned : (m : CommitPlan) → DoneBy g.settings file st m g e
+  clean-planned m = of-store g e st ends version (DoneBy g.settings file st m) (own_done g.settings file st m)
 
 -- the plan of the commit that adds the text to this slot's log is that of the clean
-pub as-clean : (s : Settings) (e : LogEnds) (u : Slot) (file : List ℕ) (found : List Found) (old new : ℕ) (r : Result CommitPlan Fault) → e.head ≢ last_segment s e.tail → IsRead s e file found → u ≡ base_in e file
-    → MatchResult r (λ m. IsPlanned s u (clean_text e.head found) m) (λ fault. (fault ≡ NoMemory) ⊎ (next_tail s u (clean_text e.head found) ≡ Err fault))
-    → MatchResult r (λ m. IsClean s e file m) (λ fault. IsRefused s e file fault ⊎ IsLate old new fault)
-as-clean s e u file found old new (Ok m) more read is p = (found, read, subst (λ (v : Slot). IsPlanned s v (clean_text e.head found) m) is p)
-as-clean s e u file found old new (Err fault) more read is (inl memory) = inr (inl memory)
-as-clean s e u file found old new (Err fault) more read is (inr full) =
-    inl (λ st same. tail-refused s file st fault e same more found read (subst (λ (v : Slot). next_tail s v (clean_text e.head found) ≡ Err fault) is full))
+pub as-clean : (g : Format) (e : LogEnds) (u : Slot) (file : List ℕ) (found : List Found) (old new : ℕ) (r : Result CommitPlan Fault) → e.head ≢ last_segment g.settings e.tail → IsRead g e file found → u ≡ base_in g e file
+    → MatchResult r (λ m. IsPlanned g.settings u (clean_text e.head found) m) (λ fault. (fault ≡ NoMemory) ⊎ (next_tail g.settings u (clean_text e.head found) ≡ Err fault))
+    → MatchResult r (λ m. IsClean g e file m) (λ fault. IsRefused g e file fault ⊎ IsLate old new fault)
+as-clean g e u file found old new (Ok m) more read is p = (found, read, subst (λ (v : Slot). IsPlanned g.settings v (clean_text e.head found) m) is p)
+as-clean g e u file found old new (Err fault) more read is (inl memory) = inr (inl memory)
+as-clean g e u file found old new (Err fault) more read is (inr full) =
+    inl (λ st same version. tail-refused g e file st same version fault more found read (subst (λ (v : Slot). next_tail g.settings v (clean_text e.head found) ≡ Err fault) is full))
 
 -- ---- what was chosen of what was read
 
@@ -203,23 +232,20 @@ IsChoice items head found r = MatchResult r (λ x. (broken_in (frames_in found) 
 abbrev pub HasSome : {X : Type 0} → (X → List (List (List ℕ))) → ℕ → List Found → Result X Fault → Type 0
 HasSome items head found r = IfOk r (λ x. (items x ≡ []) ⊎ (1 ≤ length (clean_text head found)))
 
-module _ {X : Type 0} (items : X → List (List (List ℕ))) (s : Settings) (e : LogEnds) (file : List ℕ) (more : e.head ≢ last_segment s e.tail) (old new : ℕ) where
+module _ {X : Type 0} (items : X → List (List (List ℕ))) (g : Format) (e : LogEnds) (file : List ℕ) (more : e.head ≢ last_segment g.settings e.tail) (old new : ℕ) where
   -- of the text
   abbrev IsTextOf : Result X Fault → Type 0
-  IsTextOf r = MatchResult r (λ x. IsText s e file (items x)) (λ fault. IsRefused s e file fault ⊎ IsLate old new fault)
+  IsTextOf r = MatchResult r (λ x. IsText g e file (items x)) (λ fault. IsRefused g e file fault ⊎ IsLate old new fault)
 
-  pub text-of_choice : (found : List Found) → log_between s file e.head e.tail ≡ Ok found → (r : Result X Fault) → IsChoice items e.head found r → HasSome items e.head found r → IsTextOf r
+  pub text-of_choice : (found : List Found) → log_between g file e.head e.tail ≡ Ok found → (r : Result X Fault) → IsChoice items e.head found r → HasSome items e.head found r → IsTextOf r
   text-of_choice found read (Ok x) h some =
-      (found, record { read = read; sound = h.0 }, record { of = h.1; some = some; within = all-clean_text (λ f. is_frame s f ≡ true) e.head found (log-within s file e.head e.tail found read) })
+      (found, record { read = read; sound = h.0 }, record { of = h.1; some = some; within = all-clean_text (λ f. is_frame g f ≡ true) e.head found (log-within g file e.head e.tail found read) })
   text-of_choice found read (Err fault) (inl memory) some = inr (inl memory)
-  text-of_choice found read (Err fault) (inr (f, broken, fits)) some = inl (pages-refused s file e more found fault f read broken fits)
+  text-of_choice found read (Err fault) (inr (f, broken, fits)) some = inl (pages-refused g file e more found fault f read broken fits)
 
 -- a plan of a log is one of a store with that log, and of the bytes that the disk shows
-pub plan-of : (s : Settings) (e : LogEnds) (file seen : List ℕ) (m : CommitPlan) (st : Store) → ends_of st ≡ e → file ≡ seen → IsClean s e file m → IsClean s (ends_of st) seen m
-plan-of s e file seen m st same shown p = subst (λ (u : LogEnds). IsClean s u seen m) (sym same) (subst (λ (f : List ℕ). IsClean s e f m) shown p)
-
-pub more-of : (s : Settings) (e : LogEnds) (st : Store) → ends_of st ≡ e → e.head ≢ last_segment s e.tail → st.head ≢ last_segment s st.tail
-more-of s e st same more = subst (λ (u : LogEnds). u.head ≢ last_segment s u.tail) (sym same) more
+pub plan-of : (g : Format) (e : LogEnds) (file seen : List ℕ) (m : CommitPlan) (st : Store) → ends_of st ≡ e → st.version ≡ g.version → file ≡ seen → IsClean g e file m → IsClean (format_for g.settings st) (ends_of st) seen m
+plan-of g e file seen m st same version shown p = to-store g e st same version (λ f u. IsClean f u seen m) (subst (λ (bs : List ℕ). IsClean g e bs m) shown p)
 
 -- a call failed, where none had before
 pub failed_since : (old mid new : ℕ) → mid ≡ old → HasFailed mid new → HasFailed old new

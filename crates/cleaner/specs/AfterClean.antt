@@ -21,7 +21,7 @@ use Rattle.cleaner.specs.CleanText.{clean_text}
 abbrev pub slot_on_disk : ℕ → Bytes → Slot
 slot_on_disk n file = slot_in (take slot_size (drop (slot_place n) file))
 
--- the slot for this text of a store: the root and the height stay those on the disk, and the head is one further
+-- the slot for this text of a store: the root and the height stay those on the disk, the version is the store's, and the head is one further
 abbrev pub clean_slot : Settings → Store → Bytes → List Frame → Slot
 clean_slot s st file text = record {
   sequence = suc st.sequence;
@@ -29,6 +29,7 @@ clean_slot s st file text = record {
   tail = tail_after s st.tail text;
   root = (slot_on_disk st.sequence file).root;
   height = (slot_on_disk st.sequence file).height;
+  version = st.version;
 }
 
 -- the commit of this text

@@ -2,8 +2,8 @@
 use Rattle.std.specs.Prelude.{◌≡◌, ◌⊎◌, ⊤, ℕ, false, nat_eq, List, [], ◌∷◌, map, flat_map}
 use Rattle.std.specs.List.{AllByRecursion}
 use Rattle.keys.specs.Bytes.{Bytes}
-use Rattle.keys.specs.declared.settings.Settings.{Settings}
 use Rattle.frame_codec.specs.Frame.{bytes_of}
+use Rattle.frame_codec.specs.declared.format.Format.{Format}
 use Rattle.flush_log.specs.Reading.{Found}
 use Rattle.recovery.specs.Rebuild.{frames_of_bytes}
 use Rattle.recovery.specs.declared.gather.Kept.{Kept}
@@ -14,9 +14,9 @@ BeginsAt head [] = ⊤
 BeginsAt head (f ∷ fs) = (f.segment ≡ head) ⊎ AllByRecursion (λ g. nat_eq g.segment head ≡ false) (f ∷ fs)
 
 -- the bytes of each of the frames that these bytes are
-abbrev pub image_in : Settings → Bytes → List Bytes
-image_in s bytes = map bytes_of (frames_of_bytes s bytes)
+abbrev pub image_in : Format → Bytes → List Bytes
+image_in g bytes = map bytes_of (frames_of_bytes g bytes)
 
 -- the frames that are kept of these pages
-abbrev pub frames_kept : Settings → List (ℕ × Kept) → List Bytes
-frames_kept s es = flat_map (λ e. image_in s e.1.frames.items) es
+abbrev pub frames_kept : Format → List (ℕ × Kept) → List Bytes
+frames_kept g es = flat_map (λ e. image_in g e.1.frames.items) es

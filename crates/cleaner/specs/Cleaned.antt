@@ -3,7 +3,9 @@ use Rattle.std.specs.Prelude.{◌≡◌, ◌≢◌, ◌⊎◌, ℕ, suc, List, N
 use Rattle.keys.specs.Bytes.{Bytes}
 use Rattle.keys.specs.declared.fault.Fault.{Fault}
 use Rattle.keys.specs.declared.settings.Settings.{Settings}
+use Rattle.keys.specs.declared.version.Version.{Version}
 use Rattle.mapping.specs.Tree.{Store}
+use Rattle.frame_codec.specs.declared.format.Format.{Format}
 use Rattle.flush_log.specs.CommitPlan.{AreImages, CommitPlan, IsPlanned}
 use Rattle.flush_log.specs.Ends.{ends_of}
 use Rattle.flush_log.specs.Reading.{Found, log_between}
@@ -26,25 +28,33 @@ WouldClean s st file = (now : Store) × (bytes : Bytes) × (after_clean s st fil
 abbrev pub IsCleanFault : Settings → Store → Bytes → ℕ → ℕ → Fault → Type 0
 IsCleanFault s st file old new fault = (after_clean s st file ≡ Err fault) ⊎ ((st.head ≢ last_segment s st.tail) × IsLate old new fault)
 
--- ---- its parts, of a log with given ends in given bytes
+-- ---- its parts, of a log of a given format with given ends in given bytes
 
 -- a clean of it is refused so, whatever tree is in memory
-abbrev pub IsRefused : Settings → LogEnds → Bytes → Fault → Type 0
-IsRefused s e file fault = (st : Store) → ends_of st ≡ e → after_clean s st file ≡ Err fault
+abbrev pub IsRefused : Format → LogEnds → Bytes → Fault → Type 0
+IsRefused g e file fault = (st : Store) → ends_of st ≡ e → st.version ≡ g.version → after_clean g.settings st file ≡ Err fault
 
 -- its log holds these frames, none of which says what fits no page
-pub record IsRead (s : Settings) (e : LogEnds) (file : Bytes) (found : List Found) : Type 0 where
-  pub read : log_between s file e.head e.tail ≡ Ok found
+pub record IsRead (g : Format) (e : LogEnds) (file : Bytes) (found : List Found) : Type 0 where
+  pub read : log_between g file e.head e.tail ≡ Ok found
   pub sound : broken_in (frames_in found) ≡ None
 
 -- these images are the frames of its text
-abbrev pub IsText : Settings → LogEnds → Bytes → List (List Bytes) → Type 0
-IsText s e file images = (found : List Found) × IsRead s e file found × AreImages s (clean_text e.head found) images
+abbrev pub IsText : Format → LogEnds → Bytes → List (List Bytes) → Type 0
+IsText g e file images = (found : List Found) × IsRead g e file found × AreImages g (clean_text e.head found) images
 
--- what a clean adds its text to: the log without its first segment, with the root and the height of a slot on the disk
-abbrev pub cleaned_slot : LogEnds → Slot → Slot
-cleaned_slot e on_disk = record { sequence = e.sequence; head = suc e.head; tail = e.tail; root = on_disk.root; height = on_disk.height }
+-- what a clean adds its text to: the log without its first segment, of this version, with the root and the height of a slot on the disk
+abbrev pub cleaned_slot : Version → LogEnds → Slot → Slot
+cleaned_slot version e on_disk = record {
+  sequence = e.sequence;
+  head = suc e.head;
+  tail = e.tail;
+  root = on_disk.root;
+  height = on_disk.height;
+  version = version;
+}
 
 -- it is the commit of a clean of it, which nothing refuses
-abbrev pub IsClean : Settings → LogEnds → Bytes → CommitPlan → Type 0
-IsClean s e file m = (found : List Found) × IsRead s e file found × IsPlanned s (cleaned_slot e (slot_on_disk e.sequence file)) (clean_text e.head found) m
+abbrev pub IsClean : Format → LogEnds → Bytes → CommitPlan → Type 0
+IsClean g e file m = (found : List Found) × IsRead g e file found
+    × IsPlanned g.settings (cleaned_slot g.version e (slot_on_disk e.sequence file)) (clean_text e.head found) m

@@ -17,20 +17,20 @@ ghost use Rattle.cleaner.specs.Chosen.{BeginsAt, image_in, frames_kept};
 ghost use Rattle.cleaner.specs.CleanText.{clean_text};
 
 use flush_log::image::Image;
-use frame_codec::skim_frame;
-use keys::{Fault, Settings};
+use frame_codec::{Format, skim_frame};
+use keys::Fault;
 use recovery::gather::{Gathering, Kept};
 use std::alloc::{AllocError, Global};
 use std::collections::BTreeMap;
 
 // The frames that these bytes are, back to back, as an image. Where other bytes stand among them it has none.
-fn image_of(alloc: Global, settings: &Settings, frames: &[u8]) -> Result<Image, AllocError>
-    ensures { IfOk result (λ image. image ≡ image_in settings.now frames.now) }
+fn image_of(alloc: Global, format: &Format, frames: &[u8]) -> Result<Image, AllocError>
+    ensures { IfOk result (λ image. image ≡ image_in format.now frames.now) }
 {
     let mut image = Image::new(alloc);
     let mut rest = frames;
     while !rest.is_empty() {
-        let Some(skimmed) = skim_frame(rest, settings) else {
+        let Some(skimmed) = skim_frame(rest, format) else {
             return Ok(Image::new(alloc));
         };
         let size = skimmed.size;
@@ -43,10 +43,10 @@ fn image_of(alloc: Global, settings: &Settings, frames: &[u8]) -> Result<Image, 
 // The images of the pages, in the order in which the map has them, without those of which no frames are kept.
 fn images_in(
     alloc: Global,
-    settings: &Settings,
+    format: &Format,
     by_pid: BTreeMap<u64, Kept, Global>,
 ) -> Result<Vec<Image>, AllocError>
-    ensures frames { IfOk result (λ images. frames_of_images images.items ≡ frames_kept settings.now by_pid.entries) }
+    ensures frames { IfOk result (λ images. frames_of_images images.items ≡ frames_kept format.now by_pid.entries) }
     ensures some { IfOk result (λ images. AllByRecursion (λ image. image ≢ []) images.items) }
     ensures ordered { IsStrictlySortedBy nat_cmp (keys_of by_pid.entries) }
 {
@@ -55,7 +55,7 @@ fn images_in(
     let mut images = Vec::new(alloc);
     for entry in by_pid {
         let (_pid, kept) = entry;
-        let image = image_of(alloc, settings, &kept.frames)?;
+        let image = image_of(alloc, format, &kept.frames)?;
         if image.len() == 0 {
             continue;
         }
@@ -64,17 +64,17 @@ fn images_in(
     Ok(images)
 }
 
-/// The frames that a clean carries on of a log that begins at this segment, as images, by rising page id: of each page that lives in
-/// that segment all from its last base on. The images are made of what is kept, and none of them is empty.
+/// The frames that a clean carries on of a log of this format that begins at this segment, as images, by rising page id: of each page
+/// that lives in that segment all from its last base on, as they stand. The images are made of what is kept, and none of them is empty.
 ///
 /// Where the frames of a page fit no page that is `Fault::BadStructure`, rule 1, with the least such page id. Besides there is
 /// `Fault::NoMemory`.
-pub fn choose(settings: &Settings, pages: Gathering, head: u64) -> Result<Vec<Image>, Fault>
-    requires { first_bad_field settings.now ≡ None }
-    ensures chosen { (found : List Found) → AreGathered settings.now Head pages found → BeginsAt head found → MatchResult result
+pub fn choose(format: &Format, pages: Gathering, head: u64) -> Result<Vec<Image>, Fault>
+    requires { first_bad_field format.now.settings ≡ None }
+    ensures chosen { (found : List Found) → AreGathered format.now Head pages found → BeginsAt head found → MatchResult result
         (λ images. (broken_in (frames_in found) ≡ None) × AreOfText images.items (clean_text head found))
         (λ fault. (fault ≡ NoMemory) ⊎ ((f : Finding) × (broken_in (frames_in found) ≡ Some f) × (fault ≡ BadStructure f))) }
-    ensures some { (found : List Found) → AreGathered settings.now Head pages found → BeginsAt head found → IfOk result (λ images.
+    ensures some { (found : List Found) → AreGathered format.now Head pages found → BeginsAt head found → IfOk result (λ images.
         (images.items ≡ []) ⊎ (1 ≤ length (clean_text head found))) }
 {
     if let Some(finding) = pages.unfit() {
@@ -90,5 +90,5 @@ pub fn choose(settings: &Settings, pages: Gathering, head: u64) -> Result<Vec<Im
         // No frame stands in the head segment.
         return Ok(Vec::new(alloc));
     }
-    Ok(images_in(alloc, settings, by_pid)?)
+    Ok(images_in(alloc, format, by_pid)?)
 }

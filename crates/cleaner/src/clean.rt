@@ -21,7 +21,8 @@ use flush_log::image::Image;
 use flush_log::segments::last_segment;
 use flush_log::slot::{LogEnds, SLOT_SIZE, Slot, slot_in};
 use flush_log::{Commit, Disk};
-use keys::{Fault, Settings};
+use frame_codec::Format;
+use keys::{Fault, Version};
 use recovery::gather::Wanted;
 use recovery::read_bytes::read;
 use recovery::read_log::read_log;
@@ -50,30 +51,31 @@ fn read_text<D: Disk>(
     crew: Crew,
     alloc: Global,
     disk: &mut D,
-    settings: &Settings,
+    format: &Format,
     ends: &LogEnds,
 ) -> Result<Vec<Image>, Fault>
-    requires checked { first_bad_field settings.now ≡ None }
-    requires within { disk_size settings.now ≤ (D.view disk.old).size }
-    requires ends { AreEnds settings.now ends.now }
-    requires more { ends.now.head ≢ last_segment settings.now ends.now.tail }
+    requires checked { first_bad_field format.now.settings ≡ None }
+    requires within { disk_size format.now.settings ≤ (D.view disk.old).size }
+    requires ends { AreEnds format.now.settings ends.now }
+    requires more { ends.now.head ≢ last_segment format.now.settings ends.now.tail }
     ensures read { (file : Bytes) → IsReadOf (D.view disk.old) file →
         (now : Bytes) × IsReadOf (D.view disk.new) now × (take segments_begin now ≡ take segments_begin file) × MatchResult result
-        (λ images. IsText settings.now ends.now now images.items)
-        (λ fault. IsRefused settings.now ends.now now fault ⊎ IsLate (D.failed disk.old) (D.failed disk.new) fault) }
+        (λ images. IsText format.now ends.now now images.items)
+        (λ fault. IsRefused format.now ends.now now fault ⊎ IsLate (D.failed disk.old) (D.failed disk.new) fault) }
     ensures kept { Kept (D.view disk.old) (D.view disk.new) }
     ensures same { IsTrue (D.view disk.old).is_honest → Same (D.view disk.old) (D.view disk.new) }
     ensures counted { OnOk result (D.failed disk.new ≡ D.failed disk.old) }
     ensures uncounted { IfErr result (λ fault. fault ≢ Fault.Device → D.failed disk.new ≡ D.failed disk.old) }
 {
-    let pages = read_log(rt, crew, alloc, disk, settings, ends, Wanted::Head)?;
-    choose(settings, pages, ends.head)
+    let pages = read_log(rt, crew, alloc, disk, format, ends, Wanted::Head)?;
+    choose(format, pages, ends.head)
 }
 
-// What a clean adds its text to: the log without its first segment, with the root and the height that a slot on the disk has.
-fn cleaned_slot(ends: &LogEnds, on_disk: &Slot) -> Slot
+// What a clean adds its text to: the log without its first segment, of this version, with the root and the height that a slot on
+// the disk has.
+fn cleaned_slot(version: Version, ends: &LogEnds, on_disk: &Slot) -> Slot
     requires { ends.now.head ≤ greatest }
-    ensures { result ≡ cleaned_slot ends.now on_disk.now }
+    ensures { result ≡ cleaned_slot version ends.now on_disk.now }
 {
     Slot {
         ends: LogEnds {
@@ -83,6 +85,7 @@ fn cleaned_slot(ends: &LogEnds, on_disk: &Slot) -> Slot
         },
         root: on_disk.root,
         height: on_disk.height,
+        version,
     }
 }
 
@@ -92,30 +95,32 @@ fn plan<D: Disk>(
     crew: Crew,
     alloc: Global,
     disk: &mut D,
-    settings: &Settings,
+    format: &Format,
     ends: &LogEnds,
 ) -> Result<Commit, Fault>
-    requires checked { first_bad_field settings.now ≡ None }
-    requires within { disk_size settings.now ≤ (D.view disk.old).size }
-    requires ends { AreEnds settings.now ends.now }
-    requires more { ends.now.head ≢ last_segment settings.now ends.now.tail }
+    requires checked { first_bad_field format.now.settings ≡ None }
+    requires within { disk_size format.now.settings ≤ (D.view disk.old).size }
+    requires ends { AreEnds format.now.settings ends.now }
+    requires more { ends.now.head ≢ last_segment format.now.settings ends.now.tail }
     ensures read { (file : Bytes) × IsReadOf (D.view disk.old) file × MatchResult result
-        (IsClean settings.now ends.now file)
-        (λ fault. IsRefused settings.now ends.now file fault ⊎ IsLate (D.failed disk.old) (D.failed disk.new) fault) }
+        (IsClean format.now ends.now file)
+        (λ fault. IsRefused format.now ends.now file fault ⊎ IsLate (D.failed disk.old) (D.failed disk.new) fault) }
     ensures kept { Kept (D.view disk.old) (D.view disk.new) }
     ensures same { IsTrue (D.view disk.old).is_honest → Same (D.view disk.old) (D.view disk.new) }
     ensures counted { OnOk result (D.failed disk.new ≡ D.failed disk.old) }
     ensures uncounted { IfErr result (λ fault. fault ≢ Fault.Device → D.failed disk.new ≡ D.failed disk.old) }
 {
     let on_disk = read_slot_on_disk(disk, ends.sequence)?;
-    let images = read_text(rt, crew, alloc, disk, settings, ends)?;
-    let base = cleaned_slot(ends, &on_disk);
-    Commit::plan(alloc, settings, &base, images)
+    let images = read_text(rt, crew, alloc, disk, format, ends)?;
+    let base = cleaned_slot(format.version, ends, &on_disk);
+    Commit::plan(alloc, &format.settings, &base, images)
 }
 
 /// Cleans a log: the pages that live in its first segment are written again at its end, as they stand in the log, and then that
-/// segment is free. Returns the slot of the commit: the head is one further, and the root and the height are those that the present
-/// slot has on the disk. `ends` are those of the store's log.
+/// segment is free. Returns the slot of the commit: the head is one further, the version stays, and the root and the height are those
+/// that the present slot has on the disk. `format` and `ends` are those of the store's log.
+///
+/// A frame is copied as it is, so a log of the second version can still have whole keys in it after a clean, from before its upgrade.
 ///
 /// It works on the log alone, so what a tree in memory has that the log lacks stays so. The crew shares the work of skimming the log; which
 /// crew it is changes nothing of what is answered or written.
@@ -131,35 +136,39 @@ pub fn clean<D: Disk>(
     crew: Crew,
     alloc: Global,
     disk: &mut D,
-    settings: &Settings,
+    format: &Format,
     ends: &LogEnds,
 ) -> Result<Slot, Fault>
-    requires checked { first_bad_field settings.now ≡ None }
-    requires within { disk_size settings.now ≤ (D.view disk.old).size }
-    requires ends { AreEnds settings.now ends.now }
+    requires checked { first_bad_field format.now.settings ≡ None }
+    requires within { disk_size format.now.settings ≤ (D.view disk.old).size }
+    requires ends { AreEnds format.now.settings ends.now }
     // Of bytes that were read, which on an honest disk are what a read gives.
-    ensures read { (file : Bytes) × IsReadOf (D.view disk.old) file × ((st : Store) → ends_of st ≡ ends.now → MatchResult result
-        (λ now. (bytes : Bytes) × (after_clean settings.now st file ≡ Ok (store_after st.tree now, bytes)))
-        (IsCleanFault settings.now st file (D.failed disk.old) (D.failed disk.new))) }
-    ensures written { IsTrue (D.view disk.old).is_honest → (st : Store) → ends_of st ≡ ends.now →
-        IfOk result (λ now. after_clean settings.now st (D.view disk.old).seen ≡ Ok (store_after st.tree now, (D.view disk.new).seen)) }
+    ensures read { (file : Bytes) × IsReadOf (D.view disk.old) file ×
+        ((st : Store) → ends_of st ≡ ends.now → st.version ≡ format.now.version → MatchResult result
+        (λ now. (bytes : Bytes) × (after_clean format.now.settings st file ≡ Ok (store_after st.tree now, bytes)))
+        (IsCleanFault format.now.settings st file (D.failed disk.old) (D.failed disk.new))) }
+    ensures written { IsTrue (D.view disk.old).is_honest → (st : Store) → ends_of st ≡ ends.now → st.version ≡ format.now.version →
+        IfOk result (λ now.
+        after_clean format.now.settings st (D.view disk.old).seen ≡ Ok (store_after st.tree now, (D.view disk.new).seen)) }
     ensures settled { IsTrue (D.view disk.old).is_honest → OnOk result (IsSettled (D.view disk.new)) }
     // On a settled disk that stands for a store with which this one is in step, a crash leaves that store, or all that the clean leaves.
-    ensures crash { IsSettled (D.view disk.old) → (st : Store) → ends_of st ≡ ends.now → IsInStep settings.now st (D.view disk.old).seen →
+    ensures crash { IsSettled (D.view disk.old) → (st : Store) → ends_of st ≡ ends.now → st.version ≡ format.now.version →
+        IsInStep format.now.settings st (D.view disk.old).seen →
         LeavesOnly (D.view disk.old) (D.view disk.new) (λ c. (store_of_disk c ≡ store_of_disk (D.view disk.old).seen)
-        ⊎ ((now : Store) × (after_clean settings.now st (D.view disk.old).seen ≡ Ok (now, c)))) }
+        ⊎ ((now : Store) × (after_clean format.now.settings st (D.view disk.old).seen ≡ Ok (now, c)))) }
     // After an Err nothing was written, but where a call of the disk failed in writing what would have been done.
-    ensures unwritten { IsTrue (D.view disk.old).is_honest → (st : Store) → ends_of st ≡ ends.now → IfErr result (λ fault.
-        Same (D.view disk.old) (D.view disk.new) ⊎ ((fault ≡ Fault.Device) × WouldClean settings.now st (D.view disk.old).seen)) }
+    ensures unwritten { IsTrue (D.view disk.old).is_honest → (st : Store) → ends_of st ≡ ends.now → st.version ≡ format.now.version →
+        IfErr result (λ fault. Same (D.view disk.old) (D.view disk.new)
+        ⊎ ((fault ≡ Fault.Device) × WouldClean format.now.settings st (D.view disk.old).seen)) }
     ensures kept { Kept (D.view disk.old) (D.view disk.new) }
     ensures counted { OnOk result (D.failed disk.new ≡ D.failed disk.old) }
     ensures uncounted { IfErr result (λ fault. fault ≢ Fault.Device → D.failed disk.new ≡ D.failed disk.old) }
 {
-    if ends.head == last_segment(settings, ends.tail) {
+    if ends.head == last_segment(&format.settings, ends.tail) {
         return Err(Fault::NothingToClean);
     }
-    let commit = plan(rt, crew, alloc, disk, settings, ends)?;
+    let commit = plan(rt, crew, alloc, disk, format, ends)?;
     let next = commit.slot();
-    commit.write(disk, settings)?;
+    commit.write(disk, &format.settings)?;
     Ok(next)
 }

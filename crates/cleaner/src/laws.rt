@@ -13,14 +13,14 @@ ghost use Rattle.cleaner.specs.AfterClean.{after_clean, clean_calls};
 ghost use Rattle.cleaner.specs.CleanText.{clean_text};
 
 /// A clean keeps the store: the disk after it stands for the tree that it stood for, with the head, tail and number that
-/// the clean leaves. The tree in memory stays as it is, with what was not flushed, and in step with the disk. Whatever the
-/// disk does, the store stays one as every store is.
+/// the clean leaves. The tree in memory stays as it is, with what was not flushed, and in step with the disk, and the log keeps its
+/// version. Whatever the disk does, the store stays one as every store is.
 pub fn a_clean_keeps_the_store()
     ensures disk { (s : Settings) (st on_disk now : Store) (file bytes : Bytes) →
         store_of_disk file ≡ Ok (s, on_disk) → AreInStep st on_disk → after_clean s st file ≡ Ok (now, bytes) →
         (store_of_disk bytes ≡ Ok (s, with_tree now on_disk.tree)) × IsInStep s now bytes }
     ensures memory { (s : Settings) (st now : Store) (file bytes : Bytes) → after_clean s st file ≡ Ok (now, bytes) →
-        (now.tree ≡ st.tree) × (now.head ≡ suc st.head) × (now.sequence ≡ suc st.sequence) }
+        (now.tree ≡ st.tree) × (now.head ≡ suc st.head) × (now.sequence ≡ suc st.sequence) × (now.version ≡ st.version) }
     ensures step { (s : Settings) (st now : Store) (file bytes : Bytes) → IsStoreOf s st file → after_clean s st file ≡ Ok (now, bytes) →
         IsStoreOf s now bytes }
     ensures kept { (s : Settings) (st now : Store) (file bytes : Bytes) → IsStore s st → after_clean s st file ≡ Ok (now, bytes) →

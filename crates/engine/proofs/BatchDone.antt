@@ -8,6 +8,7 @@ use Rattle.keys.specs.declared.command.Command.{Command}
 use Rattle.keys.specs.declared.fault.Fault.{Fault}
 use Rattle.keys.specs.declared.fault.Fault.TheVariants.{Spent}
 use Rattle.keys.specs.declared.settings.Settings.{Settings}
+use Rattle.keys.specs.declared.version.Version.{Version}
 use Rattle.mapping.specs.Tree.{Store, Tree, most_levels, with_tree}
 use Rattle.mapping.specs.TreeInMemory.{TreeInMemory, AreAllHome, tree_of}
 use Rattle.climb_plan.specs.Plan.{plan, planned_tree}
@@ -22,10 +23,10 @@ use Rattle.engine.specs.SoundTree.{IsSoundInMemory}
 use Rattle.engine.specs.State.{IsSound, IsSoundStore, State, store_in}
 
 -- a store's tree is sound
-pub tree-sound : (s : Settings) (t : TreeInMemory) (log : LogEnds) → AreAllHome t → IsStore s (store_in t log) → IsSoundInMemory s t
-tree-sound s t log home is = record {
+pub tree-sound : (s : Settings) (t : TreeInMemory) (log : LogEnds) (version : Version) → AreAllHome t → IsStore s (store_in t log version) → IsSoundInMemory s t
+tree-sound s t log version home is = record {
   home = home;
-  sound = record { settings = is.good; proper = is.proper; logs = is.logs; height = (slot-is s log.sequence (slot_of (store_in t log)) is.slot).height.1 };
+  sound = record { settings = is.good; proper = is.proper; logs = is.logs; height = (slot-is s log.sequence (slot_of (store_in t log version)) is.slot).height.1 };
 }
 
 -- and has no more levels than a tree may have
@@ -33,8 +34,8 @@ pub height_of : {D : Type 0} {view : D → View} {x : State D} → IsSound view 
 height_of {x = x} sound = (slot-is x.settings x.store.sequence (slot_of x.store) sound.is.slot).height.1
 
 -- its store after a batch is the plan's
-pub planned-is : (s : Settings) (t now : TreeInMemory) (log : LogEnds) (cs : List (Command Global)) → tree_of now ≡ planned_tree s (tree_of t) cs → store_in now log ≡ plan s (store_in t log) cs
-planned-is s t now log cs e = ap (λ (x : Tree). with_tree (store_in t log) x) e
+pub planned-is : (s : Settings) (t now : TreeInMemory) (log : LogEnds) (version : Version) (cs : List (Command Global)) → tree_of now ≡ planned_tree s (tree_of t) cs → store_in now log version ≡ plan s (store_in t log version) cs
+planned-is s t now log version cs e = ap (λ (x : Tree). with_tree (store_in t log version) x) e
 
 -- a batch that is done is refused by nothing
 low : (h : ℕ) → h ≤ most_levels → height_fault h ≡ None
@@ -45,20 +46,20 @@ unrefused s t now cs none le e =
     ap (λ (o : Option Fault). option_or o (height_fault (planned_tree s (tree_of t) cs).height)) none
     ∙ low (planned_tree s (tree_of t) cs).height (subst (λ (x : Tree). x.height ≤ most_levels) e le)
 
-module _ {D : Type 0} (view : D → View) (s : Settings) (t now : TreeInMemory) (log : LogEnds) (disk : D) (cs : List (Command Global)) where
-  pub batched-sound : IsSoundStore view s t log disk false → AreAllHome now → tree_of now ≡ planned_tree s (tree_of t) cs → refusal_by s (tree_of t) cs ≡ None → now.root < 2 ^ 64
+module _ {D : Type 0} (view : D → View) (s : Settings) (t now : TreeInMemory) (log : LogEnds) (version : Version) (disk : D) (cs : List (Command Global)) where
+  pub batched-sound : IsSoundStore view s t log version disk false → AreAllHome now → tree_of now ≡ planned_tree s (tree_of t) cs → refusal_by s (tree_of t) cs ≡ None → now.root < 2 ^ 64
       → ((s : Settings) (st : Store) (cs : List (Command Global)) → IsStore s st → refusal_by s st.tree cs ≡ None → (planned_tree s st.tree cs).root < 2 ^ 64 → IsStore s (plan s st cs))
       → ((s : Settings) (st : Store) (file : List ℕ) (cs : List (Command Global)) → IsStoreOf s st file → refusal_by s st.tree cs ≡ None → (planned_tree s st.tree cs).root < 2 ^ 64 → IsStoreOf s (plan s st cs) file)
-      → IsSoundStore view s now log disk false
+      → IsSoundStore view s now log version disk false
   batched-sound was home e none words kept step =
       let root : (planned_tree s (tree_of t) cs).root < 2 ^ 64 = subst (λ (x : Tree). x.root < 2 ^ 64) e words in
-      let is = planned-is s t now log cs e in
+      let is = planned-is s t now log version cs e in
       record {
         home = home;
         sound = record {
-          is = subst (λ (x : Store). IsStore s x) (sym is) (kept s (store_in t log) cs was.sound.is none root);
+          is = subst (λ (x : Store). IsStore s x) (sym is) (kept s (store_in t log version) cs was.sound.is none root);
           room = was.sound.room;
           step = λ _ honest. subst (λ (x : Store). IsInStep s x (view disk).seen) (sym is)
-              (step s (store_in t log) (view disk).seen cs (record { is = was.sound.is; step = was.sound.step refl honest }) none root).step;
+              (step s (store_in t log version) (view disk).seen cs (record { is = was.sound.is; step = was.sound.step refl honest }) none root).step;
         };
       }

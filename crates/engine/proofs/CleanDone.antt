@@ -4,6 +4,7 @@ use Rattle.std.proofs.Common.{sym, ap, ◌∙◌, subst, ⊎_elim}
 use Rattle.keys.specs.declared.fault.Fault.{Fault}
 use Rattle.keys.specs.declared.fault.Fault.TheVariants.{Device}
 use Rattle.keys.specs.declared.settings.Settings.{Settings}
+use Rattle.keys.specs.declared.version.Version.{Version}
 use Rattle.mapping.specs.Tree.{Store}
 use Rattle.mapping.specs.TreeInMemory.{TreeInMemory, tree_of}
 use Rattle.flush_log.specs.AfterFlush.{store_after}
@@ -17,10 +18,10 @@ use Rattle.engine.specs.State.{IsSound, store_in}
 use Rattle.engine.proofs.CreateLemmas.{slot_with, opened-is}
 
 -- a clean that was done of these bytes leaves the store of the new slot
-pub cleaned-now : (r : Result (Store × List ℕ) Fault) (tree : TreeInMemory) (slot : Slot) (log : LogEnds) (root height : ℕ) (bytes : List ℕ) → slot_with log root height ≡ slot
-    → r ≡ Ok (store_after (tree_of tree) slot, bytes) → r ≡ Ok (store_in tree log, bytes)
-cleaned-now r tree slot log root height bytes same done =
-    done ∙ ap (λ (st : Store). (let q : Result (Store × List ℕ) Fault = Ok (st, bytes) in q)) (sym (opened-is tree slot log root height same))
+pub cleaned-now : (r : Result (Store × List ℕ) Fault) (tree : TreeInMemory) (slot : Slot) (log : LogEnds) (root height : ℕ) (version : Version) (bytes : List ℕ) → slot_with log root height version ≡ slot
+    → r ≡ Ok (store_after (tree_of tree) slot, bytes) → r ≡ Ok (store_in tree log version, bytes)
+cleaned-now r tree slot log root height version bytes same done =
+    done ∙ ap (λ (st : Store). (let q : Result (Store × List ℕ) Fault = Ok (st, bytes) in q)) (sym (opened-is tree slot log root height version same))
 
 module _ {D : Type 0} (view : D → View) (s : Settings) (st : Store) (old new : D) (failed : Bool)
     (was : IsSound view (record { settings = s; store = st; disk = old; has_failed = failed })) (fine : failed ≡ false) (keeps : Kept (view old) (view new)) where

@@ -10,6 +10,7 @@ use Rattle.keys.specs.declared.fault.Fault.{Fault}
 use Rattle.keys.specs.declared.fault.Fault.TheVariants.{DiskTooSmall}
 use Rattle.keys.specs.declared.settings.Field.{Field}
 use Rattle.keys.specs.declared.settings.Settings.{Settings}
+use Rattle.keys.specs.declared.version.Version.{Version}
 use Rattle.mapping.specs.Tree.{Store}
 use Rattle.mapping.specs.TreeInMemory.{TreeInMemory, new_in_memory, tree_of}
 use Rattle.flush_log.specs.AfterFlush.{slot_of, store_after}
@@ -45,41 +46,41 @@ new-fits s bytes len small size good is room whole least =
     let long : length bytes ≡ 545 = rw is refl in
     omega (arith, product, long, room, whole, least)
 
--- the slot that says where a log begins and ends
-abbrev pub slot_with : LogEnds → ℕ → ℕ → Slot
-slot_with log root height = record { sequence = log.sequence; head = log.head; tail = log.tail; root = root; height = height }
+-- the slot that says where a log begins and ends, and its version
+abbrev pub slot_with : LogEnds → ℕ → ℕ → Version → Slot
+slot_with log root height version = record { sequence = log.sequence; head = log.head; tail = log.tail; root = root; height = height; version = version }
 
 -- the slot of what is in memory
-pub slot-in : (tree : TreeInMemory) (log : LogEnds) (root height : ℕ) → root ≡ tree.root → height ≡ tree.height → slot_of (store_in tree log) ≡ slot_with log root height
-slot-in tree log root height r h =
-    ap (λ (n : ℕ). slot_with log n tree.height) (sym r) ∙ ap (λ (n : ℕ). slot_with log root n) (sym h)
+pub slot-in : (tree : TreeInMemory) (log : LogEnds) (root height : ℕ) (v w : Version) → root ≡ tree.root → height ≡ tree.height → v ≡ w → slot_of (store_in tree log w) ≡ slot_with log root height v
+slot-in tree log root height v w r h is =
+    ap (λ (n : ℕ). slot_with log n tree.height w) (sym r) ∙ ap (λ (n : ℕ). slot_with log root n w) (sym h) ∙ ap (λ (x : Version). slot_with log root height x) (sym is)
 
 -- the store of a slot, as its log is kept
-pub opened-is : (tree : TreeInMemory) (slot : Slot) (log : LogEnds) (root height : ℕ) → slot_with log root height ≡ slot → store_in tree log ≡ store_after (tree_of tree) slot
-opened-is tree slot log root height same = ap (λ (t : Slot). store_after (tree_of tree) t) same
+pub opened-is : (tree : TreeInMemory) (slot : Slot) (log : LogEnds) (root height : ℕ) (version : Version) → slot_with log root height version ≡ slot → store_in tree log version ≡ store_after (tree_of tree) slot
+opened-is tree slot log root height version same = ap (λ (t : Slot). store_after (tree_of tree) t) same
 
 -- a new tree under the log of the first slot is the first store
-pub first-is : (tree : TreeInMemory) (slot : Slot) (log : LogEnds) (root height : ℕ) → tree ≡ new_in_memory → slot ≡ first_slot → slot_with log root height ≡ slot → store_in tree log ≡ first_store
-first-is tree slot log root height new first same =
-    opened-is tree slot log root height same
+pub first-is : (tree : TreeInMemory) (slot : Slot) (log : LogEnds) (root height : ℕ) (version : Version) → tree ≡ new_in_memory → slot ≡ first_slot → slot_with log root height version ≡ slot → store_in tree log version ≡ first_store
+first-is tree slot log root height version new first same =
+    opened-is tree slot log root height version same
     ∙ ap (λ (t : Slot). store_after (tree_of tree) t) first
     ∙ ap (λ (t : TreeInMemory). store_after (tree_of t) first_slot) new
 
-module _ {D : Type 0} (view : D → View) (s : Settings) (tree : TreeInMemory) (log : LogEnds) (old new : D) (is : store_in tree log ≡ first_store) (free : create_refusal s (view old).size ≡ None)
+module _ {D : Type 0} (view : D → View) (s : Settings) (tree : TreeInMemory) (log : LogEnds) (version : Version) (old new : D) (is : store_in tree log version ≡ first_store) (free : create_refusal s (view old).size ≡ None)
     (law : IsTrue (view old).is_honest → Lawful (view old)) (bytes : IsTrue (view old).is_honest → (view new).seen ≡ disk_of_new s (view old).seen) where
-  pub made-bytes : IsTrue (view old).is_honest → after_create s (view old).seen ≡ Ok (store_in tree log, (view new).seen)
+  pub made-bytes : IsTrue (view old).is_honest → after_create s (view old).seen ≡ Ok (store_in tree log version, (view new).seen)
   made-bytes honest =
       let none : create_refusal s (length (view old).seen) ≡ None = ap (λ (n : ℕ). create_refusal s n) (law honest).whole ∙ free in
       ap (λ (o : Option Fault). made_unless o s (view old).seen) none
       ∙ ap (λ (st : Store). answer st (disk_of_new s (view old).seen)) (sym is)
-      ∙ ap (λ (file : List ℕ). answer (store_in tree log) file) (sym (bytes honest))
+      ∙ ap (λ (file : List ℕ). answer (store_in tree log version) file) (sym (bytes honest))
     where
       answer : Store → List ℕ → Result (Store × List ℕ) Fault
       answer st file = Ok (st, file)
 
   pub made-sound : tree ≡ new_in_memory → Kept (view old) (view new)
       → ((s : Settings) (disk : List ℕ) → first_bad_field s ≡ None → HasSegments s disk → (store_of_disk (disk_of_new s disk) ≡ Ok (s, first_store)) × IsStoreOf s first_store (disk_of_new s disk))
-      → IsSoundStore view s tree log new false
+      → IsSoundStore view s tree log version new false
   made-sound fresh kept stands =
       let (good, room) = fits s (view old).size free in
       let zeros : List ℕ = replicate (disk_size s) 0 in

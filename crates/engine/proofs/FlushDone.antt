@@ -1,61 +1,156 @@
--- Why a flush is refused, and what one that was planned leaves.
+-- Why a flush or an upgrade is refused, and what one that was planned leaves.
 use Rattle.std.specs.Prelude.{◌≡◌, ◌≢◌, ◌⊎◌, ◌≤◌, ℕ, suc, IsTrue, Bool, true, false, if◌then◌else◌, List, [], ◌∷◌, length, Result, Ok, Err, MatchResult, IfOk, IfErr}
+use Rattle.std.specs.List.{AllByRecursion}
 use Rattle.std.proofs.Common.{refl, sym, ap, ◌∙◌, subst, inl, inr, arith}
 use Rattle.keys.specs.declared.fault.Fault.{Fault}
 use Rattle.keys.specs.declared.fault.Fault.TheVariants.{NoMemory, Device, Spent, Full}
 use Rattle.keys.specs.declared.settings.Settings.{Settings}
+use Rattle.keys.specs.declared.version.Version.{Version}
+use Rattle.keys.specs.declared.version.Version.TheVariants.{One, Two}
+use Rattle.mapping.specs.Proper.{IsProper}
 use Rattle.mapping.specs.Tree.{Tree, Store}
 use Rattle.mapping.specs.TreeInMemory.{TreeInMemory, tree_of}
 use Rattle.frame_codec.specs.Frame.{Frame}
-use Rattle.flush_log.specs.AfterFlush.{slot_of, flush_slot, is_spent, store_after, after_text, after_flush}
+use Rattle.flush_log.specs.AfterFlush.{slot_of, flush_slot, is_spent, store_after, after_text, after_flush, of_version_two, unless_upgraded, after_upgrade}
 use Rattle.flush_log.specs.Commit.{committed, IsUncommitted}
-use Rattle.flush_log.specs.CommitPlan.{AreImages, CommitPlan, next_tail, IsPlanned, file_with, LeftOf}
+use Rattle.flush_log.specs.CommitPlan.{AreImages, CommitPlan, next_slot, next_tail, IsPlanned, file_with, LeftOf}
 use Rattle.flush_log.specs.Disk.{View, Kept, LeavesOnly}
-use Rattle.flush_log.specs.FlushText.{flush_text, HasFrames, flushed}
-use Rattle.flush_log.specs.Images.{AreOfText}
-use Rattle.flush_log.specs.Layout.{spans, is_full_for_flush}
+use Rattle.flush_log.specs.FlushText.{version_with, text_of, flush_text, upgrade_text, HasFrames, flushed}
+use Rattle.flush_log.specs.Images.{AreOfText, admitted}
+use Rattle.flush_log.specs.Layout.{tail_after, spans, is_full_for_flush}
 use Rattle.flush_log.specs.Segments.{disk_size}
-use Rattle.flush_log.specs.Slot.{Slot}
+use Rattle.flush_log.specs.Slot.{Slot, format_of}
 use Rattle.flush_log.specs.declared.slot.LogEnds.{LogEnds}
+use Rattle.flush_log.specs.declared.text.Text.{Text}
+use Rattle.flush_log.specs.declared.text.Text.TheVariants as texts
 use Rattle.flush_log.proofs.AdmitLemmas.{commit-refused, commit-admitted}
 use Rattle.flush_log.proofs.ViewLemmas.{weaker}
 use Rattle.recovery.specs.InStep.{IsInStep, IsStore, IsStoreOf}
 use Rattle.recovery.specs.StoreOfDisk.{store_of_disk}
 use Rattle.recovery.proofs.FlushBack.{left, text-some}
-use Rattle.engine.specs.Calls.{IsFlush, WouldFlush}
-use Rattle.engine.specs.State.{IsSound, store_in}
+use Rattle.engine.specs.Calls.{after_writing, IsOwnText, IsToWrite, WouldWrite, with_version, IsWriting}
+use Rattle.engine.specs.State.{State, IsSound, store_in}
 use Rattle.engine.proofs.CreateLemmas.{slot_with, opened-is}
 
 -- an empty text leaves all
-pub nothing-flushed : (s : Settings) (st : Store) (file : List ℕ) → flush_text st.tree ≡ [] → after_flush s st file ≡ left st file
+pub nothing-flushed : (s : Settings) (st : Store) (file : List ℕ) → flush_text st.version st.tree ≡ [] → after_flush s st file ≡ left st file
 nothing-flushed s st file none = ap (after_text s st file) none
 
-pub nothing-framed : (s : Settings) (t : Tree) → flush_text t ≡ [] → HasFrames s t
-nothing-framed s t none = rw none tt
+pub nothing-framed : (s : Settings) (version : Version) (t : Tree) → flush_text version t ≡ [] → HasFrames s (texts.Flush version) t
+nothing-framed s version t none = rw none tt
 
 -- a text that is not empty has a frame
 some_frame : (text : List Frame) → text ≢ [] → 1 ≤ length text
 some_frame [] some = absurd (some refl)
 some_frame (f ∷ fs) some = omega arith
 
--- images of the text of a flush that has something to write
-pub text-spelled : (s : Settings) (st : Store) (images : List (List (List ℕ))) → flush_text st.tree ≢ [] → AreOfText images (flush_text st.tree) → HasFrames s st.tree → AreImages s (flush_text st.tree) images
-text-spelled s st images some of frames = record { of = of; some = inr (some_frame (flush_text st.tree) some); within = frames }
+-- images of a text that has something to write, for the slot that names its version
+pub text-spelled : (s : Settings) (text : Text) (st : Store) (u : Slot) (images : List (List (List ℕ))) → slot_of (with_version (version_with text) st) ≡ u
+    → text_of text st.tree ≢ [] → AreOfText images (text_of text st.tree) → HasFrames s text st.tree → AreImages (format_of s u) (text_of text st.tree) images
+text-spelled s text st u images is some of frames =
+    subst (λ (v : Slot). AreImages (format_of s v) (text_of text st.tree) images) is (record { of = of; some = inr (some_frame (text_of text st.tree) some); within = frames })
 
--- ---- a flush that has something to write
+-- the plan of the commit that adds the text to this slot's log is that of the store, where the slot is the store's
+pub as-writing : (s : Settings) (text : Text) (st : Store) (u : Slot) (r : Result CommitPlan Fault) → slot_of (with_version (version_with text) st) ≡ u
+    → MatchResult r (λ m. IsPlanned s u (text_of text st.tree) m) (λ fault. (fault ≡ NoMemory) ⊎ (next_tail s u (text_of text st.tree) ≡ Err fault))
+    → IfOk r (λ m. IsWriting text s st m)
+    × IfErr r (λ fault. (fault ≡ NoMemory) ⊎ (next_tail s (slot_of (with_version (version_with text) st)) (text_of text st.tree) ≡ Err fault))
+as-writing s text st u (Ok m) is p = (subst (λ (v : Slot). IsPlanned s v (text_of text st.tree) m) (sym is) p, tt)
+as-writing s text st u (Err fault) is p = (tt, subst (λ (v : Slot). (fault ≡ NoMemory) ⊎ (next_tail s v (text_of text st.tree) ≡ Err fault)) (sym is) p)
 
--- the store before, or all that the flush leaves
-abbrev BeforeOrAfter : Settings → Store → List ℕ → List ℕ → Type 0
-BeforeOrAfter s st file c = (store_of_disk c ≡ store_of_disk file) ⊎ ((now : Store) × (after_flush s st file ≡ Ok (now, c)))
+-- a plan is refused by no device
+not_device_by : (a b : Bool) (n : ℕ) (fault : Fault) → (let tail : Result ℕ Fault = Ok n in if a then Err Spent else (if b then Err Full else tail)) ≡ Err fault → fault ≢ Device
+not_device_by true b n fault h e = absurd (cc)
+not_device_by false true n fault h e = absurd (cc)
+not_device_by false false n fault h e = absurd (cc)
 
--- until it is committed it isn't seen
-abbrev HidesFlush : Type 0
-HidesFlush = (s : Settings) (st now : Store) (file bytes c : List ℕ) → IsStoreOf s st file → HasFrames s st.tree → flush_text st.tree ≢ [] → after_flush s st file ≡ Ok (now, bytes)
-    → IsUncommitted s (suc st.sequence) (spans s st.tail (flush_text st.tree)) file c → store_of_disk c ≡ store_of_disk file
+pub never-device : (s : Settings) (t : Slot) (text : List Frame) (fault : Fault) → (fault ≡ NoMemory) ⊎ (next_tail s t text ≡ Err fault) → fault ≢ Device
+never-device s t text fault (inl memory) e = absurd (cc)
+never-device s t text fault (inr right) e =
+    not_device_by (is_spent (next_slot s t text)) (is_full_for_flush s t.head (tail_after s t.tail text)) (tail_after s t.tail text) fault right e
 
-module _ (s : Settings) (st : Store) (some : flush_text st.tree ≢ []) where
+-- ---- the two texts
+
+-- where the text is due, what is left is what it leaves of the store with its version
+writes-as : (text : Text) (s : Settings) (st : Store) (file : List ℕ) → IsOwnText text st → IsToWrite text st
+    → after_writing text s st file ≡ after_text s (with_version (version_with text) st) file (text_of text st.tree)
+writes-as (texts.Flush version) s st file own due = ap (λ (v : Version). after_text s (with_version v st) file (flush_text v st.tree)) (sym own)
+writes-as texts.Upgrade s st file own due = ap (λ (v : Version). unless_upgraded v (after_text s (of_version_two st) file (upgrade_text st.tree))) due
+
+-- it has something to write
+writes-some : (text : Text) (s : Settings) (st : Store) → IsOwnText text st → IsToWrite text st → IsProper s st.tree
+    → ((s : Settings) (t : Tree) → IsProper s t → upgrade_text t ≢ []) → text_of text st.tree ≢ []
+writes-some (texts.Flush version) s st own due proper upgrades = subst (λ (v : Version). flush_text v st.tree ≢ []) (sym own) due
+writes-some texts.Upgrade s st own due proper upgrades = upgrades s st.tree proper
+
+-- this text of this store is to be written
+pub record IsDue (text : Text) (st : Store) : Type 0 where
+  pub own : IsOwnText text st
+  pub due : IsToWrite text st
+  pub some : text_of text st.tree ≢ []
+
+-- of the store in memory
+pub due-of : {D : Type 0} (text : Text) (s : Settings) (x y : State D) → x ≡ y → IsOwnText text y.store → IsToWrite text y.store → IsStore s x.store
+    → ((s : Settings) (t : Tree) → IsProper s t → upgrade_text t ≢ []) → IsDue text x.store
+due-of {D = D} text s x y same own due is upgrades =
+    let here : IsOwnText text x.store = subst (λ (z : State D). IsOwnText text z.store) (sym same) own in
+    let there : IsToWrite text x.store = subst (λ (z : State D). IsToWrite text z.store) (sym same) due in
+    record { own = here; due = there; some = writes-some text s x.store here there is.proper upgrades }
+
+-- Until it is committed it isn't seen.
+abbrev Hides : Text → Settings → Store → Store → List ℕ → List ℕ → List ℕ → Type 0
+Hides text s st now file bytes c =
+    HasFrames s text st.tree → text_of text st.tree ≢ [] → after_writing text s st file ≡ Ok (now, bytes)
+    → IsUncommitted s (suc st.sequence) (spans s st.tail (text_of text st.tree)) file c → store_of_disk c ≡ store_of_disk file
+
+abbrev HidesWriting : Text → Type 0
+HidesWriting text = (s : Settings) (st now : Store) (file bytes c : List ℕ) → IsStoreOf s st file → IsOwnText text st → Hides text s st now file bytes c
+
+pub hides : ((s : Settings) (st now : Store) (file bytes c : List ℕ) → IsStoreOf s st file → Hides (texts.Flush st.version) s st now file bytes c)
+    → ((s : Settings) (st now : Store) (file bytes c : List ℕ) → IsStoreOf s st file → HasFrames s texts.Upgrade st.tree → after_upgrade s st file ≡ Ok (now, bytes)
+    → IsUncommitted s (suc st.sequence) (spans s st.tail (upgrade_text st.tree)) file c → store_of_disk c ≡ store_of_disk file)
+    → (text : Text) → HidesWriting text
+hides flushes upgrades (texts.Flush version) s st now file bytes c is own = subst (λ (v : Version). Hides (texts.Flush v) s st now file bytes c) (sym own) (flushes s st now file bytes c is)
+hides flushes upgrades texts.Upgrade s st now file bytes c is own = λ frames some done hid. upgrades s st now file bytes c is frames done hid
+
+-- what it leaves of a store that is one as every store is
+abbrev pub KeepsWritten : Text → Type 0
+KeepsWritten text = (s : Settings) (st now : Store) (file bytes : List ℕ) → IsStore s st → IsOwnText text st → HasFrames s text st.tree → after_writing text s st file ≡ Ok (now, bytes) → IsStore s now
+
+pub keeps : ((s : Settings) (st now : Store) (file bytes : List ℕ) → IsStore s st → HasFrames s (texts.Flush st.version) st.tree → after_flush s st file ≡ Ok (now, bytes) → IsStore s now)
+    → ((s : Settings) (st now : Store) (file bytes : List ℕ) → IsStore s st → HasFrames s texts.Upgrade st.tree → after_upgrade s st file ≡ Ok (now, bytes) → IsStore s now)
+    → (text : Text) → KeepsWritten text
+keeps flushes upgrades (texts.Flush version) s st now file bytes is own frames = flushes s st now file bytes is (subst (λ (v : Version). HasFrames s (texts.Flush v) st.tree) own frames)
+keeps flushes upgrades texts.Upgrade s st now file bytes is own frames = upgrades s st now file bytes is frames
+
+-- and what the disk then stands for
+abbrev pub ReadsWritten : Text → Type 0
+ReadsWritten text = (s : Settings) (st now : Store) (file bytes : List ℕ) → IsStoreOf s st file → IsOwnText text st → HasFrames s text st.tree → after_writing text s st file ≡ Ok (now, bytes)
+    → (store_of_disk bytes ≡ Ok (s, now)) × IsStoreOf s now bytes
+
+pub reads : ((s : Settings) (st now : Store) (file bytes : List ℕ) → IsStoreOf s st file → HasFrames s (texts.Flush st.version) st.tree → after_flush s st file ≡ Ok (now, bytes)
+    → (store_of_disk bytes ≡ Ok (s, now)) × IsStoreOf s now bytes)
+    → ((s : Settings) (st now : Store) (file bytes : List ℕ) → IsStoreOf s st file → HasFrames s texts.Upgrade st.tree → after_upgrade s st file ≡ Ok (now, bytes)
+    → (store_of_disk bytes ≡ Ok (s, now)) × IsStoreOf s now bytes)
+    → (text : Text) → ReadsWritten text
+reads flushes upgrades (texts.Flush version) s st now file bytes is own frames = flushes s st now file bytes is (subst (λ (v : Version). HasFrames s (texts.Flush v) st.tree) own frames)
+reads flushes upgrades texts.Upgrade s st now file bytes is own frames = upgrades s st now file bytes is frames
+
+-- ---- one that has something to write
+
+-- the store before, or all that it leaves
+abbrev BeforeOrAfter : Text → Settings → Store → List ℕ → List ℕ → Type 0
+BeforeOrAfter text s st file c = (store_of_disk c ≡ store_of_disk file) ⊎ ((now : Store) × (after_writing text s st file ≡ Ok (now, c)))
+
+module _ (text : Text) (s : Settings) (st : Store) (is : IsDue text st) where
+  abbrev frames : List Frame
+  frames = text_of text st.tree
+
+  abbrev with_its : Store
+  with_its = with_version (version_with text) st
+
   abbrev slot : Slot
-  slot = flush_slot s st (flush_text st.tree)
+  slot = flush_slot s with_its frames
 
   abbrev is_full : Bool
   is_full = is_full_for_flush s slot.head slot.tail
@@ -63,73 +158,51 @@ module _ (s : Settings) (st : Store) (some : flush_text st.tree ≢ []) where
   abbrev now : Store
   now = store_after (flushed st.tree) slot
 
-  pub flush-refused : (fault : Fault) → next_tail s (slot_of st) (flush_text st.tree) ≡ Err fault → (file : List ℕ) → after_flush s st file ≡ Err fault
-  flush-refused fault h file = text-some s st file (flush_text st.tree) some ∙ commit-refused slot is_full now (committed s file (spans s st.tail (flush_text st.tree)) slot) fault h
+  as_text : (file : List ℕ) → after_writing text s st file ≡ after_text s with_its file frames
+  as_text file = writes-as text s st file is.own is.due
 
-  module _ (m : CommitPlan) (p : IsFlush s st m) where
-    flush-done : (file : List ℕ) → after_flush s st file ≡ left now (file_with s (slot_of st) (flush_text st.tree) file)
-    flush-done file = text-some s st file (flush_text st.tree) some ∙ commit-admitted slot is_full now (committed s file (spans s st.tail (flush_text st.tree)) slot) p.unspent p.free
+  pub writing-refused : (fault : Fault) → next_tail s (slot_of with_its) frames ≡ Err fault → (file : List ℕ) → after_writing text s st file ≡ Err fault
+  writing-refused fault h file = as_text file ∙ text-some s with_its file frames is.some ∙ commit-refused slot is_full now (committed s file (spans s st.tail frames) slot) fault h
 
-    pub flush-would : (file : List ℕ) → WouldFlush s st file
-    flush-would file = (some, now, file_with s (slot_of st) (flush_text st.tree) file, flush-done file)
+  module _ (m : CommitPlan) (p : IsWriting text s st m) where
+    writing-done : (file : List ℕ) → after_writing text s st file ≡ left now (file_with s (slot_of with_its) frames file)
+    writing-done file = as_text file ∙ text-some s with_its file frames is.some ∙ commit-admitted slot is_full now (committed s file (spans s st.tail frames) slot) p.unspent p.free
 
-    flush-left : (file c : List ℕ) → IsStoreOf s st file → HidesFlush → LeftOf s (slot_of st) (flush_text st.tree) file c → BeforeOrAfter s st file c
-    flush-left file c is hidden (inl hid) = inl (hidden s st now file (file_with s (slot_of st) (flush_text st.tree) file) c is p.spelled.within some (flush-done file) hid)
-    flush-left file c is hidden (inr whole) = inr (now, flush-done file ∙ ap (left now) (sym whole))
+    pub writing-would : (file : List ℕ) → WouldWrite text s st file
+    writing-would file = (is.due, now, file_with s (slot_of with_its) frames file, writing-done file)
+
+    writing-left : (file c : List ℕ) → IsStoreOf s st file → HidesWriting text → LeftOf s (slot_of with_its) frames file c → BeforeOrAfter text s st file c
+    writing-left file c store hidden (inl hid) = inl (hidden s st now file (file_with s (slot_of with_its) frames file) c store is.own p.spelled.within is.some (writing-done file) hid)
+    writing-left file c store hidden (inr whole) = inr (now, writing-done file ∙ ap (left now) (sym whole))
 
     -- what a crash leaves
-    pub flush-crashed : (old new : View) → IsStoreOf s st old.seen → HidesFlush → LeavesOnly old new (LeftOf s (slot_of st) (flush_text st.tree) old.seen) → LeavesOnly old new (BeforeOrAfter s st old.seen)
-    flush-crashed old new is hidden run =
-        weaker old new (LeftOf s (slot_of st) (flush_text st.tree) old.seen) (BeforeOrAfter s st old.seen) (λ c h. flush-left old.seen c is hidden h) run
+    pub writing-crashed : (old new : View) → IsStoreOf s st old.seen → HidesWriting text → LeavesOnly old new (LeftOf s (slot_of with_its) frames old.seen) → LeavesOnly old new (BeforeOrAfter text s st old.seen)
+    writing-crashed old new store hidden run =
+        weaker old new (LeftOf s (slot_of with_its) frames old.seen) (BeforeOrAfter text s st old.seen) (λ c h. writing-left old.seen c store hidden h) run
 
     -- in memory, where the log is kept as the commit's slot says
-    pub flushed-now : (tree : TreeInMemory) (log : LogEnds) (root height : ℕ) → tree_of tree ≡ flushed st.tree → slot_with log root height ≡ m.slot → (file : List ℕ)
-        → after_flush s st file ≡ left (store_in tree log) (file_with s (slot_of st) (flush_text st.tree) file)
-    flushed-now tree log root height is_tree kept file =
-        flush-done file
-        ∙ ap (λ (x : Store). left x (file_with s (slot_of st) (flush_text st.tree) file))
-        (ap (λ (t : Tree). store_after t slot) (sym is_tree) ∙ sym (opened-is tree slot log root height (kept ∙ p.slot)))
-
--- the plan of the commit that adds the text to this slot's log is that of the flush, where the slot is the store's
-pub as-flush : (s : Settings) (st : Store) (u : Slot) (r : Result CommitPlan Fault) → flush_text st.tree ≢ [] → slot_of st ≡ u
-    → MatchResult r (λ m. IsPlanned s u (flush_text st.tree) m) (λ fault. (fault ≡ NoMemory) ⊎ (next_tail s u (flush_text st.tree) ≡ Err fault))
-    → IfOk r (λ m. IsFlush s st m) × IfErr r (λ fault. (fault ≡ NoMemory) ⊎ ((file : List ℕ) → after_flush s st file ≡ Err fault))
-as-flush s st u (Ok m) some is p = (subst (λ (v : Slot). IsPlanned s v (flush_text st.tree) m) (sym is) p, tt)
-as-flush s st u (Err fault) some is (inl memory) = (tt, inl memory)
-as-flush s st u (Err fault) some is (inr full) = (tt, inr (λ file. flush-refused s st some fault (subst (λ (v : Slot). next_tail s v (flush_text st.tree) ≡ Err fault) (sym is) full) file))
-
--- a flush is refused by its right with two faults alone
-not_device_by : (a b : Bool) (now : Store) (file : List ℕ) (fault : Fault) → (if a then Err Spent else (if b then Err Full else left now file)) ≡ Err fault → fault ≢ Device
-not_device_by true b now file fault h e = absurd (cc)
-not_device_by false true now file fault h e = absurd (cc)
-not_device_by false false now file fault h e = absurd (cc)
-
-not_device_text : (s : Settings) (st : Store) (file : List ℕ) (text : List Frame) (fault : Fault) → after_text s st file text ≡ Err fault → fault ≢ Device
-not_device_text s st file [] fault h e = absurd (cc)
-not_device_text s st file (f ∷ fs) fault h e =
-    let t : Slot = flush_slot s st (f ∷ fs) in
-    not_device_by (is_spent t) (is_full_for_flush s t.head t.tail) (store_after (flushed st.tree) t) (committed s file (spans s st.tail (f ∷ fs)) t) fault h e
-
-pub never-device : (s : Settings) (st : Store) (fault : Fault) → (fault ≡ NoMemory) ⊎ ((file : List ℕ) → after_flush s st file ≡ Err fault) → fault ≢ Device
-never-device s st fault (inl memory) e = absurd (cc)
-never-device s st fault (inr right) e = not_device_text s st [] (flush_text st.tree) fault (right []) e
+    pub written-now : (tree : TreeInMemory) (log : LogEnds) (root height : ℕ) (version : Version) → tree_of tree ≡ flushed st.tree → slot_with log root height version ≡ m.slot → (file : List ℕ)
+        → after_writing text s st file ≡ left (store_in tree log version) (file_with s (slot_of with_its) frames file)
+    written-now tree log root height version is_tree kept file =
+        writing-done file
+        ∙ ap (λ (x : Store). left x (file_with s (slot_of with_its) frames file))
+        (ap (λ (t : Tree). store_after t slot) (sym is_tree) ∙ sym (opened-is tree slot log root height version (kept ∙ p.slot)))
 
 pub on-bytes : (r : Result (Store × List ℕ) Fault) (now : Store) (bytes seen : List ℕ) → r ≡ left now bytes → seen ≡ bytes → r ≡ left now seen
 on-bytes r now bytes seen done same = done ∙ ap (λ (b : List ℕ). left now b) (sym same)
 
 -- ---- sound again
 
-module _ {D : Type 0} (view : D → View) (s : Settings) (st now : Store) (old new : D) (bytes : List ℕ)
-    (was : IsSound view (record { settings = s; store = st; disk = old; has_failed = false })) (frames : HasFrames s st.tree)
-    (kept : (s : Settings) (st now : Store) (file bytes : List ℕ) → IsStore s st → HasFrames s st.tree → after_flush s st file ≡ Ok (now, bytes) → IsStore s now)
-    (read : (s : Settings) (st now : Store) (file bytes : List ℕ) → IsStoreOf s st file → HasFrames s st.tree → after_flush s st file ≡ Ok (now, bytes) → (store_of_disk bytes ≡ Ok (s, now)) × IsStoreOf s now bytes)
-    (keeps : Kept (view old) (view new)) (done : after_flush s st (view old).seen ≡ Ok (now, bytes)) (wrote : IsTrue (view old).is_honest → (view new).seen ≡ bytes) where
-  pub flushed-sound : IsSound view (record { settings = s; store = now; disk = new; has_failed = false })
-  flushed-sound = record {
-    is = kept s st now (view old).seen bytes was.is frames done;
-    room = subst (λ (n : ℕ). disk_size s ≤ n) (sym keeps.size) was.room;
+module _ {D : Type 0} (view : D → View) (text : Text) (s : Settings) (st now : Store) (old new : D) (bytes : List ℕ)
+    (was : IsSound view (record { settings = s; store = st; disk = old; has_failed = false })) (own : IsOwnText text st) (within : HasFrames s text st.tree)
+    (kept : KeepsWritten text) (read : ReadsWritten text)
+    (held : Kept (view old) (view new)) (done : after_writing text s st (view old).seen ≡ Ok (now, bytes)) (wrote : IsTrue (view old).is_honest → (view new).seen ≡ bytes) where
+  pub written-sound : IsSound view (record { settings = s; store = now; disk = new; has_failed = false })
+  written-sound = record {
+    is = kept s st now (view old).seen bytes was.is own within done;
+    room = subst (λ (n : ℕ). disk_size s ≤ n) (sym held.size) was.room;
     step = λ _ still. (
-        let honest = subst IsTrue keeps.honest still in
-        let back = read s st now (view old).seen bytes (record { is = was.is; step = was.step refl honest }) frames done in
+        let honest = subst IsTrue held.honest still in
+        let back = read s st now (view old).seen bytes (record { is = was.is; step = was.step refl honest }) own within done in
         subst (λ (file : List ℕ). IsInStep s now file) (sym (wrote honest)) back.1.step);
   }

@@ -23,4 +23,5 @@ mod Routed
 mod SeenLeaves
 mod StepDone
 mod StepsLemmas
+mod TextSteps
 mod Verified

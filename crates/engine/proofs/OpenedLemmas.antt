@@ -5,6 +5,7 @@ use Rattle.keys.specs.Bytes.{Bytes}
 use Rattle.keys.specs.declared.fault.Fault.{Fault}
 use Rattle.keys.specs.declared.fault.Fault.TheVariants.{Device}
 use Rattle.keys.specs.declared.settings.Settings.{Settings}
+use Rattle.keys.specs.declared.version.Version.{Version}
 use Rattle.mapping.specs.Tree.{Store}
 use Rattle.mapping.specs.TreeInMemory.{TreeInMemory, AreAllHome, tree_of}
 use Rattle.flush_log.specs.AfterFlush.{store_after}
@@ -44,23 +45,23 @@ abbrev read_as : Settings → Store → Result (Settings × Store) Fault
 read_as s st = Ok (s, st)
 
 -- in memory
-module _ {D : Type 0} (view : D → View) (s : Settings) (tree : TreeInMemory) (slot : Slot) (log : LogEnds) (root height : ℕ) (old new : D) (file : Bytes)
+module _ {D : Type 0} (view : D → View) (s : Settings) (tree : TreeInMemory) (slot : Slot) (log : LogEnds) (root height : ℕ) (version : Version) (old new : D) (file : Bytes)
     (read : IsReadOf (view old) file) (is : store_of_disk file ≡ Ok (s, store_after (tree_of tree) slot))
     (kept : Kept (view old) (view new)) (same : IsTrue (view old).is_honest → Same (view old) (view new))
     (law : (s : Settings) (st : Store) (file : Bytes) → store_of_disk file ≡ Ok (s, st) → IsStoreOf s st file)
-    (kept_as : slot_with log root height ≡ slot) where
-  pub opened-store : AreAllHome tree → IsSoundStore view s tree log new false
+    (kept_as : slot_with log root height version ≡ slot) where
+  pub opened-store : AreAllHome tree → IsSoundStore view s tree log version new false
   opened-store home = record {
     home = home;
-    sound = subst (λ (st : Store). IsSound view (record { settings = s; store = st; disk = new; has_failed = false })) (sym (opened-is tree slot log root height kept_as))
+    sound = subst (λ (st : Store). IsSound view (record { settings = s; store = st; disk = new; has_failed = false })) (sym (opened-is tree slot log root height version kept_as))
         (opened-sound view s (store_after (tree_of tree) slot) old new file read is kept same law);
   }
 
-  pub opened-read : store_of_disk file ≡ Ok (s, store_in tree log)
-  opened-read = is ∙ ap (λ (st : Store). read_as s st) (sym (opened-is tree slot log root height kept_as))
+  pub opened-read : store_of_disk file ≡ Ok (s, store_in tree log version)
+  opened-read = is ∙ ap (λ (st : Store). read_as s st) (sym (opened-is tree slot log root height version kept_as))
 
-  pub opened-seen : IsTrue (view old).is_honest → store_of_disk (view old).seen ≡ Ok (s, store_in tree log)
-  opened-seen honest = subst (λ (f : Bytes). store_of_disk f ≡ read_as s (store_in tree log)) (read.honest honest) opened-read
+  pub opened-seen : IsTrue (view old).is_honest → store_of_disk (view old).seen ≡ Ok (s, store_in tree log version)
+  opened-seen honest = subst (λ (f : Bytes). store_of_disk f ≡ read_as s (store_in tree log version)) (read.honest honest) opened-read
 
 pub refused-seen : (v : View) (file : Bytes) (fault : Fault) (L : Type 0) → IsReadOf v file → (store_of_disk file ≡ Err fault) ⊎ L → IsTrue v.is_honest → (store_of_disk v.seen ≡ Err fault) ⊎ L
 refused-seen v file fault L read told honest = subst (λ (f : Bytes). (store_of_disk f ≡ Err fault) ⊎ L) (read.honest honest) told

@@ -6,19 +6,19 @@ use Rattle.keys.specs.declared.fault.Fault.{Fault}
 use Rattle.keys.specs.declared.settings.Settings.{Settings}
 use Rattle.keys.specs.Results.{and_then}
 use Rattle.mapping.specs.Tree.{Store, with_tree}
-use Rattle.flush_log.specs.AfterFlush.{after_flush}
+use Rattle.flush_log.specs.AfterFlush.{after_flush, after_upgrade}
 use Rattle.flush_log.specs.Commit.{LeftDuring}
 use Rattle.recovery.specs.InStep.{IsStoreOf}
 use Rattle.recovery.specs.StoreOfDisk.{store_of_disk}
-use Rattle.recovery.proofs.CrashLemmas.{none_left, flush-crash}
+use Rattle.recovery.proofs.CrashLemmas.{none_left, flush-crash, upgrade-crash}
 use Rattle.recovery.proofs.FlushBack.{left}
-use Rattle.recovery.proofs.KeptStore.{flush-read_back}
+use Rattle.recovery.proofs.KeptStore.{flush-read_back, upgrade-read_back}
 use Rattle.cleaner.specs.AfterClean.{after_clean}
 use Rattle.cleaner.proofs.CleanBack.{clean-in_step}
 use Rattle.cleaner.proofs.CleanCrash.{clean-crash}
 use Rattle.engine.specs.Steps.{Step, Answer, Batching, Played, Stepped, unless_refused, after_step, behind_answer, played_on, plays, with_later, plays_further, HasWords, here_and_on, HaveWords, step_calls, left_on, LeftInPlay, StandsAfterSome, KeepsStores}
-use Rattle.engine.specs.Steps.Step.{Batch, Flush, Clean}
-use Rattle.engine.specs.Steps.Answer.{Flushed, Cleaned}
+use Rattle.engine.specs.Steps.Step.{Batch, Flush, Clean, Upgrade}
+use Rattle.engine.specs.Steps.Answer.{Flushed, Cleaned, Upgraded}
 
 -- ---- in parts
 
@@ -53,7 +53,7 @@ module _ {A : Type 0} (b : Batching A) (s : Settings) where
   pub words-append : (st : Store) (file : List ℕ) (xs ys : List (Step A)) → HaveWords b s st file xs
       → ((plays b s st file xs).fault ≡ None → HaveWords b s (plays b s st file xs).store (plays b s st file xs).bytes ys) → HaveWords b s st file (xs ++ ys)
   words-append st file [] ys w rest = rest refl
-  words-append st file (x ∷ xs) ys w rest = words_by st file (HasWords b s st.tree x) (after_step b s st file x) xs ys w rest (λ now bytes v more. words-append now bytes xs ys v more)
+  words-append st file (x ∷ xs) ys w rest = words_by st file (HasWords b s st x) (after_step b s st file x) xs ys w rest (λ now bytes v more. words-append now bytes xs ys v more)
 
   -- ---- how many are played
 
@@ -111,19 +111,21 @@ module _ {A : Type 0} (b : Batching A) (s : Settings) where
 
   module _ (keeps : KeepsStores s b) where
     -- a step leaves one as every store is
-    pub step-kept : (st : Store) (file : List ℕ) (x : Step A) (q : Answer A × (Store × List ℕ)) → IsStoreOf s st file → HasWords b s st.tree x → after_step b s st file x ≡ Ok q → IsStoreOf s q.1.0 q.1.1
+    pub step-kept : (st : Store) (file : List ℕ) (x : Step A) (q : Answer A × (Store × List ℕ)) → IsStoreOf s st file → HasWords b s st x → after_step b s st file x ≡ Ok q → IsStoreOf s q.1.0 q.1.1
     step-kept st file (Batch cs) q is words e =
         let (allowed, same) = let_through (b.refusal st.tree cs) _ (with_tree st (b.planned st.tree cs)) file q e in
         subst (λ (x : Store × List ℕ). IsStoreOf s x.0 x.1) same (keeps st file cs is allowed words).1
     step-kept st file Flush q is words e = (flush-read_back s st file is words q.1.0 q.1.1 (went (after_flush s st file) (λ p. Flushed p.0.sequence) q e)).1
     step-kept st file Clean q is words e = clean-in_step s st q.1.0 file q.1.1 is (went (after_clean s st file) (λ p. Cleaned p.0.head) q e)
+    step-kept st file Upgrade q is words e = (upgrade-read_back s st q.1.0 file q.1.1 (went (after_upgrade s st file) (λ p. Upgraded p.0.sequence) q e) is words).1
 
     -- a crash in it leaves what was before, or all of it
-    pub step-crash : (st : Store) (file c : List ℕ) (x : Step A) (q : Answer A × (Store × List ℕ)) → IsStoreOf s st file → HasWords b s st.tree x → after_step b s st file x ≡ Ok q → LeftDuring (step_calls s st file x) file c
+    pub step-crash : (st : Store) (file c : List ℕ) (x : Step A) (q : Answer A × (Store × List ℕ)) → IsStoreOf s st file → HasWords b s st x → after_step b s st file x ≡ Ok q → LeftDuring (step_calls s st file x) file c
         → (store_of_disk c ≡ store_of_disk file) ⊎ (c ≡ q.1.1)
     step-crash st file c (Batch cs) q is words e during = inl (ap store_of_disk (none_left during.0 file c during.1))
     step-crash st file c Flush q is words e during = flush-crash s st q.1.0 file q.1.1 c is words (went (after_flush s st file) (λ p. Flushed p.0.sequence) q e) during
     step-crash st file c Clean q is words e during = clean-crash s st q.1.0 file q.1.1 c is.step (went (after_clean s st file) (λ p. Cleaned p.0.head) q e) during
+    step-crash st file c Upgrade q is words e during = upgrade-crash s st q.1.0 file q.1.1 c is words (went (after_upgrade s st file) (λ p. Upgraded p.0.sequence) q e) during
 
     -- ---- a play
 
@@ -133,7 +135,7 @@ module _ {A : Type 0} (b : Batching A) (s : Settings) where
         (n : ℕ) × (n ≤ length (played_on st file r (λ now bytes. plays b s now bytes xs)).answers) × (store_of_disk c ≡ store_of_disk (plays b s st file (take n (x ∷ xs))).bytes)
 
     crash_by : (st : Store) (file c : List ℕ) (x : Step A) (xs : List (Step A)) (r : Stepped A) → after_step b s st file x ≡ r → IsStoreOf s st file
-        → here_and_on r (HasWords b s st.tree x) (λ now bytes. HaveWords b s now bytes xs)
+        → here_and_on r (HasWords b s st x) (λ now bytes. HaveWords b s now bytes xs)
         → left_on r (step_calls s st file x) file c (λ now bytes. LeftInPlay b s now bytes xs c)
         → ((now : Store) (bytes : List ℕ) → IsStoreOf s now bytes → HaveWords b s now bytes xs → LeftInPlay b s now bytes xs c → StandsAfterSome b s now bytes xs c)
         → StandsBehind st file c x xs r

@@ -4,7 +4,7 @@ use Rattle.std.proofs.Common.{refl, sym, ap, ◌∙◌, subst, inl, inr, arith, 
 use Rattle.std.proofs.lemmas.List.{map-append, take_more, drop_more}
 use Rattle.std.specs.declared.alloc.Global.{Global}
 use Rattle.keys.specs.declared.fault.Fault.{Fault}
-use Rattle.keys.specs.declared.fault.Fault.TheVariants.{BadSettings, KeyTooLong, ValueTooLong, BatchTooLong, BadCrew, NoMemory, Failed, Device, Full, NothingToClean, NotAStore, NoSlot, BadSegment, BadFrame, BadStructure, Spent, DiskTooSmall}
+use Rattle.keys.specs.declared.fault.Fault.TheVariants.{BadSettings, KeyTooLong, ValueTooLong, BatchTooLong, BadCrew, NoMemory, Failed, Device, Full, NothingToClean, NotAStore, NoSlot, BadSegment, BadFrame, BadStructure, Spent, DiskTooSmall, AlreadyUpgraded}
 use Rattle.keys.specs.declared.settings.Settings.{Settings}
 use Rattle.mapping.specs.Tree.{Store}
 use Rattle.flush_log.specs.Disk.{View, Lawful, IsSettled, Kept, Same, LeavesOnly}
@@ -62,6 +62,7 @@ device_or_not (BadFrame a b) = inr ((λ e. cc), λ n. refl)
 device_or_not (BadStructure a) = inr ((λ e. cc), λ n. refl)
 device_or_not Spent = inr ((λ e. cc), λ n. refl)
 device_or_not DiskTooSmall = inr ((λ e. cc), λ n. refl)
+device_or_not AlreadyUpgraded = inr ((λ e. cc), λ n. refl)
 
 pub reached_device : (xs : List code_step.Step) (fault : Fault) (n i : ℕ) (x : code_step.Step) → fault ≡ Device → n ≡ i → i < length xs → x ≡ get_or xs i x
     → map step_of (take (tried fault n) xs) ≡ map step_of (take i xs) ++ step_of x ∷ []
@@ -134,10 +135,10 @@ module _ (s : Settings) (st : Store) (file : List ℕ) where
     one_word (Ok p) here w = (w, tt)
     one_word (Err fault) here w = tt
 
-    still_words : HaveWords (batching s) s st file xs → HasWords (batching s) s cur.tree x → HaveWords (batching s) s st file (xs ++ x ∷ [])
+    still_words : HaveWords (batching s) s st file xs → HasWords (batching s) s cur x → HaveWords (batching s) s st file (xs ++ x ∷ [])
     still_words words here =
         words-append (batching s) s st file xs (x ∷ []) words
-        (λ none. one_word (after_step (batching s) s (at xs).store (at xs).bytes x) _ (subst (λ (y : Store). HasWords (batching s) s y.tree x) is.store here))
+        (λ none. one_word (after_step (batching s) s (at xs).store (at xs).bytes x) _ (subst (λ (y : Store). HasWords (batching s) s y x) is.store here))
 
     -- ---- what a crash leaves
 
@@ -280,10 +281,10 @@ module _ {D : Type 0} (view : D → View) (failures : D → ℕ) (lawful : (disk
           (step_leaves crash fine was))
 
       -- its numbers too have 64 bits
-      pub words_on : IsTrue (view old.disk).is_honest → HasWords (batching cur.settings) cur.settings cur.store.tree x → HaveWords (batching s) s old.store first (xs ++ x ∷ [])
+      pub words_on : IsTrue (view old.disk).is_honest → HasWords (batching cur.settings) cur.settings cur.store x → HaveWords (batching s) s old.store first (xs ++ x ∷ [])
       words_on honest here =
           still_words s old.store first xs said cur.store (turn.exact honest) x (turn.words honest)
-          (subst (λ (z : Settings). HasWords {A = Global} (batching z) z cur.store.tree x) turn.settings here)
+          (subst (λ (z : Settings). HasWords {A = Global} (batching z) z cur.store x) turn.settings here)
 
       pub left_behind_it : Kept (view cur.disk) (view next.disk) → CrashOfStep → old.has_failed ≡ false → IsSettled (view old.disk) → (c : List ℕ) → (view next.disk).may_leave c
           → (store_of_disk c ≡ store_of_disk (plays (batching s) s old.store first xs).bytes) ⊎ (store_of_disk c ≡ store_of_disk (plays (batching s) s old.store first (xs ++ x ∷ [])).bytes)

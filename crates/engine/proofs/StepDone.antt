@@ -14,18 +14,20 @@ use Rattle.keys.specs.declared.settings.Settings.{Settings}
 use Rattle.mapping.specs.Levels.{contents}
 use Rattle.mapping.specs.Tree.{Tree, Store, most_levels}
 use Rattle.climb_plan.specs.Plan.{plan, planned_tree}
-use Rattle.flush_log.specs.AfterFlush.{after_flush}
 use Rattle.flush_log.specs.Disk.{View, Same}
+use Rattle.flush_log.specs.declared.text.Text.{Text}
+use Rattle.flush_log.specs.declared.text.Text.TheVariants as texts
 use Rattle.recovery.specs.StoreOfDisk.{store_of_disk, and_then}
 use Rattle.cleaner.specs.AfterClean.{after_clean}
 use Rattle.cleaner.specs.Cleaned.{IsCleanFault}
 use Rattle.engine.specs.Batch.{IsLaterFault, height_fault, refusal_by}
-use Rattle.engine.specs.Calls.{IsFlushFault}
-use Rattle.engine.specs.Plays.{IsStepFault, IsLeftInStep}
+use Rattle.engine.specs.Calls.{after_writing, IsLateInWriting, IsWritingFault}
+use Rattle.engine.specs.Plays.{IsLateInStep, IsStepFault, IsLeftInStep}
 use Rattle.engine.specs.Refusal.{refusal, first_fault, fault_at, key_fault, value_fault, bound_fault}
 use Rattle.engine.specs.Steps.{Step, Stepped, HasWords, unless_refused, after_step, batching}
-use Rattle.engine.specs.Steps.Step.{Batch, Flush, Clean}
-use Rattle.engine.specs.Steps.Answer.{Replies, Flushed, Cleaned}
+use Rattle.engine.specs.Steps.Step.{Batch, Clean}
+use Rattle.engine.specs.Steps.Answer.{Replies, Cleaned}
+use Rattle.engine.proofs.TextSteps.{step_by, answer_by, after_text_step}
 
 pub fine_where : {T : Type 0} (b : Bool) (r : Result T Fault) (x : T) → r ≡ Ok x → (b ≡ true → r ≡ Err Failed) → b ≡ false
 fine_where false r x ok failed = refl
@@ -117,8 +119,8 @@ module _ {T : Type 0} (s : Settings) (st : Store) (cs : List (Command Global)) (
 
 -- ---- what is done
 
-pub words_of : (s : Settings) (t : Tree) (x y : Step Global) → y ≡ x → HasWords (batching s) s t x → HasWords (batching s) s t y
-words_of s t x y same words = subst (λ (z : Step Global). HasWords (batching s) s t z) (sym same) words
+pub words_of : (s : Settings) (st : Store) (x y : Step Global) → y ≡ x → HasWords (batching s) s st x → HasWords (batching s) s st y
+words_of s st x y same words = subst (λ (z : Step Global). HasWords (batching s) s st z) (sym same) words
 
 module _ (s : Settings) (st now : Store) (file : List ℕ) (y : Step Global) where
   pub batch_done : (cs : List (Command Global)) (replies : List (Reply Global)) → y ≡ Batch cs → refusal_by s st.tree cs ≡ None → now ≡ plan s st cs → replies ≡ replies_to (contents st.tree) cs
@@ -129,11 +131,13 @@ module _ (s : Settings) (st now : Store) (file : List ℕ) (y : Step Global) whe
       ∙ ap (λ (x : Store). (let q : Stepped Global = Ok (Replies (replies_to (contents st.tree) cs), (x, file)) in q)) (sym is)
       ∙ ap (λ (rs : List (Reply Global)). (let q : Stepped Global = Ok (Replies rs, (now, file)) in q)) (sym are)
 
-  pub flush_done : (bytes : List ℕ) (n : ℕ) → y ≡ Flush → n ≡ now.sequence → after_flush s st file ≡ Ok (now, bytes) → after_step (batching s) s st file y ≡ Ok (Flushed n, (now, bytes))
-  flush_done bytes n same is done =
+  pub writing_done : (text : Text) (bytes : List ℕ) (n : ℕ) → y ≡ step_by text → n ≡ now.sequence → after_writing text s st file ≡ Ok (now, bytes)
+      → after_step (batching s) s st file y ≡ Ok (answer_by text n, (now, bytes))
+  writing_done text bytes n same is done =
       ap (after_step (batching s) s st file) same
-      ∙ ap (λ (r : Result (Store × List ℕ) Fault). (let q : Stepped Global = and_then r (λ p. Ok (Flushed p.0.sequence, p)) in q)) done
-      ∙ ap (λ (k : ℕ). (let q : Stepped Global = Ok (Flushed k, (now, bytes)) in q)) (sym is)
+      ∙ after_text_step (batching s) s st file text
+      ∙ ap (λ (r : Result (Store × List ℕ) Fault). (let q : Stepped Global = and_then r (λ p. Ok (answer_by text p.0.sequence, p)) in q)) done
+      ∙ ap (λ (k : ℕ). (let q : Stepped Global = Ok (answer_by text k, (now, bytes)) in q)) (sym is)
 
   pub clean_done : (bytes : List ℕ) (n : ℕ) → y ≡ Clean → n ≡ now.head → after_clean s st file ≡ Ok (now, bytes) → after_step (batching s) s st file y ≡ Ok (Cleaned n, (now, bytes))
   clean_done bytes n same is done =
@@ -141,16 +145,22 @@ module _ (s : Settings) (st now : Store) (file : List ℕ) (y : Step Global) whe
       ∙ ap (λ (r : Result (Store × List ℕ) Fault). (let q : Stepped Global = and_then r (λ p. Ok (Cleaned p.0.head, p)) in q)) done
       ∙ ap (λ (k : ℕ). (let q : Stepped Global = Ok (Cleaned k, (now, bytes)) in q)) (sym is)
 
-module _ (s : Settings) (st : Store) (file : List ℕ) (y : Step Global) (same : y ≡ Flush) where
-  pub flush_refused : (old new : ℕ) (fault : Fault) → IsFlushFault s st file old new fault → IsStepFault s st file old new y fault
-  flush_refused old new fault why = subst (λ (z : Step Global). IsStepFault s st file old new z fault) (sym same) (by why) where
-    by : IsFlushFault s st file old new fault → IsStepFault s st file old new Flush fault
-    by (inl right) = inl (ap (λ (r : Result (Store × List ℕ) Fault). (let q : Stepped Global = and_then r (λ p. Ok (Flushed p.0.sequence, p)) in q)) right)
-    by (inr late) = inr late
+late_in : (text : Text) (s : Settings) (st : Store) (file : List ℕ) (old new : ℕ) (fault : Fault) → IsLateInWriting text s st file old new fault → IsLateInStep s st file old new (step_by text) fault
+late_in (texts.Flush version) s st file old new fault late = late
+late_in texts.Upgrade s st file old new fault late = late
 
-  pub flush_left : (c : List ℕ) → (store_of_disk c ≡ store_of_disk file) ⊎ ((now : Store) × (after_flush s st file ≡ Ok (now, c))) → IsLeftInStep s st file y c
-  flush_left c (inl before) = inl before
-  flush_left c (inr (now, done)) = inr (Flushed now.sequence, now, flush_done s st now file y c now.sequence same refl done)
+module _ (s : Settings) (st : Store) (file : List ℕ) (y : Step Global) (text : Text) (same : y ≡ step_by text) where
+  pub writing_refused : (old new : ℕ) (fault : Fault) → IsWritingFault text s st file old new fault → IsStepFault s st file old new y fault
+  writing_refused old new fault why = subst (λ (z : Step Global). IsStepFault s st file old new z fault) (sym same) (by why) where
+    by : IsWritingFault text s st file old new fault → IsStepFault s st file old new (step_by text) fault
+    by (inl right) =
+        inl (after_text_step (batching s) s st file text
+        ∙ ap (λ (r : Result (Store × List ℕ) Fault). (let q : Stepped Global = and_then r (λ p. Ok (answer_by text p.0.sequence, p)) in q)) right)
+    by (inr late) = inr (late_in text s st file old new fault late)
+
+  pub writing_left : (c : List ℕ) → (store_of_disk c ≡ store_of_disk file) ⊎ ((now : Store) × (after_writing text s st file ≡ Ok (now, c))) → IsLeftInStep s st file y c
+  writing_left c (inl before) = inl before
+  writing_left c (inr (now, done)) = inr (answer_by text now.sequence, now, writing_done s st now file y text c now.sequence same refl done)
 
 module _ (s : Settings) (st : Store) (file : List ℕ) (y : Step Global) (same : y ≡ Clean) where
   pub clean_refused : (old new : ℕ) (fault : Fault) → IsCleanFault s st file old new fault → IsStepFault s st file old new y fault

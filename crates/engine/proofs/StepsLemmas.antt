@@ -11,16 +11,16 @@ use Rattle.keys.specs.Results.{and_then}
 use Rattle.keys.proofs.RunLemmas.{replies_to-append, map_after_all-append}
 use Rattle.mapping.specs.Levels.{contents}
 use Rattle.mapping.specs.Tree.{Tree, Store, with_tree}
-use Rattle.flush_log.specs.AfterFlush.{after_flush}
+use Rattle.flush_log.specs.AfterFlush.{slot_of, after_flush, after_upgrade}
 use Rattle.flush_log.specs.FlushText.{flushed}
 use Rattle.recovery.specs.InStep.{IsInStep, AreInStep, IsStoreOf}
 use Rattle.recovery.specs.StoreOfDisk.{store_of_disk}
 use Rattle.recovery.proofs.FlushBack.{left, same_store}
-use Rattle.recovery.proofs.KeptStore.{flushed-tree, flush-read_back}
+use Rattle.recovery.proofs.KeptStore.{flushed-tree, flush-read_back, upgraded-tree, upgrade-read_back}
 use Rattle.cleaner.specs.AfterClean.{after_clean}
 use Rattle.engine.specs.Steps.{Step, Batching, Played, Stepped, unless_refused, played_on, plays, batches_among, HasWords, here_and_on, HaveWords, KeepsStores, ArePlayed}
-use Rattle.engine.specs.Steps.Step.{Batch, Flush, Clean}
-use Rattle.engine.specs.Steps.Answer.{Replies, Flushed, Cleaned}
+use Rattle.engine.specs.Steps.Step.{Batch, Flush, Clean, Upgrade}
+use Rattle.engine.specs.Steps.Answer.{Replies, Flushed, Cleaned, Upgraded}
 use Rattle.cleaner.proofs.CleanBack.{clean-done, clean-back, clean-in_step}
 
 -- ---- one step
@@ -35,7 +35,7 @@ cleaned-tree s st now file bytes h = ap (λ (x : Store). x.tree) (clean-done s s
 abbrev stored : Settings → Store → Result (Settings × Store) Fault
 stored s st = Ok (s, st)
 
--- the store that a disk stands for is the one with which a store is in step, with the same ends of the log
+-- the store that a disk stands for is the one with which a store is in step, with the same ends of the log and the same version
 with_ends : (s : Settings) (st on_disk : Store) (file : List ℕ) → store_of_disk file ≡ Ok (s, on_disk) → IsInStep s st file
     → AreInStep st on_disk × (store_of_disk file ≡ Ok (s, with_tree st on_disk.tree))
 with_ends s st on_disk file read (other, is, step) =
@@ -43,7 +43,7 @@ with_ends s st on_disk file read (other, is, step) =
     let pair : (let p : Settings × Store = (s, other) in p ≡ (s, on_disk)) = cc in
     let same : other ≡ on_disk = ap (λ (p : Settings × Store). p.1) pair in
     let here : AreInStep st on_disk = subst (λ (x : Store). AreInStep st x) same step in
-    (here, read ∙ ap (stored s) (sym (same_store on_disk st.head st.tail st.sequence (sym here.head) (sym here.tail) (sym here.sequence))))
+    (here, read ∙ ap (stored s) (ap (λ (x : Store). with_tree x on_disk.tree) (same_store st on_disk on_disk.tree (slot_of on_disk) here refl)))
 
 module _ {A : Type 0} (b : Batching A) (s : Settings) (keeps : KeepsStores s b) where
   -- where nothing more is played
@@ -58,7 +58,7 @@ module _ {A : Type 0} (b : Batching A) (s : Settings) (keeps : KeepsStores s b) 
 
   -- the numbers of this step and of those behind it
   abbrev WordsOn : Store → List (Step A) → Step A → Stepped A → Type 0
-  WordsOn st xs x r = here_and_on r (HasWords b s st.tree x) (λ now bytes. HaveWords b s now bytes xs)
+  WordsOn st xs x r = here_and_on r (HasWords b s st x) (λ now bytes. HaveWords b s now bytes xs)
 
   module _ (st on_disk : Store) (file : List ℕ) (xs : List (Step A)) (read : store_of_disk file ≡ Ok (s, on_disk)) (is : IsStoreOf s st file) (on : PlaysOn xs) where
     batch_on : (cs : List (Command A)) (o : Option Fault) → b.refusal st.tree cs ≡ o
@@ -79,18 +79,27 @@ module _ {A : Type 0} (b : Batching A) (s : Settings) (keeps : KeepsStores s b) 
           store = later.store;
         }
 
+    -- on from what a flush or an upgrade left
+    further : (now : Store) (bytes : List ℕ) → (store_of_disk bytes ≡ Ok (s, now)) × IsStoreOf s now bytes → now.tree ≡ flushed st.tree → HaveWords b s now bytes xs
+        → ArePlayed b s (flushed st.tree) (flushed st.tree) xs (plays b s now bytes xs)
+    further now bytes (here, store) same words = subst (λ (t : Tree). ArePlayed b s t t xs (plays b s now bytes xs)) same (on now now bytes here store words)
+
     flush_on : (r : Result (Store × List ℕ) Fault) → after_flush s st file ≡ r
         → (let u : Stepped A = and_then r (λ q. Ok (Flushed q.0.sequence, q)) in
         let p : Played A = played_on st file u (λ now bytes. plays b s now bytes xs) in
         WordsOn st xs Flush u → ArePlayed b s st.tree on_disk.tree (Flush ∷ xs) p)
     flush_on (Err fault) e words = stopped st on_disk file (Flush ∷ xs) (Some fault) read is
     flush_on (Ok q) e words =
-        let now : Store = q.0 in
-        let bytes : List ℕ = q.1 in
-        let (here, store) = flush-read_back s st file is words.0 now bytes e in
-        let same : now.tree ≡ flushed st.tree = flushed-tree s st now file bytes is.is e in
-        let later = on now now bytes here store words.1 in
-        let shown : ArePlayed b s (flushed st.tree) (flushed st.tree) xs (plays b s now bytes xs) = subst (λ (t : Tree). ArePlayed b s t t xs (plays b s now bytes xs)) same later in
+        let shown = further q.0 q.1 (flush-read_back s st file is words.0 q.0 q.1 e) (flushed-tree s st q.0 file q.1 is.is e) words.1 in
+        record { replies = shown.replies; holds = shown.holds; disk = shown.disk; store = shown.store }
+
+    upgrade_on : (r : Result (Store × List ℕ) Fault) → after_upgrade s st file ≡ r
+        → (let u : Stepped A = and_then r (λ q. Ok (Upgraded q.0.sequence, q)) in
+        let p : Played A = played_on st file u (λ now bytes. plays b s now bytes xs) in
+        WordsOn st xs Upgrade u → ArePlayed b s st.tree on_disk.tree (Upgrade ∷ xs) p)
+    upgrade_on (Err fault) e words = stopped st on_disk file (Upgrade ∷ xs) (Some fault) read is
+    upgrade_on (Ok q) e words =
+        let shown = further q.0 q.1 (upgrade-read_back s st q.0 file q.1 e is words.0) (upgraded-tree s st q.0 file q.1 e is.is) words.1 in
         record { replies = shown.replies; holds = shown.holds; disk = shown.disk; store = shown.store }
 
     clean_on : (r : Result (Store × List ℕ) Fault) → after_clean s st file ≡ r
@@ -113,3 +122,4 @@ module _ {A : Type 0} (b : Batching A) (s : Settings) (keeps : KeepsStores s b) 
   steps-played (Batch cs ∷ xs) st on_disk file read is words = batch_on st on_disk file xs read is (λ now there bytes r i w. steps-played xs now there bytes r i w) cs (b.refusal st.tree cs) refl words
   steps-played (Flush ∷ xs) st on_disk file read is words = flush_on st on_disk file xs read is (λ now there bytes r i w. steps-played xs now there bytes r i w) (after_flush s st file) refl words
   steps-played (Clean ∷ xs) st on_disk file read is words = clean_on st on_disk file xs read is (λ now there bytes r i w. steps-played xs now there bytes r i w) (after_clean s st file) refl words
+  steps-played (Upgrade ∷ xs) st on_disk file read is words = upgrade_on st on_disk file xs read is (λ now there bytes r i w. steps-played xs now there bytes r i w) (after_upgrade s st file) refl words

@@ -6,16 +6,15 @@ use Rattle.keys.specs.declared.fault.Fault.{Fault}
 use Rattle.keys.specs.declared.fault.Fault.TheVariants.{NoMemory, Device}
 use Rattle.keys.specs.declared.settings.Settings.{Settings}
 use Rattle.mapping.specs.Tree.{Store}
-use Rattle.flush_log.specs.Disk.{HasFailed}
-use Rattle.flush_log.specs.FlushText.{flush_text}
 use Rattle.flush_log.specs.Segments.{last_segment}
+use Rattle.flush_log.specs.declared.text.Text.TheVariants as texts
 use Rattle.recovery.specs.Recovered.{IsLate}
 use Rattle.recovery.specs.StoreOfDisk.{store_of_disk}
-use Rattle.engine.specs.Calls.{WouldFlush}
+use Rattle.engine.specs.Calls.{IsLateInWriting}
 use Rattle.engine.specs.Refusal.{refusal}
 use Rattle.engine.specs.Steps.{Step, Answer, HasWords, batching, after_step, plays}
-use Rattle.engine.specs.Steps.Step.{Batch, Flush, Clean}
-use Rattle.engine.specs.Steps.Answer.{Replies, Flushed, Cleaned}
+use Rattle.engine.specs.Steps.Step.{Batch, Flush, Clean, Upgrade}
+use Rattle.engine.specs.Steps.Answer.{Replies, Flushed, Cleaned, Upgraded}
 use Rattle.engine.specs.declared.step.Step as code_step
 use Rattle.engine.specs.declared.step.Step.TheVariants as called
 use Rattle.engine.specs.declared.step.Answer as code_answer
@@ -28,12 +27,14 @@ abbrev pub step_of : code_step.Step → Step Global
 step_of (called.Batch commands) = Batch commands.now
 step_of called.Flush = Flush
 step_of called.Clean = Clean
+step_of called.Upgrade = Upgrade
 
 -- and what it answers
 abbrev pub answer_of : code_answer.Answer → Answer Global
 answer_of (answered.Replies replies) = Replies replies.items
 answer_of (answered.Flushed n) = Flushed n
 answer_of (answered.Cleaned n) = Cleaned n
+answer_of (answered.Upgraded n) = Upgraded n
 
 -- ---- how far a play comes
 
@@ -71,7 +72,7 @@ pub record IsStepDone (honest : Bool) (s : Settings) (st : Store) (left : Bytes)
   pub file : Bytes
   pub shown : IsTrue honest → file ≡ left
   pub done : after_step (batching s) s st file x ≡ Ok (answer_of a, (now, bytes))
-  pub words : HasWords (batching s) s st.tree x
+  pub words : HasWords (batching s) s st x
 
 -- so were these steps, one after the other, and answered so
 abbrev pub IsPlayed : Bool → Settings → Store → Bytes → List (Step Global) → List code_answer.Answer → Store → Type 0
@@ -83,12 +84,12 @@ IsPlayed honest s st left (x ∷ xs) said now =
 -- ---- what is refused
 
 -- A step that isn't refused by its right is refused so: for want of memory; or since a call of the disk failed. A clean is so only
--- where more than one segment is in use.
+-- where more than one segment is in use, an upgrade only where the log has version 1.
 abbrev pub IsLateInStep : Settings → Store → Bytes → ℕ → ℕ → Step Global → Fault → Type 0
 IsLateInStep s st file old new (Batch cs) fault = (fault ≡ NoMemory) × (refusal s cs ≡ None)
-IsLateInStep s st file old new Flush fault =
-    ((fault ≡ NoMemory) × (flush_text st.tree ≢ [])) ⊎ ((fault ≡ Device) × HasFailed old new × WouldFlush s st file)
+IsLateInStep s st file old new Flush fault = IsLateInWriting (texts.Flush st.version) s st file old new fault
 IsLateInStep s st file old new Clean fault = (st.head ≢ last_segment s st.tail) × IsLate old new fault
+IsLateInStep s st file old new Upgrade fault = IsLateInWriting texts.Upgrade s st file old new fault
 
 -- why a step of a store that has not failed is refused
 abbrev pub IsStepFault : Settings → Store → Bytes → ℕ → ℕ → Step Global → Fault → Type 0

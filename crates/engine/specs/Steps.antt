@@ -1,4 +1,4 @@
--- Steps of a store on its disk: batches, flushes and cleans, one after the other, over the store and the bytes of its disk.
+-- Steps of a store on its disk: batches, flushes, cleans and upgrades, one after the other, over the store and the bytes of its disk.
 use Rattle.std.specs.Prelude.{◌≡◌, ◌⊎◌, ℕ, ◌^◌, ◌<◌, ◌≤◌, ⊤, List, [], ◌∷◌, ◌++◌, length, take, Option, Some, None, Result, Ok, Err}
 use Rattle.keys.specs.Bytes.{Bytes}
 use Rattle.keys.specs.Lists.{flat}
@@ -9,9 +9,10 @@ use Rattle.keys.specs.declared.fault.Fault.{Fault}
 use Rattle.keys.specs.declared.settings.Settings.{Settings}
 use Rattle.mapping.specs.Levels.{contents}
 use Rattle.mapping.specs.Tree.{Tree, Store, with_tree}
-use Rattle.flush_log.specs.AfterFlush.{after_flush, flush_calls}
+use Rattle.flush_log.specs.AfterFlush.{after_flush, after_upgrade, flush_calls, upgrade_calls}
 use Rattle.flush_log.specs.Commit.{Call, LeftDuring}
 use Rattle.flush_log.specs.FlushText.{HasFrames, flushed}
+use Rattle.flush_log.specs.declared.text.Text.TheVariants as texts
 use Rattle.recovery.specs.InStep.{IsStoreOf}
 use Rattle.recovery.specs.StoreOfDisk.{and_then, store_of_disk}
 use Rattle.climb_plan.specs.Plan.{planned_tree}
@@ -24,12 +25,14 @@ pub data Step (A : Type 0) : Type 0 where
   Batch : List (Command A) → Step A
   Flush : Step A
   Clean : Step A
+  Upgrade : Step A
 
--- the replies to a batch; after a flush the sequence number; after a clean the head segment
+-- the replies to a batch; after a flush or an upgrade the sequence number; after a clean the head segment
 pub data Answer (A : Type 0) : Type 0 where
   Replies : List (Reply A) → Answer A
   Flushed : ℕ → Answer A
   Cleaned : ℕ → Answer A
+  Upgraded : ℕ → Answer A
 
 -- what batches do to a tree: why one is refused, or else the tree after it
 pub record Batching (A : Type 0) : Type 0 where
@@ -55,6 +58,7 @@ after_step b s st file (Batch cs) =
     unless_refused (b.refusal st.tree cs) (Replies (replies_to (contents st.tree) cs)) (with_tree st (b.planned st.tree cs)) file
 after_step b s st file Flush = and_then (after_flush s st file) (λ p. Ok (Flushed p.0.sequence, p))
 after_step b s st file Clean = and_then (after_clean s st file) (λ p. Ok (Cleaned p.0.head, p))
+after_step b s st file Upgrade = and_then (after_upgrade s st file) (λ p. Ok (Upgraded p.0.sequence, p))
 
 -- the answers to steps up to the first that is refused, what they leave, and why that one was refused
 pub record Played (A : Type 0) : Type 0 where
@@ -94,27 +98,31 @@ batches_among [] = []
 batches_among (Batch cs ∷ xs) = cs ∷ batches_among xs
 batches_among (Flush ∷ xs) = batches_among xs
 batches_among (Clean ∷ xs) = batches_among xs
+batches_among (Upgrade ∷ xs) = batches_among xs
 
 abbrev pub replies_among : {A : Type 0} → List (Answer A) → List (List (Reply A))
 replies_among [] = []
 replies_among (Replies rs ∷ answers) = rs ∷ replies_among answers
 replies_among (Flushed n ∷ answers) = replies_among answers
 replies_among (Cleaned n ∷ answers) = replies_among answers
+replies_among (Upgraded n ∷ answers) = replies_among answers
 
--- the tree that the last flush of these steps wrote, or the one that was written before them
+-- the tree that the last flush or upgrade of these steps wrote, or the one that was written before them
 abbrev pub last_written : {A : Type 0} → Batching A → Tree → Tree → List (Step A) → Tree
 last_written b written now [] = written
 last_written b written now (Batch cs ∷ xs) = last_written b written (b.planned now cs) xs
 last_written b written now (Flush ∷ xs) = last_written b (flushed now) (flushed now) xs
 last_written b written now (Clean ∷ xs) = last_written b written now xs
+last_written b written now (Upgrade ∷ xs) = last_written b (flushed now) (flushed now) xs
 
 -- ---- what is asked of their numbers
 
--- a step's numbers have 64 bits, as all have in memory: those of a flush's frames, and the root's page id after a batch
-abbrev pub HasWords : {A : Type 0} → Batching A → Settings → Tree → Step A → Type 0
-HasWords b s now (Batch cs) = (b.planned now cs).root < 2 ^ 64
-HasWords b s now Flush = HasFrames s now
-HasWords b s now Clean = ⊤
+-- a step's numbers have 64 bits, as all have in memory: those of a flush's or an upgrade's frames, and the root's page id after a batch
+abbrev pub HasWords : {A : Type 0} → Batching A → Settings → Store → Step A → Type 0
+HasWords b s st (Batch cs) = (b.planned st.tree cs).root < 2 ^ 64
+HasWords b s st Flush = HasFrames s (texts.Flush st.version) st.tree
+HasWords b s st Clean = ⊤
+HasWords b s st Upgrade = HasFrames s texts.Upgrade st.tree
 
 -- what is so of a step, and of those behind it; nothing of one that is refused
 abbrev pub here_and_on : {A : Type 0} → Stepped A → Type 0 → (Store → Bytes → Type 0) → Type 0
@@ -124,7 +132,7 @@ here_and_on (Err fault) here next = ⊤
 -- the numbers of the steps that are played have 64 bits
 abbrev pub HaveWords : {A : Type 0} → Batching A → Settings → Store → Bytes → List (Step A) → Type 0
 HaveWords b s st file [] = ⊤
-HaveWords b s st file (x ∷ xs) = here_and_on (after_step b s st file x) (HasWords b s st.tree x) (λ now bytes. HaveWords b s now bytes xs)
+HaveWords b s st file (x ∷ xs) = here_and_on (after_step b s st file x) (HasWords b s st x) (λ now bytes. HaveWords b s now bytes xs)
 
 -- ---- what a crash leaves
 
@@ -133,6 +141,7 @@ abbrev pub step_calls : {A : Type 0} → Settings → Store → Bytes → Step A
 step_calls s st file (Batch cs) = []
 step_calls s st file Flush = flush_calls s st file
 step_calls s st file Clean = clean_calls s st file
+step_calls s st file Upgrade = upgrade_calls s st file
 
 -- what a crash leaves during these calls, or later; a step that is refused makes none
 abbrev pub left_on : {A : Type 0} → Stepped A → List Call → Bytes → Bytes → (Store → Bytes → Type 0) → Type 0
@@ -161,8 +170,8 @@ KeepsStores {A} s b = (st : Store) (file : Bytes) (cs : List (Command A)) → Is
 
 -- Of steps that were played, as far as they were, on a store with this tree, whose disk stood for one with the tree that is
 -- written: the replies are those of an ordered map that takes all their commands one by one, and the store holds what that map
--- holds; the disk stands for the tree of the last flush, or else for the one that was written, with the head, the tail and the
--- number that there are now.
+-- holds; the disk stands for the tree of the last flush or upgrade, or else for the one that was written, with the head, the tail,
+-- the number and the version that there are now.
 pub record ArePlayed {A : Type 0} (b : Batching A) (s : Settings) (now written : Tree) (steps : List (Step A)) (p : Played A) : Type 0 where
   pub replies : flat (replies_among p.answers) ≡ replies_to (contents now) (flat (batches_among (take (length p.answers) steps)))
   pub holds : contents p.store.tree ≡ map_after_all (contents now) (flat (batches_among (take (length p.answers) steps)))

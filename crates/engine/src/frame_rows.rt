@@ -4,8 +4,8 @@ ghost use Rattle.std.specs.Prelude.{◌≡◌, None};
 ghost use Rattle.keys.specs.Limits.{first_bad_field};
 
 use delta_chain::{Base, Run};
-use frame_codec::{Frame, read_frame, write_frame};
-use keys::{Pid, Settings, Value};
+use frame_codec::{Format, Frame, read_frame, write_frame};
+use keys::{Pid, Settings, Value, Version};
 use std::alloc::{AllocError, Global};
 use std::test::Fail;
 
@@ -16,6 +16,11 @@ const SETTINGS: Settings = Settings {
     max_value: 16,
     seg_size: 256,
     segments: 4,
+};
+
+const FORMAT: Format = Format {
+    settings: SETTINGS,
+    version: Version::One,
 };
 
 pub(crate) const EMPTY_LEAF: &[u8] = b"\x01\0\0\0\x0c\0\0\0\0\0\0\0\0\0\0\0\0";
@@ -82,12 +87,12 @@ fn with_low(alloc: Global, low: &[u8], entries: &[u8]) -> Result<Vec<u8>, AllocE
 // What a frame says, as its low key, a colon and its entries; and its page id.
 fn said(alloc: Global, frame: &Frame) -> Result<(Vec<u8>, u64), AllocError> {
     match frame {
-        Frame::FullLeaf { pid, low, base } => {
+        Frame::FullLeaf { pid, low, base, .. } => {
             let entries = leaf_text(alloc, base)?;
             Ok((with_low(alloc, low.as_bytes(), &entries)?, pid.0))
         }
         Frame::DeltaLeaf { pid, run } => Ok((run_text(alloc, run)?, pid.0)),
-        Frame::FullIndex { pid, low, base } => {
+        Frame::FullIndex { pid, low, base, .. } => {
             let entries = index_text(alloc, base)?;
             Ok((with_low(alloc, low.as_bytes(), &entries)?, pid.0))
         }
@@ -107,7 +112,7 @@ fn says(alloc: Global, frame: &Frame, told: &[u8], pid: u64) -> Result<bool, All
 
 // Whether the bytes are read as a frame that says this, and has all of them.
 fn is_read(alloc: Global, bytes: &[u8], told: &[u8], pid: u64) -> Result<bool, AllocError> {
-    let Some(found) = read_frame(alloc, bytes, &SETTINGS)? else {
+    let Some(found) = read_frame(alloc, bytes, &FORMAT)? else {
         return Ok(false);
     };
     Ok(found.1 == bytes.len() && says(alloc, &found.0, told, pid)?)
@@ -133,10 +138,10 @@ fn the_frames_of_the_examples_are_read(rt: HostRuntime) -> Result<(), Fail> {
 }
 
 // The frame at the front of these bytes, written again.
-fn again(alloc: Global, bytes: &[u8], settings: &Settings) -> Result<Option<Vec<u8>>, AllocError>
-    requires { first_bad_field settings.now ≡ None }
+fn again(alloc: Global, bytes: &[u8], format: &Format) -> Result<Option<Vec<u8>>, AllocError>
+    requires { first_bad_field format.now.settings ≡ None }
 {
-    match read_frame(alloc, bytes, settings)? {
+    match read_frame(alloc, bytes, format)? {
         Some((frame, _)) => {
             let mut out = Vec::new(alloc);
             write_frame(&frame, &mut out)?;
@@ -152,7 +157,7 @@ fn the_frames_of_the_examples_are_written_as_they_stand(rt: HostRuntime) -> Resu
         EMPTY_LEAF, A_ABSENT, A_PUT, LEAF_0, LEAF_1, ROOT, FREE_1, A_3, FOUR_PUT,
     ];
     for row in &rows {
-        match again(rt.alloc(), row, &SETTINGS)? {
+        match again(rt.alloc(), row, &FORMAT)? {
             Some(out) => assert_eq!(rt; out.as_slice(), *row),
             None => assert!(rt; false),
         }
@@ -161,7 +166,7 @@ fn the_frames_of_the_examples_are_written_as_they_stand(rt: HostRuntime) -> Resu
 }
 
 fn is_refused(alloc: Global, bytes: &[u8]) -> Result<bool, AllocError> {
-    Ok(read_frame(alloc, bytes, &SETTINGS)?.is_none())
+    Ok(read_frame(alloc, bytes, &FORMAT)?.is_none())
 }
 
 #[test]

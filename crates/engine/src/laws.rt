@@ -1,4 +1,4 @@
-//! What batches, flushes and cleans do one after the other, in the words of one of them. Each law is the contract of a
+//! What batches, flushes, cleans and upgrades do one after the other, in the words of one of them. Each law is the contract of a
 //! function with an empty body.
 ghost use Rattle.std.specs.Prelude.{◌≡◌, ◌^◌, ◌<◌, List, None, Ok};
 ghost use Rattle.std.specs.List.{AllByRecursion};
@@ -65,9 +65,9 @@ pub fn a_batch_stays_in_step<A: Allocator>()
     what_the_log_has_of_a_page_stays_true::<A>();
 }
 
-/// Batches, flushes and cleans, one after the other, up to the first that is refused: the replies are those of an ordered map, and the
-/// disk stands for the store of the last flush, with the head, the tail and the number that there are now. The numbers on
-/// the way have 64 bits, as all have in memory.
+/// Batches, flushes, cleans and upgrades, one after the other, up to the first that is refused: the replies are those of an ordered map,
+/// and the disk stands for the store of the last flush or upgrade, with the head, the tail, the number and the version that there are
+/// now. The numbers on the way have 64 bits, as all have in memory.
 pub fn steps_answer_as_a_map_and_are_read_back<A: Allocator>()
     ensures { (s : Settings) (st on_disk : Store) (file : Bytes) (steps : List (Step A)) → IsStoreOf s st file →
         store_of_disk file ≡ Ok (s, on_disk) →

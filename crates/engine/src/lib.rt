@@ -1,5 +1,5 @@
-//! The store: a tree of pages on which batches of commands are executed, and its log on a disk, to which it is flushed and
-//! which is cleaned.
+//! The store: a tree of pages on which batches of commands are executed, and its log on a disk, to which it is flushed, which is
+//! cleaned, and which can be upgraded.
 #![tactic(auto)]
 
 #[cfg(test)]

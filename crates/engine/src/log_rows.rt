@@ -501,13 +501,14 @@ fn write_answers(text: &mut String, answers: &[Answer]) -> Result<(), AllocError
             Answer::Replies(replies) => write_replies(text, replies)?,
             Answer::Flushed(sequence) => write!(text, "flushed {sequence}")?,
             Answer::Cleaned(head) => write!(text, "cleaned {head}")?,
+            Answer::Upgraded(sequence) => write!(text, "upgraded {sequence}")?,
         }
         text.push_str("; ")?;
     }
     Ok(())
 }
 
-// Plays a step, a flush or a clean where the word says so, and else the batch, and appends what it answers. Returns why it is refused.
+// Plays a step, a flush, a clean or an upgrade where the word says so, and else the batch, and appends what it answers. Returns why it is refused.
 fn write_step<D: Disk>(
     rt: &(impl Threads + Sync),
     crew: Crew,
@@ -519,6 +520,7 @@ fn write_step<D: Disk>(
     let step = match word {
         "flush" => Step::Flush,
         "clean" => Step::Clean,
+        "upgrade" => Step::Upgrade,
         _ => Step::Batch(batch),
     };
     match store.play(rt, crew, &NoGate, &[step]) {

@@ -11,6 +11,8 @@ pub enum Step<'a> {
     Flush,
     /// To make the first segment of the log free.
     Clean,
+    /// To bring the log to version 2.
+    Upgrade,
 }
 
 /// What a step answers.
@@ -22,4 +24,6 @@ pub enum Answer {
     Flushed(u64),
     /// The number of the segment with which the log begins after a clean.
     Cleaned(u64),
+    /// The sequence number after an upgrade.
+    Upgraded(u64),
 }

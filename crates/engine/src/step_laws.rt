@@ -11,8 +11,8 @@ ghost use Rattle.engine.specs.Steps.{Step, Answer, Batching, HasWords, HaveWords
 
 use std::alloc::Allocator;
 
-/// Over any batches, flushes and cleans, up to the first that is refused: the replies are those of an ordered map that takes the
-/// commands one by one, and the disk stands for the tree of the last flush, or else for the one that it stood for before.
+/// Over any batches, flushes, cleans and upgrades, up to the first that is refused: the replies are those of an ordered map that takes
+/// the commands one by one, and the disk stands for the tree of the last flush or upgrade, or else for the one that it stood for before.
 /// Whatever a batch does to the tree, as long as it keeps the store one as every store is.
 pub fn steps_are_played_one_by_one<A: Allocator>()
     ensures { (b : Batching A) (s : Settings) (steps : List (Step A)) (st on_disk : Store) (file : Bytes) → KeepsStores s b →
@@ -38,10 +38,10 @@ pub fn a_crash_in_a_play_leaves_the_store_after_some_steps<A: Allocator>()
     ensures play { (b : Batching A) (s : Settings) (st : Store) (file c : Bytes) (steps : List (Step A)) → KeepsStores s b →
         IsStoreOf s st file → HaveWords b s st file steps → LeftInPlay b s st file steps c → StandsAfterSome b s st file steps c }
     ensures step { (b : Batching A) (s : Settings) (st now : Store) (file bytes c : Bytes) (x : Step A) (a : Answer A) → KeepsStores s b →
-        IsStoreOf s st file → HasWords b s st.tree x → after_step b s st file x ≡ Ok (a, (now, bytes)) →
+        IsStoreOf s st file → HasWords b s st x → after_step b s st file x ≡ Ok (a, (now, bytes)) →
         LeftDuring (step_calls s st file x) file c → (store_of_disk c ≡ store_of_disk file) ⊎ (c ≡ bytes) }
     ensures kept { (b : Batching A) (s : Settings) (st now : Store) (file bytes : Bytes) (x : Step A) (a : Answer A) → KeepsStores s b →
-        IsStoreOf s st file → HasWords b s st.tree x → after_step b s st file x ≡ Ok (a, (now, bytes)) → IsStoreOf s now bytes }
+        IsStoreOf s st file → HasWords b s st x → after_step b s st file x ≡ Ok (a, (now, bytes)) → IsStoreOf s now bytes }
     ensures later { (b : Batching A) (s : Settings) (st : Store) (file c : Bytes) (xs ys : List (Step A)) →
         StandsAfterSome b s st file xs c → StandsAfterSome b s st file (xs ++ ys) c }
     ensures last { (b : Batching A) (s : Settings) (st : Store) (file c : Bytes) (steps : List (Step A)) →

@@ -22,6 +22,7 @@ mod clean;
 mod flush;
 mod play;
 mod reopen;
+mod upgrade;
 
 use crate::execute::execute;
 use crate::laws::a_batch_stays_in_step;
@@ -32,7 +33,7 @@ use flush_log::commit::write_through;
 use flush_log::new_store::{first_slot, new_bytes};
 use flush_log::segments::disk_size;
 use flush_log::slot::LogEnds;
-use keys::{Command, Fault, Reply, Settings};
+use keys::{Command, Fault, Reply, Settings, Version};
 use mapping::laws::{
     nothing_is_found_exactly_in_a_proper_tree, the_first_tree_is_proper_and_empty,
 };
@@ -47,13 +48,15 @@ use verify::Report;
 /// A store of keys and values: a tree of pages under a mapping table, whose log is on a disk. Contracts see it as a `State`; what is
 /// true of every store is its invariant, whatever the disk does.
 ///
-/// Once a call of the disk has failed in a flush or a clean, every later batch, flush and clean answers `Fault::Failed`.
+/// Once a call of the disk has failed in a flush, an upgrade or a clean, every later batch, flush, upgrade and clean answers
+/// `Fault::Failed`.
 #[derive(Drop)]
 pub struct Store<D: Disk> {
     settings: Settings,
     alloc: Global,
     tree: Tree<Global>,
     log: LogEnds,
+    version: Version,
     disk: D,
     has_failed: bool,
 }
@@ -63,9 +66,9 @@ impl<D: Disk> Model for Store<D> {
 
     ghost Value = { State D };
 
-    ghost view = { λ s. state_of s.settings s.tree s.log s.disk s.has_failed };
+    ghost view = { λ s. state_of s.settings s.tree s.log s.version s.disk s.has_failed };
 
-    ghost invariant = { λ s. IsSoundStore D.view s.settings s.tree s.log s.disk s.has_failed };
+    ghost invariant = { λ s. IsSoundStore D.view s.settings s.tree s.log s.version s.disk s.has_failed };
 }
 
 // Makes the disk one of a new store, and gives the tree. Nothing is written before all else has answered.
@@ -90,7 +93,7 @@ fn make<D: Disk>(alloc: Global, disk: &mut D, settings: &Settings) -> Result<Tre
 }
 
 impl<D: Disk> Store<D> {
-    /// Makes a store on a disk: it holds nothing yet, and its log is one empty leaf. What the disk held is lost.
+    /// Makes a store on a disk: it holds nothing yet, and its log is one empty leaf, of version 1. What the disk held is lost.
     ///
     /// The first field of the settings that is out of range is `Fault::BadSettings`, as `Settings::check` says; then a disk that
     /// has no room for all segments is `Fault::DiskTooSmall`; then there are `Fault::NoMemory`, and `Fault::Device` where a
@@ -121,6 +124,7 @@ impl<D: Disk> Store<D> {
                 alloc,
                 tree,
                 log: first.ends,
+                version: first.version,
                 disk,
                 has_failed: false,
             }),
@@ -173,7 +177,7 @@ impl<D: Disk> Store<D> {
         ensures unchanged { OnErr result (self.new ≡ self.old) }
         // One that is done is refused by nothing, and its root's page id has 64 bits.
         ensures allowed { OnOk result ((refusal_by self.old.settings self.old.store.tree commands.now ≡ None)
-            × HasWords (batching self.old.settings) self.old.settings self.old.store.tree (Batch commands.now)) }
+            × HasWords (batching self.old.settings) self.old.settings self.old.store (Batch commands.now)) }
 
         // The store was sound, and is so again.
         ensures sound { IsSound D.view self.old × IsSound D.view self.new }

@@ -25,6 +25,7 @@ use Rattle.mapping.specs.Table.{Mapping, is_same_pid, place_of, with_place, room
 use Rattle.mapping.specs.Tree.{Tree}
 use Rattle.mapping.specs.TreeInMemory.{TreeInMemory, AreAllHome, home_pages, tree_of}
 use Rattle.mapping.proofs.Walk.{nothing_found}
+use Rattle.frame_codec.specs.declared.format.Format.{Format}
 use Rattle.frame_codec.specs.Frame.{Frame, is_frame}
 use Rattle.flush_log.specs.FlushText.{tree_in_log}
 use Rattle.flush_log.specs.Reading.{Found}
@@ -192,7 +193,7 @@ first_same : {X : Type 0} (x y : X) (xs ys : List X) → x ∷ xs ≡ y ∷ ys �
 first_same x y xs ys e = (cc, cc)
 
 -- what was made of logs are the pages that they tell
-pub pages-made : (s : Settings) (rs : List Rebuilt) (hs : List HeldLog) → logs_made rs ≡ hs → map (λ r. r.page) rs ≡ map (λ h. page_in (told_in s h.frames)) hs → pages_made rs ≡ pages_told s hs
+pub pages-made : (s : Format) (rs : List Rebuilt) (hs : List HeldLog) → logs_made rs ≡ hs → map (λ r. r.page) rs ≡ map (λ h. page_in (told_in s h.frames)) hs → pages_made rs ≡ pages_told s hs
 pages-made s [] [] e f = refl
 pages-made s [] (h ∷ hs) e f = absurd (cc)
 pages-made s (r ∷ rs) [] e f = absurd (cc)
@@ -205,14 +206,14 @@ pages-made s (r ∷ rs) (h ∷ hs) e f =
 
 -- ---- some at a time
 
-pages-behind : (s : Settings) (gs hs : List HeldLog) → pages_told s (gs ++ hs) ≡ pages_told s gs ++ pages_told s hs
+pages-behind : (s : Format) (gs hs : List HeldLog) → pages_told s (gs ++ hs) ≡ pages_told s gs ++ pages_told s hs
 pages-behind s [] hs = refl
 pages-behind s (g ∷ gs) hs =
     ap (λ (ps : List (ℕ × PageOfKind)). entry_if g.pid (page_in (told_in s g.frames)) ++ ps) (pages-behind s gs hs)
     ∙ sym (append_assoc (entry_if g.pid (page_in (told_in s g.frames))) (pages_told s gs) (pages_told s hs))
 
 -- of the pages that are kept: the table, the logs that were put aside and those that are left are all; and their pids rise in this order
-pub record AreAside (s : Settings) (t : Mapping PageOfKind) (logs : List HeldLog) (left all : List (ℕ × Kept)) : Type 0 where
+pub record AreAside (s : Format) (t : Mapping PageOfKind) (logs : List HeldLog) (left all : List (ℕ × Kept)) : Type 0 where
   pub rising : AreRisingPids (pids_in t (log_pids (logs ++ map log_under left)))
   pub placed : filled t (pages_told s (logs ++ map log_under left)) ≡ record { places = in_places (pages_told s (map log_under all)); logged = [] }
 
@@ -224,7 +225,7 @@ log_pids-append : (gs hs : List HeldLog) → log_pids (gs ++ hs) ≡ log_pids gs
 log_pids-append gs hs = map-append (λ (h : HeldLog). h.pid) gs hs
 
 -- none yet
-pub aside-none : (s : Settings) (t : Mapping PageOfKind) (logs : List HeldLog) (left all : List (ℕ × Kept)) → t ≡ record { places = []; logged = [] } → logs ≡ [] → left ≡ all → IsStrictlySortedBy nat_cmp (keys_of all)
+pub aside-none : (s : Format) (t : Mapping PageOfKind) (logs : List HeldLog) (left all : List (ℕ × Kept)) → t ≡ record { places = []; logged = [] } → logs ≡ [] → left ≡ all → IsStrictlySortedBy nat_cmp (keys_of all)
     → AreAside s t logs left all
 aside-none s t logs left all empty none whole sorted =
     let e : AreAside s (record { places = []; logged = [] }) [] all all = record {
@@ -241,7 +242,7 @@ pub empty_by : (bytes : List ℕ) (n : ℕ) → length bytes ≡ n → (n == 0) 
 empty_by [] n same e = refl
 empty_by (b ∷ bytes) n same e = let none = ne_eqb n 0 (λ h. omega (arith, h, same)) in absurd (cc)
 
-module _ (s : Settings) (t : Mapping PageOfKind) (logs : List HeldLog) (left rest all : List (ℕ × Kept)) (h : AreAside s t logs left all) (e : ℕ × Kept) (is : left ≡ e ∷ rest) where
+module _ (s : Format) (t : Mapping PageOfKind) (logs : List HeldLog) (left rest all : List (ℕ × Kept)) (h : AreAside s t logs left all) (e : ℕ × Kept) (is : left ≡ e ∷ rest) where
   -- one more is put aside
   pub aside-more : (now : List HeldLog) → now ≡ logs ++ log_under e ∷ [] → AreAside s t now rest all
   aside-more now put =
@@ -269,7 +270,7 @@ module _ (s : Settings) (t : Mapping PageOfKind) (logs : List HeldLog) (left res
         placed = ap (λ (ps : List (ℕ × PageOfKind)). filled t ps) (sym split) ∙ h.placed;
       }
 
-module _ (s : Settings) (t : Mapping PageOfKind) (logs : List HeldLog) (left all : List (ℕ × Kept)) (h : AreAside s t logs left all) where
+module _ (s : Format) (t : Mapping PageOfKind) (logs : List HeldLog) (left all : List (ℕ × Kept)) (h : AreAside s t logs left all) where
   split_rising : (ms ns : List ℕ) → AreRisingPids (ms ++ ns) → AreRisingPids ms
   split_rising [] ns r = tt
   split_rising (m ∷ ms) ns r = (first_all (λ k. m < k) ms ns r.0, split_rising ms ns r.1)
@@ -321,7 +322,7 @@ module _ (s : Settings) (t : Mapping PageOfKind) (logs : List HeldLog) (left all
 
 -- ---- what is kept tells the pages of the log
 
-module _ (s : Settings) (good : first_bad_field s ≡ None) (head : ℕ) (found : List Found) (within : AllByRecursion (λ f. is_frame s f.frame ≡ true) found) where
+module _ (s : Format) (good : first_bad_field s.settings ≡ None) (head : ℕ) (found : List Found) (within : AllByRecursion (λ f. is_frame s f.frame ≡ true) found) where
   -- the frames that are kept of a page tell it
   page_kept : (k : Kept) (pid : ℕ) → IsKept Every head k (telling pid found) → page_in (told_in s k.frames.items) ≡ page_in (in_log (frames_in found) pid)
   page_kept k pid h =
@@ -340,7 +341,7 @@ module _ (s : Settings) (good : first_bad_field s ≡ None) (head : ℕ) (found 
       ∙ ap (λ (ps : List (ℕ × PageOfKind)). entry_if k (page_in (in_log (frames_in found) k)) ++ ps) (pages_kept es r.1 (later_are Every head found k v es r h))
 
 -- of a log of which all frames are kept
-pub pages-gathered : (s : Settings) (g : Gathering) (found : List Found) → first_bad_field s ≡ None → IsStrictlySortedBy nat_cmp (keys_of g.by_pid.entries) → AreGathered s Every g found
+pub pages-gathered : (s : Format) (g : Gathering) (found : List Found) → first_bad_field s.settings ≡ None → IsStrictlySortedBy nat_cmp (keys_of g.by_pid.entries) → AreGathered s Every g found
     → pages_told s (map log_under g.by_pid.entries) ≡ pages_of (frames_in found)
 pages-gathered s g found good sorted h =
     let es = g.by_pid.entries in

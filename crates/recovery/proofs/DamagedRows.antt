@@ -1,12 +1,13 @@
--- What is answered of damaged disks: rows 13.1 to 13.9, 20 and 21.
+-- What is answered of damaged disks: rows 13.1 to 13.9, 15.2, 20 and 21.
 use Rattle.std.specs.Prelude.{◌≡◌, ℕ, List, [], ◌∷◌, ◌++◌, take, drop, Ok, Err}
 use Rattle.std.proofs.Common.{refl}
 use Rattle.keys.specs.declared.fault.Fault.TheVariants.{NotAStore, NoSlot, BadSegment, BadFrame, BadStructure}
 use Rattle.keys.proofs.Literals.{S}
+use Rattle.keys.specs.declared.version.Version.TheVariants.{One}
 use Rattle.mapping.specs.Tree.{first_tree}
 use Rattle.flush_log.specs.Overlay.{overlay}
 use Rattle.recovery.specs.StoreOfDisk.{store_of_disk}
-use Rattle.recovery.proofs.DiskForms.{disk_of_row_2, disk_of_row_4, disk_of_row_10}
+use Rattle.recovery.proofs.DiskForms.{disk_of_row_2, disk_of_row_4, disk_of_row_10, disk_of_row_15}
 
 -- the byte at a place is set to this
 abbrev set : ℕ → ℕ → List ℕ → List ℕ
@@ -40,7 +41,7 @@ row_13_6 : IsFound (set 167 0 (set 171 1 disk_of_row_4)) 10 1
 row_13_6 = refl
 
 -- the newer slot's gate is closed
-row_13_7 : store_of_disk (set 128 0 disk_of_row_4) ≡ Ok (S, record { tree = first_tree; head = 0; tail = 33; sequence = 1 })
+row_13_7 : store_of_disk (set 128 0 disk_of_row_4) ≡ Ok (S, record { tree = first_tree; head = 0; tail = 33; sequence = 1; version = One })
 row_13_7 = refl
 
 -- ---- the disk of row 10
@@ -75,3 +76,15 @@ row_21_tail = refl
 -- both gates are closed
 row_21_gates : store_of_disk (set 128 0 (set 192 0 disk_of_row_2)) ≡ Err NoSlot
 row_21_gates = refl
+
+-- ---- the disk of row 15.1
+
+-- the rest of the key d of page 1 is c, which shares more with the key before; the version is 3; or it is that of a log without such frames
+row_15_2_rest : store_of_disk (set 702 99 disk_of_row_15) ≡ Err (BadFrame 0 165)
+row_15_2_rest = refl
+
+row_15_2_version : store_of_disk (set 239 3 disk_of_row_15) ≡ Err NoSlot
+row_15_2_version = refl
+
+row_15_2_older : store_of_disk (set 239 0 disk_of_row_15) ≡ Err (BadFrame 0 136)
+row_15_2_older = refl

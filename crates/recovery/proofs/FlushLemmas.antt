@@ -1,4 +1,4 @@
--- What was flushed is what is read.
+-- What was written is what is read.
 use Rattle.std.specs.Prelude.{◌≡◌, ℕ, suc, ◌+◌, Bool, true, false, nat_le, if◌then◌else◌, List, [], ◌∷◌, ◌++◌, length, map, None, Ok}
 use Rattle.std.proofs.Common.{refl, sym, ap, ◌∙◌, subst}
 use Rattle.std.proofs.lemmas.List.{map-append}
@@ -9,10 +9,11 @@ use Rattle.mapping.specs.Tree.{Tree, Store}
 use Rattle.mapping.proofs.Walk.{nothing_found}
 use Rattle.frame_codec.specs.Frame.{Frame, bytes_of}
 use Rattle.flush_log.specs.AfterFlush.{flush_slot, store_after}
-use Rattle.flush_log.specs.FlushText.{flush_text, tree_in_log, flushed}
+use Rattle.flush_log.specs.FlushText.{text_of, tree_in_log, flushed}
 use Rattle.flush_log.specs.Layout.{PlacedFrame, placed_from, placed, found_in_text}
 use Rattle.flush_log.specs.Reading.{Found}
 use Rattle.flush_log.specs.Slot.{Slot}
+use Rattle.flush_log.specs.declared.text.Text.{Text}
 use Rattle.recovery.specs.InStep.{AreInStep}
 use Rattle.recovery.specs.LogPages.{pages_of, broken_in}
 use Rattle.recovery.specs.StoreOfDisk.{frames_in, tree_by_log, store_of_disk}
@@ -60,23 +61,23 @@ known-frames s st on_disk file proper logs by step =
     let same : AreInStep st (store_after (tree_by_log by.slot (frames_in by.found)) by.slot) = subst (λ (x : Store). AreInStep st x) by.store step in
     record {
       pages = proper.tree.rising;
-      logs = logs.rising;
+      logs = logs;
       sound = by.sound;
       none = λ pid e. (same.none pid).0 e;
       upto = λ pid k e. same.upto pid k e;
     }
 
--- a disk whose log has the text behind what it had, and whose slot is the flush's
-pub flush-read : (s : Settings) (st : Store) (bytes : List ℕ) (found : List Found) → IsProper s st.tree → IsKnown st.tree (frames_in found)
-    → (let text : List Frame = flush_text st.tree in let t : Slot = flush_slot s st text in
-    Reads s bytes t (found ++ found_in_text s st.tail text) → store_of_disk bytes ≡ Ok (s, store_after (flushed st.tree) t))
-flush-read s st bytes found proper known reads =
-    let text : List Frame = flush_text st.tree in
-    let t : Slot = flush_slot s st text in
-    let all : List Found = found ++ found_in_text s st.tail text in
-    let frames : frames_in all ≡ frames_in found ++ text = frames-text s st.tail found text in
-    let pages : pages_of (frames_in all) ≡ st.tree.pages = ap pages_of frames ∙ pages-after st.tree (frames_in found) known in
+-- a disk whose log has the text behind what it had, and whose slot is that of its commit
+pub text-read : (s : Settings) (text : Text) (st : Store) (bytes : List ℕ) (found : List Found) → IsProper s st.tree → IsKnown st.tree (frames_in found)
+    → (let frames : List Frame = text_of text st.tree in let t : Slot = flush_slot s st frames in
+    Reads s bytes t (found ++ found_in_text s st.tail frames) → store_of_disk bytes ≡ Ok (s, store_after (flushed st.tree) t))
+text-read s text st bytes found proper known reads =
+    let frames : List Frame = text_of text st.tree in
+    let t : Slot = flush_slot s st frames in
+    let all : List Found = found ++ found_in_text s st.tail frames in
+    let alone : frames_in all ≡ frames_in found ++ frames = frames-text s st.tail found frames in
+    let pages : pages_of (frames_in all) ≡ st.tree.pages = ap pages_of alone ∙ pages-after text st.tree (frames_in found) known in
     let tree : tree_by_log t (frames_in all) ≡ flushed st.tree = ap (λ ps. tree_in_log ps st.tree.root st.tree.height) pages in
-    let sound : broken_in (frames_in all) ≡ None = ap broken_in frames ∙ sound-after st.tree (frames_in found) known in
+    let sound : broken_in (frames_in all) ≡ None = ap broken_in alone ∙ sound-after text st.tree (frames_in found) known in
     let whole : finding s (tree_by_log t (frames_in all)) ≡ None = ap (λ x. finding s x) tree ∙ finding-flushed s st.tree proper in
     stands-for s bytes t all reads sound whole ∙ ap (λ x. Ok (s, store_after x t)) tree

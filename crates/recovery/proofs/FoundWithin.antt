@@ -1,4 +1,4 @@
--- The frames that a reading of the log finds are within the settings.
+-- The frames that a reading of the log finds are such as a log of its format may have.
 use Rattle.std.specs.Prelude.{◌≡◌, ℕ, zero, suc, ◌+◌, ◌-◌, Bool, true, false, nat_eq, if◌then◌else◌, List, [], ◌∷◌, length, take, drop, Option, Some, None, Result, Ok, Err}
 use Rattle.std.proofs.Common.{refl, sym, ap, ◌∙◌, subst}
 use Rattle.std.specs.List.{AllByRecursion, starts_with}
@@ -15,7 +15,7 @@ use Rattle.flush_log.proofs.ReadBackLemmas.{ok, followed_by-ok}
 use Rattle.flush_log.proofs.SegmentLemmas.{in_segment-ok}
 
 module _ (s : Format) where
-  -- frames within the settings
+  -- frames of the format
   abbrev Good : List Frame → Type 0
   Good fs = AllByRecursion (λ f. is_frame s f ≡ true) fs
 
@@ -84,12 +84,12 @@ module _ (s : Format) where
   earlier-within : (file : List ℕ) (head k : ℕ) (found : List Found) → read_earlier s file head k ≡ ok found → GoodFound found
   earlier-within file head zero found e = let same : [] ≡ found = cc in subst (λ (xs : List Found). GoodFound xs) same tt
   earlier-within file head (suc k) found e =
-      both (read_earlier s file head k) (read_segment s is_padding (head + k) (segment_bytes s file (head + k))) found e
-      (λ xs h. earlier-within file head k xs h) (λ ys h. segment-within is_padding (head + k) (segment_bytes s file (head + k)) ys h)
+      both (read_earlier s file head k) (read_segment s is_padding (head + k) (segment_bytes s.settings file (head + k))) found e
+      (λ xs h. earlier-within file head k xs h) (λ ys h. segment-within is_padding (head + k) (segment_bytes s.settings file (head + k)) ys h)
 
   pub log-within : (file : List ℕ) (head tail : ℕ) (found : List Found) → log_between s file head tail ≡ ok found → GoodFound found
   log-within file head tail found e =
-      let k : ℕ = last_segment s tail - head in
-      let used : ℕ = bytes_in_use s tail in
-      both (read_earlier s file head k) (read_segment s is_at_tail (head + k) (take used (segment_bytes s file (head + k)))) found e
-      (λ xs h. earlier-within file head k xs h) (λ ys h. segment-within is_at_tail (head + k) (take used (segment_bytes s file (head + k))) ys h)
+      let k : ℕ = last_segment s.settings tail - head in
+      let used : ℕ = bytes_in_use s.settings tail in
+      both (read_earlier s file head k) (read_segment s is_at_tail (head + k) (take used (segment_bytes s.settings file (head + k)))) found e
+      (λ xs h. earlier-within file head k xs h) (λ ys h. segment-within is_at_tail (head + k) (take used (segment_bytes s.settings file (head + k))) ys h)

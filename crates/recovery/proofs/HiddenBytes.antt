@@ -7,7 +7,7 @@ use Rattle.keys.specs.declared.settings.Settings.{Settings}
 use Rattle.mapping.specs.Tree.{Store}
 use Rattle.flush_log.specs.Overlay.{AgreeAt}
 use Rattle.flush_log.specs.Segments.{IsInLog}
-use Rattle.flush_log.specs.Slot.{slot_place, is_open, read_slot, newer, store_slot}
+use Rattle.flush_log.specs.Slot.{slot_place, format_of, is_open, read_slot, newer, store_slot}
 use Rattle.flush_log.specs.AfterFlush.{store_after}
 use Rattle.flush_log.proofs.CommitLemmas.{slot_low}
 use Rattle.flush_log.proofs.FitLemmas.{are_sized}
@@ -34,7 +34,7 @@ module _ (s : Settings) (file c : List ℕ) (on_disk : Store) (by : StandsBy s f
       let count = sized.least_count in
       let behind = (slot-read s on_disk file by).behind in
       let settings = settings_same (IsLookedAt s read) file c agree (omega (arith, whole)) (λ i low. inl low) in
-      let same = hidden s file c by.slot.head by.slot.tail (omega arith) (omega arith) whole (omega arith) (agree_less (IsLookedAt s read) (IsInLog s by.slot.head by.slot.tail) file c (λ i h. inr (inr h)) agree) in
+      let same = hidden (format_of s by.slot) file c by.slot.head by.slot.tail (omega arith) (omega arith) whole (omega arith) (agree_less (IsLookedAt s read) (IsInLog s by.slot.head by.slot.tail) file c (λ i h. inr (inr h)) agree) in
       stands-for s c by.slot by.found (record { settings = settings ∙ by.reads.settings; slot = slot; log = same ∙ by.reads.log }) by.sound by.proper
 
   own_slot : AgreeAt (IsLookedAt s read) file c → read_slot s by.slot.sequence c ≡ said by.slot

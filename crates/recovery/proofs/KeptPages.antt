@@ -143,7 +143,7 @@ module _ (s : Format) (good : first_bad_field s.settings ≡ None) where
   frames_back (f ∷ fs) a (suc most) h =
       let some = some_bytes f in
       let long = length-append (bytes_of f) (spelled fs) in
-      goes_on s is_at_tail most (spelled (f ∷ fs)) (spelled fs) f refl (frame-back s (in_limits s good) f a.0 (spelled fs))
+      goes_on s is_at_tail most (spelled (f ∷ fs)) (spelled fs) f refl (frame-back s (in_limits s.settings good) f a.0 (spelled fs))
       ∙ ap (λ (r : Result (List Frame) ℕ). with_first f r) (frames_back fs a.1 most (omega (arith, some, long, h)))
 
   -- they are read again

@@ -1,13 +1,12 @@
 -- A store of which the log lacks nothing is the one that its disk stands for.
-use Rattle.std.specs.Prelude.{◌≡◌, ℕ, ◌-◌, ◌<◌, ◌≤◌, Bool, true, false, cond, List, [], ◌∷◌, ◌++◌, reverse, length, drop, Option, Some, None, Result, Ok}
+use Rattle.std.specs.Prelude.{◌≡◌, ℕ, ◌-◌, ◌<◌, ◌≤◌, List, [], ◌∷◌, ◌++◌, reverse, length, drop, Option, Some, None, Result, Ok}
 use Rattle.std.proofs.Common.{refl, sym, ap, ◌∙◌, arith, subst}
 use Rattle.std.specs.List.{AllByRecursion}
 use Rattle.std.specs.Map.{keys_of}
-use Rattle.std.specs.Ordering.{nat_cmp, is_eq}
 use Rattle.std.proofs.lemmas.List.{append-nil, length-drop, length-map, length-reverse}
 use Rattle.keys.specs.declared.fault.Fault.{Fault}
 use Rattle.keys.specs.declared.settings.Settings.{Settings}
-use Rattle.keys.proofs.Basics.{equal_by}
+use Rattle.keys.specs.declared.version.Version.{Version}
 use Rattle.index_page.specs.Page.{PageOfKind}
 use Rattle.index_page.specs.Page.PageOfKind.{Leaf, Index}
 use Rattle.mapping.specs.Flushed.{page_depth}
@@ -17,12 +16,14 @@ use Rattle.mapping.specs.Tree.Logged.{No, Old, Upto}
 use Rattle.mapping.proofs.InUse.{is_eq_same}
 use Rattle.mapping.proofs.SameTable.{same_logged}
 use Rattle.mapping.proofs.SameTree.{same_tree}
-use Rattle.mapping.proofs.TableLemmas.{same_pid, differ}
+use Rattle.mapping.proofs.TableLemmas.{differ}
 use Rattle.mapping.proofs.Walk.{nothing_found}
+use Rattle.frame_codec.specs.declared.format.Spelling.{Spelling}
 use Rattle.frame_codec.specs.Frame.{Content, Frame}
 use Rattle.flush_log.specs.AfterFlush.{store_after}
-use Rattle.flush_log.specs.FlushText.{run_contents, lacking, flush_text, logged_whole, tree_in_log, flushed}
+use Rattle.flush_log.specs.FlushText.{spelling_of, run_contents, lacking, flush_text, logged_whole, tree_in_log, flushed}
 use Rattle.flush_log.specs.Slot.{Slot}
+use Rattle.flush_log.specs.declared.text.Text.TheVariants.{Flush}
 use Rattle.flush_log.proofs.SlotLemmas.{IsSlot, store_slot-read, slot-stands, slot-is}
 use Rattle.recovery.specs.InStep.{AreInStep, IsInStep}
 use Rattle.recovery.specs.LogPages.{contents_of, pages_of}
@@ -32,21 +33,9 @@ use Rattle.recovery.proofs.FlushLemmas.{known-frames}
 use Rattle.recovery.proofs.PagesLemmas.{rising-pages_of}
 use Rattle.recovery.proofs.StepLemmas.{whole_of, logged-whole}
 use Rattle.recovery.proofs.StoreLemmas.{StandsBy, store-stands}
-use Rattle.recovery.proofs.TextLemmas.{IsKnown, text-of_pid, pages-after}
+use Rattle.recovery.proofs.TextLemmas.{IsKnown, true_at, text-of_pid, pages-after}
 
 -- ---- what the log has, where it lacks nothing
-
-true_by : (b : Bool) (pages : List (ℕ × PageOfKind)) (n pid : ℕ) (here : Logged) (rest : Option Logged) (l : Logged) → is_eq (nat_cmp pid n) ≡ b → IsTrueOf (page_at pages n) here → (rest ≡ Some l → IsTrueOf (page_at pages pid) l)
-    → cond b (Some here) rest ≡ Some l → IsTrueOf (page_at pages pid) l
-true_by true pages n pid here rest l e t f h =
-    let same : here ≡ l = cc in
-    let at : n ≡ pid = sym (same_pid pid n (equal_by (nat_cmp pid n) e)) in
-    subst (λ (m : ℕ). IsTrueOf (page_at pages m) l) at (subst (λ (x : Logged). IsTrueOf (page_at pages n) x) same t)
-true_by false pages n pid here rest l e t f h = f h
-
-true_at : (pages : List (ℕ × PageOfKind)) (ls : List (ℕ × Logged)) (pid : ℕ) (l : Logged) → AllByRecursion (λ e. IsTrueOf (page_at pages e.0) e.1) ls → listed_at ls pid ≡ Some l → IsTrueOf (page_at pages pid) l
-true_at pages [] pid l a h = absurd (cc)
-true_at pages (e ∷ es) pid l a h = true_by (is_eq (nat_cmp pid e.0)) pages e.0 pid e.1 (listed_at es pid) l refl a.0 (λ r. true_at pages es pid l a.1 r) h
 
 runs_long : (p : PageOfKind) → length (run_contents p) ≡ page_depth p
 runs_long (Leaf p) = length-map (reverse p.layers.runs) _ ∙ length-reverse p.layers.runs
@@ -63,15 +52,15 @@ all_there k p e l =
     let all = runs_long p in
     omega arith
 
-whole_by : (o : Option PageOfKind) (listed : Option Logged) → ((l : Logged) → listed ≡ Some l → IsTrueOf o l) → lacking o (or_no listed) ≡ [] → or_no listed ≡ whole_of o
-whole_by (Some p) None t e = absurd (cc)
-whole_by (Some p) (Some No) t e = absurd (cc)
-whole_by (Some p) (Some Old) t e = absurd (cc)
-whole_by (Some p) (Some (Upto k)) t e = ap (λ (n : ℕ). Upto n) (all_there k p e (has_depth k p (t (Upto k) refl)))
-whole_by None None t e = refl
-whole_by None (Some No) t e = refl
-whole_by None (Some Old) t e = absurd (cc)
-whole_by None (Some (Upto k)) t e = absurd (t (Upto k) refl)
+whole_by : (spelling : Spelling) (o : Option PageOfKind) (listed : Option Logged) → ((l : Logged) → listed ≡ Some l → IsTrueOf o l) → lacking spelling o (or_no listed) ≡ [] → or_no listed ≡ whole_of o
+whole_by spelling (Some p) None t e = absurd (cc)
+whole_by spelling (Some p) (Some No) t e = absurd (cc)
+whole_by spelling (Some p) (Some Old) t e = absurd (cc)
+whole_by spelling (Some p) (Some (Upto k)) t e = ap (λ (n : ℕ). Upto n) (all_there k p e (has_depth k p (t (Upto k) refl)))
+whole_by spelling None None t e = refl
+whole_by spelling None (Some No) t e = refl
+whole_by spelling None (Some Old) t e = absurd (cc)
+whole_by spelling None (Some (Upto k)) t e = absurd (t (Upto k) refl)
 
 -- ---- a log that has every page as it is
 
@@ -110,11 +99,11 @@ logs-in_log ps root height rising = record {
 
 module _ (t : Tree) (rising : AreRisingPids (keys_of t.pages)) (logs : AreLogsTrue t) where
   -- a tree of which the log lacks nothing is the one that is written
-  pub nothing-due : flush_text t ≡ [] → flushed t ≡ t
-  nothing-due e =
+  pub nothing-due : (version : Version) → flush_text version t ≡ [] → flushed t ≡ t
+  nothing-due version e =
       let same : (pid : ℕ) → logged_of (flushed t) pid ≡ logged_of t pid = λ pid.
       logged-whole t.pages pid
-      ∙ sym (whole_by (page_at t.pages pid) (listed_at t.logged pid) (λ l h. true_at t.pages t.logged pid l logs.each h) (sym (text-of_pid t rising logs.rising pid) ∙ ap (contents_of pid) e)) in
+      ∙ sym (whole_by (spelling_of version) (page_at t.pages pid) (listed_at t.logged pid) (λ l h. true_at t.pages t.logged pid l logs.each h) (sym (text-of_pid (Flush version) t rising logs pid) ∙ ap (contents_of pid) e)) in
       ap (λ (ls : List (ℕ × Logged)). (let u : Tree = record { pages = t.pages; root = t.root; height = t.height; logged = ls } in u)) (same_logged (flushed t) t (logs-in_log t.pages t.root t.height rising) logs same)
 
 -- ---- the disk
@@ -128,14 +117,14 @@ proper-read s on_disk file by =
     let height = (slot-read s on_disk file by).height in
     (nothing_found s (tree_by_log by.slot (frames_in by.found)) (record { rising = rising-pages_of (frames_in by.found); some = height.0 })).0 by.proper
 
-module _ (s : Settings) (st on_disk : Store) (file : List ℕ) (proper : IsProper s st.tree) (logs : AreLogsTrue st.tree) (by : StandsBy s file on_disk) (step : AreInStep st on_disk) (none : flush_text st.tree ≡ []) where
+module _ (s : Settings) (st on_disk : Store) (file : List ℕ) (proper : IsProper s st.tree) (logs : AreLogsTrue st.tree) (by : StandsBy s file on_disk) (step : AreInStep st on_disk) (none : flush_text st.version st.tree ≡ []) where
   abbrev tree_read : Tree
   tree_read = tree_by_log by.slot (frames_in by.found)
 
   pages_same : tree_read.pages ≡ st.tree.pages
   pages_same =
       let known : IsKnown st.tree (frames_in by.found) = known-frames s st on_disk file proper logs by step in
-      sym (ap pages_of (ap (λ (fs : List Frame). frames_in by.found ++ fs) none ∙ append-nil (frames_in by.found))) ∙ pages-after st.tree (frames_in by.found) known
+      sym (ap pages_of (ap (λ (fs : List Frame). frames_in by.found ++ fs) none ∙ append-nil (frames_in by.found))) ∙ pages-after (Flush st.version) st.tree (frames_in by.found) known
 
   tree_same : tree_read ≡ st.tree
   tree_same =
@@ -143,7 +132,7 @@ module _ (s : Settings) (st on_disk : Store) (file : List ℕ) (proper : IsPrope
       ap (λ ps. tree_in_log ps by.slot.root by.slot.height) pages_same
       ∙ ap (λ (n : ℕ). tree_in_log st.tree.pages n by.slot.height) root
       ∙ ap (λ (n : ℕ). tree_in_log st.tree.pages st.tree.root n) height
-      ∙ nothing-due st.tree proper.tree.rising logs none
+      ∙ nothing-due st.tree proper.tree.rising logs st.version none
 
   same_as_read : on_disk ≡ st
   same_as_read =
@@ -151,10 +140,10 @@ module _ (s : Settings) (st on_disk : Store) (file : List ℕ) (proper : IsPrope
       let store = by.store in
       store
       ∙ ap (λ (t : Tree). store_after t slot) tree_same
-      ∙ same_store st slot.head slot.tail slot.sequence (step.head ∙ ap (λ (x : Store). x.head) store) (step.tail ∙ ap (λ (x : Store). x.tail) store) (step.sequence ∙ ap (λ (x : Store). x.sequence) store)
+      ∙ same_store st on_disk tree_read slot step store
 
 -- a store of which the log lacks nothing is the one that its disk stands for
-pub all-written : (s : Settings) (st : Store) (file : List ℕ) → IsProper s st.tree → AreLogsTrue st.tree → IsInStep s st file → flush_text st.tree ≡ [] → store_of_disk file ≡ Ok (s, st)
+pub all-written : (s : Settings) (st : Store) (file : List ℕ) → IsProper s st.tree → AreLogsTrue st.tree → IsInStep s st file → flush_text st.version st.tree ≡ [] → store_of_disk file ≡ Ok (s, st)
 all-written s st file proper logs (on_disk, is, are) none =
     is ∙ ap (λ (x : Store). answer x) (same_as_read s st on_disk file proper logs (store-stands s file on_disk is) are none)
   where

@@ -2,6 +2,7 @@
 use Rattle.std.specs.Prelude.{◌≡◌, [], ◌∷◌, Some, None, codes}
 use Rattle.std.proofs.Common.{refl}
 use Rattle.index_page.specs.Page.PageOfKind.{Leaf, Index}
+use Rattle.frame_codec.specs.declared.format.Spelling.TheVariants.{Whole}
 use Rattle.frame_codec.specs.Frame.{Content}
 use Rattle.frame_codec.specs.Frame.Content.{FullLeaf, DeltaLeaf, FullIndex, DeltaIndex, Free}
 use Rattle.flush_log.proofs.Literals.{pair, set, frame}
@@ -10,7 +11,7 @@ use Rattle.recovery.specs.PageByLog.{page_by_log}
 use Rattle.recovery.specs.PageByLog.InLog.{Missing, Present, Broken}
 
 abbrev base : Content
-base = FullLeaf [] (pair "a" "1" ∷ [])
+base = FullLeaf Whole [] (pair "a" "1" ∷ [])
 
 abbrev run : Content
 run = DeltaLeaf (set "a" "2" ∷ [])
@@ -30,7 +31,7 @@ runs_behind_a_base = refl
 last_base_alone : page_by_log (base ∷ run ∷ other_run ∷ base ∷ []) ≡ Present (Leaf (record { low = []; layers = record { runs = []; base = pair "a" "1" ∷ [] } }))
 last_base_alone = refl
 
-free_run_base : page_by_log (Free ∷ run ∷ FullIndex [] [] ∷ []) ≡ Present (Index (record { low = []; layers = record { runs = []; base = [] } }))
+free_run_base : page_by_log (Free ∷ run ∷ FullIndex Whole [] [] ∷ []) ≡ Present (Index (record { low = []; layers = record { runs = []; base = [] } }))
 free_run_base = refl
 
 -- no page and no finding

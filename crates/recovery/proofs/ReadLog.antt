@@ -5,6 +5,7 @@ use Rattle.std.proofs.lemmas.List.{map-append, take-take}
 use Rattle.keys.specs.Limits.{first_bad_field}
 use Rattle.keys.specs.declared.settings.Settings.{Settings}
 use Rattle.keys.specs.declared.fault.Fault.{Fault}
+use Rattle.frame_codec.specs.declared.format.Format.{Format}
 use Rattle.flush_log.specs.Disk.{View}
 use Rattle.flush_log.specs.Ends.{AreEnds}
 use Rattle.flush_log.specs.Overlay.{overlay}
@@ -27,135 +28,135 @@ Told = Result (List Found) Fault
 
 -- ---- one segment, put over the bytes so far
 
-module _ (s : Settings) (good : first_bad_field s ≡ None) (file buf : List ℕ) (n : ℕ) (whole : HasSegments s file) (part : length buf ≤ s.seg_size) where
+module _ (g : Format) (good : first_bad_field g.settings ≡ None) (file buf : List ℕ) (n : ℕ) (whole : HasSegments g.settings file) (part : length buf ≤ g.settings.seg_size) where
   abbrev pub with_part : List ℕ
-  with_part = overlay file (place_of_segment s n) buf
+  with_part = overlay file (place_of_segment g.settings n) buf
 
-  some_segments : 0 < s.segments
-  some_segments = let least = (are_sized s good).least_count in omega arith
+  some_segments : 0 < g.settings.segments
+  some_segments = let least = (are_sized g.settings good).least_count in omega arith
 
-  fits : place_of_segment s n + length buf ≤ length file
-  fits = let room = place-within s n some_segments in omega (arith, room, whole, part)
+  fits : place_of_segment g.settings n + length buf ≤ length file
+  fits = let room = place-within g.settings n some_segments in omega (arith, room, whole, part)
 
   -- what is in front of the segments stays
   pub part-front : take segments_begin with_part ≡ take segments_begin file
-  part-front = let at = fits in part-beside file buf 0 (place_of_segment s n) 512 (omega (arith, at)) (inl (omega arith))
+  part-front = let at = fits in part-beside file buf 0 (place_of_segment g.settings n) 512 (omega (arith, at)) (inl (omega arith))
 
   -- and so do the segments of the log in front of it
-  pub part-earlier : (head k : ℕ) → n ≡ head + k → k < s.segments → read_earlier s with_part head k ≡ read_earlier s file head k
+  pub part-earlier : (head k : ℕ) → n ≡ head + k → k < g.settings.segments → read_earlier g with_part head k ≡ read_earlier g file head k
   part-earlier head k is few =
-      earlier-same s file with_part head k (λ m less.
-      let apart = places-beside s (head + m) n (remainders_differ (head + m) n s.segments (omega (arith, is, less)) (omega (arith, is, few))) in
+      earlier-same g file with_part head k (λ m less.
+      let apart = places-beside g.settings (head + m) n (remainders_differ (head + m) n g.settings.segments (omega (arith, is, less)) (omega (arith, is, few))) in
       let at = fits in
-      part-beside file buf (place_of_segment s (head + m)) (place_of_segment s n) s.seg_size (omega (arith, at)) (grind (arith, apart, part)))
+      part-beside file buf (place_of_segment g.settings (head + m)) (place_of_segment g.settings n) g.settings.seg_size (omega (arith, at)) (grind (arith, apart, part)))
 
   -- the part is as it was read
-  pub part-read : take (length buf) (segment_bytes s with_part n) ≡ buf
-  part-read = take-take (length buf) s.seg_size (drop (place_of_segment s n) with_part) part ∙ overlay-part file (place_of_segment s n) buf fits
+  pub part-read : take (length buf) (segment_bytes g.settings with_part n) ≡ buf
+  part-read = take-take (length buf) g.settings.seg_size (drop (place_of_segment g.settings n) with_part) part ∙ overlay-part file (place_of_segment g.settings n) buf fits
 
-  pub whole-read : length buf ≡ s.seg_size → segment_bytes s with_part n ≡ buf
-  whole-read all = ap (λ (k : ℕ). take k (drop (place_of_segment s n) with_part)) (sym all) ∙ overlay-part file (place_of_segment s n) buf fits
+  pub whole-read : length buf ≡ g.settings.seg_size → segment_bytes g.settings with_part n ≡ buf
+  whole-read all = ap (λ (k : ℕ). take k (drop (place_of_segment g.settings n) with_part)) (sym all) ∙ overlay-part file (place_of_segment g.settings n) buf fits
 
 -- ---- all of them
 
 -- bytes of which k segments from the head on were read, by what has taken what they hold; in front of the segments they are as these
-pub record AreReadUpto (Has : Told → Type 0) (v : View) (s : Settings) (head k : ℕ) (file now : List ℕ) : Type 0 where
+pub record AreReadUpto (Has : Told → Type 0) (v : View) (g : Format) (head k : ℕ) (file now : List ℕ) : Type 0 where
   pub bytes : IsReadOf v now
   pub front : take segments_begin now ≡ take segments_begin file
-  pub found : Has (read_earlier s now head k)
+  pub found : Has (read_earlier g now head k)
 
-pub none-read : (Has : Told → Type 0) (v : View) (s : Settings) (head k : ℕ) (file : List ℕ) → k ≡ 0 → IsReadOf v file → Has (Ok []) → AreReadUpto Has v s head k file file
-none-read Has v s head k file zero bytes h = record {
+pub none-read : (Has : Told → Type 0) (v : View) (g : Format) (head k : ℕ) (file : List ℕ) → k ≡ 0 → IsReadOf v file → Has (Ok []) → AreReadUpto Has v g head k file file
+none-read Has v g head k file zero bytes h = record {
   bytes = bytes;
   front = refl;
-  found = subst (λ (m : ℕ). Has (read_earlier s file head m)) (sym zero) h;
+  found = subst (λ (m : ℕ). Has (read_earlier g file head m)) (sym zero) h;
 }
 
-module _ (s : Settings) (head : ℕ) (file now buf : List ℕ) (old new : View) (n : ℕ) (good : first_bad_field s ≡ None) (size : disk_size s ≤ old.size) where
+module _ (g : Format) (head : ℕ) (file now buf : List ℕ) (old new : View) (n : ℕ) (good : first_bad_field g.settings ≡ None) (size : disk_size g.settings ≤ old.size) where
   abbrev pub then_now : List ℕ
-  then_now = overlay now (place_of_segment s n) buf
+  then_now = overlay now (place_of_segment g.settings n) buf
 
-  has_room : IsReadOf old now → HasSegments s now
+  has_room : IsReadOf old now → HasSegments g.settings now
   has_room read = let long = read.whole in omega (arith, long, size)
 
   -- one segment more
-  pub read-next : (Has More : Told → Type 0) (k l : ℕ) → n ≡ head + k → l ≡ suc k → k < s.segments → length buf ≡ s.seg_size → AreReadUpto Has old s head k file now
-      → IsReadOf new then_now → ((told : Told) → Has told → More (followed_by told (read_segment s is_padding n buf))) → AreReadUpto More new s head l file then_now
+  pub read-next : (Has More : Told → Type 0) (k l : ℕ) → n ≡ head + k → l ≡ suc k → k < g.settings.segments → length buf ≡ g.settings.seg_size → AreReadUpto Has old g head k file now
+      → IsReadOf new then_now → ((told : Told) → Has told → More (followed_by told (read_segment g is_padding n buf))) → AreReadUpto More new g head l file then_now
   read-next Has More k l at count few all h bytes takes =
       let whole = has_room h.bytes in
-      let part : length buf ≤ s.seg_size = omega (arith, all) in
-      let earlier : Told = read_earlier s now head k in
-      let told : followed_by earlier (read_segment s is_padding n buf) ≡ read_earlier s then_now head (suc k) =
-      ap (λ (r : Told). followed_by r (read_segment s is_padding n buf)) (sym (part-earlier s good now buf n whole part head k at few))
-      ∙ ap (λ (bs : List ℕ). followed_by (read_earlier s then_now head k) (read_segment s is_padding n bs)) (sym (whole-read s good now buf n whole part all))
-      ∙ ap (λ (m : ℕ). followed_by (read_earlier s then_now head k) (read_segment s is_padding m (segment_bytes s then_now m))) at in
+      let part : length buf ≤ g.settings.seg_size = omega (arith, all) in
+      let earlier : Told = read_earlier g now head k in
+      let told : followed_by earlier (read_segment g is_padding n buf) ≡ read_earlier g then_now head (suc k) =
+      ap (λ (r : Told). followed_by r (read_segment g is_padding n buf)) (sym (part-earlier g good now buf n whole part head k at few))
+      ∙ ap (λ (bs : List ℕ). followed_by (read_earlier g then_now head k) (read_segment g is_padding n bs)) (sym (whole-read g good now buf n whole part all))
+      ∙ ap (λ (m : ℕ). followed_by (read_earlier g then_now head k) (read_segment g is_padding m (segment_bytes g.settings then_now m))) at in
       record {
         bytes = bytes;
-        front = part-front s good now buf n whole part ∙ h.front;
-        found = subst (λ (m : ℕ). More (read_earlier s then_now head m)) (sym count) (subst (λ (r : Told). More r) told (takes earlier h.found));
+        front = part-front g good now buf n whole part ∙ h.front;
+        found = subst (λ (m : ℕ). More (read_earlier g then_now head m)) (sym count) (subst (λ (r : Told). More r) told (takes earlier h.found));
       }
 
 -- what is in use of the last one
-pub read-last : (s : Settings) (e : LogEnds) (file buf : List ℕ) (old : View) (n : ℕ) → first_bad_field s ≡ None → disk_size s ≤ old.size → AreEnds s e → n ≡ last_segment s e.tail
-    → length buf ≡ bytes_in_use s e.tail → IsReadOf old file → (let now : List ℕ = overlay file (place_of_segment s n) buf in (take segments_begin now ≡ take segments_begin file)
-    × (followed_by (read_earlier s file e.head (last_segment s e.tail - e.head)) (read_segment s is_at_tail n buf) ≡ log_between s now e.head e.tail))
-read-last s e file buf old n good size is last all read =
-    let whole = has_room s e.head file file buf old old n good size read in
-    let sized = (are_sized s good).least_size in
+pub read-last : (g : Format) (e : LogEnds) (file buf : List ℕ) (old : View) (n : ℕ) → first_bad_field g.settings ≡ None → disk_size g.settings ≤ old.size → AreEnds g.settings e → n ≡ last_segment g.settings e.tail
+    → length buf ≡ bytes_in_use g.settings e.tail → IsReadOf old file → (let now : List ℕ = overlay file (place_of_segment g.settings n) buf in (take segments_begin now ≡ take segments_begin file)
+    × (followed_by (read_earlier g file e.head (last_segment g.settings e.tail - e.head)) (read_segment g is_at_tail n buf) ≡ log_between g now e.head e.tail))
+read-last g e file buf old n good size is last all read =
+    let whole = has_room g e.head file file buf old old n good size read in
+    let sized = (are_sized g.settings good).least_size in
     let behind = is.after in
     let room = is.last in
-    let split = split-tail s e.head e.tail (omega (arith, sized)) (omega (arith, behind)) in
+    let split = split-tail g.settings e.head e.tail (omega (arith, sized)) (omega (arith, behind)) in
     let from = split.from in
     let high = split.high in
-    let k : ℕ = last_segment s e.tail - e.head in
+    let k : ℕ = last_segment g.settings e.tail - e.head in
     let at : n ≡ e.head + k = omega (arith, last, from) in
-    let part : length buf ≤ s.seg_size = omega (arith, all, high) in
-    let now : List ℕ = overlay file (place_of_segment s n) buf in
-    let bytes : take (bytes_in_use s e.tail) (segment_bytes s now n) ≡ buf = ap (λ (m : ℕ). take m (segment_bytes s now n)) (sym all) ∙ part-read s good file buf n whole part in (
-      part-front s good file buf n whole part,
-      ap (λ (r : Told). followed_by r (read_segment s is_at_tail n buf)) (sym (part-earlier s good file buf n whole part e.head k at (omega (arith, room, last, from))))
-          ∙ ap (λ (bs : List ℕ). followed_by (read_earlier s now e.head k) (read_segment s is_at_tail n bs)) (sym bytes)
-          ∙ ap (λ (m : ℕ). followed_by (read_earlier s now e.head k) (read_segment s is_at_tail m (take (bytes_in_use s e.tail) (segment_bytes s now m)))) at,
+    let part : length buf ≤ g.settings.seg_size = omega (arith, all, high) in
+    let now : List ℕ = overlay file (place_of_segment g.settings n) buf in
+    let bytes : take (bytes_in_use g.settings e.tail) (segment_bytes g.settings now n) ≡ buf = ap (λ (m : ℕ). take m (segment_bytes g.settings now n)) (sym all) ∙ part-read g good file buf n whole part in (
+      part-front g good file buf n whole part,
+      ap (λ (r : Told). followed_by r (read_segment g is_at_tail n buf)) (sym (part-earlier g good file buf n whole part e.head k at (omega (arith, room, last, from))))
+          ∙ ap (λ (bs : List ℕ). followed_by (read_earlier g now e.head k) (read_segment g is_at_tail n bs)) (sym bytes)
+          ∙ ap (λ (m : ℕ). followed_by (read_earlier g now e.head k) (read_segment g is_at_tail m (take (bytes_in_use g.settings e.tail) (segment_bytes g.settings now m)))) at,
     )
 
 -- ---- some at a time
 
-pub scanned-more : (s : Settings) (told : Told) (gs : List HeldSegment) (g : HeldSegment) → scanned_behind s told (gs ++ g ∷ []) ≡ followed_by (scanned_behind s told gs) (scanned s g)
-scanned-more s told [] g = refl
-scanned-more s told (h ∷ gs) g = scanned-more s (followed_by told (scanned s h)) gs g
+pub scanned-more : (g : Format) (told : Told) (gs : List HeldSegment) (x : HeldSegment) → scanned_behind g told (gs ++ x ∷ []) ≡ followed_by (scanned_behind g told gs) (scanned g x)
+scanned-more g told [] x = refl
+scanned-more g told (h ∷ gs) x = scanned-more g (followed_by told (scanned g h)) gs x
 
-pub one-scanned : (s : Settings) (told : Told) (gs hs : List Segment) (g : Segment) → hs ≡ gs ++ g ∷ [] → gs ≡ [] → scanned_behind s told (map held_segment hs) ≡ followed_by told (scanned s (held_segment g))
-one-scanned s told gs hs g put none = ap (λ (xs : List Segment). scanned_behind s told (map held_segment xs)) (put ∙ ap (λ (xs : List Segment). xs ++ g ∷ []) none)
+pub one-scanned : (g : Format) (told : Told) (gs hs : List Segment) (x : Segment) → hs ≡ gs ++ x ∷ [] → gs ≡ [] → scanned_behind g told (map held_segment hs) ≡ followed_by told (scanned g (held_segment x))
+one-scanned g told gs hs x put none = ap (λ (xs : List Segment). scanned_behind g told (map held_segment xs)) (put ∙ ap (λ (xs : List Segment). xs ++ x ∷ []) none)
 
 -- these segments were read behind k others, and that makes so many
-abbrev pub AreReadBehind : View → Settings → (head k upto : ℕ) → List Segment → List ℕ → List ℕ → Type 0
-AreReadBehind v s head k upto gs file now = AreReadUpto (λ told. scanned_behind s (read_earlier s file head k) (map held_segment gs) ≡ told) v s head upto file now
+abbrev pub AreReadBehind : View → Format → (head k upto : ℕ) → List Segment → List ℕ → List ℕ → Type 0
+AreReadBehind v g head k upto gs file now = AreReadUpto (λ told. scanned_behind g (read_earlier g file head k) (map held_segment gs) ≡ told) v g head upto file now
 
 -- one more
-pub behind-next : (s : Settings) (head k upto more n : ℕ) (gs hs : List Segment) (g : Segment) (file now buf : List ℕ) (old new : View) → first_bad_field s ≡ None → disk_size s ≤ old.size
-    → held_segment g ≡ (record { number = n; end = Padding; bytes = buf }) → hs ≡ gs ++ g ∷ [] → n ≡ head + upto → more ≡ suc upto → upto < s.segments → length buf ≡ s.seg_size
-    → AreReadBehind old s head k upto gs file now → IsReadOf new (overlay now (place_of_segment s n) buf)
-    → AreReadBehind new s head k more hs file (overlay now (place_of_segment s n) buf)
-behind-next s head k upto more n gs hs g file now buf old new good size is put at count few all h bytes =
-    let told : Told = read_earlier s file head k in
-    read-next s head file now buf old new n good size (λ r. scanned_behind s told (map held_segment gs) ≡ r) (λ r. scanned_behind s told (map held_segment hs) ≡ r) upto more at count few all h bytes
-    (λ r e. ap (λ (xs : List HeldSegment). scanned_behind s told xs) (ap (λ (xs : List Segment). map held_segment xs) put ∙ map-append held_segment gs (g ∷ []))
-    ∙ scanned-more s told (map held_segment gs) (held_segment g) ∙ ap (λ (x : HeldSegment). followed_by (scanned_behind s told (map held_segment gs)) (scanned s x)) is
-    ∙ ap (λ (x : Told). followed_by x (read_segment s is_padding n buf)) e)
+pub behind-next : (g : Format) (head k upto more n : ℕ) (gs hs : List Segment) (x : Segment) (file now buf : List ℕ) (old new : View) → first_bad_field g.settings ≡ None → disk_size g.settings ≤ old.size
+    → held_segment x ≡ (record { number = n; end = Padding; bytes = buf }) → hs ≡ gs ++ x ∷ [] → n ≡ head + upto → more ≡ suc upto → upto < g.settings.segments → length buf ≡ g.settings.seg_size
+    → AreReadBehind old g head k upto gs file now → IsReadOf new (overlay now (place_of_segment g.settings n) buf)
+    → AreReadBehind new g head k more hs file (overlay now (place_of_segment g.settings n) buf)
+behind-next g head k upto more n gs hs x file now buf old new good size is put at count few all h bytes =
+    let told : Told = read_earlier g file head k in
+    read-next g head file now buf old new n good size (λ r. scanned_behind g told (map held_segment gs) ≡ r) (λ r. scanned_behind g told (map held_segment hs) ≡ r) upto more at count few all h bytes
+    (λ r e. ap (λ (xs : List HeldSegment). scanned_behind g told xs) (ap (λ (xs : List Segment). map held_segment xs) put ∙ map-append held_segment gs (x ∷ []))
+    ∙ scanned-more g told (map held_segment gs) (held_segment x) ∙ ap (λ (y : HeldSegment). followed_by (scanned_behind g told (map held_segment gs)) (scanned g y)) is
+    ∙ ap (λ (y : Told). followed_by y (read_segment g is_padding n buf)) e)
 
 -- all of them
-pub behind-all : (v : View) (s : Settings) (head k upto all : ℕ) (gs : List Segment) (file now : List ℕ) → upto ≡ all → AreReadBehind v s head k upto gs file now
-    → scanned_behind s (read_earlier s file head k) (map held_segment gs) ≡ read_earlier s now head all
-behind-all v s head k upto all gs file now same h = h.found ∙ ap (λ (m : ℕ). read_earlier s now head m) same
+pub behind-all : (v : View) (g : Format) (head k upto all : ℕ) (gs : List Segment) (file now : List ℕ) → upto ≡ all → AreReadBehind v g head k upto gs file now
+    → scanned_behind g (read_earlier g file head k) (map held_segment gs) ≡ read_earlier g now head all
+behind-all v g head k upto all gs file now same h = h.found ∙ ap (λ (m : ℕ). read_earlier g now head m) same
 
 -- and these were taken too
-pub round-more : (Has More : Told → Type 0) (old new : View) (s : Settings) (head k all : ℕ) (gs : List Segment) (file before now : List ℕ) → AreReadUpto Has old s head k file before
-    → IsReadOf new now → take segments_begin now ≡ take segments_begin before → scanned_behind s (read_earlier s before head k) (map held_segment gs) ≡ read_earlier s now head all
-    → ((told : Told) → Has told → More (scanned_behind s told (map held_segment gs))) → AreReadUpto More new s head all file now
-round-more Has More old new s head k all gs file before now upto bytes front told takes = record {
+pub round-more : (Has More : Told → Type 0) (old new : View) (g : Format) (head k all : ℕ) (gs : List Segment) (file before now : List ℕ) → AreReadUpto Has old g head k file before
+    → IsReadOf new now → take segments_begin now ≡ take segments_begin before → scanned_behind g (read_earlier g before head k) (map held_segment gs) ≡ read_earlier g now head all
+    → ((told : Told) → Has told → More (scanned_behind g told (map held_segment gs))) → AreReadUpto More new g head all file now
+round-more Has More old new g head k all gs file before now upto bytes front told takes = record {
   bytes = bytes;
   front = front ∙ upto.front;
-  found = subst More told (takes (read_earlier s before head k) upto.found);
+  found = subst More told (takes (read_earlier g before head k) upto.found);
 }
 
 -- the last segment was taken, and so the whole log

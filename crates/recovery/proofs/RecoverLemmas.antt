@@ -8,6 +8,7 @@ use Rattle.keys.specs.declared.settings.Settings.{Settings}
 use Rattle.mapping.specs.Finding.{Finding}
 use Rattle.mapping.specs.Tree.{Store, Tree}
 use Rattle.mapping.specs.TreeInMemory.{TreeInMemory, AreAllHome, tree_of}
+use Rattle.frame_codec.specs.declared.format.Format.{Format}
 use Rattle.flush_log.specs.AfterFlush.{store_after}
 use Rattle.flush_log.specs.Disk.{View, Kept}
 use Rattle.flush_log.specs.Reading.{Found, log}
@@ -79,25 +80,25 @@ in-front s file now first old new within before kept was is front t settings slo
 -- ---- what was read, by the parts in which it is handed on
 
 -- of whatever frames were gathered, the tree is right; or the fault is
-abbrev pub IsTreeOf : TreeInMemory → Settings → Slot → Gathering → Type 0
-IsTreeOf tree s t g = (found : List Found) → AreGathered s Every g found → (wrong_in s t (frames_in found) ≡ None) × (tree_of tree ≡ tree_by_log t (frames_in found)) × AreAllHome tree
+abbrev pub IsTreeOf : TreeInMemory → Format → Slot → Gathering → Type 0
+IsTreeOf tree f t g = (found : List Found) → AreGathered f Every g found → (wrong_in f.settings t (frames_in found) ≡ None) × (tree_of tree ≡ tree_by_log t (frames_in found)) × AreAllHome tree
 
-abbrev pub IsRefusedTree : Fault → Settings → Slot → Gathering → Type 0
-IsRefusedTree fault s t g = (found : List Found) → AreGathered s Every g found → (fault ≡ NoMemory) ⊎ ((f : Finding) × (wrong_in s t (frames_in found) ≡ Some f) × (fault ≡ BadStructure f))
+abbrev pub IsRefusedTree : Fault → Format → Slot → Gathering → Type 0
+IsRefusedTree fault f t g = (found : List Found) → AreGathered f Every g found → (fault ≡ NoMemory) ⊎ ((x : Finding) × (wrong_in f.settings t (frames_in found) ≡ Some x) × (fault ≡ BadStructure x))
 
 module _ (file : Bytes) (r : LogRead) (read : IsLogRead r file) where
-  pub tree-recovered : (tree : TreeInMemory) → IsTreeOf tree r.settings r.slot r.gathering
-      → (store_of_disk file ≡ Ok (r.settings, store_recovered (record { settings = r.settings; slot = r.slot; tree = tree }))) × AreAllHome tree
+  pub tree-recovered : (tree : TreeInMemory) → IsTreeOf tree r.format r.slot r.gathering
+      → (store_of_disk file ≡ Ok (r.format.settings, store_recovered (record { settings = r.format.settings; slot = r.slot; tree = tree }))) × AreAllHome tree
   tree-recovered tree right =
       let (none, is, home) = right read.found read.gathered in (
-        right_store file r.settings read.settings r.slot read.slot read.found read.log none ∙ ap (λ (u : Tree). found_store r.settings (store_after u r.slot)) (sym is),
+        right_store file r.format.settings read.settings r.slot read.slot read.found read.log none ∙ ap (λ (u : Tree). found_store r.format.settings (store_after u r.slot)) (sym is),
         home,
       )
 
-  pub tree-refused : (old new : ℕ) (fault : Fault) → IsRefusedTree fault r.settings r.slot r.gathering → (store_of_disk file ≡ Err fault) ⊎ IsLate old new fault
+  pub tree-refused : (old new : ℕ) (fault : Fault) → IsRefusedTree fault r.format r.slot r.gathering → (store_of_disk file ≡ Err fault) ⊎ IsLate old new fault
   tree-refused old new fault refused = elim (refused read.found read.gathered) [
     | inl memory ↦ inr (inl memory)
-    | inr wrong ↦ inl (wrong_store file r.settings read.settings r.slot read.slot read.found read.log wrong.0 wrong.1 ∙ ap (λ (f : Fault). refused_with f) (sym wrong.2))
+    | inr wrong ↦ inl (wrong_store file r.format.settings read.settings r.slot read.slot read.found read.log wrong.0 wrong.1 ∙ ap (λ (f : Fault). refused_with f) (sym wrong.2))
   ]
     where
       refused_with : Fault → Result (Settings × Store) Fault

@@ -46,6 +46,7 @@ itself-in_step ps root height t = record {
   head = refl;
   tail = refl;
   sequence = refl;
+  version = refl;
   none = λ pid.
       let w = none_whole (page_at ps pid) in
       let e = logged-whole ps pid in
@@ -83,6 +84,7 @@ kept-in_step st new on_disk keeps h = record {
   head = h.head;
   tail = h.tail;
   sequence = h.sequence;
+  version = h.version;
   none = λ pid. (λ e. (h.none pid).0 ((keeps.none pid).1 e), λ e. (keeps.none pid).0 ((h.none pid).1 e));
   upto = λ pid k e. logged_later k (page_at on_disk.tree.pages pid) (page_at st.tree.pages pid) (page_at new.pages pid) (h.upto pid k (keeps.upto pid k e)) (λ p f. keeps.over pid k p e f);
 }

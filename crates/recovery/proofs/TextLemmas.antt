@@ -1,21 +1,27 @@
--- What a flush writes of each pid, and what the log then says of it.
+-- What a flush or an upgrade writes of each pid, and what the log then says of it.
 use Rattle.std.specs.Prelude.{◌≡◌, ℕ, Bool, true, false, cond, ◌||◌, nat_eq, List, [], ◌∷◌, ◌++◌, flat_map, Option, Some, None, is_some}
-use Rattle.std.proofs.Common.{refl, sym, ap, ◌∙◌}
-use Rattle.std.specs.List.{filter}
+use Rattle.std.proofs.Common.{refl, sym, ap, ◌∙◌, subst}
+use Rattle.std.specs.List.{AllByRecursion, filter}
 use Rattle.std.specs.Map.{keys_of}
+use Rattle.std.specs.Ordering.{nat_cmp, is_eq}
 use Rattle.std.proofs.lemmas.Bool.{eqb-true, eq-eqb, or_parts}
 use Rattle.std.proofs.lemmas.List.{append-nil}
+use Rattle.keys.proofs.Basics.{equal_by}
 use Rattle.index_page.specs.Page.{PageOfKind}
 use Rattle.mapping.specs.FreshPids.{is_among}
-use Rattle.mapping.specs.Proper.{AreRisingPids}
+use Rattle.mapping.specs.Proper.{AreRisingPids, IsTrueOf, AreLogsTrue}
 use Rattle.mapping.specs.Table.{is_old}
-use Rattle.mapping.specs.Tree.{Logged, Tree, page_at, logged_of}
+use Rattle.mapping.specs.Tree.{Logged, Tree, listed_at, page_at, or_no, logged_of}
 use Rattle.mapping.specs.Tree.Logged.{No, Old, Upto}
 use Rattle.mapping.proofs.InUse.{among-lookup}
 use Rattle.mapping.proofs.KnownPids.{none_above, among-with_numbers, rising-with_numbers, among-old}
 use Rattle.mapping.proofs.SameTable.{same_table}
+use Rattle.mapping.proofs.TableLemmas.{same_pid}
+use Rattle.frame_codec.specs.declared.format.Spelling.{Spelling}
 use Rattle.frame_codec.specs.Frame.{Content, Frame}
-use Rattle.flush_log.specs.FlushText.{lacking, frames_of, pid_text, pids_to_write, flush_text}
+use Rattle.flush_log.specs.FlushText.{spelling_of, lacking, frames_of, version_with, taken, pid_text, pids_to_write, text_of}
+use Rattle.flush_log.specs.declared.text.Text.{Text}
+use Rattle.flush_log.specs.declared.text.Text.TheVariants.{Flush, Upgrade}
 use Rattle.recovery.specs.InStep.{IsLogged}
 use Rattle.recovery.specs.LogPages.{contents_of, in_log, pages_of, broken_in}
 use Rattle.recovery.specs.PageByLog.{InLog, page_by_log, page_in, is_broken}
@@ -58,33 +64,70 @@ module _ (g : ℕ → List Frame) (due : ℕ → List Content) (own : (n pid : �
       ∙ ap (λ (cs : List Content). cs ++ contents_of pid (flat_map g ns)) (own n pid)
       ∙ text_by (nat_eq pid n) n pid ns refl (none_above n ns r.0) (made-under ns pid r.1)
 
-module _ (t : Tree) where
-  abbrev due : ℕ → List Content
-  due pid = lacking (page_at t.pages pid) (logged_of t pid)
+-- ---- what the log has, as a text takes it
 
-  text-under : (ns : List ℕ) (pid : ℕ) → AreRisingPids ns → contents_of pid (flat_map (pid_text t) ns) ≡ cond (is_among pid ns) (due pid) []
-  text-under ns pid r = made-under (pid_text t) due (λ n q. own_by (nat_eq q n) n q (due n) (turned (nat_eq q n) q n refl)) ns pid r
+pub true_by : (b : Bool) (pages : List (ℕ × PageOfKind)) (n pid : ℕ) (here : Logged) (rest : Option Logged) (l : Logged) → is_eq (nat_cmp pid n) ≡ b → IsTrueOf (page_at pages n) here → (rest ≡ Some l → IsTrueOf (page_at pages pid) l)
+    → cond b (Some here) rest ≡ Some l → IsTrueOf (page_at pages pid) l
+true_by true pages n pid here rest l e t f h =
+    let same : here ≡ l = cc in
+    let at : n ≡ pid = sym (same_pid pid n (equal_by (nat_cmp pid n) e)) in
+    subst (λ (m : ℕ). IsTrueOf (page_at pages m) l) at (subst (λ (x : Logged). IsTrueOf (page_at pages n) x) same t)
+true_by false pages n pid here rest l e t f h = f h
+
+-- what is listed of a pid is true of its page
+pub true_at : (pages : List (ℕ × PageOfKind)) (ls : List (ℕ × Logged)) (pid : ℕ) (l : Logged) → AllByRecursion (λ e. IsTrueOf (page_at pages e.0) e.1) ls → listed_at ls pid ≡ Some l → IsTrueOf (page_at pages pid) l
+true_at pages [] pid l a h = absurd (cc)
+true_at pages (e ∷ es) pid l a h = true_by (is_eq (nat_cmp pid e.0)) pages e.0 pid e.1 (listed_at es pid) l refl a.0 (λ r. true_at pages es pid l a.1 r) h
+
+taken-no : (text : Text) (l : Logged) → taken text l ≡ No → l ≡ No
+taken-no (Flush version) l e = e
+taken-no Upgrade No e = refl
+taken-no Upgrade Old e = absurd (cc)
+taken-no Upgrade (Upto k) e = absurd (cc)
+
+taken-upto : (text : Text) (l : Logged) (k : ℕ) → taken text l ≡ Upto k → l ≡ Upto k
+taken-upto (Flush version) l k e = e
+taken-upto Upgrade No k e = absurd (cc)
+taken-upto Upgrade Old k e = absurd (cc)
+taken-upto Upgrade (Upto n) k e = absurd (cc)
+
+-- ---- the text of a tree
+
+module _ (text : Text) (t : Tree) where
+  abbrev own : Spelling
+  own = spelling_of (version_with text)
+
+  abbrev due : ℕ → List Content
+  due pid = lacking own (page_at t.pages pid) (taken text (logged_of t pid))
+
+  text-under : (ns : List ℕ) (pid : ℕ) → AreRisingPids ns → contents_of pid (flat_map (pid_text text t) ns) ≡ cond (is_among pid ns) (due pid) []
+  text-under ns pid r = made-under (pid_text text t) due (λ n q. own_by (nat_eq q n) n q (due n) (turned (nat_eq q n) q n refl)) ns pid r
 
   none_by : {V : Type 0} (o : Option V) → is_some o ≡ false → o ≡ None
   none_by None e = refl
   none_by (Some v) e = absurd (cc)
 
-  nothing_due : (l : Logged) → is_old l ≡ false → lacking None l ≡ []
-  nothing_due No e = refl
-  nothing_due Old e = absurd (cc)
-  nothing_due (Upto k) e = refl
+  -- of a pid without a page nothing is due, where the log has none either
+  nothing_due : (taker : Text) (listed : Option Logged) → ((l : Logged) → listed ≡ Some l → IsTrueOf None l) → is_old (or_no listed) ≡ false → lacking own None (taken taker (or_no listed)) ≡ []
+  nothing_due (Flush version) None true_of e = refl
+  nothing_due Upgrade None true_of e = refl
+  nothing_due taker (Some No) true_of e = absurd (true_of No refl)
+  nothing_due taker (Some Old) true_of e = absurd (cc)
+  nothing_due taker (Some (Upto k)) true_of e = absurd (true_of (Upto k) refl)
 
-  module _ (pages : AreRisingPids (keys_of t.pages)) (logs : AreRisingPids (keys_of t.logged)) where
+  module _ (pages : AreRisingPids (keys_of t.pages)) (logs : AreLogsTrue t) where
     else_due : (b : Bool) (pid : ℕ) → is_among pid (pids_to_write t) ≡ b → cond b (due pid) [] ≡ due pid
     else_due true pid e = refl
     else_due false pid e =
         let olds : List ℕ = keys_of (filter (λ l. is_old l.1) t.logged) in
         let apart = or_parts (is_among pid olds) (is_among pid (keys_of t.pages)) (sym (among-with_numbers pid olds (keys_of t.pages)) ∙ e) in
-        let old : is_old (logged_of t pid) ≡ false = sym (among-old pid t.logged logs) ∙ apart.0 in
-        sym (ap (λ (o : Option PageOfKind). lacking o (logged_of t pid)) (none_by (page_at t.pages pid) (among-lookup pid t.pages ∙ apart.1)) ∙ nothing_due (logged_of t pid) old)
+        let old : is_old (logged_of t pid) ≡ false = sym (among-old pid t.logged logs.rising) ∙ apart.0 in
+        let none : page_at t.pages pid ≡ None = none_by (page_at t.pages pid) (among-lookup pid t.pages ∙ apart.1) in
+        let true_of : (l : Logged) → listed_at t.logged pid ≡ Some l → IsTrueOf None l = λ l h. subst (λ (o : Option PageOfKind). IsTrueOf o l) none (true_at t.pages t.logged pid l logs.each h) in
+        sym (ap (λ (o : Option PageOfKind). lacking own o (taken text (logged_of t pid))) none ∙ nothing_due text (listed_at t.logged pid) true_of old)
 
-    -- of each pid a flush writes what the log lacks
-    pub text-of_pid : (pid : ℕ) → contents_of pid (flush_text t) ≡ due pid
+    -- of each pid the text has what the log lacks
+    pub text-of_pid : (pid : ℕ) → contents_of pid (text_of text t) ≡ due pid
     text-of_pid pid =
         text-under (pids_to_write t) pid (rising-with_numbers (keys_of (filter (λ l. is_old l.1) t.logged)) (keys_of t.pages) pages)
         ∙ else_due (is_among pid (pids_to_write t)) pid refl
@@ -109,44 +152,44 @@ missing Missing e f = refl
 missing (Present p) e f = absurd (cc)
 missing Broken e f = absurd (cc)
 
-newer_by : (cs : List Content) (k : ℕ) (told : InLog) (now : Option PageOfKind) → page_by_log cs ≡ told → IsLogged k (page_in told) now → page_by_log (cs ++ lacking now (Upto k)) ≡ as_told now
-newer_by cs k Missing now e h = absurd h
-newer_by cs k Broken now e h = absurd h
-newer_by cs k (Present x) None e h = absurd h
-newer_by cs k (Present x) (Some p) e h = page-newer cs k x p e h
+newer_by : (spelling : Spelling) (cs : List Content) (k : ℕ) (told : InLog) (now : Option PageOfKind) → page_by_log cs ≡ told → IsLogged k (page_in told) now → page_by_log (cs ++ lacking spelling now (Upto k)) ≡ as_told now
+newer_by spelling cs k Missing now e h = absurd h
+newer_by spelling cs k Broken now e h = absurd h
+newer_by spelling cs k (Present x) None e h = absurd h
+newer_by spelling cs k (Present x) (Some p) e h = page-newer cs k x p e h
 
--- what contents say, with those behind them that a flush writes: just the page that there is
-after_by : (cs : List Content) (now : Option PageOfKind) (l : Logged) → is_broken (page_by_log cs) ≡ false → (l ≡ No → page_in (page_by_log cs) ≡ None) → ((k : ℕ) → l ≡ Upto k → IsLogged k (page_in (page_by_log cs)) now)
-    → page_by_log (cs ++ lacking now l) ≡ as_told now
-after_by cs (Some p) No sound none upto = page-whole cs p
-after_by cs (Some p) Old sound none upto = page-whole cs p
-after_by cs None No sound none upto = ap page_by_log (append-nil cs) ∙ missing (page_by_log cs) (none refl) sound
-after_by cs None Old sound none upto = page-free cs
-after_by cs now (Upto k) sound none upto = newer_by cs k (page_by_log cs) now refl (upto k refl)
+-- what contents say, with those behind them that are written: just the page that there is
+after_by : (spelling : Spelling) (cs : List Content) (now : Option PageOfKind) (l : Logged) → is_broken (page_by_log cs) ≡ false → (l ≡ No → page_in (page_by_log cs) ≡ None) → ((k : ℕ) → l ≡ Upto k → IsLogged k (page_in (page_by_log cs)) now)
+    → page_by_log (cs ++ lacking spelling now l) ≡ as_told now
+after_by spelling cs (Some p) No sound none upto = page-whole spelling cs p
+after_by spelling cs (Some p) Old sound none upto = page-whole spelling cs p
+after_by spelling cs None No sound none upto = ap page_by_log (append-nil cs) ∙ missing (page_by_log cs) (none refl) sound
+after_by spelling cs None Old sound none upto = page-free cs
+after_by spelling cs now (Upto k) sound none upto = newer_by spelling cs k (page_by_log cs) now refl (upto k refl)
 
 -- a tree whose log states are true of the pages that frames tell of
 pub record IsKnown (t : Tree) (fs : List Frame) : Type 0 where
   pub pages : AreRisingPids (keys_of t.pages)
-  pub logs : AreRisingPids (keys_of t.logged)
+  pub logs : AreLogsTrue t
   pub sound : broken_in fs ≡ None
   pub none : (pid : ℕ) → logged_of t pid ≡ No → page_at (pages_of fs) pid ≡ None
   pub upto : (pid k : ℕ) → logged_of t pid ≡ Upto k → IsLogged k (page_at (pages_of fs) pid) (page_at t.pages pid)
 
-module _ (t : Tree) (fs : List Frame) (known : IsKnown t fs) where
+module _ (text : Text) (t : Tree) (fs : List Frame) (known : IsKnown t fs) where
   -- what the log then says of each pid
-  pub told-after : (pid : ℕ) → in_log (fs ++ flush_text t) pid ≡ as_told (page_at t.pages pid)
+  pub told-after : (pid : ℕ) → in_log (fs ++ text_of text t) pid ≡ as_told (page_at t.pages pid)
   told-after pid =
       let here : page_at (pages_of fs) pid ≡ page_in (in_log fs pid) = page_at-pages_of fs pid in
-      ap page_by_log (contents-append pid fs (flush_text t) ∙ ap (λ (cs : List Content). contents_of pid fs ++ cs) (text-of_pid t known.pages known.logs pid))
-      ∙ after_by (contents_of pid fs) (page_at t.pages pid) (logged_of t pid) (none_broken fs pid known.sound)
-      (λ e. sym here ∙ known.none pid e)
-      (λ k e. rw (sym here) (known.upto pid k e))
+      ap page_by_log (contents-append pid fs (text_of text t) ∙ ap (λ (cs : List Content). contents_of pid fs ++ cs) (text-of_pid text t known.pages known.logs pid))
+      ∙ after_by (spelling_of (version_with text)) (contents_of pid fs) (page_at t.pages pid) (taken text (logged_of t pid)) (none_broken fs pid known.sound)
+      (λ e. sym here ∙ known.none pid (taken-no text (logged_of t pid) e))
+      (λ k e. rw (sym here) (known.upto pid k (taken-upto text (logged_of t pid) k e)))
 
   -- so its pages are those of the tree
-  pub pages-after : pages_of (fs ++ flush_text t) ≡ t.pages
+  pub pages-after : pages_of (fs ++ text_of text t) ≡ t.pages
   pages-after =
-      same_table (pages_of (fs ++ flush_text t)) t.pages (rising-pages_of (fs ++ flush_text t)) known.pages
-      (λ pid. page_at-pages_of (fs ++ flush_text t) pid ∙ ap page_in (told-after pid) ∙ told-back (page_at t.pages pid))
+      same_table (pages_of (fs ++ text_of text t)) t.pages (rising-pages_of (fs ++ text_of text t)) known.pages
+      (λ pid. page_at-pages_of (fs ++ text_of text t) pid ∙ ap page_in (told-after pid) ∙ told-back (page_at t.pages pid))
 
-  pub sound-after : broken_in (fs ++ flush_text t) ≡ None
-  sound-after = not_broken (fs ++ flush_text t) (λ pid. ap is_broken (told-after pid) ∙ told-sound (page_at t.pages pid))
+  pub sound-after : broken_in (fs ++ text_of text t) ≡ None
+  sound-after = not_broken (fs ++ text_of text t) (λ pid. ap is_broken (told-after pid) ∙ told-sound (page_at t.pages pid))

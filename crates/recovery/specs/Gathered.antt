@@ -136,7 +136,7 @@ pub record AreLive (w : Wanted) (g : Gathering) (found : List Found) : Type 0 wh
   pub first : g.first ≡ first_found found
   pub kept : AreKept w (first_segment found) g.by_pid found
 
--- and they are frames that a store with these settings may have
+-- and they are frames that a log of this format may have
 pub record AreGathered (s : Format) (w : Wanted) (g : Gathering) (found : List Found) : Type 0 where
   pub live : AreLive w g found
   pub within : AllByRecursion (λ f. is_frame s f.frame ≡ true) found

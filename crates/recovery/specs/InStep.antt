@@ -18,12 +18,13 @@ abbrev pub IsLogged : ℕ → Option PageOfKind → Option PageOfKind → Type 0
 IsLogged k (Some logged) (Some now) = (page_depth logged ≡ k) × IsPageOver logged now
 IsLogged k _ _ = ⊥
 
--- Of a store, and of the one that its disk stands for: the log ends at the same places; the store knows of which pids the log
--- has a page; and of each whose base and k oldest runs it takes for written, the log has just these.
+-- Of a store, and of the one that its disk stands for: the log ends at the same places, and has the same version; the store knows
+-- of which pids the log has a page; and of each whose base and k oldest runs it takes for written, the log has just these.
 pub record AreInStep (st on_disk : Store) : Type 0 where
   pub head : st.head ≡ on_disk.head
   pub tail : st.tail ≡ on_disk.tail
   pub sequence : st.sequence ≡ on_disk.sequence
+  pub version : st.version ≡ on_disk.version
   pub none : (pid : ℕ) → (logged_of st.tree pid ≡ No) ↔ (page_at on_disk.tree.pages pid ≡ None)
   pub upto : (pid k : ℕ) → logged_of st.tree pid ≡ Upto k → IsLogged k (page_at on_disk.tree.pages pid) (page_at st.tree.pages pid)
 

@@ -31,7 +31,6 @@ store_recovered r = store_after (tree_of r.tree) r.slot
 -- what was read of these bytes: their settings, their slot, and the frames of their log, gathered by page
 pub record IsLogRead (r : LogRead) (file : Bytes) : Type 0 where
   pub settings : store_settings file ≡ Ok r.format.settings
-  pub version : r.format.version ≡ r.slot.version
   pub slot : store_slot r.format.settings file ≡ Ok r.slot
   pub found : List Found
   pub log : log r.format.settings file r.slot ≡ Ok found

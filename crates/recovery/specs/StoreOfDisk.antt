@@ -4,6 +4,7 @@ use Rattle.keys.specs.Bytes.{Bytes}
 use Rattle.keys.specs.declared.settings.Settings.{Settings}
 use Rattle.keys.specs.declared.fault.Fault.{Fault}
 use Rattle.keys.specs.declared.fault.Fault.TheVariants.{BadStructure}
+use Rattle.keys.specs.declared.version.Version.TheVariants.{One}
 pub use Rattle.keys.specs.Results.{and_then}
 use Rattle.mapping.specs.Finding.{Finding, finding, or_else}
 use Rattle.mapping.specs.Tree.{Tree, Store, first_tree}
@@ -47,4 +48,4 @@ store_of_disk file = and_then (store_settings file) (λ s. store_under s file)
 
 -- the store of a new disk
 abbrev pub first_store : Store
-first_store = record { tree = first_tree; head = 0; tail = first_tail; sequence = 1 }
+first_store = record { tree = first_tree; head = 0; tail = first_tail; sequence = 1; version = One }

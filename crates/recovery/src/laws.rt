@@ -5,14 +5,15 @@ ghost use Rattle.keys.specs.Limits.{first_bad_field};
 ghost use Rattle.keys.specs.declared.settings.Settings.{Settings};
 ghost use Rattle.mapping.specs.Tree.{Tree, most_levels, Store, with_tree};
 ghost use Rattle.mapping.specs.Proper.{AreLogsTrue, IsProper};
-ghost use Rattle.flush_log.specs.AfterFlush.{after_flush, flush_calls};
+ghost use Rattle.flush_log.specs.AfterFlush.{after_flush, after_upgrade, flush_calls, upgrade_calls};
 ghost use Rattle.flush_log.specs.Commit.{LeftDuring, IsUncommitted};
 ghost use Rattle.flush_log.specs.Layout.{spans};
-ghost use Rattle.flush_log.specs.FlushText.{flush_text, HasFrames, flushed};
+ghost use Rattle.flush_log.specs.FlushText.{flush_text, upgrade_text, HasFrames, flushed};
 ghost use Rattle.flush_log.specs.NewStore.{disk_of_new};
 ghost use Rattle.flush_log.specs.Overlay.{AgreeAt};
 ghost use Rattle.flush_log.specs.Segments.{HasSegments};
 ghost use Rattle.flush_log.specs.Slot.{is_open};
+ghost use Rattle.flush_log.specs.declared.text.Text.TheVariants.{Flush, Upgrade};
 ghost use Rattle.recovery.specs.InStep.{KeepsLogged, IsStore, IsStoreOf};
 ghost use Rattle.recovery.specs.LookedAt.{IsInSlot, IsLookedAt};
 ghost use Rattle.recovery.specs.StoreOfDisk.{first_store, store_of_disk};
@@ -22,22 +23,45 @@ ghost use Rattle.recovery.specs.StoreOfDisk.{first_store, store_of_disk};
 /// nothing to write leaves store and disk, and so it is already. The frames of its text are such as a store may have, which they are
 /// where page ids are numbers of 64 bits, as in memory. Whatever the disk does, the store stays one as every store is.
 pub fn what_was_flushed_is_what_is_read()
-    ensures read { (s : Settings) (st now : Store) (file bytes : Bytes) → IsStoreOf s st file → HasFrames s st.tree →
+    ensures read { (s : Settings) (st now : Store) (file bytes : Bytes) → IsStoreOf s st file → HasFrames s (Flush st.version) st.tree →
         after_flush s st file ≡ Ok (now, bytes) → (store_of_disk bytes ≡ Ok (s, now)) × IsStoreOf s now bytes }
     ensures tree { (s : Settings) (st now : Store) (file bytes : Bytes) → IsStore s st → after_flush s st file ≡ Ok (now, bytes) →
         now.tree ≡ flushed st.tree }
-    ensures kept { (s : Settings) (st now : Store) (file bytes : Bytes) → IsStore s st → HasFrames s st.tree →
+    ensures kept { (s : Settings) (st now : Store) (file bytes : Bytes) → IsStore s st → HasFrames s (Flush st.version) st.tree →
         after_flush s st file ≡ Ok (now, bytes) → IsStore s now }
 {}
 
 /// A crash at any moment of a flush leaves a disk that stands for the store that it stood for, or all that the flush leaves. Until
 /// its commit is done it stands for the first.
 pub fn a_crash_in_a_flush_leaves_the_store_before_or_after()
-    ensures hidden { (s : Settings) (st now : Store) (file bytes c : Bytes) → IsStoreOf s st file → HasFrames s st.tree →
-        flush_text st.tree ≢ [] → after_flush s st file ≡ Ok (now, bytes) →
-        IsUncommitted s (suc st.sequence) (spans s st.tail (flush_text st.tree)) file c → store_of_disk c ≡ store_of_disk file }
-    ensures calls { (s : Settings) (st now : Store) (file bytes c : Bytes) → IsStoreOf s st file → HasFrames s st.tree →
+    ensures hidden { (s : Settings) (st now : Store) (file bytes c : Bytes) → IsStoreOf s st file → HasFrames s (Flush st.version) st.tree →
+        flush_text st.version st.tree ≢ [] → after_flush s st file ≡ Ok (now, bytes) →
+        IsUncommitted s (suc st.sequence) (spans s st.tail (flush_text st.version st.tree)) file c → store_of_disk c ≡ store_of_disk file }
+    ensures calls { (s : Settings) (st now : Store) (file bytes c : Bytes) → IsStoreOf s st file → HasFrames s (Flush st.version) st.tree →
         after_flush s st file ≡ Ok (now, bytes) → LeftDuring (flush_calls s st file) file c →
+        (store_of_disk c ≡ store_of_disk file) ⊎ (c ≡ bytes) }
+{}
+
+/// What was upgraded is what is read: the disk after an upgrade stands for the very store after it, which is one as every store is, and
+/// whose log has the second version. Its tree is the one that a flush would leave. Whatever the disk does, the store stays one as every
+/// store is.
+pub fn what_was_upgraded_is_what_is_read()
+    ensures read { (s : Settings) (st now : Store) (file bytes : Bytes) → IsStoreOf s st file → HasFrames s Upgrade st.tree →
+        after_upgrade s st file ≡ Ok (now, bytes) → (store_of_disk bytes ≡ Ok (s, now)) × IsStoreOf s now bytes }
+    ensures tree { (s : Settings) (st now : Store) (file bytes : Bytes) → IsStore s st → after_upgrade s st file ≡ Ok (now, bytes) →
+        now.tree ≡ flushed st.tree }
+    ensures kept { (s : Settings) (st now : Store) (file bytes : Bytes) → IsStore s st → HasFrames s Upgrade st.tree →
+        after_upgrade s st file ≡ Ok (now, bytes) → IsStore s now }
+{}
+
+/// A crash at any moment of an upgrade leaves a disk that stands for the store that it stood for, with its log of the first version, or
+/// all that the upgrade leaves. Until its commit is done it stands for the first.
+pub fn a_crash_in_an_upgrade_leaves_the_store_before_or_after()
+    ensures hidden { (s : Settings) (st now : Store) (file bytes c : Bytes) → IsStoreOf s st file → HasFrames s Upgrade st.tree →
+        after_upgrade s st file ≡ Ok (now, bytes) →
+        IsUncommitted s (suc st.sequence) (spans s st.tail (upgrade_text st.tree)) file c → store_of_disk c ≡ store_of_disk file }
+    ensures calls { (s : Settings) (st now : Store) (file bytes c : Bytes) → IsStoreOf s st file → HasFrames s Upgrade st.tree →
+        after_upgrade s st file ≡ Ok (now, bytes) → LeftDuring (upgrade_calls s st file) file c →
         (store_of_disk c ≡ store_of_disk file) ⊎ (c ≡ bytes) }
 {}
 

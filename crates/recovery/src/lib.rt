@@ -3,9 +3,9 @@
 //! (`read_log`, `scan_segment`), whose frames are gathered by page (`log_so_far`, `gather`), pages built of them (`rebuild`), and put
 //! into a tree that is looked at (`build_tree`). A clean reads the log too, by the same `read_log`.
 //!
-//! Laws: what was flushed is what is read; what is read is a store; a new disk stands for the first store; a tree that keeps
-//! what the log has stays in step; bytes that no reading looks at don't matter; a crash in a flush leaves the store before or
-//! after; what a flush of a tree is on its table in memory.
+//! Laws: what was flushed is what is read, and so is what was upgraded; what is read is a store; a new disk stands for the first
+//! store; a tree that keeps what the log has stays in step; bytes that no reading looks at don't matter; a crash in a flush or in an
+//! upgrade leaves the store before or after; what a flush of a tree is on its table in memory.
 #![tactic(auto)]
 
 mod build_tree;

@@ -26,7 +26,7 @@ use std::thread::Threads;
 pub struct Recovered {
     /// The settings that it was made with.
     pub settings: Settings,
-    /// Where its log begins and ends, and the number of its last commit.
+    /// Where its log begins and ends, which version that has, and the number of its last commit.
     pub slot: Slot,
     /// Its pages, all of which the log has as they are.
     pub tree: Tree<Global>,
@@ -70,7 +70,8 @@ fn read_parts<D: Disk>(
 }
 
 /// Reads the store that the disk holds. It writes nothing. The crew scans the segments and builds the pages; which crew it is changes
-/// nothing of what is answered.
+/// nothing of what is answered. Logs of both versions are read, each by the version that its slot says: what only
+/// the second one may have is no frame in a log of the first.
 ///
 /// A disk that has no settings block, or is shorter than that tells, is `Fault::NotAStore`; one of which no slot is open, or an
 /// open one is not well formed, `Fault::NoSlot`; then, of the log, the fault at the least position counts, `Fault::BadSegment` or

@@ -4,19 +4,20 @@ ghost use Rattle.std.specs.Prelude.{◌≡◌, ◌↔◌, [], None};
 ghost use Rattle.std.specs.List.{AllByRecursion};
 ghost use Rattle.keys.specs.Limits.{first_bad_field};
 ghost use Rattle.keys.specs.declared.settings.Settings.{Settings};
+ghost use Rattle.keys.specs.declared.version.Version.{Version};
 ghost use Rattle.mapping.specs.Flushed.{marked_as_written};
 ghost use Rattle.mapping.specs.Proper.{IsProper};
 ghost use Rattle.mapping.specs.Table.{pids_in_use_or_old};
 ghost use Rattle.mapping.specs.Tree.{Tree, page_at, logged_of};
 ghost use Rattle.mapping.specs.TreeInMemory.{TreeInMemory, AreAllHome, tree_of};
-ghost use Rattle.flush_log.specs.FlushText.{lacking, pids_to_write, flush_text, flushed};
+ghost use Rattle.flush_log.specs.FlushText.{spelling_of, lacking, pids_to_write, flush_text, flushed};
 
 /// While all pages are at home, a flush goes over the pids that the table knows. Its text is empty just where the log lacks nothing
 /// of any of them.
 pub fn a_flush_goes_over_the_pids_that_the_table_knows()
     ensures pids { (t : TreeInMemory) → AreAllHome t → pids_to_write (tree_of t) ≡ pids_in_use_or_old t.table }
-    ensures nothing { (t : Tree) → (flush_text t ≡ []) ↔
-        AllByRecursion (λ pid. lacking (page_at t.pages pid) (logged_of t pid) ≡ []) (pids_to_write t) }
+    ensures nothing { (version : Version) (t : Tree) → (flush_text version t ≡ []) ↔
+        AllByRecursion (λ pid. lacking (spelling_of version) (page_at t.pages pid) (logged_of t pid) ≡ []) (pids_to_write t) }
 {}
 
 /// A table that is marked as written holds the tree that a flush leaves.

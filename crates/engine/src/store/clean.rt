@@ -16,6 +16,7 @@ use cleaner::clean::clean;
 use cleaner::laws::a_clean_keeps_the_store;
 use crew::Crew;
 use flush_log::disk::Disk;
+use frame_codec::Format;
 use keys::Fault;
 use std::thread::Threads;
 
@@ -75,16 +76,14 @@ impl<D: Disk> Store<D> {
             return Err(Fault::Failed);
         }
         admit_crew(crew)?;
-        match clean(
-            rt,
-            crew,
-            self.alloc,
-            &mut self.disk,
-            &self.settings,
-            &self.log,
-        ) {
+        let format = Format {
+            settings: self.settings,
+            version: self.version,
+        };
+        match clean(rt, crew, self.alloc, &mut self.disk, &format, &self.log) {
             Ok(committed) => {
                 self.log = committed.ends;
+                self.version = committed.version;
                 Ok(self.log.head)
             }
             Err(fault) => {

@@ -2,33 +2,49 @@
 ghost use Rattle.std.specs.Prelude.{◌≡◌, ◌≢◌, ◌⊎◌, [], Ok, Err, IsTrue, IfOk, IfErr, OnOk, true, false};
 ghost use Rattle.keys.specs.Bytes.{Bytes};
 ghost use Rattle.keys.specs.declared.fault.Fault.TheVariants.{NoMemory};
+ghost use Rattle.keys.specs.declared.version.Version as versions;
 ghost use Rattle.mapping.specs.Tree as definitions;
 ghost use Rattle.mapping.specs.TreeInMemory.{AreAllHome, tree_of};
-ghost use Rattle.flush_log.specs.AfterFlush.{after_flush};
+ghost use Rattle.flush_log.specs.AfterFlush.{slot_of, after_flush};
+ghost use Rattle.flush_log.specs.CommitPlan.{next_tail};
 ghost use Rattle.flush_log.specs.Disk.{IsSettled, Kept, LeavesOnly};
-ghost use Rattle.flush_log.specs.FlushText.{flush_text, HasFrames};
+ghost use Rattle.flush_log.specs.FlushText.{version_with, text_of, flush_text, HasFrames};
+ghost use Rattle.flush_log.specs.declared.text.Text.TheVariants as texts;
 ghost use Rattle.recovery.specs.InStep.{IsStore};
 ghost use Rattle.recovery.specs.StoreOfDisk.{store_of_disk};
-ghost use Rattle.engine.specs.Calls.{IsFlush, IsFlushFault};
+ghost use Rattle.engine.specs.Calls.{after_writing, IsOwnText, IsToWrite, IsWriting, IsWritingFault, IsFlushFault};
 ghost use Rattle.engine.specs.Refusal.{is_crew};
 ghost use Rattle.engine.specs.State.{IsSound, store_in};
 
 use crate::refusal::admit_crew;
 use crate::store::Store;
 use crew::Crew;
+use flush_log::laws::an_upgrade_is_a_flush_of_outdated_pages;
 use flush_log::slot::{LogEnds, Slot};
-use flush_log::text::{images, is_all_written};
+use flush_log::text::{Text, images, is_all_written};
 use flush_log::{Commit, Disk};
-use keys::{Fault, Settings};
+use keys::{Fault, Settings, Version};
 use mapping::Tree;
 use recovery::laws::{
-    a_crash_in_a_flush_leaves_the_store_before_or_after, what_was_flushed_is_what_is_read,
+    a_crash_in_a_flush_leaves_the_store_before_or_after,
+    a_crash_in_an_upgrade_leaves_the_store_before_or_after, what_was_flushed_is_what_is_read,
+    what_was_upgraded_is_what_is_read,
 };
 use recovery::table_laws::a_table_marked_as_written_holds_the_flushed_tree;
 use std::alloc::Global;
 use std::thread::Threads;
 
-// Plans the flush of a tree and its log, of which the log lacks something. It looks at no disk.
+// The version of the log that has this text: an upgrade brings the second one.
+fn version_with(text: Text) -> Version
+    ensures { result ≡ version_with text }
+{
+    match text {
+        Text::Flush(version) => version,
+        Text::Upgrade => Version::Two,
+    }
+}
+
+// Plans the commit of a text of a tree, which has something to write, behind the log of its store. It looks at no disk.
 fn plan(
     rt: &(impl Threads + Sync),
     crew: Crew,
@@ -36,23 +52,87 @@ fn plan(
     settings: &Settings,
     tree: &Tree<Global>,
     log: LogEnds,
+    text: Text,
 ) -> Result<Commit, Fault>
     requires home { AreAllHome tree.now }
-    requires store { IsStore settings.now (store_in tree.now log) }
-    requires some { flush_text (tree_of tree.now) ≢ [] }
-    ensures plan { IfOk result (IsFlush settings.now (store_in tree.now log)) }
-    ensures err { IfErr result (λ fault. (fault ≡ NoMemory) ⊎ ((file : Bytes) → after_flush settings.now (store_in tree.now log) file ≡ Err fault)) }
+    requires store { (version : versions.Version) × IsStore settings.now (store_in tree.now log version) }
+    requires some { text_of text (tree_of tree.now) ≢ [] }
+    ensures plan { (version : versions.Version) → IfOk result (IsWriting text settings.now (store_in tree.now log version)) }
+    ensures err { IfErr result (λ fault. (fault ≡ NoMemory)
+        ⊎ (next_tail settings.now (slot_of (store_in tree.now log (version_with text))) (text_of text (tree_of tree.now)) ≡ Err fault)) }
 {
-    let images = images(rt, crew, alloc, tree)?;
+    let images = images(rt, crew, alloc, tree, text)?;
     let slot = Slot {
         ends: log,
         root: tree.root(),
         height: tree.height(),
+        version: version_with(text),
     };
     Commit::plan(alloc, settings, &slot, images)
 }
 
 impl<D: Disk> Store<D> {
+    // Writes this text, by a commit whose slot names its version. It serves a flush and an upgrade.
+    pub(super) fn write(
+        &mut self,
+        rt: &(impl Threads + Sync),
+        crew: Crew,
+        text: Text,
+    ) -> Result<u64, Fault>
+        requires fine { self.old.has_failed ≡ false }
+        requires own { IsOwnText text self.old.store }
+        requires due { IsToWrite text self.old.store }
+        ensures store { IfOk result (λ n. (n ≡ self.new.store.sequence) × ((bytes : Bytes)
+            × (after_writing text self.old.settings self.old.store (D.view self.old.disk).seen ≡ Ok (self.new.store, bytes)))) }
+        ensures version { OnOk result (self.new.store.version ≡ version_with text) }
+        ensures rest { (self.new.settings ≡ self.old.settings) × Kept (D.view self.old.disk) (D.view self.new.disk) }
+
+        // Which fault, and what it leaves.
+        ensures refused { IfErr result (IsWritingFault text self.old.settings self.old.store (D.view self.old.disk).seen
+            (D.failed self.old.disk) (D.failed self.new.disk)) }
+        ensures unchanged { IfErr result (λ fault. fault ≢ Fault.Device → self.new ≡ self.old) }
+        ensures device { IfErr result (λ fault. fault ≡ Fault.Device → (self.new.store ≡ self.old.store) × (self.new.has_failed ≡ true)) }
+        ensures counted { OnOk result ((self.new.has_failed ≡ self.old.has_failed) × (D.failed self.new.disk ≡ D.failed self.old.disk)) }
+
+        // On an honest disk: these bytes, and settled; a crash at any moment of it leaves the store before, or these bytes.
+        ensures bytes { IsTrue (D.view self.old.disk).is_honest → OnOk result (
+            after_writing text self.old.settings self.old.store (D.view self.old.disk).seen ≡ Ok (self.new.store, (D.view self.new.disk).seen)) }
+        ensures settled { IsTrue (D.view self.old.disk).is_honest → OnOk result (IsSettled (D.view self.new.disk)) }
+        ensures crash { IsSettled (D.view self.old.disk) → LeavesOnly (D.view self.old.disk) (D.view self.new.disk)
+            (λ c. (store_of_disk c ≡ store_of_disk (D.view self.old.disk).seen)
+            ⊎ ((now : definitions.Store) × (after_writing text self.old.settings self.old.store (D.view self.old.disk).seen ≡ Ok (now, c)))) }
+
+        ensures frames { OnOk result (HasFrames self.old.settings text self.old.store.tree) }
+        ensures frames_under_way { IfErr result (λ fault. fault ≡ Fault.Device → HasFrames self.old.settings text self.old.store.tree) }
+        ensures sound { IsSound D.view self.old × IsSound D.view self.new }
+    {
+        // Only for the proof.
+        what_was_flushed_is_what_is_read();
+        what_was_upgraded_is_what_is_read();
+        a_crash_in_a_flush_leaves_the_store_before_or_after();
+        a_crash_in_an_upgrade_leaves_the_store_before_or_after();
+        an_upgrade_is_a_flush_of_outdated_pages();
+        a_table_marked_as_written_holds_the_flushed_tree();
+        let commit = plan(
+            rt,
+            crew,
+            self.alloc,
+            &self.settings,
+            &self.tree,
+            self.log,
+            text,
+        )?;
+        let slot = commit.slot();
+        if let Err(failed) = commit.write(&mut self.disk, &self.settings) {
+            self.has_failed = true;
+            return Err(failed.into());
+        }
+        self.tree.flushed();
+        self.log = slot.ends;
+        self.version = slot.version;
+        Ok(self.log.sequence)
+    }
+
     /// Writes what the log lacks, so that it has all that the store holds, and returns the sequence number now. Where there is
     /// nothing to write, that is all: no memory is taken, and the disk is not called.
     ///
@@ -64,7 +144,7 @@ impl<D: Disk> Store<D> {
         // Store and number, whatever the disk does.
         ensures store { IfOk result (λ n. (n ≡ self.new.store.sequence) × ((bytes : Bytes)
             × (after_flush self.old.settings self.old.store (D.view self.old.disk).seen ≡ Ok (self.new.store, bytes)))) }
-        ensures nothing { self.old.has_failed ≡ false → IsTrue (is_crew crew) → flush_text self.old.store.tree ≡ [] →
+        ensures nothing { self.old.has_failed ≡ false → IsTrue (is_crew crew) → flush_text self.old.store.version self.old.store.tree ≡ [] →
             (result ≡ Ok self.old.store.sequence) × (self.new ≡ self.old) }
         ensures rest { (self.new.settings ≡ self.old.settings) × Kept (D.view self.old.disk) (D.view self.new.disk) }
 
@@ -80,7 +160,7 @@ impl<D: Disk> Store<D> {
         // On an honest disk: these bytes, and settled; a crash at any moment of it leaves the store before, or these bytes.
         ensures bytes { IsTrue (D.view self.old.disk).is_honest → OnOk result (
             after_flush self.old.settings self.old.store (D.view self.old.disk).seen ≡ Ok (self.new.store, (D.view self.new.disk).seen)) }
-        ensures settled { IsTrue (D.view self.old.disk).is_honest → flush_text self.old.store.tree ≢ [] →
+        ensures settled { IsTrue (D.view self.old.disk).is_honest → flush_text self.old.store.version self.old.store.tree ≢ [] →
             OnOk result (IsSettled (D.view self.new.disk)) }
         ensures crash { self.old.has_failed ≡ false → IsSettled (D.view self.old.disk) → LeavesOnly (D.view self.old.disk) (D.view self.new.disk)
             (λ c. (store_of_disk c ≡ store_of_disk (D.view self.old.disk).seen)
@@ -88,14 +168,10 @@ impl<D: Disk> Store<D> {
 
         // The frames are such as a store may have, also where a call of the disk failed: the bytes of the flush under way stand for a store.
         // The store was sound, and is so again.
-        ensures frames { OnOk result (HasFrames self.old.settings self.old.store.tree) }
-        ensures frames_under_way { IfErr result (λ fault. fault ≡ Fault.Device → HasFrames self.old.settings self.old.store.tree) }
+        ensures frames { OnOk result (HasFrames self.old.settings (texts.Flush self.old.store.version) self.old.store.tree) }
+        ensures frames_under_way { IfErr result (λ fault. fault ≡ Fault.Device → HasFrames self.old.settings (texts.Flush self.old.store.version) self.old.store.tree) }
         ensures sound { IsSound D.view self.old × IsSound D.view self.new }
     {
-        // Only for the proof.
-        what_was_flushed_is_what_is_read();
-        a_crash_in_a_flush_leaves_the_store_before_or_after();
-        a_table_marked_as_written_holds_the_flushed_tree();
         if self.has_failed {
             return Err(Fault::Failed);
         }
@@ -103,14 +179,6 @@ impl<D: Disk> Store<D> {
         if is_all_written(&self.tree) {
             return Ok(self.log.sequence);
         }
-        let commit = plan(rt, crew, self.alloc, &self.settings, &self.tree, self.log)?;
-        let slot = commit.slot();
-        if let Err(failed) = commit.write(&mut self.disk, &self.settings) {
-            self.has_failed = true;
-            return Err(failed.into());
-        }
-        self.tree.flushed();
-        self.log = slot.ends;
-        Ok(self.log.sequence)
+        self.write(rt, crew, Text::Flush(self.version))
     }
 }

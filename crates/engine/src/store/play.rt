@@ -46,7 +46,7 @@ impl<D: Disk> Store<D> {
         ensures same { IsTrue (D.view self.old.disk).is_honest →
             IfErr result (λ fault. fault ≢ Fault.Device → Same (D.view self.old.disk) (D.view self.new.disk)) }
         ensures device { IfErr result (λ fault. fault ≡ Fault.Device → (self.new.has_failed ≡ true)
-            × HasWords (batching self.old.settings) self.old.settings self.old.store.tree (step_of step.entry)) }
+            × HasWords (batching self.old.settings) self.old.settings self.old.store (step_of step.entry)) }
         ensures counted { OnOk result ((self.new.has_failed ≡ self.old.has_failed) × (D.failed self.new.disk ≡ D.failed self.old.disk)) }
 
         // On an honest disk.
@@ -63,12 +63,13 @@ impl<D: Disk> Store<D> {
             Step::Batch(commands) => Ok(Answer::Replies(self.batch(rt, crew, gate, commands)?)),
             Step::Flush => Ok(Answer::Flushed(self.flush(rt, crew)?)),
             Step::Clean => Ok(Answer::Cleaned(self.clean(rt, crew)?)),
+            Step::Upgrade => Ok(Answer::Upgraded(self.upgrade(rt, crew)?)),
         }
     }
 
     /// Does the steps one after the other, up to the first that is refused, and returns the answer to each at its place. Where
-    /// one is refused, its place is told, with the answers to those before it and the fault, which are those that `batch`, `flush` and
-    /// `clean` give; then the store is as those before it left it, but that it has failed after `Fault::Device`. Where there is
+    /// one is refused, its place is told, with the answers to those before it and the fault, which are those that `batch`, `flush`,
+    /// `clean` and `upgrade` give; then the store is as those before it left it, but that it has failed after `Fault::Device`. Where there is
     /// no memory for the list of answers, that is place 0 with `Fault::NoMemory`. No steps are always done, whatever the crew.
     pub fn play(
         &mut self,

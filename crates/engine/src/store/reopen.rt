@@ -72,6 +72,7 @@ impl<D: Disk> Store<D> {
                     alloc,
                     tree: found.tree,
                     log: slot.ends,
+                    version: slot.version,
                     disk,
                     has_failed: false,
                 })

@@ -20,7 +20,7 @@ returns-clause-chosen c found live begins =
     let pages = c.args.pages in (
       sym (c.in_default.ensures Head found live.live),
       head-text found c.in_ok-images_in.field-0.items (clean_text c.args.head found) (head-first pages.first c.args.head found live.live.first (sym c.unwrap_or.ensures ∙ c.if-unwrap_or-head.false))
-          (c.in_ok-images_in.ensures.frames ∙ kept-text c.args.settings.now pages found c.requires c.in_ok-images_in.ensures.ordered live),
+          (c.in_ok-images_in.ensures.frames ∙ kept-text c.args.format.now pages found c.requires c.in_ok-images_in.ensures.ordered live),
     )
 
 pub returns-clause-some : goal.returns-clause-some

@@ -5,26 +5,26 @@ use Rattle.cleaner.proofs.ChooseLemmas.{image-none, image-more, image-all, image
 use Rattle.cleaner.proofs.choose.image_of.Goals as goal
 
 pub loop-rest-init : goal.loop-rest-init
-loop-rest-init c = image-none c.args.settings.now c.args.frames.now c.new-image.result c.new-image.ensures
+loop-rest-init c = image-none c.args.format.now c.args.frames.now c.new-image.result c.new-image.ensures
 
 pub returns-in_default : goal.returns-in_default
 returns-in_default c =
     let told = c.skim_frame.ensures in
-    image-other c.args.settings.now c.args.frames.now c.loop-rest.image c.new.result c.loop-rest.rest.now c.loop-rest.invariant (tail_by c.loop-rest.rest.now false (sym c.is_empty.ensures ∙ c.loop-rest-test.true))
-    (told-none c.args.settings.now c.loop-rest.rest.now c.skim_frame.result c.in_default.is (record { found = told.found; within = told.within })) c.new.ensures
+    image-other c.args.format.now c.args.frames.now c.loop-rest.image c.new.result c.loop-rest.rest.now c.loop-rest.invariant (tail_by c.loop-rest.rest.now false (sym c.is_empty.ensures ∙ c.loop-rest-test.true))
+    (told-none c.args.format.now c.loop-rest.rest.now c.skim_frame.result c.in_default.is (record { found = told.found; within = told.within })) c.new.ensures
 
 pub loop-rest-smaller : goal.loop-rest-smaller
 loop-rest-smaller c =
     let told = c.skim_frame.ensures in
-    less-left c.args.settings.now c.loop-rest.rest.now c.in-Some.skimmed c.in-Some.skimmed.size refl
-    (told-some c.args.settings.now c.loop-rest.rest.now c.skim_frame.result c.in-Some.skimmed c.in-Some.is (record { found = told.found; within = told.within }))
+    less-left c.args.format.now c.loop-rest.rest.now c.in-Some.skimmed c.in-Some.skimmed.size refl
+    (told-some c.args.format.now c.loop-rest.rest.now c.skim_frame.result c.in-Some.skimmed c.in-Some.is (record { found = told.found; within = told.within }))
 
 pub loop-rest-preserved : goal.loop-rest-preserved
 loop-rest-preserved c =
     let told = c.skim_frame.ensures in
-    image-more c.args.settings.now c.args.frames.now c.loop-rest.image c.push.new.self c.loop-rest.rest.now c.in-Some.skimmed c.in-Some.skimmed.size c.loop-rest.invariant (tail_by c.loop-rest.rest.now false (sym c.is_empty.ensures ∙ c.loop-rest-test.true))
-    (told-some c.args.settings.now c.loop-rest.rest.now c.skim_frame.result c.in-Some.skimmed c.in-Some.is (record { found = told.found; within = told.within }))
+    image-more c.args.format.now c.args.frames.now c.loop-rest.image c.push.new.self c.loop-rest.rest.now c.in-Some.skimmed c.in-Some.skimmed.size c.loop-rest.invariant (tail_by c.loop-rest.rest.now false (sym c.is_empty.ensures ∙ c.loop-rest-test.true))
+    (told-some c.args.format.now c.loop-rest.rest.now c.skim_frame.result c.in-Some.skimmed c.in-Some.is (record { found = told.found; within = told.within }))
     refl c.in_ok-push.ensures.ok
 
 pub returns : goal.returns
-returns c = image-all c.args.settings.now c.args.frames.now c.loop-rest.image c.loop-rest.rest.now c.loop-rest.invariant (tail_by c.loop-rest.rest.now true (sym c.is_empty.ensures ∙ c.loop-rest-test.false))
+returns c = image-all c.args.format.now c.args.frames.now c.loop-rest.image c.loop-rest.rest.now c.loop-rest.invariant (tail_by c.loop-rest.rest.now true (sym c.is_empty.ensures ∙ c.loop-rest-test.false))

@@ -4,7 +4,7 @@ use Rattle.cleaner.proofs.choose.image_of.Given as goal
 
 -- the image of the frames in front of the bytes that are left
 abbrev pub invariant-loop-rest : goal.invariant-loop-rest
-invariant-loop-rest l = IsImageUpto l.settings l.frames l.image l.rest
+invariant-loop-rest l = IsImageUpto l.format l.frames l.image l.rest
 
 abbrev pub decreases-loop-rest : goal.decreases-loop-rest
 decreases-loop-rest l = length l.rest

@@ -6,23 +6,23 @@ use Rattle.cleaner.proofs.clean.read_text.Goals as goal
 
 pub returns-in_err-pages-clause-read : goal.returns-in_err-pages-clause-read
 returns-in_err-pages-clause-read g c file is =
-    let s = c.args.settings.now in
+    let f = c.args.format.now in
     let t = c.args.ends.now in
     let fault = c.in_err-pages.field-0.0 in
     let (now, bytes, front, told) = c.in_err-pages.ensures.read file is in
-    (now, bytes, front, handed_on c.from_residual.result _ _ fault c.from_residual.ensures.1 (⊎_elim (λ wrong. inl (log-refused s now t c.requires.more fault wrong)) (λ late. inr late) told))
+    (now, bytes, front, handed_on c.from_residual.result _ _ fault c.from_residual.ensures.1 (⊎_elim (λ wrong. inl (log-refused f now t c.requires.more fault wrong)) (λ late. inr late) told))
 
 pub returns-clause-read : goal.returns-clause-read
 returns-clause-read g c file is =
-    let s = c.args.settings.now in
+    let f = c.args.format.now in
     let t = c.args.ends.now in
     let failed = g.D.Disk.failed in
     let (now, bytes, front, told) = c.in_ok-pages.ensures.read file is in
     let (found, read, gathered) = told in
-    let begins = log-begins s t c.requires.checked c.requires.ends now found c.requires.more read in (
+    let begins = log-begins f t c.requires.checked c.requires.ends now found c.requires.more read in (
       now,
       bytes,
       front,
-      text-of_choice (λ (images : Vec Image Global). images.items) s t now c.requires.more (failed c.args.disk.now) (failed c.read_log.new.disk) found read c.choose.result
+      text-of_choice (λ (images : Vec Image Global). images.items) f t now c.requires.more (failed c.args.disk.now) (failed c.read_log.new.disk) found read c.choose.result
           (c.choose.ensures.chosen found gathered begins) (c.choose.ensures.some found gathered begins),
     )

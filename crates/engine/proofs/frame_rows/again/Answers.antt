@@ -7,6 +7,6 @@ use Rattle.engine.proofs.frame_rows.again.Goals as goal
 
 pub write_frame-requires : goal.write_frame-requires
 write_frame-requires c =
-    let (read, within) = read_where-gave (is_frame c.args.settings.now) (read_any c.args.bytes.now) (frame_of c.in-Some.frame) (drop c.in-Some.field-0-1 c.args.bytes.now)
+    let (read, within) = read_where-gave (is_frame c.args.format.now) (read_any c.args.bytes.now) (frame_of c.in-Some.frame) (drop c.in-Some.field-0-1 c.args.bytes.now)
     (rw c.in-Some.is at c.in_ok-frame.ensures.found) in
-    (c.args.settings.now, c.requires, within)
+    (c.args.format.now, c.requires, within)

@@ -19,4 +19,4 @@ put_all-requires g c = subst (λ (hs : List HeldLog). AreRisingPids (keys_of c.a
 pub returns-in_ok-put_all-in-Ok-clause-ok : goal.returns-in_ok-put_all-in-Ok-clause-ok
 returns-in_ok-put_all-in-Ok-clause-ok g c =
     c.in_ok-put_all-in-Ok.ensures
-    ∙ ap (λ (ps : List (ℕ × PageOfKind)). filled c.args.table.now ps) (pages-made c.args.work.now.settings c.in-Ok.made.items (map held_log c.args.logs.items) c.in-Ok.ensures.origin c.in-Ok.ensures.made)
+    ∙ ap (λ (ps : List (ℕ × PageOfKind)). filled c.args.table.now ps) (pages-made c.args.work.now.format c.in-Ok.made.items (map held_log c.args.logs.items) c.in-Ok.ensures.origin c.in-Ok.ensures.made)

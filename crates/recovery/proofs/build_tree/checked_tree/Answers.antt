@@ -15,17 +15,18 @@ pub returns-in-Some-clause-err : goal.returns-in-Some-clause-err
 returns-in-Some-clause-err g c found h =
     inr (
       c.in-Some.finding,
-      found_first _ (broken_in (frames_in found)) (finding c.args.settings.now (tree_by_log c.args.slot.now (frames_in found))) c.in-Some.finding refl (c.in-Some.ensures Every found h.live),
+      found_first _ (broken_in (frames_in found)) (finding c.args.format.now.settings (tree_by_log c.args.slot.now (frames_in found))) c.in-Some.finding refl (c.in-Some.ensures Every found h.live),
       refl,
     )
 
 pub returns-in_err-verify-clause-err : goal.returns-in_err-verify-clause-err
 returns-in_err-verify-clause-err g c found h =
-    let s = c.args.settings.now in
+    let format = c.args.format.now in
+    let s = format.settings in
     let t = c.args.slot.now in
     let fs = frames_in found in
     let none : broken_in fs ≡ None = sym (c.in_default.ensures Every found h.live) in
-    let built = c.new-tree.ensures ∙ ap (λ (u : Slot). slot_tree c.in_ok-table.table u) c.slot.view_is ∙ built-table t c.in_ok-table.table _ _ c.in_ok-table.ensures.ok (pages-gathered s c.args.gathering found c.requires c.table_of.ensures.ordered h) in
+    let built = c.new-tree.ensures ∙ ap (λ (u : Slot). slot_tree c.in_ok-table.table u) c.slot.view_is ∙ built-table t c.in_ok-table.table _ _ c.in_ok-table.ensures.ok (pages-gathered format c.args.gathering found c.requires c.table_of.ensures.ordered h) in
     let fault = c.in_err-verify.field-0.0 in
     let seen = finding s (tree_of c.new-tree.result) in
     found_leaves c.from_residual-in_err-verify.result (wrong_in s t fs) fault c.from_residual-in_err-verify.ensures.1
@@ -33,11 +34,12 @@ returns-in_err-verify-clause-err g c found h =
 
 pub returns-clause-ok : goal.returns-clause-ok
 returns-clause-ok g c found h =
-    let s = c.args.settings.now in
+    let format = c.args.format.now in
+    let s = format.settings in
     let t = c.args.slot.now in
     let fs = frames_in found in
     let broken : broken_in fs ≡ None = sym (c.in_default.ensures Every found h.live) in
-    let built = c.new-tree.ensures ∙ ap (λ (u : Slot). slot_tree c.in_ok-table.table u) c.slot.view_is ∙ built-table t c.in_ok-table.table _ _ c.in_ok-table.ensures.ok (pages-gathered s c.args.gathering found c.requires c.table_of.ensures.ordered h) in
+    let built = c.new-tree.ensures ∙ ap (λ (u : Slot). slot_tree c.in_ok-table.table u) c.slot.view_is ∙ built-table t c.in_ok-table.table _ _ c.in_ok-table.ensures.ok (pages-gathered format c.args.gathering found c.requires c.table_of.ensures.ordered h) in
     let none = c.in_ok-verify.ensures.sound in
     let marked = marked-built s t fs c.new-tree.result built c.requires none c.flushed.new.self c.flushed.ensures in
     (sym (built-wrong s t fs c.new-tree.result built broken) ∙ none, marked.0, marked.1)

@@ -9,22 +9,22 @@ use Rattle.recovery.proofs.build_tree.table_of.Goals as goal
 
 pub loop-entry-init : goal.loop-entry-init
 loop-entry-init g c =
-    aside-none c.args.work.now.settings c.new-table.result (map held_log c.new-logs.result.items) c.into_iter-entry-iterator.result c.args.by_pid.entries c.new-table.ensures
+    aside-none c.args.work.now.format c.new-table.result (map held_log c.new-logs.result.items) c.into_iter-entry-iterator.result c.args.by_pid.entries c.new-table.ensures
     (ap (λ (ls : List PageLog). map held_log ls) c.new-logs.ensures.items) c.into_iter-entry-iterator.ensures.into_iter_gives.0 c.len-rising.ensures.ordered
 
 pub loop-entry-preserved-then-is_empty : goal.loop-entry-preserved-then-is_empty
 loop-entry-preserved-then-is_empty g c =
-    aside-passed c.args.work.now.settings c.loop-entry.table (map held_log c.loop-entry.logs.items) c.loop-entry.entry-iterator c.next.new.self c.args.by_pid.entries c.loop-entry.invariant c.in-Some.entry c.in-Some.ensures.steps
+    aside-passed c.args.work.now.format c.loop-entry.table (map held_log c.loop-entry.logs.items) c.loop-entry.entry-iterator c.next.new.self c.args.by_pid.entries c.loop-entry.invariant c.in-Some.entry c.in-Some.ensures.steps
     (empty_by c.in-Some.entry.1.frames.items c.in-Some.entry.1.frames.len (sym c.in-Some.entry.1.frames.ok.0) (sym c.is_empty.ensures ∙ c.if-is_empty.true))
 
 pub loop-entry-preserved : goal.loop-entry-preserved
 loop-entry-preserved g c =
-    aside-more c.args.work.now.settings c.loop-entry.table (map held_log c.loop-entry.logs.items) c.loop-entry.entry-iterator c.next.new.self c.args.by_pid.entries c.loop-entry.invariant c.in-Some.entry c.in-Some.ensures.steps
+    aside-more c.args.work.now.format c.loop-entry.table (map held_log c.loop-entry.logs.items) c.loop-entry.entry-iterator c.next.new.self c.args.by_pid.entries c.loop-entry.invariant c.in-Some.entry c.in-Some.ensures.steps
     (map held_log c.push.new.self.items) (put-aside _ _ _ c.in-Some.entry c.in_ok-push.ensures.items refl)
 
 pub build_pages-requires-after_bounds : goal.build_pages-requires-after_bounds
 build_pages-requires-after_bounds g c κs within =
-    let s = c.args.work.now.settings in
+    let s = c.args.work.now.format in
     let t = c.loop-entry.table in
     let now : List HeldLog = map held_log c.push.new.self.items in
     let more : AreAside s t now c.next.new.self c.args.by_pid.entries =
@@ -34,7 +34,7 @@ build_pages-requires-after_bounds g c κs within =
 
 pub loop-entry-preserved-in-Continue-branch-2 : goal.loop-entry-preserved-in-Continue-branch-2
 loop-entry-preserved-in-Continue-branch-2 g c =
-    let s = c.args.work.now.settings in
+    let s = c.args.work.now.format in
     let t = c.loop-entry.table in
     let now : List HeldLog = map held_log c.push.new.self.items in
     let more : AreAside s t now c.next.new.self c.args.by_pid.entries =

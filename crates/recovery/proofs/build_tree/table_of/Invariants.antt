@@ -5,4 +5,4 @@ use Rattle.recovery.proofs.build_tree.table_of.Given as goal
 
 -- the table, the logs that are put aside, and the pages that are left are all
 abbrev pub invariant-loop-entry : goal.invariant-loop-entry
-invariant-loop-entry g l = AreAside l.work.settings l.table (map held_log l.logs.items) l.entry-iterator l.fn.by_pid.entries
+invariant-loop-entry g l = AreAside l.work.format l.table (map held_log l.logs.items) l.entry-iterator l.fn.by_pid.entries

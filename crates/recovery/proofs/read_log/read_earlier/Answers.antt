@@ -9,7 +9,8 @@ use Rattle.recovery.proofs.read_log.read_earlier.Goals as goal
 
 pub loop-first-init : goal.loop-first-init
 loop-first-init g c =
-    let s = c.args.settings.now in
+    let format = c.args.format.now in
+    let s = format.settings in
     let t = c.args.ends.now in
     let start = g.D.Disk.view c.args.disk.now in
     let last = (is_last s t c.requires.checked c.requires.ends).from in
@@ -20,7 +21,7 @@ loop-first-init g c =
       kept = kept_self start;
       same = λ honest. same_self start;
       counted = refl;
-      read = λ w file is none. (file, none-read (IsSoFar w c.args.so_far.now.gathering c.args.so_far.now.fault) start s t.head (t.head - t.head) file (omega arith) is none);
+      read = λ w file is none. (file, none-read (IsSoFar w c.args.so_far.now.gathering c.args.so_far.now.fault) start format t.head (t.head - t.head) file (omega arith) is none);
     }
 
 pub loop-first-preserved : goal.loop-first-preserved
@@ -29,7 +30,8 @@ loop-first-preserved g c =
     let start = disk.view c.args.disk.now in
     let old = disk.view c.loop-first.disk in
     let new = disk.view c.read_whole.new.disk in
-    let s = c.args.settings.now in
+    let format = c.args.format.now in
+    let s = format.settings in
     let t = c.args.ends.now in
     let n = c.loop-first.first in
     let count = c.min-count.result in
@@ -50,18 +52,19 @@ loop-first-preserved g c =
           let (now, upto) = so_far.read w file is none in
           let (then, bytes, front, told) = c.in_ok-segments.ensures.read now t.head upto.bytes from (omega (arith, free, few, less, last, from)) in (
             then,
-            round-more (IsSoFar w c.loop-first.so_far.gathering c.loop-first.so_far.fault) (IsSoFar w c.take.new.self.gathering c.take.new.self.fault) old new s t.head (n - t.head) (n + count - t.head) c.in_ok-segments.segments.items file now then
+            round-more (IsSoFar w c.loop-first.so_far.gathering c.loop-first.so_far.fault) (IsSoFar w c.take.new.self.gathering c.take.new.self.fault) old new format t.head (n - t.head) (n + count - t.head) c.in_ok-segments.segments.items file now then
                 upto bytes front told (c.in_ok-take.ensures.ok w),
           );
     }
 
 pub returns-clause-read : goal.returns-clause-read
 returns-clause-read g c w file is none =
-    let s = c.args.settings.now in
+    let format = c.args.format.now in
+    let s = format.settings in
     let t = c.args.ends.now in
     let last = c.last_segment-last.ensures in
     let upto = c.loop-first.invariant.upto in
     let over = c.loop-first-test.false in
     let all : c.loop-first.first - t.head ≡ last_segment s t.tail - t.head = omega (arith, last, upto, over) in
     let (now, read) = c.loop-first.invariant.read w file is none in
-    (now, read.bytes, read.front, subst (λ (k : ℕ). IsSoFar w c.loop-first.so_far.gathering c.loop-first.so_far.fault (read_earlier s now t.head k)) all read.found)
+    (now, read.bytes, read.front, subst (λ (k : ℕ). IsSoFar w c.loop-first.so_far.gathering c.loop-first.so_far.fault (read_earlier format now t.head k)) all read.found)

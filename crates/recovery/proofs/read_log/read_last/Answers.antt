@@ -11,7 +11,8 @@ use Rattle.recovery.proofs.read_log.read_last.Goals as goal
 
 pub read-requires : goal.read-requires
 read-requires g c =
-    let s = c.args.settings.now in
+    let format = c.args.format.now in
+    let s = format.settings in
     let least = (are_sized s c.requires.checked).least_count in
     let room = place-within s c.last_segment-number.result (omega (arith, least)) in
     let place = c.place_of_segment.ensures in
@@ -22,19 +23,20 @@ read-requires g c =
 
 pub returns-clause-read : goal.returns-clause-read
 returns-clause-read g c file is =
-    let s = c.args.settings.now in
+    let format = c.args.format.now in
+    let s = format.settings in
     let t = c.args.ends.now in
     let n = c.last_segment-number.result in
     let buf = c.read.new.buf in
     let now = overlay file (place_of_segment s n) buf in
-    let told : Told = read_earlier s file t.head (last_segment s t.tail - t.head) in
+    let told : Told = read_earlier format file t.head (last_segment s t.tail - t.head) in
     let used = c.bytes_in_use.ensures.within in
     let enough = c.requires.room in
     let fits : c.bytes_in_use.result ≤ length c.args.buf.now = omega (arith, used, enough) in
-    let (front, whole) = read-last s t file buf (g.D.Disk.view c.args.disk.now) n c.requires.checked c.requires.within c.requires.ends c.last_segment-number.ensures
+    let (front, whole) = read-last format t file buf (g.D.Disk.view c.args.disk.now) n c.requires.checked c.requires.within c.requires.ends c.last_segment-number.ensures
     (c.read.auto.buf ∙ length-take-le c.bytes_in_use.result c.args.buf.now fits ∙ c.bytes_in_use.ensures.same) is in (
       now,
       subst (λ (p : ℕ). IsReadOf (g.D.Disk.view c.read.new.disk) (overlay file p buf)) c.place_of_segment.ensures (c.in_ok-read.ensures.bytes file is),
       front,
-      one-scanned s told c.in_ok-segments.segments.items c.push_reserved.new.self.items _ c.push_reserved.ensures.items c.in_ok-segments.ensures.items ∙ whole,
+      one-scanned format told c.in_ok-segments.segments.items c.push_reserved.new.self.items _ c.push_reserved.ensures.items c.in_ok-segments.ensures.items ∙ whole,
     )

@@ -71,12 +71,12 @@ returns-in_err-segments-clause-uncounted g c =
 -- all were read
 pub returns-clause-read : goal.returns-clause-read
 returns-clause-read g c w file is none =
-    let s = c.args.settings.now in
+    let format = c.args.format.now in
     let t = c.args.ends.now in
     let (now, bytes, front, told) = c.in_ok-read_earlier.ensures.read w file is none in
     let (then, got, stays, all) = c.in_ok-segments.ensures.read now bytes in
-    let earlier : Told = read_earlier s now t.head (last_segment s t.tail - t.head) in
-    (then, got, stays ∙ front, last-taken c.take.result (IsSoFar w c.take.new.self.gathering c.take.new.self.fault) _ (log_between s then t.head t.tail) all (c.take.ensures.ok w earlier told))
+    let earlier : Told = read_earlier format now t.head (last_segment format.settings t.tail - t.head) in
+    (then, got, stays ∙ front, last-taken c.take.result (IsSoFar w c.take.new.self.gathering c.take.new.self.fault) _ (log_between format then t.head t.tail) all (c.take.ensures.ok w earlier told))
 
 pub returns-clause-err : goal.returns-clause-err
 returns-clause-err g c = let failed = g.D.Disk.failed in late_by_memory c.take.result (failed c.args.disk.now) (failed c.read_last.new.disk) c.take.ensures.err

@@ -13,7 +13,7 @@ use Rattle.recovery.proofs.read_log.read_whole.Goals as goal
 
 pub read-requires : goal.read-requires
 read-requires g c =
-    let s = c.args.settings.now in
+    let s = c.args.format.now.settings in
     let least = (are_sized s c.requires.checked).least_count in
     let room = place-within s c.loop-number.number (omega (arith, least)) in
     let place = c.place_of_segment.ensures in
@@ -34,7 +34,8 @@ loop-number-preserved g c =
     let start = disk.view c.args.disk.now in
     let old = disk.view c.loop-number.disk in
     let new = disk.view c.read.new.disk in
-    let s = c.args.settings.now in
+    let format = c.args.format.now in
+    let s = format.settings in
     let n = c.loop-number.number in
     let so_far = c.loop-number.invariant in
     let read = c.in_ok-read.ensures in
@@ -61,7 +62,7 @@ loop-number-preserved g c =
           let (now, upto) = so_far.read file head is low high in
           let at : n ≡ head + (n - head) = omega (arith, low, from) in (
             overlay now (place_of_segment s n) c.read.new.buf,
-            behind-next s head (c.args.first - head) (n - head) (n + 1 - head) n c.loop-number.segments.items c.push_reserved.new.self.items _ file now c.read.new.buf old new c.requires.checked size
+            behind-next format head (c.args.first - head) (n - head) (n + 1 - head) n c.loop-number.segments.items c.push_reserved.new.self.items _ file now c.read.new.buf old new c.requires.checked size
                 refl c.push_reserved.ensures.items at (omega (arith, low, from)) (omega (arith, low, from, less, high)) (omega (arith, same, front)) upto
                 (subst (λ (p : ℕ). IsReadOf new (overlay now p c.read.new.buf)) place (read.bytes now upto.bytes)),
           );
@@ -69,7 +70,7 @@ loop-number-preserved g c =
 
 pub returns-clause-read : goal.returns-clause-read
 returns-clause-read g c file head is low high =
-    let s = c.args.settings.now in
+    let format = c.args.format.now in
     let most = c.loop-number.auto.number-end in
     let over = c.loop-number-test.false in
     let (now, upto) = c.loop-number.invariant.read file head is low high in
@@ -78,5 +79,5 @@ returns-clause-read g c file head is low high =
       now,
       upto.bytes,
       upto.front,
-      behind-all (g.D.Disk.view c.loop-number.disk) s head (c.args.first - head) (c.loop-number.number - head) _ c.loop-number.segments.items file now all upto,
+      behind-all (g.D.Disk.view c.loop-number.disk) format head (c.args.first - head) (c.loop-number.number - head) _ c.loop-number.segments.items file now all upto,
     )

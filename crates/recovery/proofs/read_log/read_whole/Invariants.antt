@@ -13,13 +13,13 @@ abbrev pub invariant-loop-number : goal.invariant-loop-number
 invariant-loop-number g l =
     let disk = g.D.Disk in
     record {
-      rest : length l.rest + (l.number - l.first) * l.settings.seg_size ≡ l.count * l.settings.seg_size;
+      rest : length l.rest + (l.number - l.first) * l.format.settings.seg_size ≡ l.count * l.format.settings.seg_size;
       read_so_far : length l.segments.items ≡ l.number - l.first;
       room : vec_capacity l.segments ≡ l.count;
       short : All (λ h. length (held_segment h).bytes < 2 ^ 32) l.segments.items;
       kept : Kept (disk.view l.fn.disk) (disk.view l.disk);
       same : IsTrue (disk.view l.fn.disk).is_honest → Same (disk.view l.fn.disk) (disk.view l.disk);
       counted : disk.failed l.disk ≡ disk.failed l.fn.disk;
-      read : (file : Bytes) (head : ℕ) → IsReadOf (disk.view l.fn.disk) file → head ≤ l.first → l.first + l.count ≤ head + l.settings.segments →
-          (now : Bytes) × AreReadBehind (disk.view l.disk) l.settings head (l.first - head) (l.number - head) l.segments.items file now;
+      read : (file : Bytes) (head : ℕ) → IsReadOf (disk.view l.fn.disk) file → head ≤ l.first → l.first + l.count ≤ head + l.format.settings.segments →
+          (now : Bytes) × AreReadBehind (disk.view l.disk) l.format head (l.first - head) (l.number - head) l.segments.items file now;
     }

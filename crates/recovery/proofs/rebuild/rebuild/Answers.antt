@@ -6,60 +6,60 @@ use Rattle.recovery.proofs.RebuildLemmas.{IsReadAt, less_behind, upto-first, upt
 use Rattle.recovery.proofs.rebuild.rebuild.Goals as goal
 
 pub returns-in_default : goal.returns-in_default
-returns-in_default c = told-none c.args.settings.now c.args.frames.now (rw c.in_default.is at c.in_ok-base.ensures.found)
+returns-in_default c = told-none c.args.format.now c.args.frames.now (rw c.in_default.is at c.in_ok-base.ensures.found)
 
 pub returns-in_default-of_base : goal.returns-in_default-of_base
 returns-in_default-of_base c =
-    let at : IsReadAt c.args.settings.now c.args.frames.now (frame_of c.in-Some.base) c.in-Some.size = record {
+    let at : IsReadAt c.args.format.now c.args.frames.now (frame_of c.in-Some.base) c.in-Some.size = record {
       found = rw c.in-Some.is at c.in_ok-base.ensures.found;
       long = rw c.in-Some.is at c.in_ok-base.ensures.size;
       within = rw c.in-Some.is at c.in_ok-base.ensures.within;
     } in
-    told-no_base c.args.settings.now c.args.frames.now (frame_of c.in-Some.base) c.in-Some.size at c.in_default-of_base.ensures
+    told-no_base c.args.format.now c.args.frames.now (frame_of c.in-Some.base) c.in-Some.size at c.in_default-of_base.ensures
 
 pub loop-rest-init : goal.loop-rest-init
 loop-rest-init c =
-    let at : IsReadAt c.args.settings.now c.args.frames.now (frame_of c.in-Some.base) c.in-Some.size = record {
+    let at : IsReadAt c.args.format.now c.args.frames.now (frame_of c.in-Some.base) c.in-Some.size = record {
       found = rw c.in-Some.is at c.in_ok-base.ensures.found;
       long = rw c.in-Some.is at c.in_ok-base.ensures.size;
       within = rw c.in-Some.is at c.in_ok-base.ensures.within;
     } in
-    upto-first c.args.settings.now c.args.frames.now (frame_of c.in-Some.base) c.in-Some.size (page_of_parts c.in-Some-of_base.begun) at c.in-Some-of_base.ensures
+    upto-first c.args.format.now c.args.frames.now (frame_of c.in-Some.base) c.in-Some.size (page_of_parts c.in-Some-of_base.begun) at c.in-Some-of_base.ensures
 
 pub returns-in_default-2 : goal.returns-in_default-2
-returns-in_default-2 c = told-other c.args.settings.now c.args.frames.now c.loop-rest.rest.now (page_of_parts c.loop-rest.page) c.loop-rest.invariant (tail_by c.loop-rest.rest.now false (sym c.is_empty.ensures ∙ c.loop-rest-test.true)) (rw c.in_default-2.is at c.in_ok-run.ensures.found)
+returns-in_default-2 c = told-other c.args.format.now c.args.frames.now c.loop-rest.rest.now (page_of_parts c.loop-rest.page) c.loop-rest.invariant (tail_by c.loop-rest.rest.now false (sym c.is_empty.ensures ∙ c.loop-rest-test.true)) (rw c.in_default-2.is at c.in_ok-run.ensures.found)
 
 pub returns-in_default-3 : goal.returns-in_default-3
 returns-in_default-3 c =
-    let at : IsReadAt c.args.settings.now c.loop-rest.rest.now (frame_of c.in-Some-2.run') c.in-Some-2.size = record {
+    let at : IsReadAt c.args.format.now c.loop-rest.rest.now (frame_of c.in-Some-2.run') c.in-Some-2.size = record {
       found = rw c.in-Some-2.is at c.in_ok-run.ensures.found;
       long = rw c.in-Some-2.is at c.in_ok-run.ensures.size;
       within = rw c.in-Some-2.is at c.in_ok-run.ensures.within;
     } in
-    told-unfit c.args.settings.now c.args.frames.now c.loop-rest.rest.now (page_of_parts c.loop-rest.page) (frame_of c.in-Some-2.run') c.in-Some-2.size c.loop-rest.invariant at
+    told-unfit c.args.format.now c.args.frames.now c.loop-rest.rest.now (page_of_parts c.loop-rest.page) (frame_of c.in-Some-2.run') c.in-Some-2.size c.loop-rest.invariant at
     (rw c.in_default-3.is at c.in_ok-newer.ensures)
 
 pub loop-rest-smaller : goal.loop-rest-smaller
 loop-rest-smaller c =
-    let at : IsReadAt c.args.settings.now c.loop-rest.rest.now (frame_of c.in-Some-2.run') c.in-Some-2.size = record {
+    let at : IsReadAt c.args.format.now c.loop-rest.rest.now (frame_of c.in-Some-2.run') c.in-Some-2.size = record {
       found = rw c.in-Some-2.is at c.in_ok-run.ensures.found;
       long = rw c.in-Some-2.is at c.in_ok-run.ensures.size;
       within = rw c.in-Some-2.is at c.in_ok-run.ensures.within;
     } in
-    less_behind c.args.settings.now c.loop-rest.rest.now (frame_of c.in-Some-2.run') c.in-Some-2.size at
+    less_behind c.args.format.now c.loop-rest.rest.now (frame_of c.in-Some-2.run') c.in-Some-2.size at
 
 pub loop-rest-preserved : goal.loop-rest-preserved
 loop-rest-preserved c =
-    let at : IsReadAt c.args.settings.now c.loop-rest.rest.now (frame_of c.in-Some-2.run') c.in-Some-2.size = record {
+    let at : IsReadAt c.args.format.now c.loop-rest.rest.now (frame_of c.in-Some-2.run') c.in-Some-2.size = record {
       found = rw c.in-Some-2.is at c.in_ok-run.ensures.found;
       long = rw c.in-Some-2.is at c.in_ok-run.ensures.size;
       within = rw c.in-Some-2.is at c.in_ok-run.ensures.within;
     } in
-    upto-more c.args.settings.now c.args.frames.now c.loop-rest.rest.now (page_of_parts c.loop-rest.page) (page_of_parts c.in-Some-3.newer) (frame_of c.in-Some-2.run') c.in-Some-2.size c.loop-rest.invariant at
+    upto-more c.args.format.now c.args.frames.now c.loop-rest.rest.now (page_of_parts c.loop-rest.page) (page_of_parts c.in-Some-3.newer) (frame_of c.in-Some-2.run') c.in-Some-2.size c.loop-rest.invariant at
     (rw c.in-Some-3.is at c.in_ok-newer.ensures)
 
 pub returns : goal.returns
-returns c = ap some_page c.in_ok-into_page.ensures ∙ told-all c.args.settings.now c.args.frames.now c.loop-rest.rest.now (page_of_parts c.loop-rest.page) c.loop-rest.invariant (tail_by c.loop-rest.rest.now true (sym c.is_empty.ensures ∙ c.loop-rest-test.false))
+returns c = ap some_page c.in_ok-into_page.ensures ∙ told-all c.args.format.now c.args.frames.now c.loop-rest.rest.now (page_of_parts c.loop-rest.page) c.loop-rest.invariant (tail_by c.loop-rest.rest.now true (sym c.is_empty.ensures ∙ c.loop-rest-test.false))
   where
     some_page : PageOfKind → Option PageOfKind
     some_page p = Some p

@@ -5,7 +5,7 @@ use Rattle.recovery.proofs.rebuild.rebuild.Given as goal
 
 -- the frames in front of the bytes that are left tell the page so far
 abbrev pub invariant-loop-rest : goal.invariant-loop-rest
-invariant-loop-rest l = IsToldUpto l.settings l.frames (page_of_parts l.page) l.rest
+invariant-loop-rest l = IsToldUpto l.format l.frames (page_of_parts l.page) l.rest
 
 abbrev pub decreases-loop-rest : goal.decreases-loop-rest
 decreases-loop-rest l = length l.rest

@@ -9,7 +9,7 @@ use Rattle.recovery.proofs.scan_segment.scan_segment.Goals as goal
 pub loop-bytes-init : goal.loop-bytes-init
 loop-bytes-init c =
     let bytes = c.args.segment.bytes.now in
-    upto-none c.args.settings.now (is_end_at c.args.segment.end) (length bytes) c.args.segment.number (drop 16 bytes) c.new-frames.result.items bytes c.new-frames.ensures.items refl (omega arith)
+    upto-none c.args.format.now (is_end_at c.args.segment.end) (length bytes) c.args.segment.number (drop 16 bytes) c.new-frames.result.items bytes c.new-frames.ensures.items refl (omega arith)
 
 pub overflow_sub-result : goal.overflow_sub-result
 overflow_sub-result c = let room = c.loop-bytes.invariant.read.room in omega (arith, room)
@@ -19,18 +19,18 @@ returns-in_default-clause-err c =
     let g = held_segment c.args.segment in
     let told = c.skim_frame.ensures in
     let headed : starts_with nat_eq g.bytes (segment_header g.number) ≡ true = cc (c.starts_with.ensures.value, c.segment_header-header.ensures, c.if-not-starts_with.false) in
-    let none = told-none c.args.settings.now c.loop-bytes.rest.now c.skim_frame.result c.in_default.is (record { found = told.found; within = told.within }) in
+    let none = told-none c.args.format.now c.loop-bytes.rest.now c.skim_frame.result c.in_default.is (record { found = told.found; within = told.within }) in
     let so_far = c.loop-bytes.invariant in
-    inr (segment-broken c.args.settings.now g headed so_far.frames c.loop-bytes.rest.now so_far.read (sym c.is_end.ensures ∙ c.loop-bytes-test.true) none)
+    inr (segment-broken c.args.format.now g headed so_far.frames c.loop-bytes.rest.now so_far.read (sym c.is_end.ensures ∙ c.loop-bytes-test.true) none)
 
 pub loop-bytes-smaller : goal.loop-bytes-smaller
 loop-bytes-smaller c =
     let told = c.skim_frame.ensures in
-    less-left c.args.settings.now c.loop-bytes.rest.now c.in-Some.skimmed _ (ap (λ (k : Skimmed). k.size) c.skimmed.view_is) (told-some c.args.settings.now c.loop-bytes.rest.now c.skim_frame.result c.in-Some.skimmed c.in-Some.is (record { found = told.found; within = told.within }))
+    less-left c.args.format.now c.loop-bytes.rest.now c.in-Some.skimmed _ (ap (λ (k : Skimmed). k.size) c.skimmed.view_is) (told-some c.args.format.now c.loop-bytes.rest.now c.skim_frame.result c.in-Some.skimmed c.in-Some.is (record { found = told.found; within = told.within }))
 
 pub loop-bytes-preserved : goal.loop-bytes-preserved
 loop-bytes-preserved c =
-    let s = c.args.settings.now in
+    let s = c.args.format.now in
     let bytes = c.args.segment.bytes.now in
     let rest = c.loop-bytes.rest.now in
     let told = c.skim_frame.ensures in
@@ -43,4 +43,4 @@ returns-clause-ok c =
     let g = held_segment c.args.segment in
     let headed : starts_with nat_eq g.bytes (segment_header g.number) ≡ true = cc (c.starts_with.ensures.value, c.segment_header-header.ensures, c.if-not-starts_with.false) in
     let so_far = c.loop-bytes.invariant in
-    frames-said c.args.settings.now g so_far.frames c.loop-bytes.frames.items (segment-read c.args.settings.now g headed so_far.frames c.loop-bytes.rest.now so_far.read (sym c.is_end.ensures ∙ c.loop-bytes-test.false)) so_far.held
+    frames-said c.args.format.now g so_far.frames c.loop-bytes.frames.items (segment-read c.args.format.now g headed so_far.frames c.loop-bytes.rest.now so_far.read (sym c.is_end.ensures ∙ c.loop-bytes-test.false)) so_far.held

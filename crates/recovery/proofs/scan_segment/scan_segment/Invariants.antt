@@ -5,7 +5,7 @@ use Rattle.recovery.proofs.scan_segment.scan_segment.Given as goal
 
 -- of the frames in front of the bytes that are left it was told what they are
 abbrev pub invariant-loop-bytes : goal.invariant-loop-bytes
-invariant-loop-bytes l = IsUpto l.settings (is_end_at l.end) (length l.bytes) l.number (drop 16 l.bytes) l.frames.items l.rest
+invariant-loop-bytes l = IsUpto l.format (is_end_at l.end) (length l.bytes) l.number (drop 16 l.bytes) l.frames.items l.rest
 
 abbrev pub decreases-loop-bytes : goal.decreases-loop-bytes
 decreases-loop-bytes l = length l.rest

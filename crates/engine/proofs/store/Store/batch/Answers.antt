@@ -18,9 +18,9 @@ invariant_of-self-2 g c =
     let planned = c.in_ok-replies.ensures.tree in
     let none = unrefused s t c.execute.new.tree cs own c.execute.ensures.sound.sound.height planned in
     let words : c.execute.new.tree.root < 2 ^ 64 = (search rules) in
-    subst (λ b. IsSoundStore g.D.Disk.view s c.execute.new.tree c.self.inside.log c.self.inside.disk b) (sym c.if-self.false)
-    (batched-sound g.D.Disk.view s t c.execute.new.tree c.self.inside.log c.self.inside.disk cs
-    (subst (λ b. IsSoundStore g.D.Disk.view s t c.self.inside.log c.self.inside.disk b) c.if-self.false c.self.invariant)
+    subst (λ b. IsSoundStore g.D.Disk.view s c.execute.new.tree c.self.inside.log c.self.inside.version c.self.inside.disk b) (sym c.if-self.false)
+    (batched-sound g.D.Disk.view s t c.execute.new.tree c.self.inside.log c.self.inside.version c.self.inside.disk cs
+    (subst (λ b. IsSoundStore g.D.Disk.view s t c.self.inside.log c.self.inside.version c.self.inside.disk b) c.if-self.false c.self.invariant)
     c.execute.ensures.sound.home planned none words c.a_batch_stays_in_step.ensures.kept c.a_batch_stays_in_step.ensures.step)
 
 pub returns-clause-sound : goal.returns-clause-sound

@@ -7,7 +7,7 @@ use Rattle.engine.proofs.CleanDone.{cleaned-now, cleaned-sound, refused-sound}
 use Rattle.engine.proofs.store.Store.clean.Goals as goal
 
 pub clean-requires-clause-ends : goal.clean-requires-clause-ends
-clean-requires-clause-ends g c = λ κs within. ends-are c.self.inside.settings (slot_of (store_in c.self.inside.tree c.self.inside.log)) c.self.invariant.sound.is.slot
+clean-requires-clause-ends g c = λ κs within. ends-are c.self.inside.settings (slot_of (store_in c.self.inside.tree c.self.inside.log c.self.inside.version)) c.self.invariant.sound.is.slot
 
 -- ---- refused for its crew
 
@@ -21,15 +21,15 @@ pub invariant_of-self : goal.invariant_of-self
 invariant_of-self g c =
     let s = c.self.inside.settings in
     let tree = c.self.inside.tree in
-    let st = store_in tree c.self.inside.log in
+    let st = store_in tree c.self.inside.log c.self.inside.version in
     let (file, read, told) = c.in-Ok.ensures.read in
-    let (bytes, done) = told st refl in
+    let (bytes, done) = told st refl refl in
     let law = c.a_clean_keeps_the_store.ensures in
     record {
       home = c.self.invariant.home;
       sound = cleaned-sound g.D.Disk.view s st c.self.inside.disk c.clean.new.disk c.self.inside.has_failed c.self.invariant.sound c.if-self.false c.clean.ensures.kept
-          (store_in tree c.committed.inside.ends) file bytes law.kept law.step (cleaned-now _ tree c.in-Ok.committed c.committed.inside.ends _ _ bytes c.committed.view_is done)
-          (λ honest. cleaned-now _ tree c.in-Ok.committed c.committed.inside.ends _ _ _ c.committed.view_is (c.in-Ok.ensures.written honest st refl));
+          (store_in tree c.committed.inside.ends c.committed.inside.version) file bytes law.kept law.step (cleaned-now _ tree c.in-Ok.committed c.committed.inside.ends _ _ c.committed.inside.version bytes c.committed.view_is done)
+          (λ honest. cleaned-now _ tree c.in-Ok.committed c.committed.inside.ends _ _ c.committed.inside.version _ c.committed.view_is (c.in-Ok.ensures.written honest st refl refl));
     }
 
 pub returns-in-Ok-clause-read : goal.returns-in-Ok-clause-read
@@ -37,20 +37,20 @@ returns-in-Ok-clause-read g c = rw (← c.self.view_is) (λ fine able.
     let tree = c.self.inside.tree in
     let log = c.self.inside.log in
     let (file, read, told) = c.in-Ok.ensures.read in
-    let (bytes, done) = told (store_in tree log) refl in
-    (file, read, (bytes, cleaned-now _ tree c.in-Ok.committed c.committed.inside.ends _ _ bytes c.committed.view_is done, refl)))
+    let (bytes, done) = told (store_in tree log c.self.inside.version) refl refl in
+    (file, read, (bytes, cleaned-now _ tree c.in-Ok.committed c.committed.inside.ends _ _ c.committed.inside.version bytes c.committed.view_is done, refl)))
 
 pub returns-in-Ok-clause-bytes : goal.returns-in-Ok-clause-bytes
 returns-in-Ok-clause-bytes g c = rw (← c.self.view_is) (λ honest.
     let tree = c.self.inside.tree in
     let log = c.self.inside.log in
-    cleaned-now _ tree c.in-Ok.committed c.committed.inside.ends _ _ _ c.committed.view_is (c.in-Ok.ensures.written honest (store_in tree log) refl))
+    cleaned-now _ tree c.in-Ok.committed c.committed.inside.ends _ _ c.committed.inside.version _ c.committed.view_is (c.in-Ok.ensures.written honest (store_in tree log c.self.inside.version) refl refl))
 
 pub returns-in-Ok-clause-crash : goal.returns-in-Ok-clause-crash
 returns-in-Ok-clause-crash g c = rw (← c.self.view_is) (λ fine settled.
     let tree = c.self.inside.tree in
     let log = c.self.inside.log in
-    c.clean.ensures.crash settled (store_in tree log) refl (c.self.invariant.sound.step fine settled.honest))
+    c.clean.ensures.crash settled (store_in tree log c.self.inside.version) refl refl (c.self.invariant.sound.step fine settled.honest))
 
 pub returns-in-Ok-clause-sound : goal.returns-in-Ok-clause-sound
 returns-in-Ok-clause-sound g c = (rw (← c.self.view_is) c.self.invariant.sound, (invariant_of-self g c).sound)
@@ -61,11 +61,11 @@ pub invariant_of-self-in-Err : goal.invariant_of-self-in-Err
 invariant_of-self-in-Err g c =
     let s = c.self.inside.settings in
     let tree = c.self.inside.tree in
-    let st = store_in tree c.self.inside.log in
+    let st = store_in tree c.self.inside.log c.self.inside.version in
     record {
       home = c.self.invariant.home;
       sound = refused-sound g.D.Disk.view s st c.self.inside.disk c.clean.new.disk c.self.inside.has_failed c.self.invariant.sound c.if-self.false c.clean.ensures.kept
-          c.is_of_disk-self-inside.result _ _ c.is_of_disk-self-inside.ensures (λ honest. c.in-Err.ensures.unwritten honest st refl);
+          c.is_of_disk-self-inside.result _ _ c.is_of_disk-self-inside.ensures (λ honest. c.in-Err.ensures.unwritten honest st refl refl);
     }
 
 pub returns-in-Err-clause-read : goal.returns-in-Err-clause-read
@@ -73,7 +73,7 @@ returns-in-Err-clause-read g c = rw (← c.self.view_is) (λ fine able.
     let tree = c.self.inside.tree in
     let log = c.self.inside.log in
     let (file, read, told) = c.in-Err.ensures.read in
-    (file, read, told (store_in tree log) refl))
+    (file, read, told (store_in tree log c.self.inside.version) refl refl))
 
 pub returns-in-Err-clause-fine : goal.returns-in-Err-clause-fine
 returns-in-Err-clause-fine g c = rw (← c.self.view_is) (λ other.
@@ -86,13 +86,13 @@ pub returns-in-Err-clause-unwritten : goal.returns-in-Err-clause-unwritten
 returns-in-Err-clause-unwritten g c = rw (← c.self.view_is) (λ fine honest.
     let tree = c.self.inside.tree in
     let log = c.self.inside.log in
-    c.in-Err.ensures.unwritten honest (store_in tree log) refl)
+    c.in-Err.ensures.unwritten honest (store_in tree log c.self.inside.version) refl refl)
 
 pub returns-in-Err-clause-crash : goal.returns-in-Err-clause-crash
 returns-in-Err-clause-crash g c = rw (← c.self.view_is) (λ fine settled.
     let tree = c.self.inside.tree in
     let log = c.self.inside.log in
-    c.clean.ensures.crash settled (store_in tree log) refl (c.self.invariant.sound.step fine settled.honest))
+    c.clean.ensures.crash settled (store_in tree log c.self.inside.version) refl refl (c.self.invariant.sound.step fine settled.honest))
 
 pub returns-in-Err-clause-sound : goal.returns-in-Err-clause-sound
 returns-in-Err-clause-sound g c = (rw (← c.self.view_is) c.self.invariant.sound, (invariant_of-self-in-Err g c).sound)

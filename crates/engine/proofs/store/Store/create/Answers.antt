@@ -7,8 +7,8 @@ invariant_of-result g c =
     let view = g.D.Disk.view in
     let old = c.args.disk in
     let free = not_refused (λ fault. fault) (create_refusal c.args.settings (view old).size) c.make.result _ _ c.make.ensures.refused c.in-Ok.is in
-    let is = first-is c.in-Ok.tree c.first_slot-first.result c.first.inside.ends _ _ c.in-Ok.ensures.tree c.first_slot-first.ensures c.first.view_is in
-    made-sound view c.args.settings c.in-Ok.tree c.first.inside.ends old c.make.new.disk is free (λ honest. g.met.D.Disk.lawful old honest) (λ honest. (c.in-Ok.ensures.bytes honest).0)
+    let is = first-is c.in-Ok.tree c.first_slot-first.result c.first.inside.ends _ _ c.first.inside.version c.in-Ok.ensures.tree c.first_slot-first.ensures c.first.view_is in
+    made-sound view c.args.settings c.in-Ok.tree c.first.inside.ends c.first.inside.version old c.make.new.disk is free (λ honest. g.met.D.Disk.lawful old honest) (λ honest. (c.in-Ok.ensures.bytes honest).0)
     c.in-Ok.ensures.tree c.make.ensures.kept c.a_new_disk_stands_for_the_first_store.ensures
 
 pub returns-in-Ok-clause-bytes : goal.returns-in-Ok-clause-bytes
@@ -16,8 +16,8 @@ returns-in-Ok-clause-bytes g c honest =
     let view = g.D.Disk.view in
     let old = c.args.disk in
     let free = not_refused (λ fault. fault) (create_refusal c.args.settings (view old).size) c.make.result _ _ c.make.ensures.refused c.in-Ok.is in
-    let is = first-is c.in-Ok.tree c.first_slot-first.result c.first.inside.ends _ _ c.in-Ok.ensures.tree c.first_slot-first.ensures c.first.view_is in (
-      made-bytes view c.args.settings c.in-Ok.tree c.first.inside.ends old c.make.new.disk is free (λ h. g.met.D.Disk.lawful old h) (λ h. (c.in-Ok.ensures.bytes h).0) honest,
+    let is = first-is c.in-Ok.tree c.first_slot-first.result c.first.inside.ends _ _ c.first.inside.version c.in-Ok.ensures.tree c.first_slot-first.ensures c.first.view_is in (
+      made-bytes view c.args.settings c.in-Ok.tree c.first.inside.ends c.first.inside.version old c.make.new.disk is free (λ h. g.met.D.Disk.lawful old h) (λ h. (c.in-Ok.ensures.bytes h).0) honest,
       (c.in-Ok.ensures.bytes honest).1,
     )
 

@@ -1,0 +1,146 @@
+use Rattle.std.proofs.Common.{inl, inr, refl, sym, ap, subst, ⊎_elim, ◌∙◌}
+use Rattle.std.proofs.lemmas.Result.{err_from_is_err_and}
+use Rattle.mapping.specs.TreeInMemory.{TreeInMemory, tree_of}
+use Rattle.flush_log.specs.AfterFlush.{slot_of}
+use Rattle.flush_log.specs.FlushText.{version_with, text_of}
+use Rattle.flush_log.specs.Slot.{Slot}
+use Rattle.flush_log.proofs.SameLemmas.{leaves_itself}
+use Rattle.flush_log.proofs.ViewLemmas.{counted_failed}
+use Rattle.recovery.specs.InStep.{IsStoreOf}
+use Rattle.engine.specs.Calls.{with_version}
+use Rattle.engine.specs.State.{IsSound, state_of, store_in}
+use Rattle.engine.proofs.FlushDone.{IsDue, due-of, on-bytes, never-device, hides, keeps, reads, writing-refused, writing-would, writing-crashed, written-now, written-sound}
+use Rattle.engine.proofs.store.Store.write.Goals as goal
+
+pub plan-requires-clause-store : goal.plan-requires-clause-store
+plan-requires-clause-store g c = (c.self.inside.version, c.self.invariant.sound.is)
+
+pub plan-requires-clause-some : goal.plan-requires-clause-some
+plan-requires-clause-some g c =
+    (due-of c.args.text c.self.inside.settings _ _ c.self.view_is c.requires.own c.requires.due c.self.invariant.sound.is c.an_upgrade_is_a_flush_of_outdated_pages.ensures.some).some
+
+-- ---- not planned
+
+pub returns-in_err-commit-clause-refused : goal.returns-in_err-commit-clause-refused
+returns-in_err-commit-clause-refused g c = rw (← c.self.view_is) (
+    let s = c.self.inside.settings in
+    let st = store_in c.self.inside.tree c.self.inside.log c.self.inside.version in
+    let old = g.D.Disk.view c.self.inside.disk in
+    let is = due-of c.args.text s _ _ c.self.view_is c.requires.own c.requires.due c.self.invariant.sound.is c.an_upgrade_is_a_flush_of_outdated_pages.ensures.some in
+    let p = err_from_is_err_and c.from_residual.result c.from_residual.ensures.1 in
+    rw (p.1, p.2) (⊎_elim (λ memory. inr (inl (memory, is.due))) (λ full. inl (writing-refused c.args.text s st is _ full old.seen)) c.in_err-commit.ensures.err))
+
+pub returns-in_err-commit-clause-device : goal.returns-in_err-commit-clause-device
+returns-in_err-commit-clause-device g c =
+    let st = store_in c.self.inside.tree c.self.inside.log (version_with c.args.text) in
+    let p = err_from_is_err_and c.from_residual.result c.from_residual.ensures.1 in
+    rw (p.1, p.2) (λ device. absurd (never-device c.self.inside.settings (slot_of st) (text_of c.args.text st.tree) _ c.in_err-commit.ensures.err device))
+
+pub returns-in_err-commit-clause-frames_under_way : goal.returns-in_err-commit-clause-frames_under_way
+returns-in_err-commit-clause-frames_under_way g c =
+    let st = store_in c.self.inside.tree c.self.inside.log (version_with c.args.text) in
+    let p = err_from_is_err_and c.from_residual.result c.from_residual.ensures.1 in
+    rw (p.1, p.2) (λ device. absurd (never-device c.self.inside.settings (slot_of st) (text_of c.args.text st.tree) _ c.in_err-commit.ensures.err device))
+
+pub returns-in_err-commit-clause-crash : goal.returns-in_err-commit-clause-crash
+returns-in_err-commit-clause-crash g c settled =
+    leaves_itself (g.D.Disk.view c.args.self.now.disk) _ (g.met.D.Disk.lawful c.args.self.now.disk settled.honest) settled (inl refl)
+
+-- ---- planned
+
+pub write-requires-clause-planned : goal.write-requires-clause-planned
+write-requires-clause-planned g c =
+    let st = store_in c.self.inside.tree c.self.inside.log c.self.inside.version in
+    (slot_of (with_version (version_with c.args.text) st), text_of c.args.text st.tree, c.in_ok-commit.ensures.plan st.version)
+
+pub returns-in-Err-clause-refused : goal.returns-in-Err-clause-refused
+returns-in-Err-clause-refused g c = rw (← c.self.view_is) (
+    let s = c.self.inside.settings in
+    let st = store_in c.self.inside.tree c.self.inside.log c.self.inside.version in
+    let old = g.D.Disk.view c.self.inside.disk in
+    let is = due-of c.args.text s _ _ c.self.view_is c.requires.own c.requires.due c.self.invariant.sound.is c.an_upgrade_is_a_flush_of_outdated_pages.ensures.some in
+    inr (inr (c.into.ensures, counted_failed _ _ c.in-Err.ensures.failed, writing-would c.args.text s st is _ (c.in_ok-commit.ensures.plan st.version) old.seen)))
+
+pub returns-in-Err-clause-frames_under_way : goal.returns-in-Err-clause-frames_under_way
+returns-in-Err-clause-frames_under_way g c = rw (← c.self.view_is) (λ device. (c.in_ok-commit.ensures.plan c.self.inside.version).spelled.within)
+
+pub returns-in-Err-clause-crash : goal.returns-in-Err-clause-crash
+returns-in-Err-clause-crash g c = rw (← c.self.view_is) (λ settled.
+    let s = c.self.inside.settings in
+    let st = store_in c.self.inside.tree c.self.inside.log c.self.inside.version in
+    let old = g.D.Disk.view c.self.inside.disk in
+    let text = c.args.text in
+    let is = due-of text s _ _ c.self.view_is c.requires.own c.requires.due c.self.invariant.sound.is c.an_upgrade_is_a_flush_of_outdated_pages.ensures.some in
+    let p = c.in_ok-commit.ensures.plan st.version in
+    let fine = subst (λ x. x.has_failed ≡ false) (sym c.self.view_is) c.requires.fine in
+    let store : IsStoreOf s st old.seen = record { is = c.self.invariant.sound.is; step = c.self.invariant.sound.step fine settled.honest } in
+    writing-crashed text s st is _ p old (g.D.Disk.view c.write.new.disk) store
+    (hides c.a_crash_in_a_flush_leaves_the_store_before_or_after.ensures.hidden c.a_crash_in_an_upgrade_leaves_the_store_before_or_after.ensures.hidden text)
+    (c.write.ensures.crash (slot_of (with_version (version_with text) st)) (text_of text st.tree) p settled))
+
+-- ---- written
+
+pub returns-clause-crash : goal.returns-clause-crash
+returns-clause-crash g c = rw (← c.self.view_is) (λ settled.
+    let s = c.self.inside.settings in
+    let st = store_in c.self.inside.tree c.self.inside.log c.self.inside.version in
+    let old = g.D.Disk.view c.self.inside.disk in
+    let text = c.args.text in
+    let is = due-of text s _ _ c.self.view_is c.requires.own c.requires.due c.self.invariant.sound.is c.an_upgrade_is_a_flush_of_outdated_pages.ensures.some in
+    let p = c.in_ok-commit.ensures.plan st.version in
+    let fine = subst (λ x. x.has_failed ≡ false) (sym c.self.view_is) c.requires.fine in
+    let store : IsStoreOf s st old.seen = record { is = c.self.invariant.sound.is; step = c.self.invariant.sound.step fine settled.honest } in
+    writing-crashed text s st is _ p old (g.D.Disk.view c.write.new.disk) store
+    (hides c.a_crash_in_a_flush_leaves_the_store_before_or_after.ensures.hidden c.a_crash_in_an_upgrade_leaves_the_store_before_or_after.ensures.hidden text)
+    (c.write.ensures.crash (slot_of (with_version (version_with text) st)) (text_of text st.tree) p settled))
+
+pub returns-clause-version : goal.returns-clause-version
+returns-clause-version g c = ap (λ (t : Slot). t.version) (c.slot.view_is ∙ c.slot-slot.ensures ∙ (c.in_ok-commit.ensures.plan c.self.inside.version).slot)
+
+pub returns-clause-store : goal.returns-clause-store
+returns-clause-store g c = rw (← c.self.view_is) (
+    let s = c.self.inside.settings in
+    let st = store_in c.self.inside.tree c.self.inside.log c.self.inside.version in
+    let old = g.D.Disk.view c.self.inside.disk in
+    let text = c.args.text in
+    let is = due-of text s _ _ c.self.view_is c.requires.own c.requires.due c.self.invariant.sound.is c.an_upgrade_is_a_flush_of_outdated_pages.ensures.some in
+    let tree_is = ap (λ (t : TreeInMemory). tree_of t) c.flushed.ensures ∙ c.a_table_marked_as_written_holds_the_flushed_tree.ensures s c.self.inside.tree c.self.invariant.sound.is.good c.self.invariant.sound.is.proper in
+    let done = written-now text s st is _ (c.in_ok-commit.ensures.plan st.version) c.flushed.new.self _ _ _ _ tree_is (c.slot.view_is ∙ c.slot-slot.ensures) old.seen in
+    (refl, (_, done)))
+
+pub returns-clause-bytes : goal.returns-clause-bytes
+returns-clause-bytes g c = rw (← c.self.view_is) (λ honest.
+    let s = c.self.inside.settings in
+    let st = store_in c.self.inside.tree c.self.inside.log c.self.inside.version in
+    let old = g.D.Disk.view c.self.inside.disk in
+    let text = c.args.text in
+    let is = due-of text s _ _ c.self.view_is c.requires.own c.requires.due c.self.invariant.sound.is c.an_upgrade_is_a_flush_of_outdated_pages.ensures.some in
+    let p = c.in_ok-commit.ensures.plan st.version in
+    let tree_is = ap (λ (t : TreeInMemory). tree_of t) c.flushed.ensures ∙ c.a_table_marked_as_written_holds_the_flushed_tree.ensures s c.self.inside.tree c.self.invariant.sound.is.good c.self.invariant.sound.is.proper in
+    let done = written-now text s st is _ p c.flushed.new.self _ _ _ _ tree_is (c.slot.view_is ∙ c.slot-slot.ensures) old.seen in
+    on-bytes _ _ _ _ done (c.in_default.ensures.written (slot_of (with_version (version_with text) st)) (text_of text st.tree) p honest))
+
+pub invariant_of-self-2 : goal.invariant_of-self-2
+invariant_of-self-2 g c =
+    let s = c.self.inside.settings in
+    let tree = c.self.inside.tree in
+    let log = c.self.inside.log in
+    let st = store_in tree log c.self.inside.version in
+    let view = g.D.Disk.view in
+    let old = view c.self.inside.disk in
+    let text = c.args.text in
+    let is = due-of text s _ _ c.self.view_is c.requires.own c.requires.due c.self.invariant.sound.is c.an_upgrade_is_a_flush_of_outdated_pages.ensures.some in
+    let p = c.in_ok-commit.ensures.plan st.version in
+    let fine = subst (λ x. x.has_failed ≡ false) (sym c.self.view_is) c.requires.fine in
+    let tree_is = ap (λ (t : TreeInMemory). tree_of t) c.flushed.ensures ∙ c.a_table_marked_as_written_holds_the_flushed_tree.ensures s tree c.self.invariant.sound.is.good c.self.invariant.sound.is.proper in
+    let done = written-now text s st is _ p c.flushed.new.self _ _ _ _ tree_is (c.slot.view_is ∙ c.slot-slot.ensures) old.seen in
+    record {
+      home = rw c.flushed.ensures c.self.invariant.home;
+      sound = rw fine (written-sound view text s st _ c.self.inside.disk c.write.new.disk _ (subst (λ b. IsSound view (state_of s tree log st.version c.self.inside.disk b)) fine c.self.invariant.sound) is.own p.spelled.within
+          (keeps c.what_was_flushed_is_what_is_read.ensures.kept c.what_was_upgraded_is_what_is_read.ensures.kept text)
+          (reads c.what_was_flushed_is_what_is_read.ensures.read c.what_was_upgraded_is_what_is_read.ensures.read text) c.write.ensures.kept done
+          (λ honest. c.in_default.ensures.written (slot_of (with_version (version_with text) st)) (text_of text st.tree) p honest));
+    }
+
+pub returns-clause-sound : goal.returns-clause-sound
+returns-clause-sound g c = (rw (← c.self.view_is) c.self.invariant.sound, (invariant_of-self-2 g c).sound)
