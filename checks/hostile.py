@@ -7,7 +7,8 @@ from itertools import islice
 from pathlib import Path
 
 from checks.files import holding
-from checks.forge import HEADER, Settings, counted, delta_index, delta_leaf, disk_of, fitting_disk, frame, free, full_index, full_leaf, shared_index, shared_leaf
+from checks.forge import HEADER, Settings, counted, delta_index, delta_leaf, disk_of, fitting_disk, frame, free, full_index, full_leaf
+from checks.forge import shared_index, shared_leaf
 from checks.harness import MEGABYTE, SLOW, Case, Outcome, Programs, Ran, differs, most_memory, new_folder, run
 from checks.ids import colliding_ids
 from checks.rules import LOOK, ending_of, look_of, settings_of, slot_of
@@ -242,7 +243,7 @@ NO_BASES = [
 
 
 def refuse_frames(programs: Programs) -> Outcome:
-    """Whether frames of version 2 that are none are refused at their places, whatever stands behind them; and frames of its kinds in a log of version 1."""
+    """Whether what is no frame of version 2 is refused at its place, whatever stands behind it; and frames of its kinds in a log of version 1."""
     refused = [(what, frame(6, 0, counted(low) + count.to_bytes(2, "big") + bytes.fromhex(entries)), 2) for what, low, count, entries in NO_BASES]
     refused += [("a shared leaf in a log of version 1", SHARED_PAIR, 0), ("a shared index page there", shared_index(0, b"", {b"": 1}), 0)]
     refused += [("a frame of kind 8", frame(8, 0), 2), ("a shared leaf that is read as an index page", b"\7" + SHARED_PAIR[1:], 2)]
@@ -268,9 +269,15 @@ EXAMPLES = [
     (delta_index(5, {b"d": None}), "04 0000000e 0000000000000005 0001 0001 64 00"),
     (free(1), "05 00000008 0000000000000001"),
     (shared_leaf(0, b"", {b"a": b"1", b"b": b"2"}), "06 00000018 0000000000000000 0000 0002 00 01 61 0001 31 00 01 62 0001 32"),
-    (shared_leaf(1, b"c", {b"c": b"3", b"d": b"4", b"e": b"5"}), "06 0000001e 0000000000000001 0001 63 0003 01 00 0001 33 00 01 64 0001 34 00 01 65 0001 35"),
+    (
+        shared_leaf(1, b"c", {b"c": b"3", b"d": b"4", b"e": b"5"}),
+        "06 0000001e 0000000000000001 0001 63 0003 01 00 0001 33 00 01 64 0001 34 00 01 65 0001 35",
+    ),
     (shared_index(2, b"", {b"": 0, b"c": 1}), "07 00000021 0000000000000002 0000 0002 00 00 0000000000000000 00 01 63 0000000000000001"),
-    (shared_leaf(0, b"ab", {b"abc": b"", b"abcd": b"", b"abd": b""}), "06 0000001d 0000000000000000 0002 6162 0003 02 01 63 0000 03 01 64 0000 02 01 64 0000"),
+    (
+        shared_leaf(0, b"ab", {b"abc": b"", b"abcd": b"", b"abd": b""}),
+        "06 0000001d 0000000000000000 0002 6162 0003 02 01 63 0000 03 01 64 0000 02 01 64 0000",
+    ),
 ]
 
 
@@ -334,8 +341,9 @@ def look_at_damaged(programs: Programs, part: int) -> Outcome:
 
 def small_store() -> bytes:
     """A disk of version 2 with bases of all kinds and runs."""
-    frames = [shared_leaf(0, b"", {b"a": b"1", b"aa": b"2"}), delta_leaf(0, {b"aaa": b"3", b"a": None}), shared_leaf(1, b"ab", {b"ab": b"", b"abc": b"5"})]
-    frames += [full_leaf(2, b"abd", {b"abd": b"6"}), shared_index(3, b"", {b"": 0, b"ab": 1}), delta_index(3, {b"abd": 2}), free(4)]
+    frames = [shared_leaf(0, b"", {b"a": b"1", b"aa": b"2"}), delta_leaf(0, {b"aaa": b"3", b"a": None})]
+    frames += [shared_leaf(1, b"ab", {b"ab": b"", b"abc": b"5"}), full_leaf(2, b"abd", {b"abd": b"6"})]
+    frames += [shared_index(3, b"", {b"": 0, b"ab": 1}), delta_index(3, {b"abd": 2}), free(4)]
     return disk_of(SMALL, frames, root=3, height=2, version=2)
 
 
@@ -360,6 +368,6 @@ def change_each_byte(programs: Programs, part: int) -> Outcome:
 def cases(programs: Programs) -> list[Case]:
     forged = [Case(disk.name, look_at, (programs, number)) for number, disk in enumerate(DISKS)]
     damaged = [Case(f"damaged disks, part {part + 1} of {PARTS}", look_at_damaged, (programs, part)) for part in range(PARTS)]
-    changed = [Case(f"each byte of a disk of version 2 changed, part {part + 1} of {PARTS}", change_each_byte, (programs, part)) for part in range(PARTS)]
+    changed = [Case(f"a disk of version 2 with a byte changed, part {part + 1} of {PARTS}", change_each_byte, (programs, part)) for part in range(PARTS)]
     frames = [Case("the frames of docs/FORMAT.md", spell), Case("frames of version 2 that are none", refuse_frames, (programs,))]
     return [*frames, *forged, *damaged, *changed, Case("whole keys and shared ones, a megabyte of each", compare_times, (programs,))]

@@ -1,4 +1,4 @@
-"""A session under valgrind, which leaks nothing: it cuts and merges leaves, so pages are dropped by one worker and by several, and upgrades its log."""
+"""A session under valgrind, which leaks nothing: it cuts and merges leaves, so pages are dropped by one worker and by several; and it upgrades."""
 
 import random
 import shutil

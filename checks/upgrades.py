@@ -12,7 +12,10 @@ from checks.texts import drawn_batches
 
 SEEDS, KILLS = 4, 10
 PAIRS = 60_000  # of the stores in whose upgrades sessions are killed
+SMALL = ["--fan", "4", "--chain", "2", "--max-value", "16", "--segments", "256"]
 NEVER_TWICE = (4, b"", b"fault 19 AlreadyUpgraded\n")
+FURTHER = b"add new 1\nflush\nclean\ndel new\nflush\n"  # lines for a store that was upgraded, which print this with two numbers
+PRINTED = b"added\nflushed %d\ncleaned 1\ndeleted\nflushed %d\n"
 
 
 def frames_of(pid: int, page: Page) -> list[bytes]:
@@ -51,7 +54,7 @@ def upgrade(programs: Programs, seed: int) -> Outcome:
     size, command = chance.choice([512, 1024, 4096]), [programs.store, "--disk"]
     with new_folder() as folder:
         path = Path(folder) / "file"
-        before, slot, look = made(programs, path, text, "--fan", "4", "--chain", "2", "--max-value", "16", "--seg-size", str(size), "--segments", "256")
+        before, slot, look = made(programs, path, text, *SMALL, "--seg-size", str(size))
         due = upgraded(before)
         wrong = differs(run([*command, path], b"upgrade\n"), 0, line_of(slot))
         after = path.read_bytes()
@@ -61,7 +64,7 @@ def upgrade(programs: Programs, seed: int) -> Outcome:
         wrong = wrong or differs(run([*command, path], b"upgrade\n"), *NEVER_TWICE)
         wrong = wrong or (None if path.read_bytes() == after else "a second upgrade wrote to the file")
         wrong = wrong or differs(run([*command, path], LOOK), *look)
-        wrong = wrong or differs(run([*command, path], b"add new 1\nflush\nclean\ndel new\nflush\n"), 0, b"added\nflushed %d\ncleaned 1\ndeleted\nflushed %d\n" % (slot.sequence + 2, slot.sequence + 4))
+        wrong = wrong or differs(run([*command, path], FURTHER), 0, PRINTED % (slot.sequence + 2, slot.sequence + 4))
         wrong = wrong or differs(run([*command, path], b"upgrade\n"), *NEVER_TWICE)
         return Outcome(wrong, measured=f"{slot.tail - slot.head * size} bytes of log, {size} a segment")
 

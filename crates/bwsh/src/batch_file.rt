@@ -44,7 +44,7 @@ pub enum Order {
     Flush,
     /// To free the first segment of the log, and tell which is the first now.
     Clean,
-    /// To bring the log to its second version, and tell the sequence number.
+    /// To bring the log to version 2, and tell the sequence number.
     Upgrade,
     /// To verify the store, and tell of its pages, its height and its pairs.
     Verify,

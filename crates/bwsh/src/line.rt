@@ -50,7 +50,7 @@ pub enum Says {
     Flush,
     /// The pending batch is to run, if it has commands, and then the log is to be cleaned.
     Clean,
-    /// The pending batch is to run, if it has commands, and then the log is to be brought to its second version.
+    /// The pending batch is to run, if it has commands, and then the log is to be brought to version 2.
     Upgrade,
     /// The pending batch is to run, if it has commands, and then the store is to be verified.
     Verify,

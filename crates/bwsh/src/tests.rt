@@ -146,7 +146,8 @@ fn a_flush_tells_its_number(rt: HostRuntime) {
 #[test]
 fn an_upgrade_tells_its_number(rt: HostRuntime) {
     let input = b"put a 1\nflush\nupgrade\nget a\nadd b 2\nflush\nflush\nscan % * 9\nverify";
-    let out = b"new\nflushed 2\nupgraded 3\nvalue 1\nadded\nflushed 4\nflushed 4\nrows 2\na 1\nb 2\nok 1 1 2\n";
+    let out =
+        b"new\nflushed 2\nupgraded 3\nvalue 1\nadded\nflushed 4\nflushed 4\nrows 2\na 1\nb 2\nok 1 1 2\n";
     check(&rt, &[], input, 0, out, b"");
     let told = b"fault 19 AlreadyUpgraded\n";
     let input = b"upgrade\nput a 1\nupgrade\nget a\n";

@@ -148,7 +148,14 @@ fn a_store_in_a_file_is_upgraded(rt: HostRuntime) -> Result<(), Fail> {
     let end = "fault 11 NothingToClean\n";
     let out = b"cleaned 1\nvalue 1\n";
     check_in_file(&rt, path, None, b"clean\nget a\nclean\n", out, end)?;
-    check_in_file(&rt, path, None, b"get e\nverify\n", b"value 5\nok 3 2 5\n", "")?;
+    check_in_file(
+        &rt,
+        path,
+        None,
+        b"get e\nverify\n",
+        b"value 5\nok 3 2 5\n",
+        "",
+    )?;
     fs::remove_file(&rt, path)?;
     Ok(())
 }
