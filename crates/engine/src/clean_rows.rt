@@ -2,13 +2,16 @@
 //! disk that they make.
 use crate::crews::{ALONE, crews};
 use crate::failing_disk_rows::{FailingDisk, failing_store};
-use crate::frame_rows::{EMPTY_LEAF, FREE_1, LEAF_0, LEAF_1, ROOT};
+use crate::frame_rows::{
+    EMPTY_LEAF, FREE_1, FREE_2, INDEX_5, INDEX_6, INDEX_7, LEAF_0, LEAF_1, LEAF_ABC, LEAF_DEF,
+    LEAF_GHIJ, LEAF_KLM, LEAF_NOPQ, LONG_A_AND_B_LEAF, LONG_A_LEAF, LONG_A_PUT, NINE_BYTES_PUT,
+    ROOT, SHARED_5, SHARED_6, SHARED_7, SHARED_ABC, SHARED_DEF, SHARED_GHIJ, SHARED_KLM,
+    SHARED_NOPQ, SIXTEEN_BYTES_LEAF, SIXTEEN_BYTES_PUT,
+};
 use crate::full_log_rows::{FULL_LOG, fill};
 use crate::log_rows::{
-    FIRST_SLOT, FIVE_PUTS_SLOT, FOUR_LONG_PUTS, FREE_2, HEADER_1, HEADER_2, INDEX_5, INDEX_6,
-    INDEX_7, LEAF_ABC, LEAF_DEF, LEAF_GHIJ, LEAF_KLM, LEAF_NOPQ, LONG_A_AND_B_LEAF, LONG_A_LEAF,
-    LONG_A_PUT, LONG_PUT, NINE_BYTES_PUT, NO_SLOT, Row, SEVENTEEN_PUTS_SLOT, SIXTEEN_BYTES_LEAF,
-    SIXTEEN_BYTES_PUT, SlotRow, batch_of, comes_out, is_disk, look, play, play_at_once,
+    FIRST_SLOT, FIVE_PUTS_SLOT, FOUR_LONG_PUTS, HEADER_1, HEADER_2, LONG_PUT, NO_SLOT, Row,
+    SEVENTEEN_PUTS_SLOT, SlotRow, batch_of, comes_out, is_disk, look, play, play_at_once,
     store_on_used_disk,
 };
 use crate::outcomes::Outcomes;
@@ -34,30 +37,6 @@ const NO_LONG_PUTS: &str =
     "-sixteen_bytes_k1 -sixteen_bytes_k2 -sixteen_bytes_k3 -sixteen_bytes_k4";
 
 const HEADER_3: &[u8] = b"BWSG\0\0\0\0\0\0\0\0\0\0\0\x03";
-
-const SHARED_ABC: &[u8] =
-    b"\x06\0\0\0\x1e\0\0\0\0\0\0\0\0\0\0\0\x03\0\x01a\0\x011\0\x01b\0\x011\0\x01c\0\x011";
-
-const SHARED_DEF: &[u8] = b"\x06\0\0\0\x1e\0\0\0\0\0\0\0\x01\0\x01d\0\x03\
-    \x01\0\0\x011\0\x01e\0\x011\0\x01f\0\x011";
-
-const SHARED_GHIJ: &[u8] = b"\x06\0\0\0\x24\0\0\0\0\0\0\0\x02\0\x01g\0\x04\
-    \x01\0\0\x011\0\x01h\0\x011\0\x01i\0\x011\0\x01j\0\x011";
-
-const SHARED_KLM: &[u8] = b"\x06\0\0\0\x1e\0\0\0\0\0\0\0\x03\0\x01k\0\x03\
-    \x01\0\0\x011\0\x01l\0\x011\0\x01m\0\x011";
-
-const SHARED_NOPQ: &[u8] = b"\x06\0\0\0\x24\0\0\0\0\0\0\0\x04\0\x01n\0\x04\
-    \x01\0\0\x011\0\x01o\0\x011\0\x01p\0\x011\0\x01q\0\x011";
-
-const SHARED_5: &[u8] = b"\x07\0\0\0\x21\0\0\0\0\0\0\0\x05\0\0\0\x02\
-    \0\0\0\0\0\0\0\0\0\0\0\x01d\0\0\0\0\0\0\0\x01";
-
-const SHARED_6: &[u8] = b"\x07\0\0\0\x2d\0\0\0\0\0\0\0\x06\0\x01g\0\x03\
-    \x01\0\0\0\0\0\0\0\0\x02\0\x01k\0\0\0\0\0\0\0\x03\0\x01n\0\0\0\0\0\0\0\x04";
-
-const SHARED_7: &[u8] = b"\x07\0\0\0\x21\0\0\0\0\0\0\0\x07\0\0\0\x02\
-    \0\0\0\0\0\0\0\0\0\x05\0\x01g\0\0\0\0\0\0\0\x06";
 
 const Z_PUT: &[u8] = b"\x02\0\0\0\x11\0\0\0\0\0\0\0\x01\0\x01\0\x01z\x01\0\x019";
 

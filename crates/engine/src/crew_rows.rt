@@ -266,7 +266,11 @@ fn is_upgraded_and_cleaned(bytes: &[u8]) -> bool {
 fn every_crew_answers_and_writes_the_same(rt: HostRuntime) -> Result<(), Fail> {
     for seed in 1..4u64 {
         let (answers, bytes) = run_by(&rt, rt.alloc(), ALONE, seed)?;
-        assert!(rt; answers.len() > 500 && is_upgraded_and_cleaned(&bytes), "{}", answers.len());
+        assert!(rt;
+            answers.len() > 500 && is_upgraded_and_cleaned(&bytes),
+            "{}",
+            answers.len()
+        );
         for workers in [1, 2, 3, 7, 64] {
             for grain in [1, 2, 64] {
                 let crew = Crew { workers, grain };

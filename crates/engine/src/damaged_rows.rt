@@ -638,9 +638,7 @@ fn a_disk_with_any_byte_changed_has_one_answer(rt: HostRuntime) -> Result<(), Fa
 }
 
 #[test]
-fn a_disk_of_version_two_with_any_byte_changed_has_one_answer(
-    rt: HostRuntime,
-) -> Result<(), Fail> {
+fn a_disk_of_version_two_with_any_byte_changed_has_one_answer(rt: HostRuntime) -> Result<(), Fail> {
     let counts = counts_of_changed(&rt, rt.alloc(), &UPGRADED, 750)?;
     assert_eq!(rt; counts, [196, 285, 52, 373, 248, 1_838, 8]);
     Ok(())

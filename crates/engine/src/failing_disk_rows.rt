@@ -143,49 +143,51 @@ fn are_calls(
     Ok(store.disk().list.as_str() == calls)
 }
 
+// Steps, and the calls that they make, those that make the store among them.
+static CALL_ROWS: [(&[&str], &str); 5] = [
+    (
+        &[FIVE_PUTS, "flush"],
+        "write 0 545; sync; \
+         read 128 1; write 545 103; sync; write 129 63; sync; gate 128 1; sync; ",
+    ),
+    (
+        &[SEVENTEEN_PUTS, "flush"],
+        "write 0 545; sync; \
+         read 128 1; write 545 223; write 768 143; sync; write 129 63; sync; gate 128 1; sync; ",
+    ),
+    // An upgrade makes the calls of a flush.
+    (
+        &[FIVE_PUTS, "flush", "upgrade"],
+        "write 0 545; sync; \
+         read 128 1; write 545 103; sync; write 129 63; sync; gate 128 1; sync; \
+         read 192 1; gate 192 0; write 648 102; sync; write 193 63; sync; gate 192 1; sync; ",
+    ),
+    (
+        &PUT_AGAIN,
+        "write 0 545; sync; \
+         read 128 1; write 545 103; sync; write 129 63; sync; gate 128 1; sync; \
+         read 192 1; gate 192 0; write 648 43; sync; write 193 63; sync; gate 192 1; sync; \
+         read 128 1; gate 128 0; write 691 77; write 768 54; sync; write 129 63; sync; gate 128 1; sync; ",
+    ),
+    (
+        &[
+            "a=123456789 b=123456789 c=123456789",
+            "flush",
+            FOUR_LONG_PUTS,
+            "flush",
+            "-a -b -c",
+            "flush",
+        ],
+        "write 0 545; sync; \
+         read 128 1; write 545 60; sync; write 129 63; sync; gate 128 1; sync; \
+         read 192 1; gate 192 0; write 605 163; sync; write 193 63; sync; gate 192 1; sync; \
+         read 128 1; gate 128 0; write 768 177; sync; write 129 63; sync; gate 128 1; sync; ",
+    ),
+];
+
 #[test]
 fn the_calls_of_a_flush_have_their_order(rt: HostRuntime) -> Result<(), Fail> {
-    let rows: [(&[&str], &str); 5] = [
-        (
-            &[FIVE_PUTS, "flush"],
-            "write 0 545; sync; \
-             read 128 1; write 545 103; sync; write 129 63; sync; gate 128 1; sync; ",
-        ),
-        (
-            &[SEVENTEEN_PUTS, "flush"],
-            "write 0 545; sync; \
-             read 128 1; write 545 223; write 768 143; sync; write 129 63; sync; gate 128 1; sync; ",
-        ),
-        // An upgrade makes the calls of a flush.
-        (
-            &[FIVE_PUTS, "flush", "upgrade"],
-            "write 0 545; sync; \
-             read 128 1; write 545 103; sync; write 129 63; sync; gate 128 1; sync; \
-             read 192 1; gate 192 0; write 648 102; sync; write 193 63; sync; gate 192 1; sync; ",
-        ),
-        (
-            &PUT_AGAIN,
-            "write 0 545; sync; \
-             read 128 1; write 545 103; sync; write 129 63; sync; gate 128 1; sync; \
-             read 192 1; gate 192 0; write 648 43; sync; write 193 63; sync; gate 192 1; sync; \
-             read 128 1; gate 128 0; write 691 77; write 768 54; sync; write 129 63; sync; gate 128 1; sync; ",
-        ),
-        (
-            &[
-                "a=123456789 b=123456789 c=123456789",
-                "flush",
-                FOUR_LONG_PUTS,
-                "flush",
-                "-a -b -c",
-                "flush",
-            ],
-            "write 0 545; sync; \
-             read 128 1; write 545 60; sync; write 129 63; sync; gate 128 1; sync; \
-             read 192 1; gate 192 0; write 605 163; sync; write 193 63; sync; gate 192 1; sync; \
-             read 128 1; gate 128 0; write 768 177; sync; write 129 63; sync; gate 128 1; sync; ",
-        ),
-    ];
-    for (steps, calls) in &rows {
+    for (steps, calls) in &CALL_ROWS {
         assert!(rt; are_calls(&rt, rt.alloc(), *steps, *calls)?, "{calls}");
     }
     Ok(())

@@ -1,8 +1,9 @@
 //! What is left where the log is full.
 use crate::crews::ALONE;
+use crate::frame_rows::{LONG_A_LEAF, LONG_A_PUT};
 use crate::log_rows::{
-    FIRST_SLOT, HEADER_1, HEADER_2, LONG_A_LEAF, LONG_A_PUT, LONG_PUT, SlotRow, has_slot, is_disk,
-    look, play, store_on_used_disk,
+    FIRST_SLOT, HEADER_1, HEADER_2, LONG_PUT, SlotRow, has_slot, is_disk, look, play,
+    store_on_used_disk,
 };
 use crate::store::Store;
 use flush_log::{Disk, MemDisk};

@@ -3,6 +3,8 @@
 #![tactic(auto)]
 
 #[cfg(test)]
+mod at_limits;
+#[cfg(test)]
 mod bases;
 #[cfg(test)]
 mod board_rows;

@@ -1,8 +1,10 @@
 //! The log as bytes: what flushes and the making of a store write (docs/EXAMPLES.md).
 use crate::crews::{ALONE, crews};
 use crate::frame_rows::{
-    A_3, A_ABSENT, A_PUT, EMPTY_LEAF, FOUR_PUT, FREE_1, LEAF_0, LEAF_1, ROOT,
-    SHARED_EMPTY_LEAF, SHARED_LEAF_0, SHARED_LEAF_1, SHARED_ROOT,
+    A_3, A_ABSENT, A_PUT, A_PUT_9, D_ABSENT_IN_5, EMPTY_LEAF, FOUR_PUT, FREE_1, FREE_2, INDEX_5,
+    INDEX_6, INDEX_7, LEAF_0, LEAF_1, LEAF_ABC, LEAF_DEF, LEAF_GHIJ, LEAF_KLM, LEAF_NOPQ,
+    LONG_A_AND_B_LEAF, LONG_A_PUT, NINE_BYTES_PUT, ROOT, SHARED_EMPTY_LEAF, SHARED_LEAF_0,
+    SHARED_LEAF_1, SHARED_ROOT, SIXTEEN_BYTES_LEAF, SIXTEEN_BYTES_PUT, TEN_BYTES_PUT,
 };
 use crate::outcomes::Outcomes;
 use crate::step::{Answer, Step};
@@ -101,64 +103,11 @@ pub(crate) const HEADER_1: &[u8] = b"BWSG\0\0\0\0\0\0\0\0\0\0\0\x01";
 
 pub(crate) const HEADER_2: &[u8] = b"BWSG\0\0\0\0\0\0\0\0\0\0\0\x02";
 
-pub(crate) const FREE_2: &[u8] = b"\x05\0\0\0\x08\0\0\0\0\0\0\0\x02";
-
-const A_PUT_9: &[u8] = b"\x02\0\0\0\x11\0\0\0\0\0\0\0\0\0\x01\0\x01a\x01\0\x019";
-
-pub(crate) const LEAF_ABC: &[u8] =
-    b"\x01\0\0\0\x1e\0\0\0\0\0\0\0\0\0\0\0\x03\0\x01a\0\x011\0\x01b\0\x011\0\x01c\0\x011";
-
-pub(crate) const LEAF_DEF: &[u8] =
-    b"\x01\0\0\0\x1f\0\0\0\0\0\0\0\x01\0\x01d\0\x03\0\x01d\0\x011\0\x01e\0\x011\0\x01f\0\x011";
-
-pub(crate) const LEAF_GHIJ: &[u8] =
-    b"\x01\0\0\0\x25\0\0\0\0\0\0\0\x02\0\x01g\0\x04\0\x01g\0\x011\0\x01h\0\x011\0\x01i\0\x011\0\x01j\0\x011";
-
-pub(crate) const LEAF_KLM: &[u8] =
-    b"\x01\0\0\0\x1f\0\0\0\0\0\0\0\x03\0\x01k\0\x03\0\x01k\0\x011\0\x01l\0\x011\0\x01m\0\x011";
-
-pub(crate) const LEAF_NOPQ: &[u8] =
-    b"\x01\0\0\0\x25\0\0\0\0\0\0\0\x04\0\x01n\0\x04\0\x01n\0\x011\0\x01o\0\x011\0\x01p\0\x011\0\x01q\0\x011";
-
-pub(crate) const INDEX_5: &[u8] =
-    b"\x03\0\0\0\x21\0\0\0\0\0\0\0\x05\0\0\0\x02\0\0\0\0\0\0\0\0\0\0\0\x01d\0\0\0\0\0\0\0\x01";
-
-pub(crate) const INDEX_6: &[u8] = b"\x03\0\0\0\x2e\0\0\0\0\0\0\0\x06\0\x01g\0\x03\
-    \0\x01g\0\0\0\0\0\0\0\x02\0\x01k\0\0\0\0\0\0\0\x03\0\x01n\0\0\0\0\0\0\0\x04";
-
-pub(crate) const INDEX_7: &[u8] =
-    b"\x03\0\0\0\x21\0\0\0\0\0\0\0\x07\0\0\0\x02\0\0\0\0\0\0\0\0\0\x05\0\x01g\0\0\0\0\0\0\0\x06";
-
-const D_ABSENT_IN_5: &[u8] = b"\x04\0\0\0\x0e\0\0\0\0\0\0\0\x05\0\x01\0\x01d\0";
-
-pub(crate) const NINE_BYTES_PUT: &[u8] = b"\x02\0\0\0\x37\0\0\0\0\0\0\0\0\0\x03\
-    \0\x01a\x01\0\x09123456789\0\x01b\x01\0\x09123456789\0\x01c\x01\0\x09123456789";
-
-const TEN_BYTES_PUT: &[u8] = b"\x02\0\0\0\x38\0\0\0\0\0\0\0\0\0\x03\
-    \0\x01a\x01\0\x09123456789\0\x01b\x01\0\x09123456789\0\x01c\x01\0\x0a1234567890";
-
-pub(crate) const SIXTEEN_BYTES_PUT: &[u8] = b"\x02\0\0\0\x9e\0\0\0\0\0\0\0\0\0\x04\
-    \0\x10sixteen_bytes_k1\x01\0\x10sixteen_bytes_v1\0\x10sixteen_bytes_k2\x01\0\x10sixteen_bytes_v2\
-    \0\x10sixteen_bytes_k3\x01\0\x10sixteen_bytes_v3\0\x10sixteen_bytes_k4\x01\0\x10sixteen_bytes_v4";
-
-pub(crate) const SIXTEEN_BYTES_LEAF: &[u8] = b"\x01\0\0\0\x9c\0\0\0\0\0\0\0\0\0\0\0\x04\
-    \0\x10sixteen_bytes_k1\0\x10sixteen_bytes_v1\0\x10sixteen_bytes_k2\0\x10sixteen_bytes_v2\
-    \0\x10sixteen_bytes_k3\0\x10sixteen_bytes_v3\0\x10sixteen_bytes_k4\0\x10sixteen_bytes_v4";
-
 pub(crate) const FOUR_LONG_PUTS: &str =
     "sixteen_bytes_k1=sixteen_bytes_v1 sixteen_bytes_k2=sixteen_bytes_v2 \
     sixteen_bytes_k3=sixteen_bytes_v3 sixteen_bytes_k4=sixteen_bytes_v4";
 
 pub(crate) const LONG_PUT: &str = "a=0123456789abcdef";
-
-pub(crate) const LONG_A_PUT: &[u8] =
-    b"\x02\0\0\0\x20\0\0\0\0\0\0\0\0\0\x01\0\x01a\x01\0\x100123456789abcdef";
-
-pub(crate) const LONG_A_LEAF: &[u8] =
-    b"\x01\0\0\0\x21\0\0\0\0\0\0\0\0\0\0\0\x01\0\x01a\0\x100123456789abcdef";
-
-pub(crate) const LONG_A_AND_B_LEAF: &[u8] =
-    b"\x01\0\0\0\x27\0\0\0\0\0\0\0\0\0\0\0\x02\0\x01a\0\x100123456789abcdef\0\x01b\0\x012";
 
 static ROWS: [Row; 20] = [
     Row {
