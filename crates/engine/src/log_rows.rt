@@ -109,7 +109,7 @@ pub(crate) const FOUR_LONG_PUTS: &str =
 
 pub(crate) const LONG_PUT: &str = "a=0123456789abcdef";
 
-static ROWS: [Row; 20] = [
+static ROWS: [Row; 19] = [
     Row {
         name: "a new store",
         steps: &[],
@@ -425,22 +425,6 @@ static ROWS: [Row; 20] = [
             A_PUT_9,
         ],
     },
-    // The log has all that the store holds, and all of it is written again.
-    Row {
-        name: "an upgrade of a new store",
-        steps: &["upgrade", "flush"],
-        answers: "upgraded 2; flushed 2; ",
-        slots: [
-            SlotRow {
-                sequence: 2,
-                tail: 50,
-                version: 2,
-                ..FIRST_SLOT
-            },
-            FIRST_SLOT,
-        ],
-        log: &[SHARED_EMPTY_LEAF],
-    },
     // The steps behind one that is refused are not begun.
     Row {
         name: "a refused step",
@@ -717,7 +701,7 @@ fn outcomes_of(rt: &(impl Threads + Sync), crew: Crew, alloc: Global, tries: Tri
 #[test]
 fn the_rows_come_out(rt: HostRuntime) {
     for crew in &crews() {
-        outcomes_of(&rt, *crew, rt.alloc(), Tries::Once).check(&rt, *crew, 20);
+        outcomes_of(&rt, *crew, rt.alloc(), Tries::Once).check(&rt, *crew, 19);
     }
 }
 
@@ -725,7 +709,7 @@ fn the_rows_come_out(rt: HostRuntime) {
 // too (`bench/README.md`). Then at most one row can't be told.
 #[test]
 fn a_refused_step_can_be_tried_again(rt: HostRuntime) {
-    outcomes_of(&rt, ALONE, rt.alloc(), Tries::Twice).check_refused(&rt, ALONE, 20);
+    outcomes_of(&rt, ALONE, rt.alloc(), Tries::Twice).check_refused(&rt, ALONE, 19);
 }
 
 // The bytes from this place on.
