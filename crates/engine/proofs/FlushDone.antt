@@ -1,6 +1,5 @@
 -- Why a flush or an upgrade is refused, and what one that was planned leaves.
 use Rattle.std.specs.Prelude.{◌≡◌, ◌≢◌, ◌⊎◌, ◌≤◌, ℕ, suc, IsTrue, Bool, true, false, if◌then◌else◌, List, [], ◌∷◌, length, Result, Ok, Err, MatchResult, IfOk, IfErr}
-use Rattle.std.specs.List.{AllByRecursion}
 use Rattle.std.proofs.Common.{refl, sym, ap, ◌∙◌, subst, inl, inr, arith}
 use Rattle.keys.specs.declared.fault.Fault.{Fault}
 use Rattle.keys.specs.declared.fault.Fault.TheVariants.{NoMemory, Device, Spent, Full, AlreadyUpgraded}
@@ -16,7 +15,7 @@ use Rattle.flush_log.specs.Commit.{committed, IsUncommitted}
 use Rattle.flush_log.specs.CommitPlan.{AreImages, CommitPlan, next_slot, next_tail, IsPlanned, file_with, LeftOf}
 use Rattle.flush_log.specs.Disk.{View, Kept, LeavesOnly}
 use Rattle.flush_log.specs.FlushText.{version_with, text_of, flush_text, upgrade_text, HasFrames, flushed}
-use Rattle.flush_log.specs.Images.{AreOfText, admitted}
+use Rattle.flush_log.specs.Images.{AreOfText}
 use Rattle.flush_log.specs.Layout.{tail_after, spans, is_full_for_flush}
 use Rattle.flush_log.specs.Segments.{disk_size}
 use Rattle.flush_log.specs.Slot.{Slot, format_of}

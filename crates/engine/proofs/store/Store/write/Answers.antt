@@ -9,7 +9,7 @@ use Rattle.flush_log.proofs.ViewLemmas.{counted_failed}
 use Rattle.recovery.specs.InStep.{IsStoreOf}
 use Rattle.engine.specs.Calls.{with_version}
 use Rattle.engine.specs.State.{IsSound, state_of, store_in}
-use Rattle.engine.proofs.FlushDone.{IsDue, due-of, on-bytes, never-device, hides, keeps, reads, writing-refused, writing-would, writing-crashed, written-now, written-sound}
+use Rattle.engine.proofs.FlushDone.{due-of, on-bytes, never-device, hides, keeps, reads, writing-refused, writing-would, writing-crashed, written-now, written-sound}
 use Rattle.engine.proofs.store.Store.write.Goals as goal
 
 pub plan-requires-clause-store : goal.plan-requires-clause-store
