@@ -160,8 +160,10 @@ module _ (text : Text) (s : Settings) (st : Store) (is : IsDue text st) where
   as_text : (file : List ℕ) → after_writing text s st file ≡ after_text s with_its file frames
   as_text file = writes-as text s st file is.own is.due
 
-  pub writing-refused : (fault : Fault) → next_tail s (slot_of with_its) frames ≡ Err fault → (file : List ℕ) → after_writing text s st file ≡ Err fault
-  writing-refused fault h file = as_text file ∙ text-some s with_its file frames is.some ∙ commit-refused slot is_full now (committed s file (spans s st.tail frames) slot) fault h
+  -- where no commit is planned
+  pub writing-refused : (fault : Fault) (file : List ℕ) (old new : ℕ) → (fault ≡ NoMemory) ⊎ (next_tail s (slot_of with_its) frames ≡ Err fault) → IsWritingFault text s st file old new fault
+  writing-refused fault file old new (inl memory) = inr (inl (memory, is.due))
+  writing-refused fault file old new (inr h) = inl (as_text file ∙ text-some s with_its file frames is.some ∙ commit-refused slot is_full now (committed s file (spans s st.tail frames) slot) fault h)
 
   module _ (m : CommitPlan) (p : IsWriting text s st m) where
     writing-done : (file : List ℕ) → after_writing text s st file ≡ left now (file_with s (slot_of with_its) frames file)
