@@ -3,7 +3,7 @@ use Rattle.std.specs.Prelude.{◌≡◌, ◌≢◌, ◌⊎◌, ◌≤◌, ℕ, s
 use Rattle.std.specs.List.{AllByRecursion}
 use Rattle.std.proofs.Common.{refl, sym, ap, ◌∙◌, subst, inl, inr, arith}
 use Rattle.keys.specs.declared.fault.Fault.{Fault}
-use Rattle.keys.specs.declared.fault.Fault.TheVariants.{NoMemory, Device, Spent, Full}
+use Rattle.keys.specs.declared.fault.Fault.TheVariants.{NoMemory, Device, Spent, Full, AlreadyUpgraded}
 use Rattle.keys.specs.declared.settings.Settings.{Settings}
 use Rattle.keys.specs.declared.version.Version.{Version}
 use Rattle.keys.specs.declared.version.Version.TheVariants.{One, Two}
@@ -28,7 +28,7 @@ use Rattle.flush_log.proofs.ViewLemmas.{weaker}
 use Rattle.recovery.specs.InStep.{IsInStep, IsStore, IsStoreOf}
 use Rattle.recovery.specs.StoreOfDisk.{store_of_disk}
 use Rattle.recovery.proofs.FlushBack.{left, text-some}
-use Rattle.engine.specs.Calls.{after_writing, IsOwnText, IsToWrite, WouldWrite, with_version, IsWriting}
+use Rattle.engine.specs.Calls.{after_writing, IsOwnText, IsToWrite, WouldWrite, IsWritingFault, with_version, IsWriting}
 use Rattle.engine.specs.State.{State, IsSound, store_in}
 use Rattle.engine.proofs.CreateLemmas.{slot_with, opened-is}
 
@@ -190,6 +190,34 @@ module _ (text : Text) (s : Settings) (st : Store) (is : IsDue text st) where
 
 pub on-bytes : (r : Result (Store × List ℕ) Fault) (now : Store) (bytes seen : List ℕ) → r ≡ left now bytes → seen ≡ bytes → r ≡ left now seen
 on-bytes r now bytes seen done same = done ∙ ap (λ (b : List ℕ). left now b) (sym same)
+
+-- only a log of version 2 is refused as upgraded already
+never_upgraded : (s : Settings) (st : Store) (file : List ℕ) (text : List Frame) → after_text s st file text ≢ Err AlreadyUpgraded
+never_upgraded s st file [] e = absurd (cc)
+never_upgraded s st file (f ∷ fs) e =
+    let t : Slot = flush_slot s st (f ∷ fs) in
+    of (is_spent t) (is_full_for_flush s t.head t.tail) e
+  where
+    of : (a b : Bool) → (let t : Slot = flush_slot s st (f ∷ fs) in
+        if a then Err Spent else (if b then Err Full else left (store_after (flushed st.tree) t) (committed s file (spans s st.tail (f ∷ fs)) t))) ≢ Err AlreadyUpgraded
+    of true b h = absurd (cc)
+    of false true h = absurd (cc)
+    of false false h = absurd (cc)
+
+pub upgraded-already : (s : Settings) (st : Store) (file : List ℕ) (old new : ℕ) → IsWritingFault texts.Upgrade s st file old new AlreadyUpgraded → st.version ≡ Two
+upgraded-already s st file old new (inl right) = of st.version right
+  where
+    of : (version : Version) → unless_upgraded version (after_text s (of_version_two st) file (upgrade_text st.tree)) ≡ Err AlreadyUpgraded → version ≡ Two
+    of One h = absurd (never_upgraded s (of_version_two st) file (upgrade_text st.tree) h)
+    of Two h = refl
+upgraded-already s st file old new (inr (inl memory)) = absurd (no memory.0)
+  where
+    no : AlreadyUpgraded ≢ NoMemory
+    no e = cc
+upgraded-already s st file old new (inr (inr device)) = absurd (no device.0)
+  where
+    no : AlreadyUpgraded ≢ Device
+    no e = cc
 
 -- ---- sound again
 

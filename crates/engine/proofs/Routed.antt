@@ -13,6 +13,7 @@ use Rattle.keys.specs.declared.command.Reply.{Reply}
 use Rattle.keys.specs.declared.fault.Fault.{Fault}
 use Rattle.keys.specs.declared.fault.Fault.TheVariants.{NoMemory, Spent}
 use Rattle.keys.specs.declared.settings.Settings.{Settings}
+use Rattle.keys.specs.declared.version.Version.TheVariants.{One}
 use Rattle.keys.proofs.NarrowedLemmas.{replies-with_ends}
 use Rattle.index_page.specs.Page.{PageOfKind}
 use Rattle.index_page.specs.Page.PageOfKind.{Leaf}
@@ -246,7 +247,7 @@ abbrev pub IsFaultOf : Tree → Fault → Type 0
 IsFaultOf planned fault = (fault ≡ NoMemory) ⊎ ((fault ≡ Spent) × (64 < planned.height))
 
 abbrev pub as_store : Tree → Store
-as_store t = record { tree = t; head = 0; tail = 0; sequence = 0 }
+as_store t = record { tree = t; head = 0; tail = 0; sequence = 0; version = One }
 
 -- the plan of a sound tree is sound, where its height is within the limit
 pub sound_planned : (s : Settings) (m now : TreeInMemory) (cs : List (Command Global)) → IsSoundInMemory s m → AreAllHome now × (tree_of now ≡ planned_tree s (tree_of m) cs) → now.height ≤ 64

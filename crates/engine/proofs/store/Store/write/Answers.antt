@@ -1,4 +1,4 @@
-use Rattle.std.proofs.Common.{inl, inr, refl, sym, ap, subst, ⊎_elim, ◌∙◌}
+use Rattle.std.proofs.Common.{◌≡◌, false, inl, inr, refl, sym, ap, subst, ⊎_elim, ◌∙◌}
 use Rattle.std.proofs.lemmas.Result.{err_from_is_err_and}
 use Rattle.mapping.specs.TreeInMemory.{TreeInMemory, tree_of}
 use Rattle.flush_log.specs.AfterFlush.{slot_of}
@@ -13,10 +13,10 @@ use Rattle.engine.proofs.FlushDone.{IsDue, due-of, on-bytes, never-device, hides
 use Rattle.engine.proofs.store.Store.write.Goals as goal
 
 pub plan-requires-clause-store : goal.plan-requires-clause-store
-plan-requires-clause-store g c = (c.self.inside.version, c.self.invariant.sound.is)
+plan-requires-clause-store g c κs within = (c.self.inside.version, c.self.invariant.sound.is)
 
 pub plan-requires-clause-some : goal.plan-requires-clause-some
-plan-requires-clause-some g c =
+plan-requires-clause-some g c κs within =
     (due-of c.args.text c.self.inside.settings _ _ c.self.view_is c.requires.own c.requires.due c.self.invariant.sound.is c.an_upgrade_is_a_flush_of_outdated_pages.ensures.some).some
 
 -- ---- not planned
@@ -93,6 +93,9 @@ returns-clause-crash g c = rw (← c.self.view_is) (λ settled.
     writing-crashed text s st is _ p old (g.D.Disk.view c.write.new.disk) store
     (hides c.a_crash_in_a_flush_leaves_the_store_before_or_after.ensures.hidden c.a_crash_in_an_upgrade_leaves_the_store_before_or_after.ensures.hidden text)
     (c.write.ensures.crash (slot_of (with_version (version_with text) st)) (text_of text st.tree) p settled))
+
+pub returns-clause-frames : goal.returns-clause-frames
+returns-clause-frames g c = rw (← c.self.view_is) (c.in_ok-commit.ensures.plan c.self.inside.version).spelled.within
 
 pub returns-clause-version : goal.returns-clause-version
 returns-clause-version g c = ap (λ (t : Slot). t.version) (c.slot.view_is ∙ c.slot-slot.ensures ∙ (c.in_ok-commit.ensures.plan c.self.inside.version).slot)
