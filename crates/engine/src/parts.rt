@@ -176,10 +176,15 @@ fn settle(
     Ok(())
 }
 
-// Takes the page out of its place and gives the place up.
-fn give_up(rt: &impl Abort, table: &mut Table<u64, Global>, pid: u64) -> u64 {
+// Takes the page out of its place.
+fn take_out(rt: &impl Abort, table: &mut Table<u64, Global>, pid: u64) -> u64 {
     assert!(rt; table.get(pid).is_some());
-    let page = table.take(pid);
+    table.take(pid)
+}
+
+// The same, and gives the place up.
+fn give_up(rt: &impl Abort, table: &mut Table<u64, Global>, pid: u64) -> u64 {
+    let page = take_out(rt, table, pid);
     assert!(rt; table.is_away(pid));
     table.free(pid);
     assert!(rt; !table.is_used(pid));
@@ -253,7 +258,7 @@ fn a_table_lists_its_pids(rt: HostRuntime) -> Result<(), Fail> {
     settle(&rt, &mut table, 9, 1)?;
     settle(&rt, &mut table, 5, 2)?;
     assert!(rt; pids_are(&table, [5, 9]));
-    assert_eq!(rt; table.take(9), 1);
+    assert_eq!(rt; take_out(&rt, &mut table, 9), 1);
     assert!(rt; is_alone_at_home(&table, 5));
     Ok(())
 }
