@@ -1,6 +1,5 @@
 -- Why a flush or an upgrade is refused, and what one that was planned leaves.
 use Rattle.std.specs.Prelude.{◌≡◌, ◌≢◌, ◌⊎◌, ◌≤◌, ℕ, suc, IsTrue, Bool, true, false, if◌then◌else◌, List, [], ◌∷◌, length, Result, Ok, Err, MatchResult, IfOk, IfErr}
-use Rattle.std.specs.List.{AllByRecursion}
 use Rattle.std.proofs.Common.{refl, sym, ap, ◌∙◌, subst, inl, inr, arith}
 use Rattle.keys.specs.declared.fault.Fault.{Fault}
 use Rattle.keys.specs.declared.fault.Fault.TheVariants.{NoMemory, Device, Spent, Full, AlreadyUpgraded}
@@ -16,7 +15,7 @@ use Rattle.flush_log.specs.Commit.{committed, IsUncommitted}
 use Rattle.flush_log.specs.CommitPlan.{AreImages, CommitPlan, next_slot, next_tail, IsPlanned, file_with, LeftOf}
 use Rattle.flush_log.specs.Disk.{View, Kept, LeavesOnly}
 use Rattle.flush_log.specs.FlushText.{version_with, text_of, flush_text, upgrade_text, HasFrames, flushed}
-use Rattle.flush_log.specs.Images.{AreOfText, admitted}
+use Rattle.flush_log.specs.Images.{AreOfText}
 use Rattle.flush_log.specs.Layout.{tail_after, spans, is_full_for_flush}
 use Rattle.flush_log.specs.Segments.{disk_size}
 use Rattle.flush_log.specs.Slot.{Slot, format_of}
@@ -161,8 +160,10 @@ module _ (text : Text) (s : Settings) (st : Store) (is : IsDue text st) where
   as_text : (file : List ℕ) → after_writing text s st file ≡ after_text s with_its file frames
   as_text file = writes-as text s st file is.own is.due
 
-  pub writing-refused : (fault : Fault) → next_tail s (slot_of with_its) frames ≡ Err fault → (file : List ℕ) → after_writing text s st file ≡ Err fault
-  writing-refused fault h file = as_text file ∙ text-some s with_its file frames is.some ∙ commit-refused slot is_full now (committed s file (spans s st.tail frames) slot) fault h
+  -- where no commit is planned
+  pub writing-refused : (fault : Fault) (file : List ℕ) (old new : ℕ) → (fault ≡ NoMemory) ⊎ (next_tail s (slot_of with_its) frames ≡ Err fault) → IsWritingFault text s st file old new fault
+  writing-refused fault file old new (inl memory) = inr (inl (memory, is.due))
+  writing-refused fault file old new (inr h) = inl (as_text file ∙ text-some s with_its file frames is.some ∙ commit-refused slot is_full now (committed s file (spans s st.tail frames) slot) fault h)
 
   module _ (m : CommitPlan) (p : IsWriting text s st m) where
     writing-done : (file : List ℕ) → after_writing text s st file ≡ left now (file_with s (slot_of with_its) frames file)

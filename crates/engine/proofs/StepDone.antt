@@ -12,7 +12,7 @@ use Rattle.keys.specs.declared.fault.Fault.{Fault}
 use Rattle.keys.specs.declared.fault.Fault.TheVariants.{BadCrew, Device, Failed, Spent, KeyTooLong, ValueTooLong, BatchTooLong}
 use Rattle.keys.specs.declared.settings.Settings.{Settings}
 use Rattle.mapping.specs.Levels.{contents}
-use Rattle.mapping.specs.Tree.{Tree, Store, most_levels}
+use Rattle.mapping.specs.Tree.{Store, most_levels}
 use Rattle.climb_plan.specs.Plan.{plan, planned_tree}
 use Rattle.flush_log.specs.Disk.{View, Same}
 use Rattle.flush_log.specs.declared.text.Text.{Text}

@@ -155,7 +155,7 @@ impl<D: Disk> Store<D> {
     /// memory was refused, and `Fault::Spent`, where the tree would have more than 64 levels. After an `Err` the store is as it was,
     /// and the same batch can be called again.
     ///
-    /// The disk gets nothing of it before the next flush.
+    /// The disk gets nothing of it before the next flush or upgrade.
     pub fn batch(
         &mut self,
         rt: &(impl Threads + Sync),

@@ -31,7 +31,7 @@ impl<D: Disk> Store<D> {
     /// Makes the first segment of the log free, and returns the number of the segment with which the log begins now. The pages
     /// whose base stands in that segment are written again at the log's end, as they stand in the log: base and deltas. A
     /// commit makes that the store's, with a log that begins one segment later. All that is done on the log alone: what was not
-    /// flushed stays in memory, unflushed, and the disk stands for the same pages as before.
+    /// flushed stays in memory, unflushed, the disk stands for the same pages as before, and the log keeps its version.
     ///
     /// A store that has failed is `Fault::Failed`, and then a crew out of range `Fault::BadCrew`. A log in one segment is
     /// `Fault::NothingToClean`; the disk isn't called then. Else the log is read: the fault at its least position is `Fault::BadSegment`

@@ -29,10 +29,11 @@ fn settle<D: Disk>(disk: &mut D) -> Result<(), DiskFault>
 }
 
 impl<D: Disk> Store<D> {
-    /// Opens the store that the disk holds: its pages, root, height and settings are those that were flushed last. It writes nothing.
+    /// Opens the store that the disk holds: its pages, root, height and settings are those that were flushed last, and its log has the
+    /// version that it had then. It writes nothing.
     ///
-    /// The disk has to be settled: synced since it was last written to, as by a flush, a clean or a `reopen` that answered Ok, or by the
-    /// caller's own `sync`. Of a disk that isn't, the store is read all the same, but a crash may take back what was read: all that is
+    /// The disk has to be settled: synced since it was last written to, as by a flush, an upgrade, a clean or a `reopen` that answered Ok, or
+    /// by the caller's own `sync`. Of a disk that isn't, the store is read all the same, but a crash may take back what was read: all that is
     /// promised of crashes is promised from a settled disk on.
     ///
     /// A crew out of range is `Fault::BadCrew`. A disk that holds no store is refused with exactly one fault, as `recovery::recover`
@@ -82,7 +83,7 @@ impl<D: Disk> Store<D> {
     }
 
     /// Gives up what the store has in memory, makes all that was written to its disk last, and opens the store that the disk
-    /// holds: that of the last flush. So a store goes on that has failed (`Fault::Failed`).
+    /// holds: that of the last flush or upgrade. So a store goes on that has failed (`Fault::Failed`).
     ///
     /// A crew out of range is `Fault::BadCrew`, and where a call of the disk failed there is `Fault::Device`; else as `Store::recover`.
     /// After an `Err` the disk is handed back, with what a read gives as it was.

@@ -21,9 +21,9 @@ use keys::{Fault, Version};
 use std::thread::Threads;
 
 impl<D: Disk> Store<D> {
-    /// Brings the log to version 2, and returns the sequence number now. Every page is written again, base and runs, and its base by
-    /// what each key doesn't share with the key before; one commit makes that the store's, and it has all that the store holds, as after a
-    /// flush. From then on each flush writes bases so. There is no way back.
+    /// Brings the log to version 2, and returns the sequence number now. Every page is written again, base and runs, each key of a base by
+    /// what it doesn't share with the key before it. One commit makes that the store's, so that the log has all that the store holds, as
+    /// after a flush. From then on flushes write bases so. There is no way back.
     ///
     /// A store that has failed is `Fault::Failed`, and then a crew out of range `Fault::BadCrew`. A log of version 2 is
     /// `Fault::AlreadyUpgraded`; no memory is taken then, and the disk is not called. Else there are `Fault::NoMemory`; `Fault::Spent`,

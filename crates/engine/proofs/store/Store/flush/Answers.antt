@@ -1,4 +1,4 @@
-use Rattle.std.proofs.Common.{inl, refl, ap}
+use Rattle.std.proofs.Common.{inl, refl}
 use Rattle.flush_log.proofs.SameLemmas.{leaves_itself}
 use Rattle.engine.specs.State.{store_in}
 use Rattle.engine.proofs.FlushDone.{nothing-flushed}

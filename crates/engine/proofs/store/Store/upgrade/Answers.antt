@@ -24,5 +24,5 @@ returns-clause-already g c fine able =
           let no = c.if-eq.false in
           absurd (cc))),
       (λ is. upgraded-already old.settings old.store file _ _
-      (subst (λ r. IfErr r (IsWritingFault texts.Upgrade old.settings old.store file (g.D.Disk.failed old.disk) (g.D.Disk.failed c.write.new.self.disk))) is c.write.ensures.refused)),
+          (subst (λ r. IfErr r (IsWritingFault texts.Upgrade old.settings old.store file (g.D.Disk.failed old.disk) (g.D.Disk.failed c.write.new.self.disk))) is c.write.ensures.refused)),
     )

@@ -1,4 +1,4 @@
-use Rattle.std.proofs.Common.{◌≡◌, false, inl, inr, refl, sym, ap, subst, ⊎_elim, ◌∙◌}
+use Rattle.std.proofs.Common.{◌≡◌, false, inl, inr, refl, sym, ap, subst, ◌∙◌}
 use Rattle.std.proofs.lemmas.Result.{err_from_is_err_and}
 use Rattle.mapping.specs.TreeInMemory.{TreeInMemory, tree_of}
 use Rattle.flush_log.specs.AfterFlush.{slot_of}
@@ -9,7 +9,7 @@ use Rattle.flush_log.proofs.ViewLemmas.{counted_failed}
 use Rattle.recovery.specs.InStep.{IsStoreOf}
 use Rattle.engine.specs.Calls.{with_version}
 use Rattle.engine.specs.State.{IsSound, state_of, store_in}
-use Rattle.engine.proofs.FlushDone.{IsDue, due-of, on-bytes, never-device, hides, keeps, reads, writing-refused, writing-would, writing-crashed, written-now, written-sound}
+use Rattle.engine.proofs.FlushDone.{due-of, on-bytes, never-device, hides, keeps, reads, writing-refused, writing-would, writing-crashed, written-now, written-sound}
 use Rattle.engine.proofs.store.Store.write.Goals as goal
 
 pub plan-requires-clause-store : goal.plan-requires-clause-store
@@ -28,7 +28,7 @@ returns-in_err-commit-clause-refused g c = rw (← c.self.view_is) (
     let old = g.D.Disk.view c.self.inside.disk in
     let is = due-of c.args.text s _ _ c.self.view_is c.requires.own c.requires.due c.self.invariant.sound.is c.an_upgrade_is_a_flush_of_outdated_pages.ensures.some in
     let p = err_from_is_err_and c.from_residual.result c.from_residual.ensures.1 in
-    rw (p.1, p.2) (⊎_elim (λ memory. inr (inl (memory, is.due))) (λ full. inl (writing-refused c.args.text s st is _ full old.seen)) c.in_err-commit.ensures.err))
+    rw (p.1, p.2) (writing-refused c.args.text s st is _ old.seen _ _ c.in_err-commit.ensures.err))
 
 pub returns-in_err-commit-clause-device : goal.returns-in_err-commit-clause-device
 returns-in_err-commit-clause-device g c =
