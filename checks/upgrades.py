@@ -106,7 +106,7 @@ def kill_upgrades(programs: Programs, seed: int) -> Outcome:
         _, whole = kill(programs, path, PATIENCE)
         for number in range(KILLS):
             path.write_bytes(before)
-            printed, _ = kill(programs, path, whole * chance.random())
+            printed, _ = kill(programs, path, 1.5 * whole * chance.random())
             is_done, wrong = look_at_killed(programs, path, printed, slot, look)
             done += is_done
             if wrong:
