@@ -148,18 +148,25 @@ fn do_clean(
     }
 }
 
-// Notes what a flush or an upgrade answered, by which these pairs were to be written; where the log is full cleans it. Returns whether the
-// disk goes on.
-fn note_written(
+// Flushes or upgrades, and where the log is full cleans it. Returns whether the disk goes on.
+fn do_write(
     rt: &(impl Threads + Sync),
+    alloc: Global,
     store: &mut Store<CrashDisk<Global>>,
+    is_upgrade: bool,
     known: &mut Known,
     counts: &mut Counts,
-    now: String,
-    written: Result<u64, Fault>,
 ) -> Result<bool, Fault> {
+    let now = text_of_map(alloc, &known.map)?;
+    let written = if is_upgrade {
+        store.upgrade(rt, ALONE)
+    } else {
+        store.flush(rt, ALONE)
+    };
     match written {
         Ok(_sequence) => {
+            counts.flushes = counts.flushes.saturating_add(u32::from(!is_upgrade));
+            counts.upgrades = counts.upgrades.saturating_add(u32::from(is_upgrade));
             known.flushed = now;
             Ok(true)
         }
@@ -173,38 +180,6 @@ fn note_written(
     }
 }
 
-// Flushes. Returns whether the disk goes on.
-fn do_flush(
-    rt: &(impl Threads + Sync),
-    alloc: Global,
-    store: &mut Store<CrashDisk<Global>>,
-    known: &mut Known,
-    counts: &mut Counts,
-) -> Result<bool, Fault> {
-    let now = text_of_map(alloc, &known.map)?;
-    let written = store.flush(rt, ALONE);
-    if written.is_ok() {
-        count(&mut counts.flushes);
-    }
-    note_written(rt, store, known, counts, now, written)
-}
-
-// Upgrades. Returns whether the disk goes on.
-fn do_upgrade(
-    rt: &(impl Threads + Sync),
-    alloc: Global,
-    store: &mut Store<CrashDisk<Global>>,
-    known: &mut Known,
-    counts: &mut Counts,
-) -> Result<bool, Fault> {
-    let now = text_of_map(alloc, &known.map)?;
-    let written = store.upgrade(rt, ALONE);
-    if written.is_ok() {
-        count(&mut counts.upgrades);
-    }
-    note_written(rt, store, known, counts, now, written)
-}
-
 // Does a step: of twenty-four, twelve are batches, seven flushes, four cleans and one an upgrade. Returns whether the disk goes on.
 fn do_step(
     rt: &(impl Threads + Sync),
@@ -216,8 +191,8 @@ fn do_step(
 ) -> Result<bool, Fault> {
     match next_number(state) % 24 {
         0..=3 => do_clean(rt, store, counts),
-        4 => do_upgrade(rt, alloc, store, known, counts),
-        5..=11 => do_flush(rt, alloc, store, known, counts),
+        4 => do_write(rt, alloc, store, true, known, counts),
+        5..=11 => do_write(rt, alloc, store, false, known, counts),
         _ => {
             do_batch(rt, alloc, store, known, state, counts)?;
             Ok(true)

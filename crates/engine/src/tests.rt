@@ -64,7 +64,7 @@ pub(crate) const FIVE_PUTS: &str = "a=1 b=2 c=3 d=4 e=5";
 pub(crate) const SEVENTEEN_PUTS: &str =
     "a=1 b=1 c=1 d=1 e=1 f=1 g=1 h=1 i=1 j=1 k=1 l=1 m=1 n=1 o=1 p=1 q=1";
 
-static ROWS: [Row; 19] = [
+static ROWS: [Row; 20] = [
     Row {
         name: "row 4",
         settings: S,
@@ -232,6 +232,21 @@ static ROWS: [Row; 19] = [
             0 low= log=Old leaf runs=0: a1=1 a2=1 a3=1 a4=1\n\
             6 low= log=No index runs=1: =0 b1=7\n\
             7 low=b1 log=No leaf runs=0: b1=2 c1=2 d1=2 e1=2 f1=2\n",
+    },
+    // A leaf of a quarter of the fan isn't thin.
+    Row {
+        name: "a leaf of a quarter",
+        settings: S,
+        batches: &[SEVENTEEN_PUTS, "-l -m", "k=2", "k=3"],
+        outcome: "NNNNNNNNNNNNNNNNN; DD; R; R; root 7, height 3\n\
+            0 low= log=Old leaf runs=0: a=1 b=1 c=1\n\
+            1 low=d log=No leaf runs=0: d=1 e=1 f=1\n\
+            2 low=g log=No leaf runs=0: g=1 h=1 i=1 j=1\n\
+            3 low=k log=No leaf runs=0: k=3\n\
+            4 low=n log=No leaf runs=0: n=1 o=1 p=1 q=1\n\
+            5 low= log=No index runs=0: =0 d=1\n\
+            6 low=g log=No index runs=0: g=2 k=3 n=4\n\
+            7 low= log=No index runs=0: =5 g=6\n",
     },
     // Empty keys and keys that begin alike, on three levels: each goes to its leaf.
     Row {
@@ -590,7 +605,7 @@ fn outcomes_of(
 #[test]
 fn the_rows_come_out(rt: HostRuntime) {
     for crew in &crews() {
-        outcomes_of(&rt, *crew, rt.alloc(), &ROWS, Tries::Once).check(&rt, *crew, 19);
+        outcomes_of(&rt, *crew, rt.alloc(), &ROWS, Tries::Once).check(&rt, *crew, 20);
     }
 }
 
