@@ -10,7 +10,7 @@ use Rattle.keys.specs.Range.{is_below, is_before, in_range, rows}
 use Rattle.keys.specs.Step.{reply_to, map_after, replies_to, map_after_all}
 use Rattle.keys.specs.Narrowed.{with_end, first_end, with_ends, MayEndAt, MayEndAtAll}
 use Rattle.keys.specs.declared.command.Command.{Command}
-use Rattle.keys.specs.declared.command.Command.TheVariants.{Get, Put, Add, Del, Scan}
+use Rattle.keys.specs.declared.command.Command.TheVariants.{Scan}
 use Rattle.keys.specs.declared.command.Reply.{Reply}
 use Rattle.keys.specs.declared.command.Reply.TheVariants.{Rows}
 use Rattle.keys.proofs.Basics.{less_by, and_false}
@@ -82,35 +82,23 @@ drop-one (end ∷ ends) place = refl
 module _ {A : Type 0} where
   pub key-with_end : (end : Option (List ℕ)) (c : Command A) → key_of (with_end end c) ≡ key_of c
   key-with_end None c = refl
-  key-with_end (Some end) (Get k) = refl
-  key-with_end (Some end) (Put k v) = refl
-  key-with_end (Some end) (Add k v) = refl
-  key-with_end (Some end) (Del k) = refl
   key-with_end (Some end) (Scan lo hi limit) = refl
+  key-with_end (Some end) _ = refl
 
   pub scan-with_end : (end : Option (List ℕ)) (c : Command A) → is_scan (with_end end c) ≡ is_scan c
   scan-with_end None c = refl
-  scan-with_end (Some end) (Get k) = refl
-  scan-with_end (Some end) (Put k v) = refl
-  scan-with_end (Some end) (Add k v) = refl
-  scan-with_end (Some end) (Del k) = refl
   scan-with_end (Some end) (Scan lo hi limit) = refl
+  scan-with_end (Some end) _ = refl
 
   pub map-with_end : (m : List (List ℕ × List ℕ)) (end : Option (List ℕ)) (c : Command A) → map_after m (with_end end c) ≡ map_after m c
   map-with_end m None c = refl
-  map-with_end m (Some end) (Get k) = refl
-  map-with_end m (Some end) (Put k v) = refl
-  map-with_end m (Some end) (Add k v) = refl
-  map-with_end m (Some end) (Del k) = refl
   map-with_end m (Some end) (Scan lo hi limit) = refl
+  map-with_end m (Some end) _ = refl
 
   pub reply-with_end : (keys : List (List ℕ)) (m : List (List ℕ × List ℕ)) (end : Option (List ℕ)) (c : Command A) → IsRising m → MayEndAt keys m c end → reply_to m (with_end end c) ≡ reply_to m c
   reply-with_end keys m None c r h = refl
-  reply-with_end keys m (Some end) (Get k) r h = refl
-  reply-with_end keys m (Some end) (Put k v) r h = refl
-  reply-with_end keys m (Some end) (Add k v) r h = refl
-  reply-with_end keys m (Some end) (Del k) r h = refl
   reply-with_end keys m (Some end) (Scan lo hi limit) r h = ap (answered A) (same_rows lo hi end h.before limit m r h.rows)
+  reply-with_end keys m (Some end) _ r h = refl
 
   -- ---- a batch
 

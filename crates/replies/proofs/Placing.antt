@@ -8,14 +8,15 @@ use Rattle.std.proofs.lemmas.List.{length-append, length-map, length-set, append
 use Rattle.std.proofs.lemmas.List.Elements.{All-head, All-tail, All-rest, All-take, All-drop, All-nil, All-cons, All-filter, filter_passes, filter-append}
 use Rattle.std.proofs.lemmas.Option.{gets, none-some, same_Some, slice_get_past, slice_get_cases, slice_get-get_or, slice_get-map, slice_get_read, get_or_from_slice_get}
 use Rattle.keys.specs.CommandKey.{is_scan}
+use Rattle.keys.specs.Footprint.{Joining, Alone, RowsUpTo, joining_of, is_of_rows}
 use Rattle.keys.specs.Lists.{flat}
 use Rattle.keys.specs.Places.{is_some_that, is_scan_at}
 use Rattle.keys.specs.declared.command.Command.{Command}
-use Rattle.keys.specs.declared.command.Command.TheVariants.{Get, Put, Add, Del, Scan}
+use Rattle.keys.specs.declared.command.Command.TheVariants.{Scan}
 use Rattle.keys.specs.declared.command.Reply.{Reply}
 use Rattle.keys.specs.declared.command.Reply.TheVariants.{Missing, Rows}
 use Rattle.keys.specs.declared.piece.Piece.{Piece}
-use Rattle.replies.specs.ByPlace.{pieces_at, rows_of, is_rows, lone, joined_replies, joined_replies_at, reply_at, IsPlaceOf, AreAnswers, limit_of, limit_by, blank_of, with_answer, with_pieces}
+use Rattle.replies.specs.ByPlace.{pieces_at, rows_of, is_rows, lone, joined_by, joined_replies, joined_replies_at, reply_at, IsPlaceOf, AreAnswers, limit_in, limit_of, limit_by, blank_in, blank_of, with_answer, with_pieces}
 
 -- ---- lists
 
@@ -159,12 +160,9 @@ module _ {A : Type 0} where
   added-one limit at (r ∷ []) h one = ap (λ (x : Reply A). Some x) (goes_over limit at r (All-head (IsOfKind false) r [] h))
   added-one limit at (r ∷ (q ∷ rs)) h one = absurd (omega arith)
 
-  by_command : (c : Command A) (rs : List (Reply A)) → All (IsOfKind (is_scan c)) rs → (is_scan c ≡ false → length rs ≡ 1) → added (limit_of c) (Some (blank_of c)) rs ≡ joined_replies c rs
-  by_command (Get k) rs h one = added-one 0 Missing rs h (one refl)
-  by_command (Put k v) rs h one = added-one 0 Missing rs h (one refl)
-  by_command (Add k v) rs h one = added-one 0 Missing rs h (one refl)
-  by_command (Del k) rs h one = added-one 0 Missing rs h (one refl)
-  by_command (Scan lo hi limit) rs h one = ap (λ (xs : List (List ℕ × List ℕ)). added limit (Some (Rows xs)) rs) (sym (nothing_first limit)) ∙ added-rows limit [] rs h
+  by_joining : (j : Joining) (rs : List (Reply A)) → All (IsOfKind (is_of_rows j)) rs → (is_of_rows j ≡ false → length rs ≡ 1) → added (limit_in j) (Some (blank_in j)) rs ≡ joined_by j rs
+  by_joining Alone rs h one = added-one 0 Missing rs h (one refl)
+  by_joining (RowsUpTo limit) rs h one = ap (λ (xs : List (List ℕ × List ℕ)). added limit (Some (Rows xs)) rs) (sym (nothing_first limit)) ∙ added-rows limit [] rs h
 
   -- the answers at a place are of the kind of its command
   kinds_by : (b c : Bool) (cs : List (Command A)) (p : Piece A) (ps : List (Piece A)) (i : ℕ) → (p.place == i) ≡ c → is_scan_at cs i ≡ b → is_rows p.reply ≡ is_scan_at cs p.place → All (IsOfKind b) (replies_of ps)
@@ -191,7 +189,7 @@ module _ {A : Type 0} where
       let scan : is_scan_at cs i ≡ is_scan c = ap (is_some_that is_scan) is in
       let blank : slice_get (blanks_of cs) i ≡ Some (blank_of c) = slice_get-map blank_of cs i ∙ ap (option_map blank_of) is in
       let one : is_scan c ≡ false → length (replies_of (pieces_at ps i)) ≡ 1 = (λ plain. length-map (pieces_at ps i) (λ p. p.reply) ∙ answers.once i h (scan ∙ plain)) in
-      rw (blank, is) (by_command c (replies_of (pieces_at ps i)) (kinds (is_scan c) cs ps i scan answers.kind) one)
+      rw (blank, is) (by_joining (joining_of c) (replies_of (pieces_at ps i)) (kinds (is_scan c) cs ps i scan answers.kind) one)
 
   past : (cs : List (Command A)) (ps : List (Piece A)) (xs : List (Reply A)) (i : ℕ) → length xs ≡ length cs → length cs ≤ i → slice_get xs i ≡ reply_at cs ps i
   past cs ps xs i len h = slice_get_past xs i (omega arith) ∙ sym (ap (λ (o : Option (Command A)). joined_replies_at o (replies_of (pieces_at ps i))) (slice_get_past cs i h))
@@ -227,12 +225,12 @@ module _ {A : Type 0} where
       ap (λ (o : Option (Command A)). joined_replies_at o (replies_of (pieces_at ps place))) is ∙ ap (λ (xs : List (List ℕ × List ℕ)). Some (Rows (take limit xs))) (rows_joined (pieces_at ps place))
 
   -- the reply to a command that is no scan is the lone answer
+  joined_by-lone : (j : Joining) (rs : List (Reply A)) → is_of_rows j ≡ false → joined_by j rs ≡ lone rs
+  joined_by-lone Alone rs h = refl
+  joined_by-lone (RowsUpTo limit) rs h = absurd (cc)
+
   pub joined_replies-lone : (c : Command A) (rs : List (Reply A)) → is_scan c ≡ false → joined_replies c rs ≡ lone rs
-  joined_replies-lone (Get k) rs h = refl
-  joined_replies-lone (Put k v) rs h = refl
-  joined_replies-lone (Add k v) rs h = refl
-  joined_replies-lone (Del k) rs h = refl
-  joined_replies-lone (Scan lo hi limit) rs h = absurd (cc)
+  joined_replies-lone c rs h = joined_by-lone (joining_of c) rs h
 
   joined_replies_at-lone : (o : Option (Command A)) (c : Command A) (rs : List (Reply A)) → o ≡ Some c → is_some_that is_scan o ≡ false → joined_replies_at o rs ≡ lone rs
   joined_replies_at-lone None c rs is h = absurd (cc)
@@ -287,11 +285,8 @@ module _ {A : Type 0} where
         one.1 ∙ read_lone cs rs (pieces_at ps i) i one.0 plain (filter_passes (λ q. q.place == i) ps) (All-filter (λ q. q.place == i) (HasPieces cs rs) ps told)
 
     there : (i : ℕ) (c : Command A) → i < length cs → slice_get cs i ≡ Some c → reply_at cs ps i ≡ slice_get rs i
-    there i (Get k) h is = plain_there i h (ap (is_some_that is_scan) is)
-    there i (Put k v) h is = plain_there i h (ap (is_some_that is_scan) is)
-    there i (Add k v) h is = plain_there i h (ap (is_some_that is_scan) is)
-    there i (Del k) h is = plain_there i h (ap (is_some_that is_scan) is)
     there i (Scan lo hi limit) h is = reply_at-scan cs ps i lo hi limit is ∙ sym (scans i lo hi limit is)
+    there i _ h is = plain_there i h (ap (is_some_that is_scan) is)
 
     -- the list in which all of them stand is the list of the replies
     pub replies_determined : (xs : List (Reply A)) → ((i : ℕ) → slice_get xs i ≡ reply_at cs ps i) → length rs ≡ length cs → xs ≡ rs

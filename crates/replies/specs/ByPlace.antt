@@ -2,9 +2,9 @@
 use Rattle.std.specs.Prelude.{◌≡◌, ℕ, ◌<◌, ◌==◌, Bool, true, false, List, [], ◌∷◌, ◌++◌, map, slice_set, slice_index_or, take, flat_map, length, slice_get, Option, Some, None}
 use Rattle.std.specs.List.{All, filter}
 use Rattle.keys.specs.Bytes.{Bytes, Pairs}
+use Rattle.keys.specs.Footprint.{Joining, Alone, RowsUpTo, joining_of}
 use Rattle.keys.specs.Places.{is_scan_at}
 use Rattle.keys.specs.declared.command.Command.{Command}
-use Rattle.keys.specs.declared.command.Command.TheVariants.{Get, Put, Add, Del, Scan}
 use Rattle.keys.specs.declared.command.Reply.{Reply}
 use Rattle.keys.specs.declared.command.Reply.TheVariants.{Missing, Rows}
 use Rattle.keys.specs.declared.piece.Piece.{Piece}
@@ -28,14 +28,14 @@ abbrev pub lone : {A : Type 0} → List (Reply A) → Option (Reply A)
 lone (r ∷ []) = Some r
 lone _ = None
 
--- the reply to a command that what the pages answer makes: of a scan their rows, joined and cut at the limit; of another
--- command the answer of its one page
+-- answers as one reply: the answer of the one page, or the rows of all, joined and cut at the limit
+abbrev pub joined_by : {A : Type 0} → Joining → List (Reply A) → Option (Reply A)
+joined_by Alone rs = lone rs
+joined_by (RowsUpTo limit) rs = Some (Rows (take limit (flat_map rows_of rs)))
+
+-- the reply to a command that what the pages answer makes
 abbrev pub joined_replies : {A : Type 0} → Command A → List (Reply A) → Option (Reply A)
-joined_replies (Get k) rs = lone rs
-joined_replies (Put k v) rs = lone rs
-joined_replies (Add k v) rs = lone rs
-joined_replies (Del k) rs = lone rs
-joined_replies (Scan lo hi limit) rs = Some (Rows (take limit (flat_map rows_of rs)))
+joined_replies c rs = joined_by (joining_of c) rs
 
 -- the same of the command at a place
 abbrev pub joined_replies_at : {A : Type 0} → Option (Command A) → List (Reply A) → Option (Reply A)
@@ -59,14 +59,20 @@ pub record AreAnswers {A : Type 0} (cs : List (Command A)) (ps : List (Piece A))
 -- ---- one answer after the other
 
 -- the most rows that the reply to a command may have
+abbrev pub limit_in : Joining → ℕ
+limit_in Alone = 0
+limit_in (RowsUpTo limit) = limit
+
 abbrev pub limit_of : {A : Type 0} → Command A → ℕ
-limit_of (Scan lo hi limit) = limit
-limit_of _ = 0
+limit_of c = limit_in (joining_of c)
 
 -- what stands at a command's place before any answer to it: no rows yet for a scan, and else nothing of meaning
+abbrev pub blank_in : {A : Type 0} → Joining → Reply A
+blank_in Alone = Missing
+blank_in (RowsUpTo limit) = Rows []
+
 abbrev pub blank_of : {A : Type 0} → Command A → Reply A
-blank_of (Scan lo hi limit) = Rows []
-blank_of _ = Missing
+blank_of c = blank_in (joining_of c)
 
 -- rows with more behind them, cut at a limit
 abbrev pub with_rows : {A : Type 0} → ℕ → Reply A → Pairs Bytes → Reply A
