@@ -1,7 +1,10 @@
 -- What a command touches, what it may do there, and how its reply is put together: said once for each command. Where a command
 -- goes, what it may take away and how its pages' answers are joined is derived from these.
 use Rattle.std.specs.Prelude.{ℕ, Bool, true, false, Option}
+use Rattle.std.specs.Ordering.{is_eq}
 use Rattle.keys.specs.Bytes.{Bytes}
+use Rattle.keys.specs.Order.{order}
+use Rattle.keys.specs.Range.{is_within}
 use Rattle.keys.specs.declared.command.Command.{Command}
 use Rattle.keys.specs.declared.command.Command.TheVariants.{Get, Put, Add, Del, Scan, Wipe}
 
@@ -56,6 +59,11 @@ first_of (Range lo hi) = lo
 abbrev pub is_range : Span → Bool
 is_range (One k) = false
 is_range (Range lo hi) = true
+
+-- whether a key is in a span
+abbrev pub is_in_span : Span → Bytes → Bool
+is_in_span (One k) q = is_eq (order q k)
+is_in_span (Range lo hi) q = is_within lo hi q
 
 -- whether a deed leaves every map as it is
 abbrev pub is_looking : Deed → Bool
