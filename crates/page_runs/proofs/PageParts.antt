@@ -6,7 +6,7 @@ use Rattle.std.specs.List.{AllByRecursion, filter, sum_by}
 use Rattle.std.specs.List.Sorted.{IsStrictlySortedBy}
 use Rattle.std.specs.Map.{keys_of}
 use Rattle.std.specs.Ordering.{is_eq}
-use Rattle.std.proofs.lemmas.List.{length-append}
+use Rattle.std.proofs.lemmas.List.Concat.{length-flat_map}
 use Rattle.std.proofs.lemmas.List.Elements.{filter-append}
 use Rattle.std.proofs.lemmas.List.Sums.{sum_by-cons}
 use Rattle.keys.specs.CommandKey.{is_ranged}
@@ -249,6 +249,11 @@ module _ {V : Type 0} where
   none_passes test [] h = refl
   none_passes test (e ∷ es) h = rw (h e.0) (none_passes test es h)
 
+same_sum : {X : Type 0} (f g : X → ℕ) (xs : List X) → ((x : X) → f x ≡ g x) → sum_by f xs ≡ sum_by g xs
+same_sum f g [] h = refl
+same_sum f g (x ∷ xs) h =
+    sum_by-cons f x xs ∙ ap (λ (n : ℕ). n + sum_by f xs) (h x) ∙ ap (λ (n : ℕ). g x + n) (same_sum f g xs h) ∙ sym (sum_by-cons g x xs)
+
 module _ (A : Type 0) {V : Type 0} where
   rows_by : (b : Bool) (low : List ℕ) (end : Option (List ℕ)) (m : List (List ℕ × V)) (lo : List ℕ) (hi : Option (List ℕ)) (limit : ℕ) → goes_to {A = A} low end (Scan lo hi limit) ≡ b
       → (if b then rows lo hi limit (in_range low end m) else []) ≡ take limit (in_range lo hi (in_range low end m))
@@ -270,16 +275,6 @@ module _ (A : Type 0) {V : Type 0} where
       ∙ ap (λ (es : List (List ℕ × V)). take limit es) (filtered_parts (λ e. is_within lo hi e.0) part (ranges level) ∙ ap (λ (es : List (List ℕ × V)). in_range lo hi es) (parts_of_all level m n t r))
 
   -- and the pairs of a range are as many as those of the pages that meet it
-  length_joined : {X : Type 0} (f : X → List (List ℕ × V)) (xs : List X) → sum_by (λ x. length (f x)) xs ≡ length (flat_map f xs)
-  length_joined f [] = refl
-  length_joined f (x ∷ xs) =
-      sum_by-cons (λ y. length (f y)) x xs ∙ ap (λ (n : ℕ). length (f x) + n) (length_joined f xs) ∙ sym (length-append (f x) (flat_map f xs))
-
-  same_sum : {X : Type 0} (f g : X → ℕ) (xs : List X) → ((x : X) → f x ≡ g x) → sum_by f xs ≡ sum_by g xs
-  same_sum f g [] h = refl
-  same_sum f g (x ∷ xs) h =
-      sum_by-cons f x xs ∙ ap (λ (n : ℕ). n + sum_by f xs) (h x) ∙ ap (λ (n : ℕ). g x + n) (same_sum f g xs h) ∙ sym (sum_by-cons g x xs)
-
   count_by_page : (b : Bool) (low : List ℕ) (end : Option (List ℕ)) (m : List (List ℕ × V)) (lo : List ℕ) (hi : Option (List ℕ)) → goes_to {A = A} low end (Wipe lo hi) ≡ b
       → (if b then length (in_range lo hi (in_range low end m)) else 0) ≡ length (in_range lo hi (in_range low end m))
   count_by_page true low end m lo hi h = refl
@@ -293,5 +288,5 @@ module _ (A : Type 0) {V : Type 0} where
       let part : Place → List (List ℕ × V) = λ at. in_range at.low at.end m in
       same_sum (λ (at : Place). if goes_to {A = A} at.low at.end (Wipe lo hi) then length (in_range lo hi (part at)) else 0) (λ (at : Place). length (in_range lo hi (part at))) (ranges level)
       (λ at. count_by_page (goes_to {A = A} at.low at.end (Wipe lo hi)) at.low at.end m lo hi refl)
-      ∙ length_joined (λ (at : Place). in_range lo hi (part at)) (ranges level)
+      ∙ sym (length-flat_map (λ (at : Place). in_range lo hi (part at)) (ranges level))
       ∙ ap (λ (es : List (List ℕ × V)). length es) (filtered_parts (λ e. is_within lo hi e.0) part (ranges level) ∙ ap (λ (es : List (List ℕ × V)). in_range lo hi es) (parts_of_all level m n t r))

@@ -62,7 +62,8 @@ pub(crate) fn keys_within(
             break;
         }
         if value.is_some() {
-            keys.push(Key::new(alloc, key)?)?;
+            let copy = Key::from_bytes(alloc, key)?;
+            keys.push(copy)?;
         }
     }
     Ok(keys)
