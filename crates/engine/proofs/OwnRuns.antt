@@ -5,7 +5,7 @@ use Rattle.std.specs.List.{filter}
 use Rattle.keys.specs.Order.{IsRising}
 use Rattle.keys.specs.OrderedMap.{value_at}
 use Rattle.keys.specs.declared.command.Command.{Command}
-use Rattle.keys.specs.declared.command.Command.TheVariants.{Get, Put, Add, Del, Scan}
+use Rattle.keys.specs.declared.command.Command.TheVariants.{Get, Put, Add, Del, Scan, Wipe}
 use Rattle.keys.proofs.MapLemmas.{total, same_map}
 use Rattle.index_page.specs.Range.{is_below, is_before, is_within}
 use Rattle.index_page.proofs.PageLemmas.{all_keys_entries}
@@ -15,15 +15,21 @@ use Rattle.mapping.specs.Proper.{next_low, Tiled}
 use Rattle.mapping.proofs.TileLemmas.{rising-tile, value_at-joined}
 use Rattle.routing.specs.Routes.{goes_to}
 use Rattle.page_runs.specs.NetRun.{net_run}
-use Rattle.page_runs.specs.Apart.{TakesAll, TakesNoOther, AgreeOn}
+use Rattle.page_runs.specs.Apart.{TakesAll, GivesNoOther, HasNoOther, AgreeOn}
 use Rattle.page_runs.proofs.NetLemmas.{Pairs, Changes, rising-net_run}
-use Rattle.page_runs.proofs.ApartLemmas.{within_by_key, off_by_key, net_run-apart, net_run-no_other}
-use Rattle.scan.proofs.Parts.{value_at-passing}
+use Rattle.page_runs.proofs.ApartLemmas.{within_by_key, off_by_key, net_run-apart, net_run-no_other_there}
+use Rattle.page_runs.proofs.PageParts.{not_met}
+use Rattle.page_runs.proofs.NamedRows.{value_at-kept}
+use Rattle.scan.proofs.Parts.{value_at-passing, part_of_level}
 use Rattle.split_plan.specs.WorkedLevel.{part_below, part_from}
 
 -- ---- the commands of a range
 
--- a scan is on no key; another command is on one, and goes to the page whose range has it
+second_false : (a b : Bool) → (a && b) ≡ false → a ≡ true → b ≡ false
+second_false true b h e = h
+second_false false b h e = absurd (cc)
+
+-- what goes to no page is on none of its keys; a scan is on none anyway
 module _ {A : Type 0} (low : List ℕ) (end : Option (List ℕ)) where
   takes_all : TakesAll {A = A} (is_within low end) (goes_to low end)
   takes_all (Get k) h = off_by_key {A = A} (is_within low end) (Get k) k refl h
@@ -31,24 +37,24 @@ module _ {A : Type 0} (low : List ℕ) (end : Option (List ℕ)) where
   takes_all (Add k v) h = off_by_key {A = A} (is_within low end) (Add k v) k refl h
   takes_all (Del k) h = off_by_key {A = A} (is_within low end) (Del k) k refl h
   takes_all (Scan lo hi limit) h = λ q own. refl
+  takes_all (Wipe lo hi) h = λ q own. second_false (is_within low end q) (is_within lo hi q) (not_met low end lo hi q h) own
 
-  takes_no_other : TakesNoOther {A = A} (is_within low end) (goes_to low end)
-  takes_no_other (Get k) h = within_by_key {A = A} (is_within low end) (Get k) k refl h
-  takes_no_other (Put k v) h = within_by_key {A = A} (is_within low end) (Put k v) k refl h
-  takes_no_other (Add k v) h = within_by_key {A = A} (is_within low end) (Add k v) k refl h
-  takes_no_other (Del k) h = within_by_key {A = A} (is_within low end) (Del k) k refl h
-  takes_no_other (Scan lo hi limit) h = λ q other. refl
+  -- what gives a key a value goes to the page whose range has the key
+  gives_no_other : GivesNoOther {A = A} (is_within low end) (goes_to low end)
+  gives_no_other (Put k v) h = within_by_key {A = A} (is_within low end) (Put k v) k refl h
+  gives_no_other (Add k v) h = within_by_key {A = A} (is_within low end) (Add k v) k refl h
+  gives_no_other _ h = λ q other. refl
 
-  own_by : (b : Bool) (m es : Pairs) (cs : List (Command A)) (k : List ℕ) → is_within low end k ≡ b → IsRising m → IsRising es → AgreeOn (is_within low end) m es
+  own_by : (b : Bool) (m es : Pairs) (cs : List (Command A)) (k : List ℕ) → is_within low end k ≡ b → IsRising m → IsRising es → AgreeOn (is_within low end) m es → HasNoOther (is_within low end) es
       → cond b (value_at k (net_run m cs)) None ≡ value_at k (net_run es (filter (goes_to low end) cs))
-  own_by true m es cs k h r e a = net_run-apart (is_within low end) (goes_to low end) m es cs k takes_all r e a h
-  own_by false m es cs k h r e a = sym (net_run-no_other (is_within low end) (goes_to low end) es cs k takes_no_other h)
+  own_by true m es cs k h r e a n = net_run-apart (is_within low end) (goes_to low end) m es cs k takes_all r e a h
+  own_by false m es cs k h r e a n = sym (net_run-no_other_there (is_within low end) (goes_to low end) es cs k gives_no_other n e h)
 
-  -- what lies of the whole net run within the range is the net run of the range's commands on entries that agree there
-  pub part_is_own : (m es : Pairs) (cs : List (Command A)) (part : Changes) → IsRising m → IsRising es → AgreeOn (is_within low end) m es → IsRising part
+  -- what lies of the whole net run within the range is the net run of the range's commands on entries that agree there, and are all there
+  pub part_is_own : (m es : Pairs) (cs : List (Command A)) (part : Changes) → IsRising m → IsRising es → AgreeOn (is_within low end) m es → HasNoOther (is_within low end) es → IsRising part
       → ((k : List ℕ) → value_at k part ≡ cond (is_within low end k) (value_at k (net_run m cs)) None) → part ≡ net_run es (filter (goes_to low end) cs)
-  part_is_own m es cs part r e a p says =
-      same_map part (net_run es (filter (goes_to low end) cs)) p (rising-net_run es (filter (goes_to low end) cs)) (λ k. says k ∙ own_by (is_within low end k) m es cs k refl r e a)
+  part_is_own m es cs part r e a n p says =
+      same_map part (net_run es (filter (goes_to low end) cs)) p (rising-net_run es (filter (goes_to low end) cs)) (λ k. says k ∙ own_by (is_within low end k) m es cs k refl r e a n)
 
 -- ---- what is left of the whole net run for the pages from one on
 
@@ -84,6 +90,13 @@ low_by false b h = refl
 below_later : (p q : Placed (List ℕ)) (qs : List (Placed (List ℕ))) → Tiled (p ∷ q ∷ qs) None → (k : List ℕ) → is_below k p.page.low ≡ true → is_below k q.page.low ≡ true
 below_later p q qs t k h = less_is_below k q.page.low (total.trans k p.page.low q.page.low (below_is_less k p.page.low h) t.0.low)
 
+-- the entries of a page lie in its range
+holds_own : (p : Placed (List ℕ)) (ps : List (Placed (List ℕ))) → Tiled (p ∷ ps) None → HasNoOther (is_within p.page.low (next_low ps None)) (entries p)
+holds_own p ps t = λ q other.
+    ap (λ (es : Pairs). value_at q es) (part_of_level [] ps p t)
+    ∙ value_at-kept (is_within p.page.low (next_low ps None)) (joined (p ∷ ps)) q
+    ∙ ap (λ (b : Bool). cond b (value_at q (joined (p ∷ ps))) None) other
+
 module _ {A : Type 0} (m : Pairs) (cs : List (Command A)) (rising : IsRising m) where
   -- on the range of the page, the map has what the page has
   agrees : (p : Placed (List ℕ)) (ps : List (Placed (List ℕ))) (left : Changes) → Tiled (p ∷ ps) None → IsLeft m (net_run m cs) p ps left → AgreeOn (is_within p.page.low (next_low ps None)) m (entries p)
@@ -93,14 +106,14 @@ module _ {A : Type 0} (m : Pairs) (cs : List (Command A)) (rising : IsRising m) 
   -- the last page gets all that is left
   pub last_part : (p : Placed (List ℕ)) (left : Changes) → Tiled (p ∷ []) None → IsLeft m (net_run m cs) p [] left → left ≡ net_run (entries p) (filter (goes_to p.page.low None) cs)
   last_part p left t l =
-      part_is_own p.page.low None m (entries p) cs left rising (rising-tile None p t.0) (agrees p [] left t l) l.rising
+      part_is_own p.page.low None m (entries p) cs left rising (rising-tile None p t.0) (agrees p [] left t l) (holds_own p [] t) l.rising
       (λ k. l.says k ∙ last_part_by (is_below k p.page.low) (value_at k (net_run m cs)))
 
   -- and any other page what is below the next page's low key
   pub first_part : (p q : Placed (List ℕ)) (qs : List (Placed (List ℕ))) (left : Changes) → Tiled (p ∷ q ∷ qs) None → IsLeft m (net_run m cs) p (q ∷ qs) left
       → part_below q.page.low left ≡ net_run (entries p) (filter (goes_to p.page.low (Some q.page.low)) cs)
   first_part p q qs left t l =
-      part_is_own p.page.low (Some q.page.low) m (entries p) cs (part_below q.page.low left) rising (rising-tile (Some q.page.low) p t.0) (agrees p (q ∷ qs) left t l)
+      part_is_own p.page.low (Some q.page.low) m (entries p) cs (part_below q.page.low left) rising (rising-tile (Some q.page.low) p t.0) (agrees p (q ∷ qs) left t l) (holds_own p (q ∷ qs) t)
       (rising-filter (λ c. is_below c.0 q.page.low) left l.rising)
       (λ k. value_at-passing (λ j. is_below j q.page.low) left k
       ∙ ap (λ (o : Option (Option (List ℕ))). cond (is_below k q.page.low) o None) (l.says k)
