@@ -1,5 +1,5 @@
 -- The answers of the leaves that a batch goes to make the replies of the whole batch.
-use Rattle.std.specs.Prelude.{◌≡◌, ℕ, cond, List, [], ◌∷◌, ◌++◌, flat_map, slice_get, Some, None}
+use Rattle.std.specs.Prelude.{◌≡◌, ℕ, ◌+◌, ◌≤◌, cond, length, List, [], ◌∷◌, ◌++◌, flat_map, slice_get, Some, None}
 use Rattle.std.proofs.Common.{refl, sym, ap, ◌∙◌, subst}
 use Rattle.std.specs.List.{AllByRecursion}
 use Rattle.std.specs.declared.alloc.Global.{Global}
@@ -20,7 +20,7 @@ use Rattle.routing.specs.Routes.{Route, route_to, has_places, places_within, ran
 use Rattle.routing.proofs.RouteLemmas.{kept}
 use Rattle.page_runs.specs.LeafWork.{leaf_made}
 use Rattle.page_runs.specs.Replies.{commands_at, pieces_of}
-use Rattle.replies.specs.ByPlace.{reply_at, AreAnswers}
+use Rattle.replies.specs.ByPlace.{most_counted, reply_at, AreAnswers}
 use Rattle.climb_plan.specs.Installing.{page_or_none}
 use Rattle.climb_plan.proofs.Installing.{distinct_first}
 use Rattle.engine.specs.Leaves.{IsLeafAt, AreLeafRoutes, leaf_held, leaves_made, answers}

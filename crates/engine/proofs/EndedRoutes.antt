@@ -18,7 +18,7 @@ use Rattle.keys.specs.declared.command.Command.TheVariants.{Scan}
 use Rattle.keys.specs.declared.command.Reply.{Reply}
 use Rattle.keys.specs.declared.piece.Piece.{Piece}
 use Rattle.keys.specs.declared.settings.Settings.{Settings}
-use Rattle.keys.proofs.NarrowedLemmas.{scan-with_end, get-with_ends, length-with_ends}
+use Rattle.keys.proofs.NarrowedLemmas.{scan-with_end, wipe-with_end, ranged-with_end, get-with_ends, length-with_ends}
 use Rattle.index_page.specs.Children.{Place}
 use Rattle.index_page.specs.Page.{PageOfKind, entries, leaf_of}
 use Rattle.mapping.specs.Levels.{Placed, joined, names, levels_of, contents, all_pages, by_pid, top_pid}
@@ -28,7 +28,6 @@ use Rattle.mapping.specs.Table.{Mapping, page_of}
 use Rattle.mapping.specs.Tree.{Tree}
 use Rattle.mapping.proofs.TileLemmas.{rising-joined, rising-names}
 use Rattle.routing.specs.Routes.{Route, route_to, has_places, places_within, ranges, routes}
-use Rattle.routing.proofs.BatchLemmas.{ranged-with_end}
 use Rattle.routing.proofs.RouteLemmas.{kept, own_places}
 use Rattle.page_runs.specs.LeafWork.{LeafMade, leaf_made, placed_leaf}
 use Rattle.page_runs.specs.NetRun.{net_run}
@@ -110,11 +109,6 @@ pub planned-ended : (s : Settings) (t : Tree) (cs : List (Command Global)) (ends
 planned-ended s t cs ends = ap (tree_by s t) (net_run-with_ends (contents t) cs ends)
 
 -- ---- the places of a batch
-
-wipe-with_end : {A : Type 0} (end : Option (List ℕ)) (c : Command A) → is_wipe (with_end end c) ≡ is_wipe c
-wipe-with_end None c = refl
-wipe-with_end (Some end) (Scan lo hi limit) = refl
-wipe-with_end (Some end) _ = refl
 
 module _ (cs : List (Command Global)) (ends : List (Option (List ℕ))) where
   pub places-ended : (rs : List Route) → AllByRecursion (λ r. ArePlacesOf (with_ends cs ends) r.places) rs → AllByRecursion (λ r. ArePlacesOf cs r.places) rs

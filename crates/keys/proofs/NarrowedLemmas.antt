@@ -4,7 +4,7 @@ use Rattle.std.proofs.Common.{refl, sym, ap, ◌∙◌, arith, Less}
 use Rattle.std.specs.List.Sorted.{IsStrictlySortedBy}
 use Rattle.std.specs.Map.{keys_of}
 use Rattle.std.specs.Option.{option_map}
-use Rattle.keys.specs.CommandKey.{key_of, is_scan}
+use Rattle.keys.specs.CommandKey.{key_of, is_ranged, is_scan, is_wipe}
 use Rattle.keys.specs.Order.{order, IsRising}
 use Rattle.keys.specs.Range.{is_below, is_before, in_range, rows}
 use Rattle.keys.specs.Step.{reply_to, map_after, replies_to, map_after_all}
@@ -89,6 +89,16 @@ module _ {A : Type 0} where
   scan-with_end None c = refl
   scan-with_end (Some end) (Scan lo hi limit) = refl
   scan-with_end (Some end) _ = refl
+
+  pub wipe-with_end : (end : Option (List ℕ)) (c : Command A) → is_wipe (with_end end c) ≡ is_wipe c
+  wipe-with_end None c = refl
+  wipe-with_end (Some end) (Scan lo hi limit) = refl
+  wipe-with_end (Some end) _ = refl
+
+  pub ranged-with_end : (end : Option (List ℕ)) (c : Command A) → is_ranged (with_end end c) ≡ is_ranged c
+  ranged-with_end None c = refl
+  ranged-with_end (Some end) (Scan lo hi limit) = refl
+  ranged-with_end (Some end) _ = refl
 
   pub map-with_end : (m : List (List ℕ × List ℕ)) (end : Option (List ℕ)) (c : Command A) → map_after m (with_end end c) ≡ map_after m c
   map-with_end m None c = refl

@@ -8,8 +8,7 @@ use Rattle.keys.specs.CommandKey.{key_of, is_ranged}
 use Rattle.keys.specs.Narrowed.{with_end, first_end, with_ends}
 use Rattle.keys.specs.Places.{is_ranged_at}
 use Rattle.keys.specs.declared.command.Command.{Command}
-use Rattle.keys.specs.declared.command.Command.TheVariants.{Scan}
-use Rattle.keys.proofs.NarrowedLemmas.{key-with_end, length-with_ends, get-with_ends}
+use Rattle.keys.proofs.NarrowedLemmas.{key-with_end, ranged-with_end, length-with_ends, get-with_ends}
 use Rattle.routing.specs.BatchKeys.{key_at}
 use Rattle.routing.specs.SortedPlaces.{reaches, reaches_at}
 
@@ -21,11 +20,6 @@ first_behind end_of (y ∷ ys) (suc place) x h = first_behind end_of ys place x 
 -- the end at a place, where the list has one there
 pub end_there : {X : Type 0} (end_of : X → Option (List ℕ)) (xs : List X) (place : ℕ) (x : X) → place < length xs → x ≡ get_or xs place x → end_of x ≡ first_end (drop place (map end_of xs))
 end_there end_of xs place x h e = first_behind end_of xs place x (slice_get_read xs (length xs) place x refl h e)
-
-pub ranged-with_end : {A : Type 0} (end : Option (List ℕ)) (c : Command A) → is_ranged (with_end end c) ≡ is_ranged c
-ranged-with_end None c = refl
-ranged-with_end (Some end) (Scan lo hi limit) = refl
-ranged-with_end (Some end) _ = refl
 
 any_with_ends : {A : Type 0} (cs : List (Command A)) (ends : List (Option (List ℕ))) → list_any is_ranged cs ≡ list_any is_ranged (with_ends cs ends)
 any_with_ends [] ends = refl
