@@ -121,7 +121,7 @@ each_once [] d = tt
 each_once (n ∷ ns) d = (apart_all n ns d.0, each_once ns d.1)
 
 there_by : (b : Bool) (ps : List (ℕ × PageOfKind)) (q : ℕ) (p : Placed (List ℕ)) (rest : Bool) → same q p.pid ≡ b → page_at ps p.pid ≡ Some (Leaf p.page) → (rest ≡ true → IsSome (page_at ps q)) → (b || rest) ≡ true → IsSome (page_at ps q)
-there_by true ps q p rest e here ih h = rw (same_pid q p.pid e, here) tt
+there_by true ps q p rest e here ih h = rw (same_pid q p.pid e, here) refl
 there_by false ps q p rest e here ih h = ih h
 
 each_there : (ps : List (ℕ × PageOfKind)) (level : List (Placed (List ℕ))) (q : ℕ) → HasLeaves ps level → list_any (same q) (pids level) ≡ true → IsSome (page_at ps q)

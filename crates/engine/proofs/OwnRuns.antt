@@ -1,15 +1,19 @@
 -- A page's part of the whole net run is the net run of its own commands on its own entries.
-use Rattle.std.specs.Prelude.{◌≡◌, ℕ, Bool, true, false, not, ◌&&◌, cond, List, [], ◌∷◌, Option, Some, None}
+use Rattle.std.specs.Prelude.{◌≡◌, ℕ, Bool, true, false, not, ◌&&◌, ◌||◌, cond, List, [], ◌∷◌, Option, Some, None}
 use Rattle.std.proofs.Common.{refl, sym, ap, ◌∙◌}
 use Rattle.std.specs.List.{filter}
-use Rattle.keys.specs.Order.{IsRising}
+use Rattle.std.specs.Ordering.{is_eq}
+use Rattle.std.proofs.lemmas.Bool.{and_parts}
+use Rattle.std.proofs.lemmas.Map.Entries.{lookup-filter-keys}
+use Rattle.keys.specs.Order.{order, IsRising}
 use Rattle.keys.specs.OrderedMap.{value_at}
 use Rattle.keys.specs.declared.command.Command.{Command}
 use Rattle.keys.specs.declared.command.Command.TheVariants.{Get, Put, Add, Del, Scan, Wipe}
-use Rattle.keys.proofs.MapLemmas.{total, same_map}
+use Rattle.keys.proofs.MapLemmas.{total, passes_same, same_map}
+use Rattle.index_page.specs.Children.{is_between}
 use Rattle.index_page.specs.Range.{is_below, is_before, is_within}
 use Rattle.index_page.proofs.PageLemmas.{all_keys_entries}
-use Rattle.index_page.proofs.RangeLemmas.{below_is_less, less_is_below, rising-filter, value_at-behind}
+use Rattle.index_page.proofs.RangeLemmas.{below_is_less, less_is_below, low_through, rising-filter, value_at-behind}
 use Rattle.mapping.specs.Levels.{Placed, entries, joined}
 use Rattle.mapping.specs.Proper.{next_low, Tiled}
 use Rattle.mapping.proofs.TileLemmas.{rising-tile, value_at-joined}
@@ -18,16 +22,32 @@ use Rattle.page_runs.specs.NetRun.{net_run}
 use Rattle.page_runs.specs.Apart.{TakesAll, GivesNoOther, HasNoOther, AgreeOn}
 use Rattle.page_runs.proofs.NetLemmas.{Pairs, Changes, rising-net_run}
 use Rattle.page_runs.proofs.ApartLemmas.{within_by_key, off_by_key, net_run-apart, net_run-no_other_there}
-use Rattle.page_runs.proofs.PageParts.{not_met}
-use Rattle.page_runs.proofs.NamedRows.{value_at-kept}
 use Rattle.scan.proofs.Parts.{value_at-passing, part_of_level}
 use Rattle.split_plan.specs.WorkedLevel.{part_below, part_from}
 
 -- ---- the commands of a range
 
-second_false : (a b : Bool) → (a && b) ≡ false → a ≡ true → b ≡ false
-second_false true b h e = h
-second_false false b h e = absurd (cc)
+not_true : (b : Bool) → not b ≡ true → b ≡ false
+not_true true h = absurd (cc)
+not_true false h = refl
+
+before_from : (end : Option (List ℕ)) (low k : List ℕ) → is_below k low ≡ false → is_before end k ≡ true → is_before end low ≡ true
+before_from None low k h b = refl
+before_from (Some end) low k h b = less_is_below low end (low_through low k end h (below_is_less k end b))
+
+-- a wipe that goes to no page is on none of the page's keys
+met_by : (u : Bool) (low : List ℕ) (end : Option (List ℕ)) (lo : List ℕ) (hi : Option (List ℕ)) → is_below lo low ≡ u → is_before end lo ≡ true → is_before hi low ≡ true → (is_within low end lo || is_between lo hi low) ≡ true
+met_by true low end lo hi u e h = rw (u, e, h) refl
+met_by false low end lo hi u e h = rw (u, e, h) refl
+
+unmet_by : (w : Bool) (low : List ℕ) (end : Option (List ℕ)) (lo : List ℕ) (hi : Option (List ℕ)) (k : List ℕ) → is_within lo hi k ≡ w → (is_within low end lo || is_between lo hi low) ≡ false → is_within low end k ≡ true → w ≡ false
+unmet_by false low end lo hi k e m h = refl
+unmet_by true low end lo hi k e m h =
+    let own = and_parts (not (is_below k lo)) (is_before hi k) e in
+    let there = and_parts (not (is_below k low)) (is_before end k) h in
+    let met : (is_within low end lo || is_between lo hi low) ≡ true =
+    met_by (is_below lo low) low end lo hi refl (before_from end lo k (not_true (is_below k lo) own.0) there.1) (before_from hi low k (not_true (is_below k low) there.0) own.1) in
+    absurd (cc)
 
 -- what goes to no page is on none of its keys; a scan is on none anyway
 module _ {A : Type 0} (low : List ℕ) (end : Option (List ℕ)) where
@@ -37,7 +57,7 @@ module _ {A : Type 0} (low : List ℕ) (end : Option (List ℕ)) where
   takes_all (Add k v) h = off_by_key {A = A} (is_within low end) (Add k v) k refl h
   takes_all (Del k) h = off_by_key {A = A} (is_within low end) (Del k) k refl h
   takes_all (Scan lo hi limit) h = λ q own. refl
-  takes_all (Wipe lo hi) h = λ q own. second_false (is_within low end q) (is_within lo hi q) (not_met low end lo hi q h) own
+  takes_all (Wipe lo hi) h = λ q own. unmet_by (is_within lo hi q) low end lo hi q refl h own
 
   -- what gives a key a value goes to the page whose range has the key
   gives_no_other : GivesNoOther {A = A} (is_within low end) (goes_to low end)
@@ -94,7 +114,7 @@ below_later p q qs t k h = less_is_below k q.page.low (total.trans k p.page.low 
 holds_own : (p : Placed (List ℕ)) (ps : List (Placed (List ℕ))) → Tiled (p ∷ ps) None → HasNoOther (is_within p.page.low (next_low ps None)) (entries p)
 holds_own p ps t = λ q other.
     ap (λ (es : Pairs). value_at q es) (part_of_level [] ps p t)
-    ∙ value_at-kept (is_within p.page.low (next_low ps None)) (joined (p ∷ ps)) q
+    ∙ lookup-filter-keys (λ j. is_eq (order q j)) (is_within p.page.low (next_low ps None)) (is_within p.page.low (next_low ps None) q) (λ j h. ap (is_within p.page.low (next_low ps None)) (sym (passes_same q j h))) (joined (p ∷ ps))
     ∙ ap (λ (b : Bool). cond b (value_at q (joined (p ∷ ps))) None) other
 
 module _ {A : Type 0} (m : Pairs) (cs : List (Command A)) (rising : IsRising m) where

@@ -62,7 +62,7 @@ most_added_by Less k v e es rest h = omega arith
 most_added_by Equal k v e es rest h = omega arith
 most_added_by Greater k v e es rest h = omega (arith, h)
 
-most_added : (m : Pairs) (k v : List ℕ) → length (with_pair m k v) ≤ length m + 1
+pub most_added : (m : Pairs) (k v : List ℕ) → length (with_pair m k v) ≤ length m + 1
 most_added [] k v = omega arith
 most_added (e ∷ es) k v = most_added_by (order k e.0) k v e es (with_pair es k v) (most_added es k v)
 
@@ -74,7 +74,7 @@ most_left_by : (b : Bool) (e : List ℕ × List ℕ) (es rest : Pairs) → lengt
 most_left_by true e es rest h = omega arith
 most_left_by false e es rest h = omega (arith, h)
 
-most_left : (m : Pairs) (k : List ℕ) → length (without m k) ≤ length m
+pub most_left : (m : Pairs) (k : List ℕ) → length (without m k) ≤ length m
 most_left [] k = omega arith
 most_left (e ∷ es) k = most_left_by (is_eq (order k e.0)) e es (without es k) (most_left es k)
 
@@ -264,30 +264,23 @@ module _ {A : Type 0} where
   one_more_at_most m (Scan lo hi limit) = omega arith
   one_more_at_most m (Wipe lo hi) = let parts = both_parts m lo hi in omega (arith, parts)
 
-  count_by : (b : Bool) (n : ℕ) → sum_by count_of (if b then Wiped {A = A} n ∷ [] else []) ≡ (if b then n else 0)
-  count_by true n = sum_by-cons (count_of {A = A}) (Wiped n) [] ∙ omega arith
-  count_by false n = refl
+  count_by : (b : Bool) (m : Pairs) (c : Command A) (lo : List ℕ) (hi : Option (List ℕ)) → c ≡ Wipe lo hi → sum_by count_of (if b then reply_to m c ∷ [] else []) ≡ (if b then length (in_range lo hi m) else 0)
+  count_by true m c lo hi e =
+      let one : count_of (reply_to m c) ≡ length (in_range lo hi m) = ap (λ (d : Command A). count_of (reply_to m d)) e in
+      let sum = sum_by-cons (count_of {A = A}) (reply_to m c) [] in
+      omega (arith, one, sum)
+  count_by false m c lo hi e = refl
 
-  counts_joined : (m : Pairs) (lo : List ℕ) (hi : Option (List ℕ)) (ats : List Place)
-      → sum_by count_of (all_own m (Wipe lo hi) ats) ≡ sum_by (λ at. if goes_to {A = A} at.low at.end (Wipe lo hi) then length (in_range lo hi (in_range at.low at.end m)) else 0) ats
-  counts_joined m lo hi [] = refl
-  counts_joined m lo hi (at ∷ ats) =
-      let here : ℕ = if goes_to {A = A} at.low at.end (Wipe lo hi) then length (in_range lo hi (in_range at.low at.end m)) else 0 in
-      sum_by-append count_of (own_reply at.low at.end m (Wipe lo hi)) (all_own m (Wipe lo hi) ats)
-      ∙ ap (λ (n : ℕ). n + sum_by count_of (all_own m (Wipe lo hi) ats)) (count_by (goes_to {A = A} at.low at.end (Wipe lo hi)) (length (in_range lo hi (in_range at.low at.end m))))
-      ∙ ap (λ (n : ℕ). here + n) (counts_joined m lo hi ats)
-      ∙ sym (sum_by-cons (λ (at : Place). if goes_to {A = A} at.low at.end (Wipe lo hi) then length (in_range lo hi (in_range at.low at.end m)) else 0) at ats)
-
-  rows_by : (b : Bool) (m : Pairs) (c : Command A) → flat_map rows_of (if b then reply_to m c ∷ [] else []) ≡ (if b then rows_of (reply_to m c) else [])
-  rows_by true m c = append-nil (rows_of (reply_to m c))
-  rows_by false m c = refl
-
-  rows_joined : (m : Pairs) (c : Command A) (ats : List Place) → flat_map rows_of (all_own m c ats) ≡ flat_map (λ at. if goes_to at.low at.end c then rows_of (reply_to (in_range at.low at.end m) c) else []) ats
-  rows_joined m c [] = refl
-  rows_joined m c (at ∷ ats) =
-      flat_map-append rows_of (own_reply at.low at.end m c) (all_own m c ats)
-      ∙ ap (λ (xs : Pairs). xs ++ flat_map rows_of (all_own m c ats)) (rows_by (goes_to at.low at.end c) (in_range at.low at.end m) c)
-      ∙ ap (λ (xs : Pairs). (if goes_to at.low at.end c then rows_of (reply_to (in_range at.low at.end m) c) else []) ++ xs) (rows_joined m c ats)
+  -- the counts that pages answer to a wipe
+  counts_joined : (m : Pairs) (c : Command A) (lo : List ℕ) (hi : Option (List ℕ)) (ats : List Place) → c ≡ Wipe lo hi
+      → sum_by count_of (all_own m c ats) ≡ sum_by (λ at. if goes_to at.low at.end c then length (in_range lo hi (in_range at.low at.end m)) else 0) ats
+  counts_joined m c lo hi [] e = refl
+  counts_joined m c lo hi (at ∷ ats) e =
+      let here : ℕ = if goes_to at.low at.end c then length (in_range lo hi (in_range at.low at.end m)) else 0 in
+      sum_by-append count_of (own_reply at.low at.end m c) (all_own m c ats)
+      ∙ ap (λ (n : ℕ). n + sum_by count_of (all_own m c ats)) (count_by (goes_to at.low at.end c) (in_range at.low at.end m) c lo hi e)
+      ∙ ap (λ (n : ℕ). here + n) (counts_joined m c lo hi ats e)
+      ∙ sym (sum_by-cons (λ (at : Place). if goes_to at.low at.end c then length (in_range lo hi (in_range at.low at.end m)) else 0) at ats)
 
   module _ {V : Type 0} (level : List (Placed V)) (first : next_low level None ≡ Some []) (tiled : Tiled level None) where
     plain_joined : (m : Pairs) (c : Command A) → IsRising m → is_ranged c ≡ false → joined_replies c (all_own m c (ranges level)) ≡ Some (reply_to m c)
@@ -302,7 +295,7 @@ module _ {A : Type 0} where
     joined_own m (Scan lo hi limit) r few =
         ap (λ (xs : Pairs). Some (Rows (take limit xs))) (rows_joined m (Scan lo hi limit) (ranges level)) ∙ ap (λ (xs : Pairs). Some (Rows xs)) (rows-parts A level m lo hi limit first tiled r)
     joined_own m (Wipe lo hi) r few =
-        let sum : sum_by count_of (all_own m (Wipe lo hi) (ranges level)) ≡ length (in_range lo hi m) = counts_joined m lo hi (ranges level) ∙ counts-parts A level m lo hi first tiled r in
+        let sum : sum_by count_of (all_own m (Wipe lo hi) (ranges level)) ≡ length (in_range lo hi m) = counts_joined m (Wipe lo hi) lo hi (ranges level) refl ∙ counts-parts A level m lo hi first tiled r in
         let part = both_parts m lo hi in
         let fits : min (length (in_range lo hi m)) most_counted ≡ length (in_range lo hi m) = omega (arith, few, part) in
         ap (λ (n : ℕ). Some (Wiped (min n most_counted))) sum ∙ ap (λ (n : ℕ). Some (Wiped n)) fits

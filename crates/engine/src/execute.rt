@@ -133,7 +133,14 @@ fn pairs_can_be_counted(settings: &Settings, tree: &Tree<Global>, commands: &[Co
     ensures { length (contents (tree_of tree.now)) + length commands.now ≤ most_counted }
 {
     let _pages = tree.most_pages();
-    let _commands = commands.len();
+    let _count = count_of(commands);
+}
+
+// How many commands there are. Only for the proof, which has it as a number of 64 bits.
+fn count_of(commands: &[Command<Global>]) -> usize
+    ensures { result ≡ length commands.now }
+{
+    commands.len()
 }
 
 // The replies of these leaves, which were read, or were taken and worked, in this order; and the climb from those that were worked. Where
