@@ -37,8 +37,8 @@ before_from (Some end) low k h b = less_is_below low end (low_through low k end 
 
 -- a wipe that goes to no page is on none of the page's keys
 met_by : (u : Bool) (low : List ℕ) (end : Option (List ℕ)) (lo : List ℕ) (hi : Option (List ℕ)) → is_below lo low ≡ u → is_before end lo ≡ true → is_before hi low ≡ true → (is_within low end lo || is_between lo hi low) ≡ true
-met_by true low end lo hi u e h = rw (u, e, h) refl
-met_by false low end lo hi u e h = rw (u, e, h) refl
+met_by true low end lo hi u e h = rw (u, h) refl
+met_by false low end lo hi u e h = rw (u, e) refl
 
 unmet_by : (w : Bool) (low : List ℕ) (end : Option (List ℕ)) (lo : List ℕ) (hi : Option (List ℕ)) (k : List ℕ) → is_within lo hi k ≡ w → (is_within low end lo || is_between lo hi low) ≡ false → is_within low end k ≡ true → w ≡ false
 unmet_by false low end lo hi k e m h = refl

@@ -282,6 +282,17 @@ module _ {A : Type 0} where
       ∙ ap (λ (n : ℕ). here + n) (counts_joined m c lo hi ats e)
       ∙ sym (sum_by-cons (λ (at : Place). if goes_to at.low at.end c then length (in_range lo hi (in_range at.low at.end m)) else 0) at ats)
 
+  rows_by : (b : Bool) (m : Pairs) (c : Command A) → flat_map rows_of (if b then reply_to m c ∷ [] else []) ≡ (if b then rows_of (reply_to m c) else [])
+  rows_by true m c = append-nil (rows_of (reply_to m c))
+  rows_by false m c = refl
+
+  rows_joined : (m : Pairs) (c : Command A) (ats : List Place) → flat_map rows_of (all_own m c ats) ≡ flat_map (λ at. if goes_to at.low at.end c then rows_of (reply_to (in_range at.low at.end m) c) else []) ats
+  rows_joined m c [] = refl
+  rows_joined m c (at ∷ ats) =
+      flat_map-append rows_of (own_reply at.low at.end m c) (all_own m c ats)
+      ∙ ap (λ (xs : Pairs). xs ++ flat_map rows_of (all_own m c ats)) (rows_by (goes_to at.low at.end c) (in_range at.low at.end m) c)
+      ∙ ap (λ (xs : Pairs). (if goes_to at.low at.end c then rows_of (reply_to (in_range at.low at.end m) c) else []) ++ xs) (rows_joined m c ats)
+
   module _ {V : Type 0} (level : List (Placed V)) (first : next_low level None ≡ Some []) (tiled : Tiled level None) where
     plain_joined : (m : Pairs) (c : Command A) → IsRising m → is_ranged c ≡ false → joined_replies c (all_own m c (ranges level)) ≡ Some (reply_to m c)
     plain_joined m c rising plain = joined_replies-lone c (all_own m c (ranges level)) plain ∙ ap (λ (rs : List (Reply A)). lone rs) (one_reply m c rising plain level first tiled)
