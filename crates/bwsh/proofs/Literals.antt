@@ -2,7 +2,7 @@
 use Rattle.std.proofs.Common.{◌≡◌, ℕ, List, [], ◌∷◌, ◌++◌, map, Some, None, refl, arith, true, false}
 use Rattle.std.specs.Prelude.{codes}
 use Rattle.std.proofs.lemmas.Fmt.{decimal_digit}
-use Rattle.keys.specs.declared.command.Command.TheVariants.{Get, Put, Del, Scan}
+use Rattle.keys.specs.declared.command.Command.TheVariants.{Get, Put, Del, Scan, Wipe}
 use Rattle.keys.specs.declared.command.Reply.{Reply}
 use Rattle.keys.specs.declared.command.Reply.TheVariants.{Rows}
 use Rattle.bstr.specs.Text.{line_len, lines_from}
@@ -77,6 +77,15 @@ a_scan_without_bound = refl
 
 a_scan_below_a_star : line_says (codes "scan % %2A 4294967295") ≡ Says.Command (Scan [] (Some (42 ∷ [])) 4294967295)
 a_scan_below_a_star = refl
+
+a_wipe_without_bound : line_says (codes "wipe % *") ≡ Says.Command (Wipe [] None)
+a_wipe_without_bound = refl
+
+a_wipe_up_to_a_key : line_says (codes "wipe b d") ≡ Says.Command (Wipe (98 ∷ []) (Some (100 ∷ [])))
+a_wipe_up_to_a_key = refl
+
+a_wipe_with_a_limit : line_says (codes "wipe b d 3") ≡ Bad WordCount
+a_wipe_with_a_limit = refl
 
 a_number_too_great : number_in (codes "4294967296") ≡ None
 a_number_too_great = refl

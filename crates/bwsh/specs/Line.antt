@@ -6,7 +6,7 @@ use Rattle.std.specs.Str.{bytes_eq}
 use Rattle.std.specs.declared.alloc.Global.{Global}
 use Rattle.keys.specs.Bytes.{Bytes}
 use Rattle.keys.specs.declared.command.Command.{Command}
-use Rattle.keys.specs.declared.command.Command.TheVariants.{Get, Put, Add, Del, Scan}
+use Rattle.keys.specs.declared.command.Command.TheVariants.{Get, Put, Add, Del, Scan, Wipe}
 use Rattle.bwsh.specs.declared.line.Says.{Says}
 use Rattle.bwsh.specs.declared.line.Says.TheVariants.{Nothing, Go, Flush, Clean, Upgrade, Verify, Bad}
 use Rattle.bwsh.specs.declared.line.Why.{Why}
@@ -53,6 +53,17 @@ abbrev pub scan_says : List Bytes → Says
 scan_says (lo ∷ hi ∷ limit ∷ []) = scan_by (token_bytes lo) (bound_of hi) (number_in limit)
 scan_says _ = Bad WordCount
 
+-- what is said by a lower bound and an upper bound behind `wipe`, each if it is there
+abbrev pub wipe_by : Option Bytes → Option (Option Bytes) → Says
+wipe_by None hi = Bad BadToken
+wipe_by (Some lo) None = Bad BadToken
+wipe_by (Some lo) (Some hi) = Says.Command (Wipe lo hi)
+
+-- what is said by these words behind `wipe`
+abbrev pub wipe_says : List Bytes → Says
+wipe_says (lo ∷ hi ∷ []) = wipe_by (token_bytes lo) (bound_of hi)
+wipe_says _ = Bad WordCount
+
 -- this is said, where no words stand behind
 abbrev pub alone : Says → List Bytes → Says
 alone says [] = says
@@ -75,8 +86,9 @@ command_says word behind =
     if bytes_eq word (codes "add") then command_or_bad (λ (k, v). Add k v) (key_and_value behind) else (
     if bytes_eq word (codes "get") then command_or_bad Get (only_key behind) else (
     if bytes_eq word (codes "del") then command_or_bad Del (only_key behind) else (
-    if bytes_eq word (codes "scan") then scan_says behind else
-    order_says word behind))))
+    if bytes_eq word (codes "scan") then scan_says behind else (
+    if bytes_eq word (codes "wipe") then wipe_says behind else
+    order_says word behind)))))
 
 -- what a line of these words says: nothing where there are none, or where the first begins with `#`
 abbrev pub words_say : List Bytes → Says

@@ -3,7 +3,7 @@ use Rattle.std.specs.Prelude.{ℕ, List, [], ◌∷◌, ◌++◌, map, length, f
 use Rattle.std.specs.Fmt.{decimal}
 use Rattle.keys.specs.Bytes.{Bytes}
 use Rattle.keys.specs.declared.command.Reply.{Reply}
-use Rattle.keys.specs.declared.command.Reply.TheVariants.{Value, Missing, New, Replaced, Added, Exists, Deleted, Rows}
+use Rattle.keys.specs.declared.command.Reply.TheVariants.{Value, Missing, New, Replaced, Added, Exists, Deleted, Rows, Wiped}
 use Rattle.engine.specs.Steps.{Answer}
 use Rattle.engine.specs.Steps.Answer.{Replies, Flushed, Cleaned, Upgraded}
 use Rattle.verify.specs.declared.report.Report.{Report}
@@ -19,6 +19,7 @@ reply_text Added = codes "added"
 reply_text Exists = codes "exists"
 reply_text Deleted = codes "deleted"
 reply_text (Rows rows) = codes "rows " ++ decimal (length rows)
+reply_text (Wiped count) = codes "wiped " ++ decimal count
 
 -- the line of a row: its key, a space and its value, with the line feed
 abbrev pub shown_row : Bytes × Bytes → Bytes

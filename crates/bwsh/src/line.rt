@@ -2,7 +2,7 @@
 ghost use Rattle.std.specs.Prelude.{◌≡◌, Some, IfOk};
 ghost use Rattle.bwsh.specs.Token.{token_bytes};
 ghost use Rattle.bwsh.specs.Words.{words_of};
-ghost use Rattle.bwsh.specs.Line.{only_key, key_and_value, bound_of, scan_says, alone, order_says, command_says, line_says, why_text};
+ghost use Rattle.bwsh.specs.Line.{only_key, key_and_value, bound_of, scan_says, wipe_says, alone, order_says, command_says, line_says, why_text};
 
 use crate::number::number_in;
 use crate::token::unescape;
@@ -150,6 +150,22 @@ impl LineReader {
         Ok(Says::Command(Command::Scan(lo, hi, limit)))
     }
 
+    // What is said by these words behind `wipe`.
+    fn wipe(&mut self, words: &[u8]) -> Result<Says, AllocError>
+        ensures { IfOk result (λ says. says ≡ wipe_says (words_of words.now)) }
+    {
+        let Some((lo, hi)) = two_words(words) else {
+            return Ok(Says::Bad(Why::WordCount));
+        };
+        let Some(lo) = self.key(lo)? else {
+            return Ok(Says::Bad(Why::BadToken));
+        };
+        let Some(hi) = self.bound(hi)? else {
+            return Ok(Says::Bad(Why::BadToken));
+        };
+        Ok(Says::Command(Command::Wipe(lo, hi)))
+    }
+
     // What is said by this word and those behind it.
     fn command(&mut self, word: &[u8], words: &[u8]) -> Result<Says, AllocError>
         ensures { IfOk result (λ says. says ≡ command_says word.now (words_of words.now)) }
@@ -180,6 +196,9 @@ impl LineReader {
         }
         if word == b"scan".as_slice() {
             return self.scan(words);
+        }
+        if word == b"wipe".as_slice() {
+            return self.wipe(words);
         }
         Ok(order(word, words))
     }

@@ -54,6 +54,7 @@ Lines of the batch file:
   del K             Deletes K and its value
   scan LO HI LIMIT  Answers LIMIT pairs at most, in the order of their keys, from LO up to HI, which
                     is not among them; the star * as HI is no bound
+  wipe LO HI        Deletes all keys that a scan from LO up to HI finds, and answers how many
   go                Runs the commands since the last batch, as one batch
   flush             Runs these too, if there are any, and then writes what the log lacks
   clean             Runs these too, if there are any, and then frees the first segment of the log

@@ -18,6 +18,15 @@ fn push_count(count: usize, out: &mut Vec<u8>) -> Result<(), AllocError>
     out.extend_from_slice(text.as_bytes())
 }
 
+// Appends what the line of a reply to a wipe of so many keys says.
+fn push_wiped(count: u128, out: &mut Vec<u8>) -> Result<(), AllocError>
+    ensures ok { OnOk result (out.new.items ≡ out.old.items ++ codes "wiped " ++ decimal count) }
+    ensures err { OnErr result (out.new.items ≡ out.old.items) }
+{
+    let text = format!(in *out.allocator(); "wiped {count}")?;
+    out.extend_from_slice(text.as_bytes())
+}
+
 // Appends what the first line of the reply says. After an `Err` some of it may stand there.
 fn push_reply(reply: &Reply<Global>, out: &mut Vec<u8>) -> Result<(), AllocError>
     ensures ok { OnOk result (out.new.items ≡ out.old.items ++ reply_text reply.now) }
@@ -35,6 +44,7 @@ fn push_reply(reply: &Reply<Global>, out: &mut Vec<u8>) -> Result<(), AllocError
         Reply::Exists => out.extend_from_slice(b"exists"),
         Reply::Deleted => out.extend_from_slice(b"deleted"),
         Reply::Rows(rows) => push_count(rows.len(), out),
+        Reply::Wiped(count) => push_wiped(*count, out),
     }
 }
 

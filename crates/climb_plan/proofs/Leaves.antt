@@ -1,14 +1,15 @@
 -- The leaves after their parts of the net run.
-use Rattle.std.specs.Prelude.{◌≡◌, ℕ, ◌≤◌, Bool, true, false, cond, is_some, List, [], ◌∷◌, length, Option, Some, None}
+use Rattle.std.specs.Prelude.{◌≡◌, ℕ, ◌≤◌, Bool, true, false, cond, not, is_some, List, [], ◌∷◌, length, Option, Some, None}
 use Rattle.std.specs.Ordering.{is_eq}
 use Rattle.std.specs.List.{AllByRecursion}
 use Rattle.std.specs.Map.{keys_of}
 use Rattle.keys.specs.Order.{order}
 use Rattle.keys.specs.OrderedMap.{value_at, with_pair, without}
+use Rattle.keys.specs.Range.{is_within, in_range}
 use Rattle.keys.specs.Step.{map_after, map_after_all}
 use Rattle.keys.specs.declared.settings.Settings.{Settings}
 use Rattle.keys.specs.declared.command.Command.{Command}
-use Rattle.keys.specs.declared.command.Command.TheVariants.{Get, Put, Add, Del, Scan}
+use Rattle.keys.specs.declared.command.Command.TheVariants.{Get, Put, Add, Del, Scan, Wipe}
 use Rattle.index_page.specs.Range.{AreFrom}
 use Rattle.index_page.specs.Rules.{OfCell, IsShortValue, IsShortChange}
 use Rattle.index_page.proofs.ListLemmas.{all-append, all-filter}
@@ -16,7 +17,7 @@ use Rattle.index_page.proofs.RangeLemmas.{from_nothing}
 use Rattle.index_page.proofs.PageLemmas.{all-with_pair, all-without}
 use Rattle.mapping.specs.Levels.{Placed, entries, joined}
 use Rattle.mapping.specs.Proper.{next_low, Tiled}
-use Rattle.page_runs.specs.NetRun.{noted, noted_by, touched, net_run}
+use Rattle.page_runs.specs.NetRun.{noted, noted_all, noted_by, touched, net_run}
 use Rattle.page_runs.proofs.NetLemmas.{rising-net_run}
 use Rattle.split_plan.specs.WorkedLevel.{part_below, part_from, worked_leaves, placed_of}
 use Rattle.split_plan.proofs.WorkedLemmas.{tiled-worked_leaves}
@@ -61,6 +62,7 @@ module _ (s : Settings) where
     short-map_after m (Add k v) h a = either ShortPairs (is_some (value_at k m)) m (with_pair m k v) a (short_put m k v h.0 h.1 a)
     short-map_after m (Del k) h a = short_delete m k a
     short-map_after m (Scan lo hi limit) h a = a
+    short-map_after m (Wipe lo hi) h a = all-filter (λ (e : List ℕ × List ℕ). IsShortChange s (IsShortValue s) (e.0, Some e.1)) (λ e. not (is_within lo hi e.0)) m a
 
     -- short commands leave a map of short pairs
     short-map_after_all : (m : List (List ℕ × List ℕ)) (cs : List (Command A)) → AreShort s cs → ShortPairs m → ShortPairs (map_after_all m cs)
@@ -78,21 +80,32 @@ module _ (s : Settings) where
   short-noted : (after : List (List ℕ × List ℕ)) (run : List (List ℕ × Option (List ℕ))) (k : List ℕ) → length k ≤ s.max_key → ShortPairs after → ShortChanges run → ShortChanges (noted after run k)
   short-noted after run k l a r = all-with_pair (IsShortChange s (IsShortValue s)) run k (value_at k after) (record { key = l; cell = short-value_at after k a }) r
 
-  module _ {A : Type 0} where
-    short-noted_by : (after before : List (List ℕ × List ℕ)) (c : Command A) (run : List (List ℕ × Option (List ℕ))) → IsShortCommand s c → ShortPairs after → ShortChanges run → ShortChanges (noted_by after before c run)
-    short-noted_by after before (Get k) run h a r = r
-    short-noted_by after before (Put k v) run h a r = short-noted after run k h.0 a r
-    short-noted_by after before (Add k v) run h a r = either ShortChanges (is_some (value_at k before)) run (noted after run k) r (short-noted after run k h.0 a r)
-    short-noted_by after before (Del k) run h a r = either ShortChanges (is_some (value_at k before)) (noted after run k) run (short-noted after run k h a r) r
-    short-noted_by after before (Scan lo hi limit) run h a r = r
+  short-noted_all : (after : List (List ℕ × List ℕ)) (run : List (List ℕ × Option (List ℕ))) (ks : List (List ℕ)) → AllByRecursion (λ k. length k ≤ s.max_key) ks → ShortPairs after → ShortChanges run → ShortChanges (noted_all after run ks)
+  short-noted_all after run [] l a r = r
+  short-noted_all after run (k ∷ ks) l a r = short-noted_all after (noted after run k) ks l.1 a (short-noted after run k l.0 a r)
 
-    short-touched : (after before : List (List ℕ × List ℕ)) (cs : List (Command A)) → AreShort s cs → ShortPairs after → ShortChanges (touched after before cs)
-    short-touched after before [] h a = tt
-    short-touched after before (c ∷ cs) h a = short-noted_by after before c (touched after (map_after before c) cs) h.0 a (short-touched after (map_after before c) cs h.1 a)
+  short_keys : (m : List (List ℕ × List ℕ)) → ShortPairs m → AllByRecursion (λ k. length k ≤ s.max_key) (keys_of m)
+  short_keys [] a = tt
+  short_keys (e ∷ es) a = (a.0.key, short_keys es a.1)
+
+  module _ {A : Type 0} where
+    short-noted_by : (after before : List (List ℕ × List ℕ)) (c : Command A) (run : List (List ℕ × Option (List ℕ))) → IsShortCommand s c → ShortPairs after → ShortPairs before → ShortChanges run → ShortChanges (noted_by after before c run)
+    short-noted_by after before (Get k) run h a b r = r
+    short-noted_by after before (Put k v) run h a b r = short-noted after run k h.0 a r
+    short-noted_by after before (Add k v) run h a b r = either ShortChanges (is_some (value_at k before)) run (noted after run k) r (short-noted after run k h.0 a r)
+    short-noted_by after before (Del k) run h a b r = either ShortChanges (is_some (value_at k before)) (noted after run k) run (short-noted after run k h a r) r
+    short-noted_by after before (Scan lo hi limit) run h a b r = r
+    short-noted_by after before (Wipe lo hi) run h a b r =
+        let there = all-filter (λ (e : List ℕ × List ℕ). IsShortChange s (IsShortValue s) (e.0, Some e.1)) (λ e. is_within lo hi e.0) before b in
+        short-noted_all after run (keys_of (in_range lo hi before)) (short_keys (in_range lo hi before) there) a r
+
+    short-touched : (after before : List (List ℕ × List ℕ)) (cs : List (Command A)) → AreShort s cs → ShortPairs after → ShortPairs before → ShortChanges (touched after before cs)
+    short-touched after before [] h a b = tt
+    short-touched after before (c ∷ cs) h a b = short-noted_by after before c (touched after (map_after before c) cs) h.0 a b (short-touched after (map_after before c) cs h.1 a (short-map_after before c h.0 b))
 
     -- the net run of short commands over short pairs is one of short changes
     short-net_run : (m : List (List ℕ × List ℕ)) (cs : List (Command A)) → AreShort s cs → ShortPairs m → ShortChanges (net_run m cs)
-    short-net_run m cs h a = short-touched (map_after_all m cs) m cs h (short-map_after_all m cs h a)
+    short-net_run m cs h a = short-touched (map_after_all m cs) m cs h (short-map_after_all m cs h a) a
 
   short_leaves : (ps : List (Placed (List ℕ))) → AllByRecursion (IsSmall s (IsShortValue s)) ps → ShortPairs (joined ps)
   short_leaves [] h = tt

@@ -1,5 +1,5 @@
 -- The answers of the leaves that a batch goes to make the replies of the whole batch.
-use Rattle.std.specs.Prelude.{◌≡◌, ℕ, cond, List, [], ◌∷◌, ◌++◌, flat_map, slice_get, Some, None}
+use Rattle.std.specs.Prelude.{◌≡◌, ℕ, ◌+◌, ◌≤◌, cond, length, List, [], ◌∷◌, ◌++◌, flat_map, slice_get, Some, None}
 use Rattle.std.proofs.Common.{refl, sym, ap, ◌∙◌, subst}
 use Rattle.std.specs.List.{AllByRecursion}
 use Rattle.std.specs.declared.alloc.Global.{Global}
@@ -20,7 +20,7 @@ use Rattle.routing.specs.Routes.{Route, route_to, has_places, places_within, ran
 use Rattle.routing.proofs.RouteLemmas.{kept}
 use Rattle.page_runs.specs.LeafWork.{leaf_made}
 use Rattle.page_runs.specs.Replies.{commands_at, pieces_of}
-use Rattle.replies.specs.ByPlace.{reply_at, AreAnswers}
+use Rattle.replies.specs.ByPlace.{most_counted, reply_at, AreAnswers}
 use Rattle.climb_plan.specs.Installing.{page_or_none}
 use Rattle.climb_plan.proofs.Installing.{distinct_first}
 use Rattle.engine.specs.Leaves.{IsLeafAt, AreLeafRoutes, leaf_held, leaves_made, answers}
@@ -87,9 +87,9 @@ module _ (s : Settings) (cs : Commands) (t : Mapping PageOfKind) (level : List (
     level_rightly = rw level_answers (answers_are_right level first tiled (joined level) cs (rising-joined level None tiled))
 
     -- and their answers make the replies of the map that they all hold
-    level_as_a_map : (rs : List (Reply Global)) → ((place : ℕ) → slice_get rs place ≡ reply_at cs (all_answers s cs t (routes level cs)) place) → rs ≡ replies_to (joined level) cs
-    level_as_a_map rs answered =
-        answers_make_the_replies level first tiled (joined level) cs (rising-joined level None tiled) rs
+    level_as_a_map : length (joined level) + length cs ≤ most_counted → (rs : List (Reply Global)) → ((place : ℕ) → slice_get rs place ≡ reply_at cs (all_answers s cs t (routes level cs)) place) → rs ≡ replies_to (joined level) cs
+    level_as_a_map few rs answered =
+        answers_make_the_replies level first tiled (joined level) cs (rising-joined level None tiled) few rs
         (λ place. answered place ∙ ap (λ (ps : List (Piece Global)). reply_at cs ps place) level_answers)
 
 -- ---- the leaves of a tree
@@ -113,5 +113,5 @@ module _ (s : Settings) (m : TreeInMemory) (cs : Commands) (home : AreAllHome m)
   answered_rightly = level_rightly s cs m.table (levels_of (tree_of m)).level leaves_home proper.levels.first proper.levels.tiled
 
   -- replies that have at each place what was answered there are those of the whole batch on the whole map
-  pub answered_as_a_map : (rs : List (Reply Global)) → ((place : ℕ) → slice_get rs place ≡ reply_at cs (answers (leaves_made s cs m.table (routes_here m cs))) place) → rs ≡ replies_to (contents (tree_of m)) cs
-  answered_as_a_map rs answered = level_as_a_map s cs m.table (levels_of (tree_of m)).level leaves_home proper.levels.first proper.levels.tiled rs answered
+  pub answered_as_a_map : length (contents (tree_of m)) + length cs ≤ most_counted → (rs : List (Reply Global)) → ((place : ℕ) → slice_get rs place ≡ reply_at cs (answers (leaves_made s cs m.table (routes_here m cs))) place) → rs ≡ replies_to (contents (tree_of m)) cs
+  answered_as_a_map few rs answered = level_as_a_map s cs m.table (levels_of (tree_of m)).level leaves_home proper.levels.first proper.levels.tiled few rs answered

@@ -7,18 +7,18 @@ use Rattle.std.specs.Map.{keys_of}
 use Rattle.std.specs.Option.{option_map}
 use Rattle.std.specs.declared.alloc.Global.{Global}
 use Rattle.std.proofs.lemmas.List.Elements.{All-weaker}
-use Rattle.keys.specs.CommandKey.{is_scan}
+use Rattle.keys.specs.CommandKey.{is_ranged, is_scan, is_wipe}
 use Rattle.keys.specs.Narrowed.{with_end, first_end, with_ends, MayEndAtAll}
 use Rattle.keys.specs.Order.{IsRising}
-use Rattle.keys.specs.Places.{is_some_that, is_scan_at}
+use Rattle.keys.specs.Places.{is_some_that, is_scan_at, is_wipe_at, is_ranged_at}
 use Rattle.keys.specs.Range.{in_range}
 use Rattle.keys.specs.Step.{replies_to}
 use Rattle.keys.specs.declared.command.Command.{Command}
-use Rattle.keys.specs.declared.command.Command.TheVariants.{Get, Put, Add, Del, Scan}
+use Rattle.keys.specs.declared.command.Command.TheVariants.{Scan}
 use Rattle.keys.specs.declared.command.Reply.{Reply}
 use Rattle.keys.specs.declared.piece.Piece.{Piece}
 use Rattle.keys.specs.declared.settings.Settings.{Settings}
-use Rattle.keys.proofs.NarrowedLemmas.{scan-with_end, get-with_ends, length-with_ends}
+use Rattle.keys.proofs.NarrowedLemmas.{scan-with_end, wipe-with_end, ranged-with_end, get-with_ends, length-with_ends}
 use Rattle.index_page.specs.Children.{Place}
 use Rattle.index_page.specs.Page.{PageOfKind, entries, leaf_of}
 use Rattle.mapping.specs.Levels.{Placed, joined, names, levels_of, contents, all_pages, by_pid, top_pid}
@@ -34,7 +34,7 @@ use Rattle.page_runs.specs.NetRun.{net_run}
 use Rattle.page_runs.specs.Replies.{ArePlacesOf, commands_at, pieces_of}
 use Rattle.page_runs.specs.Worked.{worked}
 use Rattle.page_runs.proofs.EndedBatch.{AreNear, near_ends, EndsBefore, AllEndBefore, all_end_before, replies-ended, net_run-ended, net_run-with_ends}
-use Rattle.replies.specs.ByPlace.{joined_replies, joined_replies_at, reply_at, pieces_at, is_rows, AreAnswers}
+use Rattle.replies.specs.ByPlace.{joined_replies, joined_replies_at, reply_at, pieces_at, is_rows, is_count, AreAnswers}
 use Rattle.split_plan.specs.WorkedLevel.{worked_leaves}
 use Rattle.climb_plan.specs.Climb.{Climbed, climb}
 use Rattle.climb_plan.specs.Plan.{shrunk_levels, shrunk_pids, planned_tree}
@@ -114,20 +114,27 @@ module _ (cs : List (Command Global)) (ends : List (Option (List ℕ))) where
   pub places-ended : (rs : List Route) → AllByRecursion (λ r. ArePlacesOf (with_ends cs ends) r.places) rs → AllByRecursion (λ r. ArePlacesOf cs r.places) rs
   places-ended rs a = subst (λ (n : ℕ). AllByRecursion (λ r. AllByRecursion (λ place. place < n) r.places) rs) (length-with_ends cs ends) a
 
-  scan_by : (end : Option (List ℕ)) (o : Option (Command Global)) → is_some_that is_scan (option_map (with_end end) o) ≡ is_some_that is_scan o
-  scan_by end None = refl
-  scan_by end (Some c) = scan-with_end end c
+  -- what a command is, it is with any end
+  kind_by : (kind : Command Global → Bool) → ((end : Option (List ℕ)) (c : Command Global) → kind (with_end end c) ≡ kind c) → (end : Option (List ℕ)) (o : Option (Command Global)) → is_some_that kind (option_map (with_end end) o) ≡ is_some_that kind o
+  kind_by kind same end None = refl
+  kind_by kind same end (Some c) = same end c
+
+  kind-ended : (kind : Command Global → Bool) → ((end : Option (List ℕ)) (c : Command Global) → kind (with_end end c) ≡ kind c) → (place : ℕ) → is_some_that kind (slice_get (with_ends cs ends) place) ≡ is_some_that kind (slice_get cs place)
+  kind-ended kind same place = ap (is_some_that kind) (get-with_ends cs ends place) ∙ kind_by kind same (first_end (drop place ends)) (slice_get cs place)
 
   scan-ended : (place : ℕ) → is_scan_at (with_ends cs ends) place ≡ is_scan_at cs place
-  scan-ended place = ap (is_some_that is_scan) (get-with_ends cs ends place) ∙ scan_by (first_end (drop place ends)) (slice_get cs place)
+  scan-ended place = kind-ended is_scan scan-with_end place
+
+  wipe-ended : (place : ℕ) → is_wipe_at (with_ends cs ends) place ≡ is_wipe_at cs place
+  wipe-ended place = kind-ended is_wipe wipe-with_end place
+
+  ranged-ended : (place : ℕ) → is_ranged_at (with_ends cs ends) place ≡ is_ranged_at cs place
+  ranged-ended place = kind-ended is_ranged ranged-with_end place
 
   joined-with_end : (end : Option (List ℕ)) (c : Command Global) (rs : List (Reply Global)) → joined_replies (with_end end c) rs ≡ joined_replies c rs
   joined-with_end None c rs = refl
-  joined-with_end (Some end) (Get k) rs = refl
-  joined-with_end (Some end) (Put k v) rs = refl
-  joined-with_end (Some end) (Add k v) rs = refl
-  joined-with_end (Some end) (Del k) rs = refl
   joined-with_end (Some end) (Scan lo hi limit) rs = refl
+  joined-with_end (Some end) _ rs = refl
 
   joined_by : (end : Option (List ℕ)) (o : Option (Command Global)) (rs : List (Reply Global)) → joined_replies_at (option_map (with_end end) o) rs ≡ joined_replies_at o rs
   joined_by end None rs = refl
@@ -144,7 +151,8 @@ module _ (cs : List (Command Global)) (ends : List (Option (List ℕ))) where
   answers-ended ps a = record {
     within = subst (λ (n : ℕ). All (λ p. p.place < n) ps) (length-with_ends cs ends) a.within;
     kind = All-weaker (λ p. is_rows p.reply ≡ is_scan_at (with_ends cs ends) p.place) (λ p. is_rows p.reply ≡ is_scan_at cs p.place) (λ p h. h ∙ scan-ended p.place) ps a.kind;
-    once = λ place h plain. a.once place (subst (λ (n : ℕ). place < n) (sym (length-with_ends cs ends)) h) (scan-ended place ∙ plain);
+    counts = All-weaker (λ p. is_count p.reply ≡ is_wipe_at (with_ends cs ends) p.place) (λ p. is_count p.reply ≡ is_wipe_at cs p.place) (λ p h. h ∙ wipe-ended p.place) ps a.counts;
+    once = λ place h plain. a.once place (subst (λ (n : ℕ). place < n) (sym (length-with_ends cs ends)) h) (ranged-ended place ∙ plain);
   }
 
 -- what holds of a result where it is `Ok`

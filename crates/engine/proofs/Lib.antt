@@ -5,6 +5,7 @@ mod BatchInStep
 mod BatchLeaves
 mod CleanDone
 mod CommandsWithin
+mod ContentsFit
 mod CreateLemmas
 mod Crossing
 mod EndedRoutes

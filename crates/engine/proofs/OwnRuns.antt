@@ -1,29 +1,55 @@
 -- A page's part of the whole net run is the net run of its own commands on its own entries.
-use Rattle.std.specs.Prelude.{◌≡◌, ℕ, Bool, true, false, not, ◌&&◌, cond, List, [], ◌∷◌, Option, Some, None}
+use Rattle.std.specs.Prelude.{◌≡◌, ℕ, Bool, true, false, not, ◌&&◌, ◌||◌, cond, List, [], ◌∷◌, Option, Some, None}
 use Rattle.std.proofs.Common.{refl, sym, ap, ◌∙◌}
 use Rattle.std.specs.List.{filter}
-use Rattle.keys.specs.Order.{IsRising}
+use Rattle.std.specs.Ordering.{is_eq}
+use Rattle.std.proofs.lemmas.Bool.{and_parts}
+use Rattle.std.proofs.lemmas.Map.Entries.{lookup-filter-keys}
+use Rattle.keys.specs.Order.{order, IsRising}
 use Rattle.keys.specs.OrderedMap.{value_at}
 use Rattle.keys.specs.declared.command.Command.{Command}
-use Rattle.keys.specs.declared.command.Command.TheVariants.{Get, Put, Add, Del, Scan}
-use Rattle.keys.proofs.MapLemmas.{total, same_map}
+use Rattle.keys.specs.declared.command.Command.TheVariants.{Get, Put, Add, Del, Scan, Wipe}
+use Rattle.keys.proofs.MapLemmas.{total, passes_same, same_map}
+use Rattle.index_page.specs.Children.{is_between}
 use Rattle.index_page.specs.Range.{is_below, is_before, is_within}
 use Rattle.index_page.proofs.PageLemmas.{all_keys_entries}
-use Rattle.index_page.proofs.RangeLemmas.{below_is_less, less_is_below, rising-filter, value_at-behind}
+use Rattle.index_page.proofs.RangeLemmas.{below_is_less, less_is_below, low_through, rising-filter, value_at-behind}
 use Rattle.mapping.specs.Levels.{Placed, entries, joined}
 use Rattle.mapping.specs.Proper.{next_low, Tiled}
 use Rattle.mapping.proofs.TileLemmas.{rising-tile, value_at-joined}
 use Rattle.routing.specs.Routes.{goes_to}
 use Rattle.page_runs.specs.NetRun.{net_run}
-use Rattle.page_runs.specs.Apart.{TakesAll, TakesNoOther, AgreeOn}
+use Rattle.page_runs.specs.Apart.{TakesAll, GivesNoOther, HasNoOther, AgreeOn}
 use Rattle.page_runs.proofs.NetLemmas.{Pairs, Changes, rising-net_run}
-use Rattle.page_runs.proofs.ApartLemmas.{within_by_key, off_by_key, net_run-apart, net_run-no_other}
-use Rattle.scan.proofs.Parts.{value_at-passing}
+use Rattle.page_runs.proofs.ApartLemmas.{within_by_key, off_by_key, net_run-apart, net_run-no_other_there}
+use Rattle.scan.proofs.Parts.{value_at-passing, part_of_level}
 use Rattle.split_plan.specs.WorkedLevel.{part_below, part_from}
 
 -- ---- the commands of a range
 
--- a scan is on no key; another command is on one, and goes to the page whose range has it
+not_true : (b : Bool) → not b ≡ true → b ≡ false
+not_true true h = absurd (cc)
+not_true false h = refl
+
+before_from : (end : Option (List ℕ)) (low k : List ℕ) → is_below k low ≡ false → is_before end k ≡ true → is_before end low ≡ true
+before_from None low k h b = refl
+before_from (Some end) low k h b = less_is_below low end (low_through low k end h (below_is_less k end b))
+
+-- a wipe that goes to no page is on none of the page's keys
+met_by : (u : Bool) (low : List ℕ) (end : Option (List ℕ)) (lo : List ℕ) (hi : Option (List ℕ)) → is_below lo low ≡ u → is_before end lo ≡ true → is_before hi low ≡ true → (is_within low end lo || is_between lo hi low) ≡ true
+met_by true low end lo hi u e h = rw (u, h) refl
+met_by false low end lo hi u e h = rw (u, e) refl
+
+unmet_by : (w : Bool) (low : List ℕ) (end : Option (List ℕ)) (lo : List ℕ) (hi : Option (List ℕ)) (k : List ℕ) → is_within lo hi k ≡ w → (is_within low end lo || is_between lo hi low) ≡ false → is_within low end k ≡ true → w ≡ false
+unmet_by false low end lo hi k e m h = refl
+unmet_by true low end lo hi k e m h =
+    let own = and_parts (not (is_below k lo)) (is_before hi k) e in
+    let there = and_parts (not (is_below k low)) (is_before end k) h in
+    let met : (is_within low end lo || is_between lo hi low) ≡ true =
+    met_by (is_below lo low) low end lo hi refl (before_from end lo k (not_true (is_below k lo) own.0) there.1) (before_from hi low k (not_true (is_below k low) there.0) own.1) in
+    absurd (cc)
+
+-- what goes to no page is on none of its keys; a scan is on none anyway
 module _ {A : Type 0} (low : List ℕ) (end : Option (List ℕ)) where
   takes_all : TakesAll {A = A} (is_within low end) (goes_to low end)
   takes_all (Get k) h = off_by_key {A = A} (is_within low end) (Get k) k refl h
@@ -31,24 +57,24 @@ module _ {A : Type 0} (low : List ℕ) (end : Option (List ℕ)) where
   takes_all (Add k v) h = off_by_key {A = A} (is_within low end) (Add k v) k refl h
   takes_all (Del k) h = off_by_key {A = A} (is_within low end) (Del k) k refl h
   takes_all (Scan lo hi limit) h = λ q own. refl
+  takes_all (Wipe lo hi) h = λ q own. unmet_by (is_within lo hi q) low end lo hi q refl h own
 
-  takes_no_other : TakesNoOther {A = A} (is_within low end) (goes_to low end)
-  takes_no_other (Get k) h = within_by_key {A = A} (is_within low end) (Get k) k refl h
-  takes_no_other (Put k v) h = within_by_key {A = A} (is_within low end) (Put k v) k refl h
-  takes_no_other (Add k v) h = within_by_key {A = A} (is_within low end) (Add k v) k refl h
-  takes_no_other (Del k) h = within_by_key {A = A} (is_within low end) (Del k) k refl h
-  takes_no_other (Scan lo hi limit) h = λ q other. refl
+  -- what gives a key a value goes to the page whose range has the key
+  gives_no_other : GivesNoOther {A = A} (is_within low end) (goes_to low end)
+  gives_no_other (Put k v) h = within_by_key {A = A} (is_within low end) (Put k v) k refl h
+  gives_no_other (Add k v) h = within_by_key {A = A} (is_within low end) (Add k v) k refl h
+  gives_no_other _ h = λ q other. refl
 
-  own_by : (b : Bool) (m es : Pairs) (cs : List (Command A)) (k : List ℕ) → is_within low end k ≡ b → IsRising m → IsRising es → AgreeOn (is_within low end) m es
+  own_by : (b : Bool) (m es : Pairs) (cs : List (Command A)) (k : List ℕ) → is_within low end k ≡ b → IsRising m → IsRising es → AgreeOn (is_within low end) m es → HasNoOther (is_within low end) es
       → cond b (value_at k (net_run m cs)) None ≡ value_at k (net_run es (filter (goes_to low end) cs))
-  own_by true m es cs k h r e a = net_run-apart (is_within low end) (goes_to low end) m es cs k takes_all r e a h
-  own_by false m es cs k h r e a = sym (net_run-no_other (is_within low end) (goes_to low end) es cs k takes_no_other h)
+  own_by true m es cs k h r e a n = net_run-apart (is_within low end) (goes_to low end) m es cs k takes_all r e a h
+  own_by false m es cs k h r e a n = sym (net_run-no_other_there (is_within low end) (goes_to low end) es cs k gives_no_other n e h)
 
-  -- what lies of the whole net run within the range is the net run of the range's commands on entries that agree there
-  pub part_is_own : (m es : Pairs) (cs : List (Command A)) (part : Changes) → IsRising m → IsRising es → AgreeOn (is_within low end) m es → IsRising part
+  -- what lies of the whole net run within the range is the net run of the range's commands on entries that agree there, and are all there
+  pub part_is_own : (m es : Pairs) (cs : List (Command A)) (part : Changes) → IsRising m → IsRising es → AgreeOn (is_within low end) m es → HasNoOther (is_within low end) es → IsRising part
       → ((k : List ℕ) → value_at k part ≡ cond (is_within low end k) (value_at k (net_run m cs)) None) → part ≡ net_run es (filter (goes_to low end) cs)
-  part_is_own m es cs part r e a p says =
-      same_map part (net_run es (filter (goes_to low end) cs)) p (rising-net_run es (filter (goes_to low end) cs)) (λ k. says k ∙ own_by (is_within low end k) m es cs k refl r e a)
+  part_is_own m es cs part r e a n p says =
+      same_map part (net_run es (filter (goes_to low end) cs)) p (rising-net_run es (filter (goes_to low end) cs)) (λ k. says k ∙ own_by (is_within low end k) m es cs k refl r e a n)
 
 -- ---- what is left of the whole net run for the pages from one on
 
@@ -84,6 +110,13 @@ low_by false b h = refl
 below_later : (p q : Placed (List ℕ)) (qs : List (Placed (List ℕ))) → Tiled (p ∷ q ∷ qs) None → (k : List ℕ) → is_below k p.page.low ≡ true → is_below k q.page.low ≡ true
 below_later p q qs t k h = less_is_below k q.page.low (total.trans k p.page.low q.page.low (below_is_less k p.page.low h) t.0.low)
 
+-- the entries of a page lie in its range
+holds_own : (p : Placed (List ℕ)) (ps : List (Placed (List ℕ))) → Tiled (p ∷ ps) None → HasNoOther (is_within p.page.low (next_low ps None)) (entries p)
+holds_own p ps t = λ q other.
+    ap (λ (es : Pairs). value_at q es) (part_of_level [] ps p t)
+    ∙ lookup-filter-keys (λ j. is_eq (order q j)) (is_within p.page.low (next_low ps None)) (is_within p.page.low (next_low ps None) q) (λ j h. ap (is_within p.page.low (next_low ps None)) (sym (passes_same q j h))) (joined (p ∷ ps))
+    ∙ ap (λ (b : Bool). cond b (value_at q (joined (p ∷ ps))) None) other
+
 module _ {A : Type 0} (m : Pairs) (cs : List (Command A)) (rising : IsRising m) where
   -- on the range of the page, the map has what the page has
   agrees : (p : Placed (List ℕ)) (ps : List (Placed (List ℕ))) (left : Changes) → Tiled (p ∷ ps) None → IsLeft m (net_run m cs) p ps left → AgreeOn (is_within p.page.low (next_low ps None)) m (entries p)
@@ -93,14 +126,14 @@ module _ {A : Type 0} (m : Pairs) (cs : List (Command A)) (rising : IsRising m) 
   -- the last page gets all that is left
   pub last_part : (p : Placed (List ℕ)) (left : Changes) → Tiled (p ∷ []) None → IsLeft m (net_run m cs) p [] left → left ≡ net_run (entries p) (filter (goes_to p.page.low None) cs)
   last_part p left t l =
-      part_is_own p.page.low None m (entries p) cs left rising (rising-tile None p t.0) (agrees p [] left t l) l.rising
+      part_is_own p.page.low None m (entries p) cs left rising (rising-tile None p t.0) (agrees p [] left t l) (holds_own p [] t) l.rising
       (λ k. l.says k ∙ last_part_by (is_below k p.page.low) (value_at k (net_run m cs)))
 
   -- and any other page what is below the next page's low key
   pub first_part : (p q : Placed (List ℕ)) (qs : List (Placed (List ℕ))) (left : Changes) → Tiled (p ∷ q ∷ qs) None → IsLeft m (net_run m cs) p (q ∷ qs) left
       → part_below q.page.low left ≡ net_run (entries p) (filter (goes_to p.page.low (Some q.page.low)) cs)
   first_part p q qs left t l =
-      part_is_own p.page.low (Some q.page.low) m (entries p) cs (part_below q.page.low left) rising (rising-tile (Some q.page.low) p t.0) (agrees p (q ∷ qs) left t l)
+      part_is_own p.page.low (Some q.page.low) m (entries p) cs (part_below q.page.low left) rising (rising-tile (Some q.page.low) p t.0) (agrees p (q ∷ qs) left t l) (holds_own p (q ∷ qs) t)
       (rising-filter (λ c. is_below c.0 q.page.low) left l.rising)
       (λ k. value_at-passing (λ j. is_below j q.page.low) left k
       ∙ ap (λ (o : Option (Option (List ℕ))). cond (is_below k q.page.low) o None) (l.says k)

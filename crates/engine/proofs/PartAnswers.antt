@@ -1,24 +1,26 @@
 -- What the pages of a level answer to a batch, each to its own commands on its own part of the map, and what comes of it at
 -- each place of the batch.
-use Rattle.std.specs.Prelude.{◌≡◌, ℕ, zero, suc, ◌+◌, ◌<◌, ◌≤◌, ◌==◌, Bool, true, false, cond, if◌then◌else◌, List, [], ◌∷◌, ◌++◌, flat_map, take, drop, length, slice_get, is_some, Option, Some, None}
-use Rattle.std.proofs.Common.{refl, sym, ap, ◌∙◌, replicate, arith, eq-eqb}
-use Rattle.std.specs.List.{AllByRecursion, filter}
+use Rattle.std.specs.Prelude.{◌≡◌, ℕ, zero, suc, ◌+◌, ◌<◌, ◌≤◌, ◌==◌, Bool, true, false, cond, if◌then◌else◌, List, [], ◌∷◌, ◌++◌, flat_map, take, drop, length, min, slice_get, is_some, Option, Some, None}
+use Rattle.std.proofs.Common.{refl, sym, ap, ◌∙◌, replicate, arith, eq-eqb, Ordering, Less, Equal, Greater}
+use Rattle.std.specs.Ordering.{is_eq, match_ordering}
+use Rattle.std.specs.List.{AllByRecursion, filter, sum_by}
 use Rattle.std.proofs.lemmas.Bool.{ne_eqb}
 use Rattle.std.proofs.lemmas.Grind.{flat_map-append}
 use Rattle.std.proofs.lemmas.List.{map-append, length-map, append-nil}
 use Rattle.std.proofs.lemmas.List.Elements.{filter-append, All-from_recursion}
-use Rattle.std.proofs.lemmas.List.Sums.{length-filter}
-use Rattle.keys.specs.CommandKey.{key_of, is_scan}
-use Rattle.keys.specs.Order.{IsRising}
-use Rattle.keys.specs.OrderedMap.{value_at}
-use Rattle.keys.specs.Places.{is_some_that, is_scan_at}
+use Rattle.std.proofs.lemmas.List.Sums.{length-filter, sum_by-cons, sum_by-append}
+use Rattle.keys.specs.CommandKey.{key_of, is_ranged, is_scan, is_wipe}
+use Rattle.keys.specs.Order.{order, IsRising}
+use Rattle.keys.specs.OrderedMap.{value_at, with_pair, without}
+use Rattle.keys.specs.Places.{is_some_that, is_scan_at, is_wipe_at, is_ranged_at}
 use Rattle.keys.specs.Range.{in_range}
 use Rattle.keys.specs.Step.{found, reply_to, map_after, replies_to}
 use Rattle.keys.specs.declared.command.Command.{Command}
-use Rattle.keys.specs.declared.command.Command.TheVariants.{Get, Put, Add, Del, Scan}
+use Rattle.keys.specs.declared.command.Command.TheVariants.{Get, Put, Add, Del, Scan, Wipe}
 use Rattle.keys.specs.declared.command.Reply.{Reply}
-use Rattle.keys.specs.declared.command.Reply.TheVariants.{Missing, New, Replaced, Added, Exists, Deleted, Rows}
+use Rattle.keys.specs.declared.command.Reply.TheVariants.{Missing, New, Replaced, Added, Exists, Deleted, Rows, Wiped}
 use Rattle.keys.specs.declared.piece.Piece.{Piece}
+use Rattle.keys.proofs.RangeLemmas.{both_parts}
 use Rattle.keys.proofs.RunLemmas.{rising-map_after}
 use Rattle.index_page.specs.Children.{Place, is_place_for}
 use Rattle.index_page.proofs.ListLemmas.{all-append}
@@ -28,8 +30,8 @@ use Rattle.mapping.proofs.TileLemmas.{one_page}
 use Rattle.routing.specs.Routes.{goes_to, places_from, places_within, ranges}
 use Rattle.routing.proofs.RouteLemmas.{goes_by_key, within_all}
 use Rattle.page_runs.specs.Replies.{commands_at, pieces_of}
-use Rattle.page_runs.proofs.PageParts.{map_after-part, reply_to-part, rows-parts}
-use Rattle.replies.specs.ByPlace.{pieces_at, rows_of, is_rows, lone, joined_replies, joined_replies_at, reply_at, IsPlaceOf, AreAnswers}
+use Rattle.page_runs.proofs.PageParts.{map_after-part, reply_to-part, rows-parts, counts-parts}
+use Rattle.replies.specs.ByPlace.{pieces_at, rows_of, is_rows, count_of, is_count, most_counted, lone, joined_replies, joined_replies_at, reply_at, IsPlaceOf, AreAnswers}
 use Rattle.replies.proofs.Placing.{same_at_each, replies_of, joined_replies-lone}
 use Rattle.engine.proofs.CommandsWithin.{commands_within}
 
@@ -48,6 +50,33 @@ answers_from n low end m (c ∷ cs) =
 no_rows_found : (A : Type 0) (o : Option (List ℕ)) → is_rows {A = A} (found o) ≡ false
 no_rows_found A None = refl
 no_rows_found A (Some v) = refl
+
+no_count_found : (A : Type 0) (o : Option (List ℕ)) → is_count {A = A} (found o) ≡ false
+no_count_found A None = refl
+no_count_found A (Some v) = refl
+
+-- ---- how many pairs a command leaves at most
+
+most_added_by : (o : Ordering) (k v : List ℕ) (e : List ℕ × List ℕ) (es rest : Pairs) → length rest ≤ length es + 1 → length (match_ordering o ((k, v) ∷ e ∷ es) ((e.0, v) ∷ es) (e ∷ rest)) ≤ suc (length es) + 1
+most_added_by Less k v e es rest h = omega arith
+most_added_by Equal k v e es rest h = omega arith
+most_added_by Greater k v e es rest h = omega (arith, h)
+
+pub most_added : (m : Pairs) (k v : List ℕ) → length (with_pair m k v) ≤ length m + 1
+most_added [] k v = omega arith
+most_added (e ∷ es) k v = most_added_by (order k e.0) k v e es (with_pair es k v) (most_added es k v)
+
+either_added : (b : Bool) (m : Pairs) (k v : List ℕ) → length (if b then m else with_pair m k v) ≤ length m + 1
+either_added true m k v = omega arith
+either_added false m k v = most_added m k v
+
+most_left_by : (b : Bool) (e : List ℕ × List ℕ) (es rest : Pairs) → length rest ≤ length es → length (cond b es (e ∷ rest)) ≤ suc (length es)
+most_left_by true e es rest h = omega arith
+most_left_by false e es rest h = omega (arith, h)
+
+pub most_left : (m : Pairs) (k : List ℕ) → length (without m k) ≤ length m
+most_left [] k = omega arith
+most_left (e ∷ es) k = most_left_by (is_eq (order k e.0)) e es (without es k) (most_left es k)
 
 -- ---- lists
 
@@ -108,12 +137,28 @@ module _ {A : Type 0} where
     kind-reply_to m (Add k v) = no_rows_if (is_some (value_at k m)) Exists Added refl refl
     kind-reply_to m (Del k) = no_rows_if (is_some (value_at k m)) Deleted Missing refl refl
     kind-reply_to m (Scan lo hi limit) = refl
+    kind-reply_to m (Wipe lo hi) = refl
 
-    pub kinds-answers : (all : List (Command A)) (n : ℕ) (m : Pairs) (left : List (Command A)) → drop n all ≡ left → AllByRecursion (λ p. is_rows p.reply ≡ is_scan_at all p.place) (answers_from n low end m left)
-    kinds-answers all n m [] h = tt
-    kinds-answers all n m (c ∷ left) h =
+    -- and counts answer wipes
+    no_count_if : (b : Bool) (r s : Reply A) → is_count r ≡ false → is_count s ≡ false → is_count (if b then r else s) ≡ false
+    no_count_if true r s h k = h
+    no_count_if false r s h k = k
+
+    count-reply_to : (m : Pairs) (c : Command A) → is_count (reply_to m c) ≡ is_wipe c
+    count-reply_to m (Get k) = no_count_found A (value_at k m)
+    count-reply_to m (Put k v) = no_count_if (is_some (value_at k m)) Replaced New refl refl
+    count-reply_to m (Add k v) = no_count_if (is_some (value_at k m)) Exists Added refl refl
+    count-reply_to m (Del k) = no_count_if (is_some (value_at k m)) Deleted Missing refl refl
+    count-reply_to m (Scan lo hi limit) = refl
+    count-reply_to m (Wipe lo hi) = refl
+
+    -- what each reply says of itself, each answer says of the command at its place
+    pub kinds-answers : (test : Reply A → Bool) (kind : Command A → Bool) → ((m : Pairs) (c : Command A) → test (reply_to m c) ≡ kind c) → (all : List (Command A)) (n : ℕ) (m : Pairs) (left : List (Command A)) → drop n all ≡ left
+        → AllByRecursion (λ p. test p.reply ≡ is_some_that kind (slice_get all p.place)) (answers_from n low end m left)
+    kinds-answers test kind is all n m [] h = tt
+    kinds-answers test kind is all n m (c ∷ left) h =
         let s = stands_first n all c left h in
-        all_if (λ p. is_rows p.reply ≡ is_scan_at all p.place) (goes_to low end c) _ _ (kind-reply_to (in_range low end m) c ∙ sym (ap (is_some_that is_scan) s.0)) (kinds-answers all (suc n) (map_after m c) left s.1)
+        all_if (λ p. test p.reply ≡ is_some_that kind (slice_get all p.place)) (goes_to low end c) _ _ (is (in_range low end m) c ∙ sym (ap (is_some_that kind) s.0)) (kinds-answers test kind is all (suc n) (map_after m c) left s.1)
 
     -- ---- what a page answers at a place
 
@@ -167,10 +212,11 @@ module _ {A : Type 0} where
   within-all m cs [] = tt
   within-all m cs (at ∷ ats) = all-append (λ p. p.place < length cs) (answers_from 0 at.low at.end m cs) (all_answers_from m cs ats) (within-answers at.low at.end (length cs) 0 m cs (omega arith)) (within-all m cs ats)
 
-  pub kinds-all : (m : Pairs) (cs : List (Command A)) (ats : List Place) → AllByRecursion (λ p. is_rows p.reply ≡ is_scan_at cs p.place) (all_answers_from m cs ats)
-  kinds-all m cs [] = tt
-  kinds-all m cs (at ∷ ats) =
-      all-append (λ p. is_rows p.reply ≡ is_scan_at cs p.place) (answers_from 0 at.low at.end m cs) (all_answers_from m cs ats) (kinds-answers at.low at.end cs 0 m cs refl) (kinds-all m cs ats)
+  pub kinds-all : (test : Reply A → Bool) (kind : Command A → Bool) → ((m : Pairs) (c : Command A) → test (reply_to m c) ≡ kind c) → (m : Pairs) (cs : List (Command A)) (ats : List Place)
+      → AllByRecursion (λ p. test p.reply ≡ is_some_that kind (slice_get cs p.place)) (all_answers_from m cs ats)
+  kinds-all test kind is m cs [] = tt
+  kinds-all test kind is m cs (at ∷ ats) =
+      all-append (λ p. test p.reply ≡ is_some_that kind (slice_get cs p.place)) (answers_from 0 at.low at.end m cs) (all_answers_from m cs ats) (kinds-answers at.low at.end test kind is cs 0 m cs refl) (kinds-all test kind is m cs ats)
 
   all_answers_at : (m : Pairs) (cs : List (Command A)) (i : ℕ) (ats : List Place) → replies_of (pieces_at (all_answers_from m cs ats) i) ≡ all_at m cs i ats
   all_answers_at m cs i [] = refl
@@ -184,7 +230,7 @@ module _ {A : Type 0} where
 
   -- ---- a command that goes to one page
 
-  module _ (m : Pairs) (c : Command A) (rising : IsRising m) (plain : is_scan c ≡ false) where
+  module _ (m : Pairs) (c : Command A) (rising : IsRising m) (plain : is_ranged c ≡ false) where
     own_by : (b : Bool) (at : Place) → goes_to at.low at.end c ≡ b → cond b (reply_to (in_range at.low at.end m) c ∷ []) [] ≡ cond b (reply_to m c ∷ []) []
     own_by true at h = ap (λ (r : Reply A). r ∷ []) (reply_to-part at.low at.end m rising c plain h)
     own_by false at h = refl
@@ -209,6 +255,33 @@ module _ {A : Type 0} where
 
   -- ---- what a level answers
 
+  -- a command adds one pair at most
+  one_more_at_most : (m : Pairs) (c : Command A) → length (map_after m c) ≤ length m + 1
+  one_more_at_most m (Get k) = omega arith
+  one_more_at_most m (Put k v) = most_added m k v
+  one_more_at_most m (Add k v) = either_added (is_some (value_at k m)) m k v
+  one_more_at_most m (Del k) = let h = most_left m k in omega (arith, h)
+  one_more_at_most m (Scan lo hi limit) = omega arith
+  one_more_at_most m (Wipe lo hi) = let parts = both_parts m lo hi in omega (arith, parts)
+
+  count_by : (b : Bool) (m : Pairs) (c : Command A) (lo : List ℕ) (hi : Option (List ℕ)) → c ≡ Wipe lo hi → sum_by count_of (if b then reply_to m c ∷ [] else []) ≡ (if b then length (in_range lo hi m) else 0)
+  count_by true m c lo hi e =
+      let one : count_of (reply_to m c) ≡ length (in_range lo hi m) = ap (λ (d : Command A). count_of (reply_to m d)) e in
+      let sum = sum_by-cons (count_of {A = A}) (reply_to m c) [] in
+      omega (arith, one, sum)
+  count_by false m c lo hi e = refl
+
+  -- the counts that pages answer to a wipe
+  counts_joined : (m : Pairs) (c : Command A) (lo : List ℕ) (hi : Option (List ℕ)) (ats : List Place) → c ≡ Wipe lo hi
+      → sum_by count_of (all_own m c ats) ≡ sum_by (λ at. if goes_to at.low at.end c then length (in_range lo hi (in_range at.low at.end m)) else 0) ats
+  counts_joined m c lo hi [] e = refl
+  counts_joined m c lo hi (at ∷ ats) e =
+      let here : ℕ = if goes_to at.low at.end c then length (in_range lo hi (in_range at.low at.end m)) else 0 in
+      sum_by-append count_of (own_reply at.low at.end m c) (all_own m c ats)
+      ∙ ap (λ (n : ℕ). n + sum_by count_of (all_own m c ats)) (count_by (goes_to at.low at.end c) (in_range at.low at.end m) c lo hi e)
+      ∙ ap (λ (n : ℕ). here + n) (counts_joined m c lo hi ats e)
+      ∙ sym (sum_by-cons (λ (at : Place). if goes_to at.low at.end c then length (in_range lo hi (in_range at.low at.end m)) else 0) at ats)
+
   rows_by : (b : Bool) (m : Pairs) (c : Command A) → flat_map rows_of (if b then reply_to m c ∷ [] else []) ≡ (if b then rows_of (reply_to m c) else [])
   rows_by true m c = append-nil (rows_of (reply_to m c))
   rows_by false m c = refl
@@ -221,24 +294,29 @@ module _ {A : Type 0} where
       ∙ ap (λ (xs : Pairs). (if goes_to at.low at.end c then rows_of (reply_to (in_range at.low at.end m) c) else []) ++ xs) (rows_joined m c ats)
 
   module _ {V : Type 0} (level : List (Placed V)) (first : next_low level None ≡ Some []) (tiled : Tiled level None) where
-    plain_joined : (m : Pairs) (c : Command A) → IsRising m → is_scan c ≡ false → joined_replies c (all_own m c (ranges level)) ≡ Some (reply_to m c)
+    plain_joined : (m : Pairs) (c : Command A) → IsRising m → is_ranged c ≡ false → joined_replies c (all_own m c (ranges level)) ≡ Some (reply_to m c)
     plain_joined m c rising plain = joined_replies-lone c (all_own m c (ranges level)) plain ∙ ap (λ (rs : List (Reply A)). lone rs) (one_reply m c rising plain level first tiled)
 
-    -- what the pages answer to a command makes the reply of the whole map
-    joined_own : (m : Pairs) (c : Command A) → IsRising m → joined_replies c (all_own m c (ranges level)) ≡ Some (reply_to m c)
-    joined_own m (Get k) r = plain_joined m (Get k) r refl
-    joined_own m (Put k v) r = plain_joined m (Put k v) r refl
-    joined_own m (Add k v) r = plain_joined m (Add k v) r refl
-    joined_own m (Del k) r = plain_joined m (Del k) r refl
-    joined_own m (Scan lo hi limit) r =
+    -- what the pages answer to a command makes the reply of the whole map, of which the number of pairs is one that a reply can have
+    joined_own : (m : Pairs) (c : Command A) → IsRising m → length m ≤ most_counted → joined_replies c (all_own m c (ranges level)) ≡ Some (reply_to m c)
+    joined_own m (Get k) r few = plain_joined m (Get k) r refl
+    joined_own m (Put k v) r few = plain_joined m (Put k v) r refl
+    joined_own m (Add k v) r few = plain_joined m (Add k v) r refl
+    joined_own m (Del k) r few = plain_joined m (Del k) r refl
+    joined_own m (Scan lo hi limit) r few =
         ap (λ (xs : Pairs). Some (Rows (take limit xs))) (rows_joined m (Scan lo hi limit) (ranges level)) ∙ ap (λ (xs : Pairs). Some (Rows xs)) (rows-parts A level m lo hi limit first tiled r)
+    joined_own m (Wipe lo hi) r few =
+        let sum : sum_by count_of (all_own m (Wipe lo hi) (ranges level)) ≡ length (in_range lo hi m) = counts_joined m (Wipe lo hi) lo hi (ranges level) refl ∙ counts-parts A level m lo hi first tiled r in
+        let part = both_parts m lo hi in
+        let fits : min (length (in_range lo hi m)) most_counted ≡ length (in_range lo hi m) = omega (arith, few, part) in
+        ap (λ (n : ℕ). Some (Wiped (min n most_counted))) sum ∙ ap (λ (n : ℕ). Some (Wiped n)) fits
 
-    joined_all : (m : Pairs) (cs : List (Command A)) (i : ℕ) → IsRising m → joined_replies_at (slice_get cs i) (all_at m cs i (ranges level)) ≡ slice_get (replies_to m cs) i
-    joined_all m [] i r = refl
-    joined_all m (c ∷ cs) zero r = joined_own m c r
-    joined_all m (c ∷ cs) (suc i) r = joined_all (map_after m c) cs i (rising-map_after m c r)
+    joined_all : (m : Pairs) (cs : List (Command A)) (i : ℕ) → IsRising m → length m + length cs ≤ most_counted → joined_replies_at (slice_get cs i) (all_at m cs i (ranges level)) ≡ slice_get (replies_to m cs) i
+    joined_all m [] i r few = refl
+    joined_all m (c ∷ cs) zero r few = joined_own m c r (omega (arith, few))
+    joined_all m (c ∷ cs) (suc i) r few = let more = one_more_at_most m c in joined_all (map_after m c) cs i (rising-map_after m c r) (omega (arith, few, more))
 
-    one_at : (m : Pairs) (cs : List (Command A)) (i : ℕ) → IsRising m → i < length cs → is_scan_at cs i ≡ false → length (all_at m cs i (ranges level)) ≡ 1
+    one_at : (m : Pairs) (cs : List (Command A)) (i : ℕ) → IsRising m → i < length cs → is_ranged_at cs i ≡ false → length (all_at m cs i (ranges level)) ≡ 1
     one_at m [] i r h plain = absurd (omega arith)
     one_at m (c ∷ cs) zero r h plain = ap (λ (rs : List (Reply A)). length rs) (one_reply m c r plain level first tiled)
     one_at m (c ∷ cs) (suc i) r h plain = one_at (map_after m c) cs i (rising-map_after m c r) (omega arith) plain
@@ -251,10 +329,11 @@ module _ {A : Type 0} where
       pub answers_are_right : AreAnswers cs answers
       answers_are_right = record {
         within = All-from_recursion (IsPlaceOf cs) answers (within-all m cs (ranges level));
-        kind = All-from_recursion (λ p. is_rows p.reply ≡ is_scan_at cs p.place) answers (kinds-all m cs (ranges level));
+        kind = All-from_recursion (λ p. is_rows p.reply ≡ is_scan_at cs p.place) answers (kinds-all is_rows is_scan (λ x c. kind-reply_to [] None x c) m cs (ranges level));
+        counts = All-from_recursion (λ p. is_count p.reply ≡ is_wipe_at cs p.place) answers (kinds-all is_count is_wipe (λ x c. count-reply_to [] None x c) m cs (ranges level));
         once = λ i h plain. sym (length-map (pieces_at answers i) (λ p. p.reply)) ∙ ap (λ (rs : List (Reply A)). length rs) (all_answers_at m cs i (ranges level)) ∙ one_at m cs i rising h plain;
       }
 
-      -- and the replies that their answers make are those of the whole map
-      pub answers_make_the_replies : (rs : List (Reply A)) → ((i : ℕ) → slice_get rs i ≡ reply_at cs answers i) → rs ≡ replies_to m cs
-      answers_make_the_replies rs made = same_at_each rs (replies_to m cs) (λ i. made i ∙ ap (joined_replies_at (slice_get cs i)) (all_answers_at m cs i (ranges level)) ∙ joined_all m cs i rising)
+      -- and the replies that their answers make are those of the whole map, of which no number of pairs is too great for a reply
+      pub answers_make_the_replies : length m + length cs ≤ most_counted → (rs : List (Reply A)) → ((i : ℕ) → slice_get rs i ≡ reply_at cs answers i) → rs ≡ replies_to m cs
+      answers_make_the_replies few rs made = same_at_each rs (replies_to m cs) (λ i. made i ∙ ap (joined_replies_at (slice_get cs i)) (all_answers_at m cs i (ranges level)) ∙ joined_all m cs i rising few)

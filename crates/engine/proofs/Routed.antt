@@ -1,5 +1,5 @@
 -- A batch whose routes are known: what its leaves answer, that the tree is ready to climb, and the way back.
-use Rattle.std.specs.Prelude.{◌≡◌, ◌⊎◌, ℕ, ◌<◌, ◌≤◌, Bool, true, false, not, List, [], ◌∷◌, map, slice_get, Option, Some, None, Result, Ok, Err, OnErr}
+use Rattle.std.specs.Prelude.{◌≡◌, ◌⊎◌, ℕ, ◌+◌, ◌<◌, ◌≤◌, Bool, true, false, not, length, List, [], ◌∷◌, map, slice_get, Option, Some, None, Result, Ok, Err, OnErr}
 use Rattle.std.proofs.Common.{refl, sym, ap, ◌∙◌, subst}
 use mathlib.Core.List.{map-map}
 use Rattle.std.specs.List.{AllByRecursion, filter}
@@ -14,7 +14,7 @@ use Rattle.keys.specs.declared.fault.Fault.{Fault}
 use Rattle.keys.specs.declared.fault.Fault.TheVariants.{NoMemory, Spent}
 use Rattle.keys.specs.declared.settings.Settings.{Settings}
 use Rattle.keys.specs.declared.version.Version.TheVariants.{One}
-use Rattle.keys.proofs.NarrowedLemmas.{replies-with_ends}
+use Rattle.keys.proofs.NarrowedLemmas.{replies-with_ends, length-with_ends}
 use Rattle.index_page.specs.Page.{PageOfKind}
 use Rattle.index_page.specs.Page.PageOfKind.{Leaf}
 use Rattle.mapping.specs.Levels.{names, levels_of, contents}
@@ -29,7 +29,7 @@ use Rattle.page_runs.specs.Reads.{ReadLeaf, IsRouteToRead, is_only_read, answers
 use Rattle.page_runs.specs.Replies.{commands_at, ArePlacesOf}
 use Rattle.page_runs.proofs.EndedBatch.{net_run-ended}
 use Rattle.page_runs.proofs.ReadLemmas.{net_run-looks}
-use Rattle.replies.specs.ByPlace.{reply_at, AreAnswers}
+use Rattle.replies.specs.ByPlace.{most_counted, reply_at, AreAnswers}
 use Rattle.routing.specs.Routes.{Route}
 use Rattle.climb_plan.specs.Changing.{SeenPage, page_seen}
 use Rattle.climb_plan.specs.Installing.{AreAway, all_taken, all_put, page_or_none}
@@ -198,9 +198,9 @@ module _ (s : Settings) (m : TreeInMemory) (cs : List (Command Global)) (sound :
             let all : AreAnswers cs (answers (leaves_made s cs m.table rs)) = answers-ended cs routed.0 (answers (leaves_made s cs m.table rs)) (rw all_made (answered_rightly s m ended sound.home sound.sound.proper)) in
             subst (λ (ps : List (Piece Global)). AreAnswers cs ps) (sym all_there) all
 
-        pub as_a_map : (xs : List (Reply Global)) → ((place : ℕ) → slice_get xs place ≡ reply_at cs (answers_in order reads ds) place) → xs ≡ replies_to (contents (tree_of m)) cs
-        as_a_map xs at =
-            answered_as_a_map s m ended sound.home sound.sound.proper xs
+        pub as_a_map : length (contents (tree_of m)) + length cs ≤ most_counted → (xs : List (Reply Global)) → ((place : ℕ) → slice_get xs place ≡ reply_at cs (answers_in order reads ds) place) → xs ≡ replies_to (contents (tree_of m)) cs
+        as_a_map few xs at =
+            answered_as_a_map s m ended sound.home sound.sound.proper (rw (length-with_ends cs routed.0) few) xs
             (λ place. at place ∙ ap (λ (ps : List (Piece Global)). reply_at cs ps place) all_there ∙ sym (reply-ended cs routed.0 (answers (leaves_made s cs m.table rs)) place) ∙ ap (λ (ms : List LeafMade). reply_at ended (answers ms) place) all_made)
             ∙ replies-with_ends (keys_of (names (levels_of (tree_of m)).level)) (contents (tree_of m)) cs routed.0 (rising-joined (levels_of (tree_of m)).level None sound.sound.proper.levels.tiled) routed.1
 

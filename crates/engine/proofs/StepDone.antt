@@ -4,9 +4,9 @@ use Rattle.std.specs.Option.{option_or}
 use Rattle.std.proofs.Common.{refl, sym, ap, ◌∙◌, subst, inl, inr, ⊎_elim, arith}
 use Rattle.std.proofs.lemmas.Bool.Decides.{nat_tests}
 use Rattle.std.specs.declared.alloc.Global.{Global}
+use Rattle.keys.specs.Footprint.{Span, One, Range, Deed, Gives, span_of, deed_of}
 use Rattle.keys.specs.Step.{replies_to}
 use Rattle.keys.specs.declared.command.Command.{Command}
-use Rattle.keys.specs.declared.command.Command.TheVariants.{Get, Put, Add, Del, Scan}
 use Rattle.keys.specs.declared.command.Reply.{Reply}
 use Rattle.keys.specs.declared.fault.Fault.{Fault}
 use Rattle.keys.specs.declared.fault.Fault.TheVariants.{BadCrew, Device, Failed, Spent, KeyTooLong, ValueTooLong, BatchTooLong}
@@ -23,7 +23,7 @@ use Rattle.cleaner.specs.Cleaned.{IsCleanFault}
 use Rattle.engine.specs.Batch.{IsLaterFault, height_fault, refusal_by}
 use Rattle.engine.specs.Calls.{after_writing, IsLateInWriting, IsWritingFault}
 use Rattle.engine.specs.Plays.{IsLateInStep, IsStepFault, IsLeftInStep}
-use Rattle.engine.specs.Refusal.{refusal, first_fault, fault_at, key_fault, value_fault, bound_fault}
+use Rattle.engine.specs.Refusal.{refusal, first_fault, deed_fault, fault_at, key_fault, value_fault, bound_fault}
 use Rattle.engine.specs.Steps.{Step, Stepped, HasWords, unless_refused, after_step, batching}
 use Rattle.engine.specs.Steps.Step.{Batch, Clean}
 use Rattle.engine.specs.Steps.Answer.{Replies, Cleaned}
@@ -64,12 +64,13 @@ module _ (s : Settings) where
   no_bound place None e = absurd (cc)
   no_bound place (Some hi) e = no_key place hi e
 
+  no_deed : (place : ℕ) (span : Span) (deed : Deed) → deed_fault s place span deed ≢ Some Device
+  no_deed place (One k) (Gives v) = no_or (key_fault s place k) (value_fault s place v) (no_key place k) (no_value place v)
+  no_deed place (One k) _ = no_key place k
+  no_deed place (Range lo hi) deed = no_or (key_fault s place lo) (bound_fault s place hi) (no_key place lo) (no_bound place hi)
+
   no_command : (place : ℕ) (c : Command Global) → fault_at s place c ≢ Some Device
-  no_command place (Get k) = no_key place k
-  no_command place (Put k v) = no_or (key_fault s place k) (value_fault s place v) (no_key place k) (no_value place v)
-  no_command place (Add k v) = no_or (key_fault s place k) (value_fault s place v) (no_key place k) (no_value place v)
-  no_command place (Del k) = no_key place k
-  no_command place (Scan lo hi limit) = no_or (key_fault s place lo) (bound_fault s place hi) (no_key place lo) (no_bound place hi)
+  no_command place c = no_deed place (span_of c) (deed_of c)
 
   no_first : (place : ℕ) (cs : List (Command Global)) → first_fault s place cs ≢ Some Device
   no_first place [] e = absurd (cc)

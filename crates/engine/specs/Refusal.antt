@@ -2,9 +2,9 @@
 use Rattle.std.specs.Prelude.{ℕ, ◌+◌, nat_lt, length, if◌then◌else◌, List, [], ◌∷◌, Option, Some, None}
 use Rattle.std.specs.Option.{option_or}
 use Rattle.keys.specs.Bytes.{Bytes}
+use Rattle.keys.specs.Footprint.{Span, One, Range, Deed, Gives, span_of, deed_of}
 use Rattle.keys.specs.declared.settings.Settings.{Settings}
 use Rattle.keys.specs.declared.command.Command.{Command}
-use Rattle.keys.specs.declared.command.Command.TheVariants.{Get, Put, Add, Del, Scan}
 use Rattle.keys.specs.declared.fault.Fault.{Fault}
 use Rattle.keys.specs.declared.fault.Fault.TheVariants.{KeyTooLong, ValueTooLong, BatchTooLong}
 pub use Rattle.crew.specs.Crew.{is_crew}
@@ -17,18 +17,20 @@ key_fault s place k = if nat_lt s.max_key (length k) then Some (KeyTooLong place
 abbrev pub value_fault : Settings → ℕ → Bytes → Option Fault
 value_fault s place v = if nat_lt s.max_value (length v) then Some (ValueTooLong place) else None
 
--- what is wrong with the upper bound of the scan at this place
+-- what is wrong with the upper bound of the scan or wipe at this place
 abbrev pub bound_fault : Settings → ℕ → Option Bytes → Option Fault
 bound_fault s place None = None
 bound_fault s place (Some hi) = key_fault s place hi
 
--- what is wrong with the command at this place: its key comes before its value, and a lower bound before an upper one
+-- what is wrong with a deed on a span at this place: its key comes before its value, and a lower bound before an upper one
+abbrev pub deed_fault : Settings → ℕ → Span → Deed → Option Fault
+deed_fault s place (One k) (Gives v) = option_or (key_fault s place k) (value_fault s place v)
+deed_fault s place (One k) deed = key_fault s place k
+deed_fault s place (Range lo hi) deed = option_or (key_fault s place lo) (bound_fault s place hi)
+
+-- what is wrong with the command at this place
 abbrev pub fault_at : {A : Type 0} → Settings → ℕ → Command A → Option Fault
-fault_at s place (Get k) = key_fault s place k
-fault_at s place (Put k v) = option_or (key_fault s place k) (value_fault s place v)
-fault_at s place (Add k v) = option_or (key_fault s place k) (value_fault s place v)
-fault_at s place (Del k) = key_fault s place k
-fault_at s place (Scan lo hi limit) = option_or (key_fault s place lo) (bound_fault s place hi)
+fault_at s place c = deed_fault s place (span_of c) (deed_of c)
 
 -- the fault of the first command that has one, where the list begins at this place of the batch
 abbrev pub first_fault : {A : Type 0} → Settings → ℕ → List (Command A) → Option Fault

@@ -1,5 +1,5 @@
 //! A batch on a tree: which leaves its commands go to, what these become and answer, and the climb from them to the root.
-ghost use Rattle.std.specs.Prelude.{◌≡◌, ◌<◌, ◌≤◌, ℕ, List, map, slice_get, IfOk, IfErr, OnOk, OnErr};
+ghost use Rattle.std.specs.Prelude.{◌≡◌, ◌+◌, ◌<◌, ◌≤◌, ℕ, length, List, map, slice_get, IfOk, IfErr, OnOk, OnErr};
 ghost use Rattle.keys.specs.declared.command.Command.{Command};
 ghost use Rattle.keys.specs.declared.fault.Fault.TheVariants.{NoMemory};
 ghost use Rattle.index_page.specs.Page.PageOfKind.{Leaf};
@@ -9,7 +9,7 @@ ghost use Rattle.mapping.specs.Proper.{AreLevels, HoldsLevels};
 ghost use Rattle.mapping.specs.Tree as definitions;
 ghost use Rattle.mapping.specs.Tree.{most_levels};
 ghost use Rattle.mapping.specs.TreeInMemory.{AreAllHome, tree_of};
-ghost use Rattle.replies.specs.ByPlace.{AreAnswers, reply_at};
+ghost use Rattle.replies.specs.ByPlace.{AreAnswers, most_counted, reply_at};
 ghost use Rattle.climb_plan.specs.Changing.{page_seen};
 ghost use Rattle.climb_plan.specs.Limits.{AreShort};
 ghost use Rattle.climb_plan.specs.Plan.{planned_tree};
@@ -105,6 +105,7 @@ fn execute_routed(
     the_plan_holds_the_map_after_the_commands::<Global>();
     the_plan_of_a_proper_store_is_proper::<Global>();
     the_log_states_stay_true::<Global>();
+    pairs_can_be_counted(&work.settings, tree, work.commands);
     let Parted {
         reads,
         writes,
@@ -124,6 +125,22 @@ fn execute_routed(
             Err(fault)
         }
     }
+}
+
+// That a sound tree, with as many commands more, has no more pairs than a reply can count. Only for the proof.
+fn pairs_can_be_counted(settings: &Settings, tree: &Tree<Global>, commands: &[Command<Global>])
+    requires { IsSoundInMemory settings.now tree.now }
+    ensures { length (contents (tree_of tree.now)) + length commands.now ≤ most_counted }
+{
+    let _pages = tree.most_pages();
+    let _count = count_of(commands);
+}
+
+// How many commands there are. Only for the proof, which has it as a number of 64 bits.
+fn count_of(commands: &[Command<Global>]) -> usize
+    ensures { result ≡ length commands.now }
+{
+    commands.len()
 }
 
 // The replies of these leaves, which were read, or were taken and worked, in this order; and the climb from those that were worked. Where

@@ -59,6 +59,9 @@ fn fault_at(settings: &Settings, place: usize, command: &Command<Global>) -> Opt
         Command::Scan(lo, hi, _) => {
             key_fault(settings, place, lo).or(bound_fault(settings, place, hi))
         }
+        Command::Wipe(lo, hi) => {
+            key_fault(settings, place, lo).or(bound_fault(settings, place, hi))
+        }
     }
 }
 
@@ -73,7 +76,7 @@ fn key_fault(settings: &Settings, place: usize, key: &Key<Global>) -> Option<Fau
     }
 }
 
-// What is wrong with the upper bound of the scan at this place.
+// What is wrong with the upper bound of the scan or wipe at this place.
 fn bound_fault(settings: &Settings, place: usize, hi: &Option<Key<Global>>) -> Option<Fault>
     ensures { result ≡ bound_fault settings.now place hi.now }
 {

@@ -51,7 +51,7 @@ const V: Settings = Settings {
 };
 
 // An example: its batches, their answers and the tree afterwards. A command is a word: `k=v` puts, `+k=v` adds, `-k` deletes, `k` looks up, and
-// `[lo,hi,limit` scans, with `*` for no upper bound.
+// `[lo,hi,limit` scans and `!lo,hi` wipes, with `*` for no upper bound.
 struct Row {
     name: &'static str,
     settings: Settings,
@@ -64,7 +64,7 @@ pub(crate) const FIVE_PUTS: &str = "a=1 b=2 c=3 d=4 e=5";
 pub(crate) const SEVENTEEN_PUTS: &str =
     "a=1 b=1 c=1 d=1 e=1 f=1 g=1 h=1 i=1 j=1 k=1 l=1 m=1 n=1 o=1 p=1 q=1";
 
-static ROWS: [Row; 20] = [
+static ROWS: [Row; 23] = [
     Row {
         name: "row 4",
         settings: S,
@@ -129,6 +129,44 @@ static ROWS: [Row; 20] = [
             0 low= log=Old leaf runs=0: a=1 b=2\n\
             1 low=c log=No leaf runs=1: ca=9 d=4 e=5\n\
             2 low= log=No index runs=0: =0 c=1\n",
+    },
+    Row {
+        name: "row W1",
+        settings: S,
+        batches: &[FIVE_PUTS, "ca=9 !b,d ca c=7 [,*,10"],
+        outcome: "NNNNN; NW3MN[ a=1 c=7 d=4 e=5]; root 2, height 2\n\
+            0 low= log=Old leaf runs=1: a=1\n\
+            1 low=c log=No leaf runs=1: c=7 d=4 e=5\n\
+            2 low= log=No index runs=0: =0 c=1\n",
+    },
+    Row {
+        name: "row W2",
+        settings: S,
+        batches: &[SEVENTEEN_PUTS, "!,*", "!,*"],
+        outcome: "NNNNNNNNNNNNNNNNN; W17; W0; root 7, height 3\n\
+            0 low= log=Old leaf runs=1:\n\
+            1 low=d log=No leaf runs=1:\n\
+            2 low=g log=No leaf runs=1:\n\
+            3 low=k log=No leaf runs=1:\n\
+            4 low=n log=No leaf runs=1:\n\
+            5 low= log=No index runs=0: =0 d=1\n\
+            6 low=g log=No index runs=0: g=2 k=3 n=4\n\
+            7 low= log=No index runs=0: =5 g=6\n",
+    },
+    // Over the edges of pages, of one leaf's keys again, and of none.
+    Row {
+        name: "wipes",
+        settings: S,
+        batches: &[SEVENTEEN_PUTS, "!c,h ca=1 !c,d [b,i,9 !d,g !q,q !i,b"],
+        outcome: "NNNNNNNNNNNNNNNNN; W5NW1[ b=1 h=1]W0W0W0; root 7, height 3\n\
+            0 low= log=Old leaf runs=1: a=1 b=1\n\
+            1 low=d log=No leaf runs=1:\n\
+            2 low=g log=No leaf runs=1: h=1 i=1 j=1\n\
+            3 low=k log=No leaf runs=0: k=1 l=1 m=1\n\
+            4 low=n log=No leaf runs=0: n=1 o=1 p=1 q=1\n\
+            5 low= log=No index runs=0: =0 d=1\n\
+            6 low=g log=No index runs=0: g=2 k=3 n=4\n\
+            7 low= log=No index runs=0: =5 g=6\n",
     },
     // Many runs: of keys with the same first eight bytes, of one that has no other, and of others; of one change, of two and of three.
     Row {
@@ -355,9 +393,24 @@ fn scan_of(alloc: Global, bounds: &str) -> Result<Command<Global>, AllocError> {
     Ok(Command::Scan(lo, hi, limit.parse().unwrap_or(0)))
 }
 
+// The wipe whose bounds these are.
+fn wipe_of(alloc: Global, bounds: &str) -> Result<Command<Global>, AllocError> {
+    let (lo, hi) = bounds.split_once(',').unwrap_or((bounds, ""));
+    let lo = key(alloc, lo)?;
+    let hi = if hi == "*" {
+        None
+    } else {
+        Some(key(alloc, hi)?)
+    };
+    Ok(Command::Wipe(lo, hi))
+}
+
 fn command(alloc: Global, word: &str) -> Result<Command<Global>, AllocError> {
     if let Some(bounds) = word.strip_prefix('[') {
         return scan_of(alloc, bounds);
+    }
+    if let Some(bounds) = word.strip_prefix('!') {
+        return wipe_of(alloc, bounds);
     }
     if let Some((name, value)) = word.split_once('=') {
         let added = name.strip_prefix('+');
@@ -383,7 +436,7 @@ pub(crate) fn commands(alloc: Global, batch: &str) -> Result<Vec<Command<Global>
     Ok(commands)
 }
 
-// The reply's letter; of a value the first byte, and of rows a bracket.
+// The reply's letter; of a value the first byte, of rows a bracket, and of a count a W.
 pub(crate) fn letter(reply: &Reply<Global>) -> char {
     match reply {
         Reply::Value(value) => match value.as_bytes().first() {
@@ -397,6 +450,7 @@ pub(crate) fn letter(reply: &Reply<Global>) -> char {
         Reply::Exists => 'E',
         Reply::Deleted => 'D',
         Reply::Rows(_) => '[',
+        Reply::Wiped(_) => 'W',
     }
 }
 
@@ -520,9 +574,12 @@ fn answer(
     }
 }
 
-// The reply's letter, and the rows of a scan behind the bracket.
+// The reply's letter, and the rows of a scan behind the bracket, or how many keys a wipe took.
 fn write_reply(text: &mut String, reply: &Reply<Global>) -> Result<(), AllocError> {
     text.push(letter(reply))?;
+    if let Reply::Wiped(count) = reply {
+        return write!(text, "{count}");
+    }
     let Reply::Rows(rows) = reply else {
         return Ok(());
     };

@@ -1,7 +1,7 @@
 -- What the worked rows are written in: settings, keys, commands. docs/EXAMPLES.md numbers the rows.
 use Rattle.std.specs.Prelude.{ℕ, List, [], ◌∷◌, Some, None}
 use Rattle.keys.specs.declared.command.Command.{Command}
-use Rattle.keys.specs.declared.command.Command.TheVariants.{Get, Put, Del, Scan}
+use Rattle.keys.specs.declared.command.Command.TheVariants.{Get, Put, Del, Scan, Wipe}
 use Rattle.keys.specs.declared.settings.Settings.{Settings}
 
 -- ---- settings
@@ -78,3 +78,7 @@ row_2 = Get a ∷ Put a (49 ∷ []) ∷ Get a ∷ Put a (50 ∷ []) ∷ Get a �
 -- row 8: scans see what stands before them in the batch
 abbrev pub row_8 : List (Command ℕ)
 row_8 = Scan [] None 10 ∷ Del c ∷ Scan b (Some d) 10 ∷ Put ca (57 ∷ []) ∷ Scan b None 2 ∷ []
+
+-- row W1: a wipe takes what was there and what was put before it in the batch
+abbrev pub row_w1 : List (Command ℕ)
+row_w1 = Put ca (57 ∷ []) ∷ Wipe b (Some d) ∷ Get ca ∷ Put c (55 ∷ []) ∷ Scan [] None 10 ∷ []

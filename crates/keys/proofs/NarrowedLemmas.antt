@@ -4,13 +4,13 @@ use Rattle.std.proofs.Common.{refl, sym, ap, ◌∙◌, arith, Less}
 use Rattle.std.specs.List.Sorted.{IsStrictlySortedBy}
 use Rattle.std.specs.Map.{keys_of}
 use Rattle.std.specs.Option.{option_map}
-use Rattle.keys.specs.CommandKey.{key_of, is_scan}
+use Rattle.keys.specs.CommandKey.{key_of, is_ranged, is_scan, is_wipe}
 use Rattle.keys.specs.Order.{order, IsRising}
 use Rattle.keys.specs.Range.{is_below, is_before, in_range, rows}
 use Rattle.keys.specs.Step.{reply_to, map_after, replies_to, map_after_all}
 use Rattle.keys.specs.Narrowed.{with_end, first_end, with_ends, MayEndAt, MayEndAtAll}
 use Rattle.keys.specs.declared.command.Command.{Command}
-use Rattle.keys.specs.declared.command.Command.TheVariants.{Get, Put, Add, Del, Scan}
+use Rattle.keys.specs.declared.command.Command.TheVariants.{Scan}
 use Rattle.keys.specs.declared.command.Reply.{Reply}
 use Rattle.keys.specs.declared.command.Reply.TheVariants.{Rows}
 use Rattle.keys.proofs.Basics.{less_by, and_false}
@@ -82,35 +82,33 @@ drop-one (end ∷ ends) place = refl
 module _ {A : Type 0} where
   pub key-with_end : (end : Option (List ℕ)) (c : Command A) → key_of (with_end end c) ≡ key_of c
   key-with_end None c = refl
-  key-with_end (Some end) (Get k) = refl
-  key-with_end (Some end) (Put k v) = refl
-  key-with_end (Some end) (Add k v) = refl
-  key-with_end (Some end) (Del k) = refl
   key-with_end (Some end) (Scan lo hi limit) = refl
+  key-with_end (Some end) _ = refl
 
   pub scan-with_end : (end : Option (List ℕ)) (c : Command A) → is_scan (with_end end c) ≡ is_scan c
   scan-with_end None c = refl
-  scan-with_end (Some end) (Get k) = refl
-  scan-with_end (Some end) (Put k v) = refl
-  scan-with_end (Some end) (Add k v) = refl
-  scan-with_end (Some end) (Del k) = refl
   scan-with_end (Some end) (Scan lo hi limit) = refl
+  scan-with_end (Some end) _ = refl
+
+  pub wipe-with_end : (end : Option (List ℕ)) (c : Command A) → is_wipe (with_end end c) ≡ is_wipe c
+  wipe-with_end None c = refl
+  wipe-with_end (Some end) (Scan lo hi limit) = refl
+  wipe-with_end (Some end) _ = refl
+
+  pub ranged-with_end : (end : Option (List ℕ)) (c : Command A) → is_ranged (with_end end c) ≡ is_ranged c
+  ranged-with_end None c = refl
+  ranged-with_end (Some end) (Scan lo hi limit) = refl
+  ranged-with_end (Some end) _ = refl
 
   pub map-with_end : (m : List (List ℕ × List ℕ)) (end : Option (List ℕ)) (c : Command A) → map_after m (with_end end c) ≡ map_after m c
   map-with_end m None c = refl
-  map-with_end m (Some end) (Get k) = refl
-  map-with_end m (Some end) (Put k v) = refl
-  map-with_end m (Some end) (Add k v) = refl
-  map-with_end m (Some end) (Del k) = refl
   map-with_end m (Some end) (Scan lo hi limit) = refl
+  map-with_end m (Some end) _ = refl
 
   pub reply-with_end : (keys : List (List ℕ)) (m : List (List ℕ × List ℕ)) (end : Option (List ℕ)) (c : Command A) → IsRising m → MayEndAt keys m c end → reply_to m (with_end end c) ≡ reply_to m c
   reply-with_end keys m None c r h = refl
-  reply-with_end keys m (Some end) (Get k) r h = refl
-  reply-with_end keys m (Some end) (Put k v) r h = refl
-  reply-with_end keys m (Some end) (Add k v) r h = refl
-  reply-with_end keys m (Some end) (Del k) r h = refl
   reply-with_end keys m (Some end) (Scan lo hi limit) r h = ap (answered A) (same_rows lo hi end h.before limit m r h.rows)
+  reply-with_end keys m (Some end) _ r h = refl
 
   -- ---- a batch
 

@@ -1,15 +1,16 @@
 -- Lemmas on the rows of a range, for the proofs of this crate and of those above it.
-use Rattle.std.specs.Prelude.{◌≡◌, ◌⊎◌, ℕ, zero, suc, ◌≤◌, Bool, true, false, not, cond, ◌&&◌, List, [], ◌∷◌, length, take, Option, Some, None}
+use Rattle.std.specs.Prelude.{◌≡◌, ◌⊎◌, ℕ, zero, suc, ◌+◌, ◌≤◌, Bool, true, false, not, cond, ◌&&◌, List, [], ◌∷◌, length, take, Option, Some, None}
 use Rattle.std.proofs.Common.{refl, sym, ap, ◌∙◌, arith, Ordering, Less, Equal, Greater, inl, inr}
 use Rattle.std.specs.Ordering.{is_eq}
 use Rattle.std.specs.List.{AllByRecursion, filter}
 use Rattle.std.specs.List.Sorted.{IsStrictlySortedBy}
 use Rattle.std.specs.Map.{keys_of}
 use Rattle.std.proofs.lemmas.List.{length-take}
+use Rattle.std.proofs.lemmas.List.Filters.{length-filter_both}
 use Rattle.std.proofs.lemmas.Map.Entries.{lookup-filter-keys}
 use Rattle.keys.specs.Order.{order, IsRising}
 use Rattle.keys.specs.OrderedMap.{value_at}
-use Rattle.keys.specs.Range.{is_below, is_within, in_range, rows}
+use Rattle.keys.specs.Range.{is_below, is_within, in_range, out_of_range, rows}
 use Rattle.keys.proofs.Basics.{less_by}
 use Rattle.keys.proofs.MapLemmas.{total, passes_same, same_key, IsBelowAll}
 
@@ -69,6 +70,23 @@ module _ {V : Type 0} where
   value_at-in_range_by : (b : Bool) (m : List (List ℕ × V)) (lo : List ℕ) (hi : Option (List ℕ)) (k : List ℕ) → is_within lo hi k ≡ b → value_at k (in_range lo hi m) ≡ cond b (value_at k m) None
   value_at-in_range_by b m lo hi k h =
       lookup-filter-keys (λ j. is_eq (order k j)) (is_within lo hi) b (λ j p. ap (is_within lo hi) (sym (passes_same k j p)) ∙ h) m
+
+  -- outside a range a look-up finds what it found, and within it nothing
+  pub value_at-out_of_range : (m : List (List ℕ × V)) (lo : List ℕ) (hi : Option (List ℕ)) (k : List ℕ) → value_at k (out_of_range lo hi m) ≡ cond (not (is_within lo hi k)) (value_at k m) None
+  value_at-out_of_range m lo hi k =
+      lookup-filter-keys (λ j. is_eq (order k j)) (λ j. not (is_within lo hi j)) (not (is_within lo hi k)) (λ j p. ap (λ (i : List ℕ). not (is_within lo hi i)) (sym (passes_same k j p))) m
+
+  pub wiped_within : (m : List (List ℕ × V)) (lo : List ℕ) (hi : Option (List ℕ)) (k : List ℕ) → is_within lo hi k ≡ true → value_at k (out_of_range lo hi m) ≡ None
+  wiped_within m lo hi k h = value_at-out_of_range m lo hi k ∙ ap (λ (b : Bool). cond (not b) (value_at k m) None) h
+
+  pub kept_outside : (m : List (List ℕ × V)) (lo : List ℕ) (hi : Option (List ℕ)) (k : List ℕ) → is_within lo hi k ≡ false → value_at k (out_of_range lo hi m) ≡ value_at k m
+  kept_outside m lo hi k h = value_at-out_of_range m lo hi k ∙ ap (λ (b : Bool). cond (not b) (value_at k m) None) h
+
+  -- the pairs in a range and those outside it are all
+  pub both_parts : (m : List (List ℕ × V)) (lo : List ℕ) (hi : Option (List ℕ)) → length (out_of_range lo hi m) + length (in_range lo hi m) ≡ length m
+  both_parts m lo hi =
+      let all = length-filter_both (λ (e : List ℕ × V). is_within lo hi e.0) (λ (e : List ℕ × V). not (is_within lo hi e.0)) (λ e. refl) m in
+      omega (arith, all)
 
   -- a look-up among the first pairs finds nothing else
   cut_by : (b : Bool) (k : List ℕ) (v : V) (e : List ℕ × V) (es rest : List (List ℕ × V)) → (value_at k rest ≡ Some v → value_at k es ≡ Some v) → cond b (Some e.1) (value_at k rest) ≡ Some v → cond b (Some e.1) (value_at k es) ≡ Some v

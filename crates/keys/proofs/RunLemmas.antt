@@ -1,12 +1,14 @@
 -- Lemmas on runs of commands.
-use Rattle.std.specs.Prelude.{◌≡◌, ℕ, Bool, true, false, if◌then◌else◌, is_some, List, [], ◌∷◌, ◌++◌}
+use Rattle.std.specs.Prelude.{◌≡◌, ℕ, Bool, true, false, if◌then◌else◌, not, is_some, Option, List, [], ◌∷◌, ◌++◌}
 use Rattle.std.proofs.Common.{refl, ap}
 use Rattle.keys.specs.Order.{IsRising}
 use Rattle.keys.specs.OrderedMap.{value_at, with_pair}
+use Rattle.keys.specs.Range.{is_within}
 use Rattle.keys.proofs.MapLemmas.{rising-with_pair, rising-without}
+use Rattle.keys.proofs.RangeLemmas.{rising-filtered}
 use Rattle.keys.specs.Step.{reply_to, map_after, replies_to, map_after_all}
 use Rattle.keys.specs.declared.command.Command.{Command}
-use Rattle.keys.specs.declared.command.Command.TheVariants.{Get, Put, Add, Del, Scan}
+use Rattle.keys.specs.declared.command.Command.TheVariants.{Get, Put, Add, Del, Scan, Wipe}
 use Rattle.keys.specs.declared.command.Reply.{Reply}
 
 rising_either : (b : Bool) (m n : List (List ℕ × List ℕ)) → IsRising m → IsRising n → IsRising (if b then m else n)
@@ -19,6 +21,7 @@ rising-map_after m (Put k v) r = rising-with_pair m k v r
 rising-map_after m (Add k v) r = rising_either (is_some (value_at k m)) m (with_pair m k v) r (rising-with_pair m k v r)
 rising-map_after m (Del k) r = rising-without m k r
 rising-map_after m (Scan lo hi limit) r = r
+rising-map_after m (Wipe lo hi) r = rising-filtered (λ e. not (is_within lo hi e.0)) m r
 
 pub rising-map_after_all : {A : Type 0} → (m : List (List ℕ × List ℕ)) (cs : List (Command A)) → IsRising m → IsRising (map_after_all m cs)
 rising-map_after_all m [] r = r

@@ -1,21 +1,21 @@
--- The key that a command is on.
-use Rattle.std.specs.Prelude.{Bool, true, false}
+-- The key that a command is on, and what kind of command it is.
+use Rattle.std.specs.Prelude.{Bool}
 use Rattle.keys.specs.Bytes.{Bytes}
+use Rattle.keys.specs.Footprint.{span_of, joining_of, first_of, is_range, is_of_rows, is_of_counts}
 use Rattle.keys.specs.declared.command.Command.{Command}
-use Rattle.keys.specs.declared.command.Command.TheVariants.{Get, Put, Add, Del, Scan}
 
--- the key that a command reads or changes; of a scan it is the lower bound
+-- the key that a command reads or changes; of a scan or a wipe it is the lower bound
 abbrev pub key_of : {A : Type 0} → Command A → Bytes
-key_of (Get k) = k
-key_of (Put k v) = k
-key_of (Add k v) = k
-key_of (Del k) = k
-key_of (Scan lo hi limit) = lo
+key_of c = first_of (span_of c)
 
--- whether it is a scan
+-- whether it is on a range of keys, and so may go to several pages
+abbrev pub is_ranged : {A : Type 0} → Command A → Bool
+is_ranged c = is_range (span_of c)
+
+-- whether it is a scan, which alone is answered with rows
 abbrev pub is_scan : {A : Type 0} → Command A → Bool
-is_scan (Get k) = false
-is_scan (Put k v) = false
-is_scan (Add k v) = false
-is_scan (Del k) = false
-is_scan (Scan lo hi limit) = true
+is_scan c = is_of_rows (joining_of c)
+
+-- whether it is a wipe, which alone is answered with a count
+abbrev pub is_wipe : {A : Type 0} → Command A → Bool
+is_wipe c = is_of_counts (joining_of c)

@@ -3,6 +3,7 @@ pub mod Cells
 pub mod CommandKey
 pub mod Finding
 pub mod Fingerprint
+pub mod Footprint
 pub mod Kept
 pub mod Limits
 pub mod Lists

@@ -4,16 +4,13 @@ use Rattle.keys.specs.Bytes.{Bytes, Pairs}
 use Rattle.keys.specs.Range.{is_below, is_before, in_range}
 use Rattle.keys.specs.Step.{map_after}
 use Rattle.keys.specs.declared.command.Command.{Command}
-use Rattle.keys.specs.declared.command.Command.TheVariants.{Get, Put, Add, Del, Scan}
+use Rattle.keys.specs.declared.command.Command.TheVariants.{Scan}
 
 -- a scan with this key as its upper bound, where there is one; another command is as it was
 abbrev pub with_end : {A : Type 0} → Option Bytes → Command A → Command A
 with_end None c = c
-with_end (Some end) (Get k) = Get k
-with_end (Some end) (Put k v) = Put k v
-with_end (Some end) (Add k v) = Add k v
-with_end (Some end) (Del k) = Del k
 with_end (Some end) (Scan lo hi limit) = Scan lo (Some end) limit
+with_end (Some end) c = c
 
 -- the first of these, and none where the list is at its end
 abbrev pub first_end : List (Option Bytes) → Option Bytes
@@ -36,11 +33,8 @@ pub record IsEnough (keys : List Bytes) (m : Pairs Bytes) (lo : Bytes) (hi : Opt
 -- a command may have this end, where there is one
 abbrev pub MayEndAt : {A : Type 0} → List Bytes → Pairs Bytes → Command A → Option Bytes → Type 0
 MayEndAt keys m c None = ⊤
-MayEndAt keys m (Get k) (Some end) = ⊤
-MayEndAt keys m (Put k v) (Some end) = ⊤
-MayEndAt keys m (Add k v) (Some end) = ⊤
-MayEndAt keys m (Del k) (Some end) = ⊤
 MayEndAt keys m (Scan lo hi limit) (Some end) = IsEnough keys m lo hi limit end
+MayEndAt keys m c (Some end) = ⊤
 
 -- each scan may have the end that stands at its place, on the map as it is at its place
 abbrev pub MayEndAtAll : {A : Type 0} → List Bytes → Pairs Bytes → List (Command A) → List (Option Bytes) → Type 0

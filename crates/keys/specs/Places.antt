@@ -1,6 +1,6 @@
 -- Places of a batch, counted from 0.
 use Rattle.std.specs.Prelude.{ℕ, Bool, false, List, slice_get, Option, Some, None}
-use Rattle.keys.specs.CommandKey.{is_scan}
+use Rattle.keys.specs.CommandKey.{is_ranged, is_scan, is_wipe}
 use Rattle.keys.specs.declared.command.Command.{Command}
 
 -- whether there is an item, and it passes
@@ -11,3 +11,11 @@ is_some_that passes (Some x) = passes x
 -- whether a scan stands at this place
 abbrev pub is_scan_at : {A : Type 0} → List (Command A) → ℕ → Bool
 is_scan_at cs place = is_some_that is_scan (slice_get cs place)
+
+-- whether a wipe does
+abbrev pub is_wipe_at : {A : Type 0} → List (Command A) → ℕ → Bool
+is_wipe_at cs place = is_some_that is_wipe (slice_get cs place)
+
+-- whether a command on a range of keys does
+abbrev pub is_ranged_at : {A : Type 0} → List (Command A) → ℕ → Bool
+is_ranged_at cs place = is_some_that is_ranged (slice_get cs place)

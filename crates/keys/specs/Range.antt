@@ -22,6 +22,10 @@ is_within lo hi k = not (is_below k lo) && is_before hi k
 abbrev pub in_range : {V : Type 0} → Bytes → Option Bytes → Pairs V → Pairs V
 in_range lo hi m = filter (λ e. is_within lo hi e.0) m
 
--- the first so many of them
+-- the pairs whose keys don't
+abbrev pub out_of_range : {V : Type 0} → Bytes → Option Bytes → Pairs V → Pairs V
+out_of_range lo hi m = filter (λ e. not (is_within lo hi e.0)) m
+
+-- the first so many of those in a range
 abbrev pub rows : {V : Type 0} → Bytes → Option Bytes → ℕ → Pairs V → Pairs V
 rows lo hi limit m = take limit (in_range lo hi m)

@@ -1,12 +1,12 @@
 -- What a command answers and what it leaves, of an ordered map; and a run of commands.
-use Rattle.std.specs.Prelude.{List, [], ◌∷◌, Option, Some, None, is_some, if◌then◌else◌}
+use Rattle.std.specs.Prelude.{length, List, [], ◌∷◌, Option, Some, None, is_some, if◌then◌else◌}
 use Rattle.keys.specs.Bytes.{Bytes, Pairs}
 use Rattle.keys.specs.OrderedMap.{value_at, with_pair, without}
-use Rattle.keys.specs.Range.{rows}
+use Rattle.keys.specs.Range.{in_range, out_of_range, rows}
 use Rattle.keys.specs.declared.command.Command.{Command}
-use Rattle.keys.specs.declared.command.Command.TheVariants.{Get, Put, Add, Del, Scan}
+use Rattle.keys.specs.declared.command.Command.TheVariants.{Get, Put, Add, Del, Scan, Wipe}
 use Rattle.keys.specs.declared.command.Reply.{Reply}
-use Rattle.keys.specs.declared.command.Reply.TheVariants.{Value, Missing, New, Replaced, Added, Exists, Deleted, Rows}
+use Rattle.keys.specs.declared.command.Reply.TheVariants.{Value, Missing, New, Replaced, Added, Exists, Deleted, Rows, Wiped}
 
 -- the reply to a Get that finds this
 abbrev pub found : {A : Type 0} → Option Bytes → Reply A
@@ -20,6 +20,7 @@ reply_to m (Put k v) = if is_some (value_at k m) then Replaced else New
 reply_to m (Add k v) = if is_some (value_at k m) then Exists else Added
 reply_to m (Del k) = if is_some (value_at k m) then Deleted else Missing
 reply_to m (Scan lo hi limit) = Rows (rows lo hi limit m)
+reply_to m (Wipe lo hi) = Wiped (length (in_range lo hi m))
 
 -- the map after the command
 abbrev pub map_after : {A : Type 0} → Pairs Bytes → Command A → Pairs Bytes
@@ -28,6 +29,7 @@ map_after m (Put k v) = with_pair m k v
 map_after m (Add k v) = if is_some (value_at k m) then m else with_pair m k v
 map_after m (Del k) = without m k
 map_after m (Scan lo hi limit) = m
+map_after m (Wipe lo hi) = out_of_range lo hi m
 
 -- the replies to commands that are executed in the order of the list
 abbrev pub replies_to : {A : Type 0} → Pairs Bytes → List (Command A) → List (Reply A)

@@ -1,5 +1,5 @@
 ghost use Rattle.std.specs.Prelude.{◌≡◌};
-ghost use Rattle.keys.specs.CommandKey.{key_of, is_scan};
+ghost use Rattle.keys.specs.CommandKey.{key_of, is_ranged, is_scan};
 
 use crate::key::Key;
 use crate::row_list::RowList;
@@ -21,10 +21,12 @@ pub enum Command<A: Allocator> {
     /// The first pairs whose keys are the lower bound or above, and below the upper bound where there is one, in key
     /// order: as many as the limit, at most.
     Scan(Key<A>, Option<Key<A>>, u32),
+    /// No key that is the lower bound or above, and below the upper bound where there is one, is there from now on.
+    Wipe(Key<A>, Option<Key<A>>),
 }
 
 impl<A: Allocator> Command<A> {
-    /// The key that the command is on; of a scan it is the lower bound.
+    /// The key that the command is on; of a scan or a wipe it is the lower bound.
     pub fn key(&self) -> &Key<A>
         ensures { result.now ≡ key_of self.now }
     {
@@ -34,10 +36,22 @@ impl<A: Allocator> Command<A> {
             Command::Add(key, _) => key,
             Command::Del(key) => key,
             Command::Scan(lo, _, _) => lo,
+            Command::Wipe(lo, _) => lo,
         }
     }
 
-    /// Whether the command is a scan, and so may go to several pages.
+    /// Whether the command is on a range of keys, and so may go to several pages: a scan or a wipe.
+    pub fn is_ranged(&self) -> bool
+        ensures { result ≡ is_ranged self.now }
+    {
+        match self {
+            Command::Scan(_, _, _) => true,
+            Command::Wipe(_, _) => true,
+            _ => false,
+        }
+    }
+
+    /// Whether the command is a scan, and so is answered with rows.
     pub fn is_scan(&self) -> bool
         ensures { result ≡ is_scan self.now }
     {
@@ -64,4 +78,6 @@ pub enum Reply<A: Allocator> {
     Deleted,
     /// To `Scan`: the pairs, in key order.
     Rows(RowList<A>),
+    /// To `Wipe`: how many keys were there, and are no more.
+    Wiped(u128),
 }

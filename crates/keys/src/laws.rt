@@ -1,6 +1,6 @@
 //! What the definitions of `specs/` mean, in the words of an ordered map. Each law is the contract of a function
 //! with an empty body.
-ghost use Rattle.std.specs.Prelude.{◌≡◌, ◌≢◌, ◌⊎◌, ℕ, ◌≤◌, true, false, List, [], ◌++◌, length, Option, None, Some};
+ghost use Rattle.std.specs.Prelude.{◌≡◌, ◌≢◌, ◌⊎◌, ℕ, ◌+◌, ◌≤◌, true, false, List, [], ◌++◌, length, Option, None, Some};
 ghost use Rattle.std.specs.List.{AllByRecursion};
 ghost use Rattle.std.specs.Map.{keys_of};
 ghost use Rattle.std.specs.declared.cmp.Ordering.TheVariants.{Equal};
@@ -9,11 +9,11 @@ ghost use Rattle.keys.specs.Bytes.{Bytes, Pairs};
 ghost use Rattle.keys.specs.Order.{order, IsRising};
 ghost use Rattle.keys.specs.OrderedMap.{value_at, with_pair, without};
 ghost use Rattle.keys.specs.Narrowed.{with_ends, IsEnough, MayEndAtAll};
-ghost use Rattle.keys.specs.Range.{is_below, is_within, rows};
+ghost use Rattle.keys.specs.Range.{is_below, is_within, in_range, rows};
 ghost use Rattle.keys.specs.Step.{reply_to, map_after, replies_to, map_after_all};
 ghost use Rattle.keys.specs.declared.command.Command.{Command};
-ghost use Rattle.keys.specs.declared.command.Command.TheVariants.{Scan};
-ghost use Rattle.keys.specs.declared.command.Reply.TheVariants.{Rows};
+ghost use Rattle.keys.specs.declared.command.Command.TheVariants.{Scan, Wipe};
+ghost use Rattle.keys.specs.declared.command.Reply.TheVariants.{Rows, Wiped};
 
 use std::alloc::Allocator;
 
@@ -52,6 +52,17 @@ pub fn commands_keep_the_order<A: Allocator>()
 pub fn a_scan_leaves_the_map<A: Allocator>()
     ensures reply { (m : Pairs Bytes) (lo : Bytes) (hi : Option Bytes) (limit : ℕ) → reply_to {A = A} m (Scan lo hi limit) ≡ Rows (rows lo hi limit m) }
     ensures map { (m : Pairs Bytes) (lo : Bytes) (hi : Option Bytes) (limit : ℕ) → map_after {A = A} m (Scan lo hi limit) ≡ m }
+{}
+
+/// A wipe is answered with how many pairs of the map lie in its range. None of their keys is there afterwards, every other key has
+/// what it had, and so many pairs are gone.
+pub fn a_wipe_removes_what_lies_in_its_range<A: Allocator>()
+    ensures reply { (m : Pairs Bytes) (lo : Bytes) (hi : Option Bytes) → reply_to {A = A} m (Wipe lo hi) ≡ Wiped (length (in_range lo hi m)) }
+    ensures within { (m : Pairs Bytes) (lo : Bytes) (hi : Option Bytes) (k : Bytes) → is_within lo hi k ≡ true → value_at k (map_after {A = A} m (Wipe lo hi)) ≡ None }
+    ensures elsewhere { (m : Pairs Bytes) (lo : Bytes) (hi : Option Bytes) (k : Bytes) → is_within lo hi k ≡ false →
+        value_at k (map_after {A = A} m (Wipe lo hi)) ≡ value_at k m }
+    ensures gone { (m : Pairs Bytes) (lo : Bytes) (hi : Option Bytes) →
+        length (map_after {A = A} m (Wipe lo hi)) + length (in_range lo hi m) ≡ length m }
 {}
 
 /// Lists of commands joined end to end are executed one after the other: the second list finds the map that the

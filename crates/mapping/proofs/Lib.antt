@@ -1,5 +1,6 @@
 pub mod Crossing
 mod Around
+mod Counted
 pub mod DrawnPlaces
 mod FindingRow
 pub mod FirstTree

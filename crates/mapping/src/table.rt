@@ -1,4 +1,4 @@
-ghost use Rattle.std.specs.Prelude.{◌≡◌, ◌↔◌, Some, None, IsTrue, IsSome, is_some, IfOk, OnOk, OnErr};
+ghost use Rattle.std.specs.Prelude.{◌≡◌, ◌↔◌, ◌≤◌, length, Some, None, IsTrue, IsSome, is_some, IfOk, OnOk, OnErr};
 ghost use Rattle.std.specs.Option.{option_copied};
 ghost use Rattle.std.specs.List.{AllByRecursion};
 ghost use Rattle.std.specs.Map.{keys_of};
@@ -113,6 +113,13 @@ impl<P: Drop, A: Allocator + Copy> Table<P, A> {
         ensures { result ≡ keys_of (home_pages self.now.places) }
     {
         HomePids { slots: &self.slots }
+    }
+
+    /// A number that the number of places doesn't pass. Only the number of the slots is looked at.
+    pub fn most_places(&self) -> usize
+        ensures { length self.now.places ≤ result }
+    {
+        self.slots.len()
     }
 
     /// Takes the page out of its place, which is away afterwards. This takes no memory, as `put` and `free` do not.

@@ -1,4 +1,4 @@
-ghost use Rattle.std.specs.Prelude.{◌≡◌, ◌↔◌, [], Some, None, IsTrue, IsSome, IfOk, OnOk, OnErr};
+ghost use Rattle.std.specs.Prelude.{◌≡◌, ◌↔◌, ◌≤◌, length, [], Some, None, IsTrue, IsSome, IfOk, OnOk, OnErr};
 ghost use Rattle.std.specs.Option.{option_copied};
 ghost use Rattle.std.specs.Map.{keys_of};
 ghost use Rattle.index_page.specs.Page.{bare};
@@ -68,6 +68,13 @@ impl<A: Allocator + Copy> Tree<A> {
         ensures listed { AreAllHome self.now → option_copied result ≡ page_at (tree_of self.now).pages pid }
     {
         self.table.get(pid.0)
+    }
+
+    /// A number that the number of pages doesn't pass. No page is looked at.
+    pub fn most_pages(&self) -> usize
+        ensures { length (tree_of self.now).pages ≤ result }
+    {
+        self.table.most_places()
     }
 
     /// Whether no page is away.

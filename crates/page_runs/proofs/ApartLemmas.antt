@@ -2,18 +2,22 @@
 use Rattle.std.specs.Prelude.{◌≡◌, ℕ, Bool, true, false, not, cond, ◌&&◌, ◌||◌, is_some, List, [], ◌∷◌, Option, Some, None}
 use Rattle.std.proofs.Common.{refl, sym, ap, ◌∙◌}
 use Rattle.std.specs.List.{filter}
+use Rattle.std.specs.Option.{option_map_or}
 use Rattle.std.specs.Ordering.{is_eq}
+use Rattle.keys.specs.Footprint.{Span, One, Range, Deed, span_of, deed_of}
 use Rattle.keys.specs.Order.{order, IsRising}
 use Rattle.keys.specs.OrderedMap.{value_at, with_pair}
 use Rattle.keys.specs.Step.{reply_to, map_after, replies_to, map_after_all}
 use Rattle.keys.proofs.MapLemmas.{order_itself, passes_same, value_at-with_pair_here, value_at-without_here}
+use Rattle.keys.proofs.RangeLemmas.{wiped_within}
 use Rattle.keys.proofs.RunLemmas.{rising-map_after}
+use Rattle.keys.specs.Range.{is_within}
 use Rattle.keys.specs.declared.command.Command.{Command}
-use Rattle.keys.specs.declared.command.Command.TheVariants.{Get, Put, Add, Del, Scan}
+use Rattle.keys.specs.declared.command.Command.TheVariants.{Get, Put, Add, Del, Scan, Wipe}
 use Rattle.keys.specs.declared.command.Reply.{Reply}
 use Rattle.page_runs.specs.NetRun.{net_run}
 use Rattle.page_runs.proofs.NetLemmas.{Pairs, said_if, value_at-touched, untouched_once}
-use Rattle.page_runs.specs.Apart.{single_key, is_on_one, IsOff, IsWithin, TakesAll, TakesNoOther, replies_where, AgreeOn, is_on_key}
+use Rattle.page_runs.specs.Apart.{single_of, single_key, is_on_one, IsOff, IsWithin, TakesAll, TakesNoOther, GivesNoOther, HasNoOther, replies_where, AgreeOn, is_on, is_on_key, gives_key}
 use Rattle.page_runs.proofs.Touching.{touches, is_touched}
 
 -- ---- keys
@@ -52,14 +56,23 @@ said_same false false q m x e f = refl
 
 -- ---- one command
 
+on_single : (s : Span) (d : Deed) (k q : List ℕ) → single_of s ≡ Some k → is_on s d q ≡ is_eq (order q k)
+on_single (One j) d k q h = let same : j ≡ k = cc in ap (λ (i : List ℕ). is_eq (order q i)) same
+on_single (Range lo hi) d k q h = absurd (cc)
+
+off_single : (is_own : List ℕ → Bool) (s : Span) (d : Deed) → ((q : List ℕ) → is_own q ≡ true → is_on s d q ≡ false) → option_map_or is_own (single_of s) false ≡ false
+off_single is_own (One k) d h = passes_not (is_own k) k (λ e. h k e)
+off_single is_own (Range lo hi) d h = refl
+
+-- a key that is absent is none that is deleted
+not_deleted : (b : Bool) (x : Pairs) (k q : List ℕ) → is_eq (order q k) ≡ b → value_at q x ≡ None → (is_some (value_at k x) && b) ≡ false
+not_deleted true x k q e n = ap (λ (o : Option (List ℕ)). is_some o && true) (ap (λ (j : List ℕ). value_at j x) (sym (passes_same q k e)) ∙ n)
+not_deleted false x k q e n = never_both (is_some (value_at k x))
+
 module _ {A : Type 0} where
   -- a command on one key is on that key and no other
   is_on_key-single_key : (c : Command A) (k q : List ℕ) → single_key c ≡ Some k → is_on_key c q ≡ is_eq (order q k)
-  is_on_key-single_key (Get j) k q h = let s : j ≡ k = cc in ap (λ (i : List ℕ). is_eq (order q i)) s
-  is_on_key-single_key (Put j v) k q h = let s : j ≡ k = cc in ap (λ (i : List ℕ). is_eq (order q i)) s
-  is_on_key-single_key (Add j v) k q h = let s : j ≡ k = cc in ap (λ (i : List ℕ). is_eq (order q i)) s
-  is_on_key-single_key (Del j) k q h = let s : j ≡ k = cc in ap (λ (i : List ℕ). is_eq (order q i)) s
-  is_on_key-single_key (Scan lo hi limit) k q h = absurd (cc)
+  is_on_key-single_key c k q h = on_single (span_of c) (deed_of c) k q h
 
   pub within_by_key : (is_own : List ℕ → Bool) (c : Command A) (k : List ℕ) → single_key c ≡ Some k → is_own k ≡ true → IsWithin is_own c
   within_by_key is_own c k h n = λ q o. is_on_key-single_key c k q h ∙ own_key is_own q k o n
@@ -74,6 +87,7 @@ module _ {A : Type 0} where
   touches_none_else m (Add k v) q h = ap (λ (b : Bool). not (is_some (value_at k m)) && b) h ∙ never_both (not (is_some (value_at k m)))
   touches_none_else m (Del k) q h = ap (λ (b : Bool). is_some (value_at k m) && b) h ∙ never_both (is_some (value_at k m))
   touches_none_else m (Scan lo hi limit) q h = refl
+  touches_none_else m (Wipe lo hi) q h = ap (λ (b : Bool). b && is_some (value_at q m)) h
 
   value_at-elsewhere : (m : Pairs) (c : Command A) (q : List ℕ) → IsRising m → is_on_key c q ≡ false → value_at q (map_after m c) ≡ value_at q m
   value_at-elsewhere m c q r h = untouched_once m c q r (touches_none_else m c q h)
@@ -89,6 +103,7 @@ module _ {A : Type 0} where
       rw same (added_same (is_some (value_at k m)) m x k v here ∙ ap (λ (o : Option (List ℕ)). value_at k (cond (is_some o) x (with_pair x k v))) here)
   after_on m x (Del k) q h r s e = let same : q ≡ k = passes_same q k h in rw same (value_at-without_here m k r ∙ sym (value_at-without_here x k s))
   after_on m x (Scan lo hi limit) q h r s e = e
+  after_on m x (Wipe lo hi) q h r s e = wiped_within m lo hi q h ∙ sym (wiped_within x lo hi q h)
 
   after_by : (b : Bool) (m x : Pairs) (c : Command A) (q : List ℕ) → is_on_key c q ≡ b → IsRising m → IsRising x → value_at q m ≡ value_at q x → value_at q (map_after m c) ≡ value_at q (map_after x c)
   after_by true m x c q h r s e = after_on m x c q h r s e
@@ -106,6 +121,7 @@ module _ {A : Type 0} where
       let here : value_at k m ≡ value_at k x = rw (sym same) e in
       ap (λ (o : Option (List ℕ)). is_some o && is_eq (order q k)) here
   touches_on m x (Scan lo hi limit) q h e = refl
+  touches_on m x (Wipe lo hi) q h e = ap (λ (o : Option (List ℕ)). is_within lo hi q && is_some o) e
 
   touches_by : (b : Bool) (m x : Pairs) (c : Command A) (q : List ℕ) → is_on_key c q ≡ b → value_at q m ≡ value_at q x → touches q m c ≡ touches q x c
   touches_by true m x c q h e = touches_on m x c q h e
@@ -118,14 +134,20 @@ module _ {A : Type 0} where
   reply_same is_own m x (Add k v) a h = let e : value_at k m ≡ value_at k x = a k h in rw e refl
   reply_same is_own m x (Del k) a h = let e : value_at k m ≡ value_at k x = a k h in rw e refl
   reply_same is_own m x (Scan lo hi limit) a h = absurd (cc)
+  reply_same is_own m x (Wipe lo hi) a h = absurd (cc)
 
   -- a command off some keys isn't on one of them
   off_one : (is_own : List ℕ → Bool) (c : Command A) → IsOff is_own c → is_on_one is_own c ≡ false
-  off_one is_own (Get k) h = passes_not (is_own k) k (λ e. h k e)
-  off_one is_own (Put k v) h = passes_not (is_own k) k (λ e. h k e)
-  off_one is_own (Add k v) h = passes_not (is_own k) k (λ e. h k e)
-  off_one is_own (Del k) h = passes_not (is_own k) k (λ e. h k e)
-  off_one is_own (Scan lo hi limit) h = refl
+  off_one is_own c h = off_single is_own (span_of c) (deed_of c) h
+
+  -- a command touches no absent key but one that it gives a value
+  untouched_absent : (x : Pairs) (c : Command A) (q : List ℕ) → gives_key c q ≡ false → value_at q x ≡ None → touches q x c ≡ false
+  untouched_absent x (Get k) q h n = refl
+  untouched_absent x (Put k v) q h n = h
+  untouched_absent x (Add k v) q h n = ap (λ (b : Bool). not (is_some (value_at k x)) && b) h ∙ never_both (not (is_some (value_at k x)))
+  untouched_absent x (Del k) q h n = not_deleted (is_eq (order q k)) x k q refl n
+  untouched_absent x (Scan lo hi limit) q h n = refl
+  untouched_absent x (Wipe lo hi) q h n = ap (λ (o : Option (List ℕ)). is_within lo hi q && is_some o) n ∙ never_both (is_within lo hi q)
 
   -- ---- replies to some of the commands
 
@@ -220,3 +242,21 @@ module _ {A : Type 0} where
     net_run-no_other x cs q t h =
         value_at-touched (map_after_all x (filter is_taken cs)) x (filter is_taken cs) q
         ∙ ap (λ (b : Bool). said_if b q (map_after_all x (filter is_taken cs))) (untouched_others x cs q t h)
+
+    absent_by_test : (b : Bool) (x : Pairs) (c : Command A) (cs : List (Command A)) (q : List ℕ) → GivesNoOther is_own is_taken → is_taken c ≡ b → is_own q ≡ false → IsRising x → value_at q x ≡ None
+        → ((y : Pairs) → IsRising y → value_at q y ≡ None → is_touched q y (filter is_taken cs) ≡ false) → is_touched q x (cond b (c ∷ filter is_taken cs) (filter is_taken cs)) ≡ false
+    absent_by_test true x c cs q t e h r n ih =
+        let here : touches q x c ≡ false = untouched_absent x c q (t c e q h) n in
+        ap (λ (u : Bool). u || is_touched q (map_after x c) (filter is_taken cs)) here
+        ∙ ih (map_after x c) (rising-map_after x c r) (untouched_once x c q r here ∙ n)
+    absent_by_test false x c cs q t e h r n ih = ih x r n
+
+    untouched_there : (x : Pairs) (cs : List (Command A)) (q : List ℕ) → GivesNoOther is_own is_taken → is_own q ≡ false → IsRising x → value_at q x ≡ None → is_touched q x (filter is_taken cs) ≡ false
+    untouched_there x [] q t h r n = refl
+    untouched_there x (c ∷ cs) q t h r n = absent_by_test (is_taken c) x c cs q t refl h r n (λ y s o. untouched_there y cs q t h s o)
+
+    -- where the map has no other key, and no command that gives one a value is taken, it says nothing of any other key
+    pub net_run-no_other_there : (x : Pairs) (cs : List (Command A)) (q : List ℕ) → GivesNoOther is_own is_taken → HasNoOther is_own x → IsRising x → is_own q ≡ false → value_at q (net_run x (filter is_taken cs)) ≡ None
+    net_run-no_other_there x cs q t n r h =
+        value_at-touched (map_after_all x (filter is_taken cs)) x (filter is_taken cs) q
+        ∙ ap (λ (b : Bool). said_if b q (map_after_all x (filter is_taken cs))) (untouched_there x cs q t h r (n q h))

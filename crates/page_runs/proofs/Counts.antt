@@ -6,9 +6,10 @@ use Rattle.keys.specs.Order.{order}
 use Rattle.keys.specs.OrderedMap.{value_at, with_pair, without}
 use Rattle.keys.specs.Step.{found, reply_to, map_after}
 use Rattle.keys.specs.declared.command.Command.{Command}
-use Rattle.keys.specs.declared.command.Command.TheVariants.{Get, Put, Add, Del, Scan}
+use Rattle.keys.specs.declared.command.Command.TheVariants.{Get, Put, Add, Del, Scan, Wipe}
 use Rattle.keys.specs.declared.command.Reply.{Reply}
 use Rattle.keys.specs.declared.command.Reply.TheVariants.{Missing, New, Replaced, Added, Exists, Deleted}
+use Rattle.keys.proofs.RangeLemmas.{both_parts}
 use Rattle.keys.specs.declared.settings.Settings.{Settings}
 use Rattle.delta_chain.specs.Layers.{Layers, with_run, entries_of}
 use Rattle.delta_chain.proofs.Counts.{most_without, most_with_pair}
@@ -67,6 +68,7 @@ fewest_after {A} n m (Put k v) h = after_put A (is_some (value_at k m)) n (lengt
 fewest_after {A} n m (Add k v) h = after_add A (is_some (value_at k m)) n m (with_pair m k v) h (one_more m k v)
 fewest_after {A} n m (Del k) h = after_del A (is_some (value_at k m)) n (length m) (length (without m k)) h (most_without m k) (none_less m k)
 fewest_after n m (Scan lo hi limit) h = h
+fewest_after n m (Wipe lo hi) h = let parts = both_parts m lo hi in omega (arith, h, parts)
 
 -- a page after a run has as many entries as its entries with the run applied
 pub counted_after_run : {V : Type 0} → (s : Settings) (p after : Layers V) (run : List (List ℕ × Option V)) (n : ℕ) → after ≡ after_run s p run → n ≤ length (with_run (entries_of p) run) → n ≤ length (entries_of after)

@@ -12,7 +12,7 @@ use Rattle.keys.specs.Places.{is_some_that}
 use Rattle.keys.specs.Range.{is_below, is_before, is_within, in_range}
 use Rattle.keys.specs.Step.{reply_to, map_after, replies_to, map_after_all}
 use Rattle.keys.specs.declared.command.Command.{Command}
-use Rattle.keys.specs.declared.command.Command.TheVariants.{Get, Put, Add, Del, Scan}
+use Rattle.keys.specs.declared.command.Command.TheVariants.{Scan}
 use Rattle.keys.specs.declared.command.Reply.{Reply}
 use Rattle.keys.specs.declared.command.Reply.TheVariants.{Rows}
 use Rattle.keys.proofs.MapLemmas.{total, same_key, flipped_greater, IsBelowAll}
@@ -56,20 +56,14 @@ and_parts false b h = absurd (cc)
 -- an end of a command: the key of a page, behind the scan's lower bound and before its upper one
 abbrev pub IsNear : {A : Type 0} → List (List ℕ) → Command A → Option (List ℕ) → Type 0
 IsNear keys c None = ⊤
-IsNear keys (Get k) (Some end) = ⊤
-IsNear keys (Put k v) (Some end) = ⊤
-IsNear keys (Add k v) (Some end) = ⊤
-IsNear keys (Del k) (Some end) = ⊤
 IsNear keys (Scan lo hi limit) (Some end) = ((at : ℕ) × (slice_get keys at ≡ Some end)) × (is_below lo end ≡ true) × (is_before hi end ≡ true)
+IsNear keys c (Some end) = ⊤
 
 module _ {A : Type 0} (keys : List (List ℕ)) where
   near_one : (m : Pairs) (c : Command A) (end : Option (List ℕ)) → MayEndAt keys m c end → IsNear keys c end
   near_one m c None h = tt
-  near_one m (Get k) (Some end) h = tt
-  near_one m (Put k v) (Some end) h = tt
-  near_one m (Add k v) (Some end) h = tt
-  near_one m (Del k) (Some end) h = tt
   near_one m (Scan lo hi limit) (Some end) h = (h.known, h.behind, h.before)
+  near_one m _ (Some end) h = tt
 
   drop-one : (ends : List (Option (List ℕ))) (place : ℕ) → A → first_end (drop place (drop 1 ends)) ≡ first_end (drop (suc place) ends)
   drop-one [] zero a = refl
@@ -113,14 +107,11 @@ module _ (low : List ℕ) (page_end : Option (List ℕ)) where
   pub reply-near : {A : Type 0} (keys : List (List ℕ)) (m : Pairs) (c : Command A) (end : Option (List ℕ)) → EndsBefore keys low page_end → IsNear keys c end → goes_to low page_end (with_end end c) ≡ true
       → reply_to (in_range low page_end m) (with_end end c) ≡ reply_to (in_range low page_end m) c
   reply-near {A} keys m c None f n g = refl
-  reply-near {A} keys m (Get k) (Some end) f n g = refl
-  reply-near {A} keys m (Put k v) (Some end) f n g = refl
-  reply-near {A} keys m (Add k v) (Some end) f n g = refl
-  reply-near {A} keys m (Del k) (Some end) f n g = refl
   reply-near {A} keys m (Scan lo hi limit) (Some end) f n g =
       let low_below : is_below low end ≡ true = reaches_by lo end (is_within low page_end lo) (is_between lo (Some end) low) refl refl g n.1 in
       let ends : EndsBy page_end end = f n.0.0 end n.0.1 low_below in
       ap (λ (xs : Pairs). rows_reply A (take limit xs)) (same_part lo hi end m n.2 ends)
+  reply-near {A} keys m _ (Some end) f n g = refl
 
 -- ---- the commands of a page
 
@@ -180,11 +171,8 @@ module _ {A : Type 0} (cs : List (Command A)) (ends : List (Option (List ℕ))) 
 
   noted-with_end : (after before : Pairs) (end : Option (List ℕ)) (c : Command A) (run : List (List ℕ × Option (List ℕ))) → noted_by after before (with_end end c) run ≡ noted_by after before c run
   noted-with_end after before None c run = refl
-  noted-with_end after before (Some end) (Get k) run = refl
-  noted-with_end after before (Some end) (Put k v) run = refl
-  noted-with_end after before (Some end) (Add k v) run = refl
-  noted-with_end after before (Some end) (Del k) run = refl
   noted-with_end after before (Some end) (Scan lo hi limit) run = refl
+  noted-with_end after before (Some end) _ run = refl
 
   touched_by : (place : ℕ) (o : Option (Command A)) (after m : Pairs) (ds es : List (Command A)) → ((x : Pairs) → touched after x ds ≡ touched after x es) → touched after m (ended_at place o ++ ds) ≡ touched after m (option_to_list o ++ es)
   touched_by place None after m ds es ih = ih m
@@ -209,11 +197,8 @@ module _ {A : Type 0} (cs : List (Command A)) (ends : List (Option (List ℕ))) 
 module _ {A : Type 0} where
   noted-end : (after before : Pairs) (end : Option (List ℕ)) (c : Command A) (run : List (List ℕ × Option (List ℕ))) → noted_by after before (with_end end c) run ≡ noted_by after before c run
   noted-end after before None c run = refl
-  noted-end after before (Some end) (Get k) run = refl
-  noted-end after before (Some end) (Put k v) run = refl
-  noted-end after before (Some end) (Add k v) run = refl
-  noted-end after before (Some end) (Del k) run = refl
   noted-end after before (Some end) (Scan lo hi limit) run = refl
+  noted-end after before (Some end) _ run = refl
 
   touched-with_ends : (after m : Pairs) (cs : List (Command A)) (ends : List (Option (List ℕ))) → touched after m (with_ends cs ends) ≡ touched after m cs
   touched-with_ends after m [] ends = refl

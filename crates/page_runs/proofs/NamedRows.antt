@@ -1,5 +1,5 @@
 -- The rows that the keys of a page and its changes give: for the proofs of this crate.
-use Rattle.std.specs.Prelude.{◌≡◌, ℕ, zero, suc, ◌+◌, ◌-◌, ◌<◌, ◌≤◌, Bool, true, false, not, cond, ◌&&◌, List, [], ◌∷◌, ◌++◌, length, take, Option, Some, None, flat_map}
+use Rattle.std.specs.Prelude.{◌≡◌, ℕ, zero, suc, ◌+◌, ◌-◌, ◌<◌, ◌≤◌, Bool, true, false, not, cond, ◌&&◌, List, [], ◌∷◌, ◌++◌, length, take, is_some, Option, Some, None, flat_map}
 use Rattle.std.proofs.Common.{refl, sym, ap, ◌∙◌, arith, append_assoc, append-nil, length-append, Less, Equal, Greater, Ordering}
 use Rattle.std.specs.Borrow.{Bor}
 use Rattle.std.specs.List.{AllByRecursion, filter}
@@ -195,3 +195,39 @@ module _ {V : Type 0} where
       → out ++ rows_of_changes end n ((k, option_copied o) ∷ rest) ≡ all → out ++ rows_of_changes end n rest ≡ all
   row-absent end n out all k None rest a h = h
   row-absent end n out all k (Some x) rest a h = absurd (a x refl)
+
+-- ---- the keys of a range
+
+-- those of the pairs that changes give below an end
+abbrev pub keys_of_changes : {V : Type 0} → Option (List ℕ) → List (List ℕ × Option V) → List (List ℕ)
+keys_of_changes end changes = keys_of (filter (λ e. is_before end e.0) (present_ones changes))
+
+module _ {V : Type 0} where
+  pub keys-start : (low : List ℕ) (end : Option (List ℕ)) (m : List (List ℕ × V)) (cs : List (List ℕ × Option V)) → IsRising m → IsRising cs → keys_of_changes end (named_by_either (from low m) (in_range low None cs)) ≡ keys_of (in_range low end (with_run m cs))
+  keys-start low end m cs r s =
+      ap (λ (es : List (List ℕ × V)). keys_of_changes end (named_by_either es (in_range low None cs))) (from-in_range low m)
+      ∙ ap (λ (es : List (List ℕ × V)). keys_of (filter (λ e. is_before end e.0) es))
+      (present-named_by_either (in_range low None m) (in_range low None cs) (rising-in_range low None m r) (rising-in_range low None cs s) ∙ in_range-with_run low None m cs r s)
+      ∙ ap (λ (es : List (List ℕ × V)). keys_of es) (before-in_range low end (with_run m cs))
+
+  pub key-added : (end : Option (List ℕ)) (out all : List (List ℕ)) (k : List ℕ) (v : V) (rest : List (List ℕ × Option V)) → is_before end k ≡ true → out ++ keys_of_changes end ((k, Some v) ∷ rest) ≡ all → (out ++ k ∷ []) ++ keys_of_changes end rest ≡ all
+  key-added end out all k v rest before h =
+      let whole : out ++ k ∷ keys_of_changes end rest ≡ all = rw before at h in
+      append_assoc out (k ∷ []) (keys_of_changes end rest) ∙ whole
+
+  pub keys-none : (end : Option (List ℕ)) (out all : List (List ℕ)) (rest : List (List ℕ × Option V)) → rest ≡ [] → out ++ keys_of_changes end rest ≡ all → out ≡ all
+  keys-none end out all rest e h =
+      let whole : out ++ [] ≡ all = rw e at h in
+      sym (append-nil out) ∙ whole
+
+  pub keys-past : (end : Option (List ℕ)) (out all : List (List ℕ)) (k : List ℕ) (o : Option V) (rest : List (List ℕ × Option V)) → IsRising ((k, o) ∷ rest) → is_before end k ≡ false → out ++ keys_of_changes end ((k, o) ∷ rest) ≡ all → out ≡ all
+  keys-past end out all k o rest r h t =
+      sym (append-nil out) ∙ ap (λ (es : List (List ℕ × V)). out ++ keys_of es) (sym (none_behind end k o rest r h)) ∙ t
+
+  pub key-absent : (end : Option (List ℕ)) (out all : List (List ℕ)) (k : List ℕ) (o : Option (Bor V)) (rest : List (List ℕ × Option V)) → is_some o ≡ false → out ++ keys_of_changes end ((k, option_copied o) ∷ rest) ≡ all → out ++ keys_of_changes end rest ≡ all
+  key-absent end out all k None rest a h = h
+  key-absent end out all k (Some x) rest a h = absurd (cc)
+
+  pub key-present : (end : Option (List ℕ)) (out all : List (List ℕ)) (k : List ℕ) (o : Option (Bor V)) (rest : List (List ℕ × Option V)) → is_some o ≡ true → is_before end k ≡ true → out ++ keys_of_changes end ((k, option_copied o) ∷ rest) ≡ all → (out ++ k ∷ []) ++ keys_of_changes end rest ≡ all
+  key-present end out all k None rest a b h = absurd (cc)
+  key-present end out all k (Some x) rest a b h = key-added end out all k x.now rest b h

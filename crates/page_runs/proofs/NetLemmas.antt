@@ -3,16 +3,20 @@ use Rattle.std.specs.Prelude.{◌≡◌, ℕ, Bool, true, false, cond, not, ◌&
 use Rattle.std.proofs.Common.{refl, sym, ap, ◌∙◌}
 use Rattle.std.specs.Ordering.{is_eq}
 use Rattle.std.specs.List.Sorted.{IsStrictlySortedBy}
+use Rattle.std.specs.Map.{keys_of}
+use Rattle.std.proofs.lemmas.Map.Entries.{lookup-filter-keys}
 use Rattle.keys.specs.Order.{order, IsRising}
 use Rattle.keys.specs.OrderedMap.{value_at, with_pair, without}
+use Rattle.keys.specs.Range.{is_within, in_range, out_of_range}
 use Rattle.keys.specs.Step.{map_after, map_after_all}
 use Rattle.keys.proofs.MapLemmas.{alike, passes_same, value_at-with_pair_here, value_at-with_pair_apart, value_at-without, rising-with_pair, same_map}
+use Rattle.keys.proofs.RangeLemmas.{value_at-out_of_range}
 use Rattle.keys.proofs.RunLemmas.{rising-map_after, rising-map_after_all, map_after_all-append}
 use Rattle.keys.specs.declared.command.Command.{Command}
-use Rattle.keys.specs.declared.command.Command.TheVariants.{Get, Put, Add, Del, Scan}
+use Rattle.keys.specs.declared.command.Command.TheVariants.{Get, Put, Add, Del, Scan, Wipe}
 use Rattle.delta_chain.specs.Layers.{said_or, with_run}
 use Rattle.delta_chain.proofs.LayerLemmas.{value_at-with_run, rising-with_run}
-use Rattle.page_runs.specs.NetRun.{noted, noted_by, touched, net_run}
+use Rattle.page_runs.specs.NetRun.{noted, noted_all, noted_by, touched, net_run}
 use Rattle.page_runs.proofs.Touching.{touches, is_touched}
 
 abbrev pub Pairs : Type 0
@@ -59,6 +63,59 @@ noted_unless : (b : Bool) (after : Pairs) (run : Changes) (k q : List ℕ) → v
 noted_unless true after run k q = refl
 noted_unless false after run k q = value_at-noted after run k q
 
+-- ---- keys noted in a run
+
+has_key : List ℕ → List (List ℕ) → Bool
+has_key q [] = false
+has_key q (k ∷ ks) = is_eq (order q k) || has_key q ks
+
+said_once : {X : Type 0} (a b : Bool) (said rest : Option X) → cond b said (cond a said rest) ≡ cond (a || b) said rest
+said_once true true said rest = refl
+said_once true false said rest = refl
+said_once false b said rest = refl
+
+value_at-noted_all : (after : Pairs) (run : Changes) (ks : List (List ℕ)) (q : List ℕ) → value_at q (noted_all after run ks) ≡ cond (has_key q ks) (Some (value_at q after)) (value_at q run)
+unfolding has_key
+value_at-noted_all after run [] q = refl
+value_at-noted_all after run (k ∷ ks) q =
+    value_at-noted_all after (noted after run k) ks q
+    ∙ ap (λ (o : Option (Option (List ℕ))). cond (has_key q ks) (Some (value_at q after)) o) (value_at-noted after run k q)
+    ∙ said_once (is_eq (order q k)) (has_key q ks) (Some (value_at q after)) (value_at q run)
+
+found_first : {X : Type 0} (b h : Bool) (v : X) (o : Option X) → h ≡ is_some o → (b || h) ≡ is_some (cond b (Some v) o)
+found_first true h v o e = refl
+found_first false h v o e = e
+
+has_key-keys : (q : List ℕ) (m : Pairs) → has_key q (keys_of m) ≡ is_some (value_at q m)
+unfolding has_key
+has_key-keys q [] = refl
+has_key-keys q (e ∷ es) = found_first (is_eq (order q e.0)) (has_key q (keys_of es)) e.1 (value_at q es) (has_key-keys q es)
+
+found_if : {X : Type 0} (b : Bool) (o : Option X) → is_some (cond b o None) ≡ (b && is_some o)
+found_if true o = refl
+found_if false o = refl
+
+-- the keys of a map that lie in a range
+has_key-in_range : (q lo : List ℕ) (hi : Option (List ℕ)) (m : Pairs) → has_key q (keys_of (in_range lo hi m)) ≡ (is_within lo hi q && is_some (value_at q m))
+has_key-in_range q lo hi m =
+    has_key-keys q (in_range lo hi m)
+    ∙ ap (λ (o : Option (List ℕ)). is_some o) (lookup-filter-keys (λ j. is_eq (order q j)) (is_within lo hi) (is_within lo hi q) (λ j p. ap (is_within lo hi) (sym (passes_same q j p))) m)
+    ∙ found_if (is_within lo hi q) (value_at q m)
+
+value_at-wiped : (after before : Pairs) (run : Changes) (lo : List ℕ) (hi : Option (List ℕ)) (q : List ℕ)
+    → value_at q (noted_all after run (keys_of (in_range lo hi before))) ≡ cond (is_within lo hi q && is_some (value_at q before)) (Some (value_at q after)) (value_at q run)
+value_at-wiped after before run lo hi q =
+    value_at-noted_all after run (keys_of (in_range lo hi before)) q ∙ ap (λ (b : Bool). cond b (Some (value_at q after)) (value_at q run)) (has_key-in_range q lo hi before)
+
+rising-noted_all : (after : Pairs) (run : Changes) (ks : List (List ℕ)) → IsRising run → IsRising (noted_all after run ks)
+rising-noted_all after run [] r = r
+rising-noted_all after run (k ∷ ks) r = rising-noted_all after (noted after run k) ks (rising-with_pair run k (value_at k after) r)
+
+wiped_same : (w : Bool) (o : Option (List ℕ)) → (w && is_some o) ≡ false → cond (not w) o None ≡ o
+wiped_same true None h = refl
+wiped_same true (Some v) h = absurd (cc)
+wiped_same false o h = refl
+
 rising_either : (b : Bool) (run more : Changes) → IsRising run → IsRising more → IsRising (if b then run else more)
 rising_either true run more r s = r
 rising_either false run more r s = s
@@ -103,6 +160,7 @@ module _ {A : Type 0} where
   value_at-noted_by after before (Add k v) run q = noted_unless (is_some (value_at k before)) after run k q
   value_at-noted_by after before (Del k) run q = noted_where (is_some (value_at k before)) after run k q
   value_at-noted_by after before (Scan lo hi limit) run q = refl
+  value_at-noted_by after before (Wipe lo hi) run q = value_at-wiped after before run lo hi q
 
   -- the touched keys have their values in the last map, and no other key is named
   pub value_at-touched : (after before : Pairs) (cs : List (Command A)) (q : List ℕ) → value_at q (touched after before cs) ≡ said_if (is_touched q before cs) q after
@@ -118,6 +176,7 @@ module _ {A : Type 0} where
   rising-noted_by after before (Add k v) run r = rising_either (is_some (value_at k before)) run (noted after run k) r (rising-with_pair run k (value_at k after) r)
   rising-noted_by after before (Del k) run r = rising_either (is_some (value_at k before)) (noted after run k) run (rising-with_pair run k (value_at k after) r) r
   rising-noted_by after before (Scan lo hi limit) run r = r
+  rising-noted_by after before (Wipe lo hi) run r = rising-noted_all after run (keys_of (in_range lo hi before)) r
 
   rising-touched : (after before : Pairs) (cs : List (Command A)) → IsRising (touched after before cs)
   unfolding IsStrictlySortedBy
@@ -136,6 +195,7 @@ module _ {A : Type 0} where
   untouched_once m (Add k v) q r h = added_by (is_some (value_at k m)) m k q v h
   untouched_once m (Del k) q r h = deleted_by (is_some (value_at k m)) m k q r refl h
   untouched_once m (Scan lo hi limit) q r h = refl
+  untouched_once m (Wipe lo hi) q r h = value_at-out_of_range m lo hi q ∙ wiped_same (is_within lo hi q) (value_at q m) h
 
   untouched_by_all : (m : Pairs) (cs : List (Command A)) (q : List ℕ) → IsRising m → is_touched q m cs ≡ false → value_at q (map_after_all m cs) ≡ value_at q m
   untouched_by_all m [] q r h = refl

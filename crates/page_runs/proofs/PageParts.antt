@@ -1,19 +1,21 @@
 -- A page's part of a map: what commands leave of it and answer there, and the parts of a level's pages, joined. For the proofs
 -- of this crate and of those above it.
-use Rattle.std.specs.Prelude.{◌≡◌, ℕ, zero, suc, ◌≤◌, Bool, true, false, not, cond, ◌&&◌, ◌||◌, is_some, if◌then◌else◌, List, [], ◌∷◌, ◌++◌, flat_map, take, Option, Some, None}
+use Rattle.std.specs.Prelude.{◌≡◌, ℕ, zero, suc, ◌≤◌, Bool, true, false, not, cond, ◌&&◌, ◌||◌, ◌+◌, length, is_some, if◌then◌else◌, List, [], ◌∷◌, ◌++◌, flat_map, take, Option, Some, None}
 use Rattle.std.proofs.Common.{refl, sym, ap, ◌∙◌, arith, append-nil, Less}
-use Rattle.std.specs.List.{AllByRecursion, filter}
+use Rattle.std.specs.List.{AllByRecursion, filter, sum_by}
 use Rattle.std.specs.List.Sorted.{IsStrictlySortedBy}
 use Rattle.std.specs.Map.{keys_of}
 use Rattle.std.specs.Ordering.{is_eq}
+use Rattle.std.proofs.lemmas.List.Concat.{length-flat_map}
 use Rattle.std.proofs.lemmas.List.Elements.{filter-append}
-use Rattle.keys.specs.CommandKey.{is_scan}
+use Rattle.std.proofs.lemmas.List.Sums.{sum_by-cons}
+use Rattle.keys.specs.CommandKey.{is_ranged}
 use Rattle.keys.specs.Order.{order, IsRising}
 use Rattle.keys.specs.OrderedMap.{value_at}
-use Rattle.keys.specs.Range.{is_below, is_before, is_within, in_range, rows}
+use Rattle.keys.specs.Range.{is_below, is_before, is_within, in_range, out_of_range, rows}
 use Rattle.keys.specs.Step.{reply_to, map_after}
 use Rattle.keys.specs.declared.command.Command.{Command}
-use Rattle.keys.specs.declared.command.Command.TheVariants.{Get, Put, Add, Del, Scan}
+use Rattle.keys.specs.declared.command.Command.TheVariants.{Get, Put, Add, Del, Scan, Wipe}
 use Rattle.keys.proofs.MapLemmas.{total, passes_same, same_map}
 use Rattle.delta_chain.specs.Layers.{with_change}
 use Rattle.delta_chain.proofs.LayerLemmas.{value_at-with_change, rising-with_change}
@@ -24,11 +26,54 @@ use Rattle.mapping.specs.Levels.{Placed, names}
 use Rattle.mapping.specs.Proper.{next_low, Tiled}
 use Rattle.mapping.proofs.TileLemmas.{low_is_before}
 use Rattle.routing.specs.Routes.{goes_to, ranges}
-use Rattle.page_runs.proofs.NamedRows.{value_at-kept, kept-both, taken_none}
+use Rattle.page_runs.proofs.NamedRows.{value_at-kept, kept-same, kept-both, taken_none}
 use Rattle.page_runs.proofs.PageRows.{rising-in_range}
 
 abbrev pub Pairs : Type 0
 Pairs = List (List ℕ × List ℕ)
+
+-- ---- ranges that meet a page
+
+-- a key that lies in a page's range and in that of a scan or a wipe shows that it goes to the page
+before_through : (end : Option (List ℕ)) (low k : List ℕ) → is_below k low ≡ false → is_before end k ≡ true → is_before end low ≡ true
+before_through None low k h b = refl
+before_through (Some end) low k h b = less_is_below low end (low_through low k end h (below_is_less k end b))
+
+not_met_by : (u x s a b c d : Bool) → (c ≡ false → b ≡ true → x ≡ true) → (a ≡ false → d ≡ true → s ≡ true) → ((not u && x) || (u && s)) ≡ false → ((not a && b) && (not c && d)) ≡ false
+not_met_by u x s true b c d f g h = refl
+not_met_by u x s false false c d f g h = refl
+not_met_by u x s false true true d f g h = refl
+not_met_by u x s false true false false f g h = refl
+not_met_by true x s false true false true f g h = absurd (let t : s ≡ true = g refl refl in let e : s ≡ false = h in cc)
+not_met_by false x s false true false true f g h = absurd (let t : x ≡ true = f refl refl in let e : (x || false) ≡ false = h in let wrong : (true || false) ≡ false = rw t at e in cc)
+
+not_met : (low : List ℕ) (end : Option (List ℕ)) (lo : List ℕ) (hi : Option (List ℕ)) (k : List ℕ) → (is_within low end lo || is_between lo hi low) ≡ false → (is_within low end k && is_within lo hi k) ≡ false
+not_met low end lo hi k h =
+    not_met_by (is_below lo low) (is_before end lo) (is_before hi low) (is_below k low) (is_before end k) (is_below k lo) (is_before hi k)
+    (before_through end lo k) (before_through hi low k) h
+
+not_both : (a b : Bool) → (a && b) ≡ false → (not b && a) ≡ a
+not_both true true h = absurd (cc)
+not_both true false h = refl
+not_both false true h = refl
+not_both false false h = refl
+
+turned : (a b : Bool) → (a && b) ≡ (b && a)
+turned true true = refl
+turned true false = refl
+turned false true = refl
+turned false false = refl
+
+-- what a wipe leaves in a page's range is what it leaves of the pairs there, where it goes to the page
+wiped_part_by : (b : Bool) (low : List ℕ) (end : Option (List ℕ)) (lo : List ℕ) (hi : Option (List ℕ)) (m : Pairs) → (is_within low end lo || is_between lo hi low) ≡ b
+    → in_range low end (out_of_range lo hi m) ≡ cond b (out_of_range lo hi (in_range low end m)) (in_range low end m)
+wiped_part_by true low end lo hi m h =
+    kept-both (λ k. not (is_within lo hi k)) (is_within low end) m
+    ∙ kept-same (λ k. not (is_within lo hi k) && is_within low end k) (λ k. is_within low end k && not (is_within lo hi k)) m (λ k. turned (not (is_within lo hi k)) (is_within low end k))
+    ∙ sym (kept-both (is_within low end) (λ k. not (is_within lo hi k)) m)
+wiped_part_by false low end lo hi m h =
+    kept-both (λ k. not (is_within lo hi k)) (is_within low end) m
+    ∙ kept-same (λ k. not (is_within lo hi k) && is_within low end k) (is_within low end) m (λ k. not_both (is_within low end k) (is_within lo hi k) (not_met low end lo hi k h))
 
 -- ---- a part of a map after one change
 
@@ -98,14 +143,16 @@ module _ (low : List ℕ) (end : Option (List ℕ)) (m : Pairs) (r : IsRising m)
     map_after-part (Add k v) = added_by (is_within low end k) k v refl
     map_after-part (Del k) = changed_by (is_within low end k) k None refl
     map_after-part (Scan lo hi limit) = either_part (goes_to {A = A} low end (Scan lo hi limit)) (in_range low end m)
+    map_after-part (Wipe lo hi) = wiped_part_by (goes_to {A = A} low end (Wipe lo hi)) low end lo hi m refl
 
     -- and a command on a key gets there the reply that the whole map gives
-    pub reply_to-part : (c : Command A) → is_scan c ≡ false → goes_to low end c ≡ true → reply_to (in_range low end m) c ≡ reply_to m c
+    pub reply_to-part : (c : Command A) → is_ranged c ≡ false → goes_to low end c ≡ true → reply_to (in_range low end m) c ≡ reply_to m c
     reply_to-part (Get k) s h = rw (value_at-inside k h) refl
     reply_to-part (Put k v) s h = rw (value_at-inside k h) refl
     reply_to-part (Add k v) s h = rw (value_at-inside k h) refl
     reply_to-part (Del k) s h = rw (value_at-inside k h) refl
     reply_to-part (Scan lo hi limit) s h = absurd (cc)
+    reply_to-part (Wipe lo hi) s h = absurd (cc)
 
 -- ---- the parts of a level's pages
 
@@ -202,23 +249,10 @@ module _ {V : Type 0} where
   none_passes test [] h = refl
   none_passes test (e ∷ es) h = rw (h e.0) (none_passes test es h)
 
--- a key that lies in a page's range and in that of a scan shows that the scan goes to the page
-before_through : (end : Option (List ℕ)) (low k : List ℕ) → is_below k low ≡ false → is_before end k ≡ true → is_before end low ≡ true
-before_through None low k h b = refl
-before_through (Some end) low k h b = less_is_below low end (low_through low k end h (below_is_less k end b))
-
-not_met_by : (u x s a b c d : Bool) → (c ≡ false → b ≡ true → x ≡ true) → (a ≡ false → d ≡ true → s ≡ true) → ((not u && x) || (u && s)) ≡ false → ((not a && b) && (not c && d)) ≡ false
-not_met_by u x s true b c d f g h = refl
-not_met_by u x s false false c d f g h = refl
-not_met_by u x s false true true d f g h = refl
-not_met_by u x s false true false false f g h = refl
-not_met_by true x s false true false true f g h = absurd (let t : s ≡ true = g refl refl in let e : s ≡ false = h in cc)
-not_met_by false x s false true false true f g h = absurd (let t : x ≡ true = f refl refl in let e : (x || false) ≡ false = h in let wrong : (true || false) ≡ false = rw t at e in cc)
-
-not_met : (low : List ℕ) (end : Option (List ℕ)) (lo : List ℕ) (hi : Option (List ℕ)) (k : List ℕ) → (is_within low end lo || is_between lo hi low) ≡ false → (is_within low end k && is_within lo hi k) ≡ false
-not_met low end lo hi k h =
-    not_met_by (is_below lo low) (is_before end lo) (is_before hi low) (is_below k low) (is_before end k) (is_below k lo) (is_before hi k)
-    (before_through end lo k) (before_through hi low k) h
+same_sum : {X : Type 0} (f g : X → ℕ) (xs : List X) → ((x : X) → f x ≡ g x) → sum_by f xs ≡ sum_by g xs
+same_sum f g [] h = refl
+same_sum f g (x ∷ xs) h =
+    sum_by-cons f x xs ∙ ap (λ (n : ℕ). n + sum_by f xs) (h x) ∙ ap (λ (n : ℕ). g x + n) (same_sum f g xs h) ∙ sym (sum_by-cons g x xs)
 
 module _ (A : Type 0) {V : Type 0} where
   rows_by : (b : Bool) (low : List ℕ) (end : Option (List ℕ)) (m : List (List ℕ × V)) (lo : List ℕ) (hi : Option (List ℕ)) (limit : ℕ) → goes_to {A = A} low end (Scan lo hi limit) ≡ b
@@ -239,3 +273,20 @@ module _ (A : Type 0) {V : Type 0} where
       (λ at. rows_by (goes_to {A = A} at.low at.end (Scan lo hi limit)) at.low at.end m lo hi limit refl))
       ∙ first_of_each limit (λ (at : Place). in_range lo hi (part at)) (ranges level) limit (omega arith)
       ∙ ap (λ (es : List (List ℕ × V)). take limit es) (filtered_parts (λ e. is_within lo hi e.0) part (ranges level) ∙ ap (λ (es : List (List ℕ × V)). in_range lo hi es) (parts_of_all level m n t r))
+
+  -- and the pairs of a range are as many as those of the pages that meet it
+  count_by_page : (b : Bool) (low : List ℕ) (end : Option (List ℕ)) (m : List (List ℕ × V)) (lo : List ℕ) (hi : Option (List ℕ)) → goes_to {A = A} low end (Wipe lo hi) ≡ b
+      → (if b then length (in_range lo hi (in_range low end m)) else 0) ≡ length (in_range lo hi (in_range low end m))
+  count_by_page true low end m lo hi h = refl
+  count_by_page false low end m lo hi h =
+      sym (ap (λ (es : List (List ℕ × V)). length es)
+      (kept-both (is_within low end) (is_within lo hi) m ∙ none_passes (λ k. is_within low end k && is_within lo hi k) m (λ k. not_met low end lo hi k h)))
+
+  pub counts-parts : {W : Type 0} (level : List (Placed W)) (m : List (List ℕ × V)) (lo : List ℕ) (hi : Option (List ℕ)) → next_low level None ≡ Some [] → Tiled level None → IsRising m
+      → sum_by (λ (at : Place). if goes_to {A = A} at.low at.end (Wipe lo hi) then length (in_range lo hi (in_range at.low at.end m)) else 0) (ranges level) ≡ length (in_range lo hi m)
+  counts-parts level m lo hi n t r =
+      let part : Place → List (List ℕ × V) = λ at. in_range at.low at.end m in
+      same_sum (λ (at : Place). if goes_to {A = A} at.low at.end (Wipe lo hi) then length (in_range lo hi (part at)) else 0) (λ (at : Place). length (in_range lo hi (part at))) (ranges level)
+      (λ at. count_by_page (goes_to {A = A} at.low at.end (Wipe lo hi)) at.low at.end m lo hi refl)
+      ∙ sym (length-flat_map (λ (at : Place). in_range lo hi (part at)) (ranges level))
+      ∙ ap (λ (es : List (List ℕ × V)). length es) (filtered_parts (λ e. is_within lo hi e.0) part (ranges level) ∙ ap (λ (es : List (List ℕ × V)). in_range lo hi es) (parts_of_all level m n t r))

@@ -5,7 +5,7 @@ use Rattle.std.proofs.lemmas.List.Folds.{list_all-append}
 use Rattle.std.specs.List.{list_all}
 use Rattle.std.specs.Option.{option_to_list}
 use Rattle.keys.specs.declared.command.Command.{Command}
-use Rattle.keys.specs.declared.command.Command.TheVariants.{Get, Put, Add, Del, Scan}
+use Rattle.keys.specs.declared.command.Command.TheVariants.{Get, Put, Add, Del, Scan, Wipe}
 use Rattle.page_runs.specs.NetRun.{touched, net_run}
 use Rattle.page_runs.specs.Reads.{is_look}
 use Rattle.page_runs.specs.Replies.{commands_at}
@@ -20,6 +20,7 @@ module _ {A : Type 0} where
   touched-looks after before (Add k v ∷ cs) h = absurd (cc)
   touched-looks after before (Del k ∷ cs) h = absurd (cc)
   touched-looks after before (Scan lo hi limit ∷ cs) h = touched-looks after before cs h
+  touched-looks after before (Wipe lo hi ∷ cs) h = absurd (cc)
 
   -- commands that only look come to no run, whatever the map
   pub net_run-looks : (m : Pairs) (cs : List (Command A)) → list_all is_look cs ≡ true → net_run m cs ≡ []

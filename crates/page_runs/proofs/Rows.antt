@@ -4,10 +4,11 @@ use Rattle.std.specs.Prelude.{◌≡◌, ℕ, List, [], ◌∷◌, Option, None,
 use Rattle.std.proofs.Common.{refl}
 use Rattle.keys.specs.Step.{replies_to}
 use Rattle.keys.specs.declared.command.Command.{Command}
-use Rattle.keys.specs.declared.command.Command.TheVariants.{Put, Add, Del}
-use Rattle.keys.specs.declared.command.Reply.TheVariants.{New, Deleted, Rows}
+use Rattle.keys.specs.declared.command.Command.TheVariants.{Put, Add, Del, Scan, Wipe}
+use Rattle.keys.specs.declared.command.Reply.{Reply}
+use Rattle.keys.specs.declared.command.Reply.TheVariants.{New, Deleted, Missing, Rows, Wiped}
 use Rattle.keys.specs.declared.settings.Settings.{Settings}
-use Rattle.keys.proofs.Literals.{S, a, b, c, d, e, ca, row_2, row_8}
+use Rattle.keys.proofs.Literals.{S, a, b, c, d, e, ca, row_2, row_8, row_w1}
 use Rattle.delta_chain.specs.Layers.{Layers, entries_of, depth_of}
 use Rattle.page_runs.specs.AfterRun.{after_run, class_after}
 use Rattle.page_runs.specs.NetRun.{net_run}
@@ -32,6 +33,9 @@ run_on p cs = net_run (entries_of p) cs
 
 abbrev page_after : Page → Commands → Page
 page_after p cs = after_run S p (run_on p cs)
+
+abbrev answers_on : Page → Commands → List (Reply ℕ)
+answers_on p cs = replies_to (entries_of p) cs
 
 abbrev class_then : Page → Commands → Class
 class_then p cs = class_after S p (run_on p cs)
@@ -146,3 +150,49 @@ row_8_run = refl
 
 row_8_page : page_after from_c row_8 ≡ record { runs = ((c, None) ∷ (ca, Some (57 ∷ [])) ∷ []) ∷ []; base = from_c.base }
 row_8_page = refl
+
+-- row W1: of a wipe of b to d the leaf before c has b absent
+abbrev left_leaf : Page
+left_leaf = record { runs = []; base = (a, 49 ∷ []) ∷ (b, 50 ∷ []) ∷ [] }
+
+row_w1_left : run_on left_leaf (Wipe b (Some d) ∷ Scan [] None 10 ∷ []) ≡ (b, None) ∷ []
+row_w1_left = refl
+
+row_w1_left_replies : answers_on left_leaf (Wipe b (Some d) ∷ Scan [] None 10 ∷ []) ≡ Wiped 1 ∷ Rows ((a, 49 ∷ []) ∷ []) ∷ []
+row_w1_left_replies = refl
+
+-- and the leaf from c on what was put behind the wipe, and absent what was put before it
+abbrev right_leaf : Page
+right_leaf = record { runs = []; base = (c, 51 ∷ []) ∷ (d, 52 ∷ []) ∷ (e, 53 ∷ []) ∷ [] }
+
+row_w1_right : run_on right_leaf row_w1 ≡ (c, Some (55 ∷ [])) ∷ (ca, None) ∷ []
+row_w1_right = refl
+
+row_w1_right_replies : answers_on right_leaf row_w1 ≡ New ∷ Wiped 2 ∷ Missing ∷ New ∷ Rows ((c, 55 ∷ []) ∷ (d, 52 ∷ []) ∷ (e, 53 ∷ []) ∷ []) ∷ []
+row_w1_right_replies = refl
+
+-- row W2: a leaf of which everything goes has depth 1, and the second time it stays as it is
+abbrev wiped_leaf : Page
+wiped_leaf = page_after right_leaf (Wipe [] None ∷ [])
+
+row_w2_depth : depth_of wiped_leaf ≡ 1
+row_w2_depth = refl
+
+row_w2_page : wiped_leaf ≡ record { runs = ((c, None) ∷ (d, None) ∷ (e, None) ∷ []) ∷ []; base = (c, 51 ∷ []) ∷ (d, 52 ∷ []) ∷ (e, 53 ∷ []) ∷ [] }
+row_w2_page = refl
+
+row_w2_run : run_on wiped_leaf (Wipe [] None ∷ []) ≡ []
+row_w2_run = refl
+
+row_w2_class : class_then wiped_leaf (Wipe [] None ∷ []) ≡ Same
+row_w2_class = refl
+
+-- a key that was put and deleted before it isn't counted, and none is absent that was never there
+put_and_gone : answers_on left_leaf (Put d (49 ∷ []) ∷ Del d ∷ Wipe b None ∷ []) ≡ New ∷ Deleted ∷ Wiped 1 ∷ []
+put_and_gone = refl
+
+put_and_gone_run : run_on left_leaf (Put d (49 ∷ []) ∷ Del d ∷ Wipe b None ∷ []) ≡ (b, None) ∷ (d, None) ∷ []
+put_and_gone_run = refl
+
+nothing_there : run_on left_leaf (Wipe c None ∷ []) ≡ []
+nothing_there = refl

@@ -1,29 +1,43 @@
 -- The commands of a batch that are on some of the keys, taken by themselves.
-use Rattle.std.specs.Prelude.{◌≡◌, Bool, true, false, List, [], ◌∷◌, Option, Some, None, if◌then◌else◌}
+use Rattle.std.specs.Prelude.{◌≡◌, Bool, true, false, ◌&&◌, List, [], ◌∷◌, Option, Some, None, if◌then◌else◌}
 use Rattle.std.specs.Option.{option_map_or}
 use Rattle.std.specs.Ordering.{is_eq}
 use Rattle.keys.specs.Bytes.{Bytes, Pairs}
+use Rattle.keys.specs.Footprint.{Span, One, Range, Deed, Looks, Gives, Takes, span_of, deed_of, is_in_span}
 use Rattle.keys.specs.Order.{order}
 use Rattle.keys.specs.OrderedMap.{value_at}
+use Rattle.keys.specs.Range.{is_within}
 use Rattle.keys.specs.declared.command.Command.{Command}
-use Rattle.keys.specs.declared.command.Command.TheVariants.{Get, Put, Add, Del, Scan}
 use Rattle.keys.specs.declared.command.Reply.{Reply}
 
--- whether the command is on the key; a scan is on none
+-- whether a deed on a span is on the key; a look at a range is on none
+abbrev pub is_on : Span → Deed → Bytes → Bool
+is_on (One k) deed q = is_eq (order q k)
+is_on (Range lo hi) Looks q = false
+is_on (Range lo hi) deed q = is_within lo hi q
+
+-- whether the command is on the key; a scan is on none, and a wipe on each of its range
 abbrev pub is_on_key : {A : Type 0} → Command A → Bytes → Bool
-is_on_key (Get k) q = is_eq (order q k)
-is_on_key (Put k v) q = is_eq (order q k)
-is_on_key (Add k v) q = is_eq (order q k)
-is_on_key (Del k) q = is_eq (order q k)
-is_on_key (Scan lo hi limit) q = false
+is_on_key c q = is_on (span_of c) (deed_of c) q
+
+-- the key of a span of one key
+abbrev pub single_of : Span → Option Bytes
+single_of (One k) = Some k
+single_of (Range lo hi) = None
 
 -- the key of a command on one key
 abbrev pub single_key : {A : Type 0} → Command A → Option Bytes
-single_key (Get k) = Some k
-single_key (Put k v) = Some k
-single_key (Add k v) = Some k
-single_key (Del k) = Some k
-single_key (Scan lo hi limit) = None
+single_key c = single_of (span_of c)
+
+-- whether a deed may give keys values
+abbrev pub is_giving : Deed → Bool
+is_giving Looks = false
+is_giving (Gives v) = true
+is_giving Takes = false
+
+-- whether the command may give the key a value
+abbrev pub gives_key : {A : Type 0} → Command A → Bytes → Bool
+gives_key c q = is_giving (deed_of c) && is_in_span (span_of c) q
 
 -- whether the command is on one key, and that is one of these
 abbrev pub is_on_one : {A : Type 0} → (Bytes → Bool) → Command A → Bool
@@ -44,6 +58,14 @@ TakesAll {A} is_own is_taken = (c : Command A) → is_taken c ≡ false → IsOf
 -- no command on another key is taken
 abbrev pub TakesNoOther : {A : Type 0} → (Bytes → Bool) → (Command A → Bool) → Type 0
 TakesNoOther {A} is_own is_taken = (c : Command A) → is_taken c ≡ true → IsWithin is_own c
+
+-- no command that gives another key a value is taken
+abbrev pub GivesNoOther : {A : Type 0} → (Bytes → Bool) → (Command A → Bool) → Type 0
+GivesNoOther {A} is_own is_taken = (c : Command A) → is_taken c ≡ true → (q : Bytes) → is_own q ≡ false → gives_key c q ≡ false
+
+-- the map has none but these keys
+abbrev pub HasNoOther : (Bytes → Bool) → Pairs Bytes → Type 0
+HasNoOther is_own x = (q : Bytes) → is_own q ≡ false → value_at q x ≡ None
 
 -- of replies to commands, those to the commands that pass
 abbrev pub replies_where : {A : Type 0} → (Command A → Bool) → List (Command A) → List (Reply A) → List (Reply A)

@@ -1,23 +1,31 @@
 -- The net run of a list of commands: what they come to, key by key.
 use Rattle.std.specs.Prelude.{List, [], ◌∷◌, is_some, if◌then◌else◌}
 use Rattle.keys.specs.Bytes.{Bytes, Pairs, Changes}
+use Rattle.std.specs.Map.{keys_of}
 use Rattle.keys.specs.OrderedMap.{value_at, with_pair}
+use Rattle.keys.specs.Range.{in_range}
 use Rattle.keys.specs.Step.{map_after, map_after_all}
 use Rattle.keys.specs.declared.command.Command.{Command}
-use Rattle.keys.specs.declared.command.Command.TheVariants.{Get, Put, Add, Del, Scan}
+use Rattle.keys.specs.declared.command.Command.TheVariants.{Get, Put, Add, Del, Scan, Wipe}
 
 -- a run with the key in it, at its value in this map, or absent
 abbrev pub noted : {V : Type 0} → Pairs V → Changes V → Bytes → Changes V
 noted after run k = with_pair run k (value_at k after)
 
--- a run with the command's key noted, where the command touches it: a Put always, an Add where the map before it
--- lacks the key, a Del where the map before it has the key
+-- a run with each of these keys noted
+abbrev pub noted_all : {V : Type 0} → Pairs V → Changes V → List Bytes → Changes V
+noted_all after run [] = run
+noted_all after run (k ∷ ks) = noted_all after (noted after run k) ks
+
+-- a run with the command's keys noted, where the command touches them: a Put its key always, an Add where the map before it
+-- lacks the key, a Del where the map before it has the key, a Wipe each key of its range that the map before it has
 abbrev pub noted_by : {A : Type 0} → Pairs Bytes → Pairs Bytes → Command A → Changes Bytes → Changes Bytes
 noted_by after before (Get k) run = run
 noted_by after before (Put k v) run = noted after run k
 noted_by after before (Add k v) run = if is_some (value_at k before) then run else noted after run k
 noted_by after before (Del k) run = if is_some (value_at k before) then noted after run k else run
 noted_by after before (Scan lo hi limit) run = run
+noted_by after before (Wipe lo hi) run = noted_all after run (keys_of (in_range lo hi before))
 
 -- the touched keys, each with its value or absence in the map after all the commands
 abbrev pub touched : {A : Type 0} → Pairs Bytes → Pairs Bytes → List (Command A) → Changes Bytes

@@ -1,9 +1,9 @@
 -- Commands that only look, and what a leaf answers to them.
-use Rattle.std.specs.Prelude.{Bool, true, false, ⊤, List, [], Option, Some, None}
+use Rattle.std.specs.Prelude.{Bool, ⊤, List, [], Option, Some, None}
 use Rattle.std.specs.List.{list_all}
 use Rattle.std.specs.declared.alloc.Global.{Global}
+use Rattle.keys.specs.Footprint.{deed_of, is_looking}
 use Rattle.keys.specs.declared.command.Command.{Command}
-use Rattle.keys.specs.declared.command.Command.TheVariants.{Get, Put, Add, Del, Scan}
 use Rattle.keys.specs.declared.piece.Piece.{Piece}
 use Rattle.index_page.specs.Page.{PageOfKind}
 use Rattle.index_page.specs.Page.PageOfKind.{Leaf, Index}
@@ -15,11 +15,7 @@ use Rattle.page_runs.specs.Replies.{commands_at, ArePlacesOf}
 
 -- whether the command leaves every map as it is
 abbrev pub is_look : {A : Type 0} → Command A → Bool
-is_look (Get k) = true
-is_look (Put k v) = false
-is_look (Add k v) = false
-is_look (Del k) = false
-is_look (Scan lo hi limit) = true
+is_look c = is_looking (deed_of c)
 
 -- whether a page's commands all do
 abbrev pub is_only_read : {A : Type 0} → List (Command A) → Route → Bool

@@ -1,13 +1,19 @@
 -- A page while commands are replayed on it.
-use Rattle.std.specs.Prelude.{ℕ, ◌+◌, ◌-◌}
-use Rattle.keys.specs.Bytes.{Pairs, Changes}
+use Rattle.std.specs.Prelude.{ℕ, ◌+◌, ◌-◌, List, [], ◌∷◌, None}
+use Rattle.keys.specs.Bytes.{Bytes, Pairs, Changes}
+use Rattle.keys.specs.OrderedMap.{with_pair}
 use Rattle.keys.specs.declared.command.Reply.{Reply}
-use Rattle.keys.specs.declared.command.Reply.TheVariants.{Value, Missing, New, Replaced, Added, Exists, Deleted, Rows}
+use Rattle.keys.specs.declared.command.Reply.TheVariants.{Value, Missing, New, Replaced, Added, Exists, Deleted, Rows, Wiped}
 use Rattle.delta_chain.specs.Layers.{Layers, with_run, entries_of}
 
 -- the map by now: the page's entries with the changes so far
 abbrev pub map_by_now : {V : Type 0} → Layers V → Changes V → Pairs V
 map_by_now p changes = with_run (entries_of p) changes
+
+-- changes with each of these keys absent
+abbrev pub with_absent : {V : Type 0} → Changes V → List Bytes → Changes V
+with_absent changes [] = changes
+with_absent changes (k ∷ ks) = with_absent (with_pair changes k None) ks
 
 -- how many entries there are after a command, from how many were before it and its reply
 abbrev pub entries_after : {A : Type 0} → ℕ → Reply A → ℕ
@@ -19,3 +25,4 @@ entries_after n Added = n + 1
 entries_after n Exists = n
 entries_after n Deleted = n - 1
 entries_after n (Rows rows) = n
+entries_after n (Wiped count) = n - count

@@ -32,7 +32,7 @@ const FEW: usize = 32;
 #[derive(Drop)]
 pub(crate) struct Changes {
     kept: KeptChanges,
-    // How many commands may change a key: there are no more changes.
+    // How many commands may change a key. There are no more changes, but for those of wipes, each of which counts as one.
     writes: usize,
 }
 
@@ -131,6 +131,18 @@ impl Changes {
             Some(value) => Some(value.copy(alloc)?),
             None => None,
         };
+        self.set(alloc, key, change)
+    }
+
+    /// The same of a key and a value that it takes.
+    pub(crate) fn set(
+        &mut self,
+        alloc: Global,
+        key: Key<Global>,
+        change: Option<Value<Global>>,
+    ) -> Result<(), AllocError>
+        ensures { OnOk result (self.new ≡ with_pair self.old key change) }
+    {
         let room = self.writes.min(FEW);
         match &mut self.kept {
             KeptChanges::Few(run) => {
@@ -187,13 +199,22 @@ fn count_writes(commands: &[Command<Global>], places: &[usize]) -> usize {
     writes
 }
 
-// Whether each command's key is above that of the one before. It decides how the changes are kept, and nothing else.
+// Whether each command's key is above that of the one before, and none is a wipe, whose keys may be many and lie anywhere. It decides
+// how the changes are kept, and nothing else.
 fn do_rise(commands: &[Command<Global>], places: &[usize]) -> bool {
     for at in 1..places.len() {
         match (commands.get(places[at - 1]), commands.get(places[at])) {
-            (Some(one), Some(next)) if one.key().cmp(next.key()).is_lt() => {}
+            (Some(one), Some(next)) if does_rise(one, next) => {}
             _ => return false,
         }
     }
     true
+}
+
+// Whether the second of two commands goes on above the first.
+fn does_rise(one: &Command<Global>, next: &Command<Global>) -> bool {
+    match next {
+        Command::Wipe(_, _) => false,
+        _ => one.key().cmp(next.key()).is_lt(),
+    }
 }

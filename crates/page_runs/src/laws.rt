@@ -1,14 +1,14 @@
 //! What the definitions of `specs/` mean. Each law is the contract of a function with an empty body.
-ghost use Rattle.std.specs.Prelude.{◌≡◌, ℕ, Bool, true, false, if◌then◌else◌, List, [], flat_map, take, Option, Some, None};
-ghost use Rattle.std.specs.List.{filter};
+ghost use Rattle.std.specs.Prelude.{◌≡◌, ℕ, Bool, true, false, if◌then◌else◌, length, List, [], flat_map, take, Option, Some, None};
+ghost use Rattle.std.specs.List.{filter, sum_by};
 ghost use Rattle.keys.specs.Bytes.{Bytes, Pairs, Changes};
-ghost use Rattle.keys.specs.CommandKey.{is_scan};
+ghost use Rattle.keys.specs.CommandKey.{is_ranged};
 ghost use Rattle.keys.specs.Order.{IsRising};
 ghost use Rattle.keys.specs.OrderedMap.{value_at};
 ghost use Rattle.keys.specs.Range.{in_range, rows};
 ghost use Rattle.keys.specs.Step.{reply_to, map_after, replies_to, map_after_all};
 ghost use Rattle.keys.specs.declared.command.Command.{Command};
-ghost use Rattle.keys.specs.declared.command.Command.TheVariants.{Scan};
+ghost use Rattle.keys.specs.declared.command.Command.TheVariants.{Scan, Wipe};
 ghost use Rattle.keys.specs.declared.settings.Settings.{Settings};
 ghost use Rattle.delta_chain.specs.Layers.{Layers, with_run, entries_of, IsInOrder};
 ghost use Rattle.mapping.specs.Levels.{Placed};
@@ -16,7 +16,7 @@ ghost use Rattle.mapping.specs.Proper.{next_low, Tiled};
 ghost use Rattle.routing.specs.Routes.{goes_to, ranges};
 ghost use Rattle.page_runs.specs.AfterRun.{after_run};
 ghost use Rattle.page_runs.specs.NetRun.{net_run};
-ghost use Rattle.page_runs.specs.Apart.{single_key, is_on_one, IsOff, IsWithin, TakesAll, TakesNoOther, replies_where, AgreeOn};
+ghost use Rattle.page_runs.specs.Apart.{single_key, is_on_one, IsOff, IsWithin, TakesAll, TakesNoOther, GivesNoOther, HasNoOther, replies_where, AgreeOn};
 
 use std::alloc::Allocator;
 
@@ -35,7 +35,8 @@ pub fn a_page_after_a_run_has_the_run_applied<V>()
 /// The commands on some of the keys can be worked by themselves, on any map that agrees with the whole one on these
 /// keys; further commands may be taken along. The commands on one of these keys get the replies that they get among all
 /// commands, and where they alone are taken there are no others. All leave the same at these keys, and their net run says
-/// of these keys what the net run of all commands says; where no command on another key is taken, it names no other key.
+/// of these keys what the net run of all commands says; where no command on another key is taken, it names no other key, and so it
+/// is where the map has no other key and no command that gives one a value is taken.
 /// A command on one key is on these keys alone or wholly off them, as its key is.
 pub fn commands_on_some_keys_are_worked_apart<A: Allocator>()
     ensures replies { (is_own : Bytes → Bool) (is_taken : Command A → Bool) (m x : Pairs Bytes) (cs : List (Command A)) →
@@ -52,17 +53,23 @@ pub fn commands_on_some_keys_are_worked_apart<A: Allocator>()
     ensures no_other { (is_own : Bytes → Bool) (is_taken : Command A → Bool) (x : Pairs Bytes) (cs : List (Command A)) (k : Bytes) →
         TakesNoOther is_own is_taken → is_own k ≡ false →
         value_at k (net_run x (filter is_taken cs)) ≡ None }
+    ensures no_other_there { (is_own : Bytes → Bool) (is_taken : Command A → Bool) (x : Pairs Bytes) (cs : List (Command A)) (k : Bytes) →
+        GivesNoOther is_own is_taken → HasNoOther is_own x → IsRising x → is_own k ≡ false →
+        value_at k (net_run x (filter is_taken cs)) ≡ None }
     ensures within { (is_own : Bytes → Bool) (c : Command A) (k : Bytes) → single_key c ≡ Some k → is_own k ≡ true → IsWithin is_own c }
     ensures off { (is_own : Bytes → Bool) (c : Command A) (k : Bytes) → single_key c ≡ Some k → is_own k ≡ false → IsOff is_own c }
 {}
 
 /// What a command leaves within a page's range is what it leaves of the page's own pairs, where it goes to the page; a command
-/// on a key gets its page's answer; and a scan's rows are those of its pages, joined in their order and cut at the limit.
+/// on a key gets its page's answer; a scan's rows are those of its pages, joined in their order and cut at the limit; and a wipe
+/// takes as many pairs as its pages take, together.
 pub fn each_page_answers_its_part<V, A: Allocator>()
     ensures map { (low : Bytes) (end : Option Bytes) (m : Pairs Bytes) (c : Command A) → IsRising m →
         in_range low end (map_after m c) ≡ (if goes_to low end c then map_after (in_range low end m) c else in_range low end m) }
-    ensures reply { (low : Bytes) (end : Option Bytes) (m : Pairs Bytes) (c : Command A) → IsRising m → is_scan c ≡ false → goes_to low end c ≡ true →
+    ensures reply { (low : Bytes) (end : Option Bytes) (m : Pairs Bytes) (c : Command A) → IsRising m → is_ranged c ≡ false → goes_to low end c ≡ true →
         reply_to (in_range low end m) c ≡ reply_to m c }
     ensures rows { (level : List (Placed V)) (m : Pairs Bytes) (lo : Bytes) (hi : Option Bytes) (limit : ℕ) → next_low level None ≡ Some [] → Tiled level None → IsRising m →
         take limit (flat_map (λ at. if goes_to {A = A} at.low at.end (Scan lo hi limit) then rows lo hi limit (in_range at.low at.end m) else []) (ranges level)) ≡ rows lo hi limit m }
+    ensures counts { (level : List (Placed V)) (m : Pairs Bytes) (lo : Bytes) (hi : Option Bytes) → next_low level None ≡ Some [] → Tiled level None → IsRising m →
+        sum_by (λ at. if goes_to {A = A} at.low at.end (Wipe lo hi) then length (in_range lo hi (in_range at.low at.end m)) else 0) (ranges level) ≡ length (in_range lo hi m) }
 {}

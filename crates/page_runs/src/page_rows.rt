@@ -1,5 +1,6 @@
-//! The rows of a scan on one page: the page's pairs and the changes so far are gone through together, in key order.
+//! The rows of a scan and the keys of a wipe on one page: the page's pairs and the changes so far are gone through together, in key order.
 ghost use Rattle.std.specs.Prelude.{◌≡◌, ◌∷◌, [], None, IfOk, MatchOption};
+ghost use Rattle.std.specs.Map.{keys_of};
 ghost use Rattle.std.specs.Iterator.{YieldsFirstBy, item_count};
 ghost use Rattle.keys.specs.Order.{IsRising};
 ghost use Rattle.keys.specs.Range.{is_before, in_range, rows};
@@ -40,6 +41,32 @@ pub(crate) fn rows_of(
         }
     }
     Ok(rows)
+}
+
+/// The keys of the range on the page with the changes so far: those that are `low` or above, and below `end` where there is one, each
+/// copied. It takes about as many steps as there are keys and changes in the range.
+#[inline(never)]
+pub(crate) fn keys_within(
+    alloc: Global,
+    page: &LeafChain,
+    changes: &Changes,
+    low: &Key<Global>,
+    end: &Option<Key<Global>>,
+) -> Result<Vec<Key<Global>>, AllocError>
+    requires { IsInOrder page.now }
+    ensures { IfOk result (λ keys. keys.items ≡ keys_of (in_range low.now end.now (map_by_now page.now changes.now))) }
+{
+    let mut keys = Vec::new(alloc);
+    for (key, value) in NamedKeys::new(alloc, page, changes, low) {
+        if !is_before_end(end, key) {
+            break;
+        }
+        if value.is_some() {
+            let copy = Key::from_bytes(alloc, key)?;
+            keys.push(copy)?;
+        }
+    }
+    Ok(keys)
 }
 
 // Whether the key is below the end; each is where there is none.

@@ -96,7 +96,7 @@ impl<'a> Work for ReadWork<'a> {
     }
 }
 
-/// Whether the commands of this run only look, so that they leave the page as it is: gets and scans.
+/// Whether the commands of this run only look, so that they leave the page as it is: gets and scans, and no wipe.
 pub fn is_only_read(commands: &[Command<Global>], page_run: &PageRun) -> bool
     ensures { result ≡ is_only_read commands.now page_run.now }
 {

@@ -1,22 +1,24 @@
 //! The commands of one page, replayed in the order of their places. What they have changed so far lies over the page
 //! like a run, and in the end it is the net run.
 ghost use Rattle.std.specs.Prelude.{◌≡◌, ◌≤◌, length, min, Some, None, is_some, if◌then◌else◌, IfOk, OnOk};
+ghost use Rattle.std.specs.Map.{keys_of};
 ghost use Rattle.keys.specs.OrderedMap.{value_at, with_pair};
+ghost use Rattle.keys.specs.Range.{in_range};
 ghost use Rattle.keys.specs.Step.{found, reply_to, map_after, replies_to};
-ghost use Rattle.keys.specs.declared.command.Reply.TheVariants.{New, Replaced, Added, Exists, Deleted, Missing};
+ghost use Rattle.keys.specs.declared.command.Reply.TheVariants.{New, Replaced, Added, Exists, Deleted, Missing, Wiped};
 ghost use Rattle.delta_chain.specs.Layers.{entries_of, IsInOrder};
 ghost use Rattle.page_runs.specs.NetRun.{noted_by, net_run};
-ghost use Rattle.page_runs.specs.Replay.{map_by_now, entries_after};
+ghost use Rattle.page_runs.specs.Replay.{map_by_now, with_absent, entries_after};
 ghost use Rattle.page_runs.specs.Replies.{commands_at, pieces_of, ArePlacesOf};
 
 use crate::changes::{Changes, LeafChain, LeafRun};
-use crate::page_rows::rows_of;
+use crate::page_rows::{keys_within, rows_of};
 use keys::{Command, Key, Piece, Pieces, Reply, Value};
 use std::alloc::{AllocError, Global};
 
 /// The net run of the commands at these places on the page, what the page answers to each of them, and a number of
 /// entries that it has at least after them: what the page knew before, one more for each reply that tells of a new
-/// entry, and one less for each that tells of a deleted one.
+/// entry, and one less for each that tells of a deleted one, and as many as were wiped.
 pub(crate) fn replay(
     alloc: Global,
     commands: &[Command<Global>],
@@ -52,6 +54,7 @@ fn entries_after(before: usize, reply: &Reply<Global>) -> usize
         Reply::New => before.saturating_add(1),
         Reply::Added => before.saturating_add(1),
         Reply::Deleted => before.saturating_sub(1),
+        Reply::Wiped(count) => (before as u128).saturating_sub(*count) as usize,
         _ => before,
     }
 }
@@ -77,6 +80,7 @@ fn execute(
             let rows = rows_of(alloc, page, changes, low, end, *limit)?;
             Ok(Reply::Rows(rows))
         }
+        Command::Wipe(low, end) => wipe(alloc, page, changes, low, end),
     }
 }
 
@@ -147,4 +151,36 @@ fn del(
     }
     changes.note(alloc, key, None)?;
     Ok(Reply::Deleted)
+}
+
+// Takes away the keys of a range. They are listed before any is noted, so that each is looked for once.
+fn wipe(
+    alloc: Global,
+    page: &LeafChain,
+    changes: &mut Changes,
+    low: &Key<Global>,
+    end: &Option<Key<Global>>,
+) -> Result<Reply<Global>, AllocError>
+    requires { IsInOrder page.now }
+    ensures reply { IfOk result (λ reply. reply ≡ Wiped (length (in_range low.now end.now (map_by_now page.now changes.old)))) }
+    ensures changes { OnOk result (changes.new ≡ with_absent changes.old (keys_of (in_range low.now end.now (map_by_now page.now changes.old)))) }
+{
+    let keys = keys_within(alloc, page, changes, low, end)?;
+    let count = keys.len() as u128;
+    note_absent(alloc, changes, keys)?;
+    Ok(Reply::Wiped(count))
+}
+
+// Notes that these keys are absent.
+fn note_absent(
+    alloc: Global,
+    changes: &mut Changes,
+    keys: Vec<Key<Global>>,
+) -> Result<(), AllocError>
+    ensures { OnOk result (changes.new ≡ with_absent changes.old keys.items) }
+{
+    for key in keys {
+        changes.set(alloc, key, None)?;
+    }
+    Ok(())
 }

@@ -1,4 +1,6 @@
 -- Lemmas on pieces that are added at their places.
+use Rattle.std.specs.Prelude.{min}
+use Rattle.std.specs.List.{sum_by}
 use Rattle.std.proofs.Common.{◌≡◌, ℕ, zero, suc, ◌+◌, ◌<◌, ◌≤◌, ◌==◌, Bool, true, false, cond, List, [], ◌∷◌, ◌++◌, Option, Some, None, length, map, flat_map, set, get_or, slice_get, take, drop, append_assoc, refl, ap, subst, sym, ◌∙◌, inl, inr, arith}
 use Rattle.std.specs.List.{All}
 use Rattle.std.specs.Option.{option_map}
@@ -6,16 +8,18 @@ use Rattle.std.proofs.lemmas.Bool.{eqb-true, eqb-false, eq-eqb, cond-true}
 use Rattle.std.proofs.lemmas.Grind.{common_steps}
 use Rattle.std.proofs.lemmas.List.{length-append, length-map, length-set, append-nil, take-append-drop, take_at, drop_more, drop_at}
 use Rattle.std.proofs.lemmas.List.Elements.{All-head, All-tail, All-rest, All-take, All-drop, All-nil, All-cons, All-filter, filter_passes, filter-append}
+use Rattle.std.proofs.lemmas.List.Sums.{sum_by-cons}
 use Rattle.std.proofs.lemmas.Option.{gets, none-some, same_Some, slice_get_past, slice_get_cases, slice_get-get_or, slice_get-map, slice_get_read, get_or_from_slice_get}
-use Rattle.keys.specs.CommandKey.{is_scan}
+use Rattle.keys.specs.CommandKey.{is_ranged, is_scan, is_wipe}
+use Rattle.keys.specs.Footprint.{Joining, Alone, RowsUpTo, Summed, joining_of, is_of_rows, is_of_counts}
 use Rattle.keys.specs.Lists.{flat}
-use Rattle.keys.specs.Places.{is_some_that, is_scan_at}
+use Rattle.keys.specs.Places.{is_some_that, is_scan_at, is_wipe_at, is_ranged_at}
 use Rattle.keys.specs.declared.command.Command.{Command}
-use Rattle.keys.specs.declared.command.Command.TheVariants.{Get, Put, Add, Del, Scan}
+use Rattle.keys.specs.declared.command.Command.TheVariants.{Scan, Wipe}
 use Rattle.keys.specs.declared.command.Reply.{Reply}
-use Rattle.keys.specs.declared.command.Reply.TheVariants.{Missing, Rows}
+use Rattle.keys.specs.declared.command.Reply.TheVariants.{Missing, Rows, Wiped}
 use Rattle.keys.specs.declared.piece.Piece.{Piece}
-use Rattle.replies.specs.ByPlace.{pieces_at, rows_of, is_rows, lone, joined_replies, joined_replies_at, reply_at, IsPlaceOf, AreAnswers, limit_of, limit_by, blank_of, with_answer, with_pieces}
+use Rattle.replies.specs.ByPlace.{pieces_at, rows_of, is_rows, count_of, is_count, most_counted, lone, joined_by, joined_replies, joined_replies_at, reply_at, IsPlaceOf, AreAnswers, limit_in, limit_of, limit_by, blank_in, blank_of, with_answer, with_pieces}
 
 -- ---- lists
 
@@ -42,6 +46,10 @@ module _ {X : Type 0} where
   take_front zero xs ys = refl
   take_front (suc n) [] ys = refl
   take_front (suc n) (x ∷ xs) ys = ap (λ (zs : List X). x ∷ zs) (take_front n xs ys)
+
+-- a sum that was cut, with more added and cut again
+min_twice : (n m most : ℕ) → min (min n most + m) most ≡ min (n + m) most
+min_twice n m most = omega arith
 
 -- ---- one piece more
 
@@ -137,9 +145,18 @@ module _ {A : Type 0} where
   all_rows (Rows rows) h = refl
   all_rows _ h = absurd (cc)
 
-  goes_over : (limit : ℕ) (at r : Reply A) → is_rows r ≡ false → with_answer limit at r ≡ r
-  goes_over limit at (Rows rows) h = absurd (cc)
-  goes_over limit at _ h = refl
+  -- the answer is one to a wipe, or is not
+  abbrev IsCounted : Bool → Reply A → Type 0
+  IsCounted b r = is_count r ≡ b
+
+  all_counted : (r : Reply A) → is_count r ≡ true → r ≡ Wiped (count_of r)
+  all_counted (Wiped count) h = refl
+  all_counted _ h = absurd (cc)
+
+  goes_over : (limit : ℕ) (at r : Reply A) → is_rows r ≡ false → is_count r ≡ false → with_answer limit at r ≡ r
+  goes_over limit at (Rows rows) h n = absurd (cc)
+  goes_over limit at (Wiped count) h n = absurd (cc)
+  goes_over limit at _ h n = refl
 
   -- rows to a scan come to the first so many of them all
   added-rows : (limit : ℕ) (xs : List (List ℕ × List ℕ)) (rs : List (Reply A)) → All (IsOfKind true) rs → added limit (Some (Rows (take limit xs))) rs ≡ Some (Rows (take limit (xs ++ flat_map rows_of rs)))
@@ -152,32 +169,51 @@ module _ {A : Type 0} where
       ∙ added-rows limit (xs ++ rows_of r) rs (All-tail (IsOfKind true) r rs h)
       ∙ ap (λ (ys : List (List ℕ × List ℕ)). Some (Rows (take limit ys))) (append_assoc xs (rows_of r) (flat_map rows_of rs))
 
-  -- one answer to another command is the reply
-  added-one : (limit : ℕ) (at : Reply A) (rs : List (Reply A)) → All (IsOfKind false) rs → length rs ≡ 1 → added limit (Some at) rs ≡ lone rs
+  -- counts to a wipe come to their sum, as far as there is a number for it
+  added-counts : (limit n : ℕ) (rs : List (Reply A)) → All (IsCounted true) rs → added limit (Some (Wiped (min n most_counted))) rs ≡ Some (Wiped (min (n + sum_by count_of rs) most_counted))
   unfolding added
-  added-one limit at [] h one = absurd (omega arith)
-  added-one limit at (r ∷ []) h one = ap (λ (x : Reply A). Some x) (goes_over limit at r (All-head (IsOfKind false) r [] h))
-  added-one limit at (r ∷ (q ∷ rs)) h one = absurd (omega arith)
+  added-counts limit n [] h = ap (λ (m : ℕ). Some (Wiped (min m most_counted))) (omega arith)
+  added-counts limit n (r ∷ rs) h =
+      let first : r ≡ Wiped (count_of r) = all_counted r (All-head (IsCounted true) r rs h) in
+      let now : with_answer limit (Wiped (min n most_counted)) r ≡ Wiped (min (n + count_of r) most_counted) = ap (with_answer limit (Wiped (min n most_counted))) first ∙ ap (λ (m : ℕ). Wiped m) (min_twice n (count_of r) most_counted) in
+      ap (λ (at : Reply A). added limit (Some at) rs) now
+      ∙ added-counts limit (n + count_of r) rs (All-tail (IsCounted true) r rs h)
+      ∙ ap (λ (m : ℕ). Some (Wiped (min m most_counted))) (let sum = sum_by-cons count_of r rs in omega (arith, sum))
 
-  by_command : (c : Command A) (rs : List (Reply A)) → All (IsOfKind (is_scan c)) rs → (is_scan c ≡ false → length rs ≡ 1) → added (limit_of c) (Some (blank_of c)) rs ≡ joined_replies c rs
-  by_command (Get k) rs h one = added-one 0 Missing rs h (one refl)
-  by_command (Put k v) rs h one = added-one 0 Missing rs h (one refl)
-  by_command (Add k v) rs h one = added-one 0 Missing rs h (one refl)
-  by_command (Del k) rs h one = added-one 0 Missing rs h (one refl)
-  by_command (Scan lo hi limit) rs h one = ap (λ (xs : List (List ℕ × List ℕ)). added limit (Some (Rows xs)) rs) (sym (nothing_first limit)) ∙ added-rows limit [] rs h
+  -- one answer to another command is the reply
+  added-one : (limit : ℕ) (at : Reply A) (rs : List (Reply A)) → All (IsOfKind false) rs → All (IsCounted false) rs → length rs ≡ 1 → added limit (Some at) rs ≡ lone rs
+  unfolding added
+  added-one limit at [] h n one = absurd (omega arith)
+  added-one limit at (r ∷ []) h n one = ap (λ (x : Reply A). Some x) (goes_over limit at r (All-head (IsOfKind false) r [] h) (All-head (IsCounted false) r [] n))
+  added-one limit at (r ∷ (q ∷ rs)) h n one = absurd (omega arith)
+
+  by_joining : (j : Joining) (rs : List (Reply A)) → All (IsOfKind (is_of_rows j)) rs → All (IsCounted (is_of_counts j)) rs → (is_of_rows j ≡ false → is_of_counts j ≡ false → length rs ≡ 1)
+      → added (limit_in j) (Some (blank_in j)) rs ≡ joined_by j rs
+  by_joining Alone rs h n one = added-one 0 Missing rs h n (one refl refl)
+  by_joining (RowsUpTo limit) rs h n one = ap (λ (xs : List (List ℕ × List ℕ)). added limit (Some (Rows xs)) rs) (sym (nothing_first limit)) ∙ added-rows limit [] rs h
+  by_joining Summed rs h n one =
+      let none : 0 ≡ min 0 most_counted = omega arith in
+      let all : 0 + sum_by (count_of {A = A}) rs ≡ sum_by (count_of {A = A}) rs = omega arith in
+      ap (λ (m : ℕ). added 0 (Some (Wiped m)) rs) none ∙ added-counts 0 0 rs n ∙ ap (λ (m : ℕ). Some (Wiped (min m most_counted))) all
+
+  -- what is answered neither with rows nor with a count is on one key
+  on_one_key : (c : Command A) → is_scan c ≡ false → is_wipe c ≡ false → is_ranged c ≡ false
+  on_one_key (Scan lo hi limit) h n = absurd (cc)
+  on_one_key (Wipe lo hi) h n = absurd (cc)
+  on_one_key _ h n = refl
 
   -- the answers at a place are of the kind of its command
-  kinds_by : (b c : Bool) (cs : List (Command A)) (p : Piece A) (ps : List (Piece A)) (i : ℕ) → (p.place == i) ≡ c → is_scan_at cs i ≡ b → is_rows p.reply ≡ is_scan_at cs p.place → All (IsOfKind b) (replies_of ps)
-      → All (IsOfKind b) (replies_of (cond c (p ∷ ps) ps))
-  kinds_by b true cs p ps i here scan kind rest =
-      All-cons (IsOfKind b) p.reply (replies_of ps) (kind ∙ ap (is_scan_at cs) (eqb-true p.place i here) ∙ scan) rest
-  kinds_by b false cs p ps i here scan kind rest = rest
+  kinds_by : (test : Reply A → Bool) (at_place : ℕ → Bool) (b c : Bool) (p : Piece A) (ps : List (Piece A)) (i : ℕ) → (p.place == i) ≡ c → at_place i ≡ b → test p.reply ≡ at_place p.place → All (λ r. test r ≡ b) (replies_of ps)
+      → All (λ r. test r ≡ b) (replies_of (cond c (p ∷ ps) ps))
+  kinds_by test at_place b true p ps i here scan kind rest =
+      All-cons (λ r. test r ≡ b) p.reply (replies_of ps) (kind ∙ ap at_place (eqb-true p.place i here) ∙ scan) rest
+  kinds_by test at_place b false p ps i here scan kind rest = rest
 
-  kinds : (b : Bool) (cs : List (Command A)) (ps : List (Piece A)) (i : ℕ) → is_scan_at cs i ≡ b → All (λ p. is_rows p.reply ≡ is_scan_at cs p.place) ps → All (IsOfKind b) (replies_of (pieces_at ps i))
-  kinds b cs [] i scan h = All-nil (IsOfKind b)
-  kinds b cs (p ∷ ps) i scan h =
-      kinds_by b (p.place == i) cs p (pieces_at ps i) i refl scan (All-head (λ p. is_rows p.reply ≡ is_scan_at cs p.place) p ps h)
-      (kinds b cs ps i scan (All-tail (λ p. is_rows p.reply ≡ is_scan_at cs p.place) p ps h))
+  kinds : (test : Reply A → Bool) (at_place : ℕ → Bool) (b : Bool) (ps : List (Piece A)) (i : ℕ) → at_place i ≡ b → All (λ p. test p.reply ≡ at_place p.place) ps → All (λ r. test r ≡ b) (replies_of (pieces_at ps i))
+  kinds test at_place b [] i scan h = All-nil (λ (r : Reply A). test r ≡ b)
+  kinds test at_place b (p ∷ ps) i scan h =
+      kinds_by test at_place b (p.place == i) p (pieces_at ps i) i refl scan (All-head (λ p. test p.reply ≡ at_place p.place) p ps h)
+      (kinds test at_place b ps i scan (All-tail (λ p. test p.reply ≡ at_place p.place) p ps h))
 
   -- ---- the list of replies
 
@@ -187,11 +223,15 @@ module _ {A : Type 0} where
   at_place : (cs : List (Command A)) (ps : List (Piece A)) (i : ℕ) (c : Command A) → AreAnswers cs ps → i < length cs → slice_get cs i ≡ Some c
       → added (limit_by (slice_get cs i)) (slice_get (blanks_of cs) i) (replies_of (pieces_at ps i)) ≡ reply_at cs ps i
   unfolding added
-  at_place cs ps i c answers h is =
+  at_place cs ps i c answers within is =
       let scan : is_scan_at cs i ≡ is_scan c = ap (is_some_that is_scan) is in
       let blank : slice_get (blanks_of cs) i ≡ Some (blank_of c) = slice_get-map blank_of cs i ∙ ap (option_map blank_of) is in
-      let one : is_scan c ≡ false → length (replies_of (pieces_at ps i)) ≡ 1 = (λ plain. length-map (pieces_at ps i) (λ p. p.reply) ∙ answers.once i h (scan ∙ plain)) in
-      rw (blank, is) (by_command c (replies_of (pieces_at ps i)) (kinds (is_scan c) cs ps i scan answers.kind) one)
+      let wipe : is_wipe_at cs i ≡ is_wipe c = ap (is_some_that is_wipe) is in
+      let one : is_scan c ≡ false → is_wipe c ≡ false → length (replies_of (pieces_at ps i)) ≡ 1 =
+      (λ h n. length-map (pieces_at ps i) (λ p. p.reply) ∙ answers.once i within (ap (is_some_that is_ranged) is ∙ on_one_key c h n)) in
+      let rows = kinds is_rows (is_scan_at cs) (is_scan c) ps i scan answers.kind in
+      let counts = kinds is_count (is_wipe_at cs) (is_wipe c) ps i wipe answers.counts in
+      rw (blank, is) (by_joining (joining_of c) (replies_of (pieces_at ps i)) rows counts one)
 
   past : (cs : List (Command A)) (ps : List (Piece A)) (xs : List (Reply A)) (i : ℕ) → length xs ≡ length cs → length cs ≤ i → slice_get xs i ≡ reply_at cs ps i
   past cs ps xs i len h = slice_get_past xs i (omega arith) ∙ sym (ap (λ (o : Option (Command A)). joined_replies_at o (replies_of (pieces_at ps i))) (slice_get_past cs i h))
@@ -226,23 +266,32 @@ module _ {A : Type 0} where
   reply_at-scan cs ps place lo hi limit is =
       ap (λ (o : Option (Command A)). joined_replies_at o (replies_of (pieces_at ps place))) is ∙ ap (λ (xs : List (List ℕ × List ℕ)). Some (Rows (take limit xs))) (rows_joined (pieces_at ps place))
 
-  -- the reply to a command that is no scan is the lone answer
-  pub joined_replies-lone : (c : Command A) (rs : List (Reply A)) → is_scan c ≡ false → joined_replies c rs ≡ lone rs
-  joined_replies-lone (Get k) rs h = refl
-  joined_replies-lone (Put k v) rs h = refl
-  joined_replies-lone (Add k v) rs h = refl
-  joined_replies-lone (Del k) rs h = refl
-  joined_replies-lone (Scan lo hi limit) rs h = absurd (cc)
+  -- and a wipe's is the sum of their counts
+  counts_joined : (ps : List (Piece A)) → sum_by count_of (replies_of ps) ≡ sum_by (λ (p : Piece A). count_of p.reply) ps
+  counts_joined [] = refl
+  counts_joined (p ∷ ps) =
+      sum_by-cons count_of p.reply (replies_of ps) ∙ ap (λ (n : ℕ). count_of p.reply + n) (counts_joined ps) ∙ sym (sum_by-cons (λ (q : Piece A). count_of q.reply) p ps)
 
-  joined_replies_at-lone : (o : Option (Command A)) (c : Command A) (rs : List (Reply A)) → o ≡ Some c → is_some_that is_scan o ≡ false → joined_replies_at o rs ≡ lone rs
+  pub reply_at-wipe : (cs : List (Command A)) (ps : List (Piece A)) (place : ℕ) (lo : List ℕ) (hi : Option (List ℕ)) → slice_get cs place ≡ Some (Wipe lo hi)
+      → reply_at cs ps place ≡ Some (Wiped (min (sum_by (λ p. count_of p.reply) (pieces_at ps place)) most_counted))
+  reply_at-wipe cs ps place lo hi is =
+      ap (λ (o : Option (Command A)). joined_replies_at o (replies_of (pieces_at ps place))) is ∙ ap (λ (n : ℕ). Some (Wiped (min n most_counted))) (counts_joined (pieces_at ps place))
+
+  -- the reply to a command on one key is the lone answer
+  pub joined_replies-lone : (c : Command A) (rs : List (Reply A)) → is_ranged c ≡ false → joined_replies c rs ≡ lone rs
+  joined_replies-lone (Scan lo hi limit) rs h = absurd (cc)
+  joined_replies-lone (Wipe lo hi) rs h = absurd (cc)
+  joined_replies-lone _ rs h = refl
+
+  joined_replies_at-lone : (o : Option (Command A)) (c : Command A) (rs : List (Reply A)) → o ≡ Some c → is_some_that is_ranged o ≡ false → joined_replies_at o rs ≡ lone rs
   joined_replies_at-lone None c rs is h = absurd (cc)
   joined_replies_at-lone (Some d) c rs is h = joined_replies-lone d rs h
 
-  -- the one piece of a place, where its command is no scan
+  -- the one piece of a place, where its command is on one key
   abbrev IsOnePiece : List (Command A) → List (Piece A) → ℕ → Type 0
   IsOnePiece cs ps i = (length (pieces_at ps i) ≡ 1) × (reply_at cs ps i ≡ lone (replies_of (pieces_at ps i)))
 
-  one_piece : (cs : List (Command A)) (ps : List (Piece A)) (i : ℕ) → AreAnswers cs ps → i < length cs → is_scan_at cs i ≡ false → IsOnePiece cs ps i
+  one_piece : (cs : List (Command A)) (ps : List (Piece A)) (i : ℕ) → AreAnswers cs ps → i < length cs → is_ranged_at cs i ≡ false → IsOnePiece cs ps i
   one_piece cs ps i answers h plain = elim ((slice_get_cases cs i).1) [
     | inl w ↦ (answers.once i h plain, joined_replies_at-lone (slice_get cs i) w.0 (replies_of (pieces_at ps i)) w.2 plain)
     | inr w ↦ absurd (let past = w.0 in omega arith)
@@ -260,38 +309,37 @@ module _ {A : Type 0} where
       let parts : pieces_at (front ++ p ∷ back) p.place ≡ pieces_at front p.place ++ p ∷ pieces_at back p.place = filter-append (λ q. q.place == p.place) front (p ∷ back) ∙ ap (λ (qs : List (Piece A)). pieces_at front p.place ++ qs) here in
       ap (λ (qs : List (Piece A)). lone (replies_of qs)) parts ∙ alone p (pieces_at front p.place) (pieces_at back p.place) (sym (ap length parts) ∙ h)
 
-  -- the reply at the place of a piece is the piece's, where the command is no scan
-  pub reply_at-piece : (cs : List (Command A)) (ps : List (Piece A)) → AreAnswers cs ps → All (λ p. is_scan_at cs p.place ≡ false → reply_at cs ps p.place ≡ Some p.reply) ps
+  -- the reply at the place of a piece is the piece's, where the command is on one key
+  pub reply_at-piece : (cs : List (Command A)) (ps : List (Piece A)) → AreAnswers cs ps → All (λ p. is_ranged_at cs p.place ≡ false → reply_at cs ps p.place ≡ Some p.reply) ps
   reply_at-piece cs ps answers k d h plain =
       let p : Piece A = get_or ps k d in
       let parts : ps ≡ take k ps ++ p ∷ drop (k + 1) ps = sym (take-append-drop k ps) ∙ ap (λ (qs : List (Piece A)). take k ps ++ qs) (drop_more ps k d h) in
       let one = one_piece cs ps p.place answers (answers.within k d h) plain in
       one.1 ∙ subst (λ (qs : List (Piece A)). lone (replies_of (pieces_at qs p.place)) ≡ Some p.reply) (sym parts) (alone_at p (take k ps) (drop (k + 1) ps) (subst (λ (qs : List (Piece A)). length (pieces_at qs p.place) ≡ 1) parts one.0))
 
-  -- each piece's reply stands at its place in the list, but for scans'
+  -- each piece's reply stands at its place in the list, but for scans' and wipes'
   abbrev HasPieces : List (Command A) → List (Reply A) → Piece A → Type 0
-  HasPieces cs rs p = is_scan_at cs p.place ≡ false → slice_get rs p.place ≡ Some p.reply
+  HasPieces cs rs p = is_ranged_at cs p.place ≡ false → slice_get rs p.place ≡ Some p.reply
 
-  read_lone : (cs : List (Command A)) (rs : List (Reply A)) (qs : List (Piece A)) (i : ℕ) → length qs ≡ 1 → is_scan_at cs i ≡ false → All (λ q. (q.place == i) ≡ true) qs → All (HasPieces cs rs) qs → lone (replies_of qs) ≡ slice_get rs i
+  read_lone : (cs : List (Command A)) (rs : List (Reply A)) (qs : List (Piece A)) (i : ℕ) → length qs ≡ 1 → is_ranged_at cs i ≡ false → All (λ q. (q.place == i) ≡ true) qs → All (HasPieces cs rs) qs → lone (replies_of qs) ≡ slice_get rs i
   read_lone cs rs [] i h plain at told = absurd (omega arith)
   read_lone cs rs (p ∷ []) i h plain at told =
       let here : p.place ≡ i = eqb-true p.place i (All-head (λ q. (q.place == i) ≡ true) p [] at) in
-      sym (All-head (HasPieces cs rs) p [] told (ap (is_scan_at cs) here ∙ plain)) ∙ ap (slice_get rs) here
+      sym (All-head (HasPieces cs rs) p [] told (ap (is_ranged_at cs) here ∙ plain)) ∙ ap (slice_get rs) here
   read_lone cs rs (p ∷ (q ∷ qs)) i h plain at told = absurd (omega arith)
 
   module _ (cs : List (Command A)) (ps : List (Piece A)) (rs : List (Reply A)) (answers : AreAnswers cs ps) (told : All (HasPieces cs rs) ps)
-      (scans : (place : ℕ) (lo : List ℕ) (hi : Option (List ℕ)) (limit : ℕ) → slice_get cs place ≡ Some (Scan lo hi limit) → slice_get rs place ≡ Some (Rows (take limit (rows_at ps place)))) where
-    plain_there : (i : ℕ) → i < length cs → is_scan_at cs i ≡ false → reply_at cs ps i ≡ slice_get rs i
+      (scans : (place : ℕ) (lo : List ℕ) (hi : Option (List ℕ)) (limit : ℕ) → slice_get cs place ≡ Some (Scan lo hi limit) → slice_get rs place ≡ Some (Rows (take limit (rows_at ps place))))
+      (wipes : (place : ℕ) (lo : List ℕ) (hi : Option (List ℕ)) → slice_get cs place ≡ Some (Wipe lo hi) → slice_get rs place ≡ Some (Wiped (min (sum_by (λ p. count_of p.reply) (pieces_at ps place)) most_counted))) where
+    plain_there : (i : ℕ) → i < length cs → is_ranged_at cs i ≡ false → reply_at cs ps i ≡ slice_get rs i
     plain_there i h plain =
         let one = one_piece cs ps i answers h plain in
         one.1 ∙ read_lone cs rs (pieces_at ps i) i one.0 plain (filter_passes (λ q. q.place == i) ps) (All-filter (λ q. q.place == i) (HasPieces cs rs) ps told)
 
     there : (i : ℕ) (c : Command A) → i < length cs → slice_get cs i ≡ Some c → reply_at cs ps i ≡ slice_get rs i
-    there i (Get k) h is = plain_there i h (ap (is_some_that is_scan) is)
-    there i (Put k v) h is = plain_there i h (ap (is_some_that is_scan) is)
-    there i (Add k v) h is = plain_there i h (ap (is_some_that is_scan) is)
-    there i (Del k) h is = plain_there i h (ap (is_some_that is_scan) is)
     there i (Scan lo hi limit) h is = reply_at-scan cs ps i lo hi limit is ∙ sym (scans i lo hi limit is)
+    there i (Wipe lo hi) h is = reply_at-wipe cs ps i lo hi is ∙ sym (wipes i lo hi is)
+    there i _ h is = plain_there i h (ap (is_some_that is_ranged) is)
 
     -- the list in which all of them stand is the list of the replies
     pub replies_determined : (xs : List (Reply A)) → ((i : ℕ) → slice_get xs i ≡ reply_at cs ps i) → length rs ≡ length cs → xs ≡ rs

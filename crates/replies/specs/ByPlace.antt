@@ -1,12 +1,12 @@
 -- The reply at each place of a batch, by what the pages answer.
-use Rattle.std.specs.Prelude.{◌≡◌, ℕ, ◌<◌, ◌==◌, Bool, true, false, List, [], ◌∷◌, ◌++◌, map, slice_set, slice_index_or, take, flat_map, length, slice_get, Option, Some, None}
-use Rattle.std.specs.List.{All, filter}
+use Rattle.std.specs.Prelude.{◌≡◌, ℕ, ◌+◌, ◌-◌, ◌^◌, ◌<◌, ◌==◌, min, Bool, true, false, List, [], ◌∷◌, ◌++◌, map, slice_set, slice_index_or, take, flat_map, length, slice_get, Option, Some, None}
+use Rattle.std.specs.List.{All, filter, sum_by}
 use Rattle.keys.specs.Bytes.{Bytes, Pairs}
-use Rattle.keys.specs.Places.{is_scan_at}
+use Rattle.keys.specs.Footprint.{Joining, Alone, RowsUpTo, Summed, joining_of}
+use Rattle.keys.specs.Places.{is_scan_at, is_wipe_at, is_ranged_at}
 use Rattle.keys.specs.declared.command.Command.{Command}
-use Rattle.keys.specs.declared.command.Command.TheVariants.{Get, Put, Add, Del, Scan}
 use Rattle.keys.specs.declared.command.Reply.{Reply}
-use Rattle.keys.specs.declared.command.Reply.TheVariants.{Missing, Rows}
+use Rattle.keys.specs.declared.command.Reply.TheVariants.{Missing, Rows, Wiped}
 use Rattle.keys.specs.declared.piece.Piece.{Piece}
 
 -- the pieces at a place, in the order of the list
@@ -23,19 +23,35 @@ abbrev pub is_rows : {A : Type 0} → Reply A → Bool
 is_rows (Rows rows) = true
 is_rows _ = false
 
+-- the count in an answer; only one to a wipe has any
+abbrev pub count_of : {A : Type 0} → Reply A → ℕ
+count_of (Wiped count) = count
+count_of _ = 0
+
+-- whether it is an answer to a wipe
+abbrev pub is_count : {A : Type 0} → Reply A → Bool
+is_count (Wiped count) = true
+is_count _ = false
+
+-- the greatest count that a reply can have
+abbrev pub most_counted : ℕ
+most_counted = 2 ^ 128 - 1
+
 -- the reply, where it is the only one
 abbrev pub lone : {A : Type 0} → List (Reply A) → Option (Reply A)
 lone (r ∷ []) = Some r
 lone _ = None
 
--- the reply to a command that what the pages answer makes: of a scan their rows, joined and cut at the limit; of another
--- command the answer of its one page
+-- answers as one reply: the answer of the one page; the rows of all, joined and cut at the limit; or the sum of all counts, as far
+-- as a reply can have it
+abbrev pub joined_by : {A : Type 0} → Joining → List (Reply A) → Option (Reply A)
+joined_by Alone rs = lone rs
+joined_by (RowsUpTo limit) rs = Some (Rows (take limit (flat_map rows_of rs)))
+joined_by Summed rs = Some (Wiped (min (sum_by count_of rs) most_counted))
+
+-- the reply to a command that what the pages answer makes
 abbrev pub joined_replies : {A : Type 0} → Command A → List (Reply A) → Option (Reply A)
-joined_replies (Get k) rs = lone rs
-joined_replies (Put k v) rs = lone rs
-joined_replies (Add k v) rs = lone rs
-joined_replies (Del k) rs = lone rs
-joined_replies (Scan lo hi limit) rs = Some (Rows (take limit (flat_map rows_of rs)))
+joined_replies c rs = joined_by (joining_of c) rs
 
 -- the same of the command at a place
 abbrev pub joined_replies_at : {A : Type 0} → Option (Command A) → List (Reply A) → Option (Reply A)
@@ -50,32 +66,50 @@ reply_at cs ps place = joined_replies_at (slice_get cs place) (map (λ p. p.repl
 abbrev pub IsPlaceOf : {A : Type 0} → List (Command A) → Piece A → Type 0
 IsPlaceOf cs p = p.place < length cs
 
--- what pages answer to a batch: rows to a scan and to nothing else, and each command that is no scan is answered just once
+-- what pages answer to a batch: rows to a scan and to nothing else, a count to a wipe and to nothing else, and each command that is
+-- on one key is answered just once
 pub record AreAnswers {A : Type 0} (cs : List (Command A)) (ps : List (Piece A)) : Type 0 where
   pub within : All (IsPlaceOf cs) ps
   pub kind : All (λ p. is_rows p.reply ≡ is_scan_at cs p.place) ps
-  pub once : (place : ℕ) → place < length cs → is_scan_at cs place ≡ false → length (pieces_at ps place) ≡ 1
+  pub counts : All (λ p. is_count p.reply ≡ is_wipe_at cs p.place) ps
+  pub once : (place : ℕ) → place < length cs → is_ranged_at cs place ≡ false → length (pieces_at ps place) ≡ 1
 
 -- ---- one answer after the other
 
 -- the most rows that the reply to a command may have
-abbrev pub limit_of : {A : Type 0} → Command A → ℕ
-limit_of (Scan lo hi limit) = limit
-limit_of _ = 0
+abbrev pub limit_in : Joining → ℕ
+limit_in Alone = 0
+limit_in (RowsUpTo limit) = limit
+limit_in Summed = 0
 
--- what stands at a command's place before any answer to it: no rows yet for a scan, and else nothing of meaning
+abbrev pub limit_of : {A : Type 0} → Command A → ℕ
+limit_of c = limit_in (joining_of c)
+
+-- what stands at a command's place before any answer to it: no rows yet for a scan, nothing counted yet for a wipe, and else nothing
+-- of meaning
+abbrev pub blank_in : {A : Type 0} → Joining → Reply A
+blank_in Alone = Missing
+blank_in (RowsUpTo limit) = Rows []
+blank_in Summed = Wiped 0
+
 abbrev pub blank_of : {A : Type 0} → Command A → Reply A
-blank_of (Scan lo hi limit) = Rows []
-blank_of _ = Missing
+blank_of c = blank_in (joining_of c)
 
 -- rows with more behind them, cut at a limit
 abbrev pub with_rows : {A : Type 0} → ℕ → Reply A → Pairs Bytes → Reply A
 with_rows limit (Rows rows) more = Rows (take limit (rows ++ more))
 with_rows limit at more = at
 
--- what stands at a place after one more answer: rows go behind the rows there, and another answer in the place of what stood there
+-- a count with more added
+abbrev pub with_count : {A : Type 0} → Reply A → ℕ → Reply A
+with_count (Wiped count) more = Wiped (min (count + more) most_counted)
+with_count at more = at
+
+-- what stands at a place after one more answer: rows go behind the rows there, a count is added to the count there, and another
+-- answer goes in the place of what stood there
 abbrev pub with_answer : {A : Type 0} → ℕ → Reply A → Reply A → Reply A
 with_answer limit at (Rows more) = with_rows limit at more
+with_answer limit at (Wiped more) = with_count at more
 with_answer limit at reply = reply
 
 -- the limit of the command at a place

@@ -7,13 +7,13 @@ ghost use Rattle.std.specs.Prelude.{◌≡◌, ◌<◌, map, take, length, IfOk,
 ghost use Rattle.std.specs.List.{All};
 ghost use Rattle.std.specs.Option.{option_to_list};
 ghost use Rattle.keys.specs.declared.command.Reply.TheVariants.{Rows};
-ghost use Rattle.replies.specs.ByPlace.{IsPlaceOf, blank_of, limit_of, with_rows, with_answer, with_pieces};
+ghost use Rattle.replies.specs.ByPlace.{IsPlaceOf, blank_of, limit_of, with_rows, with_count, with_answer, with_pieces};
 
 use keys::{Command, Piece, Pieces, Reply, RowList};
 use std::alloc::{AllocError, Global};
 
-/// For each command of a batch a reply that answers are to be added to: no rows yet for a scan, and else one that will be written
-/// over. Once each page's answers were added (`add_answers`), these are the replies. `AllocError` comes only where memory was
+/// For each command of a batch a reply that answers are to be added to: no rows yet for a scan, nothing counted yet for a wipe, and
+/// else one that will be written over. Once each page's answers were added (`add_answers`), these are the replies. `AllocError` comes only where memory was
 /// refused to the list.
 pub fn blank_replies(
     alloc: Global,
@@ -34,12 +34,13 @@ fn blank(alloc: Global, command: &Command<Global>) -> Reply<Global>
 {
     match command {
         Command::Scan(_, _, _) => Reply::Rows(RowList::empty(alloc)),
+        Command::Wipe(_, _) => Reply::Wiped(0),
         _ => Reply::Missing,
     }
 }
 
 /// Adds each answer of a page to what stands at its command's place. Of a scan the rows go behind those that stand there, up to its
-/// limit: so pages are added in their order. Replies and rows are moved, and no row is copied. `AllocError` comes only where memory
+/// limit: so pages are added in their order. Of a wipe the counts are added up. Replies and rows are moved, and no row is copied. `AllocError` comes only where memory
 /// was refused to a list of rows; the replies then have some of the answers, and are good for nothing but to be dropped.
 pub fn add_answers(
     replies: &mut [Reply<Global>],
@@ -100,6 +101,10 @@ fn add(
 {
     match reply {
         Reply::Rows(rows) => add_rows(at, rows, limit_of(command)),
+        Reply::Wiped(count) => {
+            add_count(at, count);
+            Ok(())
+        }
         reply => {
             *at = reply;
             Ok(())
@@ -118,6 +123,15 @@ fn add_rows(at: &mut Reply<Global>, more: RowList<Global>, limit: usize) -> Resu
         rows.truncate(limit);
     }
     Ok(())
+}
+
+// Adds a count to the one that stands there, up to the greatest that there is.
+fn add_count(at: &mut Reply<Global>, more: u128)
+    ensures { at.new ≡ with_count at.old more }
+{
+    if let Reply::Wiped(count) = at {
+        *count = count.saturating_add(more);
+    }
 }
 
 // The most rows that the reply to a command may have: only a scan's has any.

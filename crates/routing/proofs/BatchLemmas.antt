@@ -4,11 +4,11 @@ use Rattle.std.proofs.Common.{refl, sym, ap, ◌∙◌, get_or}
 use Rattle.std.proofs.lemmas.Option.{same_Some, slice_get_read, slice_get_past}
 use Rattle.std.specs.List.{list_any}
 use Rattle.std.specs.Option.{option_map}
-use Rattle.keys.specs.CommandKey.{key_of, is_scan}
+use Rattle.keys.specs.CommandKey.{key_of, is_ranged}
 use Rattle.keys.specs.Narrowed.{with_end, first_end, with_ends}
-use Rattle.keys.specs.Places.{is_scan_at}
+use Rattle.keys.specs.Places.{is_ranged_at}
 use Rattle.keys.specs.declared.command.Command.{Command}
-use Rattle.keys.proofs.NarrowedLemmas.{key-with_end, scan-with_end, length-with_ends, get-with_ends}
+use Rattle.keys.proofs.NarrowedLemmas.{key-with_end, ranged-with_end, length-with_ends, get-with_ends}
 use Rattle.routing.specs.BatchKeys.{key_at}
 use Rattle.routing.specs.SortedPlaces.{reaches, reaches_at}
 
@@ -21,9 +21,9 @@ first_behind end_of (y ∷ ys) (suc place) x h = first_behind end_of ys place x 
 pub end_there : {X : Type 0} (end_of : X → Option (List ℕ)) (xs : List X) (place : ℕ) (x : X) → place < length xs → x ≡ get_or xs place x → end_of x ≡ first_end (drop place (map end_of xs))
 end_there end_of xs place x h e = first_behind end_of xs place x (slice_get_read xs (length xs) place x refl h e)
 
-any_with_ends : {A : Type 0} (cs : List (Command A)) (ends : List (Option (List ℕ))) → list_any is_scan cs ≡ list_any is_scan (with_ends cs ends)
+any_with_ends : {A : Type 0} (cs : List (Command A)) (ends : List (Option (List ℕ))) → list_any is_ranged cs ≡ list_any is_ranged (with_ends cs ends)
 any_with_ends [] ends = refl
-any_with_ends (c ∷ cs) ends = rw (scan-with_end (first_end ends) c, any_with_ends cs (drop 1 ends)) refl
+any_with_ends (c ∷ cs) ends = rw (ranged-with_end (first_end ends) c, any_with_ends cs (drop 1 ends)) refl
 
 -- a batch of these commands with these ends
 module _ {A : Type 0} (cs : List (Command A)) (ends : List (Option (List ℕ))) (batch : List (Command A)) (same : with_ends cs ends ≡ batch) where
@@ -31,8 +31,8 @@ module _ {A : Type 0} (cs : List (Command A)) (ends : List (Option (List ℕ))) 
   length_same = sym (length-with_ends cs ends) ∙ ap (λ (ds : List (Command A)). length ds) same
 
   -- a scan is one with any end
-  pub any_same : list_any is_scan cs ≡ list_any is_scan batch
-  any_same = any_with_ends cs ends ∙ ap (λ (ds : List (Command A)). list_any is_scan ds) same
+  pub any_same : list_any is_ranged cs ≡ list_any is_ranged batch
+  any_same = any_with_ends cs ends ∙ ap (λ (ds : List (Command A)). list_any is_ranged ds) same
 
   -- behind the commands there is nothing
   pub past : (place : ℕ) → length cs ≤ place → slice_get batch place ≡ None
@@ -48,8 +48,8 @@ module _ {A : Type 0} (cs : List (Command A)) (ends : List (Option (List ℕ))) 
   pub key_there : (place : ℕ) (c : Command A) → place < length cs → c ≡ get_or cs place c → key_of c ≡ key_at batch place
   key_there place c h e = rw (there place c h e) (sym (key-with_end (first_end (drop place ends)) c))
 
-  pub scan_there : (place : ℕ) (c : Command A) → place < length cs → c ≡ get_or cs place c → is_scan c ≡ is_scan_at batch place
-  scan_there place c h e = rw (there place c h e) (sym (scan-with_end (first_end (drop place ends)) c))
+  pub ranged_there : (place : ℕ) (c : Command A) → place < length cs → c ≡ get_or cs place c → is_ranged c ≡ is_ranged_at batch place
+  ranged_there place c h e = rw (there place c h e) (sym (ranged-with_end (first_end (drop place ends)) c))
 
   -- it reaches a page where the command does with this end
   pub reaches_there : (low : List ℕ) (end : Option (List ℕ)) (place : ℕ) (c : Command A) → end ≡ first_end (drop place ends) → place < length cs → c ≡ get_or cs place c → reaches low (with_end end c) ≡ reaches_at batch low place

@@ -7,9 +7,9 @@ use Rattle.std.proofs.Math.Seq.{drop-cons}
 use Rattle.std.proofs.lemmas.Bool.{cases_lt, and_parts}
 use Rattle.std.proofs.lemmas.List.Elements.{All-from_recursion}
 use Rattle.std.proofs.lemmas.List.Kept.{IsStrictlySortedBy-filter}
+use Rattle.keys.specs.Footprint.{Span, One, Range, span_of, first_of}
 use Rattle.keys.specs.Places.{is_some_that}
 use Rattle.keys.specs.declared.command.Command.{Command}
-use Rattle.keys.specs.declared.command.Command.TheVariants.{Get, Put, Add, Del, Scan}
 use Rattle.index_page.specs.Page.{PageOfKind}
 use Rattle.index_page.specs.Page.PageOfKind.{Index}
 use Rattle.index_page.specs.Range.{is_below, is_before, is_within, AreFrom, AreBefore, IsBefore}
@@ -31,7 +31,7 @@ use Rattle.mapping.proofs.Joined.{next_joined}
 use Rattle.routing.specs.BatchKeys.{key_or_empty, key_at}
 use Rattle.routing.specs.Routes.{Route, has_some, ranges, routes}
 use Rattle.routing.proofs.BatchOrder.{routes_of_shares}
-use Rattle.routing.specs.SortedPlaces.{order_of_places, AreInKeyOrder, AreSortedPlaces, reaches, reaches_at}
+use Rattle.routing.specs.SortedPlaces.{order_of_places, AreInKeyOrder, AreSortedPlaces, reaches_page, reaches, reaches_at}
 use Rattle.routing.specs.Keyed.{AreKeyed}
 use Rattle.routing.specs.Shares.{Share, all_of, Lent, share_of_lent, lent_shares, AreKeyedShares, is_in_range, shares, shares_below, CanHandDownShare, index_under, IsReadyShare, AreReadyShares, share_below, AreInBatchOrder}
 use Rattle.routing.proofs.RouteLemmas.{among-append}
@@ -110,13 +110,13 @@ module _ {A : Type 0} (cs : List (Command A)) (low : List ℕ) (end : Option (Li
   scan_by true e lo hi c n m b h = rw (c, before_low hi low e n h) refl
   scan_by false e lo hi c n m b h = rw (c, before_high end lo e m b) refl
 
+  span_reaches_child : (e : List ℕ) (s : Span) → is_below e low ≡ false → IsBefore end e → reaches_page e s ≡ true → (reaches_page low s || is_within low end (first_of s)) ≡ true
+  span_reaches_child e (One k) n m h = absurd (cc)
+  span_reaches_child e (Range lo hi) n m h = let p = and_parts (is_below lo e) (is_before hi e) h in scan_by (is_below lo low) e lo hi refl n m p.0 p.1
+
   reaches_child : (e : List ℕ) (o : Option (Command A)) → is_below e low ≡ false → IsBefore end e → is_some_that (reaches e) o ≡ true → (is_some_that (reaches low) o || is_within low end (key_or_empty o)) ≡ true
   reaches_child e None n m h = absurd (cc)
-  reaches_child e (Some (Get k)) n m h = absurd (cc)
-  reaches_child e (Some (Put k v)) n m h = absurd (cc)
-  reaches_child e (Some (Add k v)) n m h = absurd (cc)
-  reaches_child e (Some (Del k)) n m h = absurd (cc)
-  reaches_child e (Some (Scan lo hi limit)) n m h = let p = and_parts (is_below lo e) (is_before hi e) h in scan_by (is_below lo low) e lo hi refl n m p.0 p.1
+  reaches_child e (Some c) n m h = span_reaches_child e (span_of c) n m h
 
   -- what reaches a child reaches its page or begins in it
   reaching_narrowed : (e : List ℕ × ℕ) (es : Names) (ps : List ℕ) → AreFrom low (keys_of (e ∷ es)) → AreBefore end (keys_of (e ∷ es)) → filter (reaches_at cs e.0) ps ≡ filter (reaches_at cs e.0) (filter gets ps)

@@ -10,10 +10,10 @@ use Rattle.std.proofs.lemmas.List.Sums.{sum_by-cons, sum_by-append}
 use Rattle.std.proofs.lemmas.Map.Keys.{IsStrictlyIncreasing-from_sorted}
 use Rattle.keys.specs.Order.{order}
 use Rattle.keys.proofs.MapLemmas.{total}
-use Rattle.keys.specs.CommandKey.{key_of, is_scan}
+use Rattle.keys.specs.CommandKey.{key_of, is_ranged}
+use Rattle.keys.specs.Footprint.{Span, One, Range, span_of, first_of, is_range}
 use Rattle.keys.specs.Places.{is_some_that}
 use Rattle.keys.specs.declared.command.Command.{Command}
-use Rattle.keys.specs.declared.command.Command.TheVariants.{Get, Put, Add, Del, Scan}
 use Rattle.index_page.specs.Range.{is_below, is_before, is_within, IsBefore}
 use Rattle.index_page.specs.Children.{Place, children}
 use Rattle.index_page.proofs.ListLemmas.{all-append, all_weaker}
@@ -24,8 +24,8 @@ use Rattle.mapping.specs.Proper.{next_low, Tiled}
 use Rattle.mapping.proofs.PidLemmas.{all_among}
 use Rattle.mapping.proofs.TileLemmas.{low_is_before}
 use Rattle.routing.specs.Places.{places_below}
-use Rattle.routing.specs.SortedPlaces.{begins_in, reaches}
-use Rattle.routing.specs.Routes.{goes_to, goes_at, places_from, places_within, Route, route_to, has_places, ranges, routes, AreRoutesTo}
+use Rattle.routing.specs.SortedPlaces.{begins_in, reaches_page, reaches}
+use Rattle.routing.specs.Routes.{meets_page, goes_to, goes_at, places_from, places_within, Route, route_to, has_places, ranges, routes, AreRoutesTo}
 use Rattle.routing.specs.Routes.AreRoutesTo.{none, next, left_out}
 
 -- ---- numbers that rise
@@ -239,25 +239,25 @@ kept_by : (pid : ℕ) (ps : List ℕ) (rs : List Route) → (let r : Route = rec
 kept_by pid [] rs = refl
 kept_by pid (p ∷ ps) rs = refl
 
+meets_as : (low : List ℕ) (end : Option (List ℕ)) (s : Span) → meets_page low end s ≡ (is_within low end (first_of s) || reaches_page low s)
+meets_as low end (One k) = or_false (is_within low end k)
+meets_as low end (Range lo hi) = refl
+
+meets_by_key : (low : List ℕ) (end : Option (List ℕ)) (s : Span) → is_range s ≡ false → meets_page low end s ≡ is_within low end (first_of s)
+meets_by_key low end (One k) s = refl
+meets_by_key low end (Range lo hi) s = absurd (cc)
+
 first_page : {V : Type 0} (p : Placed V) (ps : List (Placed V)) → next_low (p ∷ ps) None ≡ Some [] → p.page.low ≡ []
 first_page p ps h = cc
 
 module _ {A : Type 0} where
   -- a command goes to the pages that it begins in, or reaches
   pub goes_as : (low : List ℕ) (end : Option (List ℕ)) (c : Command A) → goes_to low end c ≡ (begins_in low end c || reaches low c)
-  goes_as low end (Get k) = or_false (is_within low end k)
-  goes_as low end (Put k v) = or_false (is_within low end k)
-  goes_as low end (Add k v) = or_false (is_within low end k)
-  goes_as low end (Del k) = or_false (is_within low end k)
-  goes_as low end (Scan lo hi limit) = refl
+  goes_as low end c = meets_as low end (span_of c)
 
-  -- one that is no scan goes by its key alone
-  pub goes_by_key : (low : List ℕ) (end : Option (List ℕ)) (c : Command A) → is_scan c ≡ false → goes_to low end c ≡ is_within low end (key_of c)
-  goes_by_key low end (Get k) s = refl
-  goes_by_key low end (Put k v) s = refl
-  goes_by_key low end (Add k v) s = refl
-  goes_by_key low end (Del k) s = refl
-  goes_by_key low end (Scan lo hi limit) s = absurd (cc)
+  -- one on a key goes by its key alone
+  pub goes_by_key : (low : List ℕ) (end : Option (List ℕ)) (c : Command A) → is_ranged c ≡ false → goes_to low end c ≡ is_within low end (key_of c)
+  goes_by_key low end c s = meets_by_key low end (span_of c) s
 
   -- all commands begin in the range of all keys
   pub all_places : (cs : List (Command A)) → places_from 0 (begins_in [] None) cs ≡ places_below (length cs)
@@ -328,7 +328,7 @@ module _ {A : Type 0} where
   begun_apart low mid end (Some c) l m h =
       one_of_two (is_within low (Some mid) (key_of c)) (is_within mid end (key_of c)) (sym (within_parts low mid end (key_of c) l m) ∙ h)
 
-  point_goes_by : (low : List ℕ) (end : Option (List ℕ)) (o : Option (Command A)) → is_some_that is_scan o ≡ false → is_some_that (goes_to low end) o ≡ is_some_that (begins_in low end) o
+  point_goes_by : (low : List ℕ) (end : Option (List ℕ)) (o : Option (Command A)) → is_some_that is_ranged o ≡ false → is_some_that (goes_to low end) o ≡ is_some_that (begins_in low end) o
   point_goes_by low end None s = refl
   point_goes_by low end (Some c) s = goes_by_key low end c s
 
@@ -367,7 +367,7 @@ module _ {A : Type 0} where
         some-tiled cs n p ps None h (ap (λ (k : List ℕ). is_some_that (begins_in k None) (slice_get cs n)) (first_page p ps f) ∙ all_passed_at (begins_in [] None) (λ c. within_all (key_of c)) cs n l)
 
     -- of pages that tile a range, the routes have a place just once whose command is no scan and begins in the range
-    once-tiled : (cs : List (Command A)) (n : ℕ) (p : Placed V) (ps : List (Placed V)) (end : Option (List ℕ)) → Tiled (p ∷ ps) end → is_some_that is_scan (slice_get cs n) ≡ false
+    once-tiled : (cs : List (Command A)) (n : ℕ) (p : Placed V) (ps : List (Placed V)) (end : Option (List ℕ)) → Tiled (p ∷ ps) end → is_some_that is_ranged (slice_get cs n) ≡ false
         → count_of n (all_kept cs (children (names (p ∷ ps)) end)) ≡ cond (is_some_that (begins_in p.page.low end) (slice_get cs n)) 1 0
     once-tiled cs n p [] end h s =
         let at : Place = record { pid = p.pid; low = p.page.low; end = end } in
@@ -379,7 +379,7 @@ module _ {A : Type 0} where
         ∙ rw (point_goes_by p.page.low (Some q.page.low) (slice_get cs n) s, once-tiled cs n q qs end h.1 s) (begun_counted p.page.low q.page.low end (slice_get cs n) h.0.low (low_is_before q qs end h.1))
 
     -- of pages that tile all keys, they have each such place once
-    pub routes-once : (level : List (Placed V)) (cs : List (Command A)) (place : ℕ) → next_low level None ≡ Some [] → Tiled level None → place < length cs → is_some_that is_scan (slice_get cs place) ≡ false
+    pub routes-once : (level : List (Placed V)) (cs : List (Command A)) (place : ℕ) → next_low level None ≡ Some [] → Tiled level None → place < length cs → is_some_that is_ranged (slice_get cs place) ≡ false
         → count_by (λ other. nat_eq other place) (flat_map (λ r. r.places) (routes level cs)) ≡ 1
     routes-once [] cs n f h l s = absurd (cc)
     routes-once (p ∷ ps) cs n f h l s =

@@ -3,7 +3,7 @@ use Rattle.std.specs.Prelude.{◌≡◌, ℕ, List, [], ◌∷◌, Some, None}
 use Rattle.std.proofs.Common.{refl}
 use Rattle.std.specs.declared.alloc.Global.{Global}
 use Rattle.keys.specs.declared.command.Command.{Command}
-use Rattle.keys.specs.declared.command.Command.TheVariants.{Get, Put, Add, Del, Scan}
+use Rattle.keys.specs.declared.command.Command.TheVariants.{Get, Put, Add, Del, Scan, Wipe}
 use Rattle.index_page.specs.Page.{bare}
 use Rattle.mapping.specs.Levels.{Placed}
 use Rattle.routing.specs.Routes.{Route, routes}
@@ -72,3 +72,10 @@ scans_go = refl
 -- a leaf may be met by a scan alone
 one_scan : routes {A = Global} four (Scan [] None 1 ∷ []) ≡ to 7 (0 ∷ []) ∷ to 2 (0 ∷ []) ∷ to 5 (0 ∷ []) ∷ to 9 (0 ∷ []) ∷ []
 one_scan = refl
+
+-- row W1: a wipe of b to d goes to both leaves, as a scan of all does, and other commands to their own
+abbrev row_w1 : Commands
+row_w1 = Put (99 ∷ 97 ∷ []) (57 ∷ []) ∷ Wipe (98 ∷ []) (Some d) ∷ Get (99 ∷ 97 ∷ []) ∷ Put c (55 ∷ []) ∷ Scan [] None 10 ∷ []
+
+row_w1_goes : routes (leaf 0 [] ∷ leaf 1 c ∷ []) row_w1 ≡ to 0 (1 ∷ 4 ∷ []) ∷ to 1 (0 ∷ 1 ∷ 2 ∷ 3 ∷ 4 ∷ []) ∷ []
+row_w1_goes = refl

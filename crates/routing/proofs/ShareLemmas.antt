@@ -7,10 +7,10 @@ use Rattle.std.proofs.lemmas.List.{take-append-drop, map-append, take-map, drop-
 use Rattle.std.proofs.lemmas.List.Elements.{filter-append, All-from_recursion}
 use Rattle.keys.specs.Order.{order, IsRising}
 use Rattle.keys.proofs.MapLemmas.{total}
-use Rattle.keys.specs.CommandKey.{is_scan}
-use Rattle.keys.specs.Places.{is_some_that, is_scan_at}
+use Rattle.keys.specs.CommandKey.{is_ranged}
+use Rattle.keys.specs.Footprint.{Span, One, Range, span_of, is_range}
+use Rattle.keys.specs.Places.{is_some_that, is_ranged_at}
 use Rattle.keys.specs.declared.command.Command.{Command}
-use Rattle.keys.specs.declared.command.Command.TheVariants.{Get, Put, Add, Del, Scan}
 use Rattle.index_page.specs.Page.{PageOfKind, first_key, low_of}
 use Rattle.index_page.specs.Range.{is_below, is_before, is_within}
 use Rattle.index_page.specs.Children.{Place, children, is_place_for, child_entries, child_with_end, HasChildFor}
@@ -19,9 +19,9 @@ use Rattle.index_page.proofs.RangeLemmas.{below_is_less, less_is_below}
 use Rattle.index_page.proofs.ChildLemmas.{next_key, children-cons, within, not_within_below, not_within_behind}
 use Rattle.routing.specs.BatchKeys.{key_at}
 use Rattle.routing.specs.Routes.{Route, has_some, has_places}
-use Rattle.routing.specs.SortedPlaces.{order_of_places, AreInKeyOrder, reaches, reaches_at}
+use Rattle.routing.specs.SortedPlaces.{order_of_places, AreInKeyOrder, reaches_page, reaches, reaches_at}
 use Rattle.routing.specs.Keyed.{Keyed, places_of, AreKeyed, has_key_below}
-use Rattle.routing.specs.Shares.{Share, all_of, Lent, share_of_lent, lent_shares, AreKeyedShares, is_in_range, share_of, shares, root_shares, shares_below, AreNoScans, is_met, CanHandDown, CanHandDownKeyed, CanHandDownShare}
+use Rattle.routing.specs.Shares.{Share, all_of, Lent, share_of_lent, lent_shares, AreKeyedShares, is_in_range, share_of, shares, root_shares, shares_below, ArePoints, is_met, CanHandDown, CanHandDownKeyed, CanHandDownShare}
 use Rattle.routing.proofs.RouteLemmas.{within_all}
 use Rattle.routing.proofs.SliceLemmas.{all_take, all_drop, earlier_below, sorted_drop, parted_by_key, none_reach_by}
 
@@ -108,29 +108,33 @@ none_found : {X : Type 0} (f : X → Bool) (xs : List X) → list_any f xs ≡ f
 none_found f [] h = tt
 none_found f (x ∷ xs) h = none_found_by f (f x) x xs refl h (none_found f xs)
 
-point_at : {A : Type 0} (cs : List (Command A)) (n : ℕ) → AllByRecursion (λ c. is_scan c ≡ false) cs → is_scan_at cs n ≡ false
+never_reaches : (low : List ℕ) (s : Span) → is_range s ≡ false → reaches_page low s ≡ false
+never_reaches low (One k) s = refl
+never_reaches low (Range lo hi) s = absurd (cc)
+
+point_at : {A : Type 0} (cs : List (Command A)) (n : ℕ) → AllByRecursion (λ c. is_ranged c ≡ false) cs → is_ranged_at cs n ≡ false
 point_at [] n h = refl
 point_at (c ∷ cs) zero h = h.0
 point_at (c ∷ cs) (suc n) h = point_at cs n h.1
 
 -- in a batch without scans no place has one
-no_scan : {A : Type 0} (cs : List (Command A)) (es : List Keyed) → list_any is_scan cs ≡ false → AreNoScans cs (places_of es)
-no_scan cs [] h = tt
-no_scan cs (e ∷ es) h = (point_at cs e.1 (none_found is_scan cs h), no_scan cs es h)
+points_of_batch : {A : Type 0} (cs : List (Command A)) (es : List Keyed) → list_any is_ranged cs ≡ false → ArePoints cs (places_of es)
+points_of_batch cs [] h = tt
+points_of_batch cs (e ∷ es) h = (point_at cs e.1 (none_found is_ranged cs h), points_of_batch cs es h)
 
 -- where no scan meets a page, none of its places has one
-places_by : {A : Type 0} (cs : List (Command A)) (es : List Keyed) → AllByRecursion (λ e. is_scan_at cs e.1 ≡ false) es → AreNoScans cs (places_of es)
+places_by : {A : Type 0} (cs : List (Command A)) (es : List Keyed) → AllByRecursion (λ e. is_ranged_at cs e.1 ≡ false) es → ArePoints cs (places_of es)
 places_by cs [] a = tt
 places_by cs (e ∷ es) a = (a.0, places_by cs es a.1)
 
-not_met_by : {A : Type 0} (cs : List (Command A)) (rs : List ℕ) (es : List Keyed) → (has_some rs || list_any (λ e. is_scan_at cs e.1) es) ≡ false → AreNoScans cs (places_of es)
-not_met_by cs [] es h = places_by cs es (none_found (λ (e : Keyed). is_scan_at cs e.1) es h)
+not_met_by : {A : Type 0} (cs : List (Command A)) (rs : List ℕ) (es : List Keyed) → (has_some rs || list_any (λ e. is_ranged_at cs e.1) es) ≡ false → ArePoints cs (places_of es)
+not_met_by cs [] es h = places_by cs es (none_found (λ (e : Keyed). is_ranged_at cs e.1) es h)
 not_met_by cs (r ∷ rs) es h = absurd (cc)
 
-not_met : {A : Type 0} (cs : List (Command A)) (l : Lent) → is_met cs l ≡ false → AreNoScans cs (places_of l.keyed)
+not_met : {A : Type 0} (cs : List (Command A)) (l : Lent) → is_met cs l ≡ false → ArePoints cs (places_of l.keyed)
 not_met cs l h = not_met_by cs l.reaching l.keyed h
 
-none_reaching_by : {A : Type 0} (cs : List (Command A)) (rs : List ℕ) (es : List Keyed) → (has_some rs || list_any (λ e. is_scan_at cs e.1) es) ≡ false → rs ≡ []
+none_reaching_by : {A : Type 0} (cs : List (Command A)) (rs : List ℕ) (es : List Keyed) → (has_some rs || list_any (λ e. is_ranged_at cs e.1) es) ≡ false → rs ≡ []
 none_reaching_by cs [] es h = refl
 none_reaching_by cs (r ∷ rs) es h = absurd (cc)
 
@@ -190,27 +194,23 @@ module _ {A : Type 0} (cs : List (Command A)) where
 
   -- ---- a batch without scans
 
-  point_never : (low : List ℕ) (c : Command A) → is_scan c ≡ false → reaches low c ≡ false
-  point_never low (Get k) s = refl
-  point_never low (Put k v) s = refl
-  point_never low (Add k v) s = refl
-  point_never low (Del k) s = refl
-  point_never low (Scan lo hi limit) s = absurd (cc)
+  point_never : (low : List ℕ) (c : Command A) → is_ranged c ≡ false → reaches low c ≡ false
+  point_never low c s = never_reaches low (span_of c) s
 
-  never_by : (low : List ℕ) (o : Option (Command A)) → is_some_that is_scan o ≡ false → is_some_that (reaches low) o ≡ false
+  never_by : (low : List ℕ) (o : Option (Command A)) → is_some_that is_ranged o ≡ false → is_some_that (reaches low) o ≡ false
   never_by low None h = refl
   never_by low (Some c) h = point_never low c h
 
-  never_reaching : (low : List ℕ) (ps : List ℕ) → AreNoScans cs ps → AllByRecursion (λ p. reaches_at cs low p ≡ false) ps
-  never_reaching low ps a = all_weaker (λ p. is_scan_at cs p ≡ false) (λ p. reaches_at cs low p ≡ false) (λ p h. never_by low (slice_get cs p) h) ps a
+  never_reaching : (low : List ℕ) (ps : List ℕ) → ArePoints cs ps → AllByRecursion (λ p. reaches_at cs low p ≡ false) ps
+  never_reaching low ps a = all_weaker (λ p. is_ranged_at cs p ≡ false) (λ p. reaches_at cs low p ≡ false) (λ p h. never_by low (slice_get cs p) h) ps a
 
   -- where all of some places reach a page, and none is a scan's, there are none
-  none_reached : (low : List ℕ) (ps : List ℕ) → AreNoScans cs ps → AllByRecursion (λ p. reaches_at cs low p ≡ true) ps → ps ≡ []
+  none_reached : (low : List ℕ) (ps : List ℕ) → ArePoints cs ps → AllByRecursion (λ p. reaches_at cs low p ≡ true) ps → ps ≡ []
   none_reached low [] h a = refl
   none_reached low (p ∷ ps) h a = absurd (let n = never_by low (slice_get cs p) h.0 in let t = a.0 in cc)
 
   -- shares are then what begins in the pages
-  shares-begun : (ps : List ℕ) (ats : List Place) → AreNoScans cs ps → shares cs ps ats ≡ map alone (begun cs ps ats)
+  shares-begun : (ps : List ℕ) (ats : List Place) → ArePoints cs ps → shares cs ps ats ≡ map alone (begun cs ps ats)
   shares-begun ps [] h = refl
   shares-begun ps (at ∷ ats) h =
       alone_by at.pid (filter (is_in_range cs at.low at.end) ps) (filter (reaches_at cs at.low) ps) (shares cs ps ats) (begun cs ps ats)
@@ -221,15 +221,15 @@ module _ {A : Type 0} (cs : List (Command A)) where
       alone_by pid [] rs ss ts e f = rw e f
       alone_by pid (x ∷ xs) rs ss ts e f = rw (e, f) refl
 
-  points_left : (n : ℕ) (es : List Keyed) → AreNoScans cs (places_of es) → AreNoScans cs (places_of (drop n es))
+  points_left : (n : ℕ) (es : List Keyed) → ArePoints cs (places_of es) → ArePoints cs (places_of (drop n es))
   points_left zero es h = h
   points_left (suc n) [] h = tt
   points_left (suc n) (e ∷ es) h = points_left n es h.1
 
-  pub rest_points : (es rest : List Keyed) (n : ℕ) → rest ≡ drop n es → AreNoScans cs (places_of es) → AreNoScans cs (places_of rest)
-  rest_points es rest n t h = subst (λ (x : List Keyed). AreNoScans cs (places_of x)) (sym t) (points_left n es h)
+  pub rest_points : (es rest : List Keyed) (n : ℕ) → rest ≡ drop n es → ArePoints cs (places_of es) → ArePoints cs (places_of rest)
+  rest_points es rest n t h = subst (λ (x : List Keyed). ArePoints cs (places_of x)) (sym t) (points_left n es h)
 
-  pub from_begun : (page : PageOfKind) (es : List Keyed) (n : ℕ) (r : Route) → AreNoScans cs (places_of es) → begun_below cs page (places_of es) ≡ r ∷ begun_below cs page (places_of (drop n es)) → shares_below cs page (places_of es) ≡ alone r ∷ shares_below cs page (places_of (drop n es))
+  pub from_begun : (page : PageOfKind) (es : List Keyed) (n : ℕ) (r : Route) → ArePoints cs (places_of es) → begun_below cs page (places_of es) ≡ r ∷ begun_below cs page (places_of (drop n es)) → shares_below cs page (places_of es) ≡ alone r ∷ shares_below cs page (places_of (drop n es))
   from_begun page es n r h e =
       let ats = children (child_entries page) None in
       shares-begun (places_of es) ats h ∙ ap (λ (rs : List Route). map alone rs) e ∙ ap (λ (ss : List Share). alone r ∷ ss) (sym (shares-begun (places_of (drop n es)) ats (points_left n es h)))
@@ -518,23 +518,23 @@ module _ {A : Type 0} (cs : List (Command A)) where
   points_alone : (page : PageOfKind) (l : Lent) (ks : List Keyed) → ks ≡ l.keyed → l.reaching ≡ [] → shares_below cs page (places_of ks) ≡ shares_below cs page (all_of (share_of_lent l))
   points_alone page l ks e n = ap (λ (x : List Keyed). shares_below cs page (places_of x)) e ∙ sym (ap (λ (rs : List ℕ). shares_below cs page (rs ++ places_of l.keyed)) n)
 
-  no_scan_at : (ps : List ℕ) → AllByRecursion (λ c. is_scan c ≡ false) cs → AreNoScans cs ps
-  no_scan_at [] h = tt
-  no_scan_at (p ∷ ps) h = (point_at cs p h, no_scan_at ps h)
+  all_points : (ps : List ℕ) → AllByRecursion (λ c. is_ranged c ≡ false) cs → ArePoints cs ps
+  all_points [] h = tt
+  all_points (p ∷ ps) h = (point_at cs p h, all_points ps h)
 
   -- a share of a page that no scan meets
   pub record IsOfPoints (page : PageOfKind) (l : Lent) (ks : List Keyed) : Type 0 where
-    pub points : AreNoScans cs (places_of ks)
+    pub points : ArePoints cs (places_of ks)
     pub alone : shares_below cs page (places_of ks) ≡ shares_below cs page (all_of (share_of_lent l))
 
-  pub of_batch : (page : PageOfKind) (l : Lent) (ks : List Keyed) → ks ≡ l.keyed → CanHandDownShare cs page (share_of_lent l) → list_any is_scan cs ≡ false → IsOfPoints page l ks
+  pub of_batch : (page : PageOfKind) (l : Lent) (ks : List Keyed) → ks ≡ l.keyed → CanHandDownShare cs page (share_of_lent l) → list_any is_ranged cs ≡ false → IsOfPoints page l ks
   of_batch page l ks e h n = record {
-    points = no_scan cs ks n;
-    alone = points_alone page l ks e (none_reached (low_of page) l.reaching (no_scan_at l.reaching (none_found is_scan cs n)) h.reach);
+    points = points_of_batch cs ks n;
+    alone = points_alone page l ks e (none_reached (low_of page) l.reaching (all_points l.reaching (none_found is_ranged cs n)) h.reach);
   }
 
   pub of_share : (page : PageOfKind) (l : Lent) (ks : List Keyed) → ks ≡ l.keyed → is_met cs l ≡ false → IsOfPoints page l ks
   of_share page l ks e n = record {
-    points = subst (λ (x : List Keyed). AreNoScans cs (places_of x)) (sym e) (not_met cs l n);
+    points = subst (λ (x : List Keyed). ArePoints cs (places_of x)) (sym e) (not_met cs l n);
     alone = points_alone page l ks e (none_reaching_by cs l.reaching l.keyed n);
   }

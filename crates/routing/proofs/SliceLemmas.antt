@@ -16,9 +16,9 @@ use Rattle.keys.specs.Order.{order}
 use Rattle.keys.proofs.Basics.{or_turned}
 use Rattle.keys.proofs.MapLemmas.{total}
 use Rattle.keys.specs.CommandKey.{key_of}
+use Rattle.keys.specs.Footprint.{Span, One, Range, span_of, first_of}
 use Rattle.keys.specs.Places.{is_some_that}
 use Rattle.keys.specs.declared.command.Command.{Command}
-use Rattle.keys.specs.declared.command.Command.TheVariants.{Get, Put, Add, Del, Scan}
 use Rattle.index_page.specs.Range.{is_below, is_before, is_within, IsBefore}
 use Rattle.index_page.proofs.ListLemmas.{all-append, all_weaker}
 use Rattle.index_page.proofs.RangeLemmas.{below_is_less, less_is_below, less_through}
@@ -28,7 +28,7 @@ use Rattle.mapping.specs.FreshPids.{is_among}
 use Rattle.routing.specs.BatchKeys.{key_or_empty, key_at}
 use Rattle.routing.specs.Places.{places_below}
 use Rattle.routing.specs.Routes.{goes_to, places_from, places_within}
-use Rattle.routing.specs.SortedPlaces.{order_of_places, AreInKeyOrder, AreSortedPlaces, begins_in, reaches, reaches_at, AreSortedWithin, AreSortedReaching}
+use Rattle.routing.specs.SortedPlaces.{order_of_places, AreInKeyOrder, AreSortedPlaces, begins_in, reaches_page, reaches, reaches_at, AreSortedWithin, AreSortedReaching}
 use Rattle.routing.proofs.RouteLemmas.{among-places, goes_as, all_places, within_parts, rising-places_from, among-append}
 use Rattle.routing.proofs.SortLemmas.{total_places, holds_among, among-permutation, same_sorted, same_number}
 
@@ -130,6 +130,23 @@ pub none_pass : (b : Bool) → (b && false) ≡ false
 none_pass true = refl
 none_pass false = refl
 
+-- ---- spans that reach a page
+
+-- one that does begins below its low key
+reached_below : (low : List ℕ) (s : Span) → reaches_page low s ≡ true → is_below (first_of s) low ≡ true
+reached_below low (One k) h = absurd (cc)
+reached_below low (Range lo hi) h = (and_parts (is_below lo low) (is_before hi low) h).0
+
+-- and it begins in the page before that, or reaches it
+onward_span : (low mid : List ℕ) (s : Span) → order low mid ≡ Less → ((reaches_page low s || is_within low (Some mid) (first_of s)) && reaches_page mid s) ≡ reaches_page mid s
+onward_span low mid (One k) l = none_pass (is_within low (Some mid) k)
+onward_span low mid (Range lo hi) l = onward_by (is_below lo low) (is_below lo mid) true (is_before hi low) (is_before hi mid) (before_earlier hi low mid l)
+
+none_reaches : (s : Span) → reaches_page [] s ≡ false
+none_reaches (One k) = refl
+none_reaches (Range [] hi) = refl
+none_reaches (Range (x ∷ xs) hi) = refl
+
 module _ {A : Type 0} (cs : List (Command A)) where
   -- the key of the place is below this one
   abbrev pub IsBelowKey : List ℕ → ℕ → Type 0
@@ -195,11 +212,7 @@ module _ {A : Type 0} (cs : List (Command A)) where
   -- a scan that reaches a page begins below its low key
   reaching_below_by : (low : List ℕ) (o : Option (Command A)) → is_some_that (reaches low) o ≡ true → is_below (key_or_empty o) low ≡ true
   reaching_below_by low None h = absurd (cc)
-  reaching_below_by low (Some (Get k)) h = absurd (cc)
-  reaching_below_by low (Some (Put k v)) h = absurd (cc)
-  reaching_below_by low (Some (Add k v)) h = absurd (cc)
-  reaching_below_by low (Some (Del k)) h = absurd (cc)
-  reaching_below_by low (Some (Scan lo hi limit)) h = (and_parts (is_below lo low) (is_before hi low) h).0
+  reaching_below_by low (Some c) h = reached_below low (span_of c) h
 
   pub reaching_below : (low : List ℕ) (place : ℕ) → reaches_at cs low place ≡ true → IsBelowKey low place
   reaching_below low place h = reaching_below_by low (slice_get cs place) h
@@ -253,11 +266,7 @@ module _ {A : Type 0} (cs : List (Command A)) where
   -- what reaches a page begins in the one before it, or reaches that
   onward_is : (low mid : List ℕ) (o : Option (Command A)) → order low mid ≡ Less → ((is_some_that (reaches low) o || is_some_that (begins_in low (Some mid)) o) && is_some_that (reaches mid) o) ≡ is_some_that (reaches mid) o
   onward_is low mid None l = refl
-  onward_is low mid (Some (Get k)) l = none_pass (is_within low (Some mid) k)
-  onward_is low mid (Some (Put k v)) l = none_pass (is_within low (Some mid) k)
-  onward_is low mid (Some (Add k v)) l = none_pass (is_within low (Some mid) k)
-  onward_is low mid (Some (Del k)) l = none_pass (is_within low (Some mid) k)
-  onward_is low mid (Some (Scan lo hi limit)) l = onward_by (is_below lo low) (is_below lo mid) true (is_before hi low) (is_before hi mid) (before_earlier hi low mid l)
+  onward_is low mid (Some c) l = onward_span low mid (span_of c) l
 
   -- of those of a page, the ones that reach the next page are all that do
   pub onward : (low mid : List ℕ) (rs ps : List ℕ) → AreSortedReaching low cs rs → AreSortedWithin low (Some mid) cs ps → order low mid ≡ Less → AreSortedReaching mid cs (filter (reaches_at cs mid) (rs ++ ps))
@@ -271,12 +280,7 @@ module _ {A : Type 0} (cs : List (Command A)) where
 
   pub none_reach_by : (o : Option (Command A)) → is_some_that (reaches []) o ≡ false
   none_reach_by None = refl
-  none_reach_by (Some (Get k)) = refl
-  none_reach_by (Some (Put k v)) = refl
-  none_reach_by (Some (Add k v)) = refl
-  none_reach_by (Some (Del k)) = refl
-  none_reach_by (Some (Scan [] hi limit)) = refl
-  none_reach_by (Some (Scan (x ∷ xs) hi limit)) = refl
+  none_reach_by (Some c) = none_reaches (span_of c)
 
   -- nothing reaches the page of the least keys
   pub none_reach : AreSortedReaching [] cs []

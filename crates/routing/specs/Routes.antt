@@ -3,21 +3,22 @@ use Rattle.std.specs.Prelude.{◌≡◌, ℕ, suc, ◌<◌, Bool, true, false, �
 use Rattle.std.specs.List.{AllByRecursion, filter}
 use Rattle.std.specs.List.Sorted.{IsStrictlyIncreasing}
 use Rattle.keys.specs.Bytes.{Bytes}
+use Rattle.keys.specs.Footprint.{Span, One, Range, span_of}
 use Rattle.keys.specs.Places.{is_some_that}
 use Rattle.keys.specs.declared.command.Command.{Command}
-use Rattle.keys.specs.declared.command.Command.TheVariants.{Get, Put, Add, Del, Scan}
 use Rattle.index_page.specs.Range.{is_within}
 use Rattle.index_page.specs.Children.{Place, children, is_between}
 use Rattle.mapping.specs.Levels.{Placed, names}
 
--- whether a command goes to the page with this range of keys: to the page whose range has the command's key, which of a scan
--- is its lower bound; and a scan also to each page whose low key lies between its bounds
+-- whether a span goes to the page with this range of keys: to the page whose range has its key, or its lower bound; and with
+-- bounds also to each page whose low key lies between them
+abbrev pub meets_page : Bytes → Option Bytes → Span → Bool
+meets_page low end (One k) = is_within low end k
+meets_page low end (Range lo hi) = is_within low end lo || is_between lo hi low
+
+-- whether a command goes to the page with this range of keys
 abbrev pub goes_to : {A : Type 0} → Bytes → Option Bytes → Command A → Bool
-goes_to low end (Get k) = is_within low end k
-goes_to low end (Put k v) = is_within low end k
-goes_to low end (Add k v) = is_within low end k
-goes_to low end (Del k) = is_within low end k
-goes_to low end (Scan lo hi limit) = is_within low end lo || is_between lo hi low
+goes_to low end c = meets_page low end (span_of c)
 
 -- whether the command at this place goes to the page with this range
 abbrev pub goes_at : {A : Type 0} → List (Command A) → Bytes → Option Bytes → ℕ → Bool

@@ -4,7 +4,7 @@ use Rattle.std.specs.List.{AllByRecursion, IsDistinct, filter, list_any}
 use Rattle.std.specs.List.Sorted.{IsPermutation, IsNonDecreasing}
 use Rattle.keys.specs.Bytes.{Bytes}
 use Rattle.keys.specs.Order.{IsRising}
-use Rattle.keys.specs.Places.{is_scan_at}
+use Rattle.keys.specs.Places.{is_ranged_at}
 use Rattle.keys.specs.declared.command.Command.{Command}
 use Rattle.index_page.specs.Page.{PageOfKind, first_key, low_of}
 use Rattle.index_page.specs.Page.PageOfKind.{Index}
@@ -17,13 +17,13 @@ use Rattle.routing.specs.Keyed.{Keyed, places_of, AreKeyed}
 use Rattle.routing.specs.Routes.{Route, has_some}
 use Rattle.routing.specs.SortedPlaces.{AreInKeyOrder, reaches_at}
 
--- a page's pid, the places of the commands that begin in the page, and those of the scans that reach it from the left
+-- a page's pid, the places of the commands that begin in the page, and those of the scans and wipes that reach it from the left
 pub record Share : Type 0 where
   pub pid : ℕ
   pub own : List ℕ
   pub reaching : List ℕ
 
--- the places of both: scans that reach a page begin before it
+-- the places of both: what reaches a page begins before it
 abbrev pub all_of : Share → List ℕ
 all_of s = s.reaching ++ s.own
 
@@ -71,20 +71,20 @@ root_shares root ps = filter has_any (record { pid = root; own = ps; reaching = 
 abbrev pub shares_below : {A : Type 0} → List (Command A) → PageOfKind → List ℕ → List Share
 shares_below cs page ps = shares cs ps (children (child_entries page) None)
 
--- a key of the next child that gets anything, of those from this low key on: the low key where scans reach the child there, else
+-- a key of the next child that gets anything, of those from this low key on: the low key where scans or wipes reach the child there, else
 -- the first key of what begins in children, if there is any
 abbrev pub next_key : Bytes → List ℕ → List Keyed → Option Bytes
 next_key low (r ∷ rs) entries = Some low
 next_key low [] [] = None
 next_key low [] (e ∷ es) = Some e.0
 
--- no scan stands at any of these places
-abbrev pub AreNoScans : {A : Type 0} → List (Command A) → List ℕ → Type 0
-AreNoScans cs ps = AllByRecursion (λ place. is_scan_at cs place ≡ false) ps
+-- no command on a range of keys stands at any of these places
+abbrev pub ArePoints : {A : Type 0} → List (Command A) → List ℕ → Type 0
+ArePoints cs ps = AllByRecursion (λ place. is_ranged_at cs place ≡ false) ps
 
--- whether a scan reaches the share's page, or begins in it
+-- whether a scan or a wipe reaches the share's page, or begins in it
 abbrev pub is_met : {A : Type 0} → List (Command A) → Lent → Bool
-is_met cs share = has_some share.reaching || list_any (λ entry. is_scan_at cs entry.1) share.keyed
+is_met cs share = has_some share.reaching || list_any (λ entry. is_ranged_at cs entry.1) share.keyed
 
 -- the places stand in the order of their keys, and for each there is a child
 pub record CanHandDown {A : Type 0} (cs : List (Command A)) (page : PageOfKind) (ps : List ℕ) : Type 0 where
@@ -97,7 +97,7 @@ pub record CanHandDownKeyed {A : Type 0} (cs : List (Command A)) (page : PageOfK
   pub places : CanHandDown cs page (places_of entries)
   pub keys : AreKeyed cs entries
 
--- the share's own places can be handed down, and its scans reach the page's first child, which begins where the page does
+-- the share's own places can be handed down, and its scans and wipes reach the page's first child, which begins where the page does
 pub record CanHandDownShare {A : Type 0} (cs : List (Command A)) (page : PageOfKind) (s : Share) : Type 0 where
   pub own : CanHandDown cs page s.own
   pub some : 0 < length (child_entries page)

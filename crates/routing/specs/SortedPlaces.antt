@@ -6,9 +6,9 @@ use Rattle.std.specs.List.Sorted.{IsPermutation, IsStrictlySortedBy}
 use Rattle.keys.specs.Bytes.{Bytes}
 use Rattle.keys.specs.Order.{order}
 use Rattle.keys.specs.CommandKey.{key_of}
+use Rattle.keys.specs.Footprint.{Span, One, Range, span_of}
 use Rattle.keys.specs.Places.{is_some_that}
 use Rattle.keys.specs.declared.command.Command.{Command}
-use Rattle.keys.specs.declared.command.Command.TheVariants.{Get, Put, Add, Del, Scan}
 use Rattle.index_page.specs.Range.{is_within}
 use Rattle.index_page.specs.Children.{is_between}
 use Rattle.mapping.specs.FreshPids.{is_among}
@@ -33,13 +33,14 @@ pub record AreSortedPlaces {A : Type 0} (cs : List (Command A)) (ps : List ℕ) 
 abbrev pub begins_in : {A : Type 0} → Bytes → Option Bytes → Command A → Bool
 begins_in low end c = is_within low end (key_of c)
 
--- whether a command reaches the page with this low key from the left: it is a scan, and the low key lies between its bounds
+-- whether a span reaches the page with this low key from the left: it has bounds, and the low key lies between them
+abbrev pub reaches_page : Bytes → Span → Bool
+reaches_page low (One k) = false
+reaches_page low (Range lo hi) = is_between lo hi low
+
+-- whether a command does
 abbrev pub reaches : {A : Type 0} → Bytes → Command A → Bool
-reaches low (Get k) = false
-reaches low (Put k v) = false
-reaches low (Add k v) = false
-reaches low (Del k) = false
-reaches low (Scan lo hi limit) = is_between lo hi low
+reaches low c = reaches_page low (span_of c)
 
 -- whether the command at this place does
 abbrev pub reaches_at : {A : Type 0} → List (Command A) → Bytes → ℕ → Bool

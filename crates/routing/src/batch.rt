@@ -2,9 +2,9 @@
 ghost use Rattle.std.specs.Prelude.{◌≡◌, length, map, drop};
 ghost use Rattle.std.specs.List.{list_any};
 ghost use Rattle.std.specs.Option.{option_copied};
-ghost use Rattle.keys.specs.CommandKey.{is_scan};
+ghost use Rattle.keys.specs.CommandKey.{is_ranged};
 ghost use Rattle.keys.specs.Narrowed.{first_end, with_ends};
-ghost use Rattle.keys.specs.Places.{is_scan_at};
+ghost use Rattle.keys.specs.Places.{is_ranged_at};
 ghost use Rattle.routing.specs.BatchKeys.{key_at};
 ghost use Rattle.routing.specs.SortedPlaces.{reaches_at};
 
@@ -61,19 +61,19 @@ impl<'a> BatchWithEnds<'a> {
         }
     }
 
-    // Whether a command of the batch is a scan.
-    pub(crate) fn has_scans(&self) -> bool
-        ensures { result ≡ list_any is_scan self.now }
+    // Whether a command of the batch is on a range of keys.
+    pub(crate) fn has_ranges(&self) -> bool
+        ensures { result ≡ list_any is_ranged self.now }
     {
-        has_scan(self.commands)
+        has_range(self.commands)
     }
 
-    // Whether the command at this place is a scan.
-    pub(crate) fn is_scan_at(&self, place: usize) -> bool
-        ensures { result ≡ is_scan_at self.now place }
+    // Whether the command at this place is on a range of keys.
+    pub(crate) fn is_ranged_at(&self, place: usize) -> bool
+        ensures { result ≡ is_ranged_at self.now place }
     {
         match self.commands.get(place) {
-            Some(command) => command.is_scan(),
+            Some(command) => command.is_ranged(),
             None => false,
         }
     }
@@ -89,11 +89,11 @@ impl<'a> BatchWithEnds<'a> {
     }
 }
 
-// Whether one of these commands is a scan.
-fn has_scan(commands: &[Command<Global>]) -> bool
-    ensures { result ≡ list_any is_scan commands.now }
+// Whether one of these commands is on a range of keys.
+fn has_range(commands: &[Command<Global>]) -> bool
+    ensures { result ≡ list_any is_ranged commands.now }
 {
-    commands.iter().any(|command| command.is_scan())
+    commands.iter().any(|command| command.is_ranged())
 }
 
 // The end at this place, if there is one.

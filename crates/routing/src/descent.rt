@@ -2,7 +2,7 @@
 ghost use Rattle.std.specs.Prelude.{◌≡◌, ◌<◌, ◌≤◌, ◌∷◌, ◌++◌, List, [], length, take, drop, flat_map, IfOk, IfErr, OnOk};
 ghost use Rattle.std.specs.List.{AllByRecursion, list_any};
 ghost use Rattle.std.specs.Option.{option_copied};
-ghost use Rattle.keys.specs.CommandKey.{is_scan};
+ghost use Rattle.keys.specs.CommandKey.{is_ranged};
 ghost use Rattle.keys.specs.declared.command.Command.{Command};
 ghost use Rattle.keys.specs.declared.fault.Fault.TheVariants.{NoMemory};
 ghost use Rattle.mapping.specs.Levels.{levels_of};
@@ -11,11 +11,11 @@ ghost use Rattle.mapping.specs.TreeInMemory.{AreAllHome, tree_of};
 ghost use Rattle.routing.specs.Keyed.{places_of, AreKeyed};
 ghost use Rattle.routing.specs.Routes.{routes};
 ghost use Rattle.routing.specs.SortedPlaces.{AreSortedPlaces};
-ghost use Rattle.routing.specs.Shares.{share_of_lent, lent_shares, all_of, root_shares, shares_below, next_key, CanHandDownKeyed, CanHandDownShare, is_met, AreNoScans, AreReadyShares, AreKeyedShares, share_below, HasEachPlaceOnce, IsInBatchOrder, AreInBatchOrder};
+ghost use Rattle.routing.specs.Shares.{share_of_lent, lent_shares, all_of, root_shares, shares_below, next_key, CanHandDownKeyed, CanHandDownShare, is_met, ArePoints, AreReadyShares, AreKeyedShares, share_below, HasEachPlaceOnce, IsInBatchOrder, AreInBatchOrder};
 
 use crate::batch::BatchWithEnds;
 use crate::page_run::PageRun;
-use crate::reaching::{going_on, has_scan_at};
+use crate::reaching::{going_on, has_range_at};
 use crate::share::Share;
 use crate::sort::{Keyed, count_below, in_batch_order, sorted_places};
 use index_page::Page;
@@ -61,10 +61,10 @@ fn route_sorted(
     ensures { IfOk result (λ runs.
         runs.items ≡ routes (levels_of (tree_of tree.now)).level batch.now) }
 {
-    let scanned = batch.has_scans();
+    let ranged = batch.has_ranges();
     let mut shares = root_share(alloc, tree.root(), keyed)?;
     for _level in 0..tree.height().saturating_sub(1) {
-        shares = one_level_down(alloc, tree, batch, scanned, &shares)?;
+        shares = one_level_down(alloc, tree, batch, ranged, &shares)?;
     }
     each_in_batch_order(alloc, &shares)
 }
@@ -91,11 +91,11 @@ fn one_level_down<'a, 'k>(
     alloc: Global,
     tree: &Tree<Global>,
     batch: &BatchWithEnds<'_>,
-    scanned: bool,
+    ranged: bool,
     shares: &[Share<'a, 'k>],
 ) -> Result<Vec<Share<'a, 'k>>, AllocError>
     requires home { AreAllHome tree.now }
-    requires scanned { scanned ≡ list_any is_scan batch.now }
+    requires ranged { ranged ≡ list_any is_ranged batch.now }
     requires ready { AreReadyShares (tree_of tree.now).pages batch.now shares.now }
     ensures shares { IfOk result (λ below. lent_shares below.items ≡
         flat_map (share_below (tree_of tree.now).pages batch.now) (lent_shares shares.now)) }
@@ -104,23 +104,23 @@ fn one_level_down<'a, 'k>(
     let mut below = Vec::with_capacity(alloc, shares.len())?;
     for share in shares {
         match tree.page(share.pid()) {
-            Some(page) => hand_down(alloc, batch, scanned, page, share, &mut below)?,
+            Some(page) => hand_down(alloc, batch, ranged, page, share, &mut below)?,
             None => unreachable!(),
         }
     }
     Ok(below)
 }
 
-// Hands a page's share down to its children. Only in a batch with scans it is looked whether one meets the page.
+// Hands a page's share down to its children. Only in a batch with scans or wipes it is looked whether one meets the page.
 fn hand_down<'a, 'k>(
     alloc: Global,
     batch: &BatchWithEnds<'_>,
-    scanned: bool,
+    ranged: bool,
     page: &Page<Global>,
     share: &Share<'a, 'k>,
     below: &mut Vec<Share<'a, 'k>>,
 ) -> Result<(), AllocError>
-    requires scanned { scanned ≡ list_any is_scan batch.now }
+    requires ranged { ranged ≡ list_any is_ranged batch.now }
     requires share { CanHandDownShare batch.now page.now (share_of_lent share.now) }
     requires keys { AreKeyed batch.now share.now.keyed }
     ensures shares { OnOk result (lent_shares below.new.items ≡ lent_shares below.old.items ++
@@ -128,21 +128,21 @@ fn hand_down<'a, 'k>(
     ensures keys { OnOk result (AreKeyedShares batch.now below.old.items →
         AreKeyedShares batch.now below.new.items) }
 {
-    if scanned && is_met(batch, share) {
-        hand_down_with_scans(alloc, batch, page, share, below)
+    if ranged && is_met(batch, share) {
+        hand_down_with_ranges(alloc, batch, page, share, below)
     } else {
         hand_down_points(alloc, page, share.keyed(), below)
     }
 }
 
-// Whether a scan reaches the share's page, or begins in it.
+// Whether a scan or a wipe reaches the share's page, or begins in it.
 fn is_met(batch: &BatchWithEnds<'_>, share: &Share<'_, '_>) -> bool
     ensures { result ≡ is_met batch.now share.now }
 {
-    !share.reaching().is_empty() || has_scan_at(batch, share.keyed())
+    !share.reaching().is_empty() || has_range_at(batch, share.keyed())
 }
 
-// The same of a page that no scan meets: each child gets the places of its range, if there are any.
+// The same of a page that no scan and no wipe meets: each child gets the places of its range, if there are any.
 fn hand_down_points<'a, 'k>(
     alloc: Global,
     page: &Page<Global>,
@@ -150,7 +150,7 @@ fn hand_down_points<'a, 'k>(
     below: &mut Vec<Share<'a, 'k>>,
 ) -> Result<(), AllocError>
     requires { (cs : List (Command Global)) × CanHandDownKeyed cs page.now keyed.now }
-    ensures shares { OnOk result ((cs : List (Command Global)) → AreNoScans cs (places_of keyed.now) → CanHandDownKeyed cs page.now keyed.now →
+    ensures shares { OnOk result ((cs : List (Command Global)) → ArePoints cs (places_of keyed.now) → CanHandDownKeyed cs page.now keyed.now →
         lent_shares below.new.items ≡ lent_shares below.old.items ++ shares_below cs page.now (places_of keyed.now)) }
     ensures keys { OnOk result ((cs : List (Command Global)) → AreKeyed cs keyed.now →
         AreKeyedShares cs below.old.items → AreKeyedShares cs below.new.items) }
@@ -172,7 +172,7 @@ fn first_child(page: &Page<Global>, keyed: &[Keyed<'_>]) -> (Pid, usize)
     requires ready { (cs : List (Command Global)) × CanHandDownKeyed cs page.now keyed.now }
     ensures some { 0 < result.1 }
     ensures most { result.1 ≤ length keyed.now }
-    ensures first { (cs : List (Command Global)) → AreNoScans cs (places_of keyed.now) → CanHandDownKeyed cs page.now keyed.now →
+    ensures first { (cs : List (Command Global)) → ArePoints cs (places_of keyed.now) → CanHandDownKeyed cs page.now keyed.now →
         shares_below cs page.now (places_of keyed.now) ≡
         record { pid = result.0; own = places_of (take result.1 keyed.now); reaching = [] } ∷
         shares_below cs page.now (places_of (drop result.1 keyed.now)) }
@@ -188,9 +188,9 @@ fn first_child(page: &Page<Global>, keyed: &[Keyed<'_>]) -> (Pid, usize)
     }
 }
 
-// The same with scans: child by child, from left to right, each with what begins in it and with the scans that reach it. A
+// The same with scans and wipes: child by child, from left to right, each with what begins in it and with those that reach it. A
 // child that gets neither is passed over.
-fn hand_down_with_scans<'a, 'k>(
+fn hand_down_with_ranges<'a, 'k>(
     alloc: Global,
     batch: &BatchWithEnds<'_>,
     page: &Page<Global>,
@@ -228,7 +228,7 @@ fn hand_down_with_scans<'a, 'k>(
     Ok(())
 }
 
-// A key of the next child that gets anything: the next child's low key where scans reach it, else the first key, if there is
+// A key of the next child that gets anything: the next child's low key where scans or wipes reach it, else the first key, if there is
 // one.
 fn next_key<'a, 'k>(keyed: &'a [Keyed<'k>], reaching: &[usize], low: &'a [u8]) -> Option<&'a [u8]>
     ensures { option_copied result ≡ next_key low.now reaching.now keyed.now }

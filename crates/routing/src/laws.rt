@@ -5,9 +5,9 @@ ghost use Rattle.std.specs.List.{AllByRecursion, filter};
 ghost use Rattle.std.specs.List.Sorted.{IsPermutation, IsNonDecreasing};
 ghost use Rattle.keys.specs.Bytes.{Bytes};
 ghost use Rattle.keys.specs.Order.{order};
-ghost use Rattle.keys.specs.Places.{is_scan_at};
+ghost use Rattle.keys.specs.Places.{is_ranged_at};
 ghost use Rattle.keys.specs.declared.command.Command.{Command};
-ghost use Rattle.keys.specs.declared.command.Command.TheVariants.{Scan};
+ghost use Rattle.keys.specs.declared.command.Command.TheVariants.{Scan, Wipe};
 ghost use Rattle.index_page.specs.Children.{Place, meets};
 ghost use Rattle.index_page.specs.Range.{is_below, IsBefore};
 ghost use Rattle.mapping.specs.FreshPids.{is_among};
@@ -20,20 +20,25 @@ ghost use Rattle.routing.specs.SortedPlaces.{reaches_at, AreSortedPlaces, AreSor
 use std::alloc::Allocator;
 
 /// The places of the routes, joined, are places of the batch. Of pages that tile all keys, each place of the batch is among
-/// them, and it is there just once where its command is no scan.
+/// them, and it is there just once where its command is on one key.
 pub fn each_command_goes_to_its_pages<V, A: Allocator>()
     ensures within { (level : List (Placed V)) (cs : List (Command A)) →
         AllByRecursion (λ place. place < length cs) (flat_map (λ r. r.places) (routes level cs)) }
     ensures some { (level : List (Placed V)) (cs : List (Command A)) (place : ℕ) → next_low level None ≡ Some [] → Tiled level None →
         place < length cs → is_among place (flat_map (λ r. r.places) (routes level cs)) ≡ true }
     ensures once { (level : List (Placed V)) (cs : List (Command A)) (place : ℕ) → next_low level None ≡ Some [] → Tiled level None →
-        place < length cs → is_scan_at cs place ≡ false →
+        place < length cs → is_ranged_at cs place ≡ false →
         count_by (λ other. other == place) (flat_map (λ r. r.places) (routes level cs)) ≡ 1 }
 {}
 
 /// A scan goes to just those pages whose ranges meet its bounds: from the lower one on, and before the upper one.
 pub fn a_scan_goes_to_the_pages_that_it_meets<A: Allocator>()
     ensures { (lo : Bytes) (hi : Option Bytes) (limit : ℕ) (at : Place) → goes_to {A = A} at.low at.end (Scan lo hi limit) ≡ meets lo hi at }
+{}
+
+/// A wipe goes to just those pages too: it is cut by page like a scan.
+pub fn a_wipe_goes_to_the_pages_that_it_meets<A: Allocator>()
+    ensures { (lo : Bytes) (hi : Option Bytes) (at : Place) → goes_to {A = A} at.low at.end (Wipe lo hi) ≡ meets lo hi at }
 {}
 
 /// The routes of a level are to its pages, from left to right, and each has what goes to its page: some places of the

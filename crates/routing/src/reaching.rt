@@ -1,9 +1,9 @@
-//! The scans that reach a page from the left: they began in a page before it.
+//! The scans and wipes that reach a page from the left: they began in a page before it.
 ghost use Rattle.std.specs.Prelude.{◌≡◌, ◌++◌, IfOk};
 ghost use Rattle.std.specs.List.{filter, list_any};
 ghost use Rattle.std.specs.Option.{option_copied, option_or};
 ghost use Rattle.keys.specs.Narrowed.{with_end};
-ghost use Rattle.keys.specs.Places.{is_scan_at};
+ghost use Rattle.keys.specs.Places.{is_ranged_at};
 ghost use Rattle.index_page.specs.Range.{is_before};
 ghost use Rattle.routing.specs.Keyed.{places_of};
 ghost use Rattle.routing.specs.SortedPlaces.{reaches, reaches_at};
@@ -13,15 +13,15 @@ use crate::sort::Keyed;
 use keys::{Command, Key, compare, is_before};
 use std::alloc::{AllocError, Global};
 
-/// Whether a scan stands at the place of one of these entries.
-pub(crate) fn has_scan_at(batch: &BatchWithEnds<'_>, keyed: &[Keyed<'_>]) -> bool
-    ensures { result ≡ list_any (λ entry. is_scan_at batch.now entry.1) keyed.now }
+/// Whether a command on a range of keys stands at the place of one of these entries.
+pub(crate) fn has_range_at(batch: &BatchWithEnds<'_>, keyed: &[Keyed<'_>]) -> bool
+    ensures { result ≡ list_any (λ entry. is_ranged_at batch.now entry.1) keyed.now }
 {
-    keyed.iter().any(|entry| batch.is_scan_at(entry.1))
+    keyed.iter().any(|entry| batch.is_ranged_at(entry.1))
 }
 
-/// The scans that go on to the page with this low key: of those that reach the page before it, and of the commands that
-/// begin there. It takes no memory where none goes on.
+/// The scans and wipes that go on to the page with this low key: of those that reach the page before it, and of the commands
+/// that begin there. It takes no memory where none goes on.
 pub(crate) fn going_on(
     alloc: Global,
     batch: &BatchWithEnds<'_>,
@@ -40,8 +40,8 @@ pub(crate) fn going_on(
         .collect(alloc)
 }
 
-/// Whether the command is a scan that begins before this low key, and ends behind it: at the nearer end where it has one, else
-/// at its own upper bound.
+/// Whether the command is a scan or a wipe that begins before this low key, and ends behind it: a scan at the nearer end where
+/// it has one, and else at its own upper bound.
 pub(crate) fn reaches(command: &Command<Global>, end: Option<&[u8]>, low: &[u8]) -> bool
     ensures { result ≡ reaches low.now (with_end (option_copied end.entry) command.now) }
 {
@@ -52,6 +52,8 @@ pub(crate) fn reaches(command: &Command<Global>, end: Option<&[u8]>, low: &[u8])
         Command::Del(_) => false,
         Command::Scan(lo, hi, _) => compare(lo.as_bytes(), low).is_lt()
             && is_before_end(end, hi, low),
+        Command::Wipe(lo, hi) => compare(lo.as_bytes(), low).is_lt()
+            && is_before_end(None, hi, low),
     }
 }
 

@@ -6,7 +6,7 @@ use std::alloc::{AllocError, Global};
 use std::marker::Model;
 
 /// A page's part of a batch, on the way down the tree: what begins in the page, as a part of the sorted places, and the
-/// places of the scans that began in pages further left and reach this one, in the order of their keys. Contracts see it
+/// places of the scans and wipes that began in pages further left and reach this one, in the order of their keys. Contracts see it
 /// as a `Lent`.
 #[derive(Drop)]
 pub(crate) struct Share<'a, 'k> {
@@ -49,14 +49,14 @@ impl<'a, 'k> Share<'a, 'k> {
         self.keyed
     }
 
-    /// A copy of the places of the scans that reach the page from the left.
+    /// A copy of the places of the scans and wipes that reach the page from the left.
     pub(crate) fn copied_reaching(&self, alloc: Global) -> Result<Vec<usize>, AllocError>
         ensures { IfOk result (λ copy. copy.items ≡ self.now.reaching) }
     {
         self.reaching.iter().copied().collect(alloc)
     }
 
-    /// The places of the scans that reach the page from the left.
+    /// The places of the scans and wipes that reach the page from the left.
     pub(crate) fn reaching(&self) -> &[usize]
         ensures { result.now ≡ self.now.reaching }
     {

@@ -4,7 +4,8 @@ use Rattle.std.proofs.Common.{refl, sym, ap, ◌∙◌, subst, arith, append_ass
 use Rattle.std.specs.List.Sorted.{IsPermutation}
 use Rattle.std.specs.Map.{keys_of}
 use Rattle.std.specs.Option.{option_copied}
-use Rattle.std.proofs.lemmas.List.{take-append-drop, take_more, length-take, length-map, map-append}
+use Rattle.std.proofs.lemmas.Grind.{flat_map-append}
+use Rattle.std.proofs.lemmas.List.{append-nil, take-append-drop, take_more, length-take, length-map, map-append}
 use Rattle.keys.specs.Narrowed.{IsEnough, MayEndAt, MayEndAtAll}
 use Rattle.keys.proofs.NarrowedLemmas.{no_ends}
 use Rattle.keys.specs.Range.{is_below, is_before, in_range}
@@ -18,7 +19,7 @@ use Rattle.mapping.specs.Levels.{Placed, joined, names, levels_of}
 use Rattle.mapping.specs.Proper.{next_low, IsTile, Tiled, AreLevels, HoldsLevels}
 use Rattle.mapping.specs.TreeInMemory.{TreeInMemory, tree_of}
 use Rattle.mapping.proofs.TileLemmas.{tiled_apart}
-use Rattle.scan.specs.Ends.{deleted, LacksAtMost, AreCertain}
+use Rattle.scan.specs.Ends.{Taken, deleted, wiped_by, wiped, LacksAtMost, AreCertain}
 use Rattle.scan.specs.Path.{leaf_pages, leaves_from}
 use Rattle.scan.specs.Walk.{walk_from}
 use Rattle.scan.proofs.Enough.{lacks}
@@ -118,21 +119,21 @@ module _ (t : TreeInMemory) (held : HoldsLevels (tree_of t).pages (levels_of (tr
 -- ---- a step of the walk
 
 -- at a leaf, so many pairs are certain before it, of each map that lacks no more than the keys say
-pub record AreCertainBefore (keys : List (List ℕ)) (m : List (List ℕ × List ℕ)) (lo low : List ℕ) (certain : ℕ) : Type 0 where
-  pub each : (n : List (List ℕ × List ℕ)) → LacksAtMost keys m n → certain ≤ length (in_range lo (Some low) n)
+pub record AreCertainBefore (taken : Taken) (m : List (List ℕ × List ℕ)) (lo low : List ℕ) (certain : ℕ) : Type 0 where
+  pub each : (n : List (List ℕ × List ℕ)) → LacksAtMost taken m n → certain ≤ length (in_range lo (Some low) n)
 
-abbrev pub SharesOf : List (List ℕ) → List ℕ → List ℕ → Page (List ℕ) → ℕ → Type 0
-SharesOf keys lo end leaf n =
-    (m l : List (List ℕ × List ℕ)) → LacksAtMost keys m l → is_below leaf.low end ≡ true → page.entries leaf ≡ in_range leaf.low (Some end) m → AreCertain lo l leaf.low end n
+abbrev pub SharesOf : Taken → List ℕ → List ℕ → Page (List ℕ) → ℕ → Type 0
+SharesOf taken lo end leaf n =
+    (m l : List (List ℕ × List ℕ)) → LacksAtMost taken m l → is_below leaf.low end ≡ true → page.entries leaf ≡ in_range leaf.low (Some end) m → AreCertain lo l leaf.low end n
 
-module _ (keys : List (List ℕ)) (level : Level) (lo : List ℕ) (leaf next : Page (List ℕ)) (leaves behind : Leaves) (passing : IsPassing level leaf leaves) (steps : leaves ≡ next ∷ behind) where
+module _ (taken : Taken) (level : Level) (lo : List ℕ) (leaf next : Page (List ℕ)) (leaves behind : Leaves) (passing : IsPassing level leaf leaves) (steps : leaves ≡ next ∷ behind) where
   at_next : IsPassing level leaf (next ∷ behind)
   at_next = subst (λ (x : Leaves). IsPassing level leaf x) steps passing
 
   pub passing_on : IsPassing level next behind
   passing_on = pass_on level leaf next behind at_next
 
-  pub certain_on : (certain share sum : ℕ) → Tiled level None → AreCertainBefore keys (joined level) lo leaf.low certain → SharesOf keys lo next.low leaf share → sum ≤ certain + share → AreCertainBefore keys (joined level) lo next.low sum
+  pub certain_on : (certain share sum : ℕ) → Tiled level None → AreCertainBefore taken (joined level) lo leaf.low certain → SharesOf taken lo next.low leaf share → sum ≤ certain + share → AreCertainBefore taken (joined level) lo next.low sum
   certain_on certain share sum t c s l = record {
     each = λ n lack.
         let upto = leaf_upto level leaf next behind t at_next in
@@ -141,22 +142,22 @@ module _ (keys : List (List ℕ)) (level : Level) (lo : List ℕ) (leaf next : P
         omega (arith, l, before, here);
   }
 
-  enough : (hi : Option (List ℕ)) (limit certain : ℕ) → AreCertainBefore keys (joined level) lo next.low certain → is_below lo next.low ≡ true → is_before hi next.low ≡ true → limit ≤ certain
-      → (n : List (List ℕ × List ℕ)) → LacksAtMost keys (joined level) n → IsEnough (keys_of (names level)) n lo hi limit next.low
+  enough : (hi : Option (List ℕ)) (limit certain : ℕ) → AreCertainBefore taken (joined level) lo next.low certain → is_below lo next.low ≡ true → is_before hi next.low ≡ true → limit ≤ certain
+      → (n : List (List ℕ × List ℕ)) → LacksAtMost taken (joined level) n → IsEnough (keys_of (names level)) n lo hi limit next.low
   enough hi limit certain c b h l = λ n lack.
       let on = passing_on in
       let each = c.each n lack in
       record { known = low_among level on.passed next behind on.whole; behind = b; before = h; rows = omega (arith, l, each) }
 
   -- both at once: what is certain before the next leaf is enough
-  pub enough_on : (hi : Option (List ℕ)) (limit certain share sum : ℕ) → Tiled level None → AreCertainBefore keys (joined level) lo leaf.low certain → SharesOf keys lo next.low leaf share → sum ≤ certain + share
-      → is_below lo next.low ≡ true → is_before hi next.low ≡ true → limit ≤ sum → (n : List (List ℕ × List ℕ)) → LacksAtMost keys (joined level) n → IsEnough (keys_of (names level)) n lo hi limit next.low
+  pub enough_on : (hi : Option (List ℕ)) (limit certain share sum : ℕ) → Tiled level None → AreCertainBefore taken (joined level) lo leaf.low certain → SharesOf taken lo next.low leaf share → sum ≤ certain + share
+      → is_below lo next.low ≡ true → is_before hi next.low ≡ true → limit ≤ sum → (n : List (List ℕ × List ℕ)) → LacksAtMost taken (joined level) n → IsEnough (keys_of (names level)) n lo hi limit next.low
   enough_on hi limit certain share sum t c s l b h w = enough hi limit sum (certain_on certain share sum t c s l) b h w
 
 -- ---- a batch
 
--- each part of a batch leaves a map that lacks no more than the keys say
-pub lacks_at : {A : Type 0} → (m : List (List ℕ × List ℕ)) (cs : List (Command A)) (place : ℕ) (keys : List (List ℕ)) → IsPermutation (deleted cs) keys → LacksAtMost keys m (map_after_all m (take place cs))
+-- each part of a batch leaves a map that lacks no more than what its commands take away
+pub lacks_at : {A : Type 0} → (m : List (List ℕ × List ℕ)) (cs : List (Command A)) (place : ℕ) (keys : List (List ℕ)) → IsPermutation (deleted cs) keys → LacksAtMost (keys, wiped (take place cs)) m (map_after_all m (take place cs))
 lacks_at {A} m cs place keys p =
     lacks m (take place cs) (drop place cs) keys (subst (λ (x : List (Command A)). IsPermutation (deleted x) keys) (sym (take-append-drop place cs)) p)
 
@@ -183,13 +184,24 @@ module _ {A : Type 0} where
   pub none_end : (keys : List (List ℕ)) (m : List (List ℕ × List ℕ)) (cs : List (Command A)) (ends : List (Option (Bor (List ℕ)))) → ends ≡ [] → MayEndAtAll keys m cs (map option_copied ends)
   none_end keys m cs ends e = subst (λ (x : List (Option (Bor (List ℕ)))). MayEndAtAll keys m cs (map option_copied x)) (sym e) (no_ends keys m cs)
 
+  -- the ranges of one more command
+  pub one_wiped : (d : Command A) (cs : List (Command A)) (place : ℕ) (c : Command A) (old new : List (List ℕ × Option (List ℕ))) → place < length cs → c ≡ get_or cs place c → old ≡ wiped (take place cs) → new ≡ old ++ wiped_by c
+      → new ≡ wiped (take (place + 1) cs)
+  one_wiped d cs place c old new w is o n =
+      let whole : take (place + 1) cs ≡ take place cs ++ c ∷ [] = take_more cs place c w ∙ ap (λ (e : Command A). take place cs ++ e ∷ []) (sym is) in
+      n ∙ ap (λ (rs : List (List ℕ × Option (List ℕ))). rs ++ wiped_by c) o
+      ∙ ap (λ (rs : List (List ℕ × Option (List ℕ))). wiped (take place cs) ++ rs) (sym (append-nil (wiped_by c)))
+      ∙ sym (flat_map-append wiped_by (take place cs) (c ∷ []))
+      ∙ sym (ap (λ (ds : List (Command A)). wiped ds) whole)
+
   -- so it goes on from place to place
-  pub ends_on : (keys kept deletes : List (List ℕ)) (m : List (List ℕ × List ℕ)) (cs : List (Command A)) (place : ℕ) (c : Command A) (ends new : List (Option (Bor (List ℕ)))) (end : Option (Bor (List ℕ)))
-      → IsPermutation (deleted cs) kept → deletes ≡ kept → place < length cs → c ≡ get_or cs place c → length ends ≡ place → new ≡ ends ++ end ∷ []
-      → ((n : List (List ℕ × List ℕ)) → LacksAtMost deletes m n → MayEndAt keys n c (option_copied end)) → MayEndAtAll keys m (take place cs) (map option_copied ends) → MayEndAtAll keys m (take (place + 1) cs) (map option_copied new)
-  ends_on keys kept deletes m cs place c ends new end p l w is count e h a =
+  pub ends_on : (keys kept deletes : List (List ℕ)) (ranges lent : List (List ℕ × Option (List ℕ))) (m : List (List ℕ × List ℕ)) (cs : List (Command A)) (place : ℕ) (c : Command A) (ends new : List (Option (Bor (List ℕ)))) (end : Option (Bor (List ℕ)))
+      → IsPermutation (deleted cs) kept → deletes ≡ kept → ranges ≡ wiped (take place cs) → lent ≡ ranges → place < length cs → c ≡ get_or cs place c → length ends ≡ place → new ≡ ends ++ end ∷ []
+      → ((n : List (List ℕ × List ℕ)) → LacksAtMost (deletes, lent) m n → MayEndAt keys n c (option_copied end)) → MayEndAtAll keys m (take place cs) (map option_copied ends) → MayEndAtAll keys m (take (place + 1) cs) (map option_copied new)
+  ends_on keys kept deletes ranges lent m cs place c ends new end p l o v w is count e h a =
       let first : List (Command A) = take place cs in
-      let here : MayEndAt keys (map_after_all m first) c (option_copied end) = h (map_after_all m first) (subst (λ (x : List (List ℕ)). LacksAtMost x m (map_after_all m first)) (sym l) (lacks_at m cs place kept p)) in
+      let here : MayEndAt keys (map_after_all m first) c (option_copied end) = h (map_after_all m first) (subst (λ (x : List (List ℕ)). LacksAtMost (x, lent) m (map_after_all m first)) (sym l)
+      (subst (λ (x : List (List ℕ × Option (List ℕ))). LacksAtMost (kept, x) m (map_after_all m first)) (sym (v ∙ o)) (lacks_at m cs place kept p))) in
       let long : length first ≡ place = omega (arith, length-take place cs, w) in
       let many : length (map option_copied ends) ≡ length first = length-map ends option_copied ∙ count ∙ sym long in
       let whole : take (place + 1) cs ≡ first ++ c ∷ [] = take_more cs place c w ∙ ap (λ (d : Command A). first ++ d ∷ []) (sym is) in

@@ -1,27 +1,28 @@
 -- Lemmas on how many pairs a range has at least, after commands of which some delete.
-use Rattle.std.specs.Prelude.{◌≡◌, ℕ, zero, suc, ◌+◌, ◌-◌, ◌<◌, ◌≤◌, Bool, true, false, not, ◌&&◌, cond, List, [], ◌∷◌, ◌++◌, length, min, take, drop, Option, Some, None, is_some, if◌then◌else◌}
+use Rattle.std.specs.Prelude.{◌≡◌, ℕ, zero, suc, ◌+◌, ◌-◌, ◌<◌, ◌≤◌, Bool, true, false, not, ◌&&◌, ◌||◌, cond, List, [], ◌∷◌, ◌++◌, length, min, take, drop, Option, Some, None, is_some, if◌then◌else◌}
 use Rattle.std.proofs.Common.{refl, sym, ap, ◌∙◌, subst, arith, Ordering, Less, Equal, Greater, length-append, length-drop, get_or}
 use Rattle.std.specs.List.{AllByRecursion, filter}
 use Rattle.std.specs.List.Sorted.{IsPermutation, IsSorted, IsPartitionedBy, IsPartitionPoint}
 use Rattle.std.specs.Map.{keys_of}
 use Rattle.std.specs.Ordering.{is_lt, is_eq, match_ordering}
 use Rattle.std.proofs.lemmas.Grind.{flat_map-append}
+use Rattle.std.proofs.lemmas.List.Folds.{list_any-append}
 use Rattle.std.proofs.lemmas.List.{get_or-take, get_or-drop, length-take}
 use Rattle.std.proofs.lemmas.List.Elements.{filter-append, recursion_from_All}
 use Rattle.std.proofs.lemmas.List.Sums.{length-filter}
 use Rattle.std.proofs.lemmas.List.Sorted.{sum_by-IsPermutation, sorted_far, ranks_by}
 use Rattle.keys.specs.Order.{order}
 use Rattle.keys.specs.OrderedMap.{value_at, with_pair, without}
-use Rattle.keys.specs.Range.{is_below, is_within, in_range}
+use Rattle.keys.specs.Range.{is_below, is_before, is_within, in_range, out_of_range}
 use Rattle.keys.specs.Step.{map_after, map_after_all}
 use Rattle.keys.specs.declared.command.Command.{Command}
-use Rattle.keys.specs.declared.command.Command.TheVariants.{Get, Put, Add, Del, Scan}
+use Rattle.keys.specs.declared.command.Command.TheVariants.{Get, Put, Add, Del, Scan, Wipe}
 use Rattle.keys.proofs.MapLemmas.{total, passes_same}
 use Rattle.keys.proofs.RangeLemmas.{none_in_range}
 use Rattle.delta_chain.specs.Layers.{Layers, with_change, with_run, entries_under, entries_of}
-use Rattle.index_page.proofs.RangeLemmas.{less_is_below, below_is_less, less_through, not_below_lower}
+use Rattle.index_page.proofs.RangeLemmas.{less_is_below, below_is_less, less_through, low_through, not_below_lower}
 use Rattle.page_search.specs.Places.{count_below}
-use Rattle.scan.specs.Ends.{deleted_by, deleted, count_within, LacksAtMost, AreCertain, keyed_below, named_below_under, named_below}
+use Rattle.scan.specs.Ends.{Taken, deleted_by, deleted, wiped_by, wiped, meets_range, is_wiped_within, count_within, LacksAtMost, AreCertain, keyed_below, named_below_under, named_below}
 
 -- ---- how many are kept of a list, one element at a time
 
@@ -152,19 +153,36 @@ module _ (t : List ℕ → Bool) where
   among : (xs ys : List (List ℕ)) → length (filter t (xs ++ ys)) ≡ length (filter t xs) + length (filter t ys)
   among xs ys = ap (λ (zs : List (List ℕ)). length zs) (filter-append t xs ys) ∙ length-append (filter t xs) (filter t ys)
 
-  module _ {A : Type 0} where
-    most_after : (m : Pairs) (c : Command A) → length (Passing m) ≤ length (Passing (map_after m c)) + length (filter t (deleted_by c))
-    most_after m (Get k) = omega arith
-    most_after m (Put k v) = let h = most_put m k v in omega (arith, h)
-    most_after m (Add k v) = let h = either (is_some (value_at k m)) m (with_pair m k v) (most_put m k v) in omega (arith, h)
-    most_after m (Del k) = most_del m k
-    most_after m (Scan lo hi limit) = omega arith
+  gone_by : (b : Bool) (e : List ℕ × List ℕ) (xs ys : Pairs) → (b ≡ true → true ≡ false) → length xs ≤ length ys → length (cond b (e ∷ xs) xs) ≤ length ys
+  gone_by true e xs ys f h = absurd (let w : true ≡ false = f refl in cc)
+  gone_by false e xs ys f h = h
 
-    most_after_all : (m : Pairs) (cs : List (Command A)) → length (Passing m) ≤ length (Passing (map_after_all m cs)) + length (filter t (deleted cs))
-    most_after_all m [] = omega arith
-    most_after_all m (c ∷ cs) =
-        let one = most_after m c in
-        let rest = most_after_all (map_after m c) cs in
+  spared_by : (w : Bool) (e : List ℕ × List ℕ) (es rest : Pairs) → (t e.0 ≡ true → w ≡ false) → length (Passing es) ≤ length (Passing rest) → length (Passing (e ∷ es)) ≤ length (Passing (cond (not w) (e ∷ rest) rest))
+  spared_by true e es rest f h = gone_by (t e.0) e (Passing es) (Passing rest) f h
+  spared_by false e es rest f h = same_by (t e.0) e e (Passing es) (Passing rest) h
+
+  -- a range none of whose keys passes takes none away
+  abbrev IsSpared : List ℕ × Option (List ℕ) → Type 0
+  IsSpared range = (k : List ℕ) → t k ≡ true → is_within range.0 range.1 k ≡ false
+
+  most_wipe : (m : Pairs) (lo : List ℕ) (hi : Option (List ℕ)) → IsSpared (lo, hi) → length (Passing m) ≤ length (Passing (out_of_range lo hi m))
+  most_wipe [] lo hi f = omega arith
+  most_wipe (e ∷ es) lo hi f = spared_by (is_within lo hi e.0) e es (out_of_range lo hi es) (f e.0) (most_wipe es lo hi f)
+
+  module _ {A : Type 0} where
+    most_after : (m : Pairs) (c : Command A) → AllByRecursion IsSpared (wiped_by c) → length (Passing m) ≤ length (Passing (map_after m c)) + length (filter t (deleted_by c))
+    most_after m (Get k) f = omega arith
+    most_after m (Put k v) f = let h = most_put m k v in omega (arith, h)
+    most_after m (Add k v) f = let h = either (is_some (value_at k m)) m (with_pair m k v) (most_put m k v) in omega (arith, h)
+    most_after m (Del k) f = most_del m k
+    most_after m (Scan lo hi limit) f = omega arith
+    most_after m (Wipe lo hi) f = let h = most_wipe m lo hi f.0 in omega (arith, h)
+
+    most_after_all : (m : Pairs) (cs : List (Command A)) → AllByRecursion (λ c. AllByRecursion IsSpared (wiped_by c)) cs → length (Passing m) ≤ length (Passing (map_after_all m cs)) + length (filter t (deleted cs))
+    most_after_all m [] f = omega arith
+    most_after_all m (c ∷ cs) f =
+        let one = most_after m c f.0 in
+        let rest = most_after_all (map_after m c) cs f.1 in
         let parts = among (deleted_by c) (deleted cs) in
         omega (arith, one, rest, parts)
 
@@ -178,11 +196,52 @@ module _ (t : List ℕ → Bool) where
   same_count : (xs ys : List (List ℕ)) → IsPermutation xs ys → length (filter t ys) ≡ length (filter t xs)
   same_count xs ys p = length-filter t ys ∙ sum_by-IsPermutation (λ k. cond (t k) 1 0) xs ys p ∙ sym (length-filter t xs)
 
--- after some of the commands, in each range at most as many pairs are lacking as the commands delete there
-pub lacks : {A : Type 0} → (m : Pairs) (xs ys : List (Command A)) (keys : List (List ℕ)) → IsPermutation (deleted (xs ++ ys)) keys → LacksAtMost keys m (map_after_all m xs)
-lacks m xs ys keys p = λ low end.
+-- ---- ranges that don't meet a leaf
+
+not_true : (b : Bool) → not b ≡ true → b ≡ false
+not_true true h = absurd (cc)
+not_true false h = refl
+
+both_of : (a b : Bool) → (a && b) ≡ true → (a ≡ true) × (b ≡ true)
+both_of true b h = (refl, h)
+both_of false b h = absurd (cc)
+
+neither_of : (a b : Bool) → (a || b) ≡ false → (a ≡ false) × (b ≡ false)
+neither_of true b h = absurd (cc)
+neither_of false b h = (refl, h)
+
+before_from : (hi : Option (List ℕ)) (low k : List ℕ) → is_below k low ≡ false → is_before hi k ≡ true → is_before hi low ≡ true
+before_from None low k h b = refl
+before_from (Some hi) low k h b = less_is_below low hi (low_through low k hi h (below_is_less k hi b))
+
+outside_by : (w : Bool) (low end lo : List ℕ) (hi : Option (List ℕ)) (k : List ℕ) → is_within lo hi k ≡ w → meets_range low end (lo, hi) ≡ false → is_within low (Some end) k ≡ true → w ≡ false
+outside_by false low end lo hi k e m h = refl
+outside_by true low end lo hi k e m h =
+    let own = both_of (not (is_below k lo)) (is_before hi k) e in
+    let there = both_of (not (is_below k low)) (is_below k end) h in
+    let first : is_below lo end ≡ true = less_is_below lo end (low_through lo k end (not_true (is_below k lo) own.0) (below_is_less k end there.1)) in
+    let second : is_before hi low ≡ true = before_from hi low k (not_true (is_below k low) there.0) own.1 in
+    absurd (let t : meets_range low end (lo, hi) ≡ true = rw (first, second) refl in cc)
+
+-- no key there lies in a range that doesn't meet the leaf
+spared_where : (low end : List ℕ) (ranges : List (List ℕ × Option (List ℕ))) → is_wiped_within low end ranges ≡ false → AllByRecursion (λ range. (k : List ℕ) → is_within low (Some end) k ≡ true → is_within range.0 range.1 k ≡ false) ranges
+spared_where low end [] h = tt
+spared_where low end (range ∷ ranges) h =
+    let parts = neither_of (meets_range low end range) (is_wiped_within low end ranges) h in
+    (λ k w. outside_by (is_within range.0 range.1 k) low end range.0 range.1 k refl parts.0 w, spared_where low end ranges parts.1)
+
+spared_of : {A : Type 0} (low end : List ℕ) (cs : List (Command A)) → is_wiped_within low end (wiped cs) ≡ false
+    → AllByRecursion (λ c. AllByRecursion (λ range. (k : List ℕ) → is_within low (Some end) k ≡ true → is_within range.0 range.1 k ≡ false) (wiped_by c)) cs
+spared_of low end [] h = tt
+spared_of low end (c ∷ cs) h =
+    let parts = neither_of (is_wiped_within low end (wiped_by c)) (is_wiped_within low end (wiped cs)) (sym (list_any-append (meets_range low end) (wiped_by c) (wiped cs)) ∙ h) in
+    (spared_where low end (wiped_by c) parts.0, spared_of low end cs parts.1)
+
+-- after some of the commands, in each range that none of them wipes at most as many pairs are lacking as the commands delete there
+pub lacks : {A : Type 0} → (m : Pairs) (xs ys : List (Command A)) (keys : List (List ℕ)) → IsPermutation (deleted (xs ++ ys)) keys → LacksAtMost (keys, wiped xs) m (map_after_all m xs)
+lacks m xs ys keys p = λ low end h.
     let t : List ℕ → Bool = λ k. is_within low (Some end) k in
-    let most = most_after_all t m xs in
+    let most = most_after_all t m xs (spared_of low end xs h) in
     let first = most_of_first t xs ys in
     let same = same_count t (deleted (xs ++ ys)) keys p in
     omega (arith, most, first, same)
@@ -190,13 +249,19 @@ lacks m xs ys keys p = λ low end.
 -- ---- a leaf's share
 
 -- of a leaf from its low key on, what it has at least, less the keys that are deleted there
-pub some_certain : (lo low end : List ℕ) (keys : List (List ℕ)) (m n es : Pairs) (fewest gone left : ℕ) → is_below low lo ≡ false → is_below low end ≡ true → LacksAtMost keys m n → es ≡ in_range low (Some end) m → fewest ≤ length es
-    → count_within low end keys ≤ gone → left ≡ fewest - gone → AreCertain lo n low end left
-some_certain lo low end keys m n es fewest gone left b h l e f c s =
+pub some_certain : (lo low end : List ℕ) (taken : Taken) (m n es : Pairs) (fewest gone left : ℕ) → is_below low lo ≡ false → is_below low end ≡ true → is_wiped_within low end taken.1 ≡ false → LacksAtMost taken m n → es ≡ in_range low (Some end) m → fewest ≤ length es
+    → count_within low end taken.0 ≤ gone → left ≡ fewest - gone → AreCertain lo n low end left
+some_certain lo low end taken m n es fewest gone left b h w l e f c s =
     let here : length es ≡ length (in_range low (Some end) m) = ap (λ (x : Pairs). length x) e in
-    let lack = l low end in
+    let lack = l low end w in
     let sum = between (λ e. is_below e.0 lo) (λ e. is_below e.0 low) (λ e. is_below e.0 end) n (λ e q. below_higher e.0 lo low b q) (λ e q. below_through e.0 low end q h) in
     omega (arith, here, lack, sum, f, c, s)
+
+-- and certainly none, at least
+pub none_here : (lo low end : List ℕ) (n : Pairs) → is_below low lo ≡ false → is_below low end ≡ true → AreCertain lo n low end 0
+none_here lo low end n b h =
+    let sum = between (λ e. is_below e.0 lo) (λ e. is_below e.0 low) (λ e. is_below e.0 end) n (λ e q. below_higher e.0 lo low b q) (λ e q. below_through e.0 low end q h) in
+    omega (arith, sum)
 
 -- ---- the leaf in which a scan begins
 
@@ -291,10 +356,10 @@ module _ (lo : List ℕ) where
       parted_by (is_within low (Some end) e.0) (is_below e.0 lo) (is_below e.0 end) e (in_range low (Some end) m) (in_range lo (Some end) m) refl (before_by (is_below e.0 low) (is_below e.0 end)) (parted_range low end m)
 
 -- a scan that begins within the leaf has what the leaf has at least, less what it names below the scan, and what is deleted
-pub behind_certain : (lo low end : List ℕ) (keys : List (List ℕ)) (m n : Pairs) (p : Layers (List ℕ)) (fewest most named gone left : ℕ) → is_below low lo ≡ true → LacksAtMost keys m n → entries_of p ≡ in_range low (Some end) m
-    → fewest ≤ length (entries_of p) → fewest ≤ most → named ≡ min (named_below lo p) most → count_within lo end keys ≤ gone → left ≡ (fewest - named) - gone → AreCertain lo n low end left
-behind_certain lo low end keys m n p fewest most named gone left b l e f u s g r =
-    let lack = l lo end in
+pub behind_certain : (lo low end : List ℕ) (taken : Taken) (m n : Pairs) (p : Layers (List ℕ)) (fewest most named gone left : ℕ) → is_below low lo ≡ true → is_wiped_within lo end taken.1 ≡ false → LacksAtMost taken m n → entries_of p ≡ in_range low (Some end) m
+    → fewest ≤ length (entries_of p) → fewest ≤ most → named ≡ min (named_below lo p) most → count_within lo end taken.0 ≤ gone → left ≡ (fewest - named) - gone → AreCertain lo n low end left
+behind_certain lo low end taken m n p fewest most named gone left b w l e f u s g r =
+    let lack = l lo end w in
     let parts = parted_range lo low end m in
     let below = entries_below lo p.runs p.base in
     let whole : length (entries_of p) ≡ length (in_range low (Some end) m) = ap (λ (x : Pairs). length x) e in

@@ -1,31 +1,57 @@
--- What is certain of the pairs that a scan finds before a leaf, while commands before it may delete some.
-use Rattle.std.specs.Prelude.{ℕ, ◌+◌, ◌≤◌, List, [], ◌∷◌, flat_map, length, Some}
-use Rattle.std.specs.List.{filter}
+-- What is certain of the pairs that a scan finds before a leaf, while commands before it may delete some, and wipe ranges.
+use Rattle.std.specs.Prelude.{◌≡◌, ℕ, ◌+◌, ◌≤◌, Bool, false, ◌&&◌, List, [], ◌∷◌, flat_map, length, Option, Some}
+use Rattle.std.specs.List.{filter, list_any}
 use Rattle.keys.specs.Bytes.{Bytes, Pairs, Changes}
 use Rattle.delta_chain.specs.Layers.{Layers}
-use Rattle.keys.specs.Range.{is_below, is_within, in_range}
+use Rattle.keys.specs.Footprint.{Deed, Takes, Span, One, Range, deed_of, span_of}
+use Rattle.keys.specs.Range.{is_below, is_before, is_within, in_range}
 use Rattle.keys.specs.declared.command.Command.{Command}
-use Rattle.keys.specs.declared.command.Command.TheVariants.{Get, Put, Add, Del, Scan}
 
--- the key that a command deletes, where it does
+-- the key that a command takes away, where it takes one
+abbrev pub key_taken : Deed → Span → List Bytes
+key_taken Takes (One k) = k ∷ []
+key_taken deed span = []
+
 abbrev pub deleted_by : {A : Type 0} → Command A → List Bytes
-deleted_by (Get k) = []
-deleted_by (Put k v) = []
-deleted_by (Add k v) = []
-deleted_by (Del k) = k ∷ []
-deleted_by (Scan lo hi limit) = []
+deleted_by c = key_taken (deed_of c) (span_of c)
 
 -- the keys that commands delete, each as often as a command deletes it
 abbrev pub deleted : {A : Type 0} → List (Command A) → List Bytes
 deleted cs = flat_map deleted_by cs
 
+-- the range of keys that a command takes away, where it takes one: its lower bound, and its upper one, if it has any
+abbrev pub range_taken : Deed → Span → List (Bytes × Option Bytes)
+range_taken Takes (Range lo hi) = (lo, hi) ∷ []
+range_taken deed span = []
+
+abbrev pub wiped_by : {A : Type 0} → Command A → List (Bytes × Option Bytes)
+wiped_by c = range_taken (deed_of c) (span_of c)
+
+-- the ranges that commands take away
+abbrev pub wiped : {A : Type 0} → List (Command A) → List (Bytes × Option Bytes)
+wiped cs = flat_map wiped_by cs
+
+-- whether a key from a low one on, and below an end, may lie in a range
+abbrev pub meets_range : Bytes → Bytes → Bytes × Option Bytes → Bool
+meets_range low end range = is_below range.0 end && is_before range.1 low
+
+-- whether one may lie in any of them
+abbrev pub is_wiped_within : Bytes → Bytes → List (Bytes × Option Bytes) → Bool
+is_wiped_within low end ranges = list_any (meets_range low end) ranges
+
+-- keys and ranges of keys that are taken away
+abbrev pub Taken : Type 0
+Taken = List Bytes × List (Bytes × Option Bytes)
+
 -- how many of the keys lie from a low one on, and below an end
 abbrev pub count_within : Bytes → Bytes → List Bytes → ℕ
 count_within low end keys = length (filter (λ k. is_within low (Some end) k) keys)
 
--- in each range, the second map lacks at most as many of the first one's pairs as there are of these keys
-abbrev pub LacksAtMost : List Bytes → Pairs Bytes → Pairs Bytes → Type 0
-LacksAtMost keys m n = (low end : Bytes) → length (in_range low (Some end) m) ≤ length (in_range low (Some end) n) + count_within low end keys
+-- from a low key on, and below an end, the second map lacks at most as many of the first one's pairs as there are of these keys, where
+-- none of these ranges takes any away there
+abbrev pub LacksAtMost : Taken → Pairs Bytes → Pairs Bytes → Type 0
+LacksAtMost taken m n = (low end : Bytes) → is_wiped_within low end taken.1 ≡ false →
+    length (in_range low (Some end) m) ≤ length (in_range low (Some end) n) + count_within low end taken.0
 
 -- of a scan of the map from a key on, as many pairs more lie before an end than before a low key, at least
 abbrev pub AreCertain : Bytes → Pairs Bytes → Bytes → Bytes → ℕ → Type 0

@@ -18,6 +18,7 @@ ghost use Rattle.scan.specs.Ends.{deleted, count_within, LacksAtMost, AreCertain
 
 use crate::ahead::place_from;
 use crate::leaves::Leaves;
+use crate::wiped::{WipedRange, is_wiped_within, note_wipe};
 use delta_chain::Chain;
 use keys::{Command, KeyRef, Value, compare, is_before};
 use mapping::Tree;
@@ -44,9 +45,11 @@ pub fn scan_ends<'a>(
         return Ok(Vec::new(alloc));
     }
     let deleted = deleted_keys(alloc, commands)?;
+    let mut wiped = Vec::new(alloc);
     let mut ends = Vec::with_capacity(alloc, commands.len())?;
     for command in commands {
-        ends.push(end_of(alloc, tree, command, &deleted))?;
+        ends.push(end_of(alloc, tree, command, &deleted, &wiped))?;
+        note_wipe(&mut wiped, command)?;
     }
     Ok(ends)
 }
@@ -79,19 +82,21 @@ fn deleted_keys<'c>(
     Ok(keys)
 }
 
-// The key at which the command may end, where it is a scan. The commands before it have deleted no other keys than these.
+// The key at which the command may end, where it is a scan. The commands before it have deleted no other keys than these, and wiped
+// no other ranges.
 fn end_of<'a>(
     alloc: Global,
     tree: &'a Tree<Global>,
     command: &Command<Global>,
     deleted: &[KeyRef<'_>],
+    wiped: &[WipedRange<'_>],
 ) -> Option<&'a [u8]>
     requires home { AreAllHome tree.now }
     requires height { tree.now.height ≤ most_levels }
     requires held { HoldsLevels (tree_of tree.now).pages (levels_of (tree_of tree.now)) }
     requires levels { AreLevels (levels_of (tree_of tree.now)) }
     requires sorted { IsSorted order deleted.now }
-    ensures { (m : Pairs Bytes) → LacksAtMost deleted.now (contents (tree_of tree.now)) m
+    ensures { (m : Pairs Bytes) → LacksAtMost (deleted.now, wiped.now) (contents (tree_of tree.now)) m
         → MayEndAt (keys_of (names (levels_of (tree_of tree.now)).level))
         m command.now (option_copied result) }
 {
@@ -106,8 +111,9 @@ fn end_of<'a>(
             Some(hi.as_bytes()),
             *limit,
             deleted,
+            wiped,
         ),
-        None => end_of_scan(alloc, tree, lo.as_bytes(), None, *limit, deleted),
+        None => end_of_scan(alloc, tree, lo.as_bytes(), None, *limit, deleted, wiped),
     }
 }
 
@@ -119,13 +125,14 @@ fn end_of_scan<'a>(
     hi: Option<&[u8]>,
     limit: u32,
     deleted: &[KeyRef<'_>],
+    wiped: &[WipedRange<'_>],
 ) -> Option<&'a [u8]>
     requires home { AreAllHome tree.now }
     requires height { tree.now.height ≤ most_levels }
     requires held { HoldsLevels (tree_of tree.now).pages (levels_of (tree_of tree.now)) }
     requires levels { AreLevels (levels_of (tree_of tree.now)) }
     requires sorted { IsSorted order deleted.now }
-    ensures { (m : Pairs Bytes) → LacksAtMost deleted.now (contents (tree_of tree.now)) m
+    ensures { (m : Pairs Bytes) → LacksAtMost (deleted.now, wiped.now) (contents (tree_of tree.now)) m
         → IfSome result (λ end. IsEnough (keys_of (names (levels_of (tree_of tree.now)).level))
         m lo.now (option_copied hi.entry) limit end.now) }
 {
@@ -136,7 +143,7 @@ fn end_of_scan<'a>(
         if !is_before(hi, end) {
             return None;
         }
-        certain = certain.saturating_add(certain_pairs(leaf.1, leaf.0, end, lo, deleted));
+        certain = certain.saturating_add(certain_pairs(leaf.1, leaf.0, end, lo, deleted, wiped));
         if certain >= limit as usize && compare(lo, end).is_lt() {
             return Some(end);
         }
@@ -146,22 +153,27 @@ fn end_of_scan<'a>(
 }
 
 // How many of the pairs of a leaf, which begins at the low key and ends at the other, a scan from a key on certainly has,
-// whatever the commands before it do that delete these keys.
+// whatever the commands before it do that delete these keys and wipe these ranges. Of a leaf that is wiped, or a part of it, nothing
+// is certain.
 fn certain_pairs(
     chain: &Chain<Value<Global>, Global>,
     low: &[u8],
     end: &[u8],
     lo: &[u8],
     deleted: &[KeyRef<'_>],
+    wiped: &[WipedRange<'_>],
 ) -> usize
     requires sorted { IsSorted order deleted.now }
-    ensures { (m n : Pairs Bytes) → LacksAtMost deleted.now m n
+    ensures { (m n : Pairs Bytes) → LacksAtMost (deleted.now, wiped.now) m n
         → is_below low.now end.now ≡ true
         → entries_of chain.now ≡ in_range low.now (Some end.now) m
         → AreCertain lo.now n low.now end.now result }
 {
     if compare(low, lo).is_lt() {
-        return certain_behind(chain, end, lo, deleted);
+        return certain_behind(chain, end, lo, deleted, wiped);
+    }
+    if is_wiped_within(wiped, low, end) {
+        return 0;
     }
     chain
         .fewest_entries()
@@ -174,14 +186,18 @@ fn certain_behind(
     end: &[u8],
     lo: &[u8],
     deleted: &[KeyRef<'_>],
+    wiped: &[WipedRange<'_>],
 ) -> usize
     requires sorted { IsSorted order deleted.now }
-    ensures { (low : Bytes) (m n : Pairs Bytes) → LacksAtMost deleted.now m n
+    ensures { (low : Bytes) (m n : Pairs Bytes) → LacksAtMost (deleted.now, wiped.now) m n
         → is_below low lo.now ≡ true
         → entries_of chain.now ≡ in_range low (Some end.now) m
         → AreCertain lo.now n low end.now result }
 {
     if !compare(lo, end).is_lt() {
+        return 0;
+    }
+    if is_wiped_within(wiped, lo, end) {
         return 0;
     }
     chain

@@ -12,6 +12,7 @@ mod merge;
 pub mod rows;
 mod search;
 mod step;
+mod wiped;
 
 pub use crate::ends::scan_ends;
 pub use crate::leaf::LeafPairs;

@@ -27,7 +27,7 @@ undo_leaves-requires g c =
     again_away c.args.work.now.settings c.args.tree.now c.args.work.now.commands.now c.requires.sound c.args.page_runs.items c.requires.routed _ _ _ c.in_ok-reads.ensures c.in_ok-leaves.leaves.items c.in-Err.leaves.items c.in_ok-leaves.ensures.held c.in-Err.ensures.back c.work_leaves.new.tree c.finish.new.tree c.in_ok-leaves.ensures.taken c.in-Err.ensures.err
 
 pub returns-in-Ok-clause-replies : goal.returns-in-Ok-clause-replies
-returns-in-Ok-clause-replies g c = as_a_map c.args.work.now.settings c.args.tree.now c.args.work.now.commands.now c.requires.sound c.args.page_runs.items c.requires.routed _ _ _ c.in_ok-reads.ensures c.in_ok-leaves.leaves.items c.in_ok-leaves.ensures.made _ c.in_ok-reads-2.ensures c.in-Ok.replies.items (rw c.deref.ensures.value at c.in-Ok.ensures.replies)
+returns-in-Ok-clause-replies g c = as_a_map c.args.work.now.settings c.args.tree.now c.args.work.now.commands.now c.requires.sound c.args.page_runs.items c.requires.routed _ _ _ c.in_ok-reads.ensures c.in_ok-leaves.leaves.items c.in_ok-leaves.ensures.made _ c.in_ok-reads-2.ensures c.pairs_can_be_counted.ensures c.in-Ok.replies.items (rw c.deref.ensures.value at c.in-Ok.ensures.replies)
 
 pub returns-in-Ok-clause-tree : goal.returns-in-Ok-clause-tree
 returns-in-Ok-clause-tree g c =

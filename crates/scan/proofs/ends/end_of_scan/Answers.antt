@@ -21,7 +21,7 @@ pub returns-then-is_lt : goal.returns-then-is_lt
 returns-then-is_lt c =
     let sum = c.saturating_add-certain.ensures in
     let many = c.if-certain-limit.true in
-    enough_on c.args.deleted.now (levels_of (tree_of c.args.tree.now)).level c.args.lo.now (leaf_with c.loop-next.leaf.0.now c.loop-next.leaf.1.now) (leaf_with c.in-Some.next.0.now c.in-Some.next.1.now) c.loop-next.leaves c.next.new.self
+    enough_on (c.args.deleted.now, c.args.wiped.now) (levels_of (tree_of c.args.tree.now)).level c.args.lo.now (leaf_with c.loop-next.leaf.0.now c.loop-next.leaf.1.now) (leaf_with c.in-Some.next.0.now c.in-Some.next.1.now) c.loop-next.leaves c.next.new.self
     c.loop-next.invariant.passing c.in-Some.ensures.steps (option_copied c.args.hi) c.args.limit c.loop-next.certain c.certain_pairs.result c.saturating_add-certain.result c.requires.levels.tiled c.loop-next.invariant.certain c.certain_pairs.ensures
     (omega (arith, sum)) (sym (ap (λ (o : Ordering). is_lt o) c.compare.ensures) ∙ sym c.if-is_lt.ensures) (sym c.if-not-is_before.ensures) (omega (arith, many))
 
@@ -30,9 +30,9 @@ loop-next-preserved c =
     let sum = c.saturating_add-certain.ensures in
     record {
       passing =
-          passing_on c.args.deleted.now (levels_of (tree_of c.args.tree.now)).level c.args.lo.now (leaf_with c.loop-next.leaf.0.now c.loop-next.leaf.1.now) (leaf_with c.in-Some.next.0.now c.in-Some.next.1.now) c.loop-next.leaves c.next.new.self
+          passing_on (c.args.deleted.now, c.args.wiped.now) (levels_of (tree_of c.args.tree.now)).level c.args.lo.now (leaf_with c.loop-next.leaf.0.now c.loop-next.leaf.1.now) (leaf_with c.in-Some.next.0.now c.in-Some.next.1.now) c.loop-next.leaves c.next.new.self
           c.loop-next.invariant.passing c.in-Some.ensures.steps;
       certain =
-          certain_on c.args.deleted.now (levels_of (tree_of c.args.tree.now)).level c.args.lo.now (leaf_with c.loop-next.leaf.0.now c.loop-next.leaf.1.now) (leaf_with c.in-Some.next.0.now c.in-Some.next.1.now) c.loop-next.leaves c.next.new.self
+          certain_on (c.args.deleted.now, c.args.wiped.now) (levels_of (tree_of c.args.tree.now)).level c.args.lo.now (leaf_with c.loop-next.leaf.0.now c.loop-next.leaf.1.now) (leaf_with c.in-Some.next.0.now c.in-Some.next.1.now) c.loop-next.leaves c.next.new.self
           c.loop-next.invariant.passing c.in-Some.ensures.steps c.loop-next.certain c.certain_pairs.result c.saturating_add-certain.result c.requires.levels.tiled c.loop-next.invariant.certain c.certain_pairs.ensures (omega (arith, sum));
     }

@@ -9,7 +9,7 @@ use Rattle.scan.proofs.ends.end_of_scan.Given as goal
 abbrev pub invariant-loop-next : goal.invariant-loop-next
 invariant-loop-next l = record {
   passing : IsPassing (levels_of (tree_of l.tree)).level (leaf_with l.leaf.0.now l.leaf.1.now) l.leaves;
-  certain : AreCertainBefore l.deleted (contents (tree_of l.tree)) l.lo l.leaf.0.now l.certain;
+  certain : AreCertainBefore (l.deleted, l.wiped) (contents (tree_of l.tree)) l.lo l.leaf.0.now l.certain;
 }
 
 abbrev pub decreases-loop-next : goal.decreases-loop-next

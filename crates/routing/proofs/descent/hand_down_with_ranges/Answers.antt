@@ -6,7 +6,7 @@ use Rattle.routing.specs.SortedPlaces.{reaches_at}
 use Rattle.routing.specs.Shares.{Lent, lent_shares, next_key}
 use Rattle.routing.proofs.ShareLemmas.{can_keyed, rest_keyed, parted_keyed, keys_step, keys_pushed}
 use Rattle.routing.proofs.WalkLemmas.{walk_begins, walking, child_for_next, scan_step, scan_on, scan_last, all_walked}
-use Rattle.routing.proofs.descent.hand_down_with_scans.Goals as goal
+use Rattle.routing.proofs.descent.hand_down_with_ranges.Goals as goal
 
 pub loop-key-init : goal.loop-key-init
 loop-key-init c =

@@ -3,7 +3,7 @@ use Rattle.index_page.specs.Children.{children, child_entries}
 use Rattle.routing.specs.Keyed.{places_of}
 use Rattle.routing.specs.Shares.{share_of_lent, all_of, lent_shares, shares, shares_below, AreKeyedShares}
 use Rattle.routing.proofs.WalkLemmas.{from_low, IsAt}
-use Rattle.routing.proofs.descent.hand_down_with_scans.Given as goal
+use Rattle.routing.proofs.descent.hand_down_with_ranges.Given as goal
 
 -- what is below so far, and what the children from here on will get, is what there was, and what all children will get
 abbrev pub invariant-loop-key : goal.invariant-loop-key

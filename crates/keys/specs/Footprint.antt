@@ -1,0 +1,83 @@
+-- What a command touches, what it may do there, and how its reply is put together: said once for each command. Where a command
+-- goes, what it may take away and how its pages' answers are joined is derived from these.
+use Rattle.std.specs.Prelude.{ℕ, Bool, true, false, Option}
+use Rattle.std.specs.Ordering.{is_eq}
+use Rattle.keys.specs.Bytes.{Bytes}
+use Rattle.keys.specs.Order.{order}
+use Rattle.keys.specs.Range.{is_within}
+use Rattle.keys.specs.declared.command.Command.{Command}
+use Rattle.keys.specs.declared.command.Command.TheVariants.{Get, Put, Add, Del, Scan, Wipe}
+
+-- the keys that a command is on: one, or those from a lower bound on, and below an upper one where there is one
+pub data Span : Type 0 where
+  One : Bytes → Span
+  Range : Bytes → Option Bytes → Span
+
+abbrev pub span_of : {A : Type 0} → Command A → Span
+span_of (Get k) = One k
+span_of (Put k v) = One k
+span_of (Add k v) = One k
+span_of (Del k) = One k
+span_of (Scan lo hi limit) = Range lo hi
+span_of (Wipe lo hi) = Range lo hi
+
+-- what a command may do to its keys: it only looks, gives them values, or takes them away
+pub data Deed : Type 0 where
+  Looks : Deed
+  Gives : Bytes → Deed
+  Takes : Deed
+
+abbrev pub deed_of : {A : Type 0} → Command A → Deed
+deed_of (Get k) = Looks
+deed_of (Put k v) = Gives v
+deed_of (Add k v) = Gives v
+deed_of (Del k) = Takes
+deed_of (Scan lo hi limit) = Looks
+deed_of (Wipe lo hi) = Takes
+
+-- how what its pages answer makes its reply: it is the answer of its one page, all their rows up to a limit, or the sum of their
+-- counts
+pub data Joining : Type 0 where
+  Alone : Joining
+  RowsUpTo : ℕ → Joining
+  Summed : Joining
+
+abbrev pub joining_of : {A : Type 0} → Command A → Joining
+joining_of (Get k) = Alone
+joining_of (Put k v) = Alone
+joining_of (Add k v) = Alone
+joining_of (Del k) = Alone
+joining_of (Scan lo hi limit) = RowsUpTo limit
+joining_of (Wipe lo hi) = Summed
+
+-- the key with which a span begins
+abbrev pub first_of : Span → Bytes
+first_of (One k) = k
+first_of (Range lo hi) = lo
+
+-- whether a span is a range, and so may lie in several pages
+abbrev pub is_range : Span → Bool
+is_range (One k) = false
+is_range (Range lo hi) = true
+
+-- whether a key is in a span
+abbrev pub is_in_span : Span → Bytes → Bool
+is_in_span (One k) q = is_eq (order q k)
+is_in_span (Range lo hi) q = is_within lo hi q
+
+-- whether a deed leaves every map as it is
+abbrev pub is_looking : Deed → Bool
+is_looking Looks = true
+is_looking (Gives v) = false
+is_looking Takes = false
+
+-- whether a reply is put together of rows, and whether of counts
+abbrev pub is_of_rows : Joining → Bool
+is_of_rows Alone = false
+is_of_rows (RowsUpTo limit) = true
+is_of_rows Summed = false
+
+abbrev pub is_of_counts : Joining → Bool
+is_of_counts Alone = false
+is_of_counts (RowsUpTo limit) = false
+is_of_counts Summed = true
