@@ -79,6 +79,6 @@ row_2 = Get a ∷ Put a (49 ∷ []) ∷ Get a ∷ Put a (50 ∷ []) ∷ Get a �
 abbrev pub row_8 : List (Command ℕ)
 row_8 = Scan [] None 10 ∷ Del c ∷ Scan b (Some d) 10 ∷ Put ca (57 ∷ []) ∷ Scan b None 2 ∷ []
 
--- row W1: a wipe takes what was there and what was put before it in the batch
-abbrev pub row_w1 : List (Command ℕ)
-row_w1 = Put ca (57 ∷ []) ∷ Wipe b (Some d) ∷ Get ca ∷ Put c (55 ∷ []) ∷ Scan [] None 10 ∷ []
+-- row 16.1: a wipe takes what was there and what was put before it in the batch
+abbrev pub row_16_1 : List (Command ℕ)
+row_16_1 = Put ca (57 ∷ []) ∷ Wipe b (Some d) ∷ Get ca ∷ Put c (55 ∷ []) ∷ Scan [] None 10 ∷ []

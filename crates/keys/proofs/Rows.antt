@@ -7,7 +7,7 @@ use Rattle.keys.specs.declared.command.Command.{Command}
 use Rattle.keys.specs.declared.command.Command.TheVariants.{Put, Add, Del, Scan, Wipe}
 use Rattle.keys.specs.declared.command.Reply.{Reply}
 use Rattle.keys.specs.declared.command.Reply.TheVariants.{Value, Missing, New, Replaced, Exists, Added, Deleted, Rows, Wiped}
-use Rattle.keys.proofs.Literals.{a, b, c, d, e, f, g, h, i, j, k, l, m, n, o, p, q, ca, row_2, row_8, row_w1}
+use Rattle.keys.proofs.Literals.{a, b, c, d, e, f, g, h, i, j, k, l, m, n, o, p, q, ca, row_2, row_8, row_16_1}
 
 abbrev Bytes : Type 0
 Bytes = List ℕ
@@ -98,25 +98,25 @@ row_8_map = refl
 row_8_empty : replies row_8_pairs (Scan d (Some b) 10 ∷ Scan a None 0 ∷ Scan a (Some a) 5 ∷ []) ≡ Rows [] ∷ Rows [] ∷ Rows [] ∷ []
 row_8_empty = refl
 
--- row W1: a wipe between a put before it and a put behind it
-row_w1_replies : replies row_8_pairs row_w1 ≡ New ∷ Wiped 3 ∷ Missing ∷ New ∷ Rows ((a, 49 ∷ []) ∷ (c, 55 ∷ []) ∷ (d, 52 ∷ []) ∷ (e, 53 ∷ []) ∷ []) ∷ []
-row_w1_replies = refl
+-- row 16.1: a wipe between a put before it and a put behind it
+row_16_1_replies : replies row_8_pairs row_16_1 ≡ New ∷ Wiped 3 ∷ Missing ∷ New ∷ Rows ((a, 49 ∷ []) ∷ (c, 55 ∷ []) ∷ (d, 52 ∷ []) ∷ (e, 53 ∷ []) ∷ []) ∷ []
+row_16_1_replies = refl
 
-row_w1_map : left row_8_pairs row_w1 ≡ (a, 49 ∷ []) ∷ (c, 55 ∷ []) ∷ (d, 52 ∷ []) ∷ (e, 53 ∷ []) ∷ []
-row_w1_map = refl
+row_16_1_map : left row_8_pairs row_16_1 ≡ (a, 49 ∷ []) ∷ (c, 55 ∷ []) ∷ (d, 52 ∷ []) ∷ (e, 53 ∷ []) ∷ []
+row_16_1_map = refl
 
--- row W2: everything goes, and the second time there is nothing
+-- row 16.2: everything goes, and the second time there is nothing
 abbrev one : List ℕ
 one = 49 ∷ []
 
 abbrev seventeen : Pairs
 seventeen = (a, one) ∷ (b, one) ∷ (c, one) ∷ (d, one) ∷ (e, one) ∷ (f, one) ∷ (g, one) ∷ (h, one) ∷ (i, one) ∷ (j, one) ∷ (k, one) ∷ (l, one) ∷ (m, one) ∷ (n, one) ∷ (o, one) ∷ (p, one) ∷ (q, one) ∷ []
 
-row_w2_replies : replies seventeen (Wipe [] None ∷ Wipe [] None ∷ []) ≡ Wiped 17 ∷ Wiped 0 ∷ []
-row_w2_replies = refl
+row_16_2_replies : replies seventeen (Wipe [] None ∷ Wipe [] None ∷ []) ≡ Wiped 17 ∷ Wiped 0 ∷ []
+row_16_2_replies = refl
 
-row_w2_map : left seventeen (Wipe [] None ∷ Wipe [] None ∷ []) ≡ []
-row_w2_map = refl
+row_16_2_map : left seventeen (Wipe [] None ∷ Wipe [] None ∷ []) ≡ []
+row_16_2_map = refl
 
 -- the upper bound stays, and so does everything where the range is empty
 wiped_up_to : replies five (Wipe b (Some c) ∷ Wipe d (Some b) ∷ Wipe e (Some e) ∷ Wipe e None ∷ []) ≡ Wiped 1 ∷ Wiped 0 ∷ Wiped 0 ∷ Wiped 1 ∷ []

@@ -8,7 +8,7 @@ use Rattle.keys.specs.declared.command.Command.TheVariants.{Put, Add, Del, Scan,
 use Rattle.keys.specs.declared.command.Reply.{Reply}
 use Rattle.keys.specs.declared.command.Reply.TheVariants.{New, Deleted, Missing, Rows, Wiped}
 use Rattle.keys.specs.declared.settings.Settings.{Settings}
-use Rattle.keys.proofs.Literals.{S, a, b, c, d, e, ca, row_2, row_8, row_w1}
+use Rattle.keys.proofs.Literals.{S, a, b, c, d, e, ca, row_2, row_8, row_16_1}
 use Rattle.delta_chain.specs.Layers.{Layers, entries_of, depth_of}
 use Rattle.page_runs.specs.AfterRun.{after_run, class_after}
 use Rattle.page_runs.specs.NetRun.{net_run}
@@ -151,41 +151,41 @@ row_8_run = refl
 row_8_page : page_after from_c row_8 ≡ record { runs = ((c, None) ∷ (ca, Some (57 ∷ [])) ∷ []) ∷ []; base = from_c.base }
 row_8_page = refl
 
--- row W1: of a wipe of b to d the leaf before c has b absent
+-- row 16.1: of a wipe of b to d the leaf before c has b absent
 abbrev left_leaf : Page
 left_leaf = record { runs = []; base = (a, 49 ∷ []) ∷ (b, 50 ∷ []) ∷ [] }
 
-row_w1_left : run_on left_leaf (Wipe b (Some d) ∷ Scan [] None 10 ∷ []) ≡ (b, None) ∷ []
-row_w1_left = refl
+row_16_1_left : run_on left_leaf (Wipe b (Some d) ∷ Scan [] None 10 ∷ []) ≡ (b, None) ∷ []
+row_16_1_left = refl
 
-row_w1_left_replies : answers_on left_leaf (Wipe b (Some d) ∷ Scan [] None 10 ∷ []) ≡ Wiped 1 ∷ Rows ((a, 49 ∷ []) ∷ []) ∷ []
-row_w1_left_replies = refl
+row_16_1_left_replies : answers_on left_leaf (Wipe b (Some d) ∷ Scan [] None 10 ∷ []) ≡ Wiped 1 ∷ Rows ((a, 49 ∷ []) ∷ []) ∷ []
+row_16_1_left_replies = refl
 
 -- and the leaf from c on what was put behind the wipe, and absent what was put before it
 abbrev right_leaf : Page
 right_leaf = record { runs = []; base = (c, 51 ∷ []) ∷ (d, 52 ∷ []) ∷ (e, 53 ∷ []) ∷ [] }
 
-row_w1_right : run_on right_leaf row_w1 ≡ (c, Some (55 ∷ [])) ∷ (ca, None) ∷ []
-row_w1_right = refl
+row_16_1_right : run_on right_leaf row_16_1 ≡ (c, Some (55 ∷ [])) ∷ (ca, None) ∷ []
+row_16_1_right = refl
 
-row_w1_right_replies : answers_on right_leaf row_w1 ≡ New ∷ Wiped 2 ∷ Missing ∷ New ∷ Rows ((c, 55 ∷ []) ∷ (d, 52 ∷ []) ∷ (e, 53 ∷ []) ∷ []) ∷ []
-row_w1_right_replies = refl
+row_16_1_right_replies : answers_on right_leaf row_16_1 ≡ New ∷ Wiped 2 ∷ Missing ∷ New ∷ Rows ((c, 55 ∷ []) ∷ (d, 52 ∷ []) ∷ (e, 53 ∷ []) ∷ []) ∷ []
+row_16_1_right_replies = refl
 
--- row W2: a leaf of which everything goes has depth 1, and the second time it stays as it is
+-- row 16.2: a leaf of which everything goes has depth 1, and the second time it stays as it is
 abbrev wiped_leaf : Page
 wiped_leaf = page_after right_leaf (Wipe [] None ∷ [])
 
-row_w2_depth : depth_of wiped_leaf ≡ 1
-row_w2_depth = refl
+row_16_2_depth : depth_of wiped_leaf ≡ 1
+row_16_2_depth = refl
 
-row_w2_page : wiped_leaf ≡ record { runs = ((c, None) ∷ (d, None) ∷ (e, None) ∷ []) ∷ []; base = (c, 51 ∷ []) ∷ (d, 52 ∷ []) ∷ (e, 53 ∷ []) ∷ [] }
-row_w2_page = refl
+row_16_2_page : wiped_leaf ≡ record { runs = ((c, None) ∷ (d, None) ∷ (e, None) ∷ []) ∷ []; base = (c, 51 ∷ []) ∷ (d, 52 ∷ []) ∷ (e, 53 ∷ []) ∷ [] }
+row_16_2_page = refl
 
-row_w2_run : run_on wiped_leaf (Wipe [] None ∷ []) ≡ []
-row_w2_run = refl
+row_16_2_run : run_on wiped_leaf (Wipe [] None ∷ []) ≡ []
+row_16_2_run = refl
 
-row_w2_class : class_then wiped_leaf (Wipe [] None ∷ []) ≡ Same
-row_w2_class = refl
+row_16_2_class : class_then wiped_leaf (Wipe [] None ∷ []) ≡ Same
+row_16_2_class = refl
 
 -- a key that was put and deleted before it isn't counted, and none is absent that was never there
 put_and_gone : answers_on left_leaf (Put d (49 ∷ []) ∷ Del d ∷ Wipe b None ∷ []) ≡ New ∷ Deleted ∷ Wiped 1 ∷ []

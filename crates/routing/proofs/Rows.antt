@@ -73,9 +73,9 @@ scans_go = refl
 one_scan : routes {A = Global} four (Scan [] None 1 ∷ []) ≡ to 7 (0 ∷ []) ∷ to 2 (0 ∷ []) ∷ to 5 (0 ∷ []) ∷ to 9 (0 ∷ []) ∷ []
 one_scan = refl
 
--- row W1: a wipe of b to d goes to both leaves, as a scan of all does, and other commands to their own
-abbrev row_w1 : Commands
-row_w1 = Put (99 ∷ 97 ∷ []) (57 ∷ []) ∷ Wipe (98 ∷ []) (Some d) ∷ Get (99 ∷ 97 ∷ []) ∷ Put c (55 ∷ []) ∷ Scan [] None 10 ∷ []
+-- row 16.1: a wipe of b to d goes to both leaves, as a scan of all does, and other commands to their own
+abbrev row_16_1 : Commands
+row_16_1 = Put (99 ∷ 97 ∷ []) (57 ∷ []) ∷ Wipe (98 ∷ []) (Some d) ∷ Get (99 ∷ 97 ∷ []) ∷ Put c (55 ∷ []) ∷ Scan [] None 10 ∷ []
 
-row_w1_goes : routes (leaf 0 [] ∷ leaf 1 c ∷ []) row_w1 ≡ to 0 (1 ∷ 4 ∷ []) ∷ to 1 (0 ∷ 1 ∷ 2 ∷ 3 ∷ 4 ∷ []) ∷ []
-row_w1_goes = refl
+row_16_1_goes : routes (leaf 0 [] ∷ leaf 1 c ∷ []) row_16_1 ≡ to 0 (1 ∷ 4 ∷ []) ∷ to 1 (0 ∷ 1 ∷ 2 ∷ 3 ∷ 4 ∷ []) ∷ []
+row_16_1_goes = refl

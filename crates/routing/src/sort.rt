@@ -107,7 +107,7 @@ fn has_key_below(entry: &Keyed<'_>, key: &KeyRef<'_>) -> bool
 }
 
 /// The places of these entries, and these other places, in the order of the batch: a page's sorted places, and those of the
-/// scans that reach it, become the places of its run.
+/// scans and wipes that reach it, become the places of its run.
 pub(crate) fn in_batch_order(
     alloc: Global,
     keyed: &[Keyed<'_>],
