@@ -11,7 +11,8 @@ use Rattle.keys.specs.Range.{is_below, is_before, is_within}
 use Rattle.keys.specs.declared.command.Command.{Command}
 use Rattle.keys.specs.declared.command.Command.TheVariants.{Get, Put, Add, Del, Scan, Wipe}
 use Rattle.keys.proofs.MapLemmas.{total}
-use Rattle.index_page.proofs.RangeLemmas.{less_is_below, below_is_less, less_through, low_through}
+use Rattle.index_page.proofs.MeetingLemmas.{both_begin}
+use Rattle.index_page.proofs.RangeLemmas.{less_is_below, below_is_less, less_through}
 use Rattle.scan.specs.Ends.{Taken, deleted_by, deleted, wiped_by, wiped, IsUntouched, count_within}
 use Rattle.scan.specs.Tally.{Tally, IsTally, below, up_to}
 use Rattle.scan.specs.declared.taken.TakenBelow.{TakenBelow}
@@ -26,18 +27,6 @@ Bounds = Key × Option Key
 
 -- ---- ranges that don't meet a leaf
 
-not_true : (b : Bool) → not b ≡ true → b ≡ false
-not_true true h = absurd (cc)
-not_true false h = refl
-
-both_of : (a b : Bool) → (a && b) ≡ true → (a ≡ true) × (b ≡ true)
-both_of true b h = (refl, h)
-both_of false b h = absurd (cc)
-
-before_from : (hi : Option Key) (low k : Key) → is_below k low ≡ false → is_before hi k ≡ true → is_before hi low ≡ true
-before_from None low k h b = refl
-before_from (Some hi) low k h b = less_is_below low hi (low_through low k hi h (below_is_less k hi b))
-
 -- whether a range begins below an end, and ends above a low key
 abbrev meets : Key → Key → Bounds → Bool
 meets low end range = is_below range.0 end && is_before range.1 low
@@ -45,17 +34,12 @@ meets low end range = is_below range.0 end && is_before range.1 low
 outside_by : (w : Bool) (low end lo : Key) (hi : Option Key) (k : Key) → is_within lo hi k ≡ w → meets low end (lo, hi) ≡ false → is_within low (Some end) k ≡ true → w ≡ false
 outside_by false low end lo hi k e m h = refl
 outside_by true low end lo hi k e m h =
-    let own = both_of (not (is_below k lo)) (is_before hi k) e in
-    let there = both_of (not (is_below k low)) (is_below k end) h in
-    let first : is_below lo end ≡ true = less_is_below lo end (low_through lo k end (not_true (is_below k lo) own.0) (below_is_less k end there.1)) in
-    let second : is_before hi low ≡ true = before_from hi low k (not_true (is_below k low) there.0) own.1 in
-    absurd (let t : meets low end (lo, hi) ≡ true = rw (first, second) refl in cc)
+    let both = both_begin low (Some end) lo hi k h e in
+    absurd (let t : meets low end (lo, hi) ≡ true = rw (both.0, both.1) refl in cc)
 
 empty_by : (w : Bool) (lo : Key) (hi : Option Key) (k : Key) → is_within lo hi k ≡ w → is_before hi lo ≡ false → w ≡ false
 empty_by false lo hi k e n = refl
-empty_by true lo hi k e n =
-    let own = both_of (not (is_below k lo)) (is_before hi k) e in
-    absurd (let t : is_before hi lo ≡ true = before_from hi lo k (not_true (is_below k lo) own.0) own.1 in cc)
+empty_by true lo hi k e n = absurd (let t : is_before hi lo ≡ true = (both_begin lo hi lo hi k e e).0 in cc)
 
 -- ---- how many ranges meet a leaf
 
