@@ -21,6 +21,7 @@ use Rattle.delta_chain.specs.Layers.{with_change}
 use Rattle.delta_chain.proofs.LayerLemmas.{value_at-with_change, rising-with_change}
 use Rattle.index_page.specs.Children.{Place, children, is_between}
 use Rattle.index_page.specs.Range.{IsBefore}
+use Rattle.index_page.proofs.MeetingLemmas.{not_met}
 use Rattle.index_page.proofs.RangeLemmas.{below_is_less, less_is_below, less_through, low_through, not_below_lower}
 use Rattle.mapping.specs.Levels.{Placed, names}
 use Rattle.mapping.specs.Proper.{next_low, Tiled}
@@ -34,23 +35,13 @@ Pairs = List (List ℕ × List ℕ)
 
 -- ---- ranges that meet a page
 
--- a key that lies in a page's range and in that of a scan or a wipe shows that it goes to the page
-before_through : (end : Option (List ℕ)) (low k : List ℕ) → is_below k low ≡ false → is_before end k ≡ true → is_before end low ≡ true
-before_through None low k h b = refl
-before_through (Some end) low k h b = less_is_below low end (low_through low k end h (below_is_less k end b))
+not_both_by : (a b : Bool) → (a ≡ true → b ≡ false) → (a && b) ≡ false
+not_both_by true b f = f refl
+not_both_by false b f = refl
 
-not_met_by : (u x s a b c d : Bool) → (c ≡ false → b ≡ true → x ≡ true) → (a ≡ false → d ≡ true → s ≡ true) → ((not u && x) || (u && s)) ≡ false → ((not a && b) && (not c && d)) ≡ false
-not_met_by u x s true b c d f g h = refl
-not_met_by u x s false false c d f g h = refl
-not_met_by u x s false true true d f g h = refl
-not_met_by u x s false true false false f g h = refl
-not_met_by true x s false true false true f g h = absurd (let t : s ≡ true = g refl refl in let e : s ≡ false = h in cc)
-not_met_by false x s false true false true f g h = absurd (let t : x ≡ true = f refl refl in let e : (x || false) ≡ false = h in let wrong : (true || false) ≡ false = rw t at e in cc)
-
-not_met : (low : List ℕ) (end : Option (List ℕ)) (lo : List ℕ) (hi : Option (List ℕ)) (k : List ℕ) → (is_within low end lo || is_between lo hi low) ≡ false → (is_within low end k && is_within lo hi k) ≡ false
-not_met low end lo hi k h =
-    not_met_by (is_below lo low) (is_before end lo) (is_before hi low) (is_below k low) (is_before end k) (is_below k lo) (is_before hi k)
-    (before_through end lo k) (before_through hi low k) h
+-- no key lies in a page's range and in that of a scan or a wipe that doesn't go to the page
+none_in_both : (low : List ℕ) (end : Option (List ℕ)) (lo : List ℕ) (hi : Option (List ℕ)) (k : List ℕ) → (is_within low end lo || is_between lo hi low) ≡ false → (is_within low end k && is_within lo hi k) ≡ false
+none_in_both low end lo hi k h = not_both_by (is_within low end k) (is_within lo hi k) (not_met low end lo hi k h)
 
 not_both : (a b : Bool) → (a && b) ≡ false → (not b && a) ≡ a
 not_both true true h = absurd (cc)
@@ -73,7 +64,7 @@ wiped_part_by true low end lo hi m h =
     ∙ sym (kept-both (is_within low end) (λ k. not (is_within lo hi k)) m)
 wiped_part_by false low end lo hi m h =
     kept-both (λ k. not (is_within lo hi k)) (is_within low end) m
-    ∙ kept-same (λ k. not (is_within lo hi k) && is_within low end k) (is_within low end) m (λ k. not_both (is_within low end k) (is_within lo hi k) (not_met low end lo hi k h))
+    ∙ kept-same (λ k. not (is_within lo hi k) && is_within low end k) (is_within low end) m (λ k. not_both (is_within low end k) (is_within lo hi k) (none_in_both low end lo hi k h))
 
 -- ---- a part of a map after one change
 
@@ -260,7 +251,7 @@ module _ (A : Type 0) {V : Type 0} where
   rows_by true low end m lo hi limit h = refl
   rows_by false low end m lo hi limit h =
       let none : in_range lo hi (in_range low end m) ≡ [] =
-      kept-both (is_within low end) (is_within lo hi) m ∙ none_passes (λ k. is_within low end k && is_within lo hi k) m (λ k. not_met low end lo hi k h) in
+      kept-both (is_within low end) (is_within lo hi) m ∙ none_passes (λ k. is_within low end k && is_within lo hi k) m (λ k. none_in_both low end lo hi k h) in
       sym (ap (λ (es : List (List ℕ × V)). take limit es) none ∙ taken_none limit)
 
   -- the rows of a scan are those of the pages that it goes to, joined and cut at the limit
@@ -280,7 +271,7 @@ module _ (A : Type 0) {V : Type 0} where
   count_by_page true low end m lo hi h = refl
   count_by_page false low end m lo hi h =
       sym (ap (λ (es : List (List ℕ × V)). length es)
-      (kept-both (is_within low end) (is_within lo hi) m ∙ none_passes (λ k. is_within low end k && is_within lo hi k) m (λ k. not_met low end lo hi k h)))
+      (kept-both (is_within low end) (is_within lo hi) m ∙ none_passes (λ k. is_within low end k && is_within lo hi k) m (λ k. none_in_both low end lo hi k h)))
 
   pub counts-parts : {W : Type 0} (level : List (Placed W)) (m : List (List ℕ × V)) (lo : List ℕ) (hi : Option (List ℕ)) → next_low level None ≡ Some [] → Tiled level None → IsRising m
       → sum_by (λ (at : Place). if goes_to {A = A} at.low at.end (Wipe lo hi) then length (in_range lo hi (in_range at.low at.end m)) else 0) (ranges level) ≡ length (in_range lo hi m)

@@ -1,11 +1,9 @@
 -- Lemmas on the ends of a batch's scans.
-use Rattle.std.specs.Prelude.{◌≡◌, ℕ, suc, pred, ◌+◌, ◌-◌, ◌<◌, ◌≤◌, true, List, [], ◌∷◌, ◌++◌, map, length, take, drop, slice_get, Option, Some, None, IfSome}
+use Rattle.std.specs.Prelude.{◌≡◌, ℕ, suc, pred, ◌+◌, ◌-◌, ◌<◌, ◌≤◌, true, List, [], ◌∷◌, ◌++◌, map, length, take, slice_get, Option, Some, None, IfSome}
 use Rattle.std.proofs.Common.{refl, sym, ap, ◌∙◌, subst, arith, append_assoc, Bor, get_or}
-use Rattle.std.specs.List.Sorted.{IsPermutation}
 use Rattle.std.specs.Map.{keys_of}
 use Rattle.std.specs.Option.{option_copied}
-use Rattle.std.proofs.lemmas.Grind.{flat_map-append}
-use Rattle.std.proofs.lemmas.List.{append-nil, take-append-drop, take_more, length-take, length-map, map-append}
+use Rattle.std.proofs.lemmas.List.{take_more, length-take, length-map, map-append}
 use Rattle.keys.specs.Narrowed.{IsEnough, MayEndAt, MayEndAtAll}
 use Rattle.keys.proofs.NarrowedLemmas.{no_ends}
 use Rattle.keys.specs.Range.{is_below, is_before, in_range}
@@ -19,7 +17,8 @@ use Rattle.mapping.specs.Levels.{Placed, joined, names, levels_of}
 use Rattle.mapping.specs.Proper.{next_low, IsTile, Tiled, AreLevels, HoldsLevels}
 use Rattle.mapping.specs.TreeInMemory.{TreeInMemory, tree_of}
 use Rattle.mapping.proofs.TileLemmas.{tiled_apart}
-use Rattle.scan.specs.Ends.{Taken, deleted, wiped_by, wiped, LacksAtMost, AreCertain}
+use Rattle.scan.specs.Ends.{Taken, deleted, wiped, LacksAtMost, AreCertain}
+use Rattle.scan.specs.Taken.{Tallies, IsTaken}
 use Rattle.scan.specs.Path.{leaf_pages, leaves_from}
 use Rattle.scan.specs.Walk.{walk_from}
 use Rattle.scan.proofs.Enough.{lacks}
@@ -156,11 +155,6 @@ module _ (taken : Taken) (level : Level) (lo : List ℕ) (leaf next : Page (List
 
 -- ---- a batch
 
--- each part of a batch leaves a map that lacks no more than what its commands take away
-pub lacks_at : {A : Type 0} → (m : List (List ℕ × List ℕ)) (cs : List (Command A)) (place : ℕ) (keys : List (List ℕ)) → IsPermutation (deleted cs) keys → LacksAtMost (keys, wiped (take place cs)) m (map_after_all m (take place cs))
-lacks_at {A} m cs place keys p =
-    lacks m (take place cs) (drop place cs) keys (subst (λ (x : List (Command A)). IsPermutation (deleted x) keys) (sym (take-append-drop place cs)) p)
-
 module _ {A : Type 0} where
   -- an end more, of the next command
   pub may_end-push : (keys : List (List ℕ)) (m : List (List ℕ × List ℕ)) (cs : List (Command A)) (c : Command A) (ends : List (Option (List ℕ))) (end : Option (List ℕ)) → length ends ≡ length cs → MayEndAtAll keys m cs ends
@@ -184,24 +178,13 @@ module _ {A : Type 0} where
   pub none_end : (keys : List (List ℕ)) (m : List (List ℕ × List ℕ)) (cs : List (Command A)) (ends : List (Option (Bor (List ℕ)))) → ends ≡ [] → MayEndAtAll keys m cs (map option_copied ends)
   none_end keys m cs ends e = subst (λ (x : List (Option (Bor (List ℕ)))). MayEndAtAll keys m cs (map option_copied x)) (sym e) (no_ends keys m cs)
 
-  -- the ranges of one more command
-  pub one_wiped : (d : Command A) (cs : List (Command A)) (place : ℕ) (c : Command A) (old new : List (List ℕ × Option (List ℕ))) → place < length cs → c ≡ get_or cs place c → old ≡ wiped (take place cs) → new ≡ old ++ wiped_by c
-      → new ≡ wiped (take (place + 1) cs)
-  one_wiped d cs place c old new w is o n =
-      let whole : take (place + 1) cs ≡ take place cs ++ c ∷ [] = take_more cs place c w ∙ ap (λ (e : Command A). take place cs ++ e ∷ []) (sym is) in
-      n ∙ ap (λ (rs : List (List ℕ × Option (List ℕ))). rs ++ wiped_by c) o
-      ∙ ap (λ (rs : List (List ℕ × Option (List ℕ))). wiped (take place cs) ++ rs) (sym (append-nil (wiped_by c)))
-      ∙ sym (flat_map-append wiped_by (take place cs) (c ∷ []))
-      ∙ sym (ap (λ (ds : List (Command A)). wiped ds) whole)
-
   -- so it goes on from place to place
-  pub ends_on : (keys kept deletes : List (List ℕ)) (ranges lent : List (List ℕ × Option (List ℕ))) (m : List (List ℕ × List ℕ)) (cs : List (Command A)) (place : ℕ) (c : Command A) (ends new : List (Option (Bor (List ℕ)))) (end : Option (Bor (List ℕ)))
-      → IsPermutation (deleted cs) kept → deletes ≡ kept → ranges ≡ wiped (take place cs) → lent ≡ ranges → place < length cs → c ≡ get_or cs place c → length ends ≡ place → new ≡ ends ++ end ∷ []
-      → ((n : List (List ℕ × List ℕ)) → LacksAtMost (deletes, lent) m n → MayEndAt keys n c (option_copied end)) → MayEndAtAll keys m (take place cs) (map option_copied ends) → MayEndAtAll keys m (take (place + 1) cs) (map option_copied new)
-  ends_on keys kept deletes ranges lent m cs place c ends new end p l o v w is count e h a =
+  pub ends_on : (keys : List (List ℕ)) (m : List (List ℕ × List ℕ)) (cs : List (Command A)) (place : ℕ) (c : Command A) (ends new : List (Option (Bor (List ℕ)))) (end : Option (Bor (List ℕ))) (t : Tallies)
+      → place < length cs → c ≡ get_or cs place c → length ends ≡ place → new ≡ ends ++ end ∷ [] → IsTaken (deleted (take place cs), wiped (take place cs)) t
+      → ((gone : Taken) (n : List (List ℕ × List ℕ)) → IsTaken gone t → LacksAtMost gone m n → MayEndAt keys n c (option_copied end)) → MayEndAtAll keys m (take place cs) (map option_copied ends) → MayEndAtAll keys m (take (place + 1) cs) (map option_copied new)
+  ends_on keys m cs place c ends new end t w is count e taken h a =
       let first : List (Command A) = take place cs in
-      let here : MayEndAt keys (map_after_all m first) c (option_copied end) = h (map_after_all m first) (subst (λ (x : List (List ℕ)). LacksAtMost (x, lent) m (map_after_all m first)) (sym l)
-      (subst (λ (x : List (List ℕ × Option (List ℕ))). LacksAtMost (kept, x) m (map_after_all m first)) (sym (v ∙ o)) (lacks_at m cs place kept p))) in
+      let here : MayEndAt keys (map_after_all m first) c (option_copied end) = h (deleted first, wiped first) (map_after_all m first) taken (lacks m first) in
       let long : length first ≡ place = omega (arith, length-take place cs, w) in
       let many : length (map option_copied ends) ≡ length first = length-map ends option_copied ∙ count ∙ sym long in
       let whole : take (place + 1) cs ≡ first ++ c ∷ [] = take_more cs place c w ∙ ap (λ (d : Command A). first ++ d ∷ []) (sym is) in

@@ -1,28 +1,26 @@
 -- Lemmas on how many pairs a range has at least, after commands of which some delete.
-use Rattle.std.specs.Prelude.{◌≡◌, ℕ, zero, suc, ◌+◌, ◌-◌, ◌<◌, ◌≤◌, Bool, true, false, not, ◌&&◌, ◌||◌, cond, List, [], ◌∷◌, ◌++◌, length, min, take, drop, Option, Some, None, is_some, if◌then◌else◌}
-use Rattle.std.proofs.Common.{refl, sym, ap, ◌∙◌, subst, arith, Ordering, Less, Equal, Greater, length-append, length-drop, get_or}
+use Rattle.std.specs.Prelude.{◌≡◌, ℕ, zero, suc, ◌+◌, ◌-◌, ◌<◌, ◌≤◌, Bool, true, false, not, ◌&&◌, cond, List, [], ◌∷◌, ◌++◌, length, min, take, drop, Option, Some, None, is_some, if◌then◌else◌}
+use Rattle.std.proofs.Common.{refl, sym, ap, ◌∙◌, subst, arith, Ordering, Less, Equal, Greater, length-append, length-drop}
 use Rattle.std.specs.List.{AllByRecursion, filter}
-use Rattle.std.specs.List.Sorted.{IsPermutation, IsSorted, IsPartitionedBy, IsPartitionPoint}
+use Rattle.std.specs.List.Sorted.{IsPartitionPoint}
 use Rattle.std.specs.Map.{keys_of}
-use Rattle.std.specs.Ordering.{is_lt, is_eq, match_ordering}
-use Rattle.std.proofs.lemmas.Grind.{flat_map-append}
-use Rattle.std.proofs.lemmas.List.Folds.{list_any-append}
+use Rattle.std.specs.Ordering.{is_eq, match_ordering}
 use Rattle.std.proofs.lemmas.List.{get_or-take, get_or-drop, length-take}
 use Rattle.std.proofs.lemmas.List.Elements.{filter-append, recursion_from_All}
 use Rattle.std.proofs.lemmas.List.Sums.{length-filter}
-use Rattle.std.proofs.lemmas.List.Sorted.{sum_by-IsPermutation, sorted_far, ranks_by}
 use Rattle.keys.specs.Order.{order}
 use Rattle.keys.specs.OrderedMap.{value_at, with_pair, without}
-use Rattle.keys.specs.Range.{is_below, is_before, is_within, in_range, out_of_range}
+use Rattle.keys.specs.Range.{is_below, is_within, in_range, out_of_range}
 use Rattle.keys.specs.Step.{map_after, map_after_all}
 use Rattle.keys.specs.declared.command.Command.{Command}
 use Rattle.keys.specs.declared.command.Command.TheVariants.{Get, Put, Add, Del, Scan, Wipe}
 use Rattle.keys.proofs.MapLemmas.{total, passes_same}
 use Rattle.keys.proofs.RangeLemmas.{none_in_range}
 use Rattle.delta_chain.specs.Layers.{Layers, with_change, with_run, entries_under, entries_of}
-use Rattle.index_page.proofs.RangeLemmas.{less_is_below, below_is_less, less_through, low_through, not_below_lower}
+use Rattle.index_page.proofs.RangeLemmas.{less_is_below, below_is_less, less_through, not_below_lower}
 use Rattle.page_search.specs.Places.{count_below}
-use Rattle.scan.specs.Ends.{Taken, deleted_by, deleted, wiped_by, wiped, meets_range, is_wiped_within, count_within, LacksAtMost, AreCertain, keyed_below, named_below_under, named_below}
+use Rattle.scan.specs.Tally.{below}
+use Rattle.scan.specs.Ends.{Taken, deleted_by, deleted, wiped_by, wiped, IsUntouched, count_within, LacksAtMost, AreCertain, later, keyed_below, named_below_under, named_below}
 
 -- ---- how many are kept of a list, one element at a time
 
@@ -104,17 +102,9 @@ below_through i j k h l = less_is_below i k (total.trans i j k (below_is_less i 
 below_higher : (i j k : List ℕ) → is_below k j ≡ false → is_below i j ≡ true → is_below i k ≡ true
 below_higher i j k n h = less_is_below i k (less_through i k j h n)
 
--- of sorted keys, those below a key stand first
-pub parted_keys : (key : List ℕ) (keys : List (List ℕ)) → IsSorted order keys → IsPartitionedBy (λ k. is_below k key) keys
-parted_keys key keys s = λ i j d l w h.
-    below_too (get_or keys i d) (get_or keys j d) key (sorted_far (λ x y. is_lt (order x y)) (ranks_by total (λ k. k)) keys s i j d l w) h
-
 -- those within a range are those below its end, but for those below its start
-pub count_between : (low end : List ℕ) (keys : List (List ℕ)) → is_below low end ≡ true → count_within low end keys + count_below low keys ≡ count_below end keys
-count_between low end keys h =
-    ap (λ (n : ℕ). count_within low end keys + n) (sym (length-filter (λ k. is_below k low) keys))
-    ∙ apart (λ k. is_below k low) (λ k. is_below k end) keys (λ k b. below_through k low end b h)
-    ∙ length-filter (λ k. is_below k end) keys
+pub count_between : (low end : List ℕ) (keys : List (List ℕ)) → is_below low end ≡ true → count_within low end keys + below low keys ≡ below end keys
+count_between low end keys h = apart (λ k. is_below k low) (λ k. is_below k end) keys (λ k b. below_through k low end b h)
 
 -- ---- what commands leave in a range
 
@@ -186,70 +176,35 @@ module _ (t : List ℕ → Bool) where
         let parts = among (deleted_by c) (deleted cs) in
         omega (arith, one, rest, parts)
 
-    -- the first commands delete no more than all do
-    most_of_first : (xs ys : List (Command A)) → length (filter t (deleted xs)) ≤ length (filter t (deleted (xs ++ ys)))
-    most_of_first xs ys =
-        let whole : length (filter t (deleted (xs ++ ys))) ≡ length (filter t (deleted xs)) + length (filter t (deleted ys)) =
-        ap (λ (ks : List (List ℕ)). length (filter t ks)) (flat_map-append deleted_by xs ys) ∙ among (deleted xs) (deleted ys) in
-        omega (arith, whole)
+-- ---- ranges in which a leaf has no keys
 
-  same_count : (xs ys : List (List ℕ)) → IsPermutation xs ys → length (filter t ys) ≡ length (filter t xs)
-  same_count xs ys p = length-filter t ys ∙ sum_by-IsPermutation (λ k. cond (t k) 1 0) xs ys p ∙ sym (length-filter t xs)
+module _ {X : Type 0} where
+  all_parted : (P : X → Type 0) (xs ys : List X) → AllByRecursion P (xs ++ ys) → AllByRecursion P xs × AllByRecursion P ys
+  all_parted P [] ys a = (tt, a)
+  all_parted P (x ∷ xs) ys a = let rest = all_parted P xs ys a.1 in ((a.0, rest.0), rest.1)
 
--- ---- ranges that don't meet a leaf
+abbrev Misses : List ℕ → List ℕ × Option (List ℕ) → Type 0
+Misses k range = is_within range.0 range.1 k ≡ false
 
-not_true : (b : Bool) → not b ≡ true → b ≡ false
-not_true true h = absurd (cc)
-not_true false h = refl
-
-both_of : (a b : Bool) → (a && b) ≡ true → (a ≡ true) × (b ≡ true)
-both_of true b h = (refl, h)
-both_of false b h = absurd (cc)
-
-neither_of : (a b : Bool) → (a || b) ≡ false → (a ≡ false) × (b ≡ false)
-neither_of true b h = absurd (cc)
-neither_of false b h = (refl, h)
-
-before_from : (hi : Option (List ℕ)) (low k : List ℕ) → is_below k low ≡ false → is_before hi k ≡ true → is_before hi low ≡ true
-before_from None low k h b = refl
-before_from (Some hi) low k h b = less_is_below low hi (low_through low k hi h (below_is_less k hi b))
-
-outside_by : (w : Bool) (low end lo : List ℕ) (hi : Option (List ℕ)) (k : List ℕ) → is_within lo hi k ≡ w → meets_range low end (lo, hi) ≡ false → is_within low (Some end) k ≡ true → w ≡ false
-outside_by false low end lo hi k e m h = refl
-outside_by true low end lo hi k e m h =
-    let own = both_of (not (is_below k lo)) (is_before hi k) e in
-    let there = both_of (not (is_below k low)) (is_below k end) h in
-    let first : is_below lo end ≡ true = less_is_below lo end (low_through lo k end (not_true (is_below k lo) own.0) (below_is_less k end there.1)) in
-    let second : is_before hi low ≡ true = before_from hi low k (not_true (is_below k low) there.0) own.1 in
-    absurd (let t : meets_range low end (lo, hi) ≡ true = rw (first, second) refl in cc)
-
--- no key there lies in a range that doesn't meet the leaf
-spared_where : (low end : List ℕ) (ranges : List (List ℕ × Option (List ℕ))) → is_wiped_within low end ranges ≡ false → AllByRecursion (λ range. (k : List ℕ) → is_within low (Some end) k ≡ true → is_within range.0 range.1 k ≡ false) ranges
+-- what holds of all ranges at each key holds of each range at all keys
+spared_where : (low end : List ℕ) (ranges : List (List ℕ × Option (List ℕ))) → IsUntouched low end ranges → AllByRecursion (λ range. (k : List ℕ) → is_within low (Some end) k ≡ true → Misses k range) ranges
 spared_where low end [] h = tt
-spared_where low end (range ∷ ranges) h =
-    let parts = neither_of (meets_range low end range) (is_wiped_within low end ranges) h in
-    (λ k w. outside_by (is_within range.0 range.1 k) low end range.0 range.1 k refl parts.0 w, spared_where low end ranges parts.1)
+spared_where low end (range ∷ ranges) h = (λ k w. (h k w).0, spared_where low end ranges (λ k w. (h k w).1))
 
-spared_of : {A : Type 0} (low end : List ℕ) (cs : List (Command A)) → is_wiped_within low end (wiped cs) ≡ false
-    → AllByRecursion (λ c. AllByRecursion (λ range. (k : List ℕ) → is_within low (Some end) k ≡ true → is_within range.0 range.1 k ≡ false) (wiped_by c)) cs
+spared_of : {A : Type 0} (low end : List ℕ) (cs : List (Command A)) → IsUntouched low end (wiped cs)
+    → AllByRecursion (λ c. AllByRecursion (λ range. (k : List ℕ) → is_within low (Some end) k ≡ true → Misses k range) (wiped_by c)) cs
 spared_of low end [] h = tt
 spared_of low end (c ∷ cs) h =
-    let parts = neither_of (is_wiped_within low end (wiped_by c)) (is_wiped_within low end (wiped cs)) (sym (list_any-append (meets_range low end) (wiped_by c) (wiped cs)) ∙ h) in
-    (spared_where low end (wiped_by c) parts.0, spared_of low end cs parts.1)
+    (spared_where low end (wiped_by c) (λ k w. (all_parted (Misses k) (wiped_by c) (wiped cs) (h k w)).0), spared_of low end cs (λ k w. (all_parted (Misses k) (wiped_by c) (wiped cs) (h k w)).1))
 
--- after some of the commands, in each range that none of them wipes at most as many pairs are lacking as the commands delete there
-pub lacks : {A : Type 0} → (m : Pairs) (xs ys : List (Command A)) (keys : List (List ℕ)) → IsPermutation (deleted (xs ++ ys)) keys → LacksAtMost (keys, wiped xs) m (map_after_all m xs)
-lacks m xs ys keys p = λ low end h.
-    let t : List ℕ → Bool = λ k. is_within low (Some end) k in
-    let most = most_after_all t m xs (spared_of low end xs h) in
-    let first = most_of_first t xs ys in
-    let same = same_count t (deleted (xs ++ ys)) keys p in
-    omega (arith, most, first, same)
+-- after commands, in each range in which none of them wipes a key at most as many pairs are lacking as they delete there
+pub lacks : {A : Type 0} → (m : Pairs) (cs : List (Command A)) → LacksAtMost (deleted cs, wiped cs) m (map_after_all m cs)
+lacks m cs = λ low end h. most_after_all (λ k. is_within low (Some end) k) m cs (spared_of low end cs h)
 
 -- ---- a leaf's share
 
 -- of a leaf from its low key on, what it has at least, less the keys that are deleted there
-pub some_certain : (lo low end : List ℕ) (taken : Taken) (m n es : Pairs) (fewest gone left : ℕ) → is_below low lo ≡ false → is_below low end ≡ true → is_wiped_within low end taken.1 ≡ false → LacksAtMost taken m n → es ≡ in_range low (Some end) m → fewest ≤ length es
+pub some_certain : (lo low end : List ℕ) (taken : Taken) (m n es : Pairs) (fewest gone left : ℕ) → is_below low lo ≡ false → is_below low end ≡ true → IsUntouched low end taken.1 → LacksAtMost taken m n → es ≡ in_range low (Some end) m → fewest ≤ length es
     → count_within low end taken.0 ≤ gone → left ≡ fewest - gone → AreCertain lo n low end left
 some_certain lo low end taken m n es fewest gone left b h w l e f c s =
     let here : length es ≡ length (in_range low (Some end) m) = ap (λ (x : Pairs). length x) e in
@@ -258,7 +213,7 @@ some_certain lo low end taken m n es fewest gone left b h w l e f c s =
     omega (arith, here, lack, sum, f, c, s)
 
 -- and certainly none, at least
-pub none_here : (lo low end : List ℕ) (n : Pairs) → is_below low lo ≡ false → is_below low end ≡ true → AreCertain lo n low end 0
+none_here : (lo low end : List ℕ) (n : Pairs) → is_below low lo ≡ false → is_below low end ≡ true → AreCertain lo n low end 0
 none_here lo low end n b h =
     let sum = between (λ e. is_below e.0 lo) (λ e. is_below e.0 low) (λ e. is_below e.0 end) n (λ e q. below_higher e.0 lo low b q) (λ e q. below_through e.0 low end q h) in
     omega (arith, sum)
@@ -356,7 +311,7 @@ module _ (lo : List ℕ) where
       parted_by (is_within low (Some end) e.0) (is_below e.0 lo) (is_below e.0 end) e (in_range low (Some end) m) (in_range lo (Some end) m) refl (before_by (is_below e.0 low) (is_below e.0 end)) (parted_range low end m)
 
 -- a scan that begins within the leaf has what the leaf has at least, less what it names below the scan, and what is deleted
-pub behind_certain : (lo low end : List ℕ) (taken : Taken) (m n : Pairs) (p : Layers (List ℕ)) (fewest most named gone left : ℕ) → is_below low lo ≡ true → is_wiped_within lo end taken.1 ≡ false → LacksAtMost taken m n → entries_of p ≡ in_range low (Some end) m
+pub behind_certain : (lo low end : List ℕ) (taken : Taken) (m n : Pairs) (p : Layers (List ℕ)) (fewest most named gone left : ℕ) → is_below low lo ≡ true → IsUntouched lo end taken.1 → LacksAtMost taken m n → entries_of p ≡ in_range low (Some end) m
     → fewest ≤ length (entries_of p) → fewest ≤ most → named ≡ min (named_below lo p) most → count_within lo end taken.0 ≤ gone → left ≡ (fewest - named) - gone → AreCertain lo n low end left
 behind_certain lo low end taken m n p fewest most named gone left b w l e f u s g r =
     let lack = l lo end w in
@@ -368,10 +323,22 @@ behind_certain lo low end taken m n p fewest most named gone left b w l e f u s 
     omega (arith, lack, parts, below, whole, named_there, nothing, f, u, s, g, r)
 
 -- and certainly none, at least
-pub none_behind : (lo low end : List ℕ) (n : Pairs) → is_below low lo ≡ true → AreCertain lo n low end 0
+none_behind : (lo low end : List ℕ) (n : Pairs) → is_below low lo ≡ true → AreCertain lo n low end 0
 none_behind lo low end n b =
     let nothing : length (in_range lo (Some low) n) ≡ 0 = ap (λ (x : Pairs). length x) (none_in_range n lo low (not_below_lower low lo (below_is_less low lo b))) in
     omega (arith, nothing)
+
+-- so of a leaf wherever the scan begins
+pub none_certain : (b : Bool) (lo low end : List ℕ) (n : Pairs) → is_below low lo ≡ b → is_below low end ≡ true → AreCertain lo n low end 0
+none_certain true lo low end n b h = none_behind lo low end n b
+none_certain false lo low end n b h = none_here lo low end n b h
+
+-- where the scan's share of a leaf begins
+pub later_lo : (low lo : List ℕ) → is_below low lo ≡ true → later low lo ≡ lo
+later_lo low lo h = ap (λ (b : Bool). if b then lo else low) h
+
+pub later_low : (low lo : List ℕ) → is_below low lo ≡ false → later low lo ≡ low
+later_low low lo h = ap (λ (b : Bool). if b then lo else low) h
 
 -- ---- the lists of a leaf, counted one after the other up to the greatest number
 

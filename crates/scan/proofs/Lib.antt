@@ -1,3 +1,4 @@
+mod Counting
 mod CutLemmas
 mod EndLemmas
 pub mod Enough
@@ -8,5 +9,6 @@ pub mod Parts
 mod PassingLemmas
 mod PathLemmas
 mod RowLemmas
+mod TakenLemmas
 mod TreeLemmas
 mod WalkLemmas

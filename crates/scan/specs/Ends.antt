@@ -1,10 +1,10 @@
 -- What is certain of the pairs that a scan finds before a leaf, while commands before it may delete some, and wipe ranges.
-use Rattle.std.specs.Prelude.{◌≡◌, ℕ, ◌+◌, ◌≤◌, Bool, false, ◌&&◌, List, [], ◌∷◌, flat_map, length, Option, Some}
-use Rattle.std.specs.List.{filter, list_any}
+use Rattle.std.specs.Prelude.{◌≡◌, ℕ, ◌+◌, ◌≤◌, true, false, List, [], ◌∷◌, flat_map, length, Option, Some, if◌then◌else◌}
+use Rattle.std.specs.List.{AllByRecursion, filter}
 use Rattle.keys.specs.Bytes.{Bytes, Pairs, Changes}
 use Rattle.delta_chain.specs.Layers.{Layers}
 use Rattle.keys.specs.Footprint.{Deed, Takes, Span, One, Range, deed_of, span_of}
-use Rattle.keys.specs.Range.{is_below, is_before, is_within, in_range}
+use Rattle.keys.specs.Range.{is_below, is_within, in_range}
 use Rattle.keys.specs.declared.command.Command.{Command}
 
 -- the key that a command takes away, where it takes one
@@ -31,13 +31,9 @@ wiped_by c = range_taken (deed_of c) (span_of c)
 abbrev pub wiped : {A : Type 0} → List (Command A) → List (Bytes × Option Bytes)
 wiped cs = flat_map wiped_by cs
 
--- whether a key from a low one on, and below an end, may lie in a range
-abbrev pub meets_range : Bytes → Bytes → Bytes × Option Bytes → Bool
-meets_range low end range = is_below range.0 end && is_before range.1 low
-
--- whether one may lie in any of them
-abbrev pub is_wiped_within : Bytes → Bytes → List (Bytes × Option Bytes) → Bool
-is_wiped_within low end ranges = list_any (meets_range low end) ranges
+-- no key from a low one on, and below an end, lies in any of these ranges
+abbrev pub IsUntouched : Bytes → Bytes → List (Bytes × Option Bytes) → Type 0
+IsUntouched low end ranges = (k : Bytes) → is_within low (Some end) k ≡ true → AllByRecursion (λ range. is_within range.0 range.1 k ≡ false) ranges
 
 -- keys and ranges of keys that are taken away
 abbrev pub Taken : Type 0
@@ -48,10 +44,14 @@ abbrev pub count_within : Bytes → Bytes → List Bytes → ℕ
 count_within low end keys = length (filter (λ k. is_within low (Some end) k) keys)
 
 -- from a low key on, and below an end, the second map lacks at most as many of the first one's pairs as there are of these keys, where
--- none of these ranges takes any away there
+-- no key there lies in any of these ranges
 abbrev pub LacksAtMost : Taken → Pairs Bytes → Pairs Bytes → Type 0
-LacksAtMost taken m n = (low end : Bytes) → is_wiped_within low end taken.1 ≡ false →
+LacksAtMost taken m n = (low end : Bytes) → IsUntouched low end taken.1 →
     length (in_range low (Some end) m) ≤ length (in_range low (Some end) n) + count_within low end taken.0
+
+-- the key with which a scan's share of a leaf begins: its own, where that is above the leaf's low key
+abbrev pub later : Bytes → Bytes → Bytes
+later low lo = if is_below low lo then lo else low
 
 -- of a scan of the map from a key on, as many pairs more lie before an end than before a low key, at least
 abbrev pub AreCertain : Bytes → Pairs Bytes → Bytes → Bytes → ℕ → Type 0

@@ -4,5 +4,7 @@ pub mod Leaf
 pub mod Left
 pub mod Merge
 pub mod Path
+pub mod Taken
+pub mod Tally
 pub mod Walk
 pub mod Ways

@@ -1,26 +1,25 @@
 //! The keys at which a batch's scans may end, since before them there are certainly as many rows as each may have. So a scan
 //! goes only to the leaves before its end, and not to each that its range meets.
 ghost use Rattle.std.specs.Prelude.{◌≡◌, ◌≤◌, true, Some, map, min, IfOk, IfSome};
-ghost use Rattle.std.specs.List.Sorted.{IsPermutation, IsSorted};
 ghost use Rattle.std.specs.Map.{keys_of};
 ghost use Rattle.std.specs.Option.{option_copied};
 ghost use Rattle.keys.specs.Bytes.{Bytes, Pairs};
 ghost use Rattle.keys.specs.Narrowed.{IsEnough, MayEndAt, MayEndAtAll};
-ghost use Rattle.keys.specs.Order.{order};
 ghost use Rattle.keys.specs.Range.{is_below, in_range};
 ghost use Rattle.delta_chain.specs.Layers.{entries_of};
-ghost use Rattle.page_search.specs.Places.{count_below};
 ghost use Rattle.mapping.specs.Levels.{levels_of, names, contents};
 ghost use Rattle.mapping.specs.Proper.{AreLevels, HoldsLevels};
 ghost use Rattle.mapping.specs.Tree.{most_levels};
 ghost use Rattle.mapping.specs.TreeInMemory.{AreAllHome, tree_of};
-ghost use Rattle.scan.specs.Ends.{deleted, count_within, LacksAtMost, AreCertain, named_below};
+ghost use Rattle.scan.specs.Ends.{LacksAtMost, AreCertain, later, named_below};
+ghost use Rattle.scan.specs.Ends as ends;
+ghost use Rattle.scan.specs.Taken.{IsTaken, IsTakenBelow};
 
 use crate::ahead::place_from;
 use crate::leaves::Leaves;
-use crate::wiped::{WipedRange, is_wiped_within, note_wipe};
+use crate::taken::{Taken, TakenBelow};
 use delta_chain::Chain;
-use keys::{Command, KeyRef, Value, compare, is_before};
+use keys::{Command, Value, compare, is_before};
 use mapping::Tree;
 use std::alloc::{AllocError, Global};
 
@@ -28,7 +27,9 @@ use std::alloc::{AllocError, Global};
 /// before which there are certainly as many pairs as the scan's limit, on the map as it is at the scan's place. So the scan
 /// has the same rows where this key is its upper bound, and needn't go to that leaf or to any behind it. A batch without
 /// scans has an empty list. A scan costs one way down and a step for each leaf up to its end, where no leaf's pairs are
-/// looked at. It is an error where there is no memory for the list.
+/// looked at: each step searches by halves in the keys that the batch deletes, and in the bounds of the ranges that it wipes.
+/// Only what commands at lower places take away counts against a scan, and each of them is noted once, at the cost of such a
+/// search. It is an error where there is no memory for the list.
 pub fn scan_ends<'a>(
     alloc: Global,
     tree: &'a Tree<Global>,
@@ -44,12 +45,11 @@ pub fn scan_ends<'a>(
     if !has_scan(commands) {
         return Ok(Vec::new(alloc));
     }
-    let deleted = deleted_keys(alloc, commands)?;
-    let mut wiped = Vec::new(alloc);
+    let mut taken = Taken::before_all(alloc, commands)?;
     let mut ends = Vec::with_capacity(alloc, commands.len())?;
     for command in commands {
-        ends.push(end_of(alloc, tree, command, &deleted, &wiped))?;
-        note_wipe(&mut wiped, command)?;
+        ends.push(end_of(alloc, tree, command, &taken))?;
+        taken.note(command);
     }
     Ok(ends)
 }
@@ -64,39 +64,19 @@ fn has_scan(commands: &[Command<Global>]) -> bool {
     false
 }
 
-// The keys that the commands delete, in order, each as often as a command deletes it.
-fn deleted_keys<'c>(
-    alloc: Global,
-    commands: &'c [Command<Global>],
-) -> Result<Vec<KeyRef<'c>>, AllocError>
-    ensures sorted { IfOk result (λ keys. IsSorted order keys.items) }
-    ensures same { IfOk result (λ keys. IsPermutation (deleted commands.now) keys.items) }
-{
-    let mut keys = Vec::new(alloc);
-    for command in commands {
-        if let Command::Del(key) = command {
-            keys.push(KeyRef::new(key.as_bytes()))?;
-        }
-    }
-    keys.sort_unstable();
-    Ok(keys)
-}
-
-// The key at which the command may end, where it is a scan. The commands before it have deleted no other keys than these, and wiped
-// no other ranges.
+// The key at which the command may end, where it is a scan. The commands before it have taken away no more than this.
 fn end_of<'a>(
     alloc: Global,
     tree: &'a Tree<Global>,
     command: &Command<Global>,
-    deleted: &[KeyRef<'_>],
-    wiped: &[WipedRange<'_>],
+    taken: &Taken<'_>,
 ) -> Option<&'a [u8]>
     requires home { AreAllHome tree.now }
     requires height { tree.now.height ≤ most_levels }
     requires held { HoldsLevels (tree_of tree.now).pages (levels_of (tree_of tree.now)) }
     requires levels { AreLevels (levels_of (tree_of tree.now)) }
-    requires sorted { IsSorted order deleted.now }
-    ensures { (m : Pairs Bytes) → LacksAtMost (deleted.now, wiped.now) (contents (tree_of tree.now)) m
+    ensures { (gone : ends.Taken) (m : Pairs Bytes) → IsTaken gone taken.now
+        → LacksAtMost gone (contents (tree_of tree.now)) m
         → MayEndAt (keys_of (names (levels_of (tree_of tree.now)).level))
         m command.now (option_copied result) }
 {
@@ -110,100 +90,85 @@ fn end_of<'a>(
             lo.as_bytes(),
             Some(hi.as_bytes()),
             *limit,
-            deleted,
-            wiped,
+            taken,
         ),
-        None => end_of_scan(alloc, tree, lo.as_bytes(), None, *limit, deleted, wiped),
+        None => end_of_scan(alloc, tree, lo.as_bytes(), None, *limit, taken),
     }
 }
 
-// The key at which such a scan may end. The walk counts what is certain before the leaf that it has come to.
+// The key at which such a scan may end. The walk counts what is certain before the leaf that it has come to. The first leaf
+// holds the scan's lower bound, and so ends above it.
 fn end_of_scan<'a>(
     alloc: Global,
     tree: &'a Tree<Global>,
     lo: &[u8],
     hi: Option<&[u8]>,
     limit: u32,
-    deleted: &[KeyRef<'_>],
-    wiped: &[WipedRange<'_>],
+    taken: &Taken<'_>,
 ) -> Option<&'a [u8]>
     requires home { AreAllHome tree.now }
     requires height { tree.now.height ≤ most_levels }
     requires held { HoldsLevels (tree_of tree.now).pages (levels_of (tree_of tree.now)) }
     requires levels { AreLevels (levels_of (tree_of tree.now)) }
-    requires sorted { IsSorted order deleted.now }
-    ensures { (m : Pairs Bytes) → LacksAtMost (deleted.now, wiped.now) (contents (tree_of tree.now)) m
+    ensures { (gone : ends.Taken) (m : Pairs Bytes) → IsTaken gone taken.now
+        → LacksAtMost gone (contents (tree_of tree.now)) m
         → IfSome result (λ end. IsEnough (keys_of (names (levels_of (tree_of tree.now)).level))
         m lo.now (option_copied hi.entry) limit end.now) }
 {
     let (mut leaf, mut leaves) = Leaves::new(alloc, tree, lo);
+    let mut before = taken.below(later(leaf.0, lo));
     let mut certain: usize = 0;
     while let Some(next) = leaves.next() {
         let end = next.0;
-        if !is_before(hi, end) {
+        if !is_before(hi, end) || !compare(lo, end).is_lt() {
             return None;
         }
-        certain = certain.saturating_add(certain_pairs(leaf.1, leaf.0, end, lo, deleted, wiped));
-        if certain >= limit as usize && compare(lo, end).is_lt() {
+        let here = taken.below(end);
+        certain = certain.saturating_add(certain_pairs(leaf.1, leaf.0, lo, &before, &here));
+        if certain >= limit as usize {
             return Some(end);
         }
         leaf = next;
+        before = here;
     }
     None
 }
 
-// How many of the pairs of a leaf, which begins at the low key and ends at the other, a scan from a key on certainly has,
-// whatever the commands before it do that delete these keys and wipe these ranges. Of a leaf that is wiped, or a part of it, nothing
-// is certain.
+// The greater one of a leaf's low key and a scan's.
+fn later<'k>(low: &'k [u8], lo: &'k [u8]) -> &'k [u8]
+    ensures { result.now ≡ later low.entry.now lo.entry.now }
+{
+    if compare(low, lo).is_lt() { lo } else { low }
+}
+
+// How many of the pairs of a leaf, which begins at the low key, a scan from a key on certainly has before the leaf's end,
+// whatever the commands before it do that take away no more than what is said of where its share of the leaf begins and ends. Of
+// a leaf in which a wiped range has keys nothing is certain.
 fn certain_pairs(
     chain: &Chain<Value<Global>, Global>,
     low: &[u8],
-    end: &[u8],
     lo: &[u8],
-    deleted: &[KeyRef<'_>],
-    wiped: &[WipedRange<'_>],
+    before: &TakenBelow,
+    here: &TakenBelow,
 ) -> usize
-    requires sorted { IsSorted order deleted.now }
-    ensures { (m n : Pairs Bytes) → LacksAtMost (deleted.now, wiped.now) m n
-        → is_below low.now end.now ≡ true
-        → entries_of chain.now ≡ in_range low.now (Some end.now) m
-        → AreCertain lo.now n low.now end.now result }
+    ensures { (gone : ends.Taken) (end : Bytes) (m n : Pairs Bytes)
+        → IsTakenBelow gone (later low.now lo.now) before.now → IsTakenBelow gone end here.now → LacksAtMost gone m n
+        → is_below low.now end ≡ true → is_below lo.now end ≡ true
+        → entries_of chain.now ≡ in_range low.now (Some end) m
+        → AreCertain lo.now n low.now end result }
 {
+    let Some(most) = before.most_until(here) else {
+        return 0;
+    };
+    let fewest = chain.fewest_entries();
     if compare(low, lo).is_lt() {
-        return certain_behind(chain, end, lo, deleted, wiped);
+        // The leaf in which the scan begins names keys below the scan's own.
+        fewest
+            .saturating_sub(named_below(chain, lo))
+            .saturating_sub(most)
+    } else {
+        fewest.saturating_sub(most)
     }
-    if is_wiped_within(wiped, low, end) {
-        return 0;
-    }
-    chain
-        .fewest_entries()
-        .saturating_sub(count_within(deleted, low, end))
-}
-
-// The same of the leaf in which the scan begins: at least so many less as the leaf names keys below the scan's own.
-fn certain_behind(
-    chain: &Chain<Value<Global>, Global>,
-    end: &[u8],
-    lo: &[u8],
-    deleted: &[KeyRef<'_>],
-    wiped: &[WipedRange<'_>],
-) -> usize
-    requires sorted { IsSorted order deleted.now }
-    ensures { (low : Bytes) (m n : Pairs Bytes) → LacksAtMost (deleted.now, wiped.now) m n
-        → is_below low lo.now ≡ true
-        → entries_of chain.now ≡ in_range low (Some end.now) m
-        → AreCertain lo.now n low end.now result }
-{
-    if !compare(lo, end).is_lt() {
-        return 0;
-    }
-    if is_wiped_within(wiped, lo, end) {
-        return 0;
-    }
-    chain
-        .fewest_entries()
-        .saturating_sub(named_below(chain, lo))
-        .saturating_sub(count_within(deleted, lo, end))
 }
 
 // How many keys the leaf's lists name below this one, each list by itself: no more of its entries are below it. Each list is
@@ -218,25 +183,4 @@ fn named_below(chain: &Chain<Value<Global>, Global>, key: &[u8]) -> usize
         rest = below;
     }
     named.saturating_add(place_from(rest.base(), key))
-}
-
-// How many of the keys lie from the low one on, and below the end.
-fn count_within(keys: &[KeyRef<'_>], low: &[u8], end: &[u8]) -> usize
-    requires sorted { IsSorted order keys.now }
-    ensures { is_below low.now end.now ≡ true → count_within low.now end.now keys.now ≤ result }
-{
-    count_below(keys, end).saturating_sub(count_below(keys, low))
-}
-
-// How many of the keys are below this one.
-fn count_below(keys: &[KeyRef<'_>], key: &[u8]) -> usize
-    requires sorted { IsSorted order keys.now }
-    ensures { count_below key.now keys.now ≡ result }
-{
-    let bound = KeyRef::new(key);
-    keys.partition_point(
-        |other: &KeyRef<'_>| -> bool
-            ensures { result ≡ is_below other.now bound.entry }
-        { other.compare(&bound).is_lt() },
-    )
 }

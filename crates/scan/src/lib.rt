@@ -8,11 +8,13 @@ mod changes;
 mod ends;
 pub mod leaf;
 mod leaves;
+mod level;
 mod merge;
 pub mod rows;
 mod search;
 mod step;
-mod wiped;
+mod taken;
+mod tally;
 
 pub use crate::ends::scan_ends;
 pub use crate::leaf::LeafPairs;

@@ -1,0 +1,49 @@
+-- How many of the keys that came so far pass a test, where all that may come stand in order: each has a place, and what comes is noted there.
+use Rattle.std.specs.Prelude.{◌≡◌, ℕ, ◌+◌, ◌-◌, ◌/◌, ◌<◌, ◌≤◌, Bool, true, false, not, List, [], ◌∷◌, length, slice_index}
+use Rattle.std.specs.List.{filter}
+use Rattle.std.specs.List.Sorted.{IsSorted}
+use Rattle.keys.specs.Bytes.{Bytes}
+use Rattle.keys.specs.Order.{order}
+use Rattle.keys.specs.Range.{is_below}
+
+-- how many of the keys pass a test
+abbrev pub passing : (Bytes → Bool) → List Bytes → ℕ
+passing test keys = length (filter test keys)
+
+-- how many of the keys are below one
+abbrev pub below : Bytes → List Bytes → ℕ
+below key keys = passing (λ k. is_below k key) keys
+
+-- how many of them are not above one
+abbrev pub up_to : Bytes → List Bytes → ℕ
+up_to key keys = passing (λ k. not (is_below key k)) keys
+
+-- a test that with a key passes all that aren't above it
+abbrev pub PassesLower : (Bytes → Bool) → Type 0
+PassesLower test = (j k : Bytes) → test k ≡ true → is_below k j ≡ false → test j ≡ true
+
+-- how many noted places stand before one: those in its group of 16, and those in the groups before that one
+abbrev pub counted : List (List ℕ) → ℕ → ℕ
+counted [] at = 0
+counted (level ∷ levels) at = slice_index level at + counted levels (at / 16)
+
+-- levels that have room for so many places: each level for the groups of the one below
+abbrev pub AreWide : ℕ → List (List ℕ) → Type 0
+AreWide places [] = places ≤ 1
+AreWide places (level ∷ levels) = (places ≤ length level) × AreWide ((places - 1) / 16 + 1) levels
+
+-- with a place noted, one more stands before those that are after it
+pub record IsOneMore (place at old new : ℕ) : Type 0 where
+  pub after : place < at → new ≡ old + 1
+  pub others : at ≤ place → new ≡ old
+
+-- keys in order, with the levels over their places
+abbrev pub Tally : Type 0
+Tally = List Bytes × List (List ℕ)
+
+-- of those keys just these have come
+pub record IsTally (came : List Bytes) (t : Tally) : Type 0 where
+  pub sorted : IsSorted order t.0
+  pub wide : AreWide (length t.0 + 1) t.1
+  pub few : (at : ℕ) → at < length t.0 + 1 → counted t.1 at ≤ length came
+  pub counts : (test : Bytes → Bool) → PassesLower test → counted t.1 (passing test t.0) ≡ passing test came

@@ -1,0 +1,166 @@
+//! What the commands before a place of a batch take away.
+ghost use Rattle.std.specs.Prelude.{◌≡◌, true, List, [], ◌∷◌, ◌++◌, ◌-◌, ◌^◌, ◌<◌, ◌≤◌, length, Contains, Option, IfOk, IfSome, option_copied};
+ghost use Rattle.keys.specs.Bytes.{Bytes};
+ghost use Rattle.keys.specs.Range.{is_below};
+ghost use Rattle.scan.specs.Ends.{deleted, deleted_by, wiped_by, IsUntouched, count_within};
+ghost use Rattle.scan.specs.Ends as ends;
+ghost use Rattle.scan.specs.Taken.{all_lower, all_upper, AreWiped, IsTaken, IsTakenBelow, IsReadyFor, AreReady, HasKeysOf};
+
+use crate::tally::Tally;
+use keys::{Command, Key, KeyRef, is_before};
+use std::alloc::{AllocError, Global};
+use std::marker::Model;
+
+/// What the commands before a place take away: how often a key was deleted, and where ranges were wiped. Contracts see it as
+/// the three tallies of the keys that were deleted, of the wiped ranges' lower bounds, and of their upper bounds.
+#[derive(Drop)]
+pub(crate) struct Taken<'c> {
+    deleted: Tally<'c>,
+    wiped_from: Tally<'c>,
+    wiped_to: Tally<'c>,
+}
+
+impl<'c> Model for Taken<'c> {
+    ghost use Rattle.scan.specs.Taken.{Tallies};
+
+    ghost Value = { Tallies };
+
+    ghost view = { λ t. (t.deleted, t.wiped_from, t.wiped_to) };
+}
+
+/// What is taken away below a key: how many keys were deleted, how many ranges that were wiped begin there, and how many end
+/// there, or at the key.
+#[derive(Drop)]
+pub(crate) struct TakenBelow {
+    deleted: usize,
+    begun: usize,
+    ended: usize,
+}
+
+impl<'c> Taken<'c> {
+    /// Nothing yet, before all these commands.
+    pub(crate) fn before_all(
+        alloc: Global,
+        commands: &'c [Command<Global>],
+    ) -> Result<Self, AllocError>
+        ensures none { IfOk result (λ taken. IsTaken ([], []) taken) }
+        ensures ready { IfOk result (λ taken. AreReady commands.now taken) }
+    {
+        let deleted = Tally::new(alloc, deleted_keys(alloc, commands)?)?;
+        let wiped_from = Tally::new(alloc, lower_bounds(alloc, commands)?)?;
+        let wiped_to = Tally::new(alloc, upper_bounds(alloc, commands)?)?;
+        Ok(Taken {
+            deleted,
+            wiped_from,
+            wiped_to,
+        })
+    }
+
+    /// What the command takes away, which is one of them, comes to it.
+    pub(crate) fn note(&mut self, command: &Command<Global>)
+        ensures keys { HasKeysOf self.old self.new }
+        ensures taken { (gone : ends.Taken) → IsTaken gone self.old → IsReadyFor command.now self.old
+            → length gone.0 < 2 ^ 64 - 1 → length gone.1 < 2 ^ 64 - 1
+            → IsTaken (gone.0 ++ deleted_by command.now, gone.1 ++ wiped_by command.now) self.new }
+    {
+        match command {
+            Command::Del(key) => self.deleted.note(key.as_bytes()),
+            Command::Wipe(lo, hi) => self.note_range(lo, hi.as_ref()),
+            _ => {}
+        }
+    }
+
+    // Notes the bounds of a range, where it isn't empty.
+    fn note_range(&mut self, lo: &Key<Global>, hi: Option<&Key<Global>>)
+        ensures keys { HasKeysOf self.old self.new }
+        ensures deleted { self.new.0 ≡ self.old.0 }
+        ensures wiped { (ranges : List (Bytes × Option Bytes)) → AreWiped ranges self.old
+            → Contains self.old.1.0 lo.now → IfSome (option_copied hi.entry) (λ k. Contains self.old.2.0 k)
+            → length ranges < 2 ^ 64 - 1 → AreWiped (ranges ++ (lo.now, option_copied hi.entry) ∷ []) self.new }
+    {
+        match hi {
+            None => self.wiped_from.note(lo.as_bytes()),
+            Some(hi) => {
+                if is_before(Some(hi.as_bytes()), lo.as_bytes()) {
+                    self.wiped_from.note(lo.as_bytes());
+                    self.wiped_to.note(hi.as_bytes());
+                }
+            }
+        }
+    }
+
+    /// What is taken away below the key.
+    pub(crate) fn below(&self, key: &[u8]) -> TakenBelow
+        ensures { (gone : ends.Taken) → IsTaken gone self.now → IsTakenBelow gone key.now result }
+    {
+        let key = KeyRef::new(key);
+        TakenBelow {
+            deleted: self.deleted.below(&key),
+            begun: self.wiped_from.below(&key),
+            ended: self.wiped_to.up_to(&key),
+        }
+    }
+}
+
+impl TakenBelow {
+    /// How many keys were deleted from the key of this one on, and before the key of the other at the most; none where a range
+    /// was wiped that has keys between them.
+    pub(crate) fn most_until(&self, end: &TakenBelow) -> Option<usize>
+        ensures { (gone : ends.Taken) (low high : Bytes) → is_below low high ≡ true
+            → IsTakenBelow gone low self.now → IsTakenBelow gone high end.now
+            → IfSome result (λ most. IsUntouched low high gone.1 × (count_within low high gone.0 ≤ most)) }
+    {
+        if end.begun > self.ended {
+            return None;
+        }
+        Some(end.deleted.saturating_sub(self.deleted))
+    }
+}
+
+// The keys that the commands delete, each as often as a command deletes it.
+fn deleted_keys<'c>(
+    alloc: Global,
+    commands: &'c [Command<Global>],
+) -> Result<Vec<KeyRef<'c>>, AllocError>
+    ensures { IfOk result (λ keys. keys.items ≡ deleted commands.now) }
+{
+    let mut keys = Vec::new(alloc);
+    for command in commands {
+        if let Command::Del(key) = command {
+            keys.push(KeyRef::new(key.as_bytes()))?;
+        }
+    }
+    Ok(keys)
+}
+
+// The lower bounds of the ranges that the commands wipe.
+fn lower_bounds<'c>(
+    alloc: Global,
+    commands: &'c [Command<Global>],
+) -> Result<Vec<KeyRef<'c>>, AllocError>
+    ensures { IfOk result (λ keys. keys.items ≡ all_lower commands.now) }
+{
+    let mut keys = Vec::new(alloc);
+    for command in commands {
+        if let Command::Wipe(lo, _) = command {
+            keys.push(KeyRef::new(lo.as_bytes()))?;
+        }
+    }
+    Ok(keys)
+}
+
+// The upper bounds of those that have one.
+fn upper_bounds<'c>(
+    alloc: Global,
+    commands: &'c [Command<Global>],
+) -> Result<Vec<KeyRef<'c>>, AllocError>
+    ensures { IfOk result (λ keys. keys.items ≡ all_upper commands.now) }
+{
+    let mut keys = Vec::new(alloc);
+    for command in commands {
+        if let Command::Wipe(_, Some(hi)) = command {
+            keys.push(KeyRef::new(hi.as_bytes()))?;
+        }
+    }
+    Ok(keys)
+}

@@ -1,0 +1,88 @@
+//! Counting keys that come one by one.
+ghost use Rattle.std.specs.Prelude.{◌≡◌, [], ◌∷◌, ◌++◌, List, ℕ, ◌-◌, ◌^◌, ◌<◌, ◌≤◌, not, length, Contains, IfOk};
+ghost use Rattle.std.specs.List.Sorted.{IsPermutation, IsSorted};
+ghost use Rattle.keys.specs.Bytes.{Bytes};
+ghost use Rattle.keys.specs.Order.{order};
+ghost use Rattle.keys.specs.Range.{is_below};
+ghost use Rattle.scan.specs.Tally.{IsTally, below, up_to};
+
+use crate::level::{Level, count_before, levels_over, note_on};
+use keys::KeyRef;
+use std::alloc::{AllocError, Global};
+use std::marker::Model;
+
+/// How many of the keys that came so far are below a key. All that may come are known before, and stand in order, so each has
+/// a place, and what comes is noted there. To note one and to count those below one each cost a search by halves. Contracts
+/// see it as the keys that may come, and what is noted of their places.
+#[derive(Drop)]
+pub(crate) struct Tally<'c> {
+    keys: Vec<KeyRef<'c>>,
+    levels: Vec<Level>,
+}
+
+impl<'c> Model for Tally<'c> {
+    ghost use Rattle.scan.specs.Tally.{Tally};
+
+    ghost Value = { Tally };
+
+    ghost view = { λ t. (t.keys.items, t.levels.items) };
+}
+
+impl<'c> Tally<'c> {
+    /// Of these keys none has come.
+    pub(crate) fn new(alloc: Global, keys: Vec<KeyRef<'c>>) -> Result<Self, AllocError>
+        ensures none { IfOk result (λ t. IsTally [] t) }
+        ensures same { IfOk result (λ t. IsPermutation keys.entry.items t.0) }
+    {
+        let mut keys = keys;
+        keys.sort_unstable();
+        let levels = levels_over(alloc, keys.len() + 1)?;
+        Ok(Tally { keys, levels })
+    }
+
+    /// Another one has come, which is one of the keys.
+    pub(crate) fn note(&mut self, key: &[u8])
+        ensures keys { self.new.0 ≡ self.old.0 }
+        ensures came { (came : List Bytes) → IsTally came self.old → Contains self.old.0 key.now
+            → length came < 2 ^ 64 - 1 → IsTally (came ++ key.now ∷ []) self.new }
+    {
+        let place = place_below(&self.keys, &KeyRef::new(key));
+        note_on(&mut self.levels, place);
+    }
+
+    /// How many of those that came are below the key.
+    pub(crate) fn below(&self, key: &KeyRef<'_>) -> usize
+        ensures { (came : List Bytes) → IsTally came self.now → length came ≤ 2 ^ 64 - 1 → result ≡ below key.now came }
+    {
+        count_before(&self.levels, place_below(&self.keys, key))
+    }
+
+    /// How many of those that came are not above the key.
+    pub(crate) fn up_to(&self, key: &KeyRef<'_>) -> usize
+        ensures { (came : List Bytes) → IsTally came self.now → length came ≤ 2 ^ 64 - 1 → result ≡ up_to key.now came }
+    {
+        count_before(&self.levels, place_after(&self.keys, key))
+    }
+}
+
+// How many of the keys are below this one.
+fn place_below(keys: &[KeyRef<'_>], key: &KeyRef<'_>) -> usize
+    ensures { IsSorted order keys.now → result ≡ below key.now keys.now }
+{
+    keys.partition_point(
+        |other: &KeyRef<'_>| -> bool
+            ensures { result ≡ is_below other.now key.entry.now }
+        { other.compare(key).is_lt() },
+    )
+}
+
+// How many of the keys are not above this one.
+fn place_after(keys: &[KeyRef<'_>], key: &KeyRef<'_>) -> usize
+    ensures { IsSorted order keys.now → result ≡ up_to key.now keys.now }
+{
+    keys.partition_point(
+        |other: &KeyRef<'_>| -> bool
+            ensures { result ≡ not (is_below key.entry.now other.now) }
+        { !key.compare(other).is_lt() },
+    )
+}
