@@ -1,5 +1,5 @@
 -- Lemmas on runs of commands.
-use Rattle.std.specs.Prelude.{◌≡◌, ℕ, Bool, true, false, if◌then◌else◌, not, is_some, Option, List, [], ◌∷◌, ◌++◌}
+use Rattle.std.specs.Prelude.{◌≡◌, ℕ, Bool, true, false, if◌then◌else◌, not, is_some, List, [], ◌∷◌, ◌++◌}
 use Rattle.std.proofs.Common.{refl, ap}
 use Rattle.keys.specs.Order.{IsRising}
 use Rattle.keys.specs.OrderedMap.{value_at, with_pair}

@@ -1,9 +1,9 @@
--- What a key keeps of its bytes, in either of the two ways.
+-- What is kept of the bytes of a key or a value, in either of the two ways.
 use Rattle.keys.specs.Bytes.{Bytes}
-use Rattle.keys.specs.declared.key.KeptBytes.{KeptBytes}
-use Rattle.keys.specs.declared.key.KeptBytes.TheVariants.{Short, Long}
+use Rattle.keys.specs.declared.kept_bytes.Form.{Form}
+use Rattle.keys.specs.declared.kept_bytes.Form.TheVariants.{Short, Long}
 
 -- the bytes in place, or those of the list
-abbrev pub bytes_kept : {A : Type 0} → KeptBytes A → Bytes
-bytes_kept (Short short) = short
-bytes_kept (Long long) = long.items
+abbrev pub bytes_of : {A : Type 0} → Form A → Bytes
+bytes_of (Short short) = short
+bytes_of (Long long) = long.items

@@ -6,8 +6,8 @@ ghost use Rattle.std.specs.Cmp.Rules.{comparing};
 ghost use Rattle.std.specs.Ordering.{eq_by_cmp, as_partial_cmp};
 ghost use Rattle.keys.specs.Order.{order};
 
+use crate::kept_bytes::KeptBytes;
 use crate::order::compare;
-use crate::short_bytes::ShortBytes;
 use std::alloc::{AllocError, Allocator};
 use std::cmp::Ordering;
 use std::marker::Model;
@@ -19,20 +19,12 @@ pub struct Key<A: Allocator> {
     kept: KeptBytes<A>,
 }
 
-#[derive(Drop)]
-enum KeptBytes<A: Allocator> {
-    Short(ShortBytes),
-    Long(Vec<u8, A>),
-}
-
 impl<A: Allocator> Model for Key<A> {
     ghost use Rattle.keys.specs.Bytes.{Bytes};
 
     ghost Value = { Bytes };
 
-    ghost use Rattle.keys.specs.Kept.{bytes_kept};
-
-    ghost view = { λ k. bytes_kept k.kept };
+    ghost view = { λ k. k.kept };
 }
 
 impl<A: Allocator + Copy> Key<A> {
@@ -42,7 +34,7 @@ impl<A: Allocator + Copy> Key<A> {
         ensures { result ≡ [] }
     {
         Key {
-            kept: KeptBytes::Short(ShortBytes::empty()),
+            kept: KeptBytes::empty(),
         }
     }
 
@@ -50,14 +42,9 @@ impl<A: Allocator + Copy> Key<A> {
     pub fn from_bytes(alloc: A, bytes: &[u8]) -> Result<Self, AllocError>
         ensures { IfOk result (λ key. key ≡ bytes.now) }
     {
-        match ShortBytes::from_bytes(bytes) {
-            Some(short) => Ok(Key {
-                kept: KeptBytes::Short(short),
-            }),
-            None => Ok(Key {
-                kept: KeptBytes::Long(bytes.to_vec(alloc)?),
-            }),
-        }
+        Ok(Key {
+            kept: KeptBytes::from_bytes(alloc, bytes)?,
+        })
     }
 
     /// An equal key, in memory of its own where it is longer than 23 bytes.
@@ -74,10 +61,7 @@ impl<A: Allocator> Key<A> {
     pub fn as_bytes(&self) -> &[u8]
         ensures { result.now ≡ self.now }
     {
-        match &self.kept {
-            KeptBytes::Short(short) => short.as_bytes(),
-            KeptBytes::Long(long) => long.as_slice(),
-        }
+        self.kept.as_bytes()
     }
 
     /// How many bytes the key has.

@@ -7,6 +7,7 @@ pub mod command;
 pub mod fault;
 pub mod finding;
 pub mod fingerprint;
+mod kept_bytes;
 pub mod key;
 pub mod key_ref;
 pub mod laws;

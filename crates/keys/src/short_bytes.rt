@@ -8,6 +8,8 @@ const ROOM: usize = 23;
 /// Up to 23 bytes, kept in place. Contracts see them as their list.
 #[derive(Drop)]
 pub(crate) struct ShortBytes {
+    // No number, but the alignment of one, so that a key or a value is moved by words.
+    words: [u64; 0],
     // How many of the places are in use, from the first on.
     len: u8,
     places: [u8; ROOM],
@@ -31,6 +33,7 @@ impl ShortBytes {
         ensures { result ≡ [] }
     {
         ShortBytes {
+            words: [],
             len: 0,
             places: [0; ROOM],
         }
@@ -48,6 +51,7 @@ impl ShortBytes {
         let mut places = [0; ROOM];
         places[..count].copy_from_slice(bytes);
         Some(ShortBytes {
+            words: [],
             len: count as u8,
             places,
         })

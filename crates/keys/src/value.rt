@@ -1,12 +1,13 @@
 ghost use Rattle.std.specs.Prelude.{◌≡◌, [], length, IfOk};
 
+use crate::kept_bytes::KeptBytes;
 use std::alloc::{AllocError, Allocator};
 use std::marker::Model;
 
-/// A value: a byte string, which contracts see as the list of its bytes.
+/// A value: a byte string, which contracts see as the list of its bytes. Values of up to 23 bytes take no memory of their own.
 #[derive(Drop)]
 pub struct Value<A: Allocator> {
-    bytes: Vec<u8, A>,
+    kept: KeptBytes<A>,
 }
 
 impl<A: Allocator> Model for Value<A> {
@@ -14,29 +15,30 @@ impl<A: Allocator> Model for Value<A> {
 
     ghost Value = { Bytes };
 
-    ghost view = { λ v. v.bytes.items };
+    ghost view = { λ v. v.kept };
 }
 
 impl<A: Allocator + Copy> Value<A> {
     /// The value of no bytes. It takes no memory.
-    pub fn empty(alloc: A) -> Self
+    #[inline]
+    pub fn empty(_alloc: A) -> Self
         ensures { result ≡ [] }
     {
         Value {
-            bytes: Vec::new(alloc),
+            kept: KeptBytes::empty(),
         }
     }
 
-    /// The value of these bytes.
+    /// The value of these bytes. Up to 23 of them take no memory.
     pub fn from_bytes(alloc: A, bytes: &[u8]) -> Result<Self, AllocError>
         ensures { IfOk result (λ value. value ≡ bytes.now) }
     {
         Ok(Value {
-            bytes: bytes.to_vec(alloc)?,
+            kept: KeptBytes::from_bytes(alloc, bytes)?,
         })
     }
 
-    /// An equal value, in memory of its own.
+    /// An equal value, in memory of its own where it is longer than 23 bytes.
     pub fn copy(&self, alloc: A) -> Result<Self, AllocError>
         ensures { IfOk result (λ value. value ≡ self.now) }
     {
@@ -46,16 +48,18 @@ impl<A: Allocator + Copy> Value<A> {
 
 impl<A: Allocator> Value<A> {
     /// The bytes of the value.
+    #[inline]
     pub fn as_bytes(&self) -> &[u8]
         ensures { result.now ≡ self.now }
     {
-        self.bytes.as_slice()
+        self.kept.as_bytes()
     }
 
     /// How many bytes the value has.
+    #[inline]
     pub fn len(&self) -> usize
         ensures { result ≡ length self.now }
     {
-        self.bytes.len()
+        self.as_bytes().len()
     }
 }
