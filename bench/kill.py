@@ -31,17 +31,46 @@ def changes(number):
     return {key: value if at == 0 or number // 100 % 2 == 0 else None for at, key in enumerate(keys)}
 
 
+def wiped(number):
+    """The bounds of the wipe with which the batch of this number begins. One of ten does, and one of a hundred has no upper bound."""
+    first = number * 7 % KEYS
+    if number % 10 != 9:
+        return None
+    return f"k{first}", None if number % 100 == 49 else f"k{first + 20}"
+
+
 def command_line(key, value):
     return f"del {key}\n" if value is None else f"put {key} {value}\n"
 
 
+def wipe_line(lo, hi):
+    return f"wipe {lo} {hi or '*'}\n"
+
+
+def batch_lines(number):
+    """The lines of the batch of this number."""
+    bounds = wiped(number)
+    return (wipe_line(*bounds) if bounds else "") + "".join(command_line(*change) for change in changes(number).items())
+
+
 def batch_file(first, last):
     """The batches of these numbers, each with a flush."""
-    return "".join("".join(command_line(*change) for change in changes(number).items()) + "flush\n" for number in range(first, last + 1))
+    return "".join(batch_lines(number) + "flush\n" for number in range(first, last + 1))
+
+
+def wipe(contents, lo, hi):
+    """Removes the keys of a range from a dict; how many there were."""
+    gone = [key for key in contents if lo <= key and (hi is None or key < hi)]
+    for key in gone:
+        del contents[key]
+    return len(gone)
 
 
 def play(contents, number):
     """Runs a batch and its flush on a dict; what is printed for it. The making of the store has the sequence number 1."""
+    bounds = wiped(number)
+    if bounds:
+        yield f"wiped {wipe(contents, *bounds)}"
     for key, value in changes(number).items():
         there = contents.pop(key, None) is not None
         if value is None:

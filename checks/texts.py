@@ -1,8 +1,9 @@
 """Batch files that someone has made to do harm, and large ones, each run under a small stack."""
 
 import random
+from bisect import bisect_left, insort
 from collections.abc import Callable
-from dataclasses import dataclass
+from dataclasses import dataclass, field
 
 from checks.harness import MEGABYTE, SLOW, Case, Outcome, Programs, differs, run
 from checks.rules import token
@@ -32,6 +33,26 @@ NOTHING = (0, b"", b"")
 LONG = b"a" * MEGABYTE
 MILLION = 1_000_000
 
+TURNS, STEP = 1_000, 5  # how often a wipe and a scan stand in turn, and how many pairs each wipe takes
+
+
+def puts(count: int) -> bytes:
+    """A batch of puts, in the order of their keys."""
+    return b"".join(b"put %06d v\n" % number for number in range(count)) + b"go\n"
+
+
+def in_turn(lo: bytes) -> bytes:
+    """Wipes of the next pairs, each with a scan of three, from this bound on, or where there is none from the end of the wipe before."""
+    ends = [(b"%06d" % (STEP * turn), b"%06d" % (STEP * (turn + 1))) for turn in range(TURNS)]
+    return puts(TURNS * STEP) + b"".join(b"wipe %s %s\nscan %s * 3\n" % (lo or first, last, lo or first) for first, last in ends)
+
+
+def answered_in_turn() -> bytes:
+    ends = [STEP * (turn + 1) for turn in range(TURNS)]
+    rows = [[b"%06d v\n" % number for number in range(end, min(end + 3, TURNS * STEP))] for end in ends]
+    return b"new\n" * (TURNS * STEP) + b"".join(b"wiped %d\nrows %d\n" % (STEP, len(found)) + b"".join(found) for found in rows)
+
+
 TEXTS = [
     Text("no bytes", lambda: b"", NOTHING),
     Text("a line of 1 MB", lambda: LONG, bad("unknown command")),
@@ -50,6 +71,11 @@ TEXTS = [
     Text("a bad line behind a million", lambda: b"\n" * MILLION + b"x", bad("unknown command", MILLION + 1)),
     Text("a batch of 65,536 commands", lambda: b"get a\n" * 65_536, fault("4 BatchTooLong")),
     Text("a batch of 65,535 commands", lambda: b"get a\n" * 65_535, (0, b"missing\n" * 65_535, b"")),
+    Text("a bound of 1 MB", lambda: b"get a\nwipe a " + LONG + b"\n", fault("2 KeyTooLong 1")),
+    Text("65,535 wipes of nothing", lambda: b"wipe a *\n" * 65_535, (0, b"wiped 0\n" * 65_535, b"")),
+    Text("a wipe of all", lambda: puts(65_535) + b"wipe % *\nscan % * 9\n", (0, b"new\n" * 65_535 + b"wiped 65535\nrows 0\n", b"")),
+    Text("wipes and scans in turn, each where the last one ended", lambda: in_turn(b""), (0, answered_in_turn(), b"")),
+    Text("wipes and scans in turn, from the first key on", lambda: in_turn(b"%"), (0, answered_in_turn(), b"")),
 ]
 
 
@@ -92,38 +118,78 @@ def run_escapes(programs: Programs) -> Outcome:
     return Outcome(differs(ran, 0, b"new\n" * 256 + b"rows 256\n" + rows))
 
 
-def drawn_command(chance: random.Random, pairs: dict[bytes, bytes], weights: list[int], keys: int, value: bytes) -> tuple[bytes, bytes]:
-    """A put, a delete or a get of some key, by these weights, and what it answers."""
+@dataclass
+class Map:
+    """The pairs that a store has, and its keys in their order."""
+
+    pairs: dict[bytes, bytes] = field(default_factory=dict)
+    keys: list[bytes] = field(default_factory=list)
+
+    def put(self, key: bytes, value: bytes) -> bytes:
+        is_new = key not in self.pairs
+        if is_new:
+            insort(self.keys, key)
+        self.pairs[key] = value
+        return b"new\n" if is_new else b"replaced\n"
+
+    def get(self, key: bytes) -> bytes:
+        return b"value %s\n" % self.pairs[key] if key in self.pairs else b"missing\n"
+
+    def delete(self, key: bytes) -> bytes:
+        if self.pairs.pop(key, None) is None:
+            return b"missing\n"
+        del self.keys[bisect_left(self.keys, key)]
+        return b"deleted\n"
+
+    def within(self, lo: bytes, hi: bytes | None) -> slice:
+        """Where the keys of a range stand."""
+        return slice(bisect_left(self.keys, lo), None if hi is None else bisect_left(self.keys, hi))
+
+    def scan(self, lo: bytes, hi: bytes | None, limit: int) -> bytes:
+        found = self.keys[self.within(lo, hi)][:limit]
+        return b"rows %d\n" % len(found) + b"".join(b"%s %s\n" % (key, self.pairs[key]) for key in found)
+
+    def wipe(self, lo: bytes, hi: bytes | None) -> bytes:
+        gone = self.keys[self.within(lo, hi)]
+        for key in gone:
+            self.delete(key)
+        return b"wiped %d\n" % len(gone)
+
+
+def drawn_range(chance: random.Random, key: bytes) -> tuple[bytes, bytes | None]:
+    """The keys that begin as this one does, nearly all of it; seldom those from it on up to some other, or all."""
+    length = max(1, len(key) - chance.choices([0, 1, 2, 3], [60, 30, 8, 2])[0])
+    others = [key[:length] + b"~", b"%x" % chance.randrange(1 << 16), None]
+    return key[:length], chance.choices(others, [500, 2, 1])[0]
+
+
+def drawn_command(chance: random.Random, drawn: Map, weights: list[int], keys: int, value: bytes) -> tuple[bytes, bytes]:
+    """A put, a delete, a get, a scan or a wipe, by these weights, and what it answers."""
     key = b"%x" % chance.randrange(keys)
-    what = chance.choices([b"put", b"del", b"get"], weights)[0]
-    before = pairs.get(key)
+    what = chance.choices([b"put", b"del", b"get", b"scan", b"wipe"], weights)[0]
     if what == b"put":
-        pairs[key] = value
-        return b"put %s %s\n" % (key, value), b"new\n" if before is None else b"replaced\n"
-    line = b"%s %s\n" % (what, key)
-    if before is None:
-        return line, b"missing\n"
-    if what == b"get":
-        return line, b"value %s\n" % before
-    del pairs[key]
-    return line, b"deleted\n"
+        return b"put %s %s\n" % (key, value), drawn.put(key, value)
+    if what in (b"del", b"get"):
+        return b"%s %s\n" % (what, key), drawn.delete(key) if what == b"del" else drawn.get(key)
+    lo, hi = drawn_range(chance, key)
+    line = b"%s %s %s" % (what, lo, b"*" if hi is None else hi)
+    if what == b"wipe":
+        return line + b"\n", drawn.wipe(lo, hi)
+    return line + b" 20\n", drawn.scan(lo, hi, 20)
 
 
 def drawn_batches(chance: random.Random, batches: int, most: int, keys: int) -> tuple[bytes, bytes]:
     """Batches by chance, in turn two that mostly put and two that mostly delete, a scan of all pairs behind them, and what is printed."""
-    pairs: dict[bytes, bytes] = {}
-    text, printed = bytearray(), bytearray()
+    drawn, text, printed = Map(), bytearray(), bytearray()
     for batch in range(batches):
-        weights = [6, 1, 1] if batch % 4 < 2 else [1, 6, 1]
+        weights = [240, 40, 40, 5, 10] if batch % 4 < 2 else [40, 240, 40, 5, 10]
         for _ in range(chance.randrange(most)):
-            line, reply = drawn_command(chance, pairs, weights, keys, b"%d" % batch)
+            line, reply = drawn_command(chance, drawn, weights, keys, b"%d" % batch)
             text += line
             printed += reply
         text += b"go\n"
     text += b"scan % * 4294967295\n"
-    printed += b"rows %d\n" % len(pairs)
-    for key in sorted(pairs):
-        printed += b"%s %s\n" % (key, pairs[key])
+    printed += drawn.scan(b"", None, keys)
     return bytes(text), bytes(printed)
 
 

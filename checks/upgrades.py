@@ -50,7 +50,7 @@ def made(programs: Programs, path: Path, text: bytes, *words: str) -> tuple[byte
 def upgrade(programs: Programs, seed: int) -> Outcome:
     """Upgrades a store by chance, and compares the bytes; then once more, which is refused; and flushes and cleans it."""
     chance = random.Random(seed)
-    text, _ = drawn_batches(chance, batches=8, most=120, keys=400)
+    text, _ = drawn_batches(chance, batches=8, most=300, keys=400)
     size, command = chance.choice([512, 1024, 4096]), [programs.store, "--disk"]
     with new_folder() as folder:
         path = Path(folder) / "file"

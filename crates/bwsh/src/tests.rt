@@ -1,5 +1,6 @@
 //! The rules of a batch file and of the command line, by example, and sessions whose input, output or memory fails.
 mod files;
+mod wipes;
 
 use crate::batch_file::{TextFault, parse};
 use crate::line::Why;
@@ -223,6 +224,12 @@ fn a_tree_is_verified(rt: HostRuntime) -> Result<(), Fail> {
         b"go\ndel a\ndel b\ndel c\ngo\nput a 1\ngo\ndel a\nverify\n",
         b"deleted\ndeleted\ndeleted\nnew\ndeleted\nok 7 3 14\n",
     )?;
+    // By a wipe they go as by deletes, and another one finds none.
+    check_behind_puts(
+        &rt,
+        b"go\nwipe % *\nverify\nwipe % *\nverify\n",
+        b"wiped 17\nok 8 3 0\nwiped 0\nok 8 3 0\n",
+    )?;
     let mut printed = b"deleted\n".as_slice().repeatn(rt.alloc(), 17)?;
     printed.extend_from_slice(b"ok 8 3 0\n")?;
     check_behind_puts(&rt, SEVENTEEN_DELETES, &printed)
@@ -234,6 +241,8 @@ fn a_fault_ends_the_session(rt: HostRuntime) -> Result<(), Fail> {
     let words = vec![in rt.alloc(); String::from_str(rt.alloc(), "--max-key=16")?]?;
     let input = b"put a 1\ngo\nput % 1\nput 0123456789abcdef 1\nput 0123456789abcdefg 1\n";
     check(&rt, &words, input, 4, b"new\n", b"fault 2 KeyTooLong 2\n");
+    let input = b"put a 1\ngo\nget a\nwipe 0123456789abcdef 0123456789abcdefg\n";
+    check(&rt, &words, input, 4, b"new\n", b"fault 2 KeyTooLong 1\n");
     Ok(())
 }
 
@@ -286,12 +295,13 @@ fn words_are_refused(rt: HostRuntime) -> Result<(), Fail> {
 }
 
 // What the help has to say: each kind of line, what a segment has to hold, the ranges of a crew, who holds a file, and the exit statuses.
-const HELP: [&str; 22] = [
+const HELP: [&str; 23] = [
     "put K V",
     "add K V",
     "get K",
     "del K",
     "scan LO HI LIMIT",
+    "wipe LO HI",
     "go",
     "flush",
     "clean",
@@ -710,9 +720,11 @@ fn the_output_fails(rt: HostRuntime) {
 // whole line.
 #[test]
 fn memory_is_refused(rt: HostRuntime) {
-    let mut input: &[u8] = b"put %41 1\nget A\nscan % * 9\nverify\ndel A\nget A\nupgrade\n";
-    let right = b"new\nvalue 1\nrows 1\nA 1\nok 1 1 1\ndeleted\nmissing\nupgraded 2\n";
-    let mut out = Cursor::new([0u8; 64]);
+    let mut input: &[u8] =
+        b"put %41 1\nget A\nscan % * 9\nverify\ndel A\nput B 1\nwipe A *\nget A\nupgrade\n";
+    let right =
+        b"new\nvalue 1\nrows 1\nA 1\nok 1 1 1\ndeleted\nnew\nwiped 1\nmissing\nupgraded 2\n";
+    let mut out = Cursor::new([0u8; 96]);
     let mut err = Cursor::new([0u8; 64]);
     let status = run_plain(&rt, &mut input, &mut out, &mut err);
     let out = &out.get_ref()[..];

@@ -1,9 +1,11 @@
 //! Long runs by a seed on a disk that stops: batches, flushes, cleans, upgrades, openings and crashes. What comes back is what a map of std held at
 //! the last flush that was answered, or at the one that was stopped.
 use crate::crews::ALONE;
-use crate::drawn_batches::{are_letters, draw, drawn_command, next_number, write_reply_of_map};
+use crate::drawn_batches::{
+    are_letters, draw, drawn_command, next_number, text_of_map, write_reply_of_map,
+};
 use crate::store::Store;
-use crate::tests::{S, opened, write_row, write_rows};
+use crate::tests::{S, opened, write_rows};
 use crew::NoGate;
 use flush_log::{CrashDisk, Fill};
 use keys::{Command, Fault, Settings};
@@ -43,16 +45,6 @@ struct Counts {
 
 fn count(number: &mut u32) {
     *number = number.saturating_add(1);
-}
-
-// The pairs of the map, as those of a range are told.
-fn text_of_map(alloc: Global, map: &BTreeMap<u8, u8, Global>) -> Result<String, AllocError> {
-    let mut text = String::new(alloc);
-    for (key, value) in map.iter() {
-        write_row(&mut text, &[*key], &[*value])?;
-    }
-    text.push(';')?;
-    Ok(text)
 }
 
 // Makes the map that of the rows.
@@ -105,8 +97,8 @@ fn draw_few(
 ) -> Result<Vec<Command<Global>>, AllocError> {
     let mut batch = Vec::new(alloc);
     for _place in 0..next_number(state) % 8 {
-        let (kind, key, digit) = draw(state, 4);
-        let drawn = (kind, key % KEYS, digit);
+        let (kind, key, digit, width) = draw(state, 10);
+        let drawn = (kind, key % KEYS, digit, width);
         let command = drawn_command(alloc, drawn)?;
         batch.push(command)?;
         write_reply_of_map(letters, map, drawn)?;

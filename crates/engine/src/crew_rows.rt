@@ -41,7 +41,7 @@ const ALL_THREE: Hold = Hold {
     entered: [1, 1, 1, 0, 0],
 };
 
-static HELD_ROWS: [HeldRow; 6] = [
+static HELD_ROWS: [HeldRow; 7] = [
     HeldRow {
         name: "22",
         before: FIVE_PUTS,
@@ -70,6 +70,14 @@ static HELD_ROWS: [HeldRow; 6] = [
         crew: THREE,
         hold: ALL_THREE,
         replies: "1M[ k=1 l=1]",
+    },
+    HeldRow {
+        name: "9.1, of a wipe",
+        before: SEVENTEEN_PUTS,
+        batch: "!da,l",
+        crew: THREE,
+        hold: ALL_THREE,
+        replies: "W7",
     },
     HeldRow {
         name: "10.2",
@@ -173,7 +181,7 @@ impl Gate for Swaying {
 fn drawn_batch(alloc: Global, state: &mut u64) -> Result<Vec<Command<Global>>, Fault> {
     let mut batch = Vec::new(alloc);
     for _place in 0..next_number(state) % 48 {
-        let command = drawn_command(alloc, draw(state, 5))?;
+        let command = drawn_command(alloc, draw(state, 12))?;
         batch.push(command)?;
     }
     Ok(batch)

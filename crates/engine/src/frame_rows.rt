@@ -139,6 +139,31 @@ const SHARED_NAMES: &[u8] = b"\x06\0\0\0\x21\0\0\0\0\0\0\0\x01\0\x03abc\0\x03\
 const SHARED_CHILDREN: &[u8] = b"\x07\0\0\0\x2e\0\0\0\0\0\0\0\x02\0\x02ab\0\x03\
     \x02\0\0\0\0\0\0\0\0\0\x02\x01c\0\0\0\0\0\0\0\x01\x01\x01c\0\0\0\0\0\0\0\x01";
 
+pub(crate) const B_ABSENT: &[u8] = b"\x02\0\0\0\x0e\0\0\0\0\0\0\0\0\0\x01\0\x01b\0";
+
+pub(crate) const C_PUT_7_CA_ABSENT: &[u8] =
+    b"\x02\0\0\0\x16\0\0\0\0\0\0\0\x01\0\x02\0\x01c\x01\0\x017\0\x02ca\0";
+
+pub(crate) const ABC_ABSENT: &[u8] =
+    b"\x02\0\0\0\x16\0\0\0\0\0\0\0\0\0\x03\0\x01a\0\0\x01b\0\0\x01c\0";
+
+pub(crate) const DEF_ABSENT: &[u8] =
+    b"\x02\0\0\0\x16\0\0\0\0\0\0\0\x01\0\x03\0\x01d\0\0\x01e\0\0\x01f\0";
+
+pub(crate) const GHIJ_ABSENT: &[u8] =
+    b"\x02\0\0\0\x1a\0\0\0\0\0\0\0\x02\0\x04\0\x01g\0\0\x01h\0\0\x01i\0\0\x01j\0";
+
+pub(crate) const KLM_ABSENT: &[u8] =
+    b"\x02\0\0\0\x16\0\0\0\0\0\0\0\x03\0\x03\0\x01k\0\0\x01l\0\0\x01m\0";
+
+pub(crate) const NOPQ_ABSENT: &[u8] =
+    b"\x02\0\0\0\x1a\0\0\0\0\0\0\0\x04\0\x04\0\x01n\0\0\x01o\0\0\x01p\0\0\x01q\0";
+
+pub(crate) const AB_ABSENT_C_PUT_4: &[u8] =
+    b"\x02\0\0\0\x19\0\0\0\0\0\0\0\0\0\x03\0\x01a\0\0\x01b\0\0\x01c\x01\0\x014";
+
+pub(crate) const D_PUT: &[u8] = b"\x02\0\0\0\x11\0\0\0\0\0\0\0\0\0\x01\0\x01d\x01\0\x011";
+
 pub(crate) const FREE_1: &[u8] = b"\x05\0\0\0\x08\0\0\0\0\0\0\0\x01";
 
 pub(crate) const A_3: &[u8] = b"\x01\0\0\0\x12\0\0\0\0\0\0\0\0\0\0\0\x01\0\x01a\0\x013";

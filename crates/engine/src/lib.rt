@@ -48,6 +48,8 @@ mod leaves;
 #[cfg(test)]
 mod log_rows;
 #[cfg(test)]
+mod new_disk_rows;
+#[cfg(test)]
 mod outcomes;
 #[cfg(test)]
 mod parts;

@@ -1,10 +1,12 @@
 //! The log as bytes: what flushes and the making of a store write (docs/EXAMPLES.md).
 use crate::crews::{ALONE, crews};
 use crate::frame_rows::{
-    A_3, A_ABSENT, A_PUT, A_PUT_9, D_ABSENT_IN_5, EMPTY_LEAF, FOUR_PUT, FREE_1, FREE_2, INDEX_5,
-    INDEX_6, INDEX_7, LEAF_0, LEAF_1, LEAF_ABC, LEAF_DEF, LEAF_GHIJ, LEAF_KLM, LEAF_NOPQ,
-    LONG_A_AND_B_LEAF, LONG_A_PUT, NINE_BYTES_PUT, ROOT, SHARED_EMPTY_LEAF, SHARED_LEAF_0,
-    SHARED_LEAF_1, SHARED_ROOT, SIXTEEN_BYTES_LEAF, SIXTEEN_BYTES_PUT, TEN_BYTES_PUT,
+    A_3, A_ABSENT, A_PUT, A_PUT_9, AB_ABSENT_C_PUT_4, ABC_ABSENT, B_ABSENT, C_PUT_7_CA_ABSENT,
+    D_ABSENT_IN_5, D_PUT, DEF_ABSENT, EMPTY_LEAF, FOUR_PUT, FREE_1, FREE_2, GHIJ_ABSENT, INDEX_5,
+    INDEX_6, INDEX_7, KLM_ABSENT, LEAF_0, LEAF_1, LEAF_ABC, LEAF_DEF, LEAF_GHIJ, LEAF_KLM,
+    LEAF_NOPQ, LONG_A_AND_B_LEAF, LONG_A_PUT, NINE_BYTES_PUT, NOPQ_ABSENT, ROOT, SHARED_EMPTY_LEAF,
+    SHARED_LEAF_0, SHARED_LEAF_1, SHARED_ROOT, SIXTEEN_BYTES_LEAF, SIXTEEN_BYTES_PUT,
+    TEN_BYTES_PUT,
 };
 use crate::outcomes::Outcomes;
 use crate::step::{Answer, Step};
@@ -14,10 +16,9 @@ use crate::tests::{
 };
 use crew::{Crew, NoGate};
 use flush_log::{Disk, MemDisk};
-use keys::{Command, Fault, Field, Settings};
+use keys::{Command, Fault};
 use std::alloc::{AllocError, Global};
 use std::process::Abort;
-use std::test::Fail;
 use std::thread::Threads;
 
 // The length of the shortest disk under the settings S: 512 bytes and four segments.
@@ -85,18 +86,6 @@ pub(crate) struct Row {
 
 const SETTINGS_BLOCK: &[u8] = b"BWBATCH1\0\x04\0\x02\0\x10\0\x10\0\0\x01\0\0\0\0\x04";
 
-const FIRST_SLOT_BYTES: &[u8] =
-    b"\x01\0\0\0\0\0\0\0\0\0\0\0\0\0\0\x01\0\0\0\0\0\0\0\0\0\0\0\0\0\0\0\x21\0\0\0\0\0\0\0\0\
-    \0\0\0\x01\0\0\0\0\0\0\0\0\0\0\0\0\0\0\0\0\0\0\0\0";
-
-const FIVE_PUTS_SLOT_BYTES: &[u8] =
-    b"\x01\0\0\0\0\0\0\0\0\0\0\0\0\0\0\x02\0\0\0\0\0\0\0\0\0\0\0\0\0\0\0\x88\0\0\0\0\0\0\0\x02\
-    \0\0\0\x02\0\0\0\0\0\0\0\0\0\0\0\0\0\0\0\0\0\0\0\0";
-
-const PUT_AGAIN_SLOT_BYTES: &[u8] =
-    b"\x01\0\0\0\0\0\0\0\0\0\0\0\0\0\0\x04\0\0\0\0\0\0\0\0\0\0\0\0\0\0\x01\x36\0\0\0\0\0\0\0\x02\
-    \0\0\0\x02\0\0\0\0\0\0\0\0\0\0\0\0\0\0\0\0\0\0\0\0";
-
 const HEADER_0: &[u8] = b"BWSG\0\0\0\0\0\0\0\0\0\0\0\0";
 
 pub(crate) const HEADER_1: &[u8] = b"BWSG\0\0\0\0\0\0\0\0\0\0\0\x01";
@@ -109,7 +98,7 @@ pub(crate) const FOUR_LONG_PUTS: &str =
 
 pub(crate) const LONG_PUT: &str = "a=0123456789abcdef";
 
-static ROWS: [Row; 19] = [
+static ROWS: [Row; 22] = [
     Row {
         name: "a new store",
         steps: &[],
@@ -425,6 +414,80 @@ static ROWS: [Row; 19] = [
             A_PUT_9,
         ],
     },
+    // A wipe's keys are absent in the runs, those that stood there and those that were put before it.
+    Row {
+        name: "log 16.1",
+        steps: &[FIVE_PUTS, "ca=9 !b,d ca c=7 [,*,10", "flush"],
+        answers: "NNNNN; NW3MN[ a=1 c=7 d=4 e=5]; flushed 2; ",
+        slots: [
+            SlotRow {
+                tail: 182,
+                ..FIVE_PUTS_SLOT
+            },
+            FIRST_SLOT,
+        ],
+        log: &[LEAF_0, B_ABSENT, LEAF_1, C_PUT_7_CA_ABSENT, ROOT],
+    },
+    // Each leaf gets a run, and the last run finds no room in its segment. A second wipe leaves nothing to be written.
+    Row {
+        name: "log 16.2",
+        steps: &[SEVENTEEN_PUTS, "flush", "!,*", "flush", "!,*", "flush"],
+        answers: "NNNNNNNNNNNNNNNNN; flushed 2; W17; flushed 3; W0; flushed 3; ",
+        slots: [
+            SEVENTEEN_PUTS_SLOT,
+            SlotRow {
+                sequence: 3,
+                tail: 559,
+                ..SEVENTEEN_PUTS_SLOT
+            },
+        ],
+        log: &[
+            LEAF_ABC,
+            LEAF_DEF,
+            LEAF_GHIJ,
+            LEAF_KLM,
+            LEAF_NOPQ,
+            &[0; 32],
+            HEADER_1,
+            INDEX_5,
+            INDEX_6,
+            INDEX_7,
+            ABC_ABSENT,
+            DEF_ABSENT,
+            GHIJ_ABSENT,
+            KLM_ABSENT,
+            &[0; 1],
+            HEADER_2,
+            NOPQ_ABSENT,
+        ],
+    },
+    // A key that was put and deleted before the wipe, one that was put and wiped, and one that was put after it; then no key; and last one key alone,
+    // since the wipes beside it find none.
+    Row {
+        name: "wipes of keys that weren't there",
+        steps: &[
+            "a=1 -a b=1 !,* +c=2 !,* c=3 !c,ca c=4",
+            "flush",
+            "!a,c",
+            "flush",
+            "d=1 !e,* !a,c",
+            "flush",
+        ],
+        answers: "NDNW1AW1NW1N; flushed 2; W0; flushed 2; NW0W0; flushed 3; ",
+        slots: [
+            SlotRow {
+                sequence: 2,
+                tail: 63,
+                ..FIRST_SLOT
+            },
+            SlotRow {
+                sequence: 3,
+                tail: 85,
+                ..FIRST_SLOT
+            },
+        ],
+        log: &[AB_ABSENT_C_PUT_4, D_PUT],
+    },
     // The steps behind one that is refused are not begun.
     Row {
         name: "a refused step",
@@ -471,7 +534,7 @@ pub(crate) fn disk_of(alloc: Global, bytes: &[u8]) -> Result<MemDisk<Global>, Fa
 }
 
 // A disk in memory of this length, on which something else was before.
-fn used_disk(alloc: Global, len: usize) -> Result<MemDisk<Global>, Fault> {
+pub(crate) fn used_disk(alloc: Global, len: usize) -> Result<MemDisk<Global>, Fault> {
     let old = vec![in alloc; OLD; len]?;
     disk_of(alloc, &old)
 }
@@ -648,7 +711,7 @@ fn behind<'a>(bytes: &'a [u8], parts: &[&[u8]]) -> Option<&'a [u8]> {
     Some(left)
 }
 
-fn is_old(bytes: &[u8]) -> bool {
+pub(crate) fn is_old(bytes: &[u8]) -> bool {
     bytes.iter().all(|byte| *byte == OLD)
 }
 
@@ -701,7 +764,7 @@ fn outcomes_of(rt: &(impl Threads + Sync), crew: Crew, alloc: Global, tries: Tri
 #[test]
 fn the_rows_come_out(rt: HostRuntime) {
     for crew in &crews() {
-        outcomes_of(&rt, *crew, rt.alloc(), Tries::Once).check(&rt, *crew, 19);
+        outcomes_of(&rt, *crew, rt.alloc(), Tries::Once).check(&rt, *crew, 22);
     }
 }
 
@@ -709,7 +772,7 @@ fn the_rows_come_out(rt: HostRuntime) {
 // too (`bench/README.md`). Then at most one row can't be told.
 #[test]
 fn a_refused_step_can_be_tried_again(rt: HostRuntime) {
-    outcomes_of(&rt, ALONE, rt.alloc(), Tries::Twice).check_refused(&rt, ALONE, 19);
+    outcomes_of(&rt, ALONE, rt.alloc(), Tries::Twice).check_refused(&rt, ALONE, 22);
 }
 
 // The bytes from this place on.
@@ -724,65 +787,6 @@ pub(crate) fn from_place(bytes: &[u8], place: usize) -> &[u8] {
 pub(crate) fn has_slot(bytes: &[u8], slot: &SlotRow) -> bool {
     let place = if slot.sequence % 2 == 0 { 128 } else { 192 };
     from_place(bytes, place).starts_with(&bytes_of_slot(slot))
-}
-
-// Whether the disk has these bytes at this place once the steps are played.
-fn is_spelled(
-    rt: &(impl Threads + Sync),
-    alloc: Global,
-    steps: &[&str],
-    place: usize,
-    slot: &[u8],
-) -> Result<bool, Fault> {
-    let mut store = store_on_used_disk(alloc)?;
-    play(rt, ALONE, alloc, &mut store, steps)?;
-    Ok(from_place(store.disk().bytes(), place).starts_with(slot))
-}
-
-#[test]
-fn slots_are_spelled_as_told(rt: HostRuntime) -> Result<(), Fail> {
-    let rows: [(&[&str], usize, &[u8]); 3] = [
-        (&[], 192, FIRST_SLOT_BYTES),
-        (&[FIVE_PUTS, "flush"], 128, FIVE_PUTS_SLOT_BYTES),
-        (&PUT_AGAIN, 128, PUT_AGAIN_SLOT_BYTES),
-    ];
-    for (steps, place, slot) in &rows {
-        assert!(rt; slot.len() == 64 && is_spelled(&rt, rt.alloc(), *steps, *place, *slot)?);
-    }
-    Ok(())
-}
-
-// Disks that have no room, and settings that are out of range, which are found first.
-#[test]
-fn a_disk_that_is_refused_is_handed_back(rt: HostRuntime) -> Result<(), Fail> {
-    let few = Settings { fan: 3, ..S };
-    let long = Settings { max_key: 64, ..S };
-    let rows = [
-        (S, SHORTEST - 1, Fault::DiskTooSmall),
-        (S, 0, Fault::DiskTooSmall),
-        (few, SHORTEST, Fault::BadSettings(Field::Fan)),
-        (few, 0, Fault::BadSettings(Field::Fan)),
-        (long, SHORTEST - 1, Fault::BadSettings(Field::SegSize)),
-    ];
-    for (settings, len, refusal) in &rows {
-        let disk = used_disk(rt.alloc(), *len)?;
-        let made = Store::create(rt.alloc(), disk, *settings);
-        let is_handed_back = made.is_err_and(|(fault, disk)| {
-            fault == *refusal && disk.bytes().len() == *len && is_old(disk.bytes())
-        });
-        assert!(rt; is_handed_back, "{refusal}");
-    }
-    Ok(())
-}
-
-#[test]
-fn a_disk_of_just_its_length_is_enough(rt: HostRuntime) -> Result<(), Fail> {
-    let disk = used_disk(rt.alloc(), SHORTEST)?;
-    let store = opened(Store::create(rt.alloc(), disk, S))?;
-    let disk = store.close();
-    assert_eq!(rt; disk.bytes().len(), SHORTEST);
-    assert!(rt; is_disk(disk.bytes(), &[NO_SLOT, FIRST_SLOT], &[]));
-    Ok(())
 }
 
 // The pages, with what the log has of each, and the pairs.

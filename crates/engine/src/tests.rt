@@ -64,7 +64,7 @@ pub(crate) const FIVE_PUTS: &str = "a=1 b=2 c=3 d=4 e=5";
 pub(crate) const SEVENTEEN_PUTS: &str =
     "a=1 b=1 c=1 d=1 e=1 f=1 g=1 h=1 i=1 j=1 k=1 l=1 m=1 n=1 o=1 p=1 q=1";
 
-static ROWS: [Row; 23] = [
+static ROWS: [Row; 27] = [
     Row {
         name: "row 4",
         settings: S,
@@ -131,42 +131,13 @@ static ROWS: [Row; 23] = [
             2 low= log=No index runs=0: =0 c=1\n",
     },
     Row {
-        name: "row W1",
+        name: "row 16.1",
         settings: S,
         batches: &[FIVE_PUTS, "ca=9 !b,d ca c=7 [,*,10"],
         outcome: "NNNNN; NW3MN[ a=1 c=7 d=4 e=5]; root 2, height 2\n\
             0 low= log=Old leaf runs=1: a=1\n\
             1 low=c log=No leaf runs=1: c=7 d=4 e=5\n\
             2 low= log=No index runs=0: =0 c=1\n",
-    },
-    Row {
-        name: "row W2",
-        settings: S,
-        batches: &[SEVENTEEN_PUTS, "!,*", "!,*"],
-        outcome: "NNNNNNNNNNNNNNNNN; W17; W0; root 7, height 3\n\
-            0 low= log=Old leaf runs=1:\n\
-            1 low=d log=No leaf runs=1:\n\
-            2 low=g log=No leaf runs=1:\n\
-            3 low=k log=No leaf runs=1:\n\
-            4 low=n log=No leaf runs=1:\n\
-            5 low= log=No index runs=0: =0 d=1\n\
-            6 low=g log=No index runs=0: g=2 k=3 n=4\n\
-            7 low= log=No index runs=0: =5 g=6\n",
-    },
-    // Over the edges of pages, of one leaf's keys again, and of none.
-    Row {
-        name: "wipes",
-        settings: S,
-        batches: &[SEVENTEEN_PUTS, "!c,h ca=1 !c,d [b,i,9 !d,g !q,q !i,b"],
-        outcome: "NNNNNNNNNNNNNNNNN; W5NW1[ b=1 h=1]W0W0W0; root 7, height 3\n\
-            0 low= log=Old leaf runs=1: a=1 b=1\n\
-            1 low=d log=No leaf runs=1:\n\
-            2 low=g log=No leaf runs=1: h=1 i=1 j=1\n\
-            3 low=k log=No leaf runs=0: k=1 l=1 m=1\n\
-            4 low=n log=No leaf runs=0: n=1 o=1 p=1 q=1\n\
-            5 low= log=No index runs=0: =0 d=1\n\
-            6 low=g log=No index runs=0: g=2 k=3 n=4\n\
-            7 low= log=No index runs=0: =5 g=6\n",
     },
     // Many runs: of keys with the same first eight bytes, of one that has no other, and of others; of one change, of two and of three.
     Row {
@@ -237,6 +208,84 @@ static ROWS: [Row; 23] = [
             4 low=n log=No leaf runs=0: n=1 o=1 p=1 q=1\n\
             5 low= log=No index runs=1: =0\n\
             6 low=g log=No index runs=0: g=2 k=3 n=4\n\
+            7 low= log=No index runs=0: =5 g=6\n",
+    },
+    Row {
+        name: "row 16.2",
+        settings: S,
+        batches: &[SEVENTEEN_PUTS, "!,*", "!,*"],
+        outcome: "NNNNNNNNNNNNNNNNN; W17; W0; root 7, height 3\n\
+            0 low= log=Old leaf runs=1:\n\
+            1 low=d log=No leaf runs=1:\n\
+            2 low=g log=No leaf runs=1:\n\
+            3 low=k log=No leaf runs=1:\n\
+            4 low=n log=No leaf runs=1:\n\
+            5 low= log=No index runs=0: =0 d=1\n\
+            6 low=g log=No index runs=0: g=2 k=3 n=4\n\
+            7 low= log=No index runs=0: =5 g=6\n",
+    },
+    // From the middle of a leaf to that of another; of a key that came since; of the keys of one leaf, from its low key up to the next one's, and
+    // of one key, which have gone; up to the lower bound, and backwards. Leaves that lose nothing stay as they are. Scans go on to the leaves
+    // after those that were wiped.
+    Row {
+        name: "wipes over the edges of leaves",
+        settings: S,
+        batches: &[
+            SEVENTEEN_PUTS,
+            "!c,h ca=1 !c,d [b,i,9 !d,g !e,ea !q,q !i,b",
+            "!k,n",
+            "!a,c [,*,2",
+        ],
+        outcome: "NNNNNNNNNNNNNNNNN; W5NW1[ b=1 h=1]W0W0W0W0; W3; W2[ h=1 i=1]; root 7, height 3\n\
+            0 low= log=Old leaf runs=2:\n\
+            1 low=d log=No leaf runs=1:\n\
+            2 low=g log=No leaf runs=1: h=1 i=1 j=1\n\
+            3 low=k log=No leaf runs=1:\n\
+            4 low=n log=No leaf runs=0: n=1 o=1 p=1 q=1\n\
+            5 low= log=No index runs=0: =0 d=1\n\
+            6 low=g log=No index runs=0: g=2 k=3 n=4\n\
+            7 low= log=No index runs=0: =5 g=6\n",
+    },
+    // On an empty store; of a key that was put in the same batch, beside one that was deleted again; and of keys that have gone, by which the leaf
+    // gets no run.
+    Row {
+        name: "wipes of what was put before",
+        settings: S,
+        batches: &[
+            "!,* !b,c",
+            "a=1 -a b=1 !,* a b +c=2 !,* [,*,9 c=3 !c,ca c=4 !c,c !d,c c",
+            "!a,c",
+            "!c,d c !,*",
+        ],
+        outcome: "W0W0; NDNW1MMAW1[]NW1NW0W04; W0; W1MW0; root 0, height 1\n\
+            0 low= log=Upto0 leaf runs=2:\n",
+    },
+    // As row 13, whose deletes are wipes here.
+    Row {
+        name: "wipes by which a leaf goes",
+        settings: S,
+        batches: &[SEVENTEEN_PUTS, "!d,g", "d=1", "!cz,da"],
+        outcome: "NNNNNNNNNNNNNNNNN; W3; N; W1; root 7, height 3\n\
+            0 low= log=Old leaf runs=0: a=1 b=1 c=1\n\
+            2 low=g log=No leaf runs=0: g=1 h=1 i=1 j=1\n\
+            3 low=k log=No leaf runs=0: k=1 l=1 m=1\n\
+            4 low=n log=No leaf runs=0: n=1 o=1 p=1 q=1\n\
+            5 low= log=No index runs=1: =0\n\
+            6 low=g log=No index runs=0: g=2 k=3 n=4\n\
+            7 low= log=No index runs=0: =5 g=6\n",
+    },
+    // Six keys of one leaf are more than its run may have, two that came in the same batch among them: it is replaced, thin and the first.
+    Row {
+        name: "a wipe of more keys than a run has",
+        settings: S,
+        batches: &[SEVENTEEN_PUTS, "ga=1 gb=1 !g,k"],
+        outcome: "NNNNNNNNNNNNNNNNN; NNW6; root 7, height 3\n\
+            0 low= log=Old leaf runs=0: a=1 b=1 c=1\n\
+            1 low=d log=No leaf runs=0: d=1 e=1 f=1\n\
+            2 low=g log=No leaf runs=0: k=1 l=1 m=1\n\
+            4 low=n log=No leaf runs=0: n=1 o=1 p=1 q=1\n\
+            5 low= log=No index runs=0: =0 d=1\n\
+            6 low=g log=No index runs=1: g=2 n=4\n\
             7 low= log=No index runs=0: =5 g=6\n",
     },
     // A thin leaf between two that stay joins the one on its left.
@@ -337,6 +386,20 @@ static ROWS: [Row; 23] = [
         outcome: "2 KeyTooLong 0; 2 KeyTooLong 1; []; root 0, height 1\n\
             0 low= log=Upto0 leaf runs=0:\n",
     },
+    // So are a wipe's, and the fault is that of the first command that has one.
+    Row {
+        name: "long bounds of wipes",
+        settings: S,
+        batches: &[
+            "!seventeen_bytes_!,*",
+            "a !a,seventeen_bytes_!",
+            "!sixteen_bytes_ok,sixteen_bytes_ok",
+            "a=1 !seventeen_bytes_!,b b=seventeen_bytes_!",
+            "a=seventeen_bytes_! !,seventeen_bytes_!",
+        ],
+        outcome: "2 KeyTooLong 0; 2 KeyTooLong 1; W0; 2 KeyTooLong 1; 3 ValueTooLong 0; root 0, height 1\n\
+            0 low= log=Upto0 leaf runs=0:\n",
+    },
     // Keys of 22 to 25 bytes, of which those of up to 23 stand in place; runs of three changes, of one and of two.
     Row {
         name: "keys in place and in memory of their own",
@@ -380,16 +443,20 @@ fn key(alloc: Global, text: &str) -> Result<Key<Global>, AllocError> {
     Key::from_bytes(alloc, text.as_bytes())
 }
 
+// The upper bound that the word says: the star is none.
+fn bound(alloc: Global, word: &str) -> Result<Option<Key<Global>>, AllocError> {
+    if word == "*" {
+        return Ok(None);
+    }
+    Ok(Some(key(alloc, word)?))
+}
+
 // The scan whose bounds and limit these are.
 fn scan_of(alloc: Global, bounds: &str) -> Result<Command<Global>, AllocError> {
     let (lo, rest) = bounds.split_once(',').unwrap_or((bounds, ""));
     let (hi, limit) = rest.split_once(',').unwrap_or((rest, ""));
     let lo = key(alloc, lo)?;
-    let hi = if hi == "*" {
-        None
-    } else {
-        Some(key(alloc, hi)?)
-    };
+    let hi = bound(alloc, hi)?;
     Ok(Command::Scan(lo, hi, limit.parse().unwrap_or(0)))
 }
 
@@ -397,11 +464,7 @@ fn scan_of(alloc: Global, bounds: &str) -> Result<Command<Global>, AllocError> {
 fn wipe_of(alloc: Global, bounds: &str) -> Result<Command<Global>, AllocError> {
     let (lo, hi) = bounds.split_once(',').unwrap_or((bounds, ""));
     let lo = key(alloc, lo)?;
-    let hi = if hi == "*" {
-        None
-    } else {
-        Some(key(alloc, hi)?)
-    };
+    let hi = bound(alloc, hi)?;
     Ok(Command::Wipe(lo, hi))
 }
 
@@ -662,7 +725,7 @@ fn outcomes_of(
 #[test]
 fn the_rows_come_out(rt: HostRuntime) {
     for crew in &crews() {
-        outcomes_of(&rt, *crew, rt.alloc(), &ROWS, Tries::Once).check(&rt, *crew, 20);
+        outcomes_of(&rt, *crew, rt.alloc(), &ROWS, Tries::Once).check(&rt, *crew, 27);
     }
 }
 
@@ -672,8 +735,8 @@ fn the_rows_come_out(rt: HostRuntime) {
 fn a_refused_batch_can_be_tried_again(rt: HostRuntime) {
     for workers in [1, 2] {
         let crew = Crew { workers, grain: 1 };
-        let outcomes = outcomes_of(&rt, crew, rt.alloc(), &ROWS[..12], Tries::Twice);
-        outcomes.check_refused(&rt, crew, 12);
+        let outcomes = outcomes_of(&rt, crew, rt.alloc(), &ROWS[..13], Tries::Twice);
+        outcomes.check_refused(&rt, crew, 13);
     }
 }
 
