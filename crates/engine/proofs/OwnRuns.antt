@@ -13,6 +13,7 @@ use Rattle.keys.proofs.MapLemmas.{total, passes_same, same_map}
 use Rattle.index_page.specs.Children.{is_between}
 use Rattle.index_page.specs.Range.{is_below, is_before, is_within}
 use Rattle.index_page.proofs.PageLemmas.{all_keys_entries}
+use Rattle.index_page.proofs.MeetingLemmas.{not_met}
 use Rattle.index_page.proofs.RangeLemmas.{below_is_less, less_is_below, low_through, rising-filter, value_at-behind}
 use Rattle.mapping.specs.Levels.{Placed, entries, joined}
 use Rattle.mapping.specs.Proper.{next_low, Tiled}
@@ -27,28 +28,6 @@ use Rattle.split_plan.specs.WorkedLevel.{part_below, part_from}
 
 -- ---- the commands of a range
 
-not_true : (b : Bool) → not b ≡ true → b ≡ false
-not_true true h = absurd (cc)
-not_true false h = refl
-
-before_from : (end : Option (List ℕ)) (low k : List ℕ) → is_below k low ≡ false → is_before end k ≡ true → is_before end low ≡ true
-before_from None low k h b = refl
-before_from (Some end) low k h b = less_is_below low end (low_through low k end h (below_is_less k end b))
-
--- a wipe that goes to no page is on none of the page's keys
-met_by : (u : Bool) (low : List ℕ) (end : Option (List ℕ)) (lo : List ℕ) (hi : Option (List ℕ)) → is_below lo low ≡ u → is_before end lo ≡ true → is_before hi low ≡ true → (is_within low end lo || is_between lo hi low) ≡ true
-met_by true low end lo hi u e h = rw (u, h) refl
-met_by false low end lo hi u e h = rw (u, e) refl
-
-unmet_by : (w : Bool) (low : List ℕ) (end : Option (List ℕ)) (lo : List ℕ) (hi : Option (List ℕ)) (k : List ℕ) → is_within lo hi k ≡ w → (is_within low end lo || is_between lo hi low) ≡ false → is_within low end k ≡ true → w ≡ false
-unmet_by false low end lo hi k e m h = refl
-unmet_by true low end lo hi k e m h =
-    let own = and_parts (not (is_below k lo)) (is_before hi k) e in
-    let there = and_parts (not (is_below k low)) (is_before end k) h in
-    let met : (is_within low end lo || is_between lo hi low) ≡ true =
-    met_by (is_below lo low) low end lo hi refl (before_from end lo k (not_true (is_below k lo) own.0) there.1) (before_from hi low k (not_true (is_below k low) there.0) own.1) in
-    absurd (cc)
-
 -- what goes to no page is on none of its keys; a scan is on none anyway
 module _ {A : Type 0} (low : List ℕ) (end : Option (List ℕ)) where
   takes_all : TakesAll {A = A} (is_within low end) (goes_to low end)
@@ -57,7 +36,7 @@ module _ {A : Type 0} (low : List ℕ) (end : Option (List ℕ)) where
   takes_all (Add k v) h = off_by_key {A = A} (is_within low end) (Add k v) k refl h
   takes_all (Del k) h = off_by_key {A = A} (is_within low end) (Del k) k refl h
   takes_all (Scan lo hi limit) h = λ q own. refl
-  takes_all (Wipe lo hi) h = λ q own. unmet_by (is_within lo hi q) low end lo hi q refl h own
+  takes_all (Wipe lo hi) h = λ q own. not_met low end lo hi q h own
 
   -- what gives a key a value goes to the page whose range has the key
   gives_no_other : GivesNoOther {A = A} (is_within low end) (goes_to low end)

@@ -22,7 +22,7 @@ use Rattle.delta_chain.proofs.LayerLemmas.{value_at-with_change, rising-with_cha
 use Rattle.index_page.specs.Children.{Place, children, is_between}
 use Rattle.index_page.specs.Range.{IsBefore}
 use Rattle.index_page.proofs.MeetingLemmas.{not_met}
-use Rattle.index_page.proofs.RangeLemmas.{below_is_less, less_is_below, less_through, low_through, not_below_lower}
+use Rattle.index_page.proofs.RangeLemmas.{below_is_less, less_is_below, less_through, not_below_lower}
 use Rattle.mapping.specs.Levels.{Placed, names}
 use Rattle.mapping.specs.Proper.{next_low, Tiled}
 use Rattle.mapping.proofs.TileLemmas.{low_is_before}

@@ -25,7 +25,7 @@ use std::alloc::{AllocError, Global};
 
 /// For each command of the batch, in their order, the key at which its scan may end, if there is one: the low key of a leaf,
 /// before which there are certainly as many pairs as the scan's limit, on the map as it is at the scan's place. So the scan
-/// has the same rows where this key is its upper bound, and needn't go to that leaf or to any behind it. A batch without
+/// has the same rows where this key is its upper bound, and needn't go to that leaf or to any after it. A batch without
 /// scans has an empty list. A scan costs one way down and a step for each leaf up to its end, where no leaf's pairs are
 /// looked at: each step searches by halves in the keys that the batch deletes, and in the bounds of the ranges that it wipes.
 /// Only what commands at lower places take away counts against a scan, and each of them is noted once, at the cost of such a
@@ -152,7 +152,8 @@ fn certain_pairs(
     here: &TakenBelow,
 ) -> usize
     ensures { (gone : ends.Taken) (end : Bytes) (m n : Pairs Bytes)
-        → IsTakenBelow gone (later low.now lo.now) before.now → IsTakenBelow gone end here.now → LacksAtMost gone m n
+        → IsTakenBelow gone (later low.now lo.now) before.now → IsTakenBelow gone end here.now
+        → LacksAtMost gone m n
         → is_below low.now end ≡ true → is_below lo.now end ≡ true
         → entries_of chain.now ≡ in_range low.now (Some end) m
         → AreCertain lo.now n low.now end result }

@@ -44,7 +44,8 @@ impl Level {
     fn note(&mut self, place: usize)
         ensures length { length self.new ≡ length self.old }
         ensures after { (at : ℕ) → place < at → at < length self.old → at / 16 ≡ place / 16
-            → slice_index self.old at < 2 ^ 64 - 1 → slice_index self.new at ≡ slice_index self.old at + 1 }
+            → slice_index self.old at < 2 ^ 64 - 1
+            → slice_index self.new at ≡ slice_index self.old at + 1 }
         ensures others { (at : ℕ) → at < length self.old → (at ≤ place) ⊎ (at / 16 ≢ place / 16)
             → slice_index self.new at ≡ slice_index self.old at }
     {
@@ -61,7 +62,8 @@ fn raise(counts: &mut [usize], from: usize, end: usize)
     ensures length { length counts.new ≡ length counts.old }
     ensures raised { (at : ℕ) → from ≤ at → at < end → slice_index counts.old at < 2 ^ 64 - 1
         → slice_index counts.new at ≡ slice_index counts.old at + 1 }
-    ensures others { (at : ℕ) → (at < from) ⊎ (end ≤ at) → slice_index counts.new at ≡ slice_index counts.old at }
+    ensures others { (at : ℕ) → (at < from) ⊎ (end ≤ at)
+        → slice_index counts.new at ≡ slice_index counts.old at }
 {
     for at in from..end {
         counts[at] = counts[at].saturating_add(1);
@@ -88,7 +90,8 @@ pub(crate) fn levels_over(alloc: Global, places: usize) -> Result<Vec<Level>, Al
 pub(crate) fn note_on(levels: &mut [Level], place: usize)
     ensures length { length levels.new ≡ length levels.old }
     ensures wide { (places : ℕ) → AreWide places levels.old → AreWide places levels.new }
-    ensures counted { (places most at : ℕ) → AreWide places levels.old → place < places → at < places
+    ensures counted { (places most at : ℕ) → AreWide places levels.old
+        → place < places → at < places
         → ((each : ℕ) → each < places → counted levels.old each ≤ most) → most < 2 ^ 64 - 1
         → IsOneMore place at (counted levels.old at) (counted levels.new at) }
 {

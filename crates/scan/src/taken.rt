@@ -56,10 +56,11 @@ impl<'c> Taken<'c> {
         })
     }
 
-    /// What the command takes away, which is one of them, comes to it.
+    /// What the command, which is one of those, takes away comes to it.
     pub(crate) fn note(&mut self, command: &Command<Global>)
         ensures keys { HasKeysOf self.old self.new }
-        ensures taken { (gone : ends.Taken) → IsTaken gone self.old → IsReadyFor command.now self.old
+        ensures taken { (gone : ends.Taken) → IsTaken gone self.old
+            → IsReadyFor command.now self.old
             → length gone.0 < 2 ^ 64 - 1 → length gone.1 < 2 ^ 64 - 1
             → IsTaken (gone.0 ++ deleted_by command.now, gone.1 ++ wiped_by command.now) self.new }
     {
@@ -75,8 +76,10 @@ impl<'c> Taken<'c> {
         ensures keys { HasKeysOf self.old self.new }
         ensures deleted { self.new.0 ≡ self.old.0 }
         ensures wiped { (ranges : List (Bytes × Option Bytes)) → AreWiped ranges self.old
-            → Contains self.old.1.0 lo.now → IfSome (option_copied hi.entry) (λ k. Contains self.old.2.0 k)
-            → length ranges < 2 ^ 64 - 1 → AreWiped (ranges ++ (lo.now, option_copied hi.entry) ∷ []) self.new }
+            → Contains self.old.1.0 lo.now
+            → IfSome (option_copied hi.entry) (λ k. Contains self.old.2.0 k)
+            → length ranges < 2 ^ 64 - 1
+            → AreWiped (ranges ++ (lo.now, option_copied hi.entry) ∷ []) self.new }
     {
         match hi {
             None => self.wiped_from.note(lo.as_bytes()),
@@ -103,12 +106,13 @@ impl<'c> Taken<'c> {
 }
 
 impl TakenBelow {
-    /// How many keys were deleted from the key of this one on, and before the key of the other at the most; none where a range
-    /// was wiped that has keys between them.
+    /// How many keys were deleted, at the most, from the key of this one on and below the key of the other. There is no answer
+    /// where a range was wiped that may have keys between the two.
     pub(crate) fn most_until(&self, end: &TakenBelow) -> Option<usize>
         ensures { (gone : ends.Taken) (low high : Bytes) → is_below low high ≡ true
             → IsTakenBelow gone low self.now → IsTakenBelow gone high end.now
-            → IfSome result (λ most. IsUntouched low high gone.1 × (count_within low high gone.0 ≤ most)) }
+            → IfSome result (λ most. IsUntouched low high gone.1
+            × (count_within low high gone.0 ≤ most)) }
     {
         if end.begun > self.ended {
             return None;

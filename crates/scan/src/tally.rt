@@ -52,14 +52,16 @@ impl<'c> Tally<'c> {
 
     /// How many of those that came are below the key.
     pub(crate) fn below(&self, key: &KeyRef<'_>) -> usize
-        ensures { (came : List Bytes) → IsTally came self.now → length came ≤ 2 ^ 64 - 1 → result ≡ below key.now came }
+        ensures { (came : List Bytes) → IsTally came self.now → length came ≤ 2 ^ 64 - 1
+            → result ≡ below key.now came }
     {
         count_before(&self.levels, place_below(&self.keys, key))
     }
 
     /// How many of those that came are not above the key.
     pub(crate) fn up_to(&self, key: &KeyRef<'_>) -> usize
-        ensures { (came : List Bytes) → IsTally came self.now → length came ≤ 2 ^ 64 - 1 → result ≡ up_to key.now came }
+        ensures { (came : List Bytes) → IsTally came self.now → length came ≤ 2 ^ 64 - 1
+            → result ≡ up_to key.now came }
     {
         count_before(&self.levels, place_after(&self.keys, key))
     }
