@@ -48,47 +48,6 @@ Pairs = List (List ℕ × List ℕ)
 abbrev Changes : Type 0
 Changes = List (List ℕ × Option (List ℕ))
 
--- ---- the leaves
-
-module _ (s : Settings) (cs : List (Command Global)) (ends : List (Option (List ℕ))) (t : Mapping PageOfKind) (m : Pairs) (rises : IsRising m) (keys : List (List ℕ)) (near : AreNear cs ends keys) where
-  abbrev ended : List (Command Global)
-  ended = with_ends cs ends
-
-  -- what a leaf's job makes of a route's commands
-  abbrev made_by : List (Command Global) → Route → LeafMade
-  made_by ds r = leaf_made s ds (leaf_held t r)
-
-  leaf_ended : (at : Place) → HoldsPart t m at → EndsBefore keys at.low at.end → made_by cs (route_to ended at) ≡ made_by ended (route_to ended at)
-  leaf_ended at h f =
-      let home = h.home in
-      let ps = places_within at.low at.end ended in
-      let held = leaf_held t (route_to ended at) in
-      let own : Pairs = entries (leaf_of (page_or_none (page_of t at.pid))) in
-      let leaf : own ≡ entries h.leaf = rw home refl in
-      let part : own ≡ in_range at.low at.end m = leaf ∙ h.part in
-      let answers : replies_to own (commands_at cs ps) ≡ replies_to own (commands_at ended ps) =
-      ap (λ (x : Pairs). replies_to x (commands_at cs ps)) part
-      ∙ sym (replies-ended cs ends keys near at.low at.end f ps m rises (own_places at.low at.end ended))
-      ∙ sym (ap (λ (x : Pairs). replies_to x (commands_at ended ps)) part) in
-      let make : Changes → List (Reply Global) → LeafMade = λ run rs. record { worked = worked s (placed_leaf held) run; pieces = pieces_of ps rs } in
-      ap (λ (run : Changes). make run (replies_to own (commands_at cs ps))) (sym (net_run-ended cs ends ps own))
-      ∙ ap (λ (rs : List (Reply Global)). make (net_run own (commands_at ended ps)) rs) answers
-
-  made_if : (b : Bool) (r : Route) (rs : List Route) → made_by cs r ≡ made_by ended r → map (made_by cs) rs ≡ map (made_by ended) rs → map (made_by cs) (cond b (r ∷ rs) rs) ≡ map (made_by ended) (cond b (r ∷ rs) rs)
-  made_if true r rs h ih = ap (λ (x : LeafMade). x ∷ map (made_by cs) rs) h ∙ ap (λ (xs : List LeafMade). made_by ended r ∷ xs) ih
-  made_if false r rs h ih = ih
-
-  kept_ended : (ats : List Place) → AllByRecursion (HoldsPart t m) ats → AllEndBefore keys ats → map (made_by cs) (kept ended ats) ≡ map (made_by ended) (kept ended ats)
-  kept_ended [] h f = refl
-  kept_ended (at ∷ ats) h f = made_if (has_places (route_to ended at)) (route_to ended at) (kept ended ats) (leaf_ended at h.0 f.0) (kept_ended ats h.1 f.1)
-
--- the leaves of a level make of the commands what they make of those with nearer ends
-pub level_ended : (s : Settings) (cs : List (Command Global)) (ends : List (Option (List ℕ))) (t : Mapping PageOfKind) (level : List (Placed (List ℕ))) → Tiled level None → AllByRecursion (HoldsPart t (joined level)) (ranges level)
-    → MayEndAtAll (keys_of (names level)) (joined level) cs ends → leaves_made s cs t (routes level (with_ends cs ends)) ≡ leaves_made s (with_ends cs ends) t (routes level (with_ends cs ends))
-level_ended s cs ends t level tiled parts may =
-    kept_ended s cs ends t (joined level) (rising-joined level None tiled) (keys_of (names level)) (near_ends (keys_of (names level)) (joined level) cs ends may) (ranges level) parts
-    (all_end_before (names level) (rising-names level None tiled))
-
 -- ---- the plan
 
 -- the tree that a net run leaves
