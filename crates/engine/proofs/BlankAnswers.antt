@@ -1,11 +1,10 @@
 -- Answers of which some blank ones to commands on ranges are missing: they answer rightly too, and make the same replies.
-use Rattle.std.specs.Prelude.{◌≡◌, ℕ, ◌+◌, ◌<◌, ◌==◌, min, Bool, true, false, cond, List, [], ◌∷◌, ◌++◌, map, flat_map, take, length, slice_get, Option, Some, None}
+use Rattle.std.specs.Prelude.{◌≡◌, ℕ, ◌+◌, ◌==◌, min, Bool, true, false, cond, List, [], ◌∷◌, ◌++◌, flat_map, take, length, slice_get, Option, Some, None}
 use Rattle.std.proofs.Common.{refl, sym, ap, ◌∙◌, subst, arith, inl, inr, eqb-true}
 use Rattle.std.specs.List.{All, AllByRecursion, sum_by}
 use Rattle.std.proofs.lemmas.List.Elements.{All-from_recursion, recursion_from_All}
 use Rattle.std.proofs.lemmas.List.Sums.{sum_by-cons}
 use Rattle.keys.specs.CommandKey.{is_ranged}
-use Rattle.keys.specs.Footprint.{joining_of}
 use Rattle.keys.specs.Places.{is_some_that, is_scan_at, is_wipe_at, is_ranged_at}
 use Rattle.keys.specs.declared.command.Command.{Command}
 use Rattle.keys.specs.declared.command.Command.TheVariants.{Get, Put, Add, Del, Scan, Wipe}
@@ -13,7 +12,7 @@ use Rattle.keys.specs.declared.command.Reply.{Reply}
 use Rattle.keys.specs.declared.command.Reply.TheVariants.{Rows, Wiped}
 use Rattle.keys.specs.declared.piece.Piece.{Piece}
 use Rattle.page_runs.proofs.IdleBatch.{IsBlank, AreButBlank}
-use Rattle.replies.specs.ByPlace.{pieces_at, rows_of, is_rows, count_of, is_count, most_counted, lone, joined_replies, joined_replies_at, reply_at, IsPlaceOf, AreAnswers}
+use Rattle.replies.specs.ByPlace.{pieces_at, rows_of, is_rows, count_of, is_count, most_counted, joined_replies, joined_replies_at, reply_at, IsPlaceOf, AreAnswers}
 use Rattle.replies.proofs.Placing.{replies_of}
 
 module _ {A : Type 0} where

@@ -1,6 +1,6 @@
 -- A batch some of whose scans end at a nearer key, where they have all their rows: its leaves make of their commands what they make
 -- of those with the nearer ends; and replies, plan and all else of the batch are the same.
-use Rattle.std.specs.Prelude.{◌≡◌, ℕ, suc, ◌<◌, Bool, true, false, cond, List, [], ◌∷◌, ◌++◌, map, drop, length, slice_get, Option, Some, None, Result, Ok, Err, IfOk}
+use Rattle.std.specs.Prelude.{◌≡◌, ℕ, suc, ◌<◌, Bool, List, ◌++◌, map, drop, length, slice_get, Option, Some, None, Result, Ok, Err, IfOk}
 use Rattle.std.proofs.Common.{refl, sym, ap, ◌∙◌, subst}
 use Rattle.std.specs.List.{All, AllByRecursion}
 use Rattle.std.specs.Map.{keys_of}
@@ -8,39 +8,24 @@ use Rattle.std.specs.Option.{option_map}
 use Rattle.std.specs.declared.alloc.Global.{Global}
 use Rattle.std.proofs.lemmas.List.Elements.{All-weaker}
 use Rattle.keys.specs.CommandKey.{is_ranged, is_scan, is_wipe}
-use Rattle.keys.specs.Narrowed.{with_end, first_end, with_ends, MayEndAtAll}
-use Rattle.keys.specs.Order.{IsRising}
+use Rattle.keys.specs.Narrowed.{with_end, first_end, with_ends}
 use Rattle.keys.specs.Places.{is_some_that, is_scan_at, is_wipe_at, is_ranged_at}
-use Rattle.keys.specs.Range.{in_range}
-use Rattle.keys.specs.Step.{replies_to}
 use Rattle.keys.specs.declared.command.Command.{Command}
 use Rattle.keys.specs.declared.command.Command.TheVariants.{Scan}
 use Rattle.keys.specs.declared.command.Reply.{Reply}
 use Rattle.keys.specs.declared.piece.Piece.{Piece}
 use Rattle.keys.specs.declared.settings.Settings.{Settings}
 use Rattle.keys.proofs.NarrowedLemmas.{scan-with_end, wipe-with_end, ranged-with_end, get-with_ends, length-with_ends}
-use Rattle.index_page.specs.Children.{Place}
-use Rattle.index_page.specs.Page.{PageOfKind, entries, leaf_of}
-use Rattle.mapping.specs.Levels.{Placed, joined, names, levels_of, contents, all_pages, by_pid, top_pid}
+use Rattle.mapping.specs.Levels.{levels_of, contents, all_pages, by_pid, top_pid}
 use Rattle.mapping.specs.Outdate.{outdate_all}
-use Rattle.mapping.specs.Proper.{Tiled}
-use Rattle.mapping.specs.Table.{Mapping, page_of}
 use Rattle.mapping.specs.Tree.{Tree}
-use Rattle.mapping.proofs.TileLemmas.{rising-joined, rising-names}
-use Rattle.routing.specs.Routes.{Route, route_to, has_places, places_within, ranges, routes}
-use Rattle.routing.proofs.RouteLemmas.{kept, own_places}
-use Rattle.page_runs.specs.LeafWork.{LeafMade, leaf_made, placed_leaf}
-use Rattle.page_runs.specs.NetRun.{net_run}
-use Rattle.page_runs.specs.Replies.{ArePlacesOf, commands_at, pieces_of}
-use Rattle.page_runs.specs.Worked.{worked}
-use Rattle.page_runs.proofs.EndedBatch.{AreNear, near_ends, EndsBefore, AllEndBefore, all_end_before, replies-ended, net_run-ended, net_run-with_ends}
+use Rattle.routing.specs.Routes.{Route}
+use Rattle.page_runs.specs.Replies.{ArePlacesOf}
+use Rattle.page_runs.proofs.EndedBatch.{net_run-with_ends}
 use Rattle.replies.specs.ByPlace.{joined_replies, joined_replies_at, reply_at, pieces_at, is_rows, is_count, AreAnswers}
 use Rattle.split_plan.specs.WorkedLevel.{worked_leaves}
 use Rattle.climb_plan.specs.Climb.{Climbed, climb}
 use Rattle.climb_plan.specs.Plan.{shrunk_levels, shrunk_pids, planned_tree}
-use Rattle.climb_plan.specs.Installing.{page_or_none}
-use Rattle.engine.specs.Leaves.{leaf_held, leaves_made}
-use Rattle.engine.proofs.LeafRoutes.{HoldsPart}
 
 abbrev Pairs : Type 0
 Pairs = List (List ℕ × List ℕ)

@@ -1,6 +1,6 @@
 -- The runs of a batch's leaves, which lack some commands that find nothing there: the leaves make of them what they make of all commands that
 -- go to them, but for blank answers.
-use Rattle.std.specs.Prelude.{◌≡◌, ℕ, Bool, true, false, not, cond, ⊤, List, [], ◌∷◌, ◌++◌, map, Option}
+use Rattle.std.specs.Prelude.{◌≡◌, ℕ, Bool, true, false, not, cond, ⊤, List, [], ◌∷◌, map, Option}
 use Rattle.std.proofs.Common.{refl, sym, ap, ◌∙◌, subst}
 use Rattle.std.specs.List.{AllByRecursion, filter}
 use Rattle.std.specs.declared.alloc.Global.{Global}
@@ -10,14 +10,13 @@ use Rattle.keys.specs.Range.{in_range}
 use Rattle.keys.specs.Step.{replies_to}
 use Rattle.keys.specs.declared.command.Command.{Command}
 use Rattle.keys.specs.declared.command.Reply.{Reply}
-use Rattle.keys.specs.declared.piece.Piece.{Piece}
 use Rattle.keys.specs.declared.settings.Settings.{Settings}
 use Rattle.index_page.specs.Children.{Place}
 use Rattle.index_page.specs.Page.{PageOfKind, entries, leaf_of}
 use Rattle.index_page.specs.Page.PageOfKind.{Leaf}
 use Rattle.index_page.proofs.ListLemmas.{all-filter}
 use Rattle.mapping.specs.Table.{Mapping, page_of}
-use Rattle.routing.specs.Routes.{Route, route_to, has_some, has_places, goes_at, places_within}
+use Rattle.routing.specs.Routes.{Route, route_to, has_some, goes_at, places_within}
 use Rattle.routing.specs.Runs.{IsRunOf, AreRunsOf}
 use Rattle.routing.proofs.RouteLemmas.{kept, own_places}
 use Rattle.routing.proofs.RunLemmas.{below_run}

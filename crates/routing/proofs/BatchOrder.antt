@@ -1,7 +1,7 @@
 -- The shares of a level's pages, each in the order of the batch, are the routes to them.
-use Rattle.std.specs.Prelude.{◌≡◌, ℕ, ◌+◌, ◌<◌, Bool, true, false, ◌&&◌, ◌||◌, cond, List, [], ◌∷◌, ◌++◌, map, length, take, slice_get, Option, Some, None}
+use Rattle.std.specs.Prelude.{◌≡◌, ℕ, ◌+◌, ◌<◌, Bool, ◌&&◌, ◌||◌, List, [], ◌∷◌, ◌++◌, length, take, slice_get, Option, Some, None}
 use Rattle.std.proofs.Common.{refl, sym, ap, subst, ◌∙◌, get_or, arith}
-use Rattle.std.specs.List.{AllByRecursion, filter}
+use Rattle.std.specs.List.{filter}
 use Rattle.std.specs.List.Sorted.{IsPermutation, IsNonDecreasing}
 use Rattle.std.proofs.lemmas.List.{map-append, take_more}
 use Rattle.std.proofs.lemmas.List.Sorted.{IsPermutation-refl, IsPermutation-trans, IsPermutation-append_comm}
@@ -10,17 +10,15 @@ use Rattle.keys.specs.CommandKey.{key_of}
 use Rattle.keys.specs.Places.{is_some_that}
 use Rattle.keys.specs.declared.command.Command.{Command}
 use Rattle.index_page.specs.Range.{is_within}
-use Rattle.index_page.specs.Children.{Place}
-use Rattle.index_page.proofs.ListLemmas.{all-filter}
 use Rattle.mapping.specs.FreshPids.{is_among}
 use Rattle.routing.specs.BatchKeys.{key_or_empty}
 use Rattle.routing.specs.Keyed.{Keyed, places_of}
-use Rattle.routing.specs.Routes.{places_within, Route, route_to, has_some, has_places}
+use Rattle.routing.specs.Routes.{Route, has_some}
 use Rattle.routing.specs.SortedPlaces.{order_of_places, AreSortedPlaces, begins_in, reaches, reaches_at, AreSortedWithin, AreSortedReaching}
-use Rattle.routing.specs.Shares.{Share, all_of, has_any, Lent, share_of_lent, lent_shares, HasEachPlaceOnce, is_in_range, share_of, shares, IsInBatchOrder, AreInBatchOrder}
+use Rattle.routing.specs.Shares.{Share, all_of, Lent, share_of_lent, lent_shares, is_in_range, shares, IsInBatchOrder, AreInBatchOrder}
 use Rattle.routing.proofs.RouteLemmas.{among-places, within_all}
 use Rattle.routing.proofs.SortLemmas.{among_itself}
-use Rattle.routing.proofs.SliceLemmas.{sorted_within_all, distinct, among-filter, among_both, both_in_order, in_batch_order}
+use Rattle.routing.proofs.SliceLemmas.{sorted_within_all, among-filter}
 
 -- one more, behind the others
 pub order-push : (ss : List Share) (os : List Route) (s : Share) (o : Route) → AreInBatchOrder ss os → IsInBatchOrder s o → AreInBatchOrder (ss ++ s ∷ []) (os ++ o ∷ [])

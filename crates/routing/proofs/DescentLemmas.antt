@@ -1,5 +1,5 @@
 -- Lemmas on the way of shares down the levels of a tree, for the proofs of this crate.
-use Rattle.std.specs.Prelude.{◌≡◌, ℕ, zero, suc, pred, ◌+◌, ◌-◌, ◌<◌, Bool, true, false, not, ◌&&◌, ◌||◌, cond, List, [], ◌∷◌, ◌++◌, map, flat_map, length, drop, slice_get, Option, Some, None}
+use Rattle.std.specs.Prelude.{◌≡◌, ℕ, zero, suc, pred, ◌+◌, ◌-◌, ◌<◌, Bool, true, false, not, ◌&&◌, ◌||◌, List, [], ◌∷◌, ◌++◌, map, flat_map, length, drop, slice_get, Option, Some, None}
 use Rattle.std.proofs.Common.{refl, sym, ap, ◌∙◌, subst, arith, append_assoc, get_or, inl, inr}
 use Rattle.std.specs.List.{AllByRecursion, filter}
 use Rattle.std.specs.Map.{keys_of, values_of}
@@ -14,30 +14,28 @@ use Rattle.index_page.specs.Page.{PageOfKind}
 use Rattle.index_page.specs.Page.PageOfKind.{Index}
 use Rattle.index_page.specs.Range.{is_below, is_before, is_within, AreFrom, AreBefore, IsBefore}
 use Rattle.index_page.specs.Rules.{IsHeaded}
-use Rattle.index_page.specs.Children.{Place, children, child_entries, HasChildFor}
+use Rattle.index_page.specs.Children.{children}
 use Rattle.index_page.proofs.ListLemmas.{all_weaker}
 use Rattle.index_page.proofs.PageLemmas.{all_keys_entries}
 use Rattle.index_page.proofs.RangeLemmas.{below_is_less, less_is_below, less_through, low_through}
-use Rattle.index_page.proofs.ChildLemmas.{next_key, children-cons, children-append, within_parts}
+use Rattle.index_page.proofs.ChildLemmas.{within_parts}
 use Rattle.mapping.specs.FreshPids.{is_among}
 use Rattle.keys.proofs.MapLemmas.{total}
 use Rattle.mapping.specs.Tree.{Tree, page_at}
 use Rattle.mapping.specs.Levels as levels
 use Rattle.mapping.specs.Levels.{Placed, Levels, joined, name, names, as_index, leaf_at, index_at, levels_below, levels_of, first_pid, top_pid}
 use Rattle.mapping.specs.Proper.{next_low, IsTile, Tiled, Stacked, AreLevels, HasIndexPages, HoldsLevels}
-use Rattle.mapping.proofs.TileLemmas.{Names, next_names, next_low-parents, rising-tile}
+use Rattle.mapping.proofs.TileLemmas.{Names, next_low-parents}
 use Rattle.mapping.proofs.LevelLemmas.{values_of-names, index_pages_found}
-use Rattle.mapping.proofs.Joined.{next_joined}
 use Rattle.routing.specs.BatchKeys.{key_or_empty, key_at}
-use Rattle.routing.specs.Routes.{Route, has_some, ranges, routes}
-use Rattle.routing.specs.SortedPlaces.{order_of_places, AreInKeyOrder, AreSortedPlaces, reaches_page, reaches, reaches_at}
+use Rattle.routing.specs.SortedPlaces.{order_of_places, AreInKeyOrder, reaches_page, reaches, reaches_at}
 use Rattle.routing.specs.Keyed.{AreKeyed}
-use Rattle.routing.specs.Shares.{Share, all_of, Lent, share_of_lent, lent_shares, AreKeyedShares, is_in_range, shares, shares_below, without_idle, CanHandDownShare, index_under, IsReadyShare, AreReadyShares, share_below, AreInBatchOrder}
+use Rattle.routing.specs.Shares.{Share, all_of, Lent, share_of_lent, lent_shares, is_in_range, shares, shares_below, without_idle, CanHandDownShare, index_under, IsReadyShare, AreReadyShares, share_below}
 use Rattle.routing.proofs.RouteLemmas.{among-append}
 use Rattle.routing.proofs.IdleLemmas.{same_idle}
 use Rattle.routing.proofs.SortLemmas.{total_places, same_place, same_sorted}
 use Rattle.routing.proofs.SliceLemmas.{reaching_below, among-filter, in_order-append, none_pass}
-use Rattle.routing.proofs.ShareLemmas.{share_taken, shares-append, no_shares, filter_twice, all_passed, same_share}
+use Rattle.routing.proofs.ShareLemmas.{share_taken, filter_twice, all_passed, same_share}
 
 -- ---- a range within another
 

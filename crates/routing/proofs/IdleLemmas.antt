@@ -1,19 +1,16 @@
 -- Lemmas on the commands that are left out of a page since they find nothing there, for the proofs of this crate.
-use Rattle.std.specs.Prelude.{◌≡◌, ◌⊎◌, ℕ, zero, suc, ◌<◌, ◌≤◌, Bool, true, false, not, ◌&&◌, ◌||◌, cond, List, [], ◌∷◌, ◌++◌, length, take, slice_get, nat_eq, nat_le, min, if◌then◌else◌, Option, Some, None}
+use Rattle.std.specs.Prelude.{◌≡◌, ◌⊎◌, ℕ, ◌<◌, Bool, true, false, ◌||◌, List, [], ◌∷◌, nat_eq, nat_le, min, if◌then◌else◌, Option, Some, None}
 use Rattle.std.proofs.Common.{refl, sym, ap, ◌∙◌, subst, arith, inl, inr}
-use Rattle.std.specs.List.{AllByRecursion, filter, list_any, fold, reduce}
+use Rattle.std.specs.List.{filter, list_any, fold, reduce}
 use Rattle.std.proofs.lemmas.Bool.{cases_lt, and_parts, le-leb, leb-false}
 use Rattle.std.proofs.lemmas.List.Kept.{IsStrictlySortedBy-filter}
-use Rattle.keys.specs.Footprint.{Span, One, Range, Deed, Looks, Gives, Takes, span_of, deed_of}
-use Rattle.keys.specs.Places.{is_some_that}
 use Rattle.keys.specs.declared.command.Command.{Command}
 use Rattle.mapping.specs.FreshPids.{is_among}
-use Rattle.routing.specs.Idle.{gives_at, covers, clears, empties, empties_at}
+use Rattle.routing.specs.Idle.{gives_at, empties_at}
 use Rattle.routing.specs.Keyed.{Keyed, places_of}
 use Rattle.routing.specs.Routes.{has_some}
 use Rattle.routing.specs.Shares.{first_emptying, upto, without_idle}
 use Rattle.routing.specs.SortedPlaces.{order_of_places, AreInKeyOrder}
-use Rattle.routing.proofs.RouteLemmas.{among-append}
 use Rattle.routing.proofs.SortLemmas.{among_itself}
 use Rattle.routing.proofs.SliceLemmas.{among-filter}
 

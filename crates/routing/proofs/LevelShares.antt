@@ -19,7 +19,7 @@ use Rattle.index_page.specs.Children.{Place, children, child_entries, HasChildFo
 use Rattle.index_page.proofs.ListLemmas.{all_weaker}
 use Rattle.index_page.proofs.PageLemmas.{all_keys_entries}
 use Rattle.index_page.proofs.RangeLemmas.{below_is_less, less_is_below, less_through}
-use Rattle.index_page.proofs.ChildLemmas.{next_key, children-cons, children-append, within_parts}
+use Rattle.index_page.proofs.ChildLemmas.{children-cons, children-append, within_parts}
 use Rattle.mapping.specs.FreshPids.{is_among}
 use Rattle.mapping.specs.Tree.{Tree, page_at}
 use Rattle.mapping.specs.Levels as levels
@@ -36,8 +36,8 @@ use Rattle.routing.specs.Shares.{Share, all_of, has_any, Lent, lent_shares, AreK
 use Rattle.routing.proofs.RouteLemmas.{among-append, one_of_two}
 use Rattle.routing.proofs.SliceLemmas.{IsBelowKey, IsFromKey, reaching_below, in_order-append, distinct, none_reach_by}
 use Rattle.routing.proofs.ShareLemmas.{all_passed, filter_none, all_begin}
-use Rattle.routing.proofs.DescentLemmas.{IsIndexLevel, IsLevelAt, gets, gets_parted, last_narrowed, own_narrowed, reaching_narrowed, child_above, reaches_child, second_before, entry_before, found_under, entries_before, names_at, level_at, names-leaves}
-use Rattle.routing.proofs.IdleLemmas.{IsLeftOut, some_among, none_among, none_there, among_passing, among_kept, stays_there, stays_or_not, stays_in_order}
+use Rattle.routing.proofs.DescentLemmas.{IsIndexLevel, gets, gets_parted, last_narrowed, own_narrowed, reaching_narrowed, child_above, reaches_child, second_before, entry_before, found_under, entries_before, names_at, level_at, names-leaves}
+use Rattle.routing.proofs.IdleLemmas.{IsLeftOut, none_among, none_there, among_passing, among_kept, stays_there, stays_or_not, stays_in_order}
 
 -- ---- a share for a page
 

@@ -1,8 +1,8 @@
 -- The shares of a level's pages, each in the order of the batch, are the pages' runs.
 use Rattle.std.specs.Prelude.{◌≡◌, ◌⊎◌, ℕ, zero, suc, ◌<◌, Bool, true, false, not, ◌&&◌, ◌||◌, List, [], ◌∷◌, ◌++◌, take, slice_get, Option, Some, None}
-use Rattle.std.proofs.Common.{refl, sym, ap, ◌∙◌, subst, arith, inl, inr}
-use Rattle.std.specs.List.{AllByRecursion, filter, list_any}
-use Rattle.std.specs.List.Sorted.{IsPermutation, IsNonDecreasing, IsStrictlySortedBy}
+use Rattle.std.proofs.Common.{refl, sym, ap, ◌∙◌, arith, inl, inr}
+use Rattle.std.specs.List.{filter, list_any}
+use Rattle.std.specs.List.Sorted.{IsStrictlySortedBy}
 use Rattle.std.specs.Ordering.{nat_cmp}
 use Rattle.std.proofs.lemmas.Bool.{and_parts}
 use Rattle.std.proofs.lemmas.Cmp.{nat_cmp_total}
@@ -12,8 +12,8 @@ use Rattle.keys.specs.Places.{is_some_that}
 use Rattle.keys.specs.declared.command.Command.{Command}
 use Rattle.index_page.specs.Children.{Place}
 use Rattle.mapping.specs.FreshPids.{is_among}
-use Rattle.routing.specs.Idle.{gives, gives_at, gives_within, empties, empties_at, takes_page, is_idle}
-use Rattle.routing.specs.Routes.{Route, has_some, goes_to, places_from, places_within}
+use Rattle.routing.specs.Idle.{gives, gives_at, gives_within, empties, takes_page, is_idle}
+use Rattle.routing.specs.Routes.{Route, has_some, goes_to, places_within}
 use Rattle.routing.specs.Runs.{IsRunOf, AreRunsOf}
 use Rattle.routing.specs.SortedPlaces.{AreInKeyOrder, AreSortedPlaces, begins_in, reaches, reaches_at}
 use Rattle.routing.specs.Shares.{Share, all_of, has_any, is_in_range, IsInBatchOrder, AreInBatchOrder}

@@ -21,7 +21,7 @@ use Rattle.routing.specs.BatchKeys.{key_at}
 use Rattle.routing.specs.Routes.{Route, has_some, has_places}
 use Rattle.routing.specs.SortedPlaces.{order_of_places, AreInKeyOrder, reaches_page, reaches, reaches_at}
 use Rattle.routing.specs.Keyed.{Keyed, places_of, AreKeyed, has_key_below}
-use Rattle.routing.specs.Shares.{Share, all_of, Lent, share_of_lent, lent_shares, AreKeyedShares, is_in_range, share_of, shares, root_shares, shares_below, without_idle, ArePoints, is_met, CanHandDown, CanHandDownKeyed, CanHandDownShare}
+use Rattle.routing.specs.Shares.{Share, all_of, Lent, share_of_lent, lent_shares, AreKeyedShares, is_in_range, share_of, shares, shares_below, without_idle, ArePoints, is_met, CanHandDown, CanHandDownKeyed, CanHandDownShare}
 use Rattle.routing.proofs.RouteLemmas.{within_all}
 use Rattle.routing.proofs.IdleLemmas.{without_idle-nothing}
 use Rattle.routing.proofs.SliceLemmas.{all_take, all_drop, earlier_below, sorted_drop, parted_by_key}

@@ -38,12 +38,14 @@ pub fn each_command_goes_to_its_pages<V, A: Allocator>()
 /// command that goes to the page. Of pages that tile all keys, each place of the batch is in a run, and it is there just once
 /// where its command is on one key.
 pub fn each_command_is_in_the_runs_of_its_pages<V, A: Allocator>()
-    ensures order { (level : List (Placed V)) (cs : List (Command A)) (rs : List Route) → AreRunsOf cs (ranges level) rs →
-        AreRoutesTo cs (ranges level) rs }
-    ensures some { (level : List (Placed V)) (cs : List (Command A)) (rs : List Route) (place : ℕ) → AreRunsOf cs (ranges level) rs →
-        next_low level None ≡ Some [] → Tiled level None → place < length cs → is_among place (flat_map (λ r. r.places) rs) ≡ true }
-    ensures once { (level : List (Placed V)) (cs : List (Command A)) (rs : List Route) (place : ℕ) → AreRunsOf cs (ranges level) rs →
-        next_low level None ≡ Some [] → Tiled level None → place < length cs → is_ranged_at cs place ≡ false →
+    ensures order { (level : List (Placed V)) (cs : List (Command A)) (rs : List Route) →
+        AreRunsOf cs (ranges level) rs → AreRoutesTo cs (ranges level) rs }
+    ensures some { (level : List (Placed V)) (cs : List (Command A)) (rs : List Route) (place : ℕ) →
+        AreRunsOf cs (ranges level) rs → next_low level None ≡ Some [] → Tiled level None →
+        place < length cs → is_among place (flat_map (λ r. r.places) rs) ≡ true }
+    ensures once { (level : List (Placed V)) (cs : List (Command A)) (rs : List Route) (place : ℕ) →
+        AreRunsOf cs (ranges level) rs → next_low level None ≡ Some [] → Tiled level None →
+        place < length cs → is_ranged_at cs place ≡ false →
         count_by (λ other. other == place) (flat_map (λ r. r.places) rs) ≡ 1 }
 {}
 
@@ -51,14 +53,15 @@ pub fn each_command_is_in_the_runs_of_its_pages<V, A: Allocator>()
 /// which the run has, takes all keys of the page, and no command of the batch gives a key of the page a value.
 pub fn only_what_finds_nothing_is_left_out<A: Allocator>()
     ensures reaches { (cs : List (Command A)) (at : Place) (r : Route) (place : ℕ) → IsRunOf cs at r →
-        goes_at cs at.low at.end place ≡ true → is_among place r.places ≡ false → reaches_at cs at.low place ≡ true }
+        goes_at cs at.low at.end place ≡ true → is_among place r.places ≡ false →
+        reaches_at cs at.low place ≡ true }
     ensures wiped { (cs : List (Command A)) (at : Place) (r : Route) (place : ℕ) → IsRunOf cs at r →
         goes_at cs at.low at.end place ≡ true → is_among place r.places ≡ false →
-        (earlier : ℕ) × (earlier < place) × (is_among earlier r.places ≡ true) × ((lo : Bytes) × (hi : Option Bytes) ×
-        (slice_get cs earlier ≡ Some (Wipe lo hi)) ×
+        (earlier : ℕ) × (earlier < place) × (is_among earlier r.places ≡ true) ×
+        ((lo : Bytes) × (hi : Option Bytes) × (slice_get cs earlier ≡ Some (Wipe lo hi)) ×
         ((key : Bytes) → is_within at.low at.end key ≡ true → is_within lo hi key ≡ true)) }
-    ensures unput { (cs : List (Command A)) (at : Place) (r : Route) (place other : ℕ) (c : Command A) → IsRunOf cs at r →
-        goes_at cs at.low at.end place ≡ true → is_among place r.places ≡ false →
+    ensures unput { (cs : List (Command A)) (at : Place) (r : Route) (place other : ℕ) (c : Command A) →
+        IsRunOf cs at r → goes_at cs at.low at.end place ≡ true → is_among place r.places ≡ false →
         slice_get cs other ≡ Some c → gives c ≡ true → is_within at.low at.end (key_of c) ≡ false }
 {}
 

@@ -42,8 +42,8 @@ pub(crate) fn going_on(
         .collect(alloc)
 }
 
-/// The scans and wipes that reach a page from the left, of which all come to something there. Where no command that begins in the
-/// page gives a key a value, those after the first that wipes all of the page find nothing, and are left out.
+/// Of the scans and wipes that reach a page from the left those that may find something there: up to the first that wipes all of the
+/// page, and all of them where a command that begins in the page gives a key a value.
 pub(crate) fn without_idle(
     alloc: Global,
     batch: &BatchWithEnds<'_>,
@@ -85,7 +85,7 @@ fn gives_any(batch: &BatchWithEnds<'_>, keyed: &[Keyed<'_>]) -> bool
     keyed.iter().any(|entry| batch.gives_at(entry.1))
 }
 
-// Those of the places that aren't behind this one.
+// The places that aren't after this one.
 fn upto(alloc: Global, places: &[usize], last: usize) -> Result<Vec<usize>, AllocError>
     ensures { IfOk result (λ kept. kept.items ≡ upto (Some last) places.now) }
 {
