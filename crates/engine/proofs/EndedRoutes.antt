@@ -1,6 +1,6 @@
 -- A batch some of whose scans end at a nearer key, where they have all their rows: its leaves make of their commands what they make
 -- of those with the nearer ends; and replies, plan and all else of the batch are the same.
-use Rattle.std.specs.Prelude.{◌≡◌, ℕ, suc, ◌<◌, Bool, true, false, cond, List, [], ◌∷◌, ◌++◌, map, drop, length, slice_get, Option, Some, None, Result, Ok, Err, IfOk}
+use Rattle.std.specs.Prelude.{◌≡◌, ℕ, suc, ◌<◌, Bool, List, ◌++◌, map, drop, length, slice_get, Option, Some, None, Result, Ok, Err, IfOk}
 use Rattle.std.proofs.Common.{refl, sym, ap, ◌∙◌, subst}
 use Rattle.std.specs.List.{All, AllByRecursion}
 use Rattle.std.specs.Map.{keys_of}
@@ -8,86 +8,30 @@ use Rattle.std.specs.Option.{option_map}
 use Rattle.std.specs.declared.alloc.Global.{Global}
 use Rattle.std.proofs.lemmas.List.Elements.{All-weaker}
 use Rattle.keys.specs.CommandKey.{is_ranged, is_scan, is_wipe}
-use Rattle.keys.specs.Narrowed.{with_end, first_end, with_ends, MayEndAtAll}
-use Rattle.keys.specs.Order.{IsRising}
+use Rattle.keys.specs.Narrowed.{with_end, first_end, with_ends}
 use Rattle.keys.specs.Places.{is_some_that, is_scan_at, is_wipe_at, is_ranged_at}
-use Rattle.keys.specs.Range.{in_range}
-use Rattle.keys.specs.Step.{replies_to}
 use Rattle.keys.specs.declared.command.Command.{Command}
 use Rattle.keys.specs.declared.command.Command.TheVariants.{Scan}
 use Rattle.keys.specs.declared.command.Reply.{Reply}
 use Rattle.keys.specs.declared.piece.Piece.{Piece}
 use Rattle.keys.specs.declared.settings.Settings.{Settings}
 use Rattle.keys.proofs.NarrowedLemmas.{scan-with_end, wipe-with_end, ranged-with_end, get-with_ends, length-with_ends}
-use Rattle.index_page.specs.Children.{Place}
-use Rattle.index_page.specs.Page.{PageOfKind, entries, leaf_of}
-use Rattle.mapping.specs.Levels.{Placed, joined, names, levels_of, contents, all_pages, by_pid, top_pid}
+use Rattle.mapping.specs.Levels.{levels_of, contents, all_pages, by_pid, top_pid}
 use Rattle.mapping.specs.Outdate.{outdate_all}
-use Rattle.mapping.specs.Proper.{Tiled}
-use Rattle.mapping.specs.Table.{Mapping, page_of}
 use Rattle.mapping.specs.Tree.{Tree}
-use Rattle.mapping.proofs.TileLemmas.{rising-joined, rising-names}
-use Rattle.routing.specs.Routes.{Route, route_to, has_places, places_within, ranges, routes}
-use Rattle.routing.proofs.RouteLemmas.{kept, own_places}
-use Rattle.page_runs.specs.LeafWork.{LeafMade, leaf_made, placed_leaf}
-use Rattle.page_runs.specs.NetRun.{net_run}
-use Rattle.page_runs.specs.Replies.{ArePlacesOf, commands_at, pieces_of}
-use Rattle.page_runs.specs.Worked.{worked}
-use Rattle.page_runs.proofs.EndedBatch.{AreNear, near_ends, EndsBefore, AllEndBefore, all_end_before, replies-ended, net_run-ended, net_run-with_ends}
+use Rattle.routing.specs.Routes.{Route}
+use Rattle.page_runs.specs.Replies.{ArePlacesOf}
+use Rattle.page_runs.proofs.EndedBatch.{net_run-with_ends}
 use Rattle.replies.specs.ByPlace.{joined_replies, joined_replies_at, reply_at, pieces_at, is_rows, is_count, AreAnswers}
 use Rattle.split_plan.specs.WorkedLevel.{worked_leaves}
 use Rattle.climb_plan.specs.Climb.{Climbed, climb}
 use Rattle.climb_plan.specs.Plan.{shrunk_levels, shrunk_pids, planned_tree}
-use Rattle.climb_plan.specs.Installing.{page_or_none}
-use Rattle.engine.specs.Leaves.{leaf_held, leaves_made}
-use Rattle.engine.proofs.LeafRoutes.{HoldsPart}
 
 abbrev Pairs : Type 0
 Pairs = List (List ℕ × List ℕ)
 
 abbrev Changes : Type 0
 Changes = List (List ℕ × Option (List ℕ))
-
--- ---- the leaves
-
-module _ (s : Settings) (cs : List (Command Global)) (ends : List (Option (List ℕ))) (t : Mapping PageOfKind) (m : Pairs) (rises : IsRising m) (keys : List (List ℕ)) (near : AreNear cs ends keys) where
-  abbrev ended : List (Command Global)
-  ended = with_ends cs ends
-
-  -- what a leaf's job makes of a route's commands
-  abbrev made_by : List (Command Global) → Route → LeafMade
-  made_by ds r = leaf_made s ds (leaf_held t r)
-
-  leaf_ended : (at : Place) → HoldsPart t m at → EndsBefore keys at.low at.end → made_by cs (route_to ended at) ≡ made_by ended (route_to ended at)
-  leaf_ended at h f =
-      let home = h.home in
-      let ps = places_within at.low at.end ended in
-      let held = leaf_held t (route_to ended at) in
-      let own : Pairs = entries (leaf_of (page_or_none (page_of t at.pid))) in
-      let leaf : own ≡ entries h.leaf = rw home refl in
-      let part : own ≡ in_range at.low at.end m = leaf ∙ h.part in
-      let answers : replies_to own (commands_at cs ps) ≡ replies_to own (commands_at ended ps) =
-      ap (λ (x : Pairs). replies_to x (commands_at cs ps)) part
-      ∙ sym (replies-ended cs ends keys near at.low at.end f ps m rises (own_places at.low at.end ended))
-      ∙ sym (ap (λ (x : Pairs). replies_to x (commands_at ended ps)) part) in
-      let make : Changes → List (Reply Global) → LeafMade = λ run rs. record { worked = worked s (placed_leaf held) run; pieces = pieces_of ps rs } in
-      ap (λ (run : Changes). make run (replies_to own (commands_at cs ps))) (sym (net_run-ended cs ends ps own))
-      ∙ ap (λ (rs : List (Reply Global)). make (net_run own (commands_at ended ps)) rs) answers
-
-  made_if : (b : Bool) (r : Route) (rs : List Route) → made_by cs r ≡ made_by ended r → map (made_by cs) rs ≡ map (made_by ended) rs → map (made_by cs) (cond b (r ∷ rs) rs) ≡ map (made_by ended) (cond b (r ∷ rs) rs)
-  made_if true r rs h ih = ap (λ (x : LeafMade). x ∷ map (made_by cs) rs) h ∙ ap (λ (xs : List LeafMade). made_by ended r ∷ xs) ih
-  made_if false r rs h ih = ih
-
-  kept_ended : (ats : List Place) → AllByRecursion (HoldsPart t m) ats → AllEndBefore keys ats → map (made_by cs) (kept ended ats) ≡ map (made_by ended) (kept ended ats)
-  kept_ended [] h f = refl
-  kept_ended (at ∷ ats) h f = made_if (has_places (route_to ended at)) (route_to ended at) (kept ended ats) (leaf_ended at h.0 f.0) (kept_ended ats h.1 f.1)
-
--- the leaves of a level make of the commands what they make of those with nearer ends
-pub level_ended : (s : Settings) (cs : List (Command Global)) (ends : List (Option (List ℕ))) (t : Mapping PageOfKind) (level : List (Placed (List ℕ))) → Tiled level None → AllByRecursion (HoldsPart t (joined level)) (ranges level)
-    → MayEndAtAll (keys_of (names level)) (joined level) cs ends → leaves_made s cs t (routes level (with_ends cs ends)) ≡ leaves_made s (with_ends cs ends) t (routes level (with_ends cs ends))
-level_ended s cs ends t level tiled parts may =
-    kept_ended s cs ends t (joined level) (rising-joined level None tiled) (keys_of (names level)) (near_ends (keys_of (names level)) (joined level) cs ends may) (ranges level) parts
-    (all_end_before (names level) (rising-names level None tiled))
 
 -- ---- the plan
 

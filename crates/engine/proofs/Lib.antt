@@ -3,6 +3,7 @@ mod Answered
 pub mod BatchDone
 mod BatchInStep
 mod BatchLeaves
+mod BlankAnswers
 mod CleanDone
 mod CommandsWithin
 mod ContentsFit
@@ -21,6 +22,7 @@ mod PlayLemmas
 mod PlayTurn
 mod Readied
 mod Routed
+mod RunRoutes
 mod SeenLeaves
 mod StepDone
 mod StepsLemmas

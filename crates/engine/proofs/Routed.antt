@@ -17,17 +17,18 @@ use Rattle.keys.specs.declared.version.Version.TheVariants.{One}
 use Rattle.keys.proofs.NarrowedLemmas.{replies-with_ends, length-with_ends}
 use Rattle.index_page.specs.Page.{PageOfKind}
 use Rattle.index_page.specs.Page.PageOfKind.{Leaf}
-use Rattle.mapping.specs.Levels.{names, levels_of, contents}
-use Rattle.mapping.specs.Proper.{AreRisingPids, AreLogsTrue, IsProper}
+use Rattle.mapping.specs.Levels.{names, joined, levels_of, contents}
+use Rattle.mapping.specs.Proper.{Distinct, AreRisingPids, AreLogsTrue, IsProper}
 use Rattle.mapping.specs.Table.{pids_in_use, page_of}
 use Rattle.mapping.specs.Tree.{Tree, Store}
 use Rattle.mapping.specs.TreeInMemory.{TreeInMemory, AreAllHome, tree_of}
-use Rattle.mapping.proofs.TileLemmas.{rising-joined}
+use Rattle.mapping.proofs.TileLemmas.{rising-joined, rising-names}
 use Rattle.keys.specs.declared.piece.Piece.{Piece}
 use Rattle.page_runs.specs.LeafWork.{LeafHeld, LeafMade, LeafWorked, leaf_made, leaf_answers}
 use Rattle.page_runs.specs.Reads.{ReadLeaf, IsRouteToRead, is_only_read, answers_at, route_answers}
 use Rattle.page_runs.specs.Replies.{commands_at, ArePlacesOf}
-use Rattle.page_runs.proofs.EndedBatch.{net_run-ended}
+use Rattle.page_runs.proofs.EndedBatch.{near_ends, all_end_before, net_run-ended}
+use Rattle.page_runs.proofs.IdleBatch.{AreButBlank}
 use Rattle.page_runs.proofs.ReadLemmas.{net_run-looks}
 use Rattle.replies.specs.ByPlace.{most_counted, reply_at, AreAnswers}
 use Rattle.routing.specs.Routes.{Route}
@@ -39,10 +40,12 @@ use Rattle.climb_plan.proofs.ArrivedPages.{home_keys}
 use Rattle.engine.specs.Leaves.{AreRoutesFor, AreLeafRoutes, IsLeafAt, IsParted, leaf_held, leaves_made, answers, route_pids, read_routes, written_routes, is_written, order_of, in_order, read_answers, worked_answers, answers_in}
 use Rattle.engine.specs.SoundTree.{IsSoundInMemory}
 use Rattle.engine.proofs.Answered.{routes_here, leaf_parts, routes_are_leaves, answered_rightly, answered_as_a_map}
-use Rattle.engine.proofs.EndedRoutes.{level_ended, planned-ended, places-ended, reply-ended, answers-ended}
+use Rattle.engine.proofs.BlankAnswers.{but_reply, but_answers}
+use Rattle.engine.proofs.EndedRoutes.{planned-ended, places-ended, reply-ended, answers-ended}
 use Rattle.engine.proofs.Executed.{held_all, seen_leaves}
-use Rattle.engine.proofs.PartedLemmas.{all_passing, distinct_passing, each_passing, same_passing, both_in_order}
+use Rattle.engine.proofs.PartedLemmas.{all_passing, distinct_passing, each_passing, both_in_order}
 use Rattle.engine.proofs.Readied.{ready_here, taken_away, put_back_here}
+use Rattle.engine.proofs.RunRoutes.{AreSameWork, runs_same, same_pids, all_places, all_ended, all_but_blank, changed_same, same_seen}
 use Rattle.engine.proofs.SeenLeaves.{ComeToNone}
 
 abbrev pub made_all : List LeafWorked → List LeafMade
@@ -74,9 +77,21 @@ module _ (m : TreeInMemory) where
   pages_of_routes [] = refl
   pages_of_routes (r ∷ rs) = ap (λ (es : List (ℕ × PageOfKind)). (r.pid, page_or_none (page_of m.table r.pid)) ∷ es) (pages_of_routes rs)
 
--- the tree without the pages of these routes
+  -- which are the pages under these
+  abbrev pages_under : List ℕ → List (ℕ × PageOfKind)
+  pages_under ns = map {B = ℕ × PageOfKind} (λ n. (n, page_or_none (page_of m.table n))) ns
+
+  pages_by_pid : (rs : List Route) → routed_pages rs ≡ pages_under (route_pids rs)
+  pages_by_pid [] = refl
+  pages_by_pid (r ∷ rs) = ap (λ (es : List (ℕ × PageOfKind)). (r.pid, page_or_none (page_of m.table r.pid)) ∷ es) (pages_by_pid rs)
+
+-- the tree without the pages under these pids
+abbrev without_pids : TreeInMemory → List ℕ → TreeInMemory
+without_pids m ns = record m { table = all_taken m.table ns }
+
+-- and without the pages of these routes
 abbrev without_leaves : TreeInMemory → List Route → TreeInMemory
-without_leaves m rs = record m { table = all_taken m.table (route_pids rs) }
+without_leaves m rs = without_pids m (route_pids rs)
 
 -- what holds anyway holds after an error
 pub on_any_error : {T E P : Type 0} (r : Result T E) → P → OnErr r P
@@ -127,15 +142,26 @@ module _ (s : Settings) (m : TreeInMemory) (cs : List (Command Global)) (sound :
   abbrev ended : List (Command Global)
   ended = with_ends cs routed.0
 
-  are_here : rs ≡ routes_here m ended
-  are_here = routed.2
+  -- all routes of these, of which those here lack some commands that find nothing
+  abbrev here : List Route
+  here = routes_here m ended
+
+  same : AreSameWork s cs routed.0 m.table rs here
+  same =
+      let level = (levels_of (tree_of m)).level in
+      let tiled = sound.sound.proper.levels.tiled in
+      runs_same s cs routed.0 m.table (joined level) (rising-joined level None tiled) (keys_of (names level)) (near_ends (keys_of (names level)) (joined level) cs routed.0 routed.1) routed.2 (leaf_parts s m cs sound.home sound.sound.proper)
+      (all_end_before (names level) (rising-names level None tiled))
 
   -- the leaves that are changed
   abbrev changed : Route → Bool
   changed = is_written cs
 
-  changed_here : written_routes cs rs ≡ filter changed (routes_here m ended)
-  changed_here = ap (λ (xs : List Route). filter changed xs) are_here
+  same_changed : AreSameWork s cs routed.0 m.table (written_routes cs rs) (filter changed here)
+  same_changed = changed_same s cs routed.0 m.table rs here same
+
+  pids_changed : route_pids (written_routes cs rs) ≡ route_pids (filter changed here)
+  pids_changed = same_pids s cs routed.0 m.table (written_routes cs rs) (filter changed here) same_changed
 
   -- the commands of the others come to no run
   quiet : ComeToNone ended changed
@@ -143,8 +169,13 @@ module _ (s : Settings) (m : TreeInMemory) (cs : List (Command Global)) (sound :
 
   all_routes : AreLeafRoutes m.table cs rs
   all_routes =
-      let there : AreLeafRoutes m.table ended rs = rw are_here (routes_are_leaves s m ended sound.home sound.sound.proper) in
-      record { home = there.home; distinct = there.distinct; places = places-ended cs routed.0 rs there.places }
+      let there : AreLeafRoutes m.table ended here = routes_are_leaves s m ended sound.home sound.sound.proper in
+      let pids = sym (same_pids s cs routed.0 m.table rs here same) in
+      record {
+        home = subst (λ (ns : List ℕ). AllByRecursion (λ pid. IsLeafAt (page_of m.table pid)) ns) pids there.home;
+        distinct = subst (λ (ns : List ℕ). Distinct ns) pids there.distinct;
+        places = places-ended cs routed.0 rs (all_places s cs routed.0 m.table rs here same);
+      }
 
   -- those that are changed are at home, and so are those that are read
   changed_routes : AreLeafRoutes m.table cs (written_routes cs rs)
@@ -158,15 +189,16 @@ module _ (s : Settings) (m : TreeInMemory) (cs : List (Command Global)) (sound :
   all_may_be_read = each_passing (is_only_read cs) (IsRouteToRead m cs) rs (all_readable m cs rs all_routes.home all_routes.places)
 
   -- what is made of all leaves is what is made of them with nearer ends
-  made_ended : leaves_made s cs m.table (routes_here m ended) ≡ leaves_made s ended m.table (routes_here m ended)
-  made_ended = level_ended s cs routed.0 m.table (levels_of (tree_of m)).level sound.sound.proper.levels.tiled (leaf_parts s m cs sound.home sound.sound.proper) routed.1
+  all_made : leaves_made s cs m.table rs ≡ leaves_made s ended m.table rs
+  all_made = all_ended s cs routed.0 m.table rs here same
 
-  all_made : leaves_made s cs m.table rs ≡ leaves_made s ended m.table (routes_here m ended)
-  all_made = ap (λ (xs : List Route). leaves_made s cs m.table xs) are_here ∙ made_ended
+  -- and of all commands, but for blank answers
+  blanks_missing : AreButBlank ended (answers (leaves_made s ended m.table rs)) (answers (leaves_made s ended m.table here))
+  blanks_missing = all_but_blank s cs routed.0 m.table rs here same
 
   module _ (qs ws : List Route) (order : List Bool) (parted : IsParted cs rs qs ws order) where
-    changed_there : ws ≡ filter changed (routes_here m ended)
-    changed_there = parted.writes ∙ changed_here
+    changed_there : route_pids ws ≡ route_pids (filter changed here)
+    changed_there = ap (λ (xs : List Route). route_pids xs) parted.writes ∙ pids_changed
 
     pub leaf_routes : AreLeafRoutes m.table cs ws
     leaf_routes = rw parted.writes changed_routes
@@ -175,10 +207,10 @@ module _ (s : Settings) (m : TreeInMemory) (cs : List (Command Global)) (sound :
     may_be_read = rw parted.reads all_may_be_read
 
     module _ (ds : List LeafWorked) (made : made_all ds ≡ leaves_made s cs m.table ws) where
-      made_here : made_all ds ≡ leaves_made s ended m.table (filter changed (routes_here m ended))
-      made_here =
-          made ∙ ap (λ (xs : List Route). leaves_made s cs m.table xs) changed_there
-          ∙ same_passing changed (λ r. leaf_made s cs (leaf_held m.table r)) (λ r. leaf_made s ended (leaf_held m.table r)) (routes_here m ended) made_ended
+      seen_here : seen_leaves ds ≡ map (λ x. page_seen Leaf x.worked) (leaves_made s ended m.table (filter changed here))
+      seen_here =
+          seen_by_made ds ∙ ap (λ (ms : List LeafMade). map (λ x. page_seen Leaf x.worked) ms) (made ∙ ap (λ (xs : List Route). leaves_made s cs m.table xs) parted.writes)
+          ∙ same_seen s cs routed.0 m.table (written_routes cs rs) (filter changed here) same_changed
 
       module _ (reads : List ReadLeaf) (read : read_answers reads ≡ map (route_answers m cs) qs) where
         -- the answers of both, in order, are those of all
@@ -195,21 +227,22 @@ module _ (s : Settings) (m : TreeInMemory) (cs : List (Command Global)) (sound :
 
         pub answered : AreAnswers cs (answers_in order reads ds)
         answered =
-            let all : AreAnswers cs (answers (leaves_made s cs m.table rs)) = answers-ended cs routed.0 (answers (leaves_made s cs m.table rs)) (rw all_made (answered_rightly s m ended sound.home sound.sound.proper)) in
+            let right = but_answers ended (answers (leaves_made s ended m.table rs)) (answers (leaves_made s ended m.table here)) blanks_missing (answered_rightly s m ended sound.home sound.sound.proper) in
+            let all : AreAnswers cs (answers (leaves_made s cs m.table rs)) = answers-ended cs routed.0 (answers (leaves_made s cs m.table rs)) (rw all_made right) in
             subst (λ (ps : List (Piece Global)). AreAnswers cs ps) (sym all_there) all
 
         pub as_a_map : length (contents (tree_of m)) + length cs ≤ most_counted → (xs : List (Reply Global)) → ((place : ℕ) → slice_get xs place ≡ reply_at cs (answers_in order reads ds) place) → xs ≡ replies_to (contents (tree_of m)) cs
         as_a_map few xs at =
             answered_as_a_map s m ended sound.home sound.sound.proper (rw (length-with_ends cs routed.0) few) xs
-            (λ place. at place ∙ ap (λ (ps : List (Piece Global)). reply_at cs ps place) all_there ∙ sym (reply-ended cs routed.0 (answers (leaves_made s cs m.table rs)) place) ∙ ap (λ (ms : List LeafMade). reply_at ended (answers ms) place) all_made)
+            (λ place. at place ∙ ap (λ (ps : List (Piece Global)). reply_at cs ps place) all_there ∙ sym (reply-ended cs routed.0 (answers (leaves_made s cs m.table rs)) place) ∙ ap (λ (ms : List LeafMade). reply_at ended (answers ms) place) all_made
+            ∙ but_reply ended (answers (leaves_made s ended m.table rs)) (answers (leaves_made s ended m.table here)) blanks_missing place)
             ∙ replies-with_ends (keys_of (names (levels_of (tree_of m)).level)) (contents (tree_of m)) cs routed.0 (rising-joined (levels_of (tree_of m)).level None sound.sound.proper.levels.tiled) routed.1
 
       module _ (now : TreeInMemory) (taken : now ≡ without_leaves m ws) where
         is_ready : IsReady s (tree_of m) ended now (seen_leaves ds)
         is_ready =
-            let there : now ≡ without_leaves m (filter changed (routes_here m ended)) = taken ∙ ap (λ (xs : List Route). without_leaves m xs) changed_there in
-            let seen : seen_leaves ds ≡ map (λ x. page_seen Leaf x.worked) (leaves_made s ended m.table (filter changed (routes_here m ended))) = seen_by_made ds ∙ ap (λ (ms : List LeafMade). map (λ x. page_seen Leaf x.worked) ms) made_here in
-            rw (there, seen) (ready_here s m ended changed sound quiet)
+            let there : now ≡ without_leaves m (filter changed here) = taken ∙ ap (λ (ns : List ℕ). without_pids m ns) changed_there in
+            rw (there, seen_here) (ready_here s m ended changed sound quiet)
 
         pub some_ready : (t : Tree) × (bs : List (Command Global)) × IsReady s t bs now (seen_leaves ds)
         some_ready = (tree_of m, ended, is_ready)
@@ -219,24 +252,22 @@ module _ (s : Settings) (m : TreeInMemory) (cs : List (Command Global)) (sound :
         for_this P f = subst P (planned-ended s (tree_of m) cs routed.0) (f (tree_of m) ended is_ready)
 
     module _ (ds again : List LeafWorked) (held : held_all ds ≡ map (leaf_held m.table) ws) (back : held_all again ≡ held_all ds) (now refused : TreeInMemory) (taken : now ≡ without_leaves m ws) (kept : refused ≡ now) where
-      abbrev here : List Route
-      here = filter changed (routes_here m ended)
+      there : refused ≡ without_leaves m (filter changed here)
+      there = kept ∙ taken ∙ ap (λ (ns : List ℕ). without_pids m ns) changed_there
 
-      there : refused ≡ without_leaves m here
-      there = kept ∙ taken ∙ ap (λ (xs : List Route). without_leaves m xs) changed_there
-
-      held_again : held_all again ≡ map (leaf_held m.table) here
-      held_again = back ∙ held ∙ ap (λ (xs : List Route). map (leaf_held m.table) xs) changed_there
+      held_again : held_all again ≡ map (leaf_held m.table) ws
+      held_again = back ∙ held
 
       pub again_away : AreAway refused.table (map (λ d. d.held.route.pid) again)
       again_away =
-          let pids : map (λ d. d.held.route.pid) again ≡ route_pids here = pids_held again ∙ ap (λ (hs : List LeafHeld). map (λ h. h.route.pid) hs) held_again ∙ pids_of_routes m here in
+          let pids : map (λ d. d.held.route.pid) again ≡ route_pids (filter changed here) = pids_held again ∙ ap (λ (hs : List LeafHeld). map (λ h. h.route.pid) hs) held_again ∙ pids_of_routes m ws ∙ changed_there in
           rw (there, pids) (taken_away s m ended changed sound)
 
       pub again_back : (last : TreeInMemory) → last ≡ record refused { table = all_put refused.table (map {B = ℕ × PageOfKind} (λ d. (d.held.route.pid, d.held.page)) again) } → last ≡ m
       again_back last e =
-          let pages : map {B = ℕ × PageOfKind} (λ d. (d.held.route.pid, d.held.page)) again ≡ routed_pages m here =
-          pages_held again ∙ ap (λ (hs : List LeafHeld). map {B = ℕ × PageOfKind} (λ h. (h.route.pid, h.page)) hs) held_again ∙ pages_of_routes m here in
+          let pages : map {B = ℕ × PageOfKind} (λ d. (d.held.route.pid, d.held.page)) again ≡ routed_pages m (filter changed here) =
+          pages_held again ∙ ap (λ (hs : List LeafHeld). map {B = ℕ × PageOfKind} (λ h. (h.route.pid, h.page)) hs) held_again ∙ pages_of_routes m ws
+          ∙ pages_by_pid m ws ∙ ap (λ (ns : List ℕ). pages_under m ns) changed_there ∙ sym (pages_by_pid m (filter changed here)) in
           let whole : record refused { table = all_put refused.table (map {B = ℕ × PageOfKind} (λ d. (d.held.route.pid, d.held.page)) again) } ≡ m = rw (there, pages) (put_back_here s m ended changed sound) in
           e ∙ whole
 

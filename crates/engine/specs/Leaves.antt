@@ -14,19 +14,20 @@ use Rattle.mapping.specs.Levels.{names, levels_of, contents}
 use Rattle.mapping.specs.Proper.{Distinct}
 use Rattle.mapping.specs.Table.{Mapping, page_of}
 use Rattle.mapping.specs.Tree.{Tree}
-use Rattle.routing.specs.Routes.{Route, routes}
+use Rattle.routing.specs.Routes.{Route, ranges}
+use Rattle.routing.specs.Runs.{AreRunsOf}
 use Rattle.page_runs.specs.LeafWork.{LeafHeld, LeafMade, LeafWorked, leaf_made}
 use Rattle.page_runs.specs.Reads.{ReadLeaf, is_only_read}
 pub use Rattle.page_runs.specs.Reads.{IsLeafAt}
 use Rattle.page_runs.specs.Replies.{ArePlacesOf}
 use Rattle.climb_plan.specs.Installing.{page_or_none}
 
--- these are the routes of the commands to the leaves of a tree, where each scan may end at a leaf before which it has all its rows
+-- these are the commands' runs at the leaves of a tree, where each scan may end at a leaf before which it has all its rows
 abbrev pub AreRoutesFor : Tree → List (Command Global) → List Route → Type 0
 AreRoutesFor t cs rs =
     let level = (levels_of t).level in
     (ends : List (Option Bytes)) × MayEndAtAll (keys_of (names level)) (contents t) cs ends
-    × (rs ≡ routes level (with_ends cs ends))
+    × AreRunsOf (with_ends cs ends) (ranges level) rs
 
 -- the pids of the pages of routes
 abbrev pub route_pids : List Route → List ℕ

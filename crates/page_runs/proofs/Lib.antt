@@ -3,6 +3,7 @@ pub mod AfterLemmas
 pub mod ApartLemmas
 mod Counts
 pub mod EndedBatch
+pub mod IdleBatch
 mod NamedRows
 pub mod NetLemmas
 mod Overlays

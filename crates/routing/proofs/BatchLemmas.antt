@@ -8,8 +8,10 @@ use Rattle.keys.specs.CommandKey.{key_of, is_ranged}
 use Rattle.keys.specs.Narrowed.{with_end, first_end, with_ends}
 use Rattle.keys.specs.Places.{is_ranged_at}
 use Rattle.keys.specs.declared.command.Command.{Command}
+use Rattle.keys.specs.declared.command.Command.TheVariants.{Scan}
 use Rattle.keys.proofs.NarrowedLemmas.{key-with_end, ranged-with_end, length-with_ends, get-with_ends}
 use Rattle.routing.specs.BatchKeys.{key_at}
+use Rattle.routing.specs.Idle.{gives, gives_at, empties, empties_at}
 use Rattle.routing.specs.SortedPlaces.{reaches, reaches_at}
 
 first_behind : {X : Type 0} (end_of : X → Option (List ℕ)) (xs : List X) (place : ℕ) (x : X) → slice_get xs place ≡ Some x → end_of x ≡ first_end (drop place (map end_of xs))
@@ -24,6 +26,17 @@ end_there end_of xs place x h e = first_behind end_of xs place x (slice_get_read
 any_with_ends : {A : Type 0} (cs : List (Command A)) (ends : List (Option (List ℕ))) → list_any is_ranged cs ≡ list_any is_ranged (with_ends cs ends)
 any_with_ends [] ends = refl
 any_with_ends (c ∷ cs) ends = rw (ranged-with_end (first_end ends) c, any_with_ends cs (drop 1 ends)) refl
+
+-- what a command gives or takes it gives or takes with any end
+gives-with_end : {A : Type 0} (end : Option (List ℕ)) (c : Command A) → gives (with_end end c) ≡ gives c
+gives-with_end None c = refl
+gives-with_end (Some end) (Scan lo hi limit) = refl
+gives-with_end (Some end) _ = refl
+
+empties-with_end : {A : Type 0} (upto end : Option (List ℕ)) (c : Command A) → empties upto (with_end end c) ≡ empties upto c
+empties-with_end upto None c = refl
+empties-with_end upto (Some end) (Scan lo hi limit) = refl
+empties-with_end upto (Some end) _ = refl
 
 -- a batch of these commands with these ends
 module _ {A : Type 0} (cs : List (Command A)) (ends : List (Option (List ℕ))) (batch : List (Command A)) (same : with_ends cs ends ≡ batch) where
@@ -50,6 +63,12 @@ module _ {A : Type 0} (cs : List (Command A)) (ends : List (Option (List ℕ))) 
 
   pub ranged_there : (place : ℕ) (c : Command A) → place < length cs → c ≡ get_or cs place c → is_ranged c ≡ is_ranged_at batch place
   ranged_there place c h e = rw (there place c h e) (sym (ranged-with_end (first_end (drop place ends)) c))
+
+  pub gives_there : (place : ℕ) (c : Command A) → place < length cs → c ≡ get_or cs place c → gives c ≡ gives_at batch place
+  gives_there place c h e = rw (there place c h e) (sym (gives-with_end (first_end (drop place ends)) c))
+
+  pub empties_there : (upto : Option (List ℕ)) (place : ℕ) (c : Command A) → place < length cs → c ≡ get_or cs place c → empties upto c ≡ empties_at batch upto place
+  empties_there upto place c h e = rw (there place c h e) (sym (empties-with_end upto (first_end (drop place ends)) c))
 
   -- it reaches a page where the command does with this end
   pub reaches_there : (low : List ℕ) (end : Option (List ℕ)) (place : ℕ) (c : Command A) → end ≡ first_end (drop place ends) → place < length cs → c ≡ get_or cs place c → reaches low (with_end end c) ≡ reaches_at batch low place

@@ -1,7 +1,7 @@
 -- The shares of a level's pages, each in the order of the batch, are the routes to them.
-use Rattle.std.specs.Prelude.{◌≡◌, ℕ, ◌+◌, ◌<◌, Bool, true, false, ◌&&◌, ◌||◌, cond, List, [], ◌∷◌, ◌++◌, map, length, take, slice_get, Option, Some, None}
+use Rattle.std.specs.Prelude.{◌≡◌, ℕ, ◌+◌, ◌<◌, Bool, ◌&&◌, ◌||◌, List, [], ◌∷◌, ◌++◌, length, take, slice_get, Option, Some, None}
 use Rattle.std.proofs.Common.{refl, sym, ap, subst, ◌∙◌, get_or, arith}
-use Rattle.std.specs.List.{AllByRecursion, filter}
+use Rattle.std.specs.List.{filter}
 use Rattle.std.specs.List.Sorted.{IsPermutation, IsNonDecreasing}
 use Rattle.std.proofs.lemmas.List.{map-append, take_more}
 use Rattle.std.proofs.lemmas.List.Sorted.{IsPermutation-refl, IsPermutation-trans, IsPermutation-append_comm}
@@ -10,17 +10,15 @@ use Rattle.keys.specs.CommandKey.{key_of}
 use Rattle.keys.specs.Places.{is_some_that}
 use Rattle.keys.specs.declared.command.Command.{Command}
 use Rattle.index_page.specs.Range.{is_within}
-use Rattle.index_page.specs.Children.{Place}
-use Rattle.index_page.proofs.ListLemmas.{all-filter}
 use Rattle.mapping.specs.FreshPids.{is_among}
 use Rattle.routing.specs.BatchKeys.{key_or_empty}
 use Rattle.routing.specs.Keyed.{Keyed, places_of}
-use Rattle.routing.specs.Routes.{places_within, Route, route_to, has_some, has_places}
+use Rattle.routing.specs.Routes.{Route, has_some}
 use Rattle.routing.specs.SortedPlaces.{order_of_places, AreSortedPlaces, begins_in, reaches, reaches_at, AreSortedWithin, AreSortedReaching}
-use Rattle.routing.specs.Shares.{Share, all_of, has_any, Lent, share_of_lent, lent_shares, HasEachPlaceOnce, is_in_range, share_of, shares, IsInBatchOrder, AreInBatchOrder}
+use Rattle.routing.specs.Shares.{Share, all_of, Lent, share_of_lent, lent_shares, is_in_range, shares, IsInBatchOrder, AreInBatchOrder}
 use Rattle.routing.proofs.RouteLemmas.{among-places, within_all}
 use Rattle.routing.proofs.SortLemmas.{among_itself}
-use Rattle.routing.proofs.SliceLemmas.{sorted_within_all, distinct, among-filter, among_both, both_in_order, in_batch_order}
+use Rattle.routing.proofs.SliceLemmas.{sorted_within_all, among-filter}
 
 -- one more, behind the others
 pub order-push : (ss : List Share) (os : List Route) (s : Share) (o : Route) → AreInBatchOrder ss os → IsInBatchOrder s o → AreInBatchOrder (ss ++ s ∷ []) (os ++ o ∷ [])
@@ -67,25 +65,17 @@ order_of_one l ks rs d o e f h k p n =
     }
 
 -- lists that have the same among them are both empty, or neither is
-same_some : (xs ys : List ℕ) → ((n : ℕ) → is_among n xs ≡ is_among n ys) → has_some xs ≡ has_some ys
+pub same_some : (xs ys : List ℕ) → ((n : ℕ) → is_among n xs ≡ is_among n ys) → has_some xs ≡ has_some ys
 same_some [] [] e = refl
 same_some [] (y ∷ ys) e = absurd (let h = among_itself y ys in let g = e y in cc)
 same_some (x ∷ xs) [] e = absurd (let h = among_itself x xs in let g = e x in cc)
 same_some (x ∷ xs) (y ∷ ys) e = refl
 
-some_of_both : (xs ys : List ℕ) → (has_some xs || has_some ys) ≡ has_some (ys ++ xs)
+pub some_of_both : (xs ys : List ℕ) → (has_some xs || has_some ys) ≡ has_some (ys ++ xs)
 some_of_both [] [] = refl
 some_of_both [] (y ∷ ys) = refl
 some_of_both (x ∷ xs) [] = refl
 some_of_both (x ∷ xs) (y ∷ ys) = refl
-
-routes_by : (b c : Bool) (s : Share) (r : Route) (ss : List Share) (os ts : List Route) → b ≡ c → ((o : Route) → IsInBatchOrder s o → o ≡ r) → AreInBatchOrder (cond b (s ∷ ss) ss) os
-    → ((us : List Route) → AreInBatchOrder ss us → us ≡ ts) → os ≡ cond c (r ∷ ts) ts
-routes_by true false s r ss os ts e f a ih = absurd (cc)
-routes_by false true s r ss os ts e f a ih = absurd (cc)
-routes_by true true s r ss [] ts e f a ih = absurd a
-routes_by true true s r ss (o ∷ os) ts e f a ih = ap (λ (x : Route). x ∷ os) (f o a.0) ∙ ap (λ (us : List Route). r ∷ us) (ih os a.1)
-routes_by false false s r ss os ts e f a ih = ih os a
 
 module _ {A : Type 0} (cs : List (Command A)) where
   own_by : (o : Option (Command A)) (low : List ℕ) (end : Option (List ℕ)) (n : ℕ) → slice_get cs n ≡ o → (is_some_that (begins_in [] None) o && is_in_range cs low end n) ≡ is_some_that (begins_in low end) o
@@ -122,31 +112,3 @@ module _ {A : Type 0} (cs : List (Command A)) where
         ∙ sym (among-places n (reaches low) cs);
     in_order = IsStrictlySortedBy-filter (order_of_places cs) (reaches_at cs low) ps h.in_order;
   }
-
-  abbrev routes_to : List Place → List Route
-  routes_to ats = filter has_places (map (route_to cs) ats)
-
-  -- the shares, each in the order of the batch, are the routes
-  pub routes_of_shares : (ats : List Place) (ps : List ℕ) → AreSortedPlaces cs ps → (os : List Route) → AreInBatchOrder (shares cs ps ats) os → os ≡ routes_to ats
-  routes_of_shares [] ps h [] a = refl
-  routes_of_shares [] ps h (o ∷ os) a = absurd a
-  routes_of_shares (at ∷ ats) ps h os a =
-      let s : Share = share_of cs ps at in
-      let own = sorted_in_range at.low at.end ps h in
-      let reaching = sorted_reaching at.low ps h in
-      let here = places_within at.low at.end cs in
-      let route : ℕ → List ℕ → Route = λ pid qs. record { pid = pid; places = qs } in
-      routes_by (has_any s) (has_some here) s (route_to cs at) (shares cs ps ats) os (routes_to ats)
-      (some_of_both s.own s.reaching ∙ same_some (all_of s) here (among_both cs at.low at.end s.reaching s.own reaching own))
-      (λ o b. ap (λ (pid : ℕ). route pid o.places) b.pid ∙ ap (λ (qs : List ℕ). route at.pid qs) (in_batch_order cs at.low at.end s.reaching s.own o.places reaching own b.same b.rising))
-      a (routes_of_shares ats ps h)
-
-  once_in_range : (ats : List Place) (ps : List ℕ) → AreSortedPlaces cs ps → AllByRecursion HasEachPlaceOnce (map (share_of cs ps) ats)
-  once_in_range [] ps h = tt
-  once_in_range (at ∷ ats) ps h =
-      let s : Share = share_of cs ps at in
-      (distinct cs (all_of s) (both_in_order cs at.low at.end s.reaching s.own (sorted_reaching at.low ps h) (sorted_in_range at.low at.end ps h)), once_in_range ats ps h)
-
-  -- of sorted places, no share has one twice
-  pub once-shares : (ats : List Place) (ps : List ℕ) → AreSortedPlaces cs ps → AllByRecursion HasEachPlaceOnce (shares cs ps ats)
-  once-shares ats ps h = all-filter HasEachPlaceOnce has_any (map (share_of cs ps) ats) (once_in_range ats ps h)

@@ -1,5 +1,5 @@
 -- Lemmas on the way of shares down the levels of a tree, for the proofs of this crate.
-use Rattle.std.specs.Prelude.{◌≡◌, ℕ, zero, suc, pred, ◌+◌, ◌-◌, ◌<◌, Bool, true, false, not, ◌&&◌, ◌||◌, cond, List, [], ◌∷◌, ◌++◌, map, flat_map, length, drop, slice_get, Option, Some, None}
+use Rattle.std.specs.Prelude.{◌≡◌, ℕ, zero, suc, pred, ◌+◌, ◌-◌, ◌<◌, Bool, true, false, not, ◌&&◌, ◌||◌, List, [], ◌∷◌, ◌++◌, map, flat_map, length, drop, slice_get, Option, Some, None}
 use Rattle.std.proofs.Common.{refl, sym, ap, ◌∙◌, subst, arith, append_assoc, get_or, inl, inr}
 use Rattle.std.specs.List.{AllByRecursion, filter}
 use Rattle.std.specs.Map.{keys_of, values_of}
@@ -14,30 +14,28 @@ use Rattle.index_page.specs.Page.{PageOfKind}
 use Rattle.index_page.specs.Page.PageOfKind.{Index}
 use Rattle.index_page.specs.Range.{is_below, is_before, is_within, AreFrom, AreBefore, IsBefore}
 use Rattle.index_page.specs.Rules.{IsHeaded}
-use Rattle.index_page.specs.Children.{Place, children, child_entries, HasChildFor}
+use Rattle.index_page.specs.Children.{children}
 use Rattle.index_page.proofs.ListLemmas.{all_weaker}
 use Rattle.index_page.proofs.PageLemmas.{all_keys_entries}
 use Rattle.index_page.proofs.RangeLemmas.{below_is_less, less_is_below, less_through, low_through}
-use Rattle.index_page.proofs.ChildLemmas.{next_key, children-cons, children-append, within_parts}
+use Rattle.index_page.proofs.ChildLemmas.{within_parts}
 use Rattle.mapping.specs.FreshPids.{is_among}
 use Rattle.keys.proofs.MapLemmas.{total}
 use Rattle.mapping.specs.Tree.{Tree, page_at}
 use Rattle.mapping.specs.Levels as levels
 use Rattle.mapping.specs.Levels.{Placed, Levels, joined, name, names, as_index, leaf_at, index_at, levels_below, levels_of, first_pid, top_pid}
 use Rattle.mapping.specs.Proper.{next_low, IsTile, Tiled, Stacked, AreLevels, HasIndexPages, HoldsLevels}
-use Rattle.mapping.proofs.TileLemmas.{Names, next_names, next_low-parents, rising-tile}
+use Rattle.mapping.proofs.TileLemmas.{Names, next_low-parents}
 use Rattle.mapping.proofs.LevelLemmas.{values_of-names, index_pages_found}
-use Rattle.mapping.proofs.Joined.{next_joined}
 use Rattle.routing.specs.BatchKeys.{key_or_empty, key_at}
-use Rattle.routing.specs.Routes.{Route, has_some, ranges, routes}
-use Rattle.routing.proofs.BatchOrder.{routes_of_shares}
-use Rattle.routing.specs.SortedPlaces.{order_of_places, AreInKeyOrder, AreSortedPlaces, reaches_page, reaches, reaches_at}
+use Rattle.routing.specs.SortedPlaces.{order_of_places, AreInKeyOrder, reaches_page, reaches, reaches_at}
 use Rattle.routing.specs.Keyed.{AreKeyed}
-use Rattle.routing.specs.Shares.{Share, all_of, Lent, share_of_lent, lent_shares, AreKeyedShares, is_in_range, shares, shares_below, CanHandDownShare, index_under, IsReadyShare, AreReadyShares, share_below, AreInBatchOrder}
+use Rattle.routing.specs.Shares.{Share, all_of, Lent, share_of_lent, lent_shares, is_in_range, shares, shares_below, without_idle, CanHandDownShare, index_under, IsReadyShare, AreReadyShares, share_below}
 use Rattle.routing.proofs.RouteLemmas.{among-append}
+use Rattle.routing.proofs.IdleLemmas.{same_idle}
 use Rattle.routing.proofs.SortLemmas.{total_places, same_place, same_sorted}
 use Rattle.routing.proofs.SliceLemmas.{reaching_below, among-filter, in_order-append, none_pass}
-use Rattle.routing.proofs.ShareLemmas.{share_taken, shares-append, no_shares, filter_twice, all_passed, same_share}
+use Rattle.routing.proofs.ShareLemmas.{share_taken, filter_twice, all_passed, same_share}
 
 -- ---- a range within another
 
@@ -80,7 +78,7 @@ before_high : (end : Option (List ℕ)) (k f : List ℕ) → IsBefore end f → 
 before_high None k f h b = refl
 before_high (Some hi) k f h b = less_is_below k hi (total.trans k f hi (below_is_less k f b) h)
 
-second_before : (end : Option (List ℕ)) (e f : List ℕ × ℕ) (es : Names) → AreBefore end (keys_of (e ∷ f ∷ es)) → IsBefore end f.0 × AreBefore end (keys_of (f ∷ es))
+pub second_before : (end : Option (List ℕ)) (e f : List ℕ × ℕ) (es : Names) → AreBefore end (keys_of (e ∷ f ∷ es)) → IsBefore end f.0 × AreBefore end (keys_of (f ∷ es))
 second_before None e f es a = (tt, tt)
 second_before (Some hi) e f es a = (below_is_less f.0 hi a.1.0, a.1)
 
@@ -96,7 +94,7 @@ before_low : (hi : Option (List ℕ)) (low e : List ℕ) → is_below e low ≡ 
 before_low None low e n h = refl
 before_low (Some hi) low e n h = less_is_below low hi (low_through low e hi n (below_is_less e hi h))
 
-entry_before : (end : Option (List ℕ)) (e : List ℕ × ℕ) (es : Names) → AreBefore end (keys_of (e ∷ es)) → IsBefore end e.0
+pub entry_before : (end : Option (List ℕ)) (e : List ℕ × ℕ) (es : Names) → AreBefore end (keys_of (e ∷ es)) → IsBefore end e.0
 entry_before None e es a = tt
 entry_before (Some hi) e es a = below_is_less e.0 hi a.0
 
@@ -114,34 +112,29 @@ module _ {A : Type 0} (cs : List (Command A)) (low : List ℕ) (end : Option (Li
   span_reaches_child e (One k) n m h = absurd (cc)
   span_reaches_child e (Range lo hi) n m h = let p = and_parts (is_below lo e) (is_before hi e) h in scan_by (is_below lo low) e lo hi refl n m p.0 p.1
 
-  reaches_child : (e : List ℕ) (o : Option (Command A)) → is_below e low ≡ false → IsBefore end e → is_some_that (reaches e) o ≡ true → (is_some_that (reaches low) o || is_within low end (key_or_empty o)) ≡ true
+  pub reaches_child : (e : List ℕ) (o : Option (Command A)) → is_below e low ≡ false → IsBefore end e → is_some_that (reaches e) o ≡ true → (is_some_that (reaches low) o || is_within low end (key_or_empty o)) ≡ true
   reaches_child e None n m h = absurd (cc)
   reaches_child e (Some c) n m h = span_reaches_child e (span_of c) n m h
 
   -- what reaches a child reaches its page or begins in it
-  reaching_narrowed : (e : List ℕ × ℕ) (es : Names) (ps : List ℕ) → AreFrom low (keys_of (e ∷ es)) → AreBefore end (keys_of (e ∷ es)) → filter (reaches_at cs e.0) ps ≡ filter (reaches_at cs e.0) (filter gets ps)
+  pub reaching_narrowed : (e : List ℕ × ℕ) (es : Names) (ps : List ℕ) → AreFrom low (keys_of (e ∷ es)) → AreBefore end (keys_of (e ∷ es)) → filter (reaches_at cs e.0) ps ≡ filter (reaches_at cs e.0) (filter gets ps)
   reaching_narrowed e es ps a b =
       filter_twice (reaches_at cs e.0) gets (reaches_at cs e.0)
       (λ q. only_of (reaches_at cs e.0 q) (gets q) (reaches_child e.0 (slice_get cs q) a.0 (entry_before end e es b))) ps
 
-  child_above : (e : List ℕ) (q : ℕ) → is_below e low ≡ false → reaches_at cs low q ≡ true → is_below (key_at cs q) e ≡ true
+  pub child_above : (e : List ℕ) (q : ℕ) → is_below e low ≡ false → reaches_at cs low q ≡ true → is_below (key_at cs q) e ≡ true
   child_above e q n h = below_child (key_at cs q) low e (reaching_below cs low q h) n
 
-  -- the children of a page get the same of all places as of the page's own
-  pub shares-narrowed : (es : Names) (ps : List ℕ) → AreFrom low (keys_of es) → AreBefore end (keys_of es) → shares cs ps (children es end) ≡ shares cs (filter gets ps) (children es None)
-  shares-narrowed [] ps a b = refl
-  shares-narrowed (e ∷ []) ps a b =
-      same_share e.1 (filter (is_in_range cs e.0 end) ps) (filter (is_in_range cs e.0 None) (filter gets ps)) (filter (reaches_at cs e.0) ps) (filter (reaches_at cs e.0) (filter gets ps)) [] []
-      (filter_twice (is_in_range cs e.0 end) gets (is_in_range cs e.0 None)
-      (λ q. narrowed_last (is_below (key_at cs q) e.0) (is_below (key_at cs q) low) (is_before end (key_at cs q)) (reaches_at cs low q) (from_low (key_at cs q) low e.0 a.0) (child_above e.0 q a.0)) ps)
-      (reaching_narrowed e [] ps a b) refl
-  shares-narrowed (e ∷ f ∷ es) ps a b =
-      let s = second_before end e f es b in
-      same_share e.1 (filter (is_in_range cs e.0 (Some f.0)) ps) (filter (is_in_range cs e.0 (Some f.0)) (filter gets ps)) (filter (reaches_at cs e.0) ps) (filter (reaches_at cs e.0) (filter gets ps)) (shares cs ps (children (f ∷ es) end)) (shares cs (filter gets ps) (children (f ∷ es) None))
-      (filter_twice (is_in_range cs e.0 (Some f.0)) gets (is_in_range cs e.0 (Some f.0))
-      (λ q. narrowed (is_below (key_at cs q) e.0) (is_below (key_at cs q) low) (is_below (key_at cs q) f.0) (is_before end (key_at cs q)) (reaches_at cs low q) (from_low (key_at cs q) low e.0 a.0) (before_high end (key_at cs q) f.0 s.0) (child_above e.0 q a.0)) ps)
-      (reaching_narrowed e (f ∷ es) ps a b)
-      (shares-narrowed (f ∷ es) ps a.1 s.1)
+  -- what begins in a child begins in its page
+  pub last_narrowed : (e : List ℕ × ℕ) (ps : List ℕ) → AreFrom low (keys_of (e ∷ [])) → filter (is_in_range cs e.0 end) ps ≡ filter (is_in_range cs e.0 None) (filter gets ps)
+  last_narrowed e ps a =
+      filter_twice (is_in_range cs e.0 end) gets (is_in_range cs e.0 None)
+      (λ q. narrowed_last (is_below (key_at cs q) e.0) (is_below (key_at cs q) low) (is_before end (key_at cs q)) (reaches_at cs low q) (from_low (key_at cs q) low e.0 a.0) (child_above e.0 q a.0)) ps
+
+  pub own_narrowed : (e f : List ℕ × ℕ) (es : Names) (ps : List ℕ) → AreFrom low (keys_of (e ∷ f ∷ es)) → IsBefore end f.0 → filter (is_in_range cs e.0 (Some f.0)) ps ≡ filter (is_in_range cs e.0 (Some f.0)) (filter gets ps)
+  own_narrowed e f es ps a l =
+      filter_twice (is_in_range cs e.0 (Some f.0)) gets (is_in_range cs e.0 (Some f.0))
+      (λ q. narrowed (is_below (key_at cs q) e.0) (is_below (key_at cs q) low) (is_below (key_at cs q) f.0) (is_before end (key_at cs q)) (reaches_at cs low q) (from_low (key_at cs q) low e.0 a.0) (before_high end (key_at cs q) f.0 l) (child_above e.0 q a.0)) ps
 
   both_by : (a r i : Bool) → (a && (r || i)) ≡ ((a && r) || (a && i))
   both_by true r i = refl
@@ -163,6 +156,27 @@ module _ {A : Type 0} (cs : List (Command A)) (low : List ℕ) (end : Option (Li
       (all_weaker (λ q. is_in_range cs low end q ≡ true) (λ q. is_below (key_at cs q) low ≡ false) (λ q h. (within_parts low end (key_at cs q) h).0) qs (all_passed (is_in_range cs low end) ps))
       (sorted (reaches_at cs low)) (sorted (is_in_range cs low end)))
 
+module _ {A : Type 0} (cs : List (Command A)) (low : List ℕ) where
+  abbrev got : ℕ → Bool
+  got = gets cs low None
+
+  -- the children of a page without an end get the same of all places as of the page's own
+  pub shares-narrowed : (es : Names) (ps : List ℕ) → AreFrom low (keys_of es) → shares cs ps (children es None) ≡ shares cs (filter got ps) (children es None)
+  shares-narrowed [] ps a = refl
+  shares-narrowed (e ∷ []) ps a =
+      let qs = filter got ps in
+      let own = last_narrowed cs low None e ps a in
+      same_share e.1 (filter (is_in_range cs e.0 None) ps) (filter (is_in_range cs e.0 None) qs)
+      (without_idle cs None (filter (is_in_range cs e.0 None) ps) (filter (reaches_at cs e.0) ps)) (without_idle cs None (filter (is_in_range cs e.0 None) qs) (filter (reaches_at cs e.0) qs)) [] []
+      own (same_idle cs None (filter (is_in_range cs e.0 None) ps) (filter (is_in_range cs e.0 None) qs) (filter (reaches_at cs e.0) ps) (filter (reaches_at cs e.0) qs) own (reaching_narrowed cs low None e [] ps a tt)) refl
+  shares-narrowed (e ∷ f ∷ es) ps a =
+      let qs = filter got ps in
+      let own = own_narrowed cs low None e f es ps a tt in
+      same_share e.1 (filter (is_in_range cs e.0 (Some f.0)) ps) (filter (is_in_range cs e.0 (Some f.0)) qs)
+      (without_idle cs (Some f.0) (filter (is_in_range cs e.0 (Some f.0)) ps) (filter (reaches_at cs e.0) ps)) (without_idle cs (Some f.0) (filter (is_in_range cs e.0 (Some f.0)) qs) (filter (reaches_at cs e.0) qs)) (shares cs ps (children (f ∷ es) None)) (shares cs qs (children (f ∷ es) None))
+      own (same_idle cs (Some f.0) (filter (is_in_range cs e.0 (Some f.0)) ps) (filter (is_in_range cs e.0 (Some f.0)) qs) (filter (reaches_at cs e.0) ps) (filter (reaches_at cs e.0) qs) own (reaching_narrowed cs low None e (f ∷ es) ps a tt))
+      (shares-narrowed (f ∷ es) ps a.1)
+
 -- ---- a level of index pages
 
 -- the level's pages are the table's, each has a child, the first at its own low key, and they tile the keys up to the end
@@ -172,14 +186,8 @@ pub record IsIndexLevel (pages : List (ℕ × PageOfKind)) (end : Option (List �
   pub tiled : Tiled up end
 
 module _ {A : Type 0} (cs : List (Command A)) (pages : List (ℕ × PageOfKind)) where
-  found_under : (p : Placed ℕ) → page_at pages p.pid ≡ Some (Index p.page) → index_under pages p.pid ≡ Index p.page
+  pub found_under : (p : Placed ℕ) → page_at pages p.pid ≡ Some (Index p.page) → index_under pages p.pid ≡ Index p.page
   found_under p h = ap (λ (o : Option PageOfKind). Index (as_index o)) h
-
-  below-share : (pid : ℕ) (xs rs : List ℕ) (ss : List Share)
-      → (let s : Share = record { pid = pid; own = xs; reaching = rs } in flat_map (share_below pages cs) (cond (has_some xs || has_some rs) (s ∷ ss) ss) ≡ shares_below cs (index_under pages pid) (rs ++ xs) ++ flat_map (share_below pages cs) ss)
-  below-share pid [] [] ss = ap (λ (ts : List Share). ts ++ flat_map (share_below pages cs) ss) (sym (no_shares cs (children (child_entries (index_under pages pid)) None)))
-  below-share pid [] (r ∷ rs) ss = refl
-  below-share pid (x ∷ xs) rs ss = refl
 
   -- a share that is ready, of a page that is found
   ready_now : (s : Share) (page : PageOfKind) → IsReadyShare pages cs s → Some page ≡ page_at pages s.pid → (page ≡ index_under pages s.pid) × CanHandDownShare cs page s
@@ -223,79 +231,9 @@ module _ {A : Type 0} (cs : List (Command A)) (pages : List (ℕ × PageOfKind))
       level_step old new (drop (i + 1) all) l page whole (ready_now (share_of_lent l) page (share_taken (IsReadyShare pages cs) all i d l w t a.each) (e ∙ ap (λ (m : ℕ). page_at pages m) q)).0 n now
 
   -- the entries of a page before an end
-  entries_before : (end : Option (List ℕ)) (p : Placed ℕ) → IsTile end p → AreBefore end (keys_of (levels.entries p))
+  pub entries_before : (end : Option (List ℕ)) (p : Placed ℕ) → IsTile end p → AreBefore end (keys_of (levels.entries p))
   entries_before None p t = tt
   entries_before (Some hi) p t = all_keys_entries (λ j. is_below j hi ≡ true) p.page t.keys.before
-
-  -- the shares of a level's pages, handed down, are those of the pages below
-  pub shares-below : (up : List (Placed ℕ)) (end : Option (List ℕ)) (ps : List ℕ) → AreInKeyOrder cs ps → IsIndexLevel pages end up → flat_map (share_below pages cs) (shares cs ps (children (names up) end)) ≡ shares cs ps (children (joined up) end)
-  shares-below [] end ps o l = refl
-  shares-below (p ∷ up) end ps o l =
-      let next : Option (List ℕ) = next_low up end in
-      let own : List ℕ = filter (is_in_range cs p.page.low next) ps in
-      let reaching : List ℕ = filter (reaches_at cs p.page.low) ps in
-      let rest : List Share = shares cs ps (children (names up) end) in
-      let es : Names = levels.entries p in
-      let tile : IsTile next p = l.tiled.0 in
-      let later : IsIndexLevel pages end up = record { held = l.held.1; headed = l.headed.1; tiled = l.tiled.1 } in
-      let narrow : shares cs ps (children es next) ≡ shares cs (reaching ++ own) (children es None) =
-      shares-narrowed cs p.page.low next es ps (all_keys_entries (λ j. is_below j p.page.low ≡ false) p.page tile.keys.from) (entries_before next p tile)
-      ∙ ap (λ (qs : List ℕ). shares cs qs (children es None)) (gets_parted cs p.page.low next ps o) in
-      ap (λ (ats : List Place). flat_map (share_below pages cs) (shares cs ps ats)) (children-cons (name p) (names up) end)
-      ∙ ap (λ (x : Option (List ℕ)). flat_map (share_below pages cs) (shares cs ps ((let at : Place = record { pid = p.pid; low = p.page.low; end = x } in at) ∷ children (names up) end))) (next_names up end)
-      ∙ below-share p.pid own reaching rest
-      ∙ ap (λ (page : PageOfKind). shares_below cs page (reaching ++ own) ++ flat_map (share_below pages cs) rest) (found_under p l.held.0)
-      ∙ ap (λ (rs : List Share). rs ++ flat_map (share_below pages cs) rest) (sym narrow)
-      ∙ ap (λ (rs : List Share). shares cs ps (children es next) ++ rs) (shares-below up end ps o later)
-      ∙ ap (λ (x : Option (List ℕ)). shares cs ps (children es x) ++ shares cs ps (children (joined up) end)) (sym (next_joined up end l.headed.1))
-      ∙ sym (shares-append cs ps (children es (next_key (joined up) end)) (children (joined up) end))
-      ∙ ap (λ (ats : List Place). shares cs ps ats) (sym (children-append es (joined up) end))
-
-  ready_by : (b : Bool) (s : Share) (ss : List Share) → IsReadyShare pages cs s → AllByRecursion (IsReadyShare pages cs) ss → AllByRecursion (IsReadyShare pages cs) (cond b (s ∷ ss) ss)
-  ready_by true s ss h a = (h, a)
-  ready_by false s ss h a = a
-
-  -- the share of a page can be handed down
-  ready_page : (p : Placed ℕ) (end : Option (List ℕ)) (ps : List ℕ) → page_at pages p.pid ≡ Some (Index p.page) → IsHeaded 1 p.page → IsTile end p → AreInKeyOrder cs ps
-      → (let s : Share = record { pid = p.pid; own = filter (is_in_range cs p.page.low end) ps; reaching = filter (reaches_at cs p.page.low) ps } in IsReadyShare pages cs s)
-  ready_page p end ps held headed tile o =
-      let own : List ℕ = filter (is_in_range cs p.page.low end) ps in
-      let reaching : List ℕ = filter (reaches_at cs p.page.low) ps in
-      let s : Share = record { pid = p.pid; own = own; reaching = reaching } in
-      let some : 0 < length (child_entries (Index p.page)) = let n = headed.some in omega arith in
-      let has : (q : ℕ) → is_in_range cs p.page.low end q ≡ true → HasChildFor (Index p.page) (key_at cs q) =
-      λ q h. (some, subst (λ (k : List ℕ). is_below (key_at cs q) k ≡ false) (sym headed.first) (within_parts p.page.low end (key_at cs q) h).0) in
-      let can : CanHandDownShare cs (Index p.page) s = record {
-        own = record {
-          in_order = IsStrictlySortedBy-filter (order_of_places cs) (is_in_range cs p.page.low end) ps o;
-          rising = rising-tile end p tile;
-          each = all_weaker (λ q. is_in_range cs p.page.low end q ≡ true) (λ q. HasChildFor (Index p.page) (key_at cs q)) has own (all_passed (is_in_range cs p.page.low end) ps);
-        };
-        some = some;
-        first = headed.first;
-        reach = all_passed (reaches_at cs p.page.low) ps;
-      } in
-      record {
-        held = held ∙ ap (λ (page : PageOfKind). Some page) (sym (found_under p held));
-        share = subst (λ (page : PageOfKind). CanHandDownShare cs page s) (sym (found_under p held)) can;
-      }
-
-  -- and so can those of all pages of a level
-  pub ready_level : (up : List (Placed ℕ)) (end : Option (List ℕ)) (ps : List ℕ) → IsIndexLevel pages end up → AreInKeyOrder cs ps → AllByRecursion (IsReadyShare pages cs) (shares cs ps (children (names up) end))
-  ready_level [] end ps l o = tt
-  ready_level (p ∷ up) end ps l o =
-      let next : Option (List ℕ) = next_low up end in
-      let own : List ℕ = filter (is_in_range cs p.page.low next) ps in
-      let reaching : List ℕ = filter (reaches_at cs p.page.low) ps in
-      let s : Share = record { pid = p.pid; own = own; reaching = reaching } in
-      let rest : List Share = shares cs ps (children (names up) end) in
-      let later : IsIndexLevel pages end up = record { held = l.held.1; headed = l.headed.1; tiled = l.tiled.1 } in
-      let some : Bool = has_some own || has_some reaching in
-      let both : AllByRecursion (IsReadyShare pages cs) (cond some (s ∷ rest) rest) = ready_by some s rest (ready_page p next ps l.held.0 l.headed.0 l.tiled.0 o) (ready_level up end ps later o) in
-      let e : shares cs ps (children (names (p ∷ up)) end) ≡ cond some (s ∷ rest) rest =
-      ap (λ (ats : List Place). shares cs ps ats) (children-cons (name p) (names up) end)
-      ∙ ap (λ (x : Option (List ℕ)). shares cs ps ((let at : Place = record { pid = p.pid; low = p.page.low; end = x } in at) ∷ children (names up) end)) (next_names up end) in
-      subst (λ (ss : List Share). AllByRecursion (IsReadyShare pages cs) ss) (sym e) both
 
 -- ---- the levels of a tree, from the root down
 
@@ -386,39 +324,6 @@ module _ (t : Tree) (held : HoldsLevels t.pages (levels_of t)) (levels : AreLeve
   level_at i l =
       let b : i < length (levels_of t).above = rw above_height l in
       subst (λ (pid : ℕ). IsLevelAt t.pages pid i) root_is_top (index_level t.pages (levels_of t).level (levels_of t).above held.above levels.stacked levels.first i b)
-
-  module _ {A : Type 0} (cs : List (Command A)) (ps : List ℕ) where
-    abbrev SharesAt : ℕ → List Share
-    SharesAt i = shares cs ps (children (names_at t.pages t.root i) None)
-
-    by_names : (ns ms : Names) → ns ≡ ms → shares cs ps (children ns None) ≡ shares cs ps (children ms None)
-    by_names ns ms e = ap (λ (x : Names). shares cs ps (children x None)) e
-
-    -- the shares of a level, handed down, are those of the next
-    pub shares-next : (i : ℕ) (ss : List Share) → i < pred t.height → AreInKeyOrder cs ps → ss ≡ SharesAt i → flat_map (share_below t.pages cs) ss ≡ SharesAt (i + 1)
-    shares-next i ss l o e =
-        let here = level_at i l in
-        let n : suc i ≡ i + 1 = omega arith in
-        ap (λ (x : List Share). flat_map (share_below t.pages cs) x) (e ∙ by_names (names_at t.pages t.root i) (names here.level) here.named)
-        ∙ shares-below cs t.pages here.level None ps o here.known
-        ∙ by_names (joined here.level) (names_at t.pages t.root (suc i)) (sym here.below)
-        ∙ ap (λ (j : ℕ). SharesAt j) n
-
-    -- and they can be
-    shares-ready : (i : ℕ) (ss : List Share) → i < pred t.height → AreInKeyOrder cs ps → ss ≡ SharesAt i → AllByRecursion (IsReadyShare t.pages cs) ss
-    shares-ready i ss l o e =
-        let here = level_at i l in
-        subst (λ (x : List Share). AllByRecursion (IsReadyShare t.pages cs) x) (sym (e ∙ by_names (names_at t.pages t.root i) (names here.level) here.named)) (ready_level cs t.pages here.level None ps here.known o)
-
-    pub level_ready : (i : ℕ) (all : List Lent) → i < pred t.height → AreInKeyOrder cs ps → lent_shares all ≡ SharesAt i → AreKeyedShares cs all → AreReadyShares t.pages cs all
-    level_ready i all l o e k = record { each = shares-ready i (lent_shares all) l o e; keys = k }
-
-    -- the shares of the leaves, each in the order of the batch, are the routes
-    pub shares-last : (i : ℕ) (ss : List Share) (os : List Route) → i ≡ pred t.height → AreSortedPlaces cs ps → ss ≡ SharesAt i → AreInBatchOrder ss os → os ≡ routes (levels_of t).level cs
-    shares-last i ss os n s e a =
-        let last : ss ≡ shares cs ps (ranges (levels_of t).level) =
-        e ∙ ap (λ (j : ℕ). SharesAt j) n ∙ by_names (names_at t.pages t.root (pred t.height)) (names (levels_of t).level) names-leaves in
-        routes_of_shares cs (ranges (levels_of t).level) ps s os (subst (λ (x : List Share). AreInBatchOrder x os) last a)
 
 -- ---- numbers
 

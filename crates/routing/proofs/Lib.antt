@@ -2,8 +2,12 @@ pub mod PlaceLemmas
 mod BatchLemmas
 mod BatchOrder
 pub mod DescentLemmas
+mod IdleLemmas
+mod LevelShares
 pub mod RouteLemmas
 mod Rows
+pub mod RunLemmas
+mod RunsOfShares
 pub mod ShareLemmas
 pub mod SliceLemmas
 pub mod SortLemmas

@@ -131,7 +131,7 @@ among-places (suc n) passes (x ∷ xs) =
 
 -- ---- how often a place is among them
 
-abbrev count_of : ℕ → List ℕ → ℕ
+abbrev pub count_of : ℕ → List ℕ → ℕ
 count_of n ms = count_by (λ m. nat_eq m n) ms
 
 counted : (n : ℕ) (m : ℕ) (ms : List ℕ) → count_of n (m ∷ ms) ≡ cond (nat_eq m n) 1 0 + count_of n ms
@@ -167,7 +167,7 @@ count-places (suc n) passes (x ∷ xs) =
     later_counted_by (passes x) n (places_from 1 passes xs) ∙ ap (λ (is : List ℕ). count_of (suc n) is) (places_from-suc 0 passes xs) ∙ count-suc n (places_from 0 passes xs) ∙ count-places n passes xs
 
 -- what stands at a place that there is passes, where all do
-all_passed_at : {X : Type 0} (passes : X → Bool) → ((x : X) → passes x ≡ true) → (xs : List X) (n : ℕ) → n < length xs → is_some_that passes (slice_get xs n) ≡ true
+pub all_passed_at : {X : Type 0} (passes : X → Bool) → ((x : X) → passes x ≡ true) → (xs : List X) (n : ℕ) → n < length xs → is_some_that passes (slice_get xs n) ≡ true
 all_passed_at passes h [] n l = absurd (omega arith)
 all_passed_at passes h (x ∷ xs) zero l = h x
 all_passed_at passes h (x ∷ xs) (suc n) l = all_passed_at passes h xs n (omega arith)
@@ -247,7 +247,7 @@ meets_by_key : (low : List ℕ) (end : Option (List ℕ)) (s : Span) → is_rang
 meets_by_key low end (One k) s = refl
 meets_by_key low end (Range lo hi) s = absurd (cc)
 
-first_page : {V : Type 0} (p : Placed V) (ps : List (Placed V)) → next_low (p ∷ ps) None ≡ Some [] → p.page.low ≡ []
+pub first_page : {V : Type 0} (p : Placed V) (ps : List (Placed V)) → next_low (p ∷ ps) None ≡ Some [] → p.page.low ≡ []
 first_page p ps h = cc
 
 module _ {A : Type 0} where
@@ -278,7 +278,7 @@ module _ {A : Type 0} where
   all_kept cs ats = flat_map (λ r. r.places) (kept cs ats)
 
   -- a page to which no command goes adds nothing
-  all_kept-cons : (cs : List (Command A)) (at : Place) (ats : List Place) → all_kept cs (at ∷ ats) ≡ places_within at.low at.end cs ++ all_kept cs ats
+  pub all_kept-cons : (cs : List (Command A)) (at : Place) (ats : List Place) → all_kept cs (at ∷ ats) ≡ places_within at.low at.end cs ++ all_kept cs ats
   all_kept-cons cs at ats = kept_by at.pid (places_within at.low at.end cs) (kept cs ats)
 
   route_by : (cs : List (Command A)) (at : Place) (ats : List Place) (rs : List Route) (ns : List ℕ) → ns ≡ places_within at.low at.end cs → AreRoutesTo cs ats rs
@@ -318,11 +318,11 @@ module _ {A : Type 0} where
       ∙ sum_by-append (λ m. cond (nat_eq m n) 1 0) (places_within at.low at.end cs) (all_kept cs ats)
       ∙ ap (λ (m : ℕ). m + count_of n (all_kept cs ats)) (count-places n (goes_to at.low at.end) cs)
 
-  goes_where_begun : (low : List ℕ) (end : Option (List ℕ)) (o : Option (Command A)) → is_some_that (begins_in low end) o ≡ true → is_some_that (goes_to low end) o ≡ true
+  pub goes_where_begun : (low : List ℕ) (end : Option (List ℕ)) (o : Option (Command A)) → is_some_that (begins_in low end) o ≡ true → is_some_that (goes_to low end) o ≡ true
   goes_where_begun low end None h = absurd (cc)
   goes_where_begun low end (Some c) h = goes_as low end c ∙ rw h refl
 
-  begun_apart : (low mid : List ℕ) (end : Option (List ℕ)) (o : Option (Command A)) → order low mid ≡ Less → IsBefore end mid → is_some_that (begins_in low end) o ≡ true
+  pub begun_apart : (low mid : List ℕ) (end : Option (List ℕ)) (o : Option (Command A)) → order low mid ≡ Less → IsBefore end mid → is_some_that (begins_in low end) o ≡ true
       → (is_some_that (begins_in low (Some mid)) o ≡ true) ⊎ (is_some_that (begins_in mid end) o ≡ true)
   begun_apart low mid end None l m h = absurd (cc)
   begun_apart low mid end (Some c) l m h =

@@ -1,12 +1,15 @@
 -- Which commands go to which page: examples.
-use Rattle.std.specs.Prelude.{◌≡◌, ℕ, List, [], ◌∷◌, Some, None}
+use Rattle.std.specs.Prelude.{◌≡◌, ℕ, Bool, true, false, not, List, [], ◌∷◌, Some, None}
 use Rattle.std.proofs.Common.{refl}
 use Rattle.std.specs.declared.alloc.Global.{Global}
 use Rattle.keys.specs.declared.command.Command.{Command}
 use Rattle.keys.specs.declared.command.Command.TheVariants.{Get, Put, Add, Del, Scan, Wipe}
+use Rattle.index_page.specs.Children.{Place}
 use Rattle.index_page.specs.Page.{bare}
 use Rattle.mapping.specs.Levels.{Placed}
+use Rattle.routing.specs.Idle.{is_idle}
 use Rattle.routing.specs.Routes.{Route, routes}
+use Rattle.routing.specs.Runs.{IsRunOf}
 
 abbrev Commands : Type 0
 Commands = List (Command Global)
@@ -79,3 +82,51 @@ row_16_1 = Put (99 ∷ 97 ∷ []) (57 ∷ []) ∷ Wipe (98 ∷ []) (Some d) ∷ 
 
 row_16_1_goes : routes (leaf 0 [] ∷ leaf 1 c ∷ []) row_16_1 ≡ to 0 (1 ∷ 4 ∷ []) ∷ to 1 (0 ∷ 1 ∷ 2 ∷ 3 ∷ 4 ∷ []) ∷ []
 row_16_1_goes = refl
+
+-- ---- what is left out of a page's run
+
+-- a wipe of all, a scan of all, a put of d, and again a wipe of all
+abbrev wiped : Commands
+wiped = Wipe [] None ∷ Scan [] None 10 ∷ Put d (49 ∷ []) ∷ Wipe [] None ∷ []
+
+-- in the leaf from f to j nothing is put: the first wipe stays, and what comes after it is idle
+first_stays : is_idle wiped f (Some j) 0 ≡ false
+first_stays = refl
+
+scan_idle : is_idle wiped f (Some j) 1 ≡ true
+scan_idle = refl
+
+second_idle : is_idle wiped j None 3 ≡ true
+second_idle = refl
+
+-- in the leaf from c to f something is put, and in the first leaf all of it begins: there nothing is idle
+put_there : is_idle wiped c (Some f) 3 ≡ false
+put_there = refl
+
+begun_there : is_idle wiped [] (Some c) 3 ≡ false
+begun_there = refl
+
+-- a wipe up to j takes all of the leaf from f to j, one that ends sooner doesn't, nor does it take all of a leaf without an end
+up_to_the_end : is_idle {A = Global} (Wipe d (Some j) ∷ Scan [] None 10 ∷ []) f (Some j) 1 ≡ true
+up_to_the_end = refl
+
+ends_sooner : is_idle {A = Global} (Wipe d (Some (105 ∷ [])) ∷ Scan [] None 10 ∷ []) f (Some j) 1 ≡ false
+ends_sooner = refl
+
+no_end : is_idle {A = Global} (Wipe d (Some (122 ∷ [])) ∷ Scan [] None 10 ∷ []) j None 1 ≡ false
+no_end = refl
+
+-- a scan takes nothing away, and what stands before the wipe finds what was there
+before_the_wipe : is_idle {A = Global} (Scan [] None 10 ∷ Scan [] None 1 ∷ Wipe [] None ∷ []) f (Some j) 1 ≡ false
+before_the_wipe = refl
+
+out_only : (b : Bool) → not b ≡ false → b ≡ true
+out_only true h = refl
+out_only false h = absurd (cc)
+
+-- so the run of the leaf from f to j has the first wipe alone
+abbrev leaf_f : Place
+leaf_f = record { pid = 5; low = f; end = Some j }
+
+run_of_f : IsRunOf wiped leaf_f (to 5 (0 ∷ []))
+run_of_f = record { pid = refl; some = refl; keeps = λ p. not (is_idle wiped f (Some j) p); places = refl; idle = λ p h. out_only (is_idle wiped f (Some j) p) h }

@@ -21,9 +21,10 @@ use Rattle.routing.specs.BatchKeys.{key_at}
 use Rattle.routing.specs.Routes.{Route, has_some, has_places}
 use Rattle.routing.specs.SortedPlaces.{order_of_places, AreInKeyOrder, reaches_page, reaches, reaches_at}
 use Rattle.routing.specs.Keyed.{Keyed, places_of, AreKeyed, has_key_below}
-use Rattle.routing.specs.Shares.{Share, all_of, Lent, share_of_lent, lent_shares, AreKeyedShares, is_in_range, share_of, shares, root_shares, shares_below, ArePoints, is_met, CanHandDown, CanHandDownKeyed, CanHandDownShare}
+use Rattle.routing.specs.Shares.{Share, all_of, Lent, share_of_lent, lent_shares, AreKeyedShares, is_in_range, share_of, shares, shares_below, without_idle, ArePoints, is_met, CanHandDown, CanHandDownKeyed, CanHandDownShare}
 use Rattle.routing.proofs.RouteLemmas.{within_all}
-use Rattle.routing.proofs.SliceLemmas.{all_take, all_drop, earlier_below, sorted_drop, parted_by_key, none_reach_by}
+use Rattle.routing.proofs.IdleLemmas.{without_idle-nothing}
+use Rattle.routing.proofs.SliceLemmas.{all_take, all_drop, earlier_below, sorted_drop, parted_by_key}
 
 -- ---- filters
 
@@ -104,7 +105,7 @@ none_found_by : {X : Type 0} (f : X → Bool) (b : Bool) (x : X) (xs : List X) �
 none_found_by f true x xs e h g = absurd (cc)
 none_found_by f false x xs e h g = (e, g h)
 
-none_found : {X : Type 0} (f : X → Bool) (xs : List X) → list_any f xs ≡ false → AllByRecursion (λ y. f y ≡ false) xs
+pub none_found : {X : Type 0} (f : X → Bool) (xs : List X) → list_any f xs ≡ false → AllByRecursion (λ y. f y ≡ false) xs
 none_found f [] h = tt
 none_found f (x ∷ xs) h = none_found_by f (f x) x xs refl h (none_found f xs)
 
@@ -178,19 +179,13 @@ module _ {A : Type 0} (cs : List (Command A)) where
   none_begun [] = refl
   none_begun (at ∷ ats) = none_begun ats
 
-  -- the shares of the root
-  pub shares-root : (root : ℕ) (ps : List ℕ) → shares cs ps (children (([], root) ∷ []) None) ≡ root_shares root ps
-  shares-root root ps =
-      same_share root (filter (is_in_range cs [] None) ps) ps (filter (reaches_at cs []) ps) [] [] []
-      (filter_all (is_in_range cs [] None) ps (all_within ps)) (filter_none (reaches_at cs []) ps (none_reaching ps)) refl
+  -- all places begin in the range of all keys
+  pub all_begin : (ps : List ℕ) → filter (is_in_range cs [] None) ps ≡ ps
+  all_begin ps = filter_all (is_in_range cs [] None) ps (all_within ps)
     where
       all_within : (qs : List ℕ) → AllByRecursion (λ q. is_in_range cs [] None q ≡ true) qs
       all_within [] = tt
       all_within (q ∷ qs) = (within_all (key_at cs q), all_within qs)
-
-      none_reaching : (qs : List ℕ) → AllByRecursion (λ q. reaches_at cs [] q ≡ false) qs
-      none_reaching [] = tt
-      none_reaching (q ∷ qs) = (none_reach_by cs (slice_get cs q), none_reaching qs)
 
   -- ---- a batch without scans
 
@@ -213,8 +208,10 @@ module _ {A : Type 0} (cs : List (Command A)) where
   shares-begun : (ps : List ℕ) (ats : List Place) → ArePoints cs ps → shares cs ps ats ≡ map alone (begun cs ps ats)
   shares-begun ps [] h = refl
   shares-begun ps (at ∷ ats) h =
-      alone_by at.pid (filter (is_in_range cs at.low at.end) ps) (filter (reaches_at cs at.low) ps) (shares cs ps ats) (begun cs ps ats)
-      (filter_none (reaches_at cs at.low) ps (never_reaching at.low ps h)) (shares-begun ps ats h)
+      let own = filter (is_in_range cs at.low at.end) ps in
+      let reaching = filter (reaches_at cs at.low) ps in
+      alone_by at.pid own (without_idle cs at.end own reaching) (shares cs ps ats) (begun cs ps ats)
+      (without_idle-nothing cs at.end own reaching (filter_none (reaches_at cs at.low) ps (never_reaching at.low ps h))) (shares-begun ps ats h)
     where
       alone_by : (pid : ℕ) (xs rs : List ℕ) (ss : List Share) (ts : List Route) → rs ≡ [] → ss ≡ map alone ts
           → (let s : Share = record { pid = pid; own = xs; reaching = rs } in let r : Route = record { pid = pid; places = xs } in cond (has_some xs || has_some rs) (s ∷ ss) ss ≡ map alone (cond (has_some xs) (r ∷ ts) ts))

@@ -19,11 +19,12 @@ use Rattle.routing.specs.BatchKeys.{key_at}
 use Rattle.routing.specs.Routes.{has_some}
 use Rattle.routing.specs.SortedPlaces.{AreInKeyOrder, reaches_at}
 use Rattle.routing.specs.Keyed.{Keyed, places_of, AreKeyed}
-use Rattle.routing.specs.Shares.{Share, all_of, Lent, lent_shares, is_in_range, shares, shares_below, next_key, CanHandDownKeyed, CanHandDownShare}
+use Rattle.routing.specs.Shares.{Share, all_of, Lent, lent_shares, is_in_range, shares, shares_below, without_idle, next_key, CanHandDownKeyed, CanHandDownShare}
 use Rattle.routing.proofs.RouteLemmas.{or_true}
 use Rattle.routing.proofs.SliceLemmas.{IsBelowKey, IsFromKey, reaching_below}
 use Rattle.routing.proofs.ShareLemmas.{filter_all, filter_none, all_passed, no_shares, no_share, some_share, lent_is, push_share, from_first as places_from_first, before_end, all_places_of, keyed_take, keyed_drop, AreCutAt, none_cut, rest_keyed, part_is}
 use Rattle.routing.proofs.DescentLemmas.{gets, shares-narrowed}
+use Rattle.routing.proofs.IdleLemmas.{without_idle-nothing, same_idle, some_stay}
 
 -- ---- the children from a key on
 
@@ -205,31 +206,39 @@ module _ {A : Type 0} (cs : List (Command A)) where
   -- the first child gets what lies before its end, and what reaches it; the others get what is left over
   here : (e f : List ℕ × ℕ) (es : Names) (rs xs ys : List ℕ) → IsRising (e ∷ f ∷ es) → AllByRecursion (λ q. reaches_at cs e.0 q ≡ true) rs → AllByRecursion (IsFromKey cs e.0) (xs ++ ys) → AreParted (Some f.0) xs ys
       → (has_some xs || has_some rs) ≡ true
-      → (let s : Share = record { pid = e.1; own = xs; reaching = rs } in shares cs (rs ++ (xs ++ ys)) (children (e ∷ f ∷ es) None) ≡ s ∷ shares cs (left_over f.0 rs xs ys) (children (f ∷ es) None))
+      → (let s : Share = record { pid = e.1; own = xs; reaching = without_idle cs (Some f.0) xs rs } in shares cs (rs ++ (xs ++ ys)) (children (e ∷ f ∷ es) None) ≡ s ∷ shares cs (left_over f.0 rs xs ys) (children (f ∷ es) None))
   unfolding IsStrictlySortedBy
   here e f es rs xs ys i r a p s =
       let all = rs ++ (xs ++ ys) in
       let rest : shares cs all (children (f ∷ es) None) ≡ shares cs (left_over f.0 rs xs ys) (children (f ∷ es) None) =
-      shares-narrowed cs f.0 None (f ∷ es) all (from_first (f ∷ es) i.1) tt
+      shares-narrowed cs f.0 (f ∷ es) all (from_first (f ∷ es) i.1)
       ∙ ap (λ (qs : List ℕ). shares cs qs (children (f ∷ es) None)) (
       ap (λ (qs : List ℕ). filter (gets cs f.0 None) qs) (sym (append_assoc rs xs ys))
       ∙ gets_on f.0 (rs ++ xs) ys (below_end e f rs xs i.0.0 r p.before) p.behind) in
-      some_share e.1 (filter (is_in_range cs e.0 (Some f.0)) all) xs (filter (reaches_at cs e.0) all) rs (shares cs all (children (f ∷ es) None)) (shares cs (left_over f.0 rs xs ys) (children (f ∷ es) None))
-      (own_is e.0 (Some f.0) rs xs ys r a p) (reaching_is e.0 rs (xs ++ ys) r a) s rest
+      let own = own_is e.0 (Some f.0) rs xs ys r a p in
+      let begun = filter (is_in_range cs e.0 (Some f.0)) all in
+      let reaching = filter (reaches_at cs e.0) all in
+      some_share e.1 begun xs (without_idle cs (Some f.0) begun reaching) (without_idle cs (Some f.0) xs rs) (shares cs all (children (f ∷ es) None)) (shares cs (left_over f.0 rs xs ys) (children (f ∷ es) None))
+      own (same_idle cs (Some f.0) begun xs reaching rs own (reaching_is e.0 rs (xs ++ ys) r a)) (ap (λ (b : Bool). has_some xs || b) (some_stay cs (Some f.0) xs rs) ∙ s) rest
 
   -- the last child gets all
   last : (e : List ℕ × ℕ) (rs xs ys : List ℕ) → AllByRecursion (λ q. reaches_at cs e.0 q ≡ true) rs → AllByRecursion (IsFromKey cs e.0) (xs ++ ys) → AreParted None xs ys → (has_some xs || has_some rs) ≡ true
-      → (let s : Share = record { pid = e.1; own = xs; reaching = rs } in shares cs (rs ++ (xs ++ ys)) (children (e ∷ []) None) ≡ s ∷ [])
+      → (let s : Share = record { pid = e.1; own = xs; reaching = without_idle cs None xs rs } in shares cs (rs ++ (xs ++ ys)) (children (e ∷ []) None) ≡ s ∷ [])
   last e rs xs ys r a p s =
       let all = rs ++ (xs ++ ys) in
-      some_share e.1 (filter (is_in_range cs e.0 None) all) xs (filter (reaches_at cs e.0) all) rs [] [] (own_is e.0 None rs xs ys r a p) (reaching_is e.0 rs (xs ++ ys) r a) s refl
+      let own = own_is e.0 None rs xs ys r a p in
+      let begun = filter (is_in_range cs e.0 None) all in
+      let reaching = filter (reaches_at cs e.0) all in
+      some_share e.1 begun xs (without_idle cs None begun reaching) (without_idle cs None xs rs) [] [] own (same_idle cs None begun xs reaching rs own (reaching_is e.0 rs (xs ++ ys) r a)) (ap (λ (b : Bool). has_some xs || b) (some_stay cs None xs rs) ∙ s) refl
 
   -- a child that lies before all places gets none
   passed_over : (e f : List ℕ × ℕ) (es : Names) (qs : List ℕ) → order e.0 f.0 ≡ Less → AllByRecursion (IsFromKey cs f.0) qs → shares cs qs (children (e ∷ f ∷ es) None) ≡ shares cs qs (children (f ∷ es) None)
   passed_over e f es qs l a =
-      no_share e.1 (filter (is_in_range cs e.0 (Some f.0)) qs) (filter (reaches_at cs e.0) qs) (shares cs qs (children (f ∷ es) None)) (shares cs qs (children (f ∷ es) None))
+      let begun = filter (is_in_range cs e.0 (Some f.0)) qs in
+      let reaching = filter (reaches_at cs e.0) qs in
+      no_share e.1 begun (without_idle cs (Some f.0) begun reaching) (shares cs qs (children (f ∷ es) None)) (shares cs qs (children (f ∷ es) None))
       (filter_none (is_in_range cs e.0 (Some f.0)) qs (all_weaker (IsFromKey cs f.0) (λ q. is_in_range cs e.0 (Some f.0) q ≡ false) (λ q h. not_within_behind e.0 (Some f.0) (key_at cs q) h) qs a))
-      (none_of e.0 qs (all_weaker (IsFromKey cs f.0) (IsFromKey cs e.0) (λ q h. from_through (is_below (key_at cs q) e.0) (key_at cs q) f.0 e.0 refl h (less_is_below e.0 f.0 l)) qs a))
+      (without_idle-nothing cs (Some f.0) begun reaching (none_of e.0 qs (all_weaker (IsFromKey cs f.0) (IsFromKey cs e.0) (λ q h. from_through (is_below (key_at cs q) e.0) (key_at cs q) f.0 e.0 refl h (less_is_below e.0 f.0 l)) qs a)))
       refl
 
   -- ---- the next child that gets anything
@@ -247,7 +256,7 @@ module _ {A : Type 0} (cs : List (Command A)) where
       rw (less_is_below e.0 end l) refl
 
   abbrev IsNext : List ℕ → Names → List ℕ → List ℕ → List ℕ → ℕ × Option (List ℕ) → Type 0
-  IsNext k es rs xs ys child = (let s : Share = record { pid = child.0; own = xs; reaching = rs } in shares cs (rs ++ (xs ++ ys)) (children es None) ≡ s ∷ rest_of child.1 rs xs ys es)
+  IsNext k es rs xs ys child = (let s : Share = record { pid = child.0; own = xs; reaching = without_idle cs child.1 xs rs } in shares cs (rs ++ (xs ++ ys)) (children es None) ≡ s ∷ rest_of child.1 rs xs ys es)
 
   next_by : (b : Bool) (k : List ℕ) (e f : List ℕ × ℕ) (es : Names) (rs xs ys : List ℕ) → is_below k f.0 ≡ b → IsRising (e ∷ f ∷ es) → AllByRecursion (λ q. reaches_at cs e.0 q ≡ true) rs → AllByRecursion (IsFromKey cs e.0) (xs ++ ys)
       → (has_some rs ≡ true → k ≡ e.0) → AllByRecursion (IsFromKey cs k) (xs ++ ys) → (has_some xs || has_some rs) ≡ true
@@ -256,14 +265,14 @@ module _ {A : Type 0} (cs : List (Command A)) where
       → IsNext k (e ∷ f ∷ es) rs xs ys child)
   unfolding IsStrictlySortedBy
   next_by true k e f es rs xs ys b i r a w n s p ih =
-      let first : Share = record { pid = e.1; own = xs; reaching = rs } in
+      let first : Share = record { pid = e.1; own = xs; reaching = without_idle cs (Some f.0) xs rs } in
       let from : from_low f.0 (e ∷ f ∷ es) ≡ f ∷ es = rw (less_is_below e.0 f.0 i.0.0, not_below_itself f.0) refl in
       here e f es rs xs ys i r a p s ∙ ap (λ (fs : Names). first ∷ shares cs (left_over f.0 rs xs ys) (children fs None)) (sym from)
   next_by false k e f es (q ∷ rs) xs ys b i r a w n s p ih =
       absurd (let same = w refl in let l = less_is_below e.0 f.0 i.0.0 in let m : is_below k f.0 ≡ true = rw same l in cc)
   next_by false k e f es [] xs ys b i r a w n s p ih =
       let child : ℕ × Option (List ℕ) = child_with_end k (f ∷ es) in
-      let first : Share = record { pid = child.0; own = xs; reaching = [] } in
+      let first : Share = record { pid = child.0; own = xs; reaching = without_idle cs child.1 xs [] } in
       let from = all_weaker (IsFromKey cs k) (IsFromKey cs f.0) (λ q h. from_higher (is_below (key_at cs q) f.0) (key_at cs q) k f.0 refl b h) (xs ++ ys) n in
       passed_over e f es (xs ++ ys) i.0.0 from ∙ ih from s p ∙ ap (λ (ss : List Share). first ∷ ss) (rest_later child.1 k xs ys e f es i refl)
 
@@ -309,18 +318,18 @@ module _ {A : Type 0} (cs : List (Command A)) where
   -- the child of a key gets what lies before its end, and what reaches it, and those behind it get the rest
   pub walk_step : (es : Names) (k low : List ℕ) (rs xs ys : List ℕ) (pid : ℕ) (end : Option (List ℕ)) → IsRising es → IsAt es low rs (xs ++ ys) → is_below k low ≡ false → (has_some rs ≡ true → k ≡ low)
       → AllByRecursion (IsFromKey cs k) (xs ++ ys) → (has_some xs || has_some rs) ≡ true → (pid, end) ≡ child_with_end k es → AreParted end xs ys
-      → (let s : Share = record { pid = pid; own = xs; reaching = rs } in shares cs (rs ++ (xs ++ ys)) (children (from_low low es) None) ≡ s ∷ rest_of end rs xs ys es)
+      → (let s : Share = record { pid = pid; own = xs; reaching = without_idle cs end xs rs } in shares cs (rs ++ (xs ++ ys)) (children (from_low low es) None) ≡ s ∷ rest_of end rs xs ys es)
   walk_step es k low rs xs ys pid end r a b w n s c p =
       let left = from_low low es in
       let child : ℕ × Option (List ℕ) = child_with_end k left in
       let found : (pid, end) ≡ child = c ∙ child_from k low es b a.entry in
       let pid_is : pid ≡ child.0 = ap (λ (x : ℕ × Option (List ℕ)). x.0) found in
       let end_is : end ≡ child.1 = ap (λ (x : ℕ × Option (List ℕ)). x.1) found in
-      let share : ℕ → Share = λ i. record { pid = i; own = xs; reaching = rs } in
+      let share : ℕ → Option (List ℕ) → Share = λ i o. record { pid = i; own = xs; reaching = without_idle cs o xs rs } in
       step_from left es k low rs xs ys refl (rising_from low es r) a w n s (subst (λ (o : Option (List ℕ)). AreParted o xs ys) end_is p)
-      ∙ ap (λ (i : ℕ). share i ∷ rest_of child.1 rs xs ys left) (sym pid_is)
-      ∙ ap (λ (ss : List Share). share pid ∷ ss) (rest_from child.1 es k low rs xs ys r a.entry refl)
-      ∙ ap (λ (o : Option (List ℕ)). share pid ∷ rest_of o rs xs ys es) (sym end_is)
+      ∙ ap (λ (i : ℕ). share i child.1 ∷ rest_of child.1 rs xs ys left) (sym pid_is)
+      ∙ ap (λ (ss : List Share). share pid child.1 ∷ ss) (rest_from child.1 es k low rs xs ys r a.entry refl)
+      ∙ ap (λ (o : Option (List ℕ)). share pid o ∷ rest_of o rs xs ys es) (sym end_is)
 
   -- and the walk stands at its end then, with fewer children left
   pub walk_on : (es : Names) (k low end : List ℕ) (rs xs ys : List ℕ) (pid : ℕ) → IsRising es → IsAt es low rs (xs ++ ys) → is_below k low ≡ false → (pid, Some end) ≡ child_with_end k es → AreParted (Some end) xs ys
@@ -397,7 +406,7 @@ module _ {A : Type 0} (cs : List (Command A)) where
 
   -- the next child's share, and what is left for those behind it
   pub walked : (page : PageOfKind) (low k : List ℕ) (rs : List ℕ) (rest : List Keyed) (n : ℕ) (pid : ℕ) (end : Option (List ℕ)) → IsWalking page low rs rest k → (pid, end) ≡ child_with_end k (child_entries page) → AreCutAt cs end (take n rest) (drop n rest)
-      → (let s : Share = record { pid = pid; own = places_of (take n rest); reaching = rs } in
+      → (let s : Share = record { pid = pid; own = places_of (take n rest); reaching = without_idle cs end (places_of (take n rest)) rs } in
       shares cs (rs ++ places_of rest) (children (from_low low (child_entries page)) None) ≡ s ∷ rest_of end rs (places_of (take n rest)) (places_of (drop n rest)) (child_entries page))
   walked page low k rs rest n pid end w c cut =
       let es = child_entries page in
@@ -453,7 +462,7 @@ module _ {A : Type 0} (cs : List (Command A)) where
   -- one more share is handed down
   pub scan_step : (page : PageOfKind) (low k end : List ℕ) (rs onward : List ℕ) (es rest : List Keyed) (start count until : ℕ) (pid : ℕ) (old new : List Lent) (lent : Lent) (whole : List Share) → rest ≡ drop start es → until ≡ start + count → IsWalking page low rs rest k
       → (pid, Some end) ≡ child_with_end k (child_entries page) → AreCutAt cs (Some end) (take count rest) (drop count rest)
-      → lent.pid ≡ pid → lent.keyed ≡ slice_range es start until → lent.reaching ≡ rs → new ≡ old ++ lent ∷ [] → onward ≡ filter (reaches_at cs end) (rs ++ places_of (slice_range es start until))
+      → lent.pid ≡ pid → lent.keyed ≡ slice_range es start until → lent.reaching ≡ without_idle cs (Some end) (places_of (slice_range es start until)) rs → new ≡ old ++ lent ∷ [] → onward ≡ filter (reaches_at cs end) (rs ++ places_of (slice_range es start until))
       → lent_shares old ++ shares cs (rs ++ places_of (drop start es)) (children (from_low low (child_entries page)) None) ≡ whole
       → lent_shares new ++ shares cs (onward ++ places_of (drop until es)) (children (from_low end (child_entries page)) None) ≡ whole
   scan_step page low k end rs onward es rest start count until pid old new lent whole t u w c cut p o r i g h =
@@ -461,12 +470,13 @@ module _ {A : Type 0} (cs : List (Command A)) where
       let part : slice_range es start until ≡ take count rest = part_is cs es start count until u ∙ ap (λ (x : List Keyed). take count x) (sym t) in
       let left : drop count rest ≡ drop until es = ap (λ (x : List Keyed). drop count x) t ∙ drop-drop count start es ∙ ap (λ (j : ℕ). drop j es) (sym u) in
       let xs = places_of (take count rest) in
-      let s : Share = record { pid = pid; own = xs; reaching = rs } in
+      let kept = without_idle cs (Some end) xs rs in
+      let s : Share = record { pid = pid; own = xs; reaching = kept } in
       let more = shares cs (rs ++ places_of rest) (children (from_low low names) None) in
       let less = rest_of (Some end) rs xs (places_of (drop count rest)) names in
       ap (λ (zs : List ℕ). lent_shares new ++ shares cs (zs ++ places_of (drop until es)) (children (from_low end names) None)) (g ∙ ap (λ (x : List Keyed). filter (reaches_at cs end) (rs ++ places_of x)) part)
       ∙ ap (λ (x : List Keyed). lent_shares new ++ shares cs (filter (reaches_at cs end) (rs ++ xs) ++ places_of x) (children (from_low end names) None)) (sym left)
-      ∙ push_share old new lent s more less i (lent_is lent.pid pid (places_of lent.keyed) xs lent.reaching rs p (ap (λ (x : List Keyed). places_of x) (o ∙ part)) r) (walked page low k rs rest count pid (Some end) w c cut)
+      ∙ push_share old new lent s more less i (lent_is lent.pid pid (places_of lent.keyed) xs lent.reaching kept p (ap (λ (x : List Keyed). places_of x) (o ∙ part)) (r ∙ ap (λ (x : List Keyed). without_idle cs (Some end) (places_of x) rs) part)) (walked page low k rs rest count pid (Some end) w c cut)
       ∙ ap (λ (x : List Keyed). lent_shares old ++ shares cs (rs ++ places_of x) (children (from_low low names) None)) t
       ∙ h
 
@@ -482,16 +492,17 @@ module _ {A : Type 0} (cs : List (Command A)) where
 
   -- the last child takes all that is left
   pub scan_last : (page : PageOfKind) (low k : List ℕ) (rs : List ℕ) (es rest : List Keyed) (start : ℕ) (pid : ℕ) (old new : List Lent) (lent : Lent) (whole : List Share) → rest ≡ drop start es → IsWalking page low rs rest k
-      → (pid, None) ≡ child_with_end k (child_entries page) → lent.pid ≡ pid → lent.keyed ≡ rest → lent.reaching ≡ rs → new ≡ old ++ lent ∷ []
+      → (pid, None) ≡ child_with_end k (child_entries page) → lent.pid ≡ pid → lent.keyed ≡ rest → lent.reaching ≡ without_idle cs None (places_of rest) rs → new ≡ old ++ lent ∷ []
       → lent_shares old ++ shares cs (rs ++ places_of (drop start es)) (children (from_low low (child_entries page)) None) ≡ whole → lent_shares new ≡ whole
   scan_last page low k rs es rest start pid old new lent whole t w c p o r i h =
       let names = child_entries page in
       let count = length rest in
       let all : take count rest ≡ rest = take_all count rest (omega arith) in
-      let s : Share = record { pid = pid; own = places_of (take count rest); reaching = rs } in
+      let kept = without_idle cs None (places_of (take count rest)) rs in
+      let s : Share = record { pid = pid; own = places_of (take count rest); reaching = kept } in
       let more = shares cs (rs ++ places_of rest) (children (from_low low names) None) in
       sym (append-nil (lent_shares new))
-      ∙ push_share old new lent s more [] i (lent_is lent.pid pid (places_of lent.keyed) (places_of (take count rest)) lent.reaching rs p (ap (λ (x : List Keyed). places_of x) (o ∙ sym all)) r) (walked page low k rs rest count pid None w c (none_cut cs rest))
+      ∙ push_share old new lent s more [] i (lent_is lent.pid pid (places_of lent.keyed) (places_of (take count rest)) lent.reaching kept p (ap (λ (x : List Keyed). places_of x) (o ∙ sym all)) (r ∙ ap (λ (x : List Keyed). without_idle cs None (places_of x) rs) (sym all))) (walked page low k rs rest count pid None w c (none_cut cs rest))
       ∙ ap (λ (x : List Keyed). lent_shares old ++ shares cs (rs ++ places_of x) (children (from_low low names) None)) t
       ∙ h
 

@@ -1,7 +1,9 @@
 pub mod BatchKeys
+pub mod Idle
 pub mod KeptPlaces
 pub mod Keyed
 pub mod Places
 pub mod Routes
+pub mod Runs
 pub mod Shares
 pub mod SortedPlaces

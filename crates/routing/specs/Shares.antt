@@ -1,6 +1,6 @@
 -- What goes down the tree: each page's share of a batch, by places in the order of their keys.
-use Rattle.std.specs.Prelude.{◌≡◌, ℕ, ◌<◌, Bool, true, false, ◌||◌, ⊤, List, [], ◌∷◌, ◌++◌, map, length, nat_eq, Option, Some, None}
-use Rattle.std.specs.List.{AllByRecursion, IsDistinct, filter, list_any}
+use Rattle.std.specs.Prelude.{◌≡◌, ℕ, ◌<◌, Bool, true, false, ◌||◌, ⊤, List, [], ◌∷◌, ◌++◌, map, length, nat_eq, nat_le, min, if◌then◌else◌, Option, Some, None}
+use Rattle.std.specs.List.{AllByRecursion, IsDistinct, filter, list_any, reduce}
 use Rattle.std.specs.List.Sorted.{IsPermutation, IsNonDecreasing}
 use Rattle.keys.specs.Bytes.{Bytes}
 use Rattle.keys.specs.Order.{IsRising}
@@ -13,6 +13,7 @@ use Rattle.index_page.specs.Children.{Place, children, child_entries, HasChildFo
 use Rattle.mapping.specs.Tree.{page_at}
 use Rattle.mapping.specs.Levels.{as_index}
 use Rattle.routing.specs.BatchKeys.{key_at}
+use Rattle.routing.specs.Idle.{gives_at, empties_at}
 use Rattle.routing.specs.Keyed.{Keyed, places_of, AreKeyed}
 use Rattle.routing.specs.Routes.{Route, has_some}
 use Rattle.routing.specs.SortedPlaces.{AreInKeyOrder, reaches_at}
@@ -55,9 +56,24 @@ HasEachPlaceOnce s = IsDistinct nat_eq (all_of s)
 abbrev pub is_in_range : {A : Type 0} → List (Command A) → Bytes → Option Bytes → ℕ → Bool
 is_in_range cs low end place = is_within low end (key_at cs place)
 
--- a page's pid, and those of these places whose commands begin in it, and whose commands reach it
+-- the first of these places at which a wipe takes all up to this end
+abbrev pub first_emptying : {A : Type 0} → List (Command A) → Option Bytes → List ℕ → Option ℕ
+first_emptying cs end rs = reduce min (filter (empties_at cs end) rs)
+
+-- the places that aren't after this one
+abbrev pub upto : Option ℕ → List ℕ → List ℕ
+upto None rs = rs
+upto (Some last) rs = filter (λ place. nat_le place last) rs
+
+-- of the places that reach a page with this end, where these begin in it: those up to the first that takes all of it, if nothing is put there
+abbrev pub without_idle : {A : Type 0} → List (Command A) → Option Bytes → List ℕ → List ℕ → List ℕ
+without_idle cs end own rs = if list_any (gives_at cs) own then rs else upto (first_emptying cs end rs) rs
+
+-- a page's pid, and those of these places whose commands begin in it, and of those whose commands reach it the ones that aren't idle
 abbrev pub share_of : {A : Type 0} → List (Command A) → List ℕ → Place → Share
-share_of cs ps at = record { pid = at.pid; own = filter (is_in_range cs at.low at.end) ps; reaching = filter (reaches_at cs at.low) ps }
+share_of cs ps at =
+    let own : List ℕ = filter (is_in_range cs at.low at.end) ps in
+    record { pid = at.pid; own = own; reaching = without_idle cs at.end own (filter (reaches_at cs at.low) ps) }
 
 -- the shares of the pages that get any
 abbrev pub shares : {A : Type 0} → List (Command A) → List ℕ → List Place → List Share

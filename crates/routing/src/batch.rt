@@ -6,9 +6,10 @@ ghost use Rattle.keys.specs.CommandKey.{is_ranged};
 ghost use Rattle.keys.specs.Narrowed.{first_end, with_ends};
 ghost use Rattle.keys.specs.Places.{is_ranged_at};
 ghost use Rattle.routing.specs.BatchKeys.{key_at};
+ghost use Rattle.routing.specs.Idle.{gives_at, empties_at};
 ghost use Rattle.routing.specs.SortedPlaces.{reaches_at};
 
-use crate::reaching::reaches;
+use crate::reaching::{empties, gives, reaches};
 use keys::Command;
 use std::alloc::Global;
 use std::marker::Model;
@@ -74,6 +75,26 @@ impl<'a> BatchWithEnds<'a> {
     {
         match self.commands.get(place) {
             Some(command) => command.is_ranged(),
+            None => false,
+        }
+    }
+
+    // Whether the command at this place gives a key a value.
+    pub(crate) fn gives_at(&self, place: usize) -> bool
+        ensures { result ≡ gives_at self.now place }
+    {
+        match self.commands.get(place) {
+            Some(command) => gives(command),
+            None => false,
+        }
+    }
+
+    // Whether the command at this place is a wipe that takes all from its lower bound up to this end.
+    pub(crate) fn empties_at(&self, place: usize, end: Option<&[u8]>) -> bool
+        ensures { result ≡ empties_at self.now (option_copied end.entry) place }
+    {
+        match self.commands.get(place) {
+            Some(command) => empties(command, end),
             None => false,
         }
     }

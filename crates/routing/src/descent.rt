@@ -9,13 +9,14 @@ ghost use Rattle.mapping.specs.Levels.{levels_of};
 ghost use Rattle.mapping.specs.Proper.{AreLevels, HoldsLevels};
 ghost use Rattle.mapping.specs.TreeInMemory.{AreAllHome, tree_of};
 ghost use Rattle.routing.specs.Keyed.{places_of, AreKeyed};
-ghost use Rattle.routing.specs.Routes.{routes};
+ghost use Rattle.routing.specs.Routes.{ranges};
+ghost use Rattle.routing.specs.Runs.{AreRunsOf};
 ghost use Rattle.routing.specs.SortedPlaces.{AreSortedPlaces};
 ghost use Rattle.routing.specs.Shares.{share_of_lent, lent_shares, all_of, root_shares, shares_below, next_key, CanHandDownKeyed, CanHandDownShare, is_met, ArePoints, AreReadyShares, AreKeyedShares, share_below, HasEachPlaceOnce, IsInBatchOrder, AreInBatchOrder};
 
 use crate::batch::BatchWithEnds;
 use crate::page_run::PageRun;
-use crate::reaching::{going_on, has_range_at};
+use crate::reaching::{going_on, has_range_at, without_idle};
 use crate::share::Share;
 use crate::sort::{Keyed, count_below, in_batch_order, sorted_places};
 use index_page::Page;
@@ -25,9 +26,10 @@ use std::alloc::{AllocError, Global};
 use std::thread::Threads;
 
 /// For each leaf of the tree that a command of the batch goes to, from left to right, its page id and the places of these
-/// commands. A scan with a nearer end goes to no leaf from there on. The commands are sorted once, and each index page on their
-/// way is visited once. The tree is a proper one, of which no page is away. It is refused only for want of memory, with
-/// `Fault::NoMemory`.
+/// commands, but for scans and wipes that find nothing left there: a leaf that a wipe takes whole, and into which the batch puts
+/// nothing, isn't visited again for each later one. A scan with a nearer end goes to no leaf from there on. The commands are sorted
+/// once, and each index page on their way is visited once. The tree is a proper one, of which no page is away. It is refused only
+/// for want of memory, with `Fault::NoMemory`.
 pub fn route(
     rt: &(impl Threads + Sync),
     alloc: Global,
@@ -38,7 +40,7 @@ pub fn route(
     requires held { HoldsLevels (tree_of tree.now).pages (levels_of (tree_of tree.now)) }
     requires levels { AreLevels (levels_of (tree_of tree.now)) }
     ensures ok { IfOk result (λ runs.
-        runs.items ≡ routes (levels_of (tree_of tree.now)).level batch.now) }
+        AreRunsOf batch.now (ranges (levels_of (tree_of tree.now)).level) runs.items) }
     ensures err { IfErr result (λ fault. fault ≡ NoMemory) }
 {
     let keyed = sorted_places(rt, alloc, batch)?;
@@ -59,7 +61,7 @@ fn route_sorted(
     requires sorted { AreSortedPlaces batch.now (places_of keyed.now) }
     requires keys { AreKeyed batch.now keyed.now }
     ensures { IfOk result (λ runs.
-        runs.items ≡ routes (levels_of (tree_of tree.now)).level batch.now) }
+        AreRunsOf batch.now (ranges (levels_of (tree_of tree.now)).level) runs.items) }
 {
     let ranged = batch.has_ranges();
     let mut shares = root_share(alloc, tree.root(), keyed)?;
@@ -213,14 +215,18 @@ fn hand_down_with_ranges<'a, 'k>(
         match end {
             Some(end) => {
                 let until = start + count_below(&keyed[start..], end);
-                let onward = going_on(alloc, batch, &reaching, &keyed[start..until], end)?;
-                below.push(Share::new(pid, &keyed[start..until], reaching))?;
+                let begun = &keyed[start..until];
+                let onward = going_on(alloc, batch, &reaching, begun, end)?;
+                let kept = without_idle(alloc, batch, Some(end), begun, reaching)?;
+                below.push(Share::new(pid, begun, kept))?;
                 reaching = onward;
                 low = end;
                 start = until;
             }
             None => {
-                below.push(Share::new(pid, &keyed[start..], reaching))?;
+                let begun = &keyed[start..];
+                let kept = without_idle(alloc, batch, None, begun, reaching)?;
+                below.push(Share::new(pid, begun, kept))?;
                 return Ok(());
             }
         }

@@ -1,20 +1,23 @@
 //! What the definitions of `specs/` mean. Each law is the contract of a function with an empty body.
-ghost use Rattle.std.specs.Prelude.{◌≡◌, ◌<◌, ◌==◌, ◌++◌, ℕ, true, false, List, [], length, take, drop, flat_map, count_by, Option, None, Some};
+ghost use Rattle.std.specs.Prelude.{◌≡◌, ◌<◌, ◌==◌, ◌++◌, ℕ, true, false, List, [], length, take, drop, flat_map, count_by, slice_get, Option, None, Some};
 ghost use Rattle.std.specs.declared.cmp.Ordering.TheVariants.{Less};
 ghost use Rattle.std.specs.List.{AllByRecursion, filter};
 ghost use Rattle.std.specs.List.Sorted.{IsPermutation, IsNonDecreasing};
 ghost use Rattle.keys.specs.Bytes.{Bytes};
+ghost use Rattle.keys.specs.CommandKey.{key_of};
 ghost use Rattle.keys.specs.Order.{order};
 ghost use Rattle.keys.specs.Places.{is_ranged_at};
 ghost use Rattle.keys.specs.declared.command.Command.{Command};
 ghost use Rattle.keys.specs.declared.command.Command.TheVariants.{Scan, Wipe};
 ghost use Rattle.index_page.specs.Children.{Place, meets};
-ghost use Rattle.index_page.specs.Range.{is_below, IsBefore};
+ghost use Rattle.index_page.specs.Range.{is_below, is_within, IsBefore};
 ghost use Rattle.mapping.specs.FreshPids.{is_among};
 ghost use Rattle.mapping.specs.Levels.{Placed};
 ghost use Rattle.mapping.specs.Proper.{next_low, Tiled};
 ghost use Rattle.routing.specs.BatchKeys.{key_at};
-ghost use Rattle.routing.specs.Routes.{goes_to, places_within, ranges, routes, AreRoutesTo};
+ghost use Rattle.routing.specs.Idle.{gives};
+ghost use Rattle.routing.specs.Routes.{Route, goes_to, goes_at, places_within, ranges, routes, AreRoutesTo};
+ghost use Rattle.routing.specs.Runs.{IsRunOf, AreRunsOf};
 ghost use Rattle.routing.specs.SortedPlaces.{reaches_at, AreSortedPlaces, AreSortedWithin, AreSortedReaching};
 
 use std::alloc::Allocator;
@@ -29,6 +32,37 @@ pub fn each_command_goes_to_its_pages<V, A: Allocator>()
     ensures once { (level : List (Placed V)) (cs : List (Command A)) (place : ℕ) → next_low level None ≡ Some [] → Tiled level None →
         place < length cs → is_ranged_at cs place ≡ false →
         count_by (λ other. other == place) (flat_map (λ r. r.places) (routes level cs)) ≡ 1 }
+{}
+
+/// The runs of a level's pages are to its pages, from left to right, and each has some places of the batch, which rise, each of a
+/// command that goes to the page. Of pages that tile all keys, each place of the batch is in a run, and it is there just once
+/// where its command is on one key.
+pub fn each_command_is_in_the_runs_of_its_pages<V, A: Allocator>()
+    ensures order { (level : List (Placed V)) (cs : List (Command A)) (rs : List Route) →
+        AreRunsOf cs (ranges level) rs → AreRoutesTo cs (ranges level) rs }
+    ensures some { (level : List (Placed V)) (cs : List (Command A)) (rs : List Route) (place : ℕ) →
+        AreRunsOf cs (ranges level) rs → next_low level None ≡ Some [] → Tiled level None →
+        place < length cs → is_among place (flat_map (λ r. r.places) rs) ≡ true }
+    ensures once { (level : List (Placed V)) (cs : List (Command A)) (rs : List Route) (place : ℕ) →
+        AreRunsOf cs (ranges level) rs → next_low level None ≡ Some [] → Tiled level None →
+        place < length cs → is_ranged_at cs place ≡ false →
+        count_by (λ other. other == place) (flat_map (λ r. r.places) rs) ≡ 1 }
+{}
+
+/// A page's run lacks a command that goes to the page only where it reaches the page from the left, a wipe at a lower place,
+/// which the run has, takes all keys of the page, and no command of the batch gives a key of the page a value.
+pub fn only_what_finds_nothing_is_left_out<A: Allocator>()
+    ensures reaches { (cs : List (Command A)) (at : Place) (r : Route) (place : ℕ) → IsRunOf cs at r →
+        goes_at cs at.low at.end place ≡ true → is_among place r.places ≡ false →
+        reaches_at cs at.low place ≡ true }
+    ensures wiped { (cs : List (Command A)) (at : Place) (r : Route) (place : ℕ) → IsRunOf cs at r →
+        goes_at cs at.low at.end place ≡ true → is_among place r.places ≡ false →
+        (earlier : ℕ) × (earlier < place) × (is_among earlier r.places ≡ true) ×
+        ((lo : Bytes) × (hi : Option Bytes) × (slice_get cs earlier ≡ Some (Wipe lo hi)) ×
+        ((key : Bytes) → is_within at.low at.end key ≡ true → is_within lo hi key ≡ true)) }
+    ensures unput { (cs : List (Command A)) (at : Place) (r : Route) (place other : ℕ) (c : Command A) →
+        IsRunOf cs at r → goes_at cs at.low at.end place ≡ true → is_among place r.places ≡ false →
+        slice_get cs other ≡ Some c → gives c ≡ true → is_within at.low at.end (key_of c) ≡ false }
 {}
 
 /// A scan goes to just those pages whose ranges meet its bounds: from the lower one on, and before the upper one.

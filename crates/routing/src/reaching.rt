@@ -1,11 +1,13 @@
 //! The scans and wipes that reach a page from the left: they began in a page before it.
-ghost use Rattle.std.specs.Prelude.{◌≡◌, ◌++◌, IfOk};
+ghost use Rattle.std.specs.Prelude.{◌≡◌, ◌++◌, Some, IfOk};
 ghost use Rattle.std.specs.List.{filter, list_any};
 ghost use Rattle.std.specs.Option.{option_copied, option_or};
 ghost use Rattle.keys.specs.Narrowed.{with_end};
 ghost use Rattle.keys.specs.Places.{is_ranged_at};
 ghost use Rattle.index_page.specs.Range.{is_before};
+ghost use Rattle.routing.specs.Idle.{gives, gives_at, covers, empties};
 ghost use Rattle.routing.specs.Keyed.{places_of};
+ghost use Rattle.routing.specs.Shares.{first_emptying, upto, without_idle};
 ghost use Rattle.routing.specs.SortedPlaces.{reaches, reaches_at};
 
 use crate::batch::BatchWithEnds;
@@ -38,6 +40,90 @@ pub(crate) fn going_on(
         .chain(keyed.iter().map(|entry| entry.1))
         .filter(|place| batch.reaches_at(*place, low))
         .collect(alloc)
+}
+
+/// Of the scans and wipes that reach a page from the left those that may find something there: up to the first that wipes all of the
+/// page, and all of them where a command that begins in the page gives a key a value.
+pub(crate) fn without_idle(
+    alloc: Global,
+    batch: &BatchWithEnds<'_>,
+    end: Option<&[u8]>,
+    keyed: &[Keyed<'_>],
+    reaching: Vec<usize>,
+) -> Result<Vec<usize>, AllocError>
+    ensures { IfOk result (λ kept. kept.items ≡
+        without_idle batch.now (option_copied end.entry) (places_of keyed.now) reaching.items) }
+{
+    let Some(last) = first_emptying(batch, end, &reaching) else {
+        return Ok(reaching);
+    };
+    if gives_any(batch, keyed) {
+        return Ok(reaching);
+    }
+    upto(alloc, &reaching, last)
+}
+
+// The first of these places at which a wipe takes all of the page that ends here.
+fn first_emptying(
+    batch: &BatchWithEnds<'_>,
+    end: Option<&[u8]>,
+    reaching: &[usize],
+) -> Option<usize>
+    ensures { result ≡ first_emptying batch.now (option_copied end.entry) reaching.now }
+{
+    reaching
+        .iter()
+        .copied()
+        .filter(|place| batch.empties_at(*place, end))
+        .min()
+}
+
+// Whether one of these commands gives a key a value.
+fn gives_any(batch: &BatchWithEnds<'_>, keyed: &[Keyed<'_>]) -> bool
+    ensures { result ≡ list_any (λ entry. gives_at batch.now entry.1) keyed.now }
+{
+    keyed.iter().any(|entry| batch.gives_at(entry.1))
+}
+
+// The places that aren't after this one.
+fn upto(alloc: Global, places: &[usize], last: usize) -> Result<Vec<usize>, AllocError>
+    ensures { IfOk result (λ kept. kept.items ≡ upto (Some last) places.now) }
+{
+    places
+        .iter()
+        .copied()
+        .filter(|place| *place <= last)
+        .collect(alloc)
+}
+
+/// Whether the command is a wipe that takes all from its lower bound up to this end.
+pub(crate) fn empties(command: &Command<Global>, end: Option<&[u8]>) -> bool
+    ensures { result ≡ empties (option_copied end.entry) command.now }
+{
+    match command {
+        Command::Wipe(_, hi) => covers(end, hi),
+        _ => false,
+    }
+}
+
+/// Whether the command gives a key a value.
+pub(crate) fn gives(command: &Command<Global>) -> bool
+    ensures { result ≡ gives command.now }
+{
+    matches!(command, Command::Put(_, _) | Command::Add(_, _))
+}
+
+// Whether what lies below the upper bound is all that lies before this end.
+fn covers(end: Option<&[u8]>, hi: &Option<Key<Global>>) -> bool
+    ensures { result ≡ covers (option_copied end.entry) hi.now }
+{
+    match hi {
+        Some(hi) => match end {
+            Some(end) => !compare(hi.as_bytes(), end).is_lt(),
+            None => false,
+        },
+        None => true,
+    }
 }
 
 /// Whether the command is a scan or a wipe that begins before this low key, and ends behind it: a scan at the nearer end where

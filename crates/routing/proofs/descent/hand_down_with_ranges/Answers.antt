@@ -83,7 +83,7 @@ loop-key-preserved c =
       most = omega arith;
       at = (scan_on cs page low k end rs on es _ start n (start + n) pid rest refl w child (record { before = c.count_below.ensures.below; behind = c.count_below.ensures.others }) onward).0;
       shares = scan_step cs page low k end rs on es _ start n (start + n) pid old new _ _ rest refl w child (record { before = c.count_below.ensures.below; behind = c.count_below.ensures.others })
-          (ap (λ (s : Lent). s.pid) made) (ap (λ (s : Lent). s.keyed) made) (ap (λ (s : Lent). s.reaching) made) c.in_ok-push-in-Some-end.ensures.items onward c.loop-key.invariant.shares;
+          (ap (λ (s : Lent). s.pid) made) (ap (λ (s : Lent). s.keyed) made) (ap (λ (s : Lent). s.reaching) made ∙ c.in_ok-kept-in-Some-end.ensures) c.in_ok-push-in-Some-end.ensures.items onward c.loop-key.invariant.shares;
       keys = λ a. keys_step cs es start (start + n) old new _ (ap (λ (s : Lent). s.keyed) made) c.in_ok-push-in-Some-end.ensures.items can.keys (c.loop-key.invariant.keys a);
     }
 
@@ -102,7 +102,7 @@ returns-in-None-clause-shares c =
     let key = ap (λ (xs : List ℕ). next_key low xs (take (length es - start) (drop start es))) (sym c.deref.ensures.value) ∙ sym c.in-Some.ensures in
     let w = walking cs page low k rs es _ start rest can c.loop-key.invariant.at key in
     scan_last cs page low k rs es _ start c.child_with_end-pid.result.0 c.loop-key.below.items c.push-in-None.new.self.items _ _ rest w (rw c.in-None.is at c.child_with_end-pid.ensures.child)
-    (ap (λ (s : Lent). s.pid) made) (ap (λ (s : Lent). s.keyed) made) (ap (λ (s : Lent). s.reaching) made) c.in_ok-push-in-None.ensures.items c.loop-key.invariant.shares
+    (ap (λ (s : Lent). s.pid) made) (ap (λ (s : Lent). s.keyed) made) (ap (λ (s : Lent). s.reaching) made ∙ c.in_ok-kept-in-None.ensures) c.in_ok-push-in-None.ensures.items c.loop-key.invariant.shares
 
 pub returns-in-None-clause-keys : goal.returns-in-None-clause-keys
 returns-in-None-clause-keys c =
