@@ -5,7 +5,7 @@ ghost use Rattle.std.specs.List.{flat_map};
 ghost use Rattle.bwsh.specs.Shown.{reply_text, row_lines, shown_reply, shown_flushed, shown_cleaned, shown_upgraded, shown_report, shown_row};
 
 use crate::token::push_token;
-use keys::{Key, Reply, Value};
+use keys::{Reply, RowList};
 use std::alloc::{AllocError, Global};
 use verify::Report;
 
@@ -49,24 +49,24 @@ fn push_reply(reply: &Reply<Global>, out: &mut Vec<u8>) -> Result<(), AllocError
 }
 
 // Appends the line of a row. After an `Err` some of it may stand there.
-fn push_row(row: &(Key<Global>, Value<Global>), out: &mut Vec<u8>) -> Result<(), AllocError>
-    ensures ok { OnOk result (out.new.items ≡ out.old.items ++ shown_row row.now) }
+fn push_row(key: &[u8], value: &[u8], out: &mut Vec<u8>) -> Result<(), AllocError>
+    ensures ok { OnOk result (out.new.items ≡ out.old.items ++ shown_row (key.now, value.now)) }
     ensures err { OnErr result (take (length out.old.items) out.new.items ≡ out.old.items) }
 {
-    push_token(row.0.as_bytes(), out)?;
+    push_token(key, out)?;
     out.push(b' ')?;
-    push_token(row.1.as_bytes(), out)?;
+    push_token(value, out)?;
     out.push(b'\n')?;
     Ok(())
 }
 
 // Appends the lines of the rows. After an `Err` some of them may stand there.
-fn push_rows(rows: &[(Key<Global>, Value<Global>)], out: &mut Vec<u8>) -> Result<(), AllocError>
+fn push_rows(rows: &RowList<Global>, out: &mut Vec<u8>) -> Result<(), AllocError>
     ensures ok { OnOk result (out.new.items ≡ out.old.items ++ flat_map shown_row rows.now) }
     ensures err { OnErr result (take (length out.old.items) out.new.items ≡ out.old.items) }
 {
-    for row in rows {
-        push_row(row, out)?;
+    for (key, value) in rows {
+        push_row(key, value, out)?;
     }
     Ok(())
 }
@@ -79,7 +79,7 @@ fn push_lines(reply: &Reply<Global>, out: &mut Vec<u8>) -> Result<(), AllocError
     push_reply(reply, out)?;
     out.push(b'\n')?;
     if let Reply::Rows(rows) = reply {
-        push_rows(rows.as_slice(), out)?;
+        push_rows(rows, out)?;
     }
     Ok(())
 }

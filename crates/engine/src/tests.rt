@@ -646,8 +646,8 @@ fn write_reply(text: &mut String, reply: &Reply<Global>) -> Result<(), AllocErro
     let Reply::Rows(rows) = reply else {
         return Ok(());
     };
-    for (key, value) in rows.as_slice() {
-        write_row(text, key.as_bytes(), value.as_bytes())?;
+    for (key, value) in rows {
+        write_row(text, key, value)?;
     }
     text.push(']')
 }

@@ -6,6 +6,7 @@ pub mod MapLemmas
 pub mod NarrowedLemmas
 pub mod RangeLemmas
 mod Rows
+mod RowLemmas
 pub mod RunLemmas
 mod SettingsRows
 mod WordLemmas

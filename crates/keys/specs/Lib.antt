@@ -13,6 +13,7 @@ pub mod OrderedMap
 pub mod Places
 pub mod Range
 pub mod Results
+pub mod RowBytes
 pub mod Sizes
 pub mod Step
 pub mod Words

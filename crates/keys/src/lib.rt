@@ -32,7 +32,7 @@ pub use crate::order::{compare, is_before};
 pub use crate::pid::Pid;
 pub use crate::piece::Piece;
 pub use crate::pieces::Pieces;
-pub use crate::row_list::RowList;
+pub use crate::row_list::{RowIter, RowList};
 pub use crate::settings::{Field, Settings};
 pub use crate::value::Value;
 pub use crate::version::Version;

@@ -1,24 +1,32 @@
-ghost use Rattle.std.specs.Prelude.{◌≡◌, ◌∷◌, ◌++◌, [], length, take, IfOk, OnOk, OnErr};
+ghost use Rattle.std.specs.Prelude.{◌≡◌, ◌<◌, ◌≤◌, ◌^◌, ◌∷◌, ◌++◌, [], length, take, drop, OnOk, OnErr};
+ghost use Rattle.std.specs.Iterator.{YieldsFirstBy, item_count};
+ghost use Rattle.keys.specs.RowBytes.{row_bytes, first_len, first_key, first_value, after_row, after_rows, IsWhole, StartWithRows};
 
-use crate::key::Key;
-use crate::value::Value;
 use std::alloc::{AllocError, Allocator};
 use std::marker::Model;
-use std::slice;
 
-/// The rows of a scan: keys and their values, copied out of the pages, which contracts see as the list of these pairs. That the
-/// keys rise is said by whoever makes them.
+// Up to this many bytes a list takes no more memory than it needs; above, it grows as any list does, so that the rows of many
+// pages are copied only a few times.
+const SMALL: usize = 16_384;
+
+/// The rows of a scan: keys and their values, copied out of the pages, which contracts see as the list of these pairs. All
+/// of them stand in one piece of memory. That the keys rise is said by whoever makes them.
 #[derive(Drop)]
 pub struct RowList<A: Allocator> {
-    rows: Vec<(Key<A>, Value<A>), A>,
+    count: usize,
+    // The rows back to back: of each the lengths of its key and its value, then these.
+    bytes: Vec<u8, A>,
 }
 
 impl<A: Allocator> Model for RowList<A> {
     ghost use Rattle.keys.specs.Bytes.{Bytes, Pairs};
+    ghost use Rattle.keys.specs.RowBytes.{rows_in, AreRows};
 
     ghost Value = { Pairs Bytes };
 
-    ghost view = { λ l. l.rows.items };
+    ghost view = { λ l. rows_in l.count l.bytes.items };
+
+    ghost invariant = { λ l. AreRows l.count l.bytes.items };
 }
 
 impl<A: Allocator + Copy> RowList<A> {
@@ -27,71 +35,187 @@ impl<A: Allocator + Copy> RowList<A> {
         ensures { result ≡ [] }
     {
         RowList {
-            rows: Vec::new(alloc),
+            count: 0,
+            bytes: Vec::new(alloc),
         }
     }
 
     /// Adds a row at the end: copies of this key and value. After an `Err` the rows are as they were.
-    pub fn push(&mut self, alloc: A, key: &[u8], value: &Value<A>) -> Result<(), AllocError>
+    pub fn push(&mut self, key: &[u8], value: &[u8]) -> Result<(), AllocError>
         ensures ok { OnOk result (self.new ≡ self.old ++ (key.now, value.now) ∷ []) }
         ensures err { OnErr result (self.new ≡ self.old) }
     {
-        let key = Key::from_bytes(alloc, key)?;
-        let value = value.copy(alloc)?;
-        self.rows.push((key, value))?;
-        Ok(())
+        let len = self.bytes.len();
+        let pushed = push_row(&mut self.bytes, key, value);
+        match pushed {
+            Ok(()) => self.count += 1,
+            Err(_) => self.bytes.truncate(len),
+        }
+        pushed
     }
 
-    /// Moves the other rows, in their order, behind these; where there are none, with the memory that the others have. After an
-    /// `Err` these rows are as they were.
+    /// Copies the other rows, in their order, to the end of these; where there are none, the others are moved, and keep no
+    /// more memory than they need. After an `Err` these rows are as they were.
     pub fn append(&mut self, other: RowList<A>) -> Result<(), AllocError>
         ensures ok { OnOk result (self.new ≡ self.old ++ other) }
         ensures err { OnErr result (self.new ≡ self.old) }
     {
-        if self.rows.is_empty() {
-            self.rows = other.rows;
+        let RowList { count, mut bytes } = other;
+        if self.count == 0 {
+            bytes.shrink_to_fit();
+            self.bytes = bytes;
+            self.count = count;
             return Ok(());
         }
-        let mut rows = other.rows;
-        self.rows.append(&mut rows)?;
+        make_room(&mut self.bytes, bytes.len())?;
+        self.bytes.extend_from_slice(&bytes)?;
+        let _within = self.bytes.len();
+        self.count += count;
         Ok(())
     }
 
-    /// Leaves out the rows behind the first so many.
+    /// Leaves out the rows after the first ones, this many.
     pub fn truncate(&mut self, len: usize)
         ensures { self.new ≡ take len self.old }
     {
-        self.rows.truncate(len);
+        if len < self.count {
+            let left_out = after_rows(&self.bytes, len).len();
+            self.bytes.truncate(self.bytes.len() - left_out);
+            self.bytes.shrink_to_fit();
+            self.count = len;
+        }
     }
 }
 
 impl<A: Allocator> RowList<A> {
-    /// The rows.
-    pub fn as_slice(&self) -> &[(Key<A>, Value<A>)]
-        ensures { result.now ≡ self.now }
-    {
-        &self.rows
-    }
-
     /// How many rows there are.
     pub fn len(&self) -> usize
         ensures { result ≡ length self.now }
     {
-        self.rows.len()
+        self.count
+    }
+}
+
+// Makes room for this many bytes more.
+fn make_room<A: Allocator>(bytes: &mut Vec<u8, A>, more: usize) -> Result<(), AllocError>
+    ensures { bytes.new.items ≡ bytes.old.items }
+{
+    if bytes.len() < SMALL {
+        bytes.reserve_exact(more)?;
+    }
+    Ok(())
+}
+
+// Puts the bytes of a row after the others. After an `Err` some of them may stand there.
+fn push_row<A: Allocator>(
+    bytes: &mut Vec<u8, A>,
+    key: &[u8],
+    value: &[u8],
+) -> Result<(), AllocError>
+    ensures ok { OnOk result (bytes.new.items ≡ bytes.old.items ++ row_bytes key.now value.now) }
+    ensures err { OnErr result (take (length bytes.old.items) bytes.new.items ≡ bytes.old.items) }
+    ensures key { length key.now < 2 ^ 64 }
+    ensures value { length value.now < 2 ^ 64 }
+{
+    bytes.reserve(key.len().saturating_add(value.len()).saturating_add(16))?;
+    bytes.extend_from_slice(&key.len().to_le_bytes())?;
+    bytes.extend_from_slice(&value.len().to_le_bytes())?;
+    bytes.extend_from_slice(key)?;
+    bytes.extend_from_slice(value)?;
+    Ok(())
+}
+
+// What stands after the first rows, this many.
+fn after_rows(bytes: &[u8], count: usize) -> &[u8]
+    requires { StartWithRows count bytes.now }
+    ensures { result.now ≡ after_rows count bytes.now }
+{
+    let mut left = count;
+    let mut rest = bytes;
+    while left > 0 {
+        rest = first_row(rest).2;
+        left -= 1;
+    }
+    rest
+}
+
+// The first row, its key and its value, and what stands after it.
+#[inline]
+fn first_row(bytes: &[u8]) -> (&[u8], &[u8], &[u8])
+    requires { IsWhole bytes.now }
+    ensures key { result.0.now ≡ first_key bytes.now }
+    ensures value { result.1.now ≡ first_value bytes.now }
+    ensures after { result.2.now ≡ after_row bytes.now }
+{
+    let (key_len, bytes) = first_len(bytes);
+    let (value_len, bytes) = first_len(bytes);
+    let (key, bytes) = bytes.split_at(key_len);
+    let (value, bytes) = bytes.split_at(value_len);
+    (key, value, bytes)
+}
+
+// The length that stands first, and what stands after it.
+#[inline]
+fn first_len(bytes: &[u8]) -> (usize, &[u8])
+    requires { 8 ≤ length bytes.now }
+    ensures len { result.0 ≡ first_len bytes.now }
+    ensures after { result.1.now ≡ drop 8 bytes.now }
+{
+    match bytes.split_first_chunk::<8>() {
+        Some((len, after)) => (usize::from_le_bytes(*len), after),
+        None => (0, bytes),
+    }
+}
+
+/// The rows that are left of a list, in their order: of each the key and the value, lent.
+#[derive(Drop)]
+pub struct RowIter<'a> {
+    left: usize,
+    bytes: &'a [u8],
+}
+
+impl<'a> Model for RowIter<'a> {
+    ghost use Rattle.keys.specs.Bytes.{Bytes, Pairs};
+    ghost use Rattle.keys.specs.RowBytes.{rows_in, AreRows};
+
+    ghost Value = { Pairs Bytes };
+
+    ghost view = { λ r. rows_in r.left r.bytes.now };
+
+    ghost invariant = { λ r. AreRows r.left r.bytes.now };
+}
+
+impl<'a> Iterator for RowIter<'a> {
+    type Item = (&'a [u8], &'a [u8]);
+
+    ghost next_gives = { YieldsFirstBy (λ item. (item.0.now, item.1.now)) (λ left. left) };
+
+    ghost remaining = { item_count (λ left. left) };
+
+    fn next(&mut self) -> Option<(&'a [u8], &'a [u8])> {
+        if self.left == 0 {
+            return None;
+        }
+        let (key, value, after) = first_row(self.bytes);
+        self.left -= 1;
+        self.bytes = after;
+        Some((key, value))
     }
 }
 
 impl<'a, A: Allocator> IntoIterator for &'a RowList<A> {
     ghost use Rattle.std.specs.Prelude.{◌≡◌};
-    ghost use Rattle.std.specs.Slice.Iter.{iter_rest};
 
-    type Item = &'a (Key<A>, Value<A>);
+    type Item = (&'a [u8], &'a [u8]);
 
-    type IntoIter = slice::Iter<'a, (Key<A>, Value<A>)>;
+    type IntoIter = RowIter<'a>;
 
-    ghost into_iter_gives = { λ rows it. iter_rest it ≡ rows.now };
+    ghost into_iter_gives = { λ rows it. it ≡ rows.now };
 
-    fn into_iter(self) -> slice::Iter<'a, (Key<A>, Value<A>)> {
-        self.rows.iter()
+    fn into_iter(self) -> RowIter<'a> {
+        RowIter {
+            left: self.count,
+            bytes: &self.bytes,
+        }
     }
 }

@@ -37,7 +37,7 @@ pub(crate) fn rows_of(
             break;
         }
         if let Some(value) = value {
-            rows.push(alloc, key, value)?;
+            rows.push(key, value.as_bytes())?;
         }
     }
     Ok(rows)

@@ -40,8 +40,9 @@ fn blank(alloc: Global, command: &Command<Global>) -> Reply<Global>
 }
 
 /// Adds each answer of a page to what stands at its command's place. Of a scan the rows go behind those that stand there, up to its
-/// limit: so pages are added in their order. Of a wipe the counts are added up. Replies and rows are moved, and no row is copied. `AllocError` comes only where memory
-/// was refused to a list of rows; the replies then have some of the answers, and are good for nothing but to be dropped.
+/// limit: so pages are added in their order. Of a wipe the counts are added up. Replies are moved, and so are the rows of a scan's
+/// first page; those of later pages are copied. `AllocError` comes only where memory was refused to a list of rows; the replies then
+/// have some of the answers, and are good for nothing but to be dropped.
 pub fn add_answers(
     replies: &mut [Reply<Global>],
     commands: &[Command<Global>],
@@ -112,7 +113,7 @@ fn add(
     }
 }
 
-// Moves rows behind those that stand there, up to so many. Rows that come when there are enough are let go.
+// Adds rows to those that stand there, up to so many. Rows that come when there are enough are let go.
 fn add_rows(at: &mut Reply<Global>, more: RowList<Global>, limit: usize) -> Result<(), AllocError>
     ensures { OnOk result (at.new ≡ with_rows limit at.old more) }
 {

@@ -23,7 +23,7 @@ loop-key-preserved-in-Continue-1 c =
     let few : length c.loop-key.rows < c.args.limit = omega (arith, c.len.ensures) in
     let before : is_before c.args.end.now c.in-Some.key.now ≡ true = sym c.is_before_end.ensures ∙ c.if-not-is_before_end.false in
     record {
-      all = rw (c.in_ok-push.ensures.ok) (row-added c.args.end.now c.args.limit c.loop-key.rows _ c.in-Some.key.now _ c.next.new.self few before (rw (next, c.in-Some-value.is) at c.loop-key.invariant.all));
+      all = rw (c.in_ok-push.ensures.ok, c.as_bytes.ensures) (row-added c.args.end.now c.args.limit c.loop-key.rows _ c.in-Some.key.now _ c.next.new.self few before (rw (next, c.in-Some-value.is) at c.loop-key.invariant.all));
       rising = sorted_tail order c.in-Some.key.now (keys_of c.next.new.self) (rw next at c.loop-key.invariant.rising);
     }
 
