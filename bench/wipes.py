@@ -114,14 +114,16 @@ def sessions(work):
     tenths = [rising[start : start + few] for start in range(0, pairs, few)]
     shuffled = work.random.sample(tenths[5], few)
     absent = work.random.choices(tenths[7], k=5 * OFTEN)  # no key begins with one of these and goes on
-    in_turn = list(narrow(work, rising))
+    in_turn = list(narrow(work, rising[6 * few :]))
     load = Phase("load", pairs, LONG, lambda: work.puts(work.keys))
     load_few = Phase("load", few, LONG, lambda: work.puts(work.keys[:few]))
-    wipe_all = one("wipe of all", "wipe % *")
     return [
         Session(load, [one("wipe of a tenth", f"wipe {tenths[1][0]} {tenths[2][0]}")], is_for_all=True),
-        Session(load, [wipe_all], is_for_all=True),
-        Session(load, [wipe_all, one("wipe of all, again", "wipe % *"), one("scan of what is left", "scan % * 1")]),
+        Session(load, [
+            one("wipe of all", "wipe % *"),
+            one("wipe of all, again", "wipe % *"),
+            one("scan of what is left", "scan % * 1"),
+        ], is_for_all=True),
         Session(load, [Phase("deletes of all, in key order", pairs, LONG, lambda: dels(rising))]),
         Session(load, [Phase("deletes of all, in no order", pairs, LONG, lambda: dels(work.shuffled))]),
         Session(load, [
@@ -130,8 +132,6 @@ def sessions(work):
             Phase("gets of missing keys", len(absent), OFTEN, lambda: (f"get {key}!" for key in absent)),
             Phase("wipes of empty ranges", len(absent), OFTEN, lambda: (f"wipe {key}! {key}!" for key in absent)),
             Phase("wipes of ranges without keys", len(absent), OFTEN, lambda: (f"wipe {key}! {key}~" for key in absent)),
-        ]),
-        Session(load, [
             Phase("narrow wipes and scans in turn", 2 * TURNS, 2 * TURNS, lambda: in_turn, lambda: [1, 1 + ROWS] * TURNS),
         ]),
         Session(load_few, [
@@ -198,7 +198,7 @@ def print_others(results, names):
     for name in names:
         for (phase, program), sample in results.best.items():
             if program == name:
-                print(f"{phase.name}, {name}: {sample.cpu:.3f} s")
+                print(f"{phase.name}, {name}: {sample.cpu:.4f} s")
 
 
 def print_most(memory, names):
