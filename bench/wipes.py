@@ -27,8 +27,8 @@ BY = {
     "wipes of ranges without keys": "gets of missing keys",
     "queue: a wipe a batch, from the oldest on": "queue: deletes",
     "queue: a wipe a batch, from `%` on": "queue: deletes",
-    "queue: a wipe behind each put, from the oldest on": "queue: a delete behind each put",
-    "queue: a wipe behind each put, from `%` on": "queue: a delete behind each put",
+    "queue: a wipe after each put, from the oldest on": "queue: a delete after each put",
+    "queue: a wipe after each put, from `%` on": "queue: a delete after each put",
 }
 
 
@@ -46,7 +46,7 @@ def one(name, command):
 
 
 def narrow(work, keys):
-    """In turn, a wipe of a few keys and a scan of as many rows: below the last tenth of the keys, of which some are always left."""
+    """In turn, a wipe of a few keys and a scan of as many rows: below the last tenth of the keys, which always has some."""
     last = len(keys) * 9 // 10
     for _ in range(TURNS):
         at = work.random.randrange(last)
@@ -72,7 +72,7 @@ def by_deletes(keys):
 
 
 class Queue:
-    """Keys that rise. Each so many puts at the end are followed by what removes as many of the oldest."""
+    """Puts of keys that rise. What has come first is removed first, so that there are always as many pairs."""
 
     def __init__(self, work):
         self.work, self.pairs = work, len(work.keys)
@@ -83,7 +83,7 @@ class Queue:
         return [f"{number:016}" for number in range(start, end)]
 
     def phase(self, name, batch, each, remove):
-        """Batches of so many puts, after each so many of which the oldest are removed. It goes on where the phase before has come to."""
+        """Batches with this number of puts. After `each` puts as many of the oldest keys are removed. A phase goes on where the last has come to."""
         commands = []
         for start in range(self.next, self.next + BATCHES * batch, each):
             commands += self.work.puts(self.keys(start, start + each))
@@ -97,12 +97,12 @@ def queues(work):
     return [
         Session(oldest.load, [
             oldest.phase("a wipe a batch, from the oldest on", OFTEN, OFTEN, from_oldest),
-            oldest.phase("a wipe behind each put, from the oldest on", TURNS, 1, from_oldest),
+            oldest.phase("a wipe after each put, from the oldest on", TURNS, 1, from_oldest),
             oldest.phase("deletes", OFTEN, OFTEN, by_deletes),
-            oldest.phase("a delete behind each put", TURNS, 1, by_deletes),
+            oldest.phase("a delete after each put", TURNS, 1, by_deletes),
         ]),
         Session(start.load, [
-            start.phase("a wipe behind each put, from `%` on", TURNS, 1, from_start),
+            start.phase("a wipe after each put, from `%` on", TURNS, 1, from_start),
             start.phase("a wipe a batch, from `%` on", OFTEN, OFTEN, from_start),
         ]),
     ]
@@ -150,7 +150,7 @@ def write_held(text, session):
 
 
 def hold(running):
-    """Waits until the program has printed the first line of such a batch, and stands still: all before it is done, nothing behind it."""
+    """Waits until the program has printed the first line of such a batch, and stands still: all before it is done, and nothing after it."""
     running.take(1, hashlib.blake2b())
     return running.cpu()
 
