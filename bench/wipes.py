@@ -17,7 +17,7 @@ OTHERS = {"retain": "BTreeMap by retain", "append": "BTreeMap by split_off and a
 OFTEN = 10_000  # commands in a batch that find nothing, and puts in a batch of a queue
 TURNS = 1_000  # wipes in a batch of wipes and scans in turn, and in one of a queue
 ROWS = 10  # that such a scan has, and keys that a narrow wipe removes
-BATCHES = 20  # of a queue
+BATCHES = 10  # of a queue
 PIPE = 4_096  # bytes
 HOLD = Phase("", 2_048, 2_048, lambda: ["get -"] * 2_048)  # prints more than the pipe and the buffer of its reader hold
 BY = {
@@ -116,7 +116,7 @@ def sessions(work):
     absent = work.random.choices(tenths[7], k=5 * OFTEN)  # no key begins with one of these and goes on
     in_turn = list(narrow(work, rising[6 * few :]))
     load = Phase("load", pairs, LONG, lambda: work.puts(work.keys))
-    load_few = Phase("load", few, LONG, lambda: work.puts(work.keys[:few]))
+    load_few = Phase("load", pairs // 20, LONG, lambda: work.puts(work.keys[: pairs // 20]))
     return [
         Session(load, [one("wipe of a tenth", f"wipe {tenths[1][0]} {tenths[2][0]}")], is_for_all=True),
         Session(load, [
