@@ -2,7 +2,6 @@
 """Measures `wipe` beside std's BTreeMap and beside deletes; README.md says what is measured, and how."""
 
 import argparse
-import fcntl
 import hashlib
 import sys
 import tempfile
@@ -157,8 +156,7 @@ def hold(running):
 
 def run_session(command, text, session):
     """The samples of the phases, and of each how many bytes it took at its highest beyond what was in use before it."""
-    running = Running(command, text)
-    fcntl.fcntl(running.child.stdout, fcntl.F_SETPIPE_SZ, PIPE)
+    running = Running(command, text, PIPE)
     running.phase([1, *session.load.lines()])
     samples, taken, start = [], [], hold(running)
     for phase in session.phases:
