@@ -137,7 +137,7 @@ def sessions(work):
             Phase("wide wipes and scans in turn", 2 * TURNS, 2 * TURNS, lambda: ["wipe % *", f"scan % * {ROWS}"] * TURNS),
         ]),
         Session(load_few, [
-            Phase("the same with puts", 3 * TURNS, 3 * TURNS, lambda: wide_with_puts(work), lambda: [1, 1, 2] * TURNS),
+            Phase("wide wipes, puts and scans in turn", 3 * TURNS, 3 * TURNS, lambda: wide_with_puts(work), lambda: [1, 1, 2] * TURNS),
         ]),
         *queues(work),
     ]
