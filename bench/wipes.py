@@ -9,7 +9,7 @@ from dataclasses import dataclass
 from pathlib import Path
 
 from recovery import status_bytes
-from run import LONG, PEER, PROGRAM, Phase, Results, Running, Work, build_peer, dels, print_speeds, write_session
+from run import LONG, PEER, PROGRAM, Phase, Results, Running, Work, build_peer, dels, write_session
 
 SETTINGS = {"fan 64, chain 16": ["--fan", "64", "--chain", "16"], "defaults": []}
 OTHERS = {"retain": "BTreeMap by retain", "append": "BTreeMap by split_off and append"}  # by the word that the peer takes
@@ -191,18 +191,19 @@ def measure(work, commands, chosen, folder):
     return results, memory
 
 
+def print_table(results, memory, names):
+    print(f"\n| ms, and MB at the highest | commands | {' | '.join(names)} | {' | '.join(f'MB: {name}' for name in names)} |\n|---|---|{'---|' * 2 * len(names)}")
+    for phase in dict.fromkeys(phase for phase, _ in results.best):
+        took = [f"{results.best[phase, name].cpu * 1000:,.1f}" for name in names]
+        most = [f"{max(0, memory[phase, name]) / 1e6:,.1f}" for name in names]
+        print(f"| {phase.name} | {phase.count:,} | {' | '.join(took + most)} |")
+
+
 def print_others(results, names):
     """What the peers that go over all pairs took."""
     for name in names:
-        for (phase, program), sample in results.best.items():
-            if program == name:
-                print(f"{phase.name}, {name}: {sample.cpu:.4f} s")
-
-
-def print_most(memory, names):
-    print(f"\n| at its highest beyond what was in use, MB | {' | '.join(names)} |\n|---|{'---|' * len(names)}")
-    for phase in dict.fromkeys(phase for phase, _ in memory):
-        print(f"| {phase.name} | {' | '.join(f'{memory[phase, name] / 1e6:,.1f}' for name in names)} |")
+        took = [f"{phase.name} {sample.cpu * 1000:,.1f} ms" for (phase, program), sample in results.best.items() if program == name]
+        print(f"{name}: {', '.join(took)}")
 
 
 def print_quotients(results, names):
@@ -240,10 +241,9 @@ def main():
         commands |= {name: [*peer, word] for word, name in OTHERS.items()} if peer else {}
         results, memory = measure(Work(chosen.pairs), commands, chosen, folder)
     others = [name for name in commands if name not in names]
-    print_speeds(results, names)
-    print_others(results, others)
-    print_most(memory, names)
+    print_table(results, memory, names)
     print_quotients(results, names)
+    print_others(results, others)
 
 
 if __name__ == "__main__":
