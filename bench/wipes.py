@@ -66,6 +66,10 @@ def from_start(keys):
     return [f"wipe % {keys[-1]}"]
 
 
+def first_row(keys):
+    return ["scan % * 1", f"wipe {keys[0]} {keys[-1]}"]
+
+
 def by_deletes(keys):
     return list(dels(keys[:-1]))
 
@@ -88,11 +92,12 @@ class Queue:
             commands += self.work.puts(self.keys(start, start + each))
             commands += remove(self.keys(start - self.pairs, start - self.pairs + each + 1))
         self.next += BATCHES * batch
-        return Phase(f"queue: {name}", len(commands), len(commands) // BATCHES, lambda: commands)
+        printed = [1 + command.startswith("scan") for command in commands]
+        return Phase(f"queue: {name}", len(commands), len(commands) // BATCHES, lambda: commands, lambda: printed)
 
 
 def queues(work):
-    oldest, start = Queue(work), Queue(work)
+    oldest, start, first = (Queue(work) for _ in range(3))
     return [
         Session(oldest.load, [
             oldest.phase("a wipe a batch, from the oldest on", OFTEN, OFTEN, from_oldest),
@@ -104,6 +109,7 @@ def queues(work):
             start.phase("a wipe after each put, from `%` on", TURNS, 1, from_start),
             start.phase("a wipe a batch, from `%` on", OFTEN, OFTEN, from_start),
         ]),
+        Session(first.load, [first.phase("a scan of the first row and its wipe after each put", TURNS, 1, first_row)]),
     ]
 
 
