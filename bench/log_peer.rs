@@ -9,7 +9,7 @@
 #[path = "peer.rs"]
 mod peer;
 
-use peer::{command, run_batch, show, Command, Map, Reply};
+use peer::{by_extract_if, command, run_batch, show, wipe, Command, Map, Reply};
 use std::fs::{self, File};
 use std::io::{self, Read, Seek, SeekFrom, Write};
 use std::mem;
@@ -17,6 +17,7 @@ use std::mem;
 const PUT: u8 = 1;
 const DEL: u8 = 2;
 const FLUSH: u8 = 3;
+const WIPE: u8 = 4;
 const LONG: usize = 1 << 20; // what is kept before it is written
 
 enum Order {
@@ -34,7 +35,8 @@ struct Log {
 }
 
 impl Log {
-    // A record: its length, in four bytes, its kind, and for a put the length of the key, in two bytes, the key, the value.
+    // A record: its length, in four bytes, its kind, and for a put the length of the key, in two bytes, the key, the value; for a wipe
+    // the same of its bounds, and nothing for the upper one where there is none: below the empty key there is nothing to be wiped.
     fn push(&mut self, kind: u8, parts: &[&[u8]]) {
         let length = 1 + parts.iter().map(|part| part.len()).sum::<usize>();
         self.behind.extend_from_slice(&(length as u32).to_be_bytes());
@@ -52,6 +54,9 @@ impl Log {
                 self.push(PUT, &[&(key.len() as u16).to_be_bytes(), key, value])
             }
             (Command::Del(key), _) => self.push(DEL, &[key]),
+            (Command::Wipe(lo, hi, _), Reply::Wiped(1..)) => {
+                self.push(WIPE, &[&(lo.len() as u16).to_be_bytes(), lo, hi.as_deref().unwrap_or_default()])
+            }
             _ => return,
         }
         self.is_changed = true;
@@ -96,6 +101,11 @@ fn replay(map: &mut Map, record: &[u8]) -> Option<()> {
         }
         [DEL, key @ ..] => {
             map.remove(key);
+        }
+        [WIPE, high, low, rest @ ..] => {
+            let (lo, hi) = rest.split_at_checked(u16::from_be_bytes([*high, *low]) as usize)?;
+            let hi = (!hi.is_empty()).then(|| hi.to_vec());
+            wipe(map, &lo.to_vec(), hi.as_ref(), by_extract_if);
         }
         [FLUSH] => {}
         _ => return None,

@@ -1,5 +1,6 @@
 //! The peer of the bench: what `bwsh` does, over std's `BTreeMap`. It reads the same text, runs each batch sorted by key,
-//! and prints the same lines. As in the store, a batch is lent, and its replies are values of their own.
+//! and prints the same lines. As in the store, a batch is lent, and its replies are values of their own. Its first word, `retain`
+//! or `append`, says by what a range is removed; without one that is `extract_if`.
 
 use std::collections::BTreeMap;
 use std::ops::Bound;
@@ -7,12 +8,16 @@ use std::io::{self, Read, Write};
 
 pub type Map = BTreeMap<Vec<u8>, Vec<u8>>;
 
+/// Removes the keys from the first on, and below the second, and says how many there were.
+pub type Remove = fn(&mut Map, &Vec<u8>, Option<&Vec<u8>>) -> usize;
+
 pub enum Command {
     Get(Vec<u8>),
     Put(Vec<u8>, Vec<u8>),
     Add(Vec<u8>, Vec<u8>),
     Del(Vec<u8>),
     Scan(Vec<u8>, Option<Vec<u8>>, usize),
+    Wipe(Vec<u8>, Option<Vec<u8>>, Remove),
 }
 
 #[derive(Clone)]
@@ -20,22 +25,23 @@ pub enum Reply {
     Value(Vec<u8>),
     Word(&'static str),
     Rows(Vec<(Vec<u8>, Vec<u8>)>),
+    Wiped(usize),
 }
 
 impl Command {
     fn key(&self) -> &[u8] {
         match self {
             Command::Get(key) | Command::Del(key) | Command::Scan(key, _, _) => key,
-            Command::Put(key, _) | Command::Add(key, _) => key,
+            Command::Put(key, _) | Command::Add(key, _) | Command::Wipe(key, _, _) => key,
         }
     }
 
-    fn is_scan(&self) -> bool {
-        matches!(self, Command::Scan(..))
+    fn is_ranged(&self) -> bool {
+        matches!(self, Command::Scan(..) | Command::Wipe(..))
     }
 
     fn is_change(&self) -> bool {
-        !self.is_scan() && !matches!(self, Command::Get(_))
+        !matches!(self, Command::Get(_) | Command::Scan(..))
     }
 
     fn run(&self, map: &mut Map) -> Reply {
@@ -60,7 +66,40 @@ impl Command {
                 None => Reply::Word("missing"),
             },
             Command::Scan(lo, hi, limit) => Reply::Rows(rows(map, lo, hi.as_deref(), *limit)),
+            Command::Wipe(lo, hi, remove) => Reply::Wiped(wipe(map, lo, hi.as_ref(), *remove)),
         }
+    }
+}
+
+/// A map takes no range whose end is below its beginning.
+pub fn wipe(map: &mut Map, lo: &Vec<u8>, hi: Option<&Vec<u8>>, remove: Remove) -> usize {
+    if hi.is_some_and(|hi| hi <= lo) { 0 } else { remove(map, lo, hi) }
+}
+
+pub fn by_extract_if(map: &mut Map, lo: &Vec<u8>, hi: Option<&Vec<u8>>) -> usize {
+    let end = hi.map_or(Bound::Unbounded, Bound::Excluded);
+    map.extract_if((Bound::Included(lo), end), |_, _| true).count()
+}
+
+fn by_retain(map: &mut Map, lo: &Vec<u8>, hi: Option<&Vec<u8>>) -> usize {
+    let before = map.len();
+    map.retain(|key, _| key < lo || hi.is_some_and(|hi| key >= hi));
+    before - map.len()
+}
+
+fn by_append(map: &mut Map, lo: &Vec<u8>, hi: Option<&Vec<u8>>) -> usize {
+    let mut removed = map.split_off(lo);
+    if let Some(hi) = hi {
+        map.append(&mut removed.split_off(hi));
+    }
+    removed.len()
+}
+
+fn chosen() -> Remove {
+    match std::env::args().nth(1).as_deref() {
+        Some("retain") => by_retain,
+        Some("append") => by_append,
+        _ => by_extract_if,
     }
 }
 
@@ -108,6 +147,8 @@ pub fn command(words: &[&[u8]]) -> Option<Command> {
         [b"add", key, value] => Command::Add(token(key)?, token(value)?),
         [b"scan", lo, b"*", limit] => Command::Scan(token(lo)?, None, number(limit)?),
         [b"scan", lo, hi, limit] => Command::Scan(token(lo)?, Some(token(hi)?), number(limit)?),
+        [b"wipe", lo, b"*"] => Command::Wipe(token(lo)?, None, chosen()),
+        [b"wipe", lo, hi] => Command::Wipe(token(lo)?, Some(token(hi)?), chosen()),
         _ => return None,
     })
 }
@@ -128,11 +169,11 @@ fn parse(text: &[u8]) -> Option<Vec<Vec<Command>>> {
 }
 
 // The replies to the commands, each at its command's place. They are run in the order of their keys, those of one key in
-// the order of their places; but where a batch has scans among changes, all in the order of their places. Each is told when it
+// the order of their places; but where a batch has changes, and scans or wipes, all in the order of their places. Each is told when it
 // has been run.
 pub fn run_batch(map: &mut Map, commands: &[Command], mut told: impl FnMut(&Command, &Reply)) -> Vec<Reply> {
     let mut keyed: Vec<_> = commands.iter().map(Command::key).zip(0..).collect();
-    if !commands.iter().any(Command::is_scan) || !commands.iter().any(Command::is_change) {
+    if !commands.iter().any(Command::is_ranged) || !commands.iter().any(Command::is_change) {
         keyed.sort_unstable();
     }
     let mut replies = vec![Reply::Word(""); commands.len()];
@@ -159,6 +200,7 @@ fn show_token(bytes: &[u8], lines: &mut Vec<u8>) {
 pub fn show(reply: &Reply, lines: &mut Vec<u8>) {
     match reply {
         Reply::Word(word) => lines.extend_from_slice(word.as_bytes()),
+        Reply::Wiped(count) => lines.extend_from_slice(format!("wiped {count}").as_bytes()),
         Reply::Value(value) => {
             lines.extend_from_slice(b"value ");
             show_token(value, lines);

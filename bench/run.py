@@ -164,10 +164,10 @@ def write_session(path, phases):
 class Running:
     """A program that runs a batch file: its replies as they come, and what it has taken until then."""
 
-    def __init__(self, command, text):
+    def __init__(self, command, text, pipe_bytes=-1):
         self.command = command
         with open(text, "rb") as file:
-            self.child = subprocess.Popen(command, stdin=file, stdout=subprocess.PIPE, bufsize=0)
+            self.child = subprocess.Popen(command, stdin=file, stdout=subprocess.PIPE, bufsize=0, pipesize=pipe_bytes)
         self.behind = b""  # what was read and belongs to later lines
 
     def take(self, lines, digest):
