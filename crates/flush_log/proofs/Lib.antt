@@ -9,6 +9,7 @@ pub mod CalledLemmas
 pub mod CommitLemmas
 pub mod CommitRuns
 pub mod CrashLemmas
+mod DueLemmas
 pub mod FaultLemmas
 pub mod FitLemmas
 pub mod GatherLemmas

@@ -196,7 +196,7 @@ length_runs : (p : PageOfKind) → length (run_contents p) ≡ page_depth p
 length_runs (Leaf p) = length_contents (λ run. DeltaLeaf run) p.layers.runs
 length_runs (Index p) = length_contents (λ run. DeltaIndex run) p.layers.runs
 
-depth_at : (spelling : Spelling) (p : PageOfKind) (kept depth : ℕ) → page_depth p < 2 ^ 31 → depth ≡ depth_counted p → IsWritten spelling (Some p) (Upto kept) (nat_le depth kept)
+pub depth_at : (spelling : Spelling) (p : PageOfKind) (kept depth : ℕ) → page_depth p < 2 ^ 31 → depth ≡ depth_counted p → IsWritten spelling (Some p) (Upto kept) (nat_le depth kept)
 depth_at spelling p kept depth few d =
     let size = length_runs p in (
       λ h. (let most = leb-true depth kept h in drop_all kept (run_contents p) (omega arith)),
@@ -255,6 +255,14 @@ pub jobs-push : (text : Text) (t : Tree) (js ks : List ImageJob) (j : ImageJob) 
 jobs-push text t js ks j pid from left all e h l is =
     ap (λ (hs : List ImageHeld). text_with text t hs left) (held-push text t js ks j pid e h)
     ∙ text-push text t (map job_held js) pid left all (ap (λ (ns : List ℕ). text_with text t (map job_held js) ns) (sym l) ∙ is)
+
+-- and one of which nothing is to be written
+pub jobs-skip : (text : Text) (t : Tree) (hs : List ImageHeld) (pid : ℕ) (from left : List ℕ) (all : List Frame) (page : Option PageOfKind) (l : Logged) (b : Bool) → from ≡ pid ∷ left → text_with text t hs from ≡ all
+    → page ≡ page_at t.pages pid → l ≡ taken text (logged_of t pid) → ((spelling : Spelling) → IsWritten spelling page l b) → b ≡ true → text_with text t hs left ≡ all
+jobs-skip text t hs pid from left all page l b e h p q is holds =
+    let spelling : Spelling = spelling_of (version_with text) in
+    let none : lacking spelling (page_at t.pages pid) (taken text (logged_of t pid)) ≡ [] = ap₂ (lacking spelling) (sym p) (sym q) ∙ (is spelling).0 holds in
+    text-skip text t hs pid left all (ap (λ (ns : List ℕ). text_with text t hs ns) (sym e) ∙ h) none
 
 pub due-push : (text : Text) (t : Tree) (js ks : List ImageJob) (j : ImageJob) (pid : ℕ) → ks ≡ js ++ j ∷ [] → job_held j ≡ held_of_pid text t pid → AllByRecursion IsDue (map job_held js) → IsDue (held_of_pid text t pid)
     → AllByRecursion IsDue (map job_held ks)

@@ -1,15 +1,17 @@
 //! The text of a flush or of an upgrade, as images.
-ghost use Rattle.std.specs.Prelude.{◌≡◌, ◌≢◌, ◌↔◌, ℕ, [], map, flat_map, IfOk, IsTrue};
+ghost use Rattle.std.specs.Prelude.{◌≡◌, ◌≢◌, ◌↔◌, ℕ, true, [], map, flat_map, IfOk, IsTrue};
 ghost use Rattle.std.specs.List.{AllByRecursion};
 ghost use Rattle.std.specs.Option.{option_copied};
 ghost use Rattle.keys.specs.declared.settings.Settings as limits;
 ghost use Rattle.keys.specs.declared.version.Version as versions;
 ghost use Rattle.mapping.specs.LogState.{log_state};
-ghost use Rattle.mapping.specs.Proper.{IsProper};
+ghost use Rattle.mapping.specs.FreshPids.{is_among};
+ghost use Rattle.mapping.specs.Proper.{AreRisingPids, IsProper};
 ghost use Rattle.mapping.specs.TreeInMemory.{AreAllHome, tree_of};
 ghost use Rattle.frame_codec.specs.declared.format.Spelling as spellings;
 ghost use Rattle.frame_codec.specs.Sized.{HasWords};
-ghost use Rattle.flush_log.specs.FlushText.{spelling_of, lacking, version_with, taken, text_of, flush_text, HasFrames};
+ghost use Rattle.flush_log.specs.FlushText.{spelling_of, lacking, version_with, taken, pid_text, text_of, flush_text, HasFrames};
+ghost use Rattle.flush_log.specs.declared.text.Text.TheVariants as texts;
 ghost use Rattle.flush_log.specs.ImageWork.{job_held, held_of_pid, held_text, image_made, HasFewRuns, CanBeWritten, IsDue, IsOfStore};
 ghost use Rattle.flush_log.specs.Images.{AreOfText};
 
@@ -92,6 +94,33 @@ pub fn is_all_written(tree: &Tree<Global>) -> bool
     requires proper { IsOfStore (tree_of tree.now) }
     ensures { (version : versions.Version) → IsTrue result ↔ (flush_text version (tree_of tree.now) ≡ []) }
 {
+    match tree.due_pids() {
+        Some(pids) => are_written(tree, pids),
+        None => are_all_written(tree),
+    }
+}
+
+// Whether nothing is to be written of these page ids.
+fn are_written(tree: &Tree<Global>, pids: &[u64]) -> bool
+    requires home { AreAllHome tree.now }
+    requires proper { IsOfStore (tree_of tree.now) }
+    ensures { (version : versions.Version) → IsTrue result ↔ (flat_map (pid_text (texts.Flush version) (tree_of tree.now)) pids.now ≡ []) }
+{
+    for pid in pids {
+        let job = job_of(tree, *pid, Text::Flush(Version::One));
+        if !is_written(job.page, job.logged) {
+            return false;
+        }
+    }
+    true
+}
+
+// Whether nothing is to be written of any page id.
+fn are_all_written(tree: &Tree<Global>) -> bool
+    requires home { AreAllHome tree.now }
+    requires proper { IsOfStore (tree_of tree.now) }
+    ensures { (version : versions.Version) → IsTrue result ↔ (flush_text version (tree_of tree.now) ≡ []) }
+{
     for pid in tree.known_pids() {
         let job = job_of(tree, pid, Text::Flush(Version::One));
         if !is_written(job.page, job.logged) {
@@ -103,6 +132,61 @@ pub fn is_all_written(tree: &Tree<Global>) -> bool
 
 // The jobs of all page ids of which something is to be written.
 fn due_jobs<'a>(
+    alloc: Global,
+    tree: &'a Tree<Global>,
+    text: Text,
+) -> Result<Vec<ImageJob<'a>>, AllocError>
+    requires home { AreAllHome tree.now }
+    requires proper { IsOfStore (tree_of tree.now) }
+    ensures text { IfOk result (λ jobs. flat_map held_text (map job_held jobs.items) ≡ text_of text (tree_of tree.now)) }
+    ensures due { IfOk result (λ jobs. AllByRecursion IsDue (map job_held jobs.items)) }
+{
+    match (text, tree.due_pids()) {
+        (Text::Flush(_), Some(due)) => {
+            let pids = rising(alloc, due)?;
+            jobs_of(alloc, tree, text, &pids)
+        }
+        _ => all_jobs(alloc, tree, text),
+    }
+}
+
+// These numbers by size, each once.
+fn rising(alloc: Global, numbers: &[u64]) -> Result<Vec<u64>, AllocError>
+    ensures rising { IfOk result (λ rising. AreRisingPids rising.items) }
+    ensures all { IfOk result (λ rising. (n : ℕ) → is_among n numbers.now ≡ true → is_among n rising.items ≡ true) }
+{
+    let mut rising = Vec::new(alloc);
+    rising.extend_from_slice(numbers)?;
+    rising.sort_unstable();
+    rising.dedup();
+    Ok(rising)
+}
+
+// The jobs of these page ids of which something is to be written.
+fn jobs_of<'a>(
+    alloc: Global,
+    tree: &'a Tree<Global>,
+    text: Text,
+    pids: &[u64],
+) -> Result<Vec<ImageJob<'a>>, AllocError>
+    requires home { AreAllHome tree.now }
+    requires writable { (pid : ℕ) → CanBeWritten (held_of_pid text (tree_of tree.now) pid) }
+    ensures text { IfOk result (λ jobs. flat_map held_text (map job_held jobs.items) ≡ flat_map (pid_text text (tree_of tree.now)) pids.now) }
+    ensures due { IfOk result (λ jobs. AllByRecursion IsDue (map job_held jobs.items)) }
+{
+    let mut jobs = Vec::new(alloc);
+    for pid in pids {
+        let job = job_of(tree, *pid, text);
+        if !is_written(job.page, job.logged) {
+            jobs.reserve(1)?;
+            jobs.push_reserved(job);
+        }
+    }
+    Ok(jobs)
+}
+
+// The jobs of all page ids of which something is to be written.
+fn all_jobs<'a>(
     alloc: Global,
     tree: &'a Tree<Global>,
     text: Text,

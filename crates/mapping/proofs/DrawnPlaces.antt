@@ -33,7 +33,7 @@ same_test : (m n : ℕ) → nat_eq m n ≡ is_eq (nat_cmp m n)
 same_test m n = same_test_by (nat_eq m n) (is_eq (nat_cmp m n)) m n refl refl
 
 -- a number is among a list with one more at its end, if it is that one, or among the list
-among_last : (q k : ℕ) (ns : List ℕ) → is_among q (ns ++ k ∷ []) ≡ (nat_eq q k || is_among q ns)
+pub among_last : (q k : ℕ) (ns : List ℕ) → is_among q (ns ++ k ∷ []) ≡ (nat_eq q k || is_among q ns)
 among_last q k [] = refl
 among_last q k (n ∷ ns) = ap (λ (b : Bool). nat_eq q n || b) (among_last q k ns) ∙ or_swapped (nat_eq q n) (nat_eq q k) (is_among q ns)
 
@@ -97,7 +97,7 @@ module _ {V : Type 0} where
       ∙ pass_by (is_eq (nat_cmp q e.0)) (is_eq (nat_cmp q k)) q k e (listed_at es q) refl refl h
 
   -- what is listed once a pid's entry is taken away
-  listed-remove_entry : (k q : ℕ) (es : List (ℕ × V)) → AreRisingPids (keys_of es) → listed_at (remove_entry (is_same_pid k) es) q ≡ cond (is_eq (nat_cmp q k)) None (listed_at es q)
+  pub listed-remove_entry : (k q : ℕ) (es : List (ℕ × V)) → AreRisingPids (keys_of es) → listed_at (remove_entry (is_same_pid k) es) q ≡ cond (is_eq (nat_cmp q k)) None (listed_at es q)
   listed-remove_entry k q [] r = none_by (is_eq (nat_cmp q k))
   listed-remove_entry k q (e ∷ es) r = removed_by (is_eq (nat_cmp k e.0)) k q e es (remove_entry (is_same_pid k) es) refl r (listed-remove_entry k q es r.1)
 

@@ -4,7 +4,7 @@ use Rattle.std.proofs.Common.{refl, sym, ap, ◌∙◌, arith, subst}
 use Rattle.std.proofs.lemmas.List.{take_at}
 use Rattle.index_page.specs.Page.{PageOfKind}
 use Rattle.mapping.specs.LogState.{log_state}
-use Rattle.mapping.specs.Flushed.{logged_home_pages, marked_as_written, logged_then}
+use Rattle.mapping.specs.Flushed.{logged_home_pages, marked_as_written, logged_then, slot_then}
 use Rattle.mapping.specs.Proper.{AreRisingPids}
 use Rattle.mapping.specs.Table.{Mapping}
 use Rattle.mapping.specs.Slots.{slot_pids, listed_place, listed_state, entry_if, table_of, AreInUseBelow, AreSlots}
@@ -13,10 +13,6 @@ use Rattle.mapping.specs.declared.slots.TablePlace.{TablePlace}
 use Rattle.mapping.specs.declared.slots.TablePlace.TheVariants.{Vacant, Away, Home}
 use Rattle.mapping.specs.declared.slots.TableSlot.{TableSlot}
 use Rattle.mapping.proofs.TableSlots.{same_mapping}
-
--- a slot then
-abbrev pub slot_then : TableSlot PageOfKind → TableSlot PageOfKind
-slot_then s = record { pid = s.pid; page = s.page; logged = logged_then s.page }
 
 -- the first so many of the slots, rewritten, and the others
 abbrev pub so_far : List (TableSlot PageOfKind) → ℕ → List (TableSlot PageOfKind)
@@ -69,11 +65,11 @@ logged-then (s ∷ ss) =
     ap (λ x. entry_if s.pid (listed_state (log_state (logged_then s.page))) ++ x) (logged-then ss)
     ∙ logged_by s.pid s.page (table_of ss).places
 
-table-then : (ss : List (TableSlot PageOfKind)) → table_of (map slot_then ss) ≡ marked_as_written (table_of ss)
+pub table-then : (ss : List (TableSlot PageOfKind)) → table_of (map slot_then ss) ≡ marked_as_written (table_of ss)
 table-then ss = same_mapping _ _ _ _ (places-then ss) (logged-then ss)
 
 -- the slots stand as before
-slots-then : (ss : List (TableSlot PageOfKind)) (n : ℕ) → AreSlots ss n → AreSlots (map slot_then ss) n
+pub slots-then : (ss : List (TableSlot PageOfKind)) (n : ℕ) → AreSlots ss n → AreSlots (map slot_then ss) n
 slots-then ss n a = record {
   rising = subst (λ (ns : List ℕ). AreRisingPids ns) (sym (pids-then ss)) a.rising;
   in_use = subst (λ (t : Mapping PageOfKind). AreInUseBelow t n) (sym (table-then ss)) a.in_use;

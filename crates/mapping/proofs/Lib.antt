@@ -2,6 +2,8 @@ pub mod Crossing
 mod Around
 mod Counted
 pub mod DrawnPlaces
+mod DueSlots
+pub mod DueTable
 mod FindingRow
 pub mod FirstTree
 mod FlushedSlots

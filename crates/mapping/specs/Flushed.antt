@@ -1,16 +1,18 @@
 -- What the log has once all pages are written.
-use Rattle.std.specs.Prelude.{ℕ, ◌-◌, ◌^◌, min, List, map, Option}
+use Rattle.std.specs.Prelude.{ℕ, ◌-◌, ◌^◌, min, List, map, Option, if◌then◌else◌}
 use Rattle.delta_chain.specs.Layers.{depth_of}
 use Rattle.index_page.specs.Page.{PageOfKind}
 use Rattle.index_page.specs.Page.PageOfKind.{Leaf, Index}
 use Rattle.mapping.specs.Tree as tree
 use Rattle.mapping.specs.Tree.Logged.{Upto as upto}
 use Rattle.mapping.specs.Table.{Mapping}
+use Rattle.mapping.specs.FreshPids.{is_among}
 use Rattle.mapping.specs.TreeInMemory.{home_pages}
 use Rattle.mapping.specs.declared.logged.Logged.{Logged}
 use Rattle.mapping.specs.declared.logged.Logged.TheVariants.{No, Upto}
 use Rattle.mapping.specs.declared.slots.TablePlace.{TablePlace}
 use Rattle.mapping.specs.declared.slots.TablePlace.TheVariants.{Vacant, Away, Home}
+use Rattle.mapping.specs.declared.slots.TableSlot.{TableSlot}
 
 -- how many runs a page has, whatever its kind
 abbrev pub page_depth : PageOfKind → ℕ
@@ -34,3 +36,11 @@ abbrev pub logged_then : TablePlace PageOfKind → Logged
 logged_then Vacant = No
 logged_then Away = No
 logged_then (Home p) = Upto (depth_counted p)
+
+-- a slot then
+abbrev pub slot_then : TableSlot PageOfKind → TableSlot PageOfKind
+slot_then s = record { pid = s.pid; page = s.page; logged = logged_then s.page }
+
+-- the slots, once those of these pids are so
+abbrev pub marked : List (TableSlot PageOfKind) → List ℕ → List (TableSlot PageOfKind)
+marked ss pids = map (λ s. if is_among s.pid pids then slot_then s else s) ss

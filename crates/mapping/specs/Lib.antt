@@ -1,3 +1,4 @@
+pub mod Due
 pub mod Finding
 pub mod Flushed
 pub mod FreshPids

@@ -1,8 +1,10 @@
-ghost use Rattle.std.specs.Prelude.{◌≡◌};
-ghost use Rattle.mapping.specs.Flushed.{depth_counted, logged_then};
+ghost use Rattle.std.specs.Prelude.{◌≡◌, [], ◌∷◌};
+ghost use Rattle.mapping.specs.Flushed.{depth_counted, logged_then, marked};
+ghost use Rattle.mapping.specs.Proper.{AreRisingPids};
+ghost use Rattle.mapping.specs.Slots.{slot_pids};
 
 use crate::logged::Logged;
-use crate::slots::TablePlace;
+use crate::slots::{TablePlace, TableSlot, slot_of};
 use index_page::Page;
 use std::alloc::Allocator;
 
@@ -26,5 +28,26 @@ pub(crate) fn logged_then<A: Allocator + Copy>(place: &TablePlace<Page<A>>) -> L
     match place {
         TablePlace::Home(page) => Logged::Upto(depth(page)),
         _ => Logged::No,
+    }
+}
+
+// Says that the log has the pages of these pids as they are, and nothing of those that have none.
+pub(crate) fn mark_all<A: Allocator + Copy>(slots: &mut Vec<TableSlot<Page<A>>, A>, pids: &[u64])
+    requires { AreRisingPids (slot_pids slots.old.items) }
+    ensures { slots.new.items ≡ marked slots.old.items pids.now }
+{
+    for pid in pids {
+        mark(slots, *pid);
+    }
+}
+
+// The same of one pid.
+fn mark<A: Allocator + Copy>(slots: &mut Vec<TableSlot<Page<A>>, A>, pid: u64)
+    requires { AreRisingPids (slot_pids slots.old.items) }
+    ensures { slots.new.items ≡ marked slots.old.items (pid ∷ []) }
+{
+    if let Ok(at) = slot_of(slots, pid) {
+        let slot = &mut slots[at];
+        slot.logged = logged_then(&slot.page);
     }
 }

@@ -5,9 +5,11 @@
 //! definitions (`specs/`), and the laws of these.
 #![tactic(auto)]
 
+mod due;
 mod flush;
 pub mod laws;
 pub mod logged;
+mod page_table;
 mod pids;
 mod room;
 mod slots;

@@ -6,9 +6,10 @@ ghost use Rattle.mapping.specs.LogState.{log_state};
 ghost use Rattle.mapping.specs.Proper.{AreRisingPids};
 ghost use Rattle.mapping.specs.Table.{no_places, place_of, page_of, log_of, with_place, log_outdated, freed, with_room, with_rooms, pids_in_use, fresh_pids, pids_in_use_or_old};
 ghost use Rattle.mapping.specs.Flushed.{marked_as_written};
+ghost use Rattle.mapping.specs.Due.{AreDue};
 ghost use Rattle.mapping.specs.TreeInMemory.{home_pages};
 
-use crate::flush::logged_then;
+use crate::flush::{logged_then, mark_all};
 use crate::logged::Logged;
 use crate::pids::{HomePids, Pids};
 use crate::room::{least_free, occupy, occupy_all};
@@ -50,6 +51,11 @@ impl<P: Drop, A: Allocator + Copy> Table<P, A> {
             slots: Vec::new(alloc),
             filled: 0,
         }
+    }
+
+    /// By what the table asks for memory.
+    pub(crate) fn allocator(&self) -> A {
+        *self.slots.allocator()
     }
 
     /// Whether the pid has a place.
@@ -203,5 +209,13 @@ impl<A: Allocator + Copy> Table<Page<A>, A> {
         for slot in self.slots.iter_mut() {
             slot.logged = logged_then(&slot.page);
         }
+    }
+
+    /// The same, where the log has of every pid but these what it has then. It looks at no other slot.
+    pub(crate) fn flushed_at(&mut self, pids: &[u64])
+        requires { AreDue self.old pids.now }
+        ensures { self.new ≡ marked_as_written self.old }
+    {
+        mark_all(&mut self.slots, pids);
     }
 }

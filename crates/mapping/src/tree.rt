@@ -1,4 +1,4 @@
-ghost use Rattle.std.specs.Prelude.{◌≡◌, ◌↔◌, ◌≤◌, length, [], Some, None, IsTrue, IsSome, IfOk, OnOk, OnErr};
+ghost use Rattle.std.specs.Prelude.{◌≡◌, ◌↔◌, ◌≤◌, length, [], Some, None, IsTrue, IsSome, IfSome, IfOk, OnOk, OnErr};
 ghost use Rattle.std.specs.Option.{option_copied};
 ghost use Rattle.std.specs.Map.{keys_of};
 ghost use Rattle.index_page.specs.Page.{bare};
@@ -7,10 +7,12 @@ ghost use Rattle.mapping.specs.Tree.{page_at};
 ghost use Rattle.mapping.specs.LogState.{log_state};
 ghost use Rattle.mapping.specs.Proper.{AreRisingPids};
 ghost use Rattle.mapping.specs.Table.{place_of, page_of, log_of, with_place, freed, with_rooms, pids_in_use, fresh_pids, log_outdated, pids_in_use_or_old};
+ghost use Rattle.mapping.specs.Due.{AreDue};
 ghost use Rattle.mapping.specs.Flushed.{marked_as_written};
 ghost use Rattle.mapping.specs.TreeInMemory.{AreAllHome, tree_of, new_in_memory};
 
 use crate::logged::Logged;
+use crate::page_table::PageTable;
 use crate::pids::{HomePids, Pids};
 use crate::table::Table;
 use delta_chain::{Base, Chain};
@@ -23,7 +25,7 @@ use std::marker::Model;
 /// `TreeInMemory`; where no page is away, that stands for a tree of the definitions (`tree_of`).
 #[derive(Drop)]
 pub struct Tree<A: Allocator> {
-    table: Table<Page<A>, A>,
+    table: PageTable<A>,
     root: Pid,
     height: u32,
 }
@@ -42,7 +44,7 @@ impl<A: Allocator + Copy> Tree<A> {
         ensures { result ≡ record { table = table; root = root; height = height } }
     {
         Tree {
-            table,
+            table: PageTable::new(table),
             root,
             height,
         }
@@ -67,35 +69,35 @@ impl<A: Allocator + Copy> Tree<A> {
         ensures home { option_copied result ≡ page_of self.now.table pid }
         ensures listed { AreAllHome self.now → option_copied result ≡ page_at (tree_of self.now).pages pid }
     {
-        self.table.get(pid.0)
+        self.table.as_table().get(pid.0)
     }
 
     /// A number that the number of pages doesn't pass. No page is looked at.
     pub fn most_pages(&self) -> usize
         ensures { length (tree_of self.now).pages ≤ result }
     {
-        self.table.most_places()
+        self.table.as_table().most_places()
     }
 
     /// Whether no page is away.
     pub fn are_all_home(&self) -> bool
         ensures { IsTrue result ↔ AreAllHome self.now }
     {
-        self.table.are_all_home()
+        self.table.as_table().are_all_home()
     }
 
     /// What the log has of the page id.
     pub fn logged(&self, pid: Pid) -> Logged
         ensures { log_state result ≡ log_of self.now.table pid }
     {
-        self.table.logged(pid.0)
+        self.table.as_table().logged(pid.0)
     }
 
     /// The page ids of the pages that are at home, by rising number. It takes no memory.
     pub fn pids(&self) -> HomePids<'_, Page<A>>
         ensures { result ≡ keys_of (tree_of self.now).pages }
     {
-        self.table.home_pids()
+        self.table.as_table().home_pids()
     }
 
     /// The page ids that are in use, and those of which the log has `Old`, by rising number: those of which a flush may have
@@ -103,7 +105,23 @@ impl<A: Allocator + Copy> Tree<A> {
     pub fn known_pids(&self) -> Pids<'_, Page<A>>
         ensures { result ≡ pids_in_use_or_old self.now.table }
     {
-        self.table.pids()
+        self.table.as_table().pids()
+    }
+
+    /// The page ids of which a flush may have something to write, in any order, some more than once: of all others the log has what
+    /// it would have once all is written. Nothing where it may be any page id.
+    pub fn due_pids(&self) -> Option<&[u64]>
+        ensures { IfSome result (λ pids. AreDue self.now.table pids.now) }
+    {
+        self.table.due_pids()
+    }
+
+    /// Makes room to note each page id that is in use as one that is due. Without room a flush looks at all page ids: so this is for
+    /// speed alone. Where memory is refused, nothing has changed.
+    pub fn reserve(&mut self) -> Result<(), AllocError>
+        ensures { self.new ≡ self.old }
+    {
+        self.table.reserve()
     }
 
     /// Takes the page out of its place, which is away afterwards. This takes no memory, as `put` and `free` do not.

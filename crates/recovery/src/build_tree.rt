@@ -157,5 +157,6 @@ pub(crate) fn checked_tree(
     let mut tree = Tree::new(table, slot.root, slot.height);
     verify(rt, alloc, &tree, &format.settings)?;
     tree.flushed();
+    tree.reserve()?;
     Ok(tree)
 }

@@ -5,11 +5,8 @@ use denote.Param.Send.{param_send, arg_send}
 use Rattle.mapping.specs.TreeInMemory.{tree_of}
 use Rattle.flush_log.specs.ImageWork.{job_held}
 use Rattle.flush_log.proofs.Crossing.{done_send}
-use Rattle.flush_log.proofs.TextImages.{can_be_written, each_can_be_written, images-text, images-are_some, images-frames}
+use Rattle.flush_log.proofs.TextImages.{each_can_be_written, images-text, images-are_some, images-frames}
 use Rattle.flush_log.proofs.text.images.Goals as goal
-
-pub due_jobs-requires-clause-writable : goal.due_jobs-requires-clause-writable
-due_jobs-requires-clause-writable g c = λ pid. can_be_written c.args.text (tree_of c.args.tree.now) pid c.requires.proper
 
 pub run_round-requires-after_bounds : goal.run_round-requires-after_bounds
 run_round-requires-after_bounds g c κs within = each_can_be_written c.in_ok-jobs.jobs.items c.in_ok-jobs.ensures.due

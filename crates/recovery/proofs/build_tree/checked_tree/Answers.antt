@@ -41,5 +41,5 @@ returns-clause-ok g c found h =
     let broken : broken_in fs ≡ None = sym (c.in_default.ensures Every found h.live) in
     let built = c.new-tree.ensures ∙ ap (λ (u : Slot). slot_tree c.in_ok-table.table u) c.slot.view_is ∙ built-table t c.in_ok-table.table _ _ c.in_ok-table.ensures.ok (pages-gathered format c.args.gathering found c.requires c.table_of.ensures.ordered h) in
     let none = c.in_ok-verify.ensures.sound in
-    let marked = marked-built s t fs c.new-tree.result built c.requires none c.flushed.new.self c.flushed.ensures in
+    let marked = marked-built s t fs c.new-tree.result built c.requires none c.reserve.new.self (c.reserve.ensures ∙ c.flushed.ensures) in
     (sym (built-wrong s t fs c.new-tree.result built broken) ∙ none, marked.0, marked.1)

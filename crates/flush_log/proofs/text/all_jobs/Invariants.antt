@@ -4,7 +4,7 @@ use Rattle.mapping.specs.TreeInMemory.{tree_of}
 use Rattle.flush_log.specs.FlushText.{text_of}
 use Rattle.flush_log.specs.ImageWork.{job_held, IsDue}
 use Rattle.flush_log.proofs.TextImages.{text_with}
-use Rattle.flush_log.proofs.text.due_jobs.Given as goal
+use Rattle.flush_log.proofs.text.all_jobs.Given as goal
 
 -- the text of the jobs so far, and that of the pids that are left, is the whole text
 abbrev pub invariant-loop-pid : goal.invariant-loop-pid

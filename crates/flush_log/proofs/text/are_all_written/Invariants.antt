@@ -3,7 +3,7 @@ use Rattle.mapping.specs.TreeInMemory.{tree_of}
 use Rattle.keys.specs.declared.version.Version.{Version}
 use Rattle.flush_log.specs.FlushText.{pid_text, flush_text}
 use Rattle.flush_log.specs.declared.text.Text.TheVariants.{Flush}
-use Rattle.flush_log.proofs.text.is_all_written.Given as goal
+use Rattle.flush_log.proofs.text.are_all_written.Given as goal
 
 -- the text is that of the pids that are left, in each version
 abbrev pub invariant-loop-pid : goal.invariant-loop-pid

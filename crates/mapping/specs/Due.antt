@@ -1,0 +1,35 @@
+-- Of which pids a flush may have something to write.
+use Rattle.std.specs.Prelude.{◌≡◌, ℕ, Bool, false, ◌||◌, List, Option, Some, None}
+use Rattle.index_page.specs.Page.{PageOfKind}
+use Rattle.mapping.specs.Tree.{Logged}
+use Rattle.mapping.specs.Tree.Logged.{No, Upto}
+use Rattle.mapping.specs.FreshPids.{is_among}
+use Rattle.mapping.specs.Table.{Mapping, place_of, log_of}
+use Rattle.mapping.specs.Flushed.{depth_counted}
+
+-- what the log has of a place, once all pages that are at home are written
+abbrev pub log_then : Option (Option PageOfKind) → Logged
+log_then None = No
+log_then (Some None) = No
+log_then (Some (Some p)) = Upto (depth_counted p)
+
+-- the log has of the pid what it has then
+abbrev pub IsWritten : Mapping PageOfKind → ℕ → Type 0
+IsWritten t pid = log_of t pid ≡ log_then (place_of t pid)
+
+-- that is so of each pid but these
+abbrev pub AreDue : Mapping PageOfKind → List ℕ → Type 0
+AreDue t pids = (pid : ℕ) → is_among pid pids ≡ false → IsWritten t pid
+
+-- pids that were noted, where it isn't any
+pub record DuePids : Type 0 where
+  pub pids : List ℕ
+  pub are_all : Bool
+
+-- whether the pid may be due
+abbrev pub may_be_due : DuePids → ℕ → Bool
+may_be_due d pid = d.are_all || is_among pid d.pids
+
+-- what isn't noted is written
+abbrev pub AreNoted : Mapping PageOfKind → DuePids → Type 0
+AreNoted t d = (pid : ℕ) → may_be_due d pid ≡ false → IsWritten t pid
