@@ -1,5 +1,5 @@
 -- The text of a flush, where it is looked for under the pids that are due alone.
-use Rattle.std.specs.Prelude.{◌≡◌, ◌≢◌, ℕ, zero, suc, eqb, ◌<◌, ◌≤◌, ◌⊎◌, ◌↔◌, ◌||◌, Bool, true, false, cond, nat_eq, List, [], ◌∷◌, ◌++◌, map, flat_map, drop, get_or, length, Option, Some, None, is_some, Result, Ok, Err, IfOk}
+use Rattle.std.specs.Prelude.{◌≡◌, ℕ, zero, suc, eqb, ◌<◌, ◌≤◌, ◌⊎◌, ◌↔◌, ◌||◌, Bool, true, false, cond, nat_eq, List, [], ◌∷◌, ◌++◌, map, flat_map, get_or, length, Option, Some, None, is_some, Result, Ok, Err, IfOk}
 use Rattle.std.proofs.Common.{refl, sym, ap, ap₂, ◌∙◌, arith, subst, inl, inr, le-leb}
 use mathlib.Core.Bool.{false≢true}
 use Rattle.std.specs.List.{AllByRecursion, AllPairs, Contains, dedup, filter}
@@ -16,8 +16,8 @@ use Rattle.mapping.specs.Due.{IsWritten as IsInLog}
 use Rattle.mapping.specs.Flushed.{depth_counted}
 use Rattle.mapping.specs.FreshPids.{is_among}
 use Rattle.mapping.specs.Proper.{AreRisingPids}
-use Rattle.mapping.specs.Table.{at_home, place_of, log_of, is_same_pid, is_old, with_numbers}
-use Rattle.mapping.specs.Tree.{Logged, Tree, page_at, or_no, logged_of}
+use Rattle.mapping.specs.Table.{at_home, place_of, log_of, is_same_pid, is_old}
+use Rattle.mapping.specs.Tree.{Logged, page_at, or_no, logged_of}
 use Rattle.mapping.specs.Tree.Logged.{No, Old, Upto}
 use Rattle.mapping.specs.TreeInMemory.{TreeInMemory, AreAllHome, tree_of}
 use Rattle.mapping.proofs.HomePages.{page-home}
@@ -27,7 +27,7 @@ use Rattle.mapping.proofs.PidLemmas.{all_among, below_later, later_among}
 use Rattle.mapping.proofs.TableLemmas.{same_pid}
 use Rattle.keys.proofs.Basics.{equal_by}
 use Rattle.keys.specs.declared.version.Version.{Version}
-use Rattle.frame_codec.specs.Frame.{Content, Frame}
+use Rattle.frame_codec.specs.Frame.{Content}
 use Rattle.flush_log.specs.FlushText.{spelling_of, lacking, frames_of, pid_text, pids_to_write, text_of, flush_text}
 use Rattle.flush_log.specs.ImageWork.{job_held, held_text, HasFewRuns, IsOfStore}
 use Rattle.flush_log.specs.declared.image_work.ImageJob.{ImageJob}

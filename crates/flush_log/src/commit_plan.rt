@@ -1,5 +1,5 @@
 //! A commit as one value: planned, and then written.
-ghost use Rattle.std.specs.Prelude.{◌≡◌, ◌⊎◌, ◌*◌, ◌<◌, ◌≤◌, List, None, Err, IsTrue, OnOk, MatchResult};
+ghost use Rattle.std.specs.Prelude.{◌≡◌, ◌⊎◌, ◌*◌, ◌<◌, ◌≤◌, List, None, Err, IsTrue, IfOk, OnOk, MatchResult, length};
 ghost use Rattle.keys.specs.Limits.{first_bad_field};
 ghost use Rattle.keys.specs.declared.fault.Fault.TheVariants.{NoMemory};
 ghost use Rattle.frame_codec.specs.Frame.{Frame};
@@ -15,7 +15,7 @@ use crate::image::Image;
 use crate::layout::tail_of_commit;
 use crate::slot::{LogEnds, Slot};
 use keys::{Fault, Settings};
-use std::alloc::Global;
+use std::alloc::{AllocError, Global};
 use std::marker::Model;
 
 /// A commit that is planned: the images of a text, the tail from which on they are written, the slot that commits them, and a buffer
@@ -35,6 +35,19 @@ impl Model for Commit {
     ghost Value = { CommitPlan };
 
     ghost view = { λ m. record { images = m.images.items; tail = m.tail; slot = m.slot; room = length m.buffer.items } };
+}
+
+// So many zeros. They are copied block by block, since it takes many times as long to push them one by one.
+fn zeros(alloc: Global, len: usize) -> Result<Vec<u8>, AllocError>
+    ensures { IfOk result (λ zeros. length zeros.items ≡ len) }
+{
+    let block = [0; 1024];
+    let mut zeros = Vec::with_capacity(alloc, len)?;
+    while zeros.len() < len {
+        let more = block.len().min(len - zeros.len());
+        zeros.extend_from_slice(&block[..more])?;
+    }
+    Ok(zeros)
 }
 
 impl Commit {
@@ -58,8 +71,7 @@ impl Commit {
             (λ commit. IsPlanned settings.now slot.now text commit)
             (λ fault. (fault ≡ NoMemory) ⊎ (next_tail settings.now slot.now text ≡ Err fault)) }
     {
-        let mut buffer = Vec::new(alloc);
-        buffer.resize(settings.seg_size as usize, 0)?;
+        let buffer = zeros(alloc, settings.seg_size as usize)?;
         let log = slot.ends;
         let sequence = log.sequence + 1;
         let tail = tail_of_commit(settings, sequence, log.head, log.tail, &images)?;

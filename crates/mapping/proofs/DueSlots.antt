@@ -1,5 +1,5 @@
 -- Slots of which some are marked as written.
-use Rattle.std.specs.Prelude.{◌≡◌, ◌≢◌, ℕ, zero, suc, ◌<◌, Bool, true, false, cond, ◌||◌, nat_eq, List, [], ◌∷◌, ◌++◌, map, take, drop, set, get_or, length, Option, Some, None}
+use Rattle.std.specs.Prelude.{◌≡◌, ◌≢◌, ℕ, zero, suc, ◌<◌, Bool, true, false, cond, ◌||◌, nat_eq, List, [], ◌∷◌, ◌++◌, map, take, drop, set, get_or, length}
 use Rattle.std.proofs.Common.{refl, sym, ap, ◌∙◌, arith, subst}
 use mathlib.Core.Bool.{false≢true}
 use Rattle.std.specs.List.{AllByRecursion}
@@ -7,14 +7,12 @@ use Rattle.std.proofs.lemmas.List.{take-append-drop}
 use Rattle.std.proofs.lemmas.Bool.{eq-eqb, eqb-true}
 use Rattle.index_page.specs.Page.{PageOfKind}
 use Rattle.index_page.proofs.ListLemmas.{all-append}
-use Rattle.mapping.specs.Tree.{Logged}
 use Rattle.mapping.specs.LogState.{log_state}
 use Rattle.mapping.specs.Flushed.{marked_as_written, logged_then, slot_then, marked}
 use Rattle.mapping.specs.FreshPids.{is_among}
-use Rattle.mapping.specs.Due.{log_then, IsWritten, AreDue}
+use Rattle.mapping.specs.Due.{log_then, AreDue}
 use Rattle.mapping.specs.Proper.{AreRisingPids}
-use Rattle.mapping.specs.Table.{Mapping, place_of, log_of}
-use Rattle.mapping.specs.Slots.{slot_pids, listed_place, table_of, StandsAt, GoesTo, AreSlots}
+use Rattle.mapping.specs.Slots.{slot_pids, listed_place, table_of, GoesTo, AreSlots}
 use Rattle.mapping.specs.declared.logged.Logged as of_code
 use Rattle.mapping.specs.declared.logged.Logged.TheVariants.{No, Old, Upto}
 use Rattle.mapping.specs.declared.slots.TablePlace.{TablePlace}

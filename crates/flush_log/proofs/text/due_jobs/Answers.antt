@@ -1,6 +1,4 @@
-use Rattle.std.proofs.Common.{◌∙◌, ap}
 use Rattle.mapping.specs.TreeInMemory.{tree_of}
-use Rattle.flush_log.specs.FlushText.{text_of}
 use Rattle.flush_log.proofs.TextImages.{can_be_written}
 use Rattle.flush_log.proofs.DueLemmas.{jobs-due}
 use Rattle.flush_log.proofs.text.due_jobs.Goals as goal

@@ -1,4 +1,4 @@
-use Rattle.std.proofs.Common.{◌∙◌, ◌≡◌, ap, ap₂, sym, ◌+◌, ◌++◌, ◌∷◌, [], List, flat_map, drop, get_or, map, true, false, rules}
+use Rattle.std.proofs.Common.{◌≡◌, ap, ◌+◌, ◌++◌, ◌∷◌, [], flat_map, drop, get_or, map, true, false, rules}
 use Rattle.std.proofs.lemmas.List.{drop_more}
 use Rattle.mapping.specs.TreeInMemory.{tree_of}
 use Rattle.flush_log.specs.FlushText.{pid_text}
