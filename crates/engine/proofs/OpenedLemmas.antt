@@ -1,5 +1,5 @@
 -- What the opening of a store on a disk comes to.
-use Rattle.std.specs.Prelude.{◌≡◌, ◌⊎◌, ℕ, ◌+◌, ◌-◌, ◌^◌, min, ◌≤◌, false, IsTrue, Result, Ok, Err}
+use Rattle.std.specs.Prelude.{◌≡◌, ◌⊎◌, ℕ, ◌+◌, ◌-◌, ◌^◌, min, ◌≤◌, false, tt, IsTrue, IfOk, Result, Ok, Err}
 use Rattle.std.proofs.Common.{sym, ap, subst, ◌∙◌, inl, inr, ⊎_elim}
 use Rattle.keys.specs.Bytes.{Bytes}
 use Rattle.keys.specs.declared.fault.Fault.{Fault}
@@ -9,7 +9,7 @@ use Rattle.keys.specs.declared.version.Version.{Version}
 use Rattle.mapping.specs.Tree.{Store}
 use Rattle.mapping.specs.TreeInMemory.{TreeInMemory, AreAllHome, tree_of}
 use Rattle.flush_log.specs.AfterFlush.{store_after}
-use Rattle.flush_log.specs.Disk.{View, Lawful, Kept, Leaves, Same}
+use Rattle.flush_log.specs.Disk.{View, Lawful, Kept, IsSettled, Leaves, Same}
 use Rattle.flush_log.specs.Segments.{disk_size}
 use Rattle.flush_log.specs.Slot.{Slot}
 use Rattle.flush_log.specs.declared.slot.LogEnds.{LogEnds}
@@ -20,7 +20,7 @@ use Rattle.recovery.specs.Recovered.{IsLate, IsReadOf}
 use Rattle.recovery.specs.StoreOfDisk.{store_of_disk}
 use Rattle.recovery.proofs.ReadBytes.{first_read}
 use Rattle.recovery.proofs.StoreLemmas.{StandsBy, store-stands}
-use Rattle.engine.specs.Opened.{IsOpened}
+use Rattle.engine.specs.Opened.{IsOpened, disk_left}
 use Rattle.engine.specs.State.{IsSound, IsSoundStore, State, store_in}
 use Rattle.engine.proofs.CreateLemmas.{slot_with, opened-is}
 
@@ -93,3 +93,8 @@ leaves_still a b c step run same = record {
   };
   crash = λ x left. run.crash x ((same.left_since a.moment x).0 left);
 }
+
+-- where a store was opened, its disk is settled if the disk that is left is
+pub settled_where : {D : Type 0} (view : D → View) (r : Result (State D) (Fault × D)) → IsSettled (view (disk_left r)) → IfOk r (λ opened. IsSettled (view opened.disk))
+settled_where view (Ok opened) settled = settled
+settled_where view (Err refused) settled = tt
