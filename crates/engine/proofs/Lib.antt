@@ -24,5 +24,6 @@ mod Routed
 mod SeenLeaves
 mod StepDone
 mod StepsLemmas
+mod TaskLemmas
 mod TextSteps
 mod Verified
