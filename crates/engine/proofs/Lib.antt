@@ -19,6 +19,7 @@ mod PartAnswers
 mod PartedLemmas
 mod PlayLemmas
 mod PlayTurn
+mod ReadBatch
 mod Readied
 mod Routed
 mod SeenLeaves

@@ -121,6 +121,11 @@ as_many cs t rs ds hs o e = sym (length-map ds done_held) ∙ ap (λ (xs : List 
 
 -- ---- leaves that are only read stay
 
+-- where a leaf stays it is answered as it would be if it was taken
+pub answers_by : (cs : List (Command Global)) (o : Option PageOfKind) (r : Route) → IsLeafAt o → answers_at cs o r ≡ leaf_answers cs (record { page = page_or_none o; route = r })
+answers_by cs None r h = absurd h
+answers_by cs (Some p) r h = refl
+
 module _ (cs : List (Command Global)) where
   -- the page of a route that is only read has another pid than all these
   abbrev IsApart : List Route → Route → Type 0
@@ -149,15 +154,10 @@ module _ (cs : List (Command Global)) where
     worked_by r false e stays home places =
         let held : IsLeafHeld cs (leaf_held t r) = record { leaf = leaf_there (page_of t r.pid) home; places = places } in rw e held
 
-    -- and it is answered as it would be if the leaf was taken
-    answers_by : (o : Option PageOfKind) (r : Route) → IsLeafAt o → answers_at cs o r ≡ leaf_answers cs (record { page = page_or_none o; route = r })
-    answers_by None r h = absurd h
-    answers_by (Some p) r h = refl
-
     made_by : (r : Route) (b : Bool) → is_only_read cs r ≡ b → (is_only_read cs r ≡ true → place_of now.table r.pid ≡ place_of t r.pid) → IsLeafAt (page_of t r.pid) → task_made now s cs (task_for t cs r) ≡ made_for cs t s r
     made_by r true e stays home =
         let there : answers_at cs (page_of now.table r.pid) r ≡ (leaf_made s cs (leaf_held t r)).pieces =
-        ap (λ (o : Option (Option PageOfKind)). answers_at cs (at_home o) r) (stays e) ∙ answers_by (page_of t r.pid) r home in
+        ap (λ (o : Option (Option PageOfKind)). answers_at cs (at_home o) r) (stays e) ∙ answers_by cs (page_of t r.pid) r home in
         rw e (ap (λ (ps : List (Piece Global)). Answered ps) there)
     made_by r false e stays home = rw e refl
 

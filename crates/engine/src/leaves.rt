@@ -162,8 +162,8 @@ fn take_answers(done: TaskDone, leaves: &mut Vec<LeafDone>) -> Pieces<Global>
     }
 }
 
-// The replies with the answers of one more leaf, unless they were refused.
-fn with_answers(
+/// The replies with the answers of one more leaf, unless they were refused.
+pub(crate) fn with_answers(
     replies: Result<Vec<Reply<Global>>, AllocError>,
     commands: &[Command<Global>],
     pieces: Pieces<Global>,

@@ -52,6 +52,7 @@ mod log_rows;
 mod outcomes;
 #[cfg(test)]
 mod parts;
+mod reads;
 #[cfg(test)]
 mod recovery_rows;
 mod refusal;
