@@ -153,8 +153,7 @@ fn take_answers(done: TaskDone, leaves: &mut Vec<LeafDone>) -> Pieces<Global>
 {
     match done {
         TaskDone::Read(leaf) => leaf.into_pieces(),
-        TaskDone::Changed(leaf) => {
-            let mut leaf = leaf;
+        TaskDone::Changed(mut leaf) => {
             let pieces = leaf.take_pieces();
             leaves.push_reserved(leaf);
             pieces
