@@ -26,7 +26,8 @@ SETTLED = 65  # short batches that have one flush, where the flush is to be seen
 SETTINGS = {"fan 64, chain 16": (["--fan", "64", "--chain", "16"], 1_048_576), "defaults": ([], 65_536)}  # with --seg-size
 LOGGED = f"{PEER} and a log of commands"
 SORTED, RELAXED = "LMDB, batches sorted before", "SQLite, WAL, NORMAL"
-APART = {SORTED, RELAXED}  # no store by itself: the one sorts for the library, the commits of the other aren't durable
+PYTHON = [sys.executable, "-I"]
+PYTHON_START = "python's start"
 PEERS = {  # the program in peers/, the compiler's words, and the package that it needs
     "LMDB": ("lmdb.c", ["cc", "-O2"], "liblmdb-dev"),
     "LevelDB": ("leveldb.cc", ["c++", "-O2"], "libleveldb-dev"),
@@ -189,9 +190,9 @@ def stores(program, programs, disks):
             found[name] = Native([built], disks / name)
     if "LMDB" in found:
         found[SORTED] = Native(found["LMDB"].command, disks / SORTED, "sorted")
-    python = [sys.executable, "-I", HERE / "peers" / "sqlite.py"]
-    found["SQLite, WAL, FULL"] = Native(python, disks / "SQLite FULL", "FULL")
-    found[RELAXED] = Native(python, disks / "SQLite NORMAL", "NORMAL")
+    sqlite = [*PYTHON, HERE / "peers" / "sqlite.py"]
+    found["SQLite, WAL, FULL"] = Native(sqlite, disks / "SQLite FULL", "FULL")
+    found[RELAXED] = Native(sqlite, disks / "SQLite NORMAL", "NORMAL")
     return found
 
 
@@ -242,6 +243,16 @@ def print_share(program, pairs, folder):
     return found
 
 
+def python_start(repeats):
+    """Seconds that Python takes to start, which is in the recoveries of SQLite."""
+    took = []
+    for _ in range(repeats):
+        start = time.monotonic()
+        subprocess.run([*PYTHON, "-c", "import signal, sqlite3"], check=True)
+        took.append(time.monotonic() - start)
+    return min(took)
+
+
 def file_system(folder):
     ran = subprocess.run(["df", "--output=fstype,source", folder], capture_output=True, text=True)
     return " on ".join(ran.stdout.split("\n")[1].split()) if ran.returncode == 0 else "unknown"
@@ -269,7 +280,7 @@ def measure(program, count, repeats, where):
                     runs.setdefault(name, {}).setdefault(commits.name(), []).append(run_once(store, texts, commits, pairs))
         printed, kind = print_share(program, pairs, folder), file_system(disks)
     taken = {name: {commits: summary(each) for commits, each in by.items()} for name, by in runs.items()}
-    return {"pairs": count, "repeats": repeats, "file system": kind, "stores": taken, "printing at most": printed}
+    return {"pairs": count, "repeats": repeats, "file system": kind, "stores": taken, "printing at most": printed, PYTHON_START: python_start(repeats)}
 
 
 def rate(figures, name, commits):
@@ -308,16 +319,16 @@ def print_beside(figures):
 
 
 def print_text(figures):
-    """What belongs to the text and not to the store."""
+    """What belongs to the text and the start of a program, and not to its store; and batches without a flush for each."""
     rows = []
     for name in SETTINGS:
-        by = figures["stores"][name]
         for commits in (FEW, MANY):
-            took = by[commits.name()]
+            took = figures["stores"][name][commits.name()]
             rows.append([f"{name}, {commits.name()}", f"{took['ready']:.2f}", f"{figures['printing at most'][commits.name()]:.2f}", f"{took['load']:.2f}"])
-        rate_spaced = rate(figures, name, SPACED)
-        print(f"\n{name}, {SPACED.name()}: {rate_spaced:,.0f} pairs a second")
     table(["bwsh, s", "reading the text, in no figure", "printing, at most, in the figure", "the figure"], rows)
+    print(f"\nPython's start, which is in SQLite's recovery: {figures[PYTHON_START]:.3f} s")
+    for name in SETTINGS:
+        print(f"bwsh, {name}, {SPACED.name()}: {rate(figures, name, SPACED):,.0f} pairs a second")
 
 
 def show(figures):
