@@ -4,6 +4,7 @@
 import argparse
 import base64
 import hashlib
+import itertools
 import json
 import os
 import random
@@ -12,12 +13,12 @@ import subprocess
 import sys
 import tempfile
 import time
-from dataclasses import dataclass
+from dataclasses import dataclass, fields
 from pathlib import Path
 
 from crew import table
 from recovery import Program
-from run import LONG, PEER, PROGRAM, Running, build_peer
+from run import LONG, PEER, PROGRAM, Running, build_peer, processor_seconds
 
 HERE = Path(__file__).resolve().parent
 PAIRS = 500_000
@@ -50,6 +51,7 @@ class Commits:
 
 
 FEW, MANY, SPACED = Commits(LONG), Commits(SHORT), Commits(SHORT, SETTLED)
+BOTH = (FEW, MANY)
 
 
 class Pairs:
@@ -95,12 +97,14 @@ class Pairs:
 
 @dataclass
 class Took:
-    """What one run took, in seconds by the clock: until the text was read and the store open; from there to the last commit; and a new
-    process from its start to the answer of a get. And how many bytes the files have on the disk."""
+    """What one run took, in seconds: until the text was read and the store open; from there to the last commit; and a new process from
+    its start to the answer of a get. By the clock, but for those of the processor. And how many bytes the files have on the disk."""
 
     ready: float
     load: float
+    load_cpu: float
     recovery: float = 0.0
+    recovery_cpu: float = 0.0
     disk: int = 0
 
 
@@ -114,17 +118,17 @@ class Native:
         start = time.monotonic()
         command = [*self.command, "load", self.folder, texts.pairs, str(commits.batch), *self.last]
         with subprocess.Popen(command, stdin=subprocess.DEVNULL, stdout=subprocess.PIPE) as child:
-            ready = self.until(child, b"ready\n")
-            done = self.until(child, b"done\n")
+            ready, before = self.until(child, b"ready\n")
+            done, taken = self.until(child, b"done\n")
             child.kill()
-        return Took(ready - start, done - ready)
+        return Took(ready - start, done - ready, taken - before)
 
     def until(self, child, line):
-        """When the program prints this line."""
+        """When the program prints this line, and what it has taken of the processor until then."""
         printed = child.stdout.readline()
         if printed != line:
             sys.exit(f"{child.args}: printed {printed} where {line} was due")
-        return time.monotonic()
+        return time.monotonic(), processor_seconds(child)
 
     def question(self, key):
         """The command that asks for this key, and its standard input."""
@@ -143,11 +147,10 @@ class Session:
         running.phase([1])
         ready = time.monotonic()
         sample = running.phase([texts.printed[commits].count(b"\n")])
-        done = time.monotonic()
         running.end()
         if sample.digest != hashlib.blake2b(texts.printed[commits]).hexdigest():
             sys.exit(f"{running.command}: prints other lines")
-        return Took(ready - start, done - ready)
+        return Took(ready - start, sample.wall, sample.cpu)
 
     def question(self, key):
         return self.program.opened(), f"get {key}\n".encode()
@@ -205,17 +208,21 @@ def drop_from_memory(folder):
 
 
 def come_back(store, key, value):
-    """How long a new process takes from its start to the answer of one get, which must be this value."""
+    """What a new process takes from its start to the answer of one get, which must be this value: seconds by the clock, and of the
+    processor, with the end of the process."""
     command, asked = store.question(key)
     start = time.monotonic()
-    with subprocess.Popen(command, stdin=subprocess.PIPE, stdout=subprocess.PIPE) as child:
-        child.stdin.write(asked)
-        child.stdin.close()
-        answer = child.stdout.readline()
-        took = time.monotonic() - start
-    if answer != f"value {value}\n".encode():
-        sys.exit(f"{command}: answers {answer} where {value} was due")
-    return took
+    child = subprocess.Popen(command, stdin=subprocess.PIPE, stdout=subprocess.PIPE)
+    child.stdin.write(asked)
+    child.stdin.close()
+    answer = child.stdout.readline()
+    took = time.monotonic() - start
+    _, status, usage = os.wait4(child.pid, 0)
+    child.returncode = os.waitstatus_to_exitcode(status)
+    child.stdout.close()
+    if child.returncode or answer != f"value {value}\n".encode():
+        sys.exit(f"{command}: answers {answer} where {value} was due, and ends with {child.returncode}")
+    return took, usage.ru_utime + usage.ru_stime
 
 
 def run_once(store, texts, commits, pairs):
@@ -226,7 +233,7 @@ def run_once(store, texts, commits, pairs):
     took = store.load(texts, commits)
     took.disk = sum(path.stat().st_blocks * 512 for path in store.folder.iterdir())
     drop_from_memory(store.folder)
-    took.recovery = come_back(store, pairs.keys[-1], pairs.values[-1])
+    took.recovery, took.recovery_cpu = come_back(store, pairs.keys[-1], pairs.values[-1])
     shutil.rmtree(store.folder)
     return took
 
@@ -234,7 +241,7 @@ def run_once(store, texts, commits, pairs):
 def print_share(program, pairs, folder):
     """Seconds in which `bwsh` answers and prints as many gets of a missing key: more than what the replies of the puts take."""
     text, found = folder / "looks", {}
-    for commits in (FEW, MANY):
+    for commits in BOTH:
         lines = pairs.write_looks(text, commits.batch)
         running = Running([program], text)
         running.phase([1])
@@ -260,7 +267,7 @@ def file_system(folder):
 
 def summary(runs):
     """What is written down of the runs of one store: of each time the least, and all times of loads."""
-    least = {name: min(getattr(took, name) for took in runs) for name in ("ready", "load", "recovery", "disk")}
+    least = {each.name: min(getattr(took, each.name) for took in runs) for each in fields(Took)}
     return least | {"loads": [took.load for took in runs], "recoveries": [took.recovery for took in runs]}
 
 
@@ -289,15 +296,21 @@ def rate(figures, name, commits):
 
 
 def print_rates(figures):
-    heads = ["durable commits", *(f"pairs a second, {commits.name()}" for commits in (FEW, MANY)), "the second by the first",
-             *(f"recovery, s: {commits.name()}" for commits in (FEW, MANY)), *(f"on the disk, MB: {commits.name()}" for commits in (FEW, MANY))]
+    """Pairs a second, recovery, and room on the disk, by the clock; and beside it the seconds of the processor."""
+    columns = {"load_cpu": "processor, s", "recovery": "recovery, s", "recovery_cpu": "processor, s"}
     rows = []
     for name, by in figures["stores"].items():
-        few, many = rate(figures, name, FEW), rate(figures, name, MANY)
-        recovered = [f"{by[commits.name()]['recovery']:.3f}" for commits in (FEW, MANY)]
-        disk = [f"{by[commits.name()]['disk'] / 1e6:,.0f}" for commits in (FEW, MANY)]
-        rows.append([shown(name), f"{few:,.0f}", f"{many:,.0f}", f"{many / few:.2f}", *recovered, *disk])
-    table(heads, rows)
+        cells = [by_length(f"{rate(figures, name, commits):,.0f}" for commits in BOTH)]
+        for what in columns:
+            cells.append(by_length(f"{by[commits.name()][what]:.2f}" for commits in BOTH))
+        rows.append([shown(name), *cells, by_length(f"{by[commits.name()]['disk'] / 1e6:,.0f}" for commits in BOTH)])
+    lengths = by_length(commits.name() for commits in BOTH)
+    table([lengths, "pairs a second", *columns.values(), "on the disk, MB"], rows)
+
+
+def by_length(cells):
+    """What one cell shows for commits of both lengths."""
+    return " · ".join(cells)
 
 
 def shown(name):
@@ -306,23 +319,23 @@ def shown(name):
 
 def print_beside(figures):
     """How many times as fast as each peer."""
-    columns = [(name, commits) for name in SETTINGS for commits in (FEW, MANY)]
-    heads = ["times as fast as", *(f"{name}: {commits.name()}" for name, commits in columns), *(f"{name}: recovery, {commits.name()}" for name, commits in columns)]
     rows = []
     for peer, by in figures["stores"].items():
         if peer in SETTINGS:
             continue
-        rates = [f"{rate(figures, name, commits) / rate(figures, peer, commits):.2f}" for name, commits in columns]
-        recovered = [by[commits.name()]["recovery"] / figures["stores"][name][commits.name()]["recovery"] for name, commits in columns]
-        rows.append([shown(peer), *rates, *(f"{quotient:.2f}" for quotient in recovered)])
-    table(heads, rows)
+        cells = []
+        for what, name in itertools.product(("load", "recovery"), SETTINGS):
+            took = figures["stores"][name]
+            cells.append(by_length(f"{by[commits.name()][what] / took[commits.name()][what]:.2f}" for commits in BOTH))
+        rows.append([shown(peer), *cells])
+    table(["times as fast as", *SETTINGS, *(f"recovery, {name}" for name in SETTINGS)], rows)
 
 
 def print_text(figures):
     """What belongs to the text and the start of a program, and not to its store; and batches without a flush for each."""
     rows = []
     for name in SETTINGS:
-        for commits in (FEW, MANY):
+        for commits in BOTH:
             took = figures["stores"][name][commits.name()]
             rows.append([f"{name}, {commits.name()}", f"{took['ready']:.2f}", f"{figures['printing at most'][commits.name()]:.2f}", f"{took['load']:.2f}"])
     table(["bwsh, s", "reading the text, in no figure", "printing, at most, in the figure", "the figure"], rows)

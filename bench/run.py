@@ -172,6 +172,11 @@ def write_session(path, phases):
             phase.write(file)
 
 
+def processor_seconds(child):
+    """What all threads of a process have taken, user and system: Linux has a clock for each process."""
+    return time.clock_gettime((~child.pid << 3) | 2)
+
+
 class Running:
     """A program that runs a batch file: its replies as they come, and what it has taken until then."""
 
@@ -193,8 +198,7 @@ class Running:
             digest.update(read)
 
     def cpu(self):
-        """Processor seconds of all its threads: Linux has a clock for each process."""
-        return time.clock_gettime((~self.child.pid << 3) | 2)
+        return processor_seconds(self.child)
 
     def resident(self):
         """Bytes of memory that it has in use."""
