@@ -2,7 +2,9 @@
 """Measures in one run what the engine is to reach, beside its peers, and writes the figures down; README.md says what is measured, and how."""
 
 import argparse
+import contextlib
 import datetime
+import io
 import itertools
 import json
 import os
@@ -282,19 +284,44 @@ def cell_of(each, name):
     return " beside ".join(found)
 
 
-def show(figures):
-    """Prints the table of what is wanted, and those of the stores."""
+def print_goals(figures):
+    """Prints when and where the figures were taken, and the table of what is wanted."""
     proved = "unproved builds" if figures["unproved"] else "the proved programs"
-    print(f"{figures['taken']}, {figures['commit']}, {proved}, {figures['processor']}, {figures['processors']} processors, the least of {figures['repeats']} "
-          f"runs in turn; load of the machine {figures['load before']:.1f} before and {figures['load after']:.1f} after; "
-          f"{sum(figures['minutes'].values()):.0f} minutes ({', '.join(f'{part} {minutes:.1f}' for part, minutes in figures['minutes'].items())})")
+    runs = f"the least of {figures['repeats']} runs in turn" if figures["repeats"] > 1 else "one run"
+    minutes = ", ".join(f"{part} {taken:.1f}" for part, taken in figures["minutes"].items())
+    print(f"{figures['taken']}, commit {figures['commit']}, {proved}, {runs}. {figures['processor']}, {figures['processors']} processors; load of the machine "
+          f"{figures['load before']:.1f} before and {figures['load after']:.1f} after. It took {sum(figures['minutes'].values()):.0f} minutes ({minutes}).")
     rows = []
     for each in figures["rows"]:
         cells = [cell for name in SETTINGS for cell in (cell_of(each, name), verdict(each, name))]
         rows.append([each["name"], f"{each['commands']:,}", each["unit"], cell_of(each, PEER), *cells])
     table(["", "commands", "", PEER, *(head for name in SETTINGS for head in (name, "is, of what is wanted"))], rows)
+
+
+def shown_tables(figures):
+    """What is printed, by the name of its place in the README."""
+    tables = {"goals": (print_goals, figures)}
     if "persistent" in figures:
-        persistent.show(figures["persistent"])
+        tables["stores"] = persistent.show, figures["persistent"]
+    shown = {}
+    for name, (show, taken) in tables.items():
+        printed = io.StringIO()
+        with contextlib.redirect_stdout(printed):
+            show(taken)
+        shown[name] = printed.getvalue().strip()
+    return shown
+
+
+def write_readme(shown):
+    """Puts the tables into the README, each between two comments with its name."""
+    path = HERE / "README.md"
+    text = path.read_text()
+    for name, tables in shown.items():
+        start, end = f"<!-- {name} -->\n", f"<!-- end of {name} -->"
+        before, _, rest = text.partition(start)
+        _, _, after = rest.partition(end)
+        text = f"{before}{start}\n{tables}\n\n{end}{after}"
+    path.write_text(text)
 
 
 def arguments():
@@ -308,6 +335,7 @@ def arguments():
     parser.add_argument("--folder", default="/var/tmp", help="where the stores are made: on the disk that is to be measured (/var/tmp)")
     parser.add_argument("--figures", type=Path, default=HERE / "goals.json", help="where the figures are written")
     parser.add_argument("--plot", type=Path, default=HERE / "goals.svg", help="where the plot is drawn")
+    parser.add_argument("--readme", action="store_true", help="puts the tables into README.md too")
     parser.add_argument("--show", action="store_true", help="measures nothing: prints and draws the figures that are there")
     return parser.parse_args()
 
@@ -319,7 +347,10 @@ def main():
             sys.exit(f"{chosen.program} is missing: `rt run` in crates/bwsh builds it")
         chosen.figures.write_text(json.dumps(measure(chosen), indent=1) + "\n")
     figures = json.loads(chosen.figures.read_text())
-    show(figures)
+    shown = shown_tables(figures)
+    print("\n\n".join(shown.values()))
+    if chosen.readme:
+        write_readme(shown)
     chosen.plot.write_text(plot.goals(figures["rows"], figures.get("persistent"), list(SETTINGS)))
 
 
