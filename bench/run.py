@@ -224,9 +224,10 @@ class Running:
 
 def run_session(command, text, phases):
     """The samples of the phases, and the memory before them: that of the text and its commands."""
+    lines = [phase.lines() for phase in phases]  # before the program starts, since it would run ahead meanwhile
     running = Running(command, text)
     before = running.phase([1]).resident
-    samples = [running.phase(phase.lines(), phase.batch == LONG) for phase in phases]
+    samples = [running.phase(each, phase.batch == LONG) for each, phase in zip(lines, phases)]
     running.end()
     return before, samples
 
