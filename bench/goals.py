@@ -25,6 +25,7 @@ SETTINGS = {BIG: (64, 16), SMALL: (16, 4)}  # fan and chain
 RANGES = 100_000
 WORKERS = 4
 PARTS = ["speeds", "lengths", "many pairs", "ranges", "workers", "persistent"]
+OVER_LIBRARY = {"ranges": "range", "workers": "crew"}  # the parts that need a program over the library, and its name
 
 
 def wanted(big, small=None):
@@ -203,11 +204,10 @@ class Bench:
 
 def row_of_flushes(figures):
     """A flush for each 1,000 commands beside one for each 65,535, on a file, by the clock."""
-    few, many = persistent.FEW, persistent.MANY
-    rates = {name: [persistent.rate(figures, name, commits) for commits in (many, few)] for name in figures["stores"]}
-    goal = wanted(0.7, 0.6)
-    shown = {f"{name}, {commits.name()}": rate for name in (persistent.LOGGED, *goal) if name in rates for commits, rate in zip((many, few), rates[name])}
-    reached = {name: rates[name][0] / rates[name][1] for name in goal}
+    few, many, goal = persistent.FEW, persistent.MANY, wanted(0.7, 0.6)
+    names = [name for name in (persistent.LOGGED, *goal) if name in figures["stores"]]
+    shown = {f"{name}, {commits.name()}": persistent.rate(figures, name, commits) for name in names for commits in (many, few)}
+    reached = {name: persistent.rate(figures, name, many) / persistent.rate(figures, name, few) for name in goal}
     return row(f"a flush each {many.batch:,} commands beside each {few.batch:,}", figures["pairs"], "pairs a second", shown, reached, goal)
 
 
@@ -219,18 +219,23 @@ def machine():
     return {"taken": now, "commit": commit, "processor": model, "processors": os.cpu_count()}
 
 
-def missing_programs(chosen):
-    """Builds the programs over the library that aren't there."""
-    names = {"ranges": "range", "workers": "crew"}
-    missing = [name for part, name in names.items() if part in chosen.only and not (chosen.library / f"{name}_bench").exists()]
-    if missing:
-        library.build(missing, chosen.library, not chosen.unproved)
-    return [part for part, name in names.items() if not (chosen.library / f"{name}_bench").exists()]
+def is_due(program, than):
+    """Whether the program isn't there, or is older than the other one, and so may be of an older engine."""
+    return not program.exists() or program.stat().st_mtime < than.stat().st_mtime
+
+
+def build_library(chosen):
+    """Builds the programs over the library that are due, and returns the parts that can't be measured without one."""
+    programs = {part: chosen.library / f"{name}_bench" for part, name in OVER_LIBRARY.items() if part in chosen.only}
+    due = [OVER_LIBRARY[part] for part, program in programs.items() if is_due(program, chosen.program)]
+    if due:
+        library.build(due, chosen.library, not chosen.unproved)
+    return [part for part, program in programs.items() if is_due(program, chosen.program)]
 
 
 def measure(chosen):
     """All figures. A part whose program is missing is left out."""
-    left_out = missing_programs(chosen)
+    left_out = build_library(chosen)
     figures = machine() | {"unproved": chosen.unproved, "repeats": chosen.repeats, "rows": [], "minutes": {}, "load before": os.getloadavg()[0]}
     with tempfile.TemporaryDirectory() as folder:
         bench = Bench(chosen, Path(folder))
@@ -351,7 +356,7 @@ def main():
     print("\n\n".join(shown.values()))
     if chosen.readme:
         write_readme(shown)
-    chosen.plot.write_text(plot.goals(figures["rows"], figures.get("persistent"), list(SETTINGS)))
+    chosen.plot.write_text(plot.goals(figures, list(SETTINGS)))
 
 
 if __name__ == "__main__":

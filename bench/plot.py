@@ -153,16 +153,19 @@ def store_rows(persistent, settings, top, left):
     return parts
 
 
-def goals(rows, persistent, settings):
-    """A page with what is wanted beside what is, and the stores with a file beside each other where these were measured."""
-    left, top = 360, 64
-    height = top + STEP * len(rows) + 30
+def goals(figures, settings):
+    """A page with what is wanted beside what is; and where these were measured, the stores with a file, and the load batch by batch."""
+    left, top, rows = 360, 64, figures["rows"]
     parts = [bar(left + 200 * at, 14, 12, 12, COLOURS[name]) for at, name in enumerate(settings)]
     parts += [text(left + 200 * at + 18, 24, name) for at, name in enumerate(settings)]
     parts.append(text(left - 10, 24, "times as fast as the peer; black: what is wanted", "end", 12))
     parts += goal_rows(rows, settings, top, left)
-    if persistent:
-        parts += store_rows(persistent, settings, height + 30, left)
-        height += 50 + STEP * len(persistent["stores"])
+    height = top + STEP * len(rows) + 40
+    if "persistent" in figures:
+        parts += store_rows(figures["persistent"], settings, height + 20, left)
+        height += 40 + STEP * len(figures["persistent"]["stores"])
+    if "growth" in figures:
+        parts += lines(figures["growth"], height + 20, 180)
+        height += 240
     head = f'<svg xmlns="http://www.w3.org/2000/svg" width="{WIDTH}" height="{height}" font-family="sans-serif">'
     return "\n".join([head, '<rect width="100%" height="100%" fill="white"/>', *parts, "</svg>"]) + "\n"
