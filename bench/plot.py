@@ -155,9 +155,10 @@ def store_rows(persistent, settings, top, left):
 
 def goals(figures, settings):
     """A page with what is wanted beside what is; and where these were measured, the stores with a file, and the load batch by batch."""
-    left, top, rows = 360, 64, figures["rows"]
-    parts = [bar(left + 200 * at, 14, 12, 12, COLOURS[name]) for at, name in enumerate(settings)]
-    parts += [text(left + 200 * at + 18, 24, name) for at, name in enumerate(settings)]
+    left, top, rows = 380, 64, figures["rows"]
+    parts = []
+    for at, name in enumerate([*settings, "BTreeMap"]):
+        parts += [bar(left + 150 * at, 14, 12, 12, COLOURS[name]), text(left + 150 * at + 18, 24, name if name in settings else "BTreeMap, other stores")]
     parts.append(text(left - 10, 24, "times as fast as the peer; black: what is wanted", "end", 12))
     parts += goal_rows(rows, settings, top, left)
     height = top + STEP * len(rows) + 40
