@@ -1,4 +1,4 @@
-"""Draws what was measured as a page of SVG: speeds as bars, the load batch by batch as lines, and speeds by workers."""
+"""Draws what was measured as a page of SVG: speeds as bars, the load batch by batch as lines, speeds by workers, and what is wanted beside what is."""
 
 from html import escape
 
@@ -106,4 +106,67 @@ def panels(by_kind):
         parts.append(f'<rect x="{60 + at % 3 * 250}" y="{y - 10}" width="12" height="12" fill="{colour}"/>')
         parts.append(text(78 + at % 3 * 250, y, phase))
     head = f'<svg xmlns="http://www.w3.org/2000/svg" width="{WIDTH}" height="440" font-family="sans-serif">'
+    return "\n".join([head, '<rect width="100%" height="100%" fill="white"/>', *parts, "</svg>"]) + "\n"
+
+
+STEP = 26  # of one row
+
+
+def bar(x, y, width, height, colour):
+    return f'<rect x="{x:.1f}" y="{y:.1f}" width="{max(0.0, width):.1f}" height="{height:.1f}" fill="{colour}"/>'
+
+
+def goal_rows(rows, settings, top, left):
+    """For each row what is reached under each of the settings as bars, and what is wanted as a mark across its bar."""
+    most = max(number for row in rows for numbers in (row["is"], row["wanted"]) for number in numbers.values())
+    scale, thick, parts = (RIGHT - left) / most, STEP * 0.38, []
+    for part in range(1, int(most * 2) + 1):
+        x = left + part / 2 * scale
+        parts += [line(x, top, x, top + STEP * len(rows)), text(x, top - 6, str(part / 2), "middle", 11)]
+    for at, row in enumerate(rows):
+        y = top + at * STEP
+        parts.append(text(left - 10, y + STEP / 2 + 4, row["name"] + (" (at the most)" if row["most"] else ""), "end", 12))
+        for place, name in enumerate(settings):
+            at_y = y + STEP * 0.12 + place * thick
+            if name in row["is"]:
+                parts.append(bar(left, at_y, row["is"][name] * scale, thick, COLOURS[name]))
+            if name in row["wanted"]:
+                parts.append(bar(left + row["wanted"][name] * scale - 1, at_y - 1, 2, thick + 2, "black"))
+    return parts
+
+
+def store_rows(persistent, settings, top, left):
+    """For each store the pairs that it commits in a second, in commits of each length."""
+    rates = {}
+    for name, by in persistent["stores"].items():
+        rates[name] = [persistent["pairs"] / by[commits]["load"] for commits in list(by)[:2]]
+    lengths, parts = list(next(iter(persistent["stores"].values())))[:2], []
+    scale, thick = (RIGHT - left - 60) / max(max(rate) for rate in rates.values()), STEP * 0.38  # with room for numbers
+    for at, (name, rate) in enumerate(rates.items()):
+        y = top + at * STEP
+        parts.append(text(left - 10, y + STEP / 2 + 4, f"bwsh, {name}" if name in settings else name, "end", 12))
+        for place, each in enumerate(rate):
+            at_y = y + STEP * 0.12 + place * thick
+            parts.append(bar(left, at_y, each * scale, thick, COLOURS.get(name, COLOURS["BTreeMap"])))
+            parts.append(text(left + each * scale + 4, at_y + thick - 1, f"{each:,.0f}", size=10))
+    parts.insert(0, text(left, top - 8, f"pairs a second in durable commits: above {lengths[0]}, below {lengths[1]}"))
+    return parts
+
+
+def goals(figures, settings):
+    """A page with what is wanted beside what is; and where these were measured, the stores with a file, and the load batch by batch."""
+    left, top, rows = 380, 64, figures["rows"]
+    parts = []
+    for at, name in enumerate([*settings, "BTreeMap"]):
+        parts += [bar(left + 150 * at, 14, 12, 12, COLOURS[name]), text(left + 150 * at + 18, 24, name if name in settings else "BTreeMap, other stores")]
+    parts.append(text(left - 10, 24, "times as fast as the peer; black: what is wanted", "end", 12))
+    parts += goal_rows(rows, settings, top, left)
+    height = top + STEP * len(rows) + 40
+    if "persistent" in figures:
+        parts += store_rows(figures["persistent"], settings, height + 20, left)
+        height += 40 + STEP * len(figures["persistent"]["stores"])
+    if "growth" in figures:
+        parts += lines(figures["growth"], height + 20, 180)
+        height += 240
+    head = f'<svg xmlns="http://www.w3.org/2000/svg" width="{WIDTH}" height="{height}" font-family="sans-serif">'
     return "\n".join([head, '<rect width="100%" height="100%" fill="white"/>', *parts, "</svg>"]) + "\n"

@@ -2,6 +2,7 @@
 """Measures the built program beside std's BTreeMap; README.md says what is measured, and how."""
 
 import argparse
+import base64
 import bisect
 import hashlib
 import itertools
@@ -21,8 +22,9 @@ import plot
 HERE = Path(__file__).resolve().parent
 PROGRAM = HERE.parent / "crates" / "bwsh" / "out" / "bwsh"
 LONG = 65_535  # the most commands that a batch may have
-RAW = 16 + 100  # bytes of a pair
+KEY, VALUE = 16, 100  # bytes
 PEER = "BTreeMap"
+LOAD, HALF = "load", "half gets, half puts"  # the phases after which memory is looked at
 
 
 @dataclass(frozen=True)
@@ -65,17 +67,26 @@ class Sample:
 
 
 class Work:
-    """The keys and the values, in the orders in which the phases use them."""
+    """The keys and the values, in the orders in which the phases use them. Lengths are in bytes."""
 
-    def __init__(self, pairs):
+    def __init__(self, pairs, key_bytes=KEY, value_bytes=VALUE):
         self.random = random.Random(1)
-        self.keys = [self.random.randbytes(8).hex() for _ in range(pairs)]
+        self.value_bytes, self.raw = value_bytes, key_bytes + value_bytes
+        self.keys = [self.key(key_bytes) for _ in range(pairs)]
+        if len(set(self.keys)) < pairs:
+            sys.exit(f"{pairs:,} keys of {key_bytes} bytes don't all differ")
         self.shuffled = self.random.sample(self.keys, pairs)
         self.letters = "".join(self.random.choices("abcdefghijklmnopqrstuvwxyz0123456789", k=100_000))
 
+    def key(self, length):
+        """A random one: hexadecimal digits, or where it is short six random bits in each byte, so that a million differ."""
+        if length < KEY:
+            return base64.urlsafe_b64encode(self.random.randbytes(length)).decode()[:length]
+        return self.random.randbytes((length + 1) // 2).hex()[:length]
+
     def value(self, at):
-        start = at * 7_919 % 99_900
-        return self.letters[start : start + 100]
+        start = at * 7_919 % (len(self.letters) - self.value_bytes)
+        return self.letters[start : start + self.value_bytes]
 
     def puts(self, keys, salt=0):
         return (f"put {key} {self.value(at + salt)}" for at, key in enumerate(keys))
@@ -121,13 +132,13 @@ def sessions(work):
     pairs = len(work.keys)
     few = work.shuffled[: pairs // 5]
     starts = work.shuffled[: pairs // 50]
-    load = Phase("load", pairs, LONG, lambda: work.puts(work.keys))
+    load = Phase(LOAD, pairs, LONG, lambda: work.puts(work.keys))
     return [
         [
             load,
             Phase("gets", pairs, LONG, lambda: gets(work.shuffled)),
             Phase("gets by Zipf", pairs, LONG, lambda: gets(work.zipf())),
-            Phase("half gets, half puts", pairs, LONG, lambda: work.half(work.shuffled, 1)),
+            Phase(HALF, pairs, LONG, lambda: work.half(work.shuffled, 1)),
             Phase("deletes of all keys", pairs, LONG, lambda: dels(work.shuffled)),
         ],
         [Phase("load in key order", pairs, LONG, lambda: work.puts(sorted(work.keys)))],
@@ -161,6 +172,11 @@ def write_session(path, phases):
             phase.write(file)
 
 
+def processor_seconds(child):
+    """What all threads of a process have taken, user and system: Linux has a clock for each process."""
+    return time.clock_gettime((~child.pid << 3) | 2)
+
+
 class Running:
     """A program that runs a batch file: its replies as they come, and what it has taken until then."""
 
@@ -182,8 +198,7 @@ class Running:
             digest.update(read)
 
     def cpu(self):
-        """Processor seconds of all its threads: Linux has a clock for each process."""
-        return time.clock_gettime((~self.child.pid << 3) | 2)
+        return processor_seconds(self.child)
 
     def resident(self):
         """Bytes of memory that it has in use."""
@@ -209,31 +224,34 @@ class Running:
 
 def run_session(command, text, phases):
     """The samples of the phases, and the memory before them: that of the text and its commands."""
+    lines = [phase.lines() for phase in phases]  # before the program starts, since it would run ahead meanwhile
     running = Running(command, text)
     before = running.phase([1]).resident
-    samples = [running.phase(phase.lines(), phase.batch == LONG) for phase in phases]
+    samples = [running.phase(each, phase.batch == LONG) for each, phase in zip(lines, phases)]
     running.end()
     return before, samples
 
 
 class Results:
-    """The best samples by phase and program, and the memory that the load took."""
+    """The best samples by phase and program, all processor times, and the memory that the load and half and half took."""
 
     def __init__(self):
         self.best = {}
-        self.load_bytes = {}
+        self.seconds = {}
+        self.memory = {}  # bytes a pair, by the phase's name and program
 
     def add(self, program, phases, before, samples):
         for phase, sample in zip(phases, samples):
             self.compare(program, phase, sample)
+            self.seconds.setdefault((phase, program), []).append(sample.cpu)
             known = self.best.setdefault((phase, program), sample)
             if sample.cpu < known.cpu:
                 self.best[phase, program] = sample
             known = self.best[phase, program]
             known.batches = [min(pair) for pair in zip(known.batches, sample.batches)]
-        if phases[0].name == "load":
-            taken = (samples[0].resident - before) / phases[0].count
-            self.load_bytes[program] = min(taken, self.load_bytes.get(program, taken))
+            if phase.name in (LOAD, HALF):
+                taken = (sample.resident - before) / phases[0].count
+                self.memory[phase.name, program] = min(taken, self.memory.get((phase.name, program), taken))
 
     def compare(self, program, phase, sample):
         """All programs must print the same lines."""
@@ -281,7 +299,7 @@ def measure(work, commands, repeats, folder):
 
 def measure_verify(work, program, folder):
     """What `verify` of all pairs takes, in one thread and in as many as there are processors."""
-    load = Phase("load", len(work.keys), LONG, lambda: work.puts(work.keys))
+    load = Phase(LOAD, len(work.keys), LONG, lambda: work.puts(work.keys))
     text = folder / "verify"
     write_session(text, [load])
     with open(text, "a") as file:
@@ -321,11 +339,12 @@ def print_speeds(results, names):
         print(f"| {phase.name} | {phase.count:,} | {cells} |")
 
 
-def print_memory(results, names):
-    print("\n| memory | bytes a pair | times the raw pair |\n|---|---|---|")
+def print_memory(results, names, raw):
+    print("\n| memory | after the load, bytes a pair | times the raw pair | after half and half, bytes a pair | times the raw pair |")
+    print("|---|---|---|---|---|")
     for name in names:
-        taken = results.load_bytes[name]
-        print(f"| {name} | {taken:,.0f} | {taken / RAW:.2f} |")
+        cells = (f"{results.memory[phase, name]:,.0f} | {results.memory[phase, name] / raw:.2f}" for phase in (LOAD, HALF))
+        print(f"| {name} | {' | '.join(cells)} |")
 
 
 def print_scan_memory(results, names):
@@ -353,7 +372,7 @@ def print_growth(results, names):
 
 def growth(results, names):
     """Of each program the load, batch by batch: how many pairs there are after it, and nanoseconds a command."""
-    load = next(phase for phase, _ in results.best if phase.name == "load")
+    load = next(phase for phase, _ in results.best if phase.name == LOAD)
     lengths = load.batches()
     ends = list(itertools.accumulate(lengths))
     lines = {}
@@ -376,13 +395,15 @@ def arguments():
     parser = argparse.ArgumentParser(description=__doc__)
     parser.add_argument("--quick", action="store_true", help="a fifth of the pairs, each session once: about a minute")
     parser.add_argument("--pairs", type=int, default=1_000_000)
+    parser.add_argument("--key-bytes", type=int, default=KEY, help="up to 64")
+    parser.add_argument("--value-bytes", type=int, default=VALUE, help="up to 256")
     parser.add_argument("--repeats", type=int, default=2, help="how often each session is run; the least time counts")
     parser.add_argument("--program", type=Path, default=PROGRAM)
     parser.add_argument("--plot", type=Path, help="where the plot is drawn: speed.svg, but with --quick nowhere")
     chosen = parser.parse_args()
     if chosen.quick:
         chosen.pairs, chosen.repeats = chosen.pairs // 5, 1
-    elif chosen.plot is None:
+    elif chosen.plot is None and (chosen.key_bytes, chosen.value_bytes) == (KEY, VALUE):
         chosen.plot = HERE / "speed.svg"
     return chosen
 
@@ -394,11 +415,11 @@ def main():
     with tempfile.TemporaryDirectory() as name:
         folder = Path(name)
         commands = programs(build_peer(folder), chosen.program)
-        work = Work(chosen.pairs)
+        work = Work(chosen.pairs, chosen.key_bytes, chosen.value_bytes)
         results = measure(work, commands, chosen.repeats, folder)
         verified = measure_verify(work, chosen.program, folder)
     print_speeds(results, list(commands))
-    print_memory(results, list(commands))
+    print_memory(results, list(commands), work.raw)
     print_scan_memory(results, list(commands))
     print_growth(results, list(commands))
     print_verify(verified)

@@ -19,12 +19,13 @@ fn key(number: u64) -> [u8; 16] {
 }
 
 fn main() {
-    let ranges = std::env::args().nth(1).and_then(|word| word.parse().ok()).unwrap_or(0u64);
+    let ranges = std::env::args().last().and_then(|word| word.parse().ok()).unwrap_or(0u64);
     let mut map: BTreeMap<Vec<u8>, Vec<u8>> = BTreeMap::new();
     let mut state = SEED;
     for _ in 0..PAIRS {
         map.insert(key(next(&mut state)).to_vec(), vec![b'v'; 100]);
     }
+    println!("loaded");
     let mut sum = 0u64;
     let mut state = SEED;
     for _ in 0..ranges {

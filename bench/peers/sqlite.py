@@ -1,0 +1,37 @@
+"""SQLite, by Python's own module: each batch is one transaction in WAL mode. The words are those of `pairs.h`, and a last one of a load
+sets `synchronous`: with FULL each commit is synced, with NORMAL only each checkpoint is, so that a power cut may take commits back."""
+
+import signal
+import sqlite3
+import sys
+
+
+def opened(store):
+    return sqlite3.connect(f"{store}/pairs.db", isolation_level=None)
+
+
+def load(store, path, batch, synchronous):
+    with open(path, "rb") as file:
+        pairs = [line.rstrip(b"\n").split(b" ") for line in file]
+    database = opened(store)
+    database.execute("PRAGMA journal_mode = WAL")
+    database.execute(f"PRAGMA synchronous = {synchronous}")
+    database.execute("CREATE TABLE pairs (key BLOB PRIMARY KEY, value BLOB) WITHOUT ROWID")
+    print("ready", flush=True)
+    for start in range(0, len(pairs), batch):
+        database.execute("BEGIN")
+        database.executemany("INSERT OR REPLACE INTO pairs VALUES (?, ?)", pairs[start : start + batch])
+        database.execute("COMMIT")
+    print("done", flush=True)
+    signal.pause()
+
+
+def get(store, key):
+    (value,) = opened(store).execute("SELECT value FROM pairs WHERE key = ?", [key.encode()]).fetchone()
+    print("value", value.decode(), flush=True)
+
+
+if sys.argv[1] == "load":
+    load(sys.argv[2], sys.argv[3], int(sys.argv[4]), sys.argv[5])
+else:
+    get(sys.argv[2], sys.argv[3])
