@@ -1,0 +1,93 @@
+#!/usr/bin/env python3
+"""Counts what a batch costs, by valgrind's callgrind: instructions a command, and misses of a last cache of 2 MB, phase by phase.
+
+The same program on the same commands counts the same whatever else the machine does, so it tells two trees apart where times can't. It builds
+`crew/` without a proof over the crates of each tree (`library.py`); the counts are of such builds alone. It needs valgrind and a C compiler.
+"""
+
+import argparse
+import re
+import shutil
+import subprocess
+import sys
+import tempfile
+from pathlib import Path
+
+import library
+
+HERE = Path(__file__).resolve().parent
+PHASES = ["load", "gets", "half", "singles", "deletes"]
+SETTINGS = {"64/16": (64, 16), "16/4": (16, 4)}
+CACHE = ["--cache-sim=yes", "--LL=2097152,16,64"]
+
+
+def build_counter(folder):
+    """Builds the library that tells callgrind when to count."""
+    counter = folder / "counted.so"
+    compiler = shutil.which("gcc") or shutil.which("cc") or sys.exit("there is no C compiler")
+    subprocess.run([compiler, "-O2", "-shared", "-fPIC", "-o", counter, HERE / "crew" / "counted.c"], check=True)
+    return counter
+
+
+def build_program(tree, folder):
+    """Builds the program over the crates of this tree."""
+    folder.mkdir()
+    library.TOP = tree
+    library.build(["crew"], folder, is_proved=False)
+    return folder / "crew_bench"
+
+
+def count(program, counter, numbers, folder):
+    """Of each phase the instructions and the misses."""
+    out = folder / "counted"
+    for old in folder.glob("counted*"):
+        old.unlink() if old != counter else None
+    valgrind = ["valgrind", "-q", "--tool=callgrind", "--collect-atstart=no", *CACHE, f"--callgrind-out-file={out}"]
+    subprocess.run([*valgrind, program, *map(str, numbers)], env={"LD_PRELOAD": str(counter)}, stdout=subprocess.DEVNULL, check=True)
+    counted = {}
+    for dump in folder.glob("counted.*"):
+        text = dump.read_text(errors="replace") if dump != counter else ""
+        phase = re.search(r"Client Request: (\w+)", text)
+        if phase:
+            events = re.search(r"^events: (.*)$", text, re.M).group(1).split()
+            totals = map(int, re.search(r"^totals: (.*)$", text, re.M).group(1).split())
+            sums = dict(zip(events, totals))
+            counted[phase.group(1)] = sums["Ir"], sums["DLmr"] + sums["DLmw"]
+    return counted
+
+
+def show(name, counted, first, commands):
+    """Prints a row of a tree: by phase instructions and misses a command, and how far the former are from the first tree's."""
+    cells = []
+    for phase in PHASES:
+        instructions, misses = counted.get(phase, (0, 0))
+        there = first.get(phase, (0, 0))[0]
+        change = f" {instructions / there - 1:+.1%}" if first is not counted and there else ""
+        cells.append(f"{instructions / commands[phase]:,.0f}{change}, {misses / commands[phase]:.1f}")
+    print(" | ".join([name, *cells]), flush=True)
+
+
+def main():
+    parser = argparse.ArgumentParser(description=__doc__.splitlines()[0])
+    parser.add_argument("trees", nargs="*", type=Path, default=[HERE.parent], help="checkouts to be compared; this one where none is given")
+    parser.add_argument("--pairs", type=int, default=60_000)
+    parser.add_argument("--batch", type=int, default=4_096, help="commands in a batch")
+    parser.add_argument("--value", type=int, default=100, help="bytes of a value, 200 at the most")
+    parser.add_argument("--singles", type=int, default=2_000, help="puts of one in a batch")
+    parser.add_argument("--settings", nargs="*", choices=SETTINGS, default=list(SETTINGS))
+    asked = parser.parse_args()
+    commands = dict.fromkeys(PHASES, asked.pairs) | {"singles": asked.singles}
+    print(" | ".join(["tree, fan/chain", *PHASES]) + "   (instructions a command, and misses)", flush=True)
+    with tempfile.TemporaryDirectory() as made:
+        folder = Path(made)
+        counter = build_counter(folder)
+        programs = [build_program(tree.resolve(), folder / f"tree{at}") for at, tree in enumerate(asked.trees)]
+        for name in asked.settings:
+            numbers = (*SETTINGS[name], 1, 64, asked.pairs, asked.batch, asked.value, asked.singles)
+            rows = [count(program, counter, numbers, folder) for program in programs]
+            for tree, row in zip(asked.trees, rows):
+                show(f"{tree}, {name}", row, rows[0], commands)
+
+
+if __name__ == "__main__":
+    main()
