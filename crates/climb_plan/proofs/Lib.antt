@@ -63,6 +63,7 @@ pub mod ThroughTop
 pub mod ThroughClimb
 pub mod ThroughBack
 mod Ready
+pub mod QuietLeaf
 -- ---- the worked rows
 mod Literals
 mod LowRows

@@ -14,6 +14,7 @@ mod Executed
 mod FlushDone
 mod InTurn
 mod LeafRoutes
+mod OneLeaf
 mod OpenedLemmas
 mod OwnRuns
 mod PartAnswers
@@ -28,3 +29,4 @@ mod StepDone
 mod StepsLemmas
 mod TextSteps
 mod Verified
+mod WayOfOne

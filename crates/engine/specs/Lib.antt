@@ -3,6 +3,7 @@ pub mod Batches
 pub mod Calls
 pub mod Late
 pub mod Leaves
+pub mod OnlyRoute
 pub mod Opened
 pub mod Plays
 pub mod Refusal

@@ -18,6 +18,7 @@ ghost use Rattle.engine.specs.Batch.{IsLaterFault, fault_by};
 ghost use Rattle.engine.specs.Leaves.{answers_in, AreRoutesFor};
 ghost use Rattle.engine.specs.SoundTree.{IsSoundInMemory};
 
+use crate::execute_one::execute_one;
 use crate::leaves::{take_replies, undo_leaves, work_leaves};
 use crate::reads::{Parted, part, read_leaves};
 use climb_plan::Refused;
@@ -55,12 +56,17 @@ pub(crate) fn execute(
     ensures err { OnErr result (tree.new ≡ tree.old) }
     ensures fault { IfErr result (IsLaterFault settings.now (tree_of tree.old) commands.now) }
 {
-    let page_runs = routes_to_leaves(rt, alloc, tree, commands)?;
     let work = LeafWork {
         alloc,
         settings: *settings,
         commands,
     };
+    if let [command] = commands {
+        if !command.is_ranged() {
+            return execute_one(rt, crew, gate, &work, tree, command);
+        }
+    }
+    let page_runs = routes_to_leaves(rt, alloc, tree, commands)?;
     execute_routed(rt, crew, gate, &work, tree, page_runs)
 }
 
@@ -127,8 +133,12 @@ fn execute_routed(
     }
 }
 
-// That a sound tree, with as many commands more, has no more pairs than a reply can count. Only for the proof.
-fn pairs_can_be_counted(settings: &Settings, tree: &Tree<Global>, commands: &[Command<Global>])
+/// That a sound tree, with as many commands more, has no more pairs than a reply can count. Only for the proof.
+pub(crate) fn pairs_can_be_counted(
+    settings: &Settings,
+    tree: &Tree<Global>,
+    commands: &[Command<Global>],
+)
     requires { IsSoundInMemory settings.now tree.now }
     ensures { length (contents (tree_of tree.now)) + length commands.now ≤ most_counted }
 {
@@ -177,8 +187,8 @@ fn finish(
     }
 }
 
-// The fault of a climb that is refused.
-fn fault_of(refused: Refused) -> Fault
+/// The fault of a climb that is refused.
+pub(crate) fn fault_of(refused: Refused) -> Fault
     ensures { result ≡ fault_by refused }
 {
     match refused {

@@ -74,8 +74,8 @@ fn put_back(tree: &mut Tree<Global>, jobs: Vec<LeafJob>)
     }
 }
 
-// Puts the leaf back into its place.
-fn put_leaf_back(tree: &mut Tree<Global>, job: LeafJob)
+/// Puts the leaf back into its place.
+pub(crate) fn put_leaf_back(tree: &mut Tree<Global>, job: LeafJob)
     requires { place_of tree.old.table job.page_run.pid ≡ Some None }
     ensures { tree.new ≡ record tree.old { table = with_place tree.old.table job.page_run.pid (Some job.page) } }
 {

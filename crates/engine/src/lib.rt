@@ -29,6 +29,7 @@ mod disk_rows;
 #[cfg(test)]
 mod drawn_batches;
 mod execute;
+mod execute_one;
 #[cfg(test)]
 mod failing_clean_rows;
 #[cfg(test)]
