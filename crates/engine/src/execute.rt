@@ -55,7 +55,7 @@ pub(crate) fn execute(
     ensures err { OnErr result (tree.new ≡ tree.old) }
     ensures fault { IfErr result (IsLaterFault settings.now (tree_of tree.old) commands.now) }
 {
-    let page_runs = routes_to_leaves(rt, alloc, tree, commands)?;
+    let page_runs = routes_to_leaves(rt, crew, alloc, tree, commands)?;
     let work = LeafWork {
         alloc,
         settings: *settings,
@@ -67,6 +67,7 @@ pub(crate) fn execute(
 // Which leaves the commands go to. A scan is led along the leaves from its lower bound only as far as it needs for its rows.
 fn routes_to_leaves(
     rt: &(impl Threads + Sync),
+    crew: Crew,
     alloc: Global,
     tree: &Tree<Global>,
     commands: &[Command<Global>],
@@ -79,7 +80,14 @@ fn routes_to_leaves(
     ensures err { IfErr result (λ fault. fault ≡ NoMemory) }
 {
     let ends = scan_ends(alloc, tree, commands)?;
-    route(rt, alloc, tree, &BatchWithEnds::new(commands, ends))
+    let workers = crew.workers as usize;
+    route(
+        rt,
+        workers,
+        alloc,
+        tree,
+        &BatchWithEnds::new(commands, ends),
+    )
 }
 
 // The same of the commands of this work, whose leaves are known.

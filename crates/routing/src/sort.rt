@@ -14,7 +14,7 @@ use rayon::prelude::*;
 use std::alloc::{AllocError, Global};
 use std::thread::Threads;
 
-// A shorter batch is sorted in one thread: even to ask how many processors there are would take longer.
+// A shorter batch is sorted and led down by one thread: even to ask how many processors there are would take longer.
 const LEAST_SHARED: usize = 4096;
 
 /// A command's key, and the command's place in its batch. The key stands beside the place so that a comparison needn't fetch
@@ -22,9 +22,10 @@ const LEAST_SHARED: usize = 4096;
 pub(crate) type Keyed<'a> = (KeyRef<'a>, usize);
 
 /// The places of a batch's commands, counted from 0, in the order of their keys, and where keys are equal in the order of
-/// the batch, each beside its key. The sort is shared among threads where the batch is long.
+/// the batch, each beside its key. Several workers share the sort.
 pub(crate) fn sorted_places<'a>(
     rt: &(impl Threads + Sync),
+    workers: usize,
     alloc: Global,
     batch: &BatchWithEnds<'a>,
 ) -> Result<Vec<Keyed<'a>>, AllocError>
@@ -32,17 +33,22 @@ pub(crate) fn sorted_places<'a>(
     ensures keys { IfOk result (λ keyed. AreKeyed batch.now keyed.items) }
 {
     let mut keyed = keyed_places(alloc, batch)?;
-    sort_keyed(rt, &mut keyed);
+    sort_keyed(rt, workers, &mut keyed);
     Ok(keyed)
 }
 
+/// How many of these workers share a batch of so many commands: one a short batch.
+pub(crate) fn sharing(workers: usize, count: usize) -> usize {
+    if count < LEAST_SHARED { 1 } else { workers }
+}
+
 // Sorts by key, and where keys are equal by place.
-fn sort_keyed(rt: &(impl Threads + Sync), keyed: &mut [Keyed<'_>])
+fn sort_keyed(rt: &(impl Threads + Sync), workers: usize, keyed: &mut [Keyed<'_>])
     ensures permutation { IsPermutation keyed.old keyed.new }
     ensures len { length keyed.new ≡ length keyed.old }
     ensures sorted { IsSorted (λ x y. ordering_then (order x.0 y.0) (nat_cmp x.1 y.1)) keyed.new }
 {
-    if keyed.len() < LEAST_SHARED {
+    if workers < 2 {
         keyed.sort_unstable();
     } else {
         par_sort_unstable(rt, keyed);
