@@ -32,9 +32,9 @@ const LEAST_PAGES: usize = 32;
 /// For each leaf of the tree that a command of the batch goes to, from left to right, its page id and the places of these
 /// commands, but for scans and wipes that find nothing left there: a leaf that a wipe takes whole, and into which the batch puts
 /// nothing, isn't visited again for each later one. A scan with a nearer end goes to no leaf from there on. The commands are sorted
-/// once, and each index page on their way is visited once. At most so many workers share this, the caller's thread among them; one
-/// starts no thread. The tree is a proper one, of which no page is away. It is refused only for want of memory, with
-/// `Fault::NoMemory`.
+/// once, and each index page on their way is visited once. The workers, of whom the caller's thread is one, share a long batch; only its sort
+/// goes to as many threads as there are processors. One worker starts no thread. The tree is a proper one, of which no page is away. It is
+/// refused only for want of memory, with `Fault::NoMemory`.
 pub fn route(
     rt: &(impl Threads + Sync),
     workers: usize,
@@ -109,7 +109,7 @@ fn runs_below<R: Threads + Sync>(
     runs_below(rt, workers, alloc, tree, batch, ranged, levels - 1, &below)
 }
 
-// The runs below the shares of the first list, and then those below the shares of the other, which another thread finds meanwhile.
+// The runs below the shares of the first list, and then those below the shares of the other. Two threads find them at once.
 #[cycle(below)]
 fn runs_of_both<R: Threads + Sync>(
     rt: &R,
