@@ -66,13 +66,14 @@ pub(crate) fn execute(
             return execute_one(rt, crew, gate, &work, tree, command);
         }
     }
-    let page_runs = routes_to_leaves(rt, alloc, tree, commands)?;
+    let page_runs = routes_to_leaves(rt, crew, alloc, tree, commands)?;
     execute_routed(rt, crew, gate, &work, tree, page_runs)
 }
 
 // Which leaves the commands go to. A scan is led along the leaves from its lower bound only as far as it needs for its rows.
 fn routes_to_leaves(
     rt: &(impl Threads + Sync),
+    crew: Crew,
     alloc: Global,
     tree: &Tree<Global>,
     commands: &[Command<Global>],
@@ -85,7 +86,14 @@ fn routes_to_leaves(
     ensures err { IfErr result (λ fault. fault ≡ NoMemory) }
 {
     let ends = scan_ends(alloc, tree, commands)?;
-    route(rt, alloc, tree, &BatchWithEnds::new(commands, ends))
+    let workers = crew.workers as usize;
+    route(
+        rt,
+        workers,
+        alloc,
+        tree,
+        &BatchWithEnds::new(commands, ends),
+    )
 }
 
 // The same of the commands of this work, whose leaves are known.

@@ -327,10 +327,6 @@ module _ (t : Tree) (held : HoldsLevels t.pages (levels_of t)) (levels : AreLeve
 
 -- ---- numbers
 
-pub below_pred : (i n : ℕ) → i < n - 1 → i < pred n
-below_pred i zero h = absurd (omega arith)
-below_pred i (suc n) h = omega arith
-
 pub same_pred : (i n : ℕ) → i ≡ n - 1 → i ≡ pred n
 same_pred i zero h = omega arith
 same_pred i (suc n) h = omega arith

@@ -32,7 +32,7 @@ use Rattle.routing.specs.BatchKeys.{key_at}
 use Rattle.routing.specs.Idle.{gives_at, covers, clears, empties, empties_at}
 use Rattle.routing.specs.Routes.{has_some, ranges}
 use Rattle.routing.specs.SortedPlaces.{order_of_places, AreInKeyOrder, reaches_page, reaches, reaches_at}
-use Rattle.routing.specs.Shares.{Share, all_of, has_any, Lent, lent_shares, AreKeyedShares, HasEachPlaceOnce, is_in_range, shares, root_shares, without_idle, CanHandDown, CanHandDownShare, index_under, IsReadyShare, AreReadyShares, share_below}
+use Rattle.routing.specs.Shares.{Share, all_of, has_any, HasEachPlaceOnce, is_in_range, shares, root_shares, without_idle, CanHandDown, CanHandDownShare, index_under, IsReadyShare, share_below}
 use Rattle.routing.proofs.RouteLemmas.{among-append, one_of_two}
 use Rattle.routing.proofs.SliceLemmas.{IsBelowKey, IsFromKey, reaching_below, in_order-append, distinct, none_reach_by}
 use Rattle.routing.proofs.ShareLemmas.{all_passed, filter_none, all_begin}
@@ -483,10 +483,10 @@ module _ (t : Tree) (held : HoldsLevels t.pages (levels_of t)) (levels : AreLeve
       subst (λ (j : ℕ). AreSharesAt j (flat_map (share_below t.pages cs) ss)) n (by_names (joined here.level) (names_at t.pages t.root (suc i)) (flat_map (share_below t.pages cs) ss) (sym here.below) handed)
 
   -- and they can be
-  pub level_ready : (i : ℕ) (all : List Lent) → i < pred t.height → AreSharesAt i (lent_shares all) → AreKeyedShares cs all → AreReadyShares t.pages cs all
-  level_ready i all l a k =
+  pub ready_at : (i : ℕ) (ss : List Share) → i < pred t.height → AreSharesAt i ss → AllByRecursion (IsReadyShare t.pages cs) ss
+  ready_at i ss l a =
       let here = level_at t held levels i l in
-      record { each = ready_level cs ps in_order t.pages here.level None (lent_shares all) here.known (by_names (names_at t.pages t.root i) (names here.level) (lent_shares all) here.named a); keys = k }
+      ready_level cs ps in_order t.pages here.level None ss here.known (by_names (names_at t.pages t.root i) (names here.level) ss here.named a)
 
   -- the last ones are the leaves'
   pub leaves_shares : (i : ℕ) (ss : List Share) → i ≡ pred t.height → AreSharesAt i ss → AreSharesFor cs ps (ranges (levels_of t).level) ss

@@ -2,6 +2,7 @@ pub mod PlaceLemmas
 mod BatchLemmas
 mod BatchOrder
 pub mod DescentLemmas
+mod DownLemmas
 mod IdleLemmas
 mod LevelShares
 pub mod RouteLemmas

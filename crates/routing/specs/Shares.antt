@@ -1,5 +1,5 @@
 -- What goes down the tree: each page's share of a batch, by places in the order of their keys.
-use Rattle.std.specs.Prelude.{◌≡◌, ℕ, ◌<◌, Bool, true, false, ◌||◌, ⊤, List, [], ◌∷◌, ◌++◌, map, length, nat_eq, nat_le, min, if◌then◌else◌, Option, Some, None}
+use Rattle.std.specs.Prelude.{◌≡◌, ℕ, zero, suc, ◌<◌, Bool, true, false, ◌||◌, ⊤, List, [], ◌∷◌, ◌++◌, map, flat_map, length, nat_eq, nat_le, min, if◌then◌else◌, Option, Some, None}
 use Rattle.std.specs.List.{AllByRecursion, IsDistinct, filter, list_any, reduce}
 use Rattle.std.specs.List.Sorted.{IsPermutation, IsNonDecreasing}
 use Rattle.keys.specs.Bytes.{Bytes}
@@ -137,6 +137,16 @@ pub record AreReadyShares {A : Type 0} (pages : List (ℕ × PageOfKind)) (cs : 
 -- what becomes of a share: the shares of its page's children
 abbrev pub share_below : {A : Type 0} → List (ℕ × PageOfKind) → List (Command A) → Share → List Share
 share_below pages cs s = shares_below cs (index_under pages s.pid) (all_of s)
+
+-- what becomes of shares so many levels further down
+abbrev pub shares_down : {A : Type 0} → List (ℕ × PageOfKind) → List (Command A) → ℕ → List Share → List Share
+shares_down pages cs zero ss = ss
+shares_down pages cs (suc n) ss = shares_down pages cs n (flat_map (share_below pages cs) ss)
+
+-- shares that can be handed down, level by level, until so many levels further down none has a place twice
+abbrev pub CanGoDown : {A : Type 0} → List (ℕ × PageOfKind) → List (Command A) → ℕ → List Share → Type 0
+CanGoDown pages cs zero ss = AllByRecursion HasEachPlaceOnce ss
+CanGoDown pages cs (suc n) ss = AllByRecursion (IsReadyShare pages cs) ss × CanGoDown pages cs n (flat_map (share_below pages cs) ss)
 
 -- the same page, and its places in the order of the batch
 pub record IsInBatchOrder (s : Share) (o : Route) : Type 0 where

@@ -1,7 +1,8 @@
 //! The way of a batch down the tree: level by level, each page with its part of the sorted places.
-ghost use Rattle.std.specs.Prelude.{◌≡◌, ◌<◌, ◌≤◌, ◌∷◌, ◌++◌, List, [], length, take, drop, flat_map, IfOk, IfErr, OnOk};
+ghost use Rattle.std.specs.Prelude.{◌≡◌, ◌-◌, ◌/◌, ◌<◌, ◌≤◌, ◌∷◌, ◌++◌, List, [], length, take, drop, flat_map, IfOk, IfErr, OnOk};
 ghost use Rattle.std.specs.List.{AllByRecursion, list_any};
 ghost use Rattle.std.specs.Option.{option_copied};
+ghost use Rattle.std.specs.Thread.{IsSync};
 ghost use Rattle.keys.specs.CommandKey.{is_ranged};
 ghost use Rattle.keys.specs.declared.command.Command.{Command};
 ghost use Rattle.keys.specs.declared.fault.Fault.TheVariants.{NoMemory};
@@ -12,26 +13,31 @@ ghost use Rattle.routing.specs.Keyed.{places_of, AreKeyed};
 ghost use Rattle.routing.specs.Routes.{ranges};
 ghost use Rattle.routing.specs.Runs.{AreRunsOf};
 ghost use Rattle.routing.specs.SortedPlaces.{AreSortedPlaces};
-ghost use Rattle.routing.specs.Shares.{share_of_lent, lent_shares, all_of, root_shares, shares_below, next_key, CanHandDownKeyed, CanHandDownShare, is_met, ArePoints, AreReadyShares, AreKeyedShares, share_below, HasEachPlaceOnce, IsInBatchOrder, AreInBatchOrder};
+ghost use Rattle.routing.specs.Shares.{share_of_lent, lent_shares, all_of, root_shares, shares_below, shares_down, CanGoDown, next_key, CanHandDownKeyed, CanHandDownShare, is_met, ArePoints, AreReadyShares, AreKeyedShares, share_below, HasEachPlaceOnce, IsInBatchOrder, AreInBatchOrder};
 
 use crate::batch::BatchWithEnds;
 use crate::page_run::PageRun;
 use crate::reaching::{going_on, has_range_at, without_idle};
 use crate::share::Share;
-use crate::sort::{Keyed, count_below, in_batch_order, sorted_places};
+use crate::sort::{Keyed, count_below, in_batch_order, sharing, sorted_places};
 use index_page::Page;
 use keys::{Fault, Pid};
 use mapping::Tree;
 use std::alloc::{AllocError, Global};
-use std::thread::Threads;
+use std::thread::{Threads, join};
+
+// Fewer pages of a level are not shared: to start a thread would take longer.
+const LEAST_PAGES: usize = 32;
 
 /// For each leaf of the tree that a command of the batch goes to, from left to right, its page id and the places of these
 /// commands, but for scans and wipes that find nothing left there: a leaf that a wipe takes whole, and into which the batch puts
 /// nothing, isn't visited again for each later one. A scan with a nearer end goes to no leaf from there on. The commands are sorted
-/// once, and each index page on their way is visited once. The tree is a proper one, of which no page is away. It is refused only
-/// for want of memory, with `Fault::NoMemory`.
+/// once, and each index page on their way is visited once. The workers, of whom the caller's thread is one, share a long batch; only its sort
+/// goes to as many threads as there are processors. One worker starts no thread. The tree is a proper one, of which no page is away. It is
+/// refused only for want of memory, with `Fault::NoMemory`.
 pub fn route(
     rt: &(impl Threads + Sync),
+    workers: usize,
     alloc: Global,
     tree: &Tree<Global>,
     batch: &BatchWithEnds<'_>,
@@ -43,13 +49,16 @@ pub fn route(
         AreRunsOf batch.now (ranges (levels_of (tree_of tree.now)).level) runs.items) }
     ensures err { IfErr result (λ fault. fault ≡ NoMemory) }
 {
-    let keyed = sorted_places(rt, alloc, batch)?;
-    let runs = route_sorted(alloc, tree, batch, &keyed)?;
+    let workers = sharing(workers, batch.len());
+    let keyed = sorted_places(rt, workers, alloc, batch)?;
+    let runs = route_sorted(rt, workers, alloc, tree, batch, &keyed)?;
     Ok(runs)
 }
 
-// The same of a batch whose places have been sorted: from the root down, level by level.
+// The same of a batch whose places have been sorted: from the root down.
 fn route_sorted(
+    rt: &(impl Threads + Sync),
+    workers: usize,
     alloc: Global,
     tree: &Tree<Global>,
     batch: &BatchWithEnds<'_>,
@@ -64,11 +73,80 @@ fn route_sorted(
         AreRunsOf batch.now (ranges (levels_of (tree_of tree.now)).level) runs.items) }
 {
     let ranged = batch.has_ranges();
-    let mut shares = root_share(alloc, tree.root(), keyed)?;
-    for _level in 0..tree.height().saturating_sub(1) {
-        shares = one_level_down(alloc, tree, batch, ranged, &shares)?;
+    let levels = tree.height().saturating_sub(1) as usize;
+    let shares = root_share(alloc, tree.root(), keyed)?;
+    runs_below(rt, workers, alloc, tree, batch, ranged, levels, &shares)
+}
+
+// The runs of the leaves so many levels below these shares' pages. Where the pages of a level are many, workers share them. It calls
+// itself once a level, of which there are at most 64, and once for each halving of the workers.
+#[cycle(below)]
+fn runs_below<R: Threads + Sync>(
+    rt: &R,
+    workers: usize,
+    alloc: Global,
+    tree: &Tree<Global>,
+    batch: &BatchWithEnds<'_>,
+    ranged: bool,
+    levels: usize,
+    shares: &[Share<'_, '_>],
+) -> Result<Vec<PageRun>, AllocError>
+    requires home { AreAllHome tree.now }
+    requires ranged { ranged ≡ list_any is_ranged batch.now }
+    requires ready { CanGoDown (tree_of tree.now).pages batch.now levels (lent_shares shares.now) }
+    requires keys { AreKeyedShares batch.now shares.now }
+    ensures { IfOk result (λ runs. AreInBatchOrder
+        (shares_down (tree_of tree.now).pages batch.now levels (lent_shares shares.now)) runs.items) }
+{
+    if workers > 1 && shares.len() >= LEAST_PAGES {
+        let (low, high) = shares.split_at(shares.len() / 2);
+        return runs_of_both(rt, workers, alloc, tree, batch, ranged, levels, low, high);
     }
-    each_in_batch_order(alloc, &shares)
+    if levels == 0 {
+        return each_in_batch_order(alloc, shares);
+    }
+    let below = one_level_down(alloc, tree, batch, ranged, shares)?;
+    runs_below(rt, workers, alloc, tree, batch, ranged, levels - 1, &below)
+}
+
+// The runs below the shares of the first list, and then those below the shares of the other. Two threads find them at once.
+#[cycle(below)]
+fn runs_of_both<R: Threads + Sync>(
+    rt: &R,
+    workers: usize,
+    alloc: Global,
+    tree: &Tree<Global>,
+    batch: &BatchWithEnds<'_>,
+    ranged: bool,
+    levels: usize,
+    low: &[Share<'_, '_>],
+    high: &[Share<'_, '_>],
+) -> Result<Vec<PageRun>, AllocError>
+    requires workers { 1 < workers }
+    requires home { AreAllHome tree.now }
+    requires ranged { ranged ≡ list_any is_ranged batch.now }
+    requires low { CanGoDown (tree_of tree.now).pages batch.now levels (lent_shares low.now) × AreKeyedShares batch.now low.now }
+    requires high { CanGoDown (tree_of tree.now).pages batch.now levels (lent_shares high.now) × AreKeyedShares batch.now high.now }
+    ensures { IfOk result (λ runs. AreInBatchOrder
+        (shares_down (tree_of tree.now).pages batch.now levels (lent_shares low.now ++ lent_shares high.now)) runs.items) }
+{
+    let few = workers / 2;
+    let others = workers - few;
+    let front = || -> Result<Vec<PageRun>, AllocError>
+        requires { IsSync R.row × AreAllHome tree.now × (ranged ≡ list_any is_ranged batch.now) × CanGoDown (tree_of tree.now).pages batch.now levels (lent_shares low.now) × AreKeyedShares batch.now low.now }
+        ensures { IfOk result (λ runs. AreInBatchOrder
+            (shares_down (tree_of tree.entry.now).pages batch.entry.now levels (lent_shares low.entry.now)) runs.items) }
+    { runs_below(rt, few, alloc, tree, batch, ranged, levels, low) };
+    let back = || -> Result<Vec<PageRun>, AllocError>
+        requires { IsSync R.row × AreAllHome tree.now × (ranged ≡ list_any is_ranged batch.now) × CanGoDown (tree_of tree.now).pages batch.now levels (lent_shares high.now) × AreKeyedShares batch.now high.now }
+        ensures { IfOk result (λ runs. AreInBatchOrder
+            (shares_down (tree_of tree.entry.now).pages batch.entry.now levels (lent_shares high.entry.now)) runs.items) }
+    { runs_below(rt, others, alloc, tree, batch, ranged, levels, high) };
+    let (low, high) = join(rt, front, back);
+    let mut runs = low?;
+    let mut rest = high?;
+    runs.append(&mut rest)?;
+    Ok(runs)
 }
 
 // The root with all places, if there are any.

@@ -1,20 +1,20 @@
 //! The order in which the tree is walked for a batch: the places of its commands, sorted by their keys.
-ghost use Rattle.std.specs.Prelude.{◌≡◌, ◌≤◌, ◌++◌, length, true, false, take, drop, IfOk};
-ghost use Rattle.std.specs.List.{AllByRecursion};
+ghost use Rattle.std.specs.Prelude.{◌≡◌, ◌+◌, ◌^◌, ◌<◌, ◌≤◌, ◌++◌, length, true, false, take, drop, IfOk};
+ghost use Rattle.std.specs.List.{AllByRecursion, range_with_len};
+ghost use Rattle.std.specs.Thread.{IsSync};
 ghost use Rattle.std.specs.List.Sorted.{IsPermutation, IsSorted, IsNonDecreasing, IsPartitionedBy};
 ghost use Rattle.std.specs.Ordering.{nat_cmp, ordering_then};
 ghost use Rattle.keys.specs.Order.{order};
 ghost use Rattle.routing.specs.Keyed.{places_of, AreKeyed, has_key_below};
-ghost use Rattle.routing.specs.Places.{places_below};
 ghost use Rattle.routing.specs.SortedPlaces.{AreSortedPlaces};
 
 use crate::batch::BatchWithEnds;
 use keys::KeyRef;
 use rayon::prelude::*;
 use std::alloc::{AllocError, Global};
-use std::thread::Threads;
+use std::thread::{Threads, join};
 
-// A shorter batch is sorted in one thread: even to ask how many processors there are would take longer.
+// For fewer commands no thread is started: that, or to ask how many processors there are, would take longer.
 const LEAST_SHARED: usize = 4096;
 
 /// A command's key, and the command's place in its batch. The key stands beside the place so that a comparison needn't fetch
@@ -22,41 +22,93 @@ const LEAST_SHARED: usize = 4096;
 pub(crate) type Keyed<'a> = (KeyRef<'a>, usize);
 
 /// The places of a batch's commands, counted from 0, in the order of their keys, and where keys are equal in the order of
-/// the batch, each beside its key. The sort is shared among threads where the batch is long.
+/// the batch, each beside its key. Several workers share the list, and threads the sort.
 pub(crate) fn sorted_places<'a>(
     rt: &(impl Threads + Sync),
+    workers: usize,
     alloc: Global,
     batch: &BatchWithEnds<'a>,
 ) -> Result<Vec<Keyed<'a>>, AllocError>
     ensures sorted { IfOk result (λ keyed. AreSortedPlaces batch.now (places_of keyed.items)) }
     ensures keys { IfOk result (λ keyed. AreKeyed batch.now keyed.items) }
 {
-    let mut keyed = keyed_places(alloc, batch)?;
-    sort_keyed(rt, &mut keyed);
+    let mut keyed = keyed_places(rt, workers, alloc, batch, 0, batch.len())?;
+    sort_keyed(rt, workers, &mut keyed);
     Ok(keyed)
 }
 
+/// How many of these workers share a batch of so many commands.
+pub(crate) fn sharing(workers: usize, count: usize) -> usize {
+    workers.min(count.div_ceil(LEAST_SHARED))
+}
+
 // Sorts by key, and where keys are equal by place.
-fn sort_keyed(rt: &(impl Threads + Sync), keyed: &mut [Keyed<'_>])
+fn sort_keyed(rt: &(impl Threads + Sync), workers: usize, keyed: &mut [Keyed<'_>])
     ensures permutation { IsPermutation keyed.old keyed.new }
     ensures len { length keyed.new ≡ length keyed.old }
     ensures sorted { IsSorted (λ x y. ordering_then (order x.0 y.0) (nat_cmp x.1 y.1)) keyed.new }
 {
-    if keyed.len() < LEAST_SHARED {
+    if workers < 2 {
         keyed.sort_unstable();
     } else {
         par_sort_unstable(rt, keyed);
     }
 }
 
-// Each command's key with its place, in the order of the batch.
-fn keyed_places<'a>(alloc: Global, batch: &BatchWithEnds<'a>) -> Result<Vec<Keyed<'a>>, AllocError>
-    ensures places { IfOk result (λ keyed.
-        places_of keyed.items ≡ places_below (length batch.now)) }
+// The keys of so many commands from this place on, each with its place, in the order of the batch. The workers share them: it calls
+// itself once for each halving of these.
+#[cycle(keyed)]
+fn keyed_places<'a, R: Threads + Sync>(
+    rt: &R,
+    workers: usize,
+    alloc: Global,
+    batch: &BatchWithEnds<'a>,
+    from: usize,
+    count: usize,
+) -> Result<Vec<Keyed<'a>>, AllocError>
+    requires { from + count < 2 ^ 64 }
+    ensures places { IfOk result (λ keyed. places_of keyed.items ≡ range_with_len from count) }
     ensures keys { IfOk result (λ keyed. AreKeyed batch.now keyed.items) }
 {
-    let mut keyed = Vec::with_capacity(alloc, batch.len())?;
-    for place in 0..batch.len() {
+    if workers < 2 {
+        return keyed_in_turn(alloc, batch, from, count);
+    }
+    let few = workers / 2;
+    let others = workers - few;
+    let low = count / 2;
+    let high = count - low;
+    let mid = from + low;
+    let front = || -> Result<Vec<Keyed<'_>>, AllocError>
+        requires { IsSync R.row × (from + low < 2 ^ 64) }
+        ensures places { IfOk result (λ keyed. places_of keyed.items ≡ range_with_len from low) }
+        ensures keys { IfOk result (λ keyed. AreKeyed batch.entry.now keyed.items) }
+    { keyed_places(rt, few, alloc, batch, from, low) };
+    let back = || -> Result<Vec<Keyed<'_>>, AllocError>
+        requires { IsSync R.row × (mid + high < 2 ^ 64) }
+        ensures places { IfOk result (λ keyed. places_of keyed.items ≡ range_with_len mid high) }
+        ensures keys { IfOk result (λ keyed. AreKeyed batch.entry.now keyed.items) }
+    { keyed_places(rt, others, alloc, batch, mid, high) };
+    let (low, high) = join(rt, front, back);
+    let mut keyed = low?;
+    let mut rest = high?;
+    keyed.append(&mut rest)?;
+    Ok(keyed)
+}
+
+// The same, one after the other.
+fn keyed_in_turn<'a>(
+    alloc: Global,
+    batch: &BatchWithEnds<'a>,
+    from: usize,
+    count: usize,
+) -> Result<Vec<Keyed<'a>>, AllocError>
+    requires { from + count < 2 ^ 64 }
+    ensures places { IfOk result (λ keyed. places_of keyed.items ≡ range_with_len from count) }
+    ensures keys { IfOk result (λ keyed. AreKeyed batch.now keyed.items) }
+{
+    let mut keyed = Vec::with_capacity(alloc, count)?;
+    for at in 0..count {
+        let place = from + at;
         keyed.push((KeyRef::new(batch.key_at(place)), place))?;
     }
     Ok(keyed)

@@ -1,7 +1,8 @@
-use Rattle.std.proofs.Common.{◌≡◌, ◌++◌, length, take, drop, arith}
+use Rattle.std.proofs.Common.{◌≡◌, ◌++◌, length, take, drop, ap, ◌∙◌, arith}
 use Rattle.std.specs.List.Sorted.{IsPermutation}
 use Rattle.std.proofs.lemmas.List.{take_at}
 use Rattle.routing.specs.Keyed.{Keyed}
+use Rattle.routing.specs.Places.{places_below}
 use Rattle.routing.proofs.SortLemmas.{places_of_sorted, keyed_sorted}
 use Rattle.routing.proofs.sort.sorted_places.Given as given
 use Rattle.routing.proofs.sort.sorted_places.Goals as goal
@@ -15,7 +16,7 @@ sorted g c =
 pub returns-clause-sorted : goal.returns-clause-sorted
 returns-clause-sorted g c =
     let s = sorted g c in
-    rw s.1 (places_of_sorted c.args.batch.now (λ (entry : Keyed). entry.0) (λ (entry : Keyed). entry.1) c.in_ok-keyed.keyed.items c.sort_keyed.new.keyed c.in_ok-keyed.ensures.places c.in_ok-keyed.ensures.keys s.0 c.sort_keyed.ensures.sorted)
+    rw s.1 (places_of_sorted c.args.batch.now (λ (entry : Keyed). entry.0) (λ (entry : Keyed). entry.1) c.in_ok-keyed.keyed.items c.sort_keyed.new.keyed (c.in_ok-keyed.ensures.places ∙ ap places_below c.len.ensures) c.in_ok-keyed.ensures.keys s.0 c.sort_keyed.ensures.sorted)
 
 pub returns-clause-keys : goal.returns-clause-keys
 returns-clause-keys g c =
