@@ -11,6 +11,7 @@ mod CreateLemmas
 mod Crossing
 mod EndedRoutes
 mod Executed
+mod FileStoreLemmas
 mod FlushDone
 mod InTurn
 mod LeafRoutes

@@ -38,6 +38,7 @@ mod failing_disk_rows;
 mod failing_recovery_rows;
 #[cfg(test)]
 mod fault_rows;
+pub mod file_store;
 #[cfg(test)]
 mod frame_rows;
 #[cfg(test)]
@@ -68,9 +69,12 @@ mod tests;
 #[cfg(test)]
 mod trees_by_hand;
 
+pub use crate::file_store::{OpenFault, open_or_create};
 pub use crate::step::{Answer, Step};
 pub use crate::store::Store;
 pub use crew::{Crew, Gate, NoGate};
-pub use flush_log::{CrashDisk, Disk, DiskFault, Failing, FaultDisk, Fill, MemDisk};
+pub use flush_log::{
+    CrashDisk, Disk, DiskFault, Failing, FaultDisk, FileDisk, Fill, LockFile, MemDisk,
+};
 pub use scan::Rows;
 pub use verify::Report;

@@ -5,6 +5,7 @@ pub mod Crash
 pub mod Disk
 pub mod Ends
 pub mod Faults
+pub mod FileDisk
 pub mod FlushText
 pub mod Gathering
 pub mod ImageWork

@@ -7,6 +7,7 @@ pub mod Footprint
 pub mod Kept
 pub mod Limits
 pub mod Lists
+pub mod LogSize
 pub mod Narrowed
 pub mod Order
 pub mod OrderedMap

@@ -1,5 +1,6 @@
-ghost use Rattle.std.specs.Prelude.{◌≡◌, Ok, Err, if◌then◌else◌, MatchOption};
+ghost use Rattle.std.specs.Prelude.{◌≡◌, ◌+◌, ◌*◌, ◌≤◌, Ok, Err, None, if◌then◌else◌, IfOk, MatchOption};
 ghost use Rattle.keys.specs.Limits.{is_in_limits, first_bad_field};
+ghost use Rattle.keys.specs.LogSize.{room_of_pairs};
 
 use crate::fault::Fault;
 use std::fmt;
@@ -67,6 +68,57 @@ impl Settings {
         let longest = 16 + 17 + self.max_key + self.fan * (3 + self.max_key + cell);
         within(Field::SegSize, longest, 0, self.seg_size)
     }
+
+    /// How many bytes the disk of a store with these settings has at least.
+    pub fn disk_size(&self) -> u64
+        ensures { result ≡ 512 + self.now.segments * self.now.seg_size }
+    {
+        512 + u64::from(self.segments) * u64::from(self.seg_size)
+    }
+
+    /// Settings for a store of this many pairs, with keys and values of at most so many bytes: pages of 64 entries, of which a leaf has
+    /// four runs at the most, and a log that has room for a base and four runs of each leaf, and for one more text. So a log that
+    /// is full has room again once its segments are cleaned, in whatever batches the pairs are put again. Of a store whose keys only move on,
+    /// as those of a queue, all pairs count that are ever put, since a leaf that deletes have emptied stays in the log.
+    ///
+    /// A key or a value out of range is `Fault::BadSettings`, and so are more pairs than 65,536 segments of 1 MiB have room for, which names
+    /// `segments`.
+    pub fn for_pairs(pairs: u32, key: u32, value: u32) -> Result<Settings, Fault>
+        ensures good { IfOk result (λ settings. first_bad_field settings ≡ None) }
+        ensures lengths { IfOk result (λ settings. (settings.max_key ≡ key) × (settings.max_value ≡ value)) }
+        ensures room { IfOk result (λ settings. room_of_pairs pairs key value + 3 * settings.seg_size ≤ settings.segments * settings.seg_size) }
+    {
+        within(Field::MaxKey, key, 1, 255)?;
+        within(Field::MaxValue, value, 0, 1_024)?;
+        let room = room_of_pairs(pairs, key, value);
+        let longest = 33 + key + 64 * (3 + key + (2 + value).max(8));
+        let seg_size = (room / 16).min(1_048_576).max(u64::from(8 * longest));
+        let segments = room / seg_size + 4;
+        if segments > 65_536 {
+            return Err(Fault::BadSettings(Field::Segments));
+        }
+        let settings = Settings {
+            fan: 64,
+            chain: 4,
+            max_key: key,
+            max_value: value,
+            seg_size: seg_size as u32,
+            segments: segments as u32,
+        };
+        settings.check()?;
+        Ok(settings)
+    }
+}
+
+// The room that these pairs need in a log.
+fn room_of_pairs(pairs: u32, key: u32, value: u32) -> u64
+    requires key { key ≤ 255 }
+    requires value { value ≤ 1024 }
+    ensures { result ≡ room_of_pairs pairs key value }
+{
+    let pairs = u64::from(pairs);
+    let (key, value) = (u64::from(key), u64::from(value));
+    7 * (pairs * (5 + key + value) + (pairs / 32 + 1) * (28 + 2 * key))
 }
 
 // Refuses the field where the number is not from `least` to `greatest`.

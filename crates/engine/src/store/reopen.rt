@@ -82,11 +82,44 @@ impl<D: Disk> Store<D> {
         }
     }
 
-    /// Gives up what the store has in memory, makes all that was written to its disk last, and opens the store that the disk
-    /// holds: that of the last flush or upgrade. So a store goes on that has failed (`Fault::Failed`).
+    /// Opens the store of a disk that another program may have left between its write and its sync: makes all that was written to the
+    /// disk last, and then does as `Store::recover`, so that all that is promised of crashes holds from here on. It writes nothing.
     ///
     /// A crew out of range is `Fault::BadCrew`, and where a call of the disk failed there is `Fault::Device`; else as `Store::recover`.
     /// After an `Err` the disk is handed back, with what a read gives as it was.
+    pub fn open(
+        rt: &(impl Threads + Sync),
+        alloc: Global,
+        disk: D,
+        crew: Crew,
+    ) -> Result<Store<D>, (Fault, D)>
+        // The crew comes before the disk is called.
+        ensures bad_crew { is_crew crew ≡ false → result ≡ Err (Fault.BadCrew, disk) }
+        ensures read { IsTrue (is_crew crew) → (file : Bytes) × IsReadOf (D.view disk) file × IsOpened D.failed file (D.failed disk) result }
+        ensures honest { IsTrue (is_crew crew) → IsTrue (D.view disk).is_honest → IsOpened D.failed (D.view disk).seen (D.failed disk) result }
+        ensures fine { IfOk result (λ opened. opened.has_failed ≡ false) }
+
+        // What a read gives stays; the disk is settled where it is Ok, and a crash meanwhile leaves what it might have left before.
+        ensures seen { IsTrue (D.view disk).is_honest → (D.view (disk_left result)).seen ≡ (D.view disk).seen }
+        ensures settled { IsTrue (D.view disk).is_honest → IfOk result (λ opened. IsSettled (D.view opened.disk)) }
+        ensures crash { IsTrue (D.view disk).is_honest → Leaves (D.view disk) (D.view (disk_left result)) (λ before c. c ≡ before) }
+        ensures kept { Kept (D.view disk) (D.view (disk_left result)) }
+        ensures counted { IfOk result (λ opened. D.failed opened.disk ≡ D.failed disk) }
+        ensures uncounted { IfErr result (λ e. e.0 ≢ Fault.Device → D.failed e.1 ≡ D.failed disk) }
+        ensures sound { IfOk result (λ opened. IsSound D.view opened) }
+    {
+        if let Err(fault) = admit_crew(crew) {
+            return Err((fault, disk));
+        }
+        let mut disk = disk;
+        match settle(&mut disk) {
+            Ok(()) => Store::recover(rt, alloc, disk, crew),
+            Err(failed) => Err((failed.into(), disk)),
+        }
+    }
+
+    /// Gives up what the store has in memory, and opens the store that its disk holds, as `Store::open` does: that of the last flush or
+    /// upgrade. So a store goes on that has failed (`Fault::Failed`).
     pub fn reopen(self, rt: &(impl Threads + Sync), crew: Crew) -> Result<Store<D>, (Fault, D)>
         // The crew comes before the disk is called.
         ensures bad_crew { is_crew crew ≡ false → result ≡ Err (Fault.BadCrew, self.disk) }
@@ -104,13 +137,6 @@ impl<D: Disk> Store<D> {
         ensures sound { IfOk result (λ opened. IsSound D.view opened) }
     {
         let alloc = self.alloc;
-        let mut disk = self.close();
-        if let Err(fault) = admit_crew(crew) {
-            return Err((fault, disk));
-        }
-        match settle(&mut disk) {
-            Ok(()) => Store::recover(rt, alloc, disk, crew),
-            Err(failed) => Err((failed.into(), disk)),
-        }
+        Store::open(rt, alloc, self.close(), crew)
     }
 }
