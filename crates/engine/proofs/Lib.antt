@@ -26,5 +26,6 @@ mod RunRoutes
 mod SeenLeaves
 mod StepDone
 mod StepsLemmas
+mod TaskLemmas
 mod TextSteps
 mod Verified

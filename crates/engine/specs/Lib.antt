@@ -9,3 +9,4 @@ pub mod Refusal
 pub mod SoundTree
 pub mod State
 pub mod Steps
+pub mod Tasks
