@@ -28,6 +28,7 @@ mod RunRoutes
 mod SeenLeaves
 mod StepDone
 mod StepsLemmas
+mod TaskLemmas
 mod TextSteps
 mod Verified
 mod WayOfOne

@@ -1,13 +1,10 @@
--- Leaves in two, those that are only read and the others: what holds of all holds of either, and their answers in order are those of all.
+-- Some of the leaves that commands go to: what holds of all holds of these.
 use Rattle.std.specs.Prelude.{◌≡◌, ◌≢◌, ℕ, Bool, true, false, List, [], ◌∷◌, map}
 use Rattle.std.proofs.Common.{refl, ap, ◌∙◌}
 use Rattle.std.specs.List.{AllByRecursion, filter}
-use Rattle.std.specs.declared.alloc.Global.{Global}
-use Rattle.keys.specs.declared.command.Command.{Command}
 use Rattle.mapping.specs.Proper.{Distinct}
-use Rattle.page_runs.specs.Reads.{is_only_read}
 use Rattle.routing.specs.Routes.{Route}
-use Rattle.engine.specs.Leaves.{route_pids, read_routes, written_routes, order_of, in_order}
+use Rattle.engine.specs.Leaves.{route_pids}
 
 -- ---- of some routes
 
@@ -51,16 +48,3 @@ module _ (w : Route → Bool) where
         let first : f r ≡ g r = cc in
         let rest : map f rs ≡ map g rs = cc in
         same_by r rs (w r) refl first (same_passing rs rest)
-
--- ---- both in order
-
-module _ {X : Type 0} (cs : List (Command Global)) (f : Route → List X) where
-  next_by : (r : Route) (rs : List Route) (b : Bool) → is_only_read cs r ≡ b → in_order (order_of cs rs) (map f (read_routes cs rs)) (map f (written_routes cs rs)) ≡ map f rs
-      → in_order (order_of cs (r ∷ rs)) (map f (read_routes cs (r ∷ rs))) (map f (written_routes cs (r ∷ rs))) ≡ map f (r ∷ rs)
-  next_by r rs true e rest = rw e (ap (λ (xs : List (List X)). f r ∷ xs) rest)
-  next_by r rs false e rest = rw e (ap (λ (xs : List (List X)). f r ∷ xs) rest)
-
-  -- what is made of those that are read and of the others, in their order, is what is made of all
-  pub both_in_order : (rs : List Route) → in_order (order_of cs rs) (map f (read_routes cs rs)) (map f (written_routes cs rs)) ≡ map f rs
-  both_in_order [] = refl
-  both_in_order (r ∷ rs) = next_by r rs (is_only_read cs r) refl (both_in_order rs)

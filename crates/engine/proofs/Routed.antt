@@ -1,11 +1,9 @@
 -- A batch whose routes are known: what its leaves answer, that the tree is ready to climb, and the way back.
 use Rattle.std.specs.Prelude.{◌≡◌, ◌⊎◌, ℕ, ◌+◌, ◌<◌, ◌≤◌, Bool, true, false, not, length, List, [], ◌∷◌, map, slice_get, Option, Some, None, Result, Ok, Err, OnErr}
 use Rattle.std.proofs.Common.{refl, sym, ap, ◌∙◌, subst}
-use mathlib.Core.List.{map-map}
 use Rattle.std.specs.List.{AllByRecursion, filter}
 use Rattle.std.specs.Map.{keys_of}
 use Rattle.std.specs.declared.alloc.Global.{Global}
-use Rattle.keys.specs.Lists.{flat}
 use Rattle.keys.specs.Narrowed.{with_ends}
 use Rattle.keys.specs.Step.{replies_to}
 use Rattle.keys.specs.declared.command.Command.{Command}
@@ -24,9 +22,9 @@ use Rattle.mapping.specs.Tree.{Tree, Store}
 use Rattle.mapping.specs.TreeInMemory.{TreeInMemory, AreAllHome, tree_of}
 use Rattle.mapping.proofs.TileLemmas.{rising-joined, rising-names}
 use Rattle.keys.specs.declared.piece.Piece.{Piece}
-use Rattle.page_runs.specs.LeafWork.{LeafHeld, LeafMade, LeafWorked, leaf_made, leaf_answers}
-use Rattle.page_runs.specs.Reads.{ReadLeaf, IsRouteToRead, is_only_read, answers_at, route_answers}
-use Rattle.page_runs.specs.Replies.{commands_at, ArePlacesOf}
+use Rattle.page_runs.specs.LeafWork.{LeafHeld, LeafMade, LeafWorked}
+use Rattle.page_runs.specs.Reads.{IsLeafAt, is_only_read}
+use Rattle.page_runs.specs.Replies.{commands_at}
 use Rattle.page_runs.proofs.EndedBatch.{near_ends, all_end_before, net_run-ended}
 use Rattle.page_runs.proofs.IdleBatch.{AreButBlank}
 use Rattle.page_runs.proofs.ReadLemmas.{net_run-looks}
@@ -37,13 +35,12 @@ use Rattle.climb_plan.specs.Installing.{AreAway, all_taken, all_put, page_or_non
 use Rattle.climb_plan.specs.Plan.{planned_tree}
 use Rattle.climb_plan.specs.Ready.{IsReady}
 use Rattle.climb_plan.proofs.ArrivedPages.{home_keys}
-use Rattle.engine.specs.Leaves.{AreRoutesFor, AreLeafRoutes, IsLeafAt, IsParted, leaf_held, leaves_made, answers, route_pids, read_routes, written_routes, is_written, order_of, in_order, read_answers, worked_answers, answers_in}
+use Rattle.engine.specs.Leaves.{AreRoutesFor, AreLeafRoutes, leaf_held, leaves_made, answers, route_pids, written_routes, is_written, without_answers}
 use Rattle.engine.specs.SoundTree.{IsSoundInMemory}
 use Rattle.engine.proofs.Answered.{routes_here, leaf_parts, routes_are_leaves, answered_rightly, answered_as_a_map}
 use Rattle.engine.proofs.BlankAnswers.{but_reply, but_answers}
 use Rattle.engine.proofs.EndedRoutes.{planned-ended, places-ended, reply-ended, answers-ended}
-use Rattle.engine.proofs.Executed.{held_all, seen_leaves}
-use Rattle.engine.proofs.PartedLemmas.{all_passing, distinct_passing, each_passing, both_in_order}
+use Rattle.engine.proofs.Executed.{held_all, seen_leaves, held_without, seen_without}
 use Rattle.engine.proofs.Readied.{ready_here, taken_away, put_back_here}
 use Rattle.engine.proofs.RunRoutes.{AreSameWork, runs_same, same_pids, all_places, all_ended, all_but_blank, changed_same, same_seen}
 use Rattle.engine.proofs.SeenLeaves.{ComeToNone}
@@ -102,38 +99,9 @@ on_any_error (Err e) p = p
 pub sound_rising : (s : Settings) (m : TreeInMemory) → IsSoundInMemory s m → AreRisingPids (pids_in_use m.table)
 sound_rising s m sound = subst (λ (ns : List ℕ). AreRisingPids ns) (home_keys m.table.places sound.home) sound.sound.proper.tree.rising
 
--- ---- leaves that are read
-
 is_true : (b : Bool) → not b ≡ false → b ≡ true
 is_true true h = refl
 is_true false h = absurd (cc)
-
--- leaves at home, and places of the batch, may be read
-all_readable : (m : TreeInMemory) (cs : List (Command Global)) (rs : List Route) → AllByRecursion (λ pid. IsLeafAt (page_of m.table pid)) (route_pids rs) → AllByRecursion (λ r. ArePlacesOf cs r.places) rs → AllByRecursion (IsRouteToRead m cs) rs
-all_readable m cs [] a b = tt
-all_readable m cs (r ∷ rs) a b = (record { home = a.0; places = b.0 }, all_readable m cs rs a.1 b.1)
-
--- what a leaf answers where it stays in the tree is what it answers as a job
-module _ (s : Settings) (cs : List (Command Global)) (m : TreeInMemory) where
-  abbrev job_answers : Route → List (Piece Global)
-  job_answers r = (leaf_made s cs (leaf_held m.table r)).pieces
-
-  answers_by : (o : Option PageOfKind) (r : Route) → IsLeafAt o → answers_at cs o r ≡ leaf_answers cs (record { page = page_or_none o; route = r })
-  answers_by None r h = absurd h
-  answers_by (Some p) r h = refl
-
-  read_as_jobs : (rs : List Route) → AllByRecursion (λ pid. IsLeafAt (page_of m.table pid)) (route_pids rs) → map (route_answers m cs) rs ≡ map job_answers rs
-  read_as_jobs [] a = refl
-  read_as_jobs (r ∷ rs) a =
-      ap (λ (ps : List (Piece Global)). ps ∷ map (route_answers m cs) rs) (answers_by (page_of m.table r.pid) r a.0)
-      ∙ ap (λ (xs : List (List (Piece Global))). job_answers r ∷ xs) (read_as_jobs rs a.1)
-
-  job_answers_all : (rs : List Route) → map (λ x. x.pieces) (leaves_made s cs m.table rs) ≡ map job_answers rs
-  job_answers_all rs = map-map (λ (x : LeafMade). x.pieces) (λ (r : Route). leaf_made s cs (leaf_held m.table r)) rs
-
--- the answers of leaves that were worked are of what was made of them
-worked_by_made : (ds : List LeafWorked) → worked_answers ds ≡ map (λ x. x.pieces) (made_all ds)
-worked_by_made ds = sym (map-map (λ (x : LeafMade). x.pieces) (λ (d : LeafWorked). d.made) ds)
 
 -- ---- a batch whose routes are known
 
@@ -167,7 +135,8 @@ module _ (s : Settings) (m : TreeInMemory) (cs : List (Command Global)) (sound :
   quiet : ComeToNone ended changed
   quiet r h n = net_run-ended cs routed.0 r.places n ∙ net_run-looks n (commands_at cs r.places) (is_true (is_only_read cs r) h)
 
-  all_routes : AreLeafRoutes m.table cs rs
+  -- the leaves are at home
+  pub all_routes : AreLeafRoutes m.table cs rs
   all_routes =
       let there : AreLeafRoutes m.table ended here = routes_are_leaves s m ended sound.home sound.sound.proper in
       let pids = sym (same_pids s cs routed.0 m.table rs here same) in
@@ -177,17 +146,6 @@ module _ (s : Settings) (m : TreeInMemory) (cs : List (Command Global)) (sound :
         places = places-ended cs routed.0 rs (all_places s cs routed.0 m.table rs here same);
       }
 
-  -- those that are changed are at home, and so are those that are read
-  changed_routes : AreLeafRoutes m.table cs (written_routes cs rs)
-  changed_routes = record {
-    home = all_passing changed (λ pid. IsLeafAt (page_of m.table pid)) rs all_routes.home;
-    distinct = distinct_passing changed rs all_routes.distinct;
-    places = each_passing changed (λ r. ArePlacesOf cs r.places) rs all_routes.places;
-  }
-
-  all_may_be_read : AllByRecursion (IsRouteToRead m cs) (read_routes cs rs)
-  all_may_be_read = each_passing (is_only_read cs) (IsRouteToRead m cs) rs (all_readable m cs rs all_routes.home all_routes.places)
-
   -- what is made of all leaves is what is made of them with nearer ends
   all_made : leaves_made s cs m.table rs ≡ leaves_made s ended m.table rs
   all_made = all_ended s cs routed.0 m.table rs here same
@@ -196,78 +154,58 @@ module _ (s : Settings) (m : TreeInMemory) (cs : List (Command Global)) (sound :
   blanks_missing : AreButBlank ended (answers (leaves_made s ended m.table rs)) (answers (leaves_made s ended m.table here))
   blanks_missing = all_but_blank s cs routed.0 m.table rs here same
 
-  module _ (qs ws : List Route) (order : List Bool) (parted : IsParted cs rs qs ws order) where
-    changed_there : route_pids ws ≡ route_pids (filter changed here)
-    changed_there = ap (λ (xs : List Route). route_pids xs) parted.writes ∙ pids_changed
+  -- what was answered is what the leaves answer to the commands with nearer ends, but for blank answers
+  module _ (ps : List (Piece Global)) (told : ps ≡ answers (leaves_made s cs m.table rs)) where
+    pub answered : AreAnswers cs ps
+    answered =
+        let right = but_answers ended (answers (leaves_made s ended m.table rs)) (answers (leaves_made s ended m.table here)) blanks_missing (answered_rightly s m ended sound.home sound.sound.proper) in
+        let all : AreAnswers cs (answers (leaves_made s cs m.table rs)) = answers-ended cs routed.0 (answers (leaves_made s cs m.table rs)) (rw all_made right) in
+        subst (λ (qs : List (Piece Global)). AreAnswers cs qs) (sym told) all
 
-    pub leaf_routes : AreLeafRoutes m.table cs ws
-    leaf_routes = rw parted.writes changed_routes
+    pub as_a_map : length (contents (tree_of m)) + length cs ≤ most_counted → (xs : List (Reply Global)) → ((place : ℕ) → slice_get xs place ≡ reply_at cs ps place) → xs ≡ replies_to (contents (tree_of m)) cs
+    as_a_map few xs at =
+        answered_as_a_map s m ended sound.home sound.sound.proper (rw (length-with_ends cs routed.0) few) xs
+        (λ place. at place ∙ ap (λ (qs : List (Piece Global)). reply_at cs qs place) told ∙ sym (reply-ended cs routed.0 (answers (leaves_made s cs m.table rs)) place) ∙ ap (λ (ms : List LeafMade). reply_at ended (answers ms) place) all_made
+        ∙ but_reply ended (answers (leaves_made s ended m.table rs)) (answers (leaves_made s ended m.table here)) blanks_missing place)
+        ∙ replies-with_ends (keys_of (names (levels_of (tree_of m)).level)) (contents (tree_of m)) cs routed.0 (rising-joined (levels_of (tree_of m)).level None sound.sound.proper.levels.tiled) routed.1
 
-    pub may_be_read : AllByRecursion (IsRouteToRead m cs) qs
-    may_be_read = rw parted.reads all_may_be_read
-
-    module _ (ds : List LeafWorked) (made : made_all ds ≡ leaves_made s cs m.table ws) where
-      seen_here : seen_leaves ds ≡ map (λ x. page_seen Leaf x.worked) (leaves_made s ended m.table (filter changed here))
+  -- the leaves that were changed, and then asked for their answers
+  module _ (ds leaves : List LeafWorked) (asked : leaves ≡ map without_answers ds) (now : TreeInMemory) (taken : now ≡ without_leaves m (written_routes cs rs)) where
+    module _ (made : made_all ds ≡ leaves_made s cs m.table (written_routes cs rs)) where
+      seen_here : seen_leaves leaves ≡ map (λ x. page_seen Leaf x.worked) (leaves_made s ended m.table (filter changed here))
       seen_here =
-          seen_by_made ds ∙ ap (λ (ms : List LeafMade). map (λ x. page_seen Leaf x.worked) ms) (made ∙ ap (λ (xs : List Route). leaves_made s cs m.table xs) parted.writes)
+          ap (λ (xs : List LeafWorked). seen_leaves xs) asked ∙ seen_without ds ∙ seen_by_made ds ∙ ap (λ (ms : List LeafMade). map (λ x. page_seen Leaf x.worked) ms) made
           ∙ same_seen s cs routed.0 m.table (written_routes cs rs) (filter changed here) same_changed
 
-      module _ (reads : List ReadLeaf) (read : read_answers reads ≡ map (route_answers m cs) qs) where
-        -- the answers of both, in order, are those of all
-        all_there : answers_in order reads ds ≡ answers (leaves_made s cs m.table rs)
-        all_there =
-            let of_reads : read_answers reads ≡ map (job_answers s cs m) (read_routes cs rs) =
-            read ∙ ap (λ (xs : List Route). map (route_answers m cs) xs) parted.reads ∙ read_as_jobs s cs m (read_routes cs rs) (all_passing (is_only_read cs) (λ pid. IsLeafAt (page_of m.table pid)) rs all_routes.home) in
-            let of_works : worked_answers ds ≡ map (job_answers s cs m) (written_routes cs rs) =
-            worked_by_made ds ∙ ap (λ (ms : List LeafMade). map (λ x. x.pieces) ms) (made ∙ ap (λ (xs : List Route). leaves_made s cs m.table xs) parted.writes) ∙ job_answers_all s cs m (written_routes cs rs) in
-            ap (λ (bs : List Bool). flat (in_order bs (read_answers reads) (worked_answers ds))) parted.order
-            ∙ ap (λ (xs : List (List (Piece Global))). flat (in_order (order_of cs rs) xs (worked_answers ds))) of_reads
-            ∙ ap (λ (xs : List (List (Piece Global))). flat (in_order (order_of cs rs) (map (job_answers s cs m) (read_routes cs rs)) xs)) of_works
-            ∙ ap (λ (xs : List (List (Piece Global))). flat xs) (both_in_order cs (job_answers s cs m) rs ∙ sym (job_answers_all s cs m rs))
+      is_ready : IsReady s (tree_of m) ended now (seen_leaves leaves)
+      is_ready =
+          let there : now ≡ without_leaves m (filter changed here) = taken ∙ ap (λ (ns : List ℕ). without_pids m ns) pids_changed in
+          rw (there, seen_here) (ready_here s m ended changed sound quiet)
 
-        pub answered : AreAnswers cs (answers_in order reads ds)
-        answered =
-            let right = but_answers ended (answers (leaves_made s ended m.table rs)) (answers (leaves_made s ended m.table here)) blanks_missing (answered_rightly s m ended sound.home sound.sound.proper) in
-            let all : AreAnswers cs (answers (leaves_made s cs m.table rs)) = answers-ended cs routed.0 (answers (leaves_made s cs m.table rs)) (rw all_made right) in
-            subst (λ (ps : List (Piece Global)). AreAnswers cs ps) (sym all_there) all
+      pub some_ready : (t : Tree) × (bs : List (Command Global)) × IsReady s t bs now (seen_leaves leaves)
+      some_ready = (tree_of m, ended, is_ready)
 
-        pub as_a_map : length (contents (tree_of m)) + length cs ≤ most_counted → (xs : List (Reply Global)) → ((place : ℕ) → slice_get xs place ≡ reply_at cs (answers_in order reads ds) place) → xs ≡ replies_to (contents (tree_of m)) cs
-        as_a_map few xs at =
-            answered_as_a_map s m ended sound.home sound.sound.proper (rw (length-with_ends cs routed.0) few) xs
-            (λ place. at place ∙ ap (λ (ps : List (Piece Global)). reply_at cs ps place) all_there ∙ sym (reply-ended cs routed.0 (answers (leaves_made s cs m.table rs)) place) ∙ ap (λ (ms : List LeafMade). reply_at ended (answers ms) place) all_made
-            ∙ but_reply ended (answers (leaves_made s ended m.table rs)) (answers (leaves_made s ended m.table here)) blanks_missing place)
-            ∙ replies-with_ends (keys_of (names (levels_of (tree_of m)).level)) (contents (tree_of m)) cs routed.0 (rising-joined (levels_of (tree_of m)).level None sound.sound.proper.levels.tiled) routed.1
+      -- what holds of the plan of all for which the tree is ready holds of this plan
+      pub for_this : (P : Tree → Type 0) → ((t : Tree) (bs : List (Command Global)) → IsReady s t bs now (seen_leaves leaves) → P (planned_tree s t bs)) → P (planned_tree s (tree_of m) cs)
+      for_this P f = subst P (planned-ended s (tree_of m) cs routed.0) (f (tree_of m) ended is_ready)
 
-      module _ (now : TreeInMemory) (taken : now ≡ without_leaves m ws) where
-        is_ready : IsReady s (tree_of m) ended now (seen_leaves ds)
-        is_ready =
-            let there : now ≡ without_leaves m (filter changed here) = taken ∙ ap (λ (ns : List ℕ). without_pids m ns) changed_there in
-            rw (there, seen_here) (ready_here s m ended changed sound quiet)
-
-        pub some_ready : (t : Tree) × (bs : List (Command Global)) × IsReady s t bs now (seen_leaves ds)
-        some_ready = (tree_of m, ended, is_ready)
-
-        -- what holds of the plan of all for which the tree is ready holds of this plan
-        pub for_this : (P : Tree → Type 0) → ((t : Tree) (bs : List (Command Global)) → IsReady s t bs now (seen_leaves ds) → P (planned_tree s t bs)) → P (planned_tree s (tree_of m) cs)
-        for_this P f = subst P (planned-ended s (tree_of m) cs routed.0) (f (tree_of m) ended is_ready)
-
-    module _ (ds again : List LeafWorked) (held : held_all ds ≡ map (leaf_held m.table) ws) (back : held_all again ≡ held_all ds) (now refused : TreeInMemory) (taken : now ≡ without_leaves m ws) (kept : refused ≡ now) where
+    module _ (held : held_all ds ≡ map (leaf_held m.table) (written_routes cs rs)) (again : List LeafWorked) (back : again ≡ leaves) (refused : TreeInMemory) (kept : refused ≡ now) where
       there : refused ≡ without_leaves m (filter changed here)
-      there = kept ∙ taken ∙ ap (λ (ns : List ℕ). without_pids m ns) changed_there
+      there = kept ∙ taken ∙ ap (λ (ns : List ℕ). without_pids m ns) pids_changed
 
-      held_again : held_all again ≡ map (leaf_held m.table) ws
-      held_again = back ∙ held
+      held_again : held_all again ≡ map (leaf_held m.table) (written_routes cs rs)
+      held_again = ap (λ (xs : List LeafWorked). held_all xs) (back ∙ asked) ∙ held_without ds ∙ held
 
       pub again_away : AreAway refused.table (map (λ d. d.held.route.pid) again)
       again_away =
-          let pids : map (λ d. d.held.route.pid) again ≡ route_pids (filter changed here) = pids_held again ∙ ap (λ (hs : List LeafHeld). map (λ h. h.route.pid) hs) held_again ∙ pids_of_routes m ws ∙ changed_there in
+          let pids : map (λ d. d.held.route.pid) again ≡ route_pids (filter changed here) = pids_held again ∙ ap (λ (hs : List LeafHeld). map (λ h. h.route.pid) hs) held_again ∙ pids_of_routes m (written_routes cs rs) ∙ pids_changed in
           rw (there, pids) (taken_away s m ended changed sound)
 
       pub again_back : (last : TreeInMemory) → last ≡ record refused { table = all_put refused.table (map {B = ℕ × PageOfKind} (λ d. (d.held.route.pid, d.held.page)) again) } → last ≡ m
       again_back last e =
           let pages : map {B = ℕ × PageOfKind} (λ d. (d.held.route.pid, d.held.page)) again ≡ routed_pages m (filter changed here) =
-          pages_held again ∙ ap (λ (hs : List LeafHeld). map {B = ℕ × PageOfKind} (λ h. (h.route.pid, h.page)) hs) held_again ∙ pages_of_routes m ws
-          ∙ pages_by_pid m ws ∙ ap (λ (ns : List ℕ). pages_under m ns) changed_there ∙ sym (pages_by_pid m (filter changed here)) in
+          pages_held again ∙ ap (λ (hs : List LeafHeld). map {B = ℕ × PageOfKind} (λ h. (h.route.pid, h.page)) hs) held_again ∙ pages_of_routes m (written_routes cs rs)
+          ∙ pages_by_pid m (written_routes cs rs) ∙ ap (λ (ns : List ℕ). pages_under m ns) pids_changed ∙ sym (pages_by_pid m (filter changed here)) in
           let whole : record refused { table = all_put refused.table (map {B = ℕ × PageOfKind} (λ d. (d.held.route.pid, d.held.page)) again) } ≡ m = rw (there, pages) (put_back_here s m ended changed sound) in
           e ∙ whole
 

@@ -1,5 +1,5 @@
 -- The leaves that a batch goes to, as jobs.
-use Rattle.std.specs.Prelude.{◌≡◌, ℕ, Bool, true, false, not, List, [], ◌∷◌, map, drop, Option}
+use Rattle.std.specs.Prelude.{◌≡◌, ℕ, Bool, not, List, [], map, Option}
 use Rattle.std.specs.List.{AllByRecursion, filter}
 use Rattle.std.specs.Map.{keys_of}
 use Rattle.std.specs.declared.alloc.Global.{Global}
@@ -17,7 +17,7 @@ use Rattle.mapping.specs.Tree.{Tree}
 use Rattle.routing.specs.Routes.{Route, ranges}
 use Rattle.routing.specs.Runs.{AreRunsOf}
 use Rattle.page_runs.specs.LeafWork.{LeafHeld, LeafMade, LeafWorked, leaf_made}
-use Rattle.page_runs.specs.Reads.{ReadLeaf, is_only_read}
+use Rattle.page_runs.specs.Reads.{is_only_read}
 pub use Rattle.page_runs.specs.Reads.{IsLeafAt}
 use Rattle.page_runs.specs.Replies.{ArePlacesOf}
 use Rattle.climb_plan.specs.Installing.{page_or_none}
@@ -57,47 +57,13 @@ answers ms = flat (map (λ m. m.pieces) ms)
 
 -- ---- leaves that are only read stay in the tree
 
--- of the leaves that commands go to those that they only read, and the others
-abbrev pub read_routes : List (Command Global) → List Route → List Route
-read_routes cs rs = filter (is_only_read cs) rs
-
+-- whether a leaf may be changed by the commands that go to it
 abbrev pub is_written : List (Command Global) → Route → Bool
 is_written cs r = not (is_only_read cs r)
 
+-- of the leaves that commands go to those that may be changed
 abbrev pub written_routes : List (Command Global) → List Route → List Route
 written_routes cs rs = filter (is_written cs) rs
-
--- of each leaf in turn whether it is only read
-abbrev pub order_of : List (Command Global) → List Route → List Bool
-order_of cs rs = map (is_only_read cs) rs
-
--- these are the first, the others, and which is which
-pub record IsParted (cs : List (Command Global)) (rs some others : List Route) (which : List Bool) : Type 0 where
-  pub reads : some ≡ read_routes cs rs
-  pub writes : others ≡ written_routes cs rs
-  pub order : which ≡ order_of cs rs
-
--- the first list, or none
-abbrev pub first_list : {X : Type 0} → List (List X) → List X
-first_list [] = []
-first_list (xs ∷ xss) = xs
-
--- two lists as one, which takes the next of the first where it is told so, and else the next of the second
-abbrev pub in_order : {X : Type 0} → List Bool → List (List X) → List (List X) → List (List X)
-in_order [] xs ys = []
-in_order (true ∷ bs) xs ys = first_list xs ∷ in_order bs (drop 1 xs) ys
-in_order (false ∷ bs) xs ys = first_list ys ∷ in_order bs xs (drop 1 ys)
-
--- the answers of leaves that were read and of leaves that were worked, leaf by leaf
-abbrev pub read_answers : List ReadLeaf → List (List (Piece Global))
-read_answers ds = map (λ d. d.pieces) ds
-
-abbrev pub worked_answers : List LeafWorked → List (List (Piece Global))
-worked_answers ds = map (λ d. d.made.pieces) ds
-
--- all of them, in the order of the leaves
-abbrev pub answers_in : List Bool → List ReadLeaf → List LeafWorked → List (Piece Global)
-answers_in order reads ds = flat (in_order order (read_answers reads) (worked_answers ds))
 
 -- leaves that were worked, without their answers
 abbrev pub without_answers : LeafWorked → LeafWorked

@@ -11,3 +11,4 @@ pub mod Refusal
 pub mod SoundTree
 pub mod State
 pub mod Steps
+pub mod Tasks

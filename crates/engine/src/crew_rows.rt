@@ -41,7 +41,7 @@ const ALL_THREE: Hold = Hold {
     entered: [1, 1, 1, 0, 0],
 };
 
-static HELD_ROWS: [HeldRow; 7] = [
+static HELD_ROWS: [HeldRow; 8] = [
     HeldRow {
         name: "22",
         before: FIVE_PUTS,
@@ -54,6 +54,19 @@ static HELD_ROWS: [HeldRow; 7] = [
             entered: [1, 1, 0, 0, 0],
         },
         replies: "RR",
+    },
+    HeldRow {
+        name: "22, with a leaf that is only read",
+        before: FIVE_PUTS,
+        batch: "a e=9",
+        crew: TWO,
+        hold: Hold {
+            held: 1,
+            until: 2,
+            rounds: 1,
+            entered: [1, 1, 0, 0, 0],
+        },
+        replies: "1R",
     },
     HeldRow {
         name: "9.1",

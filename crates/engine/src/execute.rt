@@ -1,26 +1,24 @@
 //! A batch on a tree: which leaves its commands go to, what these become and answer, and the climb from them to the root.
-ghost use Rattle.std.specs.Prelude.{◌≡◌, ◌+◌, ◌<◌, ◌≤◌, ℕ, length, List, map, slice_get, IfOk, IfErr, OnOk, OnErr};
+ghost use Rattle.std.specs.Prelude.{◌≡◌, ◌+◌, ◌<◌, ◌≤◌, ℕ, length, List, IfOk, IsOkAnd, IfErr, OnOk, OnErr};
 ghost use Rattle.keys.specs.declared.command.Command.{Command};
 ghost use Rattle.keys.specs.declared.fault.Fault.TheVariants.{NoMemory};
-ghost use Rattle.index_page.specs.Page.PageOfKind.{Leaf};
 ghost use Rattle.keys.specs.Step.{replies_to, map_after_all};
 ghost use Rattle.mapping.specs.Levels.{contents, levels_of};
 ghost use Rattle.mapping.specs.Proper.{AreLevels, HoldsLevels};
 ghost use Rattle.mapping.specs.Tree as definitions;
 ghost use Rattle.mapping.specs.Tree.{most_levels};
 ghost use Rattle.mapping.specs.TreeInMemory.{AreAllHome, tree_of};
-ghost use Rattle.replies.specs.ByPlace.{AreAnswers, most_counted, reply_at};
-ghost use Rattle.climb_plan.specs.Changing.{page_seen};
+ghost use Rattle.replies.specs.ByPlace.{most_counted};
+ghost use Rattle.climb_plan.specs.Changing.{leaves_seen};
 ghost use Rattle.climb_plan.specs.Limits.{AreShort};
 ghost use Rattle.climb_plan.specs.Plan.{planned_tree};
 ghost use Rattle.climb_plan.specs.Ready.{IsReady};
 ghost use Rattle.engine.specs.Batch.{IsLaterFault, fault_by};
-ghost use Rattle.engine.specs.Leaves.{answers_in, AreRoutesFor};
+ghost use Rattle.engine.specs.Leaves.{AreRoutesFor};
 ghost use Rattle.engine.specs.SoundTree.{IsSoundInMemory};
 
 use crate::execute_one::execute_one;
 use crate::leaves::{take_replies, undo_leaves, work_leaves};
-use crate::reads::{Parted, part, read_leaves};
 use climb_plan::Refused;
 use climb_plan::climb::climb;
 use climb_plan::laws::{
@@ -30,10 +28,10 @@ use climb_plan::laws::{
 use crew::{Crew, Gate};
 use keys::{Command, Fault, Reply, Settings};
 use mapping::Tree;
-use page_runs::{LeafDone, LeafRead, LeafWork, ReadWork};
+use page_runs::{LeafDone, LeafWork};
 use routing::{BatchWithEnds, PageRun, route};
 use scan::scan_ends;
-use std::alloc::Global;
+use std::alloc::{AllocError, Global};
 use std::thread::Threads;
 
 /// Executes the commands on the tree: the replies, and the tree is the plan's; or, for want of memory or since the tree would have
@@ -120,19 +118,10 @@ fn execute_routed(
     the_plan_of_a_proper_store_is_proper::<Global>();
     the_log_states_stay_true::<Global>();
     pairs_can_be_counted(&work.settings, tree, work.commands);
-    let Parted {
-        reads,
-        writes,
-        order,
-    } = part(work.alloc, work.commands, page_runs)?;
-    let reading = ReadWork {
-        alloc: work.alloc,
-        commands: work.commands,
-        tree,
-    };
-    let reads = read_leaves(rt, crew, gate, &reading, reads)?;
-    let leaves = work_leaves(rt, crew, gate, work, tree, writes)?;
-    match finish(rt, crew, gate, work, tree, &order, reads, leaves) {
+    let mut leaves = Vec::with_capacity(work.alloc, page_runs.len())?;
+    let dones = work_leaves(rt, crew, gate, work, tree, page_runs)?;
+    let replies = take_replies(work.alloc, work.commands, dones, &mut leaves);
+    match finish(rt, crew, gate, work, tree, replies, leaves) {
         Ok(replies) => Ok(replies),
         Err((fault, leaves)) => {
             undo_leaves(work, tree, leaves);
@@ -161,32 +150,30 @@ fn count_of(commands: &[Command<Global>]) -> usize
     commands.len()
 }
 
-// The replies of these leaves, which were read, or were taken and worked, in this order; and the climb from those that were worked. Where
-// that is refused, the tree is as it was, and these come back, but for their answers.
+// The replies, and the climb from these leaves, which were taken and worked. Where either is refused, the tree is as it was, and the leaves
+// come back.
 fn finish(
     rt: &(impl Threads + Sync),
     crew: Crew,
     gate: &impl Gate,
     work: &LeafWork<'_>,
     tree: &mut Tree<Global>,
-    order: &[bool],
-    reads: Vec<LeafRead>,
-    mut leaves: Vec<LeafDone>,
+    replies: Result<Vec<Reply<Global>>, AllocError>,
+    leaves: Vec<LeafDone>,
 ) -> Result<Vec<Reply<Global>>, (Fault, Vec<LeafDone>)>
     requires fan { 1 < work.now.settings.fan }
-    requires answered { AreAnswers work.now.commands.now (answers_in order.now reads.items leaves.items) }
-    requires ready { (t : definitions.Tree) × (cs : List (Command Global)) × IsReady work.now.settings t cs tree.old (map (λ d. page_seen Leaf d.made.worked) leaves.items) }
+    requires ready { (t : definitions.Tree) × (cs : List (Command Global)) × IsReady work.now.settings t cs tree.old (leaves_seen leaves.items) }
     requires height { tree.old.height ≤ most_levels }
-    ensures replies { IfOk result (λ replies. (place : ℕ) → slice_get replies.items place ≡ reply_at work.now.commands.now (answers_in order.now reads.items leaves.items) place) }
-    ensures planned { OnOk result ((t : definitions.Tree) (cs : List (Command Global)) → IsReady work.now.settings t cs tree.old (map (λ d. page_seen Leaf d.made.worked) leaves.items) →
+    ensures replies { IfOk result (λ now. IsOkAnd replies (λ before. now.items ≡ before.items)) }
+    ensures planned { OnOk result ((t : definitions.Tree) (cs : List (Command Global)) → IsReady work.now.settings t cs tree.old (leaves_seen leaves.items) →
         AreAllHome tree.new × (tree_of tree.new ≡ planned_tree work.now.settings t cs)) }
     ensures low { OnOk result (tree.new.height ≤ most_levels) }
-    ensures back { IfErr result (λ e. map (λ d. d.held) e.1.items ≡ map (λ d. d.held) leaves.items) }
+    ensures back { IfErr result (λ e. e.1.items ≡ leaves.items) }
     ensures err { OnErr result (tree.new ≡ tree.old) }
     ensures fault { IfErr result (λ e. (t : definitions.Tree) (cs : List (Command Global)) →
-        IsReady work.now.settings t cs tree.old (map (λ d. page_seen Leaf d.made.worked) leaves.items) → IsLaterFault work.now.settings t cs e.0) }
+        IsReady work.now.settings t cs tree.old (leaves_seen leaves.items) → IsLaterFault work.now.settings t cs e.0) }
 {
-    let Ok(replies) = take_replies(work.alloc, order, reads, &mut leaves, work.commands) else {
+    let Ok(replies) = replies else {
         return Err((Fault::NoMemory, leaves));
     };
     match climb(rt, crew, gate, work.alloc, &work.settings, tree, leaves) {

@@ -1,24 +1,26 @@
-//! The leaves of a batch: taken out of the tree and worked, asked for their answers, and put back where the batch is refused.
-ghost use Rattle.std.specs.Prelude.{◌≡◌, ℕ, Some, None, map, slice_get, IfOk, OnOk, OnErr};
+//! The leaves of a batch: those that may be changed are taken out of the tree, all are worked, asked for their answers, and those that were
+//! taken are put back where the batch is refused.
+ghost use Rattle.std.specs.Prelude.{◌≡◌, ℕ, ◌+◌, ◌<◌, ◌≤◌, ◌∷◌, ◌++◌, [], Some, None, length, map, slice_get, IfOk, IsOkAnd, OnOk, OnErr, vec_capacity};
+ghost use Rattle.std.specs.List.{All};
 ghost use Rattle.mapping.specs.Proper.{AreRisingPids};
-ghost use Rattle.mapping.specs.Table.{pids_in_use, place_of, with_place};
-ghost use Rattle.page_runs.specs.LeafWork.{leaf_held_of};
-ghost use Rattle.replies.specs.ByPlace.{AreAnswers, reply_at};
+ghost use Rattle.mapping.specs.Table.{page_of, pids_in_use, place_of, with_place};
+ghost use Rattle.replies.specs.ByPlace.{AreAnswers, IsPlaceOf, reply_at, with_pieces};
 ghost use Rattle.climb_plan.specs.Installing.{all_taken, all_put, AreAway};
-ghost use Rattle.engine.specs.Leaves.{route_pids, AreLeavesHome, AreLeafRoutes, leaf_held, leaves_made, answers_in, without_answers};
+ghost use Rattle.engine.specs.Leaves.{route_pids, written_routes, AreLeavesHome, AreLeafRoutes, IsLeafAt, answers, leaf_held, leaves_made, without_answers};
+ghost use Rattle.engine.specs.Tasks.{task_for, task_held, taken_in, taken_of, changed_in, changed_of, pieces_in, pieces_of, under_pids};
 
-use crate::reads::next_answers;
+use crate::leaf_tasks::{BatchWork, LeafTask, TaskDone};
 use crew::{Crew, Gate, Work, run_round};
-use keys::{Command, Reply};
+use keys::{Command, Pieces, Reply};
 use mapping::Tree;
-use page_runs::{LeafDone, LeafJob, LeafRead, LeafWork};
+use page_runs::{LeafDone, LeafJob, LeafWork, is_only_read};
 use replies::{add_answers, blank_replies};
 use routing::PageRun;
 use std::alloc::{AllocError, Global};
 use std::thread::Threads;
 
-/// Takes the leaves that a batch goes to out of the tree, and has the crew work each with its commands. Where memory is refused, the
-/// tree is as it was.
+/// Has the crew work the leaves that a batch goes to, each with its commands, in one round. Those that may be changed are taken out of the
+/// tree. Where memory is refused, the tree is as it was.
 pub(crate) fn work_leaves(
     rt: &(impl Threads + Sync),
     crew: Crew,
@@ -26,51 +28,88 @@ pub(crate) fn work_leaves(
     work: &LeafWork<'_>,
     tree: &mut Tree<Global>,
     page_runs: Vec<PageRun>,
-) -> Result<Vec<LeafDone>, AllocError>
+) -> Result<Vec<TaskDone>, AllocError>
     requires routes { AreLeafRoutes tree.old.table work.now.commands.now page_runs.items }
-    ensures made { IfOk result (λ dones. map (λ d. d.made) dones.items ≡ leaves_made work.now.settings work.now.commands.now tree.old.table page_runs.items) }
-    ensures held { IfOk result (λ dones. map (λ d. d.held) dones.items ≡ map (leaf_held tree.old.table) page_runs.items) }
-    ensures taken { OnOk result (tree.new ≡ record tree.old { table = all_taken tree.old.table (route_pids page_runs.items) }) }
+    ensures count { IfOk result (λ dones. length dones.items ≡ length page_runs.items) }
+    ensures answers { IfOk result (λ dones. pieces_of dones.items ≡
+        answers (leaves_made work.now.settings work.now.commands.now tree.old.table page_runs.items)) }
+    ensures made { IfOk result (λ dones. map (λ d. d.made) (changed_of dones.items) ≡
+        leaves_made work.now.settings work.now.commands.now tree.old.table (written_routes work.now.commands.now page_runs.items)) }
+    ensures held { IfOk result (λ dones. map (λ d. d.held) (changed_of dones.items) ≡
+        map (leaf_held tree.old.table) (written_routes work.now.commands.now page_runs.items)) }
+    ensures taken { OnOk result (tree.new ≡
+        record tree.old { table = all_taken tree.old.table (route_pids (written_routes work.now.commands.now page_runs.items)) }) }
     ensures err { AreRisingPids (pids_in_use tree.old.table) → OnErr result (tree.new ≡ tree.old) }
 {
-    let jobs = take_leaves(work.alloc, tree, page_runs)?;
-    match run_round(rt, crew, gate, work, jobs) {
+    let tasks = take_leaves(work, tree, page_runs)?;
+    let round = BatchWork {
+        alloc: work.alloc,
+        settings: work.settings,
+        commands: work.commands,
+        tree,
+    };
+    match run_round(rt, crew, gate, &round, tasks) {
         Ok(dones) => Ok(dones),
-        Err(jobs) => {
-            put_back(tree, jobs);
+        Err(tasks) => {
+            put_back(tree, tasks);
             Err(AllocError)
         }
     }
 }
 
-// Takes the leaves out of the tree, as jobs.
+// The tasks of the leaves: those that may be changed are taken out of the tree.
 fn take_leaves(
-    alloc: Global,
+    work: &LeafWork<'_>,
     tree: &mut Tree<Global>,
     page_runs: Vec<PageRun>,
-) -> Result<Vec<LeafJob>, AllocError>
+) -> Result<Vec<LeafTask>, AllocError>
     requires { AreLeavesHome tree.old.table (route_pids page_runs.items) }
-    ensures held { IfOk result (λ jobs. map leaf_held_of jobs.items ≡ map (leaf_held tree.old.table) page_runs.items) }
-    ensures taken { OnOk result (tree.new ≡ record tree.old { table = all_taken tree.old.table (route_pids page_runs.items) }) }
+    ensures held { IfOk result (λ tasks. map task_held tasks.items ≡ map (task_for tree.old.table work.now.commands.now) page_runs.items) }
+    ensures taken { OnOk result (tree.new ≡
+        record tree.old { table = all_taken tree.old.table (route_pids (written_routes work.now.commands.now page_runs.items)) }) }
     ensures err { OnErr result (tree.new ≡ tree.old) }
 {
-    let mut jobs = Vec::with_capacity(alloc, page_runs.len())?;
+    let mut tasks = Vec::with_capacity(work.alloc, page_runs.len())?;
     for page_run in page_runs {
-        jobs.push_reserved(LeafJob {
-            page: tree.take(page_run.pid()),
-            page_run,
-        });
+        tasks.push_reserved(task_of(work.commands, tree, page_run));
     }
-    Ok(jobs)
+    Ok(tasks)
 }
 
-// Puts the leaves of the jobs back into their places.
-fn put_back(tree: &mut Tree<Global>, jobs: Vec<LeafJob>)
-    requires { AreAway tree.old.table (map (λ j. j.page_run.pid) jobs.items) }
-    ensures { tree.new ≡ record tree.old { table = all_put tree.old.table (map (λ j. (j.page_run.pid, j.page)) jobs.items) } }
+// The task of the leaf: where it may be changed, it is taken out of the tree.
+fn task_of(commands: &[Command<Global>], tree: &mut Tree<Global>, page_run: PageRun) -> LeafTask
+    requires { IsLeafAt (page_of tree.old.table page_run.pid) }
+    ensures held { task_held result ≡ task_for tree.old.table commands.now page_run }
+    ensures taken { tree.new ≡
+        record tree.old { table = all_taken tree.old.table (route_pids (written_routes commands.now (page_run ∷ []))) } }
 {
-    for job in jobs {
-        put_leaf_back(tree, job);
+    if is_only_read(commands, &page_run) {
+        return LeafTask::Read(page_run);
+    }
+    LeafTask::Change(LeafJob {
+        page: tree.take(page_run.pid()),
+        page_run,
+    })
+}
+
+// Puts the leaves that the tasks hold back into their places.
+fn put_back(tree: &mut Tree<Global>, tasks: Vec<LeafTask>)
+    requires { AreAway tree.old.table (map (λ h. h.route.pid) (taken_of (map task_held tasks.items))) }
+    ensures { tree.new ≡ record tree.old { table = all_put tree.old.table (under_pids (taken_of (map task_held tasks.items))) } }
+{
+    for task in tasks {
+        put_task_back(tree, task);
+    }
+}
+
+// Puts the leaf that the task holds, if it holds one, back into its place.
+fn put_task_back(tree: &mut Tree<Global>, task: LeafTask)
+    requires { AreAway tree.old.table (map (λ h. h.route.pid) (taken_in (task_held task))) }
+    ensures { tree.new ≡ record tree.old { table = all_put tree.old.table (under_pids (taken_in (task_held task))) } }
+{
+    match task {
+        LeafTask::Read(_page_run) => {}
+        LeafTask::Change(job) => put_leaf_back(tree, job),
     }
 }
 
@@ -83,27 +122,58 @@ pub(crate) fn put_leaf_back(tree: &mut Tree<Global>, job: LeafJob)
     tree.put(page_run.pid(), page);
 }
 
-/// The replies to the commands, each at its command's place, by what the leaves answered: those that were only read, and those that were
-/// worked, in this order. The answers are taken from the leaves, one leaf after the other; all else of those that were worked stays, so that
-/// they can still be undone.
+/// The replies to the commands, each at its command's place, by what the leaves answered, one leaf after the other. Those that may have been
+/// changed go onto the list, which has room for them, without their answers.
 pub(crate) fn take_replies(
     alloc: Global,
-    order: &[bool],
-    reads: Vec<LeafRead>,
-    leaves: &mut [LeafDone],
     commands: &[Command<Global>],
+    dones: Vec<TaskDone>,
+    leaves: &mut Vec<LeafDone>,
 ) -> Result<Vec<Reply<Global>>, AllocError>
-    requires { AreAnswers commands.now (answers_in order.now reads.items leaves.old) }
-    ensures replies { IfOk result (λ replies. (place : ℕ) → slice_get replies.items place ≡ reply_at commands.now (answers_in order.now reads.items leaves.old) place) }
-    ensures rest { map without_answers leaves.new ≡ map without_answers leaves.old }
+    requires answered { AreAnswers commands.now (pieces_of dones.items) }
+    requires room { (leaves.old.items ≡ []) × (length dones.items ≤ vec_capacity leaves.old) }
+    ensures replies { IfOk result (λ replies. (place : ℕ) → slice_get replies.items place ≡ reply_at commands.now (pieces_of dones.items) place) }
+    ensures leaves { leaves.new.items ≡ map without_answers (changed_of dones.items) }
 {
-    let mut replies = blank_replies(alloc, commands)?;
-    let mut reads = reads.into_iter();
-    let mut at = 0;
-    for is_read in order {
-        let pieces = next_answers(alloc, *is_read, &mut reads, leaves, &mut at);
-        add_answers(&mut replies, commands, pieces)?;
+    let mut replies = blank_replies(alloc, commands);
+    for done in dones {
+        let pieces = take_answers(done, leaves);
+        replies = with_answers(replies, commands, pieces);
     }
+    replies
+}
+
+// The answers of a leaf, which goes onto the list if it may have been changed.
+fn take_answers(done: TaskDone, leaves: &mut Vec<LeafDone>) -> Pieces<Global>
+    requires { length leaves.old.items < vec_capacity leaves.old }
+    ensures pieces { result ≡ pieces_in done }
+    ensures leaves { leaves.new.items ≡ leaves.old.items ++ map without_answers (changed_in done) }
+    ensures count { length leaves.new.items ≤ length leaves.old.items + 1 }
+    ensures same { vec_capacity leaves.new ≡ vec_capacity leaves.old }
+{
+    match done {
+        TaskDone::Read(leaf) => leaf.into_pieces(),
+        TaskDone::Changed(leaf) => {
+            let mut leaf = leaf;
+            let pieces = leaf.take_pieces();
+            leaves.push_reserved(leaf);
+            pieces
+        }
+    }
+}
+
+// The replies with the answers of one more leaf, unless they were refused.
+fn with_answers(
+    replies: Result<Vec<Reply<Global>>, AllocError>,
+    commands: &[Command<Global>],
+    pieces: Pieces<Global>,
+) -> Result<Vec<Reply<Global>>, AllocError>
+    requires count { IfOk replies (λ before. length before.items ≡ length commands.now) }
+    requires within { All (IsPlaceOf commands.now) pieces }
+    ensures { IfOk result (λ now. IsOkAnd replies (λ before. now.items ≡ with_pieces commands.now pieces before.items)) }
+{
+    let mut replies = replies?;
+    add_answers(&mut replies, commands, pieces)?;
     Ok(replies)
 }
 

@@ -46,6 +46,7 @@ mod full_log_rows;
 #[cfg(test)]
 mod held_pieces;
 pub mod laws;
+mod leaf_tasks;
 mod leaves;
 #[cfg(test)]
 mod log_rows;
@@ -55,7 +56,6 @@ mod new_disk_rows;
 mod outcomes;
 #[cfg(test)]
 mod parts;
-mod reads;
 #[cfg(test)]
 mod recovery_rows;
 mod refusal;

@@ -13,6 +13,7 @@ use Rattle.delta_chain.proofs.Crossing.{Chain-send}
 use Rattle.delta_chain.proofs.run.Run.TheSendSync as run
 use Rattle.index_page.proofs.Crossing.{Page-send}
 use Rattle.routing.proofs.page_run.PageRun.TheSendSync as page_run
+use Rattle.page_runs.specs.contracts.leaf_work.KeptDone as KeptDone
 use Rattle.page_runs.specs.contracts.leaf_work.LeafDone as LeafDone
 use Rattle.page_runs.specs.contracts.leaf_work.LeafDone.TheInside as inside
 use Rattle.page_runs.specs.contracts.page_after.WayBack as WayBack
@@ -30,8 +31,11 @@ way_back_send = enum_send (variants.shape (WayBack.the_type values)) (
   (tt, ((class.the_field_send, (Chain-send values Global.the_row ghosts values_send heap.send heap.frees, tt)), tt)),
 )
 
-pub done_send : IsSend LeafDone.the_row
-done_send = view_send _ _ _ _ _ (recorded_send _ _ _ inside.the_type.to_one (struct_send (shape inside.the_type) (
+kept_send : IsSend KeptDone.the_row
+kept_send = recorded_send _ _ _ KeptDone.the_type.to_one (struct_send (shape KeptDone.the_type) (
   Page-send Global.the_row ghosts heap.send heap.frees,
   (way_back_send, (page_run.the_send, (pieces.the_send Global.the_row ghosts heap.send heap.frees, tt))),
-)))
+))
+
+pub done_send : IsSend LeafDone.the_row
+done_send = view_send _ _ _ _ _ (recorded_send _ _ _ inside.the_type.to_one (struct_send (shape inside.the_type) (heap.Box-send KeptDone.the_row kept_send, tt)))

@@ -1,5 +1,7 @@
 ghost use Rattle.std.specs.Prelude.{◌≡◌, []};
+ghost use Rattle.crew.specs.Turn.{IfDone, IfBack};
 ghost use Rattle.index_page.specs.Page.PageOfKind.{Leaf};
+ghost use Rattle.page_runs.specs.LeafWork.{IsWorkedLeaf, leaf_held_of, leaf_worked};
 
 use crate::class::Class;
 use crate::page_after::{WayBack, put_run};
@@ -7,9 +9,11 @@ use crate::replay::replay;
 use crew::{Turn, Work};
 use index_page::Page;
 use keys::{Command, Pid, Pieces, Settings, Value};
+use mapping::empty_leaf;
 use routing::PageRun;
 use std::alloc::Global;
 use std::marker::Model;
+use std::mem;
 
 /// The work on leaves in a batch: a leaf and its run of commands go in; the leaf afterwards, its class and its
 /// answers come out.
@@ -31,10 +35,16 @@ pub struct LeafJob {
     pub page_run: PageRun,
 }
 
-/// A leaf after its commands, with its class and its answers, and what gives the job back. Contracts see it as what the
-/// job held and what was made of it.
+/// A leaf after its commands, with its class and its answers, and what gives the job back. It stands in a block of its own, so that lists of
+/// many are short. Contracts see it as what the job held and what was made of it.
 #[derive(Drop)]
 pub struct LeafDone {
+    kept: Box<KeptDone, Global>,
+}
+
+// What a `LeafDone` keeps.
+#[derive(Drop)]
+struct KeptDone {
     page: Page<Global>,
     way_back: WayBack<Value<Global>>,
     page_run: PageRun,
@@ -46,9 +56,9 @@ impl Model for LeafDone {
 
     ghost Value = { LeafWorked };
 
-    ghost view = { λ d. leaf_worked d.page d.way_back d.page_run d.pieces };
+    ghost view = { λ d. leaf_worked d.kept.value.page d.kept.value.way_back d.kept.value.page_run d.kept.value.pieces };
 
-    ghost invariant = { λ d. IsWorkedLeaf d.page d.way_back };
+    ghost invariant = { λ d. IsWorkedLeaf d.kept.value.page d.kept.value.way_back };
 }
 
 impl LeafDone {
@@ -56,28 +66,28 @@ impl LeafDone {
     pub fn class(&self) -> Class
         ensures { result ≡ self.now.made.worked.class }
     {
-        self.way_back.class()
+        self.kept.way_back.class()
     }
 
     /// Whether the leaf was replaced: it is a base alone then, and not the leaf before with a run in front.
     pub fn is_replaced(&self) -> bool
         ensures { result ≡ self.now.made.worked.replaced }
     {
-        self.way_back.is_replaced()
+        self.kept.way_back.is_replaced()
     }
 
     /// The leaf.
     pub fn page(&self) -> &Page<Global>
         ensures { result.now ≡ Leaf self.now.made.worked.placed.page }
     {
-        &self.page
+        &self.kept.page
     }
 
     /// The leaf's page id.
     pub fn pid(&self) -> Pid
         ensures { result ≡ self.now.made.worked.placed.pid }
     {
-        self.page_run.pid()
+        self.kept.page_run.pid()
     }
 
     /// The answers, for good: none are left here. It takes no memory, and the job can still be given back.
@@ -85,27 +95,24 @@ impl LeafDone {
         ensures pieces { result ≡ self.old.made.pieces }
         ensures rest { self.new ≡ record { held = self.old.held; made = record { worked = self.old.made.worked; pieces = [] } } }
     {
-        self.pieces.take()
+        self.kept.pieces.take()
     }
 
     /// The leaf and the rest, for good: the job cannot be given back any more.
     pub fn into_page_and_rest(self) -> (Page<Global>, LeafRest)
         ensures { result.0 ≡ Leaf self.made.worked.placed.page }
     {
-        let LeafDone {
-            page,
-            way_back,
-            page_run,
-            pieces,
-        } = self;
-        (page, LeafRest(way_back, page_run, pieces))
+        let LeafDone { mut kept } = self;
+        let empty = empty_leaf(*Box::allocator(&kept));
+        let page = mem::replace(&mut kept.page, empty);
+        (page, LeafRest(kept))
     }
 }
 
 /// What is left of a leaf's work once the leaf is taken out of it, for good: where the leaf was replaced, the one before it; the places of
 /// its commands, and its answers if they were not taken. It is there to be dropped, which takes long.
 #[derive(Drop)]
-pub struct LeafRest(WayBack<Value<Global>>, PageRun, Pieces<Global>);
+pub struct LeafRest(Box<KeptDone, Global>);
 
 impl<'a> Work for LeafWork<'a> {
     ghost use Rattle.page_runs.specs.LeafWork.{LeafHeld, LeafMade, IsLeafHeld, leaf_made, leaf_held_of};
@@ -142,12 +149,15 @@ impl<'a> Work for LeafWork<'a> {
             Ok((mut chain, way_back)) => {
                 // The replies tell which entries came and went, and the chain by itself knows only how many were named.
                 chain.raise_fewest(fewest);
-                Turn::Done(LeafDone {
-                    page: Page::leaf(low, chain),
-                    way_back,
-                    page_run,
-                    pieces,
-                })
+                boxed(
+                    self.alloc,
+                    KeptDone {
+                        page: Page::leaf(low, chain),
+                        way_back,
+                        page_run,
+                        pieces,
+                    },
+                )
             }
             Err((chain, _run)) => Turn::Back(LeafJob {
                 page: Page::leaf(low, chain),
@@ -157,17 +167,37 @@ impl<'a> Work for LeafWork<'a> {
     }
 
     fn undo(&self, done: LeafDone) -> LeafJob {
-        let LeafDone {
-            page,
-            way_back,
-            page_run,
-            pieces: _,
-        } = done;
-        let (low, chain) = page.into_leaf();
-        let (chain, _run) = way_back.undo(self.alloc, chain);
-        LeafJob {
-            page: Page::leaf(low, chain),
-            page_run,
-        }
+        job_of(self.alloc, Box::into_inner(done.kept))
+    }
+}
+
+// What was made of a leaf, in a block of its own; or the job as it was, where there is no memory for that.
+fn boxed(alloc: Global, done: KeptDone) -> Turn<LeafJob, LeafDone>
+    requires { IsWorkedLeaf done.page done.way_back }
+    ensures done { IfDone result (λ boxed. boxed ≡ leaf_worked done.page done.way_back done.page_run done.pieces) }
+    ensures back { IfBack result (λ again. leaf_held_of again ≡ (leaf_worked done.page done.way_back done.page_run done.pieces).held) }
+{
+    match Box::new(alloc, done) {
+        Ok(kept) => Turn::Done(LeafDone { kept }),
+        Err(refused) => Turn::Back(job_of(alloc, refused.value)),
+    }
+}
+
+// The job of which this was made.
+fn job_of(alloc: Global, done: KeptDone) -> LeafJob
+    requires { IsWorkedLeaf done.page done.way_back }
+    ensures { leaf_held_of result ≡ (leaf_worked done.page done.way_back done.page_run done.pieces).held }
+{
+    let KeptDone {
+        page,
+        way_back,
+        page_run,
+        pieces: _,
+    } = done;
+    let (low, chain) = page.into_leaf();
+    let (chain, _run) = way_back.undo(alloc, chain);
+    LeafJob {
+        page: Page::leaf(low, chain),
+        page_run,
     }
 }

@@ -1,14 +1,17 @@
-use Rattle.std.proofs.Common.{ap, map, Some}
-use Rattle.climb_plan.proofs.Installing.{placed_apart, away_next, put_step}
+use Rattle.std.proofs.Common.{ap, map}
+use Rattle.climb_plan.specs.Installing.{AreAway}
+use Rattle.engine.specs.Tasks.{task_held, taken_in, taken_of}
+use Rattle.engine.proofs.TaskLemmas.{away_first, away_left, put_left}
 use Rattle.engine.proofs.leaves.put_back.Goals as goal
 
-pub loop-job-preserved : goal.loop-job-preserved
-loop-job-preserved c =
-    let tree = c.loop-job.tree in
-    let job = c.in-Some.job in
-    let pid = job.page_run.pid in
-    let left = c.in-Some.ensures.steps.0 in
+pub put_task_back-requires : goal.put_task_back-requires
+put_task_back-requires c =
+    away_first c.loop-task.tree (task_held c.in-Some.task) _ _ (ap (map task_held) c.in-Some.ensures.steps.0) c.loop-task.invariant.away
+
+pub loop-task-preserved : goal.loop-task-preserved
+loop-task-preserved c =
+    let left = ap (map task_held) c.in-Some.ensures.steps.0 in
     record {
-      away = away_next tree _ _ pid _ _ (ap (map (λ j. j.page_run.pid)) left) c.put_leaf_back.ensures (placed_apart tree.table pid (Some job.page)) c.loop-job.invariant.away;
-      put = put_step _ _ _ (pid, job.page) _ _ (ap (map (λ j. (j.page_run.pid, j.page))) left) c.put_leaf_back.ensures c.loop-job.invariant.put;
+      away = away_left c.loop-task.tree c.put_task_back.new.tree (task_held c.in-Some.task) _ _ left c.put_task_back.ensures c.loop-task.invariant.away;
+      put = put_left c.loop-task.tree c.put_task_back.new.tree (task_held c.in-Some.task) _ _ left c.put_task_back.ensures _ c.loop-task.invariant.put;
     }

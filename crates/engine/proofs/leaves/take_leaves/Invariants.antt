@@ -1,17 +1,17 @@
 use Rattle.std.proofs.Common.{◌≡◌, ◌+◌, ◌≤◌, ◌++◌, map, length, vec_len}
 use Rattle.std.specs.Prelude.{vec_capacity}
 use Rattle.std.specs.Vec.Iter.{into_iter_items}
-use Rattle.page_runs.specs.LeafWork.{leaf_held_of}
 use Rattle.climb_plan.proofs.Installing.{tree_taken}
-use Rattle.engine.specs.Leaves.{route_pids, AreLeavesHome, leaf_held}
+use Rattle.engine.specs.Leaves.{route_pids, written_routes, AreLeavesHome}
+use Rattle.engine.specs.Tasks.{task_for, task_held}
 use Rattle.engine.proofs.leaves.take_leaves.Given as goal
 
--- the leaves that are left are at home; the jobs so far and what is left hold what all held; what is left, taken from the tree
--- now, is all taken from the tree before; and there is room for the rest
+-- the leaves that are left are at home; the tasks so far and what is left hold what all held; those of them that may be changed, taken
+-- from the tree now, are all taken from the tree before; and there is room for the rest
 abbrev pub invariant-loop-page_run : goal.invariant-loop-page_run
 invariant-loop-page_run l = record {
   home : AreLeavesHome l.tree.table (route_pids (into_iter_items l.page_run-iterator));
-  held : map leaf_held_of l.jobs.items ++ map (leaf_held l.tree.table) (into_iter_items l.page_run-iterator) ≡ map (leaf_held l.fn.tree.table) l.fn.page_runs.items;
-  taken : tree_taken l.tree (route_pids (into_iter_items l.page_run-iterator)) ≡ tree_taken l.fn.tree (route_pids l.fn.page_runs.items);
-  room : vec_len l.jobs + length (into_iter_items l.page_run-iterator) ≤ vec_capacity l.jobs;
+  held : map task_held l.tasks.items ++ map (task_for l.tree.table l.work.commands.now) (into_iter_items l.page_run-iterator) ≡ map (task_for l.fn.tree.table l.work.commands.now) l.fn.page_runs.items;
+  taken : tree_taken l.tree (route_pids (written_routes l.work.commands.now (into_iter_items l.page_run-iterator))) ≡ tree_taken l.fn.tree (route_pids (written_routes l.work.commands.now l.fn.page_runs.items));
+  room : vec_len l.tasks + length (into_iter_items l.page_run-iterator) ≤ vec_capacity l.tasks;
 }

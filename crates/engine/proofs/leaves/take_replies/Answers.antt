@@ -1,34 +1,33 @@
-use Rattle.std.proofs.Common.{◌≡◌, ◌∙◌, ◌++◌, ap, length, take, drop, sym, arith}
-use Rattle.std.proofs.lemmas.List.{take_at}
-use Rattle.replies.specs.ByPlace.{with_pieces}
-use Rattle.replies.proofs.Placing.{within-page, within-pages, with_pieces-page, length-with_pieces}
-use Rattle.engine.proofs.BatchLeaves.{all_added, next_in_order}
+use Rattle.std.proofs.Common.{◌∙◌, ap, length, arith}
+use Rattle.std.proofs.lemmas.List.{nil_from_length}
+use Rattle.std.specs.Vec.Iter.{into_iter_items}
+use Rattle.replies.proofs.Placing.{within-page, within-pages, length-with_pieces}
+use Rattle.engine.proofs.EndedRoutes.{weaker_ok}
+use Rattle.engine.proofs.TaskLemmas.{asked_next, pieces_next, gathered_next, carried, all_added}
 use Rattle.engine.proofs.leaves.take_replies.Goals as goal
 
-pub add_answers-requires-clause-within : goal.add_answers-requires-clause-within
-add_answers-requires-clause-within c =
-    let at = c.loop-is_read in
-    let left = next_in_order c.args.order.now at.is_read-index _ _ _ _ _ _ (omega arith) c.next_answers-pieces.ensures.next in
-    within-page c.args.commands.now _ _ _ left at.invariant.within
+pub take_answers-pieces-requires : goal.take_answers-pieces-requires
+take_answers-pieces-requires c = omega (arith, ap length c.in-Some.ensures.steps.0, c.loop-done.invariant.room)
 
-pub loop-is_read-preserved : goal.loop-is_read-preserved
-loop-is_read-preserved c =
-    let at = c.loop-is_read in
+pub with_answers-replies-requires-clause-within : goal.with_answers-replies-requires-clause-within
+with_answers-replies-requires-clause-within c =
+    within-page c.args.commands.now _ _ _ (pieces_next c.in-Some.done _ _ _ c.in-Some.ensures.steps.0 c.take_answers-pieces.ensures.pieces) c.loop-done.invariant.within
+
+pub loop-done-preserved : goal.loop-done-preserved
+loop-done-preserved c =
+    let at = c.loop-done in
     let cs = c.args.commands.now in
-    let page = c.next_answers-pieces.result in
-    let was = at.replies in
-    let left = next_in_order c.args.order.now at.is_read-index _ _ _ _ _ _ (omega arith) c.next_answers-pieces.ensures.next in
-    let now : c.add_answers.new.replies ≡ with_pieces cs page was.items = c.in_ok-add_answers.ensures ∙ ap (with_pieces cs page) c.deref_mut.ensures.value in
-    let len : length c.add_answers.new.replies ≡ was.len = ap length now ∙ length-with_pieces cs page was.items ∙ sym was.ok.0 in
-    let is : take was.len (c.add_answers.new.replies ++ drop (length c.add_answers.new.replies) was.items) ≡ with_pieces cs page was.items = take_at _ _ _ len ∙ now in
+    let page = c.take_answers-pieces.result in
+    let left = pieces_next c.in-Some.done _ _ _ c.in-Some.ensures.steps.0 c.take_answers-pieces.ensures.pieces in
     record {
-      count = ap length is ∙ length-with_pieces cs page was.items ∙ at.invariant.count;
+      count = carried at.replies c.with_answers-replies.result _ _ _ c.with_answers-replies.ensures (λ x y e h. ap length e ∙ length-with_pieces cs page x.items ∙ h) at.invariant.count;
       within = within-pages cs _ _ _ left at.invariant.within;
-      gathered = rw is (with_pieces-page cs _ _ _ _ _ left at.invariant.gathered);
-      rest = c.next_answers-pieces.ensures.rest ∙ at.invariant.rest;
+      gathered = carried at.replies c.with_answers-replies.result _ _ _ c.with_answers-replies.ensures (λ x y e h. gathered_next cs page _ _ x.items y.items _ left e h) at.invariant.gathered;
+      leaves = asked_next _ _ c.in-Some.done _ _ _ c.in-Some.ensures.steps.0 c.take_answers-pieces.ensures.leaves at.invariant.leaves;
+      room = omega (arith, ap length c.in-Some.ensures.steps.0, c.take_answers-pieces.ensures.count, c.take_answers-pieces.ensures.same, at.invariant.room);
     }
 
 pub returns-clause-replies : goal.returns-clause-replies
 returns-clause-replies c =
-    let at = c.loop-is_read in
-    all_added c.args.commands.now c.args.order.now at.is_read-index _ _ _ at.replies.items (omega (arith, c.loop-is_read-test.false, at.auto.is_read-index-end)) at.invariant.gathered c.requires
+    let at = c.loop-done in
+    weaker_ok _ _ at.replies (λ x h. all_added c.args.commands.now _ _ x.items (nil_from_length (into_iter_items at.done-iterator) (omega (arith, c.in-None.ensures.steps.0))) c.requires.answered h) at.invariant.gathered

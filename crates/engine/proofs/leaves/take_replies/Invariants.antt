@@ -1,17 +1,19 @@
-use Rattle.std.proofs.Common.{◌≡◌, map, drop, length}
+use Rattle.std.proofs.Common.{◌≡◌, ◌+◌, ◌≤◌, ◌++◌, map, length}
+use Rattle.std.specs.Prelude.{IfOk, vec_capacity}
 use Rattle.std.specs.List.{All}
 use Rattle.std.specs.Vec.Iter.{into_iter_items}
-use Rattle.keys.specs.Lists.{flat}
 use Rattle.replies.specs.ByPlace.{IsPlaceOf, blank_of, with_pieces}
-use Rattle.engine.specs.Leaves.{without_answers, in_order, read_answers, worked_answers, answers_in}
+use Rattle.engine.specs.Leaves.{without_answers}
+use Rattle.engine.specs.Tasks.{changed_of, pieces_of}
 use Rattle.engine.proofs.leaves.take_replies.Given as goal
 
--- the answers of the leaves that are left make of the list what all make of the blanks; their places are within it; and but for their
--- answers the leaves that were worked are as they were
-abbrev pub invariant-loop-is_read : goal.invariant-loop-is_read
-invariant-loop-is_read l = record {
-  count : length l.replies.items ≡ length l.commands;
-  within : All (IsPlaceOf l.commands) (flat (in_order (drop l.is_read-index l.order) (read_answers (into_iter_items l.reads)) (worked_answers (drop l.at l.leaves))));
-  gathered : with_pieces l.commands (flat (in_order (drop l.is_read-index l.order) (read_answers (into_iter_items l.reads)) (worked_answers (drop l.at l.leaves)))) l.replies.items ≡ with_pieces l.commands (answers_in l.order l.fn.reads.items l.fn.leaves) (map blank_of l.commands);
-  rest : map without_answers l.leaves ≡ map without_answers l.fn.leaves;
+-- the answers of the leaves that are left make of the replies, if they were not refused, what all make of the blanks; their places are
+-- within these; the leaves that were changed go onto the list, and there is room for the rest
+abbrev pub invariant-loop-done : goal.invariant-loop-done
+invariant-loop-done l = record {
+  count : IfOk l.replies (λ rs. length rs.items ≡ length l.commands);
+  within : All (IsPlaceOf l.commands) (pieces_of (into_iter_items l.done-iterator));
+  gathered : IfOk l.replies (λ rs. with_pieces l.commands (pieces_of (into_iter_items l.done-iterator)) rs.items ≡ with_pieces l.commands (pieces_of l.fn.dones.items) (map blank_of l.commands));
+  leaves : l.leaves.items ++ map without_answers (changed_of (into_iter_items l.done-iterator)) ≡ map without_answers (changed_of l.fn.dones.items);
+  room : length l.leaves.items + length (into_iter_items l.done-iterator) ≤ vec_capacity l.leaves;
 }
