@@ -368,6 +368,10 @@ module _ (honest : Bool) (settings : Settings) (st : Store) (seen : List ℕ) (o
   RunsOrder-answered hold keep said now after (a, rest, said_is, mid, bytes, done, ended) after_is old new end p =
       one_answered a mid bytes done hold keep now ended.1 after after_is old new end said (said_is ∙ ap (λ (r : List code_answer.Answer). a ∷ r) ended.0) p
 
+-- memory is refused before anything of an order is done
+pub RunsOrder-forgone : (honest : Bool) (settings : Settings) (st : Store) (seen : List ℕ) (order : Order) (old : Option (List ℕ)) → RunsOrder honest settings st seen order old old (Err (endings.Fault NoMemory)) st seen
+RunsOrder-forgone honest settings st seen order old = (seen, λ h. refl, stopped settings st seen order old old NoMemory refl (inl refl), tt)
+
 -- ---- what a verify answers
 
 module _ (honest : Bool) (settings : Settings) (st : Store) (seen : List ℕ) (order : Order) (order_is : order ≡ Verify) where

@@ -1,39 +1,15 @@
 //! Batch files.
-ghost use Rattle.std.specs.Prelude.{◌≡◌, ◌∷◌, ◌++◌, [], Some, None, IfOk, IfErr, OnOk};
+ghost use Rattle.std.specs.Prelude.{◌≡◌, ◌∷◌, ◌++◌, [], length, Some, None, IfOk, IfErr, OnOk};
 ghost use Rattle.bwsh.specs.declared.batch_file.TextFault.TheVariants.{Memory};
+ghost use Rattle.bwsh.specs.KeptBatch.{command_in};
+ghost use Rattle.bwsh.specs.Line.{line_says};
 ghost use Rattle.bwsh.specs.BatchFile.{text_says, first_bad, last_order, orders_of, writes, IsRightFault};
 
+use crate::batch::Batch;
 use crate::line::{LineReader, Says, Why};
 use bstr::ByteSlice;
 use keys::Command;
 use std::alloc::{AllocError, AllocFailed, Global};
-use std::marker::Model;
-use std::mem;
-
-/// The commands that are to run as one batch, in their order. Contracts see it as their list.
-#[derive(Drop)]
-pub struct Batch {
-    commands: Vec<Command<Global>>,
-}
-
-impl Model for Batch {
-    ghost use Rattle.std.specs.Prelude.{List};
-    ghost use Rattle.std.specs.declared.alloc.Global.{Global};
-    ghost use Rattle.keys.specs.declared.command.Command.{Command};
-
-    ghost Value = { List (Command Global) };
-
-    ghost view = { λ b. b.commands.items };
-}
-
-impl Batch {
-    /// The commands of the batch.
-    pub fn commands(&self) -> &[Command<Global>]
-        ensures { result.now ≡ self.now }
-    {
-        &self.commands
-    }
-}
 
 /// What a batch file orders to be done next.
 #[derive(Drop)]
@@ -84,12 +60,20 @@ impl<T: Drop> From<AllocFailed<T>> for TextFault {
     }
 }
 
-// Orders the pending commands to be run, if there are any.
-fn push_pending(pending: Vec<Command<Global>>, orders: &mut Vec<Order>) -> Result<(), AllocError>
-    ensures { OnOk result (orders.new.items ≡ orders.old.items ++ last_order pending.items) }
+// Orders the pending commands to be run, if there are any. None are pending any more. The line is the one that said the last of them.
+fn push_pending(
+    alloc: Global,
+    pending: &mut Vec<Command<Global>>,
+    line: &[u8],
+    orders: &mut Vec<Order>,
+) -> Result<(), AllocError>
+    requires { length pending.old.items ≡ 1 → pending.old.items ≡ command_in (line_says line.now) }
+    ensures orders { OnOk result (orders.new.items ≡ orders.old.items ++ last_order pending.old.items) }
+    ensures pending { OnOk result (pending.new.items ≡ []) }
 {
     if !pending.is_empty() {
-        orders.push(Order::Batch(Batch { commands: pending }))?;
+        let batch = Batch::take(alloc, pending, line)?;
+        orders.push(Order::Batch(batch))?;
     }
     Ok(())
 }
@@ -98,14 +82,15 @@ fn push_pending(pending: Vec<Command<Global>>, orders: &mut Vec<Order>) -> Resul
 fn push_behind(
     alloc: Global,
     pending: &mut Vec<Command<Global>>,
+    line: &[u8],
     order: Order,
     orders: &mut Vec<Order>,
 ) -> Result<(), AllocError>
+    requires { length pending.old.items ≡ 1 → pending.old.items ≡ command_in (line_says line.now) }
     ensures orders { OnOk result (orders.new.items ≡ orders.old.items ++ last_order pending.old.items ++ order ∷ []) }
-    ensures pending { pending.new.items ≡ [] }
+    ensures pending { OnOk result (pending.new.items ≡ []) }
 {
-    let commands = mem::replace(pending, Vec::new(alloc));
-    push_pending(commands, orders)?;
+    push_pending(alloc, pending, line, orders)?;
     orders.push(order)?;
     Ok(())
 }
@@ -120,23 +105,27 @@ pub fn parse(alloc: Global, text: &[u8]) -> Result<Vec<Order>, TextFault>
     let mut reader = LineReader::new(alloc);
     let mut orders = Vec::new(alloc);
     let mut pending = Vec::new(alloc);
+    let mut said: &[u8] = &[];
     let mut line: u64 = 0;
     for bytes in text.lines() {
         line += 1;
         match reader.read(bytes)? {
             Says::Nothing => {}
-            Says::Command(command) => pending.push(command)?,
-            Says::Go => {
-                let commands = mem::replace(&mut pending, Vec::new(alloc));
-                orders.push(Order::Batch(Batch { commands }))?;
+            Says::Command(command) => {
+                pending.push(command)?;
+                said = bytes;
             }
-            Says::Flush => push_behind(alloc, &mut pending, Order::Flush, &mut orders)?,
-            Says::Clean => push_behind(alloc, &mut pending, Order::Clean, &mut orders)?,
-            Says::Upgrade => push_behind(alloc, &mut pending, Order::Upgrade, &mut orders)?,
-            Says::Verify => push_behind(alloc, &mut pending, Order::Verify, &mut orders)?,
+            Says::Go => {
+                let batch = Batch::take(alloc, &mut pending, said)?;
+                orders.push(Order::Batch(batch))?;
+            }
+            Says::Flush => push_behind(alloc, &mut pending, said, Order::Flush, &mut orders)?,
+            Says::Clean => push_behind(alloc, &mut pending, said, Order::Clean, &mut orders)?,
+            Says::Upgrade => push_behind(alloc, &mut pending, said, Order::Upgrade, &mut orders)?,
+            Says::Verify => push_behind(alloc, &mut pending, said, Order::Verify, &mut orders)?,
             Says::Bad(why) => return Err(TextFault::Bad { line, why }),
         }
     }
-    push_pending(pending, &mut orders)?;
+    push_pending(alloc, &mut pending, said, &mut orders)?;
     Ok(orders)
 }

@@ -1,6 +1,7 @@
 //! `bwsh`: reads a batch file from standard input, runs it on a store, and prints what it answers.
 #![tactic(auto)]
 
+pub mod batch;
 pub mod batch_file;
 pub mod file_disk;
 pub mod laws;

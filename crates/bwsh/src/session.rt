@@ -304,7 +304,7 @@ fn run_step<R: Threads + Sync, D: Disk, O: Write>(
 }
 
 // Runs an order, and writes what it answers.
-fn run_order<R: Threads + Sync, D: Disk, O: Write>(
+fn run_order<R: AllocGlobal + Threads + Sync, D: Disk, O: Write>(
     rt: &R,
     crew: Crew,
     store: &mut Store<D>,
@@ -322,7 +322,15 @@ fn run_order<R: Threads + Sync, D: Disk, O: Write>(
 {
     match order {
         Order::Batch(batch) => {
-            run_step(rt, crew, store, Step::Batch(batch.commands()), lines, out)
+            let commands = batch.commands(rt.alloc())?;
+            run_step(
+                rt,
+                crew,
+                store,
+                Step::Batch(commands.as_slice()),
+                lines,
+                out,
+            )
         }
         Order::Flush => run_step(rt, crew, store, Step::Flush, lines, out),
         Order::Clean => run_step(rt, crew, store, Step::Clean, lines, out),

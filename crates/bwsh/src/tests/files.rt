@@ -275,14 +275,29 @@ static BYTE_ROWS: [ByteRow; 7] = [
 ];
 
 // Plays an order on a store in memory, and says whether it was answered.
-fn is_played<R: Threads + Sync>(rt: &R, store: &mut Store<MemDisk<Global>>, order: &Order) -> bool {
-    let step = match order {
-        Order::Batch(batch) => Step::Batch(batch.commands()),
-        Order::Flush => Step::Flush,
-        Order::Clean => Step::Clean,
-        Order::Upgrade => Step::Upgrade,
-        Order::Verify => return true,
-    };
+fn is_played<R: AllocGlobal + Threads + Sync>(
+    rt: &R,
+    store: &mut Store<MemDisk<Global>>,
+    order: &Order,
+) -> bool {
+    match order {
+        Order::Batch(batch) => match batch.commands(rt.alloc()) {
+            Ok(commands) => is_answered(rt, store, Step::Batch(commands.as_slice())),
+            Err(_) => false,
+        },
+        Order::Flush => is_answered(rt, store, Step::Flush),
+        Order::Clean => is_answered(rt, store, Step::Clean),
+        Order::Upgrade => is_answered(rt, store, Step::Upgrade),
+        Order::Verify => true,
+    }
+}
+
+// Plays a step on a store in memory, and says whether it was answered.
+fn is_answered<R: Threads + Sync>(
+    rt: &R,
+    store: &mut Store<MemDisk<Global>>,
+    step: Step<'_>,
+) -> bool {
     store.play(rt, CREW, &NoGate, &[step]).is_ok()
 }
 
