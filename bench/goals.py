@@ -234,7 +234,7 @@ def build_library(chosen):
 
 
 def measure(chosen):
-    """All figures. A part whose program is missing is left out."""
+    """Writes all figures down, after each part those that are there. A part whose program is missing is left out."""
     left_out = build_library(chosen)
     figures = machine() | {"unproved": chosen.unproved, "repeats": chosen.repeats, "rows": [], "minutes": {}, "load before": os.getloadavg()[0]}
     with tempfile.TemporaryDirectory() as folder:
@@ -244,7 +244,8 @@ def measure(chosen):
                 start = time.monotonic()
                 measure_part(part, bench, figures)
                 figures["minutes"][part] = (time.monotonic() - start) / 60
-    return figures | {"load after": os.getloadavg()[0]}
+                figures["load after"] = os.getloadavg()[0]
+                chosen.figures.write_text(json.dumps(figures, indent=1) + "\n")
 
 
 def measure_part(part, bench, figures):
@@ -350,7 +351,7 @@ def main():
     if not chosen.show:
         if not chosen.program.exists():
             sys.exit(f"{chosen.program} is missing: `rt run` in crates/bwsh builds it")
-        chosen.figures.write_text(json.dumps(measure(chosen), indent=1) + "\n")
+        measure(chosen)
     figures = json.loads(chosen.figures.read_text())
     shown = shown_tables(figures)
     print("\n\n".join(shown.values()))
