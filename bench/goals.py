@@ -234,9 +234,9 @@ def build_library(chosen):
 
 
 def measure(chosen):
-    """All figures. A part whose program is missing is left out."""
+    """Writes all figures down, after each part those that are there. A part whose program is missing is left out."""
     left_out = build_library(chosen)
-    figures = machine() | {"unproved": chosen.unproved, "repeats": chosen.repeats, "rows": [], "minutes": {}, "load before": os.getloadavg()[0]}
+    figures = machine() | {"note": chosen.note, "unproved": chosen.unproved, "repeats": chosen.repeats, "rows": [], "minutes": {}, "load before": os.getloadavg()[0]}
     with tempfile.TemporaryDirectory() as folder:
         bench = Bench(chosen, Path(folder))
         for part in PARTS:
@@ -244,7 +244,8 @@ def measure(chosen):
                 start = time.monotonic()
                 measure_part(part, bench, figures)
                 figures["minutes"][part] = (time.monotonic() - start) / 60
-    return figures | {"load after": os.getloadavg()[0]}
+                figures["load after"] = os.getloadavg()[0]
+                chosen.figures.write_text(json.dumps(figures, indent=1) + "\n")
 
 
 def measure_part(part, bench, figures):
@@ -276,10 +277,8 @@ def verdict(each, name):
     if name not in each["is"]:
         return "no peer"
     value, goal = each["is"][name], each["wanted"][name]
-    if each["most"]:
-        ending = "reached" if value <= goal else f"over by {100 * (value / goal - 1):.0f} %"
-    else:
-        ending = "reached" if value >= goal else f"short by {100 * (1 - value / goal):.0f} %"
+    missed = value / goal - 1 if each["most"] else 1 - value / goal
+    ending = "reached" if missed <= 0 else f"{'over' if each['most'] else 'short'} by {max(1, round(100 * missed))} %"
     return f"{value:.2f} of {goal}, {ending}"
 
 
@@ -296,6 +295,8 @@ def print_goals(figures):
     minutes = ", ".join(f"{part} {taken:.1f}" for part, taken in figures["minutes"].items())
     print(f"{figures['taken']}, commit {figures['commit']}, {proved}, {runs}. {figures['processor']}, {figures['processors']} processors; load of the machine "
           f"{figures['load before']:.1f} before and {figures['load after']:.1f} after. It took {sum(figures['minutes'].values()):.0f} minutes ({minutes}).")
+    if figures.get("note"):
+        print(f"\n**{figures['note']}**")
     rows = []
     for each in figures["rows"]:
         cells = [cell for name in SETTINGS for cell in (cell_of(each, name), verdict(each, name))]
@@ -340,6 +341,7 @@ def arguments():
     parser.add_argument("--folder", default="/var/tmp", help="where the stores are made: on the disk that is to be measured (/var/tmp)")
     parser.add_argument("--figures", type=Path, default=HERE / "goals.json", help="where the figures are written")
     parser.add_argument("--plot", type=Path, default=HERE / "goals.svg", help="where the plot is drawn")
+    parser.add_argument("--note", default="", help="what there is to say of this run")
     parser.add_argument("--readme", action="store_true", help="puts the tables into README.md too")
     parser.add_argument("--show", action="store_true", help="measures nothing: prints and draws the figures that are there")
     return parser.parse_args()
@@ -350,7 +352,7 @@ def main():
     if not chosen.show:
         if not chosen.program.exists():
             sys.exit(f"{chosen.program} is missing: `rt run` in crates/bwsh builds it")
-        chosen.figures.write_text(json.dumps(measure(chosen), indent=1) + "\n")
+        measure(chosen)
     figures = json.loads(chosen.figures.read_text())
     shown = shown_tables(figures)
     print("\n\n".join(shown.values()))

@@ -149,7 +149,7 @@ def store_rows(persistent, settings, top, left):
             at_y = y + STEP * 0.12 + place * thick
             parts.append(bar(left, at_y, each * scale, thick, COLOURS.get(name, COLOURS["BTreeMap"])))
             parts.append(text(left + each * scale + 4, at_y + thick - 1, f"{each:,.0f}", size=10))
-    parts.insert(0, text(left, top - 8, f"pairs a second in durable commits: above {lengths[0]}, below {lengths[1]}"))
+    parts.insert(0, text(LEFT, top - 8, f"pairs a second in durable commits: above {lengths[0]}, below {lengths[1]}"))
     return parts
 
 
