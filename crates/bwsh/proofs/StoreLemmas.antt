@@ -9,10 +9,10 @@ use Rattle.keys.specs.declared.fault.Fault.TheVariants as fault
 use Rattle.keys.specs.declared.settings.Field.{Field}
 use Rattle.keys.specs.declared.settings.Settings.{Settings}
 use Rattle.mapping.specs.Tree.{Store}
-use Rattle.flush_log.specs.Disk.{View, IsSettled, Kept, Same}
+use Rattle.flush_log.specs.Disk.{View, IsSettled, Kept}
 use Rattle.flush_log.specs.NewStore.{disk_of_new}
 use Rattle.flush_log.specs.Segments.{disk_size}
-use Rattle.recovery.specs.Recovered.{IsLate, IsReadOf}
+use Rattle.recovery.specs.Recovered.{IsLate}
 use Rattle.recovery.specs.StoreOfDisk.{first_store, store_of_disk}
 use Rattle.engine.specs.Late.{create_refusal, made_unless, after_create}
 use Rattle.engine.specs.State.{State}
@@ -81,26 +81,11 @@ module _ (settings : Settings) (file : List ℕ) where
 
 -- ---- the store of a file
 
--- it was found on a disk that is as it was
+-- it was found on a disk of which a read gives what it gave
 pub Opens-found : {D : Type 0} (view : D → View) (file : List ℕ) (old : View) (x : State D) → store_of_disk file ≡ Ok (x.settings, x.store) → Kept old (view x.disk)
-    → (IsTrue old.is_honest → file ≡ old.seen) → (IsTrue old.is_honest → Same old (view x.disk)) → Opens view (found_start file) (Ok x)
-Opens-found view file old x e kept read same =
-    (file, ap (start_by file) e, λ honest. let h : IsTrue old.is_honest = subst IsTrue kept.honest honest in (same h).seen ∙ sym (read h))
-
--- it was found on a disk that was settled first
-module _ {D : Type 0} (view : D → View) (old mid : View) (settling : Kept old mid) (bytes : IsTrue old.is_honest → mid.seen ≡ old.seen) where
-  pub honest_first : (file : List ℕ) → IsReadOf mid file → IsTrue old.is_honest → file ≡ old.seen
-  honest_first file read honest = read.honest (subst IsTrue (sym settling.honest) honest) ∙ bytes honest
-
-  pub settled_found : (x : State D) → Kept mid (view x.disk) → (IsTrue mid.is_honest → Same mid (view x.disk)) → (IsTrue old.is_honest → IsSettled mid)
-      → IsTrue (view x.disk).is_honest → IsSettled (view x.disk)
-  settled_found x kept same settled honest =
-      let h : IsTrue mid.is_honest = subst IsTrue kept.honest honest in
-      let is_settled = settled (subst IsTrue settling.honest h) in
-      record {
-        honest = honest;
-        only = λ c left. is_settled.only c (((same h).may_leave c).0 left) ∙ sym (same h).seen;
-      }
+    → (IsTrue old.is_honest → file ≡ old.seen) → (IsTrue old.is_honest → (view x.disk).seen ≡ old.seen) → Opens view (found_start file) (Ok x)
+Opens-found view file old x e kept read seen =
+    (file, ap (start_by file) e, λ honest. let h : IsTrue old.is_honest = subst IsTrue kept.honest honest in seen h ∙ sym (read h))
 
 pub IsUnopened-found : (file : List ℕ) (old new : ℕ) (f : Fault) (early : Ending) → (store_of_disk file ≡ Err f) ⊎ IsLate old new f → IsEndingOf f early → IsUnopened (found_start file) early
 IsUnopened-found file old new f early (inl own) ending = right (found_start file) f early (ap (start_by file) own) ending

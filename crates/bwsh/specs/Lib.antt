@@ -1,6 +1,5 @@
 pub mod BatchFile
 pub mod CommandLine
-pub mod FileDisk
 pub mod KeptBatch
 pub mod Line
 pub mod Number

@@ -3,10 +3,8 @@
 
 pub mod batch;
 pub mod batch_file;
-pub mod file_disk;
 pub mod laws;
 pub mod line;
-pub mod lock_file;
 pub mod number;
 pub mod options;
 pub mod program;

@@ -5,8 +5,8 @@ ghost use Rattle.std.specs.IoError.{error_kind};
 ghost use Rattle.keys.specs.Bytes.{Bytes};
 ghost use Rattle.bwsh.specs.Session.{unread_text, IsBegun, EndsTold};
 
-use crate::lock_file::LockFile;
 use crate::session::{session, unread_words};
+use engine::LockFile;
 use std::io::{ErrorKind, Read, Write};
 use std::rt::{Env, Files};
 use std::thread::Threads;

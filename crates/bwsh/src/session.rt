@@ -11,7 +11,6 @@ ghost use Rattle.keys.specs.Bytes.{Bytes};
 ghost use Rattle.keys.specs.Limits.{first_bad_field};
 ghost use Rattle.keys.specs.declared.fault.Fault.TheVariants.{NoMemory};
 ghost use Rattle.keys.specs.declared.fault.Fault.TheVariants as faults;
-ghost use Rattle.flush_log.specs.Disk.{IsSettled};
 ghost use Rattle.flush_log.specs.Segments.{disk_size};
 ghost use Rattle.engine.specs.Plays.{step_of, answer_of};
 ghost use Rattle.bwsh.specs.declared.session.Ending.{Ending};
@@ -23,20 +22,17 @@ ghost use Rattle.bwsh.specs.Session.{status_of, status_of_end, ending_text, unre
 ghost use Rattle.bwsh.specs.Shown.{shown_reply, shown_flushed, shown_cleaned, shown_upgraded, shown_report, shown_answer};
 
 use crate::batch_file::{Order, TextFault, parse};
-use crate::file_disk::FileDisk;
 use crate::line::Why;
-use crate::lock_file::LockFile;
 use crate::options::{Options, options};
 use crate::show::{show_cleaned, show_flushed, show_reply, show_report, show_upgraded};
 use cleaner::laws::a_clean_keeps_the_store;
 use climb_plan::laws::the_plan_holds_the_map_after_the_commands;
 use crew::{BadCrew, Crew, NoGate};
-use engine::{Answer, Disk, MemDisk, Step, Store};
+use engine::{Answer, Disk, FileDisk, LockFile, MemDisk, Step, Store};
 use flush_log::segments::disk_size;
 use keys::{Fault, Reply, Settings};
 use std::alloc::{AllocError, Global};
 use std::fmt::{InlineText, Write as _};
-use std::fs::OpenOptions;
 use std::io::{ErrorKind, Read, Write};
 use std::rt::Files;
 use std::thread::Threads;
@@ -403,30 +399,15 @@ fn store_in_memory(alloc: Global, settings: Settings) -> Result<Store<MemDisk<Gl
     store_made(alloc, disk, settings)
 }
 
-// The disk of the file, which is made anew with this length, all zeros. Where there is no file one is made first.
-fn new_disk<R: Files>(rt: &R, path: &str, len: u64) -> io::Result<FileDisk<R::File>>
-where
-    R::File: LockFile,
-    ensures { IfOk result (λ disk. (⟦<FileDisk<R::File> as Disk>⟧.view disk).size ≡ len) }
-{
-    let file = OpenOptions::new()
-        .read(true)
-        .write(true)
-        .create(true)
-        .open(rt, path)?;
-    FileDisk::of_zeros(file, len)
-}
-
 // The disk of the file that there is. It is open for writing only where the session writes, and is held then.
 fn old_disk<R: Files>(rt: &R, path: &str, writes: bool) -> io::Result<FileDisk<R::File>>
 where
     R::File: LockFile,
 {
-    let file = OpenOptions::new().read(true).write(writes).open(rt, path)?;
     if writes {
-        FileDisk::of_file(file)
+        FileDisk::open(rt, path)
     } else {
-        FileDisk::of_shared(file)
+        FileDisk::open_shared(rt, path)
     }
 }
 
@@ -442,7 +423,7 @@ where
     ensures fine { IfOk result (λ store. store.has_failed ≡ false) }
 {
     settings.check()?;
-    match new_disk(rt, path, disk_size(&settings)) {
+    match FileDisk::create(rt, path, disk_size(&settings)) {
         Ok(disk) => store_made(rt.alloc(), disk, settings),
         Err(_) => Err(Ending::Device),
     }
@@ -457,14 +438,9 @@ fn store_found<R: AllocGlobal + Threads + Sync, D: Disk + Drop>(
 ) -> Result<Store<D>, Ending>
     requires crew { IsTrue (is_crew crew) }
     ensures opens { (file : Bytes) × (IsTrue (D.view disk).is_honest → file ≡ (D.view disk).seen) × Opens D.view (found_start file) result }
-    ensures settled { IfOk result (λ store. IsTrue (D.view store.disk).is_honest → IsSettled (D.view store.disk)) }
     ensures fine { IfOk result (λ store. store.has_failed ≡ false) }
 {
-    let mut disk = disk;
-    if let Err(_failed) = disk.sync() {
-        return Err(Ending::Device);
-    }
-    match Store::recover(rt, rt.alloc(), disk, crew) {
+    match Store::open(rt, rt.alloc(), disk, crew) {
         Ok(store) => Ok(store),
         Err(refused) => Err(store_fault(refused.0)),
     }

@@ -4,11 +4,11 @@ mod wipes;
 
 use crate::batch_file::{TextFault, parse};
 use crate::line::Why;
-use crate::lock_file::LockFile;
 use crate::program::run_program;
 use crate::session::{session, unread_words};
 use crate::tests::files::{Faults, Faulty};
 use bstr::ByteSlice;
+use engine::LockFile;
 use std::alloc::{AllocError, Allocator, Global};
 use std::env::FillError;
 use std::fs::{Metadata, OpenOptions};

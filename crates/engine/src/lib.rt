@@ -38,6 +38,8 @@ mod failing_disk_rows;
 mod failing_recovery_rows;
 #[cfg(test)]
 mod fault_rows;
+#[cfg(test)]
+mod file_rows;
 pub mod file_store;
 #[cfg(test)]
 mod frame_rows;
@@ -61,6 +63,8 @@ mod recovery_rows;
 mod refusal;
 #[cfg(test)]
 mod round_rows;
+#[cfg(test)]
+mod sized_rows;
 pub mod step;
 pub mod step_laws;
 pub mod store;

@@ -1,13 +1,11 @@
 //! Sessions on stores in files, and disks over files.
 use super::{CLEANED, CLEANED_OUT, OneWord, check, push_words, words_of};
 use crate::batch_file::{Order, parse};
-use crate::file_disk::FileDisk;
-use crate::lock_file::LockFile;
 use crate::options::Options;
 use crate::session::{run, session};
 use bstr::ByteSlice;
 use crew::{Crew, NoGate};
-use engine::{Disk, MemDisk, Step, Store};
+use engine::{Disk, FileDisk, LockFile, MemDisk, OpenFault, Step, Store, open_or_create};
 use keys::Settings;
 use std::alloc::Global;
 use std::fs::{File, Metadata, OpenFile, OpenOptions};
@@ -589,6 +587,45 @@ fn making_anew_fails(rt: HostRuntime) -> Result<(), Fail> {
         if left.0 > 0 {
             check_in_file(&rt, path, None, b"get a\n", b"value 1\n", "")?;
         }
+    }
+    fs::remove_file(&rt, path)?;
+    Ok(())
+}
+
+// Asserts that no new store is made in an empty file where such calls fail, with a reason, and that the file is left without a byte.
+fn check_emptied<R: AllocGlobal + Abort + Threads + Sync + Files>(
+    rt: &R,
+    path: &str,
+    faults: &Faults,
+) -> Result<(), Fail> {
+    fs::write(rt, path, b"".as_slice())?;
+    let word = OneWord {
+        rt,
+        word: b"",
+        faults,
+    };
+    let opened = open_or_create(&word, CREW, path, SETTINGS);
+    assert!(rt; matches!(&opened, Err(OpenFault::File(_))));
+    assert_eq!(rt; fs::metadata(rt, path)?.len(), 0);
+    Ok(())
+}
+
+// Which calls fail while a new store is made in a file, after how many.
+static EMPTIED: [(Call, u64); 5] = [
+    (Call::Metadata, 0),
+    (Call::SetLen, 0),
+    (Call::SetLen, 2),
+    (Call::Write, 0),
+    (Call::Sync, 0),
+];
+
+#[test]
+fn a_file_without_its_new_store_is_empty(rt: HostRuntime) -> Result<(), Fail> {
+    let file = env::temp_dir(&rt)?.join(rt.alloc(), "bwsh_emptied")?;
+    let path = file.as_str();
+    for (call, good) in &EMPTIED {
+        let faults = Faults::of(rt, *call, *good, u64::MAX, ErrorKind::Other);
+        check_emptied(&rt, path, &faults)?;
     }
     fs::remove_file(&rt, path)?;
     Ok(())

@@ -1,0 +1,73 @@
+//! How large a log is to be: the settings for a number of pairs, and that pairs which are put again and again find room in their log.
+use crate::crews::ALONE;
+use crate::store::Store;
+use crate::tests::{S, new_store};
+use crew::NoGate;
+use flush_log::Disk;
+use keys::{Command, Fault, Field, Key, Settings, Value};
+use std::alloc::{AllocError, Global};
+use std::process::Abort;
+use std::test::Fail;
+use std::thread::Threads;
+
+// A million pairs of 16 and 100 bytes: 121 bytes each, and 60 for each of 31,251 leaves, seven times, in segments of 1 MiB.
+#[test]
+fn settings_are_for_pairs(rt: HostRuntime) -> Result<(), Fail> {
+    let right = Settings {
+        fan: 64,
+        chain: 4,
+        max_key: 16,
+        max_value: 100,
+        seg_size: 1_048_576,
+        segments: 824,
+    };
+    assert_eq!(rt; Settings::for_pairs(1_000_000, 16, 100), Ok(right));
+    assert_eq!(rt; right.disk_size(), 864_027_136);
+    assert_eq!(rt; S.disk_size(), 1_536);
+    let refused = |field| Err(Fault::BadSettings(field));
+    assert_eq!(rt; Settings::for_pairs(1, 0, 0), refused(Field::MaxKey));
+    assert_eq!(rt; Settings::for_pairs(1, 256, 0), refused(Field::MaxKey));
+    assert_eq!(rt; Settings::for_pairs(1, 1, 1_025), refused(Field::MaxValue));
+    assert_eq!(rt;
+        Settings::for_pairs(u32::MAX, 1, 1),
+        refused(Field::Segments)
+    );
+    Ok(())
+}
+
+// Puts of 200 pairs, in one batch.
+fn puts(alloc: Global) -> Result<Vec<Command<Global>>, AllocError> {
+    let mut batch = Vec::new(alloc);
+    for number in 0..200_u8 {
+        let key = Key::from_bytes(alloc, &[number])?;
+        let value = Value::from_bytes(alloc, &[number; 8])?;
+        batch.push(Command::Put(key, value))?;
+    }
+    Ok(batch)
+}
+
+// Flushes a store, and cleans a log that is full, once for each segment at the most.
+fn flush<D: Disk>(rt: &(impl Threads + Sync), store: &mut Store<D>) -> Result<u64, Fault> {
+    for _ in 0..store.settings().segments {
+        match store.flush(rt, ALONE) {
+            Err(Fault::Full) => store.clean(rt, ALONE)?,
+            done => return done,
+        };
+    }
+    store.flush(rt, ALONE)
+}
+
+// Each leaf has as many runs as there may be, with all its pairs, and the log is written over some three times.
+#[test]
+fn pairs_that_are_put_again_find_room(rt: HostRuntime) -> Result<(), Fail> {
+    let alloc = rt.alloc();
+    let settings = Settings::for_pairs(200, 1, 8)?;
+    let mut store = new_store(alloc, settings)?;
+    let batch = puts(alloc)?;
+    for _ in 0..60 {
+        store.batch(&rt, ALONE, &NoGate, &batch)?;
+        flush(&rt, &mut store)?;
+    }
+    assert!(rt; store.head_tail_and_sequence().0 > 12);
+    Ok(())
+}
