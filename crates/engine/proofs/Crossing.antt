@@ -15,6 +15,7 @@ use Rattle.mapping.specs.contracts.tree.Tree as Tree
 use Rattle.mapping.proofs.Crossing.{Tree-sync}
 use Rattle.page_runs.proofs.Crossing.{done_send}
 use Rattle.page_runs.proofs.read_work.LeafRead.TheSendSync as leaf_read
+use Rattle.page_runs.specs.contracts.read_work.ReadWork as ReadWork
 use Rattle.engine.specs.contracts.leaf_tasks.BatchWork as BatchWork
 use Rattle.engine.specs.contracts.leaf_tasks.TaskDone as TaskDone
 
@@ -25,6 +26,9 @@ tree_lent κ =
 
 command_sync : IsSync (Command.the_row Global.the_row ghosts)
 command_sync = command.the_sync Global.the_row ghosts heap.sync
+
+pub read_sync : (κ : NamedLft) → IsSync (ReadWork.the_row κ)
+read_sync κ = recorded_sync _ _ _ (ReadWork.the_type κ).to_one (struct_sync (shape (ReadWork.the_type κ)) (search sendable, (shr_slice_sync _ _ _ command_sync, (tree_lent κ, tt))))
 
 pub work_sync : (κ : NamedLft) → IsSync (BatchWork.the_row κ)
 work_sync κ = recorded_sync _ _ _ (BatchWork.the_type κ).to_one (struct_sync (shape (BatchWork.the_type κ)) (search sendable, (settings.the_field_sync, (shr_slice_sync _ _ _ command_sync, (tree_lent κ, tt)))))

@@ -22,6 +22,7 @@ mod PartAnswers
 mod PartedLemmas
 mod PlayLemmas
 mod PlayTurn
+mod ReadBatch
 mod Readied
 mod Routed
 mod RunRoutes

@@ -1,8 +1,7 @@
 -- The tasks of a batch: the leaves that they hold are those that may be changed, and what is made of them comes to the answers of all.
 use Rattle.std.specs.Prelude.{◌≡◌, ◌≢◌, ℕ, ◌+◌, Bool, true, false, not, ◌++◌, map, flat_map, length, slice_get, List, [], ◌∷◌, Option, Some, None, Result, Ok, Err, IfOk, IsOkAnd, if◌then◌else◌}
 use Rattle.std.proofs.Common.{refl, sym, ap, ◌∙◌, subst}
-use Rattle.std.specs.List.{All, AllByRecursion, filter}
-use Rattle.std.specs.Map.{keys_of}
+use Rattle.std.specs.List.{All, AllByRecursion}
 use Rattle.std.specs.declared.alloc.Global.{Global}
 use Rattle.std.proofs.lemmas.List.{append_assoc, map_push}
 use Rattle.std.proofs.lemmas.List.Elements.{All-from_recursion}
@@ -22,7 +21,7 @@ use Rattle.page_runs.specs.Reads.{IsRouteToRead, answers_at, is_only_read}
 use Rattle.page_runs.specs.Replies.{ArePlacesOf}
 use Rattle.replies.specs.ByPlace.{AreAnswers, blank_of, reply_at, with_pieces}
 use Rattle.replies.proofs.Placing.{replies-with_pieces, with_pieces-page}
-use Rattle.climb_plan.specs.Installing.{AreAway, all_taken, all_put, page_or_none}
+use Rattle.climb_plan.specs.Installing.{AreAway, all_taken, page_or_none}
 use Rattle.climb_plan.proofs.BridgeTables.{taken_others}
 use Rattle.climb_plan.proofs.Installing.{KeepsOthers, placed_apart, away_next, tree_taken, tree_put}
 use Rattle.climb_plan.proofs.InstallingLemmas.{not_among}
@@ -31,7 +30,6 @@ use Rattle.engine.specs.Tasks.{TaskHeld, TaskMade, MayBeWorked, task_made, task_
 use Rattle.engine.specs.Tasks.TaskHeld.{Reads, Changes}
 use Rattle.engine.specs.Tasks.TaskMade.{Answered, Changed}
 use Rattle.engine.specs.declared.leaf_tasks.LeafTask.{LeafTask}
-use Rattle.engine.specs.declared.leaf_tasks.LeafTask.TheVariants.{Read, Change}
 use Rattle.engine.specs.declared.leaf_tasks.TaskDone.{TaskDone}
 use Rattle.engine.specs.declared.leaf_tasks.TaskDone.TheVariants.{Read as WasRead, Changed as WasChanged}
 use Rattle.engine.proofs.BatchLeaves.{leaf_there, leaves_next, back_away, back_is_before}
@@ -121,6 +119,11 @@ as_many cs t rs ds hs o e = sym (length-map ds done_held) ∙ ap (λ (xs : List 
 
 -- ---- leaves that are only read stay
 
+-- where a leaf stays it is answered as it would be if it was taken
+pub answers_by : (cs : List (Command Global)) (o : Option PageOfKind) (r : Route) → IsLeafAt o → answers_at cs o r ≡ leaf_answers cs (record { page = page_or_none o; route = r })
+answers_by cs None r h = absurd h
+answers_by cs (Some p) r h = refl
+
 module _ (cs : List (Command Global)) where
   -- the page of a route that is only read has another pid than all these
   abbrev IsApart : List Route → Route → Type 0
@@ -149,15 +152,10 @@ module _ (cs : List (Command Global)) where
     worked_by r false e stays home places =
         let held : IsLeafHeld cs (leaf_held t r) = record { leaf = leaf_there (page_of t r.pid) home; places = places } in rw e held
 
-    -- and it is answered as it would be if the leaf was taken
-    answers_by : (o : Option PageOfKind) (r : Route) → IsLeafAt o → answers_at cs o r ≡ leaf_answers cs (record { page = page_or_none o; route = r })
-    answers_by None r h = absurd h
-    answers_by (Some p) r h = refl
-
     made_by : (r : Route) (b : Bool) → is_only_read cs r ≡ b → (is_only_read cs r ≡ true → place_of now.table r.pid ≡ place_of t r.pid) → IsLeafAt (page_of t r.pid) → task_made now s cs (task_for t cs r) ≡ made_for cs t s r
     made_by r true e stays home =
         let there : answers_at cs (page_of now.table r.pid) r ≡ (leaf_made s cs (leaf_held t r)).pieces =
-        ap (λ (o : Option (Option PageOfKind)). answers_at cs (at_home o) r) (stays e) ∙ answers_by (page_of t r.pid) r home in
+        ap (λ (o : Option (Option PageOfKind)). answers_at cs (at_home o) r) (stays e) ∙ answers_by cs (page_of t r.pid) r home in
         rw e (ap (λ (ps : List (Piece Global)). Answered ps) there)
     made_by r false e stays home = rw e refl
 

@@ -1,5 +1,6 @@
 //! A batch on a tree: which leaves its commands go to, what these become and answer, and the climb from them to the root.
-ghost use Rattle.std.specs.Prelude.{◌≡◌, ◌+◌, ◌<◌, ◌≤◌, ℕ, length, List, IfOk, IsOkAnd, IfErr, OnOk, OnErr};
+ghost use Rattle.std.specs.Prelude.{◌≡◌, ◌+◌, ◌<◌, ◌≤◌, ℕ, true, [], length, List, IfOk, IsOkAnd, IfErr, OnOk, OnErr};
+ghost use Rattle.std.specs.List.{list_all};
 ghost use Rattle.keys.specs.declared.command.Command.{Command};
 ghost use Rattle.keys.specs.declared.fault.Fault.TheVariants.{NoMemory};
 ghost use Rattle.keys.specs.Step.{replies_to, map_after_all};
@@ -8,6 +9,7 @@ ghost use Rattle.mapping.specs.Proper.{AreLevels, HoldsLevels};
 ghost use Rattle.mapping.specs.Tree as definitions;
 ghost use Rattle.mapping.specs.Tree.{most_levels};
 ghost use Rattle.mapping.specs.TreeInMemory.{AreAllHome, tree_of};
+ghost use Rattle.page_runs.specs.Reads.{is_look};
 ghost use Rattle.replies.specs.ByPlace.{most_counted};
 ghost use Rattle.climb_plan.specs.Changing.{leaves_seen};
 ghost use Rattle.climb_plan.specs.Limits.{AreShort};
@@ -19,6 +21,7 @@ ghost use Rattle.engine.specs.SoundTree.{IsSoundInMemory};
 
 use crate::execute_one::execute_one;
 use crate::leaves::{take_replies, undo_leaves, work_leaves};
+use crate::reads::{do_all_look, read_leaves, replies_of};
 use climb_plan::Refused;
 use climb_plan::climb::climb;
 use climb_plan::laws::{
@@ -28,7 +31,7 @@ use climb_plan::laws::{
 use crew::{Crew, Gate};
 use keys::{Command, Fault, Reply, Settings};
 use mapping::Tree;
-use page_runs::{LeafDone, LeafWork};
+use page_runs::{LeafDone, LeafWork, ReadWork};
 use routing::{BatchWithEnds, PageRun, route};
 use scan::scan_ends;
 use std::alloc::{AllocError, Global};
@@ -65,6 +68,9 @@ pub(crate) fn execute(
         }
     }
     let page_runs = routes_to_leaves(rt, crew, alloc, tree, commands)?;
+    if do_all_look(commands) {
+        return read_routed(rt, crew, gate, &work, tree, page_runs);
+    }
     execute_routed(rt, crew, gate, &work, tree, page_runs)
 }
 
@@ -128,6 +134,52 @@ fn execute_routed(
             Err(fault)
         }
     }
+}
+
+// The same of commands that only look: their leaves stay in the tree.
+fn read_routed(
+    rt: &(impl Threads + Sync),
+    crew: Crew,
+    gate: &impl Gate,
+    work: &LeafWork<'_>,
+    tree: &mut Tree<Global>,
+    page_runs: Vec<PageRun>,
+) -> Result<Vec<Reply<Global>>, Fault>
+    requires sound { IsSoundInMemory work.now.settings tree.old }
+    requires short { AreShort work.now.settings work.now.commands.now }
+    requires routed { AreRoutesFor (tree_of tree.old) work.now.commands.now page_runs.items }
+    requires looks { list_all is_look work.now.commands.now ≡ true }
+    ensures replies { IfOk result (λ replies. replies.items ≡ replies_to (contents (tree_of tree.old)) work.now.commands.now) }
+    ensures tree { OnOk result (tree_of tree.new ≡ planned_tree work.now.settings (tree_of tree.old) work.now.commands.now) }
+    ensures contents { OnOk result (contents (tree_of tree.new) ≡ map_after_all (contents (tree_of tree.old)) work.now.commands.now) }
+    ensures sound { IsSoundInMemory work.now.settings tree.new }
+    ensures err { OnErr result (tree.new ≡ tree.old) }
+    ensures fault { IfErr result (IsLaterFault work.now.settings (tree_of tree.old) work.now.commands.now) }
+{
+    // What the plan of a sound tree is.
+    the_plan_holds_the_map_after_the_commands::<Global>();
+    the_plan_of_a_proper_store_is_proper::<Global>();
+    the_log_states_stay_true::<Global>();
+    pairs_can_be_counted(&work.settings, tree, work.commands);
+    let reading = ReadWork {
+        alloc: work.alloc,
+        commands: work.commands,
+        tree,
+    };
+    let reads = read_leaves(rt, crew, gate, &reading, page_runs)?;
+    let replies = replies_of(work.alloc, work.commands, reads);
+    let none = no_leaves(work.alloc);
+    match finish(rt, crew, gate, work, tree, replies, none) {
+        Ok(replies) => Ok(replies),
+        Err((fault, _none)) => Err(fault),
+    }
+}
+
+// No leaves. It takes no memory.
+fn no_leaves(alloc: Global) -> Vec<LeafDone>
+    ensures { result.items ≡ [] }
+{
+    Vec::new(alloc)
 }
 
 /// That a sound tree, with as many commands more, has no more pairs than a reply can count. Only for the proof.

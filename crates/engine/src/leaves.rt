@@ -153,8 +153,7 @@ fn take_answers(done: TaskDone, leaves: &mut Vec<LeafDone>) -> Pieces<Global>
 {
     match done {
         TaskDone::Read(leaf) => leaf.into_pieces(),
-        TaskDone::Changed(leaf) => {
-            let mut leaf = leaf;
+        TaskDone::Changed(mut leaf) => {
             let pieces = leaf.take_pieces();
             leaves.push_reserved(leaf);
             pieces
@@ -162,8 +161,8 @@ fn take_answers(done: TaskDone, leaves: &mut Vec<LeafDone>) -> Pieces<Global>
     }
 }
 
-// The replies with the answers of one more leaf, unless they were refused.
-fn with_answers(
+/// The replies with the answers of one more leaf, unless they were refused.
+pub(crate) fn with_answers(
     replies: Result<Vec<Reply<Global>>, AllocError>,
     commands: &[Command<Global>],
     pieces: Pieces<Global>,

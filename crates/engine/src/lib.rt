@@ -58,6 +58,7 @@ mod new_disk_rows;
 mod outcomes;
 #[cfg(test)]
 mod parts;
+mod reads;
 #[cfg(test)]
 mod recovery_rows;
 mod refusal;

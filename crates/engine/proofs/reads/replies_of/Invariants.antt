@@ -1,0 +1,17 @@
+use Rattle.std.proofs.Common.{◌≡◌, map, length}
+use Rattle.std.specs.Prelude.{IfOk}
+use Rattle.std.specs.List.{All}
+use Rattle.std.specs.Vec.Iter.{into_iter_items}
+use Rattle.keys.specs.Lists.{flat}
+use Rattle.replies.specs.ByPlace.{IsPlaceOf, blank_of, with_pieces}
+use Rattle.engine.specs.Leaves.{read_answers}
+use Rattle.engine.proofs.reads.replies_of.Given as goal
+
+-- the answers of the leaves that are left make of the replies, if they were not refused, what all make of the blanks; their places are
+-- within these
+abbrev pub invariant-loop-read : goal.invariant-loop-read
+invariant-loop-read l = record {
+  count : IfOk l.replies (λ rs. length rs.items ≡ length l.commands);
+  within : All (IsPlaceOf l.commands) (flat (read_answers (into_iter_items l.read-iterator)));
+  gathered : IfOk l.replies (λ rs. with_pieces l.commands (flat (read_answers (into_iter_items l.read-iterator))) rs.items ≡ with_pieces l.commands (flat (read_answers l.fn.reads.items)) (map blank_of l.commands));
+}

@@ -1,0 +1,68 @@
+//! A batch that only looks: its leaves are read where they are, in the tree, and nothing is changed.
+ghost use Rattle.std.specs.Prelude.{◌≡◌, ℕ, map, slice_get, IfOk};
+ghost use Rattle.std.specs.List.{AllByRecursion, list_all};
+ghost use Rattle.keys.specs.Lists.{flat};
+ghost use Rattle.page_runs.specs.Reads.{IsRouteToRead, is_look, route_answers};
+ghost use Rattle.replies.specs.ByPlace.{AreAnswers, reply_at};
+ghost use Rattle.engine.specs.Leaves.{read_answers};
+
+use crate::leaves::with_answers;
+use crew::{Crew, Gate, run_round};
+use keys::{Command, Reply};
+use page_runs::{LeafRead, ReadWork};
+use replies::blank_replies;
+use routing::PageRun;
+use std::alloc::{AllocError, Global};
+use std::thread::Threads;
+
+/// Whether all commands only look: gets and scans.
+pub(crate) fn do_all_look(commands: &[Command<Global>]) -> bool
+    ensures { result ≡ list_all is_look commands.now }
+{
+    commands.iter().all(|command| is_look(command))
+}
+
+// Whether the command only looks.
+fn is_look(command: &Command<Global>) -> bool
+    ensures { result ≡ is_look command.now }
+{
+    match command {
+        Command::Get(_) => true,
+        Command::Scan(_, _, _) => true,
+        _ => false,
+    }
+}
+
+/// Has the crew read these leaves, which are in the tree of the work and stay there.
+pub(crate) fn read_leaves(
+    rt: &(impl Threads + Sync),
+    crew: Crew,
+    gate: &impl Gate,
+    work: &ReadWork<'_>,
+    page_runs: Vec<PageRun>,
+) -> Result<Vec<LeafRead>, AllocError>
+    requires { AllByRecursion (IsRouteToRead work.now.tree.now work.now.commands.now) page_runs.items }
+    ensures { IfOk result (λ reads. read_answers reads.items ≡ map (route_answers work.now.tree.now work.now.commands.now) page_runs.items) }
+{
+    match run_round(rt, crew, gate, work, page_runs) {
+        Ok(reads) => Ok(reads),
+        Err(_page_runs) => Err(AllocError),
+    }
+}
+
+/// The replies to the commands, each at its command's place, by what the leaves answered, one leaf after the other.
+pub(crate) fn replies_of(
+    alloc: Global,
+    commands: &[Command<Global>],
+    reads: Vec<LeafRead>,
+) -> Result<Vec<Reply<Global>>, AllocError>
+    requires { AreAnswers commands.now (flat (read_answers reads.items)) }
+    ensures { IfOk result (λ replies. (place : ℕ) → slice_get replies.items place ≡ reply_at commands.now (flat (read_answers reads.items)) place) }
+{
+    let mut replies = blank_replies(alloc, commands);
+    for read in reads {
+        let pieces = read.into_pieces();
+        replies = with_answers(replies, commands, pieces);
+    }
+    replies
+}
