@@ -1,5 +1,5 @@
 -- The way of a key from the root down to its leaf, and the routes of a command that is on it alone.
-use Rattle.std.specs.Prelude.{◌≡◌, ℕ, zero, suc, pred, ◌+◌, ◌<◌, Bool, true, false, cond, List, [], ◌∷◌, ◌++◌, map, length, Option, Some, None}
+use Rattle.std.specs.Prelude.{◌≡◌, ℕ, zero, suc, pred, ◌+◌, ◌-◌, ◌<◌, Bool, true, false, cond, List, [], ◌∷◌, ◌++◌, map, length, Option, Some, None}
 use Rattle.std.proofs.Common.{refl, sym, ap, ◌∙◌, subst, arith, length-append}
 use Rattle.std.specs.List.{AllByRecursion, filter}
 use Rattle.std.specs.declared.alloc.Global.{Global}
@@ -25,6 +25,12 @@ use Rattle.mapping.proofs.Joined.{next_joined}
 use Rattle.mapping.proofs.TileLemmas.{Names, next_names, joined-append, range-names, rising-joined, page_for}
 use Rattle.routing.specs.Routes.{Route, meets_page, goes_to, has_some, has_places, route_to, ranges, routes}
 use Rattle.routing.proofs.DescentLemmas.{IsIndexLevel, names_at, level_at, names-leaves}
+
+-- ---- numbers
+
+pub below_pred : (i n : ℕ) → i < n - 1 → i < pred n
+below_pred i zero h = absurd (omega arith)
+below_pred i (suc n) h = omega arith
 
 -- ---- lists of one element
 

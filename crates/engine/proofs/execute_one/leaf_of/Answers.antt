@@ -1,8 +1,8 @@
 use Rattle.std.proofs.Common.{◌≡◌, ◌<◌, ◌-◌, ◌∷◌, [], List, ℕ, subst, ◌∙◌, arith}
 use Rattle.keys.specs.CommandKey.{key_of}
 use Rattle.mapping.specs.TreeInMemory.{tree_of}
-use Rattle.routing.proofs.DescentLemmas.{names_at, below_pred, same_pred}
-use Rattle.engine.proofs.WayOfOne.{pids_for, at_root, has_child, not_missing, at_child, only_route}
+use Rattle.routing.proofs.DescentLemmas.{names_at, same_pred}
+use Rattle.engine.proofs.WayOfOne.{below_pred, pids_for, at_root, has_child, not_missing, at_child, only_route}
 use Rattle.engine.proofs.execute_one.leaf_of.Goals as goal
 
 pub loop-level-init : goal.loop-level-init
