@@ -10,7 +10,7 @@ use keys::{Cell, KeyRef};
 use std::alloc::{AllocError, Allocator};
 
 // Each key's cell is looked for in one run after another. Among more runs than these that takes longer than a copy of the cell.
-const FEW_RUNS: u64 = 8;
+const FEW_RUNS: usize = 8;
 
 /// The base of the page's entries: each key that is present, with a copy of its cell. The chain is only read.
 pub fn consolidate<V: Cell<A> + Drop, A: Allocator + Copy>(
@@ -34,7 +34,7 @@ pub fn take_base<V: Cell<A> + Drop, A: Allocator + Copy>(
     ensures back { IfOk result (λ base. put_back chain.new base ≡ chain.old) }
     ensures err { OnErr result (chain.new ≡ chain.old) }
 {
-    if chain.depth() > FEW_RUNS {
+    if chain.runs_in_memory() > FEW_RUNS {
         return consolidate(alloc, chain);
     }
     let mut base = chain.pairs(alloc)?.blank_base(alloc)?;

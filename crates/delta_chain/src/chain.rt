@@ -25,6 +25,8 @@ pub struct Chain<V, A: Allocator> {
     runs: Vec<Run<V, A>, A>,
     // The page has as many entries, or more.
     fewest: usize,
+    // So many of the oldest runs count as the base's.
+    settled: usize,
     newest_runs: NewestRuns,
 }
 
@@ -105,6 +107,7 @@ impl<V, A: Allocator + Copy> Chain<V, A> {
             base,
             runs,
             fewest,
+            settled: 0,
             newest_runs,
         }
     }
@@ -114,8 +117,29 @@ impl<V, A: Allocator + Copy> Chain<V, A> {
         ensures count { result ≡ min (depth_of self.now) u64.MAX }
         ensures rising { IsInOrder self.now }
     {
-        let count = self.runs.len();
+        let count = self.runs.len() - self.settled.min(self.runs.len());
         count as u64
+    }
+
+    /// How many runs lie over the base in memory.
+    pub fn runs_in_memory(&self) -> usize {
+        self.runs.len()
+    }
+
+    /// How many changes lie over the base in memory.
+    pub fn pending(&self) -> usize {
+        let mut named = 0usize;
+        for run in self.runs.iter() {
+            named = named.saturating_add(run.len());
+        }
+        named
+    }
+
+    /// From now on the page counts as a base of its entries.
+    pub fn settle(&mut self) -> usize {
+        let before = self.settled;
+        self.settled = self.runs.len();
+        before
     }
 
     /// A number of entries that the page has at least, which is had without a look at any of them: what a base alone has, less as
@@ -169,7 +193,7 @@ impl<V, A: Allocator + Copy> Chain<V, A> {
         ensures rising { IfOk result (λ pairs. IsRising pairs) }
     {
         let under = lent_base(alloc, &self.base)?;
-        if self.depth() == 0 {
+        if self.runs.is_empty() {
             return Ok(under);
         }
         // The runs are merged with one another first, so that the base, which is mostly longer, is gone through once.
@@ -222,7 +246,8 @@ impl<V: Drop, A: Allocator + Copy> Chain<V, A> {
         ensures cell { cell.new ≡ unwrap_or (holds self.old key.now) cell.old }
         ensures page { self.new ≡ exchanged self.old key.now cell.old }
     {
-        if swap_in_runs(&mut self.runs, key, cell) {
+        let count = self.newest_runs.reach(key.as_bytes(), self.runs.len());
+        if swap_in_runs(&mut self.runs[..count], key, cell) {
             return;
         }
         if let Some(at) = self.base.place_near(*guess, key.as_bytes()) {

@@ -138,7 +138,7 @@ impl<'a> Work for LeafWork<'a> {
                 page_run,
             });
         };
-        match put_run(self.alloc, &self.settings, chain, run) {
+        match put_run(self.alloc, &self.settings, chain, run, Some(fewest)) {
             Ok((mut chain, way_back)) => {
                 // The replies tell which entries came and went, and the chain by itself knows only how many were named.
                 chain.raise_fewest(fewest);

@@ -17,6 +17,8 @@ pub(crate) enum WayBack<V> {
     Same(Run<V, Global>),
     /// The run stands in front of the page.
     InFront,
+    /// The same, and the page counts as a base.
+    Settled(Class),
     /// The page is a new one. Of the page before, with the run in front, all is kept but the cells that were moved into the new one.
     Replaced {
         class: Class,
@@ -27,11 +29,15 @@ pub(crate) enum WayBack<V> {
 /// The page after the run, with the way back; or the page and the run as they were, where memory is refused. A run
 /// that is longer than `fan`, or that would make the chain longer than `chain`, has the page replaced by a base of its
 /// entries.
+// So many changes may lie over a base, in so many runs.
+const PENDING_RUNS: usize = 16;
+
 pub(crate) fn put_run<V: Cell<Global> + Drop>(
     alloc: Global,
     settings: &Settings,
     page: Chain<V, Global>,
     run: Run<V, Global>,
+    entries: Option<usize>,
 ) -> Result<(Chain<V, Global>, WayBack<V>), (Chain<V, Global>, Run<V, Global>)>
     ensures page { IfOk result (λ after. after.0 ≡ after_run settings.now page run) }
     ensures class { IfOk result (λ after. class_now after.1 ≡ class_after settings.now page run) }
@@ -49,7 +55,17 @@ pub(crate) fn put_run<V: Cell<Global> + Drop>(
     let mut page = page;
     match page.prepend(run) {
         Err((_refused, run)) => Err((page, run)),
-        Ok(()) if must_replace => replace(alloc, settings, page),
+        Ok(()) if must_replace => {
+            if let Some(entries) = entries {
+                let class = class_of(settings, entries);
+                if class != Class::Changed || page.pending() <= (settings.max_value as usize).saturating_sub(200) && page.runs_in_memory() <= PENDING_RUNS {
+                    page.raise_fewest(entries);
+                    page.settle();
+                    return Ok((page, WayBack::Settled(class)));
+                }
+            }
+            replace(alloc, settings, page)
+        }
         Ok(()) => Ok((page, WayBack::InFront)),
     }
 }
@@ -126,7 +142,7 @@ impl<V: Cell<Global> + Drop> WayBack<V> {
     {
         match self {
             WayBack::Same(run) => (page, run),
-            WayBack::InFront => popped(page),
+            WayBack::InFront | WayBack::Settled(_) => popped(page),
             WayBack::Replaced {
                 class: _class,
                 husk,
@@ -148,6 +164,7 @@ impl<V> WayBack<V> {
             WayBack::Same(_) => Class::Same,
             WayBack::InFront => Class::Changed,
             WayBack::Replaced { class, .. } => *class,
+            WayBack::Settled(class) => *class,
         }
     }
 
@@ -155,6 +172,6 @@ impl<V> WayBack<V> {
     pub(crate) fn is_replaced(&self) -> bool
         ensures { result ≡ is_replaced_now self.now }
     {
-        matches!(self, WayBack::Replaced { .. })
+        matches!(self, WayBack::Replaced { .. } | WayBack::Settled(_))
     }
 }

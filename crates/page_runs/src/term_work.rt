@@ -116,7 +116,7 @@ impl Work for TermWork {
     fn work(&self, job: TermJob) -> Turn<TermJob, TermDone> {
         let TermJob { page, pid, terms } = job;
         let (low, chain, list_before) = page.into_index();
-        let (chain, way_back) = match put_run(self.alloc, &self.settings, chain, terms) {
+        let (chain, way_back) = match put_run(self.alloc, &self.settings, chain, terms, None) {
             Ok(after) => after,
             Err((chain, terms)) => {
                 return Turn::Back(TermJob {

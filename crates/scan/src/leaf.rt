@@ -42,7 +42,7 @@ impl<'a> LeafPairs<'a> {
     pub fn new(alloc: Global, chain: &'a Chain<Value<Global>, Global>, key: &[u8]) -> Self
         ensures { result ≡ from key.now (entries_of chain.now) }
     {
-        if chain.depth() == 0 {
+        if chain.runs_in_memory() == 0 {
             LeafPairs {
                 way: Way::Plain(BasePairs::new(chain.base(), key)),
             }
@@ -58,8 +58,8 @@ impl<'a> LeafPairs<'a> {
         ensures { self.new ≡ from [] (entries_of chain.now) }
     {
         match &mut self.way {
-            Way::Plain(pairs) if chain.depth() == 0 => *pairs = BasePairs::new(chain.base(), &[]),
-            Way::Merging(merge) if chain.depth() <= 16 => merge.restart(chain, &[]),
+            Way::Plain(pairs) if chain.runs_in_memory() == 0 => *pairs = BasePairs::new(chain.base(), &[]),
+            Way::Merging(merge) if chain.runs_in_memory() <= 16 => merge.restart(chain, &[]),
             _ => *self = LeafPairs::new(alloc, chain, &[]),
         }
     }
@@ -70,7 +70,7 @@ impl<'a> LeafPairs<'a> {
 fn among_runs<'a>(alloc: Global, chain: &'a Chain<Value<Global>, Global>, key: &[u8]) -> Way<'a>
     ensures { pairs_of_way result ≡ from key.now (entries_of chain.now) }
 {
-    if chain.depth() <= 16 {
+    if chain.runs_in_memory() <= 16 {
         Way::Merging(Merge::new(alloc, chain, key))
     } else {
         Way::Searching(Search::new(chain, key))
