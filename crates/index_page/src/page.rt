@@ -1,4 +1,4 @@
-ghost use Rattle.std.specs.Prelude.{◌≡◌, ℕ, ◌∷◌, [], true, ◌↔◌, Option, map, MatchOption, IsTrue};
+ghost use Rattle.std.specs.Prelude.{◌≡◌, ℕ, ◌∷◌, [], true, ◌↔◌, Option, map, MatchOption, IfOk, IsTrue};
 ghost use Rattle.std.specs.List.{filter};
 ghost use Rattle.std.specs.Option.{option_copied, option_map, option_or};
 ghost use Rattle.keys.specs.Bytes.{Bytes};
@@ -16,13 +16,20 @@ use crate::index_state::IndexState;
 use crate::within::{Children, NextChild};
 use delta_chain::{Base, Chain};
 use keys::{Key, Pid, Value, is_before};
-use std::alloc::Allocator;
+use std::alloc::{AllocError, Allocator};
 use std::marker::Model;
+use std::mem;
 
 /// A page of the tree: the low key, at which its range of keys begins, and its state, a chain of values for a leaf and
 /// of page ids for an index page. Contracts see it as a `PageOfKind`.
 #[derive(Drop)]
 pub struct Page<A: Allocator> {
+    kept: Box<Kept<A>, A>,
+}
+
+// What a page keeps in a block of its own.
+#[derive(Drop)]
+struct Kept<A: Allocator> {
     low: Key<A>,
     state: State<A>,
 }
@@ -40,51 +47,62 @@ impl<A: Allocator> Model for Page<A> {
 
     ghost use Rattle.index_page.specs.Stated.{page_of_state};
 
-    ghost view = { λ p. page_of_state p.low p.state };
+    ghost view = { λ p. page_of_state p.kept.low p.kept.state };
 }
 
 impl<A: Allocator + Copy> Page<A> {
     /// The leaf with this low key and these values.
-    pub fn leaf(low: Key<A>, chain: Chain<Value<A>, A>) -> Self
-        ensures { result ≡ Leaf (record { low = low; layers = chain }) }
+    pub fn leaf(alloc: A, low: Key<A>, chain: Chain<Value<A>, A>) -> Result<Self, AllocError>
+        ensures { IfOk result (λ page. page ≡ Leaf (record { low = low; layers = chain })) }
     {
-        Page {
+        let kept = Kept {
             low,
             state: State::Values(chain),
-        }
+        };
+        Ok(Page {
+            kept: Box::new(alloc, kept)?,
+        })
     }
 
     /// The index page with this low key and the page ids of these children, each under the child's low key. Its children in one
     /// list are `ChildList::of` the chain.
-    pub fn index(low: Key<A>, chain: Chain<Pid, A>, list: ChildList<A>) -> Self
+    pub fn index(
+        alloc: A,
+        low: Key<A>,
+        chain: Chain<Pid, A>,
+        list: ChildList<A>,
+    ) -> Result<Self, AllocError>
         requires { IsListOf chain list }
-        ensures { result ≡ Index (record { low = low; layers = chain }) }
+        ensures { IfOk result (λ page. page ≡ Index (record { low = low; layers = chain })) }
     {
-        Page {
+        let kept = Kept {
             low,
             state: State::Pids(IndexState::new(chain, list)),
-        }
+        };
+        Ok(Page {
+            kept: Box::new(alloc, kept)?,
+        })
     }
 
     /// The index page with this low key and this base of children, without runs.
-    pub fn bare_index(low: Key<A>, base: Base<Pid, A>) -> Self
-        ensures { result ≡ Index (bare low base) }
+    pub fn bare_index(alloc: A, low: Key<A>, base: Base<Pid, A>) -> Result<Self, AllocError>
+        ensures { IfOk result (λ page. page ≡ Index (bare low base)) }
     {
-        Page::index(low, Chain::of_base(base), ChildList::none())
+        Page::index(alloc, low, Chain::of_base(base), ChildList::none())
     }
 
     /// The bytes of the low key.
     pub fn low(&self) -> &[u8]
         ensures { result.now ≡ low_of self.now }
     {
-        self.low.as_bytes()
+        self.kept.low.as_bytes()
     }
 
     /// The values, where this is a leaf.
     pub fn as_leaf(&self) -> Option<&Chain<Value<A>, A>>
         ensures { MatchOption result (IsIndex self.now) (λ chain. self.now ≡ Leaf (record { low = low_of self.now; layers = chain.now })) }
     {
-        match &self.state {
+        match &self.kept.state {
             State::Values(chain) => Some(chain),
             State::Pids(_) => None,
         }
@@ -94,7 +112,7 @@ impl<A: Allocator + Copy> Page<A> {
     pub fn as_index(&self) -> Option<&Chain<Pid, A>>
         ensures { MatchOption result (IsLeaf self.now) (λ chain. self.now ≡ Index (record { low = low_of self.now; layers = chain.now })) }
     {
-        match &self.state {
+        match &self.kept.state {
             State::Values(_) => None,
             State::Pids(state) => Some(state.chain()),
         }
@@ -104,36 +122,41 @@ impl<A: Allocator + Copy> Page<A> {
     pub fn child_list(&self) -> Option<&Base<Pid, A>>
         ensures { MatchOption result (IsLeaf self.now) (λ list. (list.now ≡ child_entries self.now) × IsIndex self.now) }
     {
-        match &self.state {
+        match &self.kept.state {
             State::Values(_) => None,
             State::Pids(state) => Some(state.children()),
         }
     }
 
-    /// The low key and the values of this leaf. `as_leaf` is the test for the condition.
-    pub fn into_leaf(self) -> (Key<A>, Chain<Value<A>, A>)
-        requires { IsLeaf self }
-        ensures { self ≡ Leaf (record { low = result.0; layers = result.1 }) }
+    /// Gives this leaf other values, and returns those that it had. It takes no memory. `as_leaf` is the test for the condition.
+    pub fn replace_values(&mut self, chain: Chain<Value<A>, A>) -> Chain<Value<A>, A>
+        requires { IsLeaf self.old }
+        ensures before { self.old ≡ Leaf (record { low = low_of self.old; layers = result }) }
+        ensures after { self.new ≡ Leaf (record { low = low_of self.old; layers = chain }) }
     {
-        let Page { low, state } = self;
-        match state {
-            State::Values(chain) => (low, chain),
+        match &mut self.kept.state {
+            State::Values(values) => mem::replace(values, chain),
             State::Pids(_) => unreachable!(),
         }
     }
 
-    /// The low key and the page ids of this index page, with its children in one list. `as_index` is the test for the condition.
-    pub fn into_index(self) -> (Key<A>, Chain<Pid, A>, ChildList<A>)
-        requires { IsIndex self }
-        ensures page { self ≡ Index (record { low = result.0; layers = result.1 }) }
-        ensures list { IsListOf result.1 result.2 }
+    /// Gives this index page other children, and returns those that it had, with their list. It takes no memory. `as_index` is the test for the condition.
+    pub fn replace_children(
+        &mut self,
+        chain: Chain<Pid, A>,
+        list: ChildList<A>,
+    ) -> (Chain<Pid, A>, ChildList<A>)
+        requires index { IsIndex self.old }
+        requires listed { IsListOf chain list }
+        ensures before { self.old ≡ Index (record { low = low_of self.old; layers = result.0 }) }
+        ensures after { self.new ≡ Index (record { low = low_of self.old; layers = chain }) }
+        ensures list { IsListOf result.0 result.1 }
     {
-        let Page { low, state } = self;
-        match state {
+        match &mut self.kept.state {
             State::Values(_) => unreachable!(),
             State::Pids(state) => {
-                let (chain, list) = state.into_parts();
-                (low, chain, list)
+                let before = mem::replace(state, IndexState::new(chain, list));
+                before.into_parts()
             }
         }
     }

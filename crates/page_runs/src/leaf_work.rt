@@ -5,6 +5,7 @@ use crate::class::Class;
 use crate::page_after::{WayBack, put_run};
 use crate::replay::replay;
 use crew::{Turn, Work};
+use delta_chain::{Base, Chain};
 use index_page::Page;
 use keys::{Command, Pid, Pieces, Settings, Value};
 use routing::PageRun;
@@ -129,45 +130,42 @@ impl<'a> Work for LeafWork<'a> {
     ghost made = { λ w h. leaf_made w.settings w.commands.now h };
 
     fn work(&self, job: LeafJob) -> Turn<LeafJob, LeafDone> {
-        let LeafJob { page, page_run } = job;
-        let (low, chain) = page.into_leaf();
+        let LeafJob { mut page, page_run } = job;
+        let chain = page.replace_values(Chain::of_base(Base::empty(self.alloc)));
         let Ok((run, pieces, fewest)) = replay(self.alloc, self.commands, &chain, page_run.places())
         else {
-            return Turn::Back(LeafJob {
-                page: Page::leaf(low, chain),
-                page_run,
-            });
+            let _empty = page.replace_values(chain);
+            return Turn::Back(LeafJob { page, page_run });
         };
         match put_run(self.alloc, &self.settings, chain, run) {
             Ok((mut chain, way_back)) => {
                 // The replies tell which entries came and went, and the chain by itself knows only how many were named.
                 chain.raise_fewest(fewest);
+                let _empty = page.replace_values(chain);
                 Turn::Done(LeafDone {
-                    page: Page::leaf(low, chain),
+                    page,
                     way_back,
                     page_run,
                     pieces,
                 })
             }
-            Err((chain, _run)) => Turn::Back(LeafJob {
-                page: Page::leaf(low, chain),
-                page_run,
-            }),
+            Err((chain, _run)) => {
+                let _empty = page.replace_values(chain);
+                Turn::Back(LeafJob { page, page_run })
+            }
         }
     }
 
     fn undo(&self, done: LeafDone) -> LeafJob {
         let LeafDone {
-            page,
+            mut page,
             way_back,
             page_run,
             pieces: _,
         } = done;
-        let (low, chain) = page.into_leaf();
+        let chain = page.replace_values(Chain::of_base(Base::empty(self.alloc)));
         let (chain, _run) = way_back.undo(self.alloc, chain);
-        LeafJob {
-            page: Page::leaf(low, chain),
-            page_run,
-        }
+        let _empty = page.replace_values(chain);
+        LeafJob { page, page_run }
     }
 }

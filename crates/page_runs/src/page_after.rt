@@ -20,7 +20,7 @@ pub(crate) enum WayBack<V> {
     /// The page is a new one. Of the page before, with the run in front, all is kept but the cells that were moved into the new one.
     Replaced {
         class: Class,
-        husk: Chain<V, Global>,
+        husk: Box<Chain<V, Global>, Global>,
     },
 }
 
@@ -81,7 +81,10 @@ fn replace<V: Cell<Global> + Drop>(
     match take_base(alloc, &mut husk) {
         Ok(base) => {
             let class = class_of(settings, base.len());
-            Ok((Chain::of_base(base), WayBack::Replaced { class, husk }))
+            match Box::new(alloc, husk) {
+                Ok(husk) => Ok((Chain::of_base(base), WayBack::Replaced { class, husk })),
+                Err(_) => unreachable!(),
+            }
         }
         Err(_) => Err(popped(husk)),
     }
@@ -131,7 +134,7 @@ impl<V: Cell<Global> + Drop> WayBack<V> {
                 class: _class,
                 husk,
             } => {
-                let mut before = husk;
+                let mut before = Box::into_inner(husk);
                 put_back(alloc, &mut before, page.into_base());
                 popped(before)
             }

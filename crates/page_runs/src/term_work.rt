@@ -4,7 +4,7 @@ ghost use Rattle.index_page.specs.Page.PageOfKind.{Index};
 use crate::class::Class;
 use crate::page_after::{WayBack, put_run};
 use crew::{Turn, Work};
-use delta_chain::Run;
+use delta_chain::{Base, Chain, Run};
 use index_page::{ChildList, Page};
 use keys::{Pid, Settings};
 use std::alloc::Global;
@@ -114,49 +114,49 @@ impl Work for TermWork {
     ghost made = { λ w h. index_made w.settings h };
 
     fn work(&self, job: TermJob) -> Turn<TermJob, TermDone> {
-        let TermJob { page, pid, terms } = job;
-        let (low, chain, list_before) = page.into_index();
+        let TermJob {
+            mut page,
+            pid,
+            terms,
+        } = job;
+        let (chain, list_before) =
+            page.replace_children(Chain::of_base(Base::empty(self.alloc)), ChildList::none());
         let (chain, way_back) = match put_run(self.alloc, &self.settings, chain, terms) {
             Ok(after) => after,
             Err((chain, terms)) => {
-                return Turn::Back(TermJob {
-                    page: Page::index(low, chain, list_before),
-                    pid,
-                    terms,
-                });
+                let _none = page.replace_children(chain, list_before);
+                return Turn::Back(TermJob { page, pid, terms });
             }
         };
         match ChildList::of(self.alloc, &chain) {
-            Ok(list) => Turn::Done(TermDone {
-                page: Page::index(low, chain, list),
-                way_back,
-                list_before,
-                pid,
-            }),
+            Ok(list) => {
+                let _none = page.replace_children(chain, list);
+                Turn::Done(TermDone {
+                    page,
+                    way_back,
+                    list_before,
+                    pid,
+                })
+            }
             Err(_refused) => {
                 let (chain, terms) = way_back.undo(self.alloc, chain);
-                Turn::Back(TermJob {
-                    page: Page::index(low, chain, list_before),
-                    pid,
-                    terms,
-                })
+                let _none = page.replace_children(chain, list_before);
+                Turn::Back(TermJob { page, pid, terms })
             }
         }
     }
 
     fn undo(&self, done: TermDone) -> TermJob {
         let TermDone {
-            page,
+            mut page,
             way_back,
             list_before,
             pid,
         } = done;
-        let (low, chain, _list_now) = page.into_index();
+        let (chain, _list_now) =
+            page.replace_children(Chain::of_base(Base::empty(self.alloc)), ChildList::none());
         let (chain, terms) = way_back.undo(self.alloc, chain);
-        TermJob {
-            page: Page::index(low, chain, list_before),
-            pid,
-            terms,
-        }
+        let _none = page.replace_children(chain, list_before);
+        TermJob { page, pid, terms }
     }
 }

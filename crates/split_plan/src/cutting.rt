@@ -110,5 +110,5 @@ fn bare_page<V: Kind>(
 {
     let low = Key::from_bytes(alloc, low)?;
     let base = copied_base(alloc, entries)?;
-    Ok(V::page(low, base))
+    V::page(alloc, low, base)
 }

@@ -1,10 +1,10 @@
-ghost use Rattle.std.specs.Prelude.{◌≡◌};
+ghost use Rattle.std.specs.Prelude.{◌≡◌, IfOk};
 ghost use Rattle.index_page.specs.Page.{bare};
 
 use delta_chain::{Base, Chain};
 use index_page::Page;
 use keys::{Cell, Key, Pid, Value};
-use std::alloc::Global;
+use std::alloc::{AllocError, Global};
 
 /// A kind of page, by the cells that its pages have: values for leaves, page ids for index pages.
 pub(crate) trait Kind: Cell<Global> + Drop {
@@ -25,8 +25,12 @@ pub(crate) trait Kind: Cell<Global> + Drop {
         ensures { result.now ≡ (taken page.now).layers };
 
     /// The page of this low key and this base.
-    fn page(low: Key<Global>, base: Base<Self, Global>) -> Page<Global>
-        ensures { result ≡ made (bare low base) };
+    fn page(
+        alloc: Global,
+        low: Key<Global>,
+        base: Base<Self, Global>,
+    ) -> Result<Page<Global>, AllocError>
+        ensures { IfOk result (λ page. page ≡ made (bare low base)) };
 
     // It has its low key, taken as one of any kind.
     ghost keeps_low: { (p : PageOfKind) → (taken p).low ≡ low_of p };
@@ -52,10 +56,14 @@ impl Kind for Value<Global> {
         }
     }
 
-    fn page(low: Key<Global>, base: Base<Self, Global>) -> Page<Global>
-        ensures { result ≡ Leaf (bare low base) }
+    fn page(
+        alloc: Global,
+        low: Key<Global>,
+        base: Base<Self, Global>,
+    ) -> Result<Page<Global>, AllocError>
+        ensures { IfOk result (λ page. page ≡ Leaf (bare low base)) }
     {
-        Page::leaf(low, Chain::of_base(base))
+        Page::leaf(alloc, low, Chain::of_base(base))
     }
 }
 
@@ -79,9 +87,13 @@ impl Kind for Pid {
         }
     }
 
-    fn page(low: Key<Global>, base: Base<Self, Global>) -> Page<Global>
-        ensures { result ≡ Index (bare low base) }
+    fn page(
+        alloc: Global,
+        low: Key<Global>,
+        base: Base<Self, Global>,
+    ) -> Result<Page<Global>, AllocError>
+        ensures { IfOk result (λ page. page ≡ Index (bare low base)) }
     {
-        Page::bare_index(low, base)
+        Page::bare_index(alloc, low, base)
     }
 }
