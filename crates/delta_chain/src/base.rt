@@ -141,6 +141,16 @@ impl<V, A: Allocator + Copy> Base<V, A> {
 }
 
 impl<V: Drop, A: Allocator + Copy> Base<V, A> {
+    pub(crate) fn of_cells(alloc: A, room: usize, entries: &[(&[u8], &V)], cells: Vec<V, A>) -> Result<Self, AllocError> {
+        let mut bytes = Vec::with_capacity(alloc, room)?;
+        let mut ends = Vec::with_capacity(alloc, entries.len())?;
+        for entry in entries {
+            bytes.extend_from_slice(entry.0)?;
+            ends.push_reserved(bytes.len());
+        }
+        Ok(Base { bytes, ends, cells })
+    }
+
     // Puts an entry with a copy of the key behind the others. Where memory is refused they stay as they are.
     pub(crate) fn push(&mut self, key: &[u8], cell: V) -> Result<(), AllocError>
         requires { goes_last key.now self.old ≡ true }

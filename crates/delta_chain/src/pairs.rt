@@ -89,12 +89,8 @@ pub fn copied_base<V: Cell<A> + Drop, A: Allocator + Copy>(
     requires { IsRising (pairs_lent entries.now) }
     ensures { IfOk result (λ base. base ≡ pairs_lent entries.now) }
 {
-    let mut builder = BaseBuilder::with_capacity(alloc, entries.len(), key_bytes(entries))?;
-    for entry in entries {
-        let cell = entry.1.copy(alloc)?;
-        builder.push_next(entry.0, cell)?;
-    }
-    Ok(builder.finish())
+    let cells = V::copies(alloc, entries)?;
+    Base::of_cells(alloc, key_bytes(entries), entries, cells)
 }
 
 // How many bytes the keys of these entries have together, or the greatest `usize` where that is less.

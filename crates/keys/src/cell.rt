@@ -12,6 +12,9 @@ pub trait Cell<A: Allocator + Copy> {
 
     /// A cell that takes no memory, to stand where another was taken out. What it says is of no account.
     fn blank(alloc: A) -> Self;
+
+    /// Copies of these.
+    fn copies(alloc: A, entries: &[(&[u8], &Self)]) -> Result<Vec<Self, A>, AllocError>;
 }
 
 impl<A: Allocator + Copy> Cell<A> for Value<A> {
@@ -22,6 +25,10 @@ impl<A: Allocator + Copy> Cell<A> for Value<A> {
     fn blank(alloc: A) -> Self {
         Value::empty(alloc)
     }
+
+    fn copies(alloc: A, entries: &[(&[u8], &Self)]) -> Result<Vec<Self, A>, AllocError> {
+        Value::copies(alloc, entries)
+    }
 }
 
 impl<A: Allocator + Copy> Cell<A> for Pid {
@@ -31,5 +38,13 @@ impl<A: Allocator + Copy> Cell<A> for Pid {
 
     fn blank(_alloc: A) -> Self {
         Pid(0)
+    }
+
+    fn copies(alloc: A, entries: &[(&[u8], &Self)]) -> Result<Vec<Self, A>, AllocError> {
+        let mut cells = Vec::with_capacity(alloc, entries.len())?;
+        for entry in entries {
+            cells.push_reserved(*entry.1);
+        }
+        Ok(cells)
     }
 }
