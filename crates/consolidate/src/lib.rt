@@ -10,7 +10,7 @@ use keys::{Cell, KeyRef};
 use std::alloc::{AllocError, Allocator};
 
 // Each key's cell is looked for in one run after another. Among more runs than these that takes longer than a copy of the cell.
-const FEW_RUNS: u64 = 8;
+const FEW_RUNS: u64 = 0;
 
 /// The base of the page's entries: each key that is present, with a copy of its cell. The chain is only read.
 pub fn consolidate<V: Cell<A> + Drop, A: Allocator + Copy>(

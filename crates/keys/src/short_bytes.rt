@@ -57,6 +57,14 @@ impl ShortBytes {
         })
     }
 
+    pub(crate) fn again(&self) -> Self {
+        ShortBytes {
+            words: [],
+            len: self.len,
+            places: self.places,
+        }
+    }
+
     /// The bytes.
     #[inline]
     pub(crate) fn as_bytes(&self) -> &[u8]

@@ -52,49 +52,70 @@ impl<A: Allocator + Copy> Value<A> {
         Value::from_bytes(alloc, self.as_bytes())
     }
 
-    /// Copies of these values in one block.
+    /// Values equal to these, which share the blocks of theirs where at least half of such a block is in use, and stand in one new block else.
     pub fn copies(alloc: A, entries: &[(&[u8], &Value<A>)]) -> Result<Vec<Value<A>, A>, AllocError> {
-        let block = block_of(alloc, entries)?;
         let mut cells = Vec::with_capacity(alloc, entries.len())?;
-        let mut start = 0usize;
+        let mut room = 0usize;
         for entry in entries {
-            let bytes = entry.1.as_bytes();
-            let cell = match ShortBytes::from_bytes(bytes) {
-                Some(short) => Value {
-                    form: Form::Short(short),
-                },
+            let value = entry.1;
+            match value.shared()? {
+                Some(cell) => cells.push_reserved(cell),
                 None => {
-                    let end = start + bytes.len();
-                    let block = block.clone()?;
-                    let piece = Piece { block, start, end };
-                    start = end;
-                    Value {
-                        form: Form::Piece(piece),
-                    }
+                    room = room.saturating_add(value.len());
+                    cells.push_reserved(Value::empty(alloc));
                 }
-            };
-            cells.push_reserved(cell);
+            }
+        }
+        if room > 0 {
+            fill(alloc, entries, &mut cells, room)?;
         }
         Ok(cells)
     }
+
+    fn shared(&self) -> Result<Option<Value<A>>, AllocError> {
+        match &self.form {
+            Form::Short(short) => Ok(Some(Value {
+                form: Form::Short(short.again()),
+            })),
+            Form::Long(_long) => Ok(None),
+            Form::Piece(piece) => piece.again(),
+        }
+    }
 }
 
-fn block_of<A: Allocator + Copy>(alloc: A, entries: &[(&[u8], &Value<A>)]) -> Result<Arc<Vec<u8, A>, A>, AllocError> {
-    let mut room = 0usize;
-    for entry in entries {
-        let count = entry.1.len();
-        if count > 23 {
-            room = room.saturating_add(count);
+impl<A: Allocator + Copy> Piece<A> {
+    fn again(&self) -> Result<Option<Value<A>>, AllocError> {
+        let len = self.end - self.start;
+        let used = Arc::strong_count(&self.block).saturating_mul(len);
+        if used.saturating_mul(2) < self.block.len() {
+            return Ok(None);
         }
+        let block = self.block.clone()?;
+        let piece = Piece { block, start: self.start, end: self.end };
+        Ok(Some(Value { form: Form::Piece(piece) }))
     }
+}
+
+fn fill<A: Allocator + Copy>(alloc: A, entries: &[(&[u8], &Value<A>)], cells: &mut Vec<Value<A>, A>, room: usize) -> Result<(), AllocError> {
     let mut bytes = Vec::with_capacity(alloc, room)?;
-    for entry in entries {
-        let value = entry.1.as_bytes();
-        if value.len() > 23 {
-            bytes.extend_from_slice(value)?;
+    for at in 0..entries.len() {
+        if cells[at].is_blank() {
+            bytes.extend_from_slice(entries[at].1.as_bytes())?;
         }
     }
-    Ok(Arc::new(alloc, bytes)?)
+    let block = Arc::new(alloc, bytes)?;
+    let mut start = 0usize;
+    for at in 0..entries.len() {
+        if cells[at].is_blank() {
+            let end = start.saturating_add(entries[at].1.len());
+            if end > start {
+                let block = block.clone()?;
+                cells[at] = Value { form: Form::Piece(Piece { block, start, end }) };
+                start = end;
+            }
+        }
+    }
+    Ok(())
 }
 
 impl<A: Allocator> Value<A> {
@@ -106,6 +127,10 @@ impl<A: Allocator> Value<A> {
             Form::Long(long) => long.as_slice(),
             Form::Piece(piece) => &piece.block.as_slice()[piece.start..piece.end],
         }
+    }
+
+    fn is_blank(&self) -> bool {
+        self.len() == 0
     }
 
     /// How many bytes the value has.
