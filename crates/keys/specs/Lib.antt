@@ -14,6 +14,7 @@ pub mod Places
 pub mod Range
 pub mod Results
 pub mod RowBytes
+pub mod Shared
 pub mod Sizes
 pub mod Step
 pub mod Words

@@ -17,6 +17,7 @@ pub mod piece;
 pub mod pieces;
 pub mod row_list;
 pub mod settings;
+mod shared_bytes;
 mod short_bytes;
 pub mod value;
 pub mod version;
