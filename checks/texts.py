@@ -13,12 +13,14 @@ SMALL_MEMORY = 100 * MEGABYTE
 
 @dataclass(frozen=True)
 class Text:
-    """A batch file, and how a session that runs it must end, print and say."""
+    """A batch file, and how a session that runs it must end, print and say; the most seconds that it may take, where that is said, and the most memory."""
 
     name: str
     made: Callable[[], bytes]
     ending: tuple[int, bytes, bytes]
     words: tuple[str, ...] = ()
+    seconds: float | None = None
+    memory: int | None = None
 
 
 def bad(why: str, line: int = 1) -> tuple[int, bytes, bytes]:
@@ -53,6 +55,15 @@ def answered_in_turn() -> bytes:
     return b"new\n" * (TURNS * STEP) + b"".join(b"wiped %d\nrows %d\n" % (STEP, len(found)) + b"".join(found) for found in rows)
 
 
+def least_taken(count: int, turns: int) -> bytes:
+    """The least key deleted, and the next one looked for, again and again in one batch."""
+    return puts(count) + b"".join(b"del %06d\nscan %% * 1\n" % turn for turn in range(turns))
+
+
+def answered_least(count: int, turns: int) -> bytes:
+    return b"new\n" * count + b"".join(b"deleted\nrows 1\n%06d v\n" % (turn + 1) for turn in range(turns))
+
+
 TEXTS = [
     Text("no bytes", lambda: b"", NOTHING),
     Text("a line of 1 MB", lambda: LONG, bad("unknown command")),
@@ -76,6 +87,7 @@ TEXTS = [
     Text("a wipe of all", lambda: puts(65_535) + b"wipe % *\nscan % * 9\n", (0, b"new\n" * 65_535 + b"wiped 65535\nrows 0\n", b"")),
     Text("wipes and scans in turn, each where the last one ended", lambda: in_turn(b""), (0, answered_in_turn(), b"")),
     Text("wipes and scans in turn, from the first key on", lambda: in_turn(b"%"), (0, answered_in_turn(), b"")),
+    Text("the least key taken 30,000 times", lambda: least_taken(65_535, 30_000), (0, answered_least(65_535, 30_000), b""), seconds=5.0, memory=300 * MEGABYTE),
 ]
 
 
@@ -83,9 +95,10 @@ def run_text(programs: Programs, number: int) -> Outcome:
     text = TEXTS[number]
     made = text.made()
     ran = run([programs.store, *text.words], made)
-    most = SLOW * max(1.0, len(made) / MEGABYTE)
+    most = text.seconds or SLOW * max(1.0, len(made) / MEGABYTE)
     slow = f"{ran.seconds:.2f} s of the processor, where {most:.2f} are the most" if ran.seconds > most else None
-    return Outcome(differs(ran, *text.ending) or slow, measured=f"{ran.seconds:.2f} s, {ran.memory / MEGABYTE:.0f} MB")
+    large = f"{ran.memory / MEGABYTE:.0f} MB, where {text.memory / MEGABYTE:.0f} are the most" if text.memory and ran.memory > text.memory else None
+    return Outcome(differs(ran, *text.ending) or slow or large, measured=f"{ran.seconds:.2f} s, {ran.memory / MEGABYTE:.0f} MB")
 
 
 def line_of(byte: int) -> tuple[int, bytes, bytes]:

@@ -13,6 +13,7 @@ mod EndedRoutes
 mod Executed
 mod FlushDone
 mod InTurn
+mod LaterLemmas
 mod LeafRoutes
 mod OpenedLemmas
 mod OwnRuns

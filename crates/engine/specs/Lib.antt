@@ -2,6 +2,7 @@ pub mod Batch
 pub mod Batches
 pub mod Calls
 pub mod Late
+pub mod LaterScans
 pub mod Leaves
 pub mod Opened
 pub mod Plays

@@ -43,6 +43,7 @@ mod frame_rows;
 mod full_log_rows;
 #[cfg(test)]
 mod held_pieces;
+mod later_scans;
 pub mod laws;
 mod leaves;
 #[cfg(test)]

@@ -24,7 +24,7 @@ mod play;
 mod reopen;
 mod upgrade;
 
-use crate::execute::execute;
+use crate::later_scans::execute_batch;
 use crate::laws::a_batch_stays_in_step;
 use crate::refusal::{admit, admit_crew};
 use crew::{Crew, Gate};
@@ -189,7 +189,7 @@ impl<D: Disk> Store<D> {
         }
         admit_crew(crew)?;
         admit(&self.settings, commands)?;
-        let replies = execute(
+        let replies = execute_batch(
             rt,
             crew,
             gate,

@@ -5,8 +5,8 @@ use Rattle.engine.proofs.Admitted.{admitted, passed_by}
 use Rattle.engine.proofs.BatchDone.{batched-sound, unrefused}
 use Rattle.engine.proofs.store.Store.batch.Goals as goal
 
-pub execute-requires-clause-short : goal.execute-requires-clause-short
-execute-requires-clause-short g c κs within =
+pub execute_batch-requires-clause-short : goal.execute_batch-requires-clause-short
+execute_batch-requires-clause-short g c κs within =
     admitted c.self.inside.settings c.args.commands.now (passed_by (refusal c.self.inside.settings c.args.commands.now) c.admit.result tt c.in_ok-admit.field-0 c.admit.ensures (search rules))
 
 pub invariant_of-self-2 : goal.invariant_of-self-2
@@ -16,12 +16,12 @@ invariant_of-self-2 g c =
     let cs = c.args.commands.now in
     let own = passed_by (refusal s cs) c.admit.result tt c.in_ok-admit.field-0 c.admit.ensures (search rules) in
     let planned = c.in_ok-replies.ensures.tree in
-    let none = unrefused s t c.execute.new.tree cs own c.execute.ensures.sound.sound.height planned in
-    let words : c.execute.new.tree.root < 2 ^ 64 = (search rules) in
-    subst (λ b. IsSoundStore g.D.Disk.view s c.execute.new.tree c.self.inside.log c.self.inside.version c.self.inside.disk b) (sym c.if-self.false)
-    (batched-sound g.D.Disk.view s t c.execute.new.tree c.self.inside.log c.self.inside.version c.self.inside.disk cs
+    let none = unrefused s t c.execute_batch.new.tree cs own c.execute_batch.ensures.sound.sound.height planned in
+    let words : c.execute_batch.new.tree.root < 2 ^ 64 = (search rules) in
+    subst (λ b. IsSoundStore g.D.Disk.view s c.execute_batch.new.tree c.self.inside.log c.self.inside.version c.self.inside.disk b) (sym c.if-self.false)
+    (batched-sound g.D.Disk.view s t c.execute_batch.new.tree c.self.inside.log c.self.inside.version c.self.inside.disk cs
     (subst (λ b. IsSoundStore g.D.Disk.view s t c.self.inside.log c.self.inside.version c.self.inside.disk b) c.if-self.false c.self.invariant)
-    c.execute.ensures.sound.home planned none words c.a_batch_stays_in_step.ensures.kept c.a_batch_stays_in_step.ensures.step)
+    c.execute_batch.ensures.sound.home planned none words c.a_batch_stays_in_step.ensures.kept c.a_batch_stays_in_step.ensures.step)
 
 pub returns-clause-sound : goal.returns-clause-sound
 returns-clause-sound g c = (rw (← c.self.view_is) c.self.invariant.sound, (invariant_of-self-2 g c).sound)
