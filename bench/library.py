@@ -16,11 +16,12 @@ BUILT = HERE / "out"  # where the programs are kept
 NAMES = ["crew", "range", "cleaning"]  # the folders of their sources
 
 
-def copy_repository(folder):
-    """Copies the crates with what was checked and built of them, so that no more than the new ones is proved."""
+def copy_repository(folder, is_proved):
+    """Copies the crates; where the new ones are to be proved, with what was checked and built of them, so that no more is proved."""
     for name in ("HANDLES", "crates.txt"):
         shutil.copy2(TOP / name, folder / name)
-    shutil.copytree(TOP / "crates", folder / "crates", symlinks=True)
+    left_out = None if is_proved else shutil.ignore_patterns("out")
+    shutil.copytree(TOP / "crates", folder / "crates", symlinks=True, ignore=left_out)
 
 
 def add_crate(folder, name):
@@ -57,7 +58,7 @@ def build(names, folder, is_proved):
     folder.mkdir(parents=True, exist_ok=True)
     with tempfile.TemporaryDirectory() as made:
         copied = Path(made)
-        copy_repository(copied)
+        copy_repository(copied, is_proved)
         for name in names:
             crate = add_crate(copied, name)
             print(f"  building {crate.name}", file=sys.stderr)
