@@ -2,7 +2,8 @@
 """Counts what a batch costs, by valgrind's callgrind: instructions a command, and misses of a last cache of 2 MB, phase by phase.
 
 The same program on the same commands counts the same whatever else the machine does, so it tells two trees apart where times can't. It builds
-`crew/` without a proof over the crates of each tree (`library.py`); the counts are of such builds alone. It needs valgrind and a C compiler.
+`crew/` without a proof over the crates of each tree (`library.py`); the counts are of such builds alone. What other threads do is not counted, so
+batches are shorter than the 4,096 commands from which on some trees sort by several threads. It needs valgrind and a C compiler.
 """
 
 import argparse
@@ -71,7 +72,7 @@ def main():
     parser = argparse.ArgumentParser(description=__doc__.splitlines()[0])
     parser.add_argument("trees", nargs="*", type=Path, default=[HERE.parent], help="checkouts to be compared; this one where none is given")
     parser.add_argument("--pairs", type=int, default=60_000)
-    parser.add_argument("--batch", type=int, default=4_096, help="commands in a batch")
+    parser.add_argument("--batch", type=int, default=4_000, help="commands in a batch")
     parser.add_argument("--value", type=int, default=100, help="bytes of a value, 200 at the most")
     parser.add_argument("--singles", type=int, default=2_000, help="puts of one in a batch")
     parser.add_argument("--settings", nargs="*", choices=SETTINGS, default=list(SETTINGS))
