@@ -1,11 +1,11 @@
 -- The list of a chain's runs, the oldest first, and the page that they make.
-use Rattle.std.specs.Prelude.{◌≡◌, ◌⊎◌, ℕ, zero, suc, ◌+◌, ◌-◌, ◌≤◌, ◌^◌, Bool, if◌then◌else◌, List, [], ◌∷◌, ◌++◌, length, min, get_or, take, drop, reverse, slice_get, Option, Some, None}
+use Rattle.std.specs.Prelude.{◌≡◌, ◌⊎◌, ℕ, zero, suc, ◌+◌, ◌-◌, ◌<◌, ◌≤◌, ◌^◌, Bool, if◌then◌else◌, List, [], ◌∷◌, ◌++◌, length, min, get_or, take, drop, reverse, slice_get, Option, Some, None}
 use Rattle.std.proofs.Common.{refl, sym, ap, ◌∙◌, arith}
 use Rattle.std.specs.Map.{keys_of, values_of}
 use Rattle.std.specs.List.{sum_by}
 use Rattle.std.specs.Option.{unwrap_or}
-use Rattle.std.proofs.lemmas.List.{reverse-append, length-reverse, take_all, take_at}
-use Rattle.std.proofs.lemmas.List.Sums.{sum_by-cons, sum_by_push}
+use Rattle.std.proofs.lemmas.List.{reverse-append, length-reverse, take_all, take_at, take_rest}
+use Rattle.std.proofs.lemmas.List.Sums.{sum_by-cons, sum_by_push, sum_by_more}
 use Rattle.keys.specs.Bytes.{Changes}
 use Rattle.keys.specs.Order.{IsRising}
 use Rattle.keys.specs.OrderedMap.{value_at}
@@ -85,8 +85,8 @@ module _ {V : Type 0} where
       let long = length-reverse items in
       ap (λ (runs : List (Changes V)). record { runs = runs; base = base }) (reverse-oldest items count (omega (arith, l, long)))
 
-  pub page-newer : (items : List (Changes V)) (base : List (List ℕ × V)) (count : ℕ) → Page (drop count items) base ≡ record { runs = take (length (reverse items) - count) (reverse items); base = base }
-  page-newer items base count = ap (λ (runs : List (Changes V)). record { runs = runs; base = base }) (reverse-newer items count)
+  pub page-newer : (items : List (Changes V)) (base : List (List ℕ × V)) (count : ℕ) → Page (take (length items - count) (drop count items)) base ≡ record { runs = take (length (reverse items) - count) (reverse items); base = base }
+  page-newer items base count = rw (take_rest items count) (ap (λ (runs : List (Changes V)). record { runs = runs; base = base }) (reverse-newer items count))
 
   -- ---- how many changes they have
 
@@ -100,15 +100,17 @@ module _ {V : Type 0} where
       rw (reverse-append (run ∷ []) runs) sum
 
   -- one more of them, and all
-  pub changes-next : (runs : List (Changes V)) (at : ℕ) (run : Changes V) (named n more top : ℕ) → slice_get runs at ≡ Some run → named ≡ min (sum_by (λ run. length run) (take at runs)) top → n ≡ length run → more ≡ min (named + n) top
+  pub changes-next : (runs : List (Changes V)) (at : ℕ) (run : Changes V) (named n more top : ℕ) → at < length runs → run ≡ get_or runs at run → named ≡ min (sum_by (λ run. length run) (take at runs)) top → n ≡ length run → more ≡ min (named + n) top
       → more ≡ min (sum_by (λ run. length run) (take (at + 1) runs)) top
-  changes-next runs at run named n more top h e s t =
-      let step : at + 1 ≡ suc at = omega arith in
-      let last = sum_by_push (λ (r : Changes V). length r) (take at runs) run in
-      rw (step, take-behind runs at run h) (more_by named n more top _ _ (length run) e s t last)
+  changes-next runs at run named n more top l h e s t =
+      let last = sum_by_more (λ (r : Changes V). length r) runs at run l in
+      let same : length (get_or runs at run) ≡ length run = ap (λ (r : Changes V). length r) (sym h) in
+      more_by named n more top (sum_by (λ r. length r) (take at runs)) (sum_by (λ r. length r) (take (at + 1) runs)) (length run) e s t (rw same at last)
 
   pub changes-all : (runs : List (Changes V)) (at named top : ℕ) → length runs ≤ at → named ≡ min (sum_by (λ run. length run) (take at runs)) top → named ≡ min (sum_by (λ run. length run) (reverse runs)) top
-  changes-all runs at named top l e = rw changes-reversed runs (rw (take_all at runs l) at e)
+  changes-all runs at named top l e =
+      let all = rw (take_all at runs l) at e in
+      rw (changes-reversed runs) all
 
   -- ---- that the keys of all of them rise
 
