@@ -1,4 +1,4 @@
-ghost use Rattle.std.specs.Prelude.{◌≡◌, ◌<◌, ◌≤◌, ◌+◌, ◌-◌, ◌∷◌, [], false, List, length, min, drop, reverse, vec_len, vec_capacity, if◌then◌else◌, OnOk, OnErr, IfOk, IfErr, MatchOption};
+ghost use Rattle.std.specs.Prelude.{◌≡◌, ◌<◌, ◌≤◌, ◌+◌, ◌-◌, ◌∷◌, [], false, List, length, min, take, drop, reverse, vec_len, vec_capacity, if◌then◌else◌, OnOk, OnErr, IfOk, IfErr, MatchOption};
 ghost use Rattle.std.specs.List.{sum_by};
 ghost use Rattle.std.specs.Option.{unwrap_or};
 ghost use Rattle.keys.specs.Bytes.{Bytes};
@@ -159,7 +159,8 @@ impl<V, A: Allocator + Copy> Chain<V, A> {
 
     /// How many runs there are.
     pub fn run_count(&self) -> usize
-        ensures { result ≡ depth_of self.now }
+        ensures count { result ≡ depth_of self.now }
+        ensures rising { IsInOrder self.now }
     {
         self.runs.len()
     }
@@ -216,6 +217,17 @@ impl<V, A: Allocator + Copy> Chain<V, A> {
     {
         ChainRef {
             runs: &self.runs[..count],
+            base: &self.base,
+        }
+    }
+
+    // The runs but for so many of the oldest, and the base.
+    pub(crate) fn newest_above(&self, count: usize) -> ChainRef<'_, V, A>
+        requires { count ≤ length self.now.runs }
+        ensures { result ≡ record { runs = take (length self.now.runs - count) self.now.runs; base = self.now.base } }
+    {
+        ChainRef {
+            runs: &self.runs[count..],
             base: &self.base,
         }
     }

@@ -2,7 +2,7 @@
 ghost use Rattle.std.specs.Prelude.{◌≡◌, ◌≤◌, ◌∷◌, [], length, min, OnOk, OnErr, IfOk, IfErr, MatchOption};
 ghost use Rattle.keys.specs.Order.{IsRising};
 ghost use Rattle.delta_chain.specs.Late.{below_of, seen};
-ghost use Rattle.delta_chain.specs.Layers.{depth_of, entries_of};
+ghost use Rattle.delta_chain.specs.Layers.{depth_of, entries_of, IsInOrder};
 
 use crate::base::Base;
 use crate::chain::{Chain, ChainRef, EntryBounds};
@@ -57,7 +57,8 @@ impl<V, A: Allocator + Copy> LateChain<V, A> {
 
     /// How many runs the page has, up to the greatest `u64`.
     pub fn depth(&self) -> u64
-        ensures { result ≡ min (depth_of (seen self.now)) u64.MAX }
+        ensures count { result ≡ min (depth_of (seen self.now)) u64.MAX }
+        ensures rising { IsInOrder (seen self.now) }
     {
         (self.chain.run_count() - self.settled) as u64
     }
@@ -67,6 +68,13 @@ impl<V, A: Allocator + Copy> LateChain<V, A> {
         ensures { result ≡ below_of self.now }
     {
         self.chain.oldest(self.settled)
+    }
+
+    /// The page's runs, to be gone down through from the newest one, over the base in memory, which needn't be the page's.
+    pub fn open_lent(&self) -> ChainRef<'_, V, A>
+        ensures { result ≡ record { runs = (seen self.now).runs; base = self.now.chain.base } }
+    {
+        self.chain.newest_above(self.settled)
     }
 
     /// The pairs of the page's base, lent. `AllocError` comes only where memory was refused.
