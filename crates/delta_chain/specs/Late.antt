@@ -1,5 +1,5 @@
 -- A chain in memory some of whose oldest runs count as merged with its base, and the page that it stands for.
-use Rattle.std.specs.Prelude.{ℕ, ◌-◌, [], length, take, drop}
+use Rattle.std.specs.Prelude.{ℕ, ◌-◌, length, take, drop}
 use Rattle.delta_chain.specs.Layers.{Layers, entries_of}
 
 -- the chain as it lies in memory, and how many of its runs, the oldest ones, count as merged

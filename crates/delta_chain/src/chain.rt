@@ -282,7 +282,8 @@ impl<V: Drop, A: Allocator + Copy> Chain<V, A> {
         ensures { MatchOption result (self.old.runs ≡ [] × self.new ≡ self.old) (λ run. self.old ≡ record self.new { runs = run ∷ self.new.runs }) }
     {
         let run = self.runs.pop()?;
-        self.entries = self.entries.with_changes(run.len());
+        let added = run.len();
+        self.entries = self.entries.with_changes(added);
         Some(run)
     }
 

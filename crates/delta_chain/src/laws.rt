@@ -30,5 +30,5 @@ pub fn a_late_base_is_what_its_runs_make<V>()
         seen (record { chain = p; settled = length p.runs }) ≡ record { runs = []; base = entries_of p } }
     ensures in_front { (c : Late V) (run : Changes V) → c.settled ≤ length c.chain.runs →
         seen (record { chain = record { runs = run ∷ c.chain.runs; base = c.chain.base }; settled = c.settled }) ≡
-            record { runs = run ∷ (seen c).runs; base = (seen c).base } }
+        record { runs = run ∷ (seen c).runs; base = (seen c).base } }
 {}

@@ -1,5 +1,4 @@
-use Rattle.std.proofs.Common.{◌≡◌, ◌≤◌, ◌^◌, ◌-◌, ℕ, min, max, length, arith}
-use Rattle.delta_chain.specs.Layers.{entries_of}
+use Rattle.std.proofs.Common.{◌≡◌, ◌≤◌, ℕ, min, max, arith}
 use Rattle.delta_chain.proofs.chain.Chain.bound.Goals as goal
 
 at_least : (n a b limit : ℕ) → n ≡ max a b → a ≤ limit → b ≤ limit → n ≤ limit
