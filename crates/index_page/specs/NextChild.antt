@@ -1,11 +1,22 @@
 -- What a walk over the children of an index page has left.
-use Rattle.std.specs.Prelude.{Option}
+use Rattle.std.specs.Prelude.{◌≡◌, ℕ, suc, ◌<◌, ◌∷◌, drop, length, slice_get, Option, Some}
+use Rattle.std.specs.List.{filter}
 use Rattle.keys.specs.Bytes.{Bytes, Names}
-use Rattle.index_page.specs.Children.{children_within, entries_between}
+use Rattle.index_page.specs.Children.{children_within}
+use Rattle.index_page.specs.Range.{is_before}
 use Rattle.index_page.specs.declared.within.NextChild.{NextChild}
-use Rattle.index_page.specs.declared.within.NextChild.TheVariants.{For, Behind}
+use Rattle.index_page.specs.declared.within.NextChild.TheVariants.{For, At}
 
--- of the children that entries name, up to hi: those from the one for a key on, or those behind one
+-- of entries, those from a place on whose keys are before hi
+abbrev pub left_at : ℕ → Option Bytes → Names → Names
+left_at n hi es = filter (λ e. is_before hi e.0) (drop n es)
+
+-- what is left begins with the entry at this place, and goes on with those behind it whose keys are before hi
+pub record IsNextAt (n : ℕ) (hi : Option Bytes) (es left : Names) : Type 0 where
+  pub within : n < length es
+  pub parts : (e : Bytes × ℕ) → slice_get es n ≡ Some e → left ≡ e ∷ left_at (suc n) hi es
+
+-- of the children that entries name, up to hi: those from the one for a key on, or those from a place on
 abbrev pub left_with : NextChild → Option Bytes → Names → Names
 left_with (For k) hi es = children_within k.now hi es
-left_with (Behind k) hi es = entries_between k.now hi es
+left_with (At n) hi es = left_at n hi es

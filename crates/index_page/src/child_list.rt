@@ -1,12 +1,14 @@
 //! The children of an index page in one list.
-ghost use Rattle.std.specs.Prelude.{◌≡◌, ◌<◌, None, Some, length, slice_get, IfOk};
+ghost use Rattle.std.specs.Prelude.{◌≡◌, ◌<◌, [], None, Some, length, slice_get, IfOk, MatchOption};
 ghost use Rattle.std.specs.Option.{option_copied, option_map};
 ghost use Rattle.keys.specs.Order.{IsRising};
 ghost use Rattle.delta_chain.specs.Layers.{entries_of};
 ghost use Rattle.index_page.specs.ChildList.{IsListOf, IsCountUpTo};
+ghost use Rattle.index_page.specs.Children.{children_within};
+ghost use Rattle.index_page.specs.NextChild.{IsNextAt, left_at};
 
 use delta_chain::{Base, Chain};
-use keys::Pid;
+use keys::{Pid, is_before};
 use page_search::{Probes, place};
 use std::alloc::{AllocError, Allocator};
 use std::marker::Model;
@@ -99,5 +101,37 @@ pub(crate) fn low_key_at<A: Allocator + Copy>(list: &Base<Pid, A>, at: usize) ->
         Some(list.key(at))
     } else {
         None
+    }
+}
+
+/// The place of the first child whose range meets the bounds, from `lo` on and before `hi`, if there is one. Where no key lies between the
+/// bounds, it is the place of the child in whose range `lo` is.
+pub(crate) fn first_place<A: Allocator + Copy>(
+    list: &Base<Pid, A>,
+    lo: &[u8],
+    hi: Option<&[u8]>,
+) -> Option<usize>
+    ensures { MatchOption result (children_within lo.now (option_copied hi.entry) list.now ≡ [])
+        (λ at. IsNextAt at (option_copied hi.entry) list.now (children_within lo.now (option_copied hi.entry) list.now)) }
+{
+    match count_up_to(list, lo).checked_sub(1) {
+        Some(at) => Some(at),
+        None => place_before(list, 0, hi),
+    }
+}
+
+/// This place, if there is a child at it, which begins before the end.
+pub(crate) fn place_before<A: Allocator + Copy>(
+    list: &Base<Pid, A>,
+    at: usize,
+    end: Option<&[u8]>,
+) -> Option<usize>
+    ensures { MatchOption result (left_at at (option_copied end.entry) list.now ≡ [])
+        (λ place. IsNextAt place (option_copied end.entry) list.now (left_at at (option_copied end.entry) list.now)) }
+{
+    let _rising = list.len();
+    match low_key_at(list, at) {
+        Some(low) if is_before(end, low) => Some(at),
+        _ => None,
     }
 }

@@ -1,12 +1,14 @@
 ghost use Rattle.std.specs.Iterator.{YieldsFirstBy, item_count};
 
+use crate::child_list::{child_at, first_place, place_before};
 use crate::page::Page;
 use keys::Pid;
 use std::alloc::Allocator;
 use std::marker::Model;
 
-/// The children whose ranges meet two bounds, in order: of each the low key and the page id. Each step searches the
-/// page for the next child, and takes no memory. Contracts see it as the list of those that are left.
+/// The children whose ranges meet two bounds, in order: of each the low key and the page id. The first step searches the
+/// page for the first of them, each later one knows its place, and none takes memory. Contracts see it as the list of those that
+/// are left.
 #[derive(Drop)]
 pub struct Children<'a, A: Allocator> {
     pub(crate) page: &'a Page<A>,
@@ -19,8 +21,8 @@ pub struct Children<'a, A: Allocator> {
 pub(crate) enum NextChild<'a> {
     // The one in whose range this key lies.
     For(&'a [u8]),
-    // The one behind the child with this low key.
-    Behind(&'a [u8]),
+    // The one at this place of the page's children.
+    At(usize),
 }
 
 impl<'a, A: Allocator> Model for Children<'a, A> {
@@ -42,15 +44,15 @@ impl<'a, A: Allocator + Copy> Iterator for Children<'a, A> {
     ghost remaining = { item_count (λ left. left) };
 
     fn next(&mut self) -> Option<(&'a [u8], Pid)> {
-        let page = self.page;
+        let list = self.page.child_list()?;
         let found = match self.next {
-            NextChild::For(key) => page.first_between(key, self.end),
-            NextChild::Behind(low) => page.next_before(low, self.end),
+            NextChild::For(key) => first_place(list, key, self.end),
+            NextChild::At(at) => place_before(list, at, self.end),
         };
         match found {
-            Some((low, pid)) => {
-                self.next = NextChild::Behind(low);
-                Some((low, pid))
+            Some(at) => {
+                self.next = NextChild::At(at + 1);
+                Some(child_at(list, at))
             }
             None => None,
         }
