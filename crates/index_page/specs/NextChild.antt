@@ -1,5 +1,5 @@
 -- What a walk over the children of an index page has left.
-use Rattle.std.specs.Prelude.{◌≡◌, ℕ, suc, ◌<◌, ◌∷◌, drop, length, slice_get, Option, Some}
+use Rattle.std.specs.Prelude.{◌≡◌, ℕ, ◌+◌, ◌<◌, ◌≤◌, ◌∷◌, drop, length, slice_get, Option, Some}
 use Rattle.std.specs.List.{filter}
 use Rattle.keys.specs.Bytes.{Bytes, Names}
 use Rattle.index_page.specs.Children.{children_within}
@@ -11,10 +11,11 @@ use Rattle.index_page.specs.declared.within.NextChild.TheVariants.{For, At}
 abbrev pub left_at : ℕ → Option Bytes → Names → Names
 left_at n hi es = filter (λ e. is_before hi e.0) (drop n es)
 
--- what is left begins with the entry at this place, and goes on with those behind it whose keys are before hi
-pub record IsNextAt (n : ℕ) (hi : Option Bytes) (es left : Names) : Type 0 where
-  pub within : n < length es
-  pub parts : (e : Bytes × ℕ) → slice_get es n ≡ Some e → left ≡ e ∷ left_at (suc n) hi es
+-- what is left begins with the entry before this place, and goes on from the place with those whose keys are before hi
+pub record PassesOne (hi : Option Bytes) (es left : Names) (n : ℕ) : Type 0 where
+  pub some : 0 < n
+  pub within : n ≤ length es
+  pub parts : (at : ℕ) (e : Bytes × ℕ) → at + 1 ≡ n → slice_get es at ≡ Some e → left ≡ e ∷ left_at n hi es
 
 -- of the children that entries name, up to hi: those from the one for a key on, or those from a place on
 abbrev pub left_with : NextChild → Option Bytes → Names → Names

@@ -5,7 +5,7 @@ ghost use Rattle.keys.specs.Order.{IsRising};
 ghost use Rattle.delta_chain.specs.Layers.{entries_of};
 ghost use Rattle.index_page.specs.ChildList.{IsListOf, IsCountUpTo};
 ghost use Rattle.index_page.specs.Children.{children_within};
-ghost use Rattle.index_page.specs.NextChild.{IsNextAt, left_at};
+ghost use Rattle.index_page.specs.NextChild.{PassesOne, left_at};
 
 use delta_chain::{Base, Chain};
 use keys::{Pid, is_before};
@@ -104,34 +104,36 @@ pub(crate) fn low_key_at<A: Allocator + Copy>(list: &Base<Pid, A>, at: usize) ->
     }
 }
 
-/// The place of the first child whose range meets the bounds, from `lo` on and before `hi`, if there is one. Where no key lies between the
-/// bounds, it is the place of the child in whose range `lo` is.
-pub(crate) fn first_place<A: Allocator + Copy>(
+/// The place after the first child whose range meets the bounds, from `lo` on and before `hi`, if there is one. Where no key lies
+/// between the bounds, it is the place after the child in whose range `lo` is.
+pub(crate) fn after_first<A: Allocator + Copy>(
     list: &Base<Pid, A>,
     lo: &[u8],
     hi: Option<&[u8]>,
 ) -> Option<usize>
     ensures { MatchOption result (children_within lo.now (option_copied hi.entry) list.now ≡ [])
-        (λ at. IsNextAt at (option_copied hi.entry) list.now (children_within lo.now (option_copied hi.entry) list.now)) }
+        (PassesOne (option_copied hi.entry) list.now
+        (children_within lo.now (option_copied hi.entry) list.now)) }
 {
-    match count_up_to(list, lo).checked_sub(1) {
-        Some(at) => Some(at),
-        None => place_before(list, 0, hi),
+    let count = count_up_to(list, lo);
+    if count == 0 {
+        return after_next(list, 0, hi);
     }
+    Some(count)
 }
 
-/// This place, if there is a child at it, which begins before the end.
-pub(crate) fn place_before<A: Allocator + Copy>(
+/// The place after this one, if there is a child at this one, which begins before the end.
+pub(crate) fn after_next<A: Allocator + Copy>(
     list: &Base<Pid, A>,
     at: usize,
     end: Option<&[u8]>,
 ) -> Option<usize>
     ensures { MatchOption result (left_at at (option_copied end.entry) list.now ≡ [])
-        (λ place. IsNextAt place (option_copied end.entry) list.now (left_at at (option_copied end.entry) list.now)) }
+        (PassesOne (option_copied end.entry) list.now
+        (left_at at (option_copied end.entry) list.now)) }
 {
-    let _rising = list.len();
-    match low_key_at(list, at) {
-        Some(low) if is_before(end, low) => Some(at),
-        _ => None,
+    if at >= list.len() || !is_before(end, list.key(at)) {
+        return None;
     }
+    Some(at + 1)
 }

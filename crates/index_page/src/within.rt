@@ -1,7 +1,11 @@
+ghost use Rattle.std.specs.Prelude.{◌≡◌, [], MatchOption};
 ghost use Rattle.std.specs.Iterator.{YieldsFirstBy, item_count};
+ghost use Rattle.std.specs.Option.{option_copied};
+ghost use Rattle.index_page.specs.NextChild.{PassesOne, left_with};
 
-use crate::child_list::{child_at, first_place, place_before};
+use crate::child_list::{after_first, after_next, child_at};
 use crate::page::Page;
+use delta_chain::Base;
 use keys::Pid;
 use std::alloc::Allocator;
 use std::marker::Model;
@@ -45,16 +49,28 @@ impl<'a, A: Allocator + Copy> Iterator for Children<'a, A> {
 
     fn next(&mut self) -> Option<(&'a [u8], Pid)> {
         let list = self.page.child_list()?;
-        let found = match self.next {
-            NextChild::For(key) => first_place(list, key, self.end),
-            NextChild::At(at) => place_before(list, at, self.end),
-        };
-        match found {
-            Some(at) => {
-                self.next = NextChild::At(at + 1);
-                Some(child_at(list, at))
+        match after(list, self.next, self.end) {
+            Some(place) => {
+                self.next = NextChild::At(place);
+                Some(child_at(list, place - 1))
             }
             None => None,
         }
+    }
+}
+
+// The place after the next of these children, if there is one.
+fn after<A: Allocator + Copy>(
+    list: &Base<Pid, A>,
+    next: NextChild<'_>,
+    end: Option<&[u8]>,
+) -> Option<usize>
+    ensures { MatchOption result (left_with next.entry (option_copied end.entry) list.now ≡ [])
+        (PassesOne (option_copied end.entry) list.now
+        (left_with next.entry (option_copied end.entry) list.now)) }
+{
+    match next {
+        NextChild::For(key) => after_first(list, key, end),
+        NextChild::At(at) => after_next(list, at, end),
     }
 }
