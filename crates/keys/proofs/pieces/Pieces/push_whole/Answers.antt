@@ -1,4 +1,6 @@
-use Rattle.std.proofs.Common.{arith}
+use Rattle.std.proofs.Common.{arith, sym}
+use Rattle.std.specs.Vec.{vec_len}
+use Rattle.std.proofs.lemmas.Bool.{eqb-true}
 use Rattle.std.proofs.lemmas.List.{nil_from_length}
 use Rattle.keys.proofs.Weaving.{first_pushed, first_within, rest_pushed, rest_within}
 use Rattle.keys.proofs.pieces.Pieces.push_whole.Goals as goal
@@ -7,14 +9,14 @@ pub invariant_of-self : goal.invariant_of-self
 invariant_of-self g c =
     let inside = c.self.inside in
     first_within inside.first inside.rest.items inside.rest.items inside.rowless.items c.args.piece c.self.invariant c.if-is_none.ensures
-    (nil_from_length inside.rest.items (omega (arith, c.if-is_empty.ensures)))
+    (nil_from_length inside.rest.items (omega (arith, eqb-true (vec_len inside.rest) 0 (sym c.if-is_empty.ensures))))
 
 pub returns-then-is_empty-clause-ok : goal.returns-then-is_empty-clause-ok
 returns-then-is_empty-clause-ok g c =
     let inside = c.self.inside in
     rw (← c.self.view_is)
     (first_pushed inside.first inside.rest.items inside.rest.items inside.rowless.items c.args.piece c.self.invariant c.if-is_none.ensures
-    (nil_from_length inside.rest.items (omega (arith, c.if-is_empty.ensures))))
+    (nil_from_length inside.rest.items (omega (arith, eqb-true (vec_len inside.rest) 0 (sym c.if-is_empty.ensures)))))
 
 pub invariant_of-self-2 : goal.invariant_of-self-2
 invariant_of-self-2 g c =
