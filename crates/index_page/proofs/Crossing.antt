@@ -8,7 +8,7 @@ use Rattle.std.specs.declared.alloc.Allocator.{Ghosts}
 use Rattle.keys.specs.contracts.value.Value as Value
 use Rattle.keys.proofs.key.Key.TheSendSync as key
 use Rattle.keys.proofs.value.Value.TheSendSync as value
-use Rattle.delta_chain.proofs.Crossing.{Chain-send, Chain-sync}
+use Rattle.delta_chain.proofs.Crossing.{LateChain-send, LateChain-sync}
 use Rattle.index_page.proofs.index_state.IndexState.TheSendSync as state
 use Rattle.index_page.specs.contracts.page.Page as Page
 use Rattle.index_page.specs.contracts.page.Page.TheInside as inside
@@ -17,7 +17,7 @@ use Rattle.index_page.specs.contracts.page.State as State
 module _ (A : RattleType) (g : Ghosts A.Denot) where
   state_send : IsSend A → Frees g g.dealloc_token → IsSend (State.the_field A g).row
   state_send s f =
-      let values = Chain-send (Value.the_row A g) A g (value.the_send A g s f) s f in
+      let values = LateChain-send (Value.the_row A g) A g (value.the_send A g s f) s f in
       enum_send (variants.shape (State.the_type A g)) ((values, tt), ((state.the_send A g s f, tt), tt))
 
   pub Page-send : IsSend A → Frees g g.dealloc_token → IsSend (Page.the_row A g)
@@ -25,7 +25,7 @@ module _ (A : RattleType) (g : Ghosts A.Denot) where
 
   state_sync : IsSync A → IsSync (State.the_field A g).row
   state_sync s =
-      let values = Chain-sync (Value.the_row A g) A g (value.the_sync A g s) s in
+      let values = LateChain-sync (Value.the_row A g) A g (value.the_sync A g s) s in
       enum_sync (variants.shape (State.the_type A g)) ((values, tt), ((state.the_sync A g s, tt), tt))
 
   pub Page-sync : IsSync A → IsSync (Page.the_row A g)

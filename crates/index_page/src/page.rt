@@ -3,6 +3,7 @@ ghost use Rattle.std.specs.List.{filter};
 ghost use Rattle.std.specs.Option.{option_copied, option_map, option_or};
 ghost use Rattle.keys.specs.Bytes.{Bytes};
 ghost use Rattle.keys.specs.Order.{IsRising};
+ghost use Rattle.delta_chain.specs.Late.{seen};
 ghost use Rattle.page_search.specs.Floor.{floor};
 ghost use Rattle.page_search.specs.Above.{above};
 ghost use Rattle.index_page.specs.Page.{PageOfKind, bare, low_of, IsLeaf, IsIndex};
@@ -14,7 +15,7 @@ ghost use Rattle.index_page.specs.Children.{children, is_place_for, child_entrie
 use crate::child_list::{ChildList, child_at, count_up_to, low_key_at};
 use crate::index_state::IndexState;
 use crate::within::{Children, NextChild};
-use delta_chain::{Base, Chain};
+use delta_chain::{Base, Chain, LateChain};
 use keys::{Key, Pid, Value, is_before};
 use std::alloc::Allocator;
 use std::marker::Model;
@@ -29,7 +30,7 @@ pub struct Page<A: Allocator> {
 
 #[derive(Drop)]
 enum State<A: Allocator> {
-    Values(Chain<Value<A>, A>),
+    Values(LateChain<Value<A>, A>),
     Pids(IndexState<A>),
 }
 
@@ -47,6 +48,16 @@ impl<A: Allocator + Copy> Page<A> {
     /// The leaf with this low key and these values.
     pub fn leaf(low: Key<A>, chain: Chain<Value<A>, A>) -> Self
         ensures { result ≡ Leaf (record { low = low; layers = chain }) }
+    {
+        Page {
+            low,
+            state: State::Values(LateChain::of(chain)),
+        }
+    }
+
+    /// The leaf with this low key and these values, some of whose runs may count as merged with the base.
+    pub fn late_leaf(low: Key<A>, chain: LateChain<Value<A>, A>) -> Self
+        ensures { result ≡ Leaf (record { low = low; layers = seen chain }) }
     {
         Page {
             low,
@@ -81,8 +92,8 @@ impl<A: Allocator + Copy> Page<A> {
     }
 
     /// The values, where this is a leaf.
-    pub fn as_leaf(&self) -> Option<&Chain<Value<A>, A>>
-        ensures { MatchOption result (IsIndex self.now) (λ chain. self.now ≡ Leaf (record { low = low_of self.now; layers = chain.now })) }
+    pub fn as_leaf(&self) -> Option<&LateChain<Value<A>, A>>
+        ensures { MatchOption result (IsIndex self.now) (λ chain. self.now ≡ Leaf (record { low = low_of self.now; layers = seen chain.now })) }
     {
         match &self.state {
             State::Values(chain) => Some(chain),
@@ -111,9 +122,9 @@ impl<A: Allocator + Copy> Page<A> {
     }
 
     /// The low key and the values of this leaf. `as_leaf` is the test for the condition.
-    pub fn into_leaf(self) -> (Key<A>, Chain<Value<A>, A>)
+    pub fn into_leaf(self) -> (Key<A>, LateChain<Value<A>, A>)
         requires { IsLeaf self }
-        ensures { self ≡ Leaf (record { low = result.0; layers = result.1 }) }
+        ensures { self ≡ Leaf (record { low = result.0; layers = seen result.1 }) }
     {
         let Page { low, state } = self;
         match state {
