@@ -5,13 +5,12 @@ ghost use Rattle.keys.specs.Bytes.{Bytes};
 ghost use Rattle.keys.specs.Order.{IsRising};
 ghost use Rattle.delta_chain.specs.Late.{seen};
 ghost use Rattle.page_search.specs.Floor.{floor};
-ghost use Rattle.page_search.specs.Above.{above};
 ghost use Rattle.index_page.specs.Page.{PageOfKind, bare, low_of, IsLeaf, IsIndex};
 ghost use Rattle.index_page.specs.Page.PageOfKind.{Leaf, Index};
 ghost use Rattle.index_page.specs.InMemory.{page_shown};
 ghost use Rattle.index_page.specs.Range.{is_before};
 ghost use Rattle.index_page.specs.ChildList.{IsListOf};
-ghost use Rattle.index_page.specs.Children.{children, is_place_for, child_entries, HasChildFor, child_with_end, children_within, entries_between, left_from};
+ghost use Rattle.index_page.specs.Children.{children, is_place_for, child_entries, HasChildFor, child_with_end, children_within};
 
 use crate::child_list::{ChildList, child_at, count_up_to, low_key_at};
 use crate::in_memory::PageInMemory;
@@ -194,44 +193,6 @@ impl<A: Allocator + Copy> Page<A> {
         match count_up_to(list, key).checked_sub(1) {
             Some(at) => Some(child_at(list, at)),
             None => None,
-        }
-    }
-
-    // The first child whose low key is above the key.
-    fn next_child(&self, key: &[u8]) -> Option<(&[u8], Pid)>
-        ensures child { option_map (λ e. (e.0.now, e.1)) result ≡ above key.now (child_entries self.now) }
-        ensures rising { IsRising (child_entries self.now) }
-    {
-        let list = self.child_list()?;
-        let count = count_up_to(list, key);
-        if count < list.len() {
-            Some(child_at(list, count))
-        } else {
-            None
-        }
-    }
-
-    // The first child whose range meets the bounds: with it those that do begin.
-    pub(crate) fn first_between<'a>(
-        &'a self,
-        lo: &'a [u8],
-        hi: Option<&'a [u8]>,
-    ) -> Option<(&'a [u8], Pid)>
-        ensures { left_from (option_map (λ e. (e.0.now, e.1)) result) (option_copied hi.entry) (child_entries self.now) ≡ children_within lo.now (option_copied hi.entry) (child_entries self.now) }
-    {
-        match self.last_child(lo) {
-            Some(child) => Some(child),
-            None => self.next_before(lo, hi),
-        }
-    }
-
-    // The first child whose low key is above the key, where that is before the end: with it those behind the key begin.
-    pub(crate) fn next_before(&self, key: &[u8], end: Option<&[u8]>) -> Option<(&[u8], Pid)>
-        ensures { left_from (option_map (λ e. (e.0.now, e.1)) result) (option_copied end.entry) (child_entries self.now) ≡ entries_between key.now (option_copied end.entry) (child_entries self.now) }
-    {
-        match self.next_child(key) {
-            Some(child) if is_before(end, child.0) => Some(child),
-            _ => None,
         }
     }
 }

@@ -9,4 +9,5 @@ mod Rows
 mod RowLemmas
 pub mod RunLemmas
 mod SettingsRows
+pub mod Weaving
 mod WordLemmas

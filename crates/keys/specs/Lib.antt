@@ -18,3 +18,4 @@ pub mod RowBytes
 pub mod Sizes
 pub mod Step
 pub mod Words
+pub mod Woven

@@ -1,27 +1,48 @@
-ghost use Rattle.std.specs.Prelude.{◌≡◌, ◌∷◌, ◌++◌, [], IfOk, OnOk, OnErr};
+ghost use Rattle.std.specs.Prelude.{◌≡◌, ◌∷◌, ◌++◌, [], true, length, min, IfOk, OnOk, OnErr};
 ghost use Rattle.std.specs.Option.{option_to_list};
+ghost use Rattle.keys.specs.Woven.{woven};
+ghost use Rattle.keys.specs.declared.command.Reply.TheVariants.{Rows};
 
+use crate::command::Reply;
 use crate::piece::Piece;
 use std::alloc::{AllocError, Allocator};
 use std::marker::Model;
 use std::mem;
 
+// The greatest place, and the greatest number of pieces, that a `Rowless` can hold.
+const MOST: usize = u32::MAX as usize;
+
+/// The answer to a scan that found no rows on its page: all that is kept of such a piece, of which a batch of scans over emptied
+/// pages has millions.
+#[derive(Drop)]
+pub struct Rowless {
+    /// The scan's place in the batch, counted from 0.
+    pub place: u32,
+    /// How many pieces stand before this one.
+    pub before: u32,
+}
+
 /// What one page answers to the commands that it has to work, which contracts see as the list of these pieces. The first one
-/// stands beside the list of the others, so that the answer of a page with a single command takes no list.
+/// stands beside the list of the others, so that the answer of a page with a single command takes no list; and those of scans
+/// that found no rows stand in a list of their own.
 #[derive(Drop)]
 pub struct Pieces<A: Allocator> {
     first: Option<Piece<A>>,
     rest: Vec<Piece<A>, A>,
+    rowless: Vec<Rowless, A>,
 }
 
 impl<A: Allocator> Model for Pieces<A> {
-    ghost use Rattle.std.specs.Prelude.{List, ◌++◌};
+    ghost use Rattle.std.specs.Prelude.{List, ◌++◌, length};
     ghost use Rattle.std.specs.Option.{option_to_list};
+    ghost use Rattle.keys.specs.Woven.{woven, StandWithin};
     ghost use Rattle.keys.specs.declared.piece.Piece.{Piece};
 
     ghost Value = { List (Piece A) };
 
-    ghost view = { λ p. option_to_list p.first ++ p.rest.items };
+    ghost view = { λ p. woven (option_to_list p.first ++ p.rest.items) p.rowless.items };
+
+    ghost invariant = { λ p. StandWithin (length (option_to_list p.first ++ p.rest.items)) p.rowless.items };
 }
 
 impl<A: Allocator + Copy> Pieces<A> {
@@ -32,19 +53,51 @@ impl<A: Allocator + Copy> Pieces<A> {
         Pieces {
             first: None,
             rest: Vec::new(alloc),
+            rowless: Vec::new(alloc),
         }
     }
 
-    /// No pieces yet, with room for this many. Room for one takes no memory.
+    /// No pieces yet, with room for this many but for scans that find no rows. Room for one takes no memory.
     pub fn with_capacity(alloc: A, count: usize) -> Result<Self, AllocError>
         ensures { IfOk result (λ pieces. pieces ≡ []) }
     {
         let rest = Vec::with_capacity(alloc, count.saturating_sub(1))?;
-        Ok(Pieces { first: None, rest })
+        let rowless = Vec::new(alloc);
+        Ok(Pieces {
+            first: None,
+            rest,
+            rowless,
+        })
     }
 
     /// Adds a piece at the end. It takes memory only where there is no room. After an `Err` the pieces are as they were.
     pub fn push(&mut self, piece: Piece<A>) -> Result<(), AllocError>
+        ensures ok { OnOk result (self.new ≡ self.old ++ piece ∷ []) }
+        ensures err { OnErr result (self.new ≡ self.old) }
+    {
+        if is_without_rows(&piece.reply) {
+            let before = self.count();
+            if piece.place <= MOST && before <= MOST {
+                self.rowless.push(Rowless {
+                    place: piece.place as u32,
+                    before: before as u32,
+                })?;
+                return Ok(());
+            }
+        }
+        self.push_whole(piece)
+    }
+
+    // How many pieces there are, up to the greatest `usize`.
+    fn count(&self) -> usize
+        ensures { result ≡ min (length self.now) usize.MAX }
+    {
+        let others = self.rest.len().saturating_add(self.rowless.len());
+        count_of(&self.first).saturating_add(others)
+    }
+
+    // Adds a piece at the end, whatever it answers.
+    fn push_whole(&mut self, piece: Piece<A>) -> Result<(), AllocError>
         ensures ok { OnOk result (self.new ≡ self.old ++ piece ∷ []) }
         ensures err { OnErr result (self.new ≡ self.old) }
     {
@@ -65,11 +118,35 @@ impl<A: Allocator + Copy> Pieces<A> {
         mem::replace(self, Pieces::empty(alloc))
     }
 
-    /// The first piece, if there is any, and the list of the others.
-    pub fn into_parts(self) -> (Option<Piece<A>>, Vec<Piece<A>, A>)
-        ensures { self ≡ option_to_list result.0 ++ result.1.items }
+    /// The first piece but for scans that found no rows, if there is any; the list of the others; and those of such scans.
+    pub fn into_parts(self) -> (Option<Piece<A>>, Vec<Piece<A>, A>, Vec<Rowless, A>)
+        ensures { self ≡ woven (option_to_list result.0 ++ result.1.items) result.2.items }
     {
-        let Pieces { first, rest } = self;
-        (first, rest)
+        let Pieces {
+            first,
+            rest,
+            rowless,
+        } = self;
+        (first, rest, rowless)
+    }
+}
+
+// One where there is a piece, and else none.
+fn count_of<A: Allocator>(first: &Option<Piece<A>>) -> usize
+    ensures { result ≡ length (option_to_list first.now) }
+{
+    match first {
+        Some(_) => 1,
+        None => 0,
+    }
+}
+
+// Whether the answer is one of a scan that found no rows.
+fn is_without_rows<A: Allocator>(reply: &Reply<A>) -> bool
+    ensures { result ≡ true → reply.now ≡ Rows [] }
+{
+    match reply {
+        Reply::Rows(rows) => rows.len() == 0,
+        _ => false,
     }
 }

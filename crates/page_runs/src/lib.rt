@@ -5,7 +5,9 @@
 mod changes;
 mod changes_from;
 pub mod class;
+mod kinds;
 pub mod laws;
+mod leaf_after;
 pub mod leaf_work;
 mod page_after;
 mod page_rows;

@@ -3,13 +3,14 @@
 
 pub mod laws;
 
-ghost use Rattle.std.specs.Prelude.{◌≡◌, ◌<◌, map, take, length, IfOk, OnOk};
+ghost use Rattle.std.specs.Prelude.{◌≡◌, ◌<◌, [], map, take, length, IfOk, OnOk};
 ghost use Rattle.std.specs.List.{All};
 ghost use Rattle.std.specs.Option.{option_to_list};
+ghost use Rattle.keys.specs.Woven.{without_rows};
 ghost use Rattle.keys.specs.declared.command.Reply.TheVariants.{Rows};
 ghost use Rattle.replies.specs.ByPlace.{IsPlaceOf, blank_of, limit_of, with_rows, with_count, with_answer, with_pieces};
 
-use keys::{Command, Piece, Pieces, Reply, RowList};
+use keys::{Command, Piece, Pieces, Reply, RowList, Rowless};
 use std::alloc::{AllocError, Global};
 
 /// For each command of a batch a reply that answers are to be added to: no rows yet for a scan, nothing counted yet for a wipe, and
@@ -52,9 +53,11 @@ pub fn add_answers(
     requires within { All (IsPlaceOf commands.now) pieces }
     ensures { OnOk result (replies.new ≡ with_pieces commands.now pieces replies.old) }
 {
-    let (first, rest) = pieces.into_parts();
+    let (first, rest, rowless) = pieces.into_parts();
     add_first(replies, commands, first)?;
-    add_all(replies, commands, rest)
+    add_all(replies, commands, rest)?;
+    add_rowless(replies, commands, rowless);
+    Ok(())
 }
 
 // Adds a page's first answer, if it has any, to what stands at its place.
@@ -92,6 +95,18 @@ fn add_all(
     Ok(())
 }
 
+// Adds each of these answers to scans, none of which has rows, to what stands at its place.
+fn add_rowless(replies: &mut [Reply<Global>], commands: &[Command<Global>], rowless: Vec<Rowless>)
+    requires count { length replies.old ≡ length commands.now }
+    requires within { All (λ r. r.place < length commands.now) rowless.items }
+    ensures { replies.new ≡ with_pieces commands.now (map without_rows rowless.items) replies.old }
+{
+    for Rowless { place, before: _ } in rowless {
+        let place = place as usize;
+        cut(&mut replies[place], limit_of(&commands[place]));
+    }
+}
+
 // Adds an answer to what stands at its command's place.
 fn add(
     at: &mut Reply<Global>,
@@ -124,6 +139,15 @@ fn add_rows(at: &mut Reply<Global>, more: RowList<Global>, limit: usize) -> Resu
         rows.truncate(limit);
     }
     Ok(())
+}
+
+// Leaves out the rows after the first ones, this many: what adding no rows does.
+fn cut(at: &mut Reply<Global>, limit: usize)
+    ensures { at.new ≡ with_rows limit at.old [] }
+{
+    if let Reply::Rows(rows) = at {
+        rows.truncate(limit);
+    }
 }
 
 // Adds a count to the one that stands there, up to the greatest that there is.

@@ -1,0 +1,29 @@
+use Rattle.std.proofs.Common.{arith, sym}
+use Rattle.std.specs.Vec.{vec_len}
+use Rattle.std.proofs.lemmas.Bool.{eqb-true}
+use Rattle.std.proofs.lemmas.List.{nil_from_length}
+use Rattle.keys.proofs.Weaving.{first_pushed, first_within, rest_pushed, rest_within}
+use Rattle.keys.proofs.pieces.Pieces.push_whole.Goals as goal
+
+pub invariant_of-self : goal.invariant_of-self
+invariant_of-self g c =
+    let inside = c.self.inside in
+    first_within inside.first inside.rest.items inside.rest.items inside.rowless.items c.args.piece c.self.invariant c.if-is_none.ensures
+    (nil_from_length inside.rest.items (omega (arith, eqb-true (vec_len inside.rest) 0 (sym c.if-is_empty.ensures))))
+
+pub returns-then-is_empty-clause-ok : goal.returns-then-is_empty-clause-ok
+returns-then-is_empty-clause-ok g c =
+    let inside = c.self.inside in
+    rw (← c.self.view_is)
+    (first_pushed inside.first inside.rest.items inside.rest.items inside.rowless.items c.args.piece c.self.invariant c.if-is_none.ensures
+    (nil_from_length inside.rest.items (omega (arith, eqb-true (vec_len inside.rest) 0 (sym c.if-is_empty.ensures)))))
+
+pub invariant_of-self-2 : goal.invariant_of-self-2
+invariant_of-self-2 g c =
+    let inside = c.self.inside in
+    rest_within inside.first inside.rest.items c.push.new.self.items inside.rowless.items c.args.piece c.self.invariant c.in_ok-push.ensures.items
+
+pub returns-clause-ok : goal.returns-clause-ok
+returns-clause-ok g c =
+    let inside = c.self.inside in
+    rw (← c.self.view_is) (rest_pushed inside.first inside.rest.items c.push.new.self.items inside.rowless.items c.args.piece c.self.invariant c.in_ok-push.ensures.items)

@@ -1,0 +1,14 @@
+use Rattle.std.proofs.Common.{◌≡◌, ◌<◌, length, map}
+use Rattle.std.specs.List.{All}
+use Rattle.std.specs.Vec.Iter.{into_iter_items}
+use Rattle.keys.specs.Woven.{without_rows}
+use Rattle.replies.specs.ByPlace.{with_pieces}
+use Rattle.replies.proofs.add_rowless.Given as goal
+
+-- the pieces that are left make of the list what all make of the first one; their places are within it
+abbrev pub invariant-loop-place : goal.invariant-loop-place
+invariant-loop-place l = record {
+  count : length l.replies ≡ length l.commands;
+  within : All (λ r. r.place < length l.commands) (into_iter_items l.place-iterator);
+  gathered : with_pieces l.commands (map without_rows (into_iter_items l.place-iterator)) l.replies ≡ with_pieces l.commands (map without_rows l.fn.rowless.items) l.fn.replies;
+}
