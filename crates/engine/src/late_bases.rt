@@ -128,12 +128,12 @@ fn is_flushed(
 }
 
 const CUT: &str = "root 2, height 2\n\
-    0 low= log=Old leaf runs=0: a=1 b=1\n\
-    1 low=c log=No leaf runs=0: c=1 e=1 f=1\n\
-    2 low= log=No index runs=0: =0 c=1\n\
-    \x20a=1 b=1 c=1 e=1 f=1;";
+    0 low= log=Old leaf runs=0: a=1 b=1 c=1\n\
+    1 low=e log=No leaf runs=0: e=1 f=1 g=1\n\
+    2 low= log=No index runs=0: =0 e=1\n\
+    \x20a=1 b=1 c=1 e=1 f=1 g=1;";
 
-// Whether such a leaf is cut once it has too much.
+// Whether such a leaf is cut once it has too much and is replaced again, by the third run over the base that it counts as.
 fn is_cut(
     rt: &(impl Threads + Sync),
     crew: Crew,
@@ -142,7 +142,8 @@ fn is_cut(
 ) -> Result<bool, Fault> {
     let mut is_right = true;
     let mut store = late_store(rt, crew, alloc, tries, &mut is_right)?;
-    is_right &= is_answered(rt, crew, alloc, &mut store, &["e=1 f=1"], tries, "NN; ")?;
+    let puts = ["e=1", "f=1", "g=1"];
+    is_right &= is_answered(rt, crew, alloc, &mut store, &puts, tries, "N; N; N; ")?;
     is_right &= is_told(alloc, &store, CUT)?;
     Ok(is_right)
 }
