@@ -1,5 +1,5 @@
-//! Leaves of which runs count as merged with the base, while they lie in memory over an older one: they are answered, told, flushed, read
-//! back and cut as leaves whose runs were merged.
+//! Leaves whose oldest runs count as merged with the base, while they lie in memory over an older one: they are read, flushed, read back
+//! and cut as leaves whose runs were merged.
 use crate::crews::{ALONE, crews};
 use crate::frame_rows::{D_PUT, LEAF_ABC};
 use crate::log_rows::{FIRST_SLOT, SlotRow, is_disk, look, play_tried, store_on_used_disk};
@@ -14,7 +14,7 @@ use std::thread::Threads;
 
 type Memory = Store<MemDisk<Global>>;
 
-// Batches of which the last one replaces the first leaf, so that it is a base of a, b and c.
+// Batches that replace the first leaf in the end, so that it is a base of a, b and c.
 const REPLACED: [&str; 3] = ["a=2 b=1 d=3", "c=1 d=4", "a=1 -d"];
 
 // Whether the first leaf counts as a base alone, and has all that it holds in runs, so that whoever looks into the base in memory finds nothing.
@@ -58,19 +58,19 @@ fn is_answered(
     store: &mut Memory,
     steps: &[&str],
     tries: Tries,
-    told: &str,
+    wanted: &str,
 ) -> Result<bool, Fault> {
     let answers = play_tried(rt, crew, alloc, store, steps, tries)?;
     if store.disk().failures() > 0 {
         return Err(Fault::Device);
     }
-    Ok(answers.as_str() == told)
+    Ok(answers.as_str() == wanted)
 }
 
-// Whether the pages and the pairs are told like this.
-fn is_told(alloc: Global, store: &Memory, told: &str) -> Result<bool, Fault> {
+// Whether the pages and the pairs are shown like this.
+fn is_shown(alloc: Global, store: &Memory, wanted: &str) -> Result<bool, Fault> {
     let text = look(alloc, store)?;
-    Ok(text.as_str() == told)
+    Ok(text.as_str() == wanted)
 }
 
 // Whether such a leaf is looked up, scanned and verified.
@@ -85,8 +85,8 @@ fn is_read(
     let looks = ["a b c d [a,*,9 [b,c,9"];
     let answers = "111M[ a=1 b=1 c=1][ b=1]; ";
     is_right &= is_answered(rt, crew, alloc, &mut store, &looks, tries, answers)?;
-    let told = "root 0, height 1\n0 low= log=Old leaf runs=0: a=1 b=1 c=1\n a=1 b=1 c=1;";
-    is_right &= is_told(alloc, &store, told)?;
+    let pages = "root 0, height 1\n0 low= log=Old leaf runs=0: a=1 b=1 c=1\n a=1 b=1 c=1;";
+    is_right &= is_shown(alloc, &store, pages)?;
     let report = store.verify(rt)?;
     Ok(is_right && is_late(&store, tries) && report.pages == 1 && report.pairs == 3)
 }
@@ -127,9 +127,9 @@ fn is_flushed(
         &[BASE_SLOT, RUN_SLOT],
         &[LEAF_ABC, D_PUT],
     );
-    is_right &= is_told(alloc, &store, FLUSHED)?;
+    is_right &= is_shown(alloc, &store, FLUSHED)?;
     let store = opened(store.reopen(rt, crew))?;
-    is_right &= is_told(alloc, &store, FLUSHED)?;
+    is_right &= is_shown(alloc, &store, FLUSHED)?;
     Ok(is_right)
 }
 
@@ -150,7 +150,7 @@ fn is_cut(
     let mut store = late_store(rt, crew, alloc, tries, &mut is_right)?;
     let puts = ["e=1", "f=1", "g=1"];
     is_right &= is_answered(rt, crew, alloc, &mut store, &puts, tries, "N; N; N; ")?;
-    is_right &= is_told(alloc, &store, CUT)?;
+    is_right &= is_shown(alloc, &store, CUT)?;
     Ok(is_right)
 }
 
@@ -171,7 +171,7 @@ fn a_late_base_is_as_one_that_was_made(rt: HostRuntime) {
 }
 
 // Also where a step is refused for want of memory: it is answered a second time, and nothing is lost. To be run with each allocation refused in turn
-// too (`bench/README.md`). Then at most one of the three can't be told.
+// too (`bench/README.md`). Then at most one of the three doesn't come to its end.
 #[test]
 fn a_late_base_outlives_refused_memory(rt: HostRuntime) {
     outcomes_of(&rt, ALONE, rt.alloc(), Tries::Twice).check_refused(&rt, ALONE, 3);
