@@ -1,5 +1,5 @@
 -- A page while commands are replayed on it.
-use Rattle.std.specs.Prelude.{ℕ, ◌+◌, ◌-◌, List, [], ◌∷◌, None}
+use Rattle.std.specs.Prelude.{ℕ, ◌+◌, ◌-◌, ◌==◌, min, List, [], ◌∷◌, None, if◌then◌else◌}
 use Rattle.keys.specs.Bytes.{Bytes, Pairs, Changes}
 use Rattle.keys.specs.OrderedMap.{with_pair}
 use Rattle.keys.specs.declared.command.Reply.{Reply}
@@ -26,3 +26,7 @@ entries_after n Exists = n
 entries_after n Deleted = n - 1
 entries_after n (Rows rows) = n
 entries_after n (Wiped count) = n - count
+
+-- the same where there were at most so many, up to a greatest number, which says nothing
+abbrev pub most_after : {A : Type 0} → ℕ → ℕ → Reply A → ℕ
+most_after greatest n r = if n == greatest then greatest else min (entries_after n r) greatest

@@ -54,15 +54,15 @@ impl Model for Changes {
 }
 
 impl Changes {
-    /// No changes, before the commands at these places.
+    /// No changes, before the commands at these places, of which so many may change a key.
     pub(crate) fn for_commands(
         alloc: Global,
         commands: &[Command<Global>],
         places: &[usize],
+        writes: usize,
     ) -> Self
         ensures { result ≡ [] }
     {
-        let writes = count_writes(commands, places);
         let kept = if writes <= FEW || do_rise(commands, places) {
             KeptChanges::Few(Run::empty(alloc))
         } else {
@@ -183,20 +183,6 @@ fn run_of(alloc: Global, map: ChangeMap) -> Result<LeafRun, AllocError>
         run.push_next(key, change)?;
     }
     Ok(run)
-}
-
-// How many of the commands are no look-ups and no scans.
-fn count_writes(commands: &[Command<Global>], places: &[usize]) -> usize {
-    let mut writes = 0usize;
-    for place in places {
-        if !matches!(
-            commands.get(*place),
-            Some(Command::Get(_) | Command::Scan(_, _, _))
-        ) {
-            writes = writes.saturating_add(1);
-        }
-    }
-    writes
 }
 
 // Whether each command's key is above that of the one before, and none is a wipe, whose keys may be many and lie anywhere. It decides

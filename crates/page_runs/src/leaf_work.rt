@@ -138,7 +138,7 @@ impl<'a> Work for LeafWork<'a> {
     fn work(&self, job: LeafJob) -> Turn<LeafJob, LeafDone> {
         let LeafJob { page, page_run } = job;
         let (low, chain) = page.into_leaf();
-        let Ok((run, pieces, fewest)) = replay(self.alloc, self.commands, &chain, page_run.places())
+        let Ok((run, pieces, bounds)) = replay(self.alloc, self.commands, &chain, page_run.places())
         else {
             return Turn::Back(LeafJob {
                 page: Page::leaf(low, chain),
@@ -148,7 +148,7 @@ impl<'a> Work for LeafWork<'a> {
         match put_run(self.alloc, &self.settings, chain, run) {
             Ok((mut chain, way_back)) => {
                 // The replies tell which entries came and went, and the chain by itself knows only how many were named.
-                chain.raise_fewest(fewest);
+                chain.raise_fewest(bounds.fewest);
                 boxed(
                     self.alloc,
                     KeptDone {

@@ -82,7 +82,7 @@ impl<'a> Work for ReadWork<'a> {
             unreachable!()
         };
         match replay(self.alloc, self.commands, leaf, page_run.places()) {
-            Ok((_no_run, pieces, _fewest)) => Turn::Done(LeafRead { page_run, pieces }),
+            Ok((_no_run, pieces, _bounds)) => Turn::Done(LeafRead { page_run, pieces }),
             Err(_) => Turn::Back(page_run),
         }
     }

@@ -3,47 +3,73 @@
 ghost use Rattle.std.specs.Prelude.{◌≡◌, ◌≤◌, length, min, Some, None, is_some, if◌then◌else◌, IfOk, OnOk};
 ghost use Rattle.std.specs.Map.{keys_of};
 ghost use Rattle.keys.specs.OrderedMap.{value_at, with_pair};
-ghost use Rattle.keys.specs.Range.{in_range};
+ghost use Rattle.keys.specs.Range.{in_range, rows};
 ghost use Rattle.keys.specs.Step.{found, reply_to, map_after, replies_to};
 ghost use Rattle.keys.specs.declared.command.Reply.TheVariants.{New, Replaced, Added, Exists, Deleted, Missing, Wiped};
 ghost use Rattle.delta_chain.specs.Layers.{entries_of, IsInOrder};
 ghost use Rattle.page_runs.specs.NetRun.{noted_by, net_run};
-ghost use Rattle.page_runs.specs.Replay.{map_by_now, with_absent, entries_after};
+ghost use Rattle.page_runs.specs.Replay.{map_by_now, with_absent, entries_after, most_after};
 ghost use Rattle.page_runs.specs.Replies.{commands_at, pieces_of, ArePlacesOf};
 
+use crate::bounds::{EntryBounds, bounds_of};
 use crate::changes::{Changes, LeafChain, LeafRun};
+use crate::kinds::Kinds;
 use crate::page_rows::{keys_within, rows_of};
-use keys::{Command, Key, Piece, Pieces, Reply, Value};
+use keys::{Command, Key, Piece, Pieces, Reply, RowList, Value};
 use std::alloc::{AllocError, Global};
 
-/// The net run of the commands at these places on the page, what the page answers to each of them, and a number of
-/// entries that it has at least after them: what the page knew before, one more for each reply that tells of a new
+/// The net run of the commands at these places on the page, what the page answers to each of them, and between which two
+/// numbers of entries it has after them: what the page knew before, one more for each reply that tells of a new
 /// entry, and one less for each that tells of a deleted one, and as many as were wiped.
 pub(crate) fn replay(
     alloc: Global,
     commands: &[Command<Global>],
     page: &LeafChain,
     places: &[usize],
-) -> Result<(LeafRun, Pieces<Global>, usize), AllocError>
+) -> Result<(LeafRun, Pieces<Global>, EntryBounds), AllocError>
     requires { ArePlacesOf commands.now places.now }
     ensures run { IfOk result (λ r. r.0 ≡ net_run (entries_of page.now) (commands_at commands.now places.now)) }
     ensures pieces { IfOk result (λ r. r.1 ≡ pieces_of places.now (replies_to (entries_of page.now) (commands_at commands.now places.now))) }
-    ensures fewest { IfOk result (λ r. r.2 ≤ length (map_by_now page.now r.0)) }
+    ensures fewest { IfOk result (λ r. r.2.fewest ≤ length (map_by_now page.now r.0)) }
+    ensures most { IfOk result (λ r. min (length (map_by_now page.now r.0)) usize.MAX ≤ r.2.most) }
 {
     // Only for the proof: `depth` says that the page is in order.
     let _in_order = page.depth();
-    let mut changes = Changes::for_commands(alloc, commands, places);
-    let mut pieces = Pieces::with_capacity(alloc, places.len())?;
-    let mut fewest = page.fewest_entries();
+    let kinds = Kinds::of(commands, places);
+    let mut changes = Changes::for_commands(alloc, commands, places, kinds.writes);
+    let mut pieces = Pieces::with_capacity(alloc, kinds.room())?;
+    let mut bounds = bounds_of(page);
     for place in places {
-        let reply = execute(alloc, page, &mut changes, &commands[*place])?;
-        fewest = entries_after(fewest, &reply);
+        let reply = execute(alloc, page, &mut changes, &commands[*place], bounds.most)?;
+        bounds = bounds_after(bounds, &reply);
         pieces.push(Piece {
             place: *place,
             reply,
         })?;
     }
-    Ok((changes.into_run(alloc)?, pieces, fewest))
+    Ok((changes.into_run(alloc)?, pieces, bounds))
+}
+
+// Between which numbers of entries there are after a command.
+fn bounds_after(before: EntryBounds, reply: &Reply<Global>) -> EntryBounds
+    ensures fewest { result.fewest ≡ min (entries_after before.fewest reply.now) usize.MAX }
+    ensures most { result.most ≡ most_after usize.MAX before.most reply.now }
+    ensures within { before.most ≤ usize.MAX }
+{
+    EntryBounds {
+        fewest: entries_after(before.fewest, reply),
+        most: most_after(before.most, reply),
+    }
+}
+
+// How many there are at most; the greatest `usize` says nothing of them.
+fn most_after(before: usize, reply: &Reply<Global>) -> usize
+    ensures { result ≡ most_after usize.MAX before reply.now }
+{
+    if before == usize::MAX {
+        return before;
+    }
+    entries_after(before, reply)
 }
 
 // How many entries there are after a command, up to the greatest `usize`: its reply tells whether one came or went.
@@ -59,14 +85,17 @@ fn entries_after(before: usize, reply: &Reply<Global>) -> usize
     }
 }
 
-// The reply to the command, on the page with the changes so far.
+// The reply to the command, on the page with the changes so far, which has at most so many entries. Where it has none, no range is
+// gone through.
 fn execute(
     alloc: Global,
     page: &LeafChain,
     changes: &mut Changes,
     command: &Command<Global>,
+    most: usize,
 ) -> Result<Reply<Global>, AllocError>
-    requires { IsInOrder page.now }
+    requires order { IsInOrder page.now }
+    requires most { min (length (map_by_now page.now changes.old)) usize.MAX ≤ most }
     ensures reply { let before = map_by_now page.now changes.old in IfOk result (λ reply. reply ≡ reply_to before command.now) }
     ensures changes { let before = map_by_now page.now changes.old in
         OnOk result (changes.new ≡ noted_by (map_after before command.now) before command.now changes.old) }
@@ -77,10 +106,10 @@ fn execute(
         Command::Add(key, value) => add(alloc, page, changes, key, value),
         Command::Del(key) => del(alloc, page, changes, key),
         Command::Scan(low, end, limit) => {
-            let rows = rows_of(alloc, page, changes, low, end, *limit)?;
+            let rows = scan(alloc, page, changes, low, end, *limit, most)?;
             Ok(Reply::Rows(rows))
         }
-        Command::Wipe(low, end) => wipe(alloc, page, changes, low, end),
+        Command::Wipe(low, end) => wipe(alloc, page, changes, low, end, most),
     }
 }
 
@@ -153,6 +182,26 @@ fn del(
     Ok(Reply::Deleted)
 }
 
+// The rows of a range.
+fn scan(
+    alloc: Global,
+    page: &LeafChain,
+    changes: &Changes,
+    low: &Key<Global>,
+    end: &Option<Key<Global>>,
+    limit: u32,
+    most: usize,
+) -> Result<RowList<Global>, AllocError>
+    requires order { IsInOrder page.now }
+    requires most { min (length (map_by_now page.now changes.now)) usize.MAX ≤ most }
+    ensures { IfOk result (λ list. list ≡ rows low.now end.now limit (map_by_now page.now changes.now)) }
+{
+    if most == 0 {
+        return Ok(RowList::empty(alloc));
+    }
+    rows_of(alloc, page, changes, low, end, limit)
+}
+
 // Takes away the keys of a range. They are listed before any is noted, so that each is looked for once.
 fn wipe(
     alloc: Global,
@@ -160,11 +209,16 @@ fn wipe(
     changes: &mut Changes,
     low: &Key<Global>,
     end: &Option<Key<Global>>,
+    most: usize,
 ) -> Result<Reply<Global>, AllocError>
-    requires { IsInOrder page.now }
+    requires order { IsInOrder page.now }
+    requires most { min (length (map_by_now page.now changes.old)) usize.MAX ≤ most }
     ensures reply { IfOk result (λ reply. reply ≡ Wiped (length (in_range low.now end.now (map_by_now page.now changes.old)))) }
     ensures changes { OnOk result (changes.new ≡ with_absent changes.old (keys_of (in_range low.now end.now (map_by_now page.now changes.old)))) }
 {
+    if most == 0 {
+        return Ok(Reply::Wiped(0));
+    }
     let keys = keys_within(alloc, page, changes, low, end)?;
     let count = keys.len() as u128;
     note_absent(alloc, changes, keys)?;

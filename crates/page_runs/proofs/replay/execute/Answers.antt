@@ -18,7 +18,7 @@ returns-in-Add-clause-changes c =
 pub returns-in-Del-clause-changes : goal.returns-in-Del-clause-changes
 returns-in-Del-clause-changes c =
     let before : List (List ℕ × List ℕ) = with_run (entries_of c.args.page.now) c.args.changes.now in
-    let rising = rising-with_run (entries_of c.args.page.now) c.args.changes.now (rising-entries_of c.args.page.now c.requires) in
+    let rising = rising-with_run (entries_of c.args.page.now) c.args.changes.now (rising-entries_of c.args.page.now c.requires.order) in
     rw c.in-Del.is (del_noted c.del.result (is_some (value_at c.in-Del.key before)) before c.args.changes.now c.del.new.changes c.in-Del.key rising c.del.ensures.changes)
 
 pub returns-in-Wipe-clause-changes : goal.returns-in-Wipe-clause-changes
