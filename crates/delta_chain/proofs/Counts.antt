@@ -1,5 +1,5 @@
 -- How many entries a change and a run leave. For the proofs of this crate and of those above it.
-use Rattle.std.specs.Prelude.{◌≡◌, ℕ, suc, ◌+◌, ◌≤◌, Bool, true, false, cond, List, [], ◌∷◌, length, Option, Some, None}
+use Rattle.std.specs.Prelude.{◌≡◌, ℕ, suc, ◌+◌, ◌≤◌, min, Bool, true, false, cond, List, [], ◌∷◌, length, Option, Some, None}
 use Rattle.std.proofs.Common.{arith, ◌-◌, Ordering, Less, Equal, Greater}
 use Rattle.std.specs.Ordering.{is_eq, match_ordering}
 use Rattle.keys.specs.Order.{order}
@@ -72,3 +72,11 @@ module _ {V : Type 0} where
       let one = least_with_change m c.0 c.1 in
       let rest = least_with_run (with_change m c.0 c.1) cs in
       omega (arith, one, rest)
+
+  -- so many more entries than there were may be there, where a run of so many changes is applied
+  pub still_most : (n most more top : ℕ) (m : List (List ℕ × V)) (run : List (List ℕ × Option V)) → min (length m) top ≤ most → n ≡ length run → more ≡ min (most + n) top → min (length (with_run m run)) top ≤ more
+  still_most n most more top m run h e s = let least = least_with_run m run in omega (arith, least, h, e, s)
+
+  -- and where it is taken back
+  pub most_before : (n most more top : ℕ) (m : List (List ℕ × V)) (run : List (List ℕ × Option V)) → min (length (with_run m run)) top ≤ most → n ≡ length run → more ≡ min (most + n) top → min (length m) top ≤ more
+  most_before n most more top m run h e s = let least = most_with_run m run in omega (arith, least, h, e, s)

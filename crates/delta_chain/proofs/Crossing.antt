@@ -5,6 +5,8 @@ use denote.Param.Send.{IsSend, IsSync, Frees}
 use Rattle.std.specs.declared.alloc.Allocator.{Ghosts}
 use Rattle.delta_chain.specs.contracts.chain.Chain as Chain
 use Rattle.delta_chain.proofs.chain.Chain.TheSendSync as chain
+use Rattle.delta_chain.specs.contracts.late.LateChain as LateChain
+use Rattle.delta_chain.proofs.late.LateChain.TheSendSync as late
 
 module _ (V A : RattleType) (g : Ghosts A.Denot) where
   pub Chain-send : IsSend V → IsSend A → Frees g g.dealloc_token → IsSend (Chain.the_row V A g)
@@ -12,3 +14,9 @@ module _ (V A : RattleType) (g : Ghosts A.Denot) where
 
   pub Chain-sync : IsSync V → IsSync A → IsSync (Chain.the_row V A g)
   Chain-sync sv sa = chain.the_sync V A g sv sa
+
+  pub LateChain-send : IsSend V → IsSend A → Frees g g.dealloc_token → IsSend (LateChain.the_row V A g)
+  LateChain-send sv sa f = late.the_send V A g sv sa f
+
+  pub LateChain-sync : IsSync V → IsSync A → IsSync (LateChain.the_row V A g)
+  LateChain-sync sv sa = late.the_sync V A g sv sa

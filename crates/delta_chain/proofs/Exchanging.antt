@@ -1,5 +1,5 @@
 -- A page with another cell in the place of one that it holds, for the proofs of this crate and of those above it.
-use Rattle.std.specs.Prelude.{◌≡◌, ◌≢◌, ◌≤◌, ℕ, zero, suc, Bool, true, false, cond, List, [], ◌∷◌, length, set, slice_get, slice_range, Option, Some, None, is_some}
+use Rattle.std.specs.Prelude.{◌≡◌, ◌≢◌, ◌≤◌, ◌-◌, ◌^◌, min, ℕ, zero, suc, Bool, true, false, cond, List, [], ◌∷◌, length, set, slice_get, slice_range, Option, Some, None, is_some}
 use Rattle.std.proofs.Common.{refl, sym, ap, ◌∙◌, arith}
 use Rattle.std.specs.Option.{unwrap_or}
 use Rattle.std.specs.Ordering.{is_eq}
@@ -17,6 +17,9 @@ use Rattle.delta_chain.proofs.Counts.{most_with_pair}
 use Rattle.delta_chain.proofs.NewestRunLemmas.{known-exchanged}
 use Rattle.delta_chain.proofs.LayerLemmas.{value_at-with_change, rising-entries_of, value_at-entries_of}
 use Rattle.delta_chain.proofs.Setting.{first_below, value_at-found}
+
+still_no_more : (n m most top : ℕ) → n ≤ m → min m top ≤ most → min n top ≤ most
+still_no_more n m most top l h = omega (arith, l, h)
 
 module _ {T : Type 0} where
   -- ---- at a place
@@ -268,11 +271,22 @@ module _ {V : Type 0} where
 
   -- ---- what a chain keeps
 
-  pub counted_exchanged : (p : Layers V) (k : List ℕ) (v : V) (fewest : ℕ) (newest : List ℕ) → IsCounted p fewest newest → IsCounted (exchanged p k v) fewest newest
-  counted_exchanged p k v fewest newest h =
-      let most = most_exchanged p k v h.rising in
+  least_by : (o : Option V) (p : Layers V) (k : List ℕ) (v : V) → holds p k ≡ o → IsInOrder p → length (entries_of (exchanged p k v)) ≤ length (entries_of p)
+  least_by None p k v e a = rw (left_unnamed k v p.runs p.base (ap is_some e)) (omega arith)
+  least_by (Some w) p k v e a =
+      let back = exchanged-back p k v w a e in
+      rw back at (most_exchanged (exchanged p k v) k w (rising-exchanged p k v a))
+
+  -- no entry comes
+  least_exchanged : (p : Layers V) (k : List ℕ) (v : V) → IsInOrder p → length (entries_of (exchanged p k v)) ≤ length (entries_of p)
+  least_exchanged p k v a = least_by (holds p k) p k v refl a
+
+  pub counted_exchanged : (p : Layers V) (k : List ℕ) (v : V) (fewest most : ℕ) (newest : List ℕ) → IsCounted p fewest most newest → IsCounted (exchanged p k v) fewest most newest
+  counted_exchanged p k v fewest most newest h =
+      let more = most_exchanged p k v h.rising in
       record {
         rising = rising-exchanged p k v h.rising;
-        entries = omega (arith, h.entries, most);
+        entries = omega (arith, h.entries, more);
+        no_more = still_no_more (length (entries_of (exchanged p k v))) (length (entries_of p)) most (2 ^ 64 - 1) (least_exchanged p k v h.rising) h.no_more;
         known = known-exchanged newest k v p.runs p.base h.known;
       }

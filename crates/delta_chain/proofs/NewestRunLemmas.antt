@@ -1,13 +1,13 @@
 -- What is known of the keys that runs name, by their fingerprints.
-use Rattle.std.specs.Prelude.{◌≡◌, ◌≢◌, ◌⊎◌, ℕ, zero, suc, ◌+◌, ◌-◌, ◌<◌, ◌≤◌, Bool, true, false, List, [], ◌∷◌, ◌++◌, length, min, get_or, take, drop, reverse, set, nat_eq, slice_get, Option, Some, None, cond}
-use Rattle.std.proofs.Common.{refl, sym, ap, subst, ◌∙◌, inl, inr, arith, ⊎_elim}
+use Rattle.std.specs.Prelude.{◌≡◌, ◌≢◌, ◌⊎◌, ℕ, zero, suc, ◌+◌, ◌<◌, ◌≤◌, Bool, true, false, List, [], ◌∷◌, ◌++◌, length, min, get_or, take, drop, reverse, set, nat_eq, slice_get, Option, Some, None}
+use Rattle.std.proofs.Common.{refl, sym, ap, ◌∙◌, inr, arith, ⊎_elim}
 use Rattle.std.specs.Map.{keys_of}
 use Rattle.std.specs.Ordering.{is_eq}
 use Rattle.std.proofs.lemmas.Bool.Decides.{nat_tests}
 use Rattle.std.proofs.lemmas.List.{get_or-set_same, get_or-set_other, take_all, take-append-drop, length-append, length-reverse, length-take-le, reverse-append}
-use Rattle.keys.specs.Bytes.{Bytes, Changes}
+use Rattle.keys.specs.Bytes.{Changes}
 use Rattle.keys.specs.Fingerprint.{fingerprint_of}
-use Rattle.keys.specs.Order.{order, IsRising}
+use Rattle.keys.specs.Order.{order}
 use Rattle.keys.specs.OrderedMap.{value_at, with_pair}
 use Rattle.keys.proofs.MapLemmas.{is_apart, value_at-with_pair_elsewhere}
 use Rattle.delta_chain.specs.Exchange.{exchanged_under, exchanged_by}

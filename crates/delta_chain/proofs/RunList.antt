@@ -1,20 +1,26 @@
 -- The list of a chain's runs, the oldest first, and the page that they make.
-use Rattle.std.specs.Prelude.{◌≡◌, ◌⊎◌, ℕ, zero, suc, ◌+◌, ◌-◌, ◌≤◌, Bool, if◌then◌else◌, List, [], ◌∷◌, ◌++◌, length, min, get_or, take, reverse, slice_get, Option, Some, None}
+use Rattle.std.specs.Prelude.{◌≡◌, ◌⊎◌, ℕ, zero, suc, ◌+◌, ◌-◌, ◌<◌, ◌≤◌, ◌^◌, Bool, if◌then◌else◌, List, [], ◌∷◌, ◌++◌, length, min, get_or, take, drop, reverse, slice_get, Option, Some, None}
 use Rattle.std.proofs.Common.{refl, sym, ap, ◌∙◌, arith}
 use Rattle.std.specs.Map.{keys_of, values_of}
+use Rattle.std.specs.List.{sum_by}
 use Rattle.std.specs.Option.{unwrap_or}
-use Rattle.std.proofs.lemmas.List.{reverse-append, length-reverse, take_all, take_at}
+use Rattle.std.proofs.lemmas.List.{reverse-append, length-reverse, take_all, take_at, take_rest}
+use Rattle.std.proofs.lemmas.List.Sums.{sum_by-cons, sum_by_push, sum_by_more}
 use Rattle.keys.specs.Bytes.{Changes}
 use Rattle.keys.specs.Order.{IsRising}
 use Rattle.keys.specs.OrderedMap.{value_at}
 use Rattle.delta_chain.specs.Exchange.{exchanged_at, in_place_of, exchanged, exchanged_under}
-use Rattle.delta_chain.specs.Layers.{Layers, held_under, entries_under}
+use Rattle.delta_chain.specs.Layers.{Layers, held_under, entries_under, AllRise}
 use Rattle.delta_chain.specs.Merging.{said_by, overlaid}
 use Rattle.delta_chain.specs.Counted.{IsCounted}
 use Rattle.delta_chain.specs.NewestRuns.{NamesKnown}
-use Rattle.delta_chain.proofs.Counts.{least_with_run, still_fewest}
+use Rattle.delta_chain.proofs.Counts.{least_with_run, still_fewest, still_most, most_before}
+use Rattle.delta_chain.proofs.LateLemmas.{reverse-oldest, reverse-newer}
 use Rattle.delta_chain.proofs.NewestRunLemmas.{still_known}
 use Rattle.delta_chain.proofs.Exchanging.{exchanged-run, held-run, counted_exchanged}
+
+more_by : (named n more top sum all run : ℕ) → named ≡ min sum top → n ≡ run → more ≡ min (named + n) top → all ≡ sum + run → more ≡ min all top
+more_by named n more top sum all run e s t h = omega (arith, e, s, t, h)
 
 module _ {T : Type 0} where
   -- what is put behind the others is the first from behind
@@ -40,32 +46,77 @@ module _ {V : Type 0} where
 
   -- ---- a run more, and one less
 
-  pub counted-push : (runs now : List (Changes V)) (run : Changes V) (base : List (List ℕ × V)) (n fewest left : ℕ) (newest noted : List ℕ) (number : ℕ) → now ≡ runs ++ run ∷ [] → IsRising run → n ≡ length run → left ≡ fewest - n
-      → number ≡ length runs + 1 → NamesKnown noted number run → ((m : ℕ) → (get_or noted m 0 ≡ get_or newest m 0) ⊎ (get_or noted m 0 ≡ min number 255)) → IsCounted (Page runs base) fewest newest → IsCounted (Page now base) left noted
-  counted-push runs now run base n fewest left newest noted number i r e s c a f h =
+  pub counted-push : (runs now : List (Changes V)) (run : Changes V) (base : List (List ℕ × V)) (n fewest left most more : ℕ) (newest noted : List ℕ) (number : ℕ) → now ≡ runs ++ run ∷ [] → IsRising run → n ≡ length run → left ≡ fewest - n
+      → more ≡ min (most + n) (2 ^ 64 - 1) → number ≡ length runs + 1 → NamesKnown noted number run → ((m : ℕ) → (get_or noted m 0 ≡ get_or newest m 0) ⊎ (get_or noted m 0 ≡ min number 255))
+      → IsCounted (Page runs base) fewest most newest → IsCounted (Page now base) left more noted
+  counted-push runs now run base n fewest left most more newest noted number i r e s t c a f h =
       let long = length-reverse runs in
       let count : suc (length (reverse runs)) ≡ number = omega (arith, long, c) in
       rw (i, reverse-behind runs run) (record {
         rising = (r, h.rising);
         entries = still_fewest n fewest left (entries_under (reverse runs) base) run h.entries e s;
+        no_more = still_most n most more (2 ^ 64 - 1) (entries_under (reverse runs) base) run h.no_more e t;
         known = (rw count a, still_known newest noted number (reverse runs) (omega (arith, count)) f h.known);
       })
 
   pub page-push : (runs now : List (Changes V)) (run : Changes V) (base : List (List ℕ × V)) → now ≡ runs ++ run ∷ [] → Page now base ≡ record { runs = run ∷ reverse runs; base = base }
   page-push runs now run base i = rw (i, reverse-behind runs run) refl
 
-  pub counted-pop : (runs older : List (Changes V)) (run : Changes V) (base : List (List ℕ × V)) (n fewest left : ℕ) (newest : List ℕ) → runs ≡ older ++ run ∷ [] → n ≡ length run → left ≡ fewest - n → IsCounted (Page runs base) fewest newest → IsCounted (Page older base) left newest
-  counted-pop runs older run base n fewest left newest i e s h =
+  pub counted-pop : (runs older : List (Changes V)) (run : Changes V) (base : List (List ℕ × V)) (n fewest left most more : ℕ) (newest : List ℕ) → runs ≡ older ++ run ∷ [] → n ≡ length run → left ≡ fewest - n → more ≡ min (most + n) (2 ^ 64 - 1)
+      → IsCounted (Page runs base) fewest most newest → IsCounted (Page older base) left more newest
+  counted-pop runs older run base n fewest left most more newest i e s t h =
       let is : reverse runs ≡ run ∷ reverse older = ap reverse i ∙ reverse-behind older run in
       let rising = rw is at h.rising in
       let entries = rw is at h.entries in
+      let no_more = rw is at h.no_more in
       let known = rw is at h.known in
       let least = least_with_run (entries_under (reverse older) base) run in
       record {
         rising = rising.1;
         entries = omega (arith, entries, least);
+        no_more = most_before n most more (2 ^ 64 - 1) (entries_under (reverse older) base) run no_more e t;
         known = known.1;
       }
+
+  -- ---- the oldest of them, and the others
+
+  pub page-oldest : (items : List (Changes V)) (base : List (List ℕ × V)) (count : ℕ) → count ≤ length (reverse items) → Page (take count items) base ≡ record { runs = drop (length (reverse items) - count) (reverse items); base = base }
+  page-oldest items base count l =
+      let long = length-reverse items in
+      ap (λ (runs : List (Changes V)). record { runs = runs; base = base }) (reverse-oldest items count (omega (arith, l, long)))
+
+  pub page-newer : (items : List (Changes V)) (base : List (List ℕ × V)) (count : ℕ) → Page (take (length items - count) (drop count items)) base ≡ record { runs = take (length (reverse items) - count) (reverse items); base = base }
+  page-newer items base count = rw (take_rest items count) (ap (λ (runs : List (Changes V)). record { runs = runs; base = base }) (reverse-newer items count))
+
+  -- ---- how many changes they have
+
+  pub changes-reversed : (runs : List (Changes V)) → sum_by (λ run. length run) (reverse runs) ≡ sum_by (λ run. length run) runs
+  changes-reversed [] = refl
+  changes-reversed (run ∷ runs) =
+      let last = sum_by_push (λ (r : Changes V). length r) (reverse runs) run in
+      let first = sum_by-cons (λ (r : Changes V). length r) run runs in
+      let rest = changes-reversed runs in
+      let sum : sum_by (λ r. length r) (reverse runs ++ run ∷ []) ≡ sum_by (λ r. length r) (run ∷ runs) = omega (arith, last, first, rest) in
+      rw (reverse-append (run ∷ []) runs) sum
+
+  -- one more of them, and all
+  pub changes-next : (runs : List (Changes V)) (at : ℕ) (run : Changes V) (named n more top : ℕ) → at < length runs → run ≡ get_or runs at run → named ≡ min (sum_by (λ run. length run) (take at runs)) top → n ≡ length run → more ≡ min (named + n) top
+      → more ≡ min (sum_by (λ run. length run) (take (at + 1) runs)) top
+  changes-next runs at run named n more top l h e s t =
+      let last = sum_by_more (λ (r : Changes V). length r) runs at run l in
+      let same : length (get_or runs at run) ≡ length run = ap (λ (r : Changes V). length r) (sym h) in
+      more_by named n more top (sum_by (λ r. length r) (take at runs)) (sum_by (λ r. length r) (take (at + 1) runs)) (length run) e s t (rw same at last)
+
+  pub changes-all : (runs : List (Changes V)) (at named top : ℕ) → length runs ≤ at → named ≡ min (sum_by (λ run. length run) (take at runs)) top → named ≡ min (sum_by (λ run. length run) (reverse runs)) top
+  changes-all runs at named top l e =
+      let all = rw (take_all at runs l) at e in
+      rw (changes-reversed runs) all
+
+  -- ---- that the keys of all of them rise
+
+  pub all_rise-over : (runs : List (Changes V)) (base : List (List ℕ × V)) → AllRise {V = V} runs [] → IsRising base → AllRise runs base
+  all_rise-over [] base a r = r
+  all_rise-over (run ∷ runs) base a r = (a.0, all_rise-over runs base a.1 r)
 
   -- ---- what the first so many say together
 
@@ -118,5 +169,5 @@ module _ {V : Type 0} where
       let is : now ≡ (exchanged_under k v [] base).base = ap (λ (p : Layers V). p.base) e in
       rw (s, is) (sym h)
 
-  pub still_counted : (old now : Layers V) (k : List ℕ) (v : V) (fewest : ℕ) (newest : List ℕ) → now ≡ exchanged old k v → IsCounted old fewest newest → IsCounted now fewest newest
-  still_counted old now k v fewest newest e h = rw e (counted_exchanged old k v fewest newest h)
+  pub still_counted : (old now : Layers V) (k : List ℕ) (v : V) (fewest most : ℕ) (newest : List ℕ) → now ≡ exchanged old k v → IsCounted old fewest most newest → IsCounted now fewest most newest
+  still_counted old now k v fewest most newest e h = rw e (counted_exchanged old k v fewest most newest h)

@@ -1,11 +1,11 @@
-ghost use Rattle.std.specs.Prelude.{◌≡◌, ◌<◌, ◌≤◌, ◌∷◌, [], false, List, length, min, reverse, vec_len, vec_capacity, if◌then◌else◌, OnOk, OnErr, IfOk, IfErr, MatchOption};
+ghost use Rattle.std.specs.Prelude.{◌≡◌, ◌<◌, ◌≤◌, ◌+◌, ◌-◌, ◌∷◌, [], false, List, length, min, take, drop, reverse, vec_len, vec_capacity, if◌then◌else◌, OnOk, OnErr, IfOk, IfErr, MatchOption};
+ghost use Rattle.std.specs.List.{sum_by};
 ghost use Rattle.std.specs.Option.{unwrap_or};
 ghost use Rattle.keys.specs.Bytes.{Bytes};
 ghost use Rattle.keys.specs.Order.{IsRising};
 ghost use Rattle.keys.specs.OrderedMap.{value_at};
 ghost use Rattle.delta_chain.specs.Exchange.{exchanged, exchanged_under};
 ghost use Rattle.delta_chain.specs.Layers.{Layers, holds, held_under, entries_of, depth_of, IsInOrder};
-ghost use Rattle.delta_chain.specs.Merging.{said_by};
 
 use crate::base::Base;
 use crate::merging::{copied, lent_base, merged, with_run};
@@ -23,8 +23,7 @@ pub struct Chain<V, A: Allocator> {
     base: Base<V, A>,
     // The oldest first, back to back, so that a look-up goes through one block, and a new one is put behind the others.
     runs: Vec<Run<V, A>, A>,
-    // The page has as many entries, or more.
-    fewest: usize,
+    entries: EntryBounds,
     newest_runs: NewestRuns,
 }
 
@@ -37,7 +36,16 @@ impl<V, A: Allocator> Model for Chain<V, A> {
 
     ghost view = { λ c. record { runs = reverse c.runs.items; base = c.base } };
 
-    ghost invariant = { λ c. IsCounted (record { runs = reverse c.runs.items; base = c.base }) c.fewest c.newest_runs.numbers };
+    ghost invariant = { λ c. IsCounted (record { runs = reverse c.runs.items; base = c.base }) c.entries.fewest c.entries.most c.newest_runs.numbers };
+}
+
+/// What is known of how many entries a page has, without a look at them.
+#[derive(Clone, Copy)]
+pub struct EntryBounds {
+    /// It has as many, or more.
+    pub fewest: usize,
+    /// It has as many, or fewer. The greatest `usize` says nothing.
+    pub most: usize,
 }
 
 /// A page's runs from one of them down, and its base, lent: what a search goes down through. Contracts see it as a page of these.
@@ -55,6 +63,19 @@ impl<'a, V, A: Allocator> Model for ChainRef<'a, V, A> {
     ghost Value = { Layers V };
 
     ghost view = { λ c. record { runs = reverse c.runs.now; base = c.base.now } };
+}
+
+impl EntryBounds {
+    // What is known once so many changes were made, or taken back: each of them adds one entry at most, or takes one away.
+    fn with_changes(self, count: usize) -> EntryBounds
+        ensures fewest { result.fewest ≡ self.fewest - count }
+        ensures most { result.most ≡ min (self.most + count) usize.MAX }
+    {
+        EntryBounds {
+            fewest: self.fewest.saturating_sub(count),
+            most: self.most.saturating_add(count),
+        }
+    }
 }
 
 impl<'a, V, A: Allocator + Copy> ChainRef<'a, V, A> {
@@ -83,6 +104,20 @@ impl<'a, V, A: Allocator + Copy> ChainRef<'a, V, A> {
     {
         self.base
     }
+
+    /// The entries of the page that these runs and the base make, lent: its present keys with their cells, in key order.
+    pub fn pairs(&self, alloc: A) -> Result<Pairs<'a, V, A>, AllocError>
+        ensures entries { IfOk result (λ pairs. pairs ≡ entries_of self.now) }
+        ensures rising { IfOk result (λ pairs. IsRising pairs) }
+    {
+        let under = lent_base(alloc, self.base)?;
+        if self.runs.is_empty() {
+            return Ok(under);
+        }
+        // The runs are merged with one another first, so that the base, which is mostly longer, is gone through once.
+        let changes = merged(alloc, self.runs)?;
+        with_run(alloc, &under, &changes)
+    }
 }
 
 // For how many runs more a chain of at most `FEW_RUNS` gets room where it has none left. The settings allow a page no more than 16 runs, so
@@ -98,13 +133,17 @@ impl<V, A: Allocator + Copy> Chain<V, A> {
     pub fn of_base(base: Base<V, A>) -> Self
         ensures { result ≡ record { runs = []; base = base } }
     {
-        let fewest = base.len();
+        let count = base.len();
+        let entries = EntryBounds {
+            fewest: count,
+            most: count,
+        };
         let runs = Vec::new(base.alloc());
         let newest_runs = NewestRuns::none();
         Chain {
             base,
             runs,
-            fewest,
+            entries,
             newest_runs,
         }
     }
@@ -118,20 +157,47 @@ impl<V, A: Allocator + Copy> Chain<V, A> {
         count as u64
     }
 
-    /// A number of entries that the page has at least, which is had without a look at any of them: what a base alone has, less as
-    /// many as each run names that is put in front or taken off, unless `raise_fewest` has told more.
+    /// How many runs there are.
+    pub fn run_count(&self) -> usize
+        ensures count { result ≡ depth_of self.now }
+        ensures rising { IsInOrder self.now }
+    {
+        self.runs.len()
+    }
+
+    /// How many changes the runs have together, or the greatest `usize` where that is less.
+    pub fn change_count(&self) -> usize
+        ensures { result ≡ min (sum_by (λ run. length run) self.now.runs) usize.MAX }
+    {
+        named_by(&self.runs)
+    }
+
+    /// How many entries the page has at least and at most, which is had without a look at any of them: what a base alone has, give or
+    /// take as many as each run names that is put in front or taken off, unless `bound` has told more.
+    pub fn bounds(&self) -> EntryBounds
+        ensures fewest { result.fewest ≤ length (entries_of self.now) }
+        ensures most { min (length (entries_of self.now)) usize.MAX ≤ result.most }
+    {
+        self.entries
+    }
+
+    /// The lower one of the `bounds`.
     pub fn fewest_entries(&self) -> usize
         ensures { result ≤ length (entries_of self.now) }
     {
-        self.fewest
+        self.entries.fewest
     }
 
-    /// Tells the chain that the page has as many entries, or more, where the caller knows. A base alone knows how many it has.
-    pub fn raise_fewest(&mut self, entries: usize)
-        requires { entries ≤ length (entries_of self.old) }
+    /// Tells the chain what the caller knows of how many entries the page has. A base alone knows how many it has.
+    pub fn bound(&mut self, known: EntryBounds)
+        requires fewest { known.fewest ≤ length (entries_of self.old) }
+        requires most { min (length (entries_of self.old)) usize.MAX ≤ known.most }
         ensures { self.new ≡ self.old }
     {
-        self.fewest = self.fewest.max(entries);
+        self.entries = EntryBounds {
+            fewest: self.entries.fewest.max(known.fewest),
+            most: self.entries.most.min(known.most),
+        };
     }
 
     /// The runs and the base, to be gone down through from the newest run.
@@ -140,6 +206,28 @@ impl<V, A: Allocator + Copy> Chain<V, A> {
     {
         ChainRef {
             runs: &self.runs,
+            base: &self.base,
+        }
+    }
+
+    // The oldest runs, so many of them, and the base.
+    pub(crate) fn oldest(&self, count: usize) -> ChainRef<'_, V, A>
+        requires { count ≤ length self.now.runs }
+        ensures { result ≡ record { runs = drop (length self.now.runs - count) self.now.runs; base = self.now.base } }
+    {
+        ChainRef {
+            runs: &self.runs[..count],
+            base: &self.base,
+        }
+    }
+
+    // The runs but for so many of the oldest, and the base.
+    pub(crate) fn newest_above(&self, count: usize) -> ChainRef<'_, V, A>
+        requires { count ≤ length self.now.runs }
+        ensures { result ≡ record { runs = take (length self.now.runs - count) self.now.runs; base = self.now.base } }
+    {
+        ChainRef {
+            runs: &self.runs[count..],
             base: &self.base,
         }
     }
@@ -168,20 +256,7 @@ impl<V, A: Allocator + Copy> Chain<V, A> {
         ensures entries { IfOk result (λ pairs. pairs ≡ entries_of self.now) }
         ensures rising { IfOk result (λ pairs. IsRising pairs) }
     {
-        let under = lent_base(alloc, &self.base)?;
-        if self.depth() == 0 {
-            return Ok(under);
-        }
-        // The runs are merged with one another first, so that the base, which is mostly longer, is gone through once.
-        let changes = self.changes(alloc)?;
-        with_run(alloc, &under, &changes)
-    }
-
-    // What the runs say together, lent: the keys that they name, each with what the newest run that names it says.
-    fn changes(&self, alloc: A) -> Result<Pairs<'_, Option<V>, A>, AllocError>
-        ensures { IfOk result (λ changes. changes ≡ said_by self.now.runs) }
-    {
-        merged(alloc, &self.runs)
+        self.lent().pairs(alloc)
     }
 }
 
@@ -195,9 +270,7 @@ impl<V: Drop, A: Allocator + Copy> Chain<V, A> {
         if let Err(refused) = make_room(&mut self.runs) {
             return Err((refused, run));
         }
-        // A change takes one entry away at most.
-        let taken = run.len();
-        self.fewest = self.fewest.saturating_sub(taken);
+        self.entries = self.entries.with_changes(run.len());
         let number = self.runs.len() + 1;
         self.newest_runs.note(&run, number);
         self.runs.push_reserved(run);
@@ -209,9 +282,8 @@ impl<V: Drop, A: Allocator + Copy> Chain<V, A> {
         ensures { MatchOption result (self.old.runs ≡ [] × self.new ≡ self.old) (λ run. self.old ≡ record self.new { runs = run ∷ self.new.runs }) }
     {
         let run = self.runs.pop()?;
-        // A change had added one entry at most.
         let added = run.len();
-        self.fewest = self.fewest.saturating_sub(added);
+        self.entries = self.entries.with_changes(added);
         Some(run)
     }
 
@@ -249,6 +321,17 @@ impl<V: Cell<A> + Drop, A: Allocator + Copy> Chain<V, A> {
         let pairs = self.pairs(alloc)?;
         copied(alloc, &pairs)
     }
+}
+
+// How many changes these runs have together, or the greatest `usize` where that is less.
+fn named_by<V, A: Allocator + Copy>(runs: &[Run<V, A>]) -> usize
+    ensures { result ≡ min (sum_by (λ run. length run) (reverse runs.now)) usize.MAX }
+{
+    let mut named: usize = 0;
+    for run in runs {
+        named = named.saturating_add(run.len());
+    }
+    named
 }
 
 // Makes room for another run, if there is none. The list is made anew and not grown where it is: for that the C library locks the heap of

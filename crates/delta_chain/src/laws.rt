@@ -1,8 +1,9 @@
 //! What the definitions of `specs/` mean. Each law is the contract of a function with an empty body.
-ghost use Rattle.std.specs.Prelude.{◌≡◌};
+ghost use Rattle.std.specs.Prelude.{◌≡◌, ◌≤◌, ◌∷◌, [], length};
 ghost use Rattle.keys.specs.Bytes.{Bytes, Pairs, Changes};
 ghost use Rattle.keys.specs.Order.{IsRising};
 ghost use Rattle.keys.specs.OrderedMap.{value_at};
+ghost use Rattle.delta_chain.specs.Late.{Late, seen};
 ghost use Rattle.delta_chain.specs.Layers.{Layers, said_or, holds, with_run, entries_of, IsInOrder};
 
 /// Entries with a run applied have at each key what the run says of it, else what they had, and they rise.
@@ -16,4 +17,18 @@ pub fn a_run_says_or_leaves<V>()
 pub fn entries_are_what_is_held<V>()
     ensures holds { (p : Layers V) (k : Bytes) → IsInOrder p → value_at k (entries_of p) ≡ holds p k }
     ensures rising { (p : Layers V) → IsInOrder p → IsRising (entries_of p) }
+{}
+
+/// Runs that count as merged with the base change nothing of what the page holds. Where none of them do, the page is the chain; where
+/// all do, it is a base of the chain's entries; and a run that is put in front of the chain stands in front of the page.
+pub fn a_late_base_is_what_its_runs_make<V>()
+    ensures entries { (c : Late V) → entries_of (seen c) ≡ entries_of c.chain }
+    ensures rising { (c : Late V) → IsInOrder c.chain → IsInOrder (seen c) }
+    ensures holds { (c : Late V) (k : Bytes) → IsInOrder c.chain → holds (seen c) k ≡ holds c.chain k }
+    ensures early { (p : Layers V) → seen (record { chain = p; settled = 0 }) ≡ p }
+    ensures settled { (p : Layers V) →
+        seen (record { chain = p; settled = length p.runs }) ≡ record { runs = []; base = entries_of p } }
+    ensures in_front { (c : Late V) (run : Changes V) → c.settled ≤ length c.chain.runs →
+        seen (record { chain = record { runs = run ∷ c.chain.runs; base = c.chain.base }; settled = c.settled }) ≡
+        record { runs = run ∷ (seen c).runs; base = (seen c).base } }
 {}

@@ -8,25 +8,33 @@ use Rattle.std.specs.declared.alloc.Allocator.{Ghosts}
 use Rattle.keys.specs.contracts.value.Value as Value
 use Rattle.keys.proofs.key.Key.TheSendSync as key
 use Rattle.keys.proofs.value.Value.TheSendSync as value
-use Rattle.delta_chain.proofs.Crossing.{Chain-send, Chain-sync}
+use Rattle.delta_chain.proofs.Crossing.{LateChain-send, LateChain-sync}
 use Rattle.index_page.proofs.index_state.IndexState.TheSendSync as state
+use Rattle.index_page.specs.contracts.in_memory.PageInMemory as PageInMemory
+use Rattle.index_page.specs.contracts.in_memory.PageInMemory.TheInside as held
+use Rattle.index_page.specs.contracts.in_memory.State as State
 use Rattle.index_page.specs.contracts.page.Page as Page
 use Rattle.index_page.specs.contracts.page.Page.TheInside as inside
-use Rattle.index_page.specs.contracts.page.State as State
 
 module _ (A : RattleType) (g : Ghosts A.Denot) where
   state_send : IsSend A → Frees g g.dealloc_token → IsSend (State.the_field A g).row
   state_send s f =
-      let values = Chain-send (Value.the_row A g) A g (value.the_send A g s f) s f in
+      let values = LateChain-send (Value.the_row A g) A g (value.the_send A g s f) s f in
       enum_send (variants.shape (State.the_type A g)) ((values, tt), ((state.the_send A g s f, tt), tt))
 
+  pub PageInMemory-send : IsSend A → Frees g g.dealloc_token → IsSend (PageInMemory.the_row A g)
+  PageInMemory-send s f = view_send _ _ _ _ _ (recorded_send _ _ _ (held.the_type A g).to_one (struct_send (shape (held.the_type A g)) (key.the_send A g s f, (state_send s f, tt))))
+
   pub Page-send : IsSend A → Frees g g.dealloc_token → IsSend (Page.the_row A g)
-  Page-send s f = view_send _ _ _ _ _ (recorded_send _ _ _ (inside.the_type A g).to_one (struct_send (shape (inside.the_type A g)) (key.the_send A g s f, (state_send s f, tt))))
+  Page-send s f = view_send _ _ _ _ _ (recorded_send _ _ _ (inside.the_type A g).to_one (struct_send (shape (inside.the_type A g)) (PageInMemory-send s f, tt)))
 
   state_sync : IsSync A → IsSync (State.the_field A g).row
   state_sync s =
-      let values = Chain-sync (Value.the_row A g) A g (value.the_sync A g s) s in
+      let values = LateChain-sync (Value.the_row A g) A g (value.the_sync A g s) s in
       enum_sync (variants.shape (State.the_type A g)) ((values, tt), ((state.the_sync A g s, tt), tt))
 
+  pub PageInMemory-sync : IsSync A → IsSync (PageInMemory.the_row A g)
+  PageInMemory-sync s = view_sync _ _ _ _ _ (recorded_sync _ _ _ (held.the_type A g).to_one (struct_sync (shape (held.the_type A g)) (key.the_sync A g s, (state_sync s, tt))))
+
   pub Page-sync : IsSync A → IsSync (Page.the_row A g)
-  Page-sync s = view_sync _ _ _ _ _ (recorded_sync _ _ _ (inside.the_type A g).to_one (struct_sync (shape (inside.the_type A g)) (key.the_sync A g s, (state_sync s, tt))))
+  Page-sync s = view_sync _ _ _ _ _ (recorded_sync _ _ _ (inside.the_type A g).to_one (struct_sync (shape (inside.the_type A g)) (PageInMemory-sync s, tt)))

@@ -1,5 +1,5 @@
 -- Lemmas on the child for a key with the end of its range, and on the children between bounds.
-use Rattle.std.specs.Prelude.{◌≡◌, ◌↔◌, ℕ, ◌+◌, ◌<◌, Bool, true, false, cond, ◌&&◌, ◌||◌, List, [], ◌∷◌, map, length, slice_get, Option, Some, None}
+use Rattle.std.specs.Prelude.{◌≡◌, ◌↔◌, ℕ, zero, suc, ◌+◌, ◌<◌, ◌≤◌, Bool, true, false, cond, ◌&&◌, ◌||◌, List, [], ◌∷◌, map, length, slice_get, Option, Some, None}
 use Rattle.std.specs.Option.{option_map, option_or}
 use Rattle.std.specs.List.{filter, AllByRecursion}
 use Rattle.std.specs.List.Sorted.{IsStrictlySortedBy}
@@ -8,8 +8,10 @@ use Rattle.std.proofs.Common.{refl, sym, ap, ◌∙◌, arith, Less}
 use Rattle.keys.specs.Order.{order, IsRising}
 use Rattle.keys.proofs.MapLemmas.{total, IsBelowAll, below_all}
 use Rattle.page_search.specs.Floor.{floor}
+use Rattle.page_search.proofs.PlaceLemmas.{key_at}
 use Rattle.page_search.specs.Above.{above}
 use Rattle.index_page.specs.ChildList.{IsCountUpTo}
+use Rattle.index_page.specs.NextChild.{PassesOne, left_at}
 use Rattle.index_page.specs.Page.{first_key}
 use Rattle.index_page.specs.Range.{is_below, is_before, is_within}
 use Rattle.index_page.specs.Children.{Place, children, is_place_for, child_with_end, is_between, meets, children_within, entries_between, left_from}
@@ -27,14 +29,6 @@ module _ (P : List ℕ → Type 0) (k : List ℕ) where
   all_floor : (es : List (List ℕ × ℕ)) (g : List ℕ × ℕ) → AllByRecursion P (keys_of es) → floor k es ≡ Some g → P g.0
   all_floor [] g a h = absurd (cc)
   all_floor (e ∷ es) g a h = one_or (floor k es) (is_below k e.0) e g a.0 (λ f q. all_floor es f a.1 q) h
-
-  first_or : (b : Bool) (o : Option (List ℕ × ℕ)) (e g : List ℕ × ℕ) → P e.0 → (o ≡ Some g → P g.0) → cond b (Some e) o ≡ Some g → P g.0
-  first_or true o e g p ih h = let same : e ≡ g = cc in rw (← same) p
-  first_or false o e g p ih h = ih h
-
-  all_above : (es : List (List ℕ × ℕ)) (g : List ℕ × ℕ) → AllByRecursion P (keys_of es) → above k es ≡ Some g → P g.0
-  all_above [] g a h = absurd (cc)
-  all_above (e ∷ es) g a h = first_or (is_below k e.0) (above k es) e g a.0 (λ q. all_above es g a.1 q) h
 
 -- ---- the child for a key, with the end of its range
 
@@ -173,55 +167,52 @@ none_before (Some end) k (e ∷ es) h a = rw (behind_end k e.0 end h a.0) (none_
     behind_end : (i j end : List ℕ) → is_below i end ≡ false → order i j ≡ Less → is_below j end ≡ false
     behind_end i j end n l = by (is_below j end) i j end refl n l
 
--- ---- a step of a walk over the entries behind a key
+-- ---- the entries from a place on
 
--- the first entry behind the key, where it is before the end
-abbrev pub first_before : Option (List ℕ × ℕ) → Option (List ℕ) → Option (List ℕ × ℕ)
-first_before None hi = None
-first_before (Some e) hi = cond (is_before hi e.0) (Some e) None
+one_key : {o : Option (List ℕ)} {j k : List ℕ} → o ≡ Some j → o ≡ Some k → j ≡ k
+one_key p q = cc
 
-module _ (k : List ℕ) (hi : Option (List ℕ)) where
-  here_by : (b : Bool) (e : List ℕ × ℕ) (es : List (List ℕ × ℕ)) → is_before hi e.0 ≡ b → IsBelowAll e.0 (keys_of es) → Before hi (e ∷ es) ≡ left_from (cond b (Some e) None) hi (e ∷ es)
-  here_by true e es b a =
-      ap (λ (c : Bool). cond c (e ∷ Before hi es) (Before hi es)) b
-      ∙ ap (λ (x : List (List ℕ × ℕ)). e ∷ x) (sym (between-skips hi e.0 e es (not_below_itself e.0) ∙ between-all hi e.0 es a))
-  here_by false e es b a = ap (λ (c : Bool). cond c (e ∷ Before hi es) (Before hi es)) b ∙ none_before hi e.0 es b a
+one_more : (n : ℕ) → suc n ≡ n + 1
+one_more n = omega arith
 
-  rest_by : (o : Option (List ℕ × ℕ)) (e : List ℕ × ℕ) (es : List (List ℕ × ℕ)) → ((g : List ℕ × ℕ) → o ≡ Some g → order e.0 g.0 ≡ Less) → left_from (first_before o hi) hi es ≡ left_from (first_before o hi) hi (e ∷ es)
-  rest_by None e es n = refl
-  rest_by (Some g) e es n = by (is_before hi g.0)
-    where
-      by : (b : Bool) → left_from (cond b (Some g) None) hi es ≡ left_from (cond b (Some g) None) hi (e ∷ es)
-      by true = ap (λ (x : List (List ℕ × ℕ)). g ∷ x) (sym (between-skips hi g.0 e es (not_below_lower e.0 g.0 (n g refl))))
-      by false = refl
+module _ (hi : Option (List ℕ)) where
+  -- the entry at a place, where it is before the end, and those after it
+  pub left_at-here : (n : ℕ) (es : List (List ℕ × ℕ)) (e : List ℕ × ℕ) → slice_get es n ≡ Some e → is_before hi e.0 ≡ true → left_at n hi es ≡ e ∷ left_at (suc n) hi es
+  left_at-here n [] e h b = absurd (cc)
+  left_at-here zero (f ∷ es) e h b = let same : f ≡ e = cc in rw (same, b) refl
+  left_at-here (suc n) (f ∷ es) e h b = left_at-here n es e h b
 
-  step_by : (b : Bool) (e : List ℕ × ℕ) (es : List (List ℕ × ℕ)) → is_below k e.0 ≡ b → IsRising (e ∷ es) → entries_between k hi es ≡ left_from (first_before (above k es) hi) hi es
-      → entries_between k hi (e ∷ es) ≡ left_from (first_before (cond b (Some e) (above k es)) hi) hi (e ∷ es)
+  pub passes_here : (n : ℕ) (es : List (List ℕ × ℕ)) (k : List ℕ) → n < length es → slice_get (keys_of es) n ≡ Some k → is_before hi k ≡ true → PassesOne hi es (left_at n hi es) (n + 1)
+  passes_here n es k w h b = record {
+    some = omega arith;
+    within = omega (arith, w);
+    parts = λ at e l g. let same : at ≡ n = omega (arith, l) in let there : slice_get es n ≡ Some e = (rw same at g) in let key : e.0 ≡ k = one_key (key_at es n e there) h in left_at-here n es e there (rw key b) ∙ ap (λ (m : ℕ). e ∷ left_at m hi es) (one_more n);
+  }
+
+  -- nothing is left where it isn't, or there is none
+  pub left_at-end : (n : ℕ) (es : List (List ℕ × ℕ)) (k : List ℕ) → IsRising es → slice_get (keys_of es) n ≡ Some k → is_before hi k ≡ false → left_at n hi es ≡ []
   unfolding IsStrictlySortedBy
-  step_by true e es b r ih =
-      let l = below_is_less k e.0 b in
-      between-all hi k (e ∷ es) (l, below_all k e.0 (keys_of es) l r.0) ∙ here_by (is_before hi e.0) e es refl r.0
-  step_by false e es b r ih =
-      between-skips hi k e es b ∙ ih ∙ rest_by (above k es) e es (λ g q. all_above (λ j. order e.0 j ≡ Less) k es g r.0 q)
+  left_at-end n [] k r h b = absurd (cc)
+  left_at-end zero (f ∷ es) k r h b = let same : f.0 ≡ k = cc in let c : is_before hi f.0 ≡ false = rw same b in rw c (none_before hi f.0 es c r.0)
+  left_at-end (suc n) (f ∷ es) k r h b = left_at-end n es k r.1 h b
 
-  -- the entries behind k and before the end are the first one behind k, where it is before the end, and those behind it
-  pub between-step : (es : List (List ℕ × ℕ)) → IsRising es → entries_between k hi es ≡ left_from (first_before (above k es) hi) hi es
+  pub left_at-past : (n : ℕ) (es : List (List ℕ × ℕ)) → length es ≤ n → left_at n hi es ≡ []
+  left_at-past zero [] h = refl
+  left_at-past (suc n) [] h = refl
+  left_at-past zero (f ∷ es) h = absurd (omega (arith, h))
+  left_at-past (suc n) (f ∷ es) h = left_at-past n es (omega (arith, h))
+
+  all_at : (P : List ℕ → Type 0) (n : ℕ) (es : List (List ℕ × ℕ)) (e : List ℕ × ℕ) → AllByRecursion P (keys_of es) → slice_get es n ≡ Some e → P e.0
+  all_at P n [] e a h = absurd (cc)
+  all_at P zero (f ∷ es) e a h = let same : f ≡ e = cc in rw (← same) a.0
+  all_at P (suc n) (f ∷ es) e a h = all_at P n es e a.1 h
+
+  -- those after the entry at a place are those after its key
+  pub left_at-after : (n : ℕ) (es : List (List ℕ × ℕ)) (e : List ℕ × ℕ) → IsRising es → slice_get es n ≡ Some e → entries_between e.0 hi es ≡ left_at (suc n) hi es
   unfolding IsStrictlySortedBy
-  between-step [] r = refl
-  between-step (e ∷ es) r = step_by (is_below k e.0) e es refl r (between-step es r.1)
-
-module _ (k : List ℕ) (hi : Option (List ℕ)) (es : List (List ℕ × ℕ)) (r : IsRising es) where
-  step_to : (o : Option (List ℕ × ℕ)) → o ≡ above k es → left_from (first_before o hi) hi es ≡ entries_between k hi es
-  step_to o h = ap (λ (x : Option (List ℕ × ℕ)). left_from (first_before x hi) hi es) h ∙ sym (between-step k hi es r)
-
-  pub step-some : (e : List ℕ × ℕ) → Some e ≡ above k es → true ≡ is_before hi e.0 → left_from (Some e) hi es ≡ entries_between k hi es
-  step-some e h b = ap (λ (c : Bool). left_from (cond c (Some e) None) hi es) b ∙ step_to (Some e) h
-
-  pub step-ends : (e : List ℕ × ℕ) → Some e ≡ above k es → false ≡ is_before hi e.0 → [] ≡ entries_between k hi es
-  step-ends e h b = ap (λ (c : Bool). left_from (cond c (Some e) None) hi es) b ∙ step_to (Some e) h
-
-  pub step-none : None ≡ above k es → [] ≡ entries_between k hi es
-  step-none h = step_to None h
+  left_at-after n [] e r h = absurd (cc)
+  left_at-after zero (f ∷ es) e r h = let same : f ≡ e = cc in ap (λ (x : List ℕ × ℕ). entries_between x.0 hi (f ∷ es)) (sym same) ∙ between-skips hi f.0 f es (not_below_itself f.0) ∙ between-all hi f.0 es r.0
+  left_at-after (suc n) (f ∷ es) e r h = between-skips hi e.0 f es (not_below_lower f.0 e.0 (all_at (λ j. order f.0 j ≡ Less) n es e r.0 h)) ∙ left_at-after n es e r.1 h
 
 -- ---- the children between bounds
 
@@ -301,12 +292,23 @@ module _ (lo : List ℕ) (hi : Option (List ℕ)) where
   none_by true e es b r p = let l = below_is_less lo e.0 b in (l, below_all lo e.0 (keys_of es) l r.0)
   none_by false e es b r p = absurd (some_floor lo e es b (sym p))
 
-  -- and where there is no such one, those behind lo and before the end
-  pub within-none : (es : List (List ℕ × ℕ)) → IsRising es → None ≡ floor lo es → entries_between lo hi es ≡ children_within lo hi es
+  -- so they begin with the entry before the place up to which they aren't above lo
+  pub within-passes : (es : List (List ℕ × ℕ)) (n : ℕ) → IsRising es → 0 < n → IsCountUpTo lo es n → PassesOne hi es (children_within lo hi es) n
+  within-passes es n r some c = record {
+    some = some;
+    within = c.within;
+    parts = λ at e l h.
+        sym (within-start es e r (sym (c.last at l ∙ h)))
+        ∙ ap (λ (x : List (List ℕ × ℕ)). e ∷ x) (left_at-after hi at es e r h ∙ ap (λ (m : ℕ). left_at m hi es) (one_more at ∙ l));
+  }
+
+  -- and where none is, all those before the end
+  within-none : (es : List (List ℕ × ℕ)) → IsRising es → None ≡ floor lo es → left_at 0 hi es ≡ children_within lo hi es
   within-none [] r p = refl
-  within-none (e ∷ es) r p =
-      let a = none_by (is_below lo e.0) e es refl r p in
-      between-all hi lo (e ∷ es) a ∙ sym (within-all (e ∷ es) a)
+  within-none (e ∷ es) r p = sym (within-all (e ∷ es) (none_by (is_below lo e.0) e es refl r p))
+
+  pub within-first : (es : List (List ℕ × ℕ)) (n : ℕ) → IsRising es → n ≡ 0 → IsCountUpTo lo es n → left_at 0 hi es ≡ children_within lo hi es
+  within-first es n r z c = within-none es r (sym (c.none z))
 
 -- ---- bounds and ranges meet where they share a key
 

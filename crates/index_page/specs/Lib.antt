@@ -1,5 +1,6 @@
 pub mod ChildList
 pub mod Children
+pub mod InMemory
 pub mod NextChild
 pub mod Over
 pub mod Page

@@ -1,11 +1,23 @@
 -- What a walk over the children of an index page has left.
-use Rattle.std.specs.Prelude.{Option}
+use Rattle.std.specs.Prelude.{◌≡◌, ℕ, ◌+◌, ◌<◌, ◌≤◌, ◌∷◌, drop, length, slice_get, Option, Some}
+use Rattle.std.specs.List.{filter}
 use Rattle.keys.specs.Bytes.{Bytes, Names}
-use Rattle.index_page.specs.Children.{children_within, entries_between}
+use Rattle.index_page.specs.Children.{children_within}
+use Rattle.index_page.specs.Range.{is_before}
 use Rattle.index_page.specs.declared.within.NextChild.{NextChild}
-use Rattle.index_page.specs.declared.within.NextChild.TheVariants.{For, Behind}
+use Rattle.index_page.specs.declared.within.NextChild.TheVariants.{For, At}
 
--- of the children that entries name, up to hi: those from the one for a key on, or those behind one
+-- of entries, those from a place on whose keys are before hi
+abbrev pub left_at : ℕ → Option Bytes → Names → Names
+left_at n hi es = filter (λ e. is_before hi e.0) (drop n es)
+
+-- what is left begins with the entry before this place, and goes on from the place with those whose keys are before hi
+pub record PassesOne (hi : Option Bytes) (es left : Names) (n : ℕ) : Type 0 where
+  pub some : 0 < n
+  pub within : n ≤ length es
+  pub parts : (at : ℕ) (e : Bytes × ℕ) → at + 1 ≡ n → slice_get es at ≡ Some e → left ≡ e ∷ left_at n hi es
+
+-- of the children that entries name, up to hi: those from the one for a key on, or those from a place on
 abbrev pub left_with : NextChild → Option Bytes → Names → Names
 left_with (For k) hi es = children_within k.now hi es
-left_with (Behind k) hi es = entries_between k.now hi es
+left_with (At n) hi es = left_at n hi es

@@ -1,11 +1,11 @@
--- What a page in memory stands for.
-use Rattle.index_page.specs.Page.{PageOfKind}
-use Rattle.index_page.specs.Page.PageOfKind.{Leaf, Index}
-use Rattle.index_page.specs.declared.page.State.{State}
-use Rattle.index_page.specs.declared.page.State.TheVariants.{Values, Pids}
+-- What the state of a page in memory stands for.
+use Rattle.index_page.specs.InMemory.{InMemory}
+use Rattle.index_page.specs.InMemory.InMemory.{LeafInMemory, IndexInMemory}
+use Rattle.index_page.specs.declared.in_memory.State.{State}
+use Rattle.index_page.specs.declared.in_memory.State.TheVariants.{Values, Pids}
 use Rattle.keys.specs.Bytes.{Bytes}
 
 -- a leaf of the values, or an index page of the pids
-abbrev pub page_of_state : {A : Type 0} → Bytes → State A → PageOfKind
-page_of_state low (Values chain) = Leaf (record { low = low; layers = chain })
-page_of_state low (Pids chain) = Index (record { low = low; layers = chain })
+abbrev pub in_memory : {A : Type 0} → Bytes → State A → InMemory
+in_memory low (Values chain) = LeafInMemory low chain
+in_memory low (Pids chain) = IndexInMemory low chain

@@ -1,12 +1,14 @@
 //! The children of an index page in one list.
-ghost use Rattle.std.specs.Prelude.{◌≡◌, ◌<◌, None, Some, length, slice_get, IfOk};
+ghost use Rattle.std.specs.Prelude.{◌≡◌, ◌<◌, [], None, Some, length, slice_get, IfOk, MatchOption};
 ghost use Rattle.std.specs.Option.{option_copied, option_map};
 ghost use Rattle.keys.specs.Order.{IsRising};
 ghost use Rattle.delta_chain.specs.Layers.{entries_of};
 ghost use Rattle.index_page.specs.ChildList.{IsListOf, IsCountUpTo};
+ghost use Rattle.index_page.specs.Children.{children_within};
+ghost use Rattle.index_page.specs.NextChild.{PassesOne, left_at};
 
 use delta_chain::{Base, Chain};
-use keys::Pid;
+use keys::{Pid, is_before};
 use page_search::{Probes, place};
 use std::alloc::{AllocError, Allocator};
 use std::marker::Model;
@@ -100,4 +102,38 @@ pub(crate) fn low_key_at<A: Allocator + Copy>(list: &Base<Pid, A>, at: usize) ->
     } else {
         None
     }
+}
+
+/// The place after the first child whose range meets the bounds, from `lo` on and before `hi`, if there is one. Where no key lies
+/// between the bounds, it is the place after the child in whose range `lo` is.
+pub(crate) fn after_first<A: Allocator + Copy>(
+    list: &Base<Pid, A>,
+    lo: &[u8],
+    hi: Option<&[u8]>,
+) -> Option<usize>
+    ensures { MatchOption result (children_within lo.now (option_copied hi.entry) list.now ≡ [])
+        (PassesOne (option_copied hi.entry) list.now
+        (children_within lo.now (option_copied hi.entry) list.now)) }
+{
+    let count = count_up_to(list, lo);
+    if count == 0 {
+        return after_next(list, 0, hi);
+    }
+    Some(count)
+}
+
+/// The place after this one, if there is a child at this one, which begins before the end.
+pub(crate) fn after_next<A: Allocator + Copy>(
+    list: &Base<Pid, A>,
+    at: usize,
+    end: Option<&[u8]>,
+) -> Option<usize>
+    ensures { MatchOption result (left_at at (option_copied end.entry) list.now ≡ [])
+        (PassesOne (option_copied end.entry) list.now
+        (left_at at (option_copied end.entry) list.now)) }
+{
+    if at >= list.len() || !is_before(end, list.key(at)) {
+        return None;
+    }
+    Some(at + 1)
 }

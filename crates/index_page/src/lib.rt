@@ -7,11 +7,13 @@
 #![tactic(auto)]
 
 pub mod child_list;
+pub mod in_memory;
 mod index_state;
 pub mod laws;
 pub mod page;
 pub mod within;
 
 pub use crate::child_list::ChildList;
+pub use crate::in_memory::PageInMemory;
 pub use crate::page::Page;
 pub use crate::within::Children;

@@ -3,18 +3,19 @@ ghost use Rattle.std.specs.List.{filter};
 ghost use Rattle.std.specs.Option.{option_copied, option_map, option_or};
 ghost use Rattle.keys.specs.Bytes.{Bytes};
 ghost use Rattle.keys.specs.Order.{IsRising};
+ghost use Rattle.delta_chain.specs.Late.{seen};
 ghost use Rattle.page_search.specs.Floor.{floor};
-ghost use Rattle.page_search.specs.Above.{above};
 ghost use Rattle.index_page.specs.Page.{PageOfKind, bare, low_of, IsLeaf, IsIndex};
 ghost use Rattle.index_page.specs.Page.PageOfKind.{Leaf, Index};
+ghost use Rattle.index_page.specs.InMemory.{page_shown};
 ghost use Rattle.index_page.specs.Range.{is_before};
 ghost use Rattle.index_page.specs.ChildList.{IsListOf};
-ghost use Rattle.index_page.specs.Children.{children, is_place_for, child_entries, HasChildFor, child_with_end, children_within, entries_between, left_from};
+ghost use Rattle.index_page.specs.Children.{children, is_place_for, child_entries, HasChildFor, child_with_end, children_within};
 
 use crate::child_list::{ChildList, child_at, count_up_to, low_key_at};
-use crate::index_state::IndexState;
+use crate::in_memory::PageInMemory;
 use crate::within::{Children, NextChild};
-use delta_chain::{Base, Chain};
+use delta_chain::{Base, Chain, LateChain};
 use keys::{Key, Pid, Value, is_before};
 use std::alloc::Allocator;
 use std::marker::Model;
@@ -23,35 +24,52 @@ use std::marker::Model;
 /// of page ids for an index page. Contracts see it as a `PageOfKind`.
 #[derive(Drop)]
 pub struct Page<A: Allocator> {
-    low: Key<A>,
-    state: State<A>,
-}
-
-#[derive(Drop)]
-enum State<A: Allocator> {
-    Values(Chain<Value<A>, A>),
-    Pids(IndexState<A>),
+    held: PageInMemory<A>,
 }
 
 impl<A: Allocator> Model for Page<A> {
+    ghost use Rattle.index_page.specs.InMemory.{page_shown};
     ghost use Rattle.index_page.specs.Page.{PageOfKind};
 
     ghost Value = { PageOfKind };
 
-    ghost use Rattle.index_page.specs.Stated.{page_of_state};
-
-    ghost view = { λ p. page_of_state p.low p.state };
+    ghost view = { λ p. page_shown p.held };
 }
 
 impl<A: Allocator + Copy> Page<A> {
+    /// The page that this one in memory stands for.
+    pub fn of_memory(held: PageInMemory<A>) -> Self
+        ensures { result ≡ page_shown held }
+    {
+        Page { held }
+    }
+
+    /// The page as it lies in memory.
+    pub fn in_memory(&self) -> &PageInMemory<A>
+        ensures { page_shown result.now ≡ self.now }
+    {
+        &self.held
+    }
+
+    /// The same, for good.
+    pub fn into_memory(self) -> PageInMemory<A>
+        ensures { page_shown result ≡ self }
+    {
+        self.held
+    }
+
     /// The leaf with this low key and these values.
     pub fn leaf(low: Key<A>, chain: Chain<Value<A>, A>) -> Self
         ensures { result ≡ Leaf (record { low = low; layers = chain }) }
     {
-        Page {
-            low,
-            state: State::Values(chain),
-        }
+        Page::late_leaf(low, LateChain::of(chain))
+    }
+
+    /// The leaf with this low key and these values, some of whose runs may count as merged with the base.
+    pub fn late_leaf(low: Key<A>, chain: LateChain<Value<A>, A>) -> Self
+        ensures { result ≡ Leaf (record { low = low; layers = seen chain }) }
+    {
+        Page::of_memory(PageInMemory::leaf(low, chain))
     }
 
     /// The index page with this low key and the page ids of these children, each under the child's low key. Its children in one
@@ -60,10 +78,7 @@ impl<A: Allocator + Copy> Page<A> {
         requires { IsListOf chain list }
         ensures { result ≡ Index (record { low = low; layers = chain }) }
     {
-        Page {
-            low,
-            state: State::Pids(IndexState::new(chain, list)),
-        }
+        Page::of_memory(PageInMemory::index(low, chain, list))
     }
 
     /// The index page with this low key and this base of children, without runs.
@@ -77,49 +92,36 @@ impl<A: Allocator + Copy> Page<A> {
     pub fn low(&self) -> &[u8]
         ensures { result.now ≡ low_of self.now }
     {
-        self.low.as_bytes()
+        self.held.low()
     }
 
     /// The values, where this is a leaf.
-    pub fn as_leaf(&self) -> Option<&Chain<Value<A>, A>>
-        ensures { MatchOption result (IsIndex self.now) (λ chain. self.now ≡ Leaf (record { low = low_of self.now; layers = chain.now })) }
+    pub fn as_leaf(&self) -> Option<&LateChain<Value<A>, A>>
+        ensures { MatchOption result (IsIndex self.now) (λ chain. self.now ≡ Leaf (record { low = low_of self.now; layers = seen chain.now })) }
     {
-        match &self.state {
-            State::Values(chain) => Some(chain),
-            State::Pids(_) => None,
-        }
+        self.held.as_leaf()
     }
 
     /// The page ids of the children, where this is an index page.
     pub fn as_index(&self) -> Option<&Chain<Pid, A>>
         ensures { MatchOption result (IsLeaf self.now) (λ chain. self.now ≡ Index (record { low = low_of self.now; layers = chain.now })) }
     {
-        match &self.state {
-            State::Values(_) => None,
-            State::Pids(state) => Some(state.chain()),
-        }
+        self.held.as_index()
     }
 
     /// The children in one list, in order, where this is an index page: of each the low key and the page id.
     pub fn child_list(&self) -> Option<&Base<Pid, A>>
         ensures { MatchOption result (IsLeaf self.now) (λ list. (list.now ≡ child_entries self.now) × IsIndex self.now) }
     {
-        match &self.state {
-            State::Values(_) => None,
-            State::Pids(state) => Some(state.children()),
-        }
+        self.held.child_list()
     }
 
     /// The low key and the values of this leaf. `as_leaf` is the test for the condition.
-    pub fn into_leaf(self) -> (Key<A>, Chain<Value<A>, A>)
+    pub fn into_leaf(self) -> (Key<A>, LateChain<Value<A>, A>)
         requires { IsLeaf self }
-        ensures { self ≡ Leaf (record { low = result.0; layers = result.1 }) }
+        ensures { self ≡ Leaf (record { low = result.0; layers = seen result.1 }) }
     {
-        let Page { low, state } = self;
-        match state {
-            State::Values(chain) => (low, chain),
-            State::Pids(_) => unreachable!(),
-        }
+        self.held.into_leaf()
     }
 
     /// The low key and the page ids of this index page, with its children in one list. `as_index` is the test for the condition.
@@ -128,14 +130,7 @@ impl<A: Allocator + Copy> Page<A> {
         ensures page { self ≡ Index (record { low = result.0; layers = result.1 }) }
         ensures list { IsListOf result.1 result.2 }
     {
-        let Page { low, state } = self;
-        match state {
-            State::Values(_) => unreachable!(),
-            State::Pids(state) => {
-                let (chain, list) = state.into_parts();
-                (low, chain, list)
-            }
-        }
+        self.held.into_index()
     }
 
     /// Whether this is an index page that has a child at the key or below it, so that `child_for` has an answer.
@@ -198,44 +193,6 @@ impl<A: Allocator + Copy> Page<A> {
         match count_up_to(list, key).checked_sub(1) {
             Some(at) => Some(child_at(list, at)),
             None => None,
-        }
-    }
-
-    // The first child whose low key is above the key.
-    fn next_child(&self, key: &[u8]) -> Option<(&[u8], Pid)>
-        ensures child { option_map (λ e. (e.0.now, e.1)) result ≡ above key.now (child_entries self.now) }
-        ensures rising { IsRising (child_entries self.now) }
-    {
-        let list = self.child_list()?;
-        let count = count_up_to(list, key);
-        if count < list.len() {
-            Some(child_at(list, count))
-        } else {
-            None
-        }
-    }
-
-    // The first child whose range meets the bounds: with it those that do begin.
-    pub(crate) fn first_between<'a>(
-        &'a self,
-        lo: &'a [u8],
-        hi: Option<&'a [u8]>,
-    ) -> Option<(&'a [u8], Pid)>
-        ensures { left_from (option_map (λ e. (e.0.now, e.1)) result) (option_copied hi.entry) (child_entries self.now) ≡ children_within lo.now (option_copied hi.entry) (child_entries self.now) }
-    {
-        match self.last_child(lo) {
-            Some(child) => Some(child),
-            None => self.next_before(lo, hi),
-        }
-    }
-
-    // The first child whose low key is above the key, where that is before the end: with it those behind the key begin.
-    pub(crate) fn next_before(&self, key: &[u8], end: Option<&[u8]>) -> Option<(&[u8], Pid)>
-        ensures { left_from (option_map (λ e. (e.0.now, e.1)) result) (option_copied end.entry) (child_entries self.now) ≡ entries_between key.now (option_copied end.entry) (child_entries self.now) }
-    {
-        match self.next_child(key) {
-            Some(child) if is_before(end, child.0) => Some(child),
-            _ => None,
         }
     }
 }

@@ -1,12 +1,18 @@
+ghost use Rattle.std.specs.Prelude.{◌≡◌, [], MatchOption};
 ghost use Rattle.std.specs.Iterator.{YieldsFirstBy, item_count};
+ghost use Rattle.std.specs.Option.{option_copied};
+ghost use Rattle.index_page.specs.NextChild.{PassesOne, left_with};
 
+use crate::child_list::{after_first, after_next, child_at};
 use crate::page::Page;
+use delta_chain::Base;
 use keys::Pid;
 use std::alloc::Allocator;
 use std::marker::Model;
 
-/// The children whose ranges meet two bounds, in order: of each the low key and the page id. Each step searches the
-/// page for the next child, and takes no memory. Contracts see it as the list of those that are left.
+/// The children whose ranges meet two bounds, in order: of each the low key and the page id. The first step searches the
+/// page for the first of them, each later one knows its place, and none takes memory. Contracts see it as the list of those that
+/// are left.
 #[derive(Drop)]
 pub struct Children<'a, A: Allocator> {
     pub(crate) page: &'a Page<A>,
@@ -19,8 +25,8 @@ pub struct Children<'a, A: Allocator> {
 pub(crate) enum NextChild<'a> {
     // The one in whose range this key lies.
     For(&'a [u8]),
-    // The one behind the child with this low key.
-    Behind(&'a [u8]),
+    // The one at this place of the page's children.
+    At(usize),
 }
 
 impl<'a, A: Allocator> Model for Children<'a, A> {
@@ -42,17 +48,29 @@ impl<'a, A: Allocator + Copy> Iterator for Children<'a, A> {
     ghost remaining = { item_count (λ left. left) };
 
     fn next(&mut self) -> Option<(&'a [u8], Pid)> {
-        let page = self.page;
-        let found = match self.next {
-            NextChild::For(key) => page.first_between(key, self.end),
-            NextChild::Behind(low) => page.next_before(low, self.end),
-        };
-        match found {
-            Some((low, pid)) => {
-                self.next = NextChild::Behind(low);
-                Some((low, pid))
+        let list = self.page.child_list()?;
+        match after(list, self.next, self.end) {
+            Some(place) => {
+                self.next = NextChild::At(place);
+                Some(child_at(list, place - 1))
             }
             None => None,
         }
+    }
+}
+
+// The place after the next of these children, if there is one.
+fn after<A: Allocator + Copy>(
+    list: &Base<Pid, A>,
+    next: NextChild<'_>,
+    end: Option<&[u8]>,
+) -> Option<usize>
+    ensures { MatchOption result (left_with next.entry (option_copied end.entry) list.now ≡ [])
+        (PassesOne (option_copied end.entry) list.now
+        (left_with next.entry (option_copied end.entry) list.now)) }
+{
+    match next {
+        NextChild::For(key) => after_first(list, key, end),
+        NextChild::At(at) => after_next(list, at, end),
     }
 }

@@ -11,11 +11,12 @@ use Rattle.keys.proofs.pieces.Pieces.TheSendSync as pieces
 use Rattle.keys.proofs.value.Value.TheSendSync as value
 use Rattle.delta_chain.proofs.Crossing.{Chain-send}
 use Rattle.delta_chain.proofs.run.Run.TheSendSync as run
-use Rattle.index_page.proofs.Crossing.{Page-send}
+use Rattle.index_page.proofs.Crossing.{PageInMemory-send}
 use Rattle.routing.proofs.page_run.PageRun.TheSendSync as page_run
 use Rattle.page_runs.specs.contracts.leaf_work.KeptDone as KeptDone
 use Rattle.page_runs.specs.contracts.leaf_work.LeafDone as LeafDone
 use Rattle.page_runs.specs.contracts.leaf_work.LeafDone.TheInside as inside
+use Rattle.page_runs.specs.contracts.leaf_after.LeafWayBack as LeafWayBack
 use Rattle.page_runs.specs.contracts.page_after.WayBack as WayBack
 use Rattle.page_runs.proofs.class.Class.TheSendSync as class
 
@@ -31,10 +32,16 @@ way_back_send = enum_send (variants.shape (WayBack.the_type values)) (
   (tt, ((class.the_field_send, (Chain-send values Global.the_row ghosts values_send heap.send heap.frees, tt)), tt)),
 )
 
+leaf_way_back_send : IsSend LeafWayBack.the_field.row
+leaf_way_back_send = enum_send (variants.shape LeafWayBack.the_type) (
+  (run.the_send values Global.the_row ghosts values_send heap.send heap.frees, tt),
+  (tt, ((class.the_field_send, (usize_send, tt)), ((way_back_send, (usize_send, tt)), tt))),
+)
+
 kept_send : IsSend KeptDone.the_row
 kept_send = recorded_send _ _ _ KeptDone.the_type.to_one (struct_send (shape KeptDone.the_type) (
-  Page-send Global.the_row ghosts heap.send heap.frees,
-  (way_back_send, (page_run.the_send, (pieces.the_send Global.the_row ghosts heap.send heap.frees, tt))),
+  PageInMemory-send Global.the_row ghosts heap.send heap.frees,
+  (leaf_way_back_send, (page_run.the_send, (pieces.the_send Global.the_row ghosts heap.send heap.frees, tt))),
 ))
 
 pub done_send : IsSend LeafDone.the_row

@@ -1,21 +1,24 @@
 -- What a leaf's job holds, and what is made of it.
-use Rattle.std.specs.Prelude.{List}
+use Rattle.std.specs.Prelude.{List, []}
 use Rattle.std.specs.declared.alloc.Global.{Global}
 use Rattle.keys.specs.Bytes.{Bytes}
 use Rattle.keys.specs.Step.{replies_to}
 use Rattle.keys.specs.declared.command.Command.{Command}
 use Rattle.keys.specs.declared.piece.Piece.{Piece}
 use Rattle.keys.specs.declared.settings.Settings.{Settings}
+use Rattle.delta_chain.specs.Late.{Late, seen}
+use Rattle.index_page.specs.InMemory.{InMemory, page_shown}
+use Rattle.index_page.specs.InMemory.InMemory.{LeafInMemory, IndexInMemory}
 use Rattle.index_page.specs.Page.{PageOfKind, IsLeaf, leaf_of, entries}
 use Rattle.index_page.specs.Page.PageOfKind.{Leaf, Index}
 use Rattle.mapping.specs.Levels.{Placed}
 use Rattle.routing.specs.Routes.{Route}
 use Rattle.page_runs.specs.NetRun.{net_run}
-use Rattle.page_runs.specs.Outcome.{page_before, CanUndo, class_now, is_replaced_now}
+use Rattle.page_runs.specs.LeafOutcome.{leaf_before, CanUndoLeaf, leaf_class_now, is_leaf_replaced_now}
 use Rattle.page_runs.specs.Replies.{commands_at, pieces_of, ArePlacesOf}
 use Rattle.page_runs.specs.Worked.{Worked, worked}
 use Rattle.page_runs.specs.declared.leaf_work.LeafJob.{LeafJob}
-use Rattle.page_runs.specs.declared.page_after.WayBack.{WayBack}
+use Rattle.page_runs.specs.declared.leaf_after.LeafWayBack.{LeafWayBack}
 
 -- a page, its pid, and the places of its commands
 pub record LeafHeld : Type 0 where
@@ -57,19 +60,24 @@ pub record LeafWorked : Type 0 where
   pub held : LeafHeld
   pub made : LeafMade
 
+-- the values of a leaf as they lie in memory; an index page counts as one that holds nothing
+abbrev pub late_of : InMemory → Late Bytes
+late_of (LeafInMemory low c) = c
+late_of (IndexInMemory low p) = record { chain = record { runs = []; base = [] }; settled = 0 }
+
 -- a page that was worked, from the page now and its way back
-abbrev pub leaf_worked : PageOfKind → WayBack Bytes → Route → List (Piece Global) → LeafWorked
+abbrev pub leaf_worked : InMemory → LeafWayBack → Route → List (Piece Global) → LeafWorked
 leaf_worked page way_back route pieces =
-    let now = leaf_of page in
+    let now = leaf_of (page_shown page) in
     record {
-      held = record { page = Leaf (record { low = now.low; layers = page_before now.layers way_back }); route = route };
+      held = record { page = Leaf (record { low = now.low; layers = seen (leaf_before (late_of page) way_back) }); route = route };
       made = record {
-        worked = record { placed = record { pid = route.pid; page = now }; class = class_now way_back; replaced = is_replaced_now way_back };
+        worked = record { placed = record { pid = route.pid; page = now }; class = leaf_class_now way_back; replaced = is_leaf_replaced_now way_back };
         pieces = pieces;
       };
     }
 
 -- the page is a leaf, and the way back is one from it
-abbrev pub IsWorkedLeaf : PageOfKind → WayBack Bytes → Type 0
-IsWorkedLeaf (Leaf p) way_back = CanUndo p.layers way_back
-IsWorkedLeaf (Index p) way_back = ⊥
+abbrev pub IsWorkedLeaf : InMemory → LeafWayBack → Type 0
+IsWorkedLeaf (LeafInMemory low c) way_back = CanUndoLeaf c way_back
+IsWorkedLeaf (IndexInMemory low p) way_back = ⊥

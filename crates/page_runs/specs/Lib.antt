@@ -1,6 +1,7 @@
 pub mod AfterRun
 pub mod Apart
 pub mod Changes
+pub mod LeafOutcome
 pub mod LeafWork
 pub mod NetRun
 pub mod Outcome

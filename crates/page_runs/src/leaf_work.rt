@@ -1,14 +1,15 @@
 ghost use Rattle.std.specs.Prelude.{◌≡◌, []};
 ghost use Rattle.crew.specs.Turn.{IfDone, IfBack};
+ghost use Rattle.index_page.specs.InMemory.{page_shown};
 ghost use Rattle.index_page.specs.Page.PageOfKind.{Leaf};
 ghost use Rattle.page_runs.specs.LeafWork.{IsWorkedLeaf, leaf_held_of, leaf_worked};
 
 use crate::class::Class;
-use crate::page_after::{WayBack, put_run};
+use crate::leaf_after::{LeafWayBack, put_leaf_run};
 use crate::replay::replay;
 use crew::{Turn, Work};
-use index_page::Page;
-use keys::{Command, Pid, Pieces, Settings, Value};
+use index_page::{Page, PageInMemory};
+use keys::{Command, Pid, Pieces, Settings};
 use mapping::empty_leaf;
 use routing::PageRun;
 use std::alloc::Global;
@@ -45,8 +46,8 @@ pub struct LeafDone {
 // What a `LeafDone` keeps.
 #[derive(Drop)]
 struct KeptDone {
-    page: Page<Global>,
-    way_back: WayBack<Value<Global>>,
+    page: PageInMemory<Global>,
+    way_back: LeafWayBack,
     page_run: PageRun,
     pieces: Pieces<Global>,
 }
@@ -76,9 +77,9 @@ impl LeafDone {
         self.kept.way_back.is_replaced()
     }
 
-    /// The leaf.
-    pub fn page(&self) -> &Page<Global>
-        ensures { result.now ≡ Leaf self.now.made.worked.placed.page }
+    /// The leaf, as it lies in memory.
+    pub fn page(&self) -> &PageInMemory<Global>
+        ensures { page_shown result.now ≡ Leaf self.now.made.worked.placed.page }
     {
         &self.kept.page
     }
@@ -103,9 +104,9 @@ impl LeafDone {
         ensures { result.0 ≡ Leaf self.made.worked.placed.page }
     {
         let LeafDone { mut kept } = self;
-        let empty = empty_leaf(*Box::allocator(&kept));
+        let empty = empty_leaf(*Box::allocator(&kept)).into_memory();
         let page = mem::replace(&mut kept.page, empty);
-        (page, LeafRest(kept))
+        (Page::of_memory(page), LeafRest(kept))
     }
 }
 
@@ -138,29 +139,33 @@ impl<'a> Work for LeafWork<'a> {
     fn work(&self, job: LeafJob) -> Turn<LeafJob, LeafDone> {
         let LeafJob { page, page_run } = job;
         let (low, chain) = page.into_leaf();
-        let Ok((run, pieces, bounds)) = replay(self.alloc, self.commands, &chain, page_run.places())
-        else {
+        let Ok((run, pieces, bounds)) = replay(
+            self.alloc,
+            self.commands,
+            chain.whole(),
+            page_run.places(),
+        ) else {
             return Turn::Back(LeafJob {
-                page: Page::leaf(low, chain),
+                page: Page::late_leaf(low, chain),
                 page_run,
             });
         };
-        match put_run(self.alloc, &self.settings, chain, run) {
+        match put_leaf_run(self.alloc, &self.settings, chain, run, bounds) {
             Ok((mut chain, way_back)) => {
                 // The replies tell which entries came and went, and the chain by itself knows only how many were named.
-                chain.raise_fewest(bounds.fewest);
+                chain.bound(bounds);
                 boxed(
                     self.alloc,
                     KeptDone {
-                        page: Page::leaf(low, chain),
+                        page: PageInMemory::leaf(low, chain),
                         way_back,
                         page_run,
                         pieces,
                     },
                 )
             }
-            Err((chain, _run)) => Turn::Back(LeafJob {
-                page: Page::leaf(low, chain),
+            Err(chain) => Turn::Back(LeafJob {
+                page: Page::late_leaf(low, chain),
                 page_run,
             }),
         }
@@ -195,9 +200,9 @@ fn job_of(alloc: Global, done: KeptDone) -> LeafJob
         pieces: _,
     } = done;
     let (low, chain) = page.into_leaf();
-    let (chain, _run) = way_back.undo(alloc, chain);
+    let chain = way_back.undo(alloc, chain);
     LeafJob {
-        page: Page::leaf(low, chain),
+        page: Page::late_leaf(low, chain),
         page_run,
     }
 }

@@ -2,12 +2,12 @@
 //! net run; an index page is changed once, by the run of its terms.
 #![tactic(auto)]
 
-mod bounds;
 mod changes;
 mod changes_from;
 pub mod class;
 mod kinds;
 pub mod laws;
+mod leaf_after;
 pub mod leaf_work;
 mod page_after;
 mod page_rows;

@@ -61,9 +61,9 @@ fn must_replace<V>(settings: &Settings, page: &Chain<V, Global>, run: &Run<V, Gl
     run.len() > settings.fan as usize || page.depth() >= u64::from(settings.chain)
 }
 
-// A base of the page's entries in the place of the page, whose newest run was put in front just now. Their cells are moved, or copied
-// where the page has many runs.
-fn replace<V: Cell<Global> + Drop>(
+/// A base of the page's entries in the place of the page, whose newest run was put in front just now. Their cells are moved, or copied
+/// where the page has many runs.
+pub(crate) fn replace<V: Cell<Global> + Drop>(
     alloc: Global,
     settings: &Settings,
     before: Chain<V, Global>,

@@ -81,7 +81,7 @@ impl<'a> Work for ReadWork<'a> {
         let Some(leaf) = page.as_leaf() else {
             unreachable!()
         };
-        match replay(self.alloc, self.commands, leaf, page_run.places()) {
+        match replay(self.alloc, self.commands, leaf.whole(), page_run.places()) {
             Ok((_no_run, pieces, _bounds)) => Turn::Done(LeafRead { page_run, pieces }),
             Err(_) => Turn::Back(page_run),
         }

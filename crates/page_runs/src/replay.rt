@@ -11,10 +11,10 @@ ghost use Rattle.page_runs.specs.NetRun.{noted_by, net_run};
 ghost use Rattle.page_runs.specs.Replay.{map_by_now, with_absent, entries_after, most_after};
 ghost use Rattle.page_runs.specs.Replies.{commands_at, pieces_of, ArePlacesOf};
 
-use crate::bounds::{EntryBounds, bounds_of};
 use crate::changes::{Changes, LeafChain, LeafRun};
 use crate::kinds::Kinds;
 use crate::page_rows::{keys_within, rows_of};
+use delta_chain::EntryBounds;
 use keys::{Command, Key, Piece, Pieces, Reply, RowList, Value};
 use std::alloc::{AllocError, Global};
 
@@ -38,7 +38,7 @@ pub(crate) fn replay(
     let kinds = Kinds::of(commands, places);
     let mut changes = Changes::for_commands(alloc, commands, places, kinds.writes);
     let mut pieces = Pieces::with_capacity(alloc, kinds.room())?;
-    let mut bounds = bounds_of(page);
+    let mut bounds = page.bounds();
     for place in places {
         let reply = execute(alloc, page, &mut changes, &commands[*place], bounds.most)?;
         bounds = bounds_after(bounds, &reply);

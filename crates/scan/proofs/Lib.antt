@@ -2,6 +2,7 @@ mod Counting
 mod CutLemmas
 mod EndLemmas
 pub mod Enough
+mod LateLemmas
 mod LeafLemmas
 mod MergeLemmas
 mod MergeSteps

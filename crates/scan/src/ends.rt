@@ -124,7 +124,7 @@ fn end_of_scan<'a>(
             return None;
         }
         let here = taken.below(end);
-        certain = certain.saturating_add(certain_pairs(leaf.1, leaf.0, lo, &before, &here));
+        certain = certain.saturating_add(certain_pairs(leaf.1.whole(), leaf.0, lo, &before, &here));
         if certain >= limit as usize {
             return Some(end);
         }

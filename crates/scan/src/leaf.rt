@@ -53,10 +53,16 @@ impl<'a> LeafPairs<'a> {
         }
     }
 
-    // Walks this leaf from its first pair on, in place of the one before: in the same places, so that nothing large is moved.
+    // Walks this leaf from its first pair on, in place of the one before, which has none left: in the same places, so that nothing large
+    // is moved. A leaf that is known to be empty is stepped over at one look.
     pub(crate) fn restart(&mut self, alloc: Global, chain: &'a Chain<Value<Global>, Global>)
+        requires { self.old ≡ [] }
         ensures { self.new ≡ from [] (entries_of chain.now) }
     {
+        let entries = chain.bounds();
+        if entries.most == 0 {
+            return;
+        }
         match &mut self.way {
             Way::Plain(pairs) if chain.depth() == 0 => *pairs = BasePairs::new(chain.base(), &[]),
             Way::Merging(merge) if chain.depth() <= 16 => merge.restart(chain, &[]),

@@ -1,12 +1,13 @@
 ghost use Rattle.std.specs.Prelude.{◌≡◌, ◌∷◌, ◌++◌, [], ◌≤◌, length, MatchOption};
 ghost use Rattle.std.specs.Iterator.{YieldsFirstBy, item_count};
+ghost use Rattle.delta_chain.specs.Late.{seen};
 ghost use Rattle.mapping.specs.Tree.{most_levels};
 ghost use Rattle.mapping.specs.TreeInMemory.{AreAllHome};
 ghost use Rattle.scan.specs.Path.{leaf_with};
 ghost use Rattle.scan.specs.Walk.{IsWalk, IsAt, walk_from, walk_left};
 
 use crate::step::PathStep;
-use delta_chain::Chain;
+use delta_chain::LateChain;
 use keys::{Pid, Value};
 use mapping::Tree;
 use smallvec::SmallVec;
@@ -14,7 +15,7 @@ use std::alloc::Global;
 use std::marker::Model;
 
 /// A leaf: its low key, and its values.
-pub(crate) type Leaf<'a> = (&'a [u8], &'a Chain<Value<Global>, Global>);
+pub(crate) type Leaf<'a> = (&'a [u8], &'a LateChain<Value<Global>, Global>);
 
 // The index pages on the way to a leaf, from the root down, each with its children behind that way. A tree has at most 64
 // levels, so it needs no memory.
@@ -49,7 +50,7 @@ impl<'a: 'k, 'k> Leaves<'a, 'k> {
         requires height { tree.now.height ≤ most_levels }
         requires known { IsAt tree.now 0 tree.now.root }
         ensures { walk_from tree.now 0 key.now tree.now.root
-            ≡ leaf_with result.0.0.now result.0.1.now ∷ result.1 }
+            ≡ leaf_with result.0.0.now (seen result.0.1.now) ∷ result.1 }
     {
         let mut path = SmallVec::new(alloc);
         let first = descend(tree, &mut path, tree.root(), key);
@@ -60,7 +61,7 @@ impl<'a: 'k, 'k> Leaves<'a, 'k> {
 impl<'a: 'k, 'k> Iterator for Leaves<'a, 'k> {
     type Item = Leaf<'a>;
 
-    ghost next_gives = { YieldsFirstBy (λ item. leaf_with item.0.now item.1.now) (λ left. left) };
+    ghost next_gives = { YieldsFirstBy (λ item. leaf_with item.0.now (seen item.1.now)) (λ left. left) };
 
     ghost remaining = { item_count (λ left. left) };
 
@@ -81,7 +82,7 @@ fn descend<'a: 'k, 'k>(
     ensures walk { IsWalk tree.now path.new }
     ensures leaves { walk_from tree.now (length path.old.items) key.now from
         ++ walk_left tree.now path.old.items
-        ≡ leaf_with result.0.now result.1.now ∷ walk_left tree.now path.new.items }
+        ≡ leaf_with result.0.now (seen result.1.now) ∷ walk_left tree.now path.new.items }
 {
     let mut pid = from;
     loop {
@@ -106,7 +107,7 @@ fn next_leaf<'a: 'k, 'k>(tree: &'a Tree<Global>, path: &mut Path<'k>) -> Option<
     ensures walk { IsWalk tree.now path.new }
     ensures leaves { MatchOption result ((walk_left tree.now path.old.items ≡ []) × (walk_left tree.now path.new.items ≡ []))
         (λ leaf. walk_left tree.now path.old.items
-        ≡ leaf_with leaf.0.now leaf.1.now ∷ walk_left tree.now path.new.items) }
+        ≡ leaf_with leaf.0.now (seen leaf.1.now) ∷ walk_left tree.now path.new.items) }
 {
     while let Some(mut step) = path.pop() {
         if let Some(child) = step.next() {

@@ -55,7 +55,7 @@ impl<'a> Rows<'a> {
         let (first, leaves) = Leaves::new(alloc, tree, lo);
         Rows {
             alloc,
-            leaf: LeafPairs::new(alloc, first.1, lo),
+            leaf: LeafPairs::new(alloc, first.1.whole(), lo),
             leaves,
             hi,
             left: limit,
@@ -100,7 +100,7 @@ fn next_pair<'a>(
             return Some(pair);
         }
         match leaves.next() {
-            Some((_, chain)) => leaf.restart(alloc, chain),
+            Some((_, chain)) => leaf.restart(alloc, chain.whole()),
             None => return None,
         }
     }

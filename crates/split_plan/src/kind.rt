@@ -1,5 +1,6 @@
 ghost use Rattle.std.specs.Prelude.{◌≡◌};
-ghost use Rattle.index_page.specs.Page.{bare};
+ghost use Rattle.delta_chain.specs.Layers.{entries_of};
+ghost use Rattle.index_page.specs.Page.{bare, entries};
 
 use delta_chain::{Base, Chain};
 use index_page::Page;
@@ -19,10 +20,10 @@ pub(crate) trait Kind: Cell<Global> + Drop {
 
     ghost made: { PageOf Self → PageOfKind };
 
-    /// The state of a page of this kind.
+    /// The chain in memory of a page of this kind, which has the page's entries.
     fn chain(page: &Page<Global>) -> &Chain<Self, Global>
         requires { is_of page.now }
-        ensures { result.now ≡ (taken page.now).layers };
+        ensures { entries_of result.now ≡ entries (taken page.now) };
 
     /// The page of this low key and this base.
     fn page(low: Key<Global>, base: Base<Self, Global>) -> Page<Global>
@@ -47,7 +48,7 @@ impl Kind for Value<Global> {
 
     fn chain(page: &Page<Global>) -> &Chain<Self, Global> {
         match page.as_leaf() {
-            Some(chain) => chain,
+            Some(chain) => chain.whole(),
             None => unreachable!(),
         }
     }

@@ -3,6 +3,7 @@ use Rattle.std.proofs.Common.{sym, subst, ap, ◌∙◌, arith, Ordering}
 use Rattle.std.specs.Ordering.{is_lt}
 use Rattle.std.specs.Option.{option_copied}
 use Rattle.keys.specs.Range.{is_below}
+use Rattle.delta_chain.specs.Late.{seen}
 use Rattle.mapping.specs.Levels.{levels_of}
 use Rattle.mapping.specs.TreeInMemory.{tree_of}
 use Rattle.scan.specs.Path.{leaf_with}
@@ -10,6 +11,7 @@ use Rattle.scan.specs.Taken.{IsTakenBelow}
 use Rattle.scan.proofs.RowLemmas.{root_is_there}
 use Rattle.scan.proofs.Enough.{later_low}
 use Rattle.scan.proofs.Counting.{not_both_below}
+use Rattle.scan.proofs.LateLemmas.{late_part}
 use Rattle.scan.proofs.EndLemmas.{passing_first, passing_on, certain_on, enough_on}
 use Rattle.scan.proofs.ends.end_of_scan.Goals as goal
 
@@ -28,9 +30,9 @@ returns-then-certain-limit c = λ gone m is.
     let sum = c.saturating_add-certain.ensures in
     let many = c.if-certain-limit.true in
     let above : is_below c.args.lo.now c.in-Some.next.0.now ≡ true = sym (ap (λ (o : Ordering). is_lt o) c.compare.ensures) ∙ sym c.if-not-is_lt.ensures in
-    enough_on gone (levels_of (tree_of c.args.tree.now)).level c.args.lo.now (leaf_with c.loop-next.leaf.0.now c.loop-next.leaf.1.now) (leaf_with c.in-Some.next.0.now c.in-Some.next.1.now) c.loop-next.leaves c.next.new.self
+    enough_on gone (levels_of (tree_of c.args.tree.now)).level c.args.lo.now (leaf_with c.loop-next.leaf.0.now (seen c.loop-next.leaf.1.now)) (leaf_with c.in-Some.next.0.now (seen c.in-Some.next.1.now)) c.loop-next.leaves c.next.new.self
     c.loop-next.invariant.passing c.in-Some.ensures.steps (option_copied c.args.hi) c.args.limit c.loop-next.certain c.certain_pairs.result c.saturating_add-certain.result c.requires.levels.tiled (c.loop-next.invariant.certain gone is)
-    (λ a b lack below part. c.certain_pairs.ensures gone c.in-Some.next.0.now a b (c.loop-next.invariant.before gone is) (c.below-here.ensures gone is) lack below above part)
+    (λ a b lack below part. c.certain_pairs.ensures gone c.in-Some.next.0.now a b (c.loop-next.invariant.before gone is) (c.below-here.ensures gone is) lack below above (late_part c.loop-next.leaf.1.now c.whole.result.now _ c.whole.ensures part))
     (omega (arith, sum)) above (sym c.if-not-is_before.ensures) (omega (arith, many)) m
 
 pub loop-next-preserved : goal.loop-next-preserved
@@ -39,12 +41,12 @@ loop-next-preserved c =
     let above : is_below c.args.lo.now c.in-Some.next.0.now ≡ true = sym (ap (λ (o : Ordering). is_lt o) c.compare.ensures) ∙ sym c.if-not-is_lt.ensures in
     record {
       passing =
-          passing_on ([], []) (levels_of (tree_of c.args.tree.now)).level c.args.lo.now (leaf_with c.loop-next.leaf.0.now c.loop-next.leaf.1.now) (leaf_with c.in-Some.next.0.now c.in-Some.next.1.now) c.loop-next.leaves c.next.new.self
+          passing_on ([], []) (levels_of (tree_of c.args.tree.now)).level c.args.lo.now (leaf_with c.loop-next.leaf.0.now (seen c.loop-next.leaf.1.now)) (leaf_with c.in-Some.next.0.now (seen c.in-Some.next.1.now)) c.loop-next.leaves c.next.new.self
           c.loop-next.invariant.passing c.in-Some.ensures.steps;
       before = λ gone is.
           subst (λ (k : List ℕ). IsTakenBelow gone k c.below-here.result) (sym (later_low c.in-Some.next.0.now c.args.lo.now (not_both_below c.args.lo.now c.in-Some.next.0.now above))) (c.below-here.ensures gone is);
       certain = λ gone is.
-          certain_on gone (levels_of (tree_of c.args.tree.now)).level c.args.lo.now (leaf_with c.loop-next.leaf.0.now c.loop-next.leaf.1.now) (leaf_with c.in-Some.next.0.now c.in-Some.next.1.now) c.loop-next.leaves c.next.new.self
+          certain_on gone (levels_of (tree_of c.args.tree.now)).level c.args.lo.now (leaf_with c.loop-next.leaf.0.now (seen c.loop-next.leaf.1.now)) (leaf_with c.in-Some.next.0.now (seen c.in-Some.next.1.now)) c.loop-next.leaves c.next.new.self
           c.loop-next.invariant.passing c.in-Some.ensures.steps c.loop-next.certain c.certain_pairs.result c.saturating_add-certain.result c.requires.levels.tiled (c.loop-next.invariant.certain gone is)
-          (λ a b lack below part. c.certain_pairs.ensures gone c.in-Some.next.0.now a b (c.loop-next.invariant.before gone is) (c.below-here.ensures gone is) lack below above part) (omega (arith, sum));
+          (λ a b lack below part. c.certain_pairs.ensures gone c.in-Some.next.0.now a b (c.loop-next.invariant.before gone is) (c.below-here.ensures gone is) lack below above (late_part c.loop-next.leaf.1.now c.whole.result.now _ c.whole.ensures part)) (omega (arith, sum));
     }

@@ -1,4 +1,5 @@
 use Rattle.std.proofs.Common.{length}
+use Rattle.delta_chain.specs.Late.{seen}
 use Rattle.mapping.specs.Levels.{levels_of, contents}
 use Rattle.mapping.specs.TreeInMemory.{tree_of}
 use Rattle.scan.specs.Path.{leaf_with}
@@ -10,7 +11,7 @@ use Rattle.scan.proofs.ends.end_of_scan.Given as goal
 -- the walk is at a leaf of the level, before which so many pairs are certain, and knows what is taken away below it
 abbrev pub invariant-loop-next : goal.invariant-loop-next
 invariant-loop-next l = record {
-  passing : IsPassing (levels_of (tree_of l.tree)).level (leaf_with l.leaf.0.now l.leaf.1.now) l.leaves;
+  passing : IsPassing (levels_of (tree_of l.tree)).level (leaf_with l.leaf.0.now (seen l.leaf.1.now)) l.leaves;
   before : (gone : Taken) → IsTaken gone l.taken → IsTakenBelow gone (later l.leaf.0.now l.lo) l.before;
   certain : (gone : Taken) → IsTaken gone l.taken → AreCertainBefore gone (contents (tree_of l.tree)) l.lo l.leaf.0.now l.certain;
 }

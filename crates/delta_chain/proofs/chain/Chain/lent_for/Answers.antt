@@ -1,4 +1,4 @@
-use Rattle.std.proofs.Common.{◌≡◌, ◌≤◌, length, ⊎_elim, sym, ◌∙◌, arith}
+use Rattle.std.proofs.Common.{◌≤◌, length, ⊎_elim, arith}
 use Rattle.delta_chain.proofs.NewestRunLemmas.{held-for, held-all}
 use Rattle.delta_chain.proofs.chain.Chain.lent_for.Goals as goal
 

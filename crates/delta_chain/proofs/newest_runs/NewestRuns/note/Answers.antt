@@ -1,4 +1,4 @@
-use Rattle.std.proofs.Common.{◌≡◌, ◌<◌, length, arith}
+use Rattle.std.proofs.Common.{◌<◌, length, arith}
 use Rattle.delta_chain.proofs.NewestRunLemmas.{noted-next, kept-next, noted-all}
 use Rattle.delta_chain.proofs.newest_runs.NewestRuns.note.Goals as goal
 

@@ -1,0 +1,125 @@
+//! A page as it lies in memory.
+ghost use Rattle.std.specs.Prelude.{◌≡◌, MatchOption};
+ghost use Rattle.index_page.specs.ChildList.{IsListOf};
+ghost use Rattle.index_page.specs.Children.{child_entries};
+ghost use Rattle.index_page.specs.InMemory.{page_shown};
+ghost use Rattle.index_page.specs.InMemory.InMemory.{LeafInMemory, IndexInMemory};
+ghost use Rattle.index_page.specs.Page.{low_of, IsLeaf, IsIndex};
+
+use crate::child_list::ChildList;
+use crate::index_state::IndexState;
+use delta_chain::{Base, Chain, LateChain};
+use keys::{Key, Pid, Value};
+use std::alloc::Allocator;
+use std::marker::Model;
+
+/// A page as it lies in memory: its low key, and a chain, some of whose runs may count as merged with the base where it is a leaf. Who
+/// works a page, or makes others of it, sees it so; for everybody else it is a `Page`, which is what it stands for.
+#[derive(Drop)]
+pub struct PageInMemory<A: Allocator> {
+    low: Key<A>,
+    state: State<A>,
+}
+
+#[derive(Drop)]
+enum State<A: Allocator> {
+    Values(LateChain<Value<A>, A>),
+    Pids(IndexState<A>),
+}
+
+impl<A: Allocator> Model for PageInMemory<A> {
+    ghost use Rattle.index_page.specs.InMemory.{InMemory};
+    ghost use Rattle.index_page.specs.Stated.{in_memory};
+
+    ghost Value = { InMemory };
+
+    ghost view = { λ p. in_memory p.low p.state };
+}
+
+impl<A: Allocator + Copy> PageInMemory<A> {
+    /// The leaf with this low key and these values.
+    pub fn leaf(low: Key<A>, chain: LateChain<Value<A>, A>) -> Self
+        ensures { result ≡ LeafInMemory low chain }
+    {
+        PageInMemory {
+            low,
+            state: State::Values(chain),
+        }
+    }
+
+    // The index page with this low key, these page ids and the list of its children.
+    pub(crate) fn index(low: Key<A>, chain: Chain<Pid, A>, list: ChildList<A>) -> Self
+        requires { IsListOf chain list }
+        ensures { result ≡ IndexInMemory low chain }
+    {
+        PageInMemory {
+            low,
+            state: State::Pids(IndexState::new(chain, list)),
+        }
+    }
+
+    /// The bytes of the low key.
+    pub fn low(&self) -> &[u8]
+        ensures { result.now ≡ low_of (page_shown self.now) }
+    {
+        self.low.as_bytes()
+    }
+
+    /// The values, where this is a leaf.
+    pub fn as_leaf(&self) -> Option<&LateChain<Value<A>, A>>
+        ensures { MatchOption result (IsIndex (page_shown self.now)) (λ chain. self.now ≡ LeafInMemory (low_of (page_shown self.now)) chain.now) }
+    {
+        match &self.state {
+            State::Values(chain) => Some(chain),
+            State::Pids(_) => None,
+        }
+    }
+
+    /// The page ids of the children, where this is an index page.
+    pub fn as_index(&self) -> Option<&Chain<Pid, A>>
+        ensures { MatchOption result (IsLeaf (page_shown self.now)) (λ chain. self.now ≡ IndexInMemory (low_of (page_shown self.now)) chain.now) }
+    {
+        match &self.state {
+            State::Values(_) => None,
+            State::Pids(state) => Some(state.chain()),
+        }
+    }
+
+    /// The children in one list, in order, where this is an index page: of each the low key and the page id.
+    pub fn child_list(&self) -> Option<&Base<Pid, A>>
+        ensures { MatchOption result (IsLeaf (page_shown self.now)) (λ list. (list.now ≡ child_entries (page_shown self.now)) × IsIndex (page_shown self.now)) }
+    {
+        match &self.state {
+            State::Values(_) => None,
+            State::Pids(state) => Some(state.children()),
+        }
+    }
+
+    /// The low key and the values of this leaf. `as_leaf` is the test for the condition.
+    pub fn into_leaf(self) -> (Key<A>, LateChain<Value<A>, A>)
+        requires { IsLeaf (page_shown self) }
+        ensures { self ≡ LeafInMemory result.0 result.1 }
+    {
+        let PageInMemory { low, state } = self;
+        match state {
+            State::Values(chain) => (low, chain),
+            State::Pids(_) => unreachable!(),
+        }
+    }
+
+    // The low key and the page ids of this index page, with its children in one list.
+    pub(crate) fn into_index(self) -> (Key<A>, Chain<Pid, A>, ChildList<A>)
+        requires { IsIndex (page_shown self) }
+        ensures page { self ≡ IndexInMemory result.0 result.1 }
+        ensures list { IsListOf result.1 result.2 }
+    {
+        let PageInMemory { low, state } = self;
+        match state {
+            State::Values(_) => unreachable!(),
+            State::Pids(state) => {
+                let (chain, list) = state.into_parts();
+                (low, chain, list)
+            }
+        }
+    }
+}
