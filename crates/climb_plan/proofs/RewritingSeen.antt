@@ -7,6 +7,7 @@ use Rattle.std.specs.Map.{keys_of}
 use Rattle.std.proofs.lemmas.List.{take_more, drop_more, map-append, take-append-drop}
 use Rattle.keys.specs.Order.{order, IsRising}
 use Rattle.keys.proofs.MapLemmas.{order_itself, is_itself, passes_same, IsBelowAll}
+use Rattle.index_page.specs.InMemory.{page_shown}
 use Rattle.index_page.specs.Page.{PageOfKind, low_of}
 use Rattle.index_page.specs.Range.{is_below, AreBelow, AreFrom}
 use Rattle.index_page.specs.Rules.{is_same_key}
@@ -115,14 +116,14 @@ begins_within low (x ∷ xs) zero b = omega arith
 begins_within low (x ∷ xs) (suc i) b = let l = begins_within low xs i b in omega arith
 
 -- and the page there says whether it does
-pub begins_read : (low : List ℕ) (all : List Seen) (i : ℕ) (y : Seen) → i < length all → y ≡ get_or all i y → begins_at low (all_seen (drop i all)) ≡ is_same_key (low_of y.page.now) low
+pub begins_read : (low : List ℕ) (all : List Seen) (i : ℕ) (y : Seen) → i < length all → y ≡ get_or all i y → begins_at low (all_seen (drop i all)) ≡ is_same_key (low_of (page_shown y.page.now)) low
 begins_read low all i y l e = ap (λ (xs : List SeenPage). begins_at low xs) (left_at all i y l e)
 
 -- ---- pages below a key
 
 module _ (k : List ℕ) where
   abbrev pub is_low : Seen → Bool
-  is_low y = is_below (low_of y.page.now) k
+  is_low y = is_below (low_of (page_shown y.page.now)) k
 
   none_low : (xs : List Seen) (from : List SeenPage) → all_seen xs ≡ from → AreFrom k (lows from) → (i : ℕ) (d : Seen) → i < length xs → is_low (get_or xs i d) ≡ false
   none_low [] from e a i d l = absurd (omega arith)
@@ -153,7 +154,7 @@ module _ (k : List ℕ) where
 
 -- ---- the first page that calls
 
-pub call_at : (all : List Seen) (i : ℕ) (y : Seen) (low : List ℕ) → i < length all → y ≡ get_or all i y → AllByRecursion IsQuiet (all_seen (take i all)) → calls y.class ≡ true → low ≡ low_of y.page.now → HasFirstCall (all_seen all) low
+pub call_at : (all : List Seen) (i : ℕ) (y : Seen) (low : List ℕ) → i < length all → y ≡ get_or all i y → AllByRecursion IsQuiet (all_seen (take i all)) → calls y.class ≡ true → low ≡ low_of (page_shown y.page.now) → HasFirstCall (all_seen all) low
 call_at all i y low l e q c w =
     let parts : all_seen all ≡ all_seen (take i all) ++ seen_now y ∷ all_seen (drop (i + 1) all) =
     ap (λ (xs : List Seen). all_seen xs) (sym (take-append-drop i all)) ∙ map-append seen_now (take i all) (drop i all) ∙ ap (λ (xs : List SeenPage). all_seen (take i all) ++ xs) (left_at all i y l e) in

@@ -6,6 +6,7 @@ use Rattle.keys.specs.Lists.{flat}
 use Rattle.keys.specs.Order.{IsRising}
 use Rattle.keys.specs.declared.settings.Settings.{Settings}
 use Rattle.delta_chain.specs.Layers.{with_run}
+use Rattle.index_page.specs.InMemory.{page_shown}
 use Rattle.index_page.specs.Page.{PageOfKind, low_of}
 use Rattle.index_page.specs.Page.PageOfKind.{Index}
 use Rattle.index_page.specs.Children.{children, is_place_for}
@@ -28,7 +29,7 @@ use Rattle.climb_plan.specs.declared.seen.Seen.{Seen}
 
 -- what a view of a page shows
 abbrev pub seen_now : Seen → SeenPage
-seen_now x = record { pid = x.pid; page = x.page.now; class = x.class; replaced = x.replaced }
+seen_now x = record { pid = x.pid; page = page_shown x.page.now; class = x.class; replaced = x.replaced }
 
 abbrev pub all_seen : List Seen → List SeenPage
 all_seen xs = map seen_now xs

@@ -2,6 +2,7 @@
 //! are visited.
 ghost use Rattle.std.specs.Prelude.{◌≡◌, ℕ, ◌≤◌, false, List, [], ◌∷◌, ◌++◌, map, drop, length, Some, IsSome, MatchOption, IfOk, OnOk};
 ghost use Rattle.std.specs.List.{AllByRecursion, filter};
+ghost use Rattle.index_page.specs.InMemory.{page_shown};
 ghost use Rattle.index_page.specs.Page.{low_of};
 ghost use Rattle.index_page.specs.Range.{is_below};
 ghost use Rattle.mapping.specs.Levels.{Placed};
@@ -193,7 +194,7 @@ fn count_below(seen: &[Seen<'_>], key: &[u8]) -> usize
 {
     seen.partition_point(
         |page: &Seen<'_>| -> bool
-            ensures { result ≡ is_below (low_of page.now.page.now) key.entry.now }
+            ensures { result ≡ is_below (low_of (page_shown page.now.page.now)) key.entry.now }
         { compare(page.page.low(), key).is_lt() },
     )
 }
@@ -201,14 +202,14 @@ fn count_below(seen: &[Seen<'_>], key: &[u8]) -> usize
 // A page that got no run.
 fn page_at_home(tree: &Tree<Global>, pid: Pid) -> Seen<'_>
     requires { IsSome (page_of tree.now.table pid) }
-    ensures page { page_of tree.now.table pid ≡ Some result.page.now }
+    ensures page { page_of tree.now.table pid ≡ Some (page_shown result.page.now) }
     ensures rest { seen_now result ≡
-        record { pid = pid; page = result.page.now; class = Same; replaced = false } }
+        record { pid = pid; page = page_shown result.page.now; class = Same; replaced = false } }
 {
     match tree.page(pid) {
         Some(page) => Seen {
             pid,
-            page,
+            page: page.in_memory(),
             class: Class::Same,
             replaced: false,
         },

@@ -6,7 +6,7 @@ ghost use Rattle.climb_plan.specs.Rewriting.{seen_now, all_seen};
 ghost use Rattle.page_runs.specs.Worked.{is_thin_class, is_fat_class};
 ghost use Rattle.std.specs.Prelude.{◌||◌};
 
-use index_page::Page;
+use index_page::{Page, PageInMemory};
 use keys::Pid;
 use page_runs::{Class, LeafDone, LeafRest, TermDone};
 use std::alloc::{AllocError, Global};
@@ -15,7 +15,7 @@ use std::alloc::{AllocError, Global};
 #[derive(Clone, Copy)]
 pub(crate) struct Seen<'a> {
     pub(crate) pid: Pid,
-    pub(crate) page: &'a Page<Global>,
+    pub(crate) page: &'a PageInMemory<Global>,
     pub(crate) class: Class,
     pub(crate) replaced: bool,
 }
@@ -131,7 +131,7 @@ impl WorkedPage for TermDone {
     fn as_seen(&self) -> Seen<'_> {
         Seen {
             pid: self.pid(),
-            page: self.page(),
+            page: self.page().in_memory(),
             class: self.class(),
             replaced: self.is_replaced(),
         }

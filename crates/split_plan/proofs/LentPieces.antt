@@ -11,6 +11,7 @@ use Rattle.keys.specs.declared.settings.Settings.{Settings}
 use Rattle.keys.proofs.MapLemmas.{IsBelowAll}
 use Rattle.delta_chain.specs.Lent.{pairs_lent}
 use Rattle.delta_chain.proofs.Lending.{length-pairs_lent}
+use Rattle.index_page.specs.InMemory.{InMemory, page_shown}
 use Rattle.index_page.specs.Page.{Page, PageOfKind, bare, first_key}
 use Rattle.split_plan.specs.Cut.{piece_count, pieces, cut}
 use Rattle.split_plan.specs.Pieces.{pages_lent, joined_pages, low_at, pages_from, pages_made}
@@ -100,14 +101,14 @@ module _ {V : Type 0} where
 -- ---- pages that are lent
 
 -- all of them are of a kind, and the one at a place too
-pub kind_at : (P : PageOfKind → Type 0) (lent : List (Bor PageOfKind)) (at : ℕ) (page : Bor PageOfKind) → AllByRecursion P (pages_lent lent) → at < length lent → page ≡ get_or lent at page → P page.now
+pub kind_at : (P : PageOfKind → Type 0) (lent : List (Bor InMemory)) (at : ℕ) (page : Bor InMemory) → AllByRecursion P (pages_lent lent) → at < length lent → page ≡ get_or lent at page → P (page_shown page.now)
 kind_at P [] at page a l h = absurd (omega arith)
 kind_at P (d ∷ ds) zero page a l h = rw h a.0
 kind_at P (d ∷ ds) (suc at) page a l h = let m : at < length ds = omega arith in kind_at P ds at page a.1 m h
 
 module _ {V : Type 0} (taken : PageOfKind → Page V) where
   -- the pages of joined entries from the first member's low key are what is made of the members
-  pub remade_is : (s : Settings) (members : List (Bor PageOfKind)) (first : Bor PageOfKind) (low : List ℕ) (es : List (List ℕ × V)) → Some first ≡ slice_get members 0 → low ≡ (taken first.now).low → es ≡ joined_pages (map taken (pages_lent members)) → pages_from low (cut s.fan es) ≡ pages_made s (map taken (pages_lent members))
+  pub remade_is : (s : Settings) (members : List (Bor InMemory)) (first : Bor InMemory) (low : List ℕ) (es : List (List ℕ × V)) → Some first ≡ slice_get members 0 → low ≡ (taken (page_shown first.now)).low → es ≡ joined_pages (map taken (pages_lent members)) → pages_from low (cut s.fan es) ≡ pages_made s (map taken (pages_lent members))
   remade_is s [] first low es f h j = absurd (cc)
   remade_is s (m ∷ ms) first low es f h j = let e : first ≡ m = cc in rw (h, e, j) refl
 

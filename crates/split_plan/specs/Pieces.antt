@@ -5,6 +5,7 @@ use Rattle.std.specs.List.{AllByRecursion}
 use Rattle.keys.specs.Bytes.{Bytes, Pairs}
 use Rattle.keys.specs.Order.{IsRising}
 use Rattle.keys.specs.declared.settings.Settings.{Settings}
+use Rattle.index_page.specs.InMemory.{InMemory, page_shown}
 use Rattle.index_page.specs.Page.{Page, PageOfKind, bare, first_key, entries, IsLeaf, IsIndex, leaf_of, index_of}
 use Rattle.index_page.specs.Page.PageOfKind.{Leaf, Index}
 use Rattle.split_plan.specs.Cut.{cut}
@@ -40,9 +41,9 @@ CanJoin [] = ⊥
 CanJoin (Leaf p ∷ ms) = AllByRecursion IsLeaf ms × IsRising (joined_pages (map leaf_of (Leaf p ∷ ms)))
 CanJoin (Index p ∷ ms) = AllByRecursion IsIndex ms × IsRising (joined_pages (map index_of (Index p ∷ ms)))
 
--- the pages that references point to
-abbrev pub pages_lent : List (Bor PageOfKind) → List PageOfKind
-pages_lent lent = map (λ page. page.now) lent
+-- the pages that references point to, as they lie in memory
+abbrev pub pages_lent : List (Bor InMemory) → List PageOfKind
+pages_lent lent = map (λ page. page_shown page.now) lent
 
 -- what the members of a group are, and the pages that were made of them
 pub record GroupRemade : Type 0 where

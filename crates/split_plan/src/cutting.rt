@@ -9,14 +9,14 @@ ghost use Rattle.split_plan.specs.Pieces.{pages_lent, joined_pages, low_at, page
 
 use crate::kind::Kind;
 use delta_chain::{Pairs, copied_base};
-use index_page::Page;
+use index_page::{Page, PageInMemory};
 use keys::Key;
 use std::alloc::{AllocError, Global};
 
 /// The entries of these pages of one kind, lent, from the first page to the last.
 pub(crate) fn joined<'a, V: Kind>(
     alloc: Global,
-    members: &[&'a Page<Global>],
+    members: &[&'a PageInMemory<Global>],
 ) -> Result<Vec<(&'a [u8], &'a V)>, AllocError>
     requires { AllByRecursion V.is_of (pages_lent members.now) }
     ensures { IfOk result (λ entries. pairs_lent entries.items ≡ joined_pages (map V.taken (pages_lent members.now))) }

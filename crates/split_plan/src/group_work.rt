@@ -10,7 +10,7 @@ use crate::cutting::{cut_pages, first_key, joined};
 use crate::kind::Kind;
 use crate::name::Name;
 use crew::{Turn, Work};
-use index_page::Page;
+use index_page::{Page, PageInMemory};
 use keys::{Pid, Settings, Value};
 use std::alloc::{AllocError, Global};
 use std::marker::{Model, PhantomData};
@@ -24,20 +24,20 @@ pub struct GroupWork<'a> {
     /// The store's settings, of which `fan` is looked at.
     pub settings: Settings,
     // The members of its jobs are lent.
-    lent: PhantomData<&'a Page<Global>>,
+    lent: PhantomData<&'a PageInMemory<Global>>,
 }
 
 /// The members of a group, in order.
 #[derive(Drop)]
 pub struct GroupJob<'a> {
-    pub members: Vec<&'a Page<Global>>,
+    pub members: Vec<&'a PageInMemory<Global>>,
 }
 
 /// The pages that were made of a group, with its members, which give the job back. Contracts see it as what the members
 /// are and what was made of them.
 #[derive(Drop)]
 pub struct GroupDone<'a> {
-    members: Vec<&'a Page<Global>>,
+    members: Vec<&'a PageInMemory<Global>>,
     pieces: Vec<Page<Global>>,
 }
 
@@ -119,7 +119,7 @@ impl<'a> Work for GroupWork<'a> {
 fn remade<'a>(
     alloc: Global,
     settings: &Settings,
-    members: &[&'a Page<Global>],
+    members: &[&'a PageInMemory<Global>],
 ) -> Result<Vec<Page<Global>>, AllocError>
     requires fan { 0 < settings.now.fan }
     requires members { CanJoin (pages_lent members.now) }
@@ -138,7 +138,7 @@ fn remade<'a>(
 fn remade_as<'a, V: Kind + 'a>(
     alloc: Global,
     settings: &Settings,
-    members: &[&'a Page<Global>],
+    members: &[&'a PageInMemory<Global>],
 ) -> Result<Vec<Page<Global>>, AllocError>
     requires fan { 0 < settings.now.fan }
     requires kind { AllByRecursion V.is_of (pages_lent members.now) }

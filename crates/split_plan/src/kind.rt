@@ -1,9 +1,10 @@
 ghost use Rattle.std.specs.Prelude.{◌≡◌};
 ghost use Rattle.delta_chain.specs.Layers.{entries_of};
+ghost use Rattle.index_page.specs.InMemory.{page_shown};
 ghost use Rattle.index_page.specs.Page.{bare, entries};
 
 use delta_chain::{Base, Chain};
-use index_page::Page;
+use index_page::{Page, PageInMemory};
 use keys::{Cell, Key, Pid, Value};
 use std::alloc::Global;
 
@@ -21,9 +22,9 @@ pub(crate) trait Kind: Cell<Global> + Drop {
     ghost made: { PageOf Self → PageOfKind };
 
     /// The chain in memory of a page of this kind, which has the page's entries.
-    fn chain(page: &Page<Global>) -> &Chain<Self, Global>
-        requires { is_of page.now }
-        ensures { entries_of result.now ≡ entries (taken page.now) };
+    fn chain(page: &PageInMemory<Global>) -> &Chain<Self, Global>
+        requires { is_of (page_shown page.now) }
+        ensures { entries_of result.now ≡ entries (taken (page_shown page.now)) };
 
     /// The page of this low key and this base.
     fn page(low: Key<Global>, base: Base<Self, Global>) -> Page<Global>
@@ -46,7 +47,7 @@ impl Kind for Value<Global> {
 
     ghost keeps_low = { elim [ Leaf p ↦ refl | Index p ↦ refl ] };
 
-    fn chain(page: &Page<Global>) -> &Chain<Self, Global> {
+    fn chain(page: &PageInMemory<Global>) -> &Chain<Self, Global> {
         match page.as_leaf() {
             Some(chain) => chain.whole(),
             None => unreachable!(),
@@ -73,7 +74,7 @@ impl Kind for Pid {
 
     ghost keeps_low = { elim [ Leaf p ↦ refl | Index p ↦ refl ] };
 
-    fn chain(page: &Page<Global>) -> &Chain<Self, Global> {
+    fn chain(page: &PageInMemory<Global>) -> &Chain<Self, Global> {
         match page.as_index() {
             Some(chain) => chain,
             None => unreachable!(),

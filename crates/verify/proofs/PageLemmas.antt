@@ -1,13 +1,18 @@
 -- The rules on every page, in the order in which they are tested.
 use Rattle.std.specs.Prelude.{◌≡◌, ◌<◌, ◌≤◌, ℕ, Bool, true, false, ◌&&◌, nat_le, min, List, [], ◌∷◌, Option, Some, None}
-use Rattle.std.proofs.Common.{refl, ap, arith, le-leb, leb-true}
+use Rattle.std.proofs.Common.{refl, ap, ◌∙◌, arith, le-leb, leb-true}
 use Rattle.std.specs.List.{list_all}
 use Rattle.delta_chain.specs.Layers.{IsInOrder}
+use Rattle.keys.specs.declared.settings.Settings.{Settings}
 use Rattle.index_page.specs.Page.{Page, named}
+use Rattle.index_page.specs.Page.PageOfKind.{Leaf}
+use Rattle.index_page.specs.Children.{Place}
 use Rattle.index_page.specs.Range.{is_below, is_within, AreFrom}
-use Rattle.index_page.specs.Rules.{all_rise, keeps_range}
+use Rattle.index_page.specs.Rules.{all_rise, keeps_range, fits_sizes, fits_depth, is_same_key, is_short_value}
 use Rattle.index_page.proofs.RuleLemmas.{decides-keeps_range}
-use Rattle.mapping.specs.Finding.{first_broken}
+use Rattle.mapping.specs.Finding.{first_broken, common_rules, broken_leaf}
+use Rattle.verify.specs.Seen.{seen_as}
+use Rattle.verify.specs.declared.look.Verdict.TheVariants.{Sound}
 
 -- no key is below the empty one
 none_below : (k : List ℕ) → is_below k [] ≡ false
@@ -54,3 +59,21 @@ module _ (a b c d : Bool) (h : a ≡ true) (i : b ≡ true) where
 
   pub none_broken : c ≡ true → d ≡ true → None ≡ first_broken ((4, a) ∷ (5, b) ∷ (6, c) ∷ (7, d) ∷ [])
   none_broken j k = rw (h, i, j, k) refl
+
+-- ---- the verdict on a leaf that breaks none of them, and whose pid hasn't been met
+
+none_of : (a b c d : Bool) (n m : ℕ) → None ≡ first_broken ((4, a) ∷ (5, b) ∷ (6, c) ∷ (7, d) ∷ []) → n ≡ m → Sound n ≡ seen_as (first_broken ((4, a) ∷ (5, b) ∷ (6, c) ∷ (7, d) ∷ (9, true) ∷ [])) m
+none_of true true true true n m h e = ap Sound e
+none_of true true true false n m h e = absurd (cc)
+none_of true true false d n m h e = absurd (cc)
+none_of true false c d n m h e = absurd (cc)
+none_of false b c d n m h e = absurd (cc)
+
+pub sound_leaf : (s : Settings) (at : Place) (p : Page (List ℕ)) (n m : ℕ) → None ≡ first_broken (common_rules s (is_short_value s) at p) → n ≡ m → Sound n ≡ seen_as (broken_leaf s [] at (Some (Leaf p))) m
+sound_leaf s at p n m h e = none_of (is_same_key p.low at.low) (keeps_range at.low at.end p) (fits_sizes s (is_short_value s) p) (fits_depth s p) n m h e
+
+-- ---- the sizes of a base alone
+
+pub base_fits : (b a x all : Bool) → b ≡ (a && x) → (a && true && x) ≡ all → b ≡ all
+base_fits b true x all h e = h ∙ e
+base_fits b false x all h e = h ∙ e

@@ -1,4 +1,5 @@
 use Rattle.std.proofs.Common.{sym, ap, ◌∙◌, ◌≡◌, drop, true}
+use Rattle.index_page.specs.InMemory.{page_shown}
 use Rattle.climb_plan.specs.Rewriting.{seen_now, all_seen, begins_at}
 use Rattle.climb_plan.specs.declared.seen.Seen.{Seen}
 use Rattle.climb_plan.proofs.RewritingSeen.{some_page, home_next, worked_next, begins_within}
@@ -11,7 +12,7 @@ page_at_home-requires c =
 
 pub returns-then-not-has_low-clause-child : goal.returns-then-not-has_low-clause-child
 returns-then-not-has_low-clause-child c =
-    λ x later n. home_next c.args.tree.now.table c.args.low.now c.args.pid x later (all_seen (drop c.args.next.now c.args.seen.now)) c.page_at_home.result.page.now (seen_now c.page_at_home.result) n (sym c.has_low.ensures ∙ c.if-not-has_low.true) c.page_at_home.ensures.page c.page_at_home.ensures.rest
+    λ x later n. home_next c.args.tree.now.table c.args.low.now c.args.pid x later (all_seen (drop c.args.next.now c.args.seen.now)) (page_shown c.page_at_home.result.page.now) (seen_now c.page_at_home.result) n (sym c.has_low.ensures ∙ c.if-not-has_low.true) c.page_at_home.ensures.page c.page_at_home.ensures.rest
 
 pub returns-clause-child : goal.returns-clause-child
 returns-clause-child c =
