@@ -55,7 +55,7 @@ def answered_in_turn() -> bytes:
     return b"new\n" * (TURNS * STEP) + b"".join(b"wiped %d\nrows %d\n" % (STEP, len(found)) + b"".join(found) for found in rows)
 
 
-DELETES = 30_000  # each with a scan after it, which goes over all leaves that are emptied by then
+DELETES = 20_000  # each with a scan after it, which goes over all leaves that are emptied by then
 
 
 def deleted_in_turn() -> bytes:
@@ -94,7 +94,7 @@ TEXTS = [
     Text("a wipe of all", lambda: puts(65_535) + b"wipe % *\nscan % * 9\n", (0, b"new\n" * 65_535 + b"wiped 65535\nrows 0\n", b"")),
     Text("wipes and scans in turn, each where the last one ended", lambda: in_turn(b""), (0, answered_in_turn(), b"")),
     Text("wipes and scans in turn, from the first key on", lambda: in_turn(b"%"), (0, answered_in_turn(), b"")),
-    Text("deletes and scans in turn", deleted_in_turn, (0, answered_deletes(), b""), seconds=5, memory=300 * MEGABYTE),
+    Text("deletes and scans in turn", deleted_in_turn, (0, answered_deletes(), b""), ("--fan", "64", "--chain", "16"), seconds=5, memory=150 * MEGABYTE),
     Text("batches of one command", lambda: b"get a\ngo\n" * SMALL, (0, b"missing\n" * SMALL, b""), memory=SMALL * (PER_ORDER + 9) + 5 * MEGABYTE),
 ]
 
