@@ -47,9 +47,9 @@ mod frame_rows;
 mod full_log_rows;
 #[cfg(test)]
 mod held_pieces;
-pub mod laws;
 #[cfg(test)]
 mod late_bases;
+pub mod laws;
 mod leaf_tasks;
 mod leaves;
 #[cfg(test)]
