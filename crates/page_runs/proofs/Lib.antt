@@ -4,7 +4,6 @@ pub mod ApartLemmas
 mod Counts
 pub mod EndedBatch
 pub mod IdleBatch
-mod LateReads
 mod LeafAfter
 mod NamedRows
 pub mod NetLemmas
