@@ -21,11 +21,11 @@ fn many_puts(alloc: Global, count: u32) -> Result<Vec<Command<Global>>, AllocErr
     Ok(commands)
 }
 
-// How many entries the base of a leaf has.
+// How many entries the base of a leaf has, which lies in memory as it is.
 fn entries_of(page: &Page<Global>) -> usize {
     match page.as_leaf() {
-        Some(chain) => chain.base().len(),
-        None => 0,
+        Some(chain) if chain.settled() == 0 => chain.whole().base().len(),
+        _ => 0,
     }
 }
 

@@ -48,6 +48,8 @@ mod full_log_rows;
 #[cfg(test)]
 mod held_pieces;
 pub mod laws;
+#[cfg(test)]
+mod late_bases;
 mod leaf_tasks;
 mod leaves;
 #[cfg(test)]

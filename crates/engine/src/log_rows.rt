@@ -624,7 +624,7 @@ fn write_tried<D: Disk>(
 
 // What the store answers to the steps that the words say, one after the other, up to one that is refused: of that its place and the
 // fault. Where a step finds no memory, as often as it is begun, nothing is told.
-fn play_tried<D: Disk>(
+pub(crate) fn play_tried<D: Disk>(
     rt: &(impl Threads + Sync),
     crew: Crew,
     alloc: Global,

@@ -4,7 +4,7 @@ use crate::crews::{ALONE, crews};
 use crate::outcomes::Outcomes;
 use crate::store::Store;
 use crew::{Crew, NoGate};
-use delta_chain::{Chain, Pairs};
+use delta_chain::{Chain, LateChain, Pairs};
 use flush_log::segments::disk_size;
 use flush_log::{Disk, MemDisk};
 use index_page::Page;
@@ -563,10 +563,10 @@ fn write_children(text: &mut String, pairs: &Pairs<'_, Pid, Global>) -> Result<(
 fn write_leaf(
     alloc: Global,
     text: &mut String,
-    chain: &Chain<Value<Global>, Global>,
+    chain: &LateChain<Value<Global>, Global>,
 ) -> Result<(), AllocError> {
     write!(text, " leaf runs={}:", chain.depth())?;
-    let pairs = chain.pairs(alloc)?;
+    let pairs = chain.whole().pairs(alloc)?;
     write_values(text, &pairs)
 }
 

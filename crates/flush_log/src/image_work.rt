@@ -2,9 +2,11 @@
 ghost use Rattle.std.specs.Prelude.{◌≡◌, ◌^◌, ◌<◌, ◌∷◌, [], map, reverse, drop, Some, None, IfOk, OnOk};
 ghost use Rattle.std.specs.List.{AllByRecursion};
 ghost use Rattle.delta_chain.specs.Layers.{depth_of};
+ghost use Rattle.delta_chain.specs.Late.{seen};
 ghost use Rattle.mapping.specs.Flushed.{page_depth};
 ghost use Rattle.mapping.specs.LogState.{log_state};
 ghost use Rattle.frame_codec.specs.declared.format.Spelling as spellings;
+ghost use Rattle.frame_codec.specs.Frame.Content.{FullLeaf, DeltaLeaf, FullIndex, DeltaIndex};
 ghost use Rattle.frame_codec.specs.Sized.{IsSized, HasWords};
 ghost use Rattle.flush_log.specs.FlushText.{lacking};
 ghost use Rattle.flush_log.specs.ImageWork.{image_held, held_text, image_made, CanBeWritten, lacking_by, AreWritten, IsImageOf};
@@ -12,7 +14,7 @@ ghost use Rattle.flush_log.specs.ImageWork.{image_held, held_text, image_made, C
 use crate::image::Image;
 use crate::kind::Kind;
 use crew::{Turn, Work};
-use delta_chain::{Chain, ChainRef};
+use delta_chain::{Base, Chain, ChainRef, LateChain};
 use frame_codec::Spelling;
 use index_page::Page;
 use keys::{Pid, Value};
@@ -172,32 +174,76 @@ fn page_image(
     ensures { IfOk result (λ image. AreWritten pid (lacking spelling (Some page.now) (log_state logged)) [] image) }
 {
     if let Some(chain) = page.as_leaf() {
-        return chain_image::<Value<Global>>(alloc, pid, spelling, page.low(), chain, logged);
+        return leaf_image(alloc, pid, spelling, page.low(), chain, logged);
     }
     match page.as_index() {
-        Some(chain) => chain_image::<Pid>(alloc, pid, spelling, page.low(), chain, logged),
+        Some(chain) => index_image(alloc, pid, spelling, page.low(), chain, logged),
         None => unreachable!(),
     }
 }
 
-// The image of a page of this kind.
-fn chain_image<V: Kind<Global>>(
+// The image of a leaf.
+fn leaf_image(
     alloc: Global,
     pid: Pid,
     spelling: Spelling,
     low: &[u8],
-    chain: &Chain<V, Global>,
+    chain: &LateChain<Value<Global>, Global>,
+    logged: Logged,
+) -> Result<Image, AllocError>
+    requires few { depth_of (seen chain.now) < 2 ^ 31 }
+    requires sized { AllByRecursion IsSized (lacking_by (log_state logged)
+        (FullLeaf spelling low.now (seen chain.now).base) (map DeltaLeaf (reverse (seen chain.now).runs))) }
+    ensures { IfOk result (λ image. AreWritten pid (lacking_by (log_state logged)
+        (FullLeaf spelling low.now (seen chain.now).base) (map DeltaLeaf (reverse (seen chain.now).runs))) [] image) }
+{
+    match logged {
+        Logged::Upto(kept) => newer_image(alloc, pid, &chain.open_lent(), kept),
+        _ => whole_leaf(alloc, pid, spelling, low, chain),
+    }
+}
+
+// The image of a leaf of which the log has nothing. Where runs count as merged with the base, its base is made for the frame alone.
+fn whole_leaf(
+    alloc: Global,
+    pid: Pid,
+    spelling: Spelling,
+    low: &[u8],
+    chain: &LateChain<Value<Global>, Global>,
+) -> Result<Image, AllocError>
+    requires few { depth_of (seen chain.now) < 2 ^ 31 }
+    requires base { IsSized (FullLeaf spelling low.now (seen chain.now).base) }
+    requires runs { AllByRecursion IsSized (map DeltaLeaf (reverse (seen chain.now).runs)) }
+    ensures { IfOk result (λ image. AreWritten pid
+        (FullLeaf spelling low.now (seen chain.now).base ∷ map DeltaLeaf (reverse (seen chain.now).runs)) [] image) }
+{
+    let runs = chain.open_lent();
+    if chain.settled() == 0 {
+        return whole_image(alloc, pid, spelling, low, chain.whole().base(), &runs);
+    }
+    let base = chain.base_copy(alloc)?;
+    whole_image(alloc, pid, spelling, low, &base, &runs)
+}
+
+// The image of an index page.
+fn index_image(
+    alloc: Global,
+    pid: Pid,
+    spelling: Spelling,
+    low: &[u8],
+    chain: &Chain<Pid, Global>,
     logged: Logged,
 ) -> Result<Image, AllocError>
     requires few { depth_of chain.now < 2 ^ 31 }
     requires sized { AllByRecursion IsSized
-        (lacking_by (log_state logged) (V.full spelling low.now chain.now.base) (map V.delta (reverse chain.now.runs))) }
+        (lacking_by (log_state logged) (FullIndex spelling low.now chain.now.base) (map DeltaIndex (reverse chain.now.runs))) }
     ensures { IfOk result (λ image. AreWritten pid
-        (lacking_by (log_state logged) (V.full spelling low.now chain.now.base) (map V.delta (reverse chain.now.runs))) [] image) }
+        (lacking_by (log_state logged) (FullIndex spelling low.now chain.now.base) (map DeltaIndex (reverse chain.now.runs))) [] image) }
 {
+    let runs = chain.lent();
     match logged {
-        Logged::Upto(kept) => newer_image(alloc, pid, chain, kept),
-        _ => whole_image(alloc, pid, spelling, low, chain),
+        Logged::Upto(kept) => newer_image(alloc, pid, &runs, kept),
+        _ => whole_image(alloc, pid, spelling, low, chain.base(), &runs),
     }
 }
 
@@ -207,18 +253,19 @@ fn whole_image<V: Kind<Global>>(
     pid: Pid,
     spelling: Spelling,
     low: &[u8],
-    chain: &Chain<V, Global>,
+    base: &Base<V, Global>,
+    lists: &ChainRef<'_, V, Global>,
 ) -> Result<Image, AllocError>
-    requires few { depth_of chain.now < 2 ^ 31 }
-    requires base { IsSized (V.full spelling low.now chain.now.base) }
-    requires runs { AllByRecursion IsSized (map V.delta (reverse chain.now.runs)) }
+    requires few { depth_of lists.now < 2 ^ 31 }
+    requires base { IsSized (V.full spelling low.now base.now) }
+    requires runs { AllByRecursion IsSized (map V.delta (reverse lists.now.runs)) }
     ensures { IfOk result (λ image.
-        AreWritten pid (V.full spelling low.now chain.now.base ∷ map V.delta (reverse chain.now.runs)) [] image) }
+        AreWritten pid (V.full spelling low.now base.now ∷ map V.delta (reverse lists.now.runs)) [] image) }
 {
-    let depth = chain.depth() as usize;
+    let depth = lists.depth() as usize;
     let mut image = Image::with_capacity(alloc, depth + 1)?;
-    image.push_full(pid, spelling, low, chain.base())?;
-    push_runs(&mut image, pid, &chain.lent(), 0)?;
+    image.push_full(pid, spelling, low, base)?;
+    push_runs(&mut image, pid, lists, 0)?;
     Ok(image)
 }
 
@@ -226,16 +273,16 @@ fn whole_image<V: Kind<Global>>(
 fn newer_image<V: Kind<Global>>(
     alloc: Global,
     pid: Pid,
-    chain: &Chain<V, Global>,
+    lists: &ChainRef<'_, V, Global>,
     kept: u64,
 ) -> Result<Image, AllocError>
-    requires few { depth_of chain.now < 2 ^ 31 }
-    requires sized { AllByRecursion IsSized (drop kept (map V.delta (reverse chain.now.runs))) }
-    ensures { IfOk result (λ image. AreWritten pid (drop kept (map V.delta (reverse chain.now.runs))) [] image) }
+    requires few { depth_of lists.now < 2 ^ 31 }
+    requires sized { AllByRecursion IsSized (drop kept (map V.delta (reverse lists.now.runs))) }
+    ensures { IfOk result (λ image. AreWritten pid (drop kept (map V.delta (reverse lists.now.runs))) [] image) }
 {
-    let newer = chain.depth().saturating_sub(kept) as usize;
+    let newer = lists.depth().saturating_sub(kept) as usize;
     let mut image = Image::with_capacity(alloc, newer)?;
-    push_runs(&mut image, pid, &chain.lent(), kept)?;
+    push_runs(&mut image, pid, lists, kept)?;
     Ok(image)
 }
 

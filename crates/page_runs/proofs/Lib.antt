@@ -4,6 +4,7 @@ pub mod ApartLemmas
 mod Counts
 pub mod EndedBatch
 pub mod IdleBatch
+mod LeafAfter
 mod NamedRows
 pub mod NetLemmas
 mod Overlays

@@ -71,8 +71,3 @@ module _ {V : Type 0} where
   abbrev pub runs_left : Option (Bor (Changes V) × Layers V) → List (Changes V)
   runs_left None = []
   runs_left (Some q) = q.0.now ∷ q.1.runs
-
-  -- below these runs stands this base
-  abbrev pub StandOn : Pairs V → Option (Bor (Changes V) × Layers V) → Type 0
-  StandOn base None = ⊤
-  StandOn base (Some q) = q.1.base ≡ base

@@ -8,6 +8,8 @@ use Rattle.index_page.specs.Range.{is_below, is_within, AreFrom}
 use Rattle.index_page.specs.Rules.{all_rise, keeps_range}
 use Rattle.index_page.proofs.RuleLemmas.{decides-keeps_range}
 use Rattle.mapping.specs.Finding.{first_broken}
+use Rattle.verify.specs.Seen.{seen_as}
+use Rattle.verify.specs.declared.look.Verdict.TheVariants.{Sound}
 
 -- no key is below the empty one
 none_below : (k : List ℕ) → is_below k [] ≡ false
@@ -54,3 +56,12 @@ module _ (a b c d : Bool) (h : a ≡ true) (i : b ≡ true) where
 
   pub none_broken : c ≡ true → d ≡ true → None ≡ first_broken ((4, a) ∷ (5, b) ∷ (6, c) ∷ (7, d) ∷ [])
   none_broken j k = rw (h, i, j, k) refl
+
+-- ---- the verdict on a leaf that breaks none of them, and whose pid hasn't been met
+
+pub sound_leaf : (a b c d : Bool) (n m : ℕ) → None ≡ first_broken ((4, a) ∷ (5, b) ∷ (6, c) ∷ (7, d) ∷ []) → n ≡ m → Sound n ≡ seen_as (first_broken ((4, a) ∷ (5, b) ∷ (6, c) ∷ (7, d) ∷ (9, true) ∷ [])) m
+sound_leaf true true true true n m h e = ap Sound e
+sound_leaf true true true false n m h e = absurd (cc)
+sound_leaf true true false d n m h e = absurd (cc)
+sound_leaf true false c d n m h e = absurd (cc)
+sound_leaf false b c d n m h e = absurd (cc)

@@ -1,15 +1,16 @@
 //! Tests of the runs and the base of a page: the range of the keys, and the sizes.
-ghost use Rattle.std.specs.Prelude.{◌≡◌, ◌&&◌, ℕ, Bool, nat_le, length};
+ghost use Rattle.std.specs.Prelude.{◌≡◌, ◌<◌, ◌&&◌, ℕ, Bool, List, Some, nat_le, length, slice_get};
 ghost use Rattle.std.specs.Option.{option_copied};
 ghost use Rattle.std.specs.List.{list_all};
-ghost use Rattle.std.specs.Map.{keys_of};
+ghost use Rattle.std.specs.Map.{keys_of, values_of};
+ghost use Rattle.keys.specs.Bytes.{Bytes};
 ghost use Rattle.keys.specs.declared.settings.Settings as limits;
 ghost use Rattle.index_page.specs.Page.{as_changes, said_under};
 ghost use Rattle.index_page.specs.Range.{is_within};
 ghost use Rattle.index_page.specs.Rules.{is_short_value, is_any_pid, of_cell, is_run_sized, is_short_change};
 ghost use Rattle.verify.specs.Sizes.{sizes_under};
 
-use delta_chain::{Base, ChainRef, KeyList, Run};
+use delta_chain::{Base, ChainRef, KeyList, Pairs, Run};
 use keys::{Pid, Settings, Value, compare, is_before};
 use std::alloc::Allocator;
 
@@ -38,6 +39,57 @@ impl CellSize for Pid {
     }
 }
 
+/// The base of a page, read by place: one that lies in memory, or the pairs of one that is still to be made.
+pub(crate) trait BaseList<V> {
+    ghost entries: { Self → List (Bytes × V) };
+
+    /// How many entries there are.
+    fn count(&self) -> usize
+        ensures { result ≡ length (entries self.now) };
+
+    /// The bytes of the key at this place, counted from 0.
+    fn key_at(&self, at: usize) -> &[u8]
+        requires { at < length (entries self.now) }
+        ensures { slice_get (keys_of (entries self.now)) at ≡ Some result.now };
+
+    /// The cell at this place, counted from 0.
+    fn cell_at(&self, at: usize) -> &V
+        requires { at < length (entries self.now) }
+        ensures { slice_get (values_of (entries self.now)) at ≡ Some result.now };
+}
+
+impl<V, A: Allocator + Copy> BaseList<V> for Base<V, A> {
+    ghost entries = { λ base. base };
+
+    fn count(&self) -> usize {
+        self.len()
+    }
+
+    fn key_at(&self, at: usize) -> &[u8] {
+        self.key(at)
+    }
+
+    fn cell_at(&self, at: usize) -> &V {
+        self.cell(at)
+    }
+}
+
+impl<'a, V, A: Allocator + Copy> BaseList<V> for Pairs<'a, V, A> {
+    ghost entries = { λ pairs. pairs };
+
+    fn count(&self) -> usize {
+        self.len()
+    }
+
+    fn key_at(&self, at: usize) -> &[u8] {
+        self.key(at)
+    }
+
+    fn cell_at(&self, at: usize) -> &V {
+        self.cell(at)
+    }
+}
+
 // Whether the key lies in the range from `low` on and before `end`.
 fn is_within(low: &[u8], end: Option<&[u8]>, key: &[u8]) -> bool
     ensures { result ≡ is_within low.now (option_copied end.entry) key.now }
@@ -48,63 +100,79 @@ fn is_within(low: &[u8], end: Option<&[u8]>, key: &[u8]) -> bool
     is_before(end, key)
 }
 
-// Whether each key of the list lies in the range.
-fn keys_within<L: KeyList>(list: &L, low: &[u8], end: Option<&[u8]>) -> bool
-    ensures { result ≡ list_all (is_within low.now (option_copied end.entry)) (L.keys list.now) }
+// Whether each key of the run lies in the range.
+fn run_within<V, A: Allocator + Copy>(run: &Run<V, A>, low: &[u8], end: Option<&[u8]>) -> bool
+    ensures { result ≡ list_all (is_within low.now (option_copied end.entry)) (keys_of run.now) }
 {
-    for at in 0..list.len() {
-        if !is_within(low, end, list.key(at)) {
+    for at in 0..run.len() {
+        if !is_within(low, end, run.key(at)) {
             return false;
         }
     }
     true
 }
 
-/// Whether each key that the runs and the base name lies in the range.
-pub(crate) fn names_within<V, A: Allocator + Copy>(
-    lists: &ChainRef<'_, V, A>,
+// The same of a base.
+fn base_within<V, B: BaseList<V>>(base: &B, low: &[u8], end: Option<&[u8]>) -> bool
+    ensures { result ≡ list_all (is_within low.now (option_copied end.entry)) (keys_of (B.entries base.now)) }
+{
+    for at in 0..base.count() {
+        if !is_within(low, end, base.key_at(at)) {
+            return false;
+        }
+    }
+    true
+}
+
+/// Whether each key that the runs and the base name lies in the range. What lies under the lent runs is of no account.
+pub(crate) fn names_within<V, A: Allocator + Copy, B: BaseList<V>>(
+    runs: &ChainRef<'_, V, A>,
+    base: &B,
     low: &[u8],
     end: Option<&[u8]>,
 ) -> bool
-    ensures { result ≡ list_all (is_within low.now (option_copied end.entry)) (keys_of (said_under lists.now.runs lists.now.base)) }
+    ensures { result ≡ list_all (is_within low.now (option_copied end.entry)) (keys_of (said_under runs.now.runs (B.entries base.now))) }
 {
-    let mut next = lists.newest();
+    let mut next = runs.newest();
     while let Some((run, below)) = next {
-        if !keys_within(run, low, end) {
+        if !run_within(run, low, end) {
             return false;
         }
         next = below.newest();
     }
-    keys_within(lists.base(), low, end)
+    base_within(base, low, end)
 }
 
-/// Whether the base and each run are within the settings, in their numbers of entries and in the lengths of keys and cells.
-pub(crate) fn fits_sizes<V: CellSize, A: Allocator + Copy>(
-    lists: &ChainRef<'_, V, A>,
+/// Whether the base and each run are within the settings, in their numbers of entries and in the lengths of keys and cells. What lies
+/// under the lent runs is of no account.
+pub(crate) fn fits_sizes<V: CellSize, A: Allocator + Copy, B: BaseList<V>>(
+    runs: &ChainRef<'_, V, A>,
+    base: &B,
     settings: &Settings,
 ) -> bool
-    ensures { result ≡ sizes_under settings.now (V.is_short settings.now) lists.now.runs lists.now.base }
+    ensures { result ≡ sizes_under settings.now (V.is_short settings.now) runs.now.runs (B.entries base.now) }
 {
-    let mut next = lists.newest();
+    let mut next = runs.newest();
     while let Some((run, below)) = next {
         if !fits_run(run, settings) {
             return false;
         }
         next = below.newest();
     }
-    fits_base(lists.base(), settings)
+    fits_base(base, settings)
 }
 
 // The same of a base.
-fn fits_base<V: CellSize, A: Allocator + Copy>(base: &Base<V, A>, settings: &Settings) -> bool
-    ensures { result ≡ (nat_le (length base.now) settings.now.fan && list_all (is_short_change settings.now (V.is_short settings.now)) (as_changes base.now)) }
+fn fits_base<V: CellSize, B: BaseList<V>>(base: &B, settings: &Settings) -> bool
+    ensures { result ≡ (nat_le (length (B.entries base.now)) settings.now.fan
+        && list_all (is_short_change settings.now (V.is_short settings.now)) (as_changes (B.entries base.now))) }
 {
-    let count = base.len();
+    let count = base.count();
     if count > settings.fan as usize {
         return false;
     }
     for at in 0..count {
-        if !is_short_entry(base.key(at), Some(base.cell(at)), settings) {
+        if !is_short_entry(base.key_at(at), Some(base.cell_at(at)), settings) {
             return false;
         }
     }

@@ -1,15 +1,16 @@
 ghost use Rattle.std.specs.Prelude.{◌≡◌, ◌&&◌, nat_le, [], Some, length, IfOk};
+ghost use Rattle.delta_chain.specs.Late.{seen};
 ghost use Rattle.index_page.specs.Page.{entries, first_key};
 ghost use Rattle.index_page.specs.Page.PageOfKind.{Leaf, Index};
-ghost use Rattle.index_page.specs.Rules.{is_same_key};
-ghost use Rattle.mapping.specs.Finding.{broken_leaf, broken_index};
+ghost use Rattle.index_page.specs.Rules.{is_same_key, is_short_value};
+ghost use Rattle.mapping.specs.Finding.{broken_leaf, broken_index, common_rules, first_broken};
 ghost use Rattle.mapping.specs.TreeInMemory.{AreAllHome, tree_of};
 ghost use Rattle.verify.specs.Seen.{seen_as, seen_at};
 
 use crate::page_rules::broken_rule;
 use crate::place::Place;
 use crate::rules::{CHILDREN, NO_PAGE, WRONG_KIND};
-use delta_chain::{Chain, Pairs};
+use delta_chain::{Chain, LateChain, Pairs};
 use keys::{Pid, Settings, Value, compare};
 use mapping::Tree;
 use std::alloc::{AllocError, Global};
@@ -63,16 +64,38 @@ fn look_at_leaf(
     settings: &Settings,
     at: &Place<'_>,
     low: &[u8],
-    chain: &Chain<Value<Global>, Global>,
+    chain: &LateChain<Value<Global>, Global>,
 ) -> Result<Verdict, AllocError>
-    ensures { IfOk result (λ seen. seen ≡ seen_as (broken_leaf settings.now [] at.now (Some (Leaf (record { low = low.now; layers = chain.now }))))
-        (length (entries (record { low = low.now; layers = chain.now })))) }
+    ensures { IfOk result (λ verdict. verdict ≡ seen_as (broken_leaf settings.now [] at.now (Some (Leaf (record { low = low.now; layers = seen chain.now }))))
+        (length (entries (record { low = low.now; layers = seen chain.now })))) }
 {
-    if let Some(rule) = broken_rule(settings, at, low, chain) {
+    let broken = broken_rule_of_leaf(alloc, settings, at, low, chain)?;
+    if let Some(rule) = broken {
         return Ok(Verdict::Broken(rule));
     }
-    let pairs = chain.pairs(alloc)?;
+    let pairs = chain.whole().pairs(alloc)?;
     Ok(Verdict::Sound(pairs.len()))
+}
+
+// The first of the rules on every page that a leaf breaks. Where runs count as merged with its base, the base that they make is lent.
+fn broken_rule_of_leaf(
+    alloc: Global,
+    settings: &Settings,
+    at: &Place<'_>,
+    low: &[u8],
+    chain: &LateChain<Value<Global>, Global>,
+) -> Result<Option<u32>, AllocError>
+    ensures { IfOk result (λ rule. rule ≡ first_broken (common_rules settings.now (is_short_value settings.now) at.now
+        (record { low = low.now; layers = seen chain.now }))) }
+{
+    // Only for the proof: its keys rise.
+    let _depth = chain.depth();
+    let runs = chain.open_lent();
+    if chain.settled() == 0 {
+        return Ok(broken_rule(settings, at, low, &runs, chain.whole().base()));
+    }
+    let base = chain.base_pairs(alloc)?;
+    Ok(broken_rule(settings, at, low, &runs, &base))
 }
 
 // An index page, on a level above.
@@ -86,7 +109,9 @@ fn look_at_index(
 ) -> Result<Verdict, AllocError>
     ensures { IfOk result (λ seen. seen ≡ seen_as (broken_index settings.now least [] at.now (Some (Index (record { low = low.now; layers = chain.now })))) 0) }
 {
-    if let Some(rule) = broken_rule(settings, at, low, chain) {
+    // Only for the proof: its keys rise.
+    let _depth = chain.depth();
+    if let Some(rule) = broken_rule(settings, at, low, &chain.lent(), chain.base()) {
         return Ok(Verdict::Broken(rule));
     }
     let children = chain.pairs(alloc)?;

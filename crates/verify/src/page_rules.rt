@@ -1,35 +1,37 @@
 ghost use Rattle.std.specs.Prelude.{◌≡◌};
+ghost use Rattle.delta_chain.specs.Layers.{IsInOrder};
 ghost use Rattle.mapping.specs.Finding.{common_rules, first_broken};
 
-use crate::chain_tests::{CellSize, fits_sizes, names_within};
+use crate::chain_tests::{BaseList, CellSize, fits_sizes, names_within};
 use crate::place::Place;
 use crate::rules::{DEPTH, LOW_KEY, RANGE, SIZES};
-use delta_chain::Chain;
+use delta_chain::ChainRef;
 use keys::{Settings, compare};
 use std::alloc::Global;
 
-/// The first of the rules on every page that this one breaks: on its low key, its range, its sizes and its depth. That the
-/// keys of each run and of the base rise, nothing in memory can break.
-pub(crate) fn broken_rule<V: CellSize>(
+/// The first of the rules on every page that the one of these runs and this base breaks: on its low key, its range, its sizes and its
+/// depth. That the keys of each run and of the base rise, nothing in memory can break. What lies under the lent runs is of no account.
+pub(crate) fn broken_rule<V: CellSize, B: BaseList<V>>(
     settings: &Settings,
     at: &Place<'_>,
     low: &[u8],
-    chain: &Chain<V, Global>,
+    runs: &ChainRef<'_, V, Global>,
+    base: &B,
 ) -> Option<u32>
-    ensures { result ≡ first_broken (common_rules settings.now (V.is_short settings.now) at.now (record { low = low.now; layers = chain.now })) }
+    requires { IsInOrder (record { runs = runs.now.runs; base = B.entries base.now }) }
+    ensures { result ≡ first_broken (common_rules settings.now (V.is_short settings.now) at.now
+        (record { low = low.now; layers = record { runs = runs.now.runs; base = B.entries base.now } })) }
 {
-    let depth = chain.depth();
     if !compare(low, at.low).is_eq() {
         return Some(LOW_KEY);
     }
-    let lists = chain.lent();
-    if !names_within(&lists, at.low, at.end) {
+    if !names_within(runs, base, at.low, at.end) {
         return Some(RANGE);
     }
-    if !fits_sizes(&lists, settings) {
+    if !fits_sizes(runs, base, settings) {
         return Some(SIZES);
     }
-    if depth > settings.chain as u64 {
+    if runs.depth() > settings.chain as u64 {
         return Some(DEPTH);
     }
     None

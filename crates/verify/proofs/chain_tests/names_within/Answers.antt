@@ -5,5 +5,5 @@ use Rattle.verify.proofs.chain_tests.names_within.Goals as goal
 
 pub returns : goal.returns
 returns g c =
-    base_alone (is_within c.args.low.now (option_copied c.args.end)) c.args.lists.now.base c.keys_within-2.result _
-    (rw c.base.ensures at c.keys_within-2.ensures) (rw c.in_default.is at c.loop-next.invariant.left)
+    base_alone (is_within c.args.low.now (option_copied c.args.end)) (g.B.BaseList.entries c.args.base.now) c.base_within.result _
+    c.base_within.ensures (rw c.in_default.is at c.loop-next.invariant)

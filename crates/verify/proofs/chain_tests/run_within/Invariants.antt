@@ -1,9 +1,10 @@
 use Rattle.std.proofs.Common.{◌≡◌, drop}
 use Rattle.std.specs.Option.{option_copied}
 use Rattle.std.specs.List.{list_all}
+use Rattle.std.specs.Map.{keys_of}
 use Rattle.index_page.specs.Range.{is_within}
-use Rattle.verify.proofs.chain_tests.keys_within.Given as goal
+use Rattle.verify.proofs.chain_tests.run_within.Given as goal
 
 -- each key before this place lies in the range
 abbrev pub invariant-loop-at : goal.invariant-loop-at
-invariant-loop-at g l = list_all (is_within l.low (option_copied l.end)) (drop l.at (g.L.KeyList.keys l.list)) ≡ list_all (is_within l.low (option_copied l.end)) (g.L.KeyList.keys l.list)
+invariant-loop-at g l = list_all (is_within l.low (option_copied l.end)) (drop l.at (keys_of l.run)) ≡ list_all (is_within l.low (option_copied l.end)) (keys_of l.run)

@@ -1,0 +1,10 @@
+use Rattle.std.proofs.Common.{length, sym, ap, ◌∙◌}
+use Rattle.delta_chain.specs.Layers.{entries_of}
+use Rattle.delta_chain.proofs.LateLemmas.{entries-seen}
+use Rattle.verify.proofs.PageLemmas.{sound_leaf}
+use Rattle.verify.proofs.look.look_at_leaf.Goals as goal
+
+pub returns : goal.returns
+returns c =
+    let count = c.len.ensures ∙ ap length (c.in_ok-pairs.ensures.entries ∙ ap entries_of c.whole.ensures ∙ sym (entries-seen c.args.chain.now)) in
+    sound_leaf _ _ _ _ c.len.result _ (sym c.in_default.is ∙ c.in_ok-broken.ensures) count
