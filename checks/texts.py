@@ -55,6 +55,19 @@ def answered_in_turn() -> bytes:
     return b"new\n" * (TURNS * STEP) + b"".join(b"wiped %d\nrows %d\n" % (STEP, len(found)) + b"".join(found) for found in rows)
 
 
+DELETES = 20_000  # each with a scan after it, which goes over all leaves that are emptied by then
+
+
+def deleted_in_turn() -> bytes:
+    """Deletes of all pairs in the order of their keys, each with a scan of one from the first key on, in one batch."""
+    return puts(DELETES) + b"".join(b"del %06d\nscan %% * 1\n" % number for number in range(DELETES))
+
+
+def answered_deletes() -> bytes:
+    rows = [b"rows 1\n%06d v\n" % number for number in range(1, DELETES)] + [b"rows 0\n"]
+    return b"new\n" * DELETES + b"".join(b"deleted\n" + found for found in rows)
+
+
 SMALL = 200_000  # batches of one command
 PER_ORDER = 100  # bytes that each may take in memory, beside its text
 
@@ -81,6 +94,7 @@ TEXTS = [
     Text("a wipe of all", lambda: puts(65_535) + b"wipe % *\nscan % * 9\n", (0, b"new\n" * 65_535 + b"wiped 65535\nrows 0\n", b"")),
     Text("wipes and scans in turn, each where the last one ended", lambda: in_turn(b""), (0, answered_in_turn(), b"")),
     Text("wipes and scans in turn, from the first key on", lambda: in_turn(b"%"), (0, answered_in_turn(), b"")),
+    Text("deletes and scans in turn", deleted_in_turn, (0, answered_deletes(), b""), ("--fan", "64", "--chain", "16"), seconds=5, memory=150 * MEGABYTE),
     Text("batches of one command", lambda: b"get a\ngo\n" * SMALL, (0, b"missing\n" * SMALL, b""), memory=SMALL * (PER_ORDER + 9) + 5 * MEGABYTE),
 ]
 

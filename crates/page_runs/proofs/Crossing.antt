@@ -2,7 +2,8 @@
 use denote.RattleType.{RattleType}
 use denote.Struct.Declared.{shape}
 use denote.Enum.Declared as variants
-use denote.Param.Send.{IsSend, view_send, recorded_send, struct_send, enum_send}
+use denote.Builtin.{usize}
+use denote.Param.Send.{IsSend, view_send, recorded_send, struct_send, enum_send, sendable}
 use Rattle.std.specs.contracts.alloc.Global as Global
 use Rattle.std.specs.contracts.impls.GlobalAllocator.TheImpl.{ghosts}
 use Rattle.std.proofs.Crossing as heap
@@ -31,6 +32,9 @@ way_back_send = enum_send (variants.shape (WayBack.the_type values)) (
   (run.the_send values Global.the_row ghosts values_send heap.send heap.frees, tt),
   (tt, ((class.the_field_send, (Chain-send values Global.the_row ghosts values_send heap.send heap.frees, tt)), tt)),
 )
+
+usize_send : IsSend usize
+usize_send = search sendable
 
 leaf_way_back_send : IsSend LeafWayBack.the_field.row
 leaf_way_back_send = enum_send (variants.shape LeafWayBack.the_type) (

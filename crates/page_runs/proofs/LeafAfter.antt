@@ -37,8 +37,9 @@ module _ {V : Type 0} where
   entries_late s c after run e =
       sym (entries-seen after) ∙ ap (λ (p : Layers V). entries_of p) e ∙ entries_of-after_run s (seen c) run ∙ ap (λ (m : Pairs V). with_run m run) (entries-seen c)
 
-  pub fewest_late : (s : Settings) (c after : Late V) (run : Changes V) (n : ℕ) → seen after ≡ after_run s (seen c) run → n ≤ length (with_run (entries_of c.chain) run) → n ≤ length (entries_of after.chain)
-  fewest_late s c after run n e h = rw (entries_late s c after run e) h
+  -- whole is what lies in memory before the run
+  pub fewest_late : (s : Settings) (c after : Late V) (whole : Layers V) (run : Changes V) (n : ℕ) → seen after ≡ after_run s (seen c) run → whole ≡ c.chain → n ≤ length (with_run (entries_of whole) run) → n ≤ length (entries_of after.chain)
+  fewest_late s c after whole run n e w h = rw (entries_late s c after run e) (rw w at h)
 
-  pub most_late : (s : Settings) (c after : Late V) (run : Changes V) (n : ℕ) → seen after ≡ after_run s (seen c) run → min (length (with_run (entries_of c.chain) run)) (2 ^ 64 - 1) ≤ n → min (length (entries_of after.chain)) (2 ^ 64 - 1) ≤ n
-  most_late s c after run n e h = rw (entries_late s c after run e) h
+  pub most_late : (s : Settings) (c after : Late V) (whole : Layers V) (run : Changes V) (n : ℕ) → seen after ≡ after_run s (seen c) run → whole ≡ c.chain → min (length (with_run (entries_of whole) run)) (2 ^ 64 - 1) ≤ n → min (length (entries_of after.chain)) (2 ^ 64 - 1) ≤ n
+  most_late s c after whole run n e w h = rw (entries_late s c after run e) (rw w at h)

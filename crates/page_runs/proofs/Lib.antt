@@ -5,6 +5,7 @@ mod Counts
 pub mod EndedBatch
 pub mod IdleBatch
 mod LeafAfter
+mod LeafMade
 mod NamedRows
 pub mod NetLemmas
 mod Overlays

@@ -1,16 +1,28 @@
 -- Commands that only look: how they are told, and that they come to no run.
 use Rattle.std.specs.Prelude.{◌≡◌, ℕ, ◌+◌, Bool, true, false, ◌&&◌, List, [], ◌∷◌, drop, slice_get}
 use Rattle.std.proofs.Common.{refl, sym, ap, ◌∙◌}
+use Rattle.std.specs.Prelude.{Option, Some}
+use Rattle.std.specs.declared.alloc.Global.{Global}
 use Rattle.std.proofs.lemmas.List.Folds.{list_all-append}
 use Rattle.std.specs.List.{list_all}
 use Rattle.std.specs.Option.{option_to_list}
+use Rattle.keys.specs.Bytes.{Bytes}
 use Rattle.keys.specs.declared.command.Command.{Command}
+use Rattle.keys.specs.declared.piece.Piece.{Piece}
+use Rattle.delta_chain.specs.Late.{Late, seen}
+use Rattle.delta_chain.specs.Layers.{Layers, entries_of}
+use Rattle.delta_chain.proofs.LateLemmas.{entries-seen}
+use Rattle.index_page.specs.Page.{PageOfKind}
+use Rattle.index_page.specs.Page.PageOfKind.{Leaf}
+use Rattle.mapping.specs.Table.{page_of}
+use Rattle.mapping.specs.TreeInMemory.{TreeInMemory}
+use Rattle.routing.specs.Routes.{Route}
 use Rattle.keys.specs.declared.command.Command.TheVariants.{Get, Put, Add, Del, Scan, Wipe}
 use Rattle.page_runs.specs.NetRun.{touched, net_run}
-use Rattle.page_runs.specs.Reads.{is_look}
-use Rattle.page_runs.specs.Replies.{commands_at}
+use Rattle.page_runs.specs.Reads.{is_look, answers_at, route_answers}
+use Rattle.page_runs.specs.Replies.{commands_at, pieces_of}
 use Rattle.page_runs.proofs.NetLemmas.{Pairs}
-use Rattle.keys.specs.Step.{map_after_all}
+use Rattle.keys.specs.Step.{map_after_all, replies_to}
 
 module _ {A : Type 0} where
   touched-looks : (after before : Pairs) (cs : List (Command A)) → list_all is_look cs ≡ true → touched after before cs ≡ []
@@ -41,3 +53,13 @@ module _ {A : Type 0} where
     -- where it looks it is for those behind it to say
     pub one_looks : said ≡ true → list_all is_look (commands_at batch (drop (i + 1) places)) ≡ list_all is_look (commands_at batch places)
     one_looks h = sym (ap (λ (b : Bool). b && list_all is_look (commands_at batch (drop (i + 1) places))) (sym here ∙ h)) ∙ sym (looks_from batch places i place next) ∙ so_far
+
+-- what is replayed on the chain in memory of a leaf at home is what the route's page answers
+pub late_answers : (t : TreeInMemory) (batch : List (Command Global)) (r : Route) (pid : ℕ) (page : PageOfKind) (low : Bytes) (leaf : Late Bytes) (chain : Layers Bytes) (places : List ℕ) (pieces : List (Piece Global))
+    → pid ≡ r.pid → page_of t.table pid ≡ Some page → page ≡ Leaf (record { low = low; layers = seen leaf }) → chain ≡ leaf.chain → places ≡ r.places
+    → pieces ≡ pieces_of places (replies_to (entries_of chain) (commands_at batch places)) → pieces ≡ route_answers t batch r
+late_answers t batch r pid page low leaf chain places pieces same home is memory at made =
+    made
+    ∙ ap (λ (ps : List ℕ). pieces_of ps (replies_to (entries_of chain) (commands_at batch ps))) at
+    ∙ ap (λ (es : Pairs). pieces_of r.places (replies_to es (commands_at batch r.places))) (ap (λ (p : Layers Bytes). entries_of p) memory ∙ sym (entries-seen leaf))
+    ∙ sym (ap (λ (o : Option PageOfKind). answers_at batch o r) (ap (λ (n : ℕ). page_of t.table n) (sym same) ∙ home ∙ ap (λ (q : PageOfKind). Some q) is))

@@ -1,0 +1,69 @@
+-- What is made of a leaf that lies in memory: its run and its replies are those of its entries.
+use Rattle.std.specs.Prelude.{◌≡◌, ℕ, Bool, List}
+use Rattle.std.proofs.Common.{sym, ap, ◌∙◌}
+use Rattle.std.specs.declared.alloc.Global.{Global}
+use Rattle.keys.specs.Bytes.{Bytes, Pairs, Changes}
+use Rattle.keys.specs.Step.{replies_to}
+use Rattle.keys.specs.declared.command.Command.{Command}
+use Rattle.keys.specs.declared.piece.Piece.{Piece}
+use Rattle.keys.specs.declared.settings.Settings.{Settings}
+use Rattle.crew.specs.Turn.{IfDone}
+use Rattle.crew.specs.declared.Turn.{Turn}
+use Rattle.crew.specs.declared.Turn.TheVariants.{Done, Back}
+use Rattle.delta_chain.specs.Late.{Late, seen}
+use Rattle.delta_chain.specs.Layers.{Layers, entries_of}
+use Rattle.delta_chain.proofs.LateLemmas.{entries-seen}
+use Rattle.index_page.specs.InMemory.{InMemory}
+use Rattle.index_page.specs.InMemory.InMemory.{LeafInMemory}
+use Rattle.index_page.specs.Page.{PageOfKind}
+use Rattle.index_page.specs.Page.PageOfKind.{Leaf}
+use Rattle.routing.specs.Routes.{Route}
+use Rattle.page_runs.specs.AfterRun.{after_run, class_after, is_replaced}
+use Rattle.page_runs.specs.LeafOutcome.{leaf_class_now, is_leaf_replaced_now}
+use Rattle.page_runs.specs.LeafWork.{LeafMade, LeafWorked, leaf_made, leaf_worked}
+use Rattle.page_runs.specs.NetRun.{net_run}
+use Rattle.page_runs.specs.Replies.{commands_at, pieces_of}
+use Rattle.page_runs.specs.declared.class.Class.{Class}
+use Rattle.page_runs.specs.declared.leaf_after.LeafWayBack.{LeafWayBack}
+
+-- what is made of a leaf, from the page and what is known of it
+abbrev Made : Route → Bytes → Layers Bytes → Class → Bool → List (Piece Global) → LeafMade
+Made route low layers class replaced pieces = record {
+  worked = record { placed = record { pid = route.pid; page = record { low = low; layers = layers } }; class = class; replaced = replaced };
+  pieces = pieces;
+}
+
+module _ (s : Settings) (batch : List (Command Global)) (route : Route) (low : Bytes) (c after : Late Bytes) (way_back : LeafWayBack) where
+  abbrev Run : Changes Bytes
+  Run = net_run (entries_of (seen c)) (commands_at batch route.places)
+
+  abbrev After : Changes Bytes → List (Piece Global) → LeafMade
+  After run pieces = Made route low (after_run s (seen c) run) (class_after s (seen c) run) (is_replaced s (seen c) run) pieces
+
+  -- the leaf, its class and whether it was replaced
+  made_by : (run : Changes Bytes) (pieces : List (Piece Global)) → seen after ≡ after_run s (seen c) run → leaf_class_now way_back ≡ class_after s (seen c) run → is_leaf_replaced_now way_back ≡ is_replaced s (seen c) run
+      → (leaf_worked (LeafInMemory low after) way_back route pieces).made ≡ After run pieces
+  made_by run pieces page class replaced =
+      ap (λ (l : Layers Bytes). Made route low l (leaf_class_now way_back) (is_leaf_replaced_now way_back) pieces) page
+      ∙ ap (λ (k : Class). Made route low (after_run s (seen c) run) k (is_leaf_replaced_now way_back) pieces) class
+      ∙ ap (λ (b : Bool). Made route low (after_run s (seen c) run) (class_after s (seen c) run) b pieces) replaced
+
+  -- with its run and its replies, which were had of the chain in memory
+  pub made_in_memory : (job : PageOfKind) (whole : Layers Bytes) (places : List ℕ) (run : Changes Bytes) (pieces : List (Piece Global))
+      → job ≡ Leaf (record { low = low; layers = seen c }) → whole ≡ c.chain → places ≡ route.places
+      → run ≡ net_run (entries_of whole) (commands_at batch places) → pieces ≡ pieces_of places (replies_to (entries_of whole) (commands_at batch places))
+      → seen after ≡ after_run s (seen c) run → leaf_class_now way_back ≡ class_after s (seen c) run → is_leaf_replaced_now way_back ≡ is_replaced s (seen c) run
+      → (leaf_worked (LeafInMemory low after) way_back route pieces).made ≡ leaf_made s batch (record { page = job; route = route })
+  made_in_memory job whole places run pieces is memory at ran said page class replaced =
+      let same : entries_of whole ≡ entries_of (seen c) = ap (λ (p : Layers Bytes). entries_of p) memory ∙ sym (entries-seen c) in
+      made_by run pieces page class replaced
+      ∙ ap (λ (r : Changes Bytes). After r pieces)
+          (ran ∙ ap (λ (ps : List ℕ). net_run (entries_of whole) (commands_at batch ps)) at ∙ ap (λ (es : Pairs Bytes). net_run es (commands_at batch route.places)) same)
+      ∙ ap (λ (ps : List (Piece Global)). After Run ps)
+          (said ∙ ap (λ (ps : List ℕ). pieces_of ps (replies_to (entries_of whole) (commands_at batch ps))) at ∙ ap (λ (es : Pairs Bytes). pieces_of route.places (replies_to es (commands_at batch route.places))) same)
+      ∙ sym (ap (λ (p : PageOfKind). leaf_made s batch (record { page = p; route = route })) is)
+
+-- what is known of a leaf that was worked holds of what became of the job
+pub done_made : {J : Type 0} (turn : Turn J LeafWorked) (leaf : LeafWorked) (made : LeafMade) → IfDone turn (λ done. done ≡ leaf) → leaf.made ≡ made → IfDone turn (λ done. done.made ≡ made)
+done_made (Done d) leaf made h e = ap (λ (w : LeafWorked). w.made) h ∙ e
+done_made (Back j) leaf made h e = tt
