@@ -203,7 +203,7 @@ fn leaf_image(
     }
 }
 
-// The whole image of a leaf. Where runs count as merged with the base, a base is made for the frame alone.
+// The image of a leaf of which the log has nothing. Where runs count as merged with the base, its base is made for the frame alone.
 fn whole_leaf(
     alloc: Global,
     pid: Pid,
