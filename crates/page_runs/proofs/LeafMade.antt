@@ -58,9 +58,9 @@ module _ (s : Settings) (batch : List (Command Global)) (route : Route) (low : B
       let same : entries_of whole ≡ entries_of (seen c) = ap (λ (p : Layers Bytes). entries_of p) memory ∙ sym (entries-seen c) in
       made_by run pieces page class replaced
       ∙ ap (λ (r : Changes Bytes). After r pieces)
-          (ran ∙ ap (λ (ps : List ℕ). net_run (entries_of whole) (commands_at batch ps)) at ∙ ap (λ (es : Pairs Bytes). net_run es (commands_at batch route.places)) same)
+      (ran ∙ ap (λ (ps : List ℕ). net_run (entries_of whole) (commands_at batch ps)) at ∙ ap (λ (es : Pairs Bytes). net_run es (commands_at batch route.places)) same)
       ∙ ap (λ (ps : List (Piece Global)). After Run ps)
-          (said ∙ ap (λ (ps : List ℕ). pieces_of ps (replies_to (entries_of whole) (commands_at batch ps))) at ∙ ap (λ (es : Pairs Bytes). pieces_of route.places (replies_to es (commands_at batch route.places))) same)
+      (said ∙ ap (λ (ps : List ℕ). pieces_of ps (replies_to (entries_of whole) (commands_at batch ps))) at ∙ ap (λ (es : Pairs Bytes). pieces_of route.places (replies_to es (commands_at batch route.places))) same)
       ∙ sym (ap (λ (p : PageOfKind). leaf_made s batch (record { page = p; route = route })) is)
 
 -- what is known of a leaf that was worked holds of what became of the job
