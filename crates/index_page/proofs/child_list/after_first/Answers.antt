@@ -1,4 +1,4 @@
-use Rattle.std.proofs.Common.{◌≡◌, [], ℕ, List, sym, subst, arith, MatchOption}
+use Rattle.std.proofs.Common.{◌≡◌, [], ℕ, List, subst, arith, MatchOption}
 use Rattle.std.specs.Option.{option_copied}
 use Rattle.index_page.specs.NextChild.{PassesOne}
 use Rattle.index_page.proofs.WithinLemmas.{within-passes, within-first}
