@@ -12,7 +12,7 @@ use Rattle.keys.specs.Order.{IsRising}
 use Rattle.keys.specs.OrderedMap.{value_at}
 use Rattle.keys.specs.declared.command.Command.{Command}
 use Rattle.delta_chain.specs.Layers.{Layers, entries_of}
-use Rattle.index_page.specs.Page.{PageOfKind, IsIndex}
+use Rattle.index_page.specs.Page.{Page, PageOfKind}
 use Rattle.index_page.specs.Page.PageOfKind.{Leaf, Index}
 use Rattle.index_page.specs.Range.{is_below, is_before, is_within}
 use Rattle.index_page.specs.Rules.{IsHeaded}
@@ -25,6 +25,7 @@ use Rattle.mapping.specs.Proper.{next_low, Tiled, AreLevels, HasLeaves, HoldsLev
 use Rattle.mapping.specs.Tree.{Tree, page_at}
 use Rattle.mapping.proofs.Joined.{next_joined}
 use Rattle.mapping.proofs.TileLemmas.{Names, next_names, joined-append, range-names, rising-joined, page_for, value_at-joined}
+use Rattle.engine.specs.LeafFor.{IsLeafFor}
 use Rattle.routing.specs.Routes.{Route, meets_page, goes_to, has_some, has_places, route_to, ranges, routes}
 use Rattle.routing.proofs.DescentLemmas.{IsIndexLevel, names_at, level_at, names-leaves}
 
@@ -123,13 +124,13 @@ module _ (k : List ℕ) where
           let lone : length (pids_of before ++ next ∷ pids_of after) ≡ 1 = ap (λ (ns : List ℕ). length ns) (sym parts) ∙ one_pid (joined up) (rising-joined up None l.tiled) first in
           parts ∙ only_one (pids_of before) (pids_of after) next lone
 
-  -- the leaf with the key in its range, and that it has at the key what all leaves have
-  pub record IsLeafFor (pages : List (ℕ × PageOfKind)) (level : List (Placed (List ℕ))) (pid : ℕ) : Type 0 where
+  -- the leaf of a level with the key in its range, and that it has at the key what all leaves have
+  record IsLeafOf (pages : List (ℕ × PageOfKind)) (level : List (Placed (List ℕ))) (pid : ℕ) : Type 0 where
     pub leaf : Placed (List ℕ)
     pub home : page_at pages pid ≡ Some (Leaf leaf.page)
     pub value : value_at k (entries leaf) ≡ value_at k (joined level)
 
-  leaf_found : (pages : List (ℕ × PageOfKind)) (level : List (Placed (List ℕ))) (pid : ℕ) → HasLeaves pages level → Tiled level None → next_low level None ≡ Some [] → pids_for (names level) ≡ pid ∷ [] → IsLeafFor pages level pid
+  leaf_found : (pages : List (ℕ × PageOfKind)) (level : List (Placed (List ℕ))) (pid : ℕ) → HasLeaves pages level → Tiled level None → next_low level None ≡ Some [] → pids_for (names level) ≡ pid ∷ [] → IsLeafOf pages level pid
   leaf_found pages level pid h t f e =
       let r = page_for level None [] k f from_all in
       let xs : List (Placed (List ℕ)) = r.0 in
@@ -201,34 +202,20 @@ module _ (t : Tree) (held : HoldsLevels t.pages (levels_of t)) (levels : AreLeve
       let down : pids_for k (joined here.level) ≡ child ∷ [] = r.down child (subst (λ (p : PageOfKind). (end : Option (List ℕ)) → is_before end k ≡ true → pids_of k (children (child_entries p) end) ≡ child ∷ []) same has) in
       subst (λ (j : ℕ). IsOnWay j child) n (ap (λ (ns : Names). pids_for k ns) here.below ∙ down)
 
-  -- at the leaves it is the leaf for the key
-  pub leaf_at_end : (i pid : ℕ) → i ≡ pred t.height → IsOnWay i pid → IsLeafFor k t.pages (levels_of t).level pid
+  -- at the leaves it is that of the leaf for the key
+  pub leaf_at_end : (i pid : ℕ) → i ≡ pred t.height → IsOnWay i pid → IsLeafFor t k pid
   leaf_at_end i pid e w =
+      let r =
       leaf_found k t.pages (levels_of t).level pid held.leaves levels.tiled levels.first
-      (ap (λ (ns : Names). pids_for k ns) (sym (names-leaves t held levels)) ∙ subst (λ (j : ℕ). pids_for k (names_at t.pages t.root j) ≡ pid ∷ []) e w)
+      (ap (λ (ns : Names). pids_for k ns) (sym (names-leaves t held levels)) ∙ subst (λ (j : ℕ). pids_for k (names_at t.pages t.root j) ≡ pid ∷ []) e w) in
+      record { page = r.leaf.page; home = r.home; value = r.value }
 
-  -- which is there, is no index page, and has the value
-  pub leaf_is_there : (i pid : ℕ) → i ≡ pred t.height → IsOnWay i pid → None ≡ page_at t.pages pid → ⊥
-  leaf_is_there i pid e w h =
-      let both : None ≡ Some (Leaf (leaf_at_end i pid e w).leaf.page) = h ∙ (leaf_at_end i pid e w).home in
-      absurd (cc)
-
-  pub leaf_is_no_index : (i pid : ℕ) (page : PageOfKind) → i ≡ pred t.height → IsOnWay i pid → Some page ≡ page_at t.pages pid → IsIndex page → ⊥
-  leaf_is_no_index i pid page e w h x =
-      let r = leaf_at_end i pid e w in
-      let both : Some page ≡ Some (Leaf r.leaf.page) = h ∙ r.home in
-      let same : page ≡ Leaf r.leaf.page = cc in
-      subst (λ (p : PageOfKind). IsIndex p) same x
-
-  pub value_on_way : (i pid : ℕ) (page : PageOfKind) (low : List ℕ) (layers : Layers (List ℕ)) → i ≡ pred t.height → IsOnWay i pid → Some page ≡ page_at t.pages pid → page ≡ Leaf (record { low = low; layers = layers })
-      → value_at k (entries_of layers) ≡ value_at k (contents t)
-  value_on_way i pid page low layers e w h l =
-      let r = leaf_at_end i pid e w in
-      let both : Some page ≡ Some (Leaf r.leaf.page) = h ∙ r.home in
-      let same : page ≡ Leaf r.leaf.page = cc in
-      let leaves : Leaf (record { low = low; layers = layers }) ≡ Leaf r.leaf.page = sym l ∙ same in
-      let lists : layers ≡ r.leaf.page.layers = cc in
-      ap (λ (p : Layers (List ℕ)). value_at k (entries_of p)) lists ∙ r.value
+-- what is held under its pid has at the key what the tree has there
+pub value_under : (t : Tree) (k : List ℕ) (pid : ℕ) (page : Page (List ℕ)) (layers : Layers (List ℕ)) → IsLeafFor t k pid → page_at t.pages pid ≡ Some (Leaf page) → page.layers ≡ layers → value_at k (entries_of layers) ≡ value_at k (contents t)
+value_under t k pid page layers r h l =
+    let both : Some (Leaf page) ≡ Some (Leaf r.page) = sym h ∙ r.home in
+    let same : page ≡ r.page = cc in
+    ap (λ (p : Layers (List ℕ)). value_at k (entries_of p)) (sym l) ∙ ap (λ (p : Page (List ℕ)). value_at k (entries_of p.layers)) same ∙ r.value
 
 -- ---- the routes of one command
 
