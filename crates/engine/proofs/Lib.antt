@@ -12,6 +12,7 @@ mod Crossing
 mod EndedRoutes
 mod Executed
 mod FileStoreLemmas
+mod FirstRow
 mod FlushDone
 mod InTurn
 mod LeafRoutes

@@ -9,20 +9,23 @@ use Rattle.std.proofs.lemmas.List.Sums.{length-filter}
 use Rattle.keys.specs.CommandKey.{key_of, is_ranged}
 use Rattle.keys.specs.Footprint.{Span, One, Range, span_of, first_of, is_range}
 use Rattle.keys.specs.Order.{IsRising}
+use Rattle.keys.specs.OrderedMap.{value_at}
 use Rattle.keys.specs.declared.command.Command.{Command}
-use Rattle.index_page.specs.Page.{PageOfKind}
-use Rattle.index_page.specs.Page.PageOfKind.{Index}
+use Rattle.delta_chain.specs.Layers.{Layers, entries_of}
+use Rattle.index_page.specs.Page.{Page, PageOfKind}
+use Rattle.index_page.specs.Page.PageOfKind.{Leaf, Index}
 use Rattle.index_page.specs.Range.{is_below, is_before, is_within}
 use Rattle.index_page.specs.Rules.{IsHeaded}
 use Rattle.index_page.specs.Children.{Place, children, is_place_for, child_entries, HasChildFor}
 use Rattle.index_page.proofs.ListLemmas.{all_apart}
 use Rattle.index_page.proofs.RangeLemmas.{from_nothing}
 use Rattle.index_page.proofs.ChildLemmas.{next_key, place_of, children-append, within, within_parts, one_child}
-use Rattle.mapping.specs.Levels.{Placed, entries, joined, name, names, levels_of}
-use Rattle.mapping.specs.Proper.{next_low, AreLevels, HoldsLevels}
+use Rattle.mapping.specs.Levels.{Placed, entries, joined, name, names, levels_of, contents}
+use Rattle.mapping.specs.Proper.{next_low, Tiled, AreLevels, HasLeaves, HoldsLevels}
 use Rattle.mapping.specs.Tree.{Tree, page_at}
 use Rattle.mapping.proofs.Joined.{next_joined}
-use Rattle.mapping.proofs.TileLemmas.{Names, next_names, joined-append, range-names, rising-joined, page_for}
+use Rattle.mapping.proofs.TileLemmas.{Names, next_names, joined-append, range-names, rising-joined, page_for, value_at-joined}
+use Rattle.engine.specs.LeafFor.{IsLeafFor}
 use Rattle.routing.specs.Routes.{Route, meets_page, goes_to, has_some, has_places, route_to, ranges, routes}
 use Rattle.routing.proofs.DescentLemmas.{IsIndexLevel, names_at, level_at, names-leaves}
 
@@ -121,6 +124,34 @@ module _ (k : List ℕ) where
           let lone : length (pids_of before ++ next ∷ pids_of after) ≡ 1 = ap (λ (ns : List ℕ). length ns) (sym parts) ∙ one_pid (joined up) (rising-joined up None l.tiled) first in
           parts ∙ only_one (pids_of before) (pids_of after) next lone
 
+  -- the leaf of a level with the key in its range, and that it has at the key what all leaves have
+  record IsLeafOf (pages : List (ℕ × PageOfKind)) (level : List (Placed (List ℕ))) (pid : ℕ) : Type 0 where
+    pub leaf : Placed (List ℕ)
+    pub home : page_at pages pid ≡ Some (Leaf leaf.page)
+    pub value : value_at k (entries leaf) ≡ value_at k (joined level)
+
+  leaf_found : (pages : List (ℕ × PageOfKind)) (level : List (Placed (List ℕ))) (pid : ℕ) → HasLeaves pages level → Tiled level None → next_low level None ≡ Some [] → pids_for (names level) ≡ pid ∷ [] → IsLeafOf pages level pid
+  leaf_found pages level pid h t f e =
+      let r = page_for level None [] k f from_all in
+      let xs : List (Placed (List ℕ)) = r.0 in
+      let p : Placed (List ℕ) = r.1 in
+      let ys : List (Placed (List ℕ)) = r.2 in
+      let Held : Placed (List ℕ) → Type 0 = λ q. page_at pages q.pid ≡ Some (Leaf q.page) in
+      let held = all_apart Held xs (p ∷ ys) (subst (λ (qs : List (Placed (List ℕ))). AllByRecursion Held qs) r.3 h) in
+      let before : List Place = children (names xs) (Some p.page.low) in
+      let here : Place = place_of (name p) (next_low ys None) in
+      let after : List Place = children (names ys) None in
+      let parts : pids_for (names level) ≡ pids_of before ++ p.pid ∷ pids_of after =
+      ap (λ (qs : List (Placed (List ℕ))). pids_for (names qs)) r.3 ∙ ap (λ (ats : List Place). pids_of ats) (range-names xs ys p None) ∙ pids_of-append before (here ∷ after) ∙ ap (λ (ns : List ℕ). pids_of before ++ ns) (chosen here after r.4) in
+      let lone : length (pids_of before ++ p.pid ∷ pids_of after) ≡ 1 = ap (λ (ns : List ℕ). length ns) (sym parts ∙ e) in
+      let same : pid ∷ [] ≡ p.pid ∷ [] = sym e ∙ parts ∙ only_one (pids_of before) (pids_of after) p.pid lone in
+      let pids : pid ≡ p.pid = cc in
+      record {
+        leaf = p;
+        home = ap (λ (q : ℕ). page_at pages q) pids ∙ held.1.0;
+        value = value_at-joined xs ys p None k (subst (λ (qs : List (Placed (List ℕ))). Tiled qs None) r.3 t) r.4 ∙ ap (λ (qs : List (Placed (List ℕ))). value_at k (joined qs)) (sym r.3);
+      }
+
 -- ---- the levels of a tree
 
 module _ (t : Tree) (held : HoldsLevels t.pages (levels_of t)) (levels : AreLevels (levels_of t)) (k : List ℕ) where
@@ -170,6 +201,21 @@ module _ (t : Tree) (held : HoldsLevels t.pages (levels_of t)) (levels : AreLeve
       let n : suc i ≡ i + 1 = omega arith in
       let down : pids_for k (joined here.level) ≡ child ∷ [] = r.down child (subst (λ (p : PageOfKind). (end : Option (List ℕ)) → is_before end k ≡ true → pids_of k (children (child_entries p) end) ≡ child ∷ []) same has) in
       subst (λ (j : ℕ). IsOnWay j child) n (ap (λ (ns : Names). pids_for k ns) here.below ∙ down)
+
+  -- at the leaves it is that of the leaf for the key
+  pub leaf_at_end : (i pid : ℕ) → i ≡ pred t.height → IsOnWay i pid → IsLeafFor t k pid
+  leaf_at_end i pid e w =
+      let r =
+      leaf_found k t.pages (levels_of t).level pid held.leaves levels.tiled levels.first
+      (ap (λ (ns : Names). pids_for k ns) (sym (names-leaves t held levels)) ∙ subst (λ (j : ℕ). pids_for k (names_at t.pages t.root j) ≡ pid ∷ []) e w) in
+      record { page = r.leaf.page; home = r.home; value = r.value }
+
+-- what is held under its pid has at the key what the tree has there
+pub value_under : (t : Tree) (k : List ℕ) (pid : ℕ) (page : Page (List ℕ)) (layers : Layers (List ℕ)) → IsLeafFor t k pid → page_at t.pages pid ≡ Some (Leaf page) → page.layers ≡ layers → value_at k (entries_of layers) ≡ value_at k (contents t)
+value_under t k pid page layers r h l =
+    let both : Some (Leaf page) ≡ Some (Leaf r.page) = sym h ∙ r.home in
+    let same : page ≡ r.page = cc in
+    ap (λ (p : Layers (List ℕ)). value_at k (entries_of p)) (sym l) ∙ ap (λ (p : Page (List ℕ)). value_at k (entries_of p.layers)) same ∙ r.value
 
 -- ---- the routes of one command
 

@@ -3,6 +3,7 @@ pub mod Batches
 pub mod Calls
 pub mod FileStore
 pub mod Late
+pub mod LeafFor
 pub mod Leaves
 pub mod OnlyRoute
 pub mod Opened

@@ -342,7 +342,28 @@ fn is_held_alike(
     let rows = store.range(b"", None, 1_000)?;
     write_rows(&mut text, rows)?;
     let due = text_of_map(alloc, map)?;
-    Ok(report.pairs == map.len() as u128 && text.as_str() == due.as_str())
+    let is_read = are_got_alike(store, map) && text.as_str() == due.as_str();
+    Ok(report.pairs == map.len() as u128 && is_read)
+}
+
+// Whether the store has at each key of one byte what the map has there.
+fn are_got_alike(store: &Store<MemDisk<Global>>, map: &BTreeMap<u8, u8, Global>) -> bool {
+    for key in 0..=255_u8 {
+        let due = map.get(&key).copied();
+        if !is_value(store.get(&[key]), due) {
+            return false;
+        }
+    }
+    true
+}
+
+// Whether this is the value of one byte, or none.
+fn is_value(found: Option<&[u8]>, due: Option<u8>) -> bool {
+    match (found, due) {
+        (Some(found), Some(due)) => found == [due].as_slice(),
+        (None, None) => true,
+        _ => false,
+    }
 }
 
 // Whether the batches of a run are answered as the map answers them, and the store then holds what the map holds. It grows through some batches,

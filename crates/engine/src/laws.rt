@@ -1,10 +1,12 @@
 //! What batches, flushes, cleans and upgrades do one after the other, in the words of one of them. Each law is the contract of a
 //! function with an empty body.
-ghost use Rattle.std.specs.Prelude.{◌≡◌, ◌^◌, ◌<◌, List, None, Ok};
+ghost use Rattle.std.specs.Prelude.{◌≡◌, ◌^◌, ◌<◌, ◌↔◌, List, [], ◌∷◌, None, Some, Ok};
 ghost use Rattle.std.specs.List.{AllByRecursion};
 ghost use Rattle.keys.specs.Bytes.{Bytes, Pairs};
 ghost use Rattle.keys.specs.Limits.{first_bad_field};
 ghost use Rattle.keys.specs.Lists.{flat};
+ghost use Rattle.keys.specs.OrderedMap.{value_at};
+ghost use Rattle.keys.specs.Range.{rows};
 ghost use Rattle.keys.specs.Step.{replies_to, map_after_all};
 ghost use Rattle.keys.specs.declared.command.Command.{Command};
 ghost use Rattle.keys.specs.declared.settings.Settings.{Settings};
@@ -25,6 +27,13 @@ use climb_plan::laws::{
     the_plan_of_a_proper_store_is_proper, what_the_log_has_of_a_page_stays_true,
 };
 use std::alloc::Allocator;
+
+/// What the tree of a store has at a key is the first row from that key on, where this has the key: so `get` and a `range` with
+/// limit 1 answer the same.
+pub fn a_value_is_the_first_row_from_its_key()
+    ensures { (s : Settings) (t : Tree) (k v : Bytes) → IsProper s t →
+        ((value_at k (contents t) ≡ Some v) ↔ (rows k None 1 (contents t) ≡ (k, v) ∷ [])) }
+{}
 
 /// Batches that are executed one after the other give the replies, and leave the map, of one batch of all their
 /// commands: it makes no difference how a list of commands is cut into batches.

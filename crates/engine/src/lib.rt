@@ -60,6 +60,8 @@ mod new_disk_rows;
 mod outcomes;
 #[cfg(test)]
 mod parts;
+#[cfg(test)]
+mod read_rows;
 mod reads;
 #[cfg(test)]
 mod recovery_rows;

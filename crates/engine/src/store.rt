@@ -1,7 +1,5 @@
 //! The store: a tree of pages and its log on a disk.
-ghost use Rattle.std.specs.Prelude.{◌≡◌, ◌≢◌, [], None, Ok, Err, IsTrue, IsOk, IfOk, IsErr, IfErr, OnOk, OnErr, MatchOption, true, false};
-ghost use Rattle.std.specs.Option.{option_copied};
-ghost use Rattle.keys.specs.Range.{rows};
+ghost use Rattle.std.specs.Prelude.{◌≡◌, ◌≢◌, [], None, Ok, Err, IsTrue, IfOk, IsErr, IfErr, OnOk, OnErr, MatchOption, true, false};
 ghost use Rattle.keys.specs.Step.{replies_to, map_after_all};
 ghost use Rattle.keys.specs.declared.fault.Fault.TheVariants.{NoMemory, Device, Failed};
 ghost use Rattle.mapping.specs.Levels.{contents};
@@ -21,6 +19,7 @@ ghost use Rattle.verify.specs.Report.{report};
 mod clean;
 mod flush;
 mod play;
+mod reads;
 mod reopen;
 mod upgrade;
 
@@ -39,7 +38,6 @@ use mapping::laws::{
 };
 use mapping::{Tree, new_tree};
 use recovery::laws::a_new_disk_stands_for_the_first_store;
-use scan::Rows;
 use std::alloc::Global;
 use std::marker::Model;
 use std::thread::Threads;
@@ -211,21 +209,6 @@ impl<D: Disk> Store<D> {
         // Only for the proof.
         nothing_is_found_exactly_in_a_proper_tree();
         verify::verify(rt, self.alloc, &self.tree, &self.settings)
-    }
-
-    /// The first `limit` pairs whose keys are `lo` or above, and below `hi` where it is given, in key order. They are lent out
-    /// of the pages, and neither this nor the rows take memory. The bounds may be of any length. A store that has failed answers
-    /// too.
-    pub fn range<'a>(
-        &'a self,
-        lo: &'a [u8],
-        hi: Option<&'a [u8]>,
-        limit: u32,
-    ) -> Result<Rows<'a>, Fault>
-        ensures succeeds { IsOk result }
-        ensures rows { IfOk result (λ left. left ≡ rows lo.now (option_copied hi.entry) limit (contents self.now.store.tree)) }
-    {
-        Ok(Rows::new(self.alloc, &self.tree, lo, hi, limit))
     }
 
     /// Gives the store up, and its disk back.

@@ -10,6 +10,7 @@ pub mod leaf;
 mod leaves;
 mod level;
 mod merge;
+pub mod point;
 pub mod rows;
 mod search;
 mod step;
@@ -18,4 +19,5 @@ mod tally;
 
 pub use crate::ends::scan_ends;
 pub use crate::leaf::LeafPairs;
+pub use crate::point::value_in;
 pub use crate::rows::Rows;

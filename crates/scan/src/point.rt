@@ -1,0 +1,20 @@
+ghost use Rattle.std.specs.Prelude.{◌≡◌};
+ghost use Rattle.std.specs.Option.{option_copied};
+ghost use Rattle.keys.specs.OrderedMap.{value_at};
+ghost use Rattle.delta_chain.specs.Layers.{entries_of};
+
+use delta_chain::Chain;
+use keys::Value;
+use page_search::{Probes, find_lent};
+use std::alloc::Global;
+
+/// The value that a leaf has at a key, if it has one, lent out of the leaf. It takes no memory.
+pub fn value_in<'a>(
+    chain: &'a Chain<Value<Global>, Global>,
+    key: &[u8],
+) -> Option<&'a Value<Global>>
+    ensures { option_copied result ≡ value_at key.now (entries_of chain.now) }
+{
+    let _in_order = chain.depth();
+    find_lent(chain.lent_for(key), key, &mut Probes::new())
+}
