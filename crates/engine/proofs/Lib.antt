@@ -7,6 +7,7 @@ mod BlankAnswers
 mod CleanDone
 mod CommandsWithin
 mod ContentsFit
+mod CopyLemmas
 mod CreateLemmas
 mod Crossing
 mod EndedRoutes

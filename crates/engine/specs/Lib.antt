@@ -1,6 +1,7 @@
 pub mod Batch
 pub mod Batches
 pub mod Calls
+pub mod Copies
 pub mod FileStore
 pub mod Late
 pub mod Leaves

@@ -19,6 +19,7 @@ ghost use Rattle.engine.specs.Steps.Step.{Batch};
 ghost use Rattle.verify.specs.Report.{report};
 
 mod clean;
+mod copy;
 mod flush;
 mod play;
 mod reopen;
