@@ -1,5 +1,5 @@
 -- Pairs that are put in the order of their keys, some at a time, behind those that are there.
-use Rattle.std.proofs.Common.{◌≡◌, ◌≢◌, ◌∙◌, ℕ, zero, suc, ◌<◌, ◌+◌, List, [], ◌∷◌, ◌++◌, length, take, drop, Option, Some, None, true, false, Less, Equal, Greater, refl, sym, ap, subst, append_assoc, length-append, arith}
+use Rattle.std.proofs.Common.{◌≡◌, ◌≢◌, ◌∙◌, ℕ, zero, suc, ◌<◌, ◌≤◌, ◌+◌, List, [], ◌∷◌, ◌++◌, length, take, drop, Option, Some, None, true, false, Less, Equal, Greater, refl, sym, ap, subst, append_assoc, length-append, arith}
 use Rattle.std.proofs.lemmas.List.{append-nil, take-append-drop}
 use Rattle.std.proofs.Math.Seq.{drop-append_seam}
 use Rattle.std.specs.List.{AllByRecursion, filter}
@@ -140,8 +140,7 @@ module _ (all some : Pairs Bytes) (rises : IsRising all) where
   begun_further now left k n whole last is =
       let there : now ≡ some ++ take n left = is ∙ put_next left n whole in
       let more : 0 < length (take n left) = some_there (take n left) k last in
-      let long : length now ≡ length some + length (take n left) = ap (λ (x : Pairs Bytes). length x) there ∙ length-append some (take n left) in
-      (
+      let long : length now ≡ length some + length (take n left) = ap (λ (x : Pairs Bytes). length x) there ∙ length-append some (take n left) in (
         record {
           left = drop n left;
           whole = ap (λ (x : Pairs Bytes). x ++ drop n left) there ∙ taken left n whole;
@@ -149,3 +148,9 @@ module _ (all some : Pairs Bytes) (rises : IsRising all) where
         },
         omega (arith, long, more),
       )
+
+-- no more are there than all
+pub begun_within : (all some : Pairs Bytes) (key : Option Bytes) → IsBegun all some key → length some ≤ length all
+begun_within all some key begun =
+    let long : length all ≡ length some + length begun.left = ap (λ (x : Pairs Bytes). length x) (sym begun.whole) ∙ length-append some begun.left in
+    omega (arith, long)

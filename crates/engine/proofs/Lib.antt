@@ -7,6 +7,7 @@ mod BlankAnswers
 mod CleanDone
 mod CommandsWithin
 mod ContentsFit
+mod CopyDone
 mod CopyLemmas
 mod CreateLemmas
 mod Crossing

@@ -2,6 +2,7 @@
 ghost use Rattle.std.specs.Prelude.{◌≡◌, ◌≢◌, ◌⊎◌, ◌<◌, ◌++◌, [], None, Some, Err, Ok, IsTrue, IsOk, IfOk, IfErr, IsErr, OnOk, MatchOption, length, take, false};
 ghost use Rattle.std.specs.Option.{option_copied};
 ghost use Rattle.keys.specs.Bytes.{Bytes, Pairs};
+ghost use Rattle.keys.specs.Order.{IsRising};
 ghost use Rattle.keys.specs.declared.fault.Fault.TheVariants.{NoMemory};
 ghost use Rattle.mapping.specs.Levels.{contents};
 ghost use Rattle.flush_log.specs.Disk.{IsSettled, Kept};
@@ -31,8 +32,8 @@ fn puts_of<'a>(
     rows: Rows<'a>,
     puts: &mut Vec<Command<Global>>,
 ) -> Result<Option<&'a [u8]>, AllocError>
-    ensures puts { OnOk result (puts.new.items ≡ puts.old.items ++ puts_of rows) }
-    ensures last { IfOk result (λ last. option_copied last ≡ last_key None rows) }
+    ensures puts { OnOk result (puts.new.items ≡ puts.old.items ++ puts_of rows.entry) }
+    ensures last { IfOk result (λ last. option_copied last ≡ last_key None rows.entry) }
 {
     let mut last = None;
     for (key, value) in rows {
@@ -47,12 +48,11 @@ fn puts_of<'a>(
 impl<D: Disk> Store<D> {
     // The first rows behind this key, or of all where there is none, as many as are put in one batch.
     fn rows_behind<'a>(&'a self, last: Option<&'a [u8]>) -> Result<Rows<'a>, Fault>
+        requires rising { IsRising (contents self.now.store.tree) }
         ensures succeeds { IsOk result }
         ensures rows { (some left : Pairs Bytes) → some ++ left ≡ contents self.now.store.tree → last_key None some ≡ option_copied last.entry →
             IfOk result (λ rows. rows ≡ take most_puts left) }
     {
-        // Only for the proof.
-        the_contents_of_a_proper_tree_rise();
         match last {
             None => self.range(&[], None, MOST_PUTS),
             Some(key) => {
@@ -82,8 +82,8 @@ impl<D: Disk> Store<D> {
     {
         // Only for the proof.
         the_contents_of_a_proper_tree_rise();
-        let rows = self.rows_behind(last)?;
         let mut puts = Vec::new(self.alloc);
+        let rows = self.rows_behind(last)?;
         match puts_of(self.alloc, rows, &mut puts)? {
             Some(key) => {
                 let _replies = copy.batch(rt, crew, &NoGate, &puts)?;
