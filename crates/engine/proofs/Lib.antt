@@ -15,6 +15,7 @@ mod EndedRoutes
 mod Executed
 mod FileStoreLemmas
 mod FlushDone
+mod IdleLemmas
 mod InTurn
 mod LeafRoutes
 mod OneLeaf
@@ -33,5 +34,6 @@ mod StepDone
 mod StepsLemmas
 mod TaskLemmas
 mod TextSteps
+mod TidyLemmas
 mod Verified
 mod WayOfOne

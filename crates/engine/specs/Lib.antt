@@ -13,3 +13,4 @@ pub mod SoundTree
 pub mod State
 pub mod Steps
 pub mod Tasks
+pub mod Tidied

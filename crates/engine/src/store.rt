@@ -23,6 +23,7 @@ mod copy;
 mod flush;
 mod play;
 mod reopen;
+mod tidy;
 mod upgrade;
 
 use crate::execute::execute;
