@@ -1,5 +1,5 @@
 -- What becomes of a copy: why it is refused, and what is on its disk once it is flushed.
-use Rattle.std.specs.Prelude.{◌≡◌, ◌≢◌, ◌⊎◌, ℕ, suc, false, IsTrue, List, [], ◌∷◌, ◌++◌, length, take, drop, Option, Some, None, Result, Ok, Err, MatchOption, IfOk, IfErr}
+use Rattle.std.specs.Prelude.{◌≡◌, ◌≢◌, ◌⊎◌, ℕ, ◌<◌, IsTrue, List, [], ◌∷◌, ◌++◌, length, take, drop, Option, Some, None, Result, Ok, Err, MatchOption, IfOk, IfErr}
 use Rattle.std.proofs.Common.{refl, sym, ap, ◌∙◌, subst, inl, inr}
 use Rattle.std.proofs.Math.Seq.{drop-append_seam}
 use Rattle.std.specs.declared.alloc.Global.{Global}
@@ -14,7 +14,10 @@ use Rattle.flush_log.specs.Disk.{View, IsSettled}
 use Rattle.frame_codec.specs.Frame.{Frame}
 use Rattle.engine.specs.Batch.{IsLaterFault}
 use Rattle.engine.specs.Calls.{IsFlushFault}
-use Rattle.engine.specs.Copies.{IsCopyFault, IsPutFault, most_puts, puts_of}
+use Rattle.keys.specs.Order.{IsRising}
+use Rattle.keys.specs.Step.{map_after_all}
+use Rattle.engine.specs.Copies.{IsBegun, IsCopyFault, IsPutFault, last_key, most_puts, puts_of}
+use Rattle.engine.proofs.CopyLemmas.{all_there, begun_further}
 use Rattle.engine.specs.Refusal.{refusal}
 
 -- what an Ok is, is what that is
@@ -35,6 +38,7 @@ right_by {U} s all t cs place (Some f) r fault is told right e =
   where
     some_fault : Fault → Option Fault
     some_fault x = Some x
+
     err_same : (f g : Fault) → (let a : Result U Fault = Err f in a) ≡ Err g → f ≡ g
     err_same f g h = cc
 
@@ -57,3 +61,31 @@ flush_refused s all st file old new fault holds (inr (inr (device, failed, would
 pub settled_filled : (text : List Frame) (old new : View) → (text ≡ [] → new ≡ old) → (text ≢ [] → IsSettled new) → IsSettled old → IsSettled new
 settled_filled [] old new same written settled = subst IsSettled (sym (same refl)) settled
 settled_filled (f ∷ fs) old new same written settled = written (λ e. cc)
+
+-- ---- a turn of a copy
+
+-- the next pairs are put; or all are there
+pub put_further : (all some rows : Pairs Bytes) (first : Option Bytes) (cs : List (Command Global)) (now : Pairs Bytes) (key : Bytes) → IsRising all → (begun : IsBegun all some first) → rows ≡ take most_puts begun.left
+    → cs ≡ puts_of rows → last_key None rows ≡ Some key → now ≡ map_after_all some cs → IsBegun all now (Some key) × (length some < length now)
+put_further all some rows first cs now key rises begun is puts last after =
+    begun_further all some rises now begun.left key most_puts begun.whole (ap (λ (x : Pairs Bytes). last_key None x) (sym is) ∙ last)
+    (after ∙ ap (λ (x : List (Command Global)). map_after_all some x) (puts ∙ ap (λ (x : Pairs Bytes). puts_of x) is))
+
+pub put_all_there : (all some rows : Pairs Bytes) (first : Option Bytes) → IsRising all → (begun : IsBegun all some first) → rows ≡ take most_puts begun.left → last_key None rows ≡ None → some ≡ all
+put_all_there all some rows first rises begun is last = all_there all some rises begun.left 4095 begun.whole (ap (λ (x : Pairs Bytes). last_key None x) (sym is) ∙ last)
+
+-- none are there at first
+pub begun_empty : (all some : Pairs Bytes) → some ≡ [] → IsBegun all some None
+begun_empty all some none = record {
+  left = all;
+  whole = ap (λ (x : Pairs Bytes). x ++ all) none;
+  last = ap (λ (x : Pairs Bytes). last_key None x) none;
+}
+
+-- ---- a store that was made
+
+-- where there is one, it was refused by nothing
+pub unless_made : {X : Type 0} (o : Option Fault) (made : X) (F : Type 0) (G : Fault → Type 0) (Q : Type 0) (R : Fault → Type 0)
+    → MatchOption o F (λ fault. ⊥ × G fault) → Q → MatchOption o Q R
+unless_made None made F G Q R told q = q
+unless_made (Some fault) made F G Q R told q = absurd told.0

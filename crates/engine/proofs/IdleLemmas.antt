@@ -87,10 +87,13 @@ none_by m k (e ∷ []) (Some v) rises is few other found = absurd (⊎_elim
     none_here : (b : Bool) → b ≡ false → cond b (Some e.1) None ≡ Some v → ⊥
     none_here true apart h = absurd (cc)
     none_here false apart h = absurd (cc)
+
     first_below : AllByRecursion (λ j. is_below j k ≡ true) (e.0 ∷ []) → is_below e.0 k ≡ true
     first_below a = a.0
+
     at_first : value_at e.0 (e ∷ []) ≡ Some e.1
     at_first = rw (is_itself e.0) refl
+
     within : is_within k None e.0 ≡ true
     within = (held_rows m k None 1 e.0 e.1 (ap (λ (x : Pairs Bytes). value_at e.0 x) is ∙ at_first)).1
 

@@ -50,6 +50,7 @@ refused_by {U} s t cs (Some f) r fault told right e =
   where
     some_fault : Fault → Option Fault
     some_fault x = Some x
+
     err_same : (f g : Fault) → (let a : Result U Fault = Err f in a) ≡ Err g → f ≡ g
     err_same f g h = cc
 

@@ -5,7 +5,6 @@ use crate::outcomes::Outcomes;
 use crate::store::Store;
 use crate::tests::{S, SEVENTEEN_PUTS, commands, new_store, opened};
 use crew::{Crew, NoGate};
-use flush_log::segments::disk_size;
 use flush_log::{Disk, Failing, FaultDisk, MemDisk};
 use keys::{Command, Fault, Field, Key, Settings, Value};
 use scan::Rows;
@@ -26,7 +25,7 @@ const WIDE: Settings = Settings {
 
 // A disk for a store under these settings.
 fn disk_for(alloc: Global, settings: &Settings) -> Result<MemDisk<Global>, AllocError> {
-    MemDisk::new(alloc, disk_size(settings) as usize)
+    MemDisk::new(alloc, settings.disk_size() as usize)
 }
 
 // A store under the settings S that got these batches, and wasn't flushed.
@@ -207,7 +206,7 @@ fn a_refused_copy_hands_the_disk_back(rt: HostRuntime) -> Result<(), Fail> {
     };
     let narrow = Settings { fan: 3, ..S };
     let bad_fan = Fault::BadSettings(Field::Fan);
-    let short = MemDisk::new(alloc, disk_size(&S) as usize - 1)?;
+    let short = MemDisk::new(alloc, 1_535)?;
     assert!(rt;
         is_untouched(
             &rt,

@@ -171,7 +171,12 @@ impl<D: Disk> Store<D> {
         }
         admit_crew(crew)?;
         let before = count_pages(&self.tree);
-        let pids = thin_pids(self.alloc, &self.tree, self.settings.fan, most.min(MOST_LEAVES))?;
+        let pids = thin_pids(
+            self.alloc,
+            &self.tree,
+            self.settings.fan,
+            most.min(MOST_LEAVES),
+        )?;
         for _round in 0..=self.settings.chain {
             if !self.tidy_once(rt, crew, &pids)? {
                 break;
