@@ -120,12 +120,13 @@ impl<'a, V, A: Allocator + Copy> ChainRef<'a, V, A> {
     }
 }
 
-// For how many runs more a chain of at most `FEW_RUNS` gets room where it has none left. The settings allow a page no more than 16 runs, so
-// what is given without need stays small.
+// For how many runs more a chain of at most `FEW_RUNS` gets room where it has none left. Most pages have no more, so what is given
+// without need stays small.
 const MORE_RUNS: usize = 4;
 
-// A chain with more runs than this was read from a disk that somebody forged. It gets room for as many again as it has: n of them put in
-// front one by one move fewer than 3n in all, where room for four more each time would have them move n * n / 8.
+// A chain with more runs than this has a base that is made late, or was read from a disk that somebody forged. It gets room for as many
+// again as it has: n of them put in front one by one move fewer than 3n in all, where room for four more each time would have them move
+// n * n / 8.
 const FEW_RUNS: usize = 16;
 
 impl<V, A: Allocator + Copy> Chain<V, A> {

@@ -7,6 +7,8 @@ mod BlankAnswers
 mod CleanDone
 mod CommandsWithin
 mod ContentsFit
+mod CopyDone
+mod CopyLemmas
 mod CreateLemmas
 mod Crossing
 mod EndedRoutes
@@ -14,6 +16,7 @@ mod Executed
 mod FileStoreLemmas
 mod FirstRow
 mod FlushDone
+mod IdleLemmas
 mod InTurn
 mod LeafRoutes
 mod OneLeaf
@@ -32,5 +35,6 @@ mod StepDone
 mod StepsLemmas
 mod TaskLemmas
 mod TextSteps
+mod TidyLemmas
 mod Verified
 mod WayOfOne

@@ -11,6 +11,8 @@ mod board_rows;
 #[cfg(test)]
 mod clean_rows;
 #[cfg(test)]
+mod copy_rows;
+#[cfg(test)]
 mod crash_rows;
 #[cfg(test)]
 mod crash_run;
@@ -75,6 +77,8 @@ pub mod step_laws;
 pub mod store;
 #[cfg(test)]
 mod tests;
+#[cfg(test)]
+mod tidy_rows;
 #[cfg(test)]
 mod trees_by_hand;
 

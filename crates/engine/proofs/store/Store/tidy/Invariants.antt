@@ -1,0 +1,12 @@
+use Rattle.std.proofs.Common.{◌≡◌, false}
+use Rattle.engine.specs.Tidied.{IsTidied}
+use Rattle.engine.proofs.store.Store.tidy.Given as goal
+
+-- the store is the plan's of the batches so far, which have changed nothing of what it holds
+abbrev pub invariant-loop-_round : goal.invariant-loop-_round
+invariant-loop-_round g l = record {
+  tidied : IsTidied l.fn.self.settings l.fn.self.store l.self.store;
+  settings : l.self.settings ≡ l.fn.self.settings;
+  disk : l.self.disk ≡ l.fn.self.disk;
+  fine : l.self.has_failed ≡ false;
+}

@@ -1,0 +1,146 @@
+//! Leaves that deletes have emptied, and that are tidied away.
+use crate::crews::ALONE;
+use crate::log_rows::look;
+use crate::outcomes::Outcomes;
+use crate::store::Store;
+use crate::tests::{S, new_store};
+use crew::{Crew, NoGate};
+use flush_log::MemDisk;
+use keys::{Command, Fault, Key, Settings, Value};
+use std::alloc::{AllocError, Global};
+use std::process::Abort;
+use std::test::Fail;
+use std::thread::Threads;
+
+// Pages of which one with three entries is thin, an index page too.
+const QUEUE: Settings = Settings {
+    fan: 16,
+    seg_size: 1_024,
+    ..S
+};
+
+// The key with this number, in two bytes.
+fn key(alloc: Global, number: u16) -> Result<Key<Global>, AllocError> {
+    Key::from_bytes(alloc, &number.to_be_bytes())
+}
+
+// Puts a key, and deletes the one five before it, where there is one.
+fn moved_on(alloc: Global, number: u16) -> Result<Vec<Command<Global>>, AllocError> {
+    let mut batch = Vec::new(alloc);
+    let put = key(alloc, number)?;
+    batch.push(Command::Put(put, Value::empty(alloc)))?;
+    if number >= 5 {
+        let gone = key(alloc, number - 5)?;
+        batch.push(Command::Del(gone))?;
+    }
+    Ok(batch)
+}
+
+// A queue's pairs from one number to the next, one put a batch.
+fn move_on(
+    rt: &(impl Threads + Sync),
+    alloc: Global,
+    store: &mut Store<MemDisk<Global>>,
+    from: u16,
+    to: u16,
+) -> Result<(), Fault> {
+    for number in from..to {
+        let batch = moved_on(alloc, number)?;
+        store.batch(rt, ALONE, &NoGate, &batch)?;
+    }
+    Ok(())
+}
+
+// Whether the five pairs before this number are there, and no others.
+fn are_last(store: &Store<MemDisk<Global>>, end: u16) -> Result<bool, Fault> {
+    let mut count = 0u16;
+    let mut is_right = true;
+    for (key, _value) in store.range(b"", None, 100)? {
+        count = count.saturating_add(1);
+        is_right &= key
+            == end
+                .saturating_sub(6)
+                .saturating_add(count)
+                .to_be_bytes()
+                .as_slice();
+    }
+    Ok(is_right && count == 5)
+}
+
+// Of a queue's thousand pairs five are there. All emptied leaves join in one go, and so do the index pages above them: a page or two are left,
+// and a root. The same again leaves nothing to do.
+#[test]
+fn emptied_leaves_are_tidied_away(rt: HostRuntime) -> Result<(), Fail> {
+    let alloc = rt.alloc();
+    let mut store = new_store(alloc, QUEUE)?;
+    move_on(&rt, alloc, &mut store, 0, 1_000)?;
+    let before = store.verify(&rt)?.pages;
+    let gone = store.tidy(&rt, ALONE, usize::MAX)?;
+    let after = store.verify(&rt)?.pages;
+    assert!(rt; before > 80 && after < 6, "{before} and {after}");
+    assert!(rt; u128::from(gone) == before.saturating_sub(after), "{gone}");
+    assert!(rt; are_last(&store, 1_000)?);
+    Ok(())
+}
+
+// The most pages of a queue that is tidied every hundred batches, a few leaves at a time.
+fn most_pages(
+    rt: &(impl Threads + Sync),
+    alloc: Global,
+    store: &mut Store<MemDisk<Global>>,
+) -> Result<u128, Fault> {
+    let mut most = 0;
+    for round in 0..20_u16 {
+        move_on(rt, alloc, store, round * 100, round * 100 + 100)?;
+        most = store.verify(rt)?.pages.max(most);
+        store.tidy(rt, ALONE, 32)?;
+    }
+    Ok(most)
+}
+
+#[test]
+fn a_queue_that_is_tidied_stays_small(rt: HostRuntime) -> Result<(), Fail> {
+    let alloc = rt.alloc();
+    let mut store = new_store(alloc, QUEUE)?;
+    let most = most_pages(&rt, alloc, &mut store)?;
+    assert!(rt; most < 40, "{most}");
+    assert!(rt; are_last(&store, 2_000)?);
+    Ok(())
+}
+
+// Where there is nothing to tidy all stays, and so it does where no leaf may be tidied or nobody may do it.
+#[test]
+fn what_is_tidy_stays_as_it_is(rt: HostRuntime) -> Result<(), Fail> {
+    let alloc = rt.alloc();
+    let mut store = new_store(alloc, QUEUE)?;
+    move_on(&rt, alloc, &mut store, 0, 60)?;
+    let pages = look(alloc, &store)?;
+    let nobody = Crew {
+        workers: 0,
+        grain: 1,
+    };
+    assert!(rt; store.tidy(&rt, ALONE, 0) == Ok(0));
+    assert!(rt; store.tidy(&rt, nobody, 9) == Err(Fault::BadCrew));
+    assert!(rt; look(alloc, &store)?.as_str() == pages.as_str());
+    Ok(())
+}
+
+// Whether a store is tidied, where it is tried a second time if memory was refused the first time.
+fn is_tidied_again(rt: &(impl Threads + Sync), alloc: Global) -> Result<bool, Fault> {
+    let mut store = new_store(alloc, QUEUE)?;
+    move_on(rt, alloc, &mut store, 0, 60)?;
+    let first = store.tidy(rt, ALONE, usize::MAX);
+    let is_kept = are_last(&store, 60)?;
+    if first == Err(Fault::NoMemory) {
+        store.tidy(rt, ALONE, usize::MAX)?;
+    }
+    Ok(is_kept && are_last(&store, 60)? && store.verify(rt)?.pages < 6)
+}
+
+// To be run with each allocation refused in turn too: then the row can't be told where one is refused to the test itself.
+#[test]
+fn a_store_is_tidied_again_where_memory_was_refused(rt: HostRuntime) {
+    let mut outcomes = Outcomes::none();
+    outcomes.note(is_tidied_again(&rt, rt.alloc()), "tidied again");
+    outcomes.check_refused(&rt, ALONE, 1);
+}
