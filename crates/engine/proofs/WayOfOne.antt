@@ -211,11 +211,11 @@ module _ (t : Tree) (held : HoldsLevels t.pages (levels_of t)) (levels : AreLeve
       record { page = r.leaf.page; home = r.home; value = r.value }
 
 -- what is held under its pid has at the key what the tree has there
-pub value_under : (t : Tree) (k : List ℕ) (pid : ℕ) (page : Page (List ℕ)) (layers : Layers (List ℕ)) → IsLeafFor t k pid → page_at t.pages pid ≡ Some (Leaf page) → page.layers ≡ layers → value_at k (entries_of layers) ≡ value_at k (contents t)
+pub value_under : (t : Tree) (k : List ℕ) (pid : ℕ) (page : Page (List ℕ)) (layers : Layers (List ℕ)) → IsLeafFor t k pid → page_at t.pages pid ≡ Some (Leaf page) → entries_of page.layers ≡ entries_of layers → value_at k (entries_of layers) ≡ value_at k (contents t)
 value_under t k pid page layers r h l =
     let both : Some (Leaf page) ≡ Some (Leaf r.page) = sym h ∙ r.home in
     let same : page ≡ r.page = cc in
-    ap (λ (p : Layers (List ℕ)). value_at k (entries_of p)) (sym l) ∙ ap (λ (p : Page (List ℕ)). value_at k (entries_of p.layers)) same ∙ r.value
+    ap (λ (es : List (List ℕ × List ℕ)). value_at k es) (sym l) ∙ ap (λ (p : Page (List ℕ)). value_at k (entries_of p.layers)) same ∙ r.value
 
 -- ---- the routes of one command
 

@@ -85,17 +85,17 @@ fn leaf_for(tree: &Tree<Global>, key: &[u8]) -> Pid
     pid
 }
 
-// What the leaf under this page id holds.
+// What the leaf under this page id holds, as it lies in memory.
 fn leaf_under<'a>(tree: &'a Tree<Global>, pid: Pid) -> &'a Chain<Value<Global>, Global>
     requires home { AreAllHome tree.now }
     requires leaf { (page : Page Bytes) × (page_at (tree_of tree.now).pages pid ≡ Some (Leaf page)) }
-    ensures { (page : Page Bytes) × (page_at (tree_of tree.now).pages pid ≡ Some (Leaf page)) × (page.layers ≡ result.now) }
+    ensures { (page : Page Bytes) × (page_at (tree_of tree.now).pages pid ≡ Some (Leaf page)) × (entries_of page.layers ≡ entries_of result.now) }
 {
     let Some(page) = tree.page(pid) else {
         unreachable!()
     };
-    let Some(chain) = page.as_leaf() else {
+    let Some(leaf) = page.as_leaf() else {
         unreachable!()
     };
-    chain
+    leaf.whole()
 }

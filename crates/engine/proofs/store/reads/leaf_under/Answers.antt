@@ -1,7 +1,13 @@
-use Rattle.std.proofs.Common.{refl, sym, ap, ◌∙◌, Some}
+use Rattle.std.proofs.Common.{sym, ap, ◌∙◌, Some}
+use Rattle.delta_chain.specs.Late.{seen}
+use Rattle.delta_chain.specs.Layers.{Layers, entries_of}
+use Rattle.delta_chain.proofs.LateLemmas.{entries-seen}
 use Rattle.index_page.specs.Page.{PageOfKind, low_of}
+use Rattle.keys.specs.Bytes.{Bytes}
 use Rattle.engine.proofs.store.reads.leaf_under.Goals as goal
 
 pub returns : goal.returns
 returns c =
-    (record { low = low_of c.in-Some.page.now; layers = c.in-Some-as_leaf.chain.now }, sym (c.in-Some.ensures.listed c.requires.home) ∙ ap (λ (p : PageOfKind). Some p) c.in-Some-as_leaf.ensures, refl)
+    (record { low = low_of c.in-Some.page.now; layers = seen c.in-Some-as_leaf.leaf.now },
+     sym (c.in-Some.ensures.listed c.requires.home) ∙ ap (λ (p : PageOfKind). Some p) c.in-Some-as_leaf.ensures,
+     entries-seen c.in-Some-as_leaf.leaf.now ∙ sym (ap (λ (p : Layers Bytes). entries_of p) c.whole.ensures))
