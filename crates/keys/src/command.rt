@@ -1,14 +1,16 @@
-ghost use Rattle.std.specs.Prelude.{◌≡◌};
+ghost use Rattle.std.specs.Prelude.{◌≡◌, IfOk};
+ghost use Rattle.keys.specs.declared.command.Command.TheVariants.{Get, Put, Add, Del};
 ghost use Rattle.keys.specs.CommandKey.{key_of, is_ranged, is_scan};
 
 use crate::key::Key;
 use crate::row_list::RowList;
 use crate::value::Value;
-use std::alloc::Allocator;
+use std::alloc::{AllocError, Allocator};
 
 /// What a caller asks of the store. The commands of a batch count as executed in the order of their places;
 /// `specs/Step.antt` says what each does.
 #[derive(Drop)]
+#[derive_where(Debug, PartialEq, Eq)]
 pub enum Command<A: Allocator> {
     /// The value at the key.
     Get(Key<A>),
@@ -23,6 +25,40 @@ pub enum Command<A: Allocator> {
     Scan(Key<A>, Option<Key<A>>, u32),
     /// No key that is the lower bound or above, and below the upper bound where there is one, is there from now on.
     Wipe(Key<A>, Option<Key<A>>),
+}
+
+impl<A: Allocator + Copy> Command<A> {
+    /// Asks for the value at this key. Keys and values of up to 23 bytes take no memory; `Err` where memory was refused. So do the others.
+    pub fn get(alloc: A, key: &[u8]) -> Result<Self, AllocError>
+        ensures { IfOk result (λ command. command ≡ Get key.now) }
+    {
+        Ok(Command::Get(Key::from_bytes(alloc, key)?))
+    }
+
+    /// Gives this key this value.
+    pub fn put(alloc: A, key: &[u8], value: &[u8]) -> Result<Self, AllocError>
+        ensures { IfOk result (λ command. command ≡ Put key.now value.now) }
+    {
+        let key = Key::from_bytes(alloc, key)?;
+        let value = Value::from_bytes(alloc, value)?;
+        Ok(Command::Put(key, value))
+    }
+
+    /// Gives this key this value, if it isn't there.
+    pub fn add(alloc: A, key: &[u8], value: &[u8]) -> Result<Self, AllocError>
+        ensures { IfOk result (λ command. command ≡ Add key.now value.now) }
+    {
+        let key = Key::from_bytes(alloc, key)?;
+        let value = Value::from_bytes(alloc, value)?;
+        Ok(Command::Add(key, value))
+    }
+
+    /// Removes this key.
+    pub fn del(alloc: A, key: &[u8]) -> Result<Self, AllocError>
+        ensures { IfOk result (λ command. command ≡ Del key.now) }
+    {
+        Ok(Command::Del(Key::from_bytes(alloc, key)?))
+    }
 }
 
 impl<A: Allocator> Command<A> {
@@ -61,6 +97,7 @@ impl<A: Allocator> Command<A> {
 
 /// What the store answers to one command.
 #[derive(Drop)]
+#[derive_where(Debug)]
 pub enum Reply<A: Allocator> {
     /// To `Get`: what the key has.
     Value(Value<A>),

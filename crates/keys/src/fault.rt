@@ -81,3 +81,12 @@ impl<T: Drop> From<AllocFailed<T>> for Fault {
         Fault::NoMemory
     }
 }
+
+impl<D: Drop> From<(Fault, D)> for Fault {
+    ghost from_gives = { λ refused fault. fault ≡ refused.0 };
+
+    fn from(refused: (Fault, D)) -> Fault {
+        let (fault, _disk) = refused;
+        fault
+    }
+}

@@ -18,6 +18,7 @@ pub mod pieces;
 pub mod row_list;
 pub mod settings;
 mod short_bytes;
+mod shown;
 pub mod value;
 pub mod version;
 

@@ -51,6 +51,24 @@ pub struct Settings {
     pub segments: u32,
 }
 
+impl Default for Settings {
+    ghost use Rattle.std.specs.Prelude.{◌≡◌};
+
+    ghost is_default = { λ s. s ≡ record { fan = 16; chain = 4; max_key = 64; max_value = 256; seg_size = 65536; segments = 64 } };
+
+    /// The settings that the program has where none are given: a log of 4 MiB, in 64 segments.
+    fn default() -> Settings {
+        Settings {
+            fan: 16,
+            chain: 4,
+            max_key: 64,
+            max_value: 256,
+            seg_size: 65_536,
+            segments: 64,
+        }
+    }
+}
+
 impl Settings {
     /// Looks at the fields in their order, and last at whether the longest frame that a page can need fits into
     /// a segment. The first field that is out of range is `Fault::BadSettings`; a segment that is too short for

@@ -1,6 +1,11 @@
 ghost use Rattle.std.specs.Prelude.{◌≡◌, [], length, IfOk};
+ghost use Rattle.std.proofs.lemmas.Cmp.{nat_list_cmp_total, eq_by_cmp_equiv};
+ghost use Rattle.std.specs.Cmp.{partial_equiv_from_equiv};
+ghost use Rattle.std.specs.Ordering.{eq_by_cmp};
+ghost use Rattle.keys.specs.Order.{order};
 
 use crate::kept_bytes::KeptBytes;
+use crate::order::compare;
 use std::alloc::{AllocError, Allocator};
 use std::marker::Model;
 
@@ -62,4 +67,18 @@ impl<A: Allocator> Value<A> {
     {
         self.as_bytes().len()
     }
+}
+
+impl<A: Allocator> PartialEq for Value<A> {
+    ghost eq = { eq_by_cmp order };
+
+    ghost laws = { partial_equiv_from_equiv (eq_by_cmp_equiv nat_list_cmp_total) };
+
+    fn eq(&self, other: &Self) -> bool {
+        compare(self.as_bytes(), other.as_bytes()).is_eq()
+    }
+}
+
+impl<A: Allocator> Eq for Value<A> {
+    ghost laws = { eq_by_cmp_equiv nat_list_cmp_total };
 }

@@ -1,0 +1,54 @@
+//! How keys, values and rows print in messages: as `b"text"`, in which a byte that isn't a printable one of ASCII is escaped as in a literal.
+use crate::key::Key;
+use crate::row_list::RowList;
+use crate::value::Value;
+use std::alloc::Allocator;
+use std::fmt;
+
+// Bytes in quotes, behind a b.
+fn write_bytes<W: fmt::Write>(bytes: &[u8], f: &mut fmt::Formatter<W>) -> fmt::Result {
+    f.write_str("b\"")?;
+    for byte in bytes {
+        write!(f, "{}", byte.escape_ascii())?;
+    }
+    f.write_str("\"")
+}
+
+impl<A: Allocator> fmt::Debug for Key<A> {
+    fn fmt<W: fmt::Write>(&self, f: &mut fmt::Formatter<W>) -> fmt::Result {
+        write_bytes(self.as_bytes(), f)
+    }
+}
+
+impl<A: Allocator> fmt::Debug for Value<A> {
+    fn fmt<W: fmt::Write>(&self, f: &mut fmt::Formatter<W>) -> fmt::Result {
+        write_bytes(self.as_bytes(), f)
+    }
+}
+
+// A row, behind a comma where it isn't the first one.
+fn write_row<W: fmt::Write>(
+    is_first: bool,
+    key: &[u8],
+    value: &[u8],
+    f: &mut fmt::Formatter<W>,
+) -> fmt::Result {
+    if !is_first {
+        f.write_str(", ")?;
+    }
+    write_bytes(key, f)?;
+    f.write_str("=")?;
+    write_bytes(value, f)
+}
+
+impl<A: Allocator> fmt::Debug for RowList<A> {
+    fn fmt<W: fmt::Write>(&self, f: &mut fmt::Formatter<W>) -> fmt::Result {
+        f.write_str("[")?;
+        let mut is_first = true;
+        for (key, value) in self {
+            write_row(is_first, key, value, f)?;
+            is_first = false;
+        }
+        f.write_str("]")
+    }
+}
