@@ -3,6 +3,9 @@ ghost use Rattle.std.specs.Prelude.{IsOk, IsErr};
 ghost use Rattle.std.specs.Bool.{MatchBool};
 ghost use Rattle.crew.specs.Crew.{is_crew};
 
+use std::error::Error;
+use std::fmt;
+
 /// Who works the rounds of a call. What a round makes is the same for every crew.
 #[derive(Clone, Copy, Debug, PartialEq, Eq)]
 pub struct Crew {
@@ -12,9 +15,33 @@ pub struct Crew {
     pub grain: u32,
 }
 
+impl Default for Crew {
+    ghost use Rattle.std.specs.Prelude.{◌≡◌};
+
+    ghost is_default = { λ crew. crew ≡ record { workers = 1; grain = 64 } };
+
+    /// The caller's thread alone, as the program has it where nothing is given.
+    fn default() -> Crew {
+        Crew {
+            workers: 1,
+            grain: 64,
+        }
+    }
+}
+
 /// A number of a crew is out of range.
 #[derive(Debug, Drop, PartialEq, Eq)]
 pub struct BadCrew;
+
+impl fmt::Display for BadCrew {
+    fn fmt<W: fmt::Write>(&self, f: &mut fmt::Formatter<W>) -> fmt::Result {
+        f.write_str(
+            "the crew has no workers or more than 64, or its pieces no jobs or more than 65,535",
+        )
+    }
+}
+
+impl Error for BadCrew {}
 
 const MOST_WORKERS: u32 = 64;
 
