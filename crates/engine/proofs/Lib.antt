@@ -15,6 +15,7 @@ mod FileStoreLemmas
 mod FlushDone
 mod InTurn
 mod LeafRoutes
+mod NumbersLemmas
 mod OneLeaf
 mod OpenedLemmas
 mod OwnRuns

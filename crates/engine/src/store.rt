@@ -20,6 +20,7 @@ ghost use Rattle.verify.specs.Report.{report};
 
 mod clean;
 mod flush;
+mod numbers;
 mod play;
 mod reopen;
 mod upgrade;
