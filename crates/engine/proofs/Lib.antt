@@ -19,6 +19,7 @@ mod FlushDone
 mod IdleLemmas
 mod InTurn
 mod LeafRoutes
+mod NumbersLemmas
 mod OneLeaf
 mod OpenedLemmas
 mod OwnRuns

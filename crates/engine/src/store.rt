@@ -19,6 +19,7 @@ ghost use Rattle.verify.specs.Report.{report};
 mod clean;
 mod copy;
 mod flush;
+mod numbers;
 mod play;
 mod reads;
 mod reopen;

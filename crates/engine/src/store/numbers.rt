@@ -1,0 +1,83 @@
+//! Numbers to run a store by: how full its log is, and whether a flush is due.
+ghost use Rattle.std.specs.Prelude.{◌≡◌, ◌≢◌, ◌↔◌, ◌+◌, ◌≤◌, [], None, IsTrue};
+ghost use Rattle.keys.specs.Limits.{first_bad_field};
+ghost use Rattle.flush_log.specs.Ends.{AreEnds};
+ghost use Rattle.flush_log.specs.FlushText.{flush_text};
+ghost use Rattle.flush_log.specs.Segments.{last_segment};
+
+use crate::store::Store;
+use flush_log::disk::Disk;
+use flush_log::segments::last_segment;
+use flush_log::slot::LogEnds;
+use flush_log::text::is_all_written;
+use keys::Settings;
+
+// How many segments of a log with these ends are in use.
+fn in_use(settings: &Settings, log: LogEnds) -> u64
+    requires checked { first_bad_field settings.now ≡ None }
+    requires ends { AreEnds settings.now log }
+    ensures exact { log.head + result ≡ last_segment settings.now log.tail + 1 }
+    ensures least { 1 ≤ result }
+    ensures most { result ≤ settings.now.segments }
+{
+    last_segment(settings, log.tail) - log.head + 1
+}
+
+impl<D: Disk> Store<D> {
+    /// Whether a call of the disk has failed in a flush, an upgrade or a clean. Then every batch, flush, upgrade and clean answers
+    /// `Fault::Failed`; what the store holds is read as before, and `reopen` gives the store of the last flush.
+    pub fn has_failed(&self) -> bool
+        ensures { result ≡ self.now.has_failed }
+    {
+        self.has_failed
+    }
+
+    /// The sequence number: how many commits there were, the making of the store among them. Each flush that writes, each clean and each
+    /// upgrade makes it one greater, and after 2^62 they answer `Fault::Spent`.
+    pub fn sequence(&self) -> u64
+        ensures { result ≡ self.now.store.sequence }
+    {
+        self.log.sequence
+    }
+
+    /// The number of the log's first segment. Numbers of segments only grow, and each clean makes this one greater.
+    pub fn head(&self) -> u64
+        ensures { result ≡ self.now.store.head }
+    {
+        self.log.head
+    }
+
+    /// The position where the log ends, in bytes, by which byte `offset` of segment n has the position `n * seg_size + offset`. It only
+    /// grows: by what a flush, an upgrade or a clean writes, with what it leaves of a segment.
+    pub fn tail(&self) -> u64
+        ensures { result ≡ self.now.store.tail }
+    {
+        self.log.tail
+    }
+
+    /// How many segments the log may have, as the settings say. A flush leaves one of them free, and a clean may use it.
+    pub fn segments(&self) -> u64
+        ensures { result ≡ self.now.settings.segments }
+    {
+        u64::from(self.settings.segments)
+    }
+
+    /// How many segments of the log are in use: from the first one to that in which the log ends. Where these are all but one, the next
+    /// flush that needs a further segment is `Fault::Full`, and a clean may help, which needs two in use.
+    pub fn segments_in_use(&self) -> u64
+        ensures exact { self.now.store.head + result ≡ last_segment self.now.settings self.now.store.tail + 1 }
+        ensures least { 1 ≤ result }
+        ensures most { result ≤ self.now.settings.segments }
+    {
+        in_use(&self.settings, self.log)
+    }
+
+    /// Whether a flush would write anything: whether the log lacks some of what the store holds. It takes no memory, and looks at the
+    /// pages that were taken since the last flush; after a recovery, and where memory was refused to the list of these, at the number of
+    /// runs of each page.
+    pub fn is_flush_due(&self) -> bool
+        ensures { IsTrue result ↔ (flush_text self.now.store.version self.now.store.tree ≢ []) }
+    {
+        !is_all_written(&self.tree)
+    }
+}
