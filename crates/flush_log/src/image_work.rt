@@ -203,7 +203,7 @@ fn leaf_image(
     }
 }
 
-// The image of a leaf of which the log has nothing. Where runs count as merged with the base, its base is made for the frame alone.
+// The image of a leaf that the log lacks. Where runs count as merged with the base, its base is made for the frame alone.
 fn whole_leaf(
     alloc: Global,
     pid: Pid,
@@ -247,7 +247,7 @@ fn index_image(
     }
 }
 
-// The image of a page of which the log has nothing: its base and its runs.
+// The image of a page that the log lacks: its base and its runs.
 fn whole_image<V: Kind<Global>>(
     alloc: Global,
     pid: Pid,
