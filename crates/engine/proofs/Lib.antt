@@ -7,8 +7,6 @@ mod BlankAnswers
 mod CleanDone
 mod CommandsWithin
 mod ContentsFit
-mod CopyDone
-mod CopyLemmas
 mod CreateLemmas
 mod Crossing
 mod EndedRoutes
@@ -16,7 +14,6 @@ mod Executed
 mod FileStoreLemmas
 mod FirstRow
 mod FlushDone
-mod IdleLemmas
 mod InTurn
 mod LeafRoutes
 mod NumbersLemmas
@@ -36,6 +33,5 @@ mod StepDone
 mod StepsLemmas
 mod TaskLemmas
 mod TextSteps
-mod TidyLemmas
 mod Verified
 mod WayOfOne

@@ -1,7 +1,6 @@
 pub mod Batch
 pub mod Batches
 pub mod Calls
-pub mod Copies
 pub mod FileStore
 pub mod Late
 pub mod LeafFor
@@ -14,4 +13,3 @@ pub mod SoundTree
 pub mod State
 pub mod Steps
 pub mod Tasks
-pub mod Tidied

@@ -11,8 +11,6 @@ mod board_rows;
 #[cfg(test)]
 mod clean_rows;
 #[cfg(test)]
-mod copy_rows;
-#[cfg(test)]
 mod crash_rows;
 #[cfg(test)]
 mod crash_run;
@@ -77,8 +75,6 @@ pub mod step_laws;
 pub mod store;
 #[cfg(test)]
 mod tests;
-#[cfg(test)]
-mod tidy_rows;
 #[cfg(test)]
 mod trees_by_hand;
 

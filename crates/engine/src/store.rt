@@ -17,13 +17,11 @@ ghost use Rattle.engine.specs.Steps.Step.{Batch};
 ghost use Rattle.verify.specs.Report.{report};
 
 mod clean;
-mod copy;
 mod flush;
 mod numbers;
 mod play;
 mod reads;
 mod reopen;
-mod tidy;
 mod upgrade;
 
 use crate::execute::execute;
