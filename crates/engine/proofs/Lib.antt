@@ -6,6 +6,7 @@ mod BatchLeaves
 mod BlankAnswers
 mod CleanDone
 mod CommandsWithin
+mod CleaningLemmas
 mod ContentsFit
 mod CreateLemmas
 mod Crossing

@@ -19,7 +19,9 @@ ghost use Rattle.engine.specs.Steps.Step.{Batch};
 ghost use Rattle.verify.specs.Report.{report};
 
 mod clean;
+mod cleaning;
 mod flush;
+mod numbers;
 mod play;
 mod reopen;
 mod upgrade;

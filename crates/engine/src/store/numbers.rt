@@ -1,0 +1,91 @@
+//! Numbers to run a store by: how full its log is, whether a flush is due, and how many pairs there are.
+ghost use Rattle.std.specs.Prelude.{◌≡◌, ◌≢◌, ◌↔◌, ◌+◌, ◌^◌, ◌<◌, ◌≤◌, [], length, IsTrue};
+ghost use Rattle.mapping.specs.Levels.{contents};
+ghost use Rattle.flush_log.specs.FlushText.{flush_text};
+ghost use Rattle.flush_log.specs.Segments.{last_segment};
+
+use crate::store::Store;
+use flush_log::disk::Disk;
+use flush_log::segments::last_segment;
+use flush_log::text::is_all_written;
+use scan::Rows;
+
+// How many rows are left.
+fn count(rows: Rows<'_>) -> u64
+    requires { length rows < 2 ^ 32 }
+    ensures { result ≡ length rows }
+{
+    let mut count = 0;
+    for _row in rows {
+        count += 1;
+    }
+    count
+}
+
+impl<D: Disk> Store<D> {
+    /// Whether a call of the disk has failed in a flush, an upgrade or a clean. Then every batch, flush, upgrade and clean answers
+    /// `Fault::Failed`; what the store holds is read as before, and `reopen` gives the store of the last flush.
+    pub fn has_failed(&self) -> bool
+        ensures { result ≡ self.now.has_failed }
+    {
+        self.has_failed
+    }
+
+    /// The sequence number: how many commits there were, the making of the store among them. Each flush that writes, each clean and each
+    /// upgrade makes it one greater, and after 2^62 they answer `Fault::Spent`.
+    pub fn sequence(&self) -> u64
+        ensures { result ≡ self.now.store.sequence }
+    {
+        self.log.sequence
+    }
+
+    /// The number of the log's first segment. Numbers of segments only grow, and each clean makes this one greater.
+    pub fn head(&self) -> u64
+        ensures { result ≡ self.now.store.head }
+    {
+        self.log.head
+    }
+
+    /// The position where the log ends, in bytes, by which byte `offset` of segment n has the position `n * seg_size + offset`. It only
+    /// grows: by what a flush, an upgrade or a clean writes, with what it leaves of a segment.
+    pub fn tail(&self) -> u64
+        ensures { result ≡ self.now.store.tail }
+    {
+        self.log.tail
+    }
+
+    /// How many segments the log may have, as the settings say. A flush leaves one of them free, and a clean may use it.
+    pub fn segments(&self) -> u64
+        ensures { result ≡ self.now.settings.segments }
+    {
+        u64::from(self.settings.segments)
+    }
+
+    /// How many segments of the log are in use: from the first one to that in which the log ends. Where these are all but one, the next
+    /// flush that needs a further segment is `Fault::Full`, and a clean may help, which needs two in use.
+    pub fn segments_in_use(&self) -> u64
+        ensures exact { self.now.store.head + result ≡ last_segment self.now.settings self.now.store.tail + 1 }
+        ensures least { 1 ≤ result }
+        ensures most { result ≤ self.now.settings.segments }
+    {
+        last_segment(&self.settings, self.log.tail) + 1 - self.log.head
+    }
+
+    /// Whether a flush would write anything: whether the log lacks some of what the store holds. It takes no memory, and looks at the
+    /// pages that were taken since the last flush; after a recovery, and where memory was refused to the list of these, at the number of
+    /// runs of each page.
+    pub fn is_flush_due(&self) -> bool
+        ensures { IsTrue result ↔ (flush_text self.now.store.version self.now.store.tree ≢ []) }
+    {
+        !is_all_written(&self.tree)
+    }
+
+    /// How many pairs there are; 4,294,967,295 where there are more. It takes no memory, and walks over all pairs, as `range` without
+    /// bounds does.
+    pub fn pairs(&self) -> u64
+        ensures exact { length (contents self.now.store.tree) < 2 ^ 32 → result ≡ length (contents self.now.store.tree) }
+        ensures least { result ≤ length (contents self.now.store.tree) }
+    {
+        count(Rows::new(self.alloc, &self.tree, &[], None, u32::MAX))
+    }
+}
