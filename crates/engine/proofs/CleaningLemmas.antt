@@ -10,8 +10,9 @@ use Rattle.keys.specs.declared.settings.Settings.{Settings}
 use Rattle.mapping.specs.Levels.{contents}
 use Rattle.mapping.specs.Tree.{Store}
 use Rattle.frame_codec.specs.Frame.{Frame}
-use Rattle.flush_log.specs.AfterFlush.{after_flush, after_text}
-use Rattle.flush_log.specs.FlushText.{flush_text}
+use Rattle.flush_log.specs.AfterFlush.{Commit, flush_commit, file_after, is_spent, store_after, after_flush, after_text}
+use Rattle.flush_log.specs.FlushText.{flush_text, flushed}
+use Rattle.flush_log.specs.Layout.{is_full_for_flush}
 use Rattle.flush_log.specs.Disk.{View, Lawful, IsSettled, Kept, Same, LeavesOnly}
 use Rattle.recovery.specs.InStep.{IsStore}
 use Rattle.recovery.proofs.KeptStore.{flushed-tree}
@@ -26,6 +27,7 @@ use Rattle.engine.specs.Steps.Step.{Flush, Clean}
 use Rattle.engine.specs.Steps.Answer.{Flushed, Cleaned}
 use Rattle.engine.specs.Turns.{IsTurn}
 use Rattle.engine.specs.declared.step.Answer as code_answer
+use Rattle.engine.specs.declared.step.Step.TheVariants as called
 use Rattle.engine.proofs.PlayTurn.{no_turn, turn_as, stays, still_said, still_exact, goes_on, crash_on, refused_behind}
 
 -- ---- steps
@@ -37,24 +39,28 @@ one_more_clean (suc n) = ap (λ (xs : List (Step Global)). Clean ∷ xs) (one_mo
 abbrev Left : Type 0
 Left = Store × List ℕ
 
-abbrev ok_of : Store → List ℕ → Result (Store × List ℕ) Fault
-ok_of st file = Ok (st, file)
+abbrev ok_left : Left → Result Left Fault
+ok_left p = Ok p
+
+abbrev ok_step : Answer Global → Left → Stepped Global
+ok_step a p = Ok (a, p)
+
+same_left : (a b : Answer Global) (p q : Left) → ok_step a p ≡ ok_step b q → p ≡ q
+same_left a b p q h =
+    let pair : (let x : Answer Global × Left = (a, p) in x ≡ (b, q)) = cc in
+    ap (λ (x : Answer Global × Left). x.1) pair
 
 -- a clean leaves the tree as it is
 clean_tree : (honest : Bool) (s : Settings) (st : Store) (seen : List ℕ) (a : code_answer.Answer) (now : Store) (bytes : List ℕ) → IsStepDone honest s st seen Clean a now bytes → now.tree ≡ st.tree
 clean_tree honest s st seen a now bytes done =
-    let (p, was, is) = ok-then (after_clean s st done.file) (λ (p : Left). (let q : Stepped Global = Ok (Cleaned p.0.head, p) in q)) (answer_of a, (now, bytes)) done.done in
-    let pair : (let q : Answer Global × Left = (Cleaned p.0.head, p) in q ≡ (answer_of a, (now, bytes))) = cc in
-    let same : p ≡ (now, bytes) = ap (λ (q : Answer Global × Left). q.1) pair in
-    (cleaned-store s st now done.file bytes (was ∙ ap (λ (x : Left). (let r : Result Left Fault = Ok x in r)) same)).0
+    let (p, was, is) = ok-then (after_clean s st done.file) (λ (p : Left). ok_step (Cleaned p.0.head) p) (answer_of a, (now, bytes)) done.done in
+    (cleaned-store s st now done.file bytes (was ∙ ap ok_left (same_left (Cleaned p.0.head) (answer_of a) p (now, bytes) is))).0
 
 -- a flush leaves what the tree holds
 flush_holds : (honest : Bool) (s : Settings) (st : Store) (seen : List ℕ) (a : code_answer.Answer) (now : Store) (bytes : List ℕ) → IsStore s st → IsStepDone honest s st seen Flush a now bytes → contents now.tree ≡ contents st.tree
 flush_holds honest s st seen a now bytes sound done =
-    let (p, was, is) = ok-then (after_flush s st done.file) (λ (p : Left). (let q : Stepped Global = Ok (Flushed p.0.sequence, p) in q)) (answer_of a, (now, bytes)) done.done in
-    let pair : (let q : Answer Global × Left = (Flushed p.0.sequence, p) in q ≡ (answer_of a, (now, bytes))) = cc in
-    let same : p ≡ (now, bytes) = ap (λ (q : Answer Global × Left). q.1) pair in
-    ap contents (flushed-tree s st now done.file bytes sound (was ∙ ap (λ (x : Left). (let r : Result Left Fault = Ok x in r)) same))
+    let (p, was, is) = ok-then (after_flush s st done.file) (λ (p : Left). ok_step (Flushed p.0.sequence) p) (answer_of a, (now, bytes)) done.done in
+    ap contents (flushed-tree s st now done.file bytes sound (was ∙ ap ok_left (same_left (Flushed p.0.sequence) (answer_of a) p (now, bytes) is)))
 
 -- ---- a full log
 
@@ -78,14 +84,16 @@ commit_full false false x y h = absurd (cc)
 
 text_full : (s : Settings) (st : Store) (file other : List ℕ) (text : List Frame) → after_text s st file text ≡ Err Full → after_text s st other text ≡ Err Full
 text_full s st file other [] h = absurd (cc)
-text_full s st file other (f ∷ fs) h = commit_full _ _ _ _ h
+text_full s st file other (f ∷ fs) h =
+    let m : Commit = flush_commit s st (f ∷ fs) in
+    commit_full (is_spent m.slot) (is_full_for_flush s m.slot.head m.slot.tail) (store_after (flushed st.tree) m.slot, file_after s file m) (store_after (flushed st.tree) m.slot, file_after s other m) h
 
 full_any : (s : Settings) (st : Store) (file other : List ℕ) → after_flush s st file ≡ Err Full → after_flush s st other ≡ Err Full
 full_any s st file other h = text_full s st file other (flush_text st.version st.tree) h
 
 -- one more clean is needed, where the log is full behind these
 needed_more : (s : Settings) (st : Store) (file : List ℕ) (n : ℕ) → AreNeeded s st file n → (let p : Played Global = plays (batching s) s st file (cleans n) in after_flush s p.store p.bytes ≡ Err Full) → AreNeeded s st file (suc n)
-needed_more s st file n before here i h =
+needed_more s st file n before here = λ i h.
     ⊎_elim (λ less. before i less)
     (λ more. (let same : n ≡ i = omega (arith, more, h) in subst (λ (k : ℕ). (let p : Played Global = plays (batching s) s st file (cleans k) in after_flush s p.store p.bytes ≡ Err Full)) same here))
     (cases_lt i n)
@@ -97,8 +105,8 @@ want_device why fault (inl room) device = (let e = room.1 in absurd (cc))
 want_device why fault (inr other) device = sym other.1 ∙ device
 
 want_other : (why fault : Fault) → IsWantOfRoom why fault → fault ≢ Device → why ≢ Device
-want_other why fault (inl room) other device = (let e = room.0 in absurd (cc))
-want_other why fault (inr same) other device = other (same.1 ∙ device)
+want_other why fault (inl room) other = λ device. (let e = room.0 in absurd (cc))
+want_other why fault (inr same) other = λ device. other (same.1 ∙ device)
 
 -- ---- so far
 
@@ -171,7 +179,7 @@ module _ {D : Type 0} (view : D → View) (failures : D → ℕ) (lawful : (disk
         → AreCleaned view failures old (suc count) next
     cleaned_on a (bytes, step) rest counted fine honest settled crash sound needed = record {
       said = done.said ++ a ∷ [];
-      turn = turn_as view failures old next _ _ _ _ (one_more_clean count) refl
+      turn = turn_as view failures old next (cleans count ++ Clean ∷ []) (cleans (suc count)) (done.said ++ a ∷ []) (done.said ++ a ∷ []) (one_more_clean count) refl
           (goes_on view failures lawful old (cleans count) done.said cur done.turn next Clean a (bytes, step) rest counted (done.turn.has_failed ∙ fine) honest settled crash sound);
       needed = needed;
       tree = clean_tree (view cur.disk).is_honest cur.settings cur.store (view cur.disk).seen a next.store bytes step ∙ done.tree;
@@ -195,11 +203,19 @@ module _ {D : Type 0} (view : D → View) (failures : D → ℕ) (lawful : (disk
       FaultBehind x fault = (file : List ℕ) × (IsTrue (view old.disk).is_honest → file ≡ (plays (batching old.settings) old.settings old.store first (cleans count)).bytes)
           × IsStepFault old.settings next.store file (failures old.disk) (failures next.disk) x fault
 
-      -- the log is full, in a flush that was refused so
-      pub is_full : (fault : Fault) → fault ≡ Full → FaultBehind Flush fault → (other : List ℕ) → after_flush old.settings next.store other ≡ Err Full
-      is_full fault full (file, shown, why) other = full_any old.settings next.store file other (full_of old.settings next.store file _ _ fault full why)
+      flush_behind : (fault : Fault) → FaultIn Flush fault → FaultBehind Flush fault
+      flush_behind fault why = refused_behind view failures lawful old (cleans count) done.said cur done.turn next called.Flush (failures next.disk) fault unchanged why
 
-      pub full_needed : (fault : Fault) → fault ≡ Full → FaultBehind Flush fault → IsTrue (view old.disk).is_honest → AreNeeded old.settings old.store first (suc count)
+      clean_behind : (fault : Fault) → FaultIn Clean fault → FaultBehind Clean fault
+      clean_behind fault why = refused_behind view failures lawful old (cleans count) done.said cur done.turn next called.Clean (failures next.disk) fault unchanged why
+
+      -- the log is full, in a flush that was refused so
+      pub is_full : (fault : Fault) → fault ≡ Full → FaultIn Flush fault → (other : List ℕ) → after_flush old.settings next.store other ≡ Err Full
+      is_full fault full behind other =
+          let (file, shown, why) = flush_behind fault behind in
+          full_any old.settings next.store file other (full_of old.settings next.store file (failures old.disk) (failures next.disk) fault full why)
+
+      pub full_needed : (fault : Fault) → fault ≡ Full → FaultIn Flush fault → IsTrue (view old.disk).is_honest → AreNeeded old.settings old.store first (suc count)
       full_needed fault full behind honest =
           let p : Played Global = plays (batching old.settings) old.settings old.store first (cleans count) in
           let store : next.store ≡ p.store = unchanged ∙ (done.turn.exact honest).store in
@@ -238,10 +254,11 @@ module _ {D : Type 0} (view : D → View) (failures : D → ℕ) (lawful : (disk
             → (IsTrue (view cur.disk).is_honest → fault ≢ Device → Same (view cur.disk) (view next.disk))
             → (fault ≡ Device → next.has_failed ≡ true)
             → CrashIn Flush
-            → FaultBehind Flush fault
+            → FaultIn Flush fault
             → (fault ≡ Full → count ≡ old.settings.segments)
             → IsStoppedCleaning view failures old next fault
-        stopped_flush fault counted same device crash (file, shown, why) last =
+        stopped_flush fault counted same device crash behind last =
+            let (file, shown, why) = flush_behind fault behind in
             stopped_in Flush fault fault (λ other. other) (λ is. is) counted same device crash (file, shown, inl (refl, why, last))
 
         -- in a clean
@@ -250,10 +267,11 @@ module _ {D : Type 0} (view : D → View) (failures : D → ℕ) (lawful : (disk
             → (IsTrue (view cur.disk).is_honest → why ≢ Device → Same (view cur.disk) (view next.disk))
             → (why ≡ Device → next.has_failed ≡ true)
             → CrashIn Clean
-            → FaultBehind Clean why
+            → FaultIn Clean why
             → count < old.settings.segments
             → ((other : List ℕ) → after_flush old.settings cur.store other ≡ Err Full)
             → IsStoppedCleaning view failures old next fault
-        stopped_clean why fault want counted same device crash (file, shown, is) more full =
+        stopped_clean why fault want counted same device crash behind more full =
+            let (file, shown, is) = clean_behind why behind in
             stopped_in Clean why fault (want_other why fault want) (want_device why fault want) counted same device crash
             (file, shown, inr (refl, more, subst (λ (x : Store). after_flush old.settings x file ≡ Err Full) (sym unchanged) (full file), why, want, is))

@@ -5,8 +5,8 @@ mod BatchInStep
 mod BatchLeaves
 mod BlankAnswers
 mod CleanDone
-mod CommandsWithin
 mod CleaningLemmas
+mod CommandsWithin
 mod ContentsFit
 mod CreateLemmas
 mod Crossing
@@ -16,6 +16,7 @@ mod FileStoreLemmas
 mod FlushDone
 mod InTurn
 mod LeafRoutes
+mod NumbersLemmas
 mod OneLeaf
 mod OpenedLemmas
 mod OwnRuns

@@ -38,8 +38,8 @@ impl<D: Disk> Store<D> {
     ///
     /// A store that has failed is `Fault::Failed`, and then a crew out of range `Fault::BadCrew`. Where all these cleans make no room,
     /// or none of them can be done any more, there is `Fault::Full`: what lives needs a larger log. Else there are the faults of `flush` and of
-    /// `clean`. After an `Err` the store holds what it held, and none of it is written that was not; the cleans before it are done, and
-    /// after `Fault::Device` the store has failed.
+    /// `clean`. After an `Err` the store holds what it held, and the cleans before it are done. After `Fault::Device` the store has failed, and the
+    /// disk holds the store of before or the one that it has.
     ///
     /// Each clean reads all segments in use: so where the log is mostly full, this costs up to so many readings of it.
     pub fn flush_cleaning(&mut self, rt: &(impl Threads + Sync), crew: Crew) -> Result<u64, Fault>
@@ -61,7 +61,7 @@ impl<D: Disk> Store<D> {
         }
         admit_crew(crew)?;
         let mut left = self.settings.segments;
-        loop {
+        'room: loop {
             match self.step(rt, crew, &NoGate, Step::Flush) {
                 Ok(_flushed) => return Ok(self.log.sequence),
                 Err(fault) => go_on(fault, left)?,

@@ -1,13 +1,17 @@
 //! Numbers to run a store by: how full its log is, whether a flush is due, and how many pairs there are.
-ghost use Rattle.std.specs.Prelude.{◌≡◌, ◌≢◌, ◌↔◌, ◌+◌, ◌^◌, ◌<◌, ◌≤◌, [], length, IsTrue};
+ghost use Rattle.std.specs.Prelude.{◌≡◌, ◌≢◌, ◌↔◌, ◌+◌, ◌^◌, ◌<◌, ◌≤◌, [], length, None, IsTrue};
+ghost use Rattle.keys.specs.Limits.{first_bad_field};
 ghost use Rattle.mapping.specs.Levels.{contents};
+ghost use Rattle.flush_log.specs.Ends.{AreEnds};
 ghost use Rattle.flush_log.specs.FlushText.{flush_text};
 ghost use Rattle.flush_log.specs.Segments.{last_segment};
 
 use crate::store::Store;
 use flush_log::disk::Disk;
 use flush_log::segments::last_segment;
+use flush_log::slot::LogEnds;
 use flush_log::text::is_all_written;
+use keys::Settings;
 use scan::Rows;
 
 // How many rows are left.
@@ -16,10 +20,22 @@ fn count(rows: Rows<'_>) -> u64
     ensures { result ≡ length rows }
 {
     let mut count = 0;
-    for _row in rows {
+    for row in rows {
+        let _seen = row;
         count += 1;
     }
     count
+}
+
+// How many segments of a log with these ends are in use.
+fn in_use(settings: &Settings, log: LogEnds) -> u64
+    requires checked { first_bad_field settings.now ≡ None }
+    requires ends { AreEnds settings.now log }
+    ensures exact { log.head + result ≡ last_segment settings.now log.tail + 1 }
+    ensures least { 1 ≤ result }
+    ensures most { result ≤ settings.now.segments }
+{
+    last_segment(settings, log.tail) - log.head + 1
 }
 
 impl<D: Disk> Store<D> {
@@ -68,7 +84,7 @@ impl<D: Disk> Store<D> {
         ensures least { 1 ≤ result }
         ensures most { result ≤ self.now.settings.segments }
     {
-        last_segment(&self.settings, self.log.tail) + 1 - self.log.head
+        in_use(&self.settings, self.log)
     }
 
     /// Whether a flush would write anything: whether the log lacks some of what the store holds. It takes no memory, and looks at the
@@ -86,6 +102,6 @@ impl<D: Disk> Store<D> {
         ensures exact { length (contents self.now.store.tree) < 2 ^ 32 → result ≡ length (contents self.now.store.tree) }
         ensures least { result ≤ length (contents self.now.store.tree) }
     {
-        count(Rows::new(self.alloc, &self.tree, &[], None, u32::MAX))
+        count(Rows::new(self.alloc, &self.tree, b"", None, u32::MAX))
     }
 }
