@@ -17,7 +17,7 @@ use scan::Rows;
 // How many rows are left.
 fn count(rows: Rows<'_>) -> u64
     requires { length rows < 2 ^ 32 }
-    ensures { result ≡ length rows }
+    ensures { result ≡ length rows.entry }
 {
     let mut count = 0;
     for row in rows {
