@@ -108,6 +108,20 @@ want_other : (why fault : Fault) → IsWantOfRoom why fault → fault ≢ Device
 want_other why fault (inl room) other = λ device. (let e = room.0 in absurd (cc))
 want_other why fault (inr same) other = λ device. other (same.1 ∙ device)
 
+-- gone on, behind a flush that was refused: for a full log, where some are left
+pub gone_on : {T : Type 0} {x y : T} (fault : Fault) (left : ℕ)
+    → ((fault ≡ Full) × (0 < left) × (let q : Result T Fault = Ok y in q ≡ Ok x)) ⊎ ((fault ≡ Full → left ≡ 0) × (let q : Result T Fault = Ok y in q ≡ Err fault))
+    → (fault ≡ Full) × (0 < left) × (fault ≢ Device)
+gone_on fault left (inl full) = (full.0, full.1, λ device. (let e = full.0 in absurd (cc)))
+gone_on fault left (inr other) = (let e = other.1 in absurd (cc))
+
+-- not gone on: with the same fault, and none are left for a full log
+pub not_gone_on : {T : Type 0} {x : T} (fault told : Fault) (left : ℕ)
+    → ((fault ≡ Full) × (0 < left) × (let q : Result T Fault = Err told in q ≡ Ok x)) ⊎ ((fault ≡ Full → left ≡ 0) × (let q : Result T Fault = Err told in q ≡ Err fault))
+    → (told ≡ fault) × (fault ≡ Full → left ≡ 0)
+not_gone_on fault told left (inl full) = (let e = full.2 in absurd (cc))
+not_gone_on fault told left (inr other) = ((let e = other.1 in cc), other.0)
+
 -- ---- so far
 
 -- so many cleans are done, each of which was needed

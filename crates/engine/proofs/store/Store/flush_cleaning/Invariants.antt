@@ -3,8 +3,8 @@ use Rattle.engine.proofs.CleaningLemmas.{AreCleaned}
 use Rattle.engine.proofs.store.Store.flush_cleaning.Given as goal
 
 -- so many cleans are done, and as many more may be done as are left
-abbrev pub invariant-loop-room : goal.invariant-loop-room
-invariant-loop-room g l = (count : ℕ) × (count + l.left ≡ l.fn.self.settings.segments) × AreCleaned g.D.Disk.view g.D.Disk.failed l.fn.self count l.self
+abbrev pub invariant-room : goal.invariant-room
+invariant-room g l = (count : ℕ) × (count + l.left ≡ l.fn.self.settings.segments) × AreCleaned g.D.Disk.view g.D.Disk.failed l.fn.self count l.self
 
-abbrev pub decreases-loop-room : goal.decreases-loop-room
-decreases-loop-room g l = l.left
+abbrev pub decreases-room : goal.decreases-room
+decreases-room g l = l.left
