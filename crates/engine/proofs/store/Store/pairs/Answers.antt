@@ -1,4 +1,4 @@
-use Rattle.std.specs.Prelude.{◌<◌, ◌≤◌, ◌^◌, ℕ, List, length}
+use Rattle.std.specs.Prelude.{◌<◌, ◌≤◌, ◌^◌, ℕ, List, [], length, None}
 use Rattle.std.proofs.Common.{sym, ap, subst, ◌∙◌}
 use Rattle.mapping.specs.Levels.{contents}
 use Rattle.mapping.specs.TreeInMemory.{tree_of}
@@ -6,7 +6,7 @@ use Rattle.engine.proofs.NumbersLemmas.{few_rows, all_rows, least_rows}
 use Rattle.engine.proofs.store.Store.pairs.Goals as goal
 
 pub count-requires : goal.count-requires
-count-requires g c = subst (λ (xs : List (List ℕ × List ℕ)). length xs < 2 ^ 32) (sym c.new.ensures) (few_rows _ _ (contents (tree_of c.self.inside.tree)))
+count-requires g c = subst (λ (xs : List (List ℕ × List ℕ)). length xs < 2 ^ 32) (sym c.new.ensures) (few_rows [] None (contents (tree_of c.self.inside.tree)))
 
 pub returns-clause-exact : goal.returns-clause-exact
 returns-clause-exact g c = rw (← c.self.view_is) (λ few. c.count.ensures ∙ ap length c.new.ensures ∙ all_rows (contents (tree_of c.self.inside.tree)) few)
