@@ -1,5 +1,5 @@
 use Rattle.std.specs.Prelude.{suc}
-use Rattle.std.proofs.Common.{◌≡◌, ◌∙◌, false, sym, subst, arith, refl, ◌+◌, ◌<◌, ◌≤◌, ◌-◌}
+use Rattle.std.proofs.Common.{◌≡◌, ◌∙◌, false, sym, subst, arith, refl}
 use Rattle.std.proofs.lemmas.Result.{err_from_is_err_and}
 use Rattle.keys.specs.declared.fault.Fault.{Fault}
 use Rattle.engine.specs.Cleaning.{IsStoppedCleaning}
