@@ -52,7 +52,18 @@ static PRESENT: [(&str, &str); 11] = [
 
 // Keys that were deleted, stand before the first, between two and behind the last, and are too long.
 static ABSENT: [&str; 12] = [
-    "", "c", "ca", "cc", "d", "db", "g", "0", "aaa", "bbb", "z", "aaaaaaaaaaaaaaaaaaaaaaaa",
+    "",
+    "c",
+    "ca",
+    "cc",
+    "d",
+    "db",
+    "g",
+    "0",
+    "aaa",
+    "bbb",
+    "z",
+    "aaaaaaaaaaaaaaaaaaaaaaaa",
 ];
 
 fn are_found(store: &Store<MemDisk<Global>>) -> bool {

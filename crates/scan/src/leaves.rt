@@ -69,12 +69,7 @@ impl<'a> Iterator for Leaves<'a> {
 }
 
 // Goes down from this page to the leaf for the key, the children behind the way onto the path.
-fn descend<'a>(
-    tree: &'a Tree<Global>,
-    path: &mut Path<'a>,
-    from: Pid,
-    key: &[u8],
-) -> Leaf<'a>
+fn descend<'a>(tree: &'a Tree<Global>, path: &mut Path<'a>, from: Pid, key: &[u8]) -> Leaf<'a>
     requires walk { IsWalk tree.now path.old }
     requires known { IsAt tree.now (length path.old.items) from }
     ensures walk { IsWalk tree.now path.new }

@@ -169,11 +169,7 @@ fn end_at<'a>(alloc: Global, tree: &'a Tree<Global>, hi: Option<&[u8]>) -> End<'
 }
 
 // Where the rows with this prefix end, and how many there may be: none, where no key begins with it.
-fn prefix_end<'a>(
-    alloc: Global,
-    tree: &'a Tree<Global>,
-    prefix: &[u8],
-) -> (End<'a>, Option<u32>)
+fn prefix_end<'a>(alloc: Global, tree: &'a Tree<Global>, prefix: &[u8]) -> (End<'a>, Option<u32>)
     requires home { AreAllHome tree.now }
     requires height { tree.now.height ≤ most_levels }
     requires held { HoldsLevels (tree_of tree.now).pages (levels_of (tree_of tree.now)) }
@@ -188,11 +184,7 @@ fn prefix_end<'a>(
 }
 
 // The bytes of the prefix, as the first key that begins with them has them.
-fn prefix_of_first<'a>(
-    alloc: Global,
-    tree: &'a Tree<Global>,
-    prefix: &[u8],
-) -> Option<&'a [u8]>
+fn prefix_of_first<'a>(alloc: Global, tree: &'a Tree<Global>, prefix: &[u8]) -> Option<&'a [u8]>
     requires home { AreAllHome tree.now }
     requires height { tree.now.height ≤ most_levels }
     requires held { HoldsLevels (tree_of tree.now).pages (levels_of (tree_of tree.now)) }
@@ -231,11 +223,7 @@ pub(crate) fn first_from<'a>(
 }
 
 // A walk over the pairs from the key on.
-fn walk_from<'a>(
-    alloc: Global,
-    tree: &'a Tree<Global>,
-    key: &[u8],
-) -> (LeafPairs<'a>, Leaves<'a>)
+fn walk_from<'a>(alloc: Global, tree: &'a Tree<Global>, key: &[u8]) -> (LeafPairs<'a>, Leaves<'a>)
     requires home { AreAllHome tree.now }
     requires height { tree.now.height ≤ most_levels }
     requires held { HoldsLevels (tree_of tree.now).pages (levels_of (tree_of tree.now)) }
