@@ -1,9 +1,13 @@
 pub mod Ahead
+pub mod Back
+pub mod BackAhead
+pub mod BackWays
 pub mod Ends
 pub mod Leaf
 pub mod Left
 pub mod Merge
 pub mod Path
+pub mod Prefix
 pub mod Taken
 pub mod Tally
 pub mod Walk

@@ -3,11 +3,20 @@
 #![tactic(auto)]
 
 mod ahead;
+mod back_ahead;
+mod back_base;
+mod back_leaf;
+mod back_merge;
+mod back_places;
+pub mod back_rows;
+mod back_search;
+mod back_step;
 mod base_pairs;
 mod changes;
 mod ends;
 pub mod leaf;
 mod leaves;
+mod leaves_back;
 mod level;
 mod merge;
 pub mod point;
@@ -17,6 +26,7 @@ mod step;
 mod taken;
 mod tally;
 
+pub use crate::back_rows::RowsBack;
 pub use crate::ends::scan_ends;
 pub use crate::leaf::LeafPairs;
 pub use crate::point::value_in;

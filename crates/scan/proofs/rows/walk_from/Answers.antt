@@ -1,0 +1,8 @@
+use Rattle.scan.proofs.RowLemmas.{root_is_there, pairs_at_start}
+use Rattle.scan.proofs.rows.walk_from.Goals as goal
+
+pub new-leaves-requires-clause-known : goal.new-leaves-requires-clause-known
+new-leaves-requires-clause-known c = root_is_there c.args.tree.now c.requires.held c.requires.levels
+
+pub returns : goal.returns
+returns c = pairs_at_start c.args.tree.now c.requires.held c.requires.levels c.args.key.now _ _ _ _ c.new-leaves.ensures c.new.ensures
