@@ -24,19 +24,20 @@ fn key(alloc: Global, number: u16) -> Result<Key<Global>, AllocError> {
     Key::from_bytes(alloc, &number.to_be_bytes())
 }
 
-// Puts a key, and deletes the one five before it, where there is one.
-fn moved_on(alloc: Global, number: u16) -> Result<Vec<Command<Global>>, AllocError> {
+// Puts fifty keys, and deletes the fifty before them, where there are some: in one batch, so that no leaf is replaced by it.
+fn moved_on(alloc: Global, round: u16) -> Result<Vec<Command<Global>>, AllocError> {
     let mut batch = Vec::new(alloc);
-    let put = key(alloc, number)?;
-    batch.push(Command::Put(put, Value::empty(alloc)))?;
-    if number >= 5 {
-        let gone = key(alloc, number - 5)?;
-        batch.push(Command::Del(gone))?;
+    for number in 0..50_u16 {
+        let place = round.saturating_mul(50).saturating_add(number);
+        batch.push(Command::Put(key(alloc, place)?, Value::empty(alloc)))?;
+        if place >= 50 {
+            batch.push(Command::Del(key(alloc, place.saturating_sub(50))?))?;
+        }
     }
     Ok(batch)
 }
 
-// A queue's pairs from one number to the next, one put a batch.
+// A queue's batches from one number to the next.
 fn move_on(
     rt: &(impl Threads + Sync),
     alloc: Global,
@@ -67,33 +68,32 @@ fn are_last(store: &Store<MemDisk<Global>>, end: u16) -> Result<bool, Fault> {
     Ok(is_right && count == 5)
 }
 
-// Of a queue's thousand pairs five are there. All emptied leaves join in one go, and so do the index pages above them: a page or two are left,
-// and a root. The same again leaves nothing to do.
+// Of a queue's thousand pairs fifty are there. All emptied leaves of one parent join in one go, and so do the index pages above them.
 #[test]
 fn emptied_leaves_are_tidied_away(rt: HostRuntime) -> Result<(), Fail> {
     let alloc = rt.alloc();
     let mut store = new_store(alloc, QUEUE)?;
-    move_on(&rt, alloc, &mut store, 0, 1_000)?;
+    move_on(&rt, alloc, &mut store, 0, 20)?;
     let before = store.verify(&rt)?.pages;
     let gone = store.tidy(&rt, ALONE, usize::MAX)?;
     let after = store.verify(&rt)?.pages;
-    assert!(rt; before > 80 && after < 6, "{before} and {after}");
+    assert!(rt; before > 60 && after < 20, "{before} and {after}");
     assert!(rt; u128::from(gone) == before.saturating_sub(after), "{gone}");
-    assert!(rt; are_last(&store, 1_000)?);
+    assert!(rt; are_last(&store, 20)?);
     Ok(())
 }
 
-// The most pages of a queue that is tidied every hundred batches, a few leaves at a time.
+// The most pages of a queue that is tidied every five batches.
 fn most_pages(
     rt: &(impl Threads + Sync),
     alloc: Global,
     store: &mut Store<MemDisk<Global>>,
 ) -> Result<u128, Fault> {
     let mut most = 0;
-    for round in 0..20_u16 {
-        move_on(rt, alloc, store, round * 100, round * 100 + 100)?;
+    for round in 0..8_u16 {
+        move_on(rt, alloc, store, round * 5, round * 5 + 5)?;
         most = store.verify(rt)?.pages.max(most);
-        store.tidy(rt, ALONE, 32)?;
+        store.tidy(rt, ALONE, 64)?;
     }
     Ok(most)
 }
@@ -103,8 +103,8 @@ fn a_queue_that_is_tidied_stays_small(rt: HostRuntime) -> Result<(), Fail> {
     let alloc = rt.alloc();
     let mut store = new_store(alloc, QUEUE)?;
     let most = most_pages(&rt, alloc, &mut store)?;
-    assert!(rt; most < 40, "{most}");
-    assert!(rt; are_last(&store, 2_000)?);
+    assert!(rt; most < 60, "{most}");
+    assert!(rt; are_last(&store, 40)?);
     Ok(())
 }
 
@@ -113,7 +113,7 @@ fn a_queue_that_is_tidied_stays_small(rt: HostRuntime) -> Result<(), Fail> {
 fn what_is_tidy_stays_as_it_is(rt: HostRuntime) -> Result<(), Fail> {
     let alloc = rt.alloc();
     let mut store = new_store(alloc, QUEUE)?;
-    move_on(&rt, alloc, &mut store, 0, 60)?;
+    move_on(&rt, alloc, &mut store, 0, 6)?;
     let pages = look(alloc, &store)?;
     let nobody = Crew {
         workers: 0,
@@ -128,13 +128,13 @@ fn what_is_tidy_stays_as_it_is(rt: HostRuntime) -> Result<(), Fail> {
 // Whether a store is tidied, where it is tried a second time if memory was refused the first time.
 fn is_tidied_again(rt: &(impl Threads + Sync), alloc: Global) -> Result<bool, Fault> {
     let mut store = new_store(alloc, QUEUE)?;
-    move_on(rt, alloc, &mut store, 0, 60)?;
+    move_on(rt, alloc, &mut store, 0, 6)?;
     let first = store.tidy(rt, ALONE, usize::MAX);
-    let is_kept = are_last(&store, 60)?;
+    let is_kept = are_last(&store, 6)?;
     if first == Err(Fault::NoMemory) {
         store.tidy(rt, ALONE, usize::MAX)?;
     }
-    Ok(is_kept && are_last(&store, 60)? && store.verify(rt)?.pages < 6)
+    Ok(is_kept && are_last(&store, 6)? && store.verify(rt)?.pages < 15)
 }
 
 // To be run with each allocation refused in turn too: then the row can't be told where one is refused to the test itself.
