@@ -1,7 +1,8 @@
 //! Tidying: leaves that deletes have emptied join their neighbours, by batches that change nothing of what the store holds.
-ghost use Rattle.std.specs.Prelude.{◌≡◌, ◌≢◌, ◌-◌, ◌^◌, min, length, Err, IsTrue, IfOk, OnOk, IfErr, true, false};
+ghost use Rattle.std.specs.Prelude.{◌≡◌, ◌≢◌, ◌-◌, ◌^◌, min, length, Err, IsTrue, IsOk, IfOk, OnOk, IfErr, true, false};
+ghost use Rattle.keys.specs.declared.fault.Fault.TheVariants.{NoMemory};
 ghost use Rattle.std.specs.Option.{option_copied};
-ghost use Rattle.keys.specs.Bytes.{Pairs};
+ghost use Rattle.keys.specs.Bytes.{Bytes, Pairs};
 ghost use Rattle.keys.specs.Order.{IsRising};
 ghost use Rattle.keys.specs.OrderedMap.{value_at};
 ghost use Rattle.keys.specs.Step.{map_after_all};
@@ -92,7 +93,8 @@ impl<D: Disk> Store<D> {
     // The value at a key, which is found as the first row from it on.
     fn value_from<'a>(&'a self, key: &'a [u8]) -> Result<Option<&'a [u8]>, Fault>
         requires rising { IsRising (contents self.now.store.tree) }
-        ensures { IfOk result (λ found. option_copied found ≡ value_at key.now (contents self.now.store.tree)) }
+        ensures succeeds { IsOk result }
+        ensures value { IfOk result (λ found. option_copied found ≡ value_at key.now (contents self.now.store.tree)) }
     {
         let mut rows = self.range(key, None, 1)?;
         if let Some((found, value)) = rows.next() {
@@ -105,7 +107,8 @@ impl<D: Disk> Store<D> {
 
     // Commands for those of these pages that are leaves with few pairs, which change nothing of what the store holds.
     fn idle_batch(&self, pids: &[u64]) -> Result<Vec<Command<Global>>, Fault>
-        ensures { IfOk result (λ commands. map_after_all (contents self.now.store.tree) commands.items ≡ contents self.now.store.tree) }
+        ensures idle { IfOk result (λ commands. map_after_all (contents self.now.store.tree) commands.items ≡ contents self.now.store.tree) }
+        ensures err { IfErr result (λ fault. fault ≡ NoMemory) }
     {
         // Only for the proof.
         the_contents_of_a_proper_tree_rise();

@@ -3,8 +3,8 @@ use Rattle.engine.specs.Tidied.{IsTidied}
 use Rattle.engine.proofs.store.Store.tidy.Given as goal
 
 -- the store is the plan's of the batches so far, which have changed nothing of what it holds
-abbrev pub invariant-loop-_round : goal.invariant-loop-_round
-invariant-loop-_round g l = record {
+abbrev pub invariant-loop-round : goal.invariant-loop-round
+invariant-loop-round g l = record {
   tidied : IsTidied l.fn.self.settings l.fn.self.store l.self.store;
   settings : l.self.settings ≡ l.fn.self.settings;
   disk : l.self.disk ≡ l.fn.self.disk;
