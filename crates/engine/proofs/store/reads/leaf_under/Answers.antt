@@ -7,7 +7,8 @@ use Rattle.keys.specs.Bytes.{Bytes}
 use Rattle.engine.proofs.store.reads.leaf_under.Goals as goal
 
 pub returns : goal.returns
-returns c =
-    (record { low = low_of c.in-Some.page.now; layers = seen c.in-Some-as_leaf.leaf.now },
-     sym (c.in-Some.ensures.listed c.requires.home) ∙ ap (λ (p : PageOfKind). Some p) c.in-Some-as_leaf.ensures,
-     entries-seen c.in-Some-as_leaf.leaf.now ∙ sym (ap (λ (p : Layers Bytes). entries_of p) c.whole.ensures))
+returns c = (
+  record { low = low_of c.in-Some.page.now; layers = seen c.in-Some-as_leaf.leaf.now },
+  sym (c.in-Some.ensures.listed c.requires.home) ∙ ap (λ (p : PageOfKind). Some p) c.in-Some-as_leaf.ensures,
+  entries-seen c.in-Some-as_leaf.leaf.now ∙ sym (ap (λ (p : Layers Bytes). entries_of p) c.whole.ensures),
+)
