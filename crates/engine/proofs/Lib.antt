@@ -5,6 +5,7 @@ mod BatchInStep
 mod BatchLeaves
 mod BlankAnswers
 mod CleanDone
+mod CleaningLemmas
 mod CommandsWithin
 mod ContentsFit
 mod CreateLemmas

@@ -13,6 +13,7 @@ use Rattle.flush_log.proofs.ViewLemmas.{only_then, weaker, now_leaves}
 use Rattle.recovery.specs.StoreOfDisk.{store_of_disk}
 use Rattle.engine.specs.Plays.{IsPlayed, IsPlayedOn, IsStepDone, IsStepFault, IsLeftInStep, step_of, answer_of, tried}
 use Rattle.engine.specs.State.{State, IsSound}
+use Rattle.engine.specs.Turns.{IsPlayedTo, IsTurn}
 use Rattle.engine.specs.Steps.{Step, Answer, Played, Stepped, StandsAfterSome, HasWords, HaveWords, here_and_on, played_on, with_later, after_step, batching, plays, plays_further}
 use Rattle.engine.specs.declared.step.Step as code_step
 use Rattle.engine.specs.declared.step.Answer as code_answer
@@ -75,13 +76,6 @@ pub reached_other : (xs : List code_step.Step) (fault : Fault) (n i : ℕ) → t
 reached_other xs fault n i none same = ap (λ (k : ℕ). map step_of (take k xs)) (none ∙ same)
 
 -- ---- step by step, on any disk
-
--- these steps were done one after the other, as `IsPlayed` says, and left these bytes last
-abbrev pub IsPlayedTo : Bool → Settings → Store → List ℕ → List (Step Global) → List code_answer.Answer → Store → List ℕ → Type 0
-IsPlayedTo honest s st left [] said now last = (said ≡ []) × (now ≡ st) × (last ≡ left)
-IsPlayedTo honest s st left (x ∷ xs) said now last =
-    (a : code_answer.Answer) × (rest : List code_answer.Answer) × (said ≡ a ∷ rest)
-    × (mid : Store) × (bytes : List ℕ) × IsStepDone honest s st left x a mid bytes × IsPlayedTo honest s mid bytes xs rest now last
 
 played_to : (honest : Bool) (s : Settings) (st : Store) (left : List ℕ) (xs : List (Step Global)) (said : List code_answer.Answer) (now : Store) (last : List ℕ) → IsPlayedTo honest s st left xs said now last → IsPlayed honest s st left xs said now
 played_to honest s st left [] said now last (none, same, is) = (none, same)
@@ -154,24 +148,6 @@ module _ (s : Settings) (st : Store) (file : List ℕ) where
     ]
 
 -- ---- turns
-
--- these steps of a play were done, and answered so
-pub record IsTurn {D : Type 0} (view : D → View) (failures : D → ℕ) (old : State D) (xs : List (Step Global)) (said : List code_answer.Answer) (now : State D) : Type 0 where
-  pub sound : IsSound view now
-  pub settings : now.settings ≡ old.settings
-  pub has_failed : now.has_failed ≡ old.has_failed
-  pub failed : failures now.disk ≡ failures old.disk
-  pub kept : Kept (view old.disk) (view now.disk)
-  pub none : old.has_failed ≡ true → xs ≡ []
-  -- each was done of what a read gave; the last left what a read gives now
-  pub trace : (last : List ℕ) × IsPlayedTo (view old.disk).is_honest old.settings old.store (view old.disk).seen xs said now.store last × (IsTrue (view old.disk).is_honest → last ≡ (view now.disk).seen)
-  pub played : IsPlayed (view old.disk).is_honest old.settings old.store (view old.disk).seen xs said now.store
-  pub exact : IsTrue (view old.disk).is_honest → IsPlayedOn old.settings old.store (view old.disk).seen xs said now.store
-  pub words : IsTrue (view old.disk).is_honest → HaveWords (batching old.settings) old.settings old.store (view old.disk).seen xs
-  pub bytes : IsTrue (view old.disk).is_honest → (view now.disk).seen ≡ (plays (batching old.settings) old.settings old.store (view old.disk).seen xs).bytes
-  pub settled : IsSettled (view old.disk) → IsSettled (view now.disk)
-  pub crash : old.has_failed ≡ false → IsSettled (view old.disk)
-      → LeavesOnly (view old.disk) (view now.disk) (StandsAfterSome (batching old.settings) old.settings old.store (view old.disk).seen xs)
 
 -- of the same steps and answers
 pub turn_as : {D : Type 0} (view : D → View) (failures : D → ℕ) (old now : State D) (xs ys : List (Step Global)) (said told : List code_answer.Answer) → ys ≡ xs → told ≡ said → IsTurn view failures old xs said now → IsTurn view failures old ys told now

@@ -1,6 +1,7 @@
 pub mod Batch
 pub mod Batches
 pub mod Calls
+pub mod Cleaning
 pub mod FileStore
 pub mod Late
 pub mod LeafFor
@@ -13,3 +14,4 @@ pub mod SoundTree
 pub mod State
 pub mod Steps
 pub mod Tasks
+pub mod Turns

@@ -607,7 +607,7 @@ const REFILLED_LOG: &[&[u8]] = &[
     LONG_A_LEAF,
 ];
 
-const REFILLED_STORE: &str = "head 1, tail 822, number 20; root 0, height 1\n\
+pub(crate) const REFILLED_STORE: &str = "head 1, tail 822, number 20; root 0, height 1\n\
     0 low= log=Upto0 leaf runs=0: a=0123456789abcdef\n\
     \x20a=0123456789abcdef; 1 pages, height 1, 1 pairs";
 

@@ -11,6 +11,8 @@ mod board_rows;
 #[cfg(test)]
 mod clean_rows;
 #[cfg(test)]
+mod cleaning_rows;
+#[cfg(test)]
 mod crash_rows;
 #[cfg(test)]
 mod crash_run;

@@ -1,14 +1,10 @@
 //! How large a log is to be: the settings for a number of pairs, and that pairs which are put again and again find room in their log.
 use crate::crews::ALONE;
-use crate::store::Store;
 use crate::tests::{S, new_store};
 use crew::NoGate;
-use flush_log::Disk;
 use keys::{Command, Fault, Field, Key, Settings, Value};
 use std::alloc::{AllocError, Global};
-use std::process::Abort;
 use std::test::Fail;
-use std::thread::Threads;
 
 // A million pairs of 16 and 100 bytes: 121 bytes each, and 60 for each of 31,251 leaves, seven times, in segments of 1 MiB.
 #[test]
@@ -46,17 +42,6 @@ fn puts(alloc: Global) -> Result<Vec<Command<Global>>, AllocError> {
     Ok(batch)
 }
 
-// Flushes a store, and cleans a log that is full, once for each segment at the most.
-fn flush<D: Disk>(rt: &(impl Threads + Sync), store: &mut Store<D>) -> Result<u64, Fault> {
-    for _ in 0..store.settings().segments {
-        match store.flush(rt, ALONE) {
-            Err(Fault::Full) => store.clean(rt, ALONE)?,
-            done => return done,
-        };
-    }
-    store.flush(rt, ALONE)
-}
-
 // Each leaf has as many runs as there may be, with all its pairs, and the log is written over some three times.
 #[test]
 fn pairs_that_are_put_again_find_room(rt: HostRuntime) -> Result<(), Fail> {
@@ -66,8 +51,8 @@ fn pairs_that_are_put_again_find_room(rt: HostRuntime) -> Result<(), Fail> {
     let batch = puts(alloc)?;
     for _ in 0..60 {
         store.batch(&rt, ALONE, &NoGate, &batch)?;
-        flush(&rt, &mut store)?;
+        store.flush_cleaning(&rt, ALONE)?;
     }
-    assert!(rt; store.head_tail_and_sequence().0 > 12);
+    assert!(rt; store.head() > 12);
     Ok(())
 }

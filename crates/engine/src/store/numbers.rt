@@ -1,6 +1,7 @@
-//! Numbers to run a store by: how full its log is, and whether a flush is due.
-ghost use Rattle.std.specs.Prelude.{◌≡◌, ◌≢◌, ◌↔◌, ◌+◌, ◌≤◌, [], None, IsTrue};
+//! Numbers to run a store by: how full its log is, whether a flush is due, and how many pairs there are.
+ghost use Rattle.std.specs.Prelude.{◌≡◌, ◌≢◌, ◌↔◌, ◌+◌, ◌^◌, ◌<◌, ◌≤◌, [], length, None, IsTrue};
 ghost use Rattle.keys.specs.Limits.{first_bad_field};
+ghost use Rattle.mapping.specs.Levels.{contents};
 ghost use Rattle.flush_log.specs.Ends.{AreEnds};
 ghost use Rattle.flush_log.specs.FlushText.{flush_text};
 ghost use Rattle.flush_log.specs.Segments.{last_segment};
@@ -11,6 +12,20 @@ use flush_log::segments::last_segment;
 use flush_log::slot::LogEnds;
 use flush_log::text::is_all_written;
 use keys::Settings;
+use scan::Rows;
+
+// How many rows are left.
+fn count(rows: Rows<'_>) -> u64
+    requires { length rows < 2 ^ 32 }
+    ensures { result ≡ length rows.entry }
+{
+    let mut count = 0;
+    for row in rows {
+        let _seen = row;
+        count += 1;
+    }
+    count
+}
 
 // How many segments of a log with these ends are in use.
 fn in_use(settings: &Settings, log: LogEnds) -> u64
@@ -79,5 +94,14 @@ impl<D: Disk> Store<D> {
         ensures { IsTrue result ↔ (flush_text self.now.store.version self.now.store.tree ≢ []) }
     {
         !is_all_written(&self.tree)
+    }
+
+    /// How many pairs there are; 4,294,967,295 where there are more. It takes no memory, and walks over all pairs, as `range` without
+    /// bounds does.
+    pub fn pairs(&self) -> u64
+        ensures exact { length (contents self.now.store.tree) < 2 ^ 32 → result ≡ length (contents self.now.store.tree) }
+        ensures least { result ≤ length (contents self.now.store.tree) }
+    {
+        count(Rows::new(self.alloc, &self.tree, b"", None, u32::MAX))
     }
 }

@@ -20,8 +20,8 @@ use std::alloc::Global;
 use std::thread::Threads;
 
 impl<D: Disk> Store<D> {
-    // Does a step.
-    fn step(
+    // Does a step. It serves a play, and a flush that cleans.
+    pub(super) fn step(
         &mut self,
         rt: &(impl Threads + Sync),
         crew: Crew,

@@ -2,7 +2,7 @@ use Rattle.std.proofs.Common.{◌≡◌, false, true, length, map, take}
 use Rattle.std.specs.Prelude.{vec_len, vec_capacity}
 use Rattle.engine.specs.Plays.{step_of}
 use Rattle.engine.specs.Refusal.{is_crew}
-use Rattle.engine.proofs.PlayTurn.{IsTurn}
+use Rattle.engine.specs.Turns.{IsTurn}
 use Rattle.engine.proofs.store.Store.play.Given as goal
 
 -- the steps so far are done, none by a crew out of range, and there is room for the answers of the rest
