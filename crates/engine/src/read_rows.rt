@@ -1,10 +1,11 @@
-//! Keys that are looked up one by one.
+//! Keys that are looked up one by one, and rows that begin with a prefix.
 use crate::crews::ALONE;
 use crate::store::Store;
-use crate::tests::{S, commands, new_store};
+use crate::tests::{S, commands, new_store, write_rows};
 use crew::NoGate;
 use flush_log::MemDisk;
 use keys::Fault;
+use scan::Rows;
 use std::alloc::Global;
 use std::test::Fail;
 use std::thread::Threads;
@@ -92,4 +93,37 @@ fn keys_are_looked_up_one_by_one(rt: HostRuntime) -> Result<(), Fail> {
     assert!(rt; empty.get(b"").is_none());
     assert!(rt; are_absent(&empty));
     Ok(())
+}
+
+// The rows whose keys begin with the letter, by a range whose bounds are gone when the rows are read.
+fn rows_at<'a>(store: &'a Store<MemDisk<Global>>, letter: u8) -> Result<Rows<'a>, Fault> {
+    let lo = [letter];
+    let hi = [letter + 1];
+    store.range(&lo, Some(&hi), 100)
+}
+
+fn write_reads(rt: &(impl Threads + Sync), alloc: Global, text: &mut String) -> Result<(), Fault> {
+    let store = store_of(rt, alloc, &BATCHES)?;
+    for letter in [b'a', b'c', b'f'] {
+        let rows = rows_at(&store, letter)?;
+        write_rows(text, rows)?;
+    }
+    let prefixes: [&[u8]; 7] = [b"b", b"bb", b"c", b"e", b"fa", b"fab", b"g"];
+    for prefix in prefixes {
+        write_rows(text, store.prefix(prefix))?;
+    }
+    write_rows(text, store.prefix(b""))?;
+    let empty = new_store(alloc, S)?;
+    write_rows(text, empty.prefix(b""))?;
+    write_rows(text, empty.prefix(b"a"))?;
+    Ok(())
+}
+
+#[test]
+fn rows_begin_with_a_prefix(rt: HostRuntime) {
+    let mut text = String::new(rt.alloc());
+    let written = write_reads(&rt, rt.alloc(), &mut text);
+    let expected = " a=1 aa=2 ab=3;; f=8 fa=3; b=4 ba=5 bb=6 bba=7; bb=6 bba=7;; e=6 ea=2; fa=3;;;\
+        \x20a=1 aa=2 ab=3 b=4 ba=5 bb=6 bba=7 e=6 ea=2 f=8 fa=3;;;";
+    assert!(rt; written.is_ok() && text.as_str() == expected, "{text}");
 }

@@ -31,7 +31,7 @@ module _ (key : List ℕ) where
   mapped true at xs = refl
   mapped false at xs = refl
 
-  kept-cons : (b : Bool) (e : List ℕ × ℕ) (es : Names) → meets key None (place_of e (next_key es None)) ≡ b → children_within key None (e ∷ es) ≡ cond b (e ∷ children_within key None es) (children_within key None es)
+  pub kept-cons : (b : Bool) (e : List ℕ × ℕ) (es : Names) → meets key None (place_of e (next_key es None)) ≡ b → children_within key None (e ∷ es) ≡ cond b (e ∷ children_within key None es) (children_within key None es)
   kept-cons b e es h =
       ap (λ (x : List Place). map {B = List ℕ × ℕ} (λ (p : Place). (p.low, p.pid)) (filter (meets key None) x)) (children-cons e es None)
       ∙ ap (λ (c : Bool). map {B = List ℕ × ℕ} (λ (p : Place). (p.low, p.pid)) (cond c (place_of e (next_key es None) ∷ filter (meets key None) (children es None)) (filter (meets key None) (children es None)))) h
@@ -40,14 +40,14 @@ module _ (key : List ℕ) where
   meets_behind : (e : List ℕ × ℕ) (end : Option (List ℕ)) → is_below key e.0 ≡ true → meets key None (place_of e end) ≡ true
   meets_behind e end h = rw (not_within_below e.0 end key h, h) refl
 
-  meets_at : (e : List ℕ × ℕ) (end : Option (List ℕ)) → is_within e.0 end key ≡ true → meets key None (place_of e end) ≡ true
+  pub meets_at : (e : List ℕ × ℕ) (end : Option (List ℕ)) → is_within e.0 end key ≡ true → meets key None (place_of e end) ≡ true
   meets_at e end h = rw h refl
 
-  meets_not : (e : List ℕ × ℕ) (end : Option (List ℕ)) → is_below key e.0 ≡ false → is_within e.0 end key ≡ false → meets key None (place_of e end) ≡ false
+  pub meets_not : (e : List ℕ × ℕ) (end : Option (List ℕ)) → is_below key e.0 ≡ false → is_within e.0 end key ≡ false → meets key None (place_of e end) ≡ false
   meets_not e end h w = rw (w, h) refl
 
   -- all are kept where all are above the key
-  kept-all : (es : Names) → IsBelowAll key (keys_of es) → children_within key None es ≡ es
+  pub kept-all : (es : Names) → IsBelowAll key (keys_of es) → children_within key None es ≡ es
   kept-all [] a = refl
   kept-all (e ∷ es) a =
       kept-cons true e es (meets_behind e (next_key es None) (less_is_below key e.0 a.0)) ∙ ap (λ (x : Names). e ∷ x) (kept-all es a.1)

@@ -1,3 +1,4 @@
+mod ChildPlaces
 mod Counting
 mod CutLemmas
 mod EndLemmas
@@ -9,6 +10,7 @@ mod MergeSteps
 pub mod Parts
 mod PassingLemmas
 mod PathLemmas
+mod PrefixLemmas
 mod RowLemmas
 mod TakenLemmas
 mod TreeLemmas

@@ -25,7 +25,7 @@ use Rattle.scan.specs.Merge.{StartsFrom}
 use Rattle.scan.proofs.LeafLemmas.{behind-all, from-all, behind-skips, itself}
 use Rattle.scan.proofs.PassingLemmas.{said_by-rises, behind-said_by}
 
-none_below_empty : (j : List ℕ) → is_lt (order j []) ≡ false
+pub none_below_empty : (j : List ℕ) → is_lt (order j []) ≡ false
 none_below_empty [] = refl
 none_below_empty (x ∷ xs) = refl
 

@@ -1,7 +1,7 @@
 -- Lemmas on the rows that a scan gives.
-use Rattle.std.specs.Prelude.{◌≡◌, ℕ, zero, suc, ◌-◌, ◌<◌, pred, Bool, true, false, not, cond, ◌&&◌, List, [], ◌∷◌, ◌++◌, take, Option, Some, None}
+use Rattle.std.specs.Prelude.{◌≡◌, ℕ, zero, suc, ◌-◌, ◌<◌, pred, Bool, true, false, not, cond, ◌&&◌, List, [], ◌∷◌, ◌++◌, take, length, slice_get, Option, Some, None, MatchOption}
 use Rattle.std.proofs.Common.{refl, sym, ap, ◌∙◌, subst, arith, Less}
-use Rattle.std.specs.List.{take_while}
+use Rattle.std.specs.List.{AllByRecursion, take_while}
 use Rattle.std.specs.List.Sorted.{IsStrictlySortedBy}
 use Rattle.std.specs.Map.{keys_of}
 use Rattle.std.proofs.lemmas.List.Sums.{take_while-cons}
@@ -11,13 +11,18 @@ use Rattle.keys.proofs.Basics.{less_by, and_false}
 use Rattle.keys.proofs.MapLemmas.{total, IsBelowAll}
 use Rattle.delta_chain.specs.Layers.{Layers, entries_of}
 use Rattle.index_page.specs.Page.{Page}
+use Rattle.index_page.proofs.ListLemmas.{all-filter}
+use Rattle.index_page.proofs.RangeLemmas.{less_through, less_is_below}
 use Rattle.mapping.specs.Levels.{levels_of, contents}
 use Rattle.mapping.specs.Proper.{AreLevels, HoldsLevels}
 use Rattle.mapping.specs.TreeInMemory.{TreeInMemory, tree_of}
 use Rattle.scan.specs.Leaf.{from}
-use Rattle.scan.specs.Left.{pairs_left, rows_left}
+use Rattle.scan.specs.Left.{pairs_left, limited, rows_left, GoesOn}
 use Rattle.scan.specs.Path.{leaf_with, leaf_pages, pairs, leaves_from, IsKnown}
 use Rattle.scan.specs.Walk.{IsAt, walk_from}
+use Rattle.scan.specs.Prefix.{begins_with, with_prefix}
+use Rattle.scan.proofs.LeafLemmas.{itself, above_not_below}
+use Rattle.scan.proofs.PrefixLemmas.{prefix-run}
 use Rattle.scan.proofs.TreeLemmas.{root_is_known, contents-from, contents-rise}
 
 -- ---- a range of rising pairs, cut at its end
@@ -65,31 +70,55 @@ module _ {V : Type 0} (lo : List ℕ) (hi : Option (List ℕ)) where
 abbrev Pairs : Type 0
 Pairs = List (List ℕ × List ℕ)
 
-one_before : (limit : ℕ) (hi : Option (List ℕ)) (e : List ℕ × List ℕ) (es : Pairs) → 0 < limit → true ≡ is_before hi e.0 → rows_left limit hi (e ∷ es) ≡ e ∷ rows_left (limit - 1) hi es
-one_before zero hi e es n b = absurd (omega arith)
-one_before (suc limit) hi e es n b =
-    let one_less : limit ≡ suc limit - 1 = omega arith in
-    ap (λ (x : Pairs). take (suc limit) x) (take_while-cons (λ (f : List ℕ × List ℕ). is_before hi f.0) e es ∙ ap (λ (c : Bool). cond c (e ∷ take_while (λ f. is_before hi f.0) es) []) (sym b))
-    ∙ ap (λ (n : ℕ). e ∷ rows_left n hi es) one_less
+-- the rows up to the end go on after one that is before it
+going_on : (left later : Option ℕ) (test : List ℕ → Bool) (e : List ℕ × List ℕ) (es : Pairs) → ((x : Pairs) → limited left (e ∷ x) ≡ e ∷ limited later x) → true ≡ test e.0 → rows_left left test (e ∷ es) ≡ e ∷ rows_left later test es
+going_on left later test e es step b =
+    ap (λ (x : Pairs). limited left x) (take_while-cons (λ (f : List ℕ × List ℕ). test f.0) e es ∙ ap (λ (c : Bool). cond c (e ∷ take_while (λ f. test f.0) es) []) (sym b))
+    ∙ step (take_while (λ f. test f.0) es)
+
+-- with a limit there is one less to come, and without one there is none still
+pub one_less : (n : ℕ) (e : List ℕ × List ℕ) (es : Pairs) → 0 < n → limited (Some n) (e ∷ es) ≡ e ∷ limited (Some (n - 1)) es
+one_less zero e es h = absurd (omega arith)
+one_less (suc n) e es h = let less : n ≡ suc n - 1 = omega arith in ap (λ (i : ℕ). e ∷ take i es) less
 
 take_nothing : (n : ℕ) (es : Pairs) → es ≡ [] → take n es ≡ []
 take_nothing zero es h = refl
 take_nothing (suc n) [] h = refl
 take_nothing (suc n) (e ∷ es) h = absurd (cc)
 
+nothing_left : (left : Option ℕ) (es : Pairs) → es ≡ [] → limited left es ≡ []
+nothing_left None es h = h
+nothing_left (Some n) es h = take_nothing n es h
+
+take_none : (es : Pairs) → take 0 es ≡ []
+take_none [] = refl
+take_none (e ∷ es) = refl
+
+-- the rows go on where none are limited, or some are left
+pub goes_on_none : (left : Option ℕ) → left ≡ None → GoesOn left None
+goes_on_none left h = subst (λ (o : Option ℕ). GoesOn o None) (sym h) (λ e es. refl)
+
+pub goes_on_some : (left : Option ℕ) (n : ℕ) → left ≡ Some n → 0 < n → GoesOn left (Some (n - 1))
+goes_on_some left n h l = subst (λ (o : Option ℕ). GoesOn o (Some (n - 1))) (sym h) (λ e es. one_less n e es l)
+
 -- one row, and those behind it
-pub row_given : (limit : ℕ) (hi : Option (List ℕ)) (k v w : List ℕ) (all es : Pairs) → 0 < limit → all ≡ (k, v) ∷ es → w ≡ v → true ≡ is_before hi k → rows_left limit hi all ≡ (k, w) ∷ rows_left (limit - 1) hi es
-row_given limit hi k v w all es n h same b = ap (λ (x : Pairs). rows_left limit hi x) h ∙ rw same (one_before limit hi (k, v) es n b)
+pub row_given : (left later : Option ℕ) (test : List ℕ → Bool) (k v w : List ℕ) (all es : Pairs) → GoesOn left later → all ≡ (k, v) ∷ es → w ≡ v → true ≡ test k
+    → rows_left left test all ≡ (k, w) ∷ rows_left later test es
+row_given left later test k v w all es step h same b = ap (λ (x : Pairs). rows_left left test x) h ∙ rw same (going_on left later test (k, v) es (λ x. step (k, v) x) b)
+
+-- so fewer are left
+pub fewer_left : (e : List ℕ × List ℕ) (all later : Pairs) → all ≡ e ∷ later → length later < length all
+fewer_left e all later h = omega (arith, ap (λ (x : Pairs). length x) h)
 
 -- none, where the next pair isn't before the end
-pub end_reached : (limit : ℕ) (hi : Option (List ℕ)) (e : List ℕ × List ℕ) (all es : Pairs) → all ≡ e ∷ es → false ≡ is_before hi e.0 → rows_left limit hi all ≡ []
-end_reached limit hi e all es h b =
-    ap (λ (x : Pairs). rows_left limit hi x) h
-    ∙ take_nothing limit (take_while (λ f. is_before hi f.0) (e ∷ es)) (take_while-cons (λ (f : List ℕ × List ℕ). is_before hi f.0) e es ∙ ap (λ (c : Bool). cond c (e ∷ take_while (λ f. is_before hi f.0) es) []) (sym b))
+pub end_reached : (left : Option ℕ) (test : List ℕ → Bool) (e : List ℕ × List ℕ) (all es : Pairs) → all ≡ e ∷ es → false ≡ test e.0 → rows_left left test all ≡ []
+end_reached left test e all es h b =
+    ap (λ (x : Pairs). rows_left left test x) h
+    ∙ nothing_left left (take_while (λ f. test f.0) (e ∷ es)) (take_while-cons (λ (f : List ℕ × List ℕ). test f.0) e es ∙ ap (λ (c : Bool). cond c (e ∷ take_while (λ f. test f.0) es) []) (sym b))
 
 -- or there is none
-pub none_left : (limit : ℕ) (hi : Option (List ℕ)) (all : Pairs) → all ≡ [] → rows_left limit hi all ≡ []
-none_left limit hi all h = ap (λ (x : Pairs). rows_left limit hi x) h ∙ take_nothing limit [] refl
+pub none_left : (left : Option ℕ) (test : List ℕ → Bool) (all : Pairs) → all ≡ [] → rows_left left test all ≡ []
+none_left left test all h = ap (λ (x : Pairs). rows_left left test x) h ∙ nothing_left left [] refl
 
 -- ---- from leaf to leaf
 
@@ -105,6 +134,75 @@ next_leaf_left leaf leaves others low next new whole e l n h =
     ∙ sym (ap (λ (x : Pairs). x ++ pairs leaves) e ∙ ap (λ (x : List (Page (List ℕ))). pairs x) l)
     ∙ h
 
+-- ---- ends
+
+same_while : (test other : List ℕ → Bool) (es : Pairs) → AllByRecursion (λ (e : List ℕ × List ℕ). test e.0 ≡ other e.0) es → take_while (λ (e : List ℕ × List ℕ). test e.0) es ≡ take_while (λ (e : List ℕ × List ℕ). other e.0) es
+same_while test other [] a = refl
+same_while test other (e ∷ es) a =
+    take_while-cons (λ (f : List ℕ × List ℕ). test f.0) e es
+    ∙ ap (λ (b : Bool). cond b (e ∷ take_while (λ (f : List ℕ × List ℕ). test f.0) es) []) a.0
+    ∙ ap (λ (x : Pairs). cond (other e.0) (e ∷ x) []) (same_while test other es a.1)
+    ∙ sym (take_while-cons (λ (f : List ℕ × List ℕ). other f.0) e es)
+
+all_open : (es : Pairs) → AllByRecursion (λ (e : List ℕ × List ℕ). true ≡ is_before None e.0) es
+all_open [] = tt
+all_open (e ∷ es) = (refl, all_open es)
+
+-- where none stands from a key on, all are below it
+none_from_by : (b : Bool) (hi : List ℕ) (e : List ℕ × List ℕ) (es : Pairs) → is_below e.0 hi ≡ b → None ≡ slice_get (cond (not b) (e ∷ from hi es) (from hi es)) 0
+    → (None ≡ slice_get (from hi es) 0 → AllByRecursion (λ (f : List ℕ × List ℕ). true ≡ is_below f.0 hi) es) → AllByRecursion (λ (f : List ℕ × List ℕ). true ≡ is_below f.0 hi) (e ∷ es)
+none_from_by true hi e es b h ih = (sym b, ih h)
+none_from_by false hi e es b h ih = absurd (cc)
+
+all_below_end : (hi : List ℕ) (es : Pairs) → None ≡ slice_get (from hi es) 0 → AllByRecursion (λ (e : List ℕ × List ℕ). true ≡ is_below e.0 hi) es
+all_below_end hi [] h = tt
+all_below_end hi (e ∷ es) h = none_from_by (is_below e.0 hi) hi e es refl h (λ g. all_below_end hi es g)
+
+-- what stands after a key that isn't below hi isn't below hi either
+neither_below : (hi k : List ℕ) (es : Pairs) → is_below k hi ≡ false → IsBelowAll k (keys_of es) → AllByRecursion (λ (e : List ℕ × List ℕ). is_below e.0 k ≡ is_below e.0 hi) es
+neither_below hi k [] n a = tt
+neither_below hi k (e ∷ es) n a = (above_not_below k e.0 a.0 ∙ sym (behind_by (is_below e.0 hi) k e.0 hi refl n a.0), neither_below hi k es n a.1)
+
+first_from_by : (b : Bool) (hi k v : List ℕ) (e : List ℕ × List ℕ) (es : Pairs) → is_below e.0 hi ≡ b → Some (k, v) ≡ slice_get (cond (not b) (e ∷ from hi es) (from hi es)) 0
+    → (Some (k, v) ≡ slice_get (from hi es) 0 → is_below k hi ≡ false) → is_below k hi ≡ false
+first_from_by true hi k v e es b h ih = ih h
+first_from_by false hi k v e es b h ih =
+    let same : e ≡ (k, v) = cc in
+    subst (λ (j : List ℕ). is_below j hi ≡ false) (ap (λ (f : List ℕ × List ℕ). f.0) same) b
+
+first_is_from : (hi k v : List ℕ) (es : Pairs) → Some (k, v) ≡ slice_get (from hi es) 0 → is_below k hi ≡ false
+first_is_from hi k v [] h = absurd (cc)
+first_is_from hi k v (e ∷ es) h = first_from_by (is_below e.0 hi) hi k v e es refl h (λ g. first_is_from hi k v es g)
+
+same_end_by : (b : Bool) (hi k v : List ℕ) (e : List ℕ × List ℕ) (es : Pairs) → is_below e.0 hi ≡ b → IsRising (e ∷ es) → Some (k, v) ≡ slice_get (cond (not b) (e ∷ from hi es) (from hi es)) 0
+    → (Some (k, v) ≡ slice_get (from hi es) 0 → AllByRecursion (λ (f : List ℕ × List ℕ). is_below f.0 k ≡ is_below f.0 hi) es) → AllByRecursion (λ (f : List ℕ × List ℕ). is_below f.0 k ≡ is_below f.0 hi) (e ∷ es)
+unfolding IsStrictlySortedBy
+same_end_by true hi k v e es b r h ih =
+    let below : is_below e.0 k ≡ true = less_is_below e.0 k (less_through e.0 k hi b (first_is_from hi k v es h)) in
+    (below ∙ sym b, ih h)
+same_end_by false hi k v e es b r h ih =
+    let same : e ≡ (k, v) = cc in
+    let key : e.0 ≡ k = ap (λ (f : List ℕ × List ℕ). f.0) same in
+    let here : is_below e.0 k ≡ false = ap (λ (j : List ℕ). is_below e.0 j) (sym key) ∙ itself e.0 in
+    (here ∙ sym b, subst (λ (j : List ℕ). AllByRecursion (λ (f : List ℕ × List ℕ). is_below f.0 j ≡ is_below f.0 hi) es) key (neither_below hi e.0 es b r.0))
+
+same_end : (hi k v : List ℕ) (es : Pairs) → IsRising es → Some (k, v) ≡ slice_get (from hi es) 0 → AllByRecursion (λ (e : List ℕ × List ℕ). is_below e.0 k ≡ is_below e.0 hi) es
+unfolding IsStrictlySortedBy
+same_end hi k v [] r h = tt
+same_end hi k v (e ∷ es) r h = same_end_by (is_below e.0 hi) hi k v e es refl r h (λ g. same_end hi k v es r.1 g)
+
+-- rows that begin with a prefix stop where one doesn't
+stops : (prefix k v : List ℕ) (es : Pairs) → Some (k, v) ≡ slice_get es 0 → begins_with prefix k ≡ false → take_while (λ (e : List ℕ × List ℕ). begins_with prefix e.0) es ≡ []
+stops prefix k v [] h b = absurd (cc)
+stops prefix k v (e ∷ es) h b =
+    let same : e ≡ (k, v) = cc in
+    let key : e.0 ≡ k = ap (λ (f : List ℕ × List ℕ). f.0) same in
+    take_while-cons (λ (f : List ℕ × List ℕ). begins_with prefix f.0) e es ∙ ap (λ (c : Bool). cond c (e ∷ take_while (λ (f : List ℕ × List ℕ). begins_with prefix f.0) es) []) (ap (λ (j : List ℕ). begins_with prefix j) key ∙ b)
+
+stops_at_none : (prefix : List ℕ) (es : Pairs) → None ≡ slice_get es 0 → take_while (λ (e : List ℕ × List ℕ). begins_with prefix e.0) es ≡ []
+stops_at_none prefix [] h = refl
+stops_at_none prefix (e ∷ es) h = absurd (cc)
+
 -- ---- the start
 
 module _ (t : TreeInMemory) (held : HoldsLevels (tree_of t).pages (levels_of (tree_of t))) (levels : AreLevels (levels_of (tree_of t))) where
@@ -114,10 +212,52 @@ module _ (t : TreeInMemory) (held : HoldsLevels (tree_of t).pages (levels_of (tr
   pub root_is_there : IsAt t 0 t.root
   root_is_there = record { within = omega arith; known = subst (λ (n : ℕ). IsKnown (tree_of t).pages n t.root) (sym at_top) (root_is_known (tree_of t) held levels) }
 
-  -- what is left when the scan begins are the rows
-  pub rows_at_start : (lo : List ℕ) (hi : Option (List ℕ)) (limit : ℕ) (low : List ℕ) (first : Layers (List ℕ)) (leaves : List (Page (List ℕ))) (leaf : Pairs) → walk_from t 0 lo t.root ≡ leaf_with low first ∷ leaves → leaf ≡ from lo (entries_of first)
-      → rows_left limit hi (pairs_left leaf leaves) ≡ rows lo hi limit (contents (tree_of t))
-  rows_at_start lo hi limit low first leaves leaf w e =
-      ap (λ (x : Pairs). rows_left limit hi (x ++ pairs leaves)) e
-      ∙ ap (λ (x : Pairs). rows_left limit hi x) (sym (contents-from (tree_of t) held levels lo (leaf_with low first) leaves (sym (ap (λ (n : ℕ). leaf_pages (tree_of t).pages (leaves_from (tree_of t).pages n lo t.root)) at_top) ∙ w)))
-      ∙ ap (λ (x : Pairs). take limit x) (cut-range lo hi (contents (tree_of t)) (contents-rise (tree_of t) held levels))
+  -- what is left where a walk begins are the pairs from its key on
+  pub pairs_at_start : (lo low : List ℕ) (first : Layers (List ℕ)) (leaves : List (Page (List ℕ))) (leaf : Pairs) → walk_from t 0 lo t.root ≡ leaf_with low first ∷ leaves → leaf ≡ from lo (entries_of first)
+      → pairs_left leaf leaves ≡ from lo (contents (tree_of t))
+  pairs_at_start lo low first leaves leaf w e =
+      ap (λ (x : Pairs). x ++ pairs leaves) e
+      ∙ sym (contents-from (tree_of t) held levels lo (leaf_with low first) leaves (sym (ap (λ (n : ℕ). leaf_pages (tree_of t).pages (leaves_from (tree_of t).pages n lo t.root)) at_top) ∙ w))
+
+  -- of these the rows are left, where the end is as good as the upper bound
+  pub rows_at_start : (lo : List ℕ) (hi : Option (List ℕ)) (limit : ℕ) (test : List ℕ → Bool) (all : Pairs) → AllByRecursion (λ (e : List ℕ × List ℕ). test e.0 ≡ is_before hi e.0) (contents (tree_of t)) → all ≡ from lo (contents (tree_of t))
+      → rows_left (Some limit) test all ≡ rows lo hi limit (contents (tree_of t))
+  rows_at_start lo hi limit test all same h =
+      ap (λ (x : Pairs). rows_left (Some limit) test x) h
+      ∙ ap (λ (x : Pairs). take limit x)
+      (same_while test (is_before hi) (from lo (contents (tree_of t))) (all-filter (λ (e : List ℕ × List ℕ). test e.0 ≡ is_before hi e.0) (λ (e : List ℕ × List ℕ). not (is_below e.0 lo)) (contents (tree_of t)) same) ∙ cut-range lo hi (contents (tree_of t)) (contents-rise (tree_of t) held levels))
+
+  -- or those that begin with the prefix
+  pub beginning_at_start : (prefix own : List ℕ) (all : Pairs) → own ≡ prefix → all ≡ from prefix (contents (tree_of t)) → rows_left None (begins_with own) all ≡ with_prefix prefix (contents (tree_of t))
+  beginning_at_start prefix own all same h =
+      ap (λ (x : Pairs). rows_left None (begins_with own) x) h ∙ ap (λ (p : List ℕ). rows_left None (begins_with p) (from prefix (contents (tree_of t)))) same
+      ∙ prefix-run prefix (contents (tree_of t)) (contents-rise (tree_of t) held levels)
+
+  -- the first key from a bound on is as good an upper bound
+  pub end_by_first : (o : Option (List ℕ)) (hi k v : List ℕ) → o ≡ Some hi → Some (k, v) ≡ slice_get (from hi (contents (tree_of t))) 0 → AllByRecursion (λ (e : List ℕ × List ℕ). is_below e.0 k ≡ is_before o e.0) (contents (tree_of t))
+  end_by_first o hi k v s h =
+      subst (λ (x : Option (List ℕ)). AllByRecursion (λ (e : List ℕ × List ℕ). is_below e.0 k ≡ is_before x e.0) (contents (tree_of t))) (sym s) (same_end hi k v (contents (tree_of t)) (contents-rise (tree_of t) held levels) h)
+
+  -- where there is none, no bound is as good, nor where none is given
+  pub end_by_none : (o : Option (List ℕ)) (hi : List ℕ) → o ≡ Some hi → None ≡ slice_get (from hi (contents (tree_of t))) 0 → AllByRecursion (λ (e : List ℕ × List ℕ). true ≡ is_before o e.0) (contents (tree_of t))
+  end_by_none o hi s h = subst (λ (x : Option (List ℕ)). AllByRecursion (λ (e : List ℕ × List ℕ). true ≡ is_before x e.0) (contents (tree_of t))) (sym s) (all_below_end hi (contents (tree_of t)) h)
+
+  pub no_end : (o : Option (List ℕ)) → o ≡ None → AllByRecursion (λ (e : List ℕ × List ℕ). true ≡ is_before o e.0) (contents (tree_of t))
+  no_end o s = subst (λ (x : Option (List ℕ)). AllByRecursion (λ (e : List ℕ × List ℕ). true ≡ is_before x e.0) (contents (tree_of t))) (sym s) (all_open (contents (tree_of t)))
+
+  -- no key begins with the prefix where the first one from it on doesn't, or there is none
+  pub no_beginning : (prefix k v : List ℕ) → Some (k, v) ≡ slice_get (from prefix (contents (tree_of t))) 0 → begins_with prefix k ≡ false → with_prefix prefix (contents (tree_of t)) ≡ []
+  no_beginning prefix k v h b = sym (prefix-run prefix (contents (tree_of t)) (contents-rise (tree_of t) held levels)) ∙ stops prefix k v (from prefix (contents (tree_of t))) h b
+
+  pub nothing_from : (prefix : List ℕ) → None ≡ slice_get (from prefix (contents (tree_of t))) 0 → with_prefix prefix (contents (tree_of t)) ≡ []
+  nothing_from prefix h = sym (prefix-run prefix (contents (tree_of t)) (contents-rise (tree_of t) held levels)) ∙ stops_at_none prefix (from prefix (contents (tree_of t))) h
+
+  -- so the first key decides
+  pub decided_by_first : {X : Type 0} (r : Option X) (read : X → List ℕ) (prefix k v : List ℕ) → Some (k, v) ≡ slice_get (from prefix (contents (tree_of t))) 0 → MatchOption r (begins_with prefix k ≡ false) (λ x. read x ≡ prefix)
+      → MatchOption r (with_prefix prefix (contents (tree_of t)) ≡ []) (λ x. read x ≡ prefix)
+  decided_by_first None read prefix k v h m = no_beginning prefix k v h m
+  decided_by_first (Some x) read prefix k v h m = m
+
+  -- and where none begins so there are no rows
+  pub none_at_start : (prefix : List ℕ) (test : List ℕ → Bool) (all : Pairs) → with_prefix prefix (contents (tree_of t)) ≡ [] → rows_left (Some 0) test all ≡ with_prefix prefix (contents (tree_of t))
+  none_at_start prefix test all h = take_none (take_while (λ (e : List ℕ × List ℕ). test e.0) all) ∙ sym h

@@ -4,6 +4,7 @@ pub mod Leaf
 pub mod Left
 pub mod Merge
 pub mod Path
+pub mod Prefix
 pub mod Taken
 pub mod Tally
 pub mod Walk

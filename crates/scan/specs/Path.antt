@@ -1,5 +1,5 @@
 -- The way along a tree's leaves: a path of index pages, each with its children that are still to come.
-use Rattle.std.specs.Prelude.{◌≡◌, ℕ, zero, suc, ◌<◌, ⊤, List, [], ◌∷◌, ◌++◌, map, flat_map, length, Option, Some, None}
+use Rattle.std.specs.Prelude.{◌≡◌, ℕ, zero, suc, ◌<◌, ⊤, List, [], ◌∷◌, ◌++◌, map, flat_map, length, drop, Option, Some, None}
 use Rattle.std.specs.List.{AllByRecursion}
 use Rattle.std.specs.Map.{values_of}
 use Rattle.keys.specs.Bytes.{Bytes, Pairs, Names}
@@ -11,10 +11,10 @@ use Rattle.index_page.specs.Children.{children_within}
 use Rattle.mapping.specs.Tree.{page_at}
 use Rattle.mapping.specs.Levels.{joined, as_leaf, as_index, index_at}
 
--- the pids of children that are left, where there is such a list
-abbrev pub pids_left : Option Names → List ℕ
+-- the pids of a page's children from a place on, where there is such a page
+abbrev pub pids_left : Option (Names × ℕ) → List ℕ
 pids_left None = []
-pids_left (Some es) = values_of es
+pids_left (Some c) = values_of (drop c.1 c.0)
 
 -- the entries of the index page under a pid
 abbrev pub entries_at : List (ℕ × PageOfKind) → ℕ → Names

@@ -19,18 +19,17 @@ pub(crate) type Leaf<'a> = (&'a [u8], &'a LateChain<Value<Global>, Global>);
 
 // The index pages on the way to a leaf, from the root down, each with its children behind that way. A tree has at most 64
 // levels, so it needs no memory.
-type Path<'k> = SmallVec<PathStep<'k>, 64>;
+type Path<'a> = SmallVec<PathStep<'a>, 64>;
 
 /// The leaves of a tree behind one that was come to, from left to right. From one to the next it goes up only as far as
-/// there are no more children, and takes no memory. Contracts see it as these pages. The
-/// key that it began at needn't live as long as the tree.
+/// there are no more children, and takes no memory. Contracts see it as these pages.
 #[derive(Drop)]
-pub(crate) struct Leaves<'a, 'k> {
+pub(crate) struct Leaves<'a> {
     tree: &'a Tree<Global>,
-    path: Path<'k>,
+    path: Path<'a>,
 }
 
-impl<'a, 'k> Model for Leaves<'a, 'k> {
+impl<'a> Model for Leaves<'a> {
     ghost use Rattle.std.specs.Prelude.{List};
     ghost use Rattle.keys.specs.Bytes.{Bytes};
     ghost use Rattle.index_page.specs.Page.{Page};
@@ -43,9 +42,9 @@ impl<'a, 'k> Model for Leaves<'a, 'k> {
     ghost invariant = { λ l. IsWalk l.tree.now l.path };
 }
 
-impl<'a: 'k, 'k> Leaves<'a, 'k> {
+impl<'a> Leaves<'a> {
     // The leaf for the key, and those behind it.
-    pub(crate) fn new(alloc: Global, tree: &'a Tree<Global>, key: &'k [u8]) -> (Leaf<'a>, Self)
+    pub(crate) fn new(alloc: Global, tree: &'a Tree<Global>, key: &[u8]) -> (Leaf<'a>, Self)
         requires home { AreAllHome tree.now }
         requires height { tree.now.height ≤ most_levels }
         requires known { IsAt tree.now 0 tree.now.root }
@@ -58,7 +57,7 @@ impl<'a: 'k, 'k> Leaves<'a, 'k> {
     }
 }
 
-impl<'a: 'k, 'k> Iterator for Leaves<'a, 'k> {
+impl<'a> Iterator for Leaves<'a> {
     type Item = Leaf<'a>;
 
     ghost next_gives = { YieldsFirstBy (λ item. leaf_with item.0.now (seen item.1.now)) (λ left. left) };
@@ -71,12 +70,7 @@ impl<'a: 'k, 'k> Iterator for Leaves<'a, 'k> {
 }
 
 // Goes down from this page to the leaf for the key, the children behind the way onto the path.
-fn descend<'a: 'k, 'k>(
-    tree: &'a Tree<Global>,
-    path: &mut Path<'k>,
-    from: Pid,
-    key: &'k [u8],
-) -> Leaf<'a>
+fn descend<'a>(tree: &'a Tree<Global>, path: &mut Path<'a>, from: Pid, key: &[u8]) -> Leaf<'a>
     requires walk { IsWalk tree.now path.old }
     requires known { IsAt tree.now (length path.old.items) from }
     ensures walk { IsWalk tree.now path.new }
@@ -92,7 +86,10 @@ fn descend<'a: 'k, 'k>(
         if let Some(chain) = page.as_leaf() {
             return (page.low(), chain);
         }
-        let mut step = PathStep::new(page.children(key, None));
+        let Some(list) = page.child_list() else {
+            unreachable!()
+        };
+        let mut step = PathStep::new(list, key);
         let Some(child) = step.next() else {
             unreachable!()
         };
@@ -102,7 +99,7 @@ fn descend<'a: 'k, 'k>(
 }
 
 // The next leaf on the path, which leads to those behind it afterwards.
-fn next_leaf<'a: 'k, 'k>(tree: &'a Tree<Global>, path: &mut Path<'k>) -> Option<Leaf<'a>>
+fn next_leaf<'a>(tree: &'a Tree<Global>, path: &mut Path<'a>) -> Option<Leaf<'a>>
     requires { IsWalk tree.now path.old }
     ensures walk { IsWalk tree.now path.new }
     ensures leaves { MatchOption result ((walk_left tree.now path.old.items ≡ []) × (walk_left tree.now path.new.items ≡ []))

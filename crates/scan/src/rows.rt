@@ -1,49 +1,63 @@
-ghost use Rattle.std.specs.Prelude.{◌≡◌, ◌∷◌, [], ◌≤◌, MatchOption};
+ghost use Rattle.std.specs.Prelude.{◌≡◌, ◌∷◌, [], ◌≤◌, true, false, slice_get, Some, MatchOption};
 ghost use Rattle.std.specs.Iterator.{YieldsFirstBy, item_count};
-ghost use Rattle.std.specs.Option.{option_copied};
-ghost use Rattle.keys.specs.Range.{rows};
+ghost use Rattle.std.specs.List.{AllByRecursion};
+ghost use Rattle.std.specs.Option.{option_copied, option_map};
+ghost use Rattle.keys.specs.Bytes.{Bytes, Pairs};
+ghost use Rattle.keys.specs.Range.{is_before, rows};
 ghost use Rattle.mapping.specs.Levels.{levels_of, contents};
 ghost use Rattle.mapping.specs.Proper.{AreLevels, HoldsLevels};
 ghost use Rattle.mapping.specs.Tree.{most_levels};
 ghost use Rattle.mapping.specs.TreeInMemory.{AreAllHome, tree_of};
-ghost use Rattle.scan.specs.Left.{pairs_left};
+ghost use Rattle.scan.specs.Leaf.{from};
+ghost use Rattle.scan.specs.Left.{is_inside, pairs_left, rows_left, GoesOn};
+ghost use Rattle.scan.specs.Prefix.{begins_with, with_prefix};
 
 use crate::leaf::LeafPairs;
 use crate::leaves::Leaves;
-use keys::{Value, is_before};
+use keys::{Value, compare};
 use mapping::Tree;
 use std::alloc::Global;
 use std::marker::Model;
 
 /// The rows of a range of keys, in key order: of each the key and the value, lent out of the tree's pages. It takes no
-/// memory. Contracts see it as the list of the rows that are left.
+/// memory, and keeps none of the bounds that it was made of. Contracts see it as the list of the rows that are left.
 #[derive(Drop)]
 pub struct Rows<'a> {
     alloc: Global,
     leaf: LeafPairs<'a>,
-    leaves: Leaves<'a, 'a>,
-    hi: Option<&'a [u8]>,
-    left: u32,
+    leaves: Leaves<'a>,
+    end: End<'a>,
+    // How many rows there may still be, where that is limited.
+    left: Option<u32>,
+}
+
+// Where the rows end. The bytes are the tree's own.
+#[derive(Clone, Copy)]
+enum End<'a> {
+    Open,
+    // Before this key.
+    Before(&'a [u8]),
+    // Before the first key that doesn't begin with these bytes.
+    Beginning(&'a [u8]),
 }
 
 impl<'a> Model for Rows<'a> {
-    ghost use Rattle.std.specs.Option.{option_copied};
     ghost use Rattle.keys.specs.Bytes.{Bytes, Pairs};
-    ghost use Rattle.scan.specs.Left.{pairs_left, rows_left};
+    ghost use Rattle.scan.specs.Left.{is_inside, pairs_left, rows_left};
 
     ghost Value = { Pairs Bytes };
 
-    ghost view = { λ r. rows_left r.left (option_copied r.hi) (pairs_left r.leaf r.leaves) };
+    ghost view = { λ r. rows_left r.left (is_inside r.end) (pairs_left r.leaf r.leaves) };
 }
 
 impl<'a> Rows<'a> {
     /// The first `limit` pairs of the tree whose keys are `lo` or above, and below `hi` where it is given. The tree is a
-    /// proper one of at most 64 levels, of which no page is away.
+    /// proper one of at most 64 levels, of which no page is away. Where `hi` is given, it costs one way down more.
     pub fn new(
         alloc: Global,
         tree: &'a Tree<Global>,
-        lo: &'a [u8],
-        hi: Option<&'a [u8]>,
+        lo: &[u8],
+        hi: Option<&[u8]>,
         limit: u32,
     ) -> Self
         requires home { AreAllHome tree.now }
@@ -52,13 +66,33 @@ impl<'a> Rows<'a> {
         requires levels { AreLevels (levels_of (tree_of tree.now)) }
         ensures { result ≡ rows lo.now (option_copied hi.entry) limit (contents (tree_of tree.now)) }
     {
-        let (first, leaves) = Leaves::new(alloc, tree, lo);
+        let end = end_at(alloc, tree, hi);
+        let (leaf, leaves) = walk_from(alloc, tree, lo);
         Rows {
             alloc,
-            leaf: LeafPairs::new(alloc, first.1.whole(), lo),
+            leaf,
             leaves,
-            hi,
-            left: limit,
+            end,
+            left: Some(limit),
+        }
+    }
+
+    /// The pairs of the tree whose keys begin with these bytes. The tree is as for `new`. It costs two ways down.
+    pub fn with_prefix(alloc: Global, tree: &'a Tree<Global>, prefix: &[u8]) -> Self
+        requires home { AreAllHome tree.now }
+        requires height { tree.now.height ≤ most_levels }
+        requires held { HoldsLevels (tree_of tree.now).pages (levels_of (tree_of tree.now)) }
+        requires levels { AreLevels (levels_of (tree_of tree.now)) }
+        ensures { result ≡ with_prefix prefix.now (contents (tree_of tree.now)) }
+    {
+        let (end, left) = prefix_end(alloc, tree, prefix);
+        let (leaf, leaves) = walk_from(alloc, tree, prefix);
+        Rows {
+            alloc,
+            leaf,
+            leaves,
+            end,
+            left,
         }
     }
 }
@@ -71,27 +105,143 @@ impl<'a> Iterator for Rows<'a> {
     ghost remaining = { item_count (λ left. left) };
 
     fn next(&mut self) -> Option<(&'a [u8], &'a [u8])> {
-        if self.left == 0 {
+        let Some(later) = one_less(self.left) else {
             return None;
-        }
+        };
         match next_pair(self.alloc, &mut self.leaf, &mut self.leaves) {
-            Some((key, value)) if is_before(self.hi, key) => {
-                self.left -= 1;
+            Some((key, value)) if is_before_end(&self.end, key) => {
+                self.left = later;
                 Some((key, value.as_bytes()))
             }
             _ => {
-                self.left = 0;
+                self.left = Some(0);
                 None
             }
         }
     }
 }
 
+// The limit after one more row, or none where there may be no more rows.
+#[inline]
+#[tactic(auto, using(crate::proofs::RowLemmas::goes_on_none, crate::proofs::RowLemmas::goes_on_some))]
+fn one_less(left: Option<u32>) -> Option<Option<u32>>
+    ensures { MatchOption result (left ≡ Some 0) (λ later. GoesOn left later) }
+{
+    match left {
+        None => Some(None),
+        Some(count) => {
+            if count == 0 {
+                None
+            } else {
+                Some(Some(count - 1))
+            }
+        }
+    }
+}
+
+// Whether the key is before the end.
+#[inline]
+fn is_before_end(end: &End<'_>, key: &[u8]) -> bool
+    ensures { result ≡ is_inside end.now key.now }
+{
+    match end {
+        End::Open => true,
+        End::Before(end) => compare(key, end).is_lt(),
+        End::Beginning(prefix) => key.starts_with(prefix),
+    }
+}
+
+// The end of rows before this key. The tree's first key from there on stands for it, since it lives as long as the rows.
+fn end_at<'a>(alloc: Global, tree: &'a Tree<Global>, hi: Option<&[u8]>) -> End<'a>
+    requires home { AreAllHome tree.now }
+    requires height { tree.now.height ≤ most_levels }
+    requires held { HoldsLevels (tree_of tree.now).pages (levels_of (tree_of tree.now)) }
+    requires levels { AreLevels (levels_of (tree_of tree.now)) }
+    ensures { AllByRecursion (λ e. is_inside result e.0 ≡ is_before (option_copied hi.entry) e.0)
+        (contents (tree_of tree.now)) }
+{
+    match hi {
+        Some(hi) => match first_from(alloc, tree, hi) {
+            Some((key, _)) => End::Before(key),
+            None => End::Open,
+        },
+        None => End::Open,
+    }
+}
+
+// The end of the rows with this prefix, and their limit, which is 0 where no key begins with it.
+fn prefix_end<'a>(alloc: Global, tree: &'a Tree<Global>, prefix: &[u8]) -> (End<'a>, Option<u32>)
+    requires home { AreAllHome tree.now }
+    requires height { tree.now.height ≤ most_levels }
+    requires held { HoldsLevels (tree_of tree.now).pages (levels_of (tree_of tree.now)) }
+    requires levels { AreLevels (levels_of (tree_of tree.now)) }
+    ensures { (all : Pairs Bytes) → all ≡ from prefix.now (contents (tree_of tree.now)) →
+        rows_left result.1 (is_inside result.0) all ≡ with_prefix prefix.now (contents (tree_of tree.now)) }
+{
+    match prefix_of_first(alloc, tree, prefix) {
+        Some(own) => (End::Beginning(own), None),
+        None => (End::Open, Some(0)),
+    }
+}
+
+// The prefix as a part of the first key that begins with it, or none where no key does.
+fn prefix_of_first<'a>(alloc: Global, tree: &'a Tree<Global>, prefix: &[u8]) -> Option<&'a [u8]>
+    requires home { AreAllHome tree.now }
+    requires height { tree.now.height ≤ most_levels }
+    requires held { HoldsLevels (tree_of tree.now).pages (levels_of (tree_of tree.now)) }
+    requires levels { AreLevels (levels_of (tree_of tree.now)) }
+    ensures { MatchOption result (with_prefix prefix.now (contents (tree_of tree.now)) ≡ [])
+        (λ own. own.now ≡ prefix.now) }
+{
+    let (key, _) = first_from(alloc, tree, prefix)?;
+    beginning(key, prefix)
+}
+
+// The prefix as a part of the key, or none where the key doesn't begin with it.
+fn beginning<'a>(key: &'a [u8], prefix: &[u8]) -> Option<&'a [u8]>
+    ensures { MatchOption result (begins_with prefix.now key.now ≡ false) (λ own. own.now ≡ prefix.now) }
+{
+    if key.starts_with(prefix) {
+        Some(&key[..prefix.len()])
+    } else {
+        None
+    }
+}
+
+// The first pair from the key on.
+fn first_from<'a>(
+    alloc: Global,
+    tree: &'a Tree<Global>,
+    key: &[u8],
+) -> Option<(&'a [u8], &'a Value<Global>)>
+    requires home { AreAllHome tree.now }
+    requires height { tree.now.height ≤ most_levels }
+    requires held { HoldsLevels (tree_of tree.now).pages (levels_of (tree_of tree.now)) }
+    requires levels { AreLevels (levels_of (tree_of tree.now)) }
+    ensures { option_map (λ e. (e.0.now, e.1.now)) result
+        ≡ slice_get (from key.now (contents (tree_of tree.now))) 0 }
+{
+    let (mut leaf, mut leaves) = walk_from(alloc, tree, key);
+    next_pair(alloc, &mut leaf, &mut leaves)
+}
+
+// A walk over the pairs from the key on.
+fn walk_from<'a>(alloc: Global, tree: &'a Tree<Global>, key: &[u8]) -> (LeafPairs<'a>, Leaves<'a>)
+    requires home { AreAllHome tree.now }
+    requires height { tree.now.height ≤ most_levels }
+    requires held { HoldsLevels (tree_of tree.now).pages (levels_of (tree_of tree.now)) }
+    requires levels { AreLevels (levels_of (tree_of tree.now)) }
+    ensures { pairs_left result.0 result.1 ≡ from key.now (contents (tree_of tree.now)) }
+{
+    let (first, leaves) = Leaves::new(alloc, tree, key);
+    (LeafPairs::new(alloc, first.1.whole(), key), leaves)
+}
+
 // The next pair of the leaf, or else of the leaves behind it.
 fn next_pair<'a>(
     alloc: Global,
     leaf: &mut LeafPairs<'a>,
-    leaves: &mut Leaves<'a, 'a>,
+    leaves: &mut Leaves<'a>,
 ) -> Option<(&'a [u8], &'a Value<Global>)>
     ensures { MatchOption result (pairs_left leaf.old leaves.old ≡ []) (λ pair. pairs_left leaf.old leaves.old ≡ (pair.0.now, pair.1.now) ∷ pairs_left leaf.new leaves.new) }
 {

@@ -1,8 +1,10 @@
-ghost use Rattle.std.specs.Prelude.{◌≡◌, ◌∷◌, [], MatchOption};
+ghost use Rattle.std.specs.Prelude.{◌≡◌, ◌∷◌, [], drop, MatchOption};
 ghost use Rattle.std.specs.Map.{values_of};
+ghost use Rattle.index_page.specs.Children.{children_within};
 
-use index_page::Children;
+use delta_chain::Base;
 use keys::Pid;
+use page_search::{Probes, place};
 use std::alloc::Global;
 use std::marker::Model;
 
@@ -10,25 +12,27 @@ use std::marker::Model;
 /// ids, in order. The default has none.
 #[derive(Default, Drop)]
 pub(crate) struct PathStep<'a> {
-    children: Option<Children<'a, Global>>,
+    // The page's children, and the place of the next.
+    children: Option<(&'a Base<Pid, Global>, usize)>,
 }
 
 impl<'a> Model for PathStep<'a> {
     ghost use Rattle.std.specs.Prelude.{List, ℕ};
+    ghost use Rattle.std.specs.Option.{option_map};
     ghost use Rattle.scan.specs.Path.{pids_left};
 
     ghost Value = { List ℕ };
 
-    ghost view = { λ s. pids_left s.children };
+    ghost view = { λ s. pids_left (option_map (λ c. (c.0.now, c.1)) s.children) };
 }
 
 impl<'a> PathStep<'a> {
-    // The step that these children are.
-    pub(crate) fn new(children: Children<'a, Global>) -> Self
-        ensures { result ≡ values_of children.entry }
+    // The step that the children from the one for the key on are, of a page with these children.
+    pub(crate) fn new(list: &'a Base<Pid, Global>, key: &[u8]) -> Self
+        ensures { result ≡ values_of (children_within key.now None list.now) }
     {
         PathStep {
-            children: Some(children),
+            children: Some((list, child_place(list, key))),
         }
     }
 
@@ -36,12 +40,23 @@ impl<'a> PathStep<'a> {
     pub(crate) fn next(&mut self) -> Option<Pid>
         ensures { MatchOption result ((self.old ≡ []) × (self.new ≡ [])) (λ pid. self.old ≡ pid ∷ self.new) }
     {
-        match &mut self.children {
-            Some(children) => match children.next() {
-                Some((_, pid)) => Some(pid),
-                None => None,
-            },
-            None => None,
+        match self.children {
+            Some((list, at)) if at < list.len() => {
+                self.children = Some((list, at + 1));
+                Some(*list.cell(at))
+            }
+            _ => None,
         }
+    }
+}
+
+// The place of the child in whose range the key is: the last one whose low key isn't above it, and the first where there is none.
+fn child_place(list: &Base<Pid, Global>, key: &[u8]) -> usize
+    ensures { drop result list.now ≡ children_within key.now None list.now }
+{
+    let _rising = list.len();
+    match place(list, key, &mut Probes::new()) {
+        Ok(at) => at,
+        Err(at) => at.saturating_sub(1),
     }
 }

@@ -1,9 +1,5 @@
-use Rattle.scan.proofs.LateLemmas.{late_from}
-use Rattle.scan.proofs.RowLemmas.{root_is_there, rows_at_start}
+use Rattle.scan.proofs.RowLemmas.{rows_at_start}
 use Rattle.scan.proofs.rows.Rows.new.Goals as goal
 
-pub new-leaves-requires-clause-known : goal.new-leaves-requires-clause-known
-new-leaves-requires-clause-known c = root_is_there c.args.tree.now c.requires.held c.requires.levels
-
 pub returns : goal.returns
-returns c = rows_at_start c.args.tree.now c.requires.held c.requires.levels c.args.lo.now _ c.args.limit _ _ _ _ c.new-leaves.ensures (late_from c.args.lo.now c.new-leaves.result.0.1.now c.whole.result.now _ c.whole.ensures c.new.ensures)
+returns c = rows_at_start c.args.tree.now c.requires.held c.requires.levels c.args.lo.now _ c.args.limit _ _ c.end_at-end.ensures c.walk_from-leaf.ensures
