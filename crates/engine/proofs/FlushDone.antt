@@ -161,12 +161,15 @@ module _ (text : Text) (s : Settings) (st : Store) (is : IsDue text st) where
   as_text file = writes-as text s st file is.own is.due
 
   -- where no commit is planned
+  pub refused-by-right : (fault : Fault) (file : List ℕ) → next_tail s (slot_of with_its) frames ≡ Err fault → after_writing text s st file ≡ Err fault
+  refused-by-right fault file h = as_text file ∙ text-some s with_its file frames is.some ∙ commit-refused slot is_full now (committed s file (spans s st.tail frames) slot) fault h
+
   pub writing-refused : (fault : Fault) (file : List ℕ) (old new : ℕ) → (fault ≡ NoMemory) ⊎ (next_tail s (slot_of with_its) frames ≡ Err fault) → IsWritingFault text s st file old new fault
   writing-refused fault file old new (inl memory) = inr (inl (memory, is.due))
-  writing-refused fault file old new (inr h) = inl (as_text file ∙ text-some s with_its file frames is.some ∙ commit-refused slot is_full now (committed s file (spans s st.tail frames) slot) fault h)
+  writing-refused fault file old new (inr h) = inl (refused-by-right fault file h)
 
   module _ (m : CommitPlan) (p : IsWriting text s st m) where
-    writing-done : (file : List ℕ) → after_writing text s st file ≡ left now (file_with s (slot_of with_its) frames file)
+    pub writing-done : (file : List ℕ) → after_writing text s st file ≡ left now (file_with s (slot_of with_its) frames file)
     writing-done file = as_text file ∙ text-some s with_its file frames is.some ∙ commit-admitted slot is_full now (committed s file (spans s st.tail frames) slot) p.unspent p.free
 
     pub writing-would : (file : List ℕ) → WouldWrite text s st file

@@ -23,6 +23,7 @@ mod OpenedLemmas
 mod OwnRuns
 mod PartAnswers
 mod PartedLemmas
+mod PendingLemmas
 mod PlayLemmas
 mod PlayTurn
 mod ReadBatch

@@ -8,6 +8,7 @@ pub mod LeafFor
 pub mod Leaves
 pub mod OnlyRoute
 pub mod Opened
+pub mod Pending
 pub mod Plays
 pub mod Refusal
 pub mod SoundTree

@@ -31,7 +31,7 @@ pub(crate) const LONG_AND_Z: [&str; 11] = [
     "z=9",
 ];
 
-const NINE_BYTES: &str = "a=123456789 b=123456789 c=123456789";
+pub(crate) const NINE_BYTES: &str = "a=123456789 b=123456789 c=123456789";
 
 const NO_LONG_PUTS: &str =
     "-sixteen_bytes_k1 -sixteen_bytes_k2 -sixteen_bytes_k3 -sixteen_bytes_k4";

@@ -1,12 +1,13 @@
 //! Numbers to run a store by, and flushes that clean a log which is full: the rows are those of `full_log_rows` and `clean_rows`.
-use crate::clean_rows::{LONG_AND_Z, REFILLED_STORE};
+use crate::clean_rows::{LONG_AND_Z, NINE_BYTES, REFILLED_STORE};
 use crate::crews::ALONE;
 use crate::failing_clean_rows::told_again;
 use crate::failing_disk_rows::{FailingDisk, failing_store};
+use crate::full_log_rows::TAILS;
 use crate::log_rows::{FOUR_LONG_PUTS, LONG_PUT, look, play, store_on_used_disk};
 use crate::recovery_rows::{is_told, store_after};
 use crate::store::Store;
-use crate::tests::{FIVE_PUTS, opened, write_rows};
+use crate::tests::{FIVE_PUTS, SEVENTEEN_PUTS, opened, write_rows};
 use flush_log::{Disk, MemDisk};
 use keys::Fault;
 use std::alloc::Global;
@@ -41,6 +42,63 @@ fn numbers_tell_of_a_log(rt: HostRuntime) -> Result<(), Fail> {
     Ok(())
 }
 
+// Steps, and how many bytes a flush after them adds.
+static PENDING: [(&[&str], u64); 11] = [
+    (&[], 0),
+    // Logs 2, 4 and 5: the last one leaves 32 bytes of a segment, and begins the next.
+    (&["a a=1 a a=2 a -a a"], 19),
+    (&[FIVE_PUTS], 103),
+    (&[SEVENTEEN_PUTS], 366),
+    // Logs 9 and 10.
+    (&[FIVE_PUTS, "flush", "-a -b -c -d -e", "a=1", "-a"], 43),
+    (
+        &[
+            FIVE_PUTS,
+            "flush",
+            "-a -b -c -d -e",
+            "a=1",
+            "-a",
+            "flush",
+            FIVE_PUTS,
+        ],
+        131,
+    ),
+    // Log 14: up to the end of a segment, and from there on.
+    (&[NINE_BYTES, "flush", FOUR_LONG_PUTS], 163),
+    (
+        &[NINE_BYTES, "flush", FOUR_LONG_PUTS, "flush", "-a -b -c"],
+        177,
+    ),
+    // Log 15.1: frames of version 2.
+    (&["a=1", "upgrade", FIVE_PUTS, "flush", "a=9"], 22),
+    // Log 16.2: the second wipe leaves nothing to be written.
+    (&[SEVENTEEN_PUTS, "flush", "!,*"], 160),
+    (&[SEVENTEEN_PUTS, "flush", "!,*", "flush", "!,*"], 0),
+];
+
+// Whether these bytes are pending, a flush adds as many to the log, and none are pending then.
+fn are_pending(
+    rt: &(impl Threads + Sync),
+    store: &mut Store<MemDisk<Global>>,
+    bytes: u64,
+) -> Result<bool, Fault> {
+    let tail = store.tail();
+    let pending = store.pending_bytes(rt, ALONE)?;
+    store.flush(rt, ALONE)?;
+    let added = store.tail().saturating_sub(tail);
+    let left = store.pending_bytes(rt, ALONE)?;
+    Ok(pending == bytes && added == bytes && left == 0)
+}
+
+#[test]
+fn a_flush_adds_the_bytes_that_are_pending(rt: HostRuntime) -> Result<(), Fail> {
+    for (steps, bytes) in &PENDING {
+        let mut store = store_after(&rt, ALONE, rt.alloc(), *steps)?;
+        assert!(rt; are_pending(&rt, &mut store, *bytes)?, "{bytes}");
+    }
+    Ok(())
+}
+
 // The full log of seventeen flushes, whose store has one thing more to write.
 fn full_store(rt: &(impl Threads + Sync), alloc: Global) -> Result<Store<MemDisk<Global>>, Fault> {
     let mut store = store_after(rt, ALONE, alloc, &[])?;
@@ -67,6 +125,37 @@ fn a_flush_makes_itself_room(rt: HostRuntime) -> Result<(), Fail> {
     assert!(rt; numbers(&store) == [20, 1, 822, 3, 4, 1]);
     let store = opened(store.reopen(&rt, ALONE))?;
     assert!(rt; is_told(&rt, alloc, &store, REFILLED_STORE)?);
+    Ok(())
+}
+
+// Whether each of the seventeen flushes adds the bytes that are pending.
+fn are_pending_in_turn(
+    rt: &(impl Threads + Sync),
+    alloc: Global,
+    store: &mut Store<MemDisk<Global>>,
+) -> Result<bool, Fault> {
+    let mut tail = 33;
+    for next in TAILS {
+        play(rt, ALONE, alloc, store, &[LONG_PUT])?;
+        let is_right = are_pending(rt, store, next.saturating_sub(tail))?;
+        if !is_right {
+            return Ok(false);
+        }
+        tail = next;
+    }
+    Ok(true)
+}
+
+// One flush more would be full. After a clean it begins a segment.
+#[test]
+fn bytes_are_pending_where_a_flush_finds_room(rt: HostRuntime) -> Result<(), Fail> {
+    let alloc = rt.alloc();
+    let mut store = store_after(&rt, ALONE, alloc, &[])?;
+    assert!(rt; are_pending_in_turn(&rt, alloc, &mut store)?);
+    play(&rt, ALONE, alloc, &mut store, &[LONG_PUT])?;
+    assert_eq!(rt; store.pending_bytes(&rt, ALONE), Err(Fault::Full));
+    store.clean(&rt, ALONE)?;
+    assert!(rt; are_pending(&rt, &mut store, 70)?);
     Ok(())
 }
 
@@ -184,7 +273,9 @@ fn fails_and_comes_back(
     let before = look(alloc, &store)?;
     let flushed = store.flush_cleaning(rt, ALONE);
     let is_same = look(alloc, &store)?.as_str() == before.as_str();
-    let has_failed = store.has_failed() && store.flush_cleaning(rt, ALONE) == Err(Fault::Failed);
+    let has_failed = store.has_failed()
+        && store.flush_cleaning(rt, ALONE) == Err(Fault::Failed)
+        && store.pending_bytes(rt, ALONE) == Err(Fault::Failed);
     let store = opened(store.reopen(rt, ALONE))?;
     let is_back = pairs_of(alloc, &store)?.as_str() == " a=0123456789abcdef;";
     Ok(flushed == Err(Fault::Device) && is_same && has_failed && is_back)
@@ -228,6 +319,30 @@ fn is_flushed_again(rt: &(impl Threads + Sync), alloc: Global) -> Result<bool, F
 fn a_flush_that_cleans_without_memory_can_be_tried_again(rt: HostRuntime) {
     let first = is_flushed_again(&rt, rt.alloc());
     let second = is_flushed_again(&rt, rt.alloc());
+    assert!(rt; first != Ok(false) && second != Ok(false));
+    assert!(rt; first == Ok(true) || second == Ok(true));
+}
+
+// Whether the bytes are those that are pending; where memory is refused to them, the store is as it was, and then they are.
+fn are_pending_again(rt: &(impl Threads + Sync), alloc: Global) -> Result<bool, Fault> {
+    let mut store = store_after(rt, ALONE, alloc, &LONG_AND_Z)?;
+    let before = look(alloc, &store)?;
+    let first = store.pending_bytes(rt, ALONE);
+    let pending = match first {
+        Err(Fault::NoMemory) if look(alloc, &store)?.as_str() == before.as_str() => {
+            store.pending_bytes(rt, ALONE)
+        }
+        other => other,
+    };
+    let is_right = are_pending(rt, &mut store, 22)?;
+    Ok(pending == Ok(22) && is_right)
+}
+
+// To be run with each allocation refused in turn too. Where one is refused to what stands round it, one of the two can't be told.
+#[test]
+fn pending_bytes_without_memory_can_be_asked_for_again(rt: HostRuntime) {
+    let first = are_pending_again(&rt, rt.alloc());
+    let second = are_pending_again(&rt, rt.alloc());
     assert!(rt; first != Ok(false) && second != Ok(false));
     assert!(rt; first == Ok(true) || second == Ok(true));
 }

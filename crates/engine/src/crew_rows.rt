@@ -309,6 +309,7 @@ fn is_refused(rt: &(impl Threads + Sync), store: &mut Store<MemDisk<Global>>, cr
         && store.flush(rt, crew) == Err(Fault::BadCrew)
         && store.clean(rt, crew) == Err(Fault::BadCrew)
         && store.upgrade(rt, crew) == Err(Fault::BadCrew)
+        && store.pending_bytes(rt, crew) == Err(Fault::BadCrew)
         && store.play(rt, crew, &NoGate, &[]).is_ok()
 }
 

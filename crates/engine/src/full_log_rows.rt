@@ -14,7 +14,7 @@ use std::test::Fail;
 use std::thread::Threads;
 
 // The tails after seventeen flushes of a value of sixteen bytes: of three the first two write a run each, and the third a base.
-const TAILS: [u64; 17] = [
+pub(crate) const TAILS: [u64; 17] = [
     70, 107, 145, 182, 219, 310, 347, 384, 422, 459, 496, 566, 603, 640, 678, 715, 752,
 ];
 

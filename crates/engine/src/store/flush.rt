@@ -45,7 +45,7 @@ fn version_with(text: Text) -> Version
 }
 
 // Plans the commit of a text of a tree, which has something to write, behind the log of its store. It looks at no disk.
-fn plan(
+pub(super) fn plan(
     rt: &(impl Threads + Sync),
     crew: Crew,
     alloc: Global,

@@ -1,18 +1,25 @@
-//! Numbers to run a store by: how full its log is, whether a flush is due, and how many pairs there are.
-ghost use Rattle.std.specs.Prelude.{◌≡◌, ◌≢◌, ◌↔◌, ◌+◌, ◌^◌, ◌<◌, ◌≤◌, [], length, None, IsTrue};
+//! Numbers to run a store by: how full its log is, whether a flush is due and what it would add, and how many pairs there are.
+ghost use Rattle.std.specs.Prelude.{◌≡◌, ◌≢◌, ◌⊎◌, ◌↔◌, ◌+◌, ◌^◌, ◌<◌, ◌≤◌, [], length, None, Ok, Err, IsTrue, IfOk, IfErr, true, false};
 ghost use Rattle.keys.specs.Limits.{first_bad_field};
+ghost use Rattle.keys.specs.declared.fault.Fault.TheVariants.{NoMemory};
 ghost use Rattle.mapping.specs.Levels.{contents};
 ghost use Rattle.flush_log.specs.Ends.{AreEnds};
 ghost use Rattle.flush_log.specs.FlushText.{flush_text};
 ghost use Rattle.flush_log.specs.Segments.{last_segment};
+ghost use Rattle.engine.specs.Pending.{FlushAdds, IsFlushRefused};
+ghost use Rattle.engine.specs.Refusal.{is_crew};
 
+use crate::refusal::admit_crew;
 use crate::store::Store;
+use crate::store::flush::plan;
+use crew::Crew;
 use flush_log::disk::Disk;
 use flush_log::segments::last_segment;
 use flush_log::slot::LogEnds;
-use flush_log::text::is_all_written;
-use keys::Settings;
+use flush_log::text::{Text, is_all_written};
+use keys::{Fault, Settings};
 use scan::Rows;
+use std::thread::Threads;
 
 // How many rows are left.
 fn count(rows: Rows<'_>) -> u64
@@ -40,7 +47,8 @@ fn in_use(settings: &Settings, log: LogEnds) -> u64
 
 impl<D: Disk> Store<D> {
     /// Whether a call of the disk has failed in a flush, an upgrade or a clean. Then every batch, flush, upgrade and clean answers
-    /// `Fault::Failed`; what the store holds is read as before, and `reopen` gives the store of the last flush.
+    /// `Fault::Failed`, and so does `pending_bytes`; what the store holds is read as before, and `reopen` gives the store of the last
+    /// flush.
     pub fn has_failed(&self) -> bool
         ensures { result ≡ self.now.has_failed }
     {
@@ -94,6 +102,43 @@ impl<D: Disk> Store<D> {
         ensures { IsTrue result ↔ (flush_text self.now.store.version self.now.store.tree ≢ []) }
     {
         !is_all_written(&self.tree)
+    }
+
+    /// How many bytes a flush would add to the log: the frames that the log lacks, and where these don't fit into the last segment, what
+    /// is left of it and the headers of those that are begun. 0, where the log has all. It makes the frames, as that flush would, and
+    /// takes their memory and a segment's; it calls no disk, and nothing changes.
+    ///
+    /// A store that has failed is `Fault::Failed`, and then a crew out of range `Fault::BadCrew`. Else there are `Fault::NoMemory`, and
+    /// `Fault::Spent` or `Fault::Full`, with which that flush would be refused.
+    pub fn pending_bytes(&self, rt: &(impl Threads + Sync), crew: Crew) -> Result<u64, Fault>
+        ensures bytes { IfOk result (λ n. FlushAdds self.now.settings self.now.store n) }
+        ensures nothing { self.now.has_failed ≡ false → IsTrue (is_crew crew) →
+            flush_text self.now.store.version self.now.store.tree ≡ [] → result ≡ Ok 0 }
+
+        // Which fault.
+        ensures failed { self.now.has_failed ≡ true → result ≡ Err Fault.Failed }
+        ensures bad_crew { self.now.has_failed ≡ false → is_crew crew ≡ false → result ≡ Err Fault.BadCrew }
+        ensures refused { self.now.has_failed ≡ false → IsTrue (is_crew crew) → IfErr result (λ fault.
+            (fault ≡ NoMemory) ⊎ IsFlushRefused self.now.settings self.now.store fault) }
+    {
+        if self.has_failed {
+            return Err(Fault::Failed);
+        }
+        admit_crew(crew)?;
+        if is_all_written(&self.tree) {
+            return Ok(0);
+        }
+        let commit = plan(
+            rt,
+            crew,
+            self.alloc,
+            &self.settings,
+            &self.tree,
+            self.log,
+            Text::Flush(self.version),
+        )?;
+        let slot = commit.slot();
+        Ok(slot.ends.tail - self.log.tail)
     }
 
     /// How many pairs there are; 4,294,967,295 where there are more. It takes no memory, and walks over all pairs, as `range` without
