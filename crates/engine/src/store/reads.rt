@@ -10,6 +10,7 @@ ghost use Rattle.mapping.specs.Levels.{contents, levels_of};
 ghost use Rattle.mapping.specs.Proper.{AreLevels, HoldsLevels};
 ghost use Rattle.mapping.specs.Tree.{page_at};
 ghost use Rattle.mapping.specs.TreeInMemory.{AreAllHome, tree_of};
+ghost use Rattle.scan.specs.Prefix.{with_prefix};
 ghost use Rattle.engine.specs.LeafFor.{IsLeafFor};
 
 use crate::store::Store;
@@ -30,18 +31,21 @@ impl<D: Disk> Store<D> {
     }
 
     /// The first `limit` pairs whose keys are `lo` or above, and below `hi` where it is given, in key order. They are lent out
-    /// of the pages, and neither this nor the rows take memory. The bounds may be of any length. A store that has failed answers
-    /// too.
-    pub fn range<'a>(
-        &'a self,
-        lo: &'a [u8],
-        hi: Option<&'a [u8]>,
-        limit: u32,
-    ) -> Result<Rows<'a>, Fault>
+    /// of the pages, and neither this nor the rows take memory. The bounds may be of any length, and are only looked at in this call:
+    /// the rows don't keep them. It costs one way down, and one more where `hi` is given. A store that has failed answers too.
+    pub fn range(&self, lo: &[u8], hi: Option<&[u8]>, limit: u32) -> Result<Rows<'_>, Fault>
         ensures succeeds { IsOk result }
         ensures rows { IfOk result (λ left. left ≡ rows lo.now (option_copied hi.entry) limit (contents self.now.store.tree)) }
     {
         Ok(Rows::new(self.alloc, &self.tree, lo, hi, limit))
+    }
+
+    /// The pairs whose keys begin with these bytes, in key order: all pairs, where there are no bytes. They are lent as those of
+    /// `range` are, and the bytes are only looked at in this call. It costs two ways down. A store that has failed answers too.
+    pub fn prefix(&self, bytes: &[u8]) -> Rows<'_>
+        ensures { result ≡ with_prefix bytes.now (contents self.now.store.tree) }
+    {
+        Rows::with_prefix(self.alloc, &self.tree, bytes)
     }
 }
 
