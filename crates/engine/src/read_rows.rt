@@ -95,28 +95,43 @@ fn keys_are_looked_up_one_by_one(rt: HostRuntime) -> Result<(), Fail> {
     Ok(())
 }
 
-// The rows whose keys begin with the letter, by a range whose bounds are gone when the rows are read.
-fn rows_at<'a>(store: &'a Store<MemDisk<Global>>, letter: u8) -> Result<Rows<'a>, Fault> {
-    let lo = [letter];
-    let hi = [letter + 1];
+// The rows of a range between two letters, whose bounds are gone when the rows are read.
+fn rows_between<'a>(
+    store: &'a Store<MemDisk<Global>>,
+    from: u8,
+    to: u8,
+) -> Result<Rows<'a>, Fault> {
+    let lo = [from];
+    let hi = [to];
     store.range(&lo, Some(&hi), 100)
+}
+
+// Of a letter whose keys were put, one whose keys were all deleted, and the last.
+fn write_ranges(text: &mut String, store: &Store<MemDisk<Global>>) -> Result<(), Fault> {
+    for (from, to) in [(b'a', b'b'), (b'c', b'd'), (b'f', b'g')] {
+        let rows = rows_between(store, from, to)?;
+        write_rows(text, rows)?;
+    }
+    Ok(())
+}
+
+// Of keys in several leaves and in one, of none, of a whole key, longer than the last key, of a key that was deleted, and of all keys.
+static PREFIXES: [&str; 8] = ["b", "bb", "c", "e", "fa", "fab", "g", ""];
+
+fn write_prefixes(text: &mut String, store: &Store<MemDisk<Global>>) -> Result<(), Fault> {
+    for prefix in &PREFIXES {
+        let rows = store.prefix(prefix.as_bytes());
+        write_rows(text, rows)?;
+    }
+    Ok(())
 }
 
 fn write_reads(rt: &(impl Threads + Sync), alloc: Global, text: &mut String) -> Result<(), Fault> {
     let store = store_of(rt, alloc, &BATCHES)?;
-    for letter in [b'a', b'c', b'f'] {
-        let rows = rows_at(&store, letter)?;
-        write_rows(text, rows)?;
-    }
-    let prefixes: [&[u8]; 7] = [b"b", b"bb", b"c", b"e", b"fa", b"fab", b"g"];
-    for prefix in prefixes {
-        write_rows(text, store.prefix(prefix))?;
-    }
-    write_rows(text, store.prefix(b""))?;
+    write_ranges(text, &store)?;
+    write_prefixes(text, &store)?;
     let empty = new_store(alloc, S)?;
-    write_rows(text, empty.prefix(b""))?;
-    write_rows(text, empty.prefix(b"a"))?;
-    Ok(())
+    write_prefixes(text, &empty)
 }
 
 #[test]
@@ -124,6 +139,6 @@ fn rows_begin_with_a_prefix(rt: HostRuntime) {
     let mut text = String::new(rt.alloc());
     let written = write_reads(&rt, rt.alloc(), &mut text);
     let expected = " a=1 aa=2 ab=3;; f=8 fa=3; b=4 ba=5 bb=6 bba=7; bb=6 bba=7;; e=6 ea=2; fa=3;;;\
-        \x20a=1 aa=2 ab=3 b=4 ba=5 bb=6 bba=7 e=6 ea=2 f=8 fa=3;;;";
+        \x20a=1 aa=2 ab=3 b=4 ba=5 bb=6 bba=7 e=6 ea=2 f=8 fa=3;;;;;;;;;";
     assert!(rt; written.is_ok() && text.as_str() == expected, "{text}");
 }
