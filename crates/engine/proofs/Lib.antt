@@ -8,6 +8,8 @@ mod CleanDone
 mod CleaningLemmas
 mod CommandsWithin
 mod ContentsFit
+mod CopyDone
+mod CopyLemmas
 mod CreateLemmas
 mod Crossing
 mod EndedRoutes

@@ -13,6 +13,8 @@ mod clean_rows;
 #[cfg(test)]
 mod cleaning_rows;
 #[cfg(test)]
+mod copy_rows;
+#[cfg(test)]
 mod crash_rows;
 #[cfg(test)]
 mod crash_run;

@@ -18,6 +18,7 @@ ghost use Rattle.verify.specs.Report.{report};
 
 mod clean;
 mod cleaning;
+mod copy;
 mod flush;
 mod numbers;
 mod play;
