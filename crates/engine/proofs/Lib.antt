@@ -19,6 +19,7 @@ mod FirstRow
 mod FlushDone
 mod InTurn
 mod LeafRoutes
+mod NeutralLemmas
 mod NumbersLemmas
 mod OneLeaf
 mod OpenedLemmas
@@ -36,5 +37,6 @@ mod StepDone
 mod StepsLemmas
 mod TaskLemmas
 mod TextSteps
+mod TidyLemmas
 mod Verified
 mod WayOfOne

@@ -15,4 +15,5 @@ pub mod SoundTree
 pub mod State
 pub mod Steps
 pub mod Tasks
+pub mod Tidied
 pub mod Turns

@@ -80,6 +80,8 @@ pub mod store;
 #[cfg(test)]
 mod tests;
 #[cfg(test)]
+mod tidy_rows;
+#[cfg(test)]
 mod trees_by_hand;
 
 pub use crate::file_store::{OpenFault, open_or_create};

@@ -24,6 +24,7 @@ mod numbers;
 mod play;
 mod reads;
 mod reopen;
+mod tidy;
 mod upgrade;
 
 use crate::execute::execute;
