@@ -8,6 +8,8 @@ mod CleanDone
 mod CleaningLemmas
 mod CommandsWithin
 mod ContentsFit
+mod CopyDone
+mod CopyLemmas
 mod CreateLemmas
 mod Crossing
 mod EndedRoutes
@@ -17,6 +19,7 @@ mod FirstRow
 mod FlushDone
 mod InTurn
 mod LeafRoutes
+mod NeutralLemmas
 mod NumbersLemmas
 mod OneLeaf
 mod OpenedLemmas
@@ -35,5 +38,6 @@ mod StepDone
 mod StepsLemmas
 mod TaskLemmas
 mod TextSteps
+mod TidyLemmas
 mod Verified
 mod WayOfOne

@@ -18,7 +18,8 @@ most_rows = 2 ^ 32 - 1
 pub few_rows : (lo : List ℕ) (hi : Option (List ℕ)) (m : List (List ℕ × List ℕ)) → length (rows lo hi most_rows m) < 2 ^ 32
 few_rows lo hi m = let e = length-take most_rows (in_range lo hi m) in omega (arith, e)
 
-all_within : (m : List (List ℕ × List ℕ)) → in_range [] None m ≡ m
+-- all pairs have keys from the least one on
+pub all_within : (m : List (List ℕ × List ℕ)) → in_range [] None m ≡ m
 all_within [] = refl
 all_within (([], v) ∷ m) = ap (λ (es : List (List ℕ × List ℕ)). ([], v) ∷ es) (all_within m)
 all_within ((x ∷ xs, v) ∷ m) = ap (λ (es : List (List ℕ × List ℕ)). (x ∷ xs, v) ∷ es) (all_within m)

@@ -2,6 +2,7 @@ pub mod Batch
 pub mod Batches
 pub mod Calls
 pub mod Cleaning
+pub mod Copies
 pub mod FileStore
 pub mod Late
 pub mod LeafFor
@@ -15,4 +16,5 @@ pub mod SoundTree
 pub mod State
 pub mod Steps
 pub mod Tasks
+pub mod Tidied
 pub mod Turns

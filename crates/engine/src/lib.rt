@@ -13,6 +13,8 @@ mod clean_rows;
 #[cfg(test)]
 mod cleaning_rows;
 #[cfg(test)]
+mod copy_rows;
+#[cfg(test)]
 mod crash_rows;
 #[cfg(test)]
 mod crash_run;
@@ -77,6 +79,8 @@ pub mod step_laws;
 pub mod store;
 #[cfg(test)]
 mod tests;
+#[cfg(test)]
+mod tidy_rows;
 #[cfg(test)]
 mod trees_by_hand;
 

@@ -18,11 +18,13 @@ ghost use Rattle.verify.specs.Report.{report};
 
 mod clean;
 mod cleaning;
+mod copy;
 mod flush;
 mod numbers;
 mod play;
 mod reads;
 mod reopen;
+mod tidy;
 mod upgrade;
 
 use crate::execute::execute;

@@ -1,0 +1,190 @@
+-- What becomes of a copy: why it is refused, and what is on its disk once it is flushed.
+use Rattle.std.specs.Prelude.{◌≡◌, ◌≢◌, ◌⊎◌, ℕ, IsTrue, true, false, List, [], ◌∷◌, ◌++◌, length, take, drop, Option, Some, None, Result, Ok, Err, MatchOption, IfOk, IfErr, IsErr}
+use Rattle.std.proofs.Common.{refl, sym, ap, ◌∙◌, subst, inl, inr}
+use Rattle.std.proofs.Math.Seq.{drop-append_seam}
+use Rattle.std.specs.declared.alloc.Global.{Global}
+use Rattle.keys.specs.Bytes.{Bytes, Pairs}
+use Rattle.keys.specs.declared.command.Command.{Command}
+use Rattle.keys.specs.declared.fault.Fault.{Fault}
+use Rattle.keys.specs.declared.fault.Fault.TheVariants.{Device}
+use Rattle.keys.specs.declared.settings.Settings.{Settings}
+use Rattle.mapping.specs.Levels.{contents}
+use Rattle.mapping.specs.Tree.{Store, Tree, with_tree}
+use Rattle.flush_log.specs.AfterFlush.{after_flush}
+use Rattle.flush_log.specs.Disk.{View, IsSettled, Kept}
+use Rattle.flush_log.specs.FlushText.{flush_text, flushed, HasFrames}
+use Rattle.flush_log.specs.declared.text.Text.TheVariants as texts
+use Rattle.recovery.specs.InStep.{IsStore, IsStoreOf}
+use Rattle.recovery.specs.Recovered.{IsLate}
+use Rattle.recovery.specs.StoreOfDisk.{first_store, store_of_disk}
+use Rattle.recovery.proofs.ReadBytes.{kept_self, kept_then}
+use Rattle.engine.specs.Batch.{IsLaterFault}
+use Rattle.engine.specs.Calls.{IsFlushFault}
+use Rattle.engine.specs.Copies.{IsPutFault, IsCopyFault, most_puts, puts_of}
+use Rattle.engine.specs.Refusal.{refusal}
+use Rattle.engine.specs.State.{State, IsSound}
+
+-- ---- refused puts
+
+err_same : {U : Type 0} (f g : Fault) → (let a : Result U Fault = Err f in a) ≡ Err g → f ≡ g
+err_same f g h = cc
+
+abbrev some_fault : Fault → Option Fault
+some_fault x = Some x
+
+late_put : (s : Settings) (all : Pairs Bytes) (t : Tree) (cs : List (Command Global)) (fault : Fault) → IsLaterFault s t cs fault → IsPutFault s all fault
+late_put s all t cs fault (inl memory) = inl memory
+late_put s all t cs fault (inr (spent, high)) = inr (inl spent)
+
+right_by : {U : Type 0} (s : Settings) (all : Pairs Bytes) (t : Tree) (cs : List (Command Global)) (place : ℕ) (o : Option Fault) (r : Result U Fault) (fault : Fault)
+    → cs ≡ puts_of (take most_puts (drop place all)) → refusal s cs ≡ o → MatchOption o (IfErr r (IsLaterFault s t cs)) (λ f. r ≡ Err f) → r ≡ Err fault → IsPutFault s all fault
+right_by {U = U} s all t cs place None r fault is none later e = late_put s all t cs fault (subst (λ (x : Result U Fault). IfErr x (IsLaterFault s t cs)) e later)
+right_by {U = U} s all t cs place (Some f) r fault is given right e =
+    inr (inr (place, ap (λ (x : List (Command Global)). refusal s x) (sym is) ∙ given ∙ ap some_fault (err_same {U = U} f fault (sym right ∙ e))))
+
+-- a refused batch of the puts of what comes next
+pub put_refused : {U : Type 0} (s : Settings) (all some left rows : Pairs Bytes) (t : Tree) (puts cs : List (Command Global)) (r : Result U Fault) (fault : Fault) → some ++ left ≡ all → rows ≡ take most_puts left
+    → puts ≡ puts_of rows → cs ≡ puts → MatchOption (refusal s cs) (IfErr r (IsLaterFault s t cs)) (λ f. r ≡ Err f) → r ≡ Err fault → IsPutFault s all fault
+put_refused s all some left rows t puts cs r fault whole first put is given e =
+    let rest : left ≡ drop (length some) all = sym (drop-append_seam some left) ∙ ap (λ (x : Pairs Bytes). drop (length some) x) whole in
+    right_by s all t cs (length some) (refusal s cs) r fault (is ∙ put ∙ ap (λ (x : Pairs Bytes). puts_of x) first ∙ ap (λ (x : Pairs Bytes). puts_of (take most_puts x)) rest) refl given e
+
+-- ---- a refused flush
+
+pub flush_refused : {D : Type 0} (view : D → View) (x : State D) (all : Pairs Bytes) (file : Bytes) (old new : ℕ) (fault : Fault) → IsSound view x
+    → x.store ≡ with_tree first_store x.store.tree → contents x.store.tree ≡ all → IsFlushFault x.settings x.store file old new fault → IsCopyFault x.settings all old new fault
+flush_refused view x all file old new fault sound log holds (inl right) = inr (inr (record {
+  tree = x.store.tree;
+  file = file;
+  proper = sound.is.proper;
+  holds = holds;
+  refused = subst (λ (st : Store). after_flush x.settings st file ≡ Err fault) log right;
+}))
+flush_refused view x all file old new fault sound log holds (inr (inl (memory, due))) = inl (inl memory)
+flush_refused view x all file old new fault sound log holds (inr (inr (device, failed, would))) = inl (inr (device, failed))
+
+-- ---- the disk after it
+
+not_empty : {T : Type 0} (f : T) (fs : List T) → f ∷ fs ≢ []
+not_empty f fs e = absurd (cc)
+
+-- it is settled, whether something was to be written or not
+settled_by : {D T : Type 0} (view : D → View) (text : List T) (old new : D) → (text ≡ [] → new ≡ old) → (text ≢ [] → IsSettled (view new)) → IsSettled (view old) → IsSettled (view new)
+settled_by {D = D} view [] old new same written settled = subst (λ (d : D). IsSettled (view d)) (sym (same refl)) settled
+settled_by view (f ∷ fs) old new same written settled = written (not_empty f fs)
+
+-- what a flush leaves of a sound store on a settled disk: the disk stands for the store, and is settled
+filled : {D : Type 0} (view : D → View) (old now : State D) → IsSound view old → old.has_failed ≡ false → IsSettled (view old.disk)
+    → HasFrames old.settings (texts.Flush old.store.version) old.store.tree
+    → ((s : Settings) (st now : Store) (file bytes : Bytes) → IsStoreOf s st file → HasFrames s (texts.Flush st.version) st.tree → after_flush s st file ≡ Ok (now, bytes)
+    → (store_of_disk bytes ≡ Ok (s, now)) × IsStoreOf s now bytes)
+    → after_flush old.settings old.store (view old.disk).seen ≡ Ok (now.store, (view now.disk).seen)
+    → (flush_text old.store.version old.store.tree ≡ [] → now ≡ old)
+    → (flush_text old.store.version old.store.tree ≢ [] → IsSettled (view now.disk))
+    → (store_of_disk (view now.disk).seen ≡ Ok (old.settings, now.store)) × IsSettled (view now.disk)
+filled {D = D} view old now sound fine settled frames read after same written = (
+  (read old.settings old.store now.store (view old.disk).seen (view now.disk).seen (record { is = sound.is; step = sound.step fine settled.honest }) frames after).0,
+  settled_by view (flush_text old.store.version old.store.tree) old.disk now.disk (λ none. ap (λ (x : State D). x.disk) (same none)) written settled,
+)
+
+-- ---- a store that was filled and flushed
+
+pub kept_by : {D : Type 0} (view : D → View) (old new : D) → new ≡ old → Kept (view old) (view new)
+kept_by {D = D} view old new same = subst (λ (d : D). Kept (view old) (view d)) (sym same) (kept_self (view old))
+
+module _ {D : Type 0} (view : D → View) (failed : D → ℕ) (old mid now : State D) (all : Pairs Bytes)
+    (rest : (mid.settings ≡ old.settings) × (mid.disk ≡ old.disk) × (mid.has_failed ≡ old.has_failed)) where
+  pub fill_rest : (now.settings ≡ mid.settings) × Kept (view mid.disk) (view now.disk) → (now.settings ≡ old.settings) × Kept (view old.disk) (view now.disk)
+  fill_rest flushed = (flushed.0 ∙ rest.0, subst (λ (d : D). Kept (view d) (view now.disk)) rest.1 flushed.1)
+
+  pub fill_refused : (fault : Fault) → old.store ≡ first_store → mid.store ≡ with_tree old.store mid.store.tree → contents mid.store.tree ≡ all → IsSound view mid
+      → IsFlushFault mid.settings mid.store (view mid.disk).seen (failed mid.disk) (failed now.disk) fault → IsCopyFault old.settings all (failed old.disk) (failed now.disk) fault
+  fill_refused fault first log holds sound why =
+      let here : mid.store ≡ with_tree first_store mid.store.tree = log ∙ ap (λ (st : Store). with_tree st mid.store.tree) first in
+      subst (λ (d : D). IsCopyFault old.settings all (failed d) (failed now.disk) fault) rest.1
+      (subst (λ (s : Settings). IsCopyFault s all (failed mid.disk) (failed now.disk) fault) rest.0
+      (flush_refused view mid all (view mid.disk).seen (failed mid.disk) (failed now.disk) fault sound here holds why))
+
+  pub fill_same : now ≡ mid → now.disk ≡ old.disk
+  fill_same same = ap (λ (x : State D). x.disk) same ∙ rest.1
+
+  pub fill_counted : (now.has_failed ≡ mid.has_failed) × (failed now.disk ≡ failed mid.disk) → old.has_failed ≡ false → (now.has_failed ≡ false) × (failed now.disk ≡ failed old.disk)
+  fill_counted counted fine = (counted.0 ∙ rest.2 ∙ fine, counted.1 ∙ ap failed rest.1)
+
+  pub fill_contents : ((s : Settings) (st now : Store) (file bytes : Bytes) → IsStore s st → after_flush s st file ≡ Ok (now, bytes) → now.tree ≡ flushed st.tree) → IsSound view mid
+      → (bytes : Bytes) × (after_flush mid.settings mid.store (view mid.disk).seen ≡ Ok (now.store, bytes)) → contents mid.store.tree ≡ all → contents now.store.tree ≡ all
+  fill_contents kept sound done holds =
+      ap (λ (t : Tree). contents t) (kept mid.settings mid.store now.store (view mid.disk).seen done.0 sound.is done.1) ∙ holds
+
+  pub fill_bytes : old.has_failed ≡ false → IsSound view mid
+      → HasFrames mid.settings (texts.Flush mid.store.version) mid.store.tree
+      → ((s : Settings) (st now : Store) (file bytes : Bytes) → IsStoreOf s st file → HasFrames s (texts.Flush st.version) st.tree → after_flush s st file ≡ Ok (now, bytes)
+      → (store_of_disk bytes ≡ Ok (s, now)) × IsStoreOf s now bytes)
+      → (IsTrue (view mid.disk).is_honest → after_flush mid.settings mid.store (view mid.disk).seen ≡ Ok (now.store, (view now.disk).seen))
+      → (mid.has_failed ≡ false → flush_text mid.store.version mid.store.tree ≡ [] → now ≡ mid)
+      → (IsTrue (view mid.disk).is_honest → flush_text mid.store.version mid.store.tree ≢ [] → IsSettled (view now.disk))
+      → IsSettled (view old.disk) → (store_of_disk (view now.disk).seen ≡ Ok (old.settings, now.store)) × IsSettled (view now.disk)
+  fill_bytes fine sound frames read after same written settled =
+      let there : IsSettled (view mid.disk) = subst (λ (d : D). IsSettled (view d)) (sym rest.1) settled in
+      let good : mid.has_failed ≡ false = rest.2 ∙ fine in
+      let both = filled view mid now sound good there frames read (after there.honest) (λ none. same good none) (λ some. written there.honest some) in (
+        subst (λ (s : Settings). store_of_disk (view now.disk).seen ≡ Ok (s, now.store)) rest.0 both.0,
+        both.1,
+      )
+
+-- ---- a store that was made, and then filled
+
+no_error : {X Y : Type 0} (r : Result X Y) (made : X) → r ≡ Ok made → IsErr r → ⊥
+no_error (Ok x) made is e = absurd (cc)
+no_error (Err y) made is e = absurd (cc)
+
+refused_still : {X D : Type 0} (failed : D → ℕ) (r : Result X (Fault × D)) (disk mid : D) (s t : Settings) (all : Pairs Bytes) → s ≡ t → failed mid ≡ failed disk
+    → IfErr r (λ e. IsCopyFault s all (failed mid) (failed e.1) e.0) → IfErr r (λ e. IsCopyFault t all (failed disk) (failed e.1) e.0)
+refused_still failed (Ok x) disk mid s t all same count why = tt
+refused_still failed (Err e) disk mid s t all same count why =
+    subst (λ (x : Settings). IsCopyFault x all (failed disk) (failed e.1) e.0) same (subst (λ (n : ℕ). IsCopyFault s all n (failed e.1) e.0) count why)
+
+-- where it was made, nothing refused that
+pub made_refused : {X Y D : Type 0} (failed : D → ℕ) (o : Option Fault) (r : Result Y (Fault × D)) (made : Y) (result : Result X (Fault × D)) (disk mid : D) (s t : Settings) (all : Pairs Bytes)
+    → MatchOption o (IfErr r (λ e. IsLate (failed disk) (failed e.1) e.0)) (λ fault. IsErr r × IfErr r (λ e. e.0 ≡ fault)) → r ≡ Ok made → s ≡ t → failed mid ≡ failed disk
+    → IfErr result (λ e. IsCopyFault s all (failed mid) (failed e.1) e.0)
+    → MatchOption o (IfErr result (λ e. IsCopyFault t all (failed disk) (failed e.1) e.0)) (λ fault. IsErr result × IfErr result (λ e. e.0 ≡ fault))
+made_refused failed None r made result disk mid s t all given is same count why = refused_still failed result disk mid s t all same count why
+made_refused failed (Some fault) r made result disk mid s t all given is same count why = absurd (no_error r made is given.0)
+
+-- what refuses the making of it refuses the copy
+pub create_refused : {Y D : Type 0} (failed : D → ℕ) (o : Option Fault) (r : Result Y (Fault × D)) (e : Fault × D) (s : Settings) (all : Pairs Bytes) (old : ℕ)
+    → MatchOption o (IfErr r (λ e. IsLate old (failed e.1) e.0)) (λ fault. IsErr r × IfErr r (λ e. e.0 ≡ fault)) → r ≡ Err e
+    → MatchOption o (IsCopyFault s all old (failed e.1) e.0) (λ fault. (true ≡ true) × (e.0 ≡ fault))
+create_refused failed None (Ok made) e s all old given is = absurd (cc)
+create_refused {D = D} failed None (Err f) e s all old given is = let same : f ≡ e = cc in inl (subst (λ (x : Fault × D). IsLate old (failed x.1) x.0) same given)
+create_refused failed (Some fault) (Ok made) e s all old given is = absurd (cc)
+create_refused {D = D} failed (Some fault) (Err f) e s all old given is = let same : f ≡ e = cc in (refl, subst (λ (x : Fault × D). x.0 ≡ fault) same given.1)
+
+pub made_back : {X D : Type 0} (view : D → View) (r : Result X (Fault × D)) (disk mid : D) → Kept (view disk) (view mid)
+    → IfErr r (λ e. Kept (view mid) (view e.1) × (e.0 ≢ Device → e.1 ≡ mid)) → IfErr r (λ e. Kept (view disk) (view e.1))
+made_back view (Ok x) disk mid kept back = tt
+made_back view (Err e) disk mid kept back = kept_then (view disk) (view mid) (view e.1) kept back.0
+
+pub made_left : {X D : Type 0} (view : D → View) (r : Result X (Fault × D)) (disk mid : D) (H : Type 0) (after : Result (Store × Bytes) Fault) (st : Store) → st ≡ first_store
+    → (H → (after ≡ Ok (st, (view mid).seen)) × IsSettled (view mid))
+    → IfErr r (λ e. Kept (view mid) (view e.1) × (e.0 ≢ Device → e.1 ≡ mid))
+    → IfErr r (λ e. e.0 ≢ Device → (e.1 ≡ disk) ⊎ (H → (after ≡ Ok (first_store, (view e.1).seen)) × IsSettled (view e.1)))
+made_left view (Ok x) disk mid H after st first bytes back = tt
+made_left {D = D} view (Err e) disk mid H after st first bytes back = λ other. inr (λ h.
+    subst (λ (d : D). (after ≡ Ok (first_store, (view d).seen)) × IsSettled (view d)) (sym (back.1 other))
+    (subst (λ (x : Store). after ≡ Ok (x, (view mid).seen)) first (bytes h).0, (bytes h).1))
+
+pub made_ok : {D Y : Type 0} (view : D → View) (failed : D → ℕ) (r : Result (State D) Y) (disk mid : D) (s t : Settings) → s ≡ t → Kept (view disk) (view mid) → failed mid ≡ failed disk
+    → IfOk r (λ copy. (copy.settings ≡ s) × (copy.has_failed ≡ false))
+    → IfOk r (λ copy. Kept (view mid) (view copy.disk) × (failed copy.disk ≡ failed mid))
+    → IfOk r (λ copy. (copy.settings ≡ t) × (copy.has_failed ≡ false)) × IfOk r (λ copy. Kept (view disk) (view copy.disk) × (failed copy.disk ≡ failed disk))
+made_ok view failed (Ok copy) disk mid s t same kept count made further =
+    ((made.0 ∙ same, made.1), (kept_then (view disk) (view mid) (view copy.disk) kept further.0, further.1 ∙ count))
+made_ok view failed (Err e) disk mid s t same kept count made further = (tt, tt)
+
+pub made_bytes : {D Y : Type 0} (view : D → View) (r : Result (State D) Y) (s t : Settings) → s ≡ t
+    → IfOk r (λ copy. (store_of_disk (view copy.disk).seen ≡ Ok (s, copy.store)) × IsSettled (view copy.disk))
+    → IfOk r (λ copy. (store_of_disk (view copy.disk).seen ≡ Ok (t, copy.store)) × IsSettled (view copy.disk))
+made_bytes view (Ok copy) s t same bytes = (subst (λ (x : Settings). store_of_disk (view copy.disk).seen ≡ Ok (x, copy.store)) same bytes.0, bytes.1)
+made_bytes view (Err e) s t same bytes = tt

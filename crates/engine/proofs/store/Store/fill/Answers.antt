@@ -1,0 +1,64 @@
+use Rattle.std.proofs.Common.{inl, inr, ◌∙◌}
+use Rattle.std.proofs.lemmas.Result.{err_from_is_err_and}
+use Rattle.mapping.specs.Levels.{contents}
+use Rattle.engine.proofs.CopyDone.{fill_rest, fill_refused, fill_same, fill_counted, fill_contents, fill_bytes, kept_by}
+use Rattle.engine.proofs.store.Store.fill.Goals as goal
+
+-- ---- not all pairs were put
+
+pub returns-in_err-put_all-clause-rest : goal.returns-in_err-put_all-clause-rest
+returns-in_err-put_all-clause-rest g c = (c.put_all.ensures.rest.0, kept_by g.E.Disk.view _ _ c.put_all.ensures.rest.1)
+
+pub returns-in_err-put_all-clause-refused : goal.returns-in_err-put_all-clause-refused
+returns-in_err-put_all-clause-refused g c =
+    let p = err_from_is_err_and c.from_residual.result c.from_residual.ensures.1 in
+    rw (p.1, p.2) (inr (inl c.in_err-put_all.ensures.refused))
+
+pub returns-in_err-put_all-clause-unchanged : goal.returns-in_err-put_all-clause-unchanged
+returns-in_err-put_all-clause-unchanged g c =
+    let p = err_from_is_err_and c.from_residual.result c.from_residual.ensures.1 in
+    rw (p.1, p.2) (λ other. c.put_all.ensures.rest.1)
+
+-- ---- they weren't flushed
+
+pub returns-in_err-flush-clause-rest : goal.returns-in_err-flush-clause-rest
+returns-in_err-flush-clause-rest g c =
+    fill_rest g.E.Disk.view g.E.Disk.failed c.args.copy.now c.put_all.new.copy c.flush.new.self (contents c.args.self.now.store.tree) c.put_all.ensures.rest c.flush.ensures.rest
+
+pub returns-in_err-flush-clause-refused : goal.returns-in_err-flush-clause-refused
+returns-in_err-flush-clause-refused g c =
+    let p = err_from_is_err_and c.from_residual-in_err-flush.result c.from_residual-in_err-flush.ensures.1 in
+    let fine = c.put_all.ensures.rest.2 ∙ c.requires.fine in
+    let put = c.in_ok-put_all.ensures in
+    rw (p.1, p.2) (fill_refused g.E.Disk.view g.E.Disk.failed c.args.copy.now c.put_all.new.copy c.flush.new.self (contents c.args.self.now.store.tree) c.put_all.ensures.rest _
+    c.requires.first put.log put.contents c.flush.ensures.sound.0 (c.in_err-flush.ensures.refused fine c.requires.crew))
+
+pub returns-in_err-flush-clause-unchanged : goal.returns-in_err-flush-clause-unchanged
+returns-in_err-flush-clause-unchanged g c =
+    let p = err_from_is_err_and c.from_residual-in_err-flush.result c.from_residual-in_err-flush.ensures.1 in
+    rw (p.1, p.2) (λ other. fill_same g.E.Disk.view g.E.Disk.failed c.args.copy.now c.put_all.new.copy c.flush.new.self (contents c.args.self.now.store.tree) c.put_all.ensures.rest
+    (c.in_err-flush.ensures.unchanged other))
+
+-- ---- all is done
+
+pub returns-clause-contents : goal.returns-clause-contents
+returns-clause-contents g c =
+    fill_contents g.E.Disk.view g.E.Disk.failed c.args.copy.now c.put_all.new.copy c.flush.new.self (contents c.args.self.now.store.tree) c.put_all.ensures.rest
+    c.what_was_flushed_is_what_is_read.ensures.tree c.flush.ensures.sound.0 c.in_ok-flush.ensures.store.1 c.in_ok-put_all.ensures.contents
+
+pub returns-clause-rest : goal.returns-clause-rest
+returns-clause-rest g c =
+    fill_rest g.E.Disk.view g.E.Disk.failed c.args.copy.now c.put_all.new.copy c.flush.new.self (contents c.args.self.now.store.tree) c.put_all.ensures.rest c.flush.ensures.rest
+
+pub returns-clause-counted : goal.returns-clause-counted
+returns-clause-counted g c =
+    fill_counted g.E.Disk.view g.E.Disk.failed c.args.copy.now c.put_all.new.copy c.flush.new.self (contents c.args.self.now.store.tree) c.put_all.ensures.rest c.in_ok-flush.ensures.counted c.requires.fine
+
+pub returns-clause-bytes : goal.returns-clause-bytes
+returns-clause-bytes g c settled =
+    fill_bytes g.E.Disk.view g.E.Disk.failed c.args.copy.now c.put_all.new.copy c.flush.new.self (contents c.args.self.now.store.tree) c.put_all.ensures.rest
+    c.requires.fine c.flush.ensures.sound.0 c.in_ok-flush.ensures.frames c.what_was_flushed_is_what_is_read.ensures.read (λ honest. c.in_ok-flush.ensures.bytes honest)
+    (λ fine none. (c.flush.ensures.nothing fine c.requires.crew none).1) (λ honest some. c.in_ok-flush.ensures.settled honest some) settled
+
+pub returns-clause-sound : goal.returns-clause-sound
+returns-clause-sound g c = c.flush.ensures.sound.1

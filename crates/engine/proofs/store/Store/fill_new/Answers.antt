@@ -1,0 +1,16 @@
+use Rattle.std.proofs.Common.{◌≡◌, ◌≢◌, sym, subst}
+use Rattle.keys.specs.declared.fault.Fault.TheVariants.{Device}
+use Rattle.mapping.specs.Levels.{contents}
+use Rattle.flush_log.specs.Disk.{Kept}
+use Rattle.engine.specs.Copies.{IsCopyFault}
+use Rattle.engine.proofs.store.Store.fill_new.Goals as goal
+
+pub returns-in-Err-clause-refused : goal.returns-in-Err-clause-refused
+returns-in-Err-clause-refused g c =
+    let failed = g.E.Disk.failed in
+    subst (λ d. IsCopyFault c.args.fresh.settings (contents c.args.self.now.store.tree) (failed c.args.fresh.disk) (failed d) c.in-Err.fault) (sym c.close.ensures) c.in-Err.ensures.refused
+
+pub returns-in-Err-clause-back : goal.returns-in-Err-clause-back
+returns-in-Err-clause-back g c =
+    let view = g.E.Disk.view in
+    subst (λ d. Kept (view c.args.fresh.disk) (view d) × (c.in-Err.fault ≢ Device → d ≡ c.args.fresh.disk)) (sym c.close.ensures) (c.fill.ensures.rest.1, c.in-Err.ensures.unchanged)
