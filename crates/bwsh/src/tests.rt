@@ -295,7 +295,7 @@ fn words_are_refused(rt: HostRuntime) -> Result<(), Fail> {
 }
 
 // What the help has to say: each kind of line, what a segment has to hold, the ranges of a crew, who holds a file, and the exit statuses.
-const HELP: [&str; 23] = [
+const HELP: [&str; 27] = [
     "put K V",
     "add K V",
     "get K",
@@ -316,6 +316,10 @@ const HELP: [&str; 23] = [
     "--grain <N>",
     "at a time, 1 to 65535 ",
     "holds its file alone",
+    "read before anything is run",
+    "Nothing lasts but what a flush",
+    "--create replaces what stands at its path",
+    "--version",
     "2  The words",
     "3  A line",
     "4  A fault",
@@ -333,6 +337,21 @@ fn help_is_printed(rt: HostRuntime) -> Result<(), Fail> {
     for text in HELP {
         assert!(rt; out.as_slice().contains_str(text.as_bytes()), "{text}");
     }
+    assert_eq!(rt; input, b"put a 1\n".as_slice());
+    Ok(())
+}
+
+// Nothing is read, whatever else the words tell.
+#[test]
+fn the_version_is_printed(rt: HostRuntime) -> Result<(), Fail> {
+    let words = words_of(rt.alloc(), "--version --fan=65 --workers=0 --disk=/no/such")?;
+    let mut input: &[u8] = b"put a 1\n";
+    let mut out = Vec::new(rt.alloc());
+    let mut err = Vec::new(rt.alloc());
+    let status = session(&rt, &words, &mut input, &mut out, &mut err);
+    assert_eq!(rt; status, 0);
+    assert!(rt; err.is_empty());
+    assert_eq!(rt; out.as_slice(), b"bwsh 0.1.0\n".as_slice());
     assert_eq!(rt; input, b"put a 1\n".as_slice());
     Ok(())
 }

@@ -66,7 +66,7 @@ fn end_of(alloc: Global, line: &str) -> Result<i32, AllocError> {
     }
 }
 
-const REFUSED: [&str; 24] = [
+const REFUSED: [&str; 28] = [
     "--fan 8 --chain 2 --fan 8",
     "--flan 8",
     "8",
@@ -91,6 +91,10 @@ const REFUSED: [&str; 24] = [
     "--disk -a",
     "--create=x",
     "--create x",
+    "--version --version",
+    "--version=true",
+    "--version 1",
+    "-V",
 ];
 
 const HELP: [&str; 4] = [
@@ -156,6 +160,22 @@ fn a_file_changes_no_setting(rt: HostRuntime) -> Result<(), Fail> {
     let alloc = rt.alloc();
     let line = "--disk 8 --create --chain 2";
     assert!(rt; tells(alloc, line, [16, 2, 64, 256, 65_536, 64])?);
+    Ok(())
+}
+
+// Whether a line asks for the version.
+fn asks_for_version(alloc: Global, line: &str) -> Result<bool, AllocError> {
+    let words = words_of(alloc, line)?;
+    Ok(options(alloc, &words).is_ok_and(|told| told.ways.version))
+}
+
+#[test]
+fn the_version_is_asked_for(rt: HostRuntime) -> Result<(), Fail> {
+    let alloc = rt.alloc();
+    assert!(rt; !asks_for_version(alloc, "--create")?);
+    assert!(rt; asks_for_version(alloc, "--version")?);
+    assert!(rt; asks_for_version(alloc, "--fan 8 --version --disk a")?);
+    assert!(rt; !asks_for_version(alloc, "--disk=--version")?);
     Ok(())
 }
 

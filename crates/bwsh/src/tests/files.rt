@@ -1,7 +1,7 @@
 //! Sessions on stores in files, and disks over files.
 use super::{CLEANED, CLEANED_OUT, OneWord, check, push_words, words_of};
 use crate::batch_file::{Order, parse};
-use crate::options::Options;
+use crate::options::{Options, Ways};
 use crate::session::{run, session};
 use bstr::ByteSlice;
 use crew::{Crew, NoGate};
@@ -52,6 +52,7 @@ where
         crew: CREW,
         disk: Some(String::from_str(alloc, path)?),
         create: fan.is_some(),
+        ways: Ways::default(),
     };
     let mut input = input;
     let mut written = Vec::new(alloc);
