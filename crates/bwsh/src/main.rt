@@ -3,8 +3,10 @@
 
 pub mod batch;
 pub mod batch_file;
+pub mod explain;
 pub mod laws;
 pub mod line;
+pub mod notes;
 pub mod number;
 pub mod options;
 pub mod program;
@@ -13,6 +15,7 @@ pub mod show;
 #[cfg(test)]
 mod tests;
 pub mod token;
+pub mod watched;
 pub mod words;
 
 use crate::program::run_program;

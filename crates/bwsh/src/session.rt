@@ -17,14 +17,17 @@ ghost use Rattle.bwsh.specs.declared.session.Ending.{Ending};
 ghost use Rattle.bwsh.specs.declared.session.Ending.TheVariants.{Device};
 ghost use Rattle.bwsh.specs.declared.session.Ending.TheVariants as endings;
 ghost use Rattle.bwsh.specs.BatchFile.{text_says, first_bad, orders_of, writes};
-ghost use Rattle.bwsh.specs.Options.{Told, AsksFor, AsksForText, AreRefused, told_of};
-ghost use Rattle.bwsh.specs.Session.{status_of, status_of_end, ending_text, unread_text, ending_by, printed_by, BeginsWith, IsBegun, IsTold, IsReadEnding, IsForWords, Prints, PrintsOneText, Reads, RunsOn, RunsOrder, RunsFrom, Start, IsStart, IsShown, Opens, IsHonestStore, Answers, EndsBy, EndsTold, step_in, new_start, found_start, version_text};
+ghost use Rattle.bwsh.specs.Options.{Told, AsksFor, AsksForText, AsksToExplain, AreRefused, told_of};
+ghost use Rattle.bwsh.specs.Session.{status_of, status_of_end, ending_text, unread_text, ending_by, printed_by, BeginsWith, IsBegun, IsToldWith, IsReadEnding, IsForWords, Prints, PrintsOneText, Reads, RunsOn, RunsOrder, RunsFrom, Start, IsStart, IsShown, Opens, IsHonestStore, Answers, EndsBy, EndsTold, step_in, new_start, found_start, version_text};
 ghost use Rattle.bwsh.specs.Shown.{shown_reply, shown_flushed, shown_cleaned, shown_upgraded, shown_report, shown_answer};
 
 use crate::batch_file::{Order, TextFault, parse};
+use crate::explain::explained;
 use crate::line::Why;
+use crate::notes::{Notes, Reasoned, Source};
 use crate::options::{Options, options};
 use crate::show::{show_cleaned, show_flushed, show_reply, show_report, show_upgraded};
+use crate::watched::Watched;
 use cleaner::laws::a_clean_keeps_the_store;
 use climb_plan::laws::the_plan_holds_the_map_after_the_commands;
 use crew::{BadCrew, Crew, NoGate};
@@ -135,15 +138,22 @@ fn read_fault(error: io::Error) -> Ending
 }
 
 // Reads all of the input, and returns the orders of its text.
-fn read_orders<I: Read>(alloc: Global, input: &mut I) -> Result<Vec<Order>, Ending>
+fn read_orders<I: Read>(
+    alloc: Global,
+    input: &mut I,
+    notes: &mut Notes,
+) -> Result<Vec<Order>, Ending>
     ensures { (text : Bytes) × IfSome (I.remaining input.old) (λ known. text ≡ known)
         × MatchResult result (λ orders. (first_bad 1 (text_says text) ≡ None) × (orders.items ≡ orders_of [] (text_says text))) (IsReadEnding (first_bad 1 (text_says text))) }
 {
     let mut text = Vec::new(alloc);
     if let Err(error) = input.read_to_end(&mut text) {
+        notes.failed(Source::Input, Some(error));
         return Err(read_fault(error));
     }
-    Ok(parse(alloc, &text)?)
+    let orders = parse(alloc, &text)?;
+    notes.read(text);
+    Ok(orders)
 }
 
 // Appends the lines of the replies. After an `Err` the first of them stand there.
@@ -348,6 +358,7 @@ fn run_orders<R: AllocGlobal + Threads + Sync, D: Disk, O: Write>(
     store: &mut Store<D>,
     orders: &[Order],
     out: &mut O,
+    notes: &mut Notes,
 ) -> Result<(), Ending>
     requires crew { IsTrue (is_crew crew) }
     requires fine { store.old.has_failed ≡ false }
@@ -357,6 +368,7 @@ fn run_orders<R: AllocGlobal + Threads + Sync, D: Disk, O: Write>(
     let mut lines = Vec::new(rt.alloc());
     for order in orders {
         run_order(rt, crew, store, order, &mut lines, out)?;
+        notes.done();
     }
     Ok(())
 }
@@ -373,10 +385,11 @@ fn flush<O: Write>(done: Result<(), Ending>, out: &mut O) -> Result<(), Ending>
 }
 
 // A new store on a disk that has room for it.
-fn store_made<D: Disk + Drop>(
+fn store_made<D: Disk + Reasoned + Drop>(
     alloc: Global,
     disk: D,
     settings: Settings,
+    notes: &mut Notes,
 ) -> Result<Store<D>, Ending>
     requires good { first_bad_field settings ≡ None }
     requires room { disk_size settings ≤ (D.view disk).size }
@@ -387,19 +400,26 @@ fn store_made<D: Disk + Drop>(
 {
     match Store::create(alloc, disk, settings) {
         Ok(store) => Ok(store),
-        Err(refused) => Err(store_fault(refused.0)),
+        Err(refused) => {
+            notes.failed(Source::File, refused.1.reason());
+            Err(store_fault(refused.0))
+        }
     }
 }
 
 // A new store on a disk in memory, which has just the room that it needs.
-fn store_in_memory(alloc: Global, settings: Settings) -> Result<Store<MemDisk<Global>>, Ending>
+fn store_in_memory(
+    alloc: Global,
+    settings: Settings,
+    notes: &mut Notes,
+) -> Result<Store<MemDisk<Global>>, Ending>
     ensures opens { Opens ⟦<MemDisk<Global> as Disk>⟧.view (new_start settings (replicate (disk_size settings) 0)) result }
     ensures honest { IsHonestStore ⟦<MemDisk<Global> as Disk>⟧.view result }
     ensures fine { IfOk result (λ store. store.has_failed ≡ false) }
 {
     settings.check()?;
     let disk = MemDisk::new(alloc, disk_size(&settings) as usize)?;
-    store_made(alloc, disk, settings)
+    store_made(alloc, disk, settings, notes)
 }
 
 // The disk of the file that there is. It is open for writing only where the session writes, and is held then.
@@ -419,6 +439,7 @@ fn new_store_in_file<R: AllocGlobal + Files>(
     rt: &R,
     path: &str,
     settings: Settings,
+    notes: &mut Notes,
 ) -> Result<Store<FileDisk<R::File>>, Ending>
 where
     R::File: LockFile,
@@ -427,17 +448,21 @@ where
 {
     settings.check()?;
     match FileDisk::create(rt, path, disk_size(&settings)) {
-        Ok(disk) => store_made(rt.alloc(), disk, settings),
-        Err(_) => Err(Ending::Device),
+        Ok(disk) => store_made(rt.alloc(), disk, settings, notes),
+        Err(reason) => {
+            notes.failed(Source::File, Some(reason));
+            Err(Ending::Device)
+        }
     }
 }
 
 // The store that the disk holds, which is settled first: an earlier program may have ended between its write and its sync, and
 // all that this session does stands on what it reads. Nothing is written.
-fn store_found<R: AllocGlobal + Threads + Sync, D: Disk + Drop>(
+fn store_found<R: AllocGlobal + Threads + Sync, D: Disk + Reasoned + Drop>(
     rt: &R,
     crew: Crew,
     disk: D,
+    notes: &mut Notes,
 ) -> Result<Store<D>, Ending>
     requires crew { IsTrue (is_crew crew) }
     ensures opens { (file : Bytes) × (IsTrue (D.view disk).is_honest → file ≡ (D.view disk).seen) × Opens D.view (found_start file) result }
@@ -445,7 +470,10 @@ fn store_found<R: AllocGlobal + Threads + Sync, D: Disk + Drop>(
 {
     match Store::open(rt, rt.alloc(), disk, crew) {
         Ok(store) => Ok(store),
-        Err(refused) => Err(store_fault(refused.0)),
+        Err(refused) => {
+            notes.failed(Source::File, refused.1.reason());
+            Err(store_fault(refused.0))
+        }
     }
 }
 
@@ -455,6 +483,7 @@ fn store_in_file<R: AllocGlobal + Threads + Sync + Files>(
     crew: Crew,
     path: &str,
     writes: bool,
+    notes: &mut Notes,
 ) -> Result<Store<FileDisk<R::File>>, Ending>
 where
     R::File: LockFile,
@@ -463,18 +492,22 @@ where
     ensures fine { IfOk result (λ store. store.has_failed ≡ false) }
 {
     match old_disk(rt, path, writes) {
-        Ok(disk) => store_found(rt, crew, disk),
-        Err(_) => Err(Ending::Device),
+        Ok(disk) => store_found(rt, crew, disk, notes),
+        Err(reason) => {
+            notes.failed(Source::File, Some(reason));
+            Err(Ending::Device)
+        }
     }
 }
 
 // Runs the orders on the store that was opened, and hands on to the device what was written.
-fn run_opened<R: AllocGlobal + Threads + Sync, D: Disk + Drop, O: Write>(
+fn run_opened<R: AllocGlobal + Threads + Sync, D: Disk + Reasoned + Drop, O: Write>(
     rt: &R,
     crew: Crew,
     opened: Result<Store<D>, Ending>,
     orders: &[Order],
     out: &mut O,
+    notes: &mut Notes,
 ) -> Result<(), Ending>
     requires crew { IsTrue (is_crew crew) }
     requires fine { IfOk opened (λ store. store.has_failed ≡ false) }
@@ -482,7 +515,8 @@ fn run_opened<R: AllocGlobal + Threads + Sync, D: Disk + Drop, O: Write>(
         RunsFrom (IsHonestStore D.view opened) start orders.now (O.contents out.old) (O.contents out.new) result }
 {
     let mut store = opened?;
-    let done = run_orders(rt, crew, &mut store, orders, out);
+    let done = run_orders(rt, crew, &mut store, orders, out, notes);
+    notes.failed(Source::File, store.disk().reason());
     flush(done, out)
 }
 
@@ -506,6 +540,38 @@ fn has_writing(orders: &[Order]) -> bool
     orders.iter().any(|order| order.writes())
 }
 
+// What `run` says, on an output that is watched.
+fn run_all<R: AllocGlobal + Threads + Sync + Files, I: Read, O: Write>(
+    rt: &R,
+    told: &Options,
+    input: &mut I,
+    out: &mut O,
+    notes: &mut Notes,
+) -> Result<(), Ending>
+where
+    R::File: LockFile,
+    ensures { Answers (told_of told.now) (I.remaining input.old) (O.contents out.old) (O.contents out.new) result }
+{
+    let orders = read_orders(rt.alloc(), input, notes)?;
+    ask(out)?;
+    let crew = told.crew;
+    crew.check()?;
+    match &told.disk {
+        None => {
+            let opened = store_in_memory(rt.alloc(), told.settings, notes);
+            run_opened(rt, crew, opened, &orders, out, notes)
+        }
+        Some(path) if told.create => {
+            let opened = new_store_in_file(rt, path, told.settings, notes);
+            run_opened(rt, crew, opened, &orders, out, notes)
+        }
+        Some(path) => {
+            let opened = store_in_file(rt, crew, path, has_writing(&orders), notes);
+            run_opened(rt, crew, opened, &orders, out, notes)
+        }
+    }
+}
+
 /// Reads the batch file that `input` holds, and has it run by the crew on the store that is told: a new one in memory, or in a
 /// file that is made anew; or the one that the file holds. The answers go to `out`, in lines, and are the same for every
 /// crew. Where all is done, or a line is bad or there is no store (nothing is run then), or the store refuses an order, all
@@ -522,29 +588,18 @@ pub fn run<R: AllocGlobal + Threads + Sync + Files, I: Read, O: Write>(
     told: &Options,
     input: &mut I,
     out: &mut O,
+    notes: &mut Notes,
 ) -> Result<(), Ending>
 where
     R::File: LockFile,
     ensures { Answers (told_of told.now) (I.remaining input.old) (O.contents out.old) (O.contents out.new) result }
 {
-    let orders = read_orders(rt.alloc(), input)?;
-    ask(out)?;
-    let crew = told.crew;
-    crew.check()?;
-    match &told.disk {
-        None => {
-            let opened = store_in_memory(rt.alloc(), told.settings);
-            run_opened(rt, crew, opened, &orders, out)
-        }
-        Some(path) if told.create => {
-            let opened = new_store_in_file(rt, path, told.settings);
-            run_opened(rt, crew, opened, &orders, out)
-        }
-        Some(path) => {
-            let opened = store_in_file(rt, crew, path, has_writing(&orders));
-            run_opened(rt, crew, opened, &orders, out)
-        }
-    }
+    let mut watched = Watched::new(out);
+    let done = run_all(rt, told, input, &mut watched, notes);
+    notes.failed(Source::Output, watched.reason());
+    // No effect at run time. The proof reads what `out` holds from this use of it.
+    let _ = &*watched.into_inner();
+    done
 }
 
 // Prints the help that was asked for.
@@ -577,39 +632,50 @@ fn answer_words<O: Write>(alloc: Global, error: clap::Error, out: &mut O) -> Res
     }
 }
 
-// Does what the options ask for: prints the version, or runs the batch file.
+// Does what the options ask for: prints the version, or runs the batch file. `more` gets what is to be told of its end in a second line.
 fn obey_options<R: AllocGlobal + Threads + Sync + Files, I: Read, O: Write>(
     rt: &R,
     told: &Options,
     input: &mut I,
     out: &mut O,
+    more: &mut Vec<u8>,
 ) -> Result<(), Ending>
 where
     R::File: LockFile,
+    requires { more.old.items ≡ [] }
     ensures version { told.now.ways.version ≡ true →
         (input.new ≡ input.old) × Prints (O.contents out.old) (O.contents out.new) (version_text ∷ []) (Ok tt) result }
     ensures answers { told.now.ways.version ≡ false →
         Answers (told_of told.now) (I.remaining input.old) (O.contents out.old) (O.contents out.new) result }
+    ensures more { told.now.ways.explain ≡ false → more.new.items ≡ [] }
 {
     if told.ways.version {
         return show_version(out);
     }
-    run(rt, told, input, out)
+    let mut notes = Notes::new(rt.alloc(), told.ways.explain);
+    let done = run(rt, told, input, out, &mut notes);
+    if told.ways.explain {
+        *more = explained(rt.alloc(), told, &notes, &done).into_bytes();
+    }
+    done
 }
 
-// Does what the words ask for.
+// Does what the words ask for. `more` gets what is to be told of its end in a second line.
 fn obey<R: AllocGlobal + Threads + Sync + Files, I: Read, O: Write>(
     rt: &R,
     words: &[String],
     input: &mut I,
     out: &mut O,
+    more: &mut Vec<u8>,
 ) -> Result<(), Ending>
 where
     R::File: LockFile,
-    ensures { EndsBy (map string_bytes words.now) (I.remaining input.old) (O.contents out.old) (O.contents out.new) (input.new ≡ input.old) (out.new ≡ out.old) result }
+    requires { more.old.items ≡ [] }
+    ensures ends { EndsBy (map string_bytes words.now) (I.remaining input.old) (O.contents out.old) (O.contents out.new) (input.new ≡ input.old) (out.new ≡ out.old) result }
+    ensures more { AsksToExplain (map string_bytes words.now) ⊎ (more.new.items ≡ []) }
 {
     match options(rt.alloc(), words) {
-        Ok(told) => obey_options(rt, &told, input, out),
+        Ok(told) => obey_options(rt, &told, input, out, more),
         Err(error) => answer_words(rt.alloc(), error, out),
     }
 }
@@ -631,17 +697,19 @@ fn tell<E: Write>(ending: &Ending, err: &mut E) -> Result<(), Ending>
     write_bytes(line.as_str().as_bytes(), err)
 }
 
-// Tells why the session ends early, if it does, and returns the exit status. Where that cannot be told, nothing is
+// Tells why the session ends early, if it does, and then more of it, and returns the exit status. Where that cannot be told, nothing is
 // left to tell it to.
-fn end<E: Write>(done: Result<(), Ending>, err: &mut E) -> u8
+fn end<E: Write>(done: Result<(), Ending>, more: &[u8], err: &mut E) -> u8
     ensures status { result ≡ status_of_end done }
     ensures quiet { IfOk done (λ _. err.new ≡ err.old) }
-    ensures told { IsTold done (E.contents err.old) (E.contents err.new) }
+    ensures told { IsToldWith more.now done (E.contents err.old) (E.contents err.new) }
 {
     match done {
         Ok(()) => 0,
         Err(ending) => {
-            let _ = tell(&ending, err);
+            if tell(&ending, err).is_ok() {
+                let _ = write_bytes(more, err);
+            }
             ending.status()
         }
     }
@@ -655,7 +723,7 @@ pub fn unread_words<E: Write>(error: io::Error, err: &mut E) -> u8
     ensures told { result ≡ 2 → IsBegun (E.contents err.old) (E.contents err.new) unread_text }
 {
     match error.kind() {
-        ErrorKind::OutOfMemory => end(Err(Ending::Fault(Fault::NoMemory)), err),
+        ErrorKind::OutOfMemory => end(Err(Ending::Fault(Fault::NoMemory)), &[], err),
         _ => {
             let _ = write_bytes(UNREAD, err);
             2
@@ -705,7 +773,7 @@ where
         × ((front : Bytes) × BeginsWith (printed_by start shown text) front × Appends (O.contents out.old) (O.contents out.new) front))) }
 
     // How it ends, and what is read and printed, is right for the words and the text but for memory and devices.
-    // What goes to `err` is told of this end, or a beginning of it.
+    // What goes to `err` is told of this end, or a beginning of it; and more only where the words ask to explain it.
     ensures ends { EndsTold (map string_bytes words.now)
         (I.remaining input.old) (O.contents out.old) (O.contents out.new)
         (E.contents err.old) (E.contents err.new)
@@ -714,6 +782,7 @@ where
     // A session with all done tells nothing.
     ensures quiet { result ≡ 0 → err.new ≡ err.old }
 {
-    let done = obey(rt, words, input, out);
-    end(done, err)
+    let mut more = Vec::new(rt.alloc());
+    let done = obey(rt, words, input, out, &mut more);
+    end(done, &more, err)
 }

@@ -1,4 +1,5 @@
 //! The rules of a batch file and of the command line, by example, and sessions whose input, output or memory fails.
+mod explained;
 mod files;
 mod wipes;
 

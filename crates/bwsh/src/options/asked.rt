@@ -22,4 +22,6 @@ pub struct Options {
 pub struct Ways {
     /// The version is printed, and nothing is read or done.
     pub version: bool,
+    /// What stopped the session is told in a second line on standard error: where it came from, and what to do.
+    pub explain: bool,
 }

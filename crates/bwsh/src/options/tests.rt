@@ -1,5 +1,5 @@
 //! Command lines, by example.
-use super::options;
+use super::{Ways, options};
 use crate::tests::words_of;
 use clap::error::ErrorKind;
 use crew::Crew;
@@ -66,7 +66,7 @@ fn end_of(alloc: Global, line: &str) -> Result<i32, AllocError> {
     }
 }
 
-const REFUSED: [&str; 28] = [
+const REFUSED: [&str; 30] = [
     "--fan 8 --chain 2 --fan 8",
     "--flan 8",
     "8",
@@ -95,6 +95,8 @@ const REFUSED: [&str; 28] = [
     "--version=true",
     "--version 1",
     "-V",
+    "--explain --explain",
+    "--explain=x",
 ];
 
 const HELP: [&str; 4] = [
@@ -163,19 +165,28 @@ fn a_file_changes_no_setting(rt: HostRuntime) -> Result<(), Fail> {
     Ok(())
 }
 
-// Whether a line asks for the version.
-fn asks_for_version(alloc: Global, line: &str) -> Result<bool, AllocError> {
+// Whether a line tells these ways.
+fn tells_ways(alloc: Global, line: &str, ways: Ways) -> Result<bool, AllocError> {
     let words = words_of(alloc, line)?;
-    Ok(options(alloc, &words).is_ok_and(|told| told.ways.version))
+    Ok(options(alloc, &words).is_ok_and(|told| told.ways == ways))
 }
 
 #[test]
-fn the_version_is_asked_for(rt: HostRuntime) -> Result<(), Fail> {
+fn the_ways_that_are_given_are_told(rt: HostRuntime) -> Result<(), Fail> {
     let alloc = rt.alloc();
-    assert!(rt; !asks_for_version(alloc, "--create")?);
-    assert!(rt; asks_for_version(alloc, "--version")?);
-    assert!(rt; asks_for_version(alloc, "--fan 8 --version --disk a")?);
-    assert!(rt; !asks_for_version(alloc, "--disk=--version")?);
+    let plain = Ways::default();
+    assert!(rt; tells_ways(alloc, "", plain)?);
+    assert!(rt; tells_ways(alloc, "--create --disk=--version", plain)?);
+    let version = Ways {
+        version: true,
+        ..plain
+    };
+    assert!(rt; tells_ways(alloc, "--fan 8 --version --disk a", version)?);
+    let explain = Ways {
+        explain: true,
+        ..plain
+    };
+    assert!(rt; tells_ways(alloc, "--explain --create", explain)?);
     Ok(())
 }
 
