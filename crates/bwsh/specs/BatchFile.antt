@@ -70,6 +70,11 @@ abbrev pub IsNoClean : Order → Type 0
 IsNoClean Clean = ⊥
 IsNoClean _ = ⊤
 
+-- whether it is none
+abbrev pub cleans_nothing : Order → Bool
+cleans_nothing Clean = false
+cleans_nothing _ = true
+
 -- the line orders nothing but batches
 abbrev pub IsForBatches : Says → Type 0
 IsForBatches says.Flush = ⊥

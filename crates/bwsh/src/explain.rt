@@ -78,8 +78,8 @@ fn of_order(
             "what line {end} orders found no memory, and did nothing; smaller batches need less\n"
         )?,
         Fault::Full => format!(in alloc;
-            "what line {end} orders finds no room in the log: put a line clean in front of it; \
-            where that doesn't help, the store needs a larger log\n"
+            "what line {end} orders finds no room in the log: put a line clean in front of it, \
+            or take --clean-when-full; where that doesn't help, the store needs a larger log\n"
         )?,
         Fault::NothingToClean => format!(in alloc;
             "the clean in line {end} finds the log in one segment, so there is nothing to clean\n"

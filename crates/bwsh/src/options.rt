@@ -43,6 +43,9 @@ const VERSION: &str = "Prints the version of this program";
 const EXPLAIN: &str =
     "Tells in a second line where a fault or a bad line came from, and what to do";
 
+const CLEAN_WHEN_FULL: &str =
+    "Cleans a log that is full for a flush as often as that takes, at most once a segment";
+
 // What the help says behind the options.
 const AFTER_HELP: &str = "\
 All of standard input is read before anything is run: so where one of its lines is bad, nothing is.
@@ -138,7 +141,8 @@ fn command<'a>(alloc: Global) -> Result<Command<'a>, AllocError>
         .arg(path(alloc, "disk", DISK))?
         .arg(flag(alloc, "create", CREATE))?
         .arg(flag(alloc, "version", VERSION))?
-        .arg(flag(alloc, "explain", EXPLAIN))
+        .arg(flag(alloc, "explain", EXPLAIN))?
+        .arg(flag(alloc, "clean-when-full", CLEAN_WHEN_FULL))
 }
 
 // What clap finds in the words.
@@ -207,11 +211,12 @@ fn ways(matches: &ArgMatches<'_>) -> Ways
     Ways {
         version: flag_at(matches, "version"),
         explain: flag_at(matches, "explain"),
+        clean_when_full: flag_at(matches, "clean-when-full"),
     }
 }
 
 /// Reads the words behind the program's name: `[--fan N] [--chain N] [--max-key N] [--max-value N] [--seg-size N]
-/// [--segments N] [--workers N] [--grain N] [--disk PATH] [--create] [--version] [--explain]`, in any order, `--fan=N` too, and `--help` or `-h`. A
+/// [--segments N] [--workers N] [--grain N] [--disk PATH] [--create] [--version] [--explain] [--clean-when-full]`, in any order, `--fan=N` too, and `--help` or `-h`. A
 /// number that is not given has its default. Whether the numbers are in range is for `Settings::check` and `Crew::check` to say.
 pub fn options(alloc: Global, words: &[String]) -> Result<Options, Error>
     ensures ok { IfOk result (λ o. AsksFor (texts words.now) (told_of o)) }

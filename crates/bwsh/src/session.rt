@@ -18,7 +18,7 @@ ghost use Rattle.bwsh.specs.declared.session.Ending.TheVariants.{Device};
 ghost use Rattle.bwsh.specs.declared.session.Ending.TheVariants as endings;
 ghost use Rattle.bwsh.specs.BatchFile.{text_says, first_bad, orders_of, writes};
 ghost use Rattle.bwsh.specs.Options.{Told, AsksFor, AsksForText, AsksToExplain, AreRefused, told_of};
-ghost use Rattle.bwsh.specs.Session.{status_of, status_of_end, ending_text, unread_text, ending_by, printed_by, BeginsWith, IsBegun, IsToldWith, IsReadEnding, IsForWords, Prints, PrintsOneText, Reads, RunsOn, RunsOrder, RunsFrom, Start, IsStart, IsShown, Opens, IsHonestStore, Answers, EndsBy, EndsTold, step_in, new_start, found_start, version_text};
+ghost use Rattle.bwsh.specs.Session.{status_of, status_of_end, ending_text, unread_text, ending_by, printed_by, BeginsWith, IsBegun, IsToldWith, IsReadEnding, IsForWords, Prints, PrintsOneText, Reads, RunsOn, RunsFirst, RunsOrder, RunsFrom, session_orders, Start, IsStart, IsShown, Opens, IsHonestStore, Answers, EndsBy, EndsTold, step_in, new_start, found_start, version_text};
 ghost use Rattle.bwsh.specs.Shown.{shown_reply, shown_flushed, shown_cleaned, shown_upgraded, shown_report, shown_answer};
 
 use crate::batch_file::{Order, TextFault, parse};
@@ -312,10 +312,84 @@ fn run_step<R: Threads + Sync, D: Disk, O: Write>(
     }
 }
 
-// Runs an order, and writes what it answers.
+// Whether it ends since the log is full for a flush.
+fn is_full(done: &Result<(), Ending>) -> bool
+    ensures full { result ≡ true → done.now ≡ Err (Ending.Fault Fault.Full) }
+    ensures other { result ≡ false → done.now ≢ Err (Ending.Fault Fault.Full) }
+{
+    match done {
+        Err(Ending::Fault(Fault::Full)) => true,
+        _ => false,
+    }
+}
+
+// What is answered where a clean for a flush is refused so: a log in one segment is full.
+fn want_of_room(refused: Ending) -> Ending
+    ensures { ((refused ≡ Ending.Fault Fault.NothingToClean) × (result ≡ Ending.Fault Fault.Full))
+        ⊎ ((refused ≢ Ending.Fault Fault.NothingToClean) × (result ≡ refused)) }
+{
+    match refused {
+        Ending::Fault(Fault::NothingToClean) => Ending::Fault(Fault::Full),
+        other => other,
+    }
+}
+
+// Flushes the store, behind as many cleans as that takes, at most one a segment, and writes what each answers.
+fn run_flush_with_room<R: AllocGlobal + Threads + Sync, D: Disk, O: Write>(
+    rt: &R,
+    crew: Crew,
+    store: &mut Store<D>,
+    lines: &mut Vec<u8>,
+    out: &mut O,
+) -> Result<(), Ending>
+    requires crew { IsTrue (is_crew crew) }
+    requires fine { store.old.has_failed ≡ false }
+    ensures runs { RunsFirst true (D.view store.old.disk).is_honest store.old.settings store.old.store (D.view store.old.disk).seen Order.Flush
+        (O.contents out.old) (O.contents out.new) result store.new.store (D.view store.new.disk).seen }
+    ensures settings { store.new.settings ≡ store.old.settings }
+    ensures honest { (D.view store.new.disk).is_honest ≡ (D.view store.old.disk).is_honest }
+    ensures failed { OnOk result (store.new.has_failed ≡ store.old.has_failed) }
+{
+    for _ in 0..store.segments() {
+        let done = run_step(rt, crew, store, Step::Flush, lines, out);
+        if !is_full(&done) {
+            return done;
+        }
+        if let Err(refused) = run_step(rt, crew, store, Step::Clean, lines, out) {
+            return Err(want_of_room(refused));
+        }
+    }
+    run_step(rt, crew, store, Step::Flush, lines, out)
+}
+
+// Runs a flush, which makes itself room or doesn't, and writes what it answers.
+fn run_flush<R: AllocGlobal + Threads + Sync, D: Disk, O: Write>(
+    rt: &R,
+    crew: Crew,
+    cleans: bool,
+    store: &mut Store<D>,
+    lines: &mut Vec<u8>,
+    out: &mut O,
+) -> Result<(), Ending>
+    requires crew { IsTrue (is_crew crew) }
+    requires fine { store.old.has_failed ≡ false }
+    ensures runs { RunsFirst cleans (D.view store.old.disk).is_honest store.old.settings store.old.store (D.view store.old.disk).seen Order.Flush
+        (O.contents out.old) (O.contents out.new) result store.new.store (D.view store.new.disk).seen }
+    ensures settings { store.new.settings ≡ store.old.settings }
+    ensures honest { (D.view store.new.disk).is_honest ≡ (D.view store.old.disk).is_honest }
+    ensures failed { OnOk result (store.new.has_failed ≡ store.old.has_failed) }
+{
+    if cleans {
+        return run_flush_with_room(rt, crew, store, lines, out);
+    }
+    run_step(rt, crew, store, Step::Flush, lines, out)
+}
+
+// Runs an order, and writes what it answers. A flush makes itself room or doesn't.
 fn run_order<R: AllocGlobal + Threads + Sync, D: Disk, O: Write>(
     rt: &R,
     crew: Crew,
+    cleans: bool,
     store: &mut Store<D>,
     order: &Order,
     lines: &mut Vec<u8>,
@@ -323,7 +397,7 @@ fn run_order<R: AllocGlobal + Threads + Sync, D: Disk, O: Write>(
 ) -> Result<(), Ending>
     requires crew { IsTrue (is_crew crew) }
     requires fine { store.old.has_failed ≡ false }
-    ensures runs { RunsOrder (D.view store.old.disk).is_honest store.old.settings store.old.store (D.view store.old.disk).seen order.now
+    ensures runs { RunsFirst cleans (D.view store.old.disk).is_honest store.old.settings store.old.store (D.view store.old.disk).seen order.now
         (O.contents out.old) (O.contents out.new) result store.new.store (D.view store.new.disk).seen }
     ensures settings { store.new.settings ≡ store.old.settings }
     ensures honest { (D.view store.new.disk).is_honest ≡ (D.view store.old.disk).is_honest }
@@ -341,7 +415,7 @@ fn run_order<R: AllocGlobal + Threads + Sync, D: Disk, O: Write>(
                 out,
             )
         }
-        Order::Flush => run_step(rt, crew, store, Step::Flush, lines, out),
+        Order::Flush => run_flush(rt, crew, cleans, store, lines, out),
         Order::Clean => run_step(rt, crew, store, Step::Clean, lines, out),
         Order::Upgrade => run_step(rt, crew, store, Step::Upgrade, lines, out),
         Order::Verify => {
@@ -351,10 +425,11 @@ fn run_order<R: AllocGlobal + Threads + Sync, D: Disk, O: Write>(
     }
 }
 
-// Runs the orders one after the other, and writes what each answers before the next runs.
+// Runs the orders one after the other, and writes what each answers before the next runs. Flushes make themselves room or don't.
 fn run_orders<R: AllocGlobal + Threads + Sync, D: Disk, O: Write>(
     rt: &R,
     crew: Crew,
+    cleans: bool,
     store: &mut Store<D>,
     orders: &[Order],
     out: &mut O,
@@ -362,12 +437,12 @@ fn run_orders<R: AllocGlobal + Threads + Sync, D: Disk, O: Write>(
 ) -> Result<(), Ending>
     requires crew { IsTrue (is_crew crew) }
     requires fine { store.old.has_failed ≡ false }
-    ensures { RunsOn (D.view store.old.disk).is_honest store.old.settings store.old.store (D.view store.old.disk).seen orders.now
+    ensures { RunsOn cleans (D.view store.old.disk).is_honest store.old.settings store.old.store (D.view store.old.disk).seen orders.now
         (O.contents out.old) (O.contents out.new) result }
 {
     let mut lines = Vec::new(rt.alloc());
     for order in orders {
-        run_order(rt, crew, store, order, &mut lines, out)?;
+        run_order(rt, crew, cleans, store, order, &mut lines, out)?;
         notes.done();
     }
     Ok(())
@@ -504,6 +579,7 @@ where
 fn run_opened<R: AllocGlobal + Threads + Sync, D: Disk + Reasoned + Drop, O: Write>(
     rt: &R,
     crew: Crew,
+    cleans: bool,
     opened: Result<Store<D>, Ending>,
     orders: &[Order],
     out: &mut O,
@@ -512,10 +588,10 @@ fn run_opened<R: AllocGlobal + Threads + Sync, D: Disk + Reasoned + Drop, O: Wri
     requires crew { IsTrue (is_crew crew) }
     requires fine { IfOk opened (λ store. store.has_failed ≡ false) }
     ensures { (start : Start) → Opens D.view start opened →
-        RunsFrom (IsHonestStore D.view opened) start orders.now (O.contents out.old) (O.contents out.new) result }
+        RunsFrom cleans (IsHonestStore D.view opened) start orders.now (O.contents out.old) (O.contents out.new) result }
 {
     let mut store = opened?;
-    let done = run_orders(rt, crew, &mut store, orders, out, notes);
+    let done = run_orders(rt, crew, cleans, &mut store, orders, out, notes);
     notes.failed(Source::File, store.disk().reason());
     flush(done, out)
 }
@@ -554,20 +630,20 @@ where
 {
     let orders = read_orders(rt.alloc(), input, notes)?;
     ask(out)?;
-    let crew = told.crew;
+    let (crew, cleans) = (told.crew, told.ways.clean_when_full);
     crew.check()?;
     match &told.disk {
         None => {
             let opened = store_in_memory(rt.alloc(), told.settings, notes);
-            run_opened(rt, crew, opened, &orders, out, notes)
+            run_opened(rt, crew, cleans, opened, &orders, out, notes)
         }
         Some(path) if told.create => {
             let opened = new_store_in_file(rt, path, told.settings, notes);
-            run_opened(rt, crew, opened, &orders, out, notes)
+            run_opened(rt, crew, cleans, opened, &orders, out, notes)
         }
         Some(path) => {
             let opened = store_in_file(rt, crew, path, has_writing(&orders), notes);
-            run_opened(rt, crew, opened, &orders, out, notes)
+            run_opened(rt, crew, cleans, opened, &orders, out, notes)
         }
     }
 }
@@ -578,6 +654,9 @@ where
 /// answers stand there. Where memory is refused, some first lines of them do; where a device fails, some first bytes. A bad
 /// line goes before an output that is closed, that before a crew out of range, and that before settings that are refused and before
 /// a fault of the file; and a fault of the output goes before one that was found earlier.
+///
+/// Where flushes are to make themselves room, one for which the log is full is made behind as many cleans as it takes, at most one for each
+/// segment, and each of these prints its line too. Where they make no room, or none can be done any more, it is `Fault::Full`.
 ///
 /// Where an order is a flush, a clean or an upgrade, or the file is made anew, the session holds it alone, and else it shares it and only
 /// reads; a lock that is refused is a fault of the file. A file in which no store is found, or that can't be opened or locked, stays as
@@ -763,14 +842,14 @@ where
     // anything.
     ensures done { result ≡ 0 → AsksForText (map string_bytes words.now) ⊎ ((told : Told) × AsksFor (map string_bytes words.now) told
         × IfSome (I.remaining input.old) (λ text. (first_bad 1 (text_says text) ≡ None)
-        × ((start : Start) × IsStart told start × IsOk start × (shown : Reads) × IsShown told start shown (orders_of [] (text_says text))
-        × Appends (O.contents out.old) (O.contents out.new) (printed_by start shown text)))) }
+        × ((start : Start) × IsStart told start × IsOk start × (shown : Reads) × IsShown told start shown (session_orders told start shown text)
+        × Appends (O.contents out.old) (O.contents out.new) (printed_by start shown (session_orders told start shown text))))) }
     ensures bad { result ≡ 3 → Appends (O.contents out.old) (O.contents out.new) []
         × IfSome (I.remaining input.old) (λ text. first_bad 1 (text_says text) ≢ None) }
     ensures beginning { AsksForText (map string_bytes words.now) ⊎ Appends (O.contents out.old) (O.contents out.new) []
         ⊎ ((told : Told) × AsksFor (map string_bytes words.now) told × IfSome (I.remaining input.old) (λ text. (start : Start) × IsStart told start
-        × (shown : Reads) × IsShown told start shown (orders_of [] (text_says text))
-        × ((front : Bytes) × BeginsWith (printed_by start shown text) front × Appends (O.contents out.old) (O.contents out.new) front))) }
+        × (shown : Reads) × IsShown told start shown (session_orders told start shown text)
+        × ((front : Bytes) × BeginsWith (printed_by start shown (session_orders told start shown text)) front × Appends (O.contents out.old) (O.contents out.new) front))) }
 
     // How it ends, and what is read and printed, is right for the words and the text but for memory and devices.
     // What goes to `err` is told of this end, or a beginning of it; and more only where the words ask to explain it.

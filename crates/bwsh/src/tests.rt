@@ -1,6 +1,7 @@
 //! The rules of a batch file and of the command line, by example, and sessions whose input, output or memory fails.
 mod explained;
 mod files;
+mod room;
 mod wipes;
 
 use crate::batch_file::{TextFault, parse};

@@ -24,4 +24,6 @@ pub struct Ways {
     pub version: bool,
     /// What stopped the session is told in a second line on standard error: where it came from, and what to do.
     pub explain: bool,
+    /// A flush for which the log is full is made behind as many cleans as it takes, at most one a segment, and each prints its line.
+    pub clean_when_full: bool,
 }

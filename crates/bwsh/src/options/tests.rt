@@ -66,7 +66,7 @@ fn end_of(alloc: Global, line: &str) -> Result<i32, AllocError> {
     }
 }
 
-const REFUSED: [&str; 30] = [
+const REFUSED: [&str; 31] = [
     "--fan 8 --chain 2 --fan 8",
     "--flan 8",
     "8",
@@ -97,6 +97,7 @@ const REFUSED: [&str; 30] = [
     "-V",
     "--explain --explain",
     "--explain=x",
+    "--clean-when-full --fan 8 --clean-when-full",
 ];
 
 const HELP: [&str; 4] = [
@@ -187,6 +188,11 @@ fn the_ways_that_are_given_are_told(rt: HostRuntime) -> Result<(), Fail> {
         ..plain
     };
     assert!(rt; tells_ways(alloc, "--explain --create", explain)?);
+    let clean_when_full = Ways {
+        clean_when_full: true,
+        ..plain
+    };
+    assert!(rt; tells_ways(alloc, "--clean-when-full", clean_when_full)?);
     Ok(())
 }
 

@@ -138,8 +138,8 @@ fn a_full_log_is_explained(rt: HostRuntime) -> Result<(), Fail> {
     let status = session(&rt, &words, &mut input.as_slice(), &mut written, &mut told);
     assert_eq!(rt; status, 4);
     let right = b"fault 10 Full\n\
-        what line 36 orders finds no room in the log: put a line clean in front of it; \
-        where that doesn't help, the store needs a larger log\n";
+        what line 36 orders finds no room in the log: put a line clean in front of it, \
+        or take --clean-when-full; where that doesn't help, the store needs a larger log\n";
     assert_eq!(rt; told.as_slice(), right.as_slice());
     Ok(())
 }
