@@ -37,7 +37,7 @@ takes_text name = takes_number name || bytes_eq (codes "disk") name
 
 -- the options that take nothing
 abbrev pub flag_names : List Text
-flag_names = codes "create" ∷ codes "version" ∷ codes "explain" ∷ codes "clean-when-full" ∷ []
+flag_names = codes "create" ∷ codes "version" ∷ codes "explain" ∷ codes "clean-when-full" ∷ codes "stat" ∷ []
 
 -- the option takes nothing
 abbrev pub takes_nothing : Text → Bool
@@ -163,6 +163,7 @@ ways_of given = record {
   version = is_given (codes "version") given;
   explain = is_given (codes "explain") given;
   clean_when_full = is_given (codes "clean-when-full") given;
+  stat = is_given (codes "stat") given;
 }
 
 -- what words ask for: the six settings, the crew, the file in which the store is, if it is in one, whether that file is made anew, and in

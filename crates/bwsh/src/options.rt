@@ -46,6 +46,10 @@ const EXPLAIN: &str =
 const CLEAN_WHEN_FULL: &str =
     "Cleans a log that is full for a flush as often as that takes, at most once a segment";
 
+const STAT: &str =
+    "Prints behind all answers the sequence number, the head and the tail of the log, its \
+    segments in use, and the pages and the pairs of the tree";
+
 // What the help says behind the options.
 const AFTER_HELP: &str = "\
 All of standard input is read before anything is run: so where one of its lines is bad, nothing is.
@@ -142,7 +146,8 @@ fn command<'a>(alloc: Global) -> Result<Command<'a>, AllocError>
         .arg(flag(alloc, "create", CREATE))?
         .arg(flag(alloc, "version", VERSION))?
         .arg(flag(alloc, "explain", EXPLAIN))?
-        .arg(flag(alloc, "clean-when-full", CLEAN_WHEN_FULL))
+        .arg(flag(alloc, "clean-when-full", CLEAN_WHEN_FULL))?
+        .arg(flag(alloc, "stat", STAT))
 }
 
 // What clap finds in the words.
@@ -212,11 +217,13 @@ fn ways(matches: &ArgMatches<'_>) -> Ways
         version: flag_at(matches, "version"),
         explain: flag_at(matches, "explain"),
         clean_when_full: flag_at(matches, "clean-when-full"),
+        stat: flag_at(matches, "stat"),
     }
 }
 
 /// Reads the words behind the program's name: `[--fan N] [--chain N] [--max-key N] [--max-value N] [--seg-size N]
-/// [--segments N] [--workers N] [--grain N] [--disk PATH] [--create] [--version] [--explain] [--clean-when-full]`, in any order, `--fan=N` too, and `--help` or `-h`. A
+/// [--segments N] [--workers N] [--grain N] [--disk PATH] [--create] [--version] [--explain] [--clean-when-full]
+/// [--stat]`, in any order, `--fan=N` too, and `--help` or `-h`. A
 /// number that is not given has its default. Whether the numbers are in range is for `Settings::check` and `Crew::check` to say.
 pub fn options(alloc: Global, words: &[String]) -> Result<Options, Error>
     ensures ok { IfOk result (λ o. AsksFor (texts words.now) (told_of o)) }

@@ -16,17 +16,20 @@ ghost use Rattle.engine.specs.Plays.{step_of, answer_of};
 ghost use Rattle.bwsh.specs.declared.session.Ending.{Ending};
 ghost use Rattle.bwsh.specs.declared.session.Ending.TheVariants.{Device};
 ghost use Rattle.bwsh.specs.declared.session.Ending.TheVariants as endings;
-ghost use Rattle.bwsh.specs.BatchFile.{text_says, first_bad, orders_of, writes};
+ghost use Rattle.verify.specs.Report.{report};
+ghost use Rattle.bwsh.specs.BatchFile.{text_says, first_bad, orders_of, with_numbers, writes};
 ghost use Rattle.bwsh.specs.Options.{Told, AsksFor, AsksForText, AsksToExplain, AreRefused, told_of};
-ghost use Rattle.bwsh.specs.Session.{status_of, status_of_end, ending_text, unread_text, ending_by, printed_by, BeginsWith, IsBegun, IsToldWith, IsReadEnding, IsForWords, Prints, PrintsOneText, Reads, RunsOn, RunsFirst, RunsOrder, RunsFrom, session_orders, Start, IsStart, IsShown, Opens, IsHonestStore, Answers, EndsBy, EndsTold, step_in, new_start, found_start, version_text};
-ghost use Rattle.bwsh.specs.Shown.{shown_reply, shown_flushed, shown_cleaned, shown_upgraded, shown_report, shown_answer};
+ghost use Rattle.bwsh.specs.Session.{status_of, status_of_end, ending_text, unread_text, ending_by, printed_by, BeginsWith, IsBegun, IsToldWith, IsReadEnding, IsForWords, Prints, PrintsOneText, Reads, RunsOn, RunsFirst, RunsOrder, RunsFrom, session_orders, Start, IsStart, IsShown, Opens, IsHonestStore, Answers, EndsBy, EndsTold, step_in, new_start, found_start, numbers_of, version_text};
+ghost use Rattle.bwsh.specs.Shown.{shown_reply, shown_flushed, shown_cleaned, shown_upgraded, shown_report, shown_numbers, shown_answer};
 
 use crate::batch_file::{Order, TextFault, parse};
 use crate::explain::explained;
 use crate::line::Why;
 use crate::notes::{Notes, Reasoned, Source};
 use crate::options::{Options, options};
-use crate::show::{show_cleaned, show_flushed, show_reply, show_report, show_upgraded};
+use crate::show::{
+    StoreNumbers, show_cleaned, show_flushed, show_numbers, show_reply, show_report, show_upgraded,
+};
 use crate::watched::Watched;
 use cleaner::laws::a_clean_keeps_the_store;
 use climb_plan::laws::the_plan_holds_the_map_after_the_commands;
@@ -34,7 +37,7 @@ use crew::{BadCrew, Crew, NoGate};
 use engine::{Answer, Disk, FileDisk, LockFile, MemDisk, Step, Store};
 use flush_log::segments::disk_size;
 use keys::{Fault, Reply, Settings};
-use std::alloc::{AllocError, Global};
+use std::alloc::{AllocError, AllocFailed, Global};
 use std::fmt::{InlineText, Write as _};
 use std::io::{ErrorKind, Read, Write};
 use std::rt::Files;
@@ -99,6 +102,14 @@ impl From<AllocError> for Ending {
     }
 }
 
+impl<T: Drop> From<AllocFailed<T>> for Ending {
+    ghost from_gives = { λ _ ending. ending ≡ endings.Fault NoMemory };
+
+    fn from(_refused: AllocFailed<T>) -> Ending {
+        Ending::Fault(Fault::NoMemory)
+    }
+}
+
 impl From<Fault> for Ending {
     ghost from_gives = { λ fault ending. ending ≡ endings.Fault fault };
 
@@ -137,22 +148,26 @@ fn read_fault(error: io::Error) -> Ending
     }
 }
 
-// Reads all of the input, and returns the orders of its text.
+// Reads all of the input, and returns the orders of its text; and then the one to tell the numbers, where it is to be.
 fn read_orders<I: Read>(
     alloc: Global,
     input: &mut I,
+    numbers: bool,
     notes: &mut Notes,
 ) -> Result<Vec<Order>, Ending>
     ensures { (text : Bytes) × IfSome (I.remaining input.old) (λ known. text ≡ known)
-        × MatchResult result (λ orders. (first_bad 1 (text_says text) ≡ None) × (orders.items ≡ orders_of [] (text_says text))) (IsReadEnding (first_bad 1 (text_says text))) }
+        × MatchResult result (λ orders. (first_bad 1 (text_says text) ≡ None) × (orders.items ≡ with_numbers numbers (orders_of [] (text_says text)))) (IsReadEnding (first_bad 1 (text_says text))) }
 {
     let mut text = Vec::new(alloc);
     if let Err(error) = input.read_to_end(&mut text) {
         notes.failed(Source::Input, Some(error));
         return Err(read_fault(error));
     }
-    let orders = parse(alloc, &text)?;
+    let mut orders = parse(alloc, &text)?;
     notes.read(text);
+    if numbers {
+        orders.push(Order::Numbers)?;
+    }
     Ok(orders)
 }
 
@@ -246,6 +261,35 @@ fn write_report<O: Write>(report: &Report, lines: &mut Vec<u8>, out: &mut O) -> 
 {
     lines.clear();
     show_report(report, lines)?;
+    write_bytes(lines, out)
+}
+
+// The numbers of a store of whose tree there is this report.
+fn numbers_of<D: Disk>(store: &Store<D>, report: &Report) -> StoreNumbers
+    requires { report.now ≡ report store.now.store.tree }
+    ensures { result ≡ numbers_of store.now.settings store.now.store }
+{
+    StoreNumbers {
+        sequence: store.sequence(),
+        head: store.head(),
+        tail: store.tail(),
+        in_use: store.segments_in_use(),
+        segments: store.segments(),
+        pages: report.pages,
+        pairs: report.pairs,
+    }
+}
+
+// Writes the line of the numbers, in the memory of `lines`.
+fn write_numbers<O: Write>(
+    numbers: &StoreNumbers,
+    lines: &mut Vec<u8>,
+    out: &mut O,
+) -> Result<(), Ending>
+    ensures { Prints (O.contents out.old) (O.contents out.new) (shown_numbers numbers.now ∷ []) (Ok tt) result }
+{
+    lines.clear();
+    show_numbers(numbers, lines)?;
     write_bytes(lines, out)
 }
 
@@ -421,6 +465,10 @@ fn run_order<R: AllocGlobal + Threads + Sync, D: Disk, O: Write>(
         Order::Verify => {
             let report = store.verify(rt)?;
             write_report(&report, lines, out)
+        }
+        Order::Numbers => {
+            let report = store.verify(rt)?;
+            write_numbers(&numbers_of(store, &report), lines, out)
         }
     }
 }
@@ -628,7 +676,7 @@ where
     R::File: LockFile,
     ensures { Answers (told_of told.now) (I.remaining input.old) (O.contents out.old) (O.contents out.new) result }
 {
-    let orders = read_orders(rt.alloc(), input, notes)?;
+    let orders = read_orders(rt.alloc(), input, told.ways.stat, notes)?;
     ask(out)?;
     let (crew, cleans) = (told.crew, told.ways.clean_when_full);
     crew.check()?;

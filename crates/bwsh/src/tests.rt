@@ -200,6 +200,49 @@ fn a_clean_tells_the_first_segment(rt: HostRuntime) -> Result<(), Fail> {
     Ok(())
 }
 
+// A new store; and example log 16 with a pair that isn't flushed: before its clean, behind it, and behind a flush. Where a session
+// ends early the numbers aren't told.
+#[test]
+fn the_numbers_of_a_store_are_told(rt: HostRuntime) -> Result<(), Fail> {
+    let mut words = small_store(rt.alloc())?;
+    push_words(rt.alloc(), &mut words, "--stat")?;
+    let out = b"stat sequence 1 head 0 tail 33 segments 1 of 4 pages 1 pairs 0\n";
+    check(&rt, &words, b"", 0, out, b"");
+    for (lines, printed, told) in &NUMBERED {
+        let mut input = CLEANED[..CLEANED.len() - 12].to_vec(rt.alloc())?;
+        input.extend_from_slice(lines)?;
+        let mut out = CLEANED_OUT[..CLEANED_OUT.len() - 10].to_vec(rt.alloc())?;
+        out.extend_from_slice(printed)?;
+        let status = if told.is_empty() { 0 } else { 4 };
+        check(&rt, &words, &input, status, &out, told);
+    }
+    Ok(())
+}
+
+// What follows on the lines of example log 16 up to its cleans, what it prints, and what it is told.
+static NUMBERED: [(&[u8], &[u8], &[u8]); 4] = [
+    (
+        b"",
+        b"stat sequence 6 head 0 tail 309 segments 2 of 4 pages 3 pairs 6\n",
+        b"",
+    ),
+    (
+        b"clean\n",
+        b"cleaned 1\nstat sequence 7 head 1 tail 464 segments 1 of 4 pages 3 pairs 6\n",
+        b"",
+    ),
+    (
+        b"clean\nflush\n",
+        b"cleaned 1\nflushed 8\nstat sequence 8 head 1 tail 486 segments 1 of 4 pages 3 pairs 6\n",
+        b"",
+    ),
+    (
+        b"clean\nclean\n",
+        b"cleaned 1\n",
+        b"fault 11 NothingToClean\n",
+    ),
+];
+
 // The same with four workers, each of whom draws one page at a time, and with as many of both as there may be.
 #[test]
 fn a_crew_changes_no_answer(rt: HostRuntime) -> Result<(), Fail> {
@@ -297,7 +340,7 @@ fn words_are_refused(rt: HostRuntime) -> Result<(), Fail> {
 }
 
 // What the help has to say: each kind of line, what a segment has to hold, the ranges of a crew, who holds a file, and the exit statuses.
-const HELP: [&str; 27] = [
+const HELP: [&str; 30] = [
     "put K V",
     "add K V",
     "get K",
@@ -322,6 +365,9 @@ const HELP: [&str; 27] = [
     "Nothing lasts but what a flush",
     "--create replaces what stands at its path",
     "--version",
+    "--explain",
+    "--clean-when-full",
+    "--stat",
     "2  The words",
     "3  A line",
     "4  A fault",

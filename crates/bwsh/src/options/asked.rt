@@ -26,4 +26,6 @@ pub struct Ways {
     pub explain: bool,
     /// A flush for which the log is full is made behind as many cleans as it takes, at most one a segment, and each prints its line.
     pub clean_when_full: bool,
+    /// Behind all orders the numbers of the store are told, in one line more.
+    pub stat: bool,
 }

@@ -193,6 +193,11 @@ fn the_ways_that_are_given_are_told(rt: HostRuntime) -> Result<(), Fail> {
         ..plain
     };
     assert!(rt; tells_ways(alloc, "--clean-when-full", clean_when_full)?);
+    let stat = Ways {
+        stat: true,
+        ..plain
+    };
+    assert!(rt; tells_ways(alloc, "--stat", stat)?);
     Ok(())
 }
 
