@@ -23,6 +23,7 @@ use Rattle.flush_log.specs.Segments.{disk_size, last_segment}
 use Rattle.recovery.specs.StoreOfDisk.{first_store, store_of_disk}
 use Rattle.engine.specs.State.{State}
 use Rattle.engine.specs.Steps.{Step, Stepped, batching, after_step}
+use Rattle.bwsh.specs.declared.line.Says.{Says}
 use Rattle.bwsh.specs.declared.line.Why.{Why}
 use Rattle.bwsh.specs.declared.batch_file.Order.{Order}
 use Rattle.bwsh.specs.declared.batch_file.Order.TheVariants.{Batch, Flush, Clean, Upgrade, Verify, Numbers}
@@ -31,8 +32,9 @@ use Rattle.bwsh.specs.declared.batch_file.TextFault.TheVariants as faults
 use Rattle.bwsh.specs.declared.session.Ending.{Ending}
 use Rattle.bwsh.specs.declared.session.Ending.TheVariants.{Words, Bad, Device}
 use Rattle.bwsh.specs.declared.session.Ending.TheVariants as endings
+use Rattle.bwsh.specs.declared.options.asked.Ways.{Ways}
 use Rattle.bwsh.specs.declared.show.StoreNumbers.{StoreNumbers}
-use Rattle.bwsh.specs.BatchFile.{text_says, first_bad, orders_of, with_numbers}
+use Rattle.bwsh.specs.BatchFile.{text_says, first_bad, ordered, streamed}
 use Rattle.bwsh.specs.Line.{why_text}
 use Rattle.bwsh.specs.Options.{Text, Told, AsksFor, AsksForText, AsksToExplain, AreRefused}
 use Rattle.bwsh.specs.Shown.{shown_reply, shown_flushed, shown_cleaned, shown_upgraded, shown_report, shown_numbers}
@@ -272,6 +274,11 @@ AreLeftFrom (Err fault) shown orders = ⊤
 abbrev pub IsShown : Told → Start → Reads → List Order → Type 0
 IsShown told start shown orders = told.disk ≡ None → AreLeftFrom start shown orders
 
+-- whether all is done, whatever is told then
+abbrev pub without_value : {X : Type 0} → Result X Ending → Result (Unit {0}) Ending
+without_value (Ok x) = Ok tt
+without_value (Err early) = Err early
+
 -- an end for this reason, or with all done
 abbrev pub stopped_by : Option Ending → Result (Unit {0}) Ending
 stopped_by None = Ok tt
@@ -294,17 +301,38 @@ lines_after (Some bad) start shown orders = []
 lines_after None (Err fault) shown orders = []
 lines_after None (Ok p) shown orders = answer_lines p.0 p.1.0 shown (contents p.1.0.tree) (accepted p.0 p.1.0 shown orders)
 
--- the orders that a session that is told this, and starts so, runs of a text
-abbrev pub session_orders : Told → Start → Reads → Bytes → List Order
-session_orders told start shown text = run_from told.ways.clean_when_full start shown (with_numbers told.ways.stat (orders_of [] (text_says text)))
+-- the bad line ends it
+abbrev pub bad_ending : ℕ × Why → Ending
+bad_ending bad = Bad bad.0 bad.1
+
+-- how a stream with this first bad line, if there is one, ends by its right, that starts so and runs these orders up to it: at a start that
+-- has no store, else at the first order that the store refuses, else at the bad line, or with all done
+abbrev pub end_streamed : Option (ℕ × Why) → Start → Reads → List Order → Result (Unit {0}) Ending
+end_streamed bad (Err fault) shown orders = Err (endings.Fault fault)
+end_streamed bad (Ok p) shown orders =
+    stopped_by (option_or (option_map (λ fault. endings.Fault fault) (first_refusal p.0 p.1.0 shown orders)) (option_map bad_ending bad))
+
+-- how a session with this first bad line, if there is one, ends by its right, streamed or not
+abbrev pub end_by : Bool → Option (ℕ × Why) → Start → Reads → List Order → Result (Unit {0}) Ending
+end_by false bad start shown orders = end_after bad start shown orders
+end_by true bad start shown orders = end_streamed bad start shown orders
+
+-- the lines that it prints by its right: a bad line keeps them all back, unless it is streamed
+abbrev pub lines_by : Bool → Option (ℕ × Why) → Start → Reads → List Order → List Bytes
+lines_by false bad start shown orders = lines_after bad start shown orders
+lines_by true bad start shown orders = lines_after None start shown orders
+
+-- the orders that a session that is told this, and starts so, runs of lines that say this
+abbrev pub session_orders : Told → Start → Reads → List Says → List Order
+session_orders told start shown said = run_from told.ways.clean_when_full start shown (ordered told.ways said)
 
 -- how it ends by its right
-abbrev pub session_end : Told → Start → Reads → Bytes → Result (Unit {0}) Ending
-session_end told start shown text = end_after (first_bad 1 (text_says text)) start shown (session_orders told start shown text)
+abbrev pub session_end : Told → Start → Reads → List Says → Result (Unit {0}) Ending
+session_end told start shown said = end_by told.ways.stream (first_bad 1 said) start shown (session_orders told start shown said)
 
 -- the lines that it prints by its right
-abbrev pub session_lines : Told → Start → Reads → Bytes → List Bytes
-session_lines told start shown text = lines_after (first_bad 1 (text_says text)) start shown (session_orders told start shown text)
+abbrev pub session_lines : Told → Start → Reads → List Says → List Bytes
+session_lines told start shown said = lines_by told.ways.stream (first_bad 1 said) start shown (session_orders told start shown said)
 
 -- a session whose text has this first bad line, if it has one, can end so before anything is run
 abbrev pub IsReadEnding : Option (ℕ × Why) → Ending → Type 0
@@ -364,14 +392,35 @@ RunsOrder honest settings st left order old new end now bytes =
     (file : Bytes) × (IsTrue honest → file ≡ left) × Runs settings st (λ i. file) (order ∷ []) old new end
     × OnOk end (LeavesStored honest settings st file order now bytes)
 
--- What an order prints, and how it ends, is right in front of any others, which are run then: all of it is done, and they go on with this
--- store and, on an honest disk, these bytes; or it stops them.
-abbrev pub RunsFirst : Bool → Bool → Settings → Store → Bytes → Order → Option Bytes → Option Bytes → Result (Unit {0}) Ending → Store → Bytes → Type 0
-RunsFirst cleans honest settings st left order old new (Ok done) now bytes =
+-- What these orders print, and how they end, is right in front of any others, which are run then: all of them are done, and the others go on
+-- with this store and, on an honest disk, these bytes; or they stop them.
+abbrev pub RunsFirst : Bool → Bool → Settings → Store → Bytes → List Order → Option Bytes → Option Bytes → Result (Unit {0}) Ending → Store → Bytes → Type 0
+RunsFirst cleans honest settings st left orders old new (Ok done) now bytes =
     (rest : List Order) (last : Option Bytes) (end : Result (Unit {0}) Ending) → RunsOn cleans honest settings now bytes rest new last end
-    → RunsOn cleans honest settings st left (order ∷ rest) old last end
-RunsFirst cleans honest settings st left order old new (Err early) now bytes =
-    (rest : List Order) → RunsOn cleans honest settings st left (order ∷ rest) old new (Err early)
+    → RunsOn cleans honest settings st left (orders ++ rest) old last end
+RunsFirst cleans honest settings st left orders old new (Err early) now bytes =
+    (rest : List Order) → RunsOn cleans honest settings st left (orders ++ rest) old new (Err early)
+
+-- what a stream of lines prints of this store, and how it ends, is right but for memory and devices, for what some lines say, which are those
+-- of the known text: the orders up to the first bad one of them, which is told where all of these are done
+abbrev pub StreamsOn : Ways → Bool → Settings → Store → Bytes → Option Bytes → Option Bytes → Option Bytes → Result (Option (ℕ × Why)) Ending → Type 0
+StreamsOn ways honest settings st left known old new end =
+    (said : List Says) × IfSome known (λ text. said ≡ text_says text)
+    × RunsOn ways.clean_when_full honest settings st left (streamed ways.stat [] said) old new (without_value end)
+    × IfOk end (λ bad. bad ≡ first_bad 1 said)
+
+-- how it ends, where a bad line is told
+abbrev pub stream_ended : Result (Option (ℕ × Why)) Ending → Result (Unit {0}) Ending
+stream_ended (Ok bad) = stopped_by (option_map bad_ending bad)
+stream_ended (Err early) = Err early
+
+-- the same from this start, with the bad line as the end
+unfoldable pub StreamsFrom : Ways → Type 0 → Start → Option Bytes → Option Bytes → Option Bytes → Result (Unit {0}) Ending → Type 0
+StreamsFrom ways IsHonest start known old new end =
+    (said : List Says) × IfSome known (λ text. said ≡ text_says text) × (shown : Reads)
+    × (IsHonest → AreLeftFrom start shown (run_from ways.clean_when_full start shown (streamed ways.stat [] said)))
+    × Prints old new (lines_after None start shown (run_from ways.clean_when_full start shown (streamed ways.stat [] said)))
+    (end_streamed (first_bad 1 said) start shown (run_from ways.clean_when_full start shown (streamed ways.stat [] said))) end
 
 -- what these orders print from this start, and how they end, is right but for memory and devices, where flushes make themselves room or
 -- don't, and the disk shows some bytes before each that is run: what was left, where it is honest
@@ -395,13 +444,13 @@ Opens view start (Err early) = IsUnopened start early
 abbrev pub IsHonestStore : {D : Type 0} → (D → View) → Result (State D) Ending → Type 0
 IsHonestStore view opened = IfOk opened (λ x. IsTrue (view x.disk).is_honest)
 
--- what a session prints that is told this, and how it ends, is right for a text, which is the known one, for a start, and for what the
--- disk shows before each order, but for memory and devices
+-- what a session prints that is told this, and how it ends, is right for what some lines say, which are those of the known text, for a
+-- start, and for what the disk shows before each order, but for memory and devices
 unfoldable pub Answers : Told → Option Bytes → Option Bytes → Option Bytes → Result (Unit {0}) Ending → Type 0
 Answers told known old new end =
-    (text : Bytes) × IfSome known (λ bytes. text ≡ bytes) × (start : Start) × IsStart told start
-    × (shown : Reads) × IsShown told start shown (session_orders told start shown text)
-    × Prints old new (session_lines told start shown text) (session_end told start shown text) end
+    (said : List Says) × IfSome known (λ text. said ≡ text_says text) × (start : Start) × IsStart told start
+    × (shown : Reads) × IsShown told start shown (session_orders told start shown said)
+    × Prints old new (session_lines told start shown said) (session_end told start shown said) end
 
 -- a text is printed, but for memory and devices
 abbrev pub PrintsOneText : Option Bytes → Option Bytes → Result (Unit {0}) Ending → Type 0

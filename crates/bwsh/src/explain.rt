@@ -29,7 +29,7 @@ fn name(told: &Options) -> &str {
 }
 
 // A call failed.
-fn of_failure(alloc: Global, told: &Options, notes: &Notes) -> Result<String, AllocError> {
+fn of_failure(alloc: Global, told: &Options, notes: &mut Notes) -> Result<String, AllocError> {
     match notes.failure() {
         None => format!(in alloc; "{}: a call failed, and nothing tells why\n", name(told)),
         Some((Source::Input, reason)) => format!(in alloc; "standard input: {reason}\n"),
@@ -50,7 +50,7 @@ fn of_command(
     what: &str,
 ) -> Result<String, AllocError> {
     let end = lines.end;
-    match lines.commands.get(place) {
+    match lines.command(place) {
         Some(line) => format!(in alloc;
             "the batch that line {end} ends did nothing: the command in line {line} has {what} for this store\n"
         ),
@@ -98,7 +98,7 @@ fn of_order(
 fn of_fault(
     alloc: Global,
     told: &Options,
-    notes: &Notes,
+    notes: &mut Notes,
     fault: &Fault,
 ) -> Result<String, AllocError> {
     if let Some(lines) = notes.lines() {
@@ -123,7 +123,12 @@ fn of_fault(
 }
 
 // A bad line.
-fn of_line(alloc: Global, why: Why) -> Result<String, AllocError> {
+fn of_line(alloc: Global, told: &Options, why: Why) -> Result<String, AllocError> {
+    let before = if told.ways.stream {
+        "what lines before it ended is done"
+    } else {
+        "nothing was run"
+    };
     let right = match why {
         Why::UnknownCommand =>
             "a line begins with one of the commands that --help tells, or with #",
@@ -132,19 +137,19 @@ fn of_line(alloc: Global, why: Why) -> Result<String, AllocError> {
             "words are of printed ASCII, and %XX is the byte of two hexadecimal digits",
         Why::BadNumber => "a limit is a number from 0 to 4294967295",
     };
-    format!(in alloc; "nothing was run: {right}\n")
+    format!(in alloc; "{before}: {right}\n")
 }
 
 // What is told of this end.
 fn text_of(
     alloc: Global,
     told: &Options,
-    notes: &Notes,
+    notes: &mut Notes,
     ending: &Ending,
 ) -> Result<String, AllocError> {
     match ending {
         Ending::Words(_) => Ok(String::new(alloc)),
-        Ending::Bad { line: _, why } => of_line(alloc, *why),
+        Ending::Bad { line: _, why } => of_line(alloc, told, *why),
         Ending::Fault(fault) => of_fault(alloc, told, notes, fault),
         Ending::Device => of_failure(alloc, told, notes),
     }
@@ -155,7 +160,7 @@ fn text_of(
 pub fn explained(
     alloc: Global,
     told: &Options,
-    notes: &Notes,
+    notes: &mut Notes,
     done: &Result<(), Ending>,
 ) -> String {
     match done {

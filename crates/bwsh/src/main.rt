@@ -8,10 +8,14 @@ pub mod laws;
 pub mod line;
 pub mod notes;
 pub mod number;
+mod opening;
 pub mod options;
+mod output;
 pub mod program;
+mod running;
 pub mod session;
 pub mod show;
+mod stream;
 #[cfg(test)]
 mod tests;
 pub mod token;

@@ -21,10 +21,13 @@ pub enum Source {
 /// The lines of one order of a batch file, by their numbers from 1.
 #[derive(Drop)]
 pub struct OrderLines {
-    /// Those of the commands that were pending, in their order.
-    pub commands: Vec<u64>,
+    // Those of the commands that were pending, in their order; fewer, where memory was refused.
+    commands: Vec<u64>,
+    is_whole: bool,
     /// The line that was read last: the one at which the order was complete. 0 where none was read.
     pub end: u64,
+    // Whether that line ended the order, so that the next one begins another.
+    is_ended: bool,
 }
 
 impl OrderLines {
@@ -32,8 +35,31 @@ impl OrderLines {
     pub fn new(alloc: Global) -> Self {
         OrderLines {
             commands: Vec::new(alloc),
+            is_whole: true,
             end: 0,
+            is_ended: false,
         }
+    }
+
+    // Takes the line of this number in, which says this.
+    fn follow(&mut self, line: u64, says: &Says) {
+        if self.is_ended {
+            self.commands.clear();
+            self.is_whole = true;
+        }
+        self.end = line;
+        self.is_ended = !matches!(says, Says::Nothing | Says::Command(_));
+        if let Says::Command(_) = says {
+            self.is_whole &= self.commands.push(line).is_ok();
+        }
+    }
+
+    /// The line of the command at this place, where that is known.
+    pub fn command(&self, place: usize) -> Option<u64> {
+        if !self.is_whole {
+            return None;
+        }
+        self.commands.get(place).copied()
     }
 
     // Passes an order: whether it is the one that is looked for, which is so many behind it.
@@ -86,6 +112,7 @@ pub struct Notes {
     failed: Option<(Source, io::Error)>,
     text: Vec<u8>,
     done: u64,
+    streamed: Option<OrderLines>,
 }
 
 impl Notes {
@@ -97,6 +124,7 @@ impl Notes {
             failed: None,
             text: Vec::new(alloc),
             done: 0,
+            streamed: None,
         }
     }
 
@@ -124,9 +152,22 @@ impl Notes {
         self.done = self.done.saturating_add(1);
     }
 
+    /// The line of this number of a stream was read, and says this. Where memory is refused, its commands are not kept.
+    pub fn line(&mut self, line: u64, says: &Says) {
+        if !self.is_wanted {
+            return;
+        }
+        let alloc = self.alloc;
+        let lines = self.streamed.get_or_insert_with(|| OrderLines::new(alloc));
+        lines.follow(line, says);
+    }
+
     /// The lines of the order that was not done. None, where memory was refused.
-    pub fn lines(&self) -> Option<OrderLines> {
-        lines_of(self.alloc, &self.text, self.done).ok()
+    pub fn lines(&mut self) -> Option<OrderLines> {
+        match self.streamed.take() {
+            Some(lines) => Some(lines),
+            None => lines_of(self.alloc, &self.text, self.done).ok(),
+        }
     }
 }
 

@@ -1,49 +1,40 @@
 //! A session: the batch file is read, and run by a crew on the store that the command line tells: a new one in memory, or one in a file.
-ghost use Rattle.std.specs.Prelude.{false, IsTrue, replicate, ◌≡◌, ◌≢◌, ◌↔◌, ◌⊎◌, ℕ, [], ◌∷◌, ◌++◌, map, None, Some, IfSome, Result, Ok, Err, IsOk, IfOk, OnOk, OnErr, IsOkUnless, MatchResult, take, length, ◌≤◌};
-ghost use Rattle.std.specs.List.{flat_map, list_any};
+ghost use Rattle.std.specs.Prelude.{replicate, ◌≡◌, ◌≢◌, ◌↔◌, ◌⊎◌, [], ◌∷◌, ◌++◌, map, true, false, None, IfSome, Result, Ok, Err, IsOk, IfOk, OnOk, OnErr, MatchResult};
+ghost use Rattle.std.specs.List.{list_any};
 ghost use Rattle.std.specs.String.{string_bytes};
 ghost use Rattle.std.specs.IoError.{error_kind};
-ghost use Rattle.std.specs.Io.KnownBytes.{Appends, Keeps};
+ghost use Rattle.std.specs.Io.KnownBytes.{Appends};
 ghost use Rattle.clap.specs.Words.{kind_of};
-ghost use Rattle.crew.specs.Crew.{is_crew};
 ghost use Rattle.clap.specs.declared.error.kind.ErrorKind.TheVariants.{DisplayHelp, OutOfMemory};
 ghost use Rattle.keys.specs.Bytes.{Bytes};
-ghost use Rattle.keys.specs.Limits.{first_bad_field};
 ghost use Rattle.keys.specs.declared.fault.Fault.TheVariants.{NoMemory};
 ghost use Rattle.keys.specs.declared.fault.Fault.TheVariants as faults;
-ghost use Rattle.flush_log.specs.Segments.{disk_size};
-ghost use Rattle.engine.specs.Plays.{step_of, answer_of};
 ghost use Rattle.bwsh.specs.declared.session.Ending.{Ending};
 ghost use Rattle.bwsh.specs.declared.session.Ending.TheVariants.{Device};
 ghost use Rattle.bwsh.specs.declared.session.Ending.TheVariants as endings;
-ghost use Rattle.verify.specs.Report.{report};
 ghost use Rattle.bwsh.specs.BatchFile.{text_says, first_bad, orders_of, with_numbers, writes};
-ghost use Rattle.bwsh.specs.Options.{Told, AsksFor, AsksForText, AsksToExplain, AreRefused, told_of};
-ghost use Rattle.bwsh.specs.Session.{status_of, status_of_end, ending_text, unread_text, ending_by, printed_by, BeginsWith, IsBegun, IsToldWith, IsReadEnding, IsForWords, Prints, PrintsOneText, Reads, RunsOn, RunsFirst, RunsOrder, RunsFrom, session_orders, Start, IsStart, IsShown, Opens, IsHonestStore, Answers, EndsBy, EndsTold, step_in, new_start, found_start, numbers_of, version_text};
-ghost use Rattle.bwsh.specs.Shown.{shown_reply, shown_flushed, shown_cleaned, shown_upgraded, shown_report, shown_numbers, shown_answer};
+ghost use Rattle.bwsh.specs.Options.{Told, AsksFor, AsksForText, AsksToExplain, AsksToStream, AreRefused, told_of};
+ghost use Rattle.bwsh.specs.Session.{status_of, status_of_end, ending_text, unread_text, version_text, ending_by, printed_by, session_orders, BeginsWith, IsBegun, IsToldWith, IsReadEnding, IsForWords, Prints, PrintsOneText, Reads, Start, IsStart, IsShown, Answers, EndsBy, EndsTold};
 
 use crate::batch_file::{Order, TextFault, parse};
 use crate::explain::explained;
 use crate::line::Why;
-use crate::notes::{Notes, Reasoned, Source};
+use crate::notes::{Notes, Source};
+use crate::opening::{new_store_in_file, store_in_file, store_in_memory};
 use crate::options::{Options, options};
-use crate::show::{
-    StoreNumbers, show_cleaned, show_flushed, show_numbers, show_reply, show_report, show_upgraded,
-};
+use crate::output::{ask, flush, write_bytes};
+use crate::running::run_opened;
+use crate::stream::run_stream;
 use crate::watched::Watched;
-use cleaner::laws::a_clean_keeps_the_store;
-use climb_plan::laws::the_plan_holds_the_map_after_the_commands;
-use crew::{BadCrew, Crew, NoGate};
-use engine::{Answer, Disk, FileDisk, LockFile, MemDisk, Step, Store};
-use flush_log::segments::disk_size;
-use keys::{Fault, Reply, Settings};
+use crew::BadCrew;
+use engine::LockFile;
+use keys::Fault;
 use std::alloc::{AllocError, AllocFailed, Global};
 use std::fmt::{InlineText, Write as _};
 use std::io::{ErrorKind, Read, Write};
 use std::rt::Files;
 use std::thread::Threads;
 use std::{fmt, io};
-use verify::Report;
 
 // Bytes that hold the line of each ending but that for refused words.
 const LINE: usize = 64;
@@ -138,7 +129,7 @@ impl From<TextFault> for Ending {
 }
 
 // The fault of a read that failed: what was read may have found no memory.
-fn read_fault(error: io::Error) -> Ending
+pub(crate) fn read_fault(error: io::Error) -> Ending
     ensures memory { (result ≡ Ending.Fault Fault.NoMemory) ↔ (error_kind error ≡ ErrorKind.OutOfMemory) }
     ensures either { (result ≡ Ending.Fault Fault.NoMemory) ⊎ (result ≡ Ending.Device) }
 {
@@ -171,492 +162,6 @@ fn read_orders<I: Read>(
     Ok(orders)
 }
 
-// Appends the lines of the replies. After an `Err` the first of them stand there.
-fn show_replies(replies: &[Reply<Global>], lines: &mut Vec<u8>) -> Result<(), AllocError>
-    ensures ok { OnOk result (lines.new.items ≡ lines.old.items ++ flat_map shown_reply replies.now) }
-    ensures err { OnErr result ((shown : ℕ) × (lines.new.items ≡ lines.old.items ++ flat_map shown_reply (take shown replies.now))) }
-{
-    for reply in replies {
-        show_reply(reply, lines)?;
-    }
-    Ok(())
-}
-
-// Writes some of the bytes, and returns how many: none where the call was interrupted.
-fn write_some<O: Write>(bytes: &[u8], out: &mut O) -> Result<usize, Ending>
-    ensures ok { IfOk result (λ taken. (taken ≤ length bytes.now) × Appends (O.contents out.old) (O.contents out.new) (take taken bytes.now)) }
-    ensures err { OnErr result (Keeps (O.contents out.old) (O.contents out.new)) }
-    ensures device { IsOkUnless result Ending.Device }
-{
-    match out.write(bytes) {
-        Ok(0) => Err(Ending::Device),
-        Ok(taken) => Ok(taken),
-        Err(error) if error.kind() == ErrorKind::Interrupted => Ok(0),
-        Err(_) => Err(Ending::Device),
-    }
-}
-
-// Writes the bytes. Where the output fails, the first of them stand there; `write_all` would not say so.
-fn write_bytes<O: Write>(bytes: &[u8], out: &mut O) -> Result<(), Ending>
-    ensures ok { OnOk result (Appends (O.contents out.old) (O.contents out.new) bytes.now) }
-    ensures err { OnErr result ((front : Bytes) × BeginsWith bytes.now front × Appends (O.contents out.old) (O.contents out.new) front) }
-    ensures device { IsOkUnless result Ending.Device }
-{
-    let mut rest = bytes;
-    for _ in 0..u64::MAX {
-        if rest.is_empty() {
-            return Ok(());
-        }
-        let taken = write_some(rest, out)?;
-        rest = &rest[taken..];
-    }
-    Err(Ending::Device)
-}
-
-// Writes the lines of the replies, in the memory of `lines`. Where memory is refused, those that were made
-// before are written.
-fn write_replies<O: Write>(
-    replies: &[Reply<Global>],
-    lines: &mut Vec<u8>,
-    out: &mut O,
-) -> Result<(), Ending>
-    ensures { Prints (O.contents out.old) (O.contents out.new) (map shown_reply replies.now) (Ok tt) result }
-{
-    lines.clear();
-    let shown = show_replies(replies, lines);
-    write_bytes(lines, out)?;
-    Ok(shown?)
-}
-
-// Writes the line of a flush that left this sequence number, in the memory of `lines`.
-fn write_flushed<O: Write>(sequence: u64, lines: &mut Vec<u8>, out: &mut O) -> Result<(), Ending>
-    ensures { Prints (O.contents out.old) (O.contents out.new) (shown_flushed sequence ∷ []) (Ok tt) result }
-{
-    lines.clear();
-    show_flushed(sequence, lines)?;
-    write_bytes(lines, out)
-}
-
-// Writes the line of a clean that left the log beginning in this segment, in the memory of `lines`.
-fn write_cleaned<O: Write>(head: u64, lines: &mut Vec<u8>, out: &mut O) -> Result<(), Ending>
-    ensures { Prints (O.contents out.old) (O.contents out.new) (shown_cleaned head ∷ []) (Ok tt) result }
-{
-    lines.clear();
-    show_cleaned(head, lines)?;
-    write_bytes(lines, out)
-}
-
-// Writes the line of an upgrade that left this sequence number, in the memory of `lines`.
-fn write_upgraded<O: Write>(sequence: u64, lines: &mut Vec<u8>, out: &mut O) -> Result<(), Ending>
-    ensures { Prints (O.contents out.old) (O.contents out.new) (shown_upgraded sequence ∷ []) (Ok tt) result }
-{
-    lines.clear();
-    show_upgraded(sequence, lines)?;
-    write_bytes(lines, out)
-}
-
-// Writes the line of the report, in the memory of `lines`.
-fn write_report<O: Write>(report: &Report, lines: &mut Vec<u8>, out: &mut O) -> Result<(), Ending>
-    ensures { Prints (O.contents out.old) (O.contents out.new) (shown_report report.now ∷ []) (Ok tt) result }
-{
-    lines.clear();
-    show_report(report, lines)?;
-    write_bytes(lines, out)
-}
-
-// The numbers of a store of whose tree there is this report.
-fn numbers_of<D: Disk>(store: &Store<D>, report: &Report) -> StoreNumbers
-    requires { report.now ≡ report store.now.store.tree }
-    ensures { result ≡ numbers_of store.now.settings store.now.store }
-{
-    StoreNumbers {
-        sequence: store.sequence(),
-        head: store.head(),
-        tail: store.tail(),
-        in_use: store.segments_in_use(),
-        segments: store.segments(),
-        pages: report.pages,
-        pairs: report.pairs,
-    }
-}
-
-// Writes the line of the numbers, in the memory of `lines`.
-fn write_numbers<O: Write>(
-    numbers: &StoreNumbers,
-    lines: &mut Vec<u8>,
-    out: &mut O,
-) -> Result<(), Ending>
-    ensures { Prints (O.contents out.old) (O.contents out.new) (shown_numbers numbers.now ∷ []) (Ok tt) result }
-{
-    lines.clear();
-    show_numbers(numbers, lines)?;
-    write_bytes(lines, out)
-}
-
-// Writes the lines of an answer.
-fn write_answer<O: Write>(answer: &Answer, lines: &mut Vec<u8>, out: &mut O) -> Result<(), Ending>
-    ensures { Prints (O.contents out.old) (O.contents out.new) (shown_answer (answer_of answer.now)) (Ok tt) result }
-{
-    match answer {
-        Answer::Replies(replies) => write_replies(replies, lines, out),
-        Answer::Flushed(sequence) => write_flushed(*sequence, lines, out),
-        Answer::Cleaned(head) => write_cleaned(*head, lines, out),
-        Answer::Upgraded(sequence) => write_upgraded(*sequence, lines, out),
-    }
-}
-
-// Writes the lines of the answers.
-fn write_answers<O: Write>(
-    answers: &[Answer],
-    lines: &mut Vec<u8>,
-    out: &mut O,
-) -> Result<(), Ending>
-    ensures { Prints (O.contents out.old) (O.contents out.new) (flat_map shown_answer (map answer_of answers.now)) (Ok tt) result }
-{
-    for answer in answers {
-        write_answer(answer, lines, out)?;
-    }
-    Ok(())
-}
-
-// Why a session ends whose store answered this.
-fn store_fault(fault: Fault) -> Ending
-    ensures { ((fault ≡ Fault.Device) × (result ≡ Ending.Device)) ⊎ ((fault ≢ Fault.Device) × (result ≡ Ending.Fault fault)) }
-{
-    match fault {
-        Fault::Device => Ending::Device,
-        _ => Ending::Fault(fault),
-    }
-}
-
-// Plays a step, and writes what it answers.
-fn run_step<R: Threads + Sync, D: Disk, O: Write>(
-    rt: &R,
-    crew: Crew,
-    store: &mut Store<D>,
-    step: Step<'_>,
-    lines: &mut Vec<u8>,
-    out: &mut O,
-) -> Result<(), Ending>
-    requires crew { IsTrue (is_crew crew) }
-    requires fine { store.old.has_failed ≡ false }
-    ensures runs { (order : Order) → step_in order ≡ Some (step_of step.entry) →
-        RunsOrder (D.view store.old.disk).is_honest store.old.settings store.old.store (D.view store.old.disk).seen order
-        (O.contents out.old) (O.contents out.new) result store.new.store (D.view store.new.disk).seen }
-    ensures settings { store.new.settings ≡ store.old.settings }
-    ensures honest { (D.view store.new.disk).is_honest ≡ (D.view store.old.disk).is_honest }
-    ensures failed { OnOk result (store.new.has_failed ≡ store.old.has_failed) }
-{
-    // Only for the proof.
-    the_plan_holds_the_map_after_the_commands::<Global>();
-    a_clean_keeps_the_store();
-    match store.play(rt, crew, &NoGate, &[step]) {
-        Ok(answers) => write_answers(&answers, lines, out),
-        Err(refused) => Err(store_fault(refused.2)),
-    }
-}
-
-// Whether it ends since the log is full for a flush.
-fn is_full(done: &Result<(), Ending>) -> bool
-    ensures full { result ≡ true → done.now ≡ Err (Ending.Fault Fault.Full) }
-    ensures other { result ≡ false → done.now ≢ Err (Ending.Fault Fault.Full) }
-{
-    match done {
-        Err(Ending::Fault(Fault::Full)) => true,
-        _ => false,
-    }
-}
-
-// What is answered where a clean for a flush is refused so: a log in one segment is full.
-fn want_of_room(refused: Ending) -> Ending
-    ensures { ((refused ≡ Ending.Fault Fault.NothingToClean) × (result ≡ Ending.Fault Fault.Full))
-        ⊎ ((refused ≢ Ending.Fault Fault.NothingToClean) × (result ≡ refused)) }
-{
-    match refused {
-        Ending::Fault(Fault::NothingToClean) => Ending::Fault(Fault::Full),
-        other => other,
-    }
-}
-
-// Flushes the store, behind as many cleans as that takes, at most one a segment, and writes what each answers.
-fn run_flush_with_room<R: AllocGlobal + Threads + Sync, D: Disk, O: Write>(
-    rt: &R,
-    crew: Crew,
-    store: &mut Store<D>,
-    lines: &mut Vec<u8>,
-    out: &mut O,
-) -> Result<(), Ending>
-    requires crew { IsTrue (is_crew crew) }
-    requires fine { store.old.has_failed ≡ false }
-    ensures runs { RunsFirst true (D.view store.old.disk).is_honest store.old.settings store.old.store (D.view store.old.disk).seen Order.Flush
-        (O.contents out.old) (O.contents out.new) result store.new.store (D.view store.new.disk).seen }
-    ensures settings { store.new.settings ≡ store.old.settings }
-    ensures honest { (D.view store.new.disk).is_honest ≡ (D.view store.old.disk).is_honest }
-    ensures failed { OnOk result (store.new.has_failed ≡ store.old.has_failed) }
-{
-    for _ in 0..store.segments() {
-        let done = run_step(rt, crew, store, Step::Flush, lines, out);
-        if !is_full(&done) {
-            return done;
-        }
-        if let Err(refused) = run_step(rt, crew, store, Step::Clean, lines, out) {
-            return Err(want_of_room(refused));
-        }
-    }
-    run_step(rt, crew, store, Step::Flush, lines, out)
-}
-
-// Runs a flush, which makes itself room or doesn't, and writes what it answers.
-fn run_flush<R: AllocGlobal + Threads + Sync, D: Disk, O: Write>(
-    rt: &R,
-    crew: Crew,
-    cleans: bool,
-    store: &mut Store<D>,
-    lines: &mut Vec<u8>,
-    out: &mut O,
-) -> Result<(), Ending>
-    requires crew { IsTrue (is_crew crew) }
-    requires fine { store.old.has_failed ≡ false }
-    ensures runs { RunsFirst cleans (D.view store.old.disk).is_honest store.old.settings store.old.store (D.view store.old.disk).seen Order.Flush
-        (O.contents out.old) (O.contents out.new) result store.new.store (D.view store.new.disk).seen }
-    ensures settings { store.new.settings ≡ store.old.settings }
-    ensures honest { (D.view store.new.disk).is_honest ≡ (D.view store.old.disk).is_honest }
-    ensures failed { OnOk result (store.new.has_failed ≡ store.old.has_failed) }
-{
-    if cleans {
-        return run_flush_with_room(rt, crew, store, lines, out);
-    }
-    run_step(rt, crew, store, Step::Flush, lines, out)
-}
-
-// Runs an order, and writes what it answers. A flush makes itself room or doesn't.
-fn run_order<R: AllocGlobal + Threads + Sync, D: Disk, O: Write>(
-    rt: &R,
-    crew: Crew,
-    cleans: bool,
-    store: &mut Store<D>,
-    order: &Order,
-    lines: &mut Vec<u8>,
-    out: &mut O,
-) -> Result<(), Ending>
-    requires crew { IsTrue (is_crew crew) }
-    requires fine { store.old.has_failed ≡ false }
-    ensures runs { RunsFirst cleans (D.view store.old.disk).is_honest store.old.settings store.old.store (D.view store.old.disk).seen order.now
-        (O.contents out.old) (O.contents out.new) result store.new.store (D.view store.new.disk).seen }
-    ensures settings { store.new.settings ≡ store.old.settings }
-    ensures honest { (D.view store.new.disk).is_honest ≡ (D.view store.old.disk).is_honest }
-    ensures failed { OnOk result (store.new.has_failed ≡ store.old.has_failed) }
-{
-    match order {
-        Order::Batch(batch) => {
-            let commands = batch.commands(rt.alloc())?;
-            run_step(
-                rt,
-                crew,
-                store,
-                Step::Batch(commands.as_slice()),
-                lines,
-                out,
-            )
-        }
-        Order::Flush => run_flush(rt, crew, cleans, store, lines, out),
-        Order::Clean => run_step(rt, crew, store, Step::Clean, lines, out),
-        Order::Upgrade => run_step(rt, crew, store, Step::Upgrade, lines, out),
-        Order::Verify => {
-            let report = store.verify(rt)?;
-            write_report(&report, lines, out)
-        }
-        Order::Numbers => {
-            let report = store.verify(rt)?;
-            write_numbers(&numbers_of(store, &report), lines, out)
-        }
-    }
-}
-
-// Runs the orders one after the other, and writes what each answers before the next runs. Flushes make themselves room or don't.
-fn run_orders<R: AllocGlobal + Threads + Sync, D: Disk, O: Write>(
-    rt: &R,
-    crew: Crew,
-    cleans: bool,
-    store: &mut Store<D>,
-    orders: &[Order],
-    out: &mut O,
-    notes: &mut Notes,
-) -> Result<(), Ending>
-    requires crew { IsTrue (is_crew crew) }
-    requires fine { store.old.has_failed ≡ false }
-    ensures { RunsOn cleans (D.view store.old.disk).is_honest store.old.settings store.old.store (D.view store.old.disk).seen orders.now
-        (O.contents out.old) (O.contents out.new) result }
-{
-    let mut lines = Vec::new(rt.alloc());
-    for order in orders {
-        run_order(rt, crew, cleans, store, order, &mut lines, out)?;
-        notes.done();
-    }
-    Ok(())
-}
-
-// Hands on to the device what was written. A fault of the output goes before one that was found earlier.
-fn flush<O: Write>(done: Result<(), Ending>, out: &mut O) -> Result<(), Ending>
-    ensures bytes { Keeps (O.contents out.old) (O.contents out.new) }
-    ensures end { (result ≡ done) ⊎ (result ≡ Err Ending.Device) }
-{
-    match out.flush() {
-        Ok(()) => done,
-        Err(_) => Err(Ending::Device),
-    }
-}
-
-// A new store on a disk that has room for it.
-fn store_made<D: Disk + Reasoned + Drop>(
-    alloc: Global,
-    disk: D,
-    settings: Settings,
-    notes: &mut Notes,
-) -> Result<Store<D>, Ending>
-    requires good { first_bad_field settings ≡ None }
-    requires room { disk_size settings ≤ (D.view disk).size }
-    ensures opens { (file : Bytes) → (IsTrue (D.view disk).is_honest → (D.view disk).seen ≡ file) →
-        Opens D.view (new_start settings file) result }
-    ensures honest { IfOk result (λ store. (D.view store.disk).is_honest ≡ (D.view disk).is_honest) }
-    ensures fine { IfOk result (λ store. store.has_failed ≡ false) }
-{
-    match Store::create(alloc, disk, settings) {
-        Ok(store) => Ok(store),
-        Err(refused) => {
-            notes.failed(Source::File, refused.1.reason());
-            Err(store_fault(refused.0))
-        }
-    }
-}
-
-// A new store on a disk in memory, which has just the room that it needs.
-fn store_in_memory(
-    alloc: Global,
-    settings: Settings,
-    notes: &mut Notes,
-) -> Result<Store<MemDisk<Global>>, Ending>
-    ensures opens { Opens ⟦<MemDisk<Global> as Disk>⟧.view (new_start settings (replicate (disk_size settings) 0)) result }
-    ensures honest { IsHonestStore ⟦<MemDisk<Global> as Disk>⟧.view result }
-    ensures fine { IfOk result (λ store. store.has_failed ≡ false) }
-{
-    settings.check()?;
-    let disk = MemDisk::new(alloc, disk_size(&settings) as usize)?;
-    store_made(alloc, disk, settings, notes)
-}
-
-// The disk of the file that there is. It is open for writing only where the session writes, and is held then.
-fn old_disk<R: Files>(rt: &R, path: &str, writes: bool) -> io::Result<FileDisk<R::File>>
-where
-    R::File: LockFile,
-{
-    if writes {
-        FileDisk::open(rt, path)
-    } else {
-        FileDisk::open_shared(rt, path)
-    }
-}
-
-// A new store in the file, which is made anew. Where the settings are refused the file isn't touched.
-fn new_store_in_file<R: AllocGlobal + Files>(
-    rt: &R,
-    path: &str,
-    settings: Settings,
-    notes: &mut Notes,
-) -> Result<Store<FileDisk<R::File>>, Ending>
-where
-    R::File: LockFile,
-    ensures opens { (file : Bytes) → Opens ⟦<FileDisk<R::File> as Disk>⟧.view (new_start settings file) result }
-    ensures fine { IfOk result (λ store. store.has_failed ≡ false) }
-{
-    settings.check()?;
-    match FileDisk::create(rt, path, disk_size(&settings)) {
-        Ok(disk) => store_made(rt.alloc(), disk, settings, notes),
-        Err(reason) => {
-            notes.failed(Source::File, Some(reason));
-            Err(Ending::Device)
-        }
-    }
-}
-
-// The store that the disk holds, which is settled first: an earlier program may have ended between its write and its sync, and
-// all that this session does stands on what it reads. Nothing is written.
-fn store_found<R: AllocGlobal + Threads + Sync, D: Disk + Reasoned + Drop>(
-    rt: &R,
-    crew: Crew,
-    disk: D,
-    notes: &mut Notes,
-) -> Result<Store<D>, Ending>
-    requires crew { IsTrue (is_crew crew) }
-    ensures opens { (file : Bytes) × (IsTrue (D.view disk).is_honest → file ≡ (D.view disk).seen) × Opens D.view (found_start file) result }
-    ensures fine { IfOk result (λ store. store.has_failed ≡ false) }
-{
-    match Store::open(rt, rt.alloc(), disk, crew) {
-        Ok(store) => Ok(store),
-        Err(refused) => {
-            notes.failed(Source::File, refused.1.reason());
-            Err(store_fault(refused.0))
-        }
-    }
-}
-
-// The store that the file holds.
-fn store_in_file<R: AllocGlobal + Threads + Sync + Files>(
-    rt: &R,
-    crew: Crew,
-    path: &str,
-    writes: bool,
-    notes: &mut Notes,
-) -> Result<Store<FileDisk<R::File>>, Ending>
-where
-    R::File: LockFile,
-    requires crew { IsTrue (is_crew crew) }
-    ensures opens { (file : Bytes) × Opens ⟦<FileDisk<R::File> as Disk>⟧.view (found_start file) result }
-    ensures fine { IfOk result (λ store. store.has_failed ≡ false) }
-{
-    match old_disk(rt, path, writes) {
-        Ok(disk) => store_found(rt, crew, disk, notes),
-        Err(reason) => {
-            notes.failed(Source::File, Some(reason));
-            Err(Ending::Device)
-        }
-    }
-}
-
-// Runs the orders on the store that was opened, and hands on to the device what was written.
-fn run_opened<R: AllocGlobal + Threads + Sync, D: Disk + Reasoned + Drop, O: Write>(
-    rt: &R,
-    crew: Crew,
-    cleans: bool,
-    opened: Result<Store<D>, Ending>,
-    orders: &[Order],
-    out: &mut O,
-    notes: &mut Notes,
-) -> Result<(), Ending>
-    requires crew { IsTrue (is_crew crew) }
-    requires fine { IfOk opened (λ store. store.has_failed ≡ false) }
-    ensures { (start : Start) → Opens D.view start opened →
-        RunsFrom cleans (IsHonestStore D.view opened) start orders.now (O.contents out.old) (O.contents out.new) result }
-{
-    let mut store = opened?;
-    let done = run_orders(rt, crew, cleans, &mut store, orders, out, notes);
-    notes.failed(Source::File, store.disk().reason());
-    flush(done, out)
-}
-
-// Asks the output whether it is there, since a file that is opened while it is closed would get its descriptor, and with
-// that the answers. A call that was interrupted was begun.
-fn ask<O: Write>(out: &mut O) -> Result<(), Ending>
-    ensures bytes { Appends (O.contents out.old) (O.contents out.new) [] }
-    ensures device { IsOkUnless result Ending.Device }
-{
-    match out.write(&[]) {
-        Ok(_) => Ok(()),
-        Err(error) if error.kind() == ErrorKind::Interrupted => Ok(()),
-        Err(_) => Err(Ending::Device),
-    }
-}
-
 // Whether one of the orders writes to the disk of its store.
 fn has_writing(orders: &[Order]) -> bool
     ensures { result ≡ list_any writes orders.now }
@@ -664,8 +169,8 @@ fn has_writing(orders: &[Order]) -> bool
     orders.iter().any(|order| order.writes())
 }
 
-// What `run` says, on an output that is watched.
-fn run_all<R: AllocGlobal + Threads + Sync + Files, I: Read, O: Write>(
+// Reads all of the input, and has it run.
+fn run_file<R: AllocGlobal + Threads + Sync + Files, I: Read, O: Write>(
     rt: &R,
     told: &Options,
     input: &mut I,
@@ -674,6 +179,7 @@ fn run_all<R: AllocGlobal + Threads + Sync + Files, I: Read, O: Write>(
 ) -> Result<(), Ending>
 where
     R::File: LockFile,
+    requires { told.now.ways.stream ≡ false }
     ensures { Answers (told_of told.now) (I.remaining input.old) (O.contents out.old) (O.contents out.new) result }
 {
     let orders = read_orders(rt.alloc(), input, told.ways.stat, notes)?;
@@ -696,6 +202,24 @@ where
     }
 }
 
+// What `run` says, on an output that is watched.
+fn run_watched<R: AllocGlobal + Threads + Sync + Files, I: Read, O: Write>(
+    rt: &R,
+    told: &Options,
+    input: &mut I,
+    out: &mut O,
+    notes: &mut Notes,
+) -> Result<(), Ending>
+where
+    R::File: LockFile,
+    ensures { Answers (told_of told.now) (I.remaining input.old) (O.contents out.old) (O.contents out.new) result }
+{
+    if told.ways.stream {
+        return run_stream(rt, told, input, out, notes);
+    }
+    run_file(rt, told, input, out, notes)
+}
+
 /// Reads the batch file that `input` holds, and has it run by the crew on the store that is told: a new one in memory, or in a
 /// file that is made anew; or the one that the file holds. The answers go to `out`, in lines, and are the same for every
 /// crew. Where all is done, or a line is bad or there is no store (nothing is run then), or the store refuses an order, all
@@ -705,6 +229,11 @@ where
 ///
 /// Where flushes are to make themselves room, one for which the log is full is made behind as many cleans as it takes, at most one for each
 /// segment, and each of these prints its line too. Where they make no room, or none can be done any more, it is `Fault::Full`.
+///
+/// A stream is read line by line: what a line ends is run, and its answers are handed on, before the next line is read. Its lines are looked
+/// at when all else has been: an output that is closed, a crew out of range, settings that are refused and a fault of the file go before them. What
+/// stands before a bad line is done then, but for commands that no line has ended; at the end of input these are run. It holds its file alone,
+/// since what will come isn't known.
 ///
 /// Where an order is a flush, a clean or an upgrade, or the file is made anew, the session holds it alone, and else it shares it and only
 /// reads; a lock that is refused is a fault of the file. A file in which no store is found, or that can't be opened or locked, stays as
@@ -722,7 +251,7 @@ where
     ensures { Answers (told_of told.now) (I.remaining input.old) (O.contents out.old) (O.contents out.new) result }
 {
     let mut watched = Watched::new(out);
-    let done = run_all(rt, told, input, &mut watched, notes);
+    let done = run_watched(rt, told, input, &mut watched, notes);
     notes.failed(Source::Output, watched.reason());
     // No effect at run time. The proof reads what `out` holds from this use of it.
     let _ = &*watched.into_inner();
@@ -782,7 +311,7 @@ where
     let mut notes = Notes::new(rt.alloc(), told.ways.explain);
     let done = run(rt, told, input, out, &mut notes);
     if told.ways.explain {
-        *more = explained(rt.alloc(), told, &notes, &done).into_bytes();
+        *more = explained(rt.alloc(), told, &mut notes, &done).into_bytes();
     }
     done
 }
@@ -864,7 +393,7 @@ pub fn unread_words<E: Write>(error: io::Error, err: &mut E) -> u8
 ///
 /// - 0: all is done; or the words ask for help or the version, which went to `out`, and nothing was read.
 /// - 2: the words are refused. Nothing was read.
-/// - 3: a line of the batch file is bad. Nothing was run, and no file was opened.
+/// - 3: a line of the batch file is bad. Nothing was run, and no file was opened; or, in a stream, all is done that lines before it ended.
 /// - 4: a fault. The answers to what was run before it stand in `out`, or some first of them where memory was refused
 ///   or a device failed. Where that is an output that is closed or a crew out of range, nothing was run, and no file was opened.
 ///   Its line is written when the file is closed.
@@ -890,14 +419,14 @@ where
     // anything.
     ensures done { result ≡ 0 → AsksForText (map string_bytes words.now) ⊎ ((told : Told) × AsksFor (map string_bytes words.now) told
         × IfSome (I.remaining input.old) (λ text. (first_bad 1 (text_says text) ≡ None)
-        × ((start : Start) × IsStart told start × IsOk start × (shown : Reads) × IsShown told start shown (session_orders told start shown text)
-        × Appends (O.contents out.old) (O.contents out.new) (printed_by start shown (session_orders told start shown text))))) }
-    ensures bad { result ≡ 3 → Appends (O.contents out.old) (O.contents out.new) []
+        × ((start : Start) × IsStart told start × IsOk start × (shown : Reads) × IsShown told start shown (session_orders told start shown (text_says text))
+        × Appends (O.contents out.old) (O.contents out.new) (printed_by start shown (session_orders told start shown (text_says text)))))) }
+    ensures bad { result ≡ 3 → (AsksToStream (map string_bytes words.now) ⊎ Appends (O.contents out.old) (O.contents out.new) [])
         × IfSome (I.remaining input.old) (λ text. first_bad 1 (text_says text) ≢ None) }
     ensures beginning { AsksForText (map string_bytes words.now) ⊎ Appends (O.contents out.old) (O.contents out.new) []
         ⊎ ((told : Told) × AsksFor (map string_bytes words.now) told × IfSome (I.remaining input.old) (λ text. (start : Start) × IsStart told start
-        × (shown : Reads) × IsShown told start shown (session_orders told start shown text)
-        × ((front : Bytes) × BeginsWith (printed_by start shown (session_orders told start shown text)) front × Appends (O.contents out.old) (O.contents out.new) front))) }
+        × (shown : Reads) × IsShown told start shown (session_orders told start shown (text_says text))
+        × ((front : Bytes) × BeginsWith (printed_by start shown (session_orders told start shown (text_says text))) front × Appends (O.contents out.old) (O.contents out.new) front))) }
 
     // How it ends, and what is read and printed, is right for the words and the text but for memory and devices.
     // What goes to `err` is told of this end, or a beginning of it; and more only where the words ask to explain it.

@@ -2,6 +2,7 @@
 mod explained;
 mod files;
 mod room;
+mod streams;
 mod wipes;
 
 use crate::batch_file::{TextFault, parse};
@@ -340,7 +341,7 @@ fn words_are_refused(rt: HostRuntime) -> Result<(), Fail> {
 }
 
 // What the help has to say: each kind of line, what a segment has to hold, the ranges of a crew, who holds a file, and the exit statuses.
-const HELP: [&str; 30] = [
+const HELP: [&str; 32] = [
     "put K V",
     "add K V",
     "get K",
@@ -368,6 +369,8 @@ const HELP: [&str; 30] = [
     "--explain",
     "--clean-when-full",
     "--stat",
+    "--stream",
+    "before the next line is waited for",
     "2  The words",
     "3  A line",
     "4  A fault",

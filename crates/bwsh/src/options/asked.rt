@@ -28,4 +28,6 @@ pub struct Ways {
     pub clean_when_full: bool,
     /// Behind all orders the numbers of the store are told, in one line more.
     pub stat: bool,
+    /// The input is read line by line, and what is ordered is run, and its answers are handed on, before the next line is waited for.
+    pub stream: bool,
 }

@@ -198,6 +198,11 @@ fn the_ways_that_are_given_are_told(rt: HostRuntime) -> Result<(), Fail> {
         ..plain
     };
     assert!(rt; tells_ways(alloc, "--stat", stat)?);
+    let stream = Ways {
+        stream: true,
+        ..plain
+    };
+    assert!(rt; tells_ways(alloc, "--stream --disk a", stream)?);
     Ok(())
 }
 
