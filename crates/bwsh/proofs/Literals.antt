@@ -10,14 +10,15 @@ use Rattle.bwsh.specs.declared.line.Says.{Says}
 use Rattle.bwsh.specs.declared.line.Says.TheVariants.{Nothing, Go, Bad}
 use Rattle.bwsh.specs.declared.line.Says.TheVariants as says
 use Rattle.bwsh.specs.declared.line.Why.TheVariants.{UnknownCommand, WordCount, BadToken, BadNumber}
-use Rattle.bwsh.specs.declared.batch_file.Order.TheVariants.{Batch, Flush, Upgrade, Verify}
+use Rattle.bwsh.specs.declared.batch_file.Order.TheVariants.{Batch, Flush, Numbers, Upgrade, Verify}
 use Rattle.bwsh.specs.Token.{token_bytes, shown_token}
 use Rattle.bwsh.specs.Words.{words_of}
 use Rattle.bwsh.specs.Line.{line_says}
 use Rattle.bwsh.specs.Number.{number_in}
 use Rattle.bwsh.specs.Options.{asked, options, refused, told_by}
 use Rattle.bwsh.specs.Shown.{shown_reply}
-use Rattle.bwsh.specs.BatchFile.{lines, first_bad, orders_of}
+use Rattle.bwsh.specs.declared.options.asked.Ways.{Ways}
+use Rattle.bwsh.specs.BatchFile.{lines, first_bad, orders_of, streamed}
 
 an_escape : token_bytes (codes "%41") ≡ Some (codes "A")
 an_escape = refl
@@ -172,12 +173,15 @@ some_options : asked (codes "--create" ∷ codes "--disk" ∷ codes "a b" ∷ co
     ≡ options ((codes "create", codes "true") ∷ (codes "disk", codes "a b") ∷ (codes "fan", codes "8") ∷ [])
 some_options = refl
 
+abbrev plain_ways : Ways
+plain_ways = record { version = false; explain = false; clean_when_full = false; stat = false; stream = false }
+
 told_options : told_by ((codes "create", codes "true") ∷ (codes "disk", codes "a b") ∷ (codes "fan", codes "8") ∷ [])
-    ≡ record { settings = record { fan = 8; chain = 4; max_key = 64; max_value = 256; seg_size = 65536; segments = 64 }; crew = record { workers = 1; grain = 64 }; disk = Some (codes "a b"); create = true }
+    ≡ record { settings = record { fan = 8; chain = 4; max_key = 64; max_value = 256; seg_size = 65536; segments = 64 }; crew = record { workers = 1; grain = 64 }; disk = Some (codes "a b"); create = true; ways = plain_ways }
 told_options = refl
 
 nothing_told : told_by []
-    ≡ record { settings = record { fan = 16; chain = 4; max_key = 64; max_value = 256; seg_size = 65536; segments = 64 }; crew = record { workers = 1; grain = 64 }; disk = None; create = false }
+    ≡ record { settings = record { fan = 16; chain = 4; max_key = 64; max_value = 256; seg_size = 65536; segments = 64 }; crew = record { workers = 1; grain = 64 }; disk = None; create = false; ways = plain_ways }
 nothing_told = refl
 
 -- a path is any text, but behind `--disk` none that looks like a flag
@@ -193,6 +197,26 @@ no_path = refl
 -- the flag takes no text, and is given once
 a_flag_with_a_text : asked (codes "--create=true" ∷ []) ≡ refused
 a_flag_with_a_text = refl
+
+some_ways : told_by ((codes "stream", codes "true") ∷ (codes "clean-when-full", codes "true") ∷ [])
+    ≡ record (told_by []) { ways = record { version = false; explain = false; clean_when_full = true; stat = false; stream = true } }
+some_ways = refl
+
+asked_ways : asked (codes "--stream" ∷ codes "--stat" ∷ codes "--explain" ∷ [])
+    ≡ options ((codes "stream", codes "true") ∷ (codes "stat", codes "true") ∷ (codes "explain", codes "true") ∷ [])
+asked_ways = refl
+
+-- a stream runs what is ended before its first bad line; at its end it runs the rest, and tells the numbers where it is to
+streamed_to_a_bad_line : streamed true [] (map line_says (codes "put a 1" ∷ codes "go" ∷ codes "get a" ∷ codes "frob" ∷ codes "get b" ∷ codes "go" ∷ []))
+    ≡ Batch (Put (97 ∷ []) (49 ∷ []) ∷ []) ∷ []
+streamed_to_a_bad_line = refl
+
+streamed_to_the_end : streamed true [] (map line_says (codes "put a 1" ∷ codes "flush" ∷ codes "go" ∷ codes "get a" ∷ []))
+    ≡ Batch (Put (97 ∷ []) (49 ∷ []) ∷ []) ∷ Flush ∷ Batch [] ∷ Batch (Get (97 ∷ []) ∷ []) ∷ Numbers ∷ []
+streamed_to_the_end = refl
+
+a_bad_line_of_a_stream : first_bad 1 (map line_says (codes "put a 1" ∷ codes "go" ∷ codes "get a" ∷ codes "frob" ∷ codes "get b" ∷ [])) ≡ Some (4, UnknownCommand)
+a_bad_line_of_a_stream = refl
 
 a_flag_twice : asked (codes "--create" ∷ codes "--create" ∷ []) ≡ refused
 a_flag_twice = refl

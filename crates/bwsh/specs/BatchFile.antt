@@ -108,6 +108,11 @@ writes Upgrade = true
 writes Verify = false
 writes Numbers = false
 
+-- the order is a flush
+abbrev pub is_flush : Order → Bool
+is_flush Flush = true
+is_flush _ = false
+
 -- the order is a batch
 abbrev pub IsBatch : Order → Type 0
 IsBatch (Batch commands) = ⊤

@@ -95,6 +95,11 @@ abbrev pub words_say : List Bytes → Says
 words_say [] = Nothing
 words_say (word ∷ behind) = if starts_with nat_eq word (codes "#") then Nothing else command_says word behind
 
+-- what is wrong with a line that says this, if it is bad
+abbrev pub bad_of : Says → Option Why
+bad_of (Bad why) = Some why
+bad_of _ = None
+
 -- what the line says
 abbrev pub line_says : Bytes → Says
 line_says line = words_say (words_of line)

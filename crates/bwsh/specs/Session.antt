@@ -246,7 +246,7 @@ flush_with_room (suc most) settings st shown next =
 -- orders with the cleans among them that make room for their flushes: in front of each as many as it takes, at most one a segment
 abbrev pub with_cleans : Settings → Store → Reads → List Order → List Order
 with_cleans settings st shown [] = []
-with_cleans settings st shown (Flush ∷ rest) = flush_with_room settings.segments settings st shown (λ now then. with_cleans settings now then rest)
+with_cleans settings st shown (Flush ∷ rest) = flush_with_room settings.segments settings st shown (λ now reads. with_cleans settings now reads rest)
 with_cleans settings st shown (order ∷ rest) = order ∷ with_cleans settings (behind settings st (shown 0) order).0 (later shown) rest
 
 -- what is run of orders: themselves; or, where a flush makes itself room, with these cleans among them

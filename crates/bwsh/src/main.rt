@@ -3,7 +3,7 @@
 
 pub mod batch;
 pub mod batch_file;
-pub mod explain;
+mod explain;
 pub mod laws;
 pub mod line;
 pub mod notes;
@@ -19,7 +19,7 @@ mod stream;
 #[cfg(test)]
 mod tests;
 pub mod token;
-pub mod watched;
+mod watched;
 pub mod words;
 
 use crate::program::run_program;

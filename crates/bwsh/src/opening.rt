@@ -28,7 +28,7 @@ pub(crate) fn store_fault(fault: Fault) -> Ending
 }
 
 // A new store on a disk that has room for it.
-pub(crate) fn store_made<D: Disk + Reasoned + Drop>(
+fn store_made<D: Disk + Reasoned + Drop>(
     alloc: Global,
     disk: D,
     settings: Settings,
@@ -66,7 +66,7 @@ pub(crate) fn store_in_memory(
 }
 
 // The disk of the file that there is. It is open for writing only where the session writes, and is held then.
-pub(crate) fn old_disk<R: Files>(rt: &R, path: &str, writes: bool) -> io::Result<FileDisk<R::File>>
+fn old_disk<R: Files>(rt: &R, path: &str, writes: bool) -> io::Result<FileDisk<R::File>>
 where
     R::File: LockFile,
 {
@@ -101,7 +101,7 @@ where
 
 // The store that the disk holds, which is settled first: an earlier program may have ended between its write and its sync, and
 // all that this session does stands on what it reads. Nothing is written.
-pub(crate) fn store_found<R: AllocGlobal + Threads + Sync, D: Disk + Reasoned + Drop>(
+fn store_found<R: AllocGlobal + Threads + Sync, D: Disk + Reasoned + Drop>(
     rt: &R,
     crew: Crew,
     disk: D,

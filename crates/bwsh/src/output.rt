@@ -18,7 +18,7 @@ use std::io::{ErrorKind, Write};
 use verify::Report;
 
 // Appends the lines of the replies. After an `Err` the first of them stand there.
-pub(crate) fn show_replies(replies: &[Reply<Global>], lines: &mut Vec<u8>) -> Result<(), AllocError>
+fn show_replies(replies: &[Reply<Global>], lines: &mut Vec<u8>) -> Result<(), AllocError>
     ensures ok { OnOk result (lines.new.items ≡ lines.old.items ++ flat_map shown_reply replies.now) }
     ensures err { OnErr result ((shown : ℕ) × (lines.new.items ≡ lines.old.items ++ flat_map shown_reply (take shown replies.now))) }
 {
@@ -29,7 +29,7 @@ pub(crate) fn show_replies(replies: &[Reply<Global>], lines: &mut Vec<u8>) -> Re
 }
 
 // Writes some of the bytes, and returns how many: none where the call was interrupted.
-pub(crate) fn write_some<O: Write>(bytes: &[u8], out: &mut O) -> Result<usize, Ending>
+fn write_some<O: Write>(bytes: &[u8], out: &mut O) -> Result<usize, Ending>
     ensures ok { IfOk result (λ taken. (taken ≤ length bytes.now) × Appends (O.contents out.old) (O.contents out.new) (take taken bytes.now)) }
     ensures err { OnErr result (Keeps (O.contents out.old) (O.contents out.new)) }
     ensures device { IsOkUnless result Ending.Device }
@@ -61,7 +61,7 @@ pub(crate) fn write_bytes<O: Write>(bytes: &[u8], out: &mut O) -> Result<(), End
 
 // Writes the lines of the replies, in the memory of `lines`. Where memory is refused, those that were made
 // before are written.
-pub(crate) fn write_replies<O: Write>(
+fn write_replies<O: Write>(
     replies: &[Reply<Global>],
     lines: &mut Vec<u8>,
     out: &mut O,
@@ -75,11 +75,7 @@ pub(crate) fn write_replies<O: Write>(
 }
 
 // Writes the line of a flush that left this sequence number, in the memory of `lines`.
-pub(crate) fn write_flushed<O: Write>(
-    sequence: u64,
-    lines: &mut Vec<u8>,
-    out: &mut O,
-) -> Result<(), Ending>
+fn write_flushed<O: Write>(sequence: u64, lines: &mut Vec<u8>, out: &mut O) -> Result<(), Ending>
     ensures { Prints (O.contents out.old) (O.contents out.new) (shown_flushed sequence ∷ []) (Ok tt) result }
 {
     lines.clear();
@@ -88,11 +84,7 @@ pub(crate) fn write_flushed<O: Write>(
 }
 
 // Writes the line of a clean that left the log beginning in this segment, in the memory of `lines`.
-pub(crate) fn write_cleaned<O: Write>(
-    head: u64,
-    lines: &mut Vec<u8>,
-    out: &mut O,
-) -> Result<(), Ending>
+fn write_cleaned<O: Write>(head: u64, lines: &mut Vec<u8>, out: &mut O) -> Result<(), Ending>
     ensures { Prints (O.contents out.old) (O.contents out.new) (shown_cleaned head ∷ []) (Ok tt) result }
 {
     lines.clear();
@@ -101,11 +93,7 @@ pub(crate) fn write_cleaned<O: Write>(
 }
 
 // Writes the line of an upgrade that left this sequence number, in the memory of `lines`.
-pub(crate) fn write_upgraded<O: Write>(
-    sequence: u64,
-    lines: &mut Vec<u8>,
-    out: &mut O,
-) -> Result<(), Ending>
+fn write_upgraded<O: Write>(sequence: u64, lines: &mut Vec<u8>, out: &mut O) -> Result<(), Ending>
     ensures { Prints (O.contents out.old) (O.contents out.new) (shown_upgraded sequence ∷ []) (Ok tt) result }
 {
     lines.clear();
@@ -140,11 +128,7 @@ pub(crate) fn write_numbers<O: Write>(
 }
 
 // Writes the lines of an answer.
-pub(crate) fn write_answer<O: Write>(
-    answer: &Answer,
-    lines: &mut Vec<u8>,
-    out: &mut O,
-) -> Result<(), Ending>
+fn write_answer<O: Write>(answer: &Answer, lines: &mut Vec<u8>, out: &mut O) -> Result<(), Ending>
     ensures { Prints (O.contents out.old) (O.contents out.new) (shown_answer (answer_of answer.now)) (Ok tt) result }
 {
     match answer {

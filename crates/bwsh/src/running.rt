@@ -21,9 +21,9 @@ use std::io::Write;
 use std::thread::Threads;
 use verify::Report;
 
-// The numbers of a store of whose tree there is this report.
-pub(crate) fn numbers_of<D: Disk>(store: &Store<D>, report: &Report) -> StoreNumbers
-    requires { report.now ≡ report store.now.store.tree }
+// The numbers of a store of whose tree this is told.
+fn numbers_of<D: Disk>(store: &Store<D>, told: &Report) -> StoreNumbers
+    requires { told.now ≡ report store.now.store.tree }
     ensures { result ≡ numbers_of store.now.settings store.now.store }
 {
     StoreNumbers {
@@ -32,8 +32,8 @@ pub(crate) fn numbers_of<D: Disk>(store: &Store<D>, report: &Report) -> StoreNum
         tail: store.tail(),
         in_use: store.segments_in_use(),
         segments: store.segments(),
-        pages: report.pages,
-        pairs: report.pairs,
+        pages: told.pages,
+        pairs: told.pairs,
     }
 }
 
@@ -67,7 +67,7 @@ pub(crate) fn run_step<R: Threads + Sync, D: Disk, O: Write>(
 }
 
 // Whether it ends since the log is full for a flush.
-pub(crate) fn is_full(done: &Result<(), Ending>) -> bool
+fn is_full(done: &Result<(), Ending>) -> bool
     ensures full { result ≡ true → done.now ≡ Err (Ending.Fault Fault.Full) }
     ensures other { result ≡ false → done.now ≢ Err (Ending.Fault Fault.Full) }
 {
@@ -78,7 +78,7 @@ pub(crate) fn is_full(done: &Result<(), Ending>) -> bool
 }
 
 // What is answered where a clean for a flush is refused so: a log in one segment is full.
-pub(crate) fn want_of_room(refused: Ending) -> Ending
+fn want_of_room(refused: Ending) -> Ending
     ensures { ((refused ≡ Ending.Fault Fault.NothingToClean) × (result ≡ Ending.Fault Fault.Full))
         ⊎ ((refused ≢ Ending.Fault Fault.NothingToClean) × (result ≡ refused)) }
 {
@@ -89,7 +89,7 @@ pub(crate) fn want_of_room(refused: Ending) -> Ending
 }
 
 // Flushes the store, behind as many cleans as that takes, at most one a segment, and writes what each answers.
-pub(crate) fn run_flush_with_room<R: AllocGlobal + Threads + Sync, D: Disk, O: Write>(
+fn run_flush_with_room<R: AllocGlobal + Threads + Sync, D: Disk, O: Write>(
     rt: &R,
     crew: Crew,
     store: &mut Store<D>,
@@ -104,39 +104,60 @@ pub(crate) fn run_flush_with_room<R: AllocGlobal + Threads + Sync, D: Disk, O: W
     ensures honest { (D.view store.new.disk).is_honest ≡ (D.view store.old.disk).is_honest }
     ensures failed { OnOk result (store.new.has_failed ≡ store.old.has_failed) }
 {
-    for _ in 0..store.segments() {
+    let mut left = store.settings().segments;
+    'room: loop {
         let done = run_step(rt, crew, store, Step::Flush, lines, out);
-        if !is_full(&done) {
+        if left == 0 || !is_full(&done) {
             return done;
         }
         if let Err(refused) = run_step(rt, crew, store, Step::Clean, lines, out) {
             return Err(want_of_room(refused));
         }
+        left -= 1;
     }
-    run_step(rt, crew, store, Step::Flush, lines, out)
 }
 
-// Runs a flush, which makes itself room or doesn't, and writes what it answers.
-pub(crate) fn run_flush<R: AllocGlobal + Threads + Sync, D: Disk, O: Write>(
+// Runs an order as it stands, and writes what it answers.
+fn run_plain<R: AllocGlobal + Threads + Sync, D: Disk, O: Write>(
     rt: &R,
     crew: Crew,
-    cleans: bool,
     store: &mut Store<D>,
+    order: &Order,
     lines: &mut Vec<u8>,
     out: &mut O,
 ) -> Result<(), Ending>
     requires crew { IsTrue (is_crew crew) }
     requires fine { store.old.has_failed ≡ false }
-    ensures runs { RunsFirst cleans (D.view store.old.disk).is_honest store.old.settings store.old.store (D.view store.old.disk).seen (Order.Flush ∷ [])
+    ensures runs { RunsOrder (D.view store.old.disk).is_honest store.old.settings store.old.store (D.view store.old.disk).seen order.now
         (O.contents out.old) (O.contents out.new) result store.new.store (D.view store.new.disk).seen }
     ensures settings { store.new.settings ≡ store.old.settings }
     ensures honest { (D.view store.new.disk).is_honest ≡ (D.view store.old.disk).is_honest }
     ensures failed { OnOk result (store.new.has_failed ≡ store.old.has_failed) }
 {
-    if cleans {
-        return run_flush_with_room(rt, crew, store, lines, out);
+    match order {
+        Order::Batch(batch) => {
+            let commands = batch.commands(rt.alloc())?;
+            run_step(
+                rt,
+                crew,
+                store,
+                Step::Batch(commands.as_slice()),
+                lines,
+                out,
+            )
+        }
+        Order::Flush => run_step(rt, crew, store, Step::Flush, lines, out),
+        Order::Clean => run_step(rt, crew, store, Step::Clean, lines, out),
+        Order::Upgrade => run_step(rt, crew, store, Step::Upgrade, lines, out),
+        Order::Verify => {
+            let report = store.verify(rt)?;
+            write_report(&report, lines, out)
+        }
+        Order::Numbers => {
+            let report = store.verify(rt)?;
+            write_numbers(&numbers_of(store, &report), lines, out)
+        }
     }
-    run_step(rt, crew, store, Step::Flush, lines, out)
 }
 
 // Runs an order, and writes what it answers. A flush makes itself room or doesn't.
@@ -157,34 +178,14 @@ pub(crate) fn run_order<R: AllocGlobal + Threads + Sync, D: Disk, O: Write>(
     ensures honest { (D.view store.new.disk).is_honest ≡ (D.view store.old.disk).is_honest }
     ensures failed { OnOk result (store.new.has_failed ≡ store.old.has_failed) }
 {
-    match order {
-        Order::Batch(batch) => {
-            let commands = batch.commands(rt.alloc())?;
-            run_step(
-                rt,
-                crew,
-                store,
-                Step::Batch(commands.as_slice()),
-                lines,
-                out,
-            )
-        }
-        Order::Flush => run_flush(rt, crew, cleans, store, lines, out),
-        Order::Clean => run_step(rt, crew, store, Step::Clean, lines, out),
-        Order::Upgrade => run_step(rt, crew, store, Step::Upgrade, lines, out),
-        Order::Verify => {
-            let report = store.verify(rt)?;
-            write_report(&report, lines, out)
-        }
-        Order::Numbers => {
-            let report = store.verify(rt)?;
-            write_numbers(&numbers_of(store, &report), lines, out)
-        }
+    if cleans && order.is_flush() {
+        return run_flush_with_room(rt, crew, store, lines, out);
     }
+    run_plain(rt, crew, store, order, lines, out)
 }
 
 // Runs the orders one after the other, and writes what each answers before the next runs. Flushes make themselves room or don't.
-pub(crate) fn run_orders<R: AllocGlobal + Threads + Sync, D: Disk, O: Write>(
+fn run_orders<R: AllocGlobal + Threads + Sync, D: Disk, O: Write>(
     rt: &R,
     crew: Crew,
     cleans: bool,

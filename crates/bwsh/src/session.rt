@@ -353,6 +353,14 @@ fn tell<E: Write>(ending: &Ending, err: &mut E) -> Result<(), Ending>
     write_bytes(line.as_str().as_bytes(), err)
 }
 
+// Tells why the session ends early, and then more of it.
+fn tell_all<E: Write>(ending: &Ending, more: &[u8], err: &mut E) -> Result<(), Ending>
+    ensures { IfSome (ending_text ending.now) (λ text. IsBegun (E.contents err.old) (E.contents err.new) (text ++ more.now)) }
+{
+    tell(ending, err)?;
+    write_bytes(more, err)
+}
+
 // Tells why the session ends early, if it does, and then more of it, and returns the exit status. Where that cannot be told, nothing is
 // left to tell it to.
 fn end<E: Write>(done: Result<(), Ending>, more: &[u8], err: &mut E) -> u8
@@ -363,9 +371,7 @@ fn end<E: Write>(done: Result<(), Ending>, more: &[u8], err: &mut E) -> u8
     match done {
         Ok(()) => 0,
         Err(ending) => {
-            if tell(&ending, err).is_ok() {
-                let _ = write_bytes(more, err);
-            }
+            let _ = tell_all(&ending, more, err);
             ending.status()
         }
     }

@@ -215,7 +215,7 @@ fn run_lines<R: AllocGlobal + Threads + Sync, D: Disk, I: BufRead, O: Write>(
         }
         let says = reader.read(without_end(&text))?;
         notes.line(line, &says);
-        if let Says::Bad(why) = says {
+        if let Some(why) = says.bad() {
             return Ok(Some((line, why)));
         }
         run_said(rt, crew, cleans, store, &mut pending, says, &mut lines, out)?;

@@ -2,11 +2,12 @@
 ghost use Rattle.std.specs.Prelude.{◌≡◌};
 
 use std::io;
-use std::io::Write;
+use std::io::{ErrorKind, Write};
 
-/// A writer that is handed on to another one, and keeps the reason of the last call that failed.
+/// A writer that hands on to another one, and keeps the reason of the last call that failed. One that was interrupted has not failed; one that
+/// takes no byte has.
 #[derive(Drop)]
-pub struct Watched<'a, W> {
+pub(crate) struct Watched<'a, W> {
     inner: &'a mut W,
     reason: Option<io::Error>,
 }
@@ -29,20 +30,18 @@ impl<'a, W: Write> Watched<'a, W> {
 
     /// The writer itself.
     pub fn into_inner(self) -> &'a mut W
-        ensures { result ≡ self.inner }
+        ensures { result ≡ self.entry.inner }
     {
         self.inner
     }
 
-    // Keeps the reason, if there is one.
-    fn keep<T>(&mut self, done: io::Result<T>) -> io::Result<T>
-        ensures same { result ≡ done }
-        ensures inner { self.new.inner ≡ self.old.inner }
+    // Keeps the reason of a call that failed so.
+    fn keep(&mut self, reason: io::Error)
+        ensures { self.new.inner ≡ self.old.inner }
     {
-        if let Err(reason) = &done {
-            self.reason = Some(*reason);
+        if reason.kind() != ErrorKind::Interrupted {
+            self.reason = Some(reason);
         }
-        done
     }
 }
 
@@ -51,11 +50,21 @@ impl<W: Write> Write for Watched<'_, W> {
 
     fn write(&mut self, buf: &[u8]) -> io::Result<usize> {
         let done = self.inner.write(buf);
-        self.keep(done)
+        match &done {
+            Ok(taken) if *taken == 0 && !buf.is_empty() => {
+                self.keep(io::Error::from(ErrorKind::WriteZero));
+            }
+            Ok(_) => {}
+            Err(reason) => self.keep(*reason),
+        }
+        done
     }
 
     fn flush(&mut self) -> io::Result<()> {
         let done = self.inner.flush();
-        self.keep(done)
+        if let Err(reason) = &done {
+            self.keep(*reason);
+        }
+        done
     }
 }
