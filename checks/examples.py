@@ -1,0 +1,270 @@
+"""The programs of `examples/`, each killed in the middle of its work on a file, again and again, and looked at by a new one after each kill."""
+
+import random
+import subprocess
+import time
+from collections.abc import Callable
+from dataclasses import dataclass, field
+from itertools import zip_longest
+from pathlib import Path
+
+from checks.harness import PATIENCE, Case, Limits, Outcome, Programs, differs, new_folder, run, shortened
+
+SOURCES = Path(__file__).resolve().parent.parent / "examples"
+SEEDS, KILLS = 2, 5
+COMMANDS = 1_500  # of a run that isn't killed
+ALL = 4_294_967_295
+STACK = 256  # KB, since a reader of lines keeps its buffer there
+
+Lines = list[str]
+
+
+@dataclass(frozen=True)
+class Command:
+    """A line of a session, and what is printed for it; whether it is flushed."""
+
+    line: str
+    answer: str
+    lasts: bool = True
+
+
+@dataclass(frozen=True)
+class Look:
+    """The lines by which a new session looks at a file, and what it prints for them."""
+
+    lines: Lines
+    printed: Lines
+
+
+def text_of(lines: Lines) -> bytes:
+    return "".join(f"{line}\n" for line in lines).encode()
+
+
+# ---- What each example answers, by a plain model of its own.
+
+
+@dataclass
+class Events:
+    """Events by day, each day's in their order."""
+
+    days: dict[str, Lines] = field(default_factory=dict)
+
+    def opened(self) -> Lines:
+        return []
+
+    def next(self, number: int) -> Command:
+        day, text = f"{20261110 + number * 7 % 9}", f"event {number} {'.' * (number % 60)}"
+        self.days.setdefault(day, []).append(text)
+        return Command(f"append {day} {text}", f"event {len(self.days[day])}")
+
+    def look(self) -> Look:
+        newest = [f"{day} {text}" for day in sorted(self.days, reverse=True) for text in reversed(self.days[day])]
+        counts = {day: len(self.days.get(day, [])) for day in (f"{20261110 + at}" for at in range(9))}
+        lines = [f"newest {ALL}", "newest 3", *(f"count {day}" for day in counts)]
+        return Look(lines, [*newest, *newest[:3], *(f"{count} events" for count in counts.values())])
+
+
+@dataclass
+class People:
+    """The city of each person."""
+
+    cities: dict[str, str] = field(default_factory=dict)
+
+    def opened(self) -> Lines:
+        return [f"{len(self.cities)} people"]
+
+    def next(self, number: int) -> Command:
+        name, city = f"n{number * 37 % 101}", f"city {number * number % 7}"
+        self.cities[name] = city
+        return Command(f"add {name} {city}", f"{name} lives in {city}")
+
+    def look(self) -> Look:
+        cities = [f"city {at}" for at in range(7)]
+        living = [name for city in cities for name in sorted(self.cities) if self.cities[name] == city]
+        return Look([*(f"in {city}" for city in cities), "check"], [*living, *self.opened()])
+
+
+@dataclass
+class Cache:
+    """Pairs, each with whether it was got, and the key before which the hand stands."""
+
+    pairs: dict[str, tuple[bool, str]] = field(default_factory=dict)
+    hand: str = ""
+
+    def opened(self) -> Lines:
+        self.hand = ""
+        return []
+
+    def next(self, number: int) -> Command:
+        key = f"k{number * 37 % 211}"
+        if number % 20 == 19:
+            self.evict(most := 60 + number % 50)
+            return Command(f"evict {most}", f"{len(self.pairs)} left")
+        if number % 3 == 0:
+            was_got, value = self.pairs.get(key, (False, None))
+            if value is not None:
+                self.pairs[key] = (True, value)
+            return Command(f"get {key}", f"{key} is {'missing' if value is None else value}", lasts=False)
+        self.pairs[key] = (False, value := f"{number} {'.' * (number % 90)}")
+        return Command(f"put {key} {value}", f"{key} is {value}")
+
+    def evict(self, most: int) -> None:
+        """Goes round by the clock's rule, from the hand on: who was got is spared once."""
+        while len(self.pairs) > most:
+            key = min((key for key in self.pairs if key >= self.hand), default=min(self.pairs))
+            was_got, value = self.pairs.pop(key)
+            if was_got:
+                self.pairs[key] = (False, value)
+            self.hand = key + "\0"
+
+    def look(self) -> Look:
+        keys = [f"k{at}" for at in range(211)]
+        found = [self.pairs.get(key, (False, None))[1] for key in keys]
+        return Look([f"get {key}" for key in keys], [f"{key} is {'missing' if value is None else value}" for key, value in zip(keys, found)])
+
+
+MODELS: dict[str, Callable[[], Events | People | Cache]] = {"events": Events, "people": People, "cache": Cache}
+
+
+# ---- Sessions that are killed.
+
+
+def played(name: str, restarts: list[int], commands: int):
+    """The model after so many commands; before those of these numbers a new session began."""
+    model = MODELS[name]()
+    for number in range(commands):
+        if number in restarts:
+            model.opened()
+        model.next(number)
+    return model
+
+
+def run_killed(program: Path, path: Path, lines: Lines, delay: float | None) -> tuple[int, Lines, float]:
+    """Runs a session on these lines, and kills it after a delay from its first answer on. Its status, the whole lines that it printed, and how
+    long it went on from the first."""
+    source, out = path.with_suffix(".lines"), path.with_suffix(".out")
+    source.write_bytes(text_of(lines))
+    with open(source, "rb") as stdin, open(out, "wb+") as stdout:
+        child = subprocess.Popen([program, path], stdin=stdin, stdout=stdout, stderr=subprocess.STDOUT, env={})
+        begun = time.monotonic()
+        while out.stat().st_size == 0 and child.poll() is None and time.monotonic() < begun + PATIENCE:
+            time.sleep(0.0005)
+        start = time.monotonic()
+        try:
+            child.wait(PATIENCE if delay is None else delay)
+        except subprocess.TimeoutExpired:
+            child.kill()
+            child.wait()
+        took = time.monotonic() - start
+    return child.returncode, out.read_text(errors="replace").split("\n")[:-1], took
+
+
+def difference(lines: Lines, due: Lines) -> str:
+    at, (line, right) = next((at, pair) for at, pair in enumerate(zip_longest(lines, due), 1) if pair[0] != pair[1])
+    return f"{shortened(str(line).encode())} where {shortened(str(right).encode())} was due, on line {at} of {len(lines)}"
+
+
+@dataclass
+class Store:
+    """A file of an example, how many of the commands it holds, and before which of them a session began."""
+
+    name: str
+    program: Path
+    path: Path
+    done: int = 0
+    restarts: list[int] = field(default_factory=list)
+
+    def session(self, commands: int, delay: float | None = None) -> tuple[int, Lines, Lines, list[bool], float]:
+        """Runs the next commands: the status, what was printed and what was due, for each command whether it lasts, and how long it took."""
+        model = played(self.name, self.restarts, self.done)
+        opened = model.opened()
+        next_ones = [model.next(self.done + at) for at in range(commands)]
+        self.restarts.append(self.done)
+        status, printed, took = run_killed(self.program, self.path, [each.line for each in next_ones], delay)
+        return status, printed, [*opened, *(each.answer for each in next_ones)], [each.lasts for each in next_ones], took
+
+    def back(self, told: int, lasts: list[bool]) -> str | None:
+        """What is wrong with what comes back, after this many commands were answered: it is what the last that lasts left, or one further."""
+        ends = [at + 1 for at, is_one in enumerate(lasts) if is_one]
+        allowed = {max((end for end in ends if end <= told), default=0), max((end for end in ends if end <= told + 1), default=0)}
+        wrong = None
+        for end in sorted(allowed):
+            model = played(self.name, self.restarts, self.done + end)
+            look = model.look()
+            ran = run([self.program, self.path], text_of(look.lines), Limits(STACK))
+            due = [*model.opened(), *look.printed]
+            if ran.status == 0 and ran.out.decode().split("\n")[:-1] == due:
+                self.done += end
+                return None
+            lines = ran.out.decode(errors="replace").split("\n")[:-1]
+            wrong = wrong or (f"came back {difference(lines, due)}" if ran.status == 0 else ran.told())
+        return f"after {told} answers {wrong}"
+
+    def kill(self, commands: int, delay: float | None) -> tuple[str | None, float]:
+        """Runs commands, kills the session, and looks at what comes back. What is wrong, and how long it went on; negative where it ended before."""
+        begun = len(MODELS[self.name]().opened())
+        status, printed, due, lasts, took = self.session(commands, delay)
+        if status not in (0, -9):
+            return f"status {status}, printed {shortened(chr(10).join(printed[-2:]).encode())}", took
+        if printed != due[: len(printed)] or (status == 0 and len(printed) < len(due)):
+            return f"printed {difference(printed, due)}", took
+        return self.back(max(len(printed) - begun, 0), lasts), took if status else -took
+
+
+def kill_often(name: str, program: Path, seed: int, folder: Path) -> Outcome:
+    chance = random.Random(seed)
+    wrong, took = Store(name, program, folder / "whole").kill(COMMANDS, None)
+    if wrong:
+        return Outcome(f"without a kill: {wrong}")
+    whole, kills, store = -took, 0, Store(name, program, folder / "store")
+    while kills < KILLS:
+        wrong, took = store.kill(COMMANDS, whole * chance.random())
+        if wrong:
+            return Outcome(f"kill {kills + 1}: {wrong}")
+        if took < 0:
+            whole *= 0.8  # it ended before its kill
+        else:
+            kills += 1
+    return Outcome(measured=f"{store.done} commands, of {COMMANDS} a run, stood after the last kill")
+
+
+def missing(program: Path) -> str | None:
+    """Why an example is left out, if it is."""
+    if not program.is_file():
+        return "it isn't built: python3 examples/run.py builds it"
+    sources = (SOURCES / program.name).rglob("*.in")
+    if any(source.stat().st_mtime > program.stat().st_mtime for source in sources):
+        return "it was built before its source: python3 examples/run.py builds it"
+    return None
+
+
+def kill_example(programs: Programs, name: str, seed: int) -> Outcome:
+    program = programs.examples / name
+    if why := missing(program):
+        return Outcome(left_out=why)
+    with new_folder() as folder:
+        return kill_often(name, program, seed, Path(folder))
+
+
+def close_output(programs: Programs, name: str) -> Outcome:
+    """With its output closed an example makes no file, and leaves one that is there as it is: it isn't written over by answers."""
+    program = programs.examples / name
+    if why := missing(program):
+        return Outcome(left_out=why)
+    text = text_of([MODELS[name]().next(number).line for number in range(1, 3)])
+    with new_folder() as folder:
+        path, new = Path(folder) / "file", Path(folder) / "new"
+        made = run([program, path], text, Limits(STACK))
+        before = path.read_bytes()
+        ran = run([program, path], text, Limits(STACK, closed=">&-"))
+        fresh = run([program, new], text, Limits(STACK, closed=">&-"))
+        said = b"Error: Bad file descriptor (os error 9)\n"
+        wrong = None if made.status == 0 else made.told()
+        wrong = wrong or differs(ran, 1, b"", said) or differs(fresh, 1, b"", said)
+        wrong = wrong or (None if path.read_bytes() == before else "the file has other bytes")
+        return Outcome(wrong or ("there is a file" if new.exists() else None))
+
+
+def cases(programs: Programs) -> list[Case]:
+    kills = [Case(f"{name}, {KILLS} kills, seed {seed}", kill_example, (programs, name, seed)) for name in MODELS for seed in range(1, SEEDS + 1)]
+    return [*kills, *[Case(f"{name}, its output closed", close_output, (programs, name)) for name in MODELS]]
