@@ -174,41 +174,43 @@ class Store:
     done: int = 0
     restarts: list[int] = field(default_factory=list)
 
-    def session(self, commands: int, delay: float | None = None) -> tuple[int, Lines, Lines, list[bool], float]:
-        """Runs the next commands: the status, what was printed and what was due, for each command whether it lasts, and how long it took."""
+    def kill(self, count: int, delay: float | None) -> tuple[str | None, float]:
+        """Runs so many commands more, kills the session after a delay, and looks at what comes back. What is wrong, and how long it went on;
+        negative where it ended before."""
         model = played(self.name, self.restarts, self.done)
         opened = model.opened()
-        next_ones = [model.next(self.done + at) for at in range(commands)]
-        self.restarts.append(self.done)
-        status, printed, took = run_killed(self.program, self.path, [each.line for each in next_ones], delay)
-        return status, printed, [*opened, *(each.answer for each in next_ones)], [each.lasts for each in next_ones], took
-
-    def back(self, told: int, lasts: list[bool]) -> str | None:
-        """What is wrong with what comes back, after this many commands were answered: it is what the last that lasts left, or one further."""
-        ends = [at + 1 for at, is_one in enumerate(lasts) if is_one]
-        allowed = {max((end for end in ends if end <= told), default=0), max((end for end in ends if end <= told + 1), default=0)}
-        wrong = None
-        for end in sorted(allowed):
-            model = played(self.name, self.restarts, self.done + end)
-            look = model.look()
-            ran = run([self.program, self.path], text_of(look.lines), Limits(STACK))
-            due = [*model.opened(), *look.printed]
-            if ran.status == 0 and ran.out.decode().split("\n")[:-1] == due:
-                self.done += end
-                return None
-            lines = ran.out.decode(errors="replace").split("\n")[:-1]
-            wrong = wrong or (f"came back {difference(lines, due)}" if ran.status == 0 else ran.told())
-        return f"after {told} answers {wrong}"
-
-    def kill(self, commands: int, delay: float | None) -> tuple[str | None, float]:
-        """Runs commands, kills the session, and looks at what comes back. What is wrong, and how long it went on; negative where it ended before."""
-        begun = len(MODELS[self.name]().opened())
-        status, printed, due, lasts, took = self.session(commands, delay)
+        commands = [model.next(self.done + at) for at in range(count)]
+        self.restarts.append(self.done)  # what comes back is looked at by sessions that flush nothing
+        status, printed, took = run_killed(self.program, self.path, [each.line for each in commands], delay)
+        due = [*opened, *(each.answer for each in commands)]
         if status not in (0, -9):
-            return f"status {status}, printed {shortened(chr(10).join(printed[-2:]).encode())}", took
+            return f"status {status}, printed {shortened(text_of(printed[-2:]))}", took
         if printed != due[: len(printed)] or (status == 0 and len(printed) < len(due)):
             return f"printed {difference(printed, due)}", took
-        return self.back(max(len(printed) - begun, 0), lasts), took if status else -took
+        return self.look(commands, max(len(printed) - len(opened), 0)), took if status else -took
+
+    def look(self, commands: list[Command], told: int) -> str | None:
+        """What is wrong with what comes back, after so many of these commands were answered: it is what the last that lasts left, or one further."""
+        ends = [0, *(at for at, command in enumerate(commands, 1) if command.lasts)]
+        last, further = (self.done + max(end for end in ends if end <= most) for most in (told, told + 1))
+        wrong = self.differs(last)
+        if wrong is None:
+            self.done = last
+            return None
+        if further > last and self.differs(further) is None:
+            self.done = further
+            return None
+        return f"after {told} answers {wrong}"
+
+    def differs(self, done: int) -> str | None:
+        """How what comes back differs from what so many commands leave, if it does."""
+        model = played(self.name, self.restarts, done)
+        look, opened = model.look(), model.opened()
+        ran = run([self.program, self.path], text_of(look.lines), Limits(STACK))
+        lines, due = ran.out.decode(errors="replace").split("\n")[:-1], [*opened, *look.printed]
+        if ran.status == 0 and lines == due:
+            return None
+        return f"came back {difference(lines, due)}" if ran.status == 0 else ran.told()
 
 
 def kill_often(name: str, program: Path, seed: int, folder: Path) -> Outcome:

@@ -17,23 +17,14 @@ import library  # noqa: E402
 BUILT = HERE / "out"  # where the programs are kept
 # What each is shown on: the lines of a first session, and those of a second one, on the file that the first left.
 SESSIONS = {
-    "events": (
-        ["append 20261127 rain", "append 20261128 a walk", "append 20261128 tea", "count 20261128"],
-        ["newest 2", "count 20261127"],
-    ),
-    "people": (
-        ["add ann Rome", "add bob Oslo", "add cat Rome", "in Rome"],
-        ["add ann Oslo", "in Rome", "in Oslo", "check"],
-    ),
-    "cache": (
-        ["put a one", "put b two", "put c three", "get a", "evict 2"],
-        ["get a", "get b", "get c"],
-    ),
+    "events": (["append 20261127 rain", "append 20261128 walk", "append 20261128 tea"], ["count 20261128", "newest 2"]),
+    "people": (["add ann Rome", "add cat Rome"], ["add ann Oslo", "in Rome", "check"]),
+    "cache": (["put a one", "put b two", "get a", "evict 1"], ["get a", "get b"]),
 }
 
 
 def add_crate(copied: Path, name: str) -> Path:
-    """Adds the crate of this example to a copy of the repository: its files without their last ending, by which no gate takes them for its own."""
+    """Adds the crate of this example to a copy of the repository. Its files lose the ending `.in`, without which the gate would ask for their crate."""
     crate = copied / "crates" / name
     for source in sorted((HERE / name).rglob("*.in")):
         made = crate / source.relative_to(HERE / name).with_suffix("")
