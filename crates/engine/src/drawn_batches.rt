@@ -1,4 +1,5 @@
 //! Batches that are drawn by a seed, and answer as a map of std does.
+use crate::back_rows::is_read_back_alike;
 use crate::crews::ALONE;
 use crate::store::Store;
 use crate::tests::{S, new_store, write_answer, write_row, write_rows};
@@ -114,7 +115,7 @@ fn letter_of_map(map: &mut BTreeMap<u8, u8, Global>, draw: Draw) -> Result<char,
 }
 
 // Whether the key is below the bound, if there is one.
-fn is_below(key: u8, end: Option<u8>) -> bool {
+pub(crate) fn is_below(key: u8, end: Option<u8>) -> bool {
     match end {
         Some(end) => key < end,
         None => true,
@@ -343,7 +344,27 @@ fn is_held_alike(
     write_rows(&mut text, rows)?;
     let due = text_of_map(alloc, map)?;
     let is_read = are_got_alike(store, map) && text.as_str() == due.as_str();
-    Ok(report.pairs == map.len() as u128 && is_read)
+    let is_read_back = are_read_back_alike(alloc, store, map, round)?;
+    Ok(report.pairs == map.len() as u128 && is_read && is_read_back)
+}
+
+// Whether the rows of drawn ranges, from the greatest key down, are those of the map: after all of them four with drawn bounds and
+// limits, and of the upper bounds some are none.
+fn are_read_back_alike(
+    alloc: Global,
+    store: &Store<MemDisk<Global>>,
+    map: &BTreeMap<u8, u8, Global>,
+    round: u64,
+) -> Result<bool, AllocError> {
+    let mut state = round;
+    let mut are_alike = is_read_back_alike(alloc, store, map, 0, None, 1_000)?;
+    for _range in 0..4 {
+        let (_kind, lo, _digit, width) = draw(&mut state, 0);
+        let hi = lo.checked_add(width);
+        let limit = (next_number(&mut state) % 24) as u32;
+        are_alike = is_read_back_alike(alloc, store, map, lo, hi, limit)? && are_alike;
+    }
+    Ok(are_alike)
 }
 
 // Whether the store has at each key of one byte what the map has there.

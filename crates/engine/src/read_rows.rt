@@ -4,25 +4,27 @@ use crate::store::Store;
 use crate::tests::{S, commands, new_store, write_rows};
 use crew::NoGate;
 use flush_log::MemDisk;
-use keys::Fault;
+use keys::{Fault, Settings};
 use scan::Rows;
 use std::alloc::Global;
 use std::test::Fail;
 use std::thread::Threads;
 
 // Nineteen puts, which make leaves of two to four pairs, in runs and in bases, and then the deletes that empty the leaves of c and d.
-const BATCHES: [&str; 3] = [
+pub(crate) const BATCHES: [&str; 3] = [
     "a=1 aa=2 ab=3 b=4 ba=5 bb=6 bba=7 c=8 ca=9 cb=1 cc=2 d=3 da=4 db=5 e=6 ea=7 f=8 fa=9 g=1",
     "-c -ca -cb -cc -d -da -db ea=2",
     "fa=3 -g",
 ];
 
-fn store_of(
+// A store with these settings that has executed these batches.
+pub(crate) fn store_of(
     rt: &(impl Threads + Sync),
     alloc: Global,
+    settings: Settings,
     batches: &[&str],
 ) -> Result<Store<MemDisk<Global>>, Fault> {
-    let mut store = new_store(alloc, S)?;
+    let mut store = new_store(alloc, settings)?;
     for batch in batches {
         let batch = commands(alloc, batch)?;
         store.batch(rt, ALONE, &NoGate, &batch)?;
@@ -86,7 +88,7 @@ fn are_absent(store: &Store<MemDisk<Global>>) -> bool {
 
 #[test]
 fn keys_are_looked_up_one_by_one(rt: HostRuntime) -> Result<(), Fail> {
-    let store = store_of(&rt, rt.alloc(), &BATCHES)?;
+    let store = store_of(&rt, rt.alloc(), S, &BATCHES)?;
     assert!(rt; are_found(&store));
     assert!(rt; are_absent(&store));
     let empty = new_store(rt.alloc(), S)?;
@@ -103,7 +105,7 @@ fn rows_at<'a>(store: &'a Store<MemDisk<Global>>, letter: u8) -> Result<Rows<'a>
 }
 
 fn write_reads(rt: &(impl Threads + Sync), alloc: Global, text: &mut String) -> Result<(), Fault> {
-    let store = store_of(rt, alloc, &BATCHES)?;
+    let store = store_of(rt, alloc, S, &BATCHES)?;
     for letter in [b'a', b'c', b'f'] {
         let rows = rows_at(&store, letter)?;
         write_rows(text, rows)?;
