@@ -91,7 +91,7 @@ text_full s st file other (f ∷ fs) h =
 full_any : (s : Settings) (st : Store) (file other : List ℕ) → after_flush s st file ≡ Err Full → after_flush s st other ≡ Err Full
 full_any s st file other h = text_full s st file other (flush_text st.version st.tree) h
 
--- one more clean is needed, where the log is full behind these
+-- one more clean is needed, where the log is full after these
 needed_more : (s : Settings) (st : Store) (file : List ℕ) (n : ℕ) → AreNeeded s st file n → (let p : Played Global = plays (batching s) s st file (cleans n) in after_flush s p.store p.bytes ≡ Err Full) → AreNeeded s st file (suc n)
 needed_more s st file n before here = λ i h.
     ⊎_elim (λ less. before i less)
@@ -108,7 +108,7 @@ want_other : (why fault : Fault) → IsWantOfRoom why fault → fault ≢ Device
 want_other why fault (inl room) other = λ device. (let e = room.0 in absurd (cc))
 want_other why fault (inr same) other = λ device. other (same.1 ∙ device)
 
--- gone on, behind a flush that was refused: for a full log, where some are left
+-- gone on, after a flush that was refused: for a full log, where some are left
 pub gone_on : {T : Type 0} {x y : T} (fault : Fault) (left : ℕ)
     → ((fault ≡ Full) × (0 < left) × (let q : Result T Fault = Ok y in q ≡ Ok x)) ⊎ ((fault ≡ Full → left ≡ 0) × (let q : Result T Fault = Ok y in q ≡ Err fault))
     → (fault ≡ Full) × (0 < left) × (fault ≢ Device)
@@ -124,7 +124,7 @@ not_gone_on fault told left (inr other) = ((let e = other.1 in cc), other.0)
 
 -- ---- so far
 
--- so many cleans are done, each of which was needed
+-- a number of cleans are done, and each was needed
 pub record AreCleaned {D : Type 0} (view : D → View) (failures : D → ℕ) (old : State D) (count : ℕ) (now : State D) : Type 0 where
   pub said : List code_answer.Answer
   pub turn : IsTurn view failures old (cleans count) said now

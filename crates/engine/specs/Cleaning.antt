@@ -16,7 +16,7 @@ use Rattle.engine.specs.Steps.Step.{Flush, Clean}
 use Rattle.engine.specs.Turns.{IsTurn}
 use Rattle.engine.specs.declared.step.Answer as code_answer
 
--- so many cleans
+-- a number of cleans, as steps
 abbrev pub cleans : ℕ → List (Step Global)
 cleans n = replicate n Clean
 
@@ -37,13 +37,13 @@ pub record IsFlushedCleaning {D : Type 0} (view : D → View) (failures : D → 
 abbrev pub IsWantOfRoom : Fault → Fault → Type 0
 IsWantOfRoom why fault = ((why ≡ NothingToClean) × (fault ≡ Full)) ⊎ ((why ≢ NothingToClean) × (fault ≡ why))
 
--- why it stops behind so many cleans, at a flush or at one more clean; a flush that finds the log full is the last one
+-- why it stops after a number of cleans, at a flush or at one more clean; a flush that finds the log full is the last one
 abbrev pub IsStop : Settings → Store → Bytes → ℕ → ℕ → ℕ → Step Global → Fault → Type 0
 IsStop s st file old new count x fault =
     ((x ≡ Flush) × IsStepFault s st file old new Flush fault × (fault ≡ Full → count ≡ s.segments))
     ⊎ ((x ≡ Clean) × (count < s.segments) × (after_flush s st file ≡ Err Full) × (why : Fault) × IsWantOfRoom why fault × IsStepFault s st file old new Clean why)
 
--- It was refused behind so many cleans, which are done, as a play of these does. The store has the tree that it had.
+-- It was refused after a number of cleans, which are done, as a play of these does. The store has the tree that it had.
 pub record IsStoppedCleaning {D : Type 0} (view : D → View) (failures : D → ℕ) (old now : State D) (fault : Fault) : Type 0 where
   pub count : ℕ
   pub needed : IsTrue (view old.disk).is_honest → AreNeeded old.settings old.store (view old.disk).seen count

@@ -314,7 +314,7 @@ fn is_flushed_again(rt: &(impl Threads + Sync), alloc: Global) -> Result<bool, F
     })
 }
 
-// To be run with each allocation refused in turn too. Where one is refused to what stands round the flush, one of the two can't be told.
+// To be run with each allocation refused in turn too. Where one is refused to the test itself, one of the two has no outcome.
 #[test]
 fn a_flush_that_cleans_without_memory_can_be_tried_again(rt: HostRuntime) {
     let first = is_flushed_again(&rt, rt.alloc());
@@ -338,7 +338,7 @@ fn are_pending_again(rt: &(impl Threads + Sync), alloc: Global) -> Result<bool, 
     Ok(pending == Ok(22) && is_right)
 }
 
-// To be run with each allocation refused in turn too. Where one is refused to what stands round it, one of the two can't be told.
+// To be run with each allocation refused in turn too. Where one is refused to the test itself, one of the two has no outcome.
 #[test]
 fn pending_bytes_without_memory_can_be_asked_for_again(rt: HostRuntime) {
     let first = are_pending_again(&rt, rt.alloc());

@@ -291,7 +291,7 @@ fn is_copied_again(rt: &(impl Threads + Sync), alloc: Global) -> Result<bool, Fa
     hold_the_same(&store, &copy)
 }
 
-// To be run with each allocation refused in turn too: then the row can't be told where memory is refused to the test itself.
+// To be run with each allocation refused in turn too: where memory is refused to the test itself, there is no outcome.
 #[test]
 fn a_copy_is_made_again_where_memory_was_refused(rt: HostRuntime) {
     let mut outcomes = Outcomes::none();

@@ -136,7 +136,7 @@ fn is_tidied_again(rt: &(impl Threads + Sync), alloc: Global) -> Result<bool, Fa
     Ok(is_kept && are_last(&store, 6)? && store.verify(rt)?.pages == 5)
 }
 
-// To be run with each allocation refused in turn too: then the row can't be told where memory is refused to the test itself.
+// To be run with each allocation refused in turn too: where memory is refused to the test itself, there is no outcome.
 #[test]
 fn a_store_is_tidied_again_where_memory_was_refused(rt: HostRuntime) {
     let mut outcomes = Outcomes::none();

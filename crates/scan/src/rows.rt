@@ -52,7 +52,8 @@ impl<'a> Model for Rows<'a> {
 
 impl<'a> Rows<'a> {
     /// The first `limit` pairs of the tree whose keys are `lo` or above, and below `hi` where it is given. The tree is a
-    /// proper one of at most 64 levels, of which no page is away. Where `hi` is given, it costs one way down more.
+    /// proper one of at most 64 levels, of which no page is away. Where `hi` is given, it costs one way down more, up to the first key from
+    /// there on: over all leaves that deletes have emptied there.
     pub fn new(
         alloc: Global,
         tree: &'a Tree<Global>,

@@ -109,7 +109,7 @@ fn a_store_is_kept_in_a_file(rt: HostRuntime) -> Result<(), Fail> {
     Ok(())
 }
 
-// In a file a clean is as in memory, and what was flushed is found again behind it.
+// In a file a clean is as in memory, and what was flushed is found again after it.
 #[test]
 fn a_store_in_a_file_is_cleaned(rt: HostRuntime) -> Result<(), Fail> {
     let folder = env::temp_dir(&rt)?.join(rt.alloc(), "bwsh_cleaned_store")?;
@@ -478,8 +478,7 @@ impl LockFile for Faulty<'_> {
     }
 }
 
-// Asserts how many calls of a disk fail that is over a file of 16 bytes, which is made anew. Four bytes are written and read, and then
-// some after the end of the file, which was cut.
+// Asserts how many calls fail of a disk over a new file of 16 bytes: four bytes are written and read, then some after its end, which was cut.
 fn check_disk<R: Abort>(rt: &R, faults: &Faults, path: &str, failures: u32) -> Result<(), Fail> {
     let file = faults.open(File::options().read(true).write(true).create(true), path)?;
     let mut disk = FileDisk::of_zeros(file, 16)?;
@@ -531,8 +530,7 @@ fn is_left(old: &[u8], now: &[u8], left: (usize, usize)) -> bool {
     now.len() == left.1 && now.starts_with(kept) && rest.iter().all(|byte| *byte == 0)
 }
 
-// Asserts what these lines answer on a file in which `a` stands, where such calls fail; and what is left of the file: this many first
-// bytes as they were, and zeros up to this length.
+// Asserts what these lines answer on a file with `a` where such calls fail, and that this many first bytes stay, before zeros to this length.
 fn check_faults<R: AllocGlobal + Abort + Threads + Sync + Files>(
     rt: &R,
     path: &str,

@@ -34,20 +34,21 @@ fn want_of_room(fault: Fault) -> Fault
 
 impl<D: Disk> Store<D> {
     /// Writes what the log lacks, as `flush` does, and returns the sequence number now. Where the log is full, it is cleaned as often as it
-    /// takes, at most once for each of its segments: all that is so is what so many calls of `clean` and one of `flush` do.
+    /// takes, at most once for each of its segments: it does what that many calls of `clean` and one of `flush` do.
     ///
     /// A store that has failed is `Fault::Failed`, and then a crew out of range `Fault::BadCrew`. Where all these cleans make no room,
-    /// or none of them can be done any more, there is `Fault::Full`: what lives needs a larger log. Else there are the faults of `flush` and of
+    /// or no more of them can be done, there is `Fault::Full`: what lives needs a larger log. Else there are the faults of `flush` and of
     /// `clean`. After an `Err` the store holds what it held, and the cleans before it are done. After `Fault::Device` the store has failed, and the
     /// disk holds the store of before or the one that it has.
     ///
-    /// Each clean reads all segments in use: so where the log is mostly full, this costs up to so many readings of it.
+    /// Each clean reads all segments in use, and each flush that is refused makes its frames: so where the log is mostly full, this costs
+    /// up to `segments` readings of the log and as many times the frames that it lacks.
     pub fn flush_cleaning(&mut self, rt: &(impl Threads + Sync), crew: Crew) -> Result<u64, Fault>
-        // So many cleans and a flush, as a play of them does, whatever the disk does.
+        // Some cleans and a flush, as a play of them does, whatever the disk does.
         ensures number { IfOk result (λ n. n ≡ self.new.store.sequence) }
         ensures flushed { IfOk result (λ _. IsFlushedCleaning D.view D.failed self.old self.new) }
 
-        // Which fault, and what it leaves: so many cleans, as a play of them does.
+        // Which fault, and what it leaves: some cleans, as a play of them does.
         ensures failed { self.old.has_failed ≡ true → (result ≡ Err Fault.Failed) × (self.new ≡ self.old) }
         ensures bad_crew { self.old.has_failed ≡ false → is_crew crew ≡ false → (result ≡ Err Fault.BadCrew) × (self.new ≡ self.old) }
         ensures refused { self.old.has_failed ≡ false → IsTrue (is_crew crew) →

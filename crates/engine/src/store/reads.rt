@@ -32,7 +32,8 @@ impl<D: Disk> Store<D> {
 
     /// The first `limit` pairs whose keys are `lo` or above, and below `hi` where it is given, in key order. They are lent out
     /// of the pages, and neither this nor the rows take memory. The bounds may be of any length, and are only looked at in this call:
-    /// the rows don't keep them. It costs one way down, and one more where `hi` is given. A store that has failed answers too.
+    /// the rows don't keep them. It costs one way down, and where `hi` is given one more, up to the first key from there on: over all leaves
+    /// that deletes have emptied there. A store that has failed answers too.
     pub fn range(&self, lo: &[u8], hi: Option<&[u8]>, limit: u32) -> Result<Rows<'_>, Fault>
         ensures succeeds { IsOk result }
         ensures rows { IfOk result (λ left. left ≡ rows lo.now (option_copied hi.entry) limit (contents self.now.store.tree)) }

@@ -157,7 +157,7 @@ impl<D: Disk> Store<D> {
     /// in at most `chain` + 1 batches, which all of these leaves share, until it is replaced and joins the leaf beside it. The disk gets
     /// nothing of it before the next flush.
     ///
-    /// It looks at each page of the store once, and takes memory for the page ids of these leaves and for the batches. It is due where
+    /// It looks at each page of the store once, counts them before and after, and takes memory for these leaves' page ids and the batches. It is due where
     /// `verify` counts many more pages than the pairs account for (`docs/EMBEDDING.md`).
     ///
     /// A store that has failed is `Fault::Failed`, and then a crew out of range `Fault::BadCrew`. Else there are `Fault::NoMemory` and
