@@ -1,0 +1,2 @@
+//! Cleans of the log.
+pub(crate) mod rows;

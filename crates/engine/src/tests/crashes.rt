@@ -1,0 +1,3 @@
+//! Disks of machines that crash.
+pub(crate) mod rows;
+pub(crate) mod run;

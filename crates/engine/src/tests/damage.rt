@@ -1,0 +1,3 @@
+//! Disks whose bytes are damaged.
+pub(crate) mod cleans;
+pub(crate) mod disks;
