@@ -16,7 +16,7 @@ pub enum Step<'a> {
 }
 
 /// What a step answers.
-#[derive(Drop)]
+#[derive(Debug, Drop, PartialEq, Eq)]
 pub enum Answer {
     /// The reply to each command of a batch, at its place.
     Replies(Vec<Reply<Global>>),

@@ -1,12 +1,17 @@
 -- Lemmas on the bytes of rows.
-use Rattle.std.specs.Prelude.{◌≡◌, ℕ, zero, suc, ◌+◌, ◌-◌, ◌*◌, ◌<◌, ◌≤◌, ◌^◌, [], ◌∷◌, ◌++◌, length, take, drop}
+use Rattle.std.specs.Prelude.{◌≡◌, Bool, ◌&&◌, nat_eq, ℕ, zero, suc, ◌+◌, ◌-◌, ◌*◌, ◌<◌, ◌≤◌, ◌^◌, [], ◌∷◌, ◌++◌, length, take, drop, slice_index_or}
 use Rattle.std.proofs.Common.{refl, sym, ap, ◌∙◌, arith, subst, length-append, length-drop}
 use Rattle.std.proofs.lemmas.List.{append_assoc, take-append-drop, length-take-le}
 use Rattle.std.proofs.Math.Seq.{take-append_seam, drop-append_seam}
-use Rattle.std.proofs.lemmas.Nat.{from_le_bytes-to_le_bytes_8}
+use Rattle.std.proofs.lemmas.Nat.{from_le_bytes-to_le_bytes_8, le_bytes_8}
+use Rattle.std.specs.Bool.{Decides, one_answer}
+use Rattle.std.specs.Cmp.{first_so, second_so, unsigned_Decides}
+use Rattle.std.specs.Cmp.Lexicographic.{pointwise, pointwise_decides, bytes_decides, texts_ties}
 use Rattle.std.specs.Int.{from_le_bytes, to_le_bytes, w64}
+use Rattle.std.specs.Ordering.{eq_by_cmp}
 use native.Mathlib.Numerals.{unary_clauses}
-use Rattle.keys.specs.Bytes.{Bytes}
+use Rattle.keys.specs.Bytes.{Bytes, Pairs}
+use Rattle.keys.specs.Order.{order, same_pair, same_pairs}
 use Rattle.keys.specs.RowBytes.{row_bytes, first_len, after_lens, first_key, after_key, first_value, after_row, IsWhole, rows_in, after_rows, StartWithRows, AreRows}
 
 -- ---- a row and its parts
@@ -223,3 +228,88 @@ first_of_rows (suc n) bytes h l = h.0
 pub four_more : (old l m key value a b d e : Bytes) → a ≡ old ++ l → b ≡ a ++ m → d ≡ b ++ key → e ≡ d ++ value → e ≡ old ++ (l ++ (m ++ (key ++ value)))
 four_more old l m key value a b d e h i j k =
     k ∙ rw (j, i, h, append_assoc (old ++ l ++ m) key value, append_assoc (old ++ l) m (key ++ value), append_assoc old l (m ++ (key ++ value))) refl
+
+-- ---- equal rows take equal bytes
+
+-- each byte fits in eight bits
+abbrev Fit : Bytes → Type 0
+Fit xs = (i : ℕ) → slice_index_or xs i 0 < 256
+
+Fit-take : (n : ℕ) (xs : Bytes) → Fit xs → Fit (take n xs)
+Fit-take zero xs h i = omega arith
+Fit-take (suc n) [] h i = h i
+Fit-take (suc n) (x ∷ xs) h zero = h 0
+Fit-take (suc n) (x ∷ xs) h (suc i) = Fit-take n xs (λ k. h (suc k)) i
+
+Fit-drop : (n : ℕ) (xs : Bytes) → Fit xs → Fit (drop n xs)
+Fit-drop zero xs h = h
+Fit-drop (suc n) [] h = h
+Fit-drop (suc n) (x ∷ xs) h = Fit-drop n xs (λ k. h (suc k))
+
+Fit-after : (bytes : Bytes) → Fit bytes → Fit (after_row bytes)
+Fit-after bytes h =
+    Fit-drop (first_len (drop 8 bytes)) (after_key bytes)
+    (Fit-drop (first_len bytes) (after_lens bytes) (Fit-drop 8 (drop 8 bytes) (Fit-drop 8 bytes h)))
+
+-- a row's bytes as they are pushed, and what stands after them
+abbrev spelled : Bytes → Bytes → Bytes → Bytes
+spelled key value x = parted (to_le_bytes w64 (length key)) (to_le_bytes w64 (length value)) key value x
+
+first_spelled : (bytes : Bytes) → Fit bytes → IsWhole bytes → spelled (first_key bytes) (first_value bytes) (after_row bytes) ≡ bytes
+first_spelled bytes f h =
+    let p = parts_of bytes h in
+    let k : to_le_bytes w64 (length (first_key bytes)) ≡ take 8 bytes =
+    le_bytes_8 (take 8 bytes) (length (first_key bytes)) p.key_len (Fit-take 8 bytes f) (sym p.of_key) in
+    let v : to_le_bytes w64 (length (first_value bytes)) ≡ take 8 (drop 8 bytes) =
+    le_bytes_8 (take 8 (drop 8 bytes)) (length (first_value bytes)) p.value_len (Fit-take 8 (drop 8 bytes) (Fit-drop 8 bytes f)) (sym p.of_value) in
+    ap (λ (l : Bytes). parted l (to_le_bytes w64 (length (first_value bytes))) (first_key bytes) (first_value bytes) (after_row bytes)) k
+    ∙ ap (λ (m : Bytes). parted (take 8 bytes) m (first_key bytes) (first_value bytes) (after_row bytes)) v
+    ∙ all_parts bytes
+
+abbrev first_pair : Pairs Bytes → Bytes × Bytes
+first_pair [] = ([], [])
+first_pair (p ∷ ps) = p
+
+abbrev later_pairs : Pairs Bytes → Pairs Bytes
+later_pairs [] = []
+later_pairs (p ∷ ps) = ps
+
+same_bytes : (n : ℕ) (b c : Bytes) → Fit b → Fit c → AreRows n b → AreRows n c → rows_in n b ≡ rows_in n c → b ≡ c
+same_bytes zero b c f g h k e = h ∙ sym k
+same_bytes (suc n) b c f g h k e =
+    let first : (first_key b, first_value b) ≡ (first_key c, first_value c) = ap first_pair e in
+    let later : after_row b ≡ after_row c = same_bytes n (after_row b) (after_row c) (Fit-after b f) (Fit-after c g) h.1 k.1 (ap later_pairs e) in
+    sym (first_spelled b f h.0)
+    ∙ ap (λ (p : Bytes × Bytes). spelled p.0 p.1 (after_row b)) first
+    ∙ ap (λ (x : Bytes). spelled (first_key c) (first_value c) x) later
+    ∙ first_spelled c g k.0
+
+order_decides : (j k : Bytes) → Decides (eq_by_cmp order j k) (j ≡ k)
+order_decides j k = subst (λ (t : Bool). Decides t (j ≡ k)) (texts_ties j k) (bytes_decides j k)
+
+pair_decides : (p q : Bytes × Bytes) → Decides (same_pair p q) (p ≡ q)
+pair_decides p q = (
+  (λ e i. ((order_decides p.0 q.0).0 (first_so _ (eq_by_cmp order p.1 q.1) e) i, (order_decides p.1 q.1).0 (second_so (eq_by_cmp order p.0 q.0) _ e) i)),
+  λ e i. (order_decides p.0 q.0).1 (ap (λ u. u.0) e) i && (order_decides p.1 q.1).1 (ap (λ u. u.1) e) i,
+)
+
+pub same_pairs-decides : (m n : Pairs Bytes) → Decides (same_pairs m n) (m ≡ n)
+same_pairs-decides = pointwise_decides pair_decides
+
+-- as many rows are the same pairs exactly where their bytes are equal
+pub bytes_decide : (n m : ℕ) (b c : Bytes) → Fit b → Fit c → AreRows n b → AreRows m c → n ≡ m → pointwise nat_eq b c ≡ same_pairs (rows_in n b) (rows_in m c)
+bytes_decide n m b c f g h k e =
+    let d = bytes_decides b c in
+    let same : rows_in n b ≡ rows_in m c → b ≡ c = λ r. same_bytes n b c f g h (subst (λ (x : ℕ). AreRows x c) (sym e) k) (r ∙ ap (λ (x : ℕ). rows_in x c) (sym e)) in
+    one_answer (pointwise nat_eq b c) (same_pairs (rows_in n b) (rows_in m c))
+    ((λ t. ap (λ (x : Bytes). rows_in n x) (d.0 t) ∙ ap (λ (x : ℕ). rows_in x c) e), λ r. d.1 (same r))
+    (same_pairs-decides (rows_in n b) (rows_in m c))
+
+-- more rows, or fewer, are other pairs
+pub counts_decide : (n m : ℕ) (b c : Bytes) → (n ≡ m → ⊥) → nat_eq n m ≡ same_pairs (rows_in n b) (rows_in m c)
+counts_decide n m b c o =
+    let d = unsigned_Decides n m in
+    let r : rows_in n b ≡ rows_in m c → n ≡ m = λ e. sym (length-rows n b) ∙ ap (λ (ps : Pairs Bytes). length ps) e ∙ length-rows m c in
+    one_answer (nat_eq n m) (same_pairs (rows_in n b) (rows_in m c))
+    ((λ t. absurd (o (d.0 t))), λ e. absurd (o (r e)))
+    (same_pairs-decides (rows_in n b) (rows_in m c))

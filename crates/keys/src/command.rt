@@ -97,7 +97,7 @@ impl<A: Allocator> Command<A> {
 
 /// What the store answers to one command.
 #[derive(Drop)]
-#[derive_where(Debug)]
+#[derive_where(Debug, PartialEq, Eq)]
 pub enum Reply<A: Allocator> {
     /// To `Get`: what the key has.
     Value(Value<A>),

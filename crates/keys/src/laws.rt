@@ -6,7 +6,7 @@ ghost use Rattle.std.specs.Map.{keys_of};
 ghost use Rattle.std.specs.declared.cmp.Ordering.TheVariants.{Equal};
 ghost use Rattle.std.specs.Cmp.{IsTotalOrder};
 ghost use Rattle.keys.specs.Bytes.{Bytes, Pairs};
-ghost use Rattle.keys.specs.Order.{order, IsRising};
+ghost use Rattle.keys.specs.Order.{order, IsRising, same_pairs};
 ghost use Rattle.keys.specs.OrderedMap.{value_at, with_pair, without};
 ghost use Rattle.keys.specs.Narrowed.{with_ends, IsEnough, MayEndAtAll};
 ghost use Rattle.keys.specs.Range.{is_below, is_within, in_range, rows};
@@ -21,6 +21,12 @@ use std::alloc::Allocator;
 pub fn keys_are_totally_ordered()
     ensures total { IsTotalOrder order }
     ensures exact { (j k : Bytes) → order j k ≡ Equal → j ≡ k }
+{}
+
+/// Rows are equal exactly where they are the same pairs.
+pub fn equal_rows_are_the_same_pairs()
+    ensures itself { (m : Pairs Bytes) → same_pairs m m ≡ true }
+    ensures exact { (m n : Pairs Bytes) → same_pairs m n ≡ true → m ≡ n }
 {}
 
 /// What is put at a key is read back, and every other key has what it had.

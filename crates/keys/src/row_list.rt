@@ -1,6 +1,9 @@
 ghost use Rattle.std.specs.Prelude.{◌≡◌, ◌<◌, ◌≤◌, ◌^◌, ◌∷◌, ◌++◌, [], length, take, drop, OnOk, OnErr};
 ghost use Rattle.std.specs.Iterator.{YieldsFirstBy, item_count};
-ghost use Rattle.keys.specs.RowBytes.{row_bytes, first_len, first_key, first_value, after_row, after_rows, IsWhole, StartWithRows};
+ghost use Rattle.std.specs.Cmp.{partial_equiv_from_equiv};
+ghost use Rattle.std.proofs.lemmas.Cmp.{nat_list_cmp_total, eq_by_cmp_equiv, lists_equiv, and_equiv, on_equiv};
+ghost use Rattle.keys.specs.Order.{same_pairs};
+ghost use Rattle.keys.specs.RowBytes.{row_bytes, first_len, first_key, first_value, after_row, after_rows, IsWhole, rows_in, StartWithRows, AreRows};
 
 use std::alloc::{AllocError, Allocator};
 use std::marker::Model;
@@ -94,6 +97,32 @@ impl<A: Allocator> RowList<A> {
     {
         self.count
     }
+}
+
+impl<A: Allocator> PartialEq for RowList<A> {
+    ghost eq = { same_pairs };
+
+    ghost laws = { partial_equiv_from_equiv (lists_equiv (and_equiv (on_equiv (λ p. p.0) (eq_by_cmp_equiv nat_list_cmp_total)) (on_equiv (λ p. p.1) (eq_by_cmp_equiv nat_list_cmp_total)))) };
+
+    fn eq(&self, other: &Self) -> bool {
+        same_rows(self.count, &self.bytes, other.count, &other.bytes)
+    }
+}
+
+impl<A: Allocator> Eq for RowList<A> {
+    ghost laws = { lists_equiv (and_equiv (on_equiv (λ p. p.0) (eq_by_cmp_equiv nat_list_cmp_total)) (on_equiv (λ p. p.1) (eq_by_cmp_equiv nat_list_cmp_total))) };
+}
+
+// Whether both are the same rows. Equal rows take equal bytes, since a row is kept in one way only.
+#[inline]
+fn same_rows(count: usize, bytes: &[u8], other_count: usize, other_bytes: &[u8]) -> bool
+    requires rows { AreRows count bytes.now }
+    requires others { AreRows other_count other_bytes.now }
+    ensures { result ≡ same_pairs (rows_in count bytes.now) (rows_in other_count other_bytes.now) }
+{
+    // `==` borrows these two names, so that the proof can still read the parameters.
+    let (one, other) = (bytes, other_bytes);
+    count == other_count && one == other
 }
 
 // Makes room for this many bytes more.
