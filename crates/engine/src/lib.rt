@@ -1,5 +1,6 @@
 //! The store: a tree of pages on which batches of commands are executed, and its log on a disk, to which it is flushed, which is
 //! cleaned, and which can be upgraded.
+//! What other crates use is re-exported here, each item by one path; the laws stand in the public modules `laws` and `step_laws`.
 #![tactic(auto)]
 
 #[cfg(test)]
@@ -44,7 +45,7 @@ mod failing_recovery_rows;
 mod fault_rows;
 #[cfg(test)]
 mod file_rows;
-pub mod file_store;
+mod file_store;
 #[cfg(test)]
 mod frame_rows;
 #[cfg(test)]
@@ -74,9 +75,9 @@ mod refusal;
 mod round_rows;
 #[cfg(test)]
 mod sized_rows;
-pub mod step;
+mod step;
 pub mod step_laws;
-pub mod store;
+mod store;
 #[cfg(test)]
 mod tests;
 #[cfg(test)]
@@ -87,7 +88,7 @@ mod trees_by_hand;
 pub use crate::file_store::{OpenFault, open_or_create};
 pub use crate::step::{Answer, Step};
 pub use crate::store::Store;
-pub use crew::{Crew, Gate, NoGate};
+pub use crew::{BadCrew, Crew, Gate, NoGate};
 pub use flush_log::{
     CrashDisk, Disk, DiskFault, Failing, FaultDisk, FileDisk, Fill, LockFile, MemDisk,
 };

@@ -3,18 +3,19 @@
 //!
 //! Besides, what a store is, how its pages are levels, when it is proper, and which pids are given to new pages, as
 //! definitions (`specs/`), and the laws of these.
+//! What other crates use is re-exported here, each item by one path; the laws stand in the public module `laws`.
 #![tactic(auto)]
 
 mod due;
 mod flush;
 pub mod laws;
-pub mod logged;
+mod logged;
 mod page_table;
 mod pids;
 mod room;
 mod slots;
-pub mod table;
-pub mod tree;
+mod table;
+mod tree;
 
 pub use crate::flush::depth;
 pub use crate::logged::Logged;

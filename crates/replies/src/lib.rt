@@ -1,4 +1,5 @@
 //! The replies of a batch, put together from what each page answered.
+//! What other crates use is re-exported here, each item by one path; the laws stand in the public module `laws`.
 #![tactic(auto)]
 
 pub mod laws;

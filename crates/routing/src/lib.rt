@@ -1,10 +1,11 @@
 //! Which commands of a batch go to which page.
+//! What other crates use is re-exported here, each item by one path; the laws stand in the public module `laws`.
 #![tactic(auto)]
 
-pub mod batch;
-pub mod descent;
+mod batch;
+mod descent;
 pub mod laws;
-pub mod page_run;
+mod page_run;
 mod reaching;
 mod share;
 mod sort;
