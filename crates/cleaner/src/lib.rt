@@ -3,7 +3,7 @@
 //! (`choose`), and written as a flush writes its own. Frames are copied as they stand, and the log keeps its version.
 //!
 //! Laws: a clean keeps the store that the disk stands for; a crash in it leaves the store before or after.
-//! What other crates use is re-exported here, each item by one path; the laws stand in the public module `laws`.
+//! Other crates name items by this root, and laws by the public module `laws`.
 #![tactic(auto)]
 
 mod choose;

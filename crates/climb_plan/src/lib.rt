@@ -3,7 +3,7 @@
 //! `specs/` has the plan of a batch, and its laws stand in `laws`. The climb makes the tree of that plan, level by level from the
 //! leaves up: which groups of a level are rewritten, what is made of them, and what their parents are told; then, from the root
 //! down, what is done to the mapping table.
-//! What other crates use is re-exported here, each item by one path; the laws stand in the public module `laws`.
+//! Other crates name items by this root, and laws by the public module `laws`.
 #![tactic(auto)]
 
 mod ascent;

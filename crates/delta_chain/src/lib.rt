@@ -1,7 +1,7 @@
 //! The state of a page: runs of changes in front of a base. A page is never changed in place; a change is a run
 //! that is put in front of what was there (the Bw-tree's delta), until the page is replaced as a whole. A page that
 //! counts as replaced may lie in memory as it was, since its base can be made late.
-//! What other crates use is re-exported here, each item by one path; the laws stand in the public module `laws`.
+//! Other crates name items by this root, and laws by the public module `laws`.
 #![tactic(auto)]
 
 mod base;

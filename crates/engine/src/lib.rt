@@ -1,6 +1,6 @@
 //! The store: a tree of pages on which batches of commands are executed, and its log on a disk, to which it is flushed, which is
 //! cleaned, and which can be upgraded.
-//! What other crates use is re-exported here, each item by one path; the laws stand in the public modules `laws` and `step_laws`.
+//! Other crates name items by this root, and laws by the public modules `laws` and `step_laws`.
 #![tactic(auto)]
 
 #[cfg(test)]

@@ -3,7 +3,7 @@
 //!
 //! Laws: what is spelled is read back; a text that is written is found by the next reading; a crash during a commit leaves what was
 //! before, or all of it.
-//! What other crates use is re-exported here, each item by one path; the laws stand in the public modules `commit_laws`, `laws`, `record_laws` and `slot_laws`.
+//! Other crates name items by this root, and laws by the public modules `commit_laws`, `laws`, `record_laws` and `slot_laws`.
 #![tactic(auto)]
 
 mod commit;

@@ -3,7 +3,7 @@
 //!
 //! Laws: a frame is read back from its bytes; no frame's bytes begin another's; what is read is what stands there; how many
 //! bytes a frame has; the base and the runs of a page are frames. The same of cells.
-//! What other crates use is re-exported here, each item by one path; the laws stand in the public module `laws`.
+//! Other crates name items by this root, and laws by the public module `laws`.
 #![tactic(auto)]
 
 mod cell;

@@ -4,7 +4,7 @@
 //! `specs/` has what a page is, its children, and what is asked of a page. Laws: the tests by which a page is checked
 //! find exactly the pages of which the facts don't hold; the children's ranges tile that of their page; a range meets
 //! bounds where they share a key.
-//! What other crates use is re-exported here, each item by one path; the laws stand in the public module `laws`.
+//! Other crates name items by this root, and laws by the public module `laws`.
 #![tactic(auto)]
 
 mod child_list;

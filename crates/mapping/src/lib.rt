@@ -3,7 +3,7 @@
 //!
 //! Besides, what a store is, how its pages are levels, when it is proper, and which pids are given to new pages, as
 //! definitions (`specs/`), and the laws of these.
-//! What other crates use is re-exported here, each item by one path; the laws stand in the public module `laws`.
+//! Other crates name items by this root, and laws by the public module `laws`.
 #![tactic(auto)]
 
 mod due;

@@ -1,6 +1,6 @@
 //! What a batch does to one page: a leaf's commands are replayed against what it holds, and it is changed once, by their
 //! net run; an index page is changed once, by the run of its terms.
-//! What other crates use is re-exported here, each item by one path; the laws stand in the public module `laws`.
+//! Other crates name items by this root, and laws by the public module `laws`.
 #![tactic(auto)]
 
 mod changes;

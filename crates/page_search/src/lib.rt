@@ -1,5 +1,5 @@
 //! Search in what a page is made of, by halves, with a count of the comparisons that it takes.
-//! What other crates use is re-exported here, each item by one path; the laws stand in the public module `laws`.
+//! Other crates name items by this root, and laws by the public module `laws`.
 #![tactic(auto)]
 
 pub mod laws;

@@ -6,7 +6,7 @@
 //! Laws: what was flushed is what is read, and so is what was upgraded; what is read is a store; a new disk stands for the first
 //! store; a tree that keeps what the log has stays in step; bytes that no reading looks at don't matter; a crash in a flush or in an
 //! upgrade leaves the store before or after; what a flush of a tree is on its table in memory.
-//! What other crates use is re-exported here, each item by one path; the laws stand in the public modules `laws` and `table_laws`.
+//! Other crates name items by this root, and laws by the public modules `laws` and `table_laws`.
 #![tactic(auto)]
 
 mod build_tree;

@@ -1,5 +1,5 @@
 //! Which commands of a batch go to which page.
-//! What other crates use is re-exported here, each item by one path; the laws stand in the public module `laws`.
+//! Other crates name items by this root, and laws by the public module `laws`.
 #![tactic(auto)]
 
 mod batch;

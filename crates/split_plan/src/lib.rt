@@ -3,7 +3,7 @@
 //!
 //! `specs/` says how entries are cut, how children are grouped, what stands in a group's place and which terms its
 //! parent gets.
-//! What other crates use is re-exported here, each item by one path; the laws stand in the public module `laws`.
+//! Other crates name items by this root, and laws by the public module `laws`.
 #![tactic(auto)]
 
 mod cutting;
